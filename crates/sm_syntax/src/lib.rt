@@ -1,2 +1,30 @@
 //! What programs mean, when a merge is free of conflicts, and which text spells a task.
+//!
+//! Read `specs/ConflictFree.antt` first: it states the claim. `specs/Meaning.antt` says what a program does,
+//! `specs/Keeps.antt` what a merge keeps at one cell. `specs/Spells.antt` ties a text to a task, by
+//! `specs/Tokens.antt`, `specs/Symbols.antt`, `specs/Grammar.antt` and `specs/Conditions.antt`.
 #![tactic(auto)]
+
+mod cell;
+mod checks;
+mod copy;
+mod error;
+mod laws;
+mod measures;
+mod names;
+mod program;
+mod symbol;
+mod token;
+mod tree;
+
+pub use cell::keeps;
+pub use checks::{well_formed, well_formed_cond};
+pub use copy::{copy_block, copy_cond, copy_decls, copy_expr, copy_outputs, copy_stmt};
+pub use error::SyntaxError;
+pub use laws::{keeps_exactly, more_turns, run_of_appended, unassigned_stays};
+pub use measures::{depth, nodes};
+pub use names::NameTable;
+pub use program::{Decls, Filling, Fillings, Outputs, Program};
+pub use symbol::{Mark, Symbol};
+pub use token::{LexFault, LexKind, Token, TokenKind};
+pub use tree::{Block, Cmp, Cond, Expr, Name, Sort, Stmt};

@@ -1,0 +1,10 @@
+pub mod Statements
+pub mod Appends
+pub mod Blocks
+pub mod Puts
+pub mod Turns
+pub mod Unassigned
+pub mod Uses
+pub mod Repeats
+pub mod Kept
+pub mod Numbering

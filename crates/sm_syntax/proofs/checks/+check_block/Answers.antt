@@ -1,0 +1,15 @@
+use Rattle.std.proofs.Common.{nat_eq, arith}
+use Rattle.std.proofs.lemmas.Grind.{common_steps}
+use Rattle.std.specs.HashMap.{get}
+use Rattle.sm_syntax.proofs.Uses.{first_sort_fault-drop, reports_or}
+use Rattle.sm_syntax.proofs.checks.+check_block.Goals as goal
+
+pub check_block-returns-in_err-check_stmt : goal.check_block-returns-in_err-check_stmt
+check_block-returns-in_err-check_stmt t c =
+    let parts = first_sort_fault-drop (get nat_eq c.args.sorts.now) c.deref-s-items.result.now c.loop-s.s-index c.s-item.result c.loop-s-test.true c.s-item.is in
+    grind (arith, common_steps, reports_or)
+
+pub check_block-loop-s-preserved : goal.check_block-loop-s-preserved
+check_block-loop-s-preserved t c =
+    let parts = first_sort_fault-drop (get nat_eq c.args.sorts.now) c.deref-s-items.result.now c.loop-s.s-index c.s-item.result c.loop-s-test.true c.s-item.is in
+    grind (arith, common_steps)

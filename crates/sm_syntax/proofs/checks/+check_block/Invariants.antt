@@ -1,0 +1,10 @@
+use Rattle.std.proofs.Common.{◌≡◌, drop, map, nat_eq}
+use Rattle.std.specs.HashMap.{get}
+use Rattle.sm_syntax.specs.Conditions.{first_sort_fault, names_used}
+use Rattle.sm_syntax.specs.Syntax.{End}
+use Rattle.sm_syntax.specs.Views.{sequence, statement_of, code_of}
+use Rattle.sm_syntax.proofs.checks.+check_block.Given as goal
+
+abbrev pub invariant-check_block-loop-s : goal.invariant-check_block-loop-s
+invariant-check_block-loop-s l =
+    first_sort_fault (get nat_eq l.sorts) (names_used (code_of l.b)) ≡ first_sort_fault (get nat_eq l.sorts) (names_used (sequence (map statement_of (drop l.s-index l.s-items)) End))

@@ -1,0 +1,15 @@
+use Rattle.std.proofs.Common.{◌≡◌, subst, arith}
+use Rattle.std.proofs.lemmas.Grind.{common_steps}
+use Rattle.sm_syntax.specs.Conditions.{size_fault, program_fault}
+use Rattle.sm_syntax.specs.Faults.{Reports}
+use Rattle.sm_syntax.specs.Programs.{declared_of, outputs_of}
+use Rattle.sm_syntax.specs.Views.{code_of}
+use Rattle.sm_syntax.proofs.Uses.{conditions}
+use Rattle.sm_syntax.proofs.checks.well_formed.Goals as goal
+
+pub returns : goal.returns
+unfolding program_fault
+returns c =
+    let p = c.args.p.now in
+    let same : size_fault c.nodes.result c.depth.result ≡ program_fault (declared_of p.decls) (outputs_of p.outputs) (code_of p.body) = grind (arith, common_steps, conditions) in
+    subst (Reports c.check_size.result) same c.check_size.ensures

@@ -1,0 +1,112 @@
+// The table of names.
+ghost use Rattle.std.specs.Prelude.{◌≡◌, ◌<◌, ◌-◌, ◌^◌, length, is_some, slice_get, Some, [], List, ℕ, IfOk, IfSome, OnOk, OnErr};
+ghost use Rattle.std.specs.List.{position_or_len};
+ghost use Rattle.std.specs.Str.{bytes_eq};
+ghost use Rattle.sm_syntax.specs.Symbols.{is_among, with_text};
+
+use crate::tree::Name;
+use indexmap::IndexSet;
+use std::alloc::{AllocError, Global};
+use std::marker::Model;
+
+/// The texts of names without repeats. A name's number is its place in the table.
+#[derive(Debug, Drop)]
+pub struct NameTable {
+    texts: IndexSet<String>,
+}
+
+impl Model for NameTable {
+    ghost use Rattle.std.specs.Prelude.{◌<◌, ◌^◌, length, map, List, ℕ};
+    ghost use Rattle.std.specs.String.{string_bytes};
+
+    ghost Value = { List (List ℕ) };
+
+    ghost view = { λ t. map string_bytes t.texts.keys };
+
+    ghost invariant = { λ t. length t.texts.keys < 2 ^ 32 };
+}
+
+impl NameTable {
+    /// A table of no names.
+    pub fn new(alloc: Global) -> Self
+        ensures { result ≡ [] }
+    {
+        NameTable {
+            texts: IndexSet::new(alloc),
+        }
+    }
+
+    /// The number that a text has. A new text goes last.
+    pub fn add(&mut self, text: &str) -> Result<Name, AllocError>
+        requires { length self.old < 2 ^ 32 - 1 }
+        ensures ok { OnOk result (self.new ≡ with_text self.old text.now) }
+        ensures number { IfOk result (λ name. name.0 ≡ position_or_len (bytes_eq text.now) self.new) }
+        ensures stored { IfOk result (λ name. slice_get self.new name.0 ≡ Some text.now) }
+        ensures err { OnErr result (self.new ≡ self.old) }
+    {
+        if let Some(name) = self.find(text) {
+            return Ok(name);
+        }
+        let owned = String::from_str(*self.texts.allocator(), text)?;
+        let (index, _) = self.texts.insert_full(owned)?;
+        Ok(Name(index as u32))
+    }
+
+    /// The number of a text, if it is there.
+    pub fn find(&self, text: &str) -> Option<Name>
+        ensures found { is_some result ≡ is_among self.now text.now }
+        ensures number { IfSome result (λ name. name.0 ≡ position_or_len (bytes_eq text.now) self.now) }
+        ensures stored { IfSome result (λ name. slice_get self.now name.0 ≡ Some text.now) }
+    {
+        let index = self.texts.get_index_of(text)?;
+        Some(Name(index as u32))
+    }
+
+    /// The text of a name.
+    pub fn text(&self, name: Name) -> &str
+        requires { name.0 < length self.now }
+        ensures { slice_get self.now name.0 ≡ Some result.now }
+    {
+        self.texts[name.0 as usize].as_str()
+    }
+
+    /// How many names there are.
+    pub fn len(&self) -> usize
+        ensures len { result ≡ length self.now }
+        ensures small { result < 2 ^ 32 }
+    {
+        self.texts.len()
+    }
+
+    /// A table of the same names, each with the number that it has here.
+    pub fn copy(&self, alloc: Global) -> Result<NameTable, AllocError>
+        ensures { IfOk result (λ t. t ≡ self.now) }
+    {
+        let mut copy = NameTable::new(alloc);
+        for text in self.texts.as_slice() {
+            copy.add(text.as_str())?;
+        }
+        Ok(copy)
+    }
+}
+
+#[cfg(test)]
+mod tests {
+    use super::*;
+    use std::test::Fail;
+
+    #[test]
+    fn numbers_names_by_first_appearance(rt: HostRuntime) -> Result<(), Fail> {
+        let mut table = NameTable::new(rt.alloc());
+        for (text, want) in [("x", 0), ("y", 1), ("x", 0), ("_", 2), ("y", 1)] {
+            assert!(rt; table.len() < 9);
+            assert_eq!(rt; table.add(text)?.0, want, "at {text}");
+        }
+        let copy = table.copy(rt.alloc())?;
+        assert_eq!(rt; copy.len(), 3);
+        assert_eq!(rt; copy.text(Name(1)), "y");
+        assert_eq!(rt; copy.find("_"), Some(Name(2)));
+        assert_eq!(rt; copy.find("z"), None);
+        Ok(())
+    }
+}
