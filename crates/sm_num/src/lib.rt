@@ -1,0 +1,14 @@
+//! Whole numbers of 128 bits.
+//!
+//! - `add`, `sub` and `mul` give the exact result, and none exactly where it lies outside 128 bits.
+//!
+//! Read `specs/Range.antt` first.
+#![tactic(auto)]
+
+mod arithmetic;
+mod error;
+mod op;
+
+pub use arithmetic::{add, mul, sub};
+pub use error::NumError;
+pub use op::Op;
