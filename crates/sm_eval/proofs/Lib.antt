@@ -1,0 +1,9 @@
+pub mod Integers
+pub mod Listed
+pub mod Ordered
+pub mod Writes
+pub mod Declaring
+pub mod Numbers
+pub mod Turns
+pub mod Ends
+pub mod Faultless

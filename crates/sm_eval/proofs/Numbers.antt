@@ -1,0 +1,29 @@
+-- Well-sorted expressions have numbers.
+use Rattle.std.proofs.Common.{◌≡◌, Some, refl}
+use Rattle.sm_syntax.specs.declared.tree.Sort.TheVariants.{Num}
+use Rattle.sm_syntax.specs.Meaning.{value_of}
+use Rattle.sm_syntax.specs.Sorts.{IsWellSortedExpression}
+use Rattle.sm_syntax.specs.Stores as plain
+use Rattle.sm_syntax.specs.Stores.{number}
+use Rattle.sm_syntax.specs.Syntax.{Expression, Lit, Var, Read, Neg, Plus, Minus, Times}
+use Rattle.sm_eval.specs.declared.slot.Slot.{Slot}
+use Rattle.sm_eval.specs.declared.slot.Slot.TheVariants.{Absent, Number, Array}
+use Rattle.sm_eval.specs.declared.store.Store.{Store}
+use Rattle.sm_eval.specs.Slots.{held, sort, slot_of, meaning, sorts_of}
+
+-- a slot of a number has a number
+held_number : (slot : Slot) → sort slot ≡ Some Num → held slot ≡ plain.Number (number (held slot))
+held_number Absent sorted = refl
+held_number (Number z) sorted = refl
+held_number (Array cells) sorted = cc
+
+-- a well-sorted expression has a number
+pub sorted_number : (s : Store) (e : Expression) → IsWellSortedExpression (sorts_of s) e → value_of e (meaning s) ≡ plain.Number (number (value_of e (meaning s)))
+unfolding meaning sorts_of
+sorted_number s (Lit z) sorted = refl
+sorted_number s (Var x) sorted = held_number (slot_of s.slots.items x) sorted
+sorted_number s (Read a i) sorted = refl
+sorted_number s (Neg e) sorted = refl
+sorted_number s (Plus d e) sorted = refl
+sorted_number s (Minus d e) sorted = refl
+sorted_number s (Times d e) sorted = refl

@@ -1,0 +1,35 @@
+-- Events and ends of code in its parts.
+use Rattle.std.proofs.Common.{◌≡◌, ◌-◌, ℕ, zero, suc, Bool, true, Option, Some, None, Ok, Err, refl, ap, arith}
+use Rattle.sm_syntax.specs.Meaning.{truth_of, turns}
+use Rattle.sm_syntax.specs.Stores.{Store}
+use Rattle.sm_syntax.specs.Syntax.{Condition}
+use Rattle.sm_eval.specs.declared.error.EvalError.{EvalError}
+use Rattle.sm_eval.specs.Events.{condition_event, turns_event, answer}
+
+-- an answer that is Ok has no event
+pub answered : {T : Type 0} (o : Option EvalError) (v w : T) → Ok v ≡ answer o w → (o ≡ None) × (v ≡ w)
+answered None v w same = (refl, cc)
+answered (Some e) v w same = cc
+
+-- an answer that is an error is the event
+pub first_event : {T : Type 0} (o : Option EvalError) (e : EvalError) (w : T) → Err e ≡ answer o w → o ≡ Some e
+first_event None e w same = cc
+first_event (Some f) e w same = cc
+
+-- one turn before the number less one
+one_less : (m : ℕ) → m ≡ suc m - 1
+one_less m = omega arith
+
+-- what happens in a loop from a turn on is what happens after the turn, where nothing happens in it
+pub turns_event-turn : (b : Condition) (happens : Store → Option EvalError) (body : Store → Option Store) (left : ℕ) (s t : Store) → (left ≡ 0 → ⊥) →
+    condition_event b s ≡ None → truth_of b s ≡ true → happens s ≡ None → body s ≡ Some t →
+    turns_event b happens body left s ≡ turns_event b happens body (left - 1) t
+turns_event-turn b happens body zero s t some calm holds inner end = absurd (some refl)
+turns_event-turn b happens body (suc m) s t some calm holds inner end =
+    rw (calm, holds, inner, end) (ap (λ (k : ℕ). turns_event b happens body k t) (one_less m))
+
+-- and the loop ends as it does after the turn
+pub turns-turn : (guard : Store → Bool) (body : Store → Option Store) (left : ℕ) (s t : Store) → (left ≡ 0 → ⊥) →
+    guard s ≡ true → body s ≡ Some t → turns guard body left s ≡ turns guard body (left - 1) t
+turns-turn guard body zero s t some holds end = absurd (some refl)
+turns-turn guard body (suc m) s t some holds end = rw (holds, end) (ap (λ (k : ℕ). turns guard body k t) (one_less m))

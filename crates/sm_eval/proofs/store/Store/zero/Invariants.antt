@@ -1,0 +1,13 @@
+-- The sorts of the slots, and behind them those of what is left, are those of the declarations; each slot has 0.
+use Rattle.std.proofs.Common.{◌≡◌, ℕ, drop}
+use Rattle.sm_syntax.specs.Parts.{sort_of}
+use Rattle.sm_syntax.specs.Programs.{declared_of}
+use Rattle.sm_eval.specs.Zeros.{AreZero}
+use Rattle.sm_eval.proofs.Declaring.{sorts_after}
+use Rattle.sm_eval.proofs.store.Store.zero.Given as goal
+
+abbrev pub invariant-loop-d : goal.invariant-loop-d
+invariant-loop-d l = record {
+  zero : AreZero l.slots.items;
+  declared : (x : ℕ) → sort_of (declared_of l.decls) x ≡ sorts_after l.slots.items (drop l.d-index l.d-items) x;
+}

@@ -1,0 +1,138 @@
+// Stores.
+#![tactic(auto, unfolding(crate::specs::Slots::meaning, crate::specs::Slots::sorts_of))]
+
+ghost use Rattle.std.specs.Prelude.{◌≡◌, ◌≢◌, ◌≤◌, ℕ, Some, None, IfOk, OnOk, OnErr, vec_len};
+ghost use Rattle.sm_syntax.specs.Parts.{sort_of};
+ghost use Rattle.sm_syntax.specs.Programs.{declared_of};
+ghost use Rattle.sm_syntax.specs.Stores as plain;
+ghost use Rattle.sm_syntax.specs.Stores.{put};
+ghost use Rattle.sm_eval.specs.Cells.{listed, AreCells};
+ghost use Rattle.sm_eval.specs.Slots.{slot_of, meaning, sorts_of, with_cell};
+ghost use Rattle.sm_eval.specs.Zeros.{zeros, AreZero, Declares};
+
+use crate::slot::Slot;
+use sm_syntax::{Decls, Name, Sort};
+use std::alloc::{AllocError, Global};
+
+/// The value of each declared name.
+#[derive(Debug, Drop)]
+pub struct Store {
+    // By the number of the name.
+    slots: Vec<Slot>,
+}
+
+impl Store {
+    /// The store in which each declared name has 0, an array at each index. It takes room for each number of a name up
+    /// to the greatest.
+    pub fn zero(alloc: Global, decls: &Decls) -> Result<Store, AllocError>
+        ensures sorts { IfOk result (λ s. sorts_of s ≡ sort_of (declared_of decls.now)) }
+        ensures zeros { IfOk result (λ s. meaning s ≡ zeros (sort_of (declared_of decls.now))) }
+    {
+        let mut slots = Vec::new(alloc);
+        for d in &decls.list {
+            declare(alloc, &mut slots, d.0, d.1)?;
+        }
+        Ok(Store { slots })
+    }
+
+    /// A store with the same values.
+    pub fn copy(&self, alloc: Global) -> Result<Store, AllocError>
+        ensures values { IfOk result (λ s. meaning s ≡ meaning self.now) }
+        ensures sorts { IfOk result (λ s. sorts_of s ≡ sorts_of self.now) }
+    {
+        let mut slots = Vec::new(alloc);
+        for slot in &self.slots {
+            slots.push(slot.copy(alloc)?)?;
+        }
+        Ok(Store { slots })
+    }
+
+    /// The number of a number variable.
+    pub fn number(&self, x: Name) -> i128
+        requires { sorts_of self.now x.0 ≡ Some Sort.Num }
+        ensures { meaning self.now x.0 ≡ plain.Number result }
+    {
+        match self.slot(x) {
+            Slot::Number(z) => *z,
+            Slot::Absent | Slot::Array(_) => unreachable!(),
+        }
+    }
+
+    /// The number at an index of an array.
+    pub fn cell(&self, a: Name, i: i128) -> i128
+        requires { sorts_of self.now a.0 ≡ Some Sort.Arr }
+        ensures { result ≡ plain.array (meaning self.now a.0) i }
+    {
+        match self.slot(a) {
+            Slot::Array(cells) => cells.number(i),
+            Slot::Absent | Slot::Number(_) => unreachable!(),
+        }
+    }
+
+    /// Each index of an array that doesn't have 0, with its number, in the order of the indices.
+    pub fn cells(&self, a: Name) -> &[(i128, i128)]
+        requires { sorts_of self.now a.0 ≡ Some Sort.Arr }
+        ensures ordered { AreCells result.now }
+        ensures value { meaning self.now a.0 ≡ plain.Array (listed result.now) }
+    {
+        match self.slot(a) {
+            Slot::Array(cells) => cells.pairs(),
+            Slot::Absent | Slot::Number(_) => unreachable!(),
+        }
+    }
+
+    /// Gives a number variable a new number.
+    pub fn set(&mut self, x: Name, z: i128)
+        requires { sorts_of self.old x.0 ≡ Some Sort.Num }
+        ensures value { meaning self.new ≡ put (meaning self.old) x.0 (plain.Number z) }
+        ensures sorts { sorts_of self.new ≡ sorts_of self.old }
+    {
+        self.slots[x.0 as usize] = Slot::Number(z);
+    }
+
+    /// Gives an array a new number at an index.
+    pub fn set_cell(&mut self, a: Name, i: i128, z: i128) -> Result<(), AllocError>
+        requires { sorts_of self.old a.0 ≡ Some Sort.Arr }
+        ensures ok { OnOk result (meaning self.new ≡ with_cell (meaning self.old) a.0 i z) }
+        ensures err { OnErr result (meaning self.new ≡ meaning self.old) }
+        ensures sorts { sorts_of self.new ≡ sorts_of self.old }
+    {
+        match &mut self.slots[a.0 as usize] {
+            Slot::Array(cells) => cells.set(i, z),
+            Slot::Absent | Slot::Number(_) => unreachable!(),
+        }
+    }
+
+    // The slot of a declared name.
+    fn slot(&self, x: Name) -> &Slot
+        requires { sorts_of self.now x.0 ≢ None }
+        ensures { result.now ≡ slot_of self.now.slots.items x.0 }
+    {
+        &self.slots[x.0 as usize]
+    }
+}
+
+// A name more with 0, where it isn't declared.
+fn declare(alloc: Global, slots: &mut Vec<Slot>, x: Name, of: Sort) -> Result<(), AllocError>
+    requires { AreZero slots.old.items }
+    ensures sorts { OnOk result (Declares slots.old.items slots.new.items x.0 of) }
+    ensures zeros { OnOk result (AreZero slots.new.items) }
+{
+    let place = x.0 as usize;
+    extend(slots, place + 1)?;
+    if slots[place].is_absent() {
+        slots[place] = Slot::zero(alloc, of);
+    }
+    Ok(())
+}
+
+// At least this many slots, where the new ones are absent.
+fn extend(slots: &mut Vec<Slot>, count: usize) -> Result<(), AllocError>
+    ensures enough { OnOk result (count ≤ vec_len slots.new) }
+    ensures same { (x : ℕ) → slot_of slots.new.items x ≡ slot_of slots.old.items x }
+{
+    while slots.len() < count {
+        slots.push(Slot::Absent)?;
+    }
+    Ok(())
+}
