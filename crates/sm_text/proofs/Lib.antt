@@ -1,0 +1,9 @@
+pub mod Told
+pub mod Gathered
+pub mod Chained
+pub mod Described
+pub mod Loops
+pub mod Fronting
+pub mod Lexing
+pub mod Naming
+pub mod Limits

@@ -1,0 +1,22 @@
+-- What the sections of a task stand for.
+use Rattle.std.specs.Prelude.{option_map}
+use Rattle.sm_syntax.specs.ConflictFree.{Copy}
+use Rattle.sm_syntax.specs.Fill.{Fillings}
+use Rattle.sm_syntax.specs.Parts.{by_copy}
+use Rattle.sm_syntax.specs.Programs.{declared_of, outputs_of, fillings_of}
+use Rattle.sm_syntax.specs.Views.{condition_of, code_of}
+use Rattle.sm_text.specs.declared.sections.Head.{Head}
+use Rattle.sm_text.specs.declared.sections.Lists.{Lists}
+use Rattle.sm_text.specs.Reading.{Front}
+
+-- the front of a task
+abbrev pub head_of : Head → Front
+head_of h = record { declared = declared_of h.decls; outputs = outputs_of h.outputs; assumed = option_map condition_of h.assumed; shared = code_of h.shared }
+
+-- the fillings of each copy
+abbrev pub lists_of : Lists → Copy → Fillings
+lists_of l = by_copy (fillings_of l.base) (fillings_of l.variant_a) (fillings_of l.variant_b) (fillings_of l.candidate)
+
+-- both
+abbrev pub body_of : Head × Lists → Front × (Copy → Fillings)
+body_of t = (head_of t.0, lists_of t.1)

@@ -1,0 +1,106 @@
+// Makes symbols of tokens.
+ghost use Rattle.std.specs.Prelude.{◌≡◌, ◌<◌, ◌≤◌, ◌+◌, ◌-◌, ◌^◌, length, if◌then◌else◌, IfOk, OnOk, OnErr};
+ghost use Rattle.sm_syntax.specs.Symbols.{is_name, with_text, symbol_by, symbols_of, names_of};
+ghost use Rattle.sm_syntax.specs.Symbols as spec;
+ghost use Rattle.sm_syntax.specs.Tokens.{lexed};
+ghost use Rattle.sm_text.specs.TokenTexts.{IsText};
+
+use crate::front::value_of;
+use crate::lexer::tokens;
+use crate::marks::{mark_of_sign, mark_of_word};
+use crate::symbol_list::Symbols;
+use sm_syntax::{NameTable, Symbol, Token, TokenKind};
+use std::alloc::{AllocError, Global};
+use std::str;
+
+/// The symbols of the tokens of a text. Names are numbered by first appearance.
+pub fn symbols(alloc: Global, bytes: &[u8], tokens: &[Token]) -> Result<Symbols, AllocError>
+    requires short { length bytes.now < 2 ^ 32 }
+    requires cut { tokens.now ≡ (lexed bytes.now).0 }
+    ensures list { IfOk result (λ s. s.list.items ≡ symbols_of bytes.now) }
+    ensures names { IfOk result (λ s. s.names ≡ names_of bytes.now) }
+{
+    let mut list = Vec::new(alloc);
+    let mut names = NameTable::new(alloc);
+    for token in tokens {
+        let text = text_of(bytes, *token);
+        let symbol = symbol_of(token.kind, text, &mut names)?;
+        list.push(symbol)?;
+    }
+    Ok(Symbols { list, names })
+}
+
+/// The names of a text, by first appearance.
+pub fn names(alloc: Global, bytes: &[u8]) -> Result<NameTable, AllocError>
+    requires { length bytes.now < 2 ^ 32 }
+    ensures { IfOk result (λ t. t ≡ names_of bytes.now) }
+{
+    let cut = tokens(alloc, bytes)?;
+    let read = symbols(alloc, bytes, cut.list.as_slice())?;
+    Ok(read.names)
+}
+
+// the bytes of a token
+fn text_of(bytes: &[u8], token: Token) -> &[u8]
+    requires { token.place + token.size ≤ length bytes.now }
+    ensures { result.now ≡ spec.text_of bytes.now token }
+{
+    &bytes[token.place as usize..][..token.size as usize]
+}
+
+// the symbol of a token's bytes, where a name that is new goes last
+fn symbol_of(kind: TokenKind, text: &[u8], names: &mut NameTable) -> Result<Symbol, AllocError>
+    requires text { IsText kind text.now }
+    requires room { length names.old < 2 ^ 32 - 1 }
+    ensures symbol { IfOk result (λ s. s ≡ symbol_by kind names.new text.now) }
+    ensures names { OnOk result (names.new ≡ (if is_name kind text.now then with_text names.old text.now else names.old)) }
+    ensures err { OnErr result (names.new ≡ names.old) }
+{
+    match kind {
+        TokenKind::Word => {
+            let word = str::from_utf8(text).unwrap();
+            match mark_of_word(word) {
+                Some(mark) => Ok(Symbol::Mark(mark)),
+                None => {
+                    let name = names.add(word)?;
+                    Ok(Symbol::Name(name))
+                }
+            }
+        }
+        TokenKind::Number => Ok(Symbol::Number(value_of(text).unwrap())),
+        TokenKind::Sign => Ok(Symbol::Mark(mark_of_sign(text).unwrap())),
+    }
+}
+
+#[cfg(test)]
+mod tests {
+    use super::*;
+    use sm_syntax::{Mark, Name};
+    use std::test::Fail;
+
+    #[test]
+    fn reads_symbols_and_numbers_names(rt: HostRuntime) -> Result<(), Fail> {
+        let text = b"if (y <= 070) x = -y; # z";
+        let cut = tokens(rt.alloc(), text)?;
+        let read = symbols(rt.alloc(), text, cut.list.as_slice())?;
+        let want = [
+            Symbol::Mark(Mark::If),
+            Symbol::Mark(Mark::OpenRound),
+            Symbol::Name(Name(0)),
+            Symbol::Mark(Mark::AtMost),
+            Symbol::Number(70),
+            Symbol::Mark(Mark::CloseRound),
+            Symbol::Name(Name(1)),
+            Symbol::Mark(Mark::Becomes),
+            Symbol::Mark(Mark::Minus),
+            Symbol::Name(Name(0)),
+            Symbol::Mark(Mark::Semicolon),
+        ];
+        assert_eq!(rt; read.list.as_slice(), want.as_slice());
+        let table = names(rt.alloc(), text)?;
+        assert_eq!(rt; table.len(), 2);
+        assert_eq!(rt; table.text(Name(0)), "y");
+        assert_eq!(rt; table.text(Name(1)), "x");
+        Ok(())
+    }
+}

@@ -1,0 +1,130 @@
+// The sections of a task.
+ghost use Rattle.std.specs.Prelude.{option_map};
+ghost use Rattle.sm_syntax.specs.Views.{condition_of};
+ghost use Rattle.sm_text.specs.Answers.{Gives};
+ghost use Rattle.sm_text.specs.Reading as spec;
+ghost use Rattle.sm_text.specs.Sections.{head_of, lists_of, body_of};
+
+use crate::conditions::condition;
+use crate::reading::{FaultKind, ReadError, expect, first, refusal, rest};
+use crate::rules::{GROUP_LIMIT, declarations, list, outputs, shared, stands};
+use sm_syntax::{Block, Cond, Decls, Fillings, Mark, Outputs, Symbol};
+use std::alloc::Global;
+
+/// The front of a task: its declarations, outputs, assumption and shared block.
+#[derive(Debug, Drop)]
+pub struct Head {
+    pub decls: Decls,
+    pub outputs: Outputs,
+    pub assumed: Option<Cond>,
+    pub shared: Block,
+}
+
+/// The fillings of the four copies.
+#[derive(Debug, Drop)]
+pub struct Lists {
+    pub base: Fillings,
+    pub variant_a: Fillings,
+    pub variant_b: Fillings,
+    pub candidate: Fillings,
+}
+
+/// An assumption, behind its word.
+#[tactic(auto, unfolding(crate::specs::Reading::assumption_line), using(crate::proofs::Limits::limits))]
+fn assumption_line(
+    alloc: Global,
+    symbols: &[Symbol],
+) -> Result<(Option<Cond>, &[Symbol]), ReadError>
+    ensures { Gives
+        (λ x. (option_map condition_of x.0, x.1.now))
+        result
+        (spec.assumption_line symbols.now) }
+{
+    let (test, after) = condition(alloc, GROUP_LIMIT, symbols)?;
+    let after = expect(Mark::Semicolon, after)?;
+    Ok((Some(test), after))
+}
+
+/// What is assumed, if anything is.
+#[tactic(auto, unfolding(crate::specs::Reading::assumed))]
+pub(crate) fn assumed(
+    alloc: Global,
+    symbols: &[Symbol],
+) -> Result<(Option<Cond>, &[Symbol]), ReadError>
+    ensures { Gives (λ x. (option_map condition_of x.0, x.1.now)) result (spec.assumed symbols.now) }
+{
+    if stands(Mark::Assume, first(symbols)) {
+        assumption_line(alloc, rest(symbols))
+    } else {
+        Ok((None, symbols))
+    }
+}
+
+/// The front of a task.
+#[tactic(auto, unfolding(crate::specs::Reading::head))]
+pub(crate) fn head_of_task(
+    alloc: Global,
+    symbols: &[Symbol],
+) -> Result<(Head, &[Symbol]), ReadError>
+    ensures { Gives (λ x. (head_of x.0, x.1.now)) result (spec.head symbols.now) }
+{
+    let (decls, after) = declarations(alloc, symbols)?;
+    let (outputs, after) = outputs(alloc, after)?;
+    let (assumed, after) = assumed(alloc, after)?;
+    let (shared, after) = shared(alloc, after)?;
+    Ok((
+        Head {
+            decls,
+            outputs,
+            assumed,
+            shared,
+        },
+        after,
+    ))
+}
+
+/// The four lists.
+#[tactic(auto, unfolding(crate::specs::Reading::lists))]
+pub(crate) fn four_lists(alloc: Global, symbols: &[Symbol]) -> Result<(Lists, &[Symbol]), ReadError>
+    ensures { Gives (λ x. (lists_of x.0, x.1.now)) result (spec.lists symbols.now) }
+{
+    let (base, after) = list(alloc, Mark::Base, symbols)?;
+    let (variant_a, after) = list(alloc, Mark::VariantA, after)?;
+    let (variant_b, after) = list(alloc, Mark::VariantB, after)?;
+    let (candidate, after) = list(alloc, Mark::Candidate, after)?;
+    Ok((
+        Lists {
+            base,
+            variant_a,
+            variant_b,
+            candidate,
+        },
+        after,
+    ))
+}
+
+/// A task, and the symbols behind it.
+#[tactic(auto, unfolding(crate::specs::Reading::task))]
+pub(crate) fn task(
+    alloc: Global,
+    symbols: &[Symbol],
+) -> Result<((Head, Lists), &[Symbol]), ReadError>
+    ensures { Gives (λ x. (body_of x.0, x.1.now)) result (spec.task symbols.now) }
+{
+    let (head, after) = head_of_task(alloc, symbols)?;
+    let (lists, after) = four_lists(alloc, after)?;
+    Ok(((head, lists), after))
+}
+
+/// A whole task, with no symbol behind it.
+pub(crate) fn whole(alloc: Global, symbols: &[Symbol]) -> Result<(Head, Lists), ReadError>
+    ensures { Gives body_of result (spec.whole symbols.now) }
+{
+    match task(alloc, symbols) {
+        Ok((body, after)) => match first(after) {
+            None => Ok(body),
+            Some(_) => Err(refusal(FaultKind::Expected, after)),
+        },
+        Err(error) => Err(error),
+    }
+}

@@ -1,0 +1,213 @@
+// A whole text, read into the sections of a task.
+ghost use Rattle.std.specs.Prelude.{◌≡◌, ◌<◌, ◌^◌, Some, None, length, IfOk, IfErr, IfSome, IsErr};
+ghost use Rattle.sm_syntax.specs.Spells.{IsInGrammar};
+ghost use Rattle.sm_syntax.specs.Tokens.{lexed};
+ghost use Rattle.sm_text.specs.Texts.{parts_of, lexical_fault};
+
+use crate::error::TextError;
+use crate::lexer::tokens;
+use crate::reading::{Fault, FaultKind, ReadError};
+use crate::resolve::symbols;
+use crate::sections::{Head, Lists, whole};
+use sm_syntax::{LexFault, LexKind, NameTable, Token};
+use std::alloc::{AllocError, Global};
+
+/// The sections of a task as its text gives them, and the text of each name by its number.
+#[derive(Debug, Drop)]
+pub struct Sections {
+    pub names: NameTable,
+    pub head: Head,
+    pub lists: Lists,
+}
+
+/// Reads a text of fewer than 2^32 bytes. A text that isn't read has a place at which it stops being one: `Expected` is
+/// meant to name the first token that no task has after those before it, and `Nested` the first that nests too deep.
+/// That these places are the least, no clause says yet.
+pub fn read_sections(alloc: Global, bytes: &[u8]) -> Result<Sections, TextError>
+    requires { length bytes.now < 2 ^ 32 }
+    ensures ok { IfOk result (λ s. IsInGrammar bytes.now (parts_of s)) }
+    // A lexical fault that is named is the first one of the text.
+    ensures lexical { IfErr result (λ e. IfSome (lexical_fault e) (λ f. (lexed bytes.now).1 ≡ Some f)) }
+{
+    let tokens = tokens(alloc, bytes)?;
+    let symbols = symbols(alloc, bytes, &tokens.list)?;
+    match whole(alloc, &symbols.list) {
+        Ok((head, lists)) => match tokens.fault {
+            None => Ok(Sections {
+                names: symbols.names,
+                head,
+                lists,
+            }),
+            Some(fault) => Err(lexical_error(fault)),
+        },
+        Err(ReadError::Fault(fault)) => match (place_of(fault, &tokens.list), tokens.fault) {
+            (Some(place), _) => Err(rule_error(fault.kind, place)),
+            (None, Some(lexical)) => Err(lexical_error(lexical)),
+            (None, None) => Err(rule_error(fault.kind, bytes.len() as u64)),
+        },
+        Err(ReadError::Memory) => Err(TextError::Memory),
+    }
+}
+
+/// The place of the token at which a rule doesn't go on, if that is no end of the tokens.
+fn place_of(fault: Fault, tokens: &[Token]) -> Option<u64> {
+    let index = tokens.len().checked_sub(fault.left)?;
+    Some(tokens.get(index)?.place)
+}
+
+/// The error of a rule that doesn't go on at a place.
+fn rule_error(kind: FaultKind, place: u64) -> TextError
+    ensures { lexical_fault result ≡ None }
+{
+    match kind {
+        FaultKind::Expected => TextError::Expected { place },
+        FaultKind::Nested => TextError::Nested { place },
+    }
+}
+
+/// The error of a place at which no token stands.
+fn lexical_error(fault: LexFault) -> TextError
+    ensures { lexical_fault result ≡ Some fault }
+{
+    match fault.kind {
+        LexKind::BadByte => TextError::BadByte { place: fault.place },
+        LexKind::BadToken => TextError::BadToken { place: fault.place },
+        LexKind::WideNumber => TextError::WideNumber { place: fault.place },
+    }
+}
+
+#[cfg(test)]
+mod tests {
+    use super::*;
+    use std::test::Fail;
+
+    // Places are counted by hand: the statements of the shared block begin at byte 26.
+    #[test]
+    fn names_the_kind_and_the_place_of_a_refusal(rt: HostRuntime) -> Result<(), Fail> {
+        for (text, want) in [
+            ("", TextError::Expected { place: 0 }),
+            ("array a, ;", TextError::Expected { place: 9 }),
+            ("var x y;", TextError::Expected { place: 6 }),
+            (
+                "var x; output x; assume x;",
+                TextError::Expected { place: 25 },
+            ),
+            (
+                "var x; output x; shared { x = (x; }",
+                TextError::Expected { place: 32 },
+            ),
+            (
+                "var x; output x; shared { x = 1 2; }",
+                TextError::Expected { place: 32 },
+            ),
+            (
+                "var x; output x; shared { x = - - x; }",
+                TextError::Expected { place: 32 },
+            ),
+            (
+                "var x; output x; shared { x = x / 2; }",
+                TextError::BadByte { place: 32 },
+            ),
+            (
+                "var x; output x; shared { x[1 = 2; }",
+                TextError::Expected { place: 30 },
+            ),
+            (
+                "var x; output x; shared { if x",
+                TextError::Expected { place: 29 },
+            ),
+            (
+                "var x; output x; shared { if (x) { }",
+                TextError::Expected { place: 31 },
+            ),
+            (
+                "var x; output x; shared { if (true) { } x",
+                TextError::Expected { place: 40 },
+            ),
+            (
+                "var x; output x; shared { while (! ! true)",
+                TextError::Expected { place: 35 },
+            ),
+            (
+                "var x; output x; shared { ?1000; }",
+                TextError::Expected { place: 27 },
+            ),
+            (
+                "var x; output x; shared { ?0; }",
+                TextError::Expected { place: 27 },
+            ),
+            (
+                "var x; output x; shared { skip; /",
+                TextError::BadByte { place: 32 },
+            ),
+            (
+                "var x; output x; shared { skip; ",
+                TextError::Expected { place: 32 },
+            ),
+            (
+                "var x; output x; shared { } variant_a",
+                TextError::Expected { place: 28 },
+            ),
+        ] {
+            assert!(rt; text.len() < 99);
+            let result = read_sections(rt.alloc(), text.as_bytes());
+            assert_eq!(rt; result.err(), Some(want), "at {text}");
+        }
+        Ok(())
+    }
+
+    #[test]
+    fn reads_the_sections_of_a_task(rt: HostRuntime) -> Result<(), Fail> {
+        let text =
+            "var x, y; array z; output z, x; assume x < 1 || [y == 2 && ! true]; shared { ?1; ?2; } \
+                    base { ?1 { x = -y * (3 - z[x]); } } variant_a { } \
+                    variant_b { ?2 { if (x >= 1) { } else { skip; } } ?1 { while (false) { z[y + 1] = 007; } } } \
+                    candidate { }";
+        assert!(rt; text.len() < 999);
+        let sections = read_sections(rt.alloc(), text.as_bytes())?;
+        assert_eq!(rt; sections.names.len(), 3);
+        assert_eq!(rt; sections.head.decls.list.len(), 3);
+        assert_eq!(rt; sections.head.outputs.list.len(), 2);
+        assert_eq!(rt; sections.head.shared.list.len(), 2);
+        assert_eq!(rt; sections.lists.base.list.len(), 1);
+        assert_eq!(rt; sections.lists.variant_a.list.len(), 0);
+        assert_eq!(rt; sections.lists.variant_b.list.len(), 2);
+        Ok(())
+    }
+
+    const HEAD: &str = "var x; output x; shared { x = ";
+
+    const TAIL: &str = "; } base { } variant_a { } variant_b { } candidate { }";
+
+    // A task whose one value is so many copies of a text, a name, and as many of another.
+    fn nested(alloc: Global, before: &str, count: u64, behind: &str) -> Result<String, AllocError> {
+        let mut text = String::from_str(alloc, HEAD)?;
+        for _ in 0..count {
+            text.push_str(before)?;
+        }
+        text.push_str("x")?;
+        for _ in 0..count {
+            text.push_str(behind)?;
+        }
+        text.push_str(TAIL)?;
+        Ok(text)
+    }
+
+    // The value begins at byte 30, inside one group.
+    #[test]
+    fn nests_at_most_64_groups_and_chains_63_operators(rt: HostRuntime) -> Result<(), Fail> {
+        for (before, count, behind, want) in [
+            ("(", 63, ")", None),
+            ("(", 64, ")", Some(TextError::Nested { place: 93 })),
+            ("", 63, " + x", None),
+            ("", 64, " + x", Some(TextError::Nested { place: 284 })),
+            ("", 64, " * x", Some(TextError::Nested { place: 284 })),
+        ] {
+            let text = nested(rt.alloc(), before, count, behind)?;
+            assert!(rt; text.as_str().len() < 999);
+            let result = read_sections(rt.alloc(), text.as_bytes());
+            assert_eq!(rt; result.err(), want, "{count} of {before}{behind}");
+        }
+        Ok(())
+    }
+}
