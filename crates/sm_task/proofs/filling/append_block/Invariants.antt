@@ -1,0 +1,10 @@
+-- The list, and then the statements that are left, are the list at first and then the block.
+use Rattle.std.proofs.Common.{◌≡◌, map, drop}
+use Rattle.sm_syntax.specs.Syntax.{Code, append}
+use Rattle.sm_syntax.specs.Views.{sequence, statement_of, code_of}
+use Rattle.sm_task.proofs.filling.append_block.Given as goal
+
+abbrev pub invariant-loop-s : goal.invariant-loop-s
+invariant-loop-s l =
+    (k : Code) → sequence (map statement_of l.out.items) (sequence (map statement_of (drop l.s-index l.s-items)) k)
+    ≡ sequence (map statement_of l.initial.out.items) (append (code_of l.block) k)

@@ -1,0 +1,6 @@
+use Rattle.std.proofs.Common.{◌≡◌, drop}
+use Rattle.sm_syntax.specs.Conditions.{first_outside}
+use Rattle.sm_task.proofs.holes.first_outside.Given as goal
+
+abbrev pub invariant-loop-hole : goal.invariant-loop-hole
+invariant-loop-hole l = first_outside l.others l.holes ≡ first_outside l.others (drop l.hole-index l.holes)

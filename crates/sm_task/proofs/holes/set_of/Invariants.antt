@@ -1,0 +1,7 @@
+use Rattle.std.proofs.Common.{◌≡◌, ℕ, nat_eq, take}
+use Rattle.std.specs.HashSet.{contains}
+use Rattle.sm_syntax.specs.Conditions.{is_in}
+use Rattle.sm_task.proofs.holes.set_of.Given as goal
+
+abbrev pub invariant-loop-x : goal.invariant-loop-x
+invariant-loop-x l = (q : ℕ) → contains nat_eq l.set q ≡ is_in (take l.x-index l.numbers) q

@@ -1,0 +1,85 @@
+-- Which refusal of a task an error names.
+use Rattle.sm_syntax.specs.declared.token.LexFault.{LexFault}
+use Rattle.sm_syntax.specs.declared.token.LexKind.TheVariants as kind
+use Rattle.std.specs.Prelude.{◌≡◌, ◌≢◌, ℕ, zero, suc, Option, Some, None, IsSome, Result, MatchResult, List}
+use Rattle.sm_syntax.specs.declared.error.SyntaxError.{SyntaxError}
+use Rattle.sm_syntax.specs.declared.error.SyntaxError.TheVariants as fault
+use Rattle.sm_syntax.specs.ConflictFree.{O, A, B, M}
+use Rattle.sm_syntax.specs.Conditions as refusal
+use Rattle.sm_syntax.specs.Conditions.{Section, Shared, ListOf, Refusal, first_refusal}
+use Rattle.sm_syntax.specs.Parts.{Parts}
+use Rattle.sm_syntax.specs.Spells.{IsInGrammar}
+use Rattle.sm_text.specs.declared.error.TextError.{TextError}
+use Rattle.sm_text.specs.declared.error.TextError.TheVariants as text
+use Rattle.sm_task.specs.declared.error.TaskError.{TaskError}
+use Rattle.sm_task.specs.declared.error.TaskError.TheVariants as error
+
+-- the section with a number
+abbrev pub section_of : ℕ → Section
+section_of zero = ListOf O
+section_of (suc zero) = ListOf A
+section_of (suc (suc zero)) = ListOf B
+section_of (suc (suc (suc zero))) = ListOf M
+section_of (suc (suc (suc (suc n)))) = Shared
+
+-- the condition that fails, none for a fault of the text and for want of memory
+abbrev pub refusal_of : TaskError → Option Refusal
+refusal_of (error.BadByte place) = None
+refusal_of (error.WideNumber place) = None
+refusal_of (error.BadToken place) = None
+refusal_of (error.Expected place) = None
+refusal_of (error.Nested place) = None
+refusal_of (error.MissingFilling list hole) = Some (refusal.MissingFilling (section_of list) hole)
+refusal_of (error.UnknownHole list hole) = Some (refusal.UnknownHole (section_of list) hole)
+refusal_of (error.DoubleHole list hole) = Some (refusal.DoubleHole (section_of list) hole)
+refusal_of (error.HoleInFilling list hole) = Some (refusal.HoleInFilling (section_of list) hole)
+refusal_of (error.UnknownName x) = Some (refusal.UnknownName x.0)
+refusal_of (error.WrongSort x) = Some (refusal.WrongSort x.0)
+refusal_of (error.DoubleName x) = Some (refusal.DoubleName x.0)
+refusal_of error.TooDeep = Some refusal.TooDeep
+refusal_of error.TooMany = Some refusal.TooMany
+refusal_of error.Memory = None
+
+-- the lexical fault that an error names, if it names one
+abbrev pub lexical_fault_of : TaskError → Option LexFault
+lexical_fault_of (error.BadByte place) = Some (record { kind = kind.BadByte; place = place })
+lexical_fault_of (error.WideNumber place) = Some (record { kind = kind.WideNumber; place = place })
+lexical_fault_of (error.BadToken place) = Some (record { kind = kind.BadToken; place = place })
+lexical_fault_of (error.Expected place) = None
+lexical_fault_of (error.Nested place) = None
+lexical_fault_of (error.MissingFilling list hole) = None
+lexical_fault_of (error.UnknownHole list hole) = None
+lexical_fault_of (error.DoubleHole list hole) = None
+lexical_fault_of (error.HoleInFilling list hole) = None
+lexical_fault_of (error.UnknownName x) = None
+lexical_fault_of (error.WrongSort x) = None
+lexical_fault_of (error.DoubleName x) = None
+lexical_fault_of error.TooDeep = None
+lexical_fault_of error.TooMany = None
+lexical_fault_of error.Memory = None
+
+-- the error of a task for an error of its text
+abbrev pub from_text : TextError → TaskError
+from_text (text.BadByte place) = error.BadByte place
+from_text (text.WideNumber place) = error.WideNumber place
+from_text (text.BadToken place) = error.BadToken place
+from_text (text.Expected place) = error.Expected place
+from_text (text.Nested place) = error.Nested place
+from_text text.Memory = error.Memory
+
+-- the error that a program's fault makes
+abbrev pub from_syntax : SyntaxError → TaskError
+from_syntax (fault.UnknownName x) = error.UnknownName x
+from_syntax (fault.WrongSort x) = error.WrongSort x
+from_syntax (fault.DoubleName x) = error.DoubleName x
+from_syntax fault.TooDeep = error.TooDeep
+from_syntax fault.TooMany = error.TooMany
+from_syntax fault.Memory = error.Memory
+
+-- a check answers that there is no refusal, or which one it is; want of memory alone is free
+abbrev pub Reports : Result (Unit {0}) TaskError → Option Refusal → Type 0
+Reports answer refusal = MatchResult answer (λ u. refusal ≡ None) (λ e. e ≢ error.Memory → IsSome refusal × (refusal ≡ refusal_of e))
+
+-- the text is in the grammar, and of the conditions on tasks this is the first that fails
+abbrev pub IsRefusedBy : List ℕ → Refusal → Type 0
+IsRefusedBy bytes r = (t : Parts) × IsInGrammar bytes t × (first_refusal t ≡ Some r)

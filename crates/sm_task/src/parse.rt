@@ -1,0 +1,48 @@
+// A text, read as a task.
+ghost use Rattle.std.specs.Prelude.{◌≡◌, ◌<◌, ◌^◌, Some, length, IfOk, IfErr, IfSome};
+ghost use Rattle.sm_syntax.specs.Spells.{Spells};
+ghost use Rattle.sm_syntax.specs.Tokens.{lexed};
+ghost use Rattle.sm_task.specs.Errors.{refusal_of, lexical_fault_of, IsRefusedBy};
+ghost use Rattle.sm_task.specs.Tasks.{parts_of};
+ghost use Rattle.sm_text.specs.Texts as text;
+
+use crate::conditions::check_conditions;
+use crate::error::TaskError;
+use crate::task::Task;
+use sm_syntax::Program;
+use sm_text::{Sections, read_sections};
+use std::alloc::Global;
+
+/// Reads a text of fewer than 2^32 bytes as a task. The language is the one that `sm_text::read_sections` takes today.
+pub fn parse_task(alloc: Global, bytes: &[u8]) -> Result<Task, TaskError>
+    requires { length bytes.now < 2 ^ 32 }
+    ensures ok { IfOk result (λ t. Spells bytes.now (parts_of t)) }
+    // A condition is named exactly where it is the first that fails.
+    ensures condition { IfErr result (λ e. IfSome (refusal_of e) (IsRefusedBy bytes.now)) }
+    // A lexical fault that is named is the first one of the text.
+    ensures lexical { IfErr result (λ e. IfSome (lexical_fault_of e) (λ f. (lexed bytes.now).1 ≡ Some f)) }
+{
+    let task = from_sections(read_sections(alloc, bytes)?);
+    check_conditions(alloc, &task)?;
+    Ok(task)
+}
+
+/// The task of these sections.
+fn from_sections(sections: Sections) -> Task
+    ensures { parts_of result ≡ text.parts_of sections }
+{
+    let Sections { names, head, lists } = sections;
+    Task {
+        shared: Program {
+            names,
+            decls: head.decls,
+            outputs: head.outputs,
+            body: head.shared,
+        },
+        assumed: head.assumed,
+        base: lists.base,
+        variant_a: lists.variant_a,
+        variant_b: lists.variant_b,
+        candidate: lists.candidate,
+    }
+}
