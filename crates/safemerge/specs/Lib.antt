@@ -1,0 +1,4 @@
+pub mod Copies
+pub mod Tables
+pub mod Lines
+pub mod Answers
