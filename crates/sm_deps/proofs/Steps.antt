@@ -1,0 +1,254 @@
+-- What is needed before statements and lists of statements, one step at a time.
+use Rattle.std.proofs.Common.{◌≡◌, ◌+◌, ◌-◌, ◌<◌, ◌≤◌, ℕ, Bool, true, false, cond, not, ◌==◌, ◌||◌, ◌&&◌, List, [], ◌∷◌, ◌++◌, length, map, drop, get_or, nat_eq, refl, sym, ap, subst, ⊎_elim, ◌∙◌, length-append, arith}
+use Rattle.std.proofs.lemmas.Bool.{cases_Bool, eqb-true, or_left, or_right, or_cases}
+use Rattle.std.proofs.lemmas.Bool.Decides.{nat_tests}
+use Rattle.std.proofs.Math.Path.{fun_ext}
+use Rattle.std.proofs.lemmas.List.Folds.{list_any-append}
+use Rattle.std.proofs.lemmas.Map.Keys.{IsDistinct-from_sorted, IsDistinct-push}
+use Rattle.std.proofs.lemmas.Map.Made.{length-le_from_is_member}
+use Rattle.std.specs.BTreeMap.{is_at}
+use Rattle.std.specs.BTreeSet.{BTreeSet, contains, contains_by, IsOrdered, UpdatesBy}
+use Rattle.std.proofs.lemmas.Cmp.{nat_eq_equiv}
+use Rattle.std.specs.List.{IsDistinct, list_any}
+use Rattle.std.specs.Ordering.{nat_cmp, eq_by_cmp}
+use Rattle.sm_syntax.specs.declared.tree.Block.{Block}
+use Rattle.sm_syntax.specs.declared.tree.Cond.{Cond}
+use Rattle.sm_syntax.specs.declared.tree.Expr.{Expr}
+use Rattle.sm_syntax.specs.declared.tree.Name.{Name}
+use Rattle.sm_syntax.specs.declared.tree.Stmt.{Stmt}
+use Rattle.sm_syntax.specs.declared.tree.Stmt.TheVariants as tree
+use Rattle.sm_syntax.specs.Conditions.{is_in}
+use Rattle.sm_syntax.specs.Syntax.{Code, End, Skip, Assign, Write, If, While, Hole, append}
+use Rattle.sm_syntax.specs.Views.{expression_of, condition_of, sequence, statement_of, code_of}
+use Rattle.sm_syntax.proofs.Blocks.{statement_is, sequence-drop}
+use Rattle.sm_syntax.proofs.Statements.{statement_of-Skip, statement_of-Assign, statement_of-Store, statement_of-If, statement_of-While, statement_of-Hole}
+use Rattle.sm_deps.specs.Inputs.{grown, needed, inputs}
+use Rattle.sm_deps.specs.Members.{members, only, either}
+use Rattle.sm_deps.specs.Names.{mentions, tests, names_of}
+use Rattle.sm_deps.specs.Needs.{Picked}
+use Rattle.sm_deps.proofs.Exact.{body_from, needed_sound, needed_complete, inputs_listed, inputs_exact}
+use Rattle.sm_deps.proofs.Rounds.{Below, Closed, grown_within, grown_closed}
+use Rattle.sm_deps.proofs.Unions.{at_number, or_assoc, or-false, listed-members, list_is}
+
+-- before one code after another, what the first needs for what the second needs
+pub needed-append : (c r : Code) (wanted : ℕ → Bool) → needed (append c r) wanted ≡ needed c (needed r wanted)
+needed-append End r wanted = refl
+needed-append (Skip k) r wanted = needed-append k r wanted
+needed-append (Assign y e k) r wanted = ap {B = ℕ → Bool} (λ (s : ℕ → Bool) (x : ℕ). (s x && not (x == y)) || (s y && mentions e x)) (needed-append k r wanted)
+needed-append (Write a i e k) r wanted = ap {B = ℕ → Bool} (λ (s : ℕ → Bool) (x : ℕ). s x || (s a && (mentions i x || mentions e x))) (needed-append k r wanted)
+needed-append (If b c d k) r wanted = ap {B = ℕ → Bool} (λ (s : ℕ → Bool) (x : ℕ). needed c s x || (needed d s x || tests b x)) (needed-append k r wanted)
+needed-append (While b c k) r wanted = ap {B = ℕ → Bool} (λ (s : ℕ → Bool). grown (length (names_of c)) (needed c) (λ (y : ℕ). s y || tests b y)) (needed-append k r wanted)
+needed-append (Hole h k) r wanted = needed-append k r wanted
+
+-- a set without a name
+unfoldable pub without : (ℕ → Bool) → ℕ → ℕ → Bool
+without set y x = set x && not (x == y)
+
+-- a statement that assigns nothing
+pub needed-Skip : (wanted : ℕ → Bool) → needed (statement_of tree.Skip End) wanted ≡ wanted
+needed-Skip wanted = ap (λ (c : Code). needed c wanted) (statement_of-Skip End)
+
+pub needed-Hole : (h : ℕ) (wanted : ℕ → Bool) → needed (statement_of (tree.Hole h) End) wanted ≡ wanted
+needed-Hole h wanted = ap (λ (c : Code). needed c wanted) (statement_of-Hole h End)
+
+-- an assignment to a wanted name, and to another
+taken : (set : ℕ → Bool) (y x : ℕ) (m : Bool) → set y ≡ true → ((set x && not (x == y)) || (set y && m)) ≡ ((set x && not (x == y)) || m)
+taken set y x m wanted = ap (λ (c : Bool). (set x && not (x == y)) || (c && m)) wanted
+
+passed : (set : ℕ → Bool) (y x : ℕ) (m : Bool) → set y ≡ false → ((set x && not (x == y)) || (set y && m)) ≡ set x
+passed set y x m lacked = ap (λ (c : Bool). (set x && not (x == y)) || (c && m)) lacked ∙ or-false (set x && not (x == y)) ∙ go (x == y) refl where
+  kept : (b : Bool) → (b && true) ≡ b
+  kept true = refl
+  kept false = refl
+
+  lost : (b : Bool) → (b && false) ≡ false
+  lost true = refl
+  lost false = refl
+
+  go : (b : Bool) → (x == y) ≡ b → (set x && not b) ≡ set x
+  go true same = lost (set x) ∙ sym (ap set (eqb-true x y same) ∙ lacked)
+  go false other = kept (set x)
+
+pub needed-Assign : (x : Name) (e : Expr) (wanted : ℕ → Bool) → wanted x.0 ≡ true →
+    needed (statement_of (tree.Assign x e) End) wanted ≡ either (without wanted x.0) (mentions (expression_of e))
+unfolding either without
+needed-Assign x e wanted here =
+    ap (λ (c : Code). needed c wanted) (statement_of-Assign x e End) ∙ fun_ext (λ (q : ℕ). taken wanted x.0 q (mentions (expression_of e) q) here)
+
+pub needed-Assign-other : (x : Name) (e : Expr) (wanted : ℕ → Bool) → wanted x.0 ≡ false → needed (statement_of (tree.Assign x e) End) wanted ≡ wanted
+needed-Assign-other x e wanted lacked =
+    ap (λ (c : Code). needed c wanted) (statement_of-Assign x e End) ∙ fun_ext (λ (q : ℕ). passed wanted x.0 q (mentions (expression_of e) q) lacked)
+
+-- a write to a wanted array, and to another
+pub needed-Store : (a : Name) (i e : Expr) (wanted : ℕ → Bool) → wanted a.0 ≡ true →
+    needed (statement_of (tree.Store a i e) End) wanted ≡ either (either wanted (mentions (expression_of i))) (mentions (expression_of e))
+unfolding either
+needed-Store a i e wanted here =
+    ap (λ (c : Code). needed c wanted) (statement_of-Store a i e End) ∙
+    fun_ext (λ (q : ℕ).
+    ap (λ (b : Bool). wanted q || (b && (mentions (expression_of i) q || mentions (expression_of e) q))) here ∙
+    sym (or_assoc (wanted q) (mentions (expression_of i) q) (mentions (expression_of e) q)))
+
+pub needed-Store-other : (a : Name) (i e : Expr) (wanted : ℕ → Bool) → wanted a.0 ≡ false → needed (statement_of (tree.Store a i e) End) wanted ≡ wanted
+needed-Store-other a i e wanted lacked =
+    ap (λ (c : Code). needed c wanted) (statement_of-Store a i e End) ∙
+    fun_ext (λ (q : ℕ). ap (λ (b : Bool). wanted q || (b && (mentions (expression_of i) q || mentions (expression_of e) q))) lacked ∙ or-false (wanted q))
+
+-- a choice
+pub needed-If : (b : Cond) (c d : Block) (wanted : ℕ → Bool) →
+    needed (statement_of (tree.If b c d) End) wanted ≡ either (either (needed (code_of c) wanted) (needed (code_of d) wanted)) (tests (condition_of b))
+unfolding either
+needed-If b c d wanted =
+    ap (λ (k : Code). needed k wanted) (statement_of-If b c d End) ∙
+    fun_ext (λ (q : ℕ). sym (or_assoc (needed (code_of c) wanted q) (needed (code_of d) wanted q) (tests (condition_of b) q)))
+
+-- a loop
+pub needed-While : (b : Cond) (c : Block) (wanted : ℕ → Bool) →
+    needed (statement_of (tree.While b c) End) wanted ≡ grown (length (names_of (code_of c))) (needed (code_of c)) (either wanted (tests (condition_of b)))
+unfolding either
+needed-While b c wanted = ap (λ (k : Code). needed k wanted) (statement_of-While b c End)
+
+-- a list's statements from i on, where s stands at i
+pub needed-drop : (l : List Stmt) (i : ℕ) (s : Stmt) (wanted : ℕ → Bool) → i < length l → s ≡ get_or l i s →
+    needed (sequence (map statement_of (drop i l)) End) wanted ≡ needed (statement_of s End) (needed (sequence (map statement_of (drop (i + 1) l)) End) wanted)
+needed-drop l i s wanted here item =
+    let k = sequence (map statement_of (drop (i + 1) l)) End in
+    ap (λ (c : Code). needed c wanted) (sequence-drop l i s End here ∙ statement_is (get_or l i s) k) ∙
+    ap (λ (t : Stmt). needed (append (statement_of t End) k) wanted) (sym item) ∙
+    needed-append (statement_of s End) k wanted
+
+-- a set that lost a name
+less : (b c : Bool) → cond b false c ≡ (c && not b)
+less true true = refl
+less true false = refl
+less false true = refl
+less false false = refl
+
+pub members-remove : (old new : BTreeSet ℕ) (x : ℕ) → UpdatesBy nat_cmp (nat_cmp x) old new false → members new ≡ without (members old) x
+unfolding members without
+members-remove old new x h =
+    fun_ext (λ (q : ℕ). h.0 q ∙ less (is_at (nat_cmp x) q) (contains nat_cmp old q) ∙ ap (λ (b : Bool). contains nat_cmp old q && not b) (at_number x q))
+
+-- a set with the same list
+pub members-same : (old new : BTreeSet ℕ) → new.keys ≡ old.keys → members new ≡ members old
+unfolding members
+members-same old new same = fun_ext (λ (q : ℕ). ap (list_any (is_at (nat_cmp q))) same)
+
+-- whether a set has a name, as its methods say
+pub members-contains : (set : BTreeSet ℕ) (x : ℕ) → contains_by (nat_cmp x) set ≡ members set x
+unfolding members
+members-contains set x = refl
+
+-- where more is wanted, more is needed
+pub needed_grows : (c : Code) (few more : ℕ → Bool) → Below few more → Below (needed c few) (needed c more)
+needed_grows c few more h x m = needed_complete c more (Picked more) (λ (y : ℕ) (p : more y ≡ true). p) x (needed_sound c few (Picked more) h x m)
+
+-- two tests that hold of the same numbers
+both_ways : (b c : Bool) → (b ≡ true → c ≡ true) → (c ≡ true → b ≡ true) → b ≡ c
+both_ways true c there back = sym (there refl)
+both_ways false true there back = absurd (let no : false ≡ true = back refl in cc)
+both_ways false false there back = refl
+
+-- a set between the start and the loop's set that needs nothing more is the loop's set
+pub loop_is : (c : Code) (start set : ℕ → Bool) → Below start set → Below set (grown (length (names_of c)) (needed c) start) → Closed (needed c) set →
+    set ≡ grown (length (names_of c)) (needed c) start
+loop_is c start set starts within closed =
+    let rounds = length (names_of c) in
+    fun_ext (λ (x : ℕ).
+    both_ways (set x) (grown rounds (needed c) start x) (within x)
+    (grown_within rounds (needed c) start set (λ (part : ℕ → Bool) (h : Below part set) (y : ℕ) (m : needed c part y ≡ true). closed y (needed_grows c part set h y m)) starts x))
+
+-- what such a set needs stays in the loop's set
+pub loop_holds : (c : Code) (start set : ℕ → Bool) → Below set (grown (length (names_of c)) (needed c) start) →
+    Below (either set (needed c set)) (grown (length (names_of c)) (needed c) start)
+unfolding either
+loop_holds c start set within x m =
+    let whole = grown (length (names_of c)) (needed c) start in
+    ⊎_elim (within x) (λ (new : needed c set x ≡ true). grown_closed (names_of c) (needed c) start (body_from c start) x (needed_grows c set whole within x new))
+    (or_cases (set x) (needed c set x) m)
+
+-- the first of two sets
+pub below_either : (start set more : ℕ → Bool) → Below start set → Below start (either set more)
+unfolding either
+below_either start set more h x m = or_left (set x) (more x) (h x m)
+
+-- a set's list has no name twice
+distinct : (set : BTreeSet ℕ) → IsOrdered nat_cmp set → IsDistinct nat_eq set.keys
+distinct set ordered = subst (λ (e : ℕ → ℕ → Bool). IsDistinct e set.keys) (fun_ext (λ (x : ℕ). fun_ext (λ (y : ℕ). same x y))) (IsDistinct-from_sorted nat_cmp set.keys ordered) where
+  same : (x y : ℕ) → eq_by_cmp nat_cmp x y ≡ nat_eq x y
+  same x y = grind (arith, nat_tests)
+
+-- a set that has all names of another is at least as large
+pub at_least : (old new : BTreeSet ℕ) → IsOrdered nat_cmp old → Below (members old) (members new) → length old.keys ≤ length new.keys
+at_least old new ordered h =
+    length-le_from_is_member nat_eq_equiv old.keys new.keys (distinct old ordered)
+    (λ (q : ℕ) (m : is_in old.keys q ≡ true). listed-members new q ∙ h q (sym (listed-members old q) ∙ m))
+
+-- where it is no larger, it has no other name
+pub no_more : (old new : BTreeSet ℕ) → IsOrdered nat_cmp old → Below (members old) (members new) → length new.keys ≤ length old.keys → Below (members new) (members old)
+no_more old new ordered h small q m =
+    ⊎_elim (λ (had : members old q ≡ true). had)
+    (λ (lacked : members old q ≡ false).
+    let more : length (old.keys ++ q ∷ []) ≤ length new.keys =
+    length-le_from_is_member nat_eq_equiv (old.keys ++ q ∷ []) new.keys
+    (IsDistinct-push nat_eq_equiv old.keys q (distinct old ordered) (listed-members old q ∙ lacked))
+    (λ (z : ℕ) (n : is_in (old.keys ++ q ∷ []) z ≡ true).
+    listed-members new z ∙
+    ⊎_elim
+    (λ (older : is_in old.keys z ≡ true). h z (sym (listed-members old z) ∙ older))
+    (λ (one : is_in (q ∷ []) z ≡ true). ap (members new) (eqb-true z q (sym (or-false (z == q)) ∙ one)) ∙ m)
+    (or_cases (is_in old.keys z) (is_in (q ∷ []) z) (sym (list_any-append (λ (y : ℕ). z == y) old.keys (q ∷ [])) ∙ n))) in
+    let long = length-append old.keys (q ∷ []) in
+    absurd (omega (arith, more, long, small)))
+    (cases_Bool (members old q))
+
+-- the same where the statements from j on are gone over
+pub needed-before : (l : List Stmt) (j : ℕ) (s : Stmt) (wanted : ℕ → Bool) → 0 < j → j ≤ length l → s ≡ get_or l (j - 1) s →
+    needed (sequence (map statement_of (drop (j - 1) l)) End) wanted ≡ needed (statement_of s End) (needed (sequence (map statement_of (drop j l)) End) wanted)
+needed-before l j s wanted some within item =
+    let next : (j - 1) + 1 ≡ j = omega arith in
+    needed-drop l (j - 1) s wanted (omega (arith, some, within)) item ∙
+    ap (λ (m : ℕ). needed (statement_of s End) (needed (sequence (map statement_of (drop m l)) End) wanted)) next
+
+-- a turn keeps what is there
+pub turn_starts : (c : Code) (start old new : ℕ → Bool) → new ≡ either old (needed c old) → Below start old → Below start new
+turn_starts c start old new is h = subst (Below start) (sym is) (below_either start old (needed c old) h)
+
+-- a turn stays in the loop's set
+pub turn_within : (c : Code) (start old new : ℕ → Bool) → new ≡ either old (needed c old) → Below old (grown (length (names_of c)) (needed c) start) →
+    Below new (grown (length (names_of c)) (needed c) start)
+turn_within c start old new is h = subst (λ (s : ℕ → Bool). Below s (grown (length (names_of c)) (needed c) start)) (sym is) (loop_holds c start old h)
+
+-- the first of two sets is in both
+first_below : (s t : ℕ → Bool) → Below s (either s t)
+unfolding either
+first_below s t x h = or_left (s x) (t x) h
+
+-- so is the second
+second_below : (s t : ℕ → Bool) → Below t (either s t)
+unfolding either
+second_below s t x h = or_right (s x) (t x) h
+
+-- a turn that adds no name is the last
+pub turn_last : (c : Code) (start : ℕ → Bool) (old new : BTreeSet ℕ) → IsOrdered nat_cmp old → members new ≡ either (members old) (needed c (members old)) →
+    length new.keys ≡ length old.keys → Below start (members old) → Below (members old) (grown (length (names_of c)) (needed c) start) →
+    members new ≡ grown (length (names_of c)) (needed c) start
+turn_last c start old new ordered is same starts within =
+    let had : Below (members old) (members new) = subst (Below (members old)) (sym is) (first_below (members old) (needed c (members old))) in
+    let brought : Below (needed c (members old)) (members new) = subst (Below (needed c (members old))) (sym is) (second_below (members old) (needed c (members old))) in
+    let back : Below (members new) (members old) = no_more old new ordered had (omega (arith, same)) in
+    loop_is c start (members new) (turn_starts c start (members old) (members new) is starts) (turn_within c start (members old) (members new) is within)
+    (λ (x : ℕ) (m : needed c (members new) x ≡ true). brought x (needed_grows c (members new) (members old) back x m))
+
+-- a turn makes the set no smaller
+pub turn_grows : (c : Code) (old new : BTreeSet ℕ) → IsOrdered nat_cmp old → members new ≡ either (members old) (needed c (members old)) → length old.keys ≤ length new.keys
+turn_grows c old new ordered is = at_least old new ordered (subst (Below (members old)) (sym is) (first_below (members old) (needed c (members old))))
+
+-- the list of a set that has exactly what is needed is the list of inputs
+pub list_is_inputs : (c : Code) (w : ℕ) (set : BTreeSet ℕ) → IsOrdered nat_cmp set → members set ≡ needed c (only w) → set.keys ≡ inputs c w
+unfolding only
+list_is_inputs c w set ordered all =
+    list_is set (inputs c w) ordered (inputs_exact c w).0
+    (λ (x : ℕ). both_ways (is_in (inputs c w) x) (members set x)
+    (λ (m : is_in (inputs c w) x ≡ true). ap (λ (s : ℕ → Bool). s x) all ∙ (inputs_listed c w x).0 m)
+    (λ (m : members set x ≡ true). (inputs_listed c w x).1 (sym (ap (λ (s : ℕ → Bool). s x) all) ∙ m)))

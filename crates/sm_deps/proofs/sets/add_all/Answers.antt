@@ -1,0 +1,11 @@
+use Rattle.std.proofs.lemmas.Result.{on_ok_weaker}
+use Rattle.std.specs.BTreeSet.{InsertsAll}
+use Rattle.std.specs.Ordering.{nat_cmp}
+use Rattle.sm_deps.proofs.Unions.{members-union}
+use Rattle.sm_deps.proofs.sets.add_all.Goals as goal
+
+pub returns : goal.returns
+returns c =
+    on_ok_weaker c.append.result
+    (λ (h : InsertsAll nat_cmp c.args.names.now c.args.others.keys c.append.new.self). members-union c.args.names.now c.args.others c.append.new.self h)
+    c.append.ensures.inserts_all

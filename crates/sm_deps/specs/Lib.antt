@@ -1,0 +1,5 @@
+pub mod Names
+pub mod Needs
+pub mod Inputs
+pub mod Members
+pub mod Laws
