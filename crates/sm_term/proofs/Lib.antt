@@ -1,0 +1,4 @@
+pub mod Values
+pub mod Truths
+pub mod Places
+pub mod Below

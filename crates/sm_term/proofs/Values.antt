@@ -1,0 +1,17 @@
+-- The term of an expression means its value.
+use Rattle.std.proofs.Common.{◌≡◌, neg_ℤ, refl, ap}
+use Rattle.sm_syntax.specs.Syntax.{Expression, Lit, Var, Read, Neg, Plus, Minus, Times}
+use Rattle.sm_syntax.specs.Stores.{Value, Number, number, array}
+use Rattle.sm_syntax.specs.Meaning.{value_of}
+use Rattle.sm_term.specs.Structures.{Structure, meaning}
+use Rattle.sm_term.specs.Symbolic.{SymbolicStore, store_meant, term_of}
+
+-- the term of an expression means the expression's value in the store that the symbolic store means
+pub term_means : (m : Structure) (e : Expression) (s : SymbolicStore) → meaning m (term_of e s) ≡ value_of e (store_meant m s)
+term_means m (Lit z) s = refl
+term_means m (Var x) s = refl
+term_means m (Read a i) s = ap (λ (v : Value). Number (array (meaning m (s a)) (number v))) (term_means m i s)
+term_means m (Neg e) s = ap (λ (v : Value). Number (neg_ℤ (number v))) (term_means m e s)
+term_means m (Plus d e) s = rw (term_means m d s, term_means m e s) refl
+term_means m (Minus d e) s = rw (term_means m d s, term_means m e s) refl
+term_means m (Times d e) s = rw (term_means m d s, term_means m e s) refl
