@@ -1,0 +1,12 @@
+pub mod Families
+pub mod Cuts
+pub mod JointTurns
+pub mod Bounded
+pub mod OneCopy
+pub mod AllCopies
+pub mod OneNode
+pub mod Whole
+pub mod Worked
+pub mod ByHand
+pub mod Preorder
+pub mod Masks

@@ -1,0 +1,111 @@
+-- A worked plan. The shared program is `while (i < n) { ?1 i = i + 1; }`, with x = x + 1 for the hole in the base and
+-- in B, and x = x + 2 in A and in the candidate; the output is x. The loops of the base and of B are one summary, and
+-- those of A and of the candidate run together, with equal i and x.
+use Rattle.std.specs.Prelude.{◌≡◌, ℕ, pos, true, false, None, Ok, List, [], ◌∷◌}
+use Rattle.sm_syntax.specs.declared.tree.Cmp.TheVariants as cmp
+use Rattle.sm_syntax.specs.declared.tree.Sort.TheVariants.{Num}
+use Rattle.sm_syntax.specs.Syntax.{Code, End, Assign, While, Hole, Compare, Var, Plus}
+use Rattle.sm_syntax.specs.Syntax as syntax
+use Rattle.sm_syntax.specs.Parts.{by_copy}
+use Rattle.sm_syntax.specs.ConflictFree.{O, A, B, M, Task, ConflictFree}
+use Rattle.sm_term.specs.Terms.{Tree, Lit, Start, Havoc, Slot, Add, Fun, Arguments, Given}
+use Rattle.sm_term.specs.Terms as term
+use Rattle.sm_term.specs.Assertions.{Assertion, No, Eq, Ne, Le, Lt, And, Or}
+use Rattle.sm_plan.specs.Copies.{Copies}
+use Rattle.sm_plan.specs.Nodes.{Node, Step, Abs, Loop, Dead, Ends}
+use Rattle.sm_plan.specs.Plans.{Plan, At, Over, More, IsFresh, Due, obligations, AllDischarged}
+
+-- the names
+abbrev pub i : ℕ
+i = 0
+
+abbrev pub n : ℕ
+n = 1
+
+abbrev pub x : ℕ
+x = 2
+
+-- x = x + z
+abbrev pub adds : ℕ → Code
+adds z = Assign x (Plus (Var x) (syntax.Lit (pos z))) End
+
+-- the loop with code at its hole
+abbrev pub loop_with : Code → Code
+loop_with c = While (Compare cmp.Lt (Var i) (Var n)) c End
+
+-- the task
+abbrev pub example_task : Task
+example_task = record {
+  assumed = None;
+  outputs = (x, Num) ∷ [];
+  shared = loop_with (Hole 1 (Assign i (Plus (Var i) (syntax.Lit (pos 1))) End));
+  fillings = by_copy ((1, adds 1) ∷ []) ((1, adds 2) ∷ []) ((1, adds 1) ∷ []) ((1, adds 2) ∷ []);
+}
+
+-- A and the candidate
+abbrev pub edited : Copies
+edited = record { base = false; variant_a = true; variant_b = false; candidate = true }
+
+-- their i and x are equal
+abbrev pub kept : Assertion
+kept = And (Eq Num (Slot A i) (Slot M i)) (Eq Num (Slot A x) (Slot M x))
+
+-- one state that follows
+abbrev pub then_one : Node → Plan → Plan
+then_one node p = At node (More p Over)
+
+-- the plan: a turn of A alone or of the candidate alone can't be, and one of both keeps what is kept
+abbrev pub example_plan : Plan
+example_plan =
+    then_one (Abs O 1)
+    (then_one (Abs B 1)
+    (At (Loop edited kept)
+    (More (At Dead Over)
+    (More (At Dead Over)
+    (More (then_one (Step A) (then_one (Step A) (then_one (Step M) (then_one (Step M) (At Ends Over)))))
+    (More (At Ends Over) Over))))))
+
+-- the summary of a name after the loop of the base, which is that of B
+abbrev pub summary : ℕ → Tree
+summary y = Fun (loop_with (Assign x (Plus (Var x) (syntax.Lit (pos 1))) (Assign i (Plus (Var i) (syntax.Lit (pos 1))) End))) y
+    (Given i (Start i) (Given n (Start n) (Given x (Start x) term.Over)))
+
+-- the same for i, which doesn't need x
+abbrev pub counted : Tree
+counted = Fun (loop_with (Assign x (Plus (Var x) (syntax.Lit (pos 1))) (Assign i (Plus (Var i) (syntax.Lit (pos 1))) End))) i
+    (Given i (Start i) (Given n (Start n) term.Over))
+
+-- the facts behind both summaries, and then those of the loops, with what is said of two guards
+abbrev pub facts_with : List Assertion → List Assertion
+facts_with guards = Le (Start n) counted ∷ Le (Start n) counted ∷ guards
+
+abbrev pub head_with : Assertion → Assertion → List Assertion
+head_with of_a of_m = facts_with (Eq Num (Havoc 2 A i) (Havoc 2 M i) ∷ Eq Num (Havoc 2 A x) (Havoc 2 M x) ∷ of_a ∷ of_m ∷ [])
+
+-- its obligations
+abbrev pub example_dues : List Due
+example_dues =
+    record { node = 2; facts = facts_with []; goals = Eq Num (Start i) (Start i) ∷ Eq Num (Start x) (Start x) ∷ []; is_final = false }
+    ∷ record { node = 3; facts = head_with (Lt (Havoc 2 A i) (Start n)) (Le (Start n) (Havoc 2 M i)); goals = No ∷ []; is_final = false }
+    ∷ record { node = 4; facts = head_with (Le (Start n) (Havoc 2 A i)) (Lt (Havoc 2 M i) (Start n)); goals = No ∷ []; is_final = false }
+    ∷ record {
+      node = 9;
+      facts = head_with (Lt (Havoc 2 A i) (Start n)) (Lt (Havoc 2 M i) (Start n));
+      goals = Eq Num (Add (Havoc 2 A i) (Lit (pos 1))) (Add (Havoc 2 M i) (Lit (pos 1))) ∷ Eq Num (Add (Havoc 2 A x) (Lit (pos 2))) (Add (Havoc 2 M x) (Lit (pos 2))) ∷ [];
+      is_final = false;
+    }
+    ∷ record {
+      node = 10;
+      facts = head_with (Le (Start n) (Havoc 2 A i)) (Le (Start n) (Havoc 2 M i));
+      goals =
+          Or (Eq Num (summary x) (Havoc 2 A x)) (Eq Num (Havoc 2 M x) (Havoc 2 A x))
+          ∷ Or (Eq Num (summary x) (summary x)) (Eq Num (Havoc 2 M x) (summary x))
+          ∷ Or (Ne Num (summary x) (Havoc 2 A x)) (Or (Ne Num (Havoc 2 A x) (summary x)) (Eq Num (Havoc 2 M x) (summary x)))
+          ∷ [];
+      is_final = true;
+    }
+    ∷ []
+
+-- the plan is fresh, these are its obligations, all of them hold in every structure, and so the task is free of conflicts
+abbrev pub ExampleHolds : Type 0
+ExampleHolds = IsFresh 0 example_plan × (obligations example_task example_plan ≡ Ok example_dues) × AllDischarged example_dues × ConflictFree example_task

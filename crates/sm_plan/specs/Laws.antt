@@ -1,0 +1,63 @@
+-- What plans prove.
+use Rattle.std.specs.Prelude.{bit_and, map, ◌==◌, ◌≡◌, ℕ, suc, Some, Ok, List, [], ◌∷◌}
+use Rattle.std.specs.List.{filter, range_with_len}
+use Rattle.sm_syntax.specs.ConflictFree.{Task, ConflictFree}
+use Rattle.sm_term.specs.Fresh.{AreFormsBelow}
+use Rattle.sm_plan.specs.Copies.{Copies, subsets}
+use Rattle.sm_plan.specs.Numbers.{mask_of, set_of}
+use Rattle.sm_plan.specs.States.{State, start_state}
+use Rattle.sm_plan.specs.Nodes.{Node, Opened, opens, IsFreshAt}
+use Rattle.sm_plan.specs.Plans.{Plan, nodes_of, Due, IsFresh, expand, obligations, AllValid, AllDischarged}
+use Rattle.sm_plan.specs.Lines.{Passes}
+use Rattle.sm_plan.specs.Claims.{IsSound, AreSound, IsStateBelow, AreStatesBelow}
+
+-- one node: where its goals are valid and the states that it opens are sound, its own state is sound
+abbrev pub NodeIsSound : Type 0
+NodeIsSound =
+    (k : ℕ) (st : State) (node : Node) (q : Opened) →
+    IsStateBelow k st → IsFreshAt k node → opens k st node ≡ Some q → AllValid st.facts q.goals → AreSound q.states → IsSound st
+
+-- and these states name no new value of a node behind this one
+abbrev pub NodeStaysBelow : Type 0
+NodeStaysBelow =
+    (k : ℕ) (st : State) (node : Node) (q : Opened) →
+    IsStateBelow k st → IsFreshAt k node → opens k st node ≡ Some q → AreStatesBelow (suc k) q.states
+
+-- nor do its goals
+abbrev pub NodeGoalsBelow : Type 0
+NodeGoalsBelow =
+    (k : ℕ) (st : State) (node : Node) (q : Opened) →
+    IsStateBelow k st → IsFreshAt k node → opens k st node ≡ Some q → AreFormsBelow (suc k) q.goals
+
+-- the start of a task names no new value
+abbrev pub StartIsBelow : Type 0
+StartIsBelow = (t : Task) → IsStateBelow 0 (start_state t)
+
+-- where the start of a task is sound, the task is free of conflicts
+abbrev pub SoundStartIsFree : Type 0
+SoundStartIsFree = (t : Task) → IsSound (start_state t) → ConflictFree t
+
+-- where all obligations of a fresh plan hold in every structure, the task is free of conflicts
+abbrev pub PlanIsSound : Type 0
+PlanIsSound = (t : Task) (p : Plan) (ds : List Due) → IsFresh 0 p → obligations t p ≡ Ok ds → AllDischarged ds → ConflictFree t
+
+-- where a list of nodes passes from the start of a task, the task is free of conflicts
+abbrev pub LinesAreSound : Type 0
+LinesAreSound = (t : Task) (nodes : List Node) → Passes 0 (start_state t ∷ []) nodes → ConflictFree t
+
+-- the nodes of such a plan, in preorder, pass
+abbrev pub PlanPasses : Type 0
+PlanPasses = (t : Task) (p : Plan) (ds : List Due) → IsFresh 0 p → expand 0 (start_state t) p ≡ Ok ds → AllDischarged ds → Passes 0 (start_state t ∷ []) (nodes_of p)
+
+-- and each list that passes is the nodes of such a plan
+abbrev pub PassesIsPlan : Type 0
+PassesIsPlan = (t : Task) (nodes : List Node) → Passes 0 (start_state t ∷ []) nodes →
+    (p : Plan) × (ds : List Due) × (nodes_of p ≡ nodes) × IsFresh 0 p × (expand 0 (start_state t) p ≡ Ok ds) × AllDischarged ds
+
+-- the subsets of a set have ascending masks, and are those whose masks have no other bit
+abbrev pub SubsetsAscend : Type 0
+SubsetsAscend = (set : Copies) → map mask_of (subsets set) ≡ filter (λ (v : ℕ). bit_and v (mask_of set) == v) (range_with_len 1 15)
+
+-- a set is that of its mask
+abbrev pub MaskIsExact : Type 0
+MaskIsExact = (set : Copies) → set_of (mask_of set) ≡ set

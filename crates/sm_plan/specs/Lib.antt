@@ -1,0 +1,13 @@
+pub mod Copies
+pub mod Rests
+pub mod Limits
+pub mod States
+pub mod Next
+pub mod Nodes
+pub mod Numbers
+pub mod Plans
+pub mod Lines
+pub mod Claims
+pub mod Laws
+pub mod Example
+pub mod Cases

@@ -1,0 +1,49 @@
+// What plans prove, as contracts.
+ghost use Rattle.sm_plan.specs.Cases.{CasesComeOut};
+ghost use Rattle.sm_plan.specs.Example.{ExampleHolds};
+ghost use Rattle.sm_plan.specs.Laws.{NodeIsSound, NodeStaysBelow, NodeGoalsBelow, StartIsBelow, SoundStartIsFree, PlanIsSound, LinesAreSound, PlanPasses, PassesIsPlan, SubsetsAscend, MaskIsExact};
+
+/// A state is sound where a node's goals are valid and the states that it opens are sound.
+pub fn node_is_sound()
+    ensures sound { NodeIsSound }
+    ensures below { NodeStaysBelow }
+    ensures goals { NodeGoalsBelow }
+{}
+
+/// Where the start of a task is sound, the task is free of conflicts.
+pub fn start_is_sound()
+    ensures below { StartIsBelow }
+    ensures free { SoundStartIsFree }
+{}
+
+/// A fresh plan whose obligations all hold makes its task free of conflicts.
+pub fn plan_is_sound()
+    ensures { PlanIsSound }
+{}
+
+/// A list of nodes that passes makes its task free of conflicts.
+pub fn lines_are_sound()
+    ensures { LinesAreSound }
+{}
+
+/// The nodes of a plan pass, and a list of nodes that passes is a plan's.
+pub fn lines_are_plans()
+    ensures passes { PlanPasses }
+    ensures plan { PassesIsPlan }
+{}
+
+/// The turns of loops stand by ascending masks, which say what the sets are.
+pub fn subsets_ascend()
+    ensures ascend { SubsetsAscend }
+    ensures exact { MaskIsExact }
+{}
+
+/// A worked plan of a loop with a hole, in which two copies are edited, meets the law on plans.
+pub fn example_holds()
+    ensures { ExampleHolds }
+{}
+
+/// Three cases come out as they were worked by hand.
+pub fn cases_come_out()
+    ensures { CasesComeOut }
+{}

@@ -1,0 +1,19 @@
+//! Plans: what must hold for a merge to be free of conflicts.
+//!
+//! So far the crate has the definitions and their laws; each law is the contract of a function that does nothing.
+//!
+//! - Where all obligations of a fresh plan hold in every structure, the task is free of conflicts.
+//! - The same of a list of nodes that takes one pending state after another. The two are one: the nodes of a plan in
+//!   preorder pass, and a list that passes is the nodes of a plan.
+//! - Both stand on one step: where a node's goals hold and the states that it opens are sound, its own state is.
+//!
+//! Read `specs/Laws.antt` first, then `specs/States.antt`, `specs/Nodes.antt`, `specs/Next.antt`, `specs/Plans.antt`
+//! and `specs/Lines.antt`. `specs/Example.antt` has a worked plan, `specs/Cases.antt` three cases to check by hand.
+#![tactic(auto)]
+
+mod laws;
+
+pub use laws::{
+    cases_come_out, example_holds, lines_are_plans, lines_are_sound, node_is_sound, plan_is_sound,
+    start_is_sound, subsets_ascend,
+};
