@@ -1,5 +1,5 @@
 -- What each rule reads is what the grammar says.
-use Rattle.std.proofs.Common.{◌≡◌, ℕ, suc, zero, ◌+◌, ◌<◌, ◌≤◌, ℤ, pos, negsuc, refl, sym, ap, ◌∙◌, subst, arith, Bool, true, false, ◌&&◌, Option, Some, None, Result, Ok, Err, List, [], ◌∷◌, ◌++◌, length, map, append_assoc}
+use Rattle.std.proofs.Common.{◌≡◌, ℕ, suc, zero, ◌+◌, ◌<◌, ℤ, pos, negsuc, refl, sym, ap, ◌∙◌, subst, arith, Bool, true, false, ◌&&◌, Option, Some, None, Result, Ok, Err, List, [], ◌∷◌, ◌++◌, length, map, append_assoc}
 use Rattle.std.specs.Prelude.{nat_le, if◌then◌else◌}
 use Rattle.std.proofs.lemmas.List.{append-nil}
 use Rattle.std.proofs.lemmas.Bool.Decides.{nat_tests}
@@ -21,12 +21,12 @@ use Rattle.sm_syntax.specs.ConflictFree as claim
 use Rattle.sm_syntax.specs.ConflictFree.{Copy}
 use Rattle.sm_syntax.specs.Grammar as g
 use Rattle.sm_syntax.specs.Grammar.{Marked, plain, word, opens, joins, comparison, declares, IsExpression, IsCondition, IsHoleNumber, AreStatements, IsBlock, AreNames, AreDeclarations, AreOutputs, IsAssumption, IsShared, AreFillings, IsList, IsTask, with_sort}
-use Rattle.sm_syntax.specs.Parts.{Parts, by_copy}
+use Rattle.sm_syntax.specs.Parts.{by_copy}
 use Rattle.sm_text.specs.declared.reading.Fault.{Fault}
 use Rattle.sm_text.specs.declared.reading.FaultKind.TheVariants.{Expected}
-use Rattle.sm_text.specs.Parsers.{first, rest, Parser, ◌>>=◌, ◌>>◌, pure, peek, skip, refuse, expect, stands, inside, chain_in}
+use Rattle.sm_text.specs.Parsers.{rest, Parser, ◌>>◌, pure, skip, refuse, stands, inside}
 use Rattle.sm_text.specs.Reading as r
-use Rattle.sm_text.proofs.Told.{Takes, Told, Describes, DescribesAt, Both, Is, IsMark, bind, both, weaken, give, refused, refused_at, anywhere, choose, after, expect_told, bind_at, weaken_at, stands-is, Inner, Enclosed, inside_told, grouped_told}
+use Rattle.sm_text.proofs.Told.{Takes, Told, Possible, Describes, DescribesAt, Both, Is, IsMark, bind, both, weaken, possibly, possibly-behind, give, refused_at, anywhere, choose, choose_by, after, expect_told, bind_at, weaken_at, stands-is, standing, Inner, Enclosed, inside_told, grouped_told}
 use Rattle.sm_text.proofs.Chained.{Chained, Joins, chain_told}
 use Rattle.sm_text.proofs.Gathered.{Gathers, none, more, gathered}
 
@@ -37,14 +37,17 @@ IsName us x = us ≡ plain (s.Name x) ∷ []
 is_this_name : (x : Name) (us : List Marked) (y : Name) → Is x us y → IsName (plain (s.Name x) ∷ us) y
 is_this_name x us y i = let none = i.none in let same = i.same in cc
 
+some_name : Possible IsName
+some_name = let x : Name = record { 0 = 0 } in record { list = plain (s.Name x) ∷ []; value = x; fits = refl }
+
 pub name_told : Describes r.name IsName
 unfolding r.name
-name_told = choose by
+name_told = choose some_name by
   where
     by : (o : Option Symbol) → DescribesAt o (r.name_by o) IsName
-    by None = refused_at IsName Expected None
-    by (Some (s.Mark m)) = refused_at IsName Expected (Some (s.Mark m))
-    by (Some (s.Number z)) = refused_at IsName Expected (Some (s.Number z))
+    by None = refused_at IsName some_name None
+    by (Some (s.Mark m)) = refused_at IsName some_name (Some (s.Mark m))
+    by (Some (s.Number z)) = refused_at IsName some_name (Some (s.Number z))
     by (Some (s.Name x)) = after (s.Name x) (is_this_name x) (give x)
 
 -- a comma and a name
@@ -53,6 +56,10 @@ IsNextName us x = us ≡ word mark.Comma ∷ plain (s.Name x) ∷ []
 
 is_next_name : (us : List Marked) (x : Name) → Both (IsMark mark.Comma) (λ _. IsName) us x → IsNextName us x
 is_next_name us x b = let parts = b.parts in let one = b.one in let two = b.two in rw (parts, one, two) refl
+
+-- a comma and a name are at least one symbol
+pub takes_next_name : (us : List Marked) (x : Name) → IsNextName us x → 0 < length us
+takes_next_name us x e = rw e (omega arith)
 
 pub next_name_told : Describes r.next_name IsNextName
 unfolding r.next_name
@@ -86,7 +93,7 @@ are_names us xs b =
 
 pub names_told : Describes r.names AreNames
 unfolding r.names r.more_names
-names_told = weaken are_names (bind name_told (λ x. gathered (stands mark.Comma) r.next_name r.with_name IsNextName next_name_told (x.0 ∷ [])))
+names_told = weaken are_names (bind name_told (λ x. gathered (stands mark.Comma) r.next_name r.with_name IsNextName next_name_told takes_next_name (x.0 ∷ [])))
 
 -- names up to a semicolon
 pub record IsNamesToEnd (us : List Marked) (xs : List ℕ) : Type 0 where
@@ -134,8 +141,11 @@ at_mark P m n {p} e d =
     let F : Mark → Type 0 = λ v. DescribesAt (Some (s.Mark v)) (skip >> p) P in
     subst F (sym (same_true the_type tt m n e)) (after (s.Mark n) (λ us x i. i) d)
 
+some_declaration : Possible IsDeclaration
+some_declaration = possibly-behind (word mark.Var) (declared_told Num).possible
+
 declares_arrays : (m : Mark) (b : Bool) → sameb the_type m mark.Array ≡ b → DescribesAt (Some (s.Mark m)) (if b then skip >> r.declared Arr else refuse Expected) IsDeclaration
-declares_arrays m false e = refused_at IsDeclaration Expected (Some (s.Mark m))
+declares_arrays m false e = refused_at IsDeclaration some_declaration (Some (s.Mark m))
 declares_arrays m true e = at_mark IsDeclaration m mark.Array e (declared_told Arr)
 
 declares_some : (m : Mark) (b : Bool) → sameb the_type m mark.Var ≡ b → DescribesAt (Some (s.Mark m)) (if b then skip >> r.declared Num else (if sameb the_type m mark.Array then skip >> r.declared Arr else refuse Expected)) IsDeclaration
@@ -144,13 +154,13 @@ declares_some m true e = at_mark IsDeclaration m mark.Var e (declared_told Num)
 
 pub declaration_told : Describes r.declaration IsDeclaration
 unfolding r.declaration
-declaration_told = choose by
+declaration_told = choose some_declaration by
   where
     by : (o : Option Symbol) → DescribesAt o (r.declaration_by o) IsDeclaration
-    by None = refused_at IsDeclaration Expected None
+    by None = refused_at IsDeclaration some_declaration None
     by (Some (s.Mark m)) = declares_some m (sameb the_type m mark.Var) refl
-    by (Some (s.Number z)) = refused_at IsDeclaration Expected (Some (s.Number z))
-    by (Some (s.Name x)) = refused_at IsDeclaration Expected (Some (s.Name x))
+    by (Some (s.Number z)) = refused_at IsDeclaration some_declaration (Some (s.Number z))
+    by (Some (s.Name x)) = refused_at IsDeclaration some_declaration (Some (s.Name x))
 
 -- what declarations add to those before
 pub record DeclarationsBehind (before : List (ℕ × Sort)) (us : List Marked) (last : List (ℕ × Sort)) : Type 0 where
@@ -173,7 +183,7 @@ are_declarations us ds b =
 
 pub declarations_told : Describes r.declarations AreDeclarations
 unfolding r.declarations r.more_declarations
-declarations_told = weaken are_declarations (gathered r.begins_declaration r.declaration ◌++◌ IsDeclaration declaration_told [])
+declarations_told = weaken are_declarations (gathered r.begins_declaration r.declaration ◌++◌ IsDeclaration declaration_told (λ us ds i. i.some) [])
 
 are_outputs : (us : List Marked) (xs : List ℕ) → Both (IsMark mark.Output) (λ _. IsNamesToEnd) us xs → AreOutputs us xs
 are_outputs us xs b =
@@ -197,20 +207,23 @@ is_hole n inside us h i =
 hole_inside : (n : ℕ) → (nat_le 1 n && nat_le n 999) ≡ true → IsHoleNumber n
 hole_inside n e = (grind (arith, nat_tests), grind (arith, nat_tests))
 
+some_hole : Possible IsHole
+some_hole = record { list = plain (s.Number (pos 1)) ∷ []; value = 1; fits = record { split = refl; inside = (omega arith, omega arith) } }
+
 hole_by_number : (n : ℕ) (b : Bool) → (nat_le 1 n && nat_le n 999) ≡ b → DescribesAt (Some (s.Number (pos n))) (r.hole_if (if b then Some n else None)) IsHole
-hole_by_number n false e = refused_at IsHole Expected (Some (s.Number (pos n)))
+hole_by_number n false e = refused_at IsHole some_hole (Some (s.Number (pos n)))
 hole_by_number n true e = after (s.Number (pos n)) (is_hole n (hole_inside n e)) (give n)
 
 pub hole_number_told : Describes r.hole_number IsHole
 unfolding r.hole_number
-hole_number_told = choose by
+hole_number_told = choose some_hole by
   where
     by : (o : Option Symbol) → DescribesAt o (r.hole_by o) IsHole
-    by None = refused_at IsHole Expected None
-    by (Some (s.Mark m)) = refused_at IsHole Expected (Some (s.Mark m))
+    by None = refused_at IsHole some_hole None
+    by (Some (s.Mark m)) = refused_at IsHole some_hole (Some (s.Mark m))
     by (Some (s.Number (pos n))) = hole_by_number n (nat_le 1 n && nat_le n 999) refl
-    by (Some (s.Number (negsuc n))) = refused_at IsHole Expected (Some (s.Number (negsuc n)))
-    by (Some (s.Name x)) = refused_at IsHole Expected (Some (s.Name x))
+    by (Some (s.Number (negsuc n))) = refused_at IsHole some_hole (Some (s.Number (negsuc n)))
+    by (Some (s.Name x)) = refused_at IsHole some_hole (Some (s.Name x))
 
 -- an expression where d groups are open
 pub record IsSum (d : ℕ) (us : List Marked) (e : Expression) : Type 0 where
@@ -235,6 +248,15 @@ made {T} P ts us x y e f p =
     let G : T → Type 0 = λ z. P ts z in
     subst F (sym e) (subst G f p)
 
+some_atom : (d : ℕ) → Possible (IsAtom d)
+some_atom d = record { list = plain (s.Number (pos 0)) ∷ []; value = plain_code.Lit (pos 0); fits = g.number d (pos 0) }
+
+some_unary : (d : ℕ) → Possible (IsUnary d)
+some_unary d = possibly (λ us e a. g.as_unary a) (some_atom d)
+
+some_sum : (d : ℕ) → Possible (IsSum d)
+some_sum d = possibly (λ us e u. record { operators = 0; spelled = g.as_sum (g.as_product u) }) (some_unary d)
+
 module _ (deeper : Option (Parser Expression)) (d : ℕ) (inner : Inner deeper (IsSum (suc d)) d) where
   is_element : (x : Name) (us : List Marked) (e : Expression) → Both (Enclosed d mark.OpenSquare mark.CloseSquare (IsSum (suc d))) (λ i. Is (plain_code.Read x.0 i)) us e → IsAtom d (plain (s.Name x) ∷ us) e
   is_element x us e b = made (λ l y. IsAtom d (plain (s.Name x) ∷ l) y) (opens mark.OpenSquare d ∷ (b.one.body ++ word mark.CloseSquare ∷ [])) us (plain_code.Read x.0 b.value) e (b.parts ∙ ap (λ (l : List Marked). b.front ++ l) b.two.none ∙ append-nil b.front ∙ b.one.split) b.two.same (g.element x b.one.fits.spelled)
@@ -244,11 +266,11 @@ module _ (deeper : Option (Parser Expression)) (d : ℕ) (inner : Inner deeper (
 
   named_told : (x : Name) → Describes (r.named deeper x) (λ us e. IsAtom d (plain (s.Name x) ∷ us) e)
   unfolding r.named r.index
-  named_told x = record { tells = λ ts. by ts (stands mark.OpenSquare (first ts)) refl }
+  named_told x = choose_by (λ o. r.named_by deeper x (stands mark.OpenSquare o)) (λ ts. refl) (possibly (is_variable x) (give (plain_code.Var x.0)).possible) (λ o. by o (stands mark.OpenSquare o) refl)
     where
-      by : (ts : List Symbol) (b : Bool) → stands mark.OpenSquare (first ts) ≡ b → Told (λ us e. IsAtom d (plain (s.Name x) ∷ us) e) ts (r.named_by deeper x b ts)
-      by ts true e = (weaken_at (is_element x) (bind_at (inside_told deeper (IsSum (suc d)) d mark.OpenSquare mark.CloseSquare inner) (λ i. give (plain_code.Read x.0 i)))).tells ts (stands-is mark.OpenSquare (first ts) e)
-      by ts false e = (weaken (is_variable x) (give (plain_code.Var x.0))).tells ts
+      by : (o : Option Symbol) (b : Bool) → stands mark.OpenSquare o ≡ b → DescribesAt o (r.named_by deeper x b) (λ us e. IsAtom d (plain (s.Name x) ∷ us) e)
+      by o true e = standing mark.OpenSquare o e (weaken_at (is_element x) (bind_at (inside_told deeper (IsSum (suc d)) d mark.OpenSquare mark.CloseSquare inner) (λ i. give (plain_code.Read x.0 i))))
+      by o false e = anywhere o (weaken (is_variable x) (give (plain_code.Var x.0)))
 
   is_literal : (z : ℤ) (us : List Marked) (e : Expression) → Is (plain_code.Lit z) us e → IsAtom d (plain (s.Number z) ∷ us) e
   is_literal z us e i = made (λ l y. IsAtom d (plain (s.Number z) ∷ l) y) [] us (plain_code.Lit z) e i.none i.same (g.number d z)
@@ -258,17 +280,17 @@ module _ (deeper : Option (Parser Expression)) (d : ℕ) (inner : Inner deeper (
 
   parenthesized_at : (m : Mark) (b : Bool) → sameb the_type m mark.OpenRound ≡ b → DescribesAt (Some (s.Mark m)) (if b then r.parenthesized deeper else refuse Expected) (IsAtom d)
   unfolding r.parenthesized
-  parenthesized_at m false e = refused_at (IsAtom d) Expected (Some (s.Mark m))
+  parenthesized_at m false e = refused_at (IsAtom d) (some_atom d) (Some (s.Mark m))
   parenthesized_at m true e =
       let F : Mark → Type 0 = λ v. DescribesAt (Some (s.Mark v)) (inside deeper mark.CloseRound) (IsAtom d) in
       subst F (sym (same_true the_type tt m mark.OpenRound e)) (weaken_at is_group (inside_told deeper (IsSum (suc d)) d mark.OpenRound mark.CloseRound inner))
 
   atom_told : Describes (r.atom deeper) (IsAtom d)
   unfolding r.atom
-  atom_told = choose by
+  atom_told = choose (some_atom d) by
     where
       by : (o : Option Symbol) → DescribesAt o (r.atom_by deeper o) (IsAtom d)
-      by None = refused_at (IsAtom d) Expected None
+      by None = refused_at (IsAtom d) (some_atom d) None
       by (Some (s.Mark m)) = parenthesized_at m (sameb the_type m mark.OpenRound) refl
       by (Some (s.Number z)) = after (s.Number z) (is_literal z) (give (plain_code.Lit z))
       by (Some (s.Name x)) = after (s.Name x) (λ us e i. i) (named_told x)
@@ -278,11 +300,11 @@ module _ (deeper : Option (Parser Expression)) (d : ℕ) (inner : Inner deeper (
 
   unary_told : Describes (r.unary deeper) (IsUnary d)
   unfolding r.unary
-  unary_told = record { tells = λ ts. by ts (stands mark.Minus (first ts)) refl }
+  unary_told = choose_by (λ o. r.unary_by deeper (stands mark.Minus o)) (λ ts. refl) (some_unary d) (λ o. by o (stands mark.Minus o) refl)
     where
-      by : (ts : List Symbol) (b : Bool) → stands mark.Minus (first ts) ≡ b → Told (IsUnary d) ts (r.unary_by deeper b ts)
-      by ts true e = (after (s.Mark mark.Minus) is_negative (bind atom_told (λ f. give (plain_code.Neg f)))).tells ts (stands-is mark.Minus (first ts) e)
-      by ts false e = (weaken (λ us e a. g.as_unary a) atom_told).tells ts
+      by : (o : Option Symbol) (b : Bool) → stands mark.Minus o ≡ b → DescribesAt o (r.unary_by deeper b) (IsUnary d)
+      by o true e = standing mark.Minus o e (after (s.Mark mark.Minus) is_negative (bind atom_told (λ f. give (plain_code.Neg f))))
+      by o false e = anywhere o (weaken (λ us e a. g.as_unary a) atom_told)
 
   product_joins : (o : Option Symbol) (make : Expression → Expression → Expression) → r.product_operators o ≡ Some make → Joins (λ k us e. IsExpression g.Product d k us e) (IsUnary d) o make
   product_joins o make e = by (stands mark.Star o) refl e
@@ -331,10 +353,13 @@ module _ (deeper : Option (Parser Expression)) (d : ℕ) (inner : Inner deeper (
 shallow : (d n : ℕ) → d + suc n ≡ 64 → nat_le 64 d ≡ false
 shallow d n e = grind (arith, nat_tests)
 
+deep : (d : ℕ) → d + 0 ≡ 64 → nat_le 64 d ≡ true
+deep d e = grind (arith, nat_tests)
+
 -- the rule inside a group of an expression
 pub inner_sum_told : (n d : ℕ) → d + n ≡ 64 → Inner (r.inner_sum n) (IsSum (suc d)) d
 unfolding r.inner_sum
-inner_sum_told zero d e = tt
+inner_sum_told zero d e = (some_sum (suc d), deep d e)
 inner_sum_told (suc n) d e = (sum_told (r.inner_sum n) (suc d) (inner_sum_told n (suc d) (omega (arith, e))), shallow d n e)
 
 pub expression_told : (n d : ℕ) → d + n ≡ 64 → Describes (r.expression n) (IsSum d)
@@ -347,6 +372,9 @@ IsComparison us op = us ≡ word (comparison op) ∷ []
 
 is_this_comparison : (op : Cmp) (us : List Marked) (x : Cmp) → Is op us x → IsComparison (word (comparison op) ∷ us) x
 is_this_comparison op us x i = made (λ l y. IsComparison (word (comparison op) ∷ l) y) [] us op x i.none i.same refl
+
+some_comparison : Possible IsComparison
+some_comparison = record { list = word (comparison Eq) ∷ []; value = Eq; fits = refl }
 
 comparison_at : (m : Mark) (op : Cmp) (o : Option Symbol) → comparison op ≡ m → stands m o ≡ true → DescribesAt o (r.comparison_if (Some op)) IsComparison
 comparison_at m op o e f =
@@ -363,11 +391,11 @@ comparison_by o = by (stands mark.Equal o) refl (stands mark.Unequal o) refl (st
     by false p false q false t true u f v h w = comparison_at mark.AtMost Le o refl u
     by false p false q false t false u true v h w = comparison_at mark.Greater Gt o refl v
     by false p false q false t false u false v true w = comparison_at mark.AtLeast Ge o refl w
-    by false p false q false t false u false v false w = refused_at IsComparison Expected o
+    by false p false q false t false u false v false w = refused_at IsComparison some_comparison o
 
 comparison_told : Describes r.comparison IsComparison
 unfolding r.comparison
-comparison_told = record { tells = λ ts. (comparison_by (first ts)).tells ts refl }
+comparison_told = choose_by (λ o. r.comparison_if (r.comparison_of o)) (λ ts. refl) some_comparison comparison_by
 
 -- a condition where d groups are open
 pub record IsDisjunction (d : ℕ) (us : List Marked) (b : Condition) : Type 0 where
@@ -384,6 +412,15 @@ IsLiteral d us b = IsCondition g.Literal d 0 us b
 
 abbrev pub IsTest : ℕ → List Marked → Condition → Type 0
 IsTest d us b = IsCondition g.Test d 0 us b
+
+some_test : (d : ℕ) → Possible (IsTest d)
+some_test d = record { list = word mark.True ∷ []; value = plain_code.Yes; fits = g.always d }
+
+some_literal : (d : ℕ) → Possible (IsLiteral d)
+some_literal d = possibly (λ us b t. g.as_literal t) (some_test d)
+
+some_disjunction : (d : ℕ) → Possible (IsDisjunction d)
+some_disjunction d = possibly (λ us b l. record { operators = 0; spelled = g.as_disjunction (g.as_conjunction l) }) (some_literal d)
 
 module _ (deeper : Option (Parser Condition)) (value : Parser Expression) (d : ℕ) (inner : Inner deeper (IsDisjunction (suc d)) d) (reads : Describes value (IsSum d)) where
   is_compared : (us : List Marked) (b : Condition) → Both (IsSum d) (λ x. Both IsComparison (λ op. Both (IsSum d) (λ y. Is (plain_code.Compare op x y)))) us b → IsTest d us b
@@ -411,24 +448,24 @@ module _ (deeper : Option (Parser Condition)) (value : Parser Expression) (d : �
 
   test_told : Describes (r.test deeper value) (IsTest d)
   unfolding r.test
-  test_told = record { tells = λ ts. by ts (stands mark.True (first ts)) refl (stands mark.False (first ts)) refl (stands mark.OpenSquare (first ts)) refl }
+  test_told = choose_by (r.test_at deeper value) (λ ts. refl) (some_test d) (λ o. by o (stands mark.True o) refl (stands mark.False o) refl (stands mark.OpenSquare o) refl)
     where
-      by : (ts : List Symbol) (a : Bool) → stands mark.True (first ts) ≡ a → (b : Bool) → stands mark.False (first ts) ≡ b → (c : Bool) → stands mark.OpenSquare (first ts) ≡ c → Told (IsTest d) ts ((if a then skip >> pure plain_code.Yes else (if b then skip >> pure plain_code.No else (if c then r.bracketed deeper else r.compared value))) ts)
-      by ts true e b f c h = (constant_at mark.True plain_code.Yes (g.always d)).tells ts (stands-is mark.True (first ts) e)
-      by ts false e true f c h = (constant_at mark.False plain_code.No (g.never d)).tells ts (stands-is mark.False (first ts) f)
-      by ts false e false f true h = bracketed_at.tells ts (stands-is mark.OpenSquare (first ts) h)
-      by ts false e false f false h = compared_told.tells ts
+      by : (o : Option Symbol) (a : Bool) → stands mark.True o ≡ a → (b : Bool) → stands mark.False o ≡ b → (c : Bool) → stands mark.OpenSquare o ≡ c → DescribesAt o (if a then skip >> pure plain_code.Yes else (if b then skip >> pure plain_code.No else (if c then r.bracketed deeper else r.compared value))) (IsTest d)
+      by o true e b f c h = standing mark.True o e (constant_at mark.True plain_code.Yes (g.always d))
+      by o false e true f c h = standing mark.False o f (constant_at mark.False plain_code.No (g.never d))
+      by o false e false f true h = standing mark.OpenSquare o h bracketed_at
+      by o false e false f false h = anywhere o compared_told
 
   is_denied : (us : List Marked) (b : Condition) → Both (IsTest d) (λ c. Is (plain_code.Not c)) us b → IsLiteral d (word mark.Bang ∷ us) b
   is_denied us b p = made (λ l y. IsLiteral d (word mark.Bang ∷ l) y) p.front us (plain_code.Not p.value) b (p.parts ∙ ap (λ (l : List Marked). p.front ++ l) p.two.none ∙ append-nil p.front) p.two.same (g.denied p.one)
 
   literal_told : Describes (r.literal deeper value) (IsLiteral d)
   unfolding r.literal
-  literal_told = record { tells = λ ts. by ts (stands mark.Bang (first ts)) refl }
+  literal_told = choose_by (λ o. r.literal_by deeper value (stands mark.Bang o)) (λ ts. refl) (some_literal d) (λ o. by o (stands mark.Bang o) refl)
     where
-      by : (ts : List Symbol) (b : Bool) → stands mark.Bang (first ts) ≡ b → Told (IsLiteral d) ts (r.literal_by deeper value b ts)
-      by ts true e = (after (s.Mark mark.Bang) is_denied (bind test_told (λ c. give (plain_code.Not c)))).tells ts (stands-is mark.Bang (first ts) e)
-      by ts false e = (weaken (λ us b t. g.as_literal t) test_told).tells ts
+      by : (o : Option Symbol) (b : Bool) → stands mark.Bang o ≡ b → DescribesAt o (r.literal_by deeper value b) (IsLiteral d)
+      by o true e = standing mark.Bang o e (after (s.Mark mark.Bang) is_denied (bind test_told (λ c. give (plain_code.Not c))))
+      by o false e = anywhere o (weaken (λ us b t. g.as_literal t) test_told)
 
   conjunction_joins : (o : Option Symbol) (make : Condition → Condition → Condition) → r.conjunction_operators o ≡ Some make → Joins (λ k us b. IsCondition g.Conjunction d k us b) (IsLiteral d) o make
   conjunction_joins o make e = by (stands mark.Both o) refl e
@@ -473,7 +510,7 @@ module _ (deeper : Option (Parser Condition)) (value : Parser Expression) (d : �
 -- the rule inside a group of a condition
 pub inner_condition_told : (n d : ℕ) → d + n ≡ 64 → Inner (r.inner_condition n) (IsDisjunction (suc d)) d
 unfolding r.inner_condition
-inner_condition_told zero d e = tt
+inner_condition_told zero d e = (some_disjunction (suc d), deep d e)
 inner_condition_told (suc n) d e = (disjunction_told (r.inner_condition n) (r.expression n) (suc d) (inner_condition_told n (suc d) (omega (arith, e))) (expression_told n (suc d) (omega (arith, e))), shallow d n e)
 
 pub condition_told : (n d : ℕ) → d + n ≡ 64 → Describes (r.condition n) (IsDisjunction d)
@@ -521,11 +558,11 @@ module _ (n d : ℕ) (fits : d + n ≡ 64) (body : Parser Code) (blocks : Descri
 
   changed_told : (x : Name) → Describes (r.changed n x) (λ us f. IsStatement d (plain (s.Name x) ∷ us) f)
   unfolding r.changed r.write r.index
-  changed_told x = record { tells = λ ts. by ts (stands mark.OpenSquare (first ts)) refl }
+  changed_told x = choose_by (λ o. r.changed_by n x (stands mark.OpenSquare o)) (λ ts. refl) (assignment_told x).possible (λ o. by o (stands mark.OpenSquare o) refl)
     where
-      by : (ts : List Symbol) (b : Bool) → stands mark.OpenSquare (first ts) ≡ b → Told (λ us f. IsStatement d (plain (s.Name x) ∷ us) f) ts (r.changed_by n x b ts)
-      by ts true e = (weaken_at (is_write x) (bind_at (inside_told (r.inner_sum n) (IsSum (suc d)) d mark.OpenSquare mark.CloseSquare (inner_sum_told n d fits)) (λ i. both (expect_told mark.Becomes) (bind (expression_told n d fits) (λ v. both (expect_told mark.Semicolon) (give (plain_code.Write x.0 i v))))))).tells ts (stands-is mark.OpenSquare (first ts) e)
-      by ts false e = (assignment_told x).tells ts
+      by : (o : Option Symbol) (b : Bool) → stands mark.OpenSquare o ≡ b → DescribesAt o (r.changed_by n x b) (λ us f. IsStatement d (plain (s.Name x) ∷ us) f)
+      by o true e = standing mark.OpenSquare o e (weaken_at (is_write x) (bind_at (inside_told (r.inner_sum n) (IsSum (suc d)) d mark.OpenSquare mark.CloseSquare (inner_sum_told n d fits)) (λ i. both (expect_told mark.Becomes) (bind (expression_told n d fits) (λ v. both (expect_told mark.Semicolon) (give (plain_code.Write x.0 i v)))))))
+      by o false e = anywhere o (assignment_told x)
 
   is_hole_statement : (us : List Marked) (f : Code → Code) → Both IsHole (λ h. Both (IsMark mark.Semicolon) (λ _. Is (plain_code.Hole h))) us f → IsStatement d (word mark.Question ∷ us) f
   is_hole_statement us f b = same_statement d (s.Mark mark.Question) (plain (s.Number (pos b.value)) ∷ word mark.Semicolon ∷ []) us (plain_code.Hole b.value) f line b.two.two.same (λ vs k others. g.holes b.value b.one.inside others)
@@ -581,8 +618,11 @@ module _ (n d : ℕ) (fits : d + n ≡ 64) (body : Parser Code) (blocks : Descri
   unfolding r.repeated
   loop_told = weaken is_loop (bind guard_told (λ b. bind blocks (λ c. give (plain_code.While b c))))
 
+  some_statement : Possible (IsStatement d)
+  some_statement = possibly-behind (word mark.Skip) nothing_told.possible
+
   at_while : (m : Mark) (b : Bool) → sameb the_type m mark.While ≡ b → DescribesAt (Some (s.Mark m)) (if b then skip >> r.repeated n body else refuse Expected) (IsStatement d)
-  at_while m false e = refused_at (IsStatement d) Expected (Some (s.Mark m))
+  at_while m false e = refused_at (IsStatement d) some_statement (Some (s.Mark m))
   at_while m true e = at_mark (IsStatement d) m mark.While e loop_told
 
   at_if : (m : Mark) (b : Bool) → sameb the_type m mark.If ≡ b → DescribesAt (Some (s.Mark m)) (if b then skip >> r.branch n body else (if sameb the_type m mark.While then skip >> r.repeated n body else refuse Expected)) (IsStatement d)
@@ -599,12 +639,12 @@ module _ (n d : ℕ) (fits : d + n ≡ 64) (body : Parser Code) (blocks : Descri
 
   pub statement_told : Describes (r.statement n body) (IsStatement d)
   unfolding r.statement
-  statement_told = choose by
+  statement_told = choose some_statement by
     where
       by : (o : Option Symbol) → DescribesAt o (r.statement_by n body o) (IsStatement d)
-      by None = refused_at (IsStatement d) Expected None
+      by None = refused_at (IsStatement d) some_statement None
       by (Some (s.Mark m)) = at_skip m (sameb the_type m mark.Skip) refl
-      by (Some (s.Number z)) = refused_at (IsStatement d) Expected (Some (s.Number z))
+      by (Some (s.Number z)) = refused_at (IsStatement d) some_statement (Some (s.Number z))
       by (Some (s.Name x)) = after (s.Name x) (λ us f i. i) (changed_told x)
 
 -- what statements add to those before
@@ -631,7 +671,7 @@ are_statements d us c b =
 
 statements_told : (n d : ℕ) → d + n ≡ 64 → (body : Parser Code) → Describes body (IsBlock d) → Describes (r.statements n body) (AreStatements d)
 unfolding r.statements r.more_statements
-statements_told n d e body blocks = weaken (are_statements d) (bind (gathered r.begins_statement (r.statement n body) r.with_statement (IsStatement d) (statement_told n d e body blocks) (λ k. k)) (λ front. give (front plain_code.End)))
+statements_told n d e body blocks = weaken (are_statements d) (bind (gathered r.begins_statement (r.statement n body) r.with_statement (IsStatement d) (statement_told n d e body blocks) (λ us f i. i.some) (λ k. k)) (λ front. give (front plain_code.End)))
 
 is_block : (d : ℕ) (us : List Marked) (c : Code) → Enclosed d mark.OpenCurly mark.CloseCurly (AreStatements (suc d)) us c → IsBlock d us c
 is_block d us c e = let F : List Marked → Type 0 = λ l. IsBlock d l c in subst F (sym e.split) (g.block e.fits)
@@ -643,7 +683,7 @@ braced_told d deeper i = weaken (is_block d) (grouped_told deeper (AreStatements
 -- the rule inside a block
 pub inner_block_told : (n d : ℕ) → d + n ≡ 64 → Inner (r.inner_block n) (AreStatements (suc d)) d
 unfolding r.inner_block
-inner_block_told zero d e = tt
+inner_block_told zero d e = (record { list = []; value = plain_code.End; fits = g.none (suc d) }, deep d e)
 inner_block_told (suc n) d e = (statements_told n (suc d) (omega (arith, e)) (r.braced (r.inner_block n)) (braced_told (suc d) (r.inner_block n) (inner_block_told n (suc d) (omega (arith, e)))), shallow d n e)
 
 pub block_told : (n d : ℕ) → d + n ≡ 64 → Describes (r.block n) (IsBlock d)
@@ -692,7 +732,7 @@ are_fillings us fs b =
 
 pub fillings_told : Describes r.fillings AreFillings
 unfolding r.fillings r.more_fillings
-fillings_told = weaken are_fillings (gathered (stands mark.Question) r.filling r.with_filling IsFilling filling_told [])
+fillings_told = weaken are_fillings (gathered (stands mark.Question) r.filling r.with_filling IsFilling filling_told (λ us f i. i.some) [])
 
 is_list : (m : Mark) (us : List Marked) (fs : Fillings) → Both (IsMark m) (λ _. Both (IsMark mark.OpenCurly) (λ _. Both AreFillings (λ l. Both (IsMark mark.CloseCurly) (λ _. Is l)))) us fs → IsList m us fs
 is_list m us fs b = subst F (sym line) (subst G b.two.two.two.two.same (g.list m b.two.two.one))
@@ -725,11 +765,14 @@ assumption_line_told = weaken is_assumption (bind (condition_told 64 0 refl) (λ
 
 pub assumed_told : Describes r.assumed IsAssumption
 unfolding r.assumed
-assumed_told = record { tells = λ ts. by ts (stands mark.Assume (first ts)) refl }
+assumed_told = choose_by (λ o. r.assumed_by (stands mark.Assume o)) (λ ts. refl) no_assumption.possible (λ o. by o (stands mark.Assume o) refl)
   where
-    by : (ts : List Symbol) (b : Bool) → stands mark.Assume (first ts) ≡ b → Told IsAssumption ts (r.assumed_by b ts)
-    by ts true e = (after (s.Mark mark.Assume) (λ us c i. i) assumption_line_told).tells ts (stands-is mark.Assume (first ts) e)
-    by ts false e = (weaken is_no_assumption (give None)).tells ts
+    no_assumption : Describes (pure None) IsAssumption
+    no_assumption = weaken is_no_assumption (give None)
+
+    by : (o : Option Symbol) (b : Bool) → stands mark.Assume o ≡ b → DescribesAt o (r.assumed_by b) IsAssumption
+    by o true e = standing mark.Assume o e (after (s.Mark mark.Assume) (λ us c i. i) assumption_line_told)
+    by o false e = anywhere o no_assumption
 
 is_shared : (us : List Marked) (c : Code) → Both (IsMark mark.Shared) (λ _. IsBlock 0) us c → IsShared us c
 is_shared us c b =
@@ -835,7 +878,7 @@ pub whole_told : (ts : List Symbol) (p : r.Front × (Copy → Fillings)) → r.w
 unfolding r.whole
 whole_told ts p e = by_answer (r.task ts) (task_told.tells ts) e
   where
-    rest_read : (x : r.Front × (Copy → Fillings)) (after : List Symbol) → Takes IsTaskBody ts x after → r.by_rest x after ≡ Ok p → IsTaskBody (map plain ts) p
+    rest_read : (x : r.Front × (Copy → Fillings)) (after : List Symbol) → Takes r.task IsTaskBody ts x after → r.by_rest x after ≡ Ok p → IsTaskBody (map plain ts) p
     rest_read x [] k q =
         let F : List Symbol → Type 0 = λ l. IsTaskBody (map plain l) x in
         let G : r.Front × (Copy → Fillings) → Type 0 = λ y. IsTaskBody (map plain ts) y in
@@ -843,6 +886,6 @@ whole_told ts p e = by_answer (r.task ts) (task_told.tells ts) e
         subst G same (subst F (sym (k.split ∙ append-nil k.used)) k.fits)
     rest_read x (u ∷ us) k q = absurd (not_err q)
 
-    by_answer : (a : Result ((r.Front × (Copy → Fillings)) × List Symbol) Fault) → Told IsTaskBody ts a → r.to_end a ≡ Ok p → IsTaskBody (map plain ts) p
+    by_answer : (a : Result ((r.Front × (Copy → Fillings)) × List Symbol) Fault) → Told r.task IsTaskBody ts a → r.to_end a ≡ Ok p → IsTaskBody (map plain ts) p
     by_answer (Err f) k q = absurd (not_err q)
     by_answer (Ok a) k q = rest_read a.0 a.1 k q

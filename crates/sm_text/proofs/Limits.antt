@@ -1,5 +1,4 @@
 -- The limits, as numbers.
-use Rattle.std.proofs.Common.{◌≡◌, refl}
 use Rattle.sm_text.proofs.Loops.{chain_limit-is, group_limit-is, list_limit-is}
 
 -- what the limits are

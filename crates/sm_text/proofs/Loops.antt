@@ -1,5 +1,5 @@
 -- One turn, the end and a fault of each loop that reads a list.
-use Rattle.std.proofs.Common.{◌≡◌, ℕ, zero, suc, ◌+◌, ◌-◌, ◌<◌, ◌≤◌, refl, sym, ap, ◌∙◌, arith, Bool, true, false, Option, Some, None, Result, Ok, Err, List, [], ◌∷◌, ◌++◌, length, map}
+use Rattle.std.proofs.Common.{◌≡◌, ℕ, zero, suc, ◌+◌, ◌-◌, ◌<◌, ◌≤◌, refl, sym, ap, ◌∙◌, arith, Bool, true, false, Option, Some, None, Result, Ok, Err, List, [], ◌∷◌, ◌++◌, length}
 use Rattle.sm_syntax.specs.declared.symbol.Mark.TheVariants as mark
 use Rattle.sm_syntax.specs.declared.symbol.Symbol.{Symbol}
 use Rattle.sm_syntax.specs.declared.tree.Name.{Name}
@@ -9,13 +9,12 @@ use Rattle.sm_syntax.specs.Syntax.{Expression, Condition, Code}
 use Rattle.sm_syntax.specs.declared.symbol.Mark.{Mark}
 use Rattle.sm_syntax.specs.ConflictFree.{Copy}
 use Rattle.sm_syntax.specs.Fill.{Fillings}
-use Rattle.sm_syntax.specs.Grammar.{Marked}
 use Rattle.sm_text.specs.declared.reading.Fault.{Fault}
 use Rattle.sm_text.specs.declared.reading.FaultKind.TheVariants.{Expected, Nested}
 use Rattle.sm_text.specs.declared.reading.ReadError.{ReadError}
 use Rattle.sm_text.specs.declared.reading.ReadError.TheVariants as error
 use Rattle.sm_text.specs.Answers.{Fails, Gives}
-use Rattle.sm_text.specs.Parsers.{first, rest, fault, expect, Parser, Operators, stands, gather, chain_by, chain_in, inside}
+use Rattle.sm_text.specs.Parsers.{first, rest, fault, expect, Parser, Operators, stands, chain_in, inside}
 use Rattle.sm_text.specs.Reading as r
 use Rattle.sm_text.specs.Written.{front_of}
 use Rattle.sm_syntax.specs.declared.tree.Stmt.{Stmt}
@@ -24,7 +23,7 @@ use Rattle.sm_syntax.proofs.Blocks.{sequence-push}
 use Rattle.std.proofs.Math.Path.{fun_ext}
 use Rattle.sm_text.proofs.Told.{shorter}
 use Rattle.sm_text.proofs.Gathered.{gather-turn, gather-end, gather-fault}
-use Rattle.sm_text.proofs.Described.{IsNextName, next_name_told, IsDeclaration, declaration_told, IsStatement, statement_told, block_told, IsFilling, filling_told}
+use Rattle.sm_text.proofs.Described.{takes_next_name, next_name_told, declaration_told, statement_told, block_told, filling_told}
 
 -- a test of the first symbol, made step by step
 pub tested : (test : Option Symbol → Bool) {o p : Option Symbol} {b v : Bool} → o ≡ p → b ≡ test o → b ≡ v → test p ≡ v
@@ -42,11 +41,8 @@ leaves w result error.Memory p one whole fails same = rw (p.1, p.2) tt
 some_none : (u : Symbol) → Some u ≡ (let o : Option Symbol = None in o) → ⊥
 some_none u p = cc
 
-some_name : (us : List Marked) (x : Name) → IsNextName us x → 0 < length us
-some_name us x e = rw e (omega arith)
-
 pub next_name-shorter : (ts : List Symbol) (x : Name) (after : List Symbol) → r.next_name ts ≡ Ok (x, after) → length after < length ts
-next_name-shorter = shorter some_name next_name_told
+next_name-shorter = shorter takes_next_name next_name_told
 
 pub more_names-turn : (before : List ℕ) (ts : List Symbol) (x : Name) (after : List Symbol) → stands mark.Comma (first ts) ≡ true → r.next_name ts ≡ Ok (x, after) → r.more_names before ts ≡ r.more_names (r.with_name before x) after
 unfolding r.more_names

@@ -30,7 +30,7 @@ grown-names_with names kind text = by (is_name kind text)
     by true = grown-with_text names text
     by false = ([], sym (append-nil names))
 
-grown-names_after : (bytes : List ℕ) (names : List (List ℕ)) (ts : List Token) → (more : List (List ℕ)) × (names_after bytes names ts ≡ names ++ more)
+pub grown-names_after : (bytes : List ℕ) (names : List (List ℕ)) (ts : List Token) → (more : List (List ℕ)) × (names_after bytes names ts ≡ names ++ more)
 grown-names_after bytes names [] = ([], sym (append-nil names))
 grown-names_after bytes names (t ∷ ts) =
     let first = grown-names_with names t.kind (text_of bytes t) in
@@ -56,7 +56,7 @@ symbol_by-append Number names more text known = refl
 symbol_by-append Sign names more text known = refl
 
 -- after a token its name is among the names
-known-names_with : (names : List (List ℕ)) (kind : TokenKind) (text : List ℕ) → is_name kind text ≡ true → is_among (names_with names kind text) text ≡ true
+pub known-names_with : (names : List (List ℕ)) (kind : TokenKind) (text : List ℕ) → is_name kind text ≡ true → is_among (names_with names kind text) text ≡ true
 known-names_with names kind text h = ap (λ b. is_among (if b then with_text names text else names) text) h ∙ is_among-with_text names text
 
 -- the first tokens are made symbols, with the names so far

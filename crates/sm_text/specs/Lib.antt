@@ -6,3 +6,11 @@ pub mod Fronts
 pub mod Sections
 pub mod Texts
 pub mod TokenTexts
+pub mod Laws
+pub mod Places
+pub mod Pieces
+pub mod Canonical
+pub mod Named
+pub mod Fragments
+pub mod ProgramReading
+pub mod ProgramViews

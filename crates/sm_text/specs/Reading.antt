@@ -20,7 +20,7 @@ use Rattle.sm_syntax.specs.Grammar.{with_sort}
 use Rattle.sm_syntax.specs.Parts.{Parts, by_copy}
 use Rattle.sm_text.specs.declared.reading.Fault.{Fault}
 use Rattle.sm_text.specs.declared.reading.FaultKind.TheVariants.{Expected}
-use Rattle.sm_text.specs.Parsers.{first, rest, Parser, fault, ◌>>=◌, ◌>>◌, pure, peek, skip, refuse, expect, stands, gather, Operators, chain_in, inside, grouped}
+use Rattle.sm_text.specs.Parsers.{first, Parser, fault, ◌>>=◌, ◌>>◌, pure, peek, skip, refuse, expect, stands, gather, Operators, chain_in, inside, grouped}
 
 -- whether a name stands there
 abbrev pub is_name : Option Symbol → Bool

@@ -2,18 +2,25 @@
 //!
 //! - `tokens` cuts a text into exactly its tokens, up to its first lexical fault.
 //! - `symbols` and `names` give what the grammar sees of them, with names numbered by first appearance.
-//! - `read_sections` reads only a text that the grammar spells, into what it spells. It says nothing yet of the place of a
-//!   refusal, lexical faults aside, nor that each text that the grammar spells is read.
+//! - `read_sections` reads exactly the texts that the grammar spells, where nothing nests too deep, each into what it spells.
+//!   A refusal names the first fault of the text: its kind and its place.
+//! - `parse_program` reads exactly the texts of a program alone. The place of its refusal no clause says.
+//! - `one_task` is the law that the grammar spells at most one task by a text.
 //!
-//! What is read stands in `specs/` of `sm_syntax`. `specs/Reading.antt` here has the parsers that the code follows.
+//! What is read stands in `specs/` of `sm_syntax`, and which fault is the first in `specs/Places.antt` here. `specs/Reading.antt`
+//! has the parsers that the code follows.
 #![tactic(auto)]
 
 mod conditions;
 mod error;
 mod expressions;
 mod front;
+mod laws;
 mod lexer;
 mod marks;
+mod print;
+mod program;
+mod put;
 mod reading;
 mod resolve;
 mod rules;
@@ -24,7 +31,13 @@ mod text;
 mod token_list;
 
 pub use error::TextError;
+pub use laws::one_task;
 pub use lexer::tokens;
+pub use print::{
+    print_block, print_cond, print_program, put_assumption, put_declarations, put_lists,
+    put_outputs, put_shared,
+};
+pub use program::parse_program;
 pub use resolve::{names, symbols};
 pub use sections::{Head, Lists};
 pub use symbol_list::Symbols;

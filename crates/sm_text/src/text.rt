@@ -1,8 +1,10 @@
 // A whole text, read into the sections of a task.
-ghost use Rattle.std.specs.Prelude.{◌≡◌, ◌<◌, ◌^◌, Some, None, length, IfOk, IfErr, IfSome, IsErr};
+ghost use Rattle.std.specs.Prelude.{◌≡◌, ◌<◌, ◌≤◌, ◌^◌, Some, None, length, IfOk, IfErr, IfSome, IsErr};
+ghost use Rattle.sm_syntax.specs.Parts.{Parts};
 ghost use Rattle.sm_syntax.specs.Spells.{IsInGrammar};
 ghost use Rattle.sm_syntax.specs.Tokens.{lexed};
-ghost use Rattle.sm_text.specs.Texts.{parts_of, lexical_fault};
+ghost use Rattle.sm_text.specs.Places.{IsRefusal, IsPlaceWith};
+ghost use Rattle.sm_text.specs.Texts.{parts_of, lexical_fault, rule_fault, IsReadAs};
 
 use crate::error::TextError;
 use crate::lexer::tokens;
@@ -20,14 +22,18 @@ pub struct Sections {
     pub lists: Lists,
 }
 
-/// Reads a text of fewer than 2^32 bytes. A text that isn't read has a place at which it stops being one: `Expected` is
-/// meant to name the first token that no task has after those before it, and `Nested` the first that nests too deep.
-/// That these places are the least, no clause says yet.
+/// Reads a text of fewer than 2^32 bytes. A text that isn't read is refused at the first fault in it: a lexical one, a
+/// token that no task has after those before it (`Expected`, also at the end of the text), or a token that nests too
+/// deep (`Nested`). Whether a task has a token there is a matter of the grammar alone, whatever nests too deep behind it.
 pub fn read_sections(alloc: Global, bytes: &[u8]) -> Result<Sections, TextError>
     requires { length bytes.now < 2 ^ 32 }
     ensures ok { IfOk result (λ s. IsInGrammar bytes.now (parts_of s)) }
+    // Each text in the grammar is read, where nothing in it nests too deep.
+    ensures only { (t : Parts) → IsInGrammar bytes.now t → IsReadAs t result }
     // A lexical fault that is named is the first one of the text.
     ensures lexical { IfErr result (λ e. IfSome (lexical_fault e) (λ f. (lexed bytes.now).1 ≡ Some f)) }
+    // A refusal is the first fault of the text, and names its kind and its place.
+    ensures place { IfErr result (IsRefusal bytes.now) }
 {
     let tokens = tokens(alloc, bytes)?;
     let symbols = symbols(alloc, bytes, &tokens.list)?;
@@ -50,14 +56,17 @@ pub fn read_sections(alloc: Global, bytes: &[u8]) -> Result<Sections, TextError>
 }
 
 /// The place of the token at which a rule doesn't go on, if that is no end of the tokens.
-fn place_of(fault: Fault, tokens: &[Token]) -> Option<u64> {
+pub(crate) fn place_of(fault: Fault, tokens: &[Token]) -> Option<u64>
+    ensures some { IfSome result (IsPlaceWith fault.left tokens.now) }
+    ensures none { result ≡ None → fault.left ≤ length tokens.now → fault.left ≡ 0 }
+{
     let index = tokens.len().checked_sub(fault.left)?;
     Some(tokens.get(index)?.place)
 }
 
 /// The error of a rule that doesn't go on at a place.
-fn rule_error(kind: FaultKind, place: u64) -> TextError
-    ensures { lexical_fault result ≡ None }
+pub(crate) fn rule_error(kind: FaultKind, place: u64) -> TextError
+    ensures { result ≡ rule_fault kind place }
 {
     match kind {
         FaultKind::Expected => TextError::Expected { place },
@@ -66,7 +75,7 @@ fn rule_error(kind: FaultKind, place: u64) -> TextError
 }
 
 /// The error of a place at which no token stands.
-fn lexical_error(fault: LexFault) -> TextError
+pub(crate) fn lexical_error(fault: LexFault) -> TextError
     ensures { lexical_fault result ≡ Some fault }
 {
     match fault.kind {

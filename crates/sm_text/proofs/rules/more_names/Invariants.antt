@@ -1,4 +1,4 @@
-use Rattle.std.proofs.Common.{◌≡◌, ℕ, length}
+use Rattle.std.proofs.Common.{◌≡◌, length}
 use Rattle.sm_text.specs.Reading as spec
 use Rattle.sm_text.specs.Written.{numbers_of}
 use Rattle.sm_text.proofs.rules.more_names.Given as goal

@@ -1,7 +1,4 @@
-use Rattle.std.proofs.Common.{◌≡◌, sym, ◌∙◌, ap, Err}
-use Rattle.sm_text.specs.Answers.{Fails}
-use Rattle.sm_text.specs.Reading as spec
-use Rattle.sm_text.specs.declared.reading.ReadError.{ReadError}
+use Rattle.std.proofs.Common.{sym, ◌∙◌}
 use Rattle.sm_text.proofs.Loops.{whole-end, whole-rest, whole-fails}
 use Rattle.sm_text.proofs.sections.whole.Goals as goal
 

@@ -1,0 +1,38 @@
+-- How the text of a program is read: declarations, outputs and a shared block, and nothing else. What is read is stated by
+-- the grammar, so no public clause cites the parser.
+use Rattle.std.specs.Prelude.{◌≡◌, ℕ, Result, MatchResult, List}
+use Rattle.sm_syntax.specs.declared.program.Program.{Program}
+use Rattle.sm_syntax.specs.declared.symbol.Symbol.{Symbol}
+use Rattle.sm_syntax.specs.declared.tree.Sort.{Sort}
+use Rattle.sm_syntax.specs.Syntax.{Code}
+use Rattle.sm_text.specs.declared.error.TextError.{TextError}
+use Rattle.sm_text.specs.declared.error.TextError.TheVariants as error
+use Rattle.sm_text.specs.declared.reading.Fault.{Fault}
+use Rattle.sm_text.specs.Fragments.{ProgramParts, parts_of}
+use Rattle.sm_text.specs.Parsers.{Parser, ◌>>=◌, pure}
+use Rattle.sm_text.specs.Reading.{declarations, outputs, shared, to_end}
+
+-- a program, but for the texts of its names
+pub record ProgramBody : Type 0 where
+  pub declared : List (ℕ × Sort)
+  pub outputs : List ℕ
+  pub body : Code
+
+unfoldable pub program : Parser ProgramBody
+program = do
+  ds ← declarations
+  xs ← outputs
+  c ← shared
+  pure (record { declared = ds; outputs = xs; body = c })
+
+-- the program that all the symbols spell
+unfoldable pub whole_program : List Symbol → Result ProgramBody Fault
+whole_program ts = to_end (program ts)
+
+-- its parts, where these are the texts of its names
+abbrev pub program_from : List (List ℕ) → ProgramBody → ProgramParts
+program_from names p = record { names = names; declared = p.declared; outputs = p.outputs; body = p.body }
+
+-- the answer is the program of these parts, or want of memory
+abbrev pub IsProgramReadAs : ProgramParts → Result Program TextError → Type 0
+IsProgramReadAs p answer = MatchResult answer (λ q. parts_of q ≡ p) (λ e. e ≡ error.Memory)

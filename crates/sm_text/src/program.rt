@@ -1,0 +1,130 @@
+// A whole text, read as a program.
+ghost use Rattle.std.specs.Prelude.{◌≡◌, ◌<◌, ◌^◌, Some, length, IfOk, IfErr, IfSome};
+ghost use Rattle.sm_syntax.specs.Tokens.{lexed};
+ghost use Rattle.sm_text.specs.Answers.{Gives};
+ghost use Rattle.sm_text.specs.Fragments.{HasProgramText, ProgramParts, SpellsProgram, parts_of};
+ghost use Rattle.sm_text.specs.ProgramReading as spec;
+ghost use Rattle.sm_text.specs.ProgramReading.{IsProgramReadAs};
+ghost use Rattle.sm_text.specs.ProgramViews.{program_of};
+ghost use Rattle.sm_text.specs.Texts.{lexical_fault};
+
+use crate::error::TextError;
+use crate::lexer::tokens;
+use crate::reading::{FaultKind, ReadError, first, refusal};
+use crate::resolve::symbols;
+use crate::rules::{declarations, outputs, shared};
+use crate::text::{lexical_error, place_of, rule_error};
+use sm_syntax::{Block, Decls, Outputs, Program, Symbol};
+use std::alloc::Global;
+
+/// The parts of a program, but for its names.
+#[derive(Debug, Drop)]
+pub(crate) struct Parts {
+    pub decls: Decls,
+    pub outputs: Outputs,
+    pub body: Block,
+}
+
+/// A program, and the symbols behind it.
+#[tactic(auto, unfolding(crate::specs::ProgramReading::program))]
+fn program(alloc: Global, symbols: &[Symbol]) -> Result<(Parts, &[Symbol]), ReadError>
+    ensures { Gives (λ x. (program_of x.0, x.1.now)) result (spec.program symbols.now) }
+{
+    let (decls, after) = declarations(alloc, symbols)?;
+    let (outputs, after) = outputs(alloc, after)?;
+    let (body, after) = shared(alloc, after)?;
+    Ok((
+        Parts {
+            decls,
+            outputs,
+            body,
+        },
+        after,
+    ))
+}
+
+/// A whole program, with no symbol behind it.
+fn whole_program(alloc: Global, symbols: &[Symbol]) -> Result<Parts, ReadError>
+    ensures { Gives program_of result (spec.whole_program symbols.now) }
+{
+    match program(alloc, symbols) {
+        Ok((parts, after)) => match first(after) {
+            None => Ok(parts),
+            Some(_) => Err(refusal(FaultKind::Expected, after)),
+        },
+        Err(error) => Err(error),
+    }
+}
+
+/// Reads a text of fewer than 2^32 bytes as a program: declarations, outputs and a shared block alone. A refusal names a
+/// kind and a place as `read_sections` does. That it is the first fault of the text, no clause says.
+pub fn parse_program(alloc: Global, bytes: &[u8]) -> Result<Program, TextError>
+    requires { length bytes.now < 2 ^ 32 }
+    ensures ok { IfOk result (λ p. SpellsProgram bytes.now (parts_of p)) }
+    ensures printable { IfOk result (λ p. HasProgramText (parts_of p)) }
+    // Each text that spells a program is read, and a text spells at most one.
+    ensures only { (p : ProgramParts) → SpellsProgram bytes.now p → IsProgramReadAs p result }
+    // A lexical fault that is named is the first one of the text.
+    ensures lexical { IfErr result (λ e. IfSome (lexical_fault e) (λ f. (lexed bytes.now).1 ≡ Some f)) }
+{
+    let tokens = tokens(alloc, bytes)?;
+    let symbols = symbols(alloc, bytes, &tokens.list)?;
+    match whole_program(alloc, &symbols.list) {
+        Ok(parts) => match tokens.fault {
+            None => Ok(Program {
+                names: symbols.names,
+                decls: parts.decls,
+                outputs: parts.outputs,
+                body: parts.body,
+            }),
+            Some(fault) => Err(lexical_error(fault)),
+        },
+        Err(ReadError::Fault(fault)) => match (place_of(fault, &tokens.list), tokens.fault) {
+            (Some(place), _) => Err(rule_error(fault.kind, place)),
+            (None, Some(lexical)) => Err(lexical_error(lexical)),
+            (None, None) => Err(rule_error(fault.kind, bytes.len() as u64)),
+        },
+        Err(ReadError::Memory) => Err(TextError::Memory),
+    }
+}
+
+#[cfg(test)]
+mod tests {
+    use super::*;
+    use crate::print::print_program;
+    use std::test::Fail;
+
+    #[test]
+    fn a_program_is_read_and_printed(rt: HostRuntime) -> Result<(), Fail> {
+        for (text, want) in [
+            (
+                "var x; output x; shared { }",
+                "var x;\noutput x;\nshared {\n}\n",
+            ),
+            (
+                "array a;var x,y;output a,x;shared{?1;a[-x]=x-y-1;}# end",
+                "array a;\nvar x;\nvar y;\noutput a, x;\nshared {\n  ?1;\n  a[-x] = (x - y) - 1;\n}\n",
+            ),
+        ] {
+            assert!(rt; text.len() < 999);
+            let program = parse_program(rt.alloc(), text.as_bytes())?;
+            let out = print_program(rt.alloc(), &program)?;
+            assert_eq!(rt; out.as_slice(), want.as_bytes());
+        }
+        Ok(())
+    }
+
+    #[test]
+    fn an_assumption_or_a_list_is_no_part_of_a_program(rt: HostRuntime) -> Result<(), Fail> {
+        for (text, place) in [
+            ("var x; output x; assume true; shared { }", 17),
+            ("var x; output x; shared { } base { }", 28),
+            ("", 0),
+        ] {
+            assert!(rt; text.len() < 99);
+            let result = parse_program(rt.alloc(), text.as_bytes());
+            assert_eq!(rt; result.err(), Some(TextError::Expected { place }));
+        }
+        Ok(())
+    }
+}
