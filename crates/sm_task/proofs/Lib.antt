@@ -1,3 +1,5 @@
 pub mod Numbers
 pub mod Refusals
 pub mod Parsing
+pub mod Complete
+pub mod Places

@@ -1,5 +1,5 @@
 -- What parse_task answers, by the text and by the first condition that fails.
-use Rattle.std.proofs.Common.{◌≡◌, refl, sym, ◌∙◌, subst, Option, Some, None, Result, Ok, Err, List, ℕ}
+use Rattle.std.proofs.Common.{◌≡◌, refl, sym, subst, Option, Some, None, Result, Err, List, ℕ}
 use Rattle.std.specs.Prelude.{◌≢◌, IsSome, IfErr, IfSome}
 use Rattle.sm_syntax.specs.declared.token.LexFault.{LexFault}
 use Rattle.sm_syntax.specs.Conditions.{Refusal, first_refusal}
@@ -20,7 +20,7 @@ named bytes t (Some r) g e = (t, g, e)
 nothing : IsSome (let o : Option Refusal = None in o) → ⊥
 nothing p = cc
 
-no_text : (refusal : Option Refusal) → IsSome refusal → refusal ≡ None → ⊥
+pub no_text : (refusal : Option Refusal) → IsSome refusal → refusal ≡ None → ⊥
 no_text refusal some none = let F : Option Refusal → Type 0 = λ r. IsSome r in nothing (subst F none some)
 
 -- a condition that fails is named

@@ -13,6 +13,8 @@ use Rattle.sm_text.specs.declared.error.TextError.{TextError}
 use Rattle.sm_text.specs.declared.error.TextError.TheVariants as text
 use Rattle.sm_task.specs.declared.error.TaskError.{TaskError}
 use Rattle.sm_task.specs.declared.error.TaskError.TheVariants as error
+use Rattle.sm_task.specs.declared.task.Task.{Task}
+use Rattle.sm_task.specs.Tasks.{parts_of}
 
 -- the section with a number
 abbrev pub section_of : ℕ → Section
@@ -83,3 +85,11 @@ Reports answer refusal = MatchResult answer (λ u. refusal ≡ None) (λ e. e �
 -- the text is in the grammar, and of the conditions on tasks this is the first that fails
 abbrev pub IsRefusedBy : List ℕ → Refusal → Type 0
 IsRefusedBy bytes r = (t : Parts) × IsInGrammar bytes t × (first_refusal t ≡ Some r)
+
+-- the answer is the task of these parts, or want of memory
+abbrev pub IsReadAs : Parts → Result Task TaskError → Type 0
+IsReadAs t answer = MatchResult answer (λ p. parts_of p ≡ t) (λ e. e ≡ error.Memory)
+
+-- the answer is this refusal, or want of memory
+abbrev pub IsRefusedAs : Refusal → Result Task TaskError → Type 0
+IsRefusedAs r answer = MatchResult answer (λ p. ⊥) (λ e. e ≢ error.Memory → refusal_of e ≡ Some r)

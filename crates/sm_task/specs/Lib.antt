@@ -1,2 +1,4 @@
 pub mod Tasks
 pub mod Errors
+pub mod Laws
+pub mod Places

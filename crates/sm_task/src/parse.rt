@@ -1,9 +1,14 @@
 // A text, read as a task.
 ghost use Rattle.std.specs.Prelude.{◌≡◌, ◌<◌, ◌^◌, Some, length, IfOk, IfErr, IfSome};
-ghost use Rattle.sm_syntax.specs.Spells.{Spells};
+ghost use Rattle.sm_syntax.specs.Conditions.{Refusal, first_refusal};
+ghost use Rattle.sm_syntax.specs.Parts.{Parts};
+ghost use Rattle.sm_syntax.specs.Spells.{IsInGrammar, Spells};
 ghost use Rattle.sm_syntax.specs.Tokens.{lexed};
-ghost use Rattle.sm_task.specs.Errors.{refusal_of, lexical_fault_of, IsRefusedBy};
+ghost use Rattle.sm_task.specs.Errors.{refusal_of, lexical_fault_of, IsRefusedBy, IsReadAs, IsRefusedAs};
+ghost use Rattle.sm_task.specs.Places.{text_fault_of};
 ghost use Rattle.sm_task.specs.Tasks.{parts_of};
+ghost use Rattle.sm_text.specs.Named.{HasText};
+ghost use Rattle.sm_text.specs.Places.{IsFirstFault};
 ghost use Rattle.sm_text.specs.Texts as text;
 
 use crate::conditions::check_conditions;
@@ -13,14 +18,21 @@ use sm_syntax::Program;
 use sm_text::{Sections, read_sections};
 use std::alloc::Global;
 
-/// Reads a text of fewer than 2^32 bytes as a task. The language is the one that `sm_text::read_sections` takes today.
+/// Reads a text of fewer than 2^32 bytes as a task.
 pub fn parse_task(alloc: Global, bytes: &[u8]) -> Result<Task, TaskError>
     requires { length bytes.now < 2 ^ 32 }
     ensures ok { IfOk result (λ t. Spells bytes.now (parts_of t)) }
+    ensures printable { IfOk result (λ t. HasText (parts_of t)) }
+    // Each text that spells a task is read, and a text spells at most one.
+    ensures only { (t : Parts) → Spells bytes.now t → IsReadAs t result }
     // A condition is named exactly where it is the first that fails.
     ensures condition { IfErr result (λ e. IfSome (refusal_of e) (IsRefusedBy bytes.now)) }
+    ensures refused { (t : Parts) (r : Refusal) → IsInGrammar bytes.now t →
+        first_refusal t ≡ Some r → IsRefusedAs r result }
     // A lexical fault that is named is the first one of the text.
     ensures lexical { IfErr result (λ e. IfSome (lexical_fault_of e) (λ f. (lexed bytes.now).1 ≡ Some f)) }
+    // A fault of the text that is named is its first one.
+    ensures place { IfErr result (λ e. IfSome (text_fault_of e) (IsFirstFault bytes.now)) }
 {
     let task = from_sections(read_sections(alloc, bytes)?);
     check_conditions(alloc, &task)?;

@@ -1,0 +1,5 @@
+use Rattle.sm_text.proofs.CompleteTasks as text
+use Rattle.sm_task.proofs.laws.one_task.Goals as goal
+
+pub returns : goal.returns
+returns c bytes t u p q = text.one_task bytes t u p.text q.text
