@@ -1,0 +1,9 @@
+-- A violation is a conflict.
+use Rattle.std.proofs.Common.{◌≡◌, ℕ}
+use Rattle.sm_syntax.specs.ConflictFree.{Task, ConflictFree}
+use Rattle.sm_syntax.specs.Stores.{Store}
+use Rattle.sm_replay.specs.Violations.{Violates}
+
+-- Keeps would hold at the cell at which it fails
+pub violation_conflicts : (t : Task) (s : Store) (n : ℕ) → Violates t s n → ¬ ConflictFree t
+violation_conflicts t s n v free = v.broken (free n s v.end v.met.meets v.ends.ends v.cell v.output)

@@ -1,0 +1,14 @@
+pub mod Conflicts
+pub mod Running
+pub mod Deciding
+pub mod Answering
+pub mod Stopping
+pub mod Least
+pub mod Filled
+pub mod Firsts
+pub mod Outputs
+pub mod Breaking
+pub mod Spelled
+pub mod Membering
+pub mod Worth
+pub mod Reading

@@ -1,0 +1,17 @@
+-- At the end each name has its value.
+use Rattle.std.proofs.Common.{◌≡◌, ℕ, Option, None, sym, ap, ◌∙◌}
+use Rattle.serde_json.specs.View.{view}
+use Rattle.sm_syntax.specs.declared.tree.Sort.{Sort}
+use Rattle.sm_syntax.specs.Parts.{sort_of}
+use Rattle.sm_syntax.specs.Programs.{declared_of}
+use Rattle.sm_eval.specs.Slots.{meaning}
+use Rattle.sm_eval.specs.Zeros.{zero_of}
+use Rattle.sm_replay.specs.Inputs.{given, member_of, store_of}
+use Rattle.sm_replay.proofs.Filled.{end_filled}
+use Rattle.sm_replay.proofs.input.store_of.Goals as goal
+
+pub returns-clause-value : goal.returns-clause-value
+returns-clause-value c =
+    end_filled (sort_of (declared_of c.args.decls.now)) (λ (x : ℕ). zero_of (sort_of (declared_of c.args.decls.now) x)) (store_of c.args.names.now (sort_of (declared_of c.args.decls.now)) (view c.args.input.now))
+    c.deref-d-items.result.now c.loop-d.d-index (meaning c.loop-d.s) c.loop-d-test.false c.loop-d.invariant.filling
+    (λ (x : ℕ) (none : sort_of (declared_of c.args.decls.now) x ≡ None). ap zero_of none ∙ sym (ap (λ (o : Option Sort). given o (member_of c.args.names.now (view c.args.input.now) x)) none))

@@ -1,0 +1,5 @@
+use Rattle.sm_replay.proofs.Conflicts.{violation_conflicts}
+use Rattle.sm_replay.proofs.laws.violations_conflict.Goals as goal
+
+pub returns : goal.returns
+returns c = violation_conflicts

@@ -1,0 +1,15 @@
+-- A name has its value, or else 0 and is declared in what is left.
+use Rattle.std.proofs.Common.{◌≡◌, ℕ, drop}
+use Rattle.sm_syntax.specs.Parts.{sort_of}
+use Rattle.sm_syntax.specs.Programs.{declared_of}
+use Rattle.sm_eval.specs.Slots.{meaning, sorts_of}
+use Rattle.sm_eval.specs.Zeros.{zero_of}
+use Rattle.sm_replay.specs.Trials.{value_in_trial}
+use Rattle.sm_replay.proofs.Filled.{Filling, numbered}
+use Rattle.sm_replay.proofs.trials.later_trial.Given as goal
+
+abbrev pub invariant-loop-d : goal.invariant-loop-d
+invariant-loop-d l = record {
+  filling : Filling (sort_of (declared_of l.decls)) (λ (x : ℕ). zero_of (sort_of (declared_of l.decls) x)) (λ (x : ℕ). value_in_trial l.j x (sort_of (declared_of l.decls) x)) (numbered (drop l.d-index l.d-items)) (meaning l.s);
+  sorts : sorts_of l.s ≡ sort_of (declared_of l.decls);
+}

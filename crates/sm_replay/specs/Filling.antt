@@ -1,0 +1,13 @@
+-- Stores that are filled name by name and element by element, from 0 on.
+use Rattle.std.specs.Prelude.{◌≡◌, ◌≢◌, ◌⊎◌, ℕ, ℤ, Option, unwrap_or}
+use Rattle.sm_syntax.specs.Stores.{Value, array, Store}
+
+-- a name that has 0, or the value already, gets the value; the others stay
+pub record Gives (zero value : Value) (x : ℕ) (old new : Store) : Type 0 where
+  pub here : (old x ≡ zero) ⊎ (old x ≡ value) → new x ≡ value
+  pub others : (y : ℕ) → y ≢ x → new y ≡ old y
+
+-- an array gets the elements that are given, and keeps its others; so do the other names
+pub record Overrides (given : ℤ → Option ℤ) (a : ℕ) (old new : Store) : Type 0 where
+  pub elements : (i : ℤ) → array (new a) i ≡ unwrap_or (given i) (array (old a) i)
+  pub others : (y : ℕ) → y ≢ a → new y ≡ old y

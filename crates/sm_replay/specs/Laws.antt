@@ -1,0 +1,16 @@
+-- Laws of violations and of tasks, each for all tasks and stores.
+use Rattle.std.specs.Prelude.{◌≡◌, ℕ, None}
+use Rattle.sm_syntax.specs.Conditions.{first_refusal}
+use Rattle.sm_syntax.specs.ConflictFree.{Task, ConflictFree}
+use Rattle.sm_syntax.specs.Parts.{Parts}
+use Rattle.sm_syntax.specs.Stores.{Store}
+use Rattle.sm_replay.specs.Sorted.{sort_fault}
+use Rattle.sm_replay.specs.Violations.{Violates}
+
+-- a violation shows that the merge isn't free of conflicts
+abbrev pub ViolationsConflict : Type 0
+ViolationsConflict = (t : Task) (s : Store) (n : ℕ) → Violates t s n → ¬ ConflictFree t
+
+-- a task that meets all conditions may be run
+abbrev pub ValidTasksRun : Type 0
+ValidTasksRun = (t : Parts) → first_refusal t ≡ None → sort_fault t ≡ None

@@ -1,0 +1,9 @@
+pub mod Sorted
+pub mod Violations
+pub mod Verdicts
+pub mod Trials
+pub mod Laws
+pub mod Filling
+pub mod Ends
+pub mod Numbers
+pub mod Inputs

@@ -1,0 +1,37 @@
+-- What runs of the four programs from one store show against a merge.
+use Rattle.std.specs.Prelude.{◌≡◌, ℕ, Option, Some, None, Contains}
+use Rattle.sm_syntax.specs.ConflictFree.{Copy, O, A, B, M, Meets, Task, program_of}
+use Rattle.sm_syntax.specs.Keeps.{Keeps, Cell, content, variable}
+use Rattle.sm_syntax.specs.Meaning.{run}
+use Rattle.sm_syntax.specs.Stores.{Store}
+use Rattle.sm_syntax.specs.Syntax.{Condition}
+use Rattle.sm_eval.specs.declared.error.EvalError.{EvalError}
+use Rattle.sm_eval.specs.Events.{condition_event, event}
+
+-- the first event of an assumption
+abbrev pub assumed_event : Option Condition → Store → Option EvalError
+assumed_event None s = None
+assumed_event (Some b) s = condition_event b s
+
+-- the store meets the assumption, where computing it leaves 128 bits nowhere
+pub record IsMet (assumed : Option Condition) (s : Store) : Type 0 where
+  pub calm : assumed_event assumed s ≡ None
+  pub meets : Meets assumed s
+
+-- the four programs end in these stores without an event, where each loop takes at most n turns
+pub record AreEnds (t : Task) (s : Store) (n : ℕ) (end : Copy → Store) : Type 0 where
+  pub calm : (c : Copy) → event n (program_of t c) s ≡ None
+  pub ends : (c : Copy) → run n (program_of t c) s ≡ Some (end c)
+
+-- Keeps at one cell of four ends
+abbrev pub KeepsAt : (Copy → Store) → Cell → Type 0
+KeepsAt end cell = Keeps (content (end O) cell) (content (end A) cell) (content (end B) cell) (content (end M) cell)
+
+-- the store meets the assumption, the four programs end from it, and Keeps fails at a cell of an output
+pub record Violates (t : Task) (s : Store) (n : ℕ) : Type 0 where
+  pub met : IsMet t.assumed s
+  pub end : Copy → Store
+  pub ends : AreEnds t s n end
+  pub cell : Cell
+  pub output : Contains t.outputs (variable cell)
+  pub broken : ¬ KeepsAt end cell

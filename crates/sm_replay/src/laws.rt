@@ -1,0 +1,13 @@
+// Laws of violations and of tasks, as contracts.
+ghost use Rattle.sm_replay.specs.Laws.{ViolationsConflict, ValidTasksRun};
+
+/// An input that violates the condition is a conflict of the merge.
+pub fn violations_conflict()
+    ensures { ViolationsConflict }
+{}
+
+/// A task that meets all conditions may be run.
+#[tactic(auto, using(crate::proofs::Running::valid_runs))]
+pub fn valid_tasks_run()
+    ensures { ValidTasksRun }
+{}

@@ -1,0 +1,35 @@
+//! Runs of a task from one input: what they show against the merge.
+//!
+//! - `read_input` gives the store of an input in JSON, or the first refusal.
+//! - `trial` gives the inputs that are tried on every task.
+//! - `judge` runs the four programs from one store: they end and keep the condition, or the first cell and part in which
+//!   it fails, or what kept them from an end.
+//! - `first_violation` is the least trial that violates, for every number of workers. `some_trial_meets` says whether
+//!   the assumption excludes them all.
+//! - `violations_conflict` is the law that a violation is a conflict, and `valid_tasks_run` that a task that meets its
+//!   conditions may be run.
+//!
+//! Read `specs/Violations.antt` first, then `specs/Verdicts.antt`. `specs/Inputs.antt` says what an input is, and
+//! `specs/Trials.antt` which are tried.
+#![tactic(auto)]
+
+mod ends;
+mod error;
+mod first;
+mod input;
+mod judging;
+mod laws;
+mod number;
+mod sort;
+#[cfg(test)]
+mod tests;
+mod trials;
+mod verdict;
+
+pub use error::{InputError, ReplayError};
+pub use first::{first_violation, some_trial_meets};
+pub use input::read_input;
+pub use judging::judge;
+pub use laws::{valid_tasks_run, violations_conflict};
+pub use trials::trial;
+pub use verdict::Verdict;

@@ -1,0 +1,283 @@
+// Verdicts and trials that were worked out by hand.
+ghost use Rattle.std.specs.Prelude.{◌≡◌, None, IfOk};
+ghost use Rattle.sm_eval.specs.Slots.{sorts_of};
+ghost use Rattle.sm_syntax.specs.Parts.{sort_of};
+ghost use Rattle.sm_syntax.specs.Programs.{declared_of};
+ghost use Rattle.sm_task.specs.Tasks.{parts_of};
+ghost use Rattle.sm_replay.specs.Sorted.{sort_fault};
+
+use crate::error::{InputError, ReplayError};
+use crate::first::{first_violation, some_trial_meets};
+use crate::input::read_input;
+use crate::judging::judge;
+use crate::sort::sort_in;
+use crate::trials::trial;
+use crate::verdict::Verdict;
+use sm_eval::Store;
+use sm_num::Op;
+use sm_par::Open;
+use sm_syntax::{Name, Sort};
+use sm_task::{Task, parse_task};
+use std::alloc::{AllocError, Global};
+use std::test::Fail;
+
+const GREATEST: i128 = i128::MAX;
+
+// The task that a text spells.
+#[tactic(auto, using(crate::proofs::Running::spelled_runs))]
+fn task(alloc: Global, text: &str) -> Result<Task, AllocError>
+    ensures { IfOk result (λ t. sort_fault (parts_of t) ≡ None) }
+{
+    if text.len() > 100_000 {
+        return Err(AllocError);
+    }
+    match parse_task(alloc, text.as_bytes()) {
+        Ok(task) => Ok(task),
+        Err(_) => Err(AllocError),
+    }
+}
+
+// The store in which each name has 0 but one number variable.
+fn store(alloc: Global, task: &Task, x: Name, z: i128) -> Result<Store, AllocError>
+    ensures { IfOk result (λ s. sorts_of s ≡ sort_of (declared_of task.now.shared.decls)) }
+{
+    let mut s = Store::zero(alloc, &task.shared.decls)?;
+    if let Some(Sort::Num) = sort_in(&task.shared.decls, x) {
+        s.set(x, z);
+    }
+    Ok(s)
+}
+
+// The number of a number variable.
+fn number(task: &Task, s: &Store, x: Name) -> Option<i128>
+    requires { sorts_of s.now ≡ sort_of (declared_of task.now.shared.decls) }
+{
+    match sort_in(&task.shared.decls, x) {
+        Some(Sort::Num) => Some(s.number(x)),
+        _ => None,
+    }
+}
+
+// The number at an index of an array.
+fn element(task: &Task, s: &Store, a: Name, i: i128) -> Option<i128>
+    requires { sorts_of s.now ≡ sort_of (declared_of task.now.shared.decls) }
+{
+    match sort_in(&task.shared.decls, a) {
+        Some(Sort::Arr) => Some(s.cell(a, i)),
+        _ => None,
+    }
+}
+
+// A makes z what x is, and the candidate loses it.
+const LOST: &str =
+    "var x, z; output z; shared { ?1; } base { ?1 { z = 0; } } variant_a { ?1 { z = x; } } variant_b { ?1 { z = 0; } } candidate { ?1 { z = 0; } }";
+
+const LOST_WHERE_AT_MOST_0: &str =
+    "var x, z; output z; assume x <= 0; shared { ?1; } base { ?1 { z = 0; } } variant_a { ?1 { z = x; } } variant_b { ?1 { z = 0; } } candidate { ?1 { z = 0; } }";
+
+const LOST_WHERE_0: &str =
+    "var x, z; output z; assume x == 0; shared { ?1; } base { ?1 { z = 0; } } variant_a { ?1 { z = x; } } variant_b { ?1 { z = 0; } } candidate { ?1 { z = 0; } }";
+
+const LOST_WHERE_1000: &str =
+    "var x, z; output z; assume x == 1000; shared { ?1; } base { ?1 { z = 0; } } variant_a { ?1 { z = x; } } variant_b { ?1 { z = 0; } } candidate { ?1 { z = 0; } }";
+
+const LOST_NOWHERE: &str =
+    "var x, z; output z; assume x < x; shared { ?1; } base { ?1 { z = 0; } } variant_a { ?1 { z = x; } } variant_b { ?1 { z = 0; } } candidate { ?1 { z = 0; } }";
+
+const LOST_WHERE_COMPUTED: &str =
+    "var x, z; output z; assume x + 1 > 0; shared { ?1; } base { ?1 { z = 0; } } variant_a { ?1 { z = x; } } variant_b { ?1 { z = 0; } } candidate { ?1 { z = 0; } }";
+
+const ALL_THE_SAME: &str =
+    "var x; output x; shared { x = x + 1; } base { } variant_a { } variant_b { } candidate { }";
+
+const COUNTED: &str =
+    "var i, n; output i; shared { while (i < n) { i = i + 1; } } base { } variant_a { } variant_b { } candidate { }";
+
+fn violation(name: u32, index: Option<i128>, clause: u8) -> Verdict {
+    Verdict::Violates {
+        name: Name(name),
+        index,
+        clause,
+    }
+}
+
+#[test]
+fn the_least_trial_that_violates_is_found_by_each_number_of_workers(
+    rt: HostRuntime,
+) -> Result<(), Fail> {
+    let alloc = rt.alloc();
+    let cases = [
+        (
+            "var x, y; output x, y; shared { ?1; ?2; } base { ?1 { } ?2 { } } variant_a { ?1 { x = x + 1; } ?2 { } } variant_b { ?1 { } ?2 { y = x; } } candidate { ?1 { x = x + 1; } ?2 { y = x; } }",
+            Some((0, violation(1, None, 3))),
+        ),
+        (
+            "var z; output z; shared { ?1; } base { ?1 { } } variant_a { ?1 { z = 1; } } variant_b { ?1 { z = 2; } } candidate { ?1 { z = 1; } }",
+            Some((0, violation(0, None, 2))),
+        ),
+        (
+            "var i, n; output i; shared { i = 0; ?1; } base { ?1 { while (i < n) { i = i + 1; } } } variant_a { ?1 { while (i < n + 1) { i = i + 1; } } } variant_b { ?1 { while (i < n) { i = i + 1; } } } candidate { ?1 { while (i < n) { i = i + 1; } } }",
+            Some((0, violation(0, None, 1))),
+        ),
+        (
+            "var i; array a; output i, a; shared { ?1; } base { ?1 { } } variant_a { ?1 { a[5] = 1; a[-3] = 2; } } variant_b { ?1 { a[9] = 0; } } candidate { ?1 { } }",
+            Some((0, violation(1, Some(-3), 1))),
+        ),
+        (LOST, Some((1, violation(1, None, 1)))),
+        (LOST_WHERE_AT_MOST_0, Some((3, violation(1, None, 1)))),
+        (LOST_WHERE_0, None),
+        (LOST_NOWHERE, None),
+    ];
+    for (text, want) in cases {
+        let task = task(alloc, text)?;
+        for workers in [1, 2, 64] {
+            assert_eq!(rt;
+                first_violation(&rt, alloc, &Open, &task, 10_000, workers)?,
+                want,
+                "{workers} {text}"
+            );
+        }
+    }
+    Ok(())
+}
+
+#[test]
+fn an_input_is_judged_by_its_assumption_then_its_ends_then_its_cells(
+    rt: HostRuntime,
+) -> Result<(), Fail> {
+    let alloc = rt.alloc();
+    let beyond = ReplayError::Beyond {
+        copy: 0,
+        op: Op::Add,
+        a: GREATEST,
+        b: 1,
+    };
+    let assumed = ReplayError::BeyondAssumed {
+        op: Op::Add,
+        a: GREATEST,
+        b: 1,
+    };
+    // a task, the number of a name, and the answer
+    let cases = [
+        (ALL_THE_SAME, 0, GREATEST, Err(beyond)),
+        (ALL_THE_SAME, 0, 4, Ok(Verdict::Holds)),
+        (COUNTED, 1, 10_000, Ok(Verdict::Holds)),
+        (COUNTED, 1, 10_001, Err(ReplayError::OutOfTurns { copy: 0 })),
+        (LOST, 0, 1, Ok(violation(1, None, 1))),
+        (LOST_WHERE_AT_MOST_0, 0, 1, Ok(Verdict::Unmet)),
+        (LOST_WHERE_AT_MOST_0, 0, -1, Ok(violation(1, None, 1))),
+        (LOST_WHERE_COMPUTED, 0, GREATEST, Err(assumed)),
+    ];
+    for (text, x, z, want) in cases {
+        let task = task(alloc, text)?;
+        let input = store(alloc, &task, Name(x), z)?;
+        assert_eq!(rt; judge(alloc, &task, &input, 10_000), want, "{z} {text}");
+    }
+    Ok(())
+}
+
+#[test]
+fn trials_have_their_numbers(rt: HostRuntime) -> Result<(), Fail> {
+    let alloc = rt.alloc();
+    let task = task(
+        alloc,
+        "var x, z; array a; output z; shared { } base { } variant_a { } variant_b { } candidate { }",
+    )?;
+    // x and z, then the elements of a at 0 and 8
+    for (j, x, z, first) in [(0, 0, 0, 0), (1, 1, 6, -3), (3, -4, 11, 3), (8, -6, -1, 9)] {
+        let s = trial(alloc, &task, j)?;
+        assert_eq!(rt; number(&task, &s, Name(0)), Some(x), "{j}");
+        assert_eq!(rt; number(&task, &s, Name(1)), Some(z), "{j}");
+        assert_eq!(rt; element(&task, &s, Name(2), 0), Some(first), "{j}");
+        assert_eq!(rt; element(&task, &s, Name(2), 8), Some(0), "{j}");
+    }
+    Ok(())
+}
+
+#[test]
+fn some_trial_meets_what_is_assumed_or_none(rt: HostRuntime) -> Result<(), Fail> {
+    let alloc = rt.alloc();
+    for (text, want) in [
+        (LOST, true),
+        (LOST_WHERE_0, true),
+        (LOST_WHERE_AT_MOST_0, true),
+        (LOST_WHERE_1000, false),
+        (LOST_NOWHERE, false),
+    ] {
+        let task = task(alloc, text)?;
+        assert_eq!(rt; some_trial_meets(alloc, &task)?, want, "{text}");
+    }
+    Ok(())
+}
+
+// The numbers of x and y and the elements of a at -1 and 5, of an input for `var x; array a; var y;`.
+fn read(alloc: Global, bytes: &[u8]) -> Result<[Option<i128>; 4], InputError> {
+    let head =
+        "var x; array a; var y; output x; shared { } base { } variant_a { } variant_b { } candidate { }";
+    let task = task(alloc, head)?;
+    let s = read_input(alloc, &task.shared.decls, &task.shared.names, bytes)?;
+    let (x, a, y) = (Name(0), Name(1), Name(2));
+    Ok([
+        number(&task, &s, x),
+        number(&task, &s, y),
+        element(&task, &s, a, -1),
+        element(&task, &s, a, 5),
+    ])
+}
+
+#[test]
+fn an_input_gives_its_numbers_or_is_refused_at_its_first_fault(
+    rt: HostRuntime,
+) -> Result<(), Fail> {
+    let alloc = rt.alloc();
+    let all = |x: i128, y: i128, before: i128, five: i128| Ok([
+        Some(x),
+        Some(y),
+        Some(before),
+        Some(five),
+    ]);
+    let (x, a) = (Name(0), Name(1));
+    let wide: &[u8] = b"{\"x\":\"-170141183460469231731687303715884105728\"}";
+    let wider: &[u8] = b"{\"x\":\"170141183460469231731687303715884105728\"}";
+    let cases: &[(&[u8], Result<[Option<i128>; 4], InputError>)] = &[
+        (b"{}", all(0, 0, 0, 0)),
+        (b" {\"y\": 7, \"x\": -3}\n", all(-3, 7, 0, 0)),
+        (b"{\"x\":1,\"x\":\"2\"}", all(2, 0, 0, 0)),
+        (
+            b"{\"a\":{\"-1\":\"-9\",\"5\":18446744073709551615,\"7\":0}}",
+            all(0, 0, -9, 18_446_744_073_709_551_615),
+        ),
+        (wide, all(i128::MIN, 0, 0, 0)),
+        (wider, Err(InputError::BadValue { name: x })),
+        (b"{\"x\":", Err(InputError::BadJson)),
+        (b"{\"x\":1e400}", Err(InputError::BadJson)),
+        (b"{\"x\":\"\xff\"}", Err(InputError::BadJson)),
+        (b"[]", Err(InputError::NotObject)),
+        (b"{\"w\":1}", Err(InputError::UnknownKey)),
+        (b"{\"x\":[],\"w\":1}", Err(InputError::UnknownKey)),
+        (b"{\"x\":\"01\"}", Err(InputError::BadValue { name: x })),
+        (b"{\"x\":\"-0\"}", Err(InputError::BadValue { name: x })),
+        (b"{\"x\":\"+1\"}", Err(InputError::BadValue { name: x })),
+        (b"{\"x\":-0}", Err(InputError::BadValue { name: x })),
+        (b"{\"x\":1.0}", Err(InputError::BadValue { name: x })),
+        (b"{\"x\":1e2}", Err(InputError::BadValue { name: x })),
+        (
+            b"{\"x\":18446744073709551616}",
+            Err(InputError::BadValue { name: x }),
+        ),
+        (b"{\"a\":3}", Err(InputError::BadValue { name: a })),
+        (b"{\"a\":{\"05\":1}}", Err(InputError::BadIndex { name: a })),
+        (
+            b"{\"a\":{\"5\":true}}",
+            Err(InputError::BadValue { name: a }),
+        ),
+        (
+            b"{\"a\":{\"x\":true}}",
+            Err(InputError::BadIndex { name: a }),
+        ),
+    ];
+    for (bytes, want) in cases {
+        assert_eq!(rt; read(alloc, bytes), *want, "{bytes:?}");
+    }
+    Ok(())
+}
