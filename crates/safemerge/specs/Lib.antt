@@ -1,4 +1,9 @@
 pub mod Copies
 pub mod Tables
+pub mod Words
+pub mod Requests
 pub mod Lines
+pub mod Reading
+pub mod Stops
+pub mod Check
 pub mod Answers

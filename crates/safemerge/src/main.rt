@@ -1,24 +1,28 @@
 //! SafeMerge: checks that a three-way merge of programs is free of conflicts.
 //!
-//! - `safemerge` does all that the program does, over any shelf and any sink. It prints `Accepted`
-//!   for a task that is free of conflicts alone, and each fault that it answers has its cause.
-//! - `answer` gives the answer to the bytes of a task, whatever shelf they came from. Of a text that
-//!   is refused, no clause says yet which place is named, but for lexical faults.
+//! - `safemerge` does all that the program does, over any shelf and any sink. `check` prints `Accepted` for a task that
+//!   is free of conflicts alone, and each fault that is answered has its cause. A text that is refused spells no task,
+//!   and its first fault, or the first condition that fails, is named.
+//! - `print` puts the canonical text of a task, which spells the same task.
+//! - `read_words` says what the words ask for, and Usage exactly where no command takes them.
 //! - `decide` decides the tasks whose programs only copy, exactly and soundly.
 //!
-//! The claim is `ConflictFree` of the crate `sm_syntax`. Read `specs/Answers.antt` first, then
-//! `specs/Copies.antt`, which says how tasks are decided.
+//! The claim is `ConflictFree` of the crate `sm_syntax`. Read `specs/Answers.antt` first, and `specs/Words.antt` for
+//! what the words ask. `specs/Copies.antt` says how tasks are decided.
 #![tactic(auto)]
 
-mod answer;
+mod check;
 mod copies;
 mod lines;
+mod reading;
 mod status;
 #[cfg(test)]
 mod tests;
 mod top;
+mod words;
 
 use sm_io::{FileShelf, OutSink};
+use sm_par::Open;
 use status::Status;
 use std::alloc::Global;
 use std::process::ExitCode;
@@ -39,7 +43,7 @@ fn main(rt: HostRuntime) -> ExitCode {
     };
     let mut shelf = FileShelf::new(&rt);
     let mut out = OutSink::new(&rt);
-    ExitCode::from(safemerge(rt.alloc(), &words, &mut shelf, &mut out) as u8)
+    ExitCode::from(safemerge(&rt, rt.alloc(), &Open, &words, &mut shelf, &mut out) as u8)
 }
 
 // The words that the program was given, without its name.

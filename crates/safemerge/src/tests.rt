@@ -1,8 +1,10 @@
 use crate::status::Status;
 use crate::top::safemerge;
 use sm_io::{MemShelf, MemSink};
+use sm_par::Open;
 use std::alloc::{AllocError, Global};
 use std::test::Fail;
+use std::thread::Threads;
 
 // Two outputs, of which each variant changes one.
 const HEAD: &str =
@@ -16,7 +18,8 @@ const M: &str = "candidate { ?1 { x = q; } ?2 { y = 7; } }";
 
 // Runs the program on words, where the file `t` has the parts of a text one after the other, over a
 // shelf and a sink of which these calls fail.
-fn run_failing(
+fn run_failing<R: Threads + Sync>(
+    rt: &R,
     alloc: Global,
     words: &[&str],
     parts: &[&str],
@@ -40,13 +43,18 @@ fn run_failing(
     if let Some(call) = sink_call {
         out.fail_at(call)?;
     }
-    let status = safemerge(alloc, &given, &mut shelf, &mut out);
+    let status = safemerge(rt, alloc, &Open, &given, &mut shelf, &mut out);
     Ok((status, out))
 }
 
 // The same where no call fails.
-fn run(alloc: Global, words: &[&str], parts: &[&str]) -> Result<(Status, MemSink), Fail> {
-    run_failing(alloc, words, parts, None, None)
+fn run<R: Threads + Sync>(
+    rt: &R,
+    alloc: Global,
+    words: &[&str],
+    parts: &[&str],
+) -> Result<(Status, MemSink), Fail> {
+    run_failing(rt, alloc, words, parts, None, None)
 }
 
 #[test]
@@ -93,7 +101,7 @@ fn answers_by_the_edits(rt: HostRuntime) -> Result<(), Fail> {
         ),
         (A, undeclared, M, Status::Refused, "Refused UnknownName w\n"),
     ] {
-        let (ended, out) = run(rt.alloc(), &["check", "t"], &[HEAD, a, b, candidate])?;
+        let (ended, out) = run(&rt, rt.alloc(), &["check", "t"], &[HEAD, a, b, candidate])?;
         assert_eq!(rt; out.bytes(), text.as_bytes(), "wanted {text}");
         assert_eq!(rt; ended, status, "with {text}");
     }
@@ -154,7 +162,7 @@ fn answers_by_the_text(rt: HostRuntime) -> Result<(), Fail> {
             "Unknown NotBuilt\n",
         ),
     ] {
-        let (ended, out) = run(rt.alloc(), &["check", "t"], &[task])?;
+        let (ended, out) = run(&rt, rt.alloc(), &["check", "t"], &[task])?;
         assert_eq!(rt; out.bytes(), text.as_bytes(), "wanted {text}");
         assert_eq!(rt; ended, status, "with {text}");
     }
@@ -165,20 +173,97 @@ fn answers_by_the_text(rt: HostRuntime) -> Result<(), Fail> {
 fn answers_by_the_words(rt: HostRuntime) -> Result<(), Fail> {
     for (words, status, text) in [
         ([].as_slice(), Status::Usage, "Usage\n"),
+        (["verify", "t"].as_slice(), Status::Usage, "Usage\n"),
+        (["--help"].as_slice(), Status::Usage, "Usage\n"),
         (["check"].as_slice(), Status::Usage, "Usage check\n"),
+        (
+            ["check", "--help"].as_slice(),
+            Status::Usage,
+            "Usage check\n",
+        ),
         (["check", "t"].as_slice(), Status::Accepted, "Accepted\n"),
+        (
+            ["check", "--", "t"].as_slice(),
+            Status::Accepted,
+            "Accepted\n",
+        ),
         (["check", "u"].as_slice(), Status::ReadFault, "ReadFault\n"),
+        (["check", ""].as_slice(), Status::ReadFault, "ReadFault\n"),
         (
             ["check", "t", "t"].as_slice(),
             Status::Usage,
             "Usage check\n",
         ),
-        (["verify", "t"].as_slice(), Status::Usage, "Usage\n"),
-        (["--help"].as_slice(), Status::Usage, "Usage\n"),
+        (["print"].as_slice(), Status::Usage, "Usage print\n"),
+        (["print", "u"].as_slice(), Status::ReadFault, "ReadFault\n"),
+        (
+            ["print", "t", "--turns", "5"].as_slice(),
+            Status::Usage,
+            "Usage print\n",
+        ),
     ] {
-        let (ended, out) = run(rt.alloc(), words, &[HEAD, A, B, M])?;
+        let (ended, out) = run(&rt, rt.alloc(), words, &[HEAD, A, B, M])?;
         assert_eq!(rt; out.bytes(), text.as_bytes(), "wanted {text}");
         assert_eq!(rt; ended, status, "with {text}");
+    }
+    Ok(())
+}
+
+// A task on one line, and its canonical text.
+const ONE_LINE: &str =
+    "var z; output z; shared { ?1; } base { ?1 { z = 0; } } variant_a { ?1 { z = 5; } } variant_b { ?1 { z = 5; } } candidate { ?1 { z = 5; } }";
+
+const CANONICAL: &str =
+    "var z;\noutput z;\nshared {\n  ?1;\n}\nbase {\n  ?1 {\n    z = 0;\n  }\n}\nvariant_a {\n  ?1 {\n    z = 5;\n  }\n}\nvariant_b {\n  ?1 {\n    z = 5;\n  }\n}\ncandidate {\n  ?1 {\n    z = 5;\n  }\n}\n";
+
+#[test]
+fn prints_the_canonical_text(rt: HostRuntime) -> Result<(), Fail> {
+    for (task, status, text) in [
+        (ONE_LINE, Status::Accepted, CANONICAL),
+        (CANONICAL, Status::Accepted, CANONICAL),
+        (
+            "var x; output x; shared { x = x / 2; } base { } variant_a { } variant_b { } candidate { }",
+            Status::Refused,
+            "Refused BadByte 32\n",
+        ),
+    ] {
+        let (ended, out) = run(&rt, rt.alloc(), &["print", "t"], &[task])?;
+        assert_eq!(rt; out.bytes(), text.as_bytes(), "wanted {text}");
+        assert_eq!(rt; ended, status, "with {text}");
+    }
+    Ok(())
+}
+
+#[test]
+fn answers_by_the_options(rt: HostRuntime) -> Result<(), Fail> {
+    for (options, is_taken) in [
+        (["--turns", "1"].as_slice(), true),
+        (["--turns=5"].as_slice(), true),
+        (["--turns", "1000000"].as_slice(), true),
+        (["--turns", "0000000007"].as_slice(), true),
+        (["--workers", "64", "--turns", "7"].as_slice(), true),
+        (["--turns"].as_slice(), false),
+        (["--turns", "0"].as_slice(), false),
+        (["--turns", "1000001"].as_slice(), false),
+        (["--turns", "00000000007"].as_slice(), false),
+        (["--turns", "+5"].as_slice(), false),
+        (["--turns", "5x"].as_slice(), false),
+        (["--turns", ""].as_slice(), false),
+        (["--turns", "-5"].as_slice(), false),
+        (["--turns", "5", "--turns", "5"].as_slice(), false),
+        (["--workers", "0"].as_slice(), false),
+        (["--workers", "65"].as_slice(), false),
+        (["--steps", "5"].as_slice(), false),
+    ] {
+        let mut words = Vec::from_slice(rt.alloc(), ["check", "t"].as_slice())?;
+        words.extend_from_slice(options)?;
+        let (ended, _out) = run(&rt, rt.alloc(), &words, &[HEAD, A, B, M])?;
+        let status = if is_taken {
+            Status::Accepted
+        } else {
+            Status::Usage
+        };
+        assert_eq!(rt; ended, status, "with {options:?}");
     }
     Ok(())
 }
@@ -192,6 +277,7 @@ fn a_fault_is_answered_where_a_call_fails(rt: HostRuntime) -> Result<(), Fail> {
         (2, Status::Accepted, "Accepted\n"),
     ] {
         let (ended, out) = run_failing(
+            &rt,
             rt.alloc(),
             &["check", "t"],
             &[HEAD, A, B, M],
@@ -206,6 +292,7 @@ fn a_fault_is_answered_where_a_call_fails(rt: HostRuntime) -> Result<(), Fail> {
         (1, Status::Accepted, "Accepted\n"),
     ] {
         let (ended, out) = run_failing(
+            &rt,
             rt.alloc(),
             &["check", "t"],
             &[HEAD, A, B, M],
@@ -238,7 +325,7 @@ fn a_file_has_its_greatest_size(rt: HostRuntime) -> Result<(), Fail> {
     ] {
         let task = padded(rt.alloc(), size)?;
         assert_eq!(rt; task.len(), size);
-        let (ended, out) = run(rt.alloc(), &["check", "t"], &[task.as_str()])?;
+        let (ended, out) = run(&rt, rt.alloc(), &["check", "t"], &[task.as_str()])?;
         assert_eq!(rt; ended, status, "at {size}");
         assert_eq!(rt; out.bytes(), text.as_bytes(), "at {size}");
     }

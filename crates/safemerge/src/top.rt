@@ -1,72 +1,70 @@
 // The top call: words, files and standard output.
-ghost use Rattle.std.specs.Prelude.{◌≡◌, ◌≢◌, ◌⊎◌, ◌↔◌, ◌<◌, ◌≤◌, ℕ, List, Some, None, option_map, length, map, codes, IfOk};
+ghost use Rattle.std.specs.Prelude.{◌≡◌, ◌≢◌, ◌⊎◌, ◌↔◌, ◌≤◌, ℕ, List, Some, length, map, IfOk, IfErr, IfSome};
 ghost use Rattle.std.specs.String.{string_bytes};
 ghost use Rattle.sm_io.specs.Causes.{HasCause};
-ghost use Rattle.sm_io.specs.Files.{absent, WhereHeld};
+ghost use Rattle.sm_io.specs.Files.{WhereHeld};
 ghost use Rattle.sm_io.specs.Sinks.{Adds};
-ghost use Rattle.safemerge.specs.Answers.{task_word, usage_line, task_limit, IsSafeMerge, AnswersBytes, Answers, IsOfTask, IsAnswer, HasReadFailed, PutsPart};
+ghost use Rattle.sm_task.specs.Tasks.{parts_of};
+ghost use Rattle.sm_text.specs.Canonical.{task_pieces};
+ghost use Rattle.sm_text.specs.Named.{HasText};
+ghost use Rattle.sm_text.specs.Pieces.{text_of};
+ghost use Rattle.safemerge.specs.Answers.{Answers, AnswersAsked, Checks, Prints, IsAnswer, IsSafeMerge, PutsPart};
+ghost use Rattle.safemerge.specs.Reading.{Says};
+ghost use Rattle.safemerge.specs.Requests.{asked_in};
+ghost use Rattle.safemerge.specs.Stops.{Stops};
+ghost use Rattle.safemerge.specs.Words.{asked, check, usage_line, IsUsage};
 
-use crate::answer::answer;
-use crate::lines::line;
+use crate::check::check;
+use crate::reading::{Stop, task_in};
 use crate::status::{Reply, Status};
-use sm_io::{IoError, ReadError, Shelf, Sink, put_all, read_all};
+use crate::words::{Request, WordsError, read_words, usage_line};
+use sm_io::{IoError, Shelf, Sink, put_all};
+use sm_par::Gate;
+use sm_task::{Task, print_task};
 use std::alloc::{AllocError, Global};
-
-/// How many bytes the file of a task may have.
-const TASK_LIMIT: u64 = 1048576;
+use std::thread::Threads;
 
 /// What the program does with its words, which come without its name. It reads from `shelf` alone,
-/// and prints to `out` alone.
-pub fn safemerge<H: Shelf, K: Sink>(
+/// and prints to `out` alone. Jobs run in threads of `rt`, and enter `gate` before they run.
+pub fn safemerge<R: Threads + Sync, G: Gate, H: Shelf, K: Sink>(
+    rt: &R,
     alloc: Global,
+    gate: &G,
     words: &[String],
     shelf: &mut H,
     out: &mut K,
 ) -> Status
-    // Accepted says that the file's bytes spell a task that is free of conflicts.
-    ensures accepted { result ≡ Status.Accepted → (task : List ℕ)
-        × (task_word (map string_bytes words.now) ≡ Some task)
-        × WhereHeld (H.file shelf.old task) IsSafeMerge
-        × Adds (K.taken out.old) (K.taken out.new) (codes "Accepted\n") }
-    ensures held { IsOfTask result → (task : List ℕ) →
-        task_word (map string_bytes words.now) ≡ Some task → H.file shelf.old task ≢ absent }
+    // Where `check` accepts, the file's bytes spell a task that is free of conflicts.
+    ensures accepted { result ≡ Status.Accepted → (task : List ℕ) (turns workers : ℕ) →
+        asked (map string_bytes words.now) ≡ Some (check task turns workers) →
+        WhereHeld (H.file shelf.old task) IsSafeMerge }
 
-    // What is printed is the answer, and a file that the shelf tells is answered by its bytes.
+    // What is printed is the answer, whole.
     ensures answers { IsAnswer result → (text : List ℕ)
-        × Answers (map string_bytes words.now) (H.file shelf.old) result text
+        × Answers (map string_bytes words.now) (H.file shelf.old)
+        (H.read_faults shelf.old) (H.read_faults shelf.new) result text
         × Adds (K.taken out.old) (K.taken out.new) text }
     ensures usage { IsAnswer result →
-        (result ≡ Status.Usage) ↔ (task_word (map string_bytes words.now) ≡ None) }
-    ensures complete { IsAnswer result → result ≢ Status.ReadFault → (task : List ℕ) →
-        task_word (map string_bytes words.now) ≡ Some task →
-        WhereHeld (H.file shelf.old task) (λ bytes. length bytes ≤ task_limit →
-        (text : List ℕ) × AnswersBytes bytes result text
-        × Adds (K.taken out.old) (K.taken out.new) text) }
-    ensures too_long { IsAnswer result → result ≢ Status.ReadFault → (task : List ℕ) →
-        task_word (map string_bytes words.now) ≡ Some task →
-        WhereHeld (H.file shelf.old task) (λ bytes. task_limit < length bytes →
-        (result ≡ Status.Refused)
-        × Adds (K.taken out.old) (K.taken out.new) (codes "TooLong task\n")) }
-
-    // Each fault has its cause.
-    ensures read_fault { result ≡ Status.ReadFault →
-        HasReadFailed (map string_bytes words.now) (H.file shelf.old)
-        (H.read_faults shelf.old) (H.read_faults shelf.new) }
+        (result ≡ Status.Usage) ↔ IsUsage (map string_bytes words.now) }
     ensures read_quiet { IsAnswer result → result ≢ Status.ReadFault →
         H.read_faults shelf.new ≡ H.read_faults shelf.old }
+
+    // A fault of the output has its cause, and what was put before it is from the answer's front.
     ensures sink { HasCause (K.faults out.old) (K.faults out.new) (result ≡ Status.SinkFault) }
     ensures cut { result ≡ Status.SinkFault →
-        PutsPart (map string_bytes words.now) (H.file shelf.old)
+        PutsPart (Answers (map string_bytes words.now) (H.file shelf.old)
+        (H.read_faults shelf.old) (H.read_faults shelf.new))
         (K.taken out.old) (K.taken out.new) }
     ensures memory { result ≡ Status.Memory → (K.taken out.new ≡ K.taken out.old)
-        ⊎ PutsPart (map string_bytes words.now) (H.file shelf.old)
+        ⊎ PutsPart (Answers (map string_bytes words.now) (H.file shelf.old)
+        (H.read_faults shelf.old) (H.read_faults shelf.new))
         (K.taken out.old) (K.taken out.new) }
 
     // No file changes.
     ensures same { (name : List ℕ) → H.file shelf.new name ≡ H.file shelf.old name }
     ensures writes { H.write_faults shelf.new ≡ H.write_faults shelf.old }
 {
-    let Ok(reply) = reply_to(alloc, words, shelf) else {
+    let Some(reply) = reply_to(rt, alloc, gate, words, shelf) else {
         return Status::Memory;
     };
     match put_all(out, &reply.text) {
@@ -76,63 +74,115 @@ pub fn safemerge<H: Shelf, K: Sink>(
     }
 }
 
-// The answer to the words.
-fn reply_to<H: Shelf>(alloc: Global, words: &[String], shelf: &mut H) -> Result<Reply, AllocError>
-    ensures answers { IfOk result (λ r.
-        Answers (map string_bytes words.now) (H.file shelf.old) r.status r.text.items) }
-    ensures held { IfOk result (λ r. IsOfTask r.status → (task : List ℕ) →
-        task_word (map string_bytes words.now) ≡ Some task → H.file shelf.old task ≢ absent) }
-    ensures read_fault { IfOk result (λ r. r.status ≡ Status.ReadFault →
-        HasReadFailed (map string_bytes words.now) (H.file shelf.old)
-        (H.read_faults shelf.old) (H.read_faults shelf.new)) }
-    ensures read_quiet { IfOk result (λ r. r.status ≢ Status.ReadFault →
-        H.read_faults shelf.new ≡ H.read_faults shelf.old) }
+// The answer to the words; none for want of memory.
+fn reply_to<R: Threads + Sync, G: Gate, H: Shelf>(
+    rt: &R,
+    alloc: Global,
+    gate: &G,
+    words: &[String],
+    shelf: &mut H,
+) -> Option<Reply>
+    ensures answers { IfSome result (λ r. Answers (map string_bytes words.now) (H.file shelf.old)
+        (H.read_faults shelf.old) (H.read_faults shelf.new) r.status r.text.items) }
     ensures same { (name : List ℕ) → H.file shelf.new name ≡ H.file shelf.old name }
     ensures writes { H.write_faults shelf.new ≡ H.write_faults shelf.old }
 {
-    let Some(task) = task_word(words) else {
-        let text = usage_line(alloc, words)?;
-        return Ok(Reply {
-            status: Status::Usage,
-            text,
-        });
-    };
-    match read_all(alloc, shelf, task, TASK_LIMIT) {
-        Ok(bytes) => answer(alloc, &bytes),
-        Err(ReadError::Memory) => Err(AllocError),
-        Err(ReadError::TooLong) => {
-            let text = line(alloc, "TooLong", &["task"])?;
-            Ok(Reply {
-                status: Status::Refused,
-                text,
-            })
-        }
-        Err(ReadError::Fault) => {
-            let text = line(alloc, "ReadFault", &[])?;
-            Ok(Reply {
-                status: Status::ReadFault,
-                text,
-            })
-        }
+    match answer(rt, alloc, gate, words, shelf) {
+        Ok(reply) => Some(reply),
+        Err(Stop::Answer(reply)) => Some(reply),
+        Err(Stop::Memory) => None,
     }
 }
 
-// The task's file, where the words are `check` and that file.
-fn task_word(words: &[String]) -> Option<&str>
-    ensures { option_map (λ task. task.now) result ≡ task_word (map string_bytes words.now) }
+// The answer to the words, as what the commands come to or where they stop.
+fn answer<R: Threads + Sync, G: Gate, H: Shelf>(
+    rt: &R,
+    alloc: Global,
+    gate: &G,
+    words: &[String],
+    shelf: &mut H,
+) -> Result<Reply, Stop>
+    ensures ok { IfOk result (λ r. Answers (map string_bytes words.now) (H.file shelf.old)
+        (H.read_faults shelf.old) (H.read_faults shelf.new) r.status r.text.items) }
+    ensures stop { IfErr result (Stops (Answers (map string_bytes words.now) (H.file shelf.old)
+        (H.read_faults shelf.old) (H.read_faults shelf.new))) }
+    ensures same { (name : List ℕ) → H.file shelf.new name ≡ H.file shelf.old name }
+    ensures writes { H.write_faults shelf.new ≡ H.write_faults shelf.old }
 {
-    match words {
-        [command, task] if command.as_str() == "check" => Some(task.as_str()),
-        _ => None,
+    match read_words(alloc, words) {
+        Ok(request) => answer_to(rt, alloc, gate, request, shelf),
+        Err(WordsError::Usage) => Ok(usage(alloc, words)?),
+        Err(WordsError::Memory) => Err(Stop::Memory),
     }
 }
 
-// The line on words that no command takes.
-fn usage_line(alloc: Global, words: &[String]) -> Result<Vec<u8>, AllocError>
-    ensures { IfOk result (λ text. text.items ≡ usage_line (map string_bytes words.now)) }
+// The answer to words that no command takes.
+fn usage(alloc: Global, words: &[String]) -> Result<Reply, AllocError>
+    ensures { IfOk result (λ r. Says Status.Usage (usage_line (map string_bytes words.now)) r.status r.text.items) }
 {
-    match words {
-        [command, ..] if command.as_str() == "check" => line(alloc, "Usage", &["check"]),
-        _ => line(alloc, "Usage", &[]),
+    let text = usage_line(alloc, words)?;
+    Ok(Reply {
+        status: Status::Usage,
+        text,
+    })
+}
+
+// The answer to what the words ask for.
+fn answer_to<R: Threads + Sync, G: Gate, H: Shelf>(
+    _rt: &R,
+    alloc: Global,
+    _gate: &G,
+    request: Request<'_>,
+    shelf: &mut H,
+) -> Result<Reply, Stop>
+    ensures ok { IfOk result (λ r. AnswersAsked (asked_in request.entry) (H.file shelf.old)
+        (H.read_faults shelf.old) (H.read_faults shelf.new) r.status r.text.items) }
+    ensures stop { IfErr result (Stops (AnswersAsked (asked_in request.entry) (H.file shelf.old)
+        (H.read_faults shelf.old) (H.read_faults shelf.new))) }
+    ensures same { (name : List ℕ) → H.file shelf.new name ≡ H.file shelf.old name }
+    ensures writes { H.write_faults shelf.new ≡ H.write_faults shelf.old }
+{
+    match request {
+        Request::Check { task, turns, .. } => check_in(alloc, shelf, task, turns),
+        Request::Print { task } => print_in(alloc, shelf, task),
     }
+}
+
+// The answer of `check` to a task's file.
+fn check_in<H: Shelf>(alloc: Global, shelf: &mut H, name: &str, turns: u64) -> Result<Reply, Stop>
+    ensures ok { IfOk result (λ r. Checks (H.file shelf.old name.now) turns
+        (H.read_faults shelf.old) (H.read_faults shelf.new) r.status r.text.items) }
+    ensures stop { IfErr result (Stops (Checks (H.file shelf.old name.now) turns
+        (H.read_faults shelf.old) (H.read_faults shelf.new))) }
+    ensures same { (other : List ℕ) → H.file shelf.new other ≡ H.file shelf.old other }
+    ensures writes { H.write_faults shelf.new ≡ H.write_faults shelf.old }
+{
+    let task = task_in(alloc, shelf, name)?;
+    Ok(check(alloc, &task, turns)?)
+}
+
+// The answer of `print` to a task's file.
+fn print_in<H: Shelf>(alloc: Global, shelf: &mut H, name: &str) -> Result<Reply, Stop>
+    ensures ok { IfOk result (λ r. Prints (H.file shelf.old name.now)
+        (H.read_faults shelf.old) (H.read_faults shelf.new) r.status r.text.items) }
+    ensures stop { IfErr result (Stops (Prints (H.file shelf.old name.now)
+        (H.read_faults shelf.old) (H.read_faults shelf.new))) }
+    ensures same { (other : List ℕ) → H.file shelf.new other ≡ H.file shelf.old other }
+    ensures writes { H.write_faults shelf.new ≡ H.write_faults shelf.old }
+{
+    let task = task_in(alloc, shelf, name)?;
+    Ok(print(alloc, &task)?)
+}
+
+// The canonical text of a task, as an answer.
+fn print(alloc: Global, task: &Task) -> Result<Reply, AllocError>
+    requires { HasText (parts_of task.now) }
+    ensures { let t = parts_of task.now in
+        IfOk result (λ r. Says Status.Accepted (text_of t.names (task_pieces t)) r.status r.text.items) }
+{
+    let text = print_task(alloc, task)?;
+    Ok(Reply {
+        status: Status::Accepted,
+        text,
+    })
 }
