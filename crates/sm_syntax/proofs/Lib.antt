@@ -1,6 +1,7 @@
 pub mod Statements
 pub mod Appends
 pub mod Blocks
+pub mod Matching
 pub mod Puts
 pub mod Turns
 pub mod Unassigned

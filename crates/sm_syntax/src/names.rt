@@ -1,5 +1,5 @@
 // The table of names.
-ghost use Rattle.std.specs.Prelude.{◌≡◌, ◌<◌, ◌-◌, ◌^◌, length, is_some, slice_get, Some, [], List, ℕ, IfOk, IfSome, OnOk, OnErr};
+ghost use Rattle.std.specs.Prelude.{◌≡◌, ◌<◌, ◌-◌, ◌^◌, length, is_some, slice_get, take, Some, [], List, ℕ, IfOk, IfSome, OnOk, OnErr};
 ghost use Rattle.std.specs.List.{position_or_len};
 ghost use Rattle.std.specs.Str.{bytes_eq};
 ghost use Rattle.sm_syntax.specs.Symbols.{is_among, with_text};
@@ -78,6 +78,13 @@ impl NameTable {
         self.texts.len()
     }
 
+    /// Leaves the first `len` names, as a table was before later ones were added.
+    pub fn cut(&mut self, len: usize)
+        ensures { self.new ≡ take len self.old }
+    {
+        self.texts.truncate(len);
+    }
+
     /// A table of the same names, each with the number that it has here.
     pub fn copy(&self, alloc: Global) -> Result<NameTable, AllocError>
         ensures { IfOk result (λ t. t ≡ self.now) }
@@ -107,6 +114,10 @@ mod tests {
         assert_eq!(rt; copy.text(Name(1)), "y");
         assert_eq!(rt; copy.find("_"), Some(Name(2)));
         assert_eq!(rt; copy.find("z"), None);
+        table.cut(1);
+        assert_eq!(rt; table.len(), 1);
+        assert_eq!(rt; table.find("y"), None);
+        assert_eq!(rt; table.add("_")?.0, 1);
         Ok(())
     }
 }

@@ -1,0 +1,8 @@
+use Rattle.std.proofs.Common.{sym, ap, ◌∙◌, take, map}
+use Rattle.std.proofs.lemmas.List.{take-map}
+use Rattle.std.specs.String.{string_bytes}
+use Rattle.sm_syntax.proofs.names.NameTable.cut.Goals as goal
+
+-- the texts of the keys that stay
+pub returns : goal.returns
+returns c = ap (map string_bytes) c.truncate.ensures.keys ∙ sym (take-map string_bytes c.args.len c.self.inside.texts.keys) ∙ ap (take c.args.len) c.self.view_is
