@@ -1,6 +1,7 @@
 //! Runs of programs inside 128 bits.
 //!
-//! - A `Store` has the value of each declared name. An array may have any number of cells.
+//! - A `Store` has the value and the sort of each declared name. An array may have any number of
+//!   cells.
 //! - `value` and `truth` give the exact value, or the first operation whose exact result leaves 128 bits.
 //! - `run` gives the end store, or the first event: such an operation, or a loop that takes too many turns.
 //! - `calm_ends` is the law that code without an event has an end, and `well_formed_may_run` that what is well formed

@@ -38,6 +38,17 @@ impl Slot {
         }
     }
 
+    /// The sort of the name, None where it isn't declared.
+    pub fn sort(&self) -> Option<Sort>
+        ensures { result ≡ sort self.now }
+    {
+        match self {
+            Slot::Absent => None,
+            Slot::Number(_) => Some(Sort::Num),
+            Slot::Array(_) => Some(Sort::Arr),
+        }
+    }
+
     /// Whether the name isn't declared.
     pub fn is_absent(&self) -> bool
         ensures { result ≡ is_none (sort self.now) }

@@ -47,6 +47,16 @@ impl Store {
         Ok(Store { slots })
     }
 
+    /// The sort of a name, None where it isn't declared. It takes the same time for each name.
+    pub fn sort(&self, x: Name) -> Option<Sort>
+        ensures { result ≡ sorts_of self.now x.0 }
+    {
+        match self.slots.get(x.0 as usize) {
+            Some(slot) => slot.sort(),
+            None => None,
+        }
+    }
+
     /// The number of a number variable.
     pub fn number(&self, x: Name) -> i128
         requires { sorts_of self.now x.0 ≡ Some Sort.Num }

@@ -145,6 +145,10 @@ fn either(alloc: Global, left: Cond) -> Result<Cond, AllocError> {
 fn cells_stand_in_order_and_none_has_0(rt: HostRuntime) -> Result<(), Fail> {
     let alloc = rt.alloc();
     let mut s = zero(alloc, &decls(alloc)?)?;
+    assert_eq!(rt;
+        [s.sort(X), s.sort(A), s.sort(Name(2))],
+        [Some(Sort::Num), Some(Sort::Arr), None]
+    );
     assert_eq!(rt; s.number(X), 0);
     s.set(X, -12);
     for (i, z) in [(5, 1), (-3, 2), (5, 0), (7, 9), (-3, 4), (6, 0)] {
