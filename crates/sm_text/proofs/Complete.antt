@@ -11,12 +11,8 @@ use Rattle.sm_syntax.specs.Grammar.{Marked, plain, word, opens, joins}
 use Rattle.sm_text.specs.declared.reading.Fault.{Fault}
 use Rattle.sm_text.specs.declared.reading.FaultKind.TheVariants.{Nested}
 use Rattle.sm_text.specs.Parsers.{first, fault, Parser, go_on, ◌>>◌, pure, expect, inside, grouped, Operators, chain_in, gather}
+use Rattle.sm_text.specs.Places.{unmarked}
 use Rattle.sm_text.proofs.Gathered.{gather-turn, gather-fault}
-
--- the symbols, without their marks
-abbrev pub symbols : List Marked → List Symbol
-symbols [] = []
-symbols (t ∷ us) = t.0 ∷ symbols us
 
 -- a refusal at a symbol that nests too deep, or else what comes behind it
 abbrev pub past : {T : Type 0} → Bool → List Symbol → Result T Fault → Result T Fault
@@ -26,15 +22,15 @@ past false ts a = a
 -- the answer where `z` follows the symbols: a refusal at the first that nests too deep, or else what comes behind them
 abbrev pub reach : {T : Type 0} → List Marked → List Symbol → Result T Fault → Result T Fault
 reach [] z a = a
-reach (t ∷ us) z a = past t.1 (t.0 ∷ (symbols us ++ z)) (reach us z a)
+reach (t ∷ us) z a = past t.1 (t.0 ∷ (unmarked us ++ z)) (reach us z a)
 
-pub symbols-append : (us vs : List Marked) (z : List Symbol) → symbols (us ++ vs) ++ z ≡ symbols us ++ (symbols vs ++ z)
-symbols-append [] vs z = refl
-symbols-append (t ∷ us) vs z = ap (λ (l : List Symbol). t.0 ∷ l) (symbols-append us vs z)
+pub unmarked-append-behind : (us vs : List Marked) (z : List Symbol) → unmarked (us ++ vs) ++ z ≡ unmarked us ++ (unmarked vs ++ z)
+unmarked-append-behind [] vs z = refl
+unmarked-append-behind (t ∷ us) vs z = ap (λ (l : List Symbol). t.0 ∷ l) (unmarked-append-behind us vs z)
 
-pub reach-append : {T : Type 0} (us vs : List Marked) (z : List Symbol) (a : Result T Fault) → reach (us ++ vs) z a ≡ reach us (symbols vs ++ z) (reach vs z a)
+pub reach-append : {T : Type 0} (us vs : List Marked) (z : List Symbol) (a : Result T Fault) → reach (us ++ vs) z a ≡ reach us (unmarked vs ++ z) (reach vs z a)
 reach-append [] vs z a = refl
-reach-append (t ∷ us) vs z a = ap (λ (l : List Symbol). past t.1 (t.0 ∷ l) (reach (us ++ vs) z a)) (symbols-append us vs z) ∙ ap (past t.1 (t.0 ∷ (symbols us ++ (symbols vs ++ z)))) (reach-append us vs z a)
+reach-append (t ∷ us) vs z a = ap (λ (l : List Symbol). past t.1 (t.0 ∷ l) (reach (us ++ vs) z a)) (unmarked-append-behind us vs z) ∙ ap (past t.1 (t.0 ∷ (unmarked us ++ (unmarked vs ++ z)))) (reach-append us vs z a)
 
 past-go_on : {T U : Type 0} (deep : Bool) (ts : List Symbol) (a : Result (T × List Symbol) Fault) (next : T → Parser U) → go_on (past deep ts a) next ≡ past deep ts (go_on a next)
 past-go_on true ts a next = refl
@@ -43,7 +39,7 @@ past-go_on false ts a next = refl
 -- a parser that goes on behind the symbols
 pub reach-go_on : {T U : Type 0} (us : List Marked) (z : List Symbol) (a : Result (T × List Symbol) Fault) (next : T → Parser U) → go_on (reach us z a) next ≡ reach us z (go_on a next)
 reach-go_on [] z a next = refl
-reach-go_on (t ∷ us) z a next = past-go_on t.1 (t.0 ∷ (symbols us ++ z)) (reach us z a) next ∙ ap (past t.1 (t.0 ∷ (symbols us ++ z))) (reach-go_on us z a next)
+reach-go_on (t ∷ us) z a next = past-go_on t.1 (t.0 ∷ (unmarked us ++ z)) (reach us z a) next ∙ ap (past t.1 (t.0 ∷ (unmarked us ++ z))) (reach-go_on us z a next)
 
 -- one parser behind two others
 pub go_on-go_on : {T U V : Type 0} (a : Result (T × List Symbol) Fault) (f : T → Parser U) (next : U → Parser V) → go_on (go_on a f) next ≡ go_on a (λ x ts. go_on (f x ts) next)
@@ -55,12 +51,12 @@ go_on-pure (Ok r) = refl
 go_on-pure (Err e) = refl
 
 -- a parser reads the first of two lists, and another goes on
-pub next : {T U : Type 0} (p : Parser T) (us vs : List Marked) (z : List Symbol) (one : Result (T × List Symbol) Fault) (more : T → Parser U) (a : Result (U × List Symbol) Fault) → p (symbols us ++ (symbols vs ++ z)) ≡ reach us (symbols vs ++ z) one → go_on one more ≡ reach vs z a → go_on (p (symbols (us ++ vs) ++ z)) more ≡ reach (us ++ vs) z a
+pub next : {T U : Type 0} (p : Parser T) (us vs : List Marked) (z : List Symbol) (one : Result (T × List Symbol) Fault) (more : T → Parser U) (a : Result (U × List Symbol) Fault) → p (unmarked us ++ (unmarked vs ++ z)) ≡ reach us (unmarked vs ++ z) one → go_on one more ≡ reach vs z a → go_on (p (unmarked (us ++ vs) ++ z)) more ≡ reach (us ++ vs) z a
 next {T} {U} p us vs z one more a e f =
-    ap (λ (l : List Symbol). go_on (p l) more) (symbols-append us vs z)
+    ap (λ (l : List Symbol). go_on (p l) more) (unmarked-append-behind us vs z)
     ∙ ap (λ (b : Result (T × List Symbol) Fault). go_on b more) e
-    ∙ reach-go_on us (symbols vs ++ z) one more
-    ∙ ap (reach us (symbols vs ++ z)) f
+    ∙ reach-go_on us (unmarked vs ++ z) one more
+    ∙ ap (reach us (unmarked vs ++ z)) f
     ∙ sym (reach-append us vs z a)
 
 same_mark : (m : Mark) → sameb the_type m m ≡ true
@@ -72,33 +68,33 @@ unfolding expect
 expected m ts = rw (same_mark m) refl
 
 -- what is read up to a mark that has to stand behind it, and what goes on then
-pub ended : {T V U : Type 0} (p : Parser T) (m : Mark) (make : T → V) (ts us : List Marked) (x : T) (z : List Symbol) (more : V → Parser U) (a : Result (U × List Symbol) Fault) → ((y : List Symbol) → p (symbols ts ++ s.Mark m ∷ y) ≡ reach ts (s.Mark m ∷ y) (Ok (x, s.Mark m ∷ y))) → more (make x) (symbols us ++ z) ≡ reach us z a → go_on (go_on (p (symbols (ts ++ word m ∷ us) ++ z)) (λ (v : T). expect m >> pure (make v))) more ≡ reach (ts ++ word m ∷ us) z a
+pub ended : {T V U : Type 0} (p : Parser T) (m : Mark) (make : T → V) (ts us : List Marked) (x : T) (z : List Symbol) (more : V → Parser U) (a : Result (U × List Symbol) Fault) → ((y : List Symbol) → p (unmarked ts ++ s.Mark m ∷ y) ≡ reach ts (s.Mark m ∷ y) (Ok (x, s.Mark m ∷ y))) → more (make x) (unmarked us ++ z) ≡ reach us z a → go_on (go_on (p (unmarked (ts ++ word m ∷ us) ++ z)) (λ (v : T). expect m >> pure (make v))) more ≡ reach (ts ++ word m ∷ us) z a
 ended {T} {V} {U} p m make ts us x z more a read e =
-    go_on-go_on (p (symbols (ts ++ word m ∷ us) ++ z)) (λ (v : T). expect m >> pure (make v)) more
-    ∙ next p ts (word m ∷ us) z (Ok (x, s.Mark m ∷ (symbols us ++ z))) (λ (v : T) (l : List Symbol). go_on ((expect m >> pure (make v)) l) more) a (read (symbols us ++ z)) closed
+    go_on-go_on (p (unmarked (ts ++ word m ∷ us) ++ z)) (λ (v : T). expect m >> pure (make v)) more
+    ∙ next p ts (word m ∷ us) z (Ok (x, s.Mark m ∷ (unmarked us ++ z))) (λ (v : T) (l : List Symbol). go_on ((expect m >> pure (make v)) l) more) a (read (unmarked us ++ z)) closed
   where
-    closed : go_on (go_on (expect m (s.Mark m ∷ (symbols us ++ z))) (λ (u : Unit {0}). pure (make x))) more ≡ reach us z a
-    closed = ap (λ (b : Result (Unit {0} × List Symbol) Fault). go_on (go_on b (λ (u : Unit {0}). pure (make x))) more) (expected m (symbols us ++ z)) ∙ e
+    closed : go_on (go_on (expect m (s.Mark m ∷ (unmarked us ++ z))) (λ (u : Unit {0}). pure (make x))) more ≡ reach us z a
+    closed = ap (λ (b : Result (Unit {0} × List Symbol) Fault). go_on (go_on b (λ (u : Unit {0}). pure (make x))) more) (expected m (unmarked us ++ z)) ∙ e
 
 -- the rule inside a group reads what stands there, or else no more groups may be opened
 abbrev pub Opened : {T : Type 0} → Option (Parser T) → ℕ → List Marked → T → Mark → Type 0
 Opened None d ts x close = nat_le 64 d ≡ true
-Opened (Some p) d ts x close = (nat_le 64 d ≡ false) × ((z : List Symbol) → p (symbols ts ++ s.Mark close ∷ z) ≡ reach ts (s.Mark close ∷ z) (Ok (x, s.Mark close ∷ z)))
+Opened (Some p) d ts x close = (nat_le 64 d ≡ false) × ((z : List Symbol) → p (unmarked ts ++ s.Mark close ∷ z) ≡ reach ts (s.Mark close ∷ z) (Ok (x, s.Mark close ∷ z)))
 
 -- a group, and what goes on behind it
-pub inside-then : {T U : Type 0} (deeper : Option (Parser T)) (d : ℕ) (begin close : Mark) (ts us : List Marked) (x : T) (z : List Symbol) (more : T → Parser U) (a : Result (U × List Symbol) Fault) → Opened deeper d ts x close → more x (symbols us ++ z) ≡ reach us z a → go_on (inside deeper close (s.Mark begin ∷ (symbols (ts ++ word close ∷ us) ++ z))) more ≡ reach (opens begin d ∷ (ts ++ word close ∷ us)) z a
-inside-then None d begin close ts us x z more a deep e = ap (λ (b : Bool). past b (s.Mark begin ∷ (symbols (ts ++ word close ∷ us) ++ z)) (reach (ts ++ word close ∷ us) z a)) (sym deep)
+pub inside-then : {T U : Type 0} (deeper : Option (Parser T)) (d : ℕ) (begin close : Mark) (ts us : List Marked) (x : T) (z : List Symbol) (more : T → Parser U) (a : Result (U × List Symbol) Fault) → Opened deeper d ts x close → more x (unmarked us ++ z) ≡ reach us z a → go_on (inside deeper close (s.Mark begin ∷ (unmarked (ts ++ word close ∷ us) ++ z))) more ≡ reach (opens begin d ∷ (ts ++ word close ∷ us)) z a
+inside-then None d begin close ts us x z more a deep e = ap (λ (b : Bool). past b (s.Mark begin ∷ (unmarked (ts ++ word close ∷ us) ++ z)) (reach (ts ++ word close ∷ us) z a)) (sym deep)
 inside-then (Some p) d begin close ts us x z more a o e =
     ended p close (λ y. y) ts us x z more a o.1 e
-    ∙ ap (λ (b : Bool). past b (s.Mark begin ∷ (symbols (ts ++ word close ∷ us) ++ z)) (reach (ts ++ word close ∷ us) z a)) (sym o.0)
+    ∙ ap (λ (b : Bool). past b (s.Mark begin ∷ (unmarked (ts ++ word close ∷ us) ++ z)) (reach (ts ++ word close ∷ us) z a)) (sym o.0)
 
 pub grouped-inside : {T : Type 0} (begin close : Mark) (deeper : Option (Parser T)) (ts : List Symbol) → grouped begin close deeper (s.Mark begin ∷ ts) ≡ inside deeper close (s.Mark begin ∷ ts)
 unfolding grouped
 grouped-inside begin close deeper ts = rw (same_mark begin) refl
 
 -- the same where the group's first sign has to stand there
-pub grouped-then : {T U : Type 0} (deeper : Option (Parser T)) (d : ℕ) (begin close : Mark) (ts us : List Marked) (x : T) (z : List Symbol) (more : T → Parser U) (a : Result (U × List Symbol) Fault) → Opened deeper d ts x close → more x (symbols us ++ z) ≡ reach us z a → go_on (grouped begin close deeper (s.Mark begin ∷ (symbols (ts ++ word close ∷ us) ++ z))) more ≡ reach (opens begin d ∷ (ts ++ word close ∷ us)) z a
-grouped-then {T} deeper d begin close ts us x z more a o e = ap (λ (b : Result (T × List Symbol) Fault). go_on b more) (grouped-inside begin close deeper (symbols (ts ++ word close ∷ us) ++ z)) ∙ inside-then deeper d begin close ts us x z more a o e
+pub grouped-then : {T U : Type 0} (deeper : Option (Parser T)) (d : ℕ) (begin close : Mark) (ts us : List Marked) (x : T) (z : List Symbol) (more : T → Parser U) (a : Result (U × List Symbol) Fault) → Opened deeper d ts x close → more x (unmarked us ++ z) ≡ reach us z a → go_on (grouped begin close deeper (s.Mark begin ∷ (unmarked (ts ++ word close ∷ us) ++ z))) more ≡ reach (opens begin d ∷ (ts ++ word close ∷ us)) z a
+grouped-then {T} deeper d begin close ts us x z more a o e = ap (λ (b : Result (T × List Symbol) Fault). go_on b more) (grouped-inside begin close deeper (unmarked (ts ++ word close ∷ us) ++ z)) ∙ inside-then deeper d begin close ts us x z more a o e
 
 -- a mark that has to stand there, and what goes on behind it
 pub expect-then : {U : Type 0} (m : Mark) (ts : List Symbol) (more : Unit {0} → Parser U) → go_on (expect m (s.Mark m ∷ ts)) more ≡ more tt ts
@@ -117,10 +113,10 @@ unfolding room
 room-some k e = grind (arith, nat_tests)
 
 -- an operator and what stands behind it
-pub chain-joins : {T : Type 0} (operators : Operators T) (operand : Parser T) (sign : Mark) (make : T → T → T) (k : ℕ) (left : T) (us : List Marked) (z : List Symbol) (one a : Result (T × List Symbol) Fault) → operators (Some (s.Mark sign)) ≡ Some make → operand (symbols us ++ z) ≡ reach us z one → go_on one (λ (right : T). chain_in operators operand (room (suc k)) (make left right)) ≡ a → chain_in operators operand (room k) left (s.Mark sign ∷ (symbols us ++ z)) ≡ reach (joins sign k ∷ us) z a
+pub chain-joins : {T : Type 0} (operators : Operators T) (operand : Parser T) (sign : Mark) (make : T → T → T) (k : ℕ) (left : T) (us : List Marked) (z : List Symbol) (one a : Result (T × List Symbol) Fault) → operators (Some (s.Mark sign)) ≡ Some make → operand (unmarked us ++ z) ≡ reach us z one → go_on one (λ (right : T). chain_in operators operand (room (suc k)) (make left right)) ≡ a → chain_in operators operand (room k) left (s.Mark sign ∷ (unmarked us ++ z)) ≡ reach (joins sign k ∷ us) z a
 chain-joins {T} operators operand sign make k left us z one a o e f = by (nat_le 63 k) refl
   where
-    by : (deep : Bool) → nat_le 63 k ≡ deep → chain_in operators operand (room k) left (s.Mark sign ∷ (symbols us ++ z)) ≡ past deep (s.Mark sign ∷ (symbols us ++ z)) (reach us z a)
+    by : (deep : Bool) → nat_le 63 k ≡ deep → chain_in operators operand (room k) left (s.Mark sign ∷ (unmarked us ++ z)) ≡ past deep (s.Mark sign ∷ (unmarked us ++ z)) (reach us z a)
     by true full = rw (room-none k full, o) refl
     by false some = rw (room-some k some, o) (ap (λ (b : Result (T × List Symbol) Fault). go_on b (λ (right : T). chain_in operators operand (room (suc k)) (make left right))) e ∙ reach-go_on us z one (λ (right : T). chain_in operators operand (room (suc k)) (make left right)) ∙ ap (reach us z) f)
 
@@ -133,22 +129,22 @@ gather-step {T} begins one put shrinks before ts b = by (one ts) refl
     by (Err f) e = gather-fault begins one put before ts f b e
 
 -- a list in two parts: what is read of the first comes to the second
-pub both-reach : {T : Type 0} (p : Parser T) (us vs : List Marked) (z : List Symbol) (one a : Result (T × List Symbol) Fault) → p (symbols us ++ (symbols vs ++ z)) ≡ reach us (symbols vs ++ z) one → one ≡ reach vs z a → p (symbols (us ++ vs) ++ z) ≡ reach (us ++ vs) z a
-both-reach p us vs z one a e f = ap p (symbols-append us vs z) ∙ e ∙ ap (reach us (symbols vs ++ z)) f ∙ sym (reach-append us vs z a)
+pub both-reach : {T : Type 0} (p : Parser T) (us vs : List Marked) (z : List Symbol) (one a : Result (T × List Symbol) Fault) → p (unmarked us ++ (unmarked vs ++ z)) ≡ reach us (unmarked vs ++ z) one → one ≡ reach vs z a → p (unmarked (us ++ vs) ++ z) ≡ reach (us ++ vs) z a
+both-reach p us vs z one a e f = ap p (unmarked-append-behind us vs z) ∙ e ∙ ap (reach us (unmarked vs ++ z)) f ∙ sym (reach-append us vs z a)
 
 -- what is read, and what goes on behind it
 pub reads-then : {T U : Type 0} (ts : List Marked) (z : List Symbol) {b : Result (T × List Symbol) Fault} (one : Result (T × List Symbol) Fault) (more : T → Parser U) → b ≡ reach ts z one → go_on b more ≡ reach ts z (go_on one more)
 reads-then {T} ts z one more e = ap (λ (c : Result (T × List Symbol) Fault). go_on c more) e ∙ reach-go_on ts z one more
 
 -- one parser behind another, and what goes on behind both
-pub bind-then : {T V U : Type 0} (p : Parser T) (us vs : List Marked) (z : List Symbol) (x : T) (rule : T → Parser V) (more : V → Parser U) (a : Result (U × List Symbol) Fault) → p (symbols us ++ (symbols vs ++ z)) ≡ reach us (symbols vs ++ z) (Ok (x, symbols vs ++ z)) → go_on (rule x (symbols vs ++ z)) more ≡ reach vs z a → go_on (go_on (p (symbols (us ++ vs) ++ z)) rule) more ≡ reach (us ++ vs) z a
+pub bind-then : {T V U : Type 0} (p : Parser T) (us vs : List Marked) (z : List Symbol) (x : T) (rule : T → Parser V) (more : V → Parser U) (a : Result (U × List Symbol) Fault) → p (unmarked us ++ (unmarked vs ++ z)) ≡ reach us (unmarked vs ++ z) (Ok (x, unmarked vs ++ z)) → go_on (rule x (unmarked vs ++ z)) more ≡ reach vs z a → go_on (go_on (p (unmarked (us ++ vs) ++ z)) rule) more ≡ reach (us ++ vs) z a
 bind-then {T} p us vs z x rule more a e f =
-    go_on-go_on (p (symbols (us ++ vs) ++ z)) rule more
-    ∙ next p us vs z (Ok (x, symbols vs ++ z)) (λ (y : T) (l : List Symbol). go_on (rule y l) more) a e f
+    go_on-go_on (p (unmarked (us ++ vs) ++ z)) rule more
+    ∙ next p us vs z (Ok (x, unmarked vs ++ z)) (λ (y : T) (l : List Symbol). go_on (rule y l) more) a e f
 
-pub symbols-plain : (ts : List Symbol) → symbols (map plain ts) ≡ ts
-symbols-plain [] = refl
-symbols-plain (t ∷ ts) = ap (λ (l : List Symbol). t ∷ l) (symbols-plain ts)
+pub unmarked-plain : (ts : List Symbol) → unmarked (map plain ts) ≡ ts
+unmarked-plain [] = refl
+unmarked-plain (t ∷ ts) = ap (λ (l : List Symbol). t ∷ l) (unmarked-plain ts)
 
 -- where nothing nests too deep, all symbols are read
 pub reach-plain : {T : Type 0} (ts z : List Symbol) (a : Result T Fault) → reach (map plain ts) z a ≡ a

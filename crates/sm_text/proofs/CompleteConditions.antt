@@ -12,9 +12,10 @@ use Rattle.sm_syntax.specs.Grammar as g
 use Rattle.sm_syntax.specs.Grammar.{Marked, plain, word, opens, joins, comparison, Rank, IsExpression, IsCondition}
 use Rattle.sm_text.specs.declared.reading.Fault.{Fault}
 use Rattle.sm_text.specs.Parsers.{first, Parser, go_on, ◌>>=◌, pure, stands}
+use Rattle.sm_text.specs.Places.{unmarked}
 use Rattle.sm_text.specs.Reading as r
 use Rattle.sm_text.proofs.Loops.{literals-end, conjunctions-end}
-use Rattle.sm_text.proofs.Complete.{symbols, reach, next, both-reach, reads-then, go_on-pure, Opened, inside-then, room, chain-joins}
+use Rattle.sm_text.proofs.Complete.{reach, next, both-reach, reads-then, go_on-pure, Opened, inside-then, room, chain-joins}
 use Rattle.sm_text.proofs.CompleteExpressions.{Ends, room-0, full, shallow, expression_read, Begins, number, name, round, minus, begins-append, expression_begins}
 
 -- nothing that stands there goes on with a condition
@@ -30,7 +31,7 @@ record Starts (o : Option Symbol) : Type 0 where
   no_square : stands mark.OpenSquare o ≡ false
   no_bang : stands mark.Bang o ≡ false
 
-starts : {ts : List Marked} → Begins ts → (z : List Symbol) → Starts (first (symbols ts ++ z))
+starts : {ts : List Marked} → Begins ts → (z : List Symbol) → Starts (first (unmarked ts ++ z))
 starts (number v us) z = record { no_true = refl; no_false = refl; no_square = refl; no_bang = refl }
 starts (name x us) z = record { no_true = refl; no_false = refl; no_square = refl; no_bang = refl }
 starts (round d us) z = record { no_true = refl; no_false = refl; no_square = refl; no_bang = refl }
@@ -58,12 +59,12 @@ comparison_found Ge ts = refl
 
 -- the symbols are read as the condition, at each rank, where n more groups may be opened and k operators stood in the chain
 abbrev Claim : Rank → ℕ → ℕ → List Marked → Condition → Type 0
-Claim g.Test n k ts b = (z : List Symbol) → (stands mark.Bang (first (symbols ts ++ z)) ≡ false) × (Ends (first z) → r.test (r.inner_condition n) (r.expression n) (symbols ts ++ z) ≡ reach ts z (Ok (b, z)))
-Claim g.Literal n k ts b = (z : List Symbol) → Ends (first z) → r.literal (r.inner_condition n) (r.expression n) (symbols ts ++ z) ≡ reach ts z (Ok (b, z))
-Claim g.Conjunction n k ts b = (z : List Symbol) → Ends (first z) → r.conjunction (r.inner_condition n) (r.expression n) (symbols ts ++ z) ≡ reach ts z (r.literals (r.inner_condition n) (r.expression n) (room k) b z)
-Claim g.Disjunction n k ts b = (z : List Symbol) → Ends (first z) → r.conjunction_operators (first z) ≡ None → r.disjunction (r.inner_condition n) (r.expression n) (symbols ts ++ z) ≡ reach ts z (r.conjunctions (r.inner_condition n) (r.expression n) (room k) b z)
+Claim g.Test n k ts b = (z : List Symbol) → (stands mark.Bang (first (unmarked ts ++ z)) ≡ false) × (Ends (first z) → r.test (r.inner_condition n) (r.expression n) (unmarked ts ++ z) ≡ reach ts z (Ok (b, z)))
+Claim g.Literal n k ts b = (z : List Symbol) → Ends (first z) → r.literal (r.inner_condition n) (r.expression n) (unmarked ts ++ z) ≡ reach ts z (Ok (b, z))
+Claim g.Conjunction n k ts b = (z : List Symbol) → Ends (first z) → r.conjunction (r.inner_condition n) (r.expression n) (unmarked ts ++ z) ≡ reach ts z (r.literals (r.inner_condition n) (r.expression n) (room k) b z)
+Claim g.Disjunction n k ts b = (z : List Symbol) → Ends (first z) → r.conjunction_operators (first z) ≡ None → r.disjunction (r.inner_condition n) (r.expression n) (unmarked ts ++ z) ≡ reach ts z (r.conjunctions (r.inner_condition n) (r.expression n) (room k) b z)
 
-disjunction_ends : (n k : ℕ) (ts : List Marked) (b : Condition) → Claim g.Disjunction n k ts b → (z : List Symbol) → Closes (first z) → r.disjunction (r.inner_condition n) (r.expression n) (symbols ts ++ z) ≡ reach ts z (Ok (b, z))
+disjunction_ends : (n k : ℕ) (ts : List Marked) (b : Condition) → Claim g.Disjunction n k ts b → (z : List Symbol) → Closes (first z) → r.disjunction (r.inner_condition n) (r.expression n) (unmarked ts ++ z) ≡ reach ts z (Ok (b, z))
 disjunction_ends n k ts b read z end = read z end.value end.conjunction ∙ ap (reach ts z) (conjunctions-end (r.inner_condition n) (r.expression n) (room k) b z end.disjunction)
 
 -- inside a group
@@ -80,25 +81,25 @@ never_read : (n : ℕ) → Claim g.Test n 0 (word mark.False ∷ []) plain_code.
 unfolding r.test
 never_read n z = (refl, λ h. refl)
 
-compared_read : (n d j k : ℕ) → d + n ≡ 64 → (ts us : List Marked) (e f : Expression) (op : Cmp) → IsExpression g.Sum d j ts e → IsExpression g.Sum d k us f → (z : List Symbol) → Ends (first z) → r.compared (r.expression n) (symbols (ts ++ word (comparison op) ∷ us) ++ z) ≡ reach (ts ++ word (comparison op) ∷ us) z (Ok (plain_code.Compare op e f, z))
+compared_read : (n d j k : ℕ) → d + n ≡ 64 → (ts us : List Marked) (e f : Expression) (op : Cmp) → IsExpression g.Sum d j ts e → IsExpression g.Sum d k us f → (z : List Symbol) → Ends (first z) → r.compared (r.expression n) (unmarked (ts ++ word (comparison op) ∷ us) ++ z) ≡ reach (ts ++ word (comparison op) ∷ us) z (Ok (plain_code.Compare op e f, z))
 unfolding r.compared
 compared_read n d j k fits ts us e f op p q z end =
-    next (r.expression n) ts (word (comparison op) ∷ us) z (Ok (e, s.Mark (comparison op) ∷ (symbols us ++ z))) (λ (x : Expression). r.comparison >>= λ (o : Cmp). r.expression n >>= λ (y : Expression). pure (plain_code.Compare o x y)) (Ok (plain_code.Compare op e f, z)) (expression_read p n fits (s.Mark (comparison op) ∷ (symbols us ++ z)) (comparison_ends op)) right
+    next (r.expression n) ts (word (comparison op) ∷ us) z (Ok (e, s.Mark (comparison op) ∷ (unmarked us ++ z))) (λ (x : Expression). r.comparison >>= λ (o : Cmp). r.expression n >>= λ (y : Expression). pure (plain_code.Compare o x y)) (Ok (plain_code.Compare op e f, z)) (expression_read p n fits (s.Mark (comparison op) ∷ (unmarked us ++ z)) (comparison_ends op)) right
   where
-    right : go_on (r.comparison (s.Mark (comparison op) ∷ (symbols us ++ z))) (λ (o : Cmp). r.expression n >>= λ (y : Expression). pure (plain_code.Compare o e y)) ≡ reach us z (Ok (plain_code.Compare op e f, z))
+    right : go_on (r.comparison (s.Mark (comparison op) ∷ (unmarked us ++ z))) (λ (o : Cmp). r.expression n >>= λ (y : Expression). pure (plain_code.Compare o e y)) ≡ reach us z (Ok (plain_code.Compare op e f, z))
     right =
-        ap (λ (a : Result (Cmp × List Symbol) Fault). go_on a (λ (o : Cmp). r.expression n >>= λ (y : Expression). pure (plain_code.Compare o e y))) (comparison_found op (symbols us ++ z))
+        ap (λ (a : Result (Cmp × List Symbol) Fault). go_on a (λ (o : Cmp). r.expression n >>= λ (y : Expression). pure (plain_code.Compare o e y))) (comparison_found op (unmarked us ++ z))
         ∙ reads-then us z (Ok (f, z)) (λ (y : Expression). pure (plain_code.Compare op e y)) (expression_read q n fits z end)
 
 compares_read : (n d j k : ℕ) → d + n ≡ 64 → (ts us : List Marked) (e f : Expression) (op : Cmp) → IsExpression g.Sum d j ts e → IsExpression g.Sum d k us f → Claim g.Test n 0 (ts ++ word (comparison op) ∷ us) (plain_code.Compare op e f)
 unfolding r.test
 compares_read n d j k fits ts us e f op p q z =
     let begin = starts (begins-append (expression_begins p) (word (comparison op) ∷ us)) z in
-    (begin.no_bang, λ end. test_compares (r.inner_condition n) (r.expression n) (first (symbols (ts ++ word (comparison op) ∷ us) ++ z)) (symbols (ts ++ word (comparison op) ∷ us) ++ z) begin ∙ compared_read n d j k fits ts us e f op p q z end)
+    (begin.no_bang, λ end. test_compares (r.inner_condition n) (r.expression n) (first (unmarked (ts ++ word (comparison op) ∷ us) ++ z)) (unmarked (ts ++ word (comparison op) ∷ us) ++ z) begin ∙ compared_read n d j k fits ts us e f op p q z end)
 
 group_read : (n d k : ℕ) → d + n ≡ 64 → (ts : List Marked) (b : Condition) → ((m : ℕ) → suc d + m ≡ 64 → Claim g.Disjunction m k ts b) → Claim g.Test n 0 (opens mark.OpenSquare d ∷ (ts ++ word mark.CloseSquare ∷ [])) b
 unfolding r.test r.bracketed
-group_read n d k fits ts b read z = (refl, λ h. sym (go_on-pure (r.bracketed (r.inner_condition n) (s.Mark mark.OpenSquare ∷ (symbols (ts ++ word mark.CloseSquare ∷ []) ++ z)))) ∙ inside-then (r.inner_condition n) d mark.OpenSquare mark.CloseSquare ts [] b z pure (Ok (b, z)) (condition_opened n d k fits ts b mark.CloseSquare (record { value = record { square = refl; product = refl; sum = refl }; conjunction = refl; disjunction = refl }) read) refl)
+group_read n d k fits ts b read z = (refl, λ h. sym (go_on-pure (r.bracketed (r.inner_condition n) (s.Mark mark.OpenSquare ∷ (unmarked (ts ++ word mark.CloseSquare ∷ []) ++ z)))) ∙ inside-then (r.inner_condition n) d mark.OpenSquare mark.CloseSquare ts [] b z pure (Ok (b, z)) (condition_opened n d k fits ts b mark.CloseSquare (record { value = record { square = refl; product = refl; sum = refl }; conjunction = refl; disjunction = refl }) read) refl)
 
 denied_read : (n : ℕ) (ts : List Marked) (b : Condition) → Claim g.Test n 0 ts b → Claim g.Literal n 0 (word mark.Bang ∷ ts) (plain_code.Not b)
 unfolding r.literal
@@ -106,7 +107,7 @@ denied_read n ts b read z end = reads-then ts z (Ok (b, z)) (λ (c : Condition).
 
 as_literal_read : (n : ℕ) (ts : List Marked) (b : Condition) → Claim g.Test n 0 ts b → Claim g.Literal n 0 ts b
 unfolding r.literal
-as_literal_read n ts b read z end = ap (λ (x : Bool). r.literal_by (r.inner_condition n) (r.expression n) x (symbols ts ++ z)) (read z).0 ∙ (read z).1 end
+as_literal_read n ts b read z end = ap (λ (x : Bool). r.literal_by (r.inner_condition n) (r.expression n) x (unmarked ts ++ z)) (read z).0 ∙ (read z).1 end
 
 as_conjunction_read : (n : ℕ) (ts : List Marked) (b : Condition) → Claim g.Literal n 0 ts b → Claim g.Conjunction n 0 ts b
 unfolding r.conjunction
@@ -121,8 +122,8 @@ either_ends = record { square = refl; product = refl; sum = refl }
 both_read : (n k : ℕ) (ts us : List Marked) (b c : Condition) → Claim g.Conjunction n k ts b → Claim g.Literal n 0 us c → Claim g.Conjunction n (suc k) (ts ++ joins mark.Both k ∷ us) (plain_code.And b c)
 unfolding r.literals
 both_read n k ts us b c left right z end =
-    both-reach (r.conjunction (r.inner_condition n) (r.expression n)) ts (joins mark.Both k ∷ us) z (r.literals (r.inner_condition n) (r.expression n) (room k) b (s.Mark mark.Both ∷ (symbols us ++ z))) (r.literals (r.inner_condition n) (r.expression n) (room (suc k)) (plain_code.And b c) z)
-    (left (s.Mark mark.Both ∷ (symbols us ++ z)) both_ends)
+    both-reach (r.conjunction (r.inner_condition n) (r.expression n)) ts (joins mark.Both k ∷ us) z (r.literals (r.inner_condition n) (r.expression n) (room k) b (s.Mark mark.Both ∷ (unmarked us ++ z))) (r.literals (r.inner_condition n) (r.expression n) (room (suc k)) (plain_code.And b c) z)
+    (left (s.Mark mark.Both ∷ (unmarked us ++ z)) both_ends)
     (chain-joins r.conjunction_operators (r.literal (r.inner_condition n) (r.expression n)) mark.Both plain_code.And k b us z (Ok (c, z)) (r.literals (r.inner_condition n) (r.expression n) (room (suc k)) (plain_code.And b c) z) refl (right z end) refl)
 
 as_disjunction_read : (n k : ℕ) (ts : List Marked) (b : Condition) → Claim g.Conjunction n k ts b → Claim g.Disjunction n 0 ts b
@@ -134,8 +135,8 @@ as_disjunction_read n k ts b read z end p =
 either_read : (n k j : ℕ) (ts us : List Marked) (b c : Condition) → Claim g.Disjunction n k ts b → Claim g.Conjunction n j us c → Claim g.Disjunction n (suc k) (ts ++ joins mark.Either k ∷ us) (plain_code.Or b c)
 unfolding r.conjunctions
 either_read n k j ts us b c left right z end p =
-    both-reach (r.disjunction (r.inner_condition n) (r.expression n)) ts (joins mark.Either k ∷ us) z (r.conjunctions (r.inner_condition n) (r.expression n) (room k) b (s.Mark mark.Either ∷ (symbols us ++ z))) (r.conjunctions (r.inner_condition n) (r.expression n) (room (suc k)) (plain_code.Or b c) z)
-    (left (s.Mark mark.Either ∷ (symbols us ++ z)) either_ends refl)
+    both-reach (r.disjunction (r.inner_condition n) (r.expression n)) ts (joins mark.Either k ∷ us) z (r.conjunctions (r.inner_condition n) (r.expression n) (room k) b (s.Mark mark.Either ∷ (unmarked us ++ z))) (r.conjunctions (r.inner_condition n) (r.expression n) (room (suc k)) (plain_code.Or b c) z)
+    (left (s.Mark mark.Either ∷ (unmarked us ++ z)) either_ends refl)
     (chain-joins r.disjunction_operators (r.conjunction (r.inner_condition n) (r.expression n)) mark.Either plain_code.Or k b us z (Ok (c, z)) (r.conjunctions (r.inner_condition n) (r.expression n) (room (suc k)) (plain_code.Or b c) z) refl (right z end ∙ ap (reach us z) (literals-end (r.inner_condition n) (r.expression n) (room j) c z p)) refl)
 
 condition_claim : {l : Rank} {d k : ℕ} {ts : List Marked} {b : Condition} → IsCondition l d k ts b → (n : ℕ) → d + n ≡ 64 → Claim l n k ts b
@@ -151,7 +152,7 @@ condition_claim (g.as_disjunction {k = k} {ts = ts} {b = b} p) n fits = as_disju
 condition_claim (g.either {j = j} {k = k} {ts = ts} {us = us} {b = b} {c = c} p q) n fits = either_read n k j ts us b c (condition_claim p n fits) (condition_claim q n fits)
 
 -- a condition is read, before what doesn't go on with it
-pub condition_read : {d k : ℕ} {ts : List Marked} {b : Condition} → IsCondition g.Disjunction d k ts b → (n : ℕ) → d + n ≡ 64 → (z : List Symbol) → Closes (first z) → r.condition n (symbols ts ++ z) ≡ reach ts z (Ok (b, z))
+pub condition_read : {d k : ℕ} {ts : List Marked} {b : Condition} → IsCondition g.Disjunction d k ts b → (n : ℕ) → d + n ≡ 64 → (z : List Symbol) → Closes (first z) → r.condition n (unmarked ts ++ z) ≡ reach ts z (Ok (b, z))
 unfolding r.condition
 condition_read {k = k} {ts = ts} {b = b} p n fits z end = disjunction_ends n k ts b (condition_claim p n fits) z end
 

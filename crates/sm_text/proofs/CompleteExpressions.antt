@@ -12,9 +12,10 @@ use Rattle.sm_syntax.specs.Syntax.{Expression}
 use Rattle.sm_syntax.specs.Grammar as g
 use Rattle.sm_syntax.specs.Grammar.{Marked, plain, word, opens, joins, Level, IsExpression}
 use Rattle.sm_text.specs.Parsers.{first, pure, stands}
+use Rattle.sm_text.specs.Places.{unmarked}
 use Rattle.sm_text.specs.Reading as r
 use Rattle.sm_text.proofs.Loops.{factors-end, terms-end}
-use Rattle.sm_text.proofs.Complete.{symbols, reach, both-reach, reads-then, go_on-pure, Opened, inside-then, room, chain-joins}
+use Rattle.sm_text.proofs.Complete.{reach, both-reach, reads-then, go_on-pure, Opened, inside-then, room, chain-joins}
 
 -- nothing that stands there goes on with an expression
 pub record Ends (o : Option Symbol) : Type 0 where
@@ -28,12 +29,12 @@ room-0 = refl
 
 -- the symbols are read as the expression, at each level, where n more groups may be opened and k operators stood in the chain
 abbrev Claim : Level → ℕ → ℕ → List Marked → Expression → Type 0
-Claim g.Atom n k ts e = (z : List Symbol) → (stands mark.Minus (first (symbols ts ++ z)) ≡ false) × (stands mark.OpenSquare (first z) ≡ false → r.atom (r.inner_sum n) (symbols ts ++ z) ≡ reach ts z (Ok (e, z)))
-Claim g.Unary n k ts e = (z : List Symbol) → stands mark.OpenSquare (first z) ≡ false → r.unary (r.inner_sum n) (symbols ts ++ z) ≡ reach ts z (Ok (e, z))
-Claim g.Product n k ts e = (z : List Symbol) → stands mark.OpenSquare (first z) ≡ false → r.product (r.inner_sum n) (symbols ts ++ z) ≡ reach ts z (r.factors (r.inner_sum n) (room k) e z)
-Claim g.Sum n k ts e = (z : List Symbol) → stands mark.OpenSquare (first z) ≡ false → r.product_operators (first z) ≡ None → r.sum (r.inner_sum n) (symbols ts ++ z) ≡ reach ts z (r.terms (r.inner_sum n) (room k) e z)
+Claim g.Atom n k ts e = (z : List Symbol) → (stands mark.Minus (first (unmarked ts ++ z)) ≡ false) × (stands mark.OpenSquare (first z) ≡ false → r.atom (r.inner_sum n) (unmarked ts ++ z) ≡ reach ts z (Ok (e, z)))
+Claim g.Unary n k ts e = (z : List Symbol) → stands mark.OpenSquare (first z) ≡ false → r.unary (r.inner_sum n) (unmarked ts ++ z) ≡ reach ts z (Ok (e, z))
+Claim g.Product n k ts e = (z : List Symbol) → stands mark.OpenSquare (first z) ≡ false → r.product (r.inner_sum n) (unmarked ts ++ z) ≡ reach ts z (r.factors (r.inner_sum n) (room k) e z)
+Claim g.Sum n k ts e = (z : List Symbol) → stands mark.OpenSquare (first z) ≡ false → r.product_operators (first z) ≡ None → r.sum (r.inner_sum n) (unmarked ts ++ z) ≡ reach ts z (r.terms (r.inner_sum n) (room k) e z)
 
-sum_ends : (n k : ℕ) (ts : List Marked) (e : Expression) → Claim g.Sum n k ts e → (z : List Symbol) → Ends (first z) → r.sum (r.inner_sum n) (symbols ts ++ z) ≡ reach ts z (Ok (e, z))
+sum_ends : (n k : ℕ) (ts : List Marked) (e : Expression) → Claim g.Sum n k ts e → (z : List Symbol) → Ends (first z) → r.sum (r.inner_sum n) (unmarked ts ++ z) ≡ reach ts z (Ok (e, z))
 sum_ends n k ts e read z end = read z end.square end.product ∙ ap (reach ts z) (terms-end (r.inner_sum n) (room k) e z end.sum)
 
 pub full : (d : ℕ) → d + 0 ≡ 64 → nat_le 64 d ≡ true
@@ -62,7 +63,7 @@ element_read n d k fits ts i x read z = (refl, λ h. inside-then (r.inner_sum n)
 
 group_read : (n d k : ℕ) → d + n ≡ 64 → (ts : List Marked) (e : Expression) → ((m : ℕ) → suc d + m ≡ 64 → Claim g.Sum m k ts e) → Claim g.Atom n 0 (opens mark.OpenRound d ∷ (ts ++ word mark.CloseRound ∷ [])) e
 unfolding r.atom r.parenthesized
-group_read n d k fits ts e read z = (refl, λ h. sym (go_on-pure (r.parenthesized (r.inner_sum n) (s.Mark mark.OpenRound ∷ (symbols (ts ++ word mark.CloseRound ∷ []) ++ z)))) ∙ inside-then (r.inner_sum n) d mark.OpenRound mark.CloseRound ts [] e z pure (Ok (e, z)) (sum_opened n d k fits ts e mark.CloseRound (record { square = refl; product = refl; sum = refl }) read) refl)
+group_read n d k fits ts e read z = (refl, λ h. sym (go_on-pure (r.parenthesized (r.inner_sum n) (s.Mark mark.OpenRound ∷ (unmarked (ts ++ word mark.CloseRound ∷ []) ++ z)))) ∙ inside-then (r.inner_sum n) d mark.OpenRound mark.CloseRound ts [] e z pure (Ok (e, z)) (sum_opened n d k fits ts e mark.CloseRound (record { square = refl; product = refl; sum = refl }) read) refl)
 
 negative_read : (n : ℕ) (ts : List Marked) (e : Expression) → Claim g.Atom n 0 ts e → Claim g.Unary n 0 (word mark.Minus ∷ ts) (plain_code.Neg e)
 unfolding r.unary
@@ -70,7 +71,7 @@ negative_read n ts e read z h = reads-then ts z (Ok (e, z)) (λ (f : Expression)
 
 as_unary_read : (n : ℕ) (ts : List Marked) (e : Expression) → Claim g.Atom n 0 ts e → Claim g.Unary n 0 ts e
 unfolding r.unary
-as_unary_read n ts e read z h = ap (λ (b : Bool). r.unary_by (r.inner_sum n) b (symbols ts ++ z)) (read z).0 ∙ (read z).1 h
+as_unary_read n ts e read z h = ap (λ (b : Bool). r.unary_by (r.inner_sum n) b (unmarked ts ++ z)) (read z).0 ∙ (read z).1 h
 
 as_product_read : (n : ℕ) (ts : List Marked) (e : Expression) → Claim g.Unary n 0 ts e → Claim g.Product n 0 ts e
 unfolding r.product
@@ -78,7 +79,7 @@ as_product_read n ts e read z h = reads-then ts z (Ok (e, z)) (λ (f : Expressio
 
 times_read : (n k : ℕ) (ts us : List Marked) (e f : Expression) → Claim g.Product n k ts e → Claim g.Unary n 0 us f → Claim g.Product n (suc k) (ts ++ joins mark.Star k ∷ us) (plain_code.Times e f)
 unfolding r.factors
-times_read n k ts us e f left right z h = both-reach (r.product (r.inner_sum n)) ts (joins mark.Star k ∷ us) z (r.factors (r.inner_sum n) (room k) e (s.Mark mark.Star ∷ (symbols us ++ z))) (r.factors (r.inner_sum n) (room (suc k)) (plain_code.Times e f) z) (left (s.Mark mark.Star ∷ (symbols us ++ z)) refl) (chain-joins r.product_operators (r.unary (r.inner_sum n)) mark.Star plain_code.Times k e us z (Ok (f, z)) (r.factors (r.inner_sum n) (room (suc k)) (plain_code.Times e f) z) refl (right z h) refl)
+times_read n k ts us e f left right z h = both-reach (r.product (r.inner_sum n)) ts (joins mark.Star k ∷ us) z (r.factors (r.inner_sum n) (room k) e (s.Mark mark.Star ∷ (unmarked us ++ z))) (r.factors (r.inner_sum n) (room (suc k)) (plain_code.Times e f) z) (left (s.Mark mark.Star ∷ (unmarked us ++ z)) refl) (chain-joins r.product_operators (r.unary (r.inner_sum n)) mark.Star plain_code.Times k e us z (Ok (f, z)) (r.factors (r.inner_sum n) (room (suc k)) (plain_code.Times e f) z) refl (right z h) refl)
 
 as_sum_read : (n k : ℕ) (ts : List Marked) (e : Expression) → Claim g.Product n k ts e → Claim g.Sum n 0 ts e
 unfolding r.sum
@@ -89,8 +90,8 @@ as_sum_read n k ts e read z h p =
 sum_read : (n k j : ℕ) (sign : Mark) (make : Expression → Expression → Expression) → stands mark.OpenSquare (Some (s.Mark sign)) ≡ false → r.product_operators (Some (s.Mark sign)) ≡ None → r.sum_operators (Some (s.Mark sign)) ≡ Some make → (ts us : List Marked) (e f : Expression) → Claim g.Sum n k ts e → Claim g.Product n j us f → Claim g.Sum n (suc k) (ts ++ joins sign k ∷ us) (make e f)
 unfolding r.terms
 sum_read n k j sign make o q m ts us e f left right z h p =
-    both-reach (r.sum (r.inner_sum n)) ts (joins sign k ∷ us) z (r.terms (r.inner_sum n) (room k) e (s.Mark sign ∷ (symbols us ++ z))) (r.terms (r.inner_sum n) (room (suc k)) (make e f) z)
-    (left (s.Mark sign ∷ (symbols us ++ z)) o q)
+    both-reach (r.sum (r.inner_sum n)) ts (joins sign k ∷ us) z (r.terms (r.inner_sum n) (room k) e (s.Mark sign ∷ (unmarked us ++ z))) (r.terms (r.inner_sum n) (room (suc k)) (make e f) z)
+    (left (s.Mark sign ∷ (unmarked us ++ z)) o q)
     (chain-joins r.sum_operators (r.product (r.inner_sum n)) sign make k e us z (Ok (f, z)) (r.terms (r.inner_sum n) (room (suc k)) (make e f) z) m (right z h ∙ ap (reach us z) (factors-end (r.inner_sum n) (room j) f z p)) refl)
 
 expression_claim : {l : Level} {d k : ℕ} {ts : List Marked} {e : Expression} → IsExpression l d k ts e → (n : ℕ) → d + n ≡ 64 → Claim l n k ts e
@@ -107,7 +108,7 @@ expression_claim (g.plus {j = j} {k = k} {ts = ts} {us = us} {e = e} {f = f} p q
 expression_claim (g.minus {j = j} {k = k} {ts = ts} {us = us} {e = e} {f = f} p q) n fits = sum_read n k j mark.Minus plain_code.Minus refl refl refl ts us e f (expression_claim p n fits) (expression_claim q n fits)
 
 -- an expression is read, before what doesn't go on with it
-pub expression_read : {d k : ℕ} {ts : List Marked} {e : Expression} → IsExpression g.Sum d k ts e → (n : ℕ) → d + n ≡ 64 → (z : List Symbol) → Ends (first z) → r.expression n (symbols ts ++ z) ≡ reach ts z (Ok (e, z))
+pub expression_read : {d k : ℕ} {ts : List Marked} {e : Expression} → IsExpression g.Sum d k ts e → (n : ℕ) → d + n ≡ 64 → (z : List Symbol) → Ends (first z) → r.expression n (unmarked ts ++ z) ≡ reach ts z (Ok (e, z))
 unfolding r.expression
 expression_read {k = k} {ts = ts} {e = e} p n fits z end = sum_ends n k ts e (expression_claim p n fits) z end
 

@@ -19,12 +19,12 @@ use Rattle.sm_syntax.specs.Parts.{Parts, by_copy}
 use Rattle.sm_syntax.specs.Spells.{IsInGrammar}
 use Rattle.sm_syntax.specs.Symbols.{names_of, symbols_of}
 use Rattle.sm_text.specs.declared.reading.Fault.{Fault}
-use Rattle.sm_text.specs.declared.reading.FaultKind.TheVariants.{Nested}
-use Rattle.sm_text.specs.Parsers.{first, fault, Parser, go_on, ◌>>=◌, ◌>>◌, pure, expect, stands}
+use Rattle.sm_text.specs.Parsers.{first, Parser, go_on, ◌>>=◌, ◌>>◌, pure, expect, stands}
+use Rattle.sm_text.specs.Places.{unmarked}
 use Rattle.sm_text.specs.Reading as r
 use Rattle.sm_text.specs.Laws.{OneTask}
 use Rattle.sm_text.proofs.Loops.{next_name-shorter, more_names-end, declaration-shorter, more_declarations-end, filling-shorter, more_fillings-end}
-use Rattle.sm_text.proofs.Complete.{symbols, past, reach, ended, bind-then, reads-then, go_on-go_on, go_on-pure, expect-then, gather-step, symbols-plain, symbols-append, reach-append, reach-plain}
+use Rattle.sm_text.proofs.Complete.{reach, ended, bind-then, reads-then, go_on-go_on, go_on-pure, expect-then, gather-step, unmarked-plain, reach-plain}
 use Rattle.sm_text.proofs.CompleteConditions.{condition_read}
 use Rattle.sm_text.proofs.CompleteStatements.{hole_number_found, block_read}
 
@@ -40,22 +40,22 @@ next_name_is : (ts : List Symbol) → r.next_name (s.Mark mark.Comma ∷ ts) ≡
 unfolding r.next_name expect
 next_name_is ts = refl
 
-names_from : {ts : List Marked} {xs : List ℕ} → AreNames ts xs → (before : List ℕ) (z : List Symbol) → stands mark.Comma (first z) ≡ false → go_on (r.name (symbols ts ++ z)) (λ (x : Name). r.more_names (r.with_name before x)) ≡ reach ts z (Ok (before ++ xs, z))
+names_from : {ts : List Marked} {xs : List ℕ} → AreNames ts xs → (before : List ℕ) (z : List Symbol) → stands mark.Comma (first z) ≡ false → go_on (r.name (unmarked ts ++ z)) (λ (x : Name). r.more_names (r.with_name before x)) ≡ reach ts z (Ok (before ++ xs, z))
 names_from (g.last x) before z end = ap (λ (a : Result (Name × List Symbol) Fault). go_on a (λ (y : Name). r.more_names (r.with_name before y))) (name_found x z) ∙ more_names-end (r.with_name before x) z end
 names_from (g.more {ts = ts} {xs = xs} x p) before z end =
-    ap (λ (a : Result (Name × List Symbol) Fault). go_on a (λ (y : Name). r.more_names (r.with_name before y))) (name_found x (s.Mark mark.Comma ∷ (symbols ts ++ z)))
-    ∙ name_step (r.with_name before x) (s.Mark mark.Comma ∷ (symbols ts ++ z)) refl
-    ∙ ap (λ (a : Result (Name × List Symbol) Fault). go_on a (λ (y : Name). r.more_names (r.with_name (r.with_name before x) y))) (next_name_is (symbols ts ++ z))
+    ap (λ (a : Result (Name × List Symbol) Fault). go_on a (λ (y : Name). r.more_names (r.with_name before y))) (name_found x (s.Mark mark.Comma ∷ (unmarked ts ++ z)))
+    ∙ name_step (r.with_name before x) (s.Mark mark.Comma ∷ (unmarked ts ++ z)) refl
+    ∙ ap (λ (a : Result (Name × List Symbol) Fault). go_on a (λ (y : Name). r.more_names (r.with_name (r.with_name before x) y))) (next_name_is (unmarked ts ++ z))
     ∙ names_from p (r.with_name before x) z end
     ∙ ap (λ (l : List ℕ). reach ts z (Ok (l, z))) (append_assoc before (x.0 ∷ []) xs)
 
 -- names are read
-names_read : {ts : List Marked} {xs : List ℕ} → AreNames ts xs → (z : List Symbol) → stands mark.Comma (first z) ≡ false → r.names (symbols ts ++ z) ≡ reach ts z (Ok (xs, z))
+names_read : {ts : List Marked} {xs : List ℕ} → AreNames ts xs → (z : List Symbol) → stands mark.Comma (first z) ≡ false → r.names (unmarked ts ++ z) ≡ reach ts z (Ok (xs, z))
 unfolding r.names
 names_read p z end = names_from p [] z end
 
 -- names up to a semicolon, and what goes on behind it
-names_to_end-then : {U : Type 0} {ts : List Marked} (us : List Marked) {xs : List ℕ} → AreNames ts xs → (z : List Symbol) (more : List ℕ → Parser U) (a : Result (U × List Symbol) Fault) → more xs (symbols us ++ z) ≡ reach us z a → go_on (r.names_to_end (symbols (ts ++ word mark.Semicolon ∷ us) ++ z)) more ≡ reach (ts ++ word mark.Semicolon ∷ us) z a
+names_to_end-then : {U : Type 0} {ts : List Marked} (us : List Marked) {xs : List ℕ} → AreNames ts xs → (z : List Symbol) (more : List ℕ → Parser U) (a : Result (U × List Symbol) Fault) → more xs (unmarked us ++ z) ≡ reach us z a → go_on (r.names_to_end (unmarked (ts ++ word mark.Semicolon ∷ us) ++ z)) more ≡ reach (ts ++ word mark.Semicolon ∷ us) z a
 unfolding r.names_to_end
 names_to_end-then {ts = ts} us {xs = xs} p z more a e = ended r.names mark.Semicolon (λ (l : List ℕ). l) ts us xs z more a (λ y. names_read p (s.Mark mark.Semicolon ∷ y) refl) e
 
@@ -72,47 +72,47 @@ unfolding r.declaration
 declaration_is Num ts = refl
 declaration_is Arr ts = refl
 
-declared-then : {U : Type 0} (sort : Sort) {ts : List Marked} (us : List Marked) {xs : List ℕ} → AreNames ts xs → (z : List Symbol) (more : List (ℕ × Sort) → Parser U) (a : Result (U × List Symbol) Fault) → more (with_sort sort xs) (symbols us ++ z) ≡ reach us z a → go_on (r.declared sort (symbols (ts ++ word mark.Semicolon ∷ us) ++ z)) more ≡ reach (ts ++ word mark.Semicolon ∷ us) z a
+declared-then : {U : Type 0} (sort : Sort) {ts : List Marked} (us : List Marked) {xs : List ℕ} → AreNames ts xs → (z : List Symbol) (more : List (ℕ × Sort) → Parser U) (a : Result (U × List Symbol) Fault) → more (with_sort sort xs) (unmarked us ++ z) ≡ reach us z a → go_on (r.declared sort (unmarked (ts ++ word mark.Semicolon ∷ us) ++ z)) more ≡ reach (ts ++ word mark.Semicolon ∷ us) z a
 unfolding r.declared
 declared-then sort {ts = ts} us p z more a e =
-    go_on-go_on (r.names_to_end (symbols (ts ++ word mark.Semicolon ∷ us) ++ z)) (λ (l : List ℕ). pure (with_sort sort l)) more
+    go_on-go_on (r.names_to_end (unmarked (ts ++ word mark.Semicolon ∷ us) ++ z)) (λ (l : List ℕ). pure (with_sort sort l)) more
     ∙ names_to_end-then us p z (λ (l : List ℕ). more (with_sort sort l)) a e
 
-declarations_from : {ts : List Marked} {ds : List (ℕ × Sort)} → AreDeclarations ts ds → (before : List (ℕ × Sort)) (z : List Symbol) → r.begins_declaration (first z) ≡ false → r.more_declarations before (symbols ts ++ z) ≡ reach ts z (Ok (before ++ ds, z))
+declarations_from : {ts : List Marked} {ds : List (ℕ × Sort)} → AreDeclarations ts ds → (before : List (ℕ × Sort)) (z : List Symbol) → r.begins_declaration (first z) ≡ false → r.more_declarations before (unmarked ts ++ z) ≡ reach ts z (Ok (before ++ ds, z))
 declarations_from g.none before z end = more_declarations-end before z end ∙ ap (λ (l : List (ℕ × Sort)). Ok (l, z)) (sym (append-nil before))
 declarations_from (g.more {ts = ts} {us = us} {xs = xs} {ds = ds} sort p q) before z end =
-    declaration_step before (s.Mark (declares sort) ∷ (symbols (ts ++ word mark.Semicolon ∷ us) ++ z)) (declares_begins sort)
-    ∙ ap (λ (a : Result (List (ℕ × Sort) × List Symbol) Fault). go_on a (λ (x : List (ℕ × Sort)). r.more_declarations (before ++ x))) (declaration_is sort (symbols (ts ++ word mark.Semicolon ∷ us) ++ z))
+    declaration_step before (s.Mark (declares sort) ∷ (unmarked (ts ++ word mark.Semicolon ∷ us) ++ z)) (declares_begins sort)
+    ∙ ap (λ (a : Result (List (ℕ × Sort) × List Symbol) Fault). go_on a (λ (x : List (ℕ × Sort)). r.more_declarations (before ++ x))) (declaration_is sort (unmarked (ts ++ word mark.Semicolon ∷ us) ++ z))
     ∙ declared-then sort us p z (λ (x : List (ℕ × Sort)). r.more_declarations (before ++ x)) (Ok (before ++ (with_sort sort xs ++ ds), z))
     (declarations_from q (before ++ with_sort sort xs) z end ∙ ap (λ (l : List (ℕ × Sort)). reach us z (Ok (l, z))) (append_assoc before (with_sort sort xs) ds))
 
 -- declarations are read
-pub declarations_read : {ts : List Marked} {ds : List (ℕ × Sort)} → AreDeclarations ts ds → (z : List Symbol) → r.begins_declaration (first z) ≡ false → r.declarations (symbols ts ++ z) ≡ reach ts z (Ok (ds, z))
+pub declarations_read : {ts : List Marked} {ds : List (ℕ × Sort)} → AreDeclarations ts ds → (z : List Symbol) → r.begins_declaration (first z) ≡ false → r.declarations (unmarked ts ++ z) ≡ reach ts z (Ok (ds, z))
 unfolding r.declarations
 declarations_read p z end = declarations_from p [] z end
 
 -- the outputs are read
-pub outputs_read : {ts : List Marked} {xs : List ℕ} → AreOutputs ts xs → (z : List Symbol) → r.outputs (symbols ts ++ z) ≡ reach ts z (Ok (xs, z))
+pub outputs_read : {ts : List Marked} {xs : List ℕ} → AreOutputs ts xs → (z : List Symbol) → r.outputs (unmarked ts ++ z) ≡ reach ts z (Ok (xs, z))
 unfolding r.outputs expect
-outputs_read (g.outputs {ts = ts} {xs = xs} p) z = sym (go_on-pure (r.names_to_end (symbols (ts ++ word mark.Semicolon ∷ []) ++ z))) ∙ names_to_end-then [] p z pure (Ok (xs, z)) refl
+outputs_read (g.outputs {ts = ts} {xs = xs} p) z = sym (go_on-pure (r.names_to_end (unmarked (ts ++ word mark.Semicolon ∷ []) ++ z))) ∙ names_to_end-then [] p z pure (Ok (xs, z)) refl
 
-pub outputs_begin : {ts : List Marked} {xs : List ℕ} → AreOutputs ts xs → (us : List Marked) (z : List Symbol) → r.begins_declaration (first (symbols (ts ++ us) ++ z)) ≡ false
+pub outputs_begin : {ts : List Marked} {xs : List ℕ} → AreOutputs ts xs → (us : List Marked) (z : List Symbol) → r.begins_declaration (first (unmarked (ts ++ us) ++ z)) ≡ false
 outputs_begin (g.outputs p) us z = refl
 
 -- what is assumed is read
-assumption_read : {ts : List Marked} {b : Option Condition} → IsAssumption ts b → (z : List Symbol) → stands mark.Assume (first z) ≡ false → r.assumed (symbols ts ++ z) ≡ reach ts z (Ok (b, z))
+assumption_read : {ts : List Marked} {b : Option Condition} → IsAssumption ts b → (z : List Symbol) → stands mark.Assume (first z) ≡ false → r.assumed (unmarked ts ++ z) ≡ reach ts z (Ok (b, z))
 unfolding r.assumed r.assumption_line r.group_limit
 assumption_read g.none z end = ap (λ (b : Bool). r.assumed_by b z) end
 assumption_read (g.assumes {ts = ts} {b = b} p) z end =
-    sym (go_on-pure (r.assumption_line (symbols (ts ++ word mark.Semicolon ∷ []) ++ z)))
+    sym (go_on-pure (r.assumption_line (unmarked (ts ++ word mark.Semicolon ∷ []) ++ z)))
     ∙ ended (r.condition 64) mark.Semicolon (λ (c : Condition). Some c) ts [] b z pure (Ok (Some b, z)) (λ y. condition_read p 64 refl (s.Mark mark.Semicolon ∷ y) (record { value = record { square = refl; product = refl; sum = refl }; conjunction = refl; disjunction = refl })) refl
 
 -- the shared block is read
-pub shared_read : {ts : List Marked} {c : Code} → IsShared ts c → (z : List Symbol) → r.shared (symbols ts ++ z) ≡ reach ts z (Ok (c, z))
+pub shared_read : {ts : List Marked} {c : Code} → IsShared ts c → (z : List Symbol) → r.shared (unmarked ts ++ z) ≡ reach ts z (Ok (c, z))
 unfolding r.shared r.group_limit expect
 shared_read (g.shared p) z = block_read p 64 refl z
 
-shared_begins : {ts : List Marked} {c : Code} → IsShared ts c → (us : List Marked) (z : List Symbol) → stands mark.Assume (first (symbols (ts ++ us) ++ z)) ≡ false
+shared_begins : {ts : List Marked} {c : Code} → IsShared ts c → (us : List Marked) (z : List Symbol) → stands mark.Assume (first (unmarked (ts ++ us) ++ z)) ≡ false
 shared_begins (g.shared p) us z = refl
 
 filling_step : (before : Fillings) (ts : List Symbol) → stands mark.Question (first ts) ≡ true → r.more_fillings before ts ≡ go_on (r.filling ts) (λ (f : ℕ × Code). r.more_fillings (r.with_filling before f))
@@ -123,26 +123,26 @@ filling_is : (h : ℕ) → g.IsHoleNumber h → (ts : List Symbol) → r.filling
 unfolding r.filling r.list_limit expect
 filling_is h inside ts = ap (λ (a : Result (ℕ × List Symbol) Fault). go_on a (λ (n : ℕ). r.block 63 >>= λ (c : Code). pure (n, c))) (hole_number_found h inside ts)
 
-fillings_from : {ts : List Marked} {fs : Fillings} → AreFillings ts fs → (before : Fillings) (z : List Symbol) → stands mark.Question (first z) ≡ false → r.more_fillings before (symbols ts ++ z) ≡ reach ts z (Ok (before ++ fs, z))
+fillings_from : {ts : List Marked} {fs : Fillings} → AreFillings ts fs → (before : Fillings) (z : List Symbol) → stands mark.Question (first z) ≡ false → r.more_fillings before (unmarked ts ++ z) ≡ reach ts z (Ok (before ++ fs, z))
 fillings_from g.none before z end = more_fillings-end before z end ∙ ap (λ (l : Fillings). Ok (l, z)) (sym (append-nil before))
 fillings_from (g.more {ts = ts} {us = us} {c = c} {fs = fs} h inside p q) before z end =
-    filling_step before (s.Mark mark.Question ∷ s.Number (pos h) ∷ (symbols (ts ++ us) ++ z)) refl
-    ∙ ap (λ (a : Result ((ℕ × Code) × List Symbol) Fault). go_on a (λ (f : ℕ × Code). r.more_fillings (r.with_filling before f))) (filling_is h inside (symbols (ts ++ us) ++ z))
-    ∙ bind-then (r.block 63) ts us z c (λ (x : Code). pure (h, x)) (λ (f : ℕ × Code). r.more_fillings (r.with_filling before f)) (Ok (before ++ (h, c) ∷ fs, z)) (block_read p 63 refl (symbols us ++ z))
+    filling_step before (s.Mark mark.Question ∷ s.Number (pos h) ∷ (unmarked (ts ++ us) ++ z)) refl
+    ∙ ap (λ (a : Result ((ℕ × Code) × List Symbol) Fault). go_on a (λ (f : ℕ × Code). r.more_fillings (r.with_filling before f))) (filling_is h inside (unmarked (ts ++ us) ++ z))
+    ∙ bind-then (r.block 63) ts us z c (λ (x : Code). pure (h, x)) (λ (f : ℕ × Code). r.more_fillings (r.with_filling before f)) (Ok (before ++ (h, c) ∷ fs, z)) (block_read p 63 refl (unmarked us ++ z))
     (fillings_from q (before ++ (h, c) ∷ []) z end ∙ ap (λ (l : Fillings). reach us z (Ok (l, z))) (append_assoc before ((h, c) ∷ []) fs))
 
 -- fillings are read
-fillings_read : {ts : List Marked} {fs : Fillings} → AreFillings ts fs → (z : List Symbol) → stands mark.Question (first z) ≡ false → r.fillings (symbols ts ++ z) ≡ reach ts z (Ok (fs, z))
+fillings_read : {ts : List Marked} {fs : Fillings} → AreFillings ts fs → (z : List Symbol) → stands mark.Question (first z) ≡ false → r.fillings (unmarked ts ++ z) ≡ reach ts z (Ok (fs, z))
 unfolding r.fillings
 fillings_read p z end = fillings_from p [] z end
 
 -- the list of a copy is read
-list_read : {m : Mark} {ts : List Marked} {fs : Fillings} → IsList m ts fs → (z : List Symbol) → r.list m (symbols ts ++ z) ≡ reach ts z (Ok (fs, z))
+list_read : {m : Mark} {ts : List Marked} {fs : Fillings} → IsList m ts fs → (z : List Symbol) → r.list m (unmarked ts ++ z) ≡ reach ts z (Ok (fs, z))
 unfolding r.list
 list_read (g.list {ts = ts} {fs = fs} m p) z =
-    expect-then m (s.Mark mark.OpenCurly ∷ (symbols (ts ++ word mark.CloseCurly ∷ []) ++ z)) (λ (u : Unit {0}). expect mark.OpenCurly >> inner)
-    ∙ expect-then mark.OpenCurly (symbols (ts ++ word mark.CloseCurly ∷ []) ++ z) (λ (u : Unit {0}). inner)
-    ∙ sym (go_on-pure (inner (symbols (ts ++ word mark.CloseCurly ∷ []) ++ z)))
+    expect-then m (s.Mark mark.OpenCurly ∷ (unmarked (ts ++ word mark.CloseCurly ∷ []) ++ z)) (λ (u : Unit {0}). expect mark.OpenCurly >> inner)
+    ∙ expect-then mark.OpenCurly (unmarked (ts ++ word mark.CloseCurly ∷ []) ++ z) (λ (u : Unit {0}). inner)
+    ∙ sym (go_on-pure (inner (unmarked (ts ++ word mark.CloseCurly ∷ []) ++ z)))
     ∙ ended r.fillings mark.CloseCurly (λ (l : Fillings). l) ts [] fs z pure (Ok (fs, z)) (λ y. fillings_read p (s.Mark mark.CloseCurly ∷ y) refl) refl
   where
     inner : Parser Fillings
@@ -153,16 +153,16 @@ abbrev pub front_of : Parts → r.Front
 front_of t = record { declared = t.declared; outputs = t.outputs; assumed = t.assumed; shared = t.shared }
 
 -- the fillings of a task, copy by copy
-abbrev listed : Parts → Copy → Fillings
+abbrev pub listed : Parts → Copy → Fillings
 listed t = by_copy (t.fillings claim.O) (t.fillings claim.A) (t.fillings claim.B) (t.fillings claim.M)
 
-head-then : {U : Type 0} (t : Parts) {ts us vs ws : List Marked} (others : List Marked) → AreDeclarations ts t.declared → AreOutputs us t.outputs → IsAssumption vs t.assumed → IsShared ws t.shared → (z : List Symbol) (more : r.Front → Parser U) (a : Result (U × List Symbol) Fault) → more (front_of t) (symbols others ++ z) ≡ reach others z a → go_on (r.head (symbols (ts ++ (us ++ (vs ++ (ws ++ others)))) ++ z)) more ≡ reach (ts ++ (us ++ (vs ++ (ws ++ others)))) z a
+pub head-then : {U : Type 0} (t : Parts) {ts us vs ws : List Marked} (others : List Marked) → AreDeclarations ts t.declared → AreOutputs us t.outputs → IsAssumption vs t.assumed → IsShared ws t.shared → (z : List Symbol) (more : r.Front → Parser U) (a : Result (U × List Symbol) Fault) → more (front_of t) (unmarked others ++ z) ≡ reach others z a → go_on (r.head (unmarked (ts ++ (us ++ (vs ++ (ws ++ others)))) ++ z)) more ≡ reach (ts ++ (us ++ (vs ++ (ws ++ others)))) z a
 unfolding r.head
 head-then t {ts = ts} {us = us} {vs = vs} {ws = ws} others declared named assumed code z more a e =
-    bind-then r.declarations ts (us ++ (vs ++ (ws ++ others))) z t.declared with_outputs more a (declarations_read declared (symbols (us ++ (vs ++ (ws ++ others))) ++ z) (outputs_begin named (vs ++ (ws ++ others)) z))
-    (bind-then r.outputs us (vs ++ (ws ++ others)) z t.outputs (with_assumed t.declared) more a (outputs_read named (symbols (vs ++ (ws ++ others)) ++ z))
-    (bind-then r.assumed vs (ws ++ others) z t.assumed (with_shared t.declared t.outputs) more a (assumption_read assumed (symbols (ws ++ others) ++ z) (shared_begins code others z))
-    (bind-then r.shared ws others z t.shared (front t.declared t.outputs t.assumed) more a (shared_read code (symbols others ++ z)) e)))
+    bind-then r.declarations ts (us ++ (vs ++ (ws ++ others))) z t.declared with_outputs more a (declarations_read declared (unmarked (us ++ (vs ++ (ws ++ others))) ++ z) (outputs_begin named (vs ++ (ws ++ others)) z))
+    (bind-then r.outputs us (vs ++ (ws ++ others)) z t.outputs (with_assumed t.declared) more a (outputs_read named (unmarked (vs ++ (ws ++ others)) ++ z))
+    (bind-then r.assumed vs (ws ++ others) z t.assumed (with_shared t.declared t.outputs) more a (assumption_read assumed (unmarked (ws ++ others) ++ z) (shared_begins code others z))
+    (bind-then r.shared ws others z t.shared (front t.declared t.outputs t.assumed) more a (shared_read code (unmarked others ++ z)) e)))
   where
     front : List (ℕ × Sort) → List ℕ → Option Condition → Code → Parser r.Front
     front ds xs b c = pure (record { declared = ds; outputs = xs; assumed = b; shared = c })
@@ -176,13 +176,13 @@ head-then t {ts = ts} {us = us} {vs = vs} {ws = ws} others declared named assume
     with_outputs : List (ℕ × Sort) → Parser r.Front
     with_outputs ds = r.outputs >>= with_assumed ds
 
-lists-then : {U : Type 0} (t : Parts) {os xs ys ms : List Marked} → IsList mark.Base os (t.fillings claim.O) → IsList mark.VariantA xs (t.fillings claim.A) → IsList mark.VariantB ys (t.fillings claim.B) → IsList mark.Candidate ms (t.fillings claim.M) → (z : List Symbol) (more : (Copy → Fillings) → Parser U) → go_on (r.lists (symbols (os ++ (xs ++ (ys ++ ms))) ++ z)) more ≡ reach (os ++ (xs ++ (ys ++ ms))) z (more (listed t) z)
+lists-then : {U : Type 0} (t : Parts) {os xs ys ms : List Marked} → IsList mark.Base os (t.fillings claim.O) → IsList mark.VariantA xs (t.fillings claim.A) → IsList mark.VariantB ys (t.fillings claim.B) → IsList mark.Candidate ms (t.fillings claim.M) → (z : List Symbol) (more : (Copy → Fillings) → Parser U) → go_on (r.lists (unmarked (os ++ (xs ++ (ys ++ ms))) ++ z)) more ≡ reach (os ++ (xs ++ (ys ++ ms))) z (more (listed t) z)
 unfolding r.lists
 lists-then t {os = os} {xs = xs} {ys = ys} {ms = ms} base variant_a variant_b candidate z more =
-    bind-then (r.list mark.Base) os (xs ++ (ys ++ ms)) z (t.fillings claim.O) with_a more (more (listed t) z) (list_read base (symbols (xs ++ (ys ++ ms)) ++ z))
-    (bind-then (r.list mark.VariantA) xs (ys ++ ms) z (t.fillings claim.A) (with_b (t.fillings claim.O)) more (more (listed t) z) (list_read variant_a (symbols (ys ++ ms) ++ z))
-    (bind-then (r.list mark.VariantB) ys ms z (t.fillings claim.B) (with_candidate (t.fillings claim.O) (t.fillings claim.A)) more (more (listed t) z) (list_read variant_b (symbols ms ++ z))
-    (go_on-go_on (r.list mark.Candidate (symbols ms ++ z)) (all (t.fillings claim.O) (t.fillings claim.A) (t.fillings claim.B)) more
+    bind-then (r.list mark.Base) os (xs ++ (ys ++ ms)) z (t.fillings claim.O) with_a more (more (listed t) z) (list_read base (unmarked (xs ++ (ys ++ ms)) ++ z))
+    (bind-then (r.list mark.VariantA) xs (ys ++ ms) z (t.fillings claim.A) (with_b (t.fillings claim.O)) more (more (listed t) z) (list_read variant_a (unmarked (ys ++ ms) ++ z))
+    (bind-then (r.list mark.VariantB) ys ms z (t.fillings claim.B) (with_candidate (t.fillings claim.O) (t.fillings claim.A)) more (more (listed t) z) (list_read variant_b (unmarked ms ++ z))
+    (go_on-go_on (r.list mark.Candidate (unmarked ms ++ z)) (all (t.fillings claim.O) (t.fillings claim.A) (t.fillings claim.B)) more
     ∙ reads-then ms z (Ok (t.fillings claim.M, z)) (λ (m : Fillings) (l : List Symbol). go_on (all (t.fillings claim.O) (t.fillings claim.A) (t.fillings claim.B) m l) more) (list_read candidate z))))
   where
     all : Fillings → Fillings → Fillings → Fillings → Parser (Copy → Fillings)
@@ -198,7 +198,7 @@ lists-then t {os = os} {xs = xs} {ys = ys} {ms = ms} base variant_a variant_b ca
     with_a o = r.list mark.VariantA >>= with_b o
 
 -- a task is read
-pub task_read : {ts : List Marked} {t : Parts} → IsTask ts t → (z : List Symbol) → r.task (symbols ts ++ z) ≡ reach ts z (Ok ((front_of t, listed t), z))
+pub task_read : {ts : List Marked} {t : Parts} → IsTask ts t → (z : List Symbol) → r.task (unmarked ts ++ z) ≡ reach ts z (Ok ((front_of t, listed t), z))
 unfolding r.task
 task_read (g.task {o = os} {a = xs} {b = ys} {m = ms} t declared named assumed code base variant_a variant_b candidate) z =
     head-then t (os ++ (xs ++ (ys ++ ms))) declared named assumed code z (λ (front : r.Front). r.lists >>= λ (fs : Copy → Fillings). pure (front, fs)) (Ok ((front_of t, listed t), z))
@@ -214,50 +214,17 @@ all_copies fs = fun_ext same
     same claim.M = refl
 
 -- the symbols of a task are read to their end, or refused at the first that nests too deep
-pub whole_read : {ts : List Marked} {t : Parts} → IsTask ts t → r.whole (symbols ts) ≡ r.to_end (reach ts [] (Ok ((front_of t, t.fillings), [])))
+pub whole_read : {ts : List Marked} {t : Parts} → IsTask ts t → r.whole (unmarked ts) ≡ r.to_end (reach ts [] (Ok ((front_of t, t.fillings), [])))
 unfolding r.whole
 whole_read {ts} {t} p =
-    ap (λ (l : List Symbol). r.to_end (r.task l)) (sym (append-nil (symbols ts)))
+    ap (λ (l : List Symbol). r.to_end (r.task l)) (sym (append-nil (unmarked ts)))
     ∙ ap (λ (a : Result ((r.Front × (Copy → Fillings)) × List Symbol) Fault). r.to_end a) (task_read p [])
     ∙ ap (λ (fs : Copy → Fillings). r.to_end (reach ts [] (Ok ((front_of t, fs), [])))) (all_copies t.fillings)
-
--- a task is refused at the first symbol that nests too deep
-pub nested_refused : (before : List Symbol) (m : Symbol) (behind : List Marked) (t : Parts) → IsTask (map plain before ++ (m, true) ∷ behind) t → r.whole (before ++ m ∷ symbols behind) ≡ Err (fault Nested (m ∷ symbols behind))
-nested_refused before m behind t p =
-    ap (λ (l : List Symbol). r.whole l) (sym line)
-    ∙ whole_read p
-    ∙ ap (λ (a : Result ((r.Front × (Copy → Fillings)) × List Symbol) Fault). r.to_end a) (reach-append (map plain before) ((m, true) ∷ behind) [] (Ok ((front_of t, t.fillings), [])) ∙ reach-plain before (m ∷ (symbols behind ++ [])) (Err (fault Nested (m ∷ (symbols behind ++ [])))))
-    ∙ ap (λ (l : List Symbol). Err (fault Nested (m ∷ l))) (append-nil (symbols behind))
-  where
-    line : symbols (map plain before ++ (m, true) ∷ behind) ≡ before ++ m ∷ symbols behind
-    line =
-        sym (append-nil (symbols (map plain before ++ (m, true) ∷ behind)))
-        ∙ symbols-append (map plain before) ((m, true) ∷ behind) []
-        ∙ ap (λ (l : List Symbol). l ++ m ∷ (symbols behind ++ [])) (symbols-plain before)
-        ∙ ap (λ (l : List Symbol). before ++ m ∷ l) (append-nil (symbols behind))
-
-past_nested : (deep : Bool) (ts : List Symbol) (a : Result ((r.Front × (Copy → Fillings)) × List Symbol) Fault) (f : Fault) → (r.to_end a ≡ Err f → f.kind ≡ Nested) → r.to_end (past deep ts a) ≡ Err f → f.kind ≡ Nested
-past_nested true ts a f more e = ap (λ (g : Fault). g.kind) (sym (err_same (fault Nested ts) f e))
-  where
-    err_same : (g h : Fault) → (let b : Result (r.Front × (Copy → Fillings)) Fault = Err g in b) ≡ Err h → g ≡ h
-    err_same g h q = cc
-past_nested false ts a f more e = more e
-
-reach_nested : (us : List Marked) (z : List Symbol) (x : r.Front × (Copy → Fillings)) (f : Fault) → r.to_end (reach us z (Ok (x, []))) ≡ Err f → f.kind ≡ Nested
-reach_nested [] z x f e = absurd (ok_err x f e)
-  where
-    ok_err : (y : r.Front × (Copy → Fillings)) (h : Fault) → (let b : Result (r.Front × (Copy → Fillings)) Fault = Ok y in b) ≡ Err h → ⊥
-    ok_err y h q = cc
-reach_nested (t ∷ us) z x f e = past_nested t.1 (t.0 ∷ (symbols us ++ z)) (reach us z (Ok (x, []))) f (reach_nested us z x f) e
-
--- what the grammar spells is refused for nesting alone
-pub refused_nested : {us : List Marked} {t : Parts} → IsTask us t → (f : Fault) → r.whole (symbols us) ≡ Err f → f.kind ≡ Nested
-refused_nested {us} {t} p f e = reach_nested us [] (front_of t, t.fillings) f (sym (whole_read p) ∙ e)
 
 -- symbols of which none nests too deep are read as the task that the grammar spells by them
 pub read_complete : (ts : List Symbol) (t : Parts) → IsTask (map plain ts) t → r.whole ts ≡ Ok (front_of t, t.fillings)
 read_complete ts t p =
-    ap (λ (l : List Symbol). r.whole l) (sym (symbols-plain ts))
+    ap (λ (l : List Symbol). r.whole l) (sym (unmarked-plain ts))
     ∙ whole_read p
     ∙ ap (λ (a : Result ((r.Front × (Copy → Fillings)) × List Symbol) Fault). r.to_end a) (reach-plain ts [] (Ok ((front_of t, t.fillings), [])))
 

@@ -1,5 +1,5 @@
 -- What each rule reads is what the grammar says.
-use Rattle.std.proofs.Common.{◌≡◌, ℕ, suc, zero, ◌+◌, ◌<◌, ℤ, pos, negsuc, refl, sym, ap, ◌∙◌, subst, arith, Bool, true, false, ◌&&◌, Option, Some, None, Result, Ok, Err, List, [], ◌∷◌, ◌++◌, length, map, append_assoc}
+use Rattle.std.proofs.Common.{◌≡◌, ℕ, suc, zero, ◌+◌, ◌<◌, ℤ, pos, negsuc, refl, sym, ap, ◌∙◌, subst, arith, Bool, true, false, ◌&&◌, Option, Some, None, Ok, List, [], ◌∷◌, ◌++◌, length, map, append_assoc}
 use Rattle.std.specs.Prelude.{nat_le, if◌then◌else◌}
 use Rattle.std.proofs.lemmas.List.{append-nil}
 use Rattle.std.proofs.lemmas.Bool.Decides.{nat_tests}
@@ -22,11 +22,10 @@ use Rattle.sm_syntax.specs.ConflictFree.{Copy}
 use Rattle.sm_syntax.specs.Grammar as g
 use Rattle.sm_syntax.specs.Grammar.{Marked, plain, word, opens, joins, comparison, declares, IsExpression, IsCondition, IsHoleNumber, AreStatements, IsBlock, AreNames, AreDeclarations, AreOutputs, IsAssumption, IsShared, AreFillings, IsList, IsTask, with_sort}
 use Rattle.sm_syntax.specs.Parts.{by_copy}
-use Rattle.sm_text.specs.declared.reading.Fault.{Fault}
 use Rattle.sm_text.specs.declared.reading.FaultKind.TheVariants.{Expected}
 use Rattle.sm_text.specs.Parsers.{rest, Parser, ◌>>◌, pure, skip, refuse, stands, inside}
 use Rattle.sm_text.specs.Reading as r
-use Rattle.sm_text.proofs.Told.{Takes, Told, Possible, Describes, DescribesAt, Both, Is, IsMark, bind, both, weaken, possibly, possibly-behind, give, refused_at, anywhere, choose, choose_by, after, expect_told, bind_at, weaken_at, stands-is, standing, Inner, Enclosed, inside_told, grouped_told}
+use Rattle.sm_text.proofs.Told.{all_read, Possible, Describes, DescribesAt, Both, Is, IsMark, bind, both, weaken, possibly, possibly-behind, give, refused_at, anywhere, choose, choose_by, after, expect_told, bind_at, weaken_at, stands-is, standing, Inner, Enclosed, inside_told, grouped_told}
 use Rattle.sm_text.proofs.Chained.{Chained, Joins, chain_told}
 use Rattle.sm_text.proofs.Gathered.{Gathers, none, more, gathered}
 
@@ -676,7 +675,7 @@ statements_told n d e body blocks = weaken (are_statements d) (bind (gathered r.
 is_block : (d : ℕ) (us : List Marked) (c : Code) → Enclosed d mark.OpenCurly mark.CloseCurly (AreStatements (suc d)) us c → IsBlock d us c
 is_block d us c e = let F : List Marked → Type 0 = λ l. IsBlock d l c in subst F (sym e.split) (g.block e.fits)
 
-braced_told : (d : ℕ) (deeper : Option (Parser Code)) → Inner deeper (AreStatements (suc d)) d → Describes (r.braced deeper) (IsBlock d)
+pub braced_told : (d : ℕ) (deeper : Option (Parser Code)) → Inner deeper (AreStatements (suc d)) d → Describes (r.braced deeper) (IsBlock d)
 unfolding r.braced
 braced_told d deeper i = weaken (is_block d) (grouped_told deeper (AreStatements (suc d)) d mark.OpenCurly mark.CloseCurly i)
 
@@ -870,22 +869,7 @@ pub task_told : Describes r.task IsTaskBody
 unfolding r.task
 task_told = weaken is_task (bind head_told (λ front. bind lists_told (λ fs. give (front, fs))))
 
-not_err : {f : Fault} {p : r.Front × (Copy → Fillings)} → (let a : Result (r.Front × (Copy → Fillings)) Fault = Err f in a) ≡ Ok p → ⊥
-not_err q = cc
-
 -- what is read to the end is a task
 pub whole_told : (ts : List Symbol) (p : r.Front × (Copy → Fillings)) → r.whole ts ≡ Ok p → IsTaskBody (map plain ts) p
 unfolding r.whole
-whole_told ts p e = by_answer (r.task ts) (task_told.tells ts) e
-  where
-    rest_read : (x : r.Front × (Copy → Fillings)) (after : List Symbol) → Takes r.task IsTaskBody ts x after → r.by_rest x after ≡ Ok p → IsTaskBody (map plain ts) p
-    rest_read x [] k q =
-        let F : List Symbol → Type 0 = λ l. IsTaskBody (map plain l) x in
-        let G : r.Front × (Copy → Fillings) → Type 0 = λ y. IsTaskBody (map plain ts) y in
-        let same : x ≡ p = cc in
-        subst G same (subst F (sym (k.split ∙ append-nil k.used)) k.fits)
-    rest_read x (u ∷ us) k q = absurd (not_err q)
-
-    by_answer : (a : Result ((r.Front × (Copy → Fillings)) × List Symbol) Fault) → Told r.task IsTaskBody ts a → r.to_end a ≡ Ok p → IsTaskBody (map plain ts) p
-    by_answer (Err f) k q = absurd (not_err q)
-    by_answer (Ok a) k q = rest_read a.0 a.1 k q
+whole_told ts p e = all_read task_told ts p e

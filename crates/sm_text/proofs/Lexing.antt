@@ -12,8 +12,7 @@ use Rattle.sm_syntax.specs.declared.token.LexKind.TheVariants.{BadByte, BadToken
 use Rattle.sm_syntax.specs.declared.token.Token.{Token}
 use Rattle.sm_syntax.specs.declared.token.TokenKind.{TokenKind}
 use Rattle.sm_syntax.specs.declared.token.TokenKind.TheVariants.{Word, Number, Sign}
-use Rattle.sm_syntax.specs.Symbols.{text_of}
-use Rattle.sm_text.specs.TokenTexts.{IsText}
+use Rattle.sm_text.specs.TokenTexts.{IsText, IsTokenOf}
 use Rattle.sm_text.proofs.Fronting.{AllPass-run, IsAscii-run}
 use Rattle.sm_syntax.specs.Tokens.{Front, Gap, Piece, Fault, Lexed, front_of, word_at, number_at, sign_at, is_space, is_hash, is_word_start, is_word_byte, is_in_line, mark_of_sign, by_front, with_token, lexed_behind, lexed_from, lexed}
 
@@ -214,11 +213,6 @@ IsCut-fault bytes ts (x ∷ xs) b kind cut some first front =
 one_on : (bytes : List ℕ) (place b : ℕ) (rest : List ℕ) → drop place bytes ≡ b ∷ rest → drop (place + 1) bytes ≡ rest
 one_on bytes place b rest at = sym (drop-drop 1 place bytes) ∙ ap (drop 1) at
 
--- a token lies within the text, and its bytes are of its kind
-pub record IsTokenOf (bytes : List ℕ) (t : Token) : Type 0 where
-  pub within : t.place + t.size ≤ length bytes
-  pub text : IsText t.kind (text_of bytes t)
-
 IsTokenOf-lexed_behind : (bytes : List ℕ) (left place : ℕ) (rest : List ℕ) → drop place bytes ≡ rest → place + length rest ≡ length bytes → AllByRecursion (IsTokenOf bytes) (lexed_behind left place rest).0
 IsTokenOf-lexed_behind bytes left place [] at len = tt
 IsTokenOf-lexed_behind bytes (suc left) place (b ∷ rest) at len = IsTokenOf-lexed_behind bytes left (place + 1) rest (one_on bytes place b rest at) (omega arith)
@@ -255,12 +249,15 @@ unfolding lexed lexed_from
 length-lexed bytes = length-lexed_behind 0 0 bytes
 
 -- so each of its tokens does
-all_at : {T : Type 0} (P : T → Type 0) (xs : List T) → AllByRecursion P xs → (i : ℕ) (d : T) → i < length xs → P (get_or xs i d)
+pub all_at : {T : Type 0} (P : T → Type 0) (xs : List T) → AllByRecursion P xs → (i : ℕ) (d : T) → i < length xs → P (get_or xs i d)
 all_at P [] all i d h = absurd (omega arith)
 all_at P (x ∷ xs) all zero d h = all.0
 all_at P (x ∷ xs) all (suc i) d h = all_at P xs all.1 i d (omega arith)
 
-pub IsTokenOf-at : (bytes : List ℕ) (tokens : List Token) → tokens ≡ (lexed bytes).0 → (i : ℕ) (d : Token) → i < length tokens → IsTokenOf bytes (get_or tokens i d)
-IsTokenOf-at bytes tokens cut i d h =
-    let P : List Token → Type 0 = λ ts. AllByRecursion (IsTokenOf bytes) ts in
-    all_at (IsTokenOf bytes) tokens (subst P (sym cut) (IsTokenOf-lexed bytes)) i d h
+all_behind : {T : Type 0} (P : T → Type 0) (n : ℕ) (xs : List T) → AllByRecursion P xs → AllByRecursion P (drop n xs)
+all_behind P zero xs all = all
+all_behind P (suc n) [] all = tt
+all_behind P (suc n) (x ∷ xs) all = all_behind P n xs all.1
+
+pub IsTokenOf-behind : (bytes : List ℕ) (n : ℕ) → AllByRecursion (IsTokenOf bytes) (drop n (lexed bytes).0)
+IsTokenOf-behind bytes n = all_behind (IsTokenOf bytes) n (lexed bytes).0 (IsTokenOf-lexed bytes)

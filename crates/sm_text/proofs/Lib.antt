@@ -29,4 +29,10 @@ pub mod CompleteStatements
 pub mod CompleteTasks
 pub mod Refusals
 pub mod FirstFaults
+pub mod TextFaults
 pub mod ProgramRead
+pub mod Judged
+pub mod Counted
+pub mod Prefixed
+pub mod PrefixRead
+pub mod PrefixJudged

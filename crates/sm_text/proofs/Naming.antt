@@ -1,5 +1,6 @@
 -- The symbols of the tokens so far, where the names are numbered as in the whole text.
-use Rattle.std.proofs.Common.{◌≡◌, ℕ, ◌+◌, ◌<◌, ◌≤◌, Bool, true, false, not, List, [], ◌∷◌, ◌++◌, map, length, take, drop, get_or, Option, Some, None, is_some, if◌then◌else◌, refl, sym, ap, ◌∙◌, append_assoc, append-nil, take-append-drop, take_all, arith}
+use Rattle.std.proofs.Common.{◌≡◌, ℕ, ◌+◌, ◌<◌, ◌≤◌, Bool, true, false, not, List, [], ◌∷◌, ◌++◌, map, length, take, drop, get_or, Option, Some, None, is_some, if◌then◌else◌, refl, sym, ap, ◌∙◌, append_assoc, append-nil, take-append-drop, take_all}
+use Rattle.std.proofs.Math.Seq.{take-append_seam}
 use Rattle.std.proofs.lemmas.List.{take_more, map_more}
 use Rattle.std.specs.List.{position_or_len}
 use Rattle.std.specs.Str.{bytes_eq}
@@ -11,14 +12,14 @@ use Rattle.sm_syntax.specs.declared.token.TokenKind.{TokenKind}
 use Rattle.sm_syntax.specs.declared.token.TokenKind.TheVariants.{Word, Number, Sign}
 use Rattle.sm_syntax.specs.Tokens.{mark_of_word, lexed}
 use Rattle.sm_syntax.specs.Symbols.{text_of, is_among, with_text, is_name, names_after, mark_or, symbol_by, symbol_of, names_among, symbols_among, names_of, symbols_of}
-use Rattle.sm_syntax.proofs.Numbering.{is_among-with_text, number-append, length-with_text, grown-with_text}
+use Rattle.sm_syntax.proofs.Numbering.{is_among-with_text, number-append, grown-with_text}
 
 -- the names after one more token
 abbrev pub names_with : List (List ℕ) → TokenKind → List ℕ → List (List ℕ)
 names_with names kind text = if is_name kind text then with_text names text else names
 
 -- the names of tokens before others go on to the names of all
-names_after-append : (bytes : List ℕ) (names : List (List ℕ)) (us vs : List Token) → names_after bytes names (us ++ vs) ≡ names_after bytes (names_after bytes names us) vs
+pub names_after-append : (bytes : List ℕ) (names : List (List ℕ)) (us vs : List Token) → names_after bytes names (us ++ vs) ≡ names_after bytes (names_after bytes names us) vs
 names_after-append bytes names [] vs = refl
 names_after-append bytes names (t ∷ us) vs = names_after-append bytes (names_with names t.kind (text_of bytes t)) us vs
 
@@ -37,15 +38,8 @@ grown-names_after bytes names (t ∷ ts) =
     let rest = grown-names_after bytes (names_with names t.kind (text_of bytes t)) ts in
     (first.0 ++ rest.0, rest.1 ∙ ap (λ l. l ++ rest.0) first.1 ∙ append_assoc names first.0 rest.0)
 
-length-names_with : (names : List (List ℕ)) (kind : TokenKind) (text : List ℕ) → length (names_with names kind text) ≤ length names + 1
-length-names_with names kind text = by (is_name kind text)
-  where
-    by : (b : Bool) → length (if b then with_text names text else names) ≤ length names + 1
-    by true = length-with_text names text
-    by false = omega arith
-
 -- a name's symbol stays where names are added behind
-symbol_by-append : (kind : TokenKind) (names more : List (List ℕ)) (text : List ℕ) → (is_name kind text ≡ true → is_among names text ≡ true) → symbol_by kind (names ++ more) text ≡ symbol_by kind names text
+pub symbol_by-append : (kind : TokenKind) (names more : List (List ℕ)) (text : List ℕ) → (is_name kind text ≡ true → is_among names text ≡ true) → symbol_by kind (names ++ more) text ≡ symbol_by kind names text
 symbol_by-append Word names more text known = by (mark_of_word text) known
   where
     by : (o : Option Mark) → (not (is_some o) ≡ true → is_among names text ≡ true)
@@ -59,51 +53,68 @@ symbol_by-append Sign names more text known = refl
 pub known-names_with : (names : List (List ℕ)) (kind : TokenKind) (text : List ℕ) → is_name kind text ≡ true → is_among (names_with names kind text) text ≡ true
 known-names_with names kind text h = ap (λ b. is_among (if b then with_text names text else names) text) h ∙ is_among-with_text names text
 
--- the first tokens are made symbols, with the names so far
-pub record IsRead (bytes : List ℕ) (tokens : List Token) (i : ℕ) (names : List (List ℕ)) (symbols : List Symbol) : Type 0 where
-  pub names_are : names ≡ names_after bytes [] (take i tokens)
-  pub symbols_are : symbols ≡ map (symbol_of bytes (names_among bytes tokens)) (take i tokens)
-  pub few : length names ≤ i
+-- a table to which the names of tokens were added begins with what it was
+pub kept-names_after : (bytes : List ℕ) (before names : List (List ℕ)) (ts : List Token) → names ≡ names_after bytes before ts → take (length before) names ≡ before
+kept-names_after bytes before names ts same =
+    let grown = grown-names_after bytes before ts in
+    ap (take (length before)) (same ∙ grown.1) ∙ take-append_seam before grown.0
 
-pub IsRead-start : (bytes : List ℕ) (tokens : List Token) → IsRead bytes tokens 0 [] []
-IsRead-start bytes tokens = record { names_are = refl; symbols_are = refl; few = omega arith }
+-- the first tokens are made symbols, with the names so far behind those that stood before
+pub record IsRead (bytes : List ℕ) (before : List (List ℕ)) (tokens : List Token) (i : ℕ) (names : List (List ℕ)) (symbols : List Symbol) : Type 0 where
+  pub names_are : names ≡ names_after bytes before (take i tokens)
+  pub symbols_are : symbols ≡ map (symbol_of bytes (names_after bytes before tokens)) (take i tokens)
 
-pub IsRead-next : (bytes : List ℕ) (tokens : List Token) (i : ℕ) (names new : List (List ℕ)) (symbols : List Symbol) (d : Token) (s : Symbol)
-    → IsRead bytes tokens i names symbols → i < length tokens → new ≡ names_with names (get_or tokens i d).kind (text_of bytes (get_or tokens i d)) → s ≡ symbol_by (get_or tokens i d).kind new (text_of bytes (get_or tokens i d))
-    → IsRead bytes tokens (i + 1) new (symbols ++ s ∷ [])
-unfolding symbol_of names_among
-IsRead-next bytes tokens i names new symbols d s read more added made =
+pub IsRead-start : (bytes : List ℕ) (before : List (List ℕ)) (tokens : List Token) → IsRead bytes before tokens 0 before []
+IsRead-start bytes before tokens = record { names_are = refl; symbols_are = refl }
+
+-- the names after one more token
+pub IsRead-more : (bytes : List ℕ) (before : List (List ℕ)) (tokens : List Token) (i : ℕ) (names new : List (List ℕ)) (symbols : List Symbol) (d : Token)
+    → IsRead bytes before tokens i names symbols → i < length tokens → new ≡ names_with names (get_or tokens i d).kind (text_of bytes (get_or tokens i d)) → new ≡ names_after bytes before (take (i + 1) tokens)
+IsRead-more bytes before tokens i names new symbols d read more added =
+    let t = get_or tokens i d in
+    added ∙ ap (λ l. names_with l t.kind (text_of bytes t)) read.names_are ∙ sym (names_after-append bytes before (take i tokens) (t ∷ [])) ∙ ap (names_after bytes before) (sym (take_more tokens i d more))
+
+pub IsRead-next : (bytes : List ℕ) (before : List (List ℕ)) (tokens : List Token) (i : ℕ) (names new : List (List ℕ)) (symbols : List Symbol) (d : Token) (s : Symbol)
+    → IsRead bytes before tokens i names symbols → i < length tokens → new ≡ names_with names (get_or tokens i d).kind (text_of bytes (get_or tokens i d)) → s ≡ symbol_by (get_or tokens i d).kind new (text_of bytes (get_or tokens i d))
+    → IsRead bytes before tokens (i + 1) new (symbols ++ s ∷ [])
+unfolding symbol_of
+IsRead-next bytes before tokens i names new symbols d s read more added made =
     let t = get_or tokens i d in
     let text = text_of bytes t in
-    let so_far = take_more tokens i d more in
-    let names_are : new ≡ names_after bytes [] (take (i + 1) tokens) =
-    added ∙ ap (λ l. names_with l t.kind text) read.names_are ∙ sym (names_after-append bytes [] (take i tokens) (t ∷ [])) ∙ ap (names_after bytes []) (sym so_far) in
+    let names_are = IsRead-more bytes before tokens i names new symbols d read more added in
     let rest = grown-names_after bytes new (drop (i + 1) tokens) in
-    let all : names_after bytes [] tokens ≡ new ++ rest.0 =
-    ap (names_after bytes []) (sym (take-append-drop (i + 1) tokens))
-    ∙ names_after-append bytes [] (take (i + 1) tokens) (drop (i + 1) tokens)
+    let all : names_after bytes before tokens ≡ new ++ rest.0 =
+    ap (names_after bytes before) (sym (take-append-drop (i + 1) tokens))
+    ∙ names_after-append bytes before (take (i + 1) tokens) (drop (i + 1) tokens)
     ∙ ap (λ l. names_after bytes l (drop (i + 1) tokens)) (sym names_are)
     ∙ rest.1 in
     let known : is_name t.kind text ≡ true → is_among new text ≡ true = λ h. ap (λ l. is_among l text) added ∙ known-names_with names t.kind text h in
-    let same : s ≡ symbol_by t.kind (names_after bytes [] tokens) text =
+    let same : s ≡ symbol_by t.kind (names_after bytes before tokens) text =
     made ∙ sym (symbol_by-append t.kind new rest.0 text known) ∙ ap (λ l. symbol_by t.kind l text) (sym all) in
-    let longer = length-names_with names t.kind text in
-    let grown = ap length added in
     record {
       names_are = names_are;
       symbols_are =
           ap (λ l. l ++ s ∷ []) read.symbols_are
-          ∙ ap (λ x. map (symbol_of bytes (names_among bytes tokens)) (take i tokens) ++ x ∷ []) same
-          ∙ sym (map_more (symbol_of bytes (names_among bytes tokens)) tokens i d more);
-      few = omega (arith, read.few, longer, grown);
+          ∙ ap (λ x. map (symbol_of bytes (names_after bytes before tokens)) (take i tokens) ++ x ∷ []) same
+          ∙ sym (map_more (symbol_of bytes (names_after bytes before tokens)) tokens i d more);
     }
 
 -- all of them
-pub IsRead-names : (bytes : List ℕ) (tokens : List Token) (names : List (List ℕ)) (symbols : List Symbol) → tokens ≡ (lexed bytes).0 → (i : ℕ) → length tokens ≤ i → IsRead bytes tokens i names symbols → names ≡ names_of bytes
-unfolding names_of names_among
-IsRead-names bytes tokens names symbols cut i end read = read.names_are ∙ ap (names_after bytes []) (take_all i tokens end ∙ cut)
+pub IsRead-names : (bytes : List ℕ) (before : List (List ℕ)) (tokens : List Token) (names : List (List ℕ)) (symbols : List Symbol) (i : ℕ) → length tokens ≤ i → IsRead bytes before tokens i names symbols → names ≡ names_after bytes before tokens
+IsRead-names bytes before tokens names symbols i end read = read.names_are ∙ ap (names_after bytes before) (take_all i tokens end)
 
-pub IsRead-symbols : (bytes : List ℕ) (tokens : List Token) (names : List (List ℕ)) (symbols : List Symbol) → tokens ≡ (lexed bytes).0 → (i : ℕ) → length tokens ≤ i → IsRead bytes tokens i names symbols → symbols ≡ symbols_of bytes
-unfolding symbols_of symbols_among
-IsRead-symbols bytes tokens names symbols cut i end read =
-    read.symbols_are ∙ ap (map (symbol_of bytes (names_among bytes tokens))) (take_all i tokens end) ∙ ap (λ ts. map (symbol_of bytes (names_among bytes ts)) ts) cut
+pub IsRead-symbols : (bytes : List ℕ) (before : List (List ℕ)) (tokens : List Token) (names : List (List ℕ)) (symbols : List Symbol) (i : ℕ) → length tokens ≤ i → IsRead bytes before tokens i names symbols → symbols ≡ map (symbol_of bytes names) tokens
+IsRead-symbols bytes before tokens names symbols i end read =
+    read.symbols_are
+    ∙ ap (map (symbol_of bytes (names_after bytes before tokens))) (take_all i tokens end)
+    ∙ ap (λ l. map (symbol_of bytes l) tokens) (sym (IsRead-names bytes before tokens names symbols i end read))
+
+-- those of a whole text
+pub names_of-all : (bytes : List ℕ) (tokens : List Token) (names : List (List ℕ)) → tokens ≡ (lexed bytes).0 → names ≡ names_after bytes [] tokens → names ≡ names_of bytes
+unfolding names_of names_among
+names_of-all bytes tokens names cut n = n ∙ ap (names_after bytes []) cut
+
+pub symbols_of-all : (bytes : List ℕ) (tokens : List Token) (names : List (List ℕ)) (symbols : List Symbol) → tokens ≡ (lexed bytes).0 → names ≡ names_after bytes [] tokens → symbols ≡ map (symbol_of bytes names) tokens → symbols ≡ symbols_of bytes
+unfolding symbols_of symbols_among names_among
+symbols_of-all bytes tokens names symbols cut n s =
+    s ∙ ap (λ l. map (symbol_of bytes l) tokens) n ∙ ap (λ ts. map (symbol_of bytes (names_after bytes [] ts)) ts) cut

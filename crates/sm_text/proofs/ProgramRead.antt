@@ -12,14 +12,15 @@ use Rattle.sm_text.specs.declared.reading.ReadError.{ReadError}
 use Rattle.sm_text.specs.declared.reading.ReadError.TheVariants as error
 use Rattle.sm_text.specs.Answers.{Fails}
 use Rattle.sm_text.specs.Fragments.{ProgramParts, IsProgram, program, SpellsProgram}
-use Rattle.sm_text.specs.Parsers.{first, fault, Parser, go_on, ◌>>=◌, pure}
+use Rattle.sm_text.specs.Parsers.{first, fault, Parser, ◌>>=◌, pure}
+use Rattle.sm_text.specs.Places.{unmarked}
 use Rattle.sm_text.specs.ProgramReading as p
 use Rattle.sm_text.specs.ProgramReading.{ProgramBody, program_from}
 use Rattle.sm_text.specs.Reading as r
-use Rattle.sm_text.proofs.Complete.{symbols, reach, next, reads-then, symbols-plain, reach-plain}
+use Rattle.sm_text.proofs.Complete.{reach, next, reads-then, unmarked-plain, reach-plain}
 use Rattle.sm_text.proofs.CompleteTasks.{declarations_read, outputs_read, outputs_begin, shared_read}
 use Rattle.sm_text.proofs.Described.{declarations_told, outputs_told, shared_told}
-use Rattle.sm_text.proofs.Told.{Takes, Told, Describes, Both, Is, bind, weaken, give}
+use Rattle.sm_text.proofs.Told.{all_read, Describes, Both, Is, bind, weaken, give}
 
 -- what the parts of a program are read as
 abbrev pub body_of : ProgramParts → ProgramBody
@@ -44,7 +45,7 @@ is_program_body us x b = subst F b.two.two.two.same (subst G (sym line) (record 
     line : us ≡ b.front ++ (b.two.front ++ b.two.two.front)
     line = b.parts ∙ ap (λ (l : List Marked). b.front ++ l) (b.two.parts ∙ ap (λ (l : List Marked). b.two.front ++ l) (b.two.two.parts ∙ ap (λ (l : List Marked). b.two.two.front ++ l) b.two.two.two.none ∙ append-nil b.two.two.front))
 
-program_told : Describes p.program IsProgramBody
+pub program_told : Describes p.program IsProgramBody
 unfolding p.program
 program_told = weaken is_program_body (bind declarations_told (λ ds. bind outputs_told (λ xs. bind shared_told (λ c. give (record { declared = ds; outputs = xs; body = c })))))
 
@@ -54,19 +55,7 @@ not_err q = cc
 -- what is read to the end is a program
 pub whole_program_told : (ts : List Symbol) (x : ProgramBody) → p.whole_program ts ≡ Ok x → IsProgramBody (map plain ts) x
 unfolding p.whole_program
-whole_program_told ts x e = by_answer (p.program ts) (program_told.tells ts) e
-  where
-    rest_read : (y : ProgramBody) (after : List Symbol) → Takes p.program IsProgramBody ts y after → r.by_rest y after ≡ Ok x → IsProgramBody (map plain ts) x
-    rest_read y [] k q =
-        let F : List Symbol → Type 0 = λ l. IsProgramBody (map plain l) y in
-        let G : ProgramBody → Type 0 = λ z. IsProgramBody (map plain ts) z in
-        let same : y ≡ x = cc in
-        subst G same (subst F (sym (k.split ∙ append-nil k.used)) k.fits)
-    rest_read y (u ∷ us) k q = absurd (not_err q)
-
-    by_answer : (a : Result (ProgramBody × List Symbol) Fault) → Told p.program IsProgramBody ts a → r.to_end a ≡ Ok x → IsProgramBody (map plain ts) x
-    by_answer (Err f) k q = absurd (not_err q)
-    by_answer (Ok a) k q = rest_read a.0 a.1 k q
+whole_program_told ts x e = all_read program_told ts x e
 
 some_none : (t : Symbol) → (let o : Option Symbol = Some t in o) ≡ None → ⊥
 some_none t p = cc
@@ -90,11 +79,11 @@ program-fails ts (error.Fault f) fails = rw fails refl
 program-fails ts error.Memory fails = tt
 
 -- a program is read
-program_read : {ts : List Marked} {t : ProgramParts} → IsProgram ts t → (z : List Symbol) → p.program (symbols ts ++ z) ≡ reach ts z (Ok (body_of t, z))
+pub program_read : {ts : List Marked} {t : ProgramParts} → IsProgram ts t → (z : List Symbol) → p.program (unmarked ts ++ z) ≡ reach ts z (Ok (body_of t, z))
 unfolding p.program
 program_read (program {ts = ts} {us = us} {vs = vs} t declared named code) z =
-    next r.declarations ts (us ++ vs) z (Ok (t.declared, symbols (us ++ vs) ++ z)) with_outputs (Ok (body_of t, z)) (declarations_read declared (symbols (us ++ vs) ++ z) (outputs_begin named vs z))
-    (next r.outputs us vs z (Ok (t.outputs, symbols vs ++ z)) (with_body t.declared) (Ok (body_of t, z)) (outputs_read named (symbols vs ++ z))
+    next r.declarations ts (us ++ vs) z (Ok (t.declared, unmarked (us ++ vs) ++ z)) with_outputs (Ok (body_of t, z)) (declarations_read declared (unmarked (us ++ vs) ++ z) (outputs_begin named vs z))
+    (next r.outputs us vs z (Ok (t.outputs, unmarked vs ++ z)) (with_body t.declared) (Ok (body_of t, z)) (outputs_read named (unmarked vs ++ z))
     (reads-then vs z (Ok (t.body, z)) (whole t.declared t.outputs) (shared_read code z)))
   where
     whole : List (ℕ × Sort) → List ℕ → Code → Parser ProgramBody
@@ -111,7 +100,7 @@ program_complete : (ts : List Symbol) (t : ProgramParts) → IsProgram (map plai
 unfolding p.whole_program
 program_complete ts t it =
     let end : Result (ProgramBody × List Symbol) Fault → Result ProgramBody Fault = λ a. r.to_end a in
-    ap (λ (l : List Symbol). end (p.program l)) (sym (append-nil (symbols (map plain ts)) ∙ symbols-plain ts))
+    ap (λ (l : List Symbol). end (p.program l)) (sym (append-nil (unmarked (map plain ts)) ∙ unmarked-plain ts))
     ∙ ap end (program_read it [])
     ∙ ap end (reach-plain ts [] (Ok (body_of t, [])))
 

@@ -215,7 +215,7 @@ among_more : (texts more : List (List ℕ)) (text : List ℕ) → is_among texts
 among_more texts more text h = list_any-append (bytes_eq text) texts more ∙ ap (λ (t : Bool). t || is_among more text) h
 
 -- behind the tokens, each of their names is among the names
-known_behind : (bytes : List ℕ) (before : List (List ℕ)) (ts : List lexical.Token) (names : List (List ℕ)) → names ≡ names_after bytes before ts → AllByRecursion (IsKnown bytes names) ts
+pub known_behind : (bytes : List ℕ) (before : List (List ℕ)) (ts : List lexical.Token) (names : List (List ℕ)) → names ≡ names_after bytes before ts → AllByRecursion (IsKnown bytes names) ts
 known_behind bytes before [] names same = tt
 known_behind bytes before (t ∷ ts) names same =
     let text = symbol.text_of bytes t in

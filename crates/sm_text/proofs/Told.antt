@@ -1,6 +1,7 @@
 -- What a parser takes is what a fact on marked symbols says, and what it refuses could have gone on up to there. A parser
 -- looks one symbol ahead. One lemma for each way to make a parser.
 use Rattle.std.proofs.Common.{◌≡◌, ℕ, ◌<◌, refl, sym, ap, ◌∙◌, subst, arith, Bool, true, false, Option, Some, None, Result, Ok, Err, List, [], ◌∷◌, ◌++◌, length, map, append_assoc, length-append}
+use Rattle.std.proofs.lemmas.List.{append-nil}
 use Rattle.std.specs.Prelude.{nat_le, if◌then◌else◌}
 use denote.Enum.Bare.{sameb, same_true}
 use Rattle.sm_syntax.specs.contracts.symbol.Mark.{the_type}
@@ -11,6 +12,7 @@ use Rattle.sm_syntax.specs.Grammar.{Marked, plain, word, opens}
 use Rattle.sm_text.specs.declared.reading.Fault.{Fault}
 use Rattle.sm_text.specs.declared.reading.FaultKind.TheVariants.{Expected, Nested}
 use Rattle.sm_text.specs.Parsers.{first, Parser, fault, go_on, ◌>>=◌, ◌>>◌, pure, peek, skip, refuse, expect_by, expect, stands, inside, grouped_by, grouped}
+use Rattle.sm_text.specs.Reading.{by_rest, to_end}
 
 -- what was read stands for the symbols that were used, and is read before all that begins with the same symbol
 pub record Takes {T : Type 0} (p : Parser T) (P : List Marked → T → Type 0) (ts : List Symbol) (x : T) (after : List Symbol) : Type 0 where
@@ -362,3 +364,24 @@ grouped_told {T} deeper P d begin close i = choose_by (λ o. grouped_by deeper c
     by : (o : Option Symbol) (b : Bool) → stands begin o ≡ b → DescribesAt o (grouped_by deeper close b) (Enclosed d begin close P)
     by o true e = standing begin o e (inside_told deeper P d begin close i)
     by o false e = refused_at (Enclosed d begin close P) may o
+
+not_err : {T : Type 0} {f : Fault} {x : T} → (let a : Result T Fault = Err f in a) ≡ Ok x → ⊥
+not_err e = cc
+
+ok_same : {T : Type 0} (x y : T) → (let a : Result T Fault = Ok x in a) ≡ Ok y → x ≡ y
+ok_same x y e = cc
+
+-- all symbols are what is read to the end
+pub all_read : {T : Type 0} {p : Parser T} {P : List Marked → T → Type 0} → Describes p P → (ts : List Symbol) (x : T) → to_end (p ts) ≡ Ok x → P (map plain ts) x
+all_read {T} {p} {P} d ts x e = by_answer (p ts) (d.tells ts) e
+  where
+    none_behind : (y : T) (behind : List Symbol) → Takes p P ts y behind → by_rest y behind ≡ Ok x → P (map plain ts) x
+    none_behind y [] t q =
+        let F : List Symbol → Type 0 = λ l. P (map plain l) y in
+        let G : T → Type 0 = λ z. P (map plain ts) z in
+        subst G (ok_same y x q) (subst F (sym (t.split ∙ append-nil t.used)) t.fits)
+    none_behind y (u ∷ us) t q = absurd (not_err q)
+
+    by_answer : (a : Result (T × List Symbol) Fault) → Told p P ts a → to_end a ≡ Ok x → P (map plain ts) x
+    by_answer (Err f) t q = absurd (not_err q)
+    by_answer (Ok a) t q = none_behind a.0 a.1 t q

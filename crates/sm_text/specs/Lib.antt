@@ -14,3 +14,5 @@ pub mod Named
 pub mod Fragments
 pub mod ProgramReading
 pub mod ProgramViews
+pub mod NameCounts
+pub mod Prefixes

@@ -1,75 +1,106 @@
--- Where the text of a task is refused: at the least place at which a fault stands. Whether symbols can go on is judged by
--- the grammar alone, whatever nests too deep in them.
-use Rattle.std.specs.Prelude.{◌≡◌, ℕ, suc, ◌≤◌, true, Option, Some, None, List, [], ◌∷◌, ◌++◌, length, map}
+-- Where a text is refused: at the least place at which a fault stands. Whether symbols can go on is judged by a grammar
+-- alone, whatever nests too deep in them.
+use Rattle.std.specs.Prelude.{◌≡◌, ℕ, suc, ◌≤◌, true, Option, Some, None, List, [], ◌∷◌, ◌++◌, length, map, drop}
 use Rattle.sm_syntax.specs.declared.symbol.Symbol.{Symbol}
+use Rattle.sm_syntax.specs.declared.token.LexFault.{LexFault}
 use Rattle.sm_syntax.specs.declared.token.LexKind.TheVariants as kind
 use Rattle.sm_syntax.specs.declared.token.Token.{Token}
 use Rattle.sm_syntax.specs.Grammar.{Marked, IsTask}
 use Rattle.sm_syntax.specs.Parts.{Parts}
-use Rattle.sm_syntax.specs.Symbols.{symbol_of, symbols_of, names_of}
+use Rattle.sm_syntax.specs.Symbols.{symbol_of, names_after, names_of}
 use Rattle.sm_syntax.specs.Tokens.{lexed}
 use Rattle.sm_text.specs.declared.error.TextError.{TextError}
 use Rattle.sm_text.specs.declared.error.TextError.TheVariants as error
+use Rattle.sm_text.specs.Fragments.{ProgramParts, IsProgram}
+
+-- what is to be spelled: which symbols spell something of a kind
+abbrev pub Grammar : Type 1
+Grammar = List Marked → Type 0
+
+-- the grammar of tasks
+abbrev pub AreTasks : List Marked → Type 0
+AreTasks ts = (t : Parts) × IsTask ts t
+
+-- the grammar of programs
+abbrev pub ArePrograms : List Marked → Type 0
+ArePrograms ts = (p : ProgramParts) × IsProgram ts p
+
+-- what is to be read: tokens, what the grammar sees of each, and the lexical fault or the end of the text behind them
+pub record Source : Type 0 where
+  pub tokens : List Token
+  pub symbol : Token → Symbol
+  pub fault : Option LexFault
+  pub end : ℕ
+
+-- a whole text
+abbrev pub whole_text : List ℕ → Source
+whole_text bytes = record { tokens = (lexed bytes).0; symbol = symbol_of bytes (names_of bytes); fault = (lexed bytes).1; end = length bytes }
+
+-- a text from the token with number `at` on, where the names before are known
+abbrev pub text_from : List ℕ → ℕ → List (List ℕ) → Source
+text_from bytes at before = record { tokens = drop at (lexed bytes).0; symbol = symbol_of bytes (names_after bytes before (drop at (lexed bytes).0)); fault = (lexed bytes).1; end = length bytes }
+
+-- the symbols that are to be read
+abbrev pub all_symbols : Source → List Symbol
+all_symbols source = map source.symbol source.tokens
 
 -- the symbols, whatever nests in them
 abbrev pub unmarked : List Marked → List Symbol
-unmarked ts = map (λ (t : Marked). t.0) ts
+unmarked [] = []
+unmarked (t ∷ ts) = t.0 ∷ unmarked ts
 
--- some task begins with these symbols
-pub record IsViable (ts : List Symbol) : Type 0 where
-  pub task : Parts
+-- something of the grammar begins with these symbols
+pub record IsViable (spells : Grammar) (ts : List Symbol) : Type 0 where
   pub spelled : List Marked
-  pub grammar : IsTask spelled task
+  pub grammar : spells spelled
   pub more : List Symbol
   pub begins : unmarked spelled ≡ ts ++ more
 
--- these are all the symbols of some task
-pub record IsWhole (ts : List Symbol) : Type 0 where
-  pub task : Parts
+-- these are all the symbols of something of the grammar
+pub record IsWhole (spells : Grammar) (ts : List Symbol) : Type 0 where
   pub spelled : List Marked
-  pub grammar : IsTask spelled task
+  pub grammar : spells spelled
   pub all : unmarked spelled ≡ ts
 
--- some task goes on behind these symbols, but none with the symbol that stands there, or none ends with the text
-abbrev pub IsUnexpected : List Symbol → Option Symbol → Type 0
-IsUnexpected before (Some t) = IsViable before × (IsViable (before ++ t ∷ []) → ⊥)
-IsUnexpected before None = IsViable before × (IsWhole before → ⊥)
+-- something goes on behind these symbols, but nothing with the symbol that stands there, or nothing ends with the text
+abbrev pub IsUnexpected : Grammar → List Symbol → Option Symbol → Type 0
+IsUnexpected spells before (Some t) = IsViable spells before × (IsViable spells (before ++ t ∷ []) → ⊥)
+IsUnexpected spells before None = IsViable spells before × (IsWhole spells before → ⊥)
 
--- some task goes on with this symbol behind these, and there it nests too deep
-pub record NestsTooDeep (before : List Symbol) (t : Symbol) : Type 0 where
-  pub task : Parts
+-- something goes on with this symbol behind these, and there it nests too deep
+pub record NestsTooDeep (spells : Grammar) (before : List Symbol) (t : Symbol) : Type 0 where
   pub front : List Marked
   pub behind : List Marked
-  pub grammar : IsTask (front ++ (t, true) ∷ behind) task
+  pub grammar : spells (front ++ (t, true) ∷ behind)
   pub begins : unmarked front ≡ before
 
--- a place of a text, the symbols before it, and the symbol that stands there: none at the end of a text of tokens alone
-pub data Stands (bytes : List ℕ) : ℕ → List Symbol → Option Symbol → Type 0 where
-  at_token : (before behind : List Token) (t : Token) → (lexed bytes).0 ≡ before ++ t ∷ behind → Stands bytes t.place (map (symbol_of bytes (names_of bytes)) before) (Some (symbol_of bytes (names_of bytes) t))
-  at_end : (lexed bytes).1 ≡ None → Stands bytes (length bytes) (symbols_of bytes) None
+-- a place, the symbols before it, and the symbol that stands there: none at the end of a text of tokens alone
+pub data Stands (source : Source) : ℕ → List Symbol → Option Symbol → Type 0 where
+  at_token : (before behind : List Token) (t : Token) → source.tokens ≡ before ++ t ∷ behind → Stands source t.place (map source.symbol before) (Some (source.symbol t))
+  at_end : source.fault ≡ None → Stands source source.end (all_symbols source) None
 
--- a token that no task has there, or the end of the text
-pub record IsExpectedAt (bytes : List ℕ) (place : ℕ) : Type 0 where
+-- a token that nothing of the grammar has there, or the end of the text
+pub record IsExpectedAt (spells : Grammar) (source : Source) (place : ℕ) : Type 0 where
   pub before : List Symbol
   pub next : Option Symbol
-  pub stands : Stands bytes place before next
-  pub unexpected : IsUnexpected before next
+  pub stands : Stands source place before next
+  pub unexpected : IsUnexpected spells before next
 
 -- a token that nests too deep
-pub record IsNestedAt (bytes : List ℕ) (place : ℕ) : Type 0 where
+pub record IsNestedAt (spells : Grammar) (source : Source) (place : ℕ) : Type 0 where
   pub before : List Symbol
   pub next : Symbol
-  pub stands : Stands bytes place before (Some next)
-  pub nests : NestsTooDeep before next
+  pub stands : Stands source place before (Some next)
+  pub nests : NestsTooDeep spells before next
 
--- the fault that the error names stands in the text
-abbrev pub IsFault : List ℕ → TextError → Type 0
-IsFault bytes (error.BadByte place) = (lexed bytes).1 ≡ Some (record { kind = kind.BadByte; place = place })
-IsFault bytes (error.WideNumber place) = (lexed bytes).1 ≡ Some (record { kind = kind.WideNumber; place = place })
-IsFault bytes (error.BadToken place) = (lexed bytes).1 ≡ Some (record { kind = kind.BadToken; place = place })
-IsFault bytes (error.Expected place) = IsExpectedAt bytes place
-IsFault bytes (error.Nested place) = IsNestedAt bytes place
-IsFault bytes error.Memory = ⊥
+-- the fault that the error names stands there
+abbrev pub IsFault : Grammar → Source → TextError → Type 0
+IsFault spells source (error.BadByte place) = source.fault ≡ Some (record { kind = kind.BadByte; place = place })
+IsFault spells source (error.WideNumber place) = source.fault ≡ Some (record { kind = kind.WideNumber; place = place })
+IsFault spells source (error.BadToken place) = source.fault ≡ Some (record { kind = kind.BadToken; place = place })
+IsFault spells source (error.Expected place) = IsExpectedAt spells source place
+IsFault spells source (error.Nested place) = IsNestedAt spells source place
+IsFault spells source error.Memory = ⊥
 
 -- the place that an error names
 abbrev pub place_of : TextError → ℕ
@@ -89,20 +120,20 @@ rank_of (error.Expected place) = 1
 rank_of (error.Nested place) = 2
 rank_of error.Memory = 3
 
--- the fault stands in the text, and none stands before it
-pub record IsFirstFault (bytes : List ℕ) (e : TextError) : Type 0 where
-  pub stands : IsFault bytes e
-  pub least : (other : TextError) → IsFault bytes other → place_of e ≤ place_of other
-  pub order : (other : TextError) → IsFault bytes other → place_of other ≡ place_of e → rank_of e ≤ rank_of other
+-- the fault stands there, and none stands before it
+pub record IsFirstFault (spells : Grammar) (source : Source) (e : TextError) : Type 0 where
+  pub stands : IsFault spells source e
+  pub least : (other : TextError) → IsFault spells source other → place_of e ≤ place_of other
+  pub order : (other : TextError) → IsFault spells source other → place_of other ≡ place_of e → rank_of e ≤ rank_of other
 
--- a refusal is the first fault of the text; want of memory alone is free
-abbrev pub IsRefusal : List ℕ → TextError → Type 0
-IsRefusal bytes (error.BadByte place) = IsFirstFault bytes (error.BadByte place)
-IsRefusal bytes (error.WideNumber place) = IsFirstFault bytes (error.WideNumber place)
-IsRefusal bytes (error.BadToken place) = IsFirstFault bytes (error.BadToken place)
-IsRefusal bytes (error.Expected place) = IsFirstFault bytes (error.Expected place)
-IsRefusal bytes (error.Nested place) = IsFirstFault bytes (error.Nested place)
-IsRefusal bytes error.Memory = Unit {0}
+-- a refusal is the first fault; want of memory alone is free
+abbrev pub IsRefusal : Grammar → Source → TextError → Type 0
+IsRefusal spells source (error.BadByte place) = IsFirstFault spells source (error.BadByte place)
+IsRefusal spells source (error.WideNumber place) = IsFirstFault spells source (error.WideNumber place)
+IsRefusal spells source (error.BadToken place) = IsFirstFault spells source (error.BadToken place)
+IsRefusal spells source (error.Expected place) = IsFirstFault spells source (error.Expected place)
+IsRefusal spells source (error.Nested place) = IsFirstFault spells source (error.Nested place)
+IsRefusal spells source error.Memory = Unit {0}
 
 -- the place of the token with which so many are left
 pub record IsPlaceWith (left : ℕ) (tokens : List Token) (place : ℕ) : Type 0 where

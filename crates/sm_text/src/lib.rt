@@ -4,7 +4,8 @@
 //! - `symbols` and `names` give what the grammar sees of them, with names numbered by first appearance.
 //! - `read_sections` reads exactly the texts that the grammar spells, where nothing nests too deep, each into what it spells.
 //!   A refusal names the first fault of the text: its kind and its place.
-//! - `parse_program` reads exactly the texts of a program alone. The place of its refusal no clause says.
+//! - `parse_program` reads exactly the texts of a program alone, and a refusal names the first fault in the same way.
+//! - `parse_head` and `parse_block` read the front of a task, and a block from a token on, whatever stands behind.
 //! - `one_task` is the law that the grammar spells at most one task by a text.
 //!
 //! What is read stands in `specs/` of `sm_syntax`, and which fault is the first in `specs/Places.antt` here. `specs/Reading.antt`
@@ -18,6 +19,7 @@ mod front;
 mod laws;
 mod lexer;
 mod marks;
+mod prefix;
 mod print;
 mod program;
 mod put;
@@ -33,6 +35,7 @@ mod token_list;
 pub use error::TextError;
 pub use laws::one_task;
 pub use lexer::tokens;
+pub use prefix::{parse_block, parse_head};
 pub use print::{
     print_block, print_cond, print_program, put_assumption, put_declarations, put_lists,
     put_outputs, put_shared,

@@ -1,12 +1,11 @@
 // A whole text, read as a program.
-ghost use Rattle.std.specs.Prelude.{◌≡◌, ◌<◌, ◌^◌, Some, length, IfOk, IfErr, IfSome};
-ghost use Rattle.sm_syntax.specs.Tokens.{lexed};
+ghost use Rattle.std.specs.Prelude.{◌<◌, ◌^◌, length, IfOk, IfErr};
 ghost use Rattle.sm_text.specs.Answers.{Gives};
 ghost use Rattle.sm_text.specs.Fragments.{HasProgramText, ProgramParts, SpellsProgram, parts_of};
+ghost use Rattle.sm_text.specs.Places.{ArePrograms, IsRefusal, whole_text};
 ghost use Rattle.sm_text.specs.ProgramReading as spec;
 ghost use Rattle.sm_text.specs.ProgramReading.{IsProgramReadAs};
 ghost use Rattle.sm_text.specs.ProgramViews.{program_of};
-ghost use Rattle.sm_text.specs.Texts.{lexical_fault};
 
 use crate::error::TextError;
 use crate::lexer::tokens;
@@ -56,16 +55,16 @@ fn whole_program(alloc: Global, symbols: &[Symbol]) -> Result<Parts, ReadError>
     }
 }
 
-/// Reads a text of fewer than 2^32 bytes as a program: declarations, outputs and a shared block alone. A refusal names a
-/// kind and a place as `read_sections` does. That it is the first fault of the text, no clause says.
+/// Reads a text of fewer than 2^32 bytes as a program: declarations, outputs and a shared block alone. Any other text is
+/// refused at its first fault, as by `read_sections`.
 pub fn parse_program(alloc: Global, bytes: &[u8]) -> Result<Program, TextError>
     requires { length bytes.now < 2 ^ 32 }
     ensures ok { IfOk result (λ p. SpellsProgram bytes.now (parts_of p)) }
     ensures printable { IfOk result (λ p. HasProgramText (parts_of p)) }
     // Each text that spells a program is read, and a text spells at most one.
     ensures only { (p : ProgramParts) → SpellsProgram bytes.now p → IsProgramReadAs p result }
-    // A lexical fault that is named is the first one of the text.
-    ensures lexical { IfErr result (λ e. IfSome (lexical_fault e) (λ f. (lexed bytes.now).1 ≡ Some f)) }
+    // A refusal is the first fault of the text, and names its kind and its place.
+    ensures place { IfErr result (IsRefusal ArePrograms (whole_text bytes.now)) }
 {
     let tokens = tokens(alloc, bytes)?;
     let symbols = symbols(alloc, bytes, &tokens.list)?;
@@ -114,16 +113,30 @@ mod tests {
         Ok(())
     }
 
+    // The sixty-fourth of its parentheses stands inside 64 groups, since the block is one.
+    const DEEP: &str = "var x; output x; shared { x = ((((((((((((((((((((((((((((((((\
+                        ((((((((((((((((((((((((((((((((";
+
+    // Places are counted by hand.
     #[test]
-    fn an_assumption_or_a_list_is_no_part_of_a_program(rt: HostRuntime) -> Result<(), Fail> {
-        for (text, place) in [
-            ("var x; output x; assume true; shared { }", 17),
-            ("var x; output x; shared { } base { }", 28),
-            ("", 0),
+    fn names_the_first_fault_of_what_is_no_program(rt: HostRuntime) -> Result<(), Fail> {
+        for (text, want) in [
+            (
+                "var x; output x; assume true; shared { }",
+                TextError::Expected { place: 17 },
+            ),
+            (
+                "var x; output x; shared { } base { }",
+                TextError::Expected { place: 28 },
+            ),
+            ("", TextError::Expected { place: 0 }),
+            ("var x; output x, ; /", TextError::Expected { place: 17 }),
+            ("var x; output x; /", TextError::BadByte { place: 17 }),
+            (DEEP, TextError::Nested { place: 93 }),
         ] {
             assert!(rt; text.len() < 99);
             let result = parse_program(rt.alloc(), text.as_bytes());
-            assert_eq!(rt; result.err(), Some(TextError::Expected { place }));
+            assert_eq!(rt; result.err(), Some(want));
         }
         Ok(())
     }

@@ -1,15 +1,19 @@
 // Makes symbols of tokens.
-ghost use Rattle.std.specs.Prelude.{◌≡◌, ◌<◌, ◌≤◌, ◌+◌, ◌-◌, ◌^◌, length, if◌then◌else◌, IfOk, OnOk, OnErr};
-ghost use Rattle.sm_syntax.specs.Symbols.{is_name, with_text, symbol_by, symbols_of, names_of};
+ghost use Rattle.std.specs.Prelude.{◌≡◌, ◌<◌, ◌≤◌, ◌+◌, ◌^◌, length, map, take, if◌then◌else◌};
+ghost use Rattle.std.specs.Prelude.{IfOk, OnOk, OnErr};
+ghost use Rattle.std.specs.List.{position_or_len, AllByRecursion};
+ghost use Rattle.std.specs.Str.{bytes_eq};
+ghost use Rattle.sm_syntax.specs.Symbols.{is_name, with_text, names_after, symbol_by};
+ghost use Rattle.sm_syntax.specs.Symbols.{symbols_of, names_of};
 ghost use Rattle.sm_syntax.specs.Symbols as spec;
 ghost use Rattle.sm_syntax.specs.Tokens.{lexed};
-ghost use Rattle.sm_text.specs.TokenTexts.{IsText};
+ghost use Rattle.sm_text.specs.TokenTexts.{IsText, IsTokenOf};
 
 use crate::front::value_of;
 use crate::lexer::tokens;
 use crate::marks::{mark_of_sign, mark_of_word};
 use crate::symbol_list::Symbols;
-use sm_syntax::{NameTable, Symbol, Token, TokenKind};
+use sm_syntax::{Name, NameTable, Symbol, Token, TokenKind};
 use std::alloc::{AllocError, Global};
 use std::str;
 
@@ -20,14 +24,31 @@ pub fn symbols(alloc: Global, bytes: &[u8], tokens: &[Token]) -> Result<Symbols,
     ensures list { IfOk result (λ s. s.list.items ≡ symbols_of bytes.now) }
     ensures names { IfOk result (λ s. s.names ≡ names_of bytes.now) }
 {
-    let mut list = Vec::new(alloc);
     let mut names = NameTable::new(alloc);
+    let list = symbols_behind(alloc, bytes, tokens, &mut names)?;
+    Ok(Symbols { list, names })
+}
+
+/// The symbols of tokens of a text, where names that aren't in the table go behind those that are.
+pub(crate) fn symbols_behind(
+    alloc: Global,
+    bytes: &[u8],
+    tokens: &[Token],
+    names: &mut NameTable,
+) -> Result<Vec<Symbol>, AllocError>
+    requires { AllByRecursion (IsTokenOf bytes.now) tokens.now }
+    ensures list { IfOk result (λ s.
+        s.items ≡ map (spec.symbol_of bytes.now names.new) tokens.now) }
+    ensures names { OnOk result (names.new ≡ names_after bytes.now names.old tokens.now) }
+    ensures kept { OnErr result (take (length names.old) names.new ≡ names.old) }
+{
+    let mut list = Vec::new(alloc);
     for token in tokens {
         let text = text_of(bytes, *token);
-        let symbol = symbol_of(token.kind, text, &mut names)?;
+        let symbol = symbol_of(token.kind, text, names)?;
         list.push(symbol)?;
     }
-    Ok(Symbols { list, names })
+    Ok(list)
 }
 
 /// The names of a text, by first appearance.
@@ -50,8 +71,7 @@ fn text_of(bytes: &[u8], token: Token) -> &[u8]
 
 // the symbol of a token's bytes, where a name that is new goes last
 fn symbol_of(kind: TokenKind, text: &[u8], names: &mut NameTable) -> Result<Symbol, AllocError>
-    requires text { IsText kind text.now }
-    requires room { length names.old < 2 ^ 32 - 1 }
+    requires { IsText kind text.now }
     ensures symbol { IfOk result (λ s. s ≡ symbol_by kind names.new text.now) }
     ensures names { OnOk result (names.new ≡ (if is_name kind text.now then with_text names.old text.now else names.old)) }
     ensures err { OnErr result (names.new ≡ names.old) }
@@ -62,7 +82,7 @@ fn symbol_of(kind: TokenKind, text: &[u8], names: &mut NameTable) -> Result<Symb
             match mark_of_word(word) {
                 Some(mark) => Ok(Symbol::Mark(mark)),
                 None => {
-                    let name = names.add(word)?;
+                    let name = number_of(word, names)?;
                     Ok(Symbol::Name(name))
                 }
             }
@@ -72,10 +92,23 @@ fn symbol_of(kind: TokenKind, text: &[u8], names: &mut NameTable) -> Result<Symb
     }
 }
 
+// the number of a name, where no room in the table counts as want of memory
+fn number_of(name: &str, names: &mut NameTable) -> Result<Name, AllocError>
+    ensures ok { OnOk result (names.new ≡ with_text names.old name.now) }
+    ensures number { IfOk result (λ x. x.0 ≡ position_or_len (bytes_eq name.now) names.new) }
+    ensures err { OnErr result (names.new ≡ names.old) }
+{
+    if names.len() < u32::MAX as usize {
+        names.add(name)
+    } else {
+        Err(AllocError)
+    }
+}
+
 #[cfg(test)]
 mod tests {
     use super::*;
-    use sm_syntax::{Mark, Name};
+    use sm_syntax::Mark;
     use std::test::Fail;
 
     #[test]

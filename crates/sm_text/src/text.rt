@@ -1,9 +1,8 @@
 // A whole text, read into the sections of a task.
-ghost use Rattle.std.specs.Prelude.{◌≡◌, ◌<◌, ◌≤◌, ◌^◌, Some, None, length, IfOk, IfErr, IfSome, IsErr};
+ghost use Rattle.std.specs.Prelude.{◌≡◌, ◌<◌, ◌≤◌, ◌^◌, Some, None, length, IfOk, IfErr, IfSome};
 ghost use Rattle.sm_syntax.specs.Parts.{Parts};
 ghost use Rattle.sm_syntax.specs.Spells.{IsInGrammar};
-ghost use Rattle.sm_syntax.specs.Tokens.{lexed};
-ghost use Rattle.sm_text.specs.Places.{IsRefusal, IsPlaceWith};
+ghost use Rattle.sm_text.specs.Places.{AreTasks, IsPlaceWith, IsRefusal, whole_text};
 ghost use Rattle.sm_text.specs.Texts.{parts_of, lexical_fault, rule_fault, IsReadAs};
 
 use crate::error::TextError;
@@ -30,10 +29,8 @@ pub fn read_sections(alloc: Global, bytes: &[u8]) -> Result<Sections, TextError>
     ensures ok { IfOk result (λ s. IsInGrammar bytes.now (parts_of s)) }
     // Each text in the grammar is read, where nothing in it nests too deep.
     ensures only { (t : Parts) → IsInGrammar bytes.now t → IsReadAs t result }
-    // A lexical fault that is named is the first one of the text.
-    ensures lexical { IfErr result (λ e. IfSome (lexical_fault e) (λ f. (lexed bytes.now).1 ≡ Some f)) }
     // A refusal is the first fault of the text, and names its kind and its place.
-    ensures place { IfErr result (IsRefusal bytes.now) }
+    ensures place { IfErr result (IsRefusal AreTasks (whole_text bytes.now)) }
 {
     let tokens = tokens(alloc, bytes)?;
     let symbols = symbols(alloc, bytes, &tokens.list)?;

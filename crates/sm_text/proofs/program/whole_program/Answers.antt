@@ -1,4 +1,4 @@
-use Rattle.std.proofs.Common.{◌≡◌, sym, ◌∙◌}
+use Rattle.std.proofs.Common.{sym, ◌∙◌}
 use Rattle.sm_text.proofs.ProgramRead.{program-end, program-rest, program-fails}
 use Rattle.sm_text.proofs.program.whole_program.Goals as goal
 

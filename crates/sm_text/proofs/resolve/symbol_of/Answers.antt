@@ -13,5 +13,5 @@ can_not_fail (Err e) P Q h never = absurd (never e h)
 pub unwrap-word-requires : goal.unwrap-word-requires
 unwrap-word-requires c =
     let Text : TokenKind → Type 0 = λ k. IsText k c.args.text.now in
-    let text = IsUtf8-from_ascii c.args.text.now (subst Text c.in-Word.is c.requires.text) in
+    let text = IsUtf8-from_ascii c.args.text.now (subst Text c.in-Word.is c.requires) in
     can_not_fail c.from_utf8.result _ _ c.from_utf8.ensures.cases (λ e q. q.0 text)

@@ -1,0 +1,266 @@
+// The front of a text, and a block in it, read by the tokens alone that they have.
+ghost use Rattle.std.specs.Prelude.{◌≡◌, ◌≤◌, ℕ, List, length, take, IfOk, IfErr, OnErr};
+ghost use Rattle.sm_syntax.specs.Syntax.{Code};
+ghost use Rattle.sm_syntax.specs.Views.{code_of};
+ghost use Rattle.sm_text.specs.NameCounts as spec;
+ghost use Rattle.sm_text.specs.Places.{IsRefusal, whole_text, text_from};
+ghost use Rattle.sm_text.specs.Prefixes.{AreTokensOf, IsErrorOf};
+ghost use Rattle.sm_text.specs.Prefixes.{HeadParts, head_parts, SpellsHead, IsHeadReadAs, AreHeads};
+ghost use Rattle.sm_text.specs.Prefixes.{SpellsBlockAt, IsBlockReadAs, AreBlocks};
+
+use crate::error::TextError;
+use crate::reading::{Fault, ReadError};
+use crate::resolve::symbols_behind;
+use crate::rules::GROUP_LIMIT;
+use crate::sections::head_of_task;
+use crate::statements::block;
+use crate::text::{lexical_error, place_of, rule_error};
+use crate::token_list::Tokens;
+use sm_syntax::{Block, Cond, NameTable, Program, Symbol};
+use std::alloc::Global;
+
+/// Reads the front of a task from the tokens of its text: a program, what is assumed, and the
+/// number of the token behind them. What stands behind them doesn't matter, and the program has
+/// the names of its own tokens alone. A text that doesn't begin with a head is refused at the
+/// first fault in it, as by `read_sections`.
+pub fn parse_head(
+    alloc: Global,
+    bytes: &[u8],
+    tokens: &Tokens,
+) -> Result<(Program, Option<Cond>, u64), TextError>
+    requires { AreTokensOf bytes.now tokens.now }
+    ensures ok { IfOk result (λ r. SpellsHead bytes.now r.2 (head_parts r.0 r.1)) }
+    // Each head is read, whatever stands behind it, so no head is the beginning of another.
+    ensures only { (n : ℕ) (h : HeadParts) → SpellsHead bytes.now n h → IsHeadReadAs n h result }
+    // A refusal is the first fault of the text, and names its kind and its place.
+    ensures place { IfErr result (IsRefusal AreHeads (whole_text bytes.now)) }
+{
+    let mut names = NameTable::new(alloc);
+    let symbols = symbols_behind(alloc, bytes, &tokens.list, &mut names)?;
+    match head_of_task(alloc, &symbols) {
+        Ok((head, after)) => {
+            let used = symbols.len() - after.len();
+            names.cut(count_names(0, &symbols[..used]));
+            let program = Program {
+                names,
+                decls: head.decls,
+                outputs: head.outputs,
+                body: head.shared,
+            };
+            Ok((program, head.assumed, used as u64))
+        }
+        Err(ReadError::Fault(fault)) => Err(refused(bytes, tokens, fault)),
+        Err(ReadError::Memory) => Err(TextError::Memory),
+    }
+}
+
+/// Reads the block that begins at token number `at` of a text, where `groups` groups stand open
+/// before it, and gives the number of the token behind it. Names of the block that aren't in the
+/// table go behind those that are; after a refusal the table is as it was. More than 64 open
+/// groups nest too deep, the block's own among them. Where no block stands, the text is refused
+/// at the first fault from `at` on, as by `read_sections`. Want of memory stands also for a table
+/// without room. The time grows with all tokens behind `at`, not with those of the block alone.
+pub fn parse_block(
+    alloc: Global,
+    bytes: &[u8],
+    tokens: &Tokens,
+    at: u64,
+    groups: u64,
+    names: &mut NameTable,
+) -> Result<(Block, u64), TextError>
+    requires cut { AreTokensOf bytes.now tokens.now }
+    requires within { at ≤ length tokens.now.list.items }
+    ensures ok { IfOk result (λ r.
+        SpellsBlockAt bytes.now at groups names.old r.1 names.new (code_of r.0)) }
+    // Each block is read, whatever stands behind it, so no block is the beginning of another.
+    ensures only { (n : ℕ) (after : List (List ℕ)) (c : Code) →
+        SpellsBlockAt bytes.now at groups names.old n after c →
+        IsBlockReadAs n c result }
+    // A refusal is the first fault from there on, and names its kind and its place.
+    ensures place { IfErr result (IsRefusal (AreBlocks groups) (text_from bytes.now at names.old)) }
+    ensures unchanged { OnErr result (names.new ≡ names.old) }
+{
+    let count = names.len();
+    let result = block_at(alloc, bytes, tokens, at as usize, groups, names);
+    if result.is_err() {
+        names.cut(count);
+    }
+    result
+}
+
+// the block, where the table is left with more names after a refusal
+fn block_at(
+    alloc: Global,
+    bytes: &[u8],
+    tokens: &Tokens,
+    at: usize,
+    groups: u64,
+    names: &mut NameTable,
+) -> Result<(Block, u64), TextError>
+    requires cut { AreTokensOf bytes.now tokens.now }
+    requires within { at ≤ length tokens.now.list.items }
+    ensures ok { IfOk result (λ r.
+        SpellsBlockAt bytes.now at groups names.old r.1 names.new (code_of r.0)) }
+    ensures only { (n : ℕ) (after : List (List ℕ)) (c : Code) →
+        SpellsBlockAt bytes.now at groups names.old n after c →
+        IsBlockReadAs n c result }
+    ensures place { IfErr result (IsRefusal (AreBlocks groups) (text_from bytes.now at names.old)) }
+    ensures kept { OnErr result (take (length names.old) names.new ≡ names.old) }
+{
+    let count = names.len();
+    let symbols = symbols_behind(alloc, bytes, &tokens.list[at..], names)?;
+    match block(alloc, GROUP_LIMIT.saturating_sub(groups), &symbols) {
+        Ok((block, after)) => {
+            let used = symbols.len() - after.len();
+            names.cut(count_names(count, &symbols[..used]));
+            Ok((block, (tokens.list.len() - after.len()) as u64))
+        }
+        Err(ReadError::Fault(fault)) => Err(refused(bytes, tokens, fault)),
+        Err(ReadError::Memory) => Err(TextError::Memory),
+    }
+}
+
+// how many names there are with those of the symbols, where each new name has the next number
+fn count_names(before: usize, symbols: &[Symbol]) -> usize
+    ensures { result ≡ spec.names_counted before symbols.now }
+{
+    let mut count = before;
+    for symbol in symbols {
+        if let Symbol::Name(name) = *symbol {
+            if name.0 as usize == count {
+                count += 1;
+            }
+        }
+    }
+    count
+}
+
+// the error of a rule that doesn't go on
+fn refused(bytes: &[u8], tokens: &Tokens, fault: Fault) -> TextError
+    ensures { IsErrorOf fault tokens.now (length bytes.now) result }
+{
+    match (place_of(fault, &tokens.list), tokens.fault) {
+        (Some(place), _) => rule_error(fault.kind, place),
+        (None, Some(lexical)) => lexical_error(lexical),
+        (None, None) => rule_error(fault.kind, bytes.len() as u64),
+    }
+}
+
+#[cfg(test)]
+mod tests {
+    use super::*;
+    use crate::lexer::tokens;
+    use sm_syntax::Name;
+    use std::test::Fail;
+
+    // Tokens are counted by hand.
+    #[test]
+    fn reads_a_head_whatever_stands_behind_it(rt: HostRuntime) -> Result<(), Fail> {
+        for (text, behind, declared, assumes) in [
+            ("var x; output x; shared { }", 9, 1, false),
+            (
+                "array a; output a; assume a[0] < 1; shared { skip; } # end",
+                19,
+                1,
+                true,
+            ),
+            (
+                "var y, x; output x; shared { ?1; } base { z = ",
+                14,
+                2,
+                false,
+            ),
+            ("var x; output x; shared { } ) z /", 9, 1, false),
+        ] {
+            let cut = tokens(rt.alloc(), text.as_bytes())?;
+            let (program, assumed, found) = parse_head(rt.alloc(), text.as_bytes(), &cut)?;
+            assert_eq!(rt; found, behind, "in {text}");
+            assert_eq!(rt; program.names.len(), declared, "in {text}");
+            assert_eq!(rt; program.decls.list.len(), declared, "in {text}");
+            assert_eq!(rt; program.outputs.list.len(), 1, "in {text}");
+            assert_eq!(rt; assumed.is_some(), assumes, "in {text}");
+        }
+        Ok(())
+    }
+
+    #[test]
+    fn names_the_place_at_which_a_head_is_refused(rt: HostRuntime) -> Result<(), Fail> {
+        for (text, want) in [
+            ("", TextError::Expected { place: 0 }),
+            (
+                "var x; output x; assume x;",
+                TextError::Expected { place: 25 },
+            ),
+            (
+                "var x; output x; shared { x = y y",
+                TextError::Expected { place: 32 },
+            ),
+            (
+                "var x; output x; shared { /",
+                TextError::BadByte { place: 26 },
+            ),
+        ] {
+            let cut = tokens(rt.alloc(), text.as_bytes())?;
+            let result = parse_head(rt.alloc(), text.as_bytes(), &cut);
+            assert_eq!(rt; result.err(), Some(want), "in {text}");
+        }
+        Ok(())
+    }
+
+    #[test]
+    fn a_block_adds_its_own_names_to_the_table(rt: HostRuntime) -> Result<(), Fail> {
+        for (text, at, groups, behind, statements, count) in [
+            ("{ }", 0, 0, 2, 0, 1),
+            ("{ y = x; } z", 0, 63, 6, 1, 2),
+            (
+                "z { skip; if (z < 1) { y = x; } else { } } w }",
+                1,
+                1,
+                20,
+                2,
+                3,
+            ),
+            ("?1 { x[x] = 0; } /", 2, 1, 11, 1, 1),
+        ] {
+            let cut = tokens(rt.alloc(), text.as_bytes())?;
+            assert!(rt; at <= cut.list.len() as u64);
+            let mut names = NameTable::new(rt.alloc());
+            names.add("x")?;
+            let (block, found) = parse_block(
+                rt.alloc(),
+                text.as_bytes(),
+                &cut,
+                at,
+                groups,
+                &mut names,
+            )?;
+            assert_eq!(rt; found, behind, "in {text}");
+            assert_eq!(rt; block.list.len(), statements, "in {text}");
+            assert_eq!(rt; names.len(), count, "in {text}");
+            assert_eq!(rt; names.find("x"), Some(Name(0)));
+        }
+        Ok(())
+    }
+
+    #[test]
+    fn a_refused_block_leaves_the_table_as_it_was(rt: HostRuntime) -> Result<(), Fail> {
+        for (text, at, groups, want) in [
+            ("x", 1, 0, TextError::Expected { place: 1 }),
+            ("{ y = ; }", 0, 0, TextError::Expected { place: 6 }),
+            ("{ y = 1; ", 0, 0, TextError::Expected { place: 9 }),
+            ("{ y = 1; / }", 0, 0, TextError::BadByte { place: 9 }),
+            ("y { }", 1, 64, TextError::Nested { place: 2 }),
+            ("{ if (y < 1)", 0, 63, TextError::Nested { place: 5 }),
+        ] {
+            let cut = tokens(rt.alloc(), text.as_bytes())?;
+            assert!(rt; at <= cut.list.len() as u64);
+            let mut names = NameTable::new(rt.alloc());
+            names.add("x")?;
+            let result = parse_block(rt.alloc(), text.as_bytes(), &cut, at, groups, &mut names);
+            assert_eq!(rt; result.err(), Some(want), "in {text}");
+            assert_eq!(rt; names.len(), 1, "in {text}");
+            assert_eq!(rt; names.find("x"), Some(Name(0)));
+        }
+        Ok(())
+    }
+}
