@@ -1,13 +1,12 @@
 -- What parse_task answers, by the text and by the first condition that fails.
-use Rattle.std.proofs.Common.{◌≡◌, refl, sym, subst, Option, Some, None, Result, Err, List, ℕ}
+use Rattle.std.proofs.Common.{◌≡◌, sym, subst, Option, Some, None, Result, Err, List, ℕ}
 use Rattle.std.specs.Prelude.{◌≢◌, IsSome, IfErr, IfSome}
-use Rattle.sm_syntax.specs.declared.token.LexFault.{LexFault}
 use Rattle.sm_syntax.specs.Conditions.{Refusal, first_refusal}
 use Rattle.sm_syntax.specs.Parts.{Parts}
 use Rattle.sm_syntax.specs.Spells.{IsInGrammar}
 use Rattle.sm_task.specs.declared.error.TaskError.{TaskError}
 use Rattle.sm_task.specs.declared.error.TaskError.TheVariants as error
-use Rattle.sm_task.specs.Errors.{refusal_of, lexical_fault_of, IsRefusedBy}
+use Rattle.sm_task.specs.Errors.{refusal_of, IsRefusedBy}
 
 -- an error of the conditions names the first that fails
 abbrev pub Names : Option Refusal → TaskError → Type 0
@@ -41,30 +40,8 @@ condition bytes t error.TooDeep g n = named bytes t (refusal_of error.TooDeep) g
 condition bytes t error.TooMany g n = named bytes t (refusal_of error.TooMany) g (n (λ q. cc)).1
 condition bytes t error.Memory g n = tt
 
--- no lexical fault is named for a condition
-no_lexical : (refusal : Option Refusal) (e : TaskError) → Names refusal e → lexical_fault_of e ≡ None
-no_lexical refusal (error.BadByte p) n = absurd (no_text refusal (n (λ q. cc)).0 (n (λ q. cc)).1)
-no_lexical refusal (error.WideNumber p) n = absurd (no_text refusal (n (λ q. cc)).0 (n (λ q. cc)).1)
-no_lexical refusal (error.BadToken p) n = absurd (no_text refusal (n (λ q. cc)).0 (n (λ q. cc)).1)
-no_lexical refusal (error.Expected p) n = refl
-no_lexical refusal (error.Nested p) n = refl
-no_lexical refusal (error.MissingFilling l h) n = refl
-no_lexical refusal (error.UnknownHole l h) n = refl
-no_lexical refusal (error.DoubleHole l h) n = refl
-no_lexical refusal (error.HoleInFilling l h) n = refl
-no_lexical refusal (error.UnknownName x) n = refl
-no_lexical refusal (error.WrongSort x) n = refl
-no_lexical refusal (error.DoubleName x) n = refl
-no_lexical refusal error.TooDeep n = refl
-no_lexical refusal error.TooMany n = refl
-no_lexical refusal error.Memory n = refl
-
 -- the exit at a condition that fails
 pub refused : {T : Type 0} (bytes : List ℕ) (t u : Parts) (result : Result T TaskError) (e : TaskError) → (y : TaskError) × (result ≡ Err y) × (y ≡ e) → IsInGrammar bytes u → t ≡ u → Names (first_refusal t) e → IfErr result (λ x. IfSome (refusal_of x) (IsRefusedBy bytes))
 refused bytes t u result e p g same n =
     let F : Parts → Type 0 = λ x. IsInGrammar bytes x in
     rw (p.1, p.2) (condition bytes t e (subst F (sym same) g) n)
-
--- the same of lexical faults
-pub not_lexical : {T : Type 0} (P : LexFault → Type 0) (refusal : Option Refusal) (result : Result T TaskError) (e : TaskError) → (y : TaskError) × (result ≡ Err y) × (y ≡ e) → Names refusal e → IfErr result (λ x. IfSome (lexical_fault_of x) P)
-not_lexical P refusal result e p n = rw (p.1, p.2, no_lexical refusal e n) tt

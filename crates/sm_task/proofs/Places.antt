@@ -4,14 +4,14 @@ use Rattle.std.specs.Prelude.{IsSome, IfErr, IfSome}
 use Rattle.sm_syntax.specs.Conditions.{Refusal}
 use Rattle.sm_text.specs.declared.error.TextError.{TextError}
 use Rattle.sm_text.specs.declared.error.TextError.TheVariants as text
-use Rattle.sm_text.specs.Places.{IsFirstFault, IsRefusal}
+use Rattle.sm_text.specs.Places.{AreTasks, IsFirstFault, IsRefusal, whole_text}
 use Rattle.sm_task.specs.declared.error.TaskError.{TaskError}
 use Rattle.sm_task.specs.declared.error.TaskError.TheVariants as error
 use Rattle.sm_task.specs.Errors.{from_text}
 use Rattle.sm_task.specs.Places.{text_fault_of}
 use Rattle.sm_task.proofs.Parsing.{Names}
 
-passed_on : (bytes : List ℕ) (e : TextError) → IsRefusal bytes e → IfSome (text_fault_of (from_text e)) (IsFirstFault bytes)
+passed_on : (bytes : List ℕ) (e : TextError) → IsRefusal AreTasks (whole_text bytes) e → IfSome (text_fault_of (from_text e)) (IsFirstFault AreTasks (whole_text bytes))
 passed_on bytes (text.BadByte place) x = x
 passed_on bytes (text.WideNumber place) x = x
 passed_on bytes (text.BadToken place) x = x
@@ -20,7 +20,7 @@ passed_on bytes (text.Nested place) x = x
 passed_on bytes text.Memory x = tt
 
 -- the exit at the text
-pub text_fails : {T : Type 0} (bytes : List ℕ) (result : Result T TaskError) (e : TextError) → (y : TaskError) × (result ≡ Err y) × (y ≡ from_text e) → IsRefusal bytes e → IfErr result (λ x. IfSome (text_fault_of x) (IsFirstFault bytes))
+pub text_fails : {T : Type 0} (bytes : List ℕ) (result : Result T TaskError) (e : TextError) → (y : TaskError) × (result ≡ Err y) × (y ≡ from_text e) → IsRefusal AreTasks (whole_text bytes) e → IfErr result (λ x. IfSome (text_fault_of x) (IsFirstFault AreTasks (whole_text bytes)))
 text_fails bytes result e p x = rw (p.1, p.2) (passed_on bytes e x)
 
 nothing : IsSome (let o : Option Refusal = None in o) → ⊥

@@ -1,6 +1,4 @@
 -- Which refusal of a task an error names.
-use Rattle.sm_syntax.specs.declared.token.LexFault.{LexFault}
-use Rattle.sm_syntax.specs.declared.token.LexKind.TheVariants as kind
 use Rattle.std.specs.Prelude.{◌≡◌, ◌≢◌, ℕ, zero, suc, Option, Some, None, IsSome, Result, MatchResult, List}
 use Rattle.sm_syntax.specs.declared.error.SyntaxError.{SyntaxError}
 use Rattle.sm_syntax.specs.declared.error.SyntaxError.TheVariants as fault
@@ -41,24 +39,6 @@ refusal_of (error.DoubleName x) = Some (refusal.DoubleName x.0)
 refusal_of error.TooDeep = Some refusal.TooDeep
 refusal_of error.TooMany = Some refusal.TooMany
 refusal_of error.Memory = None
-
--- the lexical fault that an error names, if it names one
-abbrev pub lexical_fault_of : TaskError → Option LexFault
-lexical_fault_of (error.BadByte place) = Some (record { kind = kind.BadByte; place = place })
-lexical_fault_of (error.WideNumber place) = Some (record { kind = kind.WideNumber; place = place })
-lexical_fault_of (error.BadToken place) = Some (record { kind = kind.BadToken; place = place })
-lexical_fault_of (error.Expected place) = None
-lexical_fault_of (error.Nested place) = None
-lexical_fault_of (error.MissingFilling list hole) = None
-lexical_fault_of (error.UnknownHole list hole) = None
-lexical_fault_of (error.DoubleHole list hole) = None
-lexical_fault_of (error.HoleInFilling list hole) = None
-lexical_fault_of (error.UnknownName x) = None
-lexical_fault_of (error.WrongSort x) = None
-lexical_fault_of (error.DoubleName x) = None
-lexical_fault_of error.TooDeep = None
-lexical_fault_of error.TooMany = None
-lexical_fault_of error.Memory = None
 
 -- the error of a task for an error of its text
 abbrev pub from_text : TextError → TaskError

@@ -3,12 +3,11 @@ ghost use Rattle.std.specs.Prelude.{◌≡◌, ◌<◌, ◌^◌, Some, length, I
 ghost use Rattle.sm_syntax.specs.Conditions.{Refusal, first_refusal};
 ghost use Rattle.sm_syntax.specs.Parts.{Parts};
 ghost use Rattle.sm_syntax.specs.Spells.{IsInGrammar, Spells};
-ghost use Rattle.sm_syntax.specs.Tokens.{lexed};
-ghost use Rattle.sm_task.specs.Errors.{refusal_of, lexical_fault_of, IsRefusedBy, IsReadAs, IsRefusedAs};
+ghost use Rattle.sm_task.specs.Errors.{refusal_of, IsRefusedBy, IsReadAs, IsRefusedAs};
 ghost use Rattle.sm_task.specs.Places.{text_fault_of};
 ghost use Rattle.sm_task.specs.Tasks.{parts_of};
 ghost use Rattle.sm_text.specs.Named.{HasText};
-ghost use Rattle.sm_text.specs.Places.{IsFirstFault};
+ghost use Rattle.sm_text.specs.Places.{AreTasks, IsFirstFault, whole_text};
 ghost use Rattle.sm_text.specs.Texts as text;
 
 use crate::conditions::check_conditions;
@@ -29,10 +28,9 @@ pub fn parse_task(alloc: Global, bytes: &[u8]) -> Result<Task, TaskError>
     ensures condition { IfErr result (λ e. IfSome (refusal_of e) (IsRefusedBy bytes.now)) }
     ensures refused { (t : Parts) (r : Refusal) → IsInGrammar bytes.now t →
         first_refusal t ≡ Some r → IsRefusedAs r result }
-    // A lexical fault that is named is the first one of the text.
-    ensures lexical { IfErr result (λ e. IfSome (lexical_fault_of e) (λ f. (lexed bytes.now).1 ≡ Some f)) }
     // A fault of the text that is named is its first one.
-    ensures place { IfErr result (λ e. IfSome (text_fault_of e) (IsFirstFault bytes.now)) }
+    ensures place { IfErr result (λ e.
+        IfSome (text_fault_of e) (IsFirstFault AreTasks (whole_text bytes.now))) }
 {
     let task = from_sections(read_sections(alloc, bytes)?);
     check_conditions(alloc, &task)?;
@@ -56,5 +54,88 @@ fn from_sections(sections: Sections) -> Task
         variant_a: lists.variant_a,
         variant_b: lists.variant_b,
         candidate: lists.candidate,
+    }
+}
+
+#[cfg(test)]
+mod tests {
+    use super::*;
+    use sm_syntax::Name;
+    use std::alloc::AllocError;
+    use std::test::Fail;
+
+    // The statements of the shared block begin at byte 26.
+    const HEAD: &str = "var x; output x; shared { ";
+
+    const TAIL: &str = " } base { } variant_a { } variant_b { } candidate { }";
+
+    // A task whose shared block is a start, so many copies of two texts round a middle, and an end.
+    fn nested(
+        alloc: Global,
+        (start, before, middle, behind, end): (&str, &str, &str, &str, &str),
+        count: u64,
+    ) -> Result<String, AllocError> {
+        let mut text = String::from_str(alloc, HEAD)?;
+        text.push_str(start)?;
+        for _ in 0..count {
+            text.push_str(before)?;
+        }
+        text.push_str(middle)?;
+        for _ in 0..count {
+            text.push_str(behind)?;
+        }
+        text.push_str(end)?;
+        text.push_str(TAIL)?;
+        Ok(text)
+    }
+
+    // At most 64 groups stand open, and that of the shared block is one. At most 63 operators make a chain. An
+    // assignment is one deeper than its value, and a sum and an `if` than their deepest part.
+    #[test]
+    fn tasks_nest_64_groups_and_are_64_deep(rt: HostRuntime) -> Result<(), Fail> {
+        let groups = ("x = ", "(", "0", ")", ";");
+        let operators = ("x = 0", "", "", "+0", ";");
+        let choices = ("", "if (true) { ", "x = 0;", " } else { }", "");
+        for (parts, count, want) in [
+            (groups, 63, None),
+            (groups, 64, Some(TaskError::Nested { place: 93 })),
+            (operators, 62, None),
+            (operators, 63, Some(TaskError::TooDeep)),
+            (operators, 64, Some(TaskError::Nested { place: 157 })),
+            (choices, 62, None),
+            (choices, 63, Some(TaskError::TooDeep)),
+            (choices, 64, Some(TaskError::Nested { place: 785 })),
+        ] {
+            let text = nested(rt.alloc(), parts, count)?;
+            assert!(rt; text.as_str().len() < 9999);
+            let result = parse_task(rt.alloc(), text.as_bytes());
+            assert_eq!(rt; result.err(), want, "{count} times in {text}");
+        }
+        Ok(())
+    }
+
+    // The names x, z, w and v have the numbers from 0 on. A program goes before the assumption.
+    #[test]
+    fn names_why_a_text_is_no_task(rt: HostRuntime) -> Result<(), Fail> {
+        for (text, want) in [
+            ("", TaskError::Expected { place: 0 }),
+            (
+                "var x; output x; shared { x = (x; } base { } variant_a { } variant_b { } candidate { }",
+                TaskError::Expected { place: 32 },
+            ),
+            (
+                "var x, z; output z; assume w == 0; shared { } base { } variant_a { } variant_b { } candidate { }",
+                TaskError::UnknownName { name: Name(2) },
+            ),
+            (
+                "var x, z; output z; assume w == 0; shared { z = v; } base { } variant_a { } variant_b { } candidate { }",
+                TaskError::UnknownName { name: Name(3) },
+            ),
+        ] {
+            assert!(rt; text.len() < 999);
+            let result = parse_task(rt.alloc(), text.as_bytes());
+            assert_eq!(rt; result.err(), Some(want), "at {text}");
+        }
+        Ok(())
     }
 }

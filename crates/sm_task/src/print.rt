@@ -201,6 +201,10 @@ mod tests {
                 "array b;\narray a;\nvar _1;\nvar vary;\noutput vary;\nassume _1 <= 0 && vary > b[1];\nshared {\n  skip;\n}\nbase {\n}\nvariant_a {\n}\nvariant_b {\n}\ncandidate {\n}\n",
             ),
             (
+                "var x, z; output z; assume x <= 0; shared { } base { } variant_a { } variant_b { } candidate { }",
+                "var x;\nvar z;\noutput z;\nassume x <= 0;\nshared {\n}\nbase {\n}\nvariant_a {\n}\nvariant_b {\n}\ncandidate {\n}\n",
+            ),
+            (
                 "# two holes\nvar x; output x; shared { ?007; if (true) { ?999; } else { skip; } }\nbase { ?7 { } ?999 { skip; skip; } } variant_a { ?999 { } ?7 { } } variant_b { ?7 { } ?999 { } } candidate { ?7 { while (false) { x = x; } } ?999 { } }",
                 "var x;\noutput x;\nshared {\n  ?7;\n  if (true) {\n    ?999;\n  } else {\n    skip;\n  }\n}\nbase {\n  ?7 {\n  }\n  ?999 {\n    skip;\n    skip;\n  }\n}\nvariant_a {\n  ?999 {\n  }\n  ?7 {\n  }\n}\nvariant_b {\n  ?7 {\n  }\n  ?999 {\n  }\n}\ncandidate {\n  ?7 {\n    while (false) {\n      x = x;\n    }\n  }\n  ?999 {\n  }\n}\n",
             ),

@@ -3,7 +3,7 @@ use Rattle.std.proofs.lemmas.Result.{err_from_is_err_and}
 use Rattle.sm_syntax.specs.Parts.{Parts}
 use Rattle.sm_syntax.specs.Spells.{IsInGrammar}
 use Rattle.sm_task.proofs.Complete.{valid-fails, refused-fails, not_refused}
-use Rattle.sm_task.proofs.Parsing.{refused, not_lexical}
+use Rattle.sm_task.proofs.Parsing.{refused}
 use Rattle.sm_task.proofs.Places.{text_fails, condition_fails}
 use Rattle.sm_task.proofs.parse.parse_task.Goals as goal
 
@@ -11,11 +11,6 @@ pub returns-in_err-check_conditions-clause-condition : goal.returns-in_err-check
 returns-in_err-check_conditions-clause-condition c =
     refused _ _ _ c.from_residual-in_err-check_conditions.result _ (err_from_is_err_and c.from_residual-in_err-check_conditions.result c.from_residual-in_err-check_conditions.ensures.1)
     c.in_ok-read_sections.ensures.ok c.from_sections-task.ensures c.in_err-check_conditions.ensures
-
-pub returns-in_err-check_conditions-clause-lexical : goal.returns-in_err-check_conditions-clause-lexical
-returns-in_err-check_conditions-clause-lexical c =
-    not_lexical _ _ c.from_residual-in_err-check_conditions.result _ (err_from_is_err_and c.from_residual-in_err-check_conditions.result c.from_residual-in_err-check_conditions.ensures.1)
-    c.in_err-check_conditions.ensures
 
 pub returns-clause-ok : goal.returns-clause-ok
 returns-clause-ok c =
