@@ -1,5 +1,6 @@
 pub mod Conflicts
 pub mod Running
+pub mod Named
 pub mod Deciding
 pub mod Answering
 pub mod Stopping
@@ -12,3 +13,5 @@ pub mod Spelled
 pub mod Membering
 pub mod Worth
 pub mod Reading
+pub mod WrittenBack
+pub mod Writing

@@ -9,9 +9,9 @@ use Rattle.sm_syntax.specs.declared.tree.Sort.{Sort}
 use Rattle.sm_syntax.specs.declared.tree.Sort.TheVariants.{Num}
 use Rattle.sm_syntax.specs.ConflictFree.{Copy}
 use Rattle.sm_syntax.specs.Keeps.{Cell, variable}
-use Rattle.sm_syntax.specs.Parts.{sort_of, sorted_outputs}
+use Rattle.sm_syntax.specs.Sorts.{Sorts}
 use Rattle.sm_syntax.specs.Stores.{Store}
-use Rattle.sm_replay.specs.Ends.{IsBreakOf}
+use Rattle.sm_replay.specs.Ends.{sorted_by, IsBreakOf}
 use Rattle.sm_replay.specs.Verdicts.{IsFirstBreak}
 use Rattle.sm_replay.specs.Violations.{KeepsAt}
 
@@ -20,11 +20,11 @@ abbrev pub KeptBelow : List (ℕ × Sort) → (Copy → Store) → ℕ → Type 
 KeptBelow outputs end n = (q : ℕ) (c : Cell) → q < n → slice_get outputs q ≡ Some (variable c) → KeepsAt end c
 
 -- an output with its sort
-pub output_at : (declared : List (ℕ × Sort)) (outputs : List Name) (i : ℕ) (d : Name) → i < length outputs
-    → slice_get (sorted_outputs declared (map (λ (x : Name). x.0) outputs)) i ≡ Some ((get_or outputs i d).0, unwrap_or (sort_of declared (get_or outputs i d).0) Num)
-output_at declared [] i d here = absurd (omega arith)
-output_at declared (x ∷ xs) zero d here = refl
-output_at declared (x ∷ xs) (suc i) d here = output_at declared xs i d (omega arith)
+pub output_at : (sorts : Sorts) (outputs : List Name) (i : ℕ) (d : Name) → i < length outputs
+    → slice_get (sorted_by sorts (map (λ (x : Name). x.0) outputs)) i ≡ Some ((get_or outputs i d).0, unwrap_or (sorts (get_or outputs i d).0) Num)
+output_at sorts [] i d here = absurd (omega arith)
+output_at sorts (x ∷ xs) zero d here = refl
+output_at sorts (x ∷ xs) (suc i) d here = output_at sorts xs i d (omega arith)
 
 -- one more output
 pub kept_more : (outputs : List (ℕ × Sort)) (end : Copy → Store) (n : ℕ) (o : ℕ × Sort) → slice_get outputs n ≡ Some o
@@ -53,11 +53,11 @@ first_at outputs end n o cell part is before b = record {
 }
 
 -- there are as many
-length_outputs : (declared : List (ℕ × Sort)) (outputs : List Name) → length (sorted_outputs declared (map (λ (x : Name). x.0) outputs)) ≡ length outputs
-length_outputs declared [] = refl
-length_outputs declared (x ∷ xs) = omega (arith, length_outputs declared xs)
+length_outputs : (sorts : Sorts) (outputs : List Name) → length (sorted_by sorts (map (λ (x : Name). x.0) outputs)) ≡ length outputs
+length_outputs sorts [] = refl
+length_outputs sorts (x ∷ xs) = omega (arith, length_outputs sorts xs)
 
 -- all outputs of a task
-pub outputs_kept : (declared : List (ℕ × Sort)) (outputs : List Name) (end : Copy → Store) (n : ℕ) → length outputs ≤ n → KeptBelow (sorted_outputs declared (map (λ (x : Name). x.0) outputs)) end n
-    → (cell : Cell) → Contains (sorted_outputs declared (map (λ (x : Name). x.0) outputs)) (variable cell) → KeepsAt end cell
-outputs_kept declared outputs end n past before = all_kept (sorted_outputs declared (map (λ (x : Name). x.0) outputs)) end n (omega (arith, length_outputs declared outputs)) before
+pub outputs_kept : (sorts : Sorts) (outputs : List Name) (end : Copy → Store) (n : ℕ) → length outputs ≤ n → KeptBelow (sorted_by sorts (map (λ (x : Name). x.0) outputs)) end n
+    → (cell : Cell) → Contains (sorted_by sorts (map (λ (x : Name). x.0) outputs)) (variable cell) → KeepsAt end cell
+outputs_kept sorts outputs end n past before = all_kept (sorted_by sorts (map (λ (x : Name). x.0) outputs)) end n (omega (arith, length_outputs sorts outputs)) before

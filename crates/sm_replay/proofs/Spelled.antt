@@ -15,12 +15,13 @@ use lib.Signed.{mag}
 use Rattle.sm_num.specs.Range.{fits}
 use Rattle.sm_replay.specs.Numbers.{number_of_text}
 
--- a number that fits is small, and back
+-- a number that fits is small
 fits_small : (z : ℤ) → fits z ≡ true → mag z < 2 ^ 127
 fits_small (pos n) h = (Decides-ltb n (2 ^ 127)).0 h
 fits_small (negsuc n) h = (Decides-ltb n (2 ^ 127)).0 h
 
-small_fits : (z : ℤ) → mag z < 2 ^ 127 → fits z ≡ true
+-- and a small one fits
+pub small_fits : (z : ℤ) → mag z < 2 ^ 127 → fits z ≡ true
 small_fits (pos n) h = (Decides-ltb n (2 ^ 127)).1 h
 small_fits (negsuc n) h = (Decides-ltb n (2 ^ 127)).1 h
 

@@ -1,6 +1,7 @@
 -- The ends of the four programs as the program keeps them, and what is found in them.
-use Rattle.std.specs.Prelude.{◌≡◌, ◌⊎◌, ◌≤◌, ℕ, ℤ, ◌≤ℤ◌, Bool, true, false, Option, Some, None, Result, Ok, Err, List, Contains}
+use Rattle.std.specs.Prelude.{◌≡◌, ◌⊎◌, ◌≤◌, ℕ, ℤ, ◌≤ℤ◌, Bool, true, false, Option, Some, None, unwrap_or, Result, Ok, Err, List, map, Contains}
 use Rattle.sm_syntax.specs.declared.tree.Sort.{Sort}
+use Rattle.sm_syntax.specs.declared.tree.Sort.TheVariants.{Num}
 use Rattle.sm_syntax.specs.ConflictFree.{Copy, O, A, B, M, Task}
 use Rattle.sm_syntax.specs.FirstBroken.{IsFirstBroken}
 use Rattle.sm_syntax.specs.Keeps.{Cell, content, variable}
@@ -43,6 +44,10 @@ pub record HaveSort (e : code.Ends) (x : ℕ) (sort : Option Sort) : Type 0 wher
   pub of_a : sorts_of e.variant_a x ≡ sort
   pub of_b : sorts_of e.variant_b x ≡ sort
   pub of_m : sorts_of e.candidate x ≡ sort
+
+-- names with their sorts, where one without a sort counts as a number
+abbrev pub sorted_by : Sorts → List ℕ → List (ℕ × Sort)
+sorted_by sorts names = map (λ (x : ℕ). (x, unwrap_or (sorts x) Num)) names
 
 -- the error of a copy for an event of its run
 abbrev pub stop_of : ℕ → EvalError → ReplayError

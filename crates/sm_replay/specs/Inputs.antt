@@ -1,10 +1,9 @@
 -- Inputs: which store an object of JSON gives, and why other bytes are refused.
-use Rattle.std.specs.Prelude.{◌≡◌, ℕ, ℤ, pos, if◌then◌else◌, Option, Some, None, option_map, option_and_then, unwrap_or, Result, Ok, Err, List, slice_get, position}
+use Rattle.std.specs.Prelude.{◌≡◌, ℕ, ℤ, pos, if◌then◌else◌, Option, Some, None, option_map, option_and_then, unwrap_or, Result, Ok, Err, List, [], ◌∷◌, slice_get, position}
 use Rattle.std.specs.Fmt.{signed_decimal}
 use Rattle.std.specs.Option.{option_or}
-use Rattle.std.specs.Ordering.{int_eq}
 use Rattle.std.specs.Str.{IsUtf8, bytes_eq}
-use Rattle.serde_json.specs.Data.{Data, null, boolean, number, string, array, object, Members, no_members, member}
+use Rattle.serde_json.specs.Data.{Data, Members, no_members, member}
 use Rattle.serde_json.specs.Find.{as_object, get}
 use Rattle.serde_json.specs.Read.{read}
 use Rattle.sm_syntax.specs.declared.tree.Name.{Name}
@@ -70,10 +69,10 @@ number_or_zero d = unwrap_or (option_and_then number_of d) (pos 0)
 abbrev pub elements : Data → ℤ → Option ℤ
 elements d i = if fits i then option_map (λ (v : Data). number_or_zero (Some v)) (get (signed_decimal i) d) else None
 
--- the element that one cell gives
-abbrev pub cell_given : Option ℤ → Data → ℤ → Option ℤ
-cell_given None d i = None
-cell_given (Some j) d i = if int_eq i j then Some (number_or_zero (Some d)) else None
+-- what one cell gives: the number at its index
+abbrev pub cell_given : Option ℤ → Data → List (ℤ × ℤ)
+cell_given None d = []
+cell_given (Some i) d = (i, number_or_zero (Some d)) ∷ []
 
 -- the number at an index of an array, 0 where none is given
 abbrev pub element : Option Data → ℤ → ℤ

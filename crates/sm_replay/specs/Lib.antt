@@ -7,3 +7,6 @@ pub mod Filling
 pub mod Ends
 pub mod Numbers
 pub mod Inputs
+pub mod Written
+pub mod Inside
+pub mod Writing

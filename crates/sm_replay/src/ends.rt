@@ -8,20 +8,20 @@ ghost use Rattle.sm_syntax.specs.ConflictFree.{O, A, B, M, copy_of, program_of};
 ghost use Rattle.sm_syntax.specs.FirstBroken.{IsFirstBroken};
 ghost use Rattle.sm_syntax.specs.Keeps.{Cell, Scalar, Element, content, variable};
 ghost use Rattle.sm_syntax.specs.Meaning.{run};
-ghost use Rattle.sm_syntax.specs.Parts.{sort_of, task_of, sorted_outputs};
+ghost use Rattle.sm_syntax.specs.Parts.{sort_of, task_of};
 ghost use Rattle.sm_syntax.specs.Programs.{declared_of};
 ghost use Rattle.sm_syntax.specs.Sorts.{IsWellSorted};
 ghost use Rattle.sm_syntax.specs.Stores as plain;
 ghost use Rattle.sm_task.specs.Tasks.{parts_of};
-ghost use Rattle.sm_replay.specs.Ends.{end_in, HaveSort, stop_of, Halts, NamesBreak, Finds, IsUpTo};
+ghost use Rattle.sm_replay.specs.Ends.{end_in, HaveSort, sorted_by, stop_of, Halts};
+ghost use Rattle.sm_replay.specs.Ends.{NamesBreak, Finds, IsUpTo};
 ghost use Rattle.sm_replay.specs.Sorted.{sort_fault};
 ghost use Rattle.sm_replay.specs.Violations.{AreEnds, KeepsAt};
 
 use crate::error::ReplayError;
-use crate::sort::sort_in;
 use crate::verdict::Verdict;
 use sm_eval::{EvalError, Store, run};
-use sm_syntax::{Decls, Name, Sort, keeps};
+use sm_syntax::{Name, Sort, keeps};
 use sm_task::{Task, fill};
 use std::alloc::Global;
 
@@ -56,12 +56,13 @@ impl Ends {
     }
 
     /// What the ends show at the outputs.
-    pub fn verdict(&self, decls: &Decls, outputs: &[Name]) -> Verdict
-        requires { (x : ℕ) → HaveSort self.now x (sort_of (declared_of decls.now) x) }
-        ensures { Finds (sorted_outputs (declared_of decls.now) (map (λ x. x.0) outputs.now)) (end_in self.now) result }
+    pub fn verdict(&self, outputs: &[Name]) -> Verdict
+        requires { (x : ℕ) → HaveSort self.now x (sorts_of self.now.base x) }
+        ensures { let sorted = sorted_by (sorts_of self.now.base) (map (λ x. x.0) outputs.now) in
+            Finds sorted (end_in self.now) result }
     {
         for x in outputs {
-            if let Some(verdict) = self.first_break(*x, sort_in(decls, *x)) {
+            if let Some(verdict) = self.first_break(*x, self.base.sort(*x)) {
                 return verdict;
             }
         }

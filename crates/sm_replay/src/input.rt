@@ -1,19 +1,18 @@
 // Inputs in JSON.
-ghost use Rattle.std.specs.Prelude.{◌≡◌, ◌≢◌, ◌<◌, ◌^◌, ℤ, Some, None, length, option_map, MatchResult, IfOk, IfErr, OnOk};
+ghost use Rattle.std.specs.Prelude.{◌≡◌, ◌≢◌, ◌++◌, ℤ, Some, None, option_map, MatchResult, IfOk, IfErr, OnOk};
 ghost use Rattle.serde_json.specs.Data.{Data, object};
 ghost use Rattle.serde_json.specs.Find.{as_object};
 ghost use Rattle.serde_json.specs.View.{view, members_view};
 ghost use Rattle.sm_eval.specs.Slots.{meaning, sorts_of};
 ghost use Rattle.sm_syntax.specs.Parts.{sort_of};
 ghost use Rattle.sm_syntax.specs.Programs.{declared_of};
-ghost use Rattle.sm_eval.specs.Zeros.{zero_of};
-ghost use Rattle.sm_replay.specs.Filling.{Gives, Overrides};
+ghost use Rattle.sm_eval.specs.Zeros.{zero_of, zeros};
+ghost use Rattle.sm_replay.specs.Filling.{Gives, Lists, Overrides};
 ghost use Rattle.sm_replay.specs.Inputs.{declared_name, missing, cells_fault, value_fault, members_fault, input_fault, number_or_zero, elements, cell_given, given, member_of, store_of, IsJson, Reads, reported};
 ghost use Rattle.sm_replay.specs.Numbers.{number_of_text, number_of};
 
 use crate::error::InputError;
 use crate::number::{number_of, number_of_text};
-use crate::sort::sort_in;
 use serde_json::{Category, Error, Map, Value};
 use sm_eval::Store;
 use sm_syntax::{Decls, Name, NameTable, Sort};
@@ -52,8 +51,9 @@ fn read_value(
     let Some(members) = input.as_object() else {
         return Err(InputError::NotObject);
     };
-    check_members(decls, names, members)?;
-    let s = store_of(alloc, decls, names, input)?;
+    let mut s = Store::zero(alloc, decls)?;
+    check_members(&s, names, members)?;
+    give_members(alloc, &mut s, decls, names, input)?;
     Ok(s)
 }
 
@@ -74,30 +74,27 @@ fn parse_json(alloc: Global, bytes: &[u8]) -> Result<Value, InputError>
     }
 }
 
-// Checks that each member is a declared name's, with a value of its sort.
+// Checks that each member is a declared name's of a store, with a value of its sort.
 fn check_members(
-    decls: &Decls,
+    s: &Store,
     names: &NameTable,
     members: &Map<String, Value>,
 ) -> Result<(), InputError>
-    ensures { result ≡ reported (members_fault names.now (sort_of (declared_of decls.now)) (members_view members.now.entries)) }
+    ensures { let members = members_view members.now.entries in
+        result ≡ reported (members_fault names.now (sorts_of s.now) members) }
 {
     for (key, member) in members {
-        check_member(decls, names, key.as_str(), member)?;
+        check_member(s, names, key.as_str(), member)?;
     }
     Ok(())
 }
 
 // Checks a member.
-fn check_member(
-    decls: &Decls,
-    names: &NameTable,
-    key: &str,
-    member: &Value,
-) -> Result<(), InputError>
-    ensures { result ≡ reported (value_fault (declared_name names.now (sort_of (declared_of decls.now)) key.now) (view member.now)) }
+fn check_member(s: &Store, names: &NameTable, key: &str, member: &Value) -> Result<(), InputError>
+    ensures { let x = declared_name names.now (sorts_of s.now) key.now in
+        result ≡ reported (value_fault x (view member.now)) }
 {
-    match declared_name(decls, names, key) {
+    match declared_name(s, names, key) {
         None => Err(InputError::UnknownKey),
         Some((name, Sort::Num)) => check_number(number_of(member), InputError::BadValue { name }),
         Some((name, Sort::Arr)) => match member.as_object() {
@@ -117,13 +114,14 @@ fn check_number(number: Option<i128>, error: InputError) -> Result<(), InputErro
     }
 }
 
-// A declared name by its text, with its sort.
-fn declared_name(decls: &Decls, names: &NameTable, key: &str) -> Option<(Name, Sort)>
-    ensures { option_map (λ x. (x.0.0, x.1)) result ≡ declared_name names.now (sort_of (declared_of decls.now)) key.now }
+// A declared name of a store by its text, with its sort.
+pub(crate) fn declared_name(s: &Store, names: &NameTable, key: &str) -> Option<(Name, Sort)>
+    ensures { option_map (λ x. (x.0.0, x.1)) result
+        ≡ declared_name names.now (sorts_of s.now) key.now }
 {
     match names.find(key) {
         None => None,
-        Some(name) => match sort_in(decls, name) {
+        Some(name) => match s.sort(name) {
             None => None,
             Some(sort) => Some((name, sort)),
         },
@@ -141,26 +139,25 @@ fn check_cells(name: Name, cells: &Map<String, Value>) -> Result<(), InputError>
     Ok(())
 }
 
-// The store that an input gives.
-fn store_of(
+// Gives each declared name of a store of zeros what its member says.
+fn give_members(
     alloc: Global,
+    s: &mut Store,
     decls: &Decls,
     names: &NameTable,
     input: &Value,
-) -> Result<Store, AllocError>
-    ensures value { IfOk result (λ s. meaning s ≡ store_of names.now (sort_of (declared_of decls.now)) (view input.now)) }
-    ensures sorts { IfOk result (λ s. sorts_of s ≡ sort_of (declared_of decls.now)) }
+) -> Result<(), AllocError>
+    requires zeros { meaning s.old ≡ zeros (sort_of (declared_of decls.now)) }
+    requires sorts { sorts_of s.old ≡ sort_of (declared_of decls.now) }
+    ensures value { let sorts = sort_of (declared_of decls.now) in
+        OnOk result (meaning s.new ≡ store_of names.now sorts (view input.now)) }
+    ensures sorts { sorts_of s.new ≡ sort_of (declared_of decls.now) }
 {
-    let mut s = Store::zero(alloc, decls)?;
     for d in &decls.list {
-        give(
-            &mut s,
-            d.0,
-            sort_in(decls, d.0),
-            member_of(names, input, d.0),
-        )?;
+        let sort = s.sort(d.0);
+        give(alloc, s, d.0, sort, member_of(names, input, d.0))?;
     }
-    Ok(s)
+    Ok(())
 }
 
 // The member that is named as a name.
@@ -176,6 +173,7 @@ fn member_of<'v>(names: &NameTable, input: &'v Value, x: Name) -> Option<&'v Val
 
 // Gives a name what a member says.
 fn give(
+    alloc: Global,
     s: &mut Store,
     x: Name,
     sort: Option<Sort>,
@@ -187,12 +185,18 @@ fn give(
 {
     match sort {
         None => Ok(()),
-        Some(sort) => give_sorted(s, x, sort, member),
+        Some(sort) => give_sorted(alloc, s, x, sort, member),
     }
 }
 
 // Gives a declared name what a member says.
-fn give_sorted(s: &mut Store, x: Name, sort: Sort, member: Option<&Value>) -> Result<(), AllocError>
+fn give_sorted(
+    alloc: Global,
+    s: &mut Store,
+    x: Name,
+    sort: Sort,
+    member: Option<&Value>,
+) -> Result<(), AllocError>
     requires { sorts_of s.old x.0 ≡ Some sort }
     ensures value { OnOk result (Gives (zero_of (Some sort)) (given (Some sort) (option_map (λ v. view v.now) member.entry)) x.0 (meaning s.old) (meaning s.new)) }
     ensures sorts { sorts_of s.new ≡ sorts_of s.old }
@@ -203,7 +207,7 @@ fn give_sorted(s: &mut Store, x: Name, sort: Sort, member: Option<&Value>) -> Re
             Ok(())
         }
         Sort::Arr => match member {
-            Some(array) => give_array(s, x, array),
+            Some(array) => give_array(alloc, s, x, array),
             None => Ok(()),
         },
     }
@@ -220,37 +224,56 @@ fn number_or_zero(member: Option<&Value>) -> i128
 }
 
 // Gives an array the elements that a member says.
-fn give_array(s: &mut Store, a: Name, array: &Value) -> Result<(), AllocError>
+fn give_array(alloc: Global, s: &mut Store, a: Name, array: &Value) -> Result<(), AllocError>
     requires { sorts_of s.old a.0 ≡ Some Sort.Arr }
     ensures value { OnOk result (Overrides (elements (view array.now)) a.0 (meaning s.old) (meaning s.new)) }
     ensures sorts { sorts_of s.new ≡ sorts_of s.old }
 {
     match array.as_object() {
-        Some(cells) => give_cells(s, a, cells),
+        Some(cells) => give_cells(alloc, s, a, cells),
         None => Ok(()),
     }
 }
 
-// Gives an array what its cells say.
-fn give_cells(s: &mut Store, a: Name, cells: &Map<String, Value>) -> Result<(), AllocError>
+// Gives an array what its cells say. They are set in the order of their indices, so that each goes
+// last into the array's list.
+fn give_cells(
+    alloc: Global,
+    s: &mut Store,
+    a: Name,
+    cells: &Map<String, Value>,
+) -> Result<(), AllocError>
     requires { sorts_of s.old a.0 ≡ Some Sort.Arr }
     ensures value { OnOk result (Overrides (elements (object (members_view cells.now.entries))) a.0 (meaning s.old) (meaning s.new)) }
     ensures sorts { sorts_of s.new ≡ sorts_of s.old }
 {
-    for (key, number) in cells {
-        give_cell(s, a, key.as_str(), number)?;
+    let mut list = list_of(alloc, cells)?;
+    list.sort()?;
+    for (i, z) in &list {
+        s.set_cell(a, *i, *z)?;
     }
     Ok(())
 }
 
-// Gives an array what one cell says.
-fn give_cell(s: &mut Store, a: Name, key: &str, number: &Value) -> Result<(), AllocError>
-    requires { sorts_of s.old a.0 ≡ Some Sort.Arr }
-    ensures value { OnOk result (Overrides (cell_given (number_of_text key.now) (view number.now)) a.0 (meaning s.old) (meaning s.new)) }
-    ensures sorts { sorts_of s.new ≡ sorts_of s.old }
+// The cells of an array, each an index with its number.
+fn list_of(alloc: Global, cells: &Map<String, Value>) -> Result<Vec<(i128, i128)>, AllocError>
+    ensures { IfOk result (λ list.
+        Lists (elements (object (members_view cells.now.entries))) list.items) }
 {
-    match number_of_text(key) {
-        Some(i) => s.set_cell(a, i, number_of(number).unwrap_or(0)),
-        None => Ok(()),
+    let mut list = Vec::new(alloc);
+    for (key, number) in cells {
+        add_cell(&mut list, key.as_str(), number)?;
     }
+    Ok(list)
+}
+
+// Adds a cell to a list, if its key is an index.
+fn add_cell(list: &mut Vec<(i128, i128)>, key: &str, number: &Value) -> Result<(), AllocError>
+    ensures { let cell = cell_given (number_of_text key.now) (view number.now) in
+        OnOk result (list.new.items ≡ list.old.items ++ cell) }
+{
+    if let Some(i) = number_of_text(key) {
+        list.push((i, number_of(number).unwrap_or(0)))?;
+    }
+    Ok(())
 }

@@ -42,7 +42,7 @@ fn judge_met(alloc: Global, task: &Task, input: &Store, turns: u64) -> Result<Ve
     ensures { Judges (task_of (parts_of task.now)) (meaning input.now) turns result }
 {
     let ends = Ends::of(alloc, task, input, turns)?;
-    Ok(ends.verdict(&task.shared.decls, &task.shared.outputs.list))
+    Ok(ends.verdict(&task.shared.outputs.list))
 }
 
 /// Whether the store meets the assumption, or the first operation of the assumption that leaves 128 bits.

@@ -1,5 +1,5 @@
 // Laws of violations and of tasks, as contracts.
-ghost use Rattle.sm_replay.specs.Laws.{ViolationsConflict, ValidTasksRun};
+ghost use Rattle.sm_replay.specs.Laws.{ViolationsConflict, ValidTasksRun, SpelledNamesAreFound};
 
 /// An input that violates the condition is a conflict of the merge.
 pub fn violations_conflict()
@@ -10,4 +10,9 @@ pub fn violations_conflict()
 #[tactic(auto, using(crate::proofs::Running::valid_runs))]
 pub fn valid_tasks_run()
     ensures { ValidTasksRun }
+{}
+
+/// The declared names of a text's task are found by their texts.
+pub fn spelled_names_are_found()
+    ensures { SpelledNamesAreFound }
 {}

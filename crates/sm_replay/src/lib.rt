@@ -1,6 +1,7 @@
 //! Runs of a task from one input: what they show against the merge.
 //!
 //! - `read_input` gives the store of an input in JSON, or the first refusal.
+//! - `write_input` gives the text of a store. It reads back to the same store.
 //! - `trial` gives the inputs that are tried on every task.
 //! - `judge` runs the four programs from one store: they end and keep the condition, or the first cell and part in which
 //!   it fails, or what kept them from an end.
@@ -8,9 +9,11 @@
 //!   the assumption excludes them all.
 //! - `violations_conflict` is the law that a violation is a conflict, and `valid_tasks_run` that a task that meets its
 //!   conditions may be run.
+//! - `spelled_names_are_found` is the law that the declared names of a text's task are found by
+//!   their texts.
 //!
-//! Read `specs/Violations.antt` first, then `specs/Verdicts.antt`. `specs/Inputs.antt` says what an input is, and
-//! `specs/Trials.antt` which are tried.
+//! Read `specs/Violations.antt` first, then `specs/Verdicts.antt`. `specs/Inputs.antt` says what an input is,
+//! `specs/Written.antt` which text is written for a store, and `specs/Trials.antt` which inputs are tried.
 #![tactic(auto)]
 
 mod ends;
@@ -20,16 +23,17 @@ mod input;
 mod judging;
 mod laws;
 mod number;
-mod sort;
 #[cfg(test)]
 mod tests;
 mod trials;
 mod verdict;
+mod written;
 
 pub use error::{InputError, ReplayError};
 pub use first::{first_violation, some_trial_meets};
 pub use input::read_input;
 pub use judging::judge;
-pub use laws::{valid_tasks_run, violations_conflict};
+pub use laws::{spelled_names_are_found, valid_tasks_run, violations_conflict};
 pub use trials::trial;
 pub use verdict::Verdict;
+pub use written::write_input;

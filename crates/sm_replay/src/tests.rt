@@ -10,9 +10,9 @@ use crate::error::{InputError, ReplayError};
 use crate::first::{first_violation, some_trial_meets};
 use crate::input::read_input;
 use crate::judging::judge;
-use crate::sort::sort_in;
 use crate::trials::trial;
 use crate::verdict::Verdict;
+use crate::written::write_input;
 use sm_eval::Store;
 use sm_num::Op;
 use sm_par::Open;
@@ -42,27 +42,23 @@ fn store(alloc: Global, task: &Task, x: Name, z: i128) -> Result<Store, AllocErr
     ensures { IfOk result (λ s. sorts_of s ≡ sort_of (declared_of task.now.shared.decls)) }
 {
     let mut s = Store::zero(alloc, &task.shared.decls)?;
-    if let Some(Sort::Num) = sort_in(&task.shared.decls, x) {
+    if let Some(Sort::Num) = s.sort(x) {
         s.set(x, z);
     }
     Ok(s)
 }
 
 // The number of a number variable.
-fn number(task: &Task, s: &Store, x: Name) -> Option<i128>
-    requires { sorts_of s.now ≡ sort_of (declared_of task.now.shared.decls) }
-{
-    match sort_in(&task.shared.decls, x) {
+fn number(s: &Store, x: Name) -> Option<i128> {
+    match s.sort(x) {
         Some(Sort::Num) => Some(s.number(x)),
         _ => None,
     }
 }
 
 // The number at an index of an array.
-fn element(task: &Task, s: &Store, a: Name, i: i128) -> Option<i128>
-    requires { sorts_of s.now ≡ sort_of (declared_of task.now.shared.decls) }
-{
-    match sort_in(&task.shared.decls, a) {
+fn element(s: &Store, a: Name, i: i128) -> Option<i128> {
+    match s.sort(a) {
         Some(Sort::Arr) => Some(s.cell(a, i)),
         _ => None,
     }
@@ -126,6 +122,7 @@ fn the_least_trial_that_violates_is_found_by_each_number_of_workers(
         (LOST, Some((1, violation(1, None, 1)))),
         (LOST_WHERE_AT_MOST_0, Some((3, violation(1, None, 1)))),
         (LOST_WHERE_0, None),
+        (LOST_WHERE_1000, None),
         (LOST_NOWHERE, None),
     ];
     for (text, want) in cases {
@@ -186,10 +183,10 @@ fn trials_have_their_numbers(rt: HostRuntime) -> Result<(), Fail> {
     // x and z, then the elements of a at 0 and 8
     for (j, x, z, first) in [(0, 0, 0, 0), (1, 1, 6, -3), (3, -4, 11, 3), (8, -6, -1, 9)] {
         let s = trial(alloc, &task, j)?;
-        assert_eq!(rt; number(&task, &s, Name(0)), Some(x), "{j}");
-        assert_eq!(rt; number(&task, &s, Name(1)), Some(z), "{j}");
-        assert_eq!(rt; element(&task, &s, Name(2), 0), Some(first), "{j}");
-        assert_eq!(rt; element(&task, &s, Name(2), 8), Some(0), "{j}");
+        assert_eq!(rt; number(&s, Name(0)), Some(x), "{j}");
+        assert_eq!(rt; number(&s, Name(1)), Some(z), "{j}");
+        assert_eq!(rt; element(&s, Name(2), 0), Some(first), "{j}");
+        assert_eq!(rt; element(&s, Name(2), 8), Some(0), "{j}");
     }
     Ok(())
 }
@@ -218,10 +215,10 @@ fn read(alloc: Global, bytes: &[u8]) -> Result<[Option<i128>; 4], InputError> {
     let s = read_input(alloc, &task.shared.decls, &task.shared.names, bytes)?;
     let (x, a, y) = (Name(0), Name(1), Name(2));
     Ok([
-        number(&task, &s, x),
-        number(&task, &s, y),
-        element(&task, &s, a, -1),
-        element(&task, &s, a, 5),
+        number(&s, x),
+        number(&s, y),
+        element(&s, a, -1),
+        element(&s, a, 5),
     ])
 }
 
@@ -278,6 +275,91 @@ fn an_input_gives_its_numbers_or_is_refused_at_its_first_fault(
     ];
     for (bytes, want) in cases {
         assert_eq!(rt; read(alloc, bytes), *want, "{bytes:?}");
+    }
+    Ok(())
+}
+
+// A number variable, or an array at an index, with a number.
+type Given = (u32, Option<i128>, i128);
+
+// Gives a store a number.
+fn give(s: &mut Store, given: Given) -> Result<(), AllocError>
+    ensures { sorts_of s.new ≡ sorts_of s.old }
+{
+    let x = Name(given.0);
+    match (s.sort(x), given.1) {
+        (Some(Sort::Num), None) => {
+            s.set(x, given.2);
+            Ok(())
+        }
+        (Some(Sort::Arr), Some(i)) => s.set_cell(x, i, given.2),
+        _ => Err(AllocError),
+    }
+}
+
+// The number that is given, as a store has it.
+fn found(s: &Store, given: Given) -> Option<i128> {
+    match given.1 {
+        None => number(s, Name(given.0)),
+        Some(i) => element(s, Name(given.0), i),
+    }
+}
+
+// The text of a store for `var y, x; array b, a;` that is given numbers, and these as they are read back.
+fn written(alloc: Global, given: &[Given; 3]) -> Result<(Vec<u8>, [Option<i128>; 3]), InputError> {
+    let head =
+        "var y, x; array b, a; output x; shared { } base { } variant_a { } variant_b { } candidate { }";
+    let task = task(alloc, head)?;
+    let (decls, names) = (&task.shared.decls, &task.shared.names);
+    let mut s = Store::zero(alloc, decls)?;
+    give(&mut s, given[0])?;
+    give(&mut s, given[1])?;
+    give(&mut s, given[2])?;
+    let text = write_input(alloc, decls, names, &s)?;
+    let back = read_input(alloc, decls, names, &text)?;
+    Ok((
+        text,
+        [
+            found(&back, given[0]),
+            found(&back, given[1]),
+            found(&back, given[2]),
+        ],
+    ))
+}
+
+#[test]
+fn a_store_is_written_by_rising_keys_without_zero_cells_and_reads_back(
+    rt: HostRuntime,
+) -> Result<(), Fail> {
+    let alloc = rt.alloc();
+    let (y, x, b, a) = (0, 1, 2, 3);
+    let cases: &[([Given; 3], &str)] = &[
+        (
+            [(y, None, 0), (x, None, 0), (a, Some(7), 0)],
+            "{\"a\":{},\"b\":{},\"x\":\"0\",\"y\":\"0\"}",
+        ),
+        (
+            [(y, None, -3), (x, None, 70), (b, Some(0), 1)],
+            "{\"a\":{},\"b\":{\"0\":\"1\"},\"x\":\"70\",\"y\":\"-3\"}",
+        ),
+        (
+            [(a, Some(5), 1), (a, Some(-1), -9), (a, Some(10), 2)],
+            "{\"a\":{\"-1\":\"-9\",\"10\":\"2\",\"5\":\"1\"},\"b\":{},\"x\":\"0\",\"y\":\"0\"}",
+        ),
+        (
+            [
+                (x, None, i128::MIN),
+                (y, None, i128::MAX),
+                (b, Some(i128::MIN), i128::MAX),
+            ],
+            "{\"a\":{},\"b\":{\"-170141183460469231731687303715884105728\":\"170141183460469231731687303715884105727\"},\"x\":\"-170141183460469231731687303715884105728\",\"y\":\"170141183460469231731687303715884105727\"}",
+        ),
+    ];
+    for (given, want) in cases {
+        let (text, back) = written(alloc, given)?;
+        assert_eq!(rt; text.as_slice(), want.as_bytes());
+        let wanted = [Some(given[0].2), Some(given[1].2), Some(given[2].2)];
+        assert_eq!(rt; back, wanted, "{want}");
     }
     Ok(())
 }

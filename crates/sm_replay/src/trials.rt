@@ -7,7 +7,6 @@ ghost use Rattle.sm_syntax.specs.Programs.{declared_of};
 ghost use Rattle.sm_replay.specs.Filling.{Gives, Overrides};
 ghost use Rattle.sm_replay.specs.Trials.{trial, number_in_trial, value_in_trial, elements_below};
 
-use crate::sort::sort_in;
 use sm_eval::Store;
 use sm_syntax::{Name, Sort};
 use sm_task::Task;
@@ -31,10 +30,10 @@ fn later_trial(alloc: Global, task: &Task, j: u8) -> Result<Store, AllocError>
     ensures value { IfOk result (λ s. meaning s ≡ trial (sort_of (declared_of task.now.shared.decls)) j) }
     ensures sorts { IfOk result (λ s. sorts_of s ≡ sort_of (declared_of task.now.shared.decls)) }
 {
-    let decls = &task.shared.decls;
-    let mut s = Store::zero(alloc, decls)?;
-    for d in &decls.list {
-        give(&mut s, d.0, sort_in(decls, d.0), j)?;
+    let mut s = Store::zero(alloc, &task.shared.decls)?;
+    for d in &task.shared.decls.list {
+        let sort = s.sort(d.0);
+        give(&mut s, d.0, sort, j)?;
     }
     Ok(s)
 }

@@ -1,10 +1,9 @@
 -- The fault of all members is that of those that are left.
 use Rattle.std.proofs.Common.{◌≡◌}
 use Rattle.serde_json.specs.View.{members_view}
-use Rattle.sm_syntax.specs.Parts.{sort_of}
-use Rattle.sm_syntax.specs.Programs.{declared_of}
+use Rattle.sm_eval.specs.Slots.{sorts_of}
 use Rattle.sm_replay.specs.Inputs.{members_fault}
 use Rattle.sm_replay.proofs.input.check_members.Given as goal
 
 abbrev pub invariant-loop-key : goal.invariant-loop-key
-invariant-loop-key l = members_fault l.names (sort_of (declared_of l.decls)) (members_view l.key-iterator) ≡ members_fault l.names (sort_of (declared_of l.decls)) (members_view l.members.entries)
+invariant-loop-key l = members_fault l.names (sorts_of l.s) (members_view l.key-iterator) ≡ members_fault l.names (sorts_of l.s) (members_view l.members.entries)

@@ -1,34 +1,38 @@
--- Cell by cell.
-use Rattle.std.proofs.Common.{◌≡◌, ◌≢◌, ℕ, ℤ, List, ◌∷◌, string_bytes, sym, ap, subst, ◌∙◌}
-use Rattle.std.proofs.lemmas.Map.Iter.{rest_more}
-use Rattle.std.specs.List.Sorted.{IsStrictlySortedBy}
-use Rattle.std.specs.Map.{keys_of}
-use Rattle.std.specs.Map.Iter.{deref_pair}
-use Rattle.std.specs.String.{string_cmp}
-use Rattle.serde_json.specs.View.{view}
-use Rattle.serde_json.proofs.Views.{Entry}
-use Rattle.sm_syntax.specs.Stores.{array}
-use Rattle.sm_eval.specs.Slots.{meaning}
-use Rattle.sm_replay.specs.Filling.{Overrides}
-use Rattle.sm_replay.specs.Inputs.{cell_given}
-use Rattle.sm_replay.specs.Numbers.{number_of_text}
-use Rattle.sm_replay.proofs.Membering.{Left, cells_turn, rest_sorted}
+-- Cell by cell, in the order of the indices.
+use Rattle.std.proofs.Common.{◌≡◌, ℤ, Option, pos, get_or, to_z, of_z, refl, sym, ap, subst, ◌∙◌, rules}
+use Rattle.std.specs.Int.{w128}
+use Rattle.serde_json.specs.Data.{object}
+use Rattle.serde_json.specs.View.{members_view}
+use Rattle.sm_eval.specs.Slots.{meaning, with_cell}
+use Rattle.sm_replay.specs.Filling.{Lists}
+use Rattle.sm_replay.specs.Inputs.{elements}
+use Rattle.sm_replay.proofs.Filled.{cell_turn, none_overridden, all_overridden}
+use Rattle.sm_replay.proofs.Membering.{lists_shuffled}
 use Rattle.sm_replay.proofs.input.give_cells.Goals as goal
 
-pub loop-key-preserved : goal.loop-key-preserved
-loop-key-preserved c =
-    let left : c.loop-key.key-iterator ≡ (c.in-Some.key.now, c.in-Some.number.now) ∷ c.next.new.self =
-    rest_more deref_pair c.loop-key.key-iterator c.next.new.self c.next.result (c.in-Some.key, c.in-Some.number) c.in-Some.is c.next.ensures.steps in
-    let sorted : IsStrictlySortedBy string_cmp (keys_of ((c.in-Some.key.now, c.in-Some.number.now) ∷ c.next.new.self)) =
-    subst (λ (l : List Entry). IsStrictlySortedBy string_cmp (keys_of l)) left c.loop-key.invariant.ordered in
-    let given : Overrides (cell_given (number_of_text (string_bytes c.in-Some.key.now)) (view c.in-Some.number.now)) c.args.a.0 (meaning c.loop-key.s) (meaning c.give_cell.new.s) =
-    subst (λ (t : List ℕ). Overrides (cell_given (number_of_text t) (view c.in-Some.number.now)) c.args.a.0 (meaning c.loop-key.s) (meaning c.give_cell.new.s)) c.as_str.ensures.value c.in_ok-give_cell.ensures.value in
+pub loop-i-init : goal.loop-i-init
+loop-i-init c =
+    let given : ℤ → Option ℤ = elements (object (members_view c.args.cells.now.entries)) in
+    let listed : Lists given c.deref-i-items.result.now =
+    subst (Lists given) (sym c.deref-i-items.ensures.value) (lists_shuffled given c.in_ok-list.list.items c.sort.new.self.items c.sort.ensures.permutation c.in_ok-list.ensures) in
+    record { overriding = none_overridden given c.args.a.0 c.deref-i-items.result.now (meaning c.args.s.now) listed; sorts = refl }
+
+pub loop-i-preserved : goal.loop-i-preserved
+loop-i-preserved c =
+    let given : ℤ → Option ℤ = elements (object (members_view c.args.cells.now.entries)) in
+    let listed : Lists given c.deref-i-items.result.now =
+    subst (Lists given) (sym c.deref-i-items.ensures.value) (lists_shuffled given c.in_ok-list.list.items c.sort.new.self.items c.sort.ensures.permutation c.in_ok-list.ensures) in
+    let cell : ℤ × ℤ = get_or c.deref-i-items.result.now c.loop-i.i-index (pos 0, pos 0) in
+    let index : to_z w128 (of_z w128 cell.0) ≡ cell.0 = search rules in
+    let number : to_z w128 (of_z w128 cell.1) ≡ cell.1 = search rules in
+    let put : meaning c.set_cell.new.self ≡ with_cell (meaning c.loop-i.s) c.args.a.0 cell.0 cell.1 =
+    c.in_ok-set_cell.ensures.ok ∙ ap (λ (i : ℤ). with_cell (meaning c.loop-i.s) c.args.a.0 i (to_z w128 (of_z w128 cell.1))) index ∙ ap (with_cell (meaning c.loop-i.s) c.args.a.0 cell.0) number in
     record {
-      elements = λ (i : ℤ).
-          cells_turn (c.in-Some.key.now, c.in-Some.number.now) c.next.new.self c.args.a.0 (meaning c.loop-key.s) (meaning c.give_cell.new.s) sorted given i
-          ∙ ap (λ (l : List Entry). Left l i (array (meaning c.loop-key.s c.args.a.0) i)) (sym left)
-          ∙ c.loop-key.invariant.elements i;
-      others = λ (y : ℕ) (other : y ≢ c.args.a.0). given.others y other ∙ c.loop-key.invariant.others y other;
-      sorts = c.give_cell.ensures.sorts ∙ c.loop-key.invariant.sorts;
-      ordered = rest_sorted (c.in-Some.key.now, c.in-Some.number.now) c.next.new.self sorted;
+      overriding = cell_turn given c.args.a.0 c.deref-i-items.result.now c.loop-i.i-index (pos 0, pos 0) (meaning c.args.s.now) (meaning c.loop-i.s) (meaning c.set_cell.new.self) listed
+          c.loop-i-test.true put c.loop-i.invariant.overriding;
+      sorts = c.in_ok-set_cell.ensures.sorts ∙ c.loop-i.invariant.sorts;
     }
+
+pub returns-clause-value : goal.returns-clause-value
+returns-clause-value c =
+    all_overridden (elements (object (members_view c.args.cells.now.entries))) c.args.a.0 c.deref-i-items.result.now c.loop-i.i-index (meaning c.args.s.now) (meaning c.loop-i.s) c.loop-i-test.false c.loop-i.invariant.overriding
