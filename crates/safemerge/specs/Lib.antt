@@ -6,4 +6,5 @@ pub mod Lines
 pub mod Reading
 pub mod Stops
 pub mod Check
+pub mod Replay
 pub mod Answers

@@ -1,17 +1,15 @@
 -- What is answered where a task's file, or an input's, is to be read. The count of read faults was `before`, and is `now`.
-use Rattle.std.specs.Prelude.{◌≡◌, ◌≢◌, ◌⊎◌, ◌<◌, ◌≤◌, ℕ, List, [], ◌∷◌, Some, length, codes, IfSome}
+use Rattle.std.specs.Prelude.{◌≡◌, ◌≢◌, ◌⊎◌, ◌<◌, ◌≤◌, ℕ, List, [], ◌∷◌, length, codes, IfSome}
 use Rattle.sm_io.specs.Causes.{Rose}
 use Rattle.sm_io.specs.Files.{Known, absent, WhereHeld}
 use Rattle.sm_syntax.specs.Parts.{Parts}
 use Rattle.sm_syntax.specs.Spells.{Spells}
 use Rattle.sm_syntax.specs.Symbols.{names_of}
-use Rattle.sm_syntax.specs.Tokens.{lexed}
-use Rattle.sm_syntax.specs.declared.token.LexFault.{LexFault}
-use Rattle.sm_task.specs.Errors.{lexical_fault_of, refusal_of, IsRefusedBy}
+use Rattle.sm_task.specs.Errors.{refusal_of, IsRefusedBy}
 use Rattle.sm_task.specs.Places.{text_fault_of}
 use Rattle.sm_task.specs.declared.error.TaskError.{TaskError}
 use Rattle.sm_task.specs.declared.error.TaskError.TheVariants as no_task
-use Rattle.sm_text.specs.Places.{IsFirstFault}
+use Rattle.sm_text.specs.Places.{AreTasks, IsFirstFault, whole_text}
 use Rattle.safemerge.specs.Lines.{line_of, refusal_line}
 use Rattle.safemerge.specs.declared.status.Status.{Status}
 use Rattle.safemerge.specs.declared.status.Status.TheVariants.{Refused, ReadFault}
@@ -52,8 +50,7 @@ GivesNoBytes kind file before now status text = FailsToRead file before now stat
 pub record IsNoTask (bytes : List ℕ) (status : Status) (text : List ℕ) : Type 0 where
   pub error : TaskError
   pub cause : error ≢ no_task.Memory
-  pub lexical : IfSome (lexical_fault_of error) (λ (f : LexFault). (lexed bytes).1 ≡ Some f)
-  pub place : IfSome (text_fault_of error) (IsFirstFault bytes)
+  pub place : IfSome (text_fault_of error) (IsFirstFault AreTasks (whole_text bytes))
   pub condition : IfSome (refusal_of error) (IsRefusedBy bytes)
   pub spells_none : (t : Parts) → Spells bytes t → ⊥
   pub says : Says Refused (refusal_line (names_of bytes) error) status text

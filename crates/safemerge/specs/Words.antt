@@ -8,7 +8,7 @@ use Rattle.clap.specs.Simple.{App, matches_of, new_app, new_rule, with_rule}
 use Rattle.clap.specs.Walk.{Rule, Text, first_of}
 use Rattle.clap.specs.declared.builder.action.ArgAction.TheVariants.{Set}
 use Rattle.safemerge.specs.declared.words.Verb.{Verb}
-use Rattle.safemerge.specs.declared.words.Verb.TheVariants.{Check, Print}
+use Rattle.safemerge.specs.declared.words.Verb.TheVariants.{Check, Replay, Print}
 
 -- the words that the program was given
 abbrev pub Words : Type 0
@@ -26,6 +26,10 @@ option_word id = record (new_rule id) { long = Some id; action = Some Set }
 unfoldable pub check_command : App
 check_command = with_rule (with_rule (with_rule (new_app (codes "check")) (required_word (codes "TASK"))) (option_word (codes "turns"))) (option_word (codes "workers"))
 
+-- replay TASK INPUT [--turns N] [--workers N]
+unfoldable pub replay_command : App
+replay_command = with_rule (with_rule (with_rule (with_rule (new_app (codes "replay")) (required_word (codes "TASK"))) (required_word (codes "INPUT"))) (option_word (codes "turns"))) (option_word (codes "workers"))
+
 -- print TASK
 unfoldable pub print_command : App
 print_command = with_rule (new_app (codes "print")) (required_word (codes "TASK"))
@@ -33,11 +37,12 @@ print_command = with_rule (new_app (codes "print")) (required_word (codes "TASK"
 -- what `clap` knows of a command
 abbrev pub command_of : Verb → App
 command_of Check = check_command
+command_of Replay = replay_command
 command_of Print = print_command
 
 -- the command that a word names
 abbrev pub verb_of : Text → Option Verb
-verb_of word = if bytes_eq word (codes "check") then Some Check else (if bytes_eq word (codes "print") then Some Print else None)
+verb_of word = if bytes_eq word (codes "check") then Some Check else (if bytes_eq word (codes "replay") then Some Replay else (if bytes_eq word (codes "print") then Some Print else None))
 
 -- what `clap` finds wrong with the words of a command: nothing where the command takes them
 unfoldable pub faults_of : Verb → Words → Kinds
@@ -75,6 +80,7 @@ HasBadNumber turns workers = (turns_by turns ≡ None) ⊎ (workers_by workers �
 -- a number among the words of a command isn't one, or isn't in its range
 abbrev pub HasBadOption : Verb → Words → Type 0
 HasBadOption Check words = HasBadNumber (text_of Check (codes "turns") words) (text_of Check (codes "workers") words)
+HasBadOption Replay words = HasBadNumber (text_of Replay (codes "turns") words) (text_of Replay (codes "workers") words)
 HasBadOption Print words = ⊥
 
 -- the words are none of the command's: `clap` refuses them, or a number isn't one
@@ -91,12 +97,24 @@ IsUsage (word ∷ rest) = IsRefused (verb_of word) (word ∷ rest)
 pub data Asked : Type 0 where
   -- the decision on a task's file, with so many turns for a loop and so many workers
   check : List ℕ → ℕ → ℕ → Asked
+  -- what a task's programs do from an input's file
+  replay : List ℕ → List ℕ → ℕ → Asked
   -- the canonical text of a task's file
   print : List ℕ → Asked
+
+-- the file of the task
+abbrev pub task_file : Asked → Text
+task_file (check task turns workers) = task
+task_file (replay task input turns) = task
+task_file (print task) = task
 
 -- what `check` asks for, by the texts of its arguments
 abbrev pub check_by : Option Text → Option Text → Option Text → Option Asked
 check_by task turns workers = option_and_then (λ (t : Text). option_and_then (λ (n : ℕ). option_map (λ (w : ℕ). check t n w) (workers_by workers)) (turns_by turns)) task
+
+-- what `replay` asks for; its workers change nothing
+abbrev pub replay_by : Option Text → Option Text → Option Text → Option Text → Option Asked
+replay_by task input turns workers = option_and_then (λ (t : Text). option_and_then (λ (i : Text). option_and_then (λ (n : ℕ). option_map (λ (w : ℕ). replay t i n) (workers_by workers)) (turns_by turns)) input) task
 
 -- what `print` asks for
 abbrev pub print_by : Option Text → Option Asked
@@ -105,6 +123,7 @@ print_by task = option_map (λ (t : Text). print t) task
 -- what a command asks for by its words
 abbrev pub asked_by : Verb → Words → Option Asked
 asked_by Check words = check_by (text_of Check (codes "TASK") words) (text_of Check (codes "turns") words) (text_of Check (codes "workers") words)
+asked_by Replay words = replay_by (text_of Replay (codes "TASK") words) (text_of Replay (codes "INPUT") words) (text_of Replay (codes "turns") words) (text_of Replay (codes "workers") words)
 asked_by Print words = print_by (text_of Print (codes "TASK") words)
 
 -- the value where there is no fault
@@ -126,6 +145,7 @@ asked (word ∷ rest) = asked_where (verb_of word) (word ∷ rest)
 abbrev pub usage_line_of : Option Verb → List ℕ
 usage_line_of None = codes "Usage\n"
 usage_line_of (Some Check) = codes "Usage check\n"
+usage_line_of (Some Replay) = codes "Usage replay\n"
 usage_line_of (Some Print) = codes "Usage print\n"
 
 -- the line on words that no command takes, by the first of them

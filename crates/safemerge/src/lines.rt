@@ -1,9 +1,13 @@
 // The lines that are printed.
-ghost use Rattle.std.specs.Prelude.{◌≡◌, ◌≢◌, ℕ, [], ◌∷◌, map, codes, decimal, IfOk};
-ghost use Rattle.safemerge.specs.Lines.{line_of, name_text, list_word, at_place, at_name, refusal_line, decision_line};
+ghost use Rattle.std.specs.Prelude.{◌≡◌, ◌≢◌, ℕ, [], ◌∷◌, ◌++◌, Err, map, codes, decimal, IfOk, OnOk};
+ghost use Rattle.std.specs.Fmt.{signed_decimal};
+ghost use Rattle.std.specs.String.{string_bytes};
+ghost use Rattle.safemerge.specs.Lines.{line_of, name_text, list_word, at_place, at_name, refusal_line, decision_line, cell_text, input_line, trial_line, copy_letter, op_word, verdict_line, input_refusal_line};
 
 use crate::copies::Decision;
 use itoa::Buffer;
+use sm_num::Op;
+use sm_replay::{InputError, ReplayError, Verdict};
 use sm_syntax::{Name, NameTable};
 use sm_task::TaskError;
 use std::alloc::{AllocError, Global};
@@ -130,5 +134,172 @@ pub fn decision_line(
             )
         }
         Decision::NotBuilt => line(alloc, "Unknown", &["NotBuilt"]),
+    }
+}
+
+// The text of a cell.
+fn cell_text(
+    alloc: Global,
+    names: &NameTable,
+    name: Name,
+    index: Option<i128>,
+) -> Result<String, AllocError>
+    ensures { IfOk result (λ text. string_bytes text ≡ cell_text names.now name index) }
+{
+    let mut text = String::from_str(alloc, name_text(names, name))?;
+    if let Some(i) = index {
+        let mut buffer = Buffer::new();
+        text.push_str("[")?;
+        text.push_str(buffer.format(i))?;
+        text.push_str("]")?;
+    }
+    Ok(text)
+}
+
+/// The line on a trial that violates, and where.
+pub fn trial_line(
+    alloc: Global,
+    names: &NameTable,
+    trial: u8,
+    name: Name,
+    index: Option<i128>,
+    clause: u8,
+) -> Result<Vec<u8>, AllocError>
+    ensures { IfOk result (λ text. text.items ≡ trial_line names.now trial name index clause) }
+{
+    let cell = cell_text(alloc, names, name, index)?;
+    let mut number = Buffer::new();
+    let mut part = Buffer::new();
+    line(
+        alloc,
+        "Conflict",
+        &[
+            "trial",
+            number.format(trial),
+            "cell",
+            cell.as_str(),
+            "clause",
+            part.format(clause),
+        ],
+    )
+}
+
+/// Puts the line with an input's text behind a text.
+pub fn put_input_line(text: &mut Vec<u8>, input: &[u8]) -> Result<(), AllocError>
+    ensures { OnOk result (text.new.items ≡ text.old.items ++ input_line input.now) }
+{
+    text.extend_from_slice(b"input ")?;
+    text.extend_from_slice(input)?;
+    text.extend_from_slice(b"\n")?;
+    Ok(())
+}
+
+// The line on where an input violates.
+fn violation_line(
+    alloc: Global,
+    names: &NameTable,
+    name: Name,
+    index: Option<i128>,
+    clause: u8,
+) -> Result<Vec<u8>, AllocError>
+    ensures { IfOk result (λ text. text.items ≡ line_of (codes "Conflict")
+        (codes "cell" ∷ cell_text names.now name index ∷ codes "clause" ∷ decimal clause ∷ [])) }
+{
+    let cell = cell_text(alloc, names, name, index)?;
+    let mut part = Buffer::new();
+    line(
+        alloc,
+        "Conflict",
+        &["cell", cell.as_str(), "clause", part.format(clause)],
+    )
+}
+
+fn copy_letter(copy: u8) -> &'static str
+    ensures { result.now ≡ copy_letter copy }
+{
+    match copy {
+        0 => "O",
+        1 => "A",
+        2 => "B",
+        _ => "M",
+    }
+}
+
+fn op_word(op: Op) -> &'static str
+    ensures { result.now ≡ op_word op }
+{
+    match op {
+        Op::Add => "add",
+        Op::Sub => "sub",
+        Op::Mul => "mul",
+    }
+}
+
+// The line on an operation, by its word, that leaves 128 bits.
+fn beyond_line(
+    alloc: Global,
+    whose: &str,
+    op: &str,
+    a: i128,
+    b: i128,
+) -> Result<Vec<u8>, AllocError>
+    ensures { IfOk result (λ text. text.items ≡ line_of (codes "Beyond")
+        (whose.now ∷ op.now ∷ signed_decimal a ∷ signed_decimal b ∷ [])) }
+{
+    let mut left = Buffer::new();
+    let mut right = Buffer::new();
+    line(
+        alloc,
+        "Beyond",
+        &[whose, op, left.format(a), right.format(b)],
+    )
+}
+
+/// The line on what an input shows.
+pub fn verdict_line(
+    alloc: Global,
+    names: &NameTable,
+    verdict: Result<Verdict, ReplayError>,
+) -> Result<Vec<u8>, AllocError>
+    requires { verdict ≢ Err ReplayError.Memory }
+    ensures { IfOk result (λ text. text.items ≡ verdict_line names.now verdict) }
+{
+    match verdict {
+        Ok(Verdict::Holds) => line(alloc, "Holds", &[]),
+        Ok(Verdict::Unmet) => line(alloc, "Unmet", &[]),
+        Ok(
+            Verdict::Violates {
+                name,
+                index,
+                clause,
+            },
+        ) => violation_line(alloc, names, name, index, clause),
+        Err(ReplayError::OutOfTurns { copy }) => line(alloc, "OutOfTurns", &[copy_letter(copy)]),
+        Err(ReplayError::Beyond { copy, op, a, b }) => {
+            beyond_line(alloc, copy_letter(copy), op_word(op), a, b)
+        }
+        Err(ReplayError::BeyondAssumed { op, a, b }) => {
+            beyond_line(alloc, "assume", op_word(op), a, b)
+        },
+        Err(ReplayError::Memory) => unreachable!(),
+    }
+}
+
+/// The line on bytes that are no input.
+pub fn input_refusal_line(
+    alloc: Global,
+    names: &NameTable,
+    error: InputError,
+) -> Result<Vec<u8>, AllocError>
+    requires { error ≢ InputError.Memory }
+    ensures { IfOk result (λ text. text.items ≡ input_refusal_line names.now error) }
+{
+    match error {
+        InputError::BadJson => line(alloc, "Refused", &["BadJson"]),
+        InputError::NotObject => line(alloc, "Refused", &["NotObject"]),
+        InputError::UnknownKey => line(alloc, "Refused", &["UnknownKey"]),
+        InputError::BadValue { name } => at_name(alloc, "BadValue", names, name),
+        InputError::BadIndex { name } => at_name(alloc, "BadIndex", names, name),
+        InputError::Memory => unreachable!(),
     }
 }

@@ -1,21 +1,24 @@
 // The top call: words, files and standard output.
-ghost use Rattle.std.specs.Prelude.{◌≡◌, ◌≢◌, ◌⊎◌, ◌↔◌, ◌≤◌, ℕ, List, Some, length, map, IfOk, IfErr, IfSome};
+ghost use Rattle.std.specs.Prelude.{◌≡◌, ◌≢◌, ◌⊎◌, ◌↔◌, ◌<◌, ◌≤◌, ℕ, List, None, Some, length, map, IfOk, IfErr, IfSome};
 ghost use Rattle.std.specs.String.{string_bytes};
 ghost use Rattle.sm_io.specs.Causes.{HasCause};
 ghost use Rattle.sm_io.specs.Files.{WhereHeld};
 ghost use Rattle.sm_io.specs.Sinks.{Adds};
+ghost use Rattle.sm_replay.specs.Sorted.{sort_fault};
 ghost use Rattle.sm_task.specs.Tasks.{parts_of};
 ghost use Rattle.sm_text.specs.Canonical.{task_pieces};
 ghost use Rattle.sm_text.specs.Named.{HasText};
 ghost use Rattle.sm_text.specs.Pieces.{text_of};
-ghost use Rattle.safemerge.specs.Answers.{Answers, AnswersAsked, Checks, Prints, IsAnswer, IsSafeMerge, PutsPart};
+ghost use Rattle.safemerge.specs.Answers.{Answers, AnswersAsked, Checks, Prints, Replays, IsAnswer, IsSafeMerge, IsUnsafeMerge, PutsPart, ShowsInput};
 ghost use Rattle.safemerge.specs.Reading.{Says};
-ghost use Rattle.safemerge.specs.Requests.{asked_in};
+ghost use Rattle.safemerge.specs.Replay.{ReplaysInput};
+ghost use Rattle.safemerge.specs.Requests.{asked_in, HasWorkers};
 ghost use Rattle.safemerge.specs.Stops.{Stops};
-ghost use Rattle.safemerge.specs.Words.{asked, check, usage_line, IsUsage};
+ghost use Rattle.safemerge.specs.Words.{Asked, asked, check, task_file, usage_line, IsUsage};
 
 use crate::check::check;
-use crate::reading::{Stop, task_in};
+use crate::reading::{Stop, input_in, task_in};
+use crate::replay::replay;
 use crate::status::{Reply, Status};
 use crate::words::{Request, WordsError, read_words, usage_line};
 use sm_io::{IoError, Shelf, Sink, put_all};
@@ -38,6 +41,15 @@ pub fn safemerge<R: Threads + Sync, G: Gate, H: Shelf, K: Sink>(
     ensures accepted { result ≡ Status.Accepted → (task : List ℕ) (turns workers : ℕ) →
         asked (map string_bytes words.now) ≡ Some (check task turns workers) →
         WhereHeld (H.file shelf.old task) IsSafeMerge }
+    // Where `check` or `replay` answers Conflict, they spell a task that isn't.
+    ensures conflict { result ≡ Status.Conflict → (ask : Asked) →
+        asked (map string_bytes words.now) ≡ Some ask →
+        WhereHeld (H.file shelf.old (task_file ask)) IsUnsafeMerge }
+    // That of `check` prints an input that shows it.
+    ensures shown { result ≡ Status.Conflict → (task : List ℕ) (turns workers : ℕ) →
+        asked (map string_bytes words.now) ≡ Some (check task turns workers) →
+        (text : List ℕ) × ShowsInput (H.file shelf.old task) turns text
+        × Adds (K.taken out.old) (K.taken out.new) text }
 
     // What is printed is the answer, whole.
     ensures answers { IsAnswer result → (text : List ℕ)
@@ -129,12 +141,13 @@ fn usage(alloc: Global, words: &[String]) -> Result<Reply, AllocError>
 
 // The answer to what the words ask for.
 fn answer_to<R: Threads + Sync, G: Gate, H: Shelf>(
-    _rt: &R,
+    rt: &R,
     alloc: Global,
-    _gate: &G,
+    gate: &G,
     request: Request<'_>,
     shelf: &mut H,
 ) -> Result<Reply, Stop>
+    requires { HasWorkers request }
     ensures ok { IfOk result (λ r. AnswersAsked (asked_in request.entry) (H.file shelf.old)
         (H.read_faults shelf.old) (H.read_faults shelf.new) r.status r.text.items) }
     ensures stop { IfErr result (Stops (AnswersAsked (asked_in request.entry) (H.file shelf.old)
@@ -143,13 +156,27 @@ fn answer_to<R: Threads + Sync, G: Gate, H: Shelf>(
     ensures writes { H.write_faults shelf.new ≡ H.write_faults shelf.old }
 {
     match request {
-        Request::Check { task, turns, .. } => check_in(alloc, shelf, task, turns),
+        Request::Check {
+            task,
+            turns,
+            workers,
+        } => check_in(rt, alloc, gate, shelf, task, turns, workers),
+        Request::Replay { task, input, turns } => replay_in(alloc, shelf, task, input, turns),
         Request::Print { task } => print_in(alloc, shelf, task),
     }
 }
 
 // The answer of `check` to a task's file.
-fn check_in<H: Shelf>(alloc: Global, shelf: &mut H, name: &str, turns: u64) -> Result<Reply, Stop>
+fn check_in<R: Threads + Sync, G: Gate, H: Shelf>(
+    rt: &R,
+    alloc: Global,
+    gate: &G,
+    shelf: &mut H,
+    name: &str,
+    turns: u64,
+    workers: u32,
+) -> Result<Reply, Stop>
+    requires { (0 < workers) × (workers ≤ 64) }
     ensures ok { IfOk result (λ r. Checks (H.file shelf.old name.now) turns
         (H.read_faults shelf.old) (H.read_faults shelf.new) r.status r.text.items) }
     ensures stop { IfErr result (Stops (Checks (H.file shelf.old name.now) turns
@@ -158,7 +185,46 @@ fn check_in<H: Shelf>(alloc: Global, shelf: &mut H, name: &str, turns: u64) -> R
     ensures writes { H.write_faults shelf.new ≡ H.write_faults shelf.old }
 {
     let task = task_in(alloc, shelf, name)?;
-    Ok(check(alloc, &task, turns)?)
+    Ok(check(rt, alloc, gate, &task, turns, workers)?)
+}
+
+// The answer of `replay` to a task's file and an input's.
+fn replay_in<H: Shelf>(
+    alloc: Global,
+    shelf: &mut H,
+    name: &str,
+    input: &str,
+    turns: u64,
+) -> Result<Reply, Stop>
+    ensures ok { IfOk result (λ r. Replays (H.file shelf.old name.now) (H.file shelf.old input.now)
+        turns (H.read_faults shelf.old) (H.read_faults shelf.new) r.status r.text.items) }
+    ensures stop { IfErr result (Stops (Replays (H.file shelf.old name.now)
+        (H.file shelf.old input.now) turns (H.read_faults shelf.old) (H.read_faults shelf.new))) }
+    ensures same { (other : List ℕ) → H.file shelf.new other ≡ H.file shelf.old other }
+    ensures writes { H.write_faults shelf.new ≡ H.write_faults shelf.old }
+{
+    let task = task_in(alloc, shelf, name)?;
+    replay_task(alloc, shelf, &task, input, turns)
+}
+
+// The answer of `replay` to a task and an input's file.
+fn replay_task<H: Shelf>(
+    alloc: Global,
+    shelf: &mut H,
+    task: &Task,
+    input: &str,
+    turns: u64,
+) -> Result<Reply, Stop>
+    requires { sort_fault (parts_of task.now) ≡ None }
+    ensures ok { IfOk result (λ r. ReplaysInput (parts_of task.now) (H.file shelf.old input.now)
+        turns (H.read_faults shelf.old) (H.read_faults shelf.new) r.status r.text.items) }
+    ensures stop { IfErr result (Stops (ReplaysInput (parts_of task.now)
+        (H.file shelf.old input.now) turns (H.read_faults shelf.old) (H.read_faults shelf.new))) }
+    ensures same { (other : List ℕ) → H.file shelf.new other ≡ H.file shelf.old other }
+    ensures writes { H.write_faults shelf.new ≡ H.write_faults shelf.old }
+{
+    let store = input_in(alloc, shelf, input, task)?;
+    Ok(replay(alloc, task, &store, turns)?)
 }
 
 // The answer of `print` to a task's file.

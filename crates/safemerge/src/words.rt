@@ -5,7 +5,7 @@ ghost use Rattle.std.specs.Str.Parse.{digits_value};
 ghost use Rattle.std.specs.String.{string_bytes};
 ghost use Rattle.clap.specs.Words.{app_of, first_value, found_of, kind_of, rule_of};
 ghost use Rattle.safemerge.specs.Requests.{asked_in, HasRequired, HasWorkers};
-ghost use Rattle.safemerge.specs.Words.{asked, asked_by, check_by, check_command, command_of, faults_of, is_number, number_of, number_or, option_word, print_by, print_command, required_word, text_of, turns_by, usage_line, verb_of, workers_by, HasBadNumber, IsRefused, IsUsage};
+ghost use Rattle.safemerge.specs.Words.{asked, asked_by, check_by, check_command, command_of, faults_of, is_number, number_of, number_or, option_word, print_by, print_command, replay_by, replay_command, required_word, text_of, turns_by, usage_line, verb_of, workers_by, HasBadNumber, IsRefused, IsUsage};
 ghost use Rattle.safemerge.specs.declared.words.WordsError.TheVariants.{Memory};
 
 use crate::lines::line;
@@ -23,6 +23,12 @@ pub enum Request<'a> {
         turns: u64,
         workers: u32,
     },
+    /// What a task's programs do from an input, with so many turns for a loop at most.
+    Replay {
+        task: &'a str,
+        input: &'a str,
+        turns: u64,
+    },
     /// The canonical text of a task.
     Print {
         task: &'a str,
@@ -33,6 +39,7 @@ pub enum Request<'a> {
 #[derive(Clone, Copy, Debug, PartialEq, Eq)]
 pub enum Verb {
     Check,
+    Replay,
     Print,
 }
 
@@ -75,6 +82,7 @@ pub fn usage_line(alloc: Global, words: &[String]) -> Result<Vec<u8>, AllocError
     match words {
         [word, ..] => match verb_of(word.as_str()) {
             Some(Verb::Check) => line(alloc, "Usage", &["check"]),
+            Some(Verb::Replay) => line(alloc, "Usage", &["replay"]),
             Some(Verb::Print) => line(alloc, "Usage", &["print"]),
             None => line(alloc, "Usage", &[]),
         },
@@ -88,6 +96,7 @@ fn verb_of(word: &str) -> Option<Verb>
 {
     match word {
         "check" => Some(Verb::Check),
+        "replay" => Some(Verb::Replay),
         "print" => Some(Verb::Print),
         _ => None,
     }
@@ -104,6 +113,7 @@ fn request_by<'a>(alloc: Global, verb: Verb, words: &'a [String]) -> Result<Requ
     let matches = matches_of(alloc, verb, words)?;
     match verb {
         Verb::Check => check_request(&matches),
+        Verb::Replay => replay_request(&matches),
         Verb::Print => Ok(print_request(&matches)),
     }
 }
@@ -123,6 +133,25 @@ fn check_request<'a>(matches: &ArgMatches<'a>) -> Result<Request<'a>, WordsError
         task: text_in(matches, "TASK"),
         turns,
         workers,
+    })
+}
+
+fn replay_request<'a>(matches: &ArgMatches<'a>) -> Result<Request<'a>, WordsError>
+    requires task { is_some (first_value (found_of matches.now) (codes "TASK")) ≡ true }
+    requires input { is_some (first_value (found_of matches.now) (codes "INPUT")) ≡ true }
+    ensures ok { let given = first_value (found_of matches.now) in IfOk result (λ r.
+        replay_by (given (codes "TASK")) (given (codes "INPUT")) (given (codes "turns")) (given (codes "workers"))
+        ≡ Some (asked_in r)) }
+    ensures usage { let given = first_value (found_of matches.now) in IsErrOf result WordsError.Usage →
+        HasBadNumber (given (codes "turns")) (given (codes "workers")) }
+    ensures workers { IfOk result HasWorkers }
+{
+    let turns = turns_by(matches.get_str("turns"))?;
+    let _workers = workers_by(matches.get_str("workers"))?;
+    Ok(Request::Replay {
+        task: text_in(matches, "TASK"),
+        input: text_in(matches, "INPUT"),
+        turns,
     })
 }
 
@@ -157,6 +186,7 @@ fn command_of<'a>(alloc: Global, verb: Verb) -> Result<Command<'a>, AllocError>
 {
     match verb {
         Verb::Check => check_command(alloc),
+        Verb::Replay => replay_command(alloc),
         Verb::Print => print_command(alloc),
     }
 }
@@ -167,6 +197,17 @@ fn check_command<'a>(alloc: Global) -> Result<Command<'a>, AllocError>
 {
     Command::new(alloc, "check")
         .arg(required_word(alloc, "TASK"))?
+        .arg(option_word(alloc, "turns"))?
+        .arg(option_word(alloc, "workers"))
+}
+
+#[tactic(auto, unfolding(crate::specs::Words::replay_command))]
+fn replay_command<'a>(alloc: Global) -> Result<Command<'a>, AllocError>
+    ensures { IfOk result (λ c. app_of c ≡ replay_command) }
+{
+    Command::new(alloc, "replay")
+        .arg(required_word(alloc, "TASK"))?
+        .arg(required_word(alloc, "INPUT"))?
         .arg(option_word(alloc, "turns"))?
         .arg(option_word(alloc, "workers"))
 }
