@@ -1,8 +1,8 @@
 -- The names of the first tokens of a list stand first among the names of all, and their symbols count them.
-use Rattle.std.proofs.Common.{◌≡◌, ℕ, ◌+◌, ◌<◌, ◌==◌, Bool, true, false, cond, not, ◌||◌, Option, Some, None, is_some, List, [], ◌∷◌, ◌++◌, map, length, take, drop, refl, sym, ap, ap₂, ◌∙◌, true≢false, if◌then◌else◌, arith}
+use Rattle.std.proofs.Common.{◌≡◌, ℕ, ◌+◌, ◌-◌, ◌<◌, ◌==◌, Bool, true, false, cond, not, ◌||◌, Option, Some, None, is_some, List, [], ◌∷◌, ◌++◌, map, length, take, drop, refl, sym, ap, ap₂, ◌∙◌, true≢false, if◌then◌else◌, arith}
 use Rattle.std.proofs.Math.Seq.{take-append_seam}
 use Rattle.std.proofs.lemmas.Bool.Decides.{nat_tests}
-use Rattle.std.proofs.lemmas.List.{length_push, take-append-drop, take-map}
+use Rattle.std.proofs.lemmas.List.{length_push, length-map, length-drop, map-append, take-append-drop, take-map}
 use Rattle.std.specs.List.{position_or_len, AllByRecursion}
 use Rattle.std.specs.Str.{bytes_eq}
 use Rattle.sm_syntax.specs.declared.symbol.Mark.{Mark}
@@ -15,14 +15,11 @@ use Rattle.sm_syntax.specs.declared.token.TokenKind.TheVariants.{Word, Number, S
 use Rattle.sm_syntax.specs.Symbols.{text_of, is_among, with_text, names_after, mark_or, symbol_by, symbol_of}
 use Rattle.sm_syntax.specs.Tokens.{mark_of_word, mark_of_sign}
 use Rattle.sm_syntax.proofs.Numbering.{with_text-among, with_text-new, number-last}
+use Rattle.sm_text.specs.BlockTokens.{signs}
 use Rattle.sm_text.specs.Fragments.{IsKnown}
 use Rattle.sm_text.specs.NameCounts.{names_counted}
 use Rattle.sm_text.proofs.Naming.{names_with, names_after-append, grown-names_after, known-names_with, symbol_by-append}
 use Rattle.sm_text.proofs.Renamed.{known_behind}
-
--- the symbols of tokens, where their names stand behind those from before
-abbrev pub signs : List ℕ → List (List ℕ) → List Token → List Symbol
-signs bytes before ts = map (symbol_of bytes (names_after bytes before ts)) ts
 
 -- symbols stay where names are added behind
 same_symbols : (bytes : List ℕ) (names more : List (List ℕ)) (ts : List Token) → AllByRecursion (IsKnown bytes names) ts → map (symbol_of bytes (names ++ more)) ts ≡ map (symbol_of bytes names) ts
@@ -44,6 +41,16 @@ signs-take bytes before n ts =
     take-map (symbol_of bytes (names_after bytes before ts)) n ts
     ∙ ap (λ (l : List (List ℕ)). map (symbol_of bytes l) (take n ts)) grown.1
     ∙ same_symbols bytes names grown.0 (take n ts) (known_behind bytes before (take n ts) names refl)
+
+-- others stand behind these
+pub signs-split : (bytes : List ℕ) (before : List (List ℕ)) (n : ℕ) (ts : List Token) → (z : List Symbol) × (signs bytes before ts ≡ signs bytes before (take n ts) ++ z) × (length z ≡ length ts - n)
+signs-split bytes before n ts =
+    let sign = symbol_of bytes (names_after bytes before ts) in
+    let z = map sign (drop n ts) in (
+      z,
+      ap (map sign) (sym (take-append-drop n ts)) ∙ map-append sign (take n ts) (drop n ts) ∙ ap (λ (l : List Symbol). l ++ z) (sym (take-map sign n ts) ∙ signs-take bytes before n ts),
+      length-map (drop n ts) sign ∙ length-drop n ts,
+    )
 
 -- a text that is among others stands before their end
 among-below : (texts : List (List ℕ)) (t : List ℕ) → is_among texts t ≡ true → position_or_len (bytes_eq t) texts < length texts
@@ -140,3 +147,11 @@ names_cut bytes before n ts =
     ∙ ap (λ (k : ℕ). take k all) (counted bytes before (take n ts))
     ∙ ap (take (length names)) grown.1
     ∙ take-append_seam names grown.0
+
+-- so has a table of all names that is cut by the symbols
+pub cut_names : (bytes : List ℕ) (before : List (List ℕ)) (n : ℕ) (ts : List Token) (symbols : List Symbol) (table names : List (List ℕ)) → symbols ≡ signs bytes before ts → table ≡ names_after bytes before ts → names ≡ take (names_counted (length before) (take n symbols)) table → names ≡ names_after bytes before (take n ts)
+cut_names bytes before n ts symbols table names same all cut =
+    cut
+    ∙ ap (λ (l : List Symbol). take (names_counted (length before) (take n l)) table) same
+    ∙ ap (take (names_counted (length before) (take n (signs bytes before ts)))) all
+    ∙ names_cut bytes before n ts

@@ -35,4 +35,5 @@ pub mod Judged
 pub mod Counted
 pub mod Prefixed
 pub mod PrefixRead
+pub mod FirstTokens
 pub mod PrefixJudged

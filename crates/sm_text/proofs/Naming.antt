@@ -1,8 +1,9 @@
 -- The symbols of the tokens so far, where the names are numbered as in the whole text.
-use Rattle.std.proofs.Common.{◌≡◌, ℕ, ◌+◌, ◌<◌, ◌≤◌, Bool, true, false, not, List, [], ◌∷◌, ◌++◌, map, length, take, drop, get_or, Option, Some, None, is_some, if◌then◌else◌, refl, sym, ap, ◌∙◌, append_assoc, append-nil, take-append-drop, take_all}
+use Rattle.std.proofs.Common.{◌≡◌, ℕ, ◌+◌, ◌<◌, ◌≤◌, Bool, true, false, not, List, [], ◌∷◌, ◌++◌, map, length, take, drop, get_or, Option, Some, None, is_some, Result, Ok, Err, if◌then◌else◌, refl, sym, ap, ◌∙◌, append_assoc, append-nil, take-append-drop, take_all}
 use Rattle.std.proofs.Math.Seq.{take-append_seam}
 use Rattle.std.proofs.lemmas.List.{take_more, map_more}
 use Rattle.std.specs.List.{position_or_len}
+use Rattle.std.specs.Result.{OnErr}
 use Rattle.std.specs.Str.{bytes_eq}
 use Rattle.sm_syntax.specs.declared.symbol.Mark.{Mark}
 use Rattle.sm_syntax.specs.declared.symbol.Symbol.{Symbol}
@@ -58,6 +59,11 @@ pub kept-names_after : (bytes : List ℕ) (before names : List (List ℕ)) (ts :
 kept-names_after bytes before names ts same =
     let grown = grown-names_after bytes before ts in
     ap (take (length before)) (same ∙ grown.1) ∙ take-append_seam before grown.0
+
+-- so it does where an error is given
+pub kept-on_err : {T E : Type 0} (r : Result T E) (bytes : List ℕ) (before names : List (List ℕ)) (ts : List Token) → names ≡ names_after bytes before ts → OnErr r (take (length before) names ≡ before)
+kept-on_err (Ok x) bytes before names ts same = tt
+kept-on_err (Err e) bytes before names ts same = kept-names_after bytes before names ts same
 
 -- the first tokens are made symbols, with the names so far behind those that stood before
 pub record IsRead (bytes : List ℕ) (before : List (List ℕ)) (tokens : List Token) (i : ℕ) (names : List (List ℕ)) (symbols : List Symbol) : Type 0 where

@@ -1,17 +1,18 @@
 -- What a parser reads of the symbols from a token on is what the grammar spells by the first tokens there.
 use Rattle.std.proofs.Common.{◌≡◌, ℕ, ◌+◌, ◌-◌, ◌≤◌, Result, Ok, Err, List, ◌++◌, map, length, take, drop, take_all, sym, ap, ◌∙◌, subst, arith}
 use Rattle.std.proofs.Math.Seq.{take-append_seam}
-use Rattle.std.proofs.lemmas.List.{length-append, length-map, length-drop, map-append, take-append-drop, take-map}
+use Rattle.std.proofs.lemmas.List.{length-append, length-map, length-drop}
 use Rattle.sm_syntax.specs.declared.symbol.Symbol.{Symbol}
 use Rattle.sm_syntax.specs.declared.token.Token.{Token}
 use Rattle.sm_syntax.specs.Grammar.{Marked, plain}
 use Rattle.sm_syntax.specs.Symbols.{symbol_of, names_after}
 use Rattle.sm_syntax.specs.Tokens.{lexed}
 use Rattle.sm_text.specs.declared.reading.Fault.{Fault}
+use Rattle.sm_text.specs.BlockTokens.{signs}
 use Rattle.sm_text.specs.Parsers.{Parser}
 use Rattle.sm_text.specs.Prefixes.{between, SpellsFrom}
 use Rattle.sm_text.specs.NameCounts.{names_counted}
-use Rattle.sm_text.proofs.Counted.{signs, signs-take, names_cut}
+use Rattle.sm_text.proofs.Counted.{signs-take, signs-split, cut_names}
 use Rattle.sm_text.proofs.Told.{Takes, Told, Describes}
 
 -- the same tokens spell what another grammar says of the same symbols
@@ -37,7 +38,7 @@ answer_not : {T : Type 0} (f : Fault) (x : T × List Symbol) → (let a : Result
 answer_not f x e = cc
 
 module _ {T : Type 0} (p : Parser T) (G : List Marked → T → Type 0) (bytes : List ℕ) (before : List (List ℕ)) where
-  taken : (ts : List Token) (x : T) (after : List Symbol) → Describes p G → p (signs bytes before ts) ≡ Ok (x, after) → Takes p G (signs bytes before ts) x after
+  pub taken : (ts : List Token) (x : T) (after : List Symbol) → Describes p G → p (signs bytes before ts) ≡ Ok (x, after) → Takes p G (signs bytes before ts) x after
   taken ts x after told e = let F : Result (T × List Symbol) Fault → Type 0 = λ a. Told p G (signs bytes before ts) a in subst F e (told.tells (signs bytes before ts))
 
   -- what is left is no longer than the tokens
@@ -89,11 +90,7 @@ module _ {T : Type 0} (p : Parser T) (G : List Marked → T → Type 0) (bytes :
       let rest : length ts ≡ length tokens - at = length-drop at tokens in
       let so_many : used ≡ (length tokens - length after) - at = omega (arith, count, size, rest, fewer, within) in
       let numbered : names ≡ names_after bytes before (between at (length tokens - length after) tokens) =
-      cut
-      ∙ ap (λ (l : List Symbol). take (names_counted (length before) (take used l)) table) same
-      ∙ ap (take (names_counted (length before) (take used (signs bytes before ts)))) all
-      ∙ names_cut bytes before used ts
-      ∙ ap (λ (k : ℕ). names_after bytes before (take k ts)) so_many in
+      cut_names bytes before used ts symbols table names same all cut ∙ ap (λ (k : ℕ). names_after bytes before (take k ts)) so_many in
       let F : ℕ → Type 0 = λ k. SpellsFrom G bytes at before k names x in
       subst F (sym number) (spelled at x after names told within read numbered)
 
@@ -103,14 +100,11 @@ module _ {T : Type 0} (p : Parser T) (G : List Marked → T → Type 0) (bytes :
       let tokens = (lexed bytes).0 in
       let ts = drop at tokens in
       let m = n - at in
-      let sign = symbol_of bytes (names_after bytes before ts) in
-      let z = map sign (drop m ts) in
       let G' : List (List ℕ) → Type 0 = λ l. G (map plain (map (symbol_of bytes l) (take m ts))) x in
-      let front : signs bytes before ts ≡ signs bytes before (take m ts) ++ z =
-      ap (map sign) (sym (take-append-drop m ts)) ∙ map-append sign (take m ts) (drop m ts) ∙ ap (λ (l : List Symbol). l ++ z) (sym (take-map sign m ts) ∙ signs-take bytes before m ts) in
-      let size : length z ≡ length ts - m = length-map (drop m ts) sign ∙ length-drop m ts in
+      let more = signs-split bytes before m ts in
+      let size = more.2 in
       let rest : length ts ≡ length tokens - at = length-drop at tokens in
-      (z, ap p front ∙ reads (signs bytes before (take m ts)) x (subst G' s.numbered s.grammar) z, omega (arith, size, rest, s.begins, s.ends))
+      (more.0, ap p more.1 ∙ reads (signs bytes before (take m ts)) x (subst G' s.numbered s.grammar) more.0, omega (arith, size, rest, s.begins, s.ends))
 
   -- so an answer is what they spell
   pub read_same : (at n : ℕ) (names : List (List ℕ)) (x y : T) (after : List Symbol) → ReadsAll p G → SpellsFrom G bytes at before n names x → p (signs bytes before (drop at (lexed bytes).0)) ≡ Ok (y, after) → (y ≡ x) × (length (lexed bytes).0 - length after ≡ n)

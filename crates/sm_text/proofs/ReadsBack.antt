@@ -10,7 +10,7 @@ use Rattle.sm_syntax.specs.Spells.{Spells}
 use Rattle.sm_syntax.specs.Symbols.{with_text, names_of, symbols_of}
 use Rattle.sm_syntax.specs.Tokens.{Lexed, lexed}
 use Rattle.sm_text.specs.Canonical.{task_pieces}
-use Rattle.sm_text.specs.Named.{IsNamed, HasText}
+use Rattle.sm_text.specs.Named.{HasText}
 use Rattle.sm_text.specs.Pieces.{Piece, text_of, symbols_in}
 use Rattle.sm_text.proofs.Shown.{marked}
 use Rattle.sm_text.proofs.TaskShown.{task_shown}
@@ -18,7 +18,7 @@ use Rattle.sm_text.proofs.Recut.{tokens_at}
 use Rattle.sm_text.proofs.TaskApart.{IsTaskText, task_relexed}
 use Rattle.sm_text.proofs.Content.{content, content_of_task, task_content}
 use Rattle.sm_text.proofs.Printable.{task_printable}
-use Rattle.sm_text.proofs.Spelled.{AllSpelled, task_written, task_named}
+use Rattle.sm_text.proofs.Spelled.{IsNamed, AllSpelled, task_written, task_named}
 use Rattle.sm_text.proofs.Renamed.{names_by, IsIn, IsAgain, text_symbols, text_names, printed_again}
 
 -- the symbols, each of which a text has

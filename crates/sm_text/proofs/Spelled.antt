@@ -10,7 +10,7 @@ use Rattle.sm_syntax.specs.Syntax.{Expression, Lit, Var, Read, Neg, Plus, Minus,
 use Rattle.sm_syntax.specs.Fill.{Fillings}
 use Rattle.sm_syntax.specs.ConflictFree.{Copy, O, A, B, M}
 use Rattle.sm_syntax.specs.Parts.{Parts}
-use Rattle.sm_text.specs.Named.{IsNamedIn, IsTestedIn, IsUsedIn, AreDeclaredIn, AreOutputsIn, IsAssumedIn, AreFilledIn, IsNamed}
+use Rattle.sm_text.specs.Named.{IsNamedIn, IsTestedIn, IsUsedIn, AreDeclaredIn, AreOutputsIn, IsAssumedIn, AreFilledIn}
 use Rattle.sm_text.proofs.Recut.{IsNameText, IsSpelled}
 use Rattle.sm_text.proofs.Apart.{IsWritten, IsTested}
 use Rattle.sm_text.proofs.CodeApart.{IsCode}
@@ -184,6 +184,14 @@ assumed_named names (Some b) h = condition_named names b h
 filled_named : (names : List (List ℕ)) (fs : Fillings) → AreFillingTexts names fs → AreFilledIn (length names) fs
 filled_named names [] h = tt
 filled_named names (f ∷ fs) h = (code_named names f.1 h.1, filled_named names fs h.2)
+
+-- each name of a task has a text
+pub record IsNamed (t : Parts) : Type 0 where
+  pub declared : AreDeclaredIn (length t.names) t.declared
+  pub outputs : AreOutputsIn (length t.names) t.outputs
+  pub assumed : IsAssumedIn (length t.names) t.assumed
+  pub shared : IsUsedIn (length t.names) t.shared
+  pub fillings : (c : Copy) → AreFilledIn (length t.names) (t.fillings c)
 
 pub task_named : (t : Parts) → IsTaskText t.names t → IsNamed t
 task_named t good = record {

@@ -1,5 +1,5 @@
 -- Which text spells a program, a condition or a block. A condition and a block stand under names that are given.
-use Rattle.std.specs.Prelude.{◌≡◌, ℕ, true, None, List, ◌++◌, map}
+use Rattle.std.specs.Prelude.{◌≡◌, ℕ, true, None, Result, MatchResult, List, ◌++◌, map}
 use Rattle.std.specs.List.{AllByRecursion}
 use Rattle.sm_syntax.specs.declared.program.Program.{Program}
 use Rattle.sm_syntax.specs.declared.symbol.Symbol.{Symbol}
@@ -11,6 +11,8 @@ use Rattle.sm_syntax.specs.Symbols.{text_of, is_among, is_name, symbol_of, names
 use Rattle.sm_syntax.specs.Syntax.{Condition, Code}
 use Rattle.sm_syntax.specs.Tokens.{lexed}
 use Rattle.sm_syntax.specs.Views.{code_of}
+use Rattle.sm_text.specs.declared.error.TextError.{TextError}
+use Rattle.sm_text.specs.declared.error.TextError.TheVariants as error
 
 -- the parts of a program, and the text of each name by its number
 pub record ProgramParts : Type 0 where
@@ -36,6 +38,10 @@ pub record SpellsProgram (bytes : List ℕ) (p : ProgramParts) : Type 0 where
 -- some text spells the program
 abbrev pub HasProgramText : ProgramParts → Type 0
 HasProgramText p = (bytes : List ℕ) × SpellsProgram bytes p
+
+-- the answer is the program of these parts, or want of memory
+abbrev pub IsProgramReadAs : ProgramParts → Result Program TextError → Type 0
+IsProgramReadAs p answer = MatchResult answer (λ q. parts_of q ≡ p) (λ e. e ≡ error.Memory)
 
 -- a token that is a name is one of these
 abbrev pub IsKnown : List ℕ → List (List ℕ) → Token → Type 0

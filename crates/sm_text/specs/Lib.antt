@@ -15,4 +15,5 @@ pub mod Fragments
 pub mod ProgramReading
 pub mod ProgramViews
 pub mod NameCounts
+pub mod BlockTokens
 pub mod Prefixes

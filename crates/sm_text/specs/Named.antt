@@ -3,7 +3,6 @@ use Rattle.std.specs.Prelude.{ℕ, ◌<◌, Option, Some, None, List, [], ◌∷
 use Rattle.sm_syntax.specs.declared.tree.Sort.{Sort}
 use Rattle.sm_syntax.specs.Syntax.{Expression, Lit, Var, Read, Neg, Plus, Minus, Times, Condition, Yes, No, Compare, Not, And, Or, Code, End, Skip, Assign, Write, If, While, Hole}
 use Rattle.sm_syntax.specs.Fill.{Fillings}
-use Rattle.sm_syntax.specs.ConflictFree.{Copy}
 use Rattle.sm_syntax.specs.Parts.{Parts}
 use Rattle.sm_syntax.specs.Spells.{Spells}
 
@@ -55,14 +54,6 @@ IsAssumedIn n (Some b) = IsTestedIn n b
 abbrev pub AreFilledIn : ℕ → Fillings → Type 0
 AreFilledIn n [] = Unit {0}
 AreFilledIn n (f ∷ fs) = IsUsedIn n f.1 × AreFilledIn n fs
-
--- each name of a task has a text
-pub record IsNamed (t : Parts) : Type 0 where
-  pub declared : AreDeclaredIn (length t.names) t.declared
-  pub outputs : AreOutputsIn (length t.names) t.outputs
-  pub assumed : IsAssumedIn (length t.names) t.assumed
-  pub shared : IsUsedIn (length t.names) t.shared
-  pub fillings : (c : Copy) → AreFilledIn (length t.names) (t.fillings c)
 
 -- some text spells the task
 abbrev pub HasText : Parts → Type 0

@@ -1,14 +1,11 @@
 -- How the text of a program is read: declarations, outputs and a shared block, and nothing else. What is read is stated by
 -- the grammar, so no public clause cites the parser.
-use Rattle.std.specs.Prelude.{◌≡◌, ℕ, Result, MatchResult, List}
-use Rattle.sm_syntax.specs.declared.program.Program.{Program}
+use Rattle.std.specs.Prelude.{ℕ, Result, List}
 use Rattle.sm_syntax.specs.declared.symbol.Symbol.{Symbol}
 use Rattle.sm_syntax.specs.declared.tree.Sort.{Sort}
 use Rattle.sm_syntax.specs.Syntax.{Code}
-use Rattle.sm_text.specs.declared.error.TextError.{TextError}
-use Rattle.sm_text.specs.declared.error.TextError.TheVariants as error
 use Rattle.sm_text.specs.declared.reading.Fault.{Fault}
-use Rattle.sm_text.specs.Fragments.{ProgramParts, parts_of}
+use Rattle.sm_text.specs.Fragments.{ProgramParts}
 use Rattle.sm_text.specs.Parsers.{Parser, ◌>>=◌, pure}
 use Rattle.sm_text.specs.Reading.{declarations, outputs, shared, to_end}
 
@@ -32,7 +29,3 @@ whole_program ts = to_end (program ts)
 -- its parts, where these are the texts of its names
 abbrev pub program_from : List (List ℕ) → ProgramBody → ProgramParts
 program_from names p = record { names = names; declared = p.declared; outputs = p.outputs; body = p.body }
-
--- the answer is the program of these parts, or want of memory
-abbrev pub IsProgramReadAs : ProgramParts → Result Program TextError → Type 0
-IsProgramReadAs p answer = MatchResult answer (λ q. parts_of q ≡ p) (λ e. e ≡ error.Memory)

@@ -1,5 +1,6 @@
 -- How the symbols of a text are read: a parser for each rule of the grammar. What is read is stated by the grammar, so
--- no public clause cites this file. A rule takes the number of groups that may still be opened, or the rule inside one more group.
+-- no public clause cites the parsers; of this file, `parts_from` alone stands in one. A rule takes the number of groups
+-- that may still be opened, or the rule inside one more group.
 use Rattle.std.specs.Prelude.{ℕ, zero, suc, ℤ, pos, negsuc, nat_le, Bool, true, false, ◌&&◌, ◌||◌, if◌then◌else◌, Option, Some, None, Result, Ok, Err, List, [], ◌∷◌, ◌++◌}
 use denote.Enum.Bare.{sameb}
 use Rattle.sm_syntax.specs.contracts.symbol.Mark.{the_type}

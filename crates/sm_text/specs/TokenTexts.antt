@@ -1,9 +1,10 @@
 -- What the bytes of a token are known to be.
-use Rattle.std.specs.Prelude.{◌≡◌, ℕ, ◌<◌, ◌≤◌, ◌+◌, ◌^◌, List, length, true, is_some}
+use Rattle.std.specs.Prelude.{◌≡◌, ℕ, ◌<◌, ◌≤◌, ◌+◌, ◌^◌, Option, None, List, length, true, is_some}
 use Rattle.std.specs.Char.{is_ascii_digit}
 use Rattle.std.specs.List.{AllPass}
 use Rattle.std.specs.Str.{IsAscii}
 use Rattle.std.specs.Str.Parse.{digits_value}
+use Rattle.sm_syntax.specs.declared.symbol.Mark.{Mark}
 use Rattle.sm_syntax.specs.declared.token.Token.{Token}
 use Rattle.sm_syntax.specs.declared.token.TokenKind.{TokenKind}
 use Rattle.sm_syntax.specs.declared.token.TokenKind.TheVariants.{Word, Number, Sign}
@@ -20,3 +21,9 @@ IsText Sign text = is_some (mark_of_sign text) ≡ true
 pub record IsTokenOf (bytes : List ℕ) (t : Token) : Type 0 where
   pub within : t.place + t.size ≤ length bytes
   pub text : IsText t.kind (text_of bytes t)
+
+-- the sign that a token of this kind and text is, if it is one
+abbrev pub sign_by : TokenKind → List ℕ → Option Mark
+sign_by Word text = None
+sign_by Number text = None
+sign_by Sign text = mark_of_sign text

@@ -1,22 +1,29 @@
 // The front of a text, and a block in it, read by the tokens alone that they have.
-ghost use Rattle.std.specs.Prelude.{◌≡◌, ◌≤◌, ℕ, List, length, take, IfOk, IfErr, OnErr};
+ghost use Rattle.std.specs.Prelude.{◌≡◌, ◌<◌, ◌≤◌, ◌+◌, ◌-◌, ◌^◌, ℕ, if◌then◌else◌};
+ghost use Rattle.std.specs.Prelude.{List, length, take, IfOk, IfErr, OnErr};
+ghost use Rattle.std.specs.List.{AllByRecursion};
+ghost use Rattle.sm_syntax.specs.declared.symbol.Mark.TheVariants.{OpenCurly, CloseCurly};
 ghost use Rattle.sm_syntax.specs.Syntax.{Code};
 ghost use Rattle.sm_syntax.specs.Views.{code_of};
+ghost use Rattle.sm_text.specs.Answers.{Fails};
+ghost use Rattle.sm_text.specs.BlockTokens.{IsFirstBlock, IsGroup, is_mark, signs};
 ghost use Rattle.sm_text.specs.NameCounts as spec;
 ghost use Rattle.sm_text.specs.Places.{IsRefusal, whole_text, text_from};
-ghost use Rattle.sm_text.specs.Prefixes.{AreTokensOf, IsErrorOf};
+ghost use Rattle.sm_text.specs.Prefixes.{AreTokensOf};
 ghost use Rattle.sm_text.specs.Prefixes.{HeadParts, head_parts, SpellsHead, IsHeadReadAs, AreHeads};
 ghost use Rattle.sm_text.specs.Prefixes.{SpellsBlockAt, IsBlockReadAs, AreBlocks};
+ghost use Rattle.sm_text.specs.Reading as grammar;
+ghost use Rattle.sm_text.specs.TokenTexts.{IsTokenOf};
 
 use crate::error::TextError;
 use crate::reading::{Fault, ReadError};
-use crate::resolve::symbols_behind;
+use crate::resolve::{sign_of, symbols_behind};
 use crate::rules::GROUP_LIMIT;
 use crate::sections::head_of_task;
 use crate::statements::block;
-use crate::text::{lexical_error, place_of, rule_error};
+use crate::text::refused;
 use crate::token_list::Tokens;
-use sm_syntax::{Block, Cond, NameTable, Program, Symbol};
+use sm_syntax::{Block, Cond, Mark, NameTable, Program, Symbol, Token};
 use std::alloc::Global;
 
 /// Reads the front of a task from the tokens of its text: a program, what is assumed, and the
@@ -59,7 +66,8 @@ pub fn parse_head(
 /// table go behind those that are; after a refusal the table is as it was. More than 64 open
 /// groups nest too deep, the block's own among them. Where no block stands, the text is refused
 /// at the first fault from `at` on, as by `read_sections`. Want of memory stands also for a table
-/// without room. The time grows with all tokens behind `at`, not with those of the block alone.
+/// without room. The time grows with the block's own tokens: those up to the curly brace that
+/// closes the one at `at`, or all behind it where none does.
 pub fn parse_block(
     alloc: Global,
     bytes: &[u8],
@@ -107,16 +115,95 @@ fn block_at(
     ensures place { IfErr result (IsRefusal (AreBlocks groups) (text_from bytes.now at names.old)) }
     ensures kept { OnErr result (take (length names.old) names.new ≡ names.old) }
 {
-    let count = names.len();
-    let symbols = symbols_behind(alloc, bytes, &tokens.list[at..], names)?;
-    match block(alloc, GROUP_LIMIT.saturating_sub(groups), &symbols) {
-        Ok((block, after)) => {
-            let used = symbols.len() - after.len();
-            names.cut(count_names(count, &symbols[..used]));
-            Ok((block, (tokens.list.len() - after.len()) as u64))
-        }
+    match first_block(alloc, bytes, &tokens.list[at..], groups, names) {
+        Ok((block, left)) => Ok((block, (tokens.list.len() - left) as u64)),
         Err(ReadError::Fault(fault)) => Err(refused(bytes, tokens, fault)),
         Err(ReadError::Memory) => Err(TextError::Memory),
+    }
+}
+
+// The block that tokens begin with, and how many stand behind it. What its own tokens tell holds whatever stands behind
+// them, but for a refusal at their end: there all tokens are read.
+fn first_block(
+    alloc: Global,
+    bytes: &[u8],
+    tokens: &[Token],
+    groups: u64,
+    names: &mut NameTable,
+) -> Result<(Block, usize), ReadError>
+    requires { AllByRecursion (IsTokenOf bytes.now) tokens.now }
+    ensures ok { IfOk result (λ r.
+        IsFirstBlock bytes.now names.old groups tokens.now names.new (code_of r.0) r.1) }
+    ensures fault { IfErr result (λ e.
+        Fails e (grammar.block (64 - groups) (signs bytes.now names.old tokens.now))) }
+    ensures kept { OnErr result (take (length names.old) names.new ≡ names.old) }
+{
+    let end = block_end(bytes, tokens);
+    let behind = tokens.len() - end;
+    let known = names.len();
+    match block_of(alloc, bytes, &tokens[..end], groups, names) {
+        Ok((block, left)) => Ok((block, left + behind)),
+        Err(ReadError::Fault(fault)) if fault.left == 0 && behind > 0 => {
+            names.cut(known);
+            block_of(alloc, bytes, tokens, groups, names)
+        }
+        Err(ReadError::Fault(fault)) => Err(ReadError::Fault(Fault {
+            kind: fault.kind,
+            left: fault.left + behind,
+        })),
+        Err(ReadError::Memory) => Err(ReadError::Memory),
+    }
+}
+
+// the block that tokens begin with, and how many stand behind it, by the symbols of them all
+fn block_of(
+    alloc: Global,
+    bytes: &[u8],
+    tokens: &[Token],
+    groups: u64,
+    names: &mut NameTable,
+) -> Result<(Block, usize), ReadError>
+    requires { AllByRecursion (IsTokenOf bytes.now) tokens.now }
+    ensures ok { IfOk result (λ r.
+        IsFirstBlock bytes.now names.old groups tokens.now names.new (code_of r.0) r.1) }
+    ensures fault { IfErr result (λ e.
+        Fails e (grammar.block (64 - groups) (signs bytes.now names.old tokens.now))) }
+    ensures kept { OnErr result (take (length names.old) names.new ≡ names.old) }
+{
+    let count = names.len();
+    let symbols = symbols_behind(alloc, bytes, tokens, names)?;
+    let (block, after) = block(alloc, GROUP_LIMIT.saturating_sub(groups), &symbols)?;
+    let used = symbols.len() - after.len();
+    names.cut(count_names(count, &symbols[..used]));
+    Ok((block, after.len()))
+}
+
+// how many tokens there are up to the curly brace that closes the first, or all where none does
+fn block_end(bytes: &[u8], tokens: &[Token]) -> usize
+    requires { AllByRecursion (IsTokenOf bytes.now) tokens.now }
+    ensures { IsGroup bytes.now tokens.now result }
+{
+    let mut depth: usize = 0;
+    for (index, token) in tokens.iter().enumerate() {
+        depth = depth_behind(depth, sign_of(bytes, *token));
+        if depth == 0 {
+            return index + 1;
+        }
+    }
+    tokens.len()
+}
+
+// how many curly braces are open behind a sign, where so many are before it
+fn depth_behind(depth: usize, sign: Option<Mark>) -> usize
+    requires { depth + 1 < 2 ^ 64 }
+    ensures { result ≡
+        (if is_mark OpenCurly sign then depth + 1 else depth)
+        - (if is_mark CloseCurly sign then 1 else 0) }
+{
+    match sign {
+        Some(Mark::OpenCurly) => depth + 1,
+        Some(Mark::CloseCurly) => depth.saturating_sub(1),
+        _ => depth,
     }
 }
 
@@ -133,17 +220,6 @@ fn count_names(before: usize, symbols: &[Symbol]) -> usize
         }
     }
     count
-}
-
-// the error of a rule that doesn't go on
-fn refused(bytes: &[u8], tokens: &Tokens, fault: Fault) -> TextError
-    ensures { IsErrorOf fault tokens.now (length bytes.now) result }
-{
-    match (place_of(fault, &tokens.list), tokens.fault) {
-        (Some(place), _) => rule_error(fault.kind, place),
-        (None, Some(lexical)) => lexical_error(lexical),
-        (None, None) => rule_error(fault.kind, bytes.len() as u64),
-    }
 }
 
 #[cfg(test)]
@@ -221,6 +297,14 @@ mod tests {
                 3,
             ),
             ("?1 { x[x] = 0; } /", 2, 1, 11, 1, 1),
+            (
+                "{ if (x < y) { z = 1; } else { } } { w = v; } while } ( {",
+                0,
+                0,
+                17,
+                1,
+                3,
+            ),
         ] {
             let cut = tokens(rt.alloc(), text.as_bytes())?;
             assert!(rt; at <= cut.list.len() as u64);
@@ -248,6 +332,19 @@ mod tests {
             ("x", 1, 0, TextError::Expected { place: 1 }),
             ("{ y = ; }", 0, 0, TextError::Expected { place: 6 }),
             ("{ y = 1; ", 0, 0, TextError::Expected { place: 9 }),
+            (
+                "{ y = 1 } z = 2; } {",
+                0,
+                0,
+                TextError::Expected { place: 8 },
+            ),
+            ("} { y = 1; }", 0, 0, TextError::Expected { place: 0 }),
+            (
+                "{ while (x < 1) { y = 1; } ",
+                0,
+                0,
+                TextError::Expected { place: 27 },
+            ),
             ("{ y = 1; / }", 0, 0, TextError::BadByte { place: 9 }),
             ("y { }", 1, 64, TextError::Nested { place: 2 }),
             ("{ if (y < 1)", 0, 63, TextError::Nested { place: 5 }),

@@ -1,10 +1,9 @@
 // A whole text, read as a program.
 ghost use Rattle.std.specs.Prelude.{◌<◌, ◌^◌, length, IfOk, IfErr};
 ghost use Rattle.sm_text.specs.Answers.{Gives};
-ghost use Rattle.sm_text.specs.Fragments.{HasProgramText, ProgramParts, SpellsProgram, parts_of};
+ghost use Rattle.sm_text.specs.Fragments.{HasProgramText, IsProgramReadAs, ProgramParts, SpellsProgram, parts_of};
 ghost use Rattle.sm_text.specs.Places.{ArePrograms, IsRefusal, whole_text};
 ghost use Rattle.sm_text.specs.ProgramReading as spec;
-ghost use Rattle.sm_text.specs.ProgramReading.{IsProgramReadAs};
 ghost use Rattle.sm_text.specs.ProgramViews.{program_of};
 
 use crate::error::TextError;
@@ -12,7 +11,7 @@ use crate::lexer::tokens;
 use crate::reading::{FaultKind, ReadError, first, refusal};
 use crate::resolve::symbols;
 use crate::rules::{declarations, outputs, shared};
-use crate::text::{lexical_error, place_of, rule_error};
+use crate::text::{lexical_error, refused};
 use sm_syntax::{Block, Decls, Outputs, Program, Symbol};
 use std::alloc::Global;
 
@@ -78,11 +77,7 @@ pub fn parse_program(alloc: Global, bytes: &[u8]) -> Result<Program, TextError>
             }),
             Some(fault) => Err(lexical_error(fault)),
         },
-        Err(ReadError::Fault(fault)) => match (place_of(fault, &tokens.list), tokens.fault) {
-            (Some(place), _) => Err(rule_error(fault.kind, place)),
-            (None, Some(lexical)) => Err(lexical_error(lexical)),
-            (None, None) => Err(rule_error(fault.kind, bytes.len() as u64)),
-        },
+        Err(ReadError::Fault(fault)) => Err(refused(bytes, &tokens, fault)),
         Err(ReadError::Memory) => Err(TextError::Memory),
     }
 }

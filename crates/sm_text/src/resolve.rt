@@ -7,13 +7,13 @@ ghost use Rattle.sm_syntax.specs.Symbols.{is_name, with_text, names_after, symbo
 ghost use Rattle.sm_syntax.specs.Symbols.{symbols_of, names_of};
 ghost use Rattle.sm_syntax.specs.Symbols as spec;
 ghost use Rattle.sm_syntax.specs.Tokens.{lexed};
-ghost use Rattle.sm_text.specs.TokenTexts.{IsText, IsTokenOf};
+ghost use Rattle.sm_text.specs.TokenTexts.{IsText, IsTokenOf, sign_by};
 
 use crate::front::value_of;
 use crate::lexer::tokens;
 use crate::marks::{mark_of_sign, mark_of_word};
 use crate::symbol_list::Symbols;
-use sm_syntax::{Name, NameTable, Symbol, Token, TokenKind};
+use sm_syntax::{Mark, Name, NameTable, Symbol, Token, TokenKind};
 use std::alloc::{AllocError, Global};
 use std::str;
 
@@ -59,6 +59,18 @@ pub fn names(alloc: Global, bytes: &[u8]) -> Result<NameTable, AllocError>
     let cut = tokens(alloc, bytes)?;
     let read = symbols(alloc, bytes, cut.list.as_slice())?;
     Ok(read.names)
+}
+
+/// The sign that a token is, if it is one.
+pub(crate) fn sign_of(bytes: &[u8], token: Token) -> Option<Mark>
+    requires { IsTokenOf bytes.now token }
+    ensures { result ≡ sign_by token.kind (spec.text_of bytes.now token) }
+{
+    match token.kind {
+        TokenKind::Word => None,
+        TokenKind::Number => None,
+        TokenKind::Sign => mark_of_sign(text_of(bytes, token)),
+    }
 }
 
 // the bytes of a token
@@ -108,7 +120,6 @@ fn number_of(name: &str, names: &mut NameTable) -> Result<Name, AllocError>
 #[cfg(test)]
 mod tests {
     use super::*;
-    use sm_syntax::Mark;
     use std::test::Fail;
 
     #[test]

@@ -3,6 +3,7 @@ ghost use Rattle.std.specs.Prelude.{◌≡◌, ◌<◌, ◌≤◌, ◌^◌, Some
 ghost use Rattle.sm_syntax.specs.Parts.{Parts};
 ghost use Rattle.sm_syntax.specs.Spells.{IsInGrammar};
 ghost use Rattle.sm_text.specs.Places.{AreTasks, IsPlaceWith, IsRefusal, whole_text};
+ghost use Rattle.sm_text.specs.Prefixes.{IsErrorOf};
 ghost use Rattle.sm_text.specs.Texts.{parts_of, lexical_fault, rule_fault, IsReadAs};
 
 use crate::error::TextError;
@@ -10,6 +11,7 @@ use crate::lexer::tokens;
 use crate::reading::{Fault, FaultKind, ReadError};
 use crate::resolve::symbols;
 use crate::sections::{Head, Lists, whole};
+use crate::token_list::Tokens;
 use sm_syntax::{LexFault, LexKind, NameTable, Token};
 use std::alloc::{AllocError, Global};
 
@@ -43,17 +45,24 @@ pub fn read_sections(alloc: Global, bytes: &[u8]) -> Result<Sections, TextError>
             }),
             Some(fault) => Err(lexical_error(fault)),
         },
-        Err(ReadError::Fault(fault)) => match (place_of(fault, &tokens.list), tokens.fault) {
-            (Some(place), _) => Err(rule_error(fault.kind, place)),
-            (None, Some(lexical)) => Err(lexical_error(lexical)),
-            (None, None) => Err(rule_error(fault.kind, bytes.len() as u64)),
-        },
+        Err(ReadError::Fault(fault)) => Err(refused(bytes, &tokens, fault)),
         Err(ReadError::Memory) => Err(TextError::Memory),
     }
 }
 
-/// The place of the token at which a rule doesn't go on, if that is no end of the tokens.
-pub(crate) fn place_of(fault: Fault, tokens: &[Token]) -> Option<u64>
+/// The error of a rule that doesn't go on.
+pub(crate) fn refused(bytes: &[u8], tokens: &Tokens, fault: Fault) -> TextError
+    ensures { IsErrorOf fault tokens.now (length bytes.now) result }
+{
+    match (place_of(fault, &tokens.list), tokens.fault) {
+        (Some(place), _) => rule_error(fault.kind, place),
+        (None, Some(lexical)) => lexical_error(lexical),
+        (None, None) => rule_error(fault.kind, bytes.len() as u64),
+    }
+}
+
+// the place of the token at which a rule doesn't go on, if that is no end of the tokens
+fn place_of(fault: Fault, tokens: &[Token]) -> Option<u64>
     ensures some { IfSome result (IsPlaceWith fault.left tokens.now) }
     ensures none { result ≡ None → fault.left ≤ length tokens.now → fault.left ≡ 0 }
 {
@@ -61,8 +70,8 @@ pub(crate) fn place_of(fault: Fault, tokens: &[Token]) -> Option<u64>
     Some(tokens.get(index)?.place)
 }
 
-/// The error of a rule that doesn't go on at a place.
-pub(crate) fn rule_error(kind: FaultKind, place: u64) -> TextError
+// the error of a rule that doesn't go on at a place
+fn rule_error(kind: FaultKind, place: u64) -> TextError
     ensures { result ≡ rule_fault kind place }
 {
     match kind {

@@ -6,16 +6,17 @@ use Rattle.sm_syntax.specs.declared.token.Token.{Token}
 use Rattle.sm_syntax.specs.Symbols.{symbol_of, names_after}
 use Rattle.sm_syntax.specs.Tokens.{Lexed, lexed}
 use Rattle.sm_text.specs.NameCounts.{names_counted}
-use Rattle.sm_text.specs.Places.{Source, IsRefusal}
+use Rattle.sm_text.specs.Places.{all_symbols}
 use Rattle.sm_text.specs.Prefixes.{AreHeads}
 use Rattle.sm_text.specs.Reading as r
 use Rattle.sm_text.specs.Sections.{head_of}
 use Rattle.sm_text.specs.TokenTexts.{IsTokenOf}
 use Rattle.sm_text.proofs.Described.{IsFrontOfTask, head_told}
 use Rattle.sm_text.proofs.Lexing.{IsTokenOf-lexed}
-use Rattle.sm_text.proofs.PrefixJudged.{head_judges, refused_from, whole_from}
+use Rattle.sm_text.proofs.PrefixJudged.{head_judges}
 use Rattle.sm_text.proofs.PrefixRead.{front_from, is_head, is_front, head_reads, head_same}
 use Rattle.sm_text.proofs.Prefixed.{respelled, signs-of, left_within, answered, read_same, read_not_refused}
+use Rattle.sm_text.proofs.TextFaults.{whole_from, refused_whole}
 use Rattle.sm_text.proofs.prefix.parse_head.Goals as goal
 
 pub symbols_behind-requires : goal.symbols_behind-requires
@@ -67,5 +68,4 @@ returns-in-Err-Fault-clause-place c =
     let bytes = c.args.bytes.now in
     let cut : c.deref.result.now ≡ (lexed bytes).0 = c.deref.ensures.value ∙ ap (λ (l : Lexed). l.0) c.requires in
     let same = c.deref-2.ensures.value ∙ signs-of bytes [] c.symbols_behind.new.names c.deref.result.now (lexed bytes).0 c.in_ok-symbols.symbols.items (c.in_ok-symbols.ensures.names ∙ ap (λ l. names_after bytes l c.deref.result.now) c.new-names.ensures) c.in_ok-symbols.ensures.list cut in
-    let F : Source → Type 0 = λ source. IsRefusal AreHeads source c.refused.result in
-    subst F (whole_from bytes) (refused_from r.head AreHeads head_judges bytes 0 [] c.args.tokens.now c.requires c.deref-2.result.now same c.in-Err-Fault.fault (rw c.in-Err-Fault.field-0-is at c.in-Err-Fault.ensures) c.refused.result c.refused.ensures)
+    refused_whole r.head AreHeads head_judges bytes c.args.tokens.now c.requires c.deref-2.result.now (same ∙ ap all_symbols (whole_from bytes)) c.in-Err-Fault.fault (rw c.in-Err-Fault.field-0-is at c.in-Err-Fault.ensures) c.refused.result c.refused.ensures

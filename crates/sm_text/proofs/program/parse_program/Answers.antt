@@ -1,4 +1,4 @@
-use Rattle.std.proofs.Common.{refl, sym, ap, ◌∙◌, subst, List, map}
+use Rattle.std.proofs.Common.{sym, ap, ◌∙◌, subst, List, map}
 use Rattle.sm_syntax.specs.declared.symbol.Symbol.{Symbol}
 use Rattle.sm_syntax.specs.Grammar.{plain}
 use Rattle.sm_syntax.specs.Tokens.{Lexed}
@@ -10,7 +10,7 @@ use Rattle.sm_text.specs.ProgramViews.{program_of}
 use Rattle.sm_text.proofs.Judged.{program_judges, program_viable}
 use Rattle.sm_text.proofs.ProgramRead.{whole_program_told, program_same, program_not_refused}
 use Rattle.sm_text.proofs.FirstFaults.{lexed-ascends, symbols-map}
-use Rattle.sm_text.proofs.TextFaults.{fault_behind, token_refused, fault_refused, end_refused}
+use Rattle.sm_text.proofs.TextFaults.{fault_behind, refused_whole}
 use Rattle.sm_text.proofs.program.parse_program.Goals as goal
 
 pub returns-in-None-clause-ok : goal.returns-in-None-clause-ok
@@ -31,10 +31,6 @@ pub returns-in-None-clause-only : goal.returns-in-None-clause-only
 returns-in-None-clause-only c t spells =
     program_same c.args.bytes.now t c.in_ok-symbols.symbols.names _ (program_of c.in-Ok.parts) spells c.in_ok-symbols.ensures.names (c.deref-2.ensures.value ∙ c.in_ok-symbols.ensures.list) c.in-Ok.ensures
 
-pub returns-in-Some-default-clause-only : goal.returns-in-Some-default-clause-only
-returns-in-Some-default-clause-only c t spells =
-    absurd (program_not_refused c.args.bytes.now t _ _ spells (c.deref-2.ensures.value ∙ c.in_ok-symbols.ensures.list) (rw c.in-Err-Fault.field-0-is at c.in-Err-Fault.ensures))
-
 pub returns-in-Err-Fault-clause-only : goal.returns-in-Err-Fault-clause-only
 returns-in-Err-Fault-clause-only c t spells =
     absurd (program_not_refused c.args.bytes.now t _ _ spells (c.deref-2.ensures.value ∙ c.in_ok-symbols.ensures.list) (rw c.in-Err-Fault.field-0-is at c.in-Err-Fault.ensures))
@@ -44,17 +40,6 @@ returns-in-Ok-clause-place c =
     fault_behind p.whole_program ArePrograms program_judges (whole_text c.args.bytes.now) (lexed-ascends c.args.bytes.now) _ (c.deref-2.ensures.value ∙ c.in_ok-symbols.ensures.list ∙ symbols-map c.args.bytes.now) _ c.in-Ok.ensures (program_viable _ _ c.in-Ok.ensures) c.in-Some.fault (ap (λ (l : Lexed). l.1) (sym c.in_ok-tokens.ensures) ∙ c.in-Some.is)
     c.lexical_error.result c.lexical_error.ensures
 
-pub returns-in-Some-default-clause-place : goal.returns-in-Some-default-clause-place
-returns-in-Some-default-clause-place c =
-    token_refused p.whole_program ArePrograms program_judges (whole_text c.args.bytes.now) (lexed-ascends c.args.bytes.now) _ (c.deref-2.ensures.value ∙ c.in_ok-symbols.ensures.list ∙ symbols-map c.args.bytes.now) c.in-Err-Fault.field-0 c.in-Err-Fault.fault c.in-Err-Fault.field-0-is c.in-Err-Fault.ensures _ (ap (λ (l : Lexed). l.0) (sym c.in_ok-tokens.ensures) ∙ sym c.deref-in-Err-Fault.ensures.value) _
-    c.in-Some-default.ensures.some c.rule_error.result c.rule_error.ensures
-
-pub returns-in-None-Some-clause-place : goal.returns-in-None-Some-clause-place
-returns-in-None-Some-clause-place c =
-    fault_refused p.whole_program ArePrograms program_judges (whole_text c.args.bytes.now) (lexed-ascends c.args.bytes.now) _ (c.deref-2.ensures.value ∙ c.in_ok-symbols.ensures.list ∙ symbols-map c.args.bytes.now) c.in-Err-Fault.field-0 c.in-Err-Fault.fault c.in-Err-Fault.field-0-is c.in-Err-Fault.ensures _ (ap (λ (l : Lexed). l.0) (sym c.in_ok-tokens.ensures) ∙ sym c.deref-in-Err-Fault.ensures.value)
-    (c.in-None-Some.ensures.none refl) c.in-None-Some.lexical (ap (λ (l : Lexed). l.1) (sym c.in_ok-tokens.ensures) ∙ c.in-None-Some.is-1) c.lexical_error-in-None-Some.result c.lexical_error-in-None-Some.ensures
-
 pub returns-in-Err-Fault-clause-place : goal.returns-in-Err-Fault-clause-place
 returns-in-Err-Fault-clause-place c =
-    end_refused p.whole_program ArePrograms program_judges (whole_text c.args.bytes.now) (lexed-ascends c.args.bytes.now) _ (c.deref-2.ensures.value ∙ c.in_ok-symbols.ensures.list ∙ symbols-map c.args.bytes.now) c.in-Err-Fault.field-0 c.in-Err-Fault.fault c.in-Err-Fault.field-0-is c.in-Err-Fault.ensures _ (ap (λ (l : Lexed). l.0) (sym c.in_ok-tokens.ensures) ∙ sym c.deref-in-Err-Fault.ensures.value)
-    (c.in-None-None.ensures.none refl) (ap (λ (l : Lexed). l.1) (sym c.in_ok-tokens.ensures) ∙ c.in-None-None.is-1) _ c.rule_error-in-None-None.ensures
+    refused_whole p.whole_program ArePrograms program_judges c.args.bytes.now c.in_ok-tokens.tokens c.in_ok-tokens.ensures _ (c.deref-2.ensures.value ∙ c.in_ok-symbols.ensures.list ∙ symbols-map c.args.bytes.now) c.in-Err-Fault.fault (rw c.in-Err-Fault.field-0-is at c.in-Err-Fault.ensures) c.refused.result c.refused.ensures

@@ -1,22 +1,16 @@
-use Rattle.std.proofs.Common.{ℕ, ◌+◌, Result, Ok, Err, List, get_or, take, sym, ap, subst, ◌∙◌}
-use Rattle.std.specs.Result.{OnErr}
+use Rattle.std.proofs.Common.{ℕ, ◌+◌, List, get_or, take, sym, ap, subst, ◌∙◌}
 use Rattle.sm_syntax.specs.declared.symbol.Symbol.{Symbol}
 use Rattle.sm_syntax.specs.declared.token.Token.{Token}
 use Rattle.sm_syntax.specs.declared.token.TokenKind.TheVariants.{Word}
 use Rattle.sm_syntax.specs.Symbols.{symbol_by}
 use Rattle.sm_text.specs.TokenTexts.{IsText, IsTokenOf}
 use Rattle.sm_text.proofs.Lexing.{all_at}
-use Rattle.sm_text.proofs.Naming.{names_with, IsRead, IsRead-more, IsRead-next, kept-names_after}
+use Rattle.sm_text.proofs.Naming.{names_with, IsRead, IsRead-more, IsRead-next, kept-on_err}
 use Rattle.sm_text.proofs.resolve.symbols_behind.Goals as goal
 
 -- what stands for an element past the end
 abbrev blank : Token
 blank = record { kind = Word; place = 0; size = 0 }
-
--- what holds anyway holds of an error
-on_err : {T E P : Type 0} (r : Result T E) → P → OnErr r P
-on_err (Ok x) p = tt
-on_err (Err e) p = p
 
 pub text_of-text-requires : goal.text_of-text-requires
 text_of-text-requires c = (all_at (IsTokenOf c.args.bytes.now) c.args.tokens.now c.requires c.loop-token.token-index blank c.loop-token-test.true).within
@@ -41,7 +35,7 @@ loop-token-preserved c =
 
 pub returns-in_err-symbol-clause-kept : goal.returns-in_err-symbol-clause-kept
 returns-in_err-symbol-clause-kept c =
-    on_err c.from_residual.result (kept-names_after c.args.bytes.now c.args.names.now c.symbol_of.new.names (take c.loop-token.token-index c.args.tokens.now) (c.in_err-symbol.ensures.err ∙ c.loop-token.invariant.names_are))
+    kept-on_err c.from_residual.result c.args.bytes.now c.args.names.now c.symbol_of.new.names (take c.loop-token.token-index c.args.tokens.now) (c.in_err-symbol.ensures.err ∙ c.loop-token.invariant.names_are)
 
 pub returns-in_err-push-clause-kept : goal.returns-in_err-push-clause-kept
 returns-in_err-push-clause-kept c =
@@ -49,4 +43,4 @@ returns-in_err-push-clause-kept c =
     let token = get_or c.args.tokens.now i blank in
     let added = c.in_ok-symbol.ensures.names ∙ ap (λ text. names_with c.loop-token.names token.kind text) c.text_of-text.ensures in
     let names_are = IsRead-more c.args.bytes.now c.args.names.now c.args.tokens.now i c.loop-token.names c.symbol_of.new.names c.loop-token.list.items blank c.loop-token.invariant c.loop-token-test.true added in
-    on_err c.from_residual-in_err-push.result (kept-names_after c.args.bytes.now c.args.names.now c.symbol_of.new.names (take (i + 1) c.args.tokens.now) names_are)
+    kept-on_err c.from_residual-in_err-push.result c.args.bytes.now c.args.names.now c.symbol_of.new.names (take (i + 1) c.args.tokens.now) names_are

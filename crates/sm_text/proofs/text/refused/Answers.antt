@@ -2,7 +2,7 @@ use Rattle.std.proofs.Common.{◌≡◌, ◌≤◌, refl, subst, List, length}
 use Rattle.sm_syntax.specs.declared.token.Token.{Token}
 use Rattle.sm_text.specs.Places.{IsPlaceWith}
 use Rattle.sm_text.specs.Prefixes.{at_token, at_fault}
-use Rattle.sm_text.proofs.prefix.refused.Goals as goal
+use Rattle.sm_text.proofs.text.refused.Goals as goal
 
 pub returns-in-Some-default : goal.returns-in-Some-default
 returns-in-Some-default c =
