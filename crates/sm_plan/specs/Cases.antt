@@ -34,10 +34,11 @@ task_with before o a b m = record {
 abbrev pub IsUnprovable : Task → Type 0
 IsUnprovable t = (p : Plan) (ds : List Due) → IsFresh 0 p → obligations t p ≡ Ok ds → AllDischarged ds → ⊥
 
--- a candidate that never ends
+-- x gets a value
 abbrev pub gives : ℕ → Code
 gives z = Assign 0 (Lit (pos z)) End
 
+-- a candidate that never ends
 abbrev pub never_ends : Task
 never_ends = task_with (λ (k : Code). k) (gives 1) (gives 2) (gives 1) (While syntax.Yes (Skip End) End)
 

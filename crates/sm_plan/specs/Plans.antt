@@ -42,7 +42,7 @@ abbrev mutual
   all_nodes (More p ps) = nodes_of p ++ all_nodes ps
 
 abbrev mutual
-  -- how many branching nodes stand above the node that has most above it
+  -- the most branching nodes on a path of a plan, from its first node down
   pub branches : Plan → ℕ
   branches (At node ps) = if is_branching node then suc (most_branches ps) else most_branches ps
 
