@@ -11,17 +11,17 @@ use thiserror::Error;
 /// Why bytes are no input.
 #[derive(Clone, Copy, Debug, PartialEq, Eq, Error)]
 pub enum InputError {
-    #[error("the input is no JSON")]
+    #[error("the input can't be read as JSON")]
     BadJson,
     #[error("the input is no object")]
     NotObject,
     #[error("a key is no declared name")]
     UnknownKey,
     /// A number that is no whole number of 128 bits, or an array that is no object.
-    #[error("a value of name {name:?} is none of its sort")]
+    #[error("a value of the name with number {} is none of its sort", name.0)]
     BadValue { name: Name },
     /// An index that is no whole number of 128 bits.
-    #[error("an index of name {name:?} is no number")]
+    #[error("an index of the name with number {} is no number", name.0)]
     BadIndex { name: Name },
     #[error("out of memory")]
     Memory,

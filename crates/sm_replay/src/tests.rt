@@ -363,3 +363,44 @@ fn a_store_is_written_by_rising_keys_without_zero_cells_and_reads_back(
     }
     Ok(())
 }
+
+#[test]
+fn errors_are_told(rt: HostRuntime) -> Result<(), Fail> {
+    let alloc = rt.alloc();
+    let name = Name(3);
+    for (error, want) in [
+        (InputError::BadJson, "the input can't be read as JSON"),
+        (InputError::NotObject, "the input is no object"),
+        (InputError::UnknownKey, "a key is no declared name"),
+        (
+            InputError::BadValue { name },
+            "a value of the name with number 3 is none of its sort",
+        ),
+        (
+            InputError::BadIndex { name },
+            "an index of the name with number 3 is no number",
+        ),
+        (InputError::Memory, "out of memory"),
+    ] {
+        assert_eq!(rt; format!(in alloc; "{error}")?.as_str(), want);
+    }
+    let (op, a, b) = (Op::Sub, -3, 4);
+    for (error, want) in [
+        (
+            ReplayError::OutOfTurns { copy: 2 },
+            "a loop of copy 2 takes too many turns",
+        ),
+        (
+            ReplayError::Beyond { copy: 3, op, a, b },
+            "in copy 3 Sub of -3 and 4 leaves 128 bits",
+        ),
+        (
+            ReplayError::BeyondAssumed { op, a, b },
+            "in the assumption Sub of -3 and 4 leaves 128 bits",
+        ),
+        (ReplayError::Memory, "out of memory"),
+    ] {
+        assert_eq!(rt; format!(in alloc; "{error}")?.as_str(), want);
+    }
+    Ok(())
+}
