@@ -346,12 +346,13 @@ fn a_fault_is_answered_where_a_call_fails(rt: HostRuntime) -> Result<(), Fail> {
     Ok(())
 }
 
-// A task of empty programs, with spaces behind it up to a size in bytes.
-fn padded(alloc: Global, size: usize) -> Result<String, AllocError> {
-    let mut text = String::from_str(
-        alloc,
-        "var x; output x; shared { } base { } variant_a { } variant_b { } candidate { }",
-    )?;
+// A task of empty programs.
+const EMPTY: &str =
+    "var x; output x; shared { } base { } variant_a { } variant_b { } candidate { }";
+
+// A text with spaces behind it up to a size in bytes.
+fn padded(alloc: Global, start: &str, size: usize) -> Result<String, AllocError> {
+    let mut text = String::from_str(alloc, start)?;
     for _ in text.len()..size {
         text.push(' ')?;
     }
@@ -364,9 +365,25 @@ fn a_file_has_its_greatest_size(rt: HostRuntime) -> Result<(), Fail> {
         (1048576, Status::Accepted, "Accepted\n"),
         (1048577, Status::Refused, "TooLong task\n"),
     ] {
-        let task = padded(rt.alloc(), size)?;
+        let task = padded(rt.alloc(), EMPTY, size)?;
         assert_eq!(rt; task.len(), size);
         let (ended, out) = run(&rt, rt.alloc(), &["check", "t"], &[task.as_str()])?;
+        assert_eq!(rt; ended, status, "at {size}");
+        assert_eq!(rt; out.bytes(), text.as_bytes(), "at {size}");
+    }
+    Ok(())
+}
+
+#[test]
+fn an_input_has_its_greatest_size(rt: HostRuntime) -> Result<(), Fail> {
+    for (size, status, text) in [
+        (1048576, Status::Accepted, "Holds\n"),
+        (1048577, Status::Refused, "TooLong input\n"),
+    ] {
+        let input = padded(rt.alloc(), "{}", size)?;
+        assert_eq!(rt; input.len(), size);
+        let words = ["replay", "t", "i"];
+        let (ended, out) = run_on(&rt, rt.alloc(), &words, EMPTY, input.as_str())?;
         assert_eq!(rt; ended, status, "at {size}");
         assert_eq!(rt; out.bytes(), text.as_bytes(), "at {size}");
     }
@@ -636,20 +653,29 @@ impl Gate for Meet {
     }
 }
 
+// Each variant edits one statement of a loop over arrays.
+const EDITS_IN_A_LOOP: &str = "var i, n; array a, c, out, log; output out, log; \
+     shared { i = 0; while (i < n) { ?1; ?2; i = i + 1; } } \
+     base { ?1 { out[i] = a[i]; } ?2 { log[i] = c[i]; } } \
+     variant_a { ?1 { out[i] = a[i] + 1; } ?2 { log[i] = c[i]; } } \
+     variant_b { ?1 { out[i] = a[i]; } ?2 { log[i] = c[i] + i; } } \
+     candidate { ?1 { out[i] = a[i] + 1; } ?2 { log[i] = c[i] + i; } }";
+
 #[test]
 fn two_trials_run_at_once(rt: HostRuntime) -> Result<(), Fail> {
     let gate = Meet {
         entered: AtomicU64::new(0),
         met: AtomicBool::new(false),
     };
-    let parts = [HEAD, A, B, M];
+    let parts = [EDITS_IN_A_LOOP];
     let files = Files {
         task: parts.as_slice(),
         input: "{}",
     };
     let words = ["check", "t", "--workers", "2"];
-    let (ended, _out) = run_failing(&rt, rt.alloc(), &gate, &words, files, None, None)?;
-    assert_eq!(rt; ended, Status::Accepted);
+    let (ended, out) = run_failing(&rt, rt.alloc(), &gate, &words, files, None, None)?;
+    assert_eq!(rt; ended, Status::Unknown);
+    assert_eq!(rt; out.bytes(), b"Unknown NotBuilt\n".as_slice());
     assert!(rt; gate.met.load(Ordering::SeqCst));
     Ok(())
 }

@@ -99,3 +99,25 @@ fn a_file_is_read_whole_up_to_the_limit(rt: HostRuntime) -> Result<(), Fail> {
     }
     Ok(())
 }
+
+#[test]
+fn errors_are_told(rt: HostRuntime) -> Result<(), Fail> {
+    let alloc = rt.alloc();
+    for (error, want) in [
+        (
+            IoError::Fault,
+            "the file or the output can't be read or written",
+        ),
+        (IoError::Memory, "out of memory"),
+    ] {
+        assert_eq!(rt; format!(in alloc; "{error}")?.as_str(), want);
+    }
+    for (error, want) in [
+        (ReadError::Fault, "the file can't be read"),
+        (ReadError::TooLong, "the file is too long"),
+        (ReadError::Memory, "out of memory"),
+    ] {
+        assert_eq!(rt; format!(in alloc; "{error}")?.as_str(), want);
+    }
+    Ok(())
+}

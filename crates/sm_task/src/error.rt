@@ -92,3 +92,128 @@ impl From<SyntaxError> for TaskError {
         }
     }
 }
+
+#[cfg(test)]
+mod tests {
+    use super::*;
+    use std::test::Fail;
+
+    #[test]
+    fn errors_are_told(rt: HostRuntime) -> Result<(), Fail> {
+        let alloc = rt.alloc();
+        let name = Name(3);
+        for (error, want) in [
+            (
+                TaskError::BadByte { place: 7 },
+                "no token begins with the byte at 7",
+            ),
+            (
+                TaskError::WideNumber { place: 7 },
+                "the number at 7 is too wide",
+            ),
+            (
+                TaskError::BadToken { place: 7 },
+                "the token at 7 is none of the language",
+            ),
+            (
+                TaskError::Expected { place: 7 },
+                "no task has what stands at 7",
+            ),
+            (
+                TaskError::Nested { place: 7 },
+                "what stands at 7 nests too deep",
+            ),
+            (
+                TaskError::MissingFilling { list: 2, hole: 9 },
+                "list 2 does not fill hole 9",
+            ),
+            (
+                TaskError::UnknownHole { list: 2, hole: 9 },
+                "list 2 fills hole 9, which the shared program does not have",
+            ),
+            (
+                TaskError::DoubleHole { list: 4, hole: 9 },
+                "list 4 has hole 9 a second time",
+            ),
+            (
+                TaskError::HoleInFilling { list: 2, hole: 9 },
+                "a filling of list 2 has hole 9",
+            ),
+            (
+                TaskError::UnknownName { name },
+                "the name with number 3 is not declared",
+            ),
+            (
+                TaskError::WrongSort { name },
+                "the name with number 3 stands with the other sort",
+            ),
+            (
+                TaskError::DoubleName { name },
+                "the name with number 3 stands a second time",
+            ),
+            (
+                TaskError::TooDeep,
+                "a program or the assumption is too deep",
+            ),
+            (
+                TaskError::TooMany,
+                "a program or the assumption is too large",
+            ),
+            (TaskError::Memory, "out of memory"),
+        ] {
+            assert_eq!(rt; format!(in alloc; "{error}")?.as_str(), want);
+        }
+        Ok(())
+    }
+
+    #[test]
+    fn errors_of_texts_and_programs_are_told(rt: HostRuntime) -> Result<(), Fail> {
+        let alloc = rt.alloc();
+        let name = Name(3);
+        for (error, want) in [
+            (
+                TextError::BadByte { place: 7 },
+                "no token begins with the byte at 7",
+            ),
+            (
+                TextError::WideNumber { place: 7 },
+                "the number at 7 is too wide",
+            ),
+            (
+                TextError::BadToken { place: 7 },
+                "the token at 7 is none of the language",
+            ),
+            (
+                TextError::Expected { place: 7 },
+                "no task has what stands at 7",
+            ),
+            (
+                TextError::Nested { place: 7 },
+                "what stands at 7 nests too deep",
+            ),
+            (TextError::Memory, "out of memory"),
+        ] {
+            assert_eq!(rt; format!(in alloc; "{error}")?.as_str(), want);
+        }
+        for (error, want) in [
+            (
+                SyntaxError::UnknownName { name },
+                "the name with number 3 is not declared",
+            ),
+            (
+                SyntaxError::WrongSort { name },
+                "the name with number 3 stands with the other sort",
+            ),
+            (
+                SyntaxError::DoubleName { name },
+                "the name with number 3 stands a second time",
+            ),
+            (SyntaxError::TooDeep, "the program is too deep"),
+            (SyntaxError::TooMany, "the program is too large"),
+            (SyntaxError::Memory, "out of memory"),
+        ] {
+            assert_eq!(rt; format!(in alloc; "{error}")?.as_str(), want);
+        }
+        Ok(())
+    }
+}

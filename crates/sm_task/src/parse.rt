@@ -114,6 +114,25 @@ mod tests {
         Ok(())
     }
 
+    // In each of 63 groups stand the greatest product and sum, whose first operand is the next group.
+    #[test]
+    fn a_tree_of_8000_levels_is_too_deep(rt: HostRuntime) -> Result<(), Fail> {
+        let alloc = rt.alloc();
+        let mut behind = String::new(alloc);
+        for _ in 0..63 {
+            behind.push_str("*x")?;
+        }
+        for _ in 0..63 {
+            behind.push_str("+x")?;
+        }
+        behind.push_str(")")?;
+        let text = nested(alloc, ("x = ", "(", "x", behind.as_str(), ";"), 63)?;
+        assert!(rt; text.as_str().len() < 99_999);
+        let result = parse_task(alloc, text.as_bytes());
+        assert_eq!(rt; result.err(), Some(TaskError::TooDeep));
+        Ok(())
+    }
+
     // The names x, z, w and v have the numbers from 0 on. A program goes before the assumption.
     #[test]
     fn names_why_a_text_is_no_task(rt: HostRuntime) -> Result<(), Fail> {

@@ -51,13 +51,26 @@ mod tests {
 
     const CANONICAL_TAIL: &str = "}\nbase {\n}\nvariant_a {\n}\nvariant_b {\n}\ncandidate {\n}\n";
 
-    // The canonical text of the task that a text spells.
-    fn printed(alloc: Global, text: &[u8]) -> Result<Vec<u8>, Fail>
-        requires { length text.now < 2 ^ 32 }
-    {
-        let task = parse_task(alloc, text)?;
+    // Whether a text prints as that canonical text, and this as itself.
+    fn prints(alloc: Global, text: &str, canonical: &str) -> Result<bool, Fail> {
+        Ok(prints_once(alloc, text, canonical)? && prints_once(alloc, canonical, canonical)?)
+    }
+
+    // Whether a text of at most 9,999 bytes prints as that.
+    fn prints_once(alloc: Global, text: &str, want: &str) -> Result<bool, Fail> {
+        if text.len() > 9999 {
+            return Ok(false);
+        }
+        let task = parse_task(alloc, text.as_bytes())?;
         let out = print_task(alloc, &task)?;
-        Ok(out)
+        Ok(out.as_slice() == want.as_bytes())
+    }
+
+    // The same of what stands in a shared block.
+    fn block_prints(alloc: Global, body: &str, want: &str) -> Result<bool, Fail> {
+        let text = joined(alloc, HEAD, body, TAIL)?;
+        let canonical = joined(alloc, CANONICAL_HEAD, want, CANONICAL_TAIL)?;
+        prints(alloc, text.as_str(), canonical.as_str())
     }
 
     // Three texts, one behind the other.
@@ -98,14 +111,7 @@ mod tests {
             ("a[0] = 1;", "  a[0] = 1;\n"),
             ("a[x + 1 - y] = -a[-1];", "  a[(x + 1) - y] = -a[-1];\n"),
         ] {
-            let text = joined(rt.alloc(), HEAD, body, TAIL)?;
-            let canonical = joined(rt.alloc(), CANONICAL_HEAD, want, CANONICAL_TAIL)?;
-            assert!(rt; text.as_str().len() < 9999);
-            assert!(rt; canonical.as_str().len() < 9999);
-            let out = printed(rt.alloc(), text.as_bytes())?;
-            assert_eq!(rt; out.as_slice(), canonical.as_bytes(), "of {body}");
-            let again = printed(rt.alloc(), canonical.as_bytes())?;
-            assert_eq!(rt; again.as_slice(), canonical.as_bytes(), "again of {body}");
+            assert!(rt; block_prints(rt.alloc(), body, want)?, "of {body}");
         }
         Ok(())
     }
@@ -136,14 +142,7 @@ mod tests {
                 "  while (true) {\n    while (false) {\n      x = y;\n    }\n    skip;\n  }\n",
             ),
         ] {
-            let text = joined(rt.alloc(), HEAD, body, TAIL)?;
-            let canonical = joined(rt.alloc(), CANONICAL_HEAD, want, CANONICAL_TAIL)?;
-            assert!(rt; text.as_str().len() < 9999);
-            assert!(rt; canonical.as_str().len() < 9999);
-            let out = printed(rt.alloc(), text.as_bytes())?;
-            assert_eq!(rt; out.as_slice(), canonical.as_bytes(), "of {body}");
-            let again = printed(rt.alloc(), canonical.as_bytes())?;
-            assert_eq!(rt; again.as_slice(), canonical.as_bytes(), "again of {body}");
+            assert!(rt; block_prints(rt.alloc(), body, want)?, "of {body}");
         }
         Ok(())
     }
@@ -177,14 +176,10 @@ mod tests {
         ] {
             let body = joined(rt.alloc(), "while(", test, "){}")?;
             let lines = joined(rt.alloc(), "  while (", want, ") {\n  }\n")?;
-            let text = joined(rt.alloc(), HEAD, body.as_str(), TAIL)?;
-            let canonical = joined(rt.alloc(), CANONICAL_HEAD, lines.as_str(), CANONICAL_TAIL)?;
-            assert!(rt; text.as_str().len() < 9999);
-            assert!(rt; canonical.as_str().len() < 9999);
-            let out = printed(rt.alloc(), text.as_bytes())?;
-            assert_eq!(rt; out.as_slice(), canonical.as_bytes(), "of {test}");
-            let again = printed(rt.alloc(), canonical.as_bytes())?;
-            assert_eq!(rt; again.as_slice(), canonical.as_bytes(), "again of {test}");
+            assert!(rt;
+                block_prints(rt.alloc(), body.as_str(), lines.as_str())?,
+                "of {test}"
+            );
         }
         Ok(())
     }
@@ -213,12 +208,7 @@ mod tests {
                 "var x;\nvar y;\noutput y, x;\nshared {\n  while (true) {\n    if (x < y) {\n      x = y;\n    } else {\n      while (false) {\n        if (true) {\n        } else {\n          skip;\n        }\n      }\n    }\n  }\n}\nbase {\n}\nvariant_a {\n}\nvariant_b {\n}\ncandidate {\n}\n",
             ),
         ] {
-            assert!(rt; text.len() < 9999);
-            assert!(rt; canonical.len() < 9999);
-            let out = printed(rt.alloc(), text.as_bytes())?;
-            assert_eq!(rt; out.as_slice(), canonical.as_bytes(), "of {text}");
-            let again = printed(rt.alloc(), canonical.as_bytes())?;
-            assert_eq!(rt; again.as_slice(), canonical.as_bytes(), "again of {text}");
+            assert!(rt; prints(rt.alloc(), text, canonical)?, "of {text}");
         }
         Ok(())
     }
