@@ -11,6 +11,7 @@ pub mod Symbols
 pub mod Parts
 pub mod Grammar
 pub mod Conditions
+pub mod Copies
 pub mod Spells
 pub mod Programs
 pub mod Faults

@@ -7,6 +7,7 @@
 
 mod cell;
 mod checks;
+mod copies;
 mod copy;
 mod error;
 mod laws;
@@ -20,6 +21,7 @@ mod tree;
 
 pub use cell::keeps;
 pub use checks::{well_formed, well_formed_cond};
+pub use copies::{CopyName, PerCopy};
 pub use copy::{copy_block, copy_cond, copy_decls, copy_expr, copy_outputs, copy_stmt};
 pub use error::SyntaxError;
 pub use laws::{keeps_exactly, more_turns, run_of_appended, unassigned_stays};

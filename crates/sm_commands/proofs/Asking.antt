@@ -1,0 +1,56 @@
+-- What a command asks for, by the texts that its matches give.
+use Rattle.std.proofs.Common.{◌≡◌, ◌∙◌, inr, [], Option, Some, Result, Ok, Err, IfOk, IsErrOf, codes, refl, sym, ap}
+use Rattle.clap.specs.Walk.{Text}
+use Rattle.sm_commands.specs.Requests.{asked_in}
+use Rattle.sm_commands.specs.Words.{Words, asked_by, check_by, faults_of, print_by, replay_by, text_of, HasBadNumber, IsRefused}
+use Rattle.sm_commands.specs.declared.words.Request.{Request}
+use Rattle.sm_commands.specs.declared.words.Verb.{Verb}
+use Rattle.sm_commands.specs.declared.words.Verb.TheVariants.{Check, Replay, Print}
+use Rattle.sm_commands.specs.declared.words.WordsError.{WordsError}
+use Rattle.sm_commands.specs.declared.words.WordsError.TheVariants.{Usage}
+
+same_check : {a b c a' b' c' : Option Text} → a ≡ a' → b ≡ b' → c ≡ c' → check_by a b c ≡ check_by a' b' c'
+same_check p q r = rw (p, q, r) refl
+
+same_replay : {a b c d a' b' c' d' : Option Text} → a ≡ a' → b ≡ b' → c ≡ c' → d ≡ d' → replay_by a b c d ≡ replay_by a' b' c' d'
+same_replay p q r s = rw (p, q, r, s) refl
+
+same_bad : {a b a' b' : Option Text} → a ≡ a' → b ≡ b' → HasBadNumber a b → HasBadNumber a' b'
+same_bad p q h = rw (← p, ← q) h
+
+-- what an answer says of the words of a command
+pub record Asks (verb : Verb) (words : Words) (r : Result Request WordsError) : Type 0 where
+  pub ok : IfOk r (λ (q : Request). (faults_of verb words ≡ []) × (asked_by verb words ≡ Some (asked_in q)))
+  pub usage : IsErrOf r Usage → IsRefused (Some verb) words
+
+pub asks_check : (verb : Verb) (words : Words) (f : Text → Option Text) (r : Result Request WordsError) → verb ≡ Check → faults_of verb words ≡ [] → ((id : Text) → f id ≡ text_of verb id words) →
+    IfOk r (λ (q : Request). check_by (f (codes "TASK")) (f (codes "turns")) (f (codes "workers")) ≡ Some (asked_in q)) → (IsErrOf r Usage → HasBadNumber (f (codes "turns")) (f (codes "workers"))) → Asks verb words r
+asks_check Check words f (Ok q) is free texts ok bad = record {
+  ok = (free, sym (same_check (texts (codes "TASK")) (texts (codes "turns")) (texts (codes "workers"))) ∙ ok);
+  usage = λ u. cc;
+}
+asks_check Check words f (Err e) is free texts ok bad = record {
+  ok = tt;
+  usage = λ u. inr (same_bad (texts (codes "turns")) (texts (codes "workers")) (bad u));
+}
+asks_check Replay words f r is free texts ok bad = cc
+asks_check Print words f r is free texts ok bad = cc
+
+pub asks_replay : (verb : Verb) (words : Words) (f : Text → Option Text) (r : Result Request WordsError) → verb ≡ Replay → faults_of verb words ≡ [] → ((id : Text) → f id ≡ text_of verb id words) →
+    IfOk r (λ (q : Request). replay_by (f (codes "TASK")) (f (codes "INPUT")) (f (codes "turns")) (f (codes "workers")) ≡ Some (asked_in q)) → (IsErrOf r Usage → HasBadNumber (f (codes "turns")) (f (codes "workers"))) → Asks verb words r
+asks_replay Replay words f (Ok q) is free texts ok bad = record {
+  ok = (free, sym (same_replay (texts (codes "TASK")) (texts (codes "INPUT")) (texts (codes "turns")) (texts (codes "workers"))) ∙ ok);
+  usage = λ u. cc;
+}
+asks_replay Replay words f (Err e) is free texts ok bad = record {
+  ok = tt;
+  usage = λ u. inr (same_bad (texts (codes "turns")) (texts (codes "workers")) (bad u));
+}
+asks_replay Check words f r is free texts ok bad = cc
+asks_replay Print words f r is free texts ok bad = cc
+
+pub asks_print : (verb : Verb) (words : Words) (f : Text → Option Text) (q : Request) → verb ≡ Print → faults_of verb words ≡ [] → ((id : Text) → f id ≡ text_of verb id words) →
+    print_by (f (codes "TASK")) ≡ Some (asked_in q) → (faults_of verb words ≡ []) × (asked_by verb words ≡ Some (asked_in q))
+asks_print Print words f q is free texts ok = (free, sym (ap print_by (texts (codes "TASK"))) ∙ ok)
+asks_print Check words f q is free texts ok = cc
+asks_print Replay words f q is free texts ok = cc

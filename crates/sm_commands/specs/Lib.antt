@@ -1,0 +1,11 @@
+pub mod Copies
+pub mod Tables
+pub mod Words
+pub mod Requests
+pub mod Lines
+pub mod Reading
+pub mod Stops
+pub mod Check
+pub mod Replay
+pub mod Answers
+pub mod Status

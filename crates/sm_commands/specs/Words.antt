@@ -1,0 +1,154 @@
+-- The words that the program is given, without its name: a command, and what `clap` says that this command takes.
+use Rattle.std.specs.Prelude.{◌≡◌, ◌≢◌, ◌⊎◌, ◌&&◌, ℕ, Bool, true, nat_le, length, List, [], ◌∷◌, Option, Some, None, codes, if◌then◌else◌, option_and_then, option_map}
+use Rattle.std.specs.Str.{bytes_eq, all_ascii_digits}
+use Rattle.std.specs.Str.Parse.{digits_value}
+use Rattle.clap.specs.Faults.{fault_of}
+use Rattle.clap.specs.Kinds.{Kinds}
+use Rattle.clap.specs.Simple.{App, matches_of, new_app, new_rule, with_rule}
+use Rattle.clap.specs.Walk.{Rule, Text, first_of}
+use Rattle.clap.specs.declared.builder.action.ArgAction.TheVariants.{Set}
+use Rattle.sm_commands.specs.declared.words.Verb.{Verb}
+use Rattle.sm_commands.specs.declared.words.Verb.TheVariants.{Check, Replay, Print}
+
+-- the words that the program was given
+abbrev pub Words : Type 0
+Words = List Text
+
+-- a word that has to be there
+abbrev pub required_word : Text → Rule
+required_word id = record (new_rule id) { required = true; action = Some Set }
+
+-- an option with a value
+abbrev pub option_word : Text → Rule
+option_word id = record (new_rule id) { long = Some id; action = Some Set }
+
+-- check TASK [--turns N] [--workers N]
+unfoldable pub check_command : App
+check_command = with_rule (with_rule (with_rule (new_app (codes "check")) (required_word (codes "TASK"))) (option_word (codes "turns"))) (option_word (codes "workers"))
+
+-- replay TASK INPUT [--turns N] [--workers N]
+unfoldable pub replay_command : App
+replay_command = with_rule (with_rule (with_rule (with_rule (new_app (codes "replay")) (required_word (codes "TASK"))) (required_word (codes "INPUT"))) (option_word (codes "turns"))) (option_word (codes "workers"))
+
+-- print TASK
+unfoldable pub print_command : App
+print_command = with_rule (new_app (codes "print")) (required_word (codes "TASK"))
+
+-- what `clap` knows of a command
+abbrev pub command_of : Verb → App
+command_of Check = check_command
+command_of Replay = replay_command
+command_of Print = print_command
+
+-- the command that a word names
+abbrev pub verb_of : Text → Option Verb
+verb_of word = if bytes_eq word (codes "check") then Some Check else (if bytes_eq word (codes "replay") then Some Replay else (if bytes_eq word (codes "print") then Some Print else None))
+
+-- what `clap` finds wrong with the words of a command: nothing where the command takes them
+unfoldable pub faults_of : Verb → Words → Kinds
+faults_of verb words = fault_of (command_of verb) words
+
+-- the text that the words give for an argument of a command
+unfoldable pub text_of : Verb → Text → Words → Option Text
+text_of verb id words = first_of id (matches_of (command_of verb) words)
+
+-- whether a text is one to ten digits
+abbrev pub is_number : Text → Bool
+is_number text = all_ascii_digits text && (nat_le 1 (length text) && nat_le (length text) 10)
+
+-- the number that a text spells, where its value lies between the least and the greatest
+abbrev pub number_of : ℕ → ℕ → Text → Option ℕ
+number_of least most text = let n = digits_value 10 text in if is_number text && (nat_le least n && nat_le n most) then Some n else None
+
+-- the number of an option: where the option isn't there, its default
+abbrev pub number_or : ℕ → ℕ → ℕ → Option Text → Option ℕ
+number_or default least most None = Some default
+number_or default least most (Some text) = number_of least most text
+
+-- how many turns a loop may take, by the option's text
+abbrev pub turns_by : Option Text → Option ℕ
+turns_by = number_or 10000 1 1000000
+
+-- how many workers run jobs, by the option's text
+abbrev pub workers_by : Option Text → Option ℕ
+workers_by = number_or 1 1 64
+
+-- one of the numbers isn't one, or isn't in its range
+abbrev pub HasBadNumber : Option Text → Option Text → Type 0
+HasBadNumber turns workers = (turns_by turns ≡ None) ⊎ (workers_by workers ≡ None)
+
+-- a number among the words of a command isn't one, or isn't in its range
+abbrev pub HasBadOption : Verb → Words → Type 0
+HasBadOption Check words = HasBadNumber (text_of Check (codes "turns") words) (text_of Check (codes "workers") words)
+HasBadOption Replay words = HasBadNumber (text_of Replay (codes "turns") words) (text_of Replay (codes "workers") words)
+HasBadOption Print words = ⊥
+
+-- the words are none of the command's: `clap` refuses them, or a number isn't one
+abbrev pub IsRefused : Option Verb → Words → Type 0
+IsRefused None words = Unit {0}
+IsRefused (Some verb) words = (faults_of verb words ≢ []) ⊎ HasBadOption verb words
+
+-- no command takes the words
+abbrev pub IsUsage : Words → Type 0
+IsUsage [] = Unit {0}
+IsUsage (word ∷ rest) = IsRefused (verb_of word) (word ∷ rest)
+
+-- what is asked for
+pub data Asked : Type 0 where
+  -- the decision on a task's file, with so many turns for a loop and so many workers
+  check : List ℕ → ℕ → ℕ → Asked
+  -- what a task's programs do from an input's file
+  replay : List ℕ → List ℕ → ℕ → Asked
+  -- the canonical text of a task's file
+  print : List ℕ → Asked
+
+-- the file of the task
+abbrev pub task_file : Asked → Text
+task_file (check task turns workers) = task
+task_file (replay task input turns) = task
+task_file (print task) = task
+
+-- what `check` asks for, by the texts of its arguments
+abbrev pub check_by : Option Text → Option Text → Option Text → Option Asked
+check_by task turns workers = option_and_then (λ (t : Text). option_and_then (λ (n : ℕ). option_map (λ (w : ℕ). check t n w) (workers_by workers)) (turns_by turns)) task
+
+-- what `replay` asks for; its workers change nothing
+abbrev pub replay_by : Option Text → Option Text → Option Text → Option Text → Option Asked
+replay_by task input turns workers = option_and_then (λ (t : Text). option_and_then (λ (i : Text). option_and_then (λ (n : ℕ). option_map (λ (w : ℕ). replay t i n) (workers_by workers)) (turns_by turns)) input) task
+
+-- what `print` asks for
+abbrev pub print_by : Option Text → Option Asked
+print_by task = option_map (λ (t : Text). print t) task
+
+-- what a command asks for by its words
+abbrev pub asked_by : Verb → Words → Option Asked
+asked_by Check words = check_by (text_of Check (codes "TASK") words) (text_of Check (codes "turns") words) (text_of Check (codes "workers") words)
+asked_by Replay words = replay_by (text_of Replay (codes "TASK") words) (text_of Replay (codes "INPUT") words) (text_of Replay (codes "turns") words) (text_of Replay (codes "workers") words)
+asked_by Print words = print_by (text_of Print (codes "TASK") words)
+
+-- the value where there is no fault
+abbrev pub unless : {X Y : Type 0} → List X → Option Y → Option Y
+unless [] value = value
+unless (fault ∷ rest) value = None
+
+-- what the words ask for, where the command takes them
+abbrev pub asked_where : Option Verb → Words → Option Asked
+asked_where None words = None
+asked_where (Some verb) words = unless (faults_of verb words) (asked_by verb words)
+
+-- what the words ask for; nothing where no command takes them
+abbrev pub asked : Words → Option Asked
+asked [] = None
+asked (word ∷ rest) = asked_where (verb_of word) (word ∷ rest)
+
+-- the line on words that no command takes
+abbrev pub usage_line_of : Option Verb → List ℕ
+usage_line_of None = codes "Usage\n"
+usage_line_of (Some Check) = codes "Usage check\n"
+usage_line_of (Some Replay) = codes "Usage replay\n"
+usage_line_of (Some Print) = codes "Usage print\n"
+
+-- the line on words that no command takes, by the first of them
+abbrev pub usage_line : Words → List ℕ
+usage_line [] = codes "Usage\n"
+usage_line (word ∷ rest) = usage_line_of (verb_of word)

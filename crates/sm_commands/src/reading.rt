@@ -1,0 +1,149 @@
+// Files of tasks and of inputs.
+ghost use Rattle.std.specs.Prelude.{◌≡◌, ◌^◌, ◌<◌, ℕ, List, None, length, IfOk, IfErr};
+ghost use Rattle.sm_syntax.specs.Spells.{Spells};
+ghost use Rattle.sm_task.specs.Tasks.{parts_of};
+ghost use Rattle.sm_eval.specs.Slots.{sorts_of};
+ghost use Rattle.sm_replay.specs.Inputs.{IsInput};
+ghost use Rattle.sm_replay.specs.Sorted.{sort_fault};
+ghost use Rattle.sm_replay.specs.Written.{AreNamed};
+ghost use Rattle.sm_syntax.specs.Parts.{sort_of};
+ghost use Rattle.sm_syntax.specs.Programs.{declared_of};
+ghost use Rattle.sm_text.specs.Named.{HasText};
+ghost use Rattle.sm_commands.specs.Replay.{GivesInput, GivesNoInput, IsNoInput};
+ghost use Rattle.sm_commands.specs.Reading.{GivesNoBytes, GivesNoTask, GivesTask, IsNoTask, IsRead};
+ghost use Rattle.sm_commands.specs.Stops.{Stops};
+ghost use Rattle.sm_commands.specs.declared.reading.Stop.TheVariants.{Memory};
+
+use crate::lines::{input_refusal_line, line, refusal_line};
+use crate::status::{Reply, Status};
+use sm_eval::Store;
+use sm_io::{ReadError, Shelf, read_all};
+use sm_replay::{InputError, read_input};
+use sm_task::{Task, TaskError, parse_task};
+use std::alloc::{AllocError, Global};
+
+/// How many bytes the file of a task, or of an input, may have.
+const FILE_LIMIT: u64 = 1048576;
+
+/// Why there is nothing to go on with: the answer is known, or memory is wanting.
+#[derive(Drop)]
+pub enum Stop {
+    Answer(Reply),
+    Memory,
+}
+
+impl From<AllocError> for Stop {
+    ghost from_gives = { λ _ e. e ≡ Memory };
+
+    fn from(_error: AllocError) -> Stop {
+        Stop::Memory
+    }
+}
+
+/// The bytes of a file of this kind.
+pub fn bytes_in<H: Shelf>(
+    alloc: Global,
+    shelf: &mut H,
+    name: &str,
+    kind: &str,
+) -> Result<Vec<u8>, Stop>
+    ensures ok { IfOk result (λ bytes. IsRead (H.file shelf.old name.now)
+        (H.read_faults shelf.old) (H.read_faults shelf.new) bytes.items) }
+    ensures stop { IfErr result (Stops (GivesNoBytes kind.now (H.file shelf.old name.now)
+        (H.read_faults shelf.old) (H.read_faults shelf.new))) }
+    ensures same { (other : List ℕ) → H.file shelf.new other ≡ H.file shelf.old other }
+    ensures writes { H.write_faults shelf.new ≡ H.write_faults shelf.old }
+{
+    match read_all(alloc, shelf, name, FILE_LIMIT) {
+        Ok(bytes) => Ok(bytes),
+        Err(ReadError::Memory) => Err(Stop::Memory),
+        Err(ReadError::TooLong) => Err(Stop::Answer(Reply {
+            status: Status::Refused,
+            text: line(alloc, "TooLong", &[kind])?,
+        })),
+        Err(ReadError::Fault) => Err(Stop::Answer(Reply {
+            status: Status::ReadFault,
+            text: line(alloc, "ReadFault", &[])?,
+        })),
+    }
+}
+
+/// The task that a file's bytes spell.
+pub fn task_in<H: Shelf>(alloc: Global, shelf: &mut H, name: &str) -> Result<Task, Stop>
+    ensures ok { IfOk result (λ t. GivesTask (H.file shelf.old name.now)
+        (H.read_faults shelf.old) (H.read_faults shelf.new) (parts_of t)) }
+    ensures printable { IfOk result (λ t. HasText (parts_of t)) }
+    ensures runs { IfOk result (λ t. sort_fault (parts_of t) ≡ None) }
+    ensures named { IfOk result (λ t. AreNamed (parts_of t).names (sort_of (parts_of t).declared)) }
+    ensures stop { IfErr result (Stops (GivesNoTask (H.file shelf.old name.now)
+        (H.read_faults shelf.old) (H.read_faults shelf.new))) }
+    ensures same { (other : List ℕ) → H.file shelf.new other ≡ H.file shelf.old other }
+    ensures writes { H.write_faults shelf.new ≡ H.write_faults shelf.old }
+{
+    let bytes = bytes_in(alloc, shelf, name, "task")?;
+    task_of(alloc, &bytes)
+}
+
+/// The task that bytes spell, of which there are fewer than 2^32.
+#[tactic(auto, using(sm_replay::proofs::Running::spelled_runs))]
+pub fn task_of(alloc: Global, bytes: &[u8]) -> Result<Task, Stop>
+    requires { length bytes.now < 2 ^ 32 }
+    ensures ok { IfOk result (λ t. Spells bytes.now (parts_of t)) }
+    ensures printable { IfOk result (λ t. HasText (parts_of t)) }
+    ensures runs { IfOk result (λ t. sort_fault (parts_of t) ≡ None) }
+    ensures named { IfOk result (λ t. AreNamed (parts_of t).names (sort_of (parts_of t).declared)) }
+    ensures stop { IfErr result (Stops (IsNoTask bytes.now)) }
+{
+    match parse_task(alloc, bytes) {
+        Ok(task) => Ok(task),
+        Err(TaskError::Memory) => Err(Stop::Memory),
+        Err(error) => {
+            let names = sm_text::names(alloc, bytes)?;
+            let text = refusal_line(alloc, &names, error)?;
+            Err(Stop::Answer(Reply {
+                status: Status::Refused,
+                text,
+            }))
+        }
+    }
+}
+
+/// The store that a file's bytes give as an input of the task.
+pub fn input_in<H: Shelf>(
+    alloc: Global,
+    shelf: &mut H,
+    name: &str,
+    task: &Task,
+) -> Result<Store, Stop>
+    ensures ok { IfOk result (GivesInput (parts_of task.now) (H.file shelf.old name.now)
+        (H.read_faults shelf.old) (H.read_faults shelf.new)) }
+    ensures declared { IfOk result (λ s. sorts_of s ≡ sort_of (declared_of task.now.shared.decls)) }
+    ensures stop { IfErr result (Stops (GivesNoInput (parts_of task.now) (H.file shelf.old name.now)
+        (H.read_faults shelf.old) (H.read_faults shelf.new))) }
+    ensures same { (other : List ℕ) → H.file shelf.new other ≡ H.file shelf.old other }
+    ensures writes { H.write_faults shelf.new ≡ H.write_faults shelf.old }
+{
+    let bytes = bytes_in(alloc, shelf, name, "input")?;
+    input_of(alloc, &bytes, task)
+}
+
+/// The store that bytes give as an input of the task, of which there are fewer than 2^32.
+pub fn input_of(alloc: Global, bytes: &[u8], task: &Task) -> Result<Store, Stop>
+    requires { length bytes.now < 2 ^ 32 }
+    ensures ok { IfOk result (IsInput task.now.shared.names
+        (sort_of (declared_of task.now.shared.decls)) bytes.now) }
+    ensures stop { IfErr result (Stops (IsNoInput (parts_of task.now) bytes.now)) }
+{
+    let names = &task.shared.names;
+    match read_input(alloc, &task.shared.decls, names, bytes) {
+        Ok(store) => Ok(store),
+        Err(InputError::Memory) => Err(Stop::Memory),
+        Err(error) => {
+            let text = input_refusal_line(alloc, names, error)?;
+            Err(Stop::Answer(Reply {
+                status: Status::Refused,
+                text,
+            }))
+        }
+    }
+}

@@ -1,0 +1,254 @@
+// The top call: words, files and standard output.
+ghost use Rattle.std.specs.Prelude.{◌≡◌, ◌≢◌, ◌⊎◌, ◌↔◌, ◌<◌, ◌≤◌, ℕ, List, None, Some, length, map, IfOk, IfErr, IfSome};
+ghost use Rattle.std.specs.String.{string_bytes};
+ghost use Rattle.sm_io.specs.Causes.{HasCause};
+ghost use Rattle.sm_io.specs.Files.{WhereHeld};
+ghost use Rattle.sm_io.specs.Sinks.{Adds};
+ghost use Rattle.sm_replay.specs.Sorted.{sort_fault};
+ghost use Rattle.sm_task.specs.Tasks.{parts_of};
+ghost use Rattle.sm_text.specs.Canonical.{task_pieces};
+ghost use Rattle.sm_text.specs.Named.{HasText};
+ghost use Rattle.sm_text.specs.Pieces.{text_of};
+ghost use Rattle.sm_commands.specs.Answers.{Answers, AnswersAsked, Checks, Prints, Replays, IsAnswer, IsSafeMerge, IsUnsafeMerge, PutsPart, ShowsInput};
+ghost use Rattle.sm_commands.specs.Reading.{Says};
+ghost use Rattle.sm_commands.specs.Replay.{ReplaysInput};
+ghost use Rattle.sm_commands.specs.Requests.{asked_in, HasWorkers};
+ghost use Rattle.sm_commands.specs.Stops.{Stops};
+ghost use Rattle.sm_commands.specs.Words.{Asked, asked, check, task_file, usage_line, IsUsage};
+
+use crate::check::check;
+use crate::reading::{Stop, input_in, task_in};
+use crate::replay::replay;
+use crate::status::{Reply, Status};
+use crate::words::{Request, WordsError, read_words, usage_line};
+use sm_io::{IoError, Shelf, Sink, put_all};
+use sm_par::Gate;
+use sm_task::{Task, print_task};
+use std::alloc::{AllocError, Global};
+use std::thread::Threads;
+
+/// What the program does with its words, which come without its name. It reads from `shelf` alone,
+/// and prints to `out` alone. Jobs run in threads of `rt`, and enter `gate` before they run.
+pub fn safemerge<R: Threads + Sync, G: Gate, H: Shelf, K: Sink>(
+    rt: &R,
+    alloc: Global,
+    gate: &G,
+    words: &[String],
+    shelf: &mut H,
+    out: &mut K,
+) -> Status
+    // Where `check` accepts, the file's bytes spell a task that is free of conflicts.
+    ensures accepted { result ≡ Status.Accepted → (task : List ℕ) (turns workers : ℕ) →
+        asked (map string_bytes words.now) ≡ Some (check task turns workers) →
+        WhereHeld (H.file shelf.old task) IsSafeMerge }
+    // Where `check` or `replay` answers Conflict, they spell a task that isn't.
+    ensures conflict { result ≡ Status.Conflict → (ask : Asked) →
+        asked (map string_bytes words.now) ≡ Some ask →
+        WhereHeld (H.file shelf.old (task_file ask)) IsUnsafeMerge }
+    // That of `check` prints an input that shows it.
+    ensures shown { result ≡ Status.Conflict → (task : List ℕ) (turns workers : ℕ) →
+        asked (map string_bytes words.now) ≡ Some (check task turns workers) →
+        (text : List ℕ) × ShowsInput (H.file shelf.old task) turns text
+        × Adds (K.taken out.old) (K.taken out.new) text }
+
+    // What is printed is the answer, whole.
+    ensures answers { IsAnswer result → (text : List ℕ)
+        × Answers (map string_bytes words.now) (H.file shelf.old)
+        (H.read_faults shelf.old) (H.read_faults shelf.new) result text
+        × Adds (K.taken out.old) (K.taken out.new) text }
+    ensures usage { IsAnswer result →
+        (result ≡ Status.Usage) ↔ IsUsage (map string_bytes words.now) }
+    ensures read_quiet { IsAnswer result → result ≢ Status.ReadFault →
+        H.read_faults shelf.new ≡ H.read_faults shelf.old }
+
+    // A fault of the output has its cause, and what was put before it is from the answer's front.
+    ensures sink { HasCause (K.faults out.old) (K.faults out.new) (result ≡ Status.SinkFault) }
+    ensures cut { result ≡ Status.SinkFault →
+        PutsPart (Answers (map string_bytes words.now) (H.file shelf.old)
+        (H.read_faults shelf.old) (H.read_faults shelf.new))
+        (K.taken out.old) (K.taken out.new) }
+    ensures memory { result ≡ Status.Memory → (K.taken out.new ≡ K.taken out.old)
+        ⊎ PutsPart (Answers (map string_bytes words.now) (H.file shelf.old)
+        (H.read_faults shelf.old) (H.read_faults shelf.new))
+        (K.taken out.old) (K.taken out.new) }
+
+    // No file changes.
+    ensures same { (name : List ℕ) → H.file shelf.new name ≡ H.file shelf.old name }
+    ensures writes { H.write_faults shelf.new ≡ H.write_faults shelf.old }
+{
+    let Some(reply) = reply_to(rt, alloc, gate, words, shelf) else {
+        return Status::Memory;
+    };
+    match put_all(out, &reply.text) {
+        Ok(()) => reply.status,
+        Err(IoError::Fault) => Status::SinkFault,
+        Err(IoError::Memory) => Status::Memory,
+    }
+}
+
+// The answer to the words; none for want of memory.
+fn reply_to<R: Threads + Sync, G: Gate, H: Shelf>(
+    rt: &R,
+    alloc: Global,
+    gate: &G,
+    words: &[String],
+    shelf: &mut H,
+) -> Option<Reply>
+    ensures answers { IfSome result (λ r. Answers (map string_bytes words.now) (H.file shelf.old)
+        (H.read_faults shelf.old) (H.read_faults shelf.new) r.status r.text.items) }
+    ensures same { (name : List ℕ) → H.file shelf.new name ≡ H.file shelf.old name }
+    ensures writes { H.write_faults shelf.new ≡ H.write_faults shelf.old }
+{
+    match answer(rt, alloc, gate, words, shelf) {
+        Ok(reply) => Some(reply),
+        Err(Stop::Answer(reply)) => Some(reply),
+        Err(Stop::Memory) => None,
+    }
+}
+
+// The answer to the words, as what the commands come to or where they stop.
+fn answer<R: Threads + Sync, G: Gate, H: Shelf>(
+    rt: &R,
+    alloc: Global,
+    gate: &G,
+    words: &[String],
+    shelf: &mut H,
+) -> Result<Reply, Stop>
+    ensures ok { IfOk result (λ r. Answers (map string_bytes words.now) (H.file shelf.old)
+        (H.read_faults shelf.old) (H.read_faults shelf.new) r.status r.text.items) }
+    ensures stop { IfErr result (Stops (Answers (map string_bytes words.now) (H.file shelf.old)
+        (H.read_faults shelf.old) (H.read_faults shelf.new))) }
+    ensures same { (name : List ℕ) → H.file shelf.new name ≡ H.file shelf.old name }
+    ensures writes { H.write_faults shelf.new ≡ H.write_faults shelf.old }
+{
+    match read_words(alloc, words) {
+        Ok(request) => answer_to(rt, alloc, gate, request, shelf),
+        Err(WordsError::Usage) => Ok(usage(alloc, words)?),
+        Err(WordsError::Memory) => Err(Stop::Memory),
+    }
+}
+
+// The answer to words that no command takes.
+fn usage(alloc: Global, words: &[String]) -> Result<Reply, AllocError>
+    ensures { IfOk result (λ r. Says Status.Usage (usage_line (map string_bytes words.now)) r.status r.text.items) }
+{
+    let text = usage_line(alloc, words)?;
+    Ok(Reply {
+        status: Status::Usage,
+        text,
+    })
+}
+
+// The answer to what the words ask for.
+fn answer_to<R: Threads + Sync, G: Gate, H: Shelf>(
+    rt: &R,
+    alloc: Global,
+    gate: &G,
+    request: Request<'_>,
+    shelf: &mut H,
+) -> Result<Reply, Stop>
+    requires { HasWorkers request }
+    ensures ok { IfOk result (λ r. AnswersAsked (asked_in request.entry) (H.file shelf.old)
+        (H.read_faults shelf.old) (H.read_faults shelf.new) r.status r.text.items) }
+    ensures stop { IfErr result (Stops (AnswersAsked (asked_in request.entry) (H.file shelf.old)
+        (H.read_faults shelf.old) (H.read_faults shelf.new))) }
+    ensures same { (name : List ℕ) → H.file shelf.new name ≡ H.file shelf.old name }
+    ensures writes { H.write_faults shelf.new ≡ H.write_faults shelf.old }
+{
+    match request {
+        Request::Check {
+            task,
+            turns,
+            workers,
+        } => check_in(rt, alloc, gate, shelf, task, turns, workers),
+        Request::Replay { task, input, turns } => replay_in(alloc, shelf, task, input, turns),
+        Request::Print { task } => print_in(alloc, shelf, task),
+    }
+}
+
+// The answer of `check` to a task's file.
+fn check_in<R: Threads + Sync, G: Gate, H: Shelf>(
+    rt: &R,
+    alloc: Global,
+    gate: &G,
+    shelf: &mut H,
+    name: &str,
+    turns: u64,
+    workers: u32,
+) -> Result<Reply, Stop>
+    requires { (0 < workers) × (workers ≤ 64) }
+    ensures ok { IfOk result (λ r. Checks (H.file shelf.old name.now) turns
+        (H.read_faults shelf.old) (H.read_faults shelf.new) r.status r.text.items) }
+    ensures stop { IfErr result (Stops (Checks (H.file shelf.old name.now) turns
+        (H.read_faults shelf.old) (H.read_faults shelf.new))) }
+    ensures same { (other : List ℕ) → H.file shelf.new other ≡ H.file shelf.old other }
+    ensures writes { H.write_faults shelf.new ≡ H.write_faults shelf.old }
+{
+    let task = task_in(alloc, shelf, name)?;
+    Ok(check(rt, alloc, gate, &task, turns, workers)?)
+}
+
+// The answer of `replay` to a task's file and an input's.
+fn replay_in<H: Shelf>(
+    alloc: Global,
+    shelf: &mut H,
+    name: &str,
+    input: &str,
+    turns: u64,
+) -> Result<Reply, Stop>
+    ensures ok { IfOk result (λ r. Replays (H.file shelf.old name.now) (H.file shelf.old input.now)
+        turns (H.read_faults shelf.old) (H.read_faults shelf.new) r.status r.text.items) }
+    ensures stop { IfErr result (Stops (Replays (H.file shelf.old name.now)
+        (H.file shelf.old input.now) turns (H.read_faults shelf.old) (H.read_faults shelf.new))) }
+    ensures same { (other : List ℕ) → H.file shelf.new other ≡ H.file shelf.old other }
+    ensures writes { H.write_faults shelf.new ≡ H.write_faults shelf.old }
+{
+    let task = task_in(alloc, shelf, name)?;
+    replay_task(alloc, shelf, &task, input, turns)
+}
+
+// The answer of `replay` to a task and an input's file.
+fn replay_task<H: Shelf>(
+    alloc: Global,
+    shelf: &mut H,
+    task: &Task,
+    input: &str,
+    turns: u64,
+) -> Result<Reply, Stop>
+    requires { sort_fault (parts_of task.now) ≡ None }
+    ensures ok { IfOk result (λ r. ReplaysInput (parts_of task.now) (H.file shelf.old input.now)
+        turns (H.read_faults shelf.old) (H.read_faults shelf.new) r.status r.text.items) }
+    ensures stop { IfErr result (Stops (ReplaysInput (parts_of task.now)
+        (H.file shelf.old input.now) turns (H.read_faults shelf.old) (H.read_faults shelf.new))) }
+    ensures same { (other : List ℕ) → H.file shelf.new other ≡ H.file shelf.old other }
+    ensures writes { H.write_faults shelf.new ≡ H.write_faults shelf.old }
+{
+    let store = input_in(alloc, shelf, input, task)?;
+    Ok(replay(alloc, task, &store, turns)?)
+}
+
+// The answer of `print` to a task's file.
+fn print_in<H: Shelf>(alloc: Global, shelf: &mut H, name: &str) -> Result<Reply, Stop>
+    ensures ok { IfOk result (λ r. Prints (H.file shelf.old name.now)
+        (H.read_faults shelf.old) (H.read_faults shelf.new) r.status r.text.items) }
+    ensures stop { IfErr result (Stops (Prints (H.file shelf.old name.now)
+        (H.read_faults shelf.old) (H.read_faults shelf.new))) }
+    ensures same { (other : List ℕ) → H.file shelf.new other ≡ H.file shelf.old other }
+    ensures writes { H.write_faults shelf.new ≡ H.write_faults shelf.old }
+{
+    let task = task_in(alloc, shelf, name)?;
+    Ok(print(alloc, &task)?)
+}
+
+// The canonical text of a task, as an answer.
+fn print(alloc: Global, task: &Task) -> Result<Reply, AllocError>
+    requires { HasText (parts_of task.now) }
+    ensures { let t = parts_of task.now in
+        IfOk result (λ r. Says Status.Accepted (text_of t.names (task_pieces t)) r.status r.text.items) }
+{
+    let text = print_task(alloc, task)?;
+    Ok(Reply {
+        status: Status::Accepted,
+        text,
+    })
+}

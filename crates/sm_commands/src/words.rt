@@ -1,0 +1,350 @@
+// What the words ask for.
+ghost use Rattle.std.specs.Prelude.{◌≡◌, ◌≢◌, ◌<◌, ◌≤◌, ◌&&◌, true, false, nat_le, [], Some, None, is_some, length, map, codes, option_map, ℕ, List, IfOk, IfErr, IfSome, IsErrOf};
+ghost use Rattle.std.specs.Str.{all_ascii_digits};
+ghost use Rattle.std.specs.Str.Parse.{digits_value};
+ghost use Rattle.std.specs.String.{string_bytes};
+ghost use Rattle.clap.specs.Words.{app_of, first_value, found_of, kind_of, rule_of};
+ghost use Rattle.sm_commands.specs.Requests.{asked_in, HasRequired, HasWorkers};
+ghost use Rattle.sm_commands.specs.Words.{asked, asked_by, check_by, check_command, command_of, faults_of, is_number, number_of, number_or, option_word, print_by, print_command, replay_by, replay_command, required_word, text_of, turns_by, usage_line, verb_of, workers_by, HasBadNumber, IsRefused, IsUsage};
+ghost use Rattle.sm_commands.specs.declared.words.WordsError.TheVariants.{Memory};
+
+use crate::lines::line;
+use clap::error::ErrorKind;
+use clap::{Arg, ArgAction, ArgMatches, Command, Error};
+use std::alloc::{AllocError, Global};
+use thiserror::Error as ErrorText;
+
+/// What the words ask for. Files are named as the words name them.
+#[derive(Clone, Copy, Debug, PartialEq, Eq)]
+pub enum Request<'a> {
+    /// The decision on a task, with so many turns for a loop at most, and so many workers.
+    Check {
+        task: &'a str,
+        turns: u64,
+        workers: u32,
+    },
+    /// What a task's programs do from an input, with so many turns for a loop at most.
+    Replay {
+        task: &'a str,
+        input: &'a str,
+        turns: u64,
+    },
+    /// The canonical text of a task.
+    Print {
+        task: &'a str,
+    },
+}
+
+/// The commands.
+#[derive(Clone, Copy, Debug, PartialEq, Eq)]
+pub enum Verb {
+    Check,
+    Replay,
+    Print,
+}
+
+/// Why words ask for nothing.
+#[derive(Clone, Copy, Debug, PartialEq, Eq, ErrorText)]
+pub enum WordsError {
+    #[error("no command takes these words")]
+    Usage,
+    #[error("out of memory")]
+    Memory,
+}
+
+impl From<AllocError> for WordsError {
+    ghost from_gives = { λ _ e. e ≡ Memory };
+
+    fn from(_error: AllocError) -> WordsError {
+        WordsError::Memory
+    }
+}
+
+/// What the words ask for; Usage where no command takes them.
+pub fn read_words<'a>(alloc: Global, words: &'a [String]) -> Result<Request<'a>, WordsError>
+    ensures ok { IfOk result (λ r. asked (map string_bytes words.entry.now) ≡ Some (asked_in r)) }
+    ensures usage { IsErrOf result WordsError.Usage → IsUsage (map string_bytes words.entry.now) }
+    ensures workers { IfOk result HasWorkers }
+{
+    match words {
+        [word, ..] => match verb_of(word.as_str()) {
+            Some(verb) => request_by(alloc, verb, words),
+            None => Err(WordsError::Usage),
+        },
+        [] => Err(WordsError::Usage),
+    }
+}
+
+/// The line on words that no command takes.
+pub fn usage_line(alloc: Global, words: &[String]) -> Result<Vec<u8>, AllocError>
+    ensures { IfOk result (λ text. text.items ≡ usage_line (map string_bytes words.now)) }
+{
+    match words {
+        [word, ..] => match verb_of(word.as_str()) {
+            Some(Verb::Check) => line(alloc, "Usage", &["check"]),
+            Some(Verb::Replay) => line(alloc, "Usage", &["replay"]),
+            Some(Verb::Print) => line(alloc, "Usage", &["print"]),
+            None => line(alloc, "Usage", &[]),
+        },
+        [] => line(alloc, "Usage", &[]),
+    }
+}
+
+// The command that a word names.
+fn verb_of(word: &str) -> Option<Verb>
+    ensures { result ≡ verb_of word.now }
+{
+    match word {
+        "check" => Some(Verb::Check),
+        "replay" => Some(Verb::Replay),
+        "print" => Some(Verb::Print),
+        _ => None,
+    }
+}
+
+// What a command asks for by its words.
+fn request_by<'a>(alloc: Global, verb: Verb, words: &'a [String]) -> Result<Request<'a>, WordsError>
+    ensures ok { let given = map string_bytes words.entry.now in
+        IfOk result (λ r. (faults_of verb given ≡ []) × (asked_by verb given ≡ Some (asked_in r))) }
+    ensures usage { IsErrOf result WordsError.Usage →
+        IsRefused (Some verb) (map string_bytes words.entry.now) }
+    ensures workers { IfOk result HasWorkers }
+{
+    let matches = matches_of(alloc, verb, words)?;
+    match verb {
+        Verb::Check => check_request(&matches),
+        Verb::Replay => replay_request(&matches),
+        Verb::Print => Ok(print_request(&matches)),
+    }
+}
+
+fn check_request<'a>(matches: &ArgMatches<'a>) -> Result<Request<'a>, WordsError>
+    requires { is_some (first_value (found_of matches.now) (codes "TASK")) ≡ true }
+    ensures ok { let given = first_value (found_of matches.now) in IfOk result (λ r.
+        check_by (given (codes "TASK")) (given (codes "turns")) (given (codes "workers"))
+        ≡ Some (asked_in r)) }
+    ensures usage { let given = first_value (found_of matches.now) in IsErrOf result WordsError.Usage →
+        HasBadNumber (given (codes "turns")) (given (codes "workers")) }
+    ensures workers { IfOk result HasWorkers }
+{
+    let turns = turns_by(matches.get_str("turns"))?;
+    let workers = workers_by(matches.get_str("workers"))?;
+    Ok(Request::Check {
+        task: text_in(matches, "TASK"),
+        turns,
+        workers,
+    })
+}
+
+fn replay_request<'a>(matches: &ArgMatches<'a>) -> Result<Request<'a>, WordsError>
+    requires task { is_some (first_value (found_of matches.now) (codes "TASK")) ≡ true }
+    requires input { is_some (first_value (found_of matches.now) (codes "INPUT")) ≡ true }
+    ensures ok { let given = first_value (found_of matches.now) in IfOk result (λ r.
+        replay_by (given (codes "TASK")) (given (codes "INPUT")) (given (codes "turns")) (given (codes "workers"))
+        ≡ Some (asked_in r)) }
+    ensures usage { let given = first_value (found_of matches.now) in IsErrOf result WordsError.Usage →
+        HasBadNumber (given (codes "turns")) (given (codes "workers")) }
+    ensures workers { IfOk result HasWorkers }
+{
+    let turns = turns_by(matches.get_str("turns"))?;
+    let _workers = workers_by(matches.get_str("workers"))?;
+    Ok(Request::Replay {
+        task: text_in(matches, "TASK"),
+        input: text_in(matches, "INPUT"),
+        turns,
+    })
+}
+
+fn print_request<'a>(matches: &ArgMatches<'a>) -> Request<'a>
+    requires { is_some (first_value (found_of matches.now) (codes "TASK")) ≡ true }
+    ensures ok { print_by (first_value (found_of matches.now) (codes "TASK")) ≡ Some (asked_in result) }
+    ensures workers { HasWorkers result }
+{
+    Request::Print {
+        task: text_in(matches, "TASK"),
+    }
+}
+
+// ---- what `clap` knows of the commands
+
+fn required_word<'a>(alloc: Global, id: &'a str) -> Arg<'a>
+    ensures rule { rule_of result ≡ required_word id.entry.now }
+    ensures local { result.global ≡ false }
+{
+    Arg::new(alloc, id).required(true).action(ArgAction::Set)
+}
+
+fn option_word<'a>(alloc: Global, id: &'a str) -> Arg<'a>
+    ensures rule { rule_of result ≡ option_word id.entry.now }
+    ensures local { result.global ≡ false }
+{
+    Arg::new(alloc, id).long(id).action(ArgAction::Set)
+}
+
+fn command_of<'a>(alloc: Global, verb: Verb) -> Result<Command<'a>, AllocError>
+    ensures { IfOk result (λ c. app_of c ≡ command_of verb) }
+{
+    match verb {
+        Verb::Check => check_command(alloc),
+        Verb::Replay => replay_command(alloc),
+        Verb::Print => print_command(alloc),
+    }
+}
+
+#[tactic(auto, unfolding(crate::specs::Words::check_command))]
+fn check_command<'a>(alloc: Global) -> Result<Command<'a>, AllocError>
+    ensures { IfOk result (λ c. app_of c ≡ check_command) }
+{
+    Command::new(alloc, "check")
+        .arg(required_word(alloc, "TASK"))?
+        .arg(option_word(alloc, "turns"))?
+        .arg(option_word(alloc, "workers"))
+}
+
+#[tactic(auto, unfolding(crate::specs::Words::replay_command))]
+fn replay_command<'a>(alloc: Global) -> Result<Command<'a>, AllocError>
+    ensures { IfOk result (λ c. app_of c ≡ replay_command) }
+{
+    Command::new(alloc, "replay")
+        .arg(required_word(alloc, "TASK"))?
+        .arg(required_word(alloc, "INPUT"))?
+        .arg(option_word(alloc, "turns"))?
+        .arg(option_word(alloc, "workers"))
+}
+
+#[tactic(auto, unfolding(crate::specs::Words::print_command))]
+fn print_command<'a>(alloc: Global) -> Result<Command<'a>, AllocError>
+    ensures { IfOk result (λ c. app_of c ≡ print_command) }
+{
+    Command::new(alloc, "print").arg(required_word(alloc, "TASK"))
+}
+
+// ---- what the words give
+
+// The matches of a command on words that it takes.
+fn matches_of<'a>(
+    alloc: Global,
+    verb: Verb,
+    words: &'a [String],
+) -> Result<ArgMatches<'a>, WordsError>
+    ensures taken { IfOk result (λ _. faults_of verb (map string_bytes words.entry.now) ≡ []) }
+    ensures texts { IfOk result (λ m. (id : List ℕ) →
+        first_value (found_of m) id ≡ text_of verb id (map string_bytes words.entry.now)) }
+    ensures required { IfOk result (λ m. HasRequired verb (first_value (found_of m))) }
+    ensures usage { IsErrOf result WordsError.Usage →
+        faults_of verb (map string_bytes words.entry.now) ≢ [] }
+{
+    let command = command_of(alloc, verb)?;
+    match command.try_get_matches_from(words) {
+        Ok(matches) => Ok(matches),
+        Err(error) => Err(refusal_of(&error)),
+    }
+}
+
+fn refusal_of(error: &Error) -> WordsError
+    ensures { result ≡ WordsError.Usage → kind_of error.now ≢ ErrorKind.OutOfMemory }
+{
+    match error.kind() {
+        ErrorKind::OutOfMemory => WordsError::Memory,
+        _ => WordsError::Usage,
+    }
+}
+
+// The text of a word that has to be there.
+fn text_in<'a>(matches: &ArgMatches<'a>, id: &str) -> &'a str
+    requires { is_some (first_value (found_of matches.now) id.now) ≡ true }
+    ensures { first_value (found_of matches.now) id.now ≡ Some result.now }
+{
+    match matches.get_str(id) {
+        Some(text) => text,
+        None => unreachable!(),
+    }
+}
+
+// How many turns a loop may take.
+fn turns_by(text: Option<&str>) -> Result<u64, WordsError>
+    ensures ok { IfOk result (λ n. turns_by (option_map (λ t. t.now) text.entry) ≡ Some n) }
+    ensures usage { IfErr result (λ _. turns_by (option_map (λ t. t.now) text.entry) ≡ None) }
+{
+    match number_or(10000, 1, 1000000, text) {
+        Some(turns) => Ok(turns),
+        None => Err(WordsError::Usage),
+    }
+}
+
+// How many workers run jobs.
+fn workers_by(text: Option<&str>) -> Result<u32, WordsError>
+    ensures ok { IfOk result (λ n. workers_by (option_map (λ t. t.now) text.entry) ≡ Some n) }
+    ensures range { IfOk result (λ n. (0 < n) × (n ≤ 64)) }
+    ensures usage { IfErr result (λ _. workers_by (option_map (λ t. t.now) text.entry) ≡ None) }
+{
+    match number_or(1, 1, 64, text) {
+        Some(workers) => Ok(workers as u32),
+        None => Err(WordsError::Usage),
+    }
+}
+
+// ---- numbers
+
+fn number_or(default: u64, least: u64, most: u64, text: Option<&str>) -> Option<u64>
+    requires { (least ≤ default) × (default ≤ most) }
+    ensures value { result ≡ number_or default least most (option_map (λ t. t.now) text.entry) }
+    ensures range { IfSome result (λ n. (least ≤ n) × (n ≤ most)) }
+{
+    match text {
+        Some(text) => number_of(least, most, text),
+        None => Some(default),
+    }
+}
+
+// The number that a text spells, in its range.
+fn number_of(least: u64, most: u64, text: &str) -> Option<u64>
+    ensures value { result ≡ number_of least most text.now }
+    ensures range { IfSome result (λ n. (least ≤ n) × (n ≤ most)) }
+{
+    if !is_number(text) {
+        return None;
+    }
+    let n = value_of(text);
+    if least <= n && n <= most {
+        Some(n)
+    } else {
+        None
+    }
+}
+
+// Whether the text is one to ten digits.
+fn is_number(text: &str) -> bool
+    ensures { result ≡ is_number text.now }
+{
+    has_digits(text) && has_few(text.len())
+}
+
+fn has_few(size: usize) -> bool
+    ensures { result ≡ (nat_le 1 size && nat_le size 10) }
+{
+    1 <= size && size <= 10
+}
+
+fn has_digits(text: &str) -> bool
+    ensures { result ≡ all_ascii_digits text.now }
+{
+    let bytes = text.as_bytes();
+    for byte in bytes {
+        if !byte.is_ascii_digit() {
+            return false;
+        }
+    }
+    true
+}
+
+// The value of one to ten digits.
+fn value_of(text: &str) -> u64
+    requires { is_number text.now ≡ true }
+    ensures { result ≡ digits_value 10 text.now }
+{
+    match text.parse::<u64>() {
+        Ok(n) => n,
+        Err(_) => unreachable!(),
+    }
+}
