@@ -3,8 +3,9 @@ ghost use Rattle.std.specs.Prelude.{◌≡◌, ◌↔◌, IsTrue, IsNone, IfSome
 ghost use Rattle.sm_syntax.specs.FirstBroken.{IsFirstBroken};
 ghost use Rattle.sm_syntax.specs.Keeps.{Keeps, KeepsChange, AddsNothing};
 
-/// The first part of `Keeps` that fails at a cell with these four values: 1 for the change of A, 2 for that of B, 3 for
-/// a change that nobody made. None where the candidate keeps both changes and adds no other.
+/// The first part of `Keeps` that fails at a cell with these four values: 1 for the change of A, 2
+/// for that of B, 3 for a change that nobody made. None where the candidate keeps both changes and
+/// adds no other.
 pub fn keeps(base: i128, a: i128, b: i128, candidate: i128) -> Option<u8>
     ensures kept { IsNone result ↔ Keeps base a b candidate }
     ensures broken { IfSome result (λ part. IsFirstBroken part base a b candidate) }
@@ -30,35 +31,4 @@ fn adds_nothing(base: i128, a: i128, b: i128, candidate: i128) -> bool
     ensures { IsTrue result ↔ AddsNothing base a b candidate }
 {
     base != a || a != b || candidate == base
-}
-
-#[cfg(test)]
-mod tests {
-    use super::*;
-
-    #[test]
-    fn names_the_first_part_that_breaks(rt: HostRuntime) {
-        // base, A, B and candidate, and what breaks first
-        let cells = [
-            (4, 4, 4, 4, None),
-            (4, 4, 4, 5, Some(3)),
-            (4, 5, 4, 5, None),
-            (4, 5, 4, 4, Some(1)),
-            (4, 5, 4, 6, Some(1)),
-            (4, 4, 5, 5, None),
-            (4, 4, 5, 4, Some(2)),
-            (4, 5, 5, 5, None),
-            (4, 5, 5, 4, Some(1)),
-            (4, 5, 6, 5, Some(2)),
-            (4, 5, 6, 6, Some(1)),
-            (-4, 4, -4, 4, None),
-        ];
-        for (base, a, b, candidate, want) in cells {
-            assert_eq!(rt;
-                keeps(base, a, b, candidate),
-                want,
-                "at {base} {a} {b} {candidate}"
-            );
-        }
-    }
 }

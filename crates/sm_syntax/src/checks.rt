@@ -1,7 +1,9 @@
 // Whether a program and a condition are well formed.
 ghost use Rattle.std.specs.Prelude.{◌≡◌, ◌++◌, [], ◌∷◌, nat_eq, IfOk, IfErr};
 ghost use Rattle.std.specs.HashMap.{get};
-ghost use Rattle.sm_syntax.specs.Conditions.{double_name, first_output_fault, size_fault, program_fault, ill_assumed, first_sort_fault, names_in, names_tested, names_used};
+ghost use Rattle.sm_syntax.specs.Conditions.{double_name, first_output_fault, size_fault};
+ghost use Rattle.sm_syntax.specs.Conditions.{program_fault, ill_assumed, first_sort_fault};
+ghost use Rattle.sm_syntax.specs.Conditions.{names_in, names_tested, names_used};
 ghost use Rattle.sm_syntax.specs.Faults.{Reports};
 ghost use Rattle.sm_syntax.specs.Parts.{sort_of};
 ghost use Rattle.sm_syntax.specs.Programs.{declared_of, outputs_of};
@@ -24,8 +26,9 @@ const MAX_DEPTH: u64 = 64;
 // The sort with which each declared name is declared.
 type Sorts = HashMap<u32, Sort>;
 
-/// Whether no name is declared twice, each output is declared and stands once, each name of the body stands as it is
-/// declared, and the program is within the limits of size and depth. The first fault in this order is the error.
+/// Whether no name is declared twice, each output is declared and stands once, each name of the
+/// body stands as it is declared, and the program is within the limits of size and depth. The first
+/// fault in this order is the error.
 #[tactic(auto, using(crate::proofs::Uses::conditions), unfolding(crate::specs::Conditions::program_fault))]
 pub fn well_formed(alloc: Global, p: &Program) -> Result<(), SyntaxError>
     ensures { let outputs = outputs_of p.now.outputs in
@@ -41,7 +44,8 @@ pub fn well_formed(alloc: Global, p: &Program) -> Result<(), SyntaxError>
     check_size(nodes(&p.body), depth(&p.body))
 }
 
-/// Whether each name of a condition stands as it is declared, and the condition alone is within the limits.
+/// Whether each name of a condition stands as it is declared, and the condition alone is within the
+/// limits.
 #[tactic(auto, using(crate::proofs::Uses::conditions), unfolding(crate::specs::Conditions::ill_assumed))]
 pub fn well_formed_cond(alloc: Global, decls: &Decls, c: &Cond) -> Result<(), SyntaxError>
     ensures { Reports result (ill_assumed (declared_of decls.now) (Some (condition_of c.now))) }
@@ -94,7 +98,8 @@ fn check_declared(alloc: Global, decls: &Decls) -> Result<(), SyntaxError>
 
 // The outputs: each is declared, and none stands twice.
 fn check_outputs(alloc: Global, sorts: &Sorts, outputs: &Outputs) -> Result<(), SyntaxError>
-    ensures { Reports result (first_output_fault (get nat_eq sorts.now) [] (outputs_of outputs.now)) }
+    ensures { let names = outputs_of outputs.now in
+        Reports result (first_output_fault (get nat_eq sorts.now) [] names) }
 {
     let mut seen = HashSet::new(alloc);
     for name in &outputs.list {
@@ -123,7 +128,8 @@ fn check_name(sorts: &Sorts, name: Name, sort: Sort) -> Result<(), SyntaxError>
 #[cycle(check_expr)]
 #[tactic(auto, using(crate::proofs::Uses::walks))]
 fn check_expr(sorts: &Sorts, e: &Expr) -> Result<(), SyntaxError>
-    ensures { Reports result (first_sort_fault (get nat_eq sorts.now) (names_in (expression_of e.now))) }
+    ensures { let names = names_in (expression_of e.now) in
+        Reports result (first_sort_fault (get nat_eq sorts.now) names) }
 {
     match e {
         Expr::Num(_) => Ok(()),
@@ -151,7 +157,8 @@ fn check_two(sorts: &Sorts, d: &Expr, e: &Expr) -> Result<(), SyntaxError>
 // The names of a condition.
 #[tactic(auto, using(crate::proofs::Uses::walks))]
 fn check_cond(sorts: &Sorts, c: &Cond) -> Result<(), SyntaxError>
-    ensures { Reports result (first_sort_fault (get nat_eq sorts.now) (names_tested (condition_of c.now))) }
+    ensures { let names = names_tested (condition_of c.now) in
+        Reports result (first_sort_fault (get nat_eq sorts.now) names) }
 {
     match c {
         Cond::Yes | Cond::No => Ok(()),
@@ -168,7 +175,8 @@ fn check_cond(sorts: &Sorts, c: &Cond) -> Result<(), SyntaxError>
 #[cycle(check_block)]
 #[tactic(auto, using(crate::proofs::Uses::statement_walks))]
 fn check_block(sorts: &Sorts, b: &Block) -> Result<(), SyntaxError>
-    ensures { Reports result (first_sort_fault (get nat_eq sorts.now) (names_used (code_of b.now))) }
+    ensures { let names = names_used (code_of b.now) in
+        Reports result (first_sort_fault (get nat_eq sorts.now) names) }
 {
     for s in &b.list {
         check_stmt(sorts, s)?;
@@ -202,183 +210,5 @@ fn check_stmt(sorts: &Sorts, s: &Stmt) -> Result<(), SyntaxError>
             check_cond(sorts, c)?;
             check_block(sorts, t)
         }
-    }
-}
-
-#[cfg(test)]
-mod tests {
-    use super::*;
-    use crate::names::NameTable;
-    use crate::tree::Cmp;
-    use std::alloc::AllocError;
-    use std::test::Fail;
-
-    const X: Name = Name(0);
-
-    const A: Name = Name(1);
-
-    const V: Name = Name(2);
-
-    const W: Name = Name(3);
-
-    // A program of these declarations, outputs and statements.
-    fn program(
-        alloc: Global,
-        decls: &[(Name, Sort)],
-        outputs: &[Name],
-        list: Vec<Stmt>,
-    ) -> Result<Program, AllocError> {
-        Ok(Program {
-            names: NameTable::new(alloc),
-            decls: Decls {
-                list: decls.to_vec(alloc)?,
-            },
-            outputs: Outputs {
-                list: outputs.to_vec(alloc)?,
-            },
-            body: Block { list },
-        })
-    }
-
-    #[test]
-    fn declarations_and_outputs_go_in_order(rt: HostRuntime) -> Result<(), Fail> {
-        let alloc = rt.alloc();
-        let (x, y) = ((X, Sort::Num), (A, Sort::Arr));
-        let cases = [
-            (
-                [x, y, y, x],
-                [X, A],
-                Err(SyntaxError::DoubleName { name: A }),
-            ),
-            (
-                [x, y, (V, Sort::Num), x],
-                [W, A],
-                Err(SyntaxError::DoubleName { name: X }),
-            ),
-            (
-                [x, y, (V, Sort::Num), (W, Sort::Num)],
-                [X, X],
-                Err(SyntaxError::DoubleName { name: X }),
-            ),
-            (
-                [x, y, (V, Sort::Num), (W, Sort::Num)],
-                [A, Name(9)],
-                Err(SyntaxError::UnknownName { name: Name(9) }),
-            ),
-            ([x, y, (V, Sort::Num), (W, Sort::Num)], [A, X], Ok(())),
-        ];
-        for (decls, outputs, want) in cases {
-            let p = program(alloc, &decls, &outputs, Vec::new(alloc))?;
-            assert_eq!(rt; well_formed(alloc, &p), want);
-        }
-        Ok(())
-    }
-
-    #[test]
-    fn names_go_in_the_order_of_the_text(rt: HostRuntime) -> Result<(), Fail> {
-        let alloc = rt.alloc();
-        let decls = [(X, Sort::Num), (A, Sort::Arr)];
-        let cases = [
-            (
-                Stmt::Assign(V, Expr::Var(W)),
-                Err(SyntaxError::UnknownName { name: V }),
-            ),
-            (
-                Stmt::Assign(A, Expr::Var(W)),
-                Err(SyntaxError::WrongSort { name: A }),
-            ),
-            (
-                Stmt::Assign(X, Expr::Read(X, Box::new(alloc, Expr::Var(W))?)),
-                Err(SyntaxError::WrongSort { name: X }),
-            ),
-            (
-                Stmt::Store(A, Expr::Var(W), Expr::Var(V)),
-                Err(SyntaxError::UnknownName { name: W }),
-            ),
-            (
-                Stmt::Store(A, Expr::Var(X), Expr::Var(A)),
-                Err(SyntaxError::WrongSort { name: A }),
-            ),
-            (Stmt::Store(A, Expr::Var(X), Expr::Num(7)), Ok(())),
-        ];
-        for (s, want) in cases {
-            let p = program(alloc, &decls, &[X], vec![in alloc; s]?)?;
-            assert_eq!(rt; well_formed(alloc, &p), want);
-        }
-        let guard = Cond::Cmp(Cmp::Lt, Expr::Var(V), Expr::Var(W));
-        let block = Block {
-            list: vec![in alloc; Stmt::Assign(W, Expr::Num(0))]?,
-        };
-        let p = program(
-            alloc,
-            &decls,
-            &[X],
-            vec![in alloc; Stmt::While(guard, block)]?,
-        )?;
-        assert_eq!(rt;
-            well_formed(alloc, &p),
-            Err(SyntaxError::UnknownName { name: V })
-        );
-        Ok(())
-    }
-
-    // A sum of this many numbers, and of one more.
-    fn sum(alloc: Global, count: u32) -> Result<Expr, AllocError> {
-        let mut e = Expr::Num(0);
-        for _ in 0..count {
-            e = Expr::Add(Box::new(alloc, e)?, Box::new(alloc, Expr::Num(0))?);
-        }
-        Ok(e)
-    }
-
-    // This many statements that do nothing, behind an assignment of a sum.
-    fn skips(alloc: Global, count: u32, x: Name, e: Expr) -> Result<Vec<Stmt>, AllocError> {
-        let mut list = vec![in alloc; Stmt::Assign(x, e)]?;
-        for _ in 0..count {
-            list.push(Stmt::Skip)?;
-        }
-        Ok(list)
-    }
-
-    #[test]
-    fn limits_are_exact(rt: HostRuntime) -> Result<(), Fail> {
-        let alloc = rt.alloc();
-        let unknown = Err(SyntaxError::UnknownName { name: V });
-        let cases = [
-            (200, X, 62, 0, Ok(())),
-            (200, X, 63, 0, Err(SyntaxError::TooDeep)),
-            (200, X, 0, 19_998, Ok(())),
-            (200, X, 0, 19_999, Err(SyntaxError::TooMany)),
-            (201, X, 63, 0, Err(SyntaxError::TooMany)),
-            (2, V, 63, 19_999, unknown),
-        ];
-        for (names, x, adds, more, want) in cases {
-            let mut decls = Vec::new(alloc);
-            for i in 0..names {
-                decls.push((Name(i), Sort::Num))?;
-            }
-            let list = skips(alloc, more, x, sum(alloc, adds)?)?;
-            let p = program(alloc, &decls, &[X], list)?;
-            assert_eq!(rt; well_formed(alloc, &p), want, "{names} {adds} {more}");
-        }
-        Ok(())
-    }
-
-    #[test]
-    fn a_condition_counts_alone(rt: HostRuntime) -> Result<(), Fail> {
-        let alloc = rt.alloc();
-        let decls = Decls {
-            list: vec![in alloc; (X, Sort::Num), (X, Sort::Arr)]?,
-        };
-        let cases = [
-            (X, 62, Ok(())),
-            (X, 63, Err(SyntaxError::TooDeep)),
-            (V, 63, Err(SyntaxError::UnknownName { name: V })),
-        ];
-        for (x, adds, want) in cases {
-            let c = Cond::Cmp(Cmp::Eq, Expr::Var(x), sum(alloc, adds)?);
-            assert_eq!(rt; well_formed_cond(alloc, &decls, &c), want, "{adds}");
-        }
-        Ok(())
     }
 }

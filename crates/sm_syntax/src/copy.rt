@@ -98,34 +98,3 @@ pub fn copy_outputs(alloc: Global, outputs: &Outputs) -> Result<Outputs, AllocEr
     let list = Vec::from_slice(alloc, &outputs.list)?;
     Ok(Outputs { list })
 }
-
-#[cfg(test)]
-mod tests {
-    use super::*;
-    use crate::tree::{Cmp, Name};
-    use std::test::Fail;
-
-    #[test]
-    fn a_copy_prints_the_same(rt: HostRuntime) -> Result<(), Fail> {
-        let alloc = rt.alloc();
-        let x = Name(0);
-        let guard = Cond::And(
-            Box::new(alloc, Cond::Cmp(Cmp::Lt, Expr::Var(x), Expr::Num(9)))?,
-            Box::new(alloc, Cond::Not(Box::new(alloc, Cond::No)?))?,
-        );
-        let sum = Expr::Add(
-            Box::new(alloc, Expr::Neg(Box::new(alloc, Expr::Num(-1))?))?,
-            Box::new(alloc, Expr::Read(Name(1), Box::new(alloc, Expr::Var(x))?))?,
-        );
-        let list = vec![in alloc; Stmt::Assign(x, sum), Stmt::Hole(3)]?;
-        let body = Block { list };
-        let list = vec![in alloc; Stmt::Skip, Stmt::While(guard, body)]?;
-        let block = Block { list };
-        let copy = copy_block(alloc, &block)?;
-        assert_eq!(rt;
-            format!(in alloc; "{copy:?}")?,
-            format!(in alloc; "{block:?}")?
-        );
-        Ok(())
-    }
-}

@@ -1,6 +1,7 @@
 // How large and how deep programs are. Each count stops at the greatest `u64`.
 ghost use Rattle.std.specs.Prelude.{◌≡◌, ◌+◌, ◌-◌, ◌^◌, max, min};
-ghost use Rattle.sm_syntax.specs.Conditions.{expression_nodes, condition_nodes, code_nodes, expression_depth, condition_depth, code_depth};
+ghost use Rattle.sm_syntax.specs.Conditions.{expression_nodes, condition_nodes, code_nodes};
+ghost use Rattle.sm_syntax.specs.Conditions.{expression_depth, condition_depth, code_depth};
 ghost use Rattle.sm_syntax.specs.Syntax.{End};
 ghost use Rattle.sm_syntax.specs.Views.{expression_of, condition_of, statement_of, code_of};
 
@@ -63,7 +64,8 @@ fn nodes_of_expr(e: &Expr) -> u64
 // One more than the nodes of two expressions.
 #[cycle(expression_nodes)]
 fn nodes_of_two(d: &Expr, e: &Expr) -> u64
-    ensures { let both = expression_nodes (expression_of d.now) + expression_nodes (expression_of e.now) in
+    ensures { let both =
+        expression_nodes (expression_of d.now) + expression_nodes (expression_of e.now) in
         result ≡ min (1 + both) (2 ^ 64 - 1) }
 {
     nodes_of_expr(d)
@@ -127,7 +129,8 @@ fn depth_of_expr(e: &Expr) -> u64
 // One more than the depth of the deeper of two expressions.
 #[cycle(expression_depth)]
 fn depth_of_two(d: &Expr, e: &Expr) -> u64
-    ensures { let deeper = max (expression_depth (expression_of d.now)) (expression_depth (expression_of e.now)) in
+    ensures { let deeper =
+        max (expression_depth (expression_of d.now)) (expression_depth (expression_of e.now)) in
         result ≡ min (1 + deeper) (2 ^ 64 - 1) }
 {
     depth_of_expr(d).max(depth_of_expr(e)).saturating_add(1)

@@ -1,5 +1,6 @@
 // The table of names.
-ghost use Rattle.std.specs.Prelude.{◌≡◌, ◌<◌, ◌-◌, ◌^◌, length, is_some, slice_get, take, Some, [], List, ℕ, IfOk, IfSome, OnOk, OnErr};
+ghost use Rattle.std.specs.Prelude.{◌≡◌, ◌<◌, ◌-◌, ◌^◌, length, is_some, slice_get, take, Some, []};
+ghost use Rattle.std.specs.Prelude.{List, ℕ, IfOk, IfSome, OnOk, OnErr};
 ghost use Rattle.std.specs.List.{position_or_len};
 ghost use Rattle.std.specs.Str.{bytes_eq};
 ghost use Rattle.sm_syntax.specs.Symbols.{is_among, with_text};
@@ -40,7 +41,8 @@ impl NameTable {
     pub fn add(&mut self, text: &str) -> Result<Name, AllocError>
         requires { length self.old < 2 ^ 32 - 1 }
         ensures ok { OnOk result (self.new ≡ with_text self.old text.now) }
-        ensures number { IfOk result (λ name. name.0 ≡ position_or_len (bytes_eq text.now) self.new) }
+        ensures number { let place = position_or_len (bytes_eq text.now) self.new in
+            IfOk result (λ name. name.0 ≡ place) }
         ensures stored { IfOk result (λ name. slice_get self.new name.0 ≡ Some text.now) }
         ensures err { OnErr result (self.new ≡ self.old) }
     {
@@ -55,7 +57,8 @@ impl NameTable {
     /// The number of a text, if it is there.
     pub fn find(&self, text: &str) -> Option<Name>
         ensures found { is_some result ≡ is_among self.now text.now }
-        ensures number { IfSome result (λ name. name.0 ≡ position_or_len (bytes_eq text.now) self.now) }
+        ensures number { let place = position_or_len (bytes_eq text.now) self.now in
+            IfSome result (λ name. name.0 ≡ place) }
         ensures stored { IfSome result (λ name. slice_get self.now name.0 ≡ Some text.now) }
     {
         let index = self.texts.get_index_of(text)?;
@@ -94,30 +97,5 @@ impl NameTable {
             copy.add(text.as_str())?;
         }
         Ok(copy)
-    }
-}
-
-#[cfg(test)]
-mod tests {
-    use super::*;
-    use std::test::Fail;
-
-    #[test]
-    fn numbers_names_by_first_appearance(rt: HostRuntime) -> Result<(), Fail> {
-        let mut table = NameTable::new(rt.alloc());
-        for (text, want) in [("x", 0), ("y", 1), ("x", 0), ("_", 2), ("y", 1)] {
-            assert!(rt; table.len() < 9);
-            assert_eq!(rt; table.add(text)?.0, want, "at {text}");
-        }
-        let copy = table.copy(rt.alloc())?;
-        assert_eq!(rt; copy.len(), 3);
-        assert_eq!(rt; copy.text(Name(1)), "y");
-        assert_eq!(rt; copy.find("_"), Some(Name(2)));
-        assert_eq!(rt; copy.find("z"), None);
-        table.cut(1);
-        assert_eq!(rt; table.len(), 1);
-        assert_eq!(rt; table.find("y"), None);
-        assert_eq!(rt; table.add("_")?.0, 1);
-        Ok(())
     }
 }

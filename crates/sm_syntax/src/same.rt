@@ -71,27 +71,3 @@ pub fn same_block(a: &Block, b: &Block) -> bool
     }
     true
 }
-
-#[cfg(test)]
-mod tests {
-    use super::*;
-    use crate::tree::Name;
-    use std::alloc::{AllocError, Global};
-    use std::test::Fail;
-
-    // A block of two assignments, with a number of its own.
-    fn block(alloc: Global, n: i128) -> Result<Block, AllocError> {
-        let one = Stmt::Assign(Name(0), Expr::Num(1));
-        let list = vec![in alloc; one, Stmt::Assign(Name(1), Expr::Num(n))]?;
-        Ok(Block { list })
-    }
-
-    #[test]
-    fn blocks_of_the_same_statements_are_the_same(rt: HostRuntime) -> Result<(), Fail> {
-        let alloc = rt.alloc();
-        let two = block(alloc, 2)?;
-        assert!(rt; same_block(&two, &block(alloc, 2)?));
-        assert!(rt; !same_block(&two, &block(alloc, 3)?));
-        Ok(())
-    }
-}
