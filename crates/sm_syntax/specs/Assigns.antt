@@ -1,4 +1,4 @@
--- Which names code assigns.
+-- Which names code assigns. Public clauses cite it.
 use Rattle.std.specs.Prelude.{ℕ, Bool, false, ◌==◌, ◌||◌}
 use Rattle.sm_syntax.specs.Syntax.{Code, End, Skip, Assign, Write, If, While, Hole}
 

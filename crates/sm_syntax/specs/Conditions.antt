@@ -1,10 +1,14 @@
--- The conditions on a task that the grammar spells. The first that fails, in the order of this file, refuses the task.
-use Rattle.std.specs.Prelude.{ℕ, ◌+◌, ◌==◌, nat_lt, Bool, not, if◌then◌else◌, Option, Some, None, option_map, List, [], ◌∷◌, ◌++◌, find, length, map, max}
+-- The conditions on a task that the grammar spells. Public clauses cite them.
+-- The first that fails, in the order of this file, refuses the task.
+use Rattle.std.specs.Prelude.{ℕ, ◌+◌, ◌==◌, nat_lt, Bool, not, if◌then◌else◌, Option, Some, None}
+use Rattle.std.specs.Prelude.{option_map, List, [], ◌∷◌, ◌++◌, find, length, map, max}
 use Rattle.std.specs.List.{list_any, flat_map}
 use Rattle.std.specs.Option.{option_or}
 use Rattle.sm_syntax.specs.declared.tree.Sort.{Sort}
 use Rattle.sm_syntax.specs.declared.tree.Sort.TheVariants.{Num, Arr}
-use Rattle.sm_syntax.specs.Syntax.{Expression, Lit, Var, Read, Neg, Plus, Minus, Times, Condition, Yes, No, Compare, Not, And, Or, Code, End, Skip, Assign, Write, If, While, Hole}
+use Rattle.sm_syntax.specs.Syntax.{Expression, Lit, Var, Read, Neg, Plus, Minus, Times}
+use Rattle.sm_syntax.specs.Syntax.{Condition, Yes, No, Compare, Not, And, Or}
+use Rattle.sm_syntax.specs.Syntax.{Code, End, Skip, Assign, Write, If, While, Hole}
 use Rattle.sm_syntax.specs.Fill.{Fillings, fill}
 use Rattle.sm_syntax.specs.ConflictFree.{Copy, O, A, B, M}
 use Rattle.sm_syntax.specs.Parts.{Parts, sort_of}
@@ -67,19 +71,31 @@ at_hole refusal section hole = option_map (refusal section) hole
 
 -- 1. a section has no hole a second time
 unfoldable pub double_hole : Parts → Option Refusal
-double_hole t = option_or (at_hole DoubleHole Shared (first_repeated [] (holes_of t.shared))) (first_of_lists (λ (c : Copy). at_hole DoubleHole (ListOf c) (first_repeated [] (filled_holes (t.fillings c)))))
+double_hole t =
+    option_or
+    (at_hole DoubleHole Shared (first_repeated [] (holes_of t.shared)))
+    (first_of_lists (λ (c : Copy).
+    at_hole DoubleHole (ListOf c) (first_repeated [] (filled_holes (t.fillings c)))))
 
 -- 2. no filling has a hole
 unfoldable pub hole_in_filling : Parts → Option Refusal
-hole_in_filling t = first_of_lists (λ (c : Copy). at_hole HoleInFilling (ListOf c) (first_outside [] (holes_inside (t.fillings c))))
+hole_in_filling t =
+    first_of_lists (λ (c : Copy).
+    at_hole HoleInFilling (ListOf c) (first_outside [] (holes_inside (t.fillings c))))
 
 -- 3. the shared program has each hole that is filled
 unfoldable pub unknown_hole : Parts → Option Refusal
-unknown_hole t = first_of_lists (λ (c : Copy). at_hole UnknownHole (ListOf c) (first_outside (holes_of t.shared) (filled_holes (t.fillings c))))
+unknown_hole t =
+    first_of_lists (λ (c : Copy).
+    at_hole UnknownHole (ListOf c)
+    (first_outside (holes_of t.shared) (filled_holes (t.fillings c))))
 
 -- 4. each list fills each hole of the shared program
 unfoldable pub missing_filling : Parts → Option Refusal
-missing_filling t = first_of_lists (λ (c : Copy). at_hole MissingFilling (ListOf c) (first_outside (filled_holes (t.fillings c)) (holes_of t.shared)))
+missing_filling t =
+    first_of_lists (λ (c : Copy).
+    at_hole MissingFilling (ListOf c)
+    (first_outside (filled_holes (t.fillings c)) (holes_of t.shared)))
 
 -- the names of an expression with the sorts with which they stand, in the order of the text
 abbrev pub names_in : Expression → List (ℕ × Sort)
@@ -164,7 +180,8 @@ code_depth End = 0
 code_depth (Skip k) = max 1 (code_depth k)
 code_depth (Assign x e k) = max (1 + expression_depth e) (code_depth k)
 code_depth (Write a i e k) = max (1 + max (expression_depth i) (expression_depth e)) (code_depth k)
-code_depth (If b c d k) = max (1 + max (condition_depth b) (max (code_depth c) (code_depth d))) (code_depth k)
+code_depth (If b c d k) =
+    max (1 + max (condition_depth b) (max (code_depth c) (code_depth d))) (code_depth k)
 code_depth (While b c k) = max (1 + max (condition_depth b) (code_depth c)) (code_depth k)
 code_depth (Hole h k) = max 1 (code_depth k)
 
@@ -178,7 +195,8 @@ sort_refusal (Some Arr) Arr x = None
 
 -- the refusal of the first name that isn't declared as it stands
 unfoldable pub first_sort_fault : Sorts → List (ℕ × Sort) → Option Refusal
-first_sort_fault sorts uses = first_of_all (map (λ (x : ℕ × Sort). sort_refusal (sorts x.0) x.1 x.0) uses)
+first_sort_fault sorts uses =
+    first_of_all (map (λ (x : ℕ × Sort). sort_refusal (sorts x.0) x.1 x.0) uses)
 
 -- the refusal of an output that is declared so or not at all, and stood before or not
 abbrev pub output_refusal : Option Sort → Bool → ℕ → Option Refusal
@@ -188,7 +206,10 @@ output_refusal (Some sort) stood x = if stood then Some (DoubleName x) else None
 -- the refusal of the first output that isn't declared or stood before, where those of `seen` did
 abbrev pub first_output_fault : Sorts → List ℕ → List ℕ → Option Refusal
 first_output_fault sorts seen [] = None
-first_output_fault sorts seen (x ∷ rest) = option_or (output_refusal (sorts x) (is_in seen x) x) (first_output_fault sorts (x ∷ seen) rest)
+first_output_fault sorts seen (x ∷ rest) =
+    option_or
+    (output_refusal (sorts x) (is_in seen x) x)
+    (first_output_fault sorts (x ∷ seen) rest)
 
 -- a refusal where a number is over its limit
 abbrev pub over : ℕ → ℕ → Refusal → Option Refusal
@@ -200,22 +221,44 @@ size_fault nodes depth = first_of_all (over 20000 nodes TooMany ∷ over 64 dept
 
 -- the refusal of the first name that is declared twice
 abbrev pub double_name : List (ℕ × Sort) → Option Refusal
-double_name declared = option_map DoubleName (first_repeated [] (map (λ (d : ℕ × Sort). d.0) declared))
+double_name declared =
+    option_map DoubleName (first_repeated [] (map (λ (d : ℕ × Sort). d.0) declared))
 
--- the first fault of a program: a name declared twice, an output, a name in the code, then size and depth
+-- the first fault of a program: a name declared twice, an output, a name in the code, then size
+-- and depth
 unfoldable pub program_fault : List (ℕ × Sort) → List ℕ → Code → Option Refusal
 program_fault declared outputs code =
-    first_of_all (double_name declared ∷ first_output_fault (sort_of declared) [] outputs ∷ first_sort_fault (sort_of declared) (names_used code) ∷ over 200 (length declared) TooMany ∷ size_fault (code_nodes code) (code_depth code) ∷ [])
+    first_of_all (
+    double_name declared
+    ∷ first_output_fault (sort_of declared) [] outputs
+    ∷ first_sort_fault (sort_of declared) (names_used code)
+    ∷ over 200 (length declared) TooMany
+    ∷ size_fault (code_nodes code) (code_depth code)
+    ∷ [])
 
 -- 5. each filled program is well formed
 unfoldable pub ill_formed : Parts → Option Refusal
-ill_formed t = first_of_lists (λ (c : Copy). program_fault t.declared t.outputs (fill (t.fillings c) t.shared))
+ill_formed t =
+    first_of_lists (λ (c : Copy).
+    program_fault t.declared t.outputs (fill (t.fillings c) t.shared))
 
 -- 6. the assumption is well formed
 unfoldable pub ill_assumed : List (ℕ × Sort) → Option Condition → Option Refusal
 ill_assumed declared None = None
-ill_assumed declared (Some b) = first_of_all (first_sort_fault (sort_of declared) (names_tested b) ∷ size_fault (condition_nodes b) (condition_depth b) ∷ [])
+ill_assumed declared (Some b) =
+    first_of_all (
+    first_sort_fault (sort_of declared) (names_tested b)
+    ∷ size_fault (condition_nodes b) (condition_depth b)
+    ∷ [])
 
 -- the first condition that fails
 unfoldable pub first_refusal : Parts → Option Refusal
-first_refusal t = first_of_all (double_hole t ∷ hole_in_filling t ∷ unknown_hole t ∷ missing_filling t ∷ ill_formed t ∷ ill_assumed t.declared t.assumed ∷ [])
+first_refusal t =
+    first_of_all (
+    double_hole t
+    ∷ hole_in_filling t
+    ∷ unknown_hole t
+    ∷ missing_filling t
+    ∷ ill_formed t
+    ∷ ill_assumed t.declared t.assumed
+    ∷ [])

@@ -1,6 +1,7 @@
--- When a three-way merge is free of conflicts, after Sousa, Dillig and Lahiri, "Verified Three-Way Program
--- Merge" (OOPSLA 2018). It speaks of runs alone: no product of programs, no symbols and no proofs. It says
--- nothing of a start store from which one of the four doesn't end.
+-- When a three-way merge is free of conflicts. Public clauses cite it.
+-- After Sousa, Dillig and Lahiri, "Verified Three-Way Program Merge" (OOPSLA 2018). It speaks of
+-- runs alone: no product of programs, no symbols and no proofs. It says nothing of a start store
+-- from which one of the four doesn't end.
 use Rattle.std.specs.Prelude.{◌≡◌, ℕ, zero, suc, IsTrue, Option, Some, None, List, Contains}
 use Rattle.sm_syntax.specs.declared.tree.Sort.{Sort}
 use Rattle.sm_syntax.specs.Syntax.{Condition, Code}
@@ -25,14 +26,19 @@ abbrev pub Meets : Option Condition → Store → Type 0
 Meets None s = Unit {0}
 Meets (Some b) s = IsTrue (truth_of b s)
 
--- from each start store that counts and from which all four end, Keeps holds at each cell of an output
+-- from each start store that counts and from which all four end, Keeps holds at each cell of an
+-- output
 abbrev pub IsConflictFree : Option Condition → List (ℕ × Sort) → (Copy → Code) → Type 0
 IsConflictFree assumed outputs program =
     (n : ℕ) (s : Store) (end : Copy → Store) →
     Meets assumed s →
     ((c : Copy) → run n (program c) s ≡ Some (end c)) →
     (cell : Cell) → Contains outputs (variable cell) →
-    Keeps (content (end O) cell) (content (end A) cell) (content (end B) cell) (content (end M) cell)
+    Keeps
+    (content (end O) cell)
+    (content (end A) cell)
+    (content (end B) cell)
+    (content (end M) cell)
 
 -- a task: what it assumes, its outputs, the shared code, and each copy's fillings
 pub record Task : Type 0 where

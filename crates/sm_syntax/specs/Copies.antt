@@ -1,4 +1,5 @@
--- The copies as the program names them, and one of something for each, as a function from the copy.
+-- The copies as the program names them. Public clauses cite them.
+-- With one of something for each copy, as a function from the copy.
 use Rattle.std.specs.Prelude.{ℕ, List, codes}
 use Rattle.sm_syntax.specs.ConflictFree.{Copy, O, A, B, M}
 use Rattle.sm_syntax.specs.Parts.{by_copy}

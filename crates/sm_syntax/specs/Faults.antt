@@ -1,4 +1,4 @@
--- Which refusal of a task an error names.
+-- Which refusal of a task an error names. Public clauses cite it.
 use Rattle.std.specs.Prelude.{◌≡◌, ◌≢◌, Option, Some, None, Result, MatchResult}
 use Rattle.sm_syntax.specs.declared.error.SyntaxError.{SyntaxError}
 use Rattle.sm_syntax.specs.declared.error.SyntaxError.TheVariants as error
@@ -16,4 +16,5 @@ fault_of error.Memory = None
 
 -- a check answers that there is no fault, or which one it is; want of memory alone is free
 abbrev pub Reports : Result (Unit {0}) SyntaxError → Option Refusal → Type 0
-Reports answer fault = MatchResult answer (λ u. fault ≡ None) (λ e. e ≢ error.Memory → fault ≡ fault_of e)
+Reports answer fault =
+    MatchResult answer (λ u. fault ≡ None) (λ e. e ≢ error.Memory → fault ≡ fault_of e)

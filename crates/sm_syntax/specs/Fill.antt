@@ -1,4 +1,4 @@
--- Code with its holes filled.
+-- Code with its holes filled. Public clauses cite it.
 use Rattle.std.specs.Prelude.{ℕ, ◌==◌, if◌then◌else◌, List, [], ◌∷◌}
 use Rattle.sm_syntax.specs.Syntax.{Code, End, Skip, Assign, Write, If, While, Hole, append}
 

@@ -1,4 +1,5 @@
--- What a merge keeps at one cell, after Sousa, Dillig and Lahiri, "Verified Three-Way Program Merge" (OOPSLA 2018).
+-- What a merge keeps at one cell. Public clauses cite it.
+-- After Sousa, Dillig and Lahiri, "Verified Three-Way Program Merge" (OOPSLA 2018).
 use Rattle.std.specs.Prelude.{◌≡◌, ◌⊎◌, ℕ, ℤ}
 use Rattle.sm_syntax.specs.declared.tree.Sort.{Sort}
 use Rattle.sm_syntax.specs.declared.tree.Sort.TheVariants.{Num, Arr}

@@ -1,9 +1,12 @@
--- What programs mean, over all whole numbers.
-use Rattle.std.specs.Prelude.{ℕ, zero, suc, ℤ, ◌+ℤ◌, ◌-ℤ◌, ◌*ℤ◌, neg_ℤ, int_lt, Bool, true, false, not, ◌&&◌, ◌||◌, if◌then◌else◌, Option, Some, None}
+-- What programs mean, over all whole numbers. Public clauses cite it.
+use Rattle.std.specs.Prelude.{ℕ, zero, suc, ℤ, ◌+ℤ◌, ◌-ℤ◌, ◌*ℤ◌, neg_ℤ, int_lt, Bool, true, false}
+use Rattle.std.specs.Prelude.{not, ◌&&◌, ◌||◌, if◌then◌else◌, Option, Some, None}
 use Rattle.std.specs.Ordering.{int_eq}
 use Rattle.sm_syntax.specs.declared.tree.Cmp.{Cmp}
 use Rattle.sm_syntax.specs.declared.tree.Cmp.TheVariants.{Eq, Ne, Lt, Le, Gt, Ge}
-use Rattle.sm_syntax.specs.Syntax.{Expression, Lit, Var, Read, Neg, Plus, Minus, Times, Condition, Yes, No, Compare, Not, And, Or, Code, End, Skip, Assign, Write, If, While, Hole}
+use Rattle.sm_syntax.specs.Syntax.{Expression, Lit, Var, Read, Neg, Plus, Minus, Times}
+use Rattle.sm_syntax.specs.Syntax.{Condition, Yes, No, Compare, Not, And, Or}
+use Rattle.sm_syntax.specs.Syntax.{Code, End, Skip, Assign, Write, If, While, Hole}
 use Rattle.sm_syntax.specs.Stores.{Value, Number, Array, number, array, Store, put, with_element}
 
 -- the value of an expression in a store
@@ -46,9 +49,11 @@ turns guard body (suc n) s = if guard s then and_then (body s) (turns guard body
 
 -- the store after a write to an element of an array
 abbrev pub written : Store → ℕ → Expression → Expression → Store
-written s a i e = put s a (Array (with_element (array (s a)) (number (value_of i s)) (number (value_of e s))))
+written s a i e =
+    put s a (Array (with_element (array (s a)) (number (value_of i s)) (number (value_of e s))))
 
--- the end of code, where each loop that is met takes at most n turns each time it is met; a hole does nothing
+-- the end of code, where each loop that is met takes at most n turns each time it is met; a hole
+-- does nothing
 abbrev pub run : ℕ → Code → Store → Option Store
 run n End s = Some s
 run n (Skip k) s = run n k s

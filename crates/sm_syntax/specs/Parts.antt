@@ -1,5 +1,7 @@
--- A task as its text gives it, and the task of the claim that it stands for.
-use Rattle.std.specs.Prelude.{ℕ, ◌==◌, if◌then◌else◌, Option, Some, None, unwrap_or, List, [], ◌∷◌, map}
+-- A task as its text gives it. Public clauses cite it.
+-- With the task of the claim that it stands for.
+use Rattle.std.specs.Prelude.{ℕ, ◌==◌, if◌then◌else◌, Option, Some, None, unwrap_or, List, [], ◌∷◌}
+use Rattle.std.specs.Prelude.{map}
 use Rattle.sm_syntax.specs.declared.tree.Sort.{Sort}
 use Rattle.sm_syntax.specs.declared.tree.Sort.TheVariants.{Num}
 use Rattle.sm_syntax.specs.Syntax.{Condition, Code}
@@ -27,10 +29,16 @@ abbrev pub sort_of : List (ℕ × Sort) → ℕ → Option Sort
 sort_of [] x = None
 sort_of (d ∷ rest) x = if d.0 == x then Some d.1 else sort_of rest x
 
--- the outputs with their sorts; an output that isn't declared, which no valid task has, counts as a number
+-- the outputs with their sorts; an output that isn't declared, which no valid task has, counts as a
+-- number
 abbrev pub sorted_outputs : List (ℕ × Sort) → List ℕ → List (ℕ × Sort)
 sorted_outputs declared outputs = map (λ (x : ℕ). (x, unwrap_or (sort_of declared x) Num)) outputs
 
 -- the task that the parts make
 abbrev pub task_of : Parts → Task
-task_of t = record { assumed = t.assumed; outputs = sorted_outputs t.declared t.outputs; shared = t.shared; fillings = t.fillings }
+task_of t = record {
+  assumed = t.assumed;
+  outputs = sorted_outputs t.declared t.outputs;
+  shared = t.shared;
+  fillings = t.fillings;
+}

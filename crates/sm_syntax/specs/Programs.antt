@@ -1,4 +1,4 @@
--- What the lists of a program stand for.
+-- What the lists of a program stand for. Public clauses cite it.
 use Rattle.std.specs.Prelude.{ℕ, List, map}
 use Rattle.sm_syntax.specs.declared.program.Decls.{Decls}
 use Rattle.sm_syntax.specs.declared.program.Filling.{Filling}

@@ -1,4 +1,5 @@
--- Which text spells a task. It says nothing of what the task means.
+-- Which text spells a task. Public clauses cite it.
+-- It says nothing of what the task means.
 use Rattle.std.specs.Prelude.{◌≡◌, ℕ, None, List, map}
 use Rattle.sm_syntax.specs.Conditions.{first_refusal}
 use Rattle.sm_syntax.specs.Grammar.{IsTask, plain}
@@ -6,7 +7,8 @@ use Rattle.sm_syntax.specs.Parts.{Parts}
 use Rattle.sm_syntax.specs.Symbols.{names_of, symbols_of}
 use Rattle.sm_syntax.specs.Tokens.{lexed}
 
--- the text has tokens to its end, and the grammar spells the task by their symbols, where nothing nests too deep
+-- the text has tokens to its end, and the grammar spells the task by their symbols, where nothing
+-- nests too deep
 pub record IsInGrammar (bytes : List ℕ) (t : Parts) : Type 0 where
   pub tokens : (lexed bytes).1 ≡ None
   pub names : t.names ≡ names_of bytes

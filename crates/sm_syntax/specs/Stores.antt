@@ -1,5 +1,5 @@
--- Values and stores, over all whole numbers. An array may be any function of its index, so there are more stores
--- here than a program can hold.
+-- Values and stores, over all whole numbers. Public clauses cite them.
+-- An array may be any function of its index, so there are more stores here than a program can hold.
 use Rattle.std.specs.Prelude.{ℕ, ℤ, pos, ◌==◌, if◌then◌else◌}
 use Rattle.std.specs.Ordering.{int_eq}
 

@@ -1,5 +1,7 @@
--- The symbols of a text: what the grammar sees of its tokens. A name stands as a number, by first appearance.
-use Rattle.std.specs.Prelude.{ℕ, pos, Bool, false, not, if◌then◌else◌, Option, Some, None, is_some, List, [], ◌∷◌, ◌++◌, map, take, drop}
+-- The symbols of a text: what the grammar sees of its tokens. Public clauses cite them.
+-- A name stands as a number, by first appearance.
+use Rattle.std.specs.Prelude.{ℕ, pos, Bool, false, not, if◌then◌else◌, Option, Some, None, is_some}
+use Rattle.std.specs.Prelude.{List, [], ◌∷◌, ◌++◌, map, take, drop}
 use Rattle.std.specs.List.{list_any, position_or_len}
 use Rattle.std.specs.Str.{bytes_eq}
 use Rattle.std.specs.Str.Parse.{digits_value}
@@ -33,7 +35,10 @@ is_name Sign text = false
 -- the names that stood before, and those of the tokens
 abbrev pub names_after : List ℕ → List (List ℕ) → List Token → List (List ℕ)
 names_after bytes names [] = names
-names_after bytes names (t ∷ ts) = names_after bytes (if is_name t.kind (text_of bytes t) then with_text names (text_of bytes t) else names) ts
+names_after bytes names (t ∷ ts) =
+    names_after bytes
+    (if is_name t.kind (text_of bytes t) then with_text names (text_of bytes t) else names)
+    ts
 
 -- the mark, or else another symbol
 abbrev pub mark_or : Option Mark → Symbol → Symbol
@@ -42,7 +47,8 @@ mark_or (Some m) other = s.Mark m
 
 -- the symbol of a text: a reserved word, a name by its number, a number by its value, or a sign
 abbrev pub symbol_by : TokenKind → List (List ℕ) → List ℕ → Symbol
-symbol_by Word names text = mark_or (mark_of_word text) (s.Name (record { 0 = position_or_len (bytes_eq text) names }))
+symbol_by Word names text =
+    mark_or (mark_of_word text) (s.Name (record { 0 = position_or_len (bytes_eq text) names }))
 symbol_by Number names text = s.Number (pos (digits_value 10 text))
 symbol_by Sign names text = mark_or (mark_of_sign text) (s.Mark Semicolon)
 

@@ -1,4 +1,5 @@
--- The abstract syntax of programs: expressions, conditions and code. Names are numbers.
+-- The abstract syntax of programs: expressions, conditions and code. Public clauses cite it.
+-- Names are numbers.
 use Rattle.std.specs.Prelude.{ℕ, ℤ}
 use Rattle.sm_syntax.specs.declared.tree.Cmp.{Cmp}
 
@@ -17,7 +18,8 @@ pub data Condition : Type 0 where
   Not : Condition → Condition
   And Or : Condition → Condition → Condition
 
--- code: a sequence of statements, where each constructor but End is a statement with the code that follows it
+-- code: a sequence of statements, where each constructor but End is a statement with the code that
+-- follows it
 pub data Code : Type 0 where
   End : Code
   Skip : Code → Code

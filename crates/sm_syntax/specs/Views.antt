@@ -1,4 +1,5 @@
--- The abstract syntax that the program's own trees stand for. Two trees are equal where they stand for the same.
+-- The abstract syntax that the program's own trees stand for. Public clauses cite it.
+-- Two trees are equal where they stand for the same.
 use Rattle.std.specs.Prelude.{List, [], ◌∷◌}
 use Rattle.sm_syntax.specs.declared.tree.Expr.{Expr}
 use Rattle.sm_syntax.specs.declared.tree.Expr.TheVariants.{Num, Var, Read', Neg', Add', Sub', Mul'}
