@@ -1,4 +1,4 @@
--- The whole numbers of 128 bits.
+-- The whole numbers of 128 bits. Public clauses cite them.
 use Rattle.std.specs.Prelude.{◌^◌, ℤ, pos, negsuc, Bool, nat_lt, if◌then◌else◌, Option, Some, None}
 
 -- from -2^127 to 2^127 - 1
