@@ -266,24 +266,3 @@ pub fn print_program(alloc: Global, p: &Program) -> Result<Vec<u8>, AllocError>
     put_shared(alloc, &mut out, &p.names, &p.body)?;
     Ok(out)
 }
-
-#[cfg(test)]
-mod tests {
-    use super::*;
-    use sm_syntax::{Cmp, Expr};
-    use std::test::Fail;
-
-    #[test]
-    fn an_empty_block_and_a_comparison_are_printed(rt: HostRuntime) -> Result<(), Fail> {
-        let names = NameTable::new(rt.alloc());
-        let block = Block {
-            list: Vec::new(rt.alloc()),
-        };
-        let text = print_block(rt.alloc(), &names, &block, 1)?;
-        assert_eq!(rt; text.as_slice(), b"{\n  }".as_slice());
-        let c = Cond::Cmp(Cmp::Ne, Expr::Num(7), Expr::Num(0));
-        let text = print_cond(rt.alloc(), &names, &c)?;
-        assert_eq!(rt; text.as_slice(), b"7 != 0".as_slice());
-        Ok(())
-    }
-}

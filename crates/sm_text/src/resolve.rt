@@ -116,35 +116,3 @@ fn number_of(name: &str, names: &mut NameTable) -> Result<Name, AllocError>
         Err(AllocError)
     }
 }
-
-#[cfg(test)]
-mod tests {
-    use super::*;
-    use std::test::Fail;
-
-    #[test]
-    fn reads_symbols_and_numbers_names(rt: HostRuntime) -> Result<(), Fail> {
-        let text = b"if (y <= 070) x = -y; # z";
-        let cut = tokens(rt.alloc(), text)?;
-        let read = symbols(rt.alloc(), text, cut.list.as_slice())?;
-        let want = [
-            Symbol::Mark(Mark::If),
-            Symbol::Mark(Mark::OpenRound),
-            Symbol::Name(Name(0)),
-            Symbol::Mark(Mark::AtMost),
-            Symbol::Number(70),
-            Symbol::Mark(Mark::CloseRound),
-            Symbol::Name(Name(1)),
-            Symbol::Mark(Mark::Becomes),
-            Symbol::Mark(Mark::Minus),
-            Symbol::Name(Name(0)),
-            Symbol::Mark(Mark::Semicolon),
-        ];
-        assert_eq!(rt; read.list.as_slice(), want.as_slice());
-        let table = names(rt.alloc(), text)?;
-        assert_eq!(rt; table.len(), 2);
-        assert_eq!(rt; table.text(Name(0)), "y");
-        assert_eq!(rt; table.text(Name(1)), "x");
-        Ok(())
-    }
-}
