@@ -1,12 +1,13 @@
 -- What the sections of a task stand for.
 use Rattle.std.specs.Prelude.{option_map}
+use Rattle.sm_syntax.specs.declared.copies.PerCopy.{PerCopy}
+use Rattle.sm_syntax.specs.declared.program.Fillings as tree
 use Rattle.sm_syntax.specs.ConflictFree.{Copy}
+use Rattle.sm_syntax.specs.Copies.{of_copy}
 use Rattle.sm_syntax.specs.Fill.{Fillings}
-use Rattle.sm_syntax.specs.Parts.{by_copy}
 use Rattle.sm_syntax.specs.Programs.{declared_of, outputs_of, fillings_of}
 use Rattle.sm_syntax.specs.Views.{condition_of, code_of}
 use Rattle.sm_text.specs.declared.sections.Head.{Head}
-use Rattle.sm_text.specs.declared.sections.Lists.{Lists}
 use Rattle.sm_text.specs.Reading.{Front}
 
 -- the front of a task
@@ -14,9 +15,9 @@ abbrev pub head_of : Head → Front
 head_of h = record { declared = declared_of h.decls; outputs = outputs_of h.outputs; assumed = option_map condition_of h.assumed; shared = code_of h.shared }
 
 -- the fillings of each copy
-abbrev pub lists_of : Lists → Copy → Fillings
-lists_of l = by_copy (fillings_of l.base) (fillings_of l.variant_a) (fillings_of l.variant_b) (fillings_of l.candidate)
+abbrev pub lists_of : PerCopy tree.Fillings → Copy → Fillings
+lists_of l c = fillings_of (of_copy l c)
 
 -- both
-abbrev pub body_of : Head × Lists → Front × (Copy → Fillings)
+abbrev pub body_of : Head × PerCopy tree.Fillings → Front × (Copy → Fillings)
 body_of t = (head_of t.0, lists_of t.1)

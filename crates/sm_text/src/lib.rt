@@ -42,7 +42,7 @@ pub use print::{
 };
 pub use program::parse_program;
 pub use resolve::{names, symbols};
-pub use sections::{Head, Lists};
+pub use sections::Head;
 pub use symbol_list::Symbols;
 pub use text::{Sections, read_sections};
 pub use token_list::Tokens;

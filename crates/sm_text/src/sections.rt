@@ -8,7 +8,7 @@ ghost use Rattle.sm_text.specs.Sections.{head_of, lists_of, body_of};
 use crate::conditions::condition;
 use crate::reading::{FaultKind, ReadError, expect, first, refusal, rest};
 use crate::rules::{GROUP_LIMIT, declarations, list, outputs, shared, stands};
-use sm_syntax::{Block, Cond, Decls, Fillings, Mark, Outputs, Symbol};
+use sm_syntax::{Block, Cond, Decls, Fillings, Mark, Outputs, PerCopy, Symbol};
 use std::alloc::Global;
 
 /// The front of a task: its declarations, outputs, assumption and shared block.
@@ -18,15 +18,6 @@ pub struct Head {
     pub outputs: Outputs,
     pub assumed: Option<Cond>,
     pub shared: Block,
-}
-
-/// The fillings of the four copies.
-#[derive(Debug, Drop)]
-pub struct Lists {
-    pub base: Fillings,
-    pub variant_a: Fillings,
-    pub variant_b: Fillings,
-    pub candidate: Fillings,
 }
 
 /// An assumption, behind its word.
@@ -83,9 +74,12 @@ pub(crate) fn head_of_task(
     ))
 }
 
-/// The four lists.
+/// The lists of the four copies.
 #[tactic(auto, unfolding(crate::specs::Reading::lists))]
-pub(crate) fn four_lists(alloc: Global, symbols: &[Symbol]) -> Result<(Lists, &[Symbol]), ReadError>
+pub(crate) fn four_lists(
+    alloc: Global,
+    symbols: &[Symbol],
+) -> Result<(PerCopy<Fillings>, &[Symbol]), ReadError>
     ensures { Gives (λ x. (lists_of x.0, x.1.now)) result (spec.lists symbols.now) }
 {
     let (base, after) = list(alloc, Mark::Base, symbols)?;
@@ -93,7 +87,7 @@ pub(crate) fn four_lists(alloc: Global, symbols: &[Symbol]) -> Result<(Lists, &[
     let (variant_b, after) = list(alloc, Mark::VariantB, after)?;
     let (candidate, after) = list(alloc, Mark::Candidate, after)?;
     Ok((
-        Lists {
+        PerCopy {
             base,
             variant_a,
             variant_b,
@@ -108,7 +102,7 @@ pub(crate) fn four_lists(alloc: Global, symbols: &[Symbol]) -> Result<(Lists, &[
 pub(crate) fn task(
     alloc: Global,
     symbols: &[Symbol],
-) -> Result<((Head, Lists), &[Symbol]), ReadError>
+) -> Result<((Head, PerCopy<Fillings>), &[Symbol]), ReadError>
     ensures { Gives (λ x. (body_of x.0, x.1.now)) result (spec.task symbols.now) }
 {
     let (head, after) = head_of_task(alloc, symbols)?;
@@ -117,7 +111,10 @@ pub(crate) fn task(
 }
 
 /// A whole task, with no symbol behind it.
-pub(crate) fn whole(alloc: Global, symbols: &[Symbol]) -> Result<(Head, Lists), ReadError>
+pub(crate) fn whole(
+    alloc: Global,
+    symbols: &[Symbol],
+) -> Result<(Head, PerCopy<Fillings>), ReadError>
     ensures { Gives body_of result (spec.whole symbols.now) }
 {
     match task(alloc, symbols) {

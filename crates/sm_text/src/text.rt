@@ -10,9 +10,9 @@ use crate::error::TextError;
 use crate::lexer::tokens;
 use crate::reading::{Fault, FaultKind, ReadError};
 use crate::resolve::symbols;
-use crate::sections::{Head, Lists, whole};
+use crate::sections::{Head, whole};
 use crate::token_list::Tokens;
-use sm_syntax::{LexFault, LexKind, NameTable, Token};
+use sm_syntax::{Fillings, LexFault, LexKind, NameTable, PerCopy, Token};
 use std::alloc::{AllocError, Global};
 
 /// The sections of a task as its text gives them, and the text of each name by its number.
@@ -20,7 +20,7 @@ use std::alloc::{AllocError, Global};
 pub struct Sections {
     pub names: NameTable,
     pub head: Head,
-    pub lists: Lists,
+    pub lists: PerCopy<Fillings>,
 }
 
 /// Reads a text of fewer than 2^32 bytes. A text that isn't read is refused at the first fault in it: a lexical one, a
