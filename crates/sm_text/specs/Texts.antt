@@ -1,19 +1,36 @@
 -- What the sections of a text stand for, which fault an error names, and when an answer is the task of its text.
-use Rattle.std.specs.Prelude.{◌≡◌, ℕ, Option, Some, None, Result, MatchResult}
+use Rattle.std.specs.Prelude.{◌≡◌, ℕ, Option, Some, None, option_map, Result, MatchResult}
+use Rattle.sm_syntax.specs.declared.copies.PerCopy.{PerCopy}
+use Rattle.sm_syntax.specs.declared.program.Fillings.{Fillings}
+use Rattle.sm_syntax.specs.declared.program.Program.{Program}
 use Rattle.sm_syntax.specs.declared.token.LexFault.{LexFault}
 use Rattle.sm_syntax.specs.declared.token.LexKind.TheVariants as kind
+use Rattle.sm_syntax.specs.declared.tree.Cond.{Cond}
 use Rattle.sm_syntax.specs.Parts.{Parts}
+use Rattle.sm_syntax.specs.Programs.{declared_of, outputs_of}
+use Rattle.sm_syntax.specs.Views.{condition_of, code_of}
 use Rattle.sm_text.specs.declared.error.TextError.{TextError}
 use Rattle.sm_text.specs.declared.error.TextError.TheVariants as error
 use Rattle.sm_text.specs.declared.reading.FaultKind.{FaultKind}
 use Rattle.sm_text.specs.declared.reading.FaultKind.TheVariants.{Expected, Nested}
 use Rattle.sm_text.specs.declared.text.Sections.{Sections}
 use Rattle.sm_text.specs.Reading.{parts_from}
-use Rattle.sm_text.specs.Sections.{body_of}
+use Rattle.sm_text.specs.Sections.{body_of, lists_of}
 
 -- the parts of a task
 abbrev pub parts_of : Sections → Parts
 parts_of s = parts_from s.names (body_of (s.head, s.lists))
+
+-- the parts of a task, by its shared program, what is assumed and the fillings of each copy
+abbrev pub task_parts : Program → Option Cond → PerCopy Fillings → Parts
+task_parts p assumed lists = record {
+  names = p.names;
+  declared = declared_of p.decls;
+  outputs = outputs_of p.outputs;
+  assumed = option_map condition_of assumed;
+  shared = code_of p.body;
+  fillings = lists_of lists;
+}
 
 -- the lexical fault that an error names, if it names one
 abbrev pub lexical_fault : TextError → Option LexFault

@@ -23,6 +23,7 @@ mod prefix;
 mod print;
 mod program;
 mod put;
+mod put_sections;
 mod reading;
 mod resolve;
 mod rules;
@@ -36,10 +37,7 @@ pub use error::TextError;
 pub use laws::one_task;
 pub use lexer::tokens;
 pub use prefix::{parse_block, parse_head};
-pub use print::{
-    print_block, print_cond, print_program, put_assumption, put_declarations, put_lists,
-    put_outputs, put_shared,
-};
+pub use print::{print_block, print_cond, print_program, print_sections};
 pub use program::parse_program;
 pub use resolve::{names, symbols};
 pub use sections::Head;

@@ -5,7 +5,7 @@ use Rattle.sm_text.specs.Canonical.{declaration_pieces}
 use Rattle.sm_text.specs.Named.{AreDeclaredIn}
 use Rattle.sm_text.specs.Pieces.{text_of}
 use Rattle.sm_text.specs.Written.{entries_of}
-use Rattle.sm_text.proofs.print.put_declarations.Given as goal
+use Rattle.sm_text.proofs.put_sections.put_declarations.Given as goal
 
 abbrev pub invariant-loop-d : goal.invariant-loop-d
 invariant-loop-d l = record {

@@ -5,7 +5,7 @@ use Rattle.sm_text.specs.Canonical.{filling_pieces}
 use Rattle.sm_text.specs.Named.{AreFilledIn}
 use Rattle.sm_text.specs.Pieces.{text_of}
 use Rattle.sm_text.specs.Written.{entries_for}
-use Rattle.sm_text.proofs.print.put_fillings.Given as goal
+use Rattle.sm_text.proofs.put_sections.put_fillings.Given as goal
 
 abbrev pub invariant-loop-f : goal.invariant-loop-f
 invariant-loop-f l = record {

@@ -4,7 +4,7 @@ use Rattle.sm_text.specs.Canonical.{more_names}
 use Rattle.sm_text.specs.Named.{AreOutputsIn}
 use Rattle.sm_text.specs.Pieces.{text_of}
 use Rattle.sm_text.specs.Written.{numbers_of}
-use Rattle.sm_text.proofs.print.put_more_names.Given as goal
+use Rattle.sm_text.proofs.put_sections.put_more_names.Given as goal
 
 abbrev pub invariant-loop-x : goal.invariant-loop-x
 invariant-loop-x l = record {
