@@ -32,7 +32,7 @@ symbols_left judges us f e =
     let sum : length us ≡ length k.used + length k.here = ap (λ (l : List Symbol). length l) k.split ∙ length-both k.used k.here in
     omega (arith, left, sum)
 
-none_left : (z : List Symbol) → length z ≡ 0 → z ≡ []
+pub none_left : (z : List Symbol) → length z ≡ 0 → z ≡ []
 none_left [] e = refl
 none_left (u ∷ us) e = absurd (omega (arith, e))
 

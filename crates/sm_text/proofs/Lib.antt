@@ -37,3 +37,4 @@ pub mod Prefixed
 pub mod PrefixRead
 pub mod FirstTokens
 pub mod PrefixJudged
+pub mod BlockEnds

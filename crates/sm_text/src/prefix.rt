@@ -122,8 +122,8 @@ fn block_at(
     }
 }
 
-// The block that tokens begin with, and how many stand behind it. What its own tokens tell holds whatever stands behind
-// them, but for a refusal at their end: there all tokens are read.
+// The block that tokens begin with, and how many stand behind it. It is read by its own tokens alone: no block is refused
+// at the brace that closes it, so what these tell holds whatever stands behind them.
 fn first_block(
     alloc: Global,
     bytes: &[u8],
@@ -140,13 +140,8 @@ fn first_block(
 {
     let end = block_end(bytes, tokens);
     let behind = tokens.len() - end;
-    let known = names.len();
     match block_of(alloc, bytes, &tokens[..end], groups, names) {
         Ok((block, left)) => Ok((block, left + behind)),
-        Err(ReadError::Fault(fault)) if fault.left == 0 && behind > 0 => {
-            names.cut(known);
-            block_of(alloc, bytes, tokens, groups, names)
-        }
         Err(ReadError::Fault(fault)) => Err(ReadError::Fault(Fault {
             kind: fault.kind,
             left: fault.left + behind,

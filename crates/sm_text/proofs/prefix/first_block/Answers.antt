@@ -1,13 +1,14 @@
-use Rattle.std.proofs.Common.{◌≡◌, ◌+◌, ◌-◌, ◌≤◌, refl, arith, rules, Err, length, take}
+use Rattle.std.proofs.Common.{◌≡◌, ◌+◌, ◌-◌, ◌≤◌, Bool, true, false, refl, arith, rules, Err, length, nat_lt, take}
+use Rattle.std.proofs.lemmas.Bool.Decides.{nat_tests}
 use Rattle.std.proofs.lemmas.List.{length-take-le}
 use Rattle.sm_syntax.specs.Grammar.{IsBlock}
 use Rattle.sm_syntax.specs.Views.{code_of}
 use Rattle.sm_text.specs.BlockTokens.{signs}
 use Rattle.sm_text.specs.Reading as r
+use Rattle.sm_text.proofs.BlockEnds.{none_at_end}
 use Rattle.sm_text.proofs.FirstTokens.{first_of_all, first_within, refused_of_all, refused_within}
 use Rattle.sm_text.proofs.PrefixRead.{any_block_told}
 use Rattle.sm_text.proofs.prefix.first_block.Goals as goal
-use Rattle.sm_text.proofs.prefix.first_block.Goals.{then-fault-eq0+else-behind-gt0, else-fault-eq0}
 
 pub overflow_add-result : goal.overflow_add-result
 overflow_add-result c =
@@ -18,8 +19,8 @@ overflow_add-result c =
     let most : c.in-Ok.left + (length ts - c.block_end-end.result) ≤ length ts = omega (arith, few, size, within) in
     search rules
 
-pub overflow_add-result-in-Err-Fault-2 : goal.overflow_add-result-in-Err-Fault-2
-overflow_add-result-in-Err-Fault-2 c =
+pub overflow_add-result-in-Err-Fault : goal.overflow_add-result-in-Err-Fault
+overflow_add-result-in-Err-Fault c =
     let bytes = c.args.bytes.now in
     let before = c.args.names.now in
     let ts = c.args.tokens.now in
@@ -36,8 +37,8 @@ returns-in-Ok-clause-ok c =
     let ts = c.args.tokens.now in
     first_of_all c.args.bytes.now c.args.names.now c.args.groups c.block_end-end.result ts c.block_of.new.names (code_of c.in-Ok.block) c.in-Ok.left (c.in-Ok.left + (length ts - c.block_end-end.result)) c.block_end-end.ensures.within c.in-Ok.ensures.ok refl
 
-pub returns-in-Err-Fault-2-clause-fault : goal.returns-in-Err-Fault-2-clause-fault
-returns-in-Err-Fault-2-clause-fault c =
+pub returns-in-Err-Fault-clause-fault : goal.returns-in-Err-Fault-clause-fault
+returns-in-Err-Fault-clause-fault c =
     let bytes = c.args.bytes.now in
     let before = c.args.names.now in
     let ts = c.args.tokens.now in
@@ -45,4 +46,11 @@ returns-in-Err-Fault-2-clause-fault c =
     let f = c.in-Err-Fault.fault in
     let refused : r.block (64 - c.args.groups) (signs bytes before (take m ts)) ≡ Err f = rw c.in-Err-Fault.field-0-is at c.in-Err-Fault.ensures.fault in
     refused_of_all (r.block (64 - c.args.groups)) (IsBlock c.args.groups) (any_block_told c.args.groups) bytes before m ts f refused
-    (λ none. elim c.if-fault-eq0.branch [ then-fault-eq0+else-behind-gt0 w ↦ omega (arith, w.if-behind-gt0.false) | else-fault-eq0 w ↦ absurd (omega (arith, none, w.if-fault-eq0.false)) ])
+    (λ none. omega (arith, all_closed none))
+  where
+    all_closed : c.in-Err-Fault.fault.left ≡ 0 → length c.args.tokens.now ≤ c.block_end-end.result
+    all_closed none = by (nat_lt c.block_end-end.result (length c.args.tokens.now)) refl
+      where
+        by : (b : Bool) → nat_lt c.block_end-end.result (length c.args.tokens.now) ≡ b → length c.args.tokens.now ≤ c.block_end-end.result
+        by true less = absurd (none_at_end c.args.bytes.now c.args.names.now c.args.groups c.block_end-end.result c.args.tokens.now c.block_end-end.ensures (grind (arith, nat_tests)) c.in-Err-Fault.fault (rw c.in-Err-Fault.field-0-is at c.in-Err-Fault.ensures.fault) none)
+        by false most = grind (arith, nat_tests)
