@@ -38,3 +38,5 @@ pub mod PrefixRead
 pub mod FirstTokens
 pub mod PrefixJudged
 pub mod BlockEnds
+pub mod FewerGroups
+pub mod Spaced

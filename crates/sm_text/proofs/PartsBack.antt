@@ -29,11 +29,11 @@ last_closed : (names : List (List ℕ)) → IsClosed names []
 last_closed names = record { closed = λ t. refl }
 
 -- pieces with the content of symbols under names, whose tokens are cut as they were put
-record IsUnder (names : List (List ℕ)) (ps : List Piece) : Type 0 where
-  text : IsCutUnder names (text_of names ps)
-  symbols : symbols_under names (text_of names ps) ≡ symbols_in ps
+pub record IsUnder (names : List (List ℕ)) (ps : List Piece) : Type 0 where
+  pub text : IsCutUnder names (text_of names ps)
+  pub symbols : symbols_under names (text_of names ps) ≡ symbols_in ps
 
-pieces_under : (names : List (List ℕ)) (ps : List Piece) (ss : List Symbol) → AllIn names ss → content (marked ps) ≡ ss → AreApart names ps → IsUnder names ps
+pub pieces_under : (names : List (List ℕ)) (ps : List Piece) (ss : List Symbol) → AllIn names ss → content (marked ps) ≡ ss → AreApart names ps → IsUnder names ps
 pieces_under names ps ss all same apart =
     let A : List Symbol → Type 0 = λ l. AllIn names l in
     let good = content_all names (symbols_in ps) (subst A (sym same) all) in

@@ -7,7 +7,9 @@ ghost use Rattle.sm_syntax.specs.Syntax.{Code};
 ghost use Rattle.sm_syntax.specs.Views.{code_of};
 ghost use Rattle.sm_text.specs.Answers.{Fails};
 ghost use Rattle.sm_text.specs.BlockTokens.{IsFirstBlock, IsGroup, is_mark, signs};
+ghost use Rattle.sm_text.specs.Fragments.{HasBlockText};
 ghost use Rattle.sm_text.specs.NameCounts as spec;
+ghost use Rattle.sm_text.specs.Named.{IsUsedIn};
 ghost use Rattle.sm_text.specs.Places.{IsRefusal, whole_text, text_from};
 ghost use Rattle.sm_text.specs.Prefixes.{AreTokensOf};
 ghost use Rattle.sm_text.specs.Prefixes.{HeadParts, head_parts, SpellsHead, IsHeadReadAs, AreHeads};
@@ -80,6 +82,9 @@ pub fn parse_block(
     requires within { at ≤ length tokens.now.list.items }
     ensures ok { IfOk result (λ r.
         SpellsBlockAt bytes.now at groups names.old r.1 names.new (code_of r.0)) }
+    // Some text spells the block under the names, and each of its names has a text.
+    ensures printable { IfOk result (λ r. HasBlockText names.new (code_of r.0)) }
+    ensures named { IfOk result (λ r. IsUsedIn (length names.new) (code_of r.0)) }
     // Each block is read, whatever stands behind it, so no block is the beginning of another.
     ensures only { (n : ℕ) (after : List (List ℕ)) (c : Code) →
         SpellsBlockAt bytes.now at groups names.old n after c →
@@ -109,6 +114,8 @@ fn block_at(
     requires within { at ≤ length tokens.now.list.items }
     ensures ok { IfOk result (λ r.
         SpellsBlockAt bytes.now at groups names.old r.1 names.new (code_of r.0)) }
+    ensures printable { IfOk result (λ r. HasBlockText names.new (code_of r.0)) }
+    ensures named { IfOk result (λ r. IsUsedIn (length names.new) (code_of r.0)) }
     ensures only { (n : ℕ) (after : List (List ℕ)) (c : Code) →
         SpellsBlockAt bytes.now at groups names.old n after c →
         IsBlockReadAs n c result }

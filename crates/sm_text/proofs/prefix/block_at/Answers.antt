@@ -11,9 +11,11 @@ use Rattle.sm_text.specs.Reading as r
 use Rattle.sm_text.specs.TokenTexts.{IsTokenOf}
 use Rattle.sm_text.proofs.FirstTokens.{first_within, first_spelled, first_same}
 use Rattle.sm_text.proofs.Lexing.{IsTokenOf-behind}
+use Rattle.sm_text.proofs.PartsBack.{block_has_names}
 use Rattle.sm_text.proofs.PrefixJudged.{block_judges}
 use Rattle.sm_text.proofs.PrefixRead.{block_reads}
 use Rattle.sm_text.proofs.Prefixed.{rest_of, read_not_refused}
+use Rattle.sm_text.proofs.Spaced.{block_has_text}
 use Rattle.sm_text.proofs.TextFaults.{refused_from}
 use Rattle.sm_text.proofs.prefix.block_at.Goals as goal
 
@@ -44,6 +46,13 @@ returns-in-Ok-clause-ok c =
     let within : c.args.at ≤ length (lexed bytes).0 = let tokens = ap (λ (l : Lexed). length l.0) c.requires.cut in let h = c.requires.within in omega (arith, h, tokens) in
     first_spelled bytes c.args.names.now c.args.groups c.args.at c.in-Ok.left (c.len.result - c.in-Ok.left) c.first_block.new.names (code_of c.in-Ok.block) within (subst First cut c.in-Ok.ensures.ok)
     (ap (λ (k : ℕ). k - c.in-Ok.left) (c.len.ensures ∙ sym c.deref.ensures.len ∙ ap (λ (l : List Token). length l) all))
+
+pub returns-in-Ok-clause-printable : goal.returns-in-Ok-clause-printable
+returns-in-Ok-clause-printable c =
+    block_has_text c.args.bytes.now c.args.at c.args.groups _ c.args.names.now c.first_block.new.names (code_of c.in-Ok.block) (returns-in-Ok-clause-ok c)
+
+pub returns-in-Ok-clause-named : goal.returns-in-Ok-clause-named
+returns-in-Ok-clause-named c = block_has_names c.first_block.new.names (code_of c.in-Ok.block) (returns-in-Ok-clause-printable c)
 
 pub returns-in-Ok-clause-only : goal.returns-in-Ok-clause-only
 returns-in-Ok-clause-only c n after code spells =
