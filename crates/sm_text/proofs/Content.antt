@@ -144,7 +144,7 @@ abbrev pub content_assumed : Option Condition → List Symbol
 content_assumed None = []
 content_assumed (Some b) = content_tested b
 
-assumption_content : {ts : List Marked} {o : Option Condition} → IsAssumption ts o → content ts ≡ content_assumed o
+pub assumption_content : {ts : List Marked} {o : Option Condition} → IsAssumption ts o → content ts ≡ content_assumed o
 assumption_content IsAssumption.none = refl
 assumption_content (g.assumes {ts = ts} {b = b} test) = closed ts mark.Semicolon (content_tested b) (condition_content test)
 

@@ -40,3 +40,4 @@ pub mod PrefixJudged
 pub mod BlockEnds
 pub mod FewerGroups
 pub mod Spaced
+pub mod HeadText

@@ -8,8 +8,8 @@ use Rattle.sm_syntax.specs.Symbols.{names_of, symbols_of}
 use Rattle.sm_syntax.specs.Syntax.{Condition, Code}
 use Rattle.sm_syntax.specs.Tokens.{Lexed, is_space}
 use Rattle.sm_text.specs.Canonical.{condition_pieces, block_pieces, declaration_pieces, output_pieces, shared_pieces, program_pieces}
-use Rattle.sm_text.specs.Fragments.{ProgramParts, IsProgram, program, SpellsProgram, HasProgramText, IsKnown, symbols_under, IsCutUnder, SpellsCondition, HasConditionText, SpellsBlock, HasBlockText}
-use Rattle.sm_text.specs.Named.{IsTestedIn, IsUsedIn, AreDeclaredIn, AreOutputsIn}
+use Rattle.sm_text.specs.Fragments.{ProgramParts, IsProgram, program, SpellsProgram, HasProgramText, IsNamedProgram, IsKnown, symbols_under, IsCutUnder, SpellsCondition, HasConditionText, SpellsBlock, HasBlockText}
+use Rattle.sm_text.specs.Named.{IsTestedIn, IsUsedIn}
 use Rattle.sm_text.specs.Pieces.{Piece, text_of, symbols_in, margin_at}
 use Rattle.sm_text.proofs.Shown.{marked, marked-append, told}
 use Rattle.sm_text.proofs.TaskShown.{block_told, declarations_shown, some_outputs_shown, shared_shown}
@@ -102,7 +102,7 @@ block_back names c level h deep =
 abbrev pub content_of_program : ProgramParts → List Symbol
 content_of_program p = content_declared p.declared ++ (content_listed p.outputs ++ content_used p.body)
 
-program_content : {ts : List Marked} {p : ProgramParts} → IsProgram ts p → content ts ≡ content_of_program p
+pub program_content : {ts : List Marked} {p : ProgramParts} → IsProgram ts p → content ts ≡ content_of_program p
 program_content (program {ts = ts} {us = us} {vs = vs} p decls outs body) =
     both ts (us ++ vs) (content_declared p.declared) (content_listed p.outputs ++ content_used p.body) (declarations_content decls)
     (both us vs (content_listed p.outputs) (content_used p.body) (outputs_content outs) (shared_content body))
@@ -133,11 +133,6 @@ program_text p h =
     }
 
 -- each name of such a program has a text
-pub record IsNamedProgram (p : ProgramParts) : Type 0 where
-  pub declared : AreDeclaredIn (length p.names) p.declared
-  pub outputs : AreOutputsIn (length p.names) p.outputs
-  pub body : IsUsedIn (length p.names) p.body
-
 pub program_has_names : (p : ProgramParts) → HasProgramText p → IsNamedProgram p
 program_has_names p h =
     let it = program_text p h in

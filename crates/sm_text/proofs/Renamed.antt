@@ -211,7 +211,7 @@ names_step kind.Word names before text ss known = by (mark_of_word text) known
     by None known = ap (λ (o : Option (List ℕ)). names_by names (with_text before (unwrap_or o [])) ss) (slice_get-number names text (known refl))
 
 -- what stood among the names stays there
-among_more : (texts more : List (List ℕ)) (text : List ℕ) → is_among texts text ≡ true → is_among (texts ++ more) text ≡ true
+pub among_more : (texts more : List (List ℕ)) (text : List ℕ) → is_among texts text ≡ true → is_among (texts ++ more) text ≡ true
 among_more texts more text h = list_any-append (bytes_eq text) texts more ∙ ap (λ (t : Bool). t || is_among more text) h
 
 -- behind the tokens, each of their names is among the names

@@ -89,7 +89,7 @@ pub declared_written : (names : List (List ℕ)) (ds : List (ℕ × Sort)) → A
 declared_written names [] h = tt
 declared_written names (d ∷ ds) h = (h.0, declared_written names ds h.1)
 
-assumed_written : (names : List (List ℕ)) (o : Option Condition) → AllSpelled names (content_assumed o) → IsAssumedText names o
+pub assumed_written : (names : List (List ℕ)) (o : Option Condition) → AllSpelled names (content_assumed o) → IsAssumedText names o
 assumed_written names None h = tt
 assumed_written names (Some b) h = condition_written names b h
 
@@ -177,7 +177,7 @@ pub outputs_named : (names : List (List ℕ)) (xs : List ℕ) → AreTexts names
 outputs_named names [] h = tt
 outputs_named names (x ∷ xs) h = (text_within names x h.0, outputs_named names xs h.1)
 
-assumed_named : (names : List (List ℕ)) (o : Option Condition) → IsAssumedText names o → IsAssumedIn (length names) o
+pub assumed_named : (names : List (List ℕ)) (o : Option Condition) → IsAssumedText names o → IsAssumedIn (length names) o
 assumed_named names None h = tt
 assumed_named names (Some b) h = condition_named names b h
 

@@ -1,5 +1,5 @@
 -- Which text spells a program, a condition or a block. A condition and a block stand under names that are given.
-use Rattle.std.specs.Prelude.{◌≡◌, ℕ, true, None, Result, MatchResult, List, ◌++◌, map}
+use Rattle.std.specs.Prelude.{◌≡◌, ℕ, true, None, Result, MatchResult, List, ◌++◌, map, length}
 use Rattle.std.specs.List.{AllByRecursion}
 use Rattle.sm_syntax.specs.declared.program.Program.{Program}
 use Rattle.sm_syntax.specs.declared.symbol.Symbol.{Symbol}
@@ -13,6 +13,7 @@ use Rattle.sm_syntax.specs.Tokens.{lexed}
 use Rattle.sm_syntax.specs.Views.{code_of}
 use Rattle.sm_text.specs.declared.error.TextError.{TextError}
 use Rattle.sm_text.specs.declared.error.TextError.TheVariants as error
+use Rattle.sm_text.specs.Named.{IsUsedIn, AreDeclaredIn, AreOutputsIn}
 
 -- the parts of a program, and the text of each name by its number
 pub record ProgramParts : Type 0 where
@@ -34,6 +35,12 @@ pub record SpellsProgram (bytes : List ℕ) (p : ProgramParts) : Type 0 where
   pub tokens : (lexed bytes).1 ≡ None
   pub names : p.names ≡ names_of bytes
   pub grammar : IsProgram (map plain (symbols_of bytes)) p
+
+-- each name of the program has a text
+pub record IsNamedProgram (p : ProgramParts) : Type 0 where
+  pub declared : AreDeclaredIn (length p.names) p.declared
+  pub outputs : AreOutputsIn (length p.names) p.outputs
+  pub body : IsUsedIn (length p.names) p.body
 
 -- some text spells the program
 abbrev pub HasProgramText : ProgramParts → Type 0

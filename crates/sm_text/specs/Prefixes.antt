@@ -1,12 +1,16 @@
 -- Which tokens of a text spell a head or a block, whatever stands behind them. The names that were known before keep their
 -- numbers, and the others have the numbers behind these, by first appearance.
-use Rattle.std.specs.Prelude.{◌≡◌, ℕ, ◌-◌, ◌≤◌, Option, Some, None, option_map, Result, MatchResult, List, [], ◌++◌, map, length, take, drop}
+use Rattle.std.specs.Prelude.{◌≡◌, ℕ, ◌-◌, ◌≤◌, true, Option, Some, None, is_some, option_map, Result, MatchResult, List, [], ◌++◌, map, length, take, drop}
+use Rattle.std.specs.List.{AllByRecursion}
 use Rattle.sm_syntax.specs.declared.program.Program.{Program}
 use Rattle.sm_syntax.specs.declared.token.LexFault.{LexFault}
 use Rattle.sm_syntax.specs.declared.token.Token.{Token}
 use Rattle.sm_syntax.specs.declared.tree.Block.{Block}
 use Rattle.sm_syntax.specs.declared.tree.Cond.{Cond}
+use Rattle.sm_syntax.specs.declared.tree.Sort.{Sort}
+use Rattle.sm_syntax.specs.Conditions.{names_tested}
 use Rattle.sm_syntax.specs.Grammar.{Marked, plain, AreDeclarations, AreOutputs, IsAssumption, IsShared, IsBlock}
+use Rattle.sm_syntax.specs.Parts.{sort_of}
 use Rattle.sm_syntax.specs.Symbols.{symbol_of, names_after}
 use Rattle.sm_syntax.specs.Syntax.{Condition, Code}
 use Rattle.sm_syntax.specs.Tokens.{lexed}
@@ -15,7 +19,8 @@ use Rattle.sm_text.specs.declared.error.TextError.{TextError}
 use Rattle.sm_text.specs.declared.error.TextError.TheVariants as error
 use Rattle.sm_text.specs.declared.reading.Fault.{Fault}
 use Rattle.sm_text.specs.declared.token_list.Tokens.{Tokens}
-use Rattle.sm_text.specs.Fragments.{ProgramParts, parts_of}
+use Rattle.sm_text.specs.Fragments.{ProgramParts, parts_of, IsNamedProgram}
+use Rattle.sm_text.specs.Named.{IsAssumedIn}
 use Rattle.sm_text.specs.Places.{IsPlaceWith}
 use Rattle.sm_text.specs.Texts.{lexical_fault, rule_fault}
 
@@ -46,6 +51,16 @@ head_parts p b = record { program = parts_of p; assumed = option_map condition_o
 -- the symbols spell the front of a task: declarations, outputs, what is assumed, and the shared block
 pub data IsHead : List Marked → HeadParts → Type 0 where
   head : {ts us vs ws : List Marked} (h : HeadParts) → AreDeclarations ts h.program.declared → AreOutputs us h.program.outputs → IsAssumption vs h.assumed → IsShared ws h.program.body → IsHead (ts ++ (us ++ (vs ++ ws))) h
+
+-- each name of the head has a text
+pub record IsNamedHead (h : HeadParts) : Type 0 where
+  pub program : IsNamedProgram h.program
+  pub assumed : IsAssumedIn (length h.program.names) h.assumed
+
+-- each name of what is assumed is declared
+abbrev pub AssumesDeclared : List (ℕ × Sort) → Option Condition → Type 0
+AssumesDeclared declared None = Unit {0}
+AssumesDeclared declared (Some b) = AllByRecursion (λ (x : ℕ × Sort). is_some (sort_of declared x.0) ≡ true) (names_tested b)
 
 -- the first n tokens of the text spell the head
 abbrev pub SpellsHead : List ℕ → ℕ → HeadParts → Type 0

@@ -1,18 +1,20 @@
 // The front of a text, and a block in it, read by the tokens alone that they have.
 ghost use Rattle.std.specs.Prelude.{◌≡◌, ◌<◌, ◌≤◌, ◌+◌, ◌-◌, ◌^◌, ℕ, if◌then◌else◌};
-ghost use Rattle.std.specs.Prelude.{List, length, take, IfOk, IfErr, OnErr};
+ghost use Rattle.std.specs.Prelude.{List, length, option_map, take, IfOk, IfErr, OnErr};
 ghost use Rattle.std.specs.List.{AllByRecursion};
 ghost use Rattle.sm_syntax.specs.declared.symbol.Mark.TheVariants.{OpenCurly, CloseCurly};
 ghost use Rattle.sm_syntax.specs.Syntax.{Code};
-ghost use Rattle.sm_syntax.specs.Views.{code_of};
+ghost use Rattle.sm_syntax.specs.Programs.{declared_of};
+ghost use Rattle.sm_syntax.specs.Views.{condition_of, code_of};
 ghost use Rattle.sm_text.specs.Answers.{Fails};
 ghost use Rattle.sm_text.specs.BlockTokens.{IsFirstBlock, IsGroup, is_mark, signs};
-ghost use Rattle.sm_text.specs.Fragments.{HasBlockText};
+ghost use Rattle.sm_text.specs.Fragments.{HasBlockText, HasProgramText, parts_of};
 ghost use Rattle.sm_text.specs.NameCounts as spec;
 ghost use Rattle.sm_text.specs.Named.{IsUsedIn};
 ghost use Rattle.sm_text.specs.Places.{IsRefusal, whole_text, text_from};
 ghost use Rattle.sm_text.specs.Prefixes.{AreTokensOf};
 ghost use Rattle.sm_text.specs.Prefixes.{HeadParts, head_parts, SpellsHead, IsHeadReadAs, AreHeads};
+ghost use Rattle.sm_text.specs.Prefixes.{IsNamedHead, AssumesDeclared};
 ghost use Rattle.sm_text.specs.Prefixes.{SpellsBlockAt, IsBlockReadAs, AreBlocks};
 ghost use Rattle.sm_text.specs.Reading as grammar;
 ghost use Rattle.sm_text.specs.TokenTexts.{IsTokenOf};
@@ -39,6 +41,12 @@ pub fn parse_head(
 ) -> Result<(Program, Option<Cond>, u64), TextError>
     requires { AreTokensOf bytes.now tokens.now }
     ensures ok { IfOk result (λ r. SpellsHead bytes.now r.2 (head_parts r.0 r.1)) }
+    // Each of its names has a text. Some text spells its program, where all that it assumes is
+    // declared: else a name of the assumption alone stands in the program's table.
+    ensures named { IfOk result (λ r. IsNamedHead (head_parts r.0 r.1)) }
+    ensures printable { IfOk result (λ r.
+        AssumesDeclared (declared_of r.0.decls) (option_map condition_of r.1) →
+        HasProgramText (parts_of r.0)) }
     // Each head is read, whatever stands behind it, so no head is the beginning of another.
     ensures only { (n : ℕ) (h : HeadParts) → SpellsHead bytes.now n h → IsHeadReadAs n h result }
     // A refusal is the first fault of the text, and names its kind and its place.

@@ -6,7 +6,8 @@ ghost use Rattle.sm_syntax.specs.Spells.{Spells};
 ghost use Rattle.sm_syntax.specs.Views.{condition_of, code_of};
 ghost use Rattle.sm_text.specs.Canonical as canonical;
 ghost use Rattle.sm_text.specs.Fragments.{HasBlockText, HasConditionText, HasProgramText};
-ghost use Rattle.sm_text.specs.Fragments.{SpellsBlock, SpellsCondition, SpellsProgram, parts_of};
+ghost use Rattle.sm_text.specs.Fragments.{IsNamedProgram, parts_of};
+ghost use Rattle.sm_text.specs.Fragments.{SpellsBlock, SpellsCondition, SpellsProgram};
 ghost use Rattle.sm_text.specs.Named.{IsUsedIn, IsTestedIn, HasText};
 ghost use Rattle.sm_text.specs.Pieces as spec;
 ghost use Rattle.sm_text.specs.Pieces.{text_of};
@@ -61,14 +62,15 @@ fn margin_at(alloc: Global, level: u64) -> Result<Vec<u8>, AllocError>
     Ok(margin)
 }
 
-/// The canonical text of a program that some text spells. Where its body is no deeper than 64, it reads back to the same
-/// program.
+/// The canonical text of a program. Where some text spells the program, and its body is no deeper
+/// than 64, it reads back to the same program.
 #[tactic(auto, unfolding(crate::specs::Canonical::program_pieces))]
 pub fn print_program(alloc: Global, p: &Program) -> Result<Vec<u8>, AllocError>
-    requires { HasProgramText (parts_of p.now) }
+    requires { IsNamedProgram (parts_of p.now) }
     ensures text { IfOk result (λ v. v.items ≡ text_of p.now.names
         (canonical.program_pieces (declared_of p.now.decls) (outputs_of p.now.outputs) (code_of p.now.body))) }
-    ensures reads_back { code_depth (code_of p.now.body) ≤ 64 → IfOk result (λ v. SpellsProgram v.items (parts_of p.now)) }
+    ensures reads_back { HasProgramText (parts_of p.now) → code_depth (code_of p.now.body) ≤ 64 →
+        IfOk result (λ v. SpellsProgram v.items (parts_of p.now)) }
 {
     let mut out = Vec::new(alloc);
     put_declarations(&mut out, &p.names, &p.decls)?;

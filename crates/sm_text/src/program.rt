@@ -1,7 +1,8 @@
 // A whole text, read as a program.
 ghost use Rattle.std.specs.Prelude.{◌<◌, ◌^◌, length, IfOk, IfErr};
 ghost use Rattle.sm_text.specs.Answers.{Gives};
-ghost use Rattle.sm_text.specs.Fragments.{HasProgramText, IsProgramReadAs, ProgramParts, SpellsProgram, parts_of};
+ghost use Rattle.sm_text.specs.Fragments.{HasProgramText, IsNamedProgram, IsProgramReadAs};
+ghost use Rattle.sm_text.specs.Fragments.{ProgramParts, SpellsProgram, parts_of};
 ghost use Rattle.sm_text.specs.Places.{ArePrograms, IsRefusal, whole_text};
 ghost use Rattle.sm_text.specs.ProgramReading as spec;
 ghost use Rattle.sm_text.specs.ProgramViews.{program_of};
@@ -59,7 +60,9 @@ fn whole_program(alloc: Global, symbols: &[Symbol]) -> Result<Parts, ReadError>
 pub fn parse_program(alloc: Global, bytes: &[u8]) -> Result<Program, TextError>
     requires { length bytes.now < 2 ^ 32 }
     ensures ok { IfOk result (λ p. SpellsProgram bytes.now (parts_of p)) }
+    // Some text spells the program, and each of its names has a text.
     ensures printable { IfOk result (λ p. HasProgramText (parts_of p)) }
+    ensures named { IfOk result (λ p. IsNamedProgram (parts_of p)) }
     // Each text that spells a program is read, and a text spells at most one.
     ensures only { (p : ProgramParts) → SpellsProgram bytes.now p → IsProgramReadAs p result }
     // A refusal is the first fault of the text, and names its kind and its place.

@@ -12,6 +12,7 @@ use Rattle.sm_text.specs.Reading as r
 use Rattle.sm_text.specs.Sections.{head_of}
 use Rattle.sm_text.specs.TokenTexts.{IsTokenOf}
 use Rattle.sm_text.proofs.Described.{IsFrontOfTask, head_told}
+use Rattle.sm_text.proofs.HeadText.{head_named, head_has_text}
 use Rattle.sm_text.proofs.Lexing.{IsTokenOf-lexed}
 use Rattle.sm_text.proofs.PrefixJudged.{head_judges}
 use Rattle.sm_text.proofs.PrefixRead.{front_from, is_head, is_front, head_reads, head_same}
@@ -46,6 +47,12 @@ returns-in-Ok-clause-ok c =
     (ap (λ (k : ℕ). k - length c.in-Ok.after.now) size)
     (table ∙ ap (names_after bytes []) cut)
     (c.cut.ensures ∙ ap (λ (k : ℕ). take k c.symbols_behind.new.names) (c.count_names.ensures ∙ ap (λ (l : List Symbol). names_counted 0 (take used l)) (c.deref-in-Ok.ensures.value ∙ sym c.deref-2.ensures.value))))
+
+pub returns-in-Ok-clause-named : goal.returns-in-Ok-clause-named
+returns-in-Ok-clause-named c = head_named _ _ _ (returns-in-Ok-clause-ok c)
+
+pub returns-in-Ok-clause-printable : goal.returns-in-Ok-clause-printable
+returns-in-Ok-clause-printable c declared = head_has_text _ _ _ (returns-in-Ok-clause-ok c) declared
 
 pub returns-in-Ok-clause-only : goal.returns-in-Ok-clause-only
 returns-in-Ok-clause-only c n h spells =

@@ -2,22 +2,22 @@ use Rattle.std.proofs.Common.{◌≡◌, ℕ, List, ◌++◌, ◌∙◌, sym, ap
 use Rattle.sm_text.specs.Canonical.{declaration_pieces, output_pieces, shared_pieces, program_pieces}
 use Rattle.sm_text.specs.Fragments.{SpellsProgram, parts_of}
 use Rattle.sm_text.specs.Pieces.{text_of}
-use Rattle.sm_text.proofs.PartsBack.{program_has_names, program_back}
+use Rattle.sm_text.proofs.PartsBack.{program_back}
 use Rattle.sm_text.proofs.Putting.{put_both}
 use Rattle.sm_text.proofs.print.print_program.Goals as goal
 
 pub put_declarations-requires : goal.put_declarations-requires
-put_declarations-requires c = (program_has_names (parts_of c.args.p.now) c.requires).declared
+put_declarations-requires c = c.requires.declared
 
 pub put_outputs-requires : goal.put_outputs-requires
-put_outputs-requires c = (program_has_names (parts_of c.args.p.now) c.requires).outputs
+put_outputs-requires c = c.requires.outputs
 
 pub put_shared-requires : goal.put_shared-requires
-put_shared-requires c = (program_has_names (parts_of c.args.p.now) c.requires).body
+put_shared-requires c = c.requires.body
 
 pub returns-clause-reads_back : goal.returns-clause-reads_back
 unfolding program_pieces
-returns-clause-reads_back c deep =
+returns-clause-reads_back c has deep =
     let p = parts_of c.args.p.now in
     let declared = declaration_pieces p.declared in
     let outputs = output_pieces p.outputs in
@@ -31,4 +31,4 @@ returns-clause-reads_back c deep =
     let text = text_of p.names (program_pieces p.declared p.outputs p.body) in
     let same : end ≡ text = all ∙ ap (λ (l : List ℕ). l ++ text) c.new-out.ensures.items in
     let S : List ℕ → Type 0 = λ l. SpellsProgram l p in
-    subst S (sym same) (program_back p c.requires deep)
+    subst S (sym same) (program_back p has deep)

@@ -8,6 +8,7 @@ use Rattle.sm_text.specs.ProgramReading as p
 use Rattle.sm_text.specs.ProgramReading.{program_from}
 use Rattle.sm_text.specs.ProgramViews.{program_of}
 use Rattle.sm_text.proofs.Judged.{program_judges, program_viable}
+use Rattle.sm_text.proofs.PartsBack.{program_has_names}
 use Rattle.sm_text.proofs.ProgramRead.{whole_program_told, program_same, program_not_refused}
 use Rattle.sm_text.proofs.FirstFaults.{lexed-ascends, symbols-map}
 use Rattle.sm_text.proofs.TextFaults.{fault_behind, refused_whole}
@@ -26,6 +27,9 @@ returns-in-None-clause-ok c =
 
 pub returns-in-None-clause-printable : goal.returns-in-None-clause-printable
 returns-in-None-clause-printable c = (c.args.bytes.now, returns-in-None-clause-ok c)
+
+pub returns-in-None-clause-named : goal.returns-in-None-clause-named
+returns-in-None-clause-named c = program_has_names _ (returns-in-None-clause-printable c)
 
 pub returns-in-None-clause-only : goal.returns-in-None-clause-only
 returns-in-None-clause-only c t spells =
