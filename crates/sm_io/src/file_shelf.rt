@@ -10,29 +10,46 @@ use std::rt::Files;
 use std::{fs, io};
 
 /// The files of the system, by their paths. It tells nothing of them: which bytes it reads and
-/// writes is trusted. Each call opens the file anew.
+/// writes is trusted.
+///
+/// The file that was read last stays open, so that reads of one name, piece after piece, are of one
+/// file, even if another takes the name meanwhile. A read at place 0 opens the name anew. A read at
+/// any other place is of the kept file if that was opened by this name, and of one opened now if
+/// not. The kept file is closed at its end (a read of no bytes), after an error, where another is
+/// opened, and where its name is written to. A read that goes on where the last one ended seeks
+/// nothing, so that pipes can be read; opening a FIFO waits until something opens it for writing.
 #[derive(Drop)]
-pub struct FileShelf<'a, R: Files> {
+pub struct FileShelf<'a, R: Files + AllocGlobal> {
     rt: &'a R,
+    kept: Option<KeptFile<R::File>>,
     read_faults: u64,
     write_faults: u64,
 }
 
-impl<'a, R: Files> FileShelf<'a, R> {
-    /// The files of the system, with no fault so far.
+// A file that is open for reading, the name that it was opened by, and the place where it stands.
+#[derive(Drop)]
+struct KeptFile<F> {
+    name: String,
+    file: F,
+    place: u64,
+}
+
+impl<'a, R: Files + AllocGlobal> FileShelf<'a, R> {
+    /// The files of the system, none of them open, with no fault so far.
     pub fn new(rt: &'a R) -> FileShelf<'a, R>
         ensures read_faults { ⟦<FileShelf<'a, R> as Shelf>⟧.read_faults result ≡ 0 }
         ensures write_faults { ⟦<FileShelf<'a, R> as Shelf>⟧.write_faults result ≡ 0 }
     {
         FileShelf {
             rt,
+            kept: None,
             read_faults: 0,
             write_faults: 0,
         }
     }
 }
 
-impl<R: Files> Shelf for FileShelf<'_, R> {
+impl<R: Files + AllocGlobal> Shelf for FileShelf<'_, R> {
     ghost file = { λ _ _. untold };
 
     ghost read_faults = { λ shelf. shelf.read_faults };
@@ -40,13 +57,14 @@ impl<R: Files> Shelf for FileShelf<'_, R> {
     ghost write_faults = { λ shelf. shelf.write_faults };
 
     fn read_at(&mut self, name: &str, place: u64, buf: &mut [u8]) -> Result<usize, IoError> {
-        match read_from(self.rt, name, place, buf) {
+        match read_from(self.rt, &mut self.kept, name, place, buf) {
             Ok(count) => Ok(count),
             Err(error) => Err(count_fault(&error, &mut self.read_faults)),
         }
     }
 
     fn start(&mut self, name: &str) -> Result<(), IoError> {
+        close(&mut self.kept, name);
         match fs::create(self.rt, name) {
             Ok(_file) => Ok(()),
             Err(error) => Err(count_fault(&error, &mut self.write_faults)),
@@ -54,6 +72,7 @@ impl<R: Files> Shelf for FileShelf<'_, R> {
     }
 
     fn append(&mut self, name: &str, bytes: &[u8]) -> Result<usize, IoError> {
+        close(&mut self.kept, name);
         match append_to(self.rt, name, bytes) {
             Ok(count) => Ok(count),
             Err(error) => Err(count_fault(&error, &mut self.write_faults)),
@@ -61,12 +80,47 @@ impl<R: Files> Shelf for FileShelf<'_, R> {
     }
 }
 
-fn read_from<R: Files>(rt: &R, name: &str, place: u64, buf: &mut [u8]) -> io::Result<usize>
+// Reads from the kept file, or from one opened now, and keeps it unless it's at its end.
+fn read_from<R: Files + AllocGlobal>(
+    rt: &R,
+    kept: &mut Option<KeptFile<R::File>>,
+    name: &str,
+    place: u64,
+    buf: &mut [u8],
+) -> io::Result<usize>
     ensures { IfOk result (λ n. n ≤ length buf.new) }
 {
-    let mut file = fs::open(rt, name)?;
-    file.seek(SeekFrom::Start(place))?;
-    file.read(buf)
+    let mut open = match kept.take() {
+        Some(open) if place > 0 && open.name.as_str() == name => open,
+        _ => open_file(rt, name)?,
+    };
+    if open.place != place {
+        open.file.seek(SeekFrom::Start(place))?;
+    }
+    let count = open.file.read(buf)?;
+    if count > 0 {
+        open.place = place.saturating_add(count as u64);
+        *kept = Some(open);
+    }
+    Ok(count)
+}
+
+// Opens a file for reading, from its start on.
+fn open_file<R: Files + AllocGlobal>(rt: &R, name: &str) -> io::Result<KeptFile<R::File>> {
+    Ok(KeptFile {
+        name: String::from_str(rt.alloc(), name)?,
+        file: fs::open(rt, name)?,
+        place: 0,
+    })
+}
+
+// Closes the kept file if it has the name.
+fn close<F: Drop>(kept: &mut Option<KeptFile<F>>, name: &str) {
+    if let Some(open) = kept
+        && open.name.as_str() == name
+    {
+        *kept = None;
+    }
 }
 
 // An absent file is an error.

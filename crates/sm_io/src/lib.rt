@@ -1,15 +1,18 @@
-//! Files and standard output behind two traits, so that every answer's cause can be stated and tested.
+//! Files and standard output behind two traits, so that every fault's cause can be stated.
 //!
-//! - A `Shelf` is files by name, and a `Sink` takes bytes in order. A fault comes only where a count
-//!   of faults rose in that call, or where the shelf tells that no file has the name. A call without
-//!   a fault leaves the counts as they were. Want of memory may come at any time.
-//! - `read_all` gives all bytes of a file that the shelf tells, and never more than the limit. It says
-//!   that a file is too long only where it is.
+//! - A `Shelf` is files by name, and a `Sink` takes bytes in order. A fault comes only where a
+//!   count of faults rose in that call, or where the shelf tells that no file has the name. Without
+//!   a fault a call leaves the counts as they were. Want of memory may come at any time.
+//! - `read_all` gives all bytes of a file that the shelf tells, and never more than the limit. It
+//!   says that a file is too long only where it is.
 //! - `put_all` and `append_all` write all bytes. After an error they wrote a proper prefix.
 //! - `MemShelf` and `MemSink` tell all that they hold. They fail at the calls that they were given,
 //!   and otherwise only where no file has the name.
 //! - `FileShelf` and `OutSink` are real files and standard output. They tell nothing, so that they
-//!   read and write the bytes that they should is tested, and not proved.
+//!   read and write the bytes that they should is tested, and not proved. A file that is read piece
+//!   after piece stays open, so that no two files are read as one.
+//! - `read_all` makes no further read once more than the limit came. No contract counts the reads:
+//!   a case shows it, over a shelf whose next call would fail.
 //!
 //! Read `specs/Files.antt` first, then `specs/Causes.antt` and `specs/Sinks.antt`.
 #![tactic(auto)]
@@ -35,6 +38,3 @@ pub use put::{append_all, put_all};
 pub use read::read_all;
 pub use shelf::Shelf;
 pub use sink::Sink;
-
-#[cfg(test)]
-mod tests;

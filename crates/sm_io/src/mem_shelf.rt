@@ -80,8 +80,8 @@ impl MemShelf {
     }
 }
 
-// Copies what stands in `bytes` from `place` on to the front of `buf`, as much as there is room for,
-// and answers how much.
+// Copies what stands in `bytes` from `place` on to the front of `buf`, as much as there is room
+// for, and answers how much.
 fn copy_from(bytes: &[u8], place: u64, buf: &mut [u8]) -> usize
     ensures bound { result ≤ length buf.new }
     ensures read { ReadsFrom bytes.now place result buf.new }

@@ -9,8 +9,8 @@ use std::alloc::{AllocError, Global};
 /// How many bytes a file is asked for at once.
 const PIECE: usize = 65536;
 
-/// Reads the whole file, which may have `limit` bytes. It reads until a read gives no bytes, or until
-/// more than `limit` came. A file that grows or shrinks meanwhile may be read in part.
+/// Reads the whole file, which may have `limit` bytes. It reads until a read gives no bytes, or
+/// until more than `limit` came. A file that grows or shrinks meanwhile may be read in part.
 pub fn read_all<H: Shelf>(
     alloc: Global,
     shelf: &mut H,

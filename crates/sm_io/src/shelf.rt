@@ -40,8 +40,8 @@ pub trait Shelf {
             (IsErrOf result IoError.Fault) }
         ensures reads { read_faults self.new ≡ read_faults self.old };
 
-    /// Adds the first of `bytes` to the file's end, and answers how many. It may add fewer than there
-    /// are, but at least one of them.
+    /// Adds the first of `bytes` to the file's end, and answers how many. It may add fewer than
+    /// there are, but at least one of them.
     fn append(&mut self, name: &str, bytes: &[u8]) -> Result<usize, IoError>
         ensures bound { IfOk result (λ n. n ≤ length bytes.now) }
         ensures some { 0 < length bytes.now → IfOk result (λ n. 0 < n) }

@@ -20,5 +20,6 @@ pub trait Sink {
         ensures ok { IfOk result (λ n. Adds (taken self.old) (taken self.new) (take n bytes.now)) }
         ensures err { OnErr result (taken self.new ≡ taken self.old) }
 
-        ensures cause { HasCause (faults self.old) (faults self.new) (IsErrOf result IoError.Fault) };
+        ensures cause { HasCause (faults self.old) (faults self.new)
+            (IsErrOf result IoError.Fault) };
 }
