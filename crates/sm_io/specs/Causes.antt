@@ -1,9 +1,9 @@
--- What a count of faults says of the cause of a fault. A count never falls, stops at the greatest
--- number of 64 bits, and rises only where a fault is answered.
+-- What a count of faults says of the cause of a fault. A count never falls, and rises only where a
+-- fault is answered. It stays at 2 ^ 64 - 1, its last value, where it can't show a further fault.
 use Rattle.std.specs.Prelude.{◌≡◌, ◌≤◌, ◌+◌, ◌-◌, ◌^◌, ◌⊎◌, ℕ, min}
 use Rattle.sm_io.specs.Files.{Known, absent}
 
--- the count rose by one or more, or was at its greatest already
+-- the count rose by one or more; at its last value this says nothing
 abbrev pub Rose : ℕ → ℕ → Type 0
 Rose before now = min (before + 1) (2 ^ 64 - 1) ≤ now
 
