@@ -9,7 +9,8 @@ pub enum Phase {
     Answer,
 }
 
-/// Something that is told of each job directly before it runs. It takes no memory and changes no result.
+/// Something that is told of each job directly before it runs. It takes no memory and changes no
+/// result.
 pub trait Gate: Sync {
     fn enter(&self, phase: Phase);
 }

@@ -23,8 +23,9 @@ pub trait Job: Sync {
         ensures { IfOk result (λ out. stands_for self.now index out) };
 }
 
-/// Runs the jobs with numbers from 0 to `count`, with as many workers at most, from 1 to 64. Each enters the gate with
-/// the phase directly before it runs. With one worker all run in the caller.
+/// Runs the jobs with numbers from 0 on, `count` of them, with at most `workers` threads, the
+/// caller's own among them. Each job enters the gate with the phase directly before it runs. With
+/// one worker no thread is made.
 pub fn run_jobs<R: Threads + Sync, G: Gate, J: Job>(
     rt: &R,
     alloc: Global,
@@ -57,7 +58,7 @@ fn run_one<G: Gate, J: Job>(
     job.run(alloc, index)
 }
 
-// Runs the jobs from `start` on, one after the other.
+// Runs the jobs from `start` on, one after the other. It has no handle to make a thread with.
 fn run_in_turn<G: Gate, J: Job>(
     alloc: Global,
     gate: &G,
@@ -68,7 +69,8 @@ fn run_in_turn<G: Gate, J: Job>(
 ) -> Result<Vec<J::Out>, AllocError>
     requires jobs { start + count ≤ J.indices job.now }
     requires room { start + count < 2 ^ 64 }
-    ensures { IfOk result (λ results. StandInOrder (J.stands_for job.now) start count results.items) }
+    ensures { IfOk result (λ results.
+        StandInOrder (J.stands_for job.now) start count results.items) }
 {
     let mut results = Vec::new(alloc);
     'jobs: for offset in 0..count {
@@ -77,7 +79,8 @@ fn run_in_turn<G: Gate, J: Job>(
     Ok(results)
 }
 
-// Runs the jobs from `start` on. They are halved, as are the workers, and one half goes to another thread.
+// Runs the jobs from `start` on. They are halved, as are the workers, and one half goes to another
+// thread.
 #[cycle(parts)]
 fn run_part<R: Threads + Sync, G: Gate, J: Job>(
     rt: &R,
@@ -92,7 +95,8 @@ fn run_part<R: Threads + Sync, G: Gate, J: Job>(
     requires jobs { start + count ≤ J.indices job.now }
     requires room { start + count < 2 ^ 64 }
     requires some { 0 < workers }
-    ensures { IfOk result (λ results. StandInOrder (J.stands_for job.now) start count results.items) }
+    ensures { IfOk result (λ results.
+        StandInOrder (J.stands_for job.now) start count results.items) }
 {
     if workers == 1 || count < 2 {
         return run_in_turn(alloc, gate, phase, job, start, count);
@@ -103,12 +107,16 @@ fn run_part<R: Threads + Sync, G: Gate, J: Job>(
     let mine = workers / 2;
     let theirs = workers - mine;
     let front = move || -> Result<Vec<J::Out>, AllocError>
-        requires { IsSync R.row × IsSync G.row × IsSync J.row × IsSend J.Out.row × (0 < half) × (0 < mine) × (start + half < 2 ^ 64) × (start + half ≤ J.indices job.now) }
-        ensures { IfOk result (λ results. StandInOrder (J.stands_for job.entry.now) start half results.items) }
+        requires { IsSync R.row × IsSync G.row × IsSync J.row × IsSend J.Out.row × (0 < half)
+            × (0 < mine) × (start + half < 2 ^ 64) × (start + half ≤ J.indices job.now) }
+        ensures { IfOk result (λ results.
+            StandInOrder (J.stands_for job.entry.now) start half results.items) }
     { run_part(rt, alloc, gate, phase, job, start, half, mine) };
     let back = move || -> Result<Vec<J::Out>, AllocError>
-        requires { IsSync R.row × IsSync G.row × IsSync J.row × IsSend J.Out.row × (0 < others) × (0 < theirs) × (up + others < 2 ^ 64) × (up + others ≤ J.indices job.now) }
-        ensures { IfOk result (λ results. StandInOrder (J.stands_for job.entry.now) up others results.items) }
+        requires { IsSync R.row × IsSync G.row × IsSync J.row × IsSend J.Out.row × (0 < others)
+            × (0 < theirs) × (up + others < 2 ^ 64) × (up + others ≤ J.indices job.now) }
+        ensures { IfOk result (λ results.
+            StandInOrder (J.stands_for job.entry.now) up others results.items) }
     { run_part(rt, alloc, gate, phase, job, up, others, theirs) };
     let (first, second) = join(rt, front, back);
     let mut results = first?;
