@@ -10,7 +10,8 @@ use Rattle.sm_syntax.specs.Syntax.{Expression, Lit, Var, Read, Neg, Plus, Minus,
 use Rattle.sm_deps.specs.Names.{mentions, tests, names_of}
 use Rattle.sm_deps.specs.Inputs.{needed, inputs}
 use Rattle.sm_deps.proofs.Exact.{inputs_listed}
-use Rattle.sm_deps.proofs.Rounds.{Below, grown_within}
+use Rattle.sm_deps.specs.Members.{Below}
+use Rattle.sm_deps.proofs.Rounds.{grown_within}
 
 -- whether a name is declared
 abbrev declared : Sorts → ℕ → Bool

@@ -14,7 +14,8 @@ use Rattle.sm_syntax.specs.Syntax.{Expression, Lit, Var, Read, Neg, Plus, Minus,
 use Rattle.sm_deps.specs.Names.{mentions, tests, names_of}
 use Rattle.sm_deps.specs.Needs.{Names, Within, Picked, Needs}
 use Rattle.sm_deps.specs.Inputs.{needed, greatest, inputs}
-use Rattle.sm_deps.proofs.Rounds.{Below, Closed, From, grown_starts, grown_within, grown_closed}
+use Rattle.sm_deps.specs.Members.{Below}
+use Rattle.sm_deps.proofs.Rounds.{Closed, From, grown_starts, grown_within, grown_closed}
 
 -- whether a name stands in a list of names with sorts
 abbrev stands : List (ℕ × Sort) → ℕ → Bool

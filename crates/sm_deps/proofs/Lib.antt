@@ -6,3 +6,4 @@ pub mod Unions
 pub mod Assignments
 pub mod Steps
 pub mod Declared
+mod KeptSets

@@ -4,14 +4,11 @@ use Rattle.std.proofs.lemmas.Bool.{eqb-true, eq-eqb, or_left, or_right, or_cases
 use Rattle.std.proofs.Math.Path.{fun_ext}
 use Rattle.sm_syntax.specs.Conditions.{is_in}
 use Rattle.sm_deps.specs.Inputs.{grown}
+use Rattle.sm_deps.specs.Members.{Below}
 
 -- a set, and what makes sets greater
 abbrev Test : Type 0
 Test = ℕ → Bool
-
--- each name of the first set is in the second
-abbrev pub Below : Test → Test → Type 0
-Below first second = (x : ℕ) → first x ≡ true → second x ≡ true
 
 -- a set that brings nothing new
 abbrev pub Closed : (Test → Test) → Test → Type 0

@@ -1,6 +1,6 @@
 -- What is needed before statements and lists of statements, one step at a time.
 use Rattle.std.proofs.Common.{◌≡◌, ◌+◌, ◌-◌, ◌<◌, ◌≤◌, ℕ, Bool, true, false, cond, not, ◌==◌, ◌||◌, ◌&&◌, List, [], ◌∷◌, ◌++◌, length, map, drop, get_or, nat_eq, refl, sym, ap, subst, ⊎_elim, ◌∙◌, length-append, arith}
-use Rattle.std.proofs.lemmas.Bool.{cases_Bool, eqb-true, or_left, or_right, or_cases}
+use Rattle.std.proofs.lemmas.Bool.{cases_Bool, eqb-true, or_left, or_cases}
 use Rattle.std.proofs.lemmas.Bool.Decides.{nat_tests}
 use Rattle.std.proofs.Math.Path.{fun_ext}
 use Rattle.std.proofs.lemmas.List.Folds.{list_any-append}
@@ -23,11 +23,10 @@ use Rattle.sm_syntax.specs.Views.{expression_of, condition_of, sequence, stateme
 use Rattle.sm_syntax.proofs.Blocks.{statement_is, sequence-drop}
 use Rattle.sm_syntax.proofs.Statements.{statement_of-Skip, statement_of-Assign, statement_of-Store, statement_of-If, statement_of-While, statement_of-Hole}
 use Rattle.sm_deps.specs.Inputs.{grown, needed, inputs}
-use Rattle.sm_deps.specs.Members.{members, only, either}
+use Rattle.sm_deps.specs.Members.{members, only, either, Below}
 use Rattle.sm_deps.specs.Names.{mentions, tests, names_of}
 use Rattle.sm_deps.specs.Needs.{Picked}
-use Rattle.sm_deps.proofs.Exact.{body_from, needed_sound, needed_complete, inputs_listed, inputs_exact}
-use Rattle.sm_deps.proofs.Rounds.{Below, Closed, grown_within, grown_closed}
+use Rattle.sm_deps.proofs.Exact.{needed_sound, needed_complete, inputs_listed, inputs_exact}
 use Rattle.sm_deps.proofs.Unions.{at_number, or_assoc, or-false, listed-members, list_is}
 
 -- before one code after another, what the first needs for what the second needs
@@ -108,15 +107,6 @@ pub needed-While : (b : Cond) (c : Block) (wanted : ℕ → Bool) →
 unfolding either
 needed-While b c wanted = ap (λ (k : Code). needed k wanted) (statement_of-While b c End)
 
--- a list's statements from i on, where s stands at i
-pub needed-drop : (l : List Stmt) (i : ℕ) (s : Stmt) (wanted : ℕ → Bool) → i < length l → s ≡ get_or l i s →
-    needed (sequence (map statement_of (drop i l)) End) wanted ≡ needed (statement_of s End) (needed (sequence (map statement_of (drop (i + 1) l)) End) wanted)
-needed-drop l i s wanted here item =
-    let k = sequence (map statement_of (drop (i + 1) l)) End in
-    ap (λ (c : Code). needed c wanted) (sequence-drop l i s End here ∙ statement_is (get_or l i s) k) ∙
-    ap (λ (t : Stmt). needed (append (statement_of t End) k) wanted) (sym item) ∙
-    needed-append (statement_of s End) k wanted
-
 -- a set that lost a name
 less : (b c : Bool) → cond b false c ≡ (c && not b)
 less true true = refl
@@ -144,33 +134,10 @@ pub needed_grows : (c : Code) (few more : ℕ → Bool) → Below few more → B
 needed_grows c few more h x m = needed_complete c more (Picked more) (λ (y : ℕ) (p : more y ≡ true). p) x (needed_sound c few (Picked more) h x m)
 
 -- two tests that hold of the same numbers
-both_ways : (b c : Bool) → (b ≡ true → c ≡ true) → (c ≡ true → b ≡ true) → b ≡ c
+pub both_ways : (b c : Bool) → (b ≡ true → c ≡ true) → (c ≡ true → b ≡ true) → b ≡ c
 both_ways true c there back = sym (there refl)
 both_ways false true there back = absurd (let no : false ≡ true = back refl in cc)
 both_ways false false there back = refl
-
--- a set between the start and the loop's set that needs nothing more is the loop's set
-pub loop_is : (c : Code) (start set : ℕ → Bool) → Below start set → Below set (grown (length (names_of c)) (needed c) start) → Closed (needed c) set →
-    set ≡ grown (length (names_of c)) (needed c) start
-loop_is c start set starts within closed =
-    let rounds = length (names_of c) in
-    fun_ext (λ (x : ℕ).
-    both_ways (set x) (grown rounds (needed c) start x) (within x)
-    (grown_within rounds (needed c) start set (λ (part : ℕ → Bool) (h : Below part set) (y : ℕ) (m : needed c part y ≡ true). closed y (needed_grows c part set h y m)) starts x))
-
--- what such a set needs stays in the loop's set
-pub loop_holds : (c : Code) (start set : ℕ → Bool) → Below set (grown (length (names_of c)) (needed c) start) →
-    Below (either set (needed c set)) (grown (length (names_of c)) (needed c) start)
-unfolding either
-loop_holds c start set within x m =
-    let whole = grown (length (names_of c)) (needed c) start in
-    ⊎_elim (within x) (λ (new : needed c set x ≡ true). grown_closed (names_of c) (needed c) start (body_from c start) x (needed_grows c set whole within x new))
-    (or_cases (set x) (needed c set x) m)
-
--- the first of two sets
-pub below_either : (start set more : ℕ → Bool) → Below start set → Below start (either set more)
-unfolding either
-below_either start set more h x m = or_left (set x) (more x) (h x m)
 
 -- a set's list has no name twice
 distinct : (set : BTreeSet ℕ) → IsOrdered nat_cmp set → IsDistinct nat_eq set.keys
@@ -202,47 +169,19 @@ no_more old new ordered h small q m =
     absurd (omega (arith, more, long, small)))
     (cases_Bool (members old q))
 
--- the same where the statements from j on are gone over
-pub needed-before : (l : List Stmt) (j : ℕ) (s : Stmt) (wanted : ℕ → Bool) → 0 < j → j ≤ length l → s ≡ get_or l (j - 1) s →
-    needed (sequence (map statement_of (drop (j - 1) l)) End) wanted ≡ needed (statement_of s End) (needed (sequence (map statement_of (drop j l)) End) wanted)
-needed-before l j s wanted some within item =
+-- a list's statements from j - 1 on, where s is the one before the j-th
+pub sequence-before : (l : List Stmt) (j : ℕ) (s : Stmt) → 0 < j → j ≤ length l → s ≡ get_or l (j - 1) s →
+    append (statement_of s End) (sequence (map statement_of (drop j l)) End) ≡ sequence (map statement_of (drop (j - 1) l)) End
+sequence-before l j s some within item =
     let next : (j - 1) + 1 ≡ j = omega arith in
-    needed-drop l (j - 1) s wanted (omega (arith, some, within)) item ∙
-    ap (λ (m : ℕ). needed (statement_of s End) (needed (sequence (map statement_of (drop m l)) End) wanted)) next
+    let k = sequence (map statement_of (drop ((j - 1) + 1) l)) End in
+    sym (sequence-drop l (j - 1) s End (omega (arith, some, within)) ∙ statement_is (get_or l (j - 1) s) k ∙ ap (λ (t : Stmt). append (statement_of t End) k) (sym item)
+    ∙ ap (λ (m : ℕ). append (statement_of s End) (sequence (map statement_of (drop m l)) End)) next)
 
--- a turn keeps what is there
-pub turn_starts : (c : Code) (start old new : ℕ → Bool) → new ≡ either old (needed c old) → Below start old → Below start new
-turn_starts c start old new is h = subst (Below start) (sym is) (below_either start old (needed c old) h)
-
--- a turn stays in the loop's set
-pub turn_within : (c : Code) (start old new : ℕ → Bool) → new ≡ either old (needed c old) → Below old (grown (length (names_of c)) (needed c) start) →
-    Below new (grown (length (names_of c)) (needed c) start)
-turn_within c start old new is h = subst (λ (s : ℕ → Bool). Below s (grown (length (names_of c)) (needed c) start)) (sym is) (loop_holds c start old h)
-
--- the first of two sets is in both
-first_below : (s t : ℕ → Bool) → Below s (either s t)
+-- a set with the names of another is no smaller
+pub turn_grows : (old new : BTreeSet ℕ) (more : ℕ → Bool) → IsOrdered nat_cmp old → members new ≡ either (members old) more → length old.keys ≤ length new.keys
 unfolding either
-first_below s t x h = or_left (s x) (t x) h
-
--- so is the second
-second_below : (s t : ℕ → Bool) → Below t (either s t)
-unfolding either
-second_below s t x h = or_right (s x) (t x) h
-
--- a turn that adds no name is the last
-pub turn_last : (c : Code) (start : ℕ → Bool) (old new : BTreeSet ℕ) → IsOrdered nat_cmp old → members new ≡ either (members old) (needed c (members old)) →
-    length new.keys ≡ length old.keys → Below start (members old) → Below (members old) (grown (length (names_of c)) (needed c) start) →
-    members new ≡ grown (length (names_of c)) (needed c) start
-turn_last c start old new ordered is same starts within =
-    let had : Below (members old) (members new) = subst (Below (members old)) (sym is) (first_below (members old) (needed c (members old))) in
-    let brought : Below (needed c (members old)) (members new) = subst (Below (needed c (members old))) (sym is) (second_below (members old) (needed c (members old))) in
-    let back : Below (members new) (members old) = no_more old new ordered had (omega (arith, same)) in
-    loop_is c start (members new) (turn_starts c start (members old) (members new) is starts) (turn_within c start (members old) (members new) is within)
-    (λ (x : ℕ) (m : needed c (members new) x ≡ true). brought x (needed_grows c (members new) (members old) back x m))
-
--- a turn makes the set no smaller
-pub turn_grows : (c : Code) (old new : BTreeSet ℕ) → IsOrdered nat_cmp old → members new ≡ either (members old) (needed c (members old)) → length old.keys ≤ length new.keys
-turn_grows c old new ordered is = at_least old new ordered (subst (Below (members old)) (sym is) (first_below (members old) (needed c (members old))))
+turn_grows old new more ordered is = at_least old new ordered (λ (x : ℕ) (h : members old x ≡ true). subst (λ (s : ℕ → Bool). s x ≡ true) (sym is) (or_left (members old x) (more x) h))
 
 -- the list of a set that has exactly what is needed is the list of inputs
 pub list_is_inputs : (c : Code) (w : ℕ) (set : BTreeSet ℕ) → IsOrdered nat_cmp set → members set ≡ needed c (only w) → set.keys ≡ inputs c w

@@ -2,4 +2,5 @@ pub mod Names
 pub mod Needs
 pub mod Inputs
 pub mod Members
+pub mod Loops
 pub mod Laws

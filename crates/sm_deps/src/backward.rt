@@ -1,16 +1,16 @@
 // What a block needs.
-ghost use Rattle.std.specs.Prelude.{◌≡◌, length, IfOk, OnOk};
+ghost use Rattle.std.specs.Prelude.{◌≡◌, IfOk, OnOk};
 ghost use Rattle.sm_syntax.specs.Programs.{outputs_of};
-ghost use Rattle.sm_syntax.specs.Syntax.{Code, End};
-ghost use Rattle.sm_syntax.specs.Views.{statement_of, code_of};
+ghost use Rattle.sm_syntax.specs.Syntax.{End, If, While};
+ghost use Rattle.sm_syntax.specs.Views.{condition_of, statement_of, code_of};
 ghost use Rattle.sm_deps.specs.Inputs as plain;
-ghost use Rattle.sm_deps.specs.Inputs.{needed, grown};
-ghost use Rattle.sm_deps.specs.Names.{names_of};
-ghost use Rattle.sm_deps.specs.Members.{members, either};
+ghost use Rattle.sm_deps.specs.Loops.{IsReady, GoesOver, Settles};
+ghost use Rattle.sm_deps.specs.Members.{members};
 
+use crate::loops::{Loops, keep, no_loops, resume};
 use crate::mentioned::{add_cond, add_expr};
 use crate::sets::{NameSet, add_all, add_name, list_of};
-use sm_syntax::{Block, Name, Outputs, Stmt};
+use sm_syntax::{Block, Cond, Name, Outputs, Stmt};
 use std::alloc::{AllocError, Global};
 use std::collections::BTreeSet;
 
@@ -21,27 +21,31 @@ pub fn inputs(alloc: Global, b: &Block, wanted: Name) -> Result<Outputs, AllocEr
 {
     let mut names = BTreeSet::new(alloc);
     add_name(&mut names, wanted)?;
-    before_block(&mut names, b)?;
+    let mut loops = no_loops(alloc);
+    before_block(&mut names, &mut loops, b)?;
     list_of(alloc, &names)
 }
 
 // From the names that are wanted after a block to those that it needs.
 #[cycle(before)]
-fn before_block(names: &mut NameSet, b: &Block) -> Result<(), AllocError>
-    ensures { OnOk result (members names.new ≡ needed (code_of b.now) (members names.old)) }
+fn before_block(names: &mut NameSet, loops: &mut Loops, b: &Block) -> Result<(), AllocError>
+    requires { IsReady loops.old }
+    ensures { OnOk result (GoesOver (code_of b.now) (members names.old) (members names.new) loops.old loops.new) }
 {
     let mut i = b.list.len();
     while i > 0 {
         i -= 1;
-        before_stmt(names, &b.list[i])?;
+        before_stmt(names, loops, &b.list[i])?;
     }
     Ok(())
 }
 
 // From the names that are wanted after a statement to those that it needs.
 #[cycle(before)]
-fn before_stmt(names: &mut NameSet, s: &Stmt) -> Result<(), AllocError>
-    ensures { OnOk result (members names.new ≡ needed (statement_of s.now End) (members names.old)) }
+fn before_stmt(names: &mut NameSet, loops: &mut Loops, s: &Stmt) -> Result<(), AllocError>
+    requires { IsReady loops.old }
+    ensures { let code = statement_of s.now End in
+        OnOk result (GoesOver code (members names.old) (members names.new) loops.old loops.new) }
 {
     match s {
         Stmt::Skip => Ok(()),
@@ -59,38 +63,60 @@ fn before_stmt(names: &mut NameSet, s: &Stmt) -> Result<(), AllocError>
             }
             Ok(())
         }
-        Stmt::If(b, c, d) => {
-            before_branches(names, c, d)?;
-            add_cond(names, b)
-        }
-        Stmt::While(b, c) => {
-            add_cond(names, b)?;
-            before_turns(names, c)
-        }
+        Stmt::If(b, c, d) => before_choice(names, loops, b, c, d),
+        Stmt::While(b, c) => before_loop(names, loops, b, c),
     }
 }
 
-// From the names that are wanted after one of two blocks to those that either needs.
+// From the names that are wanted after a choice to those that it needs.
 #[cycle(before)]
-fn before_branches(names: &mut NameSet, c: &Block, d: &Block) -> Result<(), AllocError>
-    ensures { let needs = λ (code : Code). needed code (members names.old) in
-        OnOk result (members names.new ≡ either (needs (code_of c.now)) (needs (code_of d.now))) }
+fn before_choice(
+    names: &mut NameSet,
+    loops: &mut Loops,
+    b: &Cond,
+    c: &Block,
+    d: &Block,
+) -> Result<(), AllocError>
+    requires { IsReady loops.old }
+    ensures { let code = If (condition_of b.now) (code_of c.now) (code_of d.now) End in
+        OnOk result (GoesOver code (members names.old) (members names.new) loops.old loops.new) }
 {
     let mut others = names.clone()?;
-    before_block(names, c)?;
-    before_block(&mut others, d)?;
-    add_all(names, others)
+    before_block(names, loops, c)?;
+    before_block(&mut others, loops, d)?;
+    add_all(names, others)?;
+    add_cond(names, b)
+}
+
+// From the names that are wanted after a loop to those that it needs.
+#[cycle(before)]
+fn before_loop(
+    names: &mut NameSet,
+    loops: &mut Loops,
+    b: &Cond,
+    c: &Block,
+) -> Result<(), AllocError>
+    requires { IsReady loops.old }
+    ensures { let code = While (condition_of b.now) (code_of c.now) End in
+        OnOk result (GoesOver code (members names.old) (members names.new) loops.old loops.new) }
+{
+    add_cond(names, b)?;
+    let number = resume(loops, names)?;
+    before_turns(names, loops, c)?;
+    keep(loops, number, names)
 }
 
 // Adds what a block needs for the set itself, until that is in the set.
 #[cycle(before)]
-fn before_turns(names: &mut NameSet, c: &Block) -> Result<(), AllocError>
-    ensures { let rounds = length (names_of (code_of c.now)) in
-        OnOk result (members names.new ≡ grown rounds (needed (code_of c.now)) (members names.old)) }
+fn before_turns(names: &mut NameSet, loops: &mut Loops, c: &Block) -> Result<(), AllocError>
+    requires { IsReady loops.old }
+    ensures { OnOk result (Settles (code_of c.now) (members names.old) (members names.new) loops.old loops.new) }
 {
+    let first = loops.next;
     loop {
+        loops.next = first;
         let mut more = names.clone()?;
-        before_block(&mut more, c)?;
+        before_block(&mut more, loops, c)?;
         let size = names.len();
         add_all(names, more)?;
         if names.len() == size {

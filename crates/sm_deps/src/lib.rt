@@ -10,10 +10,9 @@
 mod assigned;
 mod backward;
 mod laws;
+mod loops;
 mod mentioned;
 mod sets;
-#[cfg(test)]
-mod tests;
 
 pub use assigned::writes;
 pub use backward::inputs;

@@ -4,6 +4,7 @@ use Rattle.sm_syntax.specs.Programs.{outputs_of}
 use Rattle.sm_syntax.specs.Views.{code_of}
 use Rattle.sm_deps.specs.Inputs.{needed, inputs}
 use Rattle.sm_deps.specs.Members.{members, either, only}
+use Rattle.sm_deps.proofs.KeptSets.{over_all}
 use Rattle.sm_deps.proofs.Steps.{list_is_inputs}
 use Rattle.sm_deps.proofs.Unions.{none-either, members-empty, if_ok}
 use Rattle.sm_deps.proofs.backward.inputs.Goals as goal
@@ -16,6 +17,7 @@ returns c =
     let w = c.args.wanted.0 in
     let start : members c.add_name.new.names ≡ only w =
     c.in_ok-add_name.ensures ∙ ap (λ (s : ℕ → Bool). either s (only w)) (members-empty c.new-names.result c.new-names.ensures.empty) ∙ none-either (only w) in
-    let all : members set ≡ needed code (only w) = c.in_ok-before_block.ensures ∙ ap (needed code) start in
+    let found = over_all code (members c.add_name.new.names) (members set) c.no_loops-loops.result c.before_block.new.loops c.no_loops-loops.ensures.sets c.in_ok-before_block.ensures in
+    let all : members set ≡ needed code (only w) = found ∙ ap (needed code) start in
     if_ok c.list_of.result (λ (o : Outputs). outputs_of o ≡ set.keys) (λ (o : Outputs). outputs_of o ≡ inputs code w) c.list_of.ensures.listed
     (λ (o : Outputs) (same : outputs_of o ≡ set.keys). same ∙ list_is_inputs code w set c.list_of.ensures.ordered all)
