@@ -29,19 +29,32 @@ type Sorts = HashMap<u32, Sort>;
 /// Whether no name is declared twice, each output is declared and stands once, each name of the
 /// body stands as it is declared, and the program is within the limits of size and depth. The first
 /// fault in this order is the error.
-#[tactic(auto, using(crate::proofs::Uses::conditions), unfolding(crate::specs::Conditions::program_fault))]
 pub fn well_formed(alloc: Global, p: &Program) -> Result<(), SyntaxError>
     ensures { let outputs = outputs_of p.now.outputs in
         Reports result (program_fault (declared_of p.now.decls) outputs (code_of p.now.body)) }
 {
-    check_declared(alloc, &p.decls)?;
-    let sorts = sorts_of(alloc, &p.decls)?;
-    check_outputs(alloc, &sorts, &p.outputs)?;
-    check_block(&sorts, &p.body)?;
-    if p.decls.list.len() > MAX_NAMES {
+    well_formed_block(alloc, &p.decls, &p.outputs, &p.body)
+}
+
+/// The same of a program by its parts.
+#[tactic(auto, using(crate::proofs::Uses::conditions), unfolding(crate::specs::Conditions::program_fault))]
+pub fn well_formed_block(
+    alloc: Global,
+    decls: &Decls,
+    outputs: &Outputs,
+    body: &Block,
+) -> Result<(), SyntaxError>
+    ensures { let outputs = outputs_of outputs.now in
+        Reports result (program_fault (declared_of decls.now) outputs (code_of body.now)) }
+{
+    check_declared(alloc, decls)?;
+    let sorts = sorts_of(alloc, decls)?;
+    check_outputs(alloc, &sorts, outputs)?;
+    check_block(&sorts, body)?;
+    if decls.list.len() > MAX_NAMES {
         return Err(SyntaxError::TooMany);
     }
-    check_size(nodes(&p.body), depth(&p.body))
+    check_size(nodes(body), depth(body))
 }
 
 /// Whether each name of a condition stands as it is declared, and the condition alone is within the

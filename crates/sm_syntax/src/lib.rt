@@ -21,7 +21,7 @@ mod token;
 mod tree;
 
 pub use cell::keeps;
-pub use checks::{well_formed, well_formed_cond};
+pub use checks::{well_formed, well_formed_block, well_formed_cond};
 pub use copies::{CopyName, PerCopy};
 pub use copy::{copy_block, copy_cond, copy_decls, copy_expr, copy_outputs, copy_stmt};
 pub use error::SyntaxError;

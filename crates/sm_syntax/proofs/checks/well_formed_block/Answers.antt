@@ -5,11 +5,11 @@ use Rattle.sm_syntax.specs.Faults.{Reports}
 use Rattle.sm_syntax.specs.Programs.{declared_of, outputs_of}
 use Rattle.sm_syntax.specs.Views.{code_of}
 use Rattle.sm_syntax.proofs.Uses.{conditions}
-use Rattle.sm_syntax.proofs.checks.well_formed.Goals as goal
+use Rattle.sm_syntax.proofs.checks.well_formed_block.Goals as goal
 
 pub returns : goal.returns
 unfolding program_fault
 returns c =
-    let p = c.args.p.now in
-    let same : size_fault c.nodes.result c.depth.result ≡ program_fault (declared_of p.decls) (outputs_of p.outputs) (code_of p.body) = grind (arith, common_steps, conditions) in
+    let fault = program_fault (declared_of c.args.decls.now) (outputs_of c.args.outputs.now) (code_of c.args.body.now) in
+    let same : size_fault c.nodes.result c.depth.result ≡ fault = grind (arith, common_steps, conditions) in
     subst (Reports c.check_size.result) same c.check_size.ensures
