@@ -1,3 +1,4 @@
+pub mod Filled
 pub mod Numbers
 pub mod Refusals
 pub mod Parsing

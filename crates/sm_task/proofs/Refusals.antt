@@ -1,10 +1,12 @@
 -- The first refusal of conditions that are checked one after the other.
-use Rattle.std.proofs.Common.{◌≡◌, true, false, Option, Some, None, Err}
+use Rattle.std.proofs.Common.{◌≡◌, refl, true, false, Option, Some, None, Err}
 use Rattle.std.specs.Option.{option_or}
-use Rattle.sm_syntax.specs.Conditions.{Refusal}
+use Rattle.sm_syntax.specs.Conditions.{ListOf, Refusal}
+use Rattle.sm_syntax.specs.ConflictFree.{Copy, O, A, B, M}
+use Rattle.sm_syntax.specs.Copies.{number_of}
 use Rattle.sm_syntax.proofs.Uses.{option_or-None}
 use Rattle.sm_task.specs.declared.error.TaskError.{TaskError}
-use Rattle.sm_task.specs.Errors.{Reports}
+use Rattle.sm_task.specs.Errors.{Reports, section_of}
 
 -- an error is the first refusal, whatever stands behind it
 pub reports_or : (e : TaskError) (a b : Option Refusal) → Reports (Err e) a → Reports (Err e) (option_or a b)
@@ -13,3 +15,10 @@ reports_or e (Some r) b here named = here named
 
 -- what checks one after the other need
 pub ruleset checks = (reports_or, option_or-None)
+
+-- a copy's list is the section with the copy's number
+pub same_section : (c : Copy) → section_of (number_of c) ≡ ListOf c
+same_section O = refl
+same_section A = refl
+same_section B = refl
+same_section M = refl

@@ -1,15 +1,18 @@
--- The parts that a program's task stands for.
-use Rattle.std.specs.Prelude.{option_map}
-use Rattle.sm_syntax.specs.ConflictFree.{Copy}
+-- The parts that a task stands for, and the programs of its copies. Public clauses cite it.
+use Rattle.std.specs.Prelude.{◌≡◌, option_map}
+use Rattle.sm_syntax.specs.declared.copies.PerCopy.{PerCopy}
+use Rattle.sm_syntax.specs.declared.tree.Block.{Block}
+use Rattle.sm_syntax.specs.ConflictFree.{Copy, program_of}
 use Rattle.sm_syntax.specs.Fill.{Fillings}
-use Rattle.sm_syntax.specs.Parts.{Parts, by_copy}
+use Rattle.sm_syntax.specs.Copies.{of_copy}
+use Rattle.sm_syntax.specs.Parts.{Parts, task_of}
 use Rattle.sm_syntax.specs.Programs.{declared_of, outputs_of, fillings_of}
 use Rattle.sm_syntax.specs.Views.{condition_of, code_of}
 use Rattle.sm_task.specs.declared.task.Task.{Task}
 
 -- the fillings of each copy
 abbrev pub fillings_for : Task → Copy → Fillings
-fillings_for t = by_copy (fillings_of t.base) (fillings_of t.variant_a) (fillings_of t.variant_b) (fillings_of t.candidate)
+fillings_for t c = fillings_of (of_copy t.lists c)
 
 -- the parts of a task
 abbrev pub parts_of : Task → Parts
@@ -21,3 +24,7 @@ parts_of t = record {
   shared = code_of t.shared.body;
   fillings = fillings_for t;
 }
+
+-- these are the programs of the task's copies
+abbrev pub AreFilled : Parts → PerCopy Block → Type 0
+AreFilled t programs = (c : Copy) → code_of (of_copy programs c) ≡ program_of (task_of t) c

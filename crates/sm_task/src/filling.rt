@@ -1,21 +1,24 @@
-// The program of a copy.
+// The programs of the copies.
 ghost use Rattle.std.specs.Prelude.{◌≡◌, ◌<◌, map, IfOk, OnOk, IfSome, IfNone};
 ghost use Rattle.sm_syntax.specs.ConflictFree.{copy_of, program_of};
+ghost use Rattle.sm_syntax.specs.Copies.{copy_named};
 ghost use Rattle.sm_syntax.specs.Fill.{filling, fill};
 ghost use Rattle.sm_syntax.specs.Parts.{task_of};
 ghost use Rattle.sm_syntax.specs.Programs.{declared_of, outputs_of, fillings_of};
 ghost use Rattle.sm_syntax.specs.Syntax.{Code, End, append};
 ghost use Rattle.sm_syntax.specs.Views.{sequence, statement_of, code_of};
-ghost use Rattle.sm_task.specs.Tasks.{fillings_for, parts_of};
+ghost use Rattle.sm_task.specs.Tasks.{AreFilled, parts_of};
 
 use crate::task::Task;
 use sm_syntax::{
-    Block, Fillings, Program, Stmt, copy_cond, copy_decls, copy_expr, copy_outputs, copy_stmt,
+    Block, CopyName, Fillings, PerCopy, Program, Stmt, copy_cond, copy_decls, copy_expr,
+    copy_outputs, copy_stmt,
 };
 use std::alloc::{AllocError, Global};
 
-/// The program of a copy, by the copy's number from 0 for the base to 3 for the candidate: the shared program, where each
-/// hole is replaced by the statements that the copy has for it. A hole that the copy doesn't fill is left out.
+/// The program of a copy, by the copy's number from 0 for the base to 3 for the candidate: the shared program,
+/// where each hole is replaced by the statements that the copy has for it. A hole that the copy doesn't fill is left
+/// out.
 pub fn fill(alloc: Global, task: &Task, copy: u8) -> Result<Program, AllocError>
     requires { copy < 4 }
     ensures body { IfOk result (λ p. code_of p.body ≡ program_of (task_of (parts_of task.now)) (copy_of copy)) }
@@ -23,26 +26,33 @@ pub fn fill(alloc: Global, task: &Task, copy: u8) -> Result<Program, AllocError>
     ensures declared { IfOk result (λ p. declared_of p.decls ≡ declared_of task.now.shared.decls) }
     ensures outputs { IfOk result (λ p. outputs_of p.outputs ≡ outputs_of task.now.shared.outputs) }
 {
-    let fillings = fillings_at(task, copy);
     Ok(Program {
         names: task.shared.names.copy(alloc)?,
         decls: copy_decls(alloc, &task.shared.decls)?,
         outputs: copy_outputs(alloc, &task.shared.outputs)?,
-        body: fill_block(alloc, fillings, &task.shared.body)?,
+        body: fill_copy(alloc, task, CopyName::of_number(copy))?,
     })
 }
 
-// the fillings of the copy with this number
-fn fillings_at(task: &Task, copy: u8) -> &Fillings
-    requires { copy < 4 }
-    ensures { fillings_of result.now ≡ fillings_for task.now (copy_of copy) }
+/// The statements of each copy's program. Names, declarations and outputs are those of the task.
+#[tactic(auto, using(crate::proofs::Filled::of_four))]
+pub fn fill_all(alloc: Global, task: &Task) -> Result<PerCopy<Block>, AllocError>
+    ensures { IfOk result (AreFilled (parts_of task.now)) }
 {
-    match copy {
-        0 => &task.base,
-        1 => &task.variant_a,
-        2 => &task.variant_b,
-        _ => &task.candidate,
-    }
+    Ok(PerCopy {
+        base: fill_copy(alloc, task, CopyName::O)?,
+        variant_a: fill_copy(alloc, task, CopyName::A)?,
+        variant_b: fill_copy(alloc, task, CopyName::B)?,
+        candidate: fill_copy(alloc, task, CopyName::M)?,
+    })
+}
+
+// the statements of a copy's program
+fn fill_copy(alloc: Global, task: &Task, copy: CopyName) -> Result<Block, AllocError>
+    ensures { let code = program_of (task_of (parts_of task.now)) (copy_named copy) in
+        IfOk result (λ b. code_of b ≡ code) }
+{
+    fill_block(alloc, task.lists.get(copy), &task.shared.body)
 }
 
 // the filling of a hole
@@ -124,73 +134,4 @@ fn put(out: &mut Vec<Stmt>, s: Stmt) -> Result<(), AllocError>
 {
     out.push(s)?;
     Ok(())
-}
-
-#[cfg(test)]
-mod tests {
-    use super::*;
-    use sm_syntax::{Cond, Decls, Expr, Filling, Name, NameTable, Outputs};
-    use std::test::Fail;
-
-    fn filling(alloc: Global, hole: u32, value: i128) -> Result<Filling, AllocError> {
-        let list = vec![in alloc; Stmt::Assign(Name(0), Expr::Num(value)), Stmt::Skip]?;
-        Ok(Filling {
-            hole,
-            block: Block { list },
-        })
-    }
-
-    #[test]
-    fn each_copy_has_its_own_statements(rt: HostRuntime) -> Result<(), Fail> {
-        let alloc = rt.alloc();
-        let inner = vec![in alloc; Stmt::Hole(1), Stmt::Hole(0)]?;
-        let list = vec![in alloc; Stmt::Hole(0), Stmt::While(Cond::No, Block { list: inner })]?;
-        let task = Task {
-            shared: Program {
-                names: NameTable::new(alloc),
-                decls: Decls {
-                    list: Vec::new(alloc),
-                },
-                outputs: Outputs {
-                    list: Vec::new(alloc),
-                },
-                body: Block { list },
-            },
-            assumed: None,
-            base: Fillings {
-                list: Vec::new(alloc),
-            },
-            variant_a: Fillings {
-                list: vec![in alloc; filling(alloc, 0, 7)?, filling(alloc, 1, 8)?]?,
-            },
-            variant_b: Fillings {
-                list: vec![in alloc; filling(alloc, 1, 8)?]?,
-            },
-            candidate: Fillings {
-                list: vec![in alloc; filling(alloc, 1, 8)?, filling(alloc, 0, 9)?]?,
-            },
-        };
-        for (copy, want) in [
-            (0, "[While(No, Block { list: [] })]"),
-            (
-                1,
-                "[Assign(Name(0), Num(7)), Skip, While(No, Block { list: [Assign(Name(0), Num(8)), Skip, Assign(Name(0), Num(7)), Skip] })]",
-            ),
-            (
-                2,
-                "[While(No, Block { list: [Assign(Name(0), Num(8)), Skip] })]",
-            ),
-            (
-                3,
-                "[Assign(Name(0), Num(9)), Skip, While(No, Block { list: [Assign(Name(0), Num(8)), Skip, Assign(Name(0), Num(9)), Skip] })]",
-            ),
-        ] {
-            let program = fill(alloc, &task, copy)?;
-            assert_eq!(rt;
-                format!(in alloc; "{:?}", program.body.list)?.as_str(),
-                want
-            );
-        }
-        Ok(())
-    }
 }

@@ -19,7 +19,7 @@ mod print;
 mod task;
 
 pub use error::TaskError;
-pub use filling::fill;
+pub use filling::{fill, fill_all};
 pub use laws::one_task;
 pub use parse::parse_task;
 pub use print::print_task;

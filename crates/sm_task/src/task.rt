@@ -1,13 +1,10 @@
-// The parts of a task.
-use sm_syntax::{Cond, Fillings, Program};
+// A task, as the program holds it.
+use sm_syntax::{Cond, Fillings, PerCopy, Program};
 
-/// A task: the shared program with holes, the four lists of fillings, and what is assumed of inputs.
+/// A task: the shared program with holes, what is assumed of inputs, and each copy's list of fillings.
 #[derive(Debug, Drop)]
 pub struct Task {
     pub shared: Program,
     pub assumed: Option<Cond>,
-    pub base: Fillings,
-    pub variant_a: Fillings,
-    pub variant_b: Fillings,
-    pub candidate: Fillings,
+    pub lists: PerCopy<Fillings>,
 }

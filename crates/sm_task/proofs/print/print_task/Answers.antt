@@ -1,10 +1,12 @@
 use Rattle.std.proofs.Common.{ℕ, List, ◌++◌, ◌∙◌, sym, ap, subst}
-use Rattle.sm_syntax.specs.ConflictFree.{O, A, B, M}
+use Rattle.sm_syntax.specs.ConflictFree.{Copy, O, A, B, M}
+use Rattle.sm_syntax.specs.Fill.{Fillings}
 use Rattle.sm_syntax.specs.Spells.{Spells}
 use Rattle.sm_text.specs.Canonical.{declaration_pieces, output_pieces, assumption_pieces, shared_pieces, lists_pieces, task_pieces}
 use Rattle.sm_text.specs.Pieces.{text_of}
 use Rattle.sm_text.proofs.Putting.{put_both}
 use Rattle.sm_text.proofs.ReadsBack.{spelled_named, reads_back}
+use Rattle.sm_task.proofs.Filled.{same_lists}
 use Rattle.sm_task.specs.Tasks.{parts_of}
 use Rattle.sm_task.proofs.print.print_task.Goals as goal
 
@@ -49,7 +51,8 @@ returns-clause-text c =
     let three = c.put_assumption.new.out.items in
     let four = c.put_shared.new.out.items in
     let end = c.put_lists.new.out.items in
-    let last = put_both names shared lists three four end c.in_ok-put_shared.ensures c.in_ok-put_lists.ensures in
+    let listed = c.in_ok-put_lists.ensures ∙ ap (λ (fs : Copy → Fillings). four ++ text_of names (lists_pieces fs)) (same_lists task.lists) in
+    let last = put_both names shared lists three four end c.in_ok-put_shared.ensures listed in
     let more = put_both names assumed (shared ++ lists) two three end c.in_ok-put_assumption.ensures last in
     let most = put_both names outputs (assumed ++ (shared ++ lists)) one two end c.in_ok-put_outputs.ensures more in
     let all = put_both names declared (outputs ++ (assumed ++ (shared ++ lists))) start one end c.in_ok-put_declarations.ensures most in
