@@ -13,7 +13,7 @@ ghost use Rattle.sm_text.specs.Texts as text;
 use crate::conditions::check_conditions;
 use crate::error::TaskError;
 use crate::task::Task;
-use sm_syntax::{PerCopy, Program};
+use sm_syntax::Program;
 use sm_text::{Sections, read_sections};
 use std::alloc::Global;
 
@@ -50,11 +50,6 @@ fn from_sections(sections: Sections) -> Task
             body: head.shared,
         },
         assumed: head.assumed,
-        lists: PerCopy {
-            base: lists.base,
-            variant_a: lists.variant_a,
-            variant_b: lists.variant_b,
-            candidate: lists.candidate,
-        },
+        lists,
     }
 }
