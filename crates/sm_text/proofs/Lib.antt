@@ -41,3 +41,5 @@ pub mod BlockEnds
 pub mod FewerGroups
 pub mod Spaced
 pub mod HeadText
+pub mod Standing
+pub mod CutTokens

@@ -19,11 +19,11 @@ pub both-left : (a b : Bool) → (a && b) ≡ true → a ≡ true
 both-left true b h = refl
 both-left false b h = h
 
-both-right : (a b : Bool) → (a && b) ≡ true → b ≡ true
+pub both-right : (a b : Bool) → (a && b) ≡ true → b ≡ true
 both-right true b h = h
 both-right false b h = cc
 
-lexed_from-cons : (place b : ℕ) (bytes : List ℕ) → lexed_from place (b ∷ bytes) ≡ by_front (front_of b (b ∷ bytes)) place (λ left. lexed_behind left (place + 1) bytes)
+pub lexed_from-cons : (place b : ℕ) (bytes : List ℕ) → lexed_from place (b ∷ bytes) ≡ by_front (front_of b (b ∷ bytes)) place (λ left. lexed_behind left (place + 1) bytes)
 unfolding lexed_from
 lexed_from-cons place b bytes = refl
 
@@ -37,7 +37,7 @@ behind_front : (u v : List ℕ) (place : ℕ) → lexed_behind (length u) place 
 behind_front [] v place = ap (λ (p : ℕ). lexed_behind 0 p v) (omega arith)
 behind_front (b ∷ u) v place = behind_front u v (place + 1) ∙ ap (λ (p : ℕ). lexed_behind 0 p v) (omega arith)
 
-behind_first : (u v : List ℕ) (place : ℕ) (b : ℕ) → lexed_behind (length (b ∷ u) - 1) (place + 1) (u ++ v) ≡ lexed_from (place + length (b ∷ u)) v
+pub behind_first : (u v : List ℕ) (place : ℕ) (b : ℕ) → lexed_behind (length (b ∷ u) - 1) (place + 1) (u ++ v) ≡ lexed_from (place + length (b ∷ u)) v
 unfolding lexed_from
 behind_first u v place b =
     let last : length (b ∷ u) - 1 ≡ length u = omega arith in
@@ -52,7 +52,7 @@ lexed-token b u v k place front =
     ap (with_token (record { kind = k; place = place; size = length (b ∷ u) })) (behind_first u v place b)
 
 -- white space is passed over
-front-space : (b : ℕ) (bytes : List ℕ) → is_space b ≡ true → front_of b bytes ≡ Gap 1
+pub front-space : (b : ℕ) (bytes : List ℕ) → is_space b ≡ true → front_of b bytes ≡ Gap 1
 unfolding front_of
 front-space b bytes h = rw h refl
 
@@ -67,7 +67,7 @@ lexed-gap (b ∷ u) v place h =
     lexed-gap u v (place + 1) rest ∙ ap (λ (p : ℕ). lexed_from p v) (omega arith)
 
 -- a run of such bytes ends where none follows
-run_of : (p : ℕ → Bool) (u v : List ℕ) → list_all p u ≡ true → begins p v ≡ false → prefix_len p (u ++ v) ≡ length u
+pub run_of : (p : ℕ → Bool) (u v : List ℕ) → list_all p u ≡ true → begins p v ≡ false → prefix_len p (u ++ v) ≡ length u
 run_of p [] [] all ends = refl
 run_of p [] (b ∷ v) all ends = ap (λ (t : Bool). if t then 1 + prefix_len p v else 0) ends
 run_of p (b ∷ u) v all ends =
@@ -88,7 +88,7 @@ front-word b u v start all short ends =
 digit_is_word : (b : ℕ) → is_ascii_digit b ≡ true → is_word_byte b ≡ true
 digit_is_word b h = grind (arith, nat_tests)
 
-digits_are_word : (u : List ℕ) → list_all is_ascii_digit u ≡ true → list_all is_word_byte u ≡ true
+pub digits_are_word : (u : List ℕ) → list_all is_ascii_digit u ≡ true → list_all is_word_byte u ≡ true
 digits_are_word [] h = refl
 digits_are_word (b ∷ u) h =
     let here = digit_is_word b (both-left (is_ascii_digit b) (list_all is_ascii_digit u) h) in
@@ -96,11 +96,11 @@ digits_are_word (b ∷ u) h =
     rw (here, rest) refl
 
 -- what doesn't go on with a word doesn't go on with a number
-no_digit : (v : List ℕ) → begins is_word_byte v ≡ false → begins is_ascii_digit v ≡ false
+pub no_digit : (v : List ℕ) → begins is_word_byte v ≡ false → begins is_ascii_digit v ≡ false
 no_digit [] h = refl
 no_digit (b ∷ v) h = grind (arith, nat_tests)
 
-take_front : (u v : List ℕ) → take (length u) (u ++ v) ≡ u
+pub take_front : (u v : List ℕ) → take (length u) (u ++ v) ≡ u
 take_front [] v = refl
 take_front (b ∷ u) v = ap (λ (l : List ℕ). b ∷ l) (take_front u v)
 
@@ -136,7 +136,7 @@ front-number b u v all small ends =
     let no_word : is_word_start b ≡ false = grind (arith, nat_tests) in
     rw (no_space, no_hash, no_word, digit) (number_front b u v all small ends)
 
-and-false : (a : Bool) → (a && false) ≡ false
+pub and-false : (a : Bool) → (a && false) ≡ false
 and-false true = refl
 and-false false = refl
 
@@ -149,7 +149,7 @@ front-one c (x ∷ v) no_space no_hash no_word no_digit single double ends =
     rw (no_space, no_hash, no_word, no_digit, double x ends, and-false (nat_le 2 (length (c ∷ x ∷ v))), single) refl
 
 -- a sign of two bytes
-front-two : (c d : ℕ) (v : List ℕ) → is_space c ≡ false → is_hash c ≡ false → is_word_start c ≡ false → is_ascii_digit c ≡ false → is_some (mark_of_sign (c ∷ d ∷ [])) ≡ true →
+pub front-two : (c d : ℕ) (v : List ℕ) → is_space c ≡ false → is_hash c ≡ false → is_word_start c ≡ false → is_ascii_digit c ≡ false → is_some (mark_of_sign (c ∷ d ∷ [])) ≡ true →
     front_of c (c ∷ d ∷ v) ≡ Piece kind.Sign 2
 unfolding front_of sign_at
 front-two c d v no_space no_hash no_word no_digit double =

@@ -6,6 +6,7 @@ pub mod Fronts
 pub mod Sections
 pub mod Texts
 pub mod TokenTexts
+pub mod Cutting
 pub mod Laws
 pub mod Places
 pub mod Pieces

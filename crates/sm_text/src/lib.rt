@@ -1,6 +1,7 @@
 //! The text of a task, read: tokens, then symbols, then the rules of the grammar.
 //!
 //! - `tokens` cuts a text into exactly its tokens, up to its first lexical fault.
+//!   `tokens_are_cut` is the law that says them a second way (`specs/Cutting.antt`).
 //! - `symbols` and `names` give what the grammar sees of them, with names numbered by first appearance.
 //! - `read_sections` reads exactly the texts that the grammar spells, where nothing nests too deep, each into what it spells.
 //!   A refusal names the first fault of the text: its kind and its place.
@@ -34,7 +35,7 @@ mod text;
 mod token_list;
 
 pub use error::TextError;
-pub use laws::one_task;
+pub use laws::{one_task, tokens_are_cut};
 pub use lexer::tokens;
 pub use prefix::{parse_block, parse_head};
 pub use print::{print_block, print_cond, print_program, print_sections};
