@@ -1,6 +1,7 @@
 pub mod Integers
 pub mod Listed
 pub mod Ordered
+pub mod Rooms
 pub mod Writes
 pub mod Declaring
 pub mod Numbers

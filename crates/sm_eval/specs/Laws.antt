@@ -1,4 +1,4 @@
--- Laws of events and of sorts, each for all programs and stores.
+-- Laws of events and of sorts, each for all programs and stores. Public clauses cite them.
 use Rattle.std.specs.Prelude.{◌≡◌, ℕ, Some, None, List}
 use Rattle.sm_syntax.specs.declared.tree.Sort.{Sort}
 use Rattle.sm_syntax.specs.Conditions.{program_fault, ill_assumed}
@@ -15,8 +15,12 @@ CalmEnds = (n : ℕ) (c : Code) (s : Store) → event n c s ≡ None → (t : St
 
 -- the code of a well-formed program is well sorted
 abbrev pub WellFormedPrograms : Type 0
-WellFormedPrograms = (declared : List (ℕ × Sort)) (outputs : List ℕ) (c : Code) → program_fault declared outputs c ≡ None → IsWellSorted (sort_of declared) c
+WellFormedPrograms =
+    (declared : List (ℕ × Sort)) (outputs : List ℕ) (c : Code) →
+    program_fault declared outputs c ≡ None → IsWellSorted (sort_of declared) c
 
 -- a well-formed assumption is well sorted
 abbrev pub WellFormedAssumptions : Type 0
-WellFormedAssumptions = (declared : List (ℕ × Sort)) (b : Condition) → ill_assumed declared (Some b) ≡ None → IsWellSortedCondition (sort_of declared) b
+WellFormedAssumptions =
+    (declared : List (ℕ × Sort)) (b : Condition) →
+    ill_assumed declared (Some b) ≡ None → IsWellSortedCondition (sort_of declared) b

@@ -1,4 +1,4 @@
--- Where an index stands among the cells of an array, or would stand.
+-- Where an index stands among the cells of an array, or would stand. No public clause cites it.
 use Rattle.std.specs.Prelude.{◌≡◌, ◌<◌, ◌≤◌, ℕ, ℤ, ◌<ℤ◌, List, length}
 use Rattle.sm_eval.specs.Cells.{index_at}
 

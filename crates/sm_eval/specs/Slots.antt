@@ -1,4 +1,5 @@
--- The store that a program's store stands for, and the sorts of its names.
+-- The store that a program's store stands for. Public clauses cite it.
+-- With the sorts of its names.
 use Rattle.std.specs.Prelude.{ℕ, ℤ, Option, Some, None, List, slice_index_or}
 use Rattle.sm_syntax.specs.declared.tree.Sort.{Sort}
 use Rattle.sm_syntax.specs.declared.tree.Sort.TheVariants.{Num, Arr}

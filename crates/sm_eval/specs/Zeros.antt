@@ -1,4 +1,4 @@
--- Stores in which each declared name has 0.
+-- Stores in which each declared name has 0. Public clauses cite `zeros`.
 use Rattle.std.specs.Prelude.{◌≡◌, ◌==◌, ℕ, ℤ, pos, if◌then◌else◌, Option, Some, None, List}
 use Rattle.std.specs.Option.{option_or}
 use Rattle.sm_syntax.specs.declared.tree.Sort.{Sort}
@@ -24,4 +24,5 @@ AreZero slots = (x : ℕ) → values slots x ≡ zero_of (sorts slots x)
 
 -- a name more, which has the sort that it had, or else a new one
 abbrev pub Declares : List Slot → List Slot → ℕ → Sort → Type 0
-Declares old new x sort = (y : ℕ) → sorts new y ≡ option_or (sorts old y) (if x == y then Some sort else None)
+Declares old new x sort =
+    (y : ℕ) → sorts new y ≡ option_or (sorts old y) (if x == y then Some sort else None)

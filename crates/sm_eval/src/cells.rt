@@ -4,13 +4,14 @@ ghost use Rattle.sm_syntax.specs.Stores.{with_element};
 ghost use Rattle.sm_eval.specs.Cells.{listed, AreCells};
 ghost use Rattle.sm_eval.specs.Places.{IsAt, IsGapFor};
 
+use crate::deque::Deque;
 use std::alloc::{AllocError, Global};
 use std::marker::Model;
 
 /// The cells of an array that don't have 0.
 #[derive(Debug, Drop)]
 pub struct Cells {
-    pairs: Vec<(i128, i128)>,
+    pairs: Deque,
 }
 
 impl Model for Cells {
@@ -19,9 +20,9 @@ impl Model for Cells {
 
     ghost Value = { List (ℤ × ℤ) };
 
-    ghost view = { λ c. c.pairs.items };
+    ghost view = { λ c. c.pairs };
 
-    ghost invariant = { λ c. AreCells c.pairs.items };
+    ghost invariant = { λ c. AreCells c.pairs };
 }
 
 impl Cells {
@@ -30,7 +31,7 @@ impl Cells {
         ensures { result ≡ [] }
     {
         Cells {
-            pairs: Vec::new(alloc),
+            pairs: Deque::new(alloc),
         }
     }
 
@@ -39,7 +40,7 @@ impl Cells {
         ensures { result ≡ listed self.now i }
     {
         match self.search(i) {
-            Ok(at) => self.pairs[at].1,
+            Ok(at) => self.pairs.get(at).1,
             Err(_) => 0,
         }
     }
@@ -49,7 +50,7 @@ impl Cells {
         ensures all { result.now ≡ self.now }
         ensures cells { AreCells self.now }
     {
-        &self.pairs
+        self.pairs.as_slice()
     }
 
     /// Puts a number at an index.
@@ -71,7 +72,7 @@ impl Cells {
         ensures { IfOk result (λ c. c ≡ self.now) }
     {
         Ok(Cells {
-            pairs: self.pairs.to_vec(alloc)?,
+            pairs: self.pairs.copy(alloc)?,
         })
     }
 
@@ -81,9 +82,9 @@ impl Cells {
         ensures { listed self.new ≡ with_element (listed self.old) i z }
     {
         if z == 0 {
-            let _ = self.pairs.remove(at);
+            self.pairs.remove(at);
         } else {
-            self.pairs[at] = (i, z);
+            self.pairs.put(at, (i, z));
         }
     }
 
@@ -96,7 +97,8 @@ impl Cells {
         if z == 0 {
             return Ok(());
         }
-        Ok(self.pairs.insert(at, (i, z))?)
+        self.pairs.insert(at, (i, z))?;
+        Ok(())
     }
 
     // Where the cell of an index is, or where it would go.
@@ -104,6 +106,6 @@ impl Cells {
         ensures found { IfOk result (IsAt self.now i) }
         ensures absent { IfErr result (IsGapFor self.now i) }
     {
-        self.pairs.binary_search_by_key(&i, |&(k, _)| k)
+        self.pairs.as_slice().binary_search_by_key(&i, |&(k, _)| k)
     }
 }

@@ -4,7 +4,8 @@ ghost use Rattle.sm_syntax.specs.Meaning.{value_of, truth_of, relation};
 ghost use Rattle.sm_syntax.specs.Sorts.{IsWellSortedExpression, IsWellSortedCondition};
 ghost use Rattle.sm_syntax.specs.Stores as plain;
 ghost use Rattle.sm_syntax.specs.Views.{expression_of, condition_of};
-ghost use Rattle.sm_eval.specs.Events.{exact, leaves, before, operation_event, expression_event, condition_event, answer};
+ghost use Rattle.sm_eval.specs.Events.{exact, leaves, before, operation_event, expression_event};
+ghost use Rattle.sm_eval.specs.Events.{condition_event, answer};
 ghost use Rattle.sm_eval.specs.Slots.{meaning, sorts_of};
 
 use crate::error::EvalError;
@@ -12,13 +13,14 @@ use crate::store::Store;
 use sm_num::{Op, add, mul, sub};
 use sm_syntax::{Cmp, Cond, Expr};
 
-/// The value of an expression, or the first operation whose exact result leaves 128 bits. Operands are computed from
-/// left to right, and `-e` as 0 minus `e`.
+/// The value of an expression, or the first operation whose exact result leaves 128 bits. Operands
+/// are computed from left to right, and `-e` as 0 minus `e`.
 #[cycle(value)]
 pub fn value(e: &Expr, s: &Store) -> Result<i128, EvalError>
     requires { IsWellSortedExpression (sorts_of s.now) (expression_of e.now) }
     ensures { let σ = meaning s.now in
-        result ≡ answer (expression_event (expression_of e.now) σ) (plain.number (value_of (expression_of e.now) σ)) }
+        let event = expression_event (expression_of e.now) σ in
+        result ≡ answer event (plain.number (value_of (expression_of e.now) σ)) }
 {
     match e {
         Expr::Num(z) => Ok(*z),
@@ -60,8 +62,9 @@ fn compute(op: Op, a: i128, b: i128) -> Result<i128, EvalError>
     result.ok_or(EvalError::Beyond { op, a, b })
 }
 
-/// Whether a condition is true, or the first operation whose exact result leaves 128 bits. The right part of `&&` is
-/// computed only where the left one is true, and that of `||` only where it is false.
+/// Whether a condition is true, or the first operation whose exact result leaves 128 bits. The
+/// right part of `&&` is computed only where the left one is true, and that of `||` only where it
+/// is false.
 pub fn truth(c: &Cond, s: &Store) -> Result<bool, EvalError>
     requires { IsWellSortedCondition (sorts_of s.now) (condition_of c.now) }
     ensures { let σ = meaning s.now in

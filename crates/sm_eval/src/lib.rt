@@ -2,24 +2,25 @@
 //!
 //! - A `Store` has the value and the sort of each declared name. An array may have any number of
 //!   cells.
-//! - `value` and `truth` give the exact value, or the first operation whose exact result leaves 128 bits.
-//! - `run` gives the end store, or the first event: such an operation, or a loop that takes too many turns.
-//! - `calm_ends` is the law that code without an event has an end, and `well_formed_may_run` that what is well formed
-//!   meets the conditions of `truth` and `run`.
+//! - `value` and `truth` give the exact value, or the first operation whose exact result leaves 128
+//!   bits.
+//! - `run` gives the end store, or the first event: such an operation, or a loop that takes too
+//!   many turns.
+//! - `calm_ends` is the law that code without an event has an end, and `well_formed_may_run` that
+//!   what is well formed meets the conditions of `truth` and `run`.
 //!
-//! Read `specs/Events.antt` first. `specs/Slots.antt` says which store a `Store` stands for. What programs mean over
-//! all whole numbers stands in `sm_syntax`.
+//! Read `specs/Events.antt` first. `specs/Slots.antt` says which store a `Store` stands for. What
+//! programs mean over all whole numbers stands in `sm_syntax`.
 #![tactic(auto)]
 
 mod cells;
+mod deque;
 mod error;
 mod expression;
 mod laws;
 mod runs;
 mod slot;
 mod store;
-#[cfg(test)]
-mod tests;
 
 pub use error::EvalError;
 pub use expression::{truth, value};

@@ -1,7 +1,8 @@
 // Runs of programs.
 ghost use Rattle.std.specs.Prelude.{◌≡◌, ◌⊎◌, Some, None, IfOk, IfErr, OnOk};
 ghost use Rattle.sm_syntax.specs.Meaning.{run};
-ghost use Rattle.sm_syntax.specs.Sorts.{IsWellSortedExpression, IsWellSortedCondition, IsWellSorted};
+ghost use Rattle.sm_syntax.specs.Sorts.{IsWellSortedExpression, IsWellSortedCondition};
+ghost use Rattle.sm_syntax.specs.Sorts.{IsWellSorted};
 ghost use Rattle.sm_syntax.specs.Syntax.{End, Write, While};
 ghost use Rattle.sm_syntax.specs.Views.{expression_of, condition_of, statement_of, code_of};
 ghost use Rattle.sm_eval.specs.Events.{event};
@@ -12,15 +13,16 @@ use crate::expression::{truth, value};
 use crate::store::Store;
 use sm_syntax::{Block, Cond, Expr, Name, Stmt};
 
-/// The end store of a block from a store, where each loop takes at most this many turns each time it is met. Otherwise
-/// the first event: an operation whose exact result leaves 128 bits, or a loop whose guard holds after all its turns.
-/// The index of a write is computed before its value.
+/// The end store of a block from a store, where each loop takes at most this many turns each time
+/// it is met. Otherwise the first event: an operation whose exact result leaves 128 bits, or a loop
+/// whose guard holds after all its turns. The index of a write is computed before its value.
 pub fn run(b: &Block, s: Store, turns: u64) -> Result<Store, EvalError>
     requires { IsWellSorted (sorts_of s) (code_of b.now) }
     ensures event { IfOk result (λ _. event turns (code_of b.now) (meaning s) ≡ None) }
     ensures end { IfOk result (λ t. run turns (code_of b.now) (meaning s) ≡ Some (meaning t)) }
     ensures sorts { IfOk result (λ t. sorts_of t ≡ sorts_of s) }
-    ensures err { IfErr result (λ e. (e ≡ EvalError.Memory) ⊎ (event turns (code_of b.now) (meaning s) ≡ Some e)) }
+    ensures err { let first = event turns (code_of b.now) (meaning s) in
+        IfErr result (λ e. (e ≡ EvalError.Memory) ⊎ (first ≡ Some e)) }
 {
     let mut s = s;
     run_block(b, &mut s, turns)?;
@@ -34,7 +36,8 @@ fn run_block(b: &Block, s: &mut Store, turns: u64) -> Result<(), EvalError>
     ensures event { OnOk result (event turns (code_of b.now) (meaning s.old) ≡ None) }
     ensures end { OnOk result (run turns (code_of b.now) (meaning s.old) ≡ Some (meaning s.new)) }
     ensures sorts { OnOk result (sorts_of s.new ≡ sorts_of s.old) }
-    ensures err { IfErr result (λ e. (e ≡ EvalError.Memory) ⊎ (event turns (code_of b.now) (meaning s.old) ≡ Some e)) }
+    ensures err { let first = event turns (code_of b.now) (meaning s.old) in
+        IfErr result (λ e. (e ≡ EvalError.Memory) ⊎ (first ≡ Some e)) }
 {
     for t in &b.list {
         run_stmt(t, s, turns)?;
@@ -47,9 +50,11 @@ fn run_block(b: &Block, s: &mut Store, turns: u64) -> Result<(), EvalError>
 fn run_stmt(t: &Stmt, s: &mut Store, turns: u64) -> Result<(), EvalError>
     requires { IsWellSorted (sorts_of s.old) (statement_of t.now End) }
     ensures event { OnOk result (event turns (statement_of t.now End) (meaning s.old) ≡ None) }
-    ensures end { OnOk result (run turns (statement_of t.now End) (meaning s.old) ≡ Some (meaning s.new)) }
+    ensures end { let code = statement_of t.now End in
+        OnOk result (run turns code (meaning s.old) ≡ Some (meaning s.new)) }
     ensures sorts { OnOk result (sorts_of s.new ≡ sorts_of s.old) }
-    ensures err { IfErr result (λ e. (e ≡ EvalError.Memory) ⊎ (event turns (statement_of t.now End) (meaning s.old) ≡ Some e)) }
+    ensures err { let first = event turns (statement_of t.now End) (meaning s.old) in
+        IfErr result (λ e. (e ≡ EvalError.Memory) ⊎ (first ≡ Some e)) }
 {
     match t {
         Stmt::Skip | Stmt::Hole(_) => Ok(()),
@@ -96,7 +101,8 @@ fn run_loop(c: &Cond, b: &Block, s: &mut Store, turns: u64) -> Result<(), EvalEr
 
 // A write to an element of an array.
 fn write(a: Name, i: &Expr, e: &Expr, s: &mut Store) -> Result<(), EvalError>
-    requires { IsWellSorted (sorts_of s.old) (Write a.0 (expression_of i.now) (expression_of e.now) End) }
+    requires { let code = Write a.0 (expression_of i.now) (expression_of e.now) End in
+        IsWellSorted (sorts_of s.old) code }
     ensures event { let code = Write a.0 (expression_of i.now) (expression_of e.now) End in
         OnOk result (event 0 code (meaning s.old) ≡ None) }
     ensures end { let code = Write a.0 (expression_of i.now) (expression_of e.now) End in

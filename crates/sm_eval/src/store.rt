@@ -22,8 +22,8 @@ pub struct Store {
 }
 
 impl Store {
-    /// The store in which each declared name has 0, an array at each index. It takes room for each number of a name up
-    /// to the greatest.
+    /// The store in which each declared name has 0, an array at each index. It takes room for each
+    /// number of a name up to the greatest.
     pub fn zero(alloc: Global, decls: &Decls) -> Result<Store, AllocError>
         ensures sorts { IfOk result (λ s. sorts_of s ≡ sort_of (declared_of decls.now)) }
         ensures zeros { IfOk result (λ s. meaning s ≡ zeros (sort_of (declared_of decls.now))) }

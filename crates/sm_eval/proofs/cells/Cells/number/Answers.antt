@@ -1,6 +1,5 @@
-use Rattle.std.proofs.Common.{pos, sym, subst, arith}
+use Rattle.std.proofs.Common.{sym, subst, arith}
 use Rattle.std.proofs.lemmas.Int.{to_z-of_z}
-use Rattle.std.proofs.lemmas.List.{get_or_default}
 use Rattle.sm_eval.specs.Cells.{AreCells}
 use Rattle.sm_eval.proofs.Ordered.{listed_at, listed_gap}
 use Rattle.sm_eval.proofs.cells.Cells.number.Goals as goal
@@ -11,8 +10,7 @@ returns-in-Ok c =
     let fits = c.ranges.i in
     let found = simp to_z-of_z at c.in-Ok.ensures.found in
     let value = listed_at _ (subst AreCells c.self.view_is c.self.invariant) c.args.i _ found in
-    let read = get_or_default _ _ c.index.result.now (pos 0, pos 0) found.in_range in
-    grind (arith, c.self.view_is)
+    grind (arith, value, c.get.ensures, c.self.view_is)
 
 -- an index without a cell has 0
 pub returns-in-Err : goal.returns-in-Err
