@@ -20,11 +20,11 @@ use Rattle.sm_term.proofs.Truths.{form_means, contrary, holds_append, conj_means
 use Rattle.sm_term.proofs.Places.{all_at_stores_mean}
 use Rattle.sm_term.proofs.Below.{fresh_meaning, fresh_means, fresh_all}
 use Rattle.sm_plan.specs.Copies.{Copies, copies, each, has, copies_that, no_copies, is_inhabited, subsets}
-use Rattle.sm_plan.specs.Rests.{is_over, behind, is_loop, guard_of, body_of}
+use Rattle.sm_plan.specs.Statements.{is_over, behind, is_loop, guard_of, body_of}
 use Rattle.sm_plan.specs.States.{State}
-use Rattle.sm_plan.specs.Next as next
+use Rattle.sm_plan.specs.Successors as next
 use Rattle.sm_plan.specs.Plans.{AllValid}
-use Rattle.sm_plan.specs.Claims.{IsSound, AreSound, IsStateBelow}
+use Rattle.sm_plan.specs.SoundStates.{IsSound, AreSound, IsStateBelow}
 use Rattle.sm_plan.proofs.Families.{each_true, has_that, inhabited_by, In, in_subsets}
 use Rattle.sm_plan.proofs.Cuts.{ends_then, run_cut, still, loop_is, over_is}
 use Rattle.sm_plan.proofs.JointTurns.{Joint, together}

@@ -17,10 +17,10 @@ use Rattle.sm_term.specs.Fresh.{IsBelow, AreBelow, IsFormBelow, AreFormsBelow}
 use Rattle.sm_term.proofs.Below.{tree_later, forms_later, below_append}
 use Rattle.sm_deps.specs.Inputs.{inputs}
 use Rattle.sm_plan.specs.Copies.{Copies, copies, has, no_copies}
-use Rattle.sm_plan.specs.Rests.{guard_of}
+use Rattle.sm_plan.specs.Statements.{guard_of}
 use Rattle.sm_plan.specs.States.{State, place, keeps_goals, start_store, start_facts, start_state}
-use Rattle.sm_plan.specs.Next as next
-use Rattle.sm_plan.specs.Claims.{IsStateBelow, AreStatesBelow}
+use Rattle.sm_plan.specs.Successors as next
+use Rattle.sm_plan.specs.SoundStates.{IsStateBelow, AreStatesBelow}
 use Rattle.sm_plan.proofs.Families.{one_copy}
 
 -- a symbolic store names no new value of a node or of a later one

@@ -5,7 +5,7 @@ use Rattle.sm_syntax.specs.Syntax.{Condition, Code, End, Skip, Assign, Write, If
 use Rattle.sm_syntax.specs.Stores.{Store, put}
 use Rattle.sm_syntax.specs.Meaning.{value_of, truth_of, and_then, turns, written, run}
 use Rattle.sm_syntax.proofs.Appends.{run-append}
-use Rattle.sm_plan.specs.Rests.{is_over, front, behind, is_loop, guard_of, body_of, last_guard}
+use Rattle.sm_plan.specs.Statements.{is_over, front, behind, is_loop, guard_of, body_of, last_guard}
 
 -- an end of two parts is an end of the second after one of the first
 pub ends_then : (o : Option Store) (f : Store → Option Store) (t : Store) → and_then o f ≡ Some t → (s : Store) × (o ≡ Some s) × (f s ≡ Some t)

@@ -21,11 +21,11 @@ use Rattle.sm_term.specs.Assertions.{Assertion, Holds, AllHold, negate}
 use Rattle.sm_term.specs.Symbolic.{SymbolicStore, store_meant, with_term, term_of, form_of}
 use Rattle.sm_term.proofs.Values.{term_means}
 use Rattle.sm_term.proofs.Truths.{form_means, contrary, holds_append}
-use Rattle.sm_plan.specs.Rests.{front, behind, last_guard}
+use Rattle.sm_plan.specs.Statements.{front, behind, last_guard}
 use Rattle.sm_plan.specs.States.{State}
-use Rattle.sm_plan.specs.Next as next
+use Rattle.sm_plan.specs.Successors as next
 use Rattle.sm_plan.specs.Nodes.{Opened, follows, both_ways}
-use Rattle.sm_plan.specs.Claims.{IsSound, AreSound}
+use Rattle.sm_plan.specs.SoundStates.{IsSound, AreSound}
 use Rattle.sm_plan.proofs.Families.{one_copy}
 use Rattle.sm_plan.proofs.Cuts.{run_cut, last_guard_false}
 

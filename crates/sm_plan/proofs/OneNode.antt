@@ -10,13 +10,13 @@ use Rattle.sm_term.specs.Slots.{all_at_stores}
 use Rattle.sm_term.specs.Fresh.{AreFormsBelow}
 use Rattle.sm_term.proofs.Below.{forms_later}
 use Rattle.sm_plan.specs.Copies.{each, has, is_inhabited, subsets}
-use Rattle.sm_plan.specs.Rests.{is_over, is_long, front, behind, is_loop, last_guard}
+use Rattle.sm_plan.specs.Statements.{is_over, is_long, front, behind, is_loop, last_guard}
 use Rattle.sm_plan.specs.Limits.{is_kept}
 use Rattle.sm_plan.specs.States.{State}
-use Rattle.sm_plan.specs.Next as next
+use Rattle.sm_plan.specs.Successors as next
 use Rattle.sm_plan.specs.Nodes.{Node, Step, Abs, Fork, Loop, Block, Dead, Ends, Unfit, Opened, follows, asked, where_true, after_step, both_ways, opens, IsFreshAt}
 use Rattle.sm_plan.specs.Plans.{AllValid}
-use Rattle.sm_plan.specs.Claims.{IsSound, AreSound, IsStateBelow, AreStatesBelow}
+use Rattle.sm_plan.specs.SoundStates.{IsSound, AreSound, IsStateBelow, AreStatesBelow}
 use Rattle.sm_plan.proofs.OneCopy.{step_sound, both_ways_sound, summary_sound}
 use Rattle.sm_plan.proofs.AllCopies.{ends_sound, block_sound, loop_node_sound}
 use Rattle.sm_plan.proofs.Bounded.{conj_below, all_at_stores_below, stepped_below, moved_below, form_below, negate_below, summarized_below, false_guard_below, state_later, states_append, turns_below, after_below, inner_below, behind_below}

@@ -1,19 +1,52 @@
--- Plans and lists of nodes: the nodes of a plan pass, and a list that passes is a plan's.
-use Rattle.std.proofs.Common.{◌≡◌, ℕ, suc, ◌+◌, ◌==◌, if◌then◌else◌, Some, Result, Ok, Err, List, [], ◌∷◌, ◌++◌, length, refl, ap, sym, ◌∙◌, subst, arith, eq-eqb}
+-- Plans and lists of nodes: the nodes of a plan prove what it proves, and nodes that prove a task's start are a plan's.
+use Rattle.std.proofs.Common.{◌≡◌, ◌≤◌, ℕ, suc, ◌+◌, ◌==◌, Bool, true, false, if◌then◌else◌, max, Some, Result, Ok, Err, List, [], ◌∷◌, ◌++◌, length, refl, ap, sym, ◌∙◌, subst, arith, eq-eqb}
+use Rattle.std.proofs.lemmas.Bool.Decides.{nat_tests}
 use Rattle.std.proofs.lemmas.List.{append_assoc, append-nil}
 use Rattle.sm_syntax.specs.ConflictFree.{Task}
 use Rattle.sm_term.specs.Assertions.{Assertion}
+use Rattle.sm_plan.specs.Limits.{is_shallow}
 use Rattle.sm_plan.specs.States.{State, start_state}
-use Rattle.sm_plan.specs.Nodes.{Node, Opened, opens, rule_of}
-use Rattle.sm_plan.specs.Plans.{Plan, At, Plans, Over, More, size, sizes, count, nodes_of, all_nodes, IsFresh, AreFresh, Due, Fault, Wrong, due, joined, expand, expand_all, AllValid, AllDischarged}
-use Rattle.sm_plan.specs.Lines.{Passes}
-use Rattle.sm_plan.proofs.Whole.{opened_is, passed, joined_is, parts_discharged, due_valid}
+use Rattle.sm_plan.specs.Nodes.{Node, Opened, opens, rule_of, is_branching}
+use Rattle.sm_plan.specs.Plans.{Plan, At, Plans, Over, More, size, sizes, count, nodes_of, all_nodes, branches, most_branches, IsFresh, AreFresh, Due, Fault, Wrong, Deep, due, joined, expand, expand_all, obligations, AllValid, AllDischarged}
+use Rattle.sm_plan.specs.NodeLists.{Pending, above_opened, pending_states, states_of, NodesProve, start_pending}
+use Rattle.sm_plan.proofs.Whole.{opened_is, passed, joined_is, parts_discharged, due_valid, shallow, states-pending}
+
+-- few enough branching nodes
+is_few : (n : ℕ) → n ≤ 1000 → is_shallow n ≡ true
+unfolding is_shallow
+is_few n few = grind (arith, nat_tests)
+
+-- and back
+few_is : (n : ℕ) → is_shallow n ≡ true → n ≤ 1000
+unfolding is_shallow
+few_is n h = grind (arith, nat_tests)
+
+-- a node's own branching counts above what it opens
+counts_above : (b : Bool) (above most : ℕ) → above + (if b then suc most else most) ≤ 1000 → (if b then suc above else above) + most ≤ 1000
+counts_above true above most few = omega (arith, few)
+counts_above false above most few = omega (arith, few)
+
+-- and back
+counts_below : (b : Bool) (above most : ℕ) → (if b then suc above else above) + most ≤ 1000 → above + (if b then suc most else most) ≤ 1000
+counts_below true above most few = omega (arith, few)
+counts_below false above most few = omega (arith, few)
+
+-- either of two that are few
+first_few : (above a b : ℕ) → above + max a b ≤ 1000 → above + a ≤ 1000
+first_few above a b few = omega (arith, few)
+
+second_few : (above a b : ℕ) → above + max a b ≤ 1000 → above + b ≤ 1000
+second_few above a b few = omega (arith, few)
+
+-- both
+both_few : (above a b : ℕ) → above + a ≤ 1000 → above + b ≤ 1000 → above + max a b ≤ 1000
+both_few above a b first second = omega (arith, first, second)
 
 mutual
   -- the nodes of a plan take its state off the pending ones
-  plan_passes : (p : Plan) (k : ℕ) (st : State) (ds : List Due) (states : List State) (rest : List Node) → IsFresh k p → expand k st p ≡ Ok ds → AllDischarged ds →
-      Passes (k + size p) states rest → Passes k (st ∷ states) (nodes_of p ++ rest)
-  plan_passes (At node ps) k st ds states rest fresh e all later =
+  plan_proves : (p : Plan) (k above : ℕ) (st : State) (ds : List Due) (pending : List Pending) (rest : List Node) → above + branches p ≤ 1000 → IsFresh k p → expand k st p ≡ Ok ds →
+      AllDischarged ds → NodesProve (k + size p) pending rest → NodesProve k (record { state = st; above = above } ∷ pending) (nodes_of p ++ rest)
+  plan_proves (At node ps) k above st ds pending rest few fresh e all later =
       let w = Wrong k (rule_of node) in
       let o = opened_is (opens k st node) w
       (λ (q : Opened). if count ps == length q.states then joined (Ok (due k st node q.goals)) (expand_all w (suc k) q.states ps) else Err w) ds e in
@@ -22,22 +55,29 @@ mutual
       (passed (count ps == length q.states) (joined (Ok (due k st node q.goals)) (expand_all w (suc k) q.states ps)) w ds o.2) in
       let both = parts_discharged parts.0 parts.1 ds parts.4 all in
       let here : parts.0 ≡ due k st node q.goals = let f = parts.2 in cc in
-      let next : Passes (suc k + sizes ps) states rest = subst (λ (j : ℕ). Passes j states rest) (omega arith) later in
-      (q, o.1, fresh.0, due_valid k st node q.goals (subst AllDischarged here both.0), plans_pass ps w (suc k) q.states parts.1 states rest fresh.1 parts.3 both.1 next)
+      let next : NodesProve (suc k + sizes ps) pending rest = subst (λ (j : ℕ). NodesProve j pending rest) (omega arith) later in
+      let room : above_opened node above + most_branches ps ≤ 1000 = counts_above (is_branching node) above (most_branches ps) few in (
+        q,
+        o.1,
+        is_few (above_opened node above) (omega (arith, room)),
+        fresh.0,
+        due_valid k st node q.goals (subst AllDischarged here both.0),
+        plans_prove ps w (suc k) (above_opened node above) q.states parts.1 pending rest room fresh.1 parts.3 both.1 next,
+      )
 
   -- the same of plans
-  plans_pass : (ps : Plans) (w : Fault) (k : ℕ) (sts : List State) (ds : List Due) (states : List State) (rest : List Node) → AreFresh k ps → expand_all w k sts ps ≡ Ok ds → AllDischarged ds →
-      Passes (k + sizes ps) states rest → Passes k (sts ++ states) (all_nodes ps ++ rest)
-  plans_pass Over w k [] ds states rest fresh e all later = subst (λ (j : ℕ). Passes j states rest) (omega arith) later
-  plans_pass Over w k (st ∷ sts) ds states rest fresh e all later = absurd cc
-  plans_pass (More p ps) w k [] ds states rest fresh e all later = absurd cc
-  plans_pass (More p ps) w k (st ∷ sts) ds states rest fresh e all later =
+  plans_prove : (ps : Plans) (w : Fault) (k above : ℕ) (sts : List State) (ds : List Due) (pending : List Pending) (rest : List Node) → above + most_branches ps ≤ 1000 → AreFresh k ps →
+      expand_all w k sts ps ≡ Ok ds → AllDischarged ds → NodesProve (k + sizes ps) pending rest → NodesProve k (pending_states above sts ++ pending) (all_nodes ps ++ rest)
+  plans_prove Over w k above [] ds pending rest few fresh e all later = subst (λ (j : ℕ). NodesProve j pending rest) (omega arith) later
+  plans_prove Over w k above (st ∷ sts) ds pending rest few fresh e all later = absurd cc
+  plans_prove (More p ps) w k above [] ds pending rest few fresh e all later = absurd cc
+  plans_prove (More p ps) w k above (st ∷ sts) ds pending rest few fresh e all later =
       let parts = joined_is (expand k st p) (expand_all w (k + size p) sts ps) ds e in
       let both = parts_discharged parts.0 parts.1 ds parts.4 all in
-      let last : Passes ((k + size p) + sizes ps) states rest = subst (λ (j : ℕ). Passes j states rest) (omega arith) later in
-      subst (λ (l : List Node). Passes k (st ∷ (sts ++ states)) l) (sym (append_assoc (nodes_of p) (all_nodes ps) rest))
-      (plan_passes p k st parts.0 (sts ++ states) (all_nodes ps ++ rest) fresh.0 parts.2 both.0
-      (plans_pass ps w (k + size p) sts parts.1 states rest fresh.1 parts.3 both.1 last))
+      let last : NodesProve ((k + size p) + sizes ps) pending rest = subst (λ (j : ℕ). NodesProve j pending rest) (omega arith) later in
+      subst (λ (l : List Node). NodesProve k (record { state = st; above = above } ∷ (pending_states above sts ++ pending)) l) (sym (append_assoc (nodes_of p) (all_nodes ps) rest))
+      (plan_proves p k above st parts.0 (pending_states above sts ++ pending) (all_nodes ps ++ rest) (first_few above (branches p) (most_branches ps) few) fresh.0 parts.2 both.0
+      (plans_prove ps w (k + size p) above sts parts.1 pending rest (second_few above (branches p) (most_branches ps) few) fresh.1 parts.3 both.1 last))
 
 -- some fault, where none comes
 abbrev any_fault : Fault
@@ -68,33 +108,43 @@ valid_due : (k : ℕ) (st : State) (node : Node) (goals : List Assertion) → Al
 valid_due k st node [] valid = tt
 valid_due k st node (g ∷ gs) valid = (valid, tt)
 
--- plans for the states, with these nodes
-record Grown (k : ℕ) (states : List State) (nodes : List Node) : Type 0 where
+-- plans of which none branches too often behind its state
+abbrev AreShallow : List Pending → Plans → Type 0
+AreShallow [] ps = Unit {0}
+AreShallow (w ∷ pending) Over = Unit {0}
+AreShallow (w ∷ pending) (More p ps) = (w.above + branches p ≤ 1000) × AreShallow pending ps
+
+-- plans for the pending states, with these nodes
+record Grown (k : ℕ) (pending : List Pending) (nodes : List Node) : Type 0 where
   plans : Plans
   dues : List Due
   same : all_nodes plans ≡ nodes
+  shallow : AreShallow pending plans
   fresh : AreFresh k plans
-  expands : expand_all any_fault k states plans ≡ Ok dues
+  expands : expand_all any_fault k (states_of pending) plans ≡ Ok dues
   discharged : AllDischarged dues
 
--- plans for states that stand one after the other, cut there
-record Cut (k : ℕ) (first second : List State) (nodes : List Node) : Type 0 where
+-- plans for states that were opened and for those that wait behind them, cut there
+record Cut (k above : ℕ) (first : List State) (second : List Pending) (nodes : List Node) : Type 0 where
   front : Plans
   back : Plans
   front_dues : List Due
   back_dues : List Due
   same : all_nodes front ++ all_nodes back ≡ nodes
+  front_shallow : above + most_branches front ≤ 1000
+  back_shallow : AreShallow second back
   front_fresh : AreFresh k front
   back_fresh : AreFresh (k + sizes front) back
   front_expands : expand_all any_fault k first front ≡ Ok front_dues
-  back_expands : expand_all any_fault (k + sizes front) second back ≡ Ok back_dues
+  back_expands : expand_all any_fault (k + sizes front) (states_of second) back ≡ Ok back_dues
   front_discharged : AllDischarged front_dues
   back_discharged : AllDischarged back_dues
   counted : count front ≡ length first
 
 -- they can be cut
-cut : (first second : List State) (k : ℕ) (ps : Plans) (ds : List Due) → AreFresh k ps → expand_all any_fault k (first ++ second) ps ≡ Ok ds → AllDischarged ds → Cut k first second (all_nodes ps)
-cut [] second k ps ds fresh e all =
+cut : (first : List State) (second : List Pending) (k above : ℕ) (ps : Plans) (ds : List Due) → above ≤ 1000 → AreShallow (pending_states above first ++ second) ps → AreFresh k ps →
+    expand_all any_fault k (first ++ states_of second) ps ≡ Ok ds → AllDischarged ds → Cut k above first second (all_nodes ps)
+cut [] second k above ps ds few under fresh e all =
     let same : k ≡ k + 0 = omega arith in
     record {
       front = Over;
@@ -102,19 +152,21 @@ cut [] second k ps ds fresh e all =
       front_dues = [];
       back_dues = ds;
       same = refl;
+      front_shallow = omega (arith, few);
+      back_shallow = under;
       front_fresh = tt;
       back_fresh = subst (λ (j : ℕ). AreFresh j ps) same fresh;
       front_expands = refl;
-      back_expands = subst (λ (j : ℕ). expand_all any_fault j second ps ≡ Ok ds) same e;
+      back_expands = subst (λ (j : ℕ). expand_all any_fault j (states_of second) ps ≡ Ok ds) same e;
       front_discharged = tt;
       back_discharged = all;
       counted = refl;
     }
-cut (st ∷ first) second k Over ds fresh e all = absurd cc
-cut (st ∷ first) second k (More p ps) ds fresh e all =
-    let parts = joined_is (expand k st p) (expand_all any_fault (k + size p) (first ++ second) ps) ds e in
+cut (st ∷ first) second k above Over ds few under fresh e all = absurd cc
+cut (st ∷ first) second k above (More p ps) ds few under fresh e all =
+    let parts = joined_is (expand k st p) (expand_all any_fault (k + size p) (first ++ states_of second) ps) ds e in
     let both = parts_discharged parts.0 parts.1 ds parts.4 all in
-    let c = cut first second (k + size p) ps parts.1 fresh.1 parts.3 both.1 in
+    let c = cut first second (k + size p) above ps parts.1 few under.1 fresh.1 parts.3 both.1 in
     let far : (k + size p) + sizes c.front ≡ k + (size p + sizes c.front) = omega arith in
     record {
       front = More p c.front;
@@ -122,10 +174,12 @@ cut (st ∷ first) second k (More p ps) ds fresh e all =
       front_dues = parts.0 ++ c.front_dues;
       back_dues = c.back_dues;
       same = append_assoc (nodes_of p) (all_nodes c.front) (all_nodes c.back) ∙ ap (λ (l : List Node). nodes_of p ++ l) c.same;
+      front_shallow = both_few above (branches p) (most_branches c.front) under.0 c.front_shallow;
+      back_shallow = c.back_shallow;
       front_fresh = (fresh.0, c.front_fresh);
       back_fresh = subst (λ (j : ℕ). AreFresh j c.back) far c.back_fresh;
       front_expands = both_ok (expand k st p) (expand_all any_fault (k + size p) first c.front) parts.0 c.front_dues parts.2 c.front_expands;
-      back_expands = subst (λ (j : ℕ). expand_all any_fault j second c.back ≡ Ok c.back_dues) far c.back_expands;
+      back_expands = subst (λ (j : ℕ). expand_all any_fault j (states_of second) c.back ≡ Ok c.back_dues) far c.back_expands;
       front_discharged = discharged_append parts.0 c.front_dues both.0 c.front_discharged;
       back_discharged = c.back_discharged;
       counted = ap suc c.counted;
@@ -141,49 +195,63 @@ at_expands k st node ps q ds is counted e =
     rw (is, same, later) refl
 
 -- plans grow from the last node back
-grow : (nodes : List Node) (k : ℕ) (states : List State) → Passes k states nodes → Grown k states nodes
-grow [] k [] p = record { plans = Over; dues = []; same = refl; fresh = tt; expands = refl; discharged = tt }
-grow [] k (st ∷ states) p = elim p [ ]
-grow (node ∷ nodes) k [] p = elim p [ ]
-grow (node ∷ nodes) k (st ∷ states) p =
-    let q = p.0 in
-    let g = grow nodes (suc k) (q.states ++ states) p.4 in
-    let c = cut q.states states (suc k) g.plans g.dues g.fresh g.expands g.discharged in
+grow : (nodes : List Node) (k : ℕ) (pending : List Pending) → NodesProve k pending nodes → Grown k pending nodes
+grow [] k [] h = record { plans = Over; dues = []; same = refl; shallow = tt; fresh = tt; expands = refl; discharged = tt }
+grow [] k (p ∷ pending) h = elim h [ ]
+grow (node ∷ nodes) k [] h = elim h [ ]
+grow (node ∷ nodes) k (p ∷ pending) h =
+    let q = h.0 in
+    let above = above_opened node p.above in
+    let rest = states_of pending in
+    let g = grow nodes (suc k) (pending_states above q.states ++ pending) h.5 in
+    let there = subst (λ (l : List State). expand_all any_fault (suc k) l g.plans ≡ Ok g.dues) (states-pending above q.states pending) g.expands in
+    let c = cut q.states pending (suc k) above g.plans g.dues (few_is above h.2) g.shallow g.fresh there g.discharged in
     let far : suc k + sizes c.front ≡ k + suc (sizes c.front) = omega arith in
-    let here = at_expands k st node c.front q c.front_dues p.1 c.counted c.front_expands in
-    let behind : expand_all any_fault (k + suc (sizes c.front)) states c.back ≡ Ok c.back_dues =
-    subst (λ (j : ℕ). expand_all any_fault j states c.back ≡ Ok c.back_dues) far c.back_expands in
+    let here = at_expands k p.state node c.front q c.front_dues h.1 c.counted c.front_expands in
+    let behind : expand_all any_fault (k + suc (sizes c.front)) rest c.back ≡ Ok c.back_dues =
+    subst (λ (j : ℕ). expand_all any_fault j rest c.back ≡ Ok c.back_dues) far c.back_expands in
     record {
       plans = More (At node c.front) c.back;
-      dues = (due k st node q.goals ++ c.front_dues) ++ c.back_dues;
+      dues = (due k p.state node q.goals ++ c.front_dues) ++ c.back_dues;
       same = ap (λ (l : List Node). node ∷ l) (c.same ∙ g.same);
-      fresh = ((p.2, c.front_fresh), subst (λ (j : ℕ). AreFresh j c.back) far c.back_fresh);
+      shallow = (counts_below (is_branching node) p.above (most_branches c.front) c.front_shallow, c.back_shallow);
+      fresh = ((h.3, c.front_fresh), subst (λ (j : ℕ). AreFresh j c.back) far c.back_fresh);
       expands = rw (here, behind) refl;
       discharged =
-          discharged_append (due k st node q.goals ++ c.front_dues) c.back_dues
-          (discharged_append (due k st node q.goals) c.front_dues (valid_due k st node q.goals p.3) c.front_discharged) c.back_discharged;
+          discharged_append (due k p.state node q.goals ++ c.front_dues) c.back_dues
+          (discharged_append (due k p.state node q.goals) c.front_dues (valid_due k p.state node q.goals h.4) c.front_discharged) c.back_discharged;
     }
 
 -- a plan for one state
-one_plan : (k : ℕ) (st : State) (nodes : List Node) (ps : Plans) (ds : List Due) → all_nodes ps ≡ nodes → AreFresh k ps → expand_all any_fault k (st ∷ []) ps ≡ Ok ds → AllDischarged ds →
-    (p : Plan) × (es : List Due) × (nodes_of p ≡ nodes) × IsFresh k p × (expand k st p ≡ Ok es) × AllDischarged es
-one_plan k st nodes Over ds same fresh e all = absurd cc
-one_plan k st nodes (More p Over) ds same fresh e all =
-    let parts = joined_is (expand k st p) (Ok []) ds e in
-    (p, parts.0, sym (append-nil (nodes_of p)) ∙ same, fresh.0, parts.2, (parts_discharged parts.0 parts.1 ds parts.4 all).0)
-one_plan k st nodes (More p (More r ps)) ds same fresh e all =
-    let parts = joined_is (expand k st p) (Err any_fault) ds e in
+one_plan : (k : ℕ) (w : Pending) (nodes : List Node) (ps : Plans) (ds : List Due) → all_nodes ps ≡ nodes → AreShallow (w ∷ []) ps → AreFresh k ps → expand_all any_fault k (w.state ∷ []) ps ≡ Ok ds →
+    AllDischarged ds → (p : Plan) × (es : List Due) × (nodes_of p ≡ nodes) × (w.above + branches p ≤ 1000) × IsFresh k p × (expand k w.state p ≡ Ok es) × AllDischarged es
+one_plan k w nodes Over ds same under fresh e all = absurd cc
+one_plan k w nodes (More p Over) ds same under fresh e all =
+    let parts = joined_is (expand k w.state p) (Ok []) ds e in
+    (p, parts.0, sym (append-nil (nodes_of p)) ∙ same, under.0, fresh.0, parts.2, (parts_discharged parts.0 parts.1 ds parts.4 all).0)
+one_plan k w nodes (More p (More r ps)) ds same under fresh e all =
+    let parts = joined_is (expand k w.state p) (Err any_fault) ds e in
     let f = parts.3 in
     absurd cc
 
--- a list that passes from the start is the nodes of a plan whose obligations hold
-pub passes_is_plan : (t : Task) (nodes : List Node) → Passes 0 (start_state t ∷ []) nodes →
-    (p : Plan) × (ds : List Due) × (nodes_of p ≡ nodes) × IsFresh 0 p × (expand 0 (start_state t) p ≡ Ok ds) × AllDischarged ds
-passes_is_plan t nodes p =
-    let g = grow nodes 0 (start_state t ∷ []) p in
-    one_plan 0 (start_state t) nodes g.plans g.dues g.same g.fresh g.expands g.discharged
+-- nodes that prove the start of a task are those of a plan whose obligations hold
+pub nodes_are_plan : (t : Task) (nodes : List Node) → NodesProve 0 (start_pending t) nodes →
+    (p : Plan) × (ds : List Due) × (nodes_of p ≡ nodes) × IsFresh 0 p × (obligations t p ≡ Ok ds) × AllDischarged ds
+nodes_are_plan t nodes h =
+    let g = grow nodes 0 (start_pending t) h in
+    let one = one_plan 0 (record { state = start_state t; above = 0 }) nodes g.plans g.dues g.same g.shallow g.fresh g.expands g.discharged in
+    let p = one.0 in
+    let few = is_few (branches p) (omega (arith, one.3)) in
+    (p, one.1, one.2, one.4, ap (λ (b : Bool). if b then expand 0 (start_state t) p else Err Deep) few ∙ one.5, one.6)
 
--- the nodes of a fresh plan whose obligations hold pass from the start
-pub start_passes : (t : Task) (p : Plan) (ds : List Due) → IsFresh 0 p → expand 0 (start_state t) p ≡ Ok ds → AllDischarged ds → Passes 0 (start_state t ∷ []) (nodes_of p)
-start_passes t p ds fresh e all =
-    subst (λ (l : List Node). Passes 0 (start_state t ∷ []) l) (append-nil (nodes_of p)) (plan_passes p 0 (start_state t) ds [] [] fresh e all tt)
+-- a test that passed
+test_passed : (b : Bool) (r : Result (List Due) Fault) (ds : List Due) → (if b then r else Err Deep) ≡ Ok ds → b ≡ true
+test_passed true r ds e = refl
+test_passed false r ds e = absurd cc
+
+-- the nodes of a fresh plan whose obligations hold prove the start of its task
+pub plan_nodes_prove : (t : Task) (p : Plan) (ds : List Due) → IsFresh 0 p → obligations t p ≡ Ok ds → AllDischarged ds → NodesProve 0 (start_pending t) (nodes_of p)
+plan_nodes_prove t p ds fresh e all =
+    let expands = shallow (is_shallow (branches p)) (expand 0 (start_state t) p) ds e in
+    let few = few_is (branches p) (test_passed (is_shallow (branches p)) (expand 0 (start_state t) p) ds e) in
+    subst (λ (l : List Node). NodesProve 0 (start_pending t) l) (append-nil (nodes_of p)) (plan_proves p 0 0 (start_state t) ds [] [] (omega (arith, few)) fresh expands all tt)

@@ -1,5 +1,5 @@
 -- Whole proofs: from the obligations of a plan, or from a list of nodes, to a merge that is free of conflicts.
-use Rattle.std.proofs.Common.{◌≡◌, ◌<◌, ℕ, suc, ◌+◌, ◌==◌, ℤ, pos, Bool, true, false, if◌then◌else◌, Option, Some, None, Result, Ok, Err, List, [], ◌∷◌, ◌++◌, length, inl, inr, refl, sym, subst, ⊎_elim, arith}
+use Rattle.std.proofs.Common.{◌≡◌, ◌<◌, ℕ, suc, ◌+◌, ◌==◌, ℤ, pos, Bool, true, false, if◌then◌else◌, Option, Some, None, Result, Ok, Err, List, [], ◌∷◌, ◌++◌, length, inl, inr, refl, ap, sym, subst, ⊎_elim, arith}
 use Rattle.std.specs.Prelude.{Contains, All}
 use Rattle.std.proofs.lemmas.List.Elements.{All-nil, All-cons, All-contains}
 use Rattle.std.specs.List.{flat_map}
@@ -18,8 +18,8 @@ use Rattle.sm_plan.specs.Limits.{is_shallow}
 use Rattle.sm_plan.specs.States.{State, place, keeps_goals, start_store, start_facts, start_state}
 use Rattle.sm_plan.specs.Nodes.{Node, Opened, opens, rule_of}
 use Rattle.sm_plan.specs.Plans.{Plan, At, Plans, Over, More, size, count, branches, IsFresh, AreFresh, Due, Fault, Wrong, Deep, due, joined, opened, expand, expand_all, obligations, AllValid, AllDischarged}
-use Rattle.sm_plan.specs.Lines.{Passes}
-use Rattle.sm_plan.specs.Claims.{IsSound, AreSound, IsStateBelow, AreStatesBelow}
+use Rattle.sm_plan.specs.NodeLists.{Pending, above_opened, pending_states, states_of, NodesProve, start_pending}
+use Rattle.sm_plan.specs.SoundStates.{IsSound, AreSound, IsStateBelow, AreStatesBelow}
 use Rattle.sm_plan.proofs.Families.{In}
 use Rattle.sm_plan.proofs.AllCopies.{sound_behind}
 use Rattle.sm_plan.proofs.Bounded.{states_later, states_append, start_below}
@@ -83,17 +83,25 @@ mutual
         plans_sound ps w (k + size p) states parts.1 (states_later k (k + size p) states (omega arith) below.1) fresh.1 parts.3 both.1,
       )
 
--- a list of nodes that passes makes all pending states sound
-lines_sound : (nodes : List Node) (k : ℕ) (states : List State) → AreStatesBelow k states → Passes k states nodes → AreSound states
-lines_sound [] k [] below p = tt
-lines_sound [] k (st ∷ states) below p = elim p [ ]
-lines_sound (node ∷ nodes) k [] below p = elim p [ ]
-lines_sound (node ∷ nodes) k (st ∷ states) below p =
-    let q = p.0 in
-    let later = lines_sound nodes (suc k) (q.states ++ states)
-    (states_append (suc k) q.states states (node_below k st node q below.0 p.2 p.1) (states_later k (suc k) states (omega arith) below.1)) p.4 in
-    let both = sound_behind q.states states later in
-    (node_sound k st node q below.0 p.2 p.1 p.3 both.0, both.1)
+-- the states that were opened, and those that wait behind them
+pub states-pending : (above : ℕ) (states : List State) (pending : List Pending) → states_of (pending_states above states ++ pending) ≡ states ++ states_of pending
+states-pending above [] pending = refl
+states-pending above (st ∷ states) pending = ap (λ (l : List State). st ∷ l) (states-pending above states pending)
+
+-- nodes that prove pending states make them sound
+nodes_sound : (nodes : List Node) (k : ℕ) (pending : List Pending) → AreStatesBelow k (states_of pending) → NodesProve k pending nodes → AreSound (states_of pending)
+nodes_sound [] k [] below h = tt
+nodes_sound [] k (p ∷ pending) below h = elim h [ ]
+nodes_sound (node ∷ nodes) k [] below h = elim h [ ]
+nodes_sound (node ∷ nodes) k (p ∷ pending) below h =
+    let q = h.0 in
+    let above = above_opened node p.above in
+    let rest = states_of pending in
+    let all = states-pending above q.states pending in
+    let later = nodes_sound nodes (suc k) (pending_states above q.states ++ pending)
+    (subst (AreStatesBelow (suc k)) (sym all) (states_append (suc k) q.states rest (node_below k p.state node q below.0 h.3 h.1) (states_later k (suc k) rest (omega arith) below.1))) h.5 in
+    let both = sound_behind q.states rest (subst AreSound all later) in
+    (node_sound k p.state node q below.0 h.3 h.1 h.4 both.0, both.1)
 
 -- one of two, where both can't fail
 one_of : (base variant candidate : ℤ) → ((base ≡ variant → ⊥) → (candidate ≡ variant → ⊥) → ⊥) → KeepsChange base variant candidate
@@ -164,7 +172,7 @@ start_conflict_free t sound n s end meets ends (Element a i) counts =
     (goals_at (with_slots m end) t.outputs (variable (Element a i)) (contains_in (variable (Element a i)) t.outputs counts) (sound m end (start_holds m t.assumed meets) ends))
 
 -- a test that passed, of a whole plan
-shallow : (b : Bool) (r : Result (List Due) Fault) (ds : List Due) → (if b then r else Err Deep) ≡ Ok ds → r ≡ Ok ds
+pub shallow : (b : Bool) (r : Result (List Due) Fault) (ds : List Due) → (if b then r else Err Deep) ≡ Ok ds → r ≡ Ok ds
 shallow true r ds e = e
 shallow false r ds e = absurd cc
 
@@ -173,6 +181,6 @@ pub plan_conflict_free : (t : Task) (p : Plan) (ds : List Due) → IsFresh 0 p �
 plan_conflict_free t p ds fresh e all =
     start_conflict_free t (plan_sound p 0 (start_state t) ds (start_below 0 t) fresh (shallow (is_shallow (branches p)) (expand 0 (start_state t) p) ds e) all)
 
--- where a list of nodes passes from the start of a task, the task is free of conflicts
-pub lines_conflict_free : (t : Task) (nodes : List Node) → Passes 0 (start_state t ∷ []) nodes → ConflictFree t
-lines_conflict_free t nodes p = start_conflict_free t (lines_sound nodes 0 (start_state t ∷ []) (start_below 0 t, tt) p).0
+-- where nodes prove the start of a task, the task is free of conflicts
+pub nodes_conflict_free : (t : Task) (nodes : List Node) → NodesProve 0 (start_pending t) nodes → ConflictFree t
+nodes_conflict_free t nodes h = start_conflict_free t (nodes_sound nodes 0 (start_pending t) (start_below 0 t, tt) h).0

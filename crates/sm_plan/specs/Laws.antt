@@ -4,12 +4,12 @@ use Rattle.std.specs.List.{filter, range_with_len}
 use Rattle.sm_syntax.specs.ConflictFree.{Task, ConflictFree}
 use Rattle.sm_term.specs.Fresh.{AreFormsBelow}
 use Rattle.sm_plan.specs.Copies.{Copies, subsets}
-use Rattle.sm_plan.specs.Numbers.{mask_of, set_of}
+use Rattle.sm_plan.specs.Masks.{mask_of, set_of}
 use Rattle.sm_plan.specs.States.{State, start_state}
 use Rattle.sm_plan.specs.Nodes.{Node, Opened, opens, IsFreshAt}
-use Rattle.sm_plan.specs.Plans.{Plan, nodes_of, Due, IsFresh, expand, obligations, AllValid, AllDischarged}
-use Rattle.sm_plan.specs.Lines.{Passes}
-use Rattle.sm_plan.specs.Claims.{IsSound, AreSound, IsStateBelow, AreStatesBelow}
+use Rattle.sm_plan.specs.Plans.{Plan, nodes_of, Due, IsFresh, obligations, AllValid, AllDischarged}
+use Rattle.sm_plan.specs.NodeLists.{NodesProve, start_pending}
+use Rattle.sm_plan.specs.SoundStates.{IsSound, AreSound, IsStateBelow, AreStatesBelow}
 
 -- one node: where its goals are valid and the states that it opens are sound, its own state is sound
 abbrev pub NodeIsSound : Type 0
@@ -41,18 +41,23 @@ SoundStartIsFree = (t : Task) → IsSound (start_state t) → ConflictFree t
 abbrev pub PlanIsSound : Type 0
 PlanIsSound = (t : Task) (p : Plan) (ds : List Due) → IsFresh 0 p → obligations t p ≡ Ok ds → AllDischarged ds → ConflictFree t
 
--- where a list of nodes passes from the start of a task, the task is free of conflicts
-abbrev pub LinesAreSound : Type 0
-LinesAreSound = (t : Task) (nodes : List Node) → Passes 0 (start_state t ∷ []) nodes → ConflictFree t
+-- where nodes prove the start of a task, the task is free of conflicts
+abbrev pub NodesAreSound : Type 0
+NodesAreSound =
+    (t : Task) (nodes : List Node) → NodesProve 0 (start_pending t) nodes → ConflictFree t
 
--- the nodes of such a plan, in preorder, pass
-abbrev pub PlanPasses : Type 0
-PlanPasses = (t : Task) (p : Plan) (ds : List Due) → IsFresh 0 p → expand 0 (start_state t) p ≡ Ok ds → AllDischarged ds → Passes 0 (start_state t ∷ []) (nodes_of p)
+-- the nodes of a fresh plan whose obligations hold, in preorder, prove the start of its task
+abbrev pub PlanNodesProve : Type 0
+PlanNodesProve =
+    (t : Task) (p : Plan) (ds : List Due) →
+    IsFresh 0 p → obligations t p ≡ Ok ds → AllDischarged ds → NodesProve 0 (start_pending t) (nodes_of p)
 
--- and each list that passes is the nodes of such a plan
-abbrev pub PassesIsPlan : Type 0
-PassesIsPlan = (t : Task) (nodes : List Node) → Passes 0 (start_state t ∷ []) nodes →
-    (p : Plan) × (ds : List Due) × (nodes_of p ≡ nodes) × IsFresh 0 p × (expand 0 (start_state t) p ≡ Ok ds) × AllDischarged ds
+-- and nodes that prove the start of a task are those of such a plan
+abbrev pub NodesArePlan : Type 0
+NodesArePlan =
+    (t : Task) (nodes : List Node) →
+    NodesProve 0 (start_pending t) nodes →
+    (p : Plan) × (ds : List Due) × (nodes_of p ≡ nodes) × IsFresh 0 p × (obligations t p ≡ Ok ds) × AllDischarged ds
 
 -- the subsets of a set have ascending masks, and are those whose masks have no other bit
 abbrev pub SubsetsAscend : Type 0

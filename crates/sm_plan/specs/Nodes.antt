@@ -7,10 +7,10 @@ use Rattle.sm_term.specs.Symbolic.{SymbolicStore, form_of}
 use Rattle.sm_term.specs.Slots.{all_at_stores}
 use Rattle.sm_term.specs.Fresh.{IsFormBelow}
 use Rattle.sm_plan.specs.Copies.{Copies, each, has, is_inhabited, subsets}
-use Rattle.sm_plan.specs.Rests.{is_over, is_long, front, behind, is_loop}
+use Rattle.sm_plan.specs.Statements.{is_over, is_long, front, behind, is_loop}
 use Rattle.sm_plan.specs.Limits.{is_kept}
 use Rattle.sm_plan.specs.States.{State}
-use Rattle.sm_plan.specs.Next as next
+use Rattle.sm_plan.specs.Successors as next
 
 -- a node of a plan
 pub data Node : Type 0 where

@@ -1,7 +1,7 @@
 // What plans prove, as contracts.
 ghost use Rattle.sm_plan.specs.Cases.{CasesComeOut};
 ghost use Rattle.sm_plan.specs.Example.{ExampleHolds};
-ghost use Rattle.sm_plan.specs.Laws.{NodeIsSound, NodeStaysBelow, NodeGoalsBelow, StartIsBelow, SoundStartIsFree, PlanIsSound, LinesAreSound, PlanPasses, PassesIsPlan, SubsetsAscend, MaskIsExact};
+ghost use Rattle.sm_plan.specs.Laws.{NodeIsSound, NodeStaysBelow, NodeGoalsBelow, StartIsBelow, SoundStartIsFree, PlanIsSound, NodesAreSound, PlanNodesProve, NodesArePlan, SubsetsAscend, MaskIsExact};
 
 /// A state is sound where a node's goals are valid and the states that it opens are sound.
 pub fn node_is_sound()
@@ -21,15 +21,15 @@ pub fn plan_is_sound()
     ensures { PlanIsSound }
 {}
 
-/// A list of nodes that passes makes its task free of conflicts.
-pub fn lines_are_sound()
-    ensures { LinesAreSound }
+/// Where nodes prove the start of a task, one pending state after another, the task is free of conflicts.
+pub fn nodes_are_sound()
+    ensures { NodesAreSound }
 {}
 
-/// The nodes of a plan pass, and a list of nodes that passes is a plan's.
-pub fn lines_are_plans()
-    ensures passes { PlanPasses }
-    ensures plan { PassesIsPlan }
+/// The nodes of a plan whose obligations hold prove its task's start, and nodes that prove it are such a plan's.
+pub fn nodes_are_plans()
+    ensures prove { PlanNodesProve }
+    ensures plan { NodesArePlan }
 {}
 
 /// The turns of loops stand by ascending masks, which say what the sets are.

@@ -3,17 +3,18 @@
 //! So far the crate has the definitions and their laws; each law is the contract of a function that does nothing.
 //!
 //! - Where all obligations of a fresh plan hold in every structure, the task is free of conflicts.
-//! - The same of a list of nodes that takes one pending state after another. The two are one: the nodes of a plan in
-//!   preorder pass, and a list that passes is the nodes of a plan.
+//! - The same of a list of nodes that takes one pending state after another, with the branching nodes above each. The
+//!   two are one: the nodes of such a plan in preorder prove the task's start, and nodes that prove it are a plan's.
 //! - Both stand on one step: where a node's goals hold and the states that it opens are sound, its own state is.
 //!
-//! Read `specs/Laws.antt` first, then `specs/States.antt`, `specs/Nodes.antt`, `specs/Next.antt`, `specs/Plans.antt`
-//! and `specs/Lines.antt`. `specs/Example.antt` has a worked plan, `specs/Cases.antt` three cases to check by hand.
+//! Read `specs/Laws.antt` first, then `specs/States.antt`, `specs/Nodes.antt`, `specs/Successors.antt`,
+//! `specs/Plans.antt` and `specs/NodeLists.antt`. `specs/Example.antt` has a worked plan, `specs/Cases.antt` three cases
+//! to check by hand.
 #![tactic(auto)]
 
 mod laws;
 
 pub use laws::{
-    cases_come_out, example_holds, lines_are_plans, lines_are_sound, node_is_sound, plan_is_sound,
+    cases_come_out, example_holds, node_is_sound, nodes_are_plans, nodes_are_sound, plan_is_sound,
     start_is_sound, subsets_ascend,
 };

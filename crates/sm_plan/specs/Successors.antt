@@ -11,7 +11,7 @@ use Rattle.sm_term.specs.Assertions.{Assertion, negate, conj}
 use Rattle.sm_term.specs.Symbolic.{SymbolicStore, with_term, term_of, form_of}
 use Rattle.sm_term.specs.Slots.{all_at_stores}
 use Rattle.sm_plan.specs.Copies.{Copies, has, with_copy, copies, no_copies}
-use Rattle.sm_plan.specs.Rests.{front, behind, guard_of, body_of, last_guard}
+use Rattle.sm_plan.specs.Statements.{front, behind, guard_of, body_of, last_guard}
 use Rattle.sm_plan.specs.States.{State}
 
 -- what is left of code that begins with skip or an assignment, and the symbolic store after that statement
