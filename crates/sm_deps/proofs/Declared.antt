@@ -101,3 +101,6 @@ assigned_declared sorts (If b c d k) x good m =
 assigned_declared sorts (While b c k) x good m =
     in_parts (assigns c x) (assigns k x) (declared sorts x ≡ true) (assigned_declared sorts c x good.1) (assigned_declared sorts k x good.2) m
 assigned_declared sorts (Hole h k) x good m = assigned_declared sorts k x good m
+
+-- both
+pub ruleset names_declared = (inputs_declared, assigned_declared)

@@ -1,4 +1,4 @@
--- Laws of what code needs and assigns, each for all code.
+-- Cited by public clauses: laws of what code needs and assigns, each for all code.
 use Rattle.std.specs.Prelude.{◌≡◌, ◌↔◌, ℕ, ℤ, IsTrue, Option, Some, None, is_some}
 use Rattle.std.specs.List.Sorted.{IsStrictlyIncreasing}
 use Rattle.sm_syntax.specs.declared.tree.Sort.{Sort}
@@ -28,25 +28,39 @@ EqualAs (Some Arr) u v = (i : ℤ) → array u i ≡ array v i
 -- the list of inputs rises, and has exactly the names that are needed for the wanted one
 abbrev pub InputsAreNeeded : Type 0
 InputsAreNeeded =
-    (c : Code) (w : ℕ) → IsStrictlyIncreasing (inputs c w) × ((x : ℕ) → IsTrue (is_in (inputs c w) x) ↔ Needs c (λ (y : ℕ). y ≡ w) x)
+    (c : Code) (w : ℕ) →
+    IsStrictlyIncreasing (inputs c w)
+    × ((x : ℕ) → IsTrue (is_in (inputs c w) x) ↔ Needs c (λ (y : ℕ). y ≡ w) x)
 
--- under every bound on turns, stores that agree on the inputs for a name end alike and agree on it there
+-- under every bound on turns, runs from stores that agree on the inputs for a name end alike and
+-- agree on it there
 abbrev pub InputsDecide : Type 0
 InputsDecide =
-    (n : ℕ) (c : Code) (w : ℕ) (s t : Store) → ((x : ℕ) → IsTrue (is_in (inputs c w) x) → s x ≡ t x) → EndAlike (λ (u v : Store). u w ≡ v w) (run n c s) (run n c t)
+    (n : ℕ) (c : Code) (w : ℕ) (s t : Store) →
+    ((x : ℕ) → IsTrue (is_in (inputs c w) x) → s x ≡ t x) →
+    EndAlike (λ (u v : Store). u w ≡ v w) (run n c s) (run n c t)
 
 -- the same of well-sorted code and stores that agree by sort
 abbrev pub InputsDecideBySort : Type 0
 InputsDecideBySort =
     (sorts : Sorts) (n : ℕ) (c : Code) (w : ℕ) (s t : Store) →
     IsWellSorted sorts c →
-    ((x : ℕ) → IsTrue (is_in (inputs c w) x) → EqualAs (sorts x) (s x) (t x)) → EndAlike (λ (u v : Store). EqualAs (sorts w) (u w) (v w)) (run n c s) (run n c t)
+    ((x : ℕ) → IsTrue (is_in (inputs c w) x) → EqualAs (sorts x) (s x) (t x)) →
+    EndAlike (λ (u v : Store). EqualAs (sorts w) (u w) (v w)) (run n c s) (run n c t)
 
 -- the inputs of well-sorted code for a declared name are declared
 abbrev pub InputsAreDeclared : Type 0
 InputsAreDeclared =
-    (sorts : Sorts) (c : Code) (w x : ℕ) → IsWellSorted sorts c → IsTrue (is_some (sorts w)) → IsTrue (is_in (inputs c w) x) → IsTrue (is_some (sorts x))
+    (sorts : Sorts) (c : Code) (w x : ℕ) →
+    IsWellSorted sorts c →
+    IsTrue (is_some (sorts w)) →
+    IsTrue (is_in (inputs c w) x) →
+    IsTrue (is_some (sorts x))
 
 -- so is what it assigns
 abbrev pub AssignedAreDeclared : Type 0
-AssignedAreDeclared = (sorts : Sorts) (c : Code) (x : ℕ) → IsWellSorted sorts c → IsTrue (assigns c x) → IsTrue (is_some (sorts x))
+AssignedAreDeclared =
+    (sorts : Sorts) (c : Code) (x : ℕ) →
+    IsWellSorted sorts c →
+    IsTrue (assigns c x) →
+    IsTrue (is_some (sorts x))

@@ -1,4 +1,4 @@
--- For private clauses alone: going over code from its end while a set is kept for each of its loops.
+-- For private clauses alone: going over code from its end, with a set kept for each of its loops.
 use Rattle.std.specs.Prelude.{◌≡◌, ℕ, ◌+◌, ◌≤◌, Bool, Some, length, slice_get}
 use Rattle.std.specs.BTreeSet.{BTreeSet}
 use Rattle.sm_syntax.specs.Syntax.{Code, End, Skip, Assign, Write, If, While, Hole}
@@ -16,7 +16,8 @@ loops_in (If b c d k) = loops_in k + loops_in c + loops_in d
 loops_in (While b c k) = loops_in k + 1 + loops_in c
 loops_in (Hole h k) = loops_in k
 
--- the loops of code have the numbers from n on, as they are met from its end, and each has the set that it needs
+-- the loops of code have the numbers from n on, as they are met from its end, and each has the set
+-- that it needs
 abbrev pub HasNeeds : ℕ → Code → (ℕ → Bool) → (ℕ → ℕ → Bool) → Type 0
 HasNeeds n End wanted sets = Unit {0}
 HasNeeds n (Skip k) wanted sets = HasNeeds n k wanted sets
@@ -34,7 +35,10 @@ HasNeeds n (Hole h k) wanted sets = HasNeeds n k wanted sets
 
 -- each kept set is within the set that its loop has
 abbrev pub IsWithin : Loops → (ℕ → ℕ → Bool) → Type 0
-IsWithin loops sets = (n : ℕ) (set : BTreeSet ℕ) → slice_get loops.sets.items n ≡ Some set → Below (members set) (sets n)
+IsWithin loops sets =
+    (n : ℕ) (set : BTreeSet ℕ) →
+    slice_get loops.sets.items n ≡ Some set →
+    Below (members set) (sets n)
 
 -- the loop that is met next has a kept set, or is the first that has none
 abbrev pub IsReady : Loops → Type 0
@@ -46,30 +50,44 @@ pub record Passes (n : ℕ) (before after : Loops) : Type 0 where
   pub ready : IsReady after
   pub kept : length before.sets.items ≤ length after.sets.items
 
--- going over code from its end, from names that are wanted to names that are found: all that it needs for them is
--- found, and nothing that it doesn't need for a wider set, if each kept set is within what its loop needs for that
+-- going over code from its end, from names that are wanted to names that are found: all that it
+-- needs for them is found, and nothing that it doesn't need for a wider set, if each kept set is
+-- within what its loop needs for that one
 pub record GoesOver (c : Code) (wanted found : ℕ → Bool) (before after : Loops) : Type 0 where
   pub passes : Passes (loops_in c) before after
   pub enough : Below (needed c wanted) found
-  pub no_more : (wider : ℕ → Bool) (sets : ℕ → ℕ → Bool) → Below wanted wider → HasNeeds before.next c wider sets →
-      IsWithin before sets → Below found (needed c wider) × IsWithin after sets
+  pub no_more : (wider : ℕ → Bool) (sets : ℕ → ℕ → Bool) →
+      Below wanted wider →
+      HasNeeds before.next c wider sets →
+      IsWithin before sets →
+      Below found (needed c wider) × IsWithin after sets
 
--- the rounds of a loop's body: the set that is found holds the first one and what the body needs for it, and is within
--- each such set, if each kept set is within what its loop needs for that
+-- the rounds of a loop's body: the set that is found holds the first one and what the body needs
+-- for it, and is within each such set, if each kept set is within what its loop needs for that one
 pub record Settles (c : Code) (first found : ℕ → Bool) (before after : Loops) : Type 0 where
   pub passes : Passes (loops_in c) before after
   pub starts : Below first found
   pub closed : Below (needed c found) found
-  pub least : (whole : ℕ → Bool) (sets : ℕ → ℕ → Bool) → Below first whole → Below (needed c whole) whole →
-      HasNeeds before.next c whole sets → IsWithin before sets → Below found whole × IsWithin after sets
+  pub least : (whole : ℕ → Bool) (sets : ℕ → ℕ → Bool) →
+      Below first whole →
+      Below (needed c whole) whole →
+      HasNeeds before.next c whole sets →
+      IsWithin before sets →
+      Below found whole × IsWithin after sets
 
 -- a loop is met, and goes on from the set that is kept for it
 pub record Resumes (first found : ℕ → Bool) (before after : Loops) : Type 0 where
   pub passes : Passes 1 before after
   pub starts : Below first found
-  pub within : (sets : ℕ → ℕ → Bool) → Below first (sets before.next) → IsWithin before sets → Below found (sets before.next) × IsWithin after sets
+  pub within : (sets : ℕ → ℕ → Bool) →
+      Below first (sets before.next) →
+      IsWithin before sets →
+      Below found (sets before.next) × IsWithin after sets
 
 -- another set is kept for loop n
 pub record Keeps (n : ℕ) (found : ℕ → Bool) (before after : Loops) : Type 0 where
   pub passes : Passes 0 before after
-  pub within : (sets : ℕ → ℕ → Bool) → Below found (sets n) → IsWithin before sets → IsWithin after sets
+  pub within : (sets : ℕ → ℕ → Bool) →
+      Below found (sets n) →
+      IsWithin before sets →
+      IsWithin after sets

@@ -1,4 +1,5 @@
--- What code needs: the names whose values before it decide its end, and the values of the wanted names there.
+-- Cited by public clauses: what code needs. These are the names whose values before it decide its
+-- end, and the values of the wanted names there.
 use Rattle.std.specs.Prelude.{◌⊎◌, ◌≢◌, ℕ, Bool, IsTrue}
 use Rattle.sm_syntax.specs.Syntax.{Code, End, Skip, Assign, Write, If, While, Hole}
 use Rattle.sm_deps.specs.Names.{mentions, tests}
@@ -15,17 +16,25 @@ Within first second = (x : ℕ) → first x → second x
 abbrev pub Picked : (ℕ → Bool) → Names
 Picked test x = IsTrue (test x)
 
--- the least set that holds the first names, and with its own names also what they bring: what all such sets have
+-- the least set that holds the first names, and with its own names also what they bring: what all
+-- such sets have
 abbrev pub Least : Names → (Names → Names) → Names
-Least first brings x = (set : ℕ → Bool) → Within first (Picked set) → Within (brings (Picked set)) (Picked set) → IsTrue (set x)
+Least first brings x =
+    (set : ℕ → Bool) →
+    Within first (Picked set) →
+    Within (brings (Picked set)) (Picked set) →
+    IsTrue (set x)
 
--- the names that code needs, where those of a set are wanted after it. A loop needs the least set that holds what is
--- wanted after it, the names of its guard, and what its body needs for that same set.
+-- the names that code needs, where those of a set are wanted after it. A loop needs the least set
+-- that holds what is wanted after it, the names of its guard, and what its body needs for that set.
 abbrev pub Needs : Code → Names → Names
 Needs End wanted x = wanted x
 Needs (Skip k) wanted x = Needs k wanted x
-Needs (Assign y e k) wanted x = (Needs k wanted x × (x ≢ y)) ⊎ (Needs k wanted y × IsTrue (mentions e x))
-Needs (Write a i e k) wanted x = Needs k wanted x ⊎ (Needs k wanted a × (IsTrue (mentions i x) ⊎ IsTrue (mentions e x)))
-Needs (If b c d k) wanted x = Needs c (Needs k wanted) x ⊎ (Needs d (Needs k wanted) x ⊎ IsTrue (tests b x))
+Needs (Assign y e k) wanted x =
+    (Needs k wanted x × (x ≢ y)) ⊎ (Needs k wanted y × IsTrue (mentions e x))
+Needs (Write a i e k) wanted x =
+    Needs k wanted x ⊎ (Needs k wanted a × (IsTrue (mentions i x) ⊎ IsTrue (mentions e x)))
+Needs (If b c d k) wanted x =
+    Needs c (Needs k wanted) x ⊎ (Needs d (Needs k wanted) x ⊎ IsTrue (tests b x))
 Needs (While b c k) wanted x = Least (λ (y : ℕ). Needs k wanted y ⊎ IsTrue (tests b y)) (Needs c) x
 Needs (Hole h k) wanted x = Needs k wanted x

@@ -13,11 +13,12 @@ use sm_syntax::{Block, Outputs, Stmt};
 use std::alloc::{AllocError, Global};
 use std::collections::BTreeSet;
 
-/// The names that are assigned anywhere in a block, arrays with an element that is assigned among them, by ascending
-/// number.
+/// The names that are assigned anywhere in a block, by ascending number. An array is assigned where
+/// one of its elements is.
 pub fn writes(alloc: Global, b: &Block) -> Result<Outputs, AllocError>
     ensures ascending { IfOk result (λ o. IsStrictlyIncreasing (outputs_of o)) }
-    ensures names { IfOk result (λ o. (x : ℕ) → is_in (outputs_of o) x ≡ assigns (code_of b.now) x) }
+    ensures names { IfOk result (λ o.
+        (x : ℕ) → is_in (outputs_of o) x ≡ assigns (code_of b.now) x) }
 {
     let mut names = BTreeSet::new(alloc);
     add_block(&mut names, b)?;
@@ -28,7 +29,8 @@ pub fn writes(alloc: Global, b: &Block) -> Result<Outputs, AllocError>
 #[cycle(add_block)]
 #[tactic(auto, using(crate::proofs::Assignments::assignments))]
 fn add_block(names: &mut NameSet, b: &Block) -> Result<(), AllocError>
-    ensures { OnOk result (members names.new ≡ either (members names.old) (assigns (code_of b.now))) }
+    ensures { let names_of_block = assigns (code_of b.now) in
+        OnOk result (members names.new ≡ either (members names.old) names_of_block) }
 {
     for s in &b.list {
         add_stmt(names, s)?;
@@ -40,7 +42,8 @@ fn add_block(names: &mut NameSet, b: &Block) -> Result<(), AllocError>
 #[cycle(add_block)]
 #[tactic(auto, using(crate::proofs::Assignments::assignments))]
 fn add_stmt(names: &mut NameSet, s: &Stmt) -> Result<(), AllocError>
-    ensures { OnOk result (members names.new ≡ either (members names.old) (assigns (statement_of s.now End))) }
+    ensures { let names_of_statement = assigns (statement_of s.now End) in
+        OnOk result (members names.new ≡ either (members names.old) names_of_statement) }
 {
     match s {
         Stmt::Skip => Ok(()),

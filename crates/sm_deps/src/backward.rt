@@ -14,8 +14,8 @@ use sm_syntax::{Block, Cond, Name, Outputs, Stmt};
 use std::alloc::{AllocError, Global};
 use std::collections::BTreeSet;
 
-/// The names whose values before a block decide whether it ends, and the value of `wanted` at its end, by ascending
-/// number.
+/// The names whose values before a block decide whether it ends, and the value of `wanted` at its
+/// end, by ascending number.
 pub fn inputs(alloc: Global, b: &Block, wanted: Name) -> Result<Outputs, AllocError>
     ensures { IfOk result (λ o. outputs_of o ≡ plain.inputs (code_of b.now) wanted.0) }
 {
@@ -30,7 +30,8 @@ pub fn inputs(alloc: Global, b: &Block, wanted: Name) -> Result<Outputs, AllocEr
 #[cycle(before)]
 fn before_block(names: &mut NameSet, loops: &mut Loops, b: &Block) -> Result<(), AllocError>
     requires { IsReady loops.old }
-    ensures { OnOk result (GoesOver (code_of b.now) (members names.old) (members names.new) loops.old loops.new) }
+    ensures { let code = code_of b.now in
+        OnOk result (GoesOver code (members names.old) (members names.new) loops.old loops.new) }
 {
     let mut i = b.list.len();
     while i > 0 {
@@ -110,7 +111,8 @@ fn before_loop(
 #[cycle(before)]
 fn before_turns(names: &mut NameSet, loops: &mut Loops, c: &Block) -> Result<(), AllocError>
     requires { IsReady loops.old }
-    ensures { OnOk result (Settles (code_of c.now) (members names.old) (members names.new) loops.old loops.new) }
+    ensures { let code = code_of c.now in
+        OnOk result (Settles code (members names.old) (members names.new) loops.old loops.new) }
 {
     let first = loops.next;
     loop {

@@ -1,12 +1,14 @@
 // Laws of what code needs and assigns, as contracts.
-ghost use Rattle.sm_deps.specs.Laws.{InputsAreNeeded, InputsDecide, InputsDecideBySort, InputsAreDeclared, AssignedAreDeclared};
+ghost use Rattle.sm_deps.specs.Laws.{InputsAreNeeded, InputsDecide, InputsDecideBySort};
+ghost use Rattle.sm_deps.specs.Laws.{InputsAreDeclared, AssignedAreDeclared};
 
 /// The inputs of code for a name are exactly the names that it needs, ascending.
 pub fn inputs_are_needed()
     ensures { InputsAreNeeded }
 {}
 
-/// Stores that agree on the inputs for a name both end or neither does, and agree on the name where they end.
+/// Runs from stores that agree on the inputs for a name both end or neither does, and agree on the
+/// name where they end.
 #[tactic(auto, using(crate::proofs::Alike::inputs_alike))]
 pub fn inputs_decide()
     ensures { InputsDecide }
@@ -19,7 +21,7 @@ pub fn inputs_decide_by_sort()
 {}
 
 /// What well-sorted code needs for a declared name, and what it assigns, is declared.
-#[tactic(auto, using(crate::proofs::Declared::inputs_declared, crate::proofs::Declared::assigned_declared))]
+#[tactic(auto, using(crate::proofs::Declared::names_declared))]
 pub fn names_are_declared()
     ensures inputs { InputsAreDeclared }
     ensures assigned { AssignedAreDeclared }

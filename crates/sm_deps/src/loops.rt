@@ -1,4 +1,5 @@
-// The sets that are kept for loops: a loop that is gone over again goes on from its last set, since sets only grow.
+// The sets that are kept for loops: a loop that is gone over again goes on from its last set, since
+// sets only grow.
 ghost use Rattle.std.specs.Prelude.{◌<◌, length, OnOk, IfOk, ◌≡◌, [], ℕ};
 ghost use Rattle.sm_deps.specs.Members.{members};
 ghost use Rattle.sm_deps.specs.Loops.{IsReady, Resumes, Keeps};
@@ -6,8 +7,9 @@ ghost use Rattle.sm_deps.specs.Loops.{IsReady, Resumes, Keeps};
 use crate::sets::{NameSet, add_all};
 use std::alloc::{AllocError, Global};
 
-// The last set of each loop that was met, by its number, and the number of the loop that is met next. Loops have
-// their numbers as they are met from the end of the code, an outer one before those in its body.
+// The last set of each loop that was met, by its number, and the number of the loop that is met
+// next. Loops have their numbers as they are met from the end of the code, an outer one before
+// those in its body.
 #[derive(Drop)]
 pub(crate) struct Loops {
     pub(crate) sets: Vec<NameSet>,
@@ -29,7 +31,8 @@ pub(crate) fn no_loops(alloc: Global) -> Loops
 pub(crate) fn resume(loops: &mut Loops, names: &mut NameSet) -> Result<usize, AllocError>
     requires { IsReady loops.old }
     ensures number { IfOk result (λ n. n ≡ loops.old.next) }
-    ensures set { OnOk result (Resumes (members names.old) (members names.new) loops.old loops.new) }
+    ensures set { let before = loops.old in
+        OnOk result (Resumes (members names.old) (members names.new) before loops.new) }
 {
     let number = loops.next;
     if number < loops.sets.len() {

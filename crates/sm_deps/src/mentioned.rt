@@ -11,7 +11,8 @@ use std::alloc::AllocError;
 // Adds the names of an expression.
 #[tactic(auto, using(crate::proofs::Unions::unions))]
 pub(crate) fn add_expr(names: &mut NameSet, e: &Expr) -> Result<(), AllocError>
-    ensures { OnOk result (members names.new ≡ either (members names.old) (mentions (expression_of e.now))) }
+    ensures { let names_of_expression = mentions (expression_of e.now) in
+        OnOk result (members names.new ≡ either (members names.old) names_of_expression) }
 {
     match e {
         Expr::Num(_) => Ok(()),
@@ -31,7 +32,8 @@ pub(crate) fn add_expr(names: &mut NameSet, e: &Expr) -> Result<(), AllocError>
 // Adds the names of a condition.
 #[tactic(auto, using(crate::proofs::Unions::unions))]
 pub(crate) fn add_cond(names: &mut NameSet, c: &Cond) -> Result<(), AllocError>
-    ensures { OnOk result (members names.new ≡ either (members names.old) (tests (condition_of c.now))) }
+    ensures { let names_of_condition = tests (condition_of c.now) in
+        OnOk result (members names.new ≡ either (members names.old) names_of_condition) }
 {
     match c {
         Cond::Yes | Cond::No => Ok(()),
