@@ -20,7 +20,7 @@ use Rattle.sm_term.proofs.Truths.{form_means, contrary, holds_append, conj_means
 use Rattle.sm_term.proofs.Places.{all_at_stores_mean}
 use Rattle.sm_term.proofs.Below.{fresh_meaning, fresh_means, fresh_all}
 use Rattle.sm_plan.specs.Copies.{Copies, copies, each, has, copies_that, no_copies, is_inhabited, subsets}
-use Rattle.sm_plan.specs.Statements.{is_over, behind, is_loop, guard_of, body_of}
+use Rattle.sm_plan.specs.Statements.{is_over, rest_after, is_loop, guard_of, body_of}
 use Rattle.sm_plan.specs.States.{State}
 use Rattle.sm_plan.specs.Successors as next
 use Rattle.sm_plan.specs.Plans.{AllValid}
@@ -77,7 +77,7 @@ kept_before m k u v keep fresh h = (fresh_means (with_slots m v) k u keep fresh)
 
 -- a block
 pub block_sound : (k : ℕ) (st : State) (counts : Copy → ℕ) (keep : Assertion) → IsStateBelow k st → IsFormBelow k keep →
-    IsSound (next.inner_state st counts keep) → IsSound (next.behind_state st k counts keep) → IsSound st
+    IsSound (next.inner_state st counts keep) → IsSound (next.after_block_state st k counts keep) → IsSound st
 block_sound k st counts keep below fresh inner after m end facts ends =
     let σ : Copy → Store = λ (c : Copy). store_meant m (st.stores c) in
     let cut = λ (c : Copy). run_cut m.bound (counts c) (st.rest c) (σ c) (end c) (ends c) in
@@ -92,7 +92,7 @@ block_sound k st counts keep below fresh inner after m end facts ends =
     let old : AllHold new st.facts = (fresh_all m k u st.facts below.facts).1 facts in
     (fresh_all (with_slots m end) k u st.target below.target).0
     (after new end (holds_append new st.facts (all_at_stores stores (conj keep)) old there)
-    (λ (c : Copy). ap (λ (s : Store). run m.bound (behind (counts c) (st.rest c)) s) (meant c) ∙ (cut c).2))
+    (λ (c : Copy). ap (λ (s : Store). run m.bound (rest_after (counts c) (st.rest c)) s) (meant c) ∙ (cut c).2))
 
 -- a sound state among others
 pub sound_among : (f : Copies → State) (v : Copies) (vs : List Copies) (others : List State) → In v vs → AreSound (map f vs ++ others) → IsSound (f v)
@@ -100,7 +100,7 @@ sound_among f v [] others h all = elim h [ ]
 sound_among f v (w ∷ vs) others (inl e) all = subst (λ (x : Copies). IsSound (f x)) e all.0
 sound_among f v (w ∷ vs) others (inr h) all = sound_among f v vs others h all.1
 
--- the ones behind
+-- the ones after
 pub sound_behind : (first second : List State) → AreSound (first ++ second) → AreSound first × AreSound second
 sound_behind [] second all = (tt, all)
 sound_behind (st ∷ first) second all = let p = sound_behind first second all.1 in ((all.0, p.0), p.1)
@@ -108,7 +108,7 @@ sound_behind (st ∷ first) second all = let p = sound_behind first second all.1
 module _ (k : ℕ) (st : State) (set : Copies) (keep : Assertion) (below : IsStateBelow k st) (fresh : IsFormBelow k keep)
     (loops : (c : Copy) → has set c ≡ true → is_loop (st.rest c) ≡ true)
     (turn : (v : Copies) → ((c : Copy) → has v c ≡ true → has set c ≡ true) → is_inhabited v ≡ true → IsSound (next.turn_state st k set keep v))
-    (after : IsSound (next.after_state st k set keep)) (m : Structure) where
+    (after : IsSound (next.after_loops_state st k set keep)) (m : Structure) where
   -- the guard of a copy of the set
   abbrev guard : Copy → Store → Bool
   guard c s = has set c && truth_of (guard_of (st.rest c)) s
@@ -189,13 +189,13 @@ module _ (k : ℕ) (st : State) (set : Copies) (keep : Assertion) (below : IsSta
       let done = turn turning within (inhabited_by turning joint.some.0 (has_that takes joint.some.0 ∙ joint.some.1)) new t (head_holds facts s h turning exact) ends in
       (turn_leaves s t h joint, kept_before m k s t keep fresh ((conj_means (with_slots new t) keep).1 done))
 
-  -- where one copy's loop ends, and what is left behind it
+  -- where one copy's loop ends, and what is left after it
   loop_part : (c : Copy) (b : Bool) → (b ≡ true → is_loop (st.rest c) ≡ true) → (s t : Store) → run m.bound (st.rest c) s ≡ Some t →
-      (u : Store) × (turns (λ (v : Store). b && truth_of (guard_of (st.rest c)) v) (body c) m.bound s ≡ Some u) × (run m.bound (if b then behind 1 (st.rest c) else st.rest c) u ≡ Some t)
+      (u : Store) × (turns (λ (v : Store). b && truth_of (guard_of (st.rest c)) v) (body c) m.bound s ≡ Some u) × (run m.bound (if b then rest_after 1 (st.rest c) else st.rest c) u ≡ Some t)
   loop_part c true loop s t e =
       let r = st.rest c in
-      let here : run m.bound (While (guard_of r) (body_of r) (behind 1 r)) s ≡ Some t = subst (λ (p : Code). run m.bound p s ≡ Some t) (loop_is r (loop refl)) e in
-      ends_then (turns (truth_of (guard_of r)) (run m.bound (body_of r)) m.bound s) (run m.bound (behind 1 r)) t here
+      let here : run m.bound (While (guard_of r) (body_of r) (rest_after 1 r)) s ≡ Some t = subst (λ (p : Code). run m.bound p s ≡ Some t) (loop_is r (loop refl)) e in
+      ends_then (turns (truth_of (guard_of r)) (run m.bound (body_of r)) m.bound s) (run m.bound (rest_after 1 r)) t here
   loop_part c false loop s t e = (s, still (λ (v : Store). false) (body c) m.bound s refl, e)
 
   -- the loops side by side
@@ -213,18 +213,18 @@ module _ (k : ℕ) (st : State) (set : Copies) (keep : Assertion) (below : IsSta
       sym (ap (λ (b : Bool). b && truth_of (guard_of (st.rest c)) (u c)) e) ∙ last.1 c ∙ sym (has_that (λ (d : Copy). false) c) in
       (fresh_all (with_slots m end) k u st.target below.target).0
       (after new end (head_holds facts u last.0 no_copies exact)
-      (λ (c : Copy). ap (λ (s : Store). run m.bound (next.behind_loops st set c) s) (meant c) ∙ (part c).2))
+      (λ (c : Copy). ap (λ (s : Store). run m.bound (next.rest_after_loops st set c) s) (meant c) ∙ (part c).2))
 
 -- loops side by side, as a node opens them
 pub loop_node_sound : (k : ℕ) (st : State) (set : Copies) (keep : Assertion) → IsStateBelow k st → IsFormBelow k keep →
     each (λ (c : Copy). not (has set c) || is_loop (st.rest c)) ≡ true → AllValid st.facts (all_at_stores st.stores (conj keep)) →
-    AreSound (map (next.turn_state st k set keep) (subsets set) ++ next.after_state st k set keep ∷ []) → IsSound st
+    AreSound (map (next.turn_state st k set keep) (subsets set) ++ next.after_loops_state st k set keep ∷ []) → IsSound st
 loop_node_sound k st set keep below fresh all valid states m end facts ends =
-    let parts = sound_behind (map (next.turn_state st k set keep) (subsets set)) (next.after_state st k set keep ∷ []) states in
+    let parts = sound_behind (map (next.turn_state st k set keep) (subsets set)) (next.after_loops_state st k set keep ∷ []) states in
     loops_sound k st set keep below fresh
     (λ (c : Copy) (h : has set c ≡ true). in_set (has set c) (is_loop (st.rest c)) (each_true (λ (d : Copy). not (has set d) || is_loop (st.rest d)) all c) h)
     (λ (v : Copies) (within : (c : Copy) → has v c ≡ true → has set c ≡ true) (some : is_inhabited v ≡ true).
-    sound_among (next.turn_state st k set keep) v (subsets set) (next.after_state st k set keep ∷ []) (in_subsets set v within some) states)
+    sound_among (next.turn_state st k set keep) v (subsets set) (next.after_loops_state st k set keep ∷ []) (in_subsets set v within some) states)
     parts.1.0 m (valid_hold m st.facts (all_at_stores st.stores (conj keep)) valid facts) end facts ends
   where
     in_set : (b l : Bool) → (not b || l) ≡ true → b ≡ true → l ≡ true

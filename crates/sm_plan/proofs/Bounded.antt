@@ -229,8 +229,8 @@ pub turns_below : (k : ℕ) (st : State) (set : Copies) (keep : Assertion) → I
 turns_below k st set keep b fresh [] = tt
 turns_below k st set keep b fresh (v ∷ vs) = (turn_below k st set keep v b fresh, turns_below k st set keep b fresh vs)
 
--- behind loops
-pub after_below : (k : ℕ) (st : State) (set : Copies) (keep : Assertion) → IsStateBelow k st → IsFormBelow k keep → IsStateBelow (suc k) (next.after_state st k set keep)
+-- after loops
+pub after_below : (k : ℕ) (st : State) (set : Copies) (keep : Assertion) → IsStateBelow k st → IsFormBelow k keep → IsStateBelow (suc k) (next.after_loops_state st k set keep)
 after_below k st set keep b fresh = record {
   stores = renewed_below k (next.bodies st set) st.stores b.stores;
   facts = head_below k st set keep no_copies b fresh;
@@ -245,8 +245,8 @@ inner_below k st counts keep b fresh = record {
   target = forms_later k (suc k) (omega arith) (conj keep) (conj_below k keep fresh);
 }
 
--- behind them
-pub behind_below : (k : ℕ) (st : State) (counts : Copy → ℕ) (keep : Assertion) → IsStateBelow k st → IsFormBelow k keep → IsStateBelow (suc k) (next.behind_state st k counts keep)
+-- after them
+pub behind_below : (k : ℕ) (st : State) (counts : Copy → ℕ) (keep : Assertion) → IsStateBelow k st → IsFormBelow k keep → IsStateBelow (suc k) (next.after_block_state st k counts keep)
 behind_below k st counts keep b fresh =
     let stores = next.renewed k (next.fronts st counts) st.stores in
     let all = renewed_below k (next.fronts st counts) st.stores b.stores in

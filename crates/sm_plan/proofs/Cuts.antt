@@ -5,15 +5,15 @@ use Rattle.sm_syntax.specs.Syntax.{Condition, Code, End, Skip, Assign, Write, If
 use Rattle.sm_syntax.specs.Stores.{Store, put}
 use Rattle.sm_syntax.specs.Meaning.{value_of, truth_of, and_then, turns, written, run}
 use Rattle.sm_syntax.proofs.Appends.{run-append}
-use Rattle.sm_plan.specs.Statements.{is_over, front, behind, is_loop, guard_of, body_of, last_guard}
+use Rattle.sm_plan.specs.Statements.{is_over, front, rest_after, is_loop, guard_of, body_of, last_guard}
 
 -- an end of two parts is an end of the second after one of the first
 pub ends_then : (o : Option Store) (f : Store → Option Store) (t : Store) → and_then o f ≡ Some t → (s : Store) × (o ≡ Some s) × (f s ≡ Some t)
 ends_then None f t e = absurd cc
 ends_then (Some s) f t e = (s, refl, e)
 
--- the first statements and those behind them are the whole
-pub append_front : (n : ℕ) (c : Code) → append (front n c) (behind n c) ≡ c
+-- the first statements and those after them are the whole
+pub append_front : (n : ℕ) (c : Code) → append (front n c) (rest_after n c) ≡ c
 append_front zero c = refl
 append_front (suc n) End = refl
 append_front (suc n) (Skip k) = ap (λ (r : Code). Skip r) (append_front n k)
@@ -23,11 +23,11 @@ append_front (suc n) (If b c d k) = ap (λ (r : Code). If b c d r) (append_front
 append_front (suc n) (While b c k) = ap (λ (r : Code). While b c r) (append_front n k)
 append_front (suc n) (Hole h k) = ap (λ (r : Code). Hole h r) (append_front n k)
 
--- a run ends where its first statements and then those behind them end
-pub run_cut : (m n : ℕ) (c : Code) (s t : Store) → run m c s ≡ Some t → (u : Store) × (run m (front n c) s ≡ Some u) × (run m (behind n c) u ≡ Some t)
+-- a run ends where its first statements and then those after them end
+pub run_cut : (m n : ℕ) (c : Code) (s t : Store) → run m c s ≡ Some t → (u : Store) × (run m (front n c) s ≡ Some u) × (run m (rest_after n c) u ≡ Some t)
 run_cut m n c s t e =
-    ends_then (run m (front n c) s) (run m (behind n c)) t
-    (sym (run-append m (front n c) (behind n c) s) ∙ ap (λ (r : Code). run m r s) (append_front n c) ∙ e)
+    ends_then (run m (front n c) s) (run m (rest_after n c)) t
+    (sym (run-append m (front n c) (rest_after n c) s) ∙ ap (λ (r : Code). run m r s) (append_front n c) ∙ e)
 
 -- one turn of a loop, or its end
 pub one_turn : (b : Bool) (o : Option Store) (f : Store → Option Store) (s t : Store) → (if b then and_then o f else Some s) ≡ Some t →
@@ -55,7 +55,7 @@ guard_ends guard body (suc n) s t e =
     (one_turn (guard s) (body s) (turns guard body n) s t e)
 
 -- code that begins with a loop
-pub loop_is : (c : Code) → is_loop c ≡ true → c ≡ While (guard_of c) (body_of c) (behind 1 c)
+pub loop_is : (c : Code) → is_loop c ≡ true → c ≡ While (guard_of c) (body_of c) (rest_after 1 c)
 loop_is End e = absurd cc
 loop_is (Skip k) e = absurd cc
 loop_is (Assign x v k) e = absurd cc

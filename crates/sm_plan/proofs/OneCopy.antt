@@ -21,7 +21,7 @@ use Rattle.sm_term.specs.Assertions.{Assertion, Holds, AllHold, negate}
 use Rattle.sm_term.specs.Symbolic.{SymbolicStore, store_meant, with_term, term_of, form_of}
 use Rattle.sm_term.proofs.Values.{term_means}
 use Rattle.sm_term.proofs.Truths.{form_means, contrary, holds_append}
-use Rattle.sm_plan.specs.Statements.{front, behind, last_guard}
+use Rattle.sm_plan.specs.Statements.{front, rest_after, last_guard}
 use Rattle.sm_plan.specs.States.{State}
 use Rattle.sm_plan.specs.Successors as next
 use Rattle.sm_plan.specs.Nodes.{Opened, follows, both_ways}
@@ -150,15 +150,15 @@ false_guard_holds m n c σ u s end same (Some b) e =
     ((contrary m (form_of b s)).1 (λ (h : Holds m (form_of b s)). let g = (form_means m b s).0 h in absurd cc), tt)
 
 -- a summary
-pub summary_sound : (st : State) (c : Copy) (n : ℕ) → IsSound (next.summary st c (front n (st.rest c)) (behind n (st.rest c))) → IsSound st
+pub summary_sound : (st : State) (c : Copy) (n : ℕ) → IsSound (next.summary st c (front n (st.rest c)) (rest_after n (st.rest c))) → IsSound st
 summary_sound st c n follows =
     let done = front n (st.rest c) in
     let s = next.summarized done (st.stores c) in
-    one_moved st c (behind n (st.rest c)) s (next.false_guard (last_guard done) s)
+    one_moved st c (rest_after n (st.rest c)) s (next.false_guard (last_guard done) s)
     (λ (m : Structure) (t : Store) (e : run m.bound (st.rest c) (store_meant m (st.stores c)) ≡ Some t).
     let cut = run_cut m.bound n (st.rest c) (store_meant m (st.stores c)) t e in
     let same = summarized_means m done (st.stores c) cut.0 cut.1 in (
       false_guard_holds m m.bound done (store_meant m (st.stores c)) cut.0 s cut.1 same (last_guard done) refl,
-      ap (λ (u : Store). run m.bound (behind n (st.rest c)) u) same ∙ cut.2,
+      ap (λ (u : Store). run m.bound (rest_after n (st.rest c)) u) same ∙ cut.2,
     ))
     follows

@@ -10,7 +10,7 @@ use Rattle.sm_term.specs.Slots.{all_at_stores}
 use Rattle.sm_term.specs.Fresh.{AreFormsBelow}
 use Rattle.sm_term.proofs.Below.{forms_later}
 use Rattle.sm_plan.specs.Copies.{each, has, is_inhabited, subsets}
-use Rattle.sm_plan.specs.Statements.{is_over, is_long, front, behind, is_loop, last_guard}
+use Rattle.sm_plan.specs.Statements.{is_over, is_long, front, rest_after, is_loop, last_guard}
 use Rattle.sm_plan.specs.Limits.{is_kept}
 use Rattle.sm_plan.specs.States.{State}
 use Rattle.sm_plan.specs.Successors as next
@@ -40,7 +40,7 @@ node_sound k st (Step c) q below fresh e valid all =
     let states : AreSound (next.moved st c p.0.0 p.0.1 ∷ []) = subst (λ (r : Opened). AreSound r.states) (sym p.2) all in
     step_sound st c p.0 p.1 states.0
 node_sound k st (Abs c n) q below fresh e valid all =
-    let r = follows (next.summary st c (front n (st.rest c)) (behind n (st.rest c)) ∷ []) in
+    let r = follows (next.summary st c (front n (st.rest c)) (rest_after n (st.rest c)) ∷ []) in
     let p = where_true_is (nat_le 1 n && is_long n (st.rest c)) r q e in
     let states : AreSound r.states = subst (λ (o : Opened). AreSound o.states) (sym p.1) all in
     summary_sound st c n states.0
@@ -48,14 +48,14 @@ node_sound k st (Fork c) q below fresh e valid all = both_ways_sound st c (st.re
 node_sound k st (Loop set keep) q below fresh e valid all =
     let loops = each (λ (c : Copy). not (has set c) || is_loop (st.rest c)) in
     let goals = all_at_stores st.stores (conj keep) in
-    let states = map (next.turn_state st k set keep) (subsets set) ++ next.after_state st k set keep ∷ [] in
+    let states = map (next.turn_state st k set keep) (subsets set) ++ next.after_loops_state st k set keep ∷ [] in
     let p = where_true_is (is_inhabited set && (loops && is_kept keep)) (record { goals = goals; states = states }) q e in
     let tests = and_parts loops (is_kept keep) (and_parts (is_inhabited set) (loops && is_kept keep) p.0).1 in
     loop_node_sound k st set keep below fresh tests.0
     (subst (λ (o : Opened). AllValid st.facts o.goals) (sym p.1) valid)
     (subst (λ (o : Opened). AreSound o.states) (sym p.1) all)
 node_sound k st (Block counts keep) q below fresh e valid all =
-    let r = follows (next.inner_state st counts keep ∷ next.behind_state st k counts keep ∷ []) in
+    let r = follows (next.inner_state st counts keep ∷ next.after_block_state st k counts keep ∷ []) in
     let p = where_true_is (each (λ (c : Copy). is_long (counts c) (st.rest c)) && is_kept keep) r q e in
     let states : AreSound r.states = subst (λ (o : Opened). AreSound o.states) (sym p.1) all in
     block_sound k st counts keep below fresh states.0 states.1.0
@@ -89,7 +89,7 @@ later_all : (k : ℕ) (states : List State) → AreStatesBelow k states → AreS
 later_all k [] all = tt
 later_all k (st ∷ states) all = (state_later k (suc k) st (omega arith) all.0, later_all k states all.1)
 
--- the states that a node opens name no new value of a node behind it
+-- the states that a node opens name no new value of a node after it
 pub node_below : (k : ℕ) (st : State) (node : Node) (q : Opened) → IsStateBelow k st → IsFreshAt k node → opens k st node ≡ Some q → AreStatesBelow (suc k) q.states
 node_below k st (Step c) q below fresh e =
     let p = after_step_is st c (next.stepped (st.rest c) (st.stores c)) q e in
@@ -99,21 +99,21 @@ node_below k st (Step c) q below fresh e =
 node_below k st (Abs c n) q below fresh e =
     let done = front n (st.rest c) in
     let s = next.summarized done (st.stores c) in
-    let p = where_true_is (nat_le 1 n && is_long n (st.rest c)) (follows (next.summary st c done (behind n (st.rest c)) ∷ [])) q e in
+    let p = where_true_is (nat_le 1 n && is_long n (st.rest c)) (follows (next.summary st c done (rest_after n (st.rest c)) ∷ [])) q e in
     let store = summarized_below k done (st.stores c) (below.stores c) in
     later_all k q.states
     (subst (λ (r : Opened). AreStatesBelow k r.states) p.1
-    (moved_below k st c (behind n (st.rest c)) s (next.false_guard (last_guard done) s) below store (false_guard_below k (last_guard done) s store), tt))
+    (moved_below k st c (rest_after n (st.rest c)) s (next.false_guard (last_guard done) s) below store (false_guard_below k (last_guard done) s store), tt))
 node_below k st (Fork c) q below fresh e = later_all k q.states (both_ways_below k st c (st.rest c) q below e)
 node_below k st (Loop set keep) q below fresh e =
     let loops = each (λ (c : Copy). not (has set c) || is_loop (st.rest c)) in
     let turns = map (next.turn_state st k set keep) (subsets set) in
-    let states = turns ++ next.after_state st k set keep ∷ [] in
+    let states = turns ++ next.after_loops_state st k set keep ∷ [] in
     let p = where_true_is (is_inhabited set && (loops && is_kept keep)) (record { goals = all_at_stores st.stores (conj keep); states = states }) q e in
     subst (λ (r : Opened). AreStatesBelow (suc k) r.states) p.1
-    (states_append (suc k) turns (next.after_state st k set keep ∷ []) (turns_below k st set keep below fresh (subsets set)) (after_below k st set keep below fresh, tt))
+    (states_append (suc k) turns (next.after_loops_state st k set keep ∷ []) (turns_below k st set keep below fresh (subsets set)) (after_below k st set keep below fresh, tt))
 node_below k st (Block counts keep) q below fresh e =
-    let p = where_true_is (each (λ (c : Copy). is_long (counts c) (st.rest c)) && is_kept keep) (follows (next.inner_state st counts keep ∷ next.behind_state st k counts keep ∷ [])) q e in
+    let p = where_true_is (each (λ (c : Copy). is_long (counts c) (st.rest c)) && is_kept keep) (follows (next.inner_state st counts keep ∷ next.after_block_state st k counts keep ∷ [])) q e in
     subst (λ (r : Opened). AreStatesBelow (suc k) r.states) p.1 (inner_below k st counts keep below fresh, (behind_below k st counts keep below fresh, tt))
 node_below k st Dead q below fresh e = subst (λ (r : Opened). AreStatesBelow (suc k) r.states) (same_Some (asked (No ∷ [])) q e) tt
 node_below k st Ends q below fresh e =
@@ -135,24 +135,24 @@ both_ways_goals k st c (If b first second r) q e =
 both_ways_goals k st c (While b body r) q e = absurd cc
 both_ways_goals k st c (Hole h r) q e = absurd cc
 
--- the goals that a node asks name no new value of a node behind it
+-- the goals that a node asks name no new value of a node after it
 pub node_goals_below : (k : ℕ) (st : State) (node : Node) (q : Opened) → IsStateBelow k st → IsFreshAt k node → opens k st node ≡ Some q → AreFormsBelow (suc k) q.goals
 node_goals_below k st (Step c) q below fresh e =
     let p = after_step_is st c (next.stepped (st.rest c) (st.stores c)) q e in
     subst (λ (r : Opened). AreFormsBelow (suc k) r.goals) p.2 tt
 node_goals_below k st (Abs c n) q below fresh e =
-    let p = where_true_is (nat_le 1 n && is_long n (st.rest c)) (follows (next.summary st c (front n (st.rest c)) (behind n (st.rest c)) ∷ [])) q e in
+    let p = where_true_is (nat_le 1 n && is_long n (st.rest c)) (follows (next.summary st c (front n (st.rest c)) (rest_after n (st.rest c)) ∷ [])) q e in
     subst (λ (r : Opened). AreFormsBelow (suc k) r.goals) p.1 tt
 node_goals_below k st (Fork c) q below fresh e = both_ways_goals k st c (st.rest c) q e
 node_goals_below k st (Loop set keep) q below fresh e =
     let loops = each (λ (c : Copy). not (has set c) || is_loop (st.rest c)) in
     let goals = all_at_stores st.stores (conj keep) in
-    let states = map (next.turn_state st k set keep) (subsets set) ++ next.after_state st k set keep ∷ [] in
+    let states = map (next.turn_state st k set keep) (subsets set) ++ next.after_loops_state st k set keep ∷ [] in
     let p = where_true_is (is_inhabited set && (loops && is_kept keep)) (record { goals = goals; states = states }) q e in
     subst (λ (r : Opened). AreFormsBelow (suc k) r.goals) p.1
     (forms_later k (suc k) (omega arith) goals (all_at_stores_below k st.stores below.stores (conj keep) (conj_below k keep fresh)))
 node_goals_below k st (Block counts keep) q below fresh e =
-    let p = where_true_is (each (λ (c : Copy). is_long (counts c) (st.rest c)) && is_kept keep) (follows (next.inner_state st counts keep ∷ next.behind_state st k counts keep ∷ [])) q e in
+    let p = where_true_is (each (λ (c : Copy). is_long (counts c) (st.rest c)) && is_kept keep) (follows (next.inner_state st counts keep ∷ next.after_block_state st k counts keep ∷ [])) q e in
     subst (λ (r : Opened). AreFormsBelow (suc k) r.goals) p.1 tt
 node_goals_below k st Dead q below fresh e = subst (λ (r : Opened). AreFormsBelow (suc k) r.goals) (same_Some (asked (No ∷ [])) q e) (tt, tt)
 node_goals_below k st Ends q below fresh e =

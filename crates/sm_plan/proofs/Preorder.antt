@@ -108,7 +108,7 @@ valid_due : (k : ℕ) (st : State) (node : Node) (goals : List Assertion) → Al
 valid_due k st node [] valid = tt
 valid_due k st node (g ∷ gs) valid = (valid, tt)
 
--- plans of which none branches too often behind its state
+-- plans of which none branches too often after its state
 abbrev AreShallow : List Pending → Plans → Type 0
 AreShallow [] ps = Unit {0}
 AreShallow (w ∷ pending) Over = Unit {0}
@@ -124,7 +124,7 @@ record Grown (k : ℕ) (pending : List Pending) (nodes : List Node) : Type 0 whe
   expands : expand_all any_fault k (states_of pending) plans ≡ Ok dues
   discharged : AllDischarged dues
 
--- plans for states that were opened and for those that wait behind them, cut there
+-- plans for states that were opened and for those that wait after them, cut there
 record Cut (k above : ℕ) (first : List State) (second : List Pending) (nodes : List Node) : Type 0 where
   front : Plans
   back : Plans
@@ -208,7 +208,7 @@ grow (node ∷ nodes) k (p ∷ pending) h =
     let c = cut q.states pending (suc k) above g.plans g.dues (few_is above h.2) g.shallow g.fresh there g.discharged in
     let far : suc k + sizes c.front ≡ k + suc (sizes c.front) = omega arith in
     let here = at_expands k p.state node c.front q c.front_dues h.1 c.counted c.front_expands in
-    let behind : expand_all any_fault (k + suc (sizes c.front)) rest c.back ≡ Ok c.back_dues =
+    let others : expand_all any_fault (k + suc (sizes c.front)) rest c.back ≡ Ok c.back_dues =
     subst (λ (j : ℕ). expand_all any_fault j rest c.back ≡ Ok c.back_dues) far c.back_expands in
     record {
       plans = More (At node c.front) c.back;
@@ -216,7 +216,7 @@ grow (node ∷ nodes) k (p ∷ pending) h =
       same = ap (λ (l : List Node). node ∷ l) (c.same ∙ g.same);
       shallow = (counts_below (is_branching node) p.above (most_branches c.front) c.front_shallow, c.back_shallow);
       fresh = ((h.3, c.front_fresh), subst (λ (j : ℕ). AreFresh j c.back) far c.back_fresh);
-      expands = rw (here, behind) refl;
+      expands = rw (here, others) refl;
       discharged =
           discharged_append (due k p.state node q.goals ++ c.front_dues) c.back_dues
           (discharged_append (due k p.state node q.goals) c.front_dues (valid_due k p.state node q.goals h.4) c.front_discharged) c.back_discharged;

@@ -83,7 +83,7 @@ mutual
         plans_sound ps w (k + size p) states parts.1 (states_later k (k + size p) states (omega arith) below.1) fresh.1 parts.3 both.1,
       )
 
--- the states that were opened, and those that wait behind them
+-- the states that were opened, and those that wait after them
 pub states-pending : (above : ℕ) (states : List State) (pending : List Pending) → states_of (pending_states above states ++ pending) ≡ states ++ states_of pending
 states-pending above [] pending = refl
 states-pending above (st ∷ states) pending = ap (λ (l : List State). st ∷ l) (states-pending above states pending)

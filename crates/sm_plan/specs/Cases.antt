@@ -21,7 +21,7 @@ use Rattle.sm_plan.specs.Nodes.{Node, Step, Loop, Dead, Ends, Opened, opens}
 use Rattle.sm_plan.specs.Plans.{Plan, At, Over, More, IsFresh, Due, obligations, AllDischarged}
 use Rattle.sm_plan.specs.Example.{then_one}
 
--- a task whose one hole stands behind the code, with one output
+-- a task whose one hole stands after the code, with one output
 abbrev pub task_with : (Code → Code) → Code → Code → Code → Code → Task
 task_with before o a b m = record {
   assumed = None;
@@ -42,7 +42,7 @@ gives z = Assign 0 (Lit (pos z)) End
 abbrev pub never_ends : Task
 never_ends = task_with (λ (k : Code). k) (gives 1) (gives 2) (gives 1) (While syntax.Yes (Skip End) End)
 
--- its plan: behind the loop the facts can't be
+-- its plan: after the loop the facts can't be
 abbrev pub never_plan : Plan
 never_plan =
     then_one (Step O)
@@ -75,7 +75,7 @@ pending_after k states [] = Some states
 pending_after k [] (node ∷ nodes) = None
 pending_after k (st ∷ states) (node ∷ nodes) = go_on (opens k st node) (λ (q : Opened). pending_after (suc k) (q.states ++ states) nodes)
 
--- each copy before its loop, the four loops, and the body of the base; fifteen turns and what is behind the loops are pending
+-- each copy before its loop, the four loops, and the body of the base; fifteen turns and what is after the loops are pending
 abbrev pub first_nodes : List Node
 first_nodes = Step O ∷ Step A ∷ Step B ∷ Step M ∷ Loop (record { base = true; variant_a = true; variant_b = true; candidate = true }) Yes ∷ Step O ∷ []
 

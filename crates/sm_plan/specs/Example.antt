@@ -75,7 +75,7 @@ abbrev pub counted : Tree
 counted = Fun (loop_with (Assign x (Plus (Var x) (syntax.Lit (pos 1))) (Assign i (Plus (Var i) (syntax.Lit (pos 1))) End))) i
     (Given i (Start i) (Given n (Start n) term.Over))
 
--- the facts behind both summaries, and then those of the loops, with what is said of two guards
+-- the facts after both summaries, and then those of the loops, with what is said of two guards
 abbrev pub facts_with : List Assertion → List Assertion
 facts_with guards = Le (Start n) counted ∷ Le (Start n) counted ∷ guards
 

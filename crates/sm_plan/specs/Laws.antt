@@ -17,7 +17,7 @@ NodeIsSound =
     (k : ℕ) (st : State) (node : Node) (q : Opened) →
     IsStateBelow k st → IsFreshAt k node → opens k st node ≡ Some q → AllValid st.facts q.goals → AreSound q.states → IsSound st
 
--- and these states name no new value of a node behind this one
+-- and these states name no new value of a node after this one
 abbrev pub NodeStaysBelow : Type 0
 NodeStaysBelow =
     (k : ℕ) (st : State) (node : Node) (q : Opened) →

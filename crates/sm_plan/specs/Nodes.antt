@@ -7,7 +7,7 @@ use Rattle.sm_term.specs.Symbolic.{SymbolicStore, form_of}
 use Rattle.sm_term.specs.Slots.{all_at_stores}
 use Rattle.sm_term.specs.Fresh.{IsFormBelow}
 use Rattle.sm_plan.specs.Copies.{Copies, each, has, is_inhabited, subsets}
-use Rattle.sm_plan.specs.Statements.{is_over, is_long, front, behind, is_loop}
+use Rattle.sm_plan.specs.Statements.{is_over, is_long, front, rest_after, is_loop}
 use Rattle.sm_plan.specs.Limits.{is_kept}
 use Rattle.sm_plan.specs.States.{State}
 use Rattle.sm_plan.specs.Successors as next
@@ -70,14 +70,14 @@ abbrev pub opens : ℕ → State → Node → Option Opened
 opens k st (Step c) = after_step st c (next.stepped (st.rest c) (st.stores c))
 opens k st (Abs c n) =
     where_true (nat_le 1 n && is_long n (st.rest c))
-    (follows (next.summary st c (front n (st.rest c)) (behind n (st.rest c)) ∷ []))
+    (follows (next.summary st c (front n (st.rest c)) (rest_after n (st.rest c)) ∷ []))
 opens k st (Fork c) = both_ways st c (st.rest c)
 opens k st (Loop set keep) =
     where_true (is_inhabited set && (each (λ (c : Copy). not (has set c) || is_loop (st.rest c)) && is_kept keep))
-    (record { goals = all_at_stores st.stores (conj keep); states = map (next.turn_state st k set keep) (subsets set) ++ next.after_state st k set keep ∷ [] })
+    (record { goals = all_at_stores st.stores (conj keep); states = map (next.turn_state st k set keep) (subsets set) ++ next.after_loops_state st k set keep ∷ [] })
 opens k st (Block counts keep) =
     where_true (each (λ (c : Copy). is_long (counts c) (st.rest c)) && is_kept keep)
-    (follows (next.inner_state st counts keep ∷ next.behind_state st k counts keep ∷ []))
+    (follows (next.inner_state st counts keep ∷ next.after_block_state st k counts keep ∷ []))
 opens k st Dead = Some (asked (No ∷ []))
 opens k st Ends = where_true (each (λ (c : Copy). is_over (st.rest c))) (asked (all_at_stores st.stores st.target))
 opens k st (Unfit rule) = None

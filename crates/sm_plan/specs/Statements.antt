@@ -1,86 +1,101 @@
--- What is left of a program: its first statements and those behind them, and the loop that it may begin with.
-use Rattle.std.specs.Prelude.{ℕ, zero, suc, Bool, true, false, if◌then◌else◌, Option, Some, None}
-use Rattle.sm_syntax.specs.Syntax.{Condition, No, Code, End, Skip, Assign, Write, If, While, Hole}
+-- Cited by public clauses: the first statement of code and the code after it, and what is asked of them.
+use Rattle.std.specs.Prelude.{ℕ, zero, suc, Bool, true, false, if◌then◌else◌, Option, Some, None, is_some, is_none}
+use Rattle.sm_syntax.specs.Syntax as code
+use Rattle.sm_syntax.specs.Syntax.{Expression, Condition, No, Code, End}
+
+-- one statement, with its blocks as code
+pub data Statement : Type 0 where
+  Skip : Statement
+  Assign : ℕ → Expression → Statement
+  Write : ℕ → Expression → Expression → Statement
+  If : Condition → Code → Code → Statement
+  While : Condition → Code → Statement
+  Hole : ℕ → Statement
+
+-- the first statement of code, and the code after it
+abbrev pub first_of : Code → Option (Statement × Code)
+first_of End = None
+first_of (code.Skip k) = Some (Skip, k)
+first_of (code.Assign x e k) = Some (Assign x e, k)
+first_of (code.Write a i e k) = Some (Write a i e, k)
+first_of (code.If b c d k) = Some (If b c d, k)
+first_of (code.While b c k) = Some (While b c, k)
+first_of (code.Hole h k) = Some (Hole h, k)
+
+-- a statement before code
+abbrev pub before : Statement → Code → Code
+before Skip k = code.Skip k
+before (Assign x e) k = code.Assign x e k
+before (Write a i e) k = code.Write a i e k
+before (If b c d) k = code.If b c d k
+before (While b c) k = code.While b c k
+before (Hole h) k = code.Hole h k
+
+-- what a function gives for a first statement and the code after it, or a value where there is none
+abbrev pub by_first : {T : Type 0} → T → (Statement → Code → T) → Option (Statement × Code) → T
+by_first none f None = none
+by_first none f (Some p) = f p.0 p.1
 
 -- nothing is left
 abbrev pub is_over : Code → Bool
-is_over End = true
-is_over (Skip k) = false
-is_over (Assign x e k) = false
-is_over (Write a i e k) = false
-is_over (If b c d k) = false
-is_over (While b c k) = false
-is_over (Hole h k) = false
+is_over c = is_none (first_of c)
 
 -- there are at least n statements
 abbrev pub is_long : ℕ → Code → Bool
 is_long zero c = true
-is_long (suc n) End = false
-is_long (suc n) (Skip k) = is_long n k
-is_long (suc n) (Assign x e k) = is_long n k
-is_long (suc n) (Write a i e k) = is_long n k
-is_long (suc n) (If b c d k) = is_long n k
-is_long (suc n) (While b c k) = is_long n k
-is_long (suc n) (Hole h k) = is_long n k
+is_long (suc n) c = by_first false (λ (s : Statement) (k : Code). is_long n k) (first_of c)
 
 -- the first n statements
 abbrev pub front : ℕ → Code → Code
 front zero c = End
-front (suc n) End = End
-front (suc n) (Skip k) = Skip (front n k)
-front (suc n) (Assign x e k) = Assign x e (front n k)
-front (suc n) (Write a i e k) = Write a i e (front n k)
-front (suc n) (If b c d k) = If b c d (front n k)
-front (suc n) (While b c k) = While b c (front n k)
-front (suc n) (Hole h k) = Hole h (front n k)
+front (suc n) c = by_first End (λ (s : Statement) (k : Code). before s (front n k)) (first_of c)
 
--- the statements behind them
-abbrev pub behind : ℕ → Code → Code
-behind zero c = c
-behind (suc n) End = End
-behind (suc n) (Skip k) = behind n k
-behind (suc n) (Assign x e k) = behind n k
-behind (suc n) (Write a i e k) = behind n k
-behind (suc n) (If b c d k) = behind n k
-behind (suc n) (While b c k) = behind n k
-behind (suc n) (Hole h k) = behind n k
+-- the code after them
+abbrev pub rest_after : ℕ → Code → Code
+rest_after zero c = c
+rest_after (suc n) c = by_first End (λ (s : Statement) (k : Code). rest_after n k) (first_of c)
+
+-- the guard and the body of a loop
+abbrev pub loop_of : Statement → Option (Condition × Code)
+loop_of Skip = None
+loop_of (Assign x e) = None
+loop_of (Write a i e) = None
+loop_of (If b c d) = None
+loop_of (While b c) = Some (b, c)
+loop_of (Hole h) = None
+
+-- those of the loop that code begins with
+abbrev pub first_loop : Code → Option (Condition × Code)
+first_loop c = by_first None (λ (s : Statement) (k : Code). loop_of s) (first_of c)
 
 -- the first statement is a loop
 abbrev pub is_loop : Code → Bool
-is_loop End = false
-is_loop (Skip k) = false
-is_loop (Assign x e k) = false
-is_loop (Write a i e k) = false
-is_loop (If b c d k) = false
-is_loop (While b c k) = true
-is_loop (Hole h k) = false
+is_loop c = is_some (first_loop c)
 
--- the guard of that loop
+-- a loop's guard, false where there is none
+abbrev pub guard_in : Option (Condition × Code) → Condition
+guard_in None = No
+guard_in (Some p) = p.0
+
+-- a loop's body, nothing where there is none
+abbrev pub body_in : Option (Condition × Code) → Code
+body_in None = End
+body_in (Some p) = p.1
+
+-- the guard of the loop that code begins with
 abbrev pub guard_of : Code → Condition
-guard_of End = No
-guard_of (Skip k) = No
-guard_of (Assign x e k) = No
-guard_of (Write a i e k) = No
-guard_of (If b c d k) = No
-guard_of (While b c k) = b
-guard_of (Hole h k) = No
+guard_of c = guard_in (first_loop c)
 
 -- its body
 abbrev pub body_of : Code → Code
-body_of End = End
-body_of (Skip k) = End
-body_of (Assign x e k) = End
-body_of (Write a i e k) = End
-body_of (If b c d k) = End
-body_of (While b c k) = c
-body_of (Hole h k) = End
+body_of c = body_in (first_loop c)
 
 -- the guard of the last statement, where that is a loop
 abbrev pub last_guard : Code → Option Condition
 last_guard End = None
-last_guard (Skip k) = last_guard k
-last_guard (Assign x e k) = last_guard k
-last_guard (Write a i e k) = last_guard k
-last_guard (If b c d k) = last_guard k
-last_guard (While b c k) = if is_over k then Some b else last_guard k
-last_guard (Hole h k) = last_guard k
+last_guard (code.Skip k) = last_guard k
+last_guard (code.Assign x e k) = last_guard k
+last_guard (code.Write a i e k) = last_guard k
+last_guard (code.If b c d k) = last_guard k
+last_guard (code.While b c k) = if is_over k then Some b else last_guard k
+last_guard (code.Hole h k) = last_guard k

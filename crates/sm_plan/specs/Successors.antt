@@ -11,7 +11,7 @@ use Rattle.sm_term.specs.Assertions.{Assertion, negate, conj}
 use Rattle.sm_term.specs.Symbolic.{SymbolicStore, with_term, term_of, form_of}
 use Rattle.sm_term.specs.Slots.{all_at_stores}
 use Rattle.sm_plan.specs.Copies.{Copies, has, with_copy, copies, no_copies}
-use Rattle.sm_plan.specs.Statements.{front, behind, guard_of, body_of, last_guard}
+use Rattle.sm_plan.specs.Statements.{front, rest_after, guard_of, body_of, last_guard}
 use Rattle.sm_plan.specs.States.{State}
 
 -- what is left of code that begins with skip or an assignment, and the symbolic store after that statement
@@ -64,9 +64,9 @@ renewed k done stores c x = if assigns (done c) x then Havoc k c x else stores c
 abbrev pub bodies : State → Copies → Copy → Code
 bodies st set c = if has set c then body_of (st.rest c) else End
 
--- what is left behind the loops of a set's copies
-abbrev pub behind_loops : State → Copies → Copy → Code
-behind_loops st set c = if has set c then behind 1 (st.rest c) else st.rest c
+-- what is left after the loops of a set's copies
+abbrev pub rest_after_loops : State → Copies → Copy → Code
+rest_after_loops st set c = if has set c then rest_after 1 (st.rest c) else st.rest c
 
 -- the symbolic stores at the head of the loops of a set
 abbrev pub head_stores : State → ℕ → Copies → Copy → SymbolicStore
@@ -94,10 +94,10 @@ turn_state st k set keep turning = record {
   is_final = false;
 }
 
--- behind the loops
-abbrev pub after_state : State → ℕ → Copies → Assertion → State
-after_state st k set keep = record {
-  rest = behind_loops st set;
+-- after the loops
+abbrev pub after_loops_state : State → ℕ → Copies → Assertion → State
+after_loops_state st k set keep = record {
+  rest = rest_after_loops st set;
   stores = head_stores st k set;
   facts = st.facts ++ head_facts st k set keep no_copies;
   target = st.target;
@@ -112,12 +112,12 @@ fronts st counts c = front (counts c) (st.rest c)
 abbrev pub inner_state : State → (Copy → ℕ) → Assertion → State
 inner_state st counts keep = record { rest = fronts st counts; stores = st.stores; facts = st.facts; target = conj keep; is_final = false }
 
--- behind them
-abbrev pub behind_state : State → ℕ → (Copy → ℕ) → Assertion → State
-behind_state st k counts keep =
+-- after them
+abbrev pub after_block_state : State → ℕ → (Copy → ℕ) → Assertion → State
+after_block_state st k counts keep =
     let stores = renewed k (fronts st counts) st.stores in
     record {
-      rest = λ (c : Copy). behind (counts c) (st.rest c);
+      rest = λ (c : Copy). rest_after (counts c) (st.rest c);
       stores = stores;
       facts = st.facts ++ all_at_stores stores (conj keep);
       target = st.target;
