@@ -9,9 +9,9 @@ use Rattle.sm_syntax.specs.Stores.{Value, Array, number, array, Store, put, with
 use Rattle.sm_syntax.specs.Meaning.{value_of, truth_of, and_then, turns, written, run}
 use Rattle.sm_syntax.specs.Sorts.{Sorts, IsWellSortedExpression, IsWellSortedCondition, IsWellSorted}
 use Rattle.sm_deps.specs.Names.{mentions, tests}
-use Rattle.sm_deps.specs.Needs.{Names, Picked, Least, Needs}
+use Rattle.sm_deps.specs.Needs.{NamePredicate, Picked, Least, Needs}
 use Rattle.sm_deps.specs.Inputs.{inputs}
-use Rattle.sm_deps.specs.Laws.{EndAlike, EqualAs}
+use Rattle.sm_deps.specs.Laws.{EndAlike, SameIfSorted}
 use Rattle.sm_deps.proofs.Closed.{least_starts, least_stays}
 use Rattle.sm_deps.proofs.Exact.{inputs_exact}
 
@@ -20,7 +20,7 @@ abbrev Likeness : Type 1
 Likeness = ℕ → Value → Value → Type 0
 
 -- stores whose values are alike at some names
-abbrev Agree : Likeness → Names → Store → Store → Type 0
+abbrev Agree : Likeness → NamePredicate → Store → Store → Type 0
 Agree alike names s t = (x : ℕ) → names x → alike x (s x) (t x)
 
 -- each step of code goes from stores that agree to stores that agree
@@ -71,11 +71,11 @@ put_alike alike s t y u v x new old = go (x == y) refl where
   go false is = old (eqb-false x y is)
 
 -- ends at which the wanted names agree
-abbrev Ends : Likeness → Names → Option Store → Option Store → Type 0
+abbrev Ends : Likeness → NamePredicate → Option Store → Option Store → Type 0
 Ends alike wanted o p = EndAlike (Agree alike wanted) o p
 
 -- stores that agree on what code needs end alike, and agree on what is wanted
-run_alike : (alike : Likeness) (n : ℕ) (c : Code) (wanted : Names) (s t : Store) →
+run_alike : (alike : Likeness) (n : ℕ) (c : Code) (wanted : NamePredicate) (s t : Store) →
     Carries alike c → Agree alike (Needs c wanted) s t → Ends alike wanted (run n c s) (run n c t)
 run_alike alike n End wanted s t carries h = h
 run_alike alike n (Skip k) wanted s t carries h = run_alike alike n k wanted s t carries h
@@ -192,15 +192,15 @@ inputs_alike n c w s t h =
 
 -- values that are equal as what is declared
 abbrev BySort : Sorts → Likeness
-BySort sorts x u v = EqualAs (sorts x) u v
+BySort sorts x u v = SameIfSorted (sorts x) u v
 
 -- a number's part of two values that are equal as numbers
-as_number : (o : Option Sort) (u v : Value) → o ≡ Some Num → EqualAs o u v → number u ≡ number v
-as_number o u v sort h = subst (λ (p : Option Sort). EqualAs p u v) sort h
+as_number : (o : Option Sort) (u v : Value) → o ≡ Some Num → SameIfSorted o u v → number u ≡ number v
+as_number o u v sort h = subst (λ (p : Option Sort). SameIfSorted p u v) sort h
 
 -- the elements of two values that are equal as arrays
-as_array : (o : Option Sort) (u v : Value) → o ≡ Some Arr → EqualAs o u v → (i : ℤ) → array u i ≡ array v i
-as_array o u v sort h = subst (λ (p : Option Sort). EqualAs p u v) sort h
+as_array : (o : Option Sort) (u v : Value) → o ≡ Some Arr → SameIfSorted o u v → (i : ℤ) → array u i ≡ array v i
+as_array o u v sort h = subst (λ (p : Option Sort). SameIfSorted p u v) sort h
 
 -- the number of a well-sorted expression goes by its names
 number_same : (sorts : Sorts) (e : Expression) (s t : Store) → IsWellSortedExpression sorts e → Agree (BySort sorts) (Picked (mentions e)) s t →
@@ -252,16 +252,16 @@ carries_by_sort sorts End good = tt
 carries_by_sort sorts (Skip k) good = carries_by_sort sorts k good
 carries_by_sort sorts (Assign x e k) good = (
   λ (s t : Store) (h : Agree (BySort sorts) (Picked (mentions e)) s t).
-      subst (λ (o : Option Sort). EqualAs o (value_of e s) (value_of e t)) (sym good.0) (number_same sorts e s t good.1 h),
+      subst (λ (o : Option Sort). SameIfSorted o (value_of e s) (value_of e t)) (sym good.0) (number_same sorts e s t good.1 h),
   carries_by_sort sorts k good.2,
 )
 carries_by_sort sorts (Write a i e k) good = (
-  λ (s t : Store) (old : EqualAs (sorts a) (s a) (t a)) (place : Agree (BySort sorts) (Picked (mentions i)) s t) (new : Agree (BySort sorts) (Picked (mentions e)) s t).
+  λ (s t : Store) (old : SameIfSorted (sorts a) (s a) (t a)) (place : Agree (BySort sorts) (Picked (mentions i)) s t) (new : Agree (BySort sorts) (Picked (mentions e)) s t).
       let u = Array (with_element (array (s a)) (number (value_of i s)) (number (value_of e s))) in
       let v = Array (with_element (array (t a)) (number (value_of i t)) (number (value_of e t))) in
       put_alike (BySort sorts) s t a u v a
       (λ (same : a ≡ a).
-      subst (λ (o : Option Sort). EqualAs o u v) (sym good.0)
+      subst (λ (o : Option Sort). SameIfSorted o u v) (sym good.0)
       (λ (j : ℤ).
       element_same (array (s a)) (array (t a)) (number (value_of i s)) (number (value_of i t)) (number (value_of e s)) (number (value_of e t)) j
       (number_same sorts i s t good.1 place)
@@ -285,10 +285,10 @@ carries_by_sort sorts (Hole h k) good = carries_by_sort sorts k good
 
 -- the same of stores that agree by sort
 pub inputs_alike_by_sort : (sorts : Sorts) (n : ℕ) (c : Code) (w : ℕ) (s t : Store) → IsWellSorted sorts c →
-    ((x : ℕ) → IsTrue (is_in (inputs c w) x) → EqualAs (sorts x) (s x) (t x)) →
-    EndAlike (λ (u v : Store). EqualAs (sorts w) (u w) (v w)) (run n c s) (run n c t)
+    ((x : ℕ) → IsTrue (is_in (inputs c w) x) → SameIfSorted (sorts x) (s x) (t x)) →
+    EndAlike (λ (u v : Store). SameIfSorted (sorts w) (u w) (v w)) (run n c s) (run n c t)
 inputs_alike_by_sort sorts n c w s t good h =
-    ends_wider (Agree (BySort sorts) (λ (y : ℕ). y ≡ w)) (λ (u v : Store). EqualAs (sorts w) (u w) (v w)) (run n c s) (run n c t)
+    ends_wider (Agree (BySort sorts) (λ (y : ℕ). y ≡ w)) (λ (u v : Store). SameIfSorted (sorts w) (u w) (v w)) (run n c s) (run n c t)
     (λ (u v : Store) (g : Agree (BySort sorts) (λ (y : ℕ). y ≡ w) u v). g w refl)
     (run_alike (BySort sorts) n c (λ (y : ℕ). y ≡ w) s t (carries_by_sort sorts c good)
     (λ (x : ℕ) (m : Needs c (λ (y : ℕ). y ≡ w) x). h x (((inputs_exact c w).1 x).1 m)))

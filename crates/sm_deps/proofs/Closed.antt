@@ -2,14 +2,14 @@
 use Rattle.std.proofs.Common.{◌≢◌, ◌⊎◌, ℕ, Bool, IsTrue, inl, inr, ⊎_elim}
 use Rattle.sm_syntax.specs.Syntax.{Code, End, Skip, Assign, Write, If, While, Hole}
 use Rattle.sm_deps.specs.Names.{mentions, tests}
-use Rattle.sm_deps.specs.Needs.{Names, Within, Picked, Least, Needs}
+use Rattle.sm_deps.specs.Needs.{NamePredicate, Within, Picked, Least, Needs}
 
 -- one of two, where the first grows
 first_grows : (P Q R : Type 0) → (P → Q) → P ⊎ R → Q ⊎ R
 first_grows P Q R f h = ⊎_elim (λ (p : P). inl (f p)) (λ (r : R). inr r) h
 
 -- where more is wanted, more is needed
-pub needs_grow : (c : Code) (few more : Names) → Within few more → Within (Needs c few) (Needs c more)
+pub needs_grow : (c : Code) (few more : NamePredicate) → Within few more → Within (Needs c few) (Needs c more)
 needs_grow End few more h x n = h x n
 needs_grow (Skip k) few more h x n = needs_grow k few more h x n
 needs_grow (Assign y e k) few more h x n =
@@ -36,10 +36,10 @@ needs_grow (While b c k) few more h x n = λ (set : ℕ → Bool) (starts : With
 needs_grow (Hole h' k) few more h x n = needs_grow k few more h x n
 
 -- the least set holds the first names
-pub least_starts : (first : Names) (brings : Names → Names) → Within first (Least first brings)
+pub least_starts : (first : NamePredicate) (brings : NamePredicate → NamePredicate) → Within first (Least first brings)
 least_starts first brings x f = λ (set : ℕ → Bool) (starts : Within first (Picked set)) (stays : Within (brings (Picked set)) (Picked set)). starts x f
 
 -- it holds what a body needs for it
-pub least_stays : (first : Names) (c : Code) → Within (Needs c (Least first (Needs c))) (Least first (Needs c))
+pub least_stays : (first : NamePredicate) (c : Code) → Within (Needs c (Least first (Needs c))) (Least first (Needs c))
 least_stays first c x n = λ (set : ℕ → Bool) (starts : Within first (Picked set)) (stays : Within (Needs c (Picked set)) (Picked set)).
     stays x (needs_grow c (Least first (Needs c)) (Picked set) (λ (y : ℕ) (l : Least first (Needs c) y). l set starts stays) x n)

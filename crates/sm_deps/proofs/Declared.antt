@@ -7,7 +7,7 @@ use Rattle.sm_syntax.specs.Assigns.{assigns}
 use Rattle.sm_syntax.specs.Conditions.{is_in}
 use Rattle.sm_syntax.specs.Sorts.{Sorts, IsWellSortedExpression, IsWellSortedCondition, IsWellSorted}
 use Rattle.sm_syntax.specs.Syntax.{Expression, Lit, Var, Read, Neg, Plus, Minus, Times, Condition, Yes, No, Compare, Not, And, Or, Code, End, Skip, Assign, Write, If, While, Hole}
-use Rattle.sm_deps.specs.Names.{mentions, tests, names_of}
+use Rattle.sm_deps.specs.Names.{mentions, tests, code_names}
 use Rattle.sm_deps.specs.Inputs.{needed, inputs}
 use Rattle.sm_deps.proofs.Exact.{inputs_listed}
 use Rattle.sm_deps.specs.Members.{Below}
@@ -74,7 +74,7 @@ needed_declared sorts (If b c d k) wanted good h x m =
     (in_parts (needed d (needed k wanted) x) (tests b x) (declared sorts x ≡ true) (needed_declared sorts d (needed k wanted) good.2 behind x) (tests_declared sorts b good.0 x))
     m
 needed_declared sorts (While b c k) wanted good h x m =
-    grown_within (length (names_of c)) (needed c) (λ (y : ℕ). needed k wanted y || tests b y) (declared sorts)
+    grown_within (length (code_names c)) (needed c) (λ (y : ℕ). needed k wanted y || tests b y) (declared sorts)
     (λ (part : ℕ → Bool) (below : Below part (declared sorts)). needed_declared sorts c part good.1 below)
     (λ (y : ℕ). in_parts (needed k wanted y) (tests b y) (declared sorts y ≡ true) (needed_declared sorts k wanted good.2 h y) (tests_declared sorts b good.0 y))
     x m

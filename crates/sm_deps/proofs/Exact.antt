@@ -11,8 +11,8 @@ use Rattle.sm_syntax.specs.declared.tree.Sort.{Sort}
 use Rattle.sm_syntax.specs.declared.tree.Sort.TheVariants.{Num, Arr}
 use Rattle.sm_syntax.specs.Conditions.{is_in, names_in, names_tested, names_used}
 use Rattle.sm_syntax.specs.Syntax.{Expression, Lit, Var, Read, Neg, Plus, Minus, Times, Condition, Yes, No, Compare, Not, And, Or, Code, End, Skip, Assign, Write, If, While, Hole}
-use Rattle.sm_deps.specs.Names.{mentions, tests, names_of}
-use Rattle.sm_deps.specs.Needs.{Names, Within, Picked, Needs}
+use Rattle.sm_deps.specs.Names.{mentions, tests, code_names}
+use Rattle.sm_deps.specs.Needs.{NamePredicate, Within, Picked, Needs}
 use Rattle.sm_deps.specs.Inputs.{needed, greatest, inputs}
 use Rattle.sm_deps.specs.Members.{Below}
 use Rattle.sm_deps.proofs.Rounds.{Closed, From, grown_starts, grown_within, grown_closed}
@@ -120,7 +120,7 @@ comes (While b c k) wanted x h =
     let all = names_tested b ++ names_used c ++ names_used k in
     let whole : ℕ → Bool = λ (y : ℕ). wanted y || stands all y in
     or_cases (wanted x) (stands all x)
-    (grown_within (length (names_of c)) (needed c) (λ (y : ℕ). needed k wanted y || tests b y) whole
+    (grown_within (length (code_names c)) (needed c) (λ (y : ℕ). needed k wanted y || tests b y) whole
     (λ (part : ℕ → Bool) (below : Below part whole) (y : ℕ) (m : needed c part y ≡ true).
     ⊎_elim (below y)
     (λ (s : stands (names_used c) y ≡ true). or_right (wanted y) (stands all y) (in_first two (names_used k) y (in_second one (names_used c) y s)))
@@ -137,15 +137,15 @@ comes (While b c k) wanted x h =
 comes (Hole h' k) wanted x h = comes k wanted x h
 
 -- what a body brings is its own names
-pub body_from : (c : Code) (set : ℕ → Bool) → From (names_of c) (needed c) set
+pub body_from : (c : Code) (set : ℕ → Bool) → From (code_names c) (needed c) set
 body_from c set more h x m = comes c more x m
 
 -- the set of a loop is closed
 pub loop_closed : (b : Condition) (c k : Code) (wanted : ℕ → Bool) → Closed (needed c) (needed (While b c k) wanted)
-loop_closed b c k wanted = grown_closed (names_of c) (needed c) (λ (y : ℕ). needed k wanted y || tests b y) (body_from c (λ (y : ℕ). needed k wanted y || tests b y))
+loop_closed b c k wanted = grown_closed (code_names c) (needed c) (λ (y : ℕ). needed k wanted y || tests b y) (body_from c (λ (y : ℕ). needed k wanted y || tests b y))
 
 -- what is computed is needed
-pub needed_sound : (c : Code) (test : ℕ → Bool) (wanted : Names) → Within (Picked test) wanted → Within (Picked (needed c test)) (Needs c wanted)
+pub needed_sound : (c : Code) (test : ℕ → Bool) (wanted : NamePredicate) → Within (Picked test) wanted → Within (Picked (needed c test)) (Needs c wanted)
 needed_sound End test wanted h x m = h x m
 needed_sound (Skip k) test wanted h x m = needed_sound k test wanted h x m
 needed_sound (Assign y e k) test wanted h x m =
@@ -175,7 +175,7 @@ needed_sound (If b c d k) test wanted h x m =
     (or_cases (needed d (needed k test) x) (tests b x) rest))
     (or_cases (needed c (needed k test) x) (needed d (needed k test) x || tests b x) m)
 needed_sound (While b c k) test wanted h x m = λ (set : ℕ → Bool) (starts : Within (λ (y : ℕ). Needs k wanted y ⊎ IsTrue (tests b y)) (Picked set)) (stays : Within (Needs c (Picked set)) (Picked set)).
-    grown_within (length (names_of c)) (needed c) (λ (y : ℕ). needed k test y || tests b y) set
+    grown_within (length (code_names c)) (needed c) (λ (y : ℕ). needed k test y || tests b y) set
     (λ (part : ℕ → Bool) (below : Below part set) (y : ℕ) (n : needed c part y ≡ true). stays y (needed_sound c part (Picked set) below y n))
     (λ (y : ℕ) (n : (needed k test y || tests b y) ≡ true).
     ⊎_elim
@@ -186,7 +186,7 @@ needed_sound (While b c k) test wanted h x m = λ (set : ℕ → Bool) (starts :
 needed_sound (Hole h' k) test wanted h x m = needed_sound k test wanted h x m
 
 -- what is needed is computed
-pub needed_complete : (c : Code) (test : ℕ → Bool) (wanted : Names) → Within wanted (Picked test) → Within (Needs c wanted) (Picked (needed c test))
+pub needed_complete : (c : Code) (test : ℕ → Bool) (wanted : NamePredicate) → Within wanted (Picked test) → Within (Needs c wanted) (Picked (needed c test))
 needed_complete End test wanted h x m = h x m
 needed_complete (Skip k) test wanted h x m = needed_complete k test wanted h x m
 needed_complete (Assign y e k) test wanted h x m =
@@ -223,7 +223,7 @@ needed_complete (While b c k) test wanted h x m =
     let set : ℕ → Bool = needed (While b c k) test in
     m set
     (λ (y : ℕ) (f : Needs k wanted y ⊎ IsTrue (tests b y)).
-    grown_starts (length (names_of c)) (needed c) start y
+    grown_starts (length (code_names c)) (needed c) start y
     (⊎_elim
     (λ (behind : Needs k wanted y). or_left (needed k test y) (tests b y) (needed_complete k test wanted h y behind))
     (or_right (needed k test y) (tests b y))
@@ -294,11 +294,11 @@ pub inputs_listed : (c : Code) (w x : ℕ) → (is_in (inputs c w) x ≡ true �
 unfolding inputs
 inputs_listed c w x =
     let only : ℕ → Bool = λ (y : ℕ). y == w in
-    let bound = suc (greatest (w ∷ names_of c)) in (
+    let bound = suc (greatest (w ∷ code_names c)) in (
       λ (h : is_in (inputs c w) x ≡ true). (filter_sound (needed c only) (range_with_len 0 bound) x h).0,
       λ (h : needed c only x ≡ true).
-          let small : x ≤ greatest (w ∷ names_of c) = at_most_greatest (w ∷ names_of c) x
-          (⊎_elim (or_left (x == w) (is_in (names_of c) x)) (or_right (x == w) (is_in (names_of c) x)) (comes c only x h)) in
+          let small : x ≤ greatest (w ∷ code_names c) = at_most_greatest (w ∷ code_names c) x
+          (⊎_elim (or_left (x == w) (is_in (code_names c) x)) (or_right (x == w) (is_in (code_names c) x)) (comes c only x h)) in
           filter_complete (needed c only) (range_with_len 0 bound) x h (in_range bound 0 x (omega arith) (omega (arith, small))),
     )
 
@@ -306,7 +306,7 @@ inputs_listed c w x =
 pub inputs_exact : (c : Code) (w : ℕ) → IsStrictlyIncreasing (inputs c w) × ((x : ℕ) → IsTrue (is_in (inputs c w) x) ↔ Needs c (λ (y : ℕ). y ≡ w) x)
 unfolding inputs
 inputs_exact c w = (
-  IsStrictlyIncreasing-filter (needed c (λ (x : ℕ). x == w)) (range_with_len 0 (suc (greatest (w ∷ names_of c)))) (range_rises 0 (suc (greatest (w ∷ names_of c)))),
+  IsStrictlyIncreasing-filter (needed c (λ (x : ℕ). x == w)) (range_with_len 0 (suc (greatest (w ∷ code_names c)))) (range_rises 0 (suc (greatest (w ∷ code_names c)))),
   λ (x : ℕ). (
     λ (h : IsTrue (is_in (inputs c w) x)). needed_sound c (λ (y : ℕ). y == w) (λ (y : ℕ). y ≡ w) (λ (y : ℕ) (m : (y == w) ≡ true). eqb-true y w m) x ((inputs_listed c w x).0 h),
     λ (h : Needs c (λ (y : ℕ). y ≡ w) x). (inputs_listed c w x).1 (needed_complete c (λ (y : ℕ). y == w) (λ (y : ℕ). y ≡ w) (λ (y : ℕ) (m : y ≡ w). eq-eqb y w m) x h),

@@ -8,10 +8,10 @@ use Rattle.std.specs.BTreeSet.{BTreeSet, IsOrdered}
 use Rattle.std.specs.Ordering.{nat_cmp}
 use Rattle.sm_syntax.specs.Syntax.{Condition, Code, End, Skip, Assign, Write, If, While, Hole, append}
 use Rattle.sm_deps.specs.declared.loops.Loops.{Loops}
-use Rattle.sm_deps.specs.Names.{tests, names_of}
+use Rattle.sm_deps.specs.Names.{tests, code_names}
 use Rattle.sm_deps.specs.Inputs.{needed}
 use Rattle.sm_deps.specs.Members.{members, either, Below}
-use Rattle.sm_deps.specs.Loops.{loops_in, HasNeeds, IsWithin, IsReady, Passes, GoesOver, Settles, Resumes, Keeps}
+use Rattle.sm_deps.specs.Loops.{loops_in, HasNeeds, IsWithin, IsReady, Passes, GoesOver, Settles, Resumes, KeepsSet}
 use Rattle.sm_deps.proofs.Exact.{loop_closed}
 use Rattle.sm_deps.proofs.Rounds.{grown_starts, grown_within}
 use Rattle.sm_deps.proofs.Steps.{needed-append, needed_grows, both_ways, no_more}
@@ -145,13 +145,13 @@ over_choice b c d wanted first second found one two three of_c of_d is = record 
 
 -- a loop that goes on from its kept set
 pub over_loop : (b : Condition) (c : Code) (wanted guarded begun settled : Test) (one two three four : Loops) → guarded ≡ either wanted (tests b) →
-    Resumes guarded begun one two → Settles c begun settled two three → Keeps one.next settled three four → GoesOver (While b c End) wanted settled one four
+    Resumes guarded begun one two → Settles c begun settled two three → KeepsSet one.next settled three four → GoesOver (While b c End) wanted settled one four
 unfolding either
 over_loop b c wanted guarded begun settled one two three four is resumes settles keeps = record {
   passes = passes_same (1 + loops_in c + 0) (0 + 1 + loops_in c) one four (omega arith)
       (passes_both (1 + loops_in c) 0 one three four (passes_both 1 (loops_in c) one two three resumes.passes settles.passes) keeps.passes);
   enough = λ x h.
-      grown_within (length (names_of c)) (needed c) (λ (y : ℕ). wanted y || tests b y) settled
+      grown_within (length (code_names c)) (needed c) (λ (y : ℕ). wanted y || tests b y) settled
       (λ (part : Test) (under : Below part settled) (y : ℕ) (m : needed c part y ≡ true). settles.closed y (needed_grows c part settled under y m))
       (λ (y : ℕ) (m : (wanted y || tests b y) ≡ true). settles.starts y (resumes.starts y (at (either wanted (tests b)) guarded y (sym is) m)))
       x h;
@@ -159,7 +159,7 @@ over_loop b c wanted guarded begun settled one two three four is resumes settles
       let whole = needed (While b c End) wider in
       let here : sets one.next ≡ whole = subst (λ (n : ℕ). sets n ≡ whole) (omega arith) needs.1 in
       let begins : Below guarded whole = λ (x : ℕ) (h : guarded x ≡ true).
-      grown_starts (length (names_of c)) (needed c) (λ (y : ℕ). wider y || tests b y) x
+      grown_starts (length (code_names c)) (needed c) (λ (y : ℕ). wider y || tests b y) x
       (⊎_elim (λ (m : wanted x ≡ true). or_left (wider x) (tests b x) (below x m)) (or_right (wider x) (tests b x))
       (or_cases (wanted x) (tests b x) (at guarded (either wanted (tests b)) x is h))) in
       let resumed = resumes.within sets (subst (Below guarded) (sym here) begins) within in

@@ -24,7 +24,7 @@ use Rattle.sm_syntax.proofs.Blocks.{statement_is, sequence-drop}
 use Rattle.sm_syntax.proofs.Statements.{statement_of-Skip, statement_of-Assign, statement_of-Store, statement_of-If, statement_of-While, statement_of-Hole}
 use Rattle.sm_deps.specs.Inputs.{grown, needed, inputs}
 use Rattle.sm_deps.specs.Members.{members, only, either, Below}
-use Rattle.sm_deps.specs.Names.{mentions, tests, names_of}
+use Rattle.sm_deps.specs.Names.{mentions, tests, code_names}
 use Rattle.sm_deps.specs.Needs.{Picked}
 use Rattle.sm_deps.proofs.Exact.{needed_sound, needed_complete, inputs_listed, inputs_exact}
 use Rattle.sm_deps.proofs.Unions.{at_number, or_assoc, or-false, listed-members, list_is}
@@ -36,7 +36,7 @@ needed-append (Skip k) r wanted = needed-append k r wanted
 needed-append (Assign y e k) r wanted = ap {B = ℕ → Bool} (λ (s : ℕ → Bool) (x : ℕ). (s x && not (x == y)) || (s y && mentions e x)) (needed-append k r wanted)
 needed-append (Write a i e k) r wanted = ap {B = ℕ → Bool} (λ (s : ℕ → Bool) (x : ℕ). s x || (s a && (mentions i x || mentions e x))) (needed-append k r wanted)
 needed-append (If b c d k) r wanted = ap {B = ℕ → Bool} (λ (s : ℕ → Bool) (x : ℕ). needed c s x || (needed d s x || tests b x)) (needed-append k r wanted)
-needed-append (While b c k) r wanted = ap {B = ℕ → Bool} (λ (s : ℕ → Bool). grown (length (names_of c)) (needed c) (λ (y : ℕ). s y || tests b y)) (needed-append k r wanted)
+needed-append (While b c k) r wanted = ap {B = ℕ → Bool} (λ (s : ℕ → Bool). grown (length (code_names c)) (needed c) (λ (y : ℕ). s y || tests b y)) (needed-append k r wanted)
 needed-append (Hole h k) r wanted = needed-append k r wanted
 
 -- a set without a name
@@ -103,7 +103,7 @@ needed-If b c d wanted =
 
 -- a loop
 pub needed-While : (b : Cond) (c : Block) (wanted : ℕ → Bool) →
-    needed (statement_of (tree.While b c) End) wanted ≡ grown (length (names_of (code_of c))) (needed (code_of c)) (either wanted (tests (condition_of b)))
+    needed (statement_of (tree.While b c) End) wanted ≡ grown (length (code_names (code_of c))) (needed (code_of c)) (either wanted (tests (condition_of b)))
 unfolding either
 needed-While b c wanted = ap (λ (k : Code). needed k wanted) (statement_of-While b c End)
 

@@ -2,7 +2,7 @@
 use Rattle.std.specs.Prelude.{ℕ, zero, suc, ◌==◌, Bool, not, ◌&&◌, ◌||◌, List, [], ◌∷◌, length, max}
 use Rattle.std.specs.List.{filter, range_with_len}
 use Rattle.sm_syntax.specs.Syntax.{Code, End, Skip, Assign, Write, If, While, Hole}
-use Rattle.sm_deps.specs.Names.{mentions, tests, names_of}
+use Rattle.sm_deps.specs.Names.{mentions, tests, code_names}
 
 -- a set after so many rounds, each of which adds what the set brings
 abbrev pub grown : ℕ → ((ℕ → Bool) → ℕ → Bool) → (ℕ → Bool) → ℕ → Bool
@@ -21,7 +21,7 @@ needed (Write a i e k) wanted x =
 needed (If b c d k) wanted x =
     needed c (needed k wanted) x || (needed d (needed k wanted) x || tests b x)
 needed (While b c k) wanted x =
-    grown (length (names_of c)) (needed c) (λ (y : ℕ). needed k wanted y || tests b y) x
+    grown (length (code_names c)) (needed c) (λ (y : ℕ). needed k wanted y || tests b y) x
 needed (Hole h k) wanted x = needed k wanted x
 
 -- the greatest of numbers, 0 where there is none
@@ -32,4 +32,4 @@ greatest (x ∷ rest) = max x (greatest rest)
 -- the inputs of code for a name: what it needs where that one is wanted after it, ascending
 unfoldable pub inputs : Code → ℕ → List ℕ
 inputs c w =
-    filter (needed c (λ (x : ℕ). x == w)) (range_with_len 0 (suc (greatest (w ∷ names_of c))))
+    filter (needed c (λ (x : ℕ). x == w)) (range_with_len 0 (suc (greatest (w ∷ code_names c))))

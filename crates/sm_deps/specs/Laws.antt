@@ -1,13 +1,13 @@
 -- Cited by public clauses: laws of what code needs and assigns, each for all code.
-use Rattle.std.specs.Prelude.{◌≡◌, ◌↔◌, ℕ, ℤ, IsTrue, Option, Some, None, is_some}
+use Rattle.std.specs.Prelude.{◌≡◌, ◌↔◌, ℕ, IsTrue, Option, Some, None, is_some}
 use Rattle.std.specs.List.Sorted.{IsStrictlyIncreasing}
 use Rattle.sm_syntax.specs.declared.tree.Sort.{Sort}
-use Rattle.sm_syntax.specs.declared.tree.Sort.TheVariants.{Num, Arr}
 use Rattle.sm_syntax.specs.Assigns.{assigns}
 use Rattle.sm_syntax.specs.Conditions.{is_in}
 use Rattle.sm_syntax.specs.Syntax.{Code}
-use Rattle.sm_syntax.specs.Stores.{Value, number, array, Store}
+use Rattle.sm_syntax.specs.Stores.{Value, Store}
 use Rattle.sm_syntax.specs.Meaning.{run}
+use Rattle.sm_syntax.specs.SameAs.{SameAs}
 use Rattle.sm_syntax.specs.Sorts.{Sorts, IsWellSorted}
 use Rattle.sm_deps.specs.Needs.{Needs}
 use Rattle.sm_deps.specs.Inputs.{inputs}
@@ -19,11 +19,10 @@ EndAlike Alike None (Some t) = ⊥
 EndAlike Alike (Some s) None = ⊥
 EndAlike Alike (Some s) (Some t) = Alike s t
 
--- two values that are equal as what has this sort; nothing is asked where there is no sort
-abbrev pub EqualAs : Option Sort → Value → Value → Type 0
-EqualAs None u v = Unit {0}
-EqualAs (Some Num) u v = number u ≡ number v
-EqualAs (Some Arr) u v = (i : ℤ) → array u i ≡ array v i
+-- two values are the same as what has a sort; nothing is asked where there is none
+abbrev pub SameIfSorted : Option Sort → Value → Value → Type 0
+SameIfSorted None u v = Unit {0}
+SameIfSorted (Some sort) u v = SameAs sort u v
 
 -- the list of inputs rises, and has exactly the names that are needed for the wanted one
 abbrev pub InputsAreNeeded : Type 0
@@ -45,8 +44,8 @@ abbrev pub InputsDecideBySort : Type 0
 InputsDecideBySort =
     (sorts : Sorts) (n : ℕ) (c : Code) (w : ℕ) (s t : Store) →
     IsWellSorted sorts c →
-    ((x : ℕ) → IsTrue (is_in (inputs c w) x) → EqualAs (sorts x) (s x) (t x)) →
-    EndAlike (λ (u v : Store). EqualAs (sorts w) (u w) (v w)) (run n c s) (run n c t)
+    ((x : ℕ) → IsTrue (is_in (inputs c w) x) → SameIfSorted (sorts x) (s x) (t x)) →
+    EndAlike (λ (u v : Store). SameIfSorted (sorts w) (u w) (v w)) (run n c s) (run n c t)
 
 -- the inputs of well-sorted code for a declared name are declared
 abbrev pub InputsAreDeclared : Type 0

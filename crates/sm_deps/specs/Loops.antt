@@ -85,7 +85,7 @@ pub record Resumes (first found : ℕ → Bool) (before after : Loops) : Type 0 
       Below found (sets before.next) × IsWithin after sets
 
 -- another set is kept for loop n
-pub record Keeps (n : ℕ) (found : ℕ → Bool) (before after : Loops) : Type 0 where
+pub record KeepsSet (n : ℕ) (found : ℕ → Bool) (before after : Loops) : Type 0 where
   pub passes : Passes 0 before after
   pub within : (sets : ℕ → ℕ → Bool) →
       Below found (sets n) →

@@ -25,5 +25,5 @@ tests (And b c) x = tests b x || tests c x
 tests (Or b c) x = tests b x || tests c x
 
 -- the names of code, in the order of the text; one that stands twice comes twice
-abbrev pub names_of : Code → List ℕ
-names_of c = map (λ (u : ℕ × Sort). u.0) (names_used c)
+abbrev pub code_names : Code → List ℕ
+code_names c = map (λ (u : ℕ × Sort). u.0) (names_used c)

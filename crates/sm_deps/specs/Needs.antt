@@ -5,20 +5,20 @@ use Rattle.sm_syntax.specs.Syntax.{Code, End, Skip, Assign, Write, If, While, Ho
 use Rattle.sm_deps.specs.Names.{mentions, tests}
 
 -- a set of names
-abbrev pub Names : Type 1
-Names = ℕ → Type 0
+abbrev pub NamePredicate : Type 1
+NamePredicate = ℕ → Type 0
 
 -- each name of the first set is in the second
-abbrev pub Within : Names → Names → Type 0
+abbrev pub Within : NamePredicate → NamePredicate → Type 0
 Within first second = (x : ℕ) → first x → second x
 
 -- the names that a test picks
-abbrev pub Picked : (ℕ → Bool) → Names
+abbrev pub Picked : (ℕ → Bool) → NamePredicate
 Picked test x = IsTrue (test x)
 
 -- the least set that holds the first names, and with its own names also what they bring: what all
 -- such sets have
-abbrev pub Least : Names → (Names → Names) → Names
+abbrev pub Least : NamePredicate → (NamePredicate → NamePredicate) → NamePredicate
 Least first brings x =
     (set : ℕ → Bool) →
     Within first (Picked set) →
@@ -27,7 +27,7 @@ Least first brings x =
 
 -- the names that code needs, where those of a set are wanted after it. A loop needs the least set
 -- that holds what is wanted after it, the names of its guard, and what its body needs for that set.
-abbrev pub Needs : Code → Names → Names
+abbrev pub Needs : Code → NamePredicate → NamePredicate
 Needs End wanted x = wanted x
 Needs (Skip k) wanted x = Needs k wanted x
 Needs (Assign y e k) wanted x =

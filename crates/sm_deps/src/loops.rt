@@ -2,7 +2,7 @@
 // sets only grow.
 ghost use Rattle.std.specs.Prelude.{◌<◌, length, OnOk, IfOk, ◌≡◌, [], ℕ};
 ghost use Rattle.sm_deps.specs.Members.{members};
-ghost use Rattle.sm_deps.specs.Loops.{IsReady, Resumes, Keeps};
+ghost use Rattle.sm_deps.specs.Loops.{IsReady, Resumes, KeepsSet};
 
 use crate::sets::{NameSet, add_all};
 use std::alloc::{AllocError, Global};
@@ -50,7 +50,7 @@ pub(crate) fn resume(loops: &mut Loops, names: &mut NameSet) -> Result<usize, Al
 pub(crate) fn keep(loops: &mut Loops, number: usize, names: &NameSet) -> Result<(), AllocError>
     requires met { number < length loops.old.sets.items }
     requires ready { IsReady loops.old }
-    ensures { OnOk result (Keeps number (members names.now) loops.old loops.new) }
+    ensures { OnOk result (KeepsSet number (members names.now) loops.old loops.new) }
 {
     loops.sets[number] = names.clone()?;
     Ok(())

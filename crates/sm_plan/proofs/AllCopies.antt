@@ -20,7 +20,7 @@ use Rattle.sm_term.proofs.Truths.{form_means, contrary, holds_append, conj_means
 use Rattle.sm_term.proofs.Places.{all_at_stores_mean}
 use Rattle.sm_term.proofs.Below.{fresh_meaning, fresh_means, fresh_all}
 use Rattle.sm_plan.specs.Copies.{Copies, copies, each, has, copies_that, no_copies, is_inhabited, subsets}
-use Rattle.sm_plan.specs.Statements.{is_over, rest_after, is_loop, guard_of, body_of}
+use Rattle.sm_plan.specs.Statements.{is_over, rest_after, is_loop, loop_guard, loop_body}
 use Rattle.sm_plan.specs.States.{State}
 use Rattle.sm_plan.specs.Successors as next
 use Rattle.sm_plan.specs.Plans.{AllValid}
@@ -111,11 +111,11 @@ module _ (k : ℕ) (st : State) (set : Copies) (keep : Assertion) (below : IsSta
     (after : IsSound (next.after_loops_state st k set keep)) (m : Structure) where
   -- the guard of a copy of the set
   abbrev guard : Copy → Store → Bool
-  guard c s = has set c && truth_of (guard_of (st.rest c)) s
+  guard c s = has set c && truth_of (loop_guard (st.rest c)) s
 
   -- its body
   abbrev body : Copy → Store → Option Store
-  body c = run m.bound (body_of (st.rest c))
+  body c = run m.bound (loop_body (st.rest c))
 
   -- what each turn keeps: the names that no body assigns, and the formula
   abbrev Keeps : (Copy → Store) → Type 0
@@ -123,27 +123,27 @@ module _ (k : ℕ) (st : State) (set : Copies) (keep : Assertion) (below : IsSta
 
   -- the facts of guards
   guards_hold : (turning : Copies) (s : Copy → Store) (stores : Copy → SymbolicStore) (n : Structure) → ((c : Copy) → store_meant n (stores c) ≡ s c) →
-      ((c : Copy) → has set c ≡ true → truth_of (guard_of (st.rest c)) (s c) ≡ has turning c) →
+      ((c : Copy) → has set c ≡ true → truth_of (loop_guard (st.rest c)) (s c) ≡ has turning c) →
       (cs : List Copy) → AllHold n (flat_map (next.guard_fact st set turning stores) cs)
   guards_hold turning s stores n meant exact [] = tt
   guards_hold turning s stores n meant exact (c ∷ cs) =
       holds_append n (next.guard_fact st set turning stores c) (flat_map (next.guard_fact st set turning stores) cs)
-      (of_one (has set c) (has turning c) (λ (h : has set c ≡ true). ap (truth_of (guard_of (st.rest c))) (meant c) ∙ exact c h))
+      (of_one (has set c) (has turning c) (λ (h : has set c ≡ true). ap (truth_of (loop_guard (st.rest c))) (meant c) ∙ exact c h))
       (guards_hold turning s stores n meant exact cs)
     where
-      of_one : (here taking : Bool) → (here ≡ true → truth_of (guard_of (st.rest c)) (store_meant n (stores c)) ≡ taking) →
-          AllHold n (if here then (if taking then form_of (guard_of (st.rest c)) (stores c) else negate (form_of (guard_of (st.rest c)) (stores c))) ∷ [] else [])
-      of_one true true h = ((form_means n (guard_of (st.rest c)) (stores c)).1 (h refl), tt)
+      of_one : (here taking : Bool) → (here ≡ true → truth_of (loop_guard (st.rest c)) (store_meant n (stores c)) ≡ taking) →
+          AllHold n (if here then (if taking then form_of (loop_guard (st.rest c)) (stores c) else negate (form_of (loop_guard (st.rest c)) (stores c))) ∷ [] else [])
+      of_one true true h = ((form_means n (loop_guard (st.rest c)) (stores c)).1 (h refl), tt)
       of_one true false h = (
-        (contrary n (form_of (guard_of (st.rest c)) (stores c))).1
-            (λ (g : Holds n (form_of (guard_of (st.rest c)) (stores c))). let p = (form_means n (guard_of (st.rest c)) (stores c)).0 g in let q = h refl in absurd cc),
+        (contrary n (form_of (loop_guard (st.rest c)) (stores c))).1
+            (λ (g : Holds n (form_of (loop_guard (st.rest c)) (stores c))). let p = (form_means n (loop_guard (st.rest c)) (stores c)).0 g in let q = h refl in absurd cc),
         tt,
       )
       of_one false taking h = tt
 
   -- the facts at the head, where the kept formula holds
   head_holds : AllHold m st.facts → (s : Copy → Store) → Keeps s → (turning : Copies) →
-      ((c : Copy) → has set c ≡ true → truth_of (guard_of (st.rest c)) (s c) ≡ has turning c) →
+      ((c : Copy) → has set c ≡ true → truth_of (loop_guard (st.rest c)) (s c) ≡ has turning c) →
       AllHold (with_havoc m k s) (st.facts ++ next.head_facts st k set keep turning)
   head_holds facts s h turning exact =
       let new = with_havoc m k s in
@@ -164,9 +164,9 @@ module _ (k : ℕ) (st : State) (set : Copies) (keep : Assertion) (below : IsSta
   turn_leaves s t h joint c x free =
       ⊎_elim
       (λ (e : guard c (s c) ≡ true).
-      let here = (and_parts (has set c) (truth_of (guard_of (st.rest c)) (s c)) e).0 in
-      let apart : assigns (body_of (st.rest c)) x ≡ false = subst (λ (b : Bool). assigns (if b then body_of (st.rest c) else End) x ≡ false) here free in
-      unassigned m.bound (body_of (st.rest c)) x (s c) (t c) apart (joint.moved c e) ∙ h.0 c x free)
+      let here = (and_parts (has set c) (truth_of (loop_guard (st.rest c)) (s c)) e).0 in
+      let apart : assigns (loop_body (st.rest c)) x ≡ false = subst (λ (b : Bool). assigns (if b then loop_body (st.rest c) else End) x ≡ false) here free in
+      unassigned m.bound (loop_body (st.rest c)) x (s c) (t c) apart (joint.moved c e) ∙ h.0 c x free)
       (λ (e : guard c (s c) ≡ false). ap (λ (u : Store). u x) (joint.stayed c e) ∙ h.0 c x free)
       (cases_Bool (guard c (s c)))
 
@@ -178,12 +178,12 @@ module _ (k : ℕ) (st : State) (set : Copies) (keep : Assertion) (below : IsSta
       let new = with_havoc m k s in
       let meant = renewed_means m k (next.bodies st set) st.stores s below.stores h.0 in
       let within : (c : Copy) → has turning c ≡ true → has set c ≡ true = λ (c : Copy) (e : has turning c ≡ true).
-      (and_parts (has set c) (truth_of (guard_of (st.rest c)) (s c)) (sym (has_that takes c) ∙ e)).0 in
-      let exact : (c : Copy) → has set c ≡ true → truth_of (guard_of (st.rest c)) (s c) ≡ has turning c = λ (c : Copy) (e : has set c ≡ true).
-      sym (has_that takes c ∙ ap (λ (b : Bool). b && truth_of (guard_of (st.rest c)) (s c)) e) in
+      (and_parts (has set c) (truth_of (loop_guard (st.rest c)) (s c)) (sym (has_that takes c) ∙ e)).0 in
+      let exact : (c : Copy) → has set c ≡ true → truth_of (loop_guard (st.rest c)) (s c) ≡ has turning c = λ (c : Copy) (e : has set c ≡ true).
+      sym (has_that takes c ∙ ap (λ (b : Bool). b && truth_of (loop_guard (st.rest c)) (s c)) e) in
       let ends : (c : Copy) → run m.bound (next.bodies st turning c) (store_meant new (next.head_stores st k set c)) ≡ Some (t c) = λ (c : Copy).
       ap (λ (u : Store). run m.bound (next.bodies st turning c) u) (meant c)
-      ∙ turn_end m.bound (has turning c) (body_of (st.rest c)) (s c) (t c)
+      ∙ turn_end m.bound (has turning c) (loop_body (st.rest c)) (s c) (t c)
       (λ (e : has turning c ≡ true). joint.moved c (sym (has_that takes c) ∙ e))
       (λ (e : has turning c ≡ false). joint.stayed c (sym (has_that takes c) ∙ e)) in
       let done = turn turning within (inhabited_by turning joint.some.0 (has_that takes joint.some.0 ∙ joint.some.1)) new t (head_holds facts s h turning exact) ends in
@@ -191,11 +191,11 @@ module _ (k : ℕ) (st : State) (set : Copies) (keep : Assertion) (below : IsSta
 
   -- where one copy's loop ends, and what is left after it
   loop_part : (c : Copy) (b : Bool) → (b ≡ true → is_loop (st.rest c) ≡ true) → (s t : Store) → run m.bound (st.rest c) s ≡ Some t →
-      (u : Store) × (turns (λ (v : Store). b && truth_of (guard_of (st.rest c)) v) (body c) m.bound s ≡ Some u) × (run m.bound (if b then rest_after 1 (st.rest c) else st.rest c) u ≡ Some t)
+      (u : Store) × (turns (λ (v : Store). b && truth_of (loop_guard (st.rest c)) v) (body c) m.bound s ≡ Some u) × (run m.bound (if b then rest_after 1 (st.rest c) else st.rest c) u ≡ Some t)
   loop_part c true loop s t e =
       let r = st.rest c in
-      let here : run m.bound (While (guard_of r) (body_of r) (rest_after 1 r)) s ≡ Some t = subst (λ (p : Code). run m.bound p s ≡ Some t) (loop_is r (loop refl)) e in
-      ends_then (turns (truth_of (guard_of r)) (run m.bound (body_of r)) m.bound s) (run m.bound (rest_after 1 r)) t here
+      let here : run m.bound (While (loop_guard r) (loop_body r) (rest_after 1 r)) s ≡ Some t = subst (λ (p : Code). run m.bound p s ≡ Some t) (loop_is r (loop refl)) e in
+      ends_then (turns (truth_of (loop_guard r)) (run m.bound (loop_body r)) m.bound s) (run m.bound (rest_after 1 r)) t here
   loop_part c false loop s t e = (s, still (λ (v : Store). false) (body c) m.bound s refl, e)
 
   -- the loops side by side
@@ -209,8 +209,8 @@ module _ (k : ℕ) (st : State) (set : Copies) (keep : Assertion) (below : IsSta
       let last = together guard body Keeps (turn_keeps facts) m.bound σ u ((λ (c : Copy) (x : ℕ) (e : assigns (next.bodies st set c) x ≡ false). refl), first) (λ (c : Copy). (part c).1) in
       let new = with_havoc m k u in
       let meant = renewed_means m k (next.bodies st set) st.stores u below.stores last.0.0 in
-      let exact : (c : Copy) → has set c ≡ true → truth_of (guard_of (st.rest c)) (u c) ≡ has no_copies c = λ (c : Copy) (e : has set c ≡ true).
-      sym (ap (λ (b : Bool). b && truth_of (guard_of (st.rest c)) (u c)) e) ∙ last.1 c ∙ sym (has_that (λ (d : Copy). false) c) in
+      let exact : (c : Copy) → has set c ≡ true → truth_of (loop_guard (st.rest c)) (u c) ≡ has no_copies c = λ (c : Copy) (e : has set c ≡ true).
+      sym (ap (λ (b : Bool). b && truth_of (loop_guard (st.rest c)) (u c)) e) ∙ last.1 c ∙ sym (has_that (λ (d : Copy). false) c) in
       (fresh_all (with_slots m end) k u st.target below.target).0
       (after new end (head_holds facts u last.0 no_copies exact)
       (λ (c : Copy). ap (λ (s : Store). run m.bound (next.rest_after_loops st set c) s) (meant c) ∙ (part c).2))

@@ -11,13 +11,13 @@ use Rattle.sm_syntax.specs.Assigns.{assigns}
 use Rattle.sm_syntax.specs.ConflictFree.{Copy, O, A, B, M, Task}
 use Rattle.sm_term.specs.Terms.{Tree, Lit, Start, Havoc, Slot, Cell, Read, Write, Neg, Add, Sub, Mul, Fun, Arguments, Over, Given}
 use Rattle.sm_term.specs.Assertions.{Assertion, Yes, No, Eq, Ne, Le, Lt, And, Or, negate, conj}
-use Rattle.sm_term.specs.Symbolic.{SymbolicStore, with_term, term_of, compared, form_of}
+use Rattle.sm_term.specs.Symbolic.{SymbolicStore, with_term, term_of, comparison_form, form_of}
 use Rattle.sm_term.specs.Slots.{fill_term, fill_arguments, at_stores, all_at_stores}
 use Rattle.sm_term.specs.Fresh.{IsBelow, AreBelow, IsFormBelow, AreFormsBelow}
 use Rattle.sm_term.proofs.Below.{tree_later, forms_later, below_append}
 use Rattle.sm_deps.specs.Inputs.{inputs}
 use Rattle.sm_plan.specs.Copies.{Copies, copies, has, no_copies}
-use Rattle.sm_plan.specs.Statements.{guard_of}
+use Rattle.sm_plan.specs.Statements.{loop_guard}
 use Rattle.sm_plan.specs.States.{State, place, keeps_goals, start_store, start_facts, start_state}
 use Rattle.sm_plan.specs.Successors as next
 use Rattle.sm_plan.specs.SoundStates.{IsStateBelow, AreStatesBelow}
@@ -38,7 +38,7 @@ term_below k (syntax.Minus d e) s b = (term_below k d s b, term_below k e s b)
 term_below k (syntax.Times d e) s b = (term_below k d s b, term_below k e s b)
 
 -- a comparison of terms
-compared_below : (k : ℕ) (op : Cmp) (t u : Tree) → IsBelow k t → IsBelow k u → IsFormBelow k (compared op t u)
+compared_below : (k : ℕ) (op : Cmp) (t u : Tree) → IsBelow k t → IsBelow k u → IsFormBelow k (comparison_form op t u)
 compared_below k cmp.Eq t u first second = (first, second)
 compared_below k cmp.Ne t u first second = (first, second)
 compared_below k cmp.Lt t u first second = (first, second)
@@ -195,7 +195,7 @@ guards_below : (k : ℕ) (st : State) (set turning : Copies) (s : Copy → Symbo
 guards_below k st set turning s all [] = tt
 guards_below k st set turning s all (c ∷ cs) =
     below_append k (next.guard_fact st set turning s c) (flat_map (next.guard_fact st set turning s) cs)
-    (of_one (has set c) (has turning c) (form_of (guard_of (st.rest c)) (s c)) (form_below k (guard_of (st.rest c)) (s c) (all c)))
+    (of_one (has set c) (has turning c) (form_of (loop_guard (st.rest c)) (s c)) (form_below k (loop_guard (st.rest c)) (s c) (all c)))
     (guards_below k st set turning s all cs)
   where
     of_one : (b d : Bool) (f : Assertion) → IsFormBelow k f → AreFormsBelow k (if b then (if d then f else negate f) ∷ [] else [])

@@ -5,7 +5,7 @@ use Rattle.sm_syntax.specs.Syntax.{Condition, Code, End, Skip, Assign, Write, If
 use Rattle.sm_syntax.specs.Stores.{Store, put}
 use Rattle.sm_syntax.specs.Meaning.{value_of, truth_of, and_then, turns, written, run}
 use Rattle.sm_syntax.proofs.Appends.{run-append}
-use Rattle.sm_plan.specs.Statements.{is_over, front, rest_after, is_loop, guard_of, body_of, last_guard}
+use Rattle.sm_plan.specs.Statements.{is_over, front, rest_after, is_loop, loop_guard, loop_body, last_guard}
 
 -- an end of two parts is an end of the second after one of the first
 pub ends_then : (o : Option Store) (f : Store → Option Store) (t : Store) → and_then o f ≡ Some t → (s : Store) × (o ≡ Some s) × (f s ≡ Some t)
@@ -55,7 +55,7 @@ guard_ends guard body (suc n) s t e =
     (one_turn (guard s) (body s) (turns guard body n) s t e)
 
 -- code that begins with a loop
-pub loop_is : (c : Code) → is_loop c ≡ true → c ≡ While (guard_of c) (body_of c) (rest_after 1 c)
+pub loop_is : (c : Code) → is_loop c ≡ true → c ≡ While (loop_guard c) (loop_body c) (rest_after 1 c)
 loop_is End e = absurd cc
 loop_is (Skip k) e = absurd cc
 loop_is (Assign x v k) e = absurd cc

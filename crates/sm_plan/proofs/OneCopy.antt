@@ -84,8 +84,8 @@ fork_ends n false c d k s t e = inr (refl, run-append n d k s ∙ e)
 
 -- both ways of a branch
 fork_sound : (st : State) (c : Copy) (b : Condition) (yes' no' k : Code) → st.rest c ≡ If b yes' no' k →
-    IsSound (next.branch st c (append yes' k) (form_of b (st.stores c))) →
-    IsSound (next.branch st c (append no' k) (negate (form_of b (st.stores c)))) → IsSound st
+    IsSound (next.branch_state st c (append yes' k) (form_of b (st.stores c))) →
+    IsSound (next.branch_state st c (append no' k) (negate (form_of b (st.stores c)))) → IsSound st
 fork_sound st c b first second k is left right m end facts ends =
     let s = st.stores c in
     let σ = store_meant m s in
@@ -108,7 +108,7 @@ both_ways_sound st c (Assign x v k) q is e all = absurd cc
 both_ways_sound st c (Write a i v k) q is e all = absurd cc
 both_ways_sound st c (If b first second k) q is e all =
     let f = form_of b (st.stores c) in
-    let states = next.branch st c (append first k) f ∷ next.branch st c (append second k) (negate f) ∷ [] in
+    let states = next.branch_state st c (append first k) f ∷ next.branch_state st c (append second k) (negate f) ∷ [] in
     let same : follows states ≡ q = same_Some (follows states) q e in
     let both : AreSound states = subst (λ (r : Opened). AreSound r.states) (sym same) all in
     fork_sound st c b first second k is both.0 both.1.0
@@ -150,7 +150,7 @@ false_guard_holds m n c σ u s end same (Some b) e =
     ((contrary m (form_of b s)).1 (λ (h : Holds m (form_of b s)). let g = (form_means m b s).0 h in absurd cc), tt)
 
 -- a summary
-pub summary_sound : (st : State) (c : Copy) (n : ℕ) → IsSound (next.summary st c (front n (st.rest c)) (rest_after n (st.rest c))) → IsSound st
+pub summary_sound : (st : State) (c : Copy) (n : ℕ) → IsSound (next.summary_state st c (front n (st.rest c)) (rest_after n (st.rest c))) → IsSound st
 summary_sound st c n follows =
     let done = front n (st.rest c) in
     let s = next.summarized done (st.stores c) in

@@ -14,7 +14,7 @@ use Rattle.sm_plan.specs.Statements.{is_over, is_long, front, rest_after, is_loo
 use Rattle.sm_plan.specs.Limits.{is_kept}
 use Rattle.sm_plan.specs.States.{State}
 use Rattle.sm_plan.specs.Successors as next
-use Rattle.sm_plan.specs.Nodes.{Node, Step, Abs, Fork, Loop, Block, Dead, Ends, Unfit, Opened, follows, asked, where_true, after_step, both_ways, opens, IsFreshAt}
+use Rattle.sm_plan.specs.Nodes.{Node, Step, Abs, Fork, Loop, Block, Dead, Ends, Unfit, Opened, follows, asks, where_true, after_step, both_ways, opens, IsFreshAt}
 use Rattle.sm_plan.specs.Plans.{AllValid}
 use Rattle.sm_plan.specs.SoundStates.{IsSound, AreSound, IsStateBelow, AreStatesBelow}
 use Rattle.sm_plan.proofs.OneCopy.{step_sound, both_ways_sound, summary_sound}
@@ -40,7 +40,7 @@ node_sound k st (Step c) q below fresh e valid all =
     let states : AreSound (next.moved st c p.0.0 p.0.1 ∷ []) = subst (λ (r : Opened). AreSound r.states) (sym p.2) all in
     step_sound st c p.0 p.1 states.0
 node_sound k st (Abs c n) q below fresh e valid all =
-    let r = follows (next.summary st c (front n (st.rest c)) (rest_after n (st.rest c)) ∷ []) in
+    let r = follows (next.summary_state st c (front n (st.rest c)) (rest_after n (st.rest c)) ∷ []) in
     let p = where_true_is (nat_le 1 n && is_long n (st.rest c)) r q e in
     let states : AreSound r.states = subst (λ (o : Opened). AreSound o.states) (sym p.1) all in
     summary_sound st c n states.0
@@ -60,11 +60,11 @@ node_sound k st (Block counts keep) q below fresh e valid all =
     let states : AreSound r.states = subst (λ (o : Opened). AreSound o.states) (sym p.1) all in
     block_sound k st counts keep below fresh states.0 states.1.0
 node_sound k st Dead q below fresh e valid all =
-    let goals : AllValid st.facts (No ∷ []) = subst (λ (o : Opened). AllValid st.facts o.goals) (sym (same_Some (asked (No ∷ [])) q e)) valid in
+    let goals : AllValid st.facts (No ∷ []) = subst (λ (o : Opened). AllValid st.facts o.goals) (sym (same_Some (asks (No ∷ [])) q e)) valid in
     λ m end facts ends. absurd (goals.0 m facts)
 node_sound k st Ends q below fresh e valid all =
     let goals = all_at_stores st.stores st.target in
-    let p = where_true_is (each (λ (c : Copy). is_over (st.rest c))) (asked goals) q e in
+    let p = where_true_is (each (λ (c : Copy). is_over (st.rest c))) (asks goals) q e in
     ends_sound st p.0 (subst (λ (o : Opened). AllValid st.facts o.goals) (sym p.1) valid)
 node_sound k st (Unfit rule) q below fresh e valid all = absurd cc
 
@@ -77,7 +77,7 @@ both_ways_below k st c (Write a i v r) q below e = absurd cc
 both_ways_below k st c (If b first second r) q below e =
     let s = st.stores c in
     let f = form_of b s in
-    let states = next.branch st c (append first r) f ∷ next.branch st c (append second r) (negate f) ∷ [] in
+    let states = next.branch_state st c (append first r) f ∷ next.branch_state st c (append second r) (negate f) ∷ [] in
     let fact = form_below k b s (below.stores c) in
     subst (λ (o : Opened). AreStatesBelow k o.states) (same_Some (follows states) q e)
     (moved_below k st c (append first r) s (f ∷ []) below (below.stores c) (fact, tt), (moved_below k st c (append second r) s (negate f ∷ []) below (below.stores c) (negate_below k f fact, tt), tt))
@@ -99,7 +99,7 @@ node_below k st (Step c) q below fresh e =
 node_below k st (Abs c n) q below fresh e =
     let done = front n (st.rest c) in
     let s = next.summarized done (st.stores c) in
-    let p = where_true_is (nat_le 1 n && is_long n (st.rest c)) (follows (next.summary st c done (rest_after n (st.rest c)) ∷ [])) q e in
+    let p = where_true_is (nat_le 1 n && is_long n (st.rest c)) (follows (next.summary_state st c done (rest_after n (st.rest c)) ∷ [])) q e in
     let store = summarized_below k done (st.stores c) (below.stores c) in
     later_all k q.states
     (subst (λ (r : Opened). AreStatesBelow k r.states) p.1
@@ -115,9 +115,9 @@ node_below k st (Loop set keep) q below fresh e =
 node_below k st (Block counts keep) q below fresh e =
     let p = where_true_is (each (λ (c : Copy). is_long (counts c) (st.rest c)) && is_kept keep) (follows (next.inner_state st counts keep ∷ next.after_block_state st k counts keep ∷ [])) q e in
     subst (λ (r : Opened). AreStatesBelow (suc k) r.states) p.1 (inner_below k st counts keep below fresh, (behind_below k st counts keep below fresh, tt))
-node_below k st Dead q below fresh e = subst (λ (r : Opened). AreStatesBelow (suc k) r.states) (same_Some (asked (No ∷ [])) q e) tt
+node_below k st Dead q below fresh e = subst (λ (r : Opened). AreStatesBelow (suc k) r.states) (same_Some (asks (No ∷ [])) q e) tt
 node_below k st Ends q below fresh e =
-    let p = where_true_is (each (λ (c : Copy). is_over (st.rest c))) (asked (all_at_stores st.stores st.target)) q e in
+    let p = where_true_is (each (λ (c : Copy). is_over (st.rest c))) (asks (all_at_stores st.stores st.target)) q e in
     subst (λ (r : Opened). AreStatesBelow (suc k) r.states) p.1 tt
 node_below k st (Unfit rule) q below fresh e = absurd cc
 
@@ -130,7 +130,7 @@ both_ways_goals k st c (Write a i v r) q e = absurd cc
 both_ways_goals k st c (If b first second r) q e =
     let s = st.stores c in
     let f = form_of b s in
-    let states = next.branch st c (append first r) f ∷ next.branch st c (append second r) (negate f) ∷ [] in
+    let states = next.branch_state st c (append first r) f ∷ next.branch_state st c (append second r) (negate f) ∷ [] in
     subst (λ (o : Opened). AreFormsBelow (suc k) o.goals) (same_Some (follows states) q e) tt
 both_ways_goals k st c (While b body r) q e = absurd cc
 both_ways_goals k st c (Hole h r) q e = absurd cc
@@ -141,7 +141,7 @@ node_goals_below k st (Step c) q below fresh e =
     let p = after_step_is st c (next.stepped (st.rest c) (st.stores c)) q e in
     subst (λ (r : Opened). AreFormsBelow (suc k) r.goals) p.2 tt
 node_goals_below k st (Abs c n) q below fresh e =
-    let p = where_true_is (nat_le 1 n && is_long n (st.rest c)) (follows (next.summary st c (front n (st.rest c)) (rest_after n (st.rest c)) ∷ [])) q e in
+    let p = where_true_is (nat_le 1 n && is_long n (st.rest c)) (follows (next.summary_state st c (front n (st.rest c)) (rest_after n (st.rest c)) ∷ [])) q e in
     subst (λ (r : Opened). AreFormsBelow (suc k) r.goals) p.1 tt
 node_goals_below k st (Fork c) q below fresh e = both_ways_goals k st c (st.rest c) q e
 node_goals_below k st (Loop set keep) q below fresh e =
@@ -154,10 +154,10 @@ node_goals_below k st (Loop set keep) q below fresh e =
 node_goals_below k st (Block counts keep) q below fresh e =
     let p = where_true_is (each (λ (c : Copy). is_long (counts c) (st.rest c)) && is_kept keep) (follows (next.inner_state st counts keep ∷ next.after_block_state st k counts keep ∷ [])) q e in
     subst (λ (r : Opened). AreFormsBelow (suc k) r.goals) p.1 tt
-node_goals_below k st Dead q below fresh e = subst (λ (r : Opened). AreFormsBelow (suc k) r.goals) (same_Some (asked (No ∷ [])) q e) (tt, tt)
+node_goals_below k st Dead q below fresh e = subst (λ (r : Opened). AreFormsBelow (suc k) r.goals) (same_Some (asks (No ∷ [])) q e) (tt, tt)
 node_goals_below k st Ends q below fresh e =
     let goals = all_at_stores st.stores st.target in
-    let p = where_true_is (each (λ (c : Copy). is_over (st.rest c))) (asked goals) q e in
+    let p = where_true_is (each (λ (c : Copy). is_over (st.rest c))) (asks goals) q e in
     subst (λ (r : Opened). AreFormsBelow (suc k) r.goals) p.1
     (forms_later k (suc k) (omega arith) goals (all_at_stores_below k st.stores below.stores st.target below.target))
 node_goals_below k st (Unfit rule) q below fresh e = absurd cc

@@ -10,7 +10,7 @@ use Rattle.sm_term.specs.Structures.{Structure, meaning}
 use Rattle.sm_term.specs.Assertions.{Assertion, Le, Lt, Holds, AllHold}
 use Rattle.sm_plan.specs.Limits.{is_kept, is_shallow}
 use Rattle.sm_plan.specs.Plans.{IsFresh, obligations, AllDischarged}
-use Rattle.sm_plan.specs.Example.{i, n, x, example_task, example_plan, example_dues, summary, head_with}
+use Rattle.sm_plan.specs.Example.{i, n, x, example_task, example_plan, example_dues, loop_summary, head_with}
 
 -- the obligations are computed
 pub example_obligations : obligations example_task example_plan ≡ Ok example_dues
@@ -51,7 +51,7 @@ example_discharged = (
               (
                 λ (m : Structure) h.
                     let p = at_head m (Le (Start n) (Havoc 2 A i)) (Le (Start n) (Havoc 2 M i)) h in
-                    λ first second. first (λ (e : number (meaning m (summary x)) ≡ number (m.havoc 2 A x)). second (λ left right. right (sym p.1 ∙ sym e))),
+                    λ first second. first (λ (e : number (meaning m (loop_summary x)) ≡ number (m.havoc 2 A x)). second (λ left right. right (sym p.1 ∙ sym e))),
                 tt,
               ),
             ),

@@ -65,15 +65,15 @@ unequal_turns =
     task_with (λ (k : Code). Assign 0 (Lit (pos 0)) k) (counts_to (Var 1)) (counts_to (Plus (Var 1) (Lit (pos 1)))) (counts_to (Var 1)) (counts_to (Var 1))
 
 -- goes on with what a node opens
-abbrev pub go_on : Option Opened → (Opened → Option (List State)) → Option (List State)
-go_on None f = None
-go_on (Some q) f = f q
+abbrev pub opened_then : Option Opened → (Opened → Option (List State)) → Option (List State)
+opened_then None f = None
+opened_then (Some q) f = f q
 
 -- what is pending after nodes, where each fits
 abbrev pub pending_after : ℕ → List State → List Node → Option (List State)
 pending_after k states [] = Some states
 pending_after k [] (node ∷ nodes) = None
-pending_after k (st ∷ states) (node ∷ nodes) = go_on (opens k st node) (λ (q : Opened). pending_after (suc k) (q.states ++ states) nodes)
+pending_after k (st ∷ states) (node ∷ nodes) = opened_then (opens k st node) (λ (q : Opened). pending_after (suc k) (q.states ++ states) nodes)
 
 -- each copy before its loop, the four loops, and the body of the base; fifteen turns and what is after the loops are pending
 abbrev pub first_nodes : List Node

@@ -66,8 +66,8 @@ example_plan =
     (More (At Ends Over) Over))))))
 
 -- the summary of a name after the loop of the base, which is that of B
-abbrev pub summary : ℕ → Tree
-summary y = Fun (loop_with (Assign x (Plus (Var x) (syntax.Lit (pos 1))) (Assign i (Plus (Var i) (syntax.Lit (pos 1))) End))) y
+abbrev pub loop_summary : ℕ → Tree
+loop_summary y = Fun (loop_with (Assign x (Plus (Var x) (syntax.Lit (pos 1))) (Assign i (Plus (Var i) (syntax.Lit (pos 1))) End))) y
     (Given i (Start i) (Given n (Start n) (Given x (Start x) term.Over)))
 
 -- the same for i, which doesn't need x
@@ -98,9 +98,9 @@ example_dues =
       node = 10;
       facts = head_with (Le (Start n) (Havoc 2 A i)) (Le (Start n) (Havoc 2 M i));
       goals =
-          Or (Eq Num (summary x) (Havoc 2 A x)) (Eq Num (Havoc 2 M x) (Havoc 2 A x))
-          ∷ Or (Eq Num (summary x) (summary x)) (Eq Num (Havoc 2 M x) (summary x))
-          ∷ Or (Ne Num (summary x) (Havoc 2 A x)) (Or (Ne Num (Havoc 2 A x) (summary x)) (Eq Num (Havoc 2 M x) (summary x)))
+          Or (Eq Num (loop_summary x) (Havoc 2 A x)) (Eq Num (Havoc 2 M x) (Havoc 2 A x))
+          ∷ Or (Eq Num (loop_summary x) (loop_summary x)) (Eq Num (Havoc 2 M x) (loop_summary x))
+          ∷ Or (Ne Num (loop_summary x) (Havoc 2 A x)) (Or (Ne Num (Havoc 2 A x) (loop_summary x)) (Eq Num (Havoc 2 M x) (loop_summary x)))
           ∷ [];
       is_final = true;
     }

@@ -41,8 +41,8 @@ abbrev pub follows : List State → Opened
 follows states = record { goals = []; states = states }
 
 -- goals alone
-abbrev pub asked : List Assertion → Opened
-asked goals = record { goals = goals; states = [] }
+abbrev pub asks : List Assertion → Opened
+asks goals = record { goals = goals; states = [] }
 
 -- this, where a test passes
 abbrev pub where_true : Bool → Opened → Option Opened
@@ -61,7 +61,7 @@ both_ways st c (Assign x e k) = None
 both_ways st c (Write a i e k) = None
 both_ways st c (If b first second k) =
     let f = form_of b (st.stores c) in
-    Some (follows (next.branch st c (append first k) f ∷ next.branch st c (append second k) (negate f) ∷ []))
+    Some (follows (next.branch_state st c (append first k) f ∷ next.branch_state st c (append second k) (negate f) ∷ []))
 both_ways st c (While b body k) = None
 both_ways st c (Hole h k) = None
 
@@ -70,7 +70,7 @@ abbrev pub opens : ℕ → State → Node → Option Opened
 opens k st (Step c) = after_step st c (next.stepped (st.rest c) (st.stores c))
 opens k st (Abs c n) =
     where_true (nat_le 1 n && is_long n (st.rest c))
-    (follows (next.summary st c (front n (st.rest c)) (rest_after n (st.rest c)) ∷ []))
+    (follows (next.summary_state st c (front n (st.rest c)) (rest_after n (st.rest c)) ∷ []))
 opens k st (Fork c) = both_ways st c (st.rest c)
 opens k st (Loop set keep) =
     where_true (is_inhabited set && (each (λ (c : Copy). not (has set c) || is_loop (st.rest c)) && is_kept keep))
@@ -78,8 +78,8 @@ opens k st (Loop set keep) =
 opens k st (Block counts keep) =
     where_true (each (λ (c : Copy). is_long (counts c) (st.rest c)) && is_kept keep)
     (follows (next.inner_state st counts keep ∷ next.after_block_state st k counts keep ∷ []))
-opens k st Dead = Some (asked (No ∷ []))
-opens k st Ends = where_true (each (λ (c : Copy). is_over (st.rest c))) (asked (all_at_stores st.stores st.target))
+opens k st Dead = Some (asks (No ∷ []))
+opens k st Ends = where_true (each (λ (c : Copy). is_over (st.rest c))) (asks (all_at_stores st.stores st.target))
 opens k st (Unfit rule) = None
 
 -- the kept formula names no new value of node k or of a later one

@@ -23,13 +23,13 @@ first_of (code.While b c k) = Some (While b c, k)
 first_of (code.Hole h k) = Some (Hole h, k)
 
 -- a statement before code
-abbrev pub before : Statement → Code → Code
-before Skip k = code.Skip k
-before (Assign x e) k = code.Assign x e k
-before (Write a i e) k = code.Write a i e k
-before (If b c d) k = code.If b c d k
-before (While b c) k = code.While b c k
-before (Hole h) k = code.Hole h k
+abbrev pub put_before : Statement → Code → Code
+put_before Skip k = code.Skip k
+put_before (Assign x e) k = code.Assign x e k
+put_before (Write a i e) k = code.Write a i e k
+put_before (If b c d) k = code.If b c d k
+put_before (While b c) k = code.While b c k
+put_before (Hole h) k = code.Hole h k
 
 -- what a function gives for a first statement and the code after it, or a value where there is none
 abbrev pub by_first : {T : Type 0} → T → (Statement → Code → T) → Option (Statement × Code) → T
@@ -48,7 +48,7 @@ is_long (suc n) c = by_first false (λ (s : Statement) (k : Code). is_long n k) 
 -- the first n statements
 abbrev pub front : ℕ → Code → Code
 front zero c = End
-front (suc n) c = by_first End (λ (s : Statement) (k : Code). before s (front n k)) (first_of c)
+front (suc n) c = by_first End (λ (s : Statement) (k : Code). put_before s (front n k)) (first_of c)
 
 -- the code after them
 abbrev pub rest_after : ℕ → Code → Code
@@ -83,12 +83,12 @@ body_in None = End
 body_in (Some p) = p.1
 
 -- the guard of the loop that code begins with
-abbrev pub guard_of : Code → Condition
-guard_of c = guard_in (first_loop c)
+abbrev pub loop_guard : Code → Condition
+loop_guard c = guard_in (first_loop c)
 
 -- its body
-abbrev pub body_of : Code → Code
-body_of c = body_in (first_loop c)
+abbrev pub loop_body : Code → Code
+loop_body c = body_in (first_loop c)
 
 -- the guard of the last statement, where that is a loop
 abbrev pub last_guard : Code → Option Condition

@@ -11,7 +11,7 @@ use Rattle.sm_term.specs.Assertions.{Assertion, negate, conj}
 use Rattle.sm_term.specs.Symbolic.{SymbolicStore, with_term, term_of, form_of}
 use Rattle.sm_term.specs.Slots.{all_at_stores}
 use Rattle.sm_plan.specs.Copies.{Copies, has, with_copy, copies, no_copies}
-use Rattle.sm_plan.specs.Statements.{front, rest_after, guard_of, body_of, last_guard}
+use Rattle.sm_plan.specs.Statements.{front, rest_after, loop_guard, loop_body, last_guard}
 use Rattle.sm_plan.specs.States.{State}
 
 -- what is left of code that begins with skip or an assignment, and the symbolic store after that statement
@@ -47,14 +47,14 @@ false_guard None s = []
 false_guard (Some b) s = negate (form_of b s) ∷ []
 
 -- copy c has done code, with k left
-abbrev pub summary : State → Copy → Code → Code → State
-summary st c done k =
+abbrev pub summary_state : State → Copy → Code → Code → State
+summary_state st c done k =
     let s = summarized done (st.stores c) in
     with_facts (moved st c k s) (false_guard (last_guard done) s)
 
 -- copy c goes on by code where a fact holds
-abbrev pub branch : State → Copy → Code → Assertion → State
-branch st c k fact = with_facts (moved st c k (st.stores c)) (fact ∷ [])
+abbrev pub branch_state : State → Copy → Code → Assertion → State
+branch_state st c k fact = with_facts (moved st c k (st.stores c)) (fact ∷ [])
 
 -- each name that a copy's code assigns has a new value of node k
 abbrev pub renewed : ℕ → (Copy → Code) → (Copy → SymbolicStore) → Copy → SymbolicStore
@@ -62,7 +62,7 @@ renewed k done stores c x = if assigns (done c) x then Havoc k c x else stores c
 
 -- the body of the loop of each copy of a set, nothing for the others
 abbrev pub bodies : State → Copies → Copy → Code
-bodies st set c = if has set c then body_of (st.rest c) else End
+bodies st set c = if has set c then loop_body (st.rest c) else End
 
 -- what is left after the loops of a set's copies
 abbrev pub rest_after_loops : State → Copies → Copy → Code
@@ -75,7 +75,7 @@ head_stores st k set = renewed k (bodies st set) st.stores
 -- of a copy of the set, that its guard is true where it takes a turn, and false where it doesn't
 abbrev pub guard_fact : State → Copies → Copies → (Copy → SymbolicStore) → Copy → List Assertion
 guard_fact st set turning stores c =
-    let f = form_of (guard_of (st.rest c)) (stores c) in
+    let f = form_of (loop_guard (st.rest c)) (stores c) in
     if has set c then (if has turning c then f else negate f) ∷ [] else []
 
 -- the facts at the head of the loops of a set: the kept formula, and which guards are true

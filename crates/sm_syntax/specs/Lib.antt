@@ -3,6 +3,7 @@ pub mod Views
 pub mod Stores
 pub mod Meaning
 pub mod Sorts
+pub mod SameAs
 pub mod Fill
 pub mod Keeps
 pub mod ConflictFree

@@ -5,9 +5,10 @@ use Rattle.sm_syntax.specs.declared.tree.Sort.{Sort}
 use Rattle.sm_syntax.specs.Stores.{Value, number, Store}
 use Rattle.sm_syntax.specs.Meaning.{run}
 use Rattle.sm_syntax.specs.ConflictFree.{Copy}
+use Rattle.sm_syntax.specs.SameAs.{SameAs}
 use Rattle.sm_term.specs.Terms.{Tree, Lit, Start, Havoc, Slot, Cell, Read, Write, Neg, Add, Sub, Mul, Fun, Arguments, Over, Given}
 use Rattle.sm_term.specs.Structures.{Structure, value_at, meaning, store_given, with_slots}
-use Rattle.sm_term.specs.Assertions.{Assertion, Yes, No, Eq, Ne, Le, Lt, And, Or, Same, Holds, AllHold}
+use Rattle.sm_term.specs.Assertions.{Assertion, Yes, No, Eq, Ne, Le, Lt, And, Or, Holds, AllHold}
 use Rattle.sm_term.specs.Symbolic.{SymbolicStore, store_meant}
 use Rattle.sm_term.specs.Slots.{fill_term, fill_arguments, at_stores, all_at_stores}
 
@@ -37,8 +38,8 @@ mutual
   filled_given m s (Given x t rest) = rw (filled_means m s t, filled_given m s rest) refl
 
 -- what one meaning of two terms says of both meanings
-pub same_at : (sort : Sort) (v w x y : Value) → v ≡ x → w ≡ y → Same sort v w ↔ Same sort x y
-same_at sort v w x y first second = rw (first, second) (λ (h : Same sort x y). h, λ (h : Same sort x y). h)
+pub same_at : (sort : Sort) (v w x y : Value) → v ≡ x → w ≡ y → SameAs sort v w ↔ SameAs sort x y
+same_at sort v w x y first second = rw (first, second) (λ (h : SameAs sort x y). h, λ (h : SameAs sort x y). h)
 
 -- both of two
 pub both_at : (P Q R S : Type 0) → P ↔ R → Q ↔ S → (P × Q) ↔ (R × S)

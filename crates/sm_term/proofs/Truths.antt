@@ -14,10 +14,11 @@ use Rattle.sm_syntax.specs.Syntax as syntax
 use Rattle.sm_syntax.specs.Syntax.{Expression, Condition}
 use Rattle.sm_syntax.specs.Stores.{Value, number, array}
 use Rattle.sm_syntax.specs.Meaning.{relation, truth_of}
+use Rattle.sm_syntax.specs.SameAs.{SameAs}
 use Rattle.sm_term.specs.Terms.{Tree}
 use Rattle.sm_term.specs.Structures.{Structure, meaning}
-use Rattle.sm_term.specs.Assertions.{Assertion, Yes, No, Eq, Ne, Le, Lt, And, Or, Same, Holds, AllHold, IsValid, IsRefuted, negate, conj}
-use Rattle.sm_term.specs.Symbolic.{SymbolicStore, store_meant, term_of, compared, form_of}
+use Rattle.sm_term.specs.Assertions.{Assertion, Yes, No, Eq, Ne, Le, Lt, And, Or, Holds, AllHold, IsValid, IsRefuted, negate, conj}
+use Rattle.sm_term.specs.Symbolic.{SymbolicStore, store_meant, term_of, comparison_form, form_of}
 use Rattle.sm_term.proofs.Values.{term_means}
 
 -- numbers that can't differ are equal
@@ -25,7 +26,7 @@ equal : (y z : ℤ) → ((y ≡ z → ⊥) → ⊥) → y ≡ z
 equal y z may = ⊎_elim (λ (e : y ≡ z). e) (λ (d : y ≡ z → ⊥). absurd (may d)) (int_cases y z)
 
 -- values that can't differ are the same
-same : (sort : Sort) (v w : Value) → ((Same sort v w → ⊥) → ⊥) → Same sort v w
+same : (sort : Sort) (v w : Value) → ((SameAs sort v w → ⊥) → ⊥) → SameAs sort v w
 same Num v w may = equal (number v) (number w) may
 same Arr v w may = λ (i : ℤ). equal (array v i) (array w i) (λ (d : array v i ≡ array w i → ⊥). may (λ (s : (j : ℤ) → array v j ≡ array w j). d (s i)))
 
@@ -46,7 +47,7 @@ pub stable : (m : Structure) (f : Assertion) → ((Holds m f → ⊥) → ⊥) �
 stable m Yes may = tt
 stable m No may = may (λ (h : ⊥). h)
 stable m (Eq sort t u) may = same sort (meaning m t) (meaning m u) may
-stable m (Ne sort t u) may = λ (h : Same sort (meaning m t) (meaning m u)). may (λ (never : Same sort (meaning m t) (meaning m u) → ⊥). never h)
+stable m (Ne sort t u) may = λ (h : SameAs sort (meaning m t) (meaning m u)). may (λ (never : SameAs sort (meaning m t) (meaning m u) → ⊥). never h)
 stable m (Le t u) may =
     at_most (number (meaning m t)) (number (meaning m u)) (λ (h : number (meaning m u) <ℤ number (meaning m t)). may (apart (number (meaning m u)) (number (meaning m t)) h))
 stable m (Lt t u) may =
@@ -61,9 +62,9 @@ pub contrary : (m : Structure) (f : Assertion) → Holds m (negate f) ↔ (Holds
 contrary m Yes = (λ (h : ⊥). absurd h, λ (never : Unit {0} → ⊥). never tt)
 contrary m No = (λ (h : Unit {0}) (g : ⊥). g, λ (never : ⊥ → ⊥). tt)
 contrary m (Eq sort t u) =
-    (λ (h : Same sort (meaning m t) (meaning m u) → ⊥). h, λ (h : Same sort (meaning m t) (meaning m u) → ⊥). h)
+    (λ (h : SameAs sort (meaning m t) (meaning m u) → ⊥). h, λ (h : SameAs sort (meaning m t) (meaning m u) → ⊥). h)
 contrary m (Ne sort t u) =
-    (λ (h : Same sort (meaning m t) (meaning m u)) (never : Same sort (meaning m t) (meaning m u) → ⊥). never h, same sort (meaning m t) (meaning m u))
+    (λ (h : SameAs sort (meaning m t) (meaning m u)) (never : SameAs sort (meaning m t) (meaning m u) → ⊥). never h, same sort (meaning m t) (meaning m u))
 contrary m (Le t u) = (
   λ (h : number (meaning m u) <ℤ number (meaning m t)). apart (number (meaning m u)) (number (meaning m t)) h,
   below (number (meaning m u)) (number (meaning m t)),
@@ -133,7 +134,7 @@ not_equal y z differ =
     (cases_Bool (int_eq y z))
 
 -- how two numbers compare, as a formula says it and as a test does
-pub compares : (op : Cmp) (m : Structure) (t u : Tree) → Holds m (compared op t u) ↔ IsTrue (relation op (number (meaning m t)) (number (meaning m u)))
+pub compares : (op : Cmp) (m : Structure) (t u : Tree) → Holds m (comparison_form op t u) ↔ IsTrue (relation op (number (meaning m t)) (number (meaning m u)))
 compares cmp.Eq m t u = let d = Decides-int_eq (number (meaning m t)) (number (meaning m u)) in (d.1, d.0)
 compares cmp.Ne m t u =
     let y = number (meaning m t) in

@@ -1,9 +1,9 @@
 -- Formulas over terms, and when they hold in a structure. `Or` is read by cases that can't both fail, so that each
 -- formula holds where it can't fail.
-use Rattle.std.specs.Prelude.{◌≡◌, ℤ, ◌≤ℤ◌, ◌<ℤ◌, List, [], ◌∷◌, ◌++◌}
+use Rattle.std.specs.Prelude.{◌≤ℤ◌, ◌<ℤ◌, List, [], ◌∷◌, ◌++◌}
 use Rattle.sm_syntax.specs.declared.tree.Sort.{Sort}
-use Rattle.sm_syntax.specs.declared.tree.Sort.TheVariants.{Num, Arr}
-use Rattle.sm_syntax.specs.Stores.{Value, number, array}
+use Rattle.sm_syntax.specs.SameAs.{SameAs}
+use Rattle.sm_syntax.specs.Stores.{number}
 use Rattle.sm_term.specs.Terms.{Tree}
 use Rattle.sm_term.specs.Structures.{Structure, meaning}
 
@@ -14,17 +14,12 @@ pub data Assertion : Type 0 where
   Le Lt : Tree → Tree → Assertion
   And Or : Assertion → Assertion → Assertion
 
--- two values are the same as numbers, or as arrays at each index
-abbrev pub Same : Sort → Value → Value → Type 0
-Same Num v w = number v ≡ number w
-Same Arr v w = (i : ℤ) → array v i ≡ array w i
-
 -- a formula holds in a structure
 abbrev pub Holds : Structure → Assertion → Type 0
 Holds m Yes = Unit {0}
 Holds m No = ⊥
-Holds m (Eq sort t u) = Same sort (meaning m t) (meaning m u)
-Holds m (Ne sort t u) = Same sort (meaning m t) (meaning m u) → ⊥
+Holds m (Eq sort t u) = SameAs sort (meaning m t) (meaning m u)
+Holds m (Ne sort t u) = SameAs sort (meaning m t) (meaning m u) → ⊥
 Holds m (Le t u) = number (meaning m t) ≤ℤ number (meaning m u)
 Holds m (Lt t u) = number (meaning m t) <ℤ number (meaning m u)
 Holds m (And p q) = Holds m p × Holds m q

@@ -33,19 +33,19 @@ term_of (syntax.Minus d e) s = Sub (term_of d s) (term_of e s)
 term_of (syntax.Times d e) s = Mul (term_of d s) (term_of e s)
 
 -- the formula that says how two terms compare
-abbrev pub compared : Cmp → Tree → Tree → Assertion
-compared cmp.Eq t u = Eq Num t u
-compared cmp.Ne t u = Ne Num t u
-compared cmp.Lt t u = Lt t u
-compared cmp.Le t u = Le t u
-compared cmp.Gt t u = Lt u t
-compared cmp.Ge t u = Le u t
+abbrev pub comparison_form : Cmp → Tree → Tree → Assertion
+comparison_form cmp.Eq t u = Eq Num t u
+comparison_form cmp.Ne t u = Ne Num t u
+comparison_form cmp.Lt t u = Lt t u
+comparison_form cmp.Le t u = Le t u
+comparison_form cmp.Gt t u = Lt u t
+comparison_form cmp.Ge t u = Le u t
 
 -- the formula of a condition
 abbrev pub form_of : Condition → SymbolicStore → Assertion
 form_of syntax.Yes s = Yes
 form_of syntax.No s = No
-form_of (syntax.Compare op d e) s = compared op (term_of d s) (term_of e s)
+form_of (syntax.Compare op d e) s = comparison_form op (term_of d s) (term_of e s)
 form_of (syntax.Not b) s = negate (form_of b s)
 form_of (syntax.And b c) s = And (form_of b s) (form_of c s)
 form_of (syntax.Or b c) s = Or (form_of b s) (form_of c s)

@@ -7,7 +7,7 @@ use Rattle.sm_syntax.specs.Views.{expression_of, condition_of, sequence, stateme
 use Rattle.sm_syntax.proofs.Statements.{statement_of-Assign, statement_of-Store}
 use Rattle.sm_deps.specs.declared.loops.Loops.{Loops}
 use Rattle.sm_deps.specs.Inputs.{needed}
-use Rattle.sm_deps.specs.Loops.{loops_in, GoesOver, Keeps}
+use Rattle.sm_deps.specs.Loops.{loops_in, GoesOver, KeepsSet}
 use Rattle.sm_deps.specs.Names.{mentions, tests}
 use Rattle.sm_deps.specs.Members.{members, either}
 use Rattle.sm_deps.proofs.KeptSets.{over_append, over_plain, over_choice, over_loop, one_turn, last_turn}
@@ -117,7 +117,7 @@ before_loop-returns t c =
     (λ kept.
     over_loop (condition_of c.args.b.now) (code_of c.args.c.now) wanted (members c.add_cond.new.names) (members c.resume.new.names) settled one c.resume.new.loops three four
     c.in_ok-add_cond.ensures c.in_ok-number.ensures.set c.in_ok-before_turns.ensures
-    (subst (λ (n : ℕ). Keeps n settled three four) c.in_ok-number.ensures.number kept))
+    (subst (λ (n : ℕ). KeepsSet n settled three four) c.in_ok-number.ensures.number kept))
 
 -- a turn that adds nothing is the last
 pub before_turns-returns-then-len-size : goal.before_turns-returns-then-len-size
