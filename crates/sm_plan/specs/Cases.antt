@@ -1,21 +1,26 @@
--- Three cases worked by hand.
+-- Cited by public clauses: three cases worked by hand.
 --
--- A candidate that never ends: `x = 1;` in the base and in B, `x = 2;` in A, `while (true) { skip; }` in the candidate. Behind
--- the candidate's loop its guard can't be false, so there is nothing to show.
+-- A candidate that never ends: `x = 1;` in the base and in B, `x = 2;` in A, and
+-- `while (true) { skip; }` in the candidate. After the candidate's loop its guard can't be false,
+-- so there is nothing to show.
 --
--- Loops with unequal turns: `i = 0;` and then `while (i < n) { i = i + 1; }`, but `while (i < n + 1) { i = i + 1; }` in A. A turn
--- of the base alone comes first, where A has nothing to do. No plan shows this merge.
+-- Loops with unequal turns: `i = 0;` and then `while (i < n) { i = i + 1; }`, but
+-- `while (i < n + 1) { i = i + 1; }` in A. A turn of the base alone comes first, where A has
+-- nothing to do. No plan shows this merge.
 --
--- Loops with unequal steps: `while (y > 0) { x = x + 2; y = y - 1; }`, but `x = x + 1;` in A. Summaries of different code are
--- different terms. No plan shows this merge.
-use Rattle.std.specs.Prelude.{◌≡◌, ℕ, suc, pos, true, false, Option, Some, None, option_map, Ok, List, [], ◌∷◌, ◌++◌, length}
+-- Loops with unequal steps: `while (y > 0) { x = x + 2; y = y - 1; }`, but `x = x + 1;` in A.
+-- Summaries of different code are different terms. No plan shows this merge.
+use Rattle.std.specs.Prelude.{◌≡◌, ℕ, suc, pos, true, false, Option, Some, None, option_map, Ok}
+use Rattle.std.specs.Prelude.{List, [], ◌∷◌, ◌++◌, length}
 use Rattle.sm_syntax.specs.declared.tree.Cmp.TheVariants as cmp
 use Rattle.sm_syntax.specs.declared.tree.Sort.TheVariants.{Num}
-use Rattle.sm_syntax.specs.Syntax.{Condition, Code, End, Skip, Assign, While, Hole, Compare, Expression, Var, Lit, Plus, Minus}
+use Rattle.sm_syntax.specs.Syntax.{Condition, Code, End, Skip, Assign, While, Hole, Compare}
+use Rattle.sm_syntax.specs.Syntax.{Expression, Var, Lit, Plus, Minus}
 use Rattle.sm_syntax.specs.Syntax as syntax
 use Rattle.sm_syntax.specs.Parts.{by_copy}
-use Rattle.sm_syntax.specs.ConflictFree.{O, A, B, M, Task, ConflictFree}
+use Rattle.sm_syntax.specs.ConflictFree.{Copy, O, A, B, M, Task, ConflictFree}
 use Rattle.sm_term.specs.Assertions.{Yes, No}
+use Rattle.sm_plan.specs.Copies.{Copies, copies_that}
 use Rattle.sm_plan.specs.States.{State, start_state}
 use Rattle.sm_plan.specs.Nodes.{Node, Step, Loop, Dead, Ends, Opened, opens}
 use Rattle.sm_plan.specs.Plans.{Plan, At, Over, More, IsFresh, Due, obligations, AllDischarged}
@@ -32,7 +37,8 @@ task_with before o a b m = record {
 
 -- no plan shows that a task is free of conflicts
 abbrev pub IsUnprovable : Task → Type 0
-IsUnprovable t = (p : Plan) (ds : List Due) → IsFresh 0 p → obligations t p ≡ Ok ds → AllDischarged ds → ⊥
+IsUnprovable t =
+    (p : Plan) (ds : List Due) → IsFresh 0 p → obligations t p ≡ Ok ds → AllDischarged ds → ⊥
 
 -- x gets a value
 abbrev pub gives : ℕ → Code
@@ -40,7 +46,8 @@ gives z = Assign 0 (Lit (pos z)) End
 
 -- a candidate that never ends
 abbrev pub never_ends : Task
-never_ends = task_with (λ (k : Code). k) (gives 1) (gives 2) (gives 1) (While syntax.Yes (Skip End) End)
+never_ends =
+    task_with (λ (k : Code). k) (gives 1) (gives 2) (gives 1) (While syntax.Yes (Skip End) End)
 
 -- its plan: after the loop the facts can't be
 abbrev pub never_plan : Plan
@@ -53,16 +60,21 @@ never_plan =
 
 -- one obligation, with a fact that can't be
 abbrev pub NeverEndsIsFree : Type 0
-NeverEndsIsFree = (obligations never_ends never_plan ≡ Ok (record { node = 6; facts = No ∷ []; goals = No ∷ []; is_final = false } ∷ [])) × ConflictFree never_ends
+NeverEndsIsFree =
+    let due : Due = record { node = 6; facts = No ∷ []; goals = No ∷ []; is_final = false } in
+    (obligations never_ends never_plan ≡ Ok (due ∷ [])) × ConflictFree never_ends
 
 -- i counts up to a limit
 abbrev pub counts_to : Expression → Code
-counts_to limit = While (Compare cmp.Lt (Var 0) limit) (Assign 0 (Plus (Var 0) (Lit (pos 1))) End) End
+counts_to limit =
+    While (Compare cmp.Lt (Var 0) limit) (Assign 0 (Plus (Var 0) (Lit (pos 1))) End) End
 
 -- loops with unequal turns, where name 1 is n
 abbrev pub unequal_turns : Task
 unequal_turns =
-    task_with (λ (k : Code). Assign 0 (Lit (pos 0)) k) (counts_to (Var 1)) (counts_to (Plus (Var 1) (Lit (pos 1)))) (counts_to (Var 1)) (counts_to (Var 1))
+    let below : Code = counts_to (Var 1) in
+    let beyond : Code = counts_to (Plus (Var 1) (Lit (pos 1))) in
+    task_with (λ (k : Code). Assign 0 (Lit (pos 0)) k) below beyond below below
 
 -- goes on with what a node opens
 abbrev pub opened_then : Option Opened → (Opened → Option (List State)) → Option (List State)
@@ -73,11 +85,16 @@ opened_then (Some q) f = f q
 abbrev pub pending_after : ℕ → List State → List Node → Option (List State)
 pending_after k states [] = Some states
 pending_after k [] (node ∷ nodes) = None
-pending_after k (st ∷ states) (node ∷ nodes) = opened_then (opens k st node) (λ (q : Opened). pending_after (suc k) (q.states ++ states) nodes)
+pending_after k (st ∷ states) (node ∷ nodes) =
+    opened_then (opens k st node)
+    (λ (q : Opened). pending_after (suc k) (q.states ++ states) nodes)
 
--- each copy before its loop, the four loops, and the body of the base; fifteen turns and what is after the loops are pending
+-- each copy before its loop, the four loops, and the body of the base; fifteen turns and what is
+-- after the loops are pending
 abbrev pub first_nodes : List Node
-first_nodes = Step O ∷ Step A ∷ Step B ∷ Step M ∷ Loop (record { base = true; variant_a = true; variant_b = true; candidate = true }) Yes ∷ Step O ∷ []
+first_nodes =
+    let all : Copies = copies_that (λ (c : Copy). true) in
+    Step O ∷ Step A ∷ Step B ∷ Step M ∷ Loop all Yes ∷ Step O ∷ []
 
 -- then A can't take a step
 abbrev pub UnequalTurnsFail : Type 0
@@ -89,7 +106,9 @@ UnequalTurnsFail =
 -- x grows by a step while y is above 0
 abbrev pub grows_by : ℕ → Code
 grows_by z =
-    While (Compare cmp.Gt (Var 1) (Lit (pos 0))) (Assign 0 (Plus (Var 0) (Lit (pos z))) (Assign 1 (Minus (Var 1) (Lit (pos 1))) End)) End
+    While (Compare cmp.Gt (Var 1) (Lit (pos 0)))
+    (Assign 0 (Plus (Var 0) (Lit (pos z))) (Assign 1 (Minus (Var 1) (Lit (pos 1))) End))
+    End
 
 -- loops with unequal steps
 abbrev pub unequal_steps : Task

@@ -1,4 +1,4 @@
--- Sets of copies, and what is said of one copy or of each.
+-- Cited by public clauses: sets of copies, and what is said of one copy or of each.
 use Rattle.std.specs.Prelude.{Bool, true, false, ◌&&◌, ◌||◌, if◌then◌else◌, List, [], ◌∷◌, map}
 use Rattle.std.specs.List.{filter, flat_map}
 use Rattle.sm_syntax.specs.ConflictFree.{Copy, O, A, B, M}
@@ -39,7 +39,8 @@ has set M = set.candidate
 
 -- the set of the copies that pass a test
 abbrev pub copies_that : (Copy → Bool) → Copies
-copies_that test = record { base = test O; variant_a = test A; variant_b = test B; candidate = test M }
+copies_that test =
+    record { base = test O; variant_a = test A; variant_b = test B; candidate = test M }
 
 -- no copy
 abbrev pub no_copies : Copies
@@ -57,7 +58,17 @@ choices true = false ∷ true ∷ []
 -- the subsets of a set, by ascending mask: the base counts least and the candidate most
 abbrev pub all_subsets : Copies → List Copies
 all_subsets set =
-    flat_map (λ (m : Bool). flat_map (λ (b : Bool). flat_map (λ (a : Bool). map (λ (o : Bool). record { base = o; variant_a = a; variant_b = b; candidate = m }) (choices set.base)) (choices set.variant_a)) (choices set.variant_b)) (choices set.candidate)
+    flat_map
+    (λ (m : Bool).
+    flat_map
+    (λ (b : Bool).
+    flat_map
+    (λ (a : Bool).
+    map (λ (o : Bool). record { base = o; variant_a = a; variant_b = b; candidate = m })
+    (choices set.base))
+    (choices set.variant_a))
+    (choices set.variant_b))
+    (choices set.candidate)
 
 -- those that have a copy
 abbrev pub subsets : Copies → List Copies

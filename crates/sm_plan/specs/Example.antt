@@ -1,13 +1,14 @@
--- A worked plan. The shared program is `while (i < n) { ?1 i = i + 1; }`, with x = x + 1 for the hole in the base and
--- in B, and x = x + 2 in A and in the candidate; the output is x. The loops of the base and of B are one summary, and
--- those of A and of the candidate run together, with equal i and x.
+-- Cited by public clauses: a worked plan. The shared program is `while (i < n) { ?1 i = i + 1; }`,
+-- with x = x + 1 for the hole in the base and in B, and x = x + 2 in A and in the candidate; the
+-- output is x. The loops of the base and of B are one summary, and those of A and of the candidate
+-- run together, with equal i and x.
 use Rattle.std.specs.Prelude.{◌≡◌, ℕ, pos, true, false, None, Ok, List, [], ◌∷◌}
 use Rattle.sm_syntax.specs.declared.tree.Cmp.TheVariants as cmp
 use Rattle.sm_syntax.specs.declared.tree.Sort.TheVariants.{Num}
 use Rattle.sm_syntax.specs.Syntax.{Code, End, Assign, While, Hole, Compare, Var, Plus}
 use Rattle.sm_syntax.specs.Syntax as syntax
 use Rattle.sm_syntax.specs.Parts.{by_copy}
-use Rattle.sm_syntax.specs.ConflictFree.{O, A, B, M, Task, ConflictFree}
+use Rattle.sm_syntax.specs.ConflictFree.{Copy, O, A, B, M, Task, ConflictFree}
 use Rattle.sm_term.specs.Terms.{Tree, Lit, Start, Havoc, Slot, Add, Fun, Arguments, Given}
 use Rattle.sm_term.specs.Terms as term
 use Rattle.sm_term.specs.Assertions.{Assertion, No, Eq, Ne, Le, Lt, And, Or}
@@ -54,7 +55,8 @@ kept = And (Eq Num (Slot A i) (Slot M i)) (Eq Num (Slot A x) (Slot M x))
 abbrev pub then_one : Node → Plan → Plan
 then_one node p = At node (More p Over)
 
--- the plan: a turn of A alone or of the candidate alone can't be, and one of both keeps what is kept
+-- the plan: a turn of A alone or of the candidate alone can't be, and one of both keeps what is
+-- kept
 abbrev pub example_plan : Plan
 example_plan =
     then_one (Abs O 1)
@@ -62,50 +64,87 @@ example_plan =
     (At (Loop edited kept)
     (More (At Dead Over)
     (More (At Dead Over)
-    (More (then_one (Step A) (then_one (Step A) (then_one (Step M) (then_one (Step M) (At Ends Over)))))
+    (More
+    (then_one (Step A) (then_one (Step A) (then_one (Step M) (then_one (Step M) (At Ends Over)))))
     (More (At Ends Over) Over))))))
+
+-- the loop of the base
+abbrev pub base_loop : Code
+base_loop =
+    let counts : Code = Assign i (Plus (Var i) (syntax.Lit (pos 1))) End in
+    loop_with (Assign x (Plus (Var x) (syntax.Lit (pos 1))) counts)
 
 -- the summary of a name after the loop of the base, which is that of B
 abbrev pub loop_summary : ℕ → Tree
-loop_summary y = Fun (loop_with (Assign x (Plus (Var x) (syntax.Lit (pos 1))) (Assign i (Plus (Var i) (syntax.Lit (pos 1))) End))) y
+loop_summary y =
+    Fun base_loop y
     (Given i (Start i) (Given n (Start n) (Given x (Start x) term.Over)))
 
 -- the same for i, which doesn't need x
 abbrev pub counted : Tree
-counted = Fun (loop_with (Assign x (Plus (Var x) (syntax.Lit (pos 1))) (Assign i (Plus (Var i) (syntax.Lit (pos 1))) End))) i
+counted =
+    Fun base_loop i
     (Given i (Start i) (Given n (Start n) term.Over))
 
 -- the facts after both summaries, and then those of the loops, with what is said of two guards
 abbrev pub facts_with : List Assertion → List Assertion
 facts_with guards = Le (Start n) counted ∷ Le (Start n) counted ∷ guards
 
+-- those at the head of the loops
 abbrev pub head_with : Assertion → Assertion → List Assertion
-head_with of_a of_m = facts_with (Eq Num (Havoc 2 A i) (Havoc 2 M i) ∷ Eq Num (Havoc 2 A x) (Havoc 2 M x) ∷ of_a ∷ of_m ∷ [])
+head_with of_a of_m =
+    facts_with
+    (Eq Num (Havoc 2 A i) (Havoc 2 M i) ∷ Eq Num (Havoc 2 A x) (Havoc 2 M x) ∷ of_a ∷ of_m ∷ [])
+
+-- a copy goes on, or its loop has ended
+abbrev pub goes_on : Copy → Assertion
+goes_on c = Lt (Havoc 2 c i) (Start n)
+
+abbrev pub has_ended : Copy → Assertion
+has_ended c = Le (Start n) (Havoc 2 c i)
+
+-- after a turn of both, what is kept
+abbrev pub kept_goals : List Assertion
+kept_goals =
+    Eq Num (Add (Havoc 2 A i) (Lit (pos 1))) (Add (Havoc 2 M i) (Lit (pos 1)))
+    ∷ Eq Num (Add (Havoc 2 A x) (Lit (pos 2))) (Add (Havoc 2 M x) (Lit (pos 2)))
+    ∷ []
+
+-- at the ends, the goals of x
+abbrev pub end_goals : List Assertion
+end_goals =
+    let base : Tree = loop_summary x in
+    let in_a : Tree = Havoc 2 A x in
+    let in_m : Tree = Havoc 2 M x in
+    Or (Eq Num base in_a) (Eq Num in_m in_a)
+    ∷ Or (Eq Num base base) (Eq Num in_m base)
+    ∷ Or (Ne Num base in_a) (Or (Ne Num in_a base) (Eq Num in_m base))
+    ∷ []
+
+-- goals of a node that are not final
+abbrev pub inner_due : ℕ → List Assertion → List Assertion → Due
+inner_due k facts goals = record { node = k; facts = facts; goals = goals; is_final = false }
 
 -- its obligations
 abbrev pub example_dues : List Due
 example_dues =
-    record { node = 2; facts = facts_with []; goals = Eq Num (Start i) (Start i) ∷ Eq Num (Start x) (Start x) ∷ []; is_final = false }
-    ∷ record { node = 3; facts = head_with (Lt (Havoc 2 A i) (Start n)) (Le (Start n) (Havoc 2 M i)); goals = No ∷ []; is_final = false }
-    ∷ record { node = 4; facts = head_with (Le (Start n) (Havoc 2 A i)) (Lt (Havoc 2 M i) (Start n)); goals = No ∷ []; is_final = false }
-    ∷ record {
-      node = 9;
-      facts = head_with (Lt (Havoc 2 A i) (Start n)) (Lt (Havoc 2 M i) (Start n));
-      goals = Eq Num (Add (Havoc 2 A i) (Lit (pos 1))) (Add (Havoc 2 M i) (Lit (pos 1))) ∷ Eq Num (Add (Havoc 2 A x) (Lit (pos 2))) (Add (Havoc 2 M x) (Lit (pos 2))) ∷ [];
-      is_final = false;
-    }
+    inner_due 2 (facts_with []) (Eq Num (Start i) (Start i) ∷ Eq Num (Start x) (Start x) ∷ [])
+    ∷ inner_due 3 (head_with (goes_on A) (has_ended M)) (No ∷ [])
+    ∷ inner_due 4 (head_with (has_ended A) (goes_on M)) (No ∷ [])
+    ∷ inner_due 9 (head_with (goes_on A) (goes_on M)) kept_goals
     ∷ record {
       node = 10;
-      facts = head_with (Le (Start n) (Havoc 2 A i)) (Le (Start n) (Havoc 2 M i));
-      goals =
-          Or (Eq Num (loop_summary x) (Havoc 2 A x)) (Eq Num (Havoc 2 M x) (Havoc 2 A x))
-          ∷ Or (Eq Num (loop_summary x) (loop_summary x)) (Eq Num (Havoc 2 M x) (loop_summary x))
-          ∷ Or (Ne Num (loop_summary x) (Havoc 2 A x)) (Or (Ne Num (Havoc 2 A x) (loop_summary x)) (Eq Num (Havoc 2 M x) (loop_summary x)))
-          ∷ [];
+      facts = head_with (has_ended A) (has_ended M);
+      goals = end_goals;
       is_final = true;
     }
     ∷ []
 
--- the plan is fresh, these are its obligations, all of them hold in every structure, and so the task is free of conflicts
+-- the plan is fresh, these are its obligations, all of them hold in every structure, and so the
+-- task is free of conflicts
 abbrev pub ExampleHolds : Type 0
-ExampleHolds = IsFresh 0 example_plan × (obligations example_task example_plan ≡ Ok example_dues) × AllDischarged example_dues × ConflictFree example_task
+ExampleHolds =
+    IsFresh 0 example_plan
+    × (obligations example_task example_plan ≡ Ok example_dues)
+    × AllDischarged example_dues
+    × ConflictFree example_task

@@ -1,5 +1,5 @@
--- What plans prove.
-use Rattle.std.specs.Prelude.{bit_and, map, ◌==◌, ◌≡◌, ℕ, suc, Some, Ok, List, [], ◌∷◌}
+-- Cited by public clauses: what plans prove.
+use Rattle.std.specs.Prelude.{bit_and, map, ◌==◌, ◌≡◌, ℕ, suc, Some, Ok, List}
 use Rattle.std.specs.List.{filter, range_with_len}
 use Rattle.sm_syntax.specs.ConflictFree.{Task, ConflictFree}
 use Rattle.sm_term.specs.Fresh.{AreFormsBelow}
@@ -11,23 +11,34 @@ use Rattle.sm_plan.specs.Plans.{Plan, nodes_of, Due, IsFresh, obligations, AllVa
 use Rattle.sm_plan.specs.NodeLists.{NodesProve, start_pending}
 use Rattle.sm_plan.specs.SoundStates.{IsSound, AreSound, IsStateBelow, AreStatesBelow}
 
--- one node: where its goals are valid and the states that it opens are sound, its own state is sound
+-- one node: where its goals are valid and the states that it opens are sound, its own state is
 abbrev pub NodeIsSound : Type 0
 NodeIsSound =
     (k : ℕ) (st : State) (node : Node) (q : Opened) →
-    IsStateBelow k st → IsFreshAt k node → opens k st node ≡ Some q → AllValid st.facts q.goals → AreSound q.states → IsSound st
+    IsStateBelow k st →
+    IsFreshAt k node →
+    opens k st node ≡ Some q →
+    AllValid st.facts q.goals →
+    AreSound q.states →
+    IsSound st
 
 -- and these states name no new value of a node after this one
 abbrev pub NodeStaysBelow : Type 0
 NodeStaysBelow =
     (k : ℕ) (st : State) (node : Node) (q : Opened) →
-    IsStateBelow k st → IsFreshAt k node → opens k st node ≡ Some q → AreStatesBelow (suc k) q.states
+    IsStateBelow k st →
+    IsFreshAt k node →
+    opens k st node ≡ Some q →
+    AreStatesBelow (suc k) q.states
 
 -- nor do its goals
 abbrev pub NodeGoalsBelow : Type 0
 NodeGoalsBelow =
     (k : ℕ) (st : State) (node : Node) (q : Opened) →
-    IsStateBelow k st → IsFreshAt k node → opens k st node ≡ Some q → AreFormsBelow (suc k) q.goals
+    IsStateBelow k st →
+    IsFreshAt k node →
+    opens k st node ≡ Some q →
+    AreFormsBelow (suc k) q.goals
 
 -- the start of a task names no new value
 abbrev pub StartIsBelow : Type 0
@@ -39,7 +50,12 @@ SoundStartIsFree = (t : Task) → IsSound (start_state t) → ConflictFree t
 
 -- where all obligations of a fresh plan hold in every structure, the task is free of conflicts
 abbrev pub PlanIsSound : Type 0
-PlanIsSound = (t : Task) (p : Plan) (ds : List Due) → IsFresh 0 p → obligations t p ≡ Ok ds → AllDischarged ds → ConflictFree t
+PlanIsSound =
+    (t : Task) (p : Plan) (ds : List Due) →
+    IsFresh 0 p →
+    obligations t p ≡ Ok ds →
+    AllDischarged ds →
+    ConflictFree t
 
 -- where nodes prove the start of a task, the task is free of conflicts
 abbrev pub NodesAreSound : Type 0
@@ -50,18 +66,29 @@ NodesAreSound =
 abbrev pub PlanNodesProve : Type 0
 PlanNodesProve =
     (t : Task) (p : Plan) (ds : List Due) →
-    IsFresh 0 p → obligations t p ≡ Ok ds → AllDischarged ds → NodesProve 0 (start_pending t) (nodes_of p)
+    IsFresh 0 p →
+    obligations t p ≡ Ok ds →
+    AllDischarged ds →
+    NodesProve 0 (start_pending t) (nodes_of p)
 
 -- and nodes that prove the start of a task are those of such a plan
 abbrev pub NodesArePlan : Type 0
 NodesArePlan =
     (t : Task) (nodes : List Node) →
     NodesProve 0 (start_pending t) nodes →
-    (p : Plan) × (ds : List Due) × (nodes_of p ≡ nodes) × IsFresh 0 p × (obligations t p ≡ Ok ds) × AllDischarged ds
+    (p : Plan)
+    × (ds : List Due)
+    × (nodes_of p ≡ nodes)
+    × IsFresh 0 p
+    × (obligations t p ≡ Ok ds)
+    × AllDischarged ds
 
 -- the subsets of a set have ascending masks, and are those whose masks have no other bit
 abbrev pub SubsetsAscend : Type 0
-SubsetsAscend = (set : Copies) → map mask_of (subsets set) ≡ filter (λ (v : ℕ). bit_and v (mask_of set) == v) (range_with_len 1 15)
+SubsetsAscend =
+    (set : Copies) →
+    map mask_of (subsets set)
+    ≡ filter (λ (v : ℕ). bit_and v (mask_of set) == v) (range_with_len 1 15)
 
 -- a set is that of its mask
 abbrev pub MaskIsExact : Type 0

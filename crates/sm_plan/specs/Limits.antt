@@ -1,4 +1,5 @@
--- How large a kept formula may be, and how deep plans may branch. Terms don't count.
+-- Cited by public clauses: how large a kept formula may be, where terms don't count, and how deep
+-- plans may branch.
 use Rattle.std.specs.Prelude.{ℕ, ◌+◌, nat_le, max, Bool, ◌&&◌}
 use Rattle.sm_term.specs.Assertions.{Assertion, Yes, No, Eq, Ne, Le, Lt, And, Or}
 

@@ -1,4 +1,4 @@
--- Sets of copies by the numbers of a proof: masks in which each copy has its bit.
+-- Cited by public clauses: sets of copies as the masks of a proof, in which each copy has its bit.
 use Rattle.std.specs.Prelude.{ℕ, ◌+◌, ◌==◌, bit_and, Bool, if◌then◌else◌}
 use Rattle.sm_syntax.specs.ConflictFree.{Copy}
 use Rattle.sm_syntax.specs.Parts.{by_copy}
@@ -18,4 +18,6 @@ bit_where b bit = if b then bit else 0
 
 -- the mask of a set
 abbrev pub mask_of : Copies → ℕ
-mask_of set = bit_where set.base 1 + bit_where set.variant_a 2 + bit_where set.variant_b 4 + bit_where set.candidate 8
+mask_of set =
+    bit_where set.base 1 + bit_where set.variant_a 2 + bit_where set.variant_b 4
+    + bit_where set.candidate 8

@@ -1,6 +1,7 @@
--- Cited by public clauses: a proof as a list of nodes. Each node takes the state that is pending first, and the states
--- that it opens take that one's place. Kept formulas are given and goals are shown elsewhere: the lines of a proof
--- file, which name terms by numbers and show each goal by a certificate, are not spoken of here.
+-- Cited by public clauses: a proof as a list of nodes. Each node takes the state that is pending
+-- first, and the states that it opens take that one's place. Kept formulas are given, and goals are
+-- valid: the lines of a proof file, which name terms by numbers and show each goal by a
+-- certificate, are not spoken of here.
 use Rattle.std.specs.Prelude.{◌≡◌, ℕ, suc, if◌then◌else◌, IsTrue, Some, List, [], ◌∷◌, ◌++◌, map}
 use Rattle.sm_syntax.specs.ConflictFree.{Task}
 use Rattle.sm_plan.specs.Limits.{is_shallow}
@@ -29,8 +30,9 @@ states_of pending = map (λ (p : Pending). p.state) pending
 abbrev pub start_pending : Task → List Pending
 start_pending t = record { state = start_state t; above = 0 } ∷ []
 
--- the nodes, the first with number k, prove the pending states: each fits its state, opens nothing with more than 1,000
--- branching nodes above it, is fresh and asks valid goals, and neither a state nor a node is left
+-- the nodes, the first with number k, prove the pending states: each fits its state, opens nothing
+-- with more than 1,000 branching nodes above it, is fresh and asks valid goals, and neither a state
+-- nor a node is left
 abbrev pub NodesProve : ℕ → List Pending → List Node → Type 0
 NodesProve k [] [] = Unit {0}
 NodesProve k [] (node ∷ nodes) = ⊥

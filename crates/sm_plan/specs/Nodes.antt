@@ -1,5 +1,7 @@
--- The nodes of a plan: when each may stand at a state, which goals it asks there, and which states it opens.
-use Rattle.std.specs.Prelude.{ℕ, nat_le, Bool, true, false, not, ◌&&◌, ◌||◌, if◌then◌else◌, Option, Some, None, List, [], ◌∷◌, ◌++◌, map}
+-- Cited by public clauses: the nodes of a plan, when each may stand at a state, which goals it asks
+-- there, and which states it opens.
+use Rattle.std.specs.Prelude.{ℕ, nat_le, Bool, true, false, not, ◌&&◌, ◌||◌, if◌then◌else◌}
+use Rattle.std.specs.Prelude.{Option, Some, None, List, [], ◌∷◌, ◌++◌, map}
 use Rattle.sm_syntax.specs.Syntax.{Code, End, Skip, Assign, Write, If, While, Hole, append}
 use Rattle.sm_syntax.specs.ConflictFree.{Copy}
 use Rattle.sm_term.specs.Assertions.{Assertion, No, negate, conj}
@@ -61,7 +63,9 @@ both_ways st c (Assign x e k) = None
 both_ways st c (Write a i e k) = None
 both_ways st c (If b first second k) =
     let f = form_of b (st.stores c) in
-    Some (follows (next.branch_state st c (append first k) f ∷ next.branch_state st c (append second k) (negate f) ∷ []))
+    let one = next.branch_state st c (append first k) f in
+    let other = next.branch_state st c (append second k) (negate f) in
+    Some (follows (one ∷ other ∷ []))
 both_ways st c (While b body k) = None
 both_ways st c (Hole h k) = None
 
@@ -73,13 +77,20 @@ opens k st (Abs c n) =
     (follows (next.summary_state st c (front n (st.rest c)) (rest_after n (st.rest c)) ∷ []))
 opens k st (Fork c) = both_ways st c (st.rest c)
 opens k st (Loop set keep) =
-    where_true (is_inhabited set && (each (λ (c : Copy). not (has set c) || is_loop (st.rest c)) && is_kept keep))
-    (record { goals = all_at_stores st.stores (conj keep); states = map (next.turn_state st k set keep) (subsets set) ++ next.after_loops_state st k set keep ∷ [] })
+    let have_loops = each (λ (c : Copy). not (has set c) || is_loop (st.rest c)) in
+    let turns = map (next.turn_state st k set keep) (subsets set) in
+    where_true (is_inhabited set && (have_loops && is_kept keep))
+    (record {
+      goals = all_at_stores st.stores (conj keep);
+      states = turns ++ next.after_loops_state st k set keep ∷ [];
+    })
 opens k st (Block counts keep) =
     where_true (each (λ (c : Copy). is_long (counts c) (st.rest c)) && is_kept keep)
     (follows (next.inner_state st counts keep ∷ next.after_block_state st k counts keep ∷ []))
 opens k st Dead = Some (asks (No ∷ []))
-opens k st Ends = where_true (each (λ (c : Copy). is_over (st.rest c))) (asks (all_at_stores st.stores st.target))
+opens k st Ends =
+    where_true (each (λ (c : Copy). is_over (st.rest c)))
+    (asks (all_at_stores st.stores st.target))
 opens k st (Unfit rule) = None
 
 -- the kept formula names no new value of node k or of a later one

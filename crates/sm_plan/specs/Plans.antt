@@ -1,5 +1,6 @@
--- Plans as trees of nodes, and the obligations of a plan.
-use Rattle.std.specs.Prelude.{ℕ, suc, ◌+◌, ◌==◌, Bool, ◌&&◌, if◌then◌else◌, max, Option, Some, None, Result, Ok, Err, List, [], ◌∷◌, ◌++◌, length}
+-- Cited by public clauses: plans as trees of nodes, and the obligations of a plan.
+use Rattle.std.specs.Prelude.{ℕ, suc, ◌+◌, ◌==◌, Bool, ◌&&◌, if◌then◌else◌, max}
+use Rattle.std.specs.Prelude.{Option, Some, None, Result, Ok, Err, List, [], ◌∷◌, ◌++◌, length}
 use Rattle.sm_syntax.specs.ConflictFree.{Task}
 use Rattle.sm_term.specs.Assertions.{Assertion, IsValid}
 use Rattle.sm_plan.specs.Limits.{is_shallow}
@@ -68,7 +69,8 @@ pub record Due : Type 0 where
   pub goals : List Assertion
   pub is_final : Bool
 
--- why a plan has no obligations: the first node whose rule fails, or too many branching nodes above a node
+-- why a plan has no obligations: the first node whose rule fails, or too many branching nodes above
+-- a node
 pub data Fault : Type 0 where
   Wrong : ℕ → ℕ → Fault
   Deep : Fault
@@ -76,7 +78,9 @@ pub data Fault : Type 0 where
 -- the obligation of node k, where it has goals
 abbrev pub due : ℕ → State → Node → List Assertion → List Due
 due k st node [] = []
-due k st node (g ∷ gs) = record { node = k; facts = st.facts; goals = g ∷ gs; is_final = is_end node && st.is_final } ∷ []
+due k st node (g ∷ gs) =
+    let is_final = is_end node && st.is_final in
+    record { node = k; facts = st.facts; goals = g ∷ gs; is_final = is_final } ∷ []
 
 -- the obligations of both, or the first fault
 abbrev pub joined : Result (List Due) Fault → Result (List Due) Fault → Result (List Due) Fault
@@ -85,25 +89,30 @@ joined (Ok ds) (Err w) = Err w
 joined (Ok ds) (Ok es) = Ok (ds ++ es)
 
 -- goes on with what a node opens
-abbrev pub opened : Option Opened → Fault → (Opened → Result (List Due) Fault) → Result (List Due) Fault
+abbrev pub opened : Option Opened → Fault → (Opened → Result (List Due) Fault) →
+    Result (List Due) Fault
 opened None w f = Err w
 opened (Some q) w f = f q
 
 abbrev mutual
-  -- the obligations of a plan whose first node has number k, or the first node whose rule fails; a node also fails
-  -- its rule where it hasn't one plan for each state that it opens
+  -- the obligations of a plan whose first node has number k, or the first node whose rule fails; a
+  -- node also fails  -- its rule where it hasn't one plan for each state that it opens
   pub expand : ℕ → State → Plan → Result (List Due) Fault
   expand k st (At node ps) =
       let w = Wrong k (rule_of node) in
       opened (opens k st node) w
-      (λ (q : Opened). if count ps == length q.states then joined (Ok (due k st node q.goals)) (expand_all w (suc k) q.states ps) else Err w)
+      (λ (q : Opened).
+      if count ps == length q.states
+      then joined (Ok (due k st node q.goals)) (expand_all w (suc k) q.states ps)
+      else Err w)
 
   -- the obligations of plans at states
   pub expand_all : Fault → ℕ → List State → Plans → Result (List Due) Fault
   expand_all w k [] Over = Ok []
   expand_all w k [] (More p ps) = Err w
   expand_all w k (st ∷ states) Over = Err w
-  expand_all w k (st ∷ states) (More p ps) = joined (expand k st p) (expand_all w (k + size p) states ps)
+  expand_all w k (st ∷ states) (More p ps) =
+      joined (expand k st p) (expand_all w (k + size p) states ps)
 
 -- the obligations of a task's plan
 abbrev pub obligations : Task → Plan → Result (List Due) Fault

@@ -1,4 +1,4 @@
--- What a state claims of runs.
+-- Cited by public clauses: what a state claims of runs, and which new values it names.
 use Rattle.std.specs.Prelude.{◌≡◌, ℕ, Some, List, [], ◌∷◌}
 use Rattle.sm_syntax.specs.Stores.{Store}
 use Rattle.sm_syntax.specs.Meaning.{run}
@@ -9,7 +9,8 @@ use Rattle.sm_term.specs.Symbolic.{store_meant}
 use Rattle.sm_term.specs.Fresh.{IsBelow, AreFormsBelow}
 use Rattle.sm_plan.specs.States.{State}
 
--- in each structure in which the facts hold and from whose stores all rests end, the target holds of the ends
+-- in each structure in which the facts hold and from whose stores all rests end, the target holds
+-- of the ends
 abbrev pub IsSound : State → Type 0
 IsSound st =
     (m : Structure) (end : Copy → Store) →

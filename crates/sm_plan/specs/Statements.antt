@@ -1,5 +1,7 @@
--- Cited by public clauses: the first statement of code and the code after it, and what is asked of them.
-use Rattle.std.specs.Prelude.{ℕ, zero, suc, Bool, true, false, if◌then◌else◌, Option, Some, None, is_some, is_none}
+-- Cited by public clauses: the first statement of code, the code after it, and what is asked of
+-- both.
+use Rattle.std.specs.Prelude.{ℕ, zero, suc, Bool, true, false, if◌then◌else◌}
+use Rattle.std.specs.Prelude.{Option, Some, None, is_some, is_none}
 use Rattle.sm_syntax.specs.Syntax as code
 use Rattle.sm_syntax.specs.Syntax.{Expression, Condition, No, Code, End}
 

@@ -1,4 +1,4 @@
--- The states of a proof: four programs side by side, in symbols.
+-- Cited by public clauses: the states of a proof, which are four programs side by side, in symbols.
 use Rattle.std.specs.Prelude.{ℕ, Bool, true, Option, Some, None, List, [], ◌∷◌}
 use Rattle.std.specs.List.{flat_map}
 use Rattle.sm_syntax.specs.declared.tree.Sort.{Sort}
@@ -9,7 +9,8 @@ use Rattle.sm_term.specs.Terms.{Tree, Start, Slot, Cell, Read}
 use Rattle.sm_term.specs.Assertions.{Assertion, Eq, Ne, Or, conj}
 use Rattle.sm_term.specs.Symbolic.{SymbolicStore, form_of}
 
--- what is left of each copy, its symbolic store, the facts, the target at the ends, and whether that is the final one
+-- what is left of each copy, its symbolic store, the facts, the target at the ends, and whether
+-- that is the final one
 pub record State : Type 0 where
   pub rest : Copy → Code
   pub stores : Copy → SymbolicStore
@@ -24,7 +25,11 @@ place (x, Arr) c = Read (Slot c x) Cell
 
 -- the three goals of four numbers: A's change is kept, B's change is kept, nothing else changes
 abbrev pub keeps_goals : (Copy → Tree) → List Assertion
-keeps_goals at = Or (Eq Num (at O) (at A)) (Eq Num (at M) (at A)) ∷ Or (Eq Num (at O) (at B)) (Eq Num (at M) (at B)) ∷ Or (Ne Num (at O) (at A)) (Or (Ne Num (at A) (at B)) (Eq Num (at M) (at O))) ∷ []
+keeps_goals at =
+    Or (Eq Num (at O) (at A)) (Eq Num (at M) (at A))
+    ∷ Or (Eq Num (at O) (at B)) (Eq Num (at M) (at B))
+    ∷ Or (Ne Num (at O) (at A)) (Or (Ne Num (at A) (at B)) (Eq Num (at M) (at O)))
+    ∷ []
 
 -- the start values
 abbrev pub start_store : SymbolicStore

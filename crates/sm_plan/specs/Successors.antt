@@ -1,4 +1,4 @@
--- The states that follow a node of a plan.
+-- Cited by public clauses: the states that follow a node of a plan.
 use Rattle.std.specs.Prelude.{ℕ, false, if◌then◌else◌, Option, Some, None, List, [], ◌∷◌, ◌++◌}
 use Rattle.std.specs.List.{flat_map}
 use Rattle.sm_syntax.specs.Syntax.{Condition, Code, End, Skip, Assign, If, While, Hole}
@@ -14,7 +14,8 @@ use Rattle.sm_plan.specs.Copies.{Copies, has, with_copy, copies, no_copies}
 use Rattle.sm_plan.specs.Statements.{front, rest_after, loop_guard, loop_body, last_guard}
 use Rattle.sm_plan.specs.States.{State}
 
--- what is left of code that begins with skip or an assignment, and the symbolic store after that statement
+-- what is left of code that begins with skip or an assignment, and the symbolic store after that
+-- statement
 abbrev pub stepped : Code → SymbolicStore → Option (Code × SymbolicStore)
 stepped End s = None
 stepped (Skip k) s = Some (k, s)
@@ -110,7 +111,8 @@ fronts st counts c = front (counts c) (st.rest c)
 
 -- these statements alone: they end with the kept formula
 abbrev pub inner_state : State → (Copy → ℕ) → Assertion → State
-inner_state st counts keep = record { rest = fronts st counts; stores = st.stores; facts = st.facts; target = conj keep; is_final = false }
+inner_state st counts keep =
+    record st { rest = fronts st counts; target = conj keep; is_final = false }
 
 -- after them
 abbrev pub after_block_state : State → ℕ → (Copy → ℕ) → Assertion → State

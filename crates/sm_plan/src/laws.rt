@@ -1,7 +1,9 @@
 // What plans prove, as contracts.
 ghost use Rattle.sm_plan.specs.Cases.{CasesComeOut};
 ghost use Rattle.sm_plan.specs.Example.{ExampleHolds};
-ghost use Rattle.sm_plan.specs.Laws.{NodeIsSound, NodeStaysBelow, NodeGoalsBelow, StartIsBelow, SoundStartIsFree, PlanIsSound, NodesAreSound, PlanNodesProve, NodesArePlan, SubsetsAscend, MaskIsExact};
+ghost use Rattle.sm_plan.specs.Laws.{NodeIsSound, NodeStaysBelow, NodeGoalsBelow, StartIsBelow};
+ghost use Rattle.sm_plan.specs.Laws.{SoundStartIsFree, PlanIsSound, NodesAreSound, PlanNodesProve};
+ghost use Rattle.sm_plan.specs.Laws.{NodesArePlan, SubsetsAscend, MaskIsExact};
 
 /// A state is sound where a node's goals are valid and the states that it opens are sound.
 pub fn node_is_sound()
@@ -21,12 +23,14 @@ pub fn plan_is_sound()
     ensures { PlanIsSound }
 {}
 
-/// Where nodes prove the start of a task, one pending state after another, the task is free of conflicts.
+/// Where nodes prove the start of a task, one pending state after another, the task is free of
+/// conflicts.
 pub fn nodes_are_sound()
     ensures { NodesAreSound }
 {}
 
-/// The nodes of a plan whose obligations hold prove its task's start, and nodes that prove it are such a plan's.
+/// The nodes of a plan whose obligations hold prove its task's start, and nodes that prove it are
+/// those of such a plan.
 pub fn nodes_are_plans()
     ensures prove { PlanNodesProve }
     ensures plan { NodesArePlan }

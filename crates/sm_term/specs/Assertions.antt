@@ -1,5 +1,5 @@
--- Formulas over terms, and when they hold in a structure. `Or` is read by cases that can't both fail, so that each
--- formula holds where it can't fail.
+-- Cited by public clauses: formulas over terms, and when they hold in a structure. `Or` is read by
+-- cases that can't both fail, so that each formula holds where it can't fail.
 use Rattle.std.specs.Prelude.{◌≤ℤ◌, ◌<ℤ◌, List, [], ◌∷◌, ◌++◌}
 use Rattle.sm_syntax.specs.declared.tree.Sort.{Sort}
 use Rattle.sm_syntax.specs.SameAs.{SameAs}

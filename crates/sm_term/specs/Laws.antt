@@ -1,4 +1,4 @@
--- Laws of terms and formulas, each for all structures.
+-- Cited by public clauses: laws of terms and formulas, each for all structures.
 use Rattle.std.specs.Prelude.{◌≡◌, ◌↔◌, ℕ, IsTrue, List, [], ◌∷◌, ◌++◌}
 use Rattle.sm_syntax.specs.Syntax.{Expression, Condition}
 use Rattle.sm_syntax.specs.Stores.{Store}
@@ -12,11 +12,15 @@ use Rattle.sm_term.specs.Fresh.{IsFormBelow}
 
 -- the term of an expression means the expression's value in the store that the symbolic store means
 abbrev pub TermMeansValue : Type 0
-TermMeansValue = (m : Structure) (e : Expression) (s : SymbolicStore) → meaning m (term_of e s) ≡ value_of e (store_meant m s)
+TermMeansValue =
+    (m : Structure) (e : Expression) (s : SymbolicStore) →
+    meaning m (term_of e s) ≡ value_of e (store_meant m s)
 
 -- the formula of a condition holds exactly where the condition is true in that store
 abbrev pub FormMeansTruth : Type 0
-FormMeansTruth = (m : Structure) (b : Condition) (s : SymbolicStore) → Holds m (form_of b s) ↔ IsTrue (truth_of b (store_meant m s))
+FormMeansTruth =
+    (m : Structure) (b : Condition) (s : SymbolicStore) →
+    Holds m (form_of b s) ↔ IsTrue (truth_of b (store_meant m s))
 
 -- negate says the contrary
 abbrev pub NegateIsContrary : Type 0
@@ -30,19 +34,30 @@ HoldsIsStable = (m : Structure) (f : Assertion) → ((Holds m f → ⊥) → ⊥
 abbrev pub ConjHolds : Type 0
 ConjHolds = (m : Structure) (f : Assertion) → Holds m f ↔ AllHold m (conj f)
 
--- where no structure makes the facts and the negated goal hold, the goal holds wherever the facts do
+-- where no structure makes the facts and the negated goal hold, the goal holds where the facts do
 abbrev pub RefutedIsValid : Type 0
-RefutedIsValid = (facts : List Assertion) (goal : Assertion) → IsRefuted (facts ++ negate goal ∷ []) → IsValid facts goal
+RefutedIsValid =
+    (facts : List Assertion) (goal : Assertion) →
+    IsRefuted (facts ++ negate goal ∷ []) →
+    IsValid facts goal
 
 -- the same in one structure
 abbrev pub RefutedHere : Type 0
-RefutedHere = (m : Structure) (facts : List Assertion) (goal : Assertion) → (AllHold m (facts ++ negate goal ∷ []) → ⊥) → AllHold m facts → Holds m goal
+RefutedHere =
+    (m : Structure) (facts : List Assertion) (goal : Assertion) →
+    (AllHold m (facts ++ negate goal ∷ []) → ⊥) →
+    AllHold m facts →
+    Holds m goal
 
 -- a formula at stores holds exactly where it holds with their values at the slots
 abbrev pub AtStoresHolds : Type 0
-AtStoresHolds = (m : Structure) (s : Copy → SymbolicStore) (f : Assertion) →
+AtStoresHolds =
+    (m : Structure) (s : Copy → SymbolicStore) (f : Assertion) →
     Holds m (at_stores s f) ↔ Holds (with_slots m (λ (c : Copy). store_meant m (s c))) f
 
 -- what a formula says doesn't change with the new values of a node that it doesn't name
 abbrev pub FreshHolds : Type 0
-FreshHolds = (m : Structure) (k : ℕ) (new : Copy → Store) (f : Assertion) → IsFormBelow k f → Holds (with_havoc m k new) f ↔ Holds m f
+FreshHolds =
+    (m : Structure) (k : ℕ) (new : Copy → Store) (f : Assertion) →
+    IsFormBelow k f →
+    Holds (with_havoc m k new) f ↔ Holds m f

@@ -1,7 +1,8 @@
--- Terms and formulas in which the copies' present terms stand for the slots.
+-- Cited by public clauses: terms and formulas with the copies' present terms in place of slots.
 use Rattle.std.specs.Prelude.{List, map}
 use Rattle.sm_syntax.specs.ConflictFree.{Copy}
-use Rattle.sm_term.specs.Terms.{Tree, Lit, Start, Havoc, Slot, Cell, Read, Write, Neg, Add, Sub, Mul, Fun, Arguments, Over, Given}
+use Rattle.sm_term.specs.Terms.{Tree, Lit, Start, Havoc, Slot, Cell, Read, Write}
+use Rattle.sm_term.specs.Terms.{Neg, Add, Sub, Mul, Fun, Arguments, Over, Given}
 use Rattle.sm_term.specs.Assertions.{Assertion, Yes, No, Eq, Ne, Le, Lt, And, Or}
 use Rattle.sm_term.specs.Symbolic.{SymbolicStore}
 

@@ -1,9 +1,13 @@
--- What terms mean: a structure gives each symbol a value, and all summaries one bound on turns.
-use Rattle.std.specs.Prelude.{ℕ, ◌==◌, if◌then◌else◌, ℤ, ◌+ℤ◌, ◌-ℤ◌, ◌*ℤ◌, neg_ℤ, Option, Some, None}
-use Rattle.sm_syntax.specs.Stores.{Value, Number, Array, number, array, zero_value, Store, put, with_element}
+-- Cited by public clauses: what terms mean. A structure gives each symbol a value, and all
+-- summaries one bound on turns.
+use Rattle.std.specs.Prelude.{ℕ, ◌==◌, if◌then◌else◌, Option, Some, None}
+use Rattle.std.specs.Prelude.{ℤ, ◌+ℤ◌, ◌-ℤ◌, ◌*ℤ◌, neg_ℤ}
+use Rattle.sm_syntax.specs.Stores.{Value, Number, Array, number, array, zero_value}
+use Rattle.sm_syntax.specs.Stores.{Store, put, with_element}
 use Rattle.sm_syntax.specs.Meaning.{run}
 use Rattle.sm_syntax.specs.ConflictFree.{Copy}
-use Rattle.sm_term.specs.Terms.{Tree, Lit, Start, Havoc, Slot, Cell, Read, Write, Neg, Add, Sub, Mul, Fun, Arguments, Over, Given}
+use Rattle.sm_term.specs.Terms.{Tree, Lit, Start, Havoc, Slot, Cell, Read, Write}
+use Rattle.sm_term.specs.Terms.{Neg, Add, Sub, Mul, Fun, Arguments, Over, Given}
 
 -- a bound on turns, a value for each symbol, and the index of the cell
 pub record Structure : Type 0 where
@@ -27,7 +31,8 @@ abbrev mutual
   meaning m (Slot c x) = m.slot c x
   meaning m Cell = Number m.cell
   meaning m (Read a i) = Number (array (meaning m a) (number (meaning m i)))
-  meaning m (Write a i e) = Array (with_element (array (meaning m a)) (number (meaning m i)) (number (meaning m e)))
+  meaning m (Write a i e) =
+      Array (with_element (array (meaning m a)) (number (meaning m i)) (number (meaning m e)))
   meaning m (Neg t) = Number (neg_ℤ (number (meaning m t)))
   meaning m (Add t u) = Number (number (meaning m t) +ℤ number (meaning m u))
   meaning m (Sub t u) = Number (number (meaning m t) -ℤ number (meaning m u))
@@ -41,14 +46,9 @@ abbrev mutual
 
 -- other values at the places of copies' values
 abbrev pub with_slots : Structure → (Copy → Store) → Structure
-with_slots m slots = record { bound = m.bound; start = m.start; havoc = m.havoc; slot = slots; cell = m.cell }
+with_slots m slots = record m { slot = slots }
 
 -- other new values of one node of a plan
 abbrev pub with_havoc : Structure → ℕ → (Copy → Store) → Structure
-with_havoc m k new = record {
-  bound = m.bound;
-  start = m.start;
-  havoc = λ (j : ℕ) (c : Copy). if j == k then new c else m.havoc j c;
-  slot = m.slot;
-  cell = m.cell;
-}
+with_havoc m k new =
+    record m { havoc = λ (j : ℕ) (c : Copy). if j == k then new c else m.havoc j c }

@@ -1,4 +1,5 @@
--- Symbolic stores: a term for each name; and what expressions and conditions are in them.
+-- Cited by public clauses: symbolic stores, which have a term for each name, and what expressions
+-- and conditions are in them.
 use Rattle.std.specs.Prelude.{ℕ, ◌==◌, if◌then◌else◌}
 use Rattle.sm_syntax.specs.declared.tree.Cmp.{Cmp}
 use Rattle.sm_syntax.specs.declared.tree.Cmp.TheVariants as cmp

@@ -1,4 +1,5 @@
--- Terms: what a program's value is made of, where the start store is not known.
+-- Cited by public clauses: terms, of which a program's values are made where the start store is
+-- not known.
 use Rattle.std.specs.Prelude.{ℕ, ℤ}
 use Rattle.sm_syntax.specs.Syntax.{Code}
 use Rattle.sm_syntax.specs.ConflictFree.{Copy}

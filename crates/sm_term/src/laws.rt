@@ -1,5 +1,7 @@
 // Laws of terms and formulas, as contracts.
-ghost use Rattle.sm_term.specs.Laws.{TermMeansValue, FormMeansTruth, NegateIsContrary, HoldsIsStable, ConjHolds, RefutedIsValid, RefutedHere, AtStoresHolds, FreshHolds};
+ghost use Rattle.sm_term.specs.Laws.{TermMeansValue, FormMeansTruth, NegateIsContrary};
+ghost use Rattle.sm_term.specs.Laws.{ConjHolds, RefutedIsValid, RefutedHere, AtStoresHolds};
+ghost use Rattle.sm_term.specs.Laws.{HoldsIsStable, FreshHolds};
 
 /// The term of an expression means the expression's value.
 #[tactic(auto, using(crate::proofs::Values::term_means))]

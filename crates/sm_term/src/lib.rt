@@ -1,11 +1,15 @@
 //! Terms that stand for the values of programs, formulas over them, and what both mean.
 //!
-//! So far the crate has the definitions and their laws; each law is the contract of a function that does nothing.
+//! So far the crate has the definitions and their laws; each law is the contract of a function that
+//! does nothing.
 //!
-//! - A term of an expression means the expression's value in every structure, and a formula of a condition its truth.
-//! - Negation says the contrary, and a goal holds wherever the facts do, if the facts and its negation are refuted.
+//! - A term of an expression means the expression's value in every structure, and a formula of a
+//!   condition its truth.
+//! - Negation says the contrary, and a goal holds wherever the facts do, if the facts and its
+//!   negation are refuted.
 //!
-//! Read `specs/Terms.antt` first, then `specs/Structures.antt`, `specs/Assertions.antt` and `specs/Laws.antt`.
+//! Read `specs/Terms.antt` first, then `specs/Structures.antt`, `specs/Assertions.antt` and
+//! `specs/Laws.antt`.
 #![tactic(auto)]
 
 mod laws;
