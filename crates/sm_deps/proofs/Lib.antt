@@ -1,9 +1,9 @@
-pub mod Closed
-pub mod Alike
-pub mod Rounds
-pub mod Exact
-pub mod Unions
-pub mod Assignments
-pub mod Steps
-pub mod Declared
-mod KeptSets
+pub mod NeedsLemmas
+pub mod InputsSound
+pub mod GrownLemmas
+pub mod InputsExact
+pub mod MembersLemmas
+pub mod AssignsLemmas
+pub mod NeededLemmas
+pub mod InputsDeclared
+mod LoopsExact

@@ -8,7 +8,7 @@ ghost use Rattle.sm_syntax.specs.Syntax.{End};
 ghost use Rattle.sm_syntax.specs.Views.{statement_of, code_of};
 ghost use Rattle.sm_deps.specs.Members.{members, either};
 
-use crate::sets::{NameSet, add_name, list_of};
+use crate::members::{NameSet, add_name, list_of};
 use sm_syntax::{Block, Outputs, Stmt};
 use std::alloc::{AllocError, Global};
 use std::collections::BTreeSet;
@@ -27,7 +27,7 @@ pub fn writes(alloc: Global, b: &Block) -> Result<Outputs, AllocError>
 
 // Adds the names that a block assigns.
 #[cycle(add_block)]
-#[tactic(auto, using(crate::proofs::Assignments::assignments))]
+#[tactic(auto, using(crate::proofs::AssignsLemmas::assignments))]
 fn add_block(names: &mut NameSet, b: &Block) -> Result<(), AllocError>
     ensures { let names_of_block = assigns (code_of b.now) in
         OnOk result (members names.new ≡ either (members names.old) names_of_block) }
@@ -40,7 +40,7 @@ fn add_block(names: &mut NameSet, b: &Block) -> Result<(), AllocError>
 
 // Adds those of a statement.
 #[cycle(add_block)]
-#[tactic(auto, using(crate::proofs::Assignments::assignments))]
+#[tactic(auto, using(crate::proofs::AssignsLemmas::assignments))]
 fn add_stmt(names: &mut NameSet, s: &Stmt) -> Result<(), AllocError>
     ensures { let names_of_statement = assigns (statement_of s.now End) in
         OnOk result (members names.new ≡ either (members names.old) names_of_statement) }

@@ -8,8 +8,8 @@ ghost use Rattle.sm_deps.specs.Loops.{IsReady, GoesOver, Settles};
 ghost use Rattle.sm_deps.specs.Members.{members};
 
 use crate::loops::{Loops, keep, no_loops, resume};
-use crate::mentioned::{add_cond, add_expr};
-use crate::sets::{NameSet, add_all, add_name, list_of};
+use crate::members::{NameSet, add_all, add_name, list_of};
+use crate::names::{add_cond, add_expr};
 use sm_syntax::{Block, Cond, Name, Outputs, Stmt};
 use std::alloc::{AllocError, Global};
 use std::collections::BTreeSet;

@@ -9,19 +9,19 @@ pub fn inputs_are_needed()
 
 /// Runs from stores that agree on the inputs for a name both end or neither does, and agree on the
 /// name where they end.
-#[tactic(auto, using(crate::proofs::Alike::inputs_alike))]
+#[tactic(auto, using(crate::proofs::InputsSound::inputs_alike))]
 pub fn inputs_decide()
     ensures { InputsDecide }
 {}
 
 /// The same by sort, of well-sorted code.
-#[tactic(auto, using(crate::proofs::Alike::inputs_alike_by_sort))]
+#[tactic(auto, using(crate::proofs::InputsSound::inputs_alike_by_sort))]
 pub fn inputs_decide_by_sort()
     ensures { InputsDecideBySort }
 {}
 
 /// What well-sorted code needs for a declared name, and what it assigns, is declared.
-#[tactic(auto, using(crate::proofs::Declared::names_declared))]
+#[tactic(auto, using(crate::proofs::InputsDeclared::names_declared))]
 pub fn names_are_declared()
     ensures inputs { InputsAreDeclared }
     ensures assigned { AssignedAreDeclared }

@@ -12,8 +12,8 @@ mod assigned;
 mod backward;
 mod laws;
 mod loops;
-mod mentioned;
-mod sets;
+mod members;
+mod names;
 
 pub use assigned::writes;
 pub use backward::inputs;

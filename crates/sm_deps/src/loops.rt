@@ -4,7 +4,7 @@ ghost use Rattle.std.specs.Prelude.{◌<◌, length, OnOk, IfOk, ◌≡◌, [], 
 ghost use Rattle.sm_deps.specs.Members.{members};
 ghost use Rattle.sm_deps.specs.Loops.{IsReady, Resumes, KeepsSet};
 
-use crate::sets::{NameSet, add_all};
+use crate::members::{NameSet, add_all};
 use std::alloc::{AllocError, Global};
 
 // The last set of each loop that was met, by its number, and the number of the loop that is met

@@ -4,8 +4,8 @@ use Rattle.std.proofs.Math.Path.{fun_ext}
 use Rattle.sm_syntax.specs.Stores.{Store}
 use Rattle.sm_syntax.specs.Meaning.{turns}
 use Rattle.sm_syntax.specs.ConflictFree.{Copy}
-use Rattle.sm_plan.proofs.Families.{some_or_none}
-use Rattle.sm_plan.proofs.Cuts.{one_turn, no_turn, still}
+use Rattle.sm_plan.proofs.CopiesLemmas.{some_or_none}
+use Rattle.sm_plan.proofs.StatementsLemmas.{one_turn, no_turn, still}
 
 -- one turn of each copy whose guard is true; the others stay, and there is one that doesn't
 pub record Joint (guard : Copy → Store → Bool) (body : Copy → Store → Option Store) (s t : Copy → Store) : Type 0 where

@@ -1,4 +1,4 @@
-pub mod Values
-pub mod Truths
-pub mod Places
-pub mod Below
+pub mod SymbolicLemmas
+pub mod AssertionsLemmas
+pub mod SlotsLemmas
+pub mod FreshLemmas

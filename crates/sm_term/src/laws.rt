@@ -4,50 +4,50 @@ ghost use Rattle.sm_term.specs.Laws.{ConjHolds, RefutedIsValid, RefutedHere, AtS
 ghost use Rattle.sm_term.specs.Laws.{HoldsIsStable, FreshHolds};
 
 /// The term of an expression means the expression's value.
-#[tactic(auto, using(crate::proofs::Values::term_means))]
+#[tactic(auto, using(crate::proofs::SymbolicLemmas::term_means))]
 pub fn term_means_value()
     ensures { TermMeansValue }
 {}
 
 /// The formula of a condition holds where the condition is true.
-#[tactic(auto, using(crate::proofs::Truths::form_means))]
+#[tactic(auto, using(crate::proofs::AssertionsLemmas::form_means))]
 pub fn form_means_truth()
     ensures { FormMeansTruth }
 {}
 
 /// Negation says the contrary.
-#[tactic(auto, using(crate::proofs::Truths::contrary))]
+#[tactic(auto, using(crate::proofs::AssertionsLemmas::contrary))]
 pub fn negate_is_contrary()
     ensures { NegateIsContrary }
 {}
 
 /// A formula that can't fail holds.
-#[tactic(auto, using(crate::proofs::Truths::stable))]
+#[tactic(auto, using(crate::proofs::AssertionsLemmas::stable))]
 pub fn holds_is_stable()
     ensures { HoldsIsStable }
 {}
 
 /// A conjunction holds where its parts do.
-#[tactic(auto, using(crate::proofs::Truths::conj_means))]
+#[tactic(auto, using(crate::proofs::AssertionsLemmas::conj_means))]
 pub fn conj_holds()
     ensures { ConjHolds }
 {}
 
 /// A goal whose negation is refuted with the facts holds wherever the facts do.
-#[tactic(auto, using(crate::proofs::Truths::refuted, crate::proofs::Truths::refuted_here))]
+#[tactic(auto, using(crate::proofs::AssertionsLemmas::refuted, crate::proofs::AssertionsLemmas::refuted_here))]
 pub fn refuted_is_valid()
     ensures valid { RefutedIsValid }
     ensures here { RefutedHere }
 {}
 
 /// A formula at stores says of them what it says of slots.
-#[tactic(auto, using(crate::proofs::Places::at_stores_means))]
+#[tactic(auto, using(crate::proofs::SlotsLemmas::at_stores_means))]
 pub fn at_stores_holds()
     ensures { AtStoresHolds }
 {}
 
 /// New values of a node say nothing new of a formula that doesn't name them.
-#[tactic(auto, using(crate::proofs::Below::fresh_means))]
+#[tactic(auto, using(crate::proofs::FreshLemmas::fresh_means))]
 pub fn fresh_holds()
     ensures { FreshHolds }
 {}

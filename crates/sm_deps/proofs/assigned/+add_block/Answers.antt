@@ -5,8 +5,8 @@ use Rattle.sm_syntax.specs.Assigns.{assigns}
 use Rattle.sm_syntax.specs.Syntax.{End}
 use Rattle.sm_syntax.specs.Views.{sequence, statement_of, code_of}
 use Rattle.sm_deps.specs.Members.{members, only, either}
-use Rattle.sm_deps.proofs.Unions.{either-none, either-either, added_two, on_ok}
-use Rattle.sm_deps.proofs.Assignments.{assigns-Skip, assigns-Hole, assigns-Assign, assigns-Store, assigns-If, assigns-drop, assigns-drop-end}
+use Rattle.sm_deps.proofs.MembersLemmas.{either-none, either-either, added_two, on_ok}
+use Rattle.sm_deps.proofs.AssignsLemmas.{assigns-Skip, assigns-Hole, assigns-Assign, assigns-Store, assigns-If, assigns-drop, assigns-drop-end}
 use Rattle.sm_deps.proofs.assigned.+add_block.Goals as goal
 
 -- one statement more

@@ -7,7 +7,7 @@ use Rattle.sm_syntax.specs.Conditions.{is_in}
 use Rattle.sm_syntax.specs.Programs.{outputs_of}
 use Rattle.sm_syntax.specs.Views.{code_of}
 use Rattle.sm_deps.specs.Members.{members, either}
-use Rattle.sm_deps.proofs.Unions.{none-either, members-empty, listed-members, if_ok}
+use Rattle.sm_deps.proofs.MembersLemmas.{none-either, members-empty, listed-members, if_ok}
 use Rattle.sm_deps.proofs.assigned.writes.Goals as goal
 
 -- the list is the set's

@@ -10,9 +10,9 @@ use Rattle.sm_deps.specs.Inputs.{needed}
 use Rattle.sm_deps.specs.Loops.{loops_in, GoesOver, KeepsSet}
 use Rattle.sm_deps.specs.Names.{mentions, tests}
 use Rattle.sm_deps.specs.Members.{members, either}
-use Rattle.sm_deps.proofs.KeptSets.{over_append, over_plain, over_choice, over_loop, one_turn, last_turn}
-use Rattle.sm_deps.proofs.Unions.{on_ok}
-use Rattle.sm_deps.proofs.Steps.{without, needed-Assign, needed-Assign-other, needed-Store, needed-Store-other, sequence-before, members-remove, members-same, members-contains, turn_grows}
+use Rattle.sm_deps.proofs.LoopsExact.{over_append, over_plain, over_choice, over_loop, one_turn, last_turn}
+use Rattle.sm_deps.proofs.MembersLemmas.{on_ok}
+use Rattle.sm_deps.proofs.NeededLemmas.{without, needed-Assign, needed-Assign-other, needed-Store, needed-Store-other, sequence-before, members-remove, members-same, members-contains, turn_grows}
 use Rattle.sm_deps.proofs.backward.+before.Goals as goal
 
 -- one statement more is gone over

@@ -6,7 +6,7 @@ use Rattle.sm_syntax.specs.Syntax.{End}
 use Rattle.sm_syntax.specs.Views.{sequence, statement_of, code_of}
 use Rattle.sm_deps.specs.Loops.{GoesOver}
 use Rattle.sm_deps.specs.Members.{members}
-use Rattle.sm_deps.proofs.KeptSets.{Turns}
+use Rattle.sm_deps.proofs.LoopsExact.{Turns}
 use Rattle.sm_deps.proofs.backward.+before.Given as goal
 
 abbrev pub decreases-before_block : goal.decreases-before_block

@@ -4,9 +4,9 @@ use Rattle.sm_syntax.specs.Programs.{outputs_of}
 use Rattle.sm_syntax.specs.Views.{code_of}
 use Rattle.sm_deps.specs.Inputs.{needed, inputs}
 use Rattle.sm_deps.specs.Members.{members, either, only}
-use Rattle.sm_deps.proofs.KeptSets.{over_all}
-use Rattle.sm_deps.proofs.Steps.{list_is_inputs}
-use Rattle.sm_deps.proofs.Unions.{none-either, members-empty, if_ok}
+use Rattle.sm_deps.proofs.LoopsExact.{over_all}
+use Rattle.sm_deps.proofs.NeededLemmas.{list_is_inputs}
+use Rattle.sm_deps.proofs.MembersLemmas.{none-either, members-empty, if_ok}
 use Rattle.sm_deps.proofs.backward.inputs.Goals as goal
 
 -- the set's list is the list of inputs, since both rise and have the same names

@@ -3,8 +3,8 @@ use Rattle.std.specs.List.{each_same}
 use Rattle.sm_deps.specs.declared.loops.Loops.{Loops}
 use Rattle.sm_deps.specs.Members.{members, either}
 use Rattle.sm_deps.specs.Loops.{Resumes}
-use Rattle.sm_deps.proofs.KeptSets.{resumes_last, resumes_first}
-use Rattle.sm_deps.proofs.Steps.{members-same}
+use Rattle.sm_deps.proofs.LoopsExact.{resumes_last, resumes_first}
+use Rattle.sm_deps.proofs.NeededLemmas.{members-same}
 use Rattle.sm_deps.proofs.loops.resume.Goals as goal
 use Rattle.sm_deps.proofs.loops.resume.Goals.{then-number-len+in_ok-last+in_ok-add_all, else-number-len+in_ok-first+in_ok-push}
 

@@ -1,5 +1,5 @@
 use Rattle.sm_plan.proofs.laws.node_is_sound.Goals as goal
-use Rattle.sm_plan.proofs.OneNode.{node_below, node_goals_below, node_sound}
+use Rattle.sm_plan.proofs.NodeSound.{node_below, node_goals_below, node_sound}
 
 pub returns-clause-sound : goal.returns-clause-sound
 returns-clause-sound c = node_sound

@@ -1,5 +1,5 @@
 use Rattle.sm_plan.proofs.laws.subsets_ascend.Goals as goal
-use Rattle.sm_plan.proofs.Masks as masks
+use Rattle.sm_plan.proofs.MasksExact as masks
 
 pub returns-clause-ascend : goal.returns-clause-ascend
 returns-clause-ascend c = masks.subsets_ascend

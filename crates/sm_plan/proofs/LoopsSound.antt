@@ -16,19 +16,19 @@ use Rattle.sm_term.specs.Assertions.{Assertion, Holds, AllHold, negate, conj}
 use Rattle.sm_term.specs.Symbolic.{SymbolicStore, store_meant, form_of}
 use Rattle.sm_term.specs.Slots.{all_at_stores}
 use Rattle.sm_term.specs.Fresh.{IsFormBelow}
-use Rattle.sm_term.proofs.Truths.{form_means, contrary, holds_append, conj_means}
-use Rattle.sm_term.proofs.Places.{all_at_stores_mean}
-use Rattle.sm_term.proofs.Below.{fresh_meaning, fresh_means, fresh_all}
+use Rattle.sm_term.proofs.AssertionsLemmas.{form_means, contrary, holds_append, conj_means}
+use Rattle.sm_term.proofs.SlotsLemmas.{all_at_stores_mean}
+use Rattle.sm_term.proofs.FreshLemmas.{fresh_meaning, fresh_means, fresh_all}
 use Rattle.sm_plan.specs.Copies.{Copies, copies, each, has, copies_that, no_copies, is_inhabited, subsets}
 use Rattle.sm_plan.specs.Statements.{is_over, rest_after, is_loop, loop_guard, loop_body}
 use Rattle.sm_plan.specs.States.{State}
 use Rattle.sm_plan.specs.Successors as next
 use Rattle.sm_plan.specs.Plans.{AllValid}
 use Rattle.sm_plan.specs.SoundStates.{IsSound, AreSound, IsStateBelow}
-use Rattle.sm_plan.proofs.Families.{each_true, has_that, inhabited_by, In, in_subsets}
-use Rattle.sm_plan.proofs.Cuts.{ends_then, run_cut, still, loop_is, over_is}
+use Rattle.sm_plan.proofs.CopiesLemmas.{each_true, has_that, inhabited_by, In, in_subsets}
+use Rattle.sm_plan.proofs.StatementsLemmas.{ends_then, run_cut, still, loop_is, over_is}
 use Rattle.sm_plan.proofs.JointTurns.{Joint, together}
-use Rattle.sm_plan.proofs.Bounded.{IsStoreBelow}
+use Rattle.sm_plan.proofs.BelowLemmas.{IsStoreBelow}
 
 -- valid goals hold where the facts do
 pub valid_hold : (m : Structure) (facts goals : List Assertion) → AllValid facts goals → AllHold m facts → AllHold m goals

@@ -3,8 +3,8 @@ use Rattle.sm_syntax.specs.declared.tree.Cond.{Cond, And, Or}
 use Rattle.sm_syntax.specs.Views.{expression_of, condition_of}
 use Rattle.sm_deps.specs.Names.{mentions, tests}
 use Rattle.sm_deps.specs.Members.{members, either}
-use Rattle.sm_deps.proofs.Unions.{tests-Compare, tests-And, tests-Or, added_two, on_ok}
-use Rattle.sm_deps.proofs.mentioned.+add_cond.Goals as goal
+use Rattle.sm_deps.proofs.MembersLemmas.{tests-Compare, tests-And, tests-Or, added_two, on_ok}
+use Rattle.sm_deps.proofs.names.+add_cond.Goals as goal
 
 -- the names of the two sides
 pub returns-in_ok-add_expr-in-Cmp : goal.returns-in_ok-add_expr-in-Cmp

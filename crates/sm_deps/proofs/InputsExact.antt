@@ -15,7 +15,7 @@ use Rattle.sm_deps.specs.Names.{mentions, tests, code_names}
 use Rattle.sm_deps.specs.Needs.{NamePredicate, Within, Picked, Needs}
 use Rattle.sm_deps.specs.Inputs.{needed, greatest, inputs}
 use Rattle.sm_deps.specs.Members.{Below}
-use Rattle.sm_deps.proofs.Rounds.{Closed, From, grown_starts, grown_within, grown_closed}
+use Rattle.sm_deps.proofs.GrownLemmas.{Closed, From, grown_starts, grown_within, grown_closed}
 
 -- whether a name stands in a list of names with sorts
 abbrev stands : List (ℕ × Sort) → ℕ → Bool

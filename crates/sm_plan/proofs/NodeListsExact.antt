@@ -9,7 +9,7 @@ use Rattle.sm_plan.specs.States.{State, start_state}
 use Rattle.sm_plan.specs.Nodes.{Node, Opened, opens, rule_of, is_branching}
 use Rattle.sm_plan.specs.Plans.{Plan, At, Plans, Over, More, size, sizes, count, nodes_of, all_nodes, branches, most_branches, IsFresh, AreFresh, Due, Fault, Wrong, Deep, due, joined, expand, expand_all, obligations, AllValid, AllDischarged}
 use Rattle.sm_plan.specs.NodeLists.{Pending, above_opened, pending_states, states_of, NodesProve, start_pending}
-use Rattle.sm_plan.proofs.Whole.{opened_is, passed, joined_is, parts_discharged, due_valid, shallow, states-pending}
+use Rattle.sm_plan.proofs.PlanSound.{opened_is, passed, joined_is, parts_discharged, due_valid, shallow, states-pending}
 
 -- few enough branching nodes
 is_few : (n : ℕ) → n ≤ 1000 → is_shallow n ≡ true

@@ -9,9 +9,9 @@ use Rattle.sm_syntax.specs.Sorts.{Sorts, IsWellSortedExpression, IsWellSortedCon
 use Rattle.sm_syntax.specs.Syntax.{Expression, Lit, Var, Read, Neg, Plus, Minus, Times, Condition, Yes, No, Compare, Not, And, Or, Code, End, Skip, Assign, Write, If, While, Hole}
 use Rattle.sm_deps.specs.Names.{mentions, tests, code_names}
 use Rattle.sm_deps.specs.Inputs.{needed, inputs}
-use Rattle.sm_deps.proofs.Exact.{inputs_listed}
+use Rattle.sm_deps.proofs.InputsExact.{inputs_listed}
 use Rattle.sm_deps.specs.Members.{Below}
-use Rattle.sm_deps.proofs.Rounds.{grown_within}
+use Rattle.sm_deps.proofs.GrownLemmas.{grown_within}
 
 -- whether a name is declared
 abbrev declared : Sorts → ℕ → Bool

@@ -3,8 +3,8 @@ use Rattle.sm_syntax.specs.declared.tree.Expr.{Expr, Add, Sub, Mul}
 use Rattle.sm_syntax.specs.Views.{expression_of}
 use Rattle.sm_deps.specs.Names.{mentions}
 use Rattle.sm_deps.specs.Members.{members, either}
-use Rattle.sm_deps.proofs.Unions.{mentions-Plus, mentions-Minus, mentions-Times, added_two, on_ok}
-use Rattle.sm_deps.proofs.mentioned.+add_expr.Goals as goal
+use Rattle.sm_deps.proofs.MembersLemmas.{mentions-Plus, mentions-Minus, mentions-Times, added_two, on_ok}
+use Rattle.sm_deps.proofs.names.+add_expr.Goals as goal
 
 -- the names of the two parts, whichever operation it is
 pub returns-in_ok-add_expr-in-Add : goal.returns-in_ok-add_expr-in-Add

@@ -8,7 +8,7 @@ use Rattle.sm_term.specs.Terms.{Tree, Lit, Start, Havoc, Slot, Cell, Read, Write
 use Rattle.sm_term.specs.Structures.{Structure, value_at, meaning, store_given, with_havoc}
 use Rattle.sm_term.specs.Assertions.{Assertion, Yes, No, Eq, Ne, Le, Lt, And, Or, Holds, AllHold}
 use Rattle.sm_term.specs.Fresh.{IsBelow, AreBelow, IsFormBelow, AreFormsBelow}
-use Rattle.sm_term.proofs.Places.{same_at, both_at, some_at, not_at, at_most_at, less_at}
+use Rattle.sm_term.proofs.SlotsLemmas.{same_at, both_at, some_at, not_at, at_most_at, less_at}
 
 mutual
   -- a term that doesn't name a node's new values means the same whatever they are

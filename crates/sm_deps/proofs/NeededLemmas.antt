@@ -26,8 +26,8 @@ use Rattle.sm_deps.specs.Inputs.{grown, needed, inputs}
 use Rattle.sm_deps.specs.Members.{members, only, either, Below}
 use Rattle.sm_deps.specs.Names.{mentions, tests, code_names}
 use Rattle.sm_deps.specs.Needs.{Picked}
-use Rattle.sm_deps.proofs.Exact.{needed_sound, needed_complete, inputs_listed, inputs_exact}
-use Rattle.sm_deps.proofs.Unions.{at_number, or_assoc, or-false, listed-members, list_is}
+use Rattle.sm_deps.proofs.InputsExact.{needed_sound, needed_complete, inputs_listed, inputs_exact}
+use Rattle.sm_deps.proofs.MembersLemmas.{at_number, or_assoc, or-false, listed-members, list_is}
 
 -- before one code after another, what the first needs for what the second needs
 pub needed-append : (c r : Code) (wanted : ℕ → Bool) → needed (append c r) wanted ≡ needed c (needed r wanted)

@@ -19,7 +19,7 @@ use Rattle.sm_term.specs.Terms.{Tree}
 use Rattle.sm_term.specs.Structures.{Structure, meaning}
 use Rattle.sm_term.specs.Assertions.{Assertion, Yes, No, Eq, Ne, Le, Lt, And, Or, Holds, AllHold, IsValid, IsRefuted, negate, conj}
 use Rattle.sm_term.specs.Symbolic.{SymbolicStore, store_meant, term_of, comparison_form, form_of}
-use Rattle.sm_term.proofs.Values.{term_means}
+use Rattle.sm_term.proofs.SymbolicLemmas.{term_means}
 
 -- numbers that can't differ are equal
 equal : (y z : ℤ) → ((y ≡ z → ⊥) → ⊥) → y ≡ z

@@ -1,6 +1,6 @@
 use Rattle.std.proofs.Common.{◌≡◌, ◌++◌, map}
 use Rattle.sm_syntax.specs.declared.tree.Name.{Name}
-use Rattle.sm_deps.proofs.sets.list_of.Given as goal
+use Rattle.sm_deps.proofs.members.list_of.Given as goal
 
 abbrev pub invariant-loop-x : goal.invariant-loop-x
 invariant-loop-x l = map (λ (n : Name). n.0) l.list.items ++ l.x-iterator ≡ l.names.keys

@@ -4,12 +4,12 @@ ghost use Rattle.sm_syntax.specs.Views.{expression_of, condition_of};
 ghost use Rattle.sm_deps.specs.Names.{mentions, tests};
 ghost use Rattle.sm_deps.specs.Members.{members, either};
 
-use crate::sets::{NameSet, add_name};
+use crate::members::{NameSet, add_name};
 use sm_syntax::{Cond, Expr};
 use std::alloc::AllocError;
 
 // Adds the names of an expression.
-#[tactic(auto, using(crate::proofs::Unions::unions))]
+#[tactic(auto, using(crate::proofs::MembersLemmas::unions))]
 pub(crate) fn add_expr(names: &mut NameSet, e: &Expr) -> Result<(), AllocError>
     ensures { let names_of_expression = mentions (expression_of e.now) in
         OnOk result (members names.new ≡ either (members names.old) names_of_expression) }
@@ -30,7 +30,7 @@ pub(crate) fn add_expr(names: &mut NameSet, e: &Expr) -> Result<(), AllocError>
 }
 
 // Adds the names of a condition.
-#[tactic(auto, using(crate::proofs::Unions::unions))]
+#[tactic(auto, using(crate::proofs::MembersLemmas::unions))]
 pub(crate) fn add_cond(names: &mut NameSet, c: &Cond) -> Result<(), AllocError>
     ensures { let names_of_condition = tests (condition_of c.now) in
         OnOk result (members names.new ≡ either (members names.old) names_of_condition) }

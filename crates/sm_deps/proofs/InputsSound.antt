@@ -12,8 +12,8 @@ use Rattle.sm_deps.specs.Names.{mentions, tests}
 use Rattle.sm_deps.specs.Needs.{NamePredicate, Picked, Least, Needs}
 use Rattle.sm_deps.specs.Inputs.{inputs}
 use Rattle.sm_deps.specs.Laws.{EndAlike, SameIfSorted}
-use Rattle.sm_deps.proofs.Closed.{least_starts, least_stays}
-use Rattle.sm_deps.proofs.Exact.{inputs_exact}
+use Rattle.sm_deps.proofs.NeedsLemmas.{least_starts, least_stays}
+use Rattle.sm_deps.proofs.InputsExact.{inputs_exact}
 
 -- when two values of a name are alike
 abbrev Likeness : Type 1

@@ -12,9 +12,9 @@ use Rattle.sm_deps.specs.Names.{tests, code_names}
 use Rattle.sm_deps.specs.Inputs.{needed}
 use Rattle.sm_deps.specs.Members.{members, either, Below}
 use Rattle.sm_deps.specs.Loops.{loops_in, HasNeeds, IsWithin, IsReady, Passes, GoesOver, Settles, Resumes, KeepsSet}
-use Rattle.sm_deps.proofs.Exact.{loop_closed}
-use Rattle.sm_deps.proofs.Rounds.{grown_starts, grown_within}
-use Rattle.sm_deps.proofs.Steps.{needed-append, needed_grows, both_ways, no_more}
+use Rattle.sm_deps.proofs.InputsExact.{loop_closed}
+use Rattle.sm_deps.proofs.GrownLemmas.{grown_starts, grown_within}
+use Rattle.sm_deps.proofs.NeededLemmas.{needed-append, needed_grows, both_ways, no_more}
 
 -- a set of names
 abbrev Test : Type 0

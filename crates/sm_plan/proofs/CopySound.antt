@@ -13,21 +13,21 @@ use Rattle.sm_syntax.proofs.Appends.{run-append}
 use Rattle.sm_syntax.proofs.Unassigned.{unassigned}
 use Rattle.sm_deps.specs.Inputs.{inputs}
 use Rattle.sm_deps.specs.Laws.{EndAlike}
-use Rattle.sm_deps.proofs.Alike.{inputs_alike}
+use Rattle.sm_deps.proofs.InputsSound.{inputs_alike}
 use Rattle.sm_term.specs.Terms.{Tree, Fun, Arguments, Over, Given}
 use Rattle.sm_term.specs.Terms as term
 use Rattle.sm_term.specs.Structures.{Structure, value_at, meaning, store_given}
 use Rattle.sm_term.specs.Assertions.{Assertion, Holds, AllHold, negate}
 use Rattle.sm_term.specs.Symbolic.{SymbolicStore, store_meant, with_term, term_of, form_of}
-use Rattle.sm_term.proofs.Values.{term_means}
-use Rattle.sm_term.proofs.Truths.{form_means, contrary, holds_append}
+use Rattle.sm_term.proofs.SymbolicLemmas.{term_means}
+use Rattle.sm_term.proofs.AssertionsLemmas.{form_means, contrary, holds_append}
 use Rattle.sm_plan.specs.Statements.{front, rest_after, last_guard}
 use Rattle.sm_plan.specs.States.{State}
 use Rattle.sm_plan.specs.Successors as next
 use Rattle.sm_plan.specs.Nodes.{Opened, follows, both_ways}
 use Rattle.sm_plan.specs.SoundStates.{IsSound, AreSound}
-use Rattle.sm_plan.proofs.Families.{one_copy}
-use Rattle.sm_plan.proofs.Cuts.{run_cut, last_guard_false}
+use Rattle.sm_plan.proofs.CopiesLemmas.{one_copy}
+use Rattle.sm_plan.proofs.StatementsLemmas.{run_cut, last_guard_false}
 
 -- the meaning of a choice of terms
 pub meaning_choice : (m : Structure) (b : Bool) (t u : Tree) → meaning m (if b then t else u) ≡ if b then meaning m t else meaning m u

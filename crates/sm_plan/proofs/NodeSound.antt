@@ -8,7 +8,7 @@ use Rattle.sm_term.specs.Assertions.{No, negate, conj}
 use Rattle.sm_term.specs.Symbolic.{SymbolicStore, form_of}
 use Rattle.sm_term.specs.Slots.{all_at_stores}
 use Rattle.sm_term.specs.Fresh.{AreFormsBelow}
-use Rattle.sm_term.proofs.Below.{forms_later}
+use Rattle.sm_term.proofs.FreshLemmas.{forms_later}
 use Rattle.sm_plan.specs.Copies.{each, has, is_inhabited, subsets}
 use Rattle.sm_plan.specs.Statements.{is_over, is_long, front, rest_after, is_loop, last_guard}
 use Rattle.sm_plan.specs.Limits.{is_kept}
@@ -17,9 +17,9 @@ use Rattle.sm_plan.specs.Successors as next
 use Rattle.sm_plan.specs.Nodes.{Node, Step, Abs, Fork, Loop, Block, Dead, Ends, Unfit, Opened, follows, asks, where_true, after_step, both_ways, opens, IsFreshAt}
 use Rattle.sm_plan.specs.Plans.{AllValid}
 use Rattle.sm_plan.specs.SoundStates.{IsSound, AreSound, IsStateBelow, AreStatesBelow}
-use Rattle.sm_plan.proofs.OneCopy.{step_sound, both_ways_sound, summary_sound}
-use Rattle.sm_plan.proofs.AllCopies.{ends_sound, block_sound, loop_node_sound}
-use Rattle.sm_plan.proofs.Bounded.{conj_below, all_at_stores_below, stepped_below, moved_below, form_below, negate_below, summarized_below, false_guard_below, state_later, states_append, turns_below, after_below, inner_below, behind_below}
+use Rattle.sm_plan.proofs.CopySound.{step_sound, both_ways_sound, summary_sound}
+use Rattle.sm_plan.proofs.LoopsSound.{ends_sound, block_sound, loop_node_sound}
+use Rattle.sm_plan.proofs.BelowLemmas.{conj_below, all_at_stores_below, stepped_below, moved_below, form_below, negate_below, summarized_below, false_guard_below, state_later, states_append, turns_below, after_below, inner_below, behind_below}
 
 -- a test that passed
 where_true_is : (b : Bool) (r q : Opened) → where_true b r ≡ Some q → (b ≡ true) × (r ≡ q)

@@ -13,17 +13,17 @@ use Rattle.sm_term.specs.Terms.{Tree}
 use Rattle.sm_term.specs.Structures.{Structure, meaning, with_slots}
 use Rattle.sm_term.specs.Assertions.{Assertion, AllHold}
 use Rattle.sm_term.specs.Symbolic.{form_of}
-use Rattle.sm_term.proofs.Truths.{form_means, holds_parts, conj_means}
+use Rattle.sm_term.proofs.AssertionsLemmas.{form_means, holds_parts, conj_means}
 use Rattle.sm_plan.specs.Limits.{is_shallow}
 use Rattle.sm_plan.specs.States.{State, place, keeps_goals, start_store, start_facts, start_state}
 use Rattle.sm_plan.specs.Nodes.{Node, Opened, opens, rule_of}
 use Rattle.sm_plan.specs.Plans.{Plan, At, Plans, Over, More, size, count, branches, IsFresh, AreFresh, Due, Fault, Wrong, Deep, due, joined, opened, expand, expand_all, obligations, AllValid, AllDischarged}
 use Rattle.sm_plan.specs.NodeLists.{Pending, above_opened, pending_states, states_of, NodesProve, start_pending}
 use Rattle.sm_plan.specs.SoundStates.{IsSound, AreSound, IsStateBelow, AreStatesBelow}
-use Rattle.sm_plan.proofs.Families.{In}
-use Rattle.sm_plan.proofs.AllCopies.{sound_behind}
-use Rattle.sm_plan.proofs.Bounded.{states_later, states_append, start_below}
-use Rattle.sm_plan.proofs.OneNode.{node_sound, node_below}
+use Rattle.sm_plan.proofs.CopiesLemmas.{In}
+use Rattle.sm_plan.proofs.LoopsSound.{sound_behind}
+use Rattle.sm_plan.proofs.BelowLemmas.{states_later, states_append, start_below}
+use Rattle.sm_plan.proofs.NodeSound.{node_sound, node_below}
 
 -- what a node opened, where there are obligations
 pub opened_is : (o : Option Opened) (w : Fault) (f : Opened → Result (List Due) Fault) (ds : List Due) → opened o w f ≡ Ok ds → (q : Opened) × (o ≡ Some q) × (f q ≡ Ok ds)

@@ -13,7 +13,7 @@ use Rattle.sm_syntax.specs.Views.{sequence, statement_of, code_of}
 use Rattle.sm_syntax.proofs.Blocks.{statement_is, sequence-drop, sequence-drop-end}
 use Rattle.sm_syntax.proofs.Statements.{statement_of-Skip, statement_of-Assign, statement_of-Store, statement_of-If, statement_of-While, statement_of-Hole}
 use Rattle.sm_deps.specs.Members.{only, either}
-use Rattle.sm_deps.proofs.Unions.{none, or-false, or_assoc, either-none, either-either}
+use Rattle.sm_deps.proofs.MembersLemmas.{none, or-false, or_assoc, either-none, either-either}
 
 -- one code after another assigns what either does
 assigns-append : (c r : Code) (x : ℕ) → assigns (append c r) x ≡ (assigns c x || assigns r x)

@@ -14,14 +14,14 @@ use Rattle.sm_term.specs.Assertions.{Assertion, Yes, No, Eq, Ne, Le, Lt, And, Or
 use Rattle.sm_term.specs.Symbolic.{SymbolicStore, with_term, term_of, comparison_form, form_of}
 use Rattle.sm_term.specs.Slots.{fill_term, fill_arguments, at_stores, all_at_stores}
 use Rattle.sm_term.specs.Fresh.{IsBelow, AreBelow, IsFormBelow, AreFormsBelow}
-use Rattle.sm_term.proofs.Below.{tree_later, forms_later, below_append}
+use Rattle.sm_term.proofs.FreshLemmas.{tree_later, forms_later, below_append}
 use Rattle.sm_deps.specs.Inputs.{inputs}
 use Rattle.sm_plan.specs.Copies.{Copies, copies, has, no_copies}
 use Rattle.sm_plan.specs.Statements.{loop_guard}
 use Rattle.sm_plan.specs.States.{State, place, keeps_goals, start_store, start_facts, start_state}
 use Rattle.sm_plan.specs.Successors as next
 use Rattle.sm_plan.specs.SoundStates.{IsStateBelow, AreStatesBelow}
-use Rattle.sm_plan.proofs.Families.{one_copy}
+use Rattle.sm_plan.proofs.CopiesLemmas.{one_copy}
 
 -- a symbolic store names no new value of a node or of a later one
 abbrev pub IsStoreBelow : ℕ → SymbolicStore → Type 0

@@ -1,8 +1,8 @@
 use Rattle.std.proofs.lemmas.Result.{on_ok_weaker}
 use Rattle.std.specs.BTreeSet.{InsertsAll}
 use Rattle.std.specs.Ordering.{nat_cmp}
-use Rattle.sm_deps.proofs.Unions.{members-union}
-use Rattle.sm_deps.proofs.sets.add_all.Goals as goal
+use Rattle.sm_deps.proofs.MembersLemmas.{members-union}
+use Rattle.sm_deps.proofs.members.add_all.Goals as goal
 
 pub returns : goal.returns
 returns c =
