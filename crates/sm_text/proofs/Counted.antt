@@ -53,7 +53,7 @@ signs-split bytes before n ts =
     )
 
 -- a text that is among others stands before their end
-among-below : (texts : List (List ℕ)) (t : List ℕ) → is_among texts t ≡ true → position_or_len (bytes_eq t) texts < length texts
+pub among-below : (texts : List (List ℕ)) (t : List ℕ) → is_among texts t ≡ true → position_or_len (bytes_eq t) texts < length texts
 among-below [] t h = absurd (true≢false (sym h))
 among-below (x ∷ xs) t h = by (bytes_eq t x) refl (among-below xs t)
   where
@@ -67,7 +67,7 @@ among-below (x ∷ xs) t h = by (bytes_eq t x) refl (among-below xs t)
         omega (arith, at, below)
 
 -- one that isn't has the number of their end
-fresh-last : (texts : List (List ℕ)) (t : List ℕ) → is_among texts t ≡ false → position_or_len (bytes_eq t) texts ≡ length texts
+pub fresh-last : (texts : List (List ℕ)) (t : List ℕ) → is_among texts t ≡ false → position_or_len (bytes_eq t) texts ≡ length texts
 fresh-last [] t h = refl
 fresh-last (x ∷ xs) t h = by (bytes_eq t x) refl (fresh-last xs t)
   where

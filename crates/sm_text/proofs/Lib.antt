@@ -43,3 +43,6 @@ pub mod Spaced
 pub mod HeadText
 pub mod Standing
 pub mod CutTokens
+pub mod FirstFaultUnique
+pub mod Faultless
+pub mod DeclaredInOrder

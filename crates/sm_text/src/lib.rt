@@ -7,7 +7,9 @@
 //!   A refusal names the first fault of the text: its kind and its place.
 //! - `parse_program` reads exactly the texts of a program alone, and a refusal names the first fault in the same way.
 //! - `parse_head` and `parse_block` read the front of a task, and a block from a token on, whatever stands behind.
-//! - `one_task` is the law that the grammar spells at most one task by a text.
+//! - Laws: the grammar spells at most one task by a text (`one_task`) and numbers what it declares in
+//!   order (`declared_in_order`), a text in the grammar has no fault (`no_fault_in_grammar`), and any
+//!   other text has one first fault (`one_first_fault`).
 //!
 //! What is read stands in `specs/` of `sm_syntax`, and which fault is the first in `specs/Places.antt` here. `specs/Reading.antt`
 //! has the parsers that the code follows.
@@ -35,7 +37,9 @@ mod text;
 mod token_list;
 
 pub use error::TextError;
-pub use laws::{one_task, tokens_are_cut};
+pub use laws::{
+    declared_in_order, no_fault_in_grammar, one_first_fault, one_task, tokens_are_cut,
+};
 pub use lexer::tokens;
 pub use prefix::{parse_block, parse_head};
 pub use print::{print_block, print_cond, print_program, print_sections};
