@@ -23,8 +23,6 @@ mod input;
 mod judging;
 mod laws;
 mod number;
-#[cfg(test)]
-mod tests;
 mod trials;
 mod verdict;
 mod written;
