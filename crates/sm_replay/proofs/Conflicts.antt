@@ -1,5 +1,5 @@
 -- A violation is a conflict.
-use Rattle.std.proofs.Common.{◌≡◌, ℕ}
+use Rattle.std.proofs.Common.{ℕ}
 use Rattle.sm_syntax.specs.ConflictFree.{Task, ConflictFree}
 use Rattle.sm_syntax.specs.Stores.{Store}
 use Rattle.sm_replay.specs.Violations.{Violates}

@@ -1,6 +1,6 @@
 -- The number that a value of JSON gives, as the code asks for it.
-use Rattle.std.proofs.Common.{◌≡◌, ℕ, ℤ, pos, Option, Some, None, option_and_then, List, refl, sym, ap, ◌∙◌}
-use Rattle.serde_json.specs.Data.{Num, unsigned, negative, float, Data, null, boolean, number, string, array, object}
+use Rattle.std.proofs.Common.{◌≡◌, ℕ, ℤ, pos, Some, None, option_and_then, List, refl, ap}
+use Rattle.serde_json.specs.Data.{unsigned, negative, float, Data, null, boolean, number, string, array, object}
 use Rattle.serde_json.specs.Find.{as_number, as_u64, as_i64, as_str}
 use Rattle.sm_replay.specs.Numbers.{number_of_text, number_of}
 

@@ -1,4 +1,5 @@
--- Stores that are filled name by name and element by element, from 0 on.
+-- Stores that get their values name by name and element by element, from 0 on. No public clause
+-- cites it.
 use Rattle.std.specs.Prelude.{◌≡◌, ◌≢◌, ◌⊎◌, ◌↔◌, ℕ, ℤ, Option, Some, unwrap_or, List}
 use Rattle.std.specs.List.{Contains}
 use Rattle.sm_syntax.specs.Stores.{Value, array, Store}

@@ -1,4 +1,5 @@
--- Inputs: which store an object of JSON gives, and why other bytes are refused.
+-- Inputs: which store an object of JSON gives, and why other bytes are refused. Public clauses cite
+-- it.
 use Rattle.std.specs.Prelude.{◌≡◌, ℕ, ℤ, pos, if◌then◌else◌, Option, Some, None, option_map, option_and_then, unwrap_or, Result, Ok, Err, List, [], ◌∷◌, slice_get, position}
 use Rattle.std.specs.Fmt.{signed_decimal}
 use Rattle.std.specs.Option.{option_or}
@@ -28,17 +29,22 @@ name_of x = record { 0 = x }
 
 -- a declared name by its text, with its sort
 abbrev pub declared_name : Texts → Sorts → List ℕ → Option (ℕ × Sort)
-declared_name names sorts key = option_and_then (λ (x : ℕ). option_and_then (λ (sort : Sort). Some (x, sort)) (sorts x)) (position (bytes_eq key) names)
+declared_name names sorts key =
+    option_and_then (λ (x : ℕ). option_and_then (λ (sort : Sort). Some (x, sort)) (sorts x))
+    (position (bytes_eq key) names)
 
 -- nothing where a number is there, else the error
 abbrev pub missing : Option ℤ → InputError → Option InputError
 missing None error = Some error
 missing (Some z) error = None
 
--- why the members of an array aren't cells: the first whose key is no number, or whose value is none
+-- why the members of an array aren't cells: the first whose key is no number, or whose value is
+-- none
 abbrev pub cells_fault : ℕ → Members → Option InputError
 cells_fault x no_members = None
-cells_fault x (member key d rest) = option_or (missing (number_of_text key) (BadIndex (name_of x))) (option_or (missing (number_of d) (BadValue (name_of x))) (cells_fault x rest))
+cells_fault x (member key d rest) =
+    option_or (missing (number_of_text key) (BadIndex (name_of x)))
+    (option_or (missing (number_of d) (BadValue (name_of x))) (cells_fault x rest))
 
 -- why a value isn't that of an array
 abbrev pub array_fault : ℕ → Option Members → Option InputError
@@ -54,7 +60,8 @@ value_fault (Some (x, Arr)) d = array_fault x (as_object d)
 -- the first fault of the members of an input, which stand in the order of their keys
 abbrev pub members_fault : Texts → Sorts → Members → Option InputError
 members_fault names sorts no_members = None
-members_fault names sorts (member key d rest) = option_or (value_fault (declared_name names sorts key) d) (members_fault names sorts rest)
+members_fault names sorts (member key d rest) =
+    option_or (value_fault (declared_name names sorts key) d) (members_fault names sorts rest)
 
 -- why a value isn't an input
 abbrev pub input_fault : Texts → Sorts → Option Members → Option InputError
@@ -65,9 +72,12 @@ input_fault names sorts (Some members) = members_fault names sorts members
 abbrev pub number_or_zero : Option Data → ℤ
 number_or_zero d = unwrap_or (option_and_then number_of d) (pos 0)
 
--- the elements that an array's member gives: at an index inside 128 bits the number whose key is the index
+-- the elements that an array's member gives: at an index inside 128 bits the number whose key is
+-- the index
 abbrev pub elements : Data → ℤ → Option ℤ
-elements d i = if fits i then option_map (λ (v : Data). number_or_zero (Some v)) (get (signed_decimal i) d) else None
+elements d i =
+    if fits i then option_map (λ (v : Data). number_or_zero (Some v)) (get (signed_decimal i) d)
+    else None
 
 -- what one cell gives: the number at its index
 abbrev pub cell_given : Option ℤ → Data → List (ℤ × ℤ)
@@ -106,7 +116,8 @@ pub record IsInput (names : Texts) (sorts : Sorts) (bytes : List ℕ) (s : code.
   pub declared : sorts_of s ≡ sorts
 
 -- the bytes are JSON, and this is the first refusal of its value
-pub record IsRefused (names : Texts) (sorts : Sorts) (bytes : List ℕ) (error : InputError) : Type 0 where
+pub record IsRefused (names : Texts) (sorts : Sorts) (bytes : List ℕ) (error : InputError)
+    : Type 0 where
   pub value : Data
   pub json : IsJson bytes value
   pub fault : input_fault names sorts (as_object value) ≡ Some error

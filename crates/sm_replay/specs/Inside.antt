@@ -1,4 +1,5 @@
--- Stores whose declared names have values inside 128 bits, as those that a program holds.
+-- Stores whose declared names have values inside 128 bits, as those that a program holds. No public
+-- clause cites it.
 use Rattle.std.specs.Prelude.{◌≡◌, ℕ, ℤ, pos, true, false, Option, Some, None, List}
 use Rattle.sm_num.specs.Range.{fits}
 use Rattle.sm_syntax.specs.declared.tree.Sort.{Sort}
@@ -6,7 +7,8 @@ use Rattle.sm_syntax.specs.Sorts.{Sorts}
 use Rattle.sm_syntax.specs.Stores.{Value, Number, Array, Store}
 use Rattle.sm_replay.specs.Inputs.{Texts, declared_name}
 
--- a value inside 128 bits: a number, or an array of such numbers that has 0 at each index beyond 128 bits
+-- a value inside 128 bits: a number, or an array of such numbers that has 0 at each index beyond
+-- 128 bits
 abbrev pub IsInside : Value → Type 0
 IsInside (Number z) = fits z ≡ true
 IsInside (Array f) = (i : ℤ) → (fits (f i) ≡ true) × (fits i ≡ false → f i ≡ pos 0)

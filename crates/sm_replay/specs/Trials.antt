@@ -1,5 +1,5 @@
--- The trials: the inputs that are tried on every task. Trial 0 is zero.
-use Rattle.std.specs.Prelude.{◌≡◌, ◌≢◌, ◌<◌, ℕ, zero, suc, ◌+◌, ◌*◌, ◌/◌, ◌%◌, ℤ, pos, negsuc, ◌-ℤ◌, nat_lt, if◌then◌else◌, Option, Some, None, unwrap_or, MatchOption, Result, Ok, Err, List, length, slice_index_or}
+-- The trials: the inputs that are tried on every task. Trial 0 is zero. Public clauses cite it.
+use Rattle.std.specs.Prelude.{◌≡◌, ◌<◌, ℕ, zero, suc, ◌+◌, ◌*◌, ◌/◌, ◌%◌, ℤ, pos, negsuc, ◌-ℤ◌, nat_lt, if◌then◌else◌, Option, Some, None, unwrap_or, MatchOption, Result, Ok, Err, List, length, slice_index_or}
 use Rattle.sm_syntax.specs.declared.tree.Sort.{Sort}
 use Rattle.sm_syntax.specs.declared.tree.Sort.TheVariants.{Num, Arr}
 use Rattle.sm_syntax.specs.ConflictFree.{Task}
@@ -55,7 +55,9 @@ pub record IsLeast (t : Task) (sorts : Sorts) (n j : ℕ) (v : Verdict) : Type 0
 
 -- the least trial that violates, or none where no trial violates
 abbrev pub IsFirstViolation : Task → Sorts → ℕ → Option (ℕ × Verdict) → Type 0
-IsFirstViolation t sorts n found = MatchOption found ((j : ℕ) → j < trials → ¬ Violates t (trial sorts j) n) (λ (f : ℕ × Verdict). IsLeast t sorts n f.0 f.1)
+IsFirstViolation t sorts n found =
+    MatchOption found ((j : ℕ) → j < trials → ¬ Violates t (trial sorts j) n)
+    (λ (f : ℕ × Verdict). IsLeast t sorts n f.0 f.1)
 
 -- the verdict of an answer, where it says that the store violates
 abbrev pub shown_of : Result Verdict ReplayError → Option Verdict

@@ -1,5 +1,6 @@
--- The text of an input: compact JSON of each declared name, numbers as texts, an array without its zero cells.
-use Rattle.std.specs.Prelude.{◌≡◌, ◌<◌, ℕ, ℤ, pos, if◌then◌else◌, Option, Some, None, MatchOption, List, slice_get, position}
+-- The text of an input: compact JSON of each declared name, numbers as texts, an array without its
+-- zero cells. Public clauses cite it.
+use Rattle.std.specs.Prelude.{◌≡◌, ℕ, ℤ, pos, if◌then◌else◌, Option, Some, None, List, slice_get, position}
 use Rattle.std.specs.Cmp.Lexicographic.{slice_cmp}
 use Rattle.std.specs.declared.cmp.Ordering.TheVariants.{Less}
 use Rattle.std.specs.Fmt.{signed_decimal}
@@ -46,7 +47,8 @@ abbrev pub IsWrittenAs : Value → Data → Type 0
 IsWrittenAs (Number z) d = d ≡ number_text z
 IsWrittenAs (Array f) d = (cells : Members) × (d ≡ object cells) × AreWrittenCells f cells
 
--- what a key has among the members of a written input: the value of the declared name with that text
+-- what a key has among the members of a written input: the value of the declared name with that
+-- text
 abbrev pub IsMemberOf : Store → Option (ℕ × Sort) → Option Data → Type 0
 IsMemberOf s None d = d ≡ None
 IsMemberOf s (Some x) d = (value : Data) × (d ≡ Some value) × IsWrittenAs (s x.0) value
@@ -58,4 +60,6 @@ pub record AreWritten (names : Texts) (sorts : Sorts) (s : Store) (members : Mem
 
 -- each declared name has a text, by which it is found
 abbrev pub AreNamed : Texts → Sorts → Type 0
-AreNamed names sorts = (x : ℕ) (sort : Sort) → sorts x ≡ Some sort → (text : List ℕ) × (slice_get names x ≡ Some text) × (position (bytes_eq text) names ≡ Some x)
+AreNamed names sorts =
+    (x : ℕ) (sort : Sort) → sorts x ≡ Some sort
+    → (text : List ℕ) × (slice_get names x ≡ Some text) × (position (bytes_eq text) names ≡ Some x)

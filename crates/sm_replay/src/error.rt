@@ -35,8 +35,8 @@ impl From<AllocError> for InputError {
     }
 }
 
-/// Why the programs of a task have no ends that can be judged. Copies are numbered from 0 for the base to 3 for the
-/// candidate.
+/// Why the programs of a task have no ends that can be judged. Copies are numbered from 0 for the
+/// base to 3 for the candidate.
 #[derive(Clone, Copy, Debug, PartialEq, Eq, Error)]
 pub enum ReplayError {
     /// A loop of the copy whose guard holds after the greatest number of turns.

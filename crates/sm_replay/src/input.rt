@@ -18,11 +18,12 @@ use sm_eval::Store;
 use sm_syntax::{Decls, Name, NameTable, Sort};
 use std::alloc::{AllocError, Global};
 
-/// Reads an input, an object of JSON whose keys are declared names: the store in which each name has what its member
-/// says. A number is an integer of JSON inside 64 bits, or a text: `0`, or digits with no 0 before them, after at most
-/// one `-`. An array is an object of numbers whose keys are such texts. A name or an index without a member has 0. Of
-/// members with one key the last counts. The members are checked in the order of their keys' bytes, and an index before
-/// its number; the error is the first fault.
+/// Reads an input, an object of JSON whose keys are declared names: the store in which each name
+/// has what its member says. A number is an integer of JSON inside 64 bits, or a text: `0`, or
+/// digits with no 0 before them, after at most one `-`. An array is an object of numbers whose keys
+/// are such texts. A name or an index without a member has 0. Of members with one key the last
+/// counts. The members are checked in the order of their keys' bytes, and an index before its
+/// number; the error is the first fault.
 pub fn read_input(
     alloc: Global,
     decls: &Decls,
@@ -43,10 +44,14 @@ fn read_value(
     names: &NameTable,
     input: &Value,
 ) -> Result<Store, InputError>
-    ensures faultless { OnOk result (input_fault names.now (sort_of (declared_of decls.now)) (as_object (view input.now)) ≡ None) }
-    ensures value { IfOk result (λ s. meaning s ≡ store_of names.now (sort_of (declared_of decls.now)) (view input.now)) }
+    ensures faultless { let sorts = sort_of (declared_of decls.now) in
+        OnOk result (input_fault names.now sorts (as_object (view input.now)) ≡ None) }
+    ensures value { let sorts = sort_of (declared_of decls.now) in
+        IfOk result (λ s. meaning s ≡ store_of names.now sorts (view input.now)) }
     ensures sorts { IfOk result (λ s. sorts_of s ≡ sort_of (declared_of decls.now)) }
-    ensures err { IfErr result (λ e. e ≢ InputError.Memory → input_fault names.now (sort_of (declared_of decls.now)) (as_object (view input.now)) ≡ Some e) }
+    ensures err { let sorts = sort_of (declared_of decls.now) in
+        IfErr result (λ e. e ≢ InputError.Memory
+        → input_fault names.now sorts (as_object (view input.now)) ≡ Some e) }
 {
     let Some(members) = input.as_object() else {
         return Err(InputError::NotObject);
@@ -60,7 +65,8 @@ fn read_value(
 // The value of JSON that the bytes are.
 fn parse_json(alloc: Global, bytes: &[u8]) -> Result<Value, InputError>
     ensures { MatchResult result (λ v. IsJson bytes.now (view v))
-        (λ e. e ≢ InputError.Memory → (e ≡ InputError.BadJson) × ((d : Data) → ¬ IsJson bytes.now d)) }
+        (λ e. e ≢ InputError.Memory
+        → (e ≡ InputError.BadJson) × ((d : Data) → ¬ IsJson bytes.now d)) }
 {
     match Value::from_slice(alloc, bytes) {
         Ok(value) => Ok(value),
@@ -180,7 +186,8 @@ fn give(
     member: Option<&Value>,
 ) -> Result<(), AllocError>
     requires { sorts_of s.old x.0 ≡ sort }
-    ensures value { OnOk result (Gives (zero_of sort) (given sort (option_map (λ v. view v.now) member.entry)) x.0 (meaning s.old) (meaning s.new)) }
+    ensures value { let value = given sort (option_map (λ v. view v.now) member.entry) in
+        OnOk result (Gives (zero_of sort) value x.0 (meaning s.old) (meaning s.new)) }
     ensures sorts { sorts_of s.new ≡ sorts_of s.old }
 {
     match sort {
@@ -198,7 +205,8 @@ fn give_sorted(
     member: Option<&Value>,
 ) -> Result<(), AllocError>
     requires { sorts_of s.old x.0 ≡ Some sort }
-    ensures value { OnOk result (Gives (zero_of (Some sort)) (given (Some sort) (option_map (λ v. view v.now) member.entry)) x.0 (meaning s.old) (meaning s.new)) }
+    ensures value { let value = given (Some sort) (option_map (λ v. view v.now) member.entry) in
+        OnOk result (Gives (zero_of (Some sort)) value x.0 (meaning s.old) (meaning s.new)) }
     ensures sorts { sorts_of s.new ≡ sorts_of s.old }
 {
     match sort {
@@ -226,7 +234,8 @@ fn number_or_zero(member: Option<&Value>) -> i128
 // Gives an array the elements that a member says.
 fn give_array(alloc: Global, s: &mut Store, a: Name, array: &Value) -> Result<(), AllocError>
     requires { sorts_of s.old a.0 ≡ Some Sort.Arr }
-    ensures value { OnOk result (Overrides (elements (view array.now)) a.0 (meaning s.old) (meaning s.new)) }
+    ensures value { let given = elements (view array.now) in
+        OnOk result (Overrides given a.0 (meaning s.old) (meaning s.new)) }
     ensures sorts { sorts_of s.new ≡ sorts_of s.old }
 {
     match array.as_object() {
@@ -244,7 +253,8 @@ fn give_cells(
     cells: &Map<String, Value>,
 ) -> Result<(), AllocError>
     requires { sorts_of s.old a.0 ≡ Some Sort.Arr }
-    ensures value { OnOk result (Overrides (elements (object (members_view cells.now.entries))) a.0 (meaning s.old) (meaning s.new)) }
+    ensures value { let given = elements (object (members_view cells.now.entries)) in
+        OnOk result (Overrides given a.0 (meaning s.old) (meaning s.new)) }
     ensures sorts { sorts_of s.new ≡ sorts_of s.old }
 {
     let mut list = list_of(alloc, cells)?;

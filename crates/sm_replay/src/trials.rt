@@ -12,10 +12,12 @@ use sm_syntax::{Name, Sort};
 use sm_task::Task;
 use std::alloc::{AllocError, Global};
 
-/// The trial with a number. Trial 0 is zero. In any other each number variable, and the elements at 0 to 7 of each array,
-/// have a number from -6 to 12 that the trial's number and the name's determine.
+/// The trial with a number. Trial 0 is zero. In any other each number variable, and the elements at
+/// 0 to 7 of each array, have a number from -6 to 12 that the trial's number and the name's
+/// determine.
 pub fn trial(alloc: Global, task: &Task, j: u8) -> Result<Store, AllocError>
-    ensures value { IfOk result (λ s. meaning s ≡ trial (sort_of (declared_of task.now.shared.decls)) j) }
+    ensures value { let sorts = sort_of (declared_of task.now.shared.decls) in
+        IfOk result (λ s. meaning s ≡ trial sorts j) }
     ensures sorts { IfOk result (λ s. sorts_of s ≡ sort_of (declared_of task.now.shared.decls)) }
 {
     if j == 0 {
@@ -27,7 +29,8 @@ pub fn trial(alloc: Global, task: &Task, j: u8) -> Result<Store, AllocError>
 // A trial that isn't the first.
 fn later_trial(alloc: Global, task: &Task, j: u8) -> Result<Store, AllocError>
     requires { 0 < j }
-    ensures value { IfOk result (λ s. meaning s ≡ trial (sort_of (declared_of task.now.shared.decls)) j) }
+    ensures value { let sorts = sort_of (declared_of task.now.shared.decls) in
+        IfOk result (λ s. meaning s ≡ trial sorts j) }
     ensures sorts { IfOk result (λ s. sorts_of s ≡ sort_of (declared_of task.now.shared.decls)) }
 {
     let mut s = Store::zero(alloc, &task.shared.decls)?;
@@ -41,7 +44,8 @@ fn later_trial(alloc: Global, task: &Task, j: u8) -> Result<Store, AllocError>
 // Gives a name its value in a trial.
 fn give(s: &mut Store, x: Name, sort: Option<Sort>, j: u8) -> Result<(), AllocError>
     requires { sorts_of s.old x.0 ≡ sort }
-    ensures value { OnOk result (Gives (zero_of sort) (value_in_trial j x.0 sort) x.0 (meaning s.old) (meaning s.new)) }
+    ensures value { let value = value_in_trial j x.0 sort in
+        OnOk result (Gives (zero_of sort) value x.0 (meaning s.old) (meaning s.new)) }
     ensures sorts { sorts_of s.new ≡ sorts_of s.old }
 {
     match sort {
@@ -53,7 +57,8 @@ fn give(s: &mut Store, x: Name, sort: Option<Sort>, j: u8) -> Result<(), AllocEr
 // Gives a declared name its value in a trial.
 fn give_sorted(s: &mut Store, x: Name, sort: Sort, j: u8) -> Result<(), AllocError>
     requires { sorts_of s.old x.0 ≡ Some sort }
-    ensures value { OnOk result (Gives (zero_of (Some sort)) (value_in_trial j x.0 (Some sort)) x.0 (meaning s.old) (meaning s.new)) }
+    ensures value { let value = value_in_trial j x.0 (Some sort) in
+        OnOk result (Gives (zero_of (Some sort)) value x.0 (meaning s.old) (meaning s.new)) }
     ensures sorts { sorts_of s.new ≡ sorts_of s.old }
 {
     match sort {
@@ -68,7 +73,8 @@ fn give_sorted(s: &mut Store, x: Name, sort: Sort, j: u8) -> Result<(), AllocErr
 // Gives an array its elements in a trial.
 fn give_elements(s: &mut Store, a: Name, j: u8) -> Result<(), AllocError>
     requires { sorts_of s.old a.0 ≡ Some Sort.Arr }
-    ensures value { OnOk result (Overrides (elements_below 8 j a.0) a.0 (meaning s.old) (meaning s.new)) }
+    ensures value { let given = elements_below 8 j a.0 in
+        OnOk result (Overrides given a.0 (meaning s.old) (meaning s.new)) }
     ensures sorts { sorts_of s.new ≡ sorts_of s.old }
 {
     for c in 0..8u64 {

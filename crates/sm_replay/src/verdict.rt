@@ -8,8 +8,8 @@ pub enum Verdict {
     Holds,
     /// The store doesn't meet the assumption.
     Unmet,
-    /// The four programs end, and this is the first output at which the condition fails, with the least index where it
-    /// is an array, and the first clause there, from 1 to 3.
+    /// The four programs end, and this is the first output at which the condition fails, with the
+    /// least index where it is an array, and the first clause there, from 1 to 3.
     Violates {
         name: Name,
         index: Option<i128>,

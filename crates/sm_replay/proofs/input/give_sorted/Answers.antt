@@ -1,5 +1,5 @@
 -- An array that gets its elements gets its value.
-use Rattle.std.proofs.Common.{◌≡◌, Option, Some, option_map, Bor, sym, ap, subst, ◌∙◌}
+use Rattle.std.proofs.Common.{Option, Some, option_map, Bor, sym, ap, subst, ◌∙◌}
 use Rattle.std.proofs.lemmas.Result.{on_ok_weaker}
 use Rattle.serde_json.specs.View.{view}
 use Rattle.serde_json.specs.declared.value.Value.{Value}
