@@ -1,5 +1,5 @@
 -- Answers of conditions: the truth, or the first operation that leaves 128 bits.
-use Rattle.std.proofs.Common.{◌≡◌, ℕ, ℤ, pos, Bool, true, false, if◌then◌else◌, Option, Some, None, Ok, Err, refl, subst}
+use Rattle.std.proofs.Common.{◌≡◌, ℤ, pos, Bool, true, false, if◌then◌else◌, Option, Some, None, Ok, Err, refl, subst}
 use Rattle.sm_num.specs.declared.op.Op.{Op}
 use Rattle.sm_num.specs.declared.op.Op.TheVariants.{Add, Sub, Mul}
 use Rattle.sm_num.specs.Range.{fits}
@@ -10,7 +10,7 @@ use Rattle.sm_eval.specs.declared.error.EvalError.{EvalError}
 use Rattle.sm_eval.specs.declared.error.EvalError.TheVariants as eval
 use Rattle.sm_eval.specs.Events.{exact, leaves, before, expression_event, condition_event, answer}
 use Rattle.sm_replay.specs.declared.error.ReplayError.TheVariants.{BeyondAssumed}
-use Rattle.sm_replay.specs.Ends.{Tells}
+use Rattle.sm_replay.specs.Judging.{Tells}
 use Rattle.sm_replay.specs.Violations.{IsMet}
 
 -- a value is the answer only where nothing happens

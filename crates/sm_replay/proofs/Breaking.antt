@@ -1,22 +1,23 @@
 -- What is found at one output.
-use Rattle.std.proofs.Common.{◌≡◌, ◌⊎◌, ℕ, ℤ, pos, Option, Some, None, refl, sym, ap, subst, ◌∙◌, ⊎_elim, arith}
+use Rattle.std.proofs.Common.{◌≡◌, ◌⊎◌, ℕ, ℤ, pos, Some, None, refl, sym, ap, subst, ◌∙◌, ⊎_elim, arith}
 use Rattle.std.specs.Prelude.{◌<ℤ◌, ◌≤ℤ◌}
 use Rattle.std.proofs.lemmas.Int.{ints}
 use Rattle.sm_syntax.specs.declared.tree.Sort.{Sort}
 use Rattle.sm_syntax.specs.declared.tree.Sort.TheVariants.{Num, Arr}
 use Rattle.sm_syntax.specs.ConflictFree.{Copy, O, A, B, M}
-use Rattle.sm_syntax.specs.FirstBroken.{IsFirstBroken}
 use Rattle.sm_syntax.specs.Keeps.{Cell, Scalar, Element, content, variable}
-use Rattle.sm_syntax.specs.Stores.{Value, number, zero_value, Store}
+use Rattle.sm_syntax.specs.Stores.{number, zero_value, Store}
 use Rattle.sm_eval.specs.declared.slot.Slot.{Slot}
 use Rattle.sm_eval.specs.declared.slot.Slot.TheVariants as slot
 use Rattle.sm_eval.specs.declared.store.Store as code
 use Rattle.sm_eval.specs.Slots.{held, sort, slot_of, meaning, sorts_of}
-use Rattle.sm_replay.specs.declared.ends.Ends as four
+use Rattle.sm_syntax.specs.declared.copies.PerCopy.{PerCopy}
+use Rattle.sm_syntax.specs.Copies.{of_copy}
 use Rattle.sm_replay.specs.declared.verdict.Verdict.{Verdict}
 use Rattle.sm_replay.specs.declared.verdict.Verdict.TheVariants as verdict
-use Rattle.sm_replay.specs.Ends.{end_in, HaveSort, IsBreakOf, NamesBreak, Finds, IsUpTo}
-use Rattle.sm_replay.specs.Verdicts.{cell_of, IsBelow}
+use Rattle.sm_replay.specs.Ends.{end_in, HaveSort}
+use Rattle.sm_replay.specs.FirstBreak.{IsBreakOf, NamesBreak, Finds}
+use Rattle.sm_replay.specs.Verdicts.{cell_of, IsBelow, FailsAt}
 use Rattle.sm_replay.specs.Violations.{KeepsAt}
 use Rattle.sm_replay.proofs.Least.{all_zero}
 use Rattle.sm_replay.proofs.Outputs.{KeptBelow, first_at}
@@ -34,14 +35,12 @@ unfolding meaning sorts_of
 absent s x is = held_absent (slot_of s.slots.items x) is
 
 -- so Keeps holds there
-pub undeclared_kept : (e : four.Ends) (x : ℕ) → HaveSort e x None → (c : Cell) → variable c ≡ (x, Num) → KeepsAt (end_in e) c
+pub undeclared_kept : (e : PerCopy code.Store) (x : ℕ) → HaveSort e x None → (c : Cell) → variable c ≡ (x, Num) → KeepsAt (end_in e) c
 undeclared_kept e x none (Scalar y) own =
     let same : y ≡ x = ap (λ (v : ℕ × Sort). v.0) own in
-    all_zero _ _ _ _
-    (ap (λ (z : ℕ). number (meaning e.base z)) same ∙ ap number (absent e.base x none.of_o))
-    (ap (λ (z : ℕ). number (meaning e.variant_a z)) same ∙ ap number (absent e.variant_a x none.of_a))
-    (ap (λ (z : ℕ). number (meaning e.variant_b z)) same ∙ ap number (absent e.variant_b x none.of_b))
-    (ap (λ (z : ℕ). number (meaning e.candidate z)) same ∙ ap number (absent e.candidate x none.of_m))
+    let nought : (c : Copy) → content (end_in e c) (Scalar y) ≡ pos 0 =
+    λ (c : Copy). ap (λ (z : ℕ). number (meaning (of_copy e c) z)) same ∙ ap number (absent (of_copy e c) x (none c)) in
+    all_zero _ _ _ _ (nought O) (nought A) (nought B) (nought M)
 undeclared_kept e x none (Element a i) own = let differ : Arr ≡ Num = ap (λ (v : ℕ × Sort). v.1) own in cc
 
 -- the only cell of a number variable
@@ -62,8 +61,7 @@ none_below end x (Scalar y) below = absurd below
 none_below end x (Element a i) below = absurd below
 
 -- a number variable at which it fails
-pub breaks_number : (end : Copy → Store) (x part : ℕ) → IsFirstBroken part (content (end O) (Scalar x)) (content (end A) (Scalar x)) (content (end B) (Scalar x)) (content (end M) (Scalar x))
-    → IsBreakOf (x, Num) end (Scalar x) part
+pub breaks_number : (end : Copy → Store) (x part : ℕ) → FailsAt end (Scalar x) part → IsBreakOf (x, Num) end (Scalar x) part
 breaks_number end x part broken = record { own = refl; indices_before = none_below end x; broken = broken }
 
 -- the least index at which it fails
@@ -74,7 +72,7 @@ kept_below end a i least (Element b j) below =
     (⊎_elim (λ (h : KeepsAt end (Element a j)). h) (λ (up : i ≤ℤ j). let lt : j <ℤ i = below.1 in absurd (omega (arith, ints))) (least j))
 
 pub breaks_element : (end : Copy → Store) (a part : ℕ) (i : ℤ) → ((j : ℤ) → KeepsAt end (Element a j) ⊎ (i ≤ℤ j))
-    → IsFirstBroken part (content (end O) (Element a i)) (content (end A) (Element a i)) (content (end B) (Element a i)) (content (end M) (Element a i))
+    → FailsAt end (Element a i) part
     → IsBreakOf (a, Arr) end (Element a i) part
 breaks_element end a part i least broken = record { own = refl; indices_before = kept_below end a i least; broken = broken }
 

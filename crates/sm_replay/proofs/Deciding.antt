@@ -1,10 +1,9 @@
 -- What a verdict tells of violations.
-use Rattle.std.proofs.Common.{◌≡◌, ◌⊎◌, ◌+◌, ◌<◌, ◌≤◌, ◌↔◌, ℕ, ℤ, Bool, true, false, Option, Some, None, Result, Ok, Err, List, length, get_or, IsTrue, refl, sym, ap, subst, ◌∙◌, arith, ⊎_elim, true≢false}
+use Rattle.std.proofs.Common.{◌≡◌, ◌⊎◌, ◌+◌, ◌<◌, ◌≤◌, ◌↔◌, ℕ, ℤ, Bool, true, false, Option, Some, None, Result, Ok, Err, List, IsTrue, refl, sym, subst, ◌∙◌, arith, ⊎_elim, true≢false}
 use Rattle.std.proofs.Math.Path.{fun_ext}
 use Rattle.std.proofs.lemmas.Bool.{cases_eq}
 use Rattle.std.proofs.lemmas.Option.{slice_get_within, get_or_from_slice_get}
 use Rattle.std.specs.List.{Contains, slice_get}
-use Rattle.sm_syntax.specs.declared.tree.Sort.{Sort}
 use Rattle.sm_syntax.specs.ConflictFree.{Copy, Task, program_of, copy_of}
 use Rattle.sm_syntax.specs.FirstBroken.{IsFirstBroken}
 use Rattle.sm_syntax.specs.Keeps.{Keeps, KeepsChange, AddsNothing, Cell, variable}
@@ -17,9 +16,9 @@ use Rattle.sm_replay.specs.declared.error.ReplayError.{ReplayError}
 use Rattle.sm_replay.specs.declared.error.ReplayError.TheVariants as stop
 use Rattle.sm_replay.specs.declared.verdict.Verdict.{Verdict}
 use Rattle.sm_replay.specs.declared.verdict.Verdict.TheVariants as verdict
-use Rattle.sm_replay.specs.Ends.{Tells}
-use Rattle.sm_replay.specs.Trials.{trial, shown_of, Names, Shows, SomeTrialMeets}
-use Rattle.sm_replay.specs.Verdicts.{Holds, Breaks, IsUnmet, Stops, Judges, cell_of}
+use Rattle.sm_replay.specs.Judging.{Tells}
+use Rattle.sm_replay.specs.Trials.{trial, shown_of, Shows, SomeTrialMeets}
+use Rattle.sm_replay.specs.Verdicts.{Holds, Breaks, IsUnmet, Stops, Judges, IsViolation, cell_of}
 use Rattle.sm_replay.specs.Violations.{IsMet, AreEnds, KeepsAt, Violates}
 
 -- a run has one end
@@ -27,11 +26,11 @@ same_end : (n : ℕ) (c : Code) (s t u : Store) → run n c s ≡ Some t → run
 same_end n c s t u p q = let both : Some t ≡ Some u = sym p ∙ q in cc
 
 -- four runs have one list of ends
-same_ends : (t : Task) (s : Store) (n : ℕ) (e f : Copy → Store) → AreEnds t s n e → AreEnds t s n f → e ≡ f
+pub same_ends : (t : Task) (s : Store) (n : ℕ) (e f : Copy → Store) → AreEnds (program_of t) s n e → AreEnds (program_of t) s n f → e ≡ f
 same_ends t s n e f p q = fun_ext (λ (c : Copy). same_end n (program_of t c) s (e c) (f c) (p.ends c) (q.ends c))
 
 -- where Keeps holds everywhere, nothing violates
-holds_calm : (t : Task) (s : Store) (n : ℕ) → Holds t s n → ¬ Violates t s n
+pub holds_calm : (t : Task) (s : Store) (n : ℕ) → Holds t s n → ¬ Violates t s n
 holds_calm t s n h v =
     v.broken (subst (λ (end : Copy → Store). KeepsAt end v.cell) (same_ends t s n h.end v.end h.ends v.ends) (h.keeps v.cell v.output))
 
@@ -40,11 +39,11 @@ unmet_calm : (t : Task) (s : Store) (n : ℕ) → IsUnmet t.assumed s → ¬ Vio
 unmet_calm t s n u v = u.fails v.met.meets
 
 -- an event of a copy
-stops_calm : (t : Task) (s : Store) (n copy : ℕ) (e : EvalError) → Stops t s n copy e → ¬ Violates t s n
+stops_calm : (t : Task) (s : Store) (n copy : ℕ) (e : EvalError) → Stops (program_of t) s n copy e → ¬ Violates t s n
 stops_calm t s n copy e st v = let both : None ≡ Some e = sym (v.ends.calm (copy_of copy)) ∙ st.stops in cc
 
 -- a first part that fails is a part that fails
-not_kept : (part : ℕ) (o a b m : ℤ) → IsFirstBroken part o a b m → ¬ Keeps o a b m
+pub not_kept : (part : ℕ) (o a b m : ℤ) → IsFirstBroken part o a b m → ¬ Keeps o a b m
 not_kept part o a b m first k =
     ⊎_elim (λ (h : (part ≡ 1) × (¬ KeepsChange o a m)). h.1 k.change_of_a)
     (λ (h : ((part ≡ 2) × KeepsChange o a m × (¬ KeepsChange o b m)) ⊎ ((part ≡ 3) × KeepsChange o a m × KeepsChange o b m × (¬ AddsNothing o a b m))).
@@ -75,6 +74,13 @@ shows t s n (Err (stop.OutOfTurns copy)) j some = stops_calm t s n copy _ j.1
 shows t s n (Err (stop.Beyond copy op a b)) j some = stops_calm t s n copy _ j.1
 shows t s n (Err (stop.BeyondAssumed op a b)) j some = λ v. let both = sym v.met.calm ∙ j in cc
 shows t s n (Err stop.Memory) j some = absurd (some refl)
+
+-- the answer is that the store violates exactly where it does
+pub violates_exactly : (t : Task) (s : Store) (n : ℕ) (r : Result Verdict ReplayError) → Judges t s n r → (r ≡ Err stop.Memory → ⊥) → IsViolation r ↔ Violates t s n
+violates_exactly t s n (Ok verdict.Holds) j known = (λ (none : ⊥). absurd none, shows t s n (Ok verdict.Holds) j known)
+violates_exactly t s n (Ok verdict.Unmet) j known = (λ (none : ⊥). absurd none, shows t s n (Ok verdict.Unmet) j known)
+violates_exactly t s n (Ok (verdict.Violates x i part)) j known = (λ (one : Unit {0}). breaks_violates t s n (cell_of x.0 i) part j, λ (v : Violates t s n). tt)
+violates_exactly t s n (Err e) j known = (λ (none : ⊥). absurd none, shows t s n (Err e) j known)
 
 -- an assumption that is computed is true just where it is met
 pub told : (assumed : Option Condition) (s : Store) (b : Bool) → Tells assumed s (Ok b) → IsTrue b ↔ IsMet assumed s

@@ -1,17 +1,22 @@
 -- The first trial that violates, by the answers to all.
-use Rattle.std.proofs.Common.{◌≡◌, ◌+◌, ◌<◌, ℕ, Option, Some, None, List, length, refl, sym, ap, subst, ◌∙◌, zero-add, arith}
+use Rattle.std.proofs.Common.{◌≡◌, ◌<◌, ℕ, Option, Some, None, List, length, subst, zero-add, arith}
 use Rattle.std.specs.List.{slice_index_or}
 use Rattle.std.specs.Option.{IfNone, IfSome}
 use Rattle.sm_par.specs.Results.{StandInOrder}
 use Rattle.sm_syntax.specs.ConflictFree.{Task}
 use Rattle.sm_syntax.specs.Sorts.{Sorts}
 use Rattle.sm_replay.specs.declared.verdict.Verdict.{Verdict}
-use Rattle.sm_replay.specs.Trials.{trial, trials, Shows, IsFirstThere, IsLeast, IsFirstViolation}
+use Rattle.sm_replay.specs.Trials.{trial, trials, Shows, IsFirstThere, IsFirstViolation}
 use Rattle.sm_replay.specs.Violations.{Violates}
 
 -- the answers to all trials
 abbrev pub Answered : Task → Sorts → ℕ → List (Option Verdict) → Type 0
 Answered t sorts n results = StandInOrder (λ (j : ℕ) (out : Option Verdict). Shows t (trial sorts j) n out) 0 trials results
+
+-- the answers by which they stand under a premise
+pub answered_where : (P : Type 0) (t : Task) (sorts : Sorts) (n : ℕ) (results : List (Option Verdict)) → P
+    → StandInOrder (λ (j : ℕ) (out : Option Verdict). P → Shows t (trial sorts j) n out) 0 trials results → Answered t sorts n results
+answered_where P t sorts n results holds all = record { all = all.all; each = λ (k : ℕ) (d : Option Verdict) (lt : k < trials). all.each k d lt holds }
 
 -- the answer to one trial
 answer_to : (t : Task) (sorts : Sorts) (n : ℕ) (results : List (Option Verdict)) → Answered t sorts n results → (j : ℕ) → j < trials → Shows t (trial sorts j) n (slice_index_or results j None)

@@ -1,5 +1,5 @@
 -- The least index at which Keeps fails, found among the cells of four arrays.
-use Rattle.std.proofs.Common.{◌≡◌, ◌⊎◌, ◌+◌, ◌<◌, ◌↔◌, ℕ, zero, suc, ℤ, pos, Bool, true, false, if◌then◌else◌, Option, Some, None, IsNone, List, [], ◌∷◌, length, refl, sym, ap, subst, ◌∙◌, inl, inr, ⊎_elim, arith}
+use Rattle.std.proofs.Common.{◌≡◌, ◌⊎◌, ◌+◌, ◌<◌, ◌↔◌, ℕ, suc, ℤ, pos, Bool, true, false, if◌then◌else◌, Option, IsNone, List, [], ◌∷◌, length, refl, sym, ap, subst, ◌∙◌, inl, inr, ⊎_elim, arith}
 use Rattle.std.specs.Option.{IfSome}
 use Rattle.std.specs.Ordering.{int_eq}
 use Rattle.std.proofs.lemmas.Bool.{cases_eq}
@@ -9,7 +9,7 @@ use Rattle.sm_syntax.specs.FirstBroken.{IsFirstBroken}
 use Rattle.sm_syntax.specs.Keeps.{Keeps, Cell, Element, content}
 use Rattle.sm_syntax.specs.Stores.{Value, Array, array, Store}
 use Rattle.sm_eval.specs.Cells.{listed, index_at}
-use Rattle.sm_replay.specs.Ends.{IsUpTo}
+use Rattle.sm_replay.specs.FirstBreak.{IsUpTo}
 use Rattle.sm_replay.specs.Violations.{KeepsAt}
 
 -- an index has 0, or a cell
@@ -56,20 +56,34 @@ combine : {P Q R S G : Type 0} → P ⊎ G → Q ⊎ G → R ⊎ G → S ⊎ G �
 combine {P} {Q} {R} {S} {G} p q r s f =
     ⊎_elim (λ (x : P). ⊎_elim (λ (y : Q). ⊎_elim (λ (z : R). ⊎_elim (λ (w : S). f x y z w) (λ (g : G). g) s) (λ (g : G). g) r) (λ (g : G). g) q) (λ (g : G). g) p
 
+-- an index at which a copy's end has 0, or one that is known after its cells
+abbrev pub KnownBy : (Copy → Store) → Copy → ℕ → Option ℤ → Type 0
+KnownBy end c a r = (i : ℤ) → (content (end c) (Element a i) ≡ pos 0) ⊎ Known end a r i
+
+-- after the cells of a copy's end
+pub known_by : (end : Copy → Store) (c : Copy) (a : ℕ) (l : List (ℤ × ℤ)) (r : Option ℤ) → end c a ≡ Array (listed l) → Seen end a l r → KnownBy end c a r
+known_by end c a l r is seen i =
+    ⊎_elim (λ (z : listed l i ≡ pos 0). inl (ap (λ (v : Value). array v i) is ∙ z)) (λ (k : Known end a r i). inr k)
+    (known end a l r r seen (λ (j : ℤ) (u : IsUpTo r j). u) i)
+
+-- and after more
+known_later : (end : Copy → Store) (c : Copy) (a : ℕ) (r new : Option ℤ) → KnownBy end c a r → Later r new → KnownBy end c a new
+known_later end c a r new by later i =
+    ⊎_elim (λ (z : content (end c) (Element a i) ≡ pos 0). inl z)
+    (λ (h : Known end a r i). inr (⊎_elim (λ (k : KeepsAt end (Element a i)). inl k) (λ (u : IsUpTo r i). inr (later i u)) h)) (by i)
+
 -- after the cells of all four, each index is one at which Keeps holds, or isn't below the least
-pub least_of_four : (end : Copy → Store) (a : ℕ) (lo la lb lm : List (ℤ × ℤ)) (ro ra rb rm : Option ℤ)
-    → end O a ≡ Array (listed lo) → end A a ≡ Array (listed la) → end B a ≡ Array (listed lb) → end M a ≡ Array (listed lm)
-    → Seen end a lo ro → Seen end a la ra → Seen end a lb rb → Seen end a lm rm
+pub least_of_four : (end : Copy → Store) (a : ℕ) (ro ra rb rm : Option ℤ)
+    → KnownBy end O a ro → KnownBy end A a ra → KnownBy end B a rb → KnownBy end M a rm
     → Later ro ra → Later ra rb → Later rb rm
     → (i : ℤ) → Known end a rm i
-least_of_four end a lo la lb lm ro ra rb rm eo ea eb em so sa sb sm first second third i =
-    let from_b : Later ra rm = λ (j : ℤ) (u : IsUpTo ra j). third j (second j u) in
-    let from_a : Later ro rm = λ (j : ℤ) (u : IsUpTo ro j). from_b j (first j u) in
-    let same : Later rm rm = λ (j : ℤ) (u : IsUpTo rm j). u in
-    combine (known end a lo ro rm so from_a i) (known end a la ra rm sa from_b i) (known end a lb rb rm sb third i) (known end a lm rm rm sm same i)
-    (λ (zo : listed lo i ≡ pos 0) (za : listed la i ≡ pos 0) (zb : listed lb i ≡ pos 0) (zm : listed lm i ≡ pos 0).
-    inl (all_zero (array (end O a) i) (array (end A a) i) (array (end B a) i) (array (end M a) i)
-    (ap (λ (v : Value). array v i) eo ∙ zo) (ap (λ (v : Value). array v i) ea ∙ za) (ap (λ (v : Value). array v i) eb ∙ zb) (ap (λ (v : Value). array v i) em ∙ zm)))
+least_of_four end a ro ra rb rm ko ka kb km first second third i =
+    let from_a : Later ra rm = λ (j : ℤ) (u : IsUpTo ra j). third j (second j u) in
+    let from_o : Later ro rm = λ (j : ℤ) (u : IsUpTo ro j). from_a j (first j u) in
+    let at = λ (c : Copy). content (end c) (Element a i) in
+    combine (known_later end O a ro rm ko from_o i) (known_later end A a ra rm ka from_a i) (known_later end B a rb rm kb third i) (km i)
+    (λ (zo : at O ≡ pos 0) (za : at A ≡ pos 0) (zb : at B ≡ pos 0) (zm : at M ≡ pos 0).
+    inl (all_zero (at O) (at A) (at B) (at M) zo za zb zm))
 
 -- the four numbers in a cell
 pub kept_at : (end : Copy → Store) (cell : Cell) (o a b m : ℤ) (r : Option ℕ) → content (end O) cell ≡ o → content (end A) cell ≡ a → content (end B) cell ≡ b → content (end M) cell ≡ m

@@ -1,5 +1,5 @@
 -- Outputs, one after the other.
-use Rattle.std.proofs.Common.{◌≡◌, ◌+◌, ◌<◌, ◌≤◌, ℕ, zero, suc, Option, Some, List, [], ◌∷◌, length, map, get_or, refl, sym, ap, subst, ◌∙◌, ⊎_elim, arith}
+use Rattle.std.proofs.Common.{◌≡◌, ◌+◌, ◌<◌, ◌≤◌, ℕ, zero, suc, Some, List, [], ◌∷◌, length, map, get_or, refl, sym, ap, ◌∙◌, ⊎_elim, arith}
 use Rattle.std.proofs.lemmas.Bool.{cases_eq}
 use Rattle.std.proofs.lemmas.Option.{slice_get-get_or}
 use Rattle.std.specs.List.{Contains, slice_get}
@@ -11,7 +11,7 @@ use Rattle.sm_syntax.specs.ConflictFree.{Copy}
 use Rattle.sm_syntax.specs.Keeps.{Cell, variable}
 use Rattle.sm_syntax.specs.Sorts.{Sorts}
 use Rattle.sm_syntax.specs.Stores.{Store}
-use Rattle.sm_replay.specs.Ends.{sorted_by, IsBreakOf}
+use Rattle.sm_replay.specs.FirstBreak.{sorted_by, IsBreakOf}
 use Rattle.sm_replay.specs.Verdicts.{IsFirstBreak}
 use Rattle.sm_replay.specs.Violations.{KeepsAt}
 

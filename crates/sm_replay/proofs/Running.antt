@@ -1,6 +1,8 @@
 -- Which tasks may be run.
-use Rattle.std.proofs.Common.{◌≡◌, ℕ, Option, Some, None, List, [], ◌∷◌, length, refl, sym, subst}
+use Rattle.std.proofs.Common.{◌≡◌, ℕ, Option, Some, None, List, [], ◌∷◌, length, refl, sym, ap, subst, ◌∙◌}
 use Rattle.std.specs.Option.{option_or}
+use Rattle.sm_syntax.specs.declared.copies.PerCopy.{PerCopy}
+use Rattle.sm_syntax.specs.declared.tree.Block.{Block}
 use Rattle.sm_syntax.specs.declared.tree.Sort.{Sort}
 use Rattle.sm_syntax.specs.Conditions.{Refusal, TooMany, first_of_all, first_of_lists, first_sort_fault, names_used, double_name, first_output_fault, over, size_fault, program_fault, double_hole, hole_in_filling, unknown_hole, missing_filling, ill_formed, ill_assumed, first_refusal, code_nodes, code_depth, condition_nodes, condition_depth}
 use Rattle.sm_syntax.specs.ConflictFree.{Copy, O, A, B, M, program_of}
@@ -9,8 +11,10 @@ use Rattle.sm_syntax.specs.Parts.{Parts, sort_of, task_of}
 use Rattle.sm_syntax.specs.Sorts.{Sorts, IsWellSorted}
 use Rattle.sm_syntax.specs.Spells.{Spells}
 use Rattle.sm_syntax.specs.Syntax.{Condition, Code}
+use Rattle.sm_task.specs.Tasks.{AreFilled}
+use Rattle.sm_replay.specs.Ends.{code_in, AreSorted}
 use Rattle.sm_eval.proofs.Faultless.{code_sorted, condition_sorted}
-use Rattle.sm_replay.specs.Ends.{IsWellSortedAssumption}
+use Rattle.sm_replay.specs.Judging.{IsWellSortedAssumption}
 use Rattle.sm_replay.specs.Sorted.{names_assumed, sort_fault}
 
 -- no fault of two is neither
@@ -96,6 +100,16 @@ runs t sorts none same c = subst (λ (s : Sorts). IsWellSorted s (program_of (ta
 
 pub assumes : (t : Parts) (sorts : Sorts) → sort_fault t ≡ None → sorts ≡ sort_of t.declared → IsWellSortedAssumption sorts t.assumed
 assumes t sorts none same = subst (λ (s : Sorts). IsWellSortedAssumption s t.assumed) (sym same) (may_assume t none)
+
+-- each name of filled programs stands as it is declared
+pub filled_sorted : (t : Parts) (programs : PerCopy Block) → sort_fault t ≡ None → AreFilled t programs → AreSorted t.declared programs
+filled_sorted t programs none filled c =
+    let fault = λ (k : Code). first_sort_fault (sort_of t.declared) (names_used k) in
+    ap fault (filled c) ∙ each_none (λ (d : Copy). fault (program_of (task_of t) d)) (parts_run t none).1 c
+
+-- so each may be run
+pub sorted_runs : (declared : List (ℕ × Sort)) (sorts : Sorts) (programs : PerCopy Block) → AreSorted declared programs → sorts ≡ sort_of declared → (c : Copy) → IsWellSorted sorts (code_in programs c)
+sorted_runs declared sorts programs sorted same c = subst (λ (s : Sorts). IsWellSorted s (code_in programs c)) (sym same) (code_sorted (sort_of declared) (code_in programs c) (sorted c))
 
 -- a task that a text spells may be run
 pub spelled_runs : (bytes : List ℕ) (t : Parts) → Spells bytes t → sort_fault t ≡ None

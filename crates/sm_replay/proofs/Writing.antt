@@ -37,7 +37,7 @@ use Rattle.sm_replay.proofs.Spelled.{spells_itself, spelled_back}
 use Rattle.sm_replay.proofs.WrittenBack.{IsInsideCell, listed_inside}
 
 -- a key below one that stands before members stands before them
-stands_below : (key l : List ℕ) (ms : Members) → slice_cmp nat_cmp key l ≡ Less → StandsBefore l ms → StandsBefore key ms
+pub stands_below : (key l : List ℕ) (ms : Members) → slice_cmp nat_cmp key l ≡ Less → StandsBefore l ms → StandsBefore key ms
 stands_below key l no_members below h = tt
 stands_below key l (member k d ms) below h = (nat_list_cmp_total.trans key l k below h.0, stands_below key l ms below h.1)
 

@@ -43,11 +43,11 @@ AllMembers P no_members = Unit {0}
 AllMembers P (member key d rest) = P key d × AllMembers P rest
 
 -- a key is itself
-same_text : (key : List ℕ) → slice_cmp nat_cmp key key ≡ Equal
+pub same_text : (key : List ℕ) → slice_cmp nat_cmp key key ≡ Equal
 same_text key = tied_itself nat_list_cmp_total key
 
 -- a key that stands before others is not among them
-before_all : (key : List ℕ) (rest : Members) → StandsBefore key rest → get_member key rest ≡ None
+pub before_all : (key : List ℕ) (rest : Members) → StandsBefore key rest → get_member key rest ≡ None
 before_all key no_members h = refl
 before_all key (member k d rest) h = ap (λ (o : Ordering). match_ordering o (get_member key rest) (Some d) (get_member key rest)) h.0 ∙ before_all key rest h.1
 

@@ -4,7 +4,9 @@ pub mod Verdicts
 pub mod Trials
 pub mod Laws
 pub mod Filling
+pub mod Judging
 pub mod Ends
+pub mod FirstBreak
 pub mod Numbers
 pub mod Inputs
 pub mod Written

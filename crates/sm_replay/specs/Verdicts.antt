@@ -1,11 +1,12 @@
--- What a verdict says. Of one task, store and bound on turns just one of these holds, but for want of memory.
+-- What a verdict says. Of one task, store and bound on turns just one of these holds, but for want
+-- of memory. Public clauses cite it.
 use Rattle.std.specs.Prelude.{◌≡◌, ◌<◌, ℕ, ℤ, ◌<ℤ◌, Option, Some, None, Result, Ok, Err, List, Contains, slice_get}
 use Rattle.sm_syntax.specs.declared.tree.Sort.{Sort}
 use Rattle.sm_syntax.specs.ConflictFree.{Copy, O, A, B, M, Meets, Task, program_of, copy_of}
 use Rattle.sm_syntax.specs.FirstBroken.{IsFirstBroken}
 use Rattle.sm_syntax.specs.Keeps.{Cell, Scalar, Element, content, variable}
 use Rattle.sm_syntax.specs.Stores.{Store}
-use Rattle.sm_syntax.specs.Syntax.{Condition}
+use Rattle.sm_syntax.specs.Syntax.{Condition, Code}
 use Rattle.sm_eval.specs.declared.error.EvalError.{EvalError}
 use Rattle.sm_eval.specs.declared.error.EvalError.TheVariants as eval
 use Rattle.sm_eval.specs.Events.{event}
@@ -26,26 +27,35 @@ IsBelow (Scalar x) cell = ⊥
 IsBelow (Element a i) (Scalar x) = ⊥
 IsBelow (Element a i) (Element b j) = (a ≡ b) × (i <ℤ j)
 
--- Keeps fails first at this cell, and there first in this part: cells are taken output by output, and by rising index
-pub record IsFirstBreak (outputs : List (ℕ × Sort)) (end : Copy → Store) (cell : Cell) (part : ℕ) : Type 0 where
+-- at one cell of four ends this is the first part of Keeps that fails
+abbrev pub FailsAt : (Copy → Store) → Cell → ℕ → Type 0
+FailsAt end cell part =
+    IsFirstBroken part (content (end O) cell) (content (end A) cell) (content (end B) cell)
+    (content (end M) cell)
+
+-- Keeps fails first at this cell, and there first in this part; cells are taken output by output,
+-- and by rising index
+pub record IsFirstBreak (outputs : List (ℕ × Sort)) (end : Copy → Store) (cell : Cell) (part : ℕ)
+    : Type 0 where
   pub place : ℕ
   pub output : slice_get outputs place ≡ Some (variable cell)
-  pub outputs_before : (q : ℕ) (c : Cell) → q < place → slice_get outputs q ≡ Some (variable c) → KeepsAt end c
+  pub outputs_before : (q : ℕ) (c : Cell) → q < place → slice_get outputs q ≡ Some (variable c)
+      → KeepsAt end c
   pub indices_before : (c : Cell) → IsBelow c cell → KeepsAt end c
-  pub broken : IsFirstBroken part (content (end O) cell) (content (end A) cell) (content (end B) cell) (content (end M) cell)
+  pub broken : FailsAt end cell part
 
 -- the four programs end, and Keeps holds at each cell of an output
 pub record Holds (t : Task) (s : Store) (n : ℕ) : Type 0 where
   pub met : IsMet t.assumed s
   pub end : Copy → Store
-  pub ends : AreEnds t s n end
+  pub ends : AreEnds (program_of t) s n end
   pub keeps : (cell : Cell) → Contains t.outputs (variable cell) → KeepsAt end cell
 
 -- the four programs end, and this is the first cell and part in which Keeps fails
 pub record Breaks (t : Task) (s : Store) (n : ℕ) (cell : Cell) (part : ℕ) : Type 0 where
   pub met : IsMet t.assumed s
   pub end : Copy → Store
-  pub ends : AreEnds t s n end
+  pub ends : AreEnds (program_of t) s n end
   pub first : IsFirstBreak t.outputs end cell part
 
 -- the assumption is computed, and is false
@@ -53,18 +63,27 @@ pub record IsUnmet (assumed : Option Condition) (s : Store) : Type 0 where
   pub calm : assumed_event assumed s ≡ None
   pub fails : ¬ Meets assumed s
 
--- the programs before this copy have no event, and its first event is this
-pub record Stops (t : Task) (s : Store) (n copy : ℕ) (e : EvalError) : Type 0 where
+-- the programs before the copy with this number have no event, and its first event is this
+pub record Stops (program : Copy → Code) (s : Store) (n copy : ℕ) (e : EvalError) : Type 0 where
   pub inside : copy < 4
-  pub stops : event n (program_of t (copy_of copy)) s ≡ Some e
-  pub calm_before : (c : ℕ) → c < copy → event n (program_of t (copy_of c)) s ≡ None
+  pub stops : event n (program (copy_of copy)) s ≡ Some e
+  pub calm_before : (c : ℕ) → c < copy → event n (program (copy_of c)) s ≡ None
 
 -- what an answer says of a task, a start store and a bound on turns
 abbrev pub Judges : Task → Store → ℕ → Result Verdict ReplayError → Type 0
 Judges t s n (Ok verdict.Holds) = Holds t s n
 Judges t s n (Ok verdict.Unmet) = IsUnmet t.assumed s
 Judges t s n (Ok (verdict.Violates x i part)) = Breaks t s n (cell_of x.0 i) part
-Judges t s n (Err (OutOfTurns copy)) = IsMet t.assumed s × Stops t s n copy eval.OutOfTurns
-Judges t s n (Err (Beyond copy op a b)) = IsMet t.assumed s × Stops t s n copy (eval.Beyond op a b)
+Judges t s n (Err (OutOfTurns copy)) =
+    IsMet t.assumed s × Stops (program_of t) s n copy eval.OutOfTurns
+Judges t s n (Err (Beyond copy op a b)) =
+    IsMet t.assumed s × Stops (program_of t) s n copy (eval.Beyond op a b)
 Judges t s n (Err (BeyondAssumed op a b)) = assumed_event t.assumed s ≡ Some (eval.Beyond op a b)
 Judges t s n (Err Memory) = Unit {0}
+
+-- the answer is that the store violates the condition
+abbrev pub IsViolation : Result Verdict ReplayError → Type 0
+IsViolation (Ok verdict.Holds) = ⊥
+IsViolation (Ok verdict.Unmet) = ⊥
+IsViolation (Ok (verdict.Violates x i part)) = Unit {0}
+IsViolation (Err e) = ⊥

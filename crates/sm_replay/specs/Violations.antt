@@ -1,10 +1,10 @@
--- What runs of the four programs from one store show against a merge.
+-- What runs of the four programs from one store show against a merge. Public clauses cite it.
 use Rattle.std.specs.Prelude.{◌≡◌, ℕ, Option, Some, None, Contains}
 use Rattle.sm_syntax.specs.ConflictFree.{Copy, O, A, B, M, Meets, Task, program_of}
 use Rattle.sm_syntax.specs.Keeps.{Keeps, Cell, content, variable}
 use Rattle.sm_syntax.specs.Meaning.{run}
 use Rattle.sm_syntax.specs.Stores.{Store}
-use Rattle.sm_syntax.specs.Syntax.{Condition}
+use Rattle.sm_syntax.specs.Syntax.{Condition, Code}
 use Rattle.sm_eval.specs.declared.error.EvalError.{EvalError}
 use Rattle.sm_eval.specs.Events.{condition_event, event}
 
@@ -18,20 +18,23 @@ pub record IsMet (assumed : Option Condition) (s : Store) : Type 0 where
   pub calm : assumed_event assumed s ≡ None
   pub meets : Meets assumed s
 
--- the four programs end in these stores without an event, where each loop takes at most n turns
-pub record AreEnds (t : Task) (s : Store) (n : ℕ) (end : Copy → Store) : Type 0 where
-  pub calm : (c : Copy) → event n (program_of t c) s ≡ None
-  pub ends : (c : Copy) → run n (program_of t c) s ≡ Some (end c)
+-- four programs end in these stores without an event, where each loop takes at most n turns
+pub record AreEnds (program : Copy → Code) (s : Store) (n : ℕ) (end : Copy → Store) : Type 0 where
+  pub calm : (c : Copy) → event n (program c) s ≡ None
+  pub ends : (c : Copy) → run n (program c) s ≡ Some (end c)
 
 -- Keeps at one cell of four ends
 abbrev pub KeepsAt : (Copy → Store) → Cell → Type 0
-KeepsAt end cell = Keeps (content (end O) cell) (content (end A) cell) (content (end B) cell) (content (end M) cell)
+KeepsAt end cell =
+    Keeps (content (end O) cell) (content (end A) cell) (content (end B) cell)
+    (content (end M) cell)
 
--- the store meets the assumption, the four programs end from it, and Keeps fails at a cell of an output
+-- the store meets the assumption, the four programs end from it, and Keeps fails at a cell of an
+-- output
 pub record Violates (t : Task) (s : Store) (n : ℕ) : Type 0 where
   pub met : IsMet t.assumed s
   pub end : Copy → Store
-  pub ends : AreEnds t s n end
+  pub ends : AreEnds (program_of t) s n end
   pub cell : Cell
   pub output : Contains t.outputs (variable cell)
   pub broken : ¬ KeepsAt end cell

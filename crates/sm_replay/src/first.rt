@@ -3,17 +3,19 @@ ghost use Rattle.std.specs.Prelude.{◌≡◌, ◌≢◌, ◌<◌, ◌≤◌, �
 ghost use Rattle.sm_eval.specs.Slots.{meaning, sorts_of};
 ghost use Rattle.sm_syntax.specs.Parts.{sort_of, task_of};
 ghost use Rattle.sm_syntax.specs.Programs.{declared_of};
-ghost use Rattle.sm_task.specs.Tasks.{parts_of};
+ghost use Rattle.sm_task.specs.Tasks.{parts_of, AreFilled};
+ghost use Rattle.sm_replay.specs.Ends.{AreSorted};
 ghost use Rattle.sm_replay.specs.Sorted.{sort_fault};
 ghost use Rattle.sm_replay.specs.Trials.{trial, trials, shown_of, Shows, IsFirstThere, IsFirstViolation, SomeTrialMeets};
 ghost use Rattle.sm_replay.specs.Violations.{IsMet};
 
 use crate::error::ReplayError;
-use crate::judging::{is_met, judge};
+use crate::judging::{is_met, judged};
 use crate::trials::trial;
 use crate::verdict::Verdict;
 use sm_eval::Store;
 use sm_par::{Gate, Job, Phase, run_jobs};
+use sm_syntax::{Block, PerCopy};
 use sm_task::Task;
 use std::alloc::{AllocError, Global};
 use std::thread::Threads;
@@ -21,23 +23,30 @@ use std::thread::Threads;
 // How many trials there are.
 const TRIALS: u64 = 256;
 
-/// The least trial that `judge` answers Violates, with that answer, or None where no trial violates. The trials are jobs
-/// of the phase Trial, for 1 to 64 workers.
+/// The least trial that `judge` answers Violates, with that answer, or None where no trial
+/// violates. The trials are jobs of the phase Trial, for 1 to 64 workers, and all run the same four
+/// programs, whose holes are filled.
 pub fn first_violation<R: Threads + Sync, G: Gate>(
     rt: &R,
     alloc: Global,
     gate: &G,
     task: &Task,
+    programs: &PerCopy<Block>,
     turns: u64,
     workers: u32,
 ) -> Result<Option<(u8, Verdict)>, AllocError>
     requires runs { sort_fault (parts_of task.now) ≡ None }
+    requires filled { AreFilled (parts_of task.now) programs.now }
     requires some { 0 < workers }
     requires most { workers ≤ 64 }
     ensures { let t = parts_of task.now in
         IfOk result (IsFirstViolation (task_of t) (sort_of t.declared) turns) }
 {
-    let job = Trials { task, turns };
+    let job = Trials {
+        task,
+        programs,
+        turns,
+    };
     let results = run_jobs(rt, alloc, gate, Phase::Trial, &job, TRIALS, workers)?;
     Ok(first_found(&results))
 }
@@ -73,8 +82,10 @@ fn meets(task: &Task, input: &Store) -> bool
 #[derive(Drop)]
 struct Trials<'a> {
     task: &'a Task,
+    programs: &'a PerCopy<Block>,
     turns: u64,
     ghost runs: { sort_fault (parts_of task.now) ≡ None },
+    ghost sorted: { AreSorted (declared_of task.now.shared.decls) programs.now },
 }
 
 impl Job for Trials<'_> {
@@ -83,11 +94,12 @@ impl Job for Trials<'_> {
     ghost indices = { λ _. trials };
 
     ghost stands_for = { λ job index out. let t = parts_of job.task.now in
-        Shows (task_of t) (trial (sort_of t.declared) index) job.turns out };
+        AreFilled t job.programs.now
+        → Shows (task_of t) (trial (sort_of t.declared) index) job.turns out };
 
     fn run(&self, alloc: Global, index: u64) -> Result<Option<Verdict>, AllocError> {
         let input = trial(alloc, self.task, index as u8)?;
-        shown(judge(alloc, self.task, &input, self.turns))
+        shown(judged(alloc, self.task, self.programs, &input, self.turns))
     }
 }
 
@@ -120,7 +132,8 @@ fn shown(answer: Result<Verdict, ReplayError>) -> Result<Option<Verdict>, AllocE
 // The first of the results that is there, with its number.
 fn first_found(results: &[Option<Verdict>]) -> Option<(u8, Verdict)>
     requires { length results.now ≤ 256 }
-    ensures none { IfNone result ((k : ℕ) → k < length results.now → slice_index_or results.now k None ≡ None) }
+    ensures none { IfNone result ((k : ℕ) → k < length results.now
+        → slice_index_or results.now k None ≡ None) }
     ensures some { IfSome result (λ f. IsFirstThere results.now f.0 f.1) }
 {
     for j in 0..results.len() {

@@ -3,22 +3,25 @@
 //! - `read_input` gives the store of an input in JSON, or the first refusal.
 //! - `write_input` gives the text of a store. It reads back to the same store.
 //! - `trial` gives the inputs that are tried on every task.
-//! - `judge` runs the four programs from one store: they end and keep the condition, or the first cell and part in which
-//!   it fails, or what kept them from an end.
-//! - `first_violation` is the least trial that violates, for every number of workers. `some_trial_meets` says whether
-//!   the assumption excludes them all.
-//! - `violations_conflict` is the law that a violation is a conflict, and `valid_tasks_run` that a task that meets its
-//!   conditions may be run.
+//! - `judge` runs the four programs, with their holes filled, from one store: they end and keep the
+//!   condition, or the first cell and part in which it fails, or what kept them from an end. It
+//!   says that the store violates the condition exactly where it does.
+//! - `first_violation` is the least trial that violates, for every number of workers.
+//!   `some_trial_meets` says whether the assumption excludes them all.
+//! - `violations_conflict` is the law that a violation is a conflict, and `valid_tasks_run` that a
+//!   task that meets its conditions may be run.
 //! - `spelled_names_are_found` is the law that the declared names of a text's task are found by
 //!   their texts.
 //!
-//! Read `specs/Violations.antt` first, then `specs/Verdicts.antt`. `specs/Inputs.antt` says what an input is,
-//! `specs/Written.antt` which text is written for a store, and `specs/Trials.antt` which inputs are tried.
+//! Read `specs/Violations.antt` first, then `specs/Verdicts.antt`. `specs/Inputs.antt` says what an
+//! input is, `specs/Written.antt` which text is written for a store, and `specs/Trials.antt` which
+//! inputs are tried.
 #![tactic(auto)]
 
 mod ends;
 mod error;
 mod first;
+mod first_break;
 mod input;
 mod judging;
 mod laws;

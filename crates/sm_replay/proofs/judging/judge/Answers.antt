@@ -1,14 +1,14 @@
-use Rattle.std.proofs.Common.{option_map}
-use Rattle.sm_syntax.specs.Views.{condition_of}
+-- A verdict is a violation exactly where there is one.
+use Rattle.sm_syntax.specs.Parts.{task_of}
 use Rattle.sm_task.specs.Tasks.{parts_of}
-use Rattle.sm_eval.specs.Slots.{meaning, sorts_of}
-use Rattle.sm_replay.proofs.Answering.{told_met}
-use Rattle.sm_replay.proofs.Running.{assumes}
+use Rattle.sm_eval.specs.Slots.{meaning}
+use Rattle.sm_replay.proofs.Deciding.{violates_exactly}
+use Rattle.sm_replay.proofs.Running.{filled_sorted}
 use Rattle.sm_replay.proofs.judging.judge.Goals as goal
 
--- the assumption may be computed
-pub is_met-requires : goal.is_met-requires
-is_met-requires c = assumes (parts_of c.args.task.now) (sorts_of c.args.input.now) c.requires.runs c.requires.declared
+pub judged-requires-clause-sorted : goal.judged-requires-clause-sorted
+judged-requires-clause-sorted c = filled_sorted (parts_of c.args.task.now) c.args.programs.now c.requires.runs c.requires.filled
 
-pub judge_met-requires-clause-met : goal.judge_met-requires-clause-met
-judge_met-requires-clause-met c = told_met (option_map condition_of c.args.task.now.assumed) (meaning c.args.input.now) c.in_ok-met.met c.if-met.true c.in_ok-met.ensures
+pub returns-clause-violates : goal.returns-clause-violates
+returns-clause-violates c =
+    violates_exactly (task_of (parts_of c.args.task.now)) (meaning c.args.input.now) c.args.turns c.judged.result (c.judged.ensures c.requires.filled)

@@ -3,13 +3,14 @@ use Rattle.std.proofs.Common.{◌⊎◌, ◌<◌, ℕ, ℤ}
 use Rattle.std.specs.Option.{IfSome}
 use Rattle.sm_syntax.specs.Keeps.{Element}
 use Rattle.sm_eval.specs.Cells.{index_at}
-use Rattle.sm_replay.specs.Ends.{end_in, IsUpTo}
+use Rattle.sm_replay.specs.Ends.{end_in}
+use Rattle.sm_replay.specs.FirstBreak.{IsUpTo}
 use Rattle.sm_replay.specs.Violations.{KeepsAt}
-use Rattle.sm_replay.proofs.ends.Ends.least_in.Given as goal
+use Rattle.sm_replay.proofs.first_break.least_in.Given as goal
 
 abbrev pub invariant-loop-p : goal.invariant-loop-p
 invariant-loop-p l = record {
-  found : IfSome l.least (λ (i : ℤ). ¬ KeepsAt (end_in l.self) (Element l.a.0 i));
+  found : IfSome l.least (λ (i : ℤ). ¬ KeepsAt (end_in l.ends) (Element l.a.0 i));
   old : (i : ℤ) → IsUpTo l.fn.found i → IsUpTo l.least i;
-  new : (q : ℕ) → q < l.p → KeepsAt (end_in l.self) (Element l.a.0 (index_at l.cells q)) ⊎ IsUpTo l.least (index_at l.cells q);
+  new : (q : ℕ) → q < l.p → KeepsAt (end_in l.ends) (Element l.a.0 (index_at l.cells q)) ⊎ IsUpTo l.least (index_at l.cells q);
 }

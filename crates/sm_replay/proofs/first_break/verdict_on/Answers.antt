@@ -1,32 +1,33 @@
 -- Output by output.
-use Rattle.std.proofs.Common.{◌≡◌, ℕ, Option, sym, ap, subst, ◌∙◌, get_or, map}
+use Rattle.std.proofs.Common.{◌≡◌, Option, sym, ap, subst, ◌∙◌, get_or, map}
 use Rattle.std.specs.Option.{unwrap_or}
 use Rattle.sm_syntax.specs.declared.tree.Name.{Name}
 use Rattle.sm_syntax.specs.declared.tree.Sort.{Sort}
 use Rattle.sm_syntax.specs.declared.tree.Sort.TheVariants.{Num}
 use Rattle.sm_syntax.specs.Keeps.{Cell, variable}
 use Rattle.sm_eval.specs.Slots.{sorts_of}
-use Rattle.sm_replay.specs.Ends.{end_in, sorted_by, NamesBreak}
+use Rattle.sm_replay.specs.Ends.{end_in}
+use Rattle.sm_replay.specs.FirstBreak.{sorted_by, NamesBreak}
 use Rattle.sm_replay.proofs.Breaking.{found_at}
 use Rattle.sm_replay.proofs.Outputs.{output_at, kept_more, outputs_kept}
-use Rattle.sm_replay.proofs.ends.Ends.verdict.Goals as goal
+use Rattle.sm_replay.proofs.first_break.verdict_on.Goals as goal
 
 pub loop-x-preserved : goal.loop-x-preserved
 loop-x-preserved c =
-    let sorts = sorts_of c.args.self.now.base in
+    let sorts = sorts_of c.args.ends.now.base in
     let x = (get_or c.args.outputs.now c.loop-x.x-index (record { 0 = 0 })).0 in
-    kept_more (sorted_by sorts (map (λ (x : Name). x.0) c.args.outputs.now)) (end_in c.args.self.now) c.loop-x.x-index (x, unwrap_or (sorts x) Num)
+    kept_more (sorted_by sorts (map (λ (x : Name). x.0) c.args.outputs.now)) (end_in c.args.ends.now) c.loop-x.x-index (x, unwrap_or (sorts x) Num)
     (output_at sorts c.args.outputs.now c.loop-x.x-index (record { 0 = 0 }) c.loop-x-test.true)
     (λ (cell : Cell) (own : variable cell ≡ (x, unwrap_or (sorts x) Num)). c.in_default.ensures.none cell (own ∙ ap (λ (o : Option Sort). (x, unwrap_or o Num)) (sym c.sort.ensures)))
     c.loop-x.invariant
 
 pub returns-in-Some : goal.returns-in-Some
 returns-in-Some c =
-    let sorts = sorts_of c.args.self.now.base in
+    let sorts = sorts_of c.args.ends.now.base in
     let x = (get_or c.args.outputs.now c.loop-x.x-index (record { 0 = 0 })).0 in
-    found_at (sorted_by sorts (map (λ (x : Name). x.0) c.args.outputs.now)) (end_in c.args.self.now) c.loop-x.x-index (x, unwrap_or (sorts x) Num) c.in-Some.verdict
+    found_at (sorted_by sorts (map (λ (x : Name). x.0) c.args.outputs.now)) (end_in c.args.ends.now) c.loop-x.x-index (x, unwrap_or (sorts x) Num) c.in-Some.verdict
     (output_at sorts c.args.outputs.now c.loop-x.x-index (record { 0 = 0 }) c.loop-x-test.true) c.loop-x.invariant
-    (subst (λ (o : Option Sort). NamesBreak (x, unwrap_or o Num) (end_in c.args.self.now) c.in-Some.verdict) c.sort.ensures c.in-Some.ensures.some)
+    (subst (λ (o : Option Sort). NamesBreak (x, unwrap_or o Num) (end_in c.args.ends.now) c.in-Some.verdict) c.sort.ensures c.in-Some.ensures.some)
 
 pub returns : goal.returns
-returns c = outputs_kept (sorts_of c.args.self.now.base) c.args.outputs.now (end_in c.args.self.now) c.loop-x.x-index c.loop-x-test.false c.loop-x.invariant
+returns c = outputs_kept (sorts_of c.args.ends.now.base) c.args.outputs.now (end_in c.args.ends.now) c.loop-x.x-index c.loop-x-test.false c.loop-x.invariant

@@ -7,11 +7,11 @@ use Rattle.sm_syntax.specs.Keeps.{Element}
 use Rattle.sm_replay.specs.Ends.{end_in}
 use Rattle.sm_replay.specs.Violations.{KeepsAt}
 use Rattle.sm_replay.proofs.Breaking.{breaks_element}
-use Rattle.sm_replay.proofs.ends.Ends.break_at_index.Goals as goal
+use Rattle.sm_replay.proofs.first_break.break_at_index.Goals as goal
 
 pub returns-in-Some : goal.returns-in-Some
 returns-in-Some c =
     let same = to_z-of_z w128 c.args.i c.ranges.i in
-    breaks_element (end_in c.args.self.now) c.args.a.0 c.in-Some.clause (to_z w128 (of_z w128 c.args.i))
-    (subst (λ (z : ℤ). (k : ℤ) → KeepsAt (end_in c.args.self.now) (Element c.args.a.0 k) ⊎ (z ≤ℤ k)) (sym same) c.requires.least)
+    breaks_element (end_in c.args.ends.now) c.args.a.0 c.in-Some.clause (to_z w128 (of_z w128 c.args.i))
+    (subst (λ (z : ℤ). (k : ℤ) → KeepsAt (end_in c.args.ends.now) (Element c.args.a.0 k) ⊎ (z ≤ℤ k)) (sym same) c.requires.least)
     c.in-Some.ensures.broken

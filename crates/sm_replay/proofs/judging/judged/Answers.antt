@@ -1,0 +1,14 @@
+use Rattle.std.proofs.Common.{option_map}
+use Rattle.sm_syntax.specs.Views.{condition_of}
+use Rattle.sm_task.specs.Tasks.{parts_of}
+use Rattle.sm_eval.specs.Slots.{meaning, sorts_of}
+use Rattle.sm_replay.proofs.Answering.{told_met}
+use Rattle.sm_replay.proofs.Running.{assumes}
+use Rattle.sm_replay.proofs.judging.judged.Goals as goal
+
+-- the assumption may be computed
+pub is_met-requires : goal.is_met-requires
+is_met-requires c = assumes (parts_of c.args.task.now) (sorts_of c.args.input.now) c.requires.runs c.requires.declared
+
+pub judged_met-requires-clause-met : goal.judged_met-requires-clause-met
+judged_met-requires-clause-met c = told_met (option_map condition_of c.args.task.now.assumed) (meaning c.args.input.now) c.in_ok-met.met c.if-met.true c.in_ok-met.ensures

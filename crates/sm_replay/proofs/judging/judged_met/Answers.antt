@@ -1,0 +1,33 @@
+-- What is found in the ends is the verdict, where the programs are those of the task.
+use Rattle.std.proofs.Common.{List, map, subst, ◌∙◌}
+use Rattle.sm_syntax.specs.declared.tree.Name.{Name}
+use Rattle.sm_syntax.specs.ConflictFree.{Copy, O}
+use Rattle.sm_syntax.specs.Parts.{task_of}
+use Rattle.sm_syntax.specs.Programs.{declared_of}
+use Rattle.sm_syntax.specs.Sorts.{Sorts}
+use Rattle.sm_syntax.specs.Syntax.{Code}
+use Rattle.sm_task.specs.Tasks.{parts_of}
+use Rattle.sm_eval.specs.Slots.{meaning, sorts_of}
+use Rattle.sm_replay.specs.Ends.{end_in}
+use Rattle.sm_replay.specs.FirstBreak.{sorted_by, Finds}
+use Rattle.sm_replay.specs.Violations.{AreEnds}
+use Rattle.sm_replay.proofs.Running.{sorted_runs}
+use Rattle.sm_replay.proofs.Stopping.{judged_ends, of_task, same_sorts}
+use Rattle.sm_replay.proofs.judging.judged_met.Goals as goal
+
+pub ends_of-requires : goal.ends_of-requires
+ends_of-requires c = sorted_runs (declared_of c.args.task.now.shared.decls) (sorts_of c.args.input.now) c.args.programs.now c.requires.sorted c.requires.declared
+
+pub verdict_on-requires : goal.verdict_on-requires
+verdict_on-requires c = same_sorts c.in_ok-ends.ends (sorts_of c.args.input.now) c.in_ok-ends.ensures.sorts
+
+pub returns : goal.returns
+returns c filled =
+    let t = task_of (parts_of c.args.task.now) in
+    let s = meaning c.args.input.now in
+    let end = end_in c.in_ok-ends.ends in
+    let found = λ (sorts : Sorts) (outputs : List Name). Finds (sorted_by sorts (map (λ (x : Name). x.0) outputs)) end c.verdict_on.result in
+    judged_ends t s c.args.turns end c.requires.met
+    (of_task (λ (p : Copy → Code). AreEnds p s c.args.turns end) t c.args.programs.now filled c.in_ok-ends.ensures.ends) c.verdict_on.result
+    (subst (λ (sorts : Sorts). found sorts c.args.task.now.shared.outputs.list.items) (c.in_ok-ends.ensures.sorts O ∙ c.requires.declared)
+    (subst (found (sorts_of c.in_ok-ends.ends.base)) c.deref.ensures.value c.verdict_on.ensures))
