@@ -15,3 +15,5 @@ pub mod Worth
 pub mod Reading
 pub mod WrittenBack
 pub mod Writing
+pub mod VerdictUnique
+pub mod InputUnique

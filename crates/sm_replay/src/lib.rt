@@ -10,6 +10,8 @@
 //!   `some_trial_meets` says whether the assumption excludes them all.
 //! - `violations_conflict` is the law that a violation is a conflict, and `valid_tasks_run` that a
 //!   task that meets its conditions may be run.
+//! - `verdict_is_one`, `least_trial_is_one`, `first_violation_is_one`, `reading_is_one` and
+//!   `written_text_is_one` are the laws that what is asked has one answer, but for want of memory.
 //! - `spelled_names_are_found` is the law that the declared names of a text's task are found by
 //!   their texts.
 //!
@@ -34,7 +36,10 @@ pub use error::{InputError, ReplayError};
 pub use first::{first_violation, some_trial_meets};
 pub use input::read_input;
 pub use judging::judge;
-pub use laws::{spelled_names_are_found, valid_tasks_run, violations_conflict};
+pub use laws::{
+    first_violation_is_one, least_trial_is_one, reading_is_one, spelled_names_are_found,
+    valid_tasks_run, verdict_is_one, violations_conflict, written_text_is_one,
+};
 pub use trials::trial;
 pub use verdict::Verdict;
 pub use written::write_input;
