@@ -14,7 +14,8 @@ use Rattle.sm_text.specs.declared.reading.Fault as reading
 use Rattle.sm_text.specs.declared.reading.FaultKind.{FaultKind}
 use Rattle.sm_text.specs.declared.reading.FaultKind.TheVariants.{Expected, Nested}
 use Rattle.sm_text.specs.Parsers.{first, rest}
-use Rattle.sm_text.specs.Places.{Grammar, Source, whole_text, all_symbols, IsViable, IsUnexpected, NestsTooDeep, Stands, at_token, at_end, IsFault, place_of, rank_of, IsFirstFault, IsRefusal, IsPlaceWith}
+use Rattle.sm_text.specs.Places.{Grammar, Source, whole_text, all_symbols, IsViable, IsUnexpected, NestsTooDeep, Stands, at_token, at_end, IsFault, place_of, rank_of, IsFirstFault, IsRefusal}
+use Rattle.sm_text.specs.ErrorPlaces.{IsPlaceWith}
 use Rattle.sm_text.specs.Texts.{lexical_fault, rule_fault}
 use Rattle.sm_text.proofs.Refusals.{Refuses, Judges, viable, shorter-viable, unexpected, too_deep, nested-viable, nothing_nests}
 

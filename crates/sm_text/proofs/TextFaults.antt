@@ -9,8 +9,9 @@ use Rattle.sm_syntax.specs.Tokens.{Lexed, lexed}
 use Rattle.sm_text.specs.declared.error.TextError.{TextError}
 use Rattle.sm_text.specs.declared.reading.Fault.{Fault}
 use Rattle.sm_text.specs.declared.token_list.Tokens.{Tokens}
-use Rattle.sm_text.specs.Places.{Grammar, Source, all_symbols, text_from, whole_text, IsViable, IsRefusal, IsPlaceWith}
-use Rattle.sm_text.specs.Prefixes.{AreTokensOf, IsErrorOf, at_token, at_fault, at_end}
+use Rattle.sm_text.specs.Places.{Grammar, Source, all_symbols, text_from, whole_text, IsViable, IsRefusal}
+use Rattle.sm_text.specs.ErrorPlaces.{IsErrorOf, IsPlaceWith, at_token, at_fault, at_end}
+use Rattle.sm_text.specs.Prefixes.{AreTokensOf}
 use Rattle.sm_text.specs.Texts.{lexical_fault, rule_fault}
 use Rattle.sm_text.proofs.Refusals.{Judges}
 use Rattle.sm_text.proofs.FirstFaults.{Ascends, from-ascends, place_from, refused_at_token, refused_at_fault, refused_at_end, read_to_fault, left_within}

@@ -1,3 +1,4 @@
+-- No public clause cites this file.
 -- What the code of a rule answers, by the reading that it follows.
 use Rattle.std.specs.Prelude.{◌≡◌, Result, Ok, Err}
 use Rattle.sm_text.specs.declared.reading.Fault.{Fault}

@@ -1,5 +1,7 @@
--- What the tokens from one on give where a block is read by them. No public clause cites this file.
-use Rattle.std.specs.Prelude.{◌≡◌, ℕ, ◌-◌, ◌<◌, ◌≤◌, Bool, false, Option, Some, None, Ok, List, map, length, take}
+-- No public clause cites this file.
+-- What the tokens from one on give where a block is read by them.
+use Rattle.std.specs.Prelude.{◌≡◌, ℕ, ◌-◌, ◌<◌, ◌≤◌, Bool, false, Option, Some, None, Ok, List, map}
+use Rattle.std.specs.Prelude.{length, take}
 use Rattle.std.specs.List.{count_by}
 use denote.Enum.Bare.{sameb}
 use Rattle.sm_syntax.specs.contracts.symbol.Mark.{the_type}
@@ -16,9 +18,10 @@ use Rattle.sm_text.specs.TokenTexts.{sign_by}
 abbrev pub signs : List ℕ → List (List ℕ) → List Token → List Symbol
 signs bytes before ts = map (symbol_of bytes (names_after bytes before ts)) ts
 
--- where so many groups are open, the tokens begin with this block and so many stand behind it; `names` are those before and
--- its own
-pub record IsFirstBlock (bytes : List ℕ) (before : List (List ℕ)) (groups : ℕ) (ts : List Token) (names : List (List ℕ)) (c : Code) (left : ℕ) : Type 0 where
+-- where so many groups are open, the tokens begin with this block and so many stand behind it;
+-- `names` are those before and its own
+pub record IsFirstBlock (bytes : List ℕ) (before : List (List ℕ)) (groups : ℕ) (ts : List Token)
+    (names : List (List ℕ)) (c : Code) (left : ℕ) : Type 0 where
   pub after : List Symbol
   pub read : block (64 - groups) (signs bytes before ts) ≡ Ok (c, after)
   pub count : left ≡ length after
@@ -37,10 +40,11 @@ is_sign bytes m t = is_mark m (sign_by t.kind (text_of bytes t))
 abbrev pub many : List ℕ → Mark → List Token → ℕ
 many bytes m ts = count_by (is_sign bytes m) ts
 
--- the first n tokens are those up to the curly brace that closes the first, or all where none does: inside, more braces open
--- than close
+-- the first n tokens are those up to the curly brace that closes the first, or all where none does:
+-- inside, more braces open than close
 pub record IsGroup (bytes : List ℕ) (ts : List Token) (n : ℕ) : Type 0 where
   pub within : n ≤ length ts
   pub begun : 0 < length ts → 0 < n
-  pub inside : (k : ℕ) → 0 < k → k < n → many bytes CloseCurly (take k ts) < many bytes OpenCurly (take k ts)
+  pub inside : (k : ℕ) → 0 < k → k < n →
+      many bytes CloseCurly (take k ts) < many bytes OpenCurly (take k ts)
   pub ends : n < length ts → many bytes OpenCurly (take n ts) ≤ many bytes CloseCurly (take n ts)

@@ -1,5 +1,6 @@
+-- Public clauses cite this file.
 -- The tokens of a text, read a second way: white space, comments and tokens follow each other to
--- the end of the text, or to bytes where none of these stands. Public clauses cite it.
+-- the end of the text, or to bytes where none of these stands.
 use Rattle.std.specs.Prelude.{◌≡◌, ℕ, ◌+◌, ◌^◌, ◌<◌, ◌≤◌, ◌==◌, Bool, true, false, ◌||◌, Option, Some, None, is_some, List, [], ◌∷◌, ◌++◌, length}
 use Rattle.std.specs.Char.{is_ascii_digit}
 use Rattle.std.specs.List.{list_all}

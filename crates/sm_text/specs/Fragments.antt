@@ -1,11 +1,14 @@
--- Which text spells a program, a condition or a block. A condition and a block stand under names that are given.
+-- Public clauses cite this file.
+-- Which text spells a program, a condition or a block. A condition and a block stand under names
+-- that are given.
 use Rattle.std.specs.Prelude.{◌≡◌, ℕ, true, None, Result, MatchResult, List, ◌++◌, map, length}
 use Rattle.std.specs.List.{AllByRecursion}
 use Rattle.sm_syntax.specs.declared.program.Program.{Program}
 use Rattle.sm_syntax.specs.declared.symbol.Symbol.{Symbol}
 use Rattle.sm_syntax.specs.declared.token.Token.{Token}
 use Rattle.sm_syntax.specs.declared.tree.Sort.{Sort}
-use Rattle.sm_syntax.specs.Grammar.{Marked, plain, Disjunction, IsCondition, IsBlock, AreDeclarations, AreOutputs, IsShared}
+use Rattle.sm_syntax.specs.Grammar.{Marked, plain, Disjunction, IsCondition, IsBlock}
+use Rattle.sm_syntax.specs.Grammar.{AreDeclarations, AreOutputs, IsShared}
 use Rattle.sm_syntax.specs.Programs.{declared_of, outputs_of}
 use Rattle.sm_syntax.specs.Symbols.{text_of, is_among, is_name, symbol_of, names_of, symbols_of}
 use Rattle.sm_syntax.specs.Syntax.{Condition, Code}
@@ -24,11 +27,17 @@ pub record ProgramParts : Type 0 where
 
 -- the parts that a program stands for
 abbrev pub parts_of : Program → ProgramParts
-parts_of p = record { names = p.names; declared = declared_of p.decls; outputs = outputs_of p.outputs; body = code_of p.body }
+parts_of p = record {
+  names = p.names;
+  declared = declared_of p.decls;
+  outputs = outputs_of p.outputs;
+  body = code_of p.body;
+}
 
 -- the symbols spell a program of these parts
 pub data IsProgram : List Marked → ProgramParts → Type 0 where
-  program : {ts us vs : List Marked} (p : ProgramParts) → AreDeclarations ts p.declared → AreOutputs us p.outputs → IsShared vs p.body → IsProgram (ts ++ (us ++ vs)) p
+  program : {ts us vs : List Marked} (p : ProgramParts) → AreDeclarations ts p.declared →
+      AreOutputs us p.outputs → IsShared vs p.body → IsProgram (ts ++ (us ++ vs)) p
 
 -- the text has tokens to its end, and the grammar spells the program by their symbols
 pub record SpellsProgram (bytes : List ℕ) (p : ProgramParts) : Type 0 where
@@ -52,7 +61,8 @@ IsProgramReadAs p answer = MatchResult answer (λ q. parts_of q ≡ p) (λ e. e 
 
 -- a token that is a name is one of these
 abbrev pub IsKnown : List ℕ → List (List ℕ) → Token → Type 0
-IsKnown bytes names t = is_name t.kind (text_of bytes t) ≡ true → is_among names (text_of bytes t) ≡ true
+IsKnown bytes names t =
+    is_name t.kind (text_of bytes t) ≡ true → is_among names (text_of bytes t) ≡ true
 
 -- the text has tokens to its end, and its names are among these
 pub record IsCutUnder (names : List (List ℕ)) (bytes : List ℕ) : Type 0 where

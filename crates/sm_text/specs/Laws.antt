@@ -1,4 +1,5 @@
--- Laws of reading. Public clauses cite this file.
+-- Public clauses cite this file.
+-- Laws of reading.
 use Rattle.std.specs.Prelude.{◌≡◌, ◌↔◌, ℕ, Option, List, length, map}
 use Rattle.std.specs.List.{range_with_len}
 use Rattle.sm_syntax.specs.declared.token.LexFault.{LexFault}

@@ -9,6 +9,7 @@ pub mod TokenTexts
 pub mod Cutting
 pub mod Laws
 pub mod Places
+pub mod ErrorPlaces
 pub mod Pieces
 pub mod Canonical
 pub mod Named

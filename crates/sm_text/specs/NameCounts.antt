@@ -1,3 +1,4 @@
+-- No public clause cites this file.
 -- How far symbols count in the names, where each new name has the next number.
 use Rattle.std.specs.Prelude.{ℕ, ◌+◌, ◌==◌, if◌then◌else◌, List, [], ◌∷◌}
 use Rattle.sm_syntax.specs.declared.symbol.Symbol.{Symbol}

@@ -1,5 +1,7 @@
+-- No public clause cites this file.
 -- Parsers over the symbols of a text, of which the rules of the grammar are made.
-use Rattle.std.specs.Prelude.{ℕ, zero, suc, Bool, true, false, if◌then◌else◌, Option, Some, None, Result, Ok, Err, List, [], ◌∷◌, length}
+use Rattle.std.specs.Prelude.{ℕ, zero, suc, Bool, true, false, if◌then◌else◌, Option, Some, None}
+use Rattle.std.specs.Prelude.{Result, Ok, Err, List, [], ◌∷◌, length}
 use denote.Enum.Bare.{sameb}
 use Rattle.sm_syntax.specs.contracts.symbol.Mark.{the_type}
 use Rattle.sm_syntax.specs.declared.symbol.Mark.{Mark}
@@ -28,7 +30,8 @@ abbrev pub fault : FaultKind → List Symbol → Fault
 fault kind ts = record { kind = kind; left = length ts }
 
 -- goes on behind what was read
-abbrev pub go_on : {A B : Type 0} → Result (A × List Symbol) Fault → (A → Parser B) → Result (B × List Symbol) Fault
+abbrev pub go_on : {A B : Type 0} → Result (A × List Symbol) Fault → (A → Parser B) →
+    Result (B × List Symbol) Fault
 go_on (Ok r) next = next r.0 r.1
 go_on (Err f) next = Err f
 
@@ -68,13 +71,18 @@ expect_by m (Some (s.Name x)) = refuse Expected
 unfoldable pub expect : Mark → Parser (Unit {0})
 expect m = peek >>= expect_by m
 
--- reads an item as long as one begins, and puts it to what was gathered before; n is at least the number of items
-abbrev pub gather_in : {A B : Type 0} → (Option Symbol → Bool) → Parser A → (B → A → B) → ℕ → B → Parser B
+-- reads an item as long as one begins, and puts it to what was gathered before; n is at least the
+-- number of items
+abbrev pub gather_in : {A B : Type 0} → (Option Symbol → Bool) → Parser A → (B → A → B) → ℕ → B →
+    Parser B
 gather_in begins one put zero before ts = Ok (before, ts)
-gather_in begins one put (suc n) before ts = if begins (first ts) then go_on (one ts) (λ x. gather_in begins one put n (put before x)) else Ok (before, ts)
+gather_in begins one put (suc n) before ts =
+    if begins (first ts) then go_on (one ts) (λ x. gather_in begins one put n (put before x))
+    else Ok (before, ts)
 
 -- the same with enough items
-unfoldable pub gather : {A B : Type 0} → (Option Symbol → Bool) → Parser A → (B → A → B) → B → Parser B
+unfoldable pub gather : {A B : Type 0} → (Option Symbol → Bool) → Parser A → (B → A → B) → B →
+    Parser B
 gather begins one put before ts = gather_in begins one put (suc (length ts)) before ts
 
 -- what an operator makes of the parts on its two sides, where one stands there
@@ -82,15 +90,18 @@ abbrev pub Operators : Type 0 → Type 0
 Operators A = Option Symbol → Option (A → A → A)
 
 -- goes on behind an operator, where one stands there and n more may follow
-abbrev pub chain_by : {A : Type 0} → Option (A → A → A) → Parser A → ℕ → (A → Parser A) → A → Parser A
+abbrev pub chain_by : {A : Type 0} → Option (A → A → A) → Parser A → ℕ → (A → Parser A) → A →
+    Parser A
 chain_by None operand n more left ts = Ok (left, ts)
 chain_by (Some make) operand zero more left ts = Err (fault Nested ts)
-chain_by (Some make) operand (suc n) more left ts = go_on (operand (rest ts)) (λ right. more (make left right))
+chain_by (Some make) operand (suc n) more left ts =
+    go_on (operand (rest ts)) (λ right. more (make left right))
 
 -- operators and operands behind the part that was read; at most n operators
 abbrev pub chain_in : {A : Type 0} → Operators A → Parser A → ℕ → A → Parser A
 chain_in operators operand zero left ts = chain_by (operators (first ts)) operand zero pure left ts
-chain_in operators operand (suc n) left ts = chain_by (operators (first ts)) operand (suc n) (chain_in operators operand n) left ts
+chain_in operators operand (suc n) left ts =
+    chain_by (operators (first ts)) operand (suc n) (chain_in operators operand n) left ts
 
 -- the rule inside a group that opens here, where one may open, and the sign that closes it
 abbrev pub inside : {A : Type 0} → Option (Parser A) → Mark → Parser A

@@ -1,3 +1,4 @@
+-- Public clauses cite this file.
 -- A text as a list of pieces: tokens, each by its symbol, and the white space between them.
 use Rattle.std.specs.Prelude.{ℕ, zero, suc, ℤ, unwrap_or, List, [], ◌∷◌, ◌++◌, codes, slice_get}
 use Rattle.std.specs.Fmt.{signed_decimal}
@@ -52,7 +53,8 @@ spelling mark.AtLeast = codes ">="
 spelling mark.Both = codes "&&"
 spelling mark.Either = codes "||"
 
--- the bytes of a piece, where these are the texts of the names: a number is in decimal, with no leading zero
+-- the bytes of a piece, where these are the texts of the names: a number is in decimal, with no
+-- leading zero
 abbrev pub bytes_of : List (List ℕ) → Piece → List ℕ
 bytes_of names (Token (s.Mark m)) = spelling m
 bytes_of names (Token (s.Number z)) = signed_decimal z

@@ -1,17 +1,17 @@
--- Where a text is refused: at the least place at which a fault stands. Whether symbols can go on is judged by a grammar
--- alone, whatever nests too deep in them.
-use Rattle.std.specs.Prelude.{◌≡◌, ℕ, suc, ◌≤◌, true, Option, Some, None, List, [], ◌∷◌, ◌++◌, length, map, drop}
+-- Public clauses cite this file.
+-- Where a text is refused: at the least place at which a fault stands. Whether symbols can go on is
+-- judged by a grammar alone, whatever nests too deep in them.
+pub mod Sources
+use Rattle.std.specs.Prelude.{◌≡◌, ℕ, ◌≤◌, true, Option, Some, None, List, [], ◌∷◌, ◌++◌, map}
 use Rattle.sm_syntax.specs.declared.symbol.Symbol.{Symbol}
-use Rattle.sm_syntax.specs.declared.token.LexFault.{LexFault}
 use Rattle.sm_syntax.specs.declared.token.LexKind.TheVariants as kind
 use Rattle.sm_syntax.specs.declared.token.Token.{Token}
 use Rattle.sm_syntax.specs.Grammar.{Marked, IsTask}
 use Rattle.sm_syntax.specs.Parts.{Parts}
-use Rattle.sm_syntax.specs.Symbols.{symbol_of, names_after, names_of}
-use Rattle.sm_syntax.specs.Tokens.{lexed}
 use Rattle.sm_text.specs.declared.error.TextError.{TextError}
 use Rattle.sm_text.specs.declared.error.TextError.TheVariants as error
 use Rattle.sm_text.specs.Fragments.{ProgramParts, IsProgram}
+pub use Sources.*
 
 -- what is to be spelled: which symbols spell something of a kind
 abbrev pub Grammar : Type 1
@@ -24,25 +24,6 @@ AreTasks ts = (t : Parts) × IsTask ts t
 -- the grammar of programs
 abbrev pub ArePrograms : List Marked → Type 0
 ArePrograms ts = (p : ProgramParts) × IsProgram ts p
-
--- what is to be read: tokens, what the grammar sees of each, and the lexical fault or the end of the text behind them
-pub record Source : Type 0 where
-  pub tokens : List Token
-  pub symbol : Token → Symbol
-  pub fault : Option LexFault
-  pub end : ℕ
-
--- a whole text
-abbrev pub whole_text : List ℕ → Source
-whole_text bytes = record { tokens = (lexed bytes).0; symbol = symbol_of bytes (names_of bytes); fault = (lexed bytes).1; end = length bytes }
-
--- a text from the token with number `at` on, where the names before are known
-abbrev pub text_from : List ℕ → ℕ → List (List ℕ) → Source
-text_from bytes at before = record { tokens = drop at (lexed bytes).0; symbol = symbol_of bytes (names_after bytes before (drop at (lexed bytes).0)); fault = (lexed bytes).1; end = length bytes }
-
--- the symbols that are to be read
-abbrev pub all_symbols : Source → List Symbol
-all_symbols source = map source.symbol source.tokens
 
 -- the symbols, whatever nests in them
 abbrev pub unmarked : List Marked → List Symbol
@@ -62,9 +43,11 @@ pub record IsWhole (spells : Grammar) (ts : List Symbol) : Type 0 where
   pub grammar : spells spelled
   pub all : unmarked spelled ≡ ts
 
--- something goes on behind these symbols, but nothing with the symbol that stands there, or nothing ends with the text
+-- something goes on behind these symbols, but nothing with the symbol that stands there, or nothing
+-- ends with the text
 abbrev pub IsUnexpected : Grammar → List Symbol → Option Symbol → Type 0
-IsUnexpected spells before (Some t) = IsViable spells before × (IsViable spells (before ++ t ∷ []) → ⊥)
+IsUnexpected spells before (Some t) =
+    IsViable spells before × (IsViable spells (before ++ t ∷ []) → ⊥)
 IsUnexpected spells before None = IsViable spells before × (IsWhole spells before → ⊥)
 
 -- something goes on with this symbol behind these, and there it nests too deep
@@ -74,9 +57,11 @@ pub record NestsTooDeep (spells : Grammar) (before : List Symbol) (t : Symbol) :
   pub grammar : spells (front ++ (t, true) ∷ behind)
   pub begins : unmarked front ≡ before
 
--- a place, the symbols before it, and the symbol that stands there: none at the end of a text of tokens alone
+-- a place, the symbols before it, and the symbol that stands there: none at the end of a text of
+-- tokens alone
 pub data Stands (source : Source) : ℕ → List Symbol → Option Symbol → Type 0 where
-  at_token : (before behind : List Token) (t : Token) → source.tokens ≡ before ++ t ∷ behind → Stands source t.place (map source.symbol before) (Some (source.symbol t))
+  at_token : (before behind : List Token) (t : Token) → source.tokens ≡ before ++ t ∷ behind →
+      Stands source t.place (map source.symbol before) (Some (source.symbol t))
   at_end : source.fault ≡ None → Stands source source.end (all_symbols source) None
 
 -- a token that nothing of the grammar has there, or the end of the text
@@ -95,9 +80,12 @@ pub record IsNestedAt (spells : Grammar) (source : Source) (place : ℕ) : Type 
 
 -- the fault that the error names stands there
 abbrev pub IsFault : Grammar → Source → TextError → Type 0
-IsFault spells source (error.BadByte place) = source.fault ≡ Some (record { kind = kind.BadByte; place = place })
-IsFault spells source (error.WideNumber place) = source.fault ≡ Some (record { kind = kind.WideNumber; place = place })
-IsFault spells source (error.BadToken place) = source.fault ≡ Some (record { kind = kind.BadToken; place = place })
+IsFault spells source (error.BadByte place) =
+    source.fault ≡ Some (record { kind = kind.BadByte; place = place })
+IsFault spells source (error.WideNumber place) =
+    source.fault ≡ Some (record { kind = kind.WideNumber; place = place })
+IsFault spells source (error.BadToken place) =
+    source.fault ≡ Some (record { kind = kind.BadToken; place = place })
 IsFault spells source (error.Expected place) = IsExpectedAt spells source place
 IsFault spells source (error.Nested place) = IsNestedAt spells source place
 IsFault spells source error.Memory = ⊥
@@ -124,22 +112,15 @@ rank_of error.Memory = 3
 pub record IsFirstFault (spells : Grammar) (source : Source) (e : TextError) : Type 0 where
   pub stands : IsFault spells source e
   pub least : (other : TextError) → IsFault spells source other → place_of e ≤ place_of other
-  pub order : (other : TextError) → IsFault spells source other → place_of other ≡ place_of e → rank_of e ≤ rank_of other
+  pub order : (other : TextError) → IsFault spells source other → place_of other ≡ place_of e →
+      rank_of e ≤ rank_of other
 
 -- a refusal is the first fault; want of memory alone is free
 abbrev pub IsRefusal : Grammar → Source → TextError → Type 0
 IsRefusal spells source (error.BadByte place) = IsFirstFault spells source (error.BadByte place)
-IsRefusal spells source (error.WideNumber place) = IsFirstFault spells source (error.WideNumber place)
+IsRefusal spells source (error.WideNumber place) =
+    IsFirstFault spells source (error.WideNumber place)
 IsRefusal spells source (error.BadToken place) = IsFirstFault spells source (error.BadToken place)
 IsRefusal spells source (error.Expected place) = IsFirstFault spells source (error.Expected place)
 IsRefusal spells source (error.Nested place) = IsFirstFault spells source (error.Nested place)
 IsRefusal spells source error.Memory = Unit {0}
-
--- the place of the token with which so many are left
-pub record IsPlaceWith (left : ℕ) (tokens : List Token) (place : ℕ) : Type 0 where
-  pub before : List Token
-  pub behind : List Token
-  pub here : Token
-  pub cut : tokens ≡ before ++ here ∷ behind
-  pub count : left ≡ suc (length behind)
-  pub same : place ≡ here.place

@@ -1,15 +1,18 @@
--- Which tokens of a text spell a head or a block, whatever stands behind them. The names that were known before keep their
--- numbers, and the others have the numbers behind these, by first appearance.
-use Rattle.std.specs.Prelude.{◌≡◌, ℕ, ◌-◌, ◌≤◌, true, Option, Some, None, is_some, option_map, Result, MatchResult, List, [], ◌++◌, map, length, take, drop}
+-- Public clauses cite this file.
+-- Which tokens of a text spell a head or a block, whatever stands behind them. The names that were
+-- known before keep their numbers, and the others have the numbers behind these, by first
+-- appearance.
+use Rattle.std.specs.Prelude.{◌≡◌, ℕ, ◌-◌, ◌≤◌, true, Option, Some, None, is_some, option_map}
+use Rattle.std.specs.Prelude.{Result, MatchResult, List, [], ◌++◌, map, length, take, drop}
 use Rattle.std.specs.List.{AllByRecursion}
 use Rattle.sm_syntax.specs.declared.program.Program.{Program}
-use Rattle.sm_syntax.specs.declared.token.LexFault.{LexFault}
 use Rattle.sm_syntax.specs.declared.token.Token.{Token}
 use Rattle.sm_syntax.specs.declared.tree.Block.{Block}
 use Rattle.sm_syntax.specs.declared.tree.Cond.{Cond}
 use Rattle.sm_syntax.specs.declared.tree.Sort.{Sort}
 use Rattle.sm_syntax.specs.Conditions.{names_tested}
-use Rattle.sm_syntax.specs.Grammar.{Marked, plain, AreDeclarations, AreOutputs, IsAssumption, IsShared, IsBlock}
+use Rattle.sm_syntax.specs.Grammar.{Marked, plain, AreDeclarations, AreOutputs, IsAssumption}
+use Rattle.sm_syntax.specs.Grammar.{IsShared, IsBlock}
 use Rattle.sm_syntax.specs.Parts.{sort_of}
 use Rattle.sm_syntax.specs.Symbols.{symbol_of, names_after}
 use Rattle.sm_syntax.specs.Syntax.{Condition, Code}
@@ -17,12 +20,9 @@ use Rattle.sm_syntax.specs.Tokens.{lexed}
 use Rattle.sm_syntax.specs.Views.{condition_of, code_of}
 use Rattle.sm_text.specs.declared.error.TextError.{TextError}
 use Rattle.sm_text.specs.declared.error.TextError.TheVariants as error
-use Rattle.sm_text.specs.declared.reading.Fault.{Fault}
 use Rattle.sm_text.specs.declared.token_list.Tokens.{Tokens}
 use Rattle.sm_text.specs.Fragments.{ProgramParts, parts_of, IsNamedProgram}
 use Rattle.sm_text.specs.Named.{IsAssumedIn}
-use Rattle.sm_text.specs.Places.{IsPlaceWith}
-use Rattle.sm_text.specs.Texts.{lexical_fault, rule_fault}
 
 -- these are the tokens of the text, and its lexical fault
 abbrev pub AreTokensOf : List ℕ → Tokens → Type 0
@@ -32,8 +32,10 @@ AreTokensOf bytes tokens = (tokens.list.items, tokens.fault) ≡ lexed bytes
 abbrev pub between : ℕ → ℕ → List Token → List Token
 between at n ts = take (n - at) (drop at ts)
 
--- the grammar spells this by the tokens from number `at` up to number `n`; `names` are those before and those of the tokens
-pub record SpellsFrom {T : Type 0} (G : List Marked → T → Type 0) (bytes : List ℕ) (at : ℕ) (before : List (List ℕ)) (n : ℕ) (names : List (List ℕ)) (x : T) : Type 0 where
+-- the grammar spells this by the tokens from number `at` up to number `n`; `names` are those before
+-- and those of the tokens
+pub record SpellsFrom {T : Type 0} (G : List Marked → T → Type 0) (bytes : List ℕ) (at : ℕ)
+    (before : List (List ℕ)) (n : ℕ) (names : List (List ℕ)) (x : T) : Type 0 where
   pub begins : at ≤ n
   pub ends : n ≤ length (lexed bytes).0
   pub numbered : names ≡ names_after bytes before (between at n (lexed bytes).0)
@@ -48,9 +50,12 @@ pub record HeadParts : Type 0 where
 abbrev pub head_parts : Program → Option Cond → HeadParts
 head_parts p b = record { program = parts_of p; assumed = option_map condition_of b }
 
--- the symbols spell the front of a task: declarations, outputs, what is assumed, and the shared block
+-- the symbols spell the front of a task: declarations, outputs, what is assumed, and the shared
+-- block
 pub data IsHead : List Marked → HeadParts → Type 0 where
-  head : {ts us vs ws : List Marked} (h : HeadParts) → AreDeclarations ts h.program.declared → AreOutputs us h.program.outputs → IsAssumption vs h.assumed → IsShared ws h.program.body → IsHead (ts ++ (us ++ (vs ++ ws))) h
+  head : {ts us vs ws : List Marked} (h : HeadParts) → AreDeclarations ts h.program.declared →
+      AreOutputs us h.program.outputs → IsAssumption vs h.assumed → IsShared ws h.program.body →
+      IsHead (ts ++ (us ++ (vs ++ ws))) h
 
 -- each name of the head has a text
 pub record IsNamedHead (h : HeadParts) : Type 0 where
@@ -60,23 +65,28 @@ pub record IsNamedHead (h : HeadParts) : Type 0 where
 -- each name of what is assumed is declared
 abbrev pub AssumesDeclared : List (ℕ × Sort) → Option Condition → Type 0
 AssumesDeclared declared None = Unit {0}
-AssumesDeclared declared (Some b) = AllByRecursion (λ (x : ℕ × Sort). is_some (sort_of declared x.0) ≡ true) (names_tested b)
+AssumesDeclared declared (Some b) =
+    AllByRecursion (λ (x : ℕ × Sort). is_some (sort_of declared x.0) ≡ true) (names_tested b)
 
 -- the first n tokens of the text spell the head
 abbrev pub SpellsHead : List ℕ → ℕ → HeadParts → Type 0
 SpellsHead bytes n h = SpellsFrom IsHead bytes 0 [] n h.program.names h
 
--- where so many groups are open and these names are known, the tokens from `at` up to `n` spell the block
+-- where so many groups are open and these names are known, the tokens from `at` up to `n` spell the
+-- block
 abbrev pub SpellsBlockAt : List ℕ → ℕ → ℕ → List (List ℕ) → ℕ → List (List ℕ) → Code → Type 0
-SpellsBlockAt bytes at groups before n names c = SpellsFrom (IsBlock groups) bytes at before n names c
+SpellsBlockAt bytes at groups before n names c =
+    SpellsFrom (IsBlock groups) bytes at before n names c
 
 -- the answer is this head and the number of the token behind it, or want of memory
 abbrev pub IsHeadReadAs : ℕ → HeadParts → Result (Program × Option Cond × ℕ) TextError → Type 0
-IsHeadReadAs n h answer = MatchResult answer (λ r. (head_parts r.0 r.1 ≡ h) × (r.2 ≡ n)) (λ e. e ≡ error.Memory)
+IsHeadReadAs n h answer =
+    MatchResult answer (λ r. (head_parts r.0 r.1 ≡ h) × (r.2 ≡ n)) (λ e. e ≡ error.Memory)
 
 -- the answer is this block and the number of the token behind it, or want of memory
 abbrev pub IsBlockReadAs : ℕ → Code → Result (Block × ℕ) TextError → Type 0
-IsBlockReadAs n c answer = MatchResult answer (λ r. (code_of r.0 ≡ c) × (r.1 ≡ n)) (λ e. e ≡ error.Memory)
+IsBlockReadAs n c answer =
+    MatchResult answer (λ r. (code_of r.0 ≡ c) × (r.1 ≡ n)) (λ e. e ≡ error.Memory)
 
 -- the grammar of heads
 abbrev pub AreHeads : List Marked → Type 0
@@ -85,9 +95,3 @@ AreHeads ts = (h : HeadParts) × IsHead ts h
 -- the grammar of blocks, where so many groups are open
 abbrev pub AreBlocks : ℕ → List Marked → Type 0
 AreBlocks groups ts = (c : Code) × IsBlock groups ts c
-
--- the error of a rule that doesn't go on where so many tokens are left: it names a token, or what stands behind them all
-pub data IsErrorOf (f : Fault) (tokens : Tokens) (end : ℕ) (e : TextError) : Type 0 where
-  at_token : (place : ℕ) → IsPlaceWith f.left tokens.list.items place → e ≡ rule_fault f.kind place → IsErrorOf f tokens end e
-  at_fault : (l : LexFault) → tokens.fault ≡ Some l → lexical_fault e ≡ Some l → (f.left ≤ length tokens.list.items → f.left ≡ 0) → IsErrorOf f tokens end e
-  at_end : tokens.fault ≡ None → e ≡ rule_fault f.kind end → (f.left ≤ length tokens.list.items → f.left ≡ 0) → IsErrorOf f tokens end e

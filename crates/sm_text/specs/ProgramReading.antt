@@ -1,5 +1,6 @@
--- How the text of a program is read: declarations, outputs and a shared block, and nothing else. What is read is stated by
--- the grammar, so no public clause cites the parser.
+-- No public clause cites this file.
+-- How the text of a program is read: declarations, outputs and a shared block, and nothing else.
+-- What is read is stated by the grammar.
 use Rattle.std.specs.Prelude.{ℕ, Result, List}
 use Rattle.sm_syntax.specs.declared.symbol.Symbol.{Symbol}
 use Rattle.sm_syntax.specs.declared.tree.Sort.{Sort}
@@ -28,4 +29,9 @@ whole_program ts = to_end (program ts)
 
 -- its parts, where these are the texts of its names
 abbrev pub program_from : List (List ℕ) → ProgramBody → ProgramParts
-program_from names p = record { names = names; declared = p.declared; outputs = p.outputs; body = p.body }
+program_from names p = record {
+  names = names;
+  declared = p.declared;
+  outputs = p.outputs;
+  body = p.body;
+}

@@ -1,3 +1,4 @@
+-- No public clause cites this file.
 -- What the parts that the program rule reads stand for.
 use Rattle.sm_syntax.specs.Programs.{declared_of, outputs_of}
 use Rattle.sm_syntax.specs.Views.{code_of}
@@ -6,4 +7,8 @@ use Rattle.sm_text.specs.ProgramReading.{ProgramBody}
 
 -- a program, but for the texts of its names
 abbrev pub program_of : Parts → ProgramBody
-program_of p = record { declared = declared_of p.decls; outputs = outputs_of p.outputs; body = code_of p.body }
+program_of p = record {
+  declared = declared_of p.decls;
+  outputs = outputs_of p.outputs;
+  body = code_of p.body;
+}

@@ -1,4 +1,6 @@
--- What the sections of a text stand for, which fault an error names, and when an answer is the task of its text.
+-- Public clauses cite this file.
+-- What the sections of a text stand for, which fault an error names, and when an answer is the task
+-- of its text.
 use Rattle.std.specs.Prelude.{◌≡◌, ℕ, Option, Some, None, option_map, Result, MatchResult}
 use Rattle.sm_syntax.specs.declared.copies.PerCopy.{PerCopy}
 use Rattle.sm_syntax.specs.declared.program.Fillings.{Fillings}
@@ -14,8 +16,7 @@ use Rattle.sm_text.specs.declared.error.TextError.TheVariants as error
 use Rattle.sm_text.specs.declared.reading.FaultKind.{FaultKind}
 use Rattle.sm_text.specs.declared.reading.FaultKind.TheVariants.{Expected, Nested}
 use Rattle.sm_text.specs.declared.text.Sections.{Sections}
-use Rattle.sm_text.specs.Reading.{parts_from}
-use Rattle.sm_text.specs.Sections.{body_of, lists_of}
+use Rattle.sm_text.specs.Sections.{body_of, lists_of, parts_from}
 
 -- the parts of a task
 abbrev pub parts_of : Sections → Parts

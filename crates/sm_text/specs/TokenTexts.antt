@@ -1,3 +1,4 @@
+-- No public clause cites this file.
 -- What the bytes of a token are known to be.
 use Rattle.std.specs.Prelude.{◌≡◌, ℕ, ◌<◌, ◌≤◌, ◌+◌, ◌^◌, Option, None, List, length, true, is_some}
 use Rattle.std.specs.Char.{is_ascii_digit}

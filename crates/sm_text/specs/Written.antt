@@ -1,3 +1,4 @@
+-- No public clause cites this file.
 -- What the lists that the rules build stand for.
 use Rattle.std.specs.Prelude.{ℕ, List, map}
 use Rattle.sm_syntax.specs.declared.program.Filling.{Filling}

@@ -2,8 +2,8 @@
 ghost use Rattle.std.specs.Prelude.{◌≡◌, ◌<◌, ◌≤◌, ◌^◌, Some, None, length, IfOk, IfErr, IfSome};
 ghost use Rattle.sm_syntax.specs.Parts.{Parts};
 ghost use Rattle.sm_syntax.specs.Spells.{IsInGrammar};
-ghost use Rattle.sm_text.specs.Places.{AreTasks, IsPlaceWith, IsRefusal, whole_text};
-ghost use Rattle.sm_text.specs.Prefixes.{IsErrorOf};
+ghost use Rattle.sm_text.specs.ErrorPlaces.{IsErrorOf, IsPlaceWith};
+ghost use Rattle.sm_text.specs.Places.{AreTasks, IsRefusal, whole_text};
 ghost use Rattle.sm_text.specs.Texts.{parts_of, lexical_fault, rule_fault, IsReadAs};
 
 use crate::error::TextError;

@@ -1,7 +1,6 @@
 use Rattle.std.proofs.Common.{◌≡◌, ◌≤◌, refl, subst, List, length}
 use Rattle.sm_syntax.specs.declared.token.Token.{Token}
-use Rattle.sm_text.specs.Places.{IsPlaceWith}
-use Rattle.sm_text.specs.Prefixes.{at_token, at_fault}
+use Rattle.sm_text.specs.ErrorPlaces.{IsPlaceWith, at_token, at_fault}
 use Rattle.sm_text.proofs.text.refused.Goals as goal
 
 pub returns-in-Some-default : goal.returns-in-Some-default
