@@ -1,5 +1,5 @@
 -- Each name of a head has a text. Where all that it assumes is declared, a text without the assumption spells its program.
-use Rattle.std.proofs.Common.{◌≡◌, ℕ, ◌==◌, Bool, true, false, true≢false, if◌then◌else◌, Option, Some, None, is_some, List, [], ◌∷◌, ◌++◌, length, map, unwrap_or, refl, sym, ap, ◌∙◌, subst, arith}
+use Rattle.std.proofs.Common.{◌≡◌, ℕ, ◌==◌, Bool, true, false, true≢false, if◌then◌else◌, Option, Some, None, is_some, List, [], ◌∷◌, ◌++◌, map, unwrap_or, refl, sym, ap, ◌∙◌, subst, arith}
 use Rattle.std.proofs.lemmas.Bool.Decides.{nat_tests}
 use Rattle.std.specs.List.{AllByRecursion}
 use Rattle.std.specs.Prelude.{slice_get}
@@ -7,14 +7,14 @@ use Rattle.sm_syntax.specs.declared.symbol.Symbol.{Symbol}
 use Rattle.sm_syntax.specs.declared.symbol.Symbol.TheVariants as s
 use Rattle.sm_syntax.specs.declared.tree.Sort.{Sort}
 use Rattle.sm_syntax.specs.Conditions.{names_in, names_tested}
-use Rattle.sm_syntax.specs.Grammar.{Marked, plain, AreDeclarations, AreOutputs, IsAssumption, IsShared}
+use Rattle.sm_syntax.specs.Grammar.{Marked, plain}
 use Rattle.sm_syntax.specs.Parts.{sort_of}
 use Rattle.sm_syntax.specs.Symbols.{is_among, with_text, symbol_of}
 use Rattle.sm_syntax.specs.Syntax.{Expression, Lit, Var, Read, Neg, Plus, Minus, Times, Condition, Yes, No, Compare, Not, And, Or}
 use Rattle.sm_syntax.specs.Tokens.{Lexed, lexed}
 use Rattle.sm_syntax.proofs.Numbering.{with_text-among, is_among-with_text, grown-with_text}
-use Rattle.sm_text.specs.Fragments.{ProgramParts, IsProgram, program, SpellsProgram, HasProgramText, IsNamedProgram}
-use Rattle.sm_text.specs.Pieces.{text_of, symbols_in}
+use Rattle.sm_text.specs.Fragments.{ProgramParts, IsProgram, program, HasProgramText}
+use Rattle.sm_text.specs.Pieces.{text_of}
 use Rattle.sm_text.specs.Places.{unmarked}
 use Rattle.sm_text.specs.Prefixes.{between, HeadParts, IsHead, head, SpellsHead, AssumesDeclared, IsNamedHead}
 use Rattle.sm_text.proofs.Content.{content, both, content_of, content_tested, content_used, content_listed, content_declared, content_assumed, declarations_content, outputs_content, assumption_content, shared_content}

@@ -1,9 +1,8 @@
 -- What the tokens of a part of a text spell, a text of its own spells: their symbols, each before a space.
-use Rattle.std.proofs.Common.{◌≡◌, ℕ, zero, suc, ◌-◌, Bool, true, false, None, List, [], ◌∷◌, length, map, take, drop, refl, sym, ap, ◌∙◌, subst, arith, if◌then◌else◌, ◌==◌}
+use Rattle.std.proofs.Common.{◌≡◌, ℕ, zero, suc, ◌-◌, Bool, true, false, List, [], ◌∷◌, map, take, drop, refl, sym, ap, ◌∙◌, subst, arith, if◌then◌else◌, ◌==◌}
 use Rattle.std.specs.List.{AllByRecursion}
 use Rattle.sm_syntax.specs.declared.symbol.Symbol.{Symbol}
 use Rattle.sm_syntax.specs.declared.symbol.Symbol.TheVariants as s
-use Rattle.sm_syntax.specs.declared.token.Token as lexical
 use Rattle.sm_syntax.specs.Grammar.{plain, IsBlock}
 use Rattle.sm_syntax.specs.Symbols.{symbol_of, names_after}
 use Rattle.sm_syntax.specs.Syntax.{Code}
@@ -18,8 +17,7 @@ use Rattle.sm_text.proofs.PartsBack.{IsUnder, pieces_under}
 use Rattle.sm_text.proofs.ReadsBack.{AllIn, content_in}
 use Rattle.sm_text.proofs.Recut.{goes_on, AreApart}
 use Rattle.sm_text.proofs.Relexed.{is_reserved}
-use Rattle.sm_text.proofs.Renamed.{IsIn, IsGoodToken, tokens_good, known_behind, symbols_are_in}
-use Rattle.sm_text.proofs.Shown.{marked}
+use Rattle.sm_text.proofs.Renamed.{IsGoodToken, tokens_good, known_behind, symbols_are_in}
 
 -- symbols, each before a space
 abbrev pub spaced : List Symbol → List Piece

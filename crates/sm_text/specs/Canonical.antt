@@ -51,7 +51,7 @@ abbrev pub filling_pieces : Fillings → List Piece
 filling_pieces [] = []
 filling_pieces (f ∷ fs) =
     line (margin_at 1)
-      (word mark.Question ∷ number (pos f.0) ∷ space ∷ block_pieces (margin_at 1) f.1)
+    (word mark.Question ∷ number (pos f.0) ∷ space ∷ block_pieces (margin_at 1) f.1)
     ++ filling_pieces fs
 
 -- fillings in braces, behind the word that begins their list

@@ -1,7 +1,7 @@
 -- Public clauses cite this file.
 -- What has a text: a name whose number is below the number n of texts, and a task that some text
 -- spells.
-use Rattle.std.specs.Prelude.{ℕ, ◌<◌, Option, Some, None, List, [], ◌∷◌, length}
+use Rattle.std.specs.Prelude.{ℕ, ◌<◌, Option, Some, None, List, [], ◌∷◌}
 use Rattle.sm_syntax.specs.declared.tree.Sort.{Sort}
 use Rattle.sm_syntax.specs.Syntax.{Expression, Lit, Var, Read, Neg, Plus, Minus, Times, Condition}
 use Rattle.sm_syntax.specs.Syntax.{Yes, No, Compare, Not, And, Or, Code, End, Skip, Assign, Write}

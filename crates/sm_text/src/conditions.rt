@@ -186,7 +186,9 @@ fn literals(
     ensures { Gives
         (λ x. (condition_of x.0, x.1.now))
         result
-        (spec.literals (spec.inner_condition groups) (spec.expression groups) spec.chain_limit (condition_of one) symbols.now) }
+        (spec.literals
+        (spec.inner_condition groups) (spec.expression groups) spec.chain_limit (condition_of one)
+        symbols.now) }
 {
     let mut left = one;
     let mut after = symbols;
@@ -231,7 +233,9 @@ fn conjunctions(
     ensures { Gives
         (λ x. (condition_of x.0, x.1.now))
         result
-        (spec.conjunctions (spec.inner_condition groups) (spec.expression groups) spec.chain_limit (condition_of one) symbols.now) }
+        (spec.conjunctions
+        (spec.inner_condition groups) (spec.expression groups) spec.chain_limit (condition_of one)
+        symbols.now) }
 {
     let mut left = one;
     let mut after = symbols;

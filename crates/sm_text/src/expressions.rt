@@ -29,7 +29,10 @@ pub(crate) fn expression(
     groups: u64,
     symbols: &[Symbol],
 ) -> Result<(Expr, &[Symbol]), ReadError>
-    ensures { Gives (λ x. (expression_of x.0, x.1.now)) result (spec.expression groups symbols.now) }
+    ensures { Gives
+        (λ x. (expression_of x.0, x.1.now))
+        result
+        (spec.expression groups symbols.now) }
 {
     sum(alloc, groups, symbols)
 }

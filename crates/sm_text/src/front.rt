@@ -1,5 +1,6 @@
 // What stands at the front of a text.
-ghost use Rattle.std.specs.Prelude.{◌≡◌, true, ◌<◌, ◌^◌, length, nat_lt, pos, Some, None, if◌then◌else◌};
+ghost use Rattle.std.specs.Prelude.{◌≡◌, true, ◌<◌, ◌^◌, length, nat_lt, pos, Some, None};
+ghost use Rattle.std.specs.Prelude.{if◌then◌else◌};
 ghost use Rattle.std.specs.Char.{is_ascii_digit};
 ghost use Rattle.std.specs.List.{prefix_len, AllPass};
 ghost use Rattle.std.specs.Str.Parse.{digits_value};
@@ -83,7 +84,8 @@ fn sign_at(bytes: &[u8]) -> Front
 /// The number that digits write, if it is at most 2^127 - 1.
 pub(crate) fn value_of(digits: &[u8]) -> Option<i128>
     requires { AllPass is_ascii_digit digits.now }
-    ensures { let value = digits_value 10 digits.now in result ≡ (if nat_lt value (2 ^ 127) then Some (pos value) else None) }
+    ensures { let value = digits_value 10 digits.now in
+        result ≡ (if nat_lt value (2 ^ 127) then Some (pos value) else None) }
 {
     let mut value: u128 = 0;
     for digit in digits {

@@ -1,18 +1,25 @@
-//! The text of a task, read: tokens, then symbols, then the rules of the grammar.
+//! The text of a task, read and printed: tokens, then symbols, then the rules of the grammar.
 //!
 //! - `tokens` cuts a text into exactly its tokens, up to its first lexical fault.
 //!   `tokens_are_cut` is the law that says them a second way (`specs/Cutting.antt`).
-//! - `symbols` and `names` give what the grammar sees of them, with names numbered by first appearance.
-//! - `read_sections` reads exactly the texts that the grammar spells, where nothing nests too deep, each into what it spells.
-//!   A refusal names the first fault of the text: its kind and its place.
-//! - `parse_program` reads exactly the texts of a program alone, and a refusal names the first fault in the same way.
-//! - `parse_head` and `parse_block` read the front of a task, and a block from a token on, whatever stands behind.
-//! - Laws: the grammar spells at most one task by a text (`one_task`) and numbers what it declares in
-//!   order (`declared_in_order`), a text in the grammar has no fault (`no_fault_in_grammar`), and any
-//!   other text has one first fault (`one_first_fault`).
+//! - `symbols` and `names` give what the grammar sees of them, with names numbered by first
+//!   appearance.
+//! - `read_sections` reads exactly the texts that the grammar spells, where nothing nests too deep,
+//!   each into what it spells. A refusal names the first fault of the text: its kind and its place.
+//! - `parse_program` reads exactly the texts of a program alone, and a refusal names the first
+//!   fault in the same way.
+//! - `parse_head` and `parse_block` read the front of a task, and a block from a token on, whatever
+//!   stands behind.
+//! - `print_sections`, `print_program`, `print_block` and `print_cond` give the canonical text. A
+//!   task's spells the task again; the others do where what is printed is no deeper than 64. What
+//!   `parse_program`, `parse_head` and `parse_block` give can be printed.
+//! - Laws: the grammar spells at most one task by a text (`one_task`) and numbers what it declares
+//!   in order (`declared_in_order`), a text in the grammar has no fault (`no_fault_in_grammar`), and
+//!   any other text has one first fault (`one_first_fault`).
 //!
-//! What is read stands in `specs/` of `sm_syntax`, and which fault is the first in `specs/Places.antt` here. `specs/Reading.antt`
-//! has the parsers that the code follows.
+//! What is read stands in `specs/` of `sm_syntax`, which fault is the first in `specs/Places.antt`
+//! here, and what is printed in `specs/Canonical.antt`. `specs/Reading.antt` has the parsers that
+//! the code follows. The first line of each file in `specs/` says whether public clauses cite it.
 #![tactic(auto)]
 
 mod conditions;
@@ -27,6 +34,7 @@ mod print;
 mod program;
 mod put;
 mod put_sections;
+mod put_statements;
 mod reading;
 mod resolve;
 mod rules;

@@ -137,8 +137,9 @@ fn block_at(
     }
 }
 
-// The block that tokens begin with, and how many stand behind it. It is read by its own tokens alone: no block is refused
-// at the brace that closes it, so what these tell holds whatever stands behind them.
+// The block that tokens begin with, and how many stand behind it. It is read by its own tokens
+// alone: no block is refused behind the brace that closes it, so what these tell holds whatever
+// stands behind them.
 fn first_block(
     alloc: Global,
     bytes: &[u8],

@@ -13,8 +13,9 @@ ghost use Rattle.sm_text.specs.Pieces as spec;
 ghost use Rattle.sm_text.specs.Pieces.{text_of};
 ghost use Rattle.sm_text.specs.Texts.{task_parts};
 
-use crate::put::{deeper, put_block, put_cond};
+use crate::put::put_cond;
 use crate::put_sections::{put_assumption, put_declarations, put_lists, put_outputs, put_shared};
+use crate::put_statements::{deeper, put_block};
 use sm_syntax::{Block, Cond, Fillings, NameTable, PerCopy, Program};
 use std::alloc::{AllocError, Global};
 
@@ -27,10 +28,12 @@ pub fn print_block(
 ) -> Result<Vec<u8>, AllocError>
     requires { IsUsedIn (length names.now) (code_of block.now) }
     ensures text { IfOk result (λ v.
-        v.items ≡ text_of names.now (canonical.block_pieces (spec.margin_at level) (code_of block.now))) }
+        v.items ≡ text_of names.now
+        (canonical.block_pieces (spec.margin_at level) (code_of block.now))) }
     // Canonical text nests deeper than the text that was read, but never deeper than the block.
     ensures reads_back { let code = code_of block.now in
-        HasBlockText names.now code → code_depth code ≤ 64 → IfOk result (λ v. SpellsBlock names.now v.items code) }
+        HasBlockText names.now code → code_depth code ≤ 64 →
+        IfOk result (λ v. SpellsBlock names.now v.items code) }
 {
     let margin = margin_at(alloc, level)?;
     let mut out = Vec::new(alloc);
@@ -44,7 +47,8 @@ pub fn print_cond(alloc: Global, names: &NameTable, c: &Cond) -> Result<Vec<u8>,
     ensures text { IfOk result (λ v.
         v.items ≡ text_of names.now (canonical.condition_pieces (condition_of c.now))) }
     ensures reads_back { let tree = condition_of c.now in
-        HasConditionText names.now tree → condition_depth tree ≤ 64 → IfOk result (λ v. SpellsCondition names.now v.items tree) }
+        HasConditionText names.now tree → condition_depth tree ≤ 64 →
+        IfOk result (λ v. SpellsCondition names.now v.items tree) }
 {
     let mut out = Vec::new(alloc);
     put_cond(&mut out, names, c)?;
@@ -68,7 +72,8 @@ fn margin_at(alloc: Global, level: u64) -> Result<Vec<u8>, AllocError>
 pub fn print_program(alloc: Global, p: &Program) -> Result<Vec<u8>, AllocError>
     requires { IsNamedProgram (parts_of p.now) }
     ensures text { IfOk result (λ v. v.items ≡ text_of p.now.names
-        (canonical.program_pieces (declared_of p.now.decls) (outputs_of p.now.outputs) (code_of p.now.body))) }
+        (canonical.program_pieces
+        (declared_of p.now.decls) (outputs_of p.now.outputs) (code_of p.now.body))) }
     ensures reads_back { HasProgramText (parts_of p.now) → code_depth (code_of p.now.body) ≤ 64 →
         IfOk result (λ v. SpellsProgram v.items (parts_of p.now)) }
 {

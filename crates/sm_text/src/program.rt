@@ -11,7 +11,8 @@ use crate::error::TextError;
 use crate::lexer::tokens;
 use crate::reading::{FaultKind, ReadError, first, refusal};
 use crate::resolve::symbols;
-use crate::rules::{declarations, outputs, shared};
+use crate::rules::{declarations, outputs};
+use crate::sections::shared;
 use crate::text::{lexical_error, refused};
 use sm_syntax::{Block, Decls, Outputs, Program, Symbol};
 use std::alloc::Global;
@@ -55,8 +56,8 @@ fn whole_program(alloc: Global, symbols: &[Symbol]) -> Result<Parts, ReadError>
     }
 }
 
-/// Reads a text of fewer than 2^32 bytes as a program: declarations, outputs and a shared block alone. Any other text is
-/// refused at its first fault, as by `read_sections`.
+/// Reads a text of fewer than 2^32 bytes as a program: declarations, outputs and a shared block
+/// alone. Any other text is refused at its first fault, as by `read_sections`.
 pub fn parse_program(alloc: Global, bytes: &[u8]) -> Result<Program, TextError>
     requires { length bytes.now < 2 ^ 32 }
     ensures ok { IfOk result (λ p. SpellsProgram bytes.now (parts_of p)) }

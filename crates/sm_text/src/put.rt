@@ -1,21 +1,20 @@
-// Puts the pieces of a canonical text at the end of a list of bytes.
-ghost use Rattle.std.specs.Prelude.{◌≡◌, ◌<◌, ◌++◌, [], length, OnOk, IfOk, unwrap_or, slice_get, codes};
-ghost use Rattle.std.specs.Fmt.{decimal, signed_decimal};
+// Puts the canonical text of expressions and conditions at the end of a list of bytes.
+ghost use Rattle.std.specs.Prelude.{◌≡◌, ◌<◌, ◌++◌, [], length, OnOk, unwrap_or, slice_get, codes};
+ghost use Rattle.std.specs.Fmt.{signed_decimal};
 ghost use Rattle.sm_syntax.specs.Grammar.{comparison};
-ghost use Rattle.sm_syntax.specs.Syntax.{Code, End};
-ghost use Rattle.sm_syntax.specs.Views.{expression_of, condition_of, statement_of, code_of};
+ghost use Rattle.sm_syntax.specs.Views.{expression_of, condition_of};
 ghost use Rattle.sm_text.specs.Canonical as canonical;
-ghost use Rattle.sm_text.specs.Named.{IsNamedIn, IsTestedIn, IsUsedIn};
-ghost use Rattle.sm_text.specs.Pieces as spec;
+ghost use Rattle.sm_text.specs.Named.{IsNamedIn, IsTestedIn};
 ghost use Rattle.sm_text.specs.Pieces.{text_of, spelling};
 
-use sm_syntax::{Block, Cmp, Cond, Expr, Name, NameTable, Stmt};
-use std::alloc::{AllocError, Global};
+use sm_syntax::{Cmp, Cond, Expr, Name, NameTable};
+use std::alloc::AllocError;
 
 /// A name's text.
 pub(crate) fn put_name(out: &mut Vec<u8>, names: &NameTable, name: Name) -> Result<(), AllocError>
     requires { name.0 < length names.now }
-    ensures { OnOk result (out.new.items ≡ out.old.items ++ unwrap_or (slice_get names.now name.0) []) }
+    ensures { OnOk result
+        (out.new.items ≡ out.old.items ++ unwrap_or (slice_get names.now name.0) []) }
 {
     out.extend_from_slice(names.text(name).as_bytes())
 }
@@ -40,7 +39,8 @@ fn is_atom(e: &Expr) -> bool
 pub(crate) fn put_expr(out: &mut Vec<u8>, names: &NameTable, e: &Expr) -> Result<(), AllocError>
     requires { IsNamedIn (length names.now) (expression_of e.now) }
     ensures { OnOk result
-        (out.new.items ≡ out.old.items ++ text_of names.now (canonical.expression_pieces (expression_of e.now))) }
+        (out.new.items ≡ out.old.items
+        ++ text_of names.now (canonical.expression_pieces (expression_of e.now))) }
 {
     match e {
         Expr::Num(n) => put_number(out, *n),
@@ -70,11 +70,18 @@ pub(crate) fn put_expr(out: &mut Vec<u8>, names: &NameTable, e: &Expr) -> Result
 
 /// An element of an array.
 #[cycle(put_expression)]
-fn put_element(out: &mut Vec<u8>, names: &NameTable, a: Name, i: &Expr) -> Result<(), AllocError>
+pub(crate) fn put_element(
+    out: &mut Vec<u8>,
+    names: &NameTable,
+    a: Name,
+    i: &Expr,
+) -> Result<(), AllocError>
     requires array { a.0 < length names.now }
     requires index { IsNamedIn (length names.now) (expression_of i.now) }
     ensures { OnOk result
-        (out.new.items ≡ out.old.items ++ text_of names.now (canonical.element_pieces a.0 (canonical.expression_pieces (expression_of i.now)))) }
+        (out.new.items ≡ out.old.items
+        ++ text_of names.now
+        (canonical.element_pieces a.0 (canonical.expression_pieces (expression_of i.now)))) }
 {
     put_name(out, names, a)?;
     out.extend_from_slice(b"[")?;
@@ -87,7 +94,9 @@ fn put_element(out: &mut Vec<u8>, names: &NameTable, a: Name, i: &Expr) -> Resul
 fn put_operand(out: &mut Vec<u8>, names: &NameTable, e: &Expr) -> Result<(), AllocError>
     requires { IsNamedIn (length names.now) (expression_of e.now) }
     ensures { let tree = expression_of e.now in OnOk result
-        (out.new.items ≡ out.old.items ++ text_of names.now (canonical.operand (canonical.is_atom tree) (canonical.expression_pieces tree))) }
+        (out.new.items ≡ out.old.items
+        ++ text_of names.now
+        (canonical.operand (canonical.is_atom tree) (canonical.expression_pieces tree))) }
 {
     if is_atom(e) {
         return put_expr(out, names, e);
@@ -124,7 +133,8 @@ fn is_test(c: &Cond) -> bool
 pub(crate) fn put_cond(out: &mut Vec<u8>, names: &NameTable, c: &Cond) -> Result<(), AllocError>
     requires { IsTestedIn (length names.now) (condition_of c.now) }
     ensures { OnOk result
-        (out.new.items ≡ out.old.items ++ text_of names.now (canonical.condition_pieces (condition_of c.now))) }
+        (out.new.items ≡ out.old.items
+        ++ text_of names.now (canonical.condition_pieces (condition_of c.now))) }
 {
     match c {
         Cond::Yes => out.extend_from_slice(b"true"),
@@ -156,7 +166,9 @@ pub(crate) fn put_cond(out: &mut Vec<u8>, names: &NameTable, c: &Cond) -> Result
 fn put_part(out: &mut Vec<u8>, names: &NameTable, c: &Cond) -> Result<(), AllocError>
     requires { IsTestedIn (length names.now) (condition_of c.now) }
     ensures { let tree = condition_of c.now in OnOk result
-        (out.new.items ≡ out.old.items ++ text_of names.now (canonical.part (canonical.is_test tree) (canonical.condition_pieces tree))) }
+        (out.new.items ≡ out.old.items
+        ++ text_of names.now
+        (canonical.part (canonical.is_test tree) (canonical.condition_pieces tree))) }
 {
     if is_test(c) {
         return put_cond(out, names, c);
@@ -164,127 +176,4 @@ fn put_part(out: &mut Vec<u8>, names: &NameTable, c: &Cond) -> Result<(), AllocE
     out.extend_from_slice(b"[")?;
     put_cond(out, names, c)?;
     out.extend_from_slice(b"]")
-}
-
-/// The margin one level deeper.
-pub(crate) fn deeper(alloc: Global, margin: &[u8]) -> Result<Vec<u8>, AllocError>
-    ensures { IfOk result (λ m. m.items ≡ spec.deeper margin.now) }
-{
-    let mut wide = Vec::from_slice(alloc, b"  ")?;
-    wide.extend_from_slice(margin)?;
-    Ok(wide)
-}
-
-/// A condition in parentheses, before a block.
-#[tactic(auto, unfolding(crate::specs::Canonical::guard_pieces))]
-fn put_guard(out: &mut Vec<u8>, names: &NameTable, c: &Cond) -> Result<(), AllocError>
-    requires { IsTestedIn (length names.now) (condition_of c.now) }
-    ensures { OnOk result
-        (out.new.items ≡ out.old.items ++ text_of names.now (canonical.guard_pieces (condition_of c.now))) }
-{
-    out.extend_from_slice(b"(")?;
-    put_cond(out, names, c)?;
-    out.extend_from_slice(b") ")
-}
-
-/// A hole: its sign and its number.
-pub(crate) fn put_hole(out: &mut Vec<u8>, hole: u32) -> Result<(), AllocError>
-    ensures { OnOk result (out.new.items ≡ out.old.items ++ codes "?" ++ decimal hole) }
-{
-    let mut digits = itoa::Buffer::new();
-    out.extend_from_slice(b"?")?;
-    out.extend_from_slice(digits.format(hole).as_bytes())
-}
-
-/// A statement, on lines behind a margin.
-#[cycle(put_statement)]
-fn put_stmt(
-    alloc: Global,
-    out: &mut Vec<u8>,
-    names: &NameTable,
-    margin: &[u8],
-    s: &Stmt,
-) -> Result<(), AllocError>
-    requires { IsUsedIn (length names.now) (statement_of s.now End) }
-    ensures { (k : Code) → OnOk result
-        (out.new.items ++ text_of names.now (canonical.code_pieces margin.now k)
-        ≡ out.old.items ++ text_of names.now (canonical.code_pieces margin.now (statement_of s.now k))) }
-{
-    out.extend_from_slice(margin)?;
-    match s {
-        Stmt::Skip => out.extend_from_slice(b"skip;\n"),
-        Stmt::Assign(x, e) => {
-            put_name(out, names, *x)?;
-            out.extend_from_slice(b" = ")?;
-            put_expr(out, names, e)?;
-            out.extend_from_slice(b";\n")
-        }
-        Stmt::Store(a, i, e) => {
-            put_element(out, names, *a, i)?;
-            out.extend_from_slice(b" = ")?;
-            put_expr(out, names, e)?;
-            out.extend_from_slice(b";\n")
-        }
-        Stmt::If(b, c, d) => {
-            out.extend_from_slice(b"if ")?;
-            put_guard(out, names, b)?;
-            put_branches(alloc, out, names, margin, c, d)?;
-            out.extend_from_slice(b"\n")
-        }
-        Stmt::While(b, c) => {
-            out.extend_from_slice(b"while ")?;
-            put_guard(out, names, b)?;
-            put_block(alloc, out, names, margin, c)?;
-            out.extend_from_slice(b"\n")
-        }
-        Stmt::Hole(h) => {
-            put_hole(out, *h)?;
-            out.extend_from_slice(b";\n")
-        }
-    }
-}
-
-/// The branches of a choice.
-#[cycle(put_statement)]
-#[tactic(auto, unfolding(crate::specs::Canonical::branches))]
-fn put_branches(
-    alloc: Global,
-    out: &mut Vec<u8>,
-    names: &NameTable,
-    margin: &[u8],
-    c: &Block,
-    d: &Block,
-) -> Result<(), AllocError>
-    requires then { IsUsedIn (length names.now) (code_of c.now) }
-    requires other { IsUsedIn (length names.now) (code_of d.now) }
-    ensures { OnOk result
-        (out.new.items ≡ out.old.items ++ text_of names.now
-        (canonical.branches (canonical.block_pieces margin.now (code_of c.now)) (canonical.block_pieces margin.now (code_of d.now)))) }
-{
-    put_block(alloc, out, names, margin, c)?;
-    out.extend_from_slice(b" else ")?;
-    put_block(alloc, out, names, margin, d)
-}
-
-/// A block, whose lines but for the first stand behind a margin.
-#[cycle(put_statement)]
-#[tactic(auto, unfolding(crate::specs::Canonical::braces))]
-pub(crate) fn put_block(
-    alloc: Global,
-    out: &mut Vec<u8>,
-    names: &NameTable,
-    margin: &[u8],
-    b: &Block,
-) -> Result<(), AllocError>
-    requires { IsUsedIn (length names.now) (code_of b.now) }
-    ensures { OnOk result
-        (out.new.items ≡ out.old.items ++ text_of names.now (canonical.block_pieces margin.now (code_of b.now))) }
-{
-    let inner = deeper(alloc, margin)?;
-    out.extend_from_slice(b"{\n")?;
-    for s in &b.list {
-        put_stmt(alloc, out, names, &inner, s)?;
-    }
-    out.extend_from_slice(margin)?;
-    out.extend_from_slice(b"}")
 }

@@ -10,7 +10,8 @@ ghost use Rattle.sm_text.specs.Pieces.{text_of};
 ghost use Rattle.sm_text.specs.Sections.{lists_of};
 ghost use Rattle.sm_text.specs.Written.{numbers_of, filling_of};
 
-use crate::put::{put_block, put_cond, put_hole, put_name};
+use crate::put::{put_cond, put_name};
+use crate::put_statements::{put_block, put_hole};
 use sm_syntax::{Block, Cond, Decls, Filling, Fillings, Name, NameTable, Outputs, PerCopy, Sort};
 use std::alloc::{AllocError, Global};
 
@@ -23,7 +24,8 @@ fn put_declaration(
 ) -> Result<(), AllocError>
     requires { name.0 < length names.now }
     ensures { OnOk result
-        (out.new.items ≡ out.old.items ++ text_of names.now (canonical.declaration_pieces ((name.0, sort) ∷ []))) }
+        (out.new.items ≡ out.old.items
+        ++ text_of names.now (canonical.declaration_pieces ((name.0, sort) ∷ []))) }
 {
     match sort {
         Sort::Num => out.extend_from_slice(b"var ")?,
@@ -41,7 +43,8 @@ pub(crate) fn put_declarations(
 ) -> Result<(), AllocError>
     requires { AreDeclaredIn (length names.now) (declared_of decls.now) }
     ensures { OnOk result
-        (out.new.items ≡ out.old.items ++ text_of names.now (canonical.declaration_pieces (declared_of decls.now))) }
+        (out.new.items ≡ out.old.items
+        ++ text_of names.now (canonical.declaration_pieces (declared_of decls.now))) }
 {
     for d in &decls.list {
         put_declaration(out, names, d.0, d.1)?;
@@ -53,7 +56,8 @@ pub(crate) fn put_declarations(
 fn put_more_names(out: &mut Vec<u8>, names: &NameTable, list: &[Name]) -> Result<(), AllocError>
     requires { AreOutputsIn (length names.now) (numbers_of list.now) }
     ensures { OnOk result
-        (out.new.items ≡ out.old.items ++ text_of names.now (canonical.more_names (numbers_of list.now))) }
+        (out.new.items ≡ out.old.items
+        ++ text_of names.now (canonical.more_names (numbers_of list.now))) }
 {
     for x in list {
         out.extend_from_slice(b", ")?;
@@ -66,7 +70,8 @@ fn put_more_names(out: &mut Vec<u8>, names: &NameTable, list: &[Name]) -> Result
 fn put_names(out: &mut Vec<u8>, names: &NameTable, list: &[Name]) -> Result<(), AllocError>
     requires { AreOutputsIn (length names.now) (numbers_of list.now) }
     ensures { OnOk result
-        (out.new.items ≡ out.old.items ++ text_of names.now (canonical.names_pieces (numbers_of list.now))) }
+        (out.new.items ≡ out.old.items
+        ++ text_of names.now (canonical.names_pieces (numbers_of list.now))) }
 {
     if let [first, ..] = list {
         put_name(out, names, *first)?;
@@ -84,7 +89,8 @@ pub(crate) fn put_outputs(
 ) -> Result<(), AllocError>
     requires { AreOutputsIn (length names.now) (outputs_of outputs.now) }
     ensures { OnOk result
-        (out.new.items ≡ out.old.items ++ text_of names.now (canonical.output_pieces (outputs_of outputs.now))) }
+        (out.new.items ≡ out.old.items
+        ++ text_of names.now (canonical.output_pieces (outputs_of outputs.now))) }
 {
     out.extend_from_slice(b"output ")?;
     put_names(out, names, &outputs.list)?;
@@ -100,7 +106,9 @@ pub(crate) fn put_assumption(
 ) -> Result<(), AllocError>
     requires { IsAssumedIn (length names.now) (option_map condition_of assumed.now) }
     ensures { OnOk result
-        (out.new.items ≡ out.old.items ++ text_of names.now (canonical.assumption_pieces (option_map condition_of assumed.now))) }
+        (out.new.items ≡ out.old.items
+        ++ text_of names.now
+        (canonical.assumption_pieces (option_map condition_of assumed.now))) }
 {
     match assumed {
         Some(c) => {
@@ -122,7 +130,8 @@ pub(crate) fn put_shared(
 ) -> Result<(), AllocError>
     requires { IsUsedIn (length names.now) (code_of shared.now) }
     ensures { OnOk result
-        (out.new.items ≡ out.old.items ++ text_of names.now (canonical.shared_pieces (code_of shared.now))) }
+        (out.new.items ≡ out.old.items
+        ++ text_of names.now (canonical.shared_pieces (code_of shared.now))) }
 {
     out.extend_from_slice(b"shared ")?;
     put_block(alloc, out, names, &[], shared)?;
@@ -138,7 +147,8 @@ fn put_filling(
 ) -> Result<(), AllocError>
     requires { IsUsedIn (length names.now) (code_of f.now.block) }
     ensures { OnOk result
-        (out.new.items ≡ out.old.items ++ text_of names.now (canonical.filling_pieces (filling_of f.now ∷ []))) }
+        (out.new.items ≡ out.old.items
+        ++ text_of names.now (canonical.filling_pieces (filling_of f.now ∷ []))) }
 {
     out.extend_from_slice(b"  ")?;
     put_hole(out, f.hole)?;
@@ -156,7 +166,8 @@ fn put_fillings(
 ) -> Result<(), AllocError>
     requires { AreFilledIn (length names.now) (fillings_of fs.now) }
     ensures { OnOk result
-        (out.new.items ≡ out.old.items ++ text_of names.now (canonical.filling_pieces (fillings_of fs.now))) }
+        (out.new.items ≡ out.old.items
+        ++ text_of names.now (canonical.filling_pieces (fillings_of fs.now))) }
 {
     for f in &fs.list {
         put_filling(alloc, out, names, f)?;
@@ -174,7 +185,9 @@ fn put_list(
     fs: &Fillings,
 ) -> Result<(), AllocError>
     requires { AreFilledIn (length names.now) (fillings_of fs.now) }
-    ensures { OnOk result (out.new.items ≡ out.old.items ++ word.now ++ text_of names.now (canonical.list_pieces (fillings_of fs.now))) }
+    ensures { OnOk result
+        (out.new.items ≡ out.old.items
+        ++ word.now ++ text_of names.now (canonical.list_pieces (fillings_of fs.now))) }
 {
     out.extend_from_slice(word)?;
     out.extend_from_slice(b" {\n")?;

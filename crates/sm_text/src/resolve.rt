@@ -85,7 +85,8 @@ fn text_of(bytes: &[u8], token: Token) -> &[u8]
 fn symbol_of(kind: TokenKind, text: &[u8], names: &mut NameTable) -> Result<Symbol, AllocError>
     requires { IsText kind text.now }
     ensures symbol { IfOk result (λ s. s ≡ symbol_by kind names.new text.now) }
-    ensures names { OnOk result (names.new ≡ (if is_name kind text.now then with_text names.old text.now else names.old)) }
+    ensures names { OnOk result (names.new ≡
+        (if is_name kind text.now then with_text names.old text.now else names.old)) }
     ensures err { OnErr result (names.new ≡ names.old) }
 {
     match kind {

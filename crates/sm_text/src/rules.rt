@@ -1,23 +1,20 @@
-// The rules of the grammar. Each gives what the front of the symbols stands for, and the symbols behind it.
+// The rules of names, declarations, outputs and holes. Each gives what the front of the symbols
+// stands for, and the symbols behind it.
 ghost use Rattle.std.specs.Prelude.{◌≡◌, ◌++◌, OnOk};
-ghost use Rattle.sm_syntax.specs.Views.{statement_of, code_of};
+ghost use Rattle.sm_syntax.specs.Views.{statement_of};
 ghost use Rattle.sm_text.specs.Answers.{Gives};
 ghost use Rattle.sm_text.specs.Parsers.{stands};
 ghost use Rattle.sm_text.specs.Reading as spec;
 ghost use Rattle.sm_syntax.specs.Grammar.{with_sort};
-ghost use Rattle.sm_syntax.specs.Programs.{declared_of, outputs_of, fillings_of};
-ghost use Rattle.sm_text.specs.Written.{numbers_of, entries_of, declaration_of, filling_of, entries_for};
+ghost use Rattle.sm_syntax.specs.Programs.{declared_of, outputs_of};
+ghost use Rattle.sm_text.specs.Written.{numbers_of, entries_of, declaration_of};
 
 use crate::reading::{FaultKind, ReadError, expect, first, refusal, rest};
-use crate::statements::block;
-use sm_syntax::{Block, Decls, Filling, Fillings, Mark, Name, Outputs, Sort, Stmt, Symbol};
+use sm_syntax::{Decls, Mark, Name, Outputs, Sort, Stmt, Symbol};
 use std::alloc::{AllocError, Global};
 
 /// How many groups may be open at once.
 pub(crate) const GROUP_LIMIT: u64 = 64;
-
-/// How many more may be open inside a list.
-const LIST_LIMIT: u64 = 63;
 
 /// A declaration: a sort and the names.
 #[derive(Debug, Drop)]
@@ -202,7 +199,8 @@ pub(crate) fn declare(
     sort: Sort,
 ) -> Result<(), AllocError>
     ensures { OnOk result
-        (entries_of list.new.items ≡ entries_of list.old.items ++ with_sort sort (numbers_of names.now)) }
+        (entries_of list.new.items
+        ≡ entries_of list.old.items ++ with_sort sort (numbers_of names.now)) }
 {
     'names: for name in names {
         list.push((*name, sort))?;
@@ -254,57 +252,4 @@ pub(crate) fn begins_statement(symbol: Option<Symbol>) -> bool
         || stands(Mark::Question, symbol)
         || stands(Mark::If, symbol)
         || stands(Mark::While, symbol)
-}
-
-/// A filling.
-#[tactic(auto, unfolding(crate::specs::Reading::filling), using(crate::proofs::Limits::limits))]
-pub(crate) fn filling(alloc: Global, symbols: &[Symbol]) -> Result<(Filling, &[Symbol]), ReadError>
-    ensures { Gives (λ x. (filling_of x.0, x.1.now)) result (spec.filling symbols.now) }
-{
-    let after = expect(Mark::Question, symbols)?;
-    let (hole, after) = hole_number(after)?;
-    let (block, after) = block(alloc, LIST_LIMIT, after)?;
-    Ok((Filling { hole, block }, after))
-}
-
-/// All fillings of a list.
-#[tactic(auto, unfolding(crate::specs::Reading::fillings))]
-pub(crate) fn fillings(
-    alloc: Global,
-    symbols: &[Symbol],
-) -> Result<(Fillings, &[Symbol]), ReadError>
-    ensures { Gives (λ x. (fillings_of x.0, x.1.now)) result (spec.fillings symbols.now) }
-{
-    let mut list = Vec::new(alloc);
-    let mut after = symbols;
-    'fillings: while stands(Mark::Question, first(after)) {
-        let (one, behind) = filling(alloc, after)?;
-        list.push(one)?;
-        after = behind;
-    }
-    Ok((Fillings { list }, after))
-}
-
-/// The list of fillings that begins with a word.
-#[tactic(auto, unfolding(crate::specs::Reading::list))]
-pub(crate) fn list(
-    alloc: Global,
-    mark: Mark,
-    symbols: &[Symbol],
-) -> Result<(Fillings, &[Symbol]), ReadError>
-    ensures { Gives (λ x. (fillings_of x.0, x.1.now)) result (spec.list mark symbols.now) }
-{
-    let after = expect(mark, symbols)?;
-    let after = expect(Mark::OpenCurly, after)?;
-    let (fillings, after) = fillings(alloc, after)?;
-    let after = expect(Mark::CloseCurly, after)?;
-    Ok((fillings, after))
-}
-
-/// The shared block.
-#[tactic(auto, unfolding(crate::specs::Reading::shared), using(crate::proofs::Limits::limits))]
-pub(crate) fn shared(alloc: Global, symbols: &[Symbol]) -> Result<(Block, &[Symbol]), ReadError>
-    ensures { Gives (λ x. (code_of x.0, x.1.now)) result (spec.shared symbols.now) }
-{
-    block(alloc, GROUP_LIMIT, expect(Mark::Shared, symbols)?)
 }

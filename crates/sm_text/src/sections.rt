@@ -1,14 +1,17 @@
 // The sections of a task.
 ghost use Rattle.std.specs.Prelude.{option_map};
-ghost use Rattle.sm_syntax.specs.Views.{condition_of};
+ghost use Rattle.sm_syntax.specs.Programs.{fillings_of};
+ghost use Rattle.sm_syntax.specs.Views.{condition_of, code_of};
 ghost use Rattle.sm_text.specs.Answers.{Gives};
 ghost use Rattle.sm_text.specs.Reading as spec;
+ghost use Rattle.sm_text.specs.Written.{filling_of, entries_for};
 ghost use Rattle.sm_text.specs.Sections.{head_of, lists_of, body_of};
 
 use crate::conditions::condition;
 use crate::reading::{FaultKind, ReadError, expect, first, refusal, rest};
-use crate::rules::{GROUP_LIMIT, declarations, list, outputs, shared, stands};
-use sm_syntax::{Block, Cond, Decls, Fillings, Mark, Outputs, PerCopy, Symbol};
+use crate::rules::{GROUP_LIMIT, declarations, hole_number, outputs, stands};
+use crate::statements::block;
+use sm_syntax::{Block, Cond, Decls, Filling, Fillings, Mark, Outputs, PerCopy, Symbol};
 use std::alloc::Global;
 
 /// The front of a task: its declarations, outputs, assumption and shared block.
@@ -18,6 +21,55 @@ pub struct Head {
     pub outputs: Outputs,
     pub assumed: Option<Cond>,
     pub shared: Block,
+}
+
+/// How many more may be open inside a list.
+const LIST_LIMIT: u64 = 63;
+
+/// A filling.
+#[tactic(auto, unfolding(crate::specs::Reading::filling), using(crate::proofs::Limits::limits))]
+fn filling(alloc: Global, symbols: &[Symbol]) -> Result<(Filling, &[Symbol]), ReadError>
+    ensures { Gives (λ x. (filling_of x.0, x.1.now)) result (spec.filling symbols.now) }
+{
+    let after = expect(Mark::Question, symbols)?;
+    let (hole, after) = hole_number(after)?;
+    let (block, after) = block(alloc, LIST_LIMIT, after)?;
+    Ok((Filling { hole, block }, after))
+}
+
+/// All fillings of a list.
+#[tactic(auto, unfolding(crate::specs::Reading::fillings))]
+fn fillings(alloc: Global, symbols: &[Symbol]) -> Result<(Fillings, &[Symbol]), ReadError>
+    ensures { Gives (λ x. (fillings_of x.0, x.1.now)) result (spec.fillings symbols.now) }
+{
+    let mut list = Vec::new(alloc);
+    let mut after = symbols;
+    'fillings: while stands(Mark::Question, first(after)) {
+        let (one, behind) = filling(alloc, after)?;
+        list.push(one)?;
+        after = behind;
+    }
+    Ok((Fillings { list }, after))
+}
+
+/// The list of fillings that begins with a word.
+#[tactic(auto, unfolding(crate::specs::Reading::list))]
+fn list(alloc: Global, mark: Mark, symbols: &[Symbol]) -> Result<(Fillings, &[Symbol]), ReadError>
+    ensures { Gives (λ x. (fillings_of x.0, x.1.now)) result (spec.list mark symbols.now) }
+{
+    let after = expect(mark, symbols)?;
+    let after = expect(Mark::OpenCurly, after)?;
+    let (fillings, after) = fillings(alloc, after)?;
+    let after = expect(Mark::CloseCurly, after)?;
+    Ok((fillings, after))
+}
+
+/// The shared block.
+#[tactic(auto, unfolding(crate::specs::Reading::shared), using(crate::proofs::Limits::limits))]
+pub(crate) fn shared(alloc: Global, symbols: &[Symbol]) -> Result<(Block, &[Symbol]), ReadError>
+    ensures { Gives (λ x. (code_of x.0, x.1.now)) result (spec.shared symbols.now) }
+{
+    block(alloc, GROUP_LIMIT, expect(Mark::Shared, symbols)?)
 }
 
 /// An assumption, behind its word.
@@ -42,7 +94,10 @@ pub(crate) fn assumed(
     alloc: Global,
     symbols: &[Symbol],
 ) -> Result<(Option<Cond>, &[Symbol]), ReadError>
-    ensures { Gives (λ x. (option_map condition_of x.0, x.1.now)) result (spec.assumed symbols.now) }
+    ensures { Gives
+        (λ x. (option_map condition_of x.0, x.1.now))
+        result
+        (spec.assumed symbols.now) }
 {
     if stands(Mark::Assume, first(symbols)) {
         assumption_line(alloc, rest(symbols))

@@ -58,7 +58,10 @@ fn changed(
     name: Name,
     symbols: &[Symbol],
 ) -> Result<(Stmt, &[Symbol]), ReadError>
-    ensures { Gives (λ x. (statement_of x.0, x.1.now)) result (spec.changed groups name symbols.now) }
+    ensures { Gives
+        (λ x. (statement_of x.0, x.1.now))
+        result
+        (spec.changed groups name symbols.now) }
 {
     if stands(Mark::OpenSquare, first(symbols)) {
         write_element(alloc, groups, name, symbols)

@@ -25,22 +25,22 @@ code_pieces margin (Skip k) =
     line margin (word mark.Skip ∷ word mark.Semicolon ∷ []) ++ code_pieces margin k
 code_pieces margin (Assign x e k) =
     line margin
-      (name x ∷ space ∷ word mark.Becomes ∷ space ∷ (expression_pieces e ++ word mark.Semicolon ∷ []))
+    (name x ∷ space ∷ word mark.Becomes ∷ space ∷ (expression_pieces e ++ word mark.Semicolon ∷ []))
     ++ code_pieces margin k
 code_pieces margin (Write a i e k) =
     line margin
-      (element_pieces a (expression_pieces i)
-      ++ space ∷ word mark.Becomes ∷ space ∷ (expression_pieces e ++ word mark.Semicolon ∷ []))
+    (element_pieces a (expression_pieces i)
+    ++ space ∷ word mark.Becomes ∷ space ∷ (expression_pieces e ++ word mark.Semicolon ∷ []))
     ++ code_pieces margin k
 code_pieces margin (If b c d k) =
     line margin
-      (word mark.If ∷ space ∷ (guard_pieces b
-      ++ branches (braces margin (code_pieces (deeper margin) c))
-        (braces margin (code_pieces (deeper margin) d))))
+    (word mark.If ∷ space ∷ (guard_pieces b
+    ++ branches (braces margin (code_pieces (deeper margin) c))
+    (braces margin (code_pieces (deeper margin) d))))
     ++ code_pieces margin k
 code_pieces margin (While b c k) =
     line margin
-      (word mark.While ∷ space ∷ (guard_pieces b ++ braces margin (code_pieces (deeper margin) c)))
+    (word mark.While ∷ space ∷ (guard_pieces b ++ braces margin (code_pieces (deeper margin) c)))
     ++ code_pieces margin k
 code_pieces margin (Hole h k) =
     line margin (word mark.Question ∷ number (pos h) ∷ word mark.Semicolon ∷ [])

@@ -1,7 +1,7 @@
 use Rattle.std.proofs.Common.{arith}
 use Rattle.std.proofs.lemmas.Grind.{common_steps}
 use Rattle.sm_syntax.proofs.Statements.{statement_of-Store, statement_of-If, statement_of-While, statement_of-Hole}
-use Rattle.sm_text.proofs.put.+put_statement.Goals as goal
+use Rattle.sm_text.proofs.put_statements.+put_statement.Goals as goal
 
 pub put_stmt-returns-in_ok-put_expr-in-Store : goal.put_stmt-returns-in_ok-put_expr-in-Store
 put_stmt-returns-in_ok-put_expr-in-Store t c = λ k. grind (arith, common_steps, statement_of-Store)

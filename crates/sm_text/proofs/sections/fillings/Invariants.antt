@@ -1,7 +1,7 @@
 use Rattle.std.proofs.Common.{◌≡◌, length}
 use Rattle.sm_text.specs.Reading as spec
 use Rattle.sm_text.specs.Written.{entries_for}
-use Rattle.sm_text.proofs.rules.fillings.Given as goal
+use Rattle.sm_text.proofs.sections.fillings.Given as goal
 
 abbrev pub invariant-fillings : goal.invariant-fillings
 invariant-fillings l = spec.fillings l.symbols ≡ spec.more_fillings (entries_for l.list.items) l.after

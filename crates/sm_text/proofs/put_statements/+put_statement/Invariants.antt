@@ -7,7 +7,7 @@ use Rattle.sm_syntax.specs.Views.{sequence, statement_of, code_of}
 use Rattle.sm_text.specs.Canonical as canonical
 use Rattle.sm_text.specs.Named.{IsUsedIn}
 use Rattle.sm_text.specs.Pieces.{text_of}
-use Rattle.sm_text.proofs.put.+put_statement.Given as goal
+use Rattle.sm_text.proofs.put_statements.+put_statement.Given as goal
 
 abbrev pub invariant-put_block-loop-s : goal.invariant-put_block-loop-s
 invariant-put_block-loop-s l = record {

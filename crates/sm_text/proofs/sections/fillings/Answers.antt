@@ -6,7 +6,7 @@ use Rattle.sm_text.specs.Parsers.{stands}
 use Rattle.sm_text.specs.Reading as spec
 use Rattle.sm_text.specs.Written.{entries_for}
 use Rattle.sm_text.proofs.Loops.{tested, leaves, filling-shorter, more_fillings-turn, more_fillings-end, more_fillings-fault}
-use Rattle.sm_text.proofs.rules.fillings.Goals as goal
+use Rattle.sm_text.proofs.sections.fillings.Goals as goal
 
 pub returns-in_err-one : goal.returns-in_err-one
 returns-in_err-one c =
