@@ -2,5 +2,4 @@ pub mod Filled
 pub mod Numbers
 pub mod Refusals
 pub mod Parsing
-pub mod Complete
-pub mod Places
+pub mod RefusalUnique

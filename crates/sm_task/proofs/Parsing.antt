@@ -1,47 +1,154 @@
--- What parse_task answers, by the text and by the first condition that fails.
-use Rattle.std.proofs.Common.{◌≡◌, sym, subst, Option, Some, None, Result, Err, List, ℕ}
-use Rattle.std.specs.Prelude.{◌≢◌, IsSome, IfErr, IfSome}
-use Rattle.sm_syntax.specs.Conditions.{Refusal, first_refusal}
+-- What parse_task answers where a condition fails, or where its text does.
+use Rattle.std.proofs.Common.{◌≡◌, inl, inr, refl, sym, ap, ◌∙◌, Option, Some, None, option_map, Result, Err, List, ℕ}
+use Rattle.std.specs.Prelude.{◌≢◌, IfErr, IfSome}
+use Rattle.sm_syntax.specs.Conditions.{Refusal, Section, Shared, ListOf, first_refusal}
+use Rattle.sm_syntax.specs.Conditions as refusal
+use Rattle.sm_syntax.specs.ConflictFree.{O, A, B, M}
 use Rattle.sm_syntax.specs.Parts.{Parts}
 use Rattle.sm_syntax.specs.Spells.{IsInGrammar}
+use Rattle.sm_text.specs.declared.error.TextError.{TextError}
+use Rattle.sm_text.specs.declared.error.TextError.TheVariants as text
+use Rattle.sm_text.specs.Places.{AreTasks, IsFirstFault, IsRefusal, whole_text}
 use Rattle.sm_task.specs.declared.error.TaskError.{TaskError}
 use Rattle.sm_task.specs.declared.error.TaskError.TheVariants as error
-use Rattle.sm_task.specs.Errors.{refusal_of, IsRefusedBy}
+use Rattle.sm_task.specs.declared.task.Task.{Task}
+use Rattle.sm_task.specs.Errors.{section_number, section_of, error_of, refusal_of, from_text, IsRefusedBy, IsRefusedWith, IsReadAs, IsRefusedAs}
+use Rattle.sm_task.specs.Places.{text_fault_of}
 
--- an error of the conditions names the first that fails
+-- an error of the conditions is that of the first that fails
 abbrev pub Names : Option Refusal → TaskError → Type 0
-Names refusal e = e ≢ error.Memory → IsSome refusal × (refusal ≡ refusal_of e)
+Names refusal e = e ≢ error.Memory → option_map error_of refusal ≡ Some e
 
-named : (bytes : List ℕ) (t : Parts) (r : Option Refusal) → IsInGrammar bytes t → first_refusal t ≡ r → IfSome r (IsRefusedBy bytes)
-named bytes t None g e = tt
-named bytes t (Some r) g e = (t, g, e)
+-- what an error says, where it is not want of memory
+module _ (P : TaskError → Type 0) where
+  pub unless_memory : (e : TaskError) → P error.Memory → (e ≢ error.Memory → P e) → P e
+  unless_memory (error.BadByte p) m h = h (λ q. cc)
+  unless_memory (error.WideNumber p) m h = h (λ q. cc)
+  unless_memory (error.BadToken p) m h = h (λ q. cc)
+  unless_memory (error.Expected p) m h = h (λ q. cc)
+  unless_memory (error.Nested p) m h = h (λ q. cc)
+  unless_memory (error.MissingFilling l x) m h = h (λ q. cc)
+  unless_memory (error.UnknownHole l x) m h = h (λ q. cc)
+  unless_memory (error.DoubleHole l x) m h = h (λ q. cc)
+  unless_memory (error.HoleInFilling l x) m h = h (λ q. cc)
+  unless_memory (error.UnknownName x) m h = h (λ q. cc)
+  unless_memory (error.WrongSort x) m h = h (λ q. cc)
+  unless_memory (error.DoubleName x) m h = h (λ q. cc)
+  unless_memory error.TooDeep m h = h (λ q. cc)
+  unless_memory error.TooMany m h = h (λ q. cc)
+  unless_memory error.Memory m h = m
 
-nothing : IsSome (let o : Option Refusal = None in o) → ⊥
-nothing p = cc
+-- a section is the one with its number
+numbered : (s : Section) → section_of (section_number s) ≡ s
+numbered Shared = refl
+numbered (ListOf O) = refl
+numbered (ListOf A) = refl
+numbered (ListOf B) = refl
+numbered (ListOf M) = refl
 
-pub no_text : (refusal : Option Refusal) → IsSome refusal → refusal ≡ None → ⊥
-no_text refusal some none = let F : Option Refusal → Type 0 = λ r. IsSome r in nothing (subst F none some)
+-- the refusal of its error
+pub refused_again : (r : Refusal) → refusal_of (error_of r) ≡ Some r
+refused_again (refusal.DoubleHole s h) = ap (λ (x : Section). Some (refusal.DoubleHole x h)) (numbered s)
+refused_again (refusal.HoleInFilling s h) = ap (λ (x : Section). Some (refusal.HoleInFilling x h)) (numbered s)
+refused_again (refusal.UnknownHole s h) = ap (λ (x : Section). Some (refusal.UnknownHole x h)) (numbered s)
+refused_again (refusal.MissingFilling s h) = ap (λ (x : Section). Some (refusal.MissingFilling x h)) (numbered s)
+refused_again (refusal.DoubleName x) = refl
+refused_again (refusal.UnknownName x) = refl
+refused_again (refusal.WrongSort x) = refl
+refused_again refusal.TooMany = refl
+refused_again refusal.TooDeep = refl
 
--- a condition that fails is named
-condition : (bytes : List ℕ) (t : Parts) (e : TaskError) → IsInGrammar bytes t → Names (first_refusal t) e → IfSome (refusal_of e) (IsRefusedBy bytes)
-condition bytes t (error.BadByte p) g n = tt
-condition bytes t (error.WideNumber p) g n = tt
-condition bytes t (error.BadToken p) g n = tt
-condition bytes t (error.Expected p) g n = tt
-condition bytes t (error.Nested p) g n = tt
-condition bytes t (error.MissingFilling l h) g n = named bytes t (refusal_of (error.MissingFilling l h)) g (n (λ q. cc)).1
-condition bytes t (error.UnknownHole l h) g n = named bytes t (refusal_of (error.UnknownHole l h)) g (n (λ q. cc)).1
-condition bytes t (error.DoubleHole l h) g n = named bytes t (refusal_of (error.DoubleHole l h)) g (n (λ q. cc)).1
-condition bytes t (error.HoleInFilling l h) g n = named bytes t (refusal_of (error.HoleInFilling l h)) g (n (λ q. cc)).1
-condition bytes t (error.UnknownName x) g n = named bytes t (refusal_of (error.UnknownName x)) g (n (λ q. cc)).1
-condition bytes t (error.WrongSort x) g n = named bytes t (refusal_of (error.WrongSort x)) g (n (λ q. cc)).1
-condition bytes t (error.DoubleName x) g n = named bytes t (refusal_of (error.DoubleName x)) g (n (λ q. cc)).1
-condition bytes t error.TooDeep g n = named bytes t (refusal_of error.TooDeep) g (n (λ q. cc)).1
-condition bytes t error.TooMany g n = named bytes t (refusal_of error.TooMany) g (n (λ q. cc)).1
-condition bytes t error.Memory g n = tt
+-- such an error names no fault of the text
+no_text_fault : (r : Refusal) → text_fault_of (error_of r) ≡ None
+no_text_fault (refusal.DoubleHole s h) = refl
+no_text_fault (refusal.HoleInFilling s h) = refl
+no_text_fault (refusal.UnknownHole s h) = refl
+no_text_fault (refusal.MissingFilling s h) = refl
+no_text_fault (refusal.DoubleName x) = refl
+no_text_fault (refusal.UnknownName x) = refl
+no_text_fault (refusal.WrongSort x) = refl
+no_text_fault refusal.TooMany = refl
+no_text_fault refusal.TooDeep = refl
 
--- the exit at a condition that fails
-pub refused : {T : Type 0} (bytes : List ℕ) (t u : Parts) (result : Result T TaskError) (e : TaskError) → (y : TaskError) × (result ≡ Err y) × (y ≡ e) → IsInGrammar bytes u → t ≡ u → Names (first_refusal t) e → IfErr result (λ x. IfSome (refusal_of x) (IsRefusedBy bytes))
-refused bytes t u result e p g same n =
-    let F : Parts → Type 0 = λ x. IsInGrammar bytes x in
-    rw (p.1, p.2) (condition bytes t e (subst F (sym same) g) n)
+some_error : (d e : TaskError) → Some d ≡ Some e → e ≡ d
+some_error d e p = cc
+
+none_error : (e : TaskError) → (let o : Option TaskError = None in o) ≡ Some e → ⊥
+none_error e p = cc
+
+-- the refusal that an error names
+which : (o : Option Refusal) (e : TaskError) → option_map error_of o ≡ Some e → (r : Refusal) × (o ≡ Some r) × (e ≡ error_of r)
+which None e p = absurd (none_error e p)
+which (Some r) e p = (r, refl, some_error (error_of r) e p)
+
+-- the exit at a condition that fails, with the text and its parts
+module _ {T : Type 0} (bytes : List ℕ) (t u : Parts) (result : Result T TaskError) (e : TaskError)
+    (p : (y : TaskError) × (result ≡ Err y) × (y ≡ e)) (g : IsInGrammar bytes u) (same : t ≡ u) (n : Names (first_refusal t) e) where
+  named : e ≢ error.Memory → (r : Refusal) × IsRefusedBy bytes r × (e ≡ error_of r)
+  named other =
+      let one = which (first_refusal t) e (n other) in
+      (one.0, (u, g, ap first_refusal (sym same) ∙ one.1), one.2)
+
+  pub refused-err : IfErr result (λ x. x ≢ error.Memory → IsRefusedWith bytes x)
+  refused-err = rw (p.1, p.2) (λ (other : e ≢ error.Memory). inr (named other))
+
+  at_condition : e ≢ error.Memory → IfSome (refusal_of e) (IsRefusedBy bytes)
+  at_condition other = let one = named other in rw (one.2, refused_again one.0) one.1
+
+  pub refused-condition : IfErr result (λ x. IfSome (refusal_of x) (IsRefusedBy bytes))
+  refused-condition = rw (p.1, p.2) (unless_memory (λ x. IfSome (refusal_of x) (IsRefusedBy bytes)) e tt at_condition)
+
+  at_place : (P : TextError → Type 0) → e ≢ error.Memory → IfSome (text_fault_of e) P
+  at_place P other = let one = named other in rw (one.2, no_text_fault one.0) tt
+
+  pub refused-place : (P : TextError → Type 0) → IfErr result (λ x. IfSome (text_fault_of x) P)
+  refused-place P = rw (p.1, p.2) (unless_memory (λ x. IfSome (text_fault_of x) P) e tt (at_place P))
+
+-- where no condition fails, want of memory alone is left
+pub valid-fails : (t u : Parts) (result : Result Task TaskError) (e : TaskError) → (y : TaskError) × (result ≡ Err y) ×
+    (y ≡ e) → t ≡ u → first_refusal u ≡ None → Names (first_refusal t) e → IsReadAs u result
+valid-fails t u result e p same none n =
+    rw (p.1, p.2) (unless_memory (λ x. x ≡ error.Memory) e refl
+    (λ other. absurd (none_error e (sym (ap (option_map error_of) (ap first_refusal same ∙ none)) ∙ n other))))
+
+-- the exit at the condition that fails
+pub refused-fails : (t u : Parts) (r : Refusal) (result : Result Task TaskError) (e : TaskError) → (y : TaskError) ×
+    (result ≡ Err y) × (y ≡ e) → t ≡ u → first_refusal u ≡ Some r → Names (first_refusal t) e → IsRefusedAs r result
+refused-fails t u r result e p same some n =
+    rw (p.1, p.2) (λ (other : e ≢ error.Memory). some_error (error_of r) e
+    (sym (ap (option_map error_of) (ap first_refusal same ∙ some)) ∙ n other))
+
+none_refusal : (r : Refusal) → (let o : Option Refusal = None in o) ≡ Some r → ⊥
+none_refusal r e = cc
+
+-- where all conditions were met, none fails
+pub not_refused : (t u : Parts) (r : Refusal) → t ≡ u → first_refusal u ≡ Some r → first_refusal t ≡ None → ⊥
+not_refused t u r same some none = none_refusal r (sym none ∙ ap first_refusal same ∙ some)
+
+-- a fault of the text is passed on as it is
+passed_on : (bytes : List ℕ) (e : TextError) → IsRefusal AreTasks (whole_text bytes) e → IfSome
+    (text_fault_of (from_text e)) (IsFirstFault AreTasks (whole_text bytes))
+passed_on bytes (text.BadByte place) x = x
+passed_on bytes (text.WideNumber place) x = x
+passed_on bytes (text.BadToken place) x = x
+passed_on bytes (text.Expected place) x = x
+passed_on bytes (text.Nested place) x = x
+passed_on bytes text.Memory x = tt
+
+first_fault : (bytes : List ℕ) (e : TextError) → IsRefusal AreTasks (whole_text bytes) e → from_text e ≢ error.Memory →
+    IsFirstFault AreTasks (whole_text bytes) e
+first_fault bytes (text.BadByte place) x other = x
+first_fault bytes (text.WideNumber place) x other = x
+first_fault bytes (text.BadToken place) x other = x
+first_fault bytes (text.Expected place) x other = x
+first_fault bytes (text.Nested place) x other = x
+first_fault bytes text.Memory x other = absurd (other refl)
+
+-- the exit at the text
+module _ {T : Type 0} (bytes : List ℕ) (result : Result T TaskError) (e : TextError)
+    (p : (y : TaskError) × (result ≡ Err y) × (y ≡ from_text e)) (x : IsRefusal AreTasks (whole_text bytes) e) where
+  pub text_fails-place : IfErr result (λ y. IfSome (text_fault_of y) (IsFirstFault AreTasks (whole_text bytes)))
+  text_fails-place = rw (p.1, p.2) (passed_on bytes e x)
+
+  pub text_fails-err : IfErr result (λ y. y ≢ error.Memory → IsRefusedWith bytes y)
+  text_fails-err = rw (p.1, p.2) (λ (other : from_text e ≢ error.Memory). inl (e, first_fault bytes e x other, refl))

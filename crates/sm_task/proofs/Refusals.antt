@@ -1,16 +1,16 @@
 -- The first refusal of conditions that are checked one after the other.
-use Rattle.std.proofs.Common.{◌≡◌, refl, true, false, Option, Some, None, Err}
+use Rattle.std.proofs.Common.{◌≡◌, ℕ, zero, suc, ◌≤◌, arith, refl, Option, Some, None, Err}
 use Rattle.std.specs.Option.{option_or}
 use Rattle.sm_syntax.specs.Conditions.{ListOf, Refusal}
 use Rattle.sm_syntax.specs.ConflictFree.{Copy, O, A, B, M}
 use Rattle.sm_syntax.specs.Copies.{number_of}
 use Rattle.sm_syntax.proofs.Uses.{option_or-None}
 use Rattle.sm_task.specs.declared.error.TaskError.{TaskError}
-use Rattle.sm_task.specs.Errors.{Reports, section_of}
+use Rattle.sm_task.specs.Errors.{Reports, section_number, section_of}
 
 -- an error is the first refusal, whatever stands behind it
 pub reports_or : (e : TaskError) (a b : Option Refusal) → Reports (Err e) a → Reports (Err e) (option_or a b)
-reports_or e None b here named = let some : false ≡ true = (here named).0 in cc
+reports_or e None b here named = let none = here named in cc
 reports_or e (Some r) b here named = here named
 
 -- what checks one after the other need
@@ -22,3 +22,12 @@ same_section O = refl
 same_section A = refl
 same_section B = refl
 same_section M = refl
+
+-- a number up to 4 is that of its section
+pub same_number : (n : ℕ) → n ≤ 4 → section_number (section_of n) ≡ n
+same_number zero h = refl
+same_number (suc zero) h = refl
+same_number (suc (suc zero)) h = refl
+same_number (suc (suc (suc zero))) h = refl
+same_number (suc (suc (suc (suc zero)))) h = refl
+same_number (suc (suc (suc (suc (suc n))))) h = absurd (omega (arith, h))

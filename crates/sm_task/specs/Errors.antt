@@ -1,18 +1,26 @@
--- Which refusal of a task an error names.
-use Rattle.std.specs.Prelude.{◌≡◌, ◌≢◌, ℕ, zero, suc, Option, Some, None, IsSome, Result, MatchResult, List}
+-- Which fault of its text, or which condition, an error of a task names. Public clauses cite it.
+use Rattle.std.specs.Prelude.{◌≡◌, ◌≢◌, ◌⊎◌, ℕ, zero, suc, Option, Some, None, option_map}
+use Rattle.std.specs.Prelude.{Result, MatchResult, List}
 use Rattle.sm_syntax.specs.declared.error.SyntaxError.{SyntaxError}
 use Rattle.sm_syntax.specs.declared.error.SyntaxError.TheVariants as fault
 use Rattle.sm_syntax.specs.ConflictFree.{O, A, B, M}
+use Rattle.sm_syntax.specs.Copies.{number_of}
 use Rattle.sm_syntax.specs.Conditions as refusal
 use Rattle.sm_syntax.specs.Conditions.{Section, Shared, ListOf, Refusal, first_refusal}
 use Rattle.sm_syntax.specs.Parts.{Parts}
 use Rattle.sm_syntax.specs.Spells.{IsInGrammar}
 use Rattle.sm_text.specs.declared.error.TextError.{TextError}
 use Rattle.sm_text.specs.declared.error.TextError.TheVariants as text
+use Rattle.sm_text.specs.Places.{AreTasks, IsFirstFault, whole_text}
 use Rattle.sm_task.specs.declared.error.TaskError.{TaskError}
 use Rattle.sm_task.specs.declared.error.TaskError.TheVariants as error
 use Rattle.sm_task.specs.declared.task.Task.{Task}
 use Rattle.sm_task.specs.Tasks.{parts_of}
+
+-- the number of a section: a list has its copy's, and 4 alone is the shared program
+abbrev pub section_number : Section → ℕ
+section_number Shared = 4
+section_number (ListOf c) = number_of c
 
 -- the section with a number
 abbrev pub section_of : ℕ → Section
@@ -40,7 +48,19 @@ refusal_of error.TooDeep = Some refusal.TooDeep
 refusal_of error.TooMany = Some refusal.TooMany
 refusal_of error.Memory = None
 
--- the error of a task for an error of its text
+-- the error for a condition that fails
+abbrev pub error_of : Refusal → TaskError
+error_of (refusal.DoubleHole section hole) = error.DoubleHole (section_number section) hole
+error_of (refusal.HoleInFilling section hole) = error.HoleInFilling (section_number section) hole
+error_of (refusal.UnknownHole section hole) = error.UnknownHole (section_number section) hole
+error_of (refusal.MissingFilling section hole) = error.MissingFilling (section_number section) hole
+error_of (refusal.DoubleName x) = error.DoubleName (record { 0 = x })
+error_of (refusal.UnknownName x) = error.UnknownName (record { 0 = x })
+error_of (refusal.WrongSort x) = error.WrongSort (record { 0 = x })
+error_of refusal.TooMany = error.TooMany
+error_of refusal.TooDeep = error.TooDeep
+
+-- the error for an error of the text
 abbrev pub from_text : TextError → TaskError
 from_text (text.BadByte place) = error.BadByte place
 from_text (text.WideNumber place) = error.WideNumber place
@@ -49,7 +69,7 @@ from_text (text.Expected place) = error.Expected place
 from_text (text.Nested place) = error.Nested place
 from_text text.Memory = error.Memory
 
--- the error that a program's fault makes
+-- the error for a fault of a program
 abbrev pub from_syntax : SyntaxError → TaskError
 from_syntax (fault.UnknownName x) = error.UnknownName x
 from_syntax (fault.WrongSort x) = error.WrongSort x
@@ -58,18 +78,26 @@ from_syntax fault.TooDeep = error.TooDeep
 from_syntax fault.TooMany = error.TooMany
 from_syntax fault.Memory = error.Memory
 
--- a check answers that there is no refusal, or which one it is; want of memory alone is free
+-- a check answers that there is no refusal, or by its error which one it is; want of memory is free
 abbrev pub Reports : Result (Unit {0}) TaskError → Option Refusal → Type 0
-Reports answer refusal = MatchResult answer (λ u. refusal ≡ None) (λ e. e ≢ error.Memory → IsSome refusal × (refusal ≡ refusal_of e))
+Reports answer refusal =
+    MatchResult answer (λ u. refusal ≡ None)
+    (λ e. e ≢ error.Memory → option_map error_of refusal ≡ Some e)
 
 -- the text is in the grammar, and of the conditions on tasks this is the first that fails
 abbrev pub IsRefusedBy : List ℕ → Refusal → Type 0
 IsRefusedBy bytes r = (t : Parts) × IsInGrammar bytes t × (first_refusal t ≡ Some r)
 
+-- the error names the first fault of the text, or the first condition that fails
+abbrev pub IsRefusedWith : List ℕ → TaskError → Type 0
+IsRefusedWith bytes e =
+    ((x : TextError) × IsFirstFault AreTasks (whole_text bytes) x × (e ≡ from_text x))
+    ⊎ ((r : Refusal) × IsRefusedBy bytes r × (e ≡ error_of r))
+
 -- the answer is the task of these parts, or want of memory
 abbrev pub IsReadAs : Parts → Result Task TaskError → Type 0
 IsReadAs t answer = MatchResult answer (λ p. parts_of p ≡ t) (λ e. e ≡ error.Memory)
 
--- the answer is this refusal, or want of memory
+-- the answer is the error for this refusal, or want of memory
 abbrev pub IsRefusedAs : Refusal → Result Task TaskError → Type 0
-IsRefusedAs r answer = MatchResult answer (λ p. ⊥) (λ e. e ≢ error.Memory → refusal_of e ≡ Some r)
+IsRefusedAs r answer = MatchResult answer (λ p. ⊥) (λ e. e ≢ error.Memory → e ≡ error_of r)

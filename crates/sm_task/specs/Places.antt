@@ -1,4 +1,4 @@
--- Which fault of its text an error of a task names.
+-- Which fault of its text an error of a task names. Public clauses cite it.
 use Rattle.std.specs.Prelude.{Option, Some, None}
 use Rattle.sm_text.specs.declared.error.TextError.{TextError}
 use Rattle.sm_text.specs.declared.error.TextError.TheVariants as text

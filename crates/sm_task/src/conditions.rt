@@ -1,6 +1,11 @@
 // The conditions on a task, in order.
-ghost use Rattle.std.specs.Prelude.{◌≡◌, [], length};
-ghost use Rattle.sm_syntax.specs.Conditions.{DoubleHole, HoleInFilling, UnknownHole, MissingFilling, ListOf, at_hole, holes_of, holes_inside, filled_holes, first_repeated, first_outside, double_hole, hole_in_filling, unknown_hole, missing_filling, program_fault, ill_formed, ill_assumed, first_refusal};
+ghost use Rattle.std.specs.Prelude.{◌≡◌, ◌≤◌, [], length};
+ghost use Rattle.sm_syntax.specs.Conditions.{DoubleHole, HoleInFilling, UnknownHole};
+ghost use Rattle.sm_syntax.specs.Conditions.{MissingFilling, ListOf, at_hole, holes_of};
+ghost use Rattle.sm_syntax.specs.Conditions.{holes_inside, filled_holes, first_repeated};
+ghost use Rattle.sm_syntax.specs.Conditions.{first_outside, double_hole, hole_in_filling};
+ghost use Rattle.sm_syntax.specs.Conditions.{unknown_hole, missing_filling, program_fault};
+ghost use Rattle.sm_syntax.specs.Conditions.{ill_formed, ill_assumed, first_refusal};
 ghost use Rattle.sm_syntax.specs.ConflictFree.{program_of};
 ghost use Rattle.sm_syntax.specs.Copies.{copy_named};
 ghost use Rattle.sm_syntax.specs.Parts.{task_of};
@@ -58,7 +63,9 @@ fn check_filled_once(alloc: Global, task: &Task, copy: CopyName) -> Result<(), T
     )
 }
 
+#[tactic(auto, using(crate::proofs::Refusals::same_number))]
 fn check_repeated(alloc: Global, list: u8, holes: &[u32]) -> Result<(), TaskError>
+    requires { list ≤ 4 }
     ensures { Reports result (at_hole DoubleHole (section_of list) (first_repeated [] holes.now)) }
 {
     match first_repeated(alloc, holes)? {
@@ -78,7 +85,6 @@ fn check_holes_in_fillings(alloc: Global, task: &Task) -> Result<(), TaskError>
     check_inside(alloc, task, CopyName::M)
 }
 
-#[tactic(auto, using(crate::proofs::Refusals::same_section))]
 fn check_inside(alloc: Global, task: &Task, copy: CopyName) -> Result<(), TaskError>
     ensures { let c = copy_named copy in
         let hole = first_outside [] (holes_inside (fillings_for task.now c)) in
@@ -105,7 +111,6 @@ fn check_unknown_holes(alloc: Global, task: &Task, holes: &[u32]) -> Result<(), 
     check_known(alloc, task, CopyName::M, holes)
 }
 
-#[tactic(auto, using(crate::proofs::Refusals::same_section))]
 fn check_known(alloc: Global, task: &Task, copy: CopyName, holes: &[u32]) -> Result<(), TaskError>
     ensures { let c = copy_named copy in
         let hole = first_outside holes.now (filled_holes (fillings_for task.now c)) in
@@ -132,7 +137,6 @@ fn check_missing_fillings(alloc: Global, task: &Task, holes: &[u32]) -> Result<(
     check_filled(alloc, task, CopyName::M, holes)
 }
 
-#[tactic(auto, using(crate::proofs::Refusals::same_section))]
 fn check_filled(alloc: Global, task: &Task, copy: CopyName, holes: &[u32]) -> Result<(), TaskError>
     ensures { let c = copy_named copy in
         let hole = first_outside (filled_holes (fillings_for task.now c)) holes.now in

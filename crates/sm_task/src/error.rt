@@ -7,8 +7,8 @@ use sm_text::TextError;
 use std::alloc::{AllocError, AllocFailed};
 use thiserror::Error;
 
-/// Why a text is no task. A place is a byte's offset in the text. A list is the number of a copy, from 0 for the base
-/// to 3 for the candidate, or 4 for the shared program.
+/// Why a text is no task. A place is a byte's offset in the text. A list is the number of a copy,
+/// from 0 for the base to 3 for the candidate, or 4 for the shared program.
 #[derive(Clone, Copy, Debug, PartialEq, Eq, Error)]
 pub enum TaskError {
     #[error("no token begins with the byte at {place}")]

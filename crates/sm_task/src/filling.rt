@@ -16,12 +16,13 @@ use sm_syntax::{
 };
 use std::alloc::{AllocError, Global};
 
-/// The program of a copy, by the copy's number from 0 for the base to 3 for the candidate: the shared program,
-/// where each hole is replaced by the statements that the copy has for it. A hole that the copy doesn't fill is left
-/// out.
+/// The program of a copy, by the copy's number from 0 for the base to 3 for the candidate: the
+/// shared program, where each hole is replaced by the statements that the copy has for it. A hole
+/// that the copy doesn't fill is left out.
 pub fn fill(alloc: Global, task: &Task, copy: u8) -> Result<Program, AllocError>
     requires { copy < 4 }
-    ensures body { IfOk result (λ p. code_of p.body ≡ program_of (task_of (parts_of task.now)) (copy_of copy)) }
+    ensures body { let code = program_of (task_of (parts_of task.now)) (copy_of copy) in
+        IfOk result (λ p. code_of p.body ≡ code) }
     ensures names { IfOk result (λ p. p.names ≡ task.now.shared.names) }
     ensures declared { IfOk result (λ p. declared_of p.decls ≡ declared_of task.now.shared.decls) }
     ensures outputs { IfOk result (λ p. outputs_of p.outputs ≡ outputs_of task.now.shared.outputs) }

@@ -1,12 +1,15 @@
-//! Tasks: what a text must meet to be one, and the program of each copy.
+//! Tasks: what a text must meet to be one, and the programs of the four copies.
 //!
-//! - `parse_task` reads exactly the texts that spell a task, all conditions met, each as the one task that it spells
-//!   (`one_task`). A text in the grammar that fails a condition gets the error of the first that fails, and any other
-//!   text that of its first fault.
+//! - `parse_task` reads exactly the texts that spell a task, all conditions met, each as the one
+//!   task that it spells (`one_task`). Any other text is refused, with one error (`one_refusal`):
+//!   that of the first condition that fails if the grammar has the text, or else of the text's first
+//!   fault.
 //! - `print_task` gives the canonical text of a task, which spells the same task.
-//! - `fill` gives the program of a copy: the shared program with each hole replaced in place.
+//! - `fill_all` gives the statements of each copy's program: those of the shared program with each
+//!   hole replaced in place. `fill` gives one whole program.
 //!
-//! Read `specs/Tasks.antt` for what a task stands for, and `Conditions.antt` and `Spells.antt` of `sm_syntax`.
+//! Read `specs/Tasks.antt` for what a task stands for, `specs/Errors.antt` for why a text is
+//! refused, and `Conditions.antt` and `Spells.antt` of `sm_syntax`.
 #![tactic(auto)]
 
 mod conditions;
@@ -20,7 +23,7 @@ mod task;
 
 pub use error::TaskError;
 pub use filling::{fill, fill_all};
-pub use laws::one_task;
+pub use laws::{fault_or_condition, one_condition, one_refusal, one_task, task_or_refusal};
 pub use parse::parse_task;
 pub use print::print_task;
 pub use task::Task;

@@ -1,9 +1,10 @@
 // A text, read as a task.
-ghost use Rattle.std.specs.Prelude.{◌≡◌, ◌<◌, ◌^◌, Some, length, IfOk, IfErr, IfSome};
+ghost use Rattle.std.specs.Prelude.{◌≡◌, ◌≢◌, ◌<◌, ◌^◌, Some, length, IfOk, IfErr, IfSome};
 ghost use Rattle.sm_syntax.specs.Conditions.{Refusal, first_refusal};
 ghost use Rattle.sm_syntax.specs.Parts.{Parts};
 ghost use Rattle.sm_syntax.specs.Spells.{IsInGrammar, Spells};
-ghost use Rattle.sm_task.specs.Errors.{refusal_of, IsRefusedBy, IsReadAs, IsRefusedAs};
+ghost use Rattle.sm_task.specs.Errors.{refusal_of, IsRefusedBy, IsRefusedWith};
+ghost use Rattle.sm_task.specs.Errors.{IsReadAs, IsRefusedAs};
 ghost use Rattle.sm_task.specs.Places.{text_fault_of};
 ghost use Rattle.sm_task.specs.Tasks.{parts_of};
 ghost use Rattle.sm_text.specs.Named.{HasText};
@@ -24,6 +25,8 @@ pub fn parse_task(alloc: Global, bytes: &[u8]) -> Result<Task, TaskError>
     ensures printable { IfOk result (λ t. HasText (parts_of t)) }
     // Each text that spells a task is read, and a text spells at most one.
     ensures only { (t : Parts) → Spells bytes.now t → IsReadAs t result }
+    // An error names the first fault of the text, or the first condition that fails.
+    ensures err { IfErr result (λ e. e ≢ TaskError.Memory → IsRefusedWith bytes.now e) }
     // A condition is named exactly where it is the first that fails.
     ensures condition { IfErr result (λ e. IfSome (refusal_of e) (IsRefusedBy bytes.now)) }
     ensures refused { (t : Parts) (r : Refusal) → IsInGrammar bytes.now t →

@@ -1,7 +1,7 @@
 // A task, as the program holds it.
 use sm_syntax::{Cond, Fillings, PerCopy, Program};
 
-/// A task: the shared program with holes, what is assumed of inputs, and each copy's list of fillings.
+/// A task: the shared program with holes, what is assumed of inputs, and each copy's fillings.
 #[derive(Debug, Drop)]
 pub struct Task {
     pub shared: Program,

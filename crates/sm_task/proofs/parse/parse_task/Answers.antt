@@ -2,45 +2,62 @@ use Rattle.std.proofs.Common.{sym, ◌∙◌, subst}
 use Rattle.std.proofs.lemmas.Result.{err_from_is_err_and}
 use Rattle.sm_syntax.specs.Parts.{Parts}
 use Rattle.sm_syntax.specs.Spells.{IsInGrammar}
-use Rattle.sm_task.proofs.Complete.{valid-fails, refused-fails, not_refused}
-use Rattle.sm_task.proofs.Parsing.{refused}
-use Rattle.sm_task.proofs.Places.{text_fails, condition_fails}
+use Rattle.sm_task.proofs.Parsing.{refused-err, refused-condition, refused-place, valid-fails, refused-fails, not_refused, text_fails-err, text_fails-place}
 use Rattle.sm_task.proofs.parse.parse_task.Goals as goal
-
-pub returns-in_err-check_conditions-clause-condition : goal.returns-in_err-check_conditions-clause-condition
-returns-in_err-check_conditions-clause-condition c =
-    refused _ _ _ c.from_residual-in_err-check_conditions.result _ (err_from_is_err_and c.from_residual-in_err-check_conditions.result c.from_residual-in_err-check_conditions.ensures.1)
-    c.in_ok-read_sections.ensures.ok c.from_sections-task.ensures c.in_err-check_conditions.ensures
 
 pub returns-clause-ok : goal.returns-clause-ok
 returns-clause-ok c =
     let G : Parts → Type 0 = λ t. IsInGrammar c.args.bytes.now t in
     record { text = subst G (sym c.from_sections-task.ensures) c.in_ok-read_sections.ensures.ok; valid = c.in_ok-check_conditions.ensures }
 
-pub returns-in_err-check_conditions-clause-only : goal.returns-in_err-check_conditions-clause-only
-returns-in_err-check_conditions-clause-only c t p =
-    valid-fails _ t c.from_residual-in_err-check_conditions.result _ (err_from_is_err_and c.from_residual-in_err-check_conditions.result c.from_residual-in_err-check_conditions.ensures.1)
-    (c.from_sections-task.ensures ∙ c.in_ok-read_sections.ensures.only t p.text) p.valid c.in_err-check_conditions.ensures
-
-pub returns-in_err-check_conditions-clause-refused : goal.returns-in_err-check_conditions-clause-refused
-returns-in_err-check_conditions-clause-refused c t r p some =
-    refused-fails _ t r c.from_residual-in_err-check_conditions.result _ (err_from_is_err_and c.from_residual-in_err-check_conditions.result c.from_residual-in_err-check_conditions.ensures.1)
-    (c.from_sections-task.ensures ∙ c.in_ok-read_sections.ensures.only t p) some c.in_err-check_conditions.ensures
+pub returns-clause-printable : goal.returns-clause-printable
+returns-clause-printable c = (c.args.bytes.now, returns-clause-ok c)
 
 pub returns-clause-only : goal.returns-clause-only
 returns-clause-only c t p = c.from_sections-task.ensures ∙ c.in_ok-read_sections.ensures.only t p.text
 
 pub returns-clause-refused : goal.returns-clause-refused
-returns-clause-refused c t r p some = absurd (not_refused _ t r (c.from_sections-task.ensures ∙ c.in_ok-read_sections.ensures.only t p) some c.in_ok-check_conditions.ensures)
+returns-clause-refused c t r p some = absurd
+    (not_refused _ t r (c.from_sections-task.ensures ∙ c.in_ok-read_sections.ensures.only t p) some c.in_ok-check_conditions.ensures)
+
+-- the exit at the text
+pub returns-in_err-read_sections-clause-err : goal.returns-in_err-read_sections-clause-err
+returns-in_err-read_sections-clause-err c =
+    text_fails-err c.args.bytes.now c.from_residual.result _
+    (err_from_is_err_and c.from_residual.result c.from_residual.ensures.1) c.in_err-read_sections.ensures.place
 
 pub returns-in_err-read_sections-clause-place : goal.returns-in_err-read_sections-clause-place
 returns-in_err-read_sections-clause-place c =
-    text_fails c.args.bytes.now c.from_residual.result _ (err_from_is_err_and c.from_residual.result c.from_residual.ensures.1) c.in_err-read_sections.ensures.place
+    text_fails-place c.args.bytes.now c.from_residual.result _
+    (err_from_is_err_and c.from_residual.result c.from_residual.ensures.1) c.in_err-read_sections.ensures.place
+
+-- the exit at a condition
+pub returns-in_err-check_conditions-clause-only : goal.returns-in_err-check_conditions-clause-only
+returns-in_err-check_conditions-clause-only c t p =
+    valid-fails _ t c.from_residual-in_err-check_conditions.result _
+    (err_from_is_err_and c.from_residual-in_err-check_conditions.result c.from_residual-in_err-check_conditions.ensures.1)
+    (c.from_sections-task.ensures ∙ c.in_ok-read_sections.ensures.only t p.text) p.valid c.in_err-check_conditions.ensures
+
+pub returns-in_err-check_conditions-clause-refused : goal.returns-in_err-check_conditions-clause-refused
+returns-in_err-check_conditions-clause-refused c t r p some =
+    refused-fails _ t r c.from_residual-in_err-check_conditions.result _
+    (err_from_is_err_and c.from_residual-in_err-check_conditions.result c.from_residual-in_err-check_conditions.ensures.1)
+    (c.from_sections-task.ensures ∙ c.in_ok-read_sections.ensures.only t p) some c.in_err-check_conditions.ensures
+
+pub returns-in_err-check_conditions-clause-err : goal.returns-in_err-check_conditions-clause-err
+returns-in_err-check_conditions-clause-err c =
+    refused-err c.args.bytes.now _ _ c.from_residual-in_err-check_conditions.result _
+    (err_from_is_err_and c.from_residual-in_err-check_conditions.result c.from_residual-in_err-check_conditions.ensures.1)
+    c.in_ok-read_sections.ensures.ok c.from_sections-task.ensures c.in_err-check_conditions.ensures
+
+pub returns-in_err-check_conditions-clause-condition : goal.returns-in_err-check_conditions-clause-condition
+returns-in_err-check_conditions-clause-condition c =
+    refused-condition c.args.bytes.now _ _ c.from_residual-in_err-check_conditions.result _
+    (err_from_is_err_and c.from_residual-in_err-check_conditions.result c.from_residual-in_err-check_conditions.ensures.1)
+    c.in_ok-read_sections.ensures.ok c.from_sections-task.ensures c.in_err-check_conditions.ensures
 
 pub returns-in_err-check_conditions-clause-place : goal.returns-in_err-check_conditions-clause-place
 returns-in_err-check_conditions-clause-place c =
-    condition_fails _ _ c.from_residual-in_err-check_conditions.result _ (err_from_is_err_and c.from_residual-in_err-check_conditions.result c.from_residual-in_err-check_conditions.ensures.1)
-    c.in_err-check_conditions.ensures
-
-pub returns-clause-printable : goal.returns-clause-printable
-returns-clause-printable c = (c.args.bytes.now, returns-clause-ok c)
+    refused-place c.args.bytes.now _ _ c.from_residual-in_err-check_conditions.result _
+    (err_from_is_err_and c.from_residual-in_err-check_conditions.result c.from_residual-in_err-check_conditions.ensures.1)
+    c.in_ok-read_sections.ensures.ok c.from_sections-task.ensures c.in_err-check_conditions.ensures _

@@ -1,0 +1,34 @@
+-- A text is refused with at most one error, and with none where it spells a task.
+use Rattle.std.proofs.Common.{◌≡◌, inl, inr, sym, ap, ◌∙◌, Option, Some, None}
+use Rattle.sm_syntax.specs.Conditions.{Refusal, first_refusal}
+use Rattle.sm_text.proofs.CompleteTasks as text
+use Rattle.sm_text.proofs.Faultless.{no_fault_in_grammar}
+use Rattle.sm_text.proofs.FirstFaultUnique.{one_first_fault}
+use Rattle.sm_text.specs.Places.{AreTasks, whole_text}
+use Rattle.sm_task.specs.Errors.{error_of, from_text}
+use Rattle.sm_task.specs.Laws.{OneCondition, FaultOrCondition, OneRefusal, TaskOrRefusal}
+
+same_refusal : (r s : Refusal) → Some r ≡ Some s → r ≡ s
+same_refusal r s e = cc
+
+none_some : (r : Refusal) → (let o : Option Refusal = None in o) ≡ Some r → ⊥
+none_some r e = cc
+
+pub one_condition : OneCondition
+one_condition bytes r s (t, g, e) (u, h, f) =
+    same_refusal r s (sym e ∙ ap first_refusal (text.one_task bytes t u g h) ∙ f)
+
+pub fault_or_condition : FaultOrCondition
+fault_or_condition bytes r x (t, g, e) fault = no_fault_in_grammar bytes t x g fault
+
+pub one_refusal : OneRefusal
+one_refusal bytes e f (inl (x, first, p)) (inl (y, other, q)) =
+    p ∙ ap from_text (one_first_fault AreTasks (whole_text bytes) x y first other) ∙ sym q
+one_refusal bytes e f (inl (x, first, p)) (inr (r, refused, q)) = absurd (fault_or_condition bytes r x refused first.stands)
+one_refusal bytes e f (inr (r, refused, p)) (inl (x, first, q)) = absurd (fault_or_condition bytes r x refused first.stands)
+one_refusal bytes e f (inr (r, refused, p)) (inr (s, other, q)) = p ∙ ap error_of (one_condition bytes r s refused other) ∙ sym q
+
+pub task_or_refusal : TaskOrRefusal
+task_or_refusal bytes t e spells (inl (x, first, p)) = no_fault_in_grammar bytes t x spells.text first.stands
+task_or_refusal bytes t e spells (inr (r, (u, g, f), p)) =
+    none_some r (sym spells.valid ∙ ap first_refusal (text.one_task bytes t u spells.text g) ∙ f)
