@@ -17,7 +17,8 @@ use Rattle.sm_replay.specs.declared.error.ReplayError.TheVariants as stop
 use Rattle.sm_replay.specs.declared.verdict.Verdict.{Verdict}
 use Rattle.sm_replay.specs.declared.verdict.Verdict.TheVariants as verdict
 use Rattle.sm_replay.specs.Judging.{Tells}
-use Rattle.sm_replay.specs.Trials.{trial, shown_of, Shows, SomeTrialMeets}
+use Rattle.sm_replay.specs.Trials.{trial, SomeTrialMeets}
+use Rattle.sm_replay.specs.TrialJobs.{shown_of, Shows}
 use Rattle.sm_replay.specs.Verdicts.{Holds, Breaks, IsUnmet, Stops, Judges, IsViolation, cell_of}
 use Rattle.sm_replay.specs.Violations.{IsMet, AreEnds, KeepsAt, Violates}
 

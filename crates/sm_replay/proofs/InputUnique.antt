@@ -16,8 +16,8 @@ use Rattle.sm_replay.specs.declared.error.InputError.TheVariants.{BadJson, NotOb
 use Rattle.sm_replay.specs.Inputs.{Texts, declared_name, input_fault, store_of, IsJson, IsInput, IsRefused, Reads}
 use Rattle.sm_replay.specs.Laws.{ReadingIsOne, WrittenTextIsOne}
 use Rattle.sm_replay.specs.Written.{StandsBefore, AreOrdered, IsWrittenAs, IsMemberOf}
-use Rattle.sm_replay.proofs.WrittenBack.{same_text, before_all}
-use Rattle.sm_replay.proofs.Writing.{stands_below}
+use Rattle.sm_replay.proofs.InputTextRoundTrip.{same_text, before_all}
+use Rattle.sm_replay.proofs.InputTextSound.{stands_below}
 
 -- ---- ordered members are known by what each key has
 

@@ -13,7 +13,7 @@ use Rattle.sm_text.proofs.Content.{content_declared, content_of_task, task_conte
 use Rattle.sm_text.proofs.ReadsBack.{AllIn, text_content}
 use Rattle.sm_replay.specs.Laws.{SpelledNamesAreFound}
 use Rattle.sm_replay.specs.Written.{AreNamed}
-use Rattle.sm_replay.proofs.Membering.{place_of}
+use Rattle.sm_replay.proofs.MembersLemmas.{place_of}
 
 -- a name has a text, by which it is found
 abbrev IsFound : List (List ℕ) → ℕ → Type 0

@@ -12,7 +12,7 @@ use Rattle.sm_syntax.specs.Sorts.{Sorts, IsWellSorted}
 use Rattle.sm_syntax.specs.Spells.{Spells}
 use Rattle.sm_syntax.specs.Syntax.{Condition, Code}
 use Rattle.sm_task.specs.Tasks.{AreFilled}
-use Rattle.sm_replay.specs.Ends.{code_in, AreSorted}
+use Rattle.sm_replay.specs.Runs.{code_in, AreSorted}
 use Rattle.sm_eval.proofs.Faultless.{code_sorted, condition_sorted}
 use Rattle.sm_replay.specs.Judging.{IsWellSortedAssumption}
 use Rattle.sm_replay.specs.Sorted.{names_assumed, sort_fault}

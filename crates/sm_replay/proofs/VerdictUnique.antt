@@ -18,7 +18,7 @@ use Rattle.sm_replay.specs.declared.error.ReplayError.{ReplayError}
 use Rattle.sm_replay.specs.declared.error.ReplayError.TheVariants as stop
 use Rattle.sm_replay.specs.declared.verdict.Verdict.{Verdict}
 use Rattle.sm_replay.specs.declared.verdict.Verdict.TheVariants as verdict
-use Rattle.sm_replay.specs.Ends.{stop_of}
+use Rattle.sm_replay.specs.Runs.{stop_of}
 use Rattle.sm_replay.specs.Laws.{VerdictIsOne, LeastTrialIsOne, FirstViolationIsOne}
 use Rattle.sm_replay.specs.Trials.{trial, Names}
 use Rattle.sm_replay.specs.Verdicts.{cell_of, IsBelow, FailsAt, IsFirstBreak, Holds, Breaks, IsUnmet, Stops}

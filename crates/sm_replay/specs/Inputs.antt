@@ -17,7 +17,7 @@ use Rattle.sm_eval.specs.declared.store.Store as code
 use Rattle.sm_eval.specs.Slots.{meaning, sorts_of}
 use Rattle.sm_replay.specs.declared.error.InputError.{InputError}
 use Rattle.sm_replay.specs.declared.error.InputError.TheVariants.{BadJson, NotObject, UnknownKey, BadValue, BadIndex, Memory}
-use Rattle.sm_replay.specs.Numbers.{number_of_text, number_of}
+use Rattle.sm_replay.specs.Number.{number_of_text, number_of}
 
 -- the texts of names by their numbers
 abbrev pub Texts : Type 0

@@ -1,12 +1,11 @@
 -- The trials: the inputs that are tried on every task. Trial 0 is zero. Public clauses cite it.
-use Rattle.std.specs.Prelude.{◌≡◌, ◌<◌, ℕ, zero, suc, ◌+◌, ◌*◌, ◌/◌, ◌%◌, ℤ, pos, negsuc, ◌-ℤ◌, nat_lt, if◌then◌else◌, Option, Some, None, unwrap_or, MatchOption, Result, Ok, Err, List, length, slice_index_or}
+use Rattle.std.specs.Prelude.{◌<◌, ℕ, zero, suc, ◌+◌, ◌*◌, ◌/◌, ◌%◌, ℤ, pos, negsuc, ◌-ℤ◌, nat_lt, if◌then◌else◌, Option, Some, None, unwrap_or, MatchOption}
 use Rattle.sm_syntax.specs.declared.tree.Sort.{Sort}
 use Rattle.sm_syntax.specs.declared.tree.Sort.TheVariants.{Num, Arr}
 use Rattle.sm_syntax.specs.ConflictFree.{Task}
 use Rattle.sm_syntax.specs.Sorts.{Sorts}
 use Rattle.sm_syntax.specs.Stores.{Value, Number, Array, zero_value, Store}
 use Rattle.sm_eval.specs.Zeros.{zeros}
-use Rattle.sm_replay.specs.declared.error.ReplayError.{ReplayError}
 use Rattle.sm_replay.specs.declared.verdict.Verdict.{Verdict}
 use Rattle.sm_replay.specs.declared.verdict.Verdict.TheVariants as verdict
 use Rattle.sm_replay.specs.Violations.{IsMet, Violates}
@@ -58,24 +57,6 @@ abbrev pub IsFirstViolation : Task → Sorts → ℕ → Option (ℕ × Verdict)
 IsFirstViolation t sorts n found =
     MatchOption found ((j : ℕ) → j < trials → ¬ Violates t (trial sorts j) n)
     (λ (f : ℕ × Verdict). IsLeast t sorts n f.0 f.1)
-
--- the verdict of an answer, where it says that the store violates
-abbrev pub shown_of : Result Verdict ReplayError → Option Verdict
-shown_of (Ok verdict.Holds) = None
-shown_of (Ok verdict.Unmet) = None
-shown_of (Ok (verdict.Violates x i part)) = Some (verdict.Violates x i part)
-shown_of (Err e) = None
-
--- what the answer to a trial says: none where it doesn't violate, else where it does
-abbrev pub Shows : Task → Store → ℕ → Option Verdict → Type 0
-Shows t s n None = ¬ Violates t s n
-Shows t s n (Some v) = Violates t s n × Names t s n v
-
--- the first answer of a list that is there
-pub record IsFirstThere (results : List (Option Verdict)) (k : ℕ) (v : Verdict) : Type 0 where
-  pub inside : k < length results
-  pub there : slice_index_or results k None ≡ Some v
-  pub none_before : (i : ℕ) → i < k → slice_index_or results i None ≡ None
 
 -- some trial meets the assumption
 abbrev pub SomeTrialMeets : Task → Sorts → Type 0

@@ -12,7 +12,7 @@ use Rattle.sm_syntax.specs.declared.tree.Sort.{Sort}
 use Rattle.sm_syntax.specs.Sorts.{Sorts}
 use Rattle.sm_syntax.specs.Stores.{Value, Number, Array, Store}
 use Rattle.sm_replay.specs.Inputs.{Texts, declared_name}
-use Rattle.sm_replay.specs.Numbers.{number_of_text}
+use Rattle.sm_replay.specs.Number.{number_of_text}
 
 -- a key stands before each key of members
 abbrev pub StandsBefore : List ℕ → Members → Type 0

@@ -5,7 +5,7 @@ ghost use Rattle.sm_eval.specs.Slots.{sorts_of};
 ghost use Rattle.sm_syntax.specs.Copies.{copy_named};
 ghost use Rattle.sm_syntax.specs.Keeps.{Cell, Scalar, Element, content, variable};
 ghost use Rattle.sm_syntax.specs.Stores as plain;
-ghost use Rattle.sm_replay.specs.Ends.{end_in, HaveSort, HaveSorts};
+ghost use Rattle.sm_replay.specs.Runs.{end_in, HaveSort, HaveSorts};
 ghost use Rattle.sm_replay.specs.FirstBreak.{sorted_by, NamesBreak, Finds, IsUpTo};
 ghost use Rattle.sm_replay.specs.Verdicts.{FailsAt};
 ghost use Rattle.sm_replay.specs.Violations.{KeepsAt};

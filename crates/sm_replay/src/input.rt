@@ -7,9 +7,9 @@ ghost use Rattle.sm_eval.specs.Slots.{meaning, sorts_of};
 ghost use Rattle.sm_syntax.specs.Parts.{sort_of};
 ghost use Rattle.sm_syntax.specs.Programs.{declared_of};
 ghost use Rattle.sm_eval.specs.Zeros.{zero_of, zeros};
-ghost use Rattle.sm_replay.specs.Filling.{Gives, Lists, Overrides};
+ghost use Rattle.sm_replay.specs.Updates.{Gives, Lists, Overrides};
 ghost use Rattle.sm_replay.specs.Inputs.{declared_name, missing, cells_fault, value_fault, members_fault, input_fault, number_or_zero, elements, cell_given, given, member_of, store_of, IsJson, Reads, reported};
-ghost use Rattle.sm_replay.specs.Numbers.{number_of_text, number_of};
+ghost use Rattle.sm_replay.specs.Number.{number_of_text, number_of};
 
 use crate::error::InputError;
 use crate::number::{number_of, number_of_text};
@@ -37,7 +37,7 @@ pub fn read_input(
 }
 
 // Reads an input that is a value of JSON.
-#[tactic(auto, using(crate::proofs::Reading::reported_err))]
+#[tactic(auto, using(crate::proofs::InputFirstFault::reported_err))]
 fn read_value(
     alloc: Global,
     decls: &Decls,

@@ -5,15 +5,15 @@ ghost use Rattle.sm_syntax.specs.Parts.{sort_of, task_of};
 ghost use Rattle.sm_syntax.specs.Programs.{declared_of};
 ghost use Rattle.sm_syntax.specs.Views.{condition_of};
 ghost use Rattle.sm_task.specs.Tasks.{parts_of, AreFilled};
-ghost use Rattle.sm_replay.specs.Ends.{AreSorted};
+ghost use Rattle.sm_replay.specs.Runs.{AreSorted};
 ghost use Rattle.sm_replay.specs.Judging.{IsWellSortedAssumption, Tells};
 ghost use Rattle.sm_replay.specs.Sorted.{sort_fault};
 ghost use Rattle.sm_replay.specs.Verdicts.{Judges, IsViolation};
 ghost use Rattle.sm_replay.specs.Violations.{IsMet, Violates};
 
-use crate::ends::ends_of;
 use crate::error::ReplayError;
 use crate::first_break::verdict_on;
+use crate::runs::ends_of;
 use crate::verdict::Verdict;
 use sm_eval::{EvalError, Store, truth};
 use sm_syntax::{Block, Cond, PerCopy};

@@ -20,26 +20,26 @@
 //! inputs are tried.
 #![tactic(auto)]
 
-mod ends;
 mod error;
-mod first;
 mod first_break;
 mod input;
+mod input_text;
 mod judging;
 mod laws;
 mod number;
+mod runs;
+mod trial_jobs;
 mod trials;
 mod verdict;
-mod written;
 
 pub use error::{InputError, ReplayError};
-pub use first::{first_violation, some_trial_meets};
 pub use input::read_input;
+pub use input_text::write_input;
 pub use judging::judge;
 pub use laws::{
     first_violation_is_one, least_trial_is_one, reading_is_one, spelled_names_are_found,
     valid_tasks_run, verdict_is_one, violations_conflict, written_text_is_one,
 };
+pub use trial_jobs::{first_violation, some_trial_meets};
 pub use trials::trial;
 pub use verdict::Verdict;
-pub use written::write_input;

@@ -3,7 +3,7 @@ ghost use Rattle.std.specs.Prelude.{◌≡◌};
 ghost use Rattle.std.specs.Fmt.{signed_decimal};
 ghost use Rattle.std.specs.Str.{bytes_eq};
 ghost use Rattle.serde_json.specs.View.{view};
-ghost use Rattle.sm_replay.specs.Numbers.{number_of_text, number_of};
+ghost use Rattle.sm_replay.specs.Number.{number_of_text, number_of};
 
 use itoa::Buffer;
 use serde_json::Value;

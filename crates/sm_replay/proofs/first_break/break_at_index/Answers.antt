@@ -4,9 +4,9 @@ use Rattle.std.proofs.lemmas.Int.{to_z-of_z}
 use Rattle.std.specs.Int.{w128}
 use Rattle.std.specs.Prelude.{◌≤ℤ◌}
 use Rattle.sm_syntax.specs.Keeps.{Element}
-use Rattle.sm_replay.specs.Ends.{end_in}
+use Rattle.sm_replay.specs.Runs.{end_in}
 use Rattle.sm_replay.specs.Violations.{KeepsAt}
-use Rattle.sm_replay.proofs.Breaking.{breaks_element}
+use Rattle.sm_replay.proofs.FirstBreakSound.{breaks_element}
 use Rattle.sm_replay.proofs.first_break.break_at_index.Goals as goal
 
 pub returns-in-Some : goal.returns-in-Some

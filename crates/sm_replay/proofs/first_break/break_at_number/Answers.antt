@@ -1,5 +1,5 @@
-use Rattle.sm_replay.specs.Ends.{end_in}
-use Rattle.sm_replay.proofs.Breaking.{breaks_number}
+use Rattle.sm_replay.specs.Runs.{end_in}
+use Rattle.sm_replay.proofs.FirstBreakSound.{breaks_number}
 use Rattle.sm_replay.proofs.first_break.break_at_number.Goals as goal
 
 pub returns-in-Some-clause-some : goal.returns-in-Some-clause-some

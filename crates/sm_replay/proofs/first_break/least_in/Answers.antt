@@ -1,8 +1,8 @@
 -- Cell by cell.
 use Rattle.std.proofs.Common.{ℤ}
-use Rattle.sm_replay.specs.Ends.{end_in}
+use Rattle.sm_replay.specs.Runs.{end_in}
 use Rattle.sm_replay.specs.FirstBreak.{IsUpTo}
-use Rattle.sm_replay.proofs.Least.{seen_more}
+use Rattle.sm_replay.proofs.FirstBreakLeast.{seen_more}
 use Rattle.sm_replay.proofs.first_break.least_in.Goals as goal
 
 pub loop-p-preserved : goal.loop-p-preserved

@@ -3,7 +3,7 @@ use Rattle.std.proofs.Common.{◌⊎◌, ◌<◌, ℕ, ℤ}
 use Rattle.std.specs.Option.{IfSome}
 use Rattle.sm_syntax.specs.Keeps.{Element}
 use Rattle.sm_eval.specs.Cells.{index_at}
-use Rattle.sm_replay.specs.Ends.{end_in}
+use Rattle.sm_replay.specs.Runs.{end_in}
 use Rattle.sm_replay.specs.FirstBreak.{IsUpTo}
 use Rattle.sm_replay.specs.Violations.{KeepsAt}
 use Rattle.sm_replay.proofs.first_break.least_in.Given as goal

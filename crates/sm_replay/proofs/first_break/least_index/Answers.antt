@@ -1,6 +1,6 @@
 -- The four arrays, one after the other.
-use Rattle.sm_replay.specs.Ends.{end_in}
-use Rattle.sm_replay.proofs.Least.{least_of_four}
+use Rattle.sm_replay.specs.Runs.{end_in}
+use Rattle.sm_replay.proofs.FirstBreakLeast.{least_of_four}
 use Rattle.sm_replay.proofs.first_break.least_index.Goals as goal
 
 pub returns-clause-least : goal.returns-clause-least

@@ -1,7 +1,7 @@
 -- An index has 0, or a cell.
 use Rattle.sm_syntax.specs.Copies.{copy_named}
-use Rattle.sm_replay.specs.Ends.{end_in}
-use Rattle.sm_replay.proofs.Least.{known_by}
+use Rattle.sm_replay.specs.Runs.{end_in}
+use Rattle.sm_replay.proofs.FirstBreakLeast.{known_by}
 use Rattle.sm_replay.proofs.first_break.least_of.Goals as goal
 
 pub returns-clause-new : goal.returns-clause-new

@@ -6,10 +6,10 @@ use Rattle.sm_syntax.specs.declared.tree.Sort.{Sort}
 use Rattle.sm_syntax.specs.declared.tree.Sort.TheVariants.{Num}
 use Rattle.sm_syntax.specs.Keeps.{Cell, variable}
 use Rattle.sm_eval.specs.Slots.{sorts_of}
-use Rattle.sm_replay.specs.Ends.{end_in}
+use Rattle.sm_replay.specs.Runs.{end_in}
 use Rattle.sm_replay.specs.FirstBreak.{sorted_by, NamesBreak}
-use Rattle.sm_replay.proofs.Breaking.{found_at}
-use Rattle.sm_replay.proofs.Outputs.{output_at, kept_more, outputs_kept}
+use Rattle.sm_replay.proofs.FirstBreakSound.{found_at}
+use Rattle.sm_replay.proofs.FirstBreakOutputs.{output_at, kept_more, outputs_kept}
 use Rattle.sm_replay.proofs.first_break.verdict_on.Goals as goal
 
 pub loop-x-preserved : goal.loop-x-preserved

@@ -2,9 +2,9 @@
 use Rattle.std.proofs.Common.{map}
 use Rattle.sm_syntax.specs.declared.tree.Name.{Name}
 use Rattle.sm_eval.specs.Slots.{sorts_of}
-use Rattle.sm_replay.specs.Ends.{end_in}
+use Rattle.sm_replay.specs.Runs.{end_in}
 use Rattle.sm_replay.specs.FirstBreak.{sorted_by}
-use Rattle.sm_replay.proofs.Outputs.{KeptBelow}
+use Rattle.sm_replay.proofs.FirstBreakOutputs.{KeptBelow}
 use Rattle.sm_replay.proofs.first_break.verdict_on.Given as goal
 
 abbrev pub invariant-loop-x : goal.invariant-loop-x

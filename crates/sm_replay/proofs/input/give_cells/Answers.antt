@@ -4,10 +4,10 @@ use Rattle.std.specs.Int.{w128}
 use Rattle.serde_json.specs.Data.{object}
 use Rattle.serde_json.specs.View.{members_view}
 use Rattle.sm_eval.specs.Slots.{meaning, with_cell}
-use Rattle.sm_replay.specs.Filling.{Lists}
+use Rattle.sm_replay.specs.Updates.{Lists}
 use Rattle.sm_replay.specs.Inputs.{elements}
-use Rattle.sm_replay.proofs.Filled.{cell_turn, none_overridden, all_overridden}
-use Rattle.sm_replay.proofs.Membering.{lists_shuffled}
+use Rattle.sm_replay.proofs.UpdatesSound.{cell_turn, none_overridden, all_overridden}
+use Rattle.sm_replay.proofs.MembersLemmas.{lists_shuffled}
 use Rattle.sm_replay.proofs.input.give_cells.Goals as goal
 
 pub loop-i-init : goal.loop-i-init

@@ -4,7 +4,7 @@ use Rattle.serde_json.specs.Data.{object}
 use Rattle.serde_json.specs.View.{members_view}
 use Rattle.sm_eval.specs.Slots.{meaning, sorts_of}
 use Rattle.sm_replay.specs.Inputs.{elements}
-use Rattle.sm_replay.proofs.Filled.{Overriding}
+use Rattle.sm_replay.proofs.UpdatesSound.{Overriding}
 use Rattle.sm_replay.proofs.input.give_cells.Given as goal
 
 abbrev pub invariant-loop-i : goal.invariant-loop-i

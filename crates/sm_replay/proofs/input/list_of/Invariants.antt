@@ -2,7 +2,7 @@
 use Rattle.std.specs.List.Sorted.{IsStrictlySortedBy}
 use Rattle.std.specs.Map.{keys_of}
 use Rattle.std.specs.String.{string_cmp}
-use Rattle.sm_replay.proofs.Membering.{ListsBefore}
+use Rattle.sm_replay.proofs.MembersLemmas.{ListsBefore}
 use Rattle.sm_replay.proofs.input.list_of.Given as goal
 
 abbrev pub invariant-loop-key : goal.invariant-loop-key

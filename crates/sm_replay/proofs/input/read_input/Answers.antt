@@ -2,7 +2,7 @@
 use Rattle.serde_json.specs.View.{view}
 use Rattle.sm_syntax.specs.Parts.{sort_of}
 use Rattle.sm_syntax.specs.Programs.{declared_of}
-use Rattle.sm_replay.proofs.Reading.{reads_value}
+use Rattle.sm_replay.proofs.InputFirstFault.{reads_value}
 use Rattle.sm_replay.proofs.input.read_input.Goals as goal
 
 pub returns : goal.returns

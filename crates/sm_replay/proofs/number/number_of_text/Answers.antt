@@ -1,5 +1,5 @@
 use Rattle.std.proofs.Common.{true, false, sym}
-use Rattle.sm_replay.proofs.Spelled.{spelled_err, spelled_then}
+use Rattle.sm_replay.proofs.NumberUnique.{spelled_err, spelled_then}
 use Rattle.sm_replay.proofs.number.number_of_text.Goals as goal
 
 pub returns-in_default : goal.returns-in_default

@@ -1,7 +1,7 @@
 -- The elements so far.
 use Rattle.std.proofs.Common.{◌≡◌}
 use Rattle.sm_eval.specs.Slots.{meaning, sorts_of}
-use Rattle.sm_replay.specs.Filling.{Overrides}
+use Rattle.sm_replay.specs.Updates.{Overrides}
 use Rattle.sm_replay.specs.Trials.{elements_below}
 use Rattle.sm_replay.proofs.trials.give_elements.Given as goal
 

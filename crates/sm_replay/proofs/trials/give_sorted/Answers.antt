@@ -5,9 +5,9 @@ use Rattle.sm_syntax.specs.declared.tree.Sort.{Sort}
 use Rattle.sm_syntax.specs.Sorts.{Sorts}
 use Rattle.sm_eval.specs.Slots.{meaning}
 use Rattle.sm_eval.specs.Zeros.{zero_of}
-use Rattle.sm_replay.specs.Filling.{Gives, Overrides}
+use Rattle.sm_replay.specs.Updates.{Gives, Overrides}
 use Rattle.sm_replay.specs.Trials.{elements_below, value_in_trial}
-use Rattle.sm_replay.proofs.Filled.{array_of, overrides_give}
+use Rattle.sm_replay.proofs.UpdatesSound.{array_of, overrides_give}
 use Rattle.sm_replay.proofs.trials.give_sorted.Goals as goal
 
 pub returns-in-Arr-clause-value : goal.returns-in-Arr-clause-value

@@ -9,7 +9,7 @@ use Rattle.sm_syntax.specs.Stores.{Store}
 use Rattle.sm_eval.specs.Slots.{meaning}
 use Rattle.sm_eval.specs.Zeros.{zero_of}
 use Rattle.sm_replay.specs.Trials.{trial, value_in_trial}
-use Rattle.sm_replay.proofs.Filled.{Filling, numbered, end_filled}
+use Rattle.sm_replay.proofs.UpdatesSound.{Filling, numbered, end_filled}
 use Rattle.sm_replay.proofs.trials.later_trial.Goals as goal
 
 later_filled : (sorts : Sorts) (j : ℕ) (items : List (Name × Sort)) (i : ℕ) (s : Store) → 0 < j → length items ≤ i

@@ -5,7 +5,7 @@ use Rattle.sm_syntax.specs.Programs.{declared_of}
 use Rattle.sm_eval.specs.Slots.{meaning, sorts_of}
 use Rattle.sm_eval.specs.Zeros.{zero_of}
 use Rattle.sm_replay.specs.Trials.{value_in_trial}
-use Rattle.sm_replay.proofs.Filled.{Filling, numbered}
+use Rattle.sm_replay.proofs.UpdatesSound.{Filling, numbered}
 use Rattle.sm_replay.proofs.trials.later_trial.Given as goal
 
 abbrev pub invariant-loop-d : goal.invariant-loop-d

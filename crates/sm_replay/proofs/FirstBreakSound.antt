@@ -1,0 +1,83 @@
+-- What is found at one output.
+use Rattle.std.proofs.Common.{◌≡◌, ◌⊎◌, ℕ, ℤ, pos, Some, None, refl, sym, ap, subst, ◌∙◌, ⊎_elim, arith}
+use Rattle.std.specs.Prelude.{◌<ℤ◌, ◌≤ℤ◌}
+use Rattle.std.proofs.lemmas.Int.{ints}
+use Rattle.sm_syntax.specs.declared.tree.Sort.{Sort}
+use Rattle.sm_syntax.specs.declared.tree.Sort.TheVariants.{Num, Arr}
+use Rattle.sm_syntax.specs.ConflictFree.{Copy, O, A, B, M}
+use Rattle.sm_syntax.specs.Keeps.{Cell, Scalar, Element, content, variable}
+use Rattle.sm_syntax.specs.Stores.{number, zero_value, Store}
+use Rattle.sm_eval.specs.declared.slot.Slot.{Slot}
+use Rattle.sm_eval.specs.declared.slot.Slot.TheVariants as slot
+use Rattle.sm_eval.specs.declared.store.Store as code
+use Rattle.sm_eval.specs.Slots.{held, sort, slot_of, meaning, sorts_of}
+use Rattle.sm_syntax.specs.declared.copies.PerCopy.{PerCopy}
+use Rattle.sm_syntax.specs.Copies.{of_copy}
+use Rattle.sm_replay.specs.declared.verdict.Verdict.{Verdict}
+use Rattle.sm_replay.specs.declared.verdict.Verdict.TheVariants as verdict
+use Rattle.sm_replay.specs.Runs.{end_in, HaveSort}
+use Rattle.sm_replay.specs.FirstBreak.{IsBreakOf, NamesBreak, Finds}
+use Rattle.sm_replay.specs.Verdicts.{cell_of, IsBelow, FailsAt}
+use Rattle.sm_replay.specs.Violations.{KeepsAt}
+use Rattle.sm_replay.proofs.FirstBreakLeast.{all_zero}
+use Rattle.sm_replay.proofs.FirstBreakOutputs.{KeptBelow, first_at}
+use Rattle.std.specs.List.{slice_get}
+use Rattle.std.proofs.Common.{List}
+
+-- a name that isn't declared has 0
+held_absent : (s : Slot) → sort s ≡ None → held s ≡ zero_value
+held_absent slot.Absent is = refl
+held_absent (slot.Number z) is = cc
+held_absent (slot.Array cells) is = cc
+
+absent : (s : code.Store) (x : ℕ) → sorts_of s x ≡ None → meaning s x ≡ zero_value
+unfolding meaning sorts_of
+absent s x is = held_absent (slot_of s.slots.items x) is
+
+-- so Keeps holds there
+pub undeclared_kept : (e : PerCopy code.Store) (x : ℕ) → HaveSort e x None → (c : Cell) → variable c ≡ (x, Num) → KeepsAt (end_in e) c
+undeclared_kept e x none (Scalar y) own =
+    let same : y ≡ x = ap (λ (v : ℕ × Sort). v.0) own in
+    let nought : (c : Copy) → content (end_in e c) (Scalar y) ≡ pos 0 =
+    λ (c : Copy). ap (λ (z : ℕ). number (meaning (of_copy e c) z)) same ∙ ap number (absent (of_copy e c) x (none c)) in
+    all_zero _ _ _ _ (nought O) (nought A) (nought B) (nought M)
+undeclared_kept e x none (Element a i) own = let differ : Arr ≡ Num = ap (λ (v : ℕ × Sort). v.1) own in cc
+
+-- the only cell of a number variable
+pub number_kept : (end : Copy → Store) (x : ℕ) → KeepsAt end (Scalar x) → (c : Cell) → variable c ≡ (x, Num) → KeepsAt end c
+number_kept end x k (Scalar y) own = subst (λ (z : ℕ). KeepsAt end (Scalar z)) (sym (ap (λ (v : ℕ × Sort). v.0) own)) k
+number_kept end x k (Element a i) own = let differ : Arr ≡ Num = ap (λ (v : ℕ × Sort). v.1) own in cc
+
+-- each element of an array
+pub elements_kept : (end : Copy → Store) (a : ℕ) → ((i : ℤ) → KeepsAt end (Element a i) ⊎ ⊥) → (c : Cell) → variable c ≡ (a, Arr) → KeepsAt end c
+elements_kept end a k (Scalar y) own = let differ : Num ≡ Arr = ap (λ (v : ℕ × Sort). v.1) own in cc
+elements_kept end a k (Element b i) own =
+    subst (λ (z : ℕ). KeepsAt end (Element z i)) (sym (ap (λ (v : ℕ × Sort). v.0) own))
+    (⊎_elim (λ (h : KeepsAt end (Element a i)). h) (λ (none : ⊥). absurd none) (k i))
+
+-- no cell is below a number variable
+none_below : (end : Copy → Store) (x : ℕ) (c : Cell) → IsBelow c (Scalar x) → KeepsAt end c
+none_below end x (Scalar y) below = absurd below
+none_below end x (Element a i) below = absurd below
+
+-- a number variable at which it fails
+pub breaks_number : (end : Copy → Store) (x part : ℕ) → FailsAt end (Scalar x) part → IsBreakOf (x, Num) end (Scalar x) part
+breaks_number end x part broken = record { own = refl; indices_before = none_below end x; broken = broken }
+
+-- the least index at which it fails
+kept_below : (end : Copy → Store) (a : ℕ) (i : ℤ) → ((j : ℤ) → KeepsAt end (Element a j) ⊎ (i ≤ℤ j)) → (c : Cell) → IsBelow c (Element a i) → KeepsAt end c
+kept_below end a i least (Scalar y) below = absurd below
+kept_below end a i least (Element b j) below =
+    subst (λ (z : ℕ). KeepsAt end (Element z j)) (sym below.0)
+    (⊎_elim (λ (h : KeepsAt end (Element a j)). h) (λ (up : i ≤ℤ j). let lt : j <ℤ i = below.1 in absurd (omega (arith, ints))) (least j))
+
+pub breaks_element : (end : Copy → Store) (a part : ℕ) (i : ℤ) → ((j : ℤ) → KeepsAt end (Element a j) ⊎ (i ≤ℤ j))
+    → FailsAt end (Element a i) part
+    → IsBreakOf (a, Arr) end (Element a i) part
+breaks_element end a part i least broken = record { own = refl; indices_before = kept_below end a i least; broken = broken }
+
+-- the first output at which it fails
+pub found_at : (outputs : List (ℕ × Sort)) (end : Copy → Store) (n : ℕ) (o : ℕ × Sort) (v : Verdict) → slice_get outputs n ≡ Some o → KeptBelow outputs end n → NamesBreak o end v → Finds outputs end v
+found_at outputs end n o verdict.Holds is before b = absurd b
+found_at outputs end n o verdict.Unmet is before b = absurd b
+found_at outputs end n o (verdict.Violates x i part) is before b = first_at outputs end n o (cell_of x.0 i) part is before b

@@ -1,0 +1,55 @@
+-- The four ends, or the copy that stops first, as a verdict.
+use Rattle.std.proofs.Common.{◌≡◌, ℕ, Ok, Err, sym, subst, ◌∙◌, ⊎_elim}
+use Rattle.std.proofs.Math.Path.{fun_ext}
+use Rattle.sm_syntax.specs.declared.copies.PerCopy.{PerCopy}
+use Rattle.sm_syntax.specs.declared.tree.Block.{Block}
+use Rattle.sm_syntax.specs.ConflictFree.{Copy, O, Task, program_of}
+use Rattle.sm_syntax.specs.Sorts.{Sorts}
+use Rattle.sm_syntax.specs.Stores.{Store}
+use Rattle.sm_syntax.specs.Syntax.{Code}
+use Rattle.sm_eval.specs.declared.error.EvalError.{EvalError}
+use Rattle.sm_eval.specs.declared.error.EvalError.TheVariants as eval
+use Rattle.sm_eval.specs.declared.store.Store as code
+use Rattle.sm_eval.specs.Slots.{sorts_of}
+use Rattle.sm_replay.specs.declared.error.ReplayError.{ReplayError}
+use Rattle.sm_replay.specs.declared.error.ReplayError.TheVariants as stop
+use Rattle.sm_replay.specs.declared.verdict.Verdict.{Verdict}
+use Rattle.sm_replay.specs.declared.verdict.Verdict.TheVariants as verdict
+use Rattle.sm_replay.specs.Runs.{code_in, stop_of, HaveSorts, Halts}
+use Rattle.sm_replay.specs.FirstBreak.{Finds}
+use Rattle.sm_replay.specs.Judging.{Tells}
+use Rattle.sm_replay.specs.Verdicts.{Stops, Judges}
+use Rattle.sm_replay.specs.Violations.{IsMet, AreEnds}
+
+-- the sorts of all are those of the base
+pub same_sorts : (ends : PerCopy code.Store) (sorts : Sorts) → HaveSorts ends sorts → HaveSorts ends (sorts_of ends.base)
+same_sorts ends sorts have c = have c ∙ sym (have O)
+
+-- what is so of the programs is so of the task's, where they are filled
+pub of_task : (P : (Copy → Code) → Type 0) (t : Task) (programs : PerCopy Block) → ((c : Copy) → code_in programs c ≡ program_of t c) → P (code_in programs) → P (program_of t)
+of_task P t programs filled = subst P (fun_ext filled)
+
+-- the verdict on ends
+pub judged_ends : (t : Task) (s : Store) (n : ℕ) (end : Copy → Store) → IsMet t.assumed s → AreEnds (program_of t) s n end → (v : Verdict) → Finds t.outputs end v → Judges t s n (Ok v)
+judged_ends t s n end met ends verdict.Holds finds = record { met = met; end = end; ends = ends; keeps = finds }
+judged_ends t s n end met ends verdict.Unmet finds = absurd finds
+judged_ends t s n end met ends (verdict.Violates x i part) finds = record { met = met; end = end; ends = ends; first = finds }
+
+-- a copy that stops
+stopped : (t : Task) (s : Store) (n copy : ℕ) (ev : EvalError) → IsMet t.assumed s → Stops (program_of t) s n copy ev → Judges t s n (Err (stop_of copy ev))
+stopped t s n copy eval.OutOfTurns met st = (met, st)
+stopped t s n copy (eval.Beyond op a b) met st = (met, st)
+stopped t s n copy eval.Memory met st = tt
+
+pub judged_halt : (t : Task) (s : Store) (n : ℕ) (e : ReplayError) → IsMet t.assumed s → Halts (program_of t) s n e → Judges t s n (Err e)
+judged_halt t s n e met h =
+    ⊎_elim (λ (m : e ≡ stop.Memory). subst (λ (x : ReplayError). Judges t s n (Err x)) (sym m) tt)
+    (λ (g : (copy : ℕ) × (ev : EvalError) × (e ≡ stop_of copy ev) × Stops (program_of t) s n copy ev).
+    subst (λ (x : ReplayError). Judges t s n (Err x)) (sym g.2) (stopped t s n g.0 g.1 met g.3)) h
+
+-- an assumption that can't be computed
+pub judged_assumption : (t : Task) (s : Store) (n : ℕ) (e : ReplayError) → Tells t.assumed s (Err e) → Judges t s n (Err e)
+judged_assumption t s n (stop.OutOfTurns copy) told = absurd told
+judged_assumption t s n (stop.Beyond copy op a b) told = absurd told
+judged_assumption t s n (stop.BeyondAssumed op a b) told = told
+judged_assumption t s n stop.Memory told = tt

@@ -1,7 +1,0 @@
--- No answer so far is there.
-use Rattle.std.proofs.Common.{◌≡◌, ◌<◌, ℕ, None}
-use Rattle.std.specs.List.{slice_index_or}
-use Rattle.sm_replay.proofs.first.first_found.Given as goal
-
-abbrev pub invariant-loop-j : goal.invariant-loop-j
-invariant-loop-j l = (k : ℕ) → k < l.j → slice_index_or l.results k None ≡ None

@@ -1,0 +1,12 @@
+-- Each key has its member, or its name is among those that are left.
+use Rattle.std.proofs.Common.{drop}
+use Rattle.serde_json.specs.View.{members_view}
+use Rattle.sm_eval.specs.Slots.{meaning}
+use Rattle.sm_syntax.specs.Parts.{sort_of}
+use Rattle.sm_syntax.specs.Programs.{declared_of}
+use Rattle.sm_replay.proofs.UpdatesSound.{numbered}
+use Rattle.sm_replay.proofs.InputTextSound.{MembersSoFar}
+use Rattle.sm_replay.proofs.input_text.members_of.Given as goal
+
+abbrev pub invariant-loop-d : goal.invariant-loop-d
+invariant-loop-d l = MembersSoFar l.names (sort_of (declared_of l.decls)) (meaning l.s) (numbered (drop l.d-index l.d-items)) (members_view l.members.entries)

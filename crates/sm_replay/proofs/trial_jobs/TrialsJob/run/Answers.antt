@@ -1,0 +1,20 @@
+-- The answer is that of the trial.
+use Rattle.std.proofs.Common.{◌≡◌, ◌≢◌, Option, Err}
+use Rattle.std.proofs.lemmas.Result.{IfOk-weaker}
+use Rattle.sm_syntax.specs.Parts.{sort_of, task_of}
+use Rattle.sm_task.specs.Tasks.{parts_of, AreFilled}
+use Rattle.sm_eval.specs.Slots.{meaning}
+use Rattle.sm_replay.specs.declared.error.ReplayError.TheVariants.{Memory}
+use Rattle.sm_replay.specs.declared.verdict.Verdict.{Verdict}
+use Rattle.sm_replay.specs.Trials.{trial}
+use Rattle.sm_replay.specs.TrialJobs.{shown_of}
+use Rattle.sm_replay.proofs.Deciding.{shows_trial}
+use Rattle.sm_replay.proofs.trial_jobs.TrialsJob.run.Goals as goal
+
+pub returns : goal.returns
+returns c =
+    let t = parts_of c.args.self.now.task.now in
+    IfOk-weaker c.shown.result _ _
+    (λ (out : Option Verdict) (h : (out ≡ shown_of c.judged.result) × (c.judged.result ≢ Err Memory)) (filled : AreFilled t c.args.self.now.programs.now).
+    shows_trial (task_of t) (trial (sort_of t.declared) c.args.index) (meaning c.in_ok-input.input) c.args.self.now.turns c.judged.result out c.in_ok-input.ensures.value (c.judged.ensures filled) h)
+    c.shown.ensures

@@ -1,8 +1,0 @@
--- Each key has its cell, or it is among those that are left.
-use Rattle.std.proofs.Common.{drop}
-use Rattle.serde_json.specs.View.{members_view}
-use Rattle.sm_replay.proofs.Writing.{CellsSoFar}
-use Rattle.sm_replay.proofs.written.cells_of.Given as goal
-
-abbrev pub invariant-loop-i : goal.invariant-loop-i
-invariant-loop-i l = CellsSoFar l.list (drop l.i-index l.list) (members_view l.cells.entries)
