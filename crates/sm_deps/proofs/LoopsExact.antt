@@ -1,6 +1,6 @@
 -- Going over code with kept sets finds exactly what the code needs.
-use Rattle.std.proofs.Common.{◌≡◌, ◌⊎◌, ◌+◌, ◌<◌, ◌≤◌, ℕ, zero, suc, Bool, true, false, ◌||◌, if◌then◌else◌, nat_lt, Some, List, [], ◌∷◌, ◌++◌, length, get_or, slice_get, inl, inr, refl, sym, ap, subst, ⊎_elim, ◌∙◌, length-append, arith}
-use Rattle.std.proofs.lemmas.Option.{same_Some, slice_get_read}
+use Rattle.std.proofs.Common.{◌≡◌, ◌⊎◌, ◌+◌, ◌<◌, ◌≤◌, ℕ, zero, suc, Bool, true, false, ◌||◌, if◌then◌else◌, nat_lt, Some, None, List, [], ◌∷◌, ◌++◌, length, get_or, slice_get, inl, inr, refl, sym, ap, subst, ⊎_elim, ◌∙◌, length-append, arith}
+use Rattle.std.proofs.lemmas.Option.{same_Some, slice_get_read, slice_get_past}
 use Rattle.std.proofs.lemmas.Bool.{or_left, or_right, or_cases}
 use Rattle.std.proofs.lemmas.Bool.Decides.{nat_tests}
 use Rattle.std.proofs.Math.Path.{fun_ext}
@@ -11,7 +11,7 @@ use Rattle.sm_deps.specs.declared.loops.Loops.{Loops}
 use Rattle.sm_deps.specs.Names.{tests, code_names}
 use Rattle.sm_deps.specs.Inputs.{needed}
 use Rattle.sm_deps.specs.Members.{members, either, Below}
-use Rattle.sm_deps.specs.Loops.{loops_in, HasNeeds, IsWithin, IsReady, Passes, GoesOver, Settles, Resumes, KeepsSet}
+use Rattle.sm_deps.specs.Loops.{loops_in, HasNeeds, IsWithin, IsReady, LoopsCounted, GoesOver, Settles, Resumes, KeepsSet}
 use Rattle.sm_deps.proofs.InputsExact.{loop_closed}
 use Rattle.sm_deps.proofs.GrownLemmas.{grown_starts, grown_within}
 use Rattle.sm_deps.proofs.NeededLemmas.{needed-append, needed_grows, both_ways, no_more}
@@ -71,35 +71,35 @@ needs-append (While b d c) k n wanted sets h =
 needs-append (Hole q c) k n wanted sets h = needs-append c k n wanted sets h
 
 -- no loop is passed
-passes_none : (loops : Loops) → IsReady loops → Passes 0 loops loops
-passes_none loops ready = record { next = omega arith; ready = ready; kept = omega arith }
+counted_none : (loops : Loops) → IsReady loops → LoopsCounted 0 loops loops
+counted_none loops ready = record { next = omega arith; ready = ready; kept = omega arith }
 
 -- some loops, and then others
-passes_both : (m n : ℕ) (one two three : Loops) → Passes m one two → Passes n two three → Passes (m + n) one three
-passes_both m n one two three first second = record {
+counted_both : (m n : ℕ) (one two three : Loops) → LoopsCounted m one two → LoopsCounted n two three → LoopsCounted (m + n) one three
+counted_both m n one two three first second = record {
   next = omega (arith, first.next, second.next);
   ready = second.ready;
   kept = omega (arith, first.kept, second.kept);
 }
 
 -- the same number of loops
-passes_same : (m n : ℕ) (one two : Loops) → m ≡ n → Passes m one two → Passes n one two
-passes_same m n one two same h = subst (λ (k : ℕ). Passes k one two) same h
+counted_same : (m n : ℕ) (one two : Loops) → m ≡ n → LoopsCounted m one two → LoopsCounted n one two
+counted_same m n one two same h = subst (λ (k : ℕ). LoopsCounted k one two) same h
 
 -- nothing is gone over
 pub over_end : (wanted : Test) (loops : Loops) → IsReady loops → GoesOver End wanted wanted loops loops
-over_end wanted loops ready = record { passes = passes_none loops ready; enough = λ x h. h; no_more = λ wider sets below needs within. (below, within) }
+over_end wanted loops ready = record { counted = counted_none loops ready; enough = λ x h. h; no_more = λ wider sets below needs within. (below, within) }
 
 -- code is gone over after what follows it
 pub over_append : (c k : Code) (wanted middle found : Test) (one two three : Loops) → GoesOver k wanted middle one two → GoesOver c middle found two three →
     GoesOver (append c k) wanted found one three
 over_append c k wanted middle found one two three first second = record {
-  passes = passes_same (loops_in k + loops_in c) (loops_in (append c k)) one three (sym (loops_in-append c k)) (passes_both (loops_in k) (loops_in c) one two three first.passes second.passes);
+  counted = counted_same (loops_in k + loops_in c) (loops_in (append c k)) one three (sym (loops_in-append c k)) (counted_both (loops_in k) (loops_in c) one two three first.counted second.counted);
   enough = λ x h. second.enough x (needed_grows c (needed k wanted) middle first.enough x (at (needed (append c k) wanted) (needed c (needed k wanted)) x (needed-append c k wanted) h));
   no_more = λ wider sets below needs within.
       let parts = needs-append c k one.next wider sets needs in
       let early = first.no_more wider sets below parts.0 within in
-      let here = moved c (one.next + loops_in k) two.next (needed k wider) (needed k wider) sets (sym first.passes.next) refl parts.1 in
+      let here = moved c (one.next + loops_in k) two.next (needed k wider) (needed k wider) sets (sym first.counted.next) refl parts.1 in
       let late = second.no_more (needed k wider) sets early.0 here early.1 in
       (subst (Below found) (sym (needed-append c k wider)) late.0, late.1);
 }
@@ -107,7 +107,7 @@ over_append c k wanted middle found one two three first second = record {
 -- code without loops
 pub over_plain : (c : Code) (wanted found : Test) (loops : Loops) → IsReady loops → loops_in c ≡ 0 → found ≡ needed c wanted → GoesOver c wanted found loops loops
 over_plain c wanted found loops ready plain is = record {
-  passes = passes_same 0 (loops_in c) loops loops (sym plain) (passes_none loops ready);
+  counted = counted_same 0 (loops_in c) loops loops (sym plain) (counted_none loops ready);
   enough = λ x h. at (needed c wanted) found x (sym is) h;
   no_more = λ wider sets below needs within. ((λ (x : ℕ) (h : found x ≡ true). needed_grows c wanted wider below x (at found (needed c wanted) x is h)), within);
 }
@@ -117,7 +117,7 @@ pub over_choice : (b : Condition) (c d : Code) (wanted first second found : Test
     GoesOver d wanted second two three → found ≡ either (either first second) (tests b) → GoesOver (If b c d End) wanted found one three
 unfolding either
 over_choice b c d wanted first second found one two three of_c of_d is = record {
-  passes = passes_same (loops_in c + loops_in d) (0 + loops_in c + loops_in d) one three (omega arith) (passes_both (loops_in c) (loops_in d) one two three of_c.passes of_d.passes);
+  counted = counted_same (loops_in c + loops_in d) (0 + loops_in c + loops_in d) one three (omega arith) (counted_both (loops_in c) (loops_in d) one two three of_c.counted of_d.counted);
   enough = λ x h.
       at (either (either first second) (tests b)) found x (sym is)
       (⊎_elim (λ (m : needed c wanted x ≡ true). or_left (first x || second x) (tests b x) (or_left (first x) (second x) (of_c.enough x m)))
@@ -129,7 +129,7 @@ over_choice b c d wanted first second found one two three of_c of_d is = record 
   no_more = λ wider sets below needs within.
       let here_c = moved c (one.next + 0) one.next wider wider sets (omega arith) refl needs.1 in
       let early = of_c.no_more wider sets below here_c within in
-      let here_d = moved d (one.next + (0 + loops_in c)) two.next wider wider sets (omega (arith, of_c.passes.next)) refl needs.2 in
+      let here_d = moved d (one.next + (0 + loops_in c)) two.next wider wider sets (omega (arith, of_c.counted.next)) refl needs.2 in
       let late = of_d.no_more wider sets below here_d early.1 in (
         (λ (x : ℕ) (h : found x ≡ true).
             ⊎_elim
@@ -148,8 +148,8 @@ pub over_loop : (b : Condition) (c : Code) (wanted guarded begun settled : Test)
     Resumes guarded begun one two → Settles c begun settled two three → KeepsSet one.next settled three four → GoesOver (While b c End) wanted settled one four
 unfolding either
 over_loop b c wanted guarded begun settled one two three four is resumes settles keeps = record {
-  passes = passes_same (1 + loops_in c + 0) (0 + 1 + loops_in c) one four (omega arith)
-      (passes_both (1 + loops_in c) 0 one three four (passes_both 1 (loops_in c) one two three resumes.passes settles.passes) keeps.passes);
+  counted = counted_same (1 + loops_in c + 0) (0 + 1 + loops_in c) one four (omega arith)
+      (counted_both (1 + loops_in c) 0 one three four (counted_both 1 (loops_in c) one two three resumes.counted settles.counted) keeps.counted);
   enough = λ x h.
       grown_within (length (code_names c)) (needed c) (λ (y : ℕ). wanted y || tests b y) settled
       (λ (part : Test) (under : Below part settled) (y : ℕ) (m : needed c part y ≡ true). settles.closed y (needed_grows c part settled under y m))
@@ -163,7 +163,7 @@ over_loop b c wanted guarded begun settled one two three four is resumes settles
       (⊎_elim (λ (m : wanted x ≡ true). or_left (wider x) (tests b x) (below x m)) (or_right (wider x) (tests b x))
       (or_cases (wanted x) (tests b x) (at guarded (either wanted (tests b)) x is h))) in
       let resumed = resumes.within sets (subst (Below guarded) (sym here) begins) within in
-      let mine = moved c (one.next + (0 + 1)) two.next whole whole sets (omega (arith, resumes.passes.next)) refl needs.2 in
+      let mine = moved c (one.next + (0 + 1)) two.next whole whole sets (omega (arith, resumes.counted.next)) refl needs.2 in
       let done = settles.least whole sets (subst (Below begun) here resumed.0) (loop_closed b c End wider) mine resumed.1 in
       (done.0, keeps.within sets (subst (Below settled) (sym here) done.0) done.1);
 }
@@ -175,8 +175,11 @@ unfolding either
 resumes_last first found last before after small item is same next =
     let size : length after.sets.items ≡ length before.sets.items = ap (λ s. length s.items) same in
     record {
-      passes = record { next = next; ready = omega (arith, size, next, small); kept = omega (arith, size) };
+      counted = record { next = next; ready = omega (arith, size, next, small); kept = omega (arith, size) };
       starts = λ x h. at (either first (members last)) found x (sym is) (or_left (first x) (members last x) h);
+      goes_on = λ set there x h.
+          let same_set : last ≡ set = same_Some last set (sym (slice_get_read before.sets.items (length before.sets.items) before.next last refl small item) ∙ there) in
+          at (either first (members last)) found x (sym is) (or_right (first x) (members last x) (at (members set) (members last) x (sym (ap members same_set)) h));
       within = λ sets below within. (
         (λ (x : ℕ) (h : found x ≡ true).
             ⊎_elim (below x) (within before.next last (slice_get_read before.sets.items (length before.sets.items) before.next last refl small item) x) (or_cases (first x) (members last x) (at found (either first (members last)) x is h))),
@@ -197,8 +200,9 @@ pub resumes_first : (first : Test) (set : BTreeSet ℕ) (before after : Loops) �
 resumes_first first set before after ready all is grown next =
     let size : length after.sets.items ≡ length before.sets.items + 1 = ap length grown ∙ length-append before.sets.items (set ∷ []) in
     record {
-      passes = record { next = next; ready = omega (arith, size, next, ready); kept = omega (arith, size) };
+      counted = record { next = next; ready = omega (arith, size, next, ready); kept = omega (arith, size) };
       starts = λ x h. h;
+      goes_on = λ set there x h. absurd (let none : slice_get before.sets.items before.next ≡ None = slice_get_past before.sets.items before.next all in cc);
       within = λ sets below within. (
         below,
         (λ (n : ℕ) (s : BTreeSet ℕ) (there : slice_get after.sets.items n ≡ Some s).
@@ -227,7 +231,7 @@ pub one_turn : (c : Code) (first found more new : Test) (before between again af
 unfolding either
 one_turn c first found more new before between again after turns sets_same next_same over is = record {
   starts = λ x h. at (either found more) new x (sym is) (or_left (found x) (more x) (turns.starts x h));
-  kept = let same : length again.sets.items ≡ length between.sets.items = ap (λ s. length s.items) sets_same in omega (arith, same, turns.kept, over.passes.kept);
+  kept = let same : length again.sets.items ≡ length between.sets.items = ap (λ s. length s.items) sets_same in omega (arith, same, turns.kept, over.counted.kept);
   least = λ whole sets below closed needs within.
       let old = turns.least whole sets below closed needs within in
       let ready : IsWithin again sets = subst (λ s. (n : ℕ) (set : BTreeSet ℕ) → slice_get s.items n ≡ Some set → Below (members set) (sets n)) (sym sets_same) old.1 in
@@ -248,7 +252,7 @@ last_turn c first old new more before between again after ordered size turns set
     let wider : Below (members old) (members new) = λ x h. at (either (members old) more) (members new) x (sym is) (or_left (members old x) (more x) h) in
     let back : Below (members new) (members old) = no_more old new ordered wider (omega (arith, size)) in
     record {
-      passes = record { next = omega (arith, next_same, over.passes.next); ready = over.passes.ready; kept = next.kept };
+      counted = record { next = omega (arith, next_same, over.counted.next); ready = over.counted.ready; kept = next.kept };
       starts = next.starts;
       closed = λ x h. at (either (members old) more) (members new) x (sym is)
           (or_right (members old x) (more x) (over.enough x (needed_grows c (members new) (members old) back x h)));

@@ -45,7 +45,7 @@ abbrev pub IsReady : Loops → Type 0
 IsReady loops = loops.next ≤ length loops.sets.items
 
 -- so many loops were gone over, and no kept set was given up
-pub record Passes (n : ℕ) (before after : Loops) : Type 0 where
+pub record LoopsCounted (n : ℕ) (before after : Loops) : Type 0 where
   pub next : after.next ≡ before.next + n
   pub ready : IsReady after
   pub kept : length before.sets.items ≤ length after.sets.items
@@ -54,7 +54,7 @@ pub record Passes (n : ℕ) (before after : Loops) : Type 0 where
 -- needs for them is found, and nothing that it doesn't need for a wider set, if each kept set is
 -- within what its loop needs for that one
 pub record GoesOver (c : Code) (wanted found : ℕ → Bool) (before after : Loops) : Type 0 where
-  pub passes : Passes (loops_in c) before after
+  pub counted : LoopsCounted (loops_in c) before after
   pub enough : Below (needed c wanted) found
   pub no_more : (wider : ℕ → Bool) (sets : ℕ → ℕ → Bool) →
       Below wanted wider →
@@ -65,7 +65,7 @@ pub record GoesOver (c : Code) (wanted found : ℕ → Bool) (before after : Loo
 -- the rounds of a loop's body: the set that is found holds the first one and what the body needs
 -- for it, and is within each such set, if each kept set is within what its loop needs for that one
 pub record Settles (c : Code) (first found : ℕ → Bool) (before after : Loops) : Type 0 where
-  pub passes : Passes (loops_in c) before after
+  pub counted : LoopsCounted (loops_in c) before after
   pub starts : Below first found
   pub closed : Below (needed c found) found
   pub least : (whole : ℕ → Bool) (sets : ℕ → ℕ → Bool) →
@@ -77,8 +77,11 @@ pub record Settles (c : Code) (first found : ℕ → Bool) (before after : Loops
 
 -- a loop is met, and goes on from the set that is kept for it
 pub record Resumes (first found : ℕ → Bool) (before after : Loops) : Type 0 where
-  pub passes : Passes 1 before after
+  pub counted : LoopsCounted 1 before after
   pub starts : Below first found
+  pub goes_on : (set : BTreeSet ℕ) →
+      slice_get before.sets.items before.next ≡ Some set →
+      Below (members set) found
   pub within : (sets : ℕ → ℕ → Bool) →
       Below first (sets before.next) →
       IsWithin before sets →
@@ -86,7 +89,8 @@ pub record Resumes (first found : ℕ → Bool) (before after : Loops) : Type 0 
 
 -- another set is kept for loop n
 pub record KeepsSet (n : ℕ) (found : ℕ → Bool) (before after : Loops) : Type 0 where
-  pub passes : Passes 0 before after
+  pub counted : LoopsCounted 0 before after
+  pub set : (kept : BTreeSet ℕ) → slice_get after.sets.items n ≡ Some kept → members kept ≡ found
   pub within : (sets : ℕ → ℕ → Bool) →
       Below found (sets n) →
       IsWithin before sets →
