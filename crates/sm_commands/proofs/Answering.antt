@@ -29,8 +29,8 @@ use Rattle.sm_commands.specs.declared.reading.Stop.TheVariants as stopped
 use Rattle.sm_commands.specs.declared.status.Reply.{Reply}
 use Rattle.sm_commands.specs.declared.status.Status.{Status}
 use Rattle.sm_commands.specs.declared.status.Status.TheVariants.{Accepted, Conflict, Usage, ReadFault, Memory}
-use Rattle.sm_replay.proofs.Conflicts.{violation_conflicts}
-use Rattle.sm_replay.proofs.Deciding.{breaks_violates}
+use Rattle.sm_replay.proofs.ViolationsSound.{violation_conflicts}
+use Rattle.sm_replay.proofs.VerdictSound.{breaks_violates}
 use Rattle.sm_commands.proofs.Soundness.{safe_is_conflict_free}
 use Rattle.sm_commands.proofs.Usage.{usage_asks_nothing}
 

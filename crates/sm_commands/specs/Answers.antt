@@ -6,7 +6,7 @@ use Rattle.sm_io.specs.Sinks.{Adds}
 use Rattle.sm_syntax.specs.ConflictFree.{ConflictFree}
 use Rattle.sm_eval.specs.Slots.{meaning}
 use Rattle.sm_eval.specs.declared.store.Store as code
-use Rattle.sm_replay.specs.Inputs.{IsInput}
+use Rattle.sm_replay.specs.Input.{IsInput}
 use Rattle.sm_replay.specs.Violations.{Violates}
 use Rattle.sm_syntax.specs.Parts.{Parts, sort_of, task_of}
 use Rattle.sm_syntax.specs.Spells.{Spells}

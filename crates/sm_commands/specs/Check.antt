@@ -4,10 +4,10 @@ use Rattle.serde_json.specs.Data.{Members, object}
 use Rattle.serde_json.specs.Written.{compact_text}
 use Rattle.sm_eval.specs.Slots.{meaning}
 use Rattle.sm_eval.specs.declared.store.Store as code
-use Rattle.sm_replay.specs.Inputs.{IsInput}
+use Rattle.sm_replay.specs.Input.{IsInput}
 use Rattle.sm_replay.specs.Trials.{trial, trials, IsLeast, SomeTrialMeets}
 use Rattle.sm_replay.specs.Violations.{Violates}
-use Rattle.sm_replay.specs.Written.{AreWritten}
+use Rattle.sm_replay.specs.InputText.{AreWritten}
 use Rattle.sm_replay.specs.declared.verdict.Verdict.TheVariants as verdict
 use Rattle.sm_syntax.specs.Parts.{Parts, sort_of, task_of}
 use Rattle.sm_syntax.specs.Stores.{Store}

@@ -3,7 +3,7 @@ use Rattle.std.specs.Prelude.{◌≢◌, ◌⊎◌, ℕ, Result, Ok, Err, List, 
 use Rattle.sm_eval.specs.Slots.{meaning}
 use Rattle.sm_eval.specs.declared.store.Store as code
 use Rattle.sm_io.specs.Files.{Known}
-use Rattle.sm_replay.specs.Inputs.{IsInput, Reads}
+use Rattle.sm_replay.specs.Input.{IsInput, Reads}
 use Rattle.sm_replay.specs.Verdicts.{Judges}
 use Rattle.sm_replay.specs.declared.error.InputError.{InputError}
 use Rattle.sm_replay.specs.declared.error.InputError.TheVariants as no_input

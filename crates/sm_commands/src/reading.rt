@@ -3,9 +3,9 @@ ghost use Rattle.std.specs.Prelude.{◌≡◌, ◌^◌, ◌<◌, ℕ, List, None
 ghost use Rattle.sm_syntax.specs.Spells.{Spells};
 ghost use Rattle.sm_task.specs.Tasks.{parts_of};
 ghost use Rattle.sm_eval.specs.Slots.{sorts_of};
-ghost use Rattle.sm_replay.specs.Inputs.{IsInput};
+ghost use Rattle.sm_replay.specs.Input.{IsInput};
 ghost use Rattle.sm_replay.specs.Sorted.{sort_fault};
-ghost use Rattle.sm_replay.specs.Written.{AreNamed};
+ghost use Rattle.sm_replay.specs.InputText.{AreNamed};
 ghost use Rattle.sm_syntax.specs.Parts.{sort_of};
 ghost use Rattle.sm_syntax.specs.Programs.{declared_of};
 ghost use Rattle.sm_text.specs.Named.{HasText};
@@ -85,7 +85,7 @@ pub fn task_in<H: Shelf>(alloc: Global, shelf: &mut H, name: &str) -> Result<Tas
 }
 
 /// The task that bytes spell, of which there are fewer than 2^32.
-#[tactic(auto, using(sm_replay::proofs::Running::spelled_runs))]
+#[tactic(auto, using(sm_replay::proofs::RunnableTasks::spelled_runs))]
 pub fn task_of(alloc: Global, bytes: &[u8]) -> Result<Task, Stop>
     requires { length bytes.now < 2 ^ 32 }
     ensures ok { IfOk result (λ t. Spells bytes.now (parts_of t)) }

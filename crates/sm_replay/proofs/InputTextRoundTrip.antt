@@ -28,10 +28,10 @@ use Rattle.sm_eval.specs.declared.slot.Slot.TheVariants as slot
 use Rattle.sm_eval.specs.declared.store.Store as code
 use Rattle.sm_replay.specs.declared.error.InputError.{InputError}
 use Rattle.sm_replay.specs.declared.error.InputError.TheVariants.{BadValue, BadIndex}
-use Rattle.sm_replay.specs.Inputs.{Texts, name_of, declared_name, missing, cells_fault, value_fault, members_fault, number_or_zero, element, given, member_of, store_of, IsJson, IsInput}
+use Rattle.sm_replay.specs.Input.{Texts, name_of, declared_name, missing, cells_fault, value_fault, members_fault, number_or_zero, element, given, member_of, store_of, IsJson, IsInput}
 use Rattle.sm_replay.specs.Members.{IsInside, IsInsideAt, AreInside}
 use Rattle.sm_replay.specs.Number.{number_of_text, number_of}
-use Rattle.sm_replay.specs.Written.{StandsBefore, AreOrdered, number_text, cell_at, AreWrittenCells, IsWrittenAs, IsMemberOf, AreWritten, AreNamed}
+use Rattle.sm_replay.specs.InputText.{StandsBefore, AreOrdered, number_text, cell_at, AreWrittenCells, IsWrittenAs, IsMemberOf, AreWritten, AreNamed}
 use Rattle.sm_replay.proofs.MembersLemmas.{by_place}
 use Rattle.sm_replay.proofs.NumberUnique.{spells_itself}
 

@@ -26,11 +26,11 @@ use Rattle.sm_syntax.specs.Sorts.{Sorts}
 use Rattle.sm_syntax.specs.Stores.{Array, Store}
 use Rattle.sm_eval.specs.Cells.{listed, AreCells}
 use Rattle.sm_eval.proofs.Ordered.{listed_at}
-use Rattle.sm_replay.specs.Inputs.{Texts, declared_name, IsJson}
+use Rattle.sm_replay.specs.Input.{Texts, declared_name, IsJson}
 use Rattle.sm_replay.specs.Members.{IsInside, IsInsideAt, AreInside}
 use Rattle.sm_replay.specs.Number.{number_of_text}
 use Rattle.sm_replay.specs.Members.{Writes}
-use Rattle.sm_replay.specs.Written.{StandsBefore, AreOrdered, number_text, cell_text, cell_at, AreWrittenCells, IsMemberOf, AreWritten}
+use Rattle.sm_replay.specs.InputText.{StandsBefore, AreOrdered, number_text, cell_text, cell_at, AreWrittenCells, IsMemberOf, AreWritten}
 use Rattle.sm_replay.proofs.UpdatesSound.{numbered}
 use Rattle.sm_replay.proofs.MembersLemmas.{by_place}
 use Rattle.sm_replay.proofs.NumberUnique.{spells_itself, spelled_back}

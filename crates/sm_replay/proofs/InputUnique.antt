@@ -13,9 +13,9 @@ use Rattle.sm_syntax.specs.Stores.{Value, Number, Array, Store}
 use Rattle.sm_eval.specs.declared.store.Store as code
 use Rattle.sm_replay.specs.declared.error.InputError.{InputError}
 use Rattle.sm_replay.specs.declared.error.InputError.TheVariants.{BadJson, NotObject, UnknownKey, BadValue, BadIndex, Memory}
-use Rattle.sm_replay.specs.Inputs.{Texts, declared_name, input_fault, store_of, IsJson, IsInput, IsRefused, Reads}
+use Rattle.sm_replay.specs.Input.{Texts, declared_name, input_fault, store_of, IsJson, IsInput, IsRefused, Reads}
 use Rattle.sm_replay.specs.Laws.{ReadingIsOne, WrittenTextIsOne}
-use Rattle.sm_replay.specs.Written.{StandsBefore, AreOrdered, IsWrittenAs, IsMemberOf}
+use Rattle.sm_replay.specs.InputText.{StandsBefore, AreOrdered, IsWrittenAs, IsMemberOf}
 use Rattle.sm_replay.proofs.InputTextRoundTrip.{same_text, before_all}
 use Rattle.sm_replay.proofs.InputTextSound.{stands_below}
 

@@ -1,7 +1,7 @@
-pub mod Conflicts
-pub mod Running
-pub mod Named
-pub mod Deciding
+pub mod ViolationsSound
+pub mod RunnableTasks
+pub mod NamesFound
+pub mod VerdictSound
 pub mod AssumptionSound
 pub mod RunsSound
 pub mod FirstBreakLeast

@@ -22,7 +22,7 @@ use Rattle.sm_syntax.specs.declared.tree.Sort.{Sort}
 use Rattle.sm_syntax.specs.Sorts.{Sorts}
 use Rattle.sm_syntax.specs.Symbols.{is_among}
 use Rattle.sm_replay.specs.Updates.{Lists}
-use Rattle.sm_replay.specs.Inputs.{Texts, declared_name, number_or_zero, elements, cell_given}
+use Rattle.sm_replay.specs.Input.{Texts, declared_name, number_or_zero, elements, cell_given}
 use Rattle.sm_replay.specs.Number.{number_of_text}
 use Rattle.sm_replay.proofs.NumberUnique.{spells_itself, spelled_back}
 

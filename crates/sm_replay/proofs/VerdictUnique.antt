@@ -23,7 +23,7 @@ use Rattle.sm_replay.specs.Laws.{VerdictIsOne, LeastTrialIsOne, FirstViolationIs
 use Rattle.sm_replay.specs.Trials.{trial, Names}
 use Rattle.sm_replay.specs.Verdicts.{cell_of, IsBelow, FailsAt, IsFirstBreak, Holds, Breaks, IsUnmet, Stops}
 use Rattle.sm_replay.specs.Violations.{assumed_event, IsMet, AreEnds, KeepsAt}
-use Rattle.sm_replay.proofs.Deciding.{same_ends, not_kept, holds_calm, breaks_violates}
+use Rattle.sm_replay.proofs.VerdictSound.{same_ends, not_kept, holds_calm, breaks_violates}
 
 -- of two numbers one is less, or they are the same
 order : (a b : ℕ) → (a < b) ⊎ ((a ≡ b) ⊎ (b < a))

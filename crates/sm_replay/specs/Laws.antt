@@ -15,12 +15,12 @@ use Rattle.sm_replay.specs.declared.error.InputError.TheVariants as no_input
 use Rattle.sm_replay.specs.declared.error.ReplayError.{ReplayError}
 use Rattle.sm_replay.specs.declared.error.ReplayError.TheVariants as stop
 use Rattle.sm_replay.specs.declared.verdict.Verdict.{Verdict}
-use Rattle.sm_replay.specs.Inputs.{Texts, Reads}
+use Rattle.sm_replay.specs.Input.{Texts, Reads}
 use Rattle.sm_replay.specs.Sorted.{sort_fault}
 use Rattle.sm_replay.specs.Trials.{IsLeast, IsFirstViolation}
 use Rattle.sm_replay.specs.Verdicts.{Judges}
 use Rattle.sm_replay.specs.Violations.{Violates}
-use Rattle.sm_replay.specs.Written.{AreNamed, AreWritten}
+use Rattle.sm_replay.specs.InputText.{AreNamed, AreWritten}
 
 -- a violation shows that the merge isn't free of conflicts
 abbrev pub ViolationsConflict : Type 0

@@ -9,6 +9,6 @@ pub mod Judging
 pub mod Runs
 pub mod FirstBreak
 pub mod Number
-pub mod Inputs
-pub mod Written
+pub mod Input
+pub mod InputText
 pub mod Members

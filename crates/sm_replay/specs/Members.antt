@@ -6,8 +6,8 @@ use Rattle.sm_num.specs.Range.{fits}
 use Rattle.sm_syntax.specs.declared.tree.Sort.{Sort}
 use Rattle.sm_syntax.specs.Sorts.{Sorts}
 use Rattle.sm_syntax.specs.Stores.{Value, Number, Array, Store}
-use Rattle.sm_replay.specs.Inputs.{Texts, declared_name}
-use Rattle.sm_replay.specs.Written.{IsWrittenAs}
+use Rattle.sm_replay.specs.Input.{Texts, declared_name}
+use Rattle.sm_replay.specs.InputText.{IsWrittenAs}
 
 -- a value inside 128 bits: a number, or an array of such numbers that has 0 at each index beyond
 -- 128 bits

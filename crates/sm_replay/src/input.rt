@@ -8,7 +8,7 @@ ghost use Rattle.sm_syntax.specs.Parts.{sort_of};
 ghost use Rattle.sm_syntax.specs.Programs.{declared_of};
 ghost use Rattle.sm_eval.specs.Zeros.{zero_of, zeros};
 ghost use Rattle.sm_replay.specs.Updates.{Gives, Lists, Overrides};
-ghost use Rattle.sm_replay.specs.Inputs.{declared_name, missing, cells_fault, value_fault, members_fault, input_fault, number_or_zero, elements, cell_given, given, member_of, store_of, IsJson, Reads, reported};
+ghost use Rattle.sm_replay.specs.Input.{declared_name, missing, cells_fault, value_fault, members_fault, input_fault, number_or_zero, elements, cell_given, given, member_of, store_of, IsJson, Reads, reported};
 ghost use Rattle.sm_replay.specs.Number.{number_of_text, number_of};
 
 use crate::error::InputError;

@@ -10,11 +10,11 @@ ghost use Rattle.sm_num.specs.Range.{fits};
 ghost use Rattle.sm_syntax.specs.Parts.{sort_of};
 ghost use Rattle.sm_syntax.specs.Programs.{declared_of};
 ghost use Rattle.sm_syntax.specs.Stores as plain;
-ghost use Rattle.sm_replay.specs.Inputs.{declared_name, IsInput};
+ghost use Rattle.sm_replay.specs.Input.{declared_name, IsInput};
 ghost use Rattle.sm_replay.specs.Members.{IsInside, IsInsideAt, AreInside};
 ghost use Rattle.sm_replay.specs.Members.{Writes};
-ghost use Rattle.sm_replay.specs.Written.{number_text, AreWrittenCells, IsWrittenAs, AreWritten};
-ghost use Rattle.sm_replay.specs.Written.{AreNamed};
+ghost use Rattle.sm_replay.specs.InputText.{number_text, AreWrittenCells, IsWrittenAs, AreWritten};
+ghost use Rattle.sm_replay.specs.InputText.{AreNamed};
 
 use crate::input::declared_name;
 use itoa::Buffer;

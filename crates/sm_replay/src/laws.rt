@@ -7,7 +7,7 @@ pub fn violations_conflict()
 {}
 
 /// A task that meets all conditions may be run.
-#[tactic(auto, using(crate::proofs::Running::valid_runs))]
+#[tactic(auto, using(crate::proofs::RunnableTasks::valid_runs))]
 pub fn valid_tasks_run()
     ensures { ValidTasksRun }
 {}

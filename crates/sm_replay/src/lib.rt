@@ -15,8 +15,8 @@
 //! - `spelled_names_are_found` is the law that the declared names of a text's task are found by
 //!   their texts.
 //!
-//! Read `specs/Violations.antt` first, then `specs/Verdicts.antt`. `specs/Inputs.antt` says what an
-//! input is, `specs/Written.antt` which text is written for a store, and `specs/Trials.antt` which
+//! Read `specs/Violations.antt` first, then `specs/Verdicts.antt`. `specs/Input.antt` says what an
+//! input is, `specs/InputText.antt` which text is written for a store, and `specs/Trials.antt` which
 //! inputs are tried.
 #![tactic(auto)]
 

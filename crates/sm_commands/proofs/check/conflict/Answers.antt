@@ -1,5 +1,5 @@
 use Rattle.std.proofs.Common.{rules, subst}
-use Rattle.sm_replay.specs.Written.{AreWritten}
+use Rattle.sm_replay.specs.InputText.{AreWritten}
 use Rattle.sm_syntax.specs.Parts.{sort_of}
 use Rattle.sm_syntax.specs.Programs.{declared_of}
 use Rattle.sm_syntax.specs.Stores.{Store}

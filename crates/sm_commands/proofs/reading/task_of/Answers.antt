@@ -1,4 +1,4 @@
-use Rattle.sm_replay.proofs.Named.{spelled_found}
+use Rattle.sm_replay.proofs.NamesFound.{spelled_found}
 use Rattle.sm_task.specs.Tasks.{parts_of}
 use Rattle.sm_commands.proofs.reading.task_of.Goals as goal
 

@@ -2,7 +2,7 @@
 use Rattle.std.proofs.Common.{◌≡◌}
 use Rattle.serde_json.specs.View.{members_view}
 use Rattle.sm_eval.specs.Slots.{sorts_of}
-use Rattle.sm_replay.specs.Inputs.{members_fault}
+use Rattle.sm_replay.specs.Input.{members_fault}
 use Rattle.sm_replay.proofs.input.check_members.Given as goal
 
 abbrev pub invariant-loop-key : goal.invariant-loop-key

@@ -5,7 +5,7 @@ use Rattle.serde_json.specs.Data.{object}
 use Rattle.serde_json.specs.View.{members_view}
 use Rattle.sm_eval.specs.Slots.{meaning, with_cell}
 use Rattle.sm_replay.specs.Updates.{Lists}
-use Rattle.sm_replay.specs.Inputs.{elements}
+use Rattle.sm_replay.specs.Input.{elements}
 use Rattle.sm_replay.proofs.UpdatesSound.{cell_turn, none_overridden, all_overridden}
 use Rattle.sm_replay.proofs.MembersLemmas.{lists_shuffled}
 use Rattle.sm_replay.proofs.input.give_cells.Goals as goal

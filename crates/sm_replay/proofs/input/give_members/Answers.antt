@@ -6,7 +6,7 @@ use Rattle.sm_syntax.specs.Parts.{sort_of}
 use Rattle.sm_syntax.specs.Programs.{declared_of}
 use Rattle.sm_eval.specs.Slots.{meaning}
 use Rattle.sm_eval.specs.Zeros.{zero_of}
-use Rattle.sm_replay.specs.Inputs.{given, member_of, store_of}
+use Rattle.sm_replay.specs.Input.{given, member_of, store_of}
 use Rattle.sm_replay.proofs.UpdatesSound.{end_filled}
 use Rattle.sm_replay.proofs.input.give_members.Goals as goal
 

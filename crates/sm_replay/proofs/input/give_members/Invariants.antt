@@ -5,7 +5,7 @@ use Rattle.sm_syntax.specs.Parts.{sort_of}
 use Rattle.sm_syntax.specs.Programs.{declared_of}
 use Rattle.sm_eval.specs.Slots.{meaning, sorts_of}
 use Rattle.sm_eval.specs.Zeros.{zero_of}
-use Rattle.sm_replay.specs.Inputs.{store_of}
+use Rattle.sm_replay.specs.Input.{store_of}
 use Rattle.sm_replay.proofs.UpdatesSound.{Filling, numbered}
 use Rattle.sm_replay.proofs.input.give_members.Given as goal
 

@@ -8,7 +8,7 @@ use Rattle.sm_syntax.specs.Sorts.{Sorts}
 use Rattle.sm_eval.specs.Slots.{meaning}
 use Rattle.sm_eval.specs.Zeros.{zero_of}
 use Rattle.sm_replay.specs.Updates.{Gives, Overrides}
-use Rattle.sm_replay.specs.Inputs.{elements, given}
+use Rattle.sm_replay.specs.Input.{elements, given}
 use Rattle.sm_replay.proofs.UpdatesSound.{array_of, overrides_give}
 use Rattle.sm_replay.proofs.input.give_sorted.Goals as goal
 

@@ -7,7 +7,7 @@ use Rattle.std.specs.Map.Iter.{deref_pair}
 use Rattle.std.specs.String.{string_cmp}
 use Rattle.serde_json.specs.View.{view}
 use Rattle.serde_json.proofs.Views.{Entry}
-use Rattle.sm_replay.specs.Inputs.{cell_given}
+use Rattle.sm_replay.specs.Input.{cell_given}
 use Rattle.sm_replay.specs.Number.{number_of_text}
 use Rattle.sm_replay.proofs.MembersLemmas.{ListsBefore, list_turn, all_listed, rest_sorted}
 use Rattle.sm_replay.proofs.input.list_of.Goals as goal

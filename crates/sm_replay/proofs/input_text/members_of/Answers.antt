@@ -7,7 +7,7 @@ use Rattle.sm_syntax.specs.declared.tree.Sort.TheVariants.{Num}
 use Rattle.sm_syntax.specs.Parts.{sort_of}
 use Rattle.sm_syntax.specs.Programs.{declared_of}
 use Rattle.sm_syntax.specs.Sorts.{Sorts}
-use Rattle.sm_replay.specs.Inputs.{declared_name}
+use Rattle.sm_replay.specs.Input.{declared_name}
 use Rattle.sm_replay.specs.Members.{IsInsideAt}
 use Rattle.sm_replay.specs.Members.{Writes}
 use Rattle.sm_replay.proofs.UpdatesSound.{numbered}

@@ -2,8 +2,8 @@
 use Rattle.sm_syntax.specs.Parts.{task_of}
 use Rattle.sm_task.specs.Tasks.{parts_of}
 use Rattle.sm_eval.specs.Slots.{meaning}
-use Rattle.sm_replay.proofs.Deciding.{violates_exactly}
-use Rattle.sm_replay.proofs.Running.{filled_sorted}
+use Rattle.sm_replay.proofs.VerdictSound.{violates_exactly}
+use Rattle.sm_replay.proofs.RunnableTasks.{filled_sorted}
 use Rattle.sm_replay.proofs.judging.judge.Goals as goal
 
 pub judged-requires-clause-sorted : goal.judged-requires-clause-sorted

@@ -3,7 +3,7 @@ use Rattle.sm_syntax.specs.Views.{condition_of}
 use Rattle.sm_task.specs.Tasks.{parts_of}
 use Rattle.sm_eval.specs.Slots.{meaning, sorts_of}
 use Rattle.sm_replay.proofs.AssumptionSound.{told_met}
-use Rattle.sm_replay.proofs.Running.{assumes}
+use Rattle.sm_replay.proofs.RunnableTasks.{assumes}
 use Rattle.sm_replay.proofs.judging.judged.Goals as goal
 
 -- the assumption may be computed

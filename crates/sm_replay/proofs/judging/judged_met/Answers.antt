@@ -11,7 +11,7 @@ use Rattle.sm_eval.specs.Slots.{meaning, sorts_of}
 use Rattle.sm_replay.specs.Runs.{end_in}
 use Rattle.sm_replay.specs.FirstBreak.{sorted_by, Finds}
 use Rattle.sm_replay.specs.Violations.{AreEnds}
-use Rattle.sm_replay.proofs.Running.{sorted_runs}
+use Rattle.sm_replay.proofs.RunnableTasks.{sorted_runs}
 use Rattle.sm_replay.proofs.RunsSound.{judged_ends, of_task, same_sorts}
 use Rattle.sm_replay.proofs.judging.judged_met.Goals as goal
 

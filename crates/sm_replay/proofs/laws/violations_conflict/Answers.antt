@@ -1,4 +1,4 @@
-use Rattle.sm_replay.proofs.Conflicts.{violation_conflicts}
+use Rattle.sm_replay.proofs.ViolationsSound.{violation_conflicts}
 use Rattle.sm_replay.proofs.laws.violations_conflict.Goals as goal
 
 pub returns : goal.returns

@@ -3,7 +3,7 @@ use Rattle.std.proofs.Common.{sym, subst}
 use Rattle.sm_syntax.specs.Parts.{sort_of, task_of}
 use Rattle.sm_task.specs.Tasks.{parts_of, AreFilled}
 use Rattle.sm_replay.proofs.FirstViolationSound.{Answered, answered_where, first_violates}
-use Rattle.sm_replay.proofs.Running.{filled_sorted}
+use Rattle.sm_replay.proofs.RunnableTasks.{filled_sorted}
 use Rattle.sm_replay.proofs.trial_jobs.first_violation.Goals as goal
 
 -- each name of the filled programs stands as it is declared

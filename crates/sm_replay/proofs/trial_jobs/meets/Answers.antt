@@ -1,7 +1,7 @@
 -- The assumption may be computed.
 use Rattle.sm_task.specs.Tasks.{parts_of}
 use Rattle.sm_eval.specs.Slots.{sorts_of}
-use Rattle.sm_replay.proofs.Running.{assumes}
+use Rattle.sm_replay.proofs.RunnableTasks.{assumes}
 use Rattle.sm_replay.proofs.trial_jobs.meets.Goals as goal
 
 pub is_met-requires : goal.is_met-requires

@@ -8,7 +8,7 @@ use Rattle.sm_replay.specs.declared.error.ReplayError.TheVariants.{Memory}
 use Rattle.sm_replay.specs.declared.verdict.Verdict.{Verdict}
 use Rattle.sm_replay.specs.Trials.{trial}
 use Rattle.sm_replay.specs.TrialJobs.{shown_of}
-use Rattle.sm_replay.proofs.Deciding.{shows_trial}
+use Rattle.sm_replay.proofs.VerdictSound.{shows_trial}
 use Rattle.sm_replay.proofs.trial_jobs.TrialsJob.run.Goals as goal
 
 pub returns : goal.returns

@@ -11,7 +11,7 @@ use Rattle.serde_json.specs.Find.{get_member}
 use Rattle.sm_syntax.specs.declared.tree.Sort.{Sort}
 use Rattle.sm_syntax.specs.Sorts.{Sorts}
 use Rattle.sm_syntax.specs.Stores.{Value, Number, Array, Store}
-use Rattle.sm_replay.specs.Inputs.{Texts, declared_name}
+use Rattle.sm_replay.specs.Input.{Texts, declared_name}
 use Rattle.sm_replay.specs.Number.{number_of_text}
 
 -- a key stands before each key of members

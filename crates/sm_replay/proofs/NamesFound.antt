@@ -12,7 +12,7 @@ use Rattle.sm_syntax.proofs.Numbering.{slice_get-number}
 use Rattle.sm_text.proofs.Content.{content_declared, content_of_task, task_content}
 use Rattle.sm_text.proofs.ReadsBack.{AllIn, text_content}
 use Rattle.sm_replay.specs.Laws.{SpelledNamesAreFound}
-use Rattle.sm_replay.specs.Written.{AreNamed}
+use Rattle.sm_replay.specs.InputText.{AreNamed}
 use Rattle.sm_replay.proofs.MembersLemmas.{place_of}
 
 -- a name has a text, by which it is found
