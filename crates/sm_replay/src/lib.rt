@@ -15,9 +15,9 @@
 //! - `spelled_names_are_found` is the law that the declared names of a text's task are found by
 //!   their texts.
 //!
-//! Read `specs/Violations.antt` first, then `specs/Verdicts.antt`. `specs/Input.antt` says what an
-//! input is, `specs/InputText.antt` which text is written for a store, and `specs/Trials.antt` which
-//! inputs are tried.
+//! Read `specs/Violations.antt` first, then `specs/Verdicts.antt`, and `specs/Laws.antt` for what
+//! follows. `specs/Input.antt` says what an input is, `specs/InputText.antt` which text is written
+//! for a store, and `specs/Trials.antt` which inputs are tried.
 #![tactic(auto)]
 
 mod error;

@@ -1,4 +1,4 @@
-// The ends of the four programs.
+// Runs of the four programs from one store, and their ends.
 ghost use Rattle.std.specs.Prelude.{◌≡◌, Some, None, IfOk, IfErr};
 ghost use Rattle.sm_eval.specs.Events.{event};
 ghost use Rattle.sm_eval.specs.Slots.{meaning, sorts_of};
