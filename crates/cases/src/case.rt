@@ -1,0 +1,122 @@
+// One case, and what comes of it.
+
+use crate::content::bytes_of;
+use anyhow::{Context, Result};
+use serde_json::Value;
+use sm_commands::safemerge;
+use sm_io::{MemShelf, MemSink};
+use sm_par::Open;
+use std::alloc::Global;
+use std::thread::Threads;
+
+/// How many choices of a case's texts are tried.
+const MOST_CHOICES: u64 = 1000;
+
+/// The case's name, and what comes of each choice of its texts.
+pub fn report<R: Threads + Sync>(rt: &R, alloc: Global, case: &Value) -> Result<Vec<u8>> {
+    let mut report = Vec::new(alloc);
+    report.extend_from_slice(b"# ")?;
+    report.extend_from_slice(text_of(case, "name")?.as_bytes())?;
+    report.push(b'\n')?;
+    for number in 0..MOST_CHOICES {
+        let mut choice = number;
+        let words = words_of(alloc, case, &mut choice)?;
+        let mut shelf = shelf_of(alloc, case, &mut choice)?;
+        if choice > 0 {
+            break;
+        }
+        if number > 0 {
+            report.extend_from_slice(format!(in alloc; "choice {number}\n")?.as_bytes())?;
+        }
+        let out = run(rt, alloc, case, &words, &mut shelf, &mut report)?;
+        if let Some(then) = case.get("then") {
+            run_then(rt, alloc, then, out.bytes(), &mut shelf, &mut report)?;
+        }
+        add_files(case, &shelf, &mut report)?;
+    }
+    Ok(report)
+}
+
+// Runs the top call, and adds its status and what it printed.
+fn run<R: Threads + Sync>(
+    rt: &R,
+    alloc: Global,
+    case: &Value,
+    words: &[String],
+    shelf: &mut MemShelf,
+    report: &mut Vec<u8>,
+) -> Result<MemSink> {
+    let mut out = MemSink::new(alloc);
+    if let Some(call) = case.get("sink").and_then(Value::as_u64) {
+        out.fail_at(call)?;
+    }
+    let status = safemerge(rt, alloc, &Open, words, shelf, &mut out).number();
+    report.extend_from_slice(format!(in alloc; "status {status}\n")?.as_bytes())?;
+    report.extend_from_slice(out.bytes())?;
+    Ok(out)
+}
+
+// The second run, where the first printed the text that it is to stand behind.
+fn run_then<R: Threads + Sync>(
+    rt: &R,
+    alloc: Global,
+    then: &Value,
+    printed: &[u8],
+    shelf: &mut MemShelf,
+    report: &mut Vec<u8>,
+) -> Result<()> {
+    let printed = std::str::from_utf8(printed)?;
+    if let Some((_front, input)) = printed.split_once(text_of(then, "behind")?) {
+        shelf.hold("i", input.as_bytes())?;
+        let words = words_of(alloc, then, &mut 0)?;
+        let _out = run(rt, alloc, then, &words, shelf, report)?;
+    }
+    Ok(())
+}
+
+// The text that stands under a key.
+fn text_of<'a>(case: &'a Value, key: &str) -> Result<&'a str> {
+    let text = case.get(key).and_then(Value::as_str);
+    text.context("a text is missing")
+}
+
+// The words of a run.
+fn words_of(alloc: Global, case: &Value, choice: &mut u64) -> Result<Vec<String>> {
+    let mut words = Vec::new(alloc);
+    let list = case.get("words").and_then(Value::as_array);
+    for word in list.context("words are missing")? {
+        words.push(String::from_utf8(bytes_of(alloc, word, choice)?)?)?;
+    }
+    Ok(words)
+}
+
+// The shelf with the case's files, of which one call may fail.
+fn shelf_of(alloc: Global, case: &Value, choice: &mut u64) -> Result<MemShelf> {
+    let mut shelf = MemShelf::new(alloc);
+    if let Some(files) = case.get("files").and_then(Value::as_object) {
+        for (name, content) in files.iter() {
+            shelf.hold(name, &bytes_of(alloc, content, choice)?)?;
+        }
+    }
+    if let Some(call) = case.get("shelf").and_then(Value::as_u64) {
+        shelf.fail_at(call)?;
+    }
+    Ok(shelf)
+}
+
+// Adds the files that the case asks for.
+fn add_files(case: &Value, shelf: &MemShelf, report: &mut Vec<u8>) -> Result<()> {
+    if let Some(names) = case.get("after").and_then(Value::as_array) {
+        for name in names {
+            let name = name.as_str().context("a file has no name")?;
+            report.extend_from_slice(b"file ")?;
+            report.extend_from_slice(name.as_bytes())?;
+            report.push(b'\n')?;
+            if let Some(bytes) = shelf.bytes(name) {
+                report.extend_from_slice(bytes)?;
+                report.push(b'\n')?;
+            }
+        }
+    }
+    Ok(())
+}

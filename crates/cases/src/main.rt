@@ -1,0 +1,36 @@
+//! Cases as data: runs the top call on each case of the files that its words name, over files and
+//! output in memory, and prints what came.
+//!
+//! - A file is a JSON array of cases. A case has a `name`, the `words` of the program, and the `files`
+//!   that it finds, by their names.
+//! - `shelf` and `sink` are the numbers of the calls that fail, from 0.
+//! - `then` is a second run with words of its own, where the first answer has the text `behind`. What
+//!   stands behind that text is the file `i`.
+//! - `after` names the files that are printed afterwards.
+//!
+//! A word and a file's content is a part or an array of parts. A part is a text, `{"times": n,
+//! "text": ".."}`, `{"hex": ".."}` for bytes that are no text, or `{"each": [..]}`, of which one text
+//! is chosen. The case runs once for each choice, and what is chosen first changes fastest.
+#![tactic(auto)]
+
+mod case;
+mod content;
+
+use anyhow::{Context, Result};
+use serde_json::Value;
+use sm_io::{OutSink, put_all};
+use std::{env, fs};
+
+fn main(rt: HostRuntime) -> Result<()> {
+    let mut out = OutSink::new(&rt);
+    let mut names = env::args(&rt)?;
+    let _program = names.next();
+    for name in names {
+        let text = fs::read_to_string(&rt, &name)?;
+        let cases = Value::from_str(rt.alloc(), &text)?;
+        for case in cases.as_array().context("a file of cases is an array")? {
+            put_all(&mut out, &case::report(&rt, rt.alloc(), case)?)?;
+        }
+    }
+    Ok(())
+}
