@@ -4,7 +4,7 @@ use anyhow::{Context, Result, bail};
 use serde_json::Value;
 use std::alloc::Global;
 
-/// The bytes of a content. Each part with a choice takes its own from `choice`, and leaves the rest.
+/// The bytes of a content. Each part with a choice takes its own of `choice`, and leaves the rest.
 pub fn bytes_of(alloc: Global, content: &Value, choice: &mut u64) -> Result<Vec<u8>> {
     let mut bytes = Vec::new(alloc);
     match content {

@@ -1,20 +1,28 @@
 //! Cases as data: runs the top call on each case of the files that its words name, over files and
 //! output in memory, and prints what came.
 //!
-//! - A file is a JSON array of cases. A case has a `name`, the `words` of the program, and the `files`
-//!   that it finds, by their names.
+//! - A file is a JSON array of cases. A case has a `name`, the `words` of the program, and the
+//!   `files` that it finds, by their names.
 //! - `shelf` and `sink` are the numbers of the calls that fail, from 0.
-//! - `then` is a second run with words of its own, where the first answer has the text `behind`. What
-//!   stands behind that text is the file `i`.
+//! - `then` is a second run with words of its own, where the first answer has the text `behind`.
+//!   What stands behind that text is the file `i`.
 //! - `after` names the files that are printed afterwards.
 //!
 //! A word and a file's content is a part or an array of parts. A part is a text, `{"times": n,
-//! "text": ".."}`, `{"hex": ".."}` for bytes that are no text, or `{"each": [..]}`, of which one text
-//! is chosen. The case runs once for each choice, and what is chosen first changes fastest.
+//! "text": ".."}`, `{"hex": ".."}` for bytes that are no text, or `{"each": [..]}`, of which one
+//! text is chosen. The case runs once for each choice, and what is chosen first changes fastest.
 #![tactic(auto)]
 
 mod case;
 mod content;
+#[cfg(test)]
+mod messages;
+#[cfg(test)]
+mod real_files;
+#[cfg(test)]
+mod tests;
+#[cfg(test)]
+mod workers;
 
 use anyhow::{Context, Result};
 use serde_json::Value;

@@ -1,0 +1,199 @@
+// Public calls that no command reaches, each on a small text.
+
+use sm_deps::{inputs, writes};
+use sm_eval::Store;
+use sm_io::{MemShelf, Shelf, append_all};
+use sm_num::{add, mul, sub};
+use sm_replay::{read_input, write_input};
+use sm_syntax::{
+    Block, Mark, Name, NameTable, Sort, Symbol, copy_block, depth, nodes, same_block, well_formed,
+};
+use sm_text::{
+    TextError, names, parse_block, parse_head, parse_program, print_program, symbols, tokens,
+};
+use std::alloc::Global;
+use std::test::Fail;
+
+// The block at the front of a text, where x has number 0, y has 1 and so on for z, v and a.
+fn block_of(alloc: Global, text: &str) -> Result<Block, TextError> {
+    let mut names = NameTable::new(alloc);
+    for name in ["x", "y", "z", "v", "a"] {
+        if names.len() < 9 {
+            names.add(name)?;
+        }
+    }
+    let cut = tokens(alloc, text.as_bytes())?;
+    let (block, _behind) = parse_block(alloc, text.as_bytes(), &cut, 0, 0, &mut names)?;
+    Ok(block)
+}
+
+#[test]
+fn a_program_is_read_and_printed(rt: HostRuntime) -> Result<(), Fail> {
+    let text = "array a;var x,y;output a,x;shared{?1;a[-x]=x-y-1;}# end";
+    let want =
+        "array a;\nvar x;\nvar y;\noutput a, x;\nshared {\n  ?1;\n  a[-x] = (x - y) - 1;\n}\n";
+    let program = parse_program(rt.alloc(), text.as_bytes())?;
+    let out = print_program(rt.alloc(), &program)?;
+    assert_eq!(rt; out.as_slice(), want.as_bytes());
+    assert!(rt; well_formed(rt.alloc(), &program).is_ok());
+    Ok(())
+}
+
+#[test]
+fn a_head_is_read_whatever_stands_behind_it(rt: HostRuntime) -> Result<(), Fail> {
+    let text = "array a; output a; assume a[0] < 1; shared { skip; } base { z = /".as_bytes();
+    let cut = tokens(rt.alloc(), text)?;
+    let (program, assumed, behind) = parse_head(rt.alloc(), text, &cut)?;
+    assert_eq!(rt;
+        (behind, program.names.len(), assumed.is_some()),
+        (19, 1, true)
+    );
+    Ok(())
+}
+
+#[test]
+fn a_refused_block_leaves_the_table_as_it_was(rt: HostRuntime) -> Result<(), Fail> {
+    let mut names = NameTable::new(rt.alloc());
+    for (text, behind, count) in [
+        ("{ y = ; }", None, 0),
+        ("{ y = x; } /", Some(6), 2),
+        ("{ z = 1; ", None, 2),
+    ] {
+        let cut = tokens(rt.alloc(), text.as_bytes())?;
+        let read = parse_block(rt.alloc(), text.as_bytes(), &cut, 0, 63, &mut names);
+        assert_eq!(rt; read.ok().map(|(_block, found)| found), behind, "in {text}");
+        assert_eq!(rt; names.len(), count, "in {text}");
+    }
+    names.cut(1);
+    assert_eq!(rt; (names.find("y"), names.find("x")), (Some(Name(0)), None));
+    Ok(())
+}
+
+#[test]
+fn symbols_name_their_names_by_first_appearance(rt: HostRuntime) -> Result<(), Fail> {
+    let text = b"if (y <= 070) y = -x; # z";
+    let cut = tokens(rt.alloc(), text)?;
+    let read = symbols(rt.alloc(), text, cut.list.as_slice())?;
+    let front = [
+        Symbol::Mark(Mark::If),
+        Symbol::Mark(Mark::OpenRound),
+        Symbol::Name(Name(0)),
+        Symbol::Mark(Mark::AtMost),
+        Symbol::Number(70),
+    ];
+    assert!(rt; read.list.as_slice().starts_with(&front));
+    assert_eq!(rt; names(rt.alloc(), text)?.len(), 2);
+    Ok(())
+}
+
+#[test]
+fn a_copy_of_a_block_is_the_same(rt: HostRuntime) -> Result<(), Fail> {
+    let text = "{ skip; while (x < 9 && !false) { x = -y + a[x]; ?3; } }";
+    let block = block_of(rt.alloc(), text)?;
+    assert!(rt; same_block(&copy_block(rt.alloc(), &block)?, &block));
+    assert!(rt; !same_block(&block_of(rt.alloc(), "{ skip; }")?, &block));
+    assert_eq!(rt; (nodes(&block), depth(&block)), (15, 5));
+    Ok(())
+}
+
+#[test]
+fn what_a_block_needs_and_writes(rt: HostRuntime) -> Result<(), Fail> {
+    // a block, a name that is wanted, the names that it needs, and those that it writes
+    let cases: &[(&str, u32, &str, &str)] = &[
+        (
+            "{ while (y > 0) { skip; } x = z; }",
+            0,
+            "[Name(1), Name(2)]",
+            "[Name(0)]",
+        ),
+        (
+            "{ y = z; while (y > 0) { x = v; v = z; } }",
+            0,
+            "[Name(0), Name(2), Name(3)]",
+            "[Name(0), Name(1), Name(3)]",
+        ),
+        (
+            "{ if (y > 0) { x = 1; } else { ?3; } }",
+            0,
+            "[Name(0), Name(1)]",
+            "[Name(0)]",
+        ),
+        (
+            "{ a[x] = a[y] + z; }",
+            4,
+            "[Name(0), Name(1), Name(2), Name(4)]",
+            "[Name(4)]",
+        ),
+        ("{ a[x] = a[y] + z; }", 3, "[Name(3)]", "[Name(4)]"),
+    ];
+    let alloc = rt.alloc();
+    for (text, wanted, needed, written) in cases {
+        let block = block_of(alloc, text)?;
+        let needs = inputs(alloc, &block, Name(*wanted))?;
+        assert_eq!(rt;
+            format!(in alloc; "{:?}", needs.list)?.as_str(),
+            *needed,
+            "{text}"
+        );
+        let writes = writes(alloc, &block)?;
+        assert_eq!(rt;
+            format!(in alloc; "{:?}", writes.list)?.as_str(),
+            *written,
+            "{text}"
+        );
+    }
+    Ok(())
+}
+
+#[test]
+fn results_outside_128_bits_are_none(rt: HostRuntime) {
+    let (least, greatest) = (i128::MIN, i128::MAX);
+    // a, b, then the sum, the difference and the product
+    for (a, b, sum, difference, product) in [
+        (7, -9, Some(-2), Some(16), Some(-63)),
+        (greatest, 1, None, Some(greatest - 1), Some(greatest)),
+        (least, -1, None, Some(least + 1), None),
+        (0, least, Some(least), None, Some(0)),
+    ] {
+        assert_eq!(rt;
+            (add(a, b), sub(a, b), mul(a, b)),
+            (sum, difference, product)
+        );
+    }
+}
+
+#[test]
+fn an_input_with_the_ends_of_128_bits_is_written_and_read(rt: HostRuntime) -> Result<(), Fail> {
+    let alloc = rt.alloc();
+    let text = "var y, x; array b, a; output x; shared { }".as_bytes();
+    let program = parse_program(alloc, text)?;
+    let (decls, names) = (&program.decls, &program.names);
+    let mut store = Store::zero(alloc, decls)?;
+    if let Some(Sort::Num) = store.sort(Name(0)) {
+        store.set(Name(0), i128::MIN);
+    }
+    if let Some(Sort::Arr) = store.sort(Name(2)) {
+        store.set_cell(Name(2), i128::MIN, i128::MAX)?;
+    }
+    let want =
+        "{\"a\":{},\"b\":{\"-170141183460469231731687303715884105728\":\"170141183460469231731687303715884105727\"},\"x\":\"0\",\"y\":\"-170141183460469231731687303715884105728\"}";
+    let text = write_input(alloc, decls, names, &store)?;
+    assert_eq!(rt; text.as_slice(), want.as_bytes());
+    assert!(rt; read_input(alloc, decls, names, &text).is_ok());
+    Ok(())
+}
+
+#[test]
+fn a_shelf_in_memory_is_written(rt: HostRuntime) -> Result<(), Fail> {
+    let mut shelf = MemShelf::new(rt.alloc());
+    shelf.fail_at(3)?;
+    shelf.start("b")?;
+    append_all(&mut shelf, "b", b"first")?;
+    append_all(&mut shelf, "b", b", second")?;
+    assert!(rt; shelf.append("b", b"third").is_err());
+    assert_eq!(rt;
+        shelf.bytes("b").ok_or("absent")?,
+        b"first, second".as_slice()
+    );
+    Ok(())
+}
