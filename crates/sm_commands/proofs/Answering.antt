@@ -7,12 +7,12 @@ use Rattle.sm_replay.specs.Verdicts.{cell_of, Judges}
 use Rattle.sm_replay.specs.declared.error.ReplayError.{ReplayError}
 use Rattle.sm_replay.specs.declared.verdict.Verdict.{Verdict}
 use Rattle.sm_replay.specs.declared.verdict.Verdict.TheVariants as verdict
-use Rattle.sm_syntax.specs.Parts.{Parts, sort_of, task_of}
+use Rattle.sm_syntax.specs.text.Parts.{Parts, sort_of, task_of}
 use Rattle.sm_eval.specs.Slots.{meaning}
-use Rattle.sm_syntax.specs.ConflictFree.{ConflictFree}
-use Rattle.sm_syntax.specs.Stores.{Store}
+use Rattle.sm_syntax.specs.claim.ConflictFree.{ConflictFree}
+use Rattle.sm_syntax.specs.claim.Stores.{Store}
 use Rattle.sm_syntax.specs.declared.tree.Name.{Name}
-use Rattle.sm_syntax.specs.Spells.{Spells}
+use Rattle.sm_syntax.specs.text.Spells.{Spells}
 use Rattle.sm_replay.specs.Violations.{Violates}
 use Rattle.sm_commands.specs.Answers.{Files, Answers, AnswersAsked, AnswersTo, Checks, Prints, Replays, IsSafeMerge, IsUnsafeMerge, IsViolatedFrom, ShowsInput}
 use Rattle.sm_commands.specs.Check.{status_of, AnswersCheck, IsInputText}

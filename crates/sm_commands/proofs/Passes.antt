@@ -1,6 +1,6 @@
 -- One output at which no clause fails.
 use Rattle.std.proofs.Common.{◌≡◌, ℕ, ◌+◌, ◌<◌, None, List, map, length, drop, get_or, ap, add-one, drop-cons}
-use Rattle.sm_syntax.specs.ConflictFree.{Copy, O, A, B, M}
+use Rattle.sm_syntax.specs.claim.ConflictFree.{Copy, O, A, B, M}
 use Rattle.sm_syntax.specs.declared.tree.Name.{Name}
 use Rattle.sm_commands.specs.Copies.{Origins, broken_clause, first_broken}
 

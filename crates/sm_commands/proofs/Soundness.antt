@@ -4,12 +4,12 @@ use Rattle.std.specs.List.{All}
 use Rattle.std.proofs.lemmas.Bool.{eqb-true}
 use Rattle.std.proofs.lemmas.Bool.Decides.{Decides-int_eq}
 use Rattle.std.proofs.lemmas.List.Elements.{All-nil, All-cons, All-map, All-contains}
-use Rattle.sm_syntax.specs.ConflictFree.{Copy, O, A, B, M, ConflictFree, program_of}
-use Rattle.sm_syntax.specs.Keeps.{Keeps, KeepsChange, Cell, Scalar, Element, content, variable}
-use Rattle.sm_syntax.specs.Meaning.{run}
-use Rattle.sm_syntax.specs.Parts.{Parts, task_of, sort_of, sorted_outputs}
-use Rattle.sm_syntax.specs.Stores.{Value, Number, Store, number, array, put}
-use Rattle.sm_syntax.specs.Syntax.{Lit, Var, Read, Neg, Plus, Minus, Times, Code, End, Skip, Assign, Write, If, While, Hole}
+use Rattle.sm_syntax.specs.claim.ConflictFree.{Copy, O, A, B, M, ConflictFree, program_of}
+use Rattle.sm_syntax.specs.claim.Keeps.{Keeps, KeepsChange, Cell, Scalar, Element, content, variable}
+use Rattle.sm_syntax.specs.claim.Meaning.{run}
+use Rattle.sm_syntax.specs.text.Parts.{Parts, task_of, sort_of, sorted_outputs}
+use Rattle.sm_syntax.specs.claim.Stores.{Value, Number, Store, number, array, put}
+use Rattle.sm_syntax.specs.claim.Syntax.{Lit, Var, Read, Neg, Plus, Minus, Times, Code, End, Skip, Assign, Write, If, While, Hole}
 use Rattle.sm_syntax.specs.declared.tree.Sort.{Sort}
 use Rattle.sm_syntax.specs.declared.tree.Sort.TheVariants.{Num}
 use Rattle.sm_commands.specs.Copies.{Origins, same_origin, with_origin, origins_after, only_copies, is_lost, is_made_up, broken_clause, or_else, first_broken, each_copies, decision}

@@ -3,13 +3,13 @@
 use Rattle.std.specs.Prelude.{◌≡◌, ◌≢◌, ◌⊎◌, ◌<◌, ◌++◌, ℕ, List, Option, Some, None, length, take}
 use Rattle.sm_io.specs.Files.{Known, WhereHeld}
 use Rattle.sm_io.specs.Sinks.{Adds}
-use Rattle.sm_syntax.specs.ConflictFree.{ConflictFree}
+use Rattle.sm_syntax.specs.claim.ConflictFree.{ConflictFree}
 use Rattle.sm_eval.specs.Slots.{meaning}
 use Rattle.sm_eval.specs.declared.store.Store as code
 use Rattle.sm_replay.specs.Input.{IsInput}
 use Rattle.sm_replay.specs.Violations.{Violates}
-use Rattle.sm_syntax.specs.Parts.{Parts, sort_of, task_of}
-use Rattle.sm_syntax.specs.Spells.{Spells}
+use Rattle.sm_syntax.specs.text.Parts.{Parts, sort_of, task_of}
+use Rattle.sm_syntax.specs.text.Spells.{Spells}
 use Rattle.sm_text.specs.Canonical.{task_pieces}
 use Rattle.sm_text.specs.Pieces.{text_of}
 use Rattle.sm_commands.specs.Check.{AnswersCheck}

@@ -9,8 +9,8 @@ use Rattle.sm_replay.specs.Trials.{trial, trials, IsLeast, SomeTrialMeets}
 use Rattle.sm_replay.specs.Violations.{Violates}
 use Rattle.sm_replay.specs.InputText.{AreWritten}
 use Rattle.sm_replay.specs.declared.verdict.Verdict.TheVariants as verdict
-use Rattle.sm_syntax.specs.Parts.{Parts, sort_of, task_of}
-use Rattle.sm_syntax.specs.Stores.{Store}
+use Rattle.sm_syntax.specs.text.Parts.{Parts, sort_of, task_of}
+use Rattle.sm_syntax.specs.claim.Stores.{Store}
 use Rattle.sm_syntax.specs.declared.tree.Name.{Name}
 use Rattle.sm_commands.specs.Copies.{decision}
 use Rattle.sm_commands.specs.Lines.{decision_line, trial_line, input_line, unmet_line}

@@ -2,9 +2,9 @@
 -- name had at the start. It speaks of no store and of no run.
 use Rattle.std.specs.Prelude.{ℕ, pos, ◌==◌, Bool, true, false, not, ◌&&◌, if◌then◌else◌, Option, Some, None, List, [], ◌∷◌}
 use Rattle.std.specs.Ordering.{int_eq}
-use Rattle.sm_syntax.specs.ConflictFree.{Copy, O, A, B, M, program_of}
-use Rattle.sm_syntax.specs.Parts.{Parts, task_of}
-use Rattle.sm_syntax.specs.Syntax.{Expression, Lit, Var, Read, Neg, Plus, Minus, Times, Code, End, Skip, Assign, Write, If, While, Hole}
+use Rattle.sm_syntax.specs.claim.ConflictFree.{Copy, O, A, B, M, program_of}
+use Rattle.sm_syntax.specs.text.Parts.{Parts, task_of}
+use Rattle.sm_syntax.specs.claim.Syntax.{Expression, Lit, Var, Read, Neg, Plus, Minus, Times, Code, End, Skip, Assign, Write, If, While, Hole}
 use Rattle.sm_commands.specs.declared.copies.Decision.{Decision}
 use Rattle.sm_commands.specs.declared.copies.Decision.TheVariants.{Safe, Copies, NotBuilt}
 use Rattle.sm_commands.specs.declared.copies.Origin.{Origin}

@@ -11,8 +11,8 @@ use Rattle.sm_replay.specs.declared.error.ReplayError.{ReplayError}
 use Rattle.sm_replay.specs.declared.error.ReplayError.TheVariants as stop
 use Rattle.sm_replay.specs.declared.verdict.Verdict.{Verdict}
 use Rattle.sm_replay.specs.declared.verdict.Verdict.TheVariants as verdict
-use Rattle.sm_syntax.specs.Parts.{Parts, sort_of, task_of}
-use Rattle.sm_syntax.specs.Stores.{Store}
+use Rattle.sm_syntax.specs.text.Parts.{Parts, sort_of, task_of}
+use Rattle.sm_syntax.specs.claim.Stores.{Store}
 use Rattle.sm_commands.specs.Lines.{input_refusal_line, verdict_line}
 use Rattle.sm_commands.specs.Reading.{Says, IsRead, GivesNoBytes}
 use Rattle.sm_commands.specs.declared.status.Status.{Status}

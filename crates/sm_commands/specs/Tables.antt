@@ -2,7 +2,7 @@
 use Rattle.std.specs.Prelude.{ℕ, unwrap_or}
 use Rattle.std.specs.BTreeMap.{get}
 use Rattle.std.specs.Ordering.{nat_cmp}
-use Rattle.sm_syntax.specs.ConflictFree.{Copy, O, A, B, M}
+use Rattle.sm_syntax.specs.claim.ConflictFree.{Copy, O, A, B, M}
 use Rattle.sm_commands.specs.declared.copies.Ends as four
 use Rattle.sm_commands.specs.declared.copies.Origins as table
 use Rattle.sm_commands.specs.declared.copies.Origin.{Origin}

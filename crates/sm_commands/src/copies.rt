@@ -1,9 +1,9 @@
 // Programs that only copy, decided by symbols.
 ghost use Rattle.std.specs.Prelude.{◌≡◌, ◌&&◌, Bool, true, false, ℕ, ◌<◌, Some, None, map, if◌then◌else◌, IfOk, OnOk, IsTrue, MatchOption};
-ghost use Rattle.sm_syntax.specs.ConflictFree.{ConflictFree, Copy, O, A, B, M, program_of, copy_of};
-ghost use Rattle.sm_syntax.specs.Parts.{task_of};
-ghost use Rattle.sm_syntax.specs.Syntax.{Code};
-ghost use Rattle.sm_syntax.specs.Views.{expression_of, statement_of, code_of};
+ghost use Rattle.sm_syntax.specs.claim.ConflictFree.{ConflictFree, Copy, O, A, B, M, program_of, copy_of};
+ghost use Rattle.sm_syntax.specs.text.Parts.{task_of};
+ghost use Rattle.sm_syntax.specs.claim.Syntax.{Code};
+ghost use Rattle.sm_syntax.specs.trees.Views.{expression_of, statement_of, code_of};
 ghost use Rattle.sm_task.specs.Tasks.{parts_of};
 ghost use Rattle.sm_commands.specs.Copies.{origin_of, is_copied, with_origin, origins_after, only_copies, is_lost, is_made_up, broken_clause, first_broken, each_copies, decision};
 ghost use Rattle.sm_commands.specs.Tables.{origin_in, after_in};

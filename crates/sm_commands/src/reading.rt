@@ -1,13 +1,13 @@
 // Files of tasks and of inputs.
 ghost use Rattle.std.specs.Prelude.{◌≡◌, ◌^◌, ◌<◌, ℕ, List, None, length, IfOk, IfErr};
-ghost use Rattle.sm_syntax.specs.Spells.{Spells};
+ghost use Rattle.sm_syntax.specs.text.Spells.{Spells};
 ghost use Rattle.sm_task.specs.Tasks.{parts_of};
 ghost use Rattle.sm_eval.specs.Slots.{sorts_of};
 ghost use Rattle.sm_replay.specs.Input.{IsInput};
 ghost use Rattle.sm_replay.specs.Sorted.{sort_fault};
 ghost use Rattle.sm_replay.specs.InputText.{AreNamed};
-ghost use Rattle.sm_syntax.specs.Parts.{sort_of};
-ghost use Rattle.sm_syntax.specs.Programs.{declared_of};
+ghost use Rattle.sm_syntax.specs.text.Parts.{sort_of};
+ghost use Rattle.sm_syntax.specs.trees.Programs.{declared_of};
 ghost use Rattle.sm_text.specs.Named.{HasText};
 ghost use Rattle.sm_commands.specs.Replay.{GivesInput, GivesNoInput, IsNoInput};
 ghost use Rattle.sm_commands.specs.Reading.{GivesNoBytes, GivesNoTask, GivesTask, IsNoTask, IsRead};

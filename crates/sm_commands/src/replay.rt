@@ -2,8 +2,8 @@
 ghost use Rattle.std.specs.Prelude.{◌≡◌, None, IfOk};
 ghost use Rattle.sm_eval.specs.Slots.{meaning, sorts_of};
 ghost use Rattle.sm_replay.specs.Sorted.{sort_fault};
-ghost use Rattle.sm_syntax.specs.Parts.{sort_of};
-ghost use Rattle.sm_syntax.specs.Programs.{declared_of};
+ghost use Rattle.sm_syntax.specs.text.Parts.{sort_of};
+ghost use Rattle.sm_syntax.specs.trees.Programs.{declared_of};
 ghost use Rattle.sm_task.specs.Tasks.{parts_of};
 ghost use Rattle.sm_commands.specs.Replay.{verdict_status, AnswersReplay};
 

@@ -12,8 +12,8 @@ use Rattle.std.specs.List.{list_any}
 use Rattle.std.specs.List.Sorted.{IsStrictlyIncreasing}
 use Rattle.std.specs.Ordering.{nat_cmp}
 use Rattle.sm_syntax.specs.declared.tree.Cmp.{Cmp}
-use Rattle.sm_syntax.specs.Conditions.{is_in}
-use Rattle.sm_syntax.specs.Syntax.{Expression, Var, Read, Plus, Minus, Times, Condition, Compare, And, Or}
+use Rattle.sm_syntax.specs.text.Conditions.{is_in}
+use Rattle.sm_syntax.specs.claim.Syntax.{Expression, Var, Read, Plus, Minus, Times, Condition, Compare, And, Or}
 use Rattle.sm_deps.specs.Names.{mentions, tests}
 use Rattle.sm_deps.specs.Members.{members, only, either}
 

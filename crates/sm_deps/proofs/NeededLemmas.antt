@@ -17,9 +17,9 @@ use Rattle.sm_syntax.specs.declared.tree.Expr.{Expr}
 use Rattle.sm_syntax.specs.declared.tree.Name.{Name}
 use Rattle.sm_syntax.specs.declared.tree.Stmt.{Stmt}
 use Rattle.sm_syntax.specs.declared.tree.Stmt.TheVariants as tree
-use Rattle.sm_syntax.specs.Conditions.{is_in}
-use Rattle.sm_syntax.specs.Syntax.{Code, End, Skip, Assign, Write, If, While, Hole, append}
-use Rattle.sm_syntax.specs.Views.{expression_of, condition_of, sequence, statement_of, code_of}
+use Rattle.sm_syntax.specs.text.Conditions.{is_in}
+use Rattle.sm_syntax.specs.claim.Syntax.{Code, End, Skip, Assign, Write, If, While, Hole, append}
+use Rattle.sm_syntax.specs.trees.Views.{expression_of, condition_of, sequence, statement_of, code_of}
 use Rattle.sm_syntax.proofs.Blocks.{statement_is, sequence-drop}
 use Rattle.sm_syntax.proofs.Statements.{statement_of-Skip, statement_of-Assign, statement_of-Store, statement_of-If, statement_of-While, statement_of-Hole}
 use Rattle.sm_deps.specs.Inputs.{grown, needed, inputs}

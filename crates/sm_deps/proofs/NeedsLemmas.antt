@@ -1,6 +1,6 @@
 -- What is needed grows with what is wanted, and the set of a loop is closed.
 use Rattle.std.proofs.Common.{◌≢◌, ◌⊎◌, ℕ, Bool, IsTrue, inl, inr, ⊎_elim}
-use Rattle.sm_syntax.specs.Syntax.{Code, End, Skip, Assign, Write, If, While, Hole}
+use Rattle.sm_syntax.specs.claim.Syntax.{Code, End, Skip, Assign, Write, If, While, Hole}
 use Rattle.sm_deps.specs.Names.{mentions, tests}
 use Rattle.sm_deps.specs.Needs.{NamePredicate, Within, Picked, Least, Needs}
 

@@ -1,7 +1,7 @@
 -- Cited by public clauses: what code needs, computed, and as a list.
 use Rattle.std.specs.Prelude.{ℕ, zero, suc, ◌==◌, Bool, not, ◌&&◌, ◌||◌, List, [], ◌∷◌, length, max}
 use Rattle.std.specs.List.{filter, range_with_len}
-use Rattle.sm_syntax.specs.Syntax.{Code, End, Skip, Assign, Write, If, While, Hole}
+use Rattle.sm_syntax.specs.claim.Syntax.{Code, End, Skip, Assign, Write, If, While, Hole}
 use Rattle.sm_deps.specs.Names.{mentions, tests, code_names}
 
 -- a set after so many rounds, each of which adds what the set brings

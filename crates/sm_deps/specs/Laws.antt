@@ -3,12 +3,12 @@ use Rattle.std.specs.Prelude.{◌≡◌, ◌↔◌, ℕ, IsTrue, Option, Some, N
 use Rattle.std.specs.List.Sorted.{IsStrictlyIncreasing}
 use Rattle.sm_syntax.specs.declared.tree.Sort.{Sort}
 use Rattle.sm_syntax.specs.Assigns.{assigns}
-use Rattle.sm_syntax.specs.Conditions.{is_in}
-use Rattle.sm_syntax.specs.Syntax.{Code}
-use Rattle.sm_syntax.specs.Stores.{Value, Store}
-use Rattle.sm_syntax.specs.Meaning.{run}
+use Rattle.sm_syntax.specs.text.Conditions.{is_in}
+use Rattle.sm_syntax.specs.claim.Syntax.{Code}
+use Rattle.sm_syntax.specs.claim.Stores.{Value, Store}
+use Rattle.sm_syntax.specs.claim.Meaning.{run}
 use Rattle.sm_syntax.specs.SameAs.{SameAs}
-use Rattle.sm_syntax.specs.Sorts.{Sorts, IsWellSorted}
+use Rattle.sm_syntax.specs.text.Sorts.{Sorts, IsWellSorted}
 use Rattle.sm_deps.specs.Needs.{Needs}
 use Rattle.sm_deps.specs.Inputs.{inputs}
 

@@ -1,7 +1,7 @@
 -- For private clauses alone: going over code from its end, with a set kept for each of its loops.
 use Rattle.std.specs.Prelude.{◌≡◌, ℕ, ◌+◌, ◌≤◌, Bool, Some, length, slice_get}
 use Rattle.std.specs.BTreeSet.{BTreeSet}
-use Rattle.sm_syntax.specs.Syntax.{Code, End, Skip, Assign, Write, If, While, Hole}
+use Rattle.sm_syntax.specs.claim.Syntax.{Code, End, Skip, Assign, Write, If, While, Hole}
 use Rattle.sm_deps.specs.declared.loops.Loops.{Loops}
 use Rattle.sm_deps.specs.Inputs.{needed}
 use Rattle.sm_deps.specs.Members.{members, Below}

@@ -1,7 +1,7 @@
 -- Cited by public clauses: what code needs. These are the names whose values before it decide its
 -- end, and the values of the wanted names there.
 use Rattle.std.specs.Prelude.{◌⊎◌, ◌≢◌, ℕ, Bool, IsTrue}
-use Rattle.sm_syntax.specs.Syntax.{Code, End, Skip, Assign, Write, If, While, Hole}
+use Rattle.sm_syntax.specs.claim.Syntax.{Code, End, Skip, Assign, Write, If, While, Hole}
 use Rattle.sm_deps.specs.Names.{mentions, tests}
 
 -- a set of names

@@ -2,10 +2,10 @@
 ghost use Rattle.std.specs.Prelude.{◌≡◌, ℕ, IfOk, OnOk};
 ghost use Rattle.std.specs.List.Sorted.{IsStrictlyIncreasing};
 ghost use Rattle.sm_syntax.specs.Assigns.{assigns};
-ghost use Rattle.sm_syntax.specs.Conditions.{is_in};
-ghost use Rattle.sm_syntax.specs.Programs.{outputs_of};
-ghost use Rattle.sm_syntax.specs.Syntax.{End};
-ghost use Rattle.sm_syntax.specs.Views.{statement_of, code_of};
+ghost use Rattle.sm_syntax.specs.text.Conditions.{is_in};
+ghost use Rattle.sm_syntax.specs.trees.Programs.{outputs_of};
+ghost use Rattle.sm_syntax.specs.claim.Syntax.{End};
+ghost use Rattle.sm_syntax.specs.trees.Views.{statement_of, code_of};
 ghost use Rattle.sm_deps.specs.Members.{members, either};
 
 use crate::members::{NameSet, add_name, list_of};

@@ -1,8 +1,8 @@
 // What a block needs.
 ghost use Rattle.std.specs.Prelude.{◌≡◌, IfOk, OnOk};
-ghost use Rattle.sm_syntax.specs.Programs.{outputs_of};
-ghost use Rattle.sm_syntax.specs.Syntax.{End, If, While};
-ghost use Rattle.sm_syntax.specs.Views.{condition_of, statement_of, code_of};
+ghost use Rattle.sm_syntax.specs.trees.Programs.{outputs_of};
+ghost use Rattle.sm_syntax.specs.claim.Syntax.{End, If, While};
+ghost use Rattle.sm_syntax.specs.trees.Views.{condition_of, statement_of, code_of};
 ghost use Rattle.sm_deps.specs.Inputs as plain;
 ghost use Rattle.sm_deps.specs.Loops.{IsReady, GoesOver, Settles};
 ghost use Rattle.sm_deps.specs.Members.{members};

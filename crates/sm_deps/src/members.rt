@@ -2,7 +2,7 @@
 ghost use Rattle.std.specs.Prelude.{◌≡◌, IfOk, OnOk};
 ghost use Rattle.std.specs.List.Sorted.{IsStrictlySortedBy};
 ghost use Rattle.std.specs.Ordering.{nat_cmp};
-ghost use Rattle.sm_syntax.specs.Programs.{outputs_of};
+ghost use Rattle.sm_syntax.specs.trees.Programs.{outputs_of};
 ghost use Rattle.sm_deps.specs.Members.{members, either, only};
 
 use sm_syntax::{Name, Outputs};

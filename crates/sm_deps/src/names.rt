@@ -1,6 +1,6 @@
 // The names of expressions and conditions.
 ghost use Rattle.std.specs.Prelude.{◌≡◌, OnOk};
-ghost use Rattle.sm_syntax.specs.Views.{expression_of, condition_of};
+ghost use Rattle.sm_syntax.specs.trees.Views.{expression_of, condition_of};
 ghost use Rattle.sm_deps.specs.Names.{mentions, tests};
 ghost use Rattle.sm_deps.specs.Members.{members, either};
 

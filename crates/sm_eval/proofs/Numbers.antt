@@ -1,11 +1,11 @@
 -- Well-sorted expressions have numbers.
 use Rattle.std.proofs.Common.{◌≡◌, Some, refl}
 use Rattle.sm_syntax.specs.declared.tree.Sort.TheVariants.{Num}
-use Rattle.sm_syntax.specs.Meaning.{value_of}
-use Rattle.sm_syntax.specs.Sorts.{IsWellSortedExpression}
-use Rattle.sm_syntax.specs.Stores as plain
-use Rattle.sm_syntax.specs.Stores.{number}
-use Rattle.sm_syntax.specs.Syntax.{Expression, Lit, Var, Read, Neg, Plus, Minus, Times}
+use Rattle.sm_syntax.specs.claim.Meaning.{value_of}
+use Rattle.sm_syntax.specs.text.Sorts.{IsWellSortedExpression}
+use Rattle.sm_syntax.specs.claim.Stores as plain
+use Rattle.sm_syntax.specs.claim.Stores.{number}
+use Rattle.sm_syntax.specs.claim.Syntax.{Expression, Lit, Var, Read, Neg, Plus, Minus, Times}
 use Rattle.sm_eval.specs.declared.slot.Slot.{Slot}
 use Rattle.sm_eval.specs.declared.slot.Slot.TheVariants.{Absent, Number, Array}
 use Rattle.sm_eval.specs.declared.store.Store.{Store}

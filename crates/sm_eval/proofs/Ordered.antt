@@ -11,7 +11,7 @@ use Rattle.std.proofs.lemmas.Cmp.{int_ranked}
 use Rattle.std.proofs.lemmas.List.{length-set, get_or-set_same, get_or-set_other}
 use Rattle.std.proofs.lemmas.List.Sorted.{IsNonDecreasingBy-from_default}
 use Rattle.std.proofs.lemmas.List.Edits.{length-insert, get_or-insert_below, get_or-insert_at, get_or-insert_above, length-remove, get_or-remove_below, get_or-remove_above}
-use Rattle.sm_syntax.specs.Stores.{with_element}
+use Rattle.sm_syntax.specs.claim.Stores.{with_element}
 use Rattle.sm_eval.specs.Cells.{listed, index_at, number_at, IsAscending, AreCells}
 use Rattle.sm_eval.specs.Places.{IsAt, IsGapFor}
 use Rattle.sm_eval.proofs.Integers.{not_below_itself, ranks_rise}

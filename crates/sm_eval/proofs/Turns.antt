@@ -1,8 +1,8 @@
 -- Events and ends of code in its parts.
 use Rattle.std.proofs.Common.{◌≡◌, ◌-◌, ℕ, zero, suc, Bool, true, Option, Some, None, Ok, Err, refl, ap, arith}
-use Rattle.sm_syntax.specs.Meaning.{truth_of, turns}
-use Rattle.sm_syntax.specs.Stores.{Store}
-use Rattle.sm_syntax.specs.Syntax.{Condition}
+use Rattle.sm_syntax.specs.claim.Meaning.{truth_of, turns}
+use Rattle.sm_syntax.specs.claim.Stores.{Store}
+use Rattle.sm_syntax.specs.claim.Syntax.{Condition}
 use Rattle.sm_eval.specs.declared.error.EvalError.{EvalError}
 use Rattle.sm_eval.specs.Events.{condition_event, turns_event, answer}
 

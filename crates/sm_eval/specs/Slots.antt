@@ -3,8 +3,8 @@
 use Rattle.std.specs.Prelude.{ℕ, ℤ, Option, Some, None, List, slice_index_or}
 use Rattle.sm_syntax.specs.declared.tree.Sort.{Sort}
 use Rattle.sm_syntax.specs.declared.tree.Sort.TheVariants.{Num, Arr}
-use Rattle.sm_syntax.specs.Stores as plain
-use Rattle.sm_syntax.specs.Sorts.{Sorts}
+use Rattle.sm_syntax.specs.claim.Stores as plain
+use Rattle.sm_syntax.specs.text.Sorts.{Sorts}
 use Rattle.sm_eval.specs.declared.slot.Slot.{Slot}
 use Rattle.sm_eval.specs.declared.slot.Slot.TheVariants.{Absent, Number, Array}
 use Rattle.sm_eval.specs.declared.store.Store.{Store}

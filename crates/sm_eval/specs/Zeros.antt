@@ -3,8 +3,8 @@ use Rattle.std.specs.Prelude.{◌≡◌, ◌==◌, ℕ, ℤ, pos, if◌then◌el
 use Rattle.std.specs.Option.{option_or}
 use Rattle.sm_syntax.specs.declared.tree.Sort.{Sort}
 use Rattle.sm_syntax.specs.declared.tree.Sort.TheVariants.{Num, Arr}
-use Rattle.sm_syntax.specs.Stores.{Value, Number, Array, zero_value, Store}
-use Rattle.sm_syntax.specs.Sorts.{Sorts}
+use Rattle.sm_syntax.specs.claim.Stores.{Value, Number, Array, zero_value, Store}
+use Rattle.sm_syntax.specs.text.Sorts.{Sorts}
 use Rattle.sm_eval.specs.declared.slot.Slot.{Slot}
 use Rattle.sm_eval.specs.Slots.{values, sorts}
 

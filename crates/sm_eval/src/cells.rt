@@ -1,6 +1,6 @@
 // The numbers of an array, but for those that are 0, in the order of their indices.
 ghost use Rattle.std.specs.Prelude.{◌≡◌, [], IfOk, IfErr, OnOk, OnErr};
-ghost use Rattle.sm_syntax.specs.Stores.{with_element};
+ghost use Rattle.sm_syntax.specs.claim.Stores.{with_element};
 ghost use Rattle.sm_eval.specs.Cells.{listed, AreCells};
 ghost use Rattle.sm_eval.specs.Places.{IsAt, IsGapFor};
 

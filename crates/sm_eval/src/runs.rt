@@ -1,10 +1,10 @@
 // Runs of programs.
 ghost use Rattle.std.specs.Prelude.{◌≡◌, ◌⊎◌, Some, None, IfOk, IfErr, OnOk};
-ghost use Rattle.sm_syntax.specs.Meaning.{run};
-ghost use Rattle.sm_syntax.specs.Sorts.{IsWellSortedExpression, IsWellSortedCondition};
-ghost use Rattle.sm_syntax.specs.Sorts.{IsWellSorted};
-ghost use Rattle.sm_syntax.specs.Syntax.{End, Write, While};
-ghost use Rattle.sm_syntax.specs.Views.{expression_of, condition_of, statement_of, code_of};
+ghost use Rattle.sm_syntax.specs.claim.Meaning.{run};
+ghost use Rattle.sm_syntax.specs.text.Sorts.{IsWellSortedExpression, IsWellSortedCondition};
+ghost use Rattle.sm_syntax.specs.text.Sorts.{IsWellSorted};
+ghost use Rattle.sm_syntax.specs.claim.Syntax.{End, Write, While};
+ghost use Rattle.sm_syntax.specs.trees.Views.{expression_of, condition_of, statement_of, code_of};
 ghost use Rattle.sm_eval.specs.Events.{event};
 ghost use Rattle.sm_eval.specs.Slots.{meaning, sorts_of};
 

@@ -2,10 +2,10 @@
 #![tactic(auto, unfolding(crate::specs::Slots::meaning, crate::specs::Slots::sorts_of))]
 
 ghost use Rattle.std.specs.Prelude.{◌≡◌, ◌≢◌, ◌≤◌, ℕ, Some, None, IfOk, OnOk, OnErr, vec_len};
-ghost use Rattle.sm_syntax.specs.Parts.{sort_of};
-ghost use Rattle.sm_syntax.specs.Programs.{declared_of};
-ghost use Rattle.sm_syntax.specs.Stores as plain;
-ghost use Rattle.sm_syntax.specs.Stores.{put};
+ghost use Rattle.sm_syntax.specs.text.Parts.{sort_of};
+ghost use Rattle.sm_syntax.specs.trees.Programs.{declared_of};
+ghost use Rattle.sm_syntax.specs.claim.Stores as plain;
+ghost use Rattle.sm_syntax.specs.claim.Stores.{put};
 ghost use Rattle.sm_eval.specs.Cells.{listed, AreCells};
 ghost use Rattle.sm_eval.specs.Slots.{slot_of, meaning, sorts_of, with_cell};
 ghost use Rattle.sm_eval.specs.Zeros.{zeros, AreZero, Declares};

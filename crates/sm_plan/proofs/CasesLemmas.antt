@@ -2,12 +2,12 @@
 use Rattle.std.proofs.Common.{◌≡◌, ℕ, false, pos, Option, Some, None, option_map, Ok, [], ◌∷◌, ◌++◌, length, refl, ⊎_elim, arith}
 use Rattle.std.specs.Prelude.{Contains}
 use Rattle.std.proofs.lemmas.Int.{ints}
-use Rattle.sm_syntax.specs.Stores.{Number, Store, put}
-use Rattle.sm_syntax.specs.Meaning.{run}
+use Rattle.sm_syntax.specs.claim.Stores.{Number, Store, put}
+use Rattle.sm_syntax.specs.claim.Meaning.{run}
 use Rattle.sm_syntax.specs.declared.tree.Sort.{Sort}
 use Rattle.sm_syntax.specs.declared.tree.Sort.TheVariants.{Num}
-use Rattle.sm_syntax.specs.Keeps.{Scalar}
-use Rattle.sm_syntax.specs.ConflictFree.{Copy, O, A, B, M, ConflictFree, program_of}
+use Rattle.sm_syntax.specs.claim.Keeps.{Scalar}
+use Rattle.sm_syntax.specs.claim.ConflictFree.{Copy, O, A, B, M, ConflictFree, program_of}
 use Rattle.sm_term.specs.Structures.{Structure}
 use Rattle.sm_term.specs.Assertions.{No}
 use Rattle.sm_plan.specs.Limits.{is_kept, is_shallow}

@@ -2,7 +2,7 @@
 use Rattle.std.proofs.Common.{◌≡◌, ◌⊎◌, Bool, true, false, ◌&&◌, ◌||◌, cond, List, [], ◌∷◌, ◌++◌, map, inl, inr, refl, ap, sym, ◌∙◌, subst}
 use Rattle.std.specs.List.{filter, flat_map}
 use Rattle.std.proofs.lemmas.Bool.{and_parts, cases_Bool}
-use Rattle.sm_syntax.specs.ConflictFree.{Copy, O, A, B, M}
+use Rattle.sm_syntax.specs.claim.ConflictFree.{Copy, O, A, B, M}
 use Rattle.sm_plan.specs.Copies.{Copies, each, has, with_copy, copies_that, is_inhabited, choices, all_subsets, subsets}
 
 -- what holds of new values for one copy, and of the old ones for each copy

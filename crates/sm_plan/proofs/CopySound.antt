@@ -3,12 +3,12 @@ use Rattle.std.proofs.Common.{◌≡◌, ◌⊎◌, ℕ, Bool, true, false, ◌|
 use Rattle.std.proofs.Math.Path.{fun_ext}
 use Rattle.std.proofs.lemmas.Option.{same_Some}
 use Rattle.std.proofs.lemmas.Bool.{eqb-true}
-use Rattle.sm_syntax.specs.Conditions.{is_in}
-use Rattle.sm_syntax.specs.Syntax.{Condition, Code, End, Skip, Assign, Write, If, While, Hole, append}
-use Rattle.sm_syntax.specs.Stores.{Value, Array, number, array, Store, put, with_element}
-use Rattle.sm_syntax.specs.Meaning.{value_of, truth_of, and_then, run}
+use Rattle.sm_syntax.specs.text.Conditions.{is_in}
+use Rattle.sm_syntax.specs.claim.Syntax.{Condition, Code, End, Skip, Assign, Write, If, While, Hole, append}
+use Rattle.sm_syntax.specs.claim.Stores.{Value, Array, number, array, Store, put, with_element}
+use Rattle.sm_syntax.specs.claim.Meaning.{value_of, truth_of, and_then, run}
 use Rattle.sm_syntax.specs.Assigns.{assigns}
-use Rattle.sm_syntax.specs.ConflictFree.{Copy}
+use Rattle.sm_syntax.specs.claim.ConflictFree.{Copy}
 use Rattle.sm_syntax.proofs.Appends.{run-append}
 use Rattle.sm_syntax.proofs.Unassigned.{unassigned}
 use Rattle.sm_deps.specs.Inputs.{inputs}

@@ -2,8 +2,8 @@
 use Rattle.std.proofs.Common.{◌≡◌, ℤ, pos, ◌+ℤ◌, Ok, refl, ap, sym, ◌∙◌, arith}
 use Rattle.std.specs.Prelude.{◌≤ℤ◌, ◌<ℤ◌}
 use Rattle.std.proofs.lemmas.Int.{ints}
-use Rattle.sm_syntax.specs.Stores.{number}
-use Rattle.sm_syntax.specs.ConflictFree.{A, M}
+use Rattle.sm_syntax.specs.claim.Stores.{number}
+use Rattle.sm_syntax.specs.claim.ConflictFree.{A, M}
 use Rattle.sm_deps.specs.Inputs.{inputs}
 use Rattle.sm_term.specs.Terms.{Start, Havoc}
 use Rattle.sm_term.specs.Structures.{Structure, meaning}

@@ -4,11 +4,11 @@ use Rattle.std.specs.List.{flat_map}
 use Rattle.std.proofs.Math.Path.{fun_ext}
 use Rattle.std.proofs.lemmas.Option.{same_Some}
 use Rattle.std.proofs.lemmas.Bool.{and_parts, cases_Bool}
-use Rattle.sm_syntax.specs.Syntax.{Code, End, While}
-use Rattle.sm_syntax.specs.Stores.{Store}
-use Rattle.sm_syntax.specs.Meaning.{truth_of, turns, run}
+use Rattle.sm_syntax.specs.claim.Syntax.{Code, End, While}
+use Rattle.sm_syntax.specs.claim.Stores.{Store}
+use Rattle.sm_syntax.specs.claim.Meaning.{truth_of, turns, run}
 use Rattle.sm_syntax.specs.Assigns.{assigns}
-use Rattle.sm_syntax.specs.ConflictFree.{Copy}
+use Rattle.sm_syntax.specs.claim.ConflictFree.{Copy}
 use Rattle.sm_syntax.proofs.Unassigned.{unassigned}
 use Rattle.sm_term.specs.Terms.{Havoc}
 use Rattle.sm_term.specs.Structures.{Structure, meaning, with_slots, with_havoc}

@@ -2,7 +2,7 @@
 use Rattle.std.proofs.Common.{◌≡◌, ◌≤◌, ℕ, suc, ◌+◌, ◌==◌, Bool, true, false, if◌then◌else◌, max, Some, Result, Ok, Err, List, [], ◌∷◌, ◌++◌, length, refl, ap, sym, ◌∙◌, subst, arith, eq-eqb}
 use Rattle.std.proofs.lemmas.Bool.Decides.{nat_tests}
 use Rattle.std.proofs.lemmas.List.{append_assoc, append-nil}
-use Rattle.sm_syntax.specs.ConflictFree.{Task}
+use Rattle.sm_syntax.specs.claim.ConflictFree.{Task}
 use Rattle.sm_term.specs.Assertions.{Assertion}
 use Rattle.sm_plan.specs.Limits.{is_shallow}
 use Rattle.sm_plan.specs.States.{State, start_state}

@@ -4,10 +4,10 @@ use Rattle.std.specs.Prelude.{Contains, All}
 use Rattle.std.proofs.lemmas.List.Elements.{All-nil, All-cons, All-contains}
 use Rattle.std.specs.List.{flat_map}
 use Rattle.sm_syntax.specs.declared.tree.Sort.{Sort}
-use Rattle.sm_syntax.specs.Syntax.{Condition}
-use Rattle.sm_syntax.specs.Stores.{number, zero_value, Store}
-use Rattle.sm_syntax.specs.Keeps.{KeepsChange, Keeps, Cell, Scalar, Element, variable}
-use Rattle.sm_syntax.specs.ConflictFree.{Copy, O, A, B, M, Meets, Task, ConflictFree}
+use Rattle.sm_syntax.specs.claim.Syntax.{Condition}
+use Rattle.sm_syntax.specs.claim.Stores.{number, zero_value, Store}
+use Rattle.sm_syntax.specs.claim.Keeps.{KeepsChange, Keeps, Cell, Scalar, Element, variable}
+use Rattle.sm_syntax.specs.claim.ConflictFree.{Copy, O, A, B, M, Meets, Task, ConflictFree}
 use Rattle.sm_syntax.proofs.Kept.{int_cases}
 use Rattle.sm_term.specs.Terms.{Tree}
 use Rattle.sm_term.specs.Structures.{Structure, meaning, with_slots}

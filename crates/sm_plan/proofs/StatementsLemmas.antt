@@ -1,9 +1,9 @@
 -- Runs that are cut into parts.
 use Rattle.std.proofs.Common.{◌≡◌, ◌⊎◌, ℕ, zero, suc, Bool, true, false, if◌then◌else◌, Option, Some, None, inl, inr, refl, ap, sym, ◌∙◌, subst, ⊎_elim}
 use Rattle.std.proofs.lemmas.Option.{same_Some}
-use Rattle.sm_syntax.specs.Syntax.{Condition, Code, End, Skip, Assign, Write, If, While, Hole, append}
-use Rattle.sm_syntax.specs.Stores.{Store, put}
-use Rattle.sm_syntax.specs.Meaning.{value_of, truth_of, and_then, turns, written, run}
+use Rattle.sm_syntax.specs.claim.Syntax.{Condition, Code, End, Skip, Assign, Write, If, While, Hole, append}
+use Rattle.sm_syntax.specs.claim.Stores.{Store, put}
+use Rattle.sm_syntax.specs.claim.Meaning.{value_of, truth_of, and_then, turns, written, run}
 use Rattle.sm_syntax.proofs.Appends.{run-append}
 use Rattle.sm_plan.specs.Statements.{is_over, front, rest_after, is_loop, loop_guard, loop_body, last_guard}
 

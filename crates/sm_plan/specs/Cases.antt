@@ -14,11 +14,11 @@ use Rattle.std.specs.Prelude.{◌≡◌, ℕ, suc, pos, true, false, Option, Som
 use Rattle.std.specs.Prelude.{List, [], ◌∷◌, ◌++◌, length}
 use Rattle.sm_syntax.specs.declared.tree.Cmp.TheVariants as cmp
 use Rattle.sm_syntax.specs.declared.tree.Sort.TheVariants.{Num}
-use Rattle.sm_syntax.specs.Syntax.{Condition, Code, End, Skip, Assign, While, Hole, Compare}
-use Rattle.sm_syntax.specs.Syntax.{Expression, Var, Lit, Plus, Minus}
-use Rattle.sm_syntax.specs.Syntax as syntax
-use Rattle.sm_syntax.specs.Parts.{by_copy}
-use Rattle.sm_syntax.specs.ConflictFree.{Copy, O, A, B, M, Task, ConflictFree}
+use Rattle.sm_syntax.specs.claim.Syntax.{Condition, Code, End, Skip, Assign, While, Hole, Compare}
+use Rattle.sm_syntax.specs.claim.Syntax.{Expression, Var, Lit, Plus, Minus}
+use Rattle.sm_syntax.specs.claim.Syntax as syntax
+use Rattle.sm_syntax.specs.text.Parts.{by_copy}
+use Rattle.sm_syntax.specs.claim.ConflictFree.{Copy, O, A, B, M, Task, ConflictFree}
 use Rattle.sm_term.specs.Assertions.{Yes, No}
 use Rattle.sm_plan.specs.Copies.{Copies, copies_that}
 use Rattle.sm_plan.specs.States.{State, start_state}

@@ -1,8 +1,8 @@
 -- Cited by public clauses: sets of copies, and what is said of one copy or of each.
 use Rattle.std.specs.Prelude.{Bool, true, false, ◌&&◌, ◌||◌, if◌then◌else◌, List, [], ◌∷◌, map}
 use Rattle.std.specs.List.{filter, flat_map}
-use Rattle.sm_syntax.specs.ConflictFree.{Copy, O, A, B, M}
-use Rattle.sm_syntax.specs.Parts.{by_copy}
+use Rattle.sm_syntax.specs.claim.ConflictFree.{Copy, O, A, B, M}
+use Rattle.sm_syntax.specs.text.Parts.{by_copy}
 
 -- the copies, ascending
 abbrev pub copies : List Copy

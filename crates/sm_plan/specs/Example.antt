@@ -5,10 +5,10 @@
 use Rattle.std.specs.Prelude.{◌≡◌, ℕ, pos, true, false, None, Ok, List, [], ◌∷◌}
 use Rattle.sm_syntax.specs.declared.tree.Cmp.TheVariants as cmp
 use Rattle.sm_syntax.specs.declared.tree.Sort.TheVariants.{Num}
-use Rattle.sm_syntax.specs.Syntax.{Code, End, Assign, While, Hole, Compare, Var, Plus}
-use Rattle.sm_syntax.specs.Syntax as syntax
-use Rattle.sm_syntax.specs.Parts.{by_copy}
-use Rattle.sm_syntax.specs.ConflictFree.{Copy, O, A, B, M, Task, ConflictFree}
+use Rattle.sm_syntax.specs.claim.Syntax.{Code, End, Assign, While, Hole, Compare, Var, Plus}
+use Rattle.sm_syntax.specs.claim.Syntax as syntax
+use Rattle.sm_syntax.specs.text.Parts.{by_copy}
+use Rattle.sm_syntax.specs.claim.ConflictFree.{Copy, O, A, B, M, Task, ConflictFree}
 use Rattle.sm_term.specs.Terms.{Tree, Lit, Start, Havoc, Slot, Add, Fun, Arguments, Given}
 use Rattle.sm_term.specs.Terms as term
 use Rattle.sm_term.specs.Assertions.{Assertion, No, Eq, Ne, Le, Lt, And, Or}

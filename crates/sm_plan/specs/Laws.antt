@@ -1,7 +1,7 @@
 -- Cited by public clauses: what plans prove.
 use Rattle.std.specs.Prelude.{bit_and, map, ◌==◌, ◌≡◌, ℕ, suc, Some, Ok, List}
 use Rattle.std.specs.List.{filter, range_with_len}
-use Rattle.sm_syntax.specs.ConflictFree.{Task, ConflictFree}
+use Rattle.sm_syntax.specs.claim.ConflictFree.{Task, ConflictFree}
 use Rattle.sm_term.specs.Fresh.{AreFormsBelow}
 use Rattle.sm_plan.specs.Copies.{Copies, subsets}
 use Rattle.sm_plan.specs.Masks.{mask_of, set_of}

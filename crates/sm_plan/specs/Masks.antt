@@ -1,7 +1,7 @@
 -- Cited by public clauses: sets of copies as the masks of a proof, in which each copy has its bit.
 use Rattle.std.specs.Prelude.{ℕ, ◌+◌, ◌==◌, bit_and, Bool, if◌then◌else◌}
-use Rattle.sm_syntax.specs.ConflictFree.{Copy}
-use Rattle.sm_syntax.specs.Parts.{by_copy}
+use Rattle.sm_syntax.specs.claim.ConflictFree.{Copy}
+use Rattle.sm_syntax.specs.text.Parts.{by_copy}
 use Rattle.sm_plan.specs.Copies.{Copies, copies_that}
 
 -- the bit of a copy

@@ -3,7 +3,7 @@
 -- valid: the lines of a proof file, which name terms by numbers and show each goal by a
 -- certificate, are not spoken of here.
 use Rattle.std.specs.Prelude.{◌≡◌, ℕ, suc, if◌then◌else◌, IsTrue, Some, List, [], ◌∷◌, ◌++◌, map}
-use Rattle.sm_syntax.specs.ConflictFree.{Task}
+use Rattle.sm_syntax.specs.claim.ConflictFree.{Task}
 use Rattle.sm_plan.specs.Limits.{is_shallow}
 use Rattle.sm_plan.specs.States.{State, start_state}
 use Rattle.sm_plan.specs.Nodes.{Node, Opened, opens, is_branching, IsFreshAt}

@@ -1,8 +1,8 @@
 -- Cited by public clauses: what a state claims of runs, and which new values it names.
 use Rattle.std.specs.Prelude.{◌≡◌, ℕ, Some, List, [], ◌∷◌}
-use Rattle.sm_syntax.specs.Stores.{Store}
-use Rattle.sm_syntax.specs.Meaning.{run}
-use Rattle.sm_syntax.specs.ConflictFree.{Copy}
+use Rattle.sm_syntax.specs.claim.Stores.{Store}
+use Rattle.sm_syntax.specs.claim.Meaning.{run}
+use Rattle.sm_syntax.specs.claim.ConflictFree.{Copy}
 use Rattle.sm_term.specs.Structures.{Structure, with_slots}
 use Rattle.sm_term.specs.Assertions.{AllHold}
 use Rattle.sm_term.specs.Symbolic.{store_meant}

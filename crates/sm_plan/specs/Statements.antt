@@ -2,8 +2,8 @@
 -- both.
 use Rattle.std.specs.Prelude.{ℕ, zero, suc, Bool, true, false, if◌then◌else◌}
 use Rattle.std.specs.Prelude.{Option, Some, None, is_some, is_none}
-use Rattle.sm_syntax.specs.Syntax as code
-use Rattle.sm_syntax.specs.Syntax.{Expression, Condition, No, Code, End}
+use Rattle.sm_syntax.specs.claim.Syntax as code
+use Rattle.sm_syntax.specs.claim.Syntax.{Expression, Condition, No, Code, End}
 
 -- one statement, with its blocks as code
 pub data Statement : Type 0 where

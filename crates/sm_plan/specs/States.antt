@@ -3,8 +3,8 @@ use Rattle.std.specs.Prelude.{ℕ, Bool, true, Option, Some, None, List, [], ◌
 use Rattle.std.specs.List.{flat_map}
 use Rattle.sm_syntax.specs.declared.tree.Sort.{Sort}
 use Rattle.sm_syntax.specs.declared.tree.Sort.TheVariants.{Num, Arr}
-use Rattle.sm_syntax.specs.Syntax.{Condition, Code}
-use Rattle.sm_syntax.specs.ConflictFree.{Copy, O, A, B, M, Task, program_of}
+use Rattle.sm_syntax.specs.claim.Syntax.{Condition, Code}
+use Rattle.sm_syntax.specs.claim.ConflictFree.{Copy, O, A, B, M, Task, program_of}
 use Rattle.sm_term.specs.Terms.{Tree, Start, Slot, Cell, Read}
 use Rattle.sm_term.specs.Assertions.{Assertion, Eq, Ne, Or, conj}
 use Rattle.sm_term.specs.Symbolic.{SymbolicStore, form_of}

@@ -1,10 +1,10 @@
 -- Cited by public clauses: the states that follow a node of a plan.
 use Rattle.std.specs.Prelude.{ℕ, false, if◌then◌else◌, Option, Some, None, List, [], ◌∷◌, ◌++◌}
 use Rattle.std.specs.List.{flat_map}
-use Rattle.sm_syntax.specs.Syntax.{Condition, Code, End, Skip, Assign, If, While, Hole}
-use Rattle.sm_syntax.specs.Syntax as syntax
+use Rattle.sm_syntax.specs.claim.Syntax.{Condition, Code, End, Skip, Assign, If, While, Hole}
+use Rattle.sm_syntax.specs.claim.Syntax as syntax
 use Rattle.sm_syntax.specs.Assigns.{assigns}
-use Rattle.sm_syntax.specs.ConflictFree.{Copy}
+use Rattle.sm_syntax.specs.claim.ConflictFree.{Copy}
 use Rattle.sm_deps.specs.Inputs.{inputs}
 use Rattle.sm_term.specs.Terms.{Havoc, Write, Fun, Arguments, Over, Given}
 use Rattle.sm_term.specs.Assertions.{Assertion, negate, conj}

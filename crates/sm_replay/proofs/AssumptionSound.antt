@@ -3,9 +3,9 @@ use Rattle.std.proofs.Common.{◌≡◌, ℤ, pos, Bool, true, false, if◌then�
 use Rattle.sm_num.specs.declared.op.Op.{Op}
 use Rattle.sm_num.specs.declared.op.Op.TheVariants.{Add, Sub, Mul}
 use Rattle.sm_num.specs.Range.{fits}
-use Rattle.sm_syntax.specs.Meaning.{value_of, truth_of}
-use Rattle.sm_syntax.specs.Stores.{Store, number}
-use Rattle.sm_syntax.specs.Syntax.{Expression, Lit, Var, Read, Neg, Plus, Minus, Times, Condition, Yes, No, Compare, Not, And, Or}
+use Rattle.sm_syntax.specs.claim.Meaning.{value_of, truth_of}
+use Rattle.sm_syntax.specs.claim.Stores.{Store, number}
+use Rattle.sm_syntax.specs.claim.Syntax.{Expression, Lit, Var, Read, Neg, Plus, Minus, Times, Condition, Yes, No, Compare, Not, And, Or}
 use Rattle.sm_eval.specs.declared.error.EvalError.{EvalError}
 use Rattle.sm_eval.specs.declared.error.EvalError.TheVariants as eval
 use Rattle.sm_eval.specs.Events.{exact, leaves, before, expression_event, condition_event, answer}

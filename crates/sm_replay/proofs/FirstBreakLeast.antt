@@ -4,10 +4,10 @@ use Rattle.std.specs.Option.{IfSome}
 use Rattle.std.specs.Ordering.{int_eq}
 use Rattle.std.proofs.lemmas.Bool.{cases_eq}
 use Rattle.std.proofs.lemmas.Bool.Decides.{Decides-int_eq}
-use Rattle.sm_syntax.specs.ConflictFree.{Copy, O, A, B, M}
-use Rattle.sm_syntax.specs.FirstBroken.{IsFirstBroken}
-use Rattle.sm_syntax.specs.Keeps.{Keeps, Cell, Element, content}
-use Rattle.sm_syntax.specs.Stores.{Value, Array, array, Store}
+use Rattle.sm_syntax.specs.claim.ConflictFree.{Copy, O, A, B, M}
+use Rattle.sm_syntax.specs.trees.FirstBroken.{IsFirstBroken}
+use Rattle.sm_syntax.specs.claim.Keeps.{Keeps, Cell, Element, content}
+use Rattle.sm_syntax.specs.claim.Stores.{Value, Array, array, Store}
 use Rattle.sm_eval.specs.Cells.{listed, index_at}
 use Rattle.sm_replay.specs.FirstBreak.{IsUpTo}
 use Rattle.sm_replay.specs.Violations.{KeepsAt}

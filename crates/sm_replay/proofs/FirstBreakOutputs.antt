@@ -7,10 +7,10 @@ use Rattle.std.specs.Option.{unwrap_or}
 use Rattle.sm_syntax.specs.declared.tree.Name.{Name}
 use Rattle.sm_syntax.specs.declared.tree.Sort.{Sort}
 use Rattle.sm_syntax.specs.declared.tree.Sort.TheVariants.{Num}
-use Rattle.sm_syntax.specs.ConflictFree.{Copy}
-use Rattle.sm_syntax.specs.Keeps.{Cell, variable}
-use Rattle.sm_syntax.specs.Sorts.{Sorts}
-use Rattle.sm_syntax.specs.Stores.{Store}
+use Rattle.sm_syntax.specs.claim.ConflictFree.{Copy}
+use Rattle.sm_syntax.specs.claim.Keeps.{Cell, variable}
+use Rattle.sm_syntax.specs.text.Sorts.{Sorts}
+use Rattle.sm_syntax.specs.claim.Stores.{Store}
 use Rattle.sm_replay.specs.FirstBreak.{sorted_by, IsBreakOf}
 use Rattle.sm_replay.specs.Verdicts.{IsFirstBreak}
 use Rattle.sm_replay.specs.Violations.{KeepsAt}

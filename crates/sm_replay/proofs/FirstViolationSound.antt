@@ -3,8 +3,8 @@ use Rattle.std.proofs.Common.{◌≡◌, ◌<◌, ℕ, Option, Some, None, List,
 use Rattle.std.specs.List.{slice_index_or}
 use Rattle.std.specs.Option.{IfNone, IfSome}
 use Rattle.sm_par.specs.Results.{StandInOrder}
-use Rattle.sm_syntax.specs.ConflictFree.{Task}
-use Rattle.sm_syntax.specs.Sorts.{Sorts}
+use Rattle.sm_syntax.specs.claim.ConflictFree.{Task}
+use Rattle.sm_syntax.specs.text.Sorts.{Sorts}
 use Rattle.sm_replay.specs.declared.verdict.Verdict.{Verdict}
 use Rattle.sm_replay.specs.Trials.{trial, trials, IsFirstViolation}
 use Rattle.sm_replay.specs.TrialJobs.{Shows, IsFirstThere}

@@ -18,8 +18,8 @@ use Rattle.serde_json.specs.Written.{has_float, members_have_float}
 use Rattle.sm_num.specs.Range.{fits}
 use Rattle.sm_syntax.specs.declared.tree.Sort.{Sort}
 use Rattle.sm_syntax.specs.declared.tree.Sort.TheVariants.{Num, Arr}
-use Rattle.sm_syntax.specs.Sorts.{Sorts}
-use Rattle.sm_syntax.specs.Stores.{Value, Number, Array, zero_value, Store}
+use Rattle.sm_syntax.specs.text.Sorts.{Sorts}
+use Rattle.sm_syntax.specs.claim.Stores.{Value, Number, Array, zero_value, Store}
 use Rattle.sm_eval.specs.Cells.{listed}
 use Rattle.sm_eval.specs.Slots as slots
 use Rattle.sm_eval.specs.Slots.{meaning, sorts_of}

@@ -21,9 +21,9 @@ use Rattle.serde_json.specs.declared.value.Value.{Object, Value as Json}
 use Rattle.serde_json.proofs.Views.{view-Object, get_member-put, get_member-put_other}
 use Rattle.sm_syntax.specs.declared.tree.Name.{Name}
 use Rattle.sm_syntax.specs.declared.tree.Sort.{Sort}
-use Rattle.sm_syntax.specs.Parts.{sort_of}
-use Rattle.sm_syntax.specs.Sorts.{Sorts}
-use Rattle.sm_syntax.specs.Stores.{Array, Store}
+use Rattle.sm_syntax.specs.text.Parts.{sort_of}
+use Rattle.sm_syntax.specs.text.Sorts.{Sorts}
+use Rattle.sm_syntax.specs.claim.Stores.{Array, Store}
 use Rattle.sm_eval.specs.Cells.{listed, AreCells}
 use Rattle.sm_eval.proofs.Ordered.{listed_at}
 use Rattle.sm_replay.specs.Input.{Texts, declared_name, IsJson}

@@ -8,8 +8,8 @@ use Rattle.std.specs.Ordering.{match_ordering, ordering_reverse}
 use Rattle.serde_json.specs.Data.{Data, object, Members, no_members, member}
 use Rattle.serde_json.specs.Find.{as_object, get_member}
 use Rattle.sm_syntax.specs.declared.tree.Sort.{Sort}
-use Rattle.sm_syntax.specs.Sorts.{Sorts}
-use Rattle.sm_syntax.specs.Stores.{Value, Number, Array, Store}
+use Rattle.sm_syntax.specs.text.Sorts.{Sorts}
+use Rattle.sm_syntax.specs.claim.Stores.{Value, Number, Array, Store}
 use Rattle.sm_eval.specs.declared.store.Store as code
 use Rattle.sm_replay.specs.declared.error.InputError.{InputError}
 use Rattle.sm_replay.specs.declared.error.InputError.TheVariants.{BadJson, NotObject, UnknownKey, BadValue, BadIndex, Memory}

@@ -19,8 +19,8 @@ use Rattle.serde_json.specs.View.{view, members_view}
 use Rattle.serde_json.proofs.Views.{Entry, member_here, member_later}
 use Rattle.sm_num.specs.Range.{fits}
 use Rattle.sm_syntax.specs.declared.tree.Sort.{Sort}
-use Rattle.sm_syntax.specs.Sorts.{Sorts}
-use Rattle.sm_syntax.specs.Symbols.{is_among}
+use Rattle.sm_syntax.specs.text.Sorts.{Sorts}
+use Rattle.sm_syntax.specs.text.Symbols.{is_among}
 use Rattle.sm_replay.specs.Updates.{Lists}
 use Rattle.sm_replay.specs.Input.{Texts, declared_name, number_or_zero, elements, cell_given}
 use Rattle.sm_replay.specs.Number.{number_of_text}

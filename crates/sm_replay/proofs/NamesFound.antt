@@ -6,8 +6,8 @@ use Rattle.std.specs.Prelude.{unwrap_or}
 use Rattle.std.specs.Str.{bytes_eq}
 use Rattle.sm_syntax.specs.declared.symbol.Symbol.{Symbol}
 use Rattle.sm_syntax.specs.declared.tree.Sort.{Sort}
-use Rattle.sm_syntax.specs.Parts.{sort_of}
-use Rattle.sm_syntax.specs.Symbols.{is_among, names_of}
+use Rattle.sm_syntax.specs.text.Parts.{sort_of}
+use Rattle.sm_syntax.specs.text.Symbols.{is_among, names_of}
 use Rattle.sm_syntax.proofs.Numbering.{slice_get-number}
 use Rattle.sm_text.proofs.Content.{content_declared, content_of_task, task_content}
 use Rattle.sm_text.proofs.ReadsBack.{AllIn, text_content}

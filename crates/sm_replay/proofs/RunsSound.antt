@@ -3,10 +3,10 @@ use Rattle.std.proofs.Common.{◌≡◌, ℕ, Ok, Err, sym, subst, ◌∙◌, �
 use Rattle.std.proofs.Math.Path.{fun_ext}
 use Rattle.sm_syntax.specs.declared.copies.PerCopy.{PerCopy}
 use Rattle.sm_syntax.specs.declared.tree.Block.{Block}
-use Rattle.sm_syntax.specs.ConflictFree.{Copy, O, Task, program_of}
-use Rattle.sm_syntax.specs.Sorts.{Sorts}
-use Rattle.sm_syntax.specs.Stores.{Store}
-use Rattle.sm_syntax.specs.Syntax.{Code}
+use Rattle.sm_syntax.specs.claim.ConflictFree.{Copy, O, Task, program_of}
+use Rattle.sm_syntax.specs.text.Sorts.{Sorts}
+use Rattle.sm_syntax.specs.claim.Stores.{Store}
+use Rattle.sm_syntax.specs.claim.Syntax.{Code}
 use Rattle.sm_eval.specs.declared.error.EvalError.{EvalError}
 use Rattle.sm_eval.specs.declared.error.EvalError.TheVariants as eval
 use Rattle.sm_eval.specs.declared.store.Store as code

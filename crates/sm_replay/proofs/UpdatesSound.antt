@@ -12,9 +12,9 @@ use Rattle.std.specs.Ordering.{int_eq}
 use Rattle.sm_syntax.specs.declared.tree.Name.{Name}
 use Rattle.sm_syntax.specs.declared.tree.Sort.{Sort}
 use Rattle.sm_syntax.specs.declared.tree.Sort.TheVariants.{Arr}
-use Rattle.sm_syntax.specs.Parts.{sort_of}
-use Rattle.sm_syntax.specs.Sorts.{Sorts}
-use Rattle.sm_syntax.specs.Stores.{Value, Array, array, Store, put}
+use Rattle.sm_syntax.specs.text.Parts.{sort_of}
+use Rattle.sm_syntax.specs.text.Sorts.{Sorts}
+use Rattle.sm_syntax.specs.claim.Stores.{Value, Array, array, Store, put}
 use Rattle.sm_syntax.proofs.Puts.{put_at, put_past}
 use Rattle.sm_eval.specs.declared.slot.Slot.{Slot}
 use Rattle.sm_eval.specs.declared.slot.Slot.TheVariants as slot

@@ -4,13 +4,13 @@ use Rattle.std.proofs.Math.Path.{fun_ext}
 use Rattle.std.proofs.lemmas.Bool.{cases_eq}
 use Rattle.std.proofs.lemmas.Option.{slice_get_within, get_or_from_slice_get}
 use Rattle.std.specs.List.{Contains, slice_get}
-use Rattle.sm_syntax.specs.ConflictFree.{Copy, Task, program_of, copy_of}
-use Rattle.sm_syntax.specs.FirstBroken.{IsFirstBroken}
-use Rattle.sm_syntax.specs.Keeps.{Keeps, KeepsChange, AddsNothing, Cell, variable}
-use Rattle.sm_syntax.specs.Meaning.{run}
-use Rattle.sm_syntax.specs.Sorts.{Sorts}
-use Rattle.sm_syntax.specs.Stores.{Store}
-use Rattle.sm_syntax.specs.Syntax.{Condition, Code}
+use Rattle.sm_syntax.specs.claim.ConflictFree.{Copy, Task, program_of, copy_of}
+use Rattle.sm_syntax.specs.trees.FirstBroken.{IsFirstBroken}
+use Rattle.sm_syntax.specs.claim.Keeps.{Keeps, KeepsChange, AddsNothing, Cell, variable}
+use Rattle.sm_syntax.specs.claim.Meaning.{run}
+use Rattle.sm_syntax.specs.text.Sorts.{Sorts}
+use Rattle.sm_syntax.specs.claim.Stores.{Store}
+use Rattle.sm_syntax.specs.claim.Syntax.{Condition, Code}
 use Rattle.sm_eval.specs.declared.error.EvalError.{EvalError}
 use Rattle.sm_replay.specs.declared.error.ReplayError.{ReplayError}
 use Rattle.sm_replay.specs.declared.error.ReplayError.TheVariants as stop

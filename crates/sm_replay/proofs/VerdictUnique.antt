@@ -6,11 +6,11 @@ use Rattle.std.specs.List.{slice_get}
 use Rattle.std.proofs.Common.{List}
 use Rattle.sm_syntax.specs.declared.tree.Sort.{Sort}
 use Rattle.sm_syntax.specs.declared.tree.Name.{Name}
-use Rattle.sm_syntax.specs.ConflictFree.{Copy, Task, program_of, copy_of}
-use Rattle.sm_syntax.specs.FirstBroken.{IsFirstBroken}
-use Rattle.sm_syntax.specs.Keeps.{Cell, Scalar, Element, variable}
-use Rattle.sm_syntax.specs.Stores.{Store}
-use Rattle.sm_syntax.specs.Syntax.{Code}
+use Rattle.sm_syntax.specs.claim.ConflictFree.{Copy, Task, program_of, copy_of}
+use Rattle.sm_syntax.specs.trees.FirstBroken.{IsFirstBroken}
+use Rattle.sm_syntax.specs.claim.Keeps.{Cell, Scalar, Element, variable}
+use Rattle.sm_syntax.specs.claim.Stores.{Store}
+use Rattle.sm_syntax.specs.claim.Syntax.{Code}
 use Rattle.sm_eval.specs.Events.{event}
 use Rattle.sm_eval.specs.declared.error.EvalError.{EvalError}
 use Rattle.sm_eval.specs.declared.error.EvalError.TheVariants as eval

@@ -1,7 +1,7 @@
 -- A violation is a conflict.
 use Rattle.std.proofs.Common.{ℕ}
-use Rattle.sm_syntax.specs.ConflictFree.{Task, ConflictFree}
-use Rattle.sm_syntax.specs.Stores.{Store}
+use Rattle.sm_syntax.specs.claim.ConflictFree.{Task, ConflictFree}
+use Rattle.sm_syntax.specs.claim.Stores.{Store}
 use Rattle.sm_replay.specs.Violations.{Violates}
 
 -- Keeps would hold at the cell at which it fails

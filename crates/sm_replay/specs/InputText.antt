@@ -9,8 +9,8 @@ use Rattle.std.specs.Str.{bytes_eq}
 use Rattle.serde_json.specs.Data.{Data, string, object, Members, no_members, member}
 use Rattle.serde_json.specs.Find.{get_member}
 use Rattle.sm_syntax.specs.declared.tree.Sort.{Sort}
-use Rattle.sm_syntax.specs.Sorts.{Sorts}
-use Rattle.sm_syntax.specs.Stores.{Value, Number, Array, Store}
+use Rattle.sm_syntax.specs.text.Sorts.{Sorts}
+use Rattle.sm_syntax.specs.claim.Stores.{Value, Number, Array, Store}
 use Rattle.sm_replay.specs.Input.{Texts, declared_name}
 use Rattle.sm_replay.specs.Number.{number_of_text}
 

@@ -1,8 +1,8 @@
 -- What an answer says of an assumption. No public clause cites it.
 use Rattle.std.specs.Prelude.{◌≡◌, Bool, true, false, Option, Some, None, Result, Ok, Err}
-use Rattle.sm_syntax.specs.Sorts.{Sorts, IsWellSortedCondition}
-use Rattle.sm_syntax.specs.Stores.{Store}
-use Rattle.sm_syntax.specs.Syntax.{Condition}
+use Rattle.sm_syntax.specs.text.Sorts.{Sorts, IsWellSortedCondition}
+use Rattle.sm_syntax.specs.claim.Stores.{Store}
+use Rattle.sm_syntax.specs.claim.Syntax.{Condition}
 use Rattle.sm_eval.specs.declared.error.EvalError.TheVariants as eval
 use Rattle.sm_replay.specs.declared.error.ReplayError.{ReplayError}
 use Rattle.sm_replay.specs.declared.error.ReplayError.TheVariants.{OutOfTurns, Beyond, BeyondAssumed, Memory}

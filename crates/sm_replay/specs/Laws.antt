@@ -2,12 +2,12 @@
 -- it.
 use Rattle.std.specs.Prelude.{◌≡◌, ◌≢◌, ℕ, Option, None, Result, Ok, Err, List}
 use Rattle.serde_json.specs.Data.{Members}
-use Rattle.sm_syntax.specs.Conditions.{first_refusal}
-use Rattle.sm_syntax.specs.ConflictFree.{Task, ConflictFree}
-use Rattle.sm_syntax.specs.Parts.{Parts, sort_of}
-use Rattle.sm_syntax.specs.Sorts.{Sorts}
-use Rattle.sm_syntax.specs.Spells.{Spells}
-use Rattle.sm_syntax.specs.Stores.{Store}
+use Rattle.sm_syntax.specs.text.Conditions.{first_refusal}
+use Rattle.sm_syntax.specs.claim.ConflictFree.{Task, ConflictFree}
+use Rattle.sm_syntax.specs.text.Parts.{Parts, sort_of}
+use Rattle.sm_syntax.specs.text.Sorts.{Sorts}
+use Rattle.sm_syntax.specs.text.Spells.{Spells}
+use Rattle.sm_syntax.specs.claim.Stores.{Store}
 use Rattle.sm_eval.specs.Slots.{meaning, sorts_of}
 use Rattle.sm_eval.specs.declared.store.Store as code
 use Rattle.sm_replay.specs.declared.error.InputError.{InputError}

@@ -3,14 +3,14 @@ use Rattle.std.specs.Prelude.{◌≡◌, ◌⊎◌, ℕ, Option, Some, None, Lis
 use Rattle.sm_syntax.specs.declared.copies.PerCopy.{PerCopy}
 use Rattle.sm_syntax.specs.declared.tree.Block.{Block}
 use Rattle.sm_syntax.specs.declared.tree.Sort.{Sort}
-use Rattle.sm_syntax.specs.Conditions.{first_sort_fault, names_used}
-use Rattle.sm_syntax.specs.ConflictFree.{Copy}
-use Rattle.sm_syntax.specs.Copies.{number_of, of_copy}
-use Rattle.sm_syntax.specs.Parts.{sort_of}
-use Rattle.sm_syntax.specs.Sorts.{Sorts}
-use Rattle.sm_syntax.specs.Stores.{Store}
-use Rattle.sm_syntax.specs.Syntax.{Code}
-use Rattle.sm_syntax.specs.Views.{code_of}
+use Rattle.sm_syntax.specs.text.Conditions.{first_sort_fault, names_used}
+use Rattle.sm_syntax.specs.claim.ConflictFree.{Copy}
+use Rattle.sm_syntax.specs.trees.Copies.{number_of, of_copy}
+use Rattle.sm_syntax.specs.text.Parts.{sort_of}
+use Rattle.sm_syntax.specs.text.Sorts.{Sorts}
+use Rattle.sm_syntax.specs.claim.Stores.{Store}
+use Rattle.sm_syntax.specs.claim.Syntax.{Code}
+use Rattle.sm_syntax.specs.trees.Views.{code_of}
 use Rattle.sm_eval.specs.declared.error.EvalError.{EvalError}
 use Rattle.sm_eval.specs.declared.error.EvalError.TheVariants as eval
 use Rattle.sm_eval.specs.declared.store.Store as code

@@ -1,10 +1,10 @@
 -- Tasks that may be run: each name stands as it is declared. Public clauses cite it.
 use Rattle.std.specs.Prelude.{ℕ, Option, Some, None, List, [], ◌∷◌}
 use Rattle.sm_syntax.specs.declared.tree.Sort.{Sort}
-use Rattle.sm_syntax.specs.Conditions.{Refusal, first_of_all, first_of_lists, first_sort_fault, names_tested, names_used}
-use Rattle.sm_syntax.specs.ConflictFree.{Copy, program_of}
-use Rattle.sm_syntax.specs.Parts.{Parts, sort_of, task_of}
-use Rattle.sm_syntax.specs.Syntax.{Condition}
+use Rattle.sm_syntax.specs.text.Conditions.{Refusal, first_of_all, first_of_lists, first_sort_fault, names_tested, names_used}
+use Rattle.sm_syntax.specs.claim.ConflictFree.{Copy, program_of}
+use Rattle.sm_syntax.specs.text.Parts.{Parts, sort_of, task_of}
+use Rattle.sm_syntax.specs.claim.Syntax.{Condition}
 
 -- the names of an assumption with the sorts with which they stand
 abbrev pub names_assumed : Option Condition → List (ℕ × Sort)

@@ -2,7 +2,7 @@
 -- cites it.
 use Rattle.std.specs.Prelude.{◌≡◌, ◌≢◌, ◌⊎◌, ◌↔◌, ℕ, ℤ, Option, Some, unwrap_or, List}
 use Rattle.std.specs.List.{Contains}
-use Rattle.sm_syntax.specs.Stores.{Value, array, Store}
+use Rattle.sm_syntax.specs.claim.Stores.{Value, array, Store}
 
 -- a name that has 0, or the value already, gets the value; the others stay
 pub record Gives (zero value : Value) (x : ℕ) (old new : Store) : Type 0 where

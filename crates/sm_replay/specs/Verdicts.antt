@@ -2,11 +2,11 @@
 -- of memory. Public clauses cite it.
 use Rattle.std.specs.Prelude.{◌≡◌, ◌<◌, ℕ, ℤ, ◌<ℤ◌, Option, Some, None, Result, Ok, Err, List, Contains, slice_get}
 use Rattle.sm_syntax.specs.declared.tree.Sort.{Sort}
-use Rattle.sm_syntax.specs.ConflictFree.{Copy, O, A, B, M, Meets, Task, program_of, copy_of}
-use Rattle.sm_syntax.specs.FirstBroken.{IsFirstBroken}
-use Rattle.sm_syntax.specs.Keeps.{Cell, Scalar, Element, content, variable}
-use Rattle.sm_syntax.specs.Stores.{Store}
-use Rattle.sm_syntax.specs.Syntax.{Condition, Code}
+use Rattle.sm_syntax.specs.claim.ConflictFree.{Copy, O, A, B, M, Meets, Task, program_of, copy_of}
+use Rattle.sm_syntax.specs.trees.FirstBroken.{IsFirstBroken}
+use Rattle.sm_syntax.specs.claim.Keeps.{Cell, Scalar, Element, content, variable}
+use Rattle.sm_syntax.specs.claim.Stores.{Store}
+use Rattle.sm_syntax.specs.claim.Syntax.{Condition, Code}
 use Rattle.sm_eval.specs.declared.error.EvalError.{EvalError}
 use Rattle.sm_eval.specs.declared.error.EvalError.TheVariants as eval
 use Rattle.sm_eval.specs.Events.{event}

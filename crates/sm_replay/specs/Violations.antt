@@ -1,10 +1,10 @@
 -- What runs of the four programs from one store show against a merge. Public clauses cite it.
 use Rattle.std.specs.Prelude.{◌≡◌, ℕ, Option, Some, None, Contains}
-use Rattle.sm_syntax.specs.ConflictFree.{Copy, O, A, B, M, Meets, Task, program_of}
-use Rattle.sm_syntax.specs.Keeps.{Keeps, Cell, content, variable}
-use Rattle.sm_syntax.specs.Meaning.{run}
-use Rattle.sm_syntax.specs.Stores.{Store}
-use Rattle.sm_syntax.specs.Syntax.{Condition, Code}
+use Rattle.sm_syntax.specs.claim.ConflictFree.{Copy, O, A, B, M, Meets, Task, program_of}
+use Rattle.sm_syntax.specs.claim.Keeps.{Keeps, Cell, content, variable}
+use Rattle.sm_syntax.specs.claim.Meaning.{run}
+use Rattle.sm_syntax.specs.claim.Stores.{Store}
+use Rattle.sm_syntax.specs.claim.Syntax.{Condition, Code}
 use Rattle.sm_eval.specs.declared.error.EvalError.{EvalError}
 use Rattle.sm_eval.specs.Events.{condition_event, event}
 

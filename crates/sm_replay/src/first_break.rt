@@ -2,9 +2,9 @@
 ghost use Rattle.std.specs.Prelude.{◌≡◌, ◌⊎◌, ◌↔◌, ◌<◌, ◌≤ℤ◌, ℕ, ℤ, pos, Some, None, unwrap_or, map, length, IsNone, IfNone, IfSome, IsSomeAnd};
 ghost use Rattle.sm_eval.specs.Cells.{index_at, listed};
 ghost use Rattle.sm_eval.specs.Slots.{sorts_of};
-ghost use Rattle.sm_syntax.specs.Copies.{copy_named};
-ghost use Rattle.sm_syntax.specs.Keeps.{Cell, Scalar, Element, content, variable};
-ghost use Rattle.sm_syntax.specs.Stores as plain;
+ghost use Rattle.sm_syntax.specs.trees.Copies.{copy_named};
+ghost use Rattle.sm_syntax.specs.claim.Keeps.{Cell, Scalar, Element, content, variable};
+ghost use Rattle.sm_syntax.specs.claim.Stores as plain;
 ghost use Rattle.sm_replay.specs.Runs.{end_in, HaveSort, HaveSorts};
 ghost use Rattle.sm_replay.specs.FirstBreak.{sorted_by, NamesBreak, Finds, IsUpTo};
 ghost use Rattle.sm_replay.specs.Verdicts.{FailsAt};

@@ -1,9 +1,9 @@
 // The verdict on an input.
 ghost use Rattle.std.specs.Prelude.{◌≡◌, ◌≢◌, ◌↔◌, Err, None, option_map};
 ghost use Rattle.sm_eval.specs.Slots.{meaning, sorts_of};
-ghost use Rattle.sm_syntax.specs.Parts.{sort_of, task_of};
-ghost use Rattle.sm_syntax.specs.Programs.{declared_of};
-ghost use Rattle.sm_syntax.specs.Views.{condition_of};
+ghost use Rattle.sm_syntax.specs.text.Parts.{sort_of, task_of};
+ghost use Rattle.sm_syntax.specs.trees.Programs.{declared_of};
+ghost use Rattle.sm_syntax.specs.trees.Views.{condition_of};
 ghost use Rattle.sm_task.specs.Tasks.{parts_of, AreFilled};
 ghost use Rattle.sm_replay.specs.Runs.{AreSorted};
 ghost use Rattle.sm_replay.specs.Judging.{IsWellSortedAssumption, Tells};

@@ -2,10 +2,10 @@
 ghost use Rattle.std.specs.Prelude.{◌≡◌, Some, None, IfOk, IfErr};
 ghost use Rattle.sm_eval.specs.Events.{event};
 ghost use Rattle.sm_eval.specs.Slots.{meaning, sorts_of};
-ghost use Rattle.sm_syntax.specs.ConflictFree.{Copy};
-ghost use Rattle.sm_syntax.specs.Copies.{copy_named};
-ghost use Rattle.sm_syntax.specs.Meaning.{run};
-ghost use Rattle.sm_syntax.specs.Sorts.{IsWellSorted};
+ghost use Rattle.sm_syntax.specs.claim.ConflictFree.{Copy};
+ghost use Rattle.sm_syntax.specs.trees.Copies.{copy_named};
+ghost use Rattle.sm_syntax.specs.claim.Meaning.{run};
+ghost use Rattle.sm_syntax.specs.text.Sorts.{IsWellSorted};
 ghost use Rattle.sm_replay.specs.Runs.{code_in, end_in, stop_of, HaveSorts, Halts, HaltsAt};
 ghost use Rattle.sm_replay.specs.Violations.{AreEnds};
 

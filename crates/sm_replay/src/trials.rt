@@ -2,8 +2,8 @@
 ghost use Rattle.std.specs.Prelude.{◌≡◌, ◌+◌, ◌<◌, ◌^◌, pos, ◌-ℤ◌, Some, IfOk, OnOk};
 ghost use Rattle.sm_eval.specs.Slots.{meaning, sorts_of};
 ghost use Rattle.sm_eval.specs.Zeros.{zero_of};
-ghost use Rattle.sm_syntax.specs.Parts.{sort_of};
-ghost use Rattle.sm_syntax.specs.Programs.{declared_of};
+ghost use Rattle.sm_syntax.specs.text.Parts.{sort_of};
+ghost use Rattle.sm_syntax.specs.trees.Programs.{declared_of};
 ghost use Rattle.sm_replay.specs.Updates.{Gives, Overrides};
 ghost use Rattle.sm_replay.specs.Trials.{trial, number_in_trial, value_in_trial, elements_below};
 

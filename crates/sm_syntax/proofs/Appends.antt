@@ -1,9 +1,9 @@
 -- One code after another: how it runs, and how its holes are filled.
 use Rattle.std.proofs.Common.{◌≡◌, ℕ, Option, Some, None, if◌then◌else◌, refl, sym, ap, ◌∙◌}
-use Rattle.sm_syntax.specs.Syntax.{Code, End, Skip, Assign, Write, If, While, Hole, append}
-use Rattle.sm_syntax.specs.Stores.{Store, put}
-use Rattle.sm_syntax.specs.Meaning.{value_of, truth_of, and_then, turns, written, run}
-use Rattle.sm_syntax.specs.Fill.{Fillings, filling, fill}
+use Rattle.sm_syntax.specs.claim.Syntax.{Code, End, Skip, Assign, Write, If, While, Hole, append}
+use Rattle.sm_syntax.specs.claim.Stores.{Store, put}
+use Rattle.sm_syntax.specs.claim.Meaning.{value_of, truth_of, and_then, turns, written, run}
+use Rattle.sm_syntax.specs.claim.Fill.{Fillings, filling, fill}
 
 -- three codes one after the other, in either grouping
 pub append_assoc : (a b c : Code) → append (append a b) c ≡ append a (append b c)

@@ -6,8 +6,8 @@ use Rattle.std.proofs.Math.Path.{fun_ext}
 use Rattle.sm_syntax.specs.declared.tree.Block.{Block, fold_out-Block}
 use Rattle.sm_syntax.specs.declared.tree.Stmt.{Stmt, Stmt-F, fold_out-Stmt}
 use Rattle.sm_syntax.specs.declared.tree.Stmt.TheOpen as layer
-use Rattle.sm_syntax.specs.Syntax.{Code, End, Skip, Assign, Write, If, While, Hole, append}
-use Rattle.sm_syntax.specs.Views.{sequence, statement_of, code_of, statement_layer, block_layer}
+use Rattle.sm_syntax.specs.claim.Syntax.{Code, End, Skip, Assign, Write, If, While, Hole, append}
+use Rattle.sm_syntax.specs.trees.Views.{sequence, statement_of, code_of, statement_layer, block_layer}
 use Rattle.sm_syntax.proofs.Appends.{append_assoc}
 
 -- the code of a block is its statements one after the other

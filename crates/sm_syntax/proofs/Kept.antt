@@ -4,7 +4,7 @@ use Rattle.std.proofs.lemmas.Bool.{cases_Bool}
 use Rattle.std.proofs.lemmas.Bool.Decides.{not_from_Decides}
 use Rattle.std.specs.Cmp.{signed_Decides}
 use Rattle.std.specs.Ordering.{int_eq}
-use Rattle.sm_syntax.specs.Keeps.{Keeps, KeepsChange}
+use Rattle.sm_syntax.specs.claim.Keeps.{Keeps, KeepsChange}
 
 -- two whole numbers are equal or not
 pub int_cases : (x y : ℤ) → (x ≡ y) ⊎ (x ≡ y → ⊥)

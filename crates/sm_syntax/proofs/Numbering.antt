@@ -6,7 +6,7 @@ use Rattle.std.proofs.lemmas.Slice.Eq.{bytes_eq-Decides}
 use Rattle.std.specs.List.{list_any, position, position_or_len, AllByRecursion, IsDistinct}
 use Rattle.std.specs.Str.{bytes_eq}
 use Rattle.indexmap.specs.IndexSet.{insert_key}
-use Rattle.sm_syntax.specs.Symbols.{is_among, with_text}
+use Rattle.sm_syntax.specs.text.Symbols.{is_among, with_text}
 
 -- a text is itself
 pub bytes_eq-refl : (t : List ℕ) → bytes_eq t t ≡ true

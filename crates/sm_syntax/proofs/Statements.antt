@@ -8,8 +8,8 @@ use Rattle.sm_syntax.specs.declared.tree.Stmt.{Stmt, fold-roll-Stmt}
 use Rattle.sm_syntax.specs.declared.tree.Stmt.TheOpen as layer
 use Rattle.sm_syntax.specs.declared.tree.Stmt.TheVariants.{rolls-Skip, rolls-Assign, rolls-Store, rolls-If, rolls-While, rolls-Hole}
 use Rattle.sm_syntax.specs.declared.tree.Stmt.TheVariants as tree
-use Rattle.sm_syntax.specs.Syntax.{Code, Skip, Assign, Write, If, While, Hole}
-use Rattle.sm_syntax.specs.Views.{expression_of, condition_of, statement_of, code_of, statement_layer, block_layer}
+use Rattle.sm_syntax.specs.claim.Syntax.{Code, Skip, Assign, Write, If, While, Hole}
+use Rattle.sm_syntax.specs.trees.Views.{expression_of, condition_of, statement_of, code_of, statement_layer, block_layer}
 
 -- a statement without parts, before k
 pub statement_of-Skip : (k : Code) → statement_of tree.Skip k ≡ Skip k

@@ -1,6 +1,6 @@
 -- Which names code assigns. Public clauses cite it.
 use Rattle.std.specs.Prelude.{ℕ, Bool, false, ◌==◌, ◌||◌}
-use Rattle.sm_syntax.specs.Syntax.{Code, End, Skip, Assign, Write, If, While, Hole}
+use Rattle.sm_syntax.specs.claim.Syntax.{Code, End, Skip, Assign, Write, If, While, Hole}
 
 -- whether code assigns a name, or an element of the array with that name
 abbrev pub assigns : Code → ℕ → Bool

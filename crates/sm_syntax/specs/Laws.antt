@@ -1,10 +1,10 @@
 -- Laws of runs and of merges, each for all programs and stores. Public clauses cite them.
 use Rattle.std.specs.Prelude.{◌≡◌, ◌≢◌, ◌≤◌, ◌↔◌, ℕ, ℤ, false, Some}
-use Rattle.sm_syntax.specs.Syntax.{Code, append}
-use Rattle.sm_syntax.specs.Stores.{Store}
-use Rattle.sm_syntax.specs.Meaning.{and_then, run}
+use Rattle.sm_syntax.specs.claim.Syntax.{Code, append}
+use Rattle.sm_syntax.specs.claim.Stores.{Store}
+use Rattle.sm_syntax.specs.claim.Meaning.{and_then, run}
 use Rattle.sm_syntax.specs.Assigns.{assigns}
-use Rattle.sm_syntax.specs.Keeps.{Keeps}
+use Rattle.sm_syntax.specs.claim.Keeps.{Keeps}
 
 -- a run that ends under a bound on turns ends in the same store under each greater bound
 abbrev pub MoreTurns : Type 0

@@ -2,7 +2,7 @@
 use Rattle.std.specs.Prelude.{◌≡◌, ℤ}
 use Rattle.sm_syntax.specs.declared.tree.Sort.{Sort}
 use Rattle.sm_syntax.specs.declared.tree.Sort.TheVariants.{Num, Arr}
-use Rattle.sm_syntax.specs.Stores.{Value, number, array}
+use Rattle.sm_syntax.specs.claim.Stores.{Value, number, array}
 
 -- two values are the same as numbers, or as arrays at each index
 abbrev pub SameAs : Sort → Value → Value → Type 0

@@ -1,7 +1,7 @@
 // The condition at one cell.
 ghost use Rattle.std.specs.Prelude.{◌≡◌, ◌↔◌, IsTrue, IsNone, IfSome};
-ghost use Rattle.sm_syntax.specs.FirstBroken.{IsFirstBroken};
-ghost use Rattle.sm_syntax.specs.Keeps.{Keeps, KeepsChange, AddsNothing};
+ghost use Rattle.sm_syntax.specs.trees.FirstBroken.{IsFirstBroken};
+ghost use Rattle.sm_syntax.specs.claim.Keeps.{Keeps, KeepsChange, AddsNothing};
 
 /// The first part of `Keeps` that fails at a cell with these four values: 1 for the change of A, 2
 /// for that of B, 3 for a change that nobody made. None where the candidate keeps both changes and

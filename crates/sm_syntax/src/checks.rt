@@ -1,14 +1,14 @@
 // Whether a program and a condition are well formed.
 ghost use Rattle.std.specs.Prelude.{◌≡◌, ◌++◌, [], ◌∷◌, nat_eq, IfOk, IfErr};
 ghost use Rattle.std.specs.HashMap.{get};
-ghost use Rattle.sm_syntax.specs.Conditions.{double_name, first_output_fault, size_fault};
-ghost use Rattle.sm_syntax.specs.Conditions.{program_fault, ill_assumed, first_sort_fault};
-ghost use Rattle.sm_syntax.specs.Conditions.{names_in, names_tested, names_used};
-ghost use Rattle.sm_syntax.specs.Faults.{Reports};
-ghost use Rattle.sm_syntax.specs.Parts.{sort_of};
-ghost use Rattle.sm_syntax.specs.Programs.{declared_of, outputs_of};
-ghost use Rattle.sm_syntax.specs.Syntax.{End};
-ghost use Rattle.sm_syntax.specs.Views.{expression_of, condition_of, statement_of, code_of};
+ghost use Rattle.sm_syntax.specs.text.Conditions.{double_name, first_output_fault, size_fault};
+ghost use Rattle.sm_syntax.specs.text.Conditions.{program_fault, ill_assumed, first_sort_fault};
+ghost use Rattle.sm_syntax.specs.text.Conditions.{names_in, names_tested, names_used};
+ghost use Rattle.sm_syntax.specs.trees.Faults.{Reports};
+ghost use Rattle.sm_syntax.specs.text.Parts.{sort_of};
+ghost use Rattle.sm_syntax.specs.trees.Programs.{declared_of, outputs_of};
+ghost use Rattle.sm_syntax.specs.claim.Syntax.{End};
+ghost use Rattle.sm_syntax.specs.trees.Views.{expression_of, condition_of, statement_of, code_of};
 
 use crate::error::SyntaxError;
 use crate::measures::{depth, depth_of_cond, nodes, nodes_of_cond};
@@ -37,7 +37,7 @@ pub fn well_formed(alloc: Global, p: &Program) -> Result<(), SyntaxError>
 }
 
 /// The same of a program by its parts.
-#[tactic(auto, using(crate::proofs::Uses::conditions), unfolding(crate::specs::Conditions::program_fault))]
+#[tactic(auto, using(crate::proofs::Uses::conditions), unfolding(crate::specs::text::Conditions::program_fault))]
 pub fn well_formed_block(
     alloc: Global,
     decls: &Decls,
@@ -59,7 +59,7 @@ pub fn well_formed_block(
 
 /// Whether each name of a condition stands as it is declared, and the condition alone is within the
 /// limits.
-#[tactic(auto, using(crate::proofs::Uses::conditions), unfolding(crate::specs::Conditions::ill_assumed))]
+#[tactic(auto, using(crate::proofs::Uses::conditions), unfolding(crate::specs::text::Conditions::ill_assumed))]
 pub fn well_formed_cond(alloc: Global, decls: &Decls, c: &Cond) -> Result<(), SyntaxError>
     ensures { Reports result (ill_assumed (declared_of decls.now) (Some (condition_of c.now))) }
 {
@@ -69,7 +69,7 @@ pub fn well_formed_cond(alloc: Global, decls: &Decls, c: &Cond) -> Result<(), Sy
 }
 
 // The size and the depth of a program's code or of a condition.
-#[tactic(auto, unfolding(crate::specs::Conditions::size_fault))]
+#[tactic(auto, unfolding(crate::specs::text::Conditions::size_fault))]
 fn check_size(nodes: u64, depth: u64) -> Result<(), SyntaxError>
     ensures { Reports result (size_fault nodes depth) }
 {

@@ -1,7 +1,7 @@
 // The four copies, and one of something for each.
 ghost use Rattle.std.specs.Prelude.{◌≡◌, ◌<◌};
-ghost use Rattle.sm_syntax.specs.ConflictFree.{copy_of};
-ghost use Rattle.sm_syntax.specs.Copies.{copy_named, letter_of, number_of, of_copy};
+ghost use Rattle.sm_syntax.specs.claim.ConflictFree.{copy_of};
+ghost use Rattle.sm_syntax.specs.trees.Copies.{copy_named, letter_of, number_of, of_copy};
 
 /// The four programs of a task: the base O, the variants A and B, and the candidate M.
 #[derive(Clone, Copy, Debug, PartialEq, Eq)]

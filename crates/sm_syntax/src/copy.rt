@@ -1,7 +1,7 @@
 // Copies of trees and of lists of names.
 ghost use Rattle.std.specs.Prelude.{◌≡◌, IfOk};
-ghost use Rattle.sm_syntax.specs.Programs.{declared_of, outputs_of};
-ghost use Rattle.sm_syntax.specs.Views.{expression_of, condition_of, statement_of, code_of};
+ghost use Rattle.sm_syntax.specs.trees.Programs.{declared_of, outputs_of};
+ghost use Rattle.sm_syntax.specs.trees.Views.{expression_of, condition_of, statement_of, code_of};
 
 use crate::program::{Decls, Outputs};
 use crate::tree::{Block, Cond, Expr, Stmt};

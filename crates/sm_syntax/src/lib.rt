@@ -1,9 +1,9 @@
 //! What programs mean, when a merge is free of conflicts, and which text spells a task.
 //!
-//! Read `specs/ConflictFree.antt` first: it states the claim. `specs/Meaning.antt` says what a
-//! program does, `specs/Keeps.antt` what a merge keeps at one cell. `specs/Spells.antt` ties a text
-//! to a task, by `specs/Tokens.antt`, `specs/Symbols.antt`, `specs/Grammar.antt` and
-//! `specs/Conditions.antt`.
+//! Read `specs/claim/ConflictFree.antt` first: it states the claim. `specs/claim/Meaning.antt` says what a
+//! program does, `specs/claim/Keeps.antt` what a merge keeps at one cell. `specs/text/Spells.antt` ties a text
+//! to a task, by `specs/text/Tokens.antt`, `specs/text/Symbols.antt`, `specs/text/Grammar.antt` and
+//! `specs/text/Conditions.antt`.
 #![tactic(auto)]
 
 mod cell;

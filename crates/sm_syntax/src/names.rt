@@ -3,7 +3,7 @@ ghost use Rattle.std.specs.Prelude.{◌≡◌, ◌<◌, ◌-◌, ◌^◌, length
 ghost use Rattle.std.specs.Prelude.{List, ℕ, IfOk, IfSome, OnOk, OnErr};
 ghost use Rattle.std.specs.List.{position_or_len};
 ghost use Rattle.std.specs.Str.{bytes_eq};
-ghost use Rattle.sm_syntax.specs.Symbols.{is_among, with_text};
+ghost use Rattle.sm_syntax.specs.text.Symbols.{is_among, with_text};
 
 use crate::tree::Name;
 use indexmap::IndexSet;

@@ -1,7 +1,7 @@
 // Whether two trees are the same.
 ghost use Rattle.std.specs.Prelude.{◌≡◌, ◌↔◌, IsTrue};
-ghost use Rattle.sm_syntax.specs.Syntax.{End};
-ghost use Rattle.sm_syntax.specs.Views.{expression_of, condition_of, statement_of, code_of};
+ghost use Rattle.sm_syntax.specs.claim.Syntax.{End};
+ghost use Rattle.sm_syntax.specs.trees.Views.{expression_of, condition_of, statement_of, code_of};
 
 use crate::tree::{Block, Cond, Expr, Stmt};
 

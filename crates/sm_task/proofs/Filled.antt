@@ -2,9 +2,9 @@
 use Rattle.std.proofs.Common.{◌≡◌}
 use Rattle.sm_syntax.specs.declared.copies.PerCopy.{PerCopy}
 use Rattle.sm_syntax.specs.declared.tree.Block.{Block}
-use Rattle.sm_syntax.specs.ConflictFree.{O, A, B, M, program_of}
-use Rattle.sm_syntax.specs.Parts.{Parts, task_of}
-use Rattle.sm_syntax.specs.Views.{code_of}
+use Rattle.sm_syntax.specs.claim.ConflictFree.{O, A, B, M, program_of}
+use Rattle.sm_syntax.specs.text.Parts.{Parts, task_of}
+use Rattle.sm_syntax.specs.trees.Views.{code_of}
 use Rattle.sm_task.specs.Tasks.{AreFilled}
 
 -- each of the four is the program of its copy

@@ -2,9 +2,9 @@
 use Rattle.std.proofs.Common.{◌≡◌, ℕ, List, [], ◌∷◌, ◌++◌, map, refl, ap}
 use Rattle.std.specs.List.{flat_map}
 use Rattle.sm_syntax.specs.declared.program.Filling.{Filling}
-use Rattle.sm_syntax.specs.Syntax.{Code}
-use Rattle.sm_syntax.specs.Conditions.{holes_of, filled_holes, holes_inside}
-use Rattle.sm_syntax.specs.Views.{code_of}
+use Rattle.sm_syntax.specs.claim.Syntax.{Code}
+use Rattle.sm_syntax.specs.text.Conditions.{holes_of, filled_holes, holes_inside}
+use Rattle.sm_syntax.specs.trees.Views.{code_of}
 
 -- the code for each hole
 abbrev pub codes : List Filling → List (ℕ × Code)

@@ -1,11 +1,11 @@
 -- What parse_task answers where a condition fails, or where its text does.
 use Rattle.std.proofs.Common.{◌≡◌, inl, inr, refl, sym, ap, ◌∙◌, Option, Some, None, option_map, Result, Err, List, ℕ}
 use Rattle.std.specs.Prelude.{◌≢◌, IfErr, IfSome}
-use Rattle.sm_syntax.specs.Conditions.{Refusal, Section, Shared, ListOf, first_refusal}
-use Rattle.sm_syntax.specs.Conditions as refusal
-use Rattle.sm_syntax.specs.ConflictFree.{O, A, B, M}
-use Rattle.sm_syntax.specs.Parts.{Parts}
-use Rattle.sm_syntax.specs.Spells.{IsInGrammar}
+use Rattle.sm_syntax.specs.text.Conditions.{Refusal, Section, Shared, ListOf, first_refusal}
+use Rattle.sm_syntax.specs.text.Conditions as refusal
+use Rattle.sm_syntax.specs.claim.ConflictFree.{O, A, B, M}
+use Rattle.sm_syntax.specs.text.Parts.{Parts}
+use Rattle.sm_syntax.specs.text.Spells.{IsInGrammar}
 use Rattle.sm_text.specs.declared.error.TextError.{TextError}
 use Rattle.sm_text.specs.declared.error.TextError.TheVariants as text
 use Rattle.sm_text.specs.Places.{AreTasks, IsFirstFault, IsRefusal, whole_text}

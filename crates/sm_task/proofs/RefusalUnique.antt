@@ -1,6 +1,6 @@
 -- A text is refused with at most one error, and with none where it spells a task.
 use Rattle.std.proofs.Common.{◌≡◌, inl, inr, sym, ap, ◌∙◌, Option, Some, None}
-use Rattle.sm_syntax.specs.Conditions.{Refusal, first_refusal}
+use Rattle.sm_syntax.specs.text.Conditions.{Refusal, first_refusal}
 use Rattle.sm_text.proofs.CompleteTasks as text
 use Rattle.sm_text.proofs.Faultless.{no_fault_in_grammar}
 use Rattle.sm_text.proofs.FirstFaultUnique.{one_first_fault}

@@ -1,9 +1,9 @@
 -- The first refusal of conditions that are checked one after the other.
 use Rattle.std.proofs.Common.{◌≡◌, ℕ, zero, suc, ◌≤◌, arith, refl, Option, Some, None, Err}
 use Rattle.std.specs.Option.{option_or}
-use Rattle.sm_syntax.specs.Conditions.{ListOf, Refusal}
-use Rattle.sm_syntax.specs.ConflictFree.{Copy, O, A, B, M}
-use Rattle.sm_syntax.specs.Copies.{number_of}
+use Rattle.sm_syntax.specs.text.Conditions.{ListOf, Refusal}
+use Rattle.sm_syntax.specs.claim.ConflictFree.{Copy, O, A, B, M}
+use Rattle.sm_syntax.specs.trees.Copies.{number_of}
 use Rattle.sm_syntax.proofs.Uses.{option_or-None}
 use Rattle.sm_task.specs.declared.error.TaskError.{TaskError}
 use Rattle.sm_task.specs.Errors.{Reports, section_number, section_of}

@@ -3,12 +3,12 @@ use Rattle.std.specs.Prelude.{◌≡◌, ◌≢◌, ◌⊎◌, ℕ, zero, suc, O
 use Rattle.std.specs.Prelude.{Result, MatchResult, List}
 use Rattle.sm_syntax.specs.declared.error.SyntaxError.{SyntaxError}
 use Rattle.sm_syntax.specs.declared.error.SyntaxError.TheVariants as fault
-use Rattle.sm_syntax.specs.ConflictFree.{O, A, B, M}
-use Rattle.sm_syntax.specs.Copies.{number_of}
-use Rattle.sm_syntax.specs.Conditions as refusal
-use Rattle.sm_syntax.specs.Conditions.{Section, Shared, ListOf, Refusal, first_refusal}
-use Rattle.sm_syntax.specs.Parts.{Parts}
-use Rattle.sm_syntax.specs.Spells.{IsInGrammar}
+use Rattle.sm_syntax.specs.claim.ConflictFree.{O, A, B, M}
+use Rattle.sm_syntax.specs.trees.Copies.{number_of}
+use Rattle.sm_syntax.specs.text.Conditions as refusal
+use Rattle.sm_syntax.specs.text.Conditions.{Section, Shared, ListOf, Refusal, first_refusal}
+use Rattle.sm_syntax.specs.text.Parts.{Parts}
+use Rattle.sm_syntax.specs.text.Spells.{IsInGrammar}
 use Rattle.sm_text.specs.declared.error.TextError.{TextError}
 use Rattle.sm_text.specs.declared.error.TextError.TheVariants as text
 use Rattle.sm_text.specs.Places.{AreTasks, IsFirstFault, whole_text}

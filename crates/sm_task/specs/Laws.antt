@@ -1,8 +1,8 @@
 -- Laws of tasks and of their refusals. Public clauses cite it.
 use Rattle.std.specs.Prelude.{◌≡◌, ℕ, List}
-use Rattle.sm_syntax.specs.Conditions.{Refusal}
-use Rattle.sm_syntax.specs.Parts.{Parts}
-use Rattle.sm_syntax.specs.Spells.{Spells}
+use Rattle.sm_syntax.specs.text.Conditions.{Refusal}
+use Rattle.sm_syntax.specs.text.Parts.{Parts}
+use Rattle.sm_syntax.specs.text.Spells.{Spells}
 use Rattle.sm_text.specs.declared.error.TextError.{TextError}
 use Rattle.sm_text.specs.Places.{AreTasks, IsFault, whole_text}
 use Rattle.sm_task.specs.declared.error.TaskError.{TaskError}

@@ -2,12 +2,12 @@
 use Rattle.std.specs.Prelude.{◌≡◌, option_map}
 use Rattle.sm_syntax.specs.declared.copies.PerCopy.{PerCopy}
 use Rattle.sm_syntax.specs.declared.tree.Block.{Block}
-use Rattle.sm_syntax.specs.ConflictFree.{Copy, program_of}
-use Rattle.sm_syntax.specs.Fill.{Fillings}
-use Rattle.sm_syntax.specs.Copies.{of_copy}
-use Rattle.sm_syntax.specs.Parts.{Parts, task_of}
-use Rattle.sm_syntax.specs.Programs.{declared_of, outputs_of, fillings_of}
-use Rattle.sm_syntax.specs.Views.{condition_of, code_of}
+use Rattle.sm_syntax.specs.claim.ConflictFree.{Copy, program_of}
+use Rattle.sm_syntax.specs.claim.Fill.{Fillings}
+use Rattle.sm_syntax.specs.trees.Copies.{of_copy}
+use Rattle.sm_syntax.specs.text.Parts.{Parts, task_of}
+use Rattle.sm_syntax.specs.trees.Programs.{declared_of, outputs_of, fillings_of}
+use Rattle.sm_syntax.specs.trees.Views.{condition_of, code_of}
 use Rattle.sm_task.specs.declared.task.Task.{Task}
 
 -- the fillings of each copy

@@ -1,15 +1,15 @@
 // The conditions on a task, in order.
 ghost use Rattle.std.specs.Prelude.{◌≡◌, ◌≤◌, [], length};
-ghost use Rattle.sm_syntax.specs.Conditions.{DoubleHole, HoleInFilling, UnknownHole};
-ghost use Rattle.sm_syntax.specs.Conditions.{MissingFilling, ListOf, at_hole, holes_of};
-ghost use Rattle.sm_syntax.specs.Conditions.{holes_inside, filled_holes, first_repeated};
-ghost use Rattle.sm_syntax.specs.Conditions.{first_outside, double_hole, hole_in_filling};
-ghost use Rattle.sm_syntax.specs.Conditions.{unknown_hole, missing_filling, program_fault};
-ghost use Rattle.sm_syntax.specs.Conditions.{ill_formed, ill_assumed, first_refusal};
-ghost use Rattle.sm_syntax.specs.ConflictFree.{program_of};
-ghost use Rattle.sm_syntax.specs.Copies.{copy_named};
-ghost use Rattle.sm_syntax.specs.Parts.{task_of};
-ghost use Rattle.sm_syntax.specs.Views.{code_of};
+ghost use Rattle.sm_syntax.specs.text.Conditions.{DoubleHole, HoleInFilling, UnknownHole};
+ghost use Rattle.sm_syntax.specs.text.Conditions.{MissingFilling, ListOf, at_hole, holes_of};
+ghost use Rattle.sm_syntax.specs.text.Conditions.{holes_inside, filled_holes, first_repeated};
+ghost use Rattle.sm_syntax.specs.text.Conditions.{first_outside, double_hole, hole_in_filling};
+ghost use Rattle.sm_syntax.specs.text.Conditions.{unknown_hole, missing_filling, program_fault};
+ghost use Rattle.sm_syntax.specs.text.Conditions.{ill_formed, ill_assumed, first_refusal};
+ghost use Rattle.sm_syntax.specs.claim.ConflictFree.{program_of};
+ghost use Rattle.sm_syntax.specs.trees.Copies.{copy_named};
+ghost use Rattle.sm_syntax.specs.text.Parts.{task_of};
+ghost use Rattle.sm_syntax.specs.trees.Views.{code_of};
 ghost use Rattle.sm_task.specs.Errors.{section_of, Reports};
 ghost use Rattle.sm_task.specs.Tasks.{AreFilled, fillings_for, parts_of};
 
@@ -24,7 +24,7 @@ use std::alloc::Global;
 const SHARED: u8 = 4;
 
 // Whether a task meets the six conditions. The error is the first that fails.
-#[tactic(auto, using(crate::proofs::Refusals::checks), unfolding(sm_syntax::specs::Conditions::first_refusal))]
+#[tactic(auto, using(crate::proofs::Refusals::checks), unfolding(sm_syntax::specs::text::Conditions::first_refusal))]
 pub(crate) fn check_conditions(alloc: Global, task: &Task) -> Result<(), TaskError>
     ensures { Reports result (first_refusal (parts_of task.now)) }
 {
@@ -38,7 +38,7 @@ pub(crate) fn check_conditions(alloc: Global, task: &Task) -> Result<(), TaskErr
 }
 
 // 1. A section has no hole a second time.
-#[tactic(auto, using(crate::proofs::Refusals::checks), unfolding(sm_syntax::specs::Conditions::double_hole))]
+#[tactic(auto, using(crate::proofs::Refusals::checks), unfolding(sm_syntax::specs::text::Conditions::double_hole))]
 fn check_double_holes(alloc: Global, task: &Task, holes: &[u32]) -> Result<(), TaskError>
     requires { holes.now ≡ holes_of (code_of task.now.shared.body) }
     ensures { Reports result (double_hole (parts_of task.now)) }
@@ -75,7 +75,7 @@ fn check_repeated(alloc: Global, list: u8, holes: &[u32]) -> Result<(), TaskErro
 }
 
 // 2. No filling has a hole.
-#[tactic(auto, using(crate::proofs::Refusals::checks), unfolding(sm_syntax::specs::Conditions::hole_in_filling))]
+#[tactic(auto, using(crate::proofs::Refusals::checks), unfolding(sm_syntax::specs::text::Conditions::hole_in_filling))]
 fn check_holes_in_fillings(alloc: Global, task: &Task) -> Result<(), TaskError>
     ensures { Reports result (hole_in_filling (parts_of task.now)) }
 {
@@ -100,7 +100,7 @@ fn check_inside(alloc: Global, task: &Task, copy: CopyName) -> Result<(), TaskEr
 }
 
 // 3. The shared program has each hole that is filled.
-#[tactic(auto, using(crate::proofs::Refusals::checks), unfolding(sm_syntax::specs::Conditions::unknown_hole))]
+#[tactic(auto, using(crate::proofs::Refusals::checks), unfolding(sm_syntax::specs::text::Conditions::unknown_hole))]
 fn check_unknown_holes(alloc: Global, task: &Task, holes: &[u32]) -> Result<(), TaskError>
     requires { holes.now ≡ holes_of (code_of task.now.shared.body) }
     ensures { Reports result (unknown_hole (parts_of task.now)) }
@@ -126,7 +126,7 @@ fn check_known(alloc: Global, task: &Task, copy: CopyName, holes: &[u32]) -> Res
 }
 
 // 4. Each list fills each hole of the shared program.
-#[tactic(auto, using(crate::proofs::Refusals::checks), unfolding(sm_syntax::specs::Conditions::missing_filling))]
+#[tactic(auto, using(crate::proofs::Refusals::checks), unfolding(sm_syntax::specs::text::Conditions::missing_filling))]
 fn check_missing_fillings(alloc: Global, task: &Task, holes: &[u32]) -> Result<(), TaskError>
     requires { holes.now ≡ holes_of (code_of task.now.shared.body) }
     ensures { Reports result (missing_filling (parts_of task.now)) }
@@ -152,7 +152,7 @@ fn check_filled(alloc: Global, task: &Task, copy: CopyName, holes: &[u32]) -> Re
 }
 
 // 5. Each filled program is well formed. With no hole twice, the four are no larger than the text.
-#[tactic(auto, using(crate::proofs::Refusals::checks), unfolding(sm_syntax::specs::Conditions::ill_formed))]
+#[tactic(auto, using(crate::proofs::Refusals::checks), unfolding(sm_syntax::specs::text::Conditions::ill_formed))]
 fn check_programs(alloc: Global, task: &Task) -> Result<(), TaskError>
     ensures { Reports result (ill_formed (parts_of task.now)) }
 {
@@ -180,7 +180,7 @@ fn check_program(
 }
 
 // 6. The assumption is well formed.
-#[tactic(auto, unfolding(sm_syntax::specs::Conditions::ill_assumed))]
+#[tactic(auto, unfolding(sm_syntax::specs::text::Conditions::ill_assumed))]
 fn check_assumption(alloc: Global, task: &Task) -> Result<(), TaskError>
     ensures { let t = parts_of task.now in Reports result (ill_assumed t.declared t.assumed) }
 {

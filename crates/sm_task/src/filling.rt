@@ -1,12 +1,12 @@
 // The programs of the copies.
 ghost use Rattle.std.specs.Prelude.{◌≡◌, ◌<◌, map, IfOk, OnOk, IfSome, IfNone};
-ghost use Rattle.sm_syntax.specs.ConflictFree.{copy_of, program_of};
-ghost use Rattle.sm_syntax.specs.Copies.{copy_named};
-ghost use Rattle.sm_syntax.specs.Fill.{filling, fill};
-ghost use Rattle.sm_syntax.specs.Parts.{task_of};
-ghost use Rattle.sm_syntax.specs.Programs.{declared_of, outputs_of, fillings_of};
-ghost use Rattle.sm_syntax.specs.Syntax.{Code, End, append};
-ghost use Rattle.sm_syntax.specs.Views.{sequence, statement_of, code_of};
+ghost use Rattle.sm_syntax.specs.claim.ConflictFree.{copy_of, program_of};
+ghost use Rattle.sm_syntax.specs.trees.Copies.{copy_named};
+ghost use Rattle.sm_syntax.specs.claim.Fill.{filling, fill};
+ghost use Rattle.sm_syntax.specs.text.Parts.{task_of};
+ghost use Rattle.sm_syntax.specs.trees.Programs.{declared_of, outputs_of, fillings_of};
+ghost use Rattle.sm_syntax.specs.claim.Syntax.{Code, End, append};
+ghost use Rattle.sm_syntax.specs.trees.Views.{sequence, statement_of, code_of};
 ghost use Rattle.sm_task.specs.Tasks.{AreFilled, parts_of};
 
 use crate::task::Task;

@@ -1,8 +1,8 @@
 // A text, read as a task.
 ghost use Rattle.std.specs.Prelude.{◌≡◌, ◌≢◌, ◌<◌, ◌^◌, Some, length, IfOk, IfErr, IfSome};
-ghost use Rattle.sm_syntax.specs.Conditions.{Refusal, first_refusal};
-ghost use Rattle.sm_syntax.specs.Parts.{Parts};
-ghost use Rattle.sm_syntax.specs.Spells.{IsInGrammar, Spells};
+ghost use Rattle.sm_syntax.specs.text.Conditions.{Refusal, first_refusal};
+ghost use Rattle.sm_syntax.specs.text.Parts.{Parts};
+ghost use Rattle.sm_syntax.specs.text.Spells.{IsInGrammar, Spells};
 ghost use Rattle.sm_task.specs.Errors.{refusal_of, IsRefusedBy, IsRefusedWith};
 ghost use Rattle.sm_task.specs.Errors.{IsReadAs, IsRefusedAs};
 ghost use Rattle.sm_task.specs.Places.{text_fault_of};

@@ -1,6 +1,6 @@
 // The canonical text of a task.
 ghost use Rattle.std.specs.Prelude.{◌≡◌, IfOk};
-ghost use Rattle.sm_syntax.specs.Spells.{Spells};
+ghost use Rattle.sm_syntax.specs.text.Spells.{Spells};
 ghost use Rattle.sm_task.specs.Tasks.{parts_of};
 ghost use Rattle.sm_text.specs.Canonical.{task_pieces};
 ghost use Rattle.sm_text.specs.Named.{HasText};

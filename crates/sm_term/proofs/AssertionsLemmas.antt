@@ -10,10 +10,10 @@ use Rattle.sm_syntax.specs.declared.tree.Cmp.{Cmp}
 use Rattle.sm_syntax.specs.declared.tree.Cmp.TheVariants as cmp
 use Rattle.sm_syntax.specs.declared.tree.Sort.{Sort}
 use Rattle.sm_syntax.specs.declared.tree.Sort.TheVariants.{Num, Arr}
-use Rattle.sm_syntax.specs.Syntax as syntax
-use Rattle.sm_syntax.specs.Syntax.{Expression, Condition}
-use Rattle.sm_syntax.specs.Stores.{Value, number, array}
-use Rattle.sm_syntax.specs.Meaning.{relation, truth_of}
+use Rattle.sm_syntax.specs.claim.Syntax as syntax
+use Rattle.sm_syntax.specs.claim.Syntax.{Expression, Condition}
+use Rattle.sm_syntax.specs.claim.Stores.{Value, number, array}
+use Rattle.sm_syntax.specs.claim.Meaning.{relation, truth_of}
 use Rattle.sm_syntax.specs.SameAs.{SameAs}
 use Rattle.sm_term.specs.Terms.{Tree}
 use Rattle.sm_term.specs.Structures.{Structure, meaning}

@@ -2,9 +2,9 @@
 use Rattle.std.proofs.Common.{◌≡◌, ◌↔◌, List, [], ◌∷◌, refl, ap}
 use Rattle.std.specs.Prelude.{◌≤ℤ◌, ◌<ℤ◌}
 use Rattle.sm_syntax.specs.declared.tree.Sort.{Sort}
-use Rattle.sm_syntax.specs.Stores.{Value, number, Store}
-use Rattle.sm_syntax.specs.Meaning.{run}
-use Rattle.sm_syntax.specs.ConflictFree.{Copy}
+use Rattle.sm_syntax.specs.claim.Stores.{Value, number, Store}
+use Rattle.sm_syntax.specs.claim.Meaning.{run}
+use Rattle.sm_syntax.specs.claim.ConflictFree.{Copy}
 use Rattle.sm_syntax.specs.SameAs.{SameAs}
 use Rattle.sm_term.specs.Terms.{Tree, Lit, Start, Havoc, Slot, Cell, Read, Write, Neg, Add, Sub, Mul, Fun, Arguments, Over, Given}
 use Rattle.sm_term.specs.Structures.{Structure, value_at, meaning, store_given, with_slots}

@@ -1,8 +1,8 @@
 -- The term of an expression means its value.
 use Rattle.std.proofs.Common.{◌≡◌, neg_ℤ, refl, ap}
-use Rattle.sm_syntax.specs.Syntax.{Expression, Lit, Var, Read, Neg, Plus, Minus, Times}
-use Rattle.sm_syntax.specs.Stores.{Value, Number, number, array}
-use Rattle.sm_syntax.specs.Meaning.{value_of}
+use Rattle.sm_syntax.specs.claim.Syntax.{Expression, Lit, Var, Read, Neg, Plus, Minus, Times}
+use Rattle.sm_syntax.specs.claim.Stores.{Value, Number, number, array}
+use Rattle.sm_syntax.specs.claim.Meaning.{value_of}
 use Rattle.sm_term.specs.Structures.{Structure, meaning}
 use Rattle.sm_term.specs.Symbolic.{SymbolicStore, store_meant, term_of}
 

@@ -3,7 +3,7 @@
 use Rattle.std.specs.Prelude.{◌≤ℤ◌, ◌<ℤ◌, List, [], ◌∷◌, ◌++◌}
 use Rattle.sm_syntax.specs.declared.tree.Sort.{Sort}
 use Rattle.sm_syntax.specs.SameAs.{SameAs}
-use Rattle.sm_syntax.specs.Stores.{number}
+use Rattle.sm_syntax.specs.claim.Stores.{number}
 use Rattle.sm_term.specs.Terms.{Tree}
 use Rattle.sm_term.specs.Structures.{Structure, meaning}
 

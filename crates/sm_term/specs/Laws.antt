@@ -1,9 +1,9 @@
 -- Cited by public clauses: laws of terms and formulas, each for all structures.
 use Rattle.std.specs.Prelude.{◌≡◌, ◌↔◌, ℕ, IsTrue, List, [], ◌∷◌, ◌++◌}
-use Rattle.sm_syntax.specs.Syntax.{Expression, Condition}
-use Rattle.sm_syntax.specs.Stores.{Store}
-use Rattle.sm_syntax.specs.Meaning.{value_of, truth_of}
-use Rattle.sm_syntax.specs.ConflictFree.{Copy}
+use Rattle.sm_syntax.specs.claim.Syntax.{Expression, Condition}
+use Rattle.sm_syntax.specs.claim.Stores.{Store}
+use Rattle.sm_syntax.specs.claim.Meaning.{value_of, truth_of}
+use Rattle.sm_syntax.specs.claim.ConflictFree.{Copy}
 use Rattle.sm_term.specs.Structures.{Structure, meaning, with_slots, with_havoc}
 use Rattle.sm_term.specs.Assertions.{Assertion, Holds, AllHold, IsValid, IsRefuted, negate, conj}
 use Rattle.sm_term.specs.Symbolic.{SymbolicStore, store_meant, term_of, form_of}

@@ -1,8 +1,8 @@
 -- Cited by public clauses: terms, of which a program's values are made where the start store is
 -- not known.
 use Rattle.std.specs.Prelude.{ℕ, ℤ}
-use Rattle.sm_syntax.specs.Syntax.{Code}
-use Rattle.sm_syntax.specs.ConflictFree.{Copy}
+use Rattle.sm_syntax.specs.claim.Syntax.{Code}
+use Rattle.sm_syntax.specs.claim.ConflictFree.{Copy}
 
 mutual
   -- a term: a literal, a symbol, an operation, or the summary of a name after code

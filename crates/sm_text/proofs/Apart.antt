@@ -12,9 +12,9 @@ use Rattle.sm_syntax.specs.declared.symbol.Symbol.{Symbol}
 use Rattle.sm_syntax.specs.declared.symbol.Symbol.TheVariants as s
 use Rattle.sm_syntax.specs.declared.tree.Cmp.{Cmp}
 use Rattle.sm_syntax.specs.declared.tree.Cmp.TheVariants.{Eq, Ne, Lt, Le, Gt, Ge}
-use Rattle.sm_syntax.specs.Grammar.{comparison}
-use Rattle.sm_syntax.specs.Syntax.{Expression, Lit, Var, Read, Neg, Plus, Minus, Times, Condition, Yes, No, Compare, Not, And, Or}
-use Rattle.sm_syntax.specs.Tokens.{is_word_start, is_word_byte}
+use Rattle.sm_syntax.specs.text.Grammar.{comparison}
+use Rattle.sm_syntax.specs.claim.Syntax.{Expression, Lit, Var, Read, Neg, Plus, Minus, Times, Condition, Yes, No, Compare, Not, And, Or}
+use Rattle.sm_syntax.specs.text.Tokens.{is_word_start, is_word_byte}
 use Rattle.sm_text.specs.Pieces.{Piece, text_of, word, number, name, space}
 use Rattle.sm_text.specs.Canonical.{between, is_atom, operand, expression_pieces, is_test, part, condition_pieces}
 use Rattle.sm_text.proofs.Relexed.{begins, is_reserved, goes_on_mark, both-left, digits_of_decimal}

@@ -18,11 +18,11 @@ use Rattle.sm_syntax.specs.declared.token.TokenKind.TheVariants.{Word, Number, S
 use Rattle.sm_syntax.specs.declared.tree.Cmp.{Cmp}
 use Rattle.sm_syntax.specs.declared.tree.Name.{Name}
 use Rattle.sm_syntax.specs.declared.tree.Cmp.TheVariants.{Eq, Ne, Lt, Le, Gt, Ge}
-use Rattle.sm_syntax.specs.Grammar as g
-use Rattle.sm_syntax.specs.Grammar.{Marked, plain, word, opens, Level, IsExpression, Rank, IsCondition, AreStatements, IsBlock}
-use Rattle.sm_syntax.specs.Symbols.{text_of, mark_or, symbol_by, symbol_of, names_after}
-use Rattle.sm_syntax.specs.Syntax.{Expression, Condition, Code}
-use Rattle.sm_syntax.specs.Tokens.{Table, entry, mark_of_word, mark_of_sign, reserved_words}
+use Rattle.sm_syntax.specs.text.Grammar as g
+use Rattle.sm_syntax.specs.text.Grammar.{Marked, plain, word, opens, Level, IsExpression, Rank, IsCondition, AreStatements, IsBlock}
+use Rattle.sm_syntax.specs.text.Symbols.{text_of, mark_or, symbol_by, symbol_of, names_after}
+use Rattle.sm_syntax.specs.claim.Syntax.{Expression, Condition, Code}
+use Rattle.sm_syntax.specs.text.Tokens.{Table, entry, mark_of_word, mark_of_sign, reserved_words}
 use Rattle.sm_text.specs.declared.reading.Fault.{Fault}
 use Rattle.sm_text.specs.BlockTokens.{signs, is_mark, is_sign, many, IsGroup}
 use Rattle.sm_text.specs.Parsers.{first, fault}

@@ -6,8 +6,8 @@ use Rattle.std.specs.List.{list_all}
 use Rattle.std.specs.Prelude.{slice_get}
 use Rattle.sm_syntax.specs.declared.symbol.Mark.TheVariants as mark
 use Rattle.sm_syntax.specs.declared.symbol.Symbol.TheVariants as s
-use Rattle.sm_syntax.specs.Syntax.{Condition, Code, End, Skip, Assign, Write, If, While, Hole}
-use Rattle.sm_syntax.specs.Tokens.{is_space}
+use Rattle.sm_syntax.specs.claim.Syntax.{Condition, Code, End, Skip, Assign, Write, If, While, Hole}
+use Rattle.sm_syntax.specs.text.Tokens.{is_space}
 use Rattle.sm_text.specs.Pieces.{Piece, Gap, text_of, word, name, space, line_end, deeper, line}
 use Rattle.sm_text.specs.Canonical.{element_pieces, expression_pieces, condition_pieces, braces, branches, guard_pieces, code_pieces}
 use Rattle.sm_text.proofs.Relexed.{begins, digits_of_decimal}

@@ -6,10 +6,10 @@ use Rattle.sm_syntax.specs.declared.symbol.Symbol.{Symbol}
 use Rattle.sm_syntax.specs.declared.symbol.Symbol.TheVariants as s
 use Rattle.sm_syntax.specs.declared.tree.Cmp.{Cmp}
 use Rattle.sm_syntax.specs.declared.tree.Cmp.TheVariants.{Eq, Ne, Lt, Le, Gt, Ge}
-use Rattle.sm_syntax.specs.Syntax as plain_code
-use Rattle.sm_syntax.specs.Syntax.{Expression, Condition}
-use Rattle.sm_syntax.specs.Grammar as g
-use Rattle.sm_syntax.specs.Grammar.{Marked, plain, word, opens, joins, comparison, Rank, IsExpression, IsCondition}
+use Rattle.sm_syntax.specs.claim.Syntax as plain_code
+use Rattle.sm_syntax.specs.claim.Syntax.{Expression, Condition}
+use Rattle.sm_syntax.specs.text.Grammar as g
+use Rattle.sm_syntax.specs.text.Grammar.{Marked, plain, word, opens, joins, comparison, Rank, IsExpression, IsCondition}
 use Rattle.sm_text.specs.declared.reading.Fault.{Fault}
 use Rattle.sm_text.specs.Parsers.{first, Parser, go_on, ◌>>=◌, pure, stands}
 use Rattle.sm_text.specs.Places.{unmarked}

@@ -7,10 +7,10 @@ use Rattle.sm_syntax.specs.declared.symbol.Mark.TheVariants as mark
 use Rattle.sm_syntax.specs.declared.symbol.Symbol.{Symbol}
 use Rattle.sm_syntax.specs.declared.symbol.Symbol.TheVariants as s
 use Rattle.sm_syntax.specs.declared.tree.Name.{Name}
-use Rattle.sm_syntax.specs.Syntax as plain_code
-use Rattle.sm_syntax.specs.Syntax.{Expression}
-use Rattle.sm_syntax.specs.Grammar as g
-use Rattle.sm_syntax.specs.Grammar.{Marked, plain, word, opens, joins, Level, IsExpression}
+use Rattle.sm_syntax.specs.claim.Syntax as plain_code
+use Rattle.sm_syntax.specs.claim.Syntax.{Expression}
+use Rattle.sm_syntax.specs.text.Grammar as g
+use Rattle.sm_syntax.specs.text.Grammar.{Marked, plain, word, opens, joins, Level, IsExpression}
 use Rattle.sm_text.specs.Parsers.{first, pure, stands}
 use Rattle.sm_text.specs.Places.{unmarked}
 use Rattle.sm_text.specs.Reading as r

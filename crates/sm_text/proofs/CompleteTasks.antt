@@ -9,15 +9,15 @@ use Rattle.sm_syntax.specs.declared.symbol.Symbol.TheVariants as s
 use Rattle.sm_syntax.specs.declared.tree.Name.{Name}
 use Rattle.sm_syntax.specs.declared.tree.Sort.{Sort}
 use Rattle.sm_syntax.specs.declared.tree.Sort.TheVariants.{Num, Arr}
-use Rattle.sm_syntax.specs.Syntax.{Condition, Code}
-use Rattle.sm_syntax.specs.Fill.{Fillings}
-use Rattle.sm_syntax.specs.ConflictFree as claim
-use Rattle.sm_syntax.specs.ConflictFree.{Copy}
-use Rattle.sm_syntax.specs.Grammar as g
-use Rattle.sm_syntax.specs.Grammar.{Marked, plain, word, opens, declares, with_sort, AreNames, AreDeclarations, AreOutputs, IsAssumption, IsShared, AreFillings, IsList, IsTask}
-use Rattle.sm_syntax.specs.Parts.{Parts, by_copy}
-use Rattle.sm_syntax.specs.Spells.{IsInGrammar}
-use Rattle.sm_syntax.specs.Symbols.{names_of, symbols_of}
+use Rattle.sm_syntax.specs.claim.Syntax.{Condition, Code}
+use Rattle.sm_syntax.specs.claim.Fill.{Fillings}
+use Rattle.sm_syntax.specs.claim.ConflictFree as claim
+use Rattle.sm_syntax.specs.claim.ConflictFree.{Copy}
+use Rattle.sm_syntax.specs.text.Grammar as g
+use Rattle.sm_syntax.specs.text.Grammar.{Marked, plain, word, opens, declares, with_sort, AreNames, AreDeclarations, AreOutputs, IsAssumption, IsShared, AreFillings, IsList, IsTask}
+use Rattle.sm_syntax.specs.text.Parts.{Parts, by_copy}
+use Rattle.sm_syntax.specs.text.Spells.{IsInGrammar}
+use Rattle.sm_syntax.specs.text.Symbols.{names_of, symbols_of}
 use Rattle.sm_text.specs.declared.reading.Fault.{Fault}
 use Rattle.sm_text.specs.Parsers.{first, Parser, go_on, ◌>>=◌, ◌>>◌, pure, expect, stands}
 use Rattle.sm_text.specs.Places.{unmarked}

@@ -5,12 +5,12 @@ use Rattle.sm_syntax.specs.declared.symbol.Mark.TheVariants as mark
 use Rattle.sm_syntax.specs.declared.symbol.Symbol.{Symbol}
 use Rattle.sm_syntax.specs.declared.symbol.Symbol.TheVariants as s
 use Rattle.sm_syntax.specs.declared.tree.Sort.{Sort}
-use Rattle.sm_syntax.specs.Syntax.{Expression, Lit, Var, Read, Neg, Plus, Minus, Times, Condition, Yes, No, Compare, Not, And, Or, Code, End, Skip, Assign, Write, If, While, Hole}
-use Rattle.sm_syntax.specs.Fill.{Fillings}
-use Rattle.sm_syntax.specs.ConflictFree.{O, A, B, M}
-use Rattle.sm_syntax.specs.Parts.{Parts}
-use Rattle.sm_syntax.specs.Grammar as g
-use Rattle.sm_syntax.specs.Grammar.{Marked, Level, IsExpression, Rank, IsCondition, AreStatements, IsBlock, AreNames, with_sort, AreDeclarations, AreOutputs, IsAssumption, IsShared, AreFillings, IsList, IsTask}
+use Rattle.sm_syntax.specs.claim.Syntax.{Expression, Lit, Var, Read, Neg, Plus, Minus, Times, Condition, Yes, No, Compare, Not, And, Or, Code, End, Skip, Assign, Write, If, While, Hole}
+use Rattle.sm_syntax.specs.claim.Fill.{Fillings}
+use Rattle.sm_syntax.specs.claim.ConflictFree.{O, A, B, M}
+use Rattle.sm_syntax.specs.text.Parts.{Parts}
+use Rattle.sm_syntax.specs.text.Grammar as g
+use Rattle.sm_syntax.specs.text.Grammar.{Marked, Level, IsExpression, Rank, IsCondition, AreStatements, IsBlock, AreNames, with_sort, AreDeclarations, AreOutputs, IsAssumption, IsShared, AreFillings, IsList, IsTask}
 
 -- a name by its number
 abbrev pub named : ℕ → Symbol

@@ -12,8 +12,8 @@ use Rattle.sm_syntax.specs.declared.symbol.Symbol.TheVariants as s
 use Rattle.sm_syntax.specs.declared.token.Token.{Token}
 use Rattle.sm_syntax.specs.declared.token.TokenKind.{TokenKind}
 use Rattle.sm_syntax.specs.declared.token.TokenKind.TheVariants.{Word, Number, Sign}
-use Rattle.sm_syntax.specs.Symbols.{text_of, is_among, with_text, names_after, mark_or, symbol_by, symbol_of}
-use Rattle.sm_syntax.specs.Tokens.{mark_of_word, mark_of_sign}
+use Rattle.sm_syntax.specs.text.Symbols.{text_of, is_among, with_text, names_after, mark_or, symbol_by, symbol_of}
+use Rattle.sm_syntax.specs.text.Tokens.{mark_of_word, mark_of_sign}
 use Rattle.sm_syntax.proofs.Numbering.{with_text-among, with_text-new, number-last}
 use Rattle.sm_text.specs.BlockTokens.{signs}
 use Rattle.sm_text.specs.Fragments.{IsKnown}

@@ -8,7 +8,7 @@ use Rattle.sm_syntax.specs.declared.token.LexKind.TheVariants.{BadByte, BadToken
 use Rattle.sm_syntax.specs.declared.token.Token.{Token}
 use Rattle.sm_syntax.specs.declared.token.TokenKind.{TokenKind}
 use Rattle.sm_syntax.specs.declared.token.TokenKind.TheVariants.{Word, Number, Sign}
-use Rattle.sm_syntax.specs.Tokens.{Front, Gap, Piece, Fault, Lexed, front_of, sign_at, is_space, is_hash, is_in_line, is_word_start, is_word_byte, mark_of_sign, by_front, with_token, lexed_behind, lexed_from, lexed}
+use Rattle.sm_syntax.specs.text.Tokens.{Front, Gap, Piece, Fault, Lexed, front_of, sign_at, is_space, is_hash, is_in_line, is_word_start, is_word_byte, mark_of_sign, by_front, with_token, lexed_behind, lexed_from, lexed}
 use Rattle.sm_text.specs.Cutting.{begins, IsToken, Ends, IsStuck, is_half, HasNumber, IsFaultOf, IsCutInto, end, space, comment, token, fault}
 use Rattle.sm_text.specs.Laws.{TokensAreCut}
 use Rattle.sm_text.proofs.Relexed.{lexed_from-cons, behind_first, lexed-token, front-space, front-word, front-number, front-two, and-false, run_of}
@@ -68,21 +68,21 @@ cut_by place bytes (Gap size) some h (a_space b rest same is) more =
     let at : front ((b ∷ []) ++ rest) ≡ Gap 1 = ap front (sym same) ∙ h in
     let rest_cut = more (place + 1) rest (subst (λ l. length rest < length l) (sym same) (omega arith)) in
     subst P (sym same) (subst (IsCutSo place (b ∷ rest)) (sym (passed (b ∷ []) rest place 1 refl (omega arith) at))
-      (space place b rest _ _ is rest_cut))
+    (space place b rest _ _ is rest_cut))
 cut_by place bytes f some h (a_comment body rest same all ends) more =
     let P : List ℕ → Type 0 = λ l. IsCutSo place l (lexed_from place l) in
     let size = length (35 ∷ body) in
     let at : front ((35 ∷ body) ++ rest) ≡ Gap size = ap front (sym same) ∙ h in
     let rest_cut = more (place + size) rest (subst (λ l. length rest < length l) (sym same) (shorter (35 ∷ body) rest (omega arith))) in
     subst P (sym same) (subst (IsCutSo place (35 ∷ body ++ rest)) (sym (passed (35 ∷ body) rest place size refl (omega arith) at))
-      (comment place body rest _ _ all ends rest_cut))
+    (comment place body rest _ _ all ends rest_cut))
 cut_by place bytes f some h (a_token kind text behind same is ends) more =
     let P : List ℕ → Type 0 = λ l. IsCutSo place l (lexed_from place l) in
     let at : front (text ++ behind) ≡ Piece kind (length text) = ap front (sym same) ∙ h in
     let one = token_some kind text is in
     let rest_cut = more (place + length text) behind (subst (λ l. length behind < length l) (sym same) (shorter text behind one)) in
     subst P (sym same) (subst (IsCutSo place (text ++ behind)) (sym (put text behind place kind one at))
-      (token place kind text behind _ _ is ends rest_cut))
+    (token place kind text behind _ _ is ends rest_cut))
 cut_by place bytes f some h (a_fault kind stuck of) more = subst (IsCutSo place bytes) (sym (stopped bytes place kind some h)) (fault place kind bytes stuck of)
 
 cut : (n place : ℕ) (bytes : List ℕ) → length bytes < n → IsCutSo place bytes (lexed_from place bytes)

@@ -13,14 +13,14 @@ use Rattle.sm_syntax.specs.declared.token.Token.{Token}
 use Rattle.sm_syntax.specs.declared.token.TokenKind.{TokenKind}
 use Rattle.sm_syntax.specs.declared.token.TokenKind.TheVariants.{Word, Number, Sign}
 use Rattle.sm_syntax.specs.declared.tree.Sort.{Sort}
-use Rattle.sm_syntax.specs.Conditions.{Refusal, DoubleName, is_in, first_repeated, first_refusal, ill_formed, program_fault, double_name, first_of_all, double_hole, hole_in_filling, unknown_hole, missing_filling, ill_assumed}
-use Rattle.sm_syntax.specs.ConflictFree.{Copy, O, A, B, M}
-use Rattle.sm_syntax.specs.Fill.{fill}
-use Rattle.sm_syntax.specs.Grammar as g
-use Rattle.sm_syntax.specs.Grammar.{Marked, plain, AreNames, AreDeclarations, IsTask, with_sort}
-use Rattle.sm_syntax.specs.Parts.{Parts}
-use Rattle.sm_syntax.specs.Symbols.{text_of, is_among, with_text, names_after, mark_or, symbol_by, symbol_of, symbols_among, names_among, symbols_of}
-use Rattle.sm_syntax.specs.Tokens.{mark_of_word, mark_of_sign, lexed}
+use Rattle.sm_syntax.specs.text.Conditions.{Refusal, DoubleName, is_in, first_repeated, first_refusal, ill_formed, program_fault, double_name, first_of_all, double_hole, hole_in_filling, unknown_hole, missing_filling, ill_assumed}
+use Rattle.sm_syntax.specs.claim.ConflictFree.{Copy, O, A, B, M}
+use Rattle.sm_syntax.specs.claim.Fill.{fill}
+use Rattle.sm_syntax.specs.text.Grammar as g
+use Rattle.sm_syntax.specs.text.Grammar.{Marked, plain, AreNames, AreDeclarations, IsTask, with_sort}
+use Rattle.sm_syntax.specs.text.Parts.{Parts}
+use Rattle.sm_syntax.specs.text.Symbols.{text_of, is_among, with_text, names_after, mark_or, symbol_by, symbol_of, symbols_among, names_among, symbols_of}
+use Rattle.sm_syntax.specs.text.Tokens.{mark_of_word, mark_of_sign, lexed}
 use Rattle.sm_syntax.proofs.Numbering.{with_text-among, with_text-new, number-last}
 use Rattle.sm_text.specs.BlockTokens.{signs}
 use Rattle.sm_text.proofs.Counted.{among-below, fresh-last}

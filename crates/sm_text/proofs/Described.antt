@@ -14,14 +14,14 @@ use Rattle.sm_syntax.specs.declared.tree.Cmp.TheVariants.{Eq, Ne, Lt, Le, Gt, Ge
 use Rattle.sm_syntax.specs.declared.tree.Name.{Name}
 use Rattle.sm_syntax.specs.declared.tree.Sort.{Sort}
 use Rattle.sm_syntax.specs.declared.tree.Sort.TheVariants.{Num, Arr}
-use Rattle.sm_syntax.specs.Syntax as plain_code
-use Rattle.sm_syntax.specs.Syntax.{Expression, Condition, Code}
-use Rattle.sm_syntax.specs.Fill.{Fillings}
-use Rattle.sm_syntax.specs.ConflictFree as claim
-use Rattle.sm_syntax.specs.ConflictFree.{Copy}
-use Rattle.sm_syntax.specs.Grammar as g
-use Rattle.sm_syntax.specs.Grammar.{Marked, plain, word, opens, joins, comparison, declares, IsExpression, IsCondition, IsHoleNumber, AreStatements, IsBlock, AreNames, AreDeclarations, AreOutputs, IsAssumption, IsShared, AreFillings, IsList, IsTask, with_sort}
-use Rattle.sm_syntax.specs.Parts.{by_copy}
+use Rattle.sm_syntax.specs.claim.Syntax as plain_code
+use Rattle.sm_syntax.specs.claim.Syntax.{Expression, Condition, Code}
+use Rattle.sm_syntax.specs.claim.Fill.{Fillings}
+use Rattle.sm_syntax.specs.claim.ConflictFree as claim
+use Rattle.sm_syntax.specs.claim.ConflictFree.{Copy}
+use Rattle.sm_syntax.specs.text.Grammar as g
+use Rattle.sm_syntax.specs.text.Grammar.{Marked, plain, word, opens, joins, comparison, declares, IsExpression, IsCondition, IsHoleNumber, AreStatements, IsBlock, AreNames, AreDeclarations, AreOutputs, IsAssumption, IsShared, AreFillings, IsList, IsTask, with_sort}
+use Rattle.sm_syntax.specs.text.Parts.{by_copy}
 use Rattle.sm_text.specs.declared.reading.FaultKind.TheVariants.{Expected}
 use Rattle.sm_text.specs.Parsers.{rest, Parser, ◌>>◌, pure, skip, refuse, stands, inside}
 use Rattle.sm_text.specs.Reading as r

@@ -3,10 +3,10 @@ use Rattle.std.proofs.Common.{◌≡◌, ℕ, refl, sym, ap, ◌∙◌, subst, O
 use Rattle.std.proofs.lemmas.List.{append-nil, map-append}
 use Rattle.sm_syntax.specs.declared.symbol.Symbol.{Symbol}
 use Rattle.sm_syntax.specs.declared.token.Token.{Token}
-use Rattle.sm_syntax.specs.Grammar.{plain}
-use Rattle.sm_syntax.specs.Parts.{Parts}
-use Rattle.sm_syntax.specs.Spells.{IsInGrammar}
-use Rattle.sm_syntax.specs.Symbols.{symbols_of}
+use Rattle.sm_syntax.specs.text.Grammar.{plain}
+use Rattle.sm_syntax.specs.text.Parts.{Parts}
+use Rattle.sm_syntax.specs.text.Spells.{IsInGrammar}
+use Rattle.sm_syntax.specs.text.Symbols.{symbols_of}
 use Rattle.sm_text.specs.declared.error.TextError.{TextError}
 use Rattle.sm_text.specs.declared.error.TextError.TheVariants as error
 use Rattle.sm_text.specs.Places.{Source, AreTasks, IsViable, IsWhole, IsUnexpected, NestsTooDeep, Stands, at_token, at_end, IsFault, all_symbols, whole_text}

@@ -4,9 +4,9 @@ use Rattle.std.proofs.lemmas.Bool.Decides.{nat_tests}
 use Rattle.sm_syntax.specs.declared.symbol.Mark.{Mark}
 use Rattle.sm_syntax.specs.declared.symbol.Mark.TheVariants as mark
 use Rattle.sm_syntax.specs.declared.symbol.Symbol.TheVariants as s
-use Rattle.sm_syntax.specs.Syntax.{Expression, Read, Condition, Code, Write, If, While}
-use Rattle.sm_syntax.specs.Grammar as g
-use Rattle.sm_syntax.specs.Grammar.{Marked, plain, word, opens, joins, Level, IsExpression, Rank, IsCondition, AreStatements, IsBlock}
+use Rattle.sm_syntax.specs.claim.Syntax.{Expression, Read, Condition, Code, Write, If, While}
+use Rattle.sm_syntax.specs.text.Grammar as g
+use Rattle.sm_syntax.specs.text.Grammar.{Marked, plain, word, opens, joins, Level, IsExpression, Rank, IsCondition, AreStatements, IsBlock}
 use Rattle.sm_text.proofs.Fitting.{IsClean, clean_left, clean_right}
 
 -- a group that doesn't nest too deep doesn't where fewer are open

@@ -6,8 +6,8 @@ use Rattle.sm_syntax.specs.declared.symbol.Symbol.{Symbol}
 use Rattle.sm_syntax.specs.declared.token.LexFault.{LexFault}
 use Rattle.sm_syntax.specs.declared.token.LexKind.TheVariants as kind
 use Rattle.sm_syntax.specs.declared.token.Token.{Token}
-use Rattle.sm_syntax.specs.Symbols.{symbols_among, symbols_of, names_of}
-use Rattle.sm_syntax.specs.Tokens.{Front, Gap, Piece, Fault, Lexed, front_of, by_front, lexed_behind, lexed_from, lexed}
+use Rattle.sm_syntax.specs.text.Symbols.{symbols_among, symbols_of, names_of}
+use Rattle.sm_syntax.specs.text.Tokens.{Front, Gap, Piece, Fault, Lexed, front_of, by_front, lexed_behind, lexed_from, lexed}
 use Rattle.sm_text.specs.declared.error.TextError.{TextError}
 use Rattle.sm_text.specs.declared.error.TextError.TheVariants as error
 use Rattle.sm_text.specs.declared.reading.Fault as reading

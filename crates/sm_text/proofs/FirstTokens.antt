@@ -3,10 +3,10 @@ use Rattle.std.proofs.Common.{◌≡◌, ℕ, ◌+◌, ◌-◌, ◌≤◌, refl,
 use Rattle.std.proofs.lemmas.List.{length-map, length-drop, length-take-le, take-take}
 use Rattle.sm_syntax.specs.declared.symbol.Symbol.{Symbol}
 use Rattle.sm_syntax.specs.declared.token.Token.{Token}
-use Rattle.sm_syntax.specs.Grammar.{Marked, IsBlock}
-use Rattle.sm_syntax.specs.Symbols.{symbol_of, names_after}
-use Rattle.sm_syntax.specs.Syntax.{Code}
-use Rattle.sm_syntax.specs.Tokens.{lexed}
+use Rattle.sm_syntax.specs.text.Grammar.{Marked, IsBlock}
+use Rattle.sm_syntax.specs.text.Symbols.{symbol_of, names_after}
+use Rattle.sm_syntax.specs.claim.Syntax.{Code}
+use Rattle.sm_syntax.specs.text.Tokens.{lexed}
 use Rattle.sm_text.specs.declared.reading.Fault.{Fault}
 use Rattle.sm_text.specs.BlockTokens.{signs, IsFirstBlock}
 use Rattle.sm_text.specs.NameCounts.{names_counted}

@@ -3,11 +3,11 @@ use Rattle.std.proofs.Common.{◌≡◌, ℕ, suc, ◌+◌, ◌<◌, ◌≤◌, 
 use Rattle.std.proofs.lemmas.Bool.Decides.{nat_tests}
 use Rattle.sm_syntax.specs.declared.symbol.Mark.TheVariants as mark
 use Rattle.sm_syntax.specs.declared.symbol.Symbol.{Symbol}
-use Rattle.sm_syntax.specs.Syntax.{Expression, Condition, Code, End, Skip, Assign, Write, If, While, Hole, append}
-use Rattle.sm_syntax.specs.Conditions.{code_depth}
-use Rattle.sm_syntax.specs.Fill.{Fillings, filling, fill}
-use Rattle.sm_syntax.specs.Grammar as g
-use Rattle.sm_syntax.specs.Grammar.{Marked, plain, Level, IsExpression, Rank, IsCondition, IsHoleNumber, AreStatements, IsBlock, IsAssumption, IsShared, AreNames, AreOutputs, AreFillings, IsList}
+use Rattle.sm_syntax.specs.claim.Syntax.{Expression, Condition, Code, End, Skip, Assign, Write, If, While, Hole, append}
+use Rattle.sm_syntax.specs.text.Conditions.{code_depth}
+use Rattle.sm_syntax.specs.claim.Fill.{Fillings, filling, fill}
+use Rattle.sm_syntax.specs.text.Grammar as g
+use Rattle.sm_syntax.specs.text.Grammar.{Marked, plain, Level, IsExpression, Rank, IsCondition, IsHoleNumber, AreStatements, IsBlock, IsAssumption, IsShared, AreNames, AreOutputs, AreFillings, IsList}
 use Rattle.sm_text.proofs.Shown.{reads, reads_tested, IsPrintable}
 
 -- nothing nests too deep

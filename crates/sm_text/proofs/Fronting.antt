@@ -9,7 +9,7 @@ use Rattle.std.specs.Char.{is_ascii_digit, digit_value}
 use Rattle.std.specs.List.{prefix_len, AllPass}
 use Rattle.std.specs.Str.{IsAscii}
 use Rattle.std.specs.Str.Parse.{digits_value}
-use Rattle.sm_syntax.specs.Tokens.{is_word_byte}
+use Rattle.sm_syntax.specs.text.Tokens.{is_word_byte}
 
 -- each byte of a run passes
 pub AllPass-run : (p : ℕ → Bool) (bytes : List ℕ) → AllPass p (take (prefix_len p bytes) bytes)

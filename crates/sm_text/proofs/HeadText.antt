@@ -6,12 +6,12 @@ use Rattle.std.specs.Prelude.{slice_get}
 use Rattle.sm_syntax.specs.declared.symbol.Symbol.{Symbol}
 use Rattle.sm_syntax.specs.declared.symbol.Symbol.TheVariants as s
 use Rattle.sm_syntax.specs.declared.tree.Sort.{Sort}
-use Rattle.sm_syntax.specs.Conditions.{names_in, names_tested}
-use Rattle.sm_syntax.specs.Grammar.{Marked, plain}
-use Rattle.sm_syntax.specs.Parts.{sort_of}
-use Rattle.sm_syntax.specs.Symbols.{is_among, with_text, symbol_of}
-use Rattle.sm_syntax.specs.Syntax.{Expression, Lit, Var, Read, Neg, Plus, Minus, Times, Condition, Yes, No, Compare, Not, And, Or}
-use Rattle.sm_syntax.specs.Tokens.{Lexed, lexed}
+use Rattle.sm_syntax.specs.text.Conditions.{names_in, names_tested}
+use Rattle.sm_syntax.specs.text.Grammar.{Marked, plain}
+use Rattle.sm_syntax.specs.text.Parts.{sort_of}
+use Rattle.sm_syntax.specs.text.Symbols.{is_among, with_text, symbol_of}
+use Rattle.sm_syntax.specs.claim.Syntax.{Expression, Lit, Var, Read, Neg, Plus, Minus, Times, Condition, Yes, No, Compare, Not, And, Or}
+use Rattle.sm_syntax.specs.text.Tokens.{Lexed, lexed}
 use Rattle.sm_syntax.proofs.Numbering.{with_text-among, is_among-with_text, grown-with_text}
 use Rattle.sm_text.specs.Fragments.{ProgramParts, IsProgram, program, HasProgramText}
 use Rattle.sm_text.specs.Pieces.{text_of}

@@ -2,9 +2,9 @@
 use Rattle.std.proofs.Common.{ℕ, sym, ◌≡◌, subst, Ok, List, [], map}
 use Rattle.std.proofs.lemmas.List.{append-nil}
 use Rattle.sm_syntax.specs.declared.symbol.Symbol.{Symbol}
-use Rattle.sm_syntax.specs.ConflictFree.{Copy}
-use Rattle.sm_syntax.specs.Fill.{Fillings}
-use Rattle.sm_syntax.specs.Grammar.{Marked, plain}
+use Rattle.sm_syntax.specs.claim.ConflictFree.{Copy}
+use Rattle.sm_syntax.specs.claim.Fill.{Fillings}
+use Rattle.sm_syntax.specs.text.Grammar.{Marked, plain}
 use Rattle.sm_text.specs.Places.{AreTasks, ArePrograms, IsViable}
 use Rattle.sm_text.specs.ProgramReading as p
 use Rattle.sm_text.specs.ProgramReading.{ProgramBody, program_from}

@@ -14,7 +14,7 @@ use Rattle.sm_syntax.specs.declared.token.TokenKind.{TokenKind}
 use Rattle.sm_syntax.specs.declared.token.TokenKind.TheVariants.{Word, Number, Sign}
 use Rattle.sm_text.specs.TokenTexts.{IsText, IsTokenOf}
 use Rattle.sm_text.proofs.Fronting.{AllPass-run, IsAscii-run}
-use Rattle.sm_syntax.specs.Tokens.{Front, Gap, Piece, Fault, Lexed, front_of, word_at, number_at, sign_at, is_space, is_hash, is_word_start, is_word_byte, is_in_line, mark_of_sign, by_front, with_token, lexed_behind, lexed_from, lexed}
+use Rattle.sm_syntax.specs.text.Tokens.{Front, Gap, Piece, Fault, Lexed, front_of, word_at, number_at, sign_at, is_space, is_hash, is_word_start, is_word_byte, is_in_line, mark_of_sign, by_front, with_token, lexed_behind, lexed_from, lexed}
 
 -- a front has at least one byte and no more than there are, and a token's bytes are of its kind
 abbrev pub Suits : List ℕ → Front → Type 0

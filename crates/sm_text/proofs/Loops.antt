@@ -4,11 +4,11 @@ use Rattle.sm_syntax.specs.declared.symbol.Mark.TheVariants as mark
 use Rattle.sm_syntax.specs.declared.symbol.Symbol.{Symbol}
 use Rattle.sm_syntax.specs.declared.tree.Name.{Name}
 use Rattle.sm_syntax.specs.declared.tree.Sort.{Sort}
-use Rattle.sm_syntax.specs.Syntax as plain
-use Rattle.sm_syntax.specs.Syntax.{Expression, Condition, Code}
+use Rattle.sm_syntax.specs.claim.Syntax as plain
+use Rattle.sm_syntax.specs.claim.Syntax.{Expression, Condition, Code}
 use Rattle.sm_syntax.specs.declared.symbol.Mark.{Mark}
-use Rattle.sm_syntax.specs.ConflictFree.{Copy}
-use Rattle.sm_syntax.specs.Fill.{Fillings}
+use Rattle.sm_syntax.specs.claim.ConflictFree.{Copy}
+use Rattle.sm_syntax.specs.claim.Fill.{Fillings}
 use Rattle.sm_text.specs.declared.reading.Fault.{Fault}
 use Rattle.sm_text.specs.declared.reading.FaultKind.TheVariants.{Expected, Nested}
 use Rattle.sm_text.specs.declared.reading.ReadError.{ReadError}
@@ -18,7 +18,7 @@ use Rattle.sm_text.specs.Parsers.{first, rest, fault, expect, Parser, Operators,
 use Rattle.sm_text.specs.Reading as r
 use Rattle.sm_text.specs.Written.{front_of}
 use Rattle.sm_syntax.specs.declared.tree.Stmt.{Stmt}
-use Rattle.sm_syntax.specs.Views.{statement_of}
+use Rattle.sm_syntax.specs.trees.Views.{statement_of}
 use Rattle.sm_syntax.proofs.Blocks.{sequence-push}
 use Rattle.std.proofs.Math.Path.{fun_ext}
 use Rattle.sm_text.proofs.Told.{shorter}

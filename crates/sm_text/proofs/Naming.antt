@@ -11,8 +11,8 @@ use Rattle.sm_syntax.specs.declared.symbol.Symbol.TheVariants.{Name}
 use Rattle.sm_syntax.specs.declared.token.Token.{Token}
 use Rattle.sm_syntax.specs.declared.token.TokenKind.{TokenKind}
 use Rattle.sm_syntax.specs.declared.token.TokenKind.TheVariants.{Word, Number, Sign}
-use Rattle.sm_syntax.specs.Tokens.{mark_of_word, lexed}
-use Rattle.sm_syntax.specs.Symbols.{text_of, is_among, with_text, is_name, names_after, mark_or, symbol_by, symbol_of, names_among, symbols_among, names_of, symbols_of}
+use Rattle.sm_syntax.specs.text.Tokens.{mark_of_word, lexed}
+use Rattle.sm_syntax.specs.text.Symbols.{text_of, is_among, with_text, is_name, names_after, mark_or, symbol_by, symbol_of, names_among, symbols_among, names_of, symbols_of}
 use Rattle.sm_syntax.proofs.Numbering.{is_among-with_text, number-append, grown-with_text}
 
 -- the names after one more token

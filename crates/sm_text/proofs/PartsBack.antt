@@ -2,11 +2,11 @@
 use Rattle.std.proofs.Common.{◌≡◌, ℕ, zero, suc, ◌≤◌, true, List, [], ◌++◌, length, map, refl, sym, ap, ◌∙◌, subst, append-nil, arith}
 use Rattle.std.specs.List.{AllByRecursion, list_all}
 use Rattle.sm_syntax.specs.declared.symbol.Symbol.{Symbol}
-use Rattle.sm_syntax.specs.Conditions.{condition_depth, code_depth}
-use Rattle.sm_syntax.specs.Grammar.{Marked, plain, Disjunction, IsCondition, IsBlock}
-use Rattle.sm_syntax.specs.Symbols.{names_of, symbols_of}
-use Rattle.sm_syntax.specs.Syntax.{Condition, Code}
-use Rattle.sm_syntax.specs.Tokens.{Lexed, is_space}
+use Rattle.sm_syntax.specs.text.Conditions.{condition_depth, code_depth}
+use Rattle.sm_syntax.specs.text.Grammar.{Marked, plain, Disjunction, IsCondition, IsBlock}
+use Rattle.sm_syntax.specs.text.Symbols.{names_of, symbols_of}
+use Rattle.sm_syntax.specs.claim.Syntax.{Condition, Code}
+use Rattle.sm_syntax.specs.text.Tokens.{Lexed, is_space}
 use Rattle.sm_text.specs.Canonical.{condition_pieces, block_pieces, declaration_pieces, output_pieces, shared_pieces, program_pieces}
 use Rattle.sm_text.specs.Fragments.{ProgramParts, IsProgram, program, SpellsProgram, HasProgramText, IsNamedProgram, IsKnown, symbols_under, IsCutUnder, SpellsCondition, HasConditionText, SpellsBlock, HasBlockText}
 use Rattle.sm_text.specs.Named.{IsTestedIn, IsUsedIn}

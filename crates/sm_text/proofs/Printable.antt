@@ -9,13 +9,13 @@ use Rattle.sm_syntax.specs.declared.symbol.Mark.{Mark}
 use Rattle.sm_syntax.specs.declared.symbol.Mark.TheVariants as mark
 use Rattle.sm_syntax.specs.declared.symbol.Symbol.{Symbol}
 use Rattle.sm_syntax.specs.declared.tree.Sort.{Sort}
-use Rattle.sm_syntax.specs.Syntax.{Condition, Code, End, Skip, Assign, Write, If, While, Hole}
-use Rattle.sm_syntax.specs.Conditions.{Refusal, DoubleHole, UnknownHole, TooMany, TooDeep, is_in, first_repeated, first_outside, first_of_all, first_of_lists, Shared, ListOf, at_hole, holes_of, filled_holes, double_hole, hole_in_filling, unknown_hole, missing_filling, names_tested, names_used, double_name, first_output_fault, first_sort_fault, over, size_fault, program_fault, ill_formed, ill_assumed, first_refusal, condition_depth, code_depth, condition_nodes, code_nodes}
-use Rattle.sm_syntax.specs.Fill.{Fillings, filling, fill}
-use Rattle.sm_syntax.specs.ConflictFree.{Copy, O, A, B, M}
-use Rattle.sm_syntax.specs.Parts.{Parts, sort_of}
-use Rattle.sm_syntax.specs.Grammar as g
-use Rattle.sm_syntax.specs.Grammar.{Marked, plain, IsAssumption, IsShared, AreNames, AreOutputs, AreFillings, IsList, IsTask}
+use Rattle.sm_syntax.specs.claim.Syntax.{Condition, Code, End, Skip, Assign, Write, If, While, Hole}
+use Rattle.sm_syntax.specs.text.Conditions.{Refusal, DoubleHole, UnknownHole, TooMany, TooDeep, is_in, first_repeated, first_outside, first_of_all, first_of_lists, Shared, ListOf, at_hole, holes_of, filled_holes, double_hole, hole_in_filling, unknown_hole, missing_filling, names_tested, names_used, double_name, first_output_fault, first_sort_fault, over, size_fault, program_fault, ill_formed, ill_assumed, first_refusal, condition_depth, code_depth, condition_nodes, code_nodes}
+use Rattle.sm_syntax.specs.claim.Fill.{Fillings, filling, fill}
+use Rattle.sm_syntax.specs.claim.ConflictFree.{Copy, O, A, B, M}
+use Rattle.sm_syntax.specs.text.Parts.{Parts, sort_of}
+use Rattle.sm_syntax.specs.text.Grammar as g
+use Rattle.sm_syntax.specs.text.Grammar.{Marked, plain, IsAssumption, IsShared, AreNames, AreOutputs, AreFillings, IsList, IsTask}
 use Rattle.sm_text.proofs.Shown.{IsPrintable}
 use Rattle.sm_text.proofs.TaskShown.{FitsAssumption, ArePrintable, HasOutput, IsPrintableTask}
 use Rattle.sm_text.proofs.Fitting.{IsClean, clean_left, clean_right, clean_plain, condition_reads, block_fits, depth-append, depth-fill}

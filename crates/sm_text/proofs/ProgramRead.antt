@@ -3,9 +3,9 @@ use Rattle.std.proofs.Common.{◌≡◌, ℕ, refl, sym, ap, ◌∙◌, subst, O
 use Rattle.std.proofs.lemmas.List.{append-nil}
 use Rattle.sm_syntax.specs.declared.symbol.Symbol.{Symbol}
 use Rattle.sm_syntax.specs.declared.tree.Sort.{Sort}
-use Rattle.sm_syntax.specs.Syntax.{Code}
-use Rattle.sm_syntax.specs.Grammar.{Marked, plain, AreDeclarations, AreOutputs, IsShared}
-use Rattle.sm_syntax.specs.Symbols.{names_of, symbols_of}
+use Rattle.sm_syntax.specs.claim.Syntax.{Code}
+use Rattle.sm_syntax.specs.text.Grammar.{Marked, plain, AreDeclarations, AreOutputs, IsShared}
+use Rattle.sm_syntax.specs.text.Symbols.{names_of, symbols_of}
 use Rattle.sm_text.specs.declared.reading.Fault.{Fault}
 use Rattle.sm_text.specs.declared.reading.FaultKind.TheVariants.{Expected}
 use Rattle.sm_text.specs.declared.reading.ReadError.{ReadError}

@@ -4,11 +4,11 @@ use Rattle.std.specs.List.{AllByRecursion}
 use Rattle.std.specs.Prelude.{slice_get, unwrap_or}
 use Rattle.sm_syntax.specs.declared.symbol.Symbol.{Symbol}
 use Rattle.sm_syntax.specs.declared.symbol.Symbol.TheVariants as s
-use Rattle.sm_syntax.specs.Grammar.{plain, IsTask}
-use Rattle.sm_syntax.specs.Parts.{Parts}
-use Rattle.sm_syntax.specs.Spells.{Spells}
-use Rattle.sm_syntax.specs.Symbols.{with_text, names_of, symbols_of}
-use Rattle.sm_syntax.specs.Tokens.{Lexed, lexed}
+use Rattle.sm_syntax.specs.text.Grammar.{plain, IsTask}
+use Rattle.sm_syntax.specs.text.Parts.{Parts}
+use Rattle.sm_syntax.specs.text.Spells.{Spells}
+use Rattle.sm_syntax.specs.text.Symbols.{with_text, names_of, symbols_of}
+use Rattle.sm_syntax.specs.text.Tokens.{Lexed, lexed}
 use Rattle.sm_text.specs.Canonical.{task_pieces}
 use Rattle.sm_text.specs.Named.{HasText}
 use Rattle.sm_text.specs.Pieces.{Piece, text_of, symbols_in}

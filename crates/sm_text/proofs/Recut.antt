@@ -7,7 +7,7 @@ use Rattle.sm_syntax.specs.declared.symbol.Symbol.TheVariants as s
 use Rattle.sm_syntax.specs.declared.token.TokenKind.{TokenKind}
 use Rattle.sm_syntax.specs.declared.token.TokenKind.TheVariants as kind
 use Rattle.sm_syntax.specs.declared.token.Token as lexical
-use Rattle.sm_syntax.specs.Tokens.{Lexed, is_space, is_word_start, is_word_byte, mark_of_word, with_token, lexed, lexed_from}
+use Rattle.sm_syntax.specs.text.Tokens.{Lexed, is_space, is_word_start, is_word_byte, mark_of_word, with_token, lexed, lexed_from}
 use Rattle.sm_text.specs.Pieces.{Piece, Token, Gap, bytes_of, text_of}
 use Rattle.sm_text.proofs.Relexed.{begins, Cuts, mark_kind, goes_on_mark, mark_cut, number_cut, word_cut, lexed-gap}
 

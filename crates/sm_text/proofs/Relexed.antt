@@ -12,7 +12,7 @@ use Rattle.sm_syntax.specs.declared.symbol.Mark.TheVariants as mark
 use Rattle.sm_syntax.specs.declared.token.LexKind.TheVariants.{BadToken, WideNumber}
 use Rattle.sm_syntax.specs.declared.token.TokenKind.{TokenKind}
 use Rattle.sm_syntax.specs.declared.token.TokenKind.TheVariants as kind
-use Rattle.sm_syntax.specs.Tokens.{Front, Gap, Piece, Fault, front_of, word_at, number_at, sign_at, is_space, is_hash, is_word_start, is_word_byte, mark_of_sign, signs, by_front, with_token, lexed_behind, lexed_from}
+use Rattle.sm_syntax.specs.text.Tokens.{Front, Gap, Piece, Fault, front_of, word_at, number_at, sign_at, is_space, is_hash, is_word_start, is_word_byte, mark_of_sign, signs, by_front, with_token, lexed_behind, lexed_from}
 use Rattle.sm_text.specs.Pieces.{spelling}
 
 pub both-left : (a b : Bool) → (a && b) ≡ true → a ≡ true

@@ -19,9 +19,9 @@ use Rattle.sm_syntax.specs.declared.token.LexKind.TheVariants.{BadByte, BadToken
 use Rattle.sm_syntax.specs.declared.token.Token as lexical
 use Rattle.sm_syntax.specs.declared.token.TokenKind.{TokenKind}
 use Rattle.sm_syntax.specs.declared.token.TokenKind.TheVariants as kind
-use Rattle.sm_syntax.specs.Tokens.{Front, Gap, Piece, Fault, front_of, word_at, number_at, sign_at, is_space, is_hash, is_in_line, is_word_start, is_word_byte, mark_of_word, reserved_words, mark_of_sign, signs, by_front, Lexed, lexed_behind, lexed_from, lexed}
-use Rattle.sm_syntax.specs.Symbols as symbol
-use Rattle.sm_syntax.specs.Symbols.{is_among, with_text, is_name, names_after, mark_or, symbol_by, symbol_of, names_among, symbols_among, names_of, symbols_of}
+use Rattle.sm_syntax.specs.text.Tokens.{Front, Gap, Piece, Fault, front_of, word_at, number_at, sign_at, is_space, is_hash, is_in_line, is_word_start, is_word_byte, mark_of_word, reserved_words, mark_of_sign, signs, by_front, Lexed, lexed_behind, lexed_from, lexed}
+use Rattle.sm_syntax.specs.text.Symbols as symbol
+use Rattle.sm_syntax.specs.text.Symbols.{is_among, with_text, is_name, names_after, mark_or, symbol_by, symbol_of, names_among, symbols_among, names_of, symbols_of}
 use Rattle.sm_syntax.proofs.Numbering.{slice_get-number}
 use Rattle.sm_text.specs.Fragments.{IsKnown, symbols_under}
 use Rattle.sm_text.specs.Pieces as pieces

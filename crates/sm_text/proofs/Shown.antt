@@ -4,10 +4,10 @@ use Rattle.std.proofs.lemmas.Bool.Decides.{nat_tests}
 use Rattle.sm_syntax.specs.declared.symbol.Mark.{Mark}
 use Rattle.sm_syntax.specs.declared.symbol.Mark.TheVariants as mark
 use Rattle.sm_syntax.specs.declared.symbol.Symbol.TheVariants as s
-use Rattle.sm_syntax.specs.Syntax.{Expression, Lit, Var, Read, Neg, Plus, Minus, Times, Condition, Yes, No, Compare, Not, And, Or, Code, End, Skip, Assign, Write, If, While, Hole}
-use Rattle.sm_syntax.specs.Conditions.{expression_depth, condition_depth}
-use Rattle.sm_syntax.specs.Grammar as g
-use Rattle.sm_syntax.specs.Grammar.{Marked, plain, opens, joins, Atom, Unary, Product, Sum, IsExpression, comparison, Test, Literal, Conjunction, Disjunction, IsCondition, IsHoleNumber, AreStatements, IsBlock}
+use Rattle.sm_syntax.specs.claim.Syntax.{Expression, Lit, Var, Read, Neg, Plus, Minus, Times, Condition, Yes, No, Compare, Not, And, Or, Code, End, Skip, Assign, Write, If, While, Hole}
+use Rattle.sm_syntax.specs.text.Conditions.{expression_depth, condition_depth}
+use Rattle.sm_syntax.specs.text.Grammar as g
+use Rattle.sm_syntax.specs.text.Grammar.{Marked, plain, opens, joins, Atom, Unary, Product, Sum, IsExpression, comparison, Test, Literal, Conjunction, Disjunction, IsCondition, IsHoleNumber, AreStatements, IsBlock}
 use Rattle.sm_text.specs.Pieces.{Piece, Token, Gap, symbols_in, word, name, space, line_end, deeper, line}
 use Rattle.sm_text.specs.Canonical.{between, is_atom, operand, element_pieces, expression_pieces, is_test, part, condition_pieces, braces, branches, guard_pieces, code_pieces}
 

@@ -3,10 +3,10 @@ use Rattle.std.proofs.Common.{◌≡◌, ℕ, zero, suc, ◌-◌, Bool, true, fa
 use Rattle.std.specs.List.{AllByRecursion}
 use Rattle.sm_syntax.specs.declared.symbol.Symbol.{Symbol}
 use Rattle.sm_syntax.specs.declared.symbol.Symbol.TheVariants as s
-use Rattle.sm_syntax.specs.Grammar.{plain, IsBlock}
-use Rattle.sm_syntax.specs.Symbols.{symbol_of, names_after}
-use Rattle.sm_syntax.specs.Syntax.{Code}
-use Rattle.sm_syntax.specs.Tokens.{is_word_byte, lexed}
+use Rattle.sm_syntax.specs.text.Grammar.{plain, IsBlock}
+use Rattle.sm_syntax.specs.text.Symbols.{symbol_of, names_after}
+use Rattle.sm_syntax.specs.claim.Syntax.{Code}
+use Rattle.sm_syntax.specs.text.Tokens.{is_word_byte, lexed}
 use Rattle.sm_text.specs.Fragments.{HasBlockText}
 use Rattle.sm_text.specs.Pieces.{Piece, Token, space, text_of, symbols_in}
 use Rattle.sm_text.specs.Prefixes.{between, SpellsBlockAt}

@@ -11,7 +11,7 @@ use Rattle.sm_syntax.specs.declared.token.LexKind.{LexKind}
 use Rattle.sm_syntax.specs.declared.token.LexKind.TheVariants.{BadByte, BadToken, WideNumber}
 use Rattle.sm_syntax.specs.declared.token.TokenKind.{TokenKind}
 use Rattle.sm_syntax.specs.declared.token.TokenKind.TheVariants.{Word, Number, Sign}
-use Rattle.sm_syntax.specs.Tokens.{Table, entry, signs, Front, Gap, Piece, Fault, front_of, word_at, number_at, sign_at, is_space, is_hash, is_in_line, is_word_start, is_word_byte, mark_of_sign}
+use Rattle.sm_syntax.specs.text.Tokens.{Table, entry, signs, Front, Gap, Piece, Fault, front_of, word_at, number_at, sign_at, is_space, is_hash, is_in_line, is_word_start, is_word_byte, mark_of_sign}
 use Rattle.sm_text.specs.Cutting.{begins, IsNumber, IsToken, Ends, IsStuck, is_half, HasNumber, IsFaultOf}
 use Rattle.sm_text.proofs.Relexed.{both-left, both-right, run_of, digits_are_word, no_digit, take_front}
 
@@ -34,6 +34,7 @@ entry_passes p (e ∷ table) text all some =
   where
     found : Bool → Option (List ℕ × Mark)
     found t = if t then Some e else find (λ (e : List ℕ × Mark). bytes_eq text e.0) table
+
     by : (t : Bool) → (t ≡ true → text ≡ e.0) → (is_some (entry table text) ≡ true → p text ≡ true) → is_some (option_map (λ (e : List ℕ × Mark). e.1) (found t)) ≡ true → p text ≡ true
     by true same other some = ap p (same refl) ∙ both-left (p e.0) (list_all (λ (e : List ℕ × Mark). p e.0) table) all
     by false same other some = other some
@@ -98,7 +99,7 @@ stands_comment b rest h =
     let r = run is_in_line rest in
     let P : ℕ → Type 0 = λ n. Stands (b ∷ rest) (Gap n) in
     let size : length (35 ∷ r.text) ≡ prefix_len is_in_line (b ∷ rest) =
-        one_more r.text ∙ ap (λ n. 1 + n) (sym (run_size is_in_line rest r)) ∙ ap (λ t. if t then 1 + prefix_len is_in_line rest else 0) (sym (hash_in_line b h)) in
+    one_more r.text ∙ ap (λ n. 1 + n) (sym (run_size is_in_line rest r)) ∙ ap (λ t. if t then 1 + prefix_len is_in_line rest else 0) (sym (hash_in_line b h)) in
     subst P size (a_comment r.text r.behind (ap (λ l. b ∷ l) r.same ∙ ap (λ c. c ∷ r.text ++ r.behind) (sym (hash_is b h))) r.all r.ends)
 
 -- the first byte of a token tells its kind
@@ -160,11 +161,11 @@ no_number b rest h n = true≢false (sym (first_of_text is_ascii_digit b rest n.
 -- a word that is too long
 stuck_word : (b : ℕ) (rest : List ℕ) → is_word_start b ≡ true → 64 < prefix_len is_word_byte (b ∷ rest) → IsStuck (b ∷ rest)
 stuck_word b rest h long = record {
-    some = omega arith;
-    space = letter_no_space b (start_in_word b h);
-    hash = letter_no_hash b (start_in_word b h);
-    token = none;
-  }
+  some = omega arith;
+  space = letter_no_space b (start_in_word b h);
+  hash = letter_no_hash b (start_in_word b h);
+  token = none;
+}
   where
     none : (kind : TokenKind) (text behind : List ℕ) → b ∷ rest ≡ text ++ behind → IsToken kind text → Ends kind text behind → ⊥
     none Word text behind same is ends = let size = ap (prefix_len is_word_byte) same ∙ run_of is_word_byte text behind is.0.bytes ends in omega (arith, size, long, is.1)
@@ -181,7 +182,7 @@ stands_word b rest h =
     let P : ℕ → Type 0 = λ n. Stands (b ∷ rest) (Piece Word n) in
     stands_if (b ∷ rest) (nat_le size 64) (Piece Word size) (Fault BadToken)
     (λ short. subst P (sym is) (a_token Word r.text r.behind r.same
-      (record { start = ap (begins is_word_start) front.1 ∙ h; bytes = r.all }, let s = within size 64 short in omega (arith, is, s)) r.ends))
+    (record { start = ap (begins is_word_start) front.1 ∙ h; bytes = r.all }, let s = within size 64 short in omega (arith, is, s)) r.ends))
     (λ long. a_fault BadToken (stuck_word b rest h (over size 64 long)) (or-left (is_word_byte b) (is_half b) (start_in_word b h), no_number b rest h))
 
 -- a run of word bytes goes on behind others
@@ -190,7 +191,7 @@ word_run [] v all = omega arith
 word_run (b ∷ u) v all =
     let more = word_run u v (both-right (is_word_byte b) (list_all is_word_byte u) all) in
     let here : prefix_len is_word_byte (b ∷ (u ++ v)) ≡ 1 + prefix_len is_word_byte (u ++ v) =
-        ap (λ t. if t then 1 + prefix_len is_word_byte (u ++ v) else 0) (both-left (is_word_byte b) (list_all is_word_byte u) all) in
+    ap (λ t. if t then 1 + prefix_len is_word_byte (u ++ v) else 0) (both-left (is_word_byte b) (list_all is_word_byte u) all) in
     omega (arith, more, here)
 
 no_run : (p : ℕ → Bool) (v : List ℕ) → prefix_len p v ≡ 0 → begins p v ≡ false
@@ -210,11 +211,11 @@ has_number b rest r same =
 
 stuck_number : (b : ℕ) (rest : List ℕ) → is_ascii_digit b ≡ true → ((text behind : List ℕ) → b ∷ rest ≡ text ++ behind → IsToken Number text → Ends Number text behind → ⊥) → IsStuck (b ∷ rest)
 stuck_number b rest h not_number = record {
-    some = omega arith;
-    space = letter_no_space b (digit_in_word b h);
-    hash = letter_no_hash b (digit_in_word b h);
-    token = none;
-  }
+  some = omega arith;
+  space = letter_no_space b (digit_in_word b h);
+  hash = letter_no_hash b (digit_in_word b h);
+  token = none;
+}
   where
     none : (kind : TokenKind) (text behind : List ℕ) → b ∷ rest ≡ text ++ behind → IsToken kind text → Ends kind text behind → ⊥
     none Word text behind same is ends = true≢false (sym h ∙ start_no_digit b (first_of_text is_word_start b rest text behind same is.0.start))
@@ -252,20 +253,20 @@ stands_number b rest h =
     let own : value ≡ digits_value 10 r.text = ap (digits_value 10) (taken all r.text r.behind size r.same is) in
     let P : ℕ → Type 0 = λ n. Stands all (Piece Number n) in
     let differ : (wide == size) ≡ false → HasNumber all → ⊥ = λ e n.
-        true≢false (sym (eq-eqb wide size ((number_sizes all n).1 ∙ sym (number_sizes all n).0)) ∙ e) in
+    true≢false (sym (eq-eqb wide size ((number_sizes all n).1 ∙ sym (number_sizes all n).0)) ∙ e) in
     stands_if all (wide == size) (if nat_lt value (2 ^ 127) then Piece Number size else Fault WideNumber) (Fault BadToken)
     (λ e. let ends = has_number b rest r (same_of wide size e) in
-      stands_if all (nat_lt value (2 ^ 127)) (Piece Number size) (Fault WideNumber)
-      (λ small. subst P (sym is) (a_token Number r.text r.behind r.same (number, subst (λ n. n < 2 ^ 127) own (less value (2 ^ 127) small)) ends))
-      (λ large. a_fault WideNumber
-        (stuck_number b rest h (λ text behind same it stops.
-          let n : HasNumber all = record { text = text; behind = behind; same = same; number = it.0; ends = stops } in
-          let mine : value ≡ digits_value 10 text = ap (digits_value 10) (taken all text behind size same (number_sizes all n).0) in
-          omega (arith, mine, it.1, no_less value (2 ^ 127) large)))
-        (record { text = r.text; behind = r.behind; same = r.same; number = number; ends = ends })))
+    stands_if all (nat_lt value (2 ^ 127)) (Piece Number size) (Fault WideNumber)
+    (λ small. subst P (sym is) (a_token Number r.text r.behind r.same (number, subst (λ n. n < 2 ^ 127) own (less value (2 ^ 127) small)) ends))
+    (λ large. a_fault WideNumber
+    (stuck_number b rest h (λ text behind same it stops.
+    let n : HasNumber all = record { text = text; behind = behind; same = same; number = it.0; ends = stops } in
+    let mine : value ≡ digits_value 10 text = ap (digits_value 10) (taken all text behind size same (number_sizes all n).0) in
+    omega (arith, mine, it.1, no_less value (2 ^ 127) large)))
+    (record { text = r.text; behind = r.behind; same = r.same; number = number; ends = ends })))
     (λ e. a_fault BadToken
-      (stuck_number b rest h (λ text behind same it stops. differ e (record { text = text; behind = behind; same = same; number = it.0; ends = stops })))
-      (or-left (is_word_byte b) (is_half b) (digit_in_word b h), differ e))
+    (stuck_number b rest h (λ text behind same it stops. differ e (record { text = text; behind = behind; same = same; number = it.0; ends = stops })))
+    (or-left (is_word_byte b) (is_half b) (digit_in_word b h), differ e))
 
 -- what is no text of a sign is no sign
 not_sign : (text : List ℕ) → is_sign_text text ≡ false → is_some (mark_of_sign text) ≡ false
@@ -295,6 +296,7 @@ no_double b c w fails = by (nat_le 2 (length (b ∷ c ∷ w))) long fails
   where
     long : nat_le 2 (length (b ∷ c ∷ w)) ≡ true
     long = grind (arith, nat_tests)
+
     by : (t : Bool) → t ≡ true → (t && is_some (mark_of_sign (b ∷ c ∷ []))) ≡ false → is_some (mark_of_sign (b ∷ c ∷ [])) ≡ false
     by true l h = h
     by false l h = absurd (true≢false (sym l))
@@ -316,6 +318,7 @@ stuck_sign b rest no_space no_hash no_word no_digit no_two no_one = record { som
     no_sign (c ∷ []) behind same is some = true≢false (sym (ap (λ l. is_some (mark_of_sign (take 1 l))) same ∙ some) ∙ no_one)
     no_sign (c ∷ d ∷ []) behind same is some = true≢false (sym some ∙ no_double c d behind (subst (λ l. is_double l ≡ false) same no_two))
     no_sign (c ∷ d ∷ e ∷ more) behind same is some = true≢false (sym is)
+
     none : (kind : TokenKind) (text behind : List ℕ) → b ∷ rest ≡ text ++ behind → IsToken kind text → Ends kind text behind → ⊥
     none Word text behind same is ends = true≢false (sym (first_of_text is_word_start b rest text behind same is.0.start) ∙ no_word)
     none Number text behind same is ends = true≢false (sym (first_of_text is_ascii_digit b rest text behind same (number_begins text is.0)) ∙ no_digit)

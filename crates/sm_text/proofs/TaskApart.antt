@@ -7,12 +7,12 @@ use Rattle.sm_syntax.specs.declared.symbol.Mark.TheVariants as mark
 use Rattle.sm_syntax.specs.declared.symbol.Symbol.TheVariants as s
 use Rattle.sm_syntax.specs.declared.tree.Sort.{Sort}
 use Rattle.sm_syntax.specs.declared.tree.Sort.TheVariants.{Num, Arr}
-use Rattle.sm_syntax.specs.Syntax.{Condition, Code}
-use Rattle.sm_syntax.specs.Fill.{Fillings}
-use Rattle.sm_syntax.specs.ConflictFree.{Copy, O, A, B, M}
-use Rattle.sm_syntax.specs.Grammar.{declares}
-use Rattle.sm_syntax.specs.Parts.{Parts}
-use Rattle.sm_syntax.specs.Tokens.{is_space, lexed}
+use Rattle.sm_syntax.specs.claim.Syntax.{Condition, Code}
+use Rattle.sm_syntax.specs.claim.Fill.{Fillings}
+use Rattle.sm_syntax.specs.claim.ConflictFree.{Copy, O, A, B, M}
+use Rattle.sm_syntax.specs.text.Grammar.{declares}
+use Rattle.sm_syntax.specs.text.Parts.{Parts}
+use Rattle.sm_syntax.specs.text.Tokens.{is_space, lexed}
 use Rattle.sm_text.specs.Pieces.{Piece, text_of, word, number, space, line_end, margin_at, deeper, line}
 use Rattle.sm_text.specs.Canonical.{condition_pieces, code_pieces, block_pieces, declaration_pieces, more_names, names_pieces, output_pieces, assumption_pieces, shared_pieces, filling_pieces, list_pieces, lists_pieces, task_pieces}
 use Rattle.sm_text.proofs.Relexed.{begins, goes_on_mark}

@@ -4,12 +4,12 @@ use Rattle.sm_syntax.specs.declared.symbol.Mark.{Mark}
 use Rattle.sm_syntax.specs.declared.symbol.Mark.TheVariants as mark
 use Rattle.sm_syntax.specs.declared.symbol.Symbol.TheVariants as s
 use Rattle.sm_syntax.specs.declared.tree.Sort.{Sort}
-use Rattle.sm_syntax.specs.Syntax.{Condition, Code}
-use Rattle.sm_syntax.specs.Fill.{Fillings}
-use Rattle.sm_syntax.specs.ConflictFree.{Copy, O, A, B, M}
-use Rattle.sm_syntax.specs.Parts.{Parts}
-use Rattle.sm_syntax.specs.Grammar as g
-use Rattle.sm_syntax.specs.Grammar.{Marked, plain, IsHoleNumber, IsBlock, AreNames, AreDeclarations, AreOutputs, IsAssumption, IsShared, AreFillings, IsList, IsTask}
+use Rattle.sm_syntax.specs.claim.Syntax.{Condition, Code}
+use Rattle.sm_syntax.specs.claim.Fill.{Fillings}
+use Rattle.sm_syntax.specs.claim.ConflictFree.{Copy, O, A, B, M}
+use Rattle.sm_syntax.specs.text.Parts.{Parts}
+use Rattle.sm_syntax.specs.text.Grammar as g
+use Rattle.sm_syntax.specs.text.Grammar.{Marked, plain, IsHoleNumber, IsBlock, AreNames, AreDeclarations, AreOutputs, IsAssumption, IsShared, AreFillings, IsList, IsTask}
 use Rattle.sm_text.specs.Pieces.{Gap, word, number, space, line_end, margin_at, deeper}
 use Rattle.sm_text.specs.Canonical.{braces, condition_pieces, code_pieces, block_pieces, declaration_pieces, names_pieces, output_pieces, assumption_pieces, shared_pieces, filling_pieces, list_pieces, lists_pieces, task_pieces}
 use Rattle.sm_text.proofs.Shown.{marked, marked-append, marked-line, FitsTest, IsPrintable, told, block_shown, code_shown}

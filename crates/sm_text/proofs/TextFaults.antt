@@ -4,8 +4,8 @@ use Rattle.std.proofs.lemmas.List.{length-drop}
 use Rattle.sm_syntax.specs.declared.symbol.Symbol.{Symbol}
 use Rattle.sm_syntax.specs.declared.token.LexFault.{LexFault}
 use Rattle.sm_syntax.specs.declared.token.Token.{Token}
-use Rattle.sm_syntax.specs.Symbols.{names_among, names_of}
-use Rattle.sm_syntax.specs.Tokens.{Lexed, lexed}
+use Rattle.sm_syntax.specs.text.Symbols.{names_among, names_of}
+use Rattle.sm_syntax.specs.text.Tokens.{Lexed, lexed}
 use Rattle.sm_text.specs.declared.error.TextError.{TextError}
 use Rattle.sm_text.specs.declared.reading.Fault.{Fault}
 use Rattle.sm_text.specs.declared.token_list.Tokens.{Tokens}

@@ -8,7 +8,7 @@ use Rattle.sm_syntax.specs.contracts.symbol.Mark.{the_type}
 use Rattle.sm_syntax.specs.declared.symbol.Mark.{Mark}
 use Rattle.sm_syntax.specs.declared.symbol.Symbol.{Symbol}
 use Rattle.sm_syntax.specs.declared.symbol.Symbol.TheVariants as s
-use Rattle.sm_syntax.specs.Grammar.{Marked, plain, word, opens}
+use Rattle.sm_syntax.specs.text.Grammar.{Marked, plain, word, opens}
 use Rattle.sm_text.specs.declared.reading.Fault.{Fault}
 use Rattle.sm_text.specs.declared.reading.FaultKind.TheVariants.{Expected, Nested}
 use Rattle.sm_text.specs.Parsers.{first, Parser, fault, go_on, ◌>>=◌, ◌>>◌, pure, peek, skip, refuse, expect_by, expect, stands, inside, grouped_by, grouped}

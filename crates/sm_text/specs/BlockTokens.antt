@@ -9,8 +9,8 @@ use Rattle.sm_syntax.specs.declared.symbol.Mark.{Mark}
 use Rattle.sm_syntax.specs.declared.symbol.Mark.TheVariants.{OpenCurly, CloseCurly}
 use Rattle.sm_syntax.specs.declared.symbol.Symbol.{Symbol}
 use Rattle.sm_syntax.specs.declared.token.Token.{Token}
-use Rattle.sm_syntax.specs.Symbols.{text_of, symbol_of, names_after}
-use Rattle.sm_syntax.specs.Syntax.{Code}
+use Rattle.sm_syntax.specs.text.Symbols.{text_of, symbol_of, names_after}
+use Rattle.sm_syntax.specs.claim.Syntax.{Code}
 use Rattle.sm_text.specs.Reading.{block}
 use Rattle.sm_text.specs.TokenTexts.{sign_by}
 

@@ -5,11 +5,11 @@ pub mod Statements
 use Rattle.std.specs.Prelude.{ℕ, pos, Option, Some, None, List, [], ◌∷◌, ◌++◌}
 use Rattle.sm_syntax.specs.declared.symbol.Mark.TheVariants as mark
 use Rattle.sm_syntax.specs.declared.tree.Sort.{Sort}
-use Rattle.sm_syntax.specs.Syntax.{Condition, Code}
-use Rattle.sm_syntax.specs.Fill.{Fillings}
-use Rattle.sm_syntax.specs.ConflictFree.{Copy, O, A, B, M}
-use Rattle.sm_syntax.specs.Grammar.{declares}
-use Rattle.sm_syntax.specs.Parts.{Parts}
+use Rattle.sm_syntax.specs.claim.Syntax.{Condition, Code}
+use Rattle.sm_syntax.specs.claim.Fill.{Fillings}
+use Rattle.sm_syntax.specs.claim.ConflictFree.{Copy, O, A, B, M}
+use Rattle.sm_syntax.specs.text.Grammar.{declares}
+use Rattle.sm_syntax.specs.text.Parts.{Parts}
 use Rattle.sm_text.specs.Pieces.{Piece, word, number, name, space, line_end, margin_at, line}
 unfoldable pub use Expressions.*
 unfoldable pub use Statements.*

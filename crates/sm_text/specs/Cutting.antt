@@ -11,7 +11,7 @@ use Rattle.sm_syntax.specs.declared.token.LexKind.TheVariants.{BadByte, BadToken
 use Rattle.sm_syntax.specs.declared.token.Token.{Token}
 use Rattle.sm_syntax.specs.declared.token.TokenKind.{TokenKind}
 use Rattle.sm_syntax.specs.declared.token.TokenKind.TheVariants.{Word, Number, Sign}
-use Rattle.sm_syntax.specs.Tokens.{is_space, is_hash, is_in_line, is_word_start, is_word_byte, mark_of_sign}
+use Rattle.sm_syntax.specs.text.Tokens.{is_space, is_hash, is_in_line, is_word_start, is_word_byte, mark_of_sign}
 
 -- whether the text has a first byte, and that is such a byte
 abbrev pub begins : (ℕ → Bool) → List ℕ → Bool
@@ -48,7 +48,7 @@ pub record IsStuck (bytes : List ℕ) : Type 0 where
   pub space : begins is_space bytes ≡ false
   pub hash : begins is_hash bytes ≡ false
   pub token : (kind : TokenKind) (text behind : List ℕ) → bytes ≡ text ++ behind →
-    IsToken kind text → Ends kind text behind → ⊥
+      IsToken kind text → Ends kind text behind → ⊥
 
 -- half of a sign: `&` or `|`
 abbrev pub is_half : ℕ → Bool
@@ -76,25 +76,25 @@ pub data IsCutInto : ℕ → List ℕ → List Token → Option LexFault → Typ
   end : (place : ℕ) → IsCutInto place [] [] None
   -- white space
   space : (place b : ℕ) (rest : List ℕ) (ts : List Token) (f : Option LexFault) →
-    is_space b ≡ true →
-    IsCutInto (place + 1) rest ts f →
-    IsCutInto place (b ∷ rest) ts f
+      is_space b ≡ true →
+      IsCutInto (place + 1) rest ts f →
+      IsCutInto place (b ∷ rest) ts f
   -- `#` and the rest of its line
   comment : (place : ℕ) (body rest : List ℕ) (ts : List Token) (f : Option LexFault) →
-    list_all is_in_line body ≡ true →
-    begins is_in_line rest ≡ false →
-    IsCutInto (place + length (35 ∷ body)) rest ts f →
-    IsCutInto place (35 ∷ body ++ rest) ts f
+      list_all is_in_line body ≡ true →
+      begins is_in_line rest ≡ false →
+      IsCutInto (place + length (35 ∷ body)) rest ts f →
+      IsCutInto place (35 ∷ body ++ rest) ts f
   -- a token, and none longer
   token : (place : ℕ) (kind : TokenKind) (text rest : List ℕ) (ts : List Token)
-    (f : Option LexFault) →
-    IsToken kind text →
-    Ends kind text rest →
-    IsCutInto (place + length text) rest ts f →
-    IsCutInto place (text ++ rest)
+      (f : Option LexFault) →
+      IsToken kind text →
+      Ends kind text rest →
+      IsCutInto (place + length text) rest ts f →
+      IsCutInto place (text ++ rest)
       (record { kind = kind; place = place; size = length text } ∷ ts) f
   -- none of these
   fault : (place : ℕ) (kind : LexKind) (bytes : List ℕ) →
-    IsStuck bytes →
-    IsFaultOf kind bytes →
-    IsCutInto place bytes [] (Some (record { kind = kind; place = place }))
+      IsStuck bytes →
+      IsFaultOf kind bytes →
+      IsCutInto place bytes [] (Some (record { kind = kind; place = place }))

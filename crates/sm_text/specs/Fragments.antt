@@ -7,13 +7,13 @@ use Rattle.sm_syntax.specs.declared.program.Program.{Program}
 use Rattle.sm_syntax.specs.declared.symbol.Symbol.{Symbol}
 use Rattle.sm_syntax.specs.declared.token.Token.{Token}
 use Rattle.sm_syntax.specs.declared.tree.Sort.{Sort}
-use Rattle.sm_syntax.specs.Grammar.{Marked, plain, Disjunction, IsCondition, IsBlock}
-use Rattle.sm_syntax.specs.Grammar.{AreDeclarations, AreOutputs, IsShared}
-use Rattle.sm_syntax.specs.Programs.{declared_of, outputs_of}
-use Rattle.sm_syntax.specs.Symbols.{text_of, is_among, is_name, symbol_of, names_of, symbols_of}
-use Rattle.sm_syntax.specs.Syntax.{Condition, Code}
-use Rattle.sm_syntax.specs.Tokens.{lexed}
-use Rattle.sm_syntax.specs.Views.{code_of}
+use Rattle.sm_syntax.specs.text.Grammar.{Marked, plain, Disjunction, IsCondition, IsBlock}
+use Rattle.sm_syntax.specs.text.Grammar.{AreDeclarations, AreOutputs, IsShared}
+use Rattle.sm_syntax.specs.trees.Programs.{declared_of, outputs_of}
+use Rattle.sm_syntax.specs.text.Symbols.{text_of, is_among, is_name, symbol_of, names_of, symbols_of}
+use Rattle.sm_syntax.specs.claim.Syntax.{Condition, Code}
+use Rattle.sm_syntax.specs.text.Tokens.{lexed}
+use Rattle.sm_syntax.specs.trees.Views.{code_of}
 use Rattle.sm_text.specs.declared.error.TextError.{TextError}
 use Rattle.sm_text.specs.declared.error.TextError.TheVariants as error
 use Rattle.sm_text.specs.Named.{IsUsedIn, AreDeclaredIn, AreOutputsIn}

@@ -1,6 +1,6 @@
 -- No public clause cites this file.
 -- The code's word for what stands at the front of a text, in the words of the token rules.
-use Rattle.sm_syntax.specs.Tokens as rule
+use Rattle.sm_syntax.specs.text.Tokens as rule
 use Rattle.sm_text.specs.declared.front.Front.{Front}
 use Rattle.sm_text.specs.declared.front.Front.TheVariants.{Gap, Piece, Fault}
 

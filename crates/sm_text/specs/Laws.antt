@@ -5,9 +5,9 @@ use Rattle.std.specs.List.{range_with_len}
 use Rattle.sm_syntax.specs.declared.token.LexFault.{LexFault}
 use Rattle.sm_syntax.specs.declared.token.Token.{Token}
 use Rattle.sm_syntax.specs.declared.tree.Sort.{Sort}
-use Rattle.sm_syntax.specs.Parts.{Parts}
-use Rattle.sm_syntax.specs.Spells.{IsInGrammar, Spells}
-use Rattle.sm_syntax.specs.Tokens.{lexed}
+use Rattle.sm_syntax.specs.text.Parts.{Parts}
+use Rattle.sm_syntax.specs.text.Spells.{IsInGrammar, Spells}
+use Rattle.sm_syntax.specs.text.Tokens.{lexed}
 use Rattle.sm_text.specs.declared.error.TextError.{TextError}
 use Rattle.sm_text.specs.Cutting.{IsCutInto}
 use Rattle.sm_text.specs.Places.{Grammar, Source, AreTasks, IsFault, IsFirstFault, whole_text}

@@ -3,12 +3,12 @@
 -- spells.
 use Rattle.std.specs.Prelude.{ℕ, ◌<◌, Option, Some, None, List, [], ◌∷◌}
 use Rattle.sm_syntax.specs.declared.tree.Sort.{Sort}
-use Rattle.sm_syntax.specs.Syntax.{Expression, Lit, Var, Read, Neg, Plus, Minus, Times, Condition}
-use Rattle.sm_syntax.specs.Syntax.{Yes, No, Compare, Not, And, Or, Code, End, Skip, Assign, Write}
-use Rattle.sm_syntax.specs.Syntax.{If, While, Hole}
-use Rattle.sm_syntax.specs.Fill.{Fillings}
-use Rattle.sm_syntax.specs.Parts.{Parts}
-use Rattle.sm_syntax.specs.Spells.{Spells}
+use Rattle.sm_syntax.specs.claim.Syntax.{Expression, Lit, Var, Read, Neg, Plus, Minus, Times, Condition}
+use Rattle.sm_syntax.specs.claim.Syntax.{Yes, No, Compare, Not, And, Or, Code, End, Skip, Assign, Write}
+use Rattle.sm_syntax.specs.claim.Syntax.{If, While, Hole}
+use Rattle.sm_syntax.specs.claim.Fill.{Fillings}
+use Rattle.sm_syntax.specs.text.Parts.{Parts}
+use Rattle.sm_syntax.specs.text.Spells.{Spells}
 
 -- each name of an expression is below n
 abbrev pub IsNamedIn : ℕ → Expression → Type 0

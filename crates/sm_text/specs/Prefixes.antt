@@ -10,14 +10,14 @@ use Rattle.sm_syntax.specs.declared.token.Token.{Token}
 use Rattle.sm_syntax.specs.declared.tree.Block.{Block}
 use Rattle.sm_syntax.specs.declared.tree.Cond.{Cond}
 use Rattle.sm_syntax.specs.declared.tree.Sort.{Sort}
-use Rattle.sm_syntax.specs.Conditions.{names_tested}
-use Rattle.sm_syntax.specs.Grammar.{Marked, plain, AreDeclarations, AreOutputs, IsAssumption}
-use Rattle.sm_syntax.specs.Grammar.{IsShared, IsBlock}
-use Rattle.sm_syntax.specs.Parts.{sort_of}
-use Rattle.sm_syntax.specs.Symbols.{symbol_of, names_after}
-use Rattle.sm_syntax.specs.Syntax.{Condition, Code}
-use Rattle.sm_syntax.specs.Tokens.{lexed}
-use Rattle.sm_syntax.specs.Views.{condition_of, code_of}
+use Rattle.sm_syntax.specs.text.Conditions.{names_tested}
+use Rattle.sm_syntax.specs.text.Grammar.{Marked, plain, AreDeclarations, AreOutputs, IsAssumption}
+use Rattle.sm_syntax.specs.text.Grammar.{IsShared, IsBlock}
+use Rattle.sm_syntax.specs.text.Parts.{sort_of}
+use Rattle.sm_syntax.specs.text.Symbols.{symbol_of, names_after}
+use Rattle.sm_syntax.specs.claim.Syntax.{Condition, Code}
+use Rattle.sm_syntax.specs.text.Tokens.{lexed}
+use Rattle.sm_syntax.specs.trees.Views.{condition_of, code_of}
 use Rattle.sm_text.specs.declared.error.TextError.{TextError}
 use Rattle.sm_text.specs.declared.error.TextError.TheVariants as error
 use Rattle.sm_text.specs.declared.token_list.Tokens.{Tokens}

@@ -4,7 +4,7 @@
 use Rattle.std.specs.Prelude.{ℕ, Result, List}
 use Rattle.sm_syntax.specs.declared.symbol.Symbol.{Symbol}
 use Rattle.sm_syntax.specs.declared.tree.Sort.{Sort}
-use Rattle.sm_syntax.specs.Syntax.{Code}
+use Rattle.sm_syntax.specs.claim.Syntax.{Code}
 use Rattle.sm_text.specs.declared.reading.Fault.{Fault}
 use Rattle.sm_text.specs.Fragments.{ProgramParts}
 use Rattle.sm_text.specs.Parsers.{Parser, ◌>>=◌, pure}

@@ -1,7 +1,7 @@
 -- No public clause cites this file.
 -- What the parts that the program rule reads stand for.
-use Rattle.sm_syntax.specs.Programs.{declared_of, outputs_of}
-use Rattle.sm_syntax.specs.Views.{code_of}
+use Rattle.sm_syntax.specs.trees.Programs.{declared_of, outputs_of}
+use Rattle.sm_syntax.specs.trees.Views.{code_of}
 use Rattle.sm_text.specs.declared.program.Parts.{Parts}
 use Rattle.sm_text.specs.ProgramReading.{ProgramBody}
 

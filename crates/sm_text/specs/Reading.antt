@@ -10,10 +10,10 @@ use Rattle.std.specs.Prelude.{List, [], ◌∷◌, ◌++◌}
 use Rattle.sm_syntax.specs.declared.symbol.Mark.{Mark}
 use Rattle.sm_syntax.specs.declared.symbol.Mark.TheVariants as mark
 use Rattle.sm_syntax.specs.declared.symbol.Symbol.{Symbol}
-use Rattle.sm_syntax.specs.ConflictFree.{Copy}
-use Rattle.sm_syntax.specs.Fill.{Fillings}
-use Rattle.sm_syntax.specs.Parts.{by_copy}
-use Rattle.sm_syntax.specs.Syntax.{Condition, Code}
+use Rattle.sm_syntax.specs.claim.ConflictFree.{Copy}
+use Rattle.sm_syntax.specs.claim.Fill.{Fillings}
+use Rattle.sm_syntax.specs.text.Parts.{by_copy}
+use Rattle.sm_syntax.specs.claim.Syntax.{Condition, Code}
 use Rattle.sm_text.specs.declared.reading.Fault.{Fault}
 use Rattle.sm_text.specs.declared.reading.FaultKind.TheVariants.{Expected}
 use Rattle.sm_text.specs.Parsers.{first, Parser, fault, ◌>>=◌, ◌>>◌, pure, skip, expect, stands}

@@ -8,9 +8,9 @@ use Rattle.sm_syntax.specs.declared.program.Program.{Program}
 use Rattle.sm_syntax.specs.declared.token.LexFault.{LexFault}
 use Rattle.sm_syntax.specs.declared.token.LexKind.TheVariants as kind
 use Rattle.sm_syntax.specs.declared.tree.Cond.{Cond}
-use Rattle.sm_syntax.specs.Parts.{Parts}
-use Rattle.sm_syntax.specs.Programs.{declared_of, outputs_of}
-use Rattle.sm_syntax.specs.Views.{condition_of, code_of}
+use Rattle.sm_syntax.specs.text.Parts.{Parts}
+use Rattle.sm_syntax.specs.trees.Programs.{declared_of, outputs_of}
+use Rattle.sm_syntax.specs.trees.Views.{condition_of, code_of}
 use Rattle.sm_text.specs.declared.error.TextError.{TextError}
 use Rattle.sm_text.specs.declared.error.TextError.TheVariants as error
 use Rattle.sm_text.specs.declared.reading.FaultKind.{FaultKind}

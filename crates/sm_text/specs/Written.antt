@@ -5,14 +5,14 @@ use Rattle.sm_syntax.specs.declared.program.Filling.{Filling}
 use Rattle.sm_syntax.specs.declared.tree.Name.{Name}
 use Rattle.sm_syntax.specs.declared.tree.Sort.{Sort}
 use Rattle.sm_syntax.specs.declared.tree.Stmt.{Stmt}
-use Rattle.sm_syntax.specs.Fill.{Fillings}
-use Rattle.sm_syntax.specs.Grammar.{with_sort}
-use Rattle.sm_syntax.specs.Syntax as plain
-use Rattle.sm_syntax.specs.Syntax.{Expression, Code}
+use Rattle.sm_syntax.specs.claim.Fill.{Fillings}
+use Rattle.sm_syntax.specs.text.Grammar.{with_sort}
+use Rattle.sm_syntax.specs.claim.Syntax as plain
+use Rattle.sm_syntax.specs.claim.Syntax.{Expression, Code}
 use Rattle.sm_text.specs.declared.expressions.Operator.{Operator}
 use Rattle.sm_text.specs.declared.expressions.Operator.TheVariants.{Plus, Minus, Times}
 use Rattle.sm_text.specs.declared.rules.Declared.{Declared}
-use Rattle.sm_syntax.specs.Views.{statement_of, code_of, sequence}
+use Rattle.sm_syntax.specs.trees.Views.{statement_of, code_of, sequence}
 
 -- the numbers of names
 abbrev pub numbers_of : List Name → List ℕ

@@ -1,7 +1,7 @@
 // Conditions. A rule takes the number of groups that may still be opened.
 ghost use Rattle.std.specs.Prelude.{◌≡◌, IfOk};
-ghost use Rattle.sm_syntax.specs.Syntax.{And, Or};
-ghost use Rattle.sm_syntax.specs.Views.{condition_of};
+ghost use Rattle.sm_syntax.specs.claim.Syntax.{And, Or};
+ghost use Rattle.sm_syntax.specs.trees.Views.{condition_of};
 ghost use Rattle.sm_text.specs.Answers.{Gives};
 ghost use Rattle.sm_text.specs.Parsers.{inside};
 ghost use Rattle.sm_text.specs.Reading as spec;

@@ -1,6 +1,6 @@
 // Expressions. A rule takes the number of groups that may still be opened.
 ghost use Rattle.std.specs.Prelude.{◌≡◌, option_map, IfOk};
-ghost use Rattle.sm_syntax.specs.Views.{expression_of};
+ghost use Rattle.sm_syntax.specs.trees.Views.{expression_of};
 ghost use Rattle.sm_text.specs.Answers.{Gives};
 ghost use Rattle.sm_text.specs.Parsers.{inside};
 ghost use Rattle.sm_text.specs.Reading as spec;

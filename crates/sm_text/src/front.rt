@@ -4,7 +4,7 @@ ghost use Rattle.std.specs.Prelude.{if◌then◌else◌};
 ghost use Rattle.std.specs.Char.{is_ascii_digit};
 ghost use Rattle.std.specs.List.{prefix_len, AllPass};
 ghost use Rattle.std.specs.Str.Parse.{digits_value};
-ghost use Rattle.sm_syntax.specs.Tokens as spec;
+ghost use Rattle.sm_syntax.specs.text.Tokens as spec;
 ghost use Rattle.sm_text.specs.Fronts.{seen};
 
 use crate::marks::mark_of_sign;
@@ -19,7 +19,7 @@ pub(crate) enum Front {
 }
 
 /// What stands at the front of a text whose first byte is `first`.
-#[tactic(auto, unfolding(sm_syntax::specs::Tokens::front_of))]
+#[tactic(auto, unfolding(sm_syntax::specs::text::Tokens::front_of))]
 pub(crate) fn front_of(first: u8, bytes: &[u8]) -> Front
     requires { 0 < length bytes.now }
     ensures { seen result ≡ spec.front_of first bytes.now }
@@ -37,7 +37,7 @@ pub(crate) fn front_of(first: u8, bytes: &[u8]) -> Front
     }
 }
 
-#[tactic(auto, unfolding(sm_syntax::specs::Tokens::word_at))]
+#[tactic(auto, unfolding(sm_syntax::specs::text::Tokens::word_at))]
 fn word_at(bytes: &[u8]) -> Front
     ensures { seen result ≡ spec.word_at bytes.now }
 {
@@ -49,7 +49,7 @@ fn word_at(bytes: &[u8]) -> Front
     }
 }
 
-#[tactic(auto, unfolding(sm_syntax::specs::Tokens::number_at))]
+#[tactic(auto, unfolding(sm_syntax::specs::text::Tokens::number_at))]
 fn number_at(bytes: &[u8]) -> Front
     ensures { seen result ≡ spec.number_at bytes.now }
 {
@@ -63,7 +63,7 @@ fn number_at(bytes: &[u8]) -> Front
     }
 }
 
-#[tactic(auto, unfolding(sm_syntax::specs::Tokens::sign_at))]
+#[tactic(auto, unfolding(sm_syntax::specs::text::Tokens::sign_at))]
 fn sign_at(bytes: &[u8]) -> Front
     requires { 0 < length bytes.now }
     ensures { seen result ≡ spec.sign_at bytes.now }

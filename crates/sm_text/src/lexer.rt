@@ -1,6 +1,6 @@
 // Cuts a text into tokens.
 ghost use Rattle.std.specs.Prelude.{◌≡◌, ◌≤◌, length, drop, IfOk};
-ghost use Rattle.sm_syntax.specs.Tokens.{lexed};
+ghost use Rattle.sm_syntax.specs.text.Tokens.{lexed};
 
 use crate::front::{Front, front_of};
 use crate::token_list::Tokens;

@@ -45,9 +45,7 @@ mod text;
 mod token_list;
 
 pub use error::TextError;
-pub use laws::{
-    declared_in_order, no_fault_in_grammar, one_first_fault, one_task, tokens_are_cut,
-};
+pub use laws::{declared_in_order, no_fault_in_grammar, one_first_fault, one_task, tokens_are_cut};
 pub use lexer::tokens;
 pub use prefix::{parse_block, parse_head};
 pub use print::{print_block, print_cond, print_program, print_sections};

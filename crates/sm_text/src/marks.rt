@@ -1,11 +1,11 @@
 // The reserved words and the signs.
 ghost use Rattle.std.specs.Prelude.{◌≡◌};
-ghost use Rattle.sm_syntax.specs.Tokens as spec;
+ghost use Rattle.sm_syntax.specs.text.Tokens as spec;
 
 use sm_syntax::Mark;
 
 /// The reserved word that a text is.
-#[tactic(auto, unfolding(sm_syntax::specs::Tokens::mark_of_word, sm_syntax::specs::Tokens::reserved_words))]
+#[tactic(auto, unfolding(sm_syntax::specs::text::Tokens::mark_of_word, sm_syntax::specs::text::Tokens::reserved_words))]
 pub(crate) fn mark_of_word(text: &str) -> Option<Mark>
     ensures { result ≡ spec.mark_of_word text.now }
 {
@@ -30,7 +30,7 @@ pub(crate) fn mark_of_word(text: &str) -> Option<Mark>
 }
 
 /// The sign that a text is.
-#[tactic(auto, unfolding(sm_syntax::specs::Tokens::mark_of_sign, sm_syntax::specs::Tokens::signs))]
+#[tactic(auto, unfolding(sm_syntax::specs::text::Tokens::mark_of_sign, sm_syntax::specs::text::Tokens::signs))]
 pub(crate) fn mark_of_sign(text: &[u8]) -> Option<Mark>
     ensures { result ≡ spec.mark_of_sign text.now }
 {

@@ -3,9 +3,9 @@ ghost use Rattle.std.specs.Prelude.{◌≡◌, ◌<◌, ◌≤◌, ◌+◌, ◌-
 ghost use Rattle.std.specs.Prelude.{List, length, option_map, take, IfOk, IfErr, OnErr};
 ghost use Rattle.std.specs.List.{AllByRecursion};
 ghost use Rattle.sm_syntax.specs.declared.symbol.Mark.TheVariants.{OpenCurly, CloseCurly};
-ghost use Rattle.sm_syntax.specs.Syntax.{Code};
-ghost use Rattle.sm_syntax.specs.Programs.{declared_of};
-ghost use Rattle.sm_syntax.specs.Views.{condition_of, code_of};
+ghost use Rattle.sm_syntax.specs.claim.Syntax.{Code};
+ghost use Rattle.sm_syntax.specs.trees.Programs.{declared_of};
+ghost use Rattle.sm_syntax.specs.trees.Views.{condition_of, code_of};
 ghost use Rattle.sm_text.specs.Answers.{Fails};
 ghost use Rattle.sm_text.specs.BlockTokens.{IsFirstBlock, IsGroup, is_mark, signs};
 ghost use Rattle.sm_text.specs.Fragments.{HasBlockText, HasProgramText, parts_of};

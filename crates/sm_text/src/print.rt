@@ -1,9 +1,9 @@
 // Canonical texts.
 ghost use Rattle.std.specs.Prelude.{◌≡◌, ◌≤◌, IfOk, length};
-ghost use Rattle.sm_syntax.specs.Conditions.{condition_depth, code_depth};
-ghost use Rattle.sm_syntax.specs.Programs.{declared_of, outputs_of};
-ghost use Rattle.sm_syntax.specs.Spells.{Spells};
-ghost use Rattle.sm_syntax.specs.Views.{condition_of, code_of};
+ghost use Rattle.sm_syntax.specs.text.Conditions.{condition_depth, code_depth};
+ghost use Rattle.sm_syntax.specs.trees.Programs.{declared_of, outputs_of};
+ghost use Rattle.sm_syntax.specs.text.Spells.{Spells};
+ghost use Rattle.sm_syntax.specs.trees.Views.{condition_of, code_of};
 ghost use Rattle.sm_text.specs.Canonical as canonical;
 ghost use Rattle.sm_text.specs.Fragments.{HasBlockText, HasConditionText, HasProgramText};
 ghost use Rattle.sm_text.specs.Fragments.{IsNamedProgram, parts_of};

@@ -1,8 +1,8 @@
 // Puts the canonical text of expressions and conditions at the end of a list of bytes.
 ghost use Rattle.std.specs.Prelude.{◌≡◌, ◌<◌, ◌++◌, [], length, OnOk, unwrap_or, slice_get, codes};
 ghost use Rattle.std.specs.Fmt.{signed_decimal};
-ghost use Rattle.sm_syntax.specs.Grammar.{comparison};
-ghost use Rattle.sm_syntax.specs.Views.{expression_of, condition_of};
+ghost use Rattle.sm_syntax.specs.text.Grammar.{comparison};
+ghost use Rattle.sm_syntax.specs.trees.Views.{expression_of, condition_of};
 ghost use Rattle.sm_text.specs.Canonical as canonical;
 ghost use Rattle.sm_text.specs.Named.{IsNamedIn, IsTestedIn};
 ghost use Rattle.sm_text.specs.Pieces.{text_of, spelling};

@@ -1,8 +1,8 @@
 // Puts the sections of a program's or a task's canonical text at the end of a list of bytes.
 ghost use Rattle.std.specs.Prelude.{◌≡◌, ◌<◌, ◌++◌, [], ◌∷◌, length, option_map, OnOk};
-ghost use Rattle.sm_syntax.specs.ConflictFree.{Copy};
-ghost use Rattle.sm_syntax.specs.Programs.{declared_of, outputs_of, fillings_of};
-ghost use Rattle.sm_syntax.specs.Views.{condition_of, code_of};
+ghost use Rattle.sm_syntax.specs.claim.ConflictFree.{Copy};
+ghost use Rattle.sm_syntax.specs.trees.Programs.{declared_of, outputs_of, fillings_of};
+ghost use Rattle.sm_syntax.specs.trees.Views.{condition_of, code_of};
 ghost use Rattle.sm_text.specs.Canonical as canonical;
 ghost use Rattle.sm_text.specs.Named.{IsUsedIn, AreDeclaredIn, AreOutputsIn};
 ghost use Rattle.sm_text.specs.Named.{IsAssumedIn, AreFilledIn};

@@ -1,8 +1,8 @@
 // Puts the canonical text of statements and blocks at the end of a list of bytes.
 ghost use Rattle.std.specs.Prelude.{◌≡◌, ◌++◌, length, OnOk, IfOk, codes};
 ghost use Rattle.std.specs.Fmt.{decimal};
-ghost use Rattle.sm_syntax.specs.Syntax.{Code, End};
-ghost use Rattle.sm_syntax.specs.Views.{condition_of, statement_of, code_of};
+ghost use Rattle.sm_syntax.specs.claim.Syntax.{Code, End};
+ghost use Rattle.sm_syntax.specs.trees.Views.{condition_of, statement_of, code_of};
 ghost use Rattle.sm_text.specs.Canonical as canonical;
 ghost use Rattle.sm_text.specs.Named.{IsTestedIn, IsUsedIn};
 ghost use Rattle.sm_text.specs.Pieces as spec;

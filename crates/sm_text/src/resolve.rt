@@ -3,10 +3,10 @@ ghost use Rattle.std.specs.Prelude.{◌≡◌, ◌<◌, ◌≤◌, ◌+◌, ◌^
 ghost use Rattle.std.specs.Prelude.{IfOk, OnOk, OnErr};
 ghost use Rattle.std.specs.List.{position_or_len, AllByRecursion};
 ghost use Rattle.std.specs.Str.{bytes_eq};
-ghost use Rattle.sm_syntax.specs.Symbols.{is_name, with_text, names_after, symbol_by};
-ghost use Rattle.sm_syntax.specs.Symbols.{symbols_of, names_of};
-ghost use Rattle.sm_syntax.specs.Symbols as spec;
-ghost use Rattle.sm_syntax.specs.Tokens.{lexed};
+ghost use Rattle.sm_syntax.specs.text.Symbols.{is_name, with_text, names_after, symbol_by};
+ghost use Rattle.sm_syntax.specs.text.Symbols.{symbols_of, names_of};
+ghost use Rattle.sm_syntax.specs.text.Symbols as spec;
+ghost use Rattle.sm_syntax.specs.text.Tokens.{lexed};
 ghost use Rattle.sm_text.specs.TokenTexts.{IsText, IsTokenOf, sign_by};
 
 use crate::front::value_of;

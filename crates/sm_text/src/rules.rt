@@ -1,12 +1,12 @@
 // The rules of names, declarations, outputs and holes. Each gives what the front of the symbols
 // stands for, and the symbols behind it.
 ghost use Rattle.std.specs.Prelude.{◌≡◌, ◌++◌, OnOk};
-ghost use Rattle.sm_syntax.specs.Views.{statement_of};
+ghost use Rattle.sm_syntax.specs.trees.Views.{statement_of};
 ghost use Rattle.sm_text.specs.Answers.{Gives};
 ghost use Rattle.sm_text.specs.Parsers.{stands};
 ghost use Rattle.sm_text.specs.Reading as spec;
-ghost use Rattle.sm_syntax.specs.Grammar.{with_sort};
-ghost use Rattle.sm_syntax.specs.Programs.{declared_of, outputs_of};
+ghost use Rattle.sm_syntax.specs.text.Grammar.{with_sort};
+ghost use Rattle.sm_syntax.specs.trees.Programs.{declared_of, outputs_of};
 ghost use Rattle.sm_text.specs.Written.{numbers_of, entries_of, declaration_of};
 
 use crate::reading::{FaultKind, ReadError, expect, first, refusal, rest};

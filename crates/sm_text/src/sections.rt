@@ -1,7 +1,7 @@
 // The sections of a task.
 ghost use Rattle.std.specs.Prelude.{option_map};
-ghost use Rattle.sm_syntax.specs.Programs.{fillings_of};
-ghost use Rattle.sm_syntax.specs.Views.{condition_of, code_of};
+ghost use Rattle.sm_syntax.specs.trees.Programs.{fillings_of};
+ghost use Rattle.sm_syntax.specs.trees.Views.{condition_of, code_of};
 ghost use Rattle.sm_text.specs.Answers.{Gives};
 ghost use Rattle.sm_text.specs.Reading as spec;
 ghost use Rattle.sm_text.specs.Written.{filling_of, entries_for};

@@ -1,6 +1,6 @@
 // Statements and blocks. A rule takes the number of groups that may still be opened.
 ghost use Rattle.std.specs.Prelude.{◌≡◌, ◌≤◌};
-ghost use Rattle.sm_syntax.specs.Views.{statement_of, code_of};
+ghost use Rattle.sm_syntax.specs.trees.Views.{statement_of, code_of};
 ghost use Rattle.sm_text.specs.Answers.{Gives};
 ghost use Rattle.sm_syntax.specs.declared.symbol.Mark.TheVariants.{CloseCurly};
 ghost use Rattle.sm_text.specs.Parsers.{inside};

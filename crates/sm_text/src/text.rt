@@ -1,7 +1,7 @@
 // A whole text, read into the sections of a task.
 ghost use Rattle.std.specs.Prelude.{◌≡◌, ◌<◌, ◌≤◌, ◌^◌, Some, None, length, IfOk, IfErr, IfSome};
-ghost use Rattle.sm_syntax.specs.Parts.{Parts};
-ghost use Rattle.sm_syntax.specs.Spells.{IsInGrammar};
+ghost use Rattle.sm_syntax.specs.text.Parts.{Parts};
+ghost use Rattle.sm_syntax.specs.text.Spells.{IsInGrammar};
 ghost use Rattle.sm_text.specs.ErrorPlaces.{IsErrorOf, IsPlaceWith};
 ghost use Rattle.sm_text.specs.Places.{AreTasks, IsRefusal, whole_text};
 ghost use Rattle.sm_text.specs.Texts.{parts_of, lexical_fault, rule_fault, IsReadAs};

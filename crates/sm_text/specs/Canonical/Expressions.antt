@@ -3,9 +3,9 @@
 use Rattle.std.specs.Prelude.{ℕ, Bool, true, false, List, [], ◌∷◌, ◌++◌}
 use Rattle.sm_syntax.specs.declared.symbol.Mark.{Mark}
 use Rattle.sm_syntax.specs.declared.symbol.Mark.TheVariants as mark
-use Rattle.sm_syntax.specs.Syntax.{Expression, Lit, Var, Read, Neg, Plus, Minus, Times}
-use Rattle.sm_syntax.specs.Syntax.{Condition, Yes, No, Compare, Not, And, Or}
-use Rattle.sm_syntax.specs.Grammar.{comparison}
+use Rattle.sm_syntax.specs.claim.Syntax.{Expression, Lit, Var, Read, Neg, Plus, Minus, Times}
+use Rattle.sm_syntax.specs.claim.Syntax.{Condition, Yes, No, Compare, Not, And, Or}
+use Rattle.sm_syntax.specs.text.Grammar.{comparison}
 use Rattle.sm_text.specs.Pieces.{Piece, word, number, name, space}
 
 -- a binary operator between its parts, with a space on both sides

@@ -2,7 +2,7 @@
 -- The canonical text of code and blocks, in pieces.
 use Rattle.std.specs.Prelude.{ℕ, pos, List, [], ◌∷◌, ◌++◌}
 use Rattle.sm_syntax.specs.declared.symbol.Mark.TheVariants as mark
-use Rattle.sm_syntax.specs.Syntax.{Condition, Code, End, Skip, Assign, Write, If, While, Hole}
+use Rattle.sm_syntax.specs.claim.Syntax.{Condition, Code, End, Skip, Assign, Write, If, While, Hole}
 use Rattle.sm_text.specs.Pieces.{Piece, Gap, word, number, name, space, line_end, deeper, line}
 use Rattle.sm_text.specs.Canonical.Expressions.{element_pieces, expression_pieces, condition_pieces}
 

@@ -4,8 +4,8 @@ use Rattle.std.specs.Prelude.{ℕ, Option, List, length, map, drop}
 use Rattle.sm_syntax.specs.declared.symbol.Symbol.{Symbol}
 use Rattle.sm_syntax.specs.declared.token.LexFault.{LexFault}
 use Rattle.sm_syntax.specs.declared.token.Token.{Token}
-use Rattle.sm_syntax.specs.Symbols.{symbol_of, names_after, names_of}
-use Rattle.sm_syntax.specs.Tokens.{lexed}
+use Rattle.sm_syntax.specs.text.Symbols.{symbol_of, names_after, names_of}
+use Rattle.sm_syntax.specs.text.Tokens.{lexed}
 
 -- what is to be read: tokens, what the grammar sees of each, and the lexical fault or the end of
 -- the text behind them

@@ -5,8 +5,8 @@ use Rattle.sm_syntax.specs.declared.symbol.Mark.TheVariants as mark
 use Rattle.sm_syntax.specs.declared.symbol.Symbol.{Symbol}
 use Rattle.sm_syntax.specs.declared.tree.Cmp.{Cmp}
 use Rattle.sm_syntax.specs.declared.tree.Cmp.TheVariants.{Eq, Ne, Lt, Le, Gt, Ge}
-use Rattle.sm_syntax.specs.Syntax as plain
-use Rattle.sm_syntax.specs.Syntax.{Expression, Condition}
+use Rattle.sm_syntax.specs.claim.Syntax as plain
+use Rattle.sm_syntax.specs.claim.Syntax.{Expression, Condition}
 use Rattle.sm_text.specs.declared.reading.FaultKind.TheVariants.{Expected}
 use Rattle.sm_text.specs.Parsers.{first, Parser, ◌>>=◌, ◌>>◌, pure, skip, refuse, stands}
 use Rattle.sm_text.specs.Parsers.{Operators, chain_in, inside}

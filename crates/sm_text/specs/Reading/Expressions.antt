@@ -7,8 +7,8 @@ use Rattle.sm_syntax.specs.declared.symbol.Mark.TheVariants as mark
 use Rattle.sm_syntax.specs.declared.symbol.Symbol.{Symbol}
 use Rattle.sm_syntax.specs.declared.symbol.Symbol.TheVariants as s
 use Rattle.sm_syntax.specs.declared.tree.Name.{Name}
-use Rattle.sm_syntax.specs.Syntax as plain
-use Rattle.sm_syntax.specs.Syntax.{Expression}
+use Rattle.sm_syntax.specs.claim.Syntax as plain
+use Rattle.sm_syntax.specs.claim.Syntax.{Expression}
 use Rattle.sm_text.specs.declared.reading.FaultKind.TheVariants.{Expected}
 use Rattle.sm_text.specs.Parsers.{first, Parser, ◌>>=◌, ◌>>◌, pure, peek, skip, refuse, stands}
 use Rattle.sm_text.specs.Parsers.{Operators, chain_in, inside}

@@ -11,7 +11,7 @@ use Rattle.sm_syntax.specs.declared.symbol.Symbol.TheVariants as s
 use Rattle.sm_syntax.specs.declared.tree.Name.{Name}
 use Rattle.sm_syntax.specs.declared.tree.Sort.{Sort}
 use Rattle.sm_syntax.specs.declared.tree.Sort.TheVariants.{Num, Arr}
-use Rattle.sm_syntax.specs.Grammar.{with_sort}
+use Rattle.sm_syntax.specs.text.Grammar.{with_sort}
 use Rattle.sm_text.specs.declared.reading.FaultKind.TheVariants.{Expected}
 use Rattle.sm_text.specs.Parsers.{Parser, ◌>>=◌, ◌>>◌, pure, peek, skip, refuse, expect, stands}
 use Rattle.sm_text.specs.Parsers.{gather}

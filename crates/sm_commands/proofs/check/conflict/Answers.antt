@@ -1,8 +1,8 @@
 use Rattle.std.proofs.Common.{rules, subst}
 use Rattle.sm_replay.specs.InputText.{AreWritten}
-use Rattle.sm_syntax.specs.Parts.{sort_of}
-use Rattle.sm_syntax.specs.Programs.{declared_of}
-use Rattle.sm_syntax.specs.Stores.{Store}
+use Rattle.sm_syntax.specs.text.Parts.{sort_of}
+use Rattle.sm_syntax.specs.trees.Programs.{declared_of}
+use Rattle.sm_syntax.specs.claim.Stores.{Store}
 use Rattle.sm_commands.proofs.check.conflict.Goals as goal
 
 pub returns : goal.returns

@@ -2,8 +2,8 @@ use Rattle.std.proofs.Common.{◌≡◌, true, ℕ, Bool, map, drop, length, ref
 use Rattle.std.proofs.lemmas.Bool.{OnFalse_at}
 use Rattle.std.specs.List.{each_same}
 use Rattle.sm_syntax.specs.declared.tree.Stmt.{Stmt}
-use Rattle.sm_syntax.specs.Syntax.{End}
-use Rattle.sm_syntax.specs.Views.{expression_of, condition_of, sequence, statement_of, code_of}
+use Rattle.sm_syntax.specs.claim.Syntax.{End}
+use Rattle.sm_syntax.specs.trees.Views.{expression_of, condition_of, sequence, statement_of, code_of}
 use Rattle.sm_syntax.proofs.Statements.{statement_of-Assign, statement_of-Store}
 use Rattle.sm_deps.specs.declared.loops.Loops.{Loops}
 use Rattle.sm_deps.specs.Inputs.{needed}

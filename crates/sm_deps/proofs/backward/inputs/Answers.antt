@@ -1,7 +1,7 @@
 use Rattle.std.proofs.Common.{◌≡◌, ℕ, Bool, ap, ◌∙◌}
 use Rattle.sm_syntax.specs.declared.program.Outputs.{Outputs}
-use Rattle.sm_syntax.specs.Programs.{outputs_of}
-use Rattle.sm_syntax.specs.Views.{code_of}
+use Rattle.sm_syntax.specs.trees.Programs.{outputs_of}
+use Rattle.sm_syntax.specs.trees.Views.{code_of}
 use Rattle.sm_deps.specs.Inputs.{needed, inputs}
 use Rattle.sm_deps.specs.Members.{members, either, only}
 use Rattle.sm_deps.proofs.LoopsExact.{over_all}

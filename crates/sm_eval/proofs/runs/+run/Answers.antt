@@ -3,11 +3,11 @@ use Rattle.std.proofs.lemmas.Int.{to_z-of_z}
 use Rattle.std.specs.Int.{w128}
 use mir.Val.{SFits}
 use Rattle.sm_syntax.specs.declared.tree.Stmt.{Stmt}
-use Rattle.sm_syntax.specs.Meaning.{truth_of, run}
-use Rattle.sm_syntax.specs.Syntax.{Code, End, Assign}
-use Rattle.sm_syntax.specs.Sorts.{IsWellSorted}
-use Rattle.sm_syntax.specs.Stores.{Value, Number, Store, put}
-use Rattle.sm_syntax.specs.Views.{expression_of, condition_of, statement_of, code_of}
+use Rattle.sm_syntax.specs.claim.Meaning.{truth_of, run}
+use Rattle.sm_syntax.specs.claim.Syntax.{Code, End, Assign}
+use Rattle.sm_syntax.specs.text.Sorts.{IsWellSorted}
+use Rattle.sm_syntax.specs.claim.Stores.{Value, Number, Store, put}
+use Rattle.sm_syntax.specs.trees.Views.{expression_of, condition_of, statement_of, code_of}
 use Rattle.sm_syntax.proofs.Statements.{statement_of-Assign, statement_of-While}
 use Rattle.sm_eval.specs.declared.error.EvalError.{EvalError}
 use Rattle.sm_eval.specs.declared.error.EvalError.TheVariants.{Memory}

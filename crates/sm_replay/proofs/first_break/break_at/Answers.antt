@@ -3,7 +3,7 @@ use Rattle.std.proofs.Common.{◌≡◌, Option, ap, subst, ◌∙◌}
 use Rattle.std.specs.Option.{unwrap_or}
 use Rattle.sm_syntax.specs.declared.tree.Sort.{Sort}
 use Rattle.sm_syntax.specs.declared.tree.Sort.TheVariants.{Num}
-use Rattle.sm_syntax.specs.Keeps.{Cell, variable}
+use Rattle.sm_syntax.specs.claim.Keeps.{Cell, variable}
 use Rattle.sm_replay.specs.Runs.{HaveSort}
 use Rattle.sm_replay.proofs.FirstBreakSound.{undeclared_kept}
 use Rattle.sm_replay.proofs.first_break.break_at.Goals as goal

@@ -3,7 +3,7 @@ use Rattle.std.proofs.Common.{◌⊎◌, ℤ, to_z, of_z, sym, subst}
 use Rattle.std.proofs.lemmas.Int.{to_z-of_z}
 use Rattle.std.specs.Int.{w128}
 use Rattle.std.specs.Prelude.{◌≤ℤ◌}
-use Rattle.sm_syntax.specs.Keeps.{Element}
+use Rattle.sm_syntax.specs.claim.Keeps.{Element}
 use Rattle.sm_replay.specs.Runs.{end_in}
 use Rattle.sm_replay.specs.Violations.{KeepsAt}
 use Rattle.sm_replay.proofs.FirstBreakSound.{breaks_element}

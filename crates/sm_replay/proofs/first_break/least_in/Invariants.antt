@@ -1,7 +1,7 @@
 -- The least index so far.
 use Rattle.std.proofs.Common.{◌⊎◌, ◌<◌, ℕ, ℤ}
 use Rattle.std.specs.Option.{IfSome}
-use Rattle.sm_syntax.specs.Keeps.{Element}
+use Rattle.sm_syntax.specs.claim.Keeps.{Element}
 use Rattle.sm_eval.specs.Cells.{index_at}
 use Rattle.sm_replay.specs.Runs.{end_in}
 use Rattle.sm_replay.specs.FirstBreak.{IsUpTo}

@@ -4,7 +4,7 @@ use Rattle.std.specs.Option.{unwrap_or}
 use Rattle.sm_syntax.specs.declared.tree.Name.{Name}
 use Rattle.sm_syntax.specs.declared.tree.Sort.{Sort}
 use Rattle.sm_syntax.specs.declared.tree.Sort.TheVariants.{Num}
-use Rattle.sm_syntax.specs.Keeps.{Cell, variable}
+use Rattle.sm_syntax.specs.claim.Keeps.{Cell, variable}
 use Rattle.sm_eval.specs.Slots.{sorts_of}
 use Rattle.sm_replay.specs.Runs.{end_in}
 use Rattle.sm_replay.specs.FirstBreak.{sorted_by, NamesBreak}

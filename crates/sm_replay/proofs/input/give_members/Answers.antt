@@ -2,8 +2,8 @@
 use Rattle.std.proofs.Common.{◌≡◌, ℕ, Option, None, sym, ap, ◌∙◌}
 use Rattle.serde_json.specs.View.{view}
 use Rattle.sm_syntax.specs.declared.tree.Sort.{Sort}
-use Rattle.sm_syntax.specs.Parts.{sort_of}
-use Rattle.sm_syntax.specs.Programs.{declared_of}
+use Rattle.sm_syntax.specs.text.Parts.{sort_of}
+use Rattle.sm_syntax.specs.trees.Programs.{declared_of}
 use Rattle.sm_eval.specs.Slots.{meaning}
 use Rattle.sm_eval.specs.Zeros.{zero_of}
 use Rattle.sm_replay.specs.Input.{given, member_of, store_of}

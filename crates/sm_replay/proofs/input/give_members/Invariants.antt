@@ -1,8 +1,8 @@
 -- A name has its value, or else 0 and is declared in what is left.
 use Rattle.std.proofs.Common.{◌≡◌, ℕ, drop}
 use Rattle.serde_json.specs.View.{view}
-use Rattle.sm_syntax.specs.Parts.{sort_of}
-use Rattle.sm_syntax.specs.Programs.{declared_of}
+use Rattle.sm_syntax.specs.text.Parts.{sort_of}
+use Rattle.sm_syntax.specs.trees.Programs.{declared_of}
 use Rattle.sm_eval.specs.Slots.{meaning, sorts_of}
 use Rattle.sm_eval.specs.Zeros.{zero_of}
 use Rattle.sm_replay.specs.Input.{store_of}

@@ -4,9 +4,9 @@ use Rattle.serde_json.specs.View.{members_view}
 use Rattle.serde_json.specs.declared.value.Value.{Value}
 use Rattle.sm_eval.specs.Slots.{meaning}
 use Rattle.sm_syntax.specs.declared.tree.Sort.TheVariants.{Num}
-use Rattle.sm_syntax.specs.Parts.{sort_of}
-use Rattle.sm_syntax.specs.Programs.{declared_of}
-use Rattle.sm_syntax.specs.Sorts.{Sorts}
+use Rattle.sm_syntax.specs.text.Parts.{sort_of}
+use Rattle.sm_syntax.specs.trees.Programs.{declared_of}
+use Rattle.sm_syntax.specs.text.Sorts.{Sorts}
 use Rattle.sm_replay.specs.Input.{declared_name}
 use Rattle.sm_replay.specs.Members.{IsInsideAt}
 use Rattle.sm_replay.specs.Members.{Writes}

@@ -2,8 +2,8 @@
 use Rattle.std.proofs.Common.{drop}
 use Rattle.serde_json.specs.View.{members_view}
 use Rattle.sm_eval.specs.Slots.{meaning}
-use Rattle.sm_syntax.specs.Parts.{sort_of}
-use Rattle.sm_syntax.specs.Programs.{declared_of}
+use Rattle.sm_syntax.specs.text.Parts.{sort_of}
+use Rattle.sm_syntax.specs.trees.Programs.{declared_of}
 use Rattle.sm_replay.proofs.UpdatesSound.{numbered}
 use Rattle.sm_replay.proofs.InputTextSound.{MembersSoFar}
 use Rattle.sm_replay.proofs.input_text.members_of.Given as goal

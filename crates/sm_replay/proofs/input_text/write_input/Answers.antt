@@ -5,8 +5,8 @@ use Rattle.serde_json.specs.View.{members_view}
 use Rattle.serde_json.specs.Written.{compact_text, has_float}
 use Rattle.serde_json.proofs.Views.{view-Object}
 use Rattle.sm_eval.specs.Slots.{meaning}
-use Rattle.sm_syntax.specs.Parts.{sort_of}
-use Rattle.sm_syntax.specs.Programs.{declared_of}
+use Rattle.sm_syntax.specs.text.Parts.{sort_of}
+use Rattle.sm_syntax.specs.trees.Programs.{declared_of}
 use Rattle.sm_replay.proofs.InputTextSound.{both_ok, json_of}
 use Rattle.sm_replay.proofs.InputTextRoundTrip.{written_back, written_depth, written_whole}
 use Rattle.sm_replay.proofs.input_text.write_input.Goals as goal

@@ -1,5 +1,5 @@
 -- A verdict is a violation exactly where there is one.
-use Rattle.sm_syntax.specs.Parts.{task_of}
+use Rattle.sm_syntax.specs.text.Parts.{task_of}
 use Rattle.sm_task.specs.Tasks.{parts_of}
 use Rattle.sm_eval.specs.Slots.{meaning}
 use Rattle.sm_replay.proofs.VerdictSound.{violates_exactly}

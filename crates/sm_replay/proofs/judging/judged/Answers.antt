@@ -1,5 +1,5 @@
 use Rattle.std.proofs.Common.{option_map}
-use Rattle.sm_syntax.specs.Views.{condition_of}
+use Rattle.sm_syntax.specs.trees.Views.{condition_of}
 use Rattle.sm_task.specs.Tasks.{parts_of}
 use Rattle.sm_eval.specs.Slots.{meaning, sorts_of}
 use Rattle.sm_replay.proofs.AssumptionSound.{told_met}

@@ -1,11 +1,11 @@
 -- What is found in the ends is the verdict, where the programs are those of the task.
 use Rattle.std.proofs.Common.{List, map, subst, ◌∙◌}
 use Rattle.sm_syntax.specs.declared.tree.Name.{Name}
-use Rattle.sm_syntax.specs.ConflictFree.{Copy, O}
-use Rattle.sm_syntax.specs.Parts.{task_of}
-use Rattle.sm_syntax.specs.Programs.{declared_of}
-use Rattle.sm_syntax.specs.Sorts.{Sorts}
-use Rattle.sm_syntax.specs.Syntax.{Code}
+use Rattle.sm_syntax.specs.claim.ConflictFree.{Copy, O}
+use Rattle.sm_syntax.specs.text.Parts.{task_of}
+use Rattle.sm_syntax.specs.trees.Programs.{declared_of}
+use Rattle.sm_syntax.specs.text.Sorts.{Sorts}
+use Rattle.sm_syntax.specs.claim.Syntax.{Code}
 use Rattle.sm_task.specs.Tasks.{parts_of}
 use Rattle.sm_eval.specs.Slots.{meaning, sorts_of}
 use Rattle.sm_replay.specs.Runs.{end_in}

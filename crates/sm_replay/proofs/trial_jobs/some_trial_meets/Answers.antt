@@ -1,5 +1,5 @@
 -- A trial that meets the assumption, or none.
-use Rattle.sm_syntax.specs.Parts.{sort_of, task_of}
+use Rattle.sm_syntax.specs.text.Parts.{sort_of, task_of}
 use Rattle.sm_task.specs.Tasks.{parts_of}
 use Rattle.sm_eval.specs.Slots.{meaning}
 use Rattle.sm_replay.specs.Trials.{trial}

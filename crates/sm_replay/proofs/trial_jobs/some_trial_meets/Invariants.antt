@@ -1,6 +1,6 @@
 -- No trial so far meets the assumption.
 use Rattle.std.proofs.Common.{◌<◌, ℕ}
-use Rattle.sm_syntax.specs.Parts.{sort_of, task_of}
+use Rattle.sm_syntax.specs.text.Parts.{sort_of, task_of}
 use Rattle.sm_task.specs.Tasks.{parts_of}
 use Rattle.sm_replay.specs.Trials.{trial}
 use Rattle.sm_replay.specs.Violations.{IsMet}

@@ -4,7 +4,7 @@ use Rattle.std.proofs.lemmas.Grind.{common_steps}
 use Rattle.sm_syntax.specs.contracts.tree.Sort.{the_type}
 use Rattle.sm_syntax.specs.declared.tree.Sort.{Sort}
 use Rattle.sm_syntax.specs.declared.tree.Sort.TheVariants.{Num, Arr}
-use Rattle.sm_syntax.specs.Conditions.{WrongSort, sort_refusal}
+use Rattle.sm_syntax.specs.text.Conditions.{WrongSort, sort_refusal}
 use Rattle.sm_syntax.proofs.Uses.{first_sort_fault-one}
 use Rattle.sm_syntax.proofs.checks.check_name.Goals as goal
 

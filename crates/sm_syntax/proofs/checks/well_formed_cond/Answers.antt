@@ -1,9 +1,9 @@
 use Rattle.std.proofs.Common.{◌≡◌, Some, ap, subst, arith}
-use Rattle.sm_syntax.specs.Conditions.{first_sort_fault, names_tested, size_fault, ill_assumed}
-use Rattle.sm_syntax.specs.Faults.{Reports}
-use Rattle.sm_syntax.specs.Programs.{declared_of}
-use Rattle.sm_syntax.specs.Sorts.{Sorts}
-use Rattle.sm_syntax.specs.Views.{condition_of}
+use Rattle.sm_syntax.specs.text.Conditions.{first_sort_fault, names_tested, size_fault, ill_assumed}
+use Rattle.sm_syntax.specs.trees.Faults.{Reports}
+use Rattle.sm_syntax.specs.trees.Programs.{declared_of}
+use Rattle.sm_syntax.specs.text.Sorts.{Sorts}
+use Rattle.sm_syntax.specs.trees.Views.{condition_of}
 use Rattle.sm_syntax.proofs.Uses.{conditions}
 use Rattle.sm_syntax.proofs.checks.well_formed_cond.Goals as goal
 

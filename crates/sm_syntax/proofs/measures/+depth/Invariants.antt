@@ -1,7 +1,7 @@
 use Rattle.std.proofs.Common.{◌≡◌, ◌-◌, ◌^◌, ◌≤◌, map, drop, max, min}
-use Rattle.sm_syntax.specs.Conditions.{code_depth}
-use Rattle.sm_syntax.specs.Syntax.{End}
-use Rattle.sm_syntax.specs.Views.{sequence, statement_of, code_of}
+use Rattle.sm_syntax.specs.text.Conditions.{code_depth}
+use Rattle.sm_syntax.specs.claim.Syntax.{End}
+use Rattle.sm_syntax.specs.trees.Views.{sequence, statement_of, code_of}
 use Rattle.sm_syntax.proofs.measures.+depth.Given as goal
 
 abbrev pub invariant-depth-loop-s : goal.invariant-depth-loop-s

@@ -1,7 +1,7 @@
 use Rattle.std.proofs.Common.{◌≡◌, ◌++◌, drop, map}
-use Rattle.sm_syntax.specs.Conditions.{holes_of}
-use Rattle.sm_syntax.specs.Syntax.{End}
-use Rattle.sm_syntax.specs.Views.{sequence, statement_of, code_of}
+use Rattle.sm_syntax.specs.text.Conditions.{holes_of}
+use Rattle.sm_syntax.specs.claim.Syntax.{End}
+use Rattle.sm_syntax.specs.trees.Views.{sequence, statement_of, code_of}
 use Rattle.sm_task.proofs.holes.+push_holes.Given as goal
 
 abbrev pub invariant-push_holes-loop-s : goal.invariant-push_holes-loop-s

@@ -1,7 +1,7 @@
 use Rattle.std.proofs.Common.{sym, ◌∙◌, subst}
 use Rattle.std.proofs.lemmas.Result.{err_from_is_err_and}
-use Rattle.sm_syntax.specs.Parts.{Parts}
-use Rattle.sm_syntax.specs.Spells.{IsInGrammar}
+use Rattle.sm_syntax.specs.text.Parts.{Parts}
+use Rattle.sm_syntax.specs.text.Spells.{IsInGrammar}
 use Rattle.sm_task.proofs.Parsing.{refused-err, refused-condition, refused-place, valid-fails, refused-fails, not_refused, text_fails-err, text_fails-place}
 use Rattle.sm_task.proofs.parse.parse_task.Goals as goal
 

@@ -1,7 +1,7 @@
 use Rattle.std.proofs.Common.{◌-◌, sym, ap, ◌∙◌}
 use Rattle.std.proofs.lemmas.Result.{err_from_is_err_and}
 use Rattle.sm_syntax.specs.declared.symbol.Mark.TheVariants.{Both, Either}
-use Rattle.sm_syntax.specs.Views.{condition_of}
+use Rattle.sm_syntax.specs.trees.Views.{condition_of}
 use Rattle.sm_text.specs.Parsers.{first, stands}
 use Rattle.sm_text.specs.Reading as spec
 use Rattle.sm_text.proofs.Loops.{tested, leaves, chain_limit-is, literals-end, literals-full, literals-turn, literals-fault, conjunctions-end, conjunctions-full, conjunctions-turn, conjunctions-fault, conjunction_found, conjunction_missing, disjunction_found, disjunction_missing, inner_condition-none, inner_condition-some, inside-none, inside-reads, inside-fails, inside-open}

@@ -1,6 +1,6 @@
 use Rattle.std.proofs.Common.{◌-◌, sym, ap, ◌∙◌}
 use Rattle.std.proofs.lemmas.Result.{err_from_is_err_and}
-use Rattle.sm_syntax.specs.Views.{expression_of}
+use Rattle.sm_syntax.specs.trees.Views.{expression_of}
 use Rattle.sm_text.specs.Reading as spec
 use Rattle.sm_text.proofs.Loops.{found, leaves, chain_limit-is, factors-end, factors-full, factors-turn, factors-fault, terms-end, terms-full, terms-turn, terms-fault, inner_sum-none, inner_sum-some, inside-none, inside-reads, inside-fails, inside-open}
 use Rattle.sm_text.proofs.expressions.+expressions.Goals as goal

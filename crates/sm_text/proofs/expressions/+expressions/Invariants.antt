@@ -1,5 +1,5 @@
 use Rattle.std.proofs.Common.{◌≡◌, ◌+◌, ◌*◌}
-use Rattle.sm_syntax.specs.Views.{expression_of}
+use Rattle.sm_syntax.specs.trees.Views.{expression_of}
 use Rattle.sm_text.specs.Reading as spec
 use Rattle.sm_text.proofs.expressions.+expressions.Given as goal
 

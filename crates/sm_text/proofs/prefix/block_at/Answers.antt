@@ -2,9 +2,9 @@ use Rattle.std.proofs.Common.{◌≡◌, ℕ, ◌-◌, ◌≤◌, sym, ap, ◌�
 use Rattle.std.proofs.lemmas.List.{length-drop}
 use Rattle.std.specs.List.{AllByRecursion}
 use Rattle.sm_syntax.specs.declared.token.Token.{Token}
-use Rattle.sm_syntax.specs.Grammar.{IsBlock}
-use Rattle.sm_syntax.specs.Tokens.{Lexed, lexed}
-use Rattle.sm_syntax.specs.Views.{code_of}
+use Rattle.sm_syntax.specs.text.Grammar.{IsBlock}
+use Rattle.sm_syntax.specs.text.Tokens.{Lexed, lexed}
+use Rattle.sm_syntax.specs.trees.Views.{code_of}
 use Rattle.sm_text.specs.BlockTokens.{signs, IsFirstBlock}
 use Rattle.sm_text.specs.Prefixes.{AreBlocks}
 use Rattle.sm_text.specs.Reading as r

@@ -1,9 +1,9 @@
 use Rattle.std.proofs.Common.{◌≡◌, ℕ, ◌-◌, refl, sym, ap, ◌∙◌, arith, Ok, List, length, take}
 use Rattle.std.proofs.lemmas.List.{length-map}
 use Rattle.sm_syntax.specs.declared.symbol.Symbol.{Symbol}
-use Rattle.sm_syntax.specs.Grammar.{IsBlock}
-use Rattle.sm_syntax.specs.Symbols.{symbol_of, names_after}
-use Rattle.sm_syntax.specs.Views.{code_of}
+use Rattle.sm_syntax.specs.text.Grammar.{IsBlock}
+use Rattle.sm_syntax.specs.text.Symbols.{symbol_of, names_after}
+use Rattle.sm_syntax.specs.trees.Views.{code_of}
 use Rattle.sm_text.specs.BlockTokens.{signs}
 use Rattle.sm_text.specs.NameCounts.{names_counted}
 use Rattle.sm_text.specs.Reading as r

@@ -1,5 +1,5 @@
 use Rattle.std.proofs.Common.{rules, ◌≡◌, ℕ, List, sym, subst}
-use Rattle.sm_syntax.specs.Views.{code_of}
+use Rattle.sm_syntax.specs.trees.Views.{code_of}
 use Rattle.sm_text.specs.Canonical.{block_pieces}
 use Rattle.sm_text.specs.Fragments.{SpellsBlock}
 use Rattle.sm_text.specs.Pieces.{text_of, margin_at}

@@ -1,5 +1,5 @@
 use Rattle.std.proofs.Common.{◌≡◌, ℕ, List, ◌++◌, ◌∙◌, sym, ap, subst}
-use Rattle.sm_syntax.specs.Views.{condition_of}
+use Rattle.sm_syntax.specs.trees.Views.{condition_of}
 use Rattle.sm_text.specs.Canonical.{condition_pieces}
 use Rattle.sm_text.specs.Fragments.{SpellsCondition}
 use Rattle.sm_text.specs.Pieces.{text_of}

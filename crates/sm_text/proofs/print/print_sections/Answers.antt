@@ -1,5 +1,5 @@
 use Rattle.std.proofs.Common.{ℕ, List, ◌++◌, ◌∙◌, sym, ap, subst}
-use Rattle.sm_syntax.specs.Spells.{Spells}
+use Rattle.sm_syntax.specs.text.Spells.{Spells}
 use Rattle.sm_text.specs.Canonical.{declaration_pieces, output_pieces, assumption_pieces, shared_pieces, lists_pieces, task_pieces}
 use Rattle.sm_text.specs.Pieces.{text_of}
 use Rattle.sm_text.specs.Texts.{task_parts}

@@ -1,7 +1,7 @@
 use Rattle.std.proofs.Common.{sym, ap, ◌∙◌, subst, List, map}
 use Rattle.sm_syntax.specs.declared.symbol.Symbol.{Symbol}
-use Rattle.sm_syntax.specs.Grammar.{plain}
-use Rattle.sm_syntax.specs.Tokens.{Lexed}
+use Rattle.sm_syntax.specs.text.Grammar.{plain}
+use Rattle.sm_syntax.specs.text.Tokens.{Lexed}
 use Rattle.sm_text.specs.Fragments.{IsProgram}
 use Rattle.sm_text.specs.Places.{ArePrograms, whole_text}
 use Rattle.sm_text.specs.ProgramReading as p

@@ -1,6 +1,6 @@
 -- What is put is the text of the declarations so far.
 use Rattle.std.proofs.Common.{◌≡◌, ◌++◌, length, drop}
-use Rattle.sm_syntax.specs.Programs.{declared_of}
+use Rattle.sm_syntax.specs.trees.Programs.{declared_of}
 use Rattle.sm_text.specs.Canonical.{declaration_pieces}
 use Rattle.sm_text.specs.Named.{AreDeclaredIn}
 use Rattle.sm_text.specs.Pieces.{text_of}

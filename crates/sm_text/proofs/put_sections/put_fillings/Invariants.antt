@@ -1,6 +1,6 @@
 -- What is put is the text of the fillings so far.
 use Rattle.std.proofs.Common.{◌≡◌, ◌++◌, length, drop}
-use Rattle.sm_syntax.specs.Programs.{fillings_of}
+use Rattle.sm_syntax.specs.trees.Programs.{fillings_of}
 use Rattle.sm_text.specs.Canonical.{filling_pieces}
 use Rattle.sm_text.specs.Named.{AreFilledIn}
 use Rattle.sm_text.specs.Pieces.{text_of}

@@ -1,4 +1,4 @@
-use Rattle.sm_syntax.specs.ConflictFree.{O, A, B, M}
+use Rattle.sm_syntax.specs.claim.ConflictFree.{O, A, B, M}
 use Rattle.sm_text.proofs.put_sections.put_lists.Goals as goal
 
 pub put_list-requires : goal.put_list-requires

@@ -2,8 +2,8 @@
 use Rattle.std.proofs.Common.{◌≡◌, ◌+◌, ◌*◌, ◌++◌, length, map, drop, max}
 use Rattle.sm_syntax.specs.declared.tree.Block.{size-Block}
 use Rattle.sm_syntax.specs.declared.tree.Stmt.{size-Stmt}
-use Rattle.sm_syntax.specs.Syntax.{End}
-use Rattle.sm_syntax.specs.Views.{sequence, statement_of, code_of}
+use Rattle.sm_syntax.specs.claim.Syntax.{End}
+use Rattle.sm_syntax.specs.trees.Views.{sequence, statement_of, code_of}
 use Rattle.sm_text.specs.Canonical as canonical
 use Rattle.sm_text.specs.Named.{IsUsedIn}
 use Rattle.sm_text.specs.Pieces.{text_of}

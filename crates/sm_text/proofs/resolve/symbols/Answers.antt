@@ -1,7 +1,7 @@
 use Rattle.std.proofs.Common.{List, subst, sym, ap, ◌∙◌}
 use Rattle.std.specs.List.{AllByRecursion}
 use Rattle.sm_syntax.specs.declared.token.Token.{Token}
-use Rattle.sm_syntax.specs.Symbols.{names_after}
+use Rattle.sm_syntax.specs.text.Symbols.{names_after}
 use Rattle.sm_text.specs.TokenTexts.{IsTokenOf}
 use Rattle.sm_text.proofs.Lexing.{IsTokenOf-lexed}
 use Rattle.sm_text.proofs.Naming.{names_of-all, symbols_of-all}

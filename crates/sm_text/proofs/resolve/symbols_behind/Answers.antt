@@ -2,7 +2,7 @@ use Rattle.std.proofs.Common.{ℕ, ◌+◌, List, get_or, take, sym, ap, subst, 
 use Rattle.sm_syntax.specs.declared.symbol.Symbol.{Symbol}
 use Rattle.sm_syntax.specs.declared.token.Token.{Token}
 use Rattle.sm_syntax.specs.declared.token.TokenKind.TheVariants.{Word}
-use Rattle.sm_syntax.specs.Symbols.{symbol_by}
+use Rattle.sm_syntax.specs.text.Symbols.{symbol_by}
 use Rattle.sm_text.specs.TokenTexts.{IsText, IsTokenOf}
 use Rattle.sm_text.proofs.Lexing.{all_at}
 use Rattle.sm_text.proofs.Naming.{names_with, IsRead, IsRead-more, IsRead-next, kept-on_err}

@@ -1,5 +1,5 @@
 use Rattle.std.proofs.Common.{◌≡◌, ◌++◌, take}
-use Rattle.sm_syntax.specs.Grammar.{with_sort}
+use Rattle.sm_syntax.specs.text.Grammar.{with_sort}
 use Rattle.sm_text.specs.Written.{numbers_of, entries_of}
 use Rattle.sm_text.proofs.rules.declare.Given as goal
 

@@ -1,7 +1,7 @@
 use Rattle.std.proofs.Common.{sym, ap, ◌∙◌, subst, List, map}
 use Rattle.sm_syntax.specs.declared.symbol.Symbol.{Symbol}
-use Rattle.sm_syntax.specs.Grammar.{IsTask, plain}
-use Rattle.sm_syntax.specs.Tokens.{Lexed}
+use Rattle.sm_syntax.specs.text.Grammar.{IsTask, plain}
+use Rattle.sm_syntax.specs.text.Tokens.{Lexed}
 use Rattle.sm_text.specs.Places.{AreTasks, whole_text}
 use Rattle.sm_text.specs.Reading as r
 use Rattle.sm_text.specs.Reading.{parts_from}

@@ -2,8 +2,8 @@ use Rattle.std.proofs.Common.{◌≡◌, ℤ, sym, ap, ◌∙◌}
 use Rattle.std.proofs.lemmas.Int.{to_z-of_z}
 use Rattle.std.proofs.lemmas.List.{get_or_default}
 use Rattle.std.proofs.lemmas.Result.{on_ok_weaker}
-use Rattle.sm_syntax.specs.Stores as plain
-use Rattle.sm_syntax.specs.Stores.{put, with_element}
+use Rattle.sm_syntax.specs.claim.Stores as plain
+use Rattle.sm_syntax.specs.claim.Stores.{put, with_element}
 use Rattle.sm_eval.specs.declared.slot.Slot.{Slot}
 use Rattle.sm_eval.specs.declared.slot.Slot.TheVariants.{Absent, Array}
 use Rattle.sm_eval.specs.Cells.{listed}

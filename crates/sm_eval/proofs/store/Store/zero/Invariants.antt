@@ -1,7 +1,7 @@
 -- The sorts of the slots, and behind them those of what is left, are those of the declarations; each slot has 0.
 use Rattle.std.proofs.Common.{◌≡◌, ℕ, drop}
-use Rattle.sm_syntax.specs.Parts.{sort_of}
-use Rattle.sm_syntax.specs.Programs.{declared_of}
+use Rattle.sm_syntax.specs.text.Parts.{sort_of}
+use Rattle.sm_syntax.specs.trees.Programs.{declared_of}
 use Rattle.sm_eval.specs.Zeros.{AreZero}
 use Rattle.sm_eval.proofs.Declaring.{sorts_after}
 use Rattle.sm_eval.proofs.store.Store.zero.Given as goal

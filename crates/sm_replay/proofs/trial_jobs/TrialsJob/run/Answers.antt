@@ -1,7 +1,7 @@
 -- The answer is that of the trial.
 use Rattle.std.proofs.Common.{◌≡◌, ◌≢◌, Option, Err}
 use Rattle.std.proofs.lemmas.Result.{IfOk-weaker}
-use Rattle.sm_syntax.specs.Parts.{sort_of, task_of}
+use Rattle.sm_syntax.specs.text.Parts.{sort_of, task_of}
 use Rattle.sm_task.specs.Tasks.{parts_of, AreFilled}
 use Rattle.sm_eval.specs.Slots.{meaning}
 use Rattle.sm_replay.specs.declared.error.ReplayError.TheVariants.{Memory}

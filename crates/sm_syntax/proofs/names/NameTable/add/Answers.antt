@@ -1,7 +1,7 @@
 use Rattle.std.proofs.Common.{◌≡◌, sym, ap, ◌∙◌, slice_get, map, string_bytes}
 use Rattle.std.specs.List.{position_or_len}
 use Rattle.std.specs.Str.{bytes_eq}
-use Rattle.sm_syntax.specs.Symbols.{with_text}
+use Rattle.sm_syntax.specs.text.Symbols.{with_text}
 use Rattle.sm_syntax.proofs.Numbering.{with_text-among, map-insert_key, number-map, number-with_text, is_among-with_text, slice_get-number}
 use Rattle.sm_syntax.proofs.names.NameTable.add.Goals as goal
 

@@ -3,7 +3,7 @@
 use Rattle.std.specs.Prelude.{◌≡◌, ◌⊎◌, ℕ, ℤ}
 use Rattle.sm_syntax.specs.declared.tree.Sort.{Sort}
 use Rattle.sm_syntax.specs.declared.tree.Sort.TheVariants.{Num, Arr}
-use Rattle.sm_syntax.specs.Stores.{number, array, Store}
+use Rattle.sm_syntax.specs.claim.Stores.{number, array, Store}
 
 -- at one cell: a change that the variant made is in the candidate
 abbrev pub KeepsChange : ℤ → ℤ → ℤ → Type 0

@@ -12,7 +12,7 @@ use Rattle.sm_syntax.specs.declared.symbol.Symbol.TheVariants as s
 use Rattle.sm_syntax.specs.declared.token.Token.{Token}
 use Rattle.sm_syntax.specs.declared.token.TokenKind.{TokenKind}
 use Rattle.sm_syntax.specs.declared.token.TokenKind.TheVariants.{Word, Number, Sign}
-use Rattle.sm_syntax.specs.Tokens.{mark_of_word, mark_of_sign, lexed}
+use Rattle.sm_syntax.specs.text.Tokens.{mark_of_word, mark_of_sign, lexed}
 
 -- the bytes of a token
 abbrev pub text_of : List ℕ → Token → List ℕ

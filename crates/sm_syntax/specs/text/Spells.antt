@@ -1,11 +1,11 @@
 -- Which text spells a task. Public clauses cite it.
 -- It says nothing of what the task means.
 use Rattle.std.specs.Prelude.{◌≡◌, ℕ, None, List, map}
-use Rattle.sm_syntax.specs.Conditions.{first_refusal}
-use Rattle.sm_syntax.specs.Grammar.{IsTask, plain}
-use Rattle.sm_syntax.specs.Parts.{Parts}
-use Rattle.sm_syntax.specs.Symbols.{names_of, symbols_of}
-use Rattle.sm_syntax.specs.Tokens.{lexed}
+use Rattle.sm_syntax.specs.text.Conditions.{first_refusal}
+use Rattle.sm_syntax.specs.text.Grammar.{IsTask, plain}
+use Rattle.sm_syntax.specs.text.Parts.{Parts}
+use Rattle.sm_syntax.specs.text.Symbols.{names_of, symbols_of}
+use Rattle.sm_syntax.specs.text.Tokens.{lexed}
 
 -- the text has tokens to its end, and the grammar spells the task by their symbols, where nothing
 -- nests too deep

@@ -4,11 +4,11 @@
 -- from which one of the four doesn't end.
 use Rattle.std.specs.Prelude.{◌≡◌, ℕ, zero, suc, IsTrue, Option, Some, None, List, Contains}
 use Rattle.sm_syntax.specs.declared.tree.Sort.{Sort}
-use Rattle.sm_syntax.specs.Syntax.{Condition, Code}
-use Rattle.sm_syntax.specs.Stores.{Store}
-use Rattle.sm_syntax.specs.Meaning.{truth_of, run}
-use Rattle.sm_syntax.specs.Fill.{Fillings, fill}
-use Rattle.sm_syntax.specs.Keeps.{Keeps, Cell, content, variable}
+use Rattle.sm_syntax.specs.claim.Syntax.{Condition, Code}
+use Rattle.sm_syntax.specs.claim.Stores.{Store}
+use Rattle.sm_syntax.specs.claim.Meaning.{truth_of, run}
+use Rattle.sm_syntax.specs.claim.Fill.{Fillings, fill}
+use Rattle.sm_syntax.specs.claim.Keeps.{Keeps, Cell, content, variable}
 
 -- the four programs: the base O, the variants A and B, and the candidate M
 pub data Copy : Type 0 where

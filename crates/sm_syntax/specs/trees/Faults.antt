@@ -2,8 +2,8 @@
 use Rattle.std.specs.Prelude.{◌≡◌, ◌≢◌, Option, Some, None, Result, MatchResult}
 use Rattle.sm_syntax.specs.declared.error.SyntaxError.{SyntaxError}
 use Rattle.sm_syntax.specs.declared.error.SyntaxError.TheVariants as error
-use Rattle.sm_syntax.specs.Conditions as refusal
-use Rattle.sm_syntax.specs.Conditions.{Refusal}
+use Rattle.sm_syntax.specs.text.Conditions as refusal
+use Rattle.sm_syntax.specs.text.Conditions.{Refusal}
 
 -- the refusal, none for want of memory
 abbrev pub fault_of : SyntaxError → Option Refusal

@@ -8,8 +8,8 @@ use Rattle.sm_syntax.specs.declared.tree.Cond.TheVariants.{Yes, No, Cmp, Not', A
 use Rattle.sm_syntax.specs.declared.tree.Stmt.{Stmt, Stmt-F, fold-Stmt}
 use Rattle.sm_syntax.specs.declared.tree.Stmt.TheOpen as layer
 use Rattle.sm_syntax.specs.declared.tree.Block.{Block, Block-F, fold-Block}
-use Rattle.sm_syntax.specs.Syntax as plain
-use Rattle.sm_syntax.specs.Syntax.{Expression, Condition, Code}
+use Rattle.sm_syntax.specs.claim.Syntax as plain
+use Rattle.sm_syntax.specs.claim.Syntax.{Expression, Condition, Code}
 
 -- the expression that a tree stands for
 abbrev pub expression_of : Expr → Expression

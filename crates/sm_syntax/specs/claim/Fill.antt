@@ -1,6 +1,6 @@
 -- Code with its holes filled. Public clauses cite it.
 use Rattle.std.specs.Prelude.{ℕ, ◌==◌, if◌then◌else◌, List, [], ◌∷◌}
-use Rattle.sm_syntax.specs.Syntax.{Code, End, Skip, Assign, Write, If, While, Hole, append}
+use Rattle.sm_syntax.specs.claim.Syntax.{Code, End, Skip, Assign, Write, If, While, Hole, append}
 
 -- the code for each hole, by the hole's number
 abbrev pub Fillings : Type 0

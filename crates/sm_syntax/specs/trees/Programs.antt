@@ -6,8 +6,8 @@ use Rattle.sm_syntax.specs.declared.program.Fillings as tree
 use Rattle.sm_syntax.specs.declared.program.Outputs.{Outputs}
 use Rattle.sm_syntax.specs.declared.tree.Name.{Name}
 use Rattle.sm_syntax.specs.declared.tree.Sort.{Sort}
-use Rattle.sm_syntax.specs.Fill.{Fillings}
-use Rattle.sm_syntax.specs.Views.{code_of}
+use Rattle.sm_syntax.specs.claim.Fill.{Fillings}
+use Rattle.sm_syntax.specs.trees.Views.{code_of}
 
 -- the declared names, each with its sort
 abbrev pub declared_of : Decls → List (ℕ × Sort)

@@ -1,8 +1,8 @@
 -- The copies as the program names them. Public clauses cite them.
 -- With one of something for each copy, as a function from the copy.
 use Rattle.std.specs.Prelude.{ℕ, List, codes}
-use Rattle.sm_syntax.specs.ConflictFree.{Copy, O, A, B, M}
-use Rattle.sm_syntax.specs.Parts.{by_copy}
+use Rattle.sm_syntax.specs.claim.ConflictFree.{Copy, O, A, B, M}
+use Rattle.sm_syntax.specs.text.Parts.{by_copy}
 use Rattle.sm_syntax.specs.declared.copies.CopyName.{CopyName}
 use Rattle.sm_syntax.specs.declared.copies.CopyName.TheVariants as name
 use Rattle.sm_syntax.specs.declared.copies.PerCopy.{PerCopy}

@@ -1,6 +1,6 @@
 -- Which part of Keeps fails first at a cell. Public clauses cite it.
 use Rattle.std.specs.Prelude.{◌≡◌, ◌⊎◌, ℕ, ℤ}
-use Rattle.sm_syntax.specs.Keeps.{KeepsChange, AddsNothing}
+use Rattle.sm_syntax.specs.claim.Keeps.{KeepsChange, AddsNothing}
 
 -- the part with this number is the first that fails: 1 is the change of A, 2 that of B, 3 a change
 -- that nobody made

@@ -1,0 +1,8 @@
+-- Which text spells a task.
+pub mod Tokens
+pub mod Symbols
+pub mod Parts
+pub mod Grammar
+pub mod Sorts
+pub mod Conditions
+pub mod Spells
