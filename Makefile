@@ -11,20 +11,24 @@ CRATES := $(shell tac crates.txt | awk -F '[: ]+' 'BEGIN { needed["safemerge"] }
 
 all: bin/safemerge
 
-# What was proved before is taken from the crates' out/. The run of the proved program leaves its binary there; without
-# words it answers Usage, status 4.
-bin/safemerge: $(SOURCES)
+# Both the run of the proved program and the merge gate leave its binary in out/.
+bin/safemerge: crates/safemerge/out/safemerge
 	@mkdir -p bin
-	@echo "Proving $(words $(CRATES)) crates. From nothing this takes about 20 minutes, 3.2 GB of disk and 3 GB of memory."
-	@number=0; for crate in $(CRATES); do \
-	  number=$$((number + 1)); echo "crate $$number of $(words $(CRATES)): $$crate"; \
-	  case $$crate in safemerge) command=run;; *) command=lib;; esac; \
-	  (cd crates/$$crate && rt $$command) >bin/build.log 2>&1; status=$$?; \
-	  case $$command$$status in lib0|run4) ;; *) cat bin/build.log; exit 1;; esac; \
-	done
 	@cp crates/safemerge/out/safemerge bin/safemerge
 
-# The program's own copy of the example's task stands for it in the folder that rt runs it in.
+# Without words the program answers Usage, status 4.
+crates/safemerge/out/safemerge: $(SOURCES)
+	@mkdir -p bin
+	@echo "Proving the $(words $(CRATES)) crates of the program, or those that changed."
+	@echo "From nothing this takes about 20 minutes, 3.2 GB of disk and 3 GB of memory."
+	@{ (cd crates/safemerge && rt run 2>&1 >/dev/null); echo "ended with $$?"; } | tee bin/build.log | \
+	  while read -r line; do case $$line in "rt: chose --jobs "*) \
+	    crate=$${line##* }; number=$$(echo $(CRATES) | tr ' ' '\n' | grep -n -x "$$crate" | cut -d : -f 1); \
+	    echo "crate $$number of $(words $(CRATES)): $$crate";; esac; done
+	@tail -n 1 bin/build.log | grep -q '^ended with 4$$' || { cat bin/build.log; exit 1; }
+	@touch crates/safemerge/out/safemerge
+
+# rt runs the program in a new folder, so the task is handed to it under its name.
 look:
 	@mkdir -p bin
 	@echo "Running an example without proving anything. This takes about a minute."
