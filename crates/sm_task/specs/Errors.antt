@@ -1,5 +1,5 @@
 -- Which fault of its text, or which condition, an error of a task names. Public clauses cite it.
-use Rattle.std.specs.Prelude.{◌≡◌, ◌≢◌, ◌⊎◌, ℕ, zero, suc, Option, Some, None, option_map}
+use Rattle.std.specs.Prelude.{◌≡◌, ◌≢◌, ◌⊎◌, ℕ, zero, suc, Option, Some, None}
 use Rattle.std.specs.Prelude.{Result, MatchResult, List}
 use Rattle.sm_syntax.specs.declared.error.SyntaxError.{SyntaxError}
 use Rattle.sm_syntax.specs.declared.error.SyntaxError.TheVariants as fault
@@ -77,12 +77,6 @@ from_syntax (fault.DoubleName x) = error.DoubleName x
 from_syntax fault.TooDeep = error.TooDeep
 from_syntax fault.TooMany = error.TooMany
 from_syntax fault.Memory = error.Memory
-
--- a check answers that there is no refusal, or by its error which one it is; want of memory is free
-abbrev pub Reports : Result (Unit {0}) TaskError → Option Refusal → Type 0
-Reports answer refusal =
-    MatchResult answer (λ u. refusal ≡ None)
-    (λ e. e ≢ error.Memory → option_map error_of refusal ≡ Some e)
 
 -- the text is in the grammar, and of the conditions on tasks this is the first that fails
 abbrev pub IsRefusedBy : List ℕ → Refusal → Type 0

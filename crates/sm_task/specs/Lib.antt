@@ -1,4 +1,5 @@
 pub mod Tasks
 pub mod Errors
-pub mod Laws
 pub mod Places
+pub mod Laws
+pub mod Checks
