@@ -1,11 +1,11 @@
 -- What a command asks for, by the texts that its matches give.
 use Rattle.std.proofs.Common.{◌≡◌, ◌∙◌, inr, [], Option, Some, Result, Ok, Err, IfOk, IsErrOf, codes, refl, sym, ap}
 use Rattle.clap.specs.Walk.{Text}
-use Rattle.sm_commands.specs.Requests.{asked_in}
+use Rattle.sm_commands.specs.Views.{asked_in}
 use Rattle.sm_commands.specs.Words.{Words, asked_by, check_by, faults_of, print_by, replay_by, text_of, HasBadNumber, IsRefused}
 use Rattle.sm_commands.specs.declared.words.Request.{Request}
-use Rattle.sm_commands.specs.declared.words.Verb.{Verb}
-use Rattle.sm_commands.specs.declared.words.Verb.TheVariants.{Check, Replay, Print}
+use Rattle.sm_commands.specs.declared.command.Verb.{Verb}
+use Rattle.sm_commands.specs.declared.command.Verb.TheVariants.{Check, Replay, Print}
 use Rattle.sm_commands.specs.declared.words.WordsError.{WordsError}
 use Rattle.sm_commands.specs.declared.words.WordsError.TheVariants.{Usage}
 

@@ -24,10 +24,10 @@ use Rattle.clap.proofs.SimpleLemmas.{is_false, is_nil, plain_fields}
 use Rattle.clap.proofs.TakesLemmas.{each_rule}
 use Rattle.clap.proofs.WalkLemmas.{both, first_value-rows}
 use Rattle.clap.specs.declared.parser.matches.Found.{Found}
-use Rattle.sm_commands.specs.Requests.{HasRequired}
-use Rattle.sm_commands.specs.Words.{Words, check_command, command_of, faults_of, print_command, replay_command, required_word, text_of}
-use Rattle.sm_commands.specs.declared.words.Verb.{Verb}
-use Rattle.sm_commands.specs.declared.words.Verb.TheVariants.{Check, Replay, Print}
+use Rattle.sm_commands.specs.Command.{check_command, command_of, print_command, replay_command, required_word}
+use Rattle.sm_commands.specs.Words.{Words, HasRequired, faults_of, text_of}
+use Rattle.sm_commands.specs.declared.command.Verb.{Verb}
+use Rattle.sm_commands.specs.declared.command.Verb.TheVariants.{Check, Replay, Print}
 
 is_none : {X : Type 0} (o : Option X) → not (is_some o) ≡ true → o ≡ None
 is_none None e = refl

@@ -3,8 +3,8 @@ use Rattle.std.proofs.Common.{◌≡◌, ◌≢◌, ◌⊎◌, inl, inr, ℕ, Li
 use Rattle.std.specs.Prelude.{option_and_then}
 use Rattle.clap.specs.Walk.{Text}
 use Rattle.sm_commands.specs.Words.{Words, check, replay, asked, asked_by, asked_where, check_by, replay_by, text_of, turns_by, workers_by, verb_of, unless, HasBadNumber, HasBadOption, IsRefused, IsUsage}
-use Rattle.sm_commands.specs.declared.words.Verb.{Verb}
-use Rattle.sm_commands.specs.declared.words.Verb.TheVariants.{Check, Replay, Print}
+use Rattle.sm_commands.specs.declared.command.Verb.{Verb}
+use Rattle.sm_commands.specs.declared.command.Verb.TheVariants.{Check, Replay, Print}
 
 -- a number that is none asks for nothing
 no_check : (task turns workers : Option Text) → HasBadNumber turns workers → check_by task turns workers ≡ None

@@ -1,4 +1,5 @@
 -- What `check` answers to a task: the first trial that violates, or else the decision on symbols.
+-- Public clauses cite it.
 use Rattle.std.specs.Prelude.{◌≡◌, ◌<◌, ◌⊎◌, ◌++◌, ℕ, ℤ, Option, List, []}
 use Rattle.serde_json.specs.Data.{Members, object}
 use Rattle.serde_json.specs.Written.{compact_text}
@@ -14,7 +15,7 @@ use Rattle.sm_syntax.specs.claim.Stores.{Store}
 use Rattle.sm_syntax.specs.declared.tree.Name.{Name}
 use Rattle.sm_commands.specs.Copies.{decision}
 use Rattle.sm_commands.specs.Lines.{decision_line, trial_line, input_line, unmet_line}
-use Rattle.sm_commands.specs.Reading.{Says}
+use Rattle.sm_commands.specs.Status.{Says}
 use Rattle.sm_commands.specs.declared.copies.Decision.{Decision}
 use Rattle.sm_commands.specs.declared.copies.Decision.TheVariants.{Safe, Copies, NotBuilt}
 use Rattle.sm_commands.specs.declared.status.Status.{Status}
@@ -29,16 +30,19 @@ pub record IsInputText (t : Parts) (s : Store) (text : List ℕ) : Type 0 where
   pub compact : text ≡ compact_text (object members)
   pub written : AreWritten t.names (sort_of t.declared) s members
 
--- the least trial that violates is named, with the first cell and clause at which it does, and its input
+-- the least trial that violates is named, with the first cell and clause at which it does, and its
+-- input
 pub record ShowsConflict (t : Parts) (turns : ℕ) (status : Status) (text : List ℕ) : Type 0 where
   pub number : ℕ
   pub name : Name
   pub index : Option ℤ
   pub clause : ℕ
-  pub least : IsLeast (task_of t) (sort_of t.declared) turns number (verdict.Violates name index clause)
+  pub least : IsLeast (task_of t) (sort_of t.declared) turns number
+      (verdict.Violates name index clause)
   pub input : List ℕ
   pub shown : IsInputText t (trial (sort_of t.declared) number) input
-  pub says : Says Conflict (trial_line t.names number name index clause ++ input_line input) status text
+  pub says : Says Conflict (trial_line t.names number name index clause ++ input_line input)
+      status text
 
 -- the status of a decision
 abbrev pub status_of : Decision → Status
@@ -46,9 +50,11 @@ status_of Safe = Accepted
 status_of (Copies x clause) = Unknown
 status_of NotBuilt = Unknown
 
--- the note behind an answer: a line exactly where no trial meets the assumption
+-- the note after an answer: a line exactly where no trial meets the assumption
 abbrev pub IsNote : Parts → List ℕ → Type 0
-IsNote t note = let meets = SomeTrialMeets (task_of t) (sort_of t.declared) in (meets × (note ≡ [])) ⊎ ((¬ meets) × (note ≡ unmet_line))
+IsNote t note =
+    let meets = SomeTrialMeets (task_of t) (sort_of t.declared) in
+    (meets × (note ≡ [])) ⊎ ((¬ meets) × (note ≡ unmet_line))
 
 -- no trial violates, and the answer is the decision on symbols
 pub record Decides (t : Parts) (turns : ℕ) (status : Status) (text : List ℕ) : Type 0 where

@@ -1,10 +1,12 @@
--- The decision on programs that only copy, by symbols: after skips and copies each name has a literal, or what some
--- name had at the start. It speaks of no store and of no run.
-use Rattle.std.specs.Prelude.{ℕ, pos, ◌==◌, Bool, true, false, not, ◌&&◌, if◌then◌else◌, Option, Some, None, List, [], ◌∷◌}
+-- The decision on programs that only copy, by symbols: after skips and copies each name has a
+-- literal, or what some name had at the start. It speaks of no store and of no run.
+use Rattle.std.specs.Prelude.{ℕ, pos, ◌==◌, Bool, true, false, not, ◌&&◌, if◌then◌else◌, Option}
+use Rattle.std.specs.Prelude.{Some, None, List, [], ◌∷◌}
 use Rattle.std.specs.Ordering.{int_eq}
-use Rattle.sm_syntax.specs.claim.ConflictFree.{Copy, O, A, B, M, program_of}
-use Rattle.sm_syntax.specs.text.Parts.{Parts, task_of}
-use Rattle.sm_syntax.specs.claim.Syntax.{Expression, Lit, Var, Read, Neg, Plus, Minus, Times, Code, End, Skip, Assign, Write, If, While, Hole}
+use Rattle.sm_syntax.specs.ConflictFree.{Copy, O, A, B, M, program_of}
+use Rattle.sm_syntax.specs.Parts.{Parts, task_of}
+use Rattle.sm_syntax.specs.Syntax.{Expression, Lit, Var, Read, Neg, Plus, Minus, Times, Code, End}
+use Rattle.sm_syntax.specs.Syntax.{Skip, Assign, Write, If, While, Hole}
 use Rattle.sm_commands.specs.declared.copies.Decision.{Decision}
 use Rattle.sm_commands.specs.declared.copies.Decision.TheVariants.{Safe, Copies, NotBuilt}
 use Rattle.sm_commands.specs.declared.copies.Origin.{Origin}
@@ -67,15 +69,22 @@ only_copies (Hole h k) = false
 
 -- whether a variant's change is lost: the base has something else, and so has the candidate
 abbrev pub is_lost : Origin → Origin → Origin → Bool
-is_lost base variant candidate = not (same_origin base variant) && not (same_origin candidate variant)
+is_lost base variant candidate =
+    not (same_origin base variant) && not (same_origin candidate variant)
 
 -- whether the candidate has what none of the others has
 abbrev pub is_made_up : Origin → Origin → Origin → Origin → Bool
-is_made_up base a b candidate = not (same_origin candidate base) && not (same_origin candidate a) && not (same_origin candidate b)
+is_made_up base a b candidate =
+    not (same_origin candidate base) && not (same_origin candidate a)
+    && not (same_origin candidate b)
 
--- the first clause that fails at an output that has these in the base, the variants and the candidate
+-- the first clause that fails at an output that has these in the base, the variants and the
+-- candidate
 abbrev pub broken_clause : Origin → Origin → Origin → Origin → Option ℕ
-broken_clause base a b candidate = if is_lost base a candidate then Some 1 else (if is_lost base b candidate then Some 2 else (if is_made_up base a b candidate then Some 3 else None))
+broken_clause base a b candidate =
+    if is_lost base a candidate then Some 1 else
+    (if is_lost base b candidate then Some 2 else
+    (if is_made_up base a b candidate then Some 3 else None))
 
 -- the clause that fails at a name, or else what is said of the others
 abbrev pub or_else : Option ℕ → ℕ → Decision → Decision
@@ -85,12 +94,20 @@ or_else (Some clause) x others = Copies (record { 0 = x }) clause
 -- the first output at which a clause fails, and that clause
 abbrev pub first_broken : List ℕ → (Copy → Origins) → Decision
 first_broken [] after = Safe
-first_broken (x ∷ rest) after = or_else (broken_clause (after O x) (after A x) (after B x) (after M x)) x (first_broken rest after)
+first_broken (x ∷ rest) after =
+    or_else (broken_clause (after O x) (after A x) (after B x) (after M x)) x
+    (first_broken rest after)
 
 -- whether the program of each copy only copies
 abbrev pub each_copies : (Copy → Code) → Bool
-each_copies program = only_copies (program O) && only_copies (program A) && only_copies (program B) && only_copies (program M)
+each_copies program =
+    only_copies (program O) && only_copies (program A)
+    && only_copies (program B) && only_copies (program M)
 
 -- the decision on a task
 abbrev pub decision : Parts → Decision
-decision t = let program = program_of (task_of t) in if each_copies program then first_broken t.outputs (λ (c : Copy). origins_after (program c) Start) else NotBuilt
+decision t =
+    let program = program_of (task_of t) in
+    if each_copies program
+    then first_broken t.outputs (λ (c : Copy). origins_after (program c) Start)
+    else NotBuilt

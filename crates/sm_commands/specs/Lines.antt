@@ -1,11 +1,17 @@
--- The lines that are printed, as bytes.
-use Rattle.std.specs.Prelude.{ℕ, ℤ, zero, suc, Option, Some, None, Result, Ok, Err, List, [], ◌∷◌, ◌++◌, unwrap_or, slice_get, codes, decimal}
+-- The lines that are printed, as bytes. Public clauses cite it.
+use Rattle.std.specs.Prelude.{ℕ, ℤ, zero, suc, Option, Some, None, Result, Ok, Err, List, [], ◌∷◌}
+use Rattle.std.specs.Prelude.{◌++◌, unwrap_or, slice_get, codes, decimal}
 use Rattle.std.specs.Fmt.{signed_decimal}
 use Rattle.sm_num.specs.declared.op.Op.{Op}
 use Rattle.sm_num.specs.declared.op.Op.TheVariants.{Add, Sub, Mul}
 use Rattle.sm_syntax.specs.declared.tree.Name.{Name}
 use Rattle.sm_task.specs.declared.error.TaskError.{TaskError}
-use Rattle.sm_task.specs.declared.error.TaskError.TheVariants.{BadByte, WideNumber, BadToken, Expected, Nested, MissingFilling, UnknownHole, DoubleHole, HoleInFilling, UnknownName, WrongSort, DoubleName, TooDeep, TooMany, Memory}
+use Rattle.sm_task.specs.declared.error.TaskError.TheVariants.{BadByte, WideNumber, BadToken}
+use Rattle.sm_task.specs.declared.error.TaskError.TheVariants.{Expected, Nested, MissingFilling}
+use Rattle.sm_task.specs.declared.error.TaskError.TheVariants.{UnknownHole, DoubleHole}
+use Rattle.sm_task.specs.declared.error.TaskError.TheVariants.{HoleInFilling, UnknownName}
+use Rattle.sm_task.specs.declared.error.TaskError.TheVariants.{WrongSort, DoubleName, TooDeep}
+use Rattle.sm_task.specs.declared.error.TaskError.TheVariants.{TooMany, Memory}
 use Rattle.sm_replay.specs.declared.error.InputError.{InputError}
 use Rattle.sm_replay.specs.declared.error.InputError.TheVariants as no_input
 use Rattle.sm_replay.specs.declared.error.ReplayError.{ReplayError}
@@ -73,10 +79,11 @@ refusal_line names Memory = []
 -- the line on a task, by the texts of its names
 abbrev pub decision_line : List (List ℕ) → Decision → List ℕ
 decision_line names Safe = codes "Accepted\n"
-decision_line names (Copies x clause) = line_of (codes "Unknown") (codes "Copies" ∷ name_text names x.0 ∷ decimal clause ∷ [])
+decision_line names (Copies x clause) =
+    line_of (codes "Unknown") (codes "Copies" ∷ name_text names x.0 ∷ decimal clause ∷ [])
 decision_line names NotBuilt = line_of (codes "Unknown") (codes "NotBuilt" ∷ [])
 
--- the line behind an answer of `check`, where no trial meets the assumption
+-- the line after an answer of `check`, where no trial meets the assumption
 abbrev pub unmet_line : List ℕ
 unmet_line = codes "no trial meets the assumption\n"
 
@@ -87,7 +94,9 @@ cell_text names x (Some i) = name_text names x.0 ++ codes "[" ++ signed_decimal 
 
 -- the line on a trial that violates, by its number, and where
 abbrev pub trial_line : List (List ℕ) → ℕ → Name → Option ℤ → ℕ → List ℕ
-trial_line names j x i clause = line_of (codes "Conflict") (codes "trial" ∷ decimal j ∷ codes "cell" ∷ cell_text names x i ∷ codes "clause" ∷ decimal clause ∷ [])
+trial_line names j x i clause =
+    line_of (codes "Conflict") (codes "trial" ∷ decimal j
+    ∷ codes "cell" ∷ cell_text names x i ∷ codes "clause" ∷ decimal clause ∷ [])
 
 -- the line with an input's text
 abbrev pub input_line : List ℕ → List ℕ
@@ -108,14 +117,18 @@ op_word Mul = codes "mul"
 
 -- the line on an operation of a copy, or of the assumption, that leaves 128 bits
 abbrev pub beyond_line : List ℕ → Op → ℤ → ℤ → List ℕ
-beyond_line whose op a b = line_of (codes "Beyond") (whose ∷ op_word op ∷ signed_decimal a ∷ signed_decimal b ∷ [])
+beyond_line whose op a b =
+    line_of (codes "Beyond") (whose ∷ op_word op ∷ signed_decimal a ∷ signed_decimal b ∷ [])
 
 -- the line on what an input shows; want of memory has none
 abbrev pub verdict_line : List (List ℕ) → Result Verdict ReplayError → List ℕ
 verdict_line names (Ok Holds) = codes "Holds\n"
 verdict_line names (Ok Unmet) = codes "Unmet\n"
-verdict_line names (Ok (Violates x i clause)) = line_of (codes "Conflict") (codes "cell" ∷ cell_text names x i ∷ codes "clause" ∷ decimal clause ∷ [])
-verdict_line names (Err (stop.OutOfTurns copy)) = line_of (codes "OutOfTurns") (copy_letter copy ∷ [])
+verdict_line names (Ok (Violates x i clause)) =
+    line_of (codes "Conflict")
+    (codes "cell" ∷ cell_text names x i ∷ codes "clause" ∷ decimal clause ∷ [])
+verdict_line names (Err (stop.OutOfTurns copy)) =
+    line_of (codes "OutOfTurns") (copy_letter copy ∷ [])
 verdict_line names (Err (stop.Beyond copy op a b)) = beyond_line (copy_letter copy) op a b
 verdict_line names (Err (stop.BeyondAssumed op a b)) = beyond_line (codes "assume") op a b
 verdict_line names (Err stop.Memory) = []

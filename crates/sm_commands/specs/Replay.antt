@@ -1,4 +1,5 @@
 -- What `replay` answers to a task and an input: what the four programs do from the input's store.
+-- Public clauses cite it.
 use Rattle.std.specs.Prelude.{◌≢◌, ◌⊎◌, ℕ, Result, Ok, Err, List, codes}
 use Rattle.sm_eval.specs.Slots.{meaning}
 use Rattle.sm_eval.specs.declared.store.Store as code
@@ -14,9 +15,11 @@ use Rattle.sm_replay.specs.declared.verdict.Verdict.TheVariants as verdict
 use Rattle.sm_syntax.specs.text.Parts.{Parts, sort_of, task_of}
 use Rattle.sm_syntax.specs.claim.Stores.{Store}
 use Rattle.sm_commands.specs.Lines.{input_refusal_line, verdict_line}
-use Rattle.sm_commands.specs.Reading.{Says, IsRead, GivesNoBytes}
+use Rattle.sm_commands.specs.File.{IsRead, GivesNoBytes}
+use Rattle.sm_commands.specs.Status.{Says}
 use Rattle.sm_commands.specs.declared.status.Status.{Status}
-use Rattle.sm_commands.specs.declared.status.Status.TheVariants.{Accepted, Conflict, Unknown, Refused}
+use Rattle.sm_commands.specs.declared.status.Status.TheVariants.{Accepted, Conflict, Unknown}
+use Rattle.sm_commands.specs.declared.status.Status.TheVariants.{Refused}
 
 -- the status of what an input shows
 abbrev pub verdict_status : Result Verdict ReplayError → Status
@@ -26,7 +29,8 @@ verdict_status (Ok (verdict.Violates x i clause)) = Conflict
 verdict_status (Err e) = Unknown
 
 -- the verdict on the store, and the answer that says it
-pub record AnswersReplay (t : Parts) (s : Store) (turns : ℕ) (status : Status) (text : List ℕ) : Type 0 where
+pub record AnswersReplay (t : Parts) (s : Store) (turns : ℕ) (status : Status) (text : List ℕ)
+    : Type 0 where
   pub verdict : Result Verdict ReplayError
   pub known : verdict ≢ Err stop.Memory
   pub judged : Judges (task_of t) s turns verdict
@@ -40,14 +44,17 @@ pub record IsNoInput (t : Parts) (bytes : List ℕ) (status : Status) (text : Li
   pub says : Says Refused (input_refusal_line t.names error) status text
 
 -- the file was read, and its bytes are no input
-pub record RefusesInput (t : Parts) (file : Known) (before now : ℕ) (status : Status) (text : List ℕ) : Type 0 where
+pub record RefusesInput (t : Parts) (file : Known) (before now : ℕ) (status : Status)
+    (text : List ℕ) : Type 0 where
   pub bytes : List ℕ
   pub read : IsRead file before now bytes
   pub refuses : IsNoInput t bytes status text
 
 -- the file gives no input, and the answer says why
 abbrev pub GivesNoInput : Parts → Known → ℕ → ℕ → Status → List ℕ → Type 0
-GivesNoInput t file before now status text = GivesNoBytes (codes "input") file before now status text ⊎ RefusesInput t file before now status text
+GivesNoInput t file before now status text =
+    GivesNoBytes (codes "input") file before now status text
+    ⊎ RefusesInput t file before now status text
 
 -- the file was read, and its bytes are an input that gives this store
 pub record GivesInput (t : Parts) (file : Known) (before now : ℕ) (s : code.Store) : Type 0 where
@@ -56,11 +63,14 @@ pub record GivesInput (t : Parts) (file : Known) (before now : ℕ) (s : code.St
   pub gives : IsInput t.names (sort_of t.declared) bytes s
 
 -- the file gives an input, to which `replay` answers
-pub record ReplaysStore (t : Parts) (file : Known) (turns before now : ℕ) (status : Status) (text : List ℕ) : Type 0 where
+pub record ReplaysStore (t : Parts) (file : Known) (turns before now : ℕ) (status : Status)
+    (text : List ℕ) : Type 0 where
   pub store : code.Store
   pub gives : GivesInput t file before now store
   pub answers : AnswersReplay t (meaning store) turns status text
 
 -- what is answered to a task and an input's file
 abbrev pub ReplaysInput : Parts → Known → ℕ → ℕ → ℕ → Status → List ℕ → Type 0
-ReplaysInput t file turns before now status text = GivesNoInput t file before now status text ⊎ ReplaysStore t file turns before now status text
+ReplaysInput t file turns before now status text =
+    GivesNoInput t file before now status text
+    ⊎ ReplaysStore t file turns before now status text

@@ -1,5 +1,6 @@
--- The number with which the program ends, for each exit status. Public clauses cite it.
-use Rattle.std.specs.Prelude.{ℕ}
+-- The number with which the program ends, for each status, and what a reply says. Public clauses
+-- cite it.
+use Rattle.std.specs.Prelude.{◌≡◌, ℕ, List}
 use Rattle.sm_commands.specs.declared.status.Status.{Status}
 use Rattle.sm_commands.specs.declared.status.Status.TheVariants as status
 
@@ -14,3 +15,8 @@ number_of status.ReadFault = 5
 number_of status.Memory = 6
 number_of status.WriteFault = 7
 number_of status.SinkFault = 8
+
+-- the reply has this status, with this text
+pub record Says (wanted : Status) (line : List ℕ) (status : Status) (text : List ℕ) : Type 0 where
+  pub ended : status ≡ wanted
+  pub printed : text ≡ line

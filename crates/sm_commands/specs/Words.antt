@@ -1,48 +1,28 @@
--- The words that the program is given, without its name: a command, and what `clap` says that this command takes.
-use Rattle.std.specs.Prelude.{◌≡◌, ◌≢◌, ◌⊎◌, ◌&&◌, ℕ, Bool, true, nat_le, length, List, [], ◌∷◌, Option, Some, None, codes, if◌then◌else◌, option_and_then, option_map}
+-- The words that the program is given, without its name: a command, and what `clap` says that this
+-- command takes. Public clauses cite it.
+use Rattle.std.specs.Prelude.{◌≡◌, ◌≢◌, ◌⊎◌, ◌&&◌, ℕ, Bool, true, nat_le, length, List, [], ◌∷◌}
+use Rattle.std.specs.Prelude.{Option, Some, None, is_some, codes, if◌then◌else◌, option_and_then}
+use Rattle.std.specs.Prelude.{option_map}
 use Rattle.std.specs.Str.{bytes_eq, all_ascii_digits}
 use Rattle.std.specs.Str.Parse.{digits_value}
 use Rattle.clap.specs.Faults.{fault_of}
 use Rattle.clap.specs.Kinds.{Kinds}
-use Rattle.clap.specs.Simple.{App, matches_of, new_app, new_rule, with_rule}
-use Rattle.clap.specs.Walk.{Rule, Text, first_of}
-use Rattle.clap.specs.declared.builder.action.ArgAction.TheVariants.{Set}
-use Rattle.sm_commands.specs.declared.words.Verb.{Verb}
-use Rattle.sm_commands.specs.declared.words.Verb.TheVariants.{Check, Replay, Print}
+use Rattle.clap.specs.Simple.{matches_of}
+use Rattle.clap.specs.Walk.{Text, first_of}
+use Rattle.sm_commands.specs.Command.{command_of}
+use Rattle.sm_commands.specs.declared.command.Verb.{Verb}
+use Rattle.sm_commands.specs.declared.command.Verb.TheVariants.{Check, Replay, Print}
 
 -- the words that the program was given
 abbrev pub Words : Type 0
 Words = List Text
 
--- a word that has to be there
-abbrev pub required_word : Text → Rule
-required_word id = record (new_rule id) { required = true; action = Some Set }
-
--- an option with a value
-abbrev pub option_word : Text → Rule
-option_word id = record (new_rule id) { long = Some id; action = Some Set }
-
--- check TASK [--turns N] [--workers N]
-unfoldable pub check_command : App
-check_command = with_rule (with_rule (with_rule (new_app (codes "check")) (required_word (codes "TASK"))) (option_word (codes "turns"))) (option_word (codes "workers"))
-
--- replay TASK INPUT [--turns N] [--workers N]
-unfoldable pub replay_command : App
-replay_command = with_rule (with_rule (with_rule (with_rule (new_app (codes "replay")) (required_word (codes "TASK"))) (required_word (codes "INPUT"))) (option_word (codes "turns"))) (option_word (codes "workers"))
-
--- print TASK
-unfoldable pub print_command : App
-print_command = with_rule (new_app (codes "print")) (required_word (codes "TASK"))
-
--- what `clap` knows of a command
-abbrev pub command_of : Verb → App
-command_of Check = check_command
-command_of Replay = replay_command
-command_of Print = print_command
-
 -- the command that a word names
 abbrev pub verb_of : Text → Option Verb
-verb_of word = if bytes_eq word (codes "check") then Some Check else (if bytes_eq word (codes "replay") then Some Replay else (if bytes_eq word (codes "print") then Some Print else None))
+verb_of word =
+    if bytes_eq word (codes "check") then Some Check else
+    (if bytes_eq word (codes "replay") then Some Replay else
+    (if bytes_eq word (codes "print") then Some Print else None))
 
 -- what `clap` finds wrong with the words of a command: nothing where the command takes them
 unfoldable pub faults_of : Verb → Words → Kinds
@@ -58,7 +38,9 @@ is_number text = all_ascii_digits text && (nat_le 1 (length text) && nat_le (len
 
 -- the number that a text spells, where its value lies between the least and the greatest
 abbrev pub number_of : ℕ → ℕ → Text → Option ℕ
-number_of least most text = let n = digits_value 10 text in if is_number text && (nat_le least n && nat_le n most) then Some n else None
+number_of least most text =
+    let n = digits_value 10 text in
+    if is_number text && (nat_le least n && nat_le n most) then Some n else None
 
 -- the number of an option: where the option isn't there, its default
 abbrev pub number_or : ℕ → ℕ → ℕ → Option Text → Option ℕ
@@ -79,8 +61,10 @@ HasBadNumber turns workers = (turns_by turns ≡ None) ⊎ (workers_by workers �
 
 -- a number among the words of a command isn't one, or isn't in its range
 abbrev pub HasBadOption : Verb → Words → Type 0
-HasBadOption Check words = HasBadNumber (text_of Check (codes "turns") words) (text_of Check (codes "workers") words)
-HasBadOption Replay words = HasBadNumber (text_of Replay (codes "turns") words) (text_of Replay (codes "workers") words)
+HasBadOption Check words =
+    HasBadNumber (text_of Check (codes "turns") words) (text_of Check (codes "workers") words)
+HasBadOption Replay words =
+    HasBadNumber (text_of Replay (codes "turns") words) (text_of Replay (codes "workers") words)
 HasBadOption Print words = ⊥
 
 -- the words are none of the command's: `clap` refuses them, or a number isn't one
@@ -110,11 +94,18 @@ task_file (print task) = task
 
 -- what `check` asks for, by the texts of its arguments
 abbrev pub check_by : Option Text → Option Text → Option Text → Option Asked
-check_by task turns workers = option_and_then (λ (t : Text). option_and_then (λ (n : ℕ). option_map (λ (w : ℕ). check t n w) (workers_by workers)) (turns_by turns)) task
+check_by task turns workers =
+    option_and_then (λ (t : Text).
+    option_and_then (λ (n : ℕ).
+    option_map (λ (w : ℕ). check t n w) (workers_by workers)) (turns_by turns)) task
 
 -- what `replay` asks for; its workers change nothing
 abbrev pub replay_by : Option Text → Option Text → Option Text → Option Text → Option Asked
-replay_by task input turns workers = option_and_then (λ (t : Text). option_and_then (λ (i : Text). option_and_then (λ (n : ℕ). option_map (λ (w : ℕ). replay t i n) (workers_by workers)) (turns_by turns)) input) task
+replay_by task input turns workers =
+    option_and_then (λ (t : Text).
+    option_and_then (λ (i : Text).
+    option_and_then (λ (n : ℕ).
+    option_map (λ (w : ℕ). replay t i n) (workers_by workers)) (turns_by turns)) input) task
 
 -- what `print` asks for
 abbrev pub print_by : Option Text → Option Asked
@@ -122,14 +113,25 @@ print_by task = option_map (λ (t : Text). print t) task
 
 -- what a command asks for by its words
 abbrev pub asked_by : Verb → Words → Option Asked
-asked_by Check words = check_by (text_of Check (codes "TASK") words) (text_of Check (codes "turns") words) (text_of Check (codes "workers") words)
-asked_by Replay words = replay_by (text_of Replay (codes "TASK") words) (text_of Replay (codes "INPUT") words) (text_of Replay (codes "turns") words) (text_of Replay (codes "workers") words)
+asked_by Check words =
+    check_by (text_of Check (codes "TASK") words)
+    (text_of Check (codes "turns") words) (text_of Check (codes "workers") words)
+asked_by Replay words =
+    replay_by (text_of Replay (codes "TASK") words) (text_of Replay (codes "INPUT") words)
+    (text_of Replay (codes "turns") words) (text_of Replay (codes "workers") words)
 asked_by Print words = print_by (text_of Print (codes "TASK") words)
 
 -- the value where there is no fault
 abbrev pub unless : {X Y : Type 0} → List X → Option Y → Option Y
 unless [] value = value
 unless (fault ∷ rest) value = None
+
+-- each word that a command requires is given
+abbrev pub HasRequired : Verb → (Text → Option Text) → Type 0
+HasRequired Check given = is_some (given (codes "TASK")) ≡ true
+HasRequired Replay given =
+    (is_some (given (codes "TASK")) ≡ true) × (is_some (given (codes "INPUT")) ≡ true)
+HasRequired Print given = is_some (given (codes "TASK")) ≡ true
 
 -- what the words ask for, where the command takes them
 abbrev pub asked_where : Option Verb → Words → Option Asked

@@ -2,26 +2,26 @@
 ghost use Rattle.std.specs.Prelude.{◌≡◌, ◌<◌, ◌≤◌, ◌++◌, List, ℕ, None, IfOk};
 ghost use Rattle.sm_replay.specs.Sorted.{sort_fault};
 ghost use Rattle.sm_replay.specs.Trials.{trial};
-ghost use Rattle.sm_replay.specs.InputText.{AreNamed};
-ghost use Rattle.sm_syntax.specs.text.Parts.{sort_of};
-ghost use Rattle.sm_task.specs.Tasks.{parts_of};
+ghost use Rattle.sm_replay.specs.Written.{AreNamed};
+ghost use Rattle.sm_syntax.specs.Parts.{sort_of};
+ghost use Rattle.sm_task.specs.Tasks.{parts_of, AreFilled};
 ghost use Rattle.sm_commands.specs.Check.{status_of, AnswersCheck, IsInputText, IsNote};
 ghost use Rattle.sm_commands.specs.Copies.{decision};
 ghost use Rattle.sm_commands.specs.Lines.{decision_line, input_line, trial_line};
-ghost use Rattle.sm_commands.specs.Reading.{Says};
+ghost use Rattle.sm_commands.specs.Status.{Says};
 
 use crate::copies::{Decision, decide};
 use crate::lines::{decision_line, put_input_line, trial_line};
 use crate::status::{Reply, Status};
 use sm_par::Gate;
 use sm_replay::{Verdict, first_violation, some_trial_meets, trial, write_input};
-use sm_syntax::Name;
-use sm_task::Task;
+use sm_syntax::{Block, Name, PerCopy};
+use sm_task::{Task, fill_all};
 use std::alloc::{AllocError, Global};
 use std::thread::Threads;
 
 /// The answer to a task that may be run, whose declared names have texts: the least trial that
-/// violates, where each loop takes at most so many turns, or else the decision on symbols. The
+/// violates, where each loop takes at most `turns` turns, or else the decision on symbols. The
 /// trials are jobs for 1 to 64 workers.
 pub fn check<R: Threads + Sync, G: Gate>(
     rt: &R,
@@ -37,7 +37,8 @@ pub fn check<R: Threads + Sync, G: Gate>(
     requires most { workers ≤ 64 }
     ensures { IfOk result (λ r. AnswersCheck (parts_of task.now) turns r.status r.text.items) }
 {
-    match first_violation(rt, alloc, gate, task, turns, workers)? {
+    let programs = fill_all(alloc, task)?;
+    match first_violation(rt, alloc, gate, task, &programs, turns, workers)? {
         Some(
             (
                 number,
@@ -49,7 +50,7 @@ pub fn check<R: Threads + Sync, G: Gate>(
             ),
         ) => conflict(alloc, task, number, name, index, clause),
         Some(_) => unreachable!(),
-        None => decided(alloc, task),
+        None => decided(alloc, task, &programs),
     }
 }
 
@@ -80,13 +81,14 @@ fn conflict(
 }
 
 // The answer by the decision on symbols.
-fn decided(alloc: Global, task: &Task) -> Result<Reply, AllocError>
-    requires { sort_fault (parts_of task.now) ≡ None }
+fn decided(alloc: Global, task: &Task, programs: &PerCopy<Block>) -> Result<Reply, AllocError>
+    requires runs { sort_fault (parts_of task.now) ≡ None }
+    requires filled { AreFilled (parts_of task.now) programs.now }
     ensures { let t = parts_of task.now in IfOk result (λ r. (note : List ℕ) × IsNote t note
         × Says (status_of (decision t)) (decision_line t.names (decision t) ++ note)
         r.status r.text.items) }
 {
-    let decision = decide(alloc, task)?;
+    let decision = decide(alloc, task, programs)?;
     let note = note_of(alloc, task)?;
     let mut text = decision_line(alloc, &task.shared.names, decision)?;
     text.extend_from_slice(note.as_bytes())?;
@@ -96,7 +98,7 @@ fn decided(alloc: Global, task: &Task) -> Result<Reply, AllocError>
     })
 }
 
-// What stands behind the decision.
+// What comes after the decision.
 fn note_of(alloc: Global, task: &Task) -> Result<&'static str, AllocError>
     requires { sort_fault (parts_of task.now) ≡ None }
     ensures { IfOk result (λ note. IsNote (parts_of task.now) note.now) }

@@ -1,15 +1,19 @@
 // Programs that only copy, decided by symbols.
-ghost use Rattle.std.specs.Prelude.{◌≡◌, ◌&&◌, Bool, true, false, ℕ, ◌<◌, Some, None, map, if◌then◌else◌, IfOk, OnOk, IsTrue, MatchOption};
-ghost use Rattle.sm_syntax.specs.claim.ConflictFree.{ConflictFree, Copy, O, A, B, M, program_of, copy_of};
-ghost use Rattle.sm_syntax.specs.text.Parts.{task_of};
-ghost use Rattle.sm_syntax.specs.claim.Syntax.{Code};
-ghost use Rattle.sm_syntax.specs.trees.Views.{expression_of, statement_of, code_of};
-ghost use Rattle.sm_task.specs.Tasks.{parts_of};
-ghost use Rattle.sm_commands.specs.Copies.{origin_of, is_copied, with_origin, origins_after, only_copies, is_lost, is_made_up, broken_clause, first_broken, each_copies, decision};
-ghost use Rattle.sm_commands.specs.Tables.{origin_in, after_in};
+ghost use Rattle.std.specs.Prelude.{◌≡◌, ◌&&◌, true, false, ℕ, Some, None, map, if◌then◌else◌};
+ghost use Rattle.std.specs.Prelude.{IfOk, OnOk, IsTrue, MatchOption};
+ghost use Rattle.sm_syntax.specs.ConflictFree.{ConflictFree, Copy, O, A, B, M, program_of};
+ghost use Rattle.sm_syntax.specs.Copies.{copy_named};
+ghost use Rattle.sm_syntax.specs.Parts.{task_of};
+ghost use Rattle.sm_syntax.specs.Syntax.{Code};
+ghost use Rattle.sm_syntax.specs.Views.{expression_of, statement_of, code_of};
+ghost use Rattle.sm_task.specs.Tasks.{parts_of, AreFilled};
+ghost use Rattle.sm_commands.specs.Copies.{origin_of, is_copied, with_origin, origins_after};
+ghost use Rattle.sm_commands.specs.Copies.{only_copies, is_lost, is_made_up, broken_clause};
+ghost use Rattle.sm_commands.specs.Copies.{first_broken, each_copies, decision};
+ghost use Rattle.sm_commands.specs.Views.{origin_in, after_in};
 
-use sm_syntax::{Block, Expr, Name, Stmt};
-use sm_task::{Task, fill};
+use sm_syntax::{Block, CopyName, Expr, Name, PerCopy, Stmt};
+use sm_task::Task;
 use std::alloc::{AllocError, Global};
 use std::collections::BTreeMap;
 
@@ -116,14 +120,50 @@ fn origins_of(alloc: Global, block: &Block) -> Result<Option<Origins>, AllocErro
 }
 
 // What each name has after the program of a copy, where it only copies.
-fn origins_of_copy(alloc: Global, task: &Task, copy: u8) -> Result<Option<Origins>, AllocError>
-    requires { copy < 4 }
-    ensures { let code = program_of (task_of (parts_of task.now)) (copy_of copy) in
+fn end_of(
+    alloc: Global,
+    task: &Task,
+    programs: &PerCopy<Block>,
+    copy: CopyName,
+) -> Result<Option<Origins>, AllocError>
+    requires { AreFilled (parts_of task.now) programs.now }
+    ensures { let code = program_of (task_of (parts_of task.now)) (copy_named copy) in
         IfOk result (λ after. MatchOption after (only_copies code ≡ false) (λ origins.
         (only_copies code ≡ true) × (origin_in origins ≡ origins_after code Origin.Start))) }
 {
-    let program = fill(alloc, task, copy)?;
-    origins_of(alloc, &program.body)
+    origins_of(alloc, programs.get(copy))
+}
+
+// What each name has after each of the four programs, where each only copies.
+fn ends_of(
+    alloc: Global,
+    task: &Task,
+    programs: &PerCopy<Block>,
+) -> Result<Option<PerCopy<Origins>>, AllocError>
+    requires { AreFilled (parts_of task.now) programs.now }
+    ensures { let program = program_of (task_of (parts_of task.now)) in
+        IfOk result (λ ends. MatchOption ends (each_copies program ≡ false) (λ e.
+        (each_copies program ≡ true)
+        × ((c : Copy) → after_in e c ≡ origins_after (program c) Origin.Start))) }
+{
+    let Some(base) = end_of(alloc, task, programs, CopyName::O)? else {
+        return Ok(None);
+    };
+    let Some(variant_a) = end_of(alloc, task, programs, CopyName::A)? else {
+        return Ok(None);
+    };
+    let Some(variant_b) = end_of(alloc, task, programs, CopyName::B)? else {
+        return Ok(None);
+    };
+    let Some(candidate) = end_of(alloc, task, programs, CopyName::M)? else {
+        return Ok(None);
+    };
+    Ok(Some(PerCopy {
+        base,
+        variant_a,
+        variant_b,
+        candidate,
+    }))
 }
 
 fn is_lost(base: Origin, variant: Origin, candidate: Origin) -> bool
@@ -138,87 +178,51 @@ fn is_made_up(base: Origin, a: Origin, b: Origin, candidate: Origin) -> bool
     candidate != base && candidate != a && candidate != b
 }
 
-/// What each name has after each of the four programs.
-#[derive(Drop)]
-struct Ends {
-    base: Origins,
-    variant_a: Origins,
-    variant_b: Origins,
-    candidate: Origins,
-}
-
-impl Ends {
-    // The ends of a task's programs, where each only copies.
-    fn of(alloc: Global, task: &Task) -> Result<Option<Ends>, AllocError>
-        ensures { let program = program_of (task_of (parts_of task.now)) in
-            IfOk result (λ ends. MatchOption ends (each_copies program ≡ false) (λ e.
-            (each_copies program ≡ true)
-            × ((c : Copy) → after_in e c ≡ origins_after (program c) Origin.Start))) }
-    {
-        let Some(base) = origins_of_copy(alloc, task, 0)? else {
-            return Ok(None);
-        };
-        let Some(variant_a) = origins_of_copy(alloc, task, 1)? else {
-            return Ok(None);
-        };
-        let Some(variant_b) = origins_of_copy(alloc, task, 2)? else {
-            return Ok(None);
-        };
-        let Some(candidate) = origins_of_copy(alloc, task, 3)? else {
-            return Ok(None);
-        };
-        Ok(Some(Ends {
-            base,
-            variant_a,
-            variant_b,
-            candidate,
-        }))
-    }
-
-    // The first clause that fails at the output.
-    fn broken_clause(&self, output: Name) -> Option<u8>
-        ensures { let after = after_in self.now in let x = output.0 in
-            result ≡ broken_clause (after O x) (after A x) (after B x) (after M x) }
-    {
-        let base = self.base.of(output);
-        let a = self.variant_a.of(output);
-        let b = self.variant_b.of(output);
-        let candidate = self.candidate.of(output);
-        if is_lost(base, a, candidate) {
-            Some(1)
-        } else if is_lost(base, b, candidate) {
-            Some(2)
-        } else if is_made_up(base, a, b, candidate) {
-            Some(3)
-        } else {
-            None
-        }
-    }
-
-    // The first output at which a clause fails, and that clause.
-    fn first_broken(&self, outputs: &[Name]) -> Decision
-        ensures { result ≡ first_broken (map (λ x. x.0) outputs.now) (after_in self.now) }
-    {
-        for output in outputs {
-            if let Some(clause) = self.broken_clause(*output) {
-                return Decision::Copies {
-                    name: *output,
-                    clause,
-                };
-            }
-        }
-        Decision::Safe
+// The first clause that fails at the output.
+fn broken_clause(ends: &PerCopy<Origins>, output: Name) -> Option<u8>
+    ensures { let after = after_in ends.now in let x = output.0 in
+        result ≡ broken_clause (after O x) (after A x) (after B x) (after M x) }
+{
+    let base = ends.base.of(output);
+    let a = ends.variant_a.of(output);
+    let b = ends.variant_b.of(output);
+    let candidate = ends.candidate.of(output);
+    if is_lost(base, a, candidate) {
+        Some(1)
+    } else if is_lost(base, b, candidate) {
+        Some(2)
+    } else if is_made_up(base, a, b, candidate) {
+        Some(3)
+    } else {
+        None
     }
 }
 
-/// Decides a task whose programs only copy. Safe says that the merge is free of conflicts.
-pub fn decide(alloc: Global, task: &Task) -> Result<Decision, AllocError>
+// The first output at which a clause fails, and that clause.
+fn first_broken(ends: &PerCopy<Origins>, outputs: &[Name]) -> Decision
+    ensures { result ≡ first_broken (map (λ x. x.0) outputs.now) (after_in ends.now) }
+{
+    for output in outputs {
+        if let Some(clause) = broken_clause(ends, *output) {
+            return Decision::Copies {
+                name: *output,
+                clause,
+            };
+        }
+    }
+    Decision::Safe
+}
+
+/// Decides a task whose programs only copy, by the programs of its copies. Safe says that the merge
+/// is free of conflicts.
+pub fn decide(alloc: Global, task: &Task, programs: &PerCopy<Block>) -> Result<Decision, AllocError>
+    requires { AreFilled (parts_of task.now) programs.now }
     ensures exact { IfOk result (λ d. d ≡ decision (parts_of task.now)) }
     ensures sound { IfOk result (λ d. d ≡ Decision.Safe →
         ConflictFree (task_of (parts_of task.now))) }
 {
-    match Ends::of(alloc, task)? {
-        Some(ends) => Ok(ends.first_broken(&task.shared.outputs.list)),
+    match ends_of(alloc, task, programs)? {
+        Some(ends) => Ok(first_broken(&ends, &task.shared.outputs.list)),
         None => Ok(Decision::NotBuilt),
     }
 }

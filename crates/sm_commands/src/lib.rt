@@ -1,30 +1,30 @@
 //! SafeMerge: checks that a three-way merge of programs is free of conflicts.
 //!
-//! - `safemerge` does all that the program does, over any shelf and any sink. `check` prints `Accepted` for a task that
-//!   is free of conflicts alone, and `Conflict` for one that isn't alone, with the first trial that shows it. Each fault
-//!   that is answered has its cause. A text that is refused spells no task, and its first fault, or the first condition
-//!   that fails, is named.
-//! - `replay` judges one input exactly, and `print` puts the canonical text of a task, which spells the same task.
-//! - `read_words` says what the words ask for, and Usage exactly where no command takes them.
+//! - `safemerge` does all that the program does, over any shelf and any sink. `check` prints
+//!   `Accepted` for a task that is free of conflicts alone, and `Conflict` for one that isn't, with
+//!   the first trial that shows it. `replay` judges one input exactly, and `print` puts the
+//!   canonical text of a task. Words that no command takes, bytes that are no task or no input, and
+//!   faults are answered exactly where they are met.
+//! - `Status::number` is the number with which the program ends.
 //! - `decide` decides the tasks whose programs only copy, exactly and soundly.
 //!
-//! The claim is `ConflictFree` of the crate `sm_syntax`. Read `specs/Answers.antt` first, with `specs/Check.antt` and
-//! `specs/Replay.antt`, and `specs/Words.antt` for what the words ask. `specs/Copies.antt` says how tasks are decided.
+//! The claim is `ConflictFree` of the crate `sm_syntax`. Read `specs/Headline.antt` first: what
+//! Accepted and Conflict say. `specs/Top.antt` says what is answered, with `specs/File.antt`,
+//! `specs/Check.antt` and `specs/Replay.antt`; `specs/Words.antt` what the words ask for, and
+//! `specs/Copies.antt` how tasks are decided.
 #![tactic(auto)]
 
 mod check;
+mod command;
 mod copies;
+mod exit;
+mod file;
 mod lines;
-mod reading;
 mod replay;
 mod status;
-#[cfg(test)]
-mod tests;
 mod top;
 mod words;
 
 pub use copies::{Decision, decide};
-pub use reading::{Stop, task_of};
-pub use status::{Reply, Status};
+pub use status::Status;
 pub use top::safemerge;
-pub use words::{Request, WordsError, read_words};

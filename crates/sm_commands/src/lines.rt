@@ -1,8 +1,11 @@
 // The lines that are printed.
-ghost use Rattle.std.specs.Prelude.{◌≡◌, ◌≢◌, ℕ, [], ◌∷◌, ◌++◌, Err, map, codes, decimal, IfOk, OnOk};
+ghost use Rattle.std.specs.Prelude.{◌≡◌, ◌≢◌, [], ◌∷◌, ◌++◌, Err, map, codes, decimal, IfOk, OnOk};
 ghost use Rattle.std.specs.Fmt.{signed_decimal};
 ghost use Rattle.std.specs.String.{string_bytes};
-ghost use Rattle.sm_commands.specs.Lines.{line_of, name_text, list_word, at_place, at_name, refusal_line, decision_line, cell_text, input_line, trial_line, copy_letter, op_word, verdict_line, input_refusal_line};
+ghost use Rattle.sm_commands.specs.Lines.{line_of, name_text, list_word, at_hole, at_place};
+ghost use Rattle.sm_commands.specs.Lines.{refusal_line, decision_line, cell_text, input_line};
+ghost use Rattle.sm_commands.specs.Lines.{trial_line, copy_letter, op_word, verdict_line};
+ghost use Rattle.sm_commands.specs.Lines.{at_name, input_refusal_line};
 
 use crate::copies::Decision;
 use itoa::Buffer;
@@ -56,8 +59,15 @@ fn at_place(alloc: Global, kind: &str, place: u64) -> Result<Vec<u8>, AllocError
     line(alloc, "Refused", &[kind, buffer.format(place)])
 }
 
-// What is refused at a hole of a list.
-fn at_hole(alloc: Global, kind: &str, list: &str, hole: u32) -> Result<Vec<u8>, AllocError>
+// What is refused at a hole of a list, by the list's number.
+fn at_hole(alloc: Global, kind: &str, list: u8, hole: u32) -> Result<Vec<u8>, AllocError>
+    ensures { IfOk result (λ text. text.items ≡ at_hole kind.now list hole) }
+{
+    at_hole_of(alloc, kind, list_word(list), hole)
+}
+
+// The same, by the list's word.
+fn at_hole_of(alloc: Global, kind: &str, list: &str, hole: u32) -> Result<Vec<u8>, AllocError>
     ensures { IfOk result (λ text.
         text.items ≡ line_of (codes "Refused") (kind.now ∷ list.now ∷ decimal hole ∷ [])) }
 {
@@ -87,25 +97,10 @@ pub fn refusal_line(
         TaskError::BadToken { place } => at_place(alloc, "BadToken", place),
         TaskError::Expected { place } => at_place(alloc, "Expected", place),
         TaskError::Nested { place } => at_place(alloc, "Nested", place),
-        TaskError::MissingFilling { list, hole } => at_hole(
-            alloc,
-            "MissingFilling",
-            list_word(list),
-            hole,
-        ),
-        TaskError::UnknownHole { list, hole } => at_hole(
-            alloc,
-            "UnknownHole",
-            list_word(list),
-            hole,
-        ),
-        TaskError::DoubleHole { list, hole } => at_hole(alloc, "DoubleHole", list_word(list), hole),
-        TaskError::HoleInFilling { list, hole } => at_hole(
-            alloc,
-            "HoleInFilling",
-            list_word(list),
-            hole,
-        ),
+        TaskError::MissingFilling { list, hole } => at_hole(alloc, "MissingFilling", list, hole),
+        TaskError::UnknownHole { list, hole } => at_hole(alloc, "UnknownHole", list, hole),
+        TaskError::DoubleHole { list, hole } => at_hole(alloc, "DoubleHole", list, hole),
+        TaskError::HoleInFilling { list, hole } => at_hole(alloc, "HoleInFilling", list, hole),
         TaskError::UnknownName { name } => at_name(alloc, "UnknownName", names, name),
         TaskError::WrongSort { name } => at_name(alloc, "WrongSort", names, name),
         TaskError::DoubleName { name } => at_name(alloc, "DoubleName", names, name),
@@ -184,7 +179,7 @@ pub fn trial_line(
     )
 }
 
-/// Puts the line with an input's text behind a text.
+/// Puts the line with an input's text after a text.
 pub fn put_input_line(text: &mut Vec<u8>, input: &[u8]) -> Result<(), AllocError>
     ensures { OnOk result (text.new.items ≡ text.old.items ++ input_line input.now) }
 {

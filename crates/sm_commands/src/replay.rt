@@ -11,7 +11,7 @@ use crate::lines::verdict_line;
 use crate::status::{Reply, Status};
 use sm_eval::Store;
 use sm_replay::{ReplayError, Verdict, judge};
-use sm_task::Task;
+use sm_task::{Task, fill_all};
 use std::alloc::{AllocError, Global};
 
 /// The answer to a task that may be run, and a store of its declarations, where each loop takes at
@@ -22,7 +22,8 @@ pub fn replay(alloc: Global, task: &Task, input: &Store, turns: u64) -> Result<R
     ensures { IfOk result (λ r.
         AnswersReplay (parts_of task.now) (meaning input.now) turns r.status r.text.items) }
 {
-    let verdict = judge(alloc, task, input, turns);
+    let programs = fill_all(alloc, task)?;
+    let verdict = judge(alloc, task, &programs, input, turns);
     if let Err(ReplayError::Memory) = verdict {
         return Err(AllocError);
     }

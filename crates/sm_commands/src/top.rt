@@ -1,5 +1,6 @@
 // The top call: words, files and standard output.
-ghost use Rattle.std.specs.Prelude.{◌≡◌, ◌≢◌, ◌⊎◌, ◌↔◌, ◌<◌, ◌≤◌, ℕ, List, None, Some, length, map, IfOk, IfErr, IfSome};
+ghost use Rattle.std.specs.Prelude.{◌≡◌, ◌≢◌, ◌⊎◌, ◌↔◌, ◌<◌, ◌≤◌, ℕ, List, None, Some, length, map};
+ghost use Rattle.std.specs.Prelude.{IfOk, IfErr, IfSome};
 ghost use Rattle.std.specs.String.{string_bytes};
 ghost use Rattle.sm_io.specs.Causes.{HasCause};
 ghost use Rattle.sm_io.specs.Files.{WhereHeld};
@@ -9,15 +10,20 @@ ghost use Rattle.sm_task.specs.Tasks.{parts_of};
 ghost use Rattle.sm_text.specs.Canonical.{task_pieces};
 ghost use Rattle.sm_text.specs.Named.{HasText};
 ghost use Rattle.sm_text.specs.Pieces.{text_of};
-ghost use Rattle.sm_commands.specs.Answers.{Answers, AnswersAsked, Checks, Prints, Replays, IsAnswer, IsSafeMerge, IsUnsafeMerge, PutsPart, ShowsInput};
-ghost use Rattle.sm_commands.specs.Reading.{Says};
+ghost use Rattle.sm_commands.specs.Headline.{IsSafeMerge, IsUnsafeMerge, ShowsInput};
+ghost use Rattle.sm_commands.specs.Headline.{IsShownByInput};
+ghost use Rattle.sm_commands.specs.Top.{IsAnswerTo, AnswersCommand, Checks, Prints, Replays};
+ghost use Rattle.sm_commands.specs.Top.{IsPrinted, PutsPart};
+ghost use Rattle.sm_commands.specs.Status.{Says};
 ghost use Rattle.sm_commands.specs.Replay.{ReplaysInput};
-ghost use Rattle.sm_commands.specs.Requests.{asked_in, HasWorkers};
-ghost use Rattle.sm_commands.specs.Stops.{Stops};
-ghost use Rattle.sm_commands.specs.Words.{Asked, asked, check, task_file, usage_line, IsUsage};
+ghost use Rattle.sm_commands.specs.Views.{asked_in, HasWorkers};
+ghost use Rattle.sm_commands.specs.Exit.{ExitsWith};
+ghost use Rattle.sm_commands.specs.Words.{Asked, asked, check, replay, task_file, usage_line};
+ghost use Rattle.sm_commands.specs.Words.{IsUsage};
 
 use crate::check::check;
-use crate::reading::{Stop, input_in, task_in};
+use crate::exit::Exit;
+use crate::file::{input_in, task_in};
 use crate::replay::replay;
 use crate::status::{Reply, Status};
 use crate::words::{Request, WordsError, read_words, usage_line};
@@ -50,25 +56,29 @@ pub fn safemerge<R: Threads + Sync, G: Gate, H: Shelf, K: Sink>(
         asked (map string_bytes words.now) ≡ Some (check task turns workers) →
         (text : List ℕ) × ShowsInput (H.file shelf.old task) turns text
         × Adds (K.taken out.old) (K.taken out.new) text }
+    // That of `replay` is shown by its input.
+    ensures replayed { result ≡ Status.Conflict → (task input : List ℕ) (turns : ℕ) →
+        asked (map string_bytes words.now) ≡ Some (replay task input turns) →
+        IsShownByInput (H.file shelf.old task) (H.file shelf.old input) turns }
 
     // What is printed is the answer, whole.
-    ensures answers { IsAnswer result → (text : List ℕ)
-        × Answers (map string_bytes words.now) (H.file shelf.old)
+    ensures answers { IsPrinted result → (text : List ℕ)
+        × IsAnswerTo (map string_bytes words.now) (H.file shelf.old)
         (H.read_faults shelf.old) (H.read_faults shelf.new) result text
         × Adds (K.taken out.old) (K.taken out.new) text }
-    ensures usage { IsAnswer result →
+    ensures usage { IsPrinted result →
         (result ≡ Status.Usage) ↔ IsUsage (map string_bytes words.now) }
-    ensures read_quiet { IsAnswer result → result ≢ Status.ReadFault →
+    ensures read_quiet { IsPrinted result → result ≢ Status.ReadFault →
         H.read_faults shelf.new ≡ H.read_faults shelf.old }
 
     // A fault of the output has its cause, and what was put before it is from the answer's front.
     ensures sink { HasCause (K.faults out.old) (K.faults out.new) (result ≡ Status.SinkFault) }
     ensures cut { result ≡ Status.SinkFault →
-        PutsPart (Answers (map string_bytes words.now) (H.file shelf.old)
+        PutsPart (IsAnswerTo (map string_bytes words.now) (H.file shelf.old)
         (H.read_faults shelf.old) (H.read_faults shelf.new))
         (K.taken out.old) (K.taken out.new) }
     ensures memory { result ≡ Status.Memory → (K.taken out.new ≡ K.taken out.old)
-        ⊎ PutsPart (Answers (map string_bytes words.now) (H.file shelf.old)
+        ⊎ PutsPart (IsAnswerTo (map string_bytes words.now) (H.file shelf.old)
         (H.read_faults shelf.old) (H.read_faults shelf.new))
         (K.taken out.old) (K.taken out.new) }
 
@@ -94,15 +104,15 @@ fn reply_to<R: Threads + Sync, G: Gate, H: Shelf>(
     words: &[String],
     shelf: &mut H,
 ) -> Option<Reply>
-    ensures answers { IfSome result (λ r. Answers (map string_bytes words.now) (H.file shelf.old)
+    ensures answers { IfSome result (λ r. IsAnswerTo (map string_bytes words.now) (H.file shelf.old)
         (H.read_faults shelf.old) (H.read_faults shelf.new) r.status r.text.items) }
     ensures same { (name : List ℕ) → H.file shelf.new name ≡ H.file shelf.old name }
     ensures writes { H.write_faults shelf.new ≡ H.write_faults shelf.old }
 {
     match answer(rt, alloc, gate, words, shelf) {
         Ok(reply) => Some(reply),
-        Err(Stop::Answer(reply)) => Some(reply),
-        Err(Stop::Memory) => None,
+        Err(Exit::Answer(reply)) => Some(reply),
+        Err(Exit::Memory) => None,
     }
 }
 
@@ -113,24 +123,25 @@ fn answer<R: Threads + Sync, G: Gate, H: Shelf>(
     gate: &G,
     words: &[String],
     shelf: &mut H,
-) -> Result<Reply, Stop>
-    ensures ok { IfOk result (λ r. Answers (map string_bytes words.now) (H.file shelf.old)
+) -> Result<Reply, Exit>
+    ensures ok { IfOk result (λ r. IsAnswerTo (map string_bytes words.now) (H.file shelf.old)
         (H.read_faults shelf.old) (H.read_faults shelf.new) r.status r.text.items) }
-    ensures stop { IfErr result (Stops (Answers (map string_bytes words.now) (H.file shelf.old)
-        (H.read_faults shelf.old) (H.read_faults shelf.new))) }
+    ensures exit { IfErr result (ExitsWith (IsAnswerTo (map string_bytes words.now)
+        (H.file shelf.old) (H.read_faults shelf.old) (H.read_faults shelf.new))) }
     ensures same { (name : List ℕ) → H.file shelf.new name ≡ H.file shelf.old name }
     ensures writes { H.write_faults shelf.new ≡ H.write_faults shelf.old }
 {
     match read_words(alloc, words) {
         Ok(request) => answer_to(rt, alloc, gate, request, shelf),
         Err(WordsError::Usage) => Ok(usage(alloc, words)?),
-        Err(WordsError::Memory) => Err(Stop::Memory),
+        Err(WordsError::Memory) => Err(Exit::Memory),
     }
 }
 
 // The answer to words that no command takes.
 fn usage(alloc: Global, words: &[String]) -> Result<Reply, AllocError>
-    ensures { IfOk result (λ r. Says Status.Usage (usage_line (map string_bytes words.now)) r.status r.text.items) }
+    ensures { let text = usage_line (map string_bytes words.now) in
+        IfOk result (λ r. Says Status.Usage text r.status r.text.items) }
 {
     let text = usage_line(alloc, words)?;
     Ok(Reply {
@@ -146,12 +157,12 @@ fn answer_to<R: Threads + Sync, G: Gate, H: Shelf>(
     gate: &G,
     request: Request<'_>,
     shelf: &mut H,
-) -> Result<Reply, Stop>
+) -> Result<Reply, Exit>
     requires { HasWorkers request }
-    ensures ok { IfOk result (λ r. AnswersAsked (asked_in request.entry) (H.file shelf.old)
+    ensures ok { IfOk result (λ r. AnswersCommand (asked_in request.entry) (H.file shelf.old)
         (H.read_faults shelf.old) (H.read_faults shelf.new) r.status r.text.items) }
-    ensures stop { IfErr result (Stops (AnswersAsked (asked_in request.entry) (H.file shelf.old)
-        (H.read_faults shelf.old) (H.read_faults shelf.new))) }
+    ensures exit { IfErr result (ExitsWith (AnswersCommand (asked_in request.entry)
+        (H.file shelf.old) (H.read_faults shelf.old) (H.read_faults shelf.new))) }
     ensures same { (name : List ℕ) → H.file shelf.new name ≡ H.file shelf.old name }
     ensures writes { H.write_faults shelf.new ≡ H.write_faults shelf.old }
 {
@@ -175,11 +186,11 @@ fn check_in<R: Threads + Sync, G: Gate, H: Shelf>(
     name: &str,
     turns: u64,
     workers: u32,
-) -> Result<Reply, Stop>
+) -> Result<Reply, Exit>
     requires { (0 < workers) × (workers ≤ 64) }
     ensures ok { IfOk result (λ r. Checks (H.file shelf.old name.now) turns
         (H.read_faults shelf.old) (H.read_faults shelf.new) r.status r.text.items) }
-    ensures stop { IfErr result (Stops (Checks (H.file shelf.old name.now) turns
+    ensures exit { IfErr result (ExitsWith (Checks (H.file shelf.old name.now) turns
         (H.read_faults shelf.old) (H.read_faults shelf.new))) }
     ensures same { (other : List ℕ) → H.file shelf.new other ≡ H.file shelf.old other }
     ensures writes { H.write_faults shelf.new ≡ H.write_faults shelf.old }
@@ -195,10 +206,10 @@ fn replay_in<H: Shelf>(
     name: &str,
     input: &str,
     turns: u64,
-) -> Result<Reply, Stop>
+) -> Result<Reply, Exit>
     ensures ok { IfOk result (λ r. Replays (H.file shelf.old name.now) (H.file shelf.old input.now)
         turns (H.read_faults shelf.old) (H.read_faults shelf.new) r.status r.text.items) }
-    ensures stop { IfErr result (Stops (Replays (H.file shelf.old name.now)
+    ensures exit { IfErr result (ExitsWith (Replays (H.file shelf.old name.now)
         (H.file shelf.old input.now) turns (H.read_faults shelf.old) (H.read_faults shelf.new))) }
     ensures same { (other : List ℕ) → H.file shelf.new other ≡ H.file shelf.old other }
     ensures writes { H.write_faults shelf.new ≡ H.write_faults shelf.old }
@@ -214,11 +225,11 @@ fn replay_task<H: Shelf>(
     task: &Task,
     input: &str,
     turns: u64,
-) -> Result<Reply, Stop>
+) -> Result<Reply, Exit>
     requires { sort_fault (parts_of task.now) ≡ None }
     ensures ok { IfOk result (λ r. ReplaysInput (parts_of task.now) (H.file shelf.old input.now)
         turns (H.read_faults shelf.old) (H.read_faults shelf.new) r.status r.text.items) }
-    ensures stop { IfErr result (Stops (ReplaysInput (parts_of task.now)
+    ensures exit { IfErr result (ExitsWith (ReplaysInput (parts_of task.now)
         (H.file shelf.old input.now) turns (H.read_faults shelf.old) (H.read_faults shelf.new))) }
     ensures same { (other : List ℕ) → H.file shelf.new other ≡ H.file shelf.old other }
     ensures writes { H.write_faults shelf.new ≡ H.write_faults shelf.old }
@@ -228,10 +239,10 @@ fn replay_task<H: Shelf>(
 }
 
 // The answer of `print` to a task's file.
-fn print_in<H: Shelf>(alloc: Global, shelf: &mut H, name: &str) -> Result<Reply, Stop>
+fn print_in<H: Shelf>(alloc: Global, shelf: &mut H, name: &str) -> Result<Reply, Exit>
     ensures ok { IfOk result (λ r. Prints (H.file shelf.old name.now)
         (H.read_faults shelf.old) (H.read_faults shelf.new) r.status r.text.items) }
-    ensures stop { IfErr result (Stops (Prints (H.file shelf.old name.now)
+    ensures exit { IfErr result (ExitsWith (Prints (H.file shelf.old name.now)
         (H.read_faults shelf.old) (H.read_faults shelf.new))) }
     ensures same { (other : List ℕ) → H.file shelf.new other ≡ H.file shelf.old other }
     ensures writes { H.write_faults shelf.new ≡ H.write_faults shelf.old }
@@ -243,8 +254,8 @@ fn print_in<H: Shelf>(alloc: Global, shelf: &mut H, name: &str) -> Result<Reply,
 // The canonical text of a task, as an answer.
 fn print(alloc: Global, task: &Task) -> Result<Reply, AllocError>
     requires { HasText (parts_of task.now) }
-    ensures { let t = parts_of task.now in
-        IfOk result (λ r. Says Status.Accepted (text_of t.names (task_pieces t)) r.status r.text.items) }
+    ensures { let t = parts_of task.now in let text = text_of t.names (task_pieces t) in
+        IfOk result (λ r. Says Status.Accepted text r.status r.text.items) }
 {
     let text = print_task(alloc, task)?;
     Ok(Reply {

@@ -1,29 +1,37 @@
 // What the words ask for.
-ghost use Rattle.std.specs.Prelude.{◌≡◌, ◌≢◌, ◌<◌, ◌≤◌, ◌&&◌, true, false, nat_le, [], Some, None, is_some, length, map, codes, option_map, ℕ, List, IfOk, IfErr, IfSome, IsErrOf};
+ghost use Rattle.std.specs.Prelude.{◌≡◌, ◌≢◌, ◌<◌, ◌≤◌, ◌&&◌, true, false, nat_le, [], Some, None};
+ghost use Rattle.std.specs.Prelude.{is_some, length, map, codes, option_map, ℕ, List, IfOk, IfErr};
+ghost use Rattle.std.specs.Prelude.{IfSome, IsErrOf};
 ghost use Rattle.std.specs.Str.{all_ascii_digits};
 ghost use Rattle.std.specs.Str.Parse.{digits_value};
 ghost use Rattle.std.specs.String.{string_bytes};
-ghost use Rattle.clap.specs.Words.{app_of, first_value, found_of, kind_of, rule_of};
-ghost use Rattle.sm_commands.specs.Requests.{asked_in, HasRequired, HasWorkers};
-ghost use Rattle.sm_commands.specs.Words.{asked, asked_by, check_by, check_command, command_of, faults_of, is_number, number_of, number_or, option_word, print_by, print_command, replay_by, replay_command, required_word, text_of, turns_by, usage_line, verb_of, workers_by, HasBadNumber, IsRefused, IsUsage};
+ghost use Rattle.clap.specs.Words.{first_value, found_of, kind_of};
+ghost use Rattle.sm_commands.specs.Views.{asked_in, HasWorkers};
+ghost use Rattle.sm_commands.specs.Words.{asked, asked_by, check_by};
+ghost use Rattle.sm_commands.specs.Words.{faults_of, is_number, number_of, number_or};
+ghost use Rattle.sm_commands.specs.Words.{print_by, replay_by};
+ghost use Rattle.sm_commands.specs.Words.{text_of, turns_by, usage_line, verb_of};
+ghost use Rattle.sm_commands.specs.Words.{workers_by, HasBadNumber, HasRequired, IsRefused};
+ghost use Rattle.sm_commands.specs.Words.{IsUsage};
 ghost use Rattle.sm_commands.specs.declared.words.WordsError.TheVariants.{Memory};
 
+use crate::command::{Verb, command_of};
 use crate::lines::line;
 use clap::error::ErrorKind;
-use clap::{Arg, ArgAction, ArgMatches, Command, Error};
+use clap::{ArgMatches, Error};
 use std::alloc::{AllocError, Global};
 use thiserror::Error as ErrorText;
 
 /// What the words ask for. Files are named as the words name them.
 #[derive(Clone, Copy, Debug, PartialEq, Eq)]
 pub enum Request<'a> {
-    /// The decision on a task, with so many turns for a loop at most, and so many workers.
+    /// The decision on a task, with at most `turns` turns for a loop, and so many workers.
     Check {
         task: &'a str,
         turns: u64,
         workers: u32,
     },
-    /// What a task's programs do from an input, with so many turns for a loop at most.
+    /// What a task's programs do from an input, with at most `turns` turns for a loop.
     Replay {
         task: &'a str,
         input: &'a str,
@@ -33,14 +41,6 @@ pub enum Request<'a> {
     Print {
         task: &'a str,
     },
-}
-
-/// The commands.
-#[derive(Clone, Copy, Debug, PartialEq, Eq)]
-pub enum Verb {
-    Check,
-    Replay,
-    Print,
 }
 
 /// Why words ask for nothing.
@@ -123,7 +123,8 @@ fn check_request<'a>(matches: &ArgMatches<'a>) -> Result<Request<'a>, WordsError
     ensures ok { let given = first_value (found_of matches.now) in IfOk result (λ r.
         check_by (given (codes "TASK")) (given (codes "turns")) (given (codes "workers"))
         ≡ Some (asked_in r)) }
-    ensures usage { let given = first_value (found_of matches.now) in IsErrOf result WordsError.Usage →
+    ensures usage { let given = first_value (found_of matches.now) in
+        IsErrOf result WordsError.Usage →
         HasBadNumber (given (codes "turns")) (given (codes "workers")) }
     ensures workers { IfOk result HasWorkers }
 {
@@ -140,9 +141,10 @@ fn replay_request<'a>(matches: &ArgMatches<'a>) -> Result<Request<'a>, WordsErro
     requires task { is_some (first_value (found_of matches.now) (codes "TASK")) ≡ true }
     requires input { is_some (first_value (found_of matches.now) (codes "INPUT")) ≡ true }
     ensures ok { let given = first_value (found_of matches.now) in IfOk result (λ r.
-        replay_by (given (codes "TASK")) (given (codes "INPUT")) (given (codes "turns")) (given (codes "workers"))
-        ≡ Some (asked_in r)) }
-    ensures usage { let given = first_value (found_of matches.now) in IsErrOf result WordsError.Usage →
+        replay_by (given (codes "TASK")) (given (codes "INPUT"))
+        (given (codes "turns")) (given (codes "workers")) ≡ Some (asked_in r)) }
+    ensures usage { let given = first_value (found_of matches.now) in
+        IsErrOf result WordsError.Usage →
         HasBadNumber (given (codes "turns")) (given (codes "workers")) }
     ensures workers { IfOk result HasWorkers }
 {
@@ -157,69 +159,14 @@ fn replay_request<'a>(matches: &ArgMatches<'a>) -> Result<Request<'a>, WordsErro
 
 fn print_request<'a>(matches: &ArgMatches<'a>) -> Request<'a>
     requires { is_some (first_value (found_of matches.now) (codes "TASK")) ≡ true }
-    ensures ok { print_by (first_value (found_of matches.now) (codes "TASK")) ≡ Some (asked_in result) }
+    ensures ok { print_by (first_value (found_of matches.now) (codes "TASK"))
+        ≡ Some (asked_in result) }
     ensures workers { HasWorkers result }
 {
     Request::Print {
         task: text_in(matches, "TASK"),
     }
 }
-
-// ---- what `clap` knows of the commands
-
-fn required_word<'a>(alloc: Global, id: &'a str) -> Arg<'a>
-    ensures rule { rule_of result ≡ required_word id.entry.now }
-    ensures local { result.global ≡ false }
-{
-    Arg::new(alloc, id).required(true).action(ArgAction::Set)
-}
-
-fn option_word<'a>(alloc: Global, id: &'a str) -> Arg<'a>
-    ensures rule { rule_of result ≡ option_word id.entry.now }
-    ensures local { result.global ≡ false }
-{
-    Arg::new(alloc, id).long(id).action(ArgAction::Set)
-}
-
-fn command_of<'a>(alloc: Global, verb: Verb) -> Result<Command<'a>, AllocError>
-    ensures { IfOk result (λ c. app_of c ≡ command_of verb) }
-{
-    match verb {
-        Verb::Check => check_command(alloc),
-        Verb::Replay => replay_command(alloc),
-        Verb::Print => print_command(alloc),
-    }
-}
-
-#[tactic(auto, unfolding(crate::specs::Words::check_command))]
-fn check_command<'a>(alloc: Global) -> Result<Command<'a>, AllocError>
-    ensures { IfOk result (λ c. app_of c ≡ check_command) }
-{
-    Command::new(alloc, "check")
-        .arg(required_word(alloc, "TASK"))?
-        .arg(option_word(alloc, "turns"))?
-        .arg(option_word(alloc, "workers"))
-}
-
-#[tactic(auto, unfolding(crate::specs::Words::replay_command))]
-fn replay_command<'a>(alloc: Global) -> Result<Command<'a>, AllocError>
-    ensures { IfOk result (λ c. app_of c ≡ replay_command) }
-{
-    Command::new(alloc, "replay")
-        .arg(required_word(alloc, "TASK"))?
-        .arg(required_word(alloc, "INPUT"))?
-        .arg(option_word(alloc, "turns"))?
-        .arg(option_word(alloc, "workers"))
-}
-
-#[tactic(auto, unfolding(crate::specs::Words::print_command))]
-fn print_command<'a>(alloc: Global) -> Result<Command<'a>, AllocError>
-    ensures { IfOk result (λ c. app_of c ≡ print_command) }
-{
-    Command::new(alloc, "print").arg(required_word(alloc, "TASK"))
-}
-
-// ---- what the words give
 
 // The matches of a command on words that it takes.
 fn matches_of<'a>(

@@ -2,7 +2,7 @@ use Rattle.std.proofs.Common.{◌≡◌, map, drop}
 use Rattle.sm_syntax.specs.claim.Syntax.{Code, End}
 use Rattle.sm_syntax.specs.trees.Views.{sequence, statement_of, code_of}
 use Rattle.sm_commands.specs.Copies.{Origins, origins_after, only_copies}
-use Rattle.sm_commands.specs.Tables.{origin_in}
+use Rattle.sm_commands.specs.Views.{origin_in}
 use Rattle.sm_commands.specs.declared.copies.Origin.TheVariants.{Start}
 use Rattle.sm_commands.proofs.copies.origins_of.Given as goal
 

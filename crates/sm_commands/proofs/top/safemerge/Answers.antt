@@ -1,6 +1,6 @@
 use Rattle.std.proofs.Common.{map, rules}
 use Rattle.std.specs.String.{string_bytes}
-use Rattle.sm_commands.proofs.Answering.{accepts, conflicts, shows, sound}
+use Rattle.sm_commands.proofs.Answering.{accepts, conflicts, replays_shown, shows, sound}
 use Rattle.sm_commands.proofs.top.safemerge.Goals as goal
 
 pub returns-in-Ok-clause-accepted : goal.returns-in-Ok-clause-accepted
@@ -30,3 +30,7 @@ returns-in-Ok-clause-shown g c = λ e task turns workers asks. (
   shows (map string_bytes c.args.words.now) (g.H.Shelf.file c.args.shelf.now) (g.H.Shelf.read_faults c.args.shelf.now) (g.H.Shelf.read_faults c.reply_to.new.shelf) c.in-Some.reply.status c.in-Some.reply.text.items c.in-Some.ensures.answers e task turns workers asks,
   search rules,
 )
+
+pub returns-in-Ok-clause-replayed : goal.returns-in-Ok-clause-replayed
+returns-in-Ok-clause-replayed g c =
+    replays_shown (map string_bytes c.args.words.now) (g.H.Shelf.file c.args.shelf.now) (g.H.Shelf.read_faults c.args.shelf.now) (g.H.Shelf.read_faults c.reply_to.new.shelf) c.in-Some.reply.status c.in-Some.reply.text.items c.in-Some.ensures.answers

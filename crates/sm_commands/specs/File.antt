@@ -1,23 +1,18 @@
--- What is answered where a task's file, or an input's, is to be read. The count of read faults was `before`, and is `now`.
-use Rattle.std.specs.Prelude.{◌≡◌, ◌≢◌, ◌⊎◌, ◌<◌, ◌≤◌, ℕ, List, [], ◌∷◌, length, codes, IfSome}
+-- What is answered where a task's file, or an input's, is to be read. The count of read faults was
+-- `before`, and is `now`. Public clauses cite it.
+use Rattle.std.specs.Prelude.{◌≡◌, ◌≢◌, ◌⊎◌, ◌<◌, ◌≤◌, ℕ, List, [], ◌∷◌, length, codes}
 use Rattle.sm_io.specs.Causes.{Rose}
 use Rattle.sm_io.specs.Files.{Known, absent, WhereHeld}
-use Rattle.sm_syntax.specs.text.Parts.{Parts}
-use Rattle.sm_syntax.specs.text.Spells.{Spells}
-use Rattle.sm_syntax.specs.text.Symbols.{names_of}
-use Rattle.sm_task.specs.Errors.{refusal_of, IsRefusedBy}
-use Rattle.sm_task.specs.Places.{text_fault_of}
+use Rattle.sm_syntax.specs.Parts.{Parts}
+use Rattle.sm_syntax.specs.Spells.{Spells}
+use Rattle.sm_syntax.specs.Symbols.{names_of}
+use Rattle.sm_task.specs.Errors.{IsRefusedWith}
 use Rattle.sm_task.specs.declared.error.TaskError.{TaskError}
 use Rattle.sm_task.specs.declared.error.TaskError.TheVariants as no_task
-use Rattle.sm_text.specs.Places.{AreTasks, IsFirstFault, whole_text}
 use Rattle.sm_commands.specs.Lines.{line_of, refusal_line}
+use Rattle.sm_commands.specs.Status.{Says}
 use Rattle.sm_commands.specs.declared.status.Status.{Status}
 use Rattle.sm_commands.specs.declared.status.Status.TheVariants.{Refused, ReadFault}
-
--- the answer is this status with this text
-pub record Says (wanted : Status) (line : List ℕ) (status : Status) (text : List ℕ) : Type 0 where
-  pub ended : status ≡ wanted
-  pub printed : text ≡ line
 
 -- the file of a task, or of an input, has at most so many bytes
 abbrev pub file_limit : ℕ
@@ -30,13 +25,15 @@ pub record IsRead (file : Known) (before now : ℕ) (bytes : List ℕ) : Type 0 
   pub held : WhereHeld file (λ (held : List ℕ). held ≡ bytes)
   pub within : length bytes ≤ file_limit
 
--- the file couldn't be read: the count of read faults rose, or the shelf tells that no file has the name
-pub record FailsToRead (file : Known) (before now : ℕ) (status : Status) (text : List ℕ) : Type 0 where
+-- the file couldn't be read: the count of read faults rose, or the shelf tells that it isn't there
+pub record FailsToRead (file : Known) (before now : ℕ) (status : Status) (text : List ℕ)
+    : Type 0 where
   pub cause : Rose before now ⊎ (file ≡ absent)
   pub says : Says ReadFault (codes "ReadFault\n") status text
 
 -- the file, of this kind, has too many bytes
-pub record IsTooLong (kind : List ℕ) (file : Known) (before now : ℕ) (status : Status) (text : List ℕ) : Type 0 where
+pub record IsTooLong (kind : List ℕ) (file : Known) (before now : ℕ) (status : Status)
+    (text : List ℕ) : Type 0 where
   pub there : file ≢ absent
   pub quiet : now ≡ before
   pub over : WhereHeld file (λ (held : List ℕ). file_limit < length held)
@@ -44,26 +41,30 @@ pub record IsTooLong (kind : List ℕ) (file : Known) (before now : ℕ) (status
 
 -- the file, of this kind, gives no bytes, and the answer says why
 abbrev pub GivesNoBytes : List ℕ → Known → ℕ → ℕ → Status → List ℕ → Type 0
-GivesNoBytes kind file before now status text = FailsToRead file before now status text ⊎ IsTooLong kind file before now status text
+GivesNoBytes kind file before now status text =
+    FailsToRead file before now status text ⊎ IsTooLong kind file before now status text
 
--- the bytes spell no task for this cause, and the text names it; a fault of the text, or a condition, is the first of its kind
+-- the bytes spell no task for this cause, which is the first fault of the text or the first condition
+-- that fails, and the reply names it
 pub record IsNoTask (bytes : List ℕ) (status : Status) (text : List ℕ) : Type 0 where
   pub error : TaskError
   pub cause : error ≢ no_task.Memory
-  pub place : IfSome (text_fault_of error) (IsFirstFault AreTasks (whole_text bytes))
-  pub condition : IfSome (refusal_of error) (IsRefusedBy bytes)
+  pub first : IsRefusedWith bytes error
   pub spells_none : (t : Parts) → Spells bytes t → ⊥
   pub says : Says Refused (refusal_line (names_of bytes) error) status text
 
 -- the file was read, and its bytes are no task
-pub record RefusesTask (file : Known) (before now : ℕ) (status : Status) (text : List ℕ) : Type 0 where
+pub record RefusesTask (file : Known) (before now : ℕ) (status : Status) (text : List ℕ)
+    : Type 0 where
   pub bytes : List ℕ
   pub read : IsRead file before now bytes
   pub refuses : IsNoTask bytes status text
 
 -- the file gives no task, and the answer says why
 abbrev pub GivesNoTask : Known → ℕ → ℕ → Status → List ℕ → Type 0
-GivesNoTask file before now status text = GivesNoBytes (codes "task") file before now status text ⊎ RefusesTask file before now status text
+GivesNoTask file before now status text =
+    GivesNoBytes (codes "task") file before now status text
+    ⊎ RefusesTask file before now status text
 
 -- the file was read, and its bytes spell the task
 pub record GivesTask (file : Known) (before now : ℕ) (t : Parts) : Type 0 where

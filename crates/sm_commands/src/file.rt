@@ -10,35 +10,20 @@ ghost use Rattle.sm_syntax.specs.text.Parts.{sort_of};
 ghost use Rattle.sm_syntax.specs.trees.Programs.{declared_of};
 ghost use Rattle.sm_text.specs.Named.{HasText};
 ghost use Rattle.sm_commands.specs.Replay.{GivesInput, GivesNoInput, IsNoInput};
-ghost use Rattle.sm_commands.specs.Reading.{GivesNoBytes, GivesNoTask, GivesTask, IsNoTask, IsRead};
-ghost use Rattle.sm_commands.specs.Stops.{Stops};
-ghost use Rattle.sm_commands.specs.declared.reading.Stop.TheVariants.{Memory};
+ghost use Rattle.sm_commands.specs.File.{GivesNoBytes, GivesNoTask, GivesTask, IsNoTask, IsRead};
+ghost use Rattle.sm_commands.specs.Exit.{ExitsWith};
 
+use crate::exit::Exit;
 use crate::lines::{input_refusal_line, line, refusal_line};
 use crate::status::{Reply, Status};
 use sm_eval::Store;
 use sm_io::{ReadError, Shelf, read_all};
 use sm_replay::{InputError, read_input};
 use sm_task::{Task, TaskError, parse_task};
-use std::alloc::{AllocError, Global};
+use std::alloc::Global;
 
 /// How many bytes the file of a task, or of an input, may have.
 const FILE_LIMIT: u64 = 1048576;
-
-/// Why there is nothing to go on with: the answer is known, or memory is wanting.
-#[derive(Drop)]
-pub enum Stop {
-    Answer(Reply),
-    Memory,
-}
-
-impl From<AllocError> for Stop {
-    ghost from_gives = { λ _ e. e ≡ Memory };
-
-    fn from(_error: AllocError) -> Stop {
-        Stop::Memory
-    }
-}
 
 /// The bytes of a file of this kind.
 pub fn bytes_in<H: Shelf>(
@@ -46,22 +31,22 @@ pub fn bytes_in<H: Shelf>(
     shelf: &mut H,
     name: &str,
     kind: &str,
-) -> Result<Vec<u8>, Stop>
+) -> Result<Vec<u8>, Exit>
     ensures ok { IfOk result (λ bytes. IsRead (H.file shelf.old name.now)
         (H.read_faults shelf.old) (H.read_faults shelf.new) bytes.items) }
-    ensures stop { IfErr result (Stops (GivesNoBytes kind.now (H.file shelf.old name.now)
+    ensures exit { IfErr result (ExitsWith (GivesNoBytes kind.now (H.file shelf.old name.now)
         (H.read_faults shelf.old) (H.read_faults shelf.new))) }
     ensures same { (other : List ℕ) → H.file shelf.new other ≡ H.file shelf.old other }
     ensures writes { H.write_faults shelf.new ≡ H.write_faults shelf.old }
 {
     match read_all(alloc, shelf, name, FILE_LIMIT) {
         Ok(bytes) => Ok(bytes),
-        Err(ReadError::Memory) => Err(Stop::Memory),
-        Err(ReadError::TooLong) => Err(Stop::Answer(Reply {
+        Err(ReadError::Memory) => Err(Exit::Memory),
+        Err(ReadError::TooLong) => Err(Exit::Answer(Reply {
             status: Status::Refused,
             text: line(alloc, "TooLong", &[kind])?,
         })),
-        Err(ReadError::Fault) => Err(Stop::Answer(Reply {
+        Err(ReadError::Fault) => Err(Exit::Answer(Reply {
             status: Status::ReadFault,
             text: line(alloc, "ReadFault", &[])?,
         })),
@@ -69,38 +54,38 @@ pub fn bytes_in<H: Shelf>(
 }
 
 /// The task that a file's bytes spell.
-pub fn task_in<H: Shelf>(alloc: Global, shelf: &mut H, name: &str) -> Result<Task, Stop>
+pub fn task_in<H: Shelf>(alloc: Global, shelf: &mut H, name: &str) -> Result<Task, Exit>
     ensures ok { IfOk result (λ t. GivesTask (H.file shelf.old name.now)
         (H.read_faults shelf.old) (H.read_faults shelf.new) (parts_of t)) }
     ensures printable { IfOk result (λ t. HasText (parts_of t)) }
     ensures runs { IfOk result (λ t. sort_fault (parts_of t) ≡ None) }
     ensures named { IfOk result (λ t. AreNamed (parts_of t).names (sort_of (parts_of t).declared)) }
-    ensures stop { IfErr result (Stops (GivesNoTask (H.file shelf.old name.now)
+    ensures exit { IfErr result (ExitsWith (GivesNoTask (H.file shelf.old name.now)
         (H.read_faults shelf.old) (H.read_faults shelf.new))) }
     ensures same { (other : List ℕ) → H.file shelf.new other ≡ H.file shelf.old other }
     ensures writes { H.write_faults shelf.new ≡ H.write_faults shelf.old }
 {
     let bytes = bytes_in(alloc, shelf, name, "task")?;
-    task_of(alloc, &bytes)
+    task_from(alloc, &bytes)
 }
 
 /// The task that bytes spell, of which there are fewer than 2^32.
-#[tactic(auto, using(sm_replay::proofs::RunnableTasks::spelled_runs))]
-pub fn task_of(alloc: Global, bytes: &[u8]) -> Result<Task, Stop>
+#[tactic(auto, using(sm_replay::proofs::Running::spelled_runs))]
+pub fn task_from(alloc: Global, bytes: &[u8]) -> Result<Task, Exit>
     requires { length bytes.now < 2 ^ 32 }
     ensures ok { IfOk result (λ t. Spells bytes.now (parts_of t)) }
     ensures printable { IfOk result (λ t. HasText (parts_of t)) }
     ensures runs { IfOk result (λ t. sort_fault (parts_of t) ≡ None) }
     ensures named { IfOk result (λ t. AreNamed (parts_of t).names (sort_of (parts_of t).declared)) }
-    ensures stop { IfErr result (Stops (IsNoTask bytes.now)) }
+    ensures exit { IfErr result (ExitsWith (IsNoTask bytes.now)) }
 {
     match parse_task(alloc, bytes) {
         Ok(task) => Ok(task),
-        Err(TaskError::Memory) => Err(Stop::Memory),
+        Err(TaskError::Memory) => Err(Exit::Memory),
         Err(error) => {
             let names = sm_text::names(alloc, bytes)?;
             let text = refusal_line(alloc, &names, error)?;
-            Err(Stop::Answer(Reply {
+            Err(Exit::Answer(Reply {
                 status: Status::Refused,
                 text,
             }))
@@ -114,33 +99,33 @@ pub fn input_in<H: Shelf>(
     shelf: &mut H,
     name: &str,
     task: &Task,
-) -> Result<Store, Stop>
+) -> Result<Store, Exit>
     ensures ok { IfOk result (GivesInput (parts_of task.now) (H.file shelf.old name.now)
         (H.read_faults shelf.old) (H.read_faults shelf.new)) }
     ensures declared { IfOk result (λ s. sorts_of s ≡ sort_of (declared_of task.now.shared.decls)) }
-    ensures stop { IfErr result (Stops (GivesNoInput (parts_of task.now) (H.file shelf.old name.now)
-        (H.read_faults shelf.old) (H.read_faults shelf.new))) }
+    ensures exit { IfErr result (ExitsWith (GivesNoInput (parts_of task.now)
+        (H.file shelf.old name.now) (H.read_faults shelf.old) (H.read_faults shelf.new))) }
     ensures same { (other : List ℕ) → H.file shelf.new other ≡ H.file shelf.old other }
     ensures writes { H.write_faults shelf.new ≡ H.write_faults shelf.old }
 {
     let bytes = bytes_in(alloc, shelf, name, "input")?;
-    input_of(alloc, &bytes, task)
+    input_from(alloc, &bytes, task)
 }
 
 /// The store that bytes give as an input of the task, of which there are fewer than 2^32.
-pub fn input_of(alloc: Global, bytes: &[u8], task: &Task) -> Result<Store, Stop>
+pub fn input_from(alloc: Global, bytes: &[u8], task: &Task) -> Result<Store, Exit>
     requires { length bytes.now < 2 ^ 32 }
     ensures ok { IfOk result (IsInput task.now.shared.names
         (sort_of (declared_of task.now.shared.decls)) bytes.now) }
-    ensures stop { IfErr result (Stops (IsNoInput (parts_of task.now) bytes.now)) }
+    ensures exit { IfErr result (ExitsWith (IsNoInput (parts_of task.now) bytes.now)) }
 {
     let names = &task.shared.names;
     match read_input(alloc, &task.shared.decls, names, bytes) {
         Ok(store) => Ok(store),
-        Err(InputError::Memory) => Err(Stop::Memory),
+        Err(InputError::Memory) => Err(Exit::Memory),
         Err(error) => {
             let text = input_refusal_line(alloc, names, error)?;
-            Err(Stop::Answer(Reply {
+            Err(Exit::Answer(Reply {
                 status: Status::Refused,
                 text,
             }))

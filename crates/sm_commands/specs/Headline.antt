@@ -1,0 +1,36 @@
+-- What Accepted and Conflict say of the files, where the shelf tells their bytes. The public
+-- clauses `accepted`, `conflict`, `shown` and `replayed` of `safemerge` cite it.
+use Rattle.std.specs.Prelude.{◌≡◌, ◌++◌, ℕ, List}
+use Rattle.sm_syntax.specs.ConflictFree.{ConflictFree}
+use Rattle.sm_syntax.specs.Parts.{Parts, sort_of, task_of}
+use Rattle.sm_syntax.specs.Spells.{Spells}
+use Rattle.sm_eval.specs.Slots.{meaning}
+use Rattle.sm_eval.specs.declared.store.Store.{Store}
+use Rattle.sm_io.specs.Files.{Known, WhereHeld}
+use Rattle.sm_replay.specs.Inputs.{IsInput}
+use Rattle.sm_replay.specs.Violations.{Violates}
+use Rattle.sm_commands.specs.Lines.{input_line}
+
+-- Accepted of `check`: the bytes spell a task that is free of conflicts
+abbrev pub IsSafeMerge : List ℕ → Type 0
+IsSafeMerge bytes = (t : Parts) × Spells bytes t × ConflictFree (task_of t)
+
+-- Conflict: the bytes spell a task that isn't free of conflicts
+abbrev pub IsUnsafeMerge : List ℕ → Type 0
+IsUnsafeMerge bytes = (t : Parts) × Spells bytes t × ¬ ConflictFree (task_of t)
+
+-- the bytes spell a task, and the input gives a store from which its four programs show a conflict
+abbrev pub IsViolatedFrom : List ℕ → ℕ → List ℕ → Type 0
+IsViolatedFrom input turns bytes = (t : Parts) × Spells bytes t
+    × ((s : Store) × IsInput t.names (sort_of t.declared) input s
+    × Violates (task_of t) (meaning s) turns)
+
+-- Conflict of `check`: the text ends with the line of an input that shows a conflict of the task
+abbrev pub ShowsInput : Known → ℕ → List ℕ → Type 0
+ShowsInput task turns text = (front input : List ℕ) × (text ≡ front ++ input_line input)
+    × WhereHeld task (IsViolatedFrom input turns)
+
+-- Conflict of `replay`: the input in the file shows a conflict of the task
+abbrev pub IsShownByInput : Known → Known → ℕ → Type 0
+IsShownByInput task input turns = WhereHeld input (λ (bytes : List ℕ).
+    WhereHeld task (IsViolatedFrom bytes turns))

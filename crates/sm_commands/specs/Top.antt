@@ -1,0 +1,97 @@
+-- What the program answers: a status and a text, by its words and by what the shelf tells of the
+-- files that they name. The count of read faults of the shelf was `before`, and is `now`. Public
+-- clauses cite it.
+use Rattle.std.specs.Prelude.{◌≡◌, ◌≢◌, ◌⊎◌, ◌<◌, ℕ, List, Option, Some, None, length, take}
+use Rattle.sm_io.specs.Files.{Known}
+use Rattle.sm_io.specs.Sinks.{Adds}
+use Rattle.sm_syntax.specs.Parts.{Parts}
+use Rattle.sm_text.specs.Canonical.{task_pieces}
+use Rattle.sm_text.specs.Pieces.{text_of}
+use Rattle.sm_commands.specs.Check.{AnswersCheck}
+use Rattle.sm_commands.specs.File.{GivesTask, GivesNoTask}
+use Rattle.sm_commands.specs.Replay.{ReplaysInput}
+use Rattle.sm_commands.specs.Status.{Says}
+use Rattle.sm_commands.specs.Words.{Words, Asked, check, replay, print, asked, usage_line, IsUsage}
+use Rattle.sm_commands.specs.declared.status.Status.{Status}
+use Rattle.sm_commands.specs.declared.status.Status.TheVariants.{Accepted, Usage, Memory, SinkFault}
+
+-- what a shelf tells of each file
+abbrev pub Files : Type 0
+Files = List ℕ → Known
+
+-- no command takes the words, and the answer says so
+pub record RefusesWords (words : Words) (before now : ℕ) (status : Status) (text : List ℕ)
+    : Type 0 where
+  pub refused : IsUsage words
+  pub quiet : now ≡ before
+  pub says : Says Usage (usage_line words) status text
+
+-- the file gives a task, to which `check` answers
+pub record ChecksTask (file : Known) (turns before now : ℕ) (status : Status) (text : List ℕ)
+    : Type 0 where
+  pub task : Parts
+  pub gives : GivesTask file before now task
+  pub answers : AnswersCheck task turns status text
+
+-- what is answered to `check`
+abbrev pub Checks : Known → ℕ → ℕ → ℕ → Status → List ℕ → Type 0
+Checks file turns before now status text =
+    GivesNoTask file before now status text ⊎ ChecksTask file turns before now status text
+
+-- the file gives a task, and its canonical text is printed
+pub record PrintsTask (file : Known) (before now : ℕ) (status : Status) (text : List ℕ)
+    : Type 0 where
+  pub task : Parts
+  pub gives : GivesTask file before now task
+  pub says : Says Accepted (text_of task.names (task_pieces task)) status text
+
+-- what is answered to `print`
+abbrev pub Prints : Known → ℕ → ℕ → Status → List ℕ → Type 0
+Prints file before now status text =
+    GivesNoTask file before now status text ⊎ PrintsTask file before now status text
+
+-- the file gives a task, and then comes the input's
+pub record ReplaysTask (file input : Known) (turns before now : ℕ) (status : Status) (text : List ℕ)
+    : Type 0 where
+  pub task : Parts
+  pub between : ℕ
+  pub gives : GivesTask file before between task
+  pub answers : ReplaysInput task input turns between now status text
+
+-- what is answered to `replay`
+abbrev pub Replays : Known → Known → ℕ → ℕ → ℕ → Status → List ℕ → Type 0
+Replays file input turns before now status text =
+    GivesNoTask file before now status text ⊎ ReplaysTask file input turns before now status text
+
+-- what is answered to what is asked for
+abbrev pub AnswersCommand : Asked → Files → ℕ → ℕ → Status → List ℕ → Type 0
+AnswersCommand (check task turns workers) files before now status text =
+    Checks (files task) turns before now status text
+AnswersCommand (replay task input turns) files before now status text =
+    Replays (files task) (files input) turns before now status text
+AnswersCommand (print task) files before now status text =
+    Prints (files task) before now status text
+
+-- what is answered to words that ask for this, or for nothing
+abbrev pub AnswersRequest : Option Asked → Words → Files → ℕ → ℕ → Status → List ℕ → Type 0
+AnswersRequest None words files before now status text = RefusesWords words before now status text
+AnswersRequest (Some ask) words files before now status text =
+    AnswersCommand ask files before now status text
+
+-- the status and the text are the answer to the words
+abbrev pub IsAnswerTo : Words → Files → ℕ → ℕ → Status → List ℕ → Type 0
+IsAnswerTo words files before now status text =
+    AnswersRequest (asked words) words files before now status text
+
+-- an answer with this status was printed whole
+abbrev pub IsPrinted : Status → Type 0
+IsPrinted status = (status ≢ Memory) × (status ≢ SinkFault)
+
+-- bytes from the front of an answer's text were put, but not all of them
+pub record PutsPart (Gives : Status → List ℕ → Type 0) (before now : Option (List ℕ)) : Type 0 where
+  pub status : Status
+  pub text : List ℕ
+  pub gives : Gives status text
+  pub count : ℕ
+  pub part : count < length text
+  pub adds : Adds before now (take count text)
