@@ -5,3 +5,4 @@ pub mod Digits
 pub mod Asking
 pub mod Usage
 pub mod Answering
+pub mod AnswerUnique

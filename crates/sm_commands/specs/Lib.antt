@@ -1,5 +1,6 @@
 pub mod Headline
 pub mod Top
+pub mod Laws
 pub mod File
 pub mod Check
 pub mod Replay

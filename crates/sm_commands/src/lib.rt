@@ -5,6 +5,8 @@
 //!   the first trial that shows it. `replay` judges one input exactly, and `print` puts the
 //!   canonical text of a task. Words that no command takes, bytes that are no task or no input, and
 //!   faults are answered exactly where they are met.
+//! - `one_answer` is the law that two answers to the same words and told files, without a fault,
+//!   are equal.
 //! - `Status::number` is the number with which the program ends.
 //! - `decide` decides the tasks whose programs only copy, exactly and soundly.
 //!
@@ -19,6 +21,7 @@ mod command;
 mod copies;
 mod exit;
 mod file;
+mod laws;
 mod lines;
 mod replay;
 mod status;
@@ -26,5 +29,6 @@ mod top;
 mod words;
 
 pub use copies::{Decision, decide};
+pub use laws::one_answer;
 pub use status::Status;
 pub use top::safemerge;

@@ -1,0 +1,282 @@
+-- Two answers to the same words and told files, each without a fault, are equal.
+use Rattle.std.proofs.Common.{◌≡◌, ◌≢◌, ◌⊎◌, ◌<◌, ◌++◌, inl, inr, ℕ, List, [], Option, Some, None, Result, Ok, Err, length}
+use Rattle.std.proofs.Common.{codes, refl, sym, ap, subst, ◌∙◌, arith}
+use Rattle.serde_json.specs.Data.{Members, object}
+use Rattle.serde_json.specs.Written.{compact_text}
+use Rattle.sm_eval.specs.Slots.{meaning}
+use Rattle.sm_eval.specs.declared.store.Store as code
+use Rattle.sm_io.specs.Causes.{Rose}
+use Rattle.sm_io.specs.Files.{Known, untold, absent, holds}
+use Rattle.sm_replay.specs.Inputs.{IsInput, Reads}
+use Rattle.sm_replay.specs.Trials.{trial}
+use Rattle.sm_replay.specs.declared.error.InputError.{InputError}
+use Rattle.sm_replay.specs.declared.error.InputError.TheVariants as no_input
+use Rattle.sm_replay.specs.declared.verdict.Verdict.{Verdict}
+use Rattle.sm_replay.specs.declared.verdict.Verdict.TheVariants as verdict
+use Rattle.sm_replay.specs.Written.{AreWritten}
+use Rattle.sm_replay.proofs.InputUnique.{reading_one, written_one}
+use Rattle.sm_replay.proofs.VerdictUnique.{least_one, verdict_one}
+use Rattle.sm_syntax.specs.Parts.{Parts, sort_of, task_of}
+use Rattle.sm_syntax.specs.Spells.{Spells}
+use Rattle.sm_syntax.specs.Stores.{Store}
+use Rattle.sm_syntax.specs.Symbols.{names_of}
+use Rattle.sm_task.proofs.RefusalUnique.{one_refusal}
+use Rattle.sm_text.proofs.CompleteTasks as text
+use Rattle.sm_text.specs.Canonical.{task_pieces}
+use Rattle.sm_text.specs.Pieces.{text_of}
+use Rattle.sm_commands.specs.Check.{AnswersCheck, IsInputText, IsNote, ShowsConflict}
+use Rattle.sm_commands.specs.Copies.{decision}
+use Rattle.sm_commands.specs.File.{file_limit, FailsToRead, GivesNoBytes, GivesNoTask, GivesTask, IsNoTask, IsRead, IsTooLong}
+use Rattle.sm_commands.specs.Laws.{AreTold, OneAnswer}
+use Rattle.sm_commands.specs.Lines.{decision_line, input_line, input_refusal_line, refusal_line, trial_line, verdict_line}
+use Rattle.sm_commands.specs.Replay.{verdict_status, AnswersReplay, GivesInput, GivesNoInput, IsNoInput, ReplaysInput}
+use Rattle.sm_commands.specs.Status.{Says}
+use Rattle.sm_commands.specs.Top.{Files, AnswersCommand, AnswersRequest, Checks, Prints, Replays}
+use Rattle.sm_commands.specs.Words.{Words, Asked, check, replay, print, asked}
+use Rattle.sm_commands.specs.declared.status.Status.{Status}
+
+-- two replies are equal
+abbrev pub Same : Status → List ℕ → Status → List ℕ → Type 0
+Same s t u v = (s ≡ u) × (t ≡ v)
+
+-- replies that say the same are equal
+says_same : {p q : Status} {l m : List ℕ} {s u : Status} {t v : List ℕ} → p ≡ q → l ≡ m → Says p l s t → Says q m u v → Same s t u v
+says_same same alike a b = (a.ended ∙ same ∙ sym b.ended, a.printed ∙ alike ∙ sym b.printed)
+
+-- ---- files
+
+-- a file has one list of bytes
+read_same : (file : Known) (b n c m : ℕ) (xs ys : List ℕ) → file ≢ untold → IsRead file b n xs → IsRead file c m ys → xs ≡ ys
+read_same untold b n c m xs ys told r q = absurd (told refl)
+read_same absent b n c m xs ys told r q = absurd (r.there refl)
+read_same (holds h) b n c m xs ys told r q = sym (r.held h refl) ∙ q.held h refl
+
+-- a file that was read is there, and has few bytes
+read_within : (file : Known) (kind : List ℕ) (b n c m : ℕ) (xs : List ℕ) (s : Status) (t : List ℕ) → file ≢ untold → IsRead file b n xs
+    → IsTooLong kind file c m s t → ⊥
+read_within untold kind b n c m xs s t told r q = told refl
+read_within absent kind b n c m xs s t told r q = r.there refl
+read_within (holds h) kind b n c m xs s t told r q =
+    let over : file_limit < length xs = subst (λ (zs : List ℕ). file_limit < length zs) (r.held h refl) (q.over h refl) in
+    omega (arith, over, r.within)
+
+-- without a fault, only a file that isn't there can't be read
+not_there : (file : Known) (b n : ℕ) (s : Status) (t : List ℕ) → (¬ Rose b n) → FailsToRead file b n s t → file ≡ absent
+not_there file b n s t calm f = go f.cause
+  where
+    go : Rose b n ⊎ (file ≡ absent) → file ≡ absent
+    go (inl rose) = absurd (calm rose)
+    go (inr gone) = gone
+
+-- a file doesn't both give bytes and none
+bytes_or_none : (kind : List ℕ) (file : Known) (b n c m : ℕ) (xs : List ℕ) (s : Status) (t : List ℕ) → file ≢ untold → (¬ Rose c m)
+    → IsRead file b n xs → GivesNoBytes kind file c m s t → ⊥
+bytes_or_none kind file b n c m xs s t told calm r (inl f) = r.there (not_there file c m s t calm f)
+bytes_or_none kind file b n c m xs s t told calm r (inr f) = read_within file kind b n c m xs s t told r f
+
+-- and one answer says that it gives none
+no_bytes_same : (kind : List ℕ) (file : Known) (b n c m : ℕ) (s u : Status) (t v : List ℕ) → (¬ Rose b n) → (¬ Rose c m)
+    → GivesNoBytes kind file b n s t → GivesNoBytes kind file c m u v → Same s t u v
+no_bytes_same kind file b n c m s u t v calm still (inl f) (inl g) = says_same refl refl f.says g.says
+no_bytes_same kind file b n c m s u t v calm still (inl f) (inr g) = absurd (g.there (not_there file b n s t calm f))
+no_bytes_same kind file b n c m s u t v calm still (inr f) (inl g) = absurd (f.there (not_there file c m u v still g))
+no_bytes_same kind file b n c m s u t v calm still (inr f) (inr g) = says_same refl refl f.says g.says
+
+-- ---- tasks
+
+-- bytes are refused in one way
+no_task_same : (xs : List ℕ) (s u : Status) (t v : List ℕ) → IsNoTask xs s t → IsNoTask xs u v → Same s t u v
+no_task_same xs s u t v f g = says_same refl (ap (refusal_line (names_of xs)) (one_refusal xs f.error g.error f.first g.first)) f.says g.says
+
+-- a file gives no task in one way
+refused_same : (file : Known) (b n c m : ℕ) (s u : Status) (t v : List ℕ) → file ≢ untold → (¬ Rose b n) → (¬ Rose c m)
+    → GivesNoTask file b n s t → GivesNoTask file c m u v → Same s t u v
+refused_same file b n c m s u t v told calm still (inl f) (inl g) = no_bytes_same (codes "task") file b n c m s u t v calm still f g
+refused_same file b n c m s u t v told calm still (inl f) (inr g) =
+    absurd (bytes_or_none (codes "task") file c m b n g.bytes s t told calm g.read f)
+refused_same file b n c m s u t v told calm still (inr f) (inl g) =
+    absurd (bytes_or_none (codes "task") file b n c m f.bytes u v told still f.read g)
+refused_same file b n c m s u t v told calm still (inr f) (inr g) =
+    no_task_same g.bytes s u t v
+    (subst (λ (xs : List ℕ). IsNoTask xs s t) (read_same file b n c m f.bytes g.bytes told f.read g.read) f.refuses) g.refuses
+
+-- a file doesn't both give a task and none
+task_or_none : (file : Known) (b n c m : ℕ) (p : Parts) (s : Status) (t : List ℕ) → file ≢ untold → (¬ Rose c m) → GivesTask file b n p
+    → GivesNoTask file c m s t → ⊥
+task_or_none file b n c m p s t told calm g (inl f) = bytes_or_none (codes "task") file b n c m g.bytes s t told calm g.read f
+task_or_none file b n c m p s t told calm g (inr f) =
+    f.refuses.spells_none p (subst (λ (xs : List ℕ). Spells xs p) (read_same file b n c m g.bytes f.bytes told g.read f.read) g.spells)
+
+-- and one task
+task_same : (file : Known) (b n c m : ℕ) (p q : Parts) → file ≢ untold → GivesTask file b n p → GivesTask file c m q → p ≡ q
+task_same file b n c m p q told g h =
+    let spelled : Spells h.bytes p =
+    subst (λ (xs : List ℕ). Spells xs p) (read_same file b n c m g.bytes h.bytes told g.read h.read) g.spells in
+    text.one_task h.bytes p q spelled.text h.spells.text
+
+-- ---- check
+
+-- the line of a trial, by its verdict
+abbrev shown_line : List (List ℕ) → ℕ → Verdict → List ℕ
+shown_line names j verdict.Holds = []
+shown_line names j verdict.Unmet = []
+shown_line names j (verdict.Violates x i clause) = trial_line names j x i clause
+
+-- the text of a store is one
+text_same : (t : Parts) (s u : Store) (xs ys : List ℕ) → s ≡ u → IsInputText t s xs → IsInputText t u ys → xs ≡ ys
+text_same t s u xs ys same a b =
+    let written = subst (λ (z : Store). AreWritten t.names (sort_of t.declared) z a.members) same a.written in
+    let alike : a.members ≡ b.members = written_one t.names (sort_of t.declared) u a.members b.members written b.written in
+    a.compact ∙ ap (λ (ms : Members). compact_text (object ms)) alike ∙ sym b.compact
+
+-- a conflict is shown in one way
+conflict_same : (t : Parts) (turns : ℕ) (s u : Status) (l m : List ℕ) → ShowsConflict t turns s l → ShowsConflict t turns u m → Same s l u m
+conflict_same t turns s u l m a b =
+    let one =
+    least_one (task_of t) (sort_of t.declared) turns a.number b.number (verdict.Violates a.name a.index a.clause)
+    (verdict.Violates b.name b.index b.clause) a.least b.least in
+    let line : trial_line t.names a.number a.name a.index a.clause ≡ trial_line t.names b.number b.name b.index b.clause =
+    ap (λ (j : ℕ). shown_line t.names j (verdict.Violates a.name a.index a.clause)) one.0 ∙ ap (shown_line t.names b.number) one.1 in
+    let input : a.input ≡ b.input =
+    text_same t (trial (sort_of t.declared) a.number) (trial (sort_of t.declared) b.number) a.input b.input
+    (ap (trial (sort_of t.declared)) one.0) a.shown b.shown in
+    says_same refl
+    (ap (λ (front : List ℕ). front ++ input_line a.input) line
+    ∙ ap (λ (given : List ℕ). trial_line t.names b.number b.name b.index b.clause ++ input_line given) input) a.says b.says
+
+-- a note is one
+note_same : (t : Parts) (xs ys : List ℕ) → IsNote t xs → IsNote t ys → xs ≡ ys
+note_same t xs ys (inl a) (inl b) = a.1 ∙ sym b.1
+note_same t xs ys (inl a) (inr b) = absurd (b.0 a.0)
+note_same t xs ys (inr a) (inl b) = absurd (a.0 b.0)
+note_same t xs ys (inr a) (inr b) = a.1 ∙ sym b.1
+
+check_same : (t : Parts) (turns : ℕ) (s u : Status) (l m : List ℕ) → AnswersCheck t turns s l → AnswersCheck t turns u m → Same s l u m
+check_same t turns s u l m (inl a) (inl b) = conflict_same t turns s u l m a b
+check_same t turns s u l m (inl a) (inr b) = absurd (b.calm a.number a.least.inside a.least.violates)
+check_same t turns s u l m (inr a) (inl b) = absurd (a.calm b.number b.least.inside b.least.violates)
+check_same t turns s u l m (inr a) (inr b) =
+    says_same refl (ap (λ (note : List ℕ). decision_line t.names (decision t) ++ note) (note_same t a.note b.note a.noted b.noted)) a.says
+    b.says
+
+checks_same : (file : Known) (turns b n c m : ℕ) (s u : Status) (t v : List ℕ) → file ≢ untold → (¬ Rose b n) → (¬ Rose c m)
+    → Checks file turns b n s t → Checks file turns c m u v → Same s t u v
+checks_same file turns b n c m s u t v told calm still (inl f) (inl g) = refused_same file b n c m s u t v told calm still f g
+checks_same file turns b n c m s u t v told calm still (inl f) (inr g) = absurd (task_or_none file c m b n g.task s t told calm g.gives f)
+checks_same file turns b n c m s u t v told calm still (inr f) (inl g) = absurd (task_or_none file b n c m f.task u v told still f.gives g)
+checks_same file turns b n c m s u t v told calm still (inr f) (inr g) =
+    check_same g.task turns s u t v
+    (subst (λ (p : Parts). AnswersCheck p turns s t) (task_same file b n c m f.task g.task told f.gives g.gives) f.answers) g.answers
+
+-- ---- print
+
+prints_same : (file : Known) (b n c m : ℕ) (s u : Status) (t v : List ℕ) → file ≢ untold → (¬ Rose b n) → (¬ Rose c m)
+    → Prints file b n s t → Prints file c m u v → Same s t u v
+prints_same file b n c m s u t v told calm still (inl f) (inl g) = refused_same file b n c m s u t v told calm still f g
+prints_same file b n c m s u t v told calm still (inl f) (inr g) = absurd (task_or_none file c m b n g.task s t told calm g.gives f)
+prints_same file b n c m s u t v told calm still (inr f) (inl g) = absurd (task_or_none file b n c m f.task u v told still f.gives g)
+prints_same file b n c m s u t v told calm still (inr f) (inr g) =
+    says_same refl (ap (λ (p : Parts). text_of p.names (task_pieces p)) (task_same file b n c m f.task g.task told f.gives g.gives)) f.says
+    g.says
+
+-- ---- replay
+
+-- bytes that are refused for a cause
+abbrev refused_for : InputError → Result code.Store InputError
+refused_for e = Err e
+
+-- equal refusals have equal causes
+err_same : (e f : InputError) → refused_for e ≡ refused_for f → e ≡ f
+err_same e f p = cc
+
+-- bytes give one store, or are refused in one way
+store_same : (t : Parts) (xs : List ℕ) (s u : code.Store) → IsInput t.names (sort_of t.declared) xs s
+    → IsInput t.names (sort_of t.declared) xs u → meaning s ≡ meaning u
+store_same t xs s u a b = (reading_one t.names (sort_of t.declared) xs (Ok s) (Ok u) (λ e. cc) (λ e. cc) a b).0
+
+store_or_none : (t : Parts) (xs : List ℕ) (s : code.Store) (e : InputError) → e ≢ no_input.Memory
+    → IsInput t.names (sort_of t.declared) xs s → Reads t.names (sort_of t.declared) xs (Err e) → ⊥
+store_or_none t xs s e cause a b =
+    reading_one t.names (sort_of t.declared) xs (Ok s) (Err e) (λ p. cc) (λ p. cause (err_same e no_input.Memory p)) a b
+
+no_input_same : (t : Parts) (xs : List ℕ) (s u : Status) (l m : List ℕ) → IsNoInput t xs s l → IsNoInput t xs u m → Same s l u m
+no_input_same t xs s u l m f g =
+    let same : f.error ≡ g.error =
+    reading_one t.names (sort_of t.declared) xs (Err f.error) (Err g.error) (λ p. f.cause (err_same f.error no_input.Memory p))
+    (λ p. g.cause (err_same g.error no_input.Memory p)) f.refused g.refused in
+    says_same refl (ap (input_refusal_line t.names) same) f.says g.says
+
+-- a file gives no input in one way
+refused_input_same : (t : Parts) (file : Known) (b n c m : ℕ) (s u : Status) (l k : List ℕ) → file ≢ untold → (¬ Rose b n)
+    → (¬ Rose c m) → GivesNoInput t file b n s l → GivesNoInput t file c m u k → Same s l u k
+refused_input_same t file b n c m s u l k told calm still (inl f) (inl g) =
+    no_bytes_same (codes "input") file b n c m s u l k calm still f g
+refused_input_same t file b n c m s u l k told calm still (inl f) (inr g) =
+    absurd (bytes_or_none (codes "input") file c m b n g.bytes s l told calm g.read f)
+refused_input_same t file b n c m s u l k told calm still (inr f) (inl g) =
+    absurd (bytes_or_none (codes "input") file b n c m f.bytes u k told still f.read g)
+refused_input_same t file b n c m s u l k told calm still (inr f) (inr g) =
+    no_input_same t g.bytes s u l k
+    (subst (λ (xs : List ℕ). IsNoInput t xs s l) (read_same file b n c m f.bytes g.bytes told f.read g.read) f.refuses) g.refuses
+
+-- a file doesn't both give an input and none
+input_or_none : (t : Parts) (file : Known) (b n c m : ℕ) (store : code.Store) (s : Status) (l : List ℕ) → file ≢ untold → (¬ Rose c m)
+    → GivesInput t file b n store → GivesNoInput t file c m s l → ⊥
+input_or_none t file b n c m store s l told calm g (inl f) = bytes_or_none (codes "input") file b n c m g.bytes s l told calm g.read f
+input_or_none t file b n c m store s l told calm g (inr f) =
+    store_or_none t f.bytes store f.refuses.error f.refuses.cause
+    (subst (λ (xs : List ℕ). IsInput t.names (sort_of t.declared) xs store)
+    (read_same file b n c m g.bytes f.bytes told g.read f.read) g.gives) f.refuses.refused
+
+-- a verdict is answered in one way
+verdict_same : (t : Parts) (store : Store) (turns : ℕ) (s u : Status) (l m : List ℕ) → AnswersReplay t store turns s l
+    → AnswersReplay t store turns u m → Same s l u m
+verdict_same t store turns s u l m a b =
+    let same : a.verdict ≡ b.verdict = verdict_one (task_of t) store turns a.verdict b.verdict a.known b.known a.judged b.judged in
+    says_same (ap verdict_status same) (ap (verdict_line t.names) same) a.says b.says
+
+input_same : (t : Parts) (file : Known) (turns b n c m : ℕ) (s u : Status) (l k : List ℕ) → file ≢ untold → (¬ Rose b n) → (¬ Rose c m)
+    → ReplaysInput t file turns b n s l → ReplaysInput t file turns c m u k → Same s l u k
+input_same t file turns b n c m s u l k told calm still (inl f) (inl g) = refused_input_same t file b n c m s u l k told calm still f g
+input_same t file turns b n c m s u l k told calm still (inl f) (inr g) =
+    absurd (input_or_none t file c m b n g.store s l told calm g.gives f)
+input_same t file turns b n c m s u l k told calm still (inr f) (inl g) =
+    absurd (input_or_none t file b n c m f.store u k told still f.gives g)
+input_same t file turns b n c m s u l k told calm still (inr f) (inr g) =
+    let given =
+    subst (λ (xs : List ℕ). IsInput t.names (sort_of t.declared) xs f.store)
+    (read_same file b n c m f.gives.bytes g.gives.bytes told f.gives.read g.gives.read) f.gives.gives in
+    let same : meaning f.store ≡ meaning g.store = store_same t g.gives.bytes f.store g.store given g.gives.gives in
+    verdict_same t (meaning g.store) turns s u l k (subst (λ (z : Store). AnswersReplay t z turns s l) same f.answers) g.answers
+
+replays_same : (file input : Known) (turns b n c m : ℕ) (s u : Status) (l k : List ℕ) → file ≢ untold → input ≢ untold → (¬ Rose b n)
+    → (¬ Rose c m) → Replays file input turns b n s l → Replays file input turns c m u k → Same s l u k
+replays_same file input turns b n c m s u l k told given calm still (inl f) (inl g) = refused_same file b n c m s u l k told calm still f g
+replays_same file input turns b n c m s u l k told given calm still (inl f) (inr g) =
+    absurd (task_or_none file c g.between b n g.task s l told calm g.gives f)
+replays_same file input turns b n c m s u l k told given calm still (inr f) (inl g) =
+    absurd (task_or_none file b f.between c m f.task u k told still f.gives g)
+replays_same file input turns b n c m s u l k told given calm still (inr f) (inr g) =
+    input_same g.task input turns f.between n g.between m s u l k given
+    (subst (λ (z : ℕ). ¬ Rose z n) (sym f.gives.read.quiet) calm) (subst (λ (z : ℕ). ¬ Rose z m) (sym g.gives.read.quiet) still)
+    (subst (λ (p : Parts). ReplaysInput p input turns f.between n s l)
+    (task_same file b f.between c g.between f.task g.task told f.gives g.gives) f.answers) g.answers
+
+-- ---- words
+
+command_same : (ask : Asked) (files : Files) (b n c m : ℕ) (s u : Status) (l k : List ℕ) → AreTold files → (¬ Rose b n) → (¬ Rose c m)
+    → AnswersCommand ask files b n s l → AnswersCommand ask files c m u k → Same s l u k
+command_same (check task turns workers) files b n c m s u l k told calm still x y =
+    checks_same (files task) turns b n c m s u l k (told task) calm still x y
+command_same (replay task input turns) files b n c m s u l k told calm still x y =
+    replays_same (files task) (files input) turns b n c m s u l k (told task) (told input) calm still x y
+command_same (print task) files b n c m s u l k told calm still x y = prints_same (files task) b n c m s u l k (told task) calm still x y
+
+request_same : (ask : Option Asked) (words : Words) (files : Files) (b n c m : ℕ) (s u : Status) (l k : List ℕ) → AreTold files
+    → (¬ Rose b n) → (¬ Rose c m) → AnswersRequest ask words files b n s l → AnswersRequest ask words files c m u k → Same s l u k
+request_same None words files b n c m s u l k told calm still x y = says_same refl refl x.says y.says
+request_same (Some ask) words files b n c m s u l k told calm still x y = command_same ask files b n c m s u l k told calm still x y
+
+pub answer_one : OneAnswer
+answer_one words files before now earlier later status other line text told calm x still y =
+    request_same (asked words) words files before now earlier later status other line text told calm still x y
