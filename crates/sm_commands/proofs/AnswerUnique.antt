@@ -7,19 +7,19 @@ use Rattle.sm_eval.specs.Slots.{meaning}
 use Rattle.sm_eval.specs.declared.store.Store as code
 use Rattle.sm_io.specs.Causes.{Rose}
 use Rattle.sm_io.specs.Files.{Known, untold, absent, holds}
-use Rattle.sm_replay.specs.Inputs.{IsInput, Reads}
+use Rattle.sm_replay.specs.Input.{IsInput, Reads}
 use Rattle.sm_replay.specs.Trials.{trial}
 use Rattle.sm_replay.specs.declared.error.InputError.{InputError}
 use Rattle.sm_replay.specs.declared.error.InputError.TheVariants as no_input
 use Rattle.sm_replay.specs.declared.verdict.Verdict.{Verdict}
 use Rattle.sm_replay.specs.declared.verdict.Verdict.TheVariants as verdict
-use Rattle.sm_replay.specs.Written.{AreWritten}
+use Rattle.sm_replay.specs.InputText.{AreWritten}
 use Rattle.sm_replay.proofs.InputUnique.{reading_one, written_one}
 use Rattle.sm_replay.proofs.VerdictUnique.{least_one, verdict_one}
-use Rattle.sm_syntax.specs.Parts.{Parts, sort_of, task_of}
-use Rattle.sm_syntax.specs.Spells.{Spells}
-use Rattle.sm_syntax.specs.Stores.{Store}
-use Rattle.sm_syntax.specs.Symbols.{names_of}
+use Rattle.sm_syntax.specs.text.Parts.{Parts, sort_of, task_of}
+use Rattle.sm_syntax.specs.text.Spells.{Spells}
+use Rattle.sm_syntax.specs.claim.Stores.{Store}
+use Rattle.sm_syntax.specs.text.Symbols.{names_of}
 use Rattle.sm_task.proofs.RefusalUnique.{one_refusal}
 use Rattle.sm_text.proofs.CompleteTasks as text
 use Rattle.sm_text.specs.Canonical.{task_pieces}

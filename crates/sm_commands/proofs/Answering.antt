@@ -10,9 +10,9 @@ use Rattle.sm_replay.specs.declared.verdict.Verdict.TheVariants as verdict
 use Rattle.sm_syntax.specs.text.Parts.{Parts, sort_of, task_of}
 use Rattle.sm_eval.specs.Slots.{meaning}
 use Rattle.sm_eval.specs.declared.store.Store as code
-use Rattle.sm_replay.specs.Inputs.{IsInput}
-use Rattle.sm_syntax.specs.ConflictFree.{ConflictFree}
-use Rattle.sm_syntax.specs.Stores.{Store}
+use Rattle.sm_replay.specs.Input.{IsInput}
+use Rattle.sm_syntax.specs.claim.ConflictFree.{ConflictFree}
+use Rattle.sm_syntax.specs.claim.Stores.{Store}
 use Rattle.sm_syntax.specs.declared.tree.Name.{Name}
 use Rattle.sm_syntax.specs.text.Spells.{Spells}
 use Rattle.sm_replay.specs.Violations.{Violates}
@@ -33,13 +33,13 @@ use Rattle.sm_commands.specs.declared.exit.Exit.TheVariants as stopped
 use Rattle.sm_commands.specs.declared.status.Reply.{Reply}
 use Rattle.sm_commands.specs.declared.status.Status.{Status}
 use Rattle.sm_commands.specs.declared.status.Status.TheVariants.{Accepted, Conflict, Refused, Usage, ReadFault, Memory}
-use Rattle.sm_syntax.specs.Symbols.{names_of}
+use Rattle.sm_syntax.specs.text.Symbols.{names_of}
 use Rattle.sm_task.specs.Errors.{IsRefusedWith}
 use Rattle.sm_task.specs.declared.error.TaskError.{TaskError}
 use Rattle.sm_task.specs.declared.error.TaskError.TheVariants as no_task
 use Rattle.sm_task.proofs.RefusalUnique.{task_or_refusal}
-use Rattle.sm_replay.proofs.Conflicts.{violation_conflicts}
-use Rattle.sm_replay.proofs.Deciding.{breaks_violates}
+use Rattle.sm_replay.proofs.ViolationsSound.{violation_conflicts}
+use Rattle.sm_replay.proofs.VerdictSound.{breaks_violates}
 use Rattle.sm_commands.proofs.Soundness.{safe_is_conflict_free}
 use Rattle.sm_commands.proofs.Usage.{usage_asks_nothing}
 

@@ -1,13 +1,13 @@
 -- What Accepted and Conflict say of the files, where the shelf tells their bytes. The public
 -- clauses `accepted`, `conflict`, `shown` and `replayed` of `safemerge` cite it.
 use Rattle.std.specs.Prelude.{◌≡◌, ◌++◌, ℕ, List}
-use Rattle.sm_syntax.specs.ConflictFree.{ConflictFree}
-use Rattle.sm_syntax.specs.Parts.{Parts, sort_of, task_of}
-use Rattle.sm_syntax.specs.Spells.{Spells}
+use Rattle.sm_syntax.specs.claim.ConflictFree.{ConflictFree}
+use Rattle.sm_syntax.specs.text.Parts.{Parts, sort_of, task_of}
+use Rattle.sm_syntax.specs.text.Spells.{Spells}
 use Rattle.sm_eval.specs.Slots.{meaning}
 use Rattle.sm_eval.specs.declared.store.Store.{Store}
 use Rattle.sm_io.specs.Files.{Known, WhereHeld}
-use Rattle.sm_replay.specs.Inputs.{IsInput}
+use Rattle.sm_replay.specs.Input.{IsInput}
 use Rattle.sm_replay.specs.Violations.{Violates}
 use Rattle.sm_commands.specs.Lines.{input_line}
 

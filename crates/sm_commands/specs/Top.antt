@@ -4,7 +4,7 @@
 use Rattle.std.specs.Prelude.{◌≡◌, ◌≢◌, ◌⊎◌, ◌<◌, ℕ, List, Option, Some, None, length, take}
 use Rattle.sm_io.specs.Files.{Known}
 use Rattle.sm_io.specs.Sinks.{Adds}
-use Rattle.sm_syntax.specs.Parts.{Parts}
+use Rattle.sm_syntax.specs.text.Parts.{Parts}
 use Rattle.sm_text.specs.Canonical.{task_pieces}
 use Rattle.sm_text.specs.Pieces.{text_of}
 use Rattle.sm_commands.specs.Check.{AnswersCheck}

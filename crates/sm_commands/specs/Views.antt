@@ -2,8 +2,8 @@
 use Rattle.std.specs.Prelude.{◌<◌, ◌≤◌, ℕ, unwrap_or}
 use Rattle.std.specs.BTreeMap.{get}
 use Rattle.std.specs.Ordering.{nat_cmp}
-use Rattle.sm_syntax.specs.ConflictFree.{Copy}
-use Rattle.sm_syntax.specs.Copies.{of_copy}
+use Rattle.sm_syntax.specs.claim.ConflictFree.{Copy}
+use Rattle.sm_syntax.specs.trees.Copies.{of_copy}
 use Rattle.sm_syntax.specs.declared.copies.PerCopy.{PerCopy}
 use Rattle.sm_commands.specs.Words.{Asked, check, replay, print}
 use Rattle.sm_commands.specs.declared.copies.Origins as table

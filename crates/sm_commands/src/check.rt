@@ -2,8 +2,8 @@
 ghost use Rattle.std.specs.Prelude.{◌≡◌, ◌<◌, ◌≤◌, ◌++◌, List, ℕ, None, IfOk};
 ghost use Rattle.sm_replay.specs.Sorted.{sort_fault};
 ghost use Rattle.sm_replay.specs.Trials.{trial};
-ghost use Rattle.sm_replay.specs.Written.{AreNamed};
-ghost use Rattle.sm_syntax.specs.Parts.{sort_of};
+ghost use Rattle.sm_replay.specs.InputText.{AreNamed};
+ghost use Rattle.sm_syntax.specs.text.Parts.{sort_of};
 ghost use Rattle.sm_task.specs.Tasks.{parts_of, AreFilled};
 ghost use Rattle.sm_commands.specs.Check.{status_of, AnswersCheck, IsInputText, IsNote};
 ghost use Rattle.sm_commands.specs.Copies.{decision};

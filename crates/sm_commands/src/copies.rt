@@ -1,11 +1,11 @@
 // Programs that only copy, decided by symbols.
 ghost use Rattle.std.specs.Prelude.{◌≡◌, ◌&&◌, true, false, ℕ, Some, None, map, if◌then◌else◌};
 ghost use Rattle.std.specs.Prelude.{IfOk, OnOk, IsTrue, MatchOption};
-ghost use Rattle.sm_syntax.specs.ConflictFree.{ConflictFree, Copy, O, A, B, M, program_of};
-ghost use Rattle.sm_syntax.specs.Copies.{copy_named};
-ghost use Rattle.sm_syntax.specs.Parts.{task_of};
-ghost use Rattle.sm_syntax.specs.Syntax.{Code};
-ghost use Rattle.sm_syntax.specs.Views.{expression_of, statement_of, code_of};
+ghost use Rattle.sm_syntax.specs.claim.ConflictFree.{ConflictFree, Copy, O, A, B, M, program_of};
+ghost use Rattle.sm_syntax.specs.trees.Copies.{copy_named};
+ghost use Rattle.sm_syntax.specs.text.Parts.{task_of};
+ghost use Rattle.sm_syntax.specs.claim.Syntax.{Code};
+ghost use Rattle.sm_syntax.specs.trees.Views.{expression_of, statement_of, code_of};
 ghost use Rattle.sm_task.specs.Tasks.{parts_of, AreFilled};
 ghost use Rattle.sm_commands.specs.Copies.{origin_of, is_copied, with_origin, origins_after};
 ghost use Rattle.sm_commands.specs.Copies.{only_copies, is_lost, is_made_up, broken_clause};

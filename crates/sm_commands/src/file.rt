@@ -70,7 +70,7 @@ pub fn task_in<H: Shelf>(alloc: Global, shelf: &mut H, name: &str) -> Result<Tas
 }
 
 /// The task that bytes spell, of which there are fewer than 2^32.
-#[tactic(auto, using(sm_replay::proofs::Running::spelled_runs))]
+#[tactic(auto, using(sm_replay::proofs::RunnableTasks::spelled_runs))]
 pub fn task_from(alloc: Global, bytes: &[u8]) -> Result<Task, Exit>
     requires { length bytes.now < 2 ^ 32 }
     ensures ok { IfOk result (λ t. Spells bytes.now (parts_of t)) }

@@ -1,5 +1,5 @@
 use Rattle.std.proofs.Common.{◌≢◌, rules}
-use Rattle.sm_replay.proofs.Named.{spelled_found}
+use Rattle.sm_replay.proofs.NamesFound.{spelled_found}
 use Rattle.sm_task.specs.Tasks.{parts_of}
 use Rattle.sm_task.specs.declared.error.TaskError.TheVariants as no_task
 use Rattle.sm_commands.proofs.Answering.{is_no_task}
