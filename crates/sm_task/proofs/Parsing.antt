@@ -1,9 +1,7 @@
 -- What parse_task answers where a condition fails, or where its text does.
 use Rattle.std.proofs.Common.{◌≡◌, inl, inr, refl, sym, ap, ◌∙◌, Option, Some, None, option_map, Result, Err, List, ℕ}
-use Rattle.std.specs.Prelude.{◌≢◌, IfErr, IfSome}
-use Rattle.sm_syntax.specs.text.Conditions.{Refusal, Section, Shared, ListOf, first_refusal}
-use Rattle.sm_syntax.specs.text.Conditions as refusal
-use Rattle.sm_syntax.specs.claim.ConflictFree.{O, A, B, M}
+use Rattle.std.specs.Prelude.{◌≢◌, IfErr}
+use Rattle.sm_syntax.specs.text.Conditions.{Refusal, first_refusal}
 use Rattle.sm_syntax.specs.text.Parts.{Parts}
 use Rattle.sm_syntax.specs.text.Spells.{IsInGrammar}
 use Rattle.sm_text.specs.declared.error.TextError.{TextError}
@@ -12,8 +10,7 @@ use Rattle.sm_text.specs.Places.{AreTasks, IsFirstFault, IsRefusal, whole_text}
 use Rattle.sm_task.specs.declared.error.TaskError.{TaskError}
 use Rattle.sm_task.specs.declared.error.TaskError.TheVariants as error
 use Rattle.sm_task.specs.declared.task.Task.{Task}
-use Rattle.sm_task.specs.Errors.{section_number, section_of, error_of, refusal_of, from_text, IsRefusedBy, IsRefusedWith, IsReadAs, IsRefusedAs}
-use Rattle.sm_task.specs.Places.{text_fault_of}
+use Rattle.sm_task.specs.Errors.{error_of, from_text, IsRefusedBy, IsRefusedWith, IsReadAs, IsRefusedAs}
 
 -- an error of the conditions is that of the first that fails
 abbrev pub Names : Option Refusal → TaskError → Type 0
@@ -38,38 +35,6 @@ module _ (P : TaskError → Type 0) where
   unless_memory error.TooMany m h = h (λ q. cc)
   unless_memory error.Memory m h = m
 
--- a section is the one with its number
-numbered : (s : Section) → section_of (section_number s) ≡ s
-numbered Shared = refl
-numbered (ListOf O) = refl
-numbered (ListOf A) = refl
-numbered (ListOf B) = refl
-numbered (ListOf M) = refl
-
--- the refusal of its error
-pub refused_again : (r : Refusal) → refusal_of (error_of r) ≡ Some r
-refused_again (refusal.DoubleHole s h) = ap (λ (x : Section). Some (refusal.DoubleHole x h)) (numbered s)
-refused_again (refusal.HoleInFilling s h) = ap (λ (x : Section). Some (refusal.HoleInFilling x h)) (numbered s)
-refused_again (refusal.UnknownHole s h) = ap (λ (x : Section). Some (refusal.UnknownHole x h)) (numbered s)
-refused_again (refusal.MissingFilling s h) = ap (λ (x : Section). Some (refusal.MissingFilling x h)) (numbered s)
-refused_again (refusal.DoubleName x) = refl
-refused_again (refusal.UnknownName x) = refl
-refused_again (refusal.WrongSort x) = refl
-refused_again refusal.TooMany = refl
-refused_again refusal.TooDeep = refl
-
--- such an error names no fault of the text
-no_text_fault : (r : Refusal) → text_fault_of (error_of r) ≡ None
-no_text_fault (refusal.DoubleHole s h) = refl
-no_text_fault (refusal.HoleInFilling s h) = refl
-no_text_fault (refusal.UnknownHole s h) = refl
-no_text_fault (refusal.MissingFilling s h) = refl
-no_text_fault (refusal.DoubleName x) = refl
-no_text_fault (refusal.UnknownName x) = refl
-no_text_fault (refusal.WrongSort x) = refl
-no_text_fault refusal.TooMany = refl
-no_text_fault refusal.TooDeep = refl
-
 some_error : (d e : TaskError) → Some d ≡ Some e → e ≡ d
 some_error d e p = cc
 
@@ -92,18 +57,6 @@ module _ {T : Type 0} (bytes : List ℕ) (t u : Parts) (result : Result T TaskEr
   pub refused-err : IfErr result (λ x. x ≢ error.Memory → IsRefusedWith bytes x)
   refused-err = rw (p.1, p.2) (λ (other : e ≢ error.Memory). inr (named other))
 
-  at_condition : e ≢ error.Memory → IfSome (refusal_of e) (IsRefusedBy bytes)
-  at_condition other = let one = named other in rw (one.2, refused_again one.0) one.1
-
-  pub refused-condition : IfErr result (λ x. IfSome (refusal_of x) (IsRefusedBy bytes))
-  refused-condition = rw (p.1, p.2) (unless_memory (λ x. IfSome (refusal_of x) (IsRefusedBy bytes)) e tt at_condition)
-
-  at_place : (P : TextError → Type 0) → e ≢ error.Memory → IfSome (text_fault_of e) P
-  at_place P other = let one = named other in rw (one.2, no_text_fault one.0) tt
-
-  pub refused-place : (P : TextError → Type 0) → IfErr result (λ x. IfSome (text_fault_of x) P)
-  refused-place P = rw (p.1, p.2) (unless_memory (λ x. IfSome (text_fault_of x) P) e tt (at_place P))
-
 -- where no condition fails, want of memory alone is left
 pub valid-fails : (t u : Parts) (result : Result Task TaskError) (e : TaskError) → (y : TaskError) × (result ≡ Err y) ×
     (y ≡ e) → t ≡ u → first_refusal u ≡ None → Names (first_refusal t) e → IsReadAs u result
@@ -125,16 +78,7 @@ none_refusal r e = cc
 pub not_refused : (t u : Parts) (r : Refusal) → t ≡ u → first_refusal u ≡ Some r → first_refusal t ≡ None → ⊥
 not_refused t u r same some none = none_refusal r (sym none ∙ ap first_refusal same ∙ some)
 
--- a fault of the text is passed on as it is
-passed_on : (bytes : List ℕ) (e : TextError) → IsRefusal AreTasks (whole_text bytes) e → IfSome
-    (text_fault_of (from_text e)) (IsFirstFault AreTasks (whole_text bytes))
-passed_on bytes (text.BadByte place) x = x
-passed_on bytes (text.WideNumber place) x = x
-passed_on bytes (text.BadToken place) x = x
-passed_on bytes (text.Expected place) x = x
-passed_on bytes (text.Nested place) x = x
-passed_on bytes text.Memory x = tt
-
+-- a fault of the text is its first one
 first_fault : (bytes : List ℕ) (e : TextError) → IsRefusal AreTasks (whole_text bytes) e → from_text e ≢ error.Memory →
     IsFirstFault AreTasks (whole_text bytes) e
 first_fault bytes (text.BadByte place) x other = x
@@ -147,8 +91,5 @@ first_fault bytes text.Memory x other = absurd (other refl)
 -- the exit at the text
 module _ {T : Type 0} (bytes : List ℕ) (result : Result T TaskError) (e : TextError)
     (p : (y : TaskError) × (result ≡ Err y) × (y ≡ from_text e)) (x : IsRefusal AreTasks (whole_text bytes) e) where
-  pub text_fails-place : IfErr result (λ y. IfSome (text_fault_of y) (IsFirstFault AreTasks (whole_text bytes)))
-  text_fails-place = rw (p.1, p.2) (passed_on bytes e x)
-
   pub text_fails-err : IfErr result (λ y. y ≢ error.Memory → IsRefusedWith bytes y)
   text_fails-err = rw (p.1, p.2) (λ (other : from_text e ≢ error.Memory). inl (e, first_fault bytes e x other, refl))

@@ -1,9 +1,8 @@
 -- Which fault of its text, or which condition, an error of a task names. Public clauses cite it.
-use Rattle.std.specs.Prelude.{◌≡◌, ◌≢◌, ◌⊎◌, ℕ, zero, suc, Option, Some, None}
+use Rattle.std.specs.Prelude.{◌≡◌, ◌≢◌, ◌⊎◌, ℕ, Some}
 use Rattle.std.specs.Prelude.{Result, MatchResult, List}
 use Rattle.sm_syntax.specs.declared.error.SyntaxError.{SyntaxError}
 use Rattle.sm_syntax.specs.declared.error.SyntaxError.TheVariants as fault
-use Rattle.sm_syntax.specs.claim.ConflictFree.{O, A, B, M}
 use Rattle.sm_syntax.specs.trees.Copies.{number_of}
 use Rattle.sm_syntax.specs.text.Conditions as refusal
 use Rattle.sm_syntax.specs.text.Conditions.{Section, Shared, ListOf, Refusal, first_refusal}
@@ -21,32 +20,6 @@ use Rattle.sm_task.specs.Tasks.{parts_of}
 abbrev pub section_number : Section → ℕ
 section_number Shared = 4
 section_number (ListOf c) = number_of c
-
--- the section with a number
-abbrev pub section_of : ℕ → Section
-section_of zero = ListOf O
-section_of (suc zero) = ListOf A
-section_of (suc (suc zero)) = ListOf B
-section_of (suc (suc (suc zero))) = ListOf M
-section_of (suc (suc (suc (suc n)))) = Shared
-
--- the condition that fails, none for a fault of the text and for want of memory
-abbrev pub refusal_of : TaskError → Option Refusal
-refusal_of (error.BadByte place) = None
-refusal_of (error.WideNumber place) = None
-refusal_of (error.BadToken place) = None
-refusal_of (error.Expected place) = None
-refusal_of (error.Nested place) = None
-refusal_of (error.MissingFilling list hole) = Some (refusal.MissingFilling (section_of list) hole)
-refusal_of (error.UnknownHole list hole) = Some (refusal.UnknownHole (section_of list) hole)
-refusal_of (error.DoubleHole list hole) = Some (refusal.DoubleHole (section_of list) hole)
-refusal_of (error.HoleInFilling list hole) = Some (refusal.HoleInFilling (section_of list) hole)
-refusal_of (error.UnknownName x) = Some (refusal.UnknownName x.0)
-refusal_of (error.WrongSort x) = Some (refusal.WrongSort x.0)
-refusal_of (error.DoubleName x) = Some (refusal.DoubleName x.0)
-refusal_of error.TooDeep = Some refusal.TooDeep
-refusal_of error.TooMany = Some refusal.TooMany
-refusal_of error.Memory = None
 
 -- the error for a condition that fails
 abbrev pub error_of : Refusal → TaskError

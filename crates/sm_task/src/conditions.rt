@@ -10,8 +10,7 @@ ghost use Rattle.sm_syntax.specs.claim.ConflictFree.{program_of};
 ghost use Rattle.sm_syntax.specs.trees.Copies.{copy_named};
 ghost use Rattle.sm_syntax.specs.text.Parts.{task_of};
 ghost use Rattle.sm_syntax.specs.trees.Views.{code_of};
-ghost use Rattle.sm_task.specs.Checks.{Reports};
-ghost use Rattle.sm_task.specs.Errors.{section_of};
+ghost use Rattle.sm_task.specs.Checks.{Reports, section_of};
 ghost use Rattle.sm_task.specs.Tasks.{AreFilled, fillings_for, parts_of};
 
 use crate::error::TaskError;

@@ -2,8 +2,7 @@
 //!
 //! - `parse_task` reads exactly the texts that spell a task, all conditions met, each as the one
 //!   task that it spells (`one_task`). Any other text is refused, with one error (`one_refusal`):
-//!   that of the first condition that fails if the grammar has the text, or else of the text's first
-//!   fault.
+//!   that of the first condition that fails if the grammar has the text, or of its first fault.
 //! - `print_task` gives the canonical text of a task, which spells the same task.
 //! - `fill_all` gives the statements of each copy's program: those of the shared program with each
 //!   hole replaced in place. `fill` gives one whole program.

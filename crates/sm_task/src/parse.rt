@@ -1,14 +1,11 @@
 // A text, read as a task.
-ghost use Rattle.std.specs.Prelude.{◌≡◌, ◌≢◌, ◌<◌, ◌^◌, Some, length, IfOk, IfErr, IfSome};
+ghost use Rattle.std.specs.Prelude.{◌≡◌, ◌≢◌, ◌<◌, ◌^◌, Some, length, IfOk, IfErr};
 ghost use Rattle.sm_syntax.specs.text.Conditions.{Refusal, first_refusal};
 ghost use Rattle.sm_syntax.specs.text.Parts.{Parts};
 ghost use Rattle.sm_syntax.specs.text.Spells.{IsInGrammar, Spells};
-ghost use Rattle.sm_task.specs.Errors.{refusal_of, IsRefusedBy, IsRefusedWith};
-ghost use Rattle.sm_task.specs.Errors.{IsReadAs, IsRefusedAs};
-ghost use Rattle.sm_task.specs.Places.{text_fault_of};
+ghost use Rattle.sm_task.specs.Errors.{IsReadAs, IsRefusedAs, IsRefusedWith};
 ghost use Rattle.sm_task.specs.Tasks.{parts_of};
 ghost use Rattle.sm_text.specs.Named.{HasText};
-ghost use Rattle.sm_text.specs.Places.{AreTasks, IsFirstFault, whole_text};
 ghost use Rattle.sm_text.specs.Texts as text;
 
 use crate::conditions::check_conditions;
@@ -27,13 +24,9 @@ pub fn parse_task(alloc: Global, bytes: &[u8]) -> Result<Task, TaskError>
     ensures only { (t : Parts) → Spells bytes.now t → IsReadAs t result }
     // An error names the first fault of the text, or the first condition that fails.
     ensures err { IfErr result (λ e. e ≢ TaskError.Memory → IsRefusedWith bytes.now e) }
-    // A condition is named exactly where it is the first that fails.
-    ensures condition { IfErr result (λ e. IfSome (refusal_of e) (IsRefusedBy bytes.now)) }
+    // The first condition that fails is named.
     ensures refused { (t : Parts) (r : Refusal) → IsInGrammar bytes.now t →
         first_refusal t ≡ Some r → IsRefusedAs r result }
-    // A fault of the text that is named is its first one.
-    ensures place { IfErr result (λ e.
-        IfSome (text_fault_of e) (IsFirstFault AreTasks (whole_text bytes.now))) }
 {
     let task = from_sections(read_sections(alloc, bytes)?);
     check_conditions(alloc, &task)?;

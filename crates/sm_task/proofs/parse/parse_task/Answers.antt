@@ -2,7 +2,7 @@ use Rattle.std.proofs.Common.{sym, ◌∙◌, subst}
 use Rattle.std.proofs.lemmas.Result.{err_from_is_err_and}
 use Rattle.sm_syntax.specs.text.Parts.{Parts}
 use Rattle.sm_syntax.specs.text.Spells.{IsInGrammar}
-use Rattle.sm_task.proofs.Parsing.{refused-err, refused-condition, refused-place, valid-fails, refused-fails, not_refused, text_fails-err, text_fails-place}
+use Rattle.sm_task.proofs.Parsing.{refused-err, valid-fails, refused-fails, not_refused, text_fails-err}
 use Rattle.sm_task.proofs.parse.parse_task.Goals as goal
 
 pub returns-clause-ok : goal.returns-clause-ok
@@ -26,11 +26,6 @@ returns-in_err-read_sections-clause-err c =
     text_fails-err c.args.bytes.now c.from_residual.result _
     (err_from_is_err_and c.from_residual.result c.from_residual.ensures.1) c.in_err-read_sections.ensures.place
 
-pub returns-in_err-read_sections-clause-place : goal.returns-in_err-read_sections-clause-place
-returns-in_err-read_sections-clause-place c =
-    text_fails-place c.args.bytes.now c.from_residual.result _
-    (err_from_is_err_and c.from_residual.result c.from_residual.ensures.1) c.in_err-read_sections.ensures.place
-
 -- the exit at a condition
 pub returns-in_err-check_conditions-clause-only : goal.returns-in_err-check_conditions-clause-only
 returns-in_err-check_conditions-clause-only c t p =
@@ -49,15 +44,3 @@ returns-in_err-check_conditions-clause-err c =
     refused-err c.args.bytes.now _ _ c.from_residual-in_err-check_conditions.result _
     (err_from_is_err_and c.from_residual-in_err-check_conditions.result c.from_residual-in_err-check_conditions.ensures.1)
     c.in_ok-read_sections.ensures.ok c.from_sections-task.ensures c.in_err-check_conditions.ensures
-
-pub returns-in_err-check_conditions-clause-condition : goal.returns-in_err-check_conditions-clause-condition
-returns-in_err-check_conditions-clause-condition c =
-    refused-condition c.args.bytes.now _ _ c.from_residual-in_err-check_conditions.result _
-    (err_from_is_err_and c.from_residual-in_err-check_conditions.result c.from_residual-in_err-check_conditions.ensures.1)
-    c.in_ok-read_sections.ensures.ok c.from_sections-task.ensures c.in_err-check_conditions.ensures
-
-pub returns-in_err-check_conditions-clause-place : goal.returns-in_err-check_conditions-clause-place
-returns-in_err-check_conditions-clause-place c =
-    refused-place c.args.bytes.now _ _ c.from_residual-in_err-check_conditions.result _
-    (err_from_is_err_and c.from_residual-in_err-check_conditions.result c.from_residual-in_err-check_conditions.ensures.1)
-    c.in_ok-read_sections.ensures.ok c.from_sections-task.ensures c.in_err-check_conditions.ensures _
