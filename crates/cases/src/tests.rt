@@ -8,8 +8,10 @@ use sm_replay::{read_input, write_input};
 use sm_syntax::{
     Block, Mark, Name, NameTable, Sort, Symbol, copy_block, depth, nodes, same_block, well_formed,
 };
+use sm_task::{fill, parse_task};
 use sm_text::{
-    TextError, names, parse_block, parse_head, parse_program, print_program, symbols, tokens,
+    TextError, names, parse_block, parse_head, parse_program, print_block, print_cond,
+    print_program, symbols, tokens,
 };
 use std::alloc::Global;
 use std::test::Fail;
@@ -48,6 +50,32 @@ fn a_head_is_read_whatever_stands_behind_it(rt: HostRuntime) -> Result<(), Fail>
         (behind, program.names.len(), assumed.is_some()),
         (19, 1, true)
     );
+    if let Some(c) = &assumed {
+        let out = print_cond(rt.alloc(), &program.names, c)?;
+        assert_eq!(rt; out.as_slice(), b"a[0] < 1".as_slice());
+    }
+    Ok(())
+}
+
+#[test]
+fn a_block_that_is_read_is_printed(rt: HostRuntime) -> Result<(), Fail> {
+    let text = b"{ x=y; while(x<1) { } } /";
+    let mut names = NameTable::new(rt.alloc());
+    let cut = tokens(rt.alloc(), text)?;
+    let (block, _behind) = parse_block(rt.alloc(), text, &cut, 0, 0, &mut names)?;
+    let out = print_block(rt.alloc(), &names, &block, 1)?;
+    let want = "{\n    x = y;\n    while (x < 1) {\n    }\n  }";
+    assert_eq!(rt; out.as_slice(), want.as_bytes());
+    Ok(())
+}
+
+#[test]
+fn one_copy_is_filled(rt: HostRuntime) -> Result<(), Fail> {
+    let text =
+        "var x; output x; shared { ?1; } base { ?1 { } } variant_a { ?1 { x = 7; } } variant_b { ?1 { } } candidate { ?1 { } }";
+    let task = parse_task(rt.alloc(), text.as_bytes())?;
+    let program = fill(rt.alloc(), &task, 1)?;
+    assert!(rt; same_block(&program.body, &block_of(rt.alloc(), "{ x = 7; }")?));
     Ok(())
 }
 
