@@ -9,8 +9,8 @@ use Rattle.sm_syntax.specs.declared.tree.Sort.{Sort}
 use Rattle.sm_syntax.specs.text.Parts.{sort_of}
 use Rattle.sm_syntax.specs.text.Symbols.{is_among, names_of}
 use Rattle.sm_syntax.proofs.Numbering.{slice_get-number}
-use Rattle.sm_text.proofs.Content.{content_declared, content_of_task, task_content}
-use Rattle.sm_text.proofs.ReadsBack.{AllIn, text_content}
+use Rattle.sm_text.proofs.RoundTrip.Content.{content_declared, content_of_task, task_content}
+use Rattle.sm_text.proofs.RoundTrip.Tasks.{AllIn, text_content}
 use Rattle.sm_replay.specs.Laws.{SpelledNamesAreFound}
 use Rattle.sm_replay.specs.InputText.{AreNamed}
 use Rattle.sm_replay.proofs.MembersLemmas.{place_of}

@@ -1,10 +1,10 @@
 -- A text is refused with at most one error, and with none where it spells a task.
 use Rattle.std.proofs.Common.{◌≡◌, inl, inr, sym, ap, ◌∙◌, Option, Some, None}
 use Rattle.sm_syntax.specs.text.Conditions.{Refusal, first_refusal}
-use Rattle.sm_text.proofs.CompleteTasks as text
-use Rattle.sm_text.proofs.Faultless.{no_fault_in_grammar}
-use Rattle.sm_text.proofs.FirstFaultUnique.{one_first_fault}
-use Rattle.sm_text.specs.Places.{AreTasks, whole_text}
+use Rattle.sm_text.proofs.Complete.Tasks as text
+use Rattle.sm_text.proofs.FirstFault.Faultless.{no_fault_in_grammar}
+use Rattle.sm_text.proofs.FirstFault.Unique.{one_first_fault}
+use Rattle.sm_text.specs.parsing.Places.{AreTasks, whole_text}
 use Rattle.sm_task.specs.Errors.{error_of, from_text}
 use Rattle.sm_task.specs.Laws.{OneCondition, FaultOrCondition, OneRefusal, TaskOrRefusal}
 

@@ -5,8 +5,8 @@ ghost use Rattle.sm_syntax.specs.text.Parts.{Parts};
 ghost use Rattle.sm_syntax.specs.text.Spells.{IsInGrammar, Spells};
 ghost use Rattle.sm_task.specs.Errors.{IsReadAs, IsRefusedAs, IsRefusedWith};
 ghost use Rattle.sm_task.specs.Tasks.{parts_of};
-ghost use Rattle.sm_text.specs.Named.{HasText};
-ghost use Rattle.sm_text.specs.Texts as text;
+ghost use Rattle.sm_text.specs.printing.Named.{HasText};
+ghost use Rattle.sm_text.specs.parsing.Text as text;
 
 use crate::conditions::check_conditions;
 use crate::error::TaskError;

@@ -2,9 +2,9 @@
 ghost use Rattle.std.specs.Prelude.{◌≡◌, IfOk};
 ghost use Rattle.sm_syntax.specs.text.Spells.{Spells};
 ghost use Rattle.sm_task.specs.Tasks.{parts_of};
-ghost use Rattle.sm_text.specs.Canonical.{task_pieces};
-ghost use Rattle.sm_text.specs.Named.{HasText};
-ghost use Rattle.sm_text.specs.Pieces.{text_of};
+ghost use Rattle.sm_text.specs.printing.Canonical.{task_pieces};
+ghost use Rattle.sm_text.specs.printing.Named.{HasText};
+ghost use Rattle.sm_text.specs.printing.Pieces.{text_of};
 
 use crate::task::Task;
 use sm_text::print_sections;

@@ -9,8 +9,9 @@ use Rattle.sm_syntax.specs.text.Parts.{Parts}
 use Rattle.sm_syntax.specs.text.Spells.{IsInGrammar, Spells}
 use Rattle.sm_syntax.specs.text.Tokens.{lexed}
 use Rattle.sm_text.specs.declared.error.TextError.{TextError}
-use Rattle.sm_text.specs.Cutting.{IsCutInto}
-use Rattle.sm_text.specs.Places.{Grammar, Source, AreTasks, IsFault, IsFirstFault, whole_text}
+use Rattle.sm_text.specs.lexing.Cutting.{IsCutInto}
+use Rattle.sm_text.specs.parsing.Places.{Grammar, Source, AreTasks, IsFault}
+use Rattle.sm_text.specs.parsing.Places.{IsFirstFault, whole_text}
 
 -- a text is in the grammar by at most one task
 abbrev pub OneTask : Type 0

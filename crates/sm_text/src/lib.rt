@@ -1,7 +1,7 @@
 //! The text of a task, read and printed: tokens, then symbols, then the rules of the grammar.
 //!
 //! - `tokens` cuts a text into exactly its tokens, up to its first lexical fault.
-//!   `tokens_are_cut` is the law that says them a second way (`specs/Cutting.antt`).
+//!   `tokens_are_cut` is the law that says them a second way (`specs/lexing/Cutting.antt`).
 //! - `symbols` and `names` give what the grammar sees of them, with names numbered by first
 //!   appearance.
 //! - `read_sections` reads exactly the texts that the grammar spells, where nothing nests too deep,
@@ -14,44 +14,35 @@
 //!   task's spells the task again; the others do where what is printed is no deeper than 64. What
 //!   `parse_program`, `parse_head` and `parse_block` give can be printed.
 //! - Laws: the grammar spells at most one task by a text (`one_task`) and numbers what it declares
-//!   in order (`declared_in_order`), a text in the grammar has no fault (`no_fault_in_grammar`), and
-//!   any other text has one first fault (`one_first_fault`).
+//!   in order (`declared_in_order`), a text in the grammar has no fault (`no_fault_in_grammar`),
+//!   and any other text has one first fault (`one_first_fault`).
 //!
-//! What is read stands in `specs/` of `sm_syntax`, which fault is the first in `specs/Places.antt`
-//! here, and what is printed in `specs/Canonical.antt`. `specs/Reading.antt` has the parsers that
-//! the code follows. The first line of each file in `specs/` says whether public clauses cite it.
+//! The folders are the steps of the way: `lexing` from bytes to tokens, `resolving` from tokens to
+//! symbols, `rules` from symbols to trees, `parsing` from a text to what it spells, and `printing`
+//! back to text. `src`, `specs` and the proofs of functions have the same folders.
+//!
+//! What is read stands in `specs/` of `sm_syntax`, which fault is the first in
+//! `specs/parsing/Places.antt` here, and what is printed in `specs/printing/Canonical.antt`.
+//! `specs/rules` has the parsers that the code follows. The first line of each file in `specs/`
+//! says whether public clauses cite it.
 #![tactic(auto)]
 
-mod conditions;
 mod error;
-mod expressions;
-mod front;
 mod laws;
-mod lexer;
-mod marks;
-mod prefix;
-mod print;
-mod program;
-mod put;
-mod put_sections;
-mod put_statements;
-mod reading;
-mod resolve;
+mod lexing;
+mod parsing;
+mod printing;
+mod resolving;
 mod rules;
-mod sections;
-mod statements;
-mod symbol_list;
-mod text;
-mod token_list;
 
 pub use error::TextError;
 pub use laws::{declared_in_order, no_fault_in_grammar, one_first_fault, one_task, tokens_are_cut};
-pub use lexer::tokens;
-pub use prefix::{parse_block, parse_head};
-pub use print::{print_block, print_cond, print_program, print_sections};
-pub use program::parse_program;
-pub use resolve::{names, symbols};
-pub use sections::Head;
-pub use symbol_list::Symbols;
-pub use text::{Sections, read_sections};
-pub use token_list::Tokens;
+pub use lexing::lexer::tokens;
+pub use lexing::token_list::Tokens;
+pub use parsing::prefix::{parse_block, parse_head};
+pub use parsing::program::parse_program;
+pub use parsing::text::{Sections, read_sections};
+pub use printing::print::{print_block, print_cond, print_program, print_sections};
+pub use resolving::resolve::{names, symbols};
+pub use resolving::symbol_list::Symbols;
+pub use rules::sections::Head;

@@ -1,4 +1,4 @@
-use Rattle.sm_text.proofs.CompleteTasks as text
+use Rattle.sm_text.proofs.Complete.Tasks as text
 use Rattle.sm_task.proofs.laws.one_task.Goals as goal
 
 pub returns : goal.returns

@@ -1,0 +1,9 @@
+-- What is read of the first tokens of a text, whatever stands behind them.
+pub mod Sound
+pub mod Exact
+pub mod FirstTokens
+pub mod Judged
+pub mod BlockEnds
+pub mod FewerGroups
+pub mod Spaced
+pub mod HeadText

@@ -1,0 +1,105 @@
+-- The parsers of heads and blocks read exactly what the grammar spells.
+use Rattle.std.proofs.Common.{◌≡◌, ℕ, suc, ◌-◌, refl, sym, ap, ap₂, ◌∙◌, subst, arith, Bool, true, false, Ok, List, [], ◌∷◌, ◌++◌, map}
+use Rattle.std.specs.Prelude.{nat_le}
+use Rattle.std.proofs.lemmas.Bool.Decides.{nat_tests}
+use Rattle.std.proofs.lemmas.List.{append-nil}
+use Rattle.sm_syntax.specs.declared.symbol.Mark.TheVariants as mark
+use Rattle.sm_syntax.specs.declared.symbol.Symbol.{Symbol}
+use Rattle.sm_syntax.specs.declared.symbol.Symbol.TheVariants as s
+use Rattle.sm_syntax.specs.claim.ConflictFree.{Copy}
+use Rattle.sm_syntax.specs.text.Grammar as g
+use Rattle.sm_syntax.specs.text.Grammar.{Marked, plain, word, IsBlock}
+use Rattle.sm_syntax.specs.text.Parts.{Parts}
+use Rattle.sm_syntax.specs.text.Symbols.{names_after}
+use Rattle.sm_syntax.specs.claim.Syntax as plain_code
+use Rattle.sm_syntax.specs.claim.Syntax.{Code}
+use Rattle.sm_syntax.specs.text.Tokens.{lexed}
+use Rattle.sm_text.specs.rules.Parsers.{Parser, pure}
+use Rattle.sm_text.specs.parsing.Places.{unmarked}
+use Rattle.sm_text.specs.parsing.Prefix.{between, HeadParts, IsHead, head, SpellsHead}
+use Rattle.sm_text.specs.rules.Reading as r
+use Rattle.sm_text.proofs.Complete.Parsers.{past, reach, grouped-inside, go_on-pure, unmarked-plain, reach-plain}
+use Rattle.sm_text.proofs.Complete.Statements.{block_read}
+use Rattle.sm_text.proofs.Complete.Tasks.{head-then}
+use Rattle.sm_text.proofs.Sound.Rules.{IsFrontOfTask, braced_told, block_told}
+use Rattle.sm_text.proofs.Prefix.Sound.{ReadsAll}
+use Rattle.sm_text.proofs.Sound.Parsers.{Describes}
+
+-- what a parser does on plain symbols, by what it does on marked ones
+reads_plain : {T : Type 0} (p : Parser T) (ss : List Symbol) (x : T) (z : List Symbol) → p (unmarked (map plain ss) ++ z) ≡ reach (map plain ss) z (Ok (x, z)) → p (ss ++ z) ≡ Ok (x, z)
+reads_plain {T} p ss x z e = ap (λ (l : List Symbol). p (l ++ z)) (sym (unmarked-plain ss)) ∙ e ∙ reach-plain ss z (Ok (x, z))
+
+-- the front of a task that a head is
+abbrev pub front_from : HeadParts → r.Front
+front_from h = record { declared = h.program.declared; outputs = h.program.outputs; assumed = h.assumed; shared = h.program.body }
+
+-- the head that a front is, under names
+abbrev pub head_from : List (List ℕ) → r.Front → HeadParts
+head_from names f = record { program = record { names = names; declared = f.declared; outputs = f.outputs; body = f.shared }; assumed = f.assumed }
+
+pub is_head : (names : List (List ℕ)) (f : r.Front) (us : List Marked) → IsFrontOfTask us f → IsHead us (head_from names f)
+is_head names f us k =
+    let F : List Marked → Type 0 = λ l. IsHead l (head_from names f) in
+    subst F (sym k.parts) (head (head_from names f) k.declared k.named k.assumed k.code)
+
+pub is_front : (h : HeadParts) (us : List Marked) → IsHead us h → IsFrontOfTask us (front_from h)
+is_front h us (head {ts = ts} {us = os} {vs = vs} {ws = ws} it declared named assumed code) = record { ds = ts; os = os; qs = vs; ss = ws; parts = refl; declared = declared; named = named; assumed = assumed; code = code }
+
+-- a head is read, whatever stands behind it
+pub front_read : (us : List Marked) (f : r.Front) → IsFrontOfTask us f → (z : List Symbol) → r.head (unmarked us ++ z) ≡ reach us z (Ok (f, z))
+front_read us f k z =
+    let t : Parts = record { names = []; declared = f.declared; outputs = f.outputs; assumed = f.assumed; shared = f.shared; fillings = λ (c : Copy). [] } in
+    let line : us ≡ k.ds ++ (k.os ++ (k.qs ++ (k.ss ++ []))) = k.parts ∙ ap (λ (l : List Marked). k.ds ++ (k.os ++ (k.qs ++ l))) (sym (append-nil k.ss)) in
+    let F : List Marked → Type 0 = λ l. r.head (unmarked l ++ z) ≡ reach l z (Ok (f, z)) in
+    subst F (sym line) (sym (go_on-pure (r.head (unmarked (k.ds ++ (k.os ++ (k.qs ++ (k.ss ++ [])))) ++ z))) ∙ head-then t [] k.declared k.named k.assumed k.code z pure (Ok (f, z)) refl)
+
+pub head_reads : ReadsAll r.head IsFrontOfTask
+head_reads ss f k z = reads_plain r.head ss f z (front_read (map plain ss) f k z)
+
+-- two heads that the first tokens of a text spell are one
+pub head_same : (bytes : List ℕ) (m n : ℕ) (names : List (List ℕ)) (f : r.Front) (h : HeadParts) → SpellsHead bytes m (head_from names f) → SpellsHead bytes n h → (f ≡ front_from h) × (m ≡ n) → (head_from names f ≡ h) × (m ≡ n)
+head_same bytes m n names f h one two same = (ap₂ head_from texts same.0, same.1)
+  where
+    texts : names ≡ h.program.names
+    texts = one.numbered ∙ ap (λ (k : ℕ). names_after bytes [] (between 0 k (lexed bytes).0)) same.1 ∙ sym two.numbered
+
+-- how many groups may still be opened where d are open
+abbrev pub groups_left : ℕ → ℕ
+groups_left d = 64 - d
+
+-- where all groups are open, a block is refused at its brace
+full_told : (d : ℕ) → nat_le 64 d ≡ true → Describes (r.block 0) (IsBlock d)
+unfolding r.block r.inner_block
+full_told d e = braced_told d (r.inner_block 0) (record { list = []; value = plain_code.End; fits = g.none (suc d) }, e)
+
+-- a block is described whatever number of groups is open
+pub any_block_told : (d : ℕ) → Describes (r.block (groups_left d)) (IsBlock d)
+any_block_told d = by (nat_le 64 d) refl
+  where
+    by : (b : Bool) → nat_le 64 d ≡ b → Describes (r.block (groups_left d)) (IsBlock d)
+    by true e =
+        let none : 0 ≡ groups_left d = grind (arith, nat_tests) in
+        let F : ℕ → Type 0 = λ n. Describes (r.block n) (IsBlock d) in
+        subst F none (full_told d e)
+    by false e = block_told (groups_left d) d (grind (arith, nat_tests))
+
+-- where all groups are open, the grammar's block is refused there too
+full_read : {d : ℕ} {us : List Marked} {c : Code} → IsBlock d us c → nat_le 64 d ≡ true → (z : List Symbol) → r.block 0 (unmarked us ++ z) ≡ reach us z (Ok (c, z))
+unfolding r.block r.braced r.inner_block
+full_read (g.block {d = d} {ts = ts} {c = c} p) deep z =
+    grouped-inside mark.OpenCurly mark.CloseCurly (r.inner_block 0) (unmarked (ts ++ word mark.CloseCurly ∷ []) ++ z)
+    ∙ ap (λ (b : Bool). past b (s.Mark mark.OpenCurly ∷ (unmarked (ts ++ word mark.CloseCurly ∷ []) ++ z)) (reach (ts ++ word mark.CloseCurly ∷ []) z (Ok (c, z)))) (sym deep)
+
+-- a block is read, or refused at the first symbol that nests too deep, whatever number of groups is open
+pub any_block_read : {d : ℕ} {us : List Marked} {c : Code} → IsBlock d us c → (z : List Symbol) → r.block (groups_left d) (unmarked us ++ z) ≡ reach us z (Ok (c, z))
+any_block_read {d} {us} {c} k z = by (nat_le 64 d) refl
+  where
+    by : (b : Bool) → nat_le 64 d ≡ b → r.block (groups_left d) (unmarked us ++ z) ≡ reach us z (Ok (c, z))
+    by true e =
+        let none : 0 ≡ groups_left d = grind (arith, nat_tests) in
+        let F : ℕ → Type 0 = λ n. r.block n (unmarked us ++ z) ≡ reach us z (Ok (c, z)) in
+        subst F none (full_read k e z)
+    by false e = block_read k (groups_left d) (grind (arith, nat_tests)) z
+
+pub block_reads : (d : ℕ) → ReadsAll (r.block (groups_left d)) (IsBlock d)
+block_reads d ss c k z = reads_plain (r.block (groups_left d)) ss c z (any_block_read k z)

@@ -1,0 +1,317 @@
+-- The grammar spells code by its canonical symbols.
+use Rattle.std.proofs.Common.{◌≡◌, ℕ, suc, ◌+◌, ◌<◌, ◌≤◌, Bool, true, false, max, List, [], ◌∷◌, ◌++◌, map, nat_le, refl, sym, ap, subst, ◌∙◌, append_assoc, arith}
+use Rattle.std.proofs.lemmas.Bool.Decides.{nat_tests}
+use Rattle.sm_syntax.specs.declared.symbol.Mark.{Mark}
+use Rattle.sm_syntax.specs.declared.symbol.Mark.TheVariants as mark
+use Rattle.sm_syntax.specs.declared.symbol.Symbol.TheVariants as s
+use Rattle.sm_syntax.specs.claim.Syntax.{Expression, Lit, Var, Read, Neg, Plus, Minus, Times, Condition, Yes, No, Compare, Not, And, Or, Code, End, Skip, Assign, Write, If, While, Hole}
+use Rattle.sm_syntax.specs.text.Conditions.{expression_depth, condition_depth}
+use Rattle.sm_syntax.specs.text.Grammar as g
+use Rattle.sm_syntax.specs.text.Grammar.{Marked, plain, opens, joins, Atom, Unary, Product, Sum, IsExpression, comparison, Test, Literal, Conjunction, Disjunction, IsCondition, IsHoleNumber, AreStatements, IsBlock}
+use Rattle.sm_text.specs.printing.Pieces.{Piece, Token, Gap, symbols_in, word, name, space, line_end, deeper, line}
+use Rattle.sm_text.specs.printing.Canonical.{between, is_atom, operand, element_pieces, expression_pieces, is_test, part, condition_pieces, braces, branches, guard_pieces, code_pieces}
+
+-- the symbols of pieces, none of which nests too deep
+abbrev pub marked : List Piece → List Marked
+marked ps = map plain (symbols_in ps)
+
+pub marked-append : (ps qs : List Piece) → marked (ps ++ qs) ≡ marked ps ++ marked qs
+marked-append [] qs = refl
+marked-append (Token t ∷ ps) qs = ap (λ (l : List Marked). plain t ∷ l) (marked-append ps qs)
+marked-append (Gap bytes ∷ ps) qs = marked-append ps qs
+
+-- pieces before pieces, before more symbols
+pub marked_then : (ps qs : List Piece) (us : List Marked) → marked (ps ++ qs) ++ us ≡ marked ps ++ (marked qs ++ us)
+marked_then ps qs us = ap (λ (l : List Marked). l ++ us) (marked-append ps qs) ∙ append_assoc (marked ps) (marked qs) us
+
+-- a line before more pieces
+pub marked-line : (margin : List ℕ) (ps qs : List Piece) → marked (line margin ps ++ qs) ≡ marked ps ++ marked qs
+marked-line margin ps qs =
+    marked-append (ps ++ line_end ∷ []) qs ∙ marked_then ps (line_end ∷ []) (marked qs)
+
+-- a sign that opens a group where fewer than 64 are open
+pub opens_is : (m : Mark) (d : ℕ) → d < 64 → opens m d ≡ plain (s.Mark m)
+opens_is m d few =
+    let narrow : nat_le 64 d ≡ false = grind (arith, nat_tests) in
+    ap (λ (b : Bool). (s.Mark m, b)) narrow
+
+-- a group of pieces between two signs
+grouped : (first last : Mark) (d : ℕ) (ps : List Piece) → d < 64 → opens first d ∷ (marked ps ++ g.word last ∷ []) ≡ marked (word first ∷ (ps ++ word last ∷ []))
+grouped first last d ps few =
+    ap (λ (t : Marked). t ∷ (marked ps ++ g.word last ∷ [])) (opens_is first d few) ∙
+    ap (λ (l : List Marked). plain (s.Mark first) ∷ l) (sym (marked-append ps (word last ∷ [])))
+
+-- how many reads stand in each other
+abbrev pub reads : Expression → ℕ
+reads (Lit z) = 0
+reads (Var x) = 0
+reads (Read a i) = 1 + reads i
+reads (Neg e) = reads e
+reads (Plus d e) = max (reads d) (reads e)
+reads (Minus d e) = max (reads d) (reads e)
+reads (Times d e) = max (reads d) (reads e)
+
+-- where d groups are open, an expression's canonical symbols nest nowhere too deep
+pub record Fits (d : ℕ) (e : Expression) : Type 0 where
+  pub depth : d + expression_depth e ≤ 66
+  pub reads : d + reads e ≤ 64
+
+pub reads-depth : (e : Expression) → reads e + 1 ≤ expression_depth e
+reads-depth (Lit z) = omega arith
+reads-depth (Var x) = omega arith
+reads-depth (Read a i) = omega (arith, reads-depth i)
+reads-depth (Neg e) = omega (arith, reads-depth e)
+reads-depth (Plus d e) = omega (arith, reads-depth d, reads-depth e)
+reads-depth (Minus d e) = omega (arith, reads-depth d, reads-depth e)
+reads-depth (Times d e) = omega (arith, reads-depth d, reads-depth e)
+
+-- what isn't an atom is deeper
+pub reads-compound : (e : Expression) → is_atom e ≡ false → reads e + 2 ≤ expression_depth e
+reads-compound (Lit z) h = cc
+reads-compound (Var x) h = cc
+reads-compound (Read a i) h = cc
+reads-compound (Neg e) h = omega (arith, reads-depth e)
+reads-compound (Plus d e) h = omega (arith, reads-depth d, reads-depth e)
+reads-compound (Minus d e) h = omega (arith, reads-depth d, reads-depth e)
+reads-compound (Times d e) h = omega (arith, reads-depth d, reads-depth e)
+
+-- the grammar spells the expression by its canonical symbols
+pub record IsShown (d : ℕ) (e : Expression) : Type 0 where
+  pub chain : ℕ
+  pub sum : IsExpression Sum d chain (marked (expression_pieces e)) e
+  pub atom : is_atom e ≡ true → IsExpression Atom d 0 (marked (expression_pieces e)) e
+
+as_sum : {d : ℕ} {ts : List Marked} {e : Expression} → IsExpression Atom d 0 ts e → IsExpression Sum d 0 ts e
+as_sum i = g.as_sum (g.as_product (g.as_unary i))
+
+as_product : {d : ℕ} {ts : List Marked} {e : Expression} → IsExpression Atom d 0 ts e → IsExpression Product d 0 ts e
+as_product i = g.as_product (g.as_unary i)
+
+-- an operand
+operand_shown : (b : Bool) (e : Expression) (d : ℕ) → is_atom e ≡ b → 1 + d + expression_depth e ≤ 66 → d + reads e ≤ 64 → ((j : ℕ) → Fits j e → IsShown j e) →
+    IsExpression Atom d 0 (marked (operand b (expression_pieces e))) e
+operand_shown true e d is depth read shows = (shows d (record { depth = omega arith; reads = read })).atom is
+operand_shown false e d is depth read shows =
+    let deep = reads-compound e is in
+    let F : List Marked → Type 0 = λ l. IsExpression Atom d 0 l e in
+    let inner = shows (suc d) (record { depth = omega arith; reads = omega (arith, deep) }) in
+    subst F (grouped mark.OpenRound mark.CloseRound d (expression_pieces e) (omega (arith, deep))) (g.group inner.sum)
+
+-- two parts with an operator between them
+marked-between : (ps : List Piece) (m : Mark) (qs : List Piece) → marked (between ps m qs) ≡ marked ps ++ g.word m ∷ marked qs
+marked-between ps m qs = marked-append ps (space ∷ word m ∷ space ∷ qs)
+
+pub shown : (e : Expression) (d : ℕ) → Fits d e → IsShown d e
+shown (Lit z) d fits = record { chain = 0; sum = as_sum (g.number d z); atom = λ _. g.number d z }
+shown (Var x) d fits = record { chain = 0; sum = as_sum (g.variable d (record { 0 = x })); atom = λ _. g.variable d (record { 0 = x }) }
+shown (Read a i) d fits =
+    let inner = shown i (suc d) (record { depth = omega (arith, fits.depth); reads = omega (arith, fits.reads) }) in
+    let F : List Marked → Type 0 = λ l. IsExpression Atom d 0 (plain (s.Name (record { 0 = a })) ∷ l) (Read a i) in
+    let it = subst F (grouped mark.OpenSquare mark.CloseSquare d (expression_pieces i) (omega (arith, fits.reads))) (g.element (record { 0 = a }) inner.sum) in
+    record { chain = 0; sum = as_sum it; atom = λ _. it }
+shown (Neg e) d fits =
+    let part = operand_shown (is_atom e) e d refl (omega (arith, fits.depth)) fits.reads (shown e) in
+    record { chain = 0; sum = g.as_sum (g.as_product (g.negative part)); atom = λ h. cc }
+shown (Plus e f) d fits =
+    let left = operand_shown (is_atom e) e d refl (omega (arith, fits.depth)) (omega (arith, fits.reads)) (shown e) in
+    let right = operand_shown (is_atom f) f d refl (omega (arith, fits.depth)) (omega (arith, fits.reads)) (shown f) in
+    let F : List Marked → Type 0 = λ l. IsExpression Sum d 1 l (Plus e f) in
+    record {
+      chain = 1;
+      sum = subst F (sym (marked-between (operand (is_atom e) (expression_pieces e)) mark.Plus (operand (is_atom f) (expression_pieces f)))) (g.plus (as_sum left) (as_product right));
+      atom = λ h. cc;
+    }
+shown (Minus e f) d fits =
+    let left = operand_shown (is_atom e) e d refl (omega (arith, fits.depth)) (omega (arith, fits.reads)) (shown e) in
+    let right = operand_shown (is_atom f) f d refl (omega (arith, fits.depth)) (omega (arith, fits.reads)) (shown f) in
+    let F : List Marked → Type 0 = λ l. IsExpression Sum d 1 l (Minus e f) in
+    record {
+      chain = 1;
+      sum = subst F (sym (marked-between (operand (is_atom e) (expression_pieces e)) mark.Minus (operand (is_atom f) (expression_pieces f)))) (g.minus (as_sum left) (as_product right));
+      atom = λ h. cc;
+    }
+shown (Times e f) d fits =
+    let left = operand_shown (is_atom e) e d refl (omega (arith, fits.depth)) (omega (arith, fits.reads)) (shown e) in
+    let right = operand_shown (is_atom f) f d refl (omega (arith, fits.depth)) (omega (arith, fits.reads)) (shown f) in
+    let F : List Marked → Type 0 = λ l. IsExpression Product d 1 l (Times e f) in
+    record {
+      chain = 0;
+      sum = g.as_sum (subst F (sym (marked-between (operand (is_atom e) (expression_pieces e)) mark.Star (operand (is_atom f) (expression_pieces f)))) (g.times (as_product left) (g.as_unary right)));
+      atom = λ h. cc;
+    }
+
+-- how many reads stand in each other, in a condition
+abbrev pub reads_tested : Condition → ℕ
+reads_tested Yes = 0
+reads_tested No = 0
+reads_tested (Compare op d e) = max (reads d) (reads e)
+reads_tested (Not b) = reads_tested b
+reads_tested (And b c) = max (reads_tested b) (reads_tested c)
+reads_tested (Or b c) = max (reads_tested b) (reads_tested c)
+
+-- the same of a condition
+pub record FitsTest (d : ℕ) (b : Condition) : Type 0 where
+  pub depth : d + condition_depth b ≤ 66
+  pub reads : d + reads_tested b ≤ 64
+
+pub reads_tested-depth : (b : Condition) → reads_tested b + 1 ≤ condition_depth b
+reads_tested-depth Yes = omega arith
+reads_tested-depth No = omega arith
+reads_tested-depth (Compare op d e) = omega (arith, reads-depth d, reads-depth e)
+reads_tested-depth (Not b) = omega (arith, reads_tested-depth b)
+reads_tested-depth (And b c) = omega (arith, reads_tested-depth b, reads_tested-depth c)
+reads_tested-depth (Or b c) = omega (arith, reads_tested-depth b, reads_tested-depth c)
+
+pub reads_tested-compound : (b : Condition) → is_test b ≡ false → reads_tested b + 2 ≤ condition_depth b
+reads_tested-compound Yes h = cc
+reads_tested-compound No h = cc
+reads_tested-compound (Compare op d e) h = cc
+reads_tested-compound (Not b) h = omega (arith, reads_tested-depth b)
+reads_tested-compound (And b c) h = omega (arith, reads_tested-depth b, reads_tested-depth c)
+reads_tested-compound (Or b c) h = omega (arith, reads_tested-depth b, reads_tested-depth c)
+
+-- the grammar spells the condition by its canonical symbols
+pub record IsTold (d : ℕ) (b : Condition) : Type 0 where
+  pub chain : ℕ
+  pub whole : IsCondition Disjunction d chain (marked (condition_pieces b)) b
+  pub test : is_test b ≡ true → IsCondition Test d 0 (marked (condition_pieces b)) b
+
+as_whole : {d : ℕ} {ts : List Marked} {b : Condition} → IsCondition Test d 0 ts b → IsCondition Disjunction d 0 ts b
+as_whole i = g.as_disjunction (g.as_conjunction (g.as_literal i))
+
+-- a part of a condition
+part_told : (t : Bool) (b : Condition) (d : ℕ) → is_test b ≡ t → 1 + d + condition_depth b ≤ 66 → d + reads_tested b ≤ 64 → ((j : ℕ) → FitsTest j b → IsTold j b) →
+    IsCondition Test d 0 (marked (part t (condition_pieces b))) b
+part_told true b d is depth read tells = (tells d (record { depth = omega arith; reads = read })).test is
+part_told false b d is depth read tells =
+    let deep = reads_tested-compound b is in
+    let F : List Marked → Type 0 = λ l. IsCondition Test d 0 l b in
+    let inner = tells (suc d) (record { depth = omega arith; reads = omega (arith, deep) }) in
+    subst F (grouped mark.OpenSquare mark.CloseSquare d (condition_pieces b) (omega (arith, deep))) (g.group inner.whole)
+
+pub told : (b : Condition) (d : ℕ) → FitsTest d b → IsTold d b
+told Yes d fits = record { chain = 0; whole = as_whole (g.always d); test = λ _. g.always d }
+told No d fits = record { chain = 0; whole = as_whole (g.never d); test = λ _. g.never d }
+told (Compare op e f) d fits =
+    let left = shown e d (record { depth = omega (arith, fits.depth); reads = omega (arith, fits.reads) }) in
+    let right = shown f d (record { depth = omega (arith, fits.depth); reads = omega (arith, fits.reads) }) in
+    let F : List Marked → Type 0 = λ l. IsCondition Test d 0 l (Compare op e f) in
+    let it = subst F (sym (marked-between (expression_pieces e) (comparison op) (expression_pieces f))) (g.compares op left.sum right.sum) in
+    record { chain = 0; whole = as_whole it; test = λ _. it }
+told (Not b) d fits =
+    let inner = part_told (is_test b) b d refl (omega (arith, fits.depth)) fits.reads (told b) in
+    record { chain = 0; whole = g.as_disjunction (g.as_conjunction (g.denied inner)); test = λ h. cc }
+told (And b c) d fits =
+    let left = part_told (is_test b) b d refl (omega (arith, fits.depth)) (omega (arith, fits.reads)) (told b) in
+    let right = part_told (is_test c) c d refl (omega (arith, fits.depth)) (omega (arith, fits.reads)) (told c) in
+    let F : List Marked → Type 0 = λ l. IsCondition Conjunction d 1 l (And b c) in
+    record {
+      chain = 0;
+      whole = g.as_disjunction (subst F (sym (marked-between (part (is_test b) (condition_pieces b)) mark.Both (part (is_test c) (condition_pieces c)))) (g.both (g.as_conjunction (g.as_literal left)) (g.as_literal right)));
+      test = λ h. cc;
+    }
+told (Or b c) d fits =
+    let left = part_told (is_test b) b d refl (omega (arith, fits.depth)) (omega (arith, fits.reads)) (told b) in
+    let right = part_told (is_test c) c d refl (omega (arith, fits.depth)) (omega (arith, fits.reads)) (told c) in
+    let F : List Marked → Type 0 = λ l. IsCondition Disjunction d 1 l (Or b c) in
+    record {
+      chain = 1;
+      whole = subst F (sym (marked-between (part (is_test b) (condition_pieces b)) mark.Either (part (is_test c) (condition_pieces c)))) (g.either (as_whole left) (g.as_conjunction (g.as_literal right)));
+      test = λ h. cc;
+    }
+
+-- where d groups are open, the canonical symbols of code nest nowhere too deep, and its holes have numbers
+abbrev pub IsPrintable : ℕ → Code → Type 0
+IsPrintable d End = Unit {0}
+IsPrintable d (Skip k) = IsPrintable d k
+IsPrintable d (Assign x e k) = Fits d e × IsPrintable d k
+IsPrintable d (Write a i e k) = (d < 64) × Fits (suc d) i × Fits d e × IsPrintable d k
+IsPrintable d (If b c e k) = (d < 64) × FitsTest (suc d) b × IsPrintable (suc d) c × IsPrintable (suc d) e × IsPrintable d k
+IsPrintable d (While b c k) = (d < 64) × FitsTest (suc d) b × IsPrintable (suc d) c × IsPrintable d k
+IsPrintable d (Hole h k) = IsHoleNumber h × IsPrintable d k
+
+-- lines in braces
+pub block_shown : (d : ℕ) (c : Code) (margin : List ℕ) (ps : List Piece) → d < 64 → AreStatements (suc d) (marked ps) c → IsBlock d (marked (braces margin ps)) c
+unfolding braces
+block_shown d c margin ps few inside =
+    let F : List Marked → Type 0 = λ l. IsBlock d l c in
+    let line : opens mark.OpenCurly d ∷ (marked ps ++ g.word mark.CloseCurly ∷ []) ≡ marked (braces margin ps) =
+    ap (λ (t : Marked). t ∷ (marked ps ++ g.word mark.CloseCurly ∷ [])) (opens_is mark.OpenCurly d few) ∙
+    ap (λ (l : List Marked). plain (s.Mark mark.OpenCurly) ∷ l) (sym (marked-append ps (Gap margin ∷ word mark.CloseCurly ∷ []))) in
+    subst F line (g.block inside)
+
+-- a guard before more symbols
+marked-guard : (b : Condition) (d : ℕ) (us : List Marked) → d < 64 →
+    opens mark.OpenRound d ∷ (marked (condition_pieces b) ++ g.word mark.CloseRound ∷ us) ≡ marked (guard_pieces b) ++ us
+unfolding guard_pieces
+marked-guard b d us few =
+    ap (λ (t : Marked). t ∷ (marked (condition_pieces b) ++ g.word mark.CloseRound ∷ us)) (opens_is mark.OpenRound d few) ∙
+    ap (λ (l : List Marked). plain (s.Mark mark.OpenRound) ∷ l) (sym (marked_then (condition_pieces b) (word mark.CloseRound ∷ space ∷ []) us))
+
+-- two branches before more symbols
+marked-branches : (ps qs : List Piece) (us : List Marked) → marked ps ++ g.word mark.Else ∷ (marked qs ++ us) ≡ marked (branches ps qs) ++ us
+unfolding branches
+marked-branches ps qs us = sym (marked_then ps (space ∷ word mark.Else ∷ space ∷ qs) us)
+
+-- an element before more symbols
+marked-element : (a d : ℕ) (ps : List Piece) (us : List Marked) → d < 64 →
+    plain (s.Name (record { 0 = a })) ∷ opens mark.OpenSquare d ∷ (marked ps ++ g.word mark.CloseSquare ∷ us) ≡ marked (element_pieces a ps) ++ us
+marked-element a d ps us few =
+    ap (λ (t : Marked). plain (s.Name (record { 0 = a })) ∷ t ∷ (marked ps ++ g.word mark.CloseSquare ∷ us)) (opens_is mark.OpenSquare d few) ∙
+    ap (λ (l : List Marked). plain (s.Name (record { 0 = a })) ∷ plain (s.Mark mark.OpenSquare) ∷ l) (sym (marked_then ps (word mark.CloseSquare ∷ []) us))
+
+-- the grammar spells the code by its canonical symbols
+pub code_shown : (c : Code) (margin : List ℕ) (d : ℕ) → IsPrintable d c → AreStatements d (marked (code_pieces margin c)) c
+code_shown End margin d fits = g.none d
+code_shown (Skip k) margin d fits =
+    g.skips (code_shown k margin d fits)
+code_shown (Assign x e k) margin d fits =
+    let ps = expression_pieces e in
+    let us = marked (code_pieces margin k) in
+    let F : List Marked → Type 0 = λ l. AreStatements d l (Assign x e k) in
+    let front = name x ∷ space ∷ word mark.Becomes ∷ space ∷ (ps ++ word mark.Semicolon ∷ []) in
+    let line : plain (s.Name (record { 0 = x })) ∷ g.word mark.Becomes ∷ (marked ps ++ g.word mark.Semicolon ∷ us) ≡ marked (code_pieces margin (Assign x e k)) =
+    ap (λ (l : List Marked). plain (s.Name (record { 0 = x })) ∷ g.word mark.Becomes ∷ l) (sym (marked_then ps (word mark.Semicolon ∷ []) us)) ∙
+    sym (marked-line margin front (code_pieces margin k)) in
+    subst F line (g.assigns (record { 0 = x }) (shown e d fits.0).sum (code_shown k margin d fits.1))
+code_shown (Write a i e k) margin d fits =
+    let ps = expression_pieces i in
+    let qs = expression_pieces e in
+    let us = marked (code_pieces margin k) in
+    let F : List Marked → Type 0 = λ l. AreStatements d l (Write a i e k) in
+    let value = space ∷ word mark.Becomes ∷ space ∷ (qs ++ word mark.Semicolon ∷ []) in
+    let behind = g.word mark.Becomes ∷ (marked qs ++ g.word mark.Semicolon ∷ us) in
+    let same : behind ≡ marked value ++ us = ap (λ (l : List Marked). g.word mark.Becomes ∷ l) (sym (marked_then qs (word mark.Semicolon ∷ []) us)) in
+    let line : plain (s.Name (record { 0 = a })) ∷ opens mark.OpenSquare d ∷ (marked ps ++ g.word mark.CloseSquare ∷ behind) ≡ marked (code_pieces margin (Write a i e k)) =
+    marked-element a d ps behind fits.0 ∙
+    ap (λ (l : List Marked). marked (element_pieces a ps) ++ l) same ∙
+    sym (marked_then (element_pieces a ps) value us) ∙
+    sym (marked-line margin (element_pieces a ps ++ value) (code_pieces margin k)) in
+    subst F line (g.writes (record { 0 = a }) (shown i (suc d) fits.1).sum (shown e d fits.2).sum (code_shown k margin d fits.3))
+code_shown (If b c e k) margin d fits =
+    let us = marked (code_pieces margin k) in
+    let yes_lines = code_pieces (deeper margin) c in
+    let no_lines = code_pieces (deeper margin) e in
+    let choice = branches (braces margin yes_lines) (braces margin no_lines) in
+    let behind = marked (braces margin yes_lines) ++ g.word mark.Else ∷ (marked (braces margin no_lines) ++ us) in
+    let F : List Marked → Type 0 = λ l. AreStatements d l (If b c e k) in
+    let line : g.word mark.If ∷ opens mark.OpenRound d ∷ (marked (condition_pieces b) ++ g.word mark.CloseRound ∷ behind) ≡ marked (code_pieces margin (If b c e k)) =
+    ap (λ (l : List Marked). g.word mark.If ∷ l) (marked-guard b d behind fits.0 ∙
+    ap (λ (l : List Marked). marked (guard_pieces b) ++ l) (marked-branches (braces margin yes_lines) (braces margin no_lines) us) ∙
+    sym (marked_then (guard_pieces b) choice us)) ∙
+    sym (marked-line margin (word mark.If ∷ space ∷ (guard_pieces b ++ choice)) (code_pieces margin k)) in
+    let then = block_shown d c margin yes_lines fits.0 (code_shown c (deeper margin) (suc d) fits.2) in
+    let other = block_shown d e margin no_lines fits.0 (code_shown e (deeper margin) (suc d) fits.3) in
+    subst F line (g.branches (told b (suc d) fits.1).whole then other (code_shown k margin d fits.4))
+code_shown (While b c k) margin d fits =
+    let us = marked (code_pieces margin k) in
+    let lines = code_pieces (deeper margin) c in
+    let behind = marked (braces margin lines) ++ us in
+    let F : List Marked → Type 0 = λ l. AreStatements d l (While b c k) in
+    let line : g.word mark.While ∷ opens mark.OpenRound d ∷ (marked (condition_pieces b) ++ g.word mark.CloseRound ∷ behind) ≡ marked (code_pieces margin (While b c k)) =
+    ap (λ (l : List Marked). g.word mark.While ∷ l) (marked-guard b d behind fits.0 ∙ sym (marked_then (guard_pieces b) (braces margin lines) us)) ∙
+    sym (marked-line margin (word mark.While ∷ space ∷ (guard_pieces b ++ braces margin lines)) (code_pieces margin k)) in
+    let body = block_shown d c margin lines fits.0 (code_shown c (deeper margin) (suc d) fits.2) in
+    subst F line (g.loops (told b (suc d) fits.1).whole body (code_shown k margin d fits.3))
+code_shown (Hole h k) margin d fits =
+    g.holes h fits.0 (code_shown k margin d fits.1)

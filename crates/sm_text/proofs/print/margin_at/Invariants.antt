@@ -1,6 +1,0 @@
-use Rattle.std.proofs.Common.{◌≡◌}
-use Rattle.sm_text.specs.Pieces.{margin_at}
-use Rattle.sm_text.proofs.print.margin_at.Given as goal
-
-abbrev pub invariant-loop-step : goal.invariant-loop-step
-invariant-loop-step l = l.margin.items ≡ margin_at l.step

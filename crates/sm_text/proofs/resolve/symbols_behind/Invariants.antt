@@ -1,5 +1,0 @@
-use Rattle.sm_text.proofs.Naming.{IsRead}
-use Rattle.sm_text.proofs.resolve.symbols_behind.Given as goal
-
-abbrev pub invariant-loop-token : goal.invariant-loop-token
-invariant-loop-token l = IsRead l.bytes l.initial.names l.tokens l.token-index l.names l.list.items

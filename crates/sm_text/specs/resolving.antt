@@ -1,0 +1,3 @@
+-- Tokens to symbols: the texts of tokens, and how names are counted.
+pub mod TokenTexts
+pub mod NameCounts

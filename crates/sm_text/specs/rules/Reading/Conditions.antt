@@ -1,0 +1,97 @@
+-- No public clause cites this file.
+-- How conditions are read, where the rule inside one more group is given.
+use Rattle.std.specs.Prelude.{ℕ, zero, suc, Bool, true, false, if◌then◌else◌, Option, Some, None}
+use Rattle.sm_syntax.specs.declared.symbol.Mark.TheVariants as mark
+use Rattle.sm_syntax.specs.declared.symbol.Symbol.{Symbol}
+use Rattle.sm_syntax.specs.declared.tree.Cmp.{Cmp}
+use Rattle.sm_syntax.specs.declared.tree.Cmp.TheVariants.{Eq, Ne, Lt, Le, Gt, Ge}
+use Rattle.sm_syntax.specs.claim.Syntax as plain
+use Rattle.sm_syntax.specs.claim.Syntax.{Expression, Condition}
+use Rattle.sm_text.specs.declared.rules.reading.FaultKind.TheVariants.{Expected}
+use Rattle.sm_text.specs.rules.Parsers.{first, Parser, ◌>>=◌, ◌>>◌, pure, skip, refuse, stands}
+use Rattle.sm_text.specs.rules.Parsers.{Operators, chain_in, inside}
+use Rattle.sm_text.specs.rules.Reading.Expressions.{chain_limit, expression}
+
+-- the comparison that stands there
+abbrev pub comparison_of : Option Symbol → Option Cmp
+comparison_of o =
+    if stands mark.Equal o then Some Eq else
+    (if stands mark.Unequal o then Some Ne else
+    (if stands mark.Less o then Some Lt else
+    (if stands mark.AtMost o then Some Le else
+    (if stands mark.Greater o then Some Gt else
+    (if stands mark.AtLeast o then Some Ge else None)))))
+
+abbrev pub comparison_if : Option Cmp → Parser Cmp
+comparison_if None = refuse Expected
+comparison_if (Some op) = skip >> pure op
+
+-- the sign of a comparison
+unfoldable pub comparison : Parser Cmp
+comparison ts = comparison_if (comparison_of (first ts)) ts
+
+-- a comparison of two expressions
+unfoldable pub compared : Parser Expression → Parser Condition
+compared value = do
+  d ← value
+  op ← comparison
+  e ← value
+  pure (plain.Compare op d e)
+
+-- a condition in square brackets
+unfoldable pub bracketed : Option (Parser Condition) → Parser Condition
+bracketed deeper = inside deeper mark.CloseSquare
+
+-- a constant, a comparison, or a condition in square brackets
+abbrev pub test_at : Option (Parser Condition) → Parser Expression → Option Symbol →
+    Parser Condition
+test_at deeper value o =
+    if stands mark.True o then skip >> pure plain.Yes else
+    (if stands mark.False o then skip >> pure plain.No else
+    (if stands mark.OpenSquare o then bracketed deeper else compared value))
+
+unfoldable pub test : Option (Parser Condition) → Parser Expression → Parser Condition
+test deeper value ts = test_at deeper value (first ts) ts
+
+-- a test, or one behind an exclamation mark
+abbrev pub literal_by : Option (Parser Condition) → Parser Expression → Bool → Parser Condition
+literal_by deeper value true = skip >> (test deeper value >>= λ b. pure (plain.Not b))
+literal_by deeper value false = test deeper value
+
+unfoldable pub literal : Option (Parser Condition) → Parser Expression → Parser Condition
+literal deeper value ts = literal_by deeper value (stands mark.Bang (first ts)) ts
+
+-- the operator of a conjunction
+abbrev pub conjunction_operators : Operators Condition
+conjunction_operators o = if stands mark.Both o then Some plain.And else None
+
+-- the operator of a disjunction
+abbrev pub disjunction_operators : Operators Condition
+disjunction_operators o = if stands mark.Either o then Some plain.Or else None
+
+-- the literals behind those that were read, of which n more may follow
+unfoldable pub literals : Option (Parser Condition) → Parser Expression → ℕ → Condition →
+    Parser Condition
+literals deeper value n left = chain_in conjunction_operators (literal deeper value) n left
+
+-- a conjunction
+unfoldable pub conjunction : Option (Parser Condition) → Parser Expression → Parser Condition
+conjunction deeper value = literal deeper value >>= λ b. literals deeper value chain_limit b
+
+-- the conjunctions behind those that were read, of which n more may follow
+unfoldable pub conjunctions : Option (Parser Condition) → Parser Expression → ℕ → Condition →
+    Parser Condition
+conjunctions deeper value n left = chain_in disjunction_operators (conjunction deeper value) n left
+
+-- a disjunction: any condition
+unfoldable pub disjunction : Option (Parser Condition) → Parser Expression → Parser Condition
+disjunction deeper value = conjunction deeper value >>= λ b. conjunctions deeper value chain_limit b
+
+-- the rule inside a group, where so many groups may be opened
+unfoldable pub inner_condition : ℕ → Option (Parser Condition)
+inner_condition zero = None
+inner_condition (suc g) = Some (disjunction (inner_condition g) (expression g))
+
+-- a condition, where so many groups may be opened
+unfoldable pub condition : ℕ → Parser Condition
+condition g = disjunction (inner_condition g) (expression g)

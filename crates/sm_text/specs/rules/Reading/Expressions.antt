@@ -1,0 +1,89 @@
+-- No public clause cites this file.
+-- How expressions are read, where the rule inside one more group is given.
+use Rattle.std.specs.Prelude.{ℕ, zero, suc, Bool, true, false, if◌then◌else◌, Option, Some, None}
+use denote.Enum.Bare.{sameb}
+use Rattle.sm_syntax.specs.contracts.symbol.Mark.{the_type}
+use Rattle.sm_syntax.specs.declared.symbol.Mark.TheVariants as mark
+use Rattle.sm_syntax.specs.declared.symbol.Symbol.{Symbol}
+use Rattle.sm_syntax.specs.declared.symbol.Symbol.TheVariants as s
+use Rattle.sm_syntax.specs.declared.tree.Name.{Name}
+use Rattle.sm_syntax.specs.claim.Syntax as plain
+use Rattle.sm_syntax.specs.claim.Syntax.{Expression}
+use Rattle.sm_text.specs.declared.rules.reading.FaultKind.TheVariants.{Expected}
+use Rattle.sm_text.specs.rules.Parsers.{first, Parser, ◌>>=◌, ◌>>◌, pure, peek}
+use Rattle.sm_text.specs.rules.Parsers.{skip, refuse, stands}
+use Rattle.sm_text.specs.rules.Parsers.{Operators, chain_in, inside}
+
+-- how many operators a chain may have
+unfoldable pub chain_limit : ℕ
+chain_limit = 63
+
+-- the index of an element, behind the name of its array
+unfoldable pub index : Option (Parser Expression) → Parser Expression
+index deeper = inside deeper mark.CloseSquare
+
+-- an element or a variable, behind its name
+abbrev pub named_by : Option (Parser Expression) → Name → Bool → Parser Expression
+named_by deeper x true = index deeper >>= λ i. pure (plain.Read x.0 i)
+named_by deeper x false = pure (plain.Var x.0)
+
+unfoldable pub named : Option (Parser Expression) → Name → Parser Expression
+named deeper x ts = named_by deeper x (stands mark.OpenSquare (first ts)) ts
+
+-- an expression in parentheses
+unfoldable pub parenthesized : Option (Parser Expression) → Parser Expression
+parenthesized deeper = inside deeper mark.CloseRound
+
+-- a number, a name, an element, or an expression in parentheses
+abbrev pub atom_by : Option (Parser Expression) → Option Symbol → Parser Expression
+atom_by deeper None = refuse Expected
+atom_by deeper (Some (s.Number z)) = skip >> pure (plain.Lit z)
+atom_by deeper (Some (s.Name x)) = skip >> named deeper x
+atom_by deeper (Some (s.Mark m)) =
+    if sameb the_type m mark.OpenRound then parenthesized deeper else refuse Expected
+
+unfoldable pub atom : Option (Parser Expression) → Parser Expression
+atom deeper = peek >>= atom_by deeper
+
+-- an atom, or one behind a minus sign
+abbrev pub unary_by : Option (Parser Expression) → Bool → Parser Expression
+unary_by deeper true = skip >> (atom deeper >>= λ e. pure (plain.Neg e))
+unary_by deeper false = atom deeper
+
+unfoldable pub unary : Option (Parser Expression) → Parser Expression
+unary deeper ts = unary_by deeper (stands mark.Minus (first ts)) ts
+
+-- the operator of a product
+abbrev pub product_operators : Operators Expression
+product_operators o = if stands mark.Star o then Some plain.Times else None
+
+-- the operators of a sum
+abbrev pub sum_operators : Operators Expression
+sum_operators o =
+    if stands mark.Plus o then Some plain.Plus else
+    (if stands mark.Minus o then Some plain.Minus else None)
+
+-- the factors behind those that were read, of which n more may follow
+unfoldable pub factors : Option (Parser Expression) → ℕ → Expression → Parser Expression
+factors deeper n left = chain_in product_operators (unary deeper) n left
+
+-- a product
+unfoldable pub product : Option (Parser Expression) → Parser Expression
+product deeper = unary deeper >>= λ e. factors deeper chain_limit e
+
+-- the terms behind those that were read, of which n more may follow
+unfoldable pub terms : Option (Parser Expression) → ℕ → Expression → Parser Expression
+terms deeper n left = chain_in sum_operators (product deeper) n left
+
+-- a sum: any expression
+unfoldable pub sum : Option (Parser Expression) → Parser Expression
+sum deeper = product deeper >>= λ e. terms deeper chain_limit e
+
+-- the rule inside a group, where so many groups may be opened
+unfoldable pub inner_sum : ℕ → Option (Parser Expression)
+inner_sum zero = None
+inner_sum (suc g) = Some (sum (inner_sum g))
+
+-- an expression, where so many groups may be opened
+unfoldable pub expression : ℕ → Parser Expression
+expression g = sum (inner_sum g)

@@ -1,0 +1,87 @@
+// A whole text, read as a program.
+ghost use Rattle.std.specs.Prelude.{◌<◌, ◌^◌, length, IfOk, IfErr};
+ghost use Rattle.sm_text.specs.rules.Answers.{Gives};
+ghost use Rattle.sm_text.specs.parsing.Fragments.{HasProgramText, IsNamedProgram, IsProgramReadAs};
+ghost use Rattle.sm_text.specs.parsing.Fragments.{ProgramParts, SpellsProgram, parts_of};
+ghost use Rattle.sm_text.specs.parsing.Places.{ArePrograms, IsRefusal, whole_text};
+ghost use Rattle.sm_text.specs.parsing.Program as spec;
+ghost use Rattle.sm_text.specs.parsing.ProgramViews.{program_of};
+
+use crate::error::TextError;
+use crate::lexing::lexer::tokens;
+use crate::parsing::text::{lexical_error, refused};
+use crate::resolving::resolve::symbols;
+use crate::rules::names::{declarations, outputs};
+use crate::rules::reading::{FaultKind, ReadError, first, refusal};
+use crate::rules::sections::shared;
+use sm_syntax::{Block, Decls, Outputs, Program, Symbol};
+use std::alloc::Global;
+
+/// The parts of a program, but for its names.
+#[derive(Debug, Drop)]
+pub(crate) struct Parts {
+    pub decls: Decls,
+    pub outputs: Outputs,
+    pub body: Block,
+}
+
+/// A program, and the symbols behind it.
+#[tactic(auto, unfolding(crate::specs::parsing::Program::program))]
+fn program(alloc: Global, symbols: &[Symbol]) -> Result<(Parts, &[Symbol]), ReadError>
+    ensures { Gives (λ x. (program_of x.0, x.1.now)) result (spec.program symbols.now) }
+{
+    let (decls, after) = declarations(alloc, symbols)?;
+    let (outputs, after) = outputs(alloc, after)?;
+    let (body, after) = shared(alloc, after)?;
+    Ok((
+        Parts {
+            decls,
+            outputs,
+            body,
+        },
+        after,
+    ))
+}
+
+/// A whole program, with no symbol behind it.
+fn whole_program(alloc: Global, symbols: &[Symbol]) -> Result<Parts, ReadError>
+    ensures { Gives program_of result (spec.whole_program symbols.now) }
+{
+    match program(alloc, symbols) {
+        Ok((parts, after)) => match first(after) {
+            None => Ok(parts),
+            Some(_) => Err(refusal(FaultKind::Expected, after)),
+        },
+        Err(error) => Err(error),
+    }
+}
+
+/// Reads a text of fewer than 2^32 bytes as a program: declarations, outputs and a shared block
+/// alone. Any other text is refused at its first fault, as by `read_sections`.
+pub fn parse_program(alloc: Global, bytes: &[u8]) -> Result<Program, TextError>
+    requires { length bytes.now < 2 ^ 32 }
+    ensures ok { IfOk result (λ p. SpellsProgram bytes.now (parts_of p)) }
+    // Some text spells the program, and each of its names has a text.
+    ensures printable { IfOk result (λ p. HasProgramText (parts_of p)) }
+    ensures named { IfOk result (λ p. IsNamedProgram (parts_of p)) }
+    // Each text that spells a program is read, and a text spells at most one.
+    ensures only { (p : ProgramParts) → SpellsProgram bytes.now p → IsProgramReadAs p result }
+    // A refusal is the first fault of the text, and names its kind and its place.
+    ensures place { IfErr result (IsRefusal ArePrograms (whole_text bytes.now)) }
+{
+    let tokens = tokens(alloc, bytes)?;
+    let symbols = symbols(alloc, bytes, &tokens.list)?;
+    match whole_program(alloc, &symbols.list) {
+        Ok(parts) => match tokens.fault {
+            None => Ok(Program {
+                names: symbols.names,
+                decls: parts.decls,
+                outputs: parts.outputs,
+                body: parts.body,
+            }),
+            Some(fault) => Err(lexical_error(fault)),
+        },
+        Err(ReadError::Fault(fault)) => Err(refused(bytes, &tokens, fault)),
+        Err(ReadError::Memory) => Err(TextError::Memory),
+    }
+}

@@ -1,0 +1,141 @@
+// Puts the canonical text of statements and blocks at the end of a list of bytes.
+ghost use Rattle.std.specs.Prelude.{◌≡◌, ◌++◌, length, OnOk, IfOk, codes};
+ghost use Rattle.std.specs.Fmt.{decimal};
+ghost use Rattle.sm_syntax.specs.claim.Syntax.{Code, End};
+ghost use Rattle.sm_syntax.specs.trees.Views.{condition_of, statement_of, code_of};
+ghost use Rattle.sm_text.specs.printing.Canonical as canonical;
+ghost use Rattle.sm_text.specs.printing.Named.{IsTestedIn, IsUsedIn};
+ghost use Rattle.sm_text.specs.printing.Pieces as spec;
+ghost use Rattle.sm_text.specs.printing.Pieces.{text_of};
+
+use crate::printing::expressions::{put_cond, put_element, put_expr, put_name};
+use sm_syntax::{Block, Cond, NameTable, Stmt};
+use std::alloc::{AllocError, Global};
+
+/// The margin one level deeper.
+pub(crate) fn deeper(alloc: Global, margin: &[u8]) -> Result<Vec<u8>, AllocError>
+    ensures { IfOk result (λ m. m.items ≡ spec.deeper margin.now) }
+{
+    let mut wide = Vec::from_slice(alloc, b"  ")?;
+    wide.extend_from_slice(margin)?;
+    Ok(wide)
+}
+
+/// A condition in parentheses, before a block.
+#[tactic(auto, unfolding(crate::specs::printing::Canonical::guard_pieces))]
+fn put_guard(out: &mut Vec<u8>, names: &NameTable, c: &Cond) -> Result<(), AllocError>
+    requires { IsTestedIn (length names.now) (condition_of c.now) }
+    ensures { OnOk result
+        (out.new.items ≡ out.old.items
+        ++ text_of names.now (canonical.guard_pieces (condition_of c.now))) }
+{
+    out.extend_from_slice(b"(")?;
+    put_cond(out, names, c)?;
+    out.extend_from_slice(b") ")
+}
+
+/// A hole: its sign and its number.
+pub(crate) fn put_hole(out: &mut Vec<u8>, hole: u32) -> Result<(), AllocError>
+    ensures { OnOk result (out.new.items ≡ out.old.items ++ codes "?" ++ decimal hole) }
+{
+    let mut digits = itoa::Buffer::new();
+    out.extend_from_slice(b"?")?;
+    out.extend_from_slice(digits.format(hole).as_bytes())
+}
+
+/// A statement, on lines behind a margin.
+#[cycle(put_statement)]
+fn put_stmt(
+    alloc: Global,
+    out: &mut Vec<u8>,
+    names: &NameTable,
+    margin: &[u8],
+    s: &Stmt,
+) -> Result<(), AllocError>
+    requires { IsUsedIn (length names.now) (statement_of s.now End) }
+    ensures { (k : Code) → OnOk result
+        (out.new.items ++ text_of names.now (canonical.code_pieces margin.now k)
+        ≡ out.old.items
+        ++ text_of names.now (canonical.code_pieces margin.now (statement_of s.now k))) }
+{
+    out.extend_from_slice(margin)?;
+    match s {
+        Stmt::Skip => out.extend_from_slice(b"skip;\n"),
+        Stmt::Assign(x, e) => {
+            put_name(out, names, *x)?;
+            out.extend_from_slice(b" = ")?;
+            put_expr(out, names, e)?;
+            out.extend_from_slice(b";\n")
+        }
+        Stmt::Store(a, i, e) => {
+            put_element(out, names, *a, i)?;
+            out.extend_from_slice(b" = ")?;
+            put_expr(out, names, e)?;
+            out.extend_from_slice(b";\n")
+        }
+        Stmt::If(b, c, d) => {
+            out.extend_from_slice(b"if ")?;
+            put_guard(out, names, b)?;
+            put_branches(alloc, out, names, margin, c, d)?;
+            out.extend_from_slice(b"\n")
+        }
+        Stmt::While(b, c) => {
+            out.extend_from_slice(b"while ")?;
+            put_guard(out, names, b)?;
+            put_block(alloc, out, names, margin, c)?;
+            out.extend_from_slice(b"\n")
+        }
+        Stmt::Hole(h) => {
+            put_hole(out, *h)?;
+            out.extend_from_slice(b";\n")
+        }
+    }
+}
+
+/// The branches of a choice.
+#[cycle(put_statement)]
+#[tactic(auto, unfolding(crate::specs::printing::Canonical::branches))]
+fn put_branches(
+    alloc: Global,
+    out: &mut Vec<u8>,
+    names: &NameTable,
+    margin: &[u8],
+    c: &Block,
+    d: &Block,
+) -> Result<(), AllocError>
+    requires then { IsUsedIn (length names.now) (code_of c.now) }
+    requires other { IsUsedIn (length names.now) (code_of d.now) }
+    ensures { OnOk result
+        (out.new.items ≡ out.old.items ++ text_of names.now
+        (canonical.branches
+        (canonical.block_pieces margin.now (code_of c.now))
+        (canonical.block_pieces margin.now (code_of d.now)))) }
+{
+    put_block(alloc, out, names, margin, c)?;
+    out.extend_from_slice(b" else ")?;
+    put_block(alloc, out, names, margin, d)
+}
+
+/// A block, whose lines but for the first stand behind a margin.
+#[cycle(put_statement)]
+#[tactic(auto, unfolding(crate::specs::printing::Canonical::braces))]
+pub(crate) fn put_block(
+    alloc: Global,
+    out: &mut Vec<u8>,
+    names: &NameTable,
+    margin: &[u8],
+    b: &Block,
+) -> Result<(), AllocError>
+    requires { IsUsedIn (length names.now) (code_of b.now) }
+    ensures { OnOk result
+        (out.new.items ≡ out.old.items
+        ++ text_of names.now (canonical.block_pieces margin.now (code_of b.now))) }
+{
+    let inner = deeper(alloc, margin)?;
+    out.extend_from_slice(b"{\n")?;
+    for s in &b.list {
+        put_stmt(alloc, out, names, &inner, s)?;
+    }
+    out.extend_from_slice(margin)?;
+    out.extend_from_slice(b"}")
+}

@@ -1,0 +1,89 @@
+// What every rule is made of: a look at the first symbol, a step past it, and a refusal.
+ghost use Rattle.std.specs.Prelude.{◌≡◌, ◌<◌, drop, length, IfOk};
+ghost use Rattle.sm_text.specs.rules.Answers.{Gives};
+ghost use Rattle.sm_text.specs.rules.Parsers as spec;
+
+use sm_syntax::{Mark, Symbol};
+use std::alloc::{AllocError, AllocFailed};
+
+/// Why a rule doesn't go on.
+#[derive(Clone, Copy, Debug, PartialEq, Eq)]
+pub(crate) enum FaultKind {
+    Expected,
+    Nested,
+}
+
+/// Where a rule doesn't go on: how many symbols are left there.
+#[derive(Clone, Copy, Debug, PartialEq, Eq)]
+pub(crate) struct Fault {
+    pub kind: FaultKind,
+    pub left: usize,
+}
+
+/// Why nothing was read.
+#[derive(Clone, Copy, Debug, PartialEq, Eq)]
+pub(crate) enum ReadError {
+    Fault(Fault),
+    Memory,
+}
+
+impl From<AllocError> for ReadError {
+    ghost use Rattle.std.specs.Prelude.{◌≡◌};
+    ghost use Rattle.sm_text.specs.declared.rules.reading.ReadError.TheVariants.{Memory};
+
+    ghost from_gives = { λ _ e. e ≡ Memory };
+
+    fn from(_error: AllocError) -> ReadError {
+        ReadError::Memory
+    }
+}
+
+impl<T: Drop> From<AllocFailed<T>> for ReadError {
+    ghost use Rattle.std.specs.Prelude.{◌≡◌};
+    ghost use Rattle.sm_text.specs.declared.rules.reading.ReadError.TheVariants.{Memory};
+
+    ghost from_gives = { λ _ e. e ≡ Memory };
+
+    fn from(_error: AllocFailed<T>) -> ReadError {
+        ReadError::Memory
+    }
+}
+
+/// The first symbol, if there is one.
+pub(crate) fn first(symbols: &[Symbol]) -> Option<Symbol>
+    ensures { result ≡ spec.first symbols.now }
+{
+    symbols.first().copied()
+}
+
+/// The symbols behind the first.
+pub(crate) fn rest(symbols: &[Symbol]) -> &[Symbol]
+    ensures { result.now ≡ spec.rest symbols.now }
+{
+    if symbols.is_empty() {
+        symbols
+    } else {
+        &symbols[1..]
+    }
+}
+
+/// A refusal at the first of these symbols, or at their end where there is none.
+pub(crate) fn refusal(kind: FaultKind, symbols: &[Symbol]) -> ReadError
+    ensures { result ≡ ReadError.Fault (spec.fault kind symbols.now) }
+{
+    ReadError::Fault(Fault {
+        kind,
+        left: symbols.len(),
+    })
+}
+
+/// Steps past a reserved word or a sign that has to stand here.
+#[tactic(auto, unfolding(crate::specs::rules::Parsers::expect))]
+pub(crate) fn expect(mark: Mark, symbols: &[Symbol]) -> Result<&[Symbol], ReadError>
+    ensures { Gives (λ after. (tt, after.now)) result (spec.expect mark symbols.now) }
+{
+    match first(symbols) {
+        Some(Symbol::Mark(found)) if found == mark => Ok(rest(symbols)),
+        _ => Err(refusal(FaultKind::Expected, symbols)),
+    }
+}

@@ -1,0 +1,182 @@
+// The sections of a task.
+ghost use Rattle.std.specs.Prelude.{option_map};
+ghost use Rattle.sm_syntax.specs.trees.Programs.{fillings_of};
+ghost use Rattle.sm_syntax.specs.trees.Views.{condition_of, code_of};
+ghost use Rattle.sm_text.specs.rules.Answers.{Gives};
+ghost use Rattle.sm_text.specs.rules.Reading as spec;
+ghost use Rattle.sm_text.specs.rules.Written.{filling_of, entries_for};
+ghost use Rattle.sm_text.specs.rules.Sections.{head_of, lists_of, body_of};
+
+use crate::rules::conditions::condition;
+use crate::rules::names::{GROUP_LIMIT, declarations, hole_number, outputs, stands};
+use crate::rules::reading::{FaultKind, ReadError, expect, first, refusal, rest};
+use crate::rules::statements::block;
+use sm_syntax::{Block, Cond, Decls, Filling, Fillings, Mark, Outputs, PerCopy, Symbol};
+use std::alloc::Global;
+
+/// The front of a task: its declarations, outputs, assumption and shared block.
+#[derive(Debug, Drop)]
+pub struct Head {
+    pub decls: Decls,
+    pub outputs: Outputs,
+    pub assumed: Option<Cond>,
+    pub shared: Block,
+}
+
+/// How many more may be open inside a list.
+const LIST_LIMIT: u64 = 63;
+
+/// A filling.
+#[tactic(auto, unfolding(crate::specs::rules::Reading::filling), using(crate::proofs::Sound::Limits::limits))]
+fn filling(alloc: Global, symbols: &[Symbol]) -> Result<(Filling, &[Symbol]), ReadError>
+    ensures { Gives (λ x. (filling_of x.0, x.1.now)) result (spec.filling symbols.now) }
+{
+    let after = expect(Mark::Question, symbols)?;
+    let (hole, after) = hole_number(after)?;
+    let (block, after) = block(alloc, LIST_LIMIT, after)?;
+    Ok((Filling { hole, block }, after))
+}
+
+/// All fillings of a list.
+#[tactic(auto, unfolding(crate::specs::rules::Reading::fillings))]
+fn fillings(alloc: Global, symbols: &[Symbol]) -> Result<(Fillings, &[Symbol]), ReadError>
+    ensures { Gives (λ x. (fillings_of x.0, x.1.now)) result (spec.fillings symbols.now) }
+{
+    let mut list = Vec::new(alloc);
+    let mut after = symbols;
+    'fillings: while stands(Mark::Question, first(after)) {
+        let (one, behind) = filling(alloc, after)?;
+        list.push(one)?;
+        after = behind;
+    }
+    Ok((Fillings { list }, after))
+}
+
+/// The list of fillings that begins with a word.
+#[tactic(auto, unfolding(crate::specs::rules::Reading::list))]
+fn list(alloc: Global, mark: Mark, symbols: &[Symbol]) -> Result<(Fillings, &[Symbol]), ReadError>
+    ensures { Gives (λ x. (fillings_of x.0, x.1.now)) result (spec.list mark symbols.now) }
+{
+    let after = expect(mark, symbols)?;
+    let after = expect(Mark::OpenCurly, after)?;
+    let (fillings, after) = fillings(alloc, after)?;
+    let after = expect(Mark::CloseCurly, after)?;
+    Ok((fillings, after))
+}
+
+/// The shared block.
+#[tactic(auto, unfolding(crate::specs::rules::Reading::shared), using(crate::proofs::Sound::Limits::limits))]
+pub(crate) fn shared(alloc: Global, symbols: &[Symbol]) -> Result<(Block, &[Symbol]), ReadError>
+    ensures { Gives (λ x. (code_of x.0, x.1.now)) result (spec.shared symbols.now) }
+{
+    block(alloc, GROUP_LIMIT, expect(Mark::Shared, symbols)?)
+}
+
+/// An assumption, behind its word.
+#[tactic(auto, unfolding(crate::specs::rules::Reading::assumption_line), using(crate::proofs::Sound::Limits::limits))]
+fn assumption_line(
+    alloc: Global,
+    symbols: &[Symbol],
+) -> Result<(Option<Cond>, &[Symbol]), ReadError>
+    ensures { Gives
+        (λ x. (option_map condition_of x.0, x.1.now))
+        result
+        (spec.assumption_line symbols.now) }
+{
+    let (test, after) = condition(alloc, GROUP_LIMIT, symbols)?;
+    let after = expect(Mark::Semicolon, after)?;
+    Ok((Some(test), after))
+}
+
+/// What is assumed, if anything is.
+#[tactic(auto, unfolding(crate::specs::rules::Reading::assumed))]
+pub(crate) fn assumed(
+    alloc: Global,
+    symbols: &[Symbol],
+) -> Result<(Option<Cond>, &[Symbol]), ReadError>
+    ensures { Gives
+        (λ x. (option_map condition_of x.0, x.1.now))
+        result
+        (spec.assumed symbols.now) }
+{
+    if stands(Mark::Assume, first(symbols)) {
+        assumption_line(alloc, rest(symbols))
+    } else {
+        Ok((None, symbols))
+    }
+}
+
+/// The front of a task.
+#[tactic(auto, unfolding(crate::specs::rules::Reading::head))]
+pub(crate) fn head_of_task(
+    alloc: Global,
+    symbols: &[Symbol],
+) -> Result<(Head, &[Symbol]), ReadError>
+    ensures { Gives (λ x. (head_of x.0, x.1.now)) result (spec.head symbols.now) }
+{
+    let (decls, after) = declarations(alloc, symbols)?;
+    let (outputs, after) = outputs(alloc, after)?;
+    let (assumed, after) = assumed(alloc, after)?;
+    let (shared, after) = shared(alloc, after)?;
+    Ok((
+        Head {
+            decls,
+            outputs,
+            assumed,
+            shared,
+        },
+        after,
+    ))
+}
+
+/// The lists of the four copies.
+#[tactic(auto, unfolding(crate::specs::rules::Reading::lists))]
+pub(crate) fn four_lists(
+    alloc: Global,
+    symbols: &[Symbol],
+) -> Result<(PerCopy<Fillings>, &[Symbol]), ReadError>
+    ensures { Gives (λ x. (lists_of x.0, x.1.now)) result (spec.lists symbols.now) }
+{
+    let (base, after) = list(alloc, Mark::Base, symbols)?;
+    let (variant_a, after) = list(alloc, Mark::VariantA, after)?;
+    let (variant_b, after) = list(alloc, Mark::VariantB, after)?;
+    let (candidate, after) = list(alloc, Mark::Candidate, after)?;
+    Ok((
+        PerCopy {
+            base,
+            variant_a,
+            variant_b,
+            candidate,
+        },
+        after,
+    ))
+}
+
+/// A task, and the symbols behind it.
+#[tactic(auto, unfolding(crate::specs::rules::Reading::task))]
+pub(crate) fn task(
+    alloc: Global,
+    symbols: &[Symbol],
+) -> Result<((Head, PerCopy<Fillings>), &[Symbol]), ReadError>
+    ensures { Gives (λ x. (body_of x.0, x.1.now)) result (spec.task symbols.now) }
+{
+    let (head, after) = head_of_task(alloc, symbols)?;
+    let (lists, after) = four_lists(alloc, after)?;
+    Ok(((head, lists), after))
+}
+
+/// A whole task, with no symbol behind it.
+pub(crate) fn whole(
+    alloc: Global,
+    symbols: &[Symbol],
+) -> Result<(Head, PerCopy<Fillings>), ReadError>
+    ensures { Gives body_of result (spec.whole symbols.now) }
+{
+    match task(alloc, symbols) {
+        Ok((body, after)) => match first(after) {
+            None => Ok(body),
+            Some(_) => Err(refusal(FaultKind::Expected, after)),
+        },
+        Err(error) => Err(error),
+    }
+}

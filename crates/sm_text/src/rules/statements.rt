@@ -1,0 +1,219 @@
+// Statements and blocks. A rule takes the number of groups that may still be opened.
+ghost use Rattle.std.specs.Prelude.{◌≡◌, ◌≤◌};
+ghost use Rattle.sm_syntax.specs.trees.Views.{statement_of, code_of};
+ghost use Rattle.sm_text.specs.rules.Answers.{Gives};
+ghost use Rattle.sm_syntax.specs.declared.symbol.Mark.TheVariants.{CloseCurly};
+ghost use Rattle.sm_text.specs.rules.Parsers.{inside};
+ghost use Rattle.sm_text.specs.rules.Reading as spec;
+ghost use Rattle.sm_text.specs.rules.Written.{front_of};
+
+use crate::rules::conditions::guard;
+use crate::rules::expressions::{expression, index};
+use crate::rules::names::{begins_statement, hole, nothing, stands};
+use crate::rules::reading::{FaultKind, ReadError, expect, first, refusal, rest};
+use sm_syntax::{Block, Mark, Name, Stmt, Symbol};
+use std::alloc::Global;
+
+/// An assignment to a name that was read.
+#[tactic(auto, unfolding(crate::specs::rules::Reading::assignment))]
+fn assignment(
+    alloc: Global,
+    groups: u64,
+    name: Name,
+    symbols: &[Symbol],
+) -> Result<(Stmt, &[Symbol]), ReadError>
+    ensures { Gives
+        (λ x. (statement_of x.0, x.1.now))
+        result
+        (spec.assignment groups name symbols.now) }
+{
+    let after = expect(Mark::Becomes, symbols)?;
+    let (value, after) = expression(alloc, groups, after)?;
+    let after = expect(Mark::Semicolon, after)?;
+    Ok((Stmt::Assign(name, value), after))
+}
+
+/// A write to an element of the array whose name was read.
+#[tactic(auto, unfolding(crate::specs::rules::Reading::write))]
+fn write_element(
+    alloc: Global,
+    groups: u64,
+    name: Name,
+    symbols: &[Symbol],
+) -> Result<(Stmt, &[Symbol]), ReadError>
+    ensures { Gives (λ x. (statement_of x.0, x.1.now)) result (spec.write groups name symbols.now) }
+{
+    let (place, after) = index(alloc, groups, symbols)?;
+    let after = expect(Mark::Becomes, after)?;
+    let (value, after) = expression(alloc, groups, after)?;
+    let after = expect(Mark::Semicolon, after)?;
+    Ok((Stmt::Store(name, place, value), after))
+}
+
+/// A statement behind the name that it begins with.
+#[tactic(auto, unfolding(crate::specs::rules::Reading::changed))]
+fn changed(
+    alloc: Global,
+    groups: u64,
+    name: Name,
+    symbols: &[Symbol],
+) -> Result<(Stmt, &[Symbol]), ReadError>
+    ensures { Gives
+        (λ x. (statement_of x.0, x.1.now))
+        result
+        (spec.changed groups name symbols.now) }
+{
+    if stands(Mark::OpenSquare, first(symbols)) {
+        write_element(alloc, groups, name, symbols)
+    } else {
+        assignment(alloc, groups, name, symbols)
+    }
+}
+
+/// A branch, behind its word.
+#[cycle(statements)]
+#[tactic(auto, unfolding(crate::specs::rules::Reading::branch))]
+fn branch(alloc: Global, groups: u64, symbols: &[Symbol]) -> Result<(Stmt, &[Symbol]), ReadError>
+    requires { groups ≤ 64 }
+    ensures { Gives
+        (λ x. (statement_of x.0, x.1.now))
+        result
+        (spec.branch groups (spec.block groups) symbols.now) }
+{
+    let (test, after) = guard(alloc, groups, symbols)?;
+    let (yes, after) = block(alloc, groups, after)?;
+    let after = expect(Mark::Else, after)?;
+    let (no, after) = block(alloc, groups, after)?;
+    Ok((Stmt::If(test, yes, no), after))
+}
+
+/// A loop, behind its word.
+#[cycle(statements)]
+#[tactic(auto, unfolding(crate::specs::rules::Reading::repeated))]
+fn repeated(alloc: Global, groups: u64, symbols: &[Symbol]) -> Result<(Stmt, &[Symbol]), ReadError>
+    requires { groups ≤ 64 }
+    ensures { Gives
+        (λ x. (statement_of x.0, x.1.now))
+        result
+        (spec.repeated groups (spec.block groups) symbols.now) }
+{
+    let (test, after) = guard(alloc, groups, symbols)?;
+    let (body, after) = block(alloc, groups, after)?;
+    Ok((Stmt::While(test, body), after))
+}
+
+/// A statement that begins with a mark.
+#[cycle(statements)]
+fn statement_at(
+    alloc: Global,
+    groups: u64,
+    mark: Mark,
+    symbols: &[Symbol],
+) -> Result<(Stmt, &[Symbol]), ReadError>
+    requires { groups ≤ 64 }
+    ensures { Gives
+        (λ x. (statement_of x.0, x.1.now))
+        result
+        (spec.statement_at groups (spec.block groups) mark symbols.now) }
+{
+    if mark == Mark::Skip {
+        nothing(rest(symbols))
+    } else if mark == Mark::Question {
+        hole(rest(symbols))
+    } else if mark == Mark::If {
+        branch(alloc, groups, rest(symbols))
+    } else if mark == Mark::While {
+        repeated(alloc, groups, rest(symbols))
+    } else {
+        Err(refusal(FaultKind::Expected, symbols))
+    }
+}
+
+/// A statement.
+#[cycle(statements)]
+#[tactic(auto, unfolding(crate::specs::rules::Reading::statement))]
+fn statement(alloc: Global, groups: u64, symbols: &[Symbol]) -> Result<(Stmt, &[Symbol]), ReadError>
+    requires { groups ≤ 64 }
+    ensures { Gives
+        (λ x. (statement_of x.0, x.1.now))
+        result
+        (spec.statement groups (spec.block groups) symbols.now) }
+{
+    match first(symbols) {
+        Some(Symbol::Name(name)) => changed(alloc, groups, name, rest(symbols)),
+        Some(Symbol::Mark(mark)) => statement_at(alloc, groups, mark, symbols),
+        _ => Err(refusal(FaultKind::Expected, symbols)),
+    }
+}
+
+/// All statements up to the end of a block.
+#[cycle(statements)]
+fn statements(
+    alloc: Global,
+    groups: u64,
+    symbols: &[Symbol],
+) -> Result<(Vec<Stmt>, &[Symbol]), ReadError>
+    requires { groups ≤ 64 }
+    ensures { Gives
+        (λ x. (front_of x.0.items, x.1.now))
+        result
+        (spec.more_statements groups (spec.block groups) (λ k. k) symbols.now) }
+{
+    let mut list = Vec::new(alloc);
+    let mut after = symbols;
+    'statements: while begins_statement(first(after)) {
+        let (one, behind) = statement(alloc, groups, after)?;
+        list.push(one)?;
+        after = behind;
+    }
+    Ok((list, after))
+}
+
+/// The inside of a block, as a block.
+#[cycle(statements)]
+#[tactic(auto, unfolding(crate::specs::rules::Reading::statements))]
+fn code(alloc: Global, groups: u64, symbols: &[Symbol]) -> Result<(Block, &[Symbol]), ReadError>
+    requires { groups ≤ 64 }
+    ensures { Gives
+        (λ x. (code_of x.0, x.1.now))
+        result
+        (spec.statements groups (spec.block groups) symbols.now) }
+{
+    let (list, after) = statements(alloc, groups, symbols)?;
+    Ok((Block { list }, after))
+}
+
+/// The inside of a block, whose first sign stands here, and the sign that closes it.
+#[cycle(statements)]
+fn group(alloc: Global, groups: u64, symbols: &[Symbol]) -> Result<(Block, &[Symbol]), ReadError>
+    requires { groups ≤ 64 }
+    ensures { Gives
+        (λ x. (code_of x.0, x.1.now))
+        result
+        (inside (spec.inner_block groups) CloseCurly symbols.now) }
+{
+    if groups == 0 {
+        return Err(refusal(FaultKind::Nested, symbols));
+    }
+    let (body, after) = code(alloc, groups - 1, rest(symbols))?;
+    let after = expect(Mark::CloseCurly, after)?;
+    Ok((body, after))
+}
+
+/// A block.
+#[cycle(statements)]
+#[tactic(auto, unfolding(crate::specs::rules::Reading::block, crate::specs::rules::Reading::braced, crate::specs::rules::Parsers::grouped))]
+pub(crate) fn block(
+    alloc: Global,
+    groups: u64,
+    symbols: &[Symbol],
+) -> Result<(Block, &[Symbol]), ReadError>
+    requires { groups ≤ 64 }
+    ensures { Gives (λ x. (code_of x.0, x.1.now)) result (spec.block groups symbols.now) }
+{
+    if stands(Mark::OpenCurly, first(symbols)) {
+        group(alloc, groups, symbols)
+    } else {
+        Err(refusal(FaultKind::Expected, symbols))
+    }
+}
