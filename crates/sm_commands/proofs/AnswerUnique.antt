@@ -21,9 +21,9 @@ use Rattle.sm_syntax.specs.text.Spells.{Spells}
 use Rattle.sm_syntax.specs.claim.Stores.{Store}
 use Rattle.sm_syntax.specs.text.Symbols.{names_of}
 use Rattle.sm_task.proofs.RefusalUnique.{one_refusal}
-use Rattle.sm_text.proofs.CompleteTasks as text
-use Rattle.sm_text.specs.Canonical.{task_pieces}
-use Rattle.sm_text.specs.Pieces.{text_of}
+use Rattle.sm_text.proofs.Complete.Tasks as text
+use Rattle.sm_text.specs.printing.Canonical.{task_pieces}
+use Rattle.sm_text.specs.printing.Pieces.{text_of}
 use Rattle.sm_commands.specs.Check.{AnswersCheck, IsInputText, IsNote, ShowsConflict}
 use Rattle.sm_commands.specs.Copies.{decision}
 use Rattle.sm_commands.specs.File.{file_limit, FailsToRead, GivesNoBytes, GivesNoTask, GivesTask, IsNoTask, IsRead, IsTooLong}

@@ -5,8 +5,8 @@ use Rattle.std.specs.Prelude.{◌≡◌, ◌≢◌, ◌⊎◌, ◌<◌, ℕ, Lis
 use Rattle.sm_io.specs.Files.{Known}
 use Rattle.sm_io.specs.Sinks.{Adds}
 use Rattle.sm_syntax.specs.text.Parts.{Parts}
-use Rattle.sm_text.specs.Canonical.{task_pieces}
-use Rattle.sm_text.specs.Pieces.{text_of}
+use Rattle.sm_text.specs.printing.Canonical.{task_pieces}
+use Rattle.sm_text.specs.printing.Pieces.{text_of}
 use Rattle.sm_commands.specs.Check.{AnswersCheck}
 use Rattle.sm_commands.specs.File.{GivesTask, GivesNoTask}
 use Rattle.sm_commands.specs.Replay.{ReplaysInput}

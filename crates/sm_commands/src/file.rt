@@ -8,7 +8,7 @@ ghost use Rattle.sm_replay.specs.Sorted.{sort_fault};
 ghost use Rattle.sm_replay.specs.InputText.{AreNamed};
 ghost use Rattle.sm_syntax.specs.text.Parts.{sort_of};
 ghost use Rattle.sm_syntax.specs.trees.Programs.{declared_of};
-ghost use Rattle.sm_text.specs.Named.{HasText};
+ghost use Rattle.sm_text.specs.printing.Named.{HasText};
 ghost use Rattle.sm_commands.specs.Replay.{GivesInput, GivesNoInput, IsNoInput};
 ghost use Rattle.sm_commands.specs.File.{GivesNoBytes, GivesNoTask, GivesTask, IsNoTask, IsRead};
 ghost use Rattle.sm_commands.specs.Exit.{ExitsWith};
