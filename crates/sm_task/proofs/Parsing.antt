@@ -6,7 +6,8 @@ use Rattle.sm_syntax.specs.text.Parts.{Parts}
 use Rattle.sm_syntax.specs.text.Spells.{IsInGrammar}
 use Rattle.sm_text.specs.declared.error.TextError.{TextError}
 use Rattle.sm_text.specs.declared.error.TextError.TheVariants as text
-use Rattle.sm_text.specs.parsing.Places.{AreTasks, IsFirstFault, IsRefusal, whole_text}
+use Rattle.sm_text.specs.parsing.Places.{AreTasks, IsFirstFault, IsRefusal}
+use Rattle.sm_text.specs.parsing.Places.Sources.{whole_text}
 use Rattle.sm_task.specs.declared.error.TaskError.{TaskError}
 use Rattle.sm_task.specs.declared.error.TaskError.TheVariants as error
 use Rattle.sm_task.specs.declared.task.Task.{Task}

@@ -4,7 +4,8 @@ use Rattle.sm_syntax.specs.text.Conditions.{Refusal, first_refusal}
 use Rattle.sm_text.proofs.Complete.Tasks as text
 use Rattle.sm_text.proofs.FirstFault.Faultless.{no_fault_in_grammar}
 use Rattle.sm_text.proofs.FirstFault.Unique.{one_first_fault}
-use Rattle.sm_text.specs.parsing.Places.{AreTasks, whole_text}
+use Rattle.sm_text.specs.parsing.Places.{AreTasks}
+use Rattle.sm_text.specs.parsing.Places.Sources.{whole_text}
 use Rattle.sm_task.specs.Errors.{error_of, from_text}
 use Rattle.sm_task.specs.Laws.{OneCondition, FaultOrCondition, OneRefusal, TaskOrRefusal}
 

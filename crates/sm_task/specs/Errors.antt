@@ -10,7 +10,8 @@ use Rattle.sm_syntax.specs.text.Parts.{Parts}
 use Rattle.sm_syntax.specs.text.Spells.{IsInGrammar}
 use Rattle.sm_text.specs.declared.error.TextError.{TextError}
 use Rattle.sm_text.specs.declared.error.TextError.TheVariants as text
-use Rattle.sm_text.specs.parsing.Places.{AreTasks, IsFirstFault, whole_text}
+use Rattle.sm_text.specs.parsing.Places.{AreTasks, IsFirstFault}
+use Rattle.sm_text.specs.parsing.Places.Sources.{whole_text}
 use Rattle.sm_task.specs.declared.error.TaskError.{TaskError}
 use Rattle.sm_task.specs.declared.error.TaskError.TheVariants as error
 use Rattle.sm_task.specs.declared.task.Task.{Task}

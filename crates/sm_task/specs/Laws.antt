@@ -4,7 +4,8 @@ use Rattle.sm_syntax.specs.text.Conditions.{Refusal}
 use Rattle.sm_syntax.specs.text.Parts.{Parts}
 use Rattle.sm_syntax.specs.text.Spells.{Spells}
 use Rattle.sm_text.specs.declared.error.TextError.{TextError}
-use Rattle.sm_text.specs.parsing.Places.{AreTasks, IsFault, whole_text}
+use Rattle.sm_text.specs.parsing.Places.{AreTasks, IsFault}
+use Rattle.sm_text.specs.parsing.Places.Sources.{whole_text}
 use Rattle.sm_task.specs.declared.error.TaskError.{TaskError}
 use Rattle.sm_task.specs.Errors.{IsRefusedBy, IsRefusedWith}
 
