@@ -59,7 +59,7 @@ comparison_found Ge ts = refl
 
 -- the symbols are read as the condition, at each rank, where n more groups may be opened and k operators stood in the chain
 abbrev Claim : Rank → ℕ → ℕ → List Marked → Condition → Type 0
-Claim g.Test n k ts b = (z : List Symbol) → (stands mark.Bang (first (unmarked ts ++ z)) ≡ false) × (Ends (first z) → r.test (r.inner_condition n) (r.expression n) (unmarked ts ++ z) ≡ reach ts z (Ok (b, z)))
+Claim g.Test n k ts b = (z : List Symbol) → (stands mark.Bang (first (unmarked ts ++ z)) ≡ false) × (Ends (first z) → r.simple_test (r.inner_condition n) (r.expression n) (unmarked ts ++ z) ≡ reach ts z (Ok (b, z)))
 Claim g.Literal n k ts b = (z : List Symbol) → Ends (first z) → r.literal (r.inner_condition n) (r.expression n) (unmarked ts ++ z) ≡ reach ts z (Ok (b, z))
 Claim g.Conjunction n k ts b = (z : List Symbol) → Ends (first z) → r.conjunction (r.inner_condition n) (r.expression n) (unmarked ts ++ z) ≡ reach ts z (r.literals (r.inner_condition n) (r.expression n) (room k) b z)
 Claim g.Disjunction n k ts b = (z : List Symbol) → Ends (first z) → r.conjunction_operators (first z) ≡ None → r.disjunction (r.inner_condition n) (r.expression n) (unmarked ts ++ z) ≡ reach ts z (r.conjunctions (r.inner_condition n) (r.expression n) (room k) b z)
@@ -74,11 +74,11 @@ condition_opened zero d k fits ts b close end read = full d fits
 condition_opened (suc m) d k fits ts b close end read = (shallow d m fits, λ z. disjunction_ends m k ts b (read m (omega (arith, fits))) (s.Mark close ∷ z) end)
 
 always_read : (n : ℕ) → Claim g.Test n 0 (word mark.True ∷ []) plain_code.Yes
-unfolding r.test
+unfolding r.simple_test
 always_read n z = (refl, λ h. refl)
 
 never_read : (n : ℕ) → Claim g.Test n 0 (word mark.False ∷ []) plain_code.No
-unfolding r.test
+unfolding r.simple_test
 never_read n z = (refl, λ h. refl)
 
 compared_read : (n d j k : ℕ) → d + n ≡ 64 → (ts us : List Marked) (e f : Expression) (op : Cmp) → IsExpression g.Sum d j ts e → IsExpression g.Sum d k us f → (z : List Symbol) → Ends (first z) → r.compared (r.expression n) (unmarked (ts ++ word (comparison op) ∷ us) ++ z) ≡ reach (ts ++ word (comparison op) ∷ us) z (Ok (plain_code.Compare op e f, z))
@@ -92,13 +92,13 @@ compared_read n d j k fits ts us e f op p q z end =
         ∙ reads-then us z (Ok (f, z)) (λ (y : Expression). pure (plain_code.Compare op e y)) (expression_read q n fits z end)
 
 compares_read : (n d j k : ℕ) → d + n ≡ 64 → (ts us : List Marked) (e f : Expression) (op : Cmp) → IsExpression g.Sum d j ts e → IsExpression g.Sum d k us f → Claim g.Test n 0 (ts ++ word (comparison op) ∷ us) (plain_code.Compare op e f)
-unfolding r.test
+unfolding r.simple_test
 compares_read n d j k fits ts us e f op p q z =
     let begin = starts (begins-append (expression_begins p) (word (comparison op) ∷ us)) z in
     (begin.no_bang, λ end. test_compares (r.inner_condition n) (r.expression n) (first (unmarked (ts ++ word (comparison op) ∷ us) ++ z)) (unmarked (ts ++ word (comparison op) ∷ us) ++ z) begin ∙ compared_read n d j k fits ts us e f op p q z end)
 
 group_read : (n d k : ℕ) → d + n ≡ 64 → (ts : List Marked) (b : Condition) → ((m : ℕ) → suc d + m ≡ 64 → Claim g.Disjunction m k ts b) → Claim g.Test n 0 (opens mark.OpenSquare d ∷ (ts ++ word mark.CloseSquare ∷ [])) b
-unfolding r.test r.bracketed
+unfolding r.simple_test r.bracketed
 group_read n d k fits ts b read z = (refl, λ h. sym (go_on-pure (r.bracketed (r.inner_condition n) (s.Mark mark.OpenSquare ∷ (unmarked (ts ++ word mark.CloseSquare ∷ []) ++ z)))) ∙ inside-then (r.inner_condition n) d mark.OpenSquare mark.CloseSquare ts [] b z pure (Ok (b, z)) (condition_opened n d k fits ts b mark.CloseSquare (record { value = record { square = refl; product = refl; sum = refl }; conjunction = refl; disjunction = refl }) read) refl)
 
 denied_read : (n : ℕ) (ts : List Marked) (b : Condition) → Claim g.Test n 0 ts b → Claim g.Literal n 0 (word mark.Bang ∷ ts) (plain_code.Not b)

@@ -445,8 +445,8 @@ module _ (deeper : Option (Parser Condition)) (value : Parser Expression) (d : �
   unfolding r.bracketed
   bracketed_at = weaken_at is_bracketed (inside_told deeper (IsDisjunction (suc d)) d mark.OpenSquare mark.CloseSquare inner)
 
-  test_told : Describes (r.test deeper value) (IsTest d)
-  unfolding r.test
+  test_told : Describes (r.simple_test deeper value) (IsTest d)
+  unfolding r.simple_test
   test_told = choose_by (r.test_at deeper value) (λ ts. refl) (some_test d) (λ o. by o (stands mark.True o) refl (stands mark.False o) refl (stands mark.OpenSquare o) refl)
     where
       by : (o : Option Symbol) (a : Bool) → stands mark.True o ≡ a → (b : Bool) → stands mark.False o ≡ b → (c : Bool) → stands mark.OpenSquare o ≡ c → DescribesAt o (if a then skip >> pure plain_code.Yes else (if b then skip >> pure plain_code.No else (if c then r.bracketed deeper else r.compared value))) (IsTest d)

@@ -121,12 +121,12 @@ fn bracketed(alloc: Global, groups: u64, symbols: &[Symbol]) -> Result<(Cond, &[
 
 /// A constant, a comparison, or a condition in square brackets.
 #[cycle(conditions)]
-#[tactic(auto, unfolding(crate::specs::rules::Reading::test))]
+#[tactic(auto, unfolding(crate::specs::rules::Reading::simple_test))]
 fn test(alloc: Global, groups: u64, symbols: &[Symbol]) -> Result<(Cond, &[Symbol]), ReadError>
     ensures { Gives
         (λ x. (condition_of x.0, x.1.now))
         result
-        (spec.test (spec.inner_condition groups) (spec.expression groups) symbols.now) }
+        (spec.simple_test (spec.inner_condition groups) (spec.expression groups) symbols.now) }
 {
     let symbol = first(symbols);
     if stands(Mark::True, symbol) {

@@ -50,13 +50,13 @@ test_at deeper value o =
     (if stands mark.False o then skip >> pure plain.No else
     (if stands mark.OpenSquare o then bracketed deeper else compared value))
 
-unfoldable pub test : Option (Parser Condition) → Parser Expression → Parser Condition
-test deeper value ts = test_at deeper value (first ts) ts
+unfoldable pub simple_test : Option (Parser Condition) → Parser Expression → Parser Condition
+simple_test deeper value ts = test_at deeper value (first ts) ts
 
 -- a test, or one behind an exclamation mark
 abbrev pub literal_by : Option (Parser Condition) → Parser Expression → Bool → Parser Condition
-literal_by deeper value true = skip >> (test deeper value >>= λ b. pure (plain.Not b))
-literal_by deeper value false = test deeper value
+literal_by deeper value true = skip >> (simple_test deeper value >>= λ b. pure (plain.Not b))
+literal_by deeper value false = simple_test deeper value
 
 unfoldable pub literal : Option (Parser Condition) → Parser Expression → Parser Condition
 literal deeper value ts = literal_by deeper value (stands mark.Bang (first ts)) ts
