@@ -9,7 +9,8 @@ use Rattle.std.specs.List.{filter, range_with_len}
 use Rattle.std.specs.List.Sorted.{IsStrictlyIncreasing}
 use Rattle.sm_syntax.specs.declared.tree.Sort.{Sort}
 use Rattle.sm_syntax.specs.declared.tree.Sort.TheVariants.{Num, Arr}
-use Rattle.sm_syntax.specs.text.Conditions.{is_in, names_in, names_tested, names_used}
+use Rattle.sm_syntax.specs.text.Conditions.{is_in}
+use Rattle.sm_syntax.specs.text.Uses.{names_in, names_tested, names_used}
 use Rattle.sm_syntax.specs.claim.Syntax.{Expression, Lit, Var, Read, Neg, Plus, Minus, Times, Condition, Yes, No, Compare, Not, And, Or, Code, End, Skip, Assign, Write, If, While, Hole}
 use Rattle.sm_deps.specs.Names.{mentions, tests, code_names}
 use Rattle.sm_deps.specs.Needs.{NamePredicate, Within, Picked, Needs}

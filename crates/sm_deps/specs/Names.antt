@@ -1,7 +1,7 @@
 -- Cited by public clauses: the names of expressions and conditions, and all names of code.
 use Rattle.std.specs.Prelude.{ℕ, Bool, false, ◌==◌, ◌||◌, List, map}
 use Rattle.sm_syntax.specs.declared.tree.Sort.{Sort}
-use Rattle.sm_syntax.specs.text.Conditions.{names_used}
+use Rattle.sm_syntax.specs.text.Uses.{names_used}
 use Rattle.sm_syntax.specs.claim.Syntax.{Expression, Lit, Var, Read, Neg, Plus, Minus, Times}
 use Rattle.sm_syntax.specs.claim.Syntax.{Condition, Yes, No, Compare, Not, And, Or, Code}
 

@@ -4,7 +4,8 @@ use Rattle.std.specs.Option.{option_or}
 use Rattle.sm_syntax.specs.declared.copies.PerCopy.{PerCopy}
 use Rattle.sm_syntax.specs.declared.tree.Block.{Block}
 use Rattle.sm_syntax.specs.declared.tree.Sort.{Sort}
-use Rattle.sm_syntax.specs.text.Conditions.{Refusal, TooMany, first_of_all, first_of_lists, first_sort_fault, names_used, double_name, first_output_fault, over, size_fault, program_fault, double_hole, hole_in_filling, unknown_hole, missing_filling, ill_formed, ill_assumed, first_refusal, code_nodes, code_depth, condition_nodes, condition_depth}
+use Rattle.sm_syntax.specs.text.Conditions.{Refusal, TooMany, first_of_all, first_of_lists, first_sort_fault, double_name, first_output_fault, over, size_fault, program_fault, double_hole, hole_in_filling, unknown_hole, missing_filling, ill_formed, ill_assumed, first_refusal, code_nodes, code_depth, condition_nodes, condition_depth}
+use Rattle.sm_syntax.specs.text.Uses.{names_used}
 use Rattle.sm_syntax.specs.claim.ConflictFree.{Copy, O, A, B, M, program_of}
 use Rattle.sm_syntax.specs.claim.Fill.{fill}
 use Rattle.sm_syntax.specs.text.Parts.{Parts, sort_of, task_of}

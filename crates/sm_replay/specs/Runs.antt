@@ -3,7 +3,8 @@ use Rattle.std.specs.Prelude.{◌≡◌, ◌⊎◌, ℕ, Option, Some, None, Lis
 use Rattle.sm_syntax.specs.declared.copies.PerCopy.{PerCopy}
 use Rattle.sm_syntax.specs.declared.tree.Block.{Block}
 use Rattle.sm_syntax.specs.declared.tree.Sort.{Sort}
-use Rattle.sm_syntax.specs.text.Conditions.{first_sort_fault, names_used}
+use Rattle.sm_syntax.specs.text.Conditions.{first_sort_fault}
+use Rattle.sm_syntax.specs.text.Uses.{names_used}
 use Rattle.sm_syntax.specs.claim.ConflictFree.{Copy}
 use Rattle.sm_syntax.specs.trees.Copies.{number_of, of_copy}
 use Rattle.sm_syntax.specs.text.Parts.{sort_of}

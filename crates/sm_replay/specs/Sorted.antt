@@ -1,7 +1,8 @@
 -- Tasks that may be run: each name stands as it is declared. Public clauses cite it.
 use Rattle.std.specs.Prelude.{ℕ, Option, Some, None, List, [], ◌∷◌}
 use Rattle.sm_syntax.specs.declared.tree.Sort.{Sort}
-use Rattle.sm_syntax.specs.text.Conditions.{Refusal, first_of_all, first_of_lists, first_sort_fault, names_tested, names_used}
+use Rattle.sm_syntax.specs.text.Conditions.{Refusal, first_of_all, first_of_lists, first_sort_fault}
+use Rattle.sm_syntax.specs.text.Uses.{names_tested, names_used}
 use Rattle.sm_syntax.specs.claim.ConflictFree.{Copy, program_of}
 use Rattle.sm_syntax.specs.text.Parts.{Parts, sort_of, task_of}
 use Rattle.sm_syntax.specs.claim.Syntax.{Condition}

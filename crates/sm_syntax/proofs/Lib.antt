@@ -9,3 +9,4 @@ pub mod Uses
 pub mod Repeats
 pub mod Kept
 pub mod Numbering
+pub mod EachUse

@@ -7,7 +7,8 @@ use Rattle.sm_syntax.specs.declared.error.SyntaxError.TheVariants as error
 use Rattle.sm_syntax.specs.declared.tree.Sort.{Sort}
 use Rattle.sm_syntax.specs.declared.tree.Sort.TheVariants.{Num, Arr}
 use Rattle.sm_syntax.specs.declared.tree.Stmt.{Stmt}
-use Rattle.sm_syntax.specs.text.Conditions.{Refusal, first_of_all, first_sort_fault, sort_refusal, names_in, names_tested, names_used, over, size_fault, TooMany, TooDeep}
+use Rattle.sm_syntax.specs.text.Conditions.{Refusal, first_of_all, first_sort_fault, sort_refusal, over, size_fault, TooMany, TooDeep}
+use Rattle.sm_syntax.specs.text.Uses.{names_in, names_tested, names_used}
 use Rattle.sm_syntax.specs.trees.Faults.{Reports}
 use Rattle.sm_syntax.specs.text.Sorts.{Sorts}
 use Rattle.sm_syntax.specs.claim.Syntax.{Code, End, Skip, Assign, Write, If, While, Hole, append}

@@ -1,10 +1,14 @@
 -- Laws of runs and of merges, each for all programs and stores. Public clauses cite them.
 use Rattle.std.specs.Prelude.{◌≡◌, ◌≢◌, ◌≤◌, ◌↔◌, ℕ, ℤ, false, Some}
+use Rattle.std.specs.List.{AllByRecursion}
+use Rattle.sm_syntax.specs.declared.tree.Sort.{Sort}
 use Rattle.sm_syntax.specs.claim.Syntax.{Code, append}
 use Rattle.sm_syntax.specs.claim.Stores.{Store}
 use Rattle.sm_syntax.specs.claim.Meaning.{and_then, run}
 use Rattle.sm_syntax.specs.Assigns.{assigns}
 use Rattle.sm_syntax.specs.claim.Keeps.{Keeps}
+use Rattle.sm_syntax.specs.text.Sorts.{Sorts, IsAsDeclared, IsWellSorted}
+use Rattle.sm_syntax.specs.text.Uses.{names_used}
 
 -- a run that ends under a bound on turns ends in the same store under each greater bound
 abbrev pub MoreTurns : Type 0
@@ -33,3 +37,10 @@ KeepsExactly =
     ↔ ((base ≢ a → candidate ≡ a)
     × (base ≢ b → candidate ≡ b)
     × (base ≡ a → base ≡ b → candidate ≡ base))
+
+-- code is well sorted exactly where each name in its list is declared with the sort beside it
+abbrev pub WellSortedIsAll : Type 0
+WellSortedIsAll =
+    (sorts : Sorts) (c : Code) →
+    IsWellSorted sorts c
+    ↔ AllByRecursion (λ (u : ℕ × Sort). IsAsDeclared sorts u.0 u.1) (names_used c)

@@ -3,6 +3,7 @@ pub mod Tokens
 pub mod Symbols
 pub mod Parts
 pub mod Grammar
+pub mod Uses
 pub mod Sorts
 pub mod Conditions
 pub mod Spells

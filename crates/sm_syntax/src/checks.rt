@@ -3,7 +3,7 @@ ghost use Rattle.std.specs.Prelude.{◌≡◌, ◌++◌, [], ◌∷◌, nat_eq, 
 ghost use Rattle.std.specs.HashMap.{get};
 ghost use Rattle.sm_syntax.specs.text.Conditions.{double_name, first_output_fault, size_fault};
 ghost use Rattle.sm_syntax.specs.text.Conditions.{program_fault, ill_assumed, first_sort_fault};
-ghost use Rattle.sm_syntax.specs.text.Conditions.{names_in, names_tested, names_used};
+ghost use Rattle.sm_syntax.specs.text.Uses.{names_in, names_tested, names_used};
 ghost use Rattle.sm_syntax.specs.trees.Faults.{Reports};
 ghost use Rattle.sm_syntax.specs.text.Parts.{sort_of};
 ghost use Rattle.sm_syntax.specs.trees.Programs.{declared_of, outputs_of};

@@ -1,5 +1,6 @@
 // Laws of runs and of merges, as contracts.
 ghost use Rattle.sm_syntax.specs.Laws.{MoreTurns, RunOfAppended, UnassignedStays, KeepsExactly};
+ghost use Rattle.sm_syntax.specs.Laws.{WellSortedIsAll};
 
 /// A greater bound on the turns of loops changes no end.
 #[tactic(auto, using(crate::proofs::Turns::more_turns))]
@@ -23,4 +24,10 @@ pub fn unassigned_stays()
 #[tactic(auto, using(crate::proofs::Kept::keeps_exactly))]
 pub fn keeps_exactly()
     ensures { KeepsExactly }
+{}
+
+/// Code is well sorted exactly where each name that it uses is declared as it stands there.
+#[tactic(auto, using(crate::proofs::EachUse::well_sorted_is_all))]
+pub fn well_sorted_is_all()
+    ensures { WellSortedIsAll }
 {}

@@ -25,7 +25,7 @@ pub use checks::{well_formed, well_formed_block, well_formed_cond};
 pub use copies::{CopyName, PerCopy};
 pub use copy::{copy_block, copy_cond, copy_decls, copy_expr, copy_outputs, copy_stmt};
 pub use error::SyntaxError;
-pub use laws::{keeps_exactly, more_turns, run_of_appended, unassigned_stays};
+pub use laws::{keeps_exactly, more_turns, run_of_appended, unassigned_stays, well_sorted_is_all};
 pub use measures::{depth, nodes};
 pub use names::NameTable;
 pub use program::{Decls, Filling, Fillings, Outputs, Program};

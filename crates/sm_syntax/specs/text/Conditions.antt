@@ -13,6 +13,7 @@ use Rattle.sm_syntax.specs.claim.Fill.{Fillings, fill}
 use Rattle.sm_syntax.specs.claim.ConflictFree.{Copy, O, A, B, M}
 use Rattle.sm_syntax.specs.text.Parts.{Parts, sort_of}
 use Rattle.sm_syntax.specs.text.Sorts.{Sorts}
+use Rattle.sm_syntax.specs.text.Uses.{names_tested, names_used}
 
 -- where a hole stands: in the shared program, or in the list of a copy
 pub data Section : Type 0 where
@@ -96,35 +97,6 @@ missing_filling t =
     first_of_lists (λ (c : Copy).
     at_hole MissingFilling (ListOf c)
     (first_outside (filled_holes (t.fillings c)) (holes_of t.shared)))
-
--- the names of an expression with the sorts with which they stand, in the order of the text
-abbrev pub names_in : Expression → List (ℕ × Sort)
-names_in (Lit z) = []
-names_in (Var x) = (x, Num) ∷ []
-names_in (Read a i) = (a, Arr) ∷ names_in i
-names_in (Neg e) = names_in e
-names_in (Plus d e) = names_in d ++ names_in e
-names_in (Minus d e) = names_in d ++ names_in e
-names_in (Times d e) = names_in d ++ names_in e
-
--- the same of a condition
-abbrev pub names_tested : Condition → List (ℕ × Sort)
-names_tested Yes = []
-names_tested No = []
-names_tested (Compare op d e) = names_in d ++ names_in e
-names_tested (Not b) = names_tested b
-names_tested (And b c) = names_tested b ++ names_tested c
-names_tested (Or b c) = names_tested b ++ names_tested c
-
--- the same of code
-abbrev pub names_used : Code → List (ℕ × Sort)
-names_used End = []
-names_used (Skip k) = names_used k
-names_used (Assign x e k) = (x, Num) ∷ names_in e ++ names_used k
-names_used (Write a i e k) = (a, Arr) ∷ names_in i ++ names_in e ++ names_used k
-names_used (If b c d k) = names_tested b ++ names_used c ++ names_used d ++ names_used k
-names_used (While b c k) = names_tested b ++ names_used c ++ names_used k
-names_used (Hole h k) = names_used k
 
 -- how many expressions an expression has, itself among them
 abbrev pub expression_nodes : Expression → ℕ

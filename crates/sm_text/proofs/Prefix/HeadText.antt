@@ -6,7 +6,7 @@ use Rattle.std.specs.Prelude.{slice_get}
 use Rattle.sm_syntax.specs.declared.symbol.Symbol.{Symbol}
 use Rattle.sm_syntax.specs.declared.symbol.Symbol.TheVariants as s
 use Rattle.sm_syntax.specs.declared.tree.Sort.{Sort}
-use Rattle.sm_syntax.specs.text.Conditions.{names_in, names_tested}
+use Rattle.sm_syntax.specs.text.Uses.{names_in, names_tested}
 use Rattle.sm_syntax.specs.text.Grammar.{Marked, plain}
 use Rattle.sm_syntax.specs.text.Parts.{sort_of}
 use Rattle.sm_syntax.specs.text.Symbols.{is_among, with_text, symbol_of}

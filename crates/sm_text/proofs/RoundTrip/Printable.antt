@@ -10,7 +10,8 @@ use Rattle.sm_syntax.specs.declared.symbol.Mark.TheVariants as mark
 use Rattle.sm_syntax.specs.declared.symbol.Symbol.{Symbol}
 use Rattle.sm_syntax.specs.declared.tree.Sort.{Sort}
 use Rattle.sm_syntax.specs.claim.Syntax.{Condition, Code, End, Skip, Assign, Write, If, While, Hole}
-use Rattle.sm_syntax.specs.text.Conditions.{Refusal, DoubleHole, UnknownHole, TooMany, TooDeep, is_in, first_repeated, first_outside, first_of_all, first_of_lists, Shared, ListOf, at_hole, holes_of, filled_holes, double_hole, hole_in_filling, unknown_hole, missing_filling, names_tested, names_used, double_name, first_output_fault, first_sort_fault, over, size_fault, program_fault, ill_formed, ill_assumed, first_refusal, condition_depth, code_depth, condition_nodes, code_nodes}
+use Rattle.sm_syntax.specs.text.Conditions.{Refusal, DoubleHole, UnknownHole, TooMany, TooDeep, is_in, first_repeated, first_outside, first_of_all, first_of_lists, Shared, ListOf, at_hole, holes_of, filled_holes, double_hole, hole_in_filling, unknown_hole, missing_filling, double_name, first_output_fault, first_sort_fault, over, size_fault, program_fault, ill_formed, ill_assumed, first_refusal, condition_depth, code_depth, condition_nodes, code_nodes}
+use Rattle.sm_syntax.specs.text.Uses.{names_tested, names_used}
 use Rattle.sm_syntax.specs.claim.Fill.{Fillings, filling, fill}
 use Rattle.sm_syntax.specs.claim.ConflictFree.{Copy, O, A, B, M}
 use Rattle.sm_syntax.specs.text.Parts.{Parts, sort_of}

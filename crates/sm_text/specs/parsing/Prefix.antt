@@ -10,7 +10,7 @@ use Rattle.sm_syntax.specs.declared.token.Token.{Token}
 use Rattle.sm_syntax.specs.declared.tree.Block.{Block}
 use Rattle.sm_syntax.specs.declared.tree.Cond.{Cond}
 use Rattle.sm_syntax.specs.declared.tree.Sort.{Sort}
-use Rattle.sm_syntax.specs.text.Conditions.{names_tested}
+use Rattle.sm_syntax.specs.text.Uses.{names_tested}
 use Rattle.sm_syntax.specs.text.Grammar.{Marked, plain, AreDeclarations, AreOutputs, IsAssumption}
 use Rattle.sm_syntax.specs.text.Grammar.{IsShared, IsBlock}
 use Rattle.sm_syntax.specs.text.Parts.{sort_of}

@@ -3,43 +3,27 @@
 -- spells.
 use Rattle.std.specs.Prelude.{ℕ, ◌<◌, Option, Some, None, List, [], ◌∷◌}
 use Rattle.sm_syntax.specs.declared.tree.Sort.{Sort}
-use Rattle.sm_syntax.specs.claim.Syntax.{Expression, Lit, Var, Read, Neg}
-use Rattle.sm_syntax.specs.claim.Syntax.{Plus, Minus, Times, Condition}
-use Rattle.sm_syntax.specs.claim.Syntax.{Yes, No, Compare, Not, And, Or}
-use Rattle.sm_syntax.specs.claim.Syntax.{Code, End, Skip, Assign, Write}
-use Rattle.sm_syntax.specs.claim.Syntax.{If, While, Hole}
+use Rattle.sm_syntax.specs.claim.Syntax.{Expression, Condition, Code}
 use Rattle.sm_syntax.specs.claim.Fill.{Fillings}
 use Rattle.sm_syntax.specs.text.Parts.{Parts}
 use Rattle.sm_syntax.specs.text.Spells.{Spells}
+use Rattle.sm_syntax.specs.text.Uses.{EachName, EachTested, EachUsed}
+
+-- a name, of any sort, has a number below n
+abbrev pub HasNumberBelow : ℕ → ℕ → Sort → Type 0
+HasNumberBelow n x sort = x < n
 
 -- each name of an expression is below n
 abbrev pub IsNamedIn : ℕ → Expression → Type 0
-IsNamedIn n (Lit z) = Unit {0}
-IsNamedIn n (Var x) = x < n
-IsNamedIn n (Read a i) = (a < n) × IsNamedIn n i
-IsNamedIn n (Neg e) = IsNamedIn n e
-IsNamedIn n (Plus d e) = IsNamedIn n d × IsNamedIn n e
-IsNamedIn n (Minus d e) = IsNamedIn n d × IsNamedIn n e
-IsNamedIn n (Times d e) = IsNamedIn n d × IsNamedIn n e
+IsNamedIn n = EachName (HasNumberBelow n)
 
 -- each name of a condition is
 abbrev pub IsTestedIn : ℕ → Condition → Type 0
-IsTestedIn n Yes = Unit {0}
-IsTestedIn n No = Unit {0}
-IsTestedIn n (Compare op d e) = IsNamedIn n d × IsNamedIn n e
-IsTestedIn n (Not b) = IsTestedIn n b
-IsTestedIn n (And b c) = IsTestedIn n b × IsTestedIn n c
-IsTestedIn n (Or b c) = IsTestedIn n b × IsTestedIn n c
+IsTestedIn n = EachTested (HasNumberBelow n)
 
 -- each name of code is
 abbrev pub IsUsedIn : ℕ → Code → Type 0
-IsUsedIn n End = Unit {0}
-IsUsedIn n (Skip k) = IsUsedIn n k
-IsUsedIn n (Assign x e k) = (x < n) × IsNamedIn n e × IsUsedIn n k
-IsUsedIn n (Write a i e k) = (a < n) × IsNamedIn n i × IsNamedIn n e × IsUsedIn n k
-IsUsedIn n (If b c d k) = IsTestedIn n b × IsUsedIn n c × IsUsedIn n d × IsUsedIn n k
-IsUsedIn n (While b c k) = IsTestedIn n b × IsUsedIn n c × IsUsedIn n k
-IsUsedIn n (Hole h k) = IsUsedIn n k
+IsUsedIn n = EachUsed (HasNumberBelow n)
 
 -- each declared name is
 abbrev pub AreDeclaredIn : ℕ → List (ℕ × Sort) → Type 0

@@ -1,6 +1,7 @@
 use Rattle.std.proofs.Common.{◌≡◌, drop, map, nat_eq}
 use Rattle.std.specs.HashMap.{get}
-use Rattle.sm_syntax.specs.text.Conditions.{first_sort_fault, names_used}
+use Rattle.sm_syntax.specs.text.Conditions.{first_sort_fault}
+use Rattle.sm_syntax.specs.text.Uses.{names_used}
 use Rattle.sm_syntax.specs.claim.Syntax.{End}
 use Rattle.sm_syntax.specs.trees.Views.{sequence, statement_of, code_of}
 use Rattle.sm_syntax.proofs.checks.+check_block.Given as goal

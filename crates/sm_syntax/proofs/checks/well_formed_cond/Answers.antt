@@ -1,5 +1,6 @@
 use Rattle.std.proofs.Common.{◌≡◌, Some, ap, subst, arith}
-use Rattle.sm_syntax.specs.text.Conditions.{first_sort_fault, names_tested, size_fault, ill_assumed}
+use Rattle.sm_syntax.specs.text.Conditions.{first_sort_fault, size_fault, ill_assumed}
+use Rattle.sm_syntax.specs.text.Uses.{names_tested}
 use Rattle.sm_syntax.specs.trees.Faults.{Reports}
 use Rattle.sm_syntax.specs.trees.Programs.{declared_of}
 use Rattle.sm_syntax.specs.text.Sorts.{Sorts}
