@@ -23,7 +23,7 @@ use Rattle.sm_syntax.specs.text.Symbols.{names_of}
 use Rattle.sm_task.proofs.RefusalUnique.{one_refusal}
 use Rattle.sm_text.proofs.Complete.Tasks as text
 use Rattle.sm_text.specs.printing.Canonical.{task_pieces}
-use Rattle.sm_text.specs.printing.Pieces.{text_of}
+use Rattle.sm_text.specs.printing.Pieces.{pieces_text}
 use Rattle.sm_commands.specs.Check.{AnswersCheck, IsInputText, IsNote, ShowsConflict}
 use Rattle.sm_commands.specs.Copies.{decision}
 use Rattle.sm_commands.specs.File.{file_limit, FailsToRead, GivesNoBytes, GivesNoTask, GivesTask, IsNoTask, IsRead, IsTooLong}
@@ -112,7 +112,7 @@ task_same : (file : Known) (b n c m : ℕ) (p q : Parts) → file ≢ untold →
 task_same file b n c m p q told g h =
     let spelled : Spells h.bytes p =
     subst (λ (xs : List ℕ). Spells xs p) (read_same file b n c m g.bytes h.bytes told g.read h.read) g.spells in
-    text.one_task h.bytes p q spelled.text h.spells.text
+    text.one_parse h.bytes p q spelled.text h.spells.text
 
 -- ---- check
 
@@ -176,7 +176,7 @@ prints_same file b n c m s u t v told calm still (inl f) (inl g) = refused_same 
 prints_same file b n c m s u t v told calm still (inl f) (inr g) = absurd (task_or_none file c m b n g.task s t told calm g.gives f)
 prints_same file b n c m s u t v told calm still (inr f) (inl g) = absurd (task_or_none file b n c m f.task u v told still f.gives g)
 prints_same file b n c m s u t v told calm still (inr f) (inr g) =
-    says_same refl (ap (λ (p : Parts). text_of p.names (task_pieces p)) (task_same file b n c m f.task g.task told f.gives g.gives)) f.says
+    says_same refl (ap (λ (p : Parts). pieces_text p.names (task_pieces p)) (task_same file b n c m f.task g.task told f.gives g.gives)) f.says
     g.says
 
 -- ---- replay

@@ -6,7 +6,7 @@ use Rattle.sm_io.specs.Files.{Known}
 use Rattle.sm_io.specs.Sinks.{Adds}
 use Rattle.sm_syntax.specs.text.Parts.{Parts}
 use Rattle.sm_text.specs.printing.Canonical.{task_pieces}
-use Rattle.sm_text.specs.printing.Pieces.{text_of}
+use Rattle.sm_text.specs.printing.Pieces.{pieces_text}
 use Rattle.sm_commands.specs.Check.{AnswersCheck}
 use Rattle.sm_commands.specs.File.{GivesTask, GivesNoTask}
 use Rattle.sm_commands.specs.Replay.{ReplaysInput}
@@ -43,7 +43,7 @@ pub record PrintsTask (file : Known) (before now : ℕ) (status : Status) (text 
     : Type 0 where
   pub task : Parts
   pub gives : GivesTask file before now task
-  pub says : Says Accepted (text_of task.names (task_pieces task)) status text
+  pub says : Says Accepted (pieces_text task.names (task_pieces task)) status text
 
 -- what is answered to `print`
 abbrev pub Prints : Known → ℕ → ℕ → Status → List ℕ → Type 0

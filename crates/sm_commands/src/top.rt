@@ -9,7 +9,7 @@ ghost use Rattle.sm_replay.specs.Sorted.{sort_fault};
 ghost use Rattle.sm_task.specs.Tasks.{parts_of};
 ghost use Rattle.sm_text.specs.printing.Canonical.{task_pieces};
 ghost use Rattle.sm_text.specs.printing.Named.{HasText};
-ghost use Rattle.sm_text.specs.printing.Pieces.{text_of};
+ghost use Rattle.sm_text.specs.printing.Pieces.{pieces_text};
 ghost use Rattle.sm_commands.specs.Headline.{IsSafeMerge, IsUnsafeMerge, ShowsInput};
 ghost use Rattle.sm_commands.specs.Headline.{IsShownByInput};
 ghost use Rattle.sm_commands.specs.Top.{IsAnswerTo, AnswersCommand, Checks, Prints, Replays};
@@ -254,7 +254,7 @@ fn print_in<H: Shelf>(alloc: Global, shelf: &mut H, name: &str) -> Result<Reply,
 // The canonical text of a task, as an answer.
 fn print(alloc: Global, task: &Task) -> Result<Reply, AllocError>
     requires { HasText (parts_of task.now) }
-    ensures { let t = parts_of task.now in let text = text_of t.names (task_pieces t) in
+    ensures { let t = parts_of task.now in let text = pieces_text t.names (task_pieces t) in
         IfOk result (λ r. Says Status.Accepted text r.status r.text.items) }
 {
     let text = print_task(alloc, task)?;

@@ -17,7 +17,7 @@ none_some r e = cc
 
 pub one_condition : OneCondition
 one_condition bytes r s (t, g, e) (u, h, f) =
-    same_refusal r s (sym e ∙ ap first_refusal (text.one_task bytes t u g h) ∙ f)
+    same_refusal r s (sym e ∙ ap first_refusal (text.one_parse bytes t u g h) ∙ f)
 
 pub fault_or_condition : FaultOrCondition
 fault_or_condition bytes r x (t, g, e) fault = no_fault_in_grammar bytes t x g fault
@@ -32,4 +32,4 @@ one_refusal bytes e f (inr (r, refused, p)) (inr (s, other, q)) = p ∙ ap error
 pub task_or_refusal : TaskOrRefusal
 task_or_refusal bytes t e spells (inl (x, first, p)) = no_fault_in_grammar bytes t x spells.text first.stands
 task_or_refusal bytes t e spells (inr (r, (u, g, f), p)) =
-    none_some r (sym spells.valid ∙ ap first_refusal (text.one_task bytes t u spells.text g) ∙ f)
+    none_some r (sym spells.valid ∙ ap first_refusal (text.one_parse bytes t u spells.text g) ∙ f)

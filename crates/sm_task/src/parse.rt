@@ -35,7 +35,7 @@ pub fn parse_task(alloc: Global, bytes: &[u8]) -> Result<Task, TaskError>
 
 /// The task of these sections.
 fn from_sections(sections: Sections) -> Task
-    ensures { parts_of result ≡ text.parts_of sections }
+    ensures { parts_of result ≡ text.sections_parts sections }
 {
     let Sections { names, head, lists } = sections;
     Task {

@@ -14,8 +14,8 @@ use Rattle.sm_text.specs.parsing.Places.{Grammar, Source, AreTasks, IsFault}
 use Rattle.sm_text.specs.parsing.Places.{IsFirstFault, whole_text}
 
 -- a text is in the grammar by at most one task
-abbrev pub OneTask : Type 0
-OneTask = (bytes : List ℕ) (t u : Parts) → IsInGrammar bytes t → IsInGrammar bytes u → t ≡ u
+abbrev pub OneParse : Type 0
+OneParse = (bytes : List ℕ) (t u : Parts) → IsInGrammar bytes t → IsInGrammar bytes u → t ≡ u
 
 -- the tokens of a text and its first fault are those into which it is cut, and no others
 abbrev pub TokensAreCut : Type 0

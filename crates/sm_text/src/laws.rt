@@ -1,11 +1,11 @@
 // Laws of reading, as contracts.
 ghost use Rattle.sm_text.specs.Laws.{DeclaredInOrder, NoFaultInGrammar, OneFirstFault};
-ghost use Rattle.sm_text.specs.Laws.{OneTask, TokensAreCut};
+ghost use Rattle.sm_text.specs.Laws.{OneParse, TokensAreCut};
 ghost use Rattle.sm_text.specs.parsing.Places.{AreTasks, ArePrograms};
 
 /// A text spells the parts of at most one task, with the same names.
-pub fn one_task()
-    ensures { OneTask }
+pub fn one_parse()
+    ensures { OneParse }
 {}
 
 /// The tokens of a text and its first lexical fault are those into which it is cut.

@@ -13,7 +13,7 @@
 //! - `print_sections`, `print_program`, `print_block` and `print_cond` give the canonical text. A
 //!   task's spells the task again; the others do where what is printed is no deeper than 64. What
 //!   `parse_program`, `parse_head` and `parse_block` give can be printed.
-//! - Laws: the grammar spells at most one task by a text (`one_task`) and numbers what it declares
+//! - Laws: the grammar spells at most one task by a text (`one_parse`) and numbers what it declares
 //!   in order (`declared_in_order`), a text in the grammar has no fault (`no_fault_in_grammar`),
 //!   and any other text has one first fault (`one_first_fault`).
 //!
@@ -36,7 +36,7 @@ mod resolving;
 mod rules;
 
 pub use error::TextError;
-pub use laws::{declared_in_order, no_fault_in_grammar, one_first_fault, one_task, tokens_are_cut};
+pub use laws::{declared_in_order, no_fault_in_grammar, one_first_fault, one_parse, tokens_are_cut};
 pub use lexing::lexer::tokens;
 pub use lexing::token_list::Tokens;
 pub use parsing::prefix::{parse_block, parse_head};

@@ -48,8 +48,8 @@ comparison_ends Le = record { square = refl; product = refl; sum = refl }
 comparison_ends Gt = record { square = refl; product = refl; sum = refl }
 comparison_ends Ge = record { square = refl; product = refl; sum = refl }
 
-comparison_found : (op : Cmp) (ts : List Symbol) → r.comparison (s.Mark (comparison op) ∷ ts) ≡ Ok (op, ts)
-unfolding r.comparison
+comparison_found : (op : Cmp) (ts : List Symbol) → r.comparison_sign (s.Mark (comparison op) ∷ ts) ≡ Ok (op, ts)
+unfolding r.comparison_sign
 comparison_found Eq ts = refl
 comparison_found Ne ts = refl
 comparison_found Lt ts = refl
@@ -84,9 +84,9 @@ never_read n z = (refl, λ h. refl)
 compared_read : (n d j k : ℕ) → d + n ≡ 64 → (ts us : List Marked) (e f : Expression) (op : Cmp) → IsExpression g.Sum d j ts e → IsExpression g.Sum d k us f → (z : List Symbol) → Ends (first z) → r.compared (r.expression n) (unmarked (ts ++ word (comparison op) ∷ us) ++ z) ≡ reach (ts ++ word (comparison op) ∷ us) z (Ok (plain_code.Compare op e f, z))
 unfolding r.compared
 compared_read n d j k fits ts us e f op p q z end =
-    next (r.expression n) ts (word (comparison op) ∷ us) z (Ok (e, s.Mark (comparison op) ∷ (unmarked us ++ z))) (λ (x : Expression). r.comparison >>= λ (o : Cmp). r.expression n >>= λ (y : Expression). pure (plain_code.Compare o x y)) (Ok (plain_code.Compare op e f, z)) (expression_read p n fits (s.Mark (comparison op) ∷ (unmarked us ++ z)) (comparison_ends op)) right
+    next (r.expression n) ts (word (comparison op) ∷ us) z (Ok (e, s.Mark (comparison op) ∷ (unmarked us ++ z))) (λ (x : Expression). r.comparison_sign >>= λ (o : Cmp). r.expression n >>= λ (y : Expression). pure (plain_code.Compare o x y)) (Ok (plain_code.Compare op e f, z)) (expression_read p n fits (s.Mark (comparison op) ∷ (unmarked us ++ z)) (comparison_ends op)) right
   where
-    right : go_on (r.comparison (s.Mark (comparison op) ∷ (unmarked us ++ z))) (λ (o : Cmp). r.expression n >>= λ (y : Expression). pure (plain_code.Compare o e y)) ≡ reach us z (Ok (plain_code.Compare op e f, z))
+    right : go_on (r.comparison_sign (s.Mark (comparison op) ∷ (unmarked us ++ z))) (λ (o : Cmp). r.expression n >>= λ (y : Expression). pure (plain_code.Compare o e y)) ≡ reach us z (Ok (plain_code.Compare op e f, z))
     right =
         ap (λ (a : Result (Cmp × List Symbol) Fault). go_on a (λ (o : Cmp). r.expression n >>= λ (y : Expression). pure (plain_code.Compare o e y))) (comparison_found op (unmarked us ++ z))
         ∙ reads-then us z (Ok (f, z)) (λ (y : Expression). pure (plain_code.Compare op e y)) (expression_read q n fits z end)

@@ -10,7 +10,7 @@ use Rattle.sm_syntax.specs.declared.symbol.Symbol.TheVariants as s
 use Rattle.sm_syntax.specs.text.Grammar.{Marked, plain, word, opens, joins}
 use Rattle.sm_text.specs.declared.rules.reading.Fault.{Fault}
 use Rattle.sm_text.specs.declared.rules.reading.FaultKind.TheVariants.{Nested}
-use Rattle.sm_text.specs.rules.Parsers.{first, fault, Parser, go_on, ◌>>◌, pure, expect, inside, grouped, Operators, chain_in, gather}
+use Rattle.sm_text.specs.rules.Parsers.{first, fault, Parser, go_on, ◌>>◌, pure, expect, inside_group, grouped, Operators, chain_in, gather}
 use Rattle.sm_text.specs.parsing.Places.{unmarked}
 use Rattle.sm_text.proofs.Sound.Gathered.{gather-turn, gather-fault}
 
@@ -82,13 +82,13 @@ Opened None d ts x close = nat_le 64 d ≡ true
 Opened (Some p) d ts x close = (nat_le 64 d ≡ false) × ((z : List Symbol) → p (unmarked ts ++ s.Mark close ∷ z) ≡ reach ts (s.Mark close ∷ z) (Ok (x, s.Mark close ∷ z)))
 
 -- a group, and what goes on behind it
-pub inside-then : {T U : Type 0} (deeper : Option (Parser T)) (d : ℕ) (begin close : Mark) (ts us : List Marked) (x : T) (z : List Symbol) (more : T → Parser U) (a : Result (U × List Symbol) Fault) → Opened deeper d ts x close → more x (unmarked us ++ z) ≡ reach us z a → go_on (inside deeper close (s.Mark begin ∷ (unmarked (ts ++ word close ∷ us) ++ z))) more ≡ reach (opens begin d ∷ (ts ++ word close ∷ us)) z a
+pub inside-then : {T U : Type 0} (deeper : Option (Parser T)) (d : ℕ) (begin close : Mark) (ts us : List Marked) (x : T) (z : List Symbol) (more : T → Parser U) (a : Result (U × List Symbol) Fault) → Opened deeper d ts x close → more x (unmarked us ++ z) ≡ reach us z a → go_on (inside_group deeper close (s.Mark begin ∷ (unmarked (ts ++ word close ∷ us) ++ z))) more ≡ reach (opens begin d ∷ (ts ++ word close ∷ us)) z a
 inside-then None d begin close ts us x z more a deep e = ap (λ (b : Bool). past b (s.Mark begin ∷ (unmarked (ts ++ word close ∷ us) ++ z)) (reach (ts ++ word close ∷ us) z a)) (sym deep)
 inside-then (Some p) d begin close ts us x z more a o e =
     ended p close (λ y. y) ts us x z more a o.1 e
     ∙ ap (λ (b : Bool). past b (s.Mark begin ∷ (unmarked (ts ++ word close ∷ us) ++ z)) (reach (ts ++ word close ∷ us) z a)) (sym o.0)
 
-pub grouped-inside : {T : Type 0} (begin close : Mark) (deeper : Option (Parser T)) (ts : List Symbol) → grouped begin close deeper (s.Mark begin ∷ ts) ≡ inside deeper close (s.Mark begin ∷ ts)
+pub grouped-inside : {T : Type 0} (begin close : Mark) (deeper : Option (Parser T)) (ts : List Symbol) → grouped begin close deeper (s.Mark begin ∷ ts) ≡ inside_group deeper close (s.Mark begin ∷ ts)
 unfolding grouped
 grouped-inside begin close deeper ts = rw (same_mark begin) refl
 

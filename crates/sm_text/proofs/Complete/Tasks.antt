@@ -22,7 +22,7 @@ use Rattle.sm_text.specs.declared.rules.reading.Fault.{Fault}
 use Rattle.sm_text.specs.rules.Parsers.{first, Parser, go_on, ◌>>=◌, ◌>>◌, pure, expect, stands}
 use Rattle.sm_text.specs.parsing.Places.{unmarked}
 use Rattle.sm_text.specs.rules.Reading as r
-use Rattle.sm_text.specs.Laws.{OneTask}
+use Rattle.sm_text.specs.Laws.{OneParse}
 use Rattle.sm_text.proofs.Sound.Loops.{next_name-shorter, more_names-end, declaration-shorter, more_declarations-end, filling-shorter, more_fillings-end}
 use Rattle.sm_text.proofs.Complete.Parsers.{reach, ended, bind-then, reads-then, go_on-go_on, go_on-pure, expect-then, gather-step, unmarked-plain, reach-plain}
 use Rattle.sm_text.proofs.Complete.Conditions.{condition_read}
@@ -115,12 +115,12 @@ shared_read (g.shared p) z = block_read p 64 refl z
 shared_begins : {ts : List Marked} {c : Code} → IsShared ts c → (us : List Marked) (z : List Symbol) → stands mark.Assume (first (unmarked (ts ++ us) ++ z)) ≡ false
 shared_begins (g.shared p) us z = refl
 
-filling_step : (before : Fillings) (ts : List Symbol) → stands mark.Question (first ts) ≡ true → r.more_fillings before ts ≡ go_on (r.filling ts) (λ (f : ℕ × Code). r.more_fillings (r.with_filling before f))
+filling_step : (before : Fillings) (ts : List Symbol) → stands mark.Question (first ts) ≡ true → r.more_fillings before ts ≡ go_on (r.hole_filling ts) (λ (f : ℕ × Code). r.more_fillings (r.with_filling before f))
 unfolding r.more_fillings
-filling_step before ts b = gather-step (stands mark.Question) r.filling r.with_filling filling-shorter before ts b
+filling_step before ts b = gather-step (stands mark.Question) r.hole_filling r.with_filling filling-shorter before ts b
 
-filling_is : (h : ℕ) → g.IsHoleNumber h → (ts : List Symbol) → r.filling (s.Mark mark.Question ∷ s.Number (pos h) ∷ ts) ≡ go_on (r.block 63 ts) (λ (c : Code). pure (h, c))
-unfolding r.filling r.list_limit expect
+filling_is : (h : ℕ) → g.IsHoleNumber h → (ts : List Symbol) → r.hole_filling (s.Mark mark.Question ∷ s.Number (pos h) ∷ ts) ≡ go_on (r.block 63 ts) (λ (c : Code). pure (h, c))
+unfolding r.hole_filling r.list_limit expect
 filling_is h inside ts = ap (λ (a : Result (ℕ × List Symbol) Fault). go_on a (λ (n : ℕ). r.block 63 >>= λ (c : Code). pure (n, c))) (hole_number_found h inside ts)
 
 fillings_from : {ts : List Marked} {fs : Fillings} → AreFillings ts fs → (before : Fillings) (z : List Symbol) → stands mark.Question (first z) ≡ false → r.more_fillings before (unmarked ts ++ z) ≡ reach ts z (Ok (before ++ fs, z))
@@ -149,14 +149,14 @@ list_read (g.list {ts = ts} {fs = fs} m p) z =
     inner = r.fillings >>= λ (l : Fillings). expect mark.CloseCurly >> pure l
 
 -- the front of a task that has these parts
-abbrev pub front_of : Parts → r.Front
+abbrev pub front_of : Parts → r.TaskFront
 front_of t = record { declared = t.declared; outputs = t.outputs; assumed = t.assumed; shared = t.shared }
 
 -- the fillings of a task, copy by copy
 abbrev pub listed : Parts → Copy → Fillings
 listed t = by_copy (t.fillings claim.O) (t.fillings claim.A) (t.fillings claim.B) (t.fillings claim.M)
 
-pub head-then : {U : Type 0} (t : Parts) {ts us vs ws : List Marked} (others : List Marked) → AreDeclarations ts t.declared → AreOutputs us t.outputs → IsAssumption vs t.assumed → IsShared ws t.shared → (z : List Symbol) (more : r.Front → Parser U) (a : Result (U × List Symbol) Fault) → more (front_of t) (unmarked others ++ z) ≡ reach others z a → go_on (r.head (unmarked (ts ++ (us ++ (vs ++ (ws ++ others)))) ++ z)) more ≡ reach (ts ++ (us ++ (vs ++ (ws ++ others)))) z a
+pub head-then : {U : Type 0} (t : Parts) {ts us vs ws : List Marked} (others : List Marked) → AreDeclarations ts t.declared → AreOutputs us t.outputs → IsAssumption vs t.assumed → IsShared ws t.shared → (z : List Symbol) (more : r.TaskFront → Parser U) (a : Result (U × List Symbol) Fault) → more (front_of t) (unmarked others ++ z) ≡ reach others z a → go_on (r.head (unmarked (ts ++ (us ++ (vs ++ (ws ++ others)))) ++ z)) more ≡ reach (ts ++ (us ++ (vs ++ (ws ++ others)))) z a
 unfolding r.head
 head-then t {ts = ts} {us = us} {vs = vs} {ws = ws} others declared named assumed code z more a e =
     bind-then r.declarations ts (us ++ (vs ++ (ws ++ others))) z t.declared with_outputs more a (declarations_read declared (unmarked (us ++ (vs ++ (ws ++ others))) ++ z) (outputs_begin named (vs ++ (ws ++ others)) z))
@@ -164,16 +164,16 @@ head-then t {ts = ts} {us = us} {vs = vs} {ws = ws} others declared named assume
     (bind-then r.assumed vs (ws ++ others) z t.assumed (with_shared t.declared t.outputs) more a (assumption_read assumed (unmarked (ws ++ others) ++ z) (shared_begins code others z))
     (bind-then r.shared ws others z t.shared (front t.declared t.outputs t.assumed) more a (shared_read code (unmarked others ++ z)) e)))
   where
-    front : List (ℕ × Sort) → List ℕ → Option Condition → Code → Parser r.Front
+    front : List (ℕ × Sort) → List ℕ → Option Condition → Code → Parser r.TaskFront
     front ds xs b c = pure (record { declared = ds; outputs = xs; assumed = b; shared = c })
 
-    with_shared : List (ℕ × Sort) → List ℕ → Option Condition → Parser r.Front
+    with_shared : List (ℕ × Sort) → List ℕ → Option Condition → Parser r.TaskFront
     with_shared ds xs b = r.shared >>= front ds xs b
 
-    with_assumed : List (ℕ × Sort) → List ℕ → Parser r.Front
+    with_assumed : List (ℕ × Sort) → List ℕ → Parser r.TaskFront
     with_assumed ds xs = r.assumed >>= with_shared ds xs
 
-    with_outputs : List (ℕ × Sort) → Parser r.Front
+    with_outputs : List (ℕ × Sort) → Parser r.TaskFront
     with_outputs ds = r.outputs >>= with_assumed ds
 
 lists-then : {U : Type 0} (t : Parts) {os xs ys ms : List Marked} → IsList mark.Base os (t.fillings claim.O) → IsList mark.VariantA xs (t.fillings claim.A) → IsList mark.VariantB ys (t.fillings claim.B) → IsList mark.Candidate ms (t.fillings claim.M) → (z : List Symbol) (more : (Copy → Fillings) → Parser U) → go_on (r.lists (unmarked (os ++ (xs ++ (ys ++ ms))) ++ z)) more ≡ reach (os ++ (xs ++ (ys ++ ms))) z (more (listed t) z)
@@ -201,7 +201,7 @@ lists-then t {os = os} {xs = xs} {ys = ys} {ms = ms} base variant_a variant_b ca
 pub task_read : {ts : List Marked} {t : Parts} → IsTask ts t → (z : List Symbol) → r.task (unmarked ts ++ z) ≡ reach ts z (Ok ((front_of t, listed t), z))
 unfolding r.task
 task_read (g.task {o = os} {a = xs} {b = ys} {m = ms} t declared named assumed code base variant_a variant_b candidate) z =
-    head-then t (os ++ (xs ++ (ys ++ ms))) declared named assumed code z (λ (front : r.Front). r.lists >>= λ (fs : Copy → Fillings). pure (front, fs)) (Ok ((front_of t, listed t), z))
+    head-then t (os ++ (xs ++ (ys ++ ms))) declared named assumed code z (λ (front : r.TaskFront). r.lists >>= λ (fs : Copy → Fillings). pure (front, fs)) (Ok ((front_of t, listed t), z))
     (lists-then t base variant_a variant_b candidate z (λ (fs : Copy → Fillings). pure (front_of t, fs)))
 
 all_copies : (fs : Copy → Fillings) → by_copy (fs claim.O) (fs claim.A) (fs claim.B) (fs claim.M) ≡ fs
@@ -218,7 +218,7 @@ pub whole_read : {ts : List Marked} {t : Parts} → IsTask ts t → r.whole (unm
 unfolding r.whole
 whole_read {ts} {t} p =
     ap (λ (l : List Symbol). r.to_end (r.task l)) (sym (append-nil (unmarked ts)))
-    ∙ ap (λ (a : Result ((r.Front × (Copy → Fillings)) × List Symbol) Fault). r.to_end a) (task_read p [])
+    ∙ ap (λ (a : Result ((r.TaskFront × (Copy → Fillings)) × List Symbol) Fault). r.to_end a) (task_read p [])
     ∙ ap (λ (fs : Copy → Fillings). r.to_end (reach ts [] (Ok ((front_of t, fs), [])))) (all_copies t.fillings)
 
 -- symbols of which none nests too deep are read as the task that the grammar spells by them
@@ -226,23 +226,23 @@ pub read_complete : (ts : List Symbol) (t : Parts) → IsTask (map plain ts) t �
 read_complete ts t p =
     ap (λ (l : List Symbol). r.whole l) (sym (unmarked-plain ts))
     ∙ whole_read p
-    ∙ ap (λ (a : Result ((r.Front × (Copy → Fillings)) × List Symbol) Fault). r.to_end a) (reach-plain ts [] (Ok ((front_of t, t.fillings), [])))
+    ∙ ap (λ (a : Result ((r.TaskFront × (Copy → Fillings)) × List Symbol) Fault). r.to_end a) (reach-plain ts [] (Ok ((front_of t, t.fillings), [])))
 
 ok_same : {T : Type 0} (x y : T) → (let a : Result T Fault = Ok x in a) ≡ Ok y → x ≡ y
 ok_same x y e = cc
 
 -- what is read of a text is the task that it spells
-pub parts_read : (bytes : List ℕ) (t : Parts) (names : List (List ℕ)) (ts : List Symbol) (body : r.Front × (Copy → Fillings)) → IsInGrammar bytes t → names ≡ names_of bytes → ts ≡ symbols_of bytes → r.whole ts ≡ Ok body → r.parts_from names body ≡ t
+pub parts_read : (bytes : List ℕ) (t : Parts) (names : List (List ℕ)) (ts : List Symbol) (body : r.TaskFront × (Copy → Fillings)) → IsInGrammar bytes t → names ≡ names_of bytes → ts ≡ symbols_of bytes → r.whole ts ≡ Ok body → r.parts_from names body ≡ t
 parts_read bytes t names ts body p n e f =
     let G : List Symbol → Type 0 = λ l. IsTask (map plain l) t in
     let same : body ≡ (front_of t, t.fillings) = ok_same body (front_of t, t.fillings) (sym f ∙ read_complete ts t (subst G (sym e) p.grammar)) in
-    ap (λ (b : r.Front × (Copy → Fillings)). r.parts_from names b) same ∙ ap (λ (l : List (List ℕ)). r.parts_from l (front_of t, t.fillings)) (n ∙ sym p.names)
+    ap (λ (b : r.TaskFront × (Copy → Fillings)). r.parts_from names b) same ∙ ap (λ (l : List (List ℕ)). r.parts_from l (front_of t, t.fillings)) (n ∙ sym p.names)
 
 -- a text is in the grammar by at most one task
-pub one_task : OneTask
-one_task bytes t u p q = sym (parts_read bytes t (names_of bytes) (symbols_of bytes) (front_of t, t.fillings) p refl refl (read_complete (symbols_of bytes) t p.grammar)) ∙ parts_read bytes u (names_of bytes) (symbols_of bytes) (front_of t, t.fillings) q refl refl (read_complete (symbols_of bytes) t p.grammar)
+pub one_parse : OneParse
+one_parse bytes t u p q = sym (parts_read bytes t (names_of bytes) (symbols_of bytes) (front_of t, t.fillings) p refl refl (read_complete (symbols_of bytes) t p.grammar)) ∙ parts_read bytes u (names_of bytes) (symbols_of bytes) (front_of t, t.fillings) q refl refl (read_complete (symbols_of bytes) t p.grammar)
 
-not_ok : (f : Fault) (x : r.Front × (Copy → Fillings)) → (let a : Result (r.Front × (Copy → Fillings)) Fault = Err f in a) ≡ Ok x → ⊥
+not_ok : (f : Fault) (x : r.TaskFront × (Copy → Fillings)) → (let a : Result (r.TaskFront × (Copy → Fillings)) Fault = Err f in a) ≡ Ok x → ⊥
 not_ok f x e = cc
 
 -- a text that is refused is in the grammar by no task

@@ -19,7 +19,7 @@ use Rattle.sm_text.proofs.FirstFault.Refusals.{Judges, Reads, whole_judges, viab
 no_names : List (List ℕ)
 no_names = []
 
-is_task : (us : List Marked) (x : r.Front × (Copy → Fillings)) → IsTaskBody us x → AreTasks us
+is_task : (us : List Marked) (x : r.TaskFront × (Copy → Fillings)) → IsTaskBody us x → AreTasks us
 is_task us x i = (r.parts_from no_names x, i.goes no_names)
 
 tasks_read : Reads r.task AreTasks
@@ -30,7 +30,7 @@ unfolding r.whole
 task_judges = whole_judges r.task AreTasks (weaken is_task task_told) tasks_read
 
 -- what is read as a task is one
-pub task_viable : (ts : List Symbol) (x : r.Front × (Copy → Fillings)) → r.whole ts ≡ Ok x → IsViable AreTasks ts
+pub task_viable : (ts : List Symbol) (x : r.TaskFront × (Copy → Fillings)) → r.whole ts ≡ Ok x → IsViable AreTasks ts
 task_viable ts x e =
     let F : List Marked → Type 0 = λ l. AreTasks l in
     viable AreTasks ts [] (subst F (sym (append-nil (map plain ts))) (is_task (map plain ts) x (whole_told ts x e)))

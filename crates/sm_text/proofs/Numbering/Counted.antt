@@ -15,7 +15,7 @@ use Rattle.sm_syntax.specs.declared.token.TokenKind.TheVariants.{Word, Number, S
 use Rattle.sm_syntax.specs.text.Symbols.{text_of, is_among, with_text, names_after, mark_or, symbol_by, symbol_of}
 use Rattle.sm_syntax.specs.text.Tokens.{mark_of_word, mark_of_sign}
 use Rattle.sm_syntax.proofs.Numbering.{with_text-among, with_text-new, number-last}
-use Rattle.sm_text.specs.parsing.BlockTokens.{signs}
+use Rattle.sm_text.specs.parsing.BlockTokens.{token_symbols}
 use Rattle.sm_text.specs.parsing.Fragments.{IsKnown}
 use Rattle.sm_text.specs.resolving.NameCounts.{names_counted}
 use Rattle.sm_text.proofs.Numbering.Symbols.{names_with, names_after-append, grown-names_after, known-names_with, symbol_by-append}
@@ -34,7 +34,7 @@ names-take bytes before n ts =
     (grown.0, ap (names_after bytes before) (sym (take-append-drop n ts)) ∙ names_after-append bytes before (take n ts) (drop n ts) ∙ grown.1)
 
 -- and their symbols are the same, whatever stands behind them
-pub signs-take : (bytes : List ℕ) (before : List (List ℕ)) (n : ℕ) (ts : List Token) → take n (signs bytes before ts) ≡ signs bytes before (take n ts)
+pub signs-take : (bytes : List ℕ) (before : List (List ℕ)) (n : ℕ) (ts : List Token) → take n (token_symbols bytes before ts) ≡ token_symbols bytes before (take n ts)
 signs-take bytes before n ts =
     let names = names_after bytes before (take n ts) in
     let grown = names-take bytes before n ts in
@@ -43,7 +43,7 @@ signs-take bytes before n ts =
     ∙ same_symbols bytes names grown.0 (take n ts) (known_behind bytes before (take n ts) names refl)
 
 -- others stand behind these
-pub signs-split : (bytes : List ℕ) (before : List (List ℕ)) (n : ℕ) (ts : List Token) → (z : List Symbol) × (signs bytes before ts ≡ signs bytes before (take n ts) ++ z) × (length z ≡ length ts - n)
+pub signs-split : (bytes : List ℕ) (before : List (List ℕ)) (n : ℕ) (ts : List Token) → (z : List Symbol) × (token_symbols bytes before ts ≡ token_symbols bytes before (take n ts) ++ z) × (length z ≡ length ts - n)
 signs-split bytes before n ts =
     let sign = symbol_of bytes (names_after bytes before ts) in
     let z = map sign (drop n ts) in (
@@ -126,7 +126,7 @@ count_step Word before text ss = by (mark_of_word text)
     by None = ap (λ (n : ℕ). names_counted n ss) (next_number before text)
 
 -- the symbols of tokens count their names
-pub counted : (bytes : List ℕ) (before : List (List ℕ)) (ts : List Token) → names_counted (length before) (signs bytes before ts) ≡ length (names_after bytes before ts)
+pub counted : (bytes : List ℕ) (before : List (List ℕ)) (ts : List Token) → names_counted (length before) (token_symbols bytes before ts) ≡ length (names_after bytes before ts)
 unfolding symbol_of
 counted bytes before [] = refl
 counted bytes before (t ∷ ts) =
@@ -135,10 +135,10 @@ counted bytes before (t ∷ ts) =
     let rest = grown-names_after bytes now ts in
     let symbol : symbol_by t.kind (names_after bytes now ts) text ≡ symbol_by t.kind now text =
     ap (λ (l : List (List ℕ)). symbol_by t.kind l text) rest.1 ∙ symbol_by-append t.kind now rest.0 text (known-names_with before t.kind text) in
-    ap (λ (u : Symbol). names_counted (length before) (u ∷ signs bytes now ts)) symbol ∙ count_step t.kind before text (signs bytes now ts) ∙ counted bytes now ts
+    ap (λ (u : Symbol). names_counted (length before) (u ∷ token_symbols bytes now ts)) symbol ∙ count_step t.kind before text (token_symbols bytes now ts) ∙ counted bytes now ts
 
 -- a table cut to the names that the first symbols count has the names of the first tokens
-pub names_cut : (bytes : List ℕ) (before : List (List ℕ)) (n : ℕ) (ts : List Token) → take (names_counted (length before) (take n (signs bytes before ts))) (names_after bytes before ts) ≡ names_after bytes before (take n ts)
+pub names_cut : (bytes : List ℕ) (before : List (List ℕ)) (n : ℕ) (ts : List Token) → take (names_counted (length before) (take n (token_symbols bytes before ts))) (names_after bytes before ts) ≡ names_after bytes before (take n ts)
 names_cut bytes before n ts =
     let all = names_after bytes before ts in
     let names = names_after bytes before (take n ts) in
@@ -149,9 +149,9 @@ names_cut bytes before n ts =
     ∙ take-append_seam names grown.0
 
 -- so has a table of all names that is cut by the symbols
-pub cut_names : (bytes : List ℕ) (before : List (List ℕ)) (n : ℕ) (ts : List Token) (symbols : List Symbol) (table names : List (List ℕ)) → symbols ≡ signs bytes before ts → table ≡ names_after bytes before ts → names ≡ take (names_counted (length before) (take n symbols)) table → names ≡ names_after bytes before (take n ts)
+pub cut_names : (bytes : List ℕ) (before : List (List ℕ)) (n : ℕ) (ts : List Token) (symbols : List Symbol) (table names : List (List ℕ)) → symbols ≡ token_symbols bytes before ts → table ≡ names_after bytes before ts → names ≡ take (names_counted (length before) (take n symbols)) table → names ≡ names_after bytes before (take n ts)
 cut_names bytes before n ts symbols table names same all cut =
     cut
     ∙ ap (λ (l : List Symbol). take (names_counted (length before) (take n l)) table) same
-    ∙ ap (take (names_counted (length before) (take n (signs bytes before ts)))) all
+    ∙ ap (take (names_counted (length before) (take n (token_symbols bytes before ts)))) all
     ∙ names_cut bytes before n ts

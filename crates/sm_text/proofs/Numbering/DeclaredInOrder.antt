@@ -22,7 +22,7 @@ use Rattle.sm_syntax.specs.text.Parts.{Parts}
 use Rattle.sm_syntax.specs.text.Symbols.{text_of, is_among, with_text, names_after, mark_or, symbol_by, symbol_of, symbols_among, names_among, symbols_of}
 use Rattle.sm_syntax.specs.text.Tokens.{mark_of_word, mark_of_sign, lexed}
 use Rattle.sm_syntax.proofs.Numbering.{with_text-among, with_text-new, number-last}
-use Rattle.sm_text.specs.parsing.BlockTokens.{signs}
+use Rattle.sm_text.specs.parsing.BlockTokens.{token_symbols}
 use Rattle.sm_text.proofs.Numbering.Counted.{among-below, fresh-last}
 use Rattle.sm_text.proofs.Numbering.Symbols.{names_with, grown-names_after, known-names_with, symbol_by-append}
 use Rattle.sm_text.specs.Laws.{DeclaredInOrder}
@@ -101,7 +101,7 @@ next_symbol Word before text ts h = by (mark_of_word text) h
     by None h = next_name before text (numbers ts) h
 
 -- the names of tokens appear in the order of their numbers
-signs_appear : (bytes : List ℕ) (before : List (List ℕ)) (ts : List Token) → Appear (length before) (numbers (signs bytes before ts))
+signs_appear : (bytes : List ℕ) (before : List (List ℕ)) (ts : List Token) → Appear (length before) (numbers (token_symbols bytes before ts))
 unfolding symbol_of
 signs_appear bytes before [] = tt
 signs_appear bytes before (t ∷ ts) =
@@ -110,8 +110,8 @@ signs_appear bytes before (t ∷ ts) =
     let rest = grown-names_after bytes now ts in
     let symbol : symbol_by t.kind (names_after bytes now ts) text ≡ symbol_by t.kind now text =
     ap (λ (l : List (List ℕ)). symbol_by t.kind l text) rest.1 ∙ symbol_by-append t.kind now rest.0 text (known-names_with before t.kind text) in
-    let F : Symbol → Type 0 = λ u. Appear (length before) (numbers (u ∷ signs bytes now ts)) in
-    subst F (sym symbol) (next_symbol t.kind before text (signs bytes now ts) (signs_appear bytes now ts))
+    let F : Symbol → Type 0 = λ u. Appear (length before) (numbers (u ∷ token_symbols bytes now ts)) in
+    subst F (sym symbol) (next_symbol t.kind before text (token_symbols bytes now ts) (signs_appear bytes now ts))
 
 -- the same of marked symbols
 abbrev marked_numbers : List Marked → List ℕ

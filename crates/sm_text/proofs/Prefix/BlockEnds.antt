@@ -24,7 +24,7 @@ use Rattle.sm_syntax.specs.text.Symbols.{text_of, mark_or, symbol_by, symbol_of,
 use Rattle.sm_syntax.specs.claim.Syntax.{Expression, Condition, Code}
 use Rattle.sm_syntax.specs.text.Tokens.{Table, entry, mark_of_word, mark_of_sign, reserved_words}
 use Rattle.sm_text.specs.declared.rules.reading.Fault.{Fault}
-use Rattle.sm_text.specs.parsing.BlockTokens.{signs, is_mark, is_sign, many, IsGroup}
+use Rattle.sm_text.specs.parsing.BlockTokens.{token_symbols, is_mark, is_sign, many, IsGroup}
 use Rattle.sm_text.specs.rules.Parsers.{first, fault}
 use Rattle.sm_text.specs.rules.Reading as r
 use Rattle.sm_text.specs.resolving.TokenTexts.{sign_by}
@@ -270,10 +270,10 @@ ok_not_err : (x : Code × List Symbol) (f : Fault) → (let a : Result (Code × 
 ok_not_err x f e = cc
 
 -- where tokens end with the brace that closes the first, and others stand behind them, no block is refused at their end
-pub none_at_end : (bytes : List ℕ) (before : List (List ℕ)) (groups m : ℕ) (ts : List Token) → IsGroup bytes ts m → m < length ts → (f : Fault) → r.block (64 - groups) (signs bytes before (take m ts)) ≡ Err f → f.left ≡ 0 → ⊥
+pub none_at_end : (bytes : List ℕ) (before : List (List ℕ)) (groups m : ℕ) (ts : List Token) → IsGroup bytes ts m → m < length ts → (f : Fault) → r.block (64 - groups) (token_symbols bytes before (take m ts)) ≡ Err f → f.left ≡ 0 → ⊥
 none_at_end bytes before groups m ts group less f e none =
     let us = take m ts in
-    let ss = signs bytes before us in
+    let ss = token_symbols bytes before us in
     let p = r.block (64 - groups) in
     let F : Result (Code × List Symbol) Fault → Type 0 = λ a. Told p (IsBlock groups) ss a in
     let k : Stops p (IsBlock groups) ss f = subst F e ((any_block_told groups).tells ss) in

@@ -16,7 +16,7 @@ use Rattle.sm_syntax.specs.claim.Syntax.{Code}
 use Rattle.sm_syntax.specs.text.Tokens.{lexed}
 use Rattle.sm_text.specs.rules.Parsers.{Parser, pure}
 use Rattle.sm_text.specs.parsing.Places.{unmarked}
-use Rattle.sm_text.specs.parsing.Prefix.{between, HeadParts, IsHead, head, SpellsHead}
+use Rattle.sm_text.specs.parsing.Prefix.{tokens_between, HeadParts, IsHead, head, SpellsHead}
 use Rattle.sm_text.specs.rules.Reading as r
 use Rattle.sm_text.proofs.Complete.Parsers.{past, reach, grouped-inside, go_on-pure, unmarked-plain, reach-plain}
 use Rattle.sm_text.proofs.Complete.Statements.{block_read}
@@ -30,14 +30,14 @@ reads_plain : {T : Type 0} (p : Parser T) (ss : List Symbol) (x : T) (z : List S
 reads_plain {T} p ss x z e = ap (λ (l : List Symbol). p (l ++ z)) (sym (unmarked-plain ss)) ∙ e ∙ reach-plain ss z (Ok (x, z))
 
 -- the front of a task that a head is
-abbrev pub front_from : HeadParts → r.Front
+abbrev pub front_from : HeadParts → r.TaskFront
 front_from h = record { declared = h.program.declared; outputs = h.program.outputs; assumed = h.assumed; shared = h.program.body }
 
 -- the head that a front is, under names
-abbrev pub head_from : List (List ℕ) → r.Front → HeadParts
+abbrev pub head_from : List (List ℕ) → r.TaskFront → HeadParts
 head_from names f = record { program = record { names = names; declared = f.declared; outputs = f.outputs; body = f.shared }; assumed = f.assumed }
 
-pub is_head : (names : List (List ℕ)) (f : r.Front) (us : List Marked) → IsFrontOfTask us f → IsHead us (head_from names f)
+pub is_head : (names : List (List ℕ)) (f : r.TaskFront) (us : List Marked) → IsFrontOfTask us f → IsHead us (head_from names f)
 is_head names f us k =
     let F : List Marked → Type 0 = λ l. IsHead l (head_from names f) in
     subst F (sym k.parts) (head (head_from names f) k.declared k.named k.assumed k.code)
@@ -46,7 +46,7 @@ pub is_front : (h : HeadParts) (us : List Marked) → IsHead us h → IsFrontOfT
 is_front h us (head {ts = ts} {us = os} {vs = vs} {ws = ws} it declared named assumed code) = record { ds = ts; os = os; qs = vs; ss = ws; parts = refl; declared = declared; named = named; assumed = assumed; code = code }
 
 -- a head is read, whatever stands behind it
-pub front_read : (us : List Marked) (f : r.Front) → IsFrontOfTask us f → (z : List Symbol) → r.head (unmarked us ++ z) ≡ reach us z (Ok (f, z))
+pub front_read : (us : List Marked) (f : r.TaskFront) → IsFrontOfTask us f → (z : List Symbol) → r.head (unmarked us ++ z) ≡ reach us z (Ok (f, z))
 front_read us f k z =
     let t : Parts = record { names = []; declared = f.declared; outputs = f.outputs; assumed = f.assumed; shared = f.shared; fillings = λ (c : Copy). [] } in
     let line : us ≡ k.ds ++ (k.os ++ (k.qs ++ (k.ss ++ []))) = k.parts ∙ ap (λ (l : List Marked). k.ds ++ (k.os ++ (k.qs ++ l))) (sym (append-nil k.ss)) in
@@ -57,11 +57,11 @@ pub head_reads : ReadsAll r.head IsFrontOfTask
 head_reads ss f k z = reads_plain r.head ss f z (front_read (map plain ss) f k z)
 
 -- two heads that the first tokens of a text spell are one
-pub head_same : (bytes : List ℕ) (m n : ℕ) (names : List (List ℕ)) (f : r.Front) (h : HeadParts) → SpellsHead bytes m (head_from names f) → SpellsHead bytes n h → (f ≡ front_from h) × (m ≡ n) → (head_from names f ≡ h) × (m ≡ n)
+pub head_same : (bytes : List ℕ) (m n : ℕ) (names : List (List ℕ)) (f : r.TaskFront) (h : HeadParts) → SpellsHead bytes m (head_from names f) → SpellsHead bytes n h → (f ≡ front_from h) × (m ≡ n) → (head_from names f ≡ h) × (m ≡ n)
 head_same bytes m n names f h one two same = (ap₂ head_from texts same.0, same.1)
   where
     texts : names ≡ h.program.names
-    texts = one.numbered ∙ ap (λ (k : ℕ). names_after bytes [] (between 0 k (lexed bytes).0)) same.1 ∙ sym two.numbered
+    texts = one.numbered ∙ ap (λ (k : ℕ). names_after bytes [] (tokens_between 0 k (lexed bytes).0)) same.1 ∙ sym two.numbered
 
 -- how many groups may still be opened where d are open
 abbrev pub groups_left : ℕ → ℕ

@@ -8,7 +8,7 @@ use Rattle.sm_syntax.specs.text.Symbols.{symbol_of, names_after}
 use Rattle.sm_syntax.specs.claim.Syntax.{Code}
 use Rattle.sm_syntax.specs.text.Tokens.{lexed}
 use Rattle.sm_text.specs.declared.rules.reading.Fault.{Fault}
-use Rattle.sm_text.specs.parsing.BlockTokens.{signs, IsFirstBlock}
+use Rattle.sm_text.specs.parsing.BlockTokens.{token_symbols, IsFirstBlock}
 use Rattle.sm_text.specs.resolving.NameCounts.{names_counted}
 use Rattle.sm_text.specs.rules.Parsers.{Parser, first}
 use Rattle.sm_text.specs.parsing.Places.{Grammar}
@@ -43,23 +43,23 @@ first_stays (u ∷ us) z none = refl
 
 module _ {T : Type 0} (p : Parser T) (G : List Marked → T → Type 0) (told : Describes p G) (bytes : List ℕ) (before : List (List ℕ)) (m : ℕ) (ts : List Token) where
   -- what is read
-  read_of_all : ReadsAll p G → (x : T) (after : List Symbol) → p (signs bytes before (take m ts)) ≡ Ok (x, after) → (all : List Symbol) × (p (signs bytes before ts) ≡ Ok (x, all)) × (length all ≡ length after + (length ts - m))
+  read_of_all : ReadsAll p G → (x : T) (after : List Symbol) → p (token_symbols bytes before (take m ts)) ≡ Ok (x, after) → (all : List Symbol) × (p (token_symbols bytes before ts) ≡ Ok (x, all)) × (length all ≡ length after + (length ts - m))
   read_of_all reads x after e =
       let k = taken p G bytes before (take m ts) x after told e in
       let more = signs-split bytes before m ts in
       let z = more.0 in
-      let line : signs bytes before ts ≡ k.used ++ (after ++ z) = more.1 ∙ ap (λ (l : List Symbol). l ++ z) k.split ∙ append_assoc k.used after z in
+      let line : token_symbols bytes before ts ≡ k.used ++ (after ++ z) = more.1 ∙ ap (λ (l : List Symbol). l ++ z) k.split ∙ append_assoc k.used after z in
       (after ++ z, ap p line ∙ reads k.used x k.fits (after ++ z), length-both after z ∙ ap (λ (n : ℕ). length after + n) more.2)
 
   -- what is refused
-  pub refused_of_all : (f : Fault) → p (signs bytes before (take m ts)) ≡ Err f → (f.left ≡ 0 → length ts - m ≡ 0) → p (signs bytes before ts) ≡ Err (record { kind = f.kind; left = f.left + (length ts - m) })
+  pub refused_of_all : (f : Fault) → p (token_symbols bytes before (take m ts)) ≡ Err f → (f.left ≡ 0 → length ts - m ≡ 0) → p (token_symbols bytes before ts) ≡ Err (record { kind = f.kind; left = f.left + (length ts - m) })
   refused_of_all f e some_left =
-      let F : Result (T × List Symbol) Fault → Type 0 = λ a. Told p G (signs bytes before (take m ts)) a in
-      let k : Stops p G (signs bytes before (take m ts)) f = subst F e (told.tells (signs bytes before (take m ts))) in
+      let F : Result (T × List Symbol) Fault → Type 0 = λ a. Told p G (token_symbols bytes before (take m ts)) a in
+      let k : Stops p G (token_symbols bytes before (take m ts)) f = subst F e (told.tells (token_symbols bytes before (take m ts))) in
       let more = signs-split bytes before m ts in
       let z = more.0 in
       let left : f.left ≡ length k.here = ap (λ (g : Fault). g.left) k.place in
-      let line : signs bytes before ts ≡ k.used ++ (k.here ++ z) = more.1 ∙ ap (λ (l : List Symbol). l ++ z) k.split ∙ append_assoc k.used k.here z in
+      let line : token_symbols bytes before ts ≡ k.used ++ (k.here ++ z) = more.1 ∙ ap (λ (l : List Symbol). l ++ z) k.split ∙ append_assoc k.used k.here z in
       let size : length (k.here ++ z) ≡ f.left + (length ts - m) = length-both k.here z ∙ ap (λ (n : ℕ). n + length z) (sym left) ∙ ap (λ (n : ℕ). f.left + n) more.2 in
       let stays = first_stays k.here z (λ none. more.2 ∙ some_left (left ∙ none)) in
       ap p line ∙ k.again (k.here ++ z) stays ∙ ap (λ (n : ℕ). Err (let g : Fault = record { kind = f.kind; left = n } in g)) size
@@ -82,7 +82,7 @@ first_of_all bytes before groups m ts names c left all within k same =
 
 module _ (bytes : List ℕ) (before : List (List ℕ)) (groups : ℕ) (ts : List Token) where
   -- a block that is read of the symbols of tokens, with the table cut to the names that its symbols count
-  pub first_read : (c : Code) (after symbols : List Symbol) (table names : List (List ℕ)) (used : ℕ) → symbols ≡ signs bytes before ts → r.block (64 - groups) symbols ≡ Ok (c, after) → used ≡ length symbols - length after → table ≡ names_after bytes before ts
+  pub first_read : (c : Code) (after symbols : List Symbol) (table names : List (List ℕ)) (used : ℕ) → symbols ≡ token_symbols bytes before ts → r.block (64 - groups) symbols ≡ Ok (c, after) → used ≡ length symbols - length after → table ≡ names_after bytes before ts
       → names ≡ take (names_counted (length before) (take used symbols)) table → IsFirstBlock bytes before groups ts names c (length after)
   first_read c after symbols table names used same e count all cut =
       let read = ap (r.block (64 - groups)) (sym same) ∙ e in
@@ -101,9 +101,9 @@ module _ (bytes : List ℕ) (before : List (List ℕ)) (groups : ℕ) (ts : List
       omega (arith, fewer, k.count)
 
   -- no more are left where none begins
-  pub refused_within : (f : Fault) → r.block (64 - groups) (signs bytes before ts) ≡ Err f → f.left ≤ length ts
+  pub refused_within : (f : Fault) → r.block (64 - groups) (token_symbols bytes before ts) ≡ Err f → f.left ≤ length ts
   refused_within f e =
-      let left = symbols_left (block_judges groups) (signs bytes before ts) f e in
+      let left = symbols_left (block_judges groups) (token_symbols bytes before ts) f e in
       let size = length-map ts (symbol_of bytes (names_after bytes before ts)) in
       omega (arith, left, size)
 

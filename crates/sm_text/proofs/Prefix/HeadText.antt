@@ -14,9 +14,9 @@ use Rattle.sm_syntax.specs.claim.Syntax.{Expression, Lit, Var, Read, Neg, Plus, 
 use Rattle.sm_syntax.specs.text.Tokens.{Lexed, lexed}
 use Rattle.sm_syntax.proofs.Numbering.{with_text-among, is_among-with_text, grown-with_text}
 use Rattle.sm_text.specs.parsing.Fragments.{ProgramParts, IsProgram, program, HasProgramText}
-use Rattle.sm_text.specs.printing.Pieces.{text_of}
+use Rattle.sm_text.specs.printing.Pieces.{pieces_text}
 use Rattle.sm_text.specs.parsing.Places.{unmarked}
-use Rattle.sm_text.specs.parsing.Prefix.{between, HeadParts, IsHead, head, SpellsHead, AssumesDeclared, IsNamedHead}
+use Rattle.sm_text.specs.parsing.Prefix.{tokens_between, HeadParts, IsHead, head, SpellsHead, AssumesDeclared, IsNamedHead}
 use Rattle.sm_text.proofs.RoundTrip.Content.{content, both, content_of, content_tested, content_used, content_listed, content_declared, content_assumed, declarations_content, outputs_content, assumption_content, shared_content}
 use Rattle.sm_text.proofs.RoundTrip.Fitting.{IsClean, clean_left, clean_right, clean_plain}
 use Rattle.sm_text.proofs.RoundTrip.Parts.{content_of_program, program_content}
@@ -122,7 +122,7 @@ head_content (head {ts = ts} {us = us} {vs = vs} {ws = ws} h decls outs assume b
 head_has : (bytes : List ℕ) (n : ℕ) (h : HeadParts) → SpellsHead bytes n h → IsContent h.program.names (content_of_head h)
 head_has bytes n h spells =
     let names = h.program.names in
-    let part = between 0 n (lexed bytes).0 in
+    let part = tokens_between 0 n (lexed bytes).0 in
     let ts = map (symbol_of bytes names) part in
     let C : List Symbol → Type 0 = λ l. IsContent names l in
     let all = content_in names ts (part_in bytes 0 n [] names spells.numbered) in
@@ -200,7 +200,7 @@ pub head_has_text : (bytes : List ℕ) (n : ℕ) (h : HeadParts) → SpellsHead 
 head_has_text bytes n h spells declared =
     let p = h.program in
     let names = p.names in
-    let it = program_of_head spells.grammar (clean_plain (map (symbol_of bytes names) (between 0 n (lexed bytes).0))) in
+    let it = program_of_head spells.grammar (clean_plain (map (symbol_of bytes names) (tokens_between 0 n (lexed bytes).0))) in
     let ps = spaced it.symbols in
     let has = program_of_head_has bytes n h spells declared in
     let A : List Symbol → Type 0 = λ l. AllIn names l in
@@ -209,7 +209,7 @@ head_has_text bytes n h spells declared =
     let same = ap (λ (l : List Symbol). content (map plain l)) (spaced-symbols it.symbols) ∙ program_content it.grammar in
     let again = pieces_again names ps (content_of_program p) has same cut in
     let G : List Symbol → Type 0 = λ l. IsProgram (map plain l) p in (
-      text_of names ps,
+      pieces_text names ps,
       record {
         tokens = ap (λ (l : Lexed). l.1) cut;
         names = sym again.names_same;

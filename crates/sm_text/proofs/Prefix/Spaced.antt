@@ -8,8 +8,8 @@ use Rattle.sm_syntax.specs.text.Symbols.{symbol_of, names_after}
 use Rattle.sm_syntax.specs.claim.Syntax.{Code}
 use Rattle.sm_syntax.specs.text.Tokens.{is_word_byte, lexed}
 use Rattle.sm_text.specs.parsing.Fragments.{HasBlockText}
-use Rattle.sm_text.specs.printing.Pieces.{Piece, Token, space, text_of, symbols_in}
-use Rattle.sm_text.specs.parsing.Prefix.{between, SpellsBlockAt}
+use Rattle.sm_text.specs.printing.Pieces.{Piece, Token, space, pieces_text, symbols_in}
+use Rattle.sm_text.specs.parsing.Prefix.{tokens_between, SpellsBlockAt}
 use Rattle.sm_text.proofs.RoundTrip.Content.{content}
 use Rattle.sm_text.proofs.Prefix.FewerGroups.{block_fewer}
 use Rattle.sm_text.proofs.RoundTrip.Fitting.{clean_plain}
@@ -53,10 +53,10 @@ all_dropped P (suc n) [] all = tt
 all_dropped P (suc n) (t ∷ ts) all = all_dropped P n ts all.1
 
 -- the symbols of tokens of a text may stand in a text, under the names that were known and theirs
-pub part_in : (bytes : List ℕ) (at n : ℕ) (before names : List (List ℕ)) → names ≡ names_after bytes before (between at n (lexed bytes).0) → AllIn names (map (symbol_of bytes names) (between at n (lexed bytes).0))
+pub part_in : (bytes : List ℕ) (at n : ℕ) (before names : List (List ℕ)) → names ≡ names_after bytes before (tokens_between at n (lexed bytes).0) → AllIn names (map (symbol_of bytes names) (tokens_between at n (lexed bytes).0))
 part_in bytes at n before names numbered =
     let tokens = (lexed bytes).0 in
-    let part = between at n tokens in
+    let part = tokens_between at n tokens in
     symbols_are_in bytes names part (all_taken (IsGoodToken bytes) (n - at) (drop at tokens) (all_dropped (IsGoodToken bytes) at tokens (tokens_good bytes))) (known_behind bytes before part names numbered)
 
 -- a text of symbols that may stand in one
@@ -66,8 +66,8 @@ spaced_under names ts all = pieces_under names (spaced ts) (content (map plain t
 -- some text spells a block that tokens of a text spell
 pub block_has_text : (bytes : List ℕ) (at groups n : ℕ) (before names : List (List ℕ)) (c : Code) → SpellsBlockAt bytes at groups before n names c → HasBlockText names c
 block_has_text bytes at groups n before names c spells =
-    let ts = map (symbol_of bytes names) (between at n (lexed bytes).0) in
+    let ts = map (symbol_of bytes names) (tokens_between at n (lexed bytes).0) in
     let it = spaced_under names ts (part_in bytes at n before names spells.numbered) in
     let B : List Symbol → Type 0 = λ l. IsBlock 0 (map plain l) c in
     let alone : IsBlock 0 (map plain ts) c = block_fewer spells.grammar (clean_plain ts) 0 (omega arith) in
-    (text_of names (spaced ts), record { text = it.text; grammar = subst B (sym (it.symbols ∙ spaced-symbols ts)) alone })
+    (pieces_text names (spaced ts), record { text = it.text; grammar = subst B (sym (it.symbols ∙ spaced-symbols ts)) alone })

@@ -15,14 +15,14 @@ use Rattle.sm_syntax.specs.declared.tree.Cmp.TheVariants.{Eq, Ne, Lt, Le, Gt, Ge
 use Rattle.sm_syntax.specs.text.Grammar.{comparison}
 use Rattle.sm_syntax.specs.claim.Syntax.{Expression, Lit, Var, Read, Neg, Plus, Minus, Times, Condition, Yes, No, Compare, Not, And, Or}
 use Rattle.sm_syntax.specs.text.Tokens.{is_word_start, is_word_byte}
-use Rattle.sm_text.specs.printing.Pieces.{Piece, text_of, word, number, name, space}
+use Rattle.sm_text.specs.printing.Pieces.{Piece, pieces_text, mark_piece, number_piece, name_piece, space}
 use Rattle.sm_text.specs.printing.Canonical.{between, is_atom, operand, expression_pieces, is_test, part, condition_pieces}
 use Rattle.sm_text.proofs.RoundTrip.PieceTokens.{begins, is_reserved, goes_on_mark, both-left, digits_of_decimal}
 use Rattle.sm_text.proofs.RoundTrip.TextTokens.{goes_on, IsNameText, IsLiteral, AreApart}
 
 -- no token goes on with what these pieces begin with
 pub record IsClosed (names : List (List ℕ)) (ps : List Piece) : Type 0 where
-  pub closed : (t : Symbol) → begins (goes_on t) (text_of names ps) ≡ false
+  pub closed : (t : Symbol) → begins (goes_on t) (pieces_text names ps) ≡ false
 
 same_if : (b : Bool) (x y : Bool) → x ≡ false → y ≡ false → (if b then x else y) ≡ false
 same_if true x y p q = p
@@ -37,7 +37,7 @@ closed_at c no_word no_equals (s.Name x) = no_word
 -- apart, and no sign goes on with what they begin with
 pub record Runs (names : List (List ℕ)) (ps : List Piece) : Type 0 where
   pub apart : AreApart names ps
-  pub safe : begins (λ b. b == 61) (text_of names ps) ≡ false
+  pub safe : begins (λ b. b == 61) (pieces_text names ps) ≡ false
 
 -- an expression that a text may have, where these are the texts of the names
 abbrev pub IsWritten : List (List ℕ) → Expression → Type 0
@@ -54,18 +54,18 @@ name_safe : (text v : List ℕ) → IsNameText text → begins (λ b. b == 61) (
 name_safe [] v good = let no = good.start in cc
 name_safe (b ∷ u) v good = let start : is_word_start b ≡ true = good.start in grind (arith, nat_tests)
 
-pub name_runs : (names : List (List ℕ)) (x : ℕ) (ps : List Piece) → IsNameText (unwrap_or (slice_get names x) []) → AreApart names ps → IsClosed names ps → Runs names (name x ∷ ps)
+pub name_runs : (names : List (List ℕ)) (x : ℕ) (ps : List Piece) → IsNameText (unwrap_or (slice_get names x) []) → AreApart names ps → IsClosed names ps → Runs names (name_piece x ∷ ps)
 name_runs names x ps good apart behind =
     record {
       apart = (good, behind.closed (s.Name (record { 0 = x })), apart);
-      safe = name_safe (unwrap_or (slice_get names x) []) (text_of names ps) good;
+      safe = name_safe (unwrap_or (slice_get names x) []) (pieces_text names ps) good;
     }
 
 -- a sign before pieces that no sign goes on with
-pub round_closed : (names : List (List ℕ)) (ps : List Piece) → IsClosed names (word mark.CloseRound ∷ ps)
+pub round_closed : (names : List (List ℕ)) (ps : List Piece) → IsClosed names (mark_piece mark.CloseRound ∷ ps)
 round_closed names ps = record { closed = closed_at 41 refl refl }
 
-pub square_closed : (names : List (List ℕ)) (ps : List Piece) → IsClosed names (word mark.CloseSquare ∷ ps)
+pub square_closed : (names : List (List ℕ)) (ps : List Piece) → IsClosed names (mark_piece mark.CloseSquare ∷ ps)
 square_closed names ps = record { closed = closed_at 93 refl refl }
 
 pub space_closed : (names : List (List ℕ)) (ps : List Piece) → IsClosed names (space ∷ ps)
@@ -77,26 +77,26 @@ RunsBefore names ps = (rest : List Piece) → AreApart names rest → IsClosed n
 
 -- a group between a sign that no sign goes on with, and another
 grouped_runs : (names : List (List ℕ)) (first last : Mark) (ps : List Piece) →
-    ((qs : List Piece) → begins (λ b. b == 61) (text_of names qs) ≡ false → begins (goes_on_mark first) (text_of names qs) ≡ false) →
-    ((qs : List Piece) → begins (λ b. b == 61) (text_of names (word first ∷ qs)) ≡ false) →
-    ((qs : List Piece) → IsClosed names (word last ∷ qs)) →
-    ((rest : List Piece) → IsClosed names rest → begins (goes_on_mark last) (text_of names rest) ≡ false) →
-    RunsBefore names ps → RunsBefore names (word first ∷ (ps ++ word last ∷ []))
+    ((qs : List Piece) → begins (λ b. b == 61) (pieces_text names qs) ≡ false → begins (goes_on_mark first) (pieces_text names qs) ≡ false) →
+    ((qs : List Piece) → begins (λ b. b == 61) (pieces_text names (mark_piece first ∷ qs)) ≡ false) →
+    ((qs : List Piece) → IsClosed names (mark_piece last ∷ qs)) →
+    ((rest : List Piece) → IsClosed names rest → begins (goes_on_mark last) (pieces_text names rest) ≡ false) →
+    RunsBefore names ps → RunsBefore names (mark_piece first ∷ (ps ++ mark_piece last ∷ []))
 grouped_runs names first last ps opens begun closes ends inside rest apart behind =
-    let P : List Piece → Type 0 = λ qs. Runs names (word first ∷ qs) in
-    let inner = inside (word last ∷ rest) (tt, ends rest behind, apart) (closes rest) in
-    subst P (sym (append_assoc ps (word last ∷ []) rest)) (record {
-      apart = (tt, opens (ps ++ word last ∷ rest) inner.safe, inner.apart);
-      safe = begun (ps ++ word last ∷ rest);
+    let P : List Piece → Type 0 = λ qs. Runs names (mark_piece first ∷ qs) in
+    let inner = inside (mark_piece last ∷ rest) (tt, ends rest behind, apart) (closes rest) in
+    subst P (sym (append_assoc ps (mark_piece last ∷ []) rest)) (record {
+      apart = (tt, opens (ps ++ mark_piece last ∷ rest) inner.safe, inner.apart);
+      safe = begun (ps ++ mark_piece last ∷ rest);
     })
 
 -- parentheses
-round_runs : (names : List (List ℕ)) (ps : List Piece) → RunsBefore names ps → RunsBefore names (word mark.OpenRound ∷ (ps ++ word mark.CloseRound ∷ []))
+round_runs : (names : List (List ℕ)) (ps : List Piece) → RunsBefore names ps → RunsBefore names (mark_piece mark.OpenRound ∷ (ps ++ mark_piece mark.CloseRound ∷ []))
 round_runs names ps inside =
     grouped_runs names mark.OpenRound mark.CloseRound ps (λ qs h. h) (λ qs. refl) (round_closed names) (λ rest h. h.closed (s.Mark mark.CloseRound)) inside
 
 -- brackets
-pub square_runs : (names : List (List ℕ)) (ps : List Piece) → RunsBefore names ps → RunsBefore names (word mark.OpenSquare ∷ (ps ++ word mark.CloseSquare ∷ []))
+pub square_runs : (names : List (List ℕ)) (ps : List Piece) → RunsBefore names ps → RunsBefore names (mark_piece mark.OpenSquare ∷ (ps ++ mark_piece mark.CloseSquare ∷ []))
 square_runs names ps inside =
     grouped_runs names mark.OpenSquare mark.CloseSquare ps (λ qs h. h) (λ qs. refl) (square_closed names) (λ rest h. h.closed (s.Mark mark.CloseSquare)) inside
 
@@ -110,8 +110,8 @@ between_runs : (names : List (List ℕ)) (ps qs : List Piece) (m : Mark) → beg
 between_runs names ps qs m ends left right rest apart behind =
     let P : List Piece → Type 0 = λ l. Runs names l in
     let after = right rest apart behind in
-    subst P (sym (append_assoc ps (space ∷ word m ∷ space ∷ qs) rest))
-    (left (space ∷ word m ∷ space ∷ (qs ++ rest)) (refl, (tt, ends, (refl, after.apart))) (space_closed names _))
+    subst P (sym (append_assoc ps (space ∷ mark_piece m ∷ space ∷ qs) rest))
+    (left (space ∷ mark_piece m ∷ space ∷ (qs ++ rest)) (refl, (tt, ends, (refl, after.apart))) (space_closed names _))
 
 -- a number's text begins with no `=`
 pub decimal_safe : (u v : List ℕ) → 0 < length u → list_all is_ascii_digit u ≡ true → begins (λ b. b == 61) (u ++ v) ≡ false
@@ -120,12 +120,12 @@ decimal_safe (b ∷ u) v some all =
     let digit : is_ascii_digit b ≡ true = both-left (is_ascii_digit b) (list_all is_ascii_digit u) all in
     grind (arith, nat_tests)
 
-literal_runs : (names : List (List ℕ)) (z : ℤ) → IsLiteral z → RunsBefore names (number z ∷ [])
+literal_runs : (names : List (List ℕ)) (z : ℤ) → IsLiteral z → RunsBefore names (number_piece z ∷ [])
 literal_runs names (pos n) good rest apart behind =
     let wide : n < 10 ^ 64 = omega (arith, lit< {m = 2 ^ 127} {n = 10 ^ 64} tt) in
     record {
       apart = (good, behind.closed (s.Number (pos n)), apart);
-      safe = decimal_safe (decimal n) (text_of names rest) (decimal_is_IsNumeral_wide n wide).0.0 (digits_of_decimal n wide);
+      safe = decimal_safe (decimal n) (pieces_text names rest) (decimal_is_IsNumeral_wide n wide).0.0 (digits_of_decimal n wide);
     }
 literal_runs names (negsuc n) good rest apart behind = absurd good
 
@@ -135,7 +135,7 @@ expression_runs names (Lit z) good = literal_runs names z good
 expression_runs names (Var x) good = λ rest apart behind. name_runs names x rest good apart behind
 expression_runs names (Read a i) good = λ rest apart behind.
     let inner = square_runs names (expression_pieces i) (expression_runs names i good.1) rest apart behind in
-    name_runs names a ((word mark.OpenSquare ∷ (expression_pieces i ++ word mark.CloseSquare ∷ [])) ++ rest) good.0 inner.apart (record { closed = closed_at 91 refl refl })
+    name_runs names a ((mark_piece mark.OpenSquare ∷ (expression_pieces i ++ mark_piece mark.CloseSquare ∷ [])) ++ rest) good.0 inner.apart (record { closed = closed_at 91 refl refl })
 expression_runs names (Neg e) good = λ rest apart behind.
     let inner = operand_runs names (is_atom e) (expression_pieces e) (expression_runs names e good) rest apart behind in
     record { apart = (tt, inner.safe, inner.apart); safe = refl }

@@ -8,18 +8,18 @@ use Rattle.sm_syntax.specs.declared.symbol.Mark.TheVariants as mark
 use Rattle.sm_syntax.specs.declared.symbol.Symbol.TheVariants as s
 use Rattle.sm_syntax.specs.claim.Syntax.{Condition, Code, End, Skip, Assign, Write, If, While, Hole}
 use Rattle.sm_syntax.specs.text.Tokens.{is_space}
-use Rattle.sm_text.specs.printing.Pieces.{Piece, Gap, text_of, word, name, space, line_end, deeper, line}
+use Rattle.sm_text.specs.printing.Pieces.{Piece, Gap, pieces_text, mark_piece, name_piece, space, line_end, deeper, line}
 use Rattle.sm_text.specs.printing.Canonical.{element_pieces, expression_pieces, condition_pieces, braces, branches, guard_pieces, code_pieces}
 use Rattle.sm_text.proofs.RoundTrip.PieceTokens.{begins, digits_of_decimal}
 use Rattle.sm_text.proofs.RoundTrip.TextTokens.{IsNameText, AreApart}
 use Rattle.sm_text.proofs.RoundTrip.Apart.{decimal_safe, IsClosed, Runs, RunsBefore, IsWritten, IsTested, closed_at, name_runs, square_runs, expression_runs, condition_runs, space_closed}
 
 -- pieces before a semicolon
-pub ended_runs : (names : List (List ℕ)) (ps : List Piece) → RunsBefore names ps → RunsBefore names (ps ++ word mark.Semicolon ∷ [])
+pub ended_runs : (names : List (List ℕ)) (ps : List Piece) → RunsBefore names ps → RunsBefore names (ps ++ mark_piece mark.Semicolon ∷ [])
 ended_runs names ps inside rest apart behind =
     let P : List Piece → Type 0 = λ l. Runs names l in
-    subst P (sym (append_assoc ps (word mark.Semicolon ∷ []) rest))
-    (inside (word mark.Semicolon ∷ rest) (tt, behind.closed (s.Mark mark.Semicolon), apart) (record { closed = closed_at 59 refl refl }))
+    subst P (sym (append_assoc ps (mark_piece mark.Semicolon ∷ []) rest))
+    (inside (mark_piece mark.Semicolon ∷ rest) (tt, behind.closed (s.Mark mark.Semicolon), apart) (record { closed = closed_at 59 refl refl }))
 
 -- a line
 pub line_apart : (names : List (List ℕ)) (margin : List ℕ) (ps rest : List Piece) → list_all is_space margin ≡ true → RunsBefore names ps → AreApart names rest → AreApart names (line margin ps ++ rest)
@@ -31,11 +31,11 @@ line_apart names margin ps rest white inside apart =
 element_runs : (names : List (List ℕ)) (a : ℕ) (ps : List Piece) → IsNameText (unwrap_or (slice_get names a) []) → RunsBefore names ps → RunsBefore names (element_pieces a ps)
 element_runs names a ps good inside rest apart behind =
     let inner = square_runs names ps inside rest apart behind in
-    name_runs names a ((word mark.OpenSquare ∷ (ps ++ word mark.CloseSquare ∷ [])) ++ rest) good inner.apart (record { closed = closed_at 91 refl refl })
+    name_runs names a ((mark_piece mark.OpenSquare ∷ (ps ++ mark_piece mark.CloseSquare ∷ [])) ++ rest) good inner.apart (record { closed = closed_at 91 refl refl })
 
 -- a value behind its `=`
 value_apart : (names : List (List ℕ)) (ps rest : List Piece) → RunsBefore names ps → AreApart names rest → IsClosed names rest →
-    AreApart names ((space ∷ word mark.Becomes ∷ space ∷ (ps ++ word mark.Semicolon ∷ [])) ++ rest)
+    AreApart names ((space ∷ mark_piece mark.Becomes ∷ space ∷ (ps ++ mark_piece mark.Semicolon ∷ [])) ++ rest)
 value_apart names ps rest inside apart behind = (refl, (tt, refl, (refl, (ended_runs names ps inside rest apart behind).apart)))
 
 -- lines in braces, before pieces that no token goes on with
@@ -43,9 +43,9 @@ pub braces_runs : (names : List (List ℕ)) (margin : List ℕ) (ps : List Piece
 unfolding braces
 braces_runs names margin ps white inside rest apart behind =
     let P : List Piece → Type 0 = λ l. AreApart names l in
-    let last = inside (Gap margin ∷ word mark.CloseCurly ∷ rest) (white, (tt, behind.closed (s.Mark mark.CloseCurly), apart)) in
+    let last = inside (Gap margin ∷ mark_piece mark.CloseCurly ∷ rest) (white, (tt, behind.closed (s.Mark mark.CloseCurly), apart)) in
     record {
-      apart = (tt, refl, (refl, subst P (sym (append_assoc ps (Gap margin ∷ word mark.CloseCurly ∷ []) rest)) last));
+      apart = (tt, refl, (refl, subst P (sym (append_assoc ps (Gap margin ∷ mark_piece mark.CloseCurly ∷ []) rest)) last));
       safe = refl;
     }
 
@@ -54,8 +54,8 @@ guard_runs : (names : List (List ℕ)) (rest : List Piece) (b : Condition) → R
 unfolding guard_pieces
 guard_runs names rest b inside apart =
     let P : List Piece → Type 0 = λ l. Runs names l in
-    let inner = subst P (sym (append_assoc (condition_pieces b) (word mark.CloseRound ∷ space ∷ []) rest))
-    (inside (word mark.CloseRound ∷ space ∷ rest) (tt, refl, (refl, apart)) (record { closed = closed_at 41 refl refl })) in
+    let inner = subst P (sym (append_assoc (condition_pieces b) (mark_piece mark.CloseRound ∷ space ∷ []) rest))
+    (inside (mark_piece mark.CloseRound ∷ space ∷ rest) (tt, refl, (refl, apart)) (record { closed = closed_at 41 refl refl })) in
     (tt, inner.safe, inner.apart)
 
 -- two branches
@@ -64,8 +64,8 @@ unfolding branches
 branches_runs names ps qs first second rest apart behind =
     let P : List Piece → Type 0 = λ l. Runs names l in
     let after = second rest apart behind in
-    subst P (sym (append_assoc ps (space ∷ word mark.Else ∷ space ∷ qs) rest))
-    (first (space ∷ word mark.Else ∷ space ∷ (qs ++ rest)) (refl, (tt, refl, (refl, after.apart))) (space_closed names _))
+    subst P (sym (append_assoc ps (space ∷ mark_piece mark.Else ∷ space ∷ qs) rest))
+    (first (space ∷ mark_piece mark.Else ∷ space ∷ (qs ++ rest)) (refl, (tt, refl, (refl, after.apart))) (space_closed names _))
 
 -- no `=` begins a number
 pub question_ends : (h : ℕ) (v : List ℕ) → h < 2 ^ 127 → begins (λ b. b == 61) (decimal h ++ v) ≡ false
@@ -90,15 +90,15 @@ code_apart names (Skip k) margin white good rest apart =
     (white, (tt, refl, (tt, refl, (refl, code_apart names k margin white good rest apart))))
 code_apart names (Assign x e k) margin white good rest apart =
     let ps = expression_pieces e in
-    let front = name x ∷ space ∷ word mark.Becomes ∷ space ∷ (ps ++ word mark.Semicolon ∷ []) in
+    let front = name_piece x ∷ space ∷ mark_piece mark.Becomes ∷ space ∷ (ps ++ mark_piece mark.Semicolon ∷ []) in
     let more = code_apart names k margin white good.2 rest apart in
     let P : List Piece → Type 0 = λ l. AreApart names l in
     let inside : RunsBefore names front = λ after apart_after behind.
-    name_runs names x ((space ∷ word mark.Becomes ∷ space ∷ (ps ++ word mark.Semicolon ∷ [])) ++ after) good.0 (value_apart names ps after (expression_runs names e good.1) apart_after behind) (space_closed names _) in
+    name_runs names x ((space ∷ mark_piece mark.Becomes ∷ space ∷ (ps ++ mark_piece mark.Semicolon ∷ [])) ++ after) good.0 (value_apart names ps after (expression_runs names e good.1) apart_after behind) (space_closed names _) in
     subst P (sym (append_assoc (line margin front) (code_pieces margin k) rest)) (line_apart names margin front (code_pieces margin k ++ rest) white inside more)
 code_apart names (Write a i e k) margin white good rest apart =
     let ps = expression_pieces e in
-    let value = space ∷ word mark.Becomes ∷ space ∷ (ps ++ word mark.Semicolon ∷ []) in
+    let value = space ∷ mark_piece mark.Becomes ∷ space ∷ (ps ++ mark_piece mark.Semicolon ∷ []) in
     let front = element_pieces a (expression_pieces i) ++ value in
     let more = code_apart names k margin white good.3 rest apart in
     let P : List Piece → Type 0 = λ l. AreApart names l in
@@ -109,7 +109,7 @@ code_apart names (Write a i e k) margin white good rest apart =
     subst P (sym (append_assoc (line margin front) (code_pieces margin k) rest)) (line_apart names margin front (code_pieces margin k ++ rest) white inside more)
 code_apart names (If b c e k) margin white good rest apart =
     let choice = branches (braces margin (code_pieces (deeper margin) c)) (braces margin (code_pieces (deeper margin) e)) in
-    let front = word mark.If ∷ space ∷ (guard_pieces b ++ choice) in
+    let front = mark_piece mark.If ∷ space ∷ (guard_pieces b ++ choice) in
     let more = code_apart names k margin white good.3 rest apart in
     let first = braces_runs names margin (code_pieces (deeper margin) c) white (code_apart names c (deeper margin) white good.1) in
     let second = braces_runs names margin (code_pieces (deeper margin) e) white (code_apart names e (deeper margin) white good.2) in
@@ -122,7 +122,7 @@ code_apart names (If b c e k) margin white good rest apart =
     subst P (sym (append_assoc (line margin front) (code_pieces margin k) rest)) (line_apart names margin front (code_pieces margin k ++ rest) white inside more)
 code_apart names (While b c k) margin white good rest apart =
     let block = braces margin (code_pieces (deeper margin) c) in
-    let front = word mark.While ∷ space ∷ (guard_pieces b ++ block) in
+    let front = mark_piece mark.While ∷ space ∷ (guard_pieces b ++ block) in
     let more = code_apart names k margin white good.2 rest apart in
     let body = braces_runs names margin (code_pieces (deeper margin) c) white (code_apart names c (deeper margin) white good.1) in
     let P : List Piece → Type 0 = λ l. AreApart names l in
@@ -133,4 +133,4 @@ code_apart names (While b c k) margin white good rest apart =
     } in
     subst P (sym (append_assoc (line margin front) (code_pieces margin k) rest)) (line_apart names margin front (code_pieces margin k ++ rest) white inside more)
 code_apart names (Hole h k) margin white good rest apart =
-    (white, (tt, question_ends h (text_of names (word mark.Semicolon ∷ line_end ∷ (code_pieces margin k ++ rest))) good.0, (good.0, refl, (tt, refl, (refl, code_apart names k margin white good.1 rest apart)))))
+    (white, (tt, question_ends h (pieces_text names (mark_piece mark.Semicolon ∷ line_end ∷ (code_pieces margin k ++ rest))) good.0, (good.0, refl, (tt, refl, (refl, code_apart names k margin white good.1 rest apart)))))

@@ -8,7 +8,7 @@ use Rattle.sm_syntax.specs.claim.Syntax.{Expression, Lit, Var, Read, Neg, Plus, 
 use Rattle.sm_syntax.specs.text.Conditions.{expression_depth, condition_depth}
 use Rattle.sm_syntax.specs.text.Grammar as g
 use Rattle.sm_syntax.specs.text.Grammar.{Marked, plain, opens, joins, Atom, Unary, Product, Sum, IsExpression, comparison, Test, Literal, Conjunction, Disjunction, IsCondition, IsHoleNumber, AreStatements, IsBlock}
-use Rattle.sm_text.specs.printing.Pieces.{Piece, Token, Gap, symbols_in, word, name, space, line_end, deeper, line}
+use Rattle.sm_text.specs.printing.Pieces.{Piece, Token, Gap, symbols_in, mark_piece, name_piece, space, line_end, deeper, line}
 use Rattle.sm_text.specs.printing.Canonical.{between, is_atom, operand, element_pieces, expression_pieces, is_test, part, condition_pieces, braces, branches, guard_pieces, code_pieces}
 
 -- the symbols of pieces, none of which nests too deep
@@ -36,10 +36,10 @@ opens_is m d few =
     ap (λ (b : Bool). (s.Mark m, b)) narrow
 
 -- a group of pieces between two signs
-grouped : (first last : Mark) (d : ℕ) (ps : List Piece) → d < 64 → opens first d ∷ (marked ps ++ g.word last ∷ []) ≡ marked (word first ∷ (ps ++ word last ∷ []))
+grouped : (first last : Mark) (d : ℕ) (ps : List Piece) → d < 64 → opens first d ∷ (marked ps ++ g.word last ∷ []) ≡ marked (mark_piece first ∷ (ps ++ mark_piece last ∷ []))
 grouped first last d ps few =
     ap (λ (t : Marked). t ∷ (marked ps ++ g.word last ∷ [])) (opens_is first d few) ∙
-    ap (λ (l : List Marked). plain (s.Mark first) ∷ l) (sym (marked-append ps (word last ∷ [])))
+    ap (λ (l : List Marked). plain (s.Mark first) ∷ l) (sym (marked-append ps (mark_piece last ∷ [])))
 
 -- how many reads stand in each other
 abbrev pub reads : Expression → ℕ
@@ -99,7 +99,7 @@ operand_shown false e d is depth read shows =
 
 -- two parts with an operator between them
 marked-between : (ps : List Piece) (m : Mark) (qs : List Piece) → marked (between ps m qs) ≡ marked ps ++ g.word m ∷ marked qs
-marked-between ps m qs = marked-append ps (space ∷ word m ∷ space ∷ qs)
+marked-between ps m qs = marked-append ps (space ∷ mark_piece m ∷ space ∷ qs)
 
 pub shown : (e : Expression) (d : ℕ) → Fits d e → IsShown d e
 shown (Lit z) d fits = record { chain = 0; sum = as_sum (g.number d z); atom = λ _. g.number d z }
@@ -237,7 +237,7 @@ block_shown d c margin ps few inside =
     let F : List Marked → Type 0 = λ l. IsBlock d l c in
     let line : opens mark.OpenCurly d ∷ (marked ps ++ g.word mark.CloseCurly ∷ []) ≡ marked (braces margin ps) =
     ap (λ (t : Marked). t ∷ (marked ps ++ g.word mark.CloseCurly ∷ [])) (opens_is mark.OpenCurly d few) ∙
-    ap (λ (l : List Marked). plain (s.Mark mark.OpenCurly) ∷ l) (sym (marked-append ps (Gap margin ∷ word mark.CloseCurly ∷ []))) in
+    ap (λ (l : List Marked). plain (s.Mark mark.OpenCurly) ∷ l) (sym (marked-append ps (Gap margin ∷ mark_piece mark.CloseCurly ∷ []))) in
     subst F line (g.block inside)
 
 -- a guard before more symbols
@@ -246,19 +246,19 @@ marked-guard : (b : Condition) (d : ℕ) (us : List Marked) → d < 64 →
 unfolding guard_pieces
 marked-guard b d us few =
     ap (λ (t : Marked). t ∷ (marked (condition_pieces b) ++ g.word mark.CloseRound ∷ us)) (opens_is mark.OpenRound d few) ∙
-    ap (λ (l : List Marked). plain (s.Mark mark.OpenRound) ∷ l) (sym (marked_then (condition_pieces b) (word mark.CloseRound ∷ space ∷ []) us))
+    ap (λ (l : List Marked). plain (s.Mark mark.OpenRound) ∷ l) (sym (marked_then (condition_pieces b) (mark_piece mark.CloseRound ∷ space ∷ []) us))
 
 -- two branches before more symbols
 marked-branches : (ps qs : List Piece) (us : List Marked) → marked ps ++ g.word mark.Else ∷ (marked qs ++ us) ≡ marked (branches ps qs) ++ us
 unfolding branches
-marked-branches ps qs us = sym (marked_then ps (space ∷ word mark.Else ∷ space ∷ qs) us)
+marked-branches ps qs us = sym (marked_then ps (space ∷ mark_piece mark.Else ∷ space ∷ qs) us)
 
 -- an element before more symbols
 marked-element : (a d : ℕ) (ps : List Piece) (us : List Marked) → d < 64 →
     plain (s.Name (record { 0 = a })) ∷ opens mark.OpenSquare d ∷ (marked ps ++ g.word mark.CloseSquare ∷ us) ≡ marked (element_pieces a ps) ++ us
 marked-element a d ps us few =
     ap (λ (t : Marked). plain (s.Name (record { 0 = a })) ∷ t ∷ (marked ps ++ g.word mark.CloseSquare ∷ us)) (opens_is mark.OpenSquare d few) ∙
-    ap (λ (l : List Marked). plain (s.Name (record { 0 = a })) ∷ plain (s.Mark mark.OpenSquare) ∷ l) (sym (marked_then ps (word mark.CloseSquare ∷ []) us))
+    ap (λ (l : List Marked). plain (s.Name (record { 0 = a })) ∷ plain (s.Mark mark.OpenSquare) ∷ l) (sym (marked_then ps (mark_piece mark.CloseSquare ∷ []) us))
 
 -- the grammar spells the code by its canonical symbols
 pub code_shown : (c : Code) (margin : List ℕ) (d : ℕ) → IsPrintable d c → AreStatements d (marked (code_pieces margin c)) c
@@ -269,9 +269,9 @@ code_shown (Assign x e k) margin d fits =
     let ps = expression_pieces e in
     let us = marked (code_pieces margin k) in
     let F : List Marked → Type 0 = λ l. AreStatements d l (Assign x e k) in
-    let front = name x ∷ space ∷ word mark.Becomes ∷ space ∷ (ps ++ word mark.Semicolon ∷ []) in
+    let front = name_piece x ∷ space ∷ mark_piece mark.Becomes ∷ space ∷ (ps ++ mark_piece mark.Semicolon ∷ []) in
     let line : plain (s.Name (record { 0 = x })) ∷ g.word mark.Becomes ∷ (marked ps ++ g.word mark.Semicolon ∷ us) ≡ marked (code_pieces margin (Assign x e k)) =
-    ap (λ (l : List Marked). plain (s.Name (record { 0 = x })) ∷ g.word mark.Becomes ∷ l) (sym (marked_then ps (word mark.Semicolon ∷ []) us)) ∙
+    ap (λ (l : List Marked). plain (s.Name (record { 0 = x })) ∷ g.word mark.Becomes ∷ l) (sym (marked_then ps (mark_piece mark.Semicolon ∷ []) us)) ∙
     sym (marked-line margin front (code_pieces margin k)) in
     subst F line (g.assigns (record { 0 = x }) (shown e d fits.0).sum (code_shown k margin d fits.1))
 code_shown (Write a i e k) margin d fits =
@@ -279,9 +279,9 @@ code_shown (Write a i e k) margin d fits =
     let qs = expression_pieces e in
     let us = marked (code_pieces margin k) in
     let F : List Marked → Type 0 = λ l. AreStatements d l (Write a i e k) in
-    let value = space ∷ word mark.Becomes ∷ space ∷ (qs ++ word mark.Semicolon ∷ []) in
+    let value = space ∷ mark_piece mark.Becomes ∷ space ∷ (qs ++ mark_piece mark.Semicolon ∷ []) in
     let behind = g.word mark.Becomes ∷ (marked qs ++ g.word mark.Semicolon ∷ us) in
-    let same : behind ≡ marked value ++ us = ap (λ (l : List Marked). g.word mark.Becomes ∷ l) (sym (marked_then qs (word mark.Semicolon ∷ []) us)) in
+    let same : behind ≡ marked value ++ us = ap (λ (l : List Marked). g.word mark.Becomes ∷ l) (sym (marked_then qs (mark_piece mark.Semicolon ∷ []) us)) in
     let line : plain (s.Name (record { 0 = a })) ∷ opens mark.OpenSquare d ∷ (marked ps ++ g.word mark.CloseSquare ∷ behind) ≡ marked (code_pieces margin (Write a i e k)) =
     marked-element a d ps behind fits.0 ∙
     ap (λ (l : List Marked). marked (element_pieces a ps) ++ l) same ∙
@@ -299,7 +299,7 @@ code_shown (If b c e k) margin d fits =
     ap (λ (l : List Marked). g.word mark.If ∷ l) (marked-guard b d behind fits.0 ∙
     ap (λ (l : List Marked). marked (guard_pieces b) ++ l) (marked-branches (braces margin yes_lines) (braces margin no_lines) us) ∙
     sym (marked_then (guard_pieces b) choice us)) ∙
-    sym (marked-line margin (word mark.If ∷ space ∷ (guard_pieces b ++ choice)) (code_pieces margin k)) in
+    sym (marked-line margin (mark_piece mark.If ∷ space ∷ (guard_pieces b ++ choice)) (code_pieces margin k)) in
     let then = block_shown d c margin yes_lines fits.0 (code_shown c (deeper margin) (suc d) fits.2) in
     let other = block_shown d e margin no_lines fits.0 (code_shown e (deeper margin) (suc d) fits.3) in
     subst F line (g.branches (told b (suc d) fits.1).whole then other (code_shown k margin d fits.4))
@@ -310,7 +310,7 @@ code_shown (While b c k) margin d fits =
     let F : List Marked → Type 0 = λ l. AreStatements d l (While b c k) in
     let line : g.word mark.While ∷ opens mark.OpenRound d ∷ (marked (condition_pieces b) ++ g.word mark.CloseRound ∷ behind) ≡ marked (code_pieces margin (While b c k)) =
     ap (λ (l : List Marked). g.word mark.While ∷ l) (marked-guard b d behind fits.0 ∙ sym (marked_then (guard_pieces b) (braces margin lines) us)) ∙
-    sym (marked-line margin (word mark.While ∷ space ∷ (guard_pieces b ++ braces margin lines)) (code_pieces margin k)) in
+    sym (marked-line margin (mark_piece mark.While ∷ space ∷ (guard_pieces b ++ braces margin lines)) (code_pieces margin k)) in
     let body = block_shown d c margin lines fits.0 (code_shown c (deeper margin) (suc d) fits.2) in
     subst F line (g.loops (told b (suc d) fits.1).whole body (code_shown k margin d fits.3))
 code_shown (Hole h k) margin d fits =

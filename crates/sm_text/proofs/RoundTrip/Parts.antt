@@ -10,7 +10,7 @@ use Rattle.sm_syntax.specs.text.Tokens.{Lexed, is_space}
 use Rattle.sm_text.specs.printing.Canonical.{condition_pieces, block_pieces, declaration_pieces, output_pieces, shared_pieces, program_pieces}
 use Rattle.sm_text.specs.parsing.Fragments.{ProgramParts, IsProgram, program, SpellsProgram, HasProgramText, IsNamedProgram, IsKnown, symbols_under, IsCutUnder, SpellsCondition, HasConditionText, SpellsBlock, HasBlockText}
 use Rattle.sm_text.specs.printing.Named.{IsTestedIn, IsUsedIn}
-use Rattle.sm_text.specs.printing.Pieces.{Piece, text_of, symbols_in, margin_at}
+use Rattle.sm_text.specs.printing.Pieces.{Piece, pieces_text, symbols_in, margin_at}
 use Rattle.sm_text.proofs.RoundTrip.CodeSpelled.{marked, marked-append, told}
 use Rattle.sm_text.proofs.RoundTrip.TaskSpelled.{block_told, declarations_shown, some_outputs_shown, shared_shown}
 use Rattle.sm_text.proofs.RoundTrip.TextTokens.{AreApart, relexed}
@@ -30,17 +30,17 @@ last_closed names = record { closed = λ t. refl }
 
 -- pieces with the content of symbols under names, whose tokens are cut as they were put
 pub record IsUnder (names : List (List ℕ)) (ps : List Piece) : Type 0 where
-  pub text : IsCutUnder names (text_of names ps)
-  pub symbols : symbols_under names (text_of names ps) ≡ symbols_in ps
+  pub text : IsCutUnder names (pieces_text names ps)
+  pub symbols : symbols_under names (pieces_text names ps) ≡ symbols_in ps
 
 pub pieces_under : (names : List (List ℕ)) (ps : List Piece) (ss : List Symbol) → AllIn names ss → content (marked ps) ≡ ss → AreApart names ps → IsUnder names ps
 pieces_under names ps ss all same apart =
     let A : List Symbol → Type 0 = λ l. AllIn names l in
     let good = content_all names (symbols_in ps) (subst A (sym same) all) in
     let cut = relexed names ps apart in
-    let K : Lexed → Type 0 = λ l. AllByRecursion (IsKnown (text_of names ps) names) l.0 in
+    let K : Lexed → Type 0 = λ l. AllByRecursion (IsKnown (pieces_text names ps) names) l.0 in
     record {
-      text = record { tokens = ap (λ (l : Lexed). l.1) cut; known = subst K (sym cut) (tokens_known names ps [] (text_of names ps) 0 refl refl good) };
+      text = record { tokens = ap (λ (l : Lexed). l.1) cut; known = subst K (sym cut) (tokens_known names ps [] (pieces_text names ps) 0 refl refl good) };
       symbols = printed_under names ps cut good;
     }
 
@@ -58,7 +58,7 @@ pub condition_has_names : (names : List (List ℕ)) (b : Condition) → HasCondi
 condition_has_names names b h = condition_named names b (condition_written names b (all_spelled names (content_tested b) (condition_all names h.0 b h.1)))
 
 -- and its canonical text spells it
-pub condition_back : (names : List (List ℕ)) (b : Condition) → HasConditionText names b → condition_depth b ≤ 64 → SpellsCondition names (text_of names (condition_pieces b)) b
+pub condition_back : (names : List (List ℕ)) (b : Condition) → HasConditionText names b → condition_depth b ≤ 64 → SpellsCondition names (pieces_text names (condition_pieces b)) b
 condition_back names b h deep =
     let ps = condition_pieces b in
     let all = condition_all names h.0 b h.1 in
@@ -84,7 +84,7 @@ white : (level : ℕ) → list_all is_space (margin_at level) ≡ true
 white zero = refl
 white (suc level) = white level
 
-pub block_back : (names : List (List ℕ)) (c : Code) (level : ℕ) → HasBlockText names c → code_depth c ≤ 64 → SpellsBlock names (text_of names (block_pieces (margin_at level) c)) c
+pub block_back : (names : List (List ℕ)) (c : Code) (level : ℕ) → HasBlockText names c → code_depth c ≤ 64 → SpellsBlock names (pieces_text names (block_pieces (margin_at level) c)) c
 block_back names c level h deep =
     let margin = margin_at level in
     let ps = block_pieces margin c in
@@ -165,7 +165,7 @@ program_fits (program {ts = ts} {us = us} {vs = vs} p decls outs body) clean dee
     subst F (ap (λ (ms : List Marked). marked d ++ ms) (sym (marked-append x w)) ∙ sym (marked-append d (x ++ w))) it
 
 -- and its canonical text spells it
-pub program_back : (p : ProgramParts) → HasProgramText p → code_depth p.body ≤ 64 → SpellsProgram (text_of p.names (program_pieces p.declared p.outputs p.body)) p
+pub program_back : (p : ProgramParts) → HasProgramText p → code_depth p.body ≤ 64 → SpellsProgram (pieces_text p.names (program_pieces p.declared p.outputs p.body)) p
 program_back p h deep =
     let ps = program_pieces p.declared p.outputs p.body in
     let cut = relexed p.names ps (program_apart p (program_text p h)) in

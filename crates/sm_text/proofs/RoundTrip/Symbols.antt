@@ -365,13 +365,13 @@ put_text u w rest bytes k place whole at =
     ap (take (length w)) (drop-append_seam u (w ++ rest)) ∙ take-append_seam w rest
 
 -- the symbols and names of pieces' tokens
-again : (names : List (List ℕ)) (ps : List pieces.Piece) (u bytes : List ℕ) (place : ℕ) → bytes ≡ u ++ pieces.text_of names ps → place ≡ length u → AllByRecursion (IsIn names) (symbols_in ps) →
+again : (names : List (List ℕ)) (ps : List pieces.Piece) (u bytes : List ℕ) (place : ℕ) → bytes ≡ u ++ pieces.pieces_text names ps → place ≡ length u → AllByRecursion (IsIn names) (symbols_in ps) →
     (map (symbol_of bytes names) (tokens_at names place ps) ≡ symbols_in ps) × ((before : List (List ℕ)) → names_after bytes before (tokens_at names place ps) ≡ names_by names before (symbols_in ps))
 unfolding symbol_of
 again names [] u bytes place whole at good = (refl, λ before. refl)
 again names (pieces.Token t ∷ ps) u bytes place whole at good =
     let w = bytes_of names (pieces.Token t) in
-    let rest = pieces.text_of names ps in
+    let rest = pieces.pieces_text names ps in
     let here = put_text u w rest bytes (kind_of t) place whole at in
     let more = again names ps (u ++ w) bytes (place + length w) (whole ∙ sym (append_assoc u w rest)) (ap (λ (n : ℕ). n + length w) at ∙ sym (length-append u w)) good.1 in (
       ap₂ (λ (x : Symbol) (l : List Symbol). x ∷ l) (ap (symbol_by (kind_of t) names) here ∙ symbol_again names t good.0) more.0,
@@ -380,7 +380,7 @@ again names (pieces.Token t ∷ ps) u bytes place whole at good =
           more.1 (names_with before (kind_of t) w) ∙ names_again names before t (symbols_in ps) good.0,
     )
 again names (pieces.Gap w ∷ ps) u bytes place whole at good =
-    again names ps (u ++ w) bytes (place + length w) (whole ∙ sym (append_assoc u w (pieces.text_of names ps))) (ap (λ (n : ℕ). n + length w) at ∙ sym (length-append u w)) good
+    again names ps (u ++ w) bytes (place + length w) (whole ∙ sym (append_assoc u w (pieces.pieces_text names ps))) (ap (λ (n : ℕ). n + length w) at ∙ sym (length-append u w)) good
 
 -- each name among pieces' tokens is one of the names
 known_again : (names : List (List ℕ)) (t : Symbol) (text : List ℕ) → text ≡ bytes_of names (pieces.Token t) → IsIn names t → is_name (kind_of t) text ≡ true → is_among names text ≡ true
@@ -388,24 +388,24 @@ known_again names (s.Mark m) text same good h = absurd (true≢false (sym h ∙ 
 known_again names (s.Number z) text same good h = cc
 known_again names (s.Name x) text same good h = ap (is_among names) same ∙ good.among
 
-pub tokens_known : (names : List (List ℕ)) (ps : List pieces.Piece) (u bytes : List ℕ) (place : ℕ) → bytes ≡ u ++ pieces.text_of names ps → place ≡ length u → AllByRecursion (IsIn names) (symbols_in ps) →
+pub tokens_known : (names : List (List ℕ)) (ps : List pieces.Piece) (u bytes : List ℕ) (place : ℕ) → bytes ≡ u ++ pieces.pieces_text names ps → place ≡ length u → AllByRecursion (IsIn names) (symbols_in ps) →
     AllByRecursion (IsKnown bytes names) (tokens_at names place ps)
 tokens_known names [] u bytes place whole at good = tt
 tokens_known names (pieces.Token t ∷ ps) u bytes place whole at good =
     let w = bytes_of names (pieces.Token t) in
-    let rest = pieces.text_of names ps in (
+    let rest = pieces.pieces_text names ps in (
       known_again names t _ (put_text u w rest bytes (kind_of t) place whole at) good.0,
       tokens_known names ps (u ++ w) bytes (place + length w) (whole ∙ sym (append_assoc u w rest)) (ap (λ (n : ℕ). n + length w) at ∙ sym (length-append u w)) good.1,
     )
 tokens_known names (pieces.Gap w ∷ ps) u bytes place whole at good =
-    tokens_known names ps (u ++ w) bytes (place + length w) (whole ∙ sym (append_assoc u w (pieces.text_of names ps))) (ap (λ (n : ℕ). n + length w) at ∙ sym (length-append u w)) good
+    tokens_known names ps (u ++ w) bytes (place + length w) (whole ∙ sym (append_assoc u w (pieces.pieces_text names ps))) (ap (λ (n : ℕ). n + length w) at ∙ sym (length-append u w)) good
 
 -- the symbols of a printed text, under the names
-pub printed_under : (names : List (List ℕ)) (ps : List pieces.Piece) → lexed (pieces.text_of names ps) ≡ (tokens_at names 0 ps, None) → AllByRecursion (IsIn names) (symbols_in ps) →
-    symbols_under names (pieces.text_of names ps) ≡ symbols_in ps
+pub printed_under : (names : List (List ℕ)) (ps : List pieces.Piece) → lexed (pieces.pieces_text names ps) ≡ (tokens_at names 0 ps, None) → AllByRecursion (IsIn names) (symbols_in ps) →
+    symbols_under names (pieces.pieces_text names ps) ≡ symbols_in ps
 unfolding symbols_under
 printed_under names ps cut good =
-    let bytes = pieces.text_of names ps in
+    let bytes = pieces.pieces_text names ps in
     ap (λ (l : Lexed). map (symbol_of bytes names) l.0) cut ∙ (again names ps [] bytes 0 refl refl good).0
 
 -- the symbols of a text whose names are among these
@@ -415,14 +415,14 @@ under_in names bytes known = symbols_are_in bytes names (lexed bytes).0 (tokens_
 
 -- a printed text, whose names are those that its symbols make
 pub record IsAgain (names : List (List ℕ)) (ps : List pieces.Piece) : Type 0 where
-  pub names_same : names_of (pieces.text_of names ps) ≡ names
-  pub symbols_same : symbols_of (pieces.text_of names ps) ≡ symbols_in ps
+  pub names_same : names_of (pieces.pieces_text names ps) ≡ names
+  pub symbols_same : symbols_of (pieces.pieces_text names ps) ≡ symbols_in ps
 
-pub printed_again : (names : List (List ℕ)) (ps : List pieces.Piece) → lexed (pieces.text_of names ps) ≡ (tokens_at names 0 ps, None) → AllByRecursion (IsIn names) (symbols_in ps) →
+pub printed_again : (names : List (List ℕ)) (ps : List pieces.Piece) → lexed (pieces.pieces_text names ps) ≡ (tokens_at names 0 ps, None) → AllByRecursion (IsIn names) (symbols_in ps) →
     names_by names [] (symbols_in ps) ≡ names → IsAgain names ps
 unfolding names_of symbols_of names_among symbols_among
 printed_again names ps cut good same =
-    let bytes = pieces.text_of names ps in
+    let bytes = pieces.pieces_text names ps in
     let it = again names ps [] bytes 0 refl refl good in
     let ts = tokens_at names 0 ps in
     let tokens : (lexed bytes).0 ≡ ts = ap (λ (l : Lexed). l.0) cut in

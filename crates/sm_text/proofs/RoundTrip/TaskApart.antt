@@ -13,8 +13,8 @@ use Rattle.sm_syntax.specs.claim.ConflictFree.{Copy, O, A, B, M}
 use Rattle.sm_syntax.specs.text.Grammar.{declares}
 use Rattle.sm_syntax.specs.text.Parts.{Parts}
 use Rattle.sm_syntax.specs.text.Tokens.{is_space, lexed}
-use Rattle.sm_text.specs.printing.Pieces.{Piece, text_of, word, number, space, line_end, margin_at, deeper, line}
-use Rattle.sm_text.specs.printing.Canonical.{condition_pieces, code_pieces, block_pieces, declaration_pieces, more_names, names_pieces, output_pieces, assumption_pieces, shared_pieces, filling_pieces, list_pieces, lists_pieces, task_pieces}
+use Rattle.sm_text.specs.printing.Pieces.{Piece, pieces_text, mark_piece, number_piece, space, line_end, margin_at, deeper, line}
+use Rattle.sm_text.specs.printing.Canonical.{condition_pieces, code_pieces, block_pieces, declaration_pieces, more_names_pieces, names_pieces, output_pieces, assumption_pieces, shared_pieces, filling_pieces, list_pieces, lists_pieces, task_pieces}
 use Rattle.sm_text.proofs.RoundTrip.PieceTokens.{begins, goes_on_mark}
 use Rattle.sm_text.proofs.RoundTrip.TextTokens.{IsNameText, AreApart, tokens_at, relexed}
 use Rattle.sm_text.proofs.RoundTrip.Apart.{IsClosed, RunsBefore, IsTested, closed_at, name_runs, condition_runs}
@@ -48,25 +48,25 @@ declarations_apart names [] good rest apart = apart
 declarations_apart names (d ∷ ds) good rest apart =
     (refl, (tt, declares_ends d.1, (refl, (good.0, refl, (tt, refl, (refl, declarations_apart names ds good.1 rest apart))))))
 
-more_closed : (names : List (List ℕ)) (xs : List ℕ) (rest : List Piece) → IsClosed names rest → IsClosed names (more_names xs ++ rest)
+more_closed : (names : List (List ℕ)) (xs : List ℕ) (rest : List Piece) → IsClosed names rest → IsClosed names (more_names_pieces xs ++ rest)
 more_closed names [] rest behind = behind
 more_closed names (x ∷ xs) rest behind = record { closed = closed_at 44 refl refl }
 
-more_apart : (names : List (List ℕ)) (xs : List ℕ) (rest : List Piece) → AreTexts names xs → AreApart names rest → IsClosed names rest → AreApart names (more_names xs ++ rest)
+more_apart : (names : List (List ℕ)) (xs : List ℕ) (rest : List Piece) → AreTexts names xs → AreApart names rest → IsClosed names rest → AreApart names (more_names_pieces xs ++ rest)
 more_apart names [] rest good apart behind = apart
 more_apart names (x ∷ xs) rest good apart behind =
-    (tt, refl, (refl, (name_runs names x (more_names xs ++ rest) good.0 (more_apart names xs rest good.1 apart behind) (more_closed names xs rest behind)).apart))
+    (tt, refl, (refl, (name_runs names x (more_names_pieces xs ++ rest) good.0 (more_apart names xs rest good.1 apart behind) (more_closed names xs rest behind)).apart))
 
 names_run : (names : List (List ℕ)) (xs : List ℕ) → AreTexts names xs → RunsBefore names (names_pieces xs)
 names_run names [] good = λ rest apart behind. record { apart = apart; safe = behind.closed (s.Mark mark.Plus) }
 names_run names (x ∷ xs) good = λ rest apart behind.
-    name_runs names x (more_names xs ++ rest) good.0 (more_apart names xs rest good.1 apart behind) (more_closed names xs rest behind)
+    name_runs names x (more_names_pieces xs ++ rest) good.0 (more_apart names xs rest good.1 apart behind) (more_closed names xs rest behind)
 
 pub outputs_apart : (names : List (List ℕ)) (xs : List ℕ) → AreTexts names xs → ApartBefore names (output_pieces xs)
 unfolding output_pieces
 outputs_apart names xs good rest apart =
     let ps = names_pieces xs in
-    let front = word mark.Output ∷ space ∷ (ps ++ word mark.Semicolon ∷ []) in
+    let front = mark_piece mark.Output ∷ space ∷ (ps ++ mark_piece mark.Semicolon ∷ []) in
     let inside : RunsBefore names front = λ after apart_after behind.
     record { apart = (tt, refl, (refl, (ended_runs names ps (names_run names xs good) after apart_after behind).apart)); safe = refl } in
     line_apart names [] front rest refl inside apart
@@ -80,7 +80,7 @@ unfolding assumption_pieces
 assumption_apart names None good rest apart = apart
 assumption_apart names (Some b) good rest apart =
     let ps = condition_pieces b in
-    let front = word mark.Assume ∷ space ∷ (ps ++ word mark.Semicolon ∷ []) in
+    let front = mark_piece mark.Assume ∷ space ∷ (ps ++ mark_piece mark.Semicolon ∷ []) in
     let inside : RunsBefore names front = λ after apart_after behind.
     record { apart = (tt, refl, (refl, (ended_runs names ps (condition_runs names b good) after apart_after behind).apart)); safe = refl } in
     line_apart names [] front rest refl inside apart
@@ -91,7 +91,7 @@ block_runs names c margin white good = braces_runs names margin (code_pieces (de
 pub shared_apart : (names : List (List ℕ)) (c : Code) → IsCode names c → ApartBefore names (shared_pieces c)
 unfolding shared_pieces
 shared_apart names c good rest apart =
-    let front = word mark.Shared ∷ space ∷ block_pieces [] c in
+    let front = mark_piece mark.Shared ∷ space ∷ block_pieces [] c in
     let inside : RunsBefore names front = λ after apart_after behind.
     record { apart = (tt, refl, (refl, (block_runs names c [] refl good after apart_after behind).apart)); safe = refl } in
     line_apart names [] front rest refl inside apart
@@ -105,17 +105,17 @@ fillings_apart : (names : List (List ℕ)) (fs : Fillings) → AreFillingTexts n
 fillings_apart names [] good rest apart = apart
 fillings_apart names (f ∷ fs) good rest apart =
     let block = block_pieces (margin_at 1) f.1 in
-    let front = word mark.Question ∷ number (pos f.0) ∷ space ∷ block in
+    let front = mark_piece mark.Question ∷ number_piece (pos f.0) ∷ space ∷ block in
     let inside : RunsBefore names front = λ after apart_after behind.
     record {
-      apart = (tt, question_ends f.0 (text_of names (space ∷ (block ++ after))) good.0, (good.0, refl, (refl, (block_runs names f.1 (margin_at 1) refl good.1 after apart_after behind).apart)));
+      apart = (tt, question_ends f.0 (pieces_text names (space ∷ (block ++ after))) good.0, (good.0, refl, (refl, (block_runs names f.1 (margin_at 1) refl good.1 after apart_after behind).apart)));
       safe = refl;
     } in
     let P : List Piece → Type 0 = λ l. AreApart names l in
     subst P (sym (append_assoc (line (margin_at 1) front) (filling_pieces fs) rest))
     (line_apart names (margin_at 1) front (filling_pieces fs ++ rest) refl inside (fillings_apart names fs good.2 rest apart))
 
-list_apart : (names : List (List ℕ)) (m : Mark) (fs : Fillings) → begins (goes_on_mark m) (32 ∷ []) ≡ false → AreFillingTexts names fs → ApartBefore names (word m ∷ list_pieces fs)
+list_apart : (names : List (List ℕ)) (m : Mark) (fs : Fillings) → begins (goes_on_mark m) (32 ∷ []) ≡ false → AreFillingTexts names fs → ApartBefore names (mark_piece m ∷ list_pieces fs)
 unfolding list_pieces
 list_apart names m fs ends good rest apart =
     let P : List Piece → Type 0 = λ l. AreApart names l in
@@ -133,10 +133,10 @@ pub record IsTaskText (names : List (List ℕ)) (t : Parts) : Type 0 where
 lists_apart : (names : List (List ℕ)) (t : Parts) → IsTaskText names t → ApartBefore names (lists_pieces t.fillings)
 unfolding lists_pieces
 lists_apart names t good =
-    let o = word mark.Base ∷ list_pieces (t.fillings O) in
-    let a = word mark.VariantA ∷ list_pieces (t.fillings A) in
-    let b = word mark.VariantB ∷ list_pieces (t.fillings B) in
-    let m = word mark.Candidate ∷ list_pieces (t.fillings M) in
+    let o = mark_piece mark.Base ∷ list_pieces (t.fillings O) in
+    let a = mark_piece mark.VariantA ∷ list_pieces (t.fillings A) in
+    let b = mark_piece mark.VariantB ∷ list_pieces (t.fillings B) in
+    let m = mark_piece mark.Candidate ∷ list_pieces (t.fillings M) in
     both_apart names o (a ++ (b ++ m)) (list_apart names mark.Base (t.fillings O) refl (good.fillings O))
     (both_apart names a (b ++ m) (list_apart names mark.VariantA (t.fillings A) refl (good.fillings A))
     (both_apart names b m (list_apart names mark.VariantB (t.fillings B) refl (good.fillings B))
@@ -156,7 +156,7 @@ task_apart names t good =
     (both_apart names w l (shared_apart names t.shared good.shared) (lists_apart names t good))))
 
 -- the tokens of a printed task are those of its pieces, and it has no lexical fault
-pub task_relexed : (names : List (List ℕ)) (t : Parts) → IsTaskText names t → lexed (text_of names (task_pieces t)) ≡ (tokens_at names 0 (task_pieces t), None)
+pub task_relexed : (names : List (List ℕ)) (t : Parts) → IsTaskText names t → lexed (pieces_text names (task_pieces t)) ≡ (tokens_at names 0 (task_pieces t), None)
 task_relexed names t good =
     let P : List Piece → Type 0 = λ l. AreApart names l in
     relexed names (task_pieces t) (subst P (append-nil (task_pieces t)) (task_apart names t good [] tt))

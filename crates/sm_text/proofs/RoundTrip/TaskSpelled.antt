@@ -10,7 +10,7 @@ use Rattle.sm_syntax.specs.claim.ConflictFree.{Copy, O, A, B, M}
 use Rattle.sm_syntax.specs.text.Parts.{Parts}
 use Rattle.sm_syntax.specs.text.Grammar as g
 use Rattle.sm_syntax.specs.text.Grammar.{Marked, plain, IsHoleNumber, IsBlock, AreNames, AreDeclarations, AreOutputs, IsAssumption, IsShared, AreFillings, IsList, IsTask}
-use Rattle.sm_text.specs.printing.Pieces.{Gap, word, number, space, line_end, margin_at, deeper}
+use Rattle.sm_text.specs.printing.Pieces.{Gap, mark_piece, number_piece, space, line_end, margin_at, deeper}
 use Rattle.sm_text.specs.printing.Canonical.{braces, condition_pieces, code_pieces, block_pieces, declaration_pieces, names_pieces, output_pieces, assumption_pieces, shared_pieces, filling_pieces, list_pieces, lists_pieces, task_pieces}
 use Rattle.sm_text.proofs.RoundTrip.CodeSpelled.{marked, marked-append, marked-line, FitsTest, IsPrintable, told, block_shown, code_shown}
 
@@ -35,7 +35,7 @@ outputs_shown x xs =
     let F : List Marked → Type 0 = λ l. AreOutputs l (x ∷ xs) in
     let line : g.word mark.Output ∷ (marked ps ++ g.word mark.Semicolon ∷ []) ≡ marked (output_pieces (x ∷ xs)) =
     ap (λ (l : List Marked). g.word mark.Output ∷ l)
-    (sym (marked-append ps (word mark.Semicolon ∷ line_end ∷ [])) ∙ ap marked (sym (append_assoc ps (word mark.Semicolon ∷ []) (line_end ∷ [])))) in
+    (sym (marked-append ps (mark_piece mark.Semicolon ∷ line_end ∷ [])) ∙ ap marked (sym (append_assoc ps (mark_piece mark.Semicolon ∷ []) (line_end ∷ [])))) in
     subst F line (g.outputs (names_shown x xs))
 
 -- the assumption, where there is one, nests nowhere too deep
@@ -51,7 +51,7 @@ assumption_shown (Some b) fits =
     let F : List Marked → Type 0 = λ l. IsAssumption l (Some b) in
     let line : g.word mark.Assume ∷ (marked ps ++ g.word mark.Semicolon ∷ []) ≡ marked (assumption_pieces (Some b)) =
     ap (λ (l : List Marked). g.word mark.Assume ∷ l)
-    (sym (marked-append ps (word mark.Semicolon ∷ line_end ∷ [])) ∙ ap marked (sym (append_assoc ps (word mark.Semicolon ∷ []) (line_end ∷ [])))) in
+    (sym (marked-append ps (mark_piece mark.Semicolon ∷ line_end ∷ [])) ∙ ap marked (sym (append_assoc ps (mark_piece mark.Semicolon ∷ []) (line_end ∷ [])))) in
     subst F line (g.assumes (told b 0 fits).whole)
 
 pub shared_shown : (c : Code) → IsPrintable 1 c → IsShared (marked (shared_pieces c)) c
@@ -73,7 +73,7 @@ fillings_shown (f ∷ fs) fits =
     let block = block_pieces (margin_at 1) f.1 in
     let F : List Marked → Type 0 = λ l. AreFillings l (f ∷ fs) in
     let line : g.word mark.Question ∷ plain (s.Number (pos f.0)) ∷ (marked block ++ marked (filling_pieces fs)) ≡ marked (filling_pieces (f ∷ fs)) =
-    sym (marked-line (margin_at 1) (word mark.Question ∷ number (pos f.0) ∷ space ∷ block) (filling_pieces fs)) in
+    sym (marked-line (margin_at 1) (mark_piece mark.Question ∷ number_piece (pos f.0) ∷ space ∷ block) (filling_pieces fs)) in
     subst F line (g.more f.0 fits.0 (block_told 1 f.1 (margin_at 1) (omega arith) fits.1) (fillings_shown fs fits.2))
 
 list_shown : (m : Mark) (fs : Fillings) → ArePrintable fs → IsList m (g.word m ∷ marked (list_pieces fs)) fs
@@ -81,9 +81,9 @@ unfolding list_pieces braces
 list_shown m fs fits =
     let ps = filling_pieces fs in
     let F : List Marked → Type 0 = λ l. IsList m (g.word m ∷ g.word mark.OpenCurly ∷ l) fs in
-    let line : marked ps ++ g.word mark.CloseCurly ∷ [] ≡ marked ((ps ++ Gap [] ∷ word mark.CloseCurly ∷ []) ++ line_end ∷ []) =
-    sym (marked-append ps (Gap [] ∷ word mark.CloseCurly ∷ line_end ∷ [])) ∙
-    ap marked (sym (append_assoc ps (Gap [] ∷ word mark.CloseCurly ∷ []) (line_end ∷ []))) in
+    let line : marked ps ++ g.word mark.CloseCurly ∷ [] ≡ marked ((ps ++ Gap [] ∷ mark_piece mark.CloseCurly ∷ []) ++ line_end ∷ []) =
+    sym (marked-append ps (Gap [] ∷ mark_piece mark.CloseCurly ∷ line_end ∷ [])) ∙
+    ap marked (sym (append_assoc ps (Gap [] ∷ mark_piece mark.CloseCurly ∷ []) (line_end ∷ []))) in
     subst F line (g.list m (fillings_shown fs fits))
 
 -- the four lists
@@ -94,12 +94,12 @@ marked-lists fillings =
     let o = list_pieces (fillings O) in
     let a = list_pieces (fillings A) in
     let b = list_pieces (fillings B) in
-    let m = word mark.Candidate ∷ list_pieces (fillings M) in
+    let m = mark_piece mark.Candidate ∷ list_pieces (fillings M) in
     let last : marked b ++ marked m ≡ marked (b ++ m) = sym (marked-append b m) in
-    let more : marked a ++ marked (word mark.VariantB ∷ (b ++ m)) ≡ marked (a ++ word mark.VariantB ∷ (b ++ m)) = sym (marked-append a _) in
+    let more : marked a ++ marked (mark_piece mark.VariantB ∷ (b ++ m)) ≡ marked (a ++ mark_piece mark.VariantB ∷ (b ++ m)) = sym (marked-append a _) in
     ap (λ (l : List Marked). g.word mark.Base ∷ (marked o ++ g.word mark.VariantA ∷ (marked a ++ g.word mark.VariantB ∷ l))) last ∙
     ap (λ (l : List Marked). g.word mark.Base ∷ (marked o ++ g.word mark.VariantA ∷ l)) more ∙
-    ap (λ (l : List Marked). g.word mark.Base ∷ l) (sym (marked-append o (word mark.VariantA ∷ (a ++ word mark.VariantB ∷ (b ++ m)))))
+    ap (λ (l : List Marked). g.word mark.Base ∷ l) (sym (marked-append o (mark_piece mark.VariantA ∷ (a ++ mark_piece mark.VariantB ∷ (b ++ m)))))
 
 -- there is an output
 abbrev pub HasOutput : List ℕ → Type 0

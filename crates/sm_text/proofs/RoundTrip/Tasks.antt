@@ -11,7 +11,7 @@ use Rattle.sm_syntax.specs.text.Symbols.{with_text, names_of, symbols_of}
 use Rattle.sm_syntax.specs.text.Tokens.{Lexed, lexed}
 use Rattle.sm_text.specs.printing.Canonical.{task_pieces}
 use Rattle.sm_text.specs.printing.Named.{HasText}
-use Rattle.sm_text.specs.printing.Pieces.{Piece, text_of, symbols_in}
+use Rattle.sm_text.specs.printing.Pieces.{Piece, pieces_text, symbols_in}
 use Rattle.sm_text.proofs.RoundTrip.CodeSpelled.{marked}
 use Rattle.sm_text.proofs.RoundTrip.TaskSpelled.{task_shown}
 use Rattle.sm_text.proofs.RoundTrip.TextTokens.{tokens_at}
@@ -60,7 +60,7 @@ text_content bytes = record {
 }
 
 -- pieces with the content of a text, whose tokens are cut as they were put
-pub pieces_again : (names : List (List ℕ)) (ps : List Piece) (ss : List Symbol) → IsContent names ss → content (marked ps) ≡ ss → lexed (text_of names ps) ≡ (tokens_at names 0 ps, None) → IsAgain names ps
+pub pieces_again : (names : List (List ℕ)) (ps : List Piece) (ss : List Symbol) → IsContent names ss → content (marked ps) ≡ ss → lexed (pieces_text names ps) ≡ (tokens_at names 0 ps, None) → IsAgain names ps
 pieces_again names ps ss has same cut =
     let A : List Symbol → Type 0 = λ l. AllIn names l in
     printed_again names ps cut (content_all names (symbols_in ps) (subst A (sym same) has.all))
@@ -81,7 +81,7 @@ pub spelled_named : (t : Parts) → HasText t → IsNamed t
 spelled_named t h = task_named t (spelled_text h.0 t h.1)
 
 -- and its canonical text spells it
-pub reads_back : (t : Parts) → HasText t → Spells (text_of t.names (task_pieces t)) t
+pub reads_back : (t : Parts) → HasText t → Spells (pieces_text t.names (task_pieces t)) t
 reads_back t h =
     let ps = task_pieces t in
     let cut = task_relexed t.names t (spelled_text h.0 t h.1) in

@@ -8,7 +8,7 @@ use Rattle.sm_syntax.specs.declared.token.TokenKind.{TokenKind}
 use Rattle.sm_syntax.specs.declared.token.TokenKind.TheVariants as kind
 use Rattle.sm_syntax.specs.declared.token.Token as lexical
 use Rattle.sm_syntax.specs.text.Tokens.{Lexed, is_space, is_word_start, is_word_byte, mark_of_word, with_token, lexed, lexed_from}
-use Rattle.sm_text.specs.printing.Pieces.{Piece, Token, Gap, bytes_of, text_of}
+use Rattle.sm_text.specs.printing.Pieces.{Piece, Token, Gap, bytes_of, pieces_text}
 use Rattle.sm_text.proofs.RoundTrip.PieceTokens.{begins, Cuts, mark_kind, goes_on_mark, mark_cut, number_cut, word_cut, lexed-gap}
 
 -- the kind of a symbol's token
@@ -59,7 +59,7 @@ symbol_cut names (s.Name x) v good ends = name_cut (unwrap_or (slice_get names x
 -- the gaps are white space, and nothing behind a token goes on with it
 abbrev pub AreApart : List (List ℕ) → List Piece → Type 0
 AreApart names [] = Unit {0}
-AreApart names (Token t ∷ ps) = IsSpelled names t × (begins (goes_on t) (text_of names ps) ≡ false) × AreApart names ps
+AreApart names (Token t ∷ ps) = IsSpelled names t × (begins (goes_on t) (pieces_text names ps) ≡ false) × AreApart names ps
 AreApart names (Gap bytes ∷ ps) = (list_all is_space bytes ≡ true) × AreApart names ps
 
 -- the tokens of pieces from a place on
@@ -74,16 +74,16 @@ ended : (place : ℕ) → ◌≡◌ {A = Lexed} (lexed_from place []) ([], None)
 unfolding lexed_from
 ended place = refl
 
-relexed_from : (names : List (List ℕ)) (ps : List Piece) (place : ℕ) → AreApart names ps → lexed_from place (text_of names ps) ≡ (tokens_at names place ps, None)
+relexed_from : (names : List (List ℕ)) (ps : List Piece) (place : ℕ) → AreApart names ps → lexed_from place (pieces_text names ps) ≡ (tokens_at names place ps, None)
 relexed_from names [] place apart = ended place
 relexed_from names (Token t ∷ ps) place apart =
     let u = bytes_of names (Token t) in
-    (symbol_cut names t (text_of names ps) apart.0 apart.1).cut place ∙
+    (symbol_cut names t (pieces_text names ps) apart.0 apart.1).cut place ∙
     ap (with_token (record { kind = kind_of t; place = place; size = length u })) (relexed_from names ps (place + length u) apart.2)
 relexed_from names (Gap bytes ∷ ps) place apart =
-    lexed-gap bytes (text_of names ps) place apart.0 ∙ relexed_from names ps (place + length bytes) apart.1
+    lexed-gap bytes (pieces_text names ps) place apart.0 ∙ relexed_from names ps (place + length bytes) apart.1
 
 -- the tokens of a printed text are those of its pieces, and it has no fault
-pub relexed : (names : List (List ℕ)) (ps : List Piece) → AreApart names ps → lexed (text_of names ps) ≡ (tokens_at names 0 ps, None)
+pub relexed : (names : List (List ℕ)) (ps : List Piece) → AreApart names ps → lexed (pieces_text names ps) ≡ (tokens_at names 0 ps, None)
 unfolding lexed
 relexed names ps apart = relexed_from names ps 0 apart

@@ -14,9 +14,9 @@ use Rattle.sm_text.specs.declared.rules.reading.FaultKind.TheVariants.{Expected,
 use Rattle.sm_text.specs.declared.rules.reading.ReadError.{ReadError}
 use Rattle.sm_text.specs.declared.rules.reading.ReadError.TheVariants as error
 use Rattle.sm_text.specs.rules.Answers.{Fails, Gives}
-use Rattle.sm_text.specs.rules.Parsers.{first, rest, fault, expect, Parser, Operators, stands, chain_in, inside}
+use Rattle.sm_text.specs.rules.Parsers.{first, rest, fault, expect, Parser, Operators, stands, chain_in, inside_group}
 use Rattle.sm_text.specs.rules.Reading as r
-use Rattle.sm_text.specs.rules.Written.{front_of}
+use Rattle.sm_text.specs.rules.Written.{statements_before}
 use Rattle.sm_syntax.specs.declared.tree.Stmt.{Stmt}
 use Rattle.sm_syntax.specs.trees.Views.{statement_of}
 use Rattle.sm_syntax.proofs.Blocks.{sequence-push}
@@ -90,33 +90,33 @@ pub more_statements-fault : (n : ℕ) (before : Code → Code) (ts : List Symbol
 unfolding r.more_statements
 more_statements-fault n before ts b f e = gather-fault r.begins_statement (r.statement n (r.block n)) r.with_statement before ts f b e
 
-pub filling-shorter : (ts : List Symbol) (x : ℕ × Code) (after : List Symbol) → r.filling ts ≡ Ok (x, after) → length after < length ts
+pub filling-shorter : (ts : List Symbol) (x : ℕ × Code) (after : List Symbol) → r.hole_filling ts ≡ Ok (x, after) → length after < length ts
 filling-shorter = shorter (λ us x i. i.some) filling_told
 
-pub more_fillings-turn : (before : Fillings) (ts : List Symbol) (x : ℕ × Code) (after : List Symbol) → stands mark.Question (first ts) ≡ true → r.filling ts ≡ Ok (x, after) → r.more_fillings before ts ≡ r.more_fillings (r.with_filling before x) after
+pub more_fillings-turn : (before : Fillings) (ts : List Symbol) (x : ℕ × Code) (after : List Symbol) → stands mark.Question (first ts) ≡ true → r.hole_filling ts ≡ Ok (x, after) → r.more_fillings before ts ≡ r.more_fillings (r.with_filling before x) after
 unfolding r.more_fillings
-more_fillings-turn before ts x after b e = gather-turn (stands mark.Question) r.filling r.with_filling filling-shorter before ts x after b e
+more_fillings-turn before ts x after b e = gather-turn (stands mark.Question) r.hole_filling r.with_filling filling-shorter before ts x after b e
 
 pub more_fillings-end : (before : Fillings) (ts : List Symbol) → stands mark.Question (first ts) ≡ false → r.more_fillings before ts ≡ Ok (before, ts)
 unfolding r.more_fillings
-more_fillings-end before ts b = gather-end (stands mark.Question) r.filling r.with_filling before ts b
+more_fillings-end before ts b = gather-end (stands mark.Question) r.hole_filling r.with_filling before ts b
 
-pub more_fillings-fault : (before : Fillings) (ts : List Symbol) → stands mark.Question (first ts) ≡ true → (f : Fault) → r.filling ts ≡ Err f → r.more_fillings before ts ≡ Err f
+pub more_fillings-fault : (before : Fillings) (ts : List Symbol) → stands mark.Question (first ts) ≡ true → (f : Fault) → r.hole_filling ts ≡ Err f → r.more_fillings before ts ≡ Err f
 unfolding r.more_fillings
-more_fillings-fault before ts b f e = gather-fault (stands mark.Question) r.filling r.with_filling before ts f b e
+more_fillings-fault before ts b f e = gather-fault (stands mark.Question) r.hole_filling r.with_filling before ts f b e
 
 -- one more statement at the end
-pub front-push : (list : List Stmt) (one : Stmt) → front_of (list ++ one ∷ []) ≡ r.with_statement (front_of list) (statement_of one)
+pub front-push : (list : List Stmt) (one : Stmt) → statements_before (list ++ one ∷ []) ≡ r.with_statement (statements_before list) (statement_of one)
 front-push list one = fun_ext (λ k. sequence-push list one k)
 
 -- a task with no symbol behind it
-pub whole-end : (ts : List Symbol) (p : r.Front × (Copy → Fillings)) (after : List Symbol) → r.task ts ≡ Ok (p, after) → first after ≡ None → r.whole ts ≡ Ok p
+pub whole-end : (ts : List Symbol) (p : r.TaskFront × (Copy → Fillings)) (after : List Symbol) → r.task ts ≡ Ok (p, after) → first after ≡ None → r.whole ts ≡ Ok p
 unfolding r.whole
 whole-end ts p [] e none = rw e refl
 whole-end ts p (t ∷ after) e none = absurd (some_none t none)
 
 -- a task with symbols behind it
-pub whole-rest : (ts : List Symbol) (p : r.Front × (Copy → Fillings)) (after : List Symbol) (u : Symbol) → r.task ts ≡ Ok (p, after) → first after ≡ Some u → r.whole ts ≡ Err (fault Expected after)
+pub whole-rest : (ts : List Symbol) (p : r.TaskFront × (Copy → Fillings)) (after : List Symbol) (u : Symbol) → r.task ts ≡ Ok (p, after) → first after ≡ Some u → r.whole ts ≡ Err (fault Expected after)
 unfolding r.whole
 whole-rest ts p [] u e some = absurd (some_none u (sym some))
 whole-rest ts p (t ∷ after) u e some = rw e refl
@@ -256,19 +256,19 @@ inner_block-some zero some = absurd (some refl)
 inner_block-some (suc n) some = let less : suc n - 1 ≡ n = omega arith in rw less refl
 
 -- a group: refused where none may be opened
-pub inside-none : {T : Type 0} (deeper : Option (Parser T)) (close : Mark) (ts : List Symbol) → deeper ≡ None → inside deeper close ts ≡ Err (fault Nested ts)
+pub inside-none : {T : Type 0} (deeper : Option (Parser T)) (close : Mark) (ts : List Symbol) → deeper ≡ None → inside_group deeper close ts ≡ Err (fault Nested ts)
 inside-none deeper close ts e = rw e refl
 
 -- a group that is read
-pub inside-reads : {T : Type 0} (deeper : Option (Parser T)) (p : Parser T) (close : Mark) (ts : List Symbol) (x : T) (after end : List Symbol) → deeper ≡ Some p → p (rest ts) ≡ Ok (x, after) → expect close after ≡ Ok (tt, end) → inside deeper close ts ≡ Ok (x, end)
+pub inside-reads : {T : Type 0} (deeper : Option (Parser T)) (p : Parser T) (close : Mark) (ts : List Symbol) (x : T) (after end : List Symbol) → deeper ≡ Some p → p (rest ts) ≡ Ok (x, after) → expect close after ≡ Ok (tt, end) → inside_group deeper close ts ≡ Ok (x, end)
 inside-reads deeper p close ts x after end e one two = rw (e, one, two) refl
 
 -- a group whose inside is refused
-pub inside-fails : {T : Type 0} (deeper : Option (Parser T)) (p : Parser T) (close : Mark) (ts : List Symbol) → deeper ≡ Some p → (f : Fault) → p (rest ts) ≡ Err f → inside deeper close ts ≡ Err f
+pub inside-fails : {T : Type 0} (deeper : Option (Parser T)) (p : Parser T) (close : Mark) (ts : List Symbol) → deeper ≡ Some p → (f : Fault) → p (rest ts) ≡ Err f → inside_group deeper close ts ≡ Err f
 inside-fails deeper p close ts e f one = rw (e, one) refl
 
 -- a group that isn't closed
-pub inside-open : {T : Type 0} (deeper : Option (Parser T)) (p : Parser T) (close : Mark) (ts : List Symbol) (x : T) (after : List Symbol) → deeper ≡ Some p → p (rest ts) ≡ Ok (x, after) → (f : Fault) → expect close after ≡ Err f → inside deeper close ts ≡ Err f
+pub inside-open : {T : Type 0} (deeper : Option (Parser T)) (p : Parser T) (close : Mark) (ts : List Symbol) (x : T) (after : List Symbol) → deeper ≡ Some p → p (rest ts) ≡ Ok (x, after) → (f : Fault) → expect close after ≡ Err f → inside_group deeper close ts ≡ Err f
 inside-open deeper p close ts x after e one f two = rw (e, one, two) refl
 
 -- the operator that stands there

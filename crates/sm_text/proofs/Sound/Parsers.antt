@@ -11,7 +11,7 @@ use Rattle.sm_syntax.specs.declared.symbol.Symbol.TheVariants as s
 use Rattle.sm_syntax.specs.text.Grammar.{Marked, plain, word, opens}
 use Rattle.sm_text.specs.declared.rules.reading.Fault.{Fault}
 use Rattle.sm_text.specs.declared.rules.reading.FaultKind.TheVariants.{Expected, Nested}
-use Rattle.sm_text.specs.rules.Parsers.{first, Parser, fault, go_on, ◌>>=◌, ◌>>◌, pure, peek, skip, refuse, expect_by, expect, stands, inside, grouped_by, grouped}
+use Rattle.sm_text.specs.rules.Parsers.{first, Parser, fault, go_on, ◌>>=◌, ◌>>◌, pure, peek, skip, refuse, expect_by, expect, stands, inside_group, grouped_by, grouped}
 use Rattle.sm_text.specs.rules.Reading.{by_rest, to_end}
 
 -- what was read stands for the symbols that were used, and is read before all that begins with the same symbol
@@ -349,7 +349,7 @@ too_deep d begin close P deep may ts e =
     }
 
 -- the inside of a group whose sign stands first
-pub inside_told : {T : Type 0} (deeper : Option (Parser T)) (P : List Marked → T → Type 0) (d : ℕ) (begin close : Mark) → Inner deeper P d → DescribesAt (Some (s.Mark begin)) (inside deeper close) (Enclosed d begin close P)
+pub inside_told : {T : Type 0} (deeper : Option (Parser T)) (P : List Marked → T → Type 0) (d : ℕ) (begin close : Mark) → Inner deeper P d → DescribesAt (Some (s.Mark begin)) (inside_group deeper close) (Enclosed d begin close P)
 inside_told None P d begin close i = record { tells = λ ts e. too_deep d begin close P i.1 i.0 ts e }
 inside_told (Some p) P d begin close i = after (s.Mark begin) (enclosed d begin close P i.1) (bind i.0 (λ x. both (expect_told close) (give x)))
 

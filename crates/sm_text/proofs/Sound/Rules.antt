@@ -23,7 +23,7 @@ use Rattle.sm_syntax.specs.text.Grammar as g
 use Rattle.sm_syntax.specs.text.Grammar.{Marked, plain, word, opens, joins, comparison, declares, IsExpression, IsCondition, IsHoleNumber, AreStatements, IsBlock, AreNames, AreDeclarations, AreOutputs, IsAssumption, IsShared, AreFillings, IsList, IsTask, with_sort}
 use Rattle.sm_syntax.specs.text.Parts.{by_copy}
 use Rattle.sm_text.specs.declared.rules.reading.FaultKind.TheVariants.{Expected}
-use Rattle.sm_text.specs.rules.Parsers.{rest, Parser, ◌>>◌, pure, skip, refuse, stands, inside}
+use Rattle.sm_text.specs.rules.Parsers.{rest, Parser, ◌>>◌, pure, skip, refuse, stands, inside_group}
 use Rattle.sm_text.specs.rules.Reading as r
 use Rattle.sm_text.proofs.Sound.Parsers.{all_read, Possible, Describes, DescribesAt, Both, Is, IsMark, bind, both, weaken, possibly, possibly-behind, give, refused_at, anywhere, choose, choose_by, after, expect_told, bind_at, weaken_at, stands-is, standing, Inner, Enclosed, inside_told, grouped_told}
 use Rattle.sm_text.proofs.Sound.Chained.{Chained, Joins, chain_told}
@@ -281,7 +281,7 @@ module _ (deeper : Option (Parser Expression)) (d : ℕ) (inner : Inner deeper (
   unfolding r.parenthesized
   parenthesized_at m false e = refused_at (IsAtom d) (some_atom d) (Some (s.Mark m))
   parenthesized_at m true e =
-      let F : Mark → Type 0 = λ v. DescribesAt (Some (s.Mark v)) (inside deeper mark.CloseRound) (IsAtom d) in
+      let F : Mark → Type 0 = λ v. DescribesAt (Some (s.Mark v)) (inside_group deeper mark.CloseRound) (IsAtom d) in
       subst F (sym (same_true the_type tt m mark.OpenRound e)) (weaken_at is_group (inside_told deeper (IsSum (suc d)) d mark.OpenRound mark.CloseRound inner))
 
   atom_told : Describes (r.atom deeper) (IsAtom d)
@@ -392,8 +392,8 @@ comparison_by o = by (stands mark.Equal o) refl (stands mark.Unequal o) refl (st
     by false p false q false t false u false v true w = comparison_at mark.AtLeast Ge o refl w
     by false p false q false t false u false v false w = refused_at IsComparison some_comparison o
 
-comparison_told : Describes r.comparison IsComparison
-unfolding r.comparison
+comparison_told : Describes r.comparison_sign IsComparison
+unfolding r.comparison_sign
 comparison_told = choose_by (λ o. r.comparison_if (r.comparison_of o)) (λ ts. refl) some_comparison comparison_by
 
 -- a condition where d groups are open
@@ -706,8 +706,8 @@ is_filling us f b = subst F (sym line) (subst G b.two.two.two.same (record { som
     line : us ≡ word mark.Question ∷ plain (s.Number (pos b.two.value)) ∷ b.two.two.front
     line = b.parts ∙ ap (λ (l : List Marked). l ++ b.behind) b.one ∙ ap (λ (l : List Marked). word mark.Question ∷ l) (b.two.parts ∙ ap (λ (l : List Marked). l ++ b.two.behind) b.two.one.split ∙ ap (λ (l : List Marked). plain (s.Number (pos b.two.value)) ∷ l) (b.two.two.parts ∙ ap (λ (l : List Marked). b.two.two.front ++ l) b.two.two.two.none ∙ append-nil b.two.two.front))
 
-pub filling_told : Describes r.filling IsFilling
-unfolding r.filling r.list_limit
+pub filling_told : Describes r.hole_filling IsFilling
+unfolding r.hole_filling r.list_limit
 filling_told = weaken is_filling (both (expect_told mark.Question) (bind hole_number_told (λ h. bind (block_told 63 1 refl) (λ c. give (h, c)))))
 
 -- what fillings add to those before
@@ -731,7 +731,7 @@ are_fillings us fs b =
 
 pub fillings_told : Describes r.fillings AreFillings
 unfolding r.fillings r.more_fillings
-fillings_told = weaken are_fillings (gathered (stands mark.Question) r.filling r.with_filling IsFilling filling_told (λ us f i. i.some) [])
+fillings_told = weaken are_fillings (gathered (stands mark.Question) r.hole_filling r.with_filling IsFilling filling_told (λ us f i. i.some) [])
 
 is_list : (m : Mark) (us : List Marked) (fs : Fillings) → Both (IsMark m) (λ _. Both (IsMark mark.OpenCurly) (λ _. Both AreFillings (λ l. Both (IsMark mark.CloseCurly) (λ _. Is l)))) us fs → IsList m us fs
 is_list m us fs b = subst F (sym line) (subst G b.two.two.two.two.same (g.list m b.two.two.one))
@@ -783,7 +783,7 @@ unfolding r.shared r.group_limit
 shared_told = weaken is_shared (both (expect_told mark.Shared) (block_told 64 0 refl))
 
 -- the front of a task
-pub record IsFrontOfTask (us : List Marked) (front : r.Front) : Type 0 where
+pub record IsFrontOfTask (us : List Marked) (front : r.TaskFront) : Type 0 where
   pub ds : List Marked
   pub os : List Marked
   pub qs : List Marked
@@ -794,7 +794,7 @@ pub record IsFrontOfTask (us : List Marked) (front : r.Front) : Type 0 where
   pub assumed : IsAssumption qs front.assumed
   pub code : IsShared ss front.shared
 
-is_front_of_task : (us : List Marked) (front : r.Front) → Both AreDeclarations (λ ds. Both AreOutputs (λ xs. Both IsAssumption (λ a. Both IsShared (λ c. Is (record { declared = ds; outputs = xs; assumed = a; shared = c }))))) us front → IsFrontOfTask us front
+is_front_of_task : (us : List Marked) (front : r.TaskFront) → Both AreDeclarations (λ ds. Both AreOutputs (λ xs. Both IsAssumption (λ a. Both IsShared (λ c. Is (record { declared = ds; outputs = xs; assumed = a; shared = c }))))) us front → IsFrontOfTask us front
 is_front_of_task us front b = subst F b.two.two.two.two.same (record {
   ds = b.front;
   os = b.two.front;
@@ -807,7 +807,7 @@ is_front_of_task us front b = subst F b.two.two.two.two.same (record {
   code = b.two.two.two.one;
 })
   where
-    F : r.Front → Type 0
+    F : r.TaskFront → Type 0
     F f = IsFrontOfTask us f
 
 pub head_told : Describes r.head IsFrontOfTask
@@ -847,19 +847,19 @@ unfolding r.lists
 lists_told = weaken are_lists (bind (list_told mark.Base) (λ o. bind (list_told mark.VariantA) (λ a. bind (list_told mark.VariantB) (λ b. bind (list_told mark.Candidate) (λ m. give (by_copy o a b m))))))
 
 -- a task, but for the texts of its names
-pub record IsTaskBody (us : List Marked) (p : r.Front × (Copy → Fillings)) : Type 0 where
+pub record IsTaskBody (us : List Marked) (p : r.TaskFront × (Copy → Fillings)) : Type 0 where
   pub goes : (names : List (List ℕ)) → IsTask us (r.parts_from names p)
 
 regrouped : (ds os qs ss rest : List Marked) → (ds ++ (os ++ (qs ++ ss))) ++ rest ≡ ds ++ (os ++ (qs ++ (ss ++ rest)))
 regrouped ds os qs ss rest = append_assoc ds (os ++ (qs ++ ss)) rest ∙ ap (λ (l : List Marked). ds ++ l) (append_assoc os (qs ++ ss) rest ∙ ap (λ (l : List Marked). os ++ l) (append_assoc qs ss rest))
 
-is_task : (us : List Marked) (p : r.Front × (Copy → Fillings)) → Both IsFrontOfTask (λ front. Both AreLists (λ fs. Is (front, fs))) us p → IsTaskBody us p
+is_task : (us : List Marked) (p : r.TaskFront × (Copy → Fillings)) → Both IsFrontOfTask (λ front. Both AreLists (λ fs. Is (front, fs))) us p → IsTaskBody us p
 is_task us p b = subst F (sym line) (subst G b.two.two.same (record { goes = λ names. g.task (r.parts_from names (b.value, b.two.value)) b.one.declared b.one.named b.one.assumed b.one.code b.two.one.base b.two.one.variant_a b.two.one.variant_b b.two.one.candidate }))
   where
     F : List Marked → Type 0
     F l = IsTaskBody l p
 
-    G : r.Front × (Copy → Fillings) → Type 0
+    G : r.TaskFront × (Copy → Fillings) → Type 0
     G q = IsTaskBody (b.one.ds ++ (b.one.os ++ (b.one.qs ++ (b.one.ss ++ (b.two.one.os ++ (b.two.one.xs ++ (b.two.one.ys ++ b.two.one.ms))))))) q
 
     line : us ≡ b.one.ds ++ (b.one.os ++ (b.one.qs ++ (b.one.ss ++ (b.two.one.os ++ (b.two.one.xs ++ (b.two.one.ys ++ b.two.one.ms))))))
@@ -870,6 +870,6 @@ unfolding r.task
 task_told = weaken is_task (bind head_told (λ front. bind lists_told (λ fs. give (front, fs))))
 
 -- what is read to the end is a task
-pub whole_told : (ts : List Symbol) (p : r.Front × (Copy → Fillings)) → r.whole ts ≡ Ok p → IsTaskBody (map plain ts) p
+pub whole_told : (ts : List Symbol) (p : r.TaskFront × (Copy → Fillings)) → r.whole ts ≡ Ok p → IsTaskBody (map plain ts) p
 unfolding r.whole
 whole_told ts p e = all_read task_told ts p e

@@ -15,15 +15,15 @@ use Rattle.sm_text.specs.rules.Reading.{block}
 use Rattle.sm_text.specs.resolving.TokenTexts.{sign_by}
 
 -- the symbols of tokens, where their names stand behind those from before
-abbrev pub signs : List ℕ → List (List ℕ) → List Token → List Symbol
-signs bytes before ts = map (symbol_of bytes (names_after bytes before ts)) ts
+abbrev pub token_symbols : List ℕ → List (List ℕ) → List Token → List Symbol
+token_symbols bytes before ts = map (symbol_of bytes (names_after bytes before ts)) ts
 
 -- where so many groups are open, the tokens begin with this block and so many stand behind it;
 -- `names` are those before and its own
 pub record IsFirstBlock (bytes : List ℕ) (before : List (List ℕ)) (groups : ℕ) (ts : List Token)
     (names : List (List ℕ)) (c : Code) (left : ℕ) : Type 0 where
   pub after : List Symbol
-  pub read : block (64 - groups) (signs bytes before ts) ≡ Ok (c, after)
+  pub read : block (64 - groups) (token_symbols bytes before ts) ≡ Ok (c, after)
   pub count : left ≡ length after
   pub numbered : names ≡ names_after bytes before (take (length ts - left) ts)
 

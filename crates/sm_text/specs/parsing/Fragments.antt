@@ -27,8 +27,8 @@ pub record ProgramParts : Type 0 where
   pub body : Code
 
 -- the parts that a program stands for
-abbrev pub parts_of : Program → ProgramParts
-parts_of p = record {
+abbrev pub program_parts : Program → ProgramParts
+program_parts p = record {
   names = p.names;
   declared = declared_of p.decls;
   outputs = outputs_of p.outputs;
@@ -58,7 +58,7 @@ HasProgramText p = (bytes : List ℕ) × SpellsProgram bytes p
 
 -- the answer is the program of these parts, or want of memory
 abbrev pub IsProgramReadAs : ProgramParts → Result Program TextError → Type 0
-IsProgramReadAs p answer = MatchResult answer (λ q. parts_of q ≡ p) (λ e. e ≡ error.Memory)
+IsProgramReadAs p answer = MatchResult answer (λ q. program_parts q ≡ p) (λ e. e ≡ error.Memory)
 
 -- a token that is a name is one of these
 abbrev pub IsKnown : List ℕ → List (List ℕ) → Token → Type 0

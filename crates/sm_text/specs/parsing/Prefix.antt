@@ -21,7 +21,7 @@ use Rattle.sm_syntax.specs.trees.Views.{condition_of, code_of}
 use Rattle.sm_text.specs.declared.error.TextError.{TextError}
 use Rattle.sm_text.specs.declared.error.TextError.TheVariants as error
 use Rattle.sm_text.specs.declared.lexing.token_list.Tokens.{Tokens}
-use Rattle.sm_text.specs.parsing.Fragments.{ProgramParts, parts_of, IsNamedProgram}
+use Rattle.sm_text.specs.parsing.Fragments.{ProgramParts, program_parts, IsNamedProgram}
 use Rattle.sm_text.specs.printing.Named.{IsAssumedIn}
 
 -- these are the tokens of the text, and its lexical fault
@@ -29,8 +29,8 @@ abbrev pub AreTokensOf : List ℕ → Tokens → Type 0
 AreTokensOf bytes tokens = (tokens.list.items, tokens.fault) ≡ lexed bytes
 
 -- the tokens from number `at` up to number `n`
-abbrev pub between : ℕ → ℕ → List Token → List Token
-between at n ts = take (n - at) (drop at ts)
+abbrev pub tokens_between : ℕ → ℕ → List Token → List Token
+tokens_between at n ts = take (n - at) (drop at ts)
 
 -- the grammar spells this by the tokens from number `at` up to number `n`; `names` are those before
 -- and those of the tokens
@@ -38,8 +38,8 @@ pub record SpellsFrom {T : Type 0} (G : List Marked → T → Type 0) (bytes : L
     (before : List (List ℕ)) (n : ℕ) (names : List (List ℕ)) (x : T) : Type 0 where
   pub begins : at ≤ n
   pub ends : n ≤ length (lexed bytes).0
-  pub numbered : names ≡ names_after bytes before (between at n (lexed bytes).0)
-  pub grammar : G (map plain (map (symbol_of bytes names) (between at n (lexed bytes).0))) x
+  pub numbered : names ≡ names_after bytes before (tokens_between at n (lexed bytes).0)
+  pub grammar : G (map plain (map (symbol_of bytes names) (tokens_between at n (lexed bytes).0))) x
 
 -- the parts of a head: a program, and what is assumed
 pub record HeadParts : Type 0 where
@@ -48,7 +48,7 @@ pub record HeadParts : Type 0 where
 
 -- the parts that a program and an assumption stand for
 abbrev pub head_parts : Program → Option Cond → HeadParts
-head_parts p b = record { program = parts_of p; assumed = option_map condition_of b }
+head_parts p b = record { program = program_parts p; assumed = option_map condition_of b }
 
 -- the symbols spell the front of a task: declarations, outputs, what is assumed, and the shared
 -- block

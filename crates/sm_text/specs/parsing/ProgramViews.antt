@@ -6,8 +6,8 @@ use Rattle.sm_text.specs.declared.parsing.program.Parts.{Parts}
 use Rattle.sm_text.specs.parsing.Program.{ProgramBody}
 
 -- a program, but for the texts of its names
-abbrev pub program_of : Parts → ProgramBody
-program_of p = record {
+abbrev pub program_body : Parts → ProgramBody
+program_body p = record {
   declared = declared_of p.decls;
   outputs = outputs_of p.outputs;
   body = code_of p.body;

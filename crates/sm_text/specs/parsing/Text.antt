@@ -19,8 +19,8 @@ use Rattle.sm_text.specs.declared.parsing.text.Sections.{Sections}
 use Rattle.sm_text.specs.rules.Sections.{body_of, lists_of, parts_from}
 
 -- the parts of a task
-abbrev pub parts_of : Sections → Parts
-parts_of s = parts_from s.names (body_of (s.head, s.lists))
+abbrev pub sections_parts : Sections → Parts
+sections_parts s = parts_from s.names (body_of (s.head, s.lists))
 
 -- the parts of a task, by its shared program, what is assumed and the fillings of each copy
 abbrev pub task_parts : Program → Option Cond → PerCopy Fillings → Parts
@@ -43,8 +43,8 @@ lexical_fault (error.Nested place) = None
 lexical_fault error.Memory = None
 
 -- the answer is the task of these parts, or want of memory
-abbrev pub IsReadAs : Parts → Result Sections TextError → Type 0
-IsReadAs t answer = MatchResult answer (λ s. parts_of s ≡ t) (λ e. e ≡ error.Memory)
+abbrev pub AreSectionsReadAs : Parts → Result Sections TextError → Type 0
+AreSectionsReadAs t answer = MatchResult answer (λ s. sections_parts s ≡ t) (λ e. e ≡ error.Memory)
 
 -- the error of a rule that doesn't go on at a place
 abbrev pub rule_fault : FaultKind → ℕ → TextError

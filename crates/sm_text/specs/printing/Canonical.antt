@@ -10,7 +10,7 @@ use Rattle.sm_syntax.specs.claim.Fill.{Fillings}
 use Rattle.sm_syntax.specs.claim.ConflictFree.{Copy, O, A, B, M}
 use Rattle.sm_syntax.specs.text.Grammar.{declares}
 use Rattle.sm_syntax.specs.text.Parts.{Parts}
-use Rattle.sm_text.specs.printing.Pieces.{Piece, word, number, name, space}
+use Rattle.sm_text.specs.printing.Pieces.{Piece, mark_piece, number_piece, name_piece, space}
 use Rattle.sm_text.specs.printing.Pieces.{line_end, margin_at, line}
 unfoldable pub use Expressions.*
 unfoldable pub use Statements.*
@@ -19,40 +19,41 @@ unfoldable pub use Statements.*
 abbrev pub declaration_pieces : List (ℕ × Sort) → List Piece
 declaration_pieces [] = []
 declaration_pieces (d ∷ ds) =
-    line [] (word (declares d.1) ∷ space ∷ name d.0 ∷ word mark.Semicolon ∷ [])
+    line [] (mark_piece (declares d.1) ∷ space ∷ name_piece d.0 ∷ mark_piece mark.Semicolon ∷ [])
     ++ declaration_pieces ds
 
 -- names behind the first, each after a comma and a space
-abbrev pub more_names : List ℕ → List Piece
-more_names [] = []
-more_names (x ∷ xs) = word mark.Comma ∷ space ∷ name x ∷ more_names xs
+abbrev pub more_names_pieces : List ℕ → List Piece
+more_names_pieces [] = []
+more_names_pieces (x ∷ xs) = mark_piece mark.Comma ∷ space ∷ name_piece x ∷ more_names_pieces xs
 
 -- names with commas between them
 abbrev pub names_pieces : List ℕ → List Piece
 names_pieces [] = []
-names_pieces (x ∷ xs) = name x ∷ more_names xs
+names_pieces (x ∷ xs) = name_piece x ∷ more_names_pieces xs
 
 -- the outputs, on one line
 unfoldable pub output_pieces : List ℕ → List Piece
 output_pieces xs =
-    line [] (word mark.Output ∷ space ∷ (names_pieces xs ++ word mark.Semicolon ∷ []))
+    line [] (mark_piece mark.Output ∷ space ∷ (names_pieces xs ++ mark_piece mark.Semicolon ∷ []))
 
 -- the assumption, where there is one, on a line of its own
 unfoldable pub assumption_pieces : Option Condition → List Piece
 assumption_pieces None = []
 assumption_pieces (Some b) =
-    line [] (word mark.Assume ∷ space ∷ (condition_pieces b ++ word mark.Semicolon ∷ []))
+    line []
+    (mark_piece mark.Assume ∷ space ∷ (condition_pieces b ++ mark_piece mark.Semicolon ∷ []))
 
 -- the shared block
 unfoldable pub shared_pieces : Code → List Piece
-shared_pieces c = line [] (word mark.Shared ∷ space ∷ block_pieces [] c)
+shared_pieces c = line [] (mark_piece mark.Shared ∷ space ∷ block_pieces [] c)
 
 -- fillings, inside the braces of their list
 abbrev pub filling_pieces : Fillings → List Piece
 filling_pieces [] = []
 filling_pieces (f ∷ fs) =
     line (margin_at 1)
-    (word mark.Question ∷ number (pos f.0) ∷ space ∷ block_pieces (margin_at 1) f.1)
+    (mark_piece mark.Question ∷ number_piece (pos f.0) ∷ space ∷ block_pieces (margin_at 1) f.1)
     ++ filling_pieces fs
 
 -- fillings in braces, behind the word that begins their list
@@ -62,10 +63,10 @@ list_pieces fs = space ∷ (braces [] (filling_pieces fs) ++ line_end ∷ [])
 -- the lists of the four copies
 unfoldable pub lists_pieces : (Copy → Fillings) → List Piece
 lists_pieces fillings =
-    word mark.Base ∷ (list_pieces (fillings O)
-    ++ word mark.VariantA ∷ (list_pieces (fillings A)
-    ++ word mark.VariantB ∷ (list_pieces (fillings B)
-    ++ word mark.Candidate ∷ list_pieces (fillings M))))
+    mark_piece mark.Base ∷ (list_pieces (fillings O)
+    ++ mark_piece mark.VariantA ∷ (list_pieces (fillings A)
+    ++ mark_piece mark.VariantB ∷ (list_pieces (fillings B)
+    ++ mark_piece mark.Candidate ∷ list_pieces (fillings M))))
 
 -- a program: its declarations, its outputs and its block
 unfoldable pub program_pieces : List (ℕ × Sort) → List ℕ → Code → List Piece

@@ -62,8 +62,8 @@ bytes_of names (Token (s.Name x)) = unwrap_or (slice_get names x.0) []
 bytes_of names (Gap bytes) = bytes
 
 -- the text that pieces make
-abbrev pub text_of : List (List ℕ) → List Piece → List ℕ
-text_of names ps = flat_map (bytes_of names) ps
+abbrev pub pieces_text : List (List ℕ) → List Piece → List ℕ
+pieces_text names ps = flat_map (bytes_of names) ps
 
 -- the symbols of the tokens among pieces
 abbrev pub symbols_in : List Piece → List Symbol
@@ -72,16 +72,16 @@ symbols_in (Token t ∷ ps) = t ∷ symbols_in ps
 symbols_in (Gap bytes ∷ ps) = symbols_in ps
 
 -- a reserved word or a sign
-abbrev pub word : Mark → Piece
-word m = Token (s.Mark m)
+abbrev pub mark_piece : Mark → Piece
+mark_piece m = Token (s.Mark m)
 
 -- a number
-abbrev pub number : ℤ → Piece
-number z = Token (s.Number z)
+abbrev pub number_piece : ℤ → Piece
+number_piece z = Token (s.Number z)
 
 -- a name
-abbrev pub name : ℕ → Piece
-name x = Token (s.Name (record { 0 = x }))
+abbrev pub name_piece : ℕ → Piece
+name_piece x = Token (s.Name (record { 0 = x }))
 
 -- a single space
 abbrev pub space : Piece

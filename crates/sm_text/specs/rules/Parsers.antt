@@ -104,9 +104,9 @@ chain_in operators operand (suc n) left ts =
     chain_by (operators (first ts)) operand (suc n) (chain_in operators operand n) left ts
 
 -- the rule inside a group that opens here, where one may open, and the sign that closes it
-abbrev pub inside : {A : Type 0} → Option (Parser A) → Mark → Parser A
-inside None close = refuse Nested
-inside (Some p) close = skip >> (p >>= λ x. expect close >> pure x)
+abbrev pub inside_group : {A : Type 0} → Option (Parser A) → Mark → Parser A
+inside_group None close = refuse Nested
+inside_group (Some p) close = skip >> (p >>= λ x. expect close >> pure x)
 
 -- whether a mark stands there
 abbrev pub stands : Mark → Option Symbol → Bool
@@ -117,7 +117,7 @@ stands m (Some (s.Name x)) = false
 
 -- a group that begins with a sign
 abbrev pub grouped_by : {A : Type 0} → Option (Parser A) → Mark → Bool → Parser A
-grouped_by p close true = inside p close
+grouped_by p close true = inside_group p close
 grouped_by p close false = refuse Expected
 
 unfoldable pub grouped : {A : Type 0} → Mark → Mark → Option (Parser A) → Parser A

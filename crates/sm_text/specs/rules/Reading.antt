@@ -19,7 +19,7 @@ use Rattle.sm_text.specs.declared.rules.reading.FaultKind.TheVariants.{Expected}
 use Rattle.sm_text.specs.rules.Parsers.{first, Parser, fault, ◌>>=◌, ◌>>◌, pure}
 use Rattle.sm_text.specs.rules.Parsers.{skip, expect, stands}
 use Rattle.sm_text.specs.rules.Parsers.{gather}
-pub use Rattle.sm_text.specs.rules.Sections.{Front, parts_from}
+pub use Rattle.sm_text.specs.rules.Sections.{TaskFront, parts_from}
 unfoldable pub use Names.*
 unfoldable pub use Expressions.*
 unfoldable pub use Conditions.*
@@ -34,8 +34,8 @@ unfoldable pub list_limit : ℕ
 list_limit = 63
 
 -- a filling
-unfoldable pub filling : Parser (ℕ × Code)
-filling = do
+unfoldable pub hole_filling : Parser (ℕ × Code)
+hole_filling = do
   expect mark.Question
   h ← hole_number
   c ← block list_limit
@@ -47,7 +47,7 @@ with_filling fs f = fs ++ f ∷ []
 
 -- the fillings behind those that were read
 unfoldable pub more_fillings : Fillings → Parser Fillings
-more_fillings before = gather (stands mark.Question) filling with_filling before
+more_fillings before = gather (stands mark.Question) hole_filling with_filling before
 
 -- all fillings
 unfoldable pub fillings : Parser Fillings
@@ -82,7 +82,7 @@ unfoldable pub shared : Parser Code
 shared = expect mark.Shared >> block group_limit
 
 -- the front of a task: declarations, outputs, what is assumed, and the shared block
-unfoldable pub head : Parser Front
+unfoldable pub head : Parser TaskFront
 head = do
   ds ← declarations
   xs ← outputs
@@ -100,7 +100,7 @@ lists = do
   pure (by_copy o a b m)
 
 -- a task, but for the texts of its names
-unfoldable pub task : Parser (Front × (Copy → Fillings))
+unfoldable pub task : Parser (TaskFront × (Copy → Fillings))
 task = do
   front ← head
   fs ← lists
@@ -117,5 +117,5 @@ to_end (Err f) = Err f
 to_end (Ok r) = by_rest r.0 r.1
 
 -- the task that all the symbols spell
-unfoldable pub whole : List Symbol → Result (Front × (Copy → Fillings)) Fault
+unfoldable pub whole : List Symbol → Result (TaskFront × (Copy → Fillings)) Fault
 whole ts = to_end (task ts)

@@ -14,14 +14,14 @@ use Rattle.sm_syntax.specs.trees.Views.{condition_of, code_of}
 use Rattle.sm_text.specs.declared.rules.sections.Head.{Head}
 
 -- the front of a task: declarations, outputs, what is assumed, and the shared block
-pub record Front : Type 0 where
+pub record TaskFront : Type 0 where
   pub declared : List (ℕ × Sort)
   pub outputs : List ℕ
   pub assumed : Option Condition
   pub shared : Code
 
 -- the front that a head stands for
-abbrev pub head_of : Head → Front
+abbrev pub head_of : Head → TaskFront
 head_of h = record {
   declared = declared_of h.decls;
   outputs = outputs_of h.outputs;
@@ -34,11 +34,11 @@ abbrev pub lists_of : PerCopy tree.Fillings → Copy → Fillings
 lists_of l c = fillings_of (of_copy l c)
 
 -- both
-abbrev pub body_of : Head × PerCopy tree.Fillings → Front × (Copy → Fillings)
+abbrev pub body_of : Head × PerCopy tree.Fillings → TaskFront × (Copy → Fillings)
 body_of t = (head_of t.0, lists_of t.1)
 
 -- the parts of a task, where these are the texts of its names
-abbrev pub parts_from : List (List ℕ) → Front × (Copy → Fillings) → Parts
+abbrev pub parts_from : List (List ℕ) → TaskFront × (Copy → Fillings) → Parts
 parts_from names t = record {
   names = names;
   declared = t.0.declared;

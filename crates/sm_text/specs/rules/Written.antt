@@ -33,8 +33,8 @@ joined_by Minus d e = plain.Minus d e
 joined_by Times d e = plain.Times d e
 
 -- statements, before the code that follows them
-abbrev pub front_of : List Stmt → Code → Code
-front_of list = sequence (map statement_of list)
+abbrev pub statements_before : List Stmt → Code → Code
+statements_before list = sequence (map statement_of list)
 
 -- the code for a hole
 abbrev pub filling_of : Filling → ℕ × Code

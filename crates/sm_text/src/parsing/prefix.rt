@@ -7,8 +7,8 @@ ghost use Rattle.sm_syntax.specs.claim.Syntax.{Code};
 ghost use Rattle.sm_syntax.specs.trees.Programs.{declared_of};
 ghost use Rattle.sm_syntax.specs.trees.Views.{condition_of, code_of};
 ghost use Rattle.sm_text.specs.rules.Answers.{Fails};
-ghost use Rattle.sm_text.specs.parsing.BlockTokens.{IsFirstBlock, IsGroup, is_mark, signs};
-ghost use Rattle.sm_text.specs.parsing.Fragments.{HasBlockText, HasProgramText, parts_of};
+ghost use Rattle.sm_text.specs.parsing.BlockTokens.{IsFirstBlock, IsGroup, is_mark, token_symbols};
+ghost use Rattle.sm_text.specs.parsing.Fragments.{HasBlockText, HasProgramText, program_parts};
 ghost use Rattle.sm_text.specs.resolving.NameCounts as spec;
 ghost use Rattle.sm_text.specs.printing.Named.{IsUsedIn};
 ghost use Rattle.sm_text.specs.parsing.Places.{IsRefusal, whole_text, text_from};
@@ -47,7 +47,7 @@ pub fn parse_head(
     ensures named { IfOk result (λ r. IsNamedHead (head_parts r.0 r.1)) }
     ensures printable { IfOk result (λ r.
         AssumesDeclared (declared_of r.0.decls) (option_map condition_of r.1) →
-        HasProgramText (parts_of r.0)) }
+        HasProgramText (program_parts r.0)) }
     // Each head is read, whatever stands behind it, so no head is the beginning of another.
     ensures only { (n : ℕ) (h : HeadParts) → SpellsHead bytes.now n h → IsHeadReadAs n h result }
     // A refusal is the first fault of the text, and names its kind and its place.
@@ -152,7 +152,7 @@ fn first_block(
     ensures ok { IfOk result (λ r.
         IsFirstBlock bytes.now names.old groups tokens.now names.new (code_of r.0) r.1) }
     ensures fault { IfErr result (λ e.
-        Fails e (grammar.block (64 - groups) (signs bytes.now names.old tokens.now))) }
+        Fails e (grammar.block (64 - groups) (token_symbols bytes.now names.old tokens.now))) }
     ensures kept { OnErr result (take (length names.old) names.new ≡ names.old) }
 {
     let end = block_end(bytes, tokens);
@@ -179,7 +179,7 @@ fn block_of(
     ensures ok { IfOk result (λ r.
         IsFirstBlock bytes.now names.old groups tokens.now names.new (code_of r.0) r.1) }
     ensures fault { IfErr result (λ e.
-        Fails e (grammar.block (64 - groups) (signs bytes.now names.old tokens.now))) }
+        Fails e (grammar.block (64 - groups) (token_symbols bytes.now names.old tokens.now))) }
     ensures kept { OnErr result (take (length names.old) names.new ≡ names.old) }
 {
     let count = names.len();

@@ -2,10 +2,10 @@
 ghost use Rattle.std.specs.Prelude.{◌<◌, ◌^◌, length, IfOk, IfErr};
 ghost use Rattle.sm_text.specs.rules.Answers.{Gives};
 ghost use Rattle.sm_text.specs.parsing.Fragments.{HasProgramText, IsNamedProgram, IsProgramReadAs};
-ghost use Rattle.sm_text.specs.parsing.Fragments.{ProgramParts, SpellsProgram, parts_of};
+ghost use Rattle.sm_text.specs.parsing.Fragments.{ProgramParts, SpellsProgram, program_parts};
 ghost use Rattle.sm_text.specs.parsing.Places.{ArePrograms, IsRefusal, whole_text};
 ghost use Rattle.sm_text.specs.parsing.Program as spec;
-ghost use Rattle.sm_text.specs.parsing.ProgramViews.{program_of};
+ghost use Rattle.sm_text.specs.parsing.ProgramViews.{program_body};
 
 use crate::error::TextError;
 use crate::lexing::lexer::tokens;
@@ -28,7 +28,7 @@ pub(crate) struct Parts {
 /// A program, and the symbols behind it.
 #[tactic(auto, unfolding(crate::specs::parsing::Program::program))]
 fn program(alloc: Global, symbols: &[Symbol]) -> Result<(Parts, &[Symbol]), ReadError>
-    ensures { Gives (λ x. (program_of x.0, x.1.now)) result (spec.program symbols.now) }
+    ensures { Gives (λ x. (program_body x.0, x.1.now)) result (spec.program symbols.now) }
 {
     let (decls, after) = declarations(alloc, symbols)?;
     let (outputs, after) = outputs(alloc, after)?;
@@ -45,7 +45,7 @@ fn program(alloc: Global, symbols: &[Symbol]) -> Result<(Parts, &[Symbol]), Read
 
 /// A whole program, with no symbol behind it.
 fn whole_program(alloc: Global, symbols: &[Symbol]) -> Result<Parts, ReadError>
-    ensures { Gives program_of result (spec.whole_program symbols.now) }
+    ensures { Gives program_body result (spec.whole_program symbols.now) }
 {
     match program(alloc, symbols) {
         Ok((parts, after)) => match first(after) {
@@ -60,10 +60,10 @@ fn whole_program(alloc: Global, symbols: &[Symbol]) -> Result<Parts, ReadError>
 /// alone. Any other text is refused at its first fault, as by `read_sections`.
 pub fn parse_program(alloc: Global, bytes: &[u8]) -> Result<Program, TextError>
     requires { length bytes.now < 2 ^ 32 }
-    ensures ok { IfOk result (λ p. SpellsProgram bytes.now (parts_of p)) }
+    ensures ok { IfOk result (λ p. SpellsProgram bytes.now (program_parts p)) }
     // Some text spells the program, and each of its names has a text.
-    ensures printable { IfOk result (λ p. HasProgramText (parts_of p)) }
-    ensures named { IfOk result (λ p. IsNamedProgram (parts_of p)) }
+    ensures printable { IfOk result (λ p. HasProgramText (program_parts p)) }
+    ensures named { IfOk result (λ p. IsNamedProgram (program_parts p)) }
     // Each text that spells a program is read, and a text spells at most one.
     ensures only { (p : ProgramParts) → SpellsProgram bytes.now p → IsProgramReadAs p result }
     // A refusal is the first fault of the text, and names its kind and its place.

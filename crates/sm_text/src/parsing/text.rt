@@ -4,7 +4,8 @@ ghost use Rattle.sm_syntax.specs.text.Parts.{Parts};
 ghost use Rattle.sm_syntax.specs.text.Spells.{IsInGrammar};
 ghost use Rattle.sm_text.specs.parsing.ErrorPlaces.{IsErrorOf, IsPlaceWith};
 ghost use Rattle.sm_text.specs.parsing.Places.{AreTasks, IsRefusal, whole_text};
-ghost use Rattle.sm_text.specs.parsing.Text.{parts_of, lexical_fault, rule_fault, IsReadAs};
+ghost use Rattle.sm_text.specs.parsing.Text.{sections_parts, lexical_fault, rule_fault};
+ghost use Rattle.sm_text.specs.parsing.Text.{AreSectionsReadAs};
 
 use crate::error::TextError;
 use crate::lexing::lexer::tokens;
@@ -29,9 +30,9 @@ pub struct Sections {
 /// matter of the grammar alone, whatever nests too deep behind it.
 pub fn read_sections(alloc: Global, bytes: &[u8]) -> Result<Sections, TextError>
     requires { length bytes.now < 2 ^ 32 }
-    ensures ok { IfOk result (λ s. IsInGrammar bytes.now (parts_of s)) }
+    ensures ok { IfOk result (λ s. IsInGrammar bytes.now (sections_parts s)) }
     // Each text in the grammar is read, where nothing in it nests too deep.
-    ensures only { (t : Parts) → IsInGrammar bytes.now t → IsReadAs t result }
+    ensures only { (t : Parts) → IsInGrammar bytes.now t → AreSectionsReadAs t result }
     // A refusal is the first fault of the text, and names its kind and its place.
     ensures place { IfErr result (IsRefusal AreTasks (whole_text bytes.now)) }
 {

@@ -5,7 +5,7 @@ ghost use Rattle.sm_syntax.specs.text.Grammar.{comparison};
 ghost use Rattle.sm_syntax.specs.trees.Views.{expression_of, condition_of};
 ghost use Rattle.sm_text.specs.printing.Canonical as canonical;
 ghost use Rattle.sm_text.specs.printing.Named.{IsNamedIn, IsTestedIn};
-ghost use Rattle.sm_text.specs.printing.Pieces.{text_of, spelling};
+ghost use Rattle.sm_text.specs.printing.Pieces.{pieces_text, spelling};
 
 use sm_syntax::{Cmp, Cond, Expr, Name, NameTable};
 use std::alloc::AllocError;
@@ -40,7 +40,7 @@ pub(crate) fn put_expr(out: &mut Vec<u8>, names: &NameTable, e: &Expr) -> Result
     requires { IsNamedIn (length names.now) (expression_of e.now) }
     ensures { OnOk result
         (out.new.items ≡ out.old.items
-        ++ text_of names.now (canonical.expression_pieces (expression_of e.now))) }
+        ++ pieces_text names.now (canonical.expression_pieces (expression_of e.now))) }
 {
     match e {
         Expr::Num(n) => put_number(out, *n),
@@ -80,7 +80,7 @@ pub(crate) fn put_element(
     requires index { IsNamedIn (length names.now) (expression_of i.now) }
     ensures { OnOk result
         (out.new.items ≡ out.old.items
-        ++ text_of names.now
+        ++ pieces_text names.now
         (canonical.element_pieces a.0 (canonical.expression_pieces (expression_of i.now)))) }
 {
     put_name(out, names, a)?;
@@ -95,7 +95,7 @@ fn put_operand(out: &mut Vec<u8>, names: &NameTable, e: &Expr) -> Result<(), All
     requires { IsNamedIn (length names.now) (expression_of e.now) }
     ensures { let tree = expression_of e.now in OnOk result
         (out.new.items ≡ out.old.items
-        ++ text_of names.now
+        ++ pieces_text names.now
         (canonical.operand (canonical.is_atom tree) (canonical.expression_pieces tree))) }
 {
     if is_atom(e) {
@@ -134,7 +134,7 @@ pub(crate) fn put_cond(out: &mut Vec<u8>, names: &NameTable, c: &Cond) -> Result
     requires { IsTestedIn (length names.now) (condition_of c.now) }
     ensures { OnOk result
         (out.new.items ≡ out.old.items
-        ++ text_of names.now (canonical.condition_pieces (condition_of c.now))) }
+        ++ pieces_text names.now (canonical.condition_pieces (condition_of c.now))) }
 {
     match c {
         Cond::Yes => out.extend_from_slice(b"true"),
@@ -167,7 +167,7 @@ fn put_part(out: &mut Vec<u8>, names: &NameTable, c: &Cond) -> Result<(), AllocE
     requires { IsTestedIn (length names.now) (condition_of c.now) }
     ensures { let tree = condition_of c.now in OnOk result
         (out.new.items ≡ out.old.items
-        ++ text_of names.now
+        ++ pieces_text names.now
         (canonical.part (canonical.is_test tree) (canonical.condition_pieces tree))) }
 {
     if is_test(c) {

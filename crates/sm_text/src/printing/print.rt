@@ -6,11 +6,11 @@ ghost use Rattle.sm_syntax.specs.text.Spells.{Spells};
 ghost use Rattle.sm_syntax.specs.trees.Views.{condition_of, code_of};
 ghost use Rattle.sm_text.specs.printing.Canonical as canonical;
 ghost use Rattle.sm_text.specs.parsing.Fragments.{HasBlockText, HasConditionText, HasProgramText};
-ghost use Rattle.sm_text.specs.parsing.Fragments.{IsNamedProgram, parts_of};
+ghost use Rattle.sm_text.specs.parsing.Fragments.{IsNamedProgram, program_parts};
 ghost use Rattle.sm_text.specs.parsing.Fragments.{SpellsBlock, SpellsCondition, SpellsProgram};
 ghost use Rattle.sm_text.specs.printing.Named.{IsUsedIn, IsTestedIn, HasText};
 ghost use Rattle.sm_text.specs.printing.Pieces as spec;
-ghost use Rattle.sm_text.specs.printing.Pieces.{text_of};
+ghost use Rattle.sm_text.specs.printing.Pieces.{pieces_text};
 ghost use Rattle.sm_text.specs.parsing.Text.{task_parts};
 
 use crate::printing::expressions::put_cond;
@@ -30,7 +30,7 @@ pub fn print_block(
 ) -> Result<Vec<u8>, AllocError>
     requires { IsUsedIn (length names.now) (code_of block.now) }
     ensures text { IfOk result (λ v.
-        v.items ≡ text_of names.now
+        v.items ≡ pieces_text names.now
         (canonical.block_pieces (spec.margin_at level) (code_of block.now))) }
     // Canonical text nests deeper than the text that was read, but never deeper than the block.
     ensures reads_back { let code = code_of block.now in
@@ -47,7 +47,7 @@ pub fn print_block(
 pub fn print_cond(alloc: Global, names: &NameTable, c: &Cond) -> Result<Vec<u8>, AllocError>
     requires { IsTestedIn (length names.now) (condition_of c.now) }
     ensures text { IfOk result (λ v.
-        v.items ≡ text_of names.now (canonical.condition_pieces (condition_of c.now))) }
+        v.items ≡ pieces_text names.now (canonical.condition_pieces (condition_of c.now))) }
     ensures reads_back { let tree = condition_of c.now in
         HasConditionText names.now tree → condition_depth tree ≤ 64 →
         IfOk result (λ v. SpellsCondition names.now v.items tree) }
@@ -72,12 +72,13 @@ fn margin_at(alloc: Global, level: u64) -> Result<Vec<u8>, AllocError>
 /// than 64, it reads back to the same program.
 #[tactic(auto, unfolding(crate::specs::printing::Canonical::program_pieces))]
 pub fn print_program(alloc: Global, p: &Program) -> Result<Vec<u8>, AllocError>
-    requires { IsNamedProgram (parts_of p.now) }
-    ensures text { IfOk result (λ v. v.items ≡ text_of p.now.names
+    requires { IsNamedProgram (program_parts p.now) }
+    ensures text { IfOk result (λ v. v.items ≡ pieces_text p.now.names
         (canonical.program_pieces
         (declared_of p.now.decls) (outputs_of p.now.outputs) (code_of p.now.body))) }
-    ensures reads_back { HasProgramText (parts_of p.now) → code_depth (code_of p.now.body) ≤ 64 →
-        IfOk result (λ v. SpellsProgram v.items (parts_of p.now)) }
+    ensures reads_back { HasProgramText (program_parts p.now) →
+        code_depth (code_of p.now.body) ≤ 64 →
+        IfOk result (λ v. SpellsProgram v.items (program_parts p.now)) }
 {
     let mut out = Vec::new(alloc);
     put_declarations(&mut out, &p.names, &p.decls)?;
@@ -96,7 +97,7 @@ pub fn print_sections(
     lists: &PerCopy<Fillings>,
 ) -> Result<Vec<u8>, AllocError>
     requires { HasText (task_parts shared.now assumed.now lists.now) }
-    ensures text { IfOk result (λ v. v.items ≡ text_of shared.now.names
+    ensures text { IfOk result (λ v. v.items ≡ pieces_text shared.now.names
         (canonical.task_pieces (task_parts shared.now assumed.now lists.now))) }
     ensures reads_back { IfOk result (λ v.
         Spells v.items (task_parts shared.now assumed.now lists.now)) }

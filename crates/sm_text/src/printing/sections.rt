@@ -6,7 +6,7 @@ ghost use Rattle.sm_syntax.specs.trees.Views.{condition_of, code_of};
 ghost use Rattle.sm_text.specs.printing.Canonical as canonical;
 ghost use Rattle.sm_text.specs.printing.Named.{IsUsedIn, AreDeclaredIn, AreOutputsIn};
 ghost use Rattle.sm_text.specs.printing.Named.{IsAssumedIn, AreFilledIn};
-ghost use Rattle.sm_text.specs.printing.Pieces.{text_of};
+ghost use Rattle.sm_text.specs.printing.Pieces.{pieces_text};
 ghost use Rattle.sm_text.specs.rules.Sections.{lists_of};
 ghost use Rattle.sm_text.specs.rules.Written.{numbers_of, filling_of};
 
@@ -25,7 +25,7 @@ fn put_declaration(
     requires { name.0 < length names.now }
     ensures { OnOk result
         (out.new.items ≡ out.old.items
-        ++ text_of names.now (canonical.declaration_pieces ((name.0, sort) ∷ []))) }
+        ++ pieces_text names.now (canonical.declaration_pieces ((name.0, sort) ∷ []))) }
 {
     match sort {
         Sort::Num => out.extend_from_slice(b"var ")?,
@@ -44,7 +44,7 @@ pub(crate) fn put_declarations(
     requires { AreDeclaredIn (length names.now) (declared_of decls.now) }
     ensures { OnOk result
         (out.new.items ≡ out.old.items
-        ++ text_of names.now (canonical.declaration_pieces (declared_of decls.now))) }
+        ++ pieces_text names.now (canonical.declaration_pieces (declared_of decls.now))) }
 {
     for d in &decls.list {
         put_declaration(out, names, d.0, d.1)?;
@@ -57,7 +57,7 @@ fn put_more_names(out: &mut Vec<u8>, names: &NameTable, list: &[Name]) -> Result
     requires { AreOutputsIn (length names.now) (numbers_of list.now) }
     ensures { OnOk result
         (out.new.items ≡ out.old.items
-        ++ text_of names.now (canonical.more_names (numbers_of list.now))) }
+        ++ pieces_text names.now (canonical.more_names_pieces (numbers_of list.now))) }
 {
     for x in list {
         out.extend_from_slice(b", ")?;
@@ -71,7 +71,7 @@ fn put_names(out: &mut Vec<u8>, names: &NameTable, list: &[Name]) -> Result<(), 
     requires { AreOutputsIn (length names.now) (numbers_of list.now) }
     ensures { OnOk result
         (out.new.items ≡ out.old.items
-        ++ text_of names.now (canonical.names_pieces (numbers_of list.now))) }
+        ++ pieces_text names.now (canonical.names_pieces (numbers_of list.now))) }
 {
     if let [first, ..] = list {
         put_name(out, names, *first)?;
@@ -90,7 +90,7 @@ pub(crate) fn put_outputs(
     requires { AreOutputsIn (length names.now) (outputs_of outputs.now) }
     ensures { OnOk result
         (out.new.items ≡ out.old.items
-        ++ text_of names.now (canonical.output_pieces (outputs_of outputs.now))) }
+        ++ pieces_text names.now (canonical.output_pieces (outputs_of outputs.now))) }
 {
     out.extend_from_slice(b"output ")?;
     put_names(out, names, &outputs.list)?;
@@ -107,7 +107,7 @@ pub(crate) fn put_assumption(
     requires { IsAssumedIn (length names.now) (option_map condition_of assumed.now) }
     ensures { OnOk result
         (out.new.items ≡ out.old.items
-        ++ text_of names.now
+        ++ pieces_text names.now
         (canonical.assumption_pieces (option_map condition_of assumed.now))) }
 {
     match assumed {
@@ -131,7 +131,7 @@ pub(crate) fn put_shared(
     requires { IsUsedIn (length names.now) (code_of shared.now) }
     ensures { OnOk result
         (out.new.items ≡ out.old.items
-        ++ text_of names.now (canonical.shared_pieces (code_of shared.now))) }
+        ++ pieces_text names.now (canonical.shared_pieces (code_of shared.now))) }
 {
     out.extend_from_slice(b"shared ")?;
     put_block(alloc, out, names, &[], shared)?;
@@ -148,7 +148,7 @@ fn put_filling(
     requires { IsUsedIn (length names.now) (code_of f.now.block) }
     ensures { OnOk result
         (out.new.items ≡ out.old.items
-        ++ text_of names.now (canonical.filling_pieces (filling_of f.now ∷ []))) }
+        ++ pieces_text names.now (canonical.filling_pieces (filling_of f.now ∷ []))) }
 {
     out.extend_from_slice(b"  ")?;
     put_hole(out, f.hole)?;
@@ -167,7 +167,7 @@ fn put_fillings(
     requires { AreFilledIn (length names.now) (fillings_of fs.now) }
     ensures { OnOk result
         (out.new.items ≡ out.old.items
-        ++ text_of names.now (canonical.filling_pieces (fillings_of fs.now))) }
+        ++ pieces_text names.now (canonical.filling_pieces (fillings_of fs.now))) }
 {
     for f in &fs.list {
         put_filling(alloc, out, names, f)?;
@@ -187,7 +187,7 @@ fn put_list(
     requires { AreFilledIn (length names.now) (fillings_of fs.now) }
     ensures { OnOk result
         (out.new.items ≡ out.old.items
-        ++ word.now ++ text_of names.now (canonical.list_pieces (fillings_of fs.now))) }
+        ++ word.now ++ pieces_text names.now (canonical.list_pieces (fillings_of fs.now))) }
 {
     out.extend_from_slice(word)?;
     out.extend_from_slice(b" {\n")?;
@@ -205,7 +205,7 @@ pub(crate) fn put_lists(
 ) -> Result<(), AllocError>
     requires { (c : Copy) → AreFilledIn (length names.now) (lists_of lists.now c) }
     ensures { OnOk result (out.new.items ≡ out.old.items
-        ++ text_of names.now (canonical.lists_pieces (lists_of lists.now))) }
+        ++ pieces_text names.now (canonical.lists_pieces (lists_of lists.now))) }
 {
     put_list(alloc, out, names, b"base", &lists.base)?;
     put_list(alloc, out, names, b"variant_a", &lists.variant_a)?;

@@ -6,7 +6,7 @@ ghost use Rattle.sm_syntax.specs.trees.Views.{condition_of, statement_of, code_o
 ghost use Rattle.sm_text.specs.printing.Canonical as canonical;
 ghost use Rattle.sm_text.specs.printing.Named.{IsTestedIn, IsUsedIn};
 ghost use Rattle.sm_text.specs.printing.Pieces as spec;
-ghost use Rattle.sm_text.specs.printing.Pieces.{text_of};
+ghost use Rattle.sm_text.specs.printing.Pieces.{pieces_text};
 
 use crate::printing::expressions::{put_cond, put_element, put_expr, put_name};
 use sm_syntax::{Block, Cond, NameTable, Stmt};
@@ -27,7 +27,7 @@ fn put_guard(out: &mut Vec<u8>, names: &NameTable, c: &Cond) -> Result<(), Alloc
     requires { IsTestedIn (length names.now) (condition_of c.now) }
     ensures { OnOk result
         (out.new.items ≡ out.old.items
-        ++ text_of names.now (canonical.guard_pieces (condition_of c.now))) }
+        ++ pieces_text names.now (canonical.guard_pieces (condition_of c.now))) }
 {
     out.extend_from_slice(b"(")?;
     put_cond(out, names, c)?;
@@ -54,9 +54,9 @@ fn put_stmt(
 ) -> Result<(), AllocError>
     requires { IsUsedIn (length names.now) (statement_of s.now End) }
     ensures { (k : Code) → OnOk result
-        (out.new.items ++ text_of names.now (canonical.code_pieces margin.now k)
+        (out.new.items ++ pieces_text names.now (canonical.code_pieces margin.now k)
         ≡ out.old.items
-        ++ text_of names.now (canonical.code_pieces margin.now (statement_of s.now k))) }
+        ++ pieces_text names.now (canonical.code_pieces margin.now (statement_of s.now k))) }
 {
     out.extend_from_slice(margin)?;
     match s {
@@ -106,7 +106,7 @@ fn put_branches(
     requires then { IsUsedIn (length names.now) (code_of c.now) }
     requires other { IsUsedIn (length names.now) (code_of d.now) }
     ensures { OnOk result
-        (out.new.items ≡ out.old.items ++ text_of names.now
+        (out.new.items ≡ out.old.items ++ pieces_text names.now
         (canonical.branches
         (canonical.block_pieces margin.now (code_of c.now))
         (canonical.block_pieces margin.now (code_of d.now)))) }
@@ -129,7 +129,7 @@ pub(crate) fn put_block(
     requires { IsUsedIn (length names.now) (code_of b.now) }
     ensures { OnOk result
         (out.new.items ≡ out.old.items
-        ++ text_of names.now (canonical.block_pieces margin.now (code_of b.now))) }
+        ++ pieces_text names.now (canonical.block_pieces margin.now (code_of b.now))) }
 {
     let inner = deeper(alloc, margin)?;
     out.extend_from_slice(b"{\n")?;

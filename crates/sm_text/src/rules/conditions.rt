@@ -3,7 +3,7 @@ ghost use Rattle.std.specs.Prelude.{◌≡◌, IfOk};
 ghost use Rattle.sm_syntax.specs.claim.Syntax.{And, Or};
 ghost use Rattle.sm_syntax.specs.trees.Views.{condition_of};
 ghost use Rattle.sm_text.specs.rules.Answers.{Gives};
-ghost use Rattle.sm_text.specs.rules.Parsers.{inside};
+ghost use Rattle.sm_text.specs.rules.Parsers.{inside_group};
 ghost use Rattle.sm_text.specs.rules.Reading as spec;
 
 use crate::rules::expressions::{CHAIN_LIMIT, expression};
@@ -62,9 +62,9 @@ fn comparison_of(symbol: Option<Symbol>) -> Option<Cmp>
 }
 
 /// The sign of a comparison.
-#[tactic(auto, unfolding(crate::specs::rules::Reading::comparison))]
+#[tactic(auto, unfolding(crate::specs::rules::Reading::comparison_sign))]
 fn comparison(symbols: &[Symbol]) -> Result<(Cmp, &[Symbol]), ReadError>
-    ensures { Gives (λ x. (x.0, x.1.now)) result (spec.comparison symbols.now) }
+    ensures { Gives (λ x. (x.0, x.1.now)) result (spec.comparison_sign symbols.now) }
 {
     match comparison_of(first(symbols)) {
         Some(sign) => Ok((sign, rest(symbols))),
@@ -97,7 +97,7 @@ fn group(
     ensures { Gives
         (λ x. (condition_of x.0, x.1.now))
         result
-        (inside (spec.inner_condition groups) close symbols.now) }
+        (inside_group (spec.inner_condition groups) close symbols.now) }
 {
     if groups == 0 {
         return Err(refusal(FaultKind::Nested, symbols));

@@ -2,7 +2,7 @@
 ghost use Rattle.std.specs.Prelude.{◌≡◌, option_map, IfOk};
 ghost use Rattle.sm_syntax.specs.trees.Views.{expression_of};
 ghost use Rattle.sm_text.specs.rules.Answers.{Gives};
-ghost use Rattle.sm_text.specs.rules.Parsers.{inside};
+ghost use Rattle.sm_text.specs.rules.Parsers.{inside_group};
 ghost use Rattle.sm_text.specs.rules.Reading as spec;
 ghost use Rattle.sm_text.specs.rules.Written.{joined_by};
 
@@ -48,7 +48,7 @@ fn group(
     ensures { Gives
         (λ x. (expression_of x.0, x.1.now))
         result
-        (inside (spec.inner_sum groups) close symbols.now) }
+        (inside_group (spec.inner_sum groups) close symbols.now) }
 {
     if groups == 0 {
         return Err(refusal(FaultKind::Nested, symbols));

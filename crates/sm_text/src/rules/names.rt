@@ -35,7 +35,7 @@ pub(crate) fn stands(mark: Mark, symbol: Option<Symbol>) -> bool
 
 /// Whether a name stands there.
 pub(crate) fn is_name(symbol: Option<Symbol>) -> bool
-    ensures { result ≡ spec.is_name symbol }
+    ensures { result ≡ spec.begins_name symbol }
 {
     matches!(symbol, Some(Symbol::Name(_)))
 }

@@ -27,9 +27,9 @@ pub struct Head {
 const LIST_LIMIT: u64 = 63;
 
 /// A filling.
-#[tactic(auto, unfolding(crate::specs::rules::Reading::filling), using(crate::proofs::Sound::Limits::limits))]
+#[tactic(auto, unfolding(crate::specs::rules::Reading::hole_filling), using(crate::proofs::Sound::Limits::limits))]
 fn filling(alloc: Global, symbols: &[Symbol]) -> Result<(Filling, &[Symbol]), ReadError>
-    ensures { Gives (λ x. (filling_of x.0, x.1.now)) result (spec.filling symbols.now) }
+    ensures { Gives (λ x. (filling_of x.0, x.1.now)) result (spec.hole_filling symbols.now) }
 {
     let after = expect(Mark::Question, symbols)?;
     let (hole, after) = hole_number(after)?;

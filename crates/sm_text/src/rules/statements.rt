@@ -3,9 +3,9 @@ ghost use Rattle.std.specs.Prelude.{◌≡◌, ◌≤◌};
 ghost use Rattle.sm_syntax.specs.trees.Views.{statement_of, code_of};
 ghost use Rattle.sm_text.specs.rules.Answers.{Gives};
 ghost use Rattle.sm_syntax.specs.declared.symbol.Mark.TheVariants.{CloseCurly};
-ghost use Rattle.sm_text.specs.rules.Parsers.{inside};
+ghost use Rattle.sm_text.specs.rules.Parsers.{inside_group};
 ghost use Rattle.sm_text.specs.rules.Reading as spec;
-ghost use Rattle.sm_text.specs.rules.Written.{front_of};
+ghost use Rattle.sm_text.specs.rules.Written.{statements_before};
 
 use crate::rules::conditions::guard;
 use crate::rules::expressions::{expression, index};
@@ -155,7 +155,7 @@ fn statements(
 ) -> Result<(Vec<Stmt>, &[Symbol]), ReadError>
     requires { groups ≤ 64 }
     ensures { Gives
-        (λ x. (front_of x.0.items, x.1.now))
+        (λ x. (statements_before x.0.items, x.1.now))
         result
         (spec.more_statements groups (spec.block groups) (λ k. k) symbols.now) }
 {
@@ -190,7 +190,7 @@ fn group(alloc: Global, groups: u64, symbols: &[Symbol]) -> Result<(Block, &[Sym
     ensures { Gives
         (λ x. (code_of x.0, x.1.now))
         result
-        (inside (spec.inner_block groups) CloseCurly symbols.now) }
+        (inside_group (spec.inner_block groups) CloseCurly symbols.now) }
 {
     if groups == 0 {
         return Err(refusal(FaultKind::Nested, symbols));

@@ -6,11 +6,11 @@ use Rattle.sm_syntax.specs.declared.symbol.Mark.TheVariants as mark
 use Rattle.sm_syntax.specs.claim.Syntax.{Expression, Lit, Var, Read, Neg, Plus, Minus, Times}
 use Rattle.sm_syntax.specs.claim.Syntax.{Condition, Yes, No, Compare, Not, And, Or}
 use Rattle.sm_syntax.specs.text.Grammar.{comparison}
-use Rattle.sm_text.specs.printing.Pieces.{Piece, word, number, name, space}
+use Rattle.sm_text.specs.printing.Pieces.{Piece, mark_piece, number_piece, name_piece, space}
 
 -- a binary operator between its parts, with a space on both sides
 abbrev pub between : List Piece → Mark → List Piece → List Piece
-between ps m qs = ps ++ space ∷ word m ∷ space ∷ qs
+between ps m qs = ps ++ space ∷ mark_piece m ∷ space ∷ qs
 
 -- whether an operand stands without parentheses: a number, a name or a read
 abbrev pub is_atom : Expression → Bool
@@ -25,18 +25,19 @@ is_atom (Times d e) = false
 -- an operand, in parentheses unless it is an atom
 abbrev pub operand : Bool → List Piece → List Piece
 operand true ps = ps
-operand false ps = word mark.OpenRound ∷ (ps ++ word mark.CloseRound ∷ [])
+operand false ps = mark_piece mark.OpenRound ∷ (ps ++ mark_piece mark.CloseRound ∷ [])
 
 -- an element of an array, by its index
 abbrev pub element_pieces : ℕ → List Piece → List Piece
-element_pieces a index = name a ∷ word mark.OpenSquare ∷ (index ++ word mark.CloseSquare ∷ [])
+element_pieces a index =
+    name_piece a ∷ mark_piece mark.OpenSquare ∷ (index ++ mark_piece mark.CloseSquare ∷ [])
 
 -- an expression
 abbrev pub expression_pieces : Expression → List Piece
-expression_pieces (Lit z) = number z ∷ []
-expression_pieces (Var x) = name x ∷ []
+expression_pieces (Lit z) = number_piece z ∷ []
+expression_pieces (Var x) = name_piece x ∷ []
 expression_pieces (Read a i) = element_pieces a (expression_pieces i)
-expression_pieces (Neg e) = word mark.Minus ∷ operand (is_atom e) (expression_pieces e)
+expression_pieces (Neg e) = mark_piece mark.Minus ∷ operand (is_atom e) (expression_pieces e)
 expression_pieces (Plus d e) =
     between (operand (is_atom d) (expression_pieces d)) mark.Plus
     (operand (is_atom e) (expression_pieces e))
@@ -59,15 +60,15 @@ is_test (Or b c) = false
 -- a part of a condition, in brackets unless it is a test
 abbrev pub part : Bool → List Piece → List Piece
 part true ps = ps
-part false ps = word mark.OpenSquare ∷ (ps ++ word mark.CloseSquare ∷ [])
+part false ps = mark_piece mark.OpenSquare ∷ (ps ++ mark_piece mark.CloseSquare ∷ [])
 
 -- a condition
 abbrev pub condition_pieces : Condition → List Piece
-condition_pieces Yes = word mark.True ∷ []
-condition_pieces No = word mark.False ∷ []
+condition_pieces Yes = mark_piece mark.True ∷ []
+condition_pieces No = mark_piece mark.False ∷ []
 condition_pieces (Compare op d e) =
     between (expression_pieces d) (comparison op) (expression_pieces e)
-condition_pieces (Not b) = word mark.Bang ∷ part (is_test b) (condition_pieces b)
+condition_pieces (Not b) = mark_piece mark.Bang ∷ part (is_test b) (condition_pieces b)
 condition_pieces (And b c) =
     between (part (is_test b) (condition_pieces b)) mark.Both
     (part (is_test c) (condition_pieces c))

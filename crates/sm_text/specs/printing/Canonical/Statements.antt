@@ -3,49 +3,54 @@
 use Rattle.std.specs.Prelude.{ℕ, pos, List, [], ◌∷◌, ◌++◌}
 use Rattle.sm_syntax.specs.declared.symbol.Mark.TheVariants as mark
 use Rattle.sm_syntax.specs.claim.Syntax.{Condition, Code, End, Skip, Assign, Write, If, While, Hole}
-use Rattle.sm_text.specs.printing.Pieces.{Piece, Gap, word, number, name, space}
+use Rattle.sm_text.specs.printing.Pieces.{Piece, Gap, mark_piece, number_piece, name_piece, space}
 use Rattle.sm_text.specs.printing.Pieces.{line_end, deeper, line}
 use Rattle.sm_text.specs.printing.Canonical.Expressions.{element_pieces, expression_pieces}
 use Rattle.sm_text.specs.printing.Canonical.Expressions.{condition_pieces}
 
 -- braces round lines, where the last stands behind a margin
 unfoldable pub braces : List ℕ → List Piece → List Piece
-braces margin ps = word mark.OpenCurly ∷ line_end ∷ (ps ++ Gap margin ∷ word mark.CloseCurly ∷ [])
+braces margin ps =
+    mark_piece mark.OpenCurly ∷ line_end ∷ (ps ++ Gap margin ∷ mark_piece mark.CloseCurly ∷ [])
 
 -- the branches of a choice
 unfoldable pub branches : List Piece → List Piece → List Piece
-branches ps qs = ps ++ space ∷ word mark.Else ∷ space ∷ qs
+branches ps qs = ps ++ space ∷ mark_piece mark.Else ∷ space ∷ qs
 
 -- a guard: a condition in parentheses, before a block
 unfoldable pub guard_pieces : Condition → List Piece
-guard_pieces b = word mark.OpenRound ∷ (condition_pieces b ++ word mark.CloseRound ∷ space ∷ [])
+guard_pieces b =
+    mark_piece mark.OpenRound ∷ (condition_pieces b ++ mark_piece mark.CloseRound ∷ space ∷ [])
 
 -- code, each statement on a line of its own behind a margin
 abbrev pub code_pieces : List ℕ → Code → List Piece
 code_pieces margin End = []
 code_pieces margin (Skip k) =
-    line margin (word mark.Skip ∷ word mark.Semicolon ∷ []) ++ code_pieces margin k
+    line margin (mark_piece mark.Skip ∷ mark_piece mark.Semicolon ∷ []) ++ code_pieces margin k
 code_pieces margin (Assign x e k) =
     line margin
-    (name x ∷ space ∷ word mark.Becomes ∷ space ∷ (expression_pieces e ++ word mark.Semicolon ∷ []))
+    (name_piece x ∷ space ∷ mark_piece mark.Becomes ∷ space
+    ∷ (expression_pieces e ++ mark_piece mark.Semicolon ∷ []))
     ++ code_pieces margin k
 code_pieces margin (Write a i e k) =
     line margin
     (element_pieces a (expression_pieces i)
-    ++ space ∷ word mark.Becomes ∷ space ∷ (expression_pieces e ++ word mark.Semicolon ∷ []))
+    ++ space ∷ mark_piece mark.Becomes ∷ space
+    ∷ (expression_pieces e ++ mark_piece mark.Semicolon ∷ []))
     ++ code_pieces margin k
 code_pieces margin (If b c d k) =
     line margin
-    (word mark.If ∷ space ∷ (guard_pieces b
+    (mark_piece mark.If ∷ space ∷ (guard_pieces b
     ++ branches (braces margin (code_pieces (deeper margin) c))
     (braces margin (code_pieces (deeper margin) d))))
     ++ code_pieces margin k
 code_pieces margin (While b c k) =
     line margin
-    (word mark.While ∷ space ∷ (guard_pieces b ++ braces margin (code_pieces (deeper margin) c)))
+    (mark_piece mark.While ∷ space
+    ∷ (guard_pieces b ++ braces margin (code_pieces (deeper margin) c)))
     ++ code_pieces margin k
 code_pieces margin (Hole h k) =
-    line margin (word mark.Question ∷ number (pos h) ∷ word mark.Semicolon ∷ [])
+    line margin (mark_piece mark.Question ∷ number_piece (pos h) ∷ mark_piece mark.Semicolon ∷ [])
     ++ code_pieces margin k
 
 -- a block whose lines, but for the first, stand behind a margin or deeper

@@ -9,7 +9,7 @@ use Rattle.sm_syntax.specs.claim.Syntax as plain
 use Rattle.sm_syntax.specs.claim.Syntax.{Expression, Condition}
 use Rattle.sm_text.specs.declared.rules.reading.FaultKind.TheVariants.{Expected}
 use Rattle.sm_text.specs.rules.Parsers.{first, Parser, ◌>>=◌, ◌>>◌, pure, skip, refuse, stands}
-use Rattle.sm_text.specs.rules.Parsers.{Operators, chain_in, inside}
+use Rattle.sm_text.specs.rules.Parsers.{Operators, chain_in, inside_group}
 use Rattle.sm_text.specs.rules.Reading.Expressions.{chain_limit, expression}
 
 -- the comparison that stands there
@@ -27,20 +27,20 @@ comparison_if None = refuse Expected
 comparison_if (Some op) = skip >> pure op
 
 -- the sign of a comparison
-unfoldable pub comparison : Parser Cmp
-comparison ts = comparison_if (comparison_of (first ts)) ts
+unfoldable pub comparison_sign : Parser Cmp
+comparison_sign ts = comparison_if (comparison_of (first ts)) ts
 
 -- a comparison of two expressions
 unfoldable pub compared : Parser Expression → Parser Condition
 compared value = do
   d ← value
-  op ← comparison
+  op ← comparison_sign
   e ← value
   pure (plain.Compare op d e)
 
 -- a condition in square brackets
 unfoldable pub bracketed : Option (Parser Condition) → Parser Condition
-bracketed deeper = inside deeper mark.CloseSquare
+bracketed deeper = inside_group deeper mark.CloseSquare
 
 -- a constant, a comparison, or a condition in square brackets
 abbrev pub test_at : Option (Parser Condition) → Parser Expression → Option Symbol →

@@ -12,7 +12,7 @@ use Rattle.sm_syntax.specs.claim.Syntax.{Expression}
 use Rattle.sm_text.specs.declared.rules.reading.FaultKind.TheVariants.{Expected}
 use Rattle.sm_text.specs.rules.Parsers.{first, Parser, ◌>>=◌, ◌>>◌, pure, peek}
 use Rattle.sm_text.specs.rules.Parsers.{skip, refuse, stands}
-use Rattle.sm_text.specs.rules.Parsers.{Operators, chain_in, inside}
+use Rattle.sm_text.specs.rules.Parsers.{Operators, chain_in, inside_group}
 
 -- how many operators a chain may have
 unfoldable pub chain_limit : ℕ
@@ -20,7 +20,7 @@ chain_limit = 63
 
 -- the index of an element, behind the name of its array
 unfoldable pub index : Option (Parser Expression) → Parser Expression
-index deeper = inside deeper mark.CloseSquare
+index deeper = inside_group deeper mark.CloseSquare
 
 -- an element or a variable, behind its name
 abbrev pub named_by : Option (Parser Expression) → Name → Bool → Parser Expression
@@ -32,7 +32,7 @@ named deeper x ts = named_by deeper x (stands mark.OpenSquare (first ts)) ts
 
 -- an expression in parentheses
 unfoldable pub parenthesized : Option (Parser Expression) → Parser Expression
-parenthesized deeper = inside deeper mark.CloseRound
+parenthesized deeper = inside_group deeper mark.CloseRound
 
 -- a number, a name, an element, or an expression in parentheses
 abbrev pub atom_by : Option (Parser Expression) → Option Symbol → Parser Expression

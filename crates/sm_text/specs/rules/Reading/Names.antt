@@ -18,11 +18,11 @@ use Rattle.sm_text.specs.rules.Parsers.{refuse, expect, stands}
 use Rattle.sm_text.specs.rules.Parsers.{gather}
 
 -- whether a name stands there
-abbrev pub is_name : Option Symbol → Bool
-is_name None = false
-is_name (Some (s.Mark m)) = false
-is_name (Some (s.Number z)) = false
-is_name (Some (s.Name x)) = true
+abbrev pub begins_name : Option Symbol → Bool
+begins_name None = false
+begins_name (Some (s.Mark m)) = false
+begins_name (Some (s.Number z)) = false
+begins_name (Some (s.Name x)) = true
 
 -- a name
 abbrev pub name_by : Option Symbol → Parser Name

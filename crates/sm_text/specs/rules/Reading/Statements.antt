@@ -15,7 +15,7 @@ use Rattle.sm_text.specs.declared.rules.reading.FaultKind.TheVariants.{Expected}
 use Rattle.sm_text.specs.rules.Parsers.{first, Parser, ◌>>=◌, ◌>>◌, pure, peek}
 use Rattle.sm_text.specs.rules.Parsers.{skip, refuse, expect}
 use Rattle.sm_text.specs.rules.Parsers.{stands, gather, grouped}
-use Rattle.sm_text.specs.rules.Reading.Names.{is_name, hole_number}
+use Rattle.sm_text.specs.rules.Reading.Names.{begins_name, hole_number}
 use Rattle.sm_text.specs.rules.Reading.Expressions.{index, inner_sum, expression}
 use Rattle.sm_text.specs.rules.Reading.Conditions.{inner_condition}
 
@@ -97,7 +97,7 @@ statement g body = peek >>= statement_by g body
 -- whether a statement begins there
 abbrev pub begins_statement : Option Symbol → Bool
 begins_statement o =
-    is_name o || stands mark.Skip o || stands mark.Question o
+    begins_name o || stands mark.Skip o || stands mark.Question o
     || stands mark.If o || stands mark.While o
 
 -- one more statement at the end

@@ -5,7 +5,7 @@ use Rattle.sm_syntax.specs.declared.token.Token.{Token}
 use Rattle.sm_syntax.specs.text.Grammar.{IsBlock}
 use Rattle.sm_syntax.specs.text.Tokens.{Lexed, lexed}
 use Rattle.sm_syntax.specs.trees.Views.{code_of}
-use Rattle.sm_text.specs.parsing.BlockTokens.{signs, IsFirstBlock}
+use Rattle.sm_text.specs.parsing.BlockTokens.{token_symbols, IsFirstBlock}
 use Rattle.sm_text.specs.parsing.Prefix.{AreBlocks}
 use Rattle.sm_text.specs.rules.Reading as r
 use Rattle.sm_text.specs.resolving.TokenTexts.{IsTokenOf}
@@ -71,8 +71,8 @@ returns-in-Err-Fault-clause-only c n after code spells =
     let part = take (length c.deref.result.now - c.args.at) (drop c.args.at c.deref.result.now) in
     let cut : part ≡ drop c.args.at (lexed bytes).0 = rest_of c.args.at c.deref.result.now ∙ ap (drop c.args.at) all in
     let parser = r.block (64 - c.args.groups) in
-    let read : parser (signs bytes c.args.names.now part) ≡ Err c.in-Err-Fault.fault = rw c.in-Err-Fault.field-0-is at c.in-Err-Fault.ensures.fault in
-    absurd (read_not_refused parser (IsBlock c.args.groups) bytes c.args.names.now c.args.at n after code c.in-Err-Fault.fault (block_reads c.args.groups) spells (ap (λ (ts : List Token). parser (signs bytes c.args.names.now ts)) (sym cut) ∙ read))
+    let read : parser (token_symbols bytes c.args.names.now part) ≡ Err c.in-Err-Fault.fault = rw c.in-Err-Fault.field-0-is at c.in-Err-Fault.ensures.fault in
+    absurd (read_not_refused parser (IsBlock c.args.groups) bytes c.args.names.now c.args.at n after code c.in-Err-Fault.fault (block_reads c.args.groups) spells (ap (λ (ts : List Token). parser (token_symbols bytes c.args.names.now ts)) (sym cut) ∙ read))
 
 pub returns-in-Err-Fault-clause-place : goal.returns-in-Err-Fault-clause-place
 returns-in-Err-Fault-clause-place c =
@@ -81,5 +81,5 @@ returns-in-Err-Fault-clause-place c =
     let part = take (length c.deref.result.now - c.args.at) (drop c.args.at c.deref.result.now) in
     let cut : part ≡ drop c.args.at (lexed bytes).0 = rest_of c.args.at c.deref.result.now ∙ ap (drop c.args.at) all in
     let parser = r.block (64 - c.args.groups) in
-    let read : parser (signs bytes c.args.names.now part) ≡ Err c.in-Err-Fault.fault = rw c.in-Err-Fault.field-0-is at c.in-Err-Fault.ensures.fault in
-    refused_from parser (AreBlocks c.args.groups) (block_judges c.args.groups) bytes c.args.tokens.now c.requires.cut c.args.at c.args.names.now (signs bytes c.args.names.now part) (ap (signs bytes c.args.names.now) cut) c.in-Err-Fault.fault read c.refused.result c.refused.ensures
+    let read : parser (token_symbols bytes c.args.names.now part) ≡ Err c.in-Err-Fault.fault = rw c.in-Err-Fault.field-0-is at c.in-Err-Fault.ensures.fault in
+    refused_from parser (AreBlocks c.args.groups) (block_judges c.args.groups) bytes c.args.tokens.now c.requires.cut c.args.at c.args.names.now (token_symbols bytes c.args.names.now part) (ap (token_symbols bytes c.args.names.now) cut) c.in-Err-Fault.fault read c.refused.result c.refused.ensures

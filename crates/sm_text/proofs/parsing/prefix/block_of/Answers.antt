@@ -4,7 +4,7 @@ use Rattle.sm_syntax.specs.declared.symbol.Symbol.{Symbol}
 use Rattle.sm_syntax.specs.text.Grammar.{IsBlock}
 use Rattle.sm_syntax.specs.text.Symbols.{symbol_of, names_after}
 use Rattle.sm_syntax.specs.trees.Views.{code_of}
-use Rattle.sm_text.specs.parsing.BlockTokens.{signs}
+use Rattle.sm_text.specs.parsing.BlockTokens.{token_symbols}
 use Rattle.sm_text.specs.resolving.NameCounts.{names_counted}
 use Rattle.sm_text.specs.rules.Reading as r
 use Rattle.sm_text.proofs.Prefix.FirstTokens.{first_read}
@@ -18,7 +18,7 @@ overflow_sub-used c =
     let bytes = c.args.bytes.now in
     let before = c.args.names.now in
     let ts = c.args.tokens.now in
-    let same : c.deref.result.now ≡ signs bytes before ts = c.deref.ensures.value ∙ signs-of bytes before c.symbols_behind.new.names ts ts c.in_ok-symbols.symbols.items c.in_ok-symbols.ensures.names c.in_ok-symbols.ensures.list refl in
+    let same : c.deref.result.now ≡ token_symbols bytes before ts = c.deref.ensures.value ∙ signs-of bytes before c.symbols_behind.new.names ts ts c.in_ok-symbols.symbols.items c.in_ok-symbols.ensures.names c.in_ok-symbols.ensures.list refl in
     let parser = r.block (64 - c.args.groups) in
     let read : parser c.deref.result.now ≡ Ok (code_of c.in_ok-block.block, c.in_ok-block.after.now) = ap (λ (k : ℕ). r.block k c.deref.result.now) (sym c.saturating_sub.ensures) ∙ c.in_ok-block.ensures in
     let size = c.len.ensures ∙ sym c.deref.ensures.len ∙ ap (λ (l : List Symbol). length l) same ∙ length-map ts (symbol_of bytes (names_after bytes before ts)) in

@@ -3,7 +3,7 @@ use Rattle.std.proofs.lemmas.Bool.Decides.{nat_tests}
 use Rattle.std.proofs.lemmas.List.{length-take-le}
 use Rattle.sm_syntax.specs.text.Grammar.{IsBlock}
 use Rattle.sm_syntax.specs.trees.Views.{code_of}
-use Rattle.sm_text.specs.parsing.BlockTokens.{signs}
+use Rattle.sm_text.specs.parsing.BlockTokens.{token_symbols}
 use Rattle.sm_text.specs.rules.Reading as r
 use Rattle.sm_text.proofs.Prefix.BlockEnds.{none_at_end}
 use Rattle.sm_text.proofs.Prefix.FirstTokens.{first_of_all, first_within, refused_of_all, refused_within}
@@ -26,7 +26,7 @@ overflow_add-result-in-Err-Fault c =
     let ts = c.args.tokens.now in
     let m = c.block_end-end.result in
     let within = c.block_end-end.ensures.within in
-    let refused : r.block (64 - c.args.groups) (signs bytes before (take m ts)) ≡ Err c.in-Err-Fault.fault = rw c.in-Err-Fault.field-0-is at c.in-Err-Fault.ensures.fault in
+    let refused : r.block (64 - c.args.groups) (token_symbols bytes before (take m ts)) ≡ Err c.in-Err-Fault.fault = rw c.in-Err-Fault.field-0-is at c.in-Err-Fault.ensures.fault in
     let few = refused_within bytes before c.args.groups (take m ts) c.in-Err-Fault.fault refused in
     let size = length-take-le m ts within in
     let most : c.in-Err-Fault.fault.left + (length ts - m) ≤ length ts = omega (arith, few, size, within) in
@@ -44,7 +44,7 @@ returns-in-Err-Fault-clause-fault c =
     let ts = c.args.tokens.now in
     let m = c.block_end-end.result in
     let f = c.in-Err-Fault.fault in
-    let refused : r.block (64 - c.args.groups) (signs bytes before (take m ts)) ≡ Err f = rw c.in-Err-Fault.field-0-is at c.in-Err-Fault.ensures.fault in
+    let refused : r.block (64 - c.args.groups) (token_symbols bytes before (take m ts)) ≡ Err f = rw c.in-Err-Fault.field-0-is at c.in-Err-Fault.ensures.fault in
     refused_of_all (r.block (64 - c.args.groups)) (IsBlock c.args.groups) (any_block_told c.args.groups) bytes before m ts f refused
     (λ none. omega (arith, all_closed none))
   where

@@ -6,7 +6,7 @@ use Rattle.sm_text.specs.parsing.Fragments.{IsProgram}
 use Rattle.sm_text.specs.parsing.Places.{ArePrograms, whole_text}
 use Rattle.sm_text.specs.parsing.Program as p
 use Rattle.sm_text.specs.parsing.Program.{program_from}
-use Rattle.sm_text.specs.parsing.ProgramViews.{program_of}
+use Rattle.sm_text.specs.parsing.ProgramViews.{program_body}
 use Rattle.sm_text.proofs.FirstFault.Judged.{program_judges, program_viable}
 use Rattle.sm_text.proofs.RoundTrip.Parts.{program_has_names}
 use Rattle.sm_text.proofs.Sound.Programs.{whole_program_told, program_same, program_not_refused}
@@ -17,7 +17,7 @@ use Rattle.sm_text.proofs.parsing.program.parse_program.Goals as goal
 pub returns-in-None-clause-ok : goal.returns-in-None-clause-ok
 returns-in-None-clause-ok c =
     let names = c.in_ok-symbols.symbols.names in
-    let body = program_of c.in-Ok.parts in
+    let body = program_body c.in-Ok.parts in
     let F : List Symbol → Type 0 = λ ts. IsProgram (map plain ts) (program_from names body) in
     record {
       tokens = ap (λ l. l.1) (sym c.in_ok-tokens.ensures) ∙ c.in-None.is;
@@ -33,7 +33,7 @@ returns-in-None-clause-named c = program_has_names _ (returns-in-None-clause-pri
 
 pub returns-in-None-clause-only : goal.returns-in-None-clause-only
 returns-in-None-clause-only c t spells =
-    program_same c.args.bytes.now t c.in_ok-symbols.symbols.names _ (program_of c.in-Ok.parts) spells c.in_ok-symbols.ensures.names (c.deref-2.ensures.value ∙ c.in_ok-symbols.ensures.list) c.in-Ok.ensures
+    program_same c.args.bytes.now t c.in_ok-symbols.symbols.names _ (program_body c.in-Ok.parts) spells c.in_ok-symbols.ensures.names (c.deref-2.ensures.value ∙ c.in_ok-symbols.ensures.list) c.in-Ok.ensures
 
 pub returns-in-Err-Fault-clause-only : goal.returns-in-Err-Fault-clause-only
 returns-in-Err-Fault-clause-only c t spells =

@@ -2,7 +2,7 @@ use Rattle.std.proofs.Common.{rules, ◌≡◌, ℕ, List, sym, subst}
 use Rattle.sm_syntax.specs.trees.Views.{code_of}
 use Rattle.sm_text.specs.printing.Canonical.{block_pieces}
 use Rattle.sm_text.specs.parsing.Fragments.{SpellsBlock}
-use Rattle.sm_text.specs.printing.Pieces.{text_of, margin_at}
+use Rattle.sm_text.specs.printing.Pieces.{pieces_text, margin_at}
 use Rattle.sm_text.proofs.RoundTrip.Parts.{block_back}
 use Rattle.sm_text.proofs.printing.print.print_block.Goals as goal
 
@@ -10,6 +10,6 @@ pub returns-clause-reads_back : goal.returns-clause-reads_back
 returns-clause-reads_back c has deep =
     let names = c.args.names.now in
     let code = code_of c.args.block.now in
-    let same : c.put_block.new.out.items ≡ text_of names (block_pieces (margin_at c.args.level) code) = search rules in
+    let same : c.put_block.new.out.items ≡ pieces_text names (block_pieces (margin_at c.args.level) code) = search rules in
     let S : List ℕ → Type 0 = λ l. SpellsBlock names l code in
     subst S (sym same) (block_back names code c.args.level has deep)

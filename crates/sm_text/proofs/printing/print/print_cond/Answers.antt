@@ -2,7 +2,7 @@ use Rattle.std.proofs.Common.{◌≡◌, ℕ, List, ◌++◌, ◌∙◌, sym, ap
 use Rattle.sm_syntax.specs.trees.Views.{condition_of}
 use Rattle.sm_text.specs.printing.Canonical.{condition_pieces}
 use Rattle.sm_text.specs.parsing.Fragments.{SpellsCondition}
-use Rattle.sm_text.specs.printing.Pieces.{text_of}
+use Rattle.sm_text.specs.printing.Pieces.{pieces_text}
 use Rattle.sm_text.proofs.RoundTrip.Parts.{condition_back}
 use Rattle.sm_text.proofs.printing.print.print_cond.Goals as goal
 
@@ -10,7 +10,7 @@ pub returns-clause-reads_back : goal.returns-clause-reads_back
 returns-clause-reads_back c has deep =
     let names = c.args.names.now in
     let tree = condition_of c.args.c.now in
-    let text = text_of names (condition_pieces tree) in
+    let text = pieces_text names (condition_pieces tree) in
     let same : c.put_cond.new.out.items ≡ text = c.in_ok-put_cond.ensures ∙ ap (λ (l : List ℕ). l ++ text) c.new-out.ensures.items in
     let S : List ℕ → Type 0 = λ l. SpellsCondition names l tree in
     subst S (sym same) (condition_back names tree has deep)

@@ -1,7 +1,7 @@
 use Rattle.std.proofs.Common.{ℕ, List, ◌++◌, ◌∙◌, sym, ap, subst}
 use Rattle.sm_syntax.specs.text.Spells.{Spells}
 use Rattle.sm_text.specs.printing.Canonical.{declaration_pieces, output_pieces, assumption_pieces, shared_pieces, lists_pieces, task_pieces}
-use Rattle.sm_text.specs.printing.Pieces.{text_of}
+use Rattle.sm_text.specs.printing.Pieces.{pieces_text}
 use Rattle.sm_text.specs.parsing.Text.{task_parts}
 use Rattle.sm_text.proofs.RoundTrip.Putting.{put_both}
 use Rattle.sm_text.proofs.RoundTrip.Tasks.{spelled_named, reads_back}
@@ -42,7 +42,7 @@ returns-clause-text c =
     let more = put_both names assumed (shared ++ lists) two three end c.in_ok-put_assumption.ensures last in
     let most = put_both names outputs (assumed ++ (shared ++ lists)) one two end c.in_ok-put_outputs.ensures more in
     let all = put_both names declared (outputs ++ (assumed ++ (shared ++ lists))) start one end c.in_ok-put_declarations.ensures most in
-    all ∙ ap (λ (l : List ℕ). l ++ text_of names (task_pieces t)) c.new-out.ensures.items
+    all ∙ ap (λ (l : List ℕ). l ++ pieces_text names (task_pieces t)) c.new-out.ensures.items
 
 pub returns-clause-reads_back : goal.returns-clause-reads_back
 returns-clause-reads_back c =

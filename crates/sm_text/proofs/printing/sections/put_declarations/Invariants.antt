@@ -3,12 +3,12 @@ use Rattle.std.proofs.Common.{◌≡◌, ◌++◌, length, drop}
 use Rattle.sm_syntax.specs.trees.Programs.{declared_of}
 use Rattle.sm_text.specs.printing.Canonical.{declaration_pieces}
 use Rattle.sm_text.specs.printing.Named.{AreDeclaredIn}
-use Rattle.sm_text.specs.printing.Pieces.{text_of}
+use Rattle.sm_text.specs.printing.Pieces.{pieces_text}
 use Rattle.sm_text.specs.rules.Written.{entries_of}
 use Rattle.sm_text.proofs.printing.sections.put_declarations.Given as goal
 
 abbrev pub invariant-loop-d : goal.invariant-loop-d
 invariant-loop-d l = record {
   named : AreDeclaredIn (length l.names) (entries_of (drop l.d-index l.d-items));
-  same : l.out.items ++ text_of l.names (declaration_pieces (entries_of (drop l.d-index l.d-items))) ≡ l.initial.out.items ++ text_of l.names (declaration_pieces (declared_of l.decls));
+  same : l.out.items ++ pieces_text l.names (declaration_pieces (entries_of (drop l.d-index l.d-items))) ≡ l.initial.out.items ++ pieces_text l.names (declaration_pieces (declared_of l.decls));
 }

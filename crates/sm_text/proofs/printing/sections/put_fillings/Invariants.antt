@@ -3,12 +3,12 @@ use Rattle.std.proofs.Common.{◌≡◌, ◌++◌, length, drop}
 use Rattle.sm_syntax.specs.trees.Programs.{fillings_of}
 use Rattle.sm_text.specs.printing.Canonical.{filling_pieces}
 use Rattle.sm_text.specs.printing.Named.{AreFilledIn}
-use Rattle.sm_text.specs.printing.Pieces.{text_of}
+use Rattle.sm_text.specs.printing.Pieces.{pieces_text}
 use Rattle.sm_text.specs.rules.Written.{entries_for}
 use Rattle.sm_text.proofs.printing.sections.put_fillings.Given as goal
 
 abbrev pub invariant-loop-f : goal.invariant-loop-f
 invariant-loop-f l = record {
   named : AreFilledIn (length l.names) (entries_for (drop l.f-index l.f-items));
-  same : l.out.items ++ text_of l.names (filling_pieces (entries_for (drop l.f-index l.f-items))) ≡ l.initial.out.items ++ text_of l.names (filling_pieces (fillings_of l.fs));
+  same : l.out.items ++ pieces_text l.names (filling_pieces (entries_for (drop l.f-index l.f-items))) ≡ l.initial.out.items ++ pieces_text l.names (filling_pieces (fillings_of l.fs));
 }

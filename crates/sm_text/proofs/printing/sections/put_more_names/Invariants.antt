@@ -1,13 +1,13 @@
 -- What is put is the text of the names so far.
 use Rattle.std.proofs.Common.{◌≡◌, ◌++◌, length, drop}
-use Rattle.sm_text.specs.printing.Canonical.{more_names}
+use Rattle.sm_text.specs.printing.Canonical.{more_names_pieces}
 use Rattle.sm_text.specs.printing.Named.{AreOutputsIn}
-use Rattle.sm_text.specs.printing.Pieces.{text_of}
+use Rattle.sm_text.specs.printing.Pieces.{pieces_text}
 use Rattle.sm_text.specs.rules.Written.{numbers_of}
 use Rattle.sm_text.proofs.printing.sections.put_more_names.Given as goal
 
 abbrev pub invariant-loop-x : goal.invariant-loop-x
 invariant-loop-x l = record {
   named : AreOutputsIn (length l.names) (numbers_of (drop l.x-index l.list));
-  same : l.out.items ++ text_of l.names (more_names (numbers_of (drop l.x-index l.list))) ≡ l.initial.out.items ++ text_of l.names (more_names (numbers_of l.list));
+  same : l.out.items ++ pieces_text l.names (more_names_pieces (numbers_of (drop l.x-index l.list))) ≡ l.initial.out.items ++ pieces_text l.names (more_names_pieces (numbers_of l.list));
 }

@@ -6,13 +6,13 @@ use Rattle.sm_syntax.specs.claim.Syntax.{End}
 use Rattle.sm_syntax.specs.trees.Views.{sequence, statement_of, code_of}
 use Rattle.sm_text.specs.printing.Canonical as canonical
 use Rattle.sm_text.specs.printing.Named.{IsUsedIn}
-use Rattle.sm_text.specs.printing.Pieces.{text_of}
+use Rattle.sm_text.specs.printing.Pieces.{pieces_text}
 use Rattle.sm_text.proofs.printing.statements.+put_statement.Given as goal
 
 abbrev pub invariant-put_block-loop-s : goal.invariant-put_block-loop-s
 invariant-put_block-loop-s l = record {
   named : IsUsedIn (length l.names) (sequence (map statement_of (drop l.s-index l.s-items)) End);
-  same : l.out.items ++ text_of l.names (canonical.code_pieces l.inner.items (sequence (map statement_of (drop l.s-index l.s-items)) End)) ≡ l.initial.out.items ++ text_of l.names (canonical.code_pieces l.inner.items (code_of l.b));
+  same : l.out.items ++ pieces_text l.names (canonical.code_pieces l.inner.items (sequence (map statement_of (drop l.s-index l.s-items)) End)) ≡ l.initial.out.items ++ pieces_text l.names (canonical.code_pieces l.inner.items (code_of l.b));
 }
 
 abbrev pub decreases-put_stmt : goal.decreases-put_stmt

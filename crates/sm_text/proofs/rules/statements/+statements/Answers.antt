@@ -1,7 +1,7 @@
 use Rattle.std.proofs.Common.{◌-◌, sym, ap, ◌∙◌}
 use Rattle.std.proofs.lemmas.Result.{err_from_is_err_and}
 use Rattle.sm_text.specs.rules.Reading as spec
-use Rattle.sm_text.specs.rules.Written.{front_of}
+use Rattle.sm_text.specs.rules.Written.{statements_before}
 use Rattle.sm_text.proofs.Sound.Loops.{tested, leaves, front-push, statement-shorter, more_statements-turn, more_statements-end, more_statements-fault, inner_block-none, inner_block-some, inside-none, inside-reads, inside-fails, inside-open}
 use Rattle.sm_text.proofs.rules.statements.+statements.Goals as goal
 
@@ -16,7 +16,7 @@ statements-statements-smaller t c = statement-shorter _ c.requires _ _ _ c.in_ok
 pub statements-statements-preserved : goal.statements-statements-preserved
 statements-statements-preserved t c =
     c.statements.invariant ∙ more_statements-turn _ c.requires _ _ _ _ (tested spec.begins_statement c.first.ensures c.begins_statement.ensures c.statements-test.true) c.in_ok-one.ensures
-    ∙ ap (λ front. spec.more_statements c.args.groups (spec.block c.args.groups) front c.in_ok-one.behind.now) (sym (ap front_of c.in_ok-push.ensures.items ∙ front-push _ _))
+    ∙ ap (λ front. spec.more_statements c.args.groups (spec.block c.args.groups) front c.in_ok-one.behind.now) (sym (ap statements_before c.in_ok-push.ensures.items ∙ front-push _ _))
 
 pub statements-returns : goal.statements-returns
 statements-returns t c = c.statements.invariant ∙ more_statements-end _ _ _ (tested spec.begins_statement c.first.ensures c.begins_statement.ensures c.statements-test.false)

@@ -1,6 +1,6 @@
 use Rattle.std.proofs.Common.{◌≡◌, ◌+◌, ◌*◌, length}
 use Rattle.sm_text.specs.rules.Reading as spec
-use Rattle.sm_text.specs.rules.Written.{front_of}
+use Rattle.sm_text.specs.rules.Written.{statements_before}
 use Rattle.sm_text.proofs.rules.statements.+statements.Given as goal
 
 abbrev pub decreases-block : goal.decreases-block
@@ -28,7 +28,7 @@ abbrev pub decreases-statements : goal.decreases-statements
 decreases-statements l = 10 * l.groups + 5
 
 abbrev pub invariant-statements-statements : goal.invariant-statements-statements
-invariant-statements-statements l = spec.more_statements l.groups (spec.block l.groups) (λ k. k) l.symbols ≡ spec.more_statements l.groups (spec.block l.groups) (front_of l.list.items) l.after
+invariant-statements-statements l = spec.more_statements l.groups (spec.block l.groups) (λ k. k) l.symbols ≡ spec.more_statements l.groups (spec.block l.groups) (statements_before l.list.items) l.after
 
 abbrev pub decreases-statements-statements : goal.decreases-statements-statements
 decreases-statements-statements l = length l.after
