@@ -16,7 +16,7 @@ section_of (suc (suc (suc zero))) = ListOf M
 section_of (suc (suc (suc (suc n)))) = Shared
 
 -- a check answers that there is no refusal, or by its error which one it is; want of memory is free
-abbrev pub Reports : Result (Unit {0}) TaskError → Option Refusal → Type 0
-Reports answer refusal =
+abbrev pub ReportsRefusal : Result (Unit {0}) TaskError → Option Refusal → Type 0
+ReportsRefusal answer refusal =
     MatchResult answer (λ u. refusal ≡ None)
     (λ e. e ≢ Memory → option_map error_of refusal ≡ Some e)

@@ -10,7 +10,7 @@ ghost use Rattle.sm_syntax.specs.claim.ConflictFree.{program_of};
 ghost use Rattle.sm_syntax.specs.trees.Copies.{copy_named};
 ghost use Rattle.sm_syntax.specs.text.Parts.{task_of};
 ghost use Rattle.sm_syntax.specs.trees.Views.{code_of};
-ghost use Rattle.sm_task.specs.Checks.{Reports, section_of};
+ghost use Rattle.sm_task.specs.Checks.{ReportsRefusal, section_of};
 ghost use Rattle.sm_task.specs.Tasks.{AreFilled, fillings_for, parts_of};
 
 use crate::error::TaskError;
@@ -26,7 +26,7 @@ const SHARED: u8 = 4;
 // Whether a task meets the six conditions. The error is the first that fails.
 #[tactic(auto, using(crate::proofs::Refusals::checks), unfolding(sm_syntax::specs::text::Conditions::first_refusal))]
 pub(crate) fn check_conditions(alloc: Global, task: &Task) -> Result<(), TaskError>
-    ensures { Reports result (first_refusal (parts_of task.now)) }
+    ensures { ReportsRefusal result (first_refusal (parts_of task.now)) }
 {
     let holes = holes_of(alloc, &task.shared.body)?;
     check_double_holes(alloc, task, &holes)?;
@@ -41,7 +41,7 @@ pub(crate) fn check_conditions(alloc: Global, task: &Task) -> Result<(), TaskErr
 #[tactic(auto, using(crate::proofs::Refusals::checks), unfolding(sm_syntax::specs::text::Conditions::double_hole))]
 fn check_double_holes(alloc: Global, task: &Task, holes: &[u32]) -> Result<(), TaskError>
     requires { holes.now ≡ holes_of (code_of task.now.shared.body) }
-    ensures { Reports result (double_hole (parts_of task.now)) }
+    ensures { ReportsRefusal result (double_hole (parts_of task.now)) }
 {
     check_repeated(alloc, SHARED, holes)?;
     check_filled_once(alloc, task, CopyName::O)?;
@@ -54,7 +54,7 @@ fn check_double_holes(alloc: Global, task: &Task, holes: &[u32]) -> Result<(), T
 fn check_filled_once(alloc: Global, task: &Task, copy: CopyName) -> Result<(), TaskError>
     ensures { let c = copy_named copy in
         let hole = first_repeated [] (filled_holes (fillings_for task.now c)) in
-        Reports result (at_hole DoubleHole (ListOf c) hole) }
+        ReportsRefusal result (at_hole DoubleHole (ListOf c) hole) }
 {
     check_repeated(
         alloc,
@@ -66,7 +66,8 @@ fn check_filled_once(alloc: Global, task: &Task, copy: CopyName) -> Result<(), T
 #[tactic(auto, using(crate::proofs::Refusals::same_number))]
 fn check_repeated(alloc: Global, list: u8, holes: &[u32]) -> Result<(), TaskError>
     requires { list ≤ 4 }
-    ensures { Reports result (at_hole DoubleHole (section_of list) (first_repeated [] holes.now)) }
+    ensures { ReportsRefusal result
+        (at_hole DoubleHole (section_of list) (first_repeated [] holes.now)) }
 {
     match first_repeated(alloc, holes)? {
         None => Ok(()),
@@ -77,7 +78,7 @@ fn check_repeated(alloc: Global, list: u8, holes: &[u32]) -> Result<(), TaskErro
 // 2. No filling has a hole.
 #[tactic(auto, using(crate::proofs::Refusals::checks), unfolding(sm_syntax::specs::text::Conditions::hole_in_filling))]
 fn check_holes_in_fillings(alloc: Global, task: &Task) -> Result<(), TaskError>
-    ensures { Reports result (hole_in_filling (parts_of task.now)) }
+    ensures { ReportsRefusal result (hole_in_filling (parts_of task.now)) }
 {
     check_inside(alloc, task, CopyName::O)?;
     check_inside(alloc, task, CopyName::A)?;
@@ -88,7 +89,7 @@ fn check_holes_in_fillings(alloc: Global, task: &Task) -> Result<(), TaskError>
 fn check_inside(alloc: Global, task: &Task, copy: CopyName) -> Result<(), TaskError>
     ensures { let c = copy_named copy in
         let hole = first_outside [] (holes_inside (fillings_for task.now c)) in
-        Reports result (at_hole HoleInFilling (ListOf c) hole) }
+        ReportsRefusal result (at_hole HoleInFilling (ListOf c) hole) }
 {
     match first_outside(alloc, &[], &holes_inside(alloc, task.lists.get(copy))?)? {
         None => Ok(()),
@@ -103,7 +104,7 @@ fn check_inside(alloc: Global, task: &Task, copy: CopyName) -> Result<(), TaskEr
 #[tactic(auto, using(crate::proofs::Refusals::checks), unfolding(sm_syntax::specs::text::Conditions::unknown_hole))]
 fn check_unknown_holes(alloc: Global, task: &Task, holes: &[u32]) -> Result<(), TaskError>
     requires { holes.now ≡ holes_of (code_of task.now.shared.body) }
-    ensures { Reports result (unknown_hole (parts_of task.now)) }
+    ensures { ReportsRefusal result (unknown_hole (parts_of task.now)) }
 {
     check_known(alloc, task, CopyName::O, holes)?;
     check_known(alloc, task, CopyName::A, holes)?;
@@ -114,7 +115,7 @@ fn check_unknown_holes(alloc: Global, task: &Task, holes: &[u32]) -> Result<(), 
 fn check_known(alloc: Global, task: &Task, copy: CopyName, holes: &[u32]) -> Result<(), TaskError>
     ensures { let c = copy_named copy in
         let hole = first_outside holes.now (filled_holes (fillings_for task.now c)) in
-        Reports result (at_hole UnknownHole (ListOf c) hole) }
+        ReportsRefusal result (at_hole UnknownHole (ListOf c) hole) }
 {
     match first_outside(alloc, holes, &filled_holes(alloc, task.lists.get(copy))?)? {
         None => Ok(()),
@@ -129,7 +130,7 @@ fn check_known(alloc: Global, task: &Task, copy: CopyName, holes: &[u32]) -> Res
 #[tactic(auto, using(crate::proofs::Refusals::checks), unfolding(sm_syntax::specs::text::Conditions::missing_filling))]
 fn check_missing_fillings(alloc: Global, task: &Task, holes: &[u32]) -> Result<(), TaskError>
     requires { holes.now ≡ holes_of (code_of task.now.shared.body) }
-    ensures { Reports result (missing_filling (parts_of task.now)) }
+    ensures { ReportsRefusal result (missing_filling (parts_of task.now)) }
 {
     check_filled(alloc, task, CopyName::O, holes)?;
     check_filled(alloc, task, CopyName::A, holes)?;
@@ -140,7 +141,7 @@ fn check_missing_fillings(alloc: Global, task: &Task, holes: &[u32]) -> Result<(
 fn check_filled(alloc: Global, task: &Task, copy: CopyName, holes: &[u32]) -> Result<(), TaskError>
     ensures { let c = copy_named copy in
         let hole = first_outside (filled_holes (fillings_for task.now c)) holes.now in
-        Reports result (at_hole MissingFilling (ListOf c) hole) }
+        ReportsRefusal result (at_hole MissingFilling (ListOf c) hole) }
 {
     match first_outside(alloc, &filled_holes(alloc, task.lists.get(copy))?, holes)? {
         None => Ok(()),
@@ -154,7 +155,7 @@ fn check_filled(alloc: Global, task: &Task, copy: CopyName, holes: &[u32]) -> Re
 // 5. Each filled program is well formed. With no hole twice, the four are no larger than the text.
 #[tactic(auto, using(crate::proofs::Refusals::checks), unfolding(sm_syntax::specs::text::Conditions::ill_formed))]
 fn check_programs(alloc: Global, task: &Task) -> Result<(), TaskError>
-    ensures { Reports result (ill_formed (parts_of task.now)) }
+    ensures { ReportsRefusal result (ill_formed (parts_of task.now)) }
 {
     let programs = fill_all(alloc, task)?;
     check_program(alloc, task, &programs, CopyName::O)?;
@@ -172,7 +173,7 @@ fn check_program(
     requires { AreFilled (parts_of task.now) programs.now }
     ensures { let t = parts_of task.now in
         let code = program_of (task_of t) (copy_named copy) in
-        Reports result (program_fault t.declared t.outputs code) }
+        ReportsRefusal result (program_fault t.declared t.outputs code) }
 {
     let shared = &task.shared;
     well_formed_block(alloc, &shared.decls, &shared.outputs, programs.get(copy))?;
@@ -182,7 +183,8 @@ fn check_program(
 // 6. The assumption is well formed.
 #[tactic(auto, unfolding(sm_syntax::specs::text::Conditions::ill_assumed))]
 fn check_assumption(alloc: Global, task: &Task) -> Result<(), TaskError>
-    ensures { let t = parts_of task.now in Reports result (ill_assumed t.declared t.assumed) }
+    ensures { let t = parts_of task.now in
+        ReportsRefusal result (ill_assumed t.declared t.assumed) }
 {
     match &task.assumed {
         None => Ok(()),
