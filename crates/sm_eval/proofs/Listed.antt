@@ -3,7 +3,7 @@ use Rattle.std.proofs.Common.{◌≡◌, ◌<◌, ◌≢◌, ℕ, zero, suc, ℤ
 use Rattle.std.specs.List.{insert, remove}
 use Rattle.std.specs.Ordering.{int_eq}
 use Rattle.std.proofs.lemmas.Bool.Decides.{Decides-int_eq}
-use Rattle.sm_eval.specs.Cells.{listed, index_at, number_at}
+use Rattle.sm_eval.specs.Cells.{listed, index_at, cell_number_at}
 use Rattle.sm_eval.specs.Places.{IsAt}
 use Rattle.sm_eval.proofs.Integers.{int_same, int_differs}
 
@@ -37,7 +37,7 @@ listed_absent (c ∷ l) i none =
     first_passed c l i (none 0 (omega arith)) ∙ listed_absent l i (λ (q : ℕ) (lt : q < length l). none (suc q) (omega arith))
 
 -- the first cell that has the index gives the number
-pub listed_present : (l : List (ℤ × ℤ)) (i : ℤ) (p : ℕ) → IsAt l i p → NoneBefore l i p → listed l i ≡ number_at l p
+pub listed_present : (l : List (ℤ × ℤ)) (i : ℤ) (p : ℕ) → IsAt l i p → NoneBefore l i p → listed l i ≡ cell_number_at l p
 listed_present [] i p at none = absurd (omega (arith, at.in_range))
 listed_present (c ∷ l) i zero at none = ap (λ (b : Bool). if b then c.1 else listed l i) (int_same i c.0 (sym at.same))
 listed_present (c ∷ l) i (suc p) at none =

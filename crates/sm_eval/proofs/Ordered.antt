@@ -12,7 +12,7 @@ use Rattle.std.proofs.lemmas.List.{length-set, get_or-set_same, get_or-set_other
 use Rattle.std.proofs.lemmas.List.Sorted.{IsNonDecreasingBy-from_default}
 use Rattle.std.proofs.lemmas.List.Edits.{length-insert, get_or-insert_below, get_or-insert_at, get_or-insert_above, length-remove, get_or-remove_below, get_or-remove_above}
 use Rattle.sm_syntax.specs.claim.Stores.{with_element}
-use Rattle.sm_eval.specs.Cells.{listed, index_at, number_at, IsAscending, AreCells}
+use Rattle.sm_eval.specs.Cells.{listed, index_at, cell_number_at, IsAscending, AreCells}
 use Rattle.sm_eval.specs.Places.{IsAt, IsGapFor}
 use Rattle.sm_eval.proofs.Integers.{not_below_itself, ranks_rise}
 use Rattle.sm_eval.proofs.Listed.{NoneBefore, NoneBehind, listed_absent, listed_present, listed-set, listed-insert, zero_there, listed-remove}
@@ -65,7 +65,7 @@ module _ (l : List (ℤ × ℤ)) (cells : AreCells l) (i : ℤ) (p : ℕ) (at : 
   none_behind q lt in_range same = not_below_itself (index_at l p) (index_at l q) (cells.ascending p q lt in_range) (at.same ∙ sym same)
 
   -- the cell has the number of the index
-  pub listed_at : listed l i ≡ number_at l p
+  pub listed_at : listed l i ≡ cell_number_at l p
   listed_at = listed_present l i p at none_before
 
   -- another number there is a number at the index
@@ -83,9 +83,9 @@ module _ (l : List (ℤ × ℤ)) (cells : AreCells l) (i : ℤ) (p : ℕ) (at : 
   index_at-set z q (inr differs) = ap (λ (c : ℤ × ℤ). c.0) (get_or-set_other l p q (i, z) (pos 0, pos 0) differs)
 
   -- no place has 0
-  no_zero-set : (z : ℤ) → z ≢ pos 0 → (q : ℕ) → ((q ≡ p) ⊎ (q ≡ p → ⊥)) → q < length l → number_at (set l p (i, z)) q ≢ pos 0
+  no_zero-set : (z : ℤ) → z ≢ pos 0 → (q : ℕ) → ((q ≡ p) ⊎ (q ≡ p → ⊥)) → q < length l → cell_number_at (set l p (i, z)) q ≢ pos 0
   no_zero-set z other q (inl same) lt zero =
-      other (sym (ap (λ (c : ℤ × ℤ). c.1) (get_or-set_same l p (i, z) (pos 0, pos 0) at.in_range)) ∙ ap (number_at (set l p (i, z))) (sym same) ∙ zero)
+      other (sym (ap (λ (c : ℤ × ℤ). c.1) (get_or-set_same l p (i, z) (pos 0, pos 0) at.in_range)) ∙ ap (cell_number_at (set l p (i, z))) (sym same) ∙ zero)
   no_zero-set z other q (inr differs) lt zero =
       cells.no_zero q lt (sym (ap (λ (c : ℤ × ℤ). c.1) (get_or-set_other l p q (i, z) (pos 0, pos 0) differs)) ∙ zero)
 
@@ -128,7 +128,7 @@ module _ (l : List (ℤ × ℤ)) (cells : AreCells l) (i : ℤ) (p : ℕ) (at : 
   pub remove_cells : AreCells (remove l p)
   remove_cells = record {
     ascending = λ (q r : ℕ) (lt : q < r) (in_range : r < length (remove l p)). ascending-remove q r (cases_lt q p) (cases_lt r p) lt in_range;
-    no_zero = λ (q : ℕ) (lt : q < length (remove l p)) (zero : number_at (remove l p) q ≡ pos 0).
+    no_zero = λ (q : ℕ) (lt : q < length (remove l p)) (zero : cell_number_at (remove l p) q ≡ pos 0).
         let there = shifted q (cases_lt q p) lt in
         cells.no_zero there.0 there.2 (sym (ap (λ (c : ℤ × ℤ). c.1) there.1) ∙ zero);
   }
@@ -184,9 +184,9 @@ module _ (l : List (ℤ × ℤ)) (i : ℤ) (p : ℕ) (gap : IsGapFor l i p) wher
     ascending-insert q r (inr (inr a)) (inl b) lt in_range = absurd (omega arith)
     ascending-insert q r (inr (inr a)) (inr (inl b)) lt in_range = absurd (omega arith)
 
-    no_zero-insert : z ≢ pos 0 → (q : ℕ) → ((q < p) ⊎ ((q ≡ p) ⊎ (p < q))) → q < length l + 1 → number_at (insert l p (i, z)) q ≢ pos 0
+    no_zero-insert : z ≢ pos 0 → (q : ℕ) → ((q < p) ⊎ ((q ≡ p) ⊎ (p < q))) → q < length l + 1 → cell_number_at (insert l p (i, z)) q ≢ pos 0
     no_zero-insert other q (inl a) lt zero = let le = gap.in_range in cells.no_zero q (omega arith) (sym (ap (λ (c : ℤ × ℤ). c.1) (below q a)) ∙ zero)
-    no_zero-insert other q (inr (inl a)) lt zero = other (sym (ap (number_at (insert l p (i, z))) a ∙ ap (λ (c : ℤ × ℤ). c.1) here) ∙ zero)
+    no_zero-insert other q (inr (inl a)) lt zero = other (sym (ap (cell_number_at (insert l p (i, z))) a ∙ ap (λ (c : ℤ × ℤ). c.1) here) ∙ zero)
     no_zero-insert other q (inr (inr a)) lt zero = cells.no_zero (q - 1) (omega arith) (sym (ap (λ (c : ℤ × ℤ). c.1) (above q a)) ∙ zero)
 
     -- a new cell in the gap leaves them cells

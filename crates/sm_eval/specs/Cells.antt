@@ -14,8 +14,8 @@ abbrev pub index_at : List (ℤ × ℤ) → ℕ → ℤ
 index_at l p = let cell = slice_index_or l p (pos 0, pos 0) in cell.0
 
 -- the number of the cell at a place of the list
-abbrev pub number_at : List (ℤ × ℤ) → ℕ → ℤ
-number_at l p = let cell = slice_index_or l p (pos 0, pos 0) in cell.1
+abbrev pub cell_number_at : List (ℤ × ℤ) → ℕ → ℤ
+cell_number_at l p = let cell = slice_index_or l p (pos 0, pos 0) in cell.1
 
 -- the indices rise, so none comes twice
 abbrev pub IsAscending : List (ℤ × ℤ) → Type 0
@@ -23,7 +23,7 @@ IsAscending l = (p q : ℕ) → p < q → q < length l → index_at l p <ℤ ind
 
 -- no cell has 0
 abbrev pub HasNoZero : List (ℤ × ℤ) → Type 0
-HasNoZero l = (p : ℕ) → p < length l → number_at l p ≢ pos 0
+HasNoZero l = (p : ℕ) → p < length l → cell_number_at l p ≢ pos 0
 
 -- the one list of cells of an array
 pub record AreCells (l : List (ℤ × ℤ)) : Type 0 where
