@@ -6,7 +6,7 @@ use Rattle.sm_syntax.specs.claim.ConflictFree.{Task}
 use Rattle.sm_term.specs.Assertions.{Assertion}
 use Rattle.sm_plan.specs.Limits.{is_shallow}
 use Rattle.sm_plan.specs.States.{State, start_state}
-use Rattle.sm_plan.specs.Nodes.{Node, Opened, opens, rule_of, is_branching}
+use Rattle.sm_plan.specs.Nodes.{Node, Opened, opened_by, rule_of, is_branching}
 use Rattle.sm_plan.specs.Plans.{Plan, At, Plans, Over, More, size, sizes, count, nodes_of, all_nodes, branches, most_branches, IsFresh, AreFresh, Due, Fault, Wrong, Deep, due, joined, expand, expand_all, obligations, AllValid, AllDischarged}
 use Rattle.sm_plan.specs.NodeLists.{Pending, above_opened, pending_states, states_of, NodesProve, start_pending}
 use Rattle.sm_plan.proofs.PlanSound.{opened_is, passed, joined_is, parts_discharged, due_valid, shallow, states-pending}
@@ -48,7 +48,7 @@ mutual
       AllDischarged ds → NodesProve (k + size p) pending rest → NodesProve k (record { state = st; above = above } ∷ pending) (nodes_of p ++ rest)
   plan_proves (At node ps) k above st ds pending rest few fresh e all later =
       let w = Wrong k (rule_of node) in
-      let o = opened_is (opens k st node) w
+      let o = opened_is (opened_by k st node) w
       (λ (q : Opened). if count ps == length q.states then joined (Ok (due k st node q.goals)) (expand_all w (suc k) q.states ps) else Err w) ds e in
       let q = o.0 in
       let parts = joined_is (Ok (due k st node q.goals)) (expand_all w (suc k) q.states ps) ds
@@ -186,7 +186,7 @@ cut (st ∷ first) second k above (More p ps) ds few under fresh e all =
     }
 
 -- a node with plans for what it opens
-at_expands : (k : ℕ) (st : State) (node : Node) (ps : Plans) (q : Opened) (ds : List Due) → opens k st node ≡ Some q → count ps ≡ length q.states →
+at_expands : (k : ℕ) (st : State) (node : Node) (ps : Plans) (q : Opened) (ds : List Due) → opened_by k st node ≡ Some q → count ps ≡ length q.states →
     expand_all any_fault (suc k) q.states ps ≡ Ok ds → expand k st (At node ps) ≡ Ok (due k st node q.goals ++ ds)
 at_expands k st node ps q ds is counted e =
     let w = Wrong k (rule_of node) in

@@ -14,7 +14,7 @@ use Rattle.sm_plan.specs.Statements.{is_over, is_long, front, rest_after, is_loo
 use Rattle.sm_plan.specs.Limits.{is_kept}
 use Rattle.sm_plan.specs.States.{State}
 use Rattle.sm_plan.specs.Successors as next
-use Rattle.sm_plan.specs.Nodes.{Node, Step, Abs, Fork, Loop, Block, Dead, Ends, Unfit, Opened, follows, asks, where_true, after_step, both_ways, opens, IsFreshAt}
+use Rattle.sm_plan.specs.Nodes.{Node, Step, Abs, Fork, Loop, Block, Dead, Ends, Unfit, Opened, follows, asks, where_true, after_step, both_ways, opened_by, IsFreshAt}
 use Rattle.sm_plan.specs.Plans.{AllValid}
 use Rattle.sm_plan.specs.SoundStates.{IsSound, AreSound, IsStateBelow, AreStatesBelow}
 use Rattle.sm_plan.proofs.CopySound.{step_sound, both_ways_sound, summary_sound}
@@ -33,7 +33,7 @@ after_step_is st c None q e = absurd cc
 after_step_is st c (Some p) q e = (p, refl, same_Some (follows (next.moved st c p.0 p.1 ∷ [])) q e)
 
 -- where a node's goals are valid and the states that it opens are sound, its own state is sound
-pub node_sound : (k : ℕ) (st : State) (node : Node) (q : Opened) → IsStateBelow k st → IsFreshAt k node → opens k st node ≡ Some q →
+pub node_sound : (k : ℕ) (st : State) (node : Node) (q : Opened) → IsStateBelow k st → IsFreshAt k node → opened_by k st node ≡ Some q →
     AllValid st.facts q.goals → AreSound q.states → IsSound st
 node_sound k st (Step c) q below fresh e valid all =
     let p = after_step_is st c (next.stepped (st.rest c) (st.stores c)) q e in
@@ -90,7 +90,7 @@ later_all k [] all = tt
 later_all k (st ∷ states) all = (state_later k (suc k) st (omega arith) all.0, later_all k states all.1)
 
 -- the states that a node opens name no new value of a node after it
-pub node_below : (k : ℕ) (st : State) (node : Node) (q : Opened) → IsStateBelow k st → IsFreshAt k node → opens k st node ≡ Some q → AreStatesBelow (suc k) q.states
+pub node_below : (k : ℕ) (st : State) (node : Node) (q : Opened) → IsStateBelow k st → IsFreshAt k node → opened_by k st node ≡ Some q → AreStatesBelow (suc k) q.states
 node_below k st (Step c) q below fresh e =
     let p = after_step_is st c (next.stepped (st.rest c) (st.stores c)) q e in
     let moved = moved_below k st c p.0.0 p.0.1 [] below (stepped_below k (st.rest c) (st.stores c) p.0 p.1 (below.stores c)) tt in
@@ -136,7 +136,7 @@ both_ways_goals k st c (While b body r) q e = absurd cc
 both_ways_goals k st c (Hole h r) q e = absurd cc
 
 -- the goals that a node asks name no new value of a node after it
-pub node_goals_below : (k : ℕ) (st : State) (node : Node) (q : Opened) → IsStateBelow k st → IsFreshAt k node → opens k st node ≡ Some q → AreFormsBelow (suc k) q.goals
+pub node_goals_below : (k : ℕ) (st : State) (node : Node) (q : Opened) → IsStateBelow k st → IsFreshAt k node → opened_by k st node ≡ Some q → AreFormsBelow (suc k) q.goals
 node_goals_below k st (Step c) q below fresh e =
     let p = after_step_is st c (next.stepped (st.rest c) (st.stores c)) q e in
     subst (λ (r : Opened). AreFormsBelow (suc k) r.goals) p.2 tt

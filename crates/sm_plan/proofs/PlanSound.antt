@@ -16,7 +16,7 @@ use Rattle.sm_term.specs.Symbolic.{form_of}
 use Rattle.sm_term.proofs.AssertionsLemmas.{form_means, holds_parts, conj_means}
 use Rattle.sm_plan.specs.Limits.{is_shallow}
 use Rattle.sm_plan.specs.States.{State, place, keeps_goals, start_store, start_facts, start_state}
-use Rattle.sm_plan.specs.Nodes.{Node, Opened, opens, rule_of}
+use Rattle.sm_plan.specs.Nodes.{Node, Opened, opened_by, rule_of}
 use Rattle.sm_plan.specs.Plans.{Plan, At, Plans, Over, More, size, count, branches, IsFresh, AreFresh, Due, Fault, Wrong, Deep, due, joined, opened, expand, expand_all, obligations, AllValid, AllDischarged}
 use Rattle.sm_plan.specs.NodeLists.{Pending, above_opened, pending_states, states_of, NodesProve, start_pending}
 use Rattle.sm_plan.specs.SoundStates.{IsSound, AreSound, IsStateBelow, AreStatesBelow}
@@ -60,7 +60,7 @@ mutual
   plan_sound : (p : Plan) (k : ℕ) (st : State) (ds : List Due) → IsStateBelow k st → IsFresh k p → expand k st p ≡ Ok ds → AllDischarged ds → IsSound st
   plan_sound (At node ps) k st ds below fresh e all =
       let w = Wrong k (rule_of node) in
-      let o = opened_is (opens k st node) w
+      let o = opened_is (opened_by k st node) w
       (λ (q : Opened). if count ps == length q.states then joined (Ok (due k st node q.goals)) (expand_all w (suc k) q.states ps) else Err w) ds e in
       let q = o.0 in
       let parts = joined_is (Ok (due k st node q.goals)) (expand_all w (suc k) q.states ps) ds

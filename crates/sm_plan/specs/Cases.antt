@@ -22,7 +22,7 @@ use Rattle.sm_syntax.specs.claim.ConflictFree.{Copy, O, A, B, M, Task, ConflictF
 use Rattle.sm_term.specs.Assertions.{Yes, No}
 use Rattle.sm_plan.specs.Copies.{Copies, copies_that}
 use Rattle.sm_plan.specs.States.{State, start_state}
-use Rattle.sm_plan.specs.Nodes.{Node, Step, Loop, Dead, Ends, Opened, opens}
+use Rattle.sm_plan.specs.Nodes.{Node, Step, Loop, Dead, Ends, Opened, opened_by}
 use Rattle.sm_plan.specs.Plans.{Plan, At, Over, More, IsFresh, Due, obligations, AllDischarged}
 use Rattle.sm_plan.specs.Example.{then_one}
 
@@ -86,7 +86,7 @@ abbrev pub pending_after : ℕ → List State → List Node → Option (List Sta
 pending_after k states [] = Some states
 pending_after k [] (node ∷ nodes) = None
 pending_after k (st ∷ states) (node ∷ nodes) =
-    opened_then (opens k st node)
+    opened_then (opened_by k st node)
     (λ (q : Opened). pending_after (suc k) (q.states ++ states) nodes)
 
 -- each copy before its loop, the four loops, and the body of the base; fifteen turns and what is

@@ -6,7 +6,7 @@ use Rattle.sm_term.specs.Fresh.{AreFormsBelow}
 use Rattle.sm_plan.specs.Copies.{Copies, subsets}
 use Rattle.sm_plan.specs.Masks.{mask_of, set_of}
 use Rattle.sm_plan.specs.States.{State, start_state}
-use Rattle.sm_plan.specs.Nodes.{Node, Opened, opens, IsFreshAt}
+use Rattle.sm_plan.specs.Nodes.{Node, Opened, opened_by, IsFreshAt}
 use Rattle.sm_plan.specs.Plans.{Plan, nodes_of, Due, IsFresh, obligations, AllValid, AllDischarged}
 use Rattle.sm_plan.specs.NodeLists.{NodesProve, start_pending}
 use Rattle.sm_plan.specs.SoundStates.{IsSound, AreSound, IsStateBelow, AreStatesBelow}
@@ -17,7 +17,7 @@ NodeIsSound =
     (k : ℕ) (st : State) (node : Node) (q : Opened) →
     IsStateBelow k st →
     IsFreshAt k node →
-    opens k st node ≡ Some q →
+    opened_by k st node ≡ Some q →
     AllValid st.facts q.goals →
     AreSound q.states →
     IsSound st
@@ -28,7 +28,7 @@ NodeStaysBelow =
     (k : ℕ) (st : State) (node : Node) (q : Opened) →
     IsStateBelow k st →
     IsFreshAt k node →
-    opens k st node ≡ Some q →
+    opened_by k st node ≡ Some q →
     AreStatesBelow (suc k) q.states
 
 -- nor do its goals
@@ -37,7 +37,7 @@ NodeGoalsBelow =
     (k : ℕ) (st : State) (node : Node) (q : Opened) →
     IsStateBelow k st →
     IsFreshAt k node →
-    opens k st node ≡ Some q →
+    opened_by k st node ≡ Some q →
     AreFormsBelow (suc k) q.goals
 
 -- the start of a task names no new value

@@ -6,7 +6,7 @@ use Rattle.std.specs.Prelude.{◌≡◌, ℕ, suc, if◌then◌else◌, IsTrue, 
 use Rattle.sm_syntax.specs.claim.ConflictFree.{Task}
 use Rattle.sm_plan.specs.Limits.{is_shallow}
 use Rattle.sm_plan.specs.States.{State, start_state}
-use Rattle.sm_plan.specs.Nodes.{Node, Opened, opens, is_branching, IsFreshAt}
+use Rattle.sm_plan.specs.Nodes.{Node, Opened, opened_by, is_branching, IsFreshAt}
 use Rattle.sm_plan.specs.Plans.{AllValid}
 
 -- a state that waits for its node, and how many branching nodes stand above that node
@@ -40,7 +40,7 @@ NodesProve k (p ∷ pending) [] = ⊥
 NodesProve k (p ∷ pending) (node ∷ nodes) =
     let above = above_opened node p.above in
     (q : Opened)
-    × (opens k p.state node ≡ Some q)
+    × (opened_by k p.state node ≡ Some q)
     × IsTrue (is_shallow above)
     × IsFreshAt k node
     × AllValid p.state.facts q.goals

@@ -70,13 +70,13 @@ both_ways st c (While b body k) = None
 both_ways st c (Hole h k) = None
 
 -- the node with number k at a state: what it asks and opens, or nothing where its condition fails
-abbrev pub opens : ℕ → State → Node → Option Opened
-opens k st (Step c) = after_step st c (next.stepped (st.rest c) (st.stores c))
-opens k st (Abs c n) =
+abbrev pub opened_by : ℕ → State → Node → Option Opened
+opened_by k st (Step c) = after_step st c (next.stepped (st.rest c) (st.stores c))
+opened_by k st (Abs c n) =
     where_true (nat_le 1 n && is_long n (st.rest c))
     (follows (next.summary_state st c (front n (st.rest c)) (rest_after n (st.rest c)) ∷ []))
-opens k st (Fork c) = both_ways st c (st.rest c)
-opens k st (Loop set keep) =
+opened_by k st (Fork c) = both_ways st c (st.rest c)
+opened_by k st (Loop set keep) =
     let have_loops = each (λ (c : Copy). not (has set c) || is_loop (st.rest c)) in
     let turns = map (next.turn_state st k set keep) (subsets set) in
     where_true (is_inhabited set && (have_loops && is_kept keep))
@@ -84,14 +84,14 @@ opens k st (Loop set keep) =
       goals = all_at_stores st.stores (conj keep);
       states = turns ++ next.after_loops_state st k set keep ∷ [];
     })
-opens k st (Block counts keep) =
+opened_by k st (Block counts keep) =
     where_true (each (λ (c : Copy). is_long (counts c) (st.rest c)) && is_kept keep)
     (follows (next.inner_state st counts keep ∷ next.after_block_state st k counts keep ∷ []))
-opens k st Dead = Some (asks (No ∷ []))
-opens k st Ends =
+opened_by k st Dead = Some (asks (No ∷ []))
+opened_by k st Ends =
     where_true (each (λ (c : Copy). is_over (st.rest c)))
     (asks (all_at_stores st.stores st.target))
-opens k st (Unfit rule) = None
+opened_by k st (Unfit rule) = None
 
 -- the kept formula names no new value of node k or of a later one
 abbrev pub IsFreshAt : ℕ → Node → Type 0

@@ -5,7 +5,7 @@ use Rattle.sm_syntax.specs.claim.ConflictFree.{Task}
 use Rattle.sm_term.specs.Assertions.{Assertion, IsValid}
 use Rattle.sm_plan.specs.Limits.{is_shallow}
 use Rattle.sm_plan.specs.States.{State, start_state}
-use Rattle.sm_plan.specs.Nodes.{Node, Opened, opens, IsFreshAt, rule_of, is_branching, is_end}
+use Rattle.sm_plan.specs.Nodes.{Node, Opened, opened_by, IsFreshAt, rule_of, is_branching, is_end}
 
 mutual
   -- a node, and a plan for each state that it opens, in order
@@ -100,7 +100,7 @@ abbrev mutual
   pub expand : ℕ → State → Plan → Result (List Due) Fault
   expand k st (At node ps) =
       let w = Wrong k (rule_of node) in
-      opened (opens k st node) w
+      opened (opened_by k st node) w
       (λ (q : Opened).
       if count ps == length q.states
       then joined (Ok (due k st node q.goals)) (expand_all w (suc k) q.states ps)
