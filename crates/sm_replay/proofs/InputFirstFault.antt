@@ -12,7 +12,7 @@ use Rattle.sm_eval.specs.Slots.{meaning, sorts_of}
 use Rattle.sm_replay.specs.declared.error.InputError.{InputError}
 use Rattle.sm_replay.specs.declared.error.InputError.TheVariants.{BadJson, NotObject, UnknownKey, BadValue, BadIndex, Memory}
 use Rattle.sm_replay.specs.Input.{Texts, name_of, declared_name, missing, cells_fault, array_fault, value_fault, members_fault, input_fault, store_of, IsJson, Reads, reported}
-use Rattle.sm_replay.specs.Number.{number_of_text, number_of}
+use Rattle.sm_replay.specs.Number.{number_of_text, json_number}
 
 -- an error that was reported is the fault
 pub reported_err : (o : Option InputError) (e : InputError) → Err e ≡ reported o → o ≡ Some e
@@ -41,7 +41,7 @@ of_cells : (x : ℕ) (ms : Members) → IsOfMembers (cells_fault x ms)
 of_cells x no_members = tt
 of_cells x (member key d rest) =
     either (missing (number_of_text key) (BadIndex (name_of x))) _ (of_missing (number_of_text key) (BadIndex (name_of x)) tt)
-    (either (missing (number_of d) (BadValue (name_of x))) _ (of_missing (number_of d) (BadValue (name_of x)) tt) (of_cells x rest))
+    (either (missing (json_number d) (BadValue (name_of x))) _ (of_missing (json_number d) (BadValue (name_of x)) tt) (of_cells x rest))
 
 of_array : (x : ℕ) (o : Option Members) → IsOfMembers (array_fault x o)
 of_array x None = tt
@@ -49,7 +49,7 @@ of_array x (Some ms) = of_cells x ms
 
 of_value : (o : Option (ℕ × Sort)) (d : Data) → IsOfMembers (value_fault o d)
 of_value None d = tt
-of_value (Some (x, Num)) d = of_missing (number_of d) (BadValue (name_of x)) tt
+of_value (Some (x, Num)) d = of_missing (json_number d) (BadValue (name_of x)) tt
 of_value (Some (x, Arr)) d = of_array x (as_object d)
 
 of_members : (names : Texts) (sorts : Sorts) (ms : Members) → IsOfMembers (members_fault names sorts ms)

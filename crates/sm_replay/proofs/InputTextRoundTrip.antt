@@ -30,7 +30,7 @@ use Rattle.sm_replay.specs.declared.error.InputError.{InputError}
 use Rattle.sm_replay.specs.declared.error.InputError.TheVariants.{BadValue, BadIndex}
 use Rattle.sm_replay.specs.Input.{Texts, name_of, declared_name, missing, cells_fault, value_fault, members_fault, number_or_zero, element, given, member_of, store_of, IsJson, IsInput}
 use Rattle.sm_replay.specs.Members.{IsInside, IsInsideAt, AreInside}
-use Rattle.sm_replay.specs.Number.{number_of_text, number_of}
+use Rattle.sm_replay.specs.Number.{number_of_text, json_number}
 use Rattle.sm_replay.specs.InputText.{StandsBefore, AreOrdered, number_text, cell_at, AreWrittenCells, IsWrittenAs, IsMemberOf, AreWritten, AreNamed}
 use Rattle.sm_replay.proofs.MembersLemmas.{by_place}
 use Rattle.sm_replay.proofs.NumberUnique.{spells_itself}
@@ -92,15 +92,15 @@ all_cells : (f : ℤ → ℤ) (cells : Members) → AreWrittenCells f cells → 
 all_cells f cells written = all_found (IsCell f) cells written.ordered (λ (key : List ℕ) (d : Data) (found : get_member key cells ≡ Some d). cell_is f key d (number_of_text key) refl (sym (written.each key) ∙ found))
 
 -- a written number is read
-number_back : (z : ℤ) → fits z ≡ true → number_of (number_text z) ≡ Some z
+number_back : (z : ℤ) → fits z ≡ true → json_number (number_text z) ≡ Some z
 number_back z room = spells_itself z room
 
 -- cells have no fault
 cells_faultless : (x : ℕ) (f : ℤ → ℤ) (cells : Members) → IsInside (Array f) → AllMembers (IsCell f) cells → cells_fault x cells ≡ None
 cells_faultless x f no_members inside all = refl
 cells_faultless x f (member key d rest) inside all =
-    ap (λ (o : Option ℤ). option_or (missing o (BadIndex (name_of x))) (option_or (missing (number_of d) (BadValue (name_of x))) (cells_fault x rest))) all.0.key_is
-    ∙ ap (λ (o : Option ℤ). option_or (missing o (BadValue (name_of x))) (cells_fault x rest)) (ap number_of all.0.value_is ∙ number_back (f all.0.index) (inside all.0.index).0)
+    ap (λ (o : Option ℤ). option_or (missing o (BadIndex (name_of x))) (option_or (missing (json_number d) (BadValue (name_of x))) (cells_fault x rest))) all.0.key_is
+    ∙ ap (λ (o : Option ℤ). option_or (missing o (BadValue (name_of x))) (cells_fault x rest)) (ap json_number all.0.value_is ∙ number_back (f all.0.index) (inside all.0.index).0)
     ∙ cells_faultless x f rest inside all.1
 
 -- the number at an index of cells that were written
@@ -140,7 +140,7 @@ value_faultless : (x : ℕ) (sort : Sort) (v : Value) (d : Data) → IsOfSort (S
 value_faultless x Num v d of_sort inside written =
     let room : fits of_sort.0 ≡ true = subst IsInside of_sort.1 inside in
     let is : d ≡ number_text of_sort.0 = subst (λ (w : Value). IsWrittenAs w d) of_sort.1 written in
-    ap (λ (o : Option ℤ). missing o (BadValue (name_of x))) (ap number_of is ∙ number_back of_sort.0 room)
+    ap (λ (o : Option ℤ). missing o (BadValue (name_of x))) (ap json_number is ∙ number_back of_sort.0 room)
 value_faultless x Arr v d of_sort inside written =
     let room : IsInside (Array of_sort.0) = subst IsInside of_sort.1 inside in
     let is : IsWrittenAs (Array of_sort.0) d = subst (λ (w : Value). IsWrittenAs w d) of_sort.1 written in
@@ -151,7 +151,7 @@ value_back : (sort : Sort) (v : Value) (d : Data) → IsOfSort (Some sort) v →
 value_back Num v d of_sort inside written =
     let room : fits of_sort.0 ≡ true = subst IsInside of_sort.1 inside in
     let is : d ≡ number_text of_sort.0 = subst (λ (w : Value). IsWrittenAs w d) of_sort.1 written in
-    ap (λ (o : Option ℤ). Number (unwrap_or o (pos 0))) (ap number_of is ∙ number_back of_sort.0 room) ∙ sym of_sort.1
+    ap (λ (o : Option ℤ). Number (unwrap_or o (pos 0))) (ap json_number is ∙ number_back of_sort.0 room) ∙ sym of_sort.1
 value_back Arr v d of_sort inside written =
     let room : IsInside (Array of_sort.0) = subst IsInside of_sort.1 inside in
     let is : IsWrittenAs (Array of_sort.0) d = subst (λ (w : Value). IsWrittenAs w d) of_sort.1 written in

@@ -30,7 +30,7 @@ use Rattle.sm_replay.specs.Input.{Texts, declared_name, IsJson}
 use Rattle.sm_replay.specs.Members.{IsInside, IsInsideAt, AreInside}
 use Rattle.sm_replay.specs.Number.{number_of_text}
 use Rattle.sm_replay.specs.Members.{Writes}
-use Rattle.sm_replay.specs.InputText.{StandsBefore, AreOrdered, number_text, cell_text, cell_at, AreWrittenCells, IsMemberOf, AreWritten}
+use Rattle.sm_replay.specs.InputText.{StandsBefore, AreOrdered, number_text, nonzero_text, cell_at, AreWrittenCells, IsMemberOf, AreWritten}
 use Rattle.sm_replay.proofs.UpdatesSound.{numbered}
 use Rattle.sm_replay.proofs.MembersLemmas.{by_place}
 use Rattle.sm_replay.proofs.NumberUnique.{spells_itself, spelled_back}
@@ -99,7 +99,7 @@ differ i j other = by (int_eq i j) (Decides-int_eq i j).0
 -- a cell of another index is passed
 cell_passed : (c : ℤ × ℤ) (rest : List (ℤ × ℤ)) (n : Option ℤ) → (n ≡ Some c.0 → ⊥) → cell_at (listed rest) n ≡ cell_at (listed (c ∷ rest)) n
 cell_passed c rest None other = refl
-cell_passed c rest (Some i) other = ap (λ (b : Bool). cell_text (if b then c.1 else listed rest i)) (sym (differ i c.0 (λ (same : i ≡ c.0). other (ap Some same))))
+cell_passed c rest (Some i) other = ap (λ (b : Bool). nonzero_text (if b then c.1 else listed rest i)) (sym (differ i c.0 (λ (same : i ≡ c.0). other (ap Some same))))
 
 -- one cell more
 cell_step : (list : List (ℤ × ℤ)) (c : ℤ × ℤ) (rest : List (ℤ × ℤ)) (old new : Members) → IsInsideCell c → listed list c.0 ≡ c.1 → c.1 ≢ pos 0
@@ -110,7 +110,7 @@ cell_step list c rest old new room has some is w = record {
   inside = λ (all : AllByRecursion IsInsideCell rest). w.inside (room, all);
 }
   where
-    nonzero : cell_text c.1 ≡ Some (number_text c.1)
+    nonzero : nonzero_text c.1 ≡ Some (number_text c.1)
     nonzero = ap (λ (b : Bool). if b then None else Some (number_text c.1)) (differ c.1 (pos 0) some)
 
     by : (key : List ℕ) (b : Bool) → bytes_eq key (signed_decimal c.0) ≡ b
@@ -121,7 +121,7 @@ cell_step list c rest old new room has some is w = record {
         inl (ap (get_member key) is
         ∙ ap (λ (k : List ℕ). get_member k (put (signed_decimal c.0) (number_text c.1) old)) text
         ∙ get_member-put (signed_decimal c.0) (number_text c.1) old
-        ∙ sym (ap (cell_at (listed list)) (ap number_of_text text ∙ spells_itself c.0 room.0) ∙ ap cell_text has ∙ nonzero))
+        ∙ sym (ap (cell_at (listed list)) (ap number_of_text text ∙ spells_itself c.0 room.0) ∙ ap nonzero_text has ∙ nonzero))
     by key false same =
         let other : key ≡ signed_decimal c.0 → ⊥ = λ (t : key ≡ signed_decimal c.0). true≢false (sym ((bytes_eq-Decides key (signed_decimal c.0)).1 t) ∙ same) in
         let kept : get_member key new ≡ get_member key old = ap (get_member key) is ∙ get_member-put_other key (signed_decimal c.0) (number_text c.1) old other in

@@ -13,7 +13,7 @@ use Rattle.sm_syntax.specs.claim.Stores.{Value, Number, Array, Store}
 use Rattle.sm_eval.specs.declared.store.Store as code
 use Rattle.sm_replay.specs.declared.error.InputError.{InputError}
 use Rattle.sm_replay.specs.declared.error.InputError.TheVariants.{BadJson, NotObject, UnknownKey, BadValue, BadIndex, Memory}
-use Rattle.sm_replay.specs.Input.{Texts, declared_name, input_fault, store_of, IsJson, IsInput, IsRefused, Reads}
+use Rattle.sm_replay.specs.Input.{Texts, declared_name, input_fault, store_of, IsJson, IsInput, IsRefusedInput, Reads}
 use Rattle.sm_replay.specs.Laws.{ReadingIsOne, WrittenTextIsOne}
 use Rattle.sm_replay.specs.InputText.{StandsBefore, AreOrdered, IsWrittenAs, IsMemberOf}
 use Rattle.sm_replay.proofs.InputTextRoundTrip.{same_text, before_all}
@@ -97,7 +97,7 @@ json_one bytes d e p q = let both : Some d ≡ Some e = sym p.value ∙ q.value 
 module _ (names : Texts) (sorts : Sorts) (bytes : List ℕ) where
   -- the bytes aren't JSON, or there is a first refusal
   abbrev pub Refuses : InputError → Type 0
-  Refuses e = ((e ≡ BadJson) × ((d : Data) → ¬ IsJson bytes d)) ⊎ IsRefused names sorts bytes e
+  Refuses e = ((e ≡ BadJson) × ((d : Data) → ¬ IsJson bytes d)) ⊎ IsRefusedInput names sorts bytes e
 
   refuses : (e : InputError) → e ≢ Memory → Reads names sorts bytes (Err e) → Refuses e
   refuses BadJson known r = inl (refl, r)

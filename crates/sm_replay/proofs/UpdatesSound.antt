@@ -20,7 +20,7 @@ use Rattle.sm_eval.specs.declared.slot.Slot.{Slot}
 use Rattle.sm_eval.specs.declared.slot.Slot.TheVariants as slot
 use Rattle.sm_eval.specs.declared.store.Store as code
 use Rattle.sm_eval.specs.Slots.{held, sort, slot_of, meaning, sorts_of, with_cell}
-use Rattle.sm_replay.specs.Updates.{Gives, Lists, Overrides}
+use Rattle.sm_replay.specs.Updates.{GivesValue, Lists, Overrides}
 
 -- a name has its value, or else 0 and is still declared in the rest
 pub record Filling (sorts : Sorts) (start goal : ℕ → Value) (rest : List (ℕ × Sort)) (s : Store) : Type 0 where
@@ -32,7 +32,7 @@ numbered list = map (λ (e : Name × Sort). (e.0.0, e.1)) list
 
 -- the next name
 step : (sorts : Sorts) (start goal : ℕ → Value) (d : ℕ × Sort) (rest : List (ℕ × Sort)) (old new : Store)
-    → Filling sorts start goal (d ∷ rest) old → Gives (start d.0) (goal d.0) d.0 old new → Filling sorts start goal rest new
+    → Filling sorts start goal (d ∷ rest) old → GivesValue (start d.0) (goal d.0) d.0 old new → Filling sorts start goal rest new
 step sorts start goal d rest old new f g =
     let here : new d.0 ≡ goal d.0 =
     g.here (⊎_elim (λ (e : old d.0 ≡ goal d.0). inr e) (λ (e : (old d.0 ≡ start d.0) × (sort_of (d ∷ rest) d.0 ≡ sorts d.0)). inl e.0) (f.each d.0)) in
@@ -50,7 +50,7 @@ step sorts start goal d rest old new f g =
 -- one turn of a loop over declarations
 pub turn : (sorts : Sorts) (start goal : ℕ → Value) (items : List (Name × Sort)) (i : ℕ) (d : Name × Sort) (old new : Store) → i < length items
     → Filling sorts start goal (numbered (drop i items)) old
-    → (let x = (get_or items i d).0.0 in Gives (start x) (goal x) x old new)
+    → (let x = (get_or items i d).0.0 in GivesValue (start x) (goal x) x old new)
     → Filling sorts start goal (numbered (drop (i + 1) items)) new
 turn sorts start goal items i d old new here f g =
     subst (λ (k : ℕ). Filling sorts start goal (numbered (drop k items)) new) (sym (add-one i))
@@ -68,14 +68,14 @@ pub none_filled : (declared : List (ℕ × Sort)) (start goal : ℕ → Value) (
 none_filled declared start goal s zero_there = record { each = λ (x : ℕ). inr (ap (λ (t : Store). t x) zero_there, refl) }
 
 -- nothing is given to a name whose value is 0
-pub nothing_given : (v : Value) (x : ℕ) (s : Store) → Gives v v x s s
+pub nothing_given : (v : Value) (x : ℕ) (s : Store) → GivesValue v v x s s
 nothing_given v x s = record {
   here = λ (h : (s x ≡ v) ⊎ (s x ≡ v)). ⊎_elim (λ (e : s x ≡ v). e) (λ (e : s x ≡ v). e) h;
   others = λ (y : ℕ) (other : y ≢ x). refl;
 }
 
 -- a value that was put
-pub put_gives : (start v : Value) (x : ℕ) (old new : Store) → new ≡ put old x v → Gives start v x old new
+pub put_gives : (start v : Value) (x : ℕ) (old new : Store) → new ≡ put old x v → GivesValue start v x old new
 put_gives start v x old new is = record {
   here = λ (h : (old x ≡ start) ⊎ (old x ≡ v)). ap (λ (t : Store). t x) is ∙ put_at old x v;
   others = λ (y : ℕ) (other : y ≢ x). ap (λ (t : Store). t y) is ∙ put_past old x v y other;
@@ -98,7 +98,7 @@ given_twice (Some y) z = refl
 
 -- an array of 0 alone, or that has its elements already, gets its elements
 pub overrides_give : (given : ℤ → Option ℤ) (a : ℕ) (old new : Store) → Overrides given a old new → new a ≡ Array (array (new a))
-    → Gives (Array (λ (i : ℤ). pos 0)) (Array (λ (i : ℤ). unwrap_or (given i) (pos 0))) a old new
+    → GivesValue (Array (λ (i : ℤ). pos 0)) (Array (λ (i : ℤ). unwrap_or (given i) (pos 0))) a old new
 overrides_give given a old new o is = record {
   here = λ (h : (old a ≡ Array (λ (i : ℤ). pos 0)) ⊎ (old a ≡ Array (λ (i : ℤ). unwrap_or (given i) (pos 0)))).
       is ∙ ap Array (fun_ext (λ (i : ℤ).

@@ -19,7 +19,7 @@ use Rattle.sm_replay.specs.declared.verdict.Verdict.TheVariants as verdict
 use Rattle.sm_replay.specs.Judging.{Tells}
 use Rattle.sm_replay.specs.Trials.{trial, SomeTrialMeets}
 use Rattle.sm_replay.specs.TrialJobs.{shown_of, Shows}
-use Rattle.sm_replay.specs.Verdicts.{Holds, Breaks, IsUnmet, Stops, Judges, IsViolation, cell_of}
+use Rattle.sm_replay.specs.Verdicts.{KeepsOutputs, Breaks, IsUnmet, Stops, Judges, IsViolation, cell_of}
 use Rattle.sm_replay.specs.Violations.{IsMet, AreEnds, KeepsAt, Violates}
 
 -- a run has one end
@@ -31,7 +31,7 @@ pub same_ends : (t : Task) (s : Store) (n : ℕ) (e f : Copy → Store) → AreE
 same_ends t s n e f p q = fun_ext (λ (c : Copy). same_end n (program_of t c) s (e c) (f c) (p.ends c) (q.ends c))
 
 -- where Keeps holds everywhere, nothing violates
-pub holds_calm : (t : Task) (s : Store) (n : ℕ) → Holds t s n → ¬ Violates t s n
+pub holds_calm : (t : Task) (s : Store) (n : ℕ) → KeepsOutputs t s n → ¬ Violates t s n
 holds_calm t s n h v =
     v.broken (subst (λ (end : Copy → Store). KeepsAt end v.cell) (same_ends t s n h.end v.end h.ends v.ends) (h.keeps v.cell v.output))
 

@@ -21,7 +21,7 @@ use Rattle.sm_replay.specs.declared.verdict.Verdict.TheVariants as verdict
 use Rattle.sm_replay.specs.Runs.{stop_of}
 use Rattle.sm_replay.specs.Laws.{VerdictIsOne, LeastTrialIsOne, FirstViolationIsOne}
 use Rattle.sm_replay.specs.Trials.{trial, Names}
-use Rattle.sm_replay.specs.Verdicts.{cell_of, IsBelow, FailsAt, IsFirstBreak, Holds, Breaks, IsUnmet, Stops}
+use Rattle.sm_replay.specs.Verdicts.{cell_of, IsBelow, FailsAt, IsFirstBreak, KeepsOutputs, Breaks, IsUnmet, Stops}
 use Rattle.sm_replay.specs.Violations.{assumed_event, IsMet, AreEnds, KeepsAt}
 use Rattle.sm_replay.proofs.VerdictSound.{same_ends, not_kept, holds_calm, breaks_violates}
 
@@ -139,7 +139,7 @@ module _ (t : Task) (s : Store) (n : ℕ) where
   ends_stop : (end : Copy → Store) (c : ℕ) (e : EvalError) → AreEnds (program_of t) s n end → Stops (program_of t) s n c e → ⊥
   ends_stop end c e ends st = let clash : None ≡ Some e = sym (ends.calm (copy_of c)) ∙ st.stops in cc
 
-  holds_breaks : (c : Cell) (p : ℕ) → Holds t s n → Breaks t s n c p → ⊥
+  holds_breaks : (c : Cell) (p : ℕ) → KeepsOutputs t s n → Breaks t s n c p → ⊥
   holds_breaks c p h b = holds_calm t s n h (breaks_violates t s n c p b)
 
   breaks_one : (x y : Name) (i j : Option ℤ) (p q : ℕ) → Breaks t s n (cell_of x.0 i) p → Breaks t s n (cell_of y.0 j) q → verdict.Violates x i p ≡ verdict.Violates y j q

@@ -17,7 +17,7 @@ use Rattle.sm_eval.specs.declared.store.Store as code
 use Rattle.sm_eval.specs.Slots.{meaning, sorts_of}
 use Rattle.sm_replay.specs.declared.error.InputError.{InputError}
 use Rattle.sm_replay.specs.declared.error.InputError.TheVariants.{BadJson, NotObject, UnknownKey, BadValue, BadIndex, Memory}
-use Rattle.sm_replay.specs.Number.{number_of_text, number_of}
+use Rattle.sm_replay.specs.Number.{number_of_text, json_number}
 
 -- the texts of names by their numbers
 abbrev pub Texts : Type 0
@@ -44,7 +44,7 @@ abbrev pub cells_fault : ℕ → Members → Option InputError
 cells_fault x no_members = None
 cells_fault x (member key d rest) =
     option_or (missing (number_of_text key) (BadIndex (name_of x)))
-    (option_or (missing (number_of d) (BadValue (name_of x))) (cells_fault x rest))
+    (option_or (missing (json_number d) (BadValue (name_of x))) (cells_fault x rest))
 
 -- why a value isn't that of an array
 abbrev pub array_fault : ℕ → Option Members → Option InputError
@@ -54,7 +54,7 @@ array_fault x (Some members) = cells_fault x members
 -- why a value isn't that of a declared name
 abbrev pub value_fault : Option (ℕ × Sort) → Data → Option InputError
 value_fault None d = Some UnknownKey
-value_fault (Some (x, Num)) d = missing (number_of d) (BadValue (name_of x))
+value_fault (Some (x, Num)) d = missing (json_number d) (BadValue (name_of x))
 value_fault (Some (x, Arr)) d = array_fault x (as_object d)
 
 -- the first fault of the members of an input, which stand in the order of their keys
@@ -70,7 +70,7 @@ input_fault names sorts (Some members) = members_fault names sorts members
 
 -- the number that a member gives, 0 where it isn't there
 abbrev pub number_or_zero : Option Data → ℤ
-number_or_zero d = unwrap_or (option_and_then number_of d) (pos 0)
+number_or_zero d = unwrap_or (option_and_then json_number d) (pos 0)
 
 -- the elements that an array's member gives: at an index inside 128 bits the number whose key is
 -- the index
@@ -116,7 +116,7 @@ pub record IsInput (names : Texts) (sorts : Sorts) (bytes : List ℕ) (s : code.
   pub declared : sorts_of s ≡ sorts
 
 -- the bytes are JSON, and this is the first refusal of its value
-pub record IsRefused (names : Texts) (sorts : Sorts) (bytes : List ℕ) (error : InputError)
+pub record IsRefusedInput (names : Texts) (sorts : Sorts) (bytes : List ℕ) (error : InputError)
     : Type 0 where
   pub value : Data
   pub json : IsJson bytes value
@@ -126,10 +126,10 @@ pub record IsRefused (names : Texts) (sorts : Sorts) (bytes : List ℕ) (error :
 abbrev pub Reads : Texts → Sorts → List ℕ → Result code.Store InputError → Type 0
 Reads names sorts bytes (Ok s) = IsInput names sorts bytes s
 Reads names sorts bytes (Err BadJson) = (d : Data) → ¬ IsJson bytes d
-Reads names sorts bytes (Err NotObject) = IsRefused names sorts bytes NotObject
-Reads names sorts bytes (Err UnknownKey) = IsRefused names sorts bytes UnknownKey
-Reads names sorts bytes (Err (BadValue x)) = IsRefused names sorts bytes (BadValue x)
-Reads names sorts bytes (Err (BadIndex x)) = IsRefused names sorts bytes (BadIndex x)
+Reads names sorts bytes (Err NotObject) = IsRefusedInput names sorts bytes NotObject
+Reads names sorts bytes (Err UnknownKey) = IsRefusedInput names sorts bytes UnknownKey
+Reads names sorts bytes (Err (BadValue x)) = IsRefusedInput names sorts bytes (BadValue x)
+Reads names sorts bytes (Err (BadIndex x)) = IsRefusedInput names sorts bytes (BadIndex x)
 Reads names sorts bytes (Err Memory) = Unit {0}
 
 -- a check answers that there is no fault, or which one it is

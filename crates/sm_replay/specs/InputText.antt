@@ -29,13 +29,13 @@ abbrev pub number_text : ℤ → Data
 number_text z = string (signed_decimal z)
 
 -- a number that isn't 0 as a text
-abbrev pub cell_text : ℤ → Option Data
-cell_text z = if int_eq z (pos 0) then None else Some (number_text z)
+abbrev pub nonzero_text : ℤ → Option Data
+nonzero_text z = if int_eq z (pos 0) then None else Some (number_text z)
 
 -- what a key has among the cells of an array
 abbrev pub cell_at : (ℤ → ℤ) → Option ℤ → Option Data
 cell_at f None = None
-cell_at f (Some i) = cell_text (f i)
+cell_at f (Some i) = nonzero_text (f i)
 
 -- the members are the cells of an array that don't have 0
 pub record AreWrittenCells (f : ℤ → ℤ) (cells : Members) : Type 0 where

@@ -15,10 +15,10 @@ number_of_text text =
     if fits z && bytes_eq (signed_decimal z) text then Some z else None
 
 -- the number that a value of JSON gives: an integer of 64 bits, or a text
-abbrev pub number_of : Data → Option ℤ
-number_of null = None
-number_of (boolean b) = None
-number_of (number n) = as_integer n
-number_of (string text) = number_of_text text
-number_of (array ds) = None
-number_of (object ms) = None
+abbrev pub json_number : Data → Option ℤ
+json_number null = None
+json_number (boolean b) = None
+json_number (number n) = as_integer n
+json_number (string text) = number_of_text text
+json_number (array ds) = None
+json_number (object ms) = None

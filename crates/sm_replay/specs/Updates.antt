@@ -5,7 +5,7 @@ use Rattle.std.specs.List.{Contains}
 use Rattle.sm_syntax.specs.claim.Stores.{Value, array, Store}
 
 -- a name that has 0, or the value already, gets the value; the others stay
-pub record Gives (zero value : Value) (x : ℕ) (old new : Store) : Type 0 where
+pub record GivesValue (zero value : Value) (x : ℕ) (old new : Store) : Type 0 where
   pub here : (old x ≡ zero) ⊎ (old x ≡ value) → new x ≡ value
   pub others : (y : ℕ) → y ≢ x → new y ≡ old y
 

@@ -45,7 +45,7 @@ pub record IsFirstBreak (outputs : List (ℕ × Sort)) (end : Copy → Store) (c
   pub broken : FailsAt end cell part
 
 -- the four programs end, and Keeps holds at each cell of an output
-pub record Holds (t : Task) (s : Store) (n : ℕ) : Type 0 where
+pub record KeepsOutputs (t : Task) (s : Store) (n : ℕ) : Type 0 where
   pub met : IsMet t.assumed s
   pub end : Copy → Store
   pub ends : AreEnds (program_of t) s n end
@@ -71,7 +71,7 @@ pub record Stops (program : Copy → Code) (s : Store) (n copy : ℕ) (e : EvalE
 
 -- what an answer says of a task, a start store and a bound on turns
 abbrev pub Judges : Task → Store → ℕ → Result Verdict ReplayError → Type 0
-Judges t s n (Ok verdict.Holds) = Holds t s n
+Judges t s n (Ok verdict.Holds) = KeepsOutputs t s n
 Judges t s n (Ok verdict.Unmet) = IsUnmet t.assumed s
 Judges t s n (Ok (verdict.Violates x i part)) = Breaks t s n (cell_of x.0 i) part
 Judges t s n (Err (OutOfTurns copy)) =

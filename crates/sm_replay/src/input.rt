@@ -7,9 +7,9 @@ ghost use Rattle.sm_eval.specs.Slots.{meaning, sorts_of};
 ghost use Rattle.sm_syntax.specs.text.Parts.{sort_of};
 ghost use Rattle.sm_syntax.specs.trees.Programs.{declared_of};
 ghost use Rattle.sm_eval.specs.Zeros.{zero_of, zeros};
-ghost use Rattle.sm_replay.specs.Updates.{Gives, Lists, Overrides};
+ghost use Rattle.sm_replay.specs.Updates.{GivesValue, Lists, Overrides};
 ghost use Rattle.sm_replay.specs.Input.{declared_name, missing, cells_fault, value_fault, members_fault, input_fault, number_or_zero, elements, cell_given, given, member_of, store_of, IsJson, Reads, reported};
-ghost use Rattle.sm_replay.specs.Number.{number_of_text, number_of};
+ghost use Rattle.sm_replay.specs.Number.{number_of_text, json_number};
 
 use crate::error::InputError;
 use crate::number::{number_of, number_of_text};
@@ -187,7 +187,7 @@ fn give(
 ) -> Result<(), AllocError>
     requires { sorts_of s.old x.0 ≡ sort }
     ensures value { let value = given sort (option_map (λ v. view v.now) member.entry) in
-        OnOk result (Gives (zero_of sort) value x.0 (meaning s.old) (meaning s.new)) }
+        OnOk result (GivesValue (zero_of sort) value x.0 (meaning s.old) (meaning s.new)) }
     ensures sorts { sorts_of s.new ≡ sorts_of s.old }
 {
     match sort {
@@ -206,7 +206,7 @@ fn give_sorted(
 ) -> Result<(), AllocError>
     requires { sorts_of s.old x.0 ≡ Some sort }
     ensures value { let value = given (Some sort) (option_map (λ v. view v.now) member.entry) in
-        OnOk result (Gives (zero_of (Some sort)) value x.0 (meaning s.old) (meaning s.new)) }
+        OnOk result (GivesValue (zero_of (Some sort)) value x.0 (meaning s.old) (meaning s.new)) }
     ensures sorts { sorts_of s.new ≡ sorts_of s.old }
 {
     match sort {

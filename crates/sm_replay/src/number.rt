@@ -3,7 +3,7 @@ ghost use Rattle.std.specs.Prelude.{◌≡◌};
 ghost use Rattle.std.specs.Fmt.{signed_decimal};
 ghost use Rattle.std.specs.Str.{bytes_eq};
 ghost use Rattle.serde_json.specs.View.{view};
-ghost use Rattle.sm_replay.specs.Number.{number_of_text, number_of};
+ghost use Rattle.sm_replay.specs.Number.{number_of_text, json_number};
 
 use itoa::Buffer;
 use serde_json::Value;
@@ -27,7 +27,7 @@ fn is_text_of(z: i128, text: &str) -> bool
 
 /// The number that a value of JSON gives: an integer of 64 bits, or a text.
 pub fn number_of(value: &Value) -> Option<i128>
-    ensures { result ≡ number_of (view value.now) }
+    ensures { result ≡ json_number (view value.now) }
 {
     match value.as_u64() {
         Some(n) => Some(i128::from(n)),

@@ -4,7 +4,7 @@ ghost use Rattle.sm_eval.specs.Slots.{meaning, sorts_of};
 ghost use Rattle.sm_eval.specs.Zeros.{zero_of};
 ghost use Rattle.sm_syntax.specs.text.Parts.{sort_of};
 ghost use Rattle.sm_syntax.specs.trees.Programs.{declared_of};
-ghost use Rattle.sm_replay.specs.Updates.{Gives, Overrides};
+ghost use Rattle.sm_replay.specs.Updates.{GivesValue, Overrides};
 ghost use Rattle.sm_replay.specs.Trials.{trial, number_in_trial, value_in_trial, elements_below};
 
 use sm_eval::Store;
@@ -45,7 +45,7 @@ fn later_trial(alloc: Global, task: &Task, j: u8) -> Result<Store, AllocError>
 fn give(s: &mut Store, x: Name, sort: Option<Sort>, j: u8) -> Result<(), AllocError>
     requires { sorts_of s.old x.0 ≡ sort }
     ensures value { let value = value_in_trial j x.0 sort in
-        OnOk result (Gives (zero_of sort) value x.0 (meaning s.old) (meaning s.new)) }
+        OnOk result (GivesValue (zero_of sort) value x.0 (meaning s.old) (meaning s.new)) }
     ensures sorts { sorts_of s.new ≡ sorts_of s.old }
 {
     match sort {
@@ -58,7 +58,7 @@ fn give(s: &mut Store, x: Name, sort: Option<Sort>, j: u8) -> Result<(), AllocEr
 fn give_sorted(s: &mut Store, x: Name, sort: Sort, j: u8) -> Result<(), AllocError>
     requires { sorts_of s.old x.0 ≡ Some sort }
     ensures value { let value = value_in_trial j x.0 (Some sort) in
-        OnOk result (Gives (zero_of (Some sort)) value x.0 (meaning s.old) (meaning s.new)) }
+        OnOk result (GivesValue (zero_of (Some sort)) value x.0 (meaning s.old) (meaning s.new)) }
     ensures sorts { sorts_of s.new ≡ sorts_of s.old }
 {
     match sort {
