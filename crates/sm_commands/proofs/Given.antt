@@ -25,7 +25,7 @@ use Rattle.clap.proofs.TakesLemmas.{each_rule}
 use Rattle.clap.proofs.WalkLemmas.{both, first_value-rows}
 use Rattle.clap.specs.declared.parser.matches.Found.{Found}
 use Rattle.sm_commands.specs.Command.{check_command, command_of, print_command, replay_command, required_word}
-use Rattle.sm_commands.specs.Words.{Words, HasRequired, faults_of, text_of}
+use Rattle.sm_commands.specs.Words.{Words, HasRequired, word_faults, argument_text}
 use Rattle.sm_commands.specs.declared.command.Verb.{Verb}
 use Rattle.sm_commands.specs.declared.command.Verb.TheVariants.{Check, Replay, Print}
 
@@ -110,11 +110,11 @@ given c m app k id same parsed rule read =
 
 -- what holds of the matches of a command
 pub record IsGiven (verb : Verb) (words : Words) (f : Found) : Type 0 where
-  pub texts : (id : Text) → first_value f id ≡ text_of verb id words
+  pub texts : (id : Text) → first_value f id ≡ argument_text verb id words
   pub required : HasRequired verb (first_value f)
 
 is_given : (c : Command) (m : ArgMatches) (verb : Verb) (words : Words) → app_of c ≡ command_of verb → IsParsedFrom c m → rows_of (found_of m) ≡ matches_of (command_of verb) words → HasRequired verb (first_value (found_of m)) → IsGiven verb words (found_of m)
-unfolding text_of
+unfolding argument_text
 is_given c m verb words same parsed rows required = record {
   texts = λ id. first_value-rows (found_of m) id ∙ ap (first_of id) rows;
   required = required;
@@ -135,8 +135,8 @@ is_free Print = refl
 
 -- what a parse gives, at the command of a word
 pub parses : (c : Command) (verb : Verb) (words : Words) (r : Result ArgMatches Error) → app_of c ≡ command_of verb → IfOk r (IsParsedFrom c) → IfOk r (HasMatchesOf (app_of c) words) →
-    (is_simple_and_free (app_of c) ≡ true → FailsBy (fault_of (app_of c) words) r) → MatchResult r (λ m. (faults_of verb words ≡ []) × IsGiven verb words (found_of m)) (λ e. kind_of e ≢ OutOfMemory → faults_of verb words ≢ [])
-unfolding faults_of
+    (is_simple_and_free (app_of c) ≡ true → FailsBy (fault_of (app_of c) words) r) → MatchResult r (λ m. (word_faults verb words ≡ []) × IsGiven verb words (found_of m)) (λ e. kind_of e ≢ OutOfMemory → word_faults verb words ≢ [])
+unfolding word_faults
 parses c verb words (Ok m) same parsed matches fails =
     let free : is_simple_and_free (app_of c) ≡ true = ap is_simple_and_free same ∙ is_free verb in (
       ap (λ a. fault_of a words) (sym same) ∙ fails free,

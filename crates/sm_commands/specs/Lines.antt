@@ -43,16 +43,16 @@ list_word (suc (suc (suc zero))) = codes "candidate"
 list_word (suc (suc (suc (suc n)))) = codes "shared"
 
 -- what is refused at a place of the text
-abbrev pub at_place : List ℕ → ℕ → List ℕ
-at_place kind place = line_of (codes "Refused") (kind ∷ decimal place ∷ [])
+abbrev pub line_at_place : List ℕ → ℕ → List ℕ
+line_at_place kind place = line_of (codes "Refused") (kind ∷ decimal place ∷ [])
 
 -- what is refused at a hole
-abbrev pub at_hole : List ℕ → ℕ → ℕ → List ℕ
-at_hole kind list hole = line_of (codes "Refused") (kind ∷ list_word list ∷ decimal hole ∷ [])
+abbrev pub line_at_hole : List ℕ → ℕ → ℕ → List ℕ
+line_at_hole kind list hole = line_of (codes "Refused") (kind ∷ list_word list ∷ decimal hole ∷ [])
 
 -- what is refused at a name
-abbrev pub at_name : List ℕ → List (List ℕ) → Name → List ℕ
-at_name kind names x = line_of (codes "Refused") (kind ∷ name_text names x.0 ∷ [])
+abbrev pub line_at_name : List ℕ → List (List ℕ) → Name → List ℕ
+line_at_name kind names x = line_of (codes "Refused") (kind ∷ name_text names x.0 ∷ [])
 
 -- what is refused as a whole
 abbrev pub as_whole : List ℕ → List ℕ
@@ -60,18 +60,18 @@ as_whole kind = line_of (codes "Refused") (kind ∷ [])
 
 -- the line on a text that is no task, by the texts of its names; want of memory has none
 abbrev pub refusal_line : List (List ℕ) → TaskError → List ℕ
-refusal_line names (BadByte place) = at_place (codes "BadByte") place
-refusal_line names (WideNumber place) = at_place (codes "WideNumber") place
-refusal_line names (BadToken place) = at_place (codes "BadToken") place
-refusal_line names (Expected place) = at_place (codes "Expected") place
-refusal_line names (Nested place) = at_place (codes "Nested") place
-refusal_line names (MissingFilling list hole) = at_hole (codes "MissingFilling") list hole
-refusal_line names (UnknownHole list hole) = at_hole (codes "UnknownHole") list hole
-refusal_line names (DoubleHole list hole) = at_hole (codes "DoubleHole") list hole
-refusal_line names (HoleInFilling list hole) = at_hole (codes "HoleInFilling") list hole
-refusal_line names (UnknownName x) = at_name (codes "UnknownName") names x
-refusal_line names (WrongSort x) = at_name (codes "WrongSort") names x
-refusal_line names (DoubleName x) = at_name (codes "DoubleName") names x
+refusal_line names (BadByte place) = line_at_place (codes "BadByte") place
+refusal_line names (WideNumber place) = line_at_place (codes "WideNumber") place
+refusal_line names (BadToken place) = line_at_place (codes "BadToken") place
+refusal_line names (Expected place) = line_at_place (codes "Expected") place
+refusal_line names (Nested place) = line_at_place (codes "Nested") place
+refusal_line names (MissingFilling list hole) = line_at_hole (codes "MissingFilling") list hole
+refusal_line names (UnknownHole list hole) = line_at_hole (codes "UnknownHole") list hole
+refusal_line names (DoubleHole list hole) = line_at_hole (codes "DoubleHole") list hole
+refusal_line names (HoleInFilling list hole) = line_at_hole (codes "HoleInFilling") list hole
+refusal_line names (UnknownName x) = line_at_name (codes "UnknownName") names x
+refusal_line names (WrongSort x) = line_at_name (codes "WrongSort") names x
+refusal_line names (DoubleName x) = line_at_name (codes "DoubleName") names x
 refusal_line names TooDeep = as_whole (codes "TooDeep")
 refusal_line names TooMany = as_whole (codes "TooMany")
 refusal_line names Memory = []
@@ -138,6 +138,6 @@ abbrev pub input_refusal_line : List (List ℕ) → InputError → List ℕ
 input_refusal_line names no_input.BadJson = as_whole (codes "BadJson")
 input_refusal_line names no_input.NotObject = as_whole (codes "NotObject")
 input_refusal_line names no_input.UnknownKey = as_whole (codes "UnknownKey")
-input_refusal_line names (no_input.BadValue x) = at_name (codes "BadValue") names x
-input_refusal_line names (no_input.BadIndex x) = at_name (codes "BadIndex") names x
+input_refusal_line names (no_input.BadValue x) = line_at_name (codes "BadValue") names x
+input_refusal_line names (no_input.BadIndex x) = line_at_name (codes "BadIndex") names x
 input_refusal_line names no_input.Memory = []

@@ -5,16 +5,16 @@ use Rattle.sm_commands.specs.declared.status.Status.{Status}
 use Rattle.sm_commands.specs.declared.status.Status.TheVariants as status
 
 -- the number of a status
-abbrev pub number_of : Status → ℕ
-number_of status.Accepted = 0
-number_of status.Conflict = 1
-number_of status.Unknown = 2
-number_of status.Refused = 3
-number_of status.Usage = 4
-number_of status.ReadFault = 5
-number_of status.Memory = 6
-number_of status.WriteFault = 7
-number_of status.SinkFault = 8
+abbrev pub status_number : Status → ℕ
+status_number status.Accepted = 0
+status_number status.Conflict = 1
+status_number status.Unknown = 2
+status_number status.Refused = 3
+status_number status.Usage = 4
+status_number status.ReadFault = 5
+status_number status.Memory = 6
+status_number status.WriteFault = 7
+status_number status.SinkFault = 8
 
 -- the reply has this status, with this text
 pub record Says (wanted : Status) (line : List ℕ) (status : Status) (text : List ℕ) : Type 0 where

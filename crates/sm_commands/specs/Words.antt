@@ -25,27 +25,27 @@ verb_of word =
     (if bytes_eq word (codes "print") then Some Print else None))
 
 -- what `clap` finds wrong with the words of a command: nothing where the command takes them
-unfoldable pub faults_of : Verb → Words → Kinds
-faults_of verb words = fault_of (command_of verb) words
+unfoldable pub word_faults : Verb → Words → Kinds
+word_faults verb words = fault_of (command_of verb) words
 
 -- the text that the words give for an argument of a command
-unfoldable pub text_of : Verb → Text → Words → Option Text
-text_of verb id words = first_of id (matches_of (command_of verb) words)
+unfoldable pub argument_text : Verb → Text → Words → Option Text
+argument_text verb id words = first_of id (matches_of (command_of verb) words)
 
 -- whether a text is one to ten digits
 abbrev pub is_number : Text → Bool
 is_number text = all_ascii_digits text && (nat_le 1 (length text) && nat_le (length text) 10)
 
 -- the number that a text spells, where its value lies between the least and the greatest
-abbrev pub number_of : ℕ → ℕ → Text → Option ℕ
-number_of least most text =
+abbrev pub spelled_number : ℕ → ℕ → Text → Option ℕ
+spelled_number least most text =
     let n = digits_value 10 text in
     if is_number text && (nat_le least n && nat_le n most) then Some n else None
 
 -- the number of an option: where the option isn't there, its default
 abbrev pub number_or : ℕ → ℕ → ℕ → Option Text → Option ℕ
 number_or default least most None = Some default
-number_or default least most (Some text) = number_of least most text
+number_or default least most (Some text) = spelled_number least most text
 
 -- how many turns a loop may take, by the option's text
 abbrev pub turns_by : Option Text → Option ℕ
@@ -62,15 +62,17 @@ HasBadNumber turns workers = (turns_by turns ≡ None) ⊎ (workers_by workers �
 -- a number among the words of a command isn't one, or isn't in its range
 abbrev pub HasBadOption : Verb → Words → Type 0
 HasBadOption Check words =
-    HasBadNumber (text_of Check (codes "turns") words) (text_of Check (codes "workers") words)
+    HasBadNumber (argument_text Check (codes "turns") words)
+    (argument_text Check (codes "workers") words)
 HasBadOption Replay words =
-    HasBadNumber (text_of Replay (codes "turns") words) (text_of Replay (codes "workers") words)
+    HasBadNumber (argument_text Replay (codes "turns") words)
+    (argument_text Replay (codes "workers") words)
 HasBadOption Print words = ⊥
 
 -- the words are none of the command's: `clap` refuses them, or a number isn't one
 abbrev pub IsRefused : Option Verb → Words → Type 0
 IsRefused None words = Unit {0}
-IsRefused (Some verb) words = (faults_of verb words ≢ []) ⊎ HasBadOption verb words
+IsRefused (Some verb) words = (word_faults verb words ≢ []) ⊎ HasBadOption verb words
 
 -- no command takes the words
 abbrev pub IsUsage : Words → Type 0
@@ -114,12 +116,13 @@ print_by task = option_map (λ (t : Text). print t) task
 -- what a command asks for by its words
 abbrev pub asked_by : Verb → Words → Option Asked
 asked_by Check words =
-    check_by (text_of Check (codes "TASK") words)
-    (text_of Check (codes "turns") words) (text_of Check (codes "workers") words)
+    check_by (argument_text Check (codes "TASK") words)
+    (argument_text Check (codes "turns") words) (argument_text Check (codes "workers") words)
 asked_by Replay words =
-    replay_by (text_of Replay (codes "TASK") words) (text_of Replay (codes "INPUT") words)
-    (text_of Replay (codes "turns") words) (text_of Replay (codes "workers") words)
-asked_by Print words = print_by (text_of Print (codes "TASK") words)
+    replay_by (argument_text Replay (codes "TASK") words)
+    (argument_text Replay (codes "INPUT") words)
+    (argument_text Replay (codes "turns") words) (argument_text Replay (codes "workers") words)
+asked_by Print words = print_by (argument_text Print (codes "TASK") words)
 
 -- the value where there is no fault
 abbrev pub unless : {X Y : Type 0} → List X → Option Y → Option Y
@@ -136,7 +139,7 @@ HasRequired Print given = is_some (given (codes "TASK")) ≡ true
 -- what the words ask for, where the command takes them
 abbrev pub asked_where : Option Verb → Words → Option Asked
 asked_where None words = None
-asked_where (Some verb) words = unless (faults_of verb words) (asked_by verb words)
+asked_where (Some verb) words = unless (word_faults verb words) (asked_by verb words)
 
 -- what the words ask for; nothing where no command takes them
 abbrev pub asked : Words → Option Asked

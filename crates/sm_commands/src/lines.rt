@@ -2,10 +2,11 @@
 ghost use Rattle.std.specs.Prelude.{◌≡◌, ◌≢◌, [], ◌∷◌, ◌++◌, Err, map, codes, decimal, IfOk, OnOk};
 ghost use Rattle.std.specs.Fmt.{signed_decimal};
 ghost use Rattle.std.specs.String.{string_bytes};
-ghost use Rattle.sm_commands.specs.Lines.{line_of, name_text, list_word, at_hole, at_place};
+ghost use Rattle.sm_commands.specs.Lines.{line_of, name_text, list_word};
+ghost use Rattle.sm_commands.specs.Lines.{line_at_hole, line_at_place};
 ghost use Rattle.sm_commands.specs.Lines.{refusal_line, decision_line, cell_text, input_line};
 ghost use Rattle.sm_commands.specs.Lines.{trial_line, copy_letter, op_word, verdict_line};
-ghost use Rattle.sm_commands.specs.Lines.{at_name, input_refusal_line};
+ghost use Rattle.sm_commands.specs.Lines.{line_at_name, input_refusal_line};
 
 use crate::copies::Decision;
 use itoa::Buffer;
@@ -53,7 +54,7 @@ fn list_word(list: u8) -> &'static str
 
 // What is refused at a place.
 fn at_place(alloc: Global, kind: &str, place: u64) -> Result<Vec<u8>, AllocError>
-    ensures { IfOk result (λ text. text.items ≡ at_place kind.now place) }
+    ensures { IfOk result (λ text. text.items ≡ line_at_place kind.now place) }
 {
     let mut buffer = Buffer::new();
     line(alloc, "Refused", &[kind, buffer.format(place)])
@@ -61,7 +62,7 @@ fn at_place(alloc: Global, kind: &str, place: u64) -> Result<Vec<u8>, AllocError
 
 // What is refused at a hole of a list, by the list's number.
 fn at_hole(alloc: Global, kind: &str, list: u8, hole: u32) -> Result<Vec<u8>, AllocError>
-    ensures { IfOk result (λ text. text.items ≡ at_hole kind.now list hole) }
+    ensures { IfOk result (λ text. text.items ≡ line_at_hole kind.now list hole) }
 {
     at_hole_of(alloc, kind, list_word(list), hole)
 }
@@ -77,7 +78,7 @@ fn at_hole_of(alloc: Global, kind: &str, list: &str, hole: u32) -> Result<Vec<u8
 
 // What is refused at a name.
 fn at_name(alloc: Global, kind: &str, names: &NameTable, name: Name) -> Result<Vec<u8>, AllocError>
-    ensures { IfOk result (λ text. text.items ≡ at_name kind.now names.now name) }
+    ensures { IfOk result (λ text. text.items ≡ line_at_name kind.now names.now name) }
 {
     line(alloc, "Refused", &[kind, name_text(names, name)])
 }

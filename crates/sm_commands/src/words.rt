@@ -8,9 +8,9 @@ ghost use Rattle.std.specs.String.{string_bytes};
 ghost use Rattle.clap.specs.Words.{first_value, found_of, kind_of};
 ghost use Rattle.sm_commands.specs.Views.{asked_in, HasWorkers};
 ghost use Rattle.sm_commands.specs.Words.{asked, asked_by, check_by};
-ghost use Rattle.sm_commands.specs.Words.{faults_of, is_number, number_of, number_or};
+ghost use Rattle.sm_commands.specs.Words.{word_faults, is_number, spelled_number, number_or};
 ghost use Rattle.sm_commands.specs.Words.{print_by, replay_by};
-ghost use Rattle.sm_commands.specs.Words.{text_of, turns_by, usage_line, verb_of};
+ghost use Rattle.sm_commands.specs.Words.{argument_text, turns_by, usage_line, verb_of};
 ghost use Rattle.sm_commands.specs.Words.{workers_by, HasBadNumber, HasRequired, IsRefused};
 ghost use Rattle.sm_commands.specs.Words.{IsUsage};
 ghost use Rattle.sm_commands.specs.declared.words.WordsError.TheVariants.{Memory};
@@ -105,7 +105,8 @@ fn verb_of(word: &str) -> Option<Verb>
 // What a command asks for by its words.
 fn request_by<'a>(alloc: Global, verb: Verb, words: &'a [String]) -> Result<Request<'a>, WordsError>
     ensures ok { let given = map string_bytes words.entry.now in
-        IfOk result (λ r. (faults_of verb given ≡ []) × (asked_by verb given ≡ Some (asked_in r))) }
+        IfOk result (λ r. (word_faults verb given ≡ [])
+        × (asked_by verb given ≡ Some (asked_in r))) }
     ensures usage { IsErrOf result WordsError.Usage →
         IsRefused (Some verb) (map string_bytes words.entry.now) }
     ensures workers { IfOk result HasWorkers }
@@ -174,12 +175,12 @@ fn matches_of<'a>(
     verb: Verb,
     words: &'a [String],
 ) -> Result<ArgMatches<'a>, WordsError>
-    ensures taken { IfOk result (λ _. faults_of verb (map string_bytes words.entry.now) ≡ []) }
+    ensures taken { IfOk result (λ _. word_faults verb (map string_bytes words.entry.now) ≡ []) }
     ensures texts { IfOk result (λ m. (id : List ℕ) →
-        first_value (found_of m) id ≡ text_of verb id (map string_bytes words.entry.now)) }
+        first_value (found_of m) id ≡ argument_text verb id (map string_bytes words.entry.now)) }
     ensures required { IfOk result (λ m. HasRequired verb (first_value (found_of m))) }
     ensures usage { IsErrOf result WordsError.Usage →
-        faults_of verb (map string_bytes words.entry.now) ≢ [] }
+        word_faults verb (map string_bytes words.entry.now) ≢ [] }
 {
     let command = command_of(alloc, verb)?;
     match command.try_get_matches_from(words) {
@@ -246,7 +247,7 @@ fn number_or(default: u64, least: u64, most: u64, text: Option<&str>) -> Option<
 
 // The number that a text spells, in its range.
 fn number_of(least: u64, most: u64, text: &str) -> Option<u64>
-    ensures value { result ≡ number_of least most text.now }
+    ensures value { result ≡ spelled_number least most text.now }
     ensures range { IfSome result (λ n. (least ≤ n) × (n ≤ most)) }
 {
     if !is_number(text) {
