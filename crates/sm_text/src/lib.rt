@@ -36,7 +36,9 @@ mod resolving;
 mod rules;
 
 pub use error::TextError;
-pub use laws::{declared_in_order, no_fault_in_grammar, one_first_fault, one_parse, tokens_are_cut};
+pub use laws::{
+    declared_in_order, no_fault_in_grammar, one_first_fault, one_parse, tokens_are_cut,
+};
 pub use lexing::lexer::tokens;
 pub use lexing::token_list::Tokens;
 pub use parsing::prefix::{parse_block, parse_head};
