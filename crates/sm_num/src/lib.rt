@@ -7,8 +7,10 @@
 
 mod arithmetic;
 mod error;
+mod kind;
 mod op;
 
 pub use arithmetic::{add, mul, sub};
 pub use error::NumError;
+pub use kind::Kind;
 pub use op::Op;
