@@ -2,7 +2,7 @@
 use Rattle.std.specs.Prelude.{Bool, true, false, ◌&&◌, ◌||◌, if◌then◌else◌, List, [], ◌∷◌, map}
 use Rattle.std.specs.List.{filter, flat_map}
 use Rattle.sm_syntax.specs.claim.ConflictFree.{Copy, O, A, B, M}
-use Rattle.sm_syntax.specs.text.Parts.{by_copy}
+use Rattle.sm_term.specs.SameTerms.{is_copy}
 
 -- the copies, ascending
 abbrev pub copies : List Copy
@@ -11,13 +11,6 @@ copies = O ∷ A ∷ B ∷ M ∷ []
 -- a test holds of each copy
 abbrev pub each : (Copy → Bool) → Bool
 each test = test O && (test A && (test B && test M))
-
--- whether two copies are the same
-abbrev pub is_copy : Copy → Copy → Bool
-is_copy O d = by_copy true false false false d
-is_copy A d = by_copy false true false false d
-is_copy B d = by_copy false false true false d
-is_copy M d = by_copy false false false true d
 
 -- another value for one copy
 abbrev pub with_copy : {T : Type 0} → (Copy → T) → Copy → T → Copy → T

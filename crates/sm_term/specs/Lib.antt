@@ -5,3 +5,6 @@ pub mod Symbolic
 pub mod Slots
 pub mod Fresh
 pub mod Laws
+pub mod Sorted
+pub mod SameTerms
+pub mod Heads
