@@ -1,0 +1,10 @@
+pub mod Facts
+pub mod LinearTerms
+pub mod Lines
+pub mod Equality
+pub mod Elements
+pub mod Arithmetic
+pub mod Ways
+pub mod SortedFacts
+pub mod Moved
+pub mod Laws

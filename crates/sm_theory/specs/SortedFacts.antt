@@ -1,0 +1,65 @@
+-- Cited by public clauses: facts and lines whose terms have the sorts with which they are used, and
+-- those that name only new values of nodes below a number.
+use Rattle.std.specs.Prelude.{ℕ, ℤ, List, [], ◌∷◌}
+use Rattle.sm_syntax.specs.declared.tree.Sort.TheVariants.{Num}
+use Rattle.sm_syntax.specs.text.Sorts.{Sorts}
+use Rattle.sm_term.specs.Terms.{Tree}
+use Rattle.sm_term.specs.Sorted.{IsSorted, HasSort, IsFormSorted}
+use Rattle.sm_term.specs.Fresh.{IsBelow, IsFormBelow}
+use Rattle.sm_theory.specs.Facts.{Known, Formal, Sum}
+use Rattle.sm_theory.specs.Lines.{CertificateLine, Both, Either, Cases, Order, Refl, Sym, Trans}
+use Rattle.sm_theory.specs.Lines.{Subst, Cong, Same, Apart, Hit, Miss, Lin, Elim, Tight, Close, Clash}
+
+-- something is so of the term of each part
+abbrev pub EachAtom : (Tree → Type 0) → List (Tree × ℤ) → Type 0
+EachAtom P [] = Unit {0}
+EachAtom P (p ∷ ps) = P p.0 × EachAtom P ps
+
+-- the terms of a fact are sorted, and the atoms of a form are numbers
+abbrev pub IsKnownSorted : Sorts → Known → Type 0
+IsKnownSorted sorts (Formal f) = IsFormSorted sorts f
+IsKnownSorted sorts (Sum f) = EachAtom (HasSort sorts Num) f.parts
+
+-- the same of each fact
+abbrev pub AreKnownSorted : Sorts → List Known → Type 0
+AreKnownSorted sorts [] = Unit {0}
+AreKnownSorted sorts (k ∷ ks) = IsKnownSorted sorts k × AreKnownSorted sorts ks
+
+-- a fact names no new value of node k or of a later one
+abbrev pub IsKnownBelow : ℕ → Known → Type 0
+IsKnownBelow k (Formal f) = IsFormBelow k f
+IsKnownBelow k (Sum f) = EachAtom (IsBelow k) f.parts
+
+-- the same of each fact
+abbrev pub AreKnownBelow : ℕ → List Known → Type 0
+AreKnownBelow k [] = Unit {0}
+AreKnownBelow k (f ∷ fs) = IsKnownBelow k f × AreKnownBelow k fs
+
+-- something is so of each term that a line names
+abbrev pub EachNamed : (Tree → Type 0) → CertificateLine → Type 0
+EachNamed P (Both n) = Unit {0}
+EachNamed P (Either n) = Unit {0}
+EachNamed P (Cases t u) = P t × P u
+EachNamed P (Order n) = Unit {0}
+EachNamed P (Refl t) = P t
+EachNamed P (Sym n) = Unit {0}
+EachNamed P (Trans m n) = Unit {0}
+EachNamed P (Subst m n) = Unit {0}
+EachNamed P (Cong t u ns) = P t × P u
+EachNamed P (Same t u) = P t × P u
+EachNamed P (Apart t u) = P t × P u
+EachNamed P (Hit t n) = P t
+EachNamed P (Miss t u n) = P t × P u
+EachNamed P (Lin n) = Unit {0}
+EachNamed P (Elim m n t) = P t
+EachNamed P (Tight n) = Unit {0}
+EachNamed P (Close n) = Unit {0}
+EachNamed P (Clash m n) = Unit {0}
+
+-- the terms that a line names are sorted
+abbrev pub IsLineSorted : Sorts → CertificateLine → Type 0
+IsLineSorted sorts = EachNamed (IsSorted sorts)
+
+-- the terms that a line names have no new value of node k or of a later one
+abbrev pub IsLineBelow : ℕ → CertificateLine → Type 0
+IsLineBelow k = EachNamed (IsBelow k)
