@@ -2,9 +2,13 @@ pub mod CopiesLemmas
 pub mod StatementsLemmas
 pub mod JointTurns
 pub mod BelowLemmas
+pub mod SortedTerms
+pub mod SortedCode
+pub mod SortedStates
 pub mod CopySound
 pub mod LoopsSound
 pub mod NodeSound
+pub mod NodeSorted
 pub mod PlanSound
 pub mod ExampleLemmas
 pub mod CasesLemmas

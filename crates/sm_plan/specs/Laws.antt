@@ -2,7 +2,9 @@
 use Rattle.std.specs.Prelude.{bit_and, map, ◌==◌, ◌≡◌, ℕ, suc, Some, Ok, List}
 use Rattle.std.specs.List.{filter, range_with_len}
 use Rattle.sm_syntax.specs.claim.ConflictFree.{Task, ConflictFree}
+use Rattle.sm_syntax.specs.text.Sorts.{Sorts}
 use Rattle.sm_term.specs.Fresh.{AreFormsBelow}
+use Rattle.sm_term.specs.Sorted.{AreFormsSorted}
 use Rattle.sm_plan.specs.Copies.{Copies, subsets}
 use Rattle.sm_plan.specs.Masks.{mask_of, set_of}
 use Rattle.sm_plan.specs.States.{State, start_state}
@@ -10,6 +12,7 @@ use Rattle.sm_plan.specs.Nodes.{Node, Opened, opened_by, IsFreshAt}
 use Rattle.sm_plan.specs.Plans.{Plan, nodes_of, Due, IsFresh, obligations, AllValid, AllDischarged}
 use Rattle.sm_plan.specs.NodeLists.{NodesProve, start_pending}
 use Rattle.sm_plan.specs.SoundStates.{IsSound, AreSound, IsStateBelow, AreStatesBelow}
+use Rattle.sm_plan.specs.SortedStates.{IsStateSorted, AreStatesSorted, IsNodeSorted, IsTaskSorted}
 
 -- one node: where its goals are valid and the states that it opens are sound, its own state is
 abbrev pub NodeIsSound : Type 0
@@ -93,3 +96,17 @@ SubsetsAscend =
 -- a set is that of its mask
 abbrev pub MaskIsExact : Type 0
 MaskIsExact = (set : Copies) → set_of (mask_of set) ≡ set
+
+-- sorts are kept: what a node opens at a sorted state is sorted, and so are the goals that it asks
+abbrev pub SortsAreKept : Type 0
+SortsAreKept =
+    (sorts : Sorts) (k : ℕ) (st : State) (node : Node) (q : Opened) →
+    IsStateSorted sorts st →
+    IsNodeSorted sorts node →
+    opened_by k st node ≡ Some q →
+    AreFormsSorted sorts q.goals × AreStatesSorted sorts q.states
+
+-- the start of a sorted task is sorted
+abbrev pub StartIsSorted : Type 0
+StartIsSorted =
+    (sorts : Sorts) (t : Task) → IsTaskSorted sorts t → IsStateSorted sorts (start_state t)

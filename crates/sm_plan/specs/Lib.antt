@@ -8,6 +8,7 @@ pub mod Masks
 pub mod Plans
 pub mod NodeLists
 pub mod SoundStates
+pub mod SortedStates
 pub mod Laws
 pub mod Example
 pub mod Cases

@@ -4,6 +4,7 @@ ghost use Rattle.sm_plan.specs.Example.{ExampleHolds};
 ghost use Rattle.sm_plan.specs.Laws.{NodeIsSound, NodeStaysBelow, NodeGoalsBelow, StartIsBelow};
 ghost use Rattle.sm_plan.specs.Laws.{SoundStartIsFree, PlanIsSound, NodesAreSound, PlanNodesProve};
 ghost use Rattle.sm_plan.specs.Laws.{NodesArePlan, SubsetsAscend, MaskIsExact};
+ghost use Rattle.sm_plan.specs.Laws.{SortsAreKept, StartIsSorted};
 
 /// A state is sound where a node's goals are valid and the states that it opens are sound.
 pub fn node_is_sound()
@@ -50,4 +51,11 @@ pub fn example_holds()
 /// Three cases come out as they were worked by hand.
 pub fn cases_come_out()
     ensures { CasesComeOut }
+{}
+
+/// Sorts are kept: what a node opens at a sorted state is sorted, and so are the goals that it
+/// asks. The start of a sorted task is sorted.
+pub fn sorts_are_kept()
+    ensures kept { SortsAreKept }
+    ensures start { StartIsSorted }
 {}

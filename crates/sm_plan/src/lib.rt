@@ -7,6 +7,7 @@
 //! - The same of a list of nodes that takes one pending state after another, each with the number
 //!   of branching nodes above it. The two are one: the nodes of such a plan in preorder prove the
 //!   task's start, and nodes that prove it are those of such a plan.
+//! - Sorts are kept: what a node opens at a sorted state is sorted, and so are its goals.
 //! - Both stand on one step: where a node's goals hold and the states that it opens are sound, its
 //!   own state is.
 //!
@@ -19,5 +20,5 @@ mod laws;
 
 pub use laws::{
     cases_come_out, example_holds, node_is_sound, nodes_are_plans, nodes_are_sound, plan_is_sound,
-    start_is_sound, subsets_ascend,
+    sorts_are_kept, start_is_sound, subsets_ascend,
 };
