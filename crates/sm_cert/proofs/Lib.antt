@@ -1,0 +1,2 @@
+pub mod CertificateSound
+pub mod CertificateMoves

@@ -1,0 +1,4 @@
+pub mod Certificates
+pub mod NamedTerms
+pub mod MovedTrees
+pub mod Laws
