@@ -15,7 +15,7 @@ pub record AreAlike (f g : Linear ℕ) : Type 0 where
   pub kind : f.kind ≡ g.kind
   pub constant : f.constant ≡ g.constant
   pub coefficients :
-    (t : ℕ) → coefficient same_atom t f.parts ≡ coefficient same_atom t g.parts
+      (t : ℕ) → coefficient same_atom t f.parts ≡ coefficient same_atom t g.parts
 
 -- both are forms that are alike, or both leave the range, it may be by other operations
 abbrev pub ComeOutAlike : Outcome (Linear ℕ) → Outcome (Linear ℕ) → Type 0
