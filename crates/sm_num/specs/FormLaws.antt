@@ -25,7 +25,7 @@ ComeOutAlike (Leaves op y z) (Fits g) = ⊥
 ComeOutAlike (Leaves op y z) (Leaves other v w) = Unit {0}
 
 -- the value of a form where its atoms have values
-abbrev pub value_of_form : (ℕ → ℤ) → Linear ℕ → ℤ
+abbrev pub value_of_form : {A : Type 0} → (A → ℤ) → Linear A → ℤ
 value_of_form v f = sum_of_parts v f.parts +ℤ f.constant
 
 -- by ascending atoms and in the order of the parts one form is computed, or none

@@ -8,9 +8,11 @@
 mod arithmetic;
 mod error;
 mod kind;
+mod laws;
 mod op;
 
 pub use arithmetic::{add, mul, sub};
 pub use error::NumError;
 pub use kind::Kind;
+pub use laws::combined_has_value;
 pub use op::Op;
