@@ -3,3 +3,7 @@ pub mod FormExamples
 pub mod OutcomeLemmas
 pub mod SameAtomLemmas
 pub mod FormValues
+pub mod DivisionLemmas
+pub mod EliminationSound
+pub mod TighteningSound
+pub mod EliminationParts

@@ -14,5 +14,5 @@ mod op;
 pub use arithmetic::{add, mul, sub};
 pub use error::NumError;
 pub use kind::Kind;
-pub use laws::combined_has_value;
+pub use laws::{combined_has_value, contradiction_fails, elim_holds, tighten_holds};
 pub use op::Op;
