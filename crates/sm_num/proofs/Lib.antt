@@ -6,4 +6,6 @@ pub mod FormValues
 pub mod DivisionLemmas
 pub mod EliminationSound
 pub mod TighteningSound
+pub mod ResultsReduced
+pub mod KeptLemmas
 pub mod EliminationParts

@@ -1,5 +1,5 @@
 -- Cited by public clauses: laws of linear forms, over all whole numbers.
-use Rattle.std.specs.Prelude.{◌≡◌, ◌↔◌, ℕ, ◌==◌, IsTrue, ℤ, ◌+ℤ◌, ◌*ℤ◌, Bool}
+use Rattle.std.specs.Prelude.{◌≡◌, ◌↔◌, ℕ, ◌==◌, IsTrue, ℤ, pos, ◌+ℤ◌, ◌*ℤ◌, Bool}
 use Rattle.sm_num.specs.declared.kind.Kind.{Kind}
 use Rattle.sm_num.specs.Forms.{Linear, sum_of_parts, HoldsAt, coefficient, renamed_form, IsKept}
 use Rattle.sm_num.specs.Combining.{Outcome, Fits, Leaves, then_with, combined, combination}
@@ -81,3 +81,31 @@ TightenHolds = (f : Linear ℕ) (v : ℕ → ℤ) → HoldsAt v f ↔ HoldsAt v 
 -- a contradiction never holds
 abbrev pub ContradictionFails : Type 0
 ContradictionFails = (f : Linear ℕ) (v : ℕ → ℤ) → IsTrue (is_contradictory f) → HoldsAt v f → ⊥
+
+-- what is computed of forms as the program keeps them is such a form
+abbrev pub CombinedIsKept : Type 0
+CombinedIsKept =
+    (f g h : Linear ℕ) (p q : ℤ) (kind : Kind) → IsKept f → IsKept g →
+    combined f p g q kind ≡ Fits h → IsKept h
+
+-- the same where an atom cancels
+abbrev pub ElimIsKept : Type 0
+ElimIsKept =
+    (f g h : Linear ℕ) (t : ℕ) → IsKept f → IsKept g → eliminated f g t ≡ Fits h → IsKept h
+
+-- and of tight forms
+abbrev pub TightenIsKept : Type 0
+TightenIsKept = (f : Linear ℕ) → IsKept f → IsKept (tightened f)
+
+-- the atom that cancels is gone
+abbrev pub ElimTakesAtom : Type 0
+ElimTakesAtom =
+    (f g h : Linear ℕ) (t : ℕ) → eliminated f g t ≡ Fits h →
+    coefficient same_atom t h.parts ≡ pos 0
+
+-- and no atom comes that neither form has
+abbrev pub ElimAddsNoAtom : Type 0
+ElimAddsNoAtom =
+    (f g h : Linear ℕ) (t a : ℕ) → IsKept f → IsKept g → eliminated f g t ≡ Fits h →
+    coefficient same_atom a f.parts ≡ pos 0 → coefficient same_atom a g.parts ≡ pos 0 →
+    coefficient same_atom a h.parts ≡ pos 0

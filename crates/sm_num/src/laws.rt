@@ -1,6 +1,7 @@
 // Laws of linear forms, as contracts.
 ghost use Rattle.sm_num.specs.FormLaws.{CombinedHasValue, ElimHolds, TightenHolds};
-ghost use Rattle.sm_num.specs.FormLaws.{ContradictionFails};
+ghost use Rattle.sm_num.specs.FormLaws.{ContradictionFails, CombinedIsKept, ElimIsKept};
+ghost use Rattle.sm_num.specs.FormLaws.{TightenIsKept, ElimTakesAtom, ElimAddsNoAtom};
 
 /// A sum of forms, each times a number, has the sum of their values, each times its number.
 #[tactic(auto, using(crate::proofs::FormValues::combined_value))]
@@ -24,4 +25,32 @@ pub fn tighten_holds()
 #[tactic(auto, using(crate::proofs::TighteningSound::contradictory_never))]
 pub fn contradiction_fails()
     ensures { ContradictionFails }
+{}
+
+/// The sum of kept forms is kept.
+#[tactic(auto, using(crate::proofs::KeptLemmas::combined_is_kept))]
+pub fn combined_is_kept()
+    ensures { CombinedIsKept }
+{}
+
+/// So is that in which an atom cancels.
+pub fn elim_is_kept()
+    ensures { ElimIsKept }
+{}
+
+/// A kept form made tight is kept.
+pub fn tighten_is_kept()
+    ensures { TightenIsKept }
+{}
+
+/// The atom that cancels is gone.
+#[tactic(auto, using(crate::proofs::KeptLemmas::eliminated_takes_atom))]
+pub fn elim_takes_atom()
+    ensures { ElimTakesAtom }
+{}
+
+/// No atom comes that neither form has.
+#[tactic(auto, using(crate::proofs::KeptLemmas::eliminated_adds_no_atom))]
+pub fn elim_adds_no_atom()
+    ensures { ElimAddsNoAtom }
 {}

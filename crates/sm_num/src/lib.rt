@@ -14,5 +14,8 @@ mod op;
 pub use arithmetic::{add, mul, sub};
 pub use error::NumError;
 pub use kind::Kind;
-pub use laws::{combined_has_value, contradiction_fails, elim_holds, tighten_holds};
+pub use laws::{
+    combined_has_value, combined_is_kept, contradiction_fails, elim_adds_no_atom, elim_holds,
+    elim_is_kept, elim_takes_atom, tighten_holds, tighten_is_kept,
+};
 pub use op::Op;
