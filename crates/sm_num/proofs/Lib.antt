@@ -6,6 +6,11 @@ pub mod FormValues
 pub mod DivisionLemmas
 pub mod EliminationSound
 pub mod TighteningSound
+pub mod RenamingLemmas
 pub mod ResultsReduced
 pub mod KeptLemmas
+pub mod AlikeLemmas
+pub mod AlikeDivided
+pub mod OrderLemmas
+pub mod AlikeValues
 pub mod EliminationParts

@@ -11,18 +11,18 @@ abbrev pub same_atom : ℕ → ℕ → Bool
 same_atom a b = a == b
 
 -- two forms have one kind, one constant, and the same coefficient of each atom
-pub record AreAlike (f g : Linear ℕ) : Type 0 where
+pub record AreAlike {A : Type 0} (same : A → A → Bool) (f g : Linear A) : Type 0 where
   pub kind : f.kind ≡ g.kind
   pub constant : f.constant ≡ g.constant
-  pub coefficients :
-      (t : ℕ) → coefficient same_atom t f.parts ≡ coefficient same_atom t g.parts
+  pub coefficients : (t : A) → coefficient same t f.parts ≡ coefficient same t g.parts
 
 -- both are forms that are alike, or both leave the range, it may be by other operations
-abbrev pub ComeOutAlike : Outcome (Linear ℕ) → Outcome (Linear ℕ) → Type 0
-ComeOutAlike (Fits f) (Fits g) = AreAlike f g
-ComeOutAlike (Fits f) (Leaves op y z) = ⊥
-ComeOutAlike (Leaves op y z) (Fits g) = ⊥
-ComeOutAlike (Leaves op y z) (Leaves other v w) = Unit {0}
+abbrev pub ComeOutAlike :
+    {A : Type 0} → (A → A → Bool) → Outcome (Linear A) → Outcome (Linear A) → Type 0
+ComeOutAlike same (Fits f) (Fits g) = AreAlike same f g
+ComeOutAlike same (Fits f) (Leaves op y z) = ⊥
+ComeOutAlike same (Leaves op y z) (Fits g) = ⊥
+ComeOutAlike same (Leaves op y z) (Leaves other v w) = Unit {0}
 
 -- the value of a form where its atoms have values
 abbrev pub value_of_form : {A : Type 0} → (A → ℤ) → Linear A → ℤ
@@ -32,33 +32,36 @@ value_of_form v f = sum_of_parts v f.parts +ℤ f.constant
 abbrev pub OrderDoesNotMatter : Type 0
 OrderDoesNotMatter =
     (f g : Linear ℕ) (p q : ℤ) (kind : Kind) → IsKept f → IsKept g →
-    ComeOutAlike (combined f p g q kind) (combination same_atom f p g q kind)
+    ComeOutAlike same_atom (combined f p g q kind) (combination same_atom f p g q kind)
 
 -- the same where an atom cancels
 abbrev pub OrderDoesNotMatterToElim : Type 0
 OrderDoesNotMatterToElim =
     (f g : Linear ℕ) (t : ℕ) → IsKept f → IsKept g →
-    ComeOutAlike (eliminated f g t) (elimination same_atom f g t)
+    ComeOutAlike same_atom (eliminated f g t) (elimination same_atom f g t)
 
--- atoms may be numbered anew, each by a number of its own
-abbrev pub IsRenaming : (ℕ → ℕ) → Type 0
-IsRenaming rename = (a b : ℕ) → same_atom (rename a) (rename b) ≡ same_atom a b
+-- atoms may be named anew, each by a name of its own
+abbrev pub IsRenaming :
+    {A B : Type 0} → (A → A → Bool) → (B → B → Bool) → (A → B) → Type 0
+IsRenaming {A} here there rename = (a b : A) → there (rename a) (rename b) ≡ here a b
 
 -- a form that was computed, over other atoms
-abbrev pub renamed_outcome : (ℕ → ℕ) → Outcome (Linear ℕ) → Outcome (Linear ℕ)
-renamed_outcome rename outcome = then_with outcome (λ (h : Linear ℕ). Fits (renamed_form rename h))
+abbrev pub renamed_outcome :
+    {A B : Type 0} → (A → B) → Outcome (Linear A) → Outcome (Linear B)
+renamed_outcome rename outcome = then_with outcome (λ h. Fits (renamed_form rename h))
 
 -- the sum of forms over other atoms is the sum over these, over other atoms
 abbrev pub NumberingDoesNotMatter : Type 0
 NumberingDoesNotMatter =
-    (rename : ℕ → ℕ) (f g : Linear ℕ) (p q : ℤ) (kind : Kind) → IsRenaming rename →
+    (rename : ℕ → ℕ) (f g : Linear ℕ) (p q : ℤ) (kind : Kind) →
+    IsRenaming same_atom same_atom rename →
     combination same_atom (renamed_form rename f) p (renamed_form rename g) q kind
     ≡ renamed_outcome rename (combination same_atom f p g q kind)
 
 -- the same where an atom cancels
 abbrev pub NumberingDoesNotMatterToElim : Type 0
 NumberingDoesNotMatterToElim =
-    (rename : ℕ → ℕ) (f g : Linear ℕ) (t : ℕ) → IsRenaming rename →
+    (rename : ℕ → ℕ) (f g : Linear ℕ) (t : ℕ) → IsRenaming same_atom same_atom rename →
     elimination same_atom (renamed_form rename f) (renamed_form rename g) (rename t)
     ≡ renamed_outcome rename (elimination same_atom f g t)
 

@@ -1,7 +1,33 @@
 // Laws of linear forms, as contracts.
+ghost use Rattle.sm_num.specs.FormLaws.{OrderDoesNotMatter, OrderDoesNotMatterToElim};
+ghost use Rattle.sm_num.specs.FormLaws.{NumberingDoesNotMatter, NumberingDoesNotMatterToElim};
 ghost use Rattle.sm_num.specs.FormLaws.{CombinedHasValue, ElimHolds, TightenHolds};
 ghost use Rattle.sm_num.specs.FormLaws.{ContradictionFails, CombinedIsKept, ElimIsKept};
 ghost use Rattle.sm_num.specs.FormLaws.{TightenIsKept, ElimTakesAtom, ElimAddsNoAtom};
+
+/// By ascending atoms and in the order of the parts one sum is computed, or none.
+#[tactic(auto, using(crate::proofs::OrderLemmas::combined_alike))]
+pub fn order_does_not_matter()
+    ensures { OrderDoesNotMatter }
+{}
+
+/// The same where an atom cancels.
+#[tactic(auto, using(crate::proofs::OrderLemmas::eliminated_alike))]
+pub fn order_does_not_matter_to_elim()
+    ensures { OrderDoesNotMatterToElim }
+{}
+
+/// Atoms may be numbered anew before forms are added, or after.
+#[tactic(auto, using(crate::proofs::RenamingLemmas::combination_renamed))]
+pub fn numbering_does_not_matter()
+    ensures { NumberingDoesNotMatter }
+{}
+
+/// The same where an atom cancels.
+#[tactic(auto, using(crate::proofs::RenamingLemmas::elimination_renamed))]
+pub fn numbering_does_not_matter_to_elim()
+    ensures { NumberingDoesNotMatterToElim }
+{}
 
 /// A sum of forms, each times a number, has the sum of their values, each times its number.
 #[tactic(auto, using(crate::proofs::FormValues::combined_value))]

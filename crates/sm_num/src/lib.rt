@@ -16,6 +16,7 @@ pub use error::NumError;
 pub use kind::Kind;
 pub use laws::{
     combined_has_value, combined_is_kept, contradiction_fails, elim_adds_no_atom, elim_holds,
-    elim_is_kept, elim_takes_atom, tighten_holds, tighten_is_kept,
+    elim_is_kept, elim_takes_atom, numbering_does_not_matter, numbering_does_not_matter_to_elim,
+    order_does_not_matter, order_does_not_matter_to_elim, tighten_holds, tighten_is_kept,
 };
 pub use op::Op;
