@@ -13,4 +13,5 @@ pub mod AlikeLemmas
 pub mod AlikeDivided
 pub mod OrderLemmas
 pub mod AlikeValues
+pub mod OverOtherAtoms
 pub mod EliminationParts
