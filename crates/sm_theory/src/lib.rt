@@ -1,5 +1,20 @@
 //! Lines of certificates: what each derives from the facts of a branch, in the theories of equality,
 //! of arrays and of linear arithmetic over whole numbers.
 //!
+//! So far the crate has the definitions and laws of them; each law is the contract of a function
+//! that does nothing.
+//!
+//! - What a line of equality or of arrays adds holds wherever the facts of the branch do. It is
+//!   sorted where these and the line are, and names no later new values than they.
+//! - Another branch on which the facts stand, under other numbers, gives it too.
+//!
 //! Read `specs/Facts.antt` first, then `specs/Lines.antt` and `specs/Laws.antt`.
 #![tactic(auto)]
+
+mod laws;
+
+pub use laws::{
+    arrays_add_anywhere, arrays_add_what_holds, arrays_add_what_is_below,
+    arrays_add_what_is_sorted, equality_adds_anywhere, equality_adds_what_holds,
+    equality_adds_what_is_below, equality_adds_what_is_sorted,
+};

@@ -1,0 +1,6 @@
+pub mod FactsLemmas
+pub mod BranchesLemmas
+pub mod EqualityLemmas
+pub mod CongruenceSound
+pub mod EqualitySound
+pub mod ElementsLemmas

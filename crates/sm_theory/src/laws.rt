@@ -1,0 +1,49 @@
+// Laws of lines, as contracts.
+ghost use Rattle.sm_theory.specs.Laws.{AddsWhatHolds, AddsWhatIsSorted, AddsWhatIsBelow};
+ghost use Rattle.sm_theory.specs.Laws.{AddsAnywhere, equality, arrays};
+
+/// What a line of equality adds holds wherever the facts of the branch do.
+#[tactic(auto, using(crate::proofs::EqualitySound::equality_holds))]
+pub fn equality_adds_what_holds()
+    ensures { AddsWhatHolds equality }
+{}
+
+/// It is sorted where the facts and the line are.
+#[tactic(auto, using(crate::proofs::EqualityLemmas::equality_sorted))]
+pub fn equality_adds_what_is_sorted()
+    ensures { AddsWhatIsSorted equality }
+{}
+
+/// It names no new values but of nodes that the facts and the line may name.
+#[tactic(auto, using(crate::proofs::EqualityLemmas::equality_below))]
+pub fn equality_adds_what_is_below()
+    ensures { AddsWhatIsBelow equality }
+{}
+
+/// Another branch on which the facts stand gives it too.
+#[tactic(auto, using(crate::proofs::EqualityLemmas::equality_anywhere))]
+pub fn equality_adds_anywhere()
+    ensures { AddsAnywhere equality }
+{}
+
+/// What a line of arrays adds holds wherever the facts of the branch do.
+#[tactic(auto, using(crate::proofs::ElementsLemmas::arrays_hold))]
+pub fn arrays_add_what_holds()
+    ensures { AddsWhatHolds arrays }
+{}
+
+/// It is sorted where the facts and the line are.
+#[tactic(auto, using(crate::proofs::ElementsLemmas::arrays_sorted))]
+pub fn arrays_add_what_is_sorted()
+    ensures { AddsWhatIsSorted arrays }
+{}
+
+/// It names no new values but of nodes that the facts and the line may name.
+pub fn arrays_add_what_is_below()
+    ensures { AddsWhatIsBelow arrays }
+{}
+
+/// Another branch on which the facts stand gives it too.
+pub fn arrays_add_anywhere()
+    ensures { AddsAnywhere arrays }
+{}
