@@ -4,3 +4,6 @@ pub mod EqualityLemmas
 pub mod CongruenceSound
 pub mod EqualitySound
 pub mod ElementsLemmas
+pub mod WaysLemmas
+pub mod WaysSound
+pub mod TheoriesLemmas
