@@ -7,3 +7,4 @@ pub mod ElementsLemmas
 pub mod WaysLemmas
 pub mod WaysSound
 pub mod TheoriesLemmas
+mod CasesLemmas
