@@ -9,6 +9,7 @@ use Rattle.sm_theory.specs.Lines.{CertificateLine}
 use Rattle.sm_theory.specs.Equality.{or_else}
 use Rattle.sm_theory.specs.Ways.{Ways, ways_with}
 use Rattle.sm_theory.specs.Moved.{moved_line, StandAmong}
+use Rattle.sm_theory.proofs.WaysLemmas.{ways_with_move}
 use Rattle.sm_cert.specs.Certificates.{Certificate, Next, Closed, Split, lines_in, splits_above, in_one_way, in_no_way, in_two_ways, Theories, first_bad, Refused, TooManySplits, bad_line, refused}
 use Rattle.sm_cert.specs.MovedTrees.{moved_certificate, moved_past}
 
@@ -107,12 +108,6 @@ splits_same move (Next line c) = splits_same move c
 splits_same move (Closed line) = refl
 splits_same move (Split line c d) = let p = splits_same move c in let q = splits_same move d in rw (p, q) refl
 
--- STUB
-abbrev WaysMoveWith : Type 0
-WaysMoveWith = (sorts : Sorts) (move : ℕ → ℕ) (facts others : List Known) (line : CertificateLine) (added there : Option Known) (to : List (List Known)) → StandAmong move facts others →
-    ((k : Known) → added ≡ Some k → there ≡ Some k) → ways_with sorts facts added line ≡ Some to → ways_with sorts others there (moved_line move line) ≡ Some to
--- END
-
 -- what theories add they add on each other branch on which the facts stand
 abbrev pub AddAnywhere : Theories → Type 0
 AddAnywhere added =
@@ -129,24 +124,24 @@ parts_none None p e = (refl, e)
 parts_none (Some n) p e = absurd cc
 
 -- a certificate without a bad line has none on the other branch
-pub first_moves : (sorts : Sorts) (added : Theories) (move : ℕ → ℕ) (facts others : List Known) (n m : ℕ) (c : Certificate) (ways_move_with : WaysMoveWith) → AddAnywhere added → MovesPast move facts others →
+pub first_moves : (sorts : Sorts) (added : Theories) (move : ℕ → ℕ) (facts others : List Known) (n m : ℕ) (c : Certificate) → AddAnywhere added → MovesPast move facts others →
     first_bad added sorts facts n c ≡ None → first_bad added sorts others m (moved_certificate move c) ≡ None
-first_moves sorts added move facts others n m (Next line c) ways_move_with anywhere moves e =
+first_moves sorts added move facts others n m (Next line c) anywhere moves e =
     let v = ways_with sorts facts (added facts line) line in
     let w = ways_with sorts others (added others (moved_line move line)) (moved_line move line) in
     let next = λ (way : List Known). first_bad added sorts (facts ++ way) (suc n) c in
     let after = λ (way : List Known). first_bad added sorts (others ++ way) (suc m) (moved_certificate move c) in
     one_moves v w n m next after
     (λ (to : List (List Known)) (h : v ≡ Some to).
-    ways_move_with sorts move facts others line (added facts line) (added others (moved_line move line)) to moves.stand (λ (k : Known) (g : added facts line ≡ Some k). anywhere move facts others line k moves.stand g) h)
-    (λ (way : List Known) (h : next way ≡ None). first_moves sorts added move (facts ++ way) (others ++ way) (suc n) (suc m) c ways_move_with anywhere (later_facts move facts others way moves) h) e
-first_moves sorts added move facts others n m (Closed line) ways_move_with anywhere moves e =
+    ways_with_move sorts move facts others (added facts line) (added others (moved_line move line)) line to moves.stand (λ (k : Known) (g : added facts line ≡ Some k). anywhere move facts others line k moves.stand g) h)
+    (λ (way : List Known) (h : next way ≡ None). first_moves sorts added move (facts ++ way) (others ++ way) (suc n) (suc m) c anywhere (later_facts move facts others way moves) h) e
+first_moves sorts added move facts others n m (Closed line) anywhere moves e =
     let v = ways_with sorts facts (added facts line) line in
     let w = ways_with sorts others (added others (moved_line move line)) (moved_line move line) in
     none_moves v w n m
     (λ (to : List (List Known)) (h : v ≡ Some to).
-    ways_move_with sorts move facts others line (added facts line) (added others (moved_line move line)) to moves.stand (λ (k : Known) (g : added facts line ≡ Some k). anywhere move facts others line k moves.stand g) h) e
-first_moves sorts added move facts others n m (Split line c d) ways_move_with anywhere moves e =
+    ways_with_move sorts move facts others (added facts line) (added others (moved_line move line)) line to moves.stand (λ (k : Known) (g : added facts line ≡ Some k). anywhere move facts others line k moves.stand g) h) e
+first_moves sorts added move facts others n m (Split line c d) anywhere moves e =
     let v = ways_with sorts facts (added facts line) line in
     let w = ways_with sorts others (added others (moved_line move line)) (moved_line move line) in
     let first = λ (way : List Known). first_bad added sorts (facts ++ way) (suc n) c in
@@ -155,21 +150,21 @@ first_moves sorts added move facts others n m (Split line c d) ways_move_with an
     let second_there = λ (other : List Known). first_bad added sorts (others ++ other) (suc m + lines_in (moved_certificate move c)) (moved_certificate move d) in
     two_move v w n m (λ (way other : List Known). or_else (first way) (second other)) (λ (way other : List Known). or_else (first_there way) (second_there other))
     (λ (to : List (List Known)) (h : v ≡ Some to).
-    ways_move_with sorts move facts others line (added facts line) (added others (moved_line move line)) to moves.stand (λ (k : Known) (g : added facts line ≡ Some k). anywhere move facts others line k moves.stand g) h)
+    ways_with_move sorts move facts others (added facts line) (added others (moved_line move line)) line to moves.stand (λ (k : Known) (g : added facts line ≡ Some k). anywhere move facts others line k moves.stand g) h)
     (λ (way other : List Known) (h : or_else (first way) (second other) ≡ None).
     let parts = parts_none (first way) (second other) h in
     both_none (first_there way) (second_there other)
-    (first_moves sorts added move (facts ++ way) (others ++ way) (suc n) (suc m) c ways_move_with anywhere (later_facts move facts others way moves) parts.0)
-    (first_moves sorts added move (facts ++ other) (others ++ other) (suc n + lines_in c) (suc m + lines_in (moved_certificate move c)) d ways_move_with anywhere (later_facts move facts others other moves) parts.1)) e
+    (first_moves sorts added move (facts ++ way) (others ++ way) (suc n) (suc m) c anywhere (later_facts move facts others way moves) parts.0)
+    (first_moves sorts added move (facts ++ other) (others ++ other) (suc n + lines_in c) (suc m + lines_in (moved_certificate move c)) d anywhere (later_facts move facts others other moves) parts.1)) e
 
 -- a certificate that isn't refused isn't on the other branch
-pub refused_moves : (sorts : Sorts) (added : Theories) (move : ℕ → ℕ) (facts others : List Known) (c : Certificate) (ways_move_with : WaysMoveWith) → AddAnywhere added → StandAmong move facts others →
+pub refused_moves : (sorts : Sorts) (added : Theories) (move : ℕ → ℕ) (facts others : List Known) (c : Certificate) → AddAnywhere added → StandAmong move facts others →
     refused added sorts facts c ≡ None → refused added sorts others (moved_certificate (moved_past move (length facts) (length others)) c) ≡ None
-refused_moves sorts added move facts others c ways_move_with anywhere stand e =
+refused_moves sorts added move facts others c anywhere stand e =
     let along = moved_past move (length facts) (length others) in
     let deep : nat_lt 1000 (splits_above (moved_certificate along c)) ≡ nat_lt 1000 (splits_above c) = ap (λ (n : ℕ). nat_lt 1000 n) (splits_same along c) in
     of (nat_lt 1000 (splits_above c)) (nat_lt 1000 (splits_above (moved_certificate along c))) (first_bad added sorts facts 0 c) (first_bad added sorts others 0 (moved_certificate along c)) deep
-    (first_moves sorts added along facts others 0 0 c ways_move_with anywhere (moves_past move facts others stand)) e
+    (first_moves sorts added along facts others 0 0 c anywhere (moves_past move facts others stand)) e
   where
     of : (b d : Bool) (o p : Option ℕ) → d ≡ b → (o ≡ None → p ≡ None) → (if b then Some TooManySplits else bad_line o) ≡ None → (if d then Some TooManySplits else bad_line p) ≡ None
     of true d o p same later e = absurd cc

@@ -9,6 +9,8 @@ use Rattle.sm_theory.specs.Equality.{or_else}
 use Rattle.sm_theory.specs.Ways.{Ways, ways_with}
 use Rattle.sm_theory.specs.SortedFacts.{IsKnownSorted, AreKnownSorted, IsLineSorted}
 use Rattle.sm_theory.specs.Laws.{NoWayHolds, EachWay}
+use Rattle.sm_theory.proofs.WaysSound.{some_way_with_holds}
+use Rattle.sm_theory.proofs.WaysLemmas.{ways_with_sorted}
 use Rattle.sm_cert.specs.Certificates.{Certificate, Next, Closed, Split, lines_in, splits_above, in_one_way, in_no_way, in_two_ways, Theories, first_bad, Refused, TooManySplits, bad_line, refused}
 use Rattle.sm_cert.specs.NamedTerms.{EachTerm, IsCertificateSorted}
 
@@ -21,16 +23,6 @@ facts_append m (k ∷ ks) more h g = (h.0, facts_append m ks more h.1 g)
 pub sorted_append : (sorts : Sorts) (facts more : List Known) → AreKnownSorted sorts facts → AreKnownSorted sorts more → AreKnownSorted sorts (facts ++ more)
 sorted_append sorts [] more h g = g
 sorted_append sorts (k ∷ ks) more h g = (h.0, sorted_append sorts ks more h.1 g)
-
--- STUB
-abbrev SomeWayWith : Type 0
-SomeWayWith = (sorts : Sorts) (m : Structure) (facts : List Known) (line : CertificateLine) (added : Option Known) (to : List (List Known)) → AreKnownSorted sorts facts → IsLineSorted sorts line →
-    ((k : Known) → added ≡ Some k → IsFact m k) → ways_with sorts facts added line ≡ Some to → AreFacts m facts → NoWayHolds m to → ⊥
-
-abbrev WaysSortedWith : Type 0
-WaysSortedWith = (sorts : Sorts) (facts : List Known) (line : CertificateLine) (added : Option Known) (to : List (List Known)) → AreKnownSorted sorts facts → IsLineSorted sorts line →
-    ((k : Known) → added ≡ Some k → IsKnownSorted sorts k) → ways_with sorts facts added line ≡ Some to → EachWay (AreKnownSorted sorts) to
--- END
 
 -- what theories add holds, and is sorted
 pub record AreSound (sorts : Sorts) (added : Theories) : Type 0 where
@@ -76,31 +68,31 @@ two_fail sorts m (Some (way ∷ other ∷ [])) n next e some kept later =
 two_fail sorts m (Some (way ∷ other ∷ third ∷ rest)) n next e some kept later = absurd cc
 
 -- a certificate without a bad line closes the branch, whatever number its first line has
-pub refutes : (sorts : Sorts) (added : Theories) (facts : List Known) (n : ℕ) (c : Certificate) (some_way_with : SomeWayWith) (ways_sorted_with : WaysSortedWith) → AreSound sorts added → AreKnownSorted sorts facts → IsCertificateSorted sorts c →
+pub refutes : (sorts : Sorts) (added : Theories) (facts : List Known) (n : ℕ) (c : Certificate) → AreSound sorts added → AreKnownSorted sorts facts → IsCertificateSorted sorts c →
     first_bad added sorts facts n c ≡ None → (m : Structure) → AreFacts m facts → ⊥
-refutes sorts added facts n (Next line c) some_way_with ways_sorted_with sound good terms e m held =
+refutes sorts added facts n (Next line c) sound good terms e m held =
     one_fails sorts m (ways_with sorts facts (added facts line) line) n (λ (way : List Known). first_bad added sorts (facts ++ way) (suc n) c) e
     (λ (to : List (List Known)) (h : ways_with sorts facts (added facts line) line ≡ Some to).
-    some_way_with sorts m facts line (added facts line) to good terms.0 (λ (k : Known) (g : added facts line ≡ Some k). sound.holds m facts line k good terms.0 g held) h held)
+    some_way_with_holds sorts m facts (added facts line) line to good (λ (k : Known) (g : added facts line ≡ Some k). sound.holds m facts line k good terms.0 g held) h held)
     (λ (to : List (List Known)) (h : ways_with sorts facts (added facts line) line ≡ Some to).
-    ways_sorted_with sorts facts line (added facts line) to good terms.0 (λ (k : Known) (g : added facts line ≡ Some k). sound.sorted facts line k good terms.0 g) h)
+    ways_with_sorted sorts facts (added facts line) line to good terms.0 (λ (k : Known) (g : added facts line ≡ Some k). sound.sorted facts line k good terms.0 g) h)
     (λ (way : List Known) (later : first_bad added sorts (facts ++ way) (suc n) c ≡ None) (fine : AreKnownSorted sorts way) (h : AreFacts m way).
-    refutes sorts added (facts ++ way) (suc n) c some_way_with ways_sorted_with sound (sorted_append sorts facts way good fine) terms.1 later m (facts_append m facts way held h))
-refutes sorts added facts n (Closed line) some_way_with ways_sorted_with sound good terms e m held =
+    refutes sorts added (facts ++ way) (suc n) c sound (sorted_append sorts facts way good fine) terms.1 later m (facts_append m facts way held h))
+refutes sorts added facts n (Closed line) sound good terms e m held =
     none_fails m (ways_with sorts facts (added facts line) line) n e
     (λ (to : List (List Known)) (h : ways_with sorts facts (added facts line) line ≡ Some to).
-    some_way_with sorts m facts line (added facts line) to good terms (λ (k : Known) (g : added facts line ≡ Some k). sound.holds m facts line k good terms g held) h held)
-refutes sorts added facts n (Split line c d) some_way_with ways_sorted_with sound good terms e m held =
+    some_way_with_holds sorts m facts (added facts line) line to good (λ (k : Known) (g : added facts line ≡ Some k). sound.holds m facts line k good terms g held) h held)
+refutes sorts added facts n (Split line c d) sound good terms e m held =
     two_fail sorts m (ways_with sorts facts (added facts line) line) n
     (λ (way other : List Known). or_else (first_bad added sorts (facts ++ way) (suc n) c) (first_bad added sorts (facts ++ other) (suc n + lines_in c) d)) e
     (λ (to : List (List Known)) (h : ways_with sorts facts (added facts line) line ≡ Some to).
-    some_way_with sorts m facts line (added facts line) to good terms.0 (λ (k : Known) (g : added facts line ≡ Some k). sound.holds m facts line k good terms.0 g held) h held)
+    some_way_with_holds sorts m facts (added facts line) line to good (λ (k : Known) (g : added facts line ≡ Some k). sound.holds m facts line k good terms.0 g held) h held)
     (λ (to : List (List Known)) (h : ways_with sorts facts (added facts line) line ≡ Some to).
-    ways_sorted_with sorts facts line (added facts line) to good terms.0 (λ (k : Known) (g : added facts line ≡ Some k). sound.sorted facts line k good terms.0 g) h)
+    ways_with_sorted sorts facts (added facts line) line to good terms.0 (λ (k : Known) (g : added facts line ≡ Some k). sound.sorted facts line k good terms.0 g) h)
     (λ (way other : List Known) (later : or_else (first_bad added sorts (facts ++ way) (suc n) c) (first_bad added sorts (facts ++ other) (suc n + lines_in c) d) ≡ None) (fine : AreKnownSorted sorts way) (fine_too : AreKnownSorted sorts other).
     let parts = neither (first_bad added sorts (facts ++ way) (suc n) c) (first_bad added sorts (facts ++ other) (suc n + lines_in c) d) later in
-    (λ (h : AreFacts m way). refutes sorts added (facts ++ way) (suc n) c some_way_with ways_sorted_with sound (sorted_append sorts facts way good fine) terms.1 parts.0 m (facts_append m facts way held h),
-    λ (h : AreFacts m other). refutes sorts added (facts ++ other) (suc n + lines_in c) d some_way_with ways_sorted_with sound (sorted_append sorts facts other good fine_too) terms.2 parts.1 m (facts_append m facts other held h)))
+    (λ (h : AreFacts m way). refutes sorts added (facts ++ way) (suc n) c sound (sorted_append sorts facts way good fine) terms.1 parts.0 m (facts_append m facts way held h),
+    λ (h : AreFacts m other). refutes sorts added (facts ++ other) (suc n + lines_in c) d sound (sorted_append sorts facts other good fine_too) terms.2 parts.1 m (facts_append m facts other held h)))
 
 -- a certificate that isn't refused has no bad line
 pub none_bad : (added : Theories) (sorts : Sorts) (facts : List Known) (c : Certificate) → refused added sorts facts c ≡ None → first_bad added sorts facts 0 c ≡ None
@@ -112,6 +104,6 @@ none_bad added sorts facts c e = of (nat_lt 1000 (splits_above c)) (first_bad ad
     of false (Some n) e = absurd cc
 
 -- a certificate that isn't refused closes its branch
-pub closes : (sorts : Sorts) (added : Theories) (facts : List Known) (c : Certificate) (some_way_with : SomeWayWith) (ways_sorted_with : WaysSortedWith) → AreSound sorts added → AreKnownSorted sorts facts → IsCertificateSorted sorts c →
+pub closes : (sorts : Sorts) (added : Theories) (facts : List Known) (c : Certificate) → AreSound sorts added → AreKnownSorted sorts facts → IsCertificateSorted sorts c →
     refused added sorts facts c ≡ None → IsContradictory facts
-closes sorts added facts c some_way_with ways_sorted_with sound good terms e = refutes sorts added facts 0 c some_way_with ways_sorted_with sound good terms (none_bad added sorts facts c e)
+closes sorts added facts c sound good terms e = refutes sorts added facts 0 c sound good terms (none_bad added sorts facts c e)
