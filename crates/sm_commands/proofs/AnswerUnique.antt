@@ -62,25 +62,25 @@ read_within (holds h) kind b n c m xs s t told r q =
 
 -- without a fault, only a file that isn't there can't be read
 not_there : (file : Known) (b n : ℕ) (s : Status) (t : List ℕ) → (¬ Rose b n) → FailsToRead file b n s t → file ≡ absent
-not_there file b n s t calm f = go f.cause
+not_there file b n s t no_fault f = go f.cause
   where
     go : Rose b n ⊎ (file ≡ absent) → file ≡ absent
-    go (inl rose) = absurd (calm rose)
+    go (inl rose) = absurd (no_fault rose)
     go (inr gone) = gone
 
 -- a file doesn't both give bytes and none
 bytes_or_none : (kind : List ℕ) (file : Known) (b n c m : ℕ) (xs : List ℕ) (s : Status) (t : List ℕ) → file ≢ untold → (¬ Rose c m)
     → IsRead file b n xs → GivesNoBytes kind file c m s t → ⊥
-bytes_or_none kind file b n c m xs s t told calm r (inl f) = r.there (not_there file c m s t calm f)
-bytes_or_none kind file b n c m xs s t told calm r (inr f) = read_within file kind b n c m xs s t told r f
+bytes_or_none kind file b n c m xs s t told no_fault r (inl f) = r.there (not_there file c m s t no_fault f)
+bytes_or_none kind file b n c m xs s t told no_fault r (inr f) = read_within file kind b n c m xs s t told r f
 
 -- and one answer says that it gives none
 no_bytes_same : (kind : List ℕ) (file : Known) (b n c m : ℕ) (s u : Status) (t v : List ℕ) → (¬ Rose b n) → (¬ Rose c m)
     → GivesNoBytes kind file b n s t → GivesNoBytes kind file c m u v → Same s t u v
-no_bytes_same kind file b n c m s u t v calm still (inl f) (inl g) = says_same refl refl f.says g.says
-no_bytes_same kind file b n c m s u t v calm still (inl f) (inr g) = absurd (g.there (not_there file b n s t calm f))
-no_bytes_same kind file b n c m s u t v calm still (inr f) (inl g) = absurd (f.there (not_there file c m u v still g))
-no_bytes_same kind file b n c m s u t v calm still (inr f) (inr g) = says_same refl refl f.says g.says
+no_bytes_same kind file b n c m s u t v no_fault nor_later (inl f) (inl g) = says_same refl refl f.says g.says
+no_bytes_same kind file b n c m s u t v no_fault nor_later (inl f) (inr g) = absurd (g.there (not_there file b n s t no_fault f))
+no_bytes_same kind file b n c m s u t v no_fault nor_later (inr f) (inl g) = absurd (f.there (not_there file c m u v nor_later g))
+no_bytes_same kind file b n c m s u t v no_fault nor_later (inr f) (inr g) = says_same refl refl f.says g.says
 
 -- ---- tasks
 
@@ -91,20 +91,20 @@ no_task_same xs s u t v f g = says_same refl (ap (refusal_line (names_of xs)) (o
 -- a file gives no task in one way
 refused_same : (file : Known) (b n c m : ℕ) (s u : Status) (t v : List ℕ) → file ≢ untold → (¬ Rose b n) → (¬ Rose c m)
     → GivesNoTask file b n s t → GivesNoTask file c m u v → Same s t u v
-refused_same file b n c m s u t v told calm still (inl f) (inl g) = no_bytes_same (codes "task") file b n c m s u t v calm still f g
-refused_same file b n c m s u t v told calm still (inl f) (inr g) =
-    absurd (bytes_or_none (codes "task") file c m b n g.bytes s t told calm g.read f)
-refused_same file b n c m s u t v told calm still (inr f) (inl g) =
-    absurd (bytes_or_none (codes "task") file b n c m f.bytes u v told still f.read g)
-refused_same file b n c m s u t v told calm still (inr f) (inr g) =
+refused_same file b n c m s u t v told no_fault nor_later (inl f) (inl g) = no_bytes_same (codes "task") file b n c m s u t v no_fault nor_later f g
+refused_same file b n c m s u t v told no_fault nor_later (inl f) (inr g) =
+    absurd (bytes_or_none (codes "task") file c m b n g.bytes s t told no_fault g.read f)
+refused_same file b n c m s u t v told no_fault nor_later (inr f) (inl g) =
+    absurd (bytes_or_none (codes "task") file b n c m f.bytes u v told nor_later f.read g)
+refused_same file b n c m s u t v told no_fault nor_later (inr f) (inr g) =
     no_task_same g.bytes s u t v
     (subst (λ (xs : List ℕ). IsNoTask xs s t) (read_same file b n c m f.bytes g.bytes told f.read g.read) f.refuses) g.refuses
 
 -- a file doesn't both give a task and none
 task_or_none : (file : Known) (b n c m : ℕ) (p : Parts) (s : Status) (t : List ℕ) → file ≢ untold → (¬ Rose c m) → GivesTask file b n p
     → GivesNoTask file c m s t → ⊥
-task_or_none file b n c m p s t told calm g (inl f) = bytes_or_none (codes "task") file b n c m g.bytes s t told calm g.read f
-task_or_none file b n c m p s t told calm g (inr f) =
+task_or_none file b n c m p s t told no_fault g (inl f) = bytes_or_none (codes "task") file b n c m g.bytes s t told no_fault g.read f
+task_or_none file b n c m p s t told no_fault g (inr f) =
     f.refuses.spells_none p (subst (λ (xs : List ℕ). Spells xs p) (read_same file b n c m g.bytes f.bytes told g.read f.read) g.spells)
 
 -- and one task
@@ -153,18 +153,18 @@ note_same t xs ys (inr a) (inr b) = a.1 ∙ sym b.1
 
 check_same : (t : Parts) (turns : ℕ) (s u : Status) (l m : List ℕ) → AnswersCheck t turns s l → AnswersCheck t turns u m → Same s l u m
 check_same t turns s u l m (inl a) (inl b) = conflict_same t turns s u l m a b
-check_same t turns s u l m (inl a) (inr b) = absurd (b.calm a.number a.least.inside a.least.violates)
-check_same t turns s u l m (inr a) (inl b) = absurd (a.calm b.number b.least.inside b.least.violates)
+check_same t turns s u l m (inl a) (inr b) = absurd (b.no_violation a.number a.least.inside a.least.violates)
+check_same t turns s u l m (inr a) (inl b) = absurd (a.no_violation b.number b.least.inside b.least.violates)
 check_same t turns s u l m (inr a) (inr b) =
     says_same refl (ap (λ (note : List ℕ). decision_line t.names (decision t) ++ note) (note_same t a.note b.note a.noted b.noted)) a.says
     b.says
 
 checks_same : (file : Known) (turns b n c m : ℕ) (s u : Status) (t v : List ℕ) → file ≢ untold → (¬ Rose b n) → (¬ Rose c m)
     → Checks file turns b n s t → Checks file turns c m u v → Same s t u v
-checks_same file turns b n c m s u t v told calm still (inl f) (inl g) = refused_same file b n c m s u t v told calm still f g
-checks_same file turns b n c m s u t v told calm still (inl f) (inr g) = absurd (task_or_none file c m b n g.task s t told calm g.gives f)
-checks_same file turns b n c m s u t v told calm still (inr f) (inl g) = absurd (task_or_none file b n c m f.task u v told still f.gives g)
-checks_same file turns b n c m s u t v told calm still (inr f) (inr g) =
+checks_same file turns b n c m s u t v told no_fault nor_later (inl f) (inl g) = refused_same file b n c m s u t v told no_fault nor_later f g
+checks_same file turns b n c m s u t v told no_fault nor_later (inl f) (inr g) = absurd (task_or_none file c m b n g.task s t told no_fault g.gives f)
+checks_same file turns b n c m s u t v told no_fault nor_later (inr f) (inl g) = absurd (task_or_none file b n c m f.task u v told nor_later f.gives g)
+checks_same file turns b n c m s u t v told no_fault nor_later (inr f) (inr g) =
     check_same g.task turns s u t v
     (subst (λ (p : Parts). AnswersCheck p turns s t) (task_same file b n c m f.task g.task told f.gives g.gives) f.answers) g.answers
 
@@ -172,10 +172,10 @@ checks_same file turns b n c m s u t v told calm still (inr f) (inr g) =
 
 prints_same : (file : Known) (b n c m : ℕ) (s u : Status) (t v : List ℕ) → file ≢ untold → (¬ Rose b n) → (¬ Rose c m)
     → Prints file b n s t → Prints file c m u v → Same s t u v
-prints_same file b n c m s u t v told calm still (inl f) (inl g) = refused_same file b n c m s u t v told calm still f g
-prints_same file b n c m s u t v told calm still (inl f) (inr g) = absurd (task_or_none file c m b n g.task s t told calm g.gives f)
-prints_same file b n c m s u t v told calm still (inr f) (inl g) = absurd (task_or_none file b n c m f.task u v told still f.gives g)
-prints_same file b n c m s u t v told calm still (inr f) (inr g) =
+prints_same file b n c m s u t v told no_fault nor_later (inl f) (inl g) = refused_same file b n c m s u t v told no_fault nor_later f g
+prints_same file b n c m s u t v told no_fault nor_later (inl f) (inr g) = absurd (task_or_none file c m b n g.task s t told no_fault g.gives f)
+prints_same file b n c m s u t v told no_fault nor_later (inr f) (inl g) = absurd (task_or_none file b n c m f.task u v told nor_later f.gives g)
+prints_same file b n c m s u t v told no_fault nor_later (inr f) (inr g) =
     says_same refl (ap (λ (p : Parts). pieces_text p.names (task_pieces p)) (task_same file b n c m f.task g.task told f.gives g.gives)) f.says
     g.says
 
@@ -209,21 +209,21 @@ no_input_same t xs s u l m f g =
 -- a file gives no input in one way
 refused_input_same : (t : Parts) (file : Known) (b n c m : ℕ) (s u : Status) (l k : List ℕ) → file ≢ untold → (¬ Rose b n)
     → (¬ Rose c m) → GivesNoInput t file b n s l → GivesNoInput t file c m u k → Same s l u k
-refused_input_same t file b n c m s u l k told calm still (inl f) (inl g) =
-    no_bytes_same (codes "input") file b n c m s u l k calm still f g
-refused_input_same t file b n c m s u l k told calm still (inl f) (inr g) =
-    absurd (bytes_or_none (codes "input") file c m b n g.bytes s l told calm g.read f)
-refused_input_same t file b n c m s u l k told calm still (inr f) (inl g) =
-    absurd (bytes_or_none (codes "input") file b n c m f.bytes u k told still f.read g)
-refused_input_same t file b n c m s u l k told calm still (inr f) (inr g) =
+refused_input_same t file b n c m s u l k told no_fault nor_later (inl f) (inl g) =
+    no_bytes_same (codes "input") file b n c m s u l k no_fault nor_later f g
+refused_input_same t file b n c m s u l k told no_fault nor_later (inl f) (inr g) =
+    absurd (bytes_or_none (codes "input") file c m b n g.bytes s l told no_fault g.read f)
+refused_input_same t file b n c m s u l k told no_fault nor_later (inr f) (inl g) =
+    absurd (bytes_or_none (codes "input") file b n c m f.bytes u k told nor_later f.read g)
+refused_input_same t file b n c m s u l k told no_fault nor_later (inr f) (inr g) =
     no_input_same t g.bytes s u l k
     (subst (λ (xs : List ℕ). IsNoInput t xs s l) (read_same file b n c m f.bytes g.bytes told f.read g.read) f.refuses) g.refuses
 
 -- a file doesn't both give an input and none
 input_or_none : (t : Parts) (file : Known) (b n c m : ℕ) (store : code.Store) (s : Status) (l : List ℕ) → file ≢ untold → (¬ Rose c m)
     → GivesInput t file b n store → GivesNoInput t file c m s l → ⊥
-input_or_none t file b n c m store s l told calm g (inl f) = bytes_or_none (codes "input") file b n c m g.bytes s l told calm g.read f
-input_or_none t file b n c m store s l told calm g (inr f) =
+input_or_none t file b n c m store s l told no_fault g (inl f) = bytes_or_none (codes "input") file b n c m g.bytes s l told no_fault g.read f
+input_or_none t file b n c m store s l told no_fault g (inr f) =
     store_or_none t f.bytes store f.refuses.error f.refuses.cause
     (subst (λ (xs : List ℕ). IsInput t.names (sort_of t.declared) xs store)
     (read_same file b n c m g.bytes f.bytes told g.read f.read) g.gives) f.refuses.refused
@@ -237,12 +237,12 @@ verdict_same t store turns s u l m a b =
 
 input_same : (t : Parts) (file : Known) (turns b n c m : ℕ) (s u : Status) (l k : List ℕ) → file ≢ untold → (¬ Rose b n) → (¬ Rose c m)
     → ReplaysInput t file turns b n s l → ReplaysInput t file turns c m u k → Same s l u k
-input_same t file turns b n c m s u l k told calm still (inl f) (inl g) = refused_input_same t file b n c m s u l k told calm still f g
-input_same t file turns b n c m s u l k told calm still (inl f) (inr g) =
-    absurd (input_or_none t file c m b n g.store s l told calm g.gives f)
-input_same t file turns b n c m s u l k told calm still (inr f) (inl g) =
-    absurd (input_or_none t file b n c m f.store u k told still f.gives g)
-input_same t file turns b n c m s u l k told calm still (inr f) (inr g) =
+input_same t file turns b n c m s u l k told no_fault nor_later (inl f) (inl g) = refused_input_same t file b n c m s u l k told no_fault nor_later f g
+input_same t file turns b n c m s u l k told no_fault nor_later (inl f) (inr g) =
+    absurd (input_or_none t file c m b n g.store s l told no_fault g.gives f)
+input_same t file turns b n c m s u l k told no_fault nor_later (inr f) (inl g) =
+    absurd (input_or_none t file b n c m f.store u k told nor_later f.gives g)
+input_same t file turns b n c m s u l k told no_fault nor_later (inr f) (inr g) =
     let given =
     subst (λ (xs : List ℕ). IsInput t.names (sort_of t.declared) xs f.store)
     (read_same file b n c m f.gives.bytes g.gives.bytes told f.gives.read g.gives.read) f.gives.gives in
@@ -251,14 +251,14 @@ input_same t file turns b n c m s u l k told calm still (inr f) (inr g) =
 
 replays_same : (file input : Known) (turns b n c m : ℕ) (s u : Status) (l k : List ℕ) → file ≢ untold → input ≢ untold → (¬ Rose b n)
     → (¬ Rose c m) → Replays file input turns b n s l → Replays file input turns c m u k → Same s l u k
-replays_same file input turns b n c m s u l k told given calm still (inl f) (inl g) = refused_same file b n c m s u l k told calm still f g
-replays_same file input turns b n c m s u l k told given calm still (inl f) (inr g) =
-    absurd (task_or_none file c g.between b n g.task s l told calm g.gives f)
-replays_same file input turns b n c m s u l k told given calm still (inr f) (inl g) =
-    absurd (task_or_none file b f.between c m f.task u k told still f.gives g)
-replays_same file input turns b n c m s u l k told given calm still (inr f) (inr g) =
+replays_same file input turns b n c m s u l k told given no_fault nor_later (inl f) (inl g) = refused_same file b n c m s u l k told no_fault nor_later f g
+replays_same file input turns b n c m s u l k told given no_fault nor_later (inl f) (inr g) =
+    absurd (task_or_none file c g.between b n g.task s l told no_fault g.gives f)
+replays_same file input turns b n c m s u l k told given no_fault nor_later (inr f) (inl g) =
+    absurd (task_or_none file b f.between c m f.task u k told nor_later f.gives g)
+replays_same file input turns b n c m s u l k told given no_fault nor_later (inr f) (inr g) =
     input_same g.task input turns f.between n g.between m s u l k given
-    (subst (λ (z : ℕ). ¬ Rose z n) (sym f.gives.read.quiet) calm) (subst (λ (z : ℕ). ¬ Rose z m) (sym g.gives.read.quiet) still)
+    (subst (λ (z : ℕ). ¬ Rose z n) (sym f.gives.read.quiet) no_fault) (subst (λ (z : ℕ). ¬ Rose z m) (sym g.gives.read.quiet) nor_later)
     (subst (λ (p : Parts). ReplaysInput p input turns f.between n s l)
     (task_same file b f.between c g.between f.task g.task told f.gives g.gives) f.answers) g.answers
 
@@ -266,17 +266,17 @@ replays_same file input turns b n c m s u l k told given calm still (inr f) (inr
 
 command_same : (ask : Asked) (files : Files) (b n c m : ℕ) (s u : Status) (l k : List ℕ) → AreTold files → (¬ Rose b n) → (¬ Rose c m)
     → AnswersCommand ask files b n s l → AnswersCommand ask files c m u k → Same s l u k
-command_same (check task turns workers) files b n c m s u l k told calm still x y =
-    checks_same (files task) turns b n c m s u l k (told task) calm still x y
-command_same (replay task input turns) files b n c m s u l k told calm still x y =
-    replays_same (files task) (files input) turns b n c m s u l k (told task) (told input) calm still x y
-command_same (print task) files b n c m s u l k told calm still x y = prints_same (files task) b n c m s u l k (told task) calm still x y
+command_same (check task turns workers) files b n c m s u l k told no_fault nor_later x y =
+    checks_same (files task) turns b n c m s u l k (told task) no_fault nor_later x y
+command_same (replay task input turns) files b n c m s u l k told no_fault nor_later x y =
+    replays_same (files task) (files input) turns b n c m s u l k (told task) (told input) no_fault nor_later x y
+command_same (print task) files b n c m s u l k told no_fault nor_later x y = prints_same (files task) b n c m s u l k (told task) no_fault nor_later x y
 
 request_same : (ask : Option Asked) (words : Words) (files : Files) (b n c m : ℕ) (s u : Status) (l k : List ℕ) → AreTold files
     → (¬ Rose b n) → (¬ Rose c m) → AnswersRequest ask words files b n s l → AnswersRequest ask words files c m u k → Same s l u k
-request_same None words files b n c m s u l k told calm still x y = says_same refl refl x.says y.says
-request_same (Some ask) words files b n c m s u l k told calm still x y = command_same ask files b n c m s u l k told calm still x y
+request_same None words files b n c m s u l k told no_fault nor_later x y = says_same refl refl x.says y.says
+request_same (Some ask) words files b n c m s u l k told no_fault nor_later x y = command_same ask files b n c m s u l k told no_fault nor_later x y
 
 pub answer_one : OneAnswer
-answer_one words files before now earlier later status other line text told calm x still y =
-    request_same (asked words) words files before now earlier later status other line text told calm still x y
+answer_one words files before now earlier later status other line text told no_fault x nor_later y =
+    request_same (asked words) words files before now earlier later status other line text told no_fault nor_later x y

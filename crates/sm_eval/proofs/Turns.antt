@@ -24,9 +24,9 @@ one_less m = omega arith
 pub turns_event-turn : (b : Condition) (happens : Store → Option EvalError) (body : Store → Option Store) (left : ℕ) (s t : Store) → (left ≡ 0 → ⊥) →
     condition_event b s ≡ None → truth_of b s ≡ true → happens s ≡ None → body s ≡ Some t →
     turns_event b happens body left s ≡ turns_event b happens body (left - 1) t
-turns_event-turn b happens body zero s t some calm holds inner end = absurd (some refl)
-turns_event-turn b happens body (suc m) s t some calm holds inner end =
-    rw (calm, holds, inner, end) (ap (λ (k : ℕ). turns_event b happens body k t) (one_less m))
+turns_event-turn b happens body zero s t some no_event holds inner end = absurd (some refl)
+turns_event-turn b happens body (suc m) s t some no_event holds inner end =
+    rw (no_event, holds, inner, end) (ap (λ (k : ℕ). turns_event b happens body k t) (one_less m))
 
 -- and the loop ends as it does after the turn
 pub turns-turn : (guard : Store → Bool) (body : Store → Option Store) (left : ℕ) (s t : Store) → (left ≡ 0 → ⊥) →

@@ -10,8 +10,9 @@ use Rattle.sm_syntax.specs.claim.Syntax.{Condition, Code}
 use Rattle.sm_eval.specs.Events.{event}
 
 -- code without an event has an end
-abbrev pub CalmEnds : Type 0
-CalmEnds = (n : ℕ) (c : Code) (s : Store) → event n c s ≡ None → (t : Store) × (run n c s ≡ Some t)
+abbrev pub EventlessEnds : Type 0
+EventlessEnds =
+    (n : ℕ) (c : Code) (s : Store) → event n c s ≡ None → (t : Store) × (run n c s ≡ Some t)
 
 -- the code of a well-formed program is well sorted
 abbrev pub WellFormedPrograms : Type 0

@@ -1,10 +1,10 @@
 // Laws of events and of sorts, as contracts.
-ghost use Rattle.sm_eval.specs.Laws.{CalmEnds, WellFormedPrograms, WellFormedAssumptions};
+ghost use Rattle.sm_eval.specs.Laws.{EventlessEnds, WellFormedPrograms, WellFormedAssumptions};
 
 /// Code without an event has an end.
 #[tactic(auto, using(crate::proofs::Ends::ends))]
-pub fn calm_ends()
-    ensures { CalmEnds }
+pub fn eventless_ends()
+    ensures { EventlessEnds }
 {}
 
 /// What is well formed may be computed and run, from a store of its declarations.

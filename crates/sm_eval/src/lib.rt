@@ -6,8 +6,8 @@
 //!   bits.
 //! - `run` gives the end store, or the first event: such an operation, or a loop that takes too
 //!   many turns.
-//! - `calm_ends` is the law that code without an event has an end, and `well_formed_may_run` that
-//!   what is well formed meets the conditions of `truth` and `run`.
+//! - `eventless_ends` is the law that code without an event has an end, and `well_formed_may_run`
+//!   that what is well formed meets the conditions of `truth` and `run`.
 //!
 //! Read `specs/Events.antt` first. `specs/Slots.antt` says which store a `Store` stands for. What
 //! programs mean over all whole numbers stands in `sm_syntax`.
@@ -24,6 +24,6 @@ mod store;
 
 pub use error::EvalError;
 pub use expression::{truth, value};
-pub use laws::{calm_ends, well_formed_may_run};
+pub use laws::{eventless_ends, well_formed_may_run};
 pub use runs::run;
 pub use store::Store;

@@ -27,10 +27,10 @@ answer_err (Some d) v e is = cc
 pub told_truth : (b : Condition) (s : Store) (h : Bool) → answer (condition_event b s) (truth_of b s) ≡ Ok h → Tells (Some b) s (Ok h)
 told_truth b s true is =
     let both = answer_ok (condition_event b s) (truth_of b s) true is in
-    record { calm = both.0; meets = both.1 }
+    record { no_event = both.0; meets = both.1 }
 told_truth b s false is =
     let both = answer_ok (condition_event b s) (truth_of b s) false is in
-    record { calm = both.0; fails = λ (yes : truth_of b s ≡ true). cc }
+    record { no_event = both.0; fails = λ (yes : truth_of b s ≡ true). cc }
 
 -- its first operation that leaves
 pub told_beyond : (b : Condition) (s : Store) (op : Op) (y z : ℤ) → answer (condition_event b s) (truth_of b s) ≡ Err (eval.Beyond op y z) → Tells (Some b) s (Err (BeyondAssumed op y z))

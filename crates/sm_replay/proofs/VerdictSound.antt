@@ -31,17 +31,17 @@ pub same_ends : (t : Task) (s : Store) (n : ℕ) (e f : Copy → Store) → AreE
 same_ends t s n e f p q = fun_ext (λ (c : Copy). same_end n (program_of t c) s (e c) (f c) (p.ends c) (q.ends c))
 
 -- where Keeps holds everywhere, nothing violates
-pub holds_calm : (t : Task) (s : Store) (n : ℕ) → KeepsOutputs t s n → ¬ Violates t s n
-holds_calm t s n h v =
+pub holds_not_violated : (t : Task) (s : Store) (n : ℕ) → KeepsOutputs t s n → ¬ Violates t s n
+holds_not_violated t s n h v =
     v.broken (subst (λ (end : Copy → Store). KeepsAt end v.cell) (same_ends t s n h.end v.end h.ends v.ends) (h.keeps v.cell v.output))
 
 -- a store that isn't met violates nothing
-unmet_calm : (t : Task) (s : Store) (n : ℕ) → IsUnmet t.assumed s → ¬ Violates t s n
-unmet_calm t s n u v = u.fails v.met.meets
+unmet_not_violated : (t : Task) (s : Store) (n : ℕ) → IsUnmet t.assumed s → ¬ Violates t s n
+unmet_not_violated t s n u v = u.fails v.met.meets
 
 -- an event of a copy
-stops_calm : (t : Task) (s : Store) (n copy : ℕ) (e : EvalError) → Stops (program_of t) s n copy e → ¬ Violates t s n
-stops_calm t s n copy e st v = let both : None ≡ Some e = sym (v.ends.calm (copy_of copy)) ∙ st.stops in cc
+stops_not_violated : (t : Task) (s : Store) (n copy : ℕ) (e : EvalError) → Stops (program_of t) s n copy e → ¬ Violates t s n
+stops_not_violated t s n copy e st v = let both : None ≡ Some e = sym (v.ends.no_event (copy_of copy)) ∙ st.stops in cc
 
 -- a first part that fails is a part that fails
 pub not_kept : (part : ℕ) (o a b m : ℤ) → IsFirstBroken part o a b m → ¬ Keeps o a b m
@@ -68,12 +68,12 @@ breaks_violates t s n cell part b = record {
 
 -- what the verdict shows
 pub shows : (t : Task) (s : Store) (n : ℕ) (r : Result Verdict ReplayError) → Judges t s n r → (r ≡ Err stop.Memory → ⊥) → Shows t s n (shown_of r)
-shows t s n (Ok verdict.Holds) j some = holds_calm t s n j
-shows t s n (Ok verdict.Unmet) j some = unmet_calm t s n j
+shows t s n (Ok verdict.Holds) j some = holds_not_violated t s n j
+shows t s n (Ok verdict.Unmet) j some = unmet_not_violated t s n j
 shows t s n (Ok (verdict.Violates x i part)) j some = (breaks_violates t s n (cell_of x.0 i) part j, j)
-shows t s n (Err (stop.OutOfTurns copy)) j some = stops_calm t s n copy _ j.1
-shows t s n (Err (stop.Beyond copy op a b)) j some = stops_calm t s n copy _ j.1
-shows t s n (Err (stop.BeyondAssumed op a b)) j some = λ v. let both = sym v.met.calm ∙ j in cc
+shows t s n (Err (stop.OutOfTurns copy)) j some = stops_not_violated t s n copy _ j.1
+shows t s n (Err (stop.Beyond copy op a b)) j some = stops_not_violated t s n copy _ j.1
+shows t s n (Err (stop.BeyondAssumed op a b)) j some = λ v. let both = sym v.met.no_event ∙ j in cc
 shows t s n (Err stop.Memory) j some = absurd (some refl)
 
 -- the answer is that the store violates exactly where it does
@@ -92,7 +92,7 @@ told assumed s false unmet = (λ (yes : false ≡ true). cc, λ (m : IsMet assum
 pub told_not : (assumed : Option Condition) (s : Store) (e : ReplayError) → Tells assumed s (Err e) → ¬ IsMet assumed s
 told_not assumed s (stop.OutOfTurns copy) none m = none
 told_not assumed s (stop.Beyond copy op a b) none m = none
-told_not assumed s (stop.BeyondAssumed op a b) is m = let both = sym m.calm ∙ is in cc
+told_not assumed s (stop.BeyondAssumed op a b) is m = let both = sym m.no_event ∙ is in cc
 told_not assumed s stop.Memory none m = none
 
 -- what the answer to a trial shows

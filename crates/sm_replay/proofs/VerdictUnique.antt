@@ -23,7 +23,7 @@ use Rattle.sm_replay.specs.Laws.{VerdictIsOne, LeastTrialIsOne, FirstViolationIs
 use Rattle.sm_replay.specs.Trials.{trial, Names}
 use Rattle.sm_replay.specs.Verdicts.{cell_of, IsBelow, FailsAt, IsFirstBreak, KeepsOutputs, Breaks, IsUnmet, Stops}
 use Rattle.sm_replay.specs.Violations.{assumed_event, IsMet, AreEnds, KeepsAt}
-use Rattle.sm_replay.proofs.VerdictSound.{same_ends, not_kept, holds_calm, breaks_violates}
+use Rattle.sm_replay.proofs.VerdictSound.{same_ends, not_kept, holds_not_violated, breaks_violates}
 
 -- of two numbers one is less, or they are the same
 order : (a b : ℕ) → (a < b) ⊎ ((a ≡ b) ⊎ (b < a))
@@ -51,7 +51,7 @@ some_one x y is = cc
 
 -- no copy stops below the first that does
 stop_below : (program : Copy → Code) (s : Store) (n c d : ℕ) (e f : EvalError) → Stops program s n c e → Stops program s n d f → c < d → ⊥
-stop_below program s n c d e f p q lt = let clash : None ≡ Some e = sym (q.calm_before c lt) ∙ p.stops in cc
+stop_below program s n c d e f p q lt = let clash : None ≡ Some e = sym (q.no_event_before c lt) ∙ p.stops in cc
 
 stopped_one : (program : Copy → Code) (s : Store) (n c d : ℕ) (e f : EvalError) → Stops program s n c e → Stops program s n d f → stop_of c e ≡ stop_of d f
 stopped_one program s n c d e f p q =
@@ -131,16 +131,16 @@ module _ (t : Task) (s : Store) (n : ℕ) where
   met_unmet m u = u.fails m.meets
 
   met_beyond : (e : EvalError) → IsMet t.assumed s → assumed_event t.assumed s ≡ Some e → ⊥
-  met_beyond e m is = let clash : None ≡ Some e = sym m.calm ∙ is in cc
+  met_beyond e m is = let clash : None ≡ Some e = sym m.no_event ∙ is in cc
 
   unmet_beyond : (e : EvalError) → IsUnmet t.assumed s → assumed_event t.assumed s ≡ Some e → ⊥
-  unmet_beyond e u is = let clash : None ≡ Some e = sym u.calm ∙ is in cc
+  unmet_beyond e u is = let clash : None ≡ Some e = sym u.no_event ∙ is in cc
 
   ends_stop : (end : Copy → Store) (c : ℕ) (e : EvalError) → AreEnds (program_of t) s n end → Stops (program_of t) s n c e → ⊥
-  ends_stop end c e ends st = let clash : None ≡ Some e = sym (ends.calm (copy_of c)) ∙ st.stops in cc
+  ends_stop end c e ends st = let clash : None ≡ Some e = sym (ends.no_event (copy_of c)) ∙ st.stops in cc
 
   holds_breaks : (c : Cell) (p : ℕ) → KeepsOutputs t s n → Breaks t s n c p → ⊥
-  holds_breaks c p h b = holds_calm t s n h (breaks_violates t s n c p b)
+  holds_breaks c p h b = holds_not_violated t s n h (breaks_violates t s n c p b)
 
   breaks_one : (x y : Name) (i j : Option ℤ) (p q : ℕ) → Breaks t s n (cell_of x.0 i) p → Breaks t s n (cell_of y.0 j) q → verdict.Violates x i p ≡ verdict.Violates y j q
   breaks_one x y i j p q a b =
@@ -213,8 +213,8 @@ names_one t s n (verdict.Violates x i p) (verdict.Violates y j q) a b = breaks_o
 pub least_one : LeastTrialIsOne
 least_one t sorts n j k v w a b =
     let number : j ≡ k =
-    ⊎_elim (λ (lt : j < k). absurd (b.calm_before j lt a.violates))
-    (λ (h : (j ≡ k) ⊎ (k < j)). ⊎_elim (λ (e : j ≡ k). e) (λ (gt : k < j). absurd (a.calm_before k gt b.violates)) h) (order j k) in
+    ⊎_elim (λ (lt : j < k). absurd (b.no_violation_before j lt a.violates))
+    (λ (h : (j ≡ k) ⊎ (k < j)). ⊎_elim (λ (e : j ≡ k). e) (λ (gt : k < j). absurd (a.no_violation_before k gt b.violates)) h) (order j k) in
     (number, names_one t (trial sorts k) n v w (subst (λ (i : ℕ). Names t (trial sorts i) n v) number a.verdict) b.verdict)
 
 pub first_violation_one : FirstViolationIsOne

@@ -50,7 +50,7 @@ pub record IsLeast (t : Task) (sorts : Sorts) (n j : ℕ) (v : Verdict) : Type 0
   pub inside : j < trials
   pub violates : Violates t (trial sorts j) n
   pub verdict : Names t (trial sorts j) n v
-  pub calm_before : (i : ℕ) → i < j → ¬ Violates t (trial sorts i) n
+  pub no_violation_before : (i : ℕ) → i < j → ¬ Violates t (trial sorts i) n
 
 -- the least trial that violates, or none where no trial violates
 abbrev pub IsFirstViolation : Task → Sorts → ℕ → Option (ℕ × Verdict) → Type 0

@@ -60,14 +60,14 @@ pub record Breaks (t : Task) (s : Store) (n : ℕ) (cell : Cell) (part : ℕ) : 
 
 -- the assumption is computed, and is false
 pub record IsUnmet (assumed : Option Condition) (s : Store) : Type 0 where
-  pub calm : assumed_event assumed s ≡ None
+  pub no_event : assumed_event assumed s ≡ None
   pub fails : ¬ Meets assumed s
 
 -- the programs before the copy with this number have no event, and its first event is this
 pub record Stops (program : Copy → Code) (s : Store) (n copy : ℕ) (e : EvalError) : Type 0 where
   pub inside : copy < 4
   pub stops : event n (program (copy_of copy)) s ≡ Some e
-  pub calm_before : (c : ℕ) → c < copy → event n (program (copy_of c)) s ≡ None
+  pub no_event_before : (c : ℕ) → c < copy → event n (program (copy_of c)) s ≡ None
 
 -- what an answer says of a task, a start store and a bound on turns
 abbrev pub Judges : Task → Store → ℕ → Result Verdict ReplayError → Type 0

@@ -15,12 +15,12 @@ assumed_event (Some b) s = condition_event b s
 
 -- the store meets the assumption, where computing it leaves 128 bits nowhere
 pub record IsMet (assumed : Option Condition) (s : Store) : Type 0 where
-  pub calm : assumed_event assumed s ≡ None
+  pub no_event : assumed_event assumed s ≡ None
   pub meets : Meets assumed s
 
 -- four programs end in these stores without an event, where each loop takes at most n turns
 pub record AreEnds (program : Copy → Code) (s : Store) (n : ℕ) (end : Copy → Store) : Type 0 where
-  pub calm : (c : Copy) → event n (program c) s ≡ None
+  pub no_event : (c : Copy) → event n (program c) s ≡ None
   pub ends : (c : Copy) → run n (program c) s ≡ Some (end c)
 
 -- Keeps at one cell of four ends

@@ -48,7 +48,7 @@ fn end_of(
     turns: u64,
 ) -> Result<Store, ReplayError>
     requires { IsWellSorted (sorts_of input.now) (code_in programs.now (copy_named copy)) }
-    ensures calm { let code = code_in programs.now (copy_named copy) in
+    ensures no_event { let code = code_in programs.now (copy_named copy) in
         IfOk result (λ _. event turns code (meaning input.now) ≡ None) }
     ensures end { let code = code_in programs.now (copy_named copy) in
         IfOk result (λ end. run turns code (meaning input.now) ≡ Some (meaning end)) }
