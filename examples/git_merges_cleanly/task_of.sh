@@ -1,6 +1,6 @@
 #!/bin/sh
 # Writes the task of four versions of a program, of as many lines each: base, A, B and candidate. The declarations come
-# first, and end at an empty line. A line behind it that isn't the same in all four is a hole.
+# first, and end at an empty line. A line after it that isn't the same in all four is a hole.
 awk '
   FNR == 1 { version++ }
   { line[version, FNR] = $0; lines = FNR }

@@ -56,7 +56,7 @@ fn run<R: Threads + Sync>(
     Ok(out)
 }
 
-// The second run, where the first printed the text that it is to stand behind.
+// The second run, where the first printed the text after which its input stands.
 fn run_then<R: Threads + Sync>(
     rt: &R,
     alloc: Global,
@@ -66,7 +66,7 @@ fn run_then<R: Threads + Sync>(
     report: &mut Vec<u8>,
 ) -> Result<()> {
     let printed = std::str::from_utf8(printed)?;
-    if let Some((_front, input)) = printed.split_once(text_of(then, "behind")?) {
+    if let Some((_front, input)) = printed.split_once(text_of(then, "mark")?) {
         shelf.hold("i", input.as_bytes())?;
         let words = words_of(alloc, then, &mut 0)?;
         let _out = run(rt, alloc, then, &words, shelf, report)?;

@@ -25,7 +25,7 @@ fn block_of(alloc: Global, text: &str) -> Result<Block, TextError> {
         }
     }
     let cut = tokens(alloc, text.as_bytes())?;
-    let (block, _behind) = parse_block(alloc, text.as_bytes(), &cut, 0, 0, &mut names)?;
+    let (block, _after) = parse_block(alloc, text.as_bytes(), &cut, 0, 0, &mut names)?;
     Ok(block)
 }
 
@@ -42,12 +42,12 @@ fn a_program_is_read_and_printed(rt: HostRuntime) -> Result<(), Fail> {
 }
 
 #[test]
-fn a_head_is_read_whatever_stands_behind_it(rt: HostRuntime) -> Result<(), Fail> {
+fn a_head_is_read_whatever_follows_it(rt: HostRuntime) -> Result<(), Fail> {
     let text = "array a; output a; assume a[0] < 1; shared { skip; } base { z = /".as_bytes();
     let cut = tokens(rt.alloc(), text)?;
-    let (program, assumed, behind) = parse_head(rt.alloc(), text, &cut)?;
+    let (program, assumed, after) = parse_head(rt.alloc(), text, &cut)?;
     assert_eq!(rt;
-        (behind, program.names.len(), assumed.is_some()),
+        (after, program.names.len(), assumed.is_some()),
         (19, 1, true)
     );
     if let Some(c) = &assumed {
@@ -62,7 +62,7 @@ fn a_block_that_is_read_is_printed(rt: HostRuntime) -> Result<(), Fail> {
     let text = b"{ x=y; while(x<1) { } } /";
     let mut names = NameTable::new(rt.alloc());
     let cut = tokens(rt.alloc(), text)?;
-    let (block, _behind) = parse_block(rt.alloc(), text, &cut, 0, 0, &mut names)?;
+    let (block, _after) = parse_block(rt.alloc(), text, &cut, 0, 0, &mut names)?;
     let out = print_block(rt.alloc(), &names, &block, 1)?;
     let want = "{\n    x = y;\n    while (x < 1) {\n    }\n  }";
     assert_eq!(rt; out.as_slice(), want.as_bytes());
@@ -82,14 +82,14 @@ fn one_copy_is_filled(rt: HostRuntime) -> Result<(), Fail> {
 #[test]
 fn a_refused_block_leaves_the_table_as_it_was(rt: HostRuntime) -> Result<(), Fail> {
     let mut names = NameTable::new(rt.alloc());
-    for (text, behind, count) in [
+    for (text, after, count) in [
         ("{ y = ; }", None, 0),
         ("{ y = x; } /", Some(6), 2),
         ("{ z = 1; ", None, 2),
     ] {
         let cut = tokens(rt.alloc(), text.as_bytes())?;
         let read = parse_block(rt.alloc(), text.as_bytes(), &cut, 0, 63, &mut names);
-        assert_eq!(rt; read.ok().map(|(_block, found)| found), behind, "in {text}");
+        assert_eq!(rt; read.ok().map(|(_block, found)| found), after, "in {text}");
         assert_eq!(rt; names.len(), count, "in {text}");
     }
     names.cut(1);

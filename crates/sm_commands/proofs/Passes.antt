@@ -4,7 +4,7 @@ use Rattle.sm_syntax.specs.claim.ConflictFree.{Copy, O, A, B, M}
 use Rattle.sm_syntax.specs.declared.tree.Name.{Name}
 use Rattle.sm_commands.specs.Copies.{Origins, broken_clause, first_broken}
 
--- the first output from i on that breaks a clause is the first behind it
+-- the first output from i on that breaks a clause is the first after it
 pub passes : (outputs : List Name) (i : ℕ) (d : Name) (after : Copy → Origins) → i < length outputs →
     (let x = (get_or outputs i d).0 in broken_clause (after O x) (after A x) (after B x) (after M x) ≡ None) →
     first_broken (map (λ (x : Name). x.0) (drop (i + 1) outputs)) after ≡ first_broken (map (λ (x : Name). x.0) (drop i outputs)) after

@@ -63,12 +63,12 @@ lost_here true c m n lacked got more = absurd cc
 lost_here false true m n lacked got more = omega arith
 lost_here false false m n lacked got more = absurd cc
 
--- or behind
-lost_behind : (b c : Bool) (m n : ℕ) → (b ≡ true → c ≡ true) → n < m → (if c then n else suc n) < (if b then m else suc m)
-lost_behind true true m n grows more = more
-lost_behind true false m n grows more = absurd (let no : false ≡ true = grows refl in cc)
-lost_behind false true m n grows more = omega arith
-lost_behind false false m n grows more = omega arith
+-- or later
+lost_after : (b c : Bool) (m n : ℕ) → (b ≡ true → c ≡ true) → n < m → (if c then n else suc n) < (if b then m else suc m)
+lost_after true true m n grows more = more
+lost_after true false m n grows more = absurd (let no : false ≡ true = grows refl in cc)
+lost_after false true m n grows more = omega arith
+lost_after false false m n grows more = omega arith
 
 -- a greater set with a name more lacks fewer
 fewer_by_one : (set more : Test) (list : List ℕ) (y : ℕ) → Below set more → is_in list y ≡ true → set y ≡ false → more y ≡ true → lacking more list < lacking set list
@@ -78,7 +78,7 @@ fewer_by_one set more (z ∷ rest) y h there lacked got =
     (λ (here : (y == z) ≡ true).
     let same : y ≡ z = eqb-true y z here in
     lost_here (set z) (more z) (lacking set rest) (lacking more rest) (subst (λ (q : ℕ). set q ≡ false) same lacked) (subst (λ (q : ℕ). more q ≡ true) same got) (fewer set more rest h))
-    (λ (behind : is_in rest y ≡ true). lost_behind (set z) (more z) (lacking set rest) (lacking more rest) (h z) (fewer_by_one set more rest y h behind lacked got))
+    (λ (after : is_in rest y ≡ true). lost_after (set z) (more z) (lacking set rest) (lacking more rest) (h z) (fewer_by_one set more rest y h after lacked got))
     (or_cases (y == z) (is_in rest y) there)
 
 -- a name of the list that is new in a greater set, or none
@@ -98,7 +98,7 @@ first_new set more (z ∷ rest) =
     ⊎_elim
     (λ (here : (y == z) ≡ true).
     let same : y ≡ z = eqb-true y z here in subst (λ (q : ℕ). set q ≡ true) (sym same) (kept (subst (λ (q : ℕ). more q ≡ true) same m)))
-    (λ (behind : is_in rest y ≡ true). none y behind m)
+    (λ (after : is_in rest y ≡ true). none y after m)
     (or_cases (y == z) (is_in rest y) there)))
     (λ (new : (set z ≡ false) × (more z ≡ true)). inl (z, (or_left (z == z) (is_in rest z) (eq-eqb z z refl), new.0, new.1)))
     (kept_or_new (set z) (more z)))

@@ -68,10 +68,10 @@ needed_declared sorts (Write a i e k) wanted good h x m =
     (and_parts (needed k wanted a) (mentions i x || mentions e x) new).1)
     m
 needed_declared sorts (If b c d k) wanted good h x m =
-    let behind : Below (needed k wanted) (declared sorts) = needed_declared sorts k wanted good.3 h in
+    let after : Below (needed k wanted) (declared sorts) = needed_declared sorts k wanted good.3 h in
     in_parts (needed c (needed k wanted) x) (needed d (needed k wanted) x || tests b x) (declared sorts x ≡ true)
-    (needed_declared sorts c (needed k wanted) good.1 behind x)
-    (in_parts (needed d (needed k wanted) x) (tests b x) (declared sorts x ≡ true) (needed_declared sorts d (needed k wanted) good.2 behind x) (tests_declared sorts b good.0 x))
+    (needed_declared sorts c (needed k wanted) good.1 after x)
+    (in_parts (needed d (needed k wanted) x) (tests b x) (declared sorts x ≡ true) (needed_declared sorts d (needed k wanted) good.2 after x) (tests_declared sorts b good.0 x))
     m
 needed_declared sorts (While b c k) wanted good h x m =
     grown_within (length (code_names c)) (needed c) (λ (y : ℕ). needed k wanted y || tests b y) (declared sorts)

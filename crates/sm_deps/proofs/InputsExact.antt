@@ -101,17 +101,17 @@ comes (If b c d k) wanted x h =
     let two = names_tested b ++ names_used c in
     let three = names_tested b ++ names_used c ++ names_used d in
     let all = names_tested b ++ names_used c ++ names_used d ++ names_used k in
-    let behind : needed k wanted x ≡ true → (wanted x ≡ true) ⊎ (stands all x ≡ true) = λ m.
+    let after : needed k wanted x ≡ true → (wanted x ≡ true) ⊎ (stands all x ≡ true) = λ m.
     known_wider wanted x (names_used k) all (in_second three (names_used k) x) (comes k wanted x m) in
     ⊎_elim
     (λ (first : needed c (needed k wanted) x ≡ true).
-    ⊎_elim behind
+    ⊎_elim after
     (λ (s : stands (names_used c) x ≡ true). inr (in_first three (names_used k) x (in_first two (names_used d) x (in_second one (names_used c) x s))))
     (comes c (needed k wanted) x first))
     (λ (rest : (needed d (needed k wanted) x || tests b x) ≡ true).
     ⊎_elim
     (λ (second : needed d (needed k wanted) x ≡ true).
-    ⊎_elim behind (λ (s : stands (names_used d) x ≡ true). inr (in_first three (names_used k) x (in_second two (names_used d) x s))) (comes d (needed k wanted) x second))
+    ⊎_elim after (λ (s : stands (names_used d) x ≡ true). inr (in_first three (names_used k) x (in_second two (names_used d) x s))) (comes d (needed k wanted) x second))
     (λ (guard : tests b x ≡ true). inr (in_first three (names_used k) x (in_first two (names_used d) x (in_first one (names_used c) x (tests_listed b x guard)))))
     (or_cases (needed d (needed k wanted) x) (tests b x) rest))
     (or_cases (needed c (needed k wanted) x) (needed d (needed k wanted) x || tests b x) h)
@@ -128,10 +128,10 @@ comes (While b c k) wanted x h =
     (comes c part y m))
     (λ (y : ℕ) (m : (needed k wanted y || tests b y) ≡ true).
     ⊎_elim
-    (λ (behind : needed k wanted y ≡ true).
+    (λ (after : needed k wanted y ≡ true).
     ⊎_elim (or_left (wanted y) (stands all y))
     (λ (s : stands (names_used k) y ≡ true). or_right (wanted y) (stands all y) (in_second two (names_used k) y s))
-    (comes k wanted y behind))
+    (comes k wanted y after))
     (λ (guard : tests b y ≡ true). or_right (wanted y) (stands all y) (in_first two (names_used k) y (in_first one (names_used c) y (tests_listed b y guard))))
     (or_cases (needed k wanted y) (tests b y) m))
     x h)
@@ -166,12 +166,12 @@ needed_sound (Write a i e k) test wanted h x m =
     inr (needed_sound k test wanted h a parts.0, or_cases (mentions i x) (mentions e x) parts.1))
     (or_cases (needed k test x) (needed k test a && (mentions i x || mentions e x)) m)
 needed_sound (If b c d k) test wanted h x m =
-    let behind : Within (Picked (needed k test)) (Needs k wanted) = needed_sound k test wanted h in
+    let after : Within (Picked (needed k test)) (Needs k wanted) = needed_sound k test wanted h in
     ⊎_elim
-    (λ (first : needed c (needed k test) x ≡ true). inl (needed_sound c (needed k test) (Needs k wanted) behind x first))
+    (λ (first : needed c (needed k test) x ≡ true). inl (needed_sound c (needed k test) (Needs k wanted) after x first))
     (λ (rest : (needed d (needed k test) x || tests b x) ≡ true).
     ⊎_elim
-    (λ (second : needed d (needed k test) x ≡ true). inr (inl (needed_sound d (needed k test) (Needs k wanted) behind x second)))
+    (λ (second : needed d (needed k test) x ≡ true). inr (inl (needed_sound d (needed k test) (Needs k wanted) after x second)))
     (λ (guard : tests b x ≡ true). inr (inr guard))
     (or_cases (needed d (needed k test) x) (tests b x) rest))
     (or_cases (needed c (needed k test) x) (needed d (needed k test) x || tests b x) m)
@@ -180,7 +180,7 @@ needed_sound (While b c k) test wanted h x m = λ (set : ℕ → Bool) (starts :
     (λ (part : ℕ → Bool) (below : Below part set) (y : ℕ) (n : needed c part y ≡ true). stays y (needed_sound c part (Picked set) below y n))
     (λ (y : ℕ) (n : (needed k test y || tests b y) ≡ true).
     ⊎_elim
-    (λ (behind : needed k test y ≡ true). starts y (inl (needed_sound k test wanted h y behind)))
+    (λ (after : needed k test y ≡ true). starts y (inl (needed_sound k test wanted h y after)))
     (λ (guard : tests b y ≡ true). starts y (inr guard))
     (or_cases (needed k test y) (tests b y) n))
     x m
@@ -208,14 +208,14 @@ needed_complete (Write a i e k) test wanted h x m =
     (⊎_elim (or_left (mentions i x) (mentions e x)) (or_right (mentions i x) (mentions e x)) new.1)))
     m
 needed_complete (If b c d k) test wanted h x m =
-    let behind : Within (Needs k wanted) (Picked (needed k test)) = needed_complete k test wanted h in
+    let after : Within (Needs k wanted) (Picked (needed k test)) = needed_complete k test wanted h in
     ⊎_elim
     (λ (first : Needs c (Needs k wanted) x).
-    or_left (needed c (needed k test) x) (needed d (needed k test) x || tests b x) (needed_complete c (needed k test) (Needs k wanted) behind x first))
+    or_left (needed c (needed k test) x) (needed d (needed k test) x || tests b x) (needed_complete c (needed k test) (Needs k wanted) after x first))
     (λ (rest : Needs d (Needs k wanted) x ⊎ IsTrue (tests b x)).
     or_right (needed c (needed k test) x) (needed d (needed k test) x || tests b x)
     (⊎_elim
-    (λ (second : Needs d (Needs k wanted) x). or_left (needed d (needed k test) x) (tests b x) (needed_complete d (needed k test) (Needs k wanted) behind x second))
+    (λ (second : Needs d (Needs k wanted) x). or_left (needed d (needed k test) x) (tests b x) (needed_complete d (needed k test) (Needs k wanted) after x second))
     (or_right (needed d (needed k test) x) (tests b x))
     rest))
     m
@@ -226,7 +226,7 @@ needed_complete (While b c k) test wanted h x m =
     (λ (y : ℕ) (f : Needs k wanted y ⊎ IsTrue (tests b y)).
     grown_starts (length (code_names c)) (needed c) start y
     (⊎_elim
-    (λ (behind : Needs k wanted y). or_left (needed k test y) (tests b y) (needed_complete k test wanted h y behind))
+    (λ (after : Needs k wanted y). or_left (needed k test y) (tests b y) (needed_complete k test wanted h y after))
     (or_right (needed k test y) (tests b y))
     f))
     (λ (y : ℕ) (n : Needs c (Picked set) y).
@@ -239,7 +239,7 @@ filter_step : (b : Bool) (p : ℕ → Bool) (y x : ℕ) (kept rest : List ℕ) �
 filter_step true p y x kept rest is more h =
     ⊎_elim
     (λ (here : (x == y) ≡ true). (ap p (eqb-true x y here) ∙ is, or_left (x == y) (is_in rest x) here))
-    (λ (behind : is_in kept x ≡ true). let m = more behind in (m.0, or_right (x == y) (is_in rest x) m.1))
+    (λ (after : is_in kept x ≡ true). let m = more after in (m.0, or_right (x == y) (is_in rest x) m.1))
     (or_cases (x == y) (is_in kept x) h)
 filter_step false p y x kept rest is more h = let m = more h in (m.0, or_right (x == y) (is_in rest x) m.1)
 
@@ -248,11 +248,11 @@ filter_sound : (p : ℕ → Bool) (l : List ℕ) (x : ℕ) → is_in (filter p l
 filter_sound p [] x h = absurd cc
 filter_sound p (y ∷ rest) x h = filter_step (p y) p y x (filter p rest) rest refl (filter_sound p rest x) h
 
--- one number that passes a test, at the front or behind
+-- one number that passes a test, at the front or after
 keep_step : (b : Bool) (p : ℕ → Bool) (y x : ℕ) (kept rest : List ℕ) → p y ≡ b → p x ≡ true → (is_in rest x ≡ true → is_in kept x ≡ true) →
     is_in (y ∷ rest) x ≡ true → is_in (cond b (y ∷ kept) kept) x ≡ true
 keep_step true p y x kept rest is passes more h =
-    ⊎_elim (or_left (x == y) (is_in kept x)) (λ (behind : is_in rest x ≡ true). or_right (x == y) (is_in kept x) (more behind)) (or_cases (x == y) (is_in rest x) h)
+    ⊎_elim (or_left (x == y) (is_in kept x)) (λ (after : is_in rest x ≡ true). or_right (x == y) (is_in kept x) (more after)) (or_cases (x == y) (is_in rest x) h)
 keep_step false p y x kept rest is passes more h =
     ⊎_elim
     (λ (here : (x == y) ≡ true). let both : p x ≡ false = ap p (eqb-true x y here) ∙ is in absurd cc)
@@ -287,7 +287,7 @@ at_most_greatest [] x h = absurd cc
 at_most_greatest (y ∷ rest) x h =
     ⊎_elim
     (λ (here : (x == y) ≡ true). let same = eqb-true x y here in omega (arith, same))
-    (λ (behind : is_in rest x ≡ true). let more = at_most_greatest rest x behind in omega (arith, more))
+    (λ (after : is_in rest x ≡ true). let more = at_most_greatest rest x after in omega (arith, more))
     (or_cases (x == y) (is_in rest x) h)
 
 -- the list of inputs has exactly the names that are computed

@@ -23,11 +23,11 @@ needs_grow (Write a i e k) few more h x n =
     (λ (new : Needs k few a × (IsTrue (mentions i x) ⊎ IsTrue (mentions e x))). inr (needs_grow k few more h a new.0, new.1))
     n
 needs_grow (If b c d k) few more h x n =
-    let behind : Within (Needs k few) (Needs k more) = needs_grow k few more h in
+    let after : Within (Needs k few) (Needs k more) = needs_grow k few more h in
     ⊎_elim
-    (λ (first : Needs c (Needs k few) x). inl (needs_grow c (Needs k few) (Needs k more) behind x first))
+    (λ (first : Needs c (Needs k few) x). inl (needs_grow c (Needs k few) (Needs k more) after x first))
     (λ (rest : Needs d (Needs k few) x ⊎ IsTrue (tests b x)).
-    inr (first_grows (Needs d (Needs k few) x) (Needs d (Needs k more) x) (IsTrue (tests b x)) (needs_grow d (Needs k few) (Needs k more) behind x) rest))
+    inr (first_grows (Needs d (Needs k few) x) (Needs d (Needs k more) x) (IsTrue (tests b x)) (needs_grow d (Needs k few) (Needs k more) after x) rest))
     n
 needs_grow (While b c k) few more h x n = λ (set : ℕ → Bool) (starts : Within (λ (y : ℕ). Needs k more y ⊎ IsTrue (tests b y)) (Picked set)) (stays : Within (Needs c (Picked set)) (Picked set)).
     n set

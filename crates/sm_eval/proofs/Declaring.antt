@@ -1,4 +1,4 @@
--- The sorts of names, some of which have slots, where the others are declared behind them.
+-- The sorts of names, some of which have slots, where the others are declared after them.
 use Rattle.std.proofs.Common.{◌≡◌, ℕ, Option, List}
 use Rattle.std.specs.Option.{option_or}
 use Rattle.sm_syntax.specs.declared.tree.Name.{Name}

@@ -11,16 +11,16 @@ use Rattle.sm_eval.proofs.Integers.{int_same, int_differs}
 abbrev pub NoneBefore : List (ℤ × ℤ) → ℤ → ℕ → Type 0
 NoneBefore l i p = (q : ℕ) → q < p → index_at l q ≢ i
 
--- no cell behind a place has the index
-abbrev pub NoneBehind : List (ℤ × ℤ) → ℤ → ℕ → Type 0
-NoneBehind l i p = (q : ℕ) → p < q → q < length l → index_at l q ≢ i
+-- no cell after a place has the index
+abbrev pub NoneAfter : List (ℤ × ℤ) → ℤ → ℕ → Type 0
+NoneAfter l i p = (q : ℕ) → p < q → q < length l → index_at l q ≢ i
 
 -- none in the rest either
 none_before_rest : (c : ℤ × ℤ) (l : List (ℤ × ℤ)) (i : ℤ) (p : ℕ) → NoneBefore (c ∷ l) i (suc p) → NoneBefore l i p
 none_before_rest c l i p none q lt = none (suc q) (omega arith)
 
-none_behind_rest : (c : ℤ × ℤ) (l : List (ℤ × ℤ)) (i : ℤ) (p : ℕ) → NoneBehind (c ∷ l) i (suc p) → NoneBehind l i p
-none_behind_rest c l i p none q lt here = none (suc q) (omega arith) (omega arith)
+none_after_rest : (c : ℤ × ℤ) (l : List (ℤ × ℤ)) (i : ℤ) (p : ℕ) → NoneAfter (c ∷ l) i (suc p) → NoneAfter l i p
+none_after_rest c l i p none q lt here = none (suc q) (omega arith) (omega arith)
 
 -- in the rest, a cell stands one place lower
 is_at_rest : (c : ℤ × ℤ) (l : List (ℤ × ℤ)) (i : ℤ) (p : ℕ) → IsAt (c ∷ l) i (suc p) → IsAt l i p
@@ -55,9 +55,9 @@ apart_tests : (q i j : ℤ) → i ≢ j → int_eq q i ≡ true → int_eq q j �
 apart_tests q i j differs first second = differs (sym ((Decides-int_eq q i).0 first) ∙ (Decides-int_eq q j).0 second)
 
 -- a first cell before an edit of the rest
-behind_first : (c : ℤ × ℤ) (l new : List (ℤ × ℤ)) (i z q : ℤ) → c.0 ≢ i → listed new q ≡ (if int_eq q i then z else listed l q) →
+after_first : (c : ℤ × ℤ) (l new : List (ℤ × ℤ)) (i z q : ℤ) → c.0 ≢ i → listed new q ≡ (if int_eq q i then z else listed l q) →
     listed (c ∷ new) q ≡ (if int_eq q i then z else listed (c ∷ l) q)
-behind_first c l new i z q differs rest =
+after_first c l new i z q differs rest =
     ap (λ (r : ℤ). if int_eq q c.0 then c.1 else r) rest ∙
     exchanged (int_eq q c.0) (int_eq q i) c.1 z (listed l q) (apart_tests q c.0 i differs)
 
@@ -73,7 +73,7 @@ listed-set [] i z p at none q = absurd (omega (arith, at.in_range))
 listed-set (c ∷ l) i z zero at none q =
     asked_again (int_eq q i) z c.1 (listed l q) ∙ ap (λ (j : ℤ). if int_eq q i then z else (if int_eq q j then c.1 else listed l q)) (sym at.same)
 listed-set (c ∷ l) i z (suc p) at none q =
-    behind_first c l (set l p (i, z)) i z q (none 0 (omega arith)) (listed-set l i z p (is_at_rest c l i p at) (none_before_rest c l i p none) q)
+    after_first c l (set l p (i, z)) i z q (none 0 (omega arith)) (listed-set l i z p (is_at_rest c l i p at) (none_before_rest c l i p none) q)
 
 -- a new cell, before any that has the index
 pub listed-insert : (l : List (ℤ × ℤ)) (i z : ℤ) (p : ℕ) → NoneBefore l i p → (q : ℤ) →
@@ -81,7 +81,7 @@ pub listed-insert : (l : List (ℤ × ℤ)) (i z : ℤ) (p : ℕ) → NoneBefore
 listed-insert l i z zero none q = refl
 listed-insert [] i z (suc p) none q = refl
 listed-insert (c ∷ l) i z (suc p) none q =
-    behind_first c l (insert l p (i, z)) i z q (none 0 (omega arith)) (listed-insert l i z p (none_before_rest c l i p none) q)
+    after_first c l (insert l p (i, z)) i z q (none 0 (omega arith)) (listed-insert l i z p (none_before_rest c l i p none) q)
 
 -- what is 0 where the index is asked for
 pub zero_there : (b : Bool) (r : ℤ) → (b ≡ true → r ≡ pos 0) → r ≡ (if b then pos 0 else r)
@@ -89,15 +89,15 @@ zero_there true r none = none refl
 zero_there false r none = refl
 
 -- without the only cell of the index
-pub listed-remove : (l : List (ℤ × ℤ)) (i : ℤ) (p : ℕ) → IsAt l i p → NoneBefore l i p → NoneBehind l i p → (q : ℤ) →
+pub listed-remove : (l : List (ℤ × ℤ)) (i : ℤ) (p : ℕ) → IsAt l i p → NoneBefore l i p → NoneAfter l i p → (q : ℤ) →
     listed (remove l p) q ≡ (if int_eq q i then pos 0 else listed l q)
-listed-remove [] i p at before behind q = absurd (omega (arith, at.in_range))
-listed-remove (c ∷ l) i zero at before behind q =
+listed-remove [] i p at before after q = absurd (omega (arith, at.in_range))
+listed-remove (c ∷ l) i zero at before after q =
     zero_there (int_eq q i) (listed l q)
     (λ (same : int_eq q i ≡ true).
-    ap (listed l) ((Decides-int_eq q i).0 same) ∙ listed_absent l i (λ (r : ℕ) (lt : r < length l). behind (suc r) (omega arith) (omega arith))) ∙
+    ap (listed l) ((Decides-int_eq q i).0 same) ∙ listed_absent l i (λ (r : ℕ) (lt : r < length l). after (suc r) (omega arith) (omega arith))) ∙
     asked_again (int_eq q i) (pos 0) c.1 (listed l q) ∙
     ap (λ (j : ℤ). if int_eq q i then pos 0 else (if int_eq q j then c.1 else listed l q)) (sym at.same)
-listed-remove (c ∷ l) i (suc p) at before behind q =
-    behind_first c l (remove l p) i (pos 0) q (before 0 (omega arith))
-    (listed-remove l i p (is_at_rest c l i p at) (none_before_rest c l i p before) (none_behind_rest c l i p behind) q)
+listed-remove (c ∷ l) i (suc p) at before after q =
+    after_first c l (remove l p) i (pos 0) q (before 0 (omega arith))
+    (listed-remove l i p (is_at_rest c l i p at) (none_before_rest c l i p before) (none_after_rest c l i p after) q)

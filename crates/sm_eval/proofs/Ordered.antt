@@ -15,20 +15,20 @@ use Rattle.sm_syntax.specs.claim.Stores.{with_element}
 use Rattle.sm_eval.specs.Cells.{listed, index_at, cell_number_at, IsAscending, AreCells}
 use Rattle.sm_eval.specs.Places.{IsAt, IsGapFor}
 use Rattle.sm_eval.proofs.Integers.{not_below_itself, ranks_rise}
-use Rattle.sm_eval.proofs.Listed.{NoneBefore, NoneBehind, listed_absent, listed_present, listed-set, listed-insert, zero_there, listed-remove}
+use Rattle.sm_eval.proofs.Listed.{NoneBefore, NoneAfter, listed_absent, listed_present, listed-set, listed-insert, zero_there, listed-remove}
 
 -- an order of numbers that are equal to others
 moved : (a b x y : ℤ) → a ≡ x → b ≡ y → x <ℤ y → a <ℤ b
 moved a b x y first second below = subst (λ (v : ℤ). v <ℤ b) (sym first) (subst (λ (v : ℤ). x <ℤ v) (sym second) below)
 
--- a place is before another, that one, or behind it
+-- a place is before another, that one, or after it
 place_cases : (q p : ℕ) → (q < p) ⊎ ((q ≡ p) ⊎ (p < q))
 place_cases q p = by (cases_lt q p) (cases_eq q p)
   where
     by : ((q < p) ⊎ (p ≤ q)) → ((q ≡ p) ⊎ (q ≡ p → ⊥)) → (q < p) ⊎ ((q ≡ p) ⊎ (p < q))
     by (inl before) other = inl before
-    by (inr behind) (inl same) = inr (inl same)
-    by (inr behind) (inr differs) = inr (inr (omega arith))
+    by (inr after) (inl same) = inr (inl same)
+    by (inr after) (inr differs) = inr (inr (omega arith))
 
 module _ (l : List (ℤ × ℤ)) (ascending : IsAscending l) (i : ℤ) where
   -- a place that isn't later has no later comparison with an index
@@ -61,8 +61,8 @@ module _ (l : List (ℤ × ℤ)) (cells : AreCells l) (i : ℤ) (p : ℕ) (at : 
   none_before : NoneBefore l i p
   none_before q lt same = not_below_itself (index_at l q) (index_at l p) (cells.ascending q p lt at.in_range) (same ∙ sym at.same)
 
-  none_behind : NoneBehind l i p
-  none_behind q lt in_range same = not_below_itself (index_at l p) (index_at l q) (cells.ascending p q lt in_range) (at.same ∙ sym same)
+  none_after : NoneAfter l i p
+  none_after q lt in_range same = not_below_itself (index_at l p) (index_at l q) (cells.ascending p q lt in_range) (at.same ∙ sym same)
 
   -- the cell has the number of the index
   pub listed_at : listed l i ≡ cell_number_at l p
@@ -74,7 +74,7 @@ module _ (l : List (ℤ × ℤ)) (cells : AreCells l) (i : ℤ) (p : ℕ) (at : 
 
   -- without the cell, the index has 0
   pub remove_is : listed (remove l p) ≡ with_element (listed l) i (pos 0)
-  remove_is = fun_ext (λ (q : ℤ). listed-remove l i p at none_before none_behind q)
+  remove_is = fun_ext (λ (q : ℤ). listed-remove l i p at none_before none_after q)
 
   -- each place keeps its index
   index_at-set : (z : ℤ) (q : ℕ) → ((q ≡ p) ⊎ (q ≡ p → ⊥)) → index_at (set l p (i, z)) q ≡ index_at l q
@@ -103,14 +103,14 @@ module _ (l : List (ℤ × ℤ)) (cells : AreCells l) (i : ℤ) (p : ℕ) (at : 
   shifted : (q : ℕ) → ((q < p) ⊎ (p ≤ q)) → q < length (remove l p) →
       (r : ℕ) × (get_or (remove l p) q (pos 0, pos 0) ≡ get_or l r (pos 0, pos 0)) × (r < length l)
   shifted q (inl before) lt = (q, get_or-remove_below l p (pos 0, pos 0) q before at.in_range, let long = length-remove l p at.in_range in omega arith)
-  shifted q (inr behind) lt = (q + 1, get_or-remove_above l p (pos 0, pos 0) q behind at.in_range, let long = length-remove l p at.in_range in omega arith)
+  shifted q (inr after) lt = (q + 1, get_or-remove_above l p (pos 0, pos 0) q after at.in_range, let long = length-remove l p at.in_range in omega arith)
 
   -- the index at a place without the cell
   index_below : (q : ℕ) → q < p → index_at (remove l p) q ≡ index_at l q
   index_below q before = ap (λ (c : ℤ × ℤ). c.0) (get_or-remove_below l p (pos 0, pos 0) q before at.in_range)
 
   index_above : (q : ℕ) → p ≤ q → index_at (remove l p) q ≡ index_at l (q + 1)
-  index_above q behind = ap (λ (c : ℤ × ℤ). c.0) (get_or-remove_above l p (pos 0, pos 0) q behind at.in_range)
+  index_above q after = ap (λ (c : ℤ × ℤ). c.0) (get_or-remove_above l p (pos 0, pos 0) q after at.in_range)
 
   ascending-remove : (q r : ℕ) → ((q < p) ⊎ (p ≤ q)) → ((r < p) ⊎ (p ≤ r)) → q < r → r < length (remove l p) → index_at (remove l p) q <ℤ index_at (remove l p) r
   ascending-remove q r (inl first) (inl second) lt in_range =
@@ -139,7 +139,7 @@ module _ (l : List (ℤ × ℤ)) (i : ℤ) (p : ℕ) (gap : IsGapFor l i p) wher
 
   none_at_all : (q : ℕ) → ((q < p) ⊎ (p ≤ q)) → q < length l → index_at l q ≢ i
   none_at_all q (inl before) lt same = not_below_itself (index_at l q) i (gap.smaller_before q before) same
-  none_at_all q (inr behind) lt same = not_below_itself i (index_at l q) (gap.greater_after q behind lt) (sym same)
+  none_at_all q (inr after) lt same = not_below_itself i (index_at l q) (gap.greater_after q after lt) (sym same)
 
   -- an index that has a gap has 0
   pub listed_gap : listed l i ≡ pos 0
@@ -161,7 +161,7 @@ module _ (l : List (ℤ × ℤ)) (i : ℤ) (p : ℕ) (gap : IsGapFor l i p) wher
     below q before = get_or-insert_below l p (i, z) (pos 0, pos 0) q before gap.in_range
 
     above : (q : ℕ) → p < q → get_or (insert l p (i, z)) q (pos 0, pos 0) ≡ get_or l (q - 1) (pos 0, pos 0)
-    above q behind =
+    above q after =
         subst (λ (r : ℕ). get_or (insert l p (i, z)) r (pos 0, pos 0) ≡ get_or l (q - 1) (pos 0, pos 0)) {x = q - 1 + 1} (omega arith)
         (get_or-insert_above l p (i, z) (pos 0, pos 0) (q - 1) (omega arith) gap.in_range)
 

@@ -1,4 +1,4 @@
--- A list that stands behind some room, after an edit of what holds both.
+-- A list that stands after some room, after an edit of what holds both.
 use Rattle.std.proofs.Common.{◌≡◌, ◌<◌, ◌≤◌, ◌+◌, ◌++◌, ◌∷◌, ℕ, suc, List, length, get_or, set, take, drop, sym, ap, ◌∙◌, arith}
 use Rattle.std.specs.List.{insert, remove}
 use Rattle.std.proofs.Math.Seq.{paste, take-add, drop-cons}

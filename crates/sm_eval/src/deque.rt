@@ -6,7 +6,7 @@ ghost use Rattle.std.specs.List.{insert, remove};
 use std::alloc::{AllocError, Global};
 use std::marker::Model;
 
-/// A list of pairs. A pair that is inserted moves those before it or those behind it, whichever
+/// A list of pairs. A pair that is inserted moves those before it or those after it, whichever
 /// are fewer.
 #[derive(Debug, Drop)]
 pub struct Deque {

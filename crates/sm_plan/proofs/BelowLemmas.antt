@@ -246,8 +246,8 @@ inner_below k st counts keep b fresh = record {
 }
 
 -- after them
-pub behind_below : (k : ℕ) (st : State) (counts : Copy → ℕ) (keep : Assertion) → IsStateBelow k st → IsFormBelow k keep → IsStateBelow (suc k) (next.after_block_state st k counts keep)
-behind_below k st counts keep b fresh =
+pub after_block_below : (k : ℕ) (st : State) (counts : Copy → ℕ) (keep : Assertion) → IsStateBelow k st → IsFormBelow k keep → IsStateBelow (suc k) (next.after_block_state st k counts keep)
+after_block_below k st counts keep b fresh =
     let stores = next.renewed k (next.fronts st counts) st.stores in
     let all = renewed_below k (next.fronts st counts) st.stores b.stores in
     record {

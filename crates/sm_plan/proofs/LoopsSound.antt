@@ -101,9 +101,9 @@ sound_among f v (w ∷ vs) others (inl e) all = subst (λ (x : Copies). IsSound 
 sound_among f v (w ∷ vs) others (inr h) all = sound_among f v vs others h all.1
 
 -- the ones after
-pub sound_behind : (first second : List State) → AreSound (first ++ second) → AreSound first × AreSound second
-sound_behind [] second all = (tt, all)
-sound_behind (st ∷ first) second all = let p = sound_behind first second all.1 in ((all.0, p.0), p.1)
+pub sound_parts : (first second : List State) → AreSound (first ++ second) → AreSound first × AreSound second
+sound_parts [] second all = (tt, all)
+sound_parts (st ∷ first) second all = let p = sound_parts first second all.1 in ((all.0, p.0), p.1)
 
 module _ (k : ℕ) (st : State) (set : Copies) (keep : Assertion) (below : IsStateBelow k st) (fresh : IsFormBelow k keep)
     (loops : (c : Copy) → has set c ≡ true → is_loop (st.rest c) ≡ true)
@@ -220,7 +220,7 @@ pub loop_node_sound : (k : ℕ) (st : State) (set : Copies) (keep : Assertion) �
     each (λ (c : Copy). not (has set c) || is_loop (st.rest c)) ≡ true → AllValid st.facts (all_at_stores st.stores (conj keep)) →
     AreSound (map (next.turn_state st k set keep) (subsets set) ++ next.after_loops_state st k set keep ∷ []) → IsSound st
 loop_node_sound k st set keep below fresh all valid states m end facts ends =
-    let parts = sound_behind (map (next.turn_state st k set keep) (subsets set)) (next.after_loops_state st k set keep ∷ []) states in
+    let parts = sound_parts (map (next.turn_state st k set keep) (subsets set)) (next.after_loops_state st k set keep ∷ []) states in
     loops_sound k st set keep below fresh
     (λ (c : Copy) (h : has set c ≡ true). in_set (has set c) (is_loop (st.rest c)) (each_true (λ (d : Copy). not (has set d) || is_loop (st.rest d)) all c) h)
     (λ (v : Copies) (within : (c : Copy) → has v c ≡ true → has set c ≡ true) (some : is_inhabited v ≡ true).

@@ -19,7 +19,7 @@ use Rattle.sm_plan.specs.Plans.{AllValid}
 use Rattle.sm_plan.specs.SoundStates.{IsSound, AreSound, IsStateBelow, AreStatesBelow}
 use Rattle.sm_plan.proofs.CopySound.{step_sound, both_ways_sound, summary_sound}
 use Rattle.sm_plan.proofs.LoopsSound.{ends_sound, block_sound, loop_node_sound}
-use Rattle.sm_plan.proofs.BelowLemmas.{conj_below, all_at_stores_below, stepped_below, moved_below, form_below, negate_below, summarized_below, false_guard_below, state_later, states_append, turns_below, after_below, inner_below, behind_below}
+use Rattle.sm_plan.proofs.BelowLemmas.{conj_below, all_at_stores_below, stepped_below, moved_below, form_below, negate_below, summarized_below, false_guard_below, state_later, states_append, turns_below, after_below, inner_below, after_block_below}
 
 -- a test that passed
 where_true_is : (b : Bool) (r q : Opened) → where_true b r ≡ Some q → (b ≡ true) × (r ≡ q)
@@ -114,7 +114,7 @@ node_below k st (Loop set keep) q below fresh e =
     (states_append (suc k) turns (next.after_loops_state st k set keep ∷ []) (turns_below k st set keep below fresh (subsets set)) (after_below k st set keep below fresh, tt))
 node_below k st (Block counts keep) q below fresh e =
     let p = where_true_is (each (λ (c : Copy). is_long (counts c) (st.rest c)) && is_kept keep) (follows (next.inner_state st counts keep ∷ next.after_block_state st k counts keep ∷ [])) q e in
-    subst (λ (r : Opened). AreStatesBelow (suc k) r.states) p.1 (inner_below k st counts keep below fresh, (behind_below k st counts keep below fresh, tt))
+    subst (λ (r : Opened). AreStatesBelow (suc k) r.states) p.1 (inner_below k st counts keep below fresh, (after_block_below k st counts keep below fresh, tt))
 node_below k st Dead q below fresh e = subst (λ (r : Opened). AreStatesBelow (suc k) r.states) (same_Some (asks (No ∷ [])) q e) tt
 node_below k st Ends q below fresh e =
     let p = where_true_is (each (λ (c : Copy). is_over (st.rest c))) (asks (all_at_stores st.stores st.target)) q e in

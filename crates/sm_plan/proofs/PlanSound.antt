@@ -21,7 +21,7 @@ use Rattle.sm_plan.specs.Plans.{Plan, At, Plans, Over, More, size, count, branch
 use Rattle.sm_plan.specs.NodeLists.{Pending, above_opened, pending_states, states_of, NodesProve, start_pending}
 use Rattle.sm_plan.specs.SoundStates.{IsSound, AreSound, IsStateBelow, AreStatesBelow}
 use Rattle.sm_plan.proofs.CopiesLemmas.{In}
-use Rattle.sm_plan.proofs.LoopsSound.{sound_behind}
+use Rattle.sm_plan.proofs.LoopsSound.{sound_parts}
 use Rattle.sm_plan.proofs.BelowLemmas.{states_later, states_append, start_below}
 use Rattle.sm_plan.proofs.NodeSound.{node_sound, node_below}
 
@@ -100,7 +100,7 @@ nodes_sound (node ∷ nodes) k (p ∷ pending) below h =
     let all = states-pending above q.states pending in
     let later = nodes_sound nodes (suc k) (pending_states above q.states ++ pending)
     (subst (AreStatesBelow (suc k)) (sym all) (states_append (suc k) q.states rest (node_below k p.state node q below.0 h.3 h.1) (states_later k (suc k) rest (omega arith) below.1))) h.5 in
-    let both = sound_behind q.states rest (subst AreSound all later) in
+    let both = sound_parts q.states rest (subst AreSound all later) in
     (node_sound k p.state node q below.0 h.3 h.1 h.4 both.0, both.1)
 
 -- one of two, where both can't fail

@@ -41,7 +41,7 @@ pub stands_below : (key l : List ℕ) (ms : Members) → slice_cmp nat_cmp key l
 stands_below key l no_members below h = tt
 stands_below key l (member k d ms) below h = (nat_list_cmp_total.trans key l k below h.0, stands_below key l ms below h.1)
 
--- a key stands before a greater one that is put among members behind it
+-- a key stands before a greater one that is put among members after it
 stands_before_put : (l key : List ℕ) (d : Data) (ms : Members) → slice_cmp nat_cmp l key ≡ Less → StandsBefore l ms → StandsBefore l (put key d ms)
 stands_before_put l key d no_members below h = (below, tt)
 stands_before_put l key d (member k e ms) below h = by (slice_cmp nat_cmp key k) (stands_before_put l key d ms below h.1)
@@ -141,7 +141,7 @@ cell_turn list p d i z old new cells here read room is w =
     (cell_step list (i, z) (drop (suc p) list) old new room has some is
     (subst (λ (l : List (ℤ × ℤ)). CellsSoFar list l old) (drop-cons list p d here ∙ ap (λ (e : ℤ × ℤ). e ∷ drop (suc p) list) read) w))
 
--- behind all cells they are the cells, and these are inside 128 bits
+-- after all cells they are the cells, and these are inside 128 bits
 pub cells_end : (list : List (ℤ × ℤ)) (p : ℕ) (cells : Members) → length list ≤ p → CellsSoFar list (drop p list) cells → AreWrittenCells (listed list) cells × IsInside (Array (listed list))
 cells_end list p cells past w =
     let whole = subst (λ (l : List (ℤ × ℤ)). CellsSoFar list l cells) (drop_all p list past) w in
@@ -201,7 +201,7 @@ all_members names sorts s members w = (record { ordered = w.ordered; each = λ (
     by key =
         ⊎_elim (λ (is : IsWritten s (declared_name names sorts key) (get_member key members)). is) (λ (come : IsToCome names sorts [] key). absurd (none-some come.0.1 come.2)) (w.each key)
 
--- a name of the rest is declared behind another name
+-- a name of the rest is declared after another name
 declared_later : (d : ℕ × Sort) (rest : List (ℕ × Sort)) (x : ℕ × Sort) → d.0 ≢ x.0 → sort_of (d ∷ rest) x.0 ≡ Some x.1 → sort_of rest x.0 ≡ Some x.1
 declared_later d rest x other is = sym (ap (λ (b : Bool). if b then Some d.1 else sort_of rest x.0) (ne_eqb d.0 x.0 other)) ∙ is
 
@@ -282,7 +282,7 @@ named_turn names sorts s items i d key old new here text written room w =
     (named_step names sorts s ((get_or items i d).0.0, (get_or items i d).1) (numbered (drop (suc i) items)) key old new text written room
     (subst (λ (l : List (Name × Sort)). MembersSoFar names sorts s (numbered l) old) (drop-cons items i d here) w))
 
--- behind all declarations they are the members
+-- after all declarations they are the members
 pub members_end : (names : Texts) (sorts : Sorts) (s : Store) (items : List (Name × Sort)) (i : ℕ) (members : Members) → length items ≤ i
     → MembersSoFar names sorts s (numbered (drop i items)) members → AreWritten names sorts s members × AreInside names sorts s
 members_end names sorts s items i members past w =

@@ -41,7 +41,7 @@ no_plus (c ∷ cs) d some = ap (λ (b : Bool). drop (cond b 1 0) (c ∷ cs)) (ne
 unsigned : (ds : List ℕ) → AllDigits 10 ds → 0 < length ds → without_leading_sign ds ≡ ds
 unsigned ds d some = ap (λ (b : Bool). cond b (drop 1 ds) (without_leading_plus ds)) (no_minus ds d some) ∙ no_plus ds d some
 
--- behind its sign, the text of a number is digits
+-- after its sign, the text of a number is digits
 text_is_numeral : (z : ℤ) → mag z < 2 ^ 127 → IsNumeral 10 (without_leading_sign (signed_decimal z))
 text_is_numeral (pos n) small =
     let k = decimal_is_IsNumeral_wide n (omega (arith, wide n small)) in

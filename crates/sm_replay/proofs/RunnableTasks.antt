@@ -40,8 +40,8 @@ unfolding program_fault
 program_names declared outputs c none =
     let names = first_sort_fault (sort_of declared) (names_used c) in
     let sizes = over 200 (length declared) TooMany ∷ size_fault (code_nodes c) (code_depth c) ∷ [] in
-    let behind = neither (double_name declared) (first_of_all (first_output_fault (sort_of declared) [] outputs ∷ names ∷ sizes)) none in
-    let rest = neither (first_output_fault (sort_of declared) [] outputs) (first_of_all (names ∷ sizes)) behind.1 in
+    let after = neither (double_name declared) (first_of_all (first_output_fault (sort_of declared) [] outputs ∷ names ∷ sizes)) none in
+    let rest = neither (first_output_fault (sort_of declared) [] outputs) (first_of_all (names ∷ sizes)) after.1 in
     (neither names (first_of_all sizes) rest.1).0
 
 -- the same of an assumption

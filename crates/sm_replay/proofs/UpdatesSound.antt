@@ -108,7 +108,7 @@ overrides_give given a old new o is = record {
   others = o.others;
 }
 
--- behind all declarations each name has its value
+-- after all declarations each name has its value
 pub end_filled : (sorts : Sorts) (start goal : ℕ → Value) (items : List (Name × Sort)) (i : ℕ) (s : Store) → length items ≤ i
     → Filling sorts start goal (numbered (drop i items)) s → ((x : ℕ) → sorts x ≡ None → start x ≡ goal x) → s ≡ goal
 end_filled sorts start goal items i s past f undeclared =

@@ -72,14 +72,14 @@ first (While b c k) r = While b c r
 first (Hole h k) r = Hole h r
 
 -- what follows the first statement
-abbrev behind : Code → Code
-behind End = End
-behind (Skip k) = k
-behind (Assign x e k) = k
-behind (Write a i e k) = k
-behind (If b c d k) = k
-behind (While b c k) = k
-behind (Hole h k) = k
+abbrev rest_of : Code → Code
+rest_of End = End
+rest_of (Skip k) = k
+rest_of (Assign x e k) = k
+rest_of (Write a i e k) = k
+rest_of (If b c d k) = k
+rest_of (While b c k) = k
+rest_of (Hole h k) = k
 
 -- a layer's code begins with that layer
 layer-first : (l : Stmt-F (Code → Code) Code) (k r : Code) → first (statement_layer l k) r ≡ statement_layer l r
@@ -90,14 +90,14 @@ layer-first (layer.If b c d) k r = refl
 layer-first (layer.While b c) k r = refl
 layer-first (layer.Hole h) k r = refl
 
--- and goes on with what stands behind it
-layer-behind : (l : Stmt-F (Code → Code) Code) (k : Code) → behind (statement_layer l k) ≡ k
-layer-behind layer.Skip k = refl
-layer-behind (layer.Assign x e) k = refl
-layer-behind (layer.Store a i e) k = refl
-layer-behind (layer.If b c d) k = refl
-layer-behind (layer.While b c) k = refl
-layer-behind (layer.Hole h) k = refl
+-- and goes on with what stands after it
+layer-rest : (l : Stmt-F (Code → Code) Code) (k : Code) → rest_of (statement_layer l k) ≡ k
+layer-rest layer.Skip k = refl
+layer-rest (layer.Assign x e) k = refl
+layer-rest (layer.Store a i e) k = refl
+layer-rest (layer.If b c d) k = refl
+layer-rest (layer.While b c) k = refl
+layer-rest (layer.Hole h) k = refl
 
 -- it isn't the end
 layer-End : (l : Stmt-F (Code → Code) Code) (k : Code) → End ≡ statement_layer l k → ⊥
@@ -114,11 +114,11 @@ statement-first s k r =
     let l = statement_layer_is s in
     ap (λ (f : Code → Code). first (f k) r) l.1 ∙ layer-first l.0 k r ∙ ap (λ (f : Code → Code). f r) (sym l.1)
 
--- and goes on with what stands behind it
-statement-behind : (s : Stmt) (k : Code) → behind (statement_of s k) ≡ k
-statement-behind s k =
+-- and goes on with what stands after it
+statement-rest : (s : Stmt) (k : Code) → rest_of (statement_of s k) ≡ k
+statement-rest s k =
     let l = statement_layer_is s in
-    ap (λ (f : Code → Code). behind (f k)) l.1 ∙ layer-behind l.0 k
+    ap (λ (f : Code → Code). rest_of (f k)) l.1 ∙ layer-rest l.0 k
 
 -- a statement isn't the end
 pub statement-End : (s : Stmt) (k : Code) → End ≡ statement_of s k → ⊥
@@ -133,7 +133,7 @@ same_statement s t k r same =
 
 -- and so is what follows them
 pub same_rest : (s t : Stmt) (k r : Code) → statement_of s k ≡ statement_of t r → k ≡ r
-same_rest s t k r same = sym (statement-behind s k) ∙ ap behind same ∙ statement-behind t r
+same_rest s t k r same = sym (statement-rest s k) ∙ ap rest_of same ∙ statement-rest t r
 
 -- statements that are the same code are the same, in order
 pub same_sequence : (l m : List Stmt) → sequence (map statement_of l) End ≡ sequence (map statement_of m) End → map statement_of l ≡ map statement_of m

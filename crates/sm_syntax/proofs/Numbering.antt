@@ -44,7 +44,7 @@ slice_get-number (x ∷ xs) t h = by (bytes_eq t x) refl (slice_get-number xs t)
         ∙ ap (slice_get (x ∷ xs)) (one-add (position_or_len (bytes_eq t) xs))
         ∙ rest (sym (ap (λ c. c || is_among xs t) e) ∙ h)
 
--- a text is among those that it was put behind
+-- a text is among those that it was put after
 pub is_among-last : (texts : List (List ℕ)) (t : List ℕ) → is_among (texts ++ t ∷ []) t ≡ true
 is_among-last [] t = ap (λ b. b || false) (bytes_eq-refl t)
 is_among-last (x ∷ xs) t = ap (λ b. bytes_eq t x || b) (is_among-last xs t) ∙ or_true (bytes_eq t x)

@@ -34,7 +34,7 @@ first_output_fault-same sorts seen stood (x ∷ xs) same =
     ap (option_or (output_refusal (sorts x) (is_in stood x) x))
     (first_output_fault-same sorts (x ∷ seen) (x ∷ stood) xs (λ (q : ℕ). ap (λ (b : Bool). nat_eq q x || b) (same q)))
 
--- the sort of a name before and behind a declaration of another one
+-- the sort of a name before and after a declaration of another one
 sort_step : (here : Bool) (old rest : Option Sort) (sort : Sort) → (here ≡ true → old ≡ None) →
     option_or old (if here then Some sort else rest) ≡ option_or (cond here (Some sort) old) rest
 sort_step true old rest sort new = ap (λ (o : Option Sort). option_or o (Some sort)) (new refl)

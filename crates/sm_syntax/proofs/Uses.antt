@@ -16,7 +16,7 @@ use Rattle.sm_syntax.specs.trees.Views.{sequence, statement_of}
 use Rattle.sm_syntax.proofs.Blocks.{statement_is, sequence-drop, sequence-drop-end}
 use Rattle.sm_syntax.proofs.Statements.{statement_of-Skip, statement_of-Assign, statement_of-Store, statement_of-If, statement_of-While, statement_of-Hole}
 
--- a fault, and none behind it
+-- a fault, and none after it
 pub option_or-None : (a : Option Refusal) → option_or a None ≡ a
 option_or-None None = refl
 option_or-None (Some r) = refl
@@ -36,7 +36,7 @@ pub first_sort_fault-one : (sorts : Sorts) (x : ℕ) (sort : Sort) → first_sor
 unfolding first_sort_fault
 first_sort_fault-one sorts x sort = option_or-None (sort_refusal (sorts x) sort x)
 
--- the fault of names behind others is looked for where those have none
+-- the fault of names after others is looked for where those have none
 pub first_sort_fault-append : (sorts : Sorts) (xs ys : List (ℕ × Sort)) →
     first_sort_fault sorts (xs ++ ys) ≡ option_or (first_sort_fault sorts xs) (first_sort_fault sorts ys)
 unfolding first_sort_fault
@@ -45,7 +45,7 @@ first_sort_fault-append sorts (x ∷ xs) ys =
     ap (option_or (sort_refusal (sorts x.0) x.1 x.0)) (first_sort_fault-append sorts xs ys) ∙
     sym (option_or_assoc (sort_refusal (sorts x.0) x.1 x.0) (first_sort_fault sorts xs) (first_sort_fault sorts ys))
 
--- an error is the first fault, whatever stands behind it
+-- an error is the first fault, whatever stands after it
 pub reports_or : (e : SyntaxError) (a b : Option Refusal) → Reports (Err e) a → Reports (Err e) (option_or a b)
 reports_or (error.UnknownName x) a b here named = ap (λ (o : Option Refusal). option_or o b) (here named)
 reports_or (error.WrongSort x) a b here named = ap (λ (o : Option Refusal). option_or o b) (here named)

@@ -156,7 +156,7 @@ fn check_expr(sorts: &Sorts, e: &Expr) -> Result<(), SyntaxError>
     }
 }
 
-// The names of two expressions, one behind the other.
+// The names of two expressions, one after the other.
 #[cycle(check_expr)]
 #[tactic(auto, using(crate::proofs::Uses::walks))]
 fn check_two(sorts: &Sorts, d: &Expr, e: &Expr) -> Result<(), SyntaxError>

@@ -9,7 +9,7 @@ use Rattle.sm_task.specs.declared.error.TaskError.{TaskError}
 use Rattle.sm_task.specs.Checks.{ReportsRefusal, section_of}
 use Rattle.sm_task.specs.Errors.{section_number}
 
--- an error is the first refusal, whatever stands behind it
+-- an error is the first refusal, whatever stands after it
 pub reports_or : (e : TaskError) (a b : Option Refusal) → ReportsRefusal (Err e) a → ReportsRefusal (Err e) (option_or a b)
 reports_or e None b here named = let none = here named in cc
 reports_or e (Some r) b here named = here named

@@ -1,4 +1,4 @@
--- What is read of the first tokens of a text, whatever stands behind them.
+-- What is read of the first tokens of a text, whatever stands after them.
 pub mod Sound
 pub mod Exact
 pub mod FirstTokens

@@ -9,7 +9,7 @@
 //! - `parse_program` reads exactly the texts of a program alone, and a refusal names the first
 //!   fault in the same way.
 //! - `parse_head` and `parse_block` read the front of a task, and a block from a token on, whatever
-//!   stands behind.
+//!   follows.
 //! - `print_sections`, `print_program`, `print_block` and `print_cond` give the canonical text. A
 //!   task's spells the task again; the others do where what is printed is no deeper than 64. What
 //!   `parse_program`, `parse_head` and `parse_block` give can be printed.

@@ -35,7 +35,7 @@ word m = plain (s.Mark m)
 abbrev pub opens : Mark → ℕ → Marked
 opens m d = (s.Mark m, nat_le 64 d)
 
--- an operator behind k others of its chain: the sixty-fourth is too deep
+-- an operator after k others of its chain: the sixty-fourth is too deep
 abbrev pub joins : Mark → ℕ → Marked
 joins m k = (s.Mark m, nat_le 63 k)
 

@@ -151,7 +151,7 @@ Lexed = List Token × Option LexFault
 abbrev pub with_token : Token → Lexed → Lexed
 with_token t l = (t ∷ l.0, l.1)
 
--- what a front at a place gives, where `more` says what stands behind the bytes that are still left
+-- what a front at a place gives, where `more` says what stands after the bytes that are still left
 -- of it
 abbrev pub by_front : Front → ℕ → (ℕ → Lexed) → Lexed
 by_front (Gap size) place more = more (size - 1)
@@ -160,15 +160,15 @@ by_front (Piece kind size) place more =
 by_front (Fault kind) place more = ([], Some (record { kind = kind; place = place }))
 
 -- the tokens from a place on, where so many bytes are left of the front that was cut before
-abbrev pub lexed_behind : ℕ → ℕ → List ℕ → Lexed
-lexed_behind left place [] = ([], None)
-lexed_behind (suc left) place (b ∷ bytes) = lexed_behind left (place + 1) bytes
-lexed_behind zero place (b ∷ bytes) =
-    by_front (front_of b (b ∷ bytes)) place (λ left. lexed_behind left (place + 1) bytes)
+abbrev pub lexed_after : ℕ → ℕ → List ℕ → Lexed
+lexed_after left place [] = ([], None)
+lexed_after (suc left) place (b ∷ bytes) = lexed_after left (place + 1) bytes
+lexed_after zero place (b ∷ bytes) =
+    by_front (front_of b (b ∷ bytes)) place (λ left. lexed_after left (place + 1) bytes)
 
 -- the tokens from a place on
 unfoldable pub lexed_from : ℕ → List ℕ → Lexed
-lexed_from place bytes = lexed_behind 0 place bytes
+lexed_from place bytes = lexed_after 0 place bytes
 
 -- the tokens of a text before its first fault, and that fault
 unfoldable pub lexed : List ℕ → Lexed

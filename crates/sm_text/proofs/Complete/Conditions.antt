@@ -156,6 +156,6 @@ pub condition_read : {d k : ℕ} {ts : List Marked} {b : Condition} → IsCondit
 unfolding r.condition
 condition_read {k = k} {ts = ts} {b = b} p n fits z end = disjunction_ends n k ts b (condition_claim p n fits) z end
 
--- the inside of the parentheses behind `if` or `while`
+-- the inside of the parentheses after `if` or `while`
 pub guard_opened : {d k : ℕ} {ts : List Marked} {b : Condition} → IsCondition g.Disjunction (suc d) k ts b → (n : ℕ) → d + n ≡ 64 → Opened (r.inner_condition n) d ts b mark.CloseRound
 guard_opened {d = d} {k = k} {ts = ts} {b = b} p n fits = condition_opened n d k fits ts b mark.CloseRound (record { value = record { square = refl; product = refl; sum = refl }; conjunction = refl; disjunction = refl }) (λ m f. condition_claim p m f)

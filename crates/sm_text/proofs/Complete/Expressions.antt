@@ -112,7 +112,7 @@ pub expression_read : {d k : ℕ} {ts : List Marked} {e : Expression} → IsExpr
 unfolding r.expression
 expression_read {k = k} {ts = ts} {e = e} p n fits z end = sum_ends n k ts e (expression_claim p n fits) z end
 
--- the inside of a group that opens behind a name
+-- the inside of a group that opens after a name
 pub index_opened : {d k : ℕ} {ts : List Marked} {i : Expression} → IsExpression g.Sum (suc d) k ts i → (n : ℕ) → d + n ≡ 64 → Opened (r.inner_sum n) d ts i mark.CloseSquare
 index_opened {d = d} {k = k} {ts = ts} {i = i} p n fits = sum_opened n d k fits ts i mark.CloseSquare (record { square = refl; product = refl; sum = refl }) (λ m f. expression_claim p m f)
 

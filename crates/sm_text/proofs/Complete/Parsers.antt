@@ -14,12 +14,12 @@ use Rattle.sm_text.specs.rules.Parsers.{first, fault, Parser, go_on, ◌>>◌, p
 use Rattle.sm_text.specs.parsing.Places.{unmarked}
 use Rattle.sm_text.proofs.Sound.Gathered.{gather-turn, gather-fault}
 
--- a refusal at a symbol that nests too deep, or else what comes behind it
+-- a refusal at a symbol that nests too deep, or else what comes after it
 abbrev pub past : {T : Type 0} → Bool → List Symbol → Result T Fault → Result T Fault
 past true ts a = Err (fault Nested ts)
 past false ts a = a
 
--- the answer where `z` follows the symbols: a refusal at the first that nests too deep, or else what comes behind them
+-- the answer where `z` follows the symbols: a refusal at the first that nests too deep, or else what comes after them
 abbrev pub reach : {T : Type 0} → List Marked → List Symbol → Result T Fault → Result T Fault
 reach [] z a = a
 reach (t ∷ us) z a = past t.1 (t.0 ∷ (unmarked us ++ z)) (reach us z a)
@@ -36,12 +36,12 @@ past-go_on : {T U : Type 0} (deep : Bool) (ts : List Symbol) (a : Result (T × L
 past-go_on true ts a next = refl
 past-go_on false ts a next = refl
 
--- a parser that goes on behind the symbols
+-- a parser that goes on after the symbols
 pub reach-go_on : {T U : Type 0} (us : List Marked) (z : List Symbol) (a : Result (T × List Symbol) Fault) (next : T → Parser U) → go_on (reach us z a) next ≡ reach us z (go_on a next)
 reach-go_on [] z a next = refl
 reach-go_on (t ∷ us) z a next = past-go_on t.1 (t.0 ∷ (unmarked us ++ z)) (reach us z a) next ∙ ap (past t.1 (t.0 ∷ (unmarked us ++ z))) (reach-go_on us z a next)
 
--- one parser behind two others
+-- one parser after two others
 pub go_on-go_on : {T U V : Type 0} (a : Result (T × List Symbol) Fault) (f : T → Parser U) (next : U → Parser V) → go_on (go_on a f) next ≡ go_on a (λ x ts. go_on (f x ts) next)
 go_on-go_on (Ok r) f next = refl
 go_on-go_on (Err e) f next = refl
@@ -67,7 +67,7 @@ pub expected : (m : Mark) (ts : List Symbol) → expect m (s.Mark m ∷ ts) ≡ 
 unfolding expect
 expected m ts = rw (same_mark m) refl
 
--- what is read up to a mark that has to stand behind it, and what goes on then
+-- what is read up to a mark that has to stand after it, and what goes on then
 pub ended : {T V U : Type 0} (p : Parser T) (m : Mark) (make : T → V) (ts us : List Marked) (x : T) (z : List Symbol) (more : V → Parser U) (a : Result (U × List Symbol) Fault) → ((y : List Symbol) → p (unmarked ts ++ s.Mark m ∷ y) ≡ reach ts (s.Mark m ∷ y) (Ok (x, s.Mark m ∷ y))) → more (make x) (unmarked us ++ z) ≡ reach us z a → go_on (go_on (p (unmarked (ts ++ word m ∷ us) ++ z)) (λ (v : T). expect m >> pure (make v))) more ≡ reach (ts ++ word m ∷ us) z a
 ended {T} {V} {U} p m make ts us x z more a read e =
     go_on-go_on (p (unmarked (ts ++ word m ∷ us) ++ z)) (λ (v : T). expect m >> pure (make v)) more
@@ -81,7 +81,7 @@ abbrev pub Opened : {T : Type 0} → Option (Parser T) → ℕ → List Marked �
 Opened None d ts x close = nat_le 64 d ≡ true
 Opened (Some p) d ts x close = (nat_le 64 d ≡ false) × ((z : List Symbol) → p (unmarked ts ++ s.Mark close ∷ z) ≡ reach ts (s.Mark close ∷ z) (Ok (x, s.Mark close ∷ z)))
 
--- a group, and what goes on behind it
+-- a group, and what goes on after it
 pub inside-then : {T U : Type 0} (deeper : Option (Parser T)) (d : ℕ) (begin close : Mark) (ts us : List Marked) (x : T) (z : List Symbol) (more : T → Parser U) (a : Result (U × List Symbol) Fault) → Opened deeper d ts x close → more x (unmarked us ++ z) ≡ reach us z a → go_on (inside_group deeper close (s.Mark begin ∷ (unmarked (ts ++ word close ∷ us) ++ z))) more ≡ reach (opens begin d ∷ (ts ++ word close ∷ us)) z a
 inside-then None d begin close ts us x z more a deep e = ap (λ (b : Bool). past b (s.Mark begin ∷ (unmarked (ts ++ word close ∷ us) ++ z)) (reach (ts ++ word close ∷ us) z a)) (sym deep)
 inside-then (Some p) d begin close ts us x z more a o e =
@@ -96,11 +96,11 @@ grouped-inside begin close deeper ts = rw (same_mark begin) refl
 pub grouped-then : {T U : Type 0} (deeper : Option (Parser T)) (d : ℕ) (begin close : Mark) (ts us : List Marked) (x : T) (z : List Symbol) (more : T → Parser U) (a : Result (U × List Symbol) Fault) → Opened deeper d ts x close → more x (unmarked us ++ z) ≡ reach us z a → go_on (grouped begin close deeper (s.Mark begin ∷ (unmarked (ts ++ word close ∷ us) ++ z))) more ≡ reach (opens begin d ∷ (ts ++ word close ∷ us)) z a
 grouped-then {T} deeper d begin close ts us x z more a o e = ap (λ (b : Result (T × List Symbol) Fault). go_on b more) (grouped-inside begin close deeper (unmarked (ts ++ word close ∷ us) ++ z)) ∙ inside-then deeper d begin close ts us x z more a o e
 
--- a mark that has to stand there, and what goes on behind it
+-- a mark that has to stand there, and what goes on after it
 pub expect-then : {U : Type 0} (m : Mark) (ts : List Symbol) (more : Unit {0} → Parser U) → go_on (expect m (s.Mark m ∷ ts)) more ≡ more tt ts
 expect-then m ts more = ap (λ (b : Result (Unit {0} × List Symbol) Fault). go_on b more) (expected m ts)
 
--- how many operators may follow behind so many
+-- how many operators may follow after so many
 unfoldable pub room : ℕ → ℕ
 room k = 63 - k
 
@@ -112,7 +112,7 @@ room-some : (k : ℕ) → nat_le 63 k ≡ false → room k ≡ suc (room (suc k)
 unfolding room
 room-some k e = grind (arith, nat_tests)
 
--- an operator and what stands behind it
+-- an operator and what stands after it
 pub chain-joins : {T : Type 0} (operators : Operators T) (operand : Parser T) (sign : Mark) (make : T → T → T) (k : ℕ) (left : T) (us : List Marked) (z : List Symbol) (one a : Result (T × List Symbol) Fault) → operators (Some (s.Mark sign)) ≡ Some make → operand (unmarked us ++ z) ≡ reach us z one → go_on one (λ (right : T). chain_in operators operand (room (suc k)) (make left right)) ≡ a → chain_in operators operand (room k) left (s.Mark sign ∷ (unmarked us ++ z)) ≡ reach (joins sign k ∷ us) z a
 chain-joins {T} operators operand sign make k left us z one a o e f = by (nat_le 63 k) refl
   where
@@ -120,7 +120,7 @@ chain-joins {T} operators operand sign make k left us z one a o e f = by (nat_le
     by true full = rw (room-none k full, o) refl
     by false some = rw (room-some k some, o) (ap (λ (b : Result (T × List Symbol) Fault). go_on b (λ (right : T). chain_in operators operand (room (suc k)) (make left right))) e ∙ reach-go_on us z one (λ (right : T). chain_in operators operand (room (suc k)) (make left right)) ∙ ap (reach us z) f)
 
--- one more item, read or refused, and the others behind it
+-- one more item, read or refused, and the others after it
 pub gather-step : {T U : Type 0} (begins : Option Symbol → Bool) (one : Parser T) (put : U → T → U) → ((ts : List Symbol) (x : T) (after : List Symbol) → one ts ≡ Ok (x, after) → length after < length ts) → (before : U) (ts : List Symbol) → begins (first ts) ≡ true → gather begins one put before ts ≡ go_on (one ts) (λ (x : T). gather begins one put (put before x))
 gather-step {T} begins one put shrinks before ts b = by (one ts) refl
   where
@@ -132,11 +132,11 @@ gather-step {T} begins one put shrinks before ts b = by (one ts) refl
 pub both-reach : {T : Type 0} (p : Parser T) (us vs : List Marked) (z : List Symbol) (one a : Result (T × List Symbol) Fault) → p (unmarked us ++ (unmarked vs ++ z)) ≡ reach us (unmarked vs ++ z) one → one ≡ reach vs z a → p (unmarked (us ++ vs) ++ z) ≡ reach (us ++ vs) z a
 both-reach p us vs z one a e f = ap p (unmarked-append-behind us vs z) ∙ e ∙ ap (reach us (unmarked vs ++ z)) f ∙ sym (reach-append us vs z a)
 
--- what is read, and what goes on behind it
+-- what is read, and what goes on after it
 pub reads-then : {T U : Type 0} (ts : List Marked) (z : List Symbol) {b : Result (T × List Symbol) Fault} (one : Result (T × List Symbol) Fault) (more : T → Parser U) → b ≡ reach ts z one → go_on b more ≡ reach ts z (go_on one more)
 reads-then {T} ts z one more e = ap (λ (c : Result (T × List Symbol) Fault). go_on c more) e ∙ reach-go_on ts z one more
 
--- one parser behind another, and what goes on behind both
+-- one parser after another, and what goes on after both
 pub bind-then : {T V U : Type 0} (p : Parser T) (us vs : List Marked) (z : List Symbol) (x : T) (rule : T → Parser V) (more : V → Parser U) (a : Result (U × List Symbol) Fault) → p (unmarked us ++ (unmarked vs ++ z)) ≡ reach us (unmarked vs ++ z) (Ok (x, unmarked vs ++ z)) → go_on (rule x (unmarked vs ++ z)) more ≡ reach vs z a → go_on (go_on (p (unmarked (us ++ vs) ++ z)) rule) more ≡ reach (us ++ vs) z a
 bind-then {T} p us vs z x rule more a e f =
     go_on-go_on (p (unmarked (us ++ vs) ++ z)) rule more

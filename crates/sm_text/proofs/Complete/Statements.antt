@@ -35,11 +35,11 @@ semicolon_ends = record { square = refl; product = refl; sum = refl }
 abbrev finish : (Code → Code) → Parser Code
 finish front = pure (front plain_code.End)
 
--- the other statements, behind one more
+-- the other statements, after one more
 abbrev others : ℕ → (Code → Code) → (Code → Code) → Parser Code
 others n before f ts = go_on (r.more_statements n (r.block n) (r.with_statement before f) ts) finish
 
--- the symbols are read as statements, behind those that were read, where n more groups may be opened
+-- the symbols are read as statements, after those that were read, where n more groups may be opened
 abbrev ReadsStatements : ℕ → List Marked → Code → Type 0
 ReadsStatements n ts c = (before : Code → Code) (z : List Symbol) → r.begins_statement (first z) ≡ false → go_on (r.more_statements n (r.block n) before (unmarked ts ++ z)) finish ≡ reach ts z (Ok (before c, z))
 

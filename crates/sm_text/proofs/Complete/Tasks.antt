@@ -54,7 +54,7 @@ names_read : {ts : List Marked} {xs : List ℕ} → AreNames ts xs → (z : List
 unfolding r.names
 names_read p z end = names_from p [] z end
 
--- names up to a semicolon, and what goes on behind it
+-- names up to a semicolon, and what goes on after it
 names_to_end-then : {U : Type 0} {ts : List Marked} (us : List Marked) {xs : List ℕ} → AreNames ts xs → (z : List Symbol) (more : List ℕ → Parser U) (a : Result (U × List Symbol) Fault) → more xs (unmarked us ++ z) ≡ reach us z a → go_on (r.names_to_end (unmarked (ts ++ word mark.Semicolon ∷ us) ++ z)) more ≡ reach (ts ++ word mark.Semicolon ∷ us) z a
 unfolding r.names_to_end
 names_to_end-then {ts = ts} us {xs = xs} p z more a e = ended r.names mark.Semicolon (λ (l : List ℕ). l) ts us xs z more a (λ y. names_read p (s.Mark mark.Semicolon ∷ y) refl) e

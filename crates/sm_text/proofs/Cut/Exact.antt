@@ -8,7 +8,7 @@ use Rattle.sm_syntax.specs.declared.token.LexKind.TheVariants.{BadByte, BadToken
 use Rattle.sm_syntax.specs.declared.token.Token.{Token}
 use Rattle.sm_syntax.specs.declared.token.TokenKind.{TokenKind}
 use Rattle.sm_syntax.specs.declared.token.TokenKind.TheVariants.{Word, Number, Sign}
-use Rattle.sm_syntax.specs.text.Tokens.{Front, Gap, Piece, Fault, Lexed, front_of, sign_at, is_space, is_hash, is_in_line, is_word_start, is_word_byte, mark_of_sign, by_front, with_token, lexed_behind, lexed_from, lexed}
+use Rattle.sm_syntax.specs.text.Tokens.{Front, Gap, Piece, Fault, Lexed, front_of, sign_at, is_space, is_hash, is_in_line, is_word_start, is_word_byte, mark_of_sign, by_front, with_token, lexed_after, lexed_from, lexed}
 use Rattle.sm_text.specs.lexing.Cutting.{begins, IsToken, Ends, IsStuck, is_half, HasNumber, IsFaultOf, IsCutInto, end, space, comment, token, fault}
 use Rattle.sm_text.specs.Laws.{TokensAreCut}
 use Rattle.sm_text.proofs.RoundTrip.PieceTokens.{lexed_from-cons, behind_first, lexed-token, front-space, front-word, front-number, front-two, and-false, run_of}
@@ -24,7 +24,7 @@ passed : (u v : List ℕ) (place size : ℕ) → size ≡ length u → 0 < lengt
 passed [] v place size is some h = absurd (omega (arith, some))
 passed (b ∷ u) v place size is some h =
     lexed_from-cons place b (u ++ v) ∙
-    ap (λ (f : Front). by_front f place (λ left. lexed_behind left (place + 1) (u ++ v))) (h ∙ ap Gap is) ∙
+    ap (λ (f : Front). by_front f place (λ left. lexed_after left (place + 1) (u ++ v))) (h ∙ ap Gap is) ∙
     behind_first u v place b
 
 -- a token is put before what follows
@@ -36,7 +36,7 @@ put (b ∷ u) v place k some h = lexed-token b u v k place h
 -- a fault ends the tokens
 stopped : (bytes : List ℕ) (place : ℕ) (k : LexKind) → 0 < length bytes → front bytes ≡ Fault k → lexed_from place bytes ≡ ([], Some (record { kind = k; place = place }))
 stopped [] place k some h = absurd (omega (arith, some))
-stopped (b ∷ u) place k some h = lexed_from-cons place b u ∙ ap (λ (f : Front). by_front f place (λ left. lexed_behind left (place + 1) u)) h
+stopped (b ∷ u) place k some h = lexed_from-cons place b u ∙ ap (λ (f : Front). by_front f place (λ left. lexed_after left (place + 1) u)) h
 
 nothing : (place : ℕ) → lexed_from place [] ≡ ([], None)
 unfolding lexed_from
@@ -76,13 +76,13 @@ cut_by place bytes f some h (a_comment body rest same all ends) more =
     let rest_cut = more (place + size) rest (subst (λ l. length rest < length l) (sym same) (shorter (35 ∷ body) rest (omega arith))) in
     subst P (sym same) (subst (IsCutSo place (35 ∷ body ++ rest)) (sym (passed (35 ∷ body) rest place size refl (omega arith) at))
     (comment place body rest _ _ all ends rest_cut))
-cut_by place bytes f some h (a_token kind text behind same is ends) more =
+cut_by place bytes f some h (a_token kind text after same is ends) more =
     let P : List ℕ → Type 0 = λ l. IsCutSo place l (lexed_from place l) in
-    let at : front (text ++ behind) ≡ Piece kind (length text) = ap front (sym same) ∙ h in
+    let at : front (text ++ after) ≡ Piece kind (length text) = ap front (sym same) ∙ h in
     let one = token_some kind text is in
-    let rest_cut = more (place + length text) behind (subst (λ l. length behind < length l) (sym same) (shorter text behind one)) in
-    subst P (sym same) (subst (IsCutSo place (text ++ behind)) (sym (put text behind place kind one at))
-    (token place kind text behind _ _ is ends rest_cut))
+    let rest_cut = more (place + length text) after (subst (λ l. length after < length l) (sym same) (shorter text after one)) in
+    subst P (sym same) (subst (IsCutSo place (text ++ after)) (sym (put text after place kind one at))
+    (token place kind text after _ _ is ends rest_cut))
 cut_by place bytes f some h (a_fault kind stuck of) more = subst (IsCutSo place bytes) (sym (stopped bytes place kind some h)) (fault place kind bytes stuck of)
 
 cut : (n place : ℕ) (bytes : List ℕ) → length bytes < n → IsCutSo place bytes (lexed_from place bytes)
@@ -132,10 +132,10 @@ token_front Sign text v is ends = sign_front text v (sign_text text is) is ends
 number_first : (bytes : List ℕ) → HasNumber bytes → begins (λ b. is_word_byte b || is_half b) bytes ≡ true
 number_first [] n = by n.text n.same (number_begins n.text n.number)
   where
-    by : (text : List ℕ) → [] ≡ text ++ n.behind → begins is_ascii_digit text ≡ true → false ≡ true
+    by : (text : List ℕ) → [] ≡ text ++ n.after → begins is_ascii_digit text ≡ true → false ≡ true
     by [] same h = h
     by (b ∷ u) same h = absurd (omega (arith, ap length same))
-number_first (b ∷ rest) n = or-left (is_word_byte b) (is_half b) (digit_in_word b (first_of_text is_ascii_digit b rest n.text n.behind n.same (number_begins n.text n.number)))
+number_first (b ∷ rest) n = or-left (is_word_byte b) (is_half b) (digit_in_word b (first_of_text is_ascii_digit b rest n.text n.after n.same (number_begins n.text n.number)))
 
 same_fault : (bytes : List ℕ) (k l : LexKind) → IsFaultOf k bytes → IsFaultOf l bytes → k ≡ l
 same_fault bytes BadByte BadByte a b = refl
@@ -154,7 +154,7 @@ fault_front bytes k stuck of = by (front bytes) (front_stands bytes stuck.some)
     by : (f : Front) → Stands bytes f → f ≡ Fault k
     by f (a_space b rest same is) = absurd (true≢false (sym (ap (begins is_space) same ∙ is) ∙ stuck.space))
     by f (a_comment body rest same all ends) = absurd (true≢false (sym (ap (begins is_hash) same) ∙ stuck.hash))
-    by f (a_token kind text behind same is ends) = absurd (stuck.token kind text behind same is ends)
+    by f (a_token kind text after same is ends) = absurd (stuck.token kind text after same is ends)
     by f (a_fault l again other) = ap Fault (same_fault bytes l k other of)
 
 cut_lexed : (place : ℕ) (bytes : List ℕ) (ts : List Token) (f : Option LexFault) → IsCutInto place bytes ts f → lexed_from place bytes ≡ (ts, f)

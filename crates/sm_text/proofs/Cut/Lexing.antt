@@ -1,4 +1,4 @@
--- How the tokens of a text go on behind what stands at its front.
+-- How the tokens of a text go on after what stands at its front.
 use Rattle.std.proofs.Common.{◌≡◌, ℕ, zero, suc, ◌+◌, ◌-◌, ◌<◌, ◌≤◌, Bool, true, false, ◌^◌, ◌==◌, ◌&&◌, ◌||◌, List, [], ◌∷◌, ◌++◌, length, take, drop, get_or, Option, Some, None, is_some, if◌then◌else◌, refl, sym, ap, ap₂, subst, ◌∙◌, append_assoc, append-nil, true≢false, nat_le, nat_lt, codes, length-drop, drop-drop, arith}
 use Rattle.std.proofs.lemmas.Bool.Decides.{nat_tests}
 use Rattle.std.proofs.lemmas.List.Sums.{prefix_len-le-length}
@@ -14,7 +14,7 @@ use Rattle.sm_syntax.specs.declared.token.TokenKind.{TokenKind}
 use Rattle.sm_syntax.specs.declared.token.TokenKind.TheVariants.{Word, Number, Sign}
 use Rattle.sm_text.specs.resolving.TokenTexts.{IsText, IsTokenOf}
 use Rattle.sm_text.proofs.Cut.Fronts.{AllPass-run, IsAscii-run}
-use Rattle.sm_syntax.specs.text.Tokens.{Front, Gap, Piece, Fault, Lexed, front_of, word_at, number_at, sign_at, is_space, is_hash, is_word_start, is_word_byte, is_in_line, mark_of_sign, by_front, with_token, lexed_behind, lexed_from, lexed}
+use Rattle.sm_syntax.specs.text.Tokens.{Front, Gap, Piece, Fault, Lexed, front_of, word_at, number_at, sign_at, is_space, is_hash, is_word_start, is_word_byte, is_in_line, mark_of_sign, by_front, with_token, lexed_after, lexed_from, lexed}
 
 -- a front has at least one byte and no more than there are, and a token's bytes are of its kind
 abbrev pub Suits : List ℕ → Front → Type 0
@@ -105,26 +105,26 @@ IsFront-front_of b bytes =
     IsFront-if (is_word_start b) (word_at all) number (IsFront-word_at b bytes) (λ _.
     IsFront-if (is_ascii_digit b) (number_at all) (sign_at all) (IsFront-number_at b bytes) (λ _. IsFront-sign_at b bytes))))
 
--- what stands behind the bytes that are left of a front
-lexed_behind-drop : (left place : ℕ) (bytes : List ℕ) → lexed_behind left place bytes ≡ lexed_behind 0 (place + left) (drop left bytes)
-lexed_behind-drop zero place bytes = ap (λ p. lexed_behind 0 p bytes) (omega arith)
-lexed_behind-drop (suc left) place [] = refl
-lexed_behind-drop (suc left) place (b ∷ bytes) = lexed_behind-drop left (place + 1) bytes ∙ ap (λ p. lexed_behind 0 p (drop left bytes)) (omega arith)
+-- what stands after the bytes that are left of a front
+lexed_after-drop : (left place : ℕ) (bytes : List ℕ) → lexed_after left place bytes ≡ lexed_after 0 (place + left) (drop left bytes)
+lexed_after-drop zero place bytes = ap (λ p. lexed_after 0 p bytes) (omega arith)
+lexed_after-drop (suc left) place [] = refl
+lexed_after-drop (suc left) place (b ∷ bytes) = lexed_after-drop left (place + 1) bytes ∙ ap (λ p. lexed_after 0 p (drop left bytes)) (omega arith)
 
-lexed_behind-front : (size place b : ℕ) (bytes : List ℕ) → 0 < size → lexed_behind (size - 1) (place + 1) bytes ≡ lexed_from (place + size) (drop size (b ∷ bytes))
+lexed_after-front : (size place b : ℕ) (bytes : List ℕ) → 0 < size → lexed_after (size - 1) (place + 1) bytes ≡ lexed_from (place + size) (drop size (b ∷ bytes))
 unfolding lexed_from
-lexed_behind-front zero place b bytes h = absurd (omega arith)
-lexed_behind-front (suc m) place b bytes h =
+lexed_after-front zero place b bytes h = absurd (omega arith)
+lexed_after-front (suc m) place b bytes h =
     let last : suc m - 1 ≡ m = omega arith in
     let at : place + 1 + (suc m - 1) ≡ place + suc m = omega arith in
-    lexed_behind-drop (suc m - 1) (place + 1) bytes ∙ ap₂ (λ p k. lexed_behind 0 p (drop k bytes)) at last
+    lexed_after-drop (suc m - 1) (place + 1) bytes ∙ ap₂ (λ p k. lexed_after 0 p (drop k bytes)) at last
 
 -- the tokens by what stands at the front
 pub lexed_from-nil : (place : ℕ) → lexed_from place [] ≡ ([], None)
 unfolding lexed_from
 lexed_from-nil place = refl
 
-lexed_from-cons : (place b : ℕ) (bytes : List ℕ) → lexed_from place (b ∷ bytes) ≡ by_front (front_of b (b ∷ bytes)) place (λ left. lexed_behind left (place + 1) bytes)
+lexed_from-cons : (place b : ℕ) (bytes : List ℕ) → lexed_from place (b ∷ bytes) ≡ by_front (front_of b (b ∷ bytes)) place (λ left. lexed_after left (place + 1) bytes)
 unfolding lexed_from
 lexed_from-cons place b bytes = refl
 
@@ -156,8 +156,8 @@ suits x xs f front =
     subst P front (IsFront-front_of x xs).suits
 
 -- and what it gives
-step : (place x : ℕ) (xs : List ℕ) (f : Front) → front_of x (x ∷ xs) ≡ f → lexed_from place (x ∷ xs) ≡ by_front f place (λ left. lexed_behind left (place + 1) xs)
-step place x xs f front = lexed_from-cons place x xs ∙ ap (λ g. by_front g place (λ left. lexed_behind left (place + 1) xs)) front
+step : (place x : ℕ) (xs : List ℕ) (f : Front) → front_of x (x ∷ xs) ≡ f → lexed_from place (x ∷ xs) ≡ by_front f place (λ left. lexed_after left (place + 1) xs)
+step place x xs f front = lexed_from-cons place x xs ∙ ap (λ g. by_front g place (λ left. lexed_after left (place + 1) xs)) front
 
 moved : (bytes rest : List ℕ) (size : ℕ) → length rest ≤ length bytes → size ≤ length rest → length bytes - length rest + size ≡ length bytes - length (drop size rest)
 moved bytes rest size within fits = omega (arith, length-drop size rest)
@@ -169,7 +169,7 @@ IsCut-gap bytes ts (x ∷ xs) b size cut some first front =
     let at = front_is x xs b (Gap size) first front in
     let sizes = suits x xs (Gap size) at in
     let place = length bytes - length (x ∷ xs) in
-    let next : lexed_from place (x ∷ xs) ≡ lexed_from (place + size) (drop size (x ∷ xs)) = step place x xs (Gap size) at ∙ lexed_behind-front size place x xs sizes.0 in (
+    let next : lexed_from place (x ∷ xs) ≡ lexed_from (place + size) (drop size (x ∷ xs)) = step place x xs (Gap size) at ∙ lexed_after-front size place x xs sizes.0 in (
       record {
         same = ap (λ p. with_tokens ts (lexed_from p (drop size (x ∷ xs)))) (sym (moved bytes (x ∷ xs) size cut.within sizes.1)) ∙ ap (with_tokens ts) (sym next) ∙ cut.same;
         within = omega (arith, length-drop size (x ∷ xs), cut.within);
@@ -186,7 +186,7 @@ IsCut-piece bytes ts (x ∷ xs) b kind size cut some first front =
     let sizes = suits x xs (Piece kind size) at in
     let place = length bytes - length (x ∷ xs) in
     let t : Token = record { kind = kind; place = place; size = size } in
-    let next : lexed_from place (x ∷ xs) ≡ with_token t (lexed_from (place + size) (drop size (x ∷ xs))) = step place x xs (Piece kind size) at ∙ ap (with_token t) (lexed_behind-front size place x xs sizes.0) in
+    let next : lexed_from place (x ∷ xs) ≡ with_token t (lexed_from (place + size) (drop size (x ∷ xs))) = step place x xs (Piece kind size) at ∙ ap (with_token t) (lexed_after-front size place x xs sizes.0) in
     let more = lexed_from (place + size) (drop size (x ∷ xs)) in (
       record {
         same =
@@ -209,19 +209,19 @@ IsCut-fault bytes ts (x ∷ xs) b kind cut some first front =
     let f : Option LexFault = Some (record { kind = kind; place = place }) in
     ap (λ l. (l, f)) (sym (append-nil ts)) ∙ ap (with_tokens ts) (sym (step place x xs (Fault kind) at)) ∙ cut.same
 
--- what is left behind one byte
+-- what is left after one byte
 one_on : (bytes : List ℕ) (place b : ℕ) (rest : List ℕ) → drop place bytes ≡ b ∷ rest → drop (place + 1) bytes ≡ rest
 one_on bytes place b rest at = sym (drop-drop 1 place bytes) ∙ ap (drop 1) at
 
-IsTokenOf-lexed_behind : (bytes : List ℕ) (left place : ℕ) (rest : List ℕ) → drop place bytes ≡ rest → place + length rest ≡ length bytes → AllByRecursion (IsTokenOf bytes) (lexed_behind left place rest).0
-IsTokenOf-lexed_behind bytes left place [] at len = tt
-IsTokenOf-lexed_behind bytes (suc left) place (b ∷ rest) at len = IsTokenOf-lexed_behind bytes left (place + 1) rest (one_on bytes place b rest at) (omega arith)
-IsTokenOf-lexed_behind bytes zero place (b ∷ rest) at len =
+IsTokenOf-lexed_after : (bytes : List ℕ) (left place : ℕ) (rest : List ℕ) → drop place bytes ≡ rest → place + length rest ≡ length bytes → AllByRecursion (IsTokenOf bytes) (lexed_after left place rest).0
+IsTokenOf-lexed_after bytes left place [] at len = tt
+IsTokenOf-lexed_after bytes (suc left) place (b ∷ rest) at len = IsTokenOf-lexed_after bytes left (place + 1) rest (one_on bytes place b rest at) (omega arith)
+IsTokenOf-lexed_after bytes zero place (b ∷ rest) at len =
     by (front_of b (b ∷ rest)) (IsFront-front_of b rest).suits
-    (λ left. IsTokenOf-lexed_behind bytes left (place + 1) rest (one_on bytes place b rest at) (omega arith))
+    (λ left. IsTokenOf-lexed_after bytes left (place + 1) rest (one_on bytes place b rest at) (omega arith))
   where
-    by : (f : Front) → Suits (b ∷ rest) f → ((left : ℕ) → AllByRecursion (IsTokenOf bytes) (lexed_behind left (place + 1) rest).0)
-        → AllByRecursion (IsTokenOf bytes) (by_front f place (λ left. lexed_behind left (place + 1) rest)).0
+    by : (f : Front) → Suits (b ∷ rest) f → ((left : ℕ) → AllByRecursion (IsTokenOf bytes) (lexed_after left (place + 1) rest).0)
+        → AllByRecursion (IsTokenOf bytes) (by_front f place (λ left. lexed_after left (place + 1) rest)).0
     by (Gap size) s more = more (size - 1)
     by (Piece kind size) s more =
         let P : List ℕ → Type 0 = λ l. IsText kind (take size l) in
@@ -231,22 +231,22 @@ IsTokenOf-lexed_behind bytes zero place (b ∷ rest) at len =
 -- each token of a text lies in it
 pub IsTokenOf-lexed : (bytes : List ℕ) → AllByRecursion (IsTokenOf bytes) (lexed bytes).0
 unfolding lexed lexed_from
-IsTokenOf-lexed bytes = IsTokenOf-lexed_behind bytes 0 0 bytes refl (omega arith)
+IsTokenOf-lexed bytes = IsTokenOf-lexed_after bytes 0 0 bytes refl (omega arith)
 
 -- there are no more tokens than bytes
-length-lexed_behind : (left place : ℕ) (bytes : List ℕ) → length (lexed_behind left place bytes).0 ≤ length bytes
-length-lexed_behind left place [] = omega arith
-length-lexed_behind (suc left) place (b ∷ bytes) = let h = length-lexed_behind left (place + 1) bytes in omega arith
-length-lexed_behind zero place (b ∷ bytes) = by (front_of b (b ∷ bytes)) (λ left. length-lexed_behind left (place + 1) bytes)
+length-lexed_after : (left place : ℕ) (bytes : List ℕ) → length (lexed_after left place bytes).0 ≤ length bytes
+length-lexed_after left place [] = omega arith
+length-lexed_after (suc left) place (b ∷ bytes) = let h = length-lexed_after left (place + 1) bytes in omega arith
+length-lexed_after zero place (b ∷ bytes) = by (front_of b (b ∷ bytes)) (λ left. length-lexed_after left (place + 1) bytes)
   where
-    by : (f : Front) → ((left : ℕ) → length (lexed_behind left (place + 1) bytes).0 ≤ length bytes) → length (by_front f place (λ left. lexed_behind left (place + 1) bytes)).0 ≤ length (b ∷ bytes)
+    by : (f : Front) → ((left : ℕ) → length (lexed_after left (place + 1) bytes).0 ≤ length bytes) → length (by_front f place (λ left. lexed_after left (place + 1) bytes)).0 ≤ length (b ∷ bytes)
     by (Gap size) more = let h = more (size - 1) in omega arith
     by (Piece kind size) more = let h = more (size - 1) in omega arith
     by (Fault kind) more = omega arith
 
 pub length-lexed : (bytes : List ℕ) → length (lexed bytes).0 ≤ length bytes
 unfolding lexed lexed_from
-length-lexed bytes = length-lexed_behind 0 0 bytes
+length-lexed bytes = length-lexed_after 0 0 bytes
 
 -- so each of its tokens does
 pub all_at : {T : Type 0} (P : T → Type 0) (xs : List T) → AllByRecursion P xs → (i : ℕ) (d : T) → i < length xs → P (get_or xs i d)
@@ -254,10 +254,10 @@ all_at P [] all i d h = absurd (omega arith)
 all_at P (x ∷ xs) all zero d h = all.0
 all_at P (x ∷ xs) all (suc i) d h = all_at P xs all.1 i d (omega arith)
 
-all_behind : {T : Type 0} (P : T → Type 0) (n : ℕ) (xs : List T) → AllByRecursion P xs → AllByRecursion P (drop n xs)
-all_behind P zero xs all = all
-all_behind P (suc n) [] all = tt
-all_behind P (suc n) (x ∷ xs) all = all_behind P n xs all.1
+all_after : {T : Type 0} (P : T → Type 0) (n : ℕ) (xs : List T) → AllByRecursion P xs → AllByRecursion P (drop n xs)
+all_after P zero xs all = all
+all_after P (suc n) [] all = tt
+all_after P (suc n) (x ∷ xs) all = all_after P n xs all.1
 
-pub IsTokenOf-behind : (bytes : List ℕ) (n : ℕ) → AllByRecursion (IsTokenOf bytes) (drop n (lexed bytes).0)
-IsTokenOf-behind bytes n = all_behind (IsTokenOf bytes) n (lexed bytes).0 (IsTokenOf-lexed bytes)
+pub IsTokenOf-after : (bytes : List ℕ) (n : ℕ) → AllByRecursion (IsTokenOf bytes) (drop n (lexed bytes).0)
+IsTokenOf-after bytes n = all_after (IsTokenOf bytes) n (lexed bytes).0 (IsTokenOf-lexed bytes)

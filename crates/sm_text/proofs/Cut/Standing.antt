@@ -43,32 +43,32 @@ pub sign_text : (text : List ℕ) → is_some (mark_of_sign text) ≡ true → i
 unfolding mark_of_sign signs
 sign_text text some = entry_passes is_sign_text signs text refl some
 
--- a run of such bytes at the front, and what stands behind it
+-- a run of such bytes at the front, and what stands after it
 pub record Run (p : ℕ → Bool) (bytes : List ℕ) : Type 0 where
   pub text : List ℕ
-  pub behind : List ℕ
-  pub same : bytes ≡ text ++ behind
+  pub after : List ℕ
+  pub same : bytes ≡ text ++ after
   pub all : list_all p text ≡ true
-  pub ends : begins p behind ≡ false
+  pub ends : begins p after ≡ false
 
 run : (p : ℕ → Bool) (bytes : List ℕ) → Run p bytes
-run p [] = record { text = []; behind = []; same = refl; all = refl; ends = refl }
+run p [] = record { text = []; after = []; same = refl; all = refl; ends = refl }
 run p (b ∷ bytes) = by (p b) refl (run p bytes)
   where
     by : (t : Bool) → p b ≡ t → Run p bytes → Run p (b ∷ bytes)
-    by true h r = record { text = b ∷ r.text; behind = r.behind; same = ap (λ l. b ∷ l) r.same; all = ap (λ t. t && list_all p r.text) h ∙ r.all; ends = r.ends }
-    by false h r = record { text = []; behind = b ∷ bytes; same = refl; all = refl; ends = h }
+    by true h r = record { text = b ∷ r.text; after = r.after; same = ap (λ l. b ∷ l) r.same; all = ap (λ t. t && list_all p r.text) h ∙ r.all; ends = r.ends }
+    by false h r = record { text = []; after = b ∷ bytes; same = refl; all = refl; ends = h }
 
 run_size : (p : ℕ → Bool) (bytes : List ℕ) (r : Run p bytes) → prefix_len p bytes ≡ length r.text
-run_size p bytes r = ap (prefix_len p) r.same ∙ run_of p r.text r.behind r.all r.ends
+run_size p bytes r = ap (prefix_len p) r.same ∙ run_of p r.text r.after r.all r.ends
 
 -- a run that begins
 begun : (p : ℕ → Bool) (b : ℕ) (rest : List ℕ) (r : Run p (b ∷ rest)) → p b ≡ true → (u : List ℕ) × (r.text ≡ b ∷ u)
-begun p b rest r h = by r.text r.behind r.same r.ends
+begun p b rest r h = by r.text r.after r.same r.ends
   where
-    by : (text behind : List ℕ) → b ∷ rest ≡ text ++ behind → begins p behind ≡ false → (u : List ℕ) × (text ≡ b ∷ u)
-    by [] behind same ends = absurd (true≢false (sym h ∙ ap (begins p) same ∙ ends))
-    by (c ∷ u) behind same ends = (u, ap (λ l. head l ∷ u) (sym same))
+    by : (text after : List ℕ) → b ∷ rest ≡ text ++ after → begins p after ≡ false → (u : List ℕ) × (text ≡ b ∷ u)
+    by [] after same ends = absurd (true≢false (sym h ∙ ap (begins p) same ∙ ends))
+    by (c ∷ u) after same ends = (u, ap (λ l. head l ∷ u) (sym same))
       where
         head : List ℕ → ℕ
         head [] = c
@@ -78,7 +78,7 @@ begun p b rest r h = by r.text r.behind r.same r.ends
 pub data Stands (bytes : List ℕ) : Front → Type 0 where
   a_space : (b : ℕ) (rest : List ℕ) → bytes ≡ b ∷ rest → is_space b ≡ true → Stands bytes (Gap 1)
   a_comment : (body rest : List ℕ) → bytes ≡ 35 ∷ body ++ rest → list_all is_in_line body ≡ true → begins is_in_line rest ≡ false → Stands bytes (Gap (length (35 ∷ body)))
-  a_token : (kind : TokenKind) (text behind : List ℕ) → bytes ≡ text ++ behind → IsToken kind text → Ends kind text behind → Stands bytes (Piece kind (length text))
+  a_token : (kind : TokenKind) (text after : List ℕ) → bytes ≡ text ++ after → IsToken kind text → Ends kind text after → Stands bytes (Piece kind (length text))
   a_fault : (kind : LexKind) → IsStuck bytes → IsFaultOf kind bytes → Stands bytes (Fault kind)
 
 stands_if : (bytes : List ℕ) (t : Bool) (f g : Front) → (t ≡ true → Stands bytes f) → (t ≡ false → Stands bytes g) → Stands bytes (if t then f else g)
@@ -100,12 +100,12 @@ stands_comment b rest h =
     let P : ℕ → Type 0 = λ n. Stands (b ∷ rest) (Gap n) in
     let size : length (35 ∷ r.text) ≡ prefix_len is_in_line (b ∷ rest) =
     one_more r.text ∙ ap (λ n. 1 + n) (sym (run_size is_in_line rest r)) ∙ ap (λ t. if t then 1 + prefix_len is_in_line rest else 0) (sym (hash_in_line b h)) in
-    subst P size (a_comment r.text r.behind (ap (λ l. b ∷ l) r.same ∙ ap (λ c. c ∷ r.text ++ r.behind) (sym (hash_is b h))) r.all r.ends)
+    subst P size (a_comment r.text r.after (ap (λ l. b ∷ l) r.same ∙ ap (λ c. c ∷ r.text ++ r.after) (sym (hash_is b h))) r.all r.ends)
 
 -- the first byte of a token tells its kind
-pub first_of_text : (p : ℕ → Bool) (b : ℕ) (rest text behind : List ℕ) → b ∷ rest ≡ text ++ behind → begins p text ≡ true → p b ≡ true
-first_of_text p b rest [] behind same h = absurd (true≢false (sym h))
-first_of_text p b rest (c ∷ u) behind same h = ap (begins p) same ∙ h
+pub first_of_text : (p : ℕ → Bool) (b : ℕ) (rest text after : List ℕ) → b ∷ rest ≡ text ++ after → begins p text ≡ true → p b ≡ true
+first_of_text p b rest [] after same h = absurd (true≢false (sym h))
+first_of_text p b rest (c ∷ u) after same h = ap (begins p) same ∙ h
 
 pub number_begins : (text : List ℕ) → IsNumber text → begins is_ascii_digit text ≡ true
 number_begins [] n = absurd (omega (arith, n.some))
@@ -156,7 +156,7 @@ no_less n k h = grind (arith, nat_tests)
 
 -- a text that begins like a word has no number at its front
 no_number : (b : ℕ) (rest : List ℕ) → is_word_start b ≡ true → HasNumber (b ∷ rest) → ⊥
-no_number b rest h n = true≢false (sym (first_of_text is_ascii_digit b rest n.text n.behind n.same (number_begins n.text n.number)) ∙ start_no_digit b h)
+no_number b rest h n = true≢false (sym (first_of_text is_ascii_digit b rest n.text n.after n.same (number_begins n.text n.number)) ∙ start_no_digit b h)
 
 -- a word that is too long
 stuck_word : (b : ℕ) (rest : List ℕ) → is_word_start b ≡ true → 64 < prefix_len is_word_byte (b ∷ rest) → IsStuck (b ∷ rest)
@@ -167,10 +167,10 @@ stuck_word b rest h long = record {
   token = none;
 }
   where
-    none : (kind : TokenKind) (text behind : List ℕ) → b ∷ rest ≡ text ++ behind → IsToken kind text → Ends kind text behind → ⊥
-    none Word text behind same is ends = let size = ap (prefix_len is_word_byte) same ∙ run_of is_word_byte text behind is.0.bytes ends in omega (arith, size, long, is.1)
-    none Number text behind same is ends = no_number b rest h (record { text = text; behind = behind; same = same; number = is.0; ends = ends })
-    none Sign text behind same is ends = true≢false (sym (first_of_text opens_sign b rest text behind same (sign_begins text is)) ∙ letter_no_sign b (start_in_word b h))
+    none : (kind : TokenKind) (text after : List ℕ) → b ∷ rest ≡ text ++ after → IsToken kind text → Ends kind text after → ⊥
+    none Word text after same is ends = let size = ap (prefix_len is_word_byte) same ∙ run_of is_word_byte text after is.0.bytes ends in omega (arith, size, long, is.1)
+    none Number text after same is ends = no_number b rest h (record { text = text; after = after; same = same; number = is.0; ends = ends })
+    none Sign text after same is ends = true≢false (sym (first_of_text opens_sign b rest text after same (sign_begins text is)) ∙ letter_no_sign b (start_in_word b h))
 
 stands_word : (b : ℕ) (rest : List ℕ) → is_word_start b ≡ true → Stands (b ∷ rest) (word_at (b ∷ rest))
 unfolding word_at
@@ -181,11 +181,11 @@ stands_word b rest h =
     let front = begun is_word_byte b rest r (start_in_word b h) in
     let P : ℕ → Type 0 = λ n. Stands (b ∷ rest) (Piece Word n) in
     stands_if (b ∷ rest) (nat_le size 64) (Piece Word size) (Fault BadToken)
-    (λ short. subst P (sym is) (a_token Word r.text r.behind r.same
+    (λ short. subst P (sym is) (a_token Word r.text r.after r.same
     (record { start = ap (begins is_word_start) front.1 ∙ h; bytes = r.all }, let s = within size 64 short in omega (arith, is, s)) r.ends))
     (λ long. a_fault BadToken (stuck_word b rest h (over size 64 long)) (or-left (is_word_byte b) (is_half b) (start_in_word b h), no_number b rest h))
 
--- a run of word bytes goes on behind others
+-- a run of word bytes goes on after others
 word_run : (u v : List ℕ) → list_all is_word_byte u ≡ true → prefix_len is_word_byte (u ++ v) ≡ length u + prefix_len is_word_byte v
 word_run [] v all = omega arith
 word_run (b ∷ u) v all =
@@ -203,13 +203,13 @@ no_run p (c ∷ v) none = by (p c) none
     by false none = refl
 
 -- where the digits end, no letter follows
-has_number : (b : ℕ) (rest : List ℕ) (r : Run is_ascii_digit (b ∷ rest)) → prefix_len is_word_byte (b ∷ rest) ≡ prefix_len is_ascii_digit (b ∷ rest) → begins is_word_byte r.behind ≡ false
+has_number : (b : ℕ) (rest : List ℕ) (r : Run is_ascii_digit (b ∷ rest)) → prefix_len is_word_byte (b ∷ rest) ≡ prefix_len is_ascii_digit (b ∷ rest) → begins is_word_byte r.after ≡ false
 has_number b rest r same =
     let size = run_size is_ascii_digit (b ∷ rest) r in
-    let wide = ap (prefix_len is_word_byte) r.same ∙ word_run r.text r.behind (digits_are_word r.text r.all) in
-    no_run is_word_byte r.behind (omega (arith, size, wide, same))
+    let wide = ap (prefix_len is_word_byte) r.same ∙ word_run r.text r.after (digits_are_word r.text r.all) in
+    no_run is_word_byte r.after (omega (arith, size, wide, same))
 
-stuck_number : (b : ℕ) (rest : List ℕ) → is_ascii_digit b ≡ true → ((text behind : List ℕ) → b ∷ rest ≡ text ++ behind → IsToken Number text → Ends Number text behind → ⊥) → IsStuck (b ∷ rest)
+stuck_number : (b : ℕ) (rest : List ℕ) → is_ascii_digit b ≡ true → ((text after : List ℕ) → b ∷ rest ≡ text ++ after → IsToken Number text → Ends Number text after → ⊥) → IsStuck (b ∷ rest)
 stuck_number b rest h not_number = record {
   some = omega arith;
   space = letter_no_space b (digit_in_word b h);
@@ -217,23 +217,23 @@ stuck_number b rest h not_number = record {
   token = none;
 }
   where
-    none : (kind : TokenKind) (text behind : List ℕ) → b ∷ rest ≡ text ++ behind → IsToken kind text → Ends kind text behind → ⊥
-    none Word text behind same is ends = true≢false (sym h ∙ start_no_digit b (first_of_text is_word_start b rest text behind same is.0.start))
-    none Number text behind same is ends = not_number text behind same is ends
-    none Sign text behind same is ends = true≢false (sym (first_of_text opens_sign b rest text behind same (sign_begins text is)) ∙ letter_no_sign b (digit_in_word b h))
+    none : (kind : TokenKind) (text after : List ℕ) → b ∷ rest ≡ text ++ after → IsToken kind text → Ends kind text after → ⊥
+    none Word text after same is ends = true≢false (sym h ∙ start_no_digit b (first_of_text is_word_start b rest text after same is.0.start))
+    none Number text after same is ends = not_number text after same is ends
+    none Sign text after same is ends = true≢false (sym (first_of_text opens_sign b rest text after same (sign_begins text is)) ∙ letter_no_sign b (digit_in_word b h))
 
 same_of : (a b : ℕ) → (a == b) ≡ true → a ≡ b
 same_of a b h = grind (arith, nat_tests)
 
 -- the digits of a number that stands at the front
-taken : (bytes text behind : List ℕ) (size : ℕ) → bytes ≡ text ++ behind → size ≡ length text → take size bytes ≡ text
-taken bytes text behind size same is = ap₂ take is same ∙ take_front text behind
+taken : (bytes text after : List ℕ) (size : ℕ) → bytes ≡ text ++ after → size ≡ length text → take size bytes ≡ text
+taken bytes text after size same is = ap₂ take is same ∙ take_front text after
 
--- a number at the front with no byte of a word behind it: both runs are its size
+-- a number at the front with no byte of a word after it: both runs are its size
 number_sizes : (bytes : List ℕ) (n : HasNumber bytes) → (prefix_len is_ascii_digit bytes ≡ length n.text) × (prefix_len is_word_byte bytes ≡ length n.text)
 number_sizes bytes n = (
-  ap (prefix_len is_ascii_digit) n.same ∙ run_of is_ascii_digit n.text n.behind n.number.digits (no_digit n.behind n.ends),
-  ap (prefix_len is_word_byte) n.same ∙ run_of is_word_byte n.text n.behind (digits_are_word n.text n.number.digits) n.ends,
+  ap (prefix_len is_ascii_digit) n.same ∙ run_of is_ascii_digit n.text n.after n.number.digits (no_digit n.after n.ends),
+  ap (prefix_len is_word_byte) n.same ∙ run_of is_word_byte n.text n.after (digits_are_word n.text n.number.digits) n.ends,
 )
 
 text_some : (u : List ℕ) (b : ℕ) (v : List ℕ) → u ≡ b ∷ v → 0 < length u
@@ -250,22 +250,22 @@ stands_number b rest h =
     let front = begun is_ascii_digit b rest r h in
     let number : IsNumber r.text = record { some = text_some r.text b front.0 front.1; digits = r.all } in
     let value = digits_value 10 (take size all) in
-    let own : value ≡ digits_value 10 r.text = ap (digits_value 10) (taken all r.text r.behind size r.same is) in
+    let own : value ≡ digits_value 10 r.text = ap (digits_value 10) (taken all r.text r.after size r.same is) in
     let P : ℕ → Type 0 = λ n. Stands all (Piece Number n) in
     let differ : (wide == size) ≡ false → HasNumber all → ⊥ = λ e n.
     true≢false (sym (eq-eqb wide size ((number_sizes all n).1 ∙ sym (number_sizes all n).0)) ∙ e) in
     stands_if all (wide == size) (if nat_lt value (2 ^ 127) then Piece Number size else Fault WideNumber) (Fault BadToken)
     (λ e. let ends = has_number b rest r (same_of wide size e) in
     stands_if all (nat_lt value (2 ^ 127)) (Piece Number size) (Fault WideNumber)
-    (λ small. subst P (sym is) (a_token Number r.text r.behind r.same (number, subst (λ n. n < 2 ^ 127) own (less value (2 ^ 127) small)) ends))
+    (λ small. subst P (sym is) (a_token Number r.text r.after r.same (number, subst (λ n. n < 2 ^ 127) own (less value (2 ^ 127) small)) ends))
     (λ large. a_fault WideNumber
-    (stuck_number b rest h (λ text behind same it stops.
-    let n : HasNumber all = record { text = text; behind = behind; same = same; number = it.0; ends = stops } in
-    let mine : value ≡ digits_value 10 text = ap (digits_value 10) (taken all text behind size same (number_sizes all n).0) in
+    (stuck_number b rest h (λ text after same it stops.
+    let n : HasNumber all = record { text = text; after = after; same = same; number = it.0; ends = stops } in
+    let mine : value ≡ digits_value 10 text = ap (digits_value 10) (taken all text after size same (number_sizes all n).0) in
     omega (arith, mine, it.1, no_less value (2 ^ 127) large)))
-    (record { text = r.text; behind = r.behind; same = r.same; number = number; ends = ends })))
+    (record { text = r.text; after = r.after; same = r.same; number = number; ends = ends })))
     (λ e. a_fault BadToken
-    (stuck_number b rest h (λ text behind same it stops. differ e (record { text = text; behind = behind; same = same; number = it.0; ends = stops })))
+    (stuck_number b rest h (λ text after same it stops. differ e (record { text = text; after = after; same = same; number = it.0; ends = stops })))
     (or-left (is_word_byte b) (is_half b) (digit_in_word b h), differ e))
 
 -- what is no text of a sign is no sign
@@ -313,16 +313,16 @@ stuck_sign : (b : ℕ) (rest : List ℕ) → is_space b ≡ false → is_hash b 
     is_double (b ∷ rest) ≡ false → is_some (mark_of_sign (b ∷ [])) ≡ false → IsStuck (b ∷ rest)
 stuck_sign b rest no_space no_hash no_word no_digit no_two no_one = record { some = omega arith; space = no_space; hash = no_hash; token = none }
   where
-    no_sign : (text behind : List ℕ) → b ∷ rest ≡ text ++ behind → is_sign_text text ≡ true → is_some (mark_of_sign text) ≡ true → ⊥
-    no_sign [] behind same is some = true≢false (sym is)
-    no_sign (c ∷ []) behind same is some = true≢false (sym (ap (λ l. is_some (mark_of_sign (take 1 l))) same ∙ some) ∙ no_one)
-    no_sign (c ∷ d ∷ []) behind same is some = true≢false (sym some ∙ no_double c d behind (subst (λ l. is_double l ≡ false) same no_two))
-    no_sign (c ∷ d ∷ e ∷ more) behind same is some = true≢false (sym is)
+    no_sign : (text after : List ℕ) → b ∷ rest ≡ text ++ after → is_sign_text text ≡ true → is_some (mark_of_sign text) ≡ true → ⊥
+    no_sign [] after same is some = true≢false (sym is)
+    no_sign (c ∷ []) after same is some = true≢false (sym (ap (λ l. is_some (mark_of_sign (take 1 l))) same ∙ some) ∙ no_one)
+    no_sign (c ∷ d ∷ []) after same is some = true≢false (sym some ∙ no_double c d after (subst (λ l. is_double l ≡ false) same no_two))
+    no_sign (c ∷ d ∷ e ∷ more) after same is some = true≢false (sym is)
 
-    none : (kind : TokenKind) (text behind : List ℕ) → b ∷ rest ≡ text ++ behind → IsToken kind text → Ends kind text behind → ⊥
-    none Word text behind same is ends = true≢false (sym (first_of_text is_word_start b rest text behind same is.0.start) ∙ no_word)
-    none Number text behind same is ends = true≢false (sym (first_of_text is_ascii_digit b rest text behind same (number_begins text is.0)) ∙ no_digit)
-    none Sign text behind same is ends = no_sign text behind same (sign_text text is) is
+    none : (kind : TokenKind) (text after : List ℕ) → b ∷ rest ≡ text ++ after → IsToken kind text → Ends kind text after → ⊥
+    none Word text after same is ends = true≢false (sym (first_of_text is_word_start b rest text after same is.0.start) ∙ no_word)
+    none Number text after same is ends = true≢false (sym (first_of_text is_ascii_digit b rest text after same (number_begins text is.0)) ∙ no_digit)
+    none Sign text after same is ends = no_sign text after same (sign_text text is) is
 
 neither : (b : ℕ) → is_word_start b ≡ false → is_ascii_digit b ≡ false → is_word_byte b ≡ false
 neither b no_word no_digit = grind (arith, nat_tests)
@@ -340,7 +340,7 @@ stands_sign b rest no_space no_hash no_word no_digit =
     let single = is_some (mark_of_sign (b ∷ [])) in
     let half = bytes_eq (b ∷ []) (codes "&") || bytes_eq (b ∷ []) (codes "|") in
     let unknown = if half then Fault BadToken else Fault BadByte in
-    let number : HasNumber all → ⊥ = λ n. true≢false (sym (first_of_text is_ascii_digit b rest n.text n.behind n.same (number_begins n.text n.number)) ∙ no_digit) in
+    let number : HasNumber all → ⊥ = λ n. true≢false (sym (first_of_text is_ascii_digit b rest n.text n.after n.same (number_begins n.text n.number)) ∙ no_digit) in
     let begun : (u : Bool) → half ≡ u → (is_word_byte b || is_half b) ≡ u = λ u h. halves (is_word_byte b) (b == 38) (b == 124) u (neither b no_word no_digit) h in
     stands_if all (is_double all) (Piece Sign 2) (if single then Piece Sign 1 else unknown) (two_stand b rest) (λ no_two.
     stands_if all single (Piece Sign 1) unknown

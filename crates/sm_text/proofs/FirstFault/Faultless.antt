@@ -47,7 +47,7 @@ module _ (bytes : List ℕ) (t : Parts) (p : IsInGrammar bytes t) where
   is_read : r.whole symbols ≡ Ok (front_of t, t.fillings)
   is_read = ap (λ (l : List Symbol). r.whole l) (sym (symbols-map bytes)) ∙ read_complete (symbols_of bytes) t p.grammar
 
-  -- the symbols before a token, its own, and those behind it
+  -- the symbols before a token, its own, and those after it
   around : (before behind : List Token) (u : Token) → source.tokens ≡ before ++ u ∷ behind → symbols ≡ map source.symbol before ++ source.symbol u ∷ map source.symbol behind
   around before behind u cut = ap (λ (l : List Token). map source.symbol l) cut ∙ map-append source.symbol before (u ∷ behind)
 

@@ -63,7 +63,7 @@ stopped {T} p spells told ts f e = by_answer (p ts) (told.tells ts) e
           nested = t.nested;
         })
 
--- symbols behind what is read are refused
+-- symbols after what is read are refused
 refused_behind : {T : Type 0} (x : T) (u : Symbol) (us vs : List Symbol) → first vs ≡ first (u ∷ us) → r.by_rest x vs ≡ Err (fault Expected vs)
 refused_behind x u us [] e = absurd (none_some u e)
 refused_behind x u us (v ∷ vs) e = refl
@@ -107,7 +107,7 @@ stopped_or_left {T} p spells told ts f e = by_answer (p ts) (told.tells ts) e
 abbrev pub Reads : {T : Type 0} → Parser T → Grammar → Type 0
 Reads {T} p spells = (ts : List Marked) → spells ts → (x : T) × (p (unmarked ts ++ []) ≡ reach ts [] (Ok (x, [])))
 
--- with no symbols behind
+-- with no symbols after it
 read_alone : {T : Type 0} (p : Parser T) (ts : List Marked) (a : Result (T × List Symbol) Fault) → p (unmarked ts ++ []) ≡ a → p (unmarked ts) ≡ a
 read_alone p ts a e = ap p (sym (append-nil (unmarked ts))) ∙ e
 
@@ -205,7 +205,7 @@ first_same : (earlier us vs : List Symbol) (t : Symbol) → first (earlier ++ t 
 first_same [] us vs t = refl
 first_same (e ∷ earlier) us vs t = refl
 
--- of two splits of a list the one that ends no later, with other symbols behind
+-- of two splits of a list the one that ends no later, with other symbols after it
 resplit : (used here earlier behind others : List Symbol) (t : Symbol) → used ++ here ≡ earlier ++ t ∷ behind → length used ≤ length earlier → (us : List Symbol) × (earlier ++ t ∷ others ≡ used ++ us) × (first us ≡ first here)
 resplit [] here earlier behind others t e h = (earlier ++ t ∷ others, refl, first_same earlier others behind t ∙ ap (λ (l : List Symbol). first l) (sym e))
 resplit (x ∷ used) here [] behind others t e h = absurd (omega (arith, h))

@@ -7,7 +7,7 @@ use Rattle.sm_syntax.specs.declared.token.LexFault.{LexFault}
 use Rattle.sm_syntax.specs.declared.token.LexKind.TheVariants as kind
 use Rattle.sm_syntax.specs.declared.token.Token.{Token}
 use Rattle.sm_syntax.specs.text.Symbols.{symbols_among, symbols_of, names_of}
-use Rattle.sm_syntax.specs.text.Tokens.{Front, Gap, Piece, Fault, Lexed, front_of, by_front, lexed_behind, lexed_from, lexed}
+use Rattle.sm_syntax.specs.text.Tokens.{Front, Gap, Piece, Fault, Lexed, front_of, by_front, lexed_after, lexed_from, lexed}
 use Rattle.sm_text.specs.declared.error.TextError.{TextError}
 use Rattle.sm_text.specs.declared.error.TextError.TheVariants as error
 use Rattle.sm_text.specs.declared.rules.reading.Fault as reading
@@ -36,10 +36,10 @@ by_front-ascends (Piece kind size) place last more h x = (omega arith, lower (su
 by_front-ascends (Fault kind) place last more h x = (omega arith, h)
 
 -- the tokens and the fault of a text stand in the order of their places
-ascends : (left place last : ℕ) (bytes : List ℕ) → last ≡ place + length bytes → Ascends place (lexed_behind left place bytes).0 (lexed_behind left place bytes).1 last
+ascends : (left place last : ℕ) (bytes : List ℕ) → last ≡ place + length bytes → Ascends place (lexed_after left place bytes).0 (lexed_after left place bytes).1 last
 ascends left place last [] e = omega (arith, e)
-ascends (suc left) place last (b ∷ bytes) e = lower place (place + 1) last (lexed_behind left (place + 1) bytes).0 (lexed_behind left (place + 1) bytes).1 (omega arith) (ascends left (place + 1) last bytes (omega (arith, e)))
-ascends zero place last (b ∷ bytes) e = by_front-ascends (front_of b (b ∷ bytes)) place last (λ left. lexed_behind left (place + 1) bytes) (omega (arith, e)) (λ left. ascends left (place + 1) last bytes (omega (arith, e)))
+ascends (suc left) place last (b ∷ bytes) e = lower place (place + 1) last (lexed_after left (place + 1) bytes).0 (lexed_after left (place + 1) bytes).1 (omega arith) (ascends left (place + 1) last bytes (omega (arith, e)))
+ascends zero place last (b ∷ bytes) e = by_front-ascends (front_of b (b ∷ bytes)) place last (λ left. lexed_after left (place + 1) bytes) (omega (arith, e)) (λ left. ascends left (place + 1) last bytes (omega (arith, e)))
 
 -- those of a whole text
 pub lexed-ascends : (bytes : List ℕ) → Ascends 0 (lexed bytes).0 (lexed bytes).1 (length bytes)
@@ -75,7 +75,7 @@ head_same t u ts us e = cc
 tail_same : (t u : Token) (ts us : List Token) → (t ∷ ts) ≡ u ∷ us → ts ≡ us
 tail_same t u ts us e = cc
 
--- two tokens of a text: the second stands before the first, behind it, or is it
+-- two tokens of a text: the second stands before the first, after it, or is it
 Order : List Token → List Token → Token → Token → Type 0
 Order xs us t u = (length us < length xs) ⊎ ((t.place < u.place) ⊎ ((xs ≡ us) × (t ≡ u)))
 
@@ -191,7 +191,7 @@ module _ {A : Type 0} (read : List Symbol → Result A reading.Fault) (spells : 
       let sum : length (before ++ t ∷ behind) ≡ length before + suc (length behind) = rw length-append refl in
       omega (arith, size, sum)
 
-  -- where all symbols can go on, a lexical fault behind them is the first fault
+  -- where all symbols can go on, a lexical fault after them is the first fault
   module _ (used here : List Symbol) (w : Reaches read spells source used here) (all : here ≡ []) (l : LexFault) (is : source.fault ≡ Some l) where
     lexical_place : (g : LexFault) → source.fault ≡ Some g → l.place ≤ g.place
     lexical_place g e = let same : l ≡ g = same_fault l g (sym is ∙ e) in let F : LexFault → Type 0 = λ h. l.place ≤ h.place in subst F same (omega arith)
@@ -448,7 +448,7 @@ module _ {A : Type 0} (read : List Symbol → Result A reading.Fault) (spells : 
       let w = judges.refuses (all_symbols source) f e in
       first_refusal spells source x (lexical_first w.used w.here (refused-reaches f e w) (nothing_left w.here (sym (ap (λ (g : reading.Fault). g.left) w.place) ∙ left)) l is x same)
 
-  -- a lexical fault behind what is read
+  -- a lexical fault after what is read
   pub read_to_fault : (a : A) → read (all_symbols source) ≡ Ok a → IsViable spells (all_symbols source) → (l : LexFault) → source.fault ≡ Some l → (x : TextError) → lexical_fault x ≡ Some l → IsRefusal spells source x
   read_to_fault a e can_go_on l is x same = first_refusal spells source x (lexical_first (all_symbols source) [] reached refl l is x same)
     where

@@ -18,7 +18,7 @@ use Rattle.sm_text.proofs.FirstFault.Sound.{Ascends, from-ascends, place_from, r
 
 -- a reading that judges by a grammar, of symbols that are those of the source
 module _ {A : Type 0} (read : List Symbol → Result A Fault) (spells : Grammar) (judges : Judges read spells) (source : Source) (ordered : Ascends 0 source.tokens source.fault source.end) (us : List Symbol) (same : us ≡ all_symbols source) where
-  -- a lexical fault behind what is read
+  -- a lexical fault after what is read
   pub fault_behind : (a : A) → read us ≡ Ok a → IsViable spells us → (l : LexFault) → source.fault ≡ Some l → (x : TextError) → lexical_fault x ≡ Some l → IsRefusal spells source x
   fault_behind a e v l is x named =
       let F : List Symbol → Type 0 = λ ts. IsViable spells ts in

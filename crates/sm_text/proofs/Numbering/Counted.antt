@@ -21,7 +21,7 @@ use Rattle.sm_text.specs.resolving.NameCounts.{names_counted}
 use Rattle.sm_text.proofs.Numbering.Symbols.{names_with, names_after-append, grown-names_after, known-names_with, symbol_by-append}
 use Rattle.sm_text.proofs.RoundTrip.Symbols.{known_behind}
 
--- symbols stay where names are added behind
+-- symbols stay where names are added after theirs
 same_symbols : (bytes : List ℕ) (names more : List (List ℕ)) (ts : List Token) → AllByRecursion (IsKnown bytes names) ts → map (symbol_of bytes (names ++ more)) ts ≡ map (symbol_of bytes names) ts
 unfolding symbol_of
 same_symbols bytes names more [] known = refl
@@ -33,7 +33,7 @@ names-take bytes before n ts =
     let grown = grown-names_after bytes (names_after bytes before (take n ts)) (drop n ts) in
     (grown.0, ap (names_after bytes before) (sym (take-append-drop n ts)) ∙ names_after-append bytes before (take n ts) (drop n ts) ∙ grown.1)
 
--- and their symbols are the same, whatever stands behind them
+-- and their symbols are the same, whatever stands after them
 pub signs-take : (bytes : List ℕ) (before : List (List ℕ)) (n : ℕ) (ts : List Token) → take n (token_symbols bytes before ts) ≡ token_symbols bytes before (take n ts)
 signs-take bytes before n ts =
     let names = names_after bytes before (take n ts) in
@@ -42,7 +42,7 @@ signs-take bytes before n ts =
     ∙ ap (λ (l : List (List ℕ)). map (symbol_of bytes l) (take n ts)) grown.1
     ∙ same_symbols bytes names grown.0 (take n ts) (known_behind bytes before (take n ts) names refl)
 
--- others stand behind these
+-- others stand after these
 pub signs-split : (bytes : List ℕ) (before : List (List ℕ)) (n : ℕ) (ts : List Token) → (z : List Symbol) × (token_symbols bytes before ts ≡ token_symbols bytes before (take n ts) ++ z) × (length z ≡ length ts - n)
 signs-split bytes before n ts =
     let sign = symbol_of bytes (names_after bytes before ts) in

@@ -39,7 +39,7 @@ grown-names_after bytes names (t ∷ ts) =
     let rest = grown-names_after bytes (names_with names t.kind (text_of bytes t)) ts in
     (first.0 ++ rest.0, rest.1 ∙ ap (λ l. l ++ rest.0) first.1 ∙ append_assoc names first.0 rest.0)
 
--- a name's symbol stays where names are added behind
+-- a name's symbol stays where names are added after it
 pub symbol_by-append : (kind : TokenKind) (names more : List (List ℕ)) (text : List ℕ) → (is_name kind text ≡ true → is_among names text ≡ true) → symbol_by kind (names ++ more) text ≡ symbol_by kind names text
 symbol_by-append Word names more text known = by (mark_of_word text) known
   where
@@ -65,7 +65,7 @@ pub kept-on_err : {T E : Type 0} (r : Result T E) (bytes : List ℕ) (before nam
 kept-on_err (Ok x) bytes before names ts same = tt
 kept-on_err (Err e) bytes before names ts same = kept-names_after bytes before names ts same
 
--- the first tokens are made symbols, with the names so far behind those that stood before
+-- the first tokens are made symbols, with the names so far after those that stood before
 pub record IsRead (bytes : List ℕ) (before : List (List ℕ)) (tokens : List Token) (i : ℕ) (names : List (List ℕ)) (symbols : List Symbol) : Type 0 where
   pub names_are : names ≡ names_after bytes before (take i tokens)
   pub symbols_are : symbols ≡ map (symbol_of bytes (names_after bytes before tokens)) (take i tokens)

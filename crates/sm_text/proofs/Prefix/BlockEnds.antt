@@ -43,7 +43,7 @@ ends_block (s.Mark m) = sameb the_type m mark.CloseCurly
 ends_block (s.Number z) = false
 ends_block (s.Name x) = false
 
--- how many braces are open behind a symbol
+-- how many braces are open after a symbol
 abbrev one_less : ℕ → ℕ
 one_less zero = zero
 one_less (suc n) = n
@@ -60,7 +60,7 @@ abbrev stop_at : ℕ → List Marked → Option (List Marked) → Option (List M
 stop_at zero ts more = Some ts
 stop_at (suc n) ts more = more
 
--- what stands behind the first symbol that leaves no brace open, where n are open before
+-- what stands after the first symbol that leaves no brace open, where n are open before
 abbrev behind : ℕ → List Marked → Option (List Marked)
 behind n [] = None
 behind n (t ∷ ts) = stop_at (depth_after n t.0) ts (behind (depth_after n t.0) ts)
@@ -269,7 +269,7 @@ some_same us vs e = cc
 ok_not_err : (x : Code × List Symbol) (f : Fault) → (let a : Result (Code × List Symbol) Fault = Ok x in a) ≡ Err f → ⊥
 ok_not_err x f e = cc
 
--- where tokens end with the brace that closes the first, and others stand behind them, no block is refused at their end
+-- where tokens end with the brace that closes the first, and others stand after them, no block is refused at their end
 pub none_at_end : (bytes : List ℕ) (before : List (List ℕ)) (groups m : ℕ) (ts : List Token) → IsGroup bytes ts m → m < length ts → (f : Fault) → r.block (64 - groups) (token_symbols bytes before (take m ts)) ≡ Err f → f.left ≡ 0 → ⊥
 none_at_end bytes before groups m ts group less f e none =
     let us = take m ts in

@@ -45,7 +45,7 @@ is_head names f us k =
 pub is_front : (h : HeadParts) (us : List Marked) → IsHead us h → IsFrontOfTask us (front_from h)
 is_front h us (head {ts = ts} {us = os} {vs = vs} {ws = ws} it declared named assumed code) = record { ds = ts; os = os; qs = vs; ss = ws; parts = refl; declared = declared; named = named; assumed = assumed; code = code }
 
--- a head is read, whatever stands behind it
+-- a head is read, whatever stands after it
 pub front_read : (us : List Marked) (f : r.TaskFront) → IsFrontOfTask us f → (z : List Symbol) → r.head (unmarked us ++ z) ≡ reach us z (Ok (f, z))
 front_read us f k z =
     let t : Parts = record { names = []; declared = f.declared; outputs = f.outputs; assumed = f.assumed; shared = f.shared; fillings = λ (c : Copy). [] } in

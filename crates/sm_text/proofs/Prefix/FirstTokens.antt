@@ -36,7 +36,7 @@ pub none_left : (z : List Symbol) → length z ≡ 0 → z ≡ []
 none_left [] e = refl
 none_left (u ∷ us) e = absurd (omega (arith, e))
 
--- the symbol that stands first stays where others stand behind it
+-- the symbol that stands first stays where others stand after it
 first_stays : (here z : List Symbol) → (length here ≡ 0 → length z ≡ 0) → first (here ++ z) ≡ first here
 first_stays [] z none = ap first (none_left z (none refl))
 first_stays (u ∷ us) z none = refl
@@ -94,7 +94,7 @@ module _ (bytes : List ℕ) (before : List (List ℕ)) (groups : ℕ) (ts : List
         numbered = cut_names bytes before used ts symbols table names same all cut ∙ ap (λ (n : ℕ). names_after bytes before (take n ts)) (count ∙ ap (λ (n : ℕ). n - length after) size);
       }
 
-  -- no more stand behind it than there are
+  -- no more stand after it than there are
   pub first_within : (names : List (List ℕ)) (c : Code) (left : ℕ) → IsFirstBlock bytes before groups ts names c left → left ≤ length ts
   first_within names c left k =
       let fewer = left_within (r.block (64 - groups)) (IsBlock groups) bytes before ts c k.after (any_block_told groups) k.read in

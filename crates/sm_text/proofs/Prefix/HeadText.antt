@@ -59,7 +59,7 @@ nothing_new names before (s.Mark m ∷ us) all = nothing_new names before us all
 nothing_new names before (s.Number z ∷ us) all = nothing_new names before us all.1
 nothing_new names before (s.Name x ∷ us) all = ap (λ (l : List (List ℕ)). names_by names l us) (with_text-among before (text names x.0) all.0) ∙ nothing_new names before us all.1
 
--- the text of a declared name stands among the names behind the declarations
+-- the text of a declared name stands among the names after the declarations
 declared_among : (names before : List (List ℕ)) (ds : List (ℕ × Sort)) (x : ℕ) → is_some (sort_of ds x) ≡ true → is_among (names_by names before (content_declared ds)) (text names x) ≡ true
 declared_among names before [] x h = absurd (true≢false (sym h))
 declared_among names before (d ∷ ds) x h = by (d.0 == x) refl h (declared_among names (with_text before (text names d.0)) ds x)

@@ -19,7 +19,7 @@ use Rattle.sm_text.proofs.Sound.Parsers.{Takes, Told, Describes}
 pub respelled : {T U : Type 0} {G : List Marked → T → Type 0} {H : List Marked → U → Type 0} {bytes : List ℕ} {at : ℕ} {before : List (List ℕ)} {n : ℕ} {names : List (List ℕ)} {x : T} {y : U} → ((us : List Marked) → G us x → H us y) → SpellsFrom G bytes at before n names x → SpellsFrom H bytes at before n names y
 respelled f s = record { begins = s.begins; ends = s.ends; numbered = s.numbered; grammar = f _ s.grammar }
 
--- a parser that reads what is spelled, whatever stands behind it
+-- a parser that reads what is spelled, whatever stands after it
 abbrev pub ReadsAll : {T : Type 0} → Parser T → (List Marked → T → Type 0) → Type 0
 ReadsAll {T} p G = (ss : List Symbol) (x : T) → G (map plain ss) x → (z : List Symbol) → p (ss ++ z) ≡ Ok (x, z)
 
@@ -27,7 +27,7 @@ ReadsAll {T} p G = (ss : List Symbol) (x : T) → G (map plain ss) x → (z : Li
 pub signs-of : (bytes : List ℕ) (before names : List (List ℕ)) (tokens all : List Token) (symbols : List Symbol) → names ≡ names_after bytes before tokens → symbols ≡ map (symbol_of bytes names) tokens → tokens ≡ all → symbols ≡ token_symbols bytes before all
 signs-of bytes before names tokens all symbols n s same = s ∙ ap (λ (l : List (List ℕ)). map (symbol_of bytes l) tokens) n ∙ ap (token_symbols bytes before) same
 
--- all tokens behind a number
+-- all tokens after a number
 pub rest_of : (at : ℕ) (ts : List Token) → take (length ts - at) (drop at ts) ≡ drop at ts
 rest_of at ts = let rest = length-drop at ts in take_all (length ts - at) (drop at ts) (omega (arith, rest))
 
@@ -94,7 +94,7 @@ module _ {T : Type 0} (p : Parser T) (G : List Marked → T → Type 0) (bytes :
       let F : ℕ → Type 0 = λ k. SpellsFrom G bytes at before k names x in
       subst F (sym number) (spelled at x after names told within read numbered)
 
-  -- what the first tokens spell is read, and the number behind them is that of the symbols that are left
+  -- what the first tokens spell is read, and the number after them is that of the symbols that are left
   pub read_it : (at n : ℕ) (names : List (List ℕ)) (x : T) → ReadsAll p G → SpellsFrom G bytes at before n names x → (z : List Symbol) × (p (token_symbols bytes before (drop at (lexed bytes).0)) ≡ Ok (x, z)) × (n ≡ length (lexed bytes).0 - length z)
   read_it at n names x reads s =
       let tokens = (lexed bytes).0 in

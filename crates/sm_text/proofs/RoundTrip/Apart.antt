@@ -1,4 +1,4 @@
--- In canonical pieces nothing behind a token goes on with it.
+-- In canonical pieces nothing after a token goes on with it.
 use Rattle.std.proofs.Common.{◌≡◌, ℕ, ℤ, pos, negsuc, ◌^◌, lit<, ◌<◌, Bool, true, false, ◌==◌, List, [], ◌∷◌, ◌++◌, length, unwrap_or, if◌then◌else◌, refl, sym, subst, append_assoc, arith}
 use Rattle.std.proofs.lemmas.Bool.Decides.{nat_tests}
 use Rattle.std.proofs.lemmas.Fmt.{decimal_is_IsNumeral_wide}

@@ -1,4 +1,4 @@
--- In canonical code nothing behind a token goes on with it.
+-- In canonical code nothing after a token goes on with it.
 use Rattle.std.proofs.Common.{◌≡◌, ℕ, lit<, ◌^◌, ◌<◌, true, false, ◌==◌, List, [], ◌∷◌, ◌++◌, unwrap_or, refl, sym, subst, append_assoc, arith}
 use Rattle.std.proofs.lemmas.Fmt.{decimal_is_IsNumeral_wide}
 use Rattle.std.specs.Fmt.{decimal}
@@ -33,7 +33,7 @@ element_runs names a ps good inside rest apart behind =
     let inner = square_runs names ps inside rest apart behind in
     name_runs names a ((mark_piece mark.OpenSquare ∷ (ps ++ mark_piece mark.CloseSquare ∷ [])) ++ rest) good inner.apart (record { closed = closed_at 91 refl refl })
 
--- a value behind its `=`
+-- a value after its `=`
 value_apart : (names : List (List ℕ)) (ps rest : List Piece) → RunsBefore names ps → AreApart names rest → IsClosed names rest →
     AreApart names ((space ∷ mark_piece mark.Becomes ∷ space ∷ (ps ++ mark_piece mark.Semicolon ∷ [])) ++ rest)
 value_apart names ps rest inside apart behind = (refl, (tt, refl, (refl, (ended_runs names ps inside rest apart behind).apart)))
@@ -83,7 +83,7 @@ IsCode names (If b c e k) = IsTested names b × IsCode names c × IsCode names e
 IsCode names (While b c k) = IsTested names b × IsCode names c × IsCode names k
 IsCode names (Hole h k) = (h < 2 ^ 127) × IsCode names k
 
--- pieces of code are apart, and so are those behind them
+-- pieces of code are apart, and so are those after them
 pub code_apart : (names : List (List ℕ)) (c : Code) (margin : List ℕ) → list_all is_space margin ≡ true → IsCode names c → (rest : List Piece) → AreApart names rest → AreApart names (code_pieces margin c ++ rest)
 code_apart names End margin white good rest apart = apart
 code_apart names (Skip k) margin white good rest apart =

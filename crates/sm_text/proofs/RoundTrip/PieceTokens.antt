@@ -12,7 +12,7 @@ use Rattle.sm_syntax.specs.declared.symbol.Mark.TheVariants as mark
 use Rattle.sm_syntax.specs.declared.token.LexKind.TheVariants.{BadToken, WideNumber}
 use Rattle.sm_syntax.specs.declared.token.TokenKind.{TokenKind}
 use Rattle.sm_syntax.specs.declared.token.TokenKind.TheVariants as kind
-use Rattle.sm_syntax.specs.text.Tokens.{Front, Gap, Piece, Fault, front_of, word_at, number_at, sign_at, is_space, is_hash, is_word_start, is_word_byte, mark_of_sign, signs, by_front, with_token, lexed_behind, lexed_from}
+use Rattle.sm_syntax.specs.text.Tokens.{Front, Gap, Piece, Fault, front_of, word_at, number_at, sign_at, is_space, is_hash, is_word_start, is_word_byte, mark_of_sign, signs, by_front, with_token, lexed_after, lexed_from}
 use Rattle.sm_text.specs.printing.Pieces.{spelling}
 
 pub both-left : (a b : Bool) → (a && b) ≡ true → a ≡ true
@@ -23,7 +23,7 @@ pub both-right : (a b : Bool) → (a && b) ≡ true → b ≡ true
 both-right true b h = h
 both-right false b h = cc
 
-pub lexed_from-cons : (place b : ℕ) (bytes : List ℕ) → lexed_from place (b ∷ bytes) ≡ by_front (front_of b (b ∷ bytes)) place (λ left. lexed_behind left (place + 1) bytes)
+pub lexed_from-cons : (place b : ℕ) (bytes : List ℕ) → lexed_from place (b ∷ bytes) ≡ by_front (front_of b (b ∷ bytes)) place (λ left. lexed_after left (place + 1) bytes)
 unfolding lexed_from
 lexed_from-cons place b bytes = refl
 
@@ -32,23 +32,23 @@ abbrev pub begins : (ℕ → Bool) → List ℕ → Bool
 begins p [] = false
 begins p (b ∷ v) = p b
 
--- behind the bytes that are left of a front
-behind_front : (u v : List ℕ) (place : ℕ) → lexed_behind (length u) place (u ++ v) ≡ lexed_behind 0 (place + length u) v
-behind_front [] v place = ap (λ (p : ℕ). lexed_behind 0 p v) (omega arith)
-behind_front (b ∷ u) v place = behind_front u v (place + 1) ∙ ap (λ (p : ℕ). lexed_behind 0 p v) (omega arith)
+-- after the bytes that are left of a front
+behind_front : (u v : List ℕ) (place : ℕ) → lexed_after (length u) place (u ++ v) ≡ lexed_after 0 (place + length u) v
+behind_front [] v place = ap (λ (p : ℕ). lexed_after 0 p v) (omega arith)
+behind_front (b ∷ u) v place = behind_front u v (place + 1) ∙ ap (λ (p : ℕ). lexed_after 0 p v) (omega arith)
 
-pub behind_first : (u v : List ℕ) (place : ℕ) (b : ℕ) → lexed_behind (length (b ∷ u) - 1) (place + 1) (u ++ v) ≡ lexed_from (place + length (b ∷ u)) v
+pub behind_first : (u v : List ℕ) (place : ℕ) (b : ℕ) → lexed_after (length (b ∷ u) - 1) (place + 1) (u ++ v) ≡ lexed_from (place + length (b ∷ u)) v
 unfolding lexed_from
 behind_first u v place b =
     let last : length (b ∷ u) - 1 ≡ length u = omega arith in
-    ap (λ (n : ℕ). lexed_behind n (place + 1) (u ++ v)) last ∙ behind_front u v (place + 1) ∙ ap (λ (p : ℕ). lexed_behind 0 p v) (omega arith)
+    ap (λ (n : ℕ). lexed_after n (place + 1) (u ++ v)) last ∙ behind_front u v (place + 1) ∙ ap (λ (p : ℕ). lexed_after 0 p v) (omega arith)
 
 -- a token that its front names is cut whole
 pub lexed-token : (b : ℕ) (u v : List ℕ) (k : TokenKind) (place : ℕ) → front_of b ((b ∷ u) ++ v) ≡ Piece k (length (b ∷ u)) →
     lexed_from place ((b ∷ u) ++ v) ≡ with_token (record { kind = k; place = place; size = length (b ∷ u) }) (lexed_from (place + length (b ∷ u)) v)
 lexed-token b u v k place front =
     lexed_from-cons place b (u ++ v) ∙
-    ap (λ (f : Front). by_front f place (λ left. lexed_behind left (place + 1) (u ++ v))) front ∙
+    ap (λ (f : Front). by_front f place (λ left. lexed_after left (place + 1) (u ++ v))) front ∙
     ap (with_token (record { kind = k; place = place; size = length (b ∷ u) })) (behind_first u v place b)
 
 -- white space is passed over
@@ -62,7 +62,7 @@ lexed-gap (b ∷ u) v place h =
     let here : is_space b ≡ true = both-left (is_space b) (list_all is_space u) h in
     let rest : list_all is_space u ≡ true = both-right (is_space b) (list_all is_space u) h in
     lexed_from-cons place b (u ++ v) ∙
-    ap (λ (f : Front). by_front f place (λ left. lexed_behind left (place + 1) (u ++ v))) (front-space b (b ∷ (u ++ v)) here) ∙
+    ap (λ (f : Front). by_front f place (λ left. lexed_after left (place + 1) (u ++ v))) (front-space b (b ∷ (u ++ v)) here) ∙
     behind_first [] (u ++ v) place b ∙
     lexed-gap u v (place + 1) rest ∙ ap (λ (p : ℕ). lexed_from p v) (omega arith)
 

@@ -3,7 +3,7 @@ use Rattle.std.proofs.Common.{◌≡◌, ℕ, List, ◌++◌, ◌∙◌, sym, ap
 use Rattle.std.proofs.lemmas.Grind.{flat_map-append}
 use Rattle.sm_text.specs.printing.Pieces.{Piece, pieces_text}
 
--- one list of pieces behind another
+-- one list of pieces after another
 pub put_both : (names : List (List ℕ)) (ps qs : List Piece) (o n m : List ℕ) → n ≡ o ++ pieces_text names ps → m ≡ n ++ pieces_text names qs → m ≡ o ++ pieces_text names (ps ++ qs)
 put_both names ps qs o n m first second =
     second ∙ ap (λ (l : List ℕ). l ++ pieces_text names qs) first ∙ append_assoc o (pieces_text names ps) (pieces_text names qs) ∙

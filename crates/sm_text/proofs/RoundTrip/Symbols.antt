@@ -19,7 +19,7 @@ use Rattle.sm_syntax.specs.declared.token.LexKind.TheVariants.{BadByte, BadToken
 use Rattle.sm_syntax.specs.declared.token.Token as lexical
 use Rattle.sm_syntax.specs.declared.token.TokenKind.{TokenKind}
 use Rattle.sm_syntax.specs.declared.token.TokenKind.TheVariants as kind
-use Rattle.sm_syntax.specs.text.Tokens.{Front, Gap, Piece, Fault, front_of, word_at, number_at, sign_at, is_space, is_hash, is_in_line, is_word_start, is_word_byte, mark_of_word, reserved_words, mark_of_sign, signs, by_front, Lexed, lexed_behind, lexed_from, lexed}
+use Rattle.sm_syntax.specs.text.Tokens.{Front, Gap, Piece, Fault, front_of, word_at, number_at, sign_at, is_space, is_hash, is_in_line, is_word_start, is_word_byte, mark_of_word, reserved_words, mark_of_sign, signs, by_front, Lexed, lexed_after, lexed_from, lexed}
 use Rattle.sm_syntax.specs.text.Symbols as symbol
 use Rattle.sm_syntax.specs.text.Symbols.{is_among, with_text, is_name, names_after, mark_or, symbol_by, symbol_of, names_among, symbols_among, names_of, symbols_of}
 use Rattle.sm_syntax.proofs.Numbering.{slice_get-number}
@@ -130,14 +130,14 @@ pub record IsGoodToken (bytes : List ℕ) (t : lexical.Token) : Type 0 where
 one_on : (bytes : List ℕ) (place b : ℕ) (rest : List ℕ) → drop place bytes ≡ b ∷ rest → drop (place + 1) bytes ≡ rest
 one_on bytes place b rest at = sym (drop-drop 1 place bytes) ∙ ap (drop 1) at
 
-tokens_good_behind : (bytes : List ℕ) (left place : ℕ) (rest : List ℕ) → drop place bytes ≡ rest → AllByRecursion (IsGoodToken bytes) (lexed_behind left place rest).0
+tokens_good_behind : (bytes : List ℕ) (left place : ℕ) (rest : List ℕ) → drop place bytes ≡ rest → AllByRecursion (IsGoodToken bytes) (lexed_after left place rest).0
 tokens_good_behind bytes left place [] at = tt
 tokens_good_behind bytes (suc left) place (b ∷ rest) at = tokens_good_behind bytes left (place + 1) rest (one_on bytes place b rest at)
 tokens_good_behind bytes zero place (b ∷ rest) at =
     by (front_of b (b ∷ rest)) (front_good b rest).suits (λ left. tokens_good_behind bytes left (place + 1) rest (one_on bytes place b rest at))
   where
-    by : (f : Front) → Suits (b ∷ rest) f → ((left : ℕ) → AllByRecursion (IsGoodToken bytes) (lexed_behind left (place + 1) rest).0)
-        → AllByRecursion (IsGoodToken bytes) (by_front f place (λ left. lexed_behind left (place + 1) rest)).0
+    by : (f : Front) → Suits (b ∷ rest) f → ((left : ℕ) → AllByRecursion (IsGoodToken bytes) (lexed_after left (place + 1) rest).0)
+        → AllByRecursion (IsGoodToken bytes) (by_front f place (λ left. lexed_after left (place + 1) rest)).0
     by (Gap size) good more = more (size - 1)
     by (Piece k size) good more =
         let P : List ℕ → Type 0 = λ l. IsGoodText k (take size l) in
@@ -214,7 +214,7 @@ names_step kind.Word names before text ss known = by (mark_of_word text) known
 pub among_more : (texts more : List (List ℕ)) (text : List ℕ) → is_among texts text ≡ true → is_among (texts ++ more) text ≡ true
 among_more texts more text h = list_any-append (bytes_eq text) texts more ∙ ap (λ (t : Bool). t || is_among more text) h
 
--- behind the tokens, each of their names is among the names
+-- after the tokens, each of their names is among the names
 pub known_behind : (bytes : List ℕ) (before : List (List ℕ)) (ts : List lexical.Token) (names : List (List ℕ)) → names ≡ names_after bytes before ts → AllByRecursion (IsKnown bytes names) ts
 known_behind bytes before [] names same = tt
 known_behind bytes before (t ∷ ts) names same =

@@ -1,4 +1,4 @@
--- In a canonical task nothing behind a token goes on with it, so its tokens are cut as they were put.
+-- In a canonical task nothing after a token goes on with it, so its tokens are cut as they were put.
 use Rattle.std.proofs.Common.{◌≡◌, ℕ, pos, ◌^◌, ◌<◌, true, false, Option, Some, None, List, [], ◌∷◌, ◌++◌, unwrap_or, refl, sym, subst, append_assoc, append-nil}
 use Rattle.std.specs.List.{list_all}
 use Rattle.std.specs.Prelude.{slice_get}
@@ -20,7 +20,7 @@ use Rattle.sm_text.proofs.RoundTrip.TextTokens.{IsNameText, AreApart, tokens_at,
 use Rattle.sm_text.proofs.RoundTrip.Apart.{IsClosed, RunsBefore, IsTested, closed_at, name_runs, condition_runs}
 use Rattle.sm_text.proofs.RoundTrip.CodeApart.{IsCode, ended_runs, line_apart, braces_runs, question_ends, code_apart}
 
--- pieces that are apart where those behind them are
+-- pieces that are apart where those after them are
 abbrev pub ApartBefore : List (List ℕ) → List Piece → Type 0
 ApartBefore names ps = (rest : List Piece) → AreApart names rest → AreApart names (ps ++ rest)
 

@@ -1,4 +1,4 @@
--- The tokens of pieces, each of which nothing behind it goes on with, are their tokens.
+-- The tokens of pieces, each of which nothing after it goes on with, are their tokens.
 use Rattle.std.proofs.Common.{◌≡◌, ℕ, ℤ, pos, negsuc, ◌+◌, ◌^◌, ◌<◌, ◌≤◌, Bool, true, false, None, List, [], ◌∷◌, length, unwrap_or, refl, ap, ◌∙◌}
 use Rattle.std.specs.List.{list_all}
 use Rattle.std.specs.Prelude.{slice_get}
@@ -17,7 +17,7 @@ kind_of (s.Mark m) = mark_kind m
 kind_of (s.Number z) = kind.Number
 kind_of (s.Name x) = kind.Word
 
--- whether a byte behind a symbol's token would go on with it
+-- whether a byte after a symbol's token would go on with it
 abbrev pub goes_on : Symbol → ℕ → Bool
 goes_on (s.Mark m) b = goes_on_mark m b
 goes_on (s.Number z) b = is_word_byte b
@@ -56,7 +56,7 @@ symbol_cut names (s.Mark m) v good ends = mark_cut m v ends
 symbol_cut names (s.Number z) v good ends = literal_cut z v good ends names
 symbol_cut names (s.Name x) v good ends = name_cut (unwrap_or (slice_get names x.0) []) v good ends
 
--- the gaps are white space, and nothing behind a token goes on with it
+-- the gaps are white space, and nothing after a token goes on with it
 abbrev pub AreApart : List (List ℕ) → List Piece → Type 0
 AreApart names [] = Unit {0}
 AreApart names (Token t ∷ ps) = IsSpelled names t × (begins (goes_on t) (pieces_text names ps) ≡ false) × AreApart names ps

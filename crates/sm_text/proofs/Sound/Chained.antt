@@ -12,7 +12,7 @@ use Rattle.sm_text.specs.declared.rules.reading.FaultKind.TheVariants.{Nested}
 use Rattle.sm_text.specs.rules.Parsers.{first, Parser, fault, go_on, pure, Operators, chain_by, chain_in}
 use Rattle.sm_text.proofs.Sound.Parsers.{Takes, Stops, Told, Describes, map-plain-append, begins-alike}
 
--- the part that was read, and the operators and operands behind it; n more operators may follow
+-- the part that was read, and the operators and operands after it; n more operators may follow
 pub record Chained {T : Type 0} (R : ℕ → List Marked → T → Type 0) (n : ℕ) (left : T) (us : List Marked) (x : T) : Type 0 where
   pub goes : (k : ℕ) (ts : List Marked) → k + n ≡ 63 → R k ts left → (j : ℕ) × R j (ts ++ us) x
 

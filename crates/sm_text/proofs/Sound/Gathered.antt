@@ -22,7 +22,7 @@ module _ {T U : Type 0} (begins : Option Symbol → Bool) (one : Parser T) (put 
   enough (suc m) zero before ts h k = absurd (omega (arith, k))
   enough (suc m) (suc n) before ts h k = same_test m n before ts (λ x after s. enough m n (put before x) after (omega (arith, h, s)) (omega (arith, k, s))) (begins (first ts))
 
-  -- one turn: an item is read, and the others behind it
+  -- one turn: an item is read, and the others after it
   pub gather-turn : (before : U) (ts : List Symbol) (x : T) (after : List Symbol) → begins (first ts) ≡ true → one ts ≡ Ok (x, after) → gather begins one put before ts ≡ gather begins one put (put before x) after
   unfolding gather
   gather-turn before ts x after b e = rw (b, e) (enough (length ts) (suc (length after)) (put before x) after (shrinks ts x after e) (omega arith))

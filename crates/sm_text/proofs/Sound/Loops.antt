@@ -109,13 +109,13 @@ more_fillings-fault before ts b f e = gather-fault (stands mark.Question) r.hole
 pub front-push : (list : List Stmt) (one : Stmt) → statements_before (list ++ one ∷ []) ≡ r.with_statement (statements_before list) (statement_of one)
 front-push list one = fun_ext (λ k. sequence-push list one k)
 
--- a task with no symbol behind it
+-- a task with no symbol after it
 pub whole-end : (ts : List Symbol) (p : r.TaskFront × (Copy → Fillings)) (after : List Symbol) → r.task ts ≡ Ok (p, after) → first after ≡ None → r.whole ts ≡ Ok p
 unfolding r.whole
 whole-end ts p [] e none = rw e refl
 whole-end ts p (t ∷ after) e none = absurd (some_none t none)
 
--- a task with symbols behind it
+-- a task with symbols after it
 pub whole-rest : (ts : List Symbol) (p : r.TaskFront × (Copy → Fillings)) (after : List Symbol) (u : Symbol) → r.task ts ≡ Ok (p, after) → first after ≡ Some u → r.whole ts ≡ Err (fault Expected after)
 unfolding r.whole
 whole-rest ts p [] u e some = absurd (some_none u (sym some))

@@ -99,7 +99,7 @@ first_again : (used us here : List Symbol) → first us ≡ first here → first
 first_again [] us here e = e
 first_again (u ∷ used) us here e = refl
 
--- where the symbols behind begin alike, the whole does
+-- where the symbols that follow begin alike, the whole does
 pub begins-alike : (used us here ts : List Symbol) → ts ≡ used ++ here → first us ≡ first here → first (used ++ us) ≡ first ts
 begins-alike used us here ts split e = first_again used us here e ∙ ap (λ (l : List Symbol). first l) (sym split)
 
@@ -123,7 +123,7 @@ like p q P ts (Err f) same told = record {
   nested = told.nested;
 }
 
--- what could go on, with more behind it
+-- what could go on, with more after it
 pub longer : (here : List Symbol) (ahead behind : List Marked) → Nests here ahead → Nests here (ahead ++ behind)
 longer here ahead behind n = record { sign = n.sign; others = n.others ++ behind; begins = ap (λ (l : List Marked). l ++ behind) n.begins; stands = n.stands }
 
@@ -193,7 +193,7 @@ weakened p P Q f ts (Err e) told = record { used = told.used; here = told.here; 
 pub possibly : {T : Type 0} {P Q : List Marked → T → Type 0} → ((us : List Marked) (x : T) → P us x → Q us x) → Possible P → Possible Q
 possibly f may = record { list = may.list; value = may.value; fits = f may.list may.value may.fits }
 
--- where there are symbols behind a first one, there are symbols
+-- where there are symbols after a first one, there are symbols
 pub possibly-behind : {T : Type 0} {P : List Marked → T → Type 0} (t : Marked) → Possible (λ us x. P (t ∷ us) x) → Possible P
 possibly-behind t may = record { list = t ∷ may.list; value = may.value; fits = may.fits }
 

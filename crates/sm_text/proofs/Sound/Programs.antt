@@ -60,13 +60,13 @@ whole_program_told ts x e = all_read program_told ts x e
 some_none : (t : Symbol) → (let o : Option Symbol = Some t in o) ≡ None → ⊥
 some_none t p = cc
 
--- a program with no symbol behind it
+-- a program with no symbol after it
 pub program-end : (ts : List Symbol) (x : ProgramBody) (after : List Symbol) → p.program ts ≡ Ok (x, after) → first after ≡ None → p.whole_program ts ≡ Ok x
 unfolding p.whole_program
 program-end ts x [] e none = rw e refl
 program-end ts x (t ∷ after) e none = absurd (some_none t none)
 
--- a program with symbols behind it
+-- a program with symbols after it
 pub program-rest : (ts : List Symbol) (x : ProgramBody) (after : List Symbol) (u : Symbol) → p.program ts ≡ Ok (x, after) → first after ≡ Some u → p.whole_program ts ≡ Err (fault Expected after)
 unfolding p.whole_program
 program-rest ts x [] u e some = absurd (some_none u (sym some))

@@ -64,7 +64,7 @@ pub next_name_told : Describes r.next_name IsNextName
 unfolding r.next_name
 next_name_told = weaken is_next_name (both (expect_told mark.Comma) name_told)
 
--- names behind a first one, in the order of the text
+-- names after a first one, in the order of the text
 pub record NamesBehind (x : Name) (before : List ℕ) (us : List Marked) (last : List ℕ) : Type 0 where
   pub others : List ℕ
   pub same : last ≡ before ++ others
@@ -521,7 +521,7 @@ pub record IsStatement (d : ℕ) (us : List Marked) (f : Code → Code) : Type 0
   pub some : 0 < length us
   pub goes : (vs : List Marked) (k : Code) → AreStatements d vs k → AreStatements d (us ++ vs) (f k)
 
--- the statement that is read behind its first symbol, where it is so built
+-- the statement that is read after its first symbol, where it is so built
 same_statement : (d : ℕ) (t : Symbol) (body us : List Marked) (f h : Code → Code) → us ≡ body → f ≡ h → ((vs : List Marked) (k : Code) → AreStatements d vs k → AreStatements d (plain t ∷ (body ++ vs)) (f k)) → IsStatement d (plain t ∷ us) h
 same_statement d t body us f h e same goes = made (λ l y. IsStatement d (plain t ∷ l) y) body us f h e same (record { some = omega arith; goes = goes })
 

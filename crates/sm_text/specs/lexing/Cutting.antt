@@ -36,12 +36,12 @@ IsToken Word text = IsWord text × (length text ≤ 64)
 IsToken Number text = IsNumber text × (digits_value 10 text < 2 ^ 127)
 IsToken Sign text = is_some (mark_of_sign text) ≡ true
 
--- what stands behind a token doesn't go on with it: no byte of a word behind a word or a number,
+-- what stands after a token doesn't go on with it: no byte of a word after a word or a number,
 -- and no longer sign
 abbrev pub Ends : TokenKind → List ℕ → List ℕ → Type 0
-Ends Word text behind = begins is_word_byte behind ≡ false
-Ends Number text behind = begins is_word_byte behind ≡ false
-Ends Sign text behind = (more rest : List ℕ) → behind ≡ more ++ rest → 0 < length more →
+Ends Word text after = begins is_word_byte after ≡ false
+Ends Number text after = begins is_word_byte after ≡ false
+Ends Sign text after = (more rest : List ℕ) → after ≡ more ++ rest → 0 < length more →
     is_some (mark_of_sign (text ++ more)) ≡ false
 
 -- no white space, no comment and no token stands at the front of a text that isn't empty
@@ -49,20 +49,20 @@ pub record IsStuck (bytes : List ℕ) : Type 0 where
   pub some : 0 < length bytes
   pub space : begins is_space bytes ≡ false
   pub hash : begins is_hash bytes ≡ false
-  pub token : (kind : TokenKind) (text behind : List ℕ) → bytes ≡ text ++ behind →
-      IsToken kind text → Ends kind text behind → ⊥
+  pub token : (kind : TokenKind) (text after : List ℕ) → bytes ≡ text ++ after →
+      IsToken kind text → Ends kind text after → ⊥
 
 -- half of a sign: `&` or `|`
 abbrev pub is_half : ℕ → Bool
 is_half b = b == 38 || b == 124
 
--- a number stands at the front, with no byte of a word behind it
+-- a number stands at the front, with no byte of a word after it
 pub record HasNumber (bytes : List ℕ) : Type 0 where
   pub text : List ℕ
-  pub behind : List ℕ
-  pub same : bytes ≡ text ++ behind
+  pub after : List ℕ
+  pub same : bytes ≡ text ++ after
   pub number : IsNumber text
-  pub ends : begins is_word_byte behind ≡ false
+  pub ends : begins is_word_byte after ≡ false
 
 -- the kind of fault where no token stands: a number is too wide, what begins like a token is none,
 -- and no token begins so

@@ -14,11 +14,11 @@ use Rattle.sm_syntax.specs.claim.Syntax.{Code}
 use Rattle.sm_text.specs.rules.Reading.{block}
 use Rattle.sm_text.specs.resolving.TokenTexts.{sign_by}
 
--- the symbols of tokens, where their names stand behind those from before
+-- the symbols of tokens, where their names stand after those from before
 abbrev pub token_symbols : List ℕ → List (List ℕ) → List Token → List Symbol
 token_symbols bytes before ts = map (symbol_of bytes (names_after bytes before ts)) ts
 
--- where so many groups are open, the tokens begin with this block and so many stand behind it;
+-- where so many groups are open, the tokens begin with this block and so many stand after it;
 -- `names` are those before and its own
 pub record IsFirstBlock (bytes : List ℕ) (before : List (List ℕ)) (groups : ℕ) (ts : List Token)
     (names : List (List ℕ)) (c : Code) (left : ℕ) : Type 0 where

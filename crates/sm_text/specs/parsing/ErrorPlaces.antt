@@ -18,7 +18,7 @@ pub record IsPlaceWith (left : ℕ) (tokens : List Token) (place : ℕ) : Type 0
   pub same : place ≡ here.place
 
 -- the error of a rule that doesn't go on where so many tokens are left: it names a token, or what
--- stands behind them all
+-- stands after them all
 pub data IsErrorOf (f : Fault) (tokens : Tokens) (end : ℕ) (e : TextError) : Type 0 where
   at_token : (place : ℕ) → IsPlaceWith f.left tokens.list.items place →
       e ≡ rule_fault f.kind place → IsErrorOf f tokens end e

@@ -43,14 +43,14 @@ pub record IsWhole (spells : Grammar) (ts : List Symbol) : Type 0 where
   pub grammar : spells spelled
   pub all : unmarked spelled ≡ ts
 
--- something goes on behind these symbols, but nothing with the symbol that stands there, or nothing
+-- something goes on after these symbols, but nothing with the symbol that stands there, or nothing
 -- ends with the text
 abbrev pub IsUnexpected : Grammar → List Symbol → Option Symbol → Type 0
 IsUnexpected spells before (Some t) =
     IsViable spells before × (IsViable spells (before ++ t ∷ []) → ⊥)
 IsUnexpected spells before None = IsViable spells before × (IsWhole spells before → ⊥)
 
--- something goes on with this symbol behind these, and there it nests too deep
+-- something goes on with this symbol after these, and there it nests too deep
 pub record NestsTooDeep (spells : Grammar) (before : List Symbol) (t : Symbol) : Type 0 where
   pub front : List Marked
   pub behind : List Marked

@@ -1,6 +1,6 @@
 -- Public clauses cite this file.
--- Which tokens of a text spell a head or a block, whatever stands behind them. The names that were
--- known before keep their numbers, and the others have the numbers behind these, by first
+-- Which tokens of a text spell a head or a block, whatever stands after them. The names that were
+-- known before keep their numbers, and the others have the numbers after these, by first
 -- appearance.
 use Rattle.std.specs.Prelude.{◌≡◌, ℕ, ◌-◌, ◌≤◌, true, Option, Some, None, is_some, option_map}
 use Rattle.std.specs.Prelude.{Result, MatchResult, List, [], ◌++◌, map, length, take, drop}
@@ -78,12 +78,12 @@ abbrev pub SpellsBlockAt : List ℕ → ℕ → ℕ → List (List ℕ) → ℕ 
 SpellsBlockAt bytes at groups before n names c =
     SpellsFrom (IsBlock groups) bytes at before n names c
 
--- the answer is this head and the number of the token behind it, or want of memory
+-- the answer is this head and the number of the token after it, or want of memory
 abbrev pub IsHeadReadAs : ℕ → HeadParts → Result (Program × Option Cond × ℕ) TextError → Type 0
 IsHeadReadAs n h answer =
     MatchResult answer (λ r. (head_parts r.0 r.1 ≡ h) × (r.2 ≡ n)) (λ e. e ≡ error.Memory)
 
--- the answer is this block and the number of the token behind it, or want of memory
+-- the answer is this block and the number of the token after it, or want of memory
 abbrev pub IsBlockReadAs : ℕ → Code → Result (Block × ℕ) TextError → Type 0
 IsBlockReadAs n c answer =
     MatchResult answer (λ r. (code_of r.0 ≡ c) × (r.1 ≡ n)) (λ e. e ≡ error.Memory)

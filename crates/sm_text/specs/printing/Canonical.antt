@@ -22,7 +22,7 @@ declaration_pieces (d ∷ ds) =
     line [] (mark_piece (declares d.1) ∷ space ∷ name_piece d.0 ∷ mark_piece mark.Semicolon ∷ [])
     ++ declaration_pieces ds
 
--- names behind the first, each after a comma and a space
+-- names after the first, each after a comma and a space
 abbrev pub more_names_pieces : List ℕ → List Piece
 more_names_pieces [] = []
 more_names_pieces (x ∷ xs) = mark_piece mark.Comma ∷ space ∷ name_piece x ∷ more_names_pieces xs
@@ -56,7 +56,7 @@ filling_pieces (f ∷ fs) =
     (mark_piece mark.Question ∷ number_piece (pos f.0) ∷ space ∷ block_pieces (margin_at 1) f.1)
     ++ filling_pieces fs
 
--- fillings in braces, behind the word that begins their list
+-- fillings in braces, after the word that begins their list
 unfoldable pub list_pieces : Fillings → List Piece
 list_pieces fs = space ∷ (braces [] (filling_pieces fs) ++ line_end ∷ [])
 

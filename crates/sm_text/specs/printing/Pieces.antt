@@ -100,6 +100,6 @@ abbrev pub margin_at : ℕ → List ℕ
 margin_at zero = []
 margin_at (suc level) = deeper (margin_at level)
 
--- a line behind a margin
+-- a line after a margin
 abbrev pub line : List ℕ → List Piece → List Piece
 line margin ps = Gap margin ∷ (ps ++ line_end ∷ [])

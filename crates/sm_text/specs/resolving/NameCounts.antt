@@ -4,7 +4,7 @@ use Rattle.std.specs.Prelude.{ℕ, ◌+◌, ◌==◌, if◌then◌else◌, List,
 use Rattle.sm_syntax.specs.declared.symbol.Symbol.{Symbol}
 use Rattle.sm_syntax.specs.declared.symbol.Symbol.TheVariants as s
 
--- how many names there are behind n of them and the symbols
+-- how many names there are after n of them and the symbols
 abbrev pub names_counted : ℕ → List Symbol → ℕ
 names_counted n [] = n
 names_counted n (s.Mark m ∷ ts) = names_counted n ts

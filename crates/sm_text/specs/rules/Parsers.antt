@@ -16,12 +16,12 @@ abbrev pub first : List Symbol → Option Symbol
 first [] = None
 first (t ∷ ts) = Some t
 
--- the symbols behind the first
+-- the symbols after the first
 abbrev pub rest : List Symbol → List Symbol
 rest [] = []
 rest (t ∷ ts) = ts
 
--- a parser: what the front of the symbols stands for and the symbols behind it, or a fault
+-- a parser: what the front of the symbols stands for and the symbols after it, or a fault
 abbrev pub Parser : Type 0 → Type 0
 Parser A = List Symbol → Result (A × List Symbol) Fault
 
@@ -29,7 +29,7 @@ Parser A = List Symbol → Result (A × List Symbol) Fault
 abbrev pub fault : FaultKind → List Symbol → Fault
 fault kind ts = record { kind = kind; left = length ts }
 
--- goes on behind what was read
+-- goes on after what was read
 abbrev pub go_on : {A B : Type 0} → Result (A × List Symbol) Fault → (A → Parser B) →
     Result (B × List Symbol) Fault
 go_on (Ok r) next = next r.0 r.1
@@ -89,7 +89,7 @@ gather begins one put before ts = gather_in begins one put (suc (length ts)) bef
 abbrev pub Operators : Type 0 → Type 0
 Operators A = Option Symbol → Option (A → A → A)
 
--- goes on behind an operator, where one stands there and n more may follow
+-- goes on after an operator, where one stands there and n more may follow
 abbrev pub chain_by : {A : Type 0} → Option (A → A → A) → Parser A → ℕ → (A → Parser A) → A →
     Parser A
 chain_by None operand n more left ts = Ok (left, ts)
@@ -97,7 +97,7 @@ chain_by (Some make) operand zero more left ts = Err (fault Nested ts)
 chain_by (Some make) operand (suc n) more left ts =
     go_on (operand (rest ts)) (λ right. more (make left right))
 
--- operators and operands behind the part that was read; at most n operators
+-- operators and operands after the part that was read; at most n operators
 abbrev pub chain_in : {A : Type 0} → Operators A → Parser A → ℕ → A → Parser A
 chain_in operators operand zero left ts = chain_by (operators (first ts)) operand zero pure left ts
 chain_in operators operand (suc n) left ts =

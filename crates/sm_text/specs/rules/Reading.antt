@@ -45,7 +45,7 @@ hole_filling = do
 abbrev pub with_filling : Fillings → ℕ × Code → Fillings
 with_filling fs f = fs ++ f ∷ []
 
--- the fillings behind those that were read
+-- the fillings after those that were read
 unfoldable pub more_fillings : Fillings → Parser Fillings
 more_fillings before = gather (stands mark.Question) hole_filling with_filling before
 
@@ -62,7 +62,7 @@ list m = do
   expect mark.CloseCurly
   pure fs
 
--- an assumption, behind its word
+-- an assumption, after its word
 unfoldable pub assumption_line : Parser (Option Condition)
 assumption_line = do
   b ← condition group_limit

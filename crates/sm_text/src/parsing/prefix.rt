@@ -23,7 +23,7 @@ ghost use Rattle.sm_text.specs.resolving.TokenTexts.{IsTokenOf};
 use crate::error::TextError;
 use crate::lexing::token_list::Tokens;
 use crate::parsing::text::refused;
-use crate::resolving::resolve::{sign_of, symbols_behind};
+use crate::resolving::resolve::{sign_of, symbols_after};
 use crate::rules::names::GROUP_LIMIT;
 use crate::rules::reading::{Fault, ReadError};
 use crate::rules::sections::head_of_task;
@@ -32,7 +32,7 @@ use sm_syntax::{Block, Cond, Mark, NameTable, Program, Symbol, Token};
 use std::alloc::Global;
 
 /// Reads the front of a task from the tokens of its text: a program, what is assumed, and the
-/// number of the token behind them. What stands behind them doesn't matter, and the program has
+/// number of the token after them. What stands after them doesn't matter, and the program has
 /// the names of its own tokens alone. A text that doesn't begin with a head is refused at the
 /// first fault in it, as by `read_sections`.
 pub fn parse_head(
@@ -48,13 +48,13 @@ pub fn parse_head(
     ensures printable { IfOk result (λ r.
         AssumesDeclared (declared_of r.0.decls) (option_map condition_of r.1) →
         HasProgramText (program_parts r.0)) }
-    // Each head is read, whatever stands behind it, so no head is the beginning of another.
+    // Each head is read, whatever stands after it, so no head is the beginning of another.
     ensures only { (n : ℕ) (h : HeadParts) → SpellsHead bytes.now n h → IsHeadReadAs n h result }
     // A refusal is the first fault of the text, and names its kind and its place.
     ensures place { IfErr result (IsRefusal AreHeads (whole_text bytes.now)) }
 {
     let mut names = NameTable::new(alloc);
-    let symbols = symbols_behind(alloc, bytes, &tokens.list, &mut names)?;
+    let symbols = symbols_after(alloc, bytes, &tokens.list, &mut names)?;
     match head_of_task(alloc, &symbols) {
         Ok((head, after)) => {
             let used = symbols.len() - after.len();
@@ -73,12 +73,12 @@ pub fn parse_head(
 }
 
 /// Reads the block that begins at token number `at` of a text, where `groups` groups stand open
-/// before it, and gives the number of the token behind it. Names of the block that aren't in the
-/// table go behind those that are; after a refusal the table is as it was. More than 64 open
+/// before it, and gives the number of the token after it. Names of the block that aren't in the
+/// table go after those that are; after a refusal the table is as it was. More than 64 open
 /// groups nest too deep, the block's own among them. Where no block stands, the text is refused
 /// at the first fault from `at` on, as by `read_sections`. Want of memory stands also for a table
 /// without room. The time grows with the block's own tokens: those up to the curly brace that
-/// closes the one at `at`, or all behind it where none does.
+/// closes the one at `at`, or all after it where none does.
 pub fn parse_block(
     alloc: Global,
     bytes: &[u8],
@@ -94,7 +94,7 @@ pub fn parse_block(
     // Some text spells the block under the names, and each of its names has a text.
     ensures printable { IfOk result (λ r. HasBlockText names.new (code_of r.0)) }
     ensures named { IfOk result (λ r. IsUsedIn (length names.new) (code_of r.0)) }
-    // Each block is read, whatever stands behind it, so no block is the beginning of another.
+    // Each block is read, whatever stands after it, so no block is the beginning of another.
     ensures only { (n : ℕ) (after : List (List ℕ)) (c : Code) →
         SpellsBlockAt bytes.now at groups names.old n after c →
         IsBlockReadAs n c result }
@@ -138,9 +138,9 @@ fn block_at(
     }
 }
 
-// The block that tokens begin with, and how many stand behind it. It is read by its own tokens
-// alone: no block is refused behind the brace that closes it, so what these tell holds whatever
-// stands behind them.
+// The block that tokens begin with, and how many stand after it. It is read by its own tokens
+// alone: no block is refused after the brace that closes it, so what these tell holds whatever
+// stands after them.
 fn first_block(
     alloc: Global,
     bytes: &[u8],
@@ -167,7 +167,7 @@ fn first_block(
     }
 }
 
-// the block that tokens begin with, and how many stand behind it, by the symbols of them all
+// the block that tokens begin with, and how many stand after it, by the symbols of them all
 fn block_of(
     alloc: Global,
     bytes: &[u8],
@@ -183,7 +183,7 @@ fn block_of(
     ensures kept { OnErr result (take (length names.old) names.new ≡ names.old) }
 {
     let count = names.len();
-    let symbols = symbols_behind(alloc, bytes, tokens, names)?;
+    let symbols = symbols_after(alloc, bytes, tokens, names)?;
     let (block, after) = block(alloc, GROUP_LIMIT.saturating_sub(groups), &symbols)?;
     let used = symbols.len() - after.len();
     names.cut(count_names(count, &symbols[..used]));
@@ -205,7 +205,7 @@ fn block_end(bytes: &[u8], tokens: &[Token]) -> usize
     tokens.len()
 }
 
-// how many curly braces are open behind a sign, where so many are before it
+// how many curly braces are open after a sign, where so many are before it
 fn depth_behind(depth: usize, sign: Option<Mark>) -> usize
     requires { depth + 1 < 2 ^ 64 }
     ensures { result ≡

@@ -25,7 +25,7 @@ pub(crate) struct Parts {
     pub body: Block,
 }
 
-/// A program, and the symbols behind it.
+/// A program, and the symbols after it.
 #[tactic(auto, unfolding(crate::specs::parsing::Program::program))]
 fn program(alloc: Global, symbols: &[Symbol]) -> Result<(Parts, &[Symbol]), ReadError>
     ensures { Gives (λ x. (program_body x.0, x.1.now)) result (spec.program symbols.now) }
@@ -43,7 +43,7 @@ fn program(alloc: Global, symbols: &[Symbol]) -> Result<(Parts, &[Symbol]), Read
     ))
 }
 
-/// A whole program, with no symbol behind it.
+/// A whole program, with no symbol after it.
 fn whole_program(alloc: Global, symbols: &[Symbol]) -> Result<Parts, ReadError>
     ensures { Gives program_body result (spec.whole_program symbols.now) }
 {

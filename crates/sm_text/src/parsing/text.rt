@@ -27,7 +27,7 @@ pub struct Sections {
 /// Reads a text of fewer than 2^32 bytes. A text that isn't read is refused at the first fault in
 /// it: a lexical one, a token that no task has after those before it (`Expected`, also at the end
 /// of the text), or a token that nests too deep (`Nested`). Whether a task has a token there is a
-/// matter of the grammar alone, whatever nests too deep behind it.
+/// matter of the grammar alone, whatever nests too deep after it.
 pub fn read_sections(alloc: Global, bytes: &[u8]) -> Result<Sections, TextError>
     requires { length bytes.now < 2 ^ 32 }
     ensures ok { IfOk result (λ s. IsInGrammar bytes.now (sections_parts s)) }

@@ -52,7 +52,7 @@ pub(crate) fn put_declarations(
     Ok(())
 }
 
-/// Names behind the first of a list.
+/// Names after the first of a list.
 fn put_more_names(out: &mut Vec<u8>, names: &NameTable, list: &[Name]) -> Result<(), AllocError>
     requires { AreOutputsIn (length names.now) (numbers_of list.now) }
     ensures { OnOk result

@@ -43,7 +43,7 @@ pub(crate) fn put_hole(out: &mut Vec<u8>, hole: u32) -> Result<(), AllocError>
     out.extend_from_slice(digits.format(hole).as_bytes())
 }
 
-/// A statement, on lines behind a margin.
+/// A statement, on lines after a margin.
 #[cycle(put_statement)]
 fn put_stmt(
     alloc: Global,
@@ -116,7 +116,7 @@ fn put_branches(
     put_block(alloc, out, names, margin, d)
 }
 
-/// A block, whose lines but for the first stand behind a margin.
+/// A block, whose lines but for the first stand after a margin.
 #[cycle(put_statement)]
 #[tactic(auto, unfolding(crate::specs::printing::Canonical::braces))]
 pub(crate) fn put_block(

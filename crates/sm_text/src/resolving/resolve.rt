@@ -25,12 +25,12 @@ pub fn symbols(alloc: Global, bytes: &[u8], tokens: &[Token]) -> Result<Symbols,
     ensures names { IfOk result (λ s. s.names ≡ names_of bytes.now) }
 {
     let mut names = NameTable::new(alloc);
-    let list = symbols_behind(alloc, bytes, tokens, &mut names)?;
+    let list = symbols_after(alloc, bytes, tokens, &mut names)?;
     Ok(Symbols { list, names })
 }
 
-/// The symbols of tokens of a text, where names that aren't in the table go behind those that are.
-pub(crate) fn symbols_behind(
+/// The symbols of tokens of a text, where names that aren't in the table go after those that are.
+pub(crate) fn symbols_after(
     alloc: Global,
     bytes: &[u8],
     tokens: &[Token],

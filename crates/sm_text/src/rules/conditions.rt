@@ -24,7 +24,7 @@ pub(crate) fn condition(
     disjunction(alloc, groups, symbols)
 }
 
-/// The condition in parentheses behind `if` or `while`.
+/// The condition in parentheses after `if` or `while`.
 #[tactic(auto, unfolding(crate::specs::rules::Reading::guard, crate::specs::rules::Parsers::grouped))]
 pub(crate) fn guard(
     alloc: Global,
@@ -140,7 +140,7 @@ fn test(alloc: Global, groups: u64, symbols: &[Symbol]) -> Result<(Cond, &[Symbo
     }
 }
 
-/// A test, or one behind an exclamation mark.
+/// A test, or one after an exclamation mark.
 #[cycle(conditions)]
 #[tactic(auto, unfolding(crate::specs::rules::Reading::literal))]
 fn literal(alloc: Global, groups: u64, symbols: &[Symbol]) -> Result<(Cond, &[Symbol]), ReadError>
@@ -175,7 +175,7 @@ fn either(alloc: Global, left: Cond, right: Cond) -> Result<Cond, AllocError>
     Ok(Cond::Or(left, right))
 }
 
-/// The literals behind the one that was read.
+/// The literals after the one that was read.
 #[cycle(conditions)]
 fn literals(
     alloc: Global,
@@ -222,7 +222,7 @@ fn conjunction(
     literals(alloc, groups, one, after)
 }
 
-/// The conjunctions behind the one that was read.
+/// The conjunctions after the one that was read.
 #[cycle(conditions)]
 fn conjunctions(
     alloc: Global,

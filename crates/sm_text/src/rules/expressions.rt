@@ -58,7 +58,7 @@ fn group(
     Ok((value, after))
 }
 
-/// The index of an element, behind the name of its array.
+/// The index of an element, after the name of its array.
 #[cycle(expressions)]
 #[tactic(auto, unfolding(crate::specs::rules::Reading::index))]
 pub(crate) fn index(
@@ -74,7 +74,7 @@ pub(crate) fn index(
     group(alloc, groups, Mark::CloseSquare, symbols)
 }
 
-/// An element or a variable, behind its name.
+/// An element or a variable, after its name.
 #[cycle(expressions)]
 #[tactic(auto, unfolding(crate::specs::rules::Reading::named))]
 fn named(
@@ -135,7 +135,7 @@ fn atom(alloc: Global, groups: u64, symbols: &[Symbol]) -> Result<(Expr, &[Symbo
     }
 }
 
-/// An atom, or one behind a minus sign.
+/// An atom, or one after a minus sign.
 #[cycle(expressions)]
 #[tactic(auto, unfolding(crate::specs::rules::Reading::unary))]
 fn unary(alloc: Global, groups: u64, symbols: &[Symbol]) -> Result<(Expr, &[Symbol]), ReadError>
@@ -190,7 +190,7 @@ fn join(alloc: Global, operator: Operator, left: Expr, right: Expr) -> Result<Ex
     })
 }
 
-/// The factors behind the one that was read.
+/// The factors after the one that was read.
 #[cycle(expressions)]
 fn factors(
     alloc: Global,
@@ -231,7 +231,7 @@ fn product(alloc: Global, groups: u64, symbols: &[Symbol]) -> Result<(Expr, &[Sy
     factors(alloc, groups, one, after)
 }
 
-/// The terms behind the one that was read.
+/// The terms after the one that was read.
 #[cycle(expressions)]
 fn terms(
     alloc: Global,

@@ -1,5 +1,5 @@
 // The rules of names, declarations, outputs and holes. Each gives what the front of the symbols
-// stands for, and the symbols behind it.
+// stands for, and the symbols after it.
 ghost use Rattle.std.specs.Prelude.{◌≡◌, ◌++◌, OnOk};
 ghost use Rattle.sm_syntax.specs.trees.Views.{statement_of};
 ghost use Rattle.sm_text.specs.rules.Answers.{Gives};
@@ -83,7 +83,7 @@ pub(crate) fn hole_number(symbols: &[Symbol]) -> Result<(u32, &[Symbol]), ReadEr
     Err(refusal(FaultKind::Expected, symbols))
 }
 
-/// A hole statement, behind its question mark.
+/// A hole statement, after its question mark.
 #[tactic(auto, unfolding(crate::specs::rules::Reading::hole))]
 pub(crate) fn hole(symbols: &[Symbol]) -> Result<(Stmt, &[Symbol]), ReadError>
     ensures { Gives (λ x. (statement_of x.0, x.1.now)) result (spec.hole symbols.now) }
@@ -93,7 +93,7 @@ pub(crate) fn hole(symbols: &[Symbol]) -> Result<(Stmt, &[Symbol]), ReadError>
     Ok((Stmt::Hole(hole), after))
 }
 
-/// `skip;`, behind its word.
+/// `skip;`, after its word.
 #[tactic(auto, unfolding(crate::specs::rules::Reading::nothing))]
 pub(crate) fn nothing(symbols: &[Symbol]) -> Result<(Stmt, &[Symbol]), ReadError>
     ensures { Gives (λ x. (statement_of x.0, x.1.now)) result (spec.nothing symbols.now) }
@@ -113,7 +113,7 @@ pub(crate) fn names(alloc: Global, symbols: &[Symbol]) -> Result<(Vec<Name>, &[S
     more_names(list, after)
 }
 
-/// The names behind those that were read.
+/// The names after those that were read.
 pub(crate) fn more_names(
     mut list: Vec<Name>,
     symbols: &[Symbol],
@@ -132,7 +132,7 @@ pub(crate) fn more_names(
     Ok((list, after))
 }
 
-/// Names up to the semicolon behind them.
+/// Names up to the semicolon after them.
 #[tactic(auto, unfolding(crate::specs::rules::Reading::names_to_end))]
 pub(crate) fn names_to_end(
     alloc: Global,
@@ -145,7 +145,7 @@ pub(crate) fn names_to_end(
     Ok((list, after))
 }
 
-/// The names of a declaration, behind its word.
+/// The names of a declaration, after its word.
 #[tactic(auto, unfolding(crate::specs::rules::Reading::declared))]
 pub(crate) fn declared_names(
     alloc: Global,
@@ -192,7 +192,7 @@ pub(crate) fn declaration(
     }
 }
 
-/// Declares the names with a sort, behind the others.
+/// Declares the names with a sort, after the others.
 pub(crate) fn declare(
     list: &mut Vec<(Name, Sort)>,
     names: &[Name],

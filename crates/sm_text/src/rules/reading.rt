@@ -56,7 +56,7 @@ pub(crate) fn first(symbols: &[Symbol]) -> Option<Symbol>
     symbols.first().copied()
 }
 
-/// The symbols behind the first.
+/// The symbols after the first.
 pub(crate) fn rest(symbols: &[Symbol]) -> &[Symbol]
     ensures { result.now ≡ spec.rest symbols.now }
 {

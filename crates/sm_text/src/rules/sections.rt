@@ -72,7 +72,7 @@ pub(crate) fn shared(alloc: Global, symbols: &[Symbol]) -> Result<(Block, &[Symb
     block(alloc, GROUP_LIMIT, expect(Mark::Shared, symbols)?)
 }
 
-/// An assumption, behind its word.
+/// An assumption, after its word.
 #[tactic(auto, unfolding(crate::specs::rules::Reading::assumption_line), using(crate::proofs::Sound::Limits::limits))]
 fn assumption_line(
     alloc: Global,
@@ -152,7 +152,7 @@ pub(crate) fn four_lists(
     ))
 }
 
-/// A task, and the symbols behind it.
+/// A task, and the symbols after it.
 #[tactic(auto, unfolding(crate::specs::rules::Reading::task))]
 pub(crate) fn task(
     alloc: Global,
@@ -165,7 +165,7 @@ pub(crate) fn task(
     Ok(((head, lists), after))
 }
 
-/// A whole task, with no symbol behind it.
+/// A whole task, with no symbol after it.
 pub(crate) fn whole(
     alloc: Global,
     symbols: &[Symbol],

@@ -50,7 +50,7 @@ fn write_element(
     Ok((Stmt::Store(name, place, value), after))
 }
 
-/// A statement behind the name that it begins with.
+/// A statement after the name that it begins with.
 #[tactic(auto, unfolding(crate::specs::rules::Reading::changed))]
 fn changed(
     alloc: Global,
@@ -70,7 +70,7 @@ fn changed(
     }
 }
 
-/// A branch, behind its word.
+/// A branch, after its word.
 #[cycle(statements)]
 #[tactic(auto, unfolding(crate::specs::rules::Reading::branch))]
 fn branch(alloc: Global, groups: u64, symbols: &[Symbol]) -> Result<(Stmt, &[Symbol]), ReadError>
@@ -87,7 +87,7 @@ fn branch(alloc: Global, groups: u64, symbols: &[Symbol]) -> Result<(Stmt, &[Sym
     Ok((Stmt::If(test, yes, no), after))
 }
 
-/// A loop, behind its word.
+/// A loop, after its word.
 #[cycle(statements)]
 #[tactic(auto, unfolding(crate::specs::rules::Reading::repeated))]
 fn repeated(alloc: Global, groups: u64, symbols: &[Symbol]) -> Result<(Stmt, &[Symbol]), ReadError>

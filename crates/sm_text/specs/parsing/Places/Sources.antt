@@ -8,7 +8,7 @@ use Rattle.sm_syntax.specs.text.Symbols.{symbol_of, names_after, names_of}
 use Rattle.sm_syntax.specs.text.Tokens.{lexed}
 
 -- what is to be read: tokens, what the grammar sees of each, and the lexical fault or the end of
--- the text behind them
+-- the text after them
 pub record Source : Type 0 where
   pub tokens : List Token
   pub symbol : Token → Symbol

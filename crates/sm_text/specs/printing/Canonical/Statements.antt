@@ -8,7 +8,7 @@ use Rattle.sm_text.specs.printing.Pieces.{line_end, deeper, line}
 use Rattle.sm_text.specs.printing.Canonical.Expressions.{element_pieces, expression_pieces}
 use Rattle.sm_text.specs.printing.Canonical.Expressions.{condition_pieces}
 
--- braces round lines, where the last stands behind a margin
+-- braces round lines, where the last stands after a margin
 unfoldable pub braces : List ℕ → List Piece → List Piece
 braces margin ps =
     mark_piece mark.OpenCurly ∷ line_end ∷ (ps ++ Gap margin ∷ mark_piece mark.CloseCurly ∷ [])
@@ -22,7 +22,7 @@ unfoldable pub guard_pieces : Condition → List Piece
 guard_pieces b =
     mark_piece mark.OpenRound ∷ (condition_pieces b ++ mark_piece mark.CloseRound ∷ space ∷ [])
 
--- code, each statement on a line of its own behind a margin
+-- code, each statement on a line of its own after a margin
 abbrev pub code_pieces : List ℕ → Code → List Piece
 code_pieces margin End = []
 code_pieces margin (Skip k) =
@@ -53,6 +53,6 @@ code_pieces margin (Hole h k) =
     line margin (mark_piece mark.Question ∷ number_piece (pos h) ∷ mark_piece mark.Semicolon ∷ [])
     ++ code_pieces margin k
 
--- a block whose lines, but for the first, stand behind a margin or deeper
+-- a block whose lines, but for the first, stand after a margin or deeper
 abbrev pub block_pieces : List ℕ → Code → List Piece
 block_pieces margin c = braces margin (code_pieces (deeper margin) c)

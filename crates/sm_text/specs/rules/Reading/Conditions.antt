@@ -53,7 +53,7 @@ test_at deeper value o =
 unfoldable pub simple_test : Option (Parser Condition) → Parser Expression → Parser Condition
 simple_test deeper value ts = test_at deeper value (first ts) ts
 
--- a test, or one behind an exclamation mark
+-- a test, or one after an exclamation mark
 abbrev pub literal_by : Option (Parser Condition) → Parser Expression → Bool → Parser Condition
 literal_by deeper value true = skip >> (simple_test deeper value >>= λ b. pure (plain.Not b))
 literal_by deeper value false = simple_test deeper value
@@ -69,7 +69,7 @@ conjunction_operators o = if stands mark.Both o then Some plain.And else None
 abbrev pub disjunction_operators : Operators Condition
 disjunction_operators o = if stands mark.Either o then Some plain.Or else None
 
--- the literals behind those that were read, of which n more may follow
+-- the literals after those that were read, of which n more may follow
 unfoldable pub literals : Option (Parser Condition) → Parser Expression → ℕ → Condition →
     Parser Condition
 literals deeper value n left = chain_in conjunction_operators (literal deeper value) n left
@@ -78,7 +78,7 @@ literals deeper value n left = chain_in conjunction_operators (literal deeper va
 unfoldable pub conjunction : Option (Parser Condition) → Parser Expression → Parser Condition
 conjunction deeper value = literal deeper value >>= λ b. literals deeper value chain_limit b
 
--- the conjunctions behind those that were read, of which n more may follow
+-- the conjunctions after those that were read, of which n more may follow
 unfoldable pub conjunctions : Option (Parser Condition) → Parser Expression → ℕ → Condition →
     Parser Condition
 conjunctions deeper value n left = chain_in disjunction_operators (conjunction deeper value) n left

@@ -18,11 +18,11 @@ use Rattle.sm_text.specs.rules.Parsers.{Operators, chain_in, inside_group}
 unfoldable pub chain_limit : ℕ
 chain_limit = 63
 
--- the index of an element, behind the name of its array
+-- the index of an element, after the name of its array
 unfoldable pub index : Option (Parser Expression) → Parser Expression
 index deeper = inside_group deeper mark.CloseSquare
 
--- an element or a variable, behind its name
+-- an element or a variable, after its name
 abbrev pub named_by : Option (Parser Expression) → Name → Bool → Parser Expression
 named_by deeper x true = index deeper >>= λ i. pure (plain.Read x.0 i)
 named_by deeper x false = pure (plain.Var x.0)
@@ -45,7 +45,7 @@ atom_by deeper (Some (s.Mark m)) =
 unfoldable pub atom : Option (Parser Expression) → Parser Expression
 atom deeper = peek >>= atom_by deeper
 
--- an atom, or one behind a minus sign
+-- an atom, or one after a minus sign
 abbrev pub unary_by : Option (Parser Expression) → Bool → Parser Expression
 unary_by deeper true = skip >> (atom deeper >>= λ e. pure (plain.Neg e))
 unary_by deeper false = atom deeper
@@ -63,7 +63,7 @@ sum_operators o =
     if stands mark.Plus o then Some plain.Plus else
     (if stands mark.Minus o then Some plain.Minus else None)
 
--- the factors behind those that were read, of which n more may follow
+-- the factors after those that were read, of which n more may follow
 unfoldable pub factors : Option (Parser Expression) → ℕ → Expression → Parser Expression
 factors deeper n left = chain_in product_operators (unary deeper) n left
 
@@ -71,7 +71,7 @@ factors deeper n left = chain_in product_operators (unary deeper) n left
 unfoldable pub product : Option (Parser Expression) → Parser Expression
 product deeper = unary deeper >>= λ e. factors deeper chain_limit e
 
--- the terms behind those that were read, of which n more may follow
+-- the terms after those that were read, of which n more may follow
 unfoldable pub terms : Option (Parser Expression) → ℕ → Expression → Parser Expression
 terms deeper n left = chain_in sum_operators (product deeper) n left
 

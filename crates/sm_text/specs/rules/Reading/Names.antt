@@ -42,7 +42,7 @@ next_name = expect mark.Comma >> name
 abbrev pub with_name : List ℕ → Name → List ℕ
 with_name xs x = xs ++ x.0 ∷ []
 
--- the names behind those that were read
+-- the names after those that were read
 unfoldable pub more_names : List ℕ → Parser (List ℕ)
 more_names before = gather (stands mark.Comma) next_name with_name before
 
@@ -52,14 +52,14 @@ names = do
   x ← name
   more_names (x.0 ∷ [])
 
--- names up to the semicolon behind them
+-- names up to the semicolon after them
 unfoldable pub names_to_end : Parser (List ℕ)
 names_to_end = do
   xs ← names
   expect mark.Semicolon
   pure xs
 
--- the names of a declaration, behind its word
+-- the names of a declaration, after its word
 unfoldable pub declared : Sort → Parser (List (ℕ × Sort))
 declared sort = do
   xs ← names_to_end
@@ -84,7 +84,7 @@ declaration = peek >>= declaration_by
 abbrev pub begins_declaration : Option Symbol → Bool
 begins_declaration o = stands mark.Var o || stands mark.Array o
 
--- the declarations behind those that were read
+-- the declarations after those that were read
 unfoldable pub more_declarations : List (ℕ × Sort) → Parser (List (ℕ × Sort))
 more_declarations before = gather begins_declaration declaration ◌++◌ before
 

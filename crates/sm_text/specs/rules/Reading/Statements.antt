@@ -36,7 +36,7 @@ write g x = do
   expect mark.Semicolon
   pure (plain.Write x.0 i e)
 
--- a statement behind the name that it begins with
+-- a statement after the name that it begins with
 abbrev pub changed_by : ℕ → Name → Bool → Parser (Code → Code)
 changed_by g x true = write g x
 changed_by g x false = assignment g x
@@ -44,24 +44,24 @@ changed_by g x false = assignment g x
 unfoldable pub changed : ℕ → Name → Parser (Code → Code)
 changed g x ts = changed_by g x (stands mark.OpenSquare (first ts)) ts
 
--- a hole statement, behind its question mark
+-- a hole statement, after its question mark
 unfoldable pub hole : Parser (Code → Code)
 hole = do
   h ← hole_number
   expect mark.Semicolon
   pure (plain.Hole h)
 
--- `skip;`, behind its word
+-- `skip;`, after its word
 unfoldable pub nothing : Parser (Code → Code)
 nothing = do
   expect mark.Semicolon
   pure plain.Skip
 
--- the condition in parentheses behind `if` or `while`
+-- the condition in parentheses after `if` or `while`
 unfoldable pub guard : ℕ → Parser Condition
 guard g = grouped mark.OpenRound mark.CloseRound (inner_condition g)
 
--- a branch, behind its word
+-- a branch, after its word
 unfoldable pub branch : ℕ → Parser Code → Parser (Code → Code)
 branch g body = do
   b ← guard g
@@ -70,7 +70,7 @@ branch g body = do
   d ← body
   pure (plain.If b c d)
 
--- a loop, behind its word
+-- a loop, after its word
 unfoldable pub repeated : ℕ → Parser Code → Parser (Code → Code)
 repeated g body = do
   b ← guard g
@@ -104,7 +104,7 @@ begins_statement o =
 abbrev pub with_statement : (Code → Code) → (Code → Code) → Code → Code
 with_statement front s k = front (s k)
 
--- the statements behind those that were read
+-- the statements after those that were read
 unfoldable pub more_statements : ℕ → Parser Code → (Code → Code) → Parser (Code → Code)
 more_statements g body before = gather begins_statement (statement g body) with_statement before
 

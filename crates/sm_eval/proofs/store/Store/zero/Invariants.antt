@@ -1,4 +1,4 @@
--- The sorts of the slots, and behind them those of what is left, are those of the declarations; each slot has 0.
+-- The sorts of the slots, and after them those of what is left, are those of the declarations; each slot has 0.
 use Rattle.std.proofs.Common.{◌≡◌, ℕ, drop}
 use Rattle.sm_syntax.specs.text.Parts.{sort_of}
 use Rattle.sm_syntax.specs.trees.Programs.{declared_of}

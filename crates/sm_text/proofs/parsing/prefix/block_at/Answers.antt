@@ -10,7 +10,7 @@ use Rattle.sm_text.specs.parsing.Prefix.{AreBlocks}
 use Rattle.sm_text.specs.rules.Reading as r
 use Rattle.sm_text.specs.resolving.TokenTexts.{IsTokenOf}
 use Rattle.sm_text.proofs.Prefix.FirstTokens.{first_within, first_spelled, first_same}
-use Rattle.sm_text.proofs.Cut.Lexing.{IsTokenOf-behind}
+use Rattle.sm_text.proofs.Cut.Lexing.{IsTokenOf-after}
 use Rattle.sm_text.proofs.RoundTrip.Parts.{block_has_names}
 use Rattle.sm_text.proofs.Prefix.Judged.{block_judges}
 use Rattle.sm_text.proofs.Prefix.Exact.{block_reads}
@@ -23,7 +23,7 @@ pub first_block-requires : goal.first_block-requires
 first_block-requires c =
     let P : List Token → Type 0 = λ ts. AllByRecursion (IsTokenOf c.args.bytes.now) ts in
     let all = c.deref.ensures.value ∙ ap (λ (l : Lexed). l.0) c.requires.cut in
-    subst P (sym (rest_of c.args.at c.deref.result.now ∙ ap (drop c.args.at) all)) (IsTokenOf-behind c.args.bytes.now c.args.at)
+    subst P (sym (rest_of c.args.at c.deref.result.now ∙ ap (drop c.args.at) all)) (IsTokenOf-after c.args.bytes.now c.args.at)
 
 pub overflow_sub-result : goal.overflow_sub-result
 overflow_sub-result c =

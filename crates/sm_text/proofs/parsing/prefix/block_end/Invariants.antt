@@ -1,4 +1,4 @@
--- Behind each token so far more curly braces open than close, and the depth is how many more.
+-- After each token so far more curly braces open than close, and the depth is how many more.
 use Rattle.std.proofs.Common.{◌≡◌, ◌+◌, ◌<◌, ◌≤◌, ℕ, take}
 use Rattle.sm_syntax.specs.declared.symbol.Mark.TheVariants.{OpenCurly, CloseCurly}
 use Rattle.sm_text.specs.parsing.BlockTokens.{many}

@@ -18,7 +18,7 @@ overflow_sub-used c =
     let bytes = c.args.bytes.now in
     let before = c.args.names.now in
     let ts = c.args.tokens.now in
-    let same : c.deref.result.now ≡ token_symbols bytes before ts = c.deref.ensures.value ∙ signs-of bytes before c.symbols_behind.new.names ts ts c.in_ok-symbols.symbols.items c.in_ok-symbols.ensures.names c.in_ok-symbols.ensures.list refl in
+    let same : c.deref.result.now ≡ token_symbols bytes before ts = c.deref.ensures.value ∙ signs-of bytes before c.symbols_after.new.names ts ts c.in_ok-symbols.symbols.items c.in_ok-symbols.ensures.names c.in_ok-symbols.ensures.list refl in
     let parser = r.block (64 - c.args.groups) in
     let read : parser c.deref.result.now ≡ Ok (code_of c.in_ok-block.block, c.in_ok-block.after.now) = ap (λ (k : ℕ). r.block k c.deref.result.now) (sym c.saturating_sub.ensures) ∙ c.in_ok-block.ensures in
     let size = c.len.ensures ∙ sym c.deref.ensures.len ∙ ap (λ (l : List Symbol). length l) same ∙ length-map ts (symbol_of bytes (names_after bytes before ts)) in
@@ -27,14 +27,14 @@ overflow_sub-used c =
 
 pub returns-in_err-block-clause-kept : goal.returns-in_err-block-clause-kept
 returns-in_err-block-clause-kept c =
-    kept-on_err c.from_residual-in_err-block.result c.args.bytes.now c.args.names.now c.symbols_behind.new.names c.args.tokens.now c.in_ok-symbols.ensures.names
+    kept-on_err c.from_residual-in_err-block.result c.args.bytes.now c.args.names.now c.symbols_after.new.names c.args.tokens.now c.in_ok-symbols.ensures.names
 
 pub returns-clause-ok : goal.returns-clause-ok
 returns-clause-ok c =
     let bytes = c.args.bytes.now in
     let before = c.args.names.now in
     let ts = c.args.tokens.now in
-    let table = c.symbols_behind.new.names in
+    let table = c.symbols_after.new.names in
     let symbols = c.deref.result.now in
     let used = c.len.result - length c.in_ok-block.after.now in
     first_read bytes before c.args.groups ts (code_of c.in_ok-block.block) c.in_ok-block.after.now symbols table c.cut.new.self used

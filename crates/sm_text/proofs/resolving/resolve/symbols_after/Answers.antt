@@ -6,7 +6,7 @@ use Rattle.sm_syntax.specs.text.Symbols.{symbol_by}
 use Rattle.sm_text.specs.resolving.TokenTexts.{IsText, IsTokenOf}
 use Rattle.sm_text.proofs.Cut.Lexing.{all_at}
 use Rattle.sm_text.proofs.Numbering.Symbols.{names_with, IsRead, IsRead-more, IsRead-next, kept-on_err}
-use Rattle.sm_text.proofs.resolving.resolve.symbols_behind.Goals as goal
+use Rattle.sm_text.proofs.resolving.resolve.symbols_after.Goals as goal
 
 -- what stands for an element past the end
 abbrev blank : Token
