@@ -9,7 +9,7 @@ program=${1:-bin/safemerge}
 place=$(mktemp -d)
 trap 'rm -rf "$place"' EXIT
 
-# A task of so many assignments in its shared program, of 200 long names, and two edits that don't meet.
+# A task of the given number of assignments in its shared program, of 200 long names, and two edits that don't meet.
 task() {
   awk -v count="$1" '
     function name(i) { return sprintf("v%03d_%s", i, pad) }

@@ -6,7 +6,7 @@ program=${1:-bin/safemerge}
 place=$(mktemp -d)
 trap 'rm -rf "$place"' EXIT
 
-# A task of about so many bytes: 200 names, and holes that each list fills with assignments of long names.
+# A task of about the given number of bytes: 200 names, and holes that each list fills with assignments of long names.
 fillings() {
   awk -v size="$1" '
     function name(i) { return sprintf("v%03d_%s", i, pad) }
@@ -30,7 +30,7 @@ fillings() {
     }'
 }
 
-# A task with a comment of about so many bytes.
+# A task with a comment of about the given number of bytes.
 comment() {
   awk -v size="$1" '
     BEGIN {

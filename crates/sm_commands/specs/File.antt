@@ -14,7 +14,7 @@ use Rattle.sm_commands.specs.Status.{Says}
 use Rattle.sm_commands.specs.declared.status.Status.{Status}
 use Rattle.sm_commands.specs.declared.status.Status.TheVariants.{Refused, ReadFault}
 
--- the file of a task, or of an input, has at most so many bytes
+-- the greatest number of bytes of the file of a task, or of an input
 abbrev pub file_limit : ℕ
 file_limit = 1048576
 

@@ -30,7 +30,7 @@ spaced (word ∷ rest) = codes " " ++ word ++ spaced rest
 abbrev pub line_of : List ℕ → List (List ℕ) → List ℕ
 line_of first rest = first ++ spaced rest ++ codes "\n"
 
--- the text of a name, by the texts of all names; none where there are not so many
+-- the text of a name, by the texts of all names; none where there are no more than x
 abbrev pub name_text : List (List ℕ) → ℕ → List ℕ
 name_text names x = unwrap_or (slice_get names x) []
 

@@ -81,7 +81,7 @@ IsUsage (word ∷ rest) = IsRefused (verb_of word) (word ∷ rest)
 
 -- what is asked for
 pub data Asked : Type 0 where
-  -- the decision on a task's file, with so many turns for a loop and so many workers
+  -- the decision on a task's file, with a number of turns for a loop and a number of workers
   check : List ℕ → ℕ → ℕ → Asked
   -- what a task's programs do from an input's file
   replay : List ℕ → List ℕ → ℕ → Asked

@@ -15,7 +15,7 @@ use sm_task::{Task, fill_all};
 use std::alloc::{AllocError, Global};
 
 /// The answer to a task that may be run, and a store of its declarations, where each loop takes at
-/// most so many turns.
+/// most `turns` turns.
 pub fn replay(alloc: Global, task: &Task, input: &Store, turns: u64) -> Result<Reply, AllocError>
     requires runs { sort_fault (parts_of task.now) ≡ None }
     requires declared { sorts_of input.now ≡ sort_of (declared_of task.now.shared.decls) }

@@ -25,7 +25,7 @@ use thiserror::Error as ErrorText;
 /// What the words ask for. Files are named as the words name them.
 #[derive(Clone, Copy, Debug, PartialEq, Eq)]
 pub enum Request<'a> {
-    /// The decision on a task, with at most `turns` turns for a loop, and so many workers.
+    /// The decision on a task, with at most `turns` turns for a loop, and `workers` workers.
     Check {
         task: &'a str,
         turns: u64,

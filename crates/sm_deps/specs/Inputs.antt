@@ -4,7 +4,7 @@ use Rattle.std.specs.List.{filter, range_with_len}
 use Rattle.sm_syntax.specs.claim.Syntax.{Code, End, Skip, Assign, Write, If, While, Hole}
 use Rattle.sm_deps.specs.Names.{mentions, tests, code_names}
 
--- a set after so many rounds, each of which adds what the set brings
+-- a set after n rounds, each of which adds what the set brings
 abbrev pub grown : ℕ → ((ℕ → Bool) → ℕ → Bool) → (ℕ → Bool) → ℕ → Bool
 grown zero brings set = set
 grown (suc n) brings set = grown n brings (λ (x : ℕ). set x || brings set x)

@@ -44,7 +44,7 @@ IsWithin loops sets =
 abbrev pub IsReady : Loops → Type 0
 IsReady loops = loops.next ≤ length loops.sets.items
 
--- so many loops were gone over, and no kept set was given up
+-- n loops were gone over, and no kept set was given up
 pub record LoopsCounted (n : ℕ) (before after : Loops) : Type 0 where
   pub next : after.next ≡ before.next + n
   pub ready : IsReady after

@@ -34,7 +34,7 @@ pub fn read_all<H: Shelf>(
     read_by(alloc, shelf, name, limit, &mut piece)
 }
 
-// A function of its own, so that no proof computes a list of so many zeros.
+// A function of its own, so that no proof computes a list of that many zeros.
 fn blank_piece(alloc: Global) -> Result<Vec<u8>, AllocError>
     ensures { IfOk result (λ piece. 0 < vec_len piece) }
 {

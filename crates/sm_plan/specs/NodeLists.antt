@@ -18,7 +18,7 @@ pub record Pending : Type 0 where
 abbrev pub above_opened : Node → ℕ → ℕ
 above_opened node above = if is_branching node then suc above else above
 
--- states that wait with so many branching nodes above them
+-- states that wait with `above` branching nodes above them
 abbrev pub pending_states : ℕ → List State → List Pending
 pending_states above states = map (λ (st : State). record { state = st; above = above }) states
 

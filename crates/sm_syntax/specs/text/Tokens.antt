@@ -159,7 +159,7 @@ by_front (Piece kind size) place more =
     with_token (record { kind = kind; place = place; size = size }) (more (size - 1))
 by_front (Fault kind) place more = ([], Some (record { kind = kind; place = place }))
 
--- the tokens from a place on, where so many bytes are left of the front that was cut before
+-- the tokens from a place on, where `left` bytes are left of the front that was cut before
 abbrev pub lexed_after : ℕ → ℕ → List ℕ → Lexed
 lexed_after left place [] = ([], None)
 lexed_after (suc left) place (b ∷ bytes) = lexed_after left (place + 1) bytes

@@ -100,7 +100,7 @@ grouped-then {T} deeper d begin close ts us x z more a o e = ap (λ (b : Result 
 pub expect-then : {U : Type 0} (m : Mark) (ts : List Symbol) (more : Unit {0} → Parser U) → go_on (expect m (s.Mark m ∷ ts)) more ≡ more tt ts
 expect-then m ts more = ap (λ (b : Result (Unit {0} × List Symbol) Fault). go_on b more) (expected m ts)
 
--- how many operators may follow after so many
+-- how many operators may follow after k
 unfoldable pub room : ℕ → ℕ
 room k = 63 - k
 

@@ -128,7 +128,7 @@ lexed_from-cons : (place b : ℕ) (bytes : List ℕ) → lexed_from place (b ∷
 unfolding lexed_from
 lexed_from-cons place b bytes = refl
 
--- so many tokens before others
+-- tokens before others
 abbrev pub with_tokens : List Token → Lexed → Lexed
 with_tokens ts l = (ts ++ l.0, l.1)
 

@@ -466,7 +466,7 @@ at_index tokens left index t h e sum = record {
   same = refl;
 }
 
--- the token with which so many are left is the same where tokens before it are left out
+-- the token with which `many` are left is the same where tokens before it are left out
 pub place_from : (at many : ℕ) (tokens : List Token) (place : ℕ) → many ≤ length (drop at tokens) → IsPlaceWith many tokens place → IsPlaceWith many (drop at tokens) place
 place_from zero many tokens place h p = p
 place_from (suc n) many [] place h p = p

@@ -18,7 +18,7 @@ use Rattle.sm_text.specs.resolving.TokenTexts.{sign_by}
 abbrev pub token_symbols : List ℕ → List (List ℕ) → List Token → List Symbol
 token_symbols bytes before ts = map (symbol_of bytes (names_after bytes before ts)) ts
 
--- where so many groups are open, the tokens begin with this block and so many stand after it;
+-- where `groups` groups are open, the tokens begin with this block and `left` stand after it;
 -- `names` are those before and its own
 pub record IsFirstBlock (bytes : List ℕ) (before : List (List ℕ)) (groups : ℕ) (ts : List Token)
     (names : List (List ℕ)) (c : Code) (left : ℕ) : Type 0 where

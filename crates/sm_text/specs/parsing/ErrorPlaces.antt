@@ -8,7 +8,7 @@ use Rattle.sm_text.specs.declared.rules.reading.Fault.{Fault}
 use Rattle.sm_text.specs.declared.lexing.token_list.Tokens.{Tokens}
 use Rattle.sm_text.specs.parsing.Text.{lexical_fault, rule_fault}
 
--- the place of the token with which so many are left
+-- the place of the token with which `left` are left
 pub record IsPlaceWith (left : ℕ) (tokens : List Token) (place : ℕ) : Type 0 where
   pub before : List Token
   pub behind : List Token
@@ -17,7 +17,7 @@ pub record IsPlaceWith (left : ℕ) (tokens : List Token) (place : ℕ) : Type 0
   pub count : left ≡ suc (length behind)
   pub same : place ≡ here.place
 
--- the error of a rule that doesn't go on where so many tokens are left: it names a token, or what
+-- the error of a rule that doesn't go on where `f.left` tokens are left: it names a token, or what
 -- stands after them all
 pub data IsErrorOf (f : Fault) (tokens : Tokens) (end : ℕ) (e : TextError) : Type 0 where
   at_token : (place : ℕ) → IsPlaceWith f.left tokens.list.items place →

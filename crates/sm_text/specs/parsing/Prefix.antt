@@ -72,8 +72,8 @@ AssumesDeclared declared (Some b) =
 abbrev pub SpellsHead : List ℕ → ℕ → HeadParts → Type 0
 SpellsHead bytes n h = SpellsFrom IsHead bytes 0 [] n h.program.names h
 
--- where so many groups are open and these names are known, the tokens from `at` up to `n` spell the
--- block
+-- where `groups` groups are open and these names are known, the tokens from `at` up to `n` spell
+-- the block
 abbrev pub SpellsBlockAt : List ℕ → ℕ → ℕ → List (List ℕ) → ℕ → List (List ℕ) → Code → Type 0
 SpellsBlockAt bytes at groups before n names c =
     SpellsFrom (IsBlock groups) bytes at before n names c
@@ -92,6 +92,6 @@ IsBlockReadAs n c answer =
 abbrev pub AreHeads : List Marked → Type 0
 AreHeads ts = (h : HeadParts) × IsHead ts h
 
--- the grammar of blocks, where so many groups are open
+-- the grammar of blocks, where a number of groups are open
 abbrev pub AreBlocks : ℕ → List Marked → Type 0
 AreBlocks groups ts = (c : Code) × IsBlock groups ts c

@@ -37,7 +37,7 @@ pub fn tokens(alloc: Global, bytes: &[u8]) -> Result<Tokens, AllocError>
     Ok(Tokens { list, fault: None })
 }
 
-// what is left of a text after so many bytes
+// what is left of a text after `size` bytes
 fn after(bytes: &[u8], size: usize) -> &[u8]
     requires { size ≤ length bytes.now }
     ensures { result.now ≡ drop size bytes.now }

@@ -205,7 +205,7 @@ fn block_end(bytes: &[u8], tokens: &[Token]) -> usize
     tokens.len()
 }
 
-// how many curly braces are open after a sign, where so many are before it
+// how many curly braces are open after a sign, where `depth` are before it
 fn depth_behind(depth: usize, sign: Option<Mark>) -> usize
     requires { depth + 1 < 2 ^ 64 }
     ensures { result ≡

@@ -87,11 +87,11 @@ conjunctions deeper value n left = chain_in disjunction_operators (conjunction d
 unfoldable pub disjunction : Option (Parser Condition) → Parser Expression → Parser Condition
 disjunction deeper value = conjunction deeper value >>= λ b. conjunctions deeper value chain_limit b
 
--- the rule inside a group, where so many groups may be opened
+-- the rule inside a group, where g groups may be opened
 unfoldable pub inner_condition : ℕ → Option (Parser Condition)
 inner_condition zero = None
 inner_condition (suc g) = Some (disjunction (inner_condition g) (expression g))
 
--- a condition, where so many groups may be opened
+-- a condition, where g groups may be opened
 unfoldable pub condition : ℕ → Parser Condition
 condition g = disjunction (inner_condition g) (expression g)

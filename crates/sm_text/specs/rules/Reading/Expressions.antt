@@ -79,11 +79,11 @@ terms deeper n left = chain_in sum_operators (product deeper) n left
 unfoldable pub sum : Option (Parser Expression) → Parser Expression
 sum deeper = product deeper >>= λ e. terms deeper chain_limit e
 
--- the rule inside a group, where so many groups may be opened
+-- the rule inside a group, where g groups may be opened
 unfoldable pub inner_sum : ℕ → Option (Parser Expression)
 inner_sum zero = None
 inner_sum (suc g) = Some (sum (inner_sum g))
 
--- an expression, where so many groups may be opened
+-- an expression, where g groups may be opened
 unfoldable pub expression : ℕ → Parser Expression
 expression g = sum (inner_sum g)

@@ -1,5 +1,5 @@
 -- No public clause cites this file.
--- How statements and blocks are read, where so many groups may be opened.
+-- How statements and blocks are read, where g groups may be opened.
 use Rattle.std.specs.Prelude.{ℕ, zero, suc, Bool, true, false, ◌||◌, if◌then◌else◌, Option, Some}
 use Rattle.std.specs.Prelude.{None}
 use denote.Enum.Bare.{sameb}
@@ -116,11 +116,11 @@ statements g body = more_statements g body (λ k. k) >>= λ front. pure (front p
 unfoldable pub braced : Option (Parser Code) → Parser Code
 braced deeper = grouped mark.OpenCurly mark.CloseCurly deeper
 
--- the rule inside a block, where so many groups may be opened
+-- the rule inside a block, where g groups may be opened
 unfoldable pub inner_block : ℕ → Option (Parser Code)
 inner_block zero = None
 inner_block (suc g) = Some (statements g (braced (inner_block g)))
 
--- a block, where so many groups may be opened
+-- a block, where g groups may be opened
 unfoldable pub block : ℕ → Parser Code
 block g = braced (inner_block g)
