@@ -8,7 +8,7 @@ use Rattle.sm_replay.specs.declared.error.ReplayError.{ReplayError}
 use Rattle.sm_replay.specs.declared.verdict.Verdict.{Verdict}
 use Rattle.sm_replay.specs.declared.verdict.Verdict.TheVariants as verdict
 use Rattle.sm_syntax.specs.text.Parts.{Parts, sort_of, task_of}
-use Rattle.sm_eval.specs.Slots.{meaning}
+use Rattle.sm_eval.specs.StoredValues.{meaning}
 use Rattle.sm_eval.specs.declared.store.Store as code
 use Rattle.sm_replay.specs.Input.{IsInput}
 use Rattle.sm_syntax.specs.claim.ConflictFree.{ConflictFree}

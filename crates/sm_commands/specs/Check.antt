@@ -3,7 +3,7 @@
 use Rattle.std.specs.Prelude.{◌≡◌, ◌<◌, ◌⊎◌, ◌++◌, ℕ, ℤ, Option, List, []}
 use Rattle.serde_json.specs.Data.{Members, object}
 use Rattle.serde_json.specs.Written.{compact_text}
-use Rattle.sm_eval.specs.Slots.{meaning}
+use Rattle.sm_eval.specs.StoredValues.{meaning}
 use Rattle.sm_eval.specs.declared.store.Store as code
 use Rattle.sm_replay.specs.Input.{IsInput}
 use Rattle.sm_replay.specs.Trials.{trial, trials, IsLeast, SomeTrialMeets}

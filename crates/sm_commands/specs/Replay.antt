@@ -1,7 +1,7 @@
 -- What `replay` answers to a task and an input: what the four programs do from the input's store.
 -- Public clauses cite it.
 use Rattle.std.specs.Prelude.{◌≢◌, ◌⊎◌, ℕ, Result, Ok, Err, List, codes}
-use Rattle.sm_eval.specs.Slots.{meaning}
+use Rattle.sm_eval.specs.StoredValues.{meaning}
 use Rattle.sm_eval.specs.declared.store.Store as code
 use Rattle.sm_io.specs.Files.{Known}
 use Rattle.sm_replay.specs.Input.{IsInput, Reads}

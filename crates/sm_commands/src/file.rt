@@ -2,7 +2,7 @@
 ghost use Rattle.std.specs.Prelude.{◌≡◌, ◌^◌, ◌<◌, ℕ, List, None, length, IfOk, IfErr};
 ghost use Rattle.sm_syntax.specs.text.Spells.{Spells};
 ghost use Rattle.sm_task.specs.Tasks.{parts_of};
-ghost use Rattle.sm_eval.specs.Slots.{sorts_of};
+ghost use Rattle.sm_eval.specs.StoredValues.{sorts_of};
 ghost use Rattle.sm_replay.specs.Input.{IsInput};
 ghost use Rattle.sm_replay.specs.Sorted.{sort_fault};
 ghost use Rattle.sm_replay.specs.InputText.{AreNamed};

@@ -1,6 +1,6 @@
 // What `replay` answers to a task and an input.
 ghost use Rattle.std.specs.Prelude.{◌≡◌, None, IfOk};
-ghost use Rattle.sm_eval.specs.Slots.{meaning, sorts_of};
+ghost use Rattle.sm_eval.specs.StoredValues.{meaning, sorts_of};
 ghost use Rattle.sm_replay.specs.Sorted.{sort_fault};
 ghost use Rattle.sm_syntax.specs.text.Parts.{sort_of};
 ghost use Rattle.sm_syntax.specs.trees.Programs.{declared_of};

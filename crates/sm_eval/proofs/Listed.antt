@@ -4,7 +4,7 @@ use Rattle.std.specs.List.{insert, remove}
 use Rattle.std.specs.Ordering.{int_eq}
 use Rattle.std.proofs.lemmas.Bool.Decides.{Decides-int_eq}
 use Rattle.sm_eval.specs.Cells.{listed, index_at, cell_number_at}
-use Rattle.sm_eval.specs.Places.{IsAt}
+use Rattle.sm_eval.specs.CellPlaces.{IsAt}
 use Rattle.sm_eval.proofs.Integers.{int_same, int_differs}
 
 -- no cell before a place has the index

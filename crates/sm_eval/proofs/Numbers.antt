@@ -6,13 +6,13 @@ use Rattle.sm_syntax.specs.text.Sorts.{IsWellSortedExpression}
 use Rattle.sm_syntax.specs.claim.Stores as plain
 use Rattle.sm_syntax.specs.claim.Stores.{number}
 use Rattle.sm_syntax.specs.claim.Syntax.{Expression, Lit, Var, Read, Neg, Plus, Minus, Times}
-use Rattle.sm_eval.specs.declared.slot.Slot.{Slot}
-use Rattle.sm_eval.specs.declared.slot.Slot.TheVariants.{Absent, Number, Array}
+use Rattle.sm_eval.specs.declared.stored_value.StoredValue.{StoredValue}
+use Rattle.sm_eval.specs.declared.stored_value.StoredValue.TheVariants.{Absent, Number, Array}
 use Rattle.sm_eval.specs.declared.store.Store.{Store}
-use Rattle.sm_eval.specs.Slots.{held, sort, slot_of, meaning, sorts_of}
+use Rattle.sm_eval.specs.StoredValues.{held, sort, stored_value_of, meaning, sorts_of}
 
--- a slot of a number has a number
-held_number : (slot : Slot) → sort slot ≡ Some Num → held slot ≡ plain.Number (number (held slot))
+-- what is stored for a number variable is a number
+held_number : (value : StoredValue) → sort value ≡ Some Num → held value ≡ plain.Number (number (held value))
 held_number Absent sorted = refl
 held_number (Number z) sorted = refl
 held_number (Array cells) sorted = cc
@@ -21,7 +21,7 @@ held_number (Array cells) sorted = cc
 pub sorted_number : (s : Store) (e : Expression) → IsWellSortedExpression (sorts_of s) e → value_of e (meaning s) ≡ plain.Number (number (value_of e (meaning s)))
 unfolding meaning sorts_of
 sorted_number s (Lit z) sorted = refl
-sorted_number s (Var x) sorted = held_number (slot_of s.slots.items x) sorted
+sorted_number s (Var x) sorted = held_number (stored_value_of s.stored.items x) sorted
 sorted_number s (Read a i) sorted = refl
 sorted_number s (Neg e) sorted = refl
 sorted_number s (Plus d e) sorted = refl

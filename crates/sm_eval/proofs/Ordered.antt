@@ -13,7 +13,7 @@ use Rattle.std.proofs.lemmas.List.Sorted.{IsNonDecreasingBy-from_default}
 use Rattle.std.proofs.lemmas.List.Edits.{length-insert, get_or-insert_below, get_or-insert_at, get_or-insert_above, length-remove, get_or-remove_below, get_or-remove_above}
 use Rattle.sm_syntax.specs.claim.Stores.{with_element}
 use Rattle.sm_eval.specs.Cells.{listed, index_at, cell_number_at, IsAscending, AreCells}
-use Rattle.sm_eval.specs.Places.{IsAt, IsGapFor}
+use Rattle.sm_eval.specs.CellPlaces.{IsAt, IsGapFor}
 use Rattle.sm_eval.proofs.Integers.{not_below_itself, ranks_rise}
 use Rattle.sm_eval.proofs.Listed.{NoneBefore, NoneAfter, listed_absent, listed_present, listed-set, listed-insert, zero_there, listed-remove}
 

@@ -1,4 +1,4 @@
--- The store that slots stand for, where one of them has changed.
+-- The store that stored values stand for, where one of them has changed.
 use Rattle.std.proofs.Common.{◌≡◌, ◌<◌, ◌⊎◌, inl, inr, ℕ, zero, suc, Some, List, [], ◌∷◌, length, set, sym, ap, ◌∙◌, arith}
 use Rattle.std.proofs.Math.Path.{fun_ext}
 use Rattle.std.proofs.lemmas.Bool.{cases_eq}
@@ -6,29 +6,29 @@ use Rattle.std.proofs.lemmas.List.{get_or-set_same, get_or-set_other}
 use Rattle.sm_syntax.specs.declared.tree.Sort.{Sort}
 use Rattle.sm_syntax.specs.claim.Stores.{put}
 use Rattle.sm_syntax.proofs.Puts.{put_is}
-use Rattle.sm_eval.specs.declared.slot.Slot.{Slot}
-use Rattle.sm_eval.specs.declared.slot.Slot.TheVariants.{Absent}
-use Rattle.sm_eval.specs.Slots.{held, sort, values, sorts}
+use Rattle.sm_eval.specs.declared.stored_value.StoredValue.{StoredValue}
+use Rattle.sm_eval.specs.declared.stored_value.StoredValue.TheVariants.{Absent}
+use Rattle.sm_eval.specs.StoredValues.{held, sort, values, sorts}
 
--- a name that has a sort has a slot
-pub declared_within : (slots : List Slot) (x : ℕ) (k : Sort) → sorts slots x ≡ Some k → x < length slots
+-- a name that has a sort has a stored value
+pub declared_within : (stored : List StoredValue) (x : ℕ) (k : Sort) → sorts stored x ≡ Some k → x < length stored
 declared_within [] x k declared = cc
 declared_within (s ∷ rest) zero k declared = omega arith
 declared_within (s ∷ rest) (suc x) k declared = let within = declared_within rest x k declared in omega arith
 
--- a new slot is a new value of its name
-pub values-set : (slots : List Slot) (x : ℕ) (slot : Slot) → x < length slots → values (set slots x slot) ≡ put (values slots) x (held slot)
-values-set slots x slot within =
-    put_is (values slots) (values (set slots x slot)) x (held slot) (ap held (get_or-set_same slots x slot Absent within))
-    (λ (y : ℕ) (other : y ≡ x → ⊥). ap held (get_or-set_other slots x y slot Absent other))
+-- a new stored value is a new value of its name
+pub values-set : (stored : List StoredValue) (x : ℕ) (value : StoredValue) → x < length stored → values (set stored x value) ≡ put (values stored) x (held value)
+values-set stored x value within =
+    put_is (values stored) (values (set stored x value)) x (held value) (ap held (get_or-set_same stored x value Absent within))
+    (λ (y : ℕ) (other : y ≡ x → ⊥). ap held (get_or-set_other stored x y value Absent other))
 
 -- the sort of a name after a write, at that name and at another
-sort_after : (slots : List Slot) (x : ℕ) (slot : Slot) → x < length slots → sort slot ≡ sorts slots x → (y : ℕ) → ((y ≡ x) ⊎ (y ≡ x → ⊥)) →
-    sorts (set slots x slot) y ≡ sorts slots y
-sort_after slots x slot within same y (inl here) =
-    ap (sorts (set slots x slot)) here ∙ ap sort (get_or-set_same slots x slot Absent within) ∙ same ∙ ap (sorts slots) (sym here)
-sort_after slots x slot within same y (inr other) = ap sort (get_or-set_other slots x y slot Absent other)
+sort_after : (stored : List StoredValue) (x : ℕ) (value : StoredValue) → x < length stored → sort value ≡ sorts stored x → (y : ℕ) → ((y ≡ x) ⊎ (y ≡ x → ⊥)) →
+    sorts (set stored x value) y ≡ sorts stored y
+sort_after stored x value within same y (inl here) =
+    ap (sorts (set stored x value)) here ∙ ap sort (get_or-set_same stored x value Absent within) ∙ same ∙ ap (sorts stored) (sym here)
+sort_after stored x value within same y (inr other) = ap sort (get_or-set_other stored x y value Absent other)
 
--- a new slot of the same sort leaves the sorts
-pub sorts-set : (slots : List Slot) (x : ℕ) (slot : Slot) → x < length slots → sort slot ≡ sorts slots x → sorts (set slots x slot) ≡ sorts slots
-sorts-set slots x slot within same = fun_ext (λ (y : ℕ). sort_after slots x slot within same y (cases_eq y x))
+-- a new stored value of the same sort leaves the sorts
+pub sorts-set : (stored : List StoredValue) (x : ℕ) (value : StoredValue) → x < length stored → sort value ≡ sorts stored x → sorts (set stored x value) ≡ sorts stored
+sorts-set stored x value within same = fun_ext (λ (y : ℕ). sort_after stored x value within same y (cases_eq y x))

@@ -1,6 +1,6 @@
 pub mod Cells
-pub mod Places
-pub mod Slots
+pub mod CellPlaces
+pub mod StoredValues
 pub mod Zeros
 pub mod Events
 pub mod Laws

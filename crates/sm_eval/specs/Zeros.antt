@@ -5,8 +5,8 @@ use Rattle.sm_syntax.specs.declared.tree.Sort.{Sort}
 use Rattle.sm_syntax.specs.declared.tree.Sort.TheVariants.{Num, Arr}
 use Rattle.sm_syntax.specs.claim.Stores.{Value, Number, Array, zero_value, Store}
 use Rattle.sm_syntax.specs.text.Sorts.{Sorts}
-use Rattle.sm_eval.specs.declared.slot.Slot.{Slot}
-use Rattle.sm_eval.specs.Slots.{values, sorts}
+use Rattle.sm_eval.specs.declared.stored_value.StoredValue.{StoredValue}
+use Rattle.sm_eval.specs.StoredValues.{values, sorts}
 
 -- 0 as a number, or at each index of an array
 abbrev pub zero_of : Option Sort → Value
@@ -18,11 +18,11 @@ zero_of (Some Arr) = Array (λ (i : ℤ). pos 0)
 abbrev pub zeros : Sorts → Store
 zeros declared x = zero_of (declared x)
 
--- slots that hold 0 alone
-abbrev pub AreZero : List Slot → Type 0
-AreZero slots = (x : ℕ) → values slots x ≡ zero_of (sorts slots x)
+-- stored values that hold 0 alone
+abbrev pub AreZero : List StoredValue → Type 0
+AreZero stored = (x : ℕ) → values stored x ≡ zero_of (sorts stored x)
 
 -- a name more, which has the sort that it had, or else a new one
-abbrev pub Declares : List Slot → List Slot → ℕ → Sort → Type 0
+abbrev pub Declares : List StoredValue → List StoredValue → ℕ → Sort → Type 0
 Declares old new x sort =
     (y : ℕ) → sorts new y ≡ option_or (sorts old y) (if x == y then Some sort else None)

@@ -2,7 +2,7 @@
 ghost use Rattle.std.specs.Prelude.{◌≡◌, [], IfOk, IfErr, OnOk, OnErr};
 ghost use Rattle.sm_syntax.specs.claim.Stores.{with_element};
 ghost use Rattle.sm_eval.specs.Cells.{listed, AreCells};
-ghost use Rattle.sm_eval.specs.Places.{IsAt, IsGapFor};
+ghost use Rattle.sm_eval.specs.CellPlaces.{IsAt, IsGapFor};
 
 use crate::deque::Deque;
 use std::alloc::{AllocError, Global};

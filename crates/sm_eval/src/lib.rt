@@ -9,8 +9,8 @@
 //! - `eventless_ends` is the law that code without an event has an end, and `well_formed_may_run`
 //!   that what is well formed meets the conditions of `truth` and `run`.
 //!
-//! Read `specs/Events.antt` first. `specs/Slots.antt` says which store a `Store` stands for. What
-//! programs mean over all whole numbers stands in `sm_syntax`.
+//! Read `specs/Events.antt` first. `specs/StoredValues.antt` says which store a `Store` stands for.
+//! What programs mean over all whole numbers stands in `sm_syntax`.
 #![tactic(auto)]
 
 mod cells;
@@ -19,7 +19,7 @@ mod error;
 mod expression;
 mod laws;
 mod runs;
-mod slot;
+mod stored_value;
 mod store;
 
 pub use error::EvalError;

@@ -6,7 +6,7 @@ ghost use Rattle.sm_syntax.specs.text.Sorts.{IsWellSorted};
 ghost use Rattle.sm_syntax.specs.claim.Syntax.{End, Write, While};
 ghost use Rattle.sm_syntax.specs.trees.Views.{expression_of, condition_of, statement_of, code_of};
 ghost use Rattle.sm_eval.specs.Events.{event};
-ghost use Rattle.sm_eval.specs.Slots.{meaning, sorts_of};
+ghost use Rattle.sm_eval.specs.StoredValues.{meaning, sorts_of};
 
 use crate::error::EvalError;
 use crate::expression::{truth, value};

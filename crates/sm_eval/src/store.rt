@@ -1,5 +1,5 @@
 // Stores.
-#![tactic(auto, unfolding(crate::specs::Slots::meaning, crate::specs::Slots::sorts_of))]
+#![tactic(auto, unfolding(crate::specs::StoredValues::meaning, crate::specs::StoredValues::sorts_of))]
 
 ghost use Rattle.std.specs.Prelude.{◌≡◌, ◌≢◌, ◌≤◌, ℕ, Some, None, IfOk, OnOk, OnErr, vec_len};
 ghost use Rattle.sm_syntax.specs.text.Parts.{sort_of};
@@ -7,10 +7,10 @@ ghost use Rattle.sm_syntax.specs.trees.Programs.{declared_of};
 ghost use Rattle.sm_syntax.specs.claim.Stores as plain;
 ghost use Rattle.sm_syntax.specs.claim.Stores.{put};
 ghost use Rattle.sm_eval.specs.Cells.{listed, AreCells};
-ghost use Rattle.sm_eval.specs.Slots.{slot_of, meaning, sorts_of, with_cell};
+ghost use Rattle.sm_eval.specs.StoredValues.{stored_value_of, meaning, sorts_of, with_cell};
 ghost use Rattle.sm_eval.specs.Zeros.{zeros, AreZero, Declares};
 
-use crate::slot::Slot;
+use crate::stored_value::StoredValue;
 use sm_syntax::{Decls, Name, Sort};
 use std::alloc::{AllocError, Global};
 
@@ -18,7 +18,7 @@ use std::alloc::{AllocError, Global};
 #[derive(Debug, Drop)]
 pub struct Store {
     // By the number of the name.
-    slots: Vec<Slot>,
+    stored: Vec<StoredValue>,
 }
 
 impl Store {
@@ -28,11 +28,11 @@ impl Store {
         ensures sorts { IfOk result (λ s. sorts_of s ≡ sort_of (declared_of decls.now)) }
         ensures zeros { IfOk result (λ s. meaning s ≡ zeros (sort_of (declared_of decls.now))) }
     {
-        let mut slots = Vec::new(alloc);
+        let mut stored = Vec::new(alloc);
         for d in &decls.list {
-            declare(alloc, &mut slots, d.0, d.1)?;
+            declare(alloc, &mut stored, d.0, d.1)?;
         }
-        Ok(Store { slots })
+        Ok(Store { stored })
     }
 
     /// A store with the same values.
@@ -40,19 +40,19 @@ impl Store {
         ensures values { IfOk result (λ s. meaning s ≡ meaning self.now) }
         ensures sorts { IfOk result (λ s. sorts_of s ≡ sorts_of self.now) }
     {
-        let mut slots = Vec::new(alloc);
-        for slot in &self.slots {
-            slots.push(slot.copy(alloc)?)?;
+        let mut stored = Vec::new(alloc);
+        for value in &self.stored {
+            stored.push(value.copy(alloc)?)?;
         }
-        Ok(Store { slots })
+        Ok(Store { stored })
     }
 
     /// The sort of a name, None where it isn't declared. It takes the same time for each name.
     pub fn sort(&self, x: Name) -> Option<Sort>
         ensures { result ≡ sorts_of self.now x.0 }
     {
-        match self.slots.get(x.0 as usize) {
-            Some(slot) => slot.sort(),
+        match self.stored.get(x.0 as usize) {
+            Some(value) => value.sort(),
             None => None,
         }
     }
@@ -62,9 +62,9 @@ impl Store {
         requires { sorts_of self.now x.0 ≡ Some Sort.Num }
         ensures { meaning self.now x.0 ≡ plain.Number result }
     {
-        match self.slot(x) {
-            Slot::Number(z) => *z,
-            Slot::Absent | Slot::Array(_) => unreachable!(),
+        match self.stored_value(x) {
+            StoredValue::Number(z) => *z,
+            StoredValue::Absent | StoredValue::Array(_) => unreachable!(),
         }
     }
 
@@ -73,9 +73,9 @@ impl Store {
         requires { sorts_of self.now a.0 ≡ Some Sort.Arr }
         ensures { result ≡ plain.array (meaning self.now a.0) i }
     {
-        match self.slot(a) {
-            Slot::Array(cells) => cells.number(i),
-            Slot::Absent | Slot::Number(_) => unreachable!(),
+        match self.stored_value(a) {
+            StoredValue::Array(cells) => cells.number(i),
+            StoredValue::Absent | StoredValue::Number(_) => unreachable!(),
         }
     }
 
@@ -85,9 +85,9 @@ impl Store {
         ensures ordered { AreCells result.now }
         ensures value { meaning self.now a.0 ≡ plain.Array (listed result.now) }
     {
-        match self.slot(a) {
-            Slot::Array(cells) => cells.pairs(),
-            Slot::Absent | Slot::Number(_) => unreachable!(),
+        match self.stored_value(a) {
+            StoredValue::Array(cells) => cells.pairs(),
+            StoredValue::Absent | StoredValue::Number(_) => unreachable!(),
         }
     }
 
@@ -97,7 +97,7 @@ impl Store {
         ensures value { meaning self.new ≡ put (meaning self.old) x.0 (plain.Number z) }
         ensures sorts { sorts_of self.new ≡ sorts_of self.old }
     {
-        self.slots[x.0 as usize] = Slot::Number(z);
+        self.stored[x.0 as usize] = StoredValue::Number(z);
     }
 
     /// Gives an array a new number at an index.
@@ -107,42 +107,42 @@ impl Store {
         ensures err { OnErr result (meaning self.new ≡ meaning self.old) }
         ensures sorts { sorts_of self.new ≡ sorts_of self.old }
     {
-        match &mut self.slots[a.0 as usize] {
-            Slot::Array(cells) => cells.set(i, z),
-            Slot::Absent | Slot::Number(_) => unreachable!(),
+        match &mut self.stored[a.0 as usize] {
+            StoredValue::Array(cells) => cells.set(i, z),
+            StoredValue::Absent | StoredValue::Number(_) => unreachable!(),
         }
     }
 
-    // The slot of a declared name.
-    fn slot(&self, x: Name) -> &Slot
+    // What is stored for a declared name.
+    fn stored_value(&self, x: Name) -> &StoredValue
         requires { sorts_of self.now x.0 ≢ None }
-        ensures { result.now ≡ slot_of self.now.slots.items x.0 }
+        ensures { result.now ≡ stored_value_of self.now.stored.items x.0 }
     {
-        &self.slots[x.0 as usize]
+        &self.stored[x.0 as usize]
     }
 }
 
 // A name more with 0, where it isn't declared.
-fn declare(alloc: Global, slots: &mut Vec<Slot>, x: Name, of: Sort) -> Result<(), AllocError>
-    requires { AreZero slots.old.items }
-    ensures sorts { OnOk result (Declares slots.old.items slots.new.items x.0 of) }
-    ensures zeros { OnOk result (AreZero slots.new.items) }
+fn declare(alloc: Global, stored: &mut Vec<StoredValue>, x: Name, of: Sort) -> Result<(), AllocError>
+    requires { AreZero stored.old.items }
+    ensures sorts { OnOk result (Declares stored.old.items stored.new.items x.0 of) }
+    ensures zeros { OnOk result (AreZero stored.new.items) }
 {
     let place = x.0 as usize;
-    extend(slots, place + 1)?;
-    if slots[place].is_absent() {
-        slots[place] = Slot::zero(alloc, of);
+    extend(stored, place + 1)?;
+    if stored[place].is_absent() {
+        stored[place] = StoredValue::zero(alloc, of);
     }
     Ok(())
 }
 
-// At least this many slots, where the new ones are absent.
-fn extend(slots: &mut Vec<Slot>, count: usize) -> Result<(), AllocError>
-    ensures enough { OnOk result (count ≤ vec_len slots.new) }
-    ensures same { (x : ℕ) → slot_of slots.new.items x ≡ slot_of slots.old.items x }
+// At least this many stored values, where the new ones are absent.
+fn extend(stored: &mut Vec<StoredValue>, count: usize) -> Result<(), AllocError>
+    ensures enough { OnOk result (count ≤ vec_len stored.new) }
+    ensures same { (x : ℕ) → stored_value_of stored.new.items x ≡ stored_value_of stored.old.items x }
 {
-    while slots.len() < count {
-        slots.push(Slot::Absent)?;
+    while stored.len() < count {
+        stored.push(StoredValue::Absent)?;
     }
     Ok(())
 }

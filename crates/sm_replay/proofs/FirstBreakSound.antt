@@ -7,10 +7,10 @@ use Rattle.sm_syntax.specs.declared.tree.Sort.TheVariants.{Num, Arr}
 use Rattle.sm_syntax.specs.claim.ConflictFree.{Copy, O, A, B, M}
 use Rattle.sm_syntax.specs.claim.Keeps.{Cell, Scalar, Element, content, variable}
 use Rattle.sm_syntax.specs.claim.Stores.{number, zero_value, Store}
-use Rattle.sm_eval.specs.declared.slot.Slot.{Slot}
-use Rattle.sm_eval.specs.declared.slot.Slot.TheVariants as slot
+use Rattle.sm_eval.specs.declared.stored_value.StoredValue.{StoredValue}
+use Rattle.sm_eval.specs.declared.stored_value.StoredValue.TheVariants as stored
 use Rattle.sm_eval.specs.declared.store.Store as code
-use Rattle.sm_eval.specs.Slots.{held, sort, slot_of, meaning, sorts_of}
+use Rattle.sm_eval.specs.StoredValues.{held, sort, stored_value_of, meaning, sorts_of}
 use Rattle.sm_syntax.specs.declared.copies.PerCopy.{PerCopy}
 use Rattle.sm_syntax.specs.trees.Copies.{of_copy}
 use Rattle.sm_replay.specs.declared.verdict.Verdict.{Verdict}
@@ -25,14 +25,14 @@ use Rattle.std.specs.List.{slice_get}
 use Rattle.std.proofs.Common.{List}
 
 -- a name that isn't declared has 0
-held_absent : (s : Slot) → sort s ≡ None → held s ≡ zero_value
-held_absent slot.Absent is = refl
-held_absent (slot.Number z) is = cc
-held_absent (slot.Array cells) is = cc
+held_absent : (s : StoredValue) → sort s ≡ None → held s ≡ zero_value
+held_absent stored.Absent is = refl
+held_absent (stored.Number z) is = cc
+held_absent (stored.Array cells) is = cc
 
 absent : (s : code.Store) (x : ℕ) → sorts_of s x ≡ None → meaning s x ≡ zero_value
 unfolding meaning sorts_of
-absent s x is = held_absent (slot_of s.slots.items x) is
+absent s x is = held_absent (stored_value_of s.stored.items x) is
 
 -- so Keeps holds there
 pub undeclared_kept : (e : PerCopy code.Store) (x : ℕ) → HaveSort e x None → (c : Cell) → variable c ≡ (x, Num) → KeepsAt (end_in e) c

@@ -8,7 +8,7 @@ use Rattle.sm_syntax.specs.declared.tree.Sort.{Sort}
 use Rattle.sm_syntax.specs.declared.tree.Sort.TheVariants.{Num, Arr}
 use Rattle.sm_syntax.specs.text.Sorts.{Sorts}
 use Rattle.sm_eval.specs.declared.store.Store as code
-use Rattle.sm_eval.specs.Slots.{meaning, sorts_of}
+use Rattle.sm_eval.specs.StoredValues.{meaning, sorts_of}
 use Rattle.sm_replay.specs.declared.error.InputError.{InputError}
 use Rattle.sm_replay.specs.declared.error.InputError.TheVariants.{BadJson, NotObject, UnknownKey, BadValue, BadIndex, Memory}
 use Rattle.sm_replay.specs.Input.{Texts, name_of, declared_name, missing, cells_fault, array_fault, value_fault, members_fault, input_fault, store_of, IsJson, Reads, reported}

@@ -21,10 +21,10 @@ use Rattle.sm_syntax.specs.declared.tree.Sort.TheVariants.{Num, Arr}
 use Rattle.sm_syntax.specs.text.Sorts.{Sorts}
 use Rattle.sm_syntax.specs.claim.Stores.{Value, Number, Array, zero_value, Store}
 use Rattle.sm_eval.specs.Cells.{listed}
-use Rattle.sm_eval.specs.Slots as slots
-use Rattle.sm_eval.specs.Slots.{meaning, sorts_of}
-use Rattle.sm_eval.specs.declared.slot.Slot.{Slot}
-use Rattle.sm_eval.specs.declared.slot.Slot.TheVariants as slot
+use Rattle.sm_eval.specs.StoredValues as stored_values
+use Rattle.sm_eval.specs.StoredValues.{meaning, sorts_of}
+use Rattle.sm_eval.specs.declared.stored_value.StoredValue.{StoredValue}
+use Rattle.sm_eval.specs.declared.stored_value.StoredValue.TheVariants as stored
 use Rattle.sm_eval.specs.declared.store.Store as code
 use Rattle.sm_replay.specs.declared.error.InputError.{InputError}
 use Rattle.sm_replay.specs.declared.error.InputError.TheVariants.{BadValue, BadIndex}
@@ -126,14 +126,14 @@ IsOfSort (Some Num) v = (z : ℤ) × (v ≡ Number z)
 IsOfSort (Some Arr) v = (f : ℤ → ℤ) × (v ≡ Array f)
 
 -- a name's value is of its sort
-held_sort : (s : Slot) → IsOfSort (slots.sort s) (slots.held s)
-held_sort slot.Absent = refl
-held_sort (slot.Number z) = (z, refl)
-held_sort (slot.Array cells) = (listed cells, refl)
+held_sort : (s : StoredValue) → IsOfSort (stored_values.sort s) (stored_values.held s)
+held_sort stored.Absent = refl
+held_sort (stored.Number z) = (z, refl)
+held_sort (stored.Array cells) = (listed cells, refl)
 
 meaning_sort : (s : code.Store) (x : ℕ) → IsOfSort (sorts_of s x) (meaning s x)
 unfolding meaning sorts_of
-meaning_sort s x = held_sort (slots.slot_of s.slots.items x)
+meaning_sort s x = held_sort (stored_values.stored_value_of s.stored.items x)
 
 -- a written value has no fault
 value_faultless : (x : ℕ) (sort : Sort) (v : Value) (d : Data) → IsOfSort (Some sort) v → IsInside v → IsWrittenAs v d → value_fault (Some (x, sort)) d ≡ None

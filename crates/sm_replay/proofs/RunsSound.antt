@@ -10,7 +10,7 @@ use Rattle.sm_syntax.specs.claim.Syntax.{Code}
 use Rattle.sm_eval.specs.declared.error.EvalError.{EvalError}
 use Rattle.sm_eval.specs.declared.error.EvalError.TheVariants as eval
 use Rattle.sm_eval.specs.declared.store.Store as code
-use Rattle.sm_eval.specs.Slots.{sorts_of}
+use Rattle.sm_eval.specs.StoredValues.{sorts_of}
 use Rattle.sm_replay.specs.declared.error.ReplayError.{ReplayError}
 use Rattle.sm_replay.specs.declared.error.ReplayError.TheVariants as stop
 use Rattle.sm_replay.specs.declared.verdict.Verdict.{Verdict}

@@ -16,10 +16,10 @@ use Rattle.sm_syntax.specs.text.Parts.{sort_of}
 use Rattle.sm_syntax.specs.text.Sorts.{Sorts}
 use Rattle.sm_syntax.specs.claim.Stores.{Value, Array, array, Store, put}
 use Rattle.sm_syntax.proofs.Puts.{put_at, put_past}
-use Rattle.sm_eval.specs.declared.slot.Slot.{Slot}
-use Rattle.sm_eval.specs.declared.slot.Slot.TheVariants as slot
+use Rattle.sm_eval.specs.declared.stored_value.StoredValue.{StoredValue}
+use Rattle.sm_eval.specs.declared.stored_value.StoredValue.TheVariants as stored
 use Rattle.sm_eval.specs.declared.store.Store as code
-use Rattle.sm_eval.specs.Slots.{held, sort, slot_of, meaning, sorts_of, with_cell}
+use Rattle.sm_eval.specs.StoredValues.{held, sort, stored_value_of, meaning, sorts_of, with_cell}
 use Rattle.sm_replay.specs.Updates.{GivesValue, Lists, Overrides}
 
 -- a name has its value, or else 0 and is still declared in the rest
@@ -81,15 +81,15 @@ put_gives start v x old new is = record {
   others = λ (y : ℕ) (other : y ≢ x). ap (λ (t : Store). t y) is ∙ put_past old x v y other;
 }
 
--- the slot of an array has an array
-held_array : (s : Slot) → sort s ≡ Some Arr → held s ≡ Array (array (held s))
-held_array slot.Absent is = cc
-held_array (slot.Number z) is = cc
-held_array (slot.Array cells) is = refl
+-- what is stored for an array is an array
+held_array : (s : StoredValue) → sort s ≡ Some Arr → held s ≡ Array (array (held s))
+held_array stored.Absent is = cc
+held_array (stored.Number z) is = cc
+held_array (stored.Array cells) is = refl
 
 pub array_of : (s : code.Store) (a : ℕ) → sorts_of s a ≡ Some Arr → meaning s a ≡ Array (array (meaning s a))
 unfolding meaning sorts_of
-array_of s a is = held_array (slot_of s.slots.items a) is
+array_of s a is = held_array (stored_value_of s.stored.items a) is
 
 -- what is given twice is given once
 given_twice : (o : Option ℤ) (z : ℤ) → unwrap_or o (unwrap_or o z) ≡ unwrap_or o z

@@ -14,7 +14,7 @@ use Rattle.sm_syntax.specs.text.Sorts.{Sorts}
 use Rattle.sm_syntax.specs.claim.Stores.{Value, Number, Array, zero_value, Store}
 use Rattle.sm_num.specs.Range.{fits}
 use Rattle.sm_eval.specs.declared.store.Store as code
-use Rattle.sm_eval.specs.Slots.{meaning, sorts_of}
+use Rattle.sm_eval.specs.StoredValues.{meaning, sorts_of}
 use Rattle.sm_replay.specs.declared.error.InputError.{InputError}
 use Rattle.sm_replay.specs.declared.error.InputError.TheVariants.{BadJson, NotObject, UnknownKey, BadValue, BadIndex, Memory}
 use Rattle.sm_replay.specs.Number.{number_of_text, json_number}

@@ -8,7 +8,7 @@ use Rattle.sm_syntax.specs.text.Parts.{Parts, sort_of}
 use Rattle.sm_syntax.specs.text.Sorts.{Sorts}
 use Rattle.sm_syntax.specs.text.Spells.{Spells}
 use Rattle.sm_syntax.specs.claim.Stores.{Store}
-use Rattle.sm_eval.specs.Slots.{meaning, sorts_of}
+use Rattle.sm_eval.specs.StoredValues.{meaning, sorts_of}
 use Rattle.sm_eval.specs.declared.store.Store as code
 use Rattle.sm_replay.specs.declared.error.InputError.{InputError}
 use Rattle.sm_replay.specs.declared.error.InputError.TheVariants as no_input

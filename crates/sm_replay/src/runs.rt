@@ -1,7 +1,7 @@
 // Runs of the four programs from one store, and their ends.
 ghost use Rattle.std.specs.Prelude.{◌≡◌, Some, None, IfOk, IfErr};
 ghost use Rattle.sm_eval.specs.Events.{event};
-ghost use Rattle.sm_eval.specs.Slots.{meaning, sorts_of};
+ghost use Rattle.sm_eval.specs.StoredValues.{meaning, sorts_of};
 ghost use Rattle.sm_syntax.specs.claim.ConflictFree.{Copy};
 ghost use Rattle.sm_syntax.specs.trees.Copies.{copy_named};
 ghost use Rattle.sm_syntax.specs.claim.Meaning.{run};

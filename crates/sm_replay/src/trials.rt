@@ -1,6 +1,6 @@
 // The trials.
 ghost use Rattle.std.specs.Prelude.{◌≡◌, ◌+◌, ◌<◌, ◌^◌, pos, ◌-ℤ◌, Some, IfOk, OnOk};
-ghost use Rattle.sm_eval.specs.Slots.{meaning, sorts_of};
+ghost use Rattle.sm_eval.specs.StoredValues.{meaning, sorts_of};
 ghost use Rattle.sm_eval.specs.Zeros.{zero_of};
 ghost use Rattle.sm_syntax.specs.text.Parts.{sort_of};
 ghost use Rattle.sm_syntax.specs.trees.Programs.{declared_of};

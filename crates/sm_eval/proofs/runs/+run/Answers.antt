@@ -12,7 +12,7 @@ use Rattle.sm_syntax.proofs.Statements.{statement_of-Assign, statement_of-While}
 use Rattle.sm_eval.specs.declared.error.EvalError.{EvalError}
 use Rattle.sm_eval.specs.declared.error.EvalError.TheVariants.{Memory}
 use Rattle.sm_eval.specs.Events.{event}
-use Rattle.sm_eval.specs.Slots.{meaning, sorts_of}
+use Rattle.sm_eval.specs.StoredValues.{meaning, sorts_of}
 use Rattle.sm_eval.proofs.Numbers.{sorted_number}
 use Rattle.sm_eval.proofs.Turns.{answered, turns_event-turn, turns-turn}
 use Rattle.sm_eval.proofs.runs.+run.Goals as goal

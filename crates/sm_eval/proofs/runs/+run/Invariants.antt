@@ -6,7 +6,7 @@ use Rattle.sm_syntax.specs.text.Sorts.{IsWellSorted}
 use Rattle.sm_syntax.specs.claim.Syntax.{End}
 use Rattle.sm_syntax.specs.trees.Views.{condition_of, sequence, statement_of, code_of}
 use Rattle.sm_eval.specs.Events.{turns_event, event}
-use Rattle.sm_eval.specs.Slots.{meaning, sorts_of}
+use Rattle.sm_eval.specs.StoredValues.{meaning, sorts_of}
 use Rattle.sm_eval.proofs.runs.+run.Given as goal
 
 abbrev pub decreases-run_block : goal.decreases-run_block

@@ -5,7 +5,7 @@ use Rattle.sm_syntax.specs.declared.tree.Name.{Name}
 use Rattle.sm_syntax.specs.declared.tree.Sort.{Sort}
 use Rattle.sm_syntax.specs.declared.tree.Sort.TheVariants.{Num}
 use Rattle.sm_syntax.specs.claim.Keeps.{Cell, variable}
-use Rattle.sm_eval.specs.Slots.{sorts_of}
+use Rattle.sm_eval.specs.StoredValues.{sorts_of}
 use Rattle.sm_replay.specs.Runs.{end_in}
 use Rattle.sm_replay.specs.FirstBreak.{sorted_by, NamesBreak}
 use Rattle.sm_replay.proofs.FirstBreakSound.{found_at}

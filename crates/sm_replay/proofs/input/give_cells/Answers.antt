@@ -3,7 +3,7 @@ use Rattle.std.proofs.Common.{◌≡◌, ℤ, Option, pos, get_or, to_z, of_z, r
 use Rattle.std.specs.Int.{w128}
 use Rattle.serde_json.specs.Data.{object}
 use Rattle.serde_json.specs.View.{members_view}
-use Rattle.sm_eval.specs.Slots.{meaning, with_cell}
+use Rattle.sm_eval.specs.StoredValues.{meaning, with_cell}
 use Rattle.sm_replay.specs.Updates.{Lists}
 use Rattle.sm_replay.specs.Input.{elements}
 use Rattle.sm_replay.proofs.UpdatesSound.{cell_turn, none_overridden, all_overridden}

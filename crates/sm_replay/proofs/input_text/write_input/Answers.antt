@@ -4,7 +4,7 @@ use Rattle.std.proofs.lemmas.Result.{IfOk-weaker}
 use Rattle.serde_json.specs.View.{members_view}
 use Rattle.serde_json.specs.Written.{compact_text, has_float}
 use Rattle.serde_json.proofs.Views.{view-Object}
-use Rattle.sm_eval.specs.Slots.{meaning}
+use Rattle.sm_eval.specs.StoredValues.{meaning}
 use Rattle.sm_syntax.specs.text.Parts.{sort_of}
 use Rattle.sm_syntax.specs.trees.Programs.{declared_of}
 use Rattle.sm_replay.proofs.InputTextSound.{both_ok, json_of}

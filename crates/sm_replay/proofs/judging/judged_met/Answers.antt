@@ -7,7 +7,7 @@ use Rattle.sm_syntax.specs.trees.Programs.{declared_of}
 use Rattle.sm_syntax.specs.text.Sorts.{Sorts}
 use Rattle.sm_syntax.specs.claim.Syntax.{Code}
 use Rattle.sm_task.specs.Tasks.{parts_of}
-use Rattle.sm_eval.specs.Slots.{meaning, sorts_of}
+use Rattle.sm_eval.specs.StoredValues.{meaning, sorts_of}
 use Rattle.sm_replay.specs.Runs.{end_in}
 use Rattle.sm_replay.specs.FirstBreak.{sorted_by, Finds}
 use Rattle.sm_replay.specs.Violations.{AreEnds}

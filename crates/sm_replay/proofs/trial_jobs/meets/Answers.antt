@@ -1,6 +1,6 @@
 -- The assumption may be computed.
 use Rattle.sm_task.specs.Tasks.{parts_of}
-use Rattle.sm_eval.specs.Slots.{sorts_of}
+use Rattle.sm_eval.specs.StoredValues.{sorts_of}
 use Rattle.sm_replay.proofs.RunnableTasks.{assumes}
 use Rattle.sm_replay.proofs.trial_jobs.meets.Goals as goal
 

@@ -6,7 +6,7 @@ use Rattle.sm_syntax.specs.text.Parts.{sort_of}
 use Rattle.sm_syntax.specs.trees.Programs.{declared_of}
 use Rattle.sm_syntax.specs.text.Sorts.{Sorts}
 use Rattle.sm_syntax.specs.claim.Stores.{Store}
-use Rattle.sm_eval.specs.Slots.{meaning}
+use Rattle.sm_eval.specs.StoredValues.{meaning}
 use Rattle.sm_eval.specs.Zeros.{zero_of}
 use Rattle.sm_replay.specs.Trials.{trial, value_in_trial}
 use Rattle.sm_replay.proofs.UpdatesSound.{Filling, numbered, end_filled}

@@ -1,4 +1,4 @@
--- The sorts of the slots, and after them those of what is left, are those of the declarations; each slot has 0.
+-- The sorts of the stored values, and after them those of what is left, are those of the declarations; each stored value has 0.
 use Rattle.std.proofs.Common.{◌≡◌, ℕ, drop}
 use Rattle.sm_syntax.specs.text.Parts.{sort_of}
 use Rattle.sm_syntax.specs.trees.Programs.{declared_of}
@@ -8,6 +8,6 @@ use Rattle.sm_eval.proofs.store.Store.zero.Given as goal
 
 abbrev pub invariant-loop-d : goal.invariant-loop-d
 invariant-loop-d l = record {
-  zero : AreZero l.slots.items;
-  declared : (x : ℕ) → sort_of (declared_of l.decls) x ≡ sorts_after l.slots.items (drop l.d-index l.d-items) x;
+  zero : AreZero l.stored.items;
+  declared : (x : ℕ) → sort_of (declared_of l.decls) x ≡ sorts_after l.stored.items (drop l.d-index l.d-items) x;
 }

@@ -1,6 +1,6 @@
 // What a store has for a name.
 ghost use Rattle.std.specs.Prelude.{◌≡◌, Some, IfOk, is_none};
-ghost use Rattle.sm_eval.specs.Slots.{held, sort};
+ghost use Rattle.sm_eval.specs.StoredValues.{held, sort};
 ghost use Rattle.sm_eval.specs.Zeros.{zero_of};
 
 use crate::cells::Cells;
@@ -9,32 +9,32 @@ use std::alloc::{AllocError, Global};
 
 /// What a store has for a name: nothing where it isn't declared.
 #[derive(Debug, Drop)]
-pub enum Slot {
+pub enum StoredValue {
     Absent,
     Number(i128),
     Array(Cells),
 }
 
-impl Slot {
-    /// The slot of a name with 0.
-    pub fn zero(alloc: Global, of: Sort) -> Slot
+impl StoredValue {
+    /// The stored value 0 of a sort.
+    pub fn zero(alloc: Global, of: Sort) -> StoredValue
         ensures sort { sort result ≡ Some of }
         ensures value { held result ≡ zero_of (Some of) }
     {
         match of {
-            Sort::Num => Slot::Number(0),
-            Sort::Arr => Slot::Array(Cells::new(alloc)),
+            Sort::Num => StoredValue::Number(0),
+            Sort::Arr => StoredValue::Array(Cells::new(alloc)),
         }
     }
 
-    /// A slot with the same value.
-    pub fn copy(&self, alloc: Global) -> Result<Slot, AllocError>
-        ensures { IfOk result (λ slot. slot ≡ self.now) }
+    /// An equal stored value.
+    pub fn copy(&self, alloc: Global) -> Result<StoredValue, AllocError>
+        ensures { IfOk result (λ value. value ≡ self.now) }
     {
         match self {
-            Slot::Absent => Ok(Slot::Absent),
-            Slot::Number(z) => Ok(Slot::Number(*z)),
-            Slot::Array(cells) => Ok(Slot::Array(cells.copy(alloc)?)),
+            StoredValue::Absent => Ok(StoredValue::Absent),
+            StoredValue::Number(z) => Ok(StoredValue::Number(*z)),
+            StoredValue::Array(cells) => Ok(StoredValue::Array(cells.copy(alloc)?)),
         }
     }
 
@@ -43,9 +43,9 @@ impl Slot {
         ensures { result ≡ sort self.now }
     {
         match self {
-            Slot::Absent => None,
-            Slot::Number(_) => Some(Sort::Num),
-            Slot::Array(_) => Some(Sort::Arr),
+            StoredValue::Absent => None,
+            StoredValue::Number(_) => Some(Sort::Num),
+            StoredValue::Array(_) => Some(Sort::Arr),
         }
     }
 
@@ -53,6 +53,6 @@ impl Slot {
     pub fn is_absent(&self) -> bool
         ensures { result ≡ is_none (sort self.now) }
     {
-        matches!(self, Slot::Absent)
+        matches!(self, StoredValue::Absent)
     }
 }

@@ -5,42 +5,42 @@ use Rattle.sm_syntax.specs.declared.tree.Sort.{Sort}
 use Rattle.sm_syntax.specs.declared.tree.Sort.TheVariants.{Num, Arr}
 use Rattle.sm_syntax.specs.claim.Stores as plain
 use Rattle.sm_syntax.specs.text.Sorts.{Sorts}
-use Rattle.sm_eval.specs.declared.slot.Slot.{Slot}
-use Rattle.sm_eval.specs.declared.slot.Slot.TheVariants.{Absent, Number, Array}
+use Rattle.sm_eval.specs.declared.stored_value.StoredValue.{StoredValue}
+use Rattle.sm_eval.specs.declared.stored_value.StoredValue.TheVariants.{Absent, Number, Array}
 use Rattle.sm_eval.specs.declared.store.Store.{Store}
 use Rattle.sm_eval.specs.Cells.{listed}
 
--- the value that a slot holds
-abbrev pub held : Slot → plain.Value
+-- the value that is stored
+abbrev pub held : StoredValue → plain.Value
 held Absent = plain.zero_value
 held (Number z) = plain.Number z
 held (Array cells) = plain.Array (listed cells)
 
--- the sort of a slot's name, none where the name isn't declared
-abbrev pub sort : Slot → Option Sort
+-- the sort of its name, none where the name isn't declared
+abbrev pub sort : StoredValue → Option Sort
 sort Absent = None
 sort (Number z) = Some Num
 sort (Array cells) = Some Arr
 
--- the slot of a name, which stands at its number
-abbrev pub slot_of : List Slot → ℕ → Slot
-slot_of slots x = slice_index_or slots x Absent
+-- what is stored for a name, at the name's number
+abbrev pub stored_value_of : List StoredValue → ℕ → StoredValue
+stored_value_of stored x = slice_index_or stored x Absent
 
--- the store that slots stand for
-abbrev pub values : List Slot → plain.Store
-values slots x = held (slot_of slots x)
+-- the store that stored values stand for
+abbrev pub values : List StoredValue → plain.Store
+values stored x = held (stored_value_of stored x)
 
--- the sorts of the names of slots
-abbrev pub sorts : List Slot → Sorts
-sorts slots x = sort (slot_of slots x)
+-- the sorts of the names of stored values
+abbrev pub sorts : List StoredValue → Sorts
+sorts stored x = sort (stored_value_of stored x)
 
 -- the store that a program's store stands for
 unfoldable pub meaning : Store → plain.Store
-meaning s = values s.slots.items
+meaning s = values s.stored.items
 
 -- the sorts of its names
 unfoldable pub sorts_of : Store → Sorts
-sorts_of s = sorts s.slots.items
+sorts_of s = sorts s.stored.items
 
 -- the store with a new number at an index of an array
 abbrev pub with_cell : plain.Store → ℕ → ℤ → ℤ → plain.Store
