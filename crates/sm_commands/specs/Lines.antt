@@ -4,7 +4,9 @@ use Rattle.std.specs.Prelude.{◌++◌, unwrap_or, slice_get, codes, decimal}
 use Rattle.std.specs.Fmt.{signed_decimal}
 use Rattle.sm_num.specs.declared.op.Op.{Op}
 use Rattle.sm_num.specs.declared.op.Op.TheVariants.{Add, Sub, Mul}
+use Rattle.sm_syntax.specs.claim.ConflictFree.{copy_of}
 use Rattle.sm_syntax.specs.declared.tree.Name.{Name}
+use Rattle.sm_syntax.specs.trees.Copies.{letter_of}
 use Rattle.sm_task.specs.declared.error.TaskError.{TaskError}
 use Rattle.sm_task.specs.declared.error.TaskError.TheVariants.{BadByte, WideNumber, BadToken}
 use Rattle.sm_task.specs.declared.error.TaskError.TheVariants.{Expected, Nested, MissingFilling}
@@ -102,13 +104,6 @@ trial_line names j x i clause =
 abbrev pub input_line : List ℕ → List ℕ
 input_line input = codes "input " ++ (input ++ codes "\n")
 
--- the letter of a copy by its number
-abbrev pub copy_letter : ℕ → List ℕ
-copy_letter zero = codes "O"
-copy_letter (suc zero) = codes "A"
-copy_letter (suc (suc zero)) = codes "B"
-copy_letter (suc (suc (suc n))) = codes "M"
-
 -- the word for an operation
 abbrev pub op_word : Op → List ℕ
 op_word Add = codes "add"
@@ -128,8 +123,8 @@ verdict_line names (Ok (Violates x i clause)) =
     line_of (codes "Conflict")
     (codes "cell" ∷ cell_text names x i ∷ codes "clause" ∷ decimal clause ∷ [])
 verdict_line names (Err (stop.OutOfTurns copy)) =
-    line_of (codes "OutOfTurns") (copy_letter copy ∷ [])
-verdict_line names (Err (stop.Beyond copy op a b)) = beyond_line (copy_letter copy) op a b
+    line_of (codes "OutOfTurns") (letter_of (copy_of copy) ∷ [])
+verdict_line names (Err (stop.Beyond copy op a b)) = beyond_line (letter_of (copy_of copy)) op a b
 verdict_line names (Err (stop.BeyondAssumed op a b)) = beyond_line (codes "assume") op a b
 verdict_line names (Err stop.Memory) = []
 

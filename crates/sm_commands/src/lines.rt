@@ -2,17 +2,19 @@
 ghost use Rattle.std.specs.Prelude.{◌≡◌, ◌≢◌, [], ◌∷◌, ◌++◌, Err, map, codes, decimal, IfOk, OnOk};
 ghost use Rattle.std.specs.Fmt.{signed_decimal};
 ghost use Rattle.std.specs.String.{string_bytes};
+ghost use Rattle.sm_syntax.specs.claim.ConflictFree.{copy_of};
+ghost use Rattle.sm_syntax.specs.trees.Copies.{letter_of};
 ghost use Rattle.sm_commands.specs.Lines.{line_of, name_text, list_word};
 ghost use Rattle.sm_commands.specs.Lines.{line_at_hole, line_at_place};
 ghost use Rattle.sm_commands.specs.Lines.{refusal_line, decision_line, cell_text, input_line};
-ghost use Rattle.sm_commands.specs.Lines.{trial_line, copy_letter, op_word, verdict_line};
+ghost use Rattle.sm_commands.specs.Lines.{trial_line, op_word, verdict_line};
 ghost use Rattle.sm_commands.specs.Lines.{line_at_name, input_refusal_line};
 
 use crate::copies::Decision;
 use itoa::Buffer;
 use sm_num::Op;
 use sm_replay::{InputError, ReplayError, Verdict};
-use sm_syntax::{Name, NameTable};
+use sm_syntax::{CopyName, Name, NameTable};
 use sm_task::TaskError;
 use std::alloc::{AllocError, Global};
 
@@ -210,15 +212,11 @@ fn violation_line(
     )
 }
 
-fn copy_letter(copy: u8) -> &'static str
-    ensures { result.now ≡ copy_letter copy }
+// The letter of a copy, by its number.
+fn letter(copy: u8) -> &'static str
+    ensures { result.now ≡ letter_of (copy_of copy) }
 {
-    match copy {
-        0 => "O",
-        1 => "A",
-        2 => "B",
-        _ => "M",
-    }
+    CopyName::of_number(copy).letter()
 }
 
 fn op_word(op: Op) -> &'static str
@@ -270,9 +268,9 @@ pub fn verdict_line(
                 clause,
             },
         ) => violation_line(alloc, names, name, index, clause),
-        Err(ReplayError::OutOfTurns { copy }) => line(alloc, "OutOfTurns", &[copy_letter(copy)]),
+        Err(ReplayError::OutOfTurns { copy }) => line(alloc, "OutOfTurns", &[letter(copy)]),
         Err(ReplayError::Beyond { copy, op, a, b }) => {
-            beyond_line(alloc, copy_letter(copy), op_word(op), a, b)
+            beyond_line(alloc, letter(copy), op_word(op), a, b)
         }
         Err(ReplayError::BeyondAssumed { op, a, b }) => {
             beyond_line(alloc, "assume", op_word(op), a, b)

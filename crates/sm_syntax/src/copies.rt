@@ -1,5 +1,5 @@
 // The four copies, and one of something for each.
-ghost use Rattle.std.specs.Prelude.{◌≡◌, ◌<◌};
+ghost use Rattle.std.specs.Prelude.{◌≡◌};
 ghost use Rattle.sm_syntax.specs.claim.ConflictFree.{copy_of};
 ghost use Rattle.sm_syntax.specs.trees.Copies.{copy_named, letter_of, number_of, of_copy};
 
@@ -13,9 +13,9 @@ pub enum CopyName {
 }
 
 impl CopyName {
-    /// The copy with a number, from 0 for the base to 3 for the candidate.
+    /// The copy with a number: 0 for the base, 1 and 2 for the variants, and 3, or any greater one,
+    /// for the candidate.
     pub fn of_number(number: u8) -> CopyName
-        requires { number < 4 }
         ensures { copy_named result ≡ copy_of number }
     {
         match number {
