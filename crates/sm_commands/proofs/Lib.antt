@@ -5,4 +5,5 @@ pub mod Digits
 pub mod Asking
 pub mod Usage
 pub mod Answering
+pub mod ConflictSound
 pub mod AnswerUnique

@@ -1,6 +1,7 @@
 use Rattle.std.proofs.Common.{map, rules}
 use Rattle.std.specs.String.{string_bytes}
-use Rattle.sm_commands.proofs.Answering.{accepts, conflicts, replays_shown, shows, sound}
+use Rattle.sm_commands.proofs.Answering.{accepts, sound}
+use Rattle.sm_commands.proofs.ConflictSound.{conflicts, shows, replays_shown}
 use Rattle.sm_commands.proofs.top.safemerge.Goals as goal
 
 pub returns-in-Ok-clause-accepted : goal.returns-in-Ok-clause-accepted
