@@ -86,12 +86,14 @@ no_bytes_same kind file b n c m s u t v no_fault nor_later (inr f) (inr g) = say
 
 -- bytes are refused in one way
 no_task_same : (xs : List ℕ) (s u : Status) (t v : List ℕ) → IsNoTask xs s t → IsNoTask xs u v → Same s t u v
-no_task_same xs s u t v f g = says_same refl (ap (refusal_line (names_of xs)) (one_refusal xs f.error g.error f.first g.first)) f.says g.says
+no_task_same xs s u t v f g =
+    says_same refl (ap (refusal_line (names_of xs)) (one_refusal xs f.error g.error f.first g.first)) f.says g.says
 
 -- a file gives no task in one way
 refused_same : (file : Known) (b n c m : ℕ) (s u : Status) (t v : List ℕ) → file ≢ untold → (¬ Rose b n) → (¬ Rose c m)
     → GivesNoTask file b n s t → GivesNoTask file c m u v → Same s t u v
-refused_same file b n c m s u t v told no_fault nor_later (inl f) (inl g) = no_bytes_same (codes "task") file b n c m s u t v no_fault nor_later f g
+refused_same file b n c m s u t v told no_fault nor_later (inl f) (inl g) =
+    no_bytes_same (codes "task") file b n c m s u t v no_fault nor_later f g
 refused_same file b n c m s u t v told no_fault nor_later (inl f) (inr g) =
     absurd (bytes_or_none (codes "task") file c m b n g.bytes s t told no_fault g.read f)
 refused_same file b n c m s u t v told no_fault nor_later (inr f) (inl g) =
@@ -161,9 +163,12 @@ check_same t turns s u l m (inr a) (inr b) =
 
 checks_same : (file : Known) (turns b n c m : ℕ) (s u : Status) (t v : List ℕ) → file ≢ untold → (¬ Rose b n) → (¬ Rose c m)
     → Checks file turns b n s t → Checks file turns c m u v → Same s t u v
-checks_same file turns b n c m s u t v told no_fault nor_later (inl f) (inl g) = refused_same file b n c m s u t v told no_fault nor_later f g
-checks_same file turns b n c m s u t v told no_fault nor_later (inl f) (inr g) = absurd (task_or_none file c m b n g.task s t told no_fault g.gives f)
-checks_same file turns b n c m s u t v told no_fault nor_later (inr f) (inl g) = absurd (task_or_none file b n c m f.task u v told nor_later f.gives g)
+checks_same file turns b n c m s u t v told no_fault nor_later (inl f) (inl g) =
+    refused_same file b n c m s u t v told no_fault nor_later f g
+checks_same file turns b n c m s u t v told no_fault nor_later (inl f) (inr g) =
+    absurd (task_or_none file c m b n g.task s t told no_fault g.gives f)
+checks_same file turns b n c m s u t v told no_fault nor_later (inr f) (inl g) =
+    absurd (task_or_none file b n c m f.task u v told nor_later f.gives g)
 checks_same file turns b n c m s u t v told no_fault nor_later (inr f) (inr g) =
     check_same g.task turns s u t v
     (subst (λ (p : Parts). AnswersCheck p turns s t) (task_same file b n c m f.task g.task told f.gives g.gives) f.answers) g.answers
@@ -173,10 +178,13 @@ checks_same file turns b n c m s u t v told no_fault nor_later (inr f) (inr g) =
 prints_same : (file : Known) (b n c m : ℕ) (s u : Status) (t v : List ℕ) → file ≢ untold → (¬ Rose b n) → (¬ Rose c m)
     → Prints file b n s t → Prints file c m u v → Same s t u v
 prints_same file b n c m s u t v told no_fault nor_later (inl f) (inl g) = refused_same file b n c m s u t v told no_fault nor_later f g
-prints_same file b n c m s u t v told no_fault nor_later (inl f) (inr g) = absurd (task_or_none file c m b n g.task s t told no_fault g.gives f)
-prints_same file b n c m s u t v told no_fault nor_later (inr f) (inl g) = absurd (task_or_none file b n c m f.task u v told nor_later f.gives g)
+prints_same file b n c m s u t v told no_fault nor_later (inl f) (inr g) =
+    absurd (task_or_none file c m b n g.task s t told no_fault g.gives f)
+prints_same file b n c m s u t v told no_fault nor_later (inr f) (inl g) =
+    absurd (task_or_none file b n c m f.task u v told nor_later f.gives g)
 prints_same file b n c m s u t v told no_fault nor_later (inr f) (inr g) =
-    says_same refl (ap (λ (p : Parts). pieces_text p.names (task_pieces p)) (task_same file b n c m f.task g.task told f.gives g.gives)) f.says
+    says_same refl (ap (λ (p : Parts). pieces_text p.names (task_pieces p)) (task_same file b n c m f.task g.task told f.gives g.gives))
+    f.says
     g.says
 
 -- ---- replay
@@ -222,7 +230,8 @@ refused_input_same t file b n c m s u l k told no_fault nor_later (inr f) (inr g
 -- a file doesn't both give an input and none
 input_or_none : (t : Parts) (file : Known) (b n c m : ℕ) (store : code.Store) (s : Status) (l : List ℕ) → file ≢ untold → (¬ Rose c m)
     → GivesInput t file b n store → GivesNoInput t file c m s l → ⊥
-input_or_none t file b n c m store s l told no_fault g (inl f) = bytes_or_none (codes "input") file b n c m g.bytes s l told no_fault g.read f
+input_or_none t file b n c m store s l told no_fault g (inl f) =
+    bytes_or_none (codes "input") file b n c m g.bytes s l told no_fault g.read f
 input_or_none t file b n c m store s l told no_fault g (inr f) =
     store_or_none t f.bytes store f.refuses.error f.refuses.cause
     (subst (λ (xs : List ℕ). IsInput t.names (sort_of t.declared) xs store)
@@ -237,7 +246,8 @@ verdict_same t store turns s u l m a b =
 
 input_same : (t : Parts) (file : Known) (turns b n c m : ℕ) (s u : Status) (l k : List ℕ) → file ≢ untold → (¬ Rose b n) → (¬ Rose c m)
     → ReplaysInput t file turns b n s l → ReplaysInput t file turns c m u k → Same s l u k
-input_same t file turns b n c m s u l k told no_fault nor_later (inl f) (inl g) = refused_input_same t file b n c m s u l k told no_fault nor_later f g
+input_same t file turns b n c m s u l k told no_fault nor_later (inl f) (inl g) =
+    refused_input_same t file b n c m s u l k told no_fault nor_later f g
 input_same t file turns b n c m s u l k told no_fault nor_later (inl f) (inr g) =
     absurd (input_or_none t file c m b n g.store s l told no_fault g.gives f)
 input_same t file turns b n c m s u l k told no_fault nor_later (inr f) (inl g) =
@@ -251,7 +261,8 @@ input_same t file turns b n c m s u l k told no_fault nor_later (inr f) (inr g) 
 
 replays_same : (file input : Known) (turns b n c m : ℕ) (s u : Status) (l k : List ℕ) → file ≢ untold → input ≢ untold → (¬ Rose b n)
     → (¬ Rose c m) → Replays file input turns b n s l → Replays file input turns c m u k → Same s l u k
-replays_same file input turns b n c m s u l k told given no_fault nor_later (inl f) (inl g) = refused_same file b n c m s u l k told no_fault nor_later f g
+replays_same file input turns b n c m s u l k told given no_fault nor_later (inl f) (inl g) =
+    refused_same file b n c m s u l k told no_fault nor_later f g
 replays_same file input turns b n c m s u l k told given no_fault nor_later (inl f) (inr g) =
     absurd (task_or_none file c g.between b n g.task s l told no_fault g.gives f)
 replays_same file input turns b n c m s u l k told given no_fault nor_later (inr f) (inl g) =
@@ -270,12 +281,14 @@ command_same (check task turns workers) files b n c m s u l k told no_fault nor_
     checks_same (files task) turns b n c m s u l k (told task) no_fault nor_later x y
 command_same (replay task input turns) files b n c m s u l k told no_fault nor_later x y =
     replays_same (files task) (files input) turns b n c m s u l k (told task) (told input) no_fault nor_later x y
-command_same (print task) files b n c m s u l k told no_fault nor_later x y = prints_same (files task) b n c m s u l k (told task) no_fault nor_later x y
+command_same (print task) files b n c m s u l k told no_fault nor_later x y =
+    prints_same (files task) b n c m s u l k (told task) no_fault nor_later x y
 
 request_same : (ask : Option Asked) (words : Words) (files : Files) (b n c m : ℕ) (s u : Status) (l k : List ℕ) → AreTold files
     → (¬ Rose b n) → (¬ Rose c m) → AnswersRequest ask words files b n s l → AnswersRequest ask words files c m u k → Same s l u k
 request_same None words files b n c m s u l k told no_fault nor_later x y = says_same refl refl x.says y.says
-request_same (Some ask) words files b n c m s u l k told no_fault nor_later x y = command_same ask files b n c m s u l k told no_fault nor_later x y
+request_same (Some ask) words files b n c m s u l k told no_fault nor_later x y =
+    command_same ask files b n c m s u l k told no_fault nor_later x y
 
 pub answer_one : OneAnswer
 answer_one words files before now earlier later status other line text told no_fault x nor_later y =

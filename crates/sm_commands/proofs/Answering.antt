@@ -1,5 +1,6 @@
 -- What answers say: which statuses they have, and what Accepted of `check` promises.
-use Rattle.std.proofs.Common.{◌≡◌, ◌≢◌, inl, inr, ℕ, ℤ, ◌++◌, List, Option, Some, None, Result, Ok, Err, IfOk, IfErr, refl, sym, subst, ◌∙◌, ap}
+use Rattle.std.proofs.Common.{◌≡◌, ◌≢◌, inl, inr, ℕ, ℤ, ◌++◌, List, Option, Some, None, Result, Ok, Err, IfOk, IfErr, refl, sym, subst, ◌∙◌}
+use Rattle.std.proofs.Common.{ap}
 use Rattle.std.specs.declared.alloc.AllocError.{AllocError}
 use Rattle.sm_io.specs.Files.{Known, WhereHeld}
 use Rattle.sm_replay.specs.Trials.{trial, IsFirstViolation, IsLeast}
@@ -257,7 +258,13 @@ pub decision_shown : (t : Parts) (turns : ℕ) (found : Option (ℕ × Verdict))
     × Says (status_of (decision t)) (decision_line t.names (decision t) ++ note) p.status p.text.items)
     → IfOk r (λ (p : Reply). AnswersCheck t turns p.status p.text.items)
 decision_shown t turns found (Ok p) e first d =
-    inr (record { no_violation = subst (IsFirstViolation (task_of t) (sort_of t.declared) turns) e first; note = d.0; noted = d.1; says = d.2 })
+    inr (record {
+      no_violation = subst (IsFirstViolation (task_of t) (sort_of t.declared) turns) e first;
+      note = d.0;
+      noted = d.1;
+      says =
+          d.2;
+    })
 decision_shown t turns found (Err x) e first d = tt
 
 -- bytes that are refused with an error are no task for it

@@ -23,8 +23,10 @@ pub record Asks (verb : Verb) (words : Words) (r : Result Request WordsError) : 
   pub ok : IfOk r (λ (q : Request). (word_faults verb words ≡ []) × (asked_by verb words ≡ Some (asked_in q)))
   pub usage : IsErrOf r Usage → IsRefused (Some verb) words
 
-pub asks_check : (verb : Verb) (words : Words) (f : Text → Option Text) (r : Result Request WordsError) → verb ≡ Check → word_faults verb words ≡ [] → ((id : Text) → f id ≡ argument_text verb id words) →
-    IfOk r (λ (q : Request). check_by (f (codes "TASK")) (f (codes "turns")) (f (codes "workers")) ≡ Some (asked_in q)) → (IsErrOf r Usage → HasBadNumber (f (codes "turns")) (f (codes "workers"))) → Asks verb words r
+pub asks_check : (verb : Verb) (words : Words) (f : Text → Option Text) (r : Result Request WordsError) → verb ≡ Check
+    → word_faults verb words ≡ [] → ((id : Text) → f id ≡ argument_text verb id words) →
+    IfOk r (λ (q : Request). check_by (f (codes "TASK")) (f (codes "turns")) (f (codes "workers")) ≡ Some (asked_in q))
+    → (IsErrOf r Usage → HasBadNumber (f (codes "turns")) (f (codes "workers"))) → Asks verb words r
 asks_check Check words f (Ok q) is free texts ok bad = record {
   ok = (free, sym (same_check (texts (codes "TASK")) (texts (codes "turns")) (texts (codes "workers"))) ∙ ok);
   usage = λ u. cc;
@@ -36,8 +38,10 @@ asks_check Check words f (Err e) is free texts ok bad = record {
 asks_check Replay words f r is free texts ok bad = cc
 asks_check Print words f r is free texts ok bad = cc
 
-pub asks_replay : (verb : Verb) (words : Words) (f : Text → Option Text) (r : Result Request WordsError) → verb ≡ Replay → word_faults verb words ≡ [] → ((id : Text) → f id ≡ argument_text verb id words) →
-    IfOk r (λ (q : Request). replay_by (f (codes "TASK")) (f (codes "INPUT")) (f (codes "turns")) (f (codes "workers")) ≡ Some (asked_in q)) → (IsErrOf r Usage → HasBadNumber (f (codes "turns")) (f (codes "workers"))) → Asks verb words r
+pub asks_replay : (verb : Verb) (words : Words) (f : Text → Option Text) (r : Result Request WordsError) → verb ≡ Replay
+    → word_faults verb words ≡ [] → ((id : Text) → f id ≡ argument_text verb id words) →
+    IfOk r (λ (q : Request). replay_by (f (codes "TASK")) (f (codes "INPUT")) (f (codes "turns")) (f (codes "workers")) ≡ Some (asked_in q))
+    → (IsErrOf r Usage → HasBadNumber (f (codes "turns")) (f (codes "workers"))) → Asks verb words r
 asks_replay Replay words f (Ok q) is free texts ok bad = record {
   ok = (free, sym (same_replay (texts (codes "TASK")) (texts (codes "INPUT")) (texts (codes "turns")) (texts (codes "workers"))) ∙ ok);
   usage = λ u. cc;
@@ -49,7 +53,8 @@ asks_replay Replay words f (Err e) is free texts ok bad = record {
 asks_replay Check words f r is free texts ok bad = cc
 asks_replay Print words f r is free texts ok bad = cc
 
-pub asks_print : (verb : Verb) (words : Words) (f : Text → Option Text) (q : Request) → verb ≡ Print → word_faults verb words ≡ [] → ((id : Text) → f id ≡ argument_text verb id words) →
+pub asks_print : (verb : Verb) (words : Words) (f : Text → Option Text) (q : Request) → verb ≡ Print → word_faults verb words ≡ []
+    → ((id : Text) → f id ≡ argument_text verb id words) →
     print_by (f (codes "TASK")) ≡ Some (asked_in q) → (word_faults verb words ≡ []) × (asked_by verb words ≡ Some (asked_in q))
 asks_print Print words f q is free texts ok = (free, sym (ap print_by (texts (codes "TASK"))) ∙ ok)
 asks_print Check words f q is free texts ok = cc

@@ -145,7 +145,8 @@ replayed_shows file input turns before now status text (inr c) e = λ given give
       subst (λ (b : List ℕ). Spells b c.task) (sym (c.gives.read.held bytes told)) c.gives.spells,
       (
         is.store,
-        subst (λ (b : List ℕ). IsInput c.task.names (sort_of c.task.declared) b is.store) (sym (is.gives.read.held given given_told)) is.gives.gives,
+        subst (λ (b : List ℕ). IsInput c.task.names (sort_of c.task.declared) b is.store)
+            (sym (is.gives.read.held given given_told)) is.gives.gives,
         is.violates,
       ),
     )

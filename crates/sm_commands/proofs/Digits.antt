@@ -6,7 +6,8 @@ use Rattle.std.proofs.lemmas.Str.Parse.{digits_value_short, numerals_by_value, p
 use Rattle.clap.proofs.WalkLemmas.{both}
 use Rattle.sm_commands.specs.Words.{is_number}
 
-pub parses_number : {E : Type 0} (text : List ℕ) (r : Result ℕ E) → ParsesUnsigned 64 10 text r → is_number text ≡ true → r ≡ Ok (digits_value 10 text)
+pub parses_number : {E : Type 0} (text : List ℕ) (r : Result ℕ E) → ParsesUnsigned 64 10 text r → is_number text ≡ true
+    → r ≡ Ok (digits_value 10 text)
 parses_number text r h number =
     let p = both _ _ number in
     let q = both _ _ p.1 in

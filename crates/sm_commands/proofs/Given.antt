@@ -1,5 +1,6 @@
 -- A required word of a command has its text, wherever `clap` takes the words.
-use Rattle.std.proofs.Common.{◌≡◌, ◌≢◌, ◌∙◌, ◌<◌, ◌≤◌, ◌&&◌, ℕ, zero, suc, Bool, true, false, not, List, [], ◌∷◌, map, length, is_some, Option, Some, None, Result, Ok, Err, IfOk, codes, refl, sym, ap, subst, inl, inr, arith, true≢false}
+use Rattle.std.proofs.Common.{◌≡◌, ◌≢◌, ◌∙◌, ◌<◌, ◌≤◌, ◌&&◌, ℕ, zero, suc, Bool, true, false, not, List, [], ◌∷◌, map, length, is_some}
+use Rattle.std.proofs.Common.{Option, Some, None, Result, Ok, Err, IfOk, codes, refl, sym, ap, subst, inl, inr, arith, true≢false}
 use Rattle.std.specs.List.{All, list_all, slice_index_or}
 use Rattle.std.specs.Prelude.{slice_get, unwrap_or, MatchResult}
 use Rattle.std.specs.Str.{bytes_eq}
@@ -44,17 +45,20 @@ abbrev pub is_read : App → ℕ → Text → Bool
 is_read app k id = (has_simple_rules app.top && (has_free_rules app.top && not app.top.subcommand_negates_reqs))
     && (is_alone k id app.top.rules && (not (bytes_eq id []) && (not (bytes_eq id (codes "help")) && not (bytes_eq id (codes "version")))))
 
-only_there : (xs : List Arg) (k : ℕ) (id : Text) → is_alone k id (map rule_of xs) ≡ true → (j : ℕ) (e : Arg) → j < length xs → bytes_eq (slice_index_or xs j e).id.now id ≡ true → j ≡ k
+only_there : (xs : List Arg) (k : ℕ) (id : Text) → is_alone k id (map rule_of xs) ≡ true → (j : ℕ) (e : Arg) → j < length xs
+    → bytes_eq (slice_index_or xs j e).id.now id ≡ true → j ≡ k
 only_there [] k id h j e lt same = absurd (omega arith)
 only_there (x ∷ xs) zero id h zero e lt same = refl
 only_there (x ∷ xs) zero id h (suc j) e lt same =
-    let other : bytes_eq (slice_index_or xs j e).id.now id ≡ false = is_false _ (each_rule (λ s. not (bytes_eq s.id id)) xs h j e (omega arith)) in
+    let other : bytes_eq (slice_index_or xs j e).id.now id ≡ false =
+    is_false _ (each_rule (λ s. not (bytes_eq s.id id)) xs h j e (omega arith)) in
     absurd (true≢false (sym same ∙ other))
 only_there (x ∷ xs) (suc k) id h zero e lt same = absurd (true≢false (sym same ∙ is_false _ (both _ _ h).0))
 only_there (x ∷ xs) (suc k) id h (suc j) e lt same = ap suc (only_there xs k id (both _ _ h).1 j e (omega arith) same)
 
 -- the argument at the place of a rule
-at_place : (xs : List Arg) (k : ℕ) (r : Rule) → slice_get (map rule_of xs) k ≡ Some r → Arg × (k < length xs) × ((e : Arg) → rule_of (slice_index_or xs k e) ≡ r)
+at_place : (xs : List Arg) (k : ℕ) (r : Rule) → slice_get (map rule_of xs) k ≡ Some r
+    → Arg × (k < length xs) × ((e : Arg) → rule_of (slice_index_or xs k e) ≡ r)
 at_place [] k r h = cc
 at_place (x ∷ xs) zero r h = (x, omega arith, λ e. ap (λ o. unwrap_or o r) h)
 at_place (x ∷ xs) (suc k) r h =
@@ -81,7 +85,8 @@ differs : (id other : Text) → not (bytes_eq id other) ≡ true → id ≡ othe
 differs id other h same = true≢false (sym ((bytes_eq-Decides id other).1 same) ∙ is_false _ h)
 
 -- a required word that is read by itself has a text, where the parse took the words
-pub given : (c : Command) (m : ArgMatches) (app : App) (k : ℕ) (id : Text) → app_of c ≡ app → IsParsedFrom c m → slice_get app.top.rules k ≡ Some (required_word id) → is_read app k id ≡ true → is_some (first_value (found_of m) id) ≡ true
+pub given : (c : Command) (m : ArgMatches) (app : App) (k : ℕ) (id : Text) → app_of c ≡ app → IsParsedFrom c m
+    → slice_get app.top.rules k ≡ Some (required_word id) → is_read app k id ≡ true → is_some (first_value (found_of m) id) ≡ true
 given c m app k id same parsed rule read =
     let place = at_place (args_of c) k (required_word id) (ap (λ (b : App). slice_get b.top.rules k) same ∙ rule) in
     let d = place.0 in
@@ -102,10 +107,15 @@ given c m app k id same parsed rule read =
     let has : is_some (first_value (found_of m) a.id.now) ≡ true =
     required_has_value c m parsed (plain, fields.groups) fields.globals (is_false _ free.1) k d place.1
     (ap (λ (r : Rule). r.required) is) (ap (λ (r : Rule). r.action) is) (no_delimiter a (each_simple k d place.1))
-    (let range : a.num_vals ≡ None = ap (λ (r : Rule). r.range) is in subst (λ (o : Option ValueRange). 1 ≤ (unwrap_or_range o).start_inclusive) (sym range) (omega arith))
+    (let range : a.num_vals ≡ None = ap (λ (r : Rule). r.range) is in
+    subst (λ (o : Option ValueRange). 1 ≤ (unwrap_or_range o).start_inclusive) (sym range) (omega arith))
     (λ j e lt eq. only_there (args_of c) k id back.0 j e lt (rw (← name) eq))
     (λ empty. differs id [] ids.0 (sym name ∙ empty))
-    (λ auto. elim auto [ inl h ↦ differs id (codes "help") autos.0 (sym name ∙ h) | inr h ↦ differs id (codes "version") autos.1 (sym name ∙ h) ]) in
+    (λ auto. elim auto [
+      | inl h ↦ differs id (codes "help") autos.0 (sym name ∙ h)
+      | inr h ↦ differs id (codes "version") autos.1
+          (sym name ∙ h)
+    ]) in
     subst (λ t. is_some (first_value (found_of m) t) ≡ true) name has
 
 -- what holds of the matches of a command
@@ -113,17 +123,21 @@ pub record IsGiven (verb : Verb) (words : Words) (f : Found) : Type 0 where
   pub texts : (id : Text) → first_value f id ≡ argument_text verb id words
   pub required : HasRequired verb (first_value f)
 
-is_given : (c : Command) (m : ArgMatches) (verb : Verb) (words : Words) → app_of c ≡ command_of verb → IsParsedFrom c m → rows_of (found_of m) ≡ matches_of (command_of verb) words → HasRequired verb (first_value (found_of m)) → IsGiven verb words (found_of m)
+is_given : (c : Command) (m : ArgMatches) (verb : Verb) (words : Words) → app_of c ≡ command_of verb → IsParsedFrom c m
+    → rows_of (found_of m) ≡ matches_of (command_of verb) words → HasRequired verb (first_value (found_of m))
+    → IsGiven verb words (found_of m)
 unfolding argument_text
 is_given c m verb words same parsed rows required = record {
   texts = λ id. first_value-rows (found_of m) id ∙ ap (first_of id) rows;
   required = required;
 }
 
-has_required : (c : Command) (m : ArgMatches) (verb : Verb) → app_of c ≡ command_of verb → IsParsedFrom c m → HasRequired verb (first_value (found_of m))
+has_required : (c : Command) (m : ArgMatches) (verb : Verb) → app_of c ≡ command_of verb → IsParsedFrom c m
+    → HasRequired verb (first_value (found_of m))
 unfolding check_command replay_command print_command
 has_required c m Check same parsed = given c m check_command 0 (codes "TASK") same parsed refl refl
-has_required c m Replay same parsed = (given c m replay_command 0 (codes "TASK") same parsed refl refl, given c m replay_command 1 (codes "INPUT") same parsed refl refl)
+has_required c m Replay same parsed =
+    (given c m replay_command 0 (codes "TASK") same parsed refl refl, given c m replay_command 1 (codes "INPUT") same parsed refl refl)
 has_required c m Print same parsed = given c m print_command 0 (codes "TASK") same parsed refl refl
 
 -- each command is one of which `clap` says all
@@ -134,13 +148,17 @@ is_free Replay = refl
 is_free Print = refl
 
 -- what a parse gives, at the command of a word
-pub parses : (c : Command) (verb : Verb) (words : Words) (r : Result ArgMatches Error) → app_of c ≡ command_of verb → IfOk r (IsParsedFrom c) → IfOk r (HasMatchesOf (app_of c) words) →
-    (is_simple_and_free (app_of c) ≡ true → FailsBy (fault_of (app_of c) words) r) → MatchResult r (λ m. (word_faults verb words ≡ []) × IsGiven verb words (found_of m)) (λ e. kind_of e ≢ OutOfMemory → word_faults verb words ≢ [])
+pub parses : (c : Command) (verb : Verb) (words : Words) (r : Result ArgMatches Error) → app_of c ≡ command_of verb
+    → IfOk r (IsParsedFrom c) → IfOk r (HasMatchesOf (app_of c) words) →
+    (is_simple_and_free (app_of c) ≡ true → FailsBy (fault_of (app_of c) words) r)
+    → MatchResult r (λ m. (word_faults verb words ≡ []) × IsGiven verb words (found_of m))
+    (λ e. kind_of e ≢ OutOfMemory → word_faults verb words ≢ [])
 unfolding word_faults
 parses c verb words (Ok m) same parsed matches fails =
     let free : is_simple_and_free (app_of c) ≡ true = ap is_simple_and_free same ∙ is_free verb in (
       ap (λ a. fault_of a words) (sym same) ∙ fails free,
-      is_given c m verb words same parsed ((matches (both _ _ free).0).0 ∙ ap (λ a. matches_of a words) same) (has_required c m verb same parsed),
+      is_given c m verb words same parsed ((matches (both _ _ free).0).0 ∙ ap (λ a. matches_of a words) same)
+          (has_required c m verb same parsed),
     )
 parses c verb words (Err e) same parsed matches fails = λ other empty.
     let free : is_simple_and_free (app_of c) ≡ true = ap is_simple_and_free same ∙ is_free verb in

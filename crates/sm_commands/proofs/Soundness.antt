@@ -1,5 +1,6 @@
 -- A task whose programs only copy, and at whose outputs no clause fails, is free of conflicts.
-use Rattle.std.proofs.Common.{◌≡◌, ◌⊎◌, inl, inr, ℕ, ℤ, ◌==◌, Bool, true, false, not, ◌&&◌, if◌then◌else◌, Option, Some, None, List, [], ◌∷◌, unwrap_or, refl, sym, ◌∙◌, ap}
+use Rattle.std.proofs.Common.{◌≡◌, ◌⊎◌, inl, inr, ℕ, ℤ, ◌==◌, Bool, true, false, not, ◌&&◌, if◌then◌else◌, Option, Some, None, List, []}
+use Rattle.std.proofs.Common.{◌∷◌, unwrap_or, refl, sym, ◌∙◌, ap}
 use Rattle.std.specs.List.{All}
 use Rattle.std.proofs.lemmas.Bool.{eqb-true}
 use Rattle.std.proofs.lemmas.Bool.Decides.{Decides-int_eq}
@@ -12,7 +13,8 @@ use Rattle.sm_syntax.specs.claim.Stores.{Value, Number, Store, number, array, pu
 use Rattle.sm_syntax.specs.claim.Syntax.{Lit, Var, Read, Neg, Plus, Minus, Times, Code, End, Skip, Assign, Write, If, While, Hole}
 use Rattle.sm_syntax.specs.declared.tree.Sort.{Sort}
 use Rattle.sm_syntax.specs.declared.tree.Sort.TheVariants.{Num}
-use Rattle.sm_commands.specs.Copies.{Origins, same_origin, with_origin, origins_after, only_copies, is_lost, is_made_up, broken_clause, or_else, first_broken, each_copies, decision}
+use Rattle.sm_commands.specs.Copies.{Origins, same_origin, with_origin, origins_after, only_copies, is_lost, is_made_up, broken_clause}
+use Rattle.sm_commands.specs.Copies.{or_else, first_broken, each_copies, decision}
 use Rattle.sm_commands.specs.declared.copies.Decision.{Decision}
 use Rattle.sm_commands.specs.declared.copies.Decision.TheVariants.{Safe, NotBuilt}
 use Rattle.sm_commands.specs.declared.copies.Origin.{Origin}
@@ -27,16 +29,19 @@ held (Start x) start = start x
 abbrev Has : Store → Origins → Store → Type 0
 Has start has s = (x : ℕ) → s x ≡ held (has x) start
 
-put_held : (start s : Store) (has : Origins) (x : ℕ) (origin : Origin) (v : Value) → v ≡ held origin start → Has start has s → Has start (with_origin has x origin) (put s x v)
+put_held : (start s : Store) (has : Origins) (x : ℕ) (origin : Origin) (v : Value) → v ≡ held origin start → Has start has s
+    → Has start (with_origin has x origin) (put s x v)
 put_held start s has x origin v same h y =
     elim (y == x) as (λ b. (if b then v else s y) ≡ held (if b then origin else has y) start) [ true ↦ same | false ↦ h y ]
 
 -- copies keep to their symbols
-run_copies : (n : ℕ) (start : Store) (k : Code) (has : Origins) (s end : Store) → only_copies k ≡ true → Has start has s → run n k s ≡ Some end → Has start (origins_after k has) end
+run_copies : (n : ℕ) (start : Store) (k : Code) (has : Origins) (s end : Store) → only_copies k ≡ true → Has start has s
+    → run n k s ≡ Some end → Has start (origins_after k has) end
 run_copies n start End has s end only h r = λ x. (let e : end ≡ s = cc in ap (λ (t : Store). t x) e) ∙ h x
 run_copies n start (Skip k) has s end only h r = run_copies n start k has s end only h r
 run_copies n start (Assign x (Lit z) k) has s end only h r =
-    run_copies n start k (with_origin has x (Literal z)) (put s x (Number z)) end only (put_held start s has x (Literal z) (Number z) refl h) r
+    run_copies n start k (with_origin has x (Literal z)) (put s x (Number z)) end only
+    (put_held start s has x (Literal z) (Number z) refl h) r
 run_copies n start (Assign x (Var y) k) has s end only h r =
     run_copies n start k (with_origin has x (has y)) (put s x (s y)) end only (put_held start s has x (has y) (s y) (h y) h) r
 run_copies n start (Assign x (Read a i) k) has s end only h r = cc
@@ -92,7 +97,8 @@ is_kept o a b m e =
     record { of_a = f.0; of_b = f.1; no_other = f.2 }
 
 -- a change that isn't lost in symbols isn't lost in what they stand for
-kept_change : (f : Origin → ℤ) (base variant candidate : Origin) → is_lost base variant candidate ≡ false → KeepsChange (f base) (f variant) (f candidate)
+kept_change : (f : Origin → ℤ) (base variant candidate : Origin) → is_lost base variant candidate ≡ false
+    → KeepsChange (f base) (f variant) (f candidate)
 kept_change f base variant candidate e =
     elim (one_of_two (same_origin base variant) (same_origin candidate variant) e) [
       | inl p ↦ inl (ap f (same_origin_true base variant p))
@@ -142,7 +148,8 @@ all_four false q r s e = cc
 
 every_copy : (program : Copy → Code) → each_copies program ≡ true → (c : Copy) → only_copies (program c) ≡ true
 every_copy program e =
-    let f : (only_copies (program O) ≡ true) × (only_copies (program A) ≡ true) × (only_copies (program B) ≡ true) × (only_copies (program M) ≡ true) =
+    let f : (only_copies (program O) ≡ true) × (only_copies (program A) ≡ true) × (only_copies (program B) ≡ true) ×
+    (only_copies (program M) ≡ true) =
     all_four (only_copies (program O)) (only_copies (program A)) (only_copies (program B)) (only_copies (program M)) e in
     λ c. elim c as (λ d. only_copies (program d) ≡ true) [ O ↦ f.0 | A ↦ f.1 | B ↦ f.2 | M ↦ f.3 ]
 
@@ -167,10 +174,16 @@ pub safe_is_conflict_free : (t : Parts) → decision t ≡ Safe → ConflictFree
 safe_is_conflict_free t e n s end meets runs cell contains =
     let program : Copy → Code = program_of (task_of t) in
     let after : Copy → Origins = λ c. origins_after (program c) Start in
-    let f : (each_copies program ≡ true) × (first_broken t.outputs after ≡ Safe) = decided_safe (each_copies program) (first_broken t.outputs after) e in
-    let ends : (c : Copy) → Has s (after c) (end c) = λ c. run_copies n s (program c) Start s (end c) (every_copy program f.0 c) (λ x. refl) (runs c) in
+    let f : (each_copies program ≡ true) × (first_broken t.outputs after ≡ Safe) =
+    decided_safe (each_copies program) (first_broken t.outputs after) e in
+    let ends : (c : Copy) → Has s (after c) (end c) =
+    λ c. run_copies n s (program c) Start s (end c) (every_copy program f.0 c) (λ x. refl) (runs c) in
     let x : ℕ = (variable cell).0 in
-    let at : (c : Copy) → content (end c) cell ≡ content_in cell (held (after c x) s) = λ c. content_by (end c) cell ∙ ap (content_in cell) (ends c x) in
-    let unbroken : Unbroken after x = All-contains (λ (w : ℕ × Sort). Unbroken after w.0) (sorted_outputs t.declared t.outputs) (variable cell)
-    (All-map (λ (w : ℕ × Sort). Unbroken after w.0) (λ (y : ℕ). (y, unwrap_or (sort_of t.declared y) Num)) t.outputs (none_broken t.outputs after f.1)) contains in
-    keeps_by (at O) (at A) (at B) (at M) (keeps_of (λ o. content_in cell (held o s)) (after O x) (after A x) (after B x) (after M x) (is_kept _ _ _ _ unbroken))
+    let at : (c : Copy) → content (end c) cell ≡ content_in cell (held (after c x) s) =
+    λ c. content_by (end c) cell ∙ ap (content_in cell) (ends c x) in
+    let unbroken : Unbroken after x =
+    All-contains (λ (w : ℕ × Sort). Unbroken after w.0) (sorted_outputs t.declared t.outputs) (variable cell)
+    (All-map (λ (w : ℕ × Sort). Unbroken after w.0) (λ (y : ℕ). (y, unwrap_or (sort_of t.declared y) Num)) t.outputs
+    (none_broken t.outputs after f.1)) contains in
+    keeps_by (at O) (at A) (at B) (at M)
+    (keeps_of (λ o. content_in cell (held o s)) (after O x) (after A x) (after B x) (after M x) (is_kept _ _ _ _ unbroken))

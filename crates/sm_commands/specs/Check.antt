@@ -58,7 +58,8 @@ IsNote t note =
 
 -- no trial violates, and the answer is the decision on symbols
 pub record Decides (t : Parts) (turns : ℕ) (status : Status) (text : List ℕ) : Type 0 where
-  pub no_violation : (j : ℕ) → j < trials → ¬ Violates (task_of t) (trial (sort_of t.declared) j) turns
+  pub no_violation : (j : ℕ) → j < trials →
+      ¬ Violates (task_of t) (trial (sort_of t.declared) j) turns
   pub note : List ℕ
   pub noted : IsNote t note
   pub says : Says (status_of (decision t)) (decision_line t.names (decision t) ++ note) status text

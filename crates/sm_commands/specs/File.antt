@@ -44,7 +44,8 @@ abbrev pub GivesNoBytes : List ℕ → Known → ℕ → ℕ → Status → List
 GivesNoBytes kind file before now status text =
     FailsToRead file before now status text ⊎ IsTooLong kind file before now status text
 
--- the bytes spell no task for this cause, which is the first fault of the text or the first condition
+-- the bytes spell no task for this cause, which is the first fault of the text or the first
+-- condition
 -- that fails, and the reply names it
 pub record IsNoTask (bytes : List ℕ) (status : Status) (text : List ℕ) : Type 0 where
   pub error : TaskError

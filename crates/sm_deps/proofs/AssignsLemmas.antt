@@ -11,7 +11,8 @@ use Rattle.sm_syntax.specs.Assigns.{assigns}
 use Rattle.sm_syntax.specs.claim.Syntax.{Code, End, Skip, Assign, Write, If, While, Hole, append}
 use Rattle.sm_syntax.specs.trees.Views.{sequence, statement_of, code_of}
 use Rattle.sm_syntax.proofs.Blocks.{statement_is, sequence-drop, sequence-drop-end}
-use Rattle.sm_syntax.proofs.Statements.{statement_of-Skip, statement_of-Assign, statement_of-Store, statement_of-If, statement_of-While, statement_of-Hole}
+use Rattle.sm_syntax.proofs.Statements.{statement_of-Skip, statement_of-Assign, statement_of-Store, statement_of-If, statement_of-While}
+use Rattle.sm_syntax.proofs.Statements.{statement_of-Hole}
 use Rattle.sm_deps.specs.Members.{only, either}
 use Rattle.sm_deps.proofs.MembersLemmas.{none, or-false, or_assoc, either-none, either-either}
 
@@ -19,11 +20,15 @@ use Rattle.sm_deps.proofs.MembersLemmas.{none, or-false, or_assoc, either-none, 
 assigns-append : (c r : Code) (x : ℕ) → assigns (append c r) x ≡ (assigns c x || assigns r x)
 assigns-append End r x = refl
 assigns-append (Skip k) r x = assigns-append k r x
-assigns-append (Assign y e k) r x = ap (λ (b : Bool). x == y || b) (assigns-append k r x) ∙ sym (or_assoc (x == y) (assigns k x) (assigns r x))
-assigns-append (Write a i e k) r x = ap (λ (b : Bool). x == a || b) (assigns-append k r x) ∙ sym (or_assoc (x == a) (assigns k x) (assigns r x))
+assigns-append (Assign y e k) r x =
+    ap (λ (b : Bool). x == y || b) (assigns-append k r x) ∙ sym (or_assoc (x == y) (assigns k x) (assigns r x))
+assigns-append (Write a i e k) r x =
+    ap (λ (b : Bool). x == a || b) (assigns-append k r x) ∙ sym (or_assoc (x == a) (assigns k x) (assigns r x))
 assigns-append (If b c d k) r x =
-    ap (λ (m : Bool). (assigns c x || assigns d x) || m) (assigns-append k r x) ∙ sym (or_assoc (assigns c x || assigns d x) (assigns k x) (assigns r x))
-assigns-append (While b c k) r x = ap (λ (m : Bool). assigns c x || m) (assigns-append k r x) ∙ sym (or_assoc (assigns c x) (assigns k x) (assigns r x))
+    ap (λ (m : Bool). (assigns c x || assigns d x) || m) (assigns-append k r x) ∙
+    sym (or_assoc (assigns c x || assigns d x) (assigns k x) (assigns r x))
+assigns-append (While b c k) r x =
+    ap (λ (m : Bool). assigns c x || m) (assigns-append k r x) ∙ sym (or_assoc (assigns c x) (assigns k x) (assigns r x))
 assigns-append (Hole h k) r x = assigns-append k r x
 
 -- a statement that assigns nothing
@@ -54,7 +59,8 @@ assigns-While b c = ap assigns (statement_of-While b c End) ∙ fun_ext (λ (q :
 
 -- a list's statements from i on, where s stands at i
 pub assigns-drop : (l : List Stmt) (i : ℕ) (s : Stmt) → i < length l → s ≡ get_or l i s →
-    assigns (sequence (map statement_of (drop i l)) End) ≡ either (assigns (statement_of s End)) (assigns (sequence (map statement_of (drop (i + 1) l)) End))
+    assigns (sequence (map statement_of (drop i l)) End) ≡ either (assigns (statement_of s End))
+    (assigns (sequence (map statement_of (drop (i + 1) l)) End))
 unfolding either
 assigns-drop l i s here item =
     let k = sequence (map statement_of (drop (i + 1) l)) End in
@@ -68,4 +74,5 @@ unfolding none
 assigns-drop-end l i past = ap assigns (sequence-drop-end l i End past)
 
 -- what adds up names that are assigned needs
-pub ruleset assignments = (either-none, either-either, assigns-Skip, assigns-Hole, assigns-Assign, assigns-Store, assigns-If, assigns-While, assigns-drop-end)
+pub ruleset assignments =
+    (either-none, either-either, assigns-Skip, assigns-Hole, assigns-Assign, assigns-Store, assigns-If, assigns-While, assigns-drop-end)

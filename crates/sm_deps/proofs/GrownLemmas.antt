@@ -1,5 +1,6 @@
 -- A set that grows by names of a list alone is closed after as many rounds as the list is long.
-use Rattle.std.proofs.Common.{◌≡◌, ◌⊎◌, ◌≤◌, ◌<◌, ℕ, zero, suc, Bool, true, false, ◌==◌, ◌||◌, if◌then◌else◌, List, [], ◌∷◌, length, inl, inr, ⊎_elim, refl, sym, ap, subst, ◌∙◌, arith}
+use Rattle.std.proofs.Common.{◌≡◌, ◌⊎◌, ◌≤◌, ◌<◌, ℕ, zero, suc, Bool, true, false, ◌==◌, ◌||◌, if◌then◌else◌, List, [], ◌∷◌, length, inl}
+use Rattle.std.proofs.Common.{inr, ⊎_elim, refl, sym, ap, subst, ◌∙◌, arith}
 use Rattle.std.proofs.lemmas.Bool.{eqb-true, eq-eqb, or_left, or_right, or_cases}
 use Rattle.std.proofs.Math.Path.{fun_ext}
 use Rattle.sm_syntax.specs.text.Conditions.{is_in}
@@ -24,11 +25,13 @@ grown_starts zero brings set x h = h
 grown_starts (suc n) brings set x h = grown_starts n brings (round brings set) x (or_left (set x) (brings set x) h)
 
 -- rounds stay within what keeps each of them
-pub grown_within : (n : ℕ) (brings : Test → Test) (set whole : Test) → ((part : Test) → Below part whole → Below (brings part) whole) → Below set whole →
+pub grown_within : (n : ℕ) (brings : Test → Test) (set whole : Test) → ((part : Test) → Below part whole → Below (brings part) whole)
+    → Below set whole →
     Below (grown n brings set) whole
 grown_within zero brings set whole keeps h = h
 grown_within (suc n) brings set whole keeps h =
-    grown_within n brings (round brings set) whole keeps (λ (x : ℕ) (m : round brings set x ≡ true). ⊎_elim (h x) (keeps set h x) (or_cases (set x) (brings set x) m))
+    grown_within n brings (round brings set) whole keeps
+    (λ (x : ℕ) (m : round brings set x ≡ true). ⊎_elim (h x) (keeps set h x) (or_cases (set x) (brings set x) m))
 
 -- how many of a list's names a set lacks
 abbrev lacking : Test → List ℕ → ℕ
@@ -71,25 +74,30 @@ lost_after false true m n grows more = omega arith
 lost_after false false m n grows more = omega arith
 
 -- a greater set with a name more lacks fewer
-fewer_by_one : (set more : Test) (list : List ℕ) (y : ℕ) → Below set more → is_in list y ≡ true → set y ≡ false → more y ≡ true → lacking more list < lacking set list
+fewer_by_one : (set more : Test) (list : List ℕ) (y : ℕ) → Below set more → is_in list y ≡ true → set y ≡ false → more y ≡ true
+    → lacking more list < lacking set list
 fewer_by_one set more [] y h there lacked got = absurd cc
 fewer_by_one set more (z ∷ rest) y h there lacked got =
     ⊎_elim
     (λ (here : (y == z) ≡ true).
     let same : y ≡ z = eqb-true y z here in
-    lost_here (set z) (more z) (lacking set rest) (lacking more rest) (subst (λ (q : ℕ). set q ≡ false) same lacked) (subst (λ (q : ℕ). more q ≡ true) same got) (fewer set more rest h))
-    (λ (after : is_in rest y ≡ true). lost_after (set z) (more z) (lacking set rest) (lacking more rest) (h z) (fewer_by_one set more rest y h after lacked got))
+    lost_here (set z) (more z) (lacking set rest) (lacking more rest) (subst (λ (q : ℕ). set q ≡ false) same lacked)
+    (subst (λ (q : ℕ). more q ≡ true) same got) (fewer set more rest h))
+    (λ (after : is_in rest y ≡ true).
+    lost_after (set z) (more z) (lacking set rest) (lacking more rest) (h z) (fewer_by_one set more rest y h after lacked got))
     (or_cases (y == z) (is_in rest y) there)
 
 -- a name of the list that is new in a greater set, or none
 abbrev New : Test → Test → List ℕ → ℕ → Type 0
 New set more list y = (is_in list y ≡ true) × (set y ≡ false) × (more y ≡ true)
 
-first_new : (set more : Test) (list : List ℕ) → ((y : ℕ) × New set more list y) ⊎ ((y : ℕ) → is_in list y ≡ true → more y ≡ true → set y ≡ true)
+first_new : (set more : Test) (list : List ℕ)
+    → ((y : ℕ) × New set more list y) ⊎ ((y : ℕ) → is_in list y ≡ true → more y ≡ true → set y ≡ true)
 first_new set more [] = inr (λ (y : ℕ) (there : false ≡ true) (m : more y ≡ true). absurd cc)
 first_new set more (z ∷ rest) =
     ⊎_elim
-    (λ (found : (y : ℕ) × New set more rest y). inl (found.0, (or_right (found.0 == z) (is_in rest found.0) found.1.0, found.1.1, found.1.2)))
+    (λ (found : (y : ℕ) × New set more rest y).
+    inl (found.0, (or_right (found.0 == z) (is_in rest found.0) found.1.0, found.1.1, found.1.2)))
     (λ (none : (y : ℕ) → is_in rest y ≡ true → more y ≡ true → set y ≡ true).
     ⊎_elim
     (λ (kept : more z ≡ true → set z ≡ true).
@@ -130,30 +138,40 @@ grown-closed (suc n) brings set closed =
 closed_here : (list : List ℕ) (brings : Test → Test) (set : Test) → From list brings set →
     ((y : ℕ) → is_in list y ≡ true → brings set y ≡ true → set y ≡ true) → Closed brings set
 closed_here list brings set from none x b =
-    ⊎_elim (λ (had : set x ≡ true). had) (λ (listed : is_in list x ≡ true). none x listed b) (from set (λ (y : ℕ) (h : set y ≡ true). h) x b)
+    ⊎_elim (λ (had : set x ≡ true). had) (λ (listed : is_in list x ≡ true). none x listed b)
+    (from set (λ (y : ℕ) (h : set y ≡ true). h) x b)
 
 -- a round that brings one lacks fewer
-one_fewer : (list : List ℕ) (brings : Test → Test) (set : Test) (y : ℕ) → New set (brings set) list y → lacking (round brings set) list < lacking set list
+one_fewer : (list : List ℕ) (brings : Test → Test) (set : Test) (y : ℕ) → New set (brings set) list y
+    → lacking (round brings set) list < lacking set list
 one_fewer list brings set y new =
-    fewer_by_one set (round brings set) list y (λ (x : ℕ) (h : set x ≡ true). or_left (set x) (brings set x) h) new.0 new.1 (or_right (set y) (brings set y) new.2)
+    fewer_by_one set (round brings set) list y (λ (x : ℕ) (h : set x ≡ true). or_left (set x) (brings set x) h) new.0 new.1
+    (or_right (set y) (brings set y) new.2)
 
 -- closed after as many rounds as names are lacking
-closed_after : (list : List ℕ) (brings : Test → Test) (n : ℕ) (set : Test) → From list brings set → lacking set list ≤ n → Closed brings (grown n brings set)
+closed_after : (list : List ℕ) (brings : Test → Test) (n : ℕ) (set : Test) → From list brings set → lacking set list ≤ n
+    → Closed brings (grown n brings set)
 closed_after list brings zero set from few =
     ⊎_elim
-    (λ (found : (y : ℕ) × New set (brings set) list y). let less = one_fewer list brings set found.0 found.1 in absurd (omega (arith, less, few)))
+    (λ (found : (y : ℕ) × New set (brings set) list y). let less = one_fewer list brings set found.0 found.1 in
+    absurd (omega (arith, less, few)))
     (λ (none : (y : ℕ) → is_in list y ≡ true → brings set y ≡ true → set y ≡ true). closed_here list brings set from none)
     (first_new set (brings set) list)
 closed_after list brings (suc n) set from few =
-    let later : From list brings (round brings set) = λ (more : Test) (h : Below (round brings set) more). from more (λ (y : ℕ) (m : set y ≡ true). h y (or_left (set y) (brings set y) m)) in
-    let next : lacking (round brings set) list ≤ n → Closed brings (grown n brings (round brings set)) = closed_after list brings n (round brings set) later in
+    let later : From list brings (round brings set) =
+    λ (more : Test) (h : Below (round brings set) more).
+    from more (λ (y : ℕ) (m : set y ≡ true). h y (or_left (set y) (brings set y) m)) in
+    let next : lacking (round brings set) list ≤ n → Closed brings (grown n brings (round brings set)) =
+    closed_after list brings n (round brings set) later in
     ⊎_elim
-    (λ (found : (y : ℕ) × New set (brings set) list y). let less = one_fewer list brings set found.0 found.1 in next (omega (arith, less, few)))
+    (λ (found : (y : ℕ) × New set (brings set) list y). let less = one_fewer list brings set found.0 found.1 in
+    next (omega (arith, less, few)))
     (λ (none : (y : ℕ) → is_in list y ≡ true → brings set y ≡ true → set y ≡ true).
     let closed : Closed brings set = closed_here list brings set from none in
     subst (Closed brings) (sym (grown-closed (suc n) brings set closed)) closed)
     (first_new set (brings set) list)
 
 -- after as many rounds as the list is long
-pub grown_closed : (list : List ℕ) (brings : Test → Test) (set : Test) → From list brings set → Closed brings (grown (length list) brings set)
+pub grown_closed : (list : List ℕ) (brings : Test → Test) (set : Test) → From list brings set
+    → Closed brings (grown (length list) brings set)
 grown_closed list brings set from = closed_after list brings (length list) set from (lacking_all set list)

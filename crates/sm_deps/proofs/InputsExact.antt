@@ -1,6 +1,8 @@
 -- The computed set is exactly what is needed.
-use Rattle.std.proofs.Common.{◌≡◌, ◌≢◌, ◌⊎◌, ◌↔◌, ◌≤◌, ◌<◌, ◌+◌, ℕ, zero, suc, Bool, true, false, cond, not, IsTrue, ◌==◌, ◌||◌, ◌&&◌, List, [], ◌∷◌, ◌++◌, map, length, inl, inr, ⊎_elim, refl, ap, ◌∙◌, arith}
-use Rattle.std.proofs.lemmas.Bool.{eqb-true, eqb-false, eq-eqb, ne_eqb, or_left, or_right, or_cases, and_parts, and_from, not-true, not_from_false, cases_eq}
+use Rattle.std.proofs.Common.{◌≡◌, ◌≢◌, ◌⊎◌, ◌↔◌, ◌≤◌, ◌<◌, ◌+◌, ℕ, zero, suc, Bool, true, false, cond, not, IsTrue, ◌==◌, ◌||◌, ◌&&◌, List}
+use Rattle.std.proofs.Common.{[], ◌∷◌, ◌++◌, map, length, inl, inr, ⊎_elim, refl, ap, ◌∙◌, arith}
+use Rattle.std.proofs.lemmas.Bool.{eqb-true, eqb-false, eq-eqb, ne_eqb, or_left, or_right, or_cases, and_parts, and_from, not-true}
+use Rattle.std.proofs.lemmas.Bool.{not_from_false, cases_eq}
 use Rattle.std.proofs.lemmas.List.{map-append}
 use Rattle.std.proofs.lemmas.List.Folds.{list_any-append}
 use Rattle.std.proofs.lemmas.List.FromFn.{length-range_with_len, get_or-range_with_len}
@@ -11,7 +13,8 @@ use Rattle.sm_syntax.specs.declared.tree.Sort.{Sort}
 use Rattle.sm_syntax.specs.declared.tree.Sort.TheVariants.{Num, Arr}
 use Rattle.sm_syntax.specs.text.Conditions.{is_in}
 use Rattle.sm_syntax.specs.text.Uses.{names_in, names_tested, names_used}
-use Rattle.sm_syntax.specs.claim.Syntax.{Expression, Lit, Var, Read, Neg, Plus, Minus, Times, Condition, Yes, No, Compare, Not, And, Or, Code, End, Skip, Assign, Write, If, While, Hole}
+use Rattle.sm_syntax.specs.claim.Syntax.{Expression, Lit, Var, Read, Neg, Plus, Minus, Times, Condition, Yes, No, Compare, Not, And, Or}
+use Rattle.sm_syntax.specs.claim.Syntax.{Code, End, Skip, Assign, Write, If, While, Hole}
 use Rattle.sm_deps.specs.Names.{mentions, tests, code_names}
 use Rattle.sm_deps.specs.Needs.{NamePredicate, Within, Picked, Needs}
 use Rattle.sm_deps.specs.Inputs.{needed, greatest, inputs}
@@ -37,8 +40,10 @@ in_second : (l m : List (ℕ × Sort)) (x : ℕ) → stands m x ≡ true → sta
 in_second l m x h = stands-append l m x ∙ or_right (stands l x) (stands m x) h
 
 -- in one of both
-in_either : (l m : List (ℕ × Sort)) (p q : Bool) (x : ℕ) → (p ≡ true → stands l x ≡ true) → (q ≡ true → stands m x ≡ true) → (p || q) ≡ true → stands (l ++ m) x ≡ true
-in_either l m p q x first second h = ⊎_elim (λ (y : p ≡ true). in_first l m x (first y)) (λ (y : q ≡ true). in_second l m x (second y)) (or_cases p q h)
+in_either : (l m : List (ℕ × Sort)) (p q : Bool) (x : ℕ) → (p ≡ true → stands l x ≡ true) → (q ≡ true → stands m x ≡ true) → (p || q) ≡ true
+    → stands (l ++ m) x ≡ true
+in_either l m p q x first second h =
+    ⊎_elim (λ (y : p ≡ true). in_first l m x (first y)) (λ (y : q ≡ true). in_second l m x (second y)) (or_cases p q h)
 
 -- the names of an expression are listed
 mentions_listed : (e : Expression) (x : ℕ) → mentions e x ≡ true → stands (names_in e) x ≡ true
@@ -46,17 +51,22 @@ mentions_listed (Lit z) x h = h
 mentions_listed (Var y) x h = or_left (x == y) false h
 mentions_listed (Read a i) x h =
     ⊎_elim (λ (here : (x == a) ≡ true). or_left (x == a) (stands (names_in i) x) here)
-    (λ (inside : mentions i x ≡ true). or_right (x == a) (stands (names_in i) x) (mentions_listed i x inside)) (or_cases (x == a) (mentions i x) h)
+    (λ (inside : mentions i x ≡ true). or_right (x == a) (stands (names_in i) x) (mentions_listed i x inside))
+    (or_cases (x == a) (mentions i x) h)
 mentions_listed (Neg e) x h = mentions_listed e x h
-mentions_listed (Plus d e) x h = in_either (names_in d) (names_in e) (mentions d x) (mentions e x) x (mentions_listed d x) (mentions_listed e x) h
-mentions_listed (Minus d e) x h = in_either (names_in d) (names_in e) (mentions d x) (mentions e x) x (mentions_listed d x) (mentions_listed e x) h
-mentions_listed (Times d e) x h = in_either (names_in d) (names_in e) (mentions d x) (mentions e x) x (mentions_listed d x) (mentions_listed e x) h
+mentions_listed (Plus d e) x h =
+    in_either (names_in d) (names_in e) (mentions d x) (mentions e x) x (mentions_listed d x) (mentions_listed e x) h
+mentions_listed (Minus d e) x h =
+    in_either (names_in d) (names_in e) (mentions d x) (mentions e x) x (mentions_listed d x) (mentions_listed e x) h
+mentions_listed (Times d e) x h =
+    in_either (names_in d) (names_in e) (mentions d x) (mentions e x) x (mentions_listed d x) (mentions_listed e x) h
 
 -- so are those of a condition
 tests_listed : (b : Condition) (x : ℕ) → tests b x ≡ true → stands (names_tested b) x ≡ true
 tests_listed Yes x h = h
 tests_listed No x h = h
-tests_listed (Compare op d e) x h = in_either (names_in d) (names_in e) (mentions d x) (mentions e x) x (mentions_listed d x) (mentions_listed e x) h
+tests_listed (Compare op d e) x h =
+    in_either (names_in d) (names_in e) (mentions d x) (mentions e x) x (mentions_listed d x) (mentions_listed e x) h
 tests_listed (Not b) x h = tests_listed b x h
 tests_listed (And b c) x h = in_either (names_tested b) (names_tested c) (tests b x) (tests c x) x (tests_listed b x) (tests_listed c x) h
 tests_listed (Or b c) x h = in_either (names_tested b) (names_tested c) (tests b x) (tests c x) x (tests_listed b x) (tests_listed c x) h
@@ -78,10 +88,12 @@ comes (Assign y e k) wanted x h =
     ⊎_elim
     (λ (kept : (needed k wanted x && not (x == y)) ≡ true).
     known_wider wanted x (names_used k) ((y, Num) ∷ names_in e ++ names_used k)
-    (λ (s : stands (names_used k) x ≡ true). or_right (x == y) (stands (names_in e ++ names_used k) x) (in_second (names_in e) (names_used k) x s))
+    (λ (s : stands (names_used k) x ≡ true).
+    or_right (x == y) (stands (names_in e ++ names_used k) x) (in_second (names_in e) (names_used k) x s))
     (comes k wanted x (and_parts (needed k wanted x) (not (x == y)) kept).0))
     (λ (new : (needed k wanted y && mentions e x) ≡ true).
-    inr (or_right (x == y) (stands (names_in e ++ names_used k) x) (in_first (names_in e) (names_used k) x (mentions_listed e x (and_parts (needed k wanted y) (mentions e x) new).1))))
+    inr (or_right (x == y) (stands (names_in e ++ names_used k) x)
+    (in_first (names_in e) (names_used k) x (mentions_listed e x (and_parts (needed k wanted y) (mentions e x) new).1))))
     (or_cases (needed k wanted x && not (x == y)) (needed k wanted y && mentions e x) h)
 comes (Write a i e k) wanted x h =
     let used = names_in i ++ names_in e in
@@ -94,7 +106,8 @@ comes (Write a i e k) wanted x h =
     inr
     (or_right (x == a) (stands (used ++ names_used k) x)
     (in_first used (names_used k) x
-    (in_either (names_in i) (names_in e) (mentions i x) (mentions e x) x (mentions_listed i x) (mentions_listed e x) (and_parts (needed k wanted a) (mentions i x || mentions e x) new).1))))
+    (in_either (names_in i) (names_in e) (mentions i x) (mentions e x) x (mentions_listed i x) (mentions_listed e x)
+    (and_parts (needed k wanted a) (mentions i x || mentions e x) new).1))))
     (or_cases (needed k wanted x) (needed k wanted a && (mentions i x || mentions e x)) h)
 comes (If b c d k) wanted x h =
     let one = names_tested b in
@@ -106,13 +119,16 @@ comes (If b c d k) wanted x h =
     ⊎_elim
     (λ (first : needed c (needed k wanted) x ≡ true).
     ⊎_elim after
-    (λ (s : stands (names_used c) x ≡ true). inr (in_first three (names_used k) x (in_first two (names_used d) x (in_second one (names_used c) x s))))
+    (λ (s : stands (names_used c) x ≡ true).
+    inr (in_first three (names_used k) x (in_first two (names_used d) x (in_second one (names_used c) x s))))
     (comes c (needed k wanted) x first))
     (λ (rest : (needed d (needed k wanted) x || tests b x) ≡ true).
     ⊎_elim
     (λ (second : needed d (needed k wanted) x ≡ true).
-    ⊎_elim after (λ (s : stands (names_used d) x ≡ true). inr (in_first three (names_used k) x (in_second two (names_used d) x s))) (comes d (needed k wanted) x second))
-    (λ (guard : tests b x ≡ true). inr (in_first three (names_used k) x (in_first two (names_used d) x (in_first one (names_used c) x (tests_listed b x guard)))))
+    ⊎_elim after (λ (s : stands (names_used d) x ≡ true). inr (in_first three (names_used k) x (in_second two (names_used d) x s)))
+    (comes d (needed k wanted) x second))
+    (λ (guard : tests b x ≡ true).
+    inr (in_first three (names_used k) x (in_first two (names_used d) x (in_first one (names_used c) x (tests_listed b x guard)))))
     (or_cases (needed d (needed k wanted) x) (tests b x) rest))
     (or_cases (needed c (needed k wanted) x) (needed d (needed k wanted) x || tests b x) h)
 comes (While b c k) wanted x h =
@@ -124,7 +140,8 @@ comes (While b c k) wanted x h =
     (grown_within (length (code_names c)) (needed c) (λ (y : ℕ). needed k wanted y || tests b y) whole
     (λ (part : ℕ → Bool) (below : Below part whole) (y : ℕ) (m : needed c part y ≡ true).
     ⊎_elim (below y)
-    (λ (s : stands (names_used c) y ≡ true). or_right (wanted y) (stands all y) (in_first two (names_used k) y (in_second one (names_used c) y s)))
+    (λ (s : stands (names_used c) y ≡ true).
+    or_right (wanted y) (stands all y) (in_first two (names_used k) y (in_second one (names_used c) y s)))
     (comes c part y m))
     (λ (y : ℕ) (m : (needed k wanted y || tests b y) ≡ true).
     ⊎_elim
@@ -132,7 +149,8 @@ comes (While b c k) wanted x h =
     ⊎_elim (or_left (wanted y) (stands all y))
     (λ (s : stands (names_used k) y ≡ true). or_right (wanted y) (stands all y) (in_second two (names_used k) y s))
     (comes k wanted y after))
-    (λ (guard : tests b y ≡ true). or_right (wanted y) (stands all y) (in_first two (names_used k) y (in_first one (names_used c) y (tests_listed b y guard))))
+    (λ (guard : tests b y ≡ true).
+    or_right (wanted y) (stands all y) (in_first two (names_used k) y (in_first one (names_used c) y (tests_listed b y guard))))
     (or_cases (needed k wanted y) (tests b y) m))
     x h)
 comes (Hole h' k) wanted x h = comes k wanted x h
@@ -143,10 +161,13 @@ body_from c set more h x m = comes c more x m
 
 -- the set of a loop is closed
 pub loop_closed : (b : Condition) (c k : Code) (wanted : ℕ → Bool) → Closed (needed c) (needed (While b c k) wanted)
-loop_closed b c k wanted = grown_closed (code_names c) (needed c) (λ (y : ℕ). needed k wanted y || tests b y) (body_from c (λ (y : ℕ). needed k wanted y || tests b y))
+loop_closed b c k wanted =
+    grown_closed (code_names c) (needed c) (λ (y : ℕ). needed k wanted y || tests b y)
+    (body_from c (λ (y : ℕ). needed k wanted y || tests b y))
 
 -- what is computed is needed
-pub needed_sound : (c : Code) (test : ℕ → Bool) (wanted : NamePredicate) → Within (Picked test) wanted → Within (Picked (needed c test)) (Needs c wanted)
+pub needed_sound : (c : Code) (test : ℕ → Bool) (wanted : NamePredicate) → Within (Picked test) wanted
+    → Within (Picked (needed c test)) (Needs c wanted)
 needed_sound End test wanted h x m = h x m
 needed_sound (Skip k) test wanted h x m = needed_sound k test wanted h x m
 needed_sound (Assign y e k) test wanted h x m =
@@ -175,9 +196,12 @@ needed_sound (If b c d k) test wanted h x m =
     (λ (guard : tests b x ≡ true). inr (inr guard))
     (or_cases (needed d (needed k test) x) (tests b x) rest))
     (or_cases (needed c (needed k test) x) (needed d (needed k test) x || tests b x) m)
-needed_sound (While b c k) test wanted h x m = λ (set : ℕ → Bool) (starts : Within (λ (y : ℕ). Needs k wanted y ⊎ IsTrue (tests b y)) (Picked set)) (stays : Within (Needs c (Picked set)) (Picked set)).
+needed_sound (While b c k) test wanted h x m =
+    λ (set : ℕ → Bool) (starts : Within (λ (y : ℕ). Needs k wanted y ⊎ IsTrue (tests b y)) (Picked set))
+    (stays : Within (Needs c (Picked set)) (Picked set)).
     grown_within (length (code_names c)) (needed c) (λ (y : ℕ). needed k test y || tests b y) set
-    (λ (part : ℕ → Bool) (below : Below part set) (y : ℕ) (n : needed c part y ≡ true). stays y (needed_sound c part (Picked set) below y n))
+    (λ (part : ℕ → Bool) (below : Below part set) (y : ℕ) (n : needed c part y ≡ true).
+    stays y (needed_sound c part (Picked set) below y n))
     (λ (y : ℕ) (n : (needed k test y || tests b y) ≡ true).
     ⊎_elim
     (λ (after : needed k test y ≡ true). starts y (inl (needed_sound k test wanted h y after)))
@@ -187,7 +211,8 @@ needed_sound (While b c k) test wanted h x m = λ (set : ℕ → Bool) (starts :
 needed_sound (Hole h' k) test wanted h x m = needed_sound k test wanted h x m
 
 -- what is needed is computed
-pub needed_complete : (c : Code) (test : ℕ → Bool) (wanted : NamePredicate) → Within wanted (Picked test) → Within (Needs c wanted) (Picked (needed c test))
+pub needed_complete : (c : Code) (test : ℕ → Bool) (wanted : NamePredicate) → Within wanted (Picked test)
+    → Within (Needs c wanted) (Picked (needed c test))
 needed_complete End test wanted h x m = h x m
 needed_complete (Skip k) test wanted h x m = needed_complete k test wanted h x m
 needed_complete (Assign y e k) test wanted h x m =
@@ -201,7 +226,8 @@ needed_complete (Assign y e k) test wanted h x m =
     m
 needed_complete (Write a i e k) test wanted h x m =
     ⊎_elim
-    (λ (kept : Needs k wanted x). or_left (needed k test x) (needed k test a && (mentions i x || mentions e x)) (needed_complete k test wanted h x kept))
+    (λ (kept : Needs k wanted x).
+    or_left (needed k test x) (needed k test a && (mentions i x || mentions e x)) (needed_complete k test wanted h x kept))
     (λ (new : Needs k wanted a × (IsTrue (mentions i x) ⊎ IsTrue (mentions e x))).
     or_right (needed k test x) (needed k test a && (mentions i x || mentions e x))
     (and_from (needed k test a) (mentions i x || mentions e x) (needed_complete k test wanted h a new.0)
@@ -211,11 +237,13 @@ needed_complete (If b c d k) test wanted h x m =
     let after : Within (Needs k wanted) (Picked (needed k test)) = needed_complete k test wanted h in
     ⊎_elim
     (λ (first : Needs c (Needs k wanted) x).
-    or_left (needed c (needed k test) x) (needed d (needed k test) x || tests b x) (needed_complete c (needed k test) (Needs k wanted) after x first))
+    or_left (needed c (needed k test) x) (needed d (needed k test) x || tests b x)
+    (needed_complete c (needed k test) (Needs k wanted) after x first))
     (λ (rest : Needs d (Needs k wanted) x ⊎ IsTrue (tests b x)).
     or_right (needed c (needed k test) x) (needed d (needed k test) x || tests b x)
     (⊎_elim
-    (λ (second : Needs d (Needs k wanted) x). or_left (needed d (needed k test) x) (tests b x) (needed_complete d (needed k test) (Needs k wanted) after x second))
+    (λ (second : Needs d (Needs k wanted) x).
+    or_left (needed d (needed k test) x) (tests b x) (needed_complete d (needed k test) (Needs k wanted) after x second))
     (or_right (needed d (needed k test) x) (tests b x))
     rest))
     m
@@ -234,7 +262,8 @@ needed_complete (While b c k) test wanted h x m =
 needed_complete (Hole h' k) test wanted h x m = needed_complete k test wanted h x m
 
 -- one number that may pass a test, before others
-filter_step : (b : Bool) (p : ℕ → Bool) (y x : ℕ) (kept rest : List ℕ) → p y ≡ b → (is_in kept x ≡ true → (p x ≡ true) × (is_in rest x ≡ true)) →
+filter_step : (b : Bool) (p : ℕ → Bool) (y x : ℕ) (kept rest : List ℕ) → p y ≡ b
+    → (is_in kept x ≡ true → (p x ≡ true) × (is_in rest x ≡ true)) →
     is_in (cond b (y ∷ kept) kept) x ≡ true → (p x ≡ true) × (is_in (y ∷ rest) x ≡ true)
 filter_step true p y x kept rest is more h =
     ⊎_elim
@@ -252,7 +281,8 @@ filter_sound p (y ∷ rest) x h = filter_step (p y) p y x (filter p rest) rest r
 keep_step : (b : Bool) (p : ℕ → Bool) (y x : ℕ) (kept rest : List ℕ) → p y ≡ b → p x ≡ true → (is_in rest x ≡ true → is_in kept x ≡ true) →
     is_in (y ∷ rest) x ≡ true → is_in (cond b (y ∷ kept) kept) x ≡ true
 keep_step true p y x kept rest is passes more h =
-    ⊎_elim (or_left (x == y) (is_in kept x)) (λ (after : is_in rest x ≡ true). or_right (x == y) (is_in kept x) (more after)) (or_cases (x == y) (is_in rest x) h)
+    ⊎_elim (or_left (x == y) (is_in kept x)) (λ (after : is_in rest x ≡ true). or_right (x == y) (is_in kept x) (more after))
+    (or_cases (x == y) (is_in rest x) h)
 keep_step false p y x kept rest is passes more h =
     ⊎_elim
     (λ (here : (x == y) ≡ true). let both : p x ≡ false = ap p (eqb-true x y here) ∙ is in absurd cc)
@@ -270,7 +300,8 @@ in_range zero a x low high = absurd (omega (arith, low, high))
 in_range (suc n) a x low high =
     ⊎_elim
     (λ (here : x ≡ a). or_left (x == a) (is_in (range_with_len (a + 1) n) x) (eq-eqb x a here))
-    (λ (other : x ≡ a → ⊥). or_right (x == a) (is_in (range_with_len (a + 1) n) x) (in_range n (a + 1) x (omega (arith, other, low)) (omega (arith, high))))
+    (λ (other : x ≡ a → ⊥).
+    or_right (x == a) (is_in (range_with_len (a + 1) n) x) (in_range n (a + 1) x (omega (arith, other, low)) (omega (arith, high))))
     (cases_eq x a)
 
 -- they rise
@@ -291,7 +322,9 @@ at_most_greatest (y ∷ rest) x h =
     (or_cases (x == y) (is_in rest x) h)
 
 -- the list of inputs has exactly the names that are computed
-pub inputs_listed : (c : Code) (w x : ℕ) → (is_in (inputs c w) x ≡ true → needed c (λ (y : ℕ). y == w) x ≡ true) × (needed c (λ (y : ℕ). y == w) x ≡ true → is_in (inputs c w) x ≡ true)
+pub inputs_listed : (c : Code) (w x : ℕ)
+    → (is_in (inputs c w) x ≡ true → needed c (λ (y : ℕ). y == w) x ≡ true) ×
+    (needed c (λ (y : ℕ). y == w) x ≡ true → is_in (inputs c w) x ≡ true)
 unfolding inputs
 inputs_listed c w x =
     let only : ℕ → Bool = λ (y : ℕ). y == w in
@@ -304,12 +337,17 @@ inputs_listed c w x =
     )
 
 -- it rises, and has exactly the names that are needed
-pub inputs_exact : (c : Code) (w : ℕ) → IsStrictlyIncreasing (inputs c w) × ((x : ℕ) → IsTrue (is_in (inputs c w) x) ↔ Needs c (λ (y : ℕ). y ≡ w) x)
+pub inputs_exact : (c : Code) (w : ℕ)
+    → IsStrictlyIncreasing (inputs c w) × ((x : ℕ) → IsTrue (is_in (inputs c w) x) ↔ Needs c (λ (y : ℕ). y ≡ w) x)
 unfolding inputs
 inputs_exact c w = (
-  IsStrictlyIncreasing-filter (needed c (λ (x : ℕ). x == w)) (range_with_len 0 (suc (greatest (w ∷ code_names c)))) (range_rises 0 (suc (greatest (w ∷ code_names c)))),
+  IsStrictlyIncreasing-filter (needed c (λ (x : ℕ). x == w)) (range_with_len 0 (suc (greatest (w ∷ code_names c))))
+      (range_rises 0 (suc (greatest (w ∷ code_names c)))),
   λ (x : ℕ). (
-    λ (h : IsTrue (is_in (inputs c w) x)). needed_sound c (λ (y : ℕ). y == w) (λ (y : ℕ). y ≡ w) (λ (y : ℕ) (m : (y == w) ≡ true). eqb-true y w m) x ((inputs_listed c w x).0 h),
-    λ (h : Needs c (λ (y : ℕ). y ≡ w) x). (inputs_listed c w x).1 (needed_complete c (λ (y : ℕ). y == w) (λ (y : ℕ). y ≡ w) (λ (y : ℕ) (m : y ≡ w). eq-eqb y w m) x h),
+    λ (h : IsTrue (is_in (inputs c w) x)).
+        needed_sound c (λ (y : ℕ). y == w) (λ (y : ℕ). y ≡ w) (λ (y : ℕ) (m : (y == w) ≡ true). eqb-true y w m) x
+        ((inputs_listed c w x).0 h),
+    λ (h : Needs c (λ (y : ℕ). y ≡ w) x).
+        (inputs_listed c w x).1 (needed_complete c (λ (y : ℕ). y == w) (λ (y : ℕ). y ≡ w) (λ (y : ℕ) (m : y ≡ w). eq-eqb y w m) x h),
   ),
 )

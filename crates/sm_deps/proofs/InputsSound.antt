@@ -1,10 +1,12 @@
 -- Stores that agree on what code needs run alike.
-use Rattle.std.proofs.Common.{◌≡◌, ◌≢◌, ◌⊎◌, ℕ, zero, suc, ℤ, Bool, true, false, IsTrue, ◌==◌, ◌||◌, if◌then◌else◌, Option, Some, None, inl, inr, ⊎_elim, refl, sym, subst}
+use Rattle.std.proofs.Common.{◌≡◌, ◌≢◌, ◌⊎◌, ℕ, zero, suc, ℤ, Bool, true, false, IsTrue, ◌==◌, ◌||◌, if◌then◌else◌, Option, Some, None, inl}
+use Rattle.std.proofs.Common.{inr, ⊎_elim, refl, sym, subst}
 use Rattle.std.proofs.lemmas.Bool.{cases_eq, eqb-true, eqb-false, eq-eqb, or_left, or_right}
 use Rattle.sm_syntax.specs.declared.tree.Sort.{Sort}
 use Rattle.sm_syntax.specs.declared.tree.Sort.TheVariants.{Num, Arr}
 use Rattle.sm_syntax.specs.text.Conditions.{is_in}
-use Rattle.sm_syntax.specs.claim.Syntax.{Expression, Lit, Var, Read, Neg, Plus, Minus, Times, Condition, Yes, No, Compare, Not, And, Or, Code, End, Skip, Assign, Write, If, While, Hole}
+use Rattle.sm_syntax.specs.claim.Syntax.{Expression, Lit, Var, Read, Neg, Plus, Minus, Times, Condition, Yes, No, Compare, Not, And, Or}
+use Rattle.sm_syntax.specs.claim.Syntax.{Code, End, Skip, Assign, Write, If, While, Hole}
 use Rattle.sm_syntax.specs.claim.Stores.{Value, Array, number, array, Store, put, with_element}
 use Rattle.sm_syntax.specs.claim.Meaning.{value_of, truth_of, and_then, turns, written, run}
 use Rattle.sm_syntax.specs.text.Sorts.{Sorts, IsWellSortedExpression, IsWellSortedCondition, IsWellSorted}
@@ -27,13 +29,16 @@ Agree alike names s t = (x : ℕ) → names x → alike x (s x) (t x)
 abbrev Carries : Likeness → Code → Type 0
 Carries alike End = Unit {0}
 Carries alike (Skip k) = Carries alike k
-Carries alike (Assign x e k) = ((s t : Store) → Agree alike (Picked (mentions e)) s t → alike x (value_of e s) (value_of e t)) × Carries alike k
+Carries alike (Assign x e k) =
+    ((s t : Store) → Agree alike (Picked (mentions e)) s t → alike x (value_of e s) (value_of e t)) × Carries alike k
 Carries alike (Write a i e k) =
-    ((s t : Store) → alike a (s a) (t a) → Agree alike (Picked (mentions i)) s t → Agree alike (Picked (mentions e)) s t → alike a (written s a i e a) (written t a i e a)) ×
+    ((s t : Store) → alike a (s a) (t a) → Agree alike (Picked (mentions i)) s t → Agree alike (Picked (mentions e)) s t
+    → alike a (written s a i e a) (written t a i e a)) ×
     Carries alike k
 Carries alike (If b c d k) =
     ((s t : Store) → Agree alike (Picked (tests b)) s t → truth_of b s ≡ truth_of b t) × Carries alike c × Carries alike d × Carries alike k
-Carries alike (While b c k) = ((s t : Store) → Agree alike (Picked (tests b)) s t → truth_of b s ≡ truth_of b t) × Carries alike c × Carries alike k
+Carries alike (While b c k) =
+    ((s t : Store) → Agree alike (Picked (tests b)) s t → truth_of b s ≡ truth_of b t) × Carries alike c × Carries alike k
 Carries alike (Hole h k) = Carries alike k
 
 -- what goes on from alike ends
@@ -58,7 +63,8 @@ turns_alike : (P : Store → Store → Type 0) (guard : Store → Bool) (body : 
     (n : ℕ) (s t : Store) → P s t → EndAlike P (turns guard body n s) (turns guard body n t)
 turns_alike P guard body same inner zero s t h = if_alike P (guard s) (guard t) None None (Some s) (Some t) (same s t h) tt h
 turns_alike P guard body same inner (suc n) s t h =
-    if_alike P (guard s) (guard t) (and_then (body s) (turns guard body n)) (and_then (body t) (turns guard body n)) (Some s) (Some t) (same s t h)
+    if_alike P (guard s) (guard t) (and_then (body s) (turns guard body n)) (and_then (body t) (turns guard body n)) (Some s) (Some t)
+    (same s t h)
     (then_alike P P (body s) (body t) (turns guard body n) (turns guard body n) (inner s t h) (turns_alike P guard body same inner n))
     h
 
@@ -92,7 +98,8 @@ run_alike alike n (Write a i e k) wanted s t carries h =
     (λ (same : x ≡ a).
     let here : Needs k wanted a = subst (Needs k wanted) same m in
     subst (λ (z : ℕ). alike z (written s a i e z) (written t a i e z)) (sym same)
-    (carries.0 s t (h a (inl here)) (λ (z : ℕ) (used : IsTrue (mentions i z)). h z (inr (here, inl used))) (λ (z : ℕ) (used : IsTrue (mentions e z)). h z (inr (here, inr used)))))
+    (carries.0 s t (h a (inl here)) (λ (z : ℕ) (used : IsTrue (mentions i z)). h z (inr (here, inl used)))
+    (λ (z : ℕ) (used : IsTrue (mentions e z)). h z (inr (here, inr used)))))
     (λ (other : x ≢ a). put_alike alike s t a _ _ x (λ (same : x ≡ a). absurd (other same)) (λ (o : x ≢ a). h x (inl m)))
     (cases_eq x a))
 run_alike alike n (If b c d k) wanted s t carries h =
@@ -109,12 +116,16 @@ run_alike alike n (If b c d k) wanted s t carries h =
 run_alike alike n (While b c k) wanted s t carries h =
     let first : ℕ → Type 0 = λ (y : ℕ). Needs k wanted y ⊎ IsTrue (tests b y) in
     let loop : ℕ → Type 0 = Least first (Needs c) in
-    then_alike (Agree alike loop) (Agree alike wanted) (turns (truth_of b) (run n c) n s) (turns (truth_of b) (run n c) n t) (run n k) (run n k)
+    then_alike (Agree alike loop) (Agree alike wanted) (turns (truth_of b) (run n c) n s) (turns (truth_of b) (run n c) n t) (run n k)
+    (run n k)
     (turns_alike (Agree alike loop) (truth_of b) (run n c)
-    (λ (u v : Store) (g : Agree alike loop u v). carries.0 u v (λ (x : ℕ) (used : IsTrue (tests b x)). g x (least_starts first (Needs c) x (inr used))))
-    (λ (u v : Store) (g : Agree alike loop u v). run_alike alike n c loop u v carries.1 (λ (x : ℕ) (m : Needs c loop x). g x (least_stays first c x m)))
+    (λ (u v : Store) (g : Agree alike loop u v).
+    carries.0 u v (λ (x : ℕ) (used : IsTrue (tests b x)). g x (least_starts first (Needs c) x (inr used))))
+    (λ (u v : Store) (g : Agree alike loop u v).
+    run_alike alike n c loop u v carries.1 (λ (x : ℕ) (m : Needs c loop x). g x (least_stays first c x m)))
     n s t h)
-    (λ (u v : Store) (g : Agree alike loop u v). run_alike alike n k wanted u v carries.2 (λ (x : ℕ) (m : Needs k wanted x). g x (least_starts first (Needs c) x (inl m))))
+    (λ (u v : Store) (g : Agree alike loop u v).
+    run_alike alike n k wanted u v carries.2 (λ (x : ℕ) (m : Needs k wanted x). g x (least_starts first (Needs c) x (inl m))))
 run_alike alike n (Hole h' k) wanted s t carries h = run_alike alike n k wanted s t carries h
 
 -- equal values
@@ -122,10 +133,12 @@ abbrev Equal : Likeness
 Equal x u v = u ≡ v
 
 -- the two parts of an operation agree where the whole does
-left_part : (alike : Likeness) (p q : ℕ → Bool) (s t : Store) → Agree alike (Picked (λ (x : ℕ). p x || q x)) s t → Agree alike (Picked p) s t
+left_part : (alike : Likeness) (p q : ℕ → Bool) (s t : Store) → Agree alike (Picked (λ (x : ℕ). p x || q x)) s t
+    → Agree alike (Picked p) s t
 left_part alike p q s t h x used = h x (or_left (p x) (q x) used)
 
-right_part : (alike : Likeness) (p q : ℕ → Bool) (s t : Store) → Agree alike (Picked (λ (x : ℕ). p x || q x)) s t → Agree alike (Picked q) s t
+right_part : (alike : Likeness) (p q : ℕ → Bool) (s t : Store) → Agree alike (Picked (λ (x : ℕ). p x || q x)) s t
+    → Agree alike (Picked q) s t
 right_part alike p q s t h x used = h x (or_right (p x) (q x) used)
 
 -- a name is itself
@@ -140,18 +153,30 @@ value_same (Read a i) s t h =
     rw (h a (or_left (a == a) (mentions i a) (itself a)), value_same i s t (right_part Equal (λ (x : ℕ). x == a) (mentions i) s t h)) refl
 value_same (Neg e) s t h = rw (value_same e s t h) refl
 value_same (Plus d e) s t h =
-    rw (value_same d s t (left_part Equal (mentions d) (mentions e) s t h), value_same e s t (right_part Equal (mentions d) (mentions e) s t h)) refl
+    rw (
+      value_same d s t (left_part Equal (mentions d) (mentions e) s t h),
+      value_same e s t (right_part Equal (mentions d) (mentions e) s t h),
+    ) refl
 value_same (Minus d e) s t h =
-    rw (value_same d s t (left_part Equal (mentions d) (mentions e) s t h), value_same e s t (right_part Equal (mentions d) (mentions e) s t h)) refl
+    rw (
+      value_same d s t (left_part Equal (mentions d) (mentions e) s t h),
+      value_same e s t (right_part Equal (mentions d) (mentions e) s t h),
+    ) refl
 value_same (Times d e) s t h =
-    rw (value_same d s t (left_part Equal (mentions d) (mentions e) s t h), value_same e s t (right_part Equal (mentions d) (mentions e) s t h)) refl
+    rw (
+      value_same d s t (left_part Equal (mentions d) (mentions e) s t h),
+      value_same e s t (right_part Equal (mentions d) (mentions e) s t h),
+    ) refl
 
 -- so does a condition's truth
 truth_same : (b : Condition) (s t : Store) → Agree Equal (Picked (tests b)) s t → truth_of b s ≡ truth_of b t
 truth_same Yes s t h = refl
 truth_same No s t h = refl
 truth_same (Compare op d e) s t h =
-    rw (value_same d s t (left_part Equal (mentions d) (mentions e) s t h), value_same e s t (right_part Equal (mentions d) (mentions e) s t h)) refl
+    rw (
+      value_same d s t (left_part Equal (mentions d) (mentions e) s t h),
+      value_same e s t (right_part Equal (mentions d) (mentions e) s t h),
+    ) refl
 truth_same (Not b) s t h = rw (truth_same b s t h) refl
 truth_same (And b c) s t h =
     rw (truth_same b s t (left_part Equal (tests b) (tests c) s t h), truth_same c s t (right_part Equal (tests b) (tests c) s t h)) refl
@@ -159,10 +184,12 @@ truth_same (Or b c) s t h =
     rw (truth_same b s t (left_part Equal (tests b) (tests c) s t h), truth_same c s t (right_part Equal (tests b) (tests c) s t h)) refl
 
 -- a written element goes by the array and the names of index and value
-written_same : (a : ℕ) (i e : Expression) (s t : Store) → s a ≡ t a → Agree Equal (Picked (mentions i)) s t → Agree Equal (Picked (mentions e)) s t →
+written_same : (a : ℕ) (i e : Expression) (s t : Store) → s a ≡ t a → Agree Equal (Picked (mentions i)) s t
+    → Agree Equal (Picked (mentions e)) s t →
     written s a i e a ≡ written t a i e a
 written_same a i e s t old place new =
-    put_alike Equal s t a (Array (with_element (array (s a)) (number (value_of i s)) (number (value_of e s)))) (Array (with_element (array (t a)) (number (value_of i t)) (number (value_of e t)))) a
+    put_alike Equal s t a (Array (with_element (array (s a)) (number (value_of i s)) (number (value_of e s))))
+    (Array (with_element (array (t a)) (number (value_of i t)) (number (value_of e t)))) a
     (λ (same : a ≡ a). rw (old, value_same i s t place, value_same e s t new) refl)
     (λ (other : a ≢ a). absurd (other refl))
 
@@ -187,8 +214,10 @@ ends_wider P Q (Some s) (Some t) f h = f s t h
 pub inputs_alike : (n : ℕ) (c : Code) (w : ℕ) (s t : Store) → ((x : ℕ) → IsTrue (is_in (inputs c w) x) → s x ≡ t x) →
     EndAlike (λ (u v : Store). u w ≡ v w) (run n c s) (run n c t)
 inputs_alike n c w s t h =
-    ends_wider (Agree Equal (λ (y : ℕ). y ≡ w)) (λ (u v : Store). u w ≡ v w) (run n c s) (run n c t) (λ (u v : Store) (g : Agree Equal (λ (y : ℕ). y ≡ w) u v). g w refl)
-    (run_alike Equal n c (λ (y : ℕ). y ≡ w) s t (carries_equal c) (λ (x : ℕ) (m : Needs c (λ (y : ℕ). y ≡ w) x). h x (((inputs_exact c w).1 x).1 m)))
+    ends_wider (Agree Equal (λ (y : ℕ). y ≡ w)) (λ (u v : Store). u w ≡ v w) (run n c s) (run n c t)
+    (λ (u v : Store) (g : Agree Equal (λ (y : ℕ). y ≡ w) u v). g w refl)
+    (run_alike Equal n c (λ (y : ℕ). y ≡ w) s t (carries_equal c)
+    (λ (x : ℕ) (m : Needs c (λ (y : ℕ). y ≡ w) x). h x (((inputs_exact c w).1 x).1 m)))
 
 -- values that are equal as what is declared
 abbrev BySort : Sorts → Likeness
@@ -203,7 +232,8 @@ as_array : (o : Option Sort) (u v : Value) → o ≡ Some Arr → SameIfSorted o
 as_array o u v sort h = subst (λ (p : Option Sort). SameIfSorted p u v) sort h
 
 -- the number of a well-sorted expression goes by its names
-number_same : (sorts : Sorts) (e : Expression) (s t : Store) → IsWellSortedExpression sorts e → Agree (BySort sorts) (Picked (mentions e)) s t →
+number_same : (sorts : Sorts) (e : Expression) (s t : Store) → IsWellSortedExpression sorts e
+    → Agree (BySort sorts) (Picked (mentions e)) s t →
     number (value_of e s) ≡ number (value_of e t)
 number_same sorts (Lit z) s t good h = refl
 number_same sorts (Var x) s t good h = as_number (sorts x) (s x) (t x) good (h x (itself x))
@@ -212,34 +242,47 @@ number_same sorts (Read a i) s t good h =
     (as_array (sorts a) (s a) (t a) good.0 (h a (or_left (a == a) (mentions i a) (itself a))) (number (value_of i t)))
 number_same sorts (Neg e) s t good h = rw (number_same sorts e s t good h) refl
 number_same sorts (Plus d e) s t good h =
-    rw
-    (number_same sorts d s t good.0 (left_part (BySort sorts) (mentions d) (mentions e) s t h), number_same sorts e s t good.1 (right_part (BySort sorts) (mentions d) (mentions e) s t h))
+    rw (
+      number_same sorts d s t good.0 (left_part (BySort sorts) (mentions d) (mentions e) s t h),
+      number_same sorts e s t good.1 (right_part (BySort sorts) (mentions d) (mentions e) s t h),
+    )
     refl
 number_same sorts (Minus d e) s t good h =
-    rw
-    (number_same sorts d s t good.0 (left_part (BySort sorts) (mentions d) (mentions e) s t h), number_same sorts e s t good.1 (right_part (BySort sorts) (mentions d) (mentions e) s t h))
+    rw (
+      number_same sorts d s t good.0 (left_part (BySort sorts) (mentions d) (mentions e) s t h),
+      number_same sorts e s t good.1 (right_part (BySort sorts) (mentions d) (mentions e) s t h),
+    )
     refl
 number_same sorts (Times d e) s t good h =
-    rw
-    (number_same sorts d s t good.0 (left_part (BySort sorts) (mentions d) (mentions e) s t h), number_same sorts e s t good.1 (right_part (BySort sorts) (mentions d) (mentions e) s t h))
+    rw (
+      number_same sorts d s t good.0 (left_part (BySort sorts) (mentions d) (mentions e) s t h),
+      number_same sorts e s t good.1 (right_part (BySort sorts) (mentions d) (mentions e) s t h),
+    )
     refl
 
 -- so does the truth of a well-sorted condition
-truth_same_by_sort : (sorts : Sorts) (b : Condition) (s t : Store) → IsWellSortedCondition sorts b → Agree (BySort sorts) (Picked (tests b)) s t → truth_of b s ≡ truth_of b t
+truth_same_by_sort : (sorts : Sorts) (b : Condition) (s t : Store) → IsWellSortedCondition sorts b
+    → Agree (BySort sorts) (Picked (tests b)) s t → truth_of b s ≡ truth_of b t
 truth_same_by_sort sorts Yes s t good h = refl
 truth_same_by_sort sorts No s t good h = refl
 truth_same_by_sort sorts (Compare op d e) s t good h =
-    rw
-    (number_same sorts d s t good.0 (left_part (BySort sorts) (mentions d) (mentions e) s t h), number_same sorts e s t good.1 (right_part (BySort sorts) (mentions d) (mentions e) s t h))
+    rw (
+      number_same sorts d s t good.0 (left_part (BySort sorts) (mentions d) (mentions e) s t h),
+      number_same sorts e s t good.1 (right_part (BySort sorts) (mentions d) (mentions e) s t h),
+    )
     refl
 truth_same_by_sort sorts (Not b) s t good h = rw (truth_same_by_sort sorts b s t good h) refl
 truth_same_by_sort sorts (And b c) s t good h =
-    rw
-    (truth_same_by_sort sorts b s t good.0 (left_part (BySort sorts) (tests b) (tests c) s t h), truth_same_by_sort sorts c s t good.1 (right_part (BySort sorts) (tests b) (tests c) s t h))
+    rw (
+      truth_same_by_sort sorts b s t good.0 (left_part (BySort sorts) (tests b) (tests c) s t h),
+      truth_same_by_sort sorts c s t good.1 (right_part (BySort sorts) (tests b) (tests c) s t h),
+    )
     refl
 truth_same_by_sort sorts (Or b c) s t good h =
-    rw
-    (truth_same_by_sort sorts b s t good.0 (left_part (BySort sorts) (tests b) (tests c) s t h), truth_same_by_sort sorts c s t good.1 (right_part (BySort sorts) (tests b) (tests c) s t h))
+    rw (
+      truth_same_by_sort sorts b s t good.0 (left_part (BySort sorts) (tests b) (tests c) s t h),
+      truth_same_by_sort sorts c s t good.1 (right_part (BySort sorts) (tests b) (tests c) s t h),
+    )
     refl
 
 -- arrays with a new element are equal where the parts are
@@ -256,14 +299,16 @@ carries_by_sort sorts (Assign x e k) good = (
   carries_by_sort sorts k good.2,
 )
 carries_by_sort sorts (Write a i e k) good = (
-  λ (s t : Store) (old : SameIfSorted (sorts a) (s a) (t a)) (place : Agree (BySort sorts) (Picked (mentions i)) s t) (new : Agree (BySort sorts) (Picked (mentions e)) s t).
+  λ (s t : Store) (old : SameIfSorted (sorts a) (s a) (t a)) (place : Agree (BySort sorts) (Picked (mentions i)) s t)
+      (new : Agree (BySort sorts) (Picked (mentions e)) s t).
       let u = Array (with_element (array (s a)) (number (value_of i s)) (number (value_of e s))) in
       let v = Array (with_element (array (t a)) (number (value_of i t)) (number (value_of e t))) in
       put_alike (BySort sorts) s t a u v a
       (λ (same : a ≡ a).
       subst (λ (o : Option Sort). SameIfSorted o u v) (sym good.0)
       (λ (j : ℤ).
-      element_same (array (s a)) (array (t a)) (number (value_of i s)) (number (value_of i t)) (number (value_of e s)) (number (value_of e t)) j
+      element_same (array (s a)) (array (t a)) (number (value_of i s)) (number (value_of i t)) (number (value_of e s))
+      (number (value_of e t)) j
       (number_same sorts i s t good.1 place)
       (number_same sorts e s t good.2 new)
       (as_array (sorts a) (s a) (t a) good.0 old j)))

@@ -6,4 +6,5 @@ pub mod MembersLemmas
 pub mod AssignsLemmas
 pub mod NeededLemmas
 pub mod InputsDeclared
+mod LoopSets
 mod LoopsExact

@@ -1,8 +1,8 @@
 -- Going over code with kept sets finds exactly what the code needs.
-use Rattle.std.proofs.Common.{◌≡◌, ◌⊎◌, ◌+◌, ◌<◌, ◌≤◌, ℕ, zero, suc, Bool, true, false, ◌||◌, if◌then◌else◌, nat_lt, Some, None, List, [], ◌∷◌, ◌++◌, length, get_or, slice_get, inl, inr, refl, sym, ap, subst, ⊎_elim, ◌∙◌, length-append, arith}
+use Rattle.std.proofs.Common.{◌≡◌, ◌⊎◌, ◌+◌, ◌<◌, ◌≤◌, ℕ, zero, suc, true, ◌||◌, Some, None, List, []}
+use Rattle.std.proofs.Common.{◌∷◌, ◌++◌, length, get_or, slice_get, inl, inr, refl, sym, ap, subst, ⊎_elim, ◌∙◌, length-append, arith}
 use Rattle.std.proofs.lemmas.Option.{same_Some, slice_get_read, slice_get_past}
 use Rattle.std.proofs.lemmas.Bool.{or_left, or_right, or_cases}
-use Rattle.std.proofs.lemmas.Bool.Decides.{nat_tests}
 use Rattle.std.proofs.Math.Path.{fun_ext}
 use Rattle.std.specs.BTreeSet.{BTreeSet, IsOrdered}
 use Rattle.std.specs.Ordering.{nat_cmp}
@@ -15,10 +15,7 @@ use Rattle.sm_deps.specs.Loops.{loops_in, HasNeeds, IsWithin, IsReady, LoopsCoun
 use Rattle.sm_deps.proofs.InputsExact.{loop_closed}
 use Rattle.sm_deps.proofs.GrownLemmas.{grown_starts, grown_within}
 use Rattle.sm_deps.proofs.NeededLemmas.{needed-append, needed_grows, both_ways, no_more}
-
--- a set of names
-abbrev Test : Type 0
-Test = ℕ → Bool
+use Rattle.sm_deps.proofs.LoopSets.{Test, sets_of, sets_need}
 
 -- what is so of a set is so of an equal one
 abbrev at : (s t : Test) (x : ℕ) → s ≡ t → s x ≡ true → t x ≡ true
@@ -52,8 +49,10 @@ needs-append (If b d e c) k n wanted sets h =
       rest.0,
       (
         rest.1,
-        moved d (n + loops_in (append c k)) (n + loops_in k + loops_in c) (needed (append c k) wanted) (needed c (needed k wanted)) sets (omega (arith, count)) same h.1,
-        moved e (n + (loops_in (append c k) + loops_in d)) (n + loops_in k + (loops_in c + loops_in d)) (needed (append c k) wanted) (needed c (needed k wanted)) sets (omega (arith, count)) same h.2,
+        moved d (n + loops_in (append c k)) (n + loops_in k + loops_in c) (needed (append c k) wanted) (needed c (needed k wanted)) sets
+            (omega (arith, count)) same h.1,
+        moved e (n + (loops_in (append c k) + loops_in d)) (n + loops_in k + (loops_in c + loops_in d)) (needed (append c k) wanted)
+            (needed c (needed k wanted)) sets (omega (arith, count)) same h.2,
       ),
     )
 needs-append (While b d c) k n wanted sets h =
@@ -65,7 +64,8 @@ needs-append (While b d c) k n wanted sets h =
       (
         rest.1,
         ap sets number ∙ h.1 ∙ same,
-        moved d (n + (loops_in (append c k) + 1)) (n + loops_in k + (loops_in c + 1)) (needed (append (While b d c) k) wanted) (needed (While b d c) (needed k wanted)) sets (omega (arith, count)) same h.2,
+        moved d (n + (loops_in (append c k) + 1)) (n + loops_in k + (loops_in c + 1)) (needed (append (While b d c) k) wanted)
+            (needed (While b d c) (needed k wanted)) sets (omega (arith, count)) same h.2,
       ),
     )
 needs-append (Hole q c) k n wanted sets h = needs-append c k n wanted sets h
@@ -88,14 +88,21 @@ counted_same m n one two same h = subst (λ (k : ℕ). LoopsCounted k one two) s
 
 -- nothing is gone over
 pub over_end : (wanted : Test) (loops : Loops) → IsReady loops → GoesOver End wanted wanted loops loops
-over_end wanted loops ready = record { counted = counted_none loops ready; enough = λ x h. h; no_more = λ wider sets below needs within. (below, within) }
+over_end wanted loops ready =
+    record { counted = counted_none loops ready; enough = λ x h. h; no_more = λ wider sets below needs within. (below, within) }
 
 -- code is gone over after what follows it
-pub over_append : (c k : Code) (wanted middle found : Test) (one two three : Loops) → GoesOver k wanted middle one two → GoesOver c middle found two three →
+pub over_append : (c k : Code) (wanted middle found : Test) (one two three : Loops) → GoesOver k wanted middle one two
+    → GoesOver c middle found two three →
     GoesOver (append c k) wanted found one three
 over_append c k wanted middle found one two three first second = record {
-  counted = counted_same (loops_in k + loops_in c) (loops_in (append c k)) one three (sym (loops_in-append c k)) (counted_both (loops_in k) (loops_in c) one two three first.counted second.counted);
-  enough = λ x h. second.enough x (needed_grows c (needed k wanted) middle first.enough x (at (needed (append c k) wanted) (needed c (needed k wanted)) x (needed-append c k wanted) h));
+  counted =
+      counted_same (loops_in k + loops_in c) (loops_in (append c k)) one three (sym (loops_in-append c k))
+      (counted_both (loops_in k) (loops_in c) one two three first.counted second.counted);
+  enough =
+      λ x h. second.enough x
+      (needed_grows c (needed k wanted) middle first.enough x
+      (at (needed (append c k) wanted) (needed c (needed k wanted)) x (needed-append c k wanted) h));
   no_more = λ wider sets below needs within.
       let parts = needs-append c k one.next wider sets needs in
       let early = first.no_more wider sets below parts.0 within in
@@ -105,19 +112,25 @@ over_append c k wanted middle found one two three first second = record {
 }
 
 -- code without loops
-pub over_plain : (c : Code) (wanted found : Test) (loops : Loops) → IsReady loops → loops_in c ≡ 0 → found ≡ needed c wanted → GoesOver c wanted found loops loops
+pub over_plain : (c : Code) (wanted found : Test) (loops : Loops) → IsReady loops → loops_in c ≡ 0 → found ≡ needed c wanted
+    → GoesOver c wanted found loops loops
 over_plain c wanted found loops ready plain is = record {
   counted = counted_same 0 (loops_in c) loops loops (sym plain) (counted_none loops ready);
   enough = λ x h. at (needed c wanted) found x (sym is) h;
-  no_more = λ wider sets below needs within. ((λ (x : ℕ) (h : found x ≡ true). needed_grows c wanted wider below x (at found (needed c wanted) x is h)), within);
+  no_more =
+      λ wider sets below needs within.
+      ((λ (x : ℕ) (h : found x ≡ true). needed_grows c wanted wider below x (at found (needed c wanted) x is h)), within);
 }
 
 -- a choice
-pub over_choice : (b : Condition) (c d : Code) (wanted first second found : Test) (one two three : Loops) → GoesOver c wanted first one two →
+pub over_choice : (b : Condition) (c d : Code) (wanted first second found : Test) (one two three : Loops)
+    → GoesOver c wanted first one two →
     GoesOver d wanted second two three → found ≡ either (either first second) (tests b) → GoesOver (If b c d End) wanted found one three
 unfolding either
 over_choice b c d wanted first second found one two three of_c of_d is = record {
-  counted = counted_same (loops_in c + loops_in d) (0 + loops_in c + loops_in d) one three (omega arith) (counted_both (loops_in c) (loops_in d) one two three of_c.counted of_d.counted);
+  counted =
+      counted_same (loops_in c + loops_in d) (0 + loops_in c + loops_in d) one three (omega arith)
+      (counted_both (loops_in c) (loops_in d) one two three of_c.counted of_d.counted);
   enough = λ x h.
       at (either (either first second) (tests b)) found x (sym is)
       (⊎_elim (λ (m : needed c wanted x ≡ true). or_left (first x || second x) (tests b x) (or_left (first x) (second x) (of_c.enough x m)))
@@ -135,25 +148,32 @@ over_choice b c d wanted first second found one two three of_c of_d is = record 
             ⊎_elim
             (λ (branch : (first x || second x) ≡ true).
             ⊎_elim (λ (m : first x ≡ true). or_left (needed c wider x) (needed d wider x || tests b x) (early.0 x m))
-            (λ (m : second x ≡ true). or_right (needed c wider x) (needed d wider x || tests b x) (or_left (needed d wider x) (tests b x) (late.0 x m)))
+            (λ (m : second x ≡ true).
+            or_right (needed c wider x) (needed d wider x || tests b x) (or_left (needed d wider x) (tests b x) (late.0 x m)))
             (or_cases (first x) (second x) branch))
-            (λ (m : tests b x ≡ true). or_right (needed c wider x) (needed d wider x || tests b x) (or_right (needed d wider x) (tests b x) m))
+            (λ (m : tests b x ≡ true).
+            or_right (needed c wider x) (needed d wider x || tests b x) (or_right (needed d wider x) (tests b x) m))
             (or_cases (first x || second x) (tests b x) (at found (either (either first second) (tests b)) x is h))),
         late.1,
       );
 }
 
 -- a loop that goes on from its kept set
-pub over_loop : (b : Condition) (c : Code) (wanted guarded begun settled : Test) (one two three four : Loops) → guarded ≡ either wanted (tests b) →
-    Resumes guarded begun one two → Settles c begun settled two three → KeepsSet one.next settled three four → GoesOver (While b c End) wanted settled one four
+pub over_loop : (b : Condition) (c : Code) (wanted guarded begun settled : Test) (one two three four : Loops)
+    → guarded ≡ either wanted (tests b) →
+    Resumes guarded begun one two → Settles c begun settled two three → KeepsSet one.next settled three four
+    → GoesOver (While b c End) wanted settled one four
 unfolding either
 over_loop b c wanted guarded begun settled one two three four is resumes settles keeps = record {
   counted = counted_same (1 + loops_in c + 0) (0 + 1 + loops_in c) one four (omega arith)
-      (counted_both (1 + loops_in c) 0 one three four (counted_both 1 (loops_in c) one two three resumes.counted settles.counted) keeps.counted);
+      (counted_both (1 + loops_in c) 0 one three four
+      (counted_both 1 (loops_in c) one two three resumes.counted settles.counted) keeps.counted);
   enough = λ x h.
       grown_within (length (code_names c)) (needed c) (λ (y : ℕ). wanted y || tests b y) settled
-      (λ (part : Test) (under : Below part settled) (y : ℕ) (m : needed c part y ≡ true). settles.closed y (needed_grows c part settled under y m))
-      (λ (y : ℕ) (m : (wanted y || tests b y) ≡ true). settles.starts y (resumes.starts y (at (either wanted (tests b)) guarded y (sym is) m)))
+      (λ (part : Test) (under : Below part settled) (y : ℕ) (m : needed c part y ≡ true).
+      settles.closed y (needed_grows c part settled under y m))
+      (λ (y : ℕ) (m : (wanted y || tests b y) ≡ true).
+      settles.starts y (resumes.starts y (at (either wanted (tests b)) guarded y (sym is) m)))
       x h;
   no_more = λ wider sets below needs within.
       let whole = needed (While b c End) wider in
@@ -169,7 +189,8 @@ over_loop b c wanted guarded begun settled one two three four is resumes settles
 }
 
 -- a loop that was met before
-pub resumes_last : (first found : Test) (last : BTreeSet ℕ) (before after : Loops) → before.next < length before.sets.items → last ≡ get_or before.sets.items before.next last →
+pub resumes_last : (first found : Test) (last : BTreeSet ℕ) (before after : Loops) → before.next < length before.sets.items
+    → last ≡ get_or before.sets.items before.next last →
     found ≡ either first (members last) → after.sets ≡ before.sets → after.next ≡ before.next + 1 → Resumes first found before after
 unfolding either
 resumes_last first found last before after small item is same next =
@@ -178,38 +199,49 @@ resumes_last first found last before after small item is same next =
       counted = record { next = next; ready = omega (arith, size, next, small); kept = omega (arith, size) };
       starts = λ x h. at (either first (members last)) found x (sym is) (or_left (first x) (members last x) h);
       goes_on = λ set there x h.
-          let same_set : last ≡ set = same_Some last set (sym (slice_get_read before.sets.items (length before.sets.items) before.next last refl small item) ∙ there) in
-          at (either first (members last)) found x (sym is) (or_right (first x) (members last x) (at (members set) (members last) x (sym (ap members same_set)) h));
+          let same_set : last ≡ set =
+          same_Some last set (sym (slice_get_read before.sets.items (length before.sets.items) before.next last refl small item) ∙
+          there) in
+          at (either first (members last)) found x (sym is)
+          (or_right (first x) (members last x) (at (members set) (members last) x (sym (ap members same_set)) h));
       within = λ sets below within. (
         (λ (x : ℕ) (h : found x ≡ true).
-            ⊎_elim (below x) (within before.next last (slice_get_read before.sets.items (length before.sets.items) before.next last refl small item) x) (or_cases (first x) (members last x) (at found (either first (members last)) x is h))),
+            ⊎_elim (below x) (within before.next last
+            (slice_get_read before.sets.items (length before.sets.items) before.next last refl small item) x)
+            (or_cases (first x) (members last x) (at found (either first (members last)) x is h))),
         subst (λ s. (n : ℕ) (set : BTreeSet ℕ) → slice_get s.items n ≡ Some set → Below (members set) (sets n)) (sym same) within,
       );
     }
 
 -- an element of a list that grew by one
-pushed : (l : List (BTreeSet ℕ)) (x s : BTreeSet ℕ) (n : ℕ) → slice_get (l ++ x ∷ []) n ≡ Some s → (slice_get l n ≡ Some s) ⊎ ((n ≡ length l) × (x ≡ s))
+pushed : (l : List (BTreeSet ℕ)) (x s : BTreeSet ℕ) (n : ℕ) → slice_get (l ++ x ∷ []) n ≡ Some s
+    → (slice_get l n ≡ Some s) ⊎ ((n ≡ length l) × (x ≡ s))
 pushed [] x s zero e = inr (refl, same_Some x s e)
 pushed [] x s (suc n) e = absurd cc
 pushed (y ∷ l) x s zero e = inl e
-pushed (y ∷ l) x s (suc n) e = ⊎_elim (λ (old : slice_get l n ≡ Some s). inl old) (λ (new : (n ≡ length l) × (x ≡ s)). inr (ap suc new.0, new.1)) (pushed l x s n e)
+pushed (y ∷ l) x s (suc n) e =
+    ⊎_elim (λ (old : slice_get l n ≡ Some s). inl old) (λ (new : (n ≡ length l) × (x ≡ s)). inr (ap suc new.0, new.1)) (pushed l x s n e)
 
 -- a loop that is met for the first time
-pub resumes_first : (first : Test) (set : BTreeSet ℕ) (before after : Loops) → IsReady before → length before.sets.items ≤ before.next → members set ≡ first →
+pub resumes_first : (first : Test) (set : BTreeSet ℕ) (before after : Loops) → IsReady before → length before.sets.items ≤ before.next
+    → members set ≡ first →
     after.sets.items ≡ before.sets.items ++ set ∷ [] → after.next ≡ before.next + 1 → Resumes first first before after
 resumes_first first set before after ready all is grown next =
     let size : length after.sets.items ≡ length before.sets.items + 1 = ap length grown ∙ length-append before.sets.items (set ∷ []) in
     record {
       counted = record { next = next; ready = omega (arith, size, next, ready); kept = omega (arith, size) };
       starts = λ x h. h;
-      goes_on = λ set there x h. absurd (let none : slice_get before.sets.items before.next ≡ None = slice_get_past before.sets.items before.next all in cc);
+      goes_on =
+          λ set there x h. absurd
+          (let none : slice_get before.sets.items before.next ≡ None = slice_get_past before.sets.items before.next all in cc);
       within = λ sets below within. (
         below,
         (λ (n : ℕ) (s : BTreeSet ℕ) (there : slice_get after.sets.items n ≡ Some s).
             ⊎_elim (within n s)
             (λ (new : (n ≡ length before.sets.items) × (set ≡ s)).
             let number : n ≡ before.next = let e = new.0 in omega (arith, e, ready, all) in
-            subst (λ (m : ℕ). Below (members s) (sets m)) (sym number) (λ (x : ℕ) (h : members s x ≡ true). below x (at (members s) first x (sym (ap members new.1) ∙ is) h)))
+            subst (λ (m : ℕ). Below (members s) (sets m)) (sym number)
+            (λ (x : ℕ) (h : members s x ≡ true). below x (at (members s) first x (sym (ap members new.1) ∙ is) h)))
             (pushed before.sets.items set s n (sym (ap (λ l. slice_get l n) grown) ∙ there))),
       );
     }
@@ -218,7 +250,8 @@ resumes_first first set before after ready all is grown next =
 pub record Turns (c : Code) (first found : Test) (before after : Loops) : Type 0 where
   pub starts : Below first found
   pub kept : length before.sets.items ≤ length after.sets.items
-  pub least : (whole : Test) (sets : ℕ → Test) → Below first whole → Below (needed c whole) whole → HasNeeds before.next c whole sets → IsWithin before sets →
+  pub least : (whole : Test) (sets : ℕ → Test) → Below first whole → Below (needed c whole) whole → HasNeeds before.next c whole sets
+      → IsWithin before sets →
       Below found whole × IsWithin after sets
 
 -- before the first round
@@ -226,30 +259,36 @@ pub no_turn : (c : Code) (first : Test) (loops : Loops) → Turns c first first 
 no_turn c first loops = record { starts = λ x h. h; kept = omega arith; least = λ whole sets below closed needs within. (below, within) }
 
 -- one round more, whose body is gone over from its first loop on
-pub one_turn : (c : Code) (first found more new : Test) (before between again after : Loops) → Turns c first found before between → again.sets ≡ between.sets →
+pub one_turn : (c : Code) (first found more new : Test) (before between again after : Loops) → Turns c first found before between
+    → again.sets ≡ between.sets →
     again.next ≡ before.next → GoesOver c found more again after → new ≡ either found more → Turns c first new before after
 unfolding either
 one_turn c first found more new before between again after turns sets_same next_same over is = record {
   starts = λ x h. at (either found more) new x (sym is) (or_left (found x) (more x) (turns.starts x h));
-  kept = let same : length again.sets.items ≡ length between.sets.items = ap (λ s. length s.items) sets_same in omega (arith, same, turns.kept, over.counted.kept);
+  kept = let same : length again.sets.items ≡ length between.sets.items = ap (λ s. length s.items) sets_same in
+      omega (arith, same, turns.kept, over.counted.kept);
   least = λ whole sets below closed needs within.
       let old = turns.least whole sets below closed needs within in
-      let ready : IsWithin again sets = subst (λ s. (n : ℕ) (set : BTreeSet ℕ) → slice_get s.items n ≡ Some set → Below (members set) (sets n)) (sym sets_same) old.1 in
+      let ready : IsWithin again sets =
+      subst (λ s. (n : ℕ) (set : BTreeSet ℕ) → slice_get s.items n ≡ Some set → Below (members set) (sets n)) (sym sets_same) old.1 in
       let new_ones = over.no_more whole sets old.0 (moved c before.next again.next whole whole sets (sym next_same) refl needs) ready in (
         (λ (x : ℕ) (h : new x ≡ true).
-            ⊎_elim (old.0 x) (λ (m : more x ≡ true). closed x (new_ones.0 x m)) (or_cases (found x) (more x) (at new (either found more) x is h))),
+            ⊎_elim (old.0 x) (λ (m : more x ≡ true). closed x (new_ones.0 x m))
+            (or_cases (found x) (more x) (at new (either found more) x is h))),
         new_ones.1,
       );
 }
 
 -- the last round
-pub last_turn : (c : Code) (first : Test) (old new : BTreeSet ℕ) (more : Test) (before between again after : Loops) → IsOrdered nat_cmp old →
+pub last_turn : (c : Code) (first : Test) (old new : BTreeSet ℕ) (more : Test) (before between again after : Loops)
+    → IsOrdered nat_cmp old →
     length new.keys ≡ length old.keys → Turns c first (members old) before between → again.sets ≡ between.sets → again.next ≡ before.next →
     GoesOver c (members old) more again after → members new ≡ either (members old) more → Settles c first (members new) before after
 unfolding either
 last_turn c first old new more before between again after ordered size turns sets_same next_same over is =
     let next = one_turn c first (members old) more (members new) before between again after turns sets_same next_same over is in
-    let wider : Below (members old) (members new) = λ x h. at (either (members old) more) (members new) x (sym is) (or_left (members old x) (more x) h) in
+    let wider : Below (members old) (members new) =
+    λ x h. at (either (members old) more) (members new) x (sym is) (or_left (members old x) (more x) h) in
     let back : Below (members new) (members old) = no_more old new ordered wider (omega (arith, size)) in
     record {
       counted = record { next = omega (arith, next_same, over.counted.next); ready = over.counted.ready; kept = next.kept };
@@ -259,87 +298,9 @@ last_turn c first old new more before between again after ordered size turns set
       least = next.least;
     }
 
--- the sets that the loops of code need, by their numbers
-abbrev sets_of : ℕ → Code → Test → ℕ → Test
-sets_of n End wanted m = λ (x : ℕ). false
-sets_of n (Skip k) wanted m = sets_of n k wanted m
-sets_of n (Assign x e k) wanted m = sets_of n k wanted m
-sets_of n (Write a i e k) wanted m = sets_of n k wanted m
-sets_of n (If b c d k) wanted m =
-    if nat_lt m (n + loops_in k) then sets_of n k wanted m else (if nat_lt m (n + (loops_in k + loops_in c)) then sets_of (n + loops_in k) c (needed k wanted) m else sets_of (n + (loops_in k + loops_in c)) d (needed k wanted) m)
-sets_of n (While b c k) wanted m =
-    if nat_lt m (n + loops_in k) then sets_of n k wanted m else (if nat_lt m (n + (loops_in k + 1)) then needed (While b c k) wanted else sets_of (n + (loops_in k + 1)) c (needed (While b c k) wanted) m)
-sets_of n (Hole h k) wanted m = sets_of n k wanted m
-
--- the first, the second or the third by a number
-is_first : (m a b : ℕ) (p q r : Test) → m < a → (if nat_lt m a then p else (if nat_lt m b then q else r)) ≡ p
-is_first m a b p q r low = let e : nat_lt m a ≡ true = grind (arith, nat_tests) in ap (λ (t : Bool). if t then p else (if nat_lt m b then q else r)) e
-
-is_second : (m a b : ℕ) (p q r : Test) → a ≤ m → m < b → (if nat_lt m a then p else (if nat_lt m b then q else r)) ≡ q
-is_second m a b p q r high low =
-    let e : nat_lt m a ≡ false = grind (arith, nat_tests) in
-    let f : nat_lt m b ≡ true = grind (arith, nat_tests) in
-    ap (λ (t : Bool). if t then p else (if nat_lt m b then q else r)) e ∙ ap (λ (t : Bool). if t then q else r) f
-
-is_third : (m a b : ℕ) (p q r : Test) → a ≤ m → b ≤ m → (if nat_lt m a then p else (if nat_lt m b then q else r)) ≡ r
-is_third m a b p q r high higher =
-    let e : nat_lt m a ≡ false = grind (arith, nat_tests) in
-    let f : nat_lt m b ≡ false = grind (arith, nat_tests) in
-    ap (λ (t : Bool). if t then p else (if nat_lt m b then q else r)) e ∙ ap (λ (t : Bool). if t then q else r) f
-
--- sets that are the same at the numbers of the loops of code
-abbrev AreSame : ℕ → Code → (ℕ → Test) → (ℕ → Test) → Type 0
-AreSame n c sets others = (m : ℕ) → n ≤ m → m < n + loops_in c → sets m ≡ others m
-
--- what loops need is said of their own numbers alone
-needs_same : (c : Code) (n : ℕ) (wanted : Test) (sets others : ℕ → Test) → AreSame n c sets others → HasNeeds n c wanted sets → HasNeeds n c wanted others
-needs_same End n wanted sets others same h = tt
-needs_same (Skip k) n wanted sets others same h = needs_same k n wanted sets others same h
-needs_same (Assign x e k) n wanted sets others same h = needs_same k n wanted sets others same h
-needs_same (Write a i e k) n wanted sets others same h = needs_same k n wanted sets others same h
-needs_same (If b c d k) n wanted sets others same h = (
-  needs_same k n wanted sets others (λ m low high. same m low (omega (arith, high))) h.0,
-  needs_same c (n + loops_in k) (needed k wanted) sets others (λ m low high. same m (omega (arith, low)) (omega (arith, high))) h.1,
-  needs_same d (n + (loops_in k + loops_in c)) (needed k wanted) sets others (λ m low high. same m (omega (arith, low)) (omega (arith, high))) h.2,
-)
-needs_same (While b c k) n wanted sets others same h = (
-  needs_same k n wanted sets others (λ m low high. same m low (omega (arith, high))) h.0,
-  sym (same (n + loops_in k) (omega arith) (omega arith)) ∙ h.1,
-  needs_same c (n + (loops_in k + 1)) (needed (While b c k) wanted) sets others (λ m low high. same m (omega (arith, low)) (omega (arith, high))) h.2,
-)
-needs_same (Hole q k) n wanted sets others same h = needs_same k n wanted sets others same h
-
--- each loop has the set that it needs
-sets_need : (c : Code) (n : ℕ) (wanted : Test) → HasNeeds n c wanted (sets_of n c wanted)
-sets_need End n wanted = tt
-sets_need (Skip k) n wanted = sets_need k n wanted
-sets_need (Assign x e k) n wanted = sets_need k n wanted
-sets_need (Write a i e k) n wanted = sets_need k n wanted
-sets_need (If b c d k) n wanted =
-    let first : ℕ → Test = sets_of n k wanted in
-    let second : ℕ → Test = sets_of (n + loops_in k) c (needed k wanted) in
-    let third : ℕ → Test = sets_of (n + (loops_in k + loops_in c)) d (needed k wanted) in
-    let all : ℕ → Test = sets_of n (If b c d k) wanted in (
-      needs_same k n wanted first all (λ m low high. sym (is_first m (n + loops_in k) (n + (loops_in k + loops_in c)) (first m) (second m) (third m) high)) (sets_need k n wanted),
-      needs_same c (n + loops_in k) (needed k wanted) second all
-          (λ m low high. sym (is_second m (n + loops_in k) (n + (loops_in k + loops_in c)) (first m) (second m) (third m) low (omega (arith, high)))) (sets_need c (n + loops_in k) (needed k wanted)),
-      needs_same d (n + (loops_in k + loops_in c)) (needed k wanted) third all
-          (λ m low high. sym (is_third m (n + loops_in k) (n + (loops_in k + loops_in c)) (first m) (second m) (third m) (omega (arith, low)) low)) (sets_need d (n + (loops_in k + loops_in c)) (needed k wanted)),
-    )
-sets_need (While b c k) n wanted =
-    let whole = needed (While b c k) wanted in
-    let first : ℕ → Test = sets_of n k wanted in
-    let third : ℕ → Test = sets_of (n + (loops_in k + 1)) c whole in
-    let all : ℕ → Test = sets_of n (While b c k) wanted in (
-      needs_same k n wanted first all (λ m low high. sym (is_first m (n + loops_in k) (n + (loops_in k + 1)) (first m) whole (third m) high)) (sets_need k n wanted),
-      is_second (n + loops_in k) (n + loops_in k) (n + (loops_in k + 1)) (first (n + loops_in k)) whole (third (n + loops_in k)) (omega arith) (omega arith),
-      needs_same c (n + (loops_in k + 1)) whole third all
-          (λ m low high. sym (is_third m (n + loops_in k) (n + (loops_in k + 1)) (first m) whole (third m) (omega (arith, low)) low)) (sets_need c (n + (loops_in k + 1)) whole),
-    )
-sets_need (Hole h k) n wanted = sets_need k n wanted
-
 -- where no set was kept before, exactly what code needs is found
-pub over_all : (c : Code) (wanted found : Test) (before after : Loops) → before.sets.items ≡ [] → GoesOver c wanted found before after → found ≡ needed c wanted
+pub over_all : (c : Code) (wanted found : Test) (before after : Loops) → before.sets.items ≡ [] → GoesOver c wanted found before after
+    → found ≡ needed c wanted
 over_all c wanted found before after fresh over =
     let out = over.no_more wanted (sets_of before.next c wanted) (λ x h. h) (sets_need c before.next wanted)
     (λ (n : ℕ) (set : BTreeSet ℕ) (there : slice_get before.sets.items n ≡ Some set).

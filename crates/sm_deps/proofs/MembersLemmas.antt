@@ -32,7 +32,8 @@ or_cond false false = refl
 pub members-insert : (old new : BTreeSet ℕ) (x : ℕ) → Updates nat_cmp old new x true → members new ≡ either (members old) (only x)
 unfolding members only either
 members-insert old new x h =
-    fun_ext (λ (q : ℕ). h.0 q ∙ or_cond (is_at (nat_cmp x) q) (contains nat_cmp old q) ∙ ap (λ (b : Bool). contains nat_cmp old q || b) (at_number x q))
+    fun_ext (λ (q : ℕ). h.0 q ∙ or_cond (is_at (nat_cmp x) q) (contains nat_cmp old q) ∙
+    ap (λ (b : Bool). contains nat_cmp old q || b) (at_number x q))
 
 -- a set with the names of another
 pub members-union : (old more new : BTreeSet ℕ) → InsertsAll nat_cmp old more.keys new → members new ≡ either (members old) (members more)
@@ -101,10 +102,22 @@ unfolding either
 tests-Or b c = refl
 
 -- what adds up names needs
-pub ruleset unions = (either-false, either-either, mentions-Var, mentions-Read, mentions-Plus, mentions-Minus, mentions-Times, tests-Compare, tests-And, tests-Or)
+pub ruleset unions = (
+  either-false,
+  either-either,
+  mentions-Var,
+  mentions-Read,
+  mentions-Plus,
+  mentions-Minus,
+  mentions-Times,
+  tests-Compare,
+  tests-And,
+  tests-Or,
+)
 
 -- two sets added one after the other
-pub added_two : (start one both first second whole : ℕ → Bool) → one ≡ either start first → whole ≡ either first second → both ≡ either one second → both ≡ either start whole
+pub added_two : (start one both first second whole : ℕ → Bool) → one ≡ either start first → whole ≡ either first second
+    → both ≡ either one second → both ≡ either start whole
 added_two start one both first second whole got parts more =
     more ∙ ap (λ (s : ℕ → Bool). either s second) got ∙ either-either start first second ∙ ap (either start) (sym parts)
 
@@ -134,13 +147,15 @@ listed-members set x = ap (λ (p : ℕ → Bool). list_any p set.keys) (fun_ext 
   here x y = grind (arith, nat_tests)
 
 -- sets of the same names have the same list
-pub same_list : (one other : BTreeSet ℕ) → IsOrdered nat_cmp one → IsOrdered nat_cmp other → members one ≡ members other → one.keys ≡ other.keys
+pub same_list : (one other : BTreeSet ℕ) → IsOrdered nat_cmp one → IsOrdered nat_cmp other → members one ≡ members other
+    → one.keys ≡ other.keys
 unfolding members
 same_list one other ordered other_ordered same =
     btree_set_from_contains nat_cmp_total one other ordered other_ordered (λ (x : ℕ). ap (λ (s : ℕ → Bool). s x) same) exact_unsigned
 
 -- a rising list with the names of a set is its list
-pub list_is : (set : BTreeSet ℕ) (list : List ℕ) → IsOrdered nat_cmp set → IsStrictlyIncreasing list → ((x : ℕ) → is_in list x ≡ members set x) → set.keys ≡ list
+pub list_is : (set : BTreeSet ℕ) (list : List ℕ) → IsOrdered nat_cmp set → IsStrictlyIncreasing list
+    → ((x : ℕ) → is_in list x ≡ members set x) → set.keys ≡ list
 list_is set list ordered rises same =
     let other : BTreeSet ℕ = record { keys = list } in
     same_list set other ordered (sorted_from_strictly_increasing list rises) (fun_ext (λ (x : ℕ). sym (same x) ∙ listed-members other x))

@@ -1,5 +1,6 @@
 -- What is needed before statements and lists of statements, one step at a time.
-use Rattle.std.proofs.Common.{◌≡◌, ◌+◌, ◌-◌, ◌<◌, ◌≤◌, ℕ, Bool, true, false, cond, not, ◌==◌, ◌||◌, ◌&&◌, List, [], ◌∷◌, ◌++◌, length, map, drop, get_or, nat_eq, refl, sym, ap, subst, ⊎_elim, ◌∙◌, length-append, arith}
+use Rattle.std.proofs.Common.{◌≡◌, ◌+◌, ◌-◌, ◌<◌, ◌≤◌, ℕ, Bool, true, false, cond, not, ◌==◌, ◌||◌, ◌&&◌, List, [], ◌∷◌, ◌++◌, length, map}
+use Rattle.std.proofs.Common.{drop, get_or, nat_eq, refl, sym, ap, subst, ⊎_elim, ◌∙◌, length-append, arith}
 use Rattle.std.proofs.lemmas.Bool.{cases_Bool, eqb-true, or_left, or_cases}
 use Rattle.std.proofs.lemmas.Bool.Decides.{nat_tests}
 use Rattle.std.proofs.Math.Path.{fun_ext}
@@ -21,7 +22,8 @@ use Rattle.sm_syntax.specs.text.Conditions.{is_in}
 use Rattle.sm_syntax.specs.claim.Syntax.{Code, End, Skip, Assign, Write, If, While, Hole, append}
 use Rattle.sm_syntax.specs.trees.Views.{expression_of, condition_of, sequence, statement_of, code_of}
 use Rattle.sm_syntax.proofs.Blocks.{statement_is, sequence-drop}
-use Rattle.sm_syntax.proofs.Statements.{statement_of-Skip, statement_of-Assign, statement_of-Store, statement_of-If, statement_of-While, statement_of-Hole}
+use Rattle.sm_syntax.proofs.Statements.{statement_of-Skip, statement_of-Assign, statement_of-Store, statement_of-If, statement_of-While}
+use Rattle.sm_syntax.proofs.Statements.{statement_of-Hole}
 use Rattle.sm_deps.specs.Inputs.{grown, needed, inputs}
 use Rattle.sm_deps.specs.Members.{members, only, either, Below}
 use Rattle.sm_deps.specs.Names.{mentions, tests, code_names}
@@ -33,10 +35,14 @@ use Rattle.sm_deps.proofs.MembersLemmas.{at_number, or_assoc, or-false, listed-m
 pub needed-append : (c r : Code) (wanted : ℕ → Bool) → needed (append c r) wanted ≡ needed c (needed r wanted)
 needed-append End r wanted = refl
 needed-append (Skip k) r wanted = needed-append k r wanted
-needed-append (Assign y e k) r wanted = ap {B = ℕ → Bool} (λ (s : ℕ → Bool) (x : ℕ). (s x && not (x == y)) || (s y && mentions e x)) (needed-append k r wanted)
-needed-append (Write a i e k) r wanted = ap {B = ℕ → Bool} (λ (s : ℕ → Bool) (x : ℕ). s x || (s a && (mentions i x || mentions e x))) (needed-append k r wanted)
-needed-append (If b c d k) r wanted = ap {B = ℕ → Bool} (λ (s : ℕ → Bool) (x : ℕ). needed c s x || (needed d s x || tests b x)) (needed-append k r wanted)
-needed-append (While b c k) r wanted = ap {B = ℕ → Bool} (λ (s : ℕ → Bool). grown (length (code_names c)) (needed c) (λ (y : ℕ). s y || tests b y)) (needed-append k r wanted)
+needed-append (Assign y e k) r wanted =
+    ap {B = ℕ → Bool} (λ (s : ℕ → Bool) (x : ℕ). (s x && not (x == y)) || (s y && mentions e x)) (needed-append k r wanted)
+needed-append (Write a i e k) r wanted =
+    ap {B = ℕ → Bool} (λ (s : ℕ → Bool) (x : ℕ). s x || (s a && (mentions i x || mentions e x))) (needed-append k r wanted)
+needed-append (If b c d k) r wanted =
+    ap {B = ℕ → Bool} (λ (s : ℕ → Bool) (x : ℕ). needed c s x || (needed d s x || tests b x)) (needed-append k r wanted)
+needed-append (While b c k) r wanted =
+    ap {B = ℕ → Bool} (λ (s : ℕ → Bool). grown (length (code_names c)) (needed c) (λ (y : ℕ). s y || tests b y)) (needed-append k r wanted)
 needed-append (Hole h k) r wanted = needed-append k r wanted
 
 -- a set without a name
@@ -55,28 +61,32 @@ taken : (set : ℕ → Bool) (y x : ℕ) (m : Bool) → set y ≡ true → ((set
 taken set y x m wanted = ap (λ (c : Bool). (set x && not (x == y)) || (c && m)) wanted
 
 passed : (set : ℕ → Bool) (y x : ℕ) (m : Bool) → set y ≡ false → ((set x && not (x == y)) || (set y && m)) ≡ set x
-passed set y x m lacked = ap (λ (c : Bool). (set x && not (x == y)) || (c && m)) lacked ∙ or-false (set x && not (x == y)) ∙ go (x == y) refl where
-  kept : (b : Bool) → (b && true) ≡ b
-  kept true = refl
-  kept false = refl
+passed set y x m lacked =
+    ap (λ (c : Bool). (set x && not (x == y)) || (c && m)) lacked ∙ or-false (set x && not (x == y)) ∙ go (x == y) refl where
+      kept : (b : Bool) → (b && true) ≡ b
+      kept true = refl
+      kept false = refl
 
-  lost : (b : Bool) → (b && false) ≡ false
-  lost true = refl
-  lost false = refl
+      lost : (b : Bool) → (b && false) ≡ false
+      lost true = refl
+      lost false = refl
 
-  go : (b : Bool) → (x == y) ≡ b → (set x && not b) ≡ set x
-  go true same = lost (set x) ∙ sym (ap set (eqb-true x y same) ∙ lacked)
-  go false other = kept (set x)
+      go : (b : Bool) → (x == y) ≡ b → (set x && not b) ≡ set x
+      go true same = lost (set x) ∙ sym (ap set (eqb-true x y same) ∙ lacked)
+      go false other = kept (set x)
 
 pub needed-Assign : (x : Name) (e : Expr) (wanted : ℕ → Bool) → wanted x.0 ≡ true →
     needed (statement_of (tree.Assign x e) End) wanted ≡ either (without wanted x.0) (mentions (expression_of e))
 unfolding either without
 needed-Assign x e wanted here =
-    ap (λ (c : Code). needed c wanted) (statement_of-Assign x e End) ∙ fun_ext (λ (q : ℕ). taken wanted x.0 q (mentions (expression_of e) q) here)
+    ap (λ (c : Code). needed c wanted) (statement_of-Assign x e End) ∙
+    fun_ext (λ (q : ℕ). taken wanted x.0 q (mentions (expression_of e) q) here)
 
-pub needed-Assign-other : (x : Name) (e : Expr) (wanted : ℕ → Bool) → wanted x.0 ≡ false → needed (statement_of (tree.Assign x e) End) wanted ≡ wanted
+pub needed-Assign-other : (x : Name) (e : Expr) (wanted : ℕ → Bool) → wanted x.0 ≡ false
+    → needed (statement_of (tree.Assign x e) End) wanted ≡ wanted
 needed-Assign-other x e wanted lacked =
-    ap (λ (c : Code). needed c wanted) (statement_of-Assign x e End) ∙ fun_ext (λ (q : ℕ). passed wanted x.0 q (mentions (expression_of e) q) lacked)
+    ap (λ (c : Code). needed c wanted) (statement_of-Assign x e End) ∙
+    fun_ext (λ (q : ℕ). passed wanted x.0 q (mentions (expression_of e) q) lacked)
 
 -- a write to a wanted array, and to another
 pub needed-Store : (a : Name) (i e : Expr) (wanted : ℕ → Bool) → wanted a.0 ≡ true →
@@ -88,14 +98,17 @@ needed-Store a i e wanted here =
     ap (λ (b : Bool). wanted q || (b && (mentions (expression_of i) q || mentions (expression_of e) q))) here ∙
     sym (or_assoc (wanted q) (mentions (expression_of i) q) (mentions (expression_of e) q)))
 
-pub needed-Store-other : (a : Name) (i e : Expr) (wanted : ℕ → Bool) → wanted a.0 ≡ false → needed (statement_of (tree.Store a i e) End) wanted ≡ wanted
+pub needed-Store-other : (a : Name) (i e : Expr) (wanted : ℕ → Bool) → wanted a.0 ≡ false
+    → needed (statement_of (tree.Store a i e) End) wanted ≡ wanted
 needed-Store-other a i e wanted lacked =
     ap (λ (c : Code). needed c wanted) (statement_of-Store a i e End) ∙
-    fun_ext (λ (q : ℕ). ap (λ (b : Bool). wanted q || (b && (mentions (expression_of i) q || mentions (expression_of e) q))) lacked ∙ or-false (wanted q))
+    fun_ext (λ (q : ℕ). ap (λ (b : Bool). wanted q || (b && (mentions (expression_of i) q || mentions (expression_of e) q))) lacked ∙
+    or-false (wanted q))
 
 -- a choice
 pub needed-If : (b : Cond) (c d : Block) (wanted : ℕ → Bool) →
-    needed (statement_of (tree.If b c d) End) wanted ≡ either (either (needed (code_of c) wanted) (needed (code_of d) wanted)) (tests (condition_of b))
+    needed (statement_of (tree.If b c d) End) wanted ≡ either (either (needed (code_of c) wanted) (needed (code_of d) wanted))
+    (tests (condition_of b))
 unfolding either
 needed-If b c d wanted =
     ap (λ (k : Code). needed k wanted) (statement_of-If b c d End) ∙
@@ -103,7 +116,8 @@ needed-If b c d wanted =
 
 -- a loop
 pub needed-While : (b : Cond) (c : Block) (wanted : ℕ → Bool) →
-    needed (statement_of (tree.While b c) End) wanted ≡ grown (length (code_names (code_of c))) (needed (code_of c)) (either wanted (tests (condition_of b)))
+    needed (statement_of (tree.While b c) End) wanted ≡ grown (length (code_names (code_of c))) (needed (code_of c))
+    (either wanted (tests (condition_of b)))
 unfolding either
 needed-While b c wanted = ap (λ (k : Code). needed k wanted) (statement_of-While b c End)
 
@@ -117,7 +131,8 @@ less false false = refl
 pub members-remove : (old new : BTreeSet ℕ) (x : ℕ) → UpdatesBy nat_cmp (nat_cmp x) old new false → members new ≡ without (members old) x
 unfolding members without
 members-remove old new x h =
-    fun_ext (λ (q : ℕ). h.0 q ∙ less (is_at (nat_cmp x) q) (contains nat_cmp old q) ∙ ap (λ (b : Bool). contains nat_cmp old q && not b) (at_number x q))
+    fun_ext (λ (q : ℕ). h.0 q ∙ less (is_at (nat_cmp x) q) (contains nat_cmp old q) ∙
+    ap (λ (b : Bool). contains nat_cmp old q && not b) (at_number x q))
 
 -- a set with the same list
 pub members-same : (old new : BTreeSet ℕ) → new.keys ≡ old.keys → members new ≡ members old
@@ -131,7 +146,8 @@ members-contains set x = refl
 
 -- where more is wanted, more is needed
 pub needed_grows : (c : Code) (few more : ℕ → Bool) → Below few more → Below (needed c few) (needed c more)
-needed_grows c few more h x m = needed_complete c more (Picked more) (λ (y : ℕ) (p : more y ≡ true). p) x (needed_sound c few (Picked more) h x m)
+needed_grows c few more h x m =
+    needed_complete c more (Picked more) (λ (y : ℕ) (p : more y ≡ true). p) x (needed_sound c few (Picked more) h x m)
 
 -- two tests that hold of the same numbers
 pub both_ways : (b c : Bool) → (b ≡ true → c ≡ true) → (c ≡ true → b ≡ true) → b ≡ c
@@ -141,9 +157,11 @@ both_ways false false there back = refl
 
 -- a set's list has no name twice
 distinct : (set : BTreeSet ℕ) → IsOrdered nat_cmp set → IsDistinct nat_eq set.keys
-distinct set ordered = subst (λ (e : ℕ → ℕ → Bool). IsDistinct e set.keys) (fun_ext (λ (x : ℕ). fun_ext (λ (y : ℕ). same x y))) (IsDistinct-from_sorted nat_cmp set.keys ordered) where
-  same : (x y : ℕ) → eq_by_cmp nat_cmp x y ≡ nat_eq x y
-  same x y = grind (arith, nat_tests)
+distinct set ordered =
+    subst (λ (e : ℕ → ℕ → Bool). IsDistinct e set.keys) (fun_ext (λ (x : ℕ). fun_ext (λ (y : ℕ). same x y)))
+    (IsDistinct-from_sorted nat_cmp set.keys ordered) where
+      same : (x y : ℕ) → eq_by_cmp nat_cmp x y ≡ nat_eq x y
+      same x y = grind (arith, nat_tests)
 
 -- a set that has all names of another is at least as large
 pub at_least : (old new : BTreeSet ℕ) → IsOrdered nat_cmp old → Below (members old) (members new) → length old.keys ≤ length new.keys
@@ -152,7 +170,8 @@ at_least old new ordered h =
     (λ (q : ℕ) (m : is_in old.keys q ≡ true). listed-members new q ∙ h q (sym (listed-members old q) ∙ m))
 
 -- where it is no larger, it has no other name
-pub no_more : (old new : BTreeSet ℕ) → IsOrdered nat_cmp old → Below (members old) (members new) → length new.keys ≤ length old.keys → Below (members new) (members old)
+pub no_more : (old new : BTreeSet ℕ) → IsOrdered nat_cmp old → Below (members old) (members new) → length new.keys ≤ length old.keys
+    → Below (members new) (members old)
 no_more old new ordered h small q m =
     ⊎_elim (λ (had : members old q ≡ true). had)
     (λ (lacked : members old q ≡ false).
@@ -175,13 +194,17 @@ pub sequence-before : (l : List Stmt) (j : ℕ) (s : Stmt) → 0 < j → j ≤ l
 sequence-before l j s some within item =
     let next : (j - 1) + 1 ≡ j = omega arith in
     let k = sequence (map statement_of (drop ((j - 1) + 1) l)) End in
-    sym (sequence-drop l (j - 1) s End (omega (arith, some, within)) ∙ statement_is (get_or l (j - 1) s) k ∙ ap (λ (t : Stmt). append (statement_of t End) k) (sym item)
+    sym (sequence-drop l (j - 1) s End (omega (arith, some, within)) ∙ statement_is (get_or l (j - 1) s) k ∙
+    ap (λ (t : Stmt). append (statement_of t End) k) (sym item)
     ∙ ap (λ (m : ℕ). append (statement_of s End) (sequence (map statement_of (drop m l)) End)) next)
 
 -- a set with the names of another is no smaller
-pub turn_grows : (old new : BTreeSet ℕ) (more : ℕ → Bool) → IsOrdered nat_cmp old → members new ≡ either (members old) more → length old.keys ≤ length new.keys
+pub turn_grows : (old new : BTreeSet ℕ) (more : ℕ → Bool) → IsOrdered nat_cmp old → members new ≡ either (members old) more
+    → length old.keys ≤ length new.keys
 unfolding either
-turn_grows old new more ordered is = at_least old new ordered (λ (x : ℕ) (h : members old x ≡ true). subst (λ (s : ℕ → Bool). s x ≡ true) (sym is) (or_left (members old x) (more x) h))
+turn_grows old new more ordered is =
+    at_least old new ordered
+    (λ (x : ℕ) (h : members old x ≡ true). subst (λ (s : ℕ → Bool). s x ≡ true) (sym is) (or_left (members old x) (more x) h))
 
 -- the list of a set that has exactly what is needed is the list of inputs
 pub list_is_inputs : (c : Code) (w : ℕ) (set : BTreeSet ℕ) → IsOrdered nat_cmp set → members set ≡ needed c (only w) → set.keys ≡ inputs c w

@@ -27,17 +27,22 @@ needs_grow (If b c d k) few more h x n =
     ⊎_elim
     (λ (first : Needs c (Needs k few) x). inl (needs_grow c (Needs k few) (Needs k more) after x first))
     (λ (rest : Needs d (Needs k few) x ⊎ IsTrue (tests b x)).
-    inr (first_grows (Needs d (Needs k few) x) (Needs d (Needs k more) x) (IsTrue (tests b x)) (needs_grow d (Needs k few) (Needs k more) after x) rest))
+    inr (first_grows (Needs d (Needs k few) x) (Needs d (Needs k more) x) (IsTrue (tests b x))
+    (needs_grow d (Needs k few) (Needs k more) after x) rest))
     n
-needs_grow (While b c k) few more h x n = λ (set : ℕ → Bool) (starts : Within (λ (y : ℕ). Needs k more y ⊎ IsTrue (tests b y)) (Picked set)) (stays : Within (Needs c (Picked set)) (Picked set)).
+needs_grow (While b c k) few more h x n =
+    λ (set : ℕ → Bool) (starts : Within (λ (y : ℕ). Needs k more y ⊎ IsTrue (tests b y)) (Picked set))
+    (stays : Within (Needs c (Picked set)) (Picked set)).
     n set
-    (λ (y : ℕ) (f : Needs k few y ⊎ IsTrue (tests b y)). starts y (first_grows (Needs k few y) (Needs k more y) (IsTrue (tests b y)) (needs_grow k few more h y) f))
+    (λ (y : ℕ) (f : Needs k few y ⊎ IsTrue (tests b y)).
+    starts y (first_grows (Needs k few y) (Needs k more y) (IsTrue (tests b y)) (needs_grow k few more h y) f))
     stays
 needs_grow (Hole h' k) few more h x n = needs_grow k few more h x n
 
 -- the least set holds the first names
 pub least_starts : (first : NamePredicate) (brings : NamePredicate → NamePredicate) → Within first (Least first brings)
-least_starts first brings x f = λ (set : ℕ → Bool) (starts : Within first (Picked set)) (stays : Within (brings (Picked set)) (Picked set)). starts x f
+least_starts first brings x f =
+    λ (set : ℕ → Bool) (starts : Within first (Picked set)) (stays : Within (brings (Picked set)) (Picked set)). starts x f
 
 -- it holds what a body needs for it
 pub least_stays : (first : NamePredicate) (c : Code) → Within (Needs c (Least first (Needs c))) (Least first (Needs c))

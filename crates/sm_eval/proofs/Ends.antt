@@ -23,16 +23,19 @@ go_on None next f there no_event later = let e = there.1 in absurd cc
 go_on (Some t) next f there no_event later = later t no_event
 
 -- by either part of a choice
-chosen : (b : Bool) (x y : Option EvalError) (o p : Option Store) → (if b then x else y) ≡ None → (x ≡ None → HasEnd o) → (y ≡ None → HasEnd p) → HasEnd (if b then o else p)
+chosen : (b : Bool) (x y : Option EvalError) (o p : Option Store) → (if b then x else y) ≡ None → (x ≡ None → HasEnd o)
+    → (y ≡ None → HasEnd p) → HasEnd (if b then o else p)
 chosen true x y o p no_event first second = first no_event
 chosen false x y o p no_event first second = second no_event
 
 -- a loop, where each run of its body without an event has an end
-pub loop_ends : (b : Condition) (happens : Store → Option EvalError) (body : Store → Option Store) → ((s : Store) → happens s ≡ None → HasEnd (body s)) →
+pub loop_ends : (b : Condition) (happens : Store → Option EvalError) (body : Store → Option Store)
+    → ((s : Store) → happens s ≡ None → HasEnd (body s)) →
     (n : ℕ) (s : Store) → turns_event b happens body n s ≡ None → HasEnd (turns (truth_of b) body n s)
 loop_ends b happens body inner zero s no_event =
     let parts = before_parts (condition_event b s) (if truth_of b s then Some OutOfTurns else None) no_event in
-    chosen (truth_of b s) (Some OutOfTurns) None None (Some s) parts.1 (λ (e : Some OutOfTurns ≡ None). absurd cc) (λ (e : None ≡ None). (s, refl))
+    chosen (truth_of b s) (Some OutOfTurns) None None (Some s) parts.1 (λ (e : Some OutOfTurns ≡ None). absurd cc)
+    (λ (e : None ≡ None). (s, refl))
 loop_ends b happens body inner (suc n) s no_event =
     let rest = turns_event b happens body n in
     let parts = before_parts (condition_event b s) (if truth_of b s then before (happens s) (after (body s) rest) else None) no_event in
@@ -59,7 +62,8 @@ ends n (If b c d k) s no_event =
     let end = if truth_of b s then run n c s else run n d s in
     let parts = before_parts (before (condition_event b s) happens) (after end (event n k)) no_event in
     let inner = before_parts (condition_event b s) happens parts.0 in
-    go_on end (event n k) (run n k) (chosen (truth_of b s) (event n c s) (event n d s) (run n c s) (run n d s) inner.1 (ends n c s) (ends n d s)) parts.1 (ends n k)
+    go_on end (event n k) (run n k)
+    (chosen (truth_of b s) (event n c s) (event n d s) (run n c s) (run n d s) inner.1 (ends n c s) (ends n d s)) parts.1 (ends n k)
 ends n (While b c k) s no_event =
     let happens = turns_event b (event n c) (run n c) n s in
     let end = turns (truth_of b) (run n c) n s in

@@ -3,11 +3,14 @@ use Rattle.std.proofs.Common.{◌≡◌, ℕ, Option, Some, None, List, [], ◌�
 use Rattle.std.specs.Option.{option_or}
 use Rattle.sm_syntax.specs.declared.tree.Sort.{Sort}
 use Rattle.sm_syntax.specs.declared.tree.Sort.TheVariants.{Num, Arr}
-use Rattle.sm_syntax.specs.text.Conditions.{Refusal, TooMany, first_of_all, first_sort_fault, sort_refusal, double_name, first_output_fault, over, size_fault, program_fault, ill_assumed, code_nodes, code_depth, condition_nodes, condition_depth}
+use Rattle.sm_syntax.specs.text.Conditions.{Refusal, TooMany, first_of_all, first_sort_fault, sort_refusal, double_name, first_output_fault}
+use Rattle.sm_syntax.specs.text.Conditions.{over, size_fault, program_fault, ill_assumed, code_nodes, code_depth, condition_nodes}
+use Rattle.sm_syntax.specs.text.Conditions.{condition_depth}
 use Rattle.sm_syntax.specs.text.Uses.{names_in, names_tested, names_used}
 use Rattle.sm_syntax.specs.text.Parts.{sort_of}
 use Rattle.sm_syntax.specs.text.Sorts.{Sorts, IsWellSortedExpression, IsWellSortedCondition, IsWellSorted}
-use Rattle.sm_syntax.specs.claim.Syntax.{Expression, Lit, Var, Read, Neg, Plus, Minus, Times, Condition, Yes, No, Compare, Not, And, Or, Code, End, Skip, Assign, Write, If, While, Hole}
+use Rattle.sm_syntax.specs.claim.Syntax.{Expression, Lit, Var, Read, Neg, Plus, Minus, Times, Condition, Yes, No, Compare, Not, And, Or}
+use Rattle.sm_syntax.specs.claim.Syntax.{Code, End, Skip, Assign, Write, If, While, Hole}
 use Rattle.sm_syntax.proofs.Uses.{first_sort_fault-one, first_sort_fault-append}
 
 -- no fault of two is neither
@@ -16,7 +19,8 @@ neither None b none = (refl, none)
 neither (Some r) b none = cc
 
 -- names in two parts
-parts : (sorts : Sorts) (xs ys : List (ℕ × Sort)) → first_sort_fault sorts (xs ++ ys) ≡ None → (first_sort_fault sorts xs ≡ None) × (first_sort_fault sorts ys ≡ None)
+parts : (sorts : Sorts) (xs ys : List (ℕ × Sort)) → first_sort_fault sorts (xs ++ ys) ≡ None
+    → (first_sort_fault sorts xs ≡ None) × (first_sort_fault sorts ys ≡ None)
 parts sorts xs ys none = neither (first_sort_fault sorts xs) (first_sort_fault sorts ys) (sym (first_sort_fault-append sorts xs ys) ∙ none)
 
 -- a sort that isn't refused
@@ -39,18 +43,24 @@ expression_sorted sorts (Read a i) none =
     let both = parts sorts ((a, Arr) ∷ []) (names_in i) none in
     (one sorts a Arr both.0, expression_sorted sorts i both.1)
 expression_sorted sorts (Neg e) none = expression_sorted sorts e none
-expression_sorted sorts (Plus d e) none = let both = parts sorts (names_in d) (names_in e) none in (expression_sorted sorts d both.0, expression_sorted sorts e both.1)
-expression_sorted sorts (Minus d e) none = let both = parts sorts (names_in d) (names_in e) none in (expression_sorted sorts d both.0, expression_sorted sorts e both.1)
-expression_sorted sorts (Times d e) none = let both = parts sorts (names_in d) (names_in e) none in (expression_sorted sorts d both.0, expression_sorted sorts e both.1)
+expression_sorted sorts (Plus d e) none = let both = parts sorts (names_in d) (names_in e) none in
+    (expression_sorted sorts d both.0, expression_sorted sorts e both.1)
+expression_sorted sorts (Minus d e) none = let both = parts sorts (names_in d) (names_in e) none in
+    (expression_sorted sorts d both.0, expression_sorted sorts e both.1)
+expression_sorted sorts (Times d e) none = let both = parts sorts (names_in d) (names_in e) none in
+    (expression_sorted sorts d both.0, expression_sorted sorts e both.1)
 
 -- the names of a condition
 pub condition_sorted : (sorts : Sorts) (b : Condition) → first_sort_fault sorts (names_tested b) ≡ None → IsWellSortedCondition sorts b
 condition_sorted sorts Yes none = tt
 condition_sorted sorts No none = tt
-condition_sorted sorts (Compare op d e) none = let both = parts sorts (names_in d) (names_in e) none in (expression_sorted sorts d both.0, expression_sorted sorts e both.1)
+condition_sorted sorts (Compare op d e) none = let both = parts sorts (names_in d) (names_in e) none in
+    (expression_sorted sorts d both.0, expression_sorted sorts e both.1)
 condition_sorted sorts (Not b) none = condition_sorted sorts b none
-condition_sorted sorts (And b c) none = let both = parts sorts (names_tested b) (names_tested c) none in (condition_sorted sorts b both.0, condition_sorted sorts c both.1)
-condition_sorted sorts (Or b c) none = let both = parts sorts (names_tested b) (names_tested c) none in (condition_sorted sorts b both.0, condition_sorted sorts c both.1)
+condition_sorted sorts (And b c) none = let both = parts sorts (names_tested b) (names_tested c) none in
+    (condition_sorted sorts b both.0, condition_sorted sorts c both.1)
+condition_sorted sorts (Or b c) none = let both = parts sorts (names_tested b) (names_tested c) none in
+    (condition_sorted sorts b both.0, condition_sorted sorts c both.1)
 
 -- the names of code
 pub code_sorted : (sorts : Sorts) (c : Code) → first_sort_fault sorts (names_used c) ≡ None → IsWellSorted sorts c
@@ -77,7 +87,8 @@ code_sorted sorts (While b c k) none =
 code_sorted sorts (Hole h k) none = code_sorted sorts k none
 
 -- the names of a well-formed program
-pub program_sorted : (declared : List (ℕ × Sort)) (outputs : List ℕ) (c : Code) → program_fault declared outputs c ≡ None → IsWellSorted (sort_of declared) c
+pub program_sorted : (declared : List (ℕ × Sort)) (outputs : List ℕ) (c : Code) → program_fault declared outputs c ≡ None
+    → IsWellSorted (sort_of declared) c
 unfolding program_fault
 program_sorted declared outputs c none =
     let names = first_sort_fault (sort_of declared) (names_used c) in
@@ -88,7 +99,8 @@ program_sorted declared outputs c none =
     code_sorted (sort_of declared) c here.0
 
 -- the names of a well-formed condition
-pub assumed_sorted : (declared : List (ℕ × Sort)) (b : Condition) → ill_assumed declared (Some b) ≡ None → IsWellSortedCondition (sort_of declared) b
+pub assumed_sorted : (declared : List (ℕ × Sort)) (b : Condition) → ill_assumed declared (Some b) ≡ None
+    → IsWellSortedCondition (sort_of declared) b
 unfolding ill_assumed
 assumed_sorted declared b none =
     let names = first_sort_fault (sort_of declared) (names_tested b) in

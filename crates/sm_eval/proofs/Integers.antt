@@ -28,7 +28,8 @@ not_below_itself x y below same = omega (arith, ints)
 pub ranks_rise : (x y k : ℤ) → x <ℤ y → ordering_index (int_cmp x k) ≤ ordering_index (int_cmp y k)
 ranks_rise x y k below = by (int_cmp x k) (int_ranks x k) (int_cmp y k) (int_ranks y k)
   where
-    by : (a : Ordering) → MatchOrdering a (x <ℤ k) (x ≡ k) (k <ℤ x) → (b : Ordering) → MatchOrdering b (y <ℤ k) (y ≡ k) (k <ℤ y) → ordering_index a ≤ ordering_index b
+    by : (a : Ordering) → MatchOrdering a (x <ℤ k) (x ≡ k) (k <ℤ x) → (b : Ordering) → MatchOrdering b (y <ℤ k) (y ≡ k) (k <ℤ y)
+        → ordering_index a ≤ ordering_index b
     by Less a b e = omega arith
     by Equal a Less e = absurd (omega (arith, ints))
     by Equal a Equal e = omega arith

@@ -1,5 +1,6 @@
 -- The number at an index, in a list of cells and in one that was edited.
-use Rattle.std.proofs.Common.{◌≡◌, ◌<◌, ◌≢◌, ℕ, zero, suc, ℤ, pos, Bool, true, false, if◌then◌else◌, List, [], ◌∷◌, length, set, refl, sym, ap, ◌∙◌, arith}
+use Rattle.std.proofs.Common.{◌≡◌, ◌<◌, ◌≢◌, ℕ, zero, suc, ℤ, pos, Bool, true, false, if◌then◌else◌, List, [], ◌∷◌, length, set, refl, sym}
+use Rattle.std.proofs.Common.{ap, ◌∙◌, arith}
 use Rattle.std.specs.List.{insert, remove}
 use Rattle.std.specs.Ordering.{int_eq}
 use Rattle.std.proofs.lemmas.Bool.Decides.{Decides-int_eq}
@@ -44,7 +45,8 @@ listed_present (c ∷ l) i (suc p) at none =
     first_passed c l i (none 0 (omega arith)) ∙ listed_present l i p (is_at_rest c l i p at) (none_before_rest c l i p none)
 
 -- two choices that don't both hold, in either order
-exchanged : (a b : Bool) (x y z : ℤ) → (a ≡ true → b ≡ true → ⊥) → (if a then x else (if b then y else z)) ≡ (if b then y else (if a then x else z))
+exchanged : (a b : Bool) (x y z : ℤ) → (a ≡ true → b ≡ true → ⊥)
+    → (if a then x else (if b then y else z)) ≡ (if b then y else (if a then x else z))
 exchanged true true x y z apart = absurd (apart refl refl)
 exchanged true false x y z apart = refl
 exchanged false true x y z apart = refl
@@ -71,9 +73,11 @@ pub listed-set : (l : List (ℤ × ℤ)) (i z : ℤ) (p : ℕ) → IsAt l i p �
     listed (set l p (i, z)) q ≡ (if int_eq q i then z else listed l q)
 listed-set [] i z p at none q = absurd (omega (arith, at.in_range))
 listed-set (c ∷ l) i z zero at none q =
-    asked_again (int_eq q i) z c.1 (listed l q) ∙ ap (λ (j : ℤ). if int_eq q i then z else (if int_eq q j then c.1 else listed l q)) (sym at.same)
+    asked_again (int_eq q i) z c.1 (listed l q) ∙
+    ap (λ (j : ℤ). if int_eq q i then z else (if int_eq q j then c.1 else listed l q)) (sym at.same)
 listed-set (c ∷ l) i z (suc p) at none q =
-    after_first c l (set l p (i, z)) i z q (none 0 (omega arith)) (listed-set l i z p (is_at_rest c l i p at) (none_before_rest c l i p none) q)
+    after_first c l (set l p (i, z)) i z q (none 0 (omega arith))
+    (listed-set l i z p (is_at_rest c l i p at) (none_before_rest c l i p none) q)
 
 -- a new cell, before any that has the index
 pub listed-insert : (l : List (ℤ × ℤ)) (i z : ℤ) (p : ℕ) → NoneBefore l i p → (q : ℤ) →
@@ -95,7 +99,8 @@ listed-remove [] i p at before after q = absurd (omega (arith, at.in_range))
 listed-remove (c ∷ l) i zero at before after q =
     zero_there (int_eq q i) (listed l q)
     (λ (same : int_eq q i ≡ true).
-    ap (listed l) ((Decides-int_eq q i).0 same) ∙ listed_absent l i (λ (r : ℕ) (lt : r < length l). after (suc r) (omega arith) (omega arith))) ∙
+    ap (listed l) ((Decides-int_eq q i).0 same) ∙
+    listed_absent l i (λ (r : ℕ) (lt : r < length l). after (suc r) (omega arith) (omega arith))) ∙
     asked_again (int_eq q i) (pos 0) c.1 (listed l q) ∙
     ap (λ (j : ℤ). if int_eq q i then pos 0 else (if int_eq q j then c.1 else listed l q)) (sym at.same)
 listed-remove (c ∷ l) i (suc p) at before after q =

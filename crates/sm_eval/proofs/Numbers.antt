@@ -18,7 +18,8 @@ held_number (Number z) sorted = refl
 held_number (Array cells) sorted = cc
 
 -- a well-sorted expression has a number
-pub sorted_number : (s : Store) (e : Expression) → IsWellSortedExpression (sorts_of s) e → value_of e (meaning s) ≡ plain.Number (number (value_of e (meaning s)))
+pub sorted_number : (s : Store) (e : Expression) → IsWellSortedExpression (sorts_of s) e
+    → value_of e (meaning s) ≡ plain.Number (number (value_of e (meaning s)))
 unfolding meaning sorts_of
 sorted_number s (Lit z) sorted = refl
 sorted_number s (Var x) sorted = held_number (stored_value_of s.stored.items x) sorted

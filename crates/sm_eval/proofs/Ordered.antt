@@ -1,5 +1,6 @@
 -- What a search finds among the cells of an array, and what an edit at that place makes of them.
-use Rattle.std.proofs.Common.{◌≡◌, ◌≢◌, ◌<◌, ◌≤◌, ◌+◌, ◌-◌, ℕ, ℤ, pos, true, ◌⊎◌, inl, inr, List, length, get_or, set, Result, Ok, Err, IfOk, IfErr, sym, ap, subst, ◌∙◌, arith}
+use Rattle.std.proofs.Common.{◌≡◌, ◌≢◌, ◌<◌, ◌≤◌, ◌+◌, ◌-◌, ℕ, ℤ, pos, true, ◌⊎◌, inl, inr, List, length, get_or, set, Result, Ok, Err}
+use Rattle.std.proofs.Common.{IfOk, IfErr, sym, ap, subst, ◌∙◌, arith}
 use Rattle.std.specs.Prelude.{◌<ℤ◌}
 use Rattle.std.specs.List.{insert, remove}
 use Rattle.std.specs.List.Sorted.{IsSearchInRange, IsBinarySearchResult, IsNonDecreasingBy}
@@ -10,12 +11,14 @@ use Rattle.std.proofs.lemmas.Bool.Decides.{Decides-int_eq}
 use Rattle.std.proofs.lemmas.Cmp.{int_ranked}
 use Rattle.std.proofs.lemmas.List.{length-set, get_or-set_same, get_or-set_other}
 use Rattle.std.proofs.lemmas.List.Sorted.{IsNonDecreasingBy-from_default}
-use Rattle.std.proofs.lemmas.List.Edits.{length-insert, get_or-insert_below, get_or-insert_at, get_or-insert_above, length-remove, get_or-remove_below, get_or-remove_above}
+use Rattle.std.proofs.lemmas.List.Edits.{length-insert, get_or-insert_below, get_or-insert_at, get_or-insert_above, length-remove}
+use Rattle.std.proofs.lemmas.List.Edits.{get_or-remove_below, get_or-remove_above}
 use Rattle.sm_syntax.specs.claim.Stores.{with_element}
 use Rattle.sm_eval.specs.Cells.{listed, index_at, cell_number_at, IsAscending, AreCells}
 use Rattle.sm_eval.specs.CellPlaces.{IsAt, IsGapFor}
 use Rattle.sm_eval.proofs.Integers.{not_below_itself, ranks_rise}
-use Rattle.sm_eval.proofs.Listed.{NoneBefore, NoneAfter, listed_absent, listed_present, listed-set, listed-insert, zero_there, listed-remove}
+use Rattle.sm_eval.proofs.Listed.{NoneBefore, NoneAfter, listed_absent, listed_present, listed-set, listed-insert, zero_there}
+use Rattle.sm_eval.proofs.Listed.{listed-remove}
 
 -- an order of numbers that are equal to others
 moved : (a b x y : ℤ) → a ≡ x → b ≡ y → x <ℤ y → a <ℤ b
@@ -32,9 +35,11 @@ place_cases q p = by (cases_lt q p) (cases_eq q p)
 
 module _ (l : List (ℤ × ℤ)) (ascending : IsAscending l) (i : ℤ) where
   -- a place that isn't later has no later comparison with an index
-  comparison_rises : (p q : ℕ) → ((p ≡ q) ⊎ (p ≡ q → ⊥)) → p ≤ q → q < length l → ordering_index (int_cmp (index_at l p) i) ≤ ordering_index (int_cmp (index_at l q) i)
+  comparison_rises : (p q : ℕ) → ((p ≡ q) ⊎ (p ≡ q → ⊥)) → p ≤ q → q < length l
+      → ordering_index (int_cmp (index_at l p) i) ≤ ordering_index (int_cmp (index_at l q) i)
   comparison_rises p q (inl same) le in_range =
-      let ranks : ordering_index (int_cmp (index_at l p) i) ≡ ordering_index (int_cmp (index_at l q) i) = ap (λ (r : ℕ). ordering_index (int_cmp (index_at l r) i)) same in
+      let ranks : ordering_index (int_cmp (index_at l p) i) ≡ ordering_index (int_cmp (index_at l q) i) =
+      ap (λ (r : ℕ). ordering_index (int_cmp (index_at l r) i)) same in
       omega arith
   comparison_rises p q (inr differs) le in_range = ranks_rise (index_at l p) (index_at l q) i (ascending p q (omega arith) in_range)
 
@@ -45,14 +50,17 @@ module _ (l : List (ℤ × ℤ)) (ascending : IsAscending l) (i : ℤ) where
       (λ (p q : ℕ) (le : p ≤ q) (in_range : q < length l). comparison_rises p q (cases_eq p q) le in_range)
 
   -- a binary search ends at the cell of the index, or at the gap for it
-  pub searched : (r : Result ℕ ℕ) → IsSearchInRange r (length l) → IsBinarySearchResult (λ (c : ℤ × ℤ). int_cmp c.0 i) l r → record { found : IfOk r (IsAt l i); absent : IfErr r (IsGapFor l i) }
-  searched (Ok p) in_range equal = record { found = record { in_range = in_range; same = int_ranked _ i _ (sym (equal (pos 0, pos 0))) }; absent = tt }
+  pub searched : (r : Result ℕ ℕ) → IsSearchInRange r (length l) → IsBinarySearchResult (λ (c : ℤ × ℤ). int_cmp c.0 i) l r
+      → record { found : IfOk r (IsAt l i); absent : IfErr r (IsGapFor l i) }
+  searched (Ok p) in_range equal =
+      record { found = record { in_range = in_range; same = int_ranked _ i _ (sym (equal (pos 0, pos 0))) }; absent = tt }
   searched (Err p) in_range parted = record {
     found = tt;
     absent = record {
       in_range = in_range;
       smaller_before = λ (q : ℕ) (lt : q < p). int_ranked _ i _ (sym ((parted comparisons_rise).0 q (pos 0, pos 0) (omega arith) lt));
-      greater_after = λ (q : ℕ) (le : p ≤ q) (lt : q < length l). int_ranked _ i _ (sym ((parted comparisons_rise).1 q (pos 0, pos 0) le lt));
+      greater_after =
+          λ (q : ℕ) (le : p ≤ q) (lt : q < length l). int_ranked _ i _ (sym ((parted comparisons_rise).1 q (pos 0, pos 0) le lt));
     };
   }
 
@@ -79,13 +87,15 @@ module _ (l : List (ℤ × ℤ)) (cells : AreCells l) (i : ℤ) (p : ℕ) (at : 
   -- each place keeps its index
   index_at-set : (z : ℤ) (q : ℕ) → ((q ≡ p) ⊎ (q ≡ p → ⊥)) → index_at (set l p (i, z)) q ≡ index_at l q
   index_at-set z q (inl same) =
-      ap (index_at (set l p (i, z))) same ∙ ap (λ (c : ℤ × ℤ). c.0) (get_or-set_same l p (i, z) (pos 0, pos 0) at.in_range) ∙ sym at.same ∙ ap (index_at l) (sym same)
+      ap (index_at (set l p (i, z))) same ∙ ap (λ (c : ℤ × ℤ). c.0) (get_or-set_same l p (i, z) (pos 0, pos 0) at.in_range) ∙ sym at.same ∙
+      ap (index_at l) (sym same)
   index_at-set z q (inr differs) = ap (λ (c : ℤ × ℤ). c.0) (get_or-set_other l p q (i, z) (pos 0, pos 0) differs)
 
   -- no place has 0
   no_zero-set : (z : ℤ) → z ≢ pos 0 → (q : ℕ) → ((q ≡ p) ⊎ (q ≡ p → ⊥)) → q < length l → cell_number_at (set l p (i, z)) q ≢ pos 0
   no_zero-set z other q (inl same) lt zero =
-      other (sym (ap (λ (c : ℤ × ℤ). c.1) (get_or-set_same l p (i, z) (pos 0, pos 0) at.in_range)) ∙ ap (cell_number_at (set l p (i, z))) (sym same) ∙ zero)
+      other (sym (ap (λ (c : ℤ × ℤ). c.1) (get_or-set_same l p (i, z) (pos 0, pos 0) at.in_range)) ∙
+      ap (cell_number_at (set l p (i, z))) (sym same) ∙ zero)
   no_zero-set z other q (inr differs) lt zero =
       cells.no_zero q lt (sym (ap (λ (c : ℤ × ℤ). c.1) (get_or-set_other l p q (i, z) (pos 0, pos 0) differs)) ∙ zero)
 
@@ -102,8 +112,10 @@ module _ (l : List (ℤ × ℤ)) (cells : AreCells l) (i : ℤ) (p : ℕ) (at : 
   -- without the cell, each place has its cell, or that of the next place
   shifted : (q : ℕ) → ((q < p) ⊎ (p ≤ q)) → q < length (remove l p) →
       (r : ℕ) × (get_or (remove l p) q (pos 0, pos 0) ≡ get_or l r (pos 0, pos 0)) × (r < length l)
-  shifted q (inl before) lt = (q, get_or-remove_below l p (pos 0, pos 0) q before at.in_range, let long = length-remove l p at.in_range in omega arith)
-  shifted q (inr after) lt = (q + 1, get_or-remove_above l p (pos 0, pos 0) q after at.in_range, let long = length-remove l p at.in_range in omega arith)
+  shifted q (inl before) lt =
+      (q, get_or-remove_below l p (pos 0, pos 0) q before at.in_range, let long = length-remove l p at.in_range in omega arith)
+  shifted q (inr after) lt =
+      (q + 1, get_or-remove_above l p (pos 0, pos 0) q after at.in_range, let long = length-remove l p at.in_range in omega arith)
 
   -- the index at a place without the cell
   index_below : (q : ℕ) → q < p → index_at (remove l p) q ≡ index_at l q
@@ -112,7 +124,8 @@ module _ (l : List (ℤ × ℤ)) (cells : AreCells l) (i : ℤ) (p : ℕ) (at : 
   index_above : (q : ℕ) → p ≤ q → index_at (remove l p) q ≡ index_at l (q + 1)
   index_above q after = ap (λ (c : ℤ × ℤ). c.0) (get_or-remove_above l p (pos 0, pos 0) q after at.in_range)
 
-  ascending-remove : (q r : ℕ) → ((q < p) ⊎ (p ≤ q)) → ((r < p) ⊎ (p ≤ r)) → q < r → r < length (remove l p) → index_at (remove l p) q <ℤ index_at (remove l p) r
+  ascending-remove : (q r : ℕ) → ((q < p) ⊎ (p ≤ q)) → ((r < p) ⊎ (p ≤ r)) → q < r → r < length (remove l p)
+      → index_at (remove l p) q <ℤ index_at (remove l p) r
   ascending-remove q r (inl first) (inl second) lt in_range =
       let long = length-remove l p at.in_range in
       moved _ _ _ _ (index_below q first) (index_below r second) (cells.ascending q r lt (omega arith))
@@ -127,7 +140,8 @@ module _ (l : List (ℤ × ℤ)) (cells : AreCells l) (i : ℤ) (p : ℕ) (at : 
   -- without the cell they are cells
   pub remove_cells : AreCells (remove l p)
   remove_cells = record {
-    ascending = λ (q r : ℕ) (lt : q < r) (in_range : r < length (remove l p)). ascending-remove q r (cases_lt q p) (cases_lt r p) lt in_range;
+    ascending =
+        λ (q r : ℕ) (lt : q < r) (in_range : r < length (remove l p)). ascending-remove q r (cases_lt q p) (cases_lt r p) lt in_range;
     no_zero = λ (q : ℕ) (lt : q < length (remove l p)) (zero : cell_number_at (remove l p) q ≡ pos 0).
         let there = shifted q (cases_lt q p) lt in
         cells.no_zero there.0 there.2 (sym (ap (λ (c : ℤ × ℤ). c.1) there.1) ∙ zero);
@@ -147,7 +161,9 @@ module _ (l : List (ℤ × ℤ)) (i : ℤ) (p : ℕ) (gap : IsGapFor l i p) wher
 
   -- and 0 there changes nothing
   pub gap_has_zero : listed l ≡ with_element (listed l) i (pos 0)
-  gap_has_zero = fun_ext (λ (q : ℤ). zero_there (int_eq q i) (listed l q) (λ (same : int_eq q i ≡ true). ap (listed l) ((Decides-int_eq q i).0 same) ∙ listed_gap))
+  gap_has_zero =
+      fun_ext (λ (q : ℤ). zero_there (int_eq q i) (listed l q)
+      (λ (same : int_eq q i ≡ true). ap (listed l) ((Decides-int_eq q i).0 same) ∙ listed_gap))
 
   -- a new cell in the gap is a number at the index
   pub insert_is : (z : ℤ) → listed (insert l p (i, z)) ≡ with_element (listed l) i z
@@ -171,22 +187,27 @@ module _ (l : List (ℤ × ℤ)) (i : ℤ) (p : ℕ) (gap : IsGapFor l i p) wher
         let le = gap.in_range in
         moved _ _ _ _ (ap (λ (c : ℤ × ℤ). c.0) (below q a)) (ap (λ (c : ℤ × ℤ). c.0) (below r b)) (cells.ascending q r lt (omega arith))
     ascending-insert q r (inl a) (inr (inl b)) lt in_range =
-        moved _ _ _ _ (ap (λ (c : ℤ × ℤ). c.0) (below q a)) (ap (index_at (insert l p (i, z))) b ∙ ap (λ (c : ℤ × ℤ). c.0) here) (gap.smaller_before q a)
+        moved _ _ _ _ (ap (λ (c : ℤ × ℤ). c.0) (below q a)) (ap (index_at (insert l p (i, z))) b ∙ ap (λ (c : ℤ × ℤ). c.0) here)
+        (gap.smaller_before q a)
     ascending-insert q r (inl a) (inr (inr b)) lt in_range =
-        moved _ _ _ _ (ap (λ (c : ℤ × ℤ). c.0) (below q a)) (ap (λ (c : ℤ × ℤ). c.0) (above r b)) (cells.ascending q (r - 1) (omega arith) (omega arith))
+        moved _ _ _ _ (ap (λ (c : ℤ × ℤ). c.0) (below q a)) (ap (λ (c : ℤ × ℤ). c.0) (above r b))
+        (cells.ascending q (r - 1) (omega arith) (omega arith))
     ascending-insert q r (inr (inl a)) (inr (inr b)) lt in_range =
         moved _ _ _ _ (ap (index_at (insert l p (i, z))) a ∙ ap (λ (c : ℤ × ℤ). c.0) here) (ap (λ (c : ℤ × ℤ). c.0) (above r b))
         (gap.greater_after (r - 1) (omega arith) (omega arith))
     ascending-insert q r (inr (inr a)) (inr (inr b)) lt in_range =
-        moved _ _ _ _ (ap (λ (c : ℤ × ℤ). c.0) (above q a)) (ap (λ (c : ℤ × ℤ). c.0) (above r b)) (cells.ascending (q - 1) (r - 1) (omega arith) (omega arith))
+        moved _ _ _ _ (ap (λ (c : ℤ × ℤ). c.0) (above q a)) (ap (λ (c : ℤ × ℤ). c.0) (above r b))
+        (cells.ascending (q - 1) (r - 1) (omega arith) (omega arith))
     ascending-insert q r (inr (inl a)) (inl b) lt in_range = absurd (omega arith)
     ascending-insert q r (inr (inl a)) (inr (inl b)) lt in_range = absurd (omega arith)
     ascending-insert q r (inr (inr a)) (inl b) lt in_range = absurd (omega arith)
     ascending-insert q r (inr (inr a)) (inr (inl b)) lt in_range = absurd (omega arith)
 
     no_zero-insert : z ≢ pos 0 → (q : ℕ) → ((q < p) ⊎ ((q ≡ p) ⊎ (p < q))) → q < length l + 1 → cell_number_at (insert l p (i, z)) q ≢ pos 0
-    no_zero-insert other q (inl a) lt zero = let le = gap.in_range in cells.no_zero q (omega arith) (sym (ap (λ (c : ℤ × ℤ). c.1) (below q a)) ∙ zero)
-    no_zero-insert other q (inr (inl a)) lt zero = other (sym (ap (cell_number_at (insert l p (i, z))) a ∙ ap (λ (c : ℤ × ℤ). c.1) here) ∙ zero)
+    no_zero-insert other q (inl a) lt zero = let le = gap.in_range in
+        cells.no_zero q (omega arith) (sym (ap (λ (c : ℤ × ℤ). c.1) (below q a)) ∙ zero)
+    no_zero-insert other q (inr (inl a)) lt zero =
+        other (sym (ap (cell_number_at (insert l p (i, z))) a ∙ ap (λ (c : ℤ × ℤ). c.1) here) ∙ zero)
     no_zero-insert other q (inr (inr a)) lt zero = cells.no_zero (q - 1) (omega arith) (sym (ap (λ (c : ℤ × ℤ). c.1) (above q a)) ∙ zero)
 
     -- a new cell in the gap leaves them cells
@@ -194,6 +215,8 @@ module _ (l : List (ℤ × ℤ)) (i : ℤ) (p : ℕ) (gap : IsGapFor l i p) wher
     insert_cells other =
         let long = length-insert l p (i, z) gap.in_range in
         record {
-          ascending = λ (q r : ℕ) (lt : q < r) (in_range : r < length (insert l p (i, z))). ascending-insert q r (place_cases q p) (place_cases r p) lt (omega arith);
+          ascending =
+              λ (q r : ℕ) (lt : q < r) (in_range : r < length (insert l p (i, z))).
+              ascending-insert q r (place_cases q p) (place_cases r p) lt (omega arith);
           no_zero = λ (q : ℕ) (lt : q < length (insert l p (i, z))). no_zero-insert other q (place_cases q p) (omega arith);
         }

@@ -21,7 +21,8 @@ one_less : (m : ℕ) → m ≡ suc m - 1
 one_less m = omega arith
 
 -- what happens in a loop from a turn on is what happens after the turn, where nothing happens in it
-pub turns_event-turn : (b : Condition) (happens : Store → Option EvalError) (body : Store → Option Store) (left : ℕ) (s t : Store) → (left ≡ 0 → ⊥) →
+pub turns_event-turn : (b : Condition) (happens : Store → Option EvalError) (body : Store → Option Store) (left : ℕ) (s t : Store)
+    → (left ≡ 0 → ⊥) →
     condition_event b s ≡ None → truth_of b s ≡ true → happens s ≡ None → body s ≡ Some t →
     turns_event b happens body left s ≡ turns_event b happens body (left - 1) t
 turns_event-turn b happens body zero s t some no_event holds inner end = absurd (some refl)

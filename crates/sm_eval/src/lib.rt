@@ -19,8 +19,8 @@ mod error;
 mod expression;
 mod laws;
 mod runs;
-mod stored_value;
 mod store;
+mod stored_value;
 
 pub use error::EvalError;
 pub use expression::{truth, value};

@@ -123,7 +123,12 @@ impl Store {
 }
 
 // A name more with 0, where it isn't declared.
-fn declare(alloc: Global, stored: &mut Vec<StoredValue>, x: Name, of: Sort) -> Result<(), AllocError>
+fn declare(
+    alloc: Global,
+    stored: &mut Vec<StoredValue>,
+    x: Name,
+    of: Sort,
+) -> Result<(), AllocError>
     requires { AreZero stored.old.items }
     ensures sorts { OnOk result (Declares stored.old.items stored.new.items x.0 of) }
     ensures zeros { OnOk result (AreZero stored.new.items) }
@@ -139,7 +144,8 @@ fn declare(alloc: Global, stored: &mut Vec<StoredValue>, x: Name, of: Sort) -> R
 // At least this many stored values, where the new ones are absent.
 fn extend(stored: &mut Vec<StoredValue>, count: usize) -> Result<(), AllocError>
     ensures enough { OnOk result (count ≤ vec_len stored.new) }
-    ensures same { (x : ℕ) → stored_value_of stored.new.items x ≡ stored_value_of stored.old.items x }
+    ensures same { (x : ℕ) →
+        stored_value_of stored.new.items x ≡ stored_value_of stored.old.items x }
 {
     while stored.len() < count {
         stored.push(StoredValue::Absent)?;

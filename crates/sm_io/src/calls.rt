@@ -1,4 +1,5 @@
-ghost use Rattle.std.specs.Prelude.{◌≡◌, ◌↔◌, ◌+◌, ◌-◌, ◌^◌, ◌++◌, [], ◌∷◌, min, IsTrue, Contains, OnOk, OnErr, IsOkUnless};
+ghost use Rattle.std.specs.Prelude.{◌≡◌, ◌↔◌, ◌+◌, ◌-◌, ◌^◌, ◌++◌, [], ◌∷◌, min, IsTrue, Contains};
+ghost use Rattle.std.specs.Prelude.{OnOk, OnErr, IsOkUnless};
 
 use crate::error::IoError;
 use std::alloc::Global;

@@ -1,4 +1,6 @@
-ghost use Rattle.std.specs.Prelude.{◌≡◌, ◌≢◌, ◌↔◌, ◌<◌, ◌≤◌, ◌+◌, ◌-◌, ◌^◌, ◌++◌, ◌⊎◌, ℕ, List, [], ◌∷◌, min, length, take, IfOk, OnOk, OnErr, IsErr, IsErrOf, IsOkUnless, option_copied};
+ghost use Rattle.std.specs.Prelude.{◌≡◌, ◌≢◌, ◌↔◌, ◌<◌, ◌≤◌, ◌+◌, ◌-◌, ◌^◌, ◌++◌, ◌⊎◌, ℕ, List, []};
+ghost use Rattle.std.specs.Prelude.{◌∷◌, min, length, take, IfOk, OnOk, OnErr, IsErr, IsErrOf};
+ghost use Rattle.std.specs.Prelude.{IsOkUnless, option_copied};
 ghost use Rattle.sm_io.specs.Files.{absent, holds, emptied, longer, known_of, WhereHeld, ReadsFrom};
 ghost use Rattle.sm_io.specs.Causes.{HasCause, HasReadCause};
 
@@ -20,7 +22,8 @@ pub struct MemShelf {
 }
 
 impl MemShelf {
-    ghost use Rattle.sm_io.specs.MemShelf.{file_in, failing_calls, calls_of, read_faults_of, write_faults_of, SameFiles, SameCounts};
+    ghost use Rattle.sm_io.specs.MemShelf.{file_in, failing_calls, calls_of, read_faults_of};
+    ghost use Rattle.sm_io.specs.MemShelf.{write_faults_of, SameFiles, SameCounts};
 
     /// A shelf with no files, of which no call is to fail.
     pub fn new(alloc: Global) -> MemShelf
@@ -96,7 +99,8 @@ fn copy_from(bytes: &[u8], place: u64, buf: &mut [u8]) -> usize
 }
 
 impl Shelf for MemShelf {
-    ghost use Rattle.sm_io.specs.MemShelf.{file_in, failing_calls, calls_of, read_faults_of, write_faults_of, IsFailing, SameFiles};
+    ghost use Rattle.sm_io.specs.MemShelf.{file_in, failing_calls, calls_of, read_faults_of};
+    ghost use Rattle.sm_io.specs.MemShelf.{write_faults_of, IsFailing, SameFiles};
 
     ghost file = { file_in };
 

@@ -1,5 +1,6 @@
 -- States that name no new value of a node or of a later one, and what they open.
-use Rattle.std.proofs.Common.{◌≡◌, ◌<◌, ◌≤◌, ℕ, suc, Bool, true, false, if◌then◌else◌, Option, Some, None, List, [], ◌∷◌, ◌++◌, map, arith, ◌==◌}
+use Rattle.std.proofs.Common.{◌≡◌, ◌<◌, ◌≤◌, ℕ, suc, Bool, true, false, if◌then◌else◌, Option, Some, None, List, [], ◌∷◌, ◌++◌, map, arith}
+use Rattle.std.proofs.Common.{◌==◌}
 use Rattle.std.specs.List.{flat_map}
 use Rattle.sm_syntax.specs.declared.tree.Cmp.{Cmp}
 use Rattle.sm_syntax.specs.declared.tree.Cmp.TheVariants as cmp
@@ -79,7 +80,8 @@ conj_below k (Or p q) b = (b, tt)
 
 mutual
   -- a term at stores
-  pub filled_below : (k : ℕ) (s : Copy → SymbolicStore) → ((c : Copy) → IsStoreBelow k (s c)) → (t : Tree) → IsBelow k t → IsBelow k (fill_term s t)
+  pub filled_below : (k : ℕ) (s : Copy → SymbolicStore) → ((c : Copy) → IsStoreBelow k (s c)) → (t : Tree) → IsBelow k t
+      → IsBelow k (fill_term s t)
   filled_below k s all (Lit z) b = tt
   filled_below k s all (Start x) b = tt
   filled_below k s all (Havoc j c x) b = b
@@ -94,12 +96,14 @@ mutual
   filled_below k s all (Fun c x args) b = given_below k s all args b
 
   -- the same of arguments
-  pub given_below : (k : ℕ) (s : Copy → SymbolicStore) → ((c : Copy) → IsStoreBelow k (s c)) → (args : Arguments) → AreBelow k args → AreBelow k (fill_arguments s args)
+  pub given_below : (k : ℕ) (s : Copy → SymbolicStore) → ((c : Copy) → IsStoreBelow k (s c)) → (args : Arguments) → AreBelow k args
+      → AreBelow k (fill_arguments s args)
   given_below k s all Over b = tt
   given_below k s all (Given x t rest) b = (filled_below k s all t b.0, given_below k s all rest b.1)
 
 -- the same of a formula
-pub at_stores_below : (k : ℕ) (s : Copy → SymbolicStore) → ((c : Copy) → IsStoreBelow k (s c)) → (f : Assertion) → IsFormBelow k f → IsFormBelow k (at_stores s f)
+pub at_stores_below : (k : ℕ) (s : Copy → SymbolicStore) → ((c : Copy) → IsStoreBelow k (s c)) → (f : Assertion) → IsFormBelow k f
+    → IsFormBelow k (at_stores s f)
 at_stores_below k s all Yes b = tt
 at_stores_below k s all No b = tt
 at_stores_below k s all (Eq sort t u) b = (filled_below k s all t b.0, filled_below k s all u b.1)
@@ -110,7 +114,8 @@ at_stores_below k s all (And p q) b = (at_stores_below k s all p b.0, at_stores_
 at_stores_below k s all (Or p q) b = (at_stores_below k s all p b.0, at_stores_below k s all q b.1)
 
 -- the same of a list
-pub all_at_stores_below : (k : ℕ) (s : Copy → SymbolicStore) → ((c : Copy) → IsStoreBelow k (s c)) → (fs : List Assertion) → AreFormsBelow k fs → AreFormsBelow k (all_at_stores s fs)
+pub all_at_stores_below : (k : ℕ) (s : Copy → SymbolicStore) → ((c : Copy) → IsStoreBelow k (s c)) → (fs : List Assertion)
+    → AreFormsBelow k fs → AreFormsBelow k (all_at_stores s fs)
 all_at_stores_below k s all [] b = tt
 all_at_stores_below k s all (f ∷ fs) b = (at_stores_below k s all f b.0, all_at_stores_below k s all fs b.1)
 
@@ -130,7 +135,8 @@ present_below k s b (x ∷ rest) = (b x, present_below k s b rest)
 
 -- summaries
 pub summarized_below : (k : ℕ) (c : Code) (s : SymbolicStore) → IsStoreBelow k s → IsStoreBelow k (next.summarized c s)
-summarized_below k c s b x = choice_below k (assigns c x) (Fun c x (next.present s (inputs c x))) (s x) (present_below k s b (inputs c x)) (b x)
+summarized_below k c s b x =
+    choice_below k (assigns c x) (Fun c x (next.present s (inputs c x))) (s x) (present_below k s b (inputs c x)) (b x)
 
 -- that a guard is false
 pub false_guard_below : (k : ℕ) (g : Option Condition) (s : SymbolicStore) → IsStoreBelow k s → AreFormsBelow k (next.false_guard g s)
@@ -138,7 +144,8 @@ false_guard_below k None s b = tt
 false_guard_below k (Some g) s b = (negate_below k (form_of g s) (form_below k g s b), tt)
 
 -- what a simple statement leaves
-pub stepped_below : (k : ℕ) (c : Code) (s : SymbolicStore) (p : Code × SymbolicStore) → next.stepped c s ≡ Some p → IsStoreBelow k s → IsStoreBelow k p.1
+pub stepped_below : (k : ℕ) (c : Code) (s : SymbolicStore) (p : Code × SymbolicStore) → next.stepped c s ≡ Some p → IsStoreBelow k s
+    → IsStoreBelow k p.1
 stepped_below k syntax.End s p e b = absurd cc
 stepped_below k (syntax.Skip r) s p e b = let same : p.1 ≡ s = cc in rw same b
 stepped_below k (syntax.Assign x v r) s p e b =
@@ -170,18 +177,21 @@ states_later k l [] more b = tt
 states_later k l (st ∷ states) more b = (state_later k l st more b.0, states_later k l states more b.1)
 
 -- states one after the other
-pub states_append : (k : ℕ) (first second : List State) → AreStatesBelow k first → AreStatesBelow k second → AreStatesBelow k (first ++ second)
+pub states_append : (k : ℕ) (first second : List State) → AreStatesBelow k first → AreStatesBelow k second
+    → AreStatesBelow k (first ++ second)
 states_append k [] second b d = d
 states_append k (st ∷ first) second b d = (b.0, states_append k first second b.1 d)
 
 -- new values of node k
-pub renewed_below : (k : ℕ) (done : Copy → Code) (s : Copy → SymbolicStore) → ((c : Copy) → IsStoreBelow k (s c)) → (c : Copy) → IsStoreBelow (suc k) (next.renewed k done s c)
+pub renewed_below : (k : ℕ) (done : Copy → Code) (s : Copy → SymbolicStore) → ((c : Copy) → IsStoreBelow k (s c)) → (c : Copy)
+    → IsStoreBelow (suc k) (next.renewed k done s c)
 renewed_below k done s all c x =
     let now : k < suc k = omega arith in
     choice_below (suc k) (assigns (done c) x) (Havoc k c x) (s c x) now (tree_later k (suc k) (omega arith) (s c x) (all c x))
 
 -- one copy moved, with more facts
-pub moved_below : (k : ℕ) (st : State) (c : Copy) (r : Code) (s : SymbolicStore) (more : List Assertion) → IsStateBelow k st → IsStoreBelow k s → AreFormsBelow k more →
+pub moved_below : (k : ℕ) (st : State) (c : Copy) (r : Code) (s : SymbolicStore) (more : List Assertion) → IsStateBelow k st
+    → IsStoreBelow k s → AreFormsBelow k more →
     IsStateBelow k (next.with_facts (next.moved st c r s) more)
 moved_below k st c r s more b new facts = record {
   stores = one_copy (λ (p : Code) (t : SymbolicStore) (d : Copy). IsStoreBelow k t) st.rest st.stores c r s new b.stores;
@@ -230,7 +240,8 @@ turns_below k st set keep b fresh [] = tt
 turns_below k st set keep b fresh (v ∷ vs) = (turn_below k st set keep v b fresh, turns_below k st set keep b fresh vs)
 
 -- after loops
-pub after_below : (k : ℕ) (st : State) (set : Copies) (keep : Assertion) → IsStateBelow k st → IsFormBelow k keep → IsStateBelow (suc k) (next.after_loops_state st k set keep)
+pub after_below : (k : ℕ) (st : State) (set : Copies) (keep : Assertion) → IsStateBelow k st → IsFormBelow k keep
+    → IsStateBelow (suc k) (next.after_loops_state st k set keep)
 after_below k st set keep b fresh = record {
   stores = renewed_below k (next.bodies st set) st.stores b.stores;
   facts = head_below k st set keep no_copies b fresh;
@@ -238,7 +249,8 @@ after_below k st set keep b fresh = record {
 }
 
 -- the first statements
-pub inner_below : (k : ℕ) (st : State) (counts : Copy → ℕ) (keep : Assertion) → IsStateBelow k st → IsFormBelow k keep → IsStateBelow (suc k) (next.inner_state st counts keep)
+pub inner_below : (k : ℕ) (st : State) (counts : Copy → ℕ) (keep : Assertion) → IsStateBelow k st → IsFormBelow k keep
+    → IsStateBelow (suc k) (next.inner_state st counts keep)
 inner_below k st counts keep b fresh = record {
   stores = λ (c : Copy). store_later k (st.stores c) (b.stores c);
   facts = forms_later k (suc k) (omega arith) st.facts b.facts;
@@ -246,7 +258,8 @@ inner_below k st counts keep b fresh = record {
 }
 
 -- after them
-pub after_block_below : (k : ℕ) (st : State) (counts : Copy → ℕ) (keep : Assertion) → IsStateBelow k st → IsFormBelow k keep → IsStateBelow (suc k) (next.after_block_state st k counts keep)
+pub after_block_below : (k : ℕ) (st : State) (counts : Copy → ℕ) (keep : Assertion) → IsStateBelow k st → IsFormBelow k keep
+    → IsStateBelow (suc k) (next.after_block_state st k counts keep)
 after_block_below k st counts keep b fresh =
     let stores = next.renewed k (next.fronts st counts) st.stores in
     let all = renewed_below k (next.fronts st counts) st.stores b.stores in

@@ -14,7 +14,8 @@ use Rattle.sm_plan.specs.Limits.{is_kept, is_shallow}
 use Rattle.sm_plan.specs.States.{start_state}
 use Rattle.sm_plan.specs.Nodes.{Step}
 use Rattle.sm_plan.specs.Plans.{IsFresh, obligations}
-use Rattle.sm_plan.specs.Cases.{never_ends, never_plan, unequal_turns, unequal_steps, pending_after, first_nodes, NeverEndsIsFree, CasesComeOut}
+use Rattle.sm_plan.specs.Cases.{never_ends, never_plan, unequal_turns, unequal_steps, pending_after, first_nodes, NeverEndsIsFree}
+use Rattle.sm_plan.specs.Cases.{CasesComeOut}
 use Rattle.sm_plan.proofs.PlanSound.{plan_conflict_free}
 
 -- the one obligation
@@ -30,7 +31,8 @@ never_fresh = (tt, ((tt, ((tt, ((tt, ((tt, ((tt, tt), tt)), ((tt, tt), tt))), tt
 never_is_free : NeverEndsIsFree
 never_is_free = (
   never_due,
-  plan_conflict_free never_ends never_plan (record { node = 6; facts = No ∷ []; goals = No ∷ []; is_final = false } ∷ []) never_fresh never_due
+  plan_conflict_free never_ends never_plan
+      (record { node = 6; facts = No ∷ []; goals = No ∷ []; is_final = false } ∷ []) never_fresh never_due
       (((λ (m : Structure) h. h.0), tt), tt),
 )
 

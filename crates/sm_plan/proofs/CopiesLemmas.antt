@@ -6,7 +6,8 @@ use Rattle.sm_syntax.specs.claim.ConflictFree.{Copy, O, A, B, M}
 use Rattle.sm_plan.specs.Copies.{Copies, each, has, with_copy, copies_that, is_inhabited, choices, all_subsets, subsets}
 
 -- what holds of new values for one copy, and of the old ones for each copy
-pub one_copy : {X Y : Type 0} (P : X → Y → Copy → Type 0) (f : Copy → X) (g : Copy → Y) (c : Copy) (v : X) (w : Y) → P v w c → ((d : Copy) → P (f d) (g d) d) →
+pub one_copy : {X Y : Type 0} (P : X → Y → Copy → Type 0) (f : Copy → X) (g : Copy → Y) (c : Copy) (v : X) (w : Y) → P v w c
+    → ((d : Copy) → P (f d) (g d) d) →
     (d : Copy) → P (with_copy f c v d) (with_copy g c w d) d
 one_copy P f g O v w new old O = new
 one_copy P f g O v w new old A = old A
@@ -50,7 +51,8 @@ has_that test M = refl
 pub inhabited_by : (set : Copies) (c : Copy) → has set c ≡ true → is_inhabited set ≡ true
 inhabited_by set c h = by set.base set.variant_a set.variant_b set.candidate c h
   where
-    by : (o a b m : Bool) (d : Copy) → has (record { base = o; variant_a = a; variant_b = b; candidate = m }) d ≡ true → (o || (a || (b || m))) ≡ true
+    by : (o a b m : Bool) (d : Copy) → has (record { base = o; variant_a = a; variant_b = b; candidate = m }) d ≡ true
+        → (o || (a || (b || m))) ≡ true
     by true a b m d g = refl
     by false true b m d g = refl
     by false false true m d g = refl
@@ -70,7 +72,8 @@ some_or_none test = first (cases_Bool (test O)) (cases_Bool (test A)) (cases_Boo
     none o a b m B = b
     none o a b m M = m
 
-    first : (test O ≡ true) ⊎ (test O ≡ false) → (test A ≡ true) ⊎ (test A ≡ false) → (test B ≡ true) ⊎ (test B ≡ false) → (test M ≡ true) ⊎ (test M ≡ false) →
+    first : (test O ≡ true) ⊎ (test O ≡ false) → (test A ≡ true) ⊎ (test A ≡ false) → (test B ≡ true) ⊎ (test B ≡ false)
+        → (test M ≡ true) ⊎ (test M ≡ false) →
         ((c : Copy) × (test c ≡ true)) ⊎ ((c : Copy) → test c ≡ false)
     first (inl o) a b m = inl (O, o)
     first (inr o) (inl a) b m = inl (A, a)
@@ -134,5 +137,6 @@ in_subsets set v within some =
     (in_flat_map _ v.candidate v (choices set.candidate) (in_choices set.candidate v.candidate (within M))
     (in_flat_map _ v.variant_b v (choices set.variant_b) (in_choices set.variant_b v.variant_b (within B))
     (in_flat_map _ v.variant_a v (choices set.variant_a) (in_choices set.variant_a v.variant_a (within A))
-    (in_map (λ (o : Bool). record { base = o; variant_a = v.variant_a; variant_b = v.variant_b; candidate = v.candidate }) v.base (choices set.base) (in_choices set.base v.base (within O))))))
+    (in_map (λ (o : Bool). record { base = o; variant_a = v.variant_a; variant_b = v.variant_b; candidate = v.candidate }) v.base
+    (choices set.base) (in_choices set.base v.base (within O))))))
     some

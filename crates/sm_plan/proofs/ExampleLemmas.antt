@@ -35,23 +35,39 @@ pub example_discharged : AllDischarged example_dues
 example_discharged = (
   (λ (m : Structure) h. refl, (λ (m : Structure) h. refl, tt)),
   (
-    (λ (m : Structure) h. let p = at_head m (Lt (Havoc 2 A i) (Start n)) (Le (Start n) (Havoc 2 M i)) h in clash (number (m.havoc 2 A i)) (number (m.havoc 2 M i)) (number (m.start n)) p.0 p.2 p.3, tt),
     (
-      (λ (m : Structure) h. let p = at_head m (Le (Start n) (Havoc 2 A i)) (Lt (Havoc 2 M i) (Start n)) h in clash_back (number (m.havoc 2 A i)) (number (m.havoc 2 M i)) (number (m.start n)) p.0 p.2 p.3, tt),
+      λ (m : Structure) h. let p = at_head m (Lt (Havoc 2 A i) (Start n)) (Le (Start n) (Havoc 2 M i)) h in
+          clash (number (m.havoc 2 A i)) (number (m.havoc 2 M i)) (number (m.start n)) p.0 p.2 p.3,
+      tt,
+    ),
+    (
+      (
+        λ (m : Structure) h. let p = at_head m (Le (Start n) (Havoc 2 A i)) (Lt (Havoc 2 M i) (Start n)) h in
+            clash_back (number (m.havoc 2 A i)) (number (m.havoc 2 M i)) (number (m.start n)) p.0 p.2 p.3,
+        tt,
+      ),
       (
         (
-          λ (m : Structure) h. let p = at_head m (Lt (Havoc 2 A i) (Start n)) (Lt (Havoc 2 M i) (Start n)) h in ap (λ (z : ℤ). z +ℤ pos 1) p.0,
-          (λ (m : Structure) h. let p = at_head m (Lt (Havoc 2 A i) (Start n)) (Lt (Havoc 2 M i) (Start n)) h in ap (λ (z : ℤ). z +ℤ pos 2) p.1, tt),
+          λ (m : Structure) h. let p = at_head m (Lt (Havoc 2 A i) (Start n)) (Lt (Havoc 2 M i) (Start n)) h in
+              ap (λ (z : ℤ). z +ℤ pos 1) p.0,
+          (
+            λ (m : Structure) h. let p = at_head m (Lt (Havoc 2 A i) (Start n)) (Lt (Havoc 2 M i) (Start n)) h in
+                ap (λ (z : ℤ). z +ℤ pos 2) p.1,
+            tt,
+          ),
         ),
         (
           (
-            λ (m : Structure) h. let p = at_head m (Le (Start n) (Havoc 2 A i)) (Le (Start n) (Havoc 2 M i)) h in λ first second. second (sym p.1),
+            λ (m : Structure) h. let p = at_head m (Le (Start n) (Havoc 2 A i)) (Le (Start n) (Havoc 2 M i)) h in
+                λ first second. second (sym p.1),
             (
               λ (m : Structure) h. λ first second. first refl,
               (
                 λ (m : Structure) h.
                     let p = at_head m (Le (Start n) (Havoc 2 A i)) (Le (Start n) (Havoc 2 M i)) h in
-                    λ first second. first (λ (e : number (meaning m (loop_summary x)) ≡ number (m.havoc 2 A x)). second (λ left right. right (sym p.1 ∙ sym e))),
+                    λ first second. first
+                    (λ (e : number (meaning m (loop_summary x)) ≡ number (m.havoc 2 A x)).
+                    second (λ left right. right (sym p.1 ∙ sym e))),
                 tt,
               ),
             ),
@@ -65,4 +81,16 @@ example_discharged = (
 
 -- its kept formula names no new values
 pub example_fresh : IsFresh 0 example_plan
-example_fresh = (tt, ((tt, ((((tt, tt), (tt, tt)), ((tt, tt), ((tt, tt), ((tt, ((tt, ((tt, ((tt, ((tt, tt), tt)), tt)), tt)), tt)), ((tt, tt), tt))))), tt)), tt))
+example_fresh = (
+  tt,
+  (
+    (
+      tt,
+      (
+        (((tt, tt), (tt, tt)), ((tt, tt), ((tt, tt), ((tt, ((tt, ((tt, ((tt, ((tt, tt), tt)), tt)), tt)), tt)), ((tt, tt), tt))))),
+        tt,
+      ),
+    ),
+    tt,
+  ),
+)

@@ -21,7 +21,8 @@ record Middle (guard : Store → Bool) (body : Store → Option Store) (n : ℕ)
   rest : turns guard body n store ≡ Some t
 
 -- it is there
-middle : (guard : Store → Bool) (body : Store → Option Store) (n : ℕ) (s t : Store) → turns guard body (suc n) s ≡ Some t → Middle guard body n s t
+middle : (guard : Store → Bool) (body : Store → Option Store) (n : ℕ) (s t : Store) → turns guard body (suc n) s ≡ Some t
+    → Middle guard body n s t
 middle guard body n s t e =
     ⊎_elim
     (λ (p : (guard s ≡ true) × (u : Store) × (body s ≡ Some u) × (turns guard body n u ≡ Some t)). record {
@@ -43,8 +44,10 @@ ended : (guard : Store → Bool) (body : Store → Option Store) (n : ℕ) (s t 
 ended guard body n s t false_here e = let there = still guard body n s false_here in cc
 
 -- where no guard is true, all have ended
-all_ended : (guard : Copy → Store → Bool) (body : Copy → Store → Option Store) (I : (Copy → Store) → Type 0) (n : ℕ) (s t : Copy → Store) → I s →
-    ((c : Copy) → turns (guard c) (body c) n (s c) ≡ Some (t c)) → ((c : Copy) → guard c (s c) ≡ false) → I t × ((c : Copy) → guard c (t c) ≡ false)
+all_ended : (guard : Copy → Store → Bool) (body : Copy → Store → Option Store) (I : (Copy → Store) → Type 0) (n : ℕ) (s t : Copy → Store)
+    → I s →
+    ((c : Copy) → turns (guard c) (body c) n (s c) ≡ Some (t c)) → ((c : Copy) → guard c (s c) ≡ false)
+    → I t × ((c : Copy) → guard c (t c) ≡ false)
 all_ended guard body I n s t h ends none =
     let same : (c : Copy) → t c ≡ s c = λ (c : Copy). ended (guard c) (body c) n (s c) (t c) (none c) (ends c) in
     (subst I (sym (fun_ext same)) h, λ (c : Copy). ap (guard c) (same c) ∙ none c)
@@ -52,7 +55,8 @@ all_ended guard body I n s t h ends none =
 -- what each joint turn keeps, holds at the end
 pub together : (guard : Copy → Store → Bool) (body : Copy → Store → Option Store) (I : (Copy → Store) → Type 0) →
     ((s t : Copy → Store) → I s → Joint guard body s t → I t) →
-    (n : ℕ) (s t : Copy → Store) → I s → ((c : Copy) → turns (guard c) (body c) n (s c) ≡ Some (t c)) → I t × ((c : Copy) → guard c (t c) ≡ false)
+    (n : ℕ) (s t : Copy → Store) → I s → ((c : Copy) → turns (guard c) (body c) n (s c) ≡ Some (t c))
+    → I t × ((c : Copy) → guard c (t c) ≡ false)
 together guard body I keeps zero s t h ends =
     all_ended guard body I zero s t h ends (λ (c : Copy). (no_turn (guard c (s c)) (s c) (t c) (ends c)).0)
 together guard body I keeps (suc n) s t h ends =
@@ -60,7 +64,8 @@ together guard body I keeps (suc n) s t h ends =
     ⊎_elim
     (λ (one : (c : Copy) × (guard c (s c) ≡ true)).
     together guard body I keeps n (λ (c : Copy). (mid c).store) t
-    (keeps s (λ (c : Copy). (mid c).store) h (record { some = one; moved = λ (c : Copy). (mid c).moved; stayed = λ (c : Copy). (mid c).stayed }))
+    (keeps s (λ (c : Copy). (mid c).store) h
+    (record { some = one; moved = λ (c : Copy). (mid c).moved; stayed = λ (c : Copy). (mid c).stayed }))
     (λ (c : Copy). (mid c).rest))
     (λ (none : (c : Copy) → guard c (s c) ≡ false). all_ended guard body I (suc n) s t h ends none)
     (some_or_none (λ (c : Copy). guard c (s c)))

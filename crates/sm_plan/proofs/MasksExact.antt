@@ -9,7 +9,8 @@ pub subsets_ascend : (set : Copies) → map mask_of (subsets set) ≡ filter (λ
 subsets_ascend set = at set.base set.variant_a set.variant_b set.candidate
   where
     at : (o a b m : Bool) →
-        map mask_of (subsets (record { base = o; variant_a = a; variant_b = b; candidate = m })) ≡ filter (λ (v : ℕ). bit_and v (mask_of (record { base = o; variant_a = a; variant_b = b; candidate = m })) == v) (range_with_len 1 15)
+        map mask_of (subsets (record { base = o; variant_a = a; variant_b = b; candidate = m })) ≡ filter
+        (λ (v : ℕ). bit_and v (mask_of (record { base = o; variant_a = a; variant_b = b; candidate = m })) == v) (range_with_len 1 15)
     at false false false false = refl
     at true false false false = refl
     at false true false false = refl
@@ -31,7 +32,9 @@ subsets_ascend set = at set.base set.variant_a set.variant_b set.candidate
 pub mask_exact : (set : Copies) → set_of (mask_of set) ≡ set
 mask_exact set = at set.base set.variant_a set.variant_b set.candidate
   where
-    at : (o a b m : Bool) → set_of (mask_of (record { base = o; variant_a = a; variant_b = b; candidate = m })) ≡ record { base = o; variant_a = a; variant_b = b; candidate = m }
+    at : (o a b m : Bool)
+        → set_of (mask_of (record { base = o; variant_a = a; variant_b = b; candidate = m }))
+        ≡ record { base = o; variant_a = a; variant_b = b; candidate = m }
     at false false false false = refl
     at true false false false = refl
     at false true false false = refl

@@ -1,5 +1,6 @@
 -- Plans and lists of nodes: the nodes of a plan prove what it proves, and nodes that prove a task's start are a plan's.
-use Rattle.std.proofs.Common.{◌≡◌, ◌≤◌, ℕ, suc, ◌+◌, ◌==◌, Bool, true, false, if◌then◌else◌, max, Some, Result, Ok, Err, List, [], ◌∷◌, ◌++◌, length, refl, ap, sym, ◌∙◌, subst, arith, eq-eqb}
+use Rattle.std.proofs.Common.{◌≡◌, ◌≤◌, ℕ, suc, ◌+◌, ◌==◌, Bool, true, false, if◌then◌else◌, max, Some, Result, Ok, Err, List, [], ◌∷◌}
+use Rattle.std.proofs.Common.{◌++◌, length, refl, ap, sym, ◌∙◌, subst, arith, eq-eqb}
 use Rattle.std.proofs.lemmas.Bool.Decides.{nat_tests}
 use Rattle.std.proofs.lemmas.List.{append_assoc, append-nil}
 use Rattle.sm_syntax.specs.claim.ConflictFree.{Task}
@@ -7,7 +8,8 @@ use Rattle.sm_term.specs.Assertions.{Assertion}
 use Rattle.sm_plan.specs.Limits.{is_shallow}
 use Rattle.sm_plan.specs.States.{State, start_state}
 use Rattle.sm_plan.specs.Nodes.{Node, Opened, opened_by, rule_of, is_branching}
-use Rattle.sm_plan.specs.Plans.{Plan, At, Plans, Over, More, size, sizes, count, nodes_of, all_nodes, branches, most_branches, IsFresh, AreFresh, Due, Fault, Wrong, Deep, due, joined, expand, expand_all, obligations, AllValid, AllDischarged}
+use Rattle.sm_plan.specs.Plans.{Plan, At, Plans, Over, More, size, sizes, count, nodes_of, all_nodes, branches, most_branches, IsFresh}
+use Rattle.sm_plan.specs.Plans.{AreFresh, Due, Fault, Wrong, Deep, due, joined, expand, expand_all, obligations, AllValid, AllDischarged}
 use Rattle.sm_plan.specs.NodeLists.{Pending, above_opened, pending_states, states_of, NodesProve, start_pending}
 use Rattle.sm_plan.proofs.PlanSound.{opened_is, passed, joined_is, parts_discharged, due_valid, shallow, states-pending}
 
@@ -44,12 +46,15 @@ both_few above a b first second = omega (arith, first, second)
 
 mutual
   -- the nodes of a plan take its state off the pending ones
-  plan_proves : (p : Plan) (k above : ℕ) (st : State) (ds : List Due) (pending : List Pending) (rest : List Node) → above + branches p ≤ 1000 → IsFresh k p → expand k st p ≡ Ok ds →
-      AllDischarged ds → NodesProve (k + size p) pending rest → NodesProve k (record { state = st; above = above } ∷ pending) (nodes_of p ++ rest)
+  plan_proves : (p : Plan) (k above : ℕ) (st : State) (ds : List Due) (pending : List Pending) (rest : List Node)
+      → above + branches p ≤ 1000 → IsFresh k p → expand k st p ≡ Ok ds →
+      AllDischarged ds → NodesProve (k + size p) pending rest
+      → NodesProve k (record { state = st; above = above } ∷ pending) (nodes_of p ++ rest)
   plan_proves (At node ps) k above st ds pending rest few fresh e all later =
       let w = Wrong k (rule_of node) in
       let o = opened_is (opened_by k st node) w
-      (λ (q : Opened). if count ps == length q.states then joined (Ok (due k st node q.goals)) (expand_all w (suc k) q.states ps) else Err w) ds e in
+      (λ (q : Opened). if count ps == length q.states then joined (Ok (due k st node q.goals))
+      (expand_all w (suc k) q.states ps) else Err w) ds e in
       let q = o.0 in
       let parts = joined_is (Ok (due k st node q.goals)) (expand_all w (suc k) q.states ps) ds
       (passed (count ps == length q.states) (joined (Ok (due k st node q.goals)) (expand_all w (suc k) q.states ps)) w ds o.2) in
@@ -66,8 +71,10 @@ mutual
       )
 
   -- the same of plans
-  plans_prove : (ps : Plans) (w : Fault) (k above : ℕ) (sts : List State) (ds : List Due) (pending : List Pending) (rest : List Node) → above + most_branches ps ≤ 1000 → AreFresh k ps →
-      expand_all w k sts ps ≡ Ok ds → AllDischarged ds → NodesProve (k + sizes ps) pending rest → NodesProve k (pending_states above sts ++ pending) (all_nodes ps ++ rest)
+  plans_prove : (ps : Plans) (w : Fault) (k above : ℕ) (sts : List State) (ds : List Due) (pending : List Pending) (rest : List Node)
+      → above + most_branches ps ≤ 1000 → AreFresh k ps →
+      expand_all w k sts ps ≡ Ok ds → AllDischarged ds → NodesProve (k + sizes ps) pending rest
+      → NodesProve k (pending_states above sts ++ pending) (all_nodes ps ++ rest)
   plans_prove Over w k above [] ds pending rest few fresh e all later = subst (λ (j : ℕ). NodesProve j pending rest) (omega arith) later
   plans_prove Over w k above (st ∷ sts) ds pending rest few fresh e all later = absurd cc
   plans_prove (More p ps) w k above [] ds pending rest few fresh e all later = absurd cc
@@ -75,16 +82,20 @@ mutual
       let parts = joined_is (expand k st p) (expand_all w (k + size p) sts ps) ds e in
       let both = parts_discharged parts.0 parts.1 ds parts.4 all in
       let last : NodesProve ((k + size p) + sizes ps) pending rest = subst (λ (j : ℕ). NodesProve j pending rest) (omega arith) later in
-      subst (λ (l : List Node). NodesProve k (record { state = st; above = above } ∷ (pending_states above sts ++ pending)) l) (sym (append_assoc (nodes_of p) (all_nodes ps) rest))
-      (plan_proves p k above st parts.0 (pending_states above sts ++ pending) (all_nodes ps ++ rest) (first_few above (branches p) (most_branches ps) few) fresh.0 parts.2 both.0
-      (plans_prove ps w (k + size p) above sts parts.1 pending rest (second_few above (branches p) (most_branches ps) few) fresh.1 parts.3 both.1 last))
+      subst (λ (l : List Node). NodesProve k (record { state = st; above = above } ∷ (pending_states above sts ++ pending)) l)
+      (sym (append_assoc (nodes_of p) (all_nodes ps) rest))
+      (plan_proves p k above st parts.0 (pending_states above sts ++ pending) (all_nodes ps ++ rest)
+      (first_few above (branches p) (most_branches ps) few) fresh.0 parts.2 both.0
+      (plans_prove ps w (k + size p) above sts parts.1 pending rest
+      (second_few above (branches p) (most_branches ps) few) fresh.1 parts.3 both.1 last))
 
 -- some fault, where none comes
 abbrev any_fault : Fault
 any_fault = Wrong 0 0
 
 -- where there are obligations, the fault doesn't count
-expands_with : (ps : Plans) (v w : Fault) (k : ℕ) (states : List State) (ds : List Due) → expand_all v k states ps ≡ Ok ds → expand_all w k states ps ≡ Ok ds
+expands_with : (ps : Plans) (v w : Fault) (k : ℕ) (states : List State) (ds : List Due) → expand_all v k states ps ≡ Ok ds
+    → expand_all w k states ps ≡ Ok ds
 expands_with Over v w k [] ds e = e
 expands_with Over v w k (st ∷ states) ds e = absurd cc
 expands_with (More p ps) v w k [] ds e = absurd cc
@@ -142,7 +153,8 @@ record Cut (k above : ℕ) (first : List State) (second : List Pending) (nodes :
   counted : count front ≡ length first
 
 -- they can be cut
-cut : (first : List State) (second : List Pending) (k above : ℕ) (ps : Plans) (ds : List Due) → above ≤ 1000 → AreShallow (pending_states above first ++ second) ps → AreFresh k ps →
+cut : (first : List State) (second : List Pending) (k above : ℕ) (ps : Plans) (ds : List Due) → above ≤ 1000
+    → AreShallow (pending_states above first ++ second) ps → AreFresh k ps →
     expand_all any_fault k (first ++ states_of second) ps ≡ Ok ds → AllDischarged ds → Cut k above first second (all_nodes ps)
 cut [] second k above ps ds few under fresh e all =
     let same : k ≡ k + 0 = omega arith in
@@ -178,7 +190,8 @@ cut (st ∷ first) second k above (More p ps) ds few under fresh e all =
       back_shallow = c.back_shallow;
       front_fresh = (fresh.0, c.front_fresh);
       back_fresh = subst (λ (j : ℕ). AreFresh j c.back) far c.back_fresh;
-      front_expands = both_ok (expand k st p) (expand_all any_fault (k + size p) first c.front) parts.0 c.front_dues parts.2 c.front_expands;
+      front_expands =
+          both_ok (expand k st p) (expand_all any_fault (k + size p) first c.front) parts.0 c.front_dues parts.2 c.front_expands;
       back_expands = subst (λ (j : ℕ). expand_all any_fault j (states_of second) c.back ≡ Ok c.back_dues) far c.back_expands;
       front_discharged = discharged_append parts.0 c.front_dues both.0 c.front_discharged;
       back_discharged = c.back_discharged;
@@ -186,7 +199,8 @@ cut (st ∷ first) second k above (More p ps) ds few under fresh e all =
     }
 
 -- a node with plans for what it opens
-at_expands : (k : ℕ) (st : State) (node : Node) (ps : Plans) (q : Opened) (ds : List Due) → opened_by k st node ≡ Some q → count ps ≡ length q.states →
+at_expands : (k : ℕ) (st : State) (node : Node) (ps : Plans) (q : Opened) (ds : List Due) → opened_by k st node ≡ Some q
+    → count ps ≡ length q.states →
     expand_all any_fault (suc k) q.states ps ≡ Ok ds → expand k st (At node ps) ≡ Ok (due k st node q.goals ++ ds)
 at_expands k st node ps q ds is counted e =
     let w = Wrong k (rule_of node) in
@@ -204,7 +218,8 @@ grow (node ∷ nodes) k (p ∷ pending) h =
     let above = above_opened node p.above in
     let rest = states_of pending in
     let g = grow nodes (suc k) (pending_states above q.states ++ pending) h.5 in
-    let there = subst (λ (l : List State). expand_all any_fault (suc k) l g.plans ≡ Ok g.dues) (states-pending above q.states pending) g.expands in
+    let there =
+    subst (λ (l : List State). expand_all any_fault (suc k) l g.plans ≡ Ok g.dues) (states-pending above q.states pending) g.expands in
     let c = cut q.states pending (suc k) above g.plans g.dues (few_is above h.2) g.shallow g.fresh there g.discharged in
     let far : suc k + sizes c.front ≡ k + suc (sizes c.front) = omega arith in
     let here = at_expands k p.state node c.front q c.front_dues h.1 c.counted c.front_expands in
@@ -219,12 +234,15 @@ grow (node ∷ nodes) k (p ∷ pending) h =
       expands = rw (here, others) refl;
       discharged =
           discharged_append (due k p.state node q.goals ++ c.front_dues) c.back_dues
-          (discharged_append (due k p.state node q.goals) c.front_dues (valid_due k p.state node q.goals h.4) c.front_discharged) c.back_discharged;
+          (discharged_append (due k p.state node q.goals) c.front_dues (valid_due k p.state node q.goals h.4) c.front_discharged)
+          c.back_discharged;
     }
 
 -- a plan for one state
-one_plan : (k : ℕ) (w : Pending) (nodes : List Node) (ps : Plans) (ds : List Due) → all_nodes ps ≡ nodes → AreShallow (w ∷ []) ps → AreFresh k ps → expand_all any_fault k (w.state ∷ []) ps ≡ Ok ds →
-    AllDischarged ds → (p : Plan) × (es : List Due) × (nodes_of p ≡ nodes) × (w.above + branches p ≤ 1000) × IsFresh k p × (expand k w.state p ≡ Ok es) × AllDischarged es
+one_plan : (k : ℕ) (w : Pending) (nodes : List Node) (ps : Plans) (ds : List Due) → all_nodes ps ≡ nodes → AreShallow (w ∷ []) ps
+    → AreFresh k ps → expand_all any_fault k (w.state ∷ []) ps ≡ Ok ds →
+    AllDischarged ds → (p : Plan) × (es : List Due) × (nodes_of p ≡ nodes) × (w.above + branches p ≤ 1000) × IsFresh k p ×
+    (expand k w.state p ≡ Ok es) × AllDischarged es
 one_plan k w nodes Over ds same under fresh e all = absurd cc
 one_plan k w nodes (More p Over) ds same under fresh e all =
     let parts = joined_is (expand k w.state p) (Ok []) ds e in
@@ -239,7 +257,8 @@ pub nodes_are_plan : (t : Task) (nodes : List Node) → NodesProve 0 (start_pend
     (p : Plan) × (ds : List Due) × (nodes_of p ≡ nodes) × IsFresh 0 p × (obligations t p ≡ Ok ds) × AllDischarged ds
 nodes_are_plan t nodes h =
     let g = grow nodes 0 (start_pending t) h in
-    let one = one_plan 0 (record { state = start_state t; above = 0 }) nodes g.plans g.dues g.same g.shallow g.fresh g.expands g.discharged in
+    let one =
+    one_plan 0 (record { state = start_state t; above = 0 }) nodes g.plans g.dues g.same g.shallow g.fresh g.expands g.discharged in
     let p = one.0 in
     let few = is_few (branches p) (omega (arith, one.3)) in
     (p, one.1, one.2, one.4, ap (λ (b : Bool). if b then expand 0 (start_state t) p else Err Deep) few ∙ one.5, one.6)
@@ -250,8 +269,10 @@ test_passed true r ds e = refl
 test_passed false r ds e = absurd cc
 
 -- the nodes of a fresh plan whose obligations hold prove the start of its task
-pub plan_nodes_prove : (t : Task) (p : Plan) (ds : List Due) → IsFresh 0 p → obligations t p ≡ Ok ds → AllDischarged ds → NodesProve 0 (start_pending t) (nodes_of p)
+pub plan_nodes_prove : (t : Task) (p : Plan) (ds : List Due) → IsFresh 0 p → obligations t p ≡ Ok ds → AllDischarged ds
+    → NodesProve 0 (start_pending t) (nodes_of p)
 plan_nodes_prove t p ds fresh e all =
     let expands = shallow (is_shallow (branches p)) (expand 0 (start_state t) p) ds e in
     let few = few_is (branches p) (test_passed (is_shallow (branches p)) (expand 0 (start_state t) p) ds e) in
-    subst (λ (l : List Node). NodesProve 0 (start_pending t) l) (append-nil (nodes_of p)) (plan_proves p 0 0 (start_state t) ds [] [] (omega (arith, few)) fresh expands all tt)
+    subst (λ (l : List Node). NodesProve 0 (start_pending t) l) (append-nil (nodes_of p))
+    (plan_proves p 0 0 (start_state t) ds [] [] (omega (arith, few)) fresh expands all tt)

@@ -1,5 +1,6 @@
 -- One node of a plan: its state is sound where what it opens is, and what it opens names no later value.
-use Rattle.std.proofs.Common.{◌≡◌, ℕ, suc, Bool, true, false, not, ◌&&◌, ◌||◌, nat_le, Option, Some, None, List, [], ◌∷◌, ◌++◌, map, refl, sym, subst, arith}
+use Rattle.std.proofs.Common.{◌≡◌, ℕ, suc, Bool, true, false, not, ◌&&◌, ◌||◌, nat_le, Option, Some, None, List, [], ◌∷◌, ◌++◌, map, refl}
+use Rattle.std.proofs.Common.{sym, subst, arith}
 use Rattle.std.proofs.lemmas.Option.{same_Some}
 use Rattle.std.proofs.lemmas.Bool.{and_parts}
 use Rattle.sm_syntax.specs.claim.Syntax.{Code, End, Skip, Assign, Write, If, While, Hole, append}
@@ -14,12 +15,15 @@ use Rattle.sm_plan.specs.Statements.{is_over, is_long, front, rest_after, is_loo
 use Rattle.sm_plan.specs.Limits.{is_kept}
 use Rattle.sm_plan.specs.States.{State}
 use Rattle.sm_plan.specs.Successors as next
-use Rattle.sm_plan.specs.Nodes.{Node, Step, Abs, Fork, Loop, Block, Dead, Ends, Unfit, Opened, follows, asks, where_true, after_step, both_ways, opened_by, IsFreshAt}
+use Rattle.sm_plan.specs.Nodes.{Node, Step, Abs, Fork, Loop, Block, Dead, Ends, Unfit, Opened, follows, asks, where_true, after_step}
+use Rattle.sm_plan.specs.Nodes.{both_ways, opened_by, IsFreshAt}
 use Rattle.sm_plan.specs.Plans.{AllValid}
 use Rattle.sm_plan.specs.SoundStates.{IsSound, AreSound, IsStateBelow, AreStatesBelow}
 use Rattle.sm_plan.proofs.CopySound.{step_sound, both_ways_sound, summary_sound}
 use Rattle.sm_plan.proofs.LoopsSound.{ends_sound, block_sound, loop_node_sound}
-use Rattle.sm_plan.proofs.BelowLemmas.{conj_below, all_at_stores_below, stepped_below, moved_below, form_below, negate_below, summarized_below, false_guard_below, state_later, states_append, turns_below, after_below, inner_below, after_block_below}
+use Rattle.sm_plan.proofs.BelowLemmas.{conj_below, all_at_stores_below, stepped_below, moved_below, form_below, negate_below}
+use Rattle.sm_plan.proofs.BelowLemmas.{summarized_below, false_guard_below, state_later, states_append, turns_below, after_below}
+use Rattle.sm_plan.proofs.BelowLemmas.{inner_below, after_block_below}
 
 -- a test that passed
 where_true_is : (b : Bool) (r q : Opened) → where_true b r ≡ Some q → (b ≡ true) × (r ≡ q)
@@ -60,7 +64,8 @@ node_sound k st (Block counts keep) q below fresh e valid all =
     let states : AreSound r.states = subst (λ (o : Opened). AreSound o.states) (sym p.1) all in
     block_sound k st counts keep below fresh states.0 states.1.0
 node_sound k st Dead q below fresh e valid all =
-    let goals : AllValid st.facts (No ∷ []) = subst (λ (o : Opened). AllValid st.facts o.goals) (sym (same_Some (asks (No ∷ [])) q e)) valid in
+    let goals : AllValid st.facts (No ∷ []) =
+    subst (λ (o : Opened). AllValid st.facts o.goals) (sym (same_Some (asks (No ∷ [])) q e)) valid in
     λ m end facts ends. absurd (goals.0 m facts)
 node_sound k st Ends q below fresh e valid all =
     let goals = all_at_stores st.stores st.target in
@@ -69,7 +74,8 @@ node_sound k st Ends q below fresh e valid all =
 node_sound k st (Unfit rule) q below fresh e valid all = absurd cc
 
 -- both ways of a branch
-both_ways_below : (k : ℕ) (st : State) (c : Copy) (code : Code) (q : Opened) → IsStateBelow k st → both_ways st c code ≡ Some q → AreStatesBelow k q.states
+both_ways_below : (k : ℕ) (st : State) (c : Copy) (code : Code) (q : Opened) → IsStateBelow k st → both_ways st c code ≡ Some q
+    → AreStatesBelow k q.states
 both_ways_below k st c End q below e = absurd cc
 both_ways_below k st c (Skip r) q below e = absurd cc
 both_ways_below k st c (Assign x v r) q below e = absurd cc
@@ -79,8 +85,10 @@ both_ways_below k st c (If b first second r) q below e =
     let f = form_of b s in
     let states = next.branch_state st c (append first r) f ∷ next.branch_state st c (append second r) (negate f) ∷ [] in
     let fact = form_below k b s (below.stores c) in
-    subst (λ (o : Opened). AreStatesBelow k o.states) (same_Some (follows states) q e)
-    (moved_below k st c (append first r) s (f ∷ []) below (below.stores c) (fact, tt), (moved_below k st c (append second r) s (negate f ∷ []) below (below.stores c) (negate_below k f fact, tt), tt))
+    subst (λ (o : Opened). AreStatesBelow k o.states) (same_Some (follows states) q e) (
+      moved_below k st c (append first r) s (f ∷ []) below (below.stores c) (fact, tt),
+      (moved_below k st c (append second r) s (negate f ∷ []) below (below.stores c) (negate_below k f fact, tt), tt),
+    )
 both_ways_below k st c (While b body r) q below e = absurd cc
 both_ways_below k st c (Hole h r) q below e = absurd cc
 
@@ -90,31 +98,43 @@ later_all k [] all = tt
 later_all k (st ∷ states) all = (state_later k (suc k) st (omega arith) all.0, later_all k states all.1)
 
 -- the states that a node opens name no new value of a node after it
-pub node_below : (k : ℕ) (st : State) (node : Node) (q : Opened) → IsStateBelow k st → IsFreshAt k node → opened_by k st node ≡ Some q → AreStatesBelow (suc k) q.states
+pub node_below : (k : ℕ) (st : State) (node : Node) (q : Opened) → IsStateBelow k st → IsFreshAt k node → opened_by k st node ≡ Some q
+    → AreStatesBelow (suc k) q.states
 node_below k st (Step c) q below fresh e =
     let p = after_step_is st c (next.stepped (st.rest c) (st.stores c)) q e in
     let moved = moved_below k st c p.0.0 p.0.1 [] below (stepped_below k (st.rest c) (st.stores c) p.0 p.1 (below.stores c)) tt in
-    let here : IsStateBelow k (next.moved st c p.0.0 p.0.1) = record { stores = moved.stores; facts = below.facts; target = below.target } in
+    let here : IsStateBelow k (next.moved st c p.0.0 p.0.1) =
+    record { stores = moved.stores; facts = below.facts; target = below.target } in
     later_all k q.states (subst (λ (r : Opened). AreStatesBelow k r.states) p.2 (here, tt))
 node_below k st (Abs c n) q below fresh e =
     let done = front n (st.rest c) in
     let s = next.summarized done (st.stores c) in
-    let p = where_true_is (nat_le 1 n && is_long n (st.rest c)) (follows (next.summary_state st c done (rest_after n (st.rest c)) ∷ [])) q e in
+    let p =
+    where_true_is (nat_le 1 n && is_long n (st.rest c)) (follows (next.summary_state st c done (rest_after n (st.rest c)) ∷ [])) q e in
     let store = summarized_below k done (st.stores c) (below.stores c) in
     later_all k q.states
-    (subst (λ (r : Opened). AreStatesBelow k r.states) p.1
-    (moved_below k st c (rest_after n (st.rest c)) s (next.false_guard (last_guard done) s) below store (false_guard_below k (last_guard done) s store), tt))
+    (subst (λ (r : Opened). AreStatesBelow k r.states) p.1 (
+      moved_below k st c (rest_after n (st.rest c)) s (next.false_guard (last_guard done) s) below store
+          (false_guard_below k (last_guard done) s store),
+      tt,
+    ))
 node_below k st (Fork c) q below fresh e = later_all k q.states (both_ways_below k st c (st.rest c) q below e)
 node_below k st (Loop set keep) q below fresh e =
     let loops = each (λ (c : Copy). not (has set c) || is_loop (st.rest c)) in
     let turns = map (next.turn_state st k set keep) (subsets set) in
     let states = turns ++ next.after_loops_state st k set keep ∷ [] in
-    let p = where_true_is (is_inhabited set && (loops && is_kept keep)) (record { goals = all_at_stores st.stores (conj keep); states = states }) q e in
+    let p =
+    where_true_is (is_inhabited set && (loops && is_kept keep))
+    (record { goals = all_at_stores st.stores (conj keep); states = states }) q e in
     subst (λ (r : Opened). AreStatesBelow (suc k) r.states) p.1
-    (states_append (suc k) turns (next.after_loops_state st k set keep ∷ []) (turns_below k st set keep below fresh (subsets set)) (after_below k st set keep below fresh, tt))
+    (states_append (suc k) turns (next.after_loops_state st k set keep ∷ []) (turns_below k st set keep below fresh (subsets set))
+    (after_below k st set keep below fresh, tt))
 node_below k st (Block counts keep) q below fresh e =
-    let p = where_true_is (each (λ (c : Copy). is_long (counts c) (st.rest c)) && is_kept keep) (follows (next.inner_state st counts keep ∷ next.after_block_state st k counts keep ∷ [])) q e in
-    subst (λ (r : Opened). AreStatesBelow (suc k) r.states) p.1 (inner_below k st counts keep below fresh, (after_block_below k st counts keep below fresh, tt))
+    let p =
+    where_true_is (each (λ (c : Copy). is_long (counts c) (st.rest c)) && is_kept keep)
+    (follows (next.inner_state st counts keep ∷ next.after_block_state st k counts keep ∷ [])) q e in
+    subst (λ (r : Opened). AreStatesBelow (suc k) r.states) p.1
+    (inner_below k st counts keep below fresh, (after_block_below k st counts keep below fresh, tt))
 node_below k st Dead q below fresh e = subst (λ (r : Opened). AreStatesBelow (suc k) r.states) (same_Some (asks (No ∷ [])) q e) tt
 node_below k st Ends q below fresh e =
     let p = where_true_is (each (λ (c : Copy). is_over (st.rest c))) (asks (all_at_stores st.stores st.target)) q e in
@@ -136,12 +156,15 @@ both_ways_goals k st c (While b body r) q e = absurd cc
 both_ways_goals k st c (Hole h r) q e = absurd cc
 
 -- the goals that a node asks name no new value of a node after it
-pub node_goals_below : (k : ℕ) (st : State) (node : Node) (q : Opened) → IsStateBelow k st → IsFreshAt k node → opened_by k st node ≡ Some q → AreFormsBelow (suc k) q.goals
+pub node_goals_below : (k : ℕ) (st : State) (node : Node) (q : Opened) → IsStateBelow k st → IsFreshAt k node → opened_by k st node ≡ Some q
+    → AreFormsBelow (suc k) q.goals
 node_goals_below k st (Step c) q below fresh e =
     let p = after_step_is st c (next.stepped (st.rest c) (st.stores c)) q e in
     subst (λ (r : Opened). AreFormsBelow (suc k) r.goals) p.2 tt
 node_goals_below k st (Abs c n) q below fresh e =
-    let p = where_true_is (nat_le 1 n && is_long n (st.rest c)) (follows (next.summary_state st c (front n (st.rest c)) (rest_after n (st.rest c)) ∷ [])) q e in
+    let p =
+    where_true_is (nat_le 1 n && is_long n (st.rest c))
+    (follows (next.summary_state st c (front n (st.rest c)) (rest_after n (st.rest c)) ∷ [])) q e in
     subst (λ (r : Opened). AreFormsBelow (suc k) r.goals) p.1 tt
 node_goals_below k st (Fork c) q below fresh e = both_ways_goals k st c (st.rest c) q e
 node_goals_below k st (Loop set keep) q below fresh e =
@@ -152,7 +175,9 @@ node_goals_below k st (Loop set keep) q below fresh e =
     subst (λ (r : Opened). AreFormsBelow (suc k) r.goals) p.1
     (forms_later k (suc k) (omega arith) goals (all_at_stores_below k st.stores below.stores (conj keep) (conj_below k keep fresh)))
 node_goals_below k st (Block counts keep) q below fresh e =
-    let p = where_true_is (each (λ (c : Copy). is_long (counts c) (st.rest c)) && is_kept keep) (follows (next.inner_state st counts keep ∷ next.after_block_state st k counts keep ∷ [])) q e in
+    let p =
+    where_true_is (each (λ (c : Copy). is_long (counts c) (st.rest c)) && is_kept keep)
+    (follows (next.inner_state st counts keep ∷ next.after_block_state st k counts keep ∷ [])) q e in
     subst (λ (r : Opened). AreFormsBelow (suc k) r.goals) p.1 tt
 node_goals_below k st Dead q below fresh e = subst (λ (r : Opened). AreFormsBelow (suc k) r.goals) (same_Some (asks (No ∷ [])) q e) (tt, tt)
 node_goals_below k st Ends q below fresh e =

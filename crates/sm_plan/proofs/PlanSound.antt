@@ -1,5 +1,6 @@
 -- Whole proofs: from the obligations of a plan, or from a list of nodes, to a merge that is free of conflicts.
-use Rattle.std.proofs.Common.{◌≡◌, ◌<◌, ℕ, suc, ◌+◌, ◌==◌, ℤ, pos, Bool, true, false, if◌then◌else◌, Option, Some, None, Result, Ok, Err, List, [], ◌∷◌, ◌++◌, length, inl, inr, refl, ap, sym, subst, ⊎_elim, arith}
+use Rattle.std.proofs.Common.{◌≡◌, ◌<◌, ℕ, suc, ◌+◌, ◌==◌, ℤ, pos, Bool, true, false, if◌then◌else◌, Option, Some, None, Result, Ok, Err}
+use Rattle.std.proofs.Common.{List, [], ◌∷◌, ◌++◌, length, inl, inr, refl, ap, sym, subst, ⊎_elim, arith}
 use Rattle.std.specs.Prelude.{Contains, All}
 use Rattle.std.proofs.lemmas.List.Elements.{All-nil, All-cons, All-contains}
 use Rattle.std.specs.List.{flat_map}
@@ -17,7 +18,8 @@ use Rattle.sm_term.proofs.AssertionsLemmas.{form_means, holds_parts, conj_means}
 use Rattle.sm_plan.specs.Limits.{is_shallow}
 use Rattle.sm_plan.specs.States.{State, place, keeps_goals, start_store, start_facts, start_state}
 use Rattle.sm_plan.specs.Nodes.{Node, Opened, opened_by, rule_of}
-use Rattle.sm_plan.specs.Plans.{Plan, At, Plans, Over, More, size, count, branches, IsFresh, AreFresh, Due, Fault, Wrong, Deep, due, joined, opened, expand, expand_all, obligations, AllValid, AllDischarged}
+use Rattle.sm_plan.specs.Plans.{Plan, At, Plans, Over, More, size, count, branches, IsFresh, AreFresh, Due, Fault, Wrong, Deep, due, joined}
+use Rattle.sm_plan.specs.Plans.{opened, expand, expand_all, obligations, AllValid, AllDischarged}
 use Rattle.sm_plan.specs.NodeLists.{Pending, above_opened, pending_states, states_of, NodesProve, start_pending}
 use Rattle.sm_plan.specs.SoundStates.{IsSound, AreSound, IsStateBelow, AreStatesBelow}
 use Rattle.sm_plan.proofs.CopiesLemmas.{In}
@@ -26,7 +28,8 @@ use Rattle.sm_plan.proofs.BelowLemmas.{states_later, states_append, start_below}
 use Rattle.sm_plan.proofs.NodeSound.{node_sound, node_below}
 
 -- what a node opened, where there are obligations
-pub opened_is : (o : Option Opened) (w : Fault) (f : Opened → Result (List Due) Fault) (ds : List Due) → opened o w f ≡ Ok ds → (q : Opened) × (o ≡ Some q) × (f q ≡ Ok ds)
+pub opened_is : (o : Option Opened) (w : Fault) (f : Opened → Result (List Due) Fault) (ds : List Due) → opened o w f ≡ Ok ds
+    → (q : Opened) × (o ≡ Some q) × (f q ≡ Ok ds)
 opened_is None w f ds e = absurd cc
 opened_is (Some q) w f ds e = (q, refl, e)
 
@@ -36,7 +39,8 @@ passed true r w ds e = e
 passed false r w ds e = absurd cc
 
 -- the two parts of obligations
-pub joined_is : (r s : Result (List Due) Fault) (ds : List Due) → joined r s ≡ Ok ds → (a : List Due) × (b : List Due) × (r ≡ Ok a) × (s ≡ Ok b) × (a ++ b ≡ ds)
+pub joined_is : (r s : Result (List Due) Fault) (ds : List Due) → joined r s ≡ Ok ds
+    → (a : List Due) × (b : List Due) × (r ≡ Ok a) × (s ≡ Ok b) × (a ++ b ≡ ds)
 joined_is (Err w) s ds e = absurd cc
 joined_is (Ok a) (Err w) ds e = absurd cc
 joined_is (Ok a) (Ok b) ds e = (a, b, refl, refl, cc)
@@ -57,11 +61,13 @@ due_valid k st node (g ∷ gs) all = all.0
 
 mutual
   -- a fresh plan whose obligations are discharged makes its state sound
-  plan_sound : (p : Plan) (k : ℕ) (st : State) (ds : List Due) → IsStateBelow k st → IsFresh k p → expand k st p ≡ Ok ds → AllDischarged ds → IsSound st
+  plan_sound : (p : Plan) (k : ℕ) (st : State) (ds : List Due) → IsStateBelow k st → IsFresh k p → expand k st p ≡ Ok ds → AllDischarged ds
+      → IsSound st
   plan_sound (At node ps) k st ds below fresh e all =
       let w = Wrong k (rule_of node) in
       let o = opened_is (opened_by k st node) w
-      (λ (q : Opened). if count ps == length q.states then joined (Ok (due k st node q.goals)) (expand_all w (suc k) q.states ps) else Err w) ds e in
+      (λ (q : Opened). if count ps == length q.states then joined (Ok (due k st node q.goals))
+      (expand_all w (suc k) q.states ps) else Err w) ds e in
       let q = o.0 in
       let parts = joined_is (Ok (due k st node q.goals)) (expand_all w (suc k) q.states ps) ds
       (passed (count ps == length q.states) (joined (Ok (due k st node q.goals)) (expand_all w (suc k) q.states ps)) w ds o.2) in
@@ -71,7 +77,8 @@ mutual
       (plans_sound ps w (suc k) q.states parts.1 (node_below k st node q below fresh.0 o.1) fresh.1 parts.3 both.1)
 
   -- the same of plans
-  plans_sound : (ps : Plans) (w : Fault) (k : ℕ) (states : List State) (ds : List Due) → AreStatesBelow k states → AreFresh k ps → expand_all w k states ps ≡ Ok ds →
+  plans_sound : (ps : Plans) (w : Fault) (k : ℕ) (states : List State) (ds : List Due) → AreStatesBelow k states → AreFresh k ps
+      → expand_all w k states ps ≡ Ok ds →
       AllDischarged ds → AreSound states
   plans_sound Over w k [] ds below fresh e all = tt
   plans_sound Over w k (st ∷ states) ds below fresh e all = absurd cc
@@ -84,12 +91,14 @@ mutual
       )
 
 -- the states that were opened, and those that wait after them
-pub states-pending : (above : ℕ) (states : List State) (pending : List Pending) → states_of (pending_states above states ++ pending) ≡ states ++ states_of pending
+pub states-pending : (above : ℕ) (states : List State) (pending : List Pending)
+    → states_of (pending_states above states ++ pending) ≡ states ++ states_of pending
 states-pending above [] pending = refl
 states-pending above (st ∷ states) pending = ap (λ (l : List State). st ∷ l) (states-pending above states pending)
 
 -- nodes that prove pending states make them sound
-nodes_sound : (nodes : List Node) (k : ℕ) (pending : List Pending) → AreStatesBelow k (states_of pending) → NodesProve k pending nodes → AreSound (states_of pending)
+nodes_sound : (nodes : List Node) (k : ℕ) (pending : List Pending) → AreStatesBelow k (states_of pending) → NodesProve k pending nodes
+    → AreSound (states_of pending)
 nodes_sound [] k [] below h = tt
 nodes_sound [] k (p ∷ pending) below h = elim h [ ]
 nodes_sound (node ∷ nodes) k [] below h = elim h [ ]
@@ -99,7 +108,9 @@ nodes_sound (node ∷ nodes) k (p ∷ pending) below h =
     let rest = states_of pending in
     let all = states-pending above q.states pending in
     let later = nodes_sound nodes (suc k) (pending_states above q.states ++ pending)
-    (subst (AreStatesBelow (suc k)) (sym all) (states_append (suc k) q.states rest (node_below k p.state node q below.0 h.3 h.1) (states_later k (suc k) rest (omega arith) below.1))) h.5 in
+    (subst (AreStatesBelow (suc k)) (sym all)
+    (states_append (suc k) q.states rest (node_below k p.state node q below.0 h.3 h.1)
+    (states_later k (suc k) rest (omega arith) below.1))) h.5 in
     let both = sound_parts q.states rest (subst AreSound all later) in
     (node_sound k p.state node q below.0 h.3 h.1 h.4 both.0, both.1)
 
@@ -112,7 +123,8 @@ one_of base variant candidate h =
     (int_cases base variant)
 
 -- four numbers at which the three goals hold
-goals_keep : (m : Structure) (at : Copy → Tree) → AllHold m (keeps_goals at) → Keeps (number (meaning m (at O))) (number (meaning m (at A))) (number (meaning m (at B))) (number (meaning m (at M)))
+goals_keep : (m : Structure) (at : Copy → Tree) → AllHold m (keeps_goals at)
+    → Keeps (number (meaning m (at O))) (number (meaning m (at A))) (number (meaning m (at B))) (number (meaning m (at M)))
 goals_keep m at h =
     let o = number (meaning m (at O)) in
     let a = number (meaning m (at A)) in
@@ -129,11 +141,13 @@ goals_keep m at h =
     }
 
 -- the goals of one output among those of all
-goals_at : (m : Structure) (outputs : List (ℕ × Sort)) (output : ℕ × Sort) → In output outputs → AllHold m (flat_map (λ (o : ℕ × Sort). keeps_goals (place o)) outputs) →
+goals_at : (m : Structure) (outputs : List (ℕ × Sort)) (output : ℕ × Sort) → In output outputs
+    → AllHold m (flat_map (λ (o : ℕ × Sort). keeps_goals (place o)) outputs) →
     AllHold m (keeps_goals (place output))
 goals_at m [] output h all = elim h [ ]
 goals_at m (o ∷ rest) output (inl e) all =
-    subst (λ (p : ℕ × Sort). AllHold m (keeps_goals (place p))) e (holds_parts m (keeps_goals (place o)) (flat_map (λ (p : ℕ × Sort). keeps_goals (place p)) rest) all).0
+    subst (λ (p : ℕ × Sort). AllHold m (keeps_goals (place p))) e
+    (holds_parts m (keeps_goals (place o)) (flat_map (λ (p : ℕ × Sort). keeps_goals (place p)) rest) all).0
 goals_at m (o ∷ rest) output (inr h) all =
     goals_at m rest output h (holds_parts m (keeps_goals (place o)) (flat_map (λ (p : ℕ × Sort). keeps_goals (place p)) rest) all).1
 
@@ -158,18 +172,21 @@ index_of (Element a i) = i
 
 -- the structure of a start store under a bound, at an index
 abbrev at_start : ℕ → Store → ℤ → Structure
-at_start n s i = record { bound = n; start = s; havoc = λ (k : ℕ) (c : Copy) (x : ℕ). zero_value; slot = λ (c : Copy) (x : ℕ). zero_value; cell = i }
+at_start n s i =
+    record { bound = n; start = s; havoc = λ (k : ℕ) (c : Copy) (x : ℕ). zero_value; slot = λ (c : Copy) (x : ℕ). zero_value; cell = i }
 
 -- a sound start is a merge that is free of conflicts
 pub start_conflict_free : (t : Task) → IsSound (start_state t) → ConflictFree t
 start_conflict_free t sound n s end meets ends (Scalar x) counts =
     let m = at_start n s (pos 0) in
     goals_keep (with_slots m end) (place (variable (Scalar x)))
-    (goals_at (with_slots m end) t.outputs (variable (Scalar x)) (contains_in (variable (Scalar x)) t.outputs counts) (sound m end (start_holds m t.assumed meets) ends))
+    (goals_at (with_slots m end) t.outputs (variable (Scalar x)) (contains_in (variable (Scalar x)) t.outputs counts)
+    (sound m end (start_holds m t.assumed meets) ends))
 start_conflict_free t sound n s end meets ends (Element a i) counts =
     let m = at_start n s i in
     goals_keep (with_slots m end) (place (variable (Element a i)))
-    (goals_at (with_slots m end) t.outputs (variable (Element a i)) (contains_in (variable (Element a i)) t.outputs counts) (sound m end (start_holds m t.assumed meets) ends))
+    (goals_at (with_slots m end) t.outputs (variable (Element a i)) (contains_in (variable (Element a i)) t.outputs counts)
+    (sound m end (start_holds m t.assumed meets) ends))
 
 -- a test that passed, of a whole plan
 pub shallow : (b : Bool) (r : Result (List Due) Fault) (ds : List Due) → (if b then r else Err Deep) ≡ Ok ds → r ≡ Ok ds
@@ -179,7 +196,9 @@ shallow false r ds e = absurd cc
 -- where all obligations of a fresh plan hold in every structure, the task is free of conflicts
 pub plan_conflict_free : (t : Task) (p : Plan) (ds : List Due) → IsFresh 0 p → obligations t p ≡ Ok ds → AllDischarged ds → ConflictFree t
 plan_conflict_free t p ds fresh e all =
-    start_conflict_free t (plan_sound p 0 (start_state t) ds (start_below 0 t) fresh (shallow (is_shallow (branches p)) (expand 0 (start_state t) p) ds e) all)
+    start_conflict_free t
+    (plan_sound p 0 (start_state t) ds (start_below 0 t) fresh
+    (shallow (is_shallow (branches p)) (expand 0 (start_state t) p) ds e) all)
 
 -- where nodes prove the start of a task, the task is free of conflicts
 pub nodes_conflict_free : (t : Task) (nodes : List Node) → NodesProve 0 (start_pending t) nodes → ConflictFree t

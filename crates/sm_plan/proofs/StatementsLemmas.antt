@@ -1,5 +1,6 @@
 -- Runs that are cut into parts.
-use Rattle.std.proofs.Common.{◌≡◌, ◌⊎◌, ℕ, zero, suc, Bool, true, false, if◌then◌else◌, Option, Some, None, inl, inr, refl, ap, sym, ◌∙◌, subst, ⊎_elim}
+use Rattle.std.proofs.Common.{◌≡◌, ◌⊎◌, ℕ, zero, suc, Bool, true, false, if◌then◌else◌, Option, Some, None, inl, inr, refl, ap, sym, ◌∙◌}
+use Rattle.std.proofs.Common.{subst, ⊎_elim}
 use Rattle.std.proofs.lemmas.Option.{same_Some}
 use Rattle.sm_syntax.specs.claim.Syntax.{Condition, Code, End, Skip, Assign, Write, If, While, Hole, append}
 use Rattle.sm_syntax.specs.claim.Stores.{Store, put}
@@ -8,7 +9,8 @@ use Rattle.sm_syntax.proofs.Appends.{run-append}
 use Rattle.sm_plan.specs.Statements.{is_over, front, rest_after, is_loop, loop_guard, loop_body, last_guard}
 
 -- an end of two parts is an end of the second after one of the first
-pub ends_then : (o : Option Store) (f : Store → Option Store) (t : Store) → and_then o f ≡ Some t → (s : Store) × (o ≡ Some s) × (f s ≡ Some t)
+pub ends_then : (o : Option Store) (f : Store → Option Store) (t : Store) → and_then o f ≡ Some t
+    → (s : Store) × (o ≡ Some s) × (f s ≡ Some t)
 ends_then None f t e = absurd cc
 ends_then (Some s) f t e = (s, refl, e)
 
@@ -24,7 +26,8 @@ append_front (suc n) (While b c k) = ap (λ (r : Code). While b c r) (append_fro
 append_front (suc n) (Hole h k) = ap (λ (r : Code). Hole h r) (append_front n k)
 
 -- a run ends where its first statements and then those after them end
-pub run_cut : (m n : ℕ) (c : Code) (s t : Store) → run m c s ≡ Some t → (u : Store) × (run m (front n c) s ≡ Some u) × (run m (rest_after n c) u ≡ Some t)
+pub run_cut : (m n : ℕ) (c : Code) (s t : Store) → run m c s ≡ Some t
+    → (u : Store) × (run m (front n c) s ≡ Some u) × (run m (rest_after n c) u ≡ Some t)
 run_cut m n c s t e =
     ends_then (run m (front n c) s) (run m (rest_after n c)) t
     (sym (run-append m (front n c) (rest_after n c) s) ∙ ap (λ (r : Code). run m r s) (append_front n c) ∙ e)
@@ -46,7 +49,8 @@ still guard body zero s false_here = rw false_here refl
 still guard body (suc n) s false_here = rw false_here refl
 
 -- the guard is false where a loop ends
-pub guard_ends : (guard : Store → Bool) (body : Store → Option Store) (n : ℕ) (s t : Store) → turns guard body n s ≡ Some t → guard t ≡ false
+pub guard_ends : (guard : Store → Bool) (body : Store → Option Store) (n : ℕ) (s t : Store) → turns guard body n s ≡ Some t
+    → guard t ≡ false
 guard_ends guard body zero s t e = let p = no_turn (guard s) s t e in ap guard p.1 ∙ p.0
 guard_ends guard body (suc n) s t e =
     ⊎_elim
@@ -94,5 +98,6 @@ last_guard_false n (If g c d k) s t b e end =
     last_guard_false n k p.0 t b e p.2
 last_guard_false n (While g c k) s t b e end =
     let p = ends_then (turns (truth_of g) (run n c) n s) (run n k) t end in
-    last_of_loop n g k p.0 t b (is_over k) refl (guard_ends (truth_of g) (run n c) n s p.0 p.1) p.2 (λ (h : last_guard k ≡ Some b). last_guard_false n k p.0 t b h p.2) e
+    last_of_loop n g k p.0 t b (is_over k) refl (guard_ends (truth_of g) (run n c) n s p.0 p.1) p.2
+    (λ (h : last_guard k ≡ Some b). last_guard_false n k p.0 t b h p.2) e
 last_guard_false n (Hole h k) s t b e end = last_guard_false n k s t b e end

@@ -33,7 +33,8 @@ told_truth b s false is =
     record { no_event = both.0; fails = λ (yes : truth_of b s ≡ true). cc }
 
 -- its first operation that leaves
-pub told_beyond : (b : Condition) (s : Store) (op : Op) (y z : ℤ) → answer (condition_event b s) (truth_of b s) ≡ Err (eval.Beyond op y z) → Tells (Some b) s (Err (BeyondAssumed op y z))
+pub told_beyond : (b : Condition) (s : Store) (op : Op) (y z : ℤ) → answer (condition_event b s) (truth_of b s) ≡ Err (eval.Beyond op y z)
+    → Tells (Some b) s (Err (BeyondAssumed op y z))
 told_beyond b s op y z is = answer_err (condition_event b s) (truth_of b s) _ is
 
 -- nothing, or an operation that leaves
@@ -58,18 +59,27 @@ expression_beyond : (e : Expression) (s : Store) → OnlyBeyond (expression_even
 expression_beyond (Lit z) s = tt
 expression_beyond (Var x) s = tt
 expression_beyond (Read a i) s = expression_beyond i s
-expression_beyond (Neg e) s = before_beyond (expression_event e s) _ (expression_beyond e s) (leaves_beyond Sub (pos 0) (number (value_of e s)))
-expression_beyond (Plus d e) s = before_beyond (expression_event d s) _ (expression_beyond d s) (before_beyond (expression_event e s) _ (expression_beyond e s) (leaves_beyond Add (number (value_of d s)) (number (value_of e s))))
-expression_beyond (Minus d e) s = before_beyond (expression_event d s) _ (expression_beyond d s) (before_beyond (expression_event e s) _ (expression_beyond e s) (leaves_beyond Sub (number (value_of d s)) (number (value_of e s))))
-expression_beyond (Times d e) s = before_beyond (expression_event d s) _ (expression_beyond d s) (before_beyond (expression_event e s) _ (expression_beyond e s) (leaves_beyond Mul (number (value_of d s)) (number (value_of e s))))
+expression_beyond (Neg e) s =
+    before_beyond (expression_event e s) _ (expression_beyond e s) (leaves_beyond Sub (pos 0) (number (value_of e s)))
+expression_beyond (Plus d e) s =
+    before_beyond (expression_event d s) _ (expression_beyond d s)
+    (before_beyond (expression_event e s) _ (expression_beyond e s) (leaves_beyond Add (number (value_of d s)) (number (value_of e s))))
+expression_beyond (Minus d e) s =
+    before_beyond (expression_event d s) _ (expression_beyond d s)
+    (before_beyond (expression_event e s) _ (expression_beyond e s) (leaves_beyond Sub (number (value_of d s)) (number (value_of e s))))
+expression_beyond (Times d e) s =
+    before_beyond (expression_event d s) _ (expression_beyond d s)
+    (before_beyond (expression_event e s) _ (expression_beyond e s) (leaves_beyond Mul (number (value_of d s)) (number (value_of e s))))
 
 condition_beyond : (b : Condition) (s : Store) → OnlyBeyond (condition_event b s)
 condition_beyond Yes s = tt
 condition_beyond No s = tt
 condition_beyond (Compare op d e) s = before_beyond (expression_event d s) _ (expression_beyond d s) (expression_beyond e s)
 condition_beyond (Not b) s = condition_beyond b s
-condition_beyond (And b c) s = before_beyond (condition_event b s) _ (condition_beyond b s) (choice_beyond (truth_of b s) _ None (condition_beyond c s) tt)
-condition_beyond (Or b c) s = before_beyond (condition_event b s) _ (condition_beyond b s) (choice_beyond (truth_of b s) None _ tt (condition_beyond c s))
+condition_beyond (And b c) s =
+    before_beyond (condition_event b s) _ (condition_beyond b s) (choice_beyond (truth_of b s) _ None (condition_beyond c s) tt)
+condition_beyond (Or b c) s =
+    before_beyond (condition_event b s) _ (condition_beyond b s) (choice_beyond (truth_of b s) None _ tt (condition_beyond c s))
 
 -- a condition has no loop and takes no memory
 pub no_turns : (b : Condition) (s : Store) → answer (condition_event b s) (truth_of b s) ≡ Err eval.OutOfTurns → ⊥

@@ -1,5 +1,6 @@
 -- The least index at which Keeps fails, found among the cells of four arrays.
-use Rattle.std.proofs.Common.{◌≡◌, ◌⊎◌, ◌+◌, ◌<◌, ◌↔◌, ℕ, suc, ℤ, pos, Bool, true, false, if◌then◌else◌, Option, IsNone, List, [], ◌∷◌, length, refl, sym, ap, subst, ◌∙◌, inl, inr, ⊎_elim, arith}
+use Rattle.std.proofs.Common.{◌≡◌, ◌⊎◌, ◌+◌, ◌<◌, ◌↔◌, ℕ, suc, ℤ, pos, Bool, true, false, if◌then◌else◌, Option, IsNone, List, [], ◌∷◌}
+use Rattle.std.proofs.Common.{length, refl, sym, ap, subst, ◌∙◌, inl, inr, ⊎_elim, arith}
 use Rattle.std.specs.Option.{IfSome}
 use Rattle.std.specs.Ordering.{int_eq}
 use Rattle.std.proofs.lemmas.Bool.{cases_eq}
@@ -36,12 +37,14 @@ Later old new = (i : ℤ) → IsUpTo old i → IsUpTo new i
 abbrev pub Known : (Copy → Store) → ℕ → Option ℤ → ℤ → Type 0
 Known end a r i = KeepsAt end (Element a i) ⊎ IsUpTo r i
 
-known : (end : Copy → Store) (a : ℕ) (l : List (ℤ × ℤ)) (r new : Option ℤ) → Seen end a l r → Later r new → (i : ℤ) → (listed l i ≡ pos 0) ⊎ Known end a new i
+known : (end : Copy → Store) (a : ℕ) (l : List (ℤ × ℤ)) (r new : Option ℤ) → Seen end a l r → Later r new → (i : ℤ)
+    → (listed l i ≡ pos 0) ⊎ Known end a new i
 known end a l r new seen later i =
     ⊎_elim (λ (z : listed l i ≡ pos 0). inl z)
     (λ (h : (p : ℕ) × (p < length l) × (index_at l p ≡ i)).
     inr (subst (λ (j : ℤ). Known end a new j) h.2
-    (⊎_elim (λ (k : KeepsAt end (Element a (index_at l h.0))). inl k) (λ (u : IsUpTo r (index_at l h.0)). inr (later (index_at l h.0) u)) (seen h.0 h.1))))
+    (⊎_elim (λ (k : KeepsAt end (Element a (index_at l h.0))). inl k) (λ (u : IsUpTo r (index_at l h.0)). inr (later (index_at l h.0) u))
+    (seen h.0 h.1))))
     (listed_or l i)
 
 -- four numbers that are 0
@@ -54,14 +57,16 @@ all_zero o a b m po pa pb pm = record {
 
 combine : {P Q R S G : Type 0} → P ⊎ G → Q ⊎ G → R ⊎ G → S ⊎ G → (P → Q → R → S → G) → G
 combine {P} {Q} {R} {S} {G} p q r s f =
-    ⊎_elim (λ (x : P). ⊎_elim (λ (y : Q). ⊎_elim (λ (z : R). ⊎_elim (λ (w : S). f x y z w) (λ (g : G). g) s) (λ (g : G). g) r) (λ (g : G). g) q) (λ (g : G). g) p
+    ⊎_elim (λ (x : P). ⊎_elim (λ (y : Q). ⊎_elim (λ (z : R). ⊎_elim (λ (w : S). f x y z w) (λ (g : G). g) s) (λ (g : G). g) r)
+    (λ (g : G). g) q) (λ (g : G). g) p
 
 -- an index at which a copy's end has 0, or one that is known after its cells
 abbrev pub KnownBy : (Copy → Store) → Copy → ℕ → Option ℤ → Type 0
 KnownBy end c a r = (i : ℤ) → (content (end c) (Element a i) ≡ pos 0) ⊎ Known end a r i
 
 -- after the cells of a copy's end
-pub known_by : (end : Copy → Store) (c : Copy) (a : ℕ) (l : List (ℤ × ℤ)) (r : Option ℤ) → end c a ≡ Array (listed l) → Seen end a l r → KnownBy end c a r
+pub known_by : (end : Copy → Store) (c : Copy) (a : ℕ) (l : List (ℤ × ℤ)) (r : Option ℤ) → end c a ≡ Array (listed l) → Seen end a l r
+    → KnownBy end c a r
 known_by end c a l r is seen i =
     ⊎_elim (λ (z : listed l i ≡ pos 0). inl (ap (λ (v : Value). array v i) is ∙ z)) (λ (k : Known end a r i). inr k)
     (known end a l r r seen (λ (j : ℤ) (u : IsUpTo r j). u) i)
@@ -86,20 +91,25 @@ least_of_four end a ro ra rb rm ko ka kb km first second third i =
     inl (all_zero (at O) (at A) (at B) (at M) zo za zb zm))
 
 -- the four numbers in a cell
-pub kept_at : (end : Copy → Store) (cell : Cell) (o a b m : ℤ) (r : Option ℕ) → content (end O) cell ≡ o → content (end A) cell ≡ a → content (end B) cell ≡ b → content (end M) cell ≡ m
+pub kept_at : (end : Copy → Store) (cell : Cell) (o a b m : ℤ) (r : Option ℕ) → content (end O) cell ≡ o → content (end A) cell ≡ a
+    → content (end B) cell ≡ b → content (end M) cell ≡ m
     → IsNone r ↔ Keeps o a b m → IsNone r ↔ KeepsAt end cell
 kept_at end cell o a b m r eo ea eb em h = rw (eo, ea, eb, em) h
 
-pub broken_at : (end : Copy → Store) (cell : Cell) (o a b m : ℤ) (r : Option ℕ) → content (end O) cell ≡ o → content (end A) cell ≡ a → content (end B) cell ≡ b → content (end M) cell ≡ m
+pub broken_at : (end : Copy → Store) (cell : Cell) (o a b m : ℤ) (r : Option ℕ) → content (end O) cell ≡ o → content (end A) cell ≡ a
+    → content (end B) cell ≡ b → content (end M) cell ≡ m
     → IfSome r (λ (part : ℕ). IsFirstBroken part o a b m)
-    → IfSome r (λ (part : ℕ). IsFirstBroken part (content (end O) cell) (content (end A) cell) (content (end B) cell) (content (end M) cell))
+    → IfSome r (λ (part : ℕ).
+    IsFirstBroken part (content (end O) cell) (content (end A) cell) (content (end B) cell) (content (end M) cell))
 broken_at end cell o a b m r eo ea eb em h = rw (eo, ea, eb, em) h
 
 -- one more cell
-pub seen_more : (end : Copy → Store) (a : ℕ) (l : List (ℤ × ℤ)) (p : ℕ) (r new : Option ℤ) → ((q : ℕ) → q < p → Known end a r (index_at l q)) → Later r new → Known end a new (index_at l p)
+pub seen_more : (end : Copy → Store) (a : ℕ) (l : List (ℤ × ℤ)) (p : ℕ) (r new : Option ℤ)
+    → ((q : ℕ) → q < p → Known end a r (index_at l q)) → Later r new → Known end a new (index_at l p)
     → (q : ℕ) → q < p + 1 → Known end a new (index_at l q)
 seen_more end a l p r new before later here q lt =
     ⊎_elim (λ (same : q ≡ p). subst (λ (k : ℕ). Known end a new (index_at l k)) (sym same) here)
     (λ (other : q ≡ p → ⊥).
-    ⊎_elim (λ (k : KeepsAt end (Element a (index_at l q))). inl k) (λ (u : IsUpTo r (index_at l q)). inr (later (index_at l q) u)) (before q (omega arith)))
+    ⊎_elim (λ (k : KeepsAt end (Element a (index_at l q))). inl k) (λ (u : IsUpTo r (index_at l q)). inr (later (index_at l q) u))
+    (before q (omega arith)))
     (cases_eq q p)

@@ -21,7 +21,8 @@ KeptBelow outputs end n = (q : ℕ) (c : Cell) → q < n → slice_get outputs q
 
 -- an output with its sort
 pub output_at : (sorts : Sorts) (outputs : List Name) (i : ℕ) (d : Name) → i < length outputs
-    → slice_get (sorted_by sorts (map (λ (x : Name). x.0) outputs)) i ≡ Some ((get_or outputs i d).0, unwrap_or (sorts (get_or outputs i d).0) Num)
+    → slice_get (sorted_by sorts (map (λ (x : Name). x.0) outputs)) i ≡ Some
+    ((get_or outputs i d).0, unwrap_or (sorts (get_or outputs i d).0) Num)
 output_at sorts [] i d here = absurd (omega arith)
 output_at sorts (x ∷ xs) zero d here = refl
 output_at sorts (x ∷ xs) (suc i) d here = output_at sorts xs i d (omega arith)
@@ -38,11 +39,14 @@ kept_more outputs end n o is here before q c lt there =
     by e = cc
 
 -- all outputs
-pub all_kept : (outputs : List (ℕ × Sort)) (end : Copy → Store) (n : ℕ) → length outputs ≤ n → KeptBelow outputs end n → (cell : Cell) → Contains outputs (variable cell) → KeepsAt end cell
-all_kept outputs end n past before cell h = before h.0 cell (omega (arith, h.1)) (slice_get-get_or outputs h.0 (variable cell) h.1 ∙ ap Some h.2)
+pub all_kept : (outputs : List (ℕ × Sort)) (end : Copy → Store) (n : ℕ) → length outputs ≤ n → KeptBelow outputs end n → (cell : Cell)
+    → Contains outputs (variable cell) → KeepsAt end cell
+all_kept outputs end n past before cell h =
+    before h.0 cell (omega (arith, h.1)) (slice_get-get_or outputs h.0 (variable cell) h.1 ∙ ap Some h.2)
 
 -- the first output at which it fails
-pub first_at : (outputs : List (ℕ × Sort)) (end : Copy → Store) (n : ℕ) (o : ℕ × Sort) (cell : Cell) (part : ℕ) → slice_get outputs n ≡ Some o
+pub first_at : (outputs : List (ℕ × Sort)) (end : Copy → Store) (n : ℕ) (o : ℕ × Sort) (cell : Cell) (part : ℕ)
+    → slice_get outputs n ≡ Some o
     → KeptBelow outputs end n → IsBreakOf o end cell part → IsFirstBreak outputs end cell part
 first_at outputs end n o cell part is before b = record {
   place = n;
@@ -58,6 +62,8 @@ length_outputs sorts [] = refl
 length_outputs sorts (x ∷ xs) = omega (arith, length_outputs sorts xs)
 
 -- all outputs of a task
-pub outputs_kept : (sorts : Sorts) (outputs : List Name) (end : Copy → Store) (n : ℕ) → length outputs ≤ n → KeptBelow (sorted_by sorts (map (λ (x : Name). x.0) outputs)) end n
+pub outputs_kept : (sorts : Sorts) (outputs : List Name) (end : Copy → Store) (n : ℕ) → length outputs ≤ n
+    → KeptBelow (sorted_by sorts (map (λ (x : Name). x.0) outputs)) end n
     → (cell : Cell) → Contains (sorted_by sorts (map (λ (x : Name). x.0) outputs)) (variable cell) → KeepsAt end cell
-outputs_kept sorts outputs end n past before = all_kept (sorted_by sorts (map (λ (x : Name). x.0) outputs)) end n (omega (arith, length_outputs sorts outputs)) before
+outputs_kept sorts outputs end n past before =
+    all_kept (sorted_by sorts (map (λ (x : Name). x.0) outputs)) end n (omega (arith, length_outputs sorts outputs)) before

@@ -49,7 +49,8 @@ number_kept end x k (Scalar y) own = subst (λ (z : ℕ). KeepsAt end (Scalar z)
 number_kept end x k (Element a i) own = let differ : Arr ≡ Num = ap (λ (v : ℕ × Sort). v.1) own in cc
 
 -- each element of an array
-pub elements_kept : (end : Copy → Store) (a : ℕ) → ((i : ℤ) → KeepsAt end (Element a i) ⊎ ⊥) → (c : Cell) → variable c ≡ (a, Arr) → KeepsAt end c
+pub elements_kept : (end : Copy → Store) (a : ℕ) → ((i : ℤ) → KeepsAt end (Element a i) ⊎ ⊥) → (c : Cell) → variable c ≡ (a, Arr)
+    → KeepsAt end c
 elements_kept end a k (Scalar y) own = let differ : Num ≡ Arr = ap (λ (v : ℕ × Sort). v.1) own in cc
 elements_kept end a k (Element b i) own =
     subst (λ (z : ℕ). KeepsAt end (Element z i)) (sym (ap (λ (v : ℕ × Sort). v.0) own))
@@ -65,7 +66,8 @@ pub breaks_number : (end : Copy → Store) (x part : ℕ) → FailsAt end (Scala
 breaks_number end x part broken = record { own = refl; indices_before = none_below end x; broken = broken }
 
 -- the least index at which it fails
-kept_below : (end : Copy → Store) (a : ℕ) (i : ℤ) → ((j : ℤ) → KeepsAt end (Element a j) ⊎ (i ≤ℤ j)) → (c : Cell) → IsBelow c (Element a i) → KeepsAt end c
+kept_below : (end : Copy → Store) (a : ℕ) (i : ℤ) → ((j : ℤ) → KeepsAt end (Element a j) ⊎ (i ≤ℤ j)) → (c : Cell) → IsBelow c (Element a i)
+    → KeepsAt end c
 kept_below end a i least (Scalar y) below = absurd below
 kept_below end a i least (Element b j) below =
     subst (λ (z : ℕ). KeepsAt end (Element z j)) (sym below.0)
@@ -77,7 +79,8 @@ pub breaks_element : (end : Copy → Store) (a part : ℕ) (i : ℤ) → ((j : �
 breaks_element end a part i least broken = record { own = refl; indices_before = kept_below end a i least; broken = broken }
 
 -- the first output at which it fails
-pub found_at : (outputs : List (ℕ × Sort)) (end : Copy → Store) (n : ℕ) (o : ℕ × Sort) (v : Verdict) → slice_get outputs n ≡ Some o → KeptBelow outputs end n → NamesBreak o end v → Finds outputs end v
+pub found_at : (outputs : List (ℕ × Sort)) (end : Copy → Store) (n : ℕ) (o : ℕ × Sort) (v : Verdict) → slice_get outputs n ≡ Some o
+    → KeptBelow outputs end n → NamesBreak o end v → Finds outputs end v
 found_at outputs end n o verdict.Holds is before b = absurd b
 found_at outputs end n o verdict.Unmet is before b = absurd b
 found_at outputs end n o (verdict.Violates x i part) is before b = first_at outputs end n o (cell_of x.0 i) part is before b

@@ -11,7 +11,8 @@ use Rattle.sm_eval.specs.declared.store.Store as code
 use Rattle.sm_eval.specs.StoredValues.{meaning, sorts_of}
 use Rattle.sm_replay.specs.declared.error.InputError.{InputError}
 use Rattle.sm_replay.specs.declared.error.InputError.TheVariants.{BadJson, NotObject, UnknownKey, BadValue, BadIndex, Memory}
-use Rattle.sm_replay.specs.Input.{Texts, name_of, declared_name, missing, cells_fault, array_fault, value_fault, members_fault, input_fault, store_of, IsJson, Reads, reported}
+use Rattle.sm_replay.specs.Input.{Texts, name_of, declared_name, missing, cells_fault, array_fault, value_fault, members_fault, input_fault}
+use Rattle.sm_replay.specs.Input.{store_of, IsJson, Reads, reported}
 use Rattle.sm_replay.specs.Number.{number_of_text, json_number}
 
 -- an error that was reported is the fault
@@ -55,7 +56,8 @@ of_value (Some (x, Arr)) d = of_array x (as_object d)
 of_members : (names : Texts) (sorts : Sorts) (ms : Members) → IsOfMembers (members_fault names sorts ms)
 of_members names sorts no_members = tt
 of_members names sorts (member key d rest) =
-    either (value_fault (declared_name names sorts key) d) (members_fault names sorts rest) (of_value (declared_name names sorts key) d) (of_members names sorts rest)
+    either (value_fault (declared_name names sorts key) d) (members_fault names sorts rest) (of_value (declared_name names sorts key) d)
+    (of_members names sorts rest)
 
 of_input : (names : Texts) (sorts : Sorts) (o : Option Members) → IsOfMembers (input_fault names sorts o)
 of_input names sorts None = tt
@@ -68,10 +70,16 @@ pub reads_value : (names : Texts) (sorts : Sorts) (bytes : List ℕ) (d : Data) 
     → IfOk r (λ (s : code.Store). sorts_of s ≡ sorts)
     → IfErr r (λ (e : InputError). e ≢ Memory → input_fault names sorts (as_object d) ≡ Some e)
     → Reads names sorts bytes r
-reads_value names sorts bytes d (Ok s) json faultless gives declared err = record { value = d; json = json; faultless = faultless; gives = gives; declared = declared }
-reads_value names sorts bytes d (Err BadJson) json faultless gives declared err = absurd (subst IsOfMembers (err (λ (e : BadJson ≡ Memory). cc)) (of_input names sorts (as_object d)))
-reads_value names sorts bytes d (Err NotObject) json faultless gives declared err = record { value = d; json = json; fault = err (λ (e : NotObject ≡ Memory). cc) }
-reads_value names sorts bytes d (Err UnknownKey) json faultless gives declared err = record { value = d; json = json; fault = err (λ (e : UnknownKey ≡ Memory). cc) }
-reads_value names sorts bytes d (Err (BadValue x)) json faultless gives declared err = record { value = d; json = json; fault = err (λ (e : BadValue x ≡ Memory). cc) }
-reads_value names sorts bytes d (Err (BadIndex x)) json faultless gives declared err = record { value = d; json = json; fault = err (λ (e : BadIndex x ≡ Memory). cc) }
+reads_value names sorts bytes d (Ok s) json faultless gives declared err =
+    record { value = d; json = json; faultless = faultless; gives = gives; declared = declared }
+reads_value names sorts bytes d (Err BadJson) json faultless gives declared err =
+    absurd (subst IsOfMembers (err (λ (e : BadJson ≡ Memory). cc)) (of_input names sorts (as_object d)))
+reads_value names sorts bytes d (Err NotObject) json faultless gives declared err =
+    record { value = d; json = json; fault = err (λ (e : NotObject ≡ Memory). cc) }
+reads_value names sorts bytes d (Err UnknownKey) json faultless gives declared err =
+    record { value = d; json = json; fault = err (λ (e : UnknownKey ≡ Memory). cc) }
+reads_value names sorts bytes d (Err (BadValue x)) json faultless gives declared err =
+    record { value = d; json = json; fault = err (λ (e : BadValue x ≡ Memory). cc) }
+reads_value names sorts bytes d (Err (BadIndex x)) json faultless gives declared err =
+    record { value = d; json = json; fault = err (λ (e : BadIndex x ≡ Memory). cc) }
 reads_value names sorts bytes d (Err Memory) json faultless gives declared err = tt

@@ -1,5 +1,7 @@
 -- What is written for a store, member by member and cell by cell.
-use Rattle.std.proofs.Common.{◌≡◌, ◌≢◌, ◌⊎◌, ◌+◌, ◌<◌, ◌≤◌, ℕ, suc, ℤ, pos, Bool, true, false, if◌then◌else◌, Option, Some, None, option_and_then, Result, Ok, Err, List, [], ◌∷◌, length, drop, get_or, BTreeMap, String, Global, Ordering, Less, Equal, Greater, refl, sym, ap, subst, ◌∙◌, inl, inr, ⊎_elim, true≢false, add-one, drop-cons, arith}
+use Rattle.std.proofs.Common.{◌≡◌, ◌≢◌, ◌⊎◌, ◌+◌, ◌<◌, ◌≤◌, ℕ, suc, ℤ, pos, Bool, true, false, if◌then◌else◌, Option, Some, None}
+use Rattle.std.proofs.Common.{option_and_then, Result, Ok, Err, List, [], ◌∷◌, length, drop, get_or, BTreeMap, String, Global, Ordering}
+use Rattle.std.proofs.Common.{Less, Equal, Greater, refl, sym, ap, subst, ◌∙◌, inl, inr, ⊎_elim, true≢false, add-one, drop-cons, arith}
 use Rattle.std.proofs.lemmas.Bool.{ne_eqb}
 use Rattle.std.proofs.lemmas.Bool.Decides.{Decides-int_eq}
 use Rattle.std.proofs.lemmas.Cmp.{nat_list_cmp_total}
@@ -42,11 +44,13 @@ stands_below key l no_members below h = tt
 stands_below key l (member k d ms) below h = (nat_list_cmp_total.trans key l k below h.0, stands_below key l ms below h.1)
 
 -- a key stands before a greater one that is put among members after it
-stands_before_put : (l key : List ℕ) (d : Data) (ms : Members) → slice_cmp nat_cmp l key ≡ Less → StandsBefore l ms → StandsBefore l (put key d ms)
+stands_before_put : (l key : List ℕ) (d : Data) (ms : Members) → slice_cmp nat_cmp l key ≡ Less → StandsBefore l ms
+    → StandsBefore l (put key d ms)
 stands_before_put l key d no_members below h = (below, tt)
 stands_before_put l key d (member k e ms) below h = by (slice_cmp nat_cmp key k) (stands_before_put l key d ms below h.1)
   where
-    by : (o : Ordering) → StandsBefore l (put key d ms) → StandsBefore l (match_ordering o (member key d (member k e ms)) (member k d ms) (member k e (put key d ms)))
+    by : (o : Ordering) → StandsBefore l (put key d ms)
+        → StandsBefore l (match_ordering o (member key d (member k e ms)) (member k d ms) (member k e (put key d ms)))
     by Less rest = (below, h)
     by Equal rest = h
     by Greater rest = (h.0, rest)
@@ -56,7 +60,8 @@ put_ordered : (key : List ℕ) (d : Data) (ms : Members) → AreOrdered ms → A
 put_ordered key d no_members o = (tt, tt)
 put_ordered key d (member l e ms) o = by (slice_cmp nat_cmp key l) refl (put_ordered key d ms o.1)
   where
-    by : (c : Ordering) → slice_cmp nat_cmp key l ≡ c → AreOrdered (put key d ms) → AreOrdered (match_ordering c (member key d (member l e ms)) (member l d ms) (member l e (put key d ms)))
+    by : (c : Ordering) → slice_cmp nat_cmp key l ≡ c → AreOrdered (put key d ms)
+        → AreOrdered (match_ordering c (member key d (member l e ms)) (member l d ms) (member l e (put key d ms)))
     by Less is rest = ((is, stands_below key l ms is o.0), o)
     by Equal is rest = o
     by Greater is rest = (stands_before_put l key d ms (nat_list_cmp_total.antisymm l key ∙ ap ordering_reverse is) o.0, rest)
@@ -97,12 +102,15 @@ differ i j other = by (int_eq i j) (Decides-int_eq i j).0
     by false same = refl
 
 -- a cell of another index is passed
-cell_passed : (c : ℤ × ℤ) (rest : List (ℤ × ℤ)) (n : Option ℤ) → (n ≡ Some c.0 → ⊥) → cell_at (listed rest) n ≡ cell_at (listed (c ∷ rest)) n
+cell_passed : (c : ℤ × ℤ) (rest : List (ℤ × ℤ)) (n : Option ℤ) → (n ≡ Some c.0 → ⊥)
+    → cell_at (listed rest) n ≡ cell_at (listed (c ∷ rest)) n
 cell_passed c rest None other = refl
-cell_passed c rest (Some i) other = ap (λ (b : Bool). nonzero_text (if b then c.1 else listed rest i)) (sym (differ i c.0 (λ (same : i ≡ c.0). other (ap Some same))))
+cell_passed c rest (Some i) other =
+    ap (λ (b : Bool). nonzero_text (if b then c.1 else listed rest i)) (sym (differ i c.0 (λ (same : i ≡ c.0). other (ap Some same))))
 
 -- one cell more
-cell_step : (list : List (ℤ × ℤ)) (c : ℤ × ℤ) (rest : List (ℤ × ℤ)) (old new : Members) → IsInsideCell c → listed list c.0 ≡ c.1 → c.1 ≢ pos 0
+cell_step : (list : List (ℤ × ℤ)) (c : ℤ × ℤ) (rest : List (ℤ × ℤ)) (old new : Members) → IsInsideCell c → listed list c.0 ≡ c.1
+    → c.1 ≢ pos 0
     → new ≡ put (signed_decimal c.0) (number_text c.1) old → CellsSoFar list (c ∷ rest) old → CellsSoFar list rest new
 cell_step list c rest old new room has some is w = record {
   ordered = subst AreOrdered (sym is) (put_ordered (signed_decimal c.0) (number_text c.1) old w.ordered);
@@ -123,26 +131,36 @@ cell_step list c rest old new room has some is w = record {
         ∙ get_member-put (signed_decimal c.0) (number_text c.1) old
         ∙ sym (ap (cell_at (listed list)) (ap number_of_text text ∙ spells_itself c.0 room.0) ∙ ap nonzero_text has ∙ nonzero))
     by key false same =
-        let other : key ≡ signed_decimal c.0 → ⊥ = λ (t : key ≡ signed_decimal c.0). true≢false (sym ((bytes_eq-Decides key (signed_decimal c.0)).1 t) ∙ same) in
-        let kept : get_member key new ≡ get_member key old = ap (get_member key) is ∙ get_member-put_other key (signed_decimal c.0) (number_text c.1) old other in
+        let other : key ≡ signed_decimal c.0 → ⊥ =
+        λ (t : key ≡ signed_decimal c.0). true≢false (sym ((bytes_eq-Decides key (signed_decimal c.0)).1 t) ∙ same) in
+        let kept : get_member key new ≡ get_member key old =
+        ap (get_member key) is ∙ get_member-put_other key (signed_decimal c.0) (number_text c.1) old other in
         ⊎_elim (λ (e : get_member key old ≡ cell_at (listed list) (number_of_text key)). inl (kept ∙ e))
-        (λ (e : (get_member key old ≡ None) × (cell_at (listed (c ∷ rest)) (number_of_text key) ≡ cell_at (listed list) (number_of_text key))).
-        inr (kept ∙ e.0, cell_passed c rest (number_of_text key) (λ (n : number_of_text key ≡ Some c.0). other (sym (spelled_back key c.0 n).1)) ∙ e.1))
+        (λ (e : (get_member key old ≡ None)
+        × (cell_at (listed (c ∷ rest)) (number_of_text key) ≡ cell_at (listed list) (number_of_text key))).
+        inr (
+          kept ∙ e.0,
+          cell_passed c rest (number_of_text key)
+              (λ (n : number_of_text key ≡ Some c.0). other (sym (spelled_back key c.0 n).1)) ∙ e.1,
+        ))
         (w.each key)
 
 -- one turn over cells
-pub cell_turn : (list : List (ℤ × ℤ)) (p : ℕ) (d : ℤ × ℤ) (i z : ℤ) (old new : Members) → AreCells list → p < length list → get_or list p d ≡ (i, z) → IsInsideCell (i, z)
+pub cell_turn : (list : List (ℤ × ℤ)) (p : ℕ) (d : ℤ × ℤ) (i z : ℤ) (old new : Members) → AreCells list → p < length list
+    → get_or list p d ≡ (i, z) → IsInsideCell (i, z)
     → new ≡ put (signed_decimal i) (number_text z) old → CellsSoFar list (drop p list) old → CellsSoFar list (drop (p + 1) list) new
 cell_turn list p d i z old new cells here read room is w =
     let plain : get_or list p (pos 0, pos 0) ≡ (i, z) = get_or_default list p (pos 0, pos 0) d here ∙ read in
-    let has : listed list i ≡ z = listed_at list cells i p (record { in_range = here; same = ap (λ (e : ℤ × ℤ). e.0) plain }) ∙ ap (λ (e : ℤ × ℤ). e.1) plain in
+    let has : listed list i ≡ z =
+    listed_at list cells i p (record { in_range = here; same = ap (λ (e : ℤ × ℤ). e.0) plain }) ∙ ap (λ (e : ℤ × ℤ). e.1) plain in
     let some : z ≢ pos 0 = λ (none : z ≡ pos 0). cells.no_zero p here (ap (λ (e : ℤ × ℤ). e.1) plain ∙ none) in
     subst (λ (k : ℕ). CellsSoFar list (drop k list) new) (sym (add-one p))
     (cell_step list (i, z) (drop (suc p) list) old new room has some is
     (subst (λ (l : List (ℤ × ℤ)). CellsSoFar list l old) (drop-cons list p d here ∙ ap (λ (e : ℤ × ℤ). e ∷ drop (suc p) list) read) w))
 
 -- after all cells they are the cells, and these are inside 128 bits
-pub cells_end : (list : List (ℤ × ℤ)) (p : ℕ) (cells : Members) → length list ≤ p → CellsSoFar list (drop p list) cells → AreWrittenCells (listed list) cells × IsInside (Array (listed list))
+pub cells_end : (list : List (ℤ × ℤ)) (p : ℕ) (cells : Members) → length list ≤ p → CellsSoFar list (drop p list) cells
+    → AreWrittenCells (listed list) cells × IsInside (Array (listed list))
 cells_end list p cells past w =
     let whole = subst (λ (l : List (ℤ × ℤ)). CellsSoFar list l cells) (drop_all p list past) w in
     (all_cells list cells whole, listed_inside list (whole.inside tt))
@@ -158,16 +176,19 @@ abbrev with_sort : ℕ → Option Sort → Option (ℕ × Sort)
 with_sort n sort = option_and_then (λ (s : Sort). Some (n, s)) sort
 
 -- a declared name's text stands at its place, and the name has its sort
-declared_at : (names : Texts) (sorts : Sorts) (key : List ℕ) (x : ℕ × Sort) → declared_name names sorts key ≡ Some x → (slice_get names x.0 ≡ Some key) × (sorts x.0 ≡ Some x.1)
+declared_at : (names : Texts) (sorts : Sorts) (key : List ℕ) (x : ℕ × Sort) → declared_name names sorts key ≡ Some x
+    → (slice_get names x.0 ≡ Some key) × (sorts x.0 ≡ Some x.1)
 declared_at names sorts key x is = placed (position (bytes_eq key) names) refl is
   where
-    sorted : (n : ℕ) (o : Option Sort) → position (bytes_eq key) names ≡ Some n → sorts n ≡ o → with_sort n o ≡ Some x → (slice_get names x.0 ≡ Some key) × (sorts x.0 ≡ Some x.1)
+    sorted : (n : ℕ) (o : Option Sort) → position (bytes_eq key) names ≡ Some n → sorts n ≡ o → with_sort n o ≡ Some x
+        → (slice_get names x.0 ≡ Some key) × (sorts x.0 ≡ Some x.1)
     sorted n None found declared e = cc
     sorted n (Some sort) found declared e =
         let same : (n, sort) ≡ x = cc in
         subst (λ (y : ℕ × Sort). (slice_get names y.0 ≡ Some key) × (sorts y.0 ≡ Some y.1)) same (stored_at names key n found, declared)
 
-    placed : (o : Option ℕ) → position (bytes_eq key) names ≡ o → by_place sorts o ≡ Some x → (slice_get names x.0 ≡ Some key) × (sorts x.0 ≡ Some x.1)
+    placed : (o : Option ℕ) → position (bytes_eq key) names ≡ o → by_place sorts o ≡ Some x
+        → (slice_get names x.0 ≡ Some key) × (sorts x.0 ≡ Some x.1)
     placed None found e = cc
     placed (Some n) found e = sorted n (sorts n) found refl e
 
@@ -194,15 +215,18 @@ no_members_yet names declared s = record { ordered = tt; each = λ (key : List �
     by key (Some x) is = inr (x, is, (declared_at names (sort_of declared) key x is).1)
 
 -- at the end they are the members
-all_members : (names : Texts) (sorts : Sorts) (s : Store) (members : Members) → MembersSoFar names sorts s [] members → AreWritten names sorts s members × AreInside names sorts s
+all_members : (names : Texts) (sorts : Sorts) (s : Store) (members : Members) → MembersSoFar names sorts s [] members
+    → AreWritten names sorts s members × AreInside names sorts s
 all_members names sorts s members w = (record { ordered = w.ordered; each = λ (key : List ℕ). (by key).0 }, λ (key : List ℕ). (by key).1)
   where
     by : (key : List ℕ) → IsWritten s (declared_name names sorts key) (get_member key members)
     by key =
-        ⊎_elim (λ (is : IsWritten s (declared_name names sorts key) (get_member key members)). is) (λ (come : IsToCome names sorts [] key). absurd (none-some come.0.1 come.2)) (w.each key)
+        ⊎_elim (λ (is : IsWritten s (declared_name names sorts key) (get_member key members)). is)
+        (λ (come : IsToCome names sorts [] key). absurd (none-some come.0.1 come.2)) (w.each key)
 
 -- a name of the rest is declared after another name
-declared_later : (d : ℕ × Sort) (rest : List (ℕ × Sort)) (x : ℕ × Sort) → d.0 ≢ x.0 → sort_of (d ∷ rest) x.0 ≡ Some x.1 → sort_of rest x.0 ≡ Some x.1
+declared_later : (d : ℕ × Sort) (rest : List (ℕ × Sort)) (x : ℕ × Sort) → d.0 ≢ x.0 → sort_of (d ∷ rest) x.0 ≡ Some x.1
+    → sort_of rest x.0 ≡ Some x.1
 declared_later d rest x other is = sym (ap (λ (b : Bool). if b then Some d.1 else sort_of rest x.0) (ne_eqb d.0 x.0 other)) ∙ is
 
 -- a name without a text leaves the members
@@ -221,28 +245,39 @@ unnamed_step names sorts s d rest members past w = record {
     apart key x is same = omega (arith, slice_get_within names x.0 key (declared_at names sorts key x is).0)
 
 -- what stands at a key where its name's value was written
-here_written : (s : Store) (o : Option (ℕ × Sort)) (key : List ℕ) (old new : Members) → Writes s o key old new → IsInsideAt s o → (o ≡ None → get_member key old ≡ None) → IsWritten s o (get_member key new)
+here_written : (s : Store) (o : Option (ℕ × Sort)) (key : List ℕ) (old new : Members) → Writes s o key old new → IsInsideAt s o
+    → (o ≡ None → get_member key old ≡ None) → IsWritten s o (get_member key new)
 here_written s None key old new w room none = (ap (get_member key) w ∙ none refl, tt)
 here_written s (Some x) key old new w room none = ((w.0, ap (get_member key) w.2 ∙ get_member-put key w.0 old, w.1), room)
 
 -- another key keeps its member
-others_kept : (s : Store) (o : Option (ℕ × Sort)) (key q : List ℕ) (old new : Members) → Writes s o key old new → q ≢ key → get_member q new ≡ get_member q old
+others_kept : (s : Store) (o : Option (ℕ × Sort)) (key q : List ℕ) (old new : Members) → Writes s o key old new → q ≢ key
+    → get_member q new ≡ get_member q old
 others_kept s None key q old new w other = ap (get_member q) w
 others_kept s (Some x) key q old new w other = ap (get_member q) w.2 ∙ get_member-put_other q key w.0 old other
 
 -- and the order stays
-order_kept : (s : Store) (o : Option (ℕ × Sort)) (key : List ℕ) (old new : Members) → Writes s o key old new → AreOrdered old → AreOrdered new
+order_kept : (s : Store) (o : Option (ℕ × Sort)) (key : List ℕ) (old new : Members) → Writes s o key old new → AreOrdered old
+    → AreOrdered new
 order_kept s None key old new w o = subst AreOrdered (sym w) o
 order_kept s (Some x) key old new w o = subst AreOrdered (sym w.2) (put_ordered key w.0 old o)
 
 -- a name with a text gets its member
-named_step : (names : Texts) (sorts : Sorts) (s : Store) (d : ℕ × Sort) (rest : List (ℕ × Sort)) (key : List ℕ) (old new : Members) → slice_get names d.0 ≡ Some key
-    → Writes s (declared_name names sorts key) key old new → IsInsideAt s (declared_name names sorts key) → MembersSoFar names sorts s (d ∷ rest) old → MembersSoFar names sorts s rest new
-named_step names sorts s d rest key old new text written room w = record { ordered = order_kept s (declared_name names sorts key) key old new written w.ordered; each = λ (q : List ℕ). by q (bytes_eq q key) refl }
+named_step : (names : Texts) (sorts : Sorts) (s : Store) (d : ℕ × Sort) (rest : List (ℕ × Sort)) (key : List ℕ) (old new : Members)
+    → slice_get names d.0 ≡ Some key
+    → Writes s (declared_name names sorts key) key old new → IsInsideAt s (declared_name names sorts key)
+    → MembersSoFar names sorts s (d ∷ rest) old → MembersSoFar names sorts s rest new
+named_step names sorts s d rest key old new text written room w =
+    record {
+      ordered = order_kept s (declared_name names sorts key) key old new written w.ordered;
+      each =
+          λ (q : List ℕ). by q (bytes_eq q key) refl;
+    }
   where
     nothing : declared_name names sorts key ≡ None → get_member key old ≡ None
     nothing none =
-        ⊎_elim (λ (is : IsWritten s (declared_name names sorts key) (get_member key old)). (subst (λ (o : Option (ℕ × Sort)). IsWritten s o (get_member key old)) none is).0)
+        ⊎_elim (λ (is : IsWritten s (declared_name names sorts key) (get_member key old)).
+        (subst (λ (o : Option (ℕ × Sort)). IsWritten s o (get_member key old)) none is).0)
         (λ (come : IsToCome names sorts (d ∷ rest) key). absurd (none-some come.0 (sym none ∙ come.1)))
         (w.each key)
 
@@ -252,7 +287,8 @@ named_step names sorts s d rest key old new text written room w = record { order
         let equal : q ≡ key = cc in
         other equal
 
-    by : (q : List ℕ) (b : Bool) → bytes_eq q key ≡ b → IsWritten s (declared_name names sorts q) (get_member q new) ⊎ IsToCome names sorts rest q
+    by : (q : List ℕ) (b : Bool) → bytes_eq q key ≡ b
+        → IsWritten s (declared_name names sorts q) (get_member q new) ⊎ IsToCome names sorts rest q
     by q true same =
         inl (subst (λ (k : List ℕ). IsWritten s (declared_name names sorts k) (get_member k new)) (sym ((bytes_eq-Decides q key).0 same))
         (here_written s (declared_name names sorts key) key old new written room nothing))
@@ -260,12 +296,15 @@ named_step names sorts s d rest key old new text written room w = record { order
         let other : q ≢ key = λ (t : q ≡ key). true≢false (sym ((bytes_eq-Decides q key).1 t) ∙ same) in
         ⊎_elim
         (λ (is : IsWritten s (declared_name names sorts q) (get_member q old)).
-        inl (subst (IsWritten s (declared_name names sorts q)) (sym (others_kept s (declared_name names sorts key) key q old new written other)) is))
-        (λ (come : IsToCome names sorts (d ∷ rest) q). inr (come.0, come.1, declared_later d rest come.0 (apart q come.0 other come.1) come.2))
+        inl (subst (IsWritten s (declared_name names sorts q))
+        (sym (others_kept s (declared_name names sorts key) key q old new written other)) is))
+        (λ (come : IsToCome names sorts (d ∷ rest) q).
+        inr (come.0, come.1, declared_later d rest come.0 (apart q come.0 other come.1) come.2))
         (w.each q)
 
 -- one turn over declarations, where the name has no text
-pub unnamed_turn : (names : Texts) (sorts : Sorts) (s : Store) (items : List (Name × Sort)) (i : ℕ) (d : Name × Sort) (members : Members) → i < length items
+pub unnamed_turn : (names : Texts) (sorts : Sorts) (s : Store) (items : List (Name × Sort)) (i : ℕ) (d : Name × Sort) (members : Members)
+    → i < length items
     → length names ≤ (get_or items i d).0.0
     → MembersSoFar names sorts s (numbered (drop i items)) members → MembersSoFar names sorts s (numbered (drop (i + 1) items)) members
 unnamed_turn names sorts s items i d members here past w =
@@ -274,8 +313,10 @@ unnamed_turn names sorts s items i d members here past w =
     (subst (λ (l : List (Name × Sort)). MembersSoFar names sorts s (numbered l) members) (drop-cons items i d here) w))
 
 -- and where it has one
-pub named_turn : (names : Texts) (sorts : Sorts) (s : Store) (items : List (Name × Sort)) (i : ℕ) (d : Name × Sort) (key : List ℕ) (old new : Members) → i < length items
-    → slice_get names (get_or items i d).0.0 ≡ Some key → Writes s (declared_name names sorts key) key old new → IsInsideAt s (declared_name names sorts key)
+pub named_turn : (names : Texts) (sorts : Sorts) (s : Store) (items : List (Name × Sort)) (i : ℕ) (d : Name × Sort) (key : List ℕ)
+    (old new : Members) → i < length items
+    → slice_get names (get_or items i d).0.0 ≡ Some key → Writes s (declared_name names sorts key) key old new
+    → IsInsideAt s (declared_name names sorts key)
     → MembersSoFar names sorts s (numbered (drop i items)) old → MembersSoFar names sorts s (numbered (drop (i + 1) items)) new
 named_turn names sorts s items i d key old new here text written room w =
     subst (λ (k : ℕ). MembersSoFar names sorts s (numbered (drop k items)) new) (sym (add-one i))
@@ -286,7 +327,8 @@ named_turn names sorts s items i d key old new here text written room w =
 pub members_end : (names : Texts) (sorts : Sorts) (s : Store) (items : List (Name × Sort)) (i : ℕ) (members : Members) → length items ≤ i
     → MembersSoFar names sorts s (numbered (drop i items)) members → AreWritten names sorts s members × AreInside names sorts s
 members_end names sorts s items i members past w =
-    all_members names sorts s members (subst (λ (l : List (Name × Sort)). MembersSoFar names sorts s (numbered l) members) (drop_all i items past) w)
+    all_members names sorts s members
+    (subst (λ (l : List (Name × Sort)). MembersSoFar names sorts s (numbered l) members) (drop_all i items past) w)
 
 -- two facts of what a call gave
 pub both_ok : {T E : Type 0} (r : Result T E) (P Q R : T → Type 0) → ((x : T) → P x → Q x → R x) → IfOk r P → IfOk r Q → IfOk r R

@@ -1,5 +1,6 @@
 -- Bytes give one store as an input, and a store has one text as an input.
-use Rattle.std.proofs.Common.{◌≡◌, ◌≢◌, ◌⊎◌, ℕ, Option, Some, None, Ok, Err, List, Ordering, Less, Equal, Greater, is_eq, nat_cmp, refl, sym, ap, subst, ◌∙◌, inl, inr}
+use Rattle.std.proofs.Common.{◌≡◌, ◌≢◌, ◌⊎◌, ℕ, Option, Some, None, Ok, Err, List, Ordering, Less, Equal, Greater, is_eq, nat_cmp, refl}
+use Rattle.std.proofs.Common.{sym, ap, subst, ◌∙◌, inl, inr}
 use Rattle.std.proofs.lemmas.Cmp.{nat_list_cmp_total}
 use Rattle.std.proofs.lemmas.Map.Text.{is_eq-slice_cmp}
 use Rattle.std.proofs.lemmas.Slice.Eq.{bytes_eq-Decides}
@@ -26,9 +27,11 @@ found_here : (key : List ℕ) (d : Data) (rest : Members) → get_member key (me
 found_here key d rest = ap (λ (o : Ordering). match_ordering o (get_member key rest) (Some d) (get_member key rest)) (same_text key)
 
 -- a key below the first isn't found
-not_below : (key l : List ℕ) (e : Data) (rest : Members) → slice_cmp nat_cmp key l ≡ Less → StandsBefore l rest → get_member key (member l e rest) ≡ None
+not_below : (key l : List ℕ) (e : Data) (rest : Members) → slice_cmp nat_cmp key l ≡ Less → StandsBefore l rest
+    → get_member key (member l e rest) ≡ None
 not_below key l e rest below before =
-    ap (λ (o : Ordering). match_ordering o (get_member key rest) (Some e) (get_member key rest)) below ∙ before_all key rest (stands_below key l rest below before)
+    ap (λ (o : Ordering). match_ordering o (get_member key rest) (Some e) (get_member key rest)) below ∙
+    before_all key rest (stands_below key l rest below before)
 
 -- keys that compare equal are the same
 same_key : (k l : List ℕ) → slice_cmp nat_cmp k l ≡ Equal → k ≡ l
@@ -36,16 +39,19 @@ same_key k l is = (bytes_eq-Decides k l).0 (sym (is_eq-slice_cmp k l) ∙ ap is_
 
 -- what two lists of members have below one first key
 rest_each : (k : List ℕ) (d e : Data) (m n : Members) → StandsBefore k m → StandsBefore k n
-    → ((key : List ℕ) → get_member key (member k d m) ≡ get_member key (member k e n)) → (key : List ℕ) → get_member key m ≡ get_member key n
+    → ((key : List ℕ) → get_member key (member k d m) ≡ get_member key (member k e n)) → (key : List ℕ)
+    → get_member key m ≡ get_member key n
 rest_each k d e m n before_m before_n each key = by (slice_cmp nat_cmp key k) refl (each key)
   where
     by : (o : Ordering) → slice_cmp nat_cmp key k ≡ o
-        → match_ordering (slice_cmp nat_cmp key k) (get_member key m) (Some d) (get_member key m) ≡ match_ordering (slice_cmp nat_cmp key k) (get_member key n) (Some e) (get_member key n)
+        → match_ordering (slice_cmp nat_cmp key k) (get_member key m) (Some d) (get_member key m) ≡ match_ordering (slice_cmp nat_cmp key k)
+        (get_member key n) (Some e) (get_member key n)
         → get_member key m ≡ get_member key n
     by Less is same = rw is at same
     by Equal is same =
         let key_is : key ≡ k = same_key key k is in
-        ap (λ (t : List ℕ). get_member t m) key_is ∙ before_all k m before_m ∙ sym (before_all k n before_n) ∙ ap (λ (t : List ℕ). get_member t n) (sym key_is)
+        ap (λ (t : List ℕ). get_member t m) key_is ∙ before_all k m before_m ∙ sym (before_all k n before_n) ∙
+        ap (λ (t : List ℕ). get_member t n) (sym key_is)
     by Greater is same = rw is at same
 
 -- ordered members with one first key
@@ -59,7 +65,8 @@ members_one no_members (member l e n) p q each = let clash : None ≡ Some e = e
 members_one (member k d m) no_members p q each = let clash : Some d ≡ None = sym (found_here k d m) ∙ each k in cc
 members_one (member k d m) (member l e n) p q each = by (slice_cmp nat_cmp k l) refl (members_one m n p.1 q.1)
   where
-    by : (o : Ordering) → slice_cmp nat_cmp k l ≡ o → (((key : List ℕ) → get_member key m ≡ get_member key n) → m ≡ n) → member k d m ≡ member l e n
+    by : (o : Ordering) → slice_cmp nat_cmp k l ≡ o → (((key : List ℕ) → get_member key m ≡ get_member key n) → m ≡ n)
+        → member k d m ≡ member l e n
     by Less is rest = let clash : Some d ≡ None = sym (found_here k d m) ∙ each k ∙ not_below k l e n is q.0 in cc
     by Greater is rest =
         let below : slice_cmp nat_cmp l k ≡ Less = nat_list_cmp_total.antisymm l k ∙ ap ordering_reverse is in
@@ -69,7 +76,8 @@ members_one (member k d m) (member l e n) p q each = by (slice_cmp nat_cmp k l) 
         let before : StandsBefore k n = subst (λ (t : List ℕ). StandsBefore t n) (sym key) q.0 in
         let all : (t : List ℕ) → get_member t (member k d m) ≡ get_member t (member k e n) =
         λ (t : List ℕ). each t ∙ ap (λ (f : List ℕ). get_member t (member f e n)) (sym key) in
-        member_one k d e m n (sym (found_here k d m) ∙ all k ∙ found_here k e n) (rest (rest_each k d e m n p.0 before all)) ∙ ap (λ (f : List ℕ). member f e n) key
+        member_one k d e m n (sym (found_here k d m) ∙ all k ∙ found_here k e n) (rest (rest_each k d e m n p.0 before all)) ∙
+        ap (λ (f : List ℕ). member f e n) key
 
 -- ---- a store has one text
 
@@ -128,7 +136,10 @@ reading_one names sorts bytes (Ok s) (Ok u) ka kb a b = (
   a.gives ∙ ap (store_of names sorts) (json_one bytes a.value b.value a.json b.json) ∙ sym b.gives,
   a.declared ∙ sym b.declared,
 )
-reading_one names sorts bytes (Ok s) (Err f) ka kb a b = input_refused names sorts bytes s f a (refuses names sorts bytes f (λ (m : f ≡ Memory). kb (ap Err m)) b)
-reading_one names sorts bytes (Err e) (Ok u) ka kb a b = input_refused names sorts bytes u e b (refuses names sorts bytes e (λ (m : e ≡ Memory). ka (ap Err m)) a)
+reading_one names sorts bytes (Ok s) (Err f) ka kb a b =
+    input_refused names sorts bytes s f a (refuses names sorts bytes f (λ (m : f ≡ Memory). kb (ap Err m)) b)
+reading_one names sorts bytes (Err e) (Ok u) ka kb a b =
+    input_refused names sorts bytes u e b (refuses names sorts bytes e (λ (m : e ≡ Memory). ka (ap Err m)) a)
 reading_one names sorts bytes (Err e) (Err f) ka kb a b =
-    refused_one names sorts bytes e f (refuses names sorts bytes e (λ (m : e ≡ Memory). ka (ap Err m)) a) (refuses names sorts bytes f (λ (m : f ≡ Memory). kb (ap Err m)) b)
+    refused_one names sorts bytes e f (refuses names sorts bytes e (λ (m : e ≡ Memory). ka (ap Err m)) a)
+    (refuses names sorts bytes f (λ (m : f ≡ Memory). kb (ap Err m)) b)

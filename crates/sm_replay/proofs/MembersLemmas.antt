@@ -1,5 +1,7 @@
 -- Members of JSON, and what they give an array.
-use Rattle.std.proofs.Common.{◌≡◌, ◌⊎◌, ◌<◌, ◌++◌, ℕ, zero, suc, ℤ, Bool, true, false, cond, not, ◌||◌, ◌+◌, if◌then◌else◌, nat_lt, Option, Some, None, option_map, option_and_then, List, [], ◌∷◌, length, String, Global, string_bytes, Less, refl, sym, ap, subst, ◌∙◌, inl, inr, ⊎_elim, true≢false, arith}
+use Rattle.std.proofs.Common.{◌≡◌, ◌⊎◌, ◌<◌, ◌++◌, ℕ, zero, suc, ℤ, Bool, true, false, cond, not, ◌||◌, ◌+◌, if◌then◌else◌, nat_lt, Option}
+use Rattle.std.proofs.Common.{Some, None, option_map, option_and_then, List, [], ◌∷◌, length, String, Global, string_bytes, Less, refl, sym}
+use Rattle.std.proofs.Common.{ap, subst, ◌∙◌, inl, inr, ⊎_elim, true≢false, arith}
 use Rattle.std.proofs.lemmas.Bool.Decides.{Decides-ltb}
 use Rattle.std.proofs.lemmas.List.Elements.{Contains-append_left, Contains-append_right, Contains-append_cases}
 use Rattle.std.proofs.lemmas.List.Sorted.{IsPermutation-sym, Contains-permutation}
@@ -31,23 +33,29 @@ no_place : (names : Texts) (key : List ℕ) → is_among names key ≡ false →
 no_place [] key h = refl
 no_place (x ∷ xs) key h = by (bytes_eq key x) refl (no_place xs key)
   where
-    by : (b : Bool) → bytes_eq key x ≡ b → (is_among xs key ≡ false → position_or_len (bytes_eq key) xs ≡ length xs) → position_or_len (bytes_eq key) (x ∷ xs) ≡ length (x ∷ xs)
+    by : (b : Bool) → bytes_eq key x ≡ b → (is_among xs key ≡ false → position_or_len (bytes_eq key) xs ≡ length xs)
+        → position_or_len (bytes_eq key) (x ∷ xs) ≡ length (x ∷ xs)
     by true e rest = absurd (true≢false (sym (ap (λ (b : Bool). b || is_among xs key) e) ∙ h))
     by false e rest =
-        ap (λ (c : Bool). cond (not c) (1 + position_or_len (bytes_eq key) xs) 0) e ∙ omega (arith, rest (sym (ap (λ (b : Bool). b || is_among xs key) e) ∙ h))
+        ap (λ (c : Bool). cond (not c) (1 + position_or_len (bytes_eq key) xs) 0) e ∙
+        omega (arith, rest (sym (ap (λ (b : Bool). b || is_among xs key) e) ∙ h))
 
 pub absent_place : (names : Texts) (key : List ℕ) → is_among names key ≡ false → position (bytes_eq key) names ≡ None
-absent_place names key h = by (nat_lt (position_or_len (bytes_eq key) names) (length names)) (Decides-ltb (position_or_len (bytes_eq key) names) (length names)).0
+absent_place names key h =
+    by (nat_lt (position_or_len (bytes_eq key) names) (length names)) (Decides-ltb (position_or_len (bytes_eq key) names) (length names)).0
   where
-    by : (b : Bool) → (b ≡ true → position_or_len (bytes_eq key) names < length names) → cond b (Some (position_or_len (bytes_eq key) names)) None ≡ None
+    by : (b : Bool) → (b ≡ true → position_or_len (bytes_eq key) names < length names)
+        → cond b (Some (position_or_len (bytes_eq key) names)) None ≡ None
     by true lt = absurd (omega (arith, lt refl, no_place names key h))
     by false lt = refl
 
 -- a text that stands at its place
-pub place_of : (names : Texts) (key : List ℕ) (n : ℕ) → n ≡ position_or_len (bytes_eq key) names → slice_get names n ≡ Some key → position (bytes_eq key) names ≡ Some n
+pub place_of : (names : Texts) (key : List ℕ) (n : ℕ) → n ≡ position_or_len (bytes_eq key) names → slice_get names n ≡ Some key
+    → position (bytes_eq key) names ≡ Some n
 place_of names key n is stored =
     let lt : position_or_len (bytes_eq key) names < length names = omega (arith, is, slice_get_within names n key stored) in
-    ap (λ (b : Bool). cond b (Some (position_or_len (bytes_eq key) names)) None) ((Decides-ltb (position_or_len (bytes_eq key) names) (length names)).1 lt) ∙ ap Some (sym is)
+    ap (λ (b : Bool). cond b (Some (position_or_len (bytes_eq key) names)) None)
+    ((Decides-ltb (position_or_len (bytes_eq key) names) (length names)).1 lt) ∙ ap Some (sym is)
 
 -- a name by its place
 abbrev pub by_place : Sorts → Option ℕ → Option (ℕ × Sort)
@@ -56,10 +64,12 @@ by_place sorts place = option_and_then (λ (x : ℕ). option_and_then (λ (sort 
 pub unnamed : (names : Texts) (sorts : Sorts) (key : List ℕ) → is_among names key ≡ false → None ≡ declared_name names sorts key
 unnamed names sorts key h = sym (ap (by_place sorts) (absent_place names key h))
 
-pub named : (names : Texts) (sorts : Sorts) (key : List ℕ) (n : ℕ) (sort : Option Sort) → n ≡ position_or_len (bytes_eq key) names → slice_get names n ≡ Some key → sort ≡ sorts n
+pub named : (names : Texts) (sorts : Sorts) (key : List ℕ) (n : ℕ) (sort : Option Sort) → n ≡ position_or_len (bytes_eq key) names
+    → slice_get names n ≡ Some key → sort ≡ sorts n
     → option_and_then (λ (s : Sort). Some (n, s)) sort ≡ declared_name names sorts key
 named names sorts key n sort is stored declared =
-    ap (λ (o : Option Sort). option_and_then (λ (s : Sort). Some (n, s)) o) declared ∙ sym (ap (by_place sorts) (place_of names key n is stored))
+    ap (λ (o : Option Sort). option_and_then (λ (s : Sort). Some (n, s)) o) declared ∙
+    sym (ap (by_place sorts) (place_of names key n is stored))
 
 -- the members of an object, and of what is none
 pub object_of : (d : Data) (ms : Members) → Some ms ≡ as_object d → d ≡ object ms
@@ -87,9 +97,13 @@ pub no_elements : (d : Data) (i : ℤ) → None ≡ as_object d → elements d i
 no_elements d i is = if_none (fits i) _ (ap (option_map (λ (v : Data). number_or_zero (Some v))) (no_object d (signed_decimal i) is))
 
 -- a key above which all others stand is not among them
-above_all : (key : List ℕ) (rest : List Entry) → AllByRecursion (λ (y : String Global). slice_cmp nat_cmp key (string_bytes y) ≡ Less) (keys_of rest) → get_member key (members_view rest) ≡ None
+above_all : (key : List ℕ) (rest : List Entry)
+    → AllByRecursion (λ (y : String Global). slice_cmp nat_cmp key (string_bytes y) ≡ Less) (keys_of rest)
+    → get_member key (members_view rest) ≡ None
 above_all key [] h = refl
-above_all key (e ∷ rest) h = ap (λ o. match_ordering o (get_member key (members_view rest)) (Some (view e.1)) (get_member key (members_view rest))) h.0 ∙ above_all key rest h.1
+above_all key (e ∷ rest) h =
+    ap (λ o. match_ordering o (get_member key (members_view rest)) (Some (view e.1)) (get_member key (members_view rest))) h.0 ∙
+    above_all key rest h.1
 
 -- what a member is worth
 abbrev worth : Option Data → Option ℤ
@@ -116,24 +130,30 @@ module _ (e : Entry) (rest : List Entry) (i z : ℤ) where
   pub first_or_rest : elements (object (members_view (e ∷ rest))) i ≡ Some z → First ⊎ (elements (object (members_view rest)) i ≡ Some z)
   first_or_rest is = by (fits i) refl (bytes_eq (signed_decimal i) (string_bytes e.0)) refl
     where
-      by : (f : Bool) → fits i ≡ f → (b : Bool) → bytes_eq (signed_decimal i) (string_bytes e.0) ≡ b → First ⊎ (elements (object (members_view rest)) i ≡ Some z)
+      by : (f : Bool) → fits i ≡ f → (b : Bool) → bytes_eq (signed_decimal i) (string_bytes e.0) ≡ b
+          → First ⊎ (elements (object (members_view rest)) i ≡ Some z)
       by false room b same = absurd (let clash : None ≡ Some z = sym (unfit (members_view (e ∷ rest)) i room) ∙ is in cc)
       by true room true same =
           let text : signed_decimal i ≡ string_bytes e.0 = (bytes_eq-Decides (signed_decimal i) (string_bytes e.0)).0 same in
           let read : number_of_text (string_bytes e.0) ≡ Some i = ap number_of_text (sym text) ∙ spells_itself i room in
-          let both : Some (number_or_zero (Some (view e.1))) ≡ Some z = sym (fit (members_view (e ∷ rest)) i room ∙ ap worth (member_here (signed_decimal i) e rest text)) ∙ is in
+          let both : Some (number_or_zero (Some (view e.1))) ≡ Some z =
+          sym (fit (members_view (e ∷ rest)) i room ∙ ap worth (member_here (signed_decimal i) e rest text)) ∙ is in
           let number : number_or_zero (Some (view e.1)) ≡ z = cc in
-          inl (subst (λ (o : Option ℤ). Contains (cell_given o (view e.1)) (i, z)) (sym read) (0, omega arith, ap (λ (w : ℤ). (i, w)) number))
+          inl (subst (λ (o : Option ℤ). Contains (cell_given o (view e.1)) (i, z)) (sym read)
+          (0, omega arith, ap (λ (w : ℤ). (i, w)) number))
       by true room false same =
           inr (fit (members_view rest) i room
-          ∙ ap worth (sym (member_later (signed_decimal i) e rest (λ (t : signed_decimal i ≡ string_bytes e.0). true≢false (sym ((bytes_eq-Decides (signed_decimal i) (string_bytes e.0)).1 t) ∙ same))))
+          ∙ ap worth (sym (member_later (signed_decimal i) e rest
+          (λ (t : signed_decimal i ≡ string_bytes e.0).
+          true≢false (sym ((bytes_eq-Decides (signed_decimal i) (string_bytes e.0)).1 t) ∙ same))))
           ∙ sym (fit (members_view (e ∷ rest)) i room) ∙ is)
 
   -- what the first cell gives is an element
   pub first_is_element : First → elements (object (members_view (e ∷ rest))) i ≡ Some z
   first_is_element = by (number_of_text (string_bytes e.0)) refl
     where
-      by : (o : Option ℤ) → number_of_text (string_bytes e.0) ≡ o → Contains (cell_given o (view e.1)) (i, z) → elements (object (members_view (e ∷ rest))) i ≡ Some z
+      by : (o : Option ℤ) → number_of_text (string_bytes e.0) ≡ o → Contains (cell_given o (view e.1)) (i, z)
+          → elements (object (members_view (e ∷ rest))) i ≡ Some z
       by None read found = absurd (omega (arith, found.1))
       by (Some j) read found =
           let pair : (j, number_or_zero (Some (view e.1))) ≡ (i, z) = only (j, number_or_zero (Some (view e.1))) (i, z) found in
@@ -144,23 +164,29 @@ module _ (e : Entry) (rest : List Entry) (i z : ℤ) where
           ∙ ap (λ (p : ℤ × ℤ). Some p.1) pair
 
   -- an element of the rest is one too, since its key is another
-  pub rest_is_element : IsStrictlySortedBy string_cmp (keys_of (e ∷ rest)) → elements (object (members_view rest)) i ≡ Some z → elements (object (members_view (e ∷ rest))) i ≡ Some z
+  pub rest_is_element : IsStrictlySortedBy string_cmp (keys_of (e ∷ rest)) → elements (object (members_view rest)) i ≡ Some z
+      → elements (object (members_view (e ∷ rest))) i ≡ Some z
   unfolding IsStrictlySortedBy
   rest_is_element sorted is = by (fits i) refl (bytes_eq (signed_decimal i) (string_bytes e.0)) refl
     where
-      by : (f : Bool) → fits i ≡ f → (b : Bool) → bytes_eq (signed_decimal i) (string_bytes e.0) ≡ b → elements (object (members_view (e ∷ rest))) i ≡ Some z
+      by : (f : Bool) → fits i ≡ f → (b : Bool) → bytes_eq (signed_decimal i) (string_bytes e.0) ≡ b
+          → elements (object (members_view (e ∷ rest))) i ≡ Some z
       by false room b same = absurd (let clash : None ≡ Some z = sym (unfit (members_view rest) i room) ∙ is in cc)
       by true room true same =
           let text : signed_decimal i ≡ string_bytes e.0 = (bytes_eq-Decides (signed_decimal i) (string_bytes e.0)).0 same in
-          let alone : get_member (signed_decimal i) (members_view rest) ≡ None = ap (λ (k : List ℕ). get_member k (members_view rest)) text ∙ above_all (string_bytes e.0) rest sorted.0 in
+          let alone : get_member (signed_decimal i) (members_view rest) ≡ None =
+          ap (λ (k : List ℕ). get_member k (members_view rest)) text ∙ above_all (string_bytes e.0) rest sorted.0 in
           absurd (let clash : None ≡ Some z = sym (fit (members_view rest) i room ∙ ap worth alone) ∙ is in cc)
       by true room false same =
           fit (members_view (e ∷ rest)) i room
-          ∙ ap worth (member_later (signed_decimal i) e rest (λ (t : signed_decimal i ≡ string_bytes e.0). true≢false (sym ((bytes_eq-Decides (signed_decimal i) (string_bytes e.0)).1 t) ∙ same)))
+          ∙ ap worth (member_later (signed_decimal i) e rest
+          (λ (t : signed_decimal i ≡ string_bytes e.0).
+          true≢false (sym ((bytes_eq-Decides (signed_decimal i) (string_bytes e.0)).1 t) ∙ same)))
           ∙ sym (fit (members_view rest) i room) ∙ is
 
 -- the keys of the rest rise too
-pub rest_sorted : (e : Entry) (rest : List Entry) → IsStrictlySortedBy string_cmp (keys_of (e ∷ rest)) → IsStrictlySortedBy string_cmp (keys_of rest)
+pub rest_sorted : (e : Entry) (rest : List Entry) → IsStrictlySortedBy string_cmp (keys_of (e ∷ rest))
+    → IsStrictlySortedBy string_cmp (keys_of rest)
 unfolding IsStrictlySortedBy
 rest_sorted e rest sorted = sorted.1
 
@@ -168,10 +194,12 @@ rest_sorted e rest sorted = sorted.1
 pub record ListsBefore (all left : List Entry) (list : List (ℤ × ℤ)) : Type 0 where
   pub sound : (i z : ℤ) → Contains list (i, z) → elements (object (members_view all)) i ≡ Some z
   pub later : (i z : ℤ) → elements (object (members_view left)) i ≡ Some z → elements (object (members_view all)) i ≡ Some z
-  pub whole : (i z : ℤ) → elements (object (members_view all)) i ≡ Some z → Contains list (i, z) ⊎ (elements (object (members_view left)) i ≡ Some z)
+  pub whole : (i z : ℤ) → elements (object (members_view all)) i ≡ Some z
+      → Contains list (i, z) ⊎ (elements (object (members_view left)) i ≡ Some z)
 
 -- the next cell
-pub list_turn : (all : List Entry) (e : Entry) (rest : List Entry) (list : List (ℤ × ℤ)) → IsStrictlySortedBy string_cmp (keys_of (e ∷ rest))
+pub list_turn : (all : List Entry) (e : Entry) (rest : List Entry) (list : List (ℤ × ℤ))
+    → IsStrictlySortedBy string_cmp (keys_of (e ∷ rest))
     → ListsBefore all (e ∷ rest) list → ListsBefore all rest (list ++ cell_given (number_of_text (string_bytes e.0)) (view e.1))
 list_turn all e rest list sorted before = record {
   sound = λ (i z : ℤ) (found : Contains (list ++ cell_given (number_of_text (string_bytes e.0)) (view e.1)) (i, z)).
@@ -179,9 +207,11 @@ list_turn all e rest list sorted before = record {
       (Contains-append_cases list (cell_given (number_of_text (string_bytes e.0)) (view e.1)) (i, z) found);
   later = λ (i z : ℤ) (is : elements (object (members_view rest)) i ≡ Some z). before.later i z (rest_is_element e rest i z sorted is);
   whole = λ (i z : ℤ) (is : elements (object (members_view all)) i ≡ Some z).
-      ⊎_elim (λ (there : Contains list (i, z)). inl (Contains-append_left list (cell_given (number_of_text (string_bytes e.0)) (view e.1)) (i, z) there))
+      ⊎_elim (λ (there : Contains list (i, z)).
+      inl (Contains-append_left list (cell_given (number_of_text (string_bytes e.0)) (view e.1)) (i, z) there))
       (λ (left : elements (object (members_view (e ∷ rest))) i ≡ Some z).
-      ⊎_elim (λ (here : First e rest i z). inl (Contains-append_right list (cell_given (number_of_text (string_bytes e.0)) (view e.1)) (i, z) here))
+      ⊎_elim (λ (here : First e rest i z).
+      inl (Contains-append_right list (cell_given (number_of_text (string_bytes e.0)) (view e.1)) (i, z) here))
       (λ (later : elements (object (members_view rest)) i ≡ Some z). inr later)
       (first_or_rest e rest i z left))
       (before.whole i z is);
@@ -194,7 +224,9 @@ no_member_left i z is = let clash : None ≡ Some z = sym (if_none (fits i) None
 -- at the end the list has what all the cells give
 pub all_listed : (all : List Entry) (list : List (ℤ × ℤ)) → ListsBefore all [] list → Lists (elements (object (members_view all))) list
 all_listed all list before i z = (
-  λ (is : elements (object (members_view all)) i ≡ Some z). ⊎_elim (λ (there : Contains list (i, z)). there) (λ (left : elements (object no_members) i ≡ Some z). absurd (no_member_left i z left)) (before.whole i z is),
+  λ (is : elements (object (members_view all)) i ≡ Some z).
+      ⊎_elim (λ (there : Contains list (i, z)). there)
+      (λ (left : elements (object no_members) i ≡ Some z). absurd (no_member_left i z left)) (before.whole i z is),
   before.sound i z,
 )
 

@@ -16,7 +16,8 @@ unsigned_number (array ds) n is = cc
 unsigned_number (object ms) n is = cc
 
 -- one with a sign
-pub signed_number : (d : Data) (z : ℤ) → None ≡ option_and_then as_u64 (as_number d) → Some z ≡ option_and_then as_i64 (as_number d) → Some z ≡ json_number d
+pub signed_number : (d : Data) (z : ℤ) → None ≡ option_and_then as_u64 (as_number d) → Some z ≡ option_and_then as_i64 (as_number d)
+    → Some z ≡ json_number d
 signed_number null z none is = cc
 signed_number (boolean b) z none is = cc
 signed_number (number (unsigned m)) z none is = cc
@@ -36,7 +37,8 @@ text_number (array ds) s is = cc
 text_number (object ms) s is = cc
 
 -- anything else
-pub no_number : (d : Data) → None ≡ option_and_then as_u64 (as_number d) → None ≡ option_and_then as_i64 (as_number d) → None ≡ as_str d → None ≡ json_number d
+pub no_number : (d : Data) → None ≡ option_and_then as_u64 (as_number d) → None ≡ option_and_then as_i64 (as_number d) → None ≡ as_str d
+    → None ≡ json_number d
 no_number null u i t = refl
 no_number (boolean b) u i t = refl
 no_number (number (unsigned m)) u i t = cc

@@ -1,5 +1,6 @@
 -- Decimal texts and the numbers that they spell.
-use Rattle.std.proofs.Common.{◌≡◌, ◌+◌, ◌<◌, ◌^◌, ◌&&◌, ℕ, suc, ℤ, pos, negsuc, neg_ℤ, Bool, true, false, cond, if◌then◌else◌, Some, None, List, [], ◌∷◌, length, drop, to_z, of_z, refl, sym, ap, subst, ◌∙◌, arith}
+use Rattle.std.proofs.Common.{◌≡◌, ◌+◌, ◌<◌, ◌^◌, ◌&&◌, ℕ, suc, ℤ, pos, negsuc, neg_ℤ, Bool, true, false, cond, if◌then◌else◌, Some, None}
+use Rattle.std.proofs.Common.{List, [], ◌∷◌, length, drop, to_z, of_z, refl, sym, ap, subst, ◌∙◌, arith}
 use Rattle.std.proofs.lemmas.Bool.{ne_eqb}
 use Rattle.std.proofs.lemmas.Bool.Decides.{Decides-ltb}
 use Rattle.std.proofs.lemmas.Fmt.{decimal_is_IsNumeral_wide}
@@ -10,7 +11,8 @@ use Rattle.std.specs.Fmt.{decimal, signed_decimal}
 use Rattle.std.specs.Int.{w128}
 use Rattle.std.specs.Int.RustNames.{FitsSigned}
 use Rattle.std.specs.Str.{bytes_eq}
-use Rattle.std.specs.Str.Parse.{AllDigits, IsNumeral, digits_value, starts_with_minus, without_leading_plus, without_leading_sign, signed_digits_value}
+use Rattle.std.specs.Str.Parse.{AllDigits, IsNumeral, digits_value, starts_with_minus, without_leading_plus, without_leading_sign}
+use Rattle.std.specs.Str.Parse.{signed_digits_value}
 use lib.Signed.{mag}
 use Rattle.sm_num.specs.Range.{fits}
 use Rattle.sm_replay.specs.Number.{number_of_text}
@@ -36,7 +38,8 @@ no_minus (c ∷ cs) d some = ne_eqb c 45 (λ (e : c ≡ 45). omega (arith, digit
 
 no_plus : (ds : List ℕ) → AllDigits 10 ds → 0 < length ds → without_leading_plus ds ≡ ds
 no_plus [] d some = absurd (omega arith)
-no_plus (c ∷ cs) d some = ap (λ (b : Bool). drop (cond b 1 0) (c ∷ cs)) (ne_eqb c 43 (λ (e : c ≡ 43). omega (arith, digit_from_value c d.0)))
+no_plus (c ∷ cs) d some =
+    ap (λ (b : Bool). drop (cond b 1 0) (c ∷ cs)) (ne_eqb c 43 (λ (e : c ≡ 43). omega (arith, digit_from_value c d.0)))
 
 unsigned : (ds : List ℕ) → AllDigits 10 ds → 0 < length ds → without_leading_sign ds ≡ ds
 unsigned ds d some = ap (λ (b : Bool). cond b (drop 1 ds) (without_leading_plus ds)) (no_minus ds d some) ∙ no_plus ds d some
@@ -53,46 +56,59 @@ pub value_of_text : (z : ℤ) → mag z < 2 ^ 127 → signed_digits_value 10 (si
 value_of_text (pos n) small =
     let k = decimal_is_IsNumeral_wide n (omega (arith, wide n small)) in
     let ds = decimal n in
-    ap (λ (b : Bool). cond b (neg_ℤ (pos (digits_value 10 (without_leading_sign ds)))) (pos (digits_value 10 (without_leading_sign ds)))) (no_minus ds k.0.1 k.0.0)
+    ap (λ (b : Bool). cond b (neg_ℤ (pos (digits_value 10 (without_leading_sign ds)))) (pos (digits_value 10 (without_leading_sign ds))))
+    (no_minus ds k.0.1 k.0.0)
     ∙ ap (λ (l : List ℕ). pos (digits_value 10 l)) (unsigned ds k.0.1 k.0.0)
     ∙ ap pos k.1
-value_of_text (negsuc n) small = let k = decimal_is_IsNumeral_wide (suc n) (omega (arith, wide n small)) in ap (λ (m : ℕ). neg_ℤ (pos m)) k.1
+value_of_text (negsuc n) small = let k = decimal_is_IsNumeral_wide (suc n) (omega (arith, wide n small)) in
+    ap (λ (m : ℕ). neg_ℤ (pos m)) k.1
 
 -- a text that is read as a number
-pub spelled_ok : (text : List ℕ) (z : ℤ) (b : Bool) → z ≡ signed_digits_value 10 text → FitsSigned w128 (signed_digits_value 10 text) → b ≡ bytes_eq (signed_decimal z) text
+pub spelled_ok : (text : List ℕ) (z : ℤ) (b : Bool) → z ≡ signed_digits_value 10 text → FitsSigned w128 (signed_digits_value 10 text)
+    → b ≡ bytes_eq (signed_decimal z) text
     → number_of_text text ≡ (if b then Some z else None)
 unfolding number_of_text
 spelled_ok text z b same room is =
-    ap (λ (f : Bool). if f && bytes_eq (signed_decimal (signed_digits_value 10 text)) text then Some (signed_digits_value 10 text) else None) (small_fits (signed_digits_value 10 text) room.sfits)
+    ap (λ (f : Bool). if f && bytes_eq (signed_decimal (signed_digits_value 10 text)) text then Some
+    (signed_digits_value 10 text) else None) (small_fits (signed_digits_value 10 text) room.sfits)
     ∙ ap (λ (y : ℤ). if bytes_eq (signed_decimal y) text then Some y else None) (sym same)
     ∙ ap (λ (c : Bool). if c then Some z else None) (sym is)
 
 -- a text that isn't
-pub spelled_err : (text : List ℕ) → ¬ (IsNumeral 10 (without_leading_sign text) × FitsSigned w128 (signed_digits_value 10 text)) → number_of_text text ≡ None
+pub spelled_err : (text : List ℕ) → ¬ (IsNumeral 10 (without_leading_sign text) × FitsSigned w128 (signed_digits_value 10 text))
+    → number_of_text text ≡ None
 unfolding number_of_text
 spelled_err text refused = by (fits (signed_digits_value 10 text)) refl (bytes_eq (signed_decimal (signed_digits_value 10 text)) text) refl
   where
-    by : (f : Bool) → fits (signed_digits_value 10 text) ≡ f → (b : Bool) → bytes_eq (signed_decimal (signed_digits_value 10 text)) text ≡ b → (if f && b then Some (signed_digits_value 10 text) else None) ≡ None
+    by : (f : Bool) → fits (signed_digits_value 10 text) ≡ f → (b : Bool) → bytes_eq (signed_decimal (signed_digits_value 10 text)) text ≡ b
+        → (if f && b then Some (signed_digits_value 10 text) else None) ≡ None
     by false p b q = refl
     by true p false q = refl
     by true p true q =
         let small = fits_small (signed_digits_value 10 text) p in
-        let same : signed_decimal (signed_digits_value 10 text) ≡ text = (bytes_eq-Decides (signed_decimal (signed_digits_value 10 text)) text).0 q in
-        absurd (refused (subst (λ (l : List ℕ). IsNumeral 10 (without_leading_sign l)) same (text_is_numeral (signed_digits_value 10 text) small), record { sfits = small }))
+        let same : signed_decimal (signed_digits_value 10 text) ≡ text =
+        (bytes_eq-Decides (signed_decimal (signed_digits_value 10 text)) text).0 q in
+        absurd (refused (
+          subst (λ (l : List ℕ). IsNumeral 10 (without_leading_sign l)) same
+              (text_is_numeral (signed_digits_value 10 text) small),
+          record { sfits = small },
+        ))
 
 -- the text of a number spells it
 pub spells_itself : (z : ℤ) → fits z ≡ true → number_of_text (signed_decimal z) ≡ Some z
 spells_itself z room =
     let small = fits_small z room in
     let same = value_of_text z small in
-    spelled_ok (signed_decimal z) z true (sym same) (subst (FitsSigned w128) (sym same) (record { sfits = small })) (sym ((bytes_eq-Decides (signed_decimal z) (signed_decimal z)).1 refl))
+    spelled_ok (signed_decimal z) z true (sym same) (subst (FitsSigned w128) (sym same) (record { sfits = small }))
+    (sym ((bytes_eq-Decides (signed_decimal z) (signed_decimal z)).1 refl))
 
 -- a text that spells a number is its text
 pub spelled_back : (text : List ℕ) (z : ℤ) → number_of_text text ≡ Some z → (fits z ≡ true) × (signed_decimal z ≡ text)
 unfolding number_of_text
 spelled_back text z is = by (fits (signed_digits_value 10 text)) refl (bytes_eq (signed_decimal (signed_digits_value 10 text)) text) refl is
   where
-    by : (f : Bool) → fits (signed_digits_value 10 text) ≡ f → (b : Bool) → bytes_eq (signed_decimal (signed_digits_value 10 text)) text ≡ b → (if f && b then Some (signed_digits_value 10 text) else None) ≡ Some z → (fits z ≡ true) × (signed_decimal z ≡ text)
+    by : (f : Bool) → fits (signed_digits_value 10 text) ≡ f → (b : Bool) → bytes_eq (signed_decimal (signed_digits_value 10 text)) text ≡ b
+        → (if f && b then Some (signed_digits_value 10 text) else None) ≡ Some z → (fits z ≡ true) × (signed_decimal z ≡ text)
     by false p b q e = cc
     by true p false q e = cc
     by true p true q e =
@@ -100,8 +116,10 @@ spelled_back text z is = by (fits (signed_digits_value 10 text)) refl (bytes_eq 
         (ap fits (sym same) ∙ p, ap signed_decimal (sym same) ∙ (bytes_eq-Decides (signed_decimal (signed_digits_value 10 text)) text).0 q)
 
 -- what the code finds
-pub spelled_then : (text : List ℕ) (z : ℤ) (r b : Bool) → (IsNumeral 10 (without_leading_sign text) × FitsSigned w128 (signed_digits_value 10 text)) × (z ≡ signed_digits_value 10 text)
-    → r ≡ bytes_eq (signed_decimal (to_z w128 (of_z w128 z))) text → r ≡ b → (if b then Some (to_z w128 (of_z w128 z)) else None) ≡ number_of_text text
+pub spelled_then : (text : List ℕ) (z : ℤ) (r b : Bool)
+    → (IsNumeral 10 (without_leading_sign text) × FitsSigned w128 (signed_digits_value 10 text)) × (z ≡ signed_digits_value 10 text)
+    → r ≡ bytes_eq (signed_decimal (to_z w128 (of_z w128 z))) text → r ≡ b
+    → (if b then Some (to_z w128 (of_z w128 z)) else None) ≡ number_of_text text
 spelled_then text z r b h is test =
     let room : FitsSigned w128 z = subst (FitsSigned w128) (sym h.1) h.0.1 in
     let same = to_z-of_z w128 z room in

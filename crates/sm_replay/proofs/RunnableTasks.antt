@@ -4,7 +4,10 @@ use Rattle.std.specs.Option.{option_or}
 use Rattle.sm_syntax.specs.declared.copies.PerCopy.{PerCopy}
 use Rattle.sm_syntax.specs.declared.tree.Block.{Block}
 use Rattle.sm_syntax.specs.declared.tree.Sort.{Sort}
-use Rattle.sm_syntax.specs.text.Conditions.{Refusal, TooMany, first_of_all, first_of_lists, first_sort_fault, double_name, first_output_fault, over, size_fault, program_fault, double_hole, hole_in_filling, unknown_hole, missing_filling, ill_formed, ill_assumed, first_refusal, code_nodes, code_depth, condition_nodes, condition_depth}
+use Rattle.sm_syntax.specs.text.Conditions.{Refusal, TooMany, first_of_all, first_of_lists, first_sort_fault, double_name}
+use Rattle.sm_syntax.specs.text.Conditions.{first_output_fault, over, size_fault, program_fault, double_hole, hole_in_filling, unknown_hole}
+use Rattle.sm_syntax.specs.text.Conditions.{missing_filling, ill_formed, ill_assumed, first_refusal, code_nodes, code_depth}
+use Rattle.sm_syntax.specs.text.Conditions.{condition_nodes, condition_depth}
 use Rattle.sm_syntax.specs.text.Uses.{names_used}
 use Rattle.sm_syntax.specs.claim.ConflictFree.{Copy, O, A, B, M, program_of}
 use Rattle.sm_syntax.specs.claim.Fill.{fill}
@@ -35,7 +38,8 @@ none_each : (f : Copy → Option Refusal) → ((c : Copy) → f c ≡ None) → 
 none_each f none = rw (none O, none A, none B, none M)
 
 -- a program without a fault has no name that isn't declared as it stands
-program_names : (declared : List (ℕ × Sort)) (outputs : List ℕ) (c : Code) → program_fault declared outputs c ≡ None → first_sort_fault (sort_of declared) (names_used c) ≡ None
+program_names : (declared : List (ℕ × Sort)) (outputs : List ℕ) (c : Code) → program_fault declared outputs c ≡ None
+    → first_sort_fault (sort_of declared) (names_used c) ≡ None
 unfolding program_fault
 program_names declared outputs c none =
     let names = first_sort_fault (sort_of declared) (names_used c) in
@@ -45,7 +49,8 @@ program_names declared outputs c none =
     (neither names (first_of_all sizes) rest.1).0
 
 -- the same of an assumption
-assumed_names : (declared : List (ℕ × Sort)) (assumed : Option Condition) → ill_assumed declared assumed ≡ None → first_sort_fault (sort_of declared) (names_assumed assumed) ≡ None
+assumed_names : (declared : List (ℕ × Sort)) (assumed : Option Condition) → ill_assumed declared assumed ≡ None
+    → first_sort_fault (sort_of declared) (names_assumed assumed) ≡ None
 unfolding ill_assumed first_sort_fault
 assumed_names declared None none = refl
 assumed_names declared (Some b) none = (neither _ (first_of_all (size_fault (condition_nodes b) (condition_depth b) ∷ [])) none).0
@@ -72,11 +77,14 @@ unfolding sort_fault
 valid_runs t none =
     let both = last_two t none in
     let names = λ (c : Copy). first_sort_fault (sort_of t.declared) (names_used (program_of (task_of t) c)) in
-    let each : (c : Copy) → names c ≡ None = λ (c : Copy). program_names t.declared t.outputs (program_of (task_of t) c) (valid_programs t both.0 c) in
+    let each : (c : Copy) → names c ≡ None =
+    λ (c : Copy). program_names t.declared t.outputs (program_of (task_of t) c) (valid_programs t both.0 c) in
     rw (assumed_names t.declared t.assumed both.1, none_each names each)
 
 -- the parts of that
-parts_run : (t : Parts) → sort_fault t ≡ None → (first_sort_fault (sort_of t.declared) (names_assumed t.assumed) ≡ None) × (first_of_lists (λ (c : Copy). first_sort_fault (sort_of t.declared) (names_used (program_of (task_of t) c))) ≡ None)
+parts_run : (t : Parts) → sort_fault t ≡ None
+    → (first_sort_fault (sort_of t.declared) (names_assumed t.assumed) ≡ None) ×
+    (first_of_lists (λ (c : Copy). first_sort_fault (sort_of t.declared) (names_used (program_of (task_of t) c))) ≡ None)
 unfolding sort_fault
 parts_run t none =
     let both = neither (first_sort_fault (sort_of t.declared) (names_assumed t.assumed)) _ none in
@@ -84,10 +92,13 @@ parts_run t none =
 
 -- each program may be run
 pub may_run : (t : Parts) → sort_fault t ≡ None → (c : Copy) → IsWellSorted (sort_of t.declared) (program_of (task_of t) c)
-may_run t none c = code_sorted (sort_of t.declared) (program_of (task_of t) c) (each_none (λ (c : Copy). first_sort_fault (sort_of t.declared) (names_used (program_of (task_of t) c))) (parts_run t none).1 c)
+may_run t none c =
+    code_sorted (sort_of t.declared) (program_of (task_of t) c)
+    (each_none (λ (c : Copy). first_sort_fault (sort_of t.declared) (names_used (program_of (task_of t) c))) (parts_run t none).1 c)
 
 -- an assumption by its names
-sorted_assumption : (declared : List (ℕ × Sort)) (assumed : Option Condition) → first_sort_fault (sort_of declared) (names_assumed assumed) ≡ None → IsWellSortedAssumption (sort_of declared) assumed
+sorted_assumption : (declared : List (ℕ × Sort)) (assumed : Option Condition)
+    → first_sort_fault (sort_of declared) (names_assumed assumed) ≡ None → IsWellSortedAssumption (sort_of declared) assumed
 sorted_assumption declared None none = tt
 sorted_assumption declared (Some b) none = condition_sorted (sort_of declared) b none
 
@@ -96,7 +107,8 @@ pub may_assume : (t : Parts) → sort_fault t ≡ None → IsWellSortedAssumptio
 may_assume t none = sorted_assumption t.declared t.assumed (parts_run t none).0
 
 -- in sorts that are those of the declarations
-pub runs : (t : Parts) (sorts : Sorts) → sort_fault t ≡ None → sorts ≡ sort_of t.declared → (c : Copy) → IsWellSorted sorts (program_of (task_of t) c)
+pub runs : (t : Parts) (sorts : Sorts) → sort_fault t ≡ None → sorts ≡ sort_of t.declared → (c : Copy)
+    → IsWellSorted sorts (program_of (task_of t) c)
 runs t sorts none same c = subst (λ (s : Sorts). IsWellSorted s (program_of (task_of t) c)) (sym same) (may_run t none c)
 
 pub assumes : (t : Parts) (sorts : Sorts) → sort_fault t ≡ None → sorts ≡ sort_of t.declared → IsWellSortedAssumption sorts t.assumed
@@ -109,8 +121,10 @@ filled_sorted t programs none filled c =
     ap fault (filled c) ∙ each_none (λ (d : Copy). fault (program_of (task_of t) d)) (parts_run t none).1 c
 
 -- so each may be run
-pub sorted_runs : (declared : List (ℕ × Sort)) (sorts : Sorts) (programs : PerCopy Block) → AreSorted declared programs → sorts ≡ sort_of declared → (c : Copy) → IsWellSorted sorts (code_in programs c)
-sorted_runs declared sorts programs sorted same c = subst (λ (s : Sorts). IsWellSorted s (code_in programs c)) (sym same) (code_sorted (sort_of declared) (code_in programs c) (sorted c))
+pub sorted_runs : (declared : List (ℕ × Sort)) (sorts : Sorts) (programs : PerCopy Block) → AreSorted declared programs
+    → sorts ≡ sort_of declared → (c : Copy) → IsWellSorted sorts (code_in programs c)
+sorted_runs declared sorts programs sorted same c =
+    subst (λ (s : Sorts). IsWellSorted s (code_in programs c)) (sym same) (code_sorted (sort_of declared) (code_in programs c) (sorted c))
 
 -- a task that a text spells may be run
 pub spelled_runs : (bytes : List ℕ) (t : Parts) → Spells bytes t → sort_fault t ≡ None

@@ -1,5 +1,7 @@
 -- Stores that are filled name by name, and arrays element by element.
-use Rattle.std.proofs.Common.{◌≡◌, ◌≢◌, ◌⊎◌, ◌+◌, ◌<◌, ◌≤◌, ℕ, suc, ℤ, pos, Bool, true, false, if◌then◌else◌, Option, Some, None, List, [], ◌∷◌, length, map, drop, get_or, refl, sym, ap, subst, ◌∙◌, inl, inr, ⊎_elim, true≢false, add-one, drop-cons, arith}
+use Rattle.std.proofs.Common.{◌≡◌, ◌≢◌, ◌⊎◌, ◌+◌, ◌<◌, ◌≤◌, ℕ, suc, ℤ, pos, Bool, true, false, if◌then◌else◌, Option, Some, None, List, []}
+use Rattle.std.proofs.Common.{◌∷◌, length, map, drop, get_or, refl, sym, ap, subst, ◌∙◌, inl, inr, ⊎_elim, true≢false, add-one, drop-cons}
+use Rattle.std.proofs.Common.{arith}
 use Rattle.std.proofs.Math.Path.{fun_ext}
 use Rattle.std.proofs.lemmas.Bool.{cases_eq, ne_eqb}
 use Rattle.std.proofs.lemmas.Bool.Decides.{Decides-int_eq}
@@ -35,20 +37,25 @@ step : (sorts : Sorts) (start goal : ℕ → Value) (d : ℕ × Sort) (rest : Li
     → Filling sorts start goal (d ∷ rest) old → GivesValue (start d.0) (goal d.0) d.0 old new → Filling sorts start goal rest new
 step sorts start goal d rest old new f g =
     let here : new d.0 ≡ goal d.0 =
-    g.here (⊎_elim (λ (e : old d.0 ≡ goal d.0). inr e) (λ (e : (old d.0 ≡ start d.0) × (sort_of (d ∷ rest) d.0 ≡ sorts d.0)). inl e.0) (f.each d.0)) in
+    g.here (⊎_elim (λ (e : old d.0 ≡ goal d.0). inr e) (λ (e : (old d.0 ≡ start d.0) × (sort_of (d ∷ rest) d.0 ≡ sorts d.0)). inl e.0)
+    (f.each d.0)) in
     record {
       each = λ (x : ℕ).
           ⊎_elim (λ (same : x ≡ d.0). inl (ap new same ∙ here ∙ sym (ap goal same)))
           (λ (other : x ≡ d.0 → ⊥).
           ⊎_elim (λ (e : old x ≡ goal x). inl (g.others x other ∙ e))
           (λ (e : (old x ≡ start x) × (sort_of (d ∷ rest) x ≡ sorts x)).
-          inr (g.others x other ∙ e.0, sym (ap (λ (b : Bool). if b then Some d.1 else sort_of rest x) (ne_eqb d.0 x (λ (back : d.0 ≡ x). other (sym back)))) ∙ e.1))
+          inr (
+            g.others x other ∙ e.0,
+            sym (ap (λ (b : Bool). if b then Some d.1 else sort_of rest x) (ne_eqb d.0 x (λ (back : d.0 ≡ x). other (sym back)))) ∙ e.1,
+          ))
           (f.each x))
           (cases_eq x d.0);
     }
 
 -- one turn of a loop over declarations
-pub turn : (sorts : Sorts) (start goal : ℕ → Value) (items : List (Name × Sort)) (i : ℕ) (d : Name × Sort) (old new : Store) → i < length items
+pub turn : (sorts : Sorts) (start goal : ℕ → Value) (items : List (Name × Sort)) (i : ℕ) (d : Name × Sort) (old new : Store)
+    → i < length items
     → Filling sorts start goal (numbered (drop i items)) old
     → (let x = (get_or items i d).0.0 in GivesValue (start x) (goal x) x old new)
     → Filling sorts start goal (numbered (drop (i + 1) items)) new
@@ -58,13 +65,15 @@ turn sorts start goal items i d old new here f g =
     (subst (λ (l : List (Name × Sort)). Filling sorts start goal (numbered l) old) (drop-cons items i d here) f) g)
 
 -- at the end each name has its value
-pub all_filled : (sorts : Sorts) (start goal : ℕ → Value) (s : Store) → Filling sorts start goal [] s → ((x : ℕ) → sorts x ≡ None → start x ≡ goal x) → s ≡ goal
+pub all_filled : (sorts : Sorts) (start goal : ℕ → Value) (s : Store) → Filling sorts start goal [] s
+    → ((x : ℕ) → sorts x ≡ None → start x ≡ goal x) → s ≡ goal
 all_filled sorts start goal s f undeclared =
     fun_ext (λ (x : ℕ).
     ⊎_elim (λ (e : s x ≡ goal x). e) (λ (e : (s x ≡ start x) × (sort_of [] x ≡ sorts x)). e.0 ∙ undeclared x (sym e.1)) (f.each x))
 
 -- at the start each name has 0
-pub none_filled : (declared : List (ℕ × Sort)) (start goal : ℕ → Value) (s : Store) → s ≡ start → Filling (sort_of declared) start goal declared s
+pub none_filled : (declared : List (ℕ × Sort)) (start goal : ℕ → Value) (s : Store) → s ≡ start
+    → Filling (sort_of declared) start goal declared s
 none_filled declared start goal s zero_there = record { each = λ (x : ℕ). inr (ap (λ (t : Store). t x) zero_there, refl) }
 
 -- nothing is given to a name whose value is 0
@@ -104,7 +113,8 @@ overrides_give given a old new o is = record {
       is ∙ ap Array (fun_ext (λ (i : ℤ).
       o.elements i ∙
       ⊎_elim (λ (e : old a ≡ Array (λ (i : ℤ). pos 0)). ap (λ (v : Value). unwrap_or (given i) (array v i)) e)
-      (λ (e : old a ≡ Array (λ (i : ℤ). unwrap_or (given i) (pos 0))). ap (λ (v : Value). unwrap_or (given i) (array v i)) e ∙ given_twice (given i) (pos 0)) h));
+      (λ (e : old a ≡ Array (λ (i : ℤ). unwrap_or (given i) (pos 0))). ap (λ (v : Value). unwrap_or (given i) (array v i)) e ∙
+      given_twice (given i) (pos 0)) h));
   others = o.others;
 }
 
@@ -112,15 +122,18 @@ overrides_give given a old new o is = record {
 pub end_filled : (sorts : Sorts) (start goal : ℕ → Value) (items : List (Name × Sort)) (i : ℕ) (s : Store) → length items ≤ i
     → Filling sorts start goal (numbered (drop i items)) s → ((x : ℕ) → sorts x ≡ None → start x ≡ goal x) → s ≡ goal
 end_filled sorts start goal items i s past f undeclared =
-    all_filled sorts start goal s (subst (λ (l : List (Name × Sort)). Filling sorts start goal (numbered l) s) (drop_all i items past) f) undeclared
+    all_filled sorts start goal s
+    (subst (λ (l : List (Name × Sort)). Filling sorts start goal (numbered l) s) (drop_all i items past) f) undeclared
 
 -- the array has what is given at an index, or else what it had, and the index is still to come
 pub record Overriding (given : ℤ → Option ℤ) (a : ℕ) (left : List (ℤ × ℤ)) (old new : Store) : Type 0 where
-  pub each : (i : ℤ) → (array (new a) i ≡ unwrap_or (given i) (array (old a) i)) ⊎ ((array (new a) i ≡ array (old a) i) × ((z : ℤ) → given i ≡ Some z → Contains left (i, z)))
+  pub each : (i : ℤ) → (array (new a) i ≡ unwrap_or (given i) (array (old a) i)) ⊎
+      ((array (new a) i ≡ array (old a) i) × ((z : ℤ) → given i ≡ Some z → Contains left (i, z)))
   pub others : (y : ℕ) → y ≢ a → new y ≡ old y
 
 -- the next cell
-cell_step : (given : ℤ → Option ℤ) (a : ℕ) (cell : ℤ × ℤ) (rest : List (ℤ × ℤ)) (old mid new : Store) → given cell.0 ≡ Some cell.1 → new ≡ with_cell mid a cell.0 cell.1
+cell_step : (given : ℤ → Option ℤ) (a : ℕ) (cell : ℤ × ℤ) (rest : List (ℤ × ℤ)) (old mid new : Store) → given cell.0 ≡ Some cell.1
+    → new ≡ with_cell mid a cell.0 cell.1
     → Overriding given a (cell ∷ rest) old mid → Overriding given a rest old new
 cell_step given a cell rest old mid new is put o = record {
   each = λ (i : ℤ). by i (int_eq i cell.0) refl;
@@ -130,10 +143,13 @@ cell_step given a cell rest old mid new is put o = record {
     at : (i : ℤ) → array (new a) i ≡ (if int_eq i cell.0 then cell.1 else array (mid a) i)
     at i = ap (λ (t : Store). array (t a) i) put ∙ ap (λ (v : Value). array v i) (put_at mid a _)
 
-    by : (i : ℤ) (b : Bool) → int_eq i cell.0 ≡ b → (array (new a) i ≡ unwrap_or (given i) (array (old a) i)) ⊎ ((array (new a) i ≡ array (old a) i) × ((z : ℤ) → given i ≡ Some z → Contains rest (i, z)))
+    by : (i : ℤ) (b : Bool) → int_eq i cell.0 ≡ b
+        → (array (new a) i ≡ unwrap_or (given i) (array (old a) i)) ⊎
+        ((array (new a) i ≡ array (old a) i) × ((z : ℤ) → given i ≡ Some z → Contains rest (i, z)))
     by i true same =
         let index : i ≡ cell.0 = (Decides-int_eq i cell.0).0 same in
-        inl (at i ∙ ap (λ (b : Bool). if b then cell.1 else array (mid a) i) same ∙ sym (ap (λ (o : Option ℤ). unwrap_or o (array (old a) i)) (ap given index ∙ is)))
+        inl (at i ∙ ap (λ (b : Bool). if b then cell.1 else array (mid a) i) same ∙
+        sym (ap (λ (o : Option ℤ). unwrap_or o (array (old a) i)) (ap given index ∙ is)))
     by i false same =
         let kept : array (new a) i ≡ array (mid a) i = at i ∙ ap (λ (b : Bool). if b then cell.1 else array (mid a) i) same in
         ⊎_elim (λ (done : array (mid a) i ≡ unwrap_or (given i) (array (old a) i)). inl (kept ∙ done))
@@ -141,12 +157,15 @@ cell_step given a cell rest old mid new is put o = record {
         inr (
           kept ∙ left.0,
           λ (z : ℤ) (e : given i ≡ Some z).
-              Contains-tail cell rest (i, z) (λ (first : cell ≡ (i, z)). true≢false (sym ((Decides-int_eq i cell.0).1 (ap (λ (p : ℤ × ℤ). p.0) (sym first))) ∙ same)) (left.1 z e),
+              Contains-tail cell rest (i, z)
+              (λ (first : cell ≡ (i, z)). true≢false (sym ((Decides-int_eq i cell.0).1 (ap (λ (p : ℤ × ℤ). p.0) (sym first))) ∙ same))
+              (left.1 z e),
         ))
         (o.each i)
 
 -- one turn of a loop over a list of cells
-pub cell_turn : (given : ℤ → Option ℤ) (a : ℕ) (list : List (ℤ × ℤ)) (k : ℕ) (d : ℤ × ℤ) (old mid new : Store) → Lists given list → k < length list
+pub cell_turn : (given : ℤ → Option ℤ) (a : ℕ) (list : List (ℤ × ℤ)) (k : ℕ) (d : ℤ × ℤ) (old mid new : Store) → Lists given list
+    → k < length list
     → (let cell = get_or list k d in new ≡ with_cell mid a cell.0 cell.1)
     → Overriding given a (drop k list) old mid → Overriding given a (drop (k + 1) list) old new
 cell_turn given a list k d old mid new lists here put o =
@@ -163,15 +182,19 @@ none_overridden given a list s lists = record {
 }
 
 -- at the end it has all that is given
-pub all_overridden : (given : ℤ → Option ℤ) (a : ℕ) (list : List (ℤ × ℤ)) (k : ℕ) (old new : Store) → length list ≤ k → Overriding given a (drop k list) old new → Overrides given a old new
+pub all_overridden : (given : ℤ → Option ℤ) (a : ℕ) (list : List (ℤ × ℤ)) (k : ℕ) (old new : Store) → length list ≤ k
+    → Overriding given a (drop k list) old new → Overrides given a old new
 all_overridden given a list k old new past o = record {
   elements = λ (i : ℤ).
       ⊎_elim (λ (done : array (new a) i ≡ unwrap_or (given i) (array (old a) i)). done)
-      (λ (left : (array (new a) i ≡ array (old a) i) × ((z : ℤ) → given i ≡ Some z → Contains (drop k list) (i, z))). left.0 ∙ by i (given i) refl left.1)
+      (λ (left : (array (new a) i ≡ array (old a) i) × ((z : ℤ) → given i ≡ Some z → Contains (drop k list) (i, z))). left.0 ∙
+      by i (given i) refl left.1)
       (o.each i);
   others = o.others;
 }
   where
-    by : (i : ℤ) (g : Option ℤ) → given i ≡ g → ((z : ℤ) → given i ≡ Some z → Contains (drop k list) (i, z)) → array (old a) i ≡ unwrap_or g (array (old a) i)
+    by : (i : ℤ) (g : Option ℤ) → given i ≡ g → ((z : ℤ) → given i ≡ Some z → Contains (drop k list) (i, z))
+        → array (old a) i ≡ unwrap_or g (array (old a) i)
     by i None is left = refl
-    by i (Some z) is left = let found : Contains [] (i, z) = subst (λ (l : List (ℤ × ℤ)). Contains l (i, z)) (drop_all k list past) (left z is) in absurd (omega (arith, found.1))
+    by i (Some z) is left = let found : Contains [] (i, z) =
+        subst (λ (l : List (ℤ × ℤ)). Contains l (i, z)) (drop_all k list past) (left z is) in absurd (omega (arith, found.1))

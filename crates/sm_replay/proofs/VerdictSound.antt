@@ -1,5 +1,6 @@
 -- What a verdict tells of violations.
-use Rattle.std.proofs.Common.{◌≡◌, ◌⊎◌, ◌+◌, ◌<◌, ◌≤◌, ◌↔◌, ℕ, ℤ, Bool, true, false, Option, Some, None, Result, Ok, Err, List, IsTrue, refl, sym, subst, ◌∙◌, arith, ⊎_elim, true≢false}
+use Rattle.std.proofs.Common.{◌≡◌, ◌⊎◌, ◌+◌, ◌<◌, ◌≤◌, ◌↔◌, ℕ, ℤ, Bool, true, false, Option, Some, None, Result, Ok, Err, List, IsTrue}
+use Rattle.std.proofs.Common.{refl, sym, subst, ◌∙◌, arith, ⊎_elim, true≢false}
 use Rattle.std.proofs.Math.Path.{fun_ext}
 use Rattle.std.proofs.lemmas.Bool.{cases_eq}
 use Rattle.std.proofs.lemmas.Option.{slice_get_within, get_or_from_slice_get}
@@ -47,7 +48,8 @@ stops_not_violated t s n copy e st v = let both : None ≡ Some e = sym (v.ends.
 pub not_kept : (part : ℕ) (o a b m : ℤ) → IsFirstBroken part o a b m → ¬ Keeps o a b m
 not_kept part o a b m first k =
     ⊎_elim (λ (h : (part ≡ 1) × (¬ KeepsChange o a m)). h.1 k.change_of_a)
-    (λ (h : ((part ≡ 2) × KeepsChange o a m × (¬ KeepsChange o b m)) ⊎ ((part ≡ 3) × KeepsChange o a m × KeepsChange o b m × (¬ AddsNothing o a b m))).
+    (λ (h : ((part ≡ 2) × KeepsChange o a m × (¬ KeepsChange o b m))
+    ⊎ ((part ≡ 3) × KeepsChange o a m × KeepsChange o b m × (¬ AddsNothing o a b m))).
     ⊎_elim (λ (g : (part ≡ 2) × KeepsChange o a m × (¬ KeepsChange o b m)). g.2 k.change_of_b)
     (λ (g : (part ≡ 3) × KeepsChange o a m × KeepsChange o b m × (¬ AddsNothing o a b m)). g.3 k.no_other) h) first
 
@@ -67,7 +69,8 @@ breaks_violates t s n cell part b = record {
 }
 
 -- what the verdict shows
-pub shows : (t : Task) (s : Store) (n : ℕ) (r : Result Verdict ReplayError) → Judges t s n r → (r ≡ Err stop.Memory → ⊥) → Shows t s n (shown_of r)
+pub shows : (t : Task) (s : Store) (n : ℕ) (r : Result Verdict ReplayError) → Judges t s n r → (r ≡ Err stop.Memory → ⊥)
+    → Shows t s n (shown_of r)
 shows t s n (Ok verdict.Holds) j some = holds_not_violated t s n j
 shows t s n (Ok verdict.Unmet) j some = unmet_not_violated t s n j
 shows t s n (Ok (verdict.Violates x i part)) j some = (breaks_violates t s n (cell_of x.0 i) part j, j)
@@ -77,10 +80,12 @@ shows t s n (Err (stop.BeyondAssumed op a b)) j some = λ v. let both = sym v.me
 shows t s n (Err stop.Memory) j some = absurd (some refl)
 
 -- the answer is that the store violates exactly where it does
-pub violates_exactly : (t : Task) (s : Store) (n : ℕ) (r : Result Verdict ReplayError) → Judges t s n r → (r ≡ Err stop.Memory → ⊥) → IsViolation r ↔ Violates t s n
+pub violates_exactly : (t : Task) (s : Store) (n : ℕ) (r : Result Verdict ReplayError) → Judges t s n r → (r ≡ Err stop.Memory → ⊥)
+    → IsViolation r ↔ Violates t s n
 violates_exactly t s n (Ok verdict.Holds) j known = (λ (none : ⊥). absurd none, shows t s n (Ok verdict.Holds) j known)
 violates_exactly t s n (Ok verdict.Unmet) j known = (λ (none : ⊥). absurd none, shows t s n (Ok verdict.Unmet) j known)
-violates_exactly t s n (Ok (verdict.Violates x i part)) j known = (λ (one : Unit {0}). breaks_violates t s n (cell_of x.0 i) part j, λ (v : Violates t s n). tt)
+violates_exactly t s n (Ok (verdict.Violates x i part)) j known =
+    (λ (one : Unit {0}). breaks_violates t s n (cell_of x.0 i) part j, λ (v : Violates t s n). tt)
 violates_exactly t s n (Err e) j known = (λ (none : ⊥). absurd none, shows t s n (Err e) j known)
 
 -- an assumption that is computed is true just where it is met
@@ -96,20 +101,24 @@ told_not assumed s (stop.BeyondAssumed op a b) is m = let both = sym m.no_event 
 told_not assumed s stop.Memory none m = none
 
 -- what the answer to a trial shows
-pub shows_trial : (t : Task) (s u : Store) (n : ℕ) (r : Result Verdict ReplayError) (out : Option Verdict) → u ≡ s → Judges t u n r → (out ≡ shown_of r) × (r ≡ Err stop.Memory → ⊥) → Shows t s n out
+pub shows_trial : (t : Task) (s u : Store) (n : ℕ) (r : Result Verdict ReplayError) (out : Option Verdict) → u ≡ s → Judges t u n r
+    → (out ≡ shown_of r) × (r ≡ Err stop.Memory → ⊥) → Shows t s n out
 shows_trial t s u n r out same j h = subst (Shows t s n) (sym h.0) (shows t s n r (subst (λ (x : Store). Judges t x n r) same j) h.1)
 
 -- a trial that meets the assumption, and none
 pub some_met : (t : Task) (sorts : Sorts) (j : ℕ) → j < 256 → IsMet t.assumed (trial sorts j) → IsTrue true ↔ SomeTrialMeets t sorts
 some_met t sorts j inside met = (λ (yes : true ≡ true). (j, inside, met), λ (h : SomeTrialMeets t sorts). refl)
 
-pub none_met : (t : Task) (sorts : Sorts) (n : ℕ) → 256 ≤ n → ((i : ℕ) → i < n → ¬ IsMet t.assumed (trial sorts i)) → IsTrue false ↔ SomeTrialMeets t sorts
+pub none_met : (t : Task) (sorts : Sorts) (n : ℕ) → 256 ≤ n → ((i : ℕ) → i < n → ¬ IsMet t.assumed (trial sorts i))
+    → IsTrue false ↔ SomeTrialMeets t sorts
 none_met t sorts n past none = (λ (no : false ≡ true). cc, λ (h : SomeTrialMeets t sorts). absurd (none h.0 (omega (arith, h.1)) h.2))
 
 -- one more trial that doesn't meet it
-pub none_more : (t : Task) (sorts : Sorts) (n : ℕ) → ((i : ℕ) → i < n → ¬ IsMet t.assumed (trial sorts i)) → ¬ IsMet t.assumed (trial sorts n) → (i : ℕ) → i < n + 1 → ¬ IsMet t.assumed (trial sorts i)
+pub none_more : (t : Task) (sorts : Sorts) (n : ℕ) → ((i : ℕ) → i < n → ¬ IsMet t.assumed (trial sorts i))
+    → ¬ IsMet t.assumed (trial sorts n) → (i : ℕ) → i < n + 1 → ¬ IsMet t.assumed (trial sorts i)
 none_more t sorts n before here i lt met =
-    ⊎_elim (λ (same : i ≡ n). here (subst (λ (k : ℕ). IsMet t.assumed (trial sorts k)) same met)) (λ (other : i ≡ n → ⊥). before i (omega arith) met) (cases_eq i n)
+    ⊎_elim (λ (same : i ≡ n). here (subst (λ (k : ℕ). IsMet t.assumed (trial sorts k)) same met))
+    (λ (other : i ≡ n → ⊥). before i (omega arith) met) (cases_eq i n)
 
 -- whether a store is met, by an equal store
 pub met_there : (assumed : Option Condition) (s u : Store) (b : Bool) → u ≡ s → IsTrue b ↔ IsMet assumed u → b ≡ true → IsMet assumed s

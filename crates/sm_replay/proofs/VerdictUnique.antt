@@ -1,5 +1,6 @@
 -- One store has one verdict, and one list of trials has one first violation.
-use Rattle.std.proofs.Common.{◌≡◌, ◌⊎◌, ◌<◌, ℕ, zero, suc, ℤ, pos, negsuc, Option, Some, None, Ok, Err, refl, sym, ap, subst, ◌∙◌, inl, inr, ⊎_elim, arith}
+use Rattle.std.proofs.Common.{◌≡◌, ◌⊎◌, ◌<◌, ℕ, zero, suc, ℤ, pos, negsuc, Option, Some, None, Ok, Err, refl, sym, ap, subst, ◌∙◌, inl, inr}
+use Rattle.std.proofs.Common.{⊎_elim, arith}
 use Rattle.std.specs.Prelude.{◌<ℤ◌}
 use Rattle.std.proofs.lemmas.Int.{ints}
 use Rattle.std.specs.List.{slice_get}
@@ -37,12 +38,14 @@ order (suc a) (suc b) =
 int_order : (i j : ℤ) → (i <ℤ j) ⊎ ((i ≡ j) ⊎ (j <ℤ i))
 int_order (pos a) (pos b) =
     ⊎_elim (λ (lt : a < b). inl (omega (arith, ints, lt)))
-    (λ (h : (a ≡ b) ⊎ (b < a)). ⊎_elim (λ (e : a ≡ b). inr (inl (ap pos e))) (λ (gt : b < a). inr (inr (omega (arith, ints, gt)))) h) (order a b)
+    (λ (h : (a ≡ b) ⊎ (b < a)). ⊎_elim (λ (e : a ≡ b). inr (inl (ap pos e))) (λ (gt : b < a). inr (inr (omega (arith, ints, gt)))) h)
+    (order a b)
 int_order (pos a) (negsuc b) = inr (inr (omega (arith, ints)))
 int_order (negsuc a) (pos b) = inl (omega (arith, ints))
 int_order (negsuc a) (negsuc b) =
     ⊎_elim (λ (lt : a < b). inr (inr (omega (arith, ints, lt))))
-    (λ (h : (a ≡ b) ⊎ (b < a)). ⊎_elim (λ (e : a ≡ b). inr (inl (ap negsuc e))) (λ (gt : b < a). inl (omega (arith, ints, gt))) h) (order a b)
+    (λ (h : (a ≡ b) ⊎ (b < a)). ⊎_elim (λ (e : a ≡ b). inr (inl (ap negsuc e))) (λ (gt : b < a). inl (omega (arith, ints, gt))) h)
+    (order a b)
 
 some_one : {T : Type 0} (x y : T) → Some x ≡ Some y → x ≡ y
 some_one x y is = cc
@@ -53,7 +56,8 @@ some_one x y is = cc
 stop_below : (program : Copy → Code) (s : Store) (n c d : ℕ) (e f : EvalError) → Stops program s n c e → Stops program s n d f → c < d → ⊥
 stop_below program s n c d e f p q lt = let clash : None ≡ Some e = sym (q.no_event_before c lt) ∙ p.stops in cc
 
-stopped_one : (program : Copy → Code) (s : Store) (n c d : ℕ) (e f : EvalError) → Stops program s n c e → Stops program s n d f → stop_of c e ≡ stop_of d f
+stopped_one : (program : Copy → Code) (s : Store) (n c d : ℕ) (e f : EvalError) → Stops program s n c e → Stops program s n d f
+    → stop_of c e ≡ stop_of d f
 stopped_one program s n c d e f p q =
     let copy : c ≡ d =
     ⊎_elim (λ (lt : c < d). absurd (stop_below program s n c d e f p q lt))
@@ -94,12 +98,14 @@ cells_order (Element a i) (Element b j) own =
 broken_not_kept : (end : Copy → Store) (c : Cell) (p : ℕ) → FailsAt end c p → ¬ KeepsAt end c
 broken_not_kept end c p broken = not_kept p _ _ _ _ broken
 
-module _ (outputs : List (ℕ × Sort)) (end : Copy → Store) (c d : Cell) (p q : ℕ) (x : IsFirstBreak outputs end c p) (y : IsFirstBreak outputs end d q) where
+module _ (outputs : List (ℕ × Sort)) (end : Copy → Store) (c d : Cell) (p q : ℕ) (x : IsFirstBreak outputs end c p)
+    (y : IsFirstBreak outputs end d q) where
   place_one : x.place ≡ y.place
   place_one =
       ⊎_elim (λ (lt : x.place < y.place). absurd (broken_not_kept end c p x.broken (y.outputs_before x.place c lt x.output)))
       (λ (h : (x.place ≡ y.place) ⊎ (y.place < x.place)).
-      ⊎_elim (λ (e : x.place ≡ y.place). e) (λ (gt : y.place < x.place). absurd (broken_not_kept end d q y.broken (x.outputs_before y.place d gt y.output))) h)
+      ⊎_elim (λ (e : x.place ≡ y.place). e)
+      (λ (gt : y.place < x.place). absurd (broken_not_kept end d q y.broken (x.outputs_before y.place d gt y.output))) h)
       (order x.place y.place)
 
   variable_one : variable c ≡ variable d
@@ -142,11 +148,13 @@ module _ (t : Task) (s : Store) (n : ℕ) where
   holds_breaks : (c : Cell) (p : ℕ) → KeepsOutputs t s n → Breaks t s n c p → ⊥
   holds_breaks c p h b = holds_not_violated t s n h (breaks_violates t s n c p b)
 
-  breaks_one : (x y : Name) (i j : Option ℤ) (p q : ℕ) → Breaks t s n (cell_of x.0 i) p → Breaks t s n (cell_of y.0 j) q → verdict.Violates x i p ≡ verdict.Violates y j q
+  breaks_one : (x y : Name) (i j : Option ℤ) (p q : ℕ) → Breaks t s n (cell_of x.0 i) p → Breaks t s n (cell_of y.0 j) q
+      → verdict.Violates x i p ≡ verdict.Violates y j q
   breaks_one x y i j p q a b =
       let c = cell_of x.0 i in
       let d = cell_of y.0 j in
-      let second : IsFirstBreak t.outputs a.end d q = subst (λ (end : Copy → Store). IsFirstBreak t.outputs end d q) (same_ends t s n b.end a.end b.ends a.ends) b.first in
+      let second : IsFirstBreak t.outputs a.end d q =
+      subst (λ (end : Copy → Store). IsFirstBreak t.outputs end d q) (same_ends t s n b.end a.end b.ends a.ends) b.first in
       let cell : c ≡ d = cell_one t.outputs a.end c d p q a.first second in
       let part : p ≡ q = first_part_one t.outputs a.end c d p q a.first second in
       sym (names_cell x i p) ∙ ap (λ (k : Cell). verdict_at k p) cell ∙ ap (verdict_at d) part ∙ names_cell y j q
@@ -187,7 +195,8 @@ verdict_one t s n (Err (stop.Beyond c op y z)) (Ok verdict.Holds) ka kb a b = ab
 verdict_one t s n (Err (stop.Beyond c op y z)) (Ok verdict.Unmet) ka kb a b = absurd (met_unmet t s n a.0 b)
 verdict_one t s n (Err (stop.Beyond c op y z)) (Ok (verdict.Violates x j q)) ka kb a b = absurd (ends_stop t s n b.end c _ b.ends a.1)
 verdict_one t s n (Err (stop.Beyond c op y z)) (Err (stop.OutOfTurns d)) ka kb a b = ap Err (stopped_one (program_of t) s n c d _ _ a.1 b.1)
-verdict_one t s n (Err (stop.Beyond c op y z)) (Err (stop.Beyond d oq v w)) ka kb a b = ap Err (stopped_one (program_of t) s n c d _ _ a.1 b.1)
+verdict_one t s n (Err (stop.Beyond c op y z)) (Err (stop.Beyond d oq v w)) ka kb a b =
+    ap Err (stopped_one (program_of t) s n c d _ _ a.1 b.1)
 verdict_one t s n (Err (stop.Beyond c op y z)) (Err (stop.BeyondAssumed oq v w)) ka kb a b = absurd (met_beyond t s n _ a.0 b)
 verdict_one t s n (Err (stop.BeyondAssumed op y z)) (Ok verdict.Holds) ka kb a b = absurd (met_beyond t s n _ b.met a)
 verdict_one t s n (Err (stop.BeyondAssumed op y z)) (Ok verdict.Unmet) ka kb a b = absurd (unmet_beyond t s n _ b a)

@@ -1,6 +1,8 @@
 -- Inputs: which store an object of JSON gives, and why other bytes are refused. Public clauses cite
 -- it.
-use Rattle.std.specs.Prelude.{◌≡◌, ℕ, ℤ, pos, if◌then◌else◌, Option, Some, None, option_map, option_and_then, unwrap_or, Result, Ok, Err, List, [], ◌∷◌, slice_get, position}
+use Rattle.std.specs.Prelude.{◌≡◌, ℕ, ℤ, pos, if◌then◌else◌, Option, Some, None, option_map}
+use Rattle.std.specs.Prelude.{option_and_then, unwrap_or, Result, Ok, Err, List, [], ◌∷◌, slice_get}
+use Rattle.std.specs.Prelude.{position}
 use Rattle.std.specs.Fmt.{signed_decimal}
 use Rattle.std.specs.Option.{option_or}
 use Rattle.std.specs.Str.{IsUtf8, bytes_eq}
@@ -16,7 +18,8 @@ use Rattle.sm_num.specs.Range.{fits}
 use Rattle.sm_eval.specs.declared.store.Store as code
 use Rattle.sm_eval.specs.StoredValues.{meaning, sorts_of}
 use Rattle.sm_replay.specs.declared.error.InputError.{InputError}
-use Rattle.sm_replay.specs.declared.error.InputError.TheVariants.{BadJson, NotObject, UnknownKey, BadValue, BadIndex, Memory}
+use Rattle.sm_replay.specs.declared.error.InputError.TheVariants.{BadJson, NotObject, UnknownKey}
+use Rattle.sm_replay.specs.declared.error.InputError.TheVariants.{BadValue, BadIndex, Memory}
 use Rattle.sm_replay.specs.Number.{number_of_text, json_number}
 
 -- the texts of names by their numbers

@@ -1,6 +1,7 @@
 -- The text of an input: compact JSON of each declared name, numbers as texts, an array without its
 -- zero cells. Public clauses cite it.
-use Rattle.std.specs.Prelude.{◌≡◌, ℕ, ℤ, pos, if◌then◌else◌, Option, Some, None, List, slice_get, position}
+use Rattle.std.specs.Prelude.{◌≡◌, ℕ, ℤ, pos, if◌then◌else◌, Option, Some, None, List, slice_get}
+use Rattle.std.specs.Prelude.{position}
 use Rattle.std.specs.Cmp.Lexicographic.{slice_cmp}
 use Rattle.std.specs.declared.cmp.Ordering.TheVariants.{Less}
 use Rattle.std.specs.Fmt.{signed_decimal}

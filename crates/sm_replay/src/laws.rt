@@ -1,5 +1,7 @@
 // Laws of violations, of answers and of tasks, as contracts.
-ghost use Rattle.sm_replay.specs.Laws.{ViolationsConflict, ValidTasksRun, SpelledNamesAreFound, VerdictIsOne, LeastTrialIsOne, FirstViolationIsOne, ReadingIsOne, WrittenTextIsOne};
+ghost use Rattle.sm_replay.specs.Laws.{ViolationsConflict, ValidTasksRun, SpelledNamesAreFound};
+ghost use Rattle.sm_replay.specs.Laws.{VerdictIsOne, LeastTrialIsOne, FirstViolationIsOne};
+ghost use Rattle.sm_replay.specs.Laws.{ReadingIsOne, WrittenTextIsOne};
 
 /// An input that violates the condition is a conflict of the merge.
 pub fn violations_conflict()

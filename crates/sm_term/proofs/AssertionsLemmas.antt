@@ -1,5 +1,6 @@
 -- What formulas say: of conditions, of their contraries, of conjunctions and of refuted facts.
-use Rattle.std.proofs.Common.{◌≡◌, ◌↔◌, ℤ, Bool, true, false, not, ◌&&◌, ◌||◌, IsTrue, List, [], ◌∷◌, ◌++◌, refl, sym, ⊎_elim, arith, int_lt}
+use Rattle.std.proofs.Common.{◌≡◌, ◌↔◌, ℤ, Bool, true, false, not, ◌&&◌, ◌||◌, IsTrue, List, [], ◌∷◌, ◌++◌, refl, sym, ⊎_elim, arith}
+use Rattle.std.proofs.Common.{int_lt}
 use Rattle.std.specs.Prelude.{◌≤ℤ◌, ◌<ℤ◌}
 use Rattle.std.specs.Ordering.{int_eq}
 use Rattle.std.proofs.lemmas.Bool.{cases_Bool}
@@ -28,7 +29,8 @@ equal y z may = ⊎_elim (λ (e : y ≡ z). e) (λ (d : y ≡ z → ⊥). absurd
 -- values that can't differ are the same
 same : (sort : Sort) (v w : Value) → ((SameAs sort v w → ⊥) → ⊥) → SameAs sort v w
 same Num v w may = equal (number v) (number w) may
-same Arr v w may = λ (i : ℤ). equal (array v i) (array w i) (λ (d : array v i ≡ array w i → ⊥). may (λ (s : (j : ℤ) → array v j ≡ array w j). d (s i)))
+same Arr v w may =
+    λ (i : ℤ). equal (array v i) (array w i) (λ (d : array v i ≡ array w i → ⊥). may (λ (s : (j : ℤ) → array v j ≡ array w j). d (s i)))
 
 -- not above is at most
 at_most : (y z : ℤ) → (z <ℤ y → ⊥) → y ≤ℤ z
@@ -47,15 +49,21 @@ pub stable : (m : Structure) (f : Assertion) → ((Holds m f → ⊥) → ⊥) �
 stable m Yes may = tt
 stable m No may = may (λ (h : ⊥). h)
 stable m (Eq sort t u) may = same sort (meaning m t) (meaning m u) may
-stable m (Ne sort t u) may = λ (h : SameAs sort (meaning m t) (meaning m u)). may (λ (never : SameAs sort (meaning m t) (meaning m u) → ⊥). never h)
+stable m (Ne sort t u) may =
+    λ (h : SameAs sort (meaning m t) (meaning m u)). may (λ (never : SameAs sort (meaning m t) (meaning m u) → ⊥). never h)
 stable m (Le t u) may =
-    at_most (number (meaning m t)) (number (meaning m u)) (λ (h : number (meaning m u) <ℤ number (meaning m t)). may (apart (number (meaning m u)) (number (meaning m t)) h))
+    at_most (number (meaning m t)) (number (meaning m u))
+    (λ (h : number (meaning m u) <ℤ number (meaning m t)). may (apart (number (meaning m u)) (number (meaning m t)) h))
 stable m (Lt t u) may =
     below (number (meaning m t)) (number (meaning m u))
-    (λ (h : number (meaning m u) ≤ℤ number (meaning m t)). may (λ (g : number (meaning m t) <ℤ number (meaning m u)). apart (number (meaning m t)) (number (meaning m u)) g h))
-stable m (And p q) may =
-    (stable m p (λ (never : Holds m p → ⊥). may (λ (h : Holds m p × Holds m q). never h.0)), stable m q (λ (never : Holds m q → ⊥). may (λ (h : Holds m p × Holds m q). never h.1)))
-stable m (Or p q) may = λ (first : Holds m p → ⊥) (second : Holds m q → ⊥). may (λ (h : (Holds m p → ⊥) → (Holds m q → ⊥) → ⊥). h first second)
+    (λ (h : number (meaning m u) ≤ℤ number (meaning m t)).
+    may (λ (g : number (meaning m t) <ℤ number (meaning m u)). apart (number (meaning m t)) (number (meaning m u)) g h))
+stable m (And p q) may = (
+  stable m p (λ (never : Holds m p → ⊥). may (λ (h : Holds m p × Holds m q). never h.0)),
+  stable m q (λ (never : Holds m q → ⊥). may (λ (h : Holds m p × Holds m q). never h.1)),
+)
+stable m (Or p q) may =
+    λ (first : Holds m p → ⊥) (second : Holds m q → ⊥). may (λ (h : (Holds m p → ⊥) → (Holds m q → ⊥) → ⊥). h first second)
 
 -- negate says the contrary
 pub contrary : (m : Structure) (f : Assertion) → Holds m (negate f) ↔ (Holds m f → ⊥)
@@ -63,24 +71,31 @@ contrary m Yes = (λ (h : ⊥). absurd h, λ (never : Unit {0} → ⊥). never t
 contrary m No = (λ (h : Unit {0}) (g : ⊥). g, λ (never : ⊥ → ⊥). tt)
 contrary m (Eq sort t u) =
     (λ (h : SameAs sort (meaning m t) (meaning m u) → ⊥). h, λ (h : SameAs sort (meaning m t) (meaning m u) → ⊥). h)
-contrary m (Ne sort t u) =
-    (λ (h : SameAs sort (meaning m t) (meaning m u)) (never : SameAs sort (meaning m t) (meaning m u) → ⊥). never h, same sort (meaning m t) (meaning m u))
+contrary m (Ne sort t u) = (
+  λ (h : SameAs sort (meaning m t) (meaning m u)) (never : SameAs sort (meaning m t) (meaning m u) → ⊥). never h,
+  same sort (meaning m t) (meaning m u),
+)
 contrary m (Le t u) = (
   λ (h : number (meaning m u) <ℤ number (meaning m t)). apart (number (meaning m u)) (number (meaning m t)) h,
   below (number (meaning m u)) (number (meaning m t)),
 )
 contrary m (Lt t u) = (
-  λ (h : number (meaning m u) ≤ℤ number (meaning m t)) (g : number (meaning m t) <ℤ number (meaning m u)). apart (number (meaning m t)) (number (meaning m u)) g h,
+  λ (h : number (meaning m u) ≤ℤ number (meaning m t)) (g : number (meaning m t) <ℤ number (meaning m u)).
+      apart (number (meaning m t)) (number (meaning m u)) g h,
   at_most (number (meaning m u)) (number (meaning m t)),
 )
 contrary m (And p q) = (
   λ (h : (Holds m (negate p) → ⊥) → (Holds m (negate q) → ⊥) → ⊥) (both : Holds m p × Holds m q).
       h (λ (g : Holds m (negate p)). (contrary m p).0 g both.0) (λ (g : Holds m (negate q)). (contrary m q).0 g both.1),
   λ (never : Holds m p × Holds m q → ⊥) (first : Holds m (negate p) → ⊥) (second : Holds m (negate q) → ⊥).
-      never (stable m p (λ (g : Holds m p → ⊥). first ((contrary m p).1 g)), stable m q (λ (g : Holds m q → ⊥). second ((contrary m q).1 g))),
+      never (
+        stable m p (λ (g : Holds m p → ⊥). first ((contrary m p).1 g)),
+        stable m q (λ (g : Holds m q → ⊥). second ((contrary m q).1 g)),
+      ),
 )
 contrary m (Or p q) = (
-  λ (h : Holds m (negate p) × Holds m (negate q)) (some : (Holds m p → ⊥) → (Holds m q → ⊥) → ⊥). some ((contrary m p).0 h.0) ((contrary m q).0 h.1),
+  λ (h : Holds m (negate p) × Holds m (negate q)) (some : (Holds m p → ⊥) → (Holds m q → ⊥) → ⊥).
+      some ((contrary m p).0 h.0) ((contrary m q).0 h.1),
   λ (never : ((Holds m p → ⊥) → (Holds m q → ⊥) → ⊥) → ⊥). (
     (contrary m p).1 (λ (g : Holds m p). never (λ (first : Holds m p → ⊥) (second : Holds m q → ⊥). first g)),
     (contrary m q).1 (λ (g : Holds m q). never (λ (first : Holds m p → ⊥) (second : Holds m q → ⊥). second g)),
@@ -107,12 +122,14 @@ conj_means m (Le t u) = (λ (h : Holds m (Le t u)). (h, tt), λ (h : Holds m (Le
 conj_means m (Lt t u) = (λ (h : Holds m (Lt t u)). (h, tt), λ (h : Holds m (Lt t u) × Unit {0}). h.0)
 conj_means m (And p q) = (
   λ (h : Holds m p × Holds m q). holds_append m (conj p) (conj q) ((conj_means m p).0 h.0) ((conj_means m q).0 h.1),
-  λ (h : AllHold m (conj p ++ conj q)). let parts = holds_parts m (conj p) (conj q) h in ((conj_means m p).1 parts.0, (conj_means m q).1 parts.1),
+  λ (h : AllHold m (conj p ++ conj q)). let parts = holds_parts m (conj p) (conj q) h in
+      ((conj_means m p).1 parts.0, (conj_means m q).1 parts.1),
 )
 conj_means m (Or p q) = (λ (h : Holds m (Or p q)). (h, tt), λ (h : Holds m (Or p q) × Unit {0}). h.0)
 
 -- where the facts and the negated goal can't hold together, the goal holds where the facts do
-pub refuted_here : (m : Structure) (facts : List Assertion) (goal : Assertion) → (AllHold m (facts ++ negate goal ∷ []) → ⊥) → AllHold m facts → Holds m goal
+pub refuted_here : (m : Structure) (facts : List Assertion) (goal : Assertion) → (AllHold m (facts ++ negate goal ∷ []) → ⊥)
+    → AllHold m facts → Holds m goal
 refuted_here m facts goal never hold =
     stable m goal (λ (fails : Holds m goal → ⊥). never (holds_append m facts (negate goal ∷ []) hold ((contrary m goal).1 fails, tt)))
 
@@ -134,35 +151,52 @@ not_equal y z differ =
     (cases_Bool (int_eq y z))
 
 -- how two numbers compare, as a formula says it and as a test does
-pub compares : (op : Cmp) (m : Structure) (t u : Tree) → Holds m (comparison_form op t u) ↔ IsTrue (relation op (number (meaning m t)) (number (meaning m u)))
+pub compares : (op : Cmp) (m : Structure) (t u : Tree)
+    → Holds m (comparison_form op t u) ↔ IsTrue (relation op (number (meaning m t)) (number (meaning m u)))
 compares cmp.Eq m t u = let d = Decides-int_eq (number (meaning m t)) (number (meaning m u)) in (d.1, d.0)
 compares cmp.Ne m t u =
     let y = number (meaning m t) in
     let z = number (meaning m u) in
     (not_equal y z, λ (h : IsTrue (not (int_eq y z))). not_from_Decides (int_eq y z) (Decides-int_eq y z) (not_true (int_eq y z) h))
-compares cmp.Lt m t u = (λ (h : number (meaning m t) <ℤ number (meaning m u)). grind (arith, ints), λ (h : IsTrue (int_lt (number (meaning m t)) (number (meaning m u)))). grind (arith, ints))
-compares cmp.Le m t u = (λ (h : number (meaning m t) ≤ℤ number (meaning m u)). grind (arith, ints), λ (h : IsTrue (not (int_lt (number (meaning m u)) (number (meaning m t))))). grind (arith, ints))
-compares cmp.Gt m t u = (λ (h : number (meaning m u) <ℤ number (meaning m t)). grind (arith, ints), λ (h : IsTrue (int_lt (number (meaning m u)) (number (meaning m t)))). grind (arith, ints))
-compares cmp.Ge m t u = (λ (h : number (meaning m u) ≤ℤ number (meaning m t)). grind (arith, ints), λ (h : IsTrue (not (int_lt (number (meaning m t)) (number (meaning m u))))). grind (arith, ints))
+compares cmp.Lt m t u = (
+  λ (h : number (meaning m t) <ℤ number (meaning m u)). grind (arith, ints),
+  λ (h : IsTrue (int_lt (number (meaning m t)) (number (meaning m u)))). grind (arith, ints),
+)
+compares cmp.Le m t u = (
+  λ (h : number (meaning m t) ≤ℤ number (meaning m u)). grind (arith, ints),
+  λ (h : IsTrue (not (int_lt (number (meaning m u)) (number (meaning m t))))). grind (arith, ints),
+)
+compares cmp.Gt m t u = (
+  λ (h : number (meaning m u) <ℤ number (meaning m t)). grind (arith, ints),
+  λ (h : IsTrue (int_lt (number (meaning m u)) (number (meaning m t)))). grind (arith, ints),
+)
+compares cmp.Ge m t u = (
+  λ (h : number (meaning m u) ≤ℤ number (meaning m t)). grind (arith, ints),
+  λ (h : IsTrue (not (int_lt (number (meaning m t)) (number (meaning m u))))). grind (arith, ints),
+)
 
 -- the contrary of what is exactly true is exactly not true
 contrary_true : (f : Assertion) (m : Structure) (b : Bool) → Holds m f ↔ IsTrue b → Holds m (negate f) ↔ IsTrue (not b)
 contrary_true f m true exact = (λ (h : Holds m (negate f)). absurd ((contrary m f).0 h (exact.1 refl)), λ (h : IsTrue false). absurd cc)
-contrary_true f m false exact = (λ (h : Holds m (negate f)). refl, λ (h : IsTrue true). (contrary m f).1 (λ (g : Holds m f). let e = exact.0 g in absurd cc))
+contrary_true f m false exact =
+    (λ (h : Holds m (negate f)). refl, λ (h : IsTrue true). (contrary m f).1 (λ (g : Holds m f). let e = exact.0 g in absurd cc))
 
 -- both
-both_true : (f g : Assertion) (m : Structure) (b c : Bool) → Holds m f ↔ IsTrue b → Holds m g ↔ IsTrue c → Holds m (And f g) ↔ IsTrue (b && c)
+both_true : (f g : Assertion) (m : Structure) (b c : Bool) → Holds m f ↔ IsTrue b → Holds m g ↔ IsTrue c
+    → Holds m (And f g) ↔ IsTrue (b && c)
 both_true f g m true c first second = (λ (h : Holds m f × Holds m g). second.0 h.1, λ (h : IsTrue c). (first.1 refl, second.1 h))
 both_true f g m false c first second = (λ (h : Holds m f × Holds m g). first.0 h.0, λ (h : IsTrue false). absurd cc)
 
 -- one of two
-some_true : (f g : Assertion) (m : Structure) (b c : Bool) → Holds m f ↔ IsTrue b → Holds m g ↔ IsTrue c → Holds m (Or f g) ↔ IsTrue (b || c)
+some_true : (f g : Assertion) (m : Structure) (b c : Bool) → Holds m f ↔ IsTrue b → Holds m g ↔ IsTrue c
+    → Holds m (Or f g) ↔ IsTrue (b || c)
 some_true f g m true c first second =
     (λ (h : Holds m (Or f g)). refl, λ (h : IsTrue true) (left : Holds m f → ⊥) (right : Holds m g → ⊥). left (first.1 refl))
 some_true f g m false true first second =
     (λ (h : Holds m (Or f g)). refl, λ (h : IsTrue true) (left : Holds m f → ⊥) (right : Holds m g → ⊥). right (second.1 refl))
 some_true f g m false false first second = (
-  λ (h : Holds m (Or f g)). absurd (h (λ (a : Holds m f). let e = first.0 a in absurd cc) (λ (a : Holds m g). let e = second.0 a in absurd cc)),
+  λ (h : Holds m (Or f g)).
+      absurd (h (λ (a : Holds m f). let e = first.0 a in absurd cc) (λ (a : Holds m g). let e = second.0 a in absurd cc)),
   λ (h : IsTrue false). absurd cc,
 )
 
@@ -173,6 +207,8 @@ form_means m syntax.No s = (λ (h : ⊥). absurd h, λ (h : IsTrue false). absur
 form_means m (syntax.Compare op d e) s = rw⁻¹ (term_means m d s, term_means m e s) (compares op m (term_of d s) (term_of e s))
 form_means m (syntax.Not b) s = contrary_true (form_of b s) m (truth_of b (store_meant m s)) (form_means m b s)
 form_means m (syntax.And b c) s =
-    both_true (form_of b s) (form_of c s) m (truth_of b (store_meant m s)) (truth_of c (store_meant m s)) (form_means m b s) (form_means m c s)
+    both_true (form_of b s) (form_of c s) m (truth_of b (store_meant m s)) (truth_of c (store_meant m s)) (form_means m b s)
+    (form_means m c s)
 form_means m (syntax.Or b c) s =
-    some_true (form_of b s) (form_of c s) m (truth_of b (store_meant m s)) (truth_of c (store_meant m s)) (form_means m b s) (form_means m c s)
+    some_true (form_of b s) (form_of c s) m (truth_of b (store_meant m s)) (truth_of c (store_meant m s)) (form_means m b s)
+    (form_means m c s)

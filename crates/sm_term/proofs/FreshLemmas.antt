@@ -15,7 +15,8 @@ mutual
   pub fresh_meaning : (m : Structure) (k : ℕ) (new : Copy → Store) (t : Tree) → IsBelow k t → meaning (with_havoc m k new) t ≡ meaning m t
   fresh_meaning m k new (Lit z) b = refl
   fresh_meaning m k new (Start x) b = refl
-  fresh_meaning m k new (Havoc j c x) b = ap (λ (here : Bool). (if here then new c else m.havoc j c) x) (ne_eqb j k (λ (e : j ≡ k). omega arith))
+  fresh_meaning m k new (Havoc j c x) b =
+      ap (λ (here : Bool). (if here then new c else m.havoc j c) x) (ne_eqb j k (λ (e : j ≡ k). omega arith))
   fresh_meaning m k new (Slot c x) b = refl
   fresh_meaning m k new Cell b = refl
   fresh_meaning m k new (Read a i) b = rw (fresh_meaning m k new a b.0, fresh_meaning m k new i b.1) refl
@@ -27,7 +28,8 @@ mutual
   fresh_meaning m k new (Fun c x args) b = ap (λ (g : Store). value_at (run m.bound c g) x) (fresh_given m k new args b)
 
   -- the same of arguments
-  pub fresh_given : (m : Structure) (k : ℕ) (new : Copy → Store) (args : Arguments) → AreBelow k args → store_given (with_havoc m k new) args ≡ store_given m args
+  pub fresh_given : (m : Structure) (k : ℕ) (new : Copy → Store) (args : Arguments) → AreBelow k args
+      → store_given (with_havoc m k new) args ≡ store_given m args
   fresh_given m k new Over b = refl
   fresh_given m k new (Given x t rest) b = rw (fresh_meaning m k new t b.0, fresh_given m k new rest b.1) refl
 
@@ -43,7 +45,8 @@ fresh_means m k new (And p q) b = both_at _ _ _ _ (fresh_means m k new p b.0) (f
 fresh_means m k new (Or p q) b = some_at _ _ _ _ (fresh_means m k new p b.0) (fresh_means m k new q b.1)
 
 -- the same of a list
-pub fresh_all : (m : Structure) (k : ℕ) (new : Copy → Store) (fs : List Assertion) → AreFormsBelow k fs → AllHold (with_havoc m k new) fs ↔ AllHold m fs
+pub fresh_all : (m : Structure) (k : ℕ) (new : Copy → Store) (fs : List Assertion) → AreFormsBelow k fs
+    → AllHold (with_havoc m k new) fs ↔ AllHold m fs
 fresh_all m k new [] b = (λ (h : Unit {0}). tt, λ (h : Unit {0}). tt)
 fresh_all m k new (f ∷ fs) b = both_at _ _ _ _ (fresh_means m k new f b.0) (fresh_all m k new fs b.1)
 

@@ -33,7 +33,8 @@ mutual
   filled_means m s (Fun c x args) = ap (λ (g : Store). value_at (run m.bound c g) x) (filled_given m s args)
 
   -- the same of arguments
-  pub filled_given : (m : Structure) (s : Copy → SymbolicStore) (args : Arguments) → store_given m (fill_arguments s args) ≡ store_given (slotted m s) args
+  pub filled_given : (m : Structure) (s : Copy → SymbolicStore) (args : Arguments)
+      → store_given m (fill_arguments s args) ≡ store_given (slotted m s) args
   filled_given m s Over = refl
   filled_given m s (Given x t rest) = rw (filled_means m s t, filled_given m s rest) refl
 
@@ -76,6 +77,7 @@ at_stores_means m s (And p q) = both_at _ _ _ _ (at_stores_means m s p) (at_stor
 at_stores_means m s (Or p q) = some_at _ _ _ _ (at_stores_means m s p) (at_stores_means m s q)
 
 -- the same of a list of formulas
-pub all_at_stores_mean : (m : Structure) (s : Copy → SymbolicStore) (fs : List Assertion) → AllHold m (all_at_stores s fs) ↔ AllHold (slotted m s) fs
+pub all_at_stores_mean : (m : Structure) (s : Copy → SymbolicStore) (fs : List Assertion)
+    → AllHold m (all_at_stores s fs) ↔ AllHold (slotted m s) fs
 all_at_stores_mean m s [] = (λ (h : Unit {0}). tt, λ (h : Unit {0}). tt)
 all_at_stores_mean m s (f ∷ fs) = both_at _ _ _ _ (at_stores_means m s f) (all_at_stores_mean m s fs)

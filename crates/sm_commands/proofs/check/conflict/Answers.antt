@@ -15,7 +15,9 @@ returns c =
         gives = c.in_ok-input.ensures.value;
         members = w.0;
         compact = w.1;
-        written = subst (λ (s : Store). AreWritten c.args.task.now.shared.names (sort_of (declared_of c.args.task.now.shared.decls)) s w.0) c.in_ok-input.ensures.value w.2;
+        written =
+            subst (λ (s : Store). AreWritten c.args.task.now.shared.names (sort_of (declared_of c.args.task.now.shared.decls)) s w.0)
+            c.in_ok-input.ensures.value w.2;
       },
       search rules,
     )

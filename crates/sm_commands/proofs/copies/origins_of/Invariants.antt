@@ -12,4 +12,5 @@ pub record Goes (whole rest : Code) (now : Origins) : Type 0 where
   pub after : origins_after rest now ≡ origins_after whole Start
 
 abbrev pub invariant-loop-statement : goal.invariant-loop-statement
-invariant-loop-statement l = Goes (code_of l.block) (sequence (map statement_of (drop l.statement-index l.statement-items)) End) (origin_in l.origins)
+invariant-loop-statement l =
+    Goes (code_of l.block) (sequence (map statement_of (drop l.statement-index l.statement-items)) End) (origin_in l.origins)

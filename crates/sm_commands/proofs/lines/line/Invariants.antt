@@ -5,4 +5,5 @@ use Rattle.sm_commands.proofs.lines.line.Given as goal
 -- the words so far and those that are left are all of them
 abbrev pub invariant-loop-word : goal.invariant-loop-word
 invariant-loop-word l =
-    l.text.items ++ spaced (map (λ (word : Bor (List ℕ)). word.now) (drop l.word-index l.rest)) ≡ l.first ++ spaced (map (λ (word : Bor (List ℕ)). word.now) l.rest)
+    l.text.items ++ spaced (map (λ (word : Bor (List ℕ)). word.now) (drop l.word-index l.rest)) ≡ l.first ++ spaced
+    (map (λ (word : Bor (List ℕ)). word.now) l.rest)

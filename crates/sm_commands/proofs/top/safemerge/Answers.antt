@@ -6,32 +6,42 @@ use Rattle.sm_commands.proofs.top.safemerge.Goals as goal
 
 pub returns-in-Ok-clause-accepted : goal.returns-in-Ok-clause-accepted
 returns-in-Ok-clause-accepted g c =
-    accepts (map string_bytes c.args.words.now) (g.H.Shelf.file c.args.shelf.now) (g.H.Shelf.read_faults c.args.shelf.now) (g.H.Shelf.read_faults c.reply_to.new.shelf) c.in-Some.reply.status c.in-Some.reply.text.items c.in-Some.ensures.answers
+    accepts (map string_bytes c.args.words.now) (g.H.Shelf.file c.args.shelf.now) (g.H.Shelf.read_faults c.args.shelf.now)
+    (g.H.Shelf.read_faults c.reply_to.new.shelf) c.in-Some.reply.status c.in-Some.reply.text.items c.in-Some.ensures.answers
 
 pub returns-in-Ok-clause-usage : goal.returns-in-Ok-clause-usage
 returns-in-Ok-clause-usage g c = λ _.
-    let s = sound (map string_bytes c.args.words.now) (g.H.Shelf.file c.args.shelf.now) (g.H.Shelf.read_faults c.args.shelf.now) (g.H.Shelf.read_faults c.reply_to.new.shelf) c.in-Some.reply.status c.in-Some.reply.text.items c.in-Some.ensures.answers in
+    let s =
+    sound (map string_bytes c.args.words.now) (g.H.Shelf.file c.args.shelf.now) (g.H.Shelf.read_faults c.args.shelf.now)
+    (g.H.Shelf.read_faults c.reply_to.new.shelf) c.in-Some.reply.status c.in-Some.reply.text.items c.in-Some.ensures.answers in
     (s.usage, s.only)
 
 pub returns-in-Ok-clause-read_quiet : goal.returns-in-Ok-clause-read_quiet
 returns-in-Ok-clause-read_quiet g c = λ _.
-    (sound (map string_bytes c.args.words.now) (g.H.Shelf.file c.args.shelf.now) (g.H.Shelf.read_faults c.args.shelf.now) (g.H.Shelf.read_faults c.reply_to.new.shelf) c.in-Some.reply.status c.in-Some.reply.text.items c.in-Some.ensures.answers).quiet
+    (sound (map string_bytes c.args.words.now) (g.H.Shelf.file c.args.shelf.now) (g.H.Shelf.read_faults c.args.shelf.now)
+    (g.H.Shelf.read_faults c.reply_to.new.shelf) c.in-Some.reply.status c.in-Some.reply.text.items c.in-Some.ensures.answers).quiet
 
 pub returns-in-Ok-clause-memory : goal.returns-in-Ok-clause-memory
 returns-in-Ok-clause-memory g c = λ e.
-    absurd ((sound (map string_bytes c.args.words.now) (g.H.Shelf.file c.args.shelf.now) (g.H.Shelf.read_faults c.args.shelf.now) (g.H.Shelf.read_faults c.reply_to.new.shelf) c.in-Some.reply.status c.in-Some.reply.text.items c.in-Some.ensures.answers).not_memory e)
+    absurd ((sound (map string_bytes c.args.words.now) (g.H.Shelf.file c.args.shelf.now) (g.H.Shelf.read_faults c.args.shelf.now)
+    (g.H.Shelf.read_faults c.reply_to.new.shelf) c.in-Some.reply.status c.in-Some.reply.text.items c.in-Some.ensures.answers).not_memory
+    e)
 
 pub returns-in-Ok-clause-conflict : goal.returns-in-Ok-clause-conflict
 returns-in-Ok-clause-conflict g c =
-    conflicts (map string_bytes c.args.words.now) (g.H.Shelf.file c.args.shelf.now) (g.H.Shelf.read_faults c.args.shelf.now) (g.H.Shelf.read_faults c.reply_to.new.shelf) c.in-Some.reply.status c.in-Some.reply.text.items c.in-Some.ensures.answers
+    conflicts (map string_bytes c.args.words.now) (g.H.Shelf.file c.args.shelf.now) (g.H.Shelf.read_faults c.args.shelf.now)
+    (g.H.Shelf.read_faults c.reply_to.new.shelf) c.in-Some.reply.status c.in-Some.reply.text.items c.in-Some.ensures.answers
 
 pub returns-in-Ok-clause-shown : goal.returns-in-Ok-clause-shown
 returns-in-Ok-clause-shown g c = λ e task turns workers asks. (
   c.in-Some.reply.text.items,
-  shows (map string_bytes c.args.words.now) (g.H.Shelf.file c.args.shelf.now) (g.H.Shelf.read_faults c.args.shelf.now) (g.H.Shelf.read_faults c.reply_to.new.shelf) c.in-Some.reply.status c.in-Some.reply.text.items c.in-Some.ensures.answers e task turns workers asks,
+  shows (map string_bytes c.args.words.now) (g.H.Shelf.file c.args.shelf.now) (g.H.Shelf.read_faults c.args.shelf.now)
+      (g.H.Shelf.read_faults c.reply_to.new.shelf) c.in-Some.reply.status c.in-Some.reply.text.items c.in-Some.ensures.answers e task turns
+      workers asks,
   search rules,
 )
 
 pub returns-in-Ok-clause-replayed : goal.returns-in-Ok-clause-replayed
 returns-in-Ok-clause-replayed g c =
-    replays_shown (map string_bytes c.args.words.now) (g.H.Shelf.file c.args.shelf.now) (g.H.Shelf.read_faults c.args.shelf.now) (g.H.Shelf.read_faults c.reply_to.new.shelf) c.in-Some.reply.status c.in-Some.reply.text.items c.in-Some.ensures.answers
+    replays_shown (map string_bytes c.args.words.now) (g.H.Shelf.file c.args.shelf.now) (g.H.Shelf.read_faults c.args.shelf.now)
+    (g.H.Shelf.read_faults c.reply_to.new.shelf) c.in-Some.reply.status c.in-Some.reply.text.items c.in-Some.ensures.answers

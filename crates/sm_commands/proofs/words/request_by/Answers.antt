@@ -6,20 +6,30 @@ use Rattle.sm_commands.proofs.words.request_by.Goals as goal
 
 pub returns-in-Check-clause-ok : goal.returns-in-Check-clause-ok
 returns-in-Check-clause-ok c =
-    (asks_check c.args.verb (map string_bytes c.args.words.now) (first_value (found_of c.in_ok-matches.matches)) c.check_request.result c.in-Check.is c.in_ok-matches.ensures.taken c.in_ok-matches.ensures.texts c.check_request.ensures.ok c.check_request.ensures.usage).ok
+    (asks_check c.args.verb (map string_bytes c.args.words.now)
+    (first_value (found_of c.in_ok-matches.matches)) c.check_request.result c.in-Check.is c.in_ok-matches.ensures.taken
+    c.in_ok-matches.ensures.texts c.check_request.ensures.ok c.check_request.ensures.usage).ok
 
 pub returns-in-Check-clause-usage : goal.returns-in-Check-clause-usage
 returns-in-Check-clause-usage c =
-    (asks_check c.args.verb (map string_bytes c.args.words.now) (first_value (found_of c.in_ok-matches.matches)) c.check_request.result c.in-Check.is c.in_ok-matches.ensures.taken c.in_ok-matches.ensures.texts c.check_request.ensures.ok c.check_request.ensures.usage).usage
+    (asks_check c.args.verb (map string_bytes c.args.words.now)
+    (first_value (found_of c.in_ok-matches.matches)) c.check_request.result c.in-Check.is c.in_ok-matches.ensures.taken
+    c.in_ok-matches.ensures.texts c.check_request.ensures.ok c.check_request.ensures.usage).usage
 
 pub returns-in-Replay-clause-ok : goal.returns-in-Replay-clause-ok
 returns-in-Replay-clause-ok c =
-    (asks_replay c.args.verb (map string_bytes c.args.words.now) (first_value (found_of c.in_ok-matches.matches)) c.replay_request.result c.in-Replay.is c.in_ok-matches.ensures.taken c.in_ok-matches.ensures.texts c.replay_request.ensures.ok c.replay_request.ensures.usage).ok
+    (asks_replay c.args.verb (map string_bytes c.args.words.now)
+    (first_value (found_of c.in_ok-matches.matches)) c.replay_request.result c.in-Replay.is c.in_ok-matches.ensures.taken
+    c.in_ok-matches.ensures.texts c.replay_request.ensures.ok c.replay_request.ensures.usage).ok
 
 pub returns-in-Replay-clause-usage : goal.returns-in-Replay-clause-usage
 returns-in-Replay-clause-usage c =
-    (asks_replay c.args.verb (map string_bytes c.args.words.now) (first_value (found_of c.in_ok-matches.matches)) c.replay_request.result c.in-Replay.is c.in_ok-matches.ensures.taken c.in_ok-matches.ensures.texts c.replay_request.ensures.ok c.replay_request.ensures.usage).usage
+    (asks_replay c.args.verb (map string_bytes c.args.words.now)
+    (first_value (found_of c.in_ok-matches.matches)) c.replay_request.result c.in-Replay.is c.in_ok-matches.ensures.taken
+    c.in_ok-matches.ensures.texts c.replay_request.ensures.ok c.replay_request.ensures.usage).usage
 
 pub returns-clause-ok : goal.returns-clause-ok
 returns-clause-ok c =
-    asks_print c.args.verb (map string_bytes c.args.words.now) (first_value (found_of c.in_ok-matches.matches)) c.print_request.result c.in-Print.is c.in_ok-matches.ensures.taken c.in_ok-matches.ensures.texts c.print_request.ensures.ok
+    asks_print c.args.verb (map string_bytes c.args.words.now)
+    (first_value (found_of c.in_ok-matches.matches)) c.print_request.result c.in-Print.is c.in_ok-matches.ensures.taken
+    c.in_ok-matches.ensures.texts c.print_request.ensures.ok

@@ -6,7 +6,8 @@ use Rattle.sm_syntax.specs.claim.Syntax.{End}
 use Rattle.sm_syntax.specs.trees.Views.{sequence, statement_of, code_of}
 use Rattle.sm_deps.specs.Members.{members, only, either}
 use Rattle.sm_deps.proofs.MembersLemmas.{either-none, either-either, added_two, on_ok}
-use Rattle.sm_deps.proofs.AssignsLemmas.{assigns-Skip, assigns-Hole, assigns-Assign, assigns-Store, assigns-If, assigns-drop, assigns-drop-end}
+use Rattle.sm_deps.proofs.AssignsLemmas.{assigns-Skip, assigns-Hole, assigns-Assign, assigns-Store, assigns-If, assigns-drop}
+use Rattle.sm_deps.proofs.AssignsLemmas.{assigns-drop-end}
 use Rattle.sm_deps.proofs.assigned.+add_block.Goals as goal
 
 -- one statement more
@@ -16,14 +17,16 @@ add_block-loop-s-preserved t c =
     let old = members c.loop-s.names in
     let here = assigns (statement_of c.s-item.result End) in
     let rest = assigns (sequence (map statement_of (drop (c.loop-s.s-index + 1) l)) End) in
-    c.loop-s.invariant ∙ ap (either old) (assigns-drop l c.loop-s.s-index c.s-item.result c.loop-s-test.true c.s-item.is) ∙ sym (either-either old here rest) ∙
+    c.loop-s.invariant ∙ ap (either old) (assigns-drop l c.loop-s.s-index c.s-item.result c.loop-s-test.true c.s-item.is) ∙
+    sym (either-either old here rest) ∙
     ap (λ (s : ℕ → Bool). either s rest) (sym c.in_ok-add_stmt.ensures)
 
 -- all statements
 pub add_block-returns : goal.add_block-returns
 add_block-returns t c =
     let names = members c.loop-s.names in
-    sym (c.loop-s.invariant ∙ ap (either names) (assigns-drop-end c.deref-s-items.result.now c.loop-s.s-index c.loop-s-test.false) ∙ either-none names)
+    sym (c.loop-s.invariant ∙ ap (either names) (assigns-drop-end c.deref-s-items.result.now c.loop-s.s-index c.loop-s-test.false) ∙
+    either-none names)
 
 -- the names of both branches
 pub add_stmt-returns-in_ok-add_block-in-If : goal.add_stmt-returns-in_ok-add_block-in-If
@@ -31,7 +34,8 @@ add_stmt-returns-in_ok-add_block-in-If t c =
     let x = c.in-If.c in
     let y = c.in-If.d in
     on_ok c.add_block-in-If.result c.add_block-in-If.ensures
-    (added_two (members c.args.names.now) (members c.add_block.new.names) (members c.add_block-in-If.new.names) (assigns (code_of x)) (assigns (code_of y))
+    (added_two (members c.args.names.now) (members c.add_block.new.names) (members c.add_block-in-If.new.names) (assigns (code_of x))
+    (assigns (code_of y))
     (assigns (statement_of c.args.s.now End))
     c.in_ok-add_block-in-If.ensures
     (ap (λ (s : Stmt). assigns (statement_of s End)) c.in-If.is ∙ assigns-If c.in-If.field-0 x y))
@@ -56,4 +60,5 @@ add_stmt-returns-in-Skip t c =
 pub add_stmt-returns-in-Hole : goal.add_stmt-returns-in-Hole
 add_stmt-returns-in-Hole t c =
     let start = members c.args.names.now in
-    sym (ap (λ (s : Stmt). either start (assigns (statement_of s End))) c.in-Hole.is ∙ ap (either start) (assigns-Hole c.in-Hole.field-0) ∙ either-none start)
+    sym (ap (λ (s : Stmt). either start (assigns (statement_of s End))) c.in-Hole.is ∙ ap (either start) (assigns-Hole c.in-Hole.field-0) ∙
+    either-none start)

@@ -8,4 +8,5 @@ use Rattle.sm_deps.proofs.assigned.+add_block.Given as goal
 
 abbrev pub invariant-add_block-loop-s : goal.invariant-add_block-loop-s
 invariant-add_block-loop-s l =
-    either (members l.fn.names) (assigns (code_of l.b)) ≡ either (members l.names) (assigns (sequence (map statement_of (drop l.s-index l.s-items)) End))
+    either (members l.fn.names) (assigns (code_of l.b)) ≡ either (members l.names)
+    (assigns (sequence (map statement_of (drop l.s-index l.s-items)) End))

@@ -12,7 +12,8 @@ use Rattle.sm_deps.specs.Names.{mentions, tests}
 use Rattle.sm_deps.specs.Members.{members, either}
 use Rattle.sm_deps.proofs.LoopsExact.{over_append, over_plain, over_choice, over_loop, one_turn, last_turn}
 use Rattle.sm_deps.proofs.MembersLemmas.{on_ok}
-use Rattle.sm_deps.proofs.NeededLemmas.{without, needed-Assign, needed-Assign-other, needed-Store, needed-Store-other, sequence-before, members-remove, members-same, members-contains, turn_grows}
+use Rattle.sm_deps.proofs.NeededLemmas.{without, needed-Assign, needed-Assign-other, needed-Store, needed-Store-other, sequence-before}
+use Rattle.sm_deps.proofs.NeededLemmas.{members-remove, members-same, members-contains, turn_grows}
 use Rattle.sm_deps.proofs.backward.+before.Goals as goal
 
 -- one statement more is gone over
@@ -25,8 +26,10 @@ before_block-loop-i-preserved t c =
     record {
       within = omega (arith, c.loop-i.invariant.within);
       over =
-          subst (λ code. GoesOver code wanted found c.args.loops.now c.before_stmt.new.loops) (sequence-before l c.loop-i.i s c.loop-i-test.true c.loop-i.invariant.within c.index.ensures)
-          (over_append (statement_of s End) (sequence (map statement_of (drop c.loop-i.i l)) End) wanted (members c.loop-i.names) found c.args.loops.now c.loop-i.loops c.before_stmt.new.loops
+          subst (λ code. GoesOver code wanted found c.args.loops.now c.before_stmt.new.loops)
+          (sequence-before l c.loop-i.i s c.loop-i-test.true c.loop-i.invariant.within c.index.ensures)
+          (over_append (statement_of s End) (sequence (map statement_of (drop c.loop-i.i l)) End) wanted
+          (members c.loop-i.names) found c.args.loops.now c.loop-i.loops c.before_stmt.new.loops
           c.loop-i.invariant.over c.in_ok-before_stmt.ensures);
     }
 
@@ -38,11 +41,14 @@ before_stmt-returns-in_ok-add_expr-in-Assign t c =
     let e = c.in-Assign.e in
     let names = mentions (expression_of e) in
     let here : wanted x.0 ≡ true = sym (members-contains c.args.names.now x.0) ∙ sym c.remove.ensures.test ∙ c.if-remove.true in
-    let removed : members c.remove.new.self ≡ without wanted x.0 = members-remove c.args.names.now c.remove.new.self x.0 c.remove.ensures.updates in
-    let added : members c.add_expr.new.names ≡ either (without wanted x.0) names = c.in_ok-add_expr-in-Assign.ensures ∙ ap (λ (s : ℕ → Bool). either s names) removed in
+    let removed : members c.remove.new.self ≡ without wanted x.0 =
+    members-remove c.args.names.now c.remove.new.self x.0 c.remove.ensures.updates in
+    let added : members c.add_expr.new.names ≡ either (without wanted x.0) names =
+    c.in_ok-add_expr-in-Assign.ensures ∙ ap (λ (s : ℕ → Bool). either s names) removed in
     let is : needed (statement_of c.args.s.now End) wanted ≡ either (without wanted x.0) names =
     ap (λ (s : Stmt). needed (statement_of s End) wanted) c.in-Assign.is ∙ needed-Assign x e wanted here in
-    let plain : loops_in (statement_of c.args.s.now End) ≡ 0 = ap (λ (s : Stmt). loops_in (statement_of s End)) c.in-Assign.is ∙ ap loops_in (statement_of-Assign x e End) in
+    let plain : loops_in (statement_of c.args.s.now End) ≡ 0 =
+    ap (λ (s : Stmt). loops_in (statement_of s End)) c.in-Assign.is ∙ ap loops_in (statement_of-Assign x e End) in
     over_plain (statement_of c.args.s.now End) wanted (members c.add_expr.new.names) c.args.loops.now c.requires plain (added ∙ sym is)
 
 -- the assigned name isn't wanted
@@ -51,7 +57,8 @@ before_stmt-returns-else-remove t c =
     let wanted = members c.args.names.now in
     let x = c.in-Assign.x in
     let e = c.in-Assign.e in
-    let plain : loops_in (statement_of c.args.s.now End) ≡ 0 = ap (λ (s : Stmt). loops_in (statement_of s End)) c.in-Assign.is ∙ ap loops_in (statement_of-Assign x e End) in
+    let plain : loops_in (statement_of c.args.s.now End) ≡ 0 =
+    ap (λ (s : Stmt). loops_in (statement_of s End)) c.in-Assign.is ∙ ap loops_in (statement_of-Assign x e End) in
     over_plain (statement_of c.args.s.now End) wanted (members c.remove.new.self) c.args.loops.now c.requires plain
     (members-same c.args.names.now c.remove.new.self (OnFalse_at c.if-remove.false c.remove.ensures.unchanged) ∙
     sym (ap (λ (s : Stmt). needed (statement_of s End) wanted) c.in-Assign.is ∙ needed-Assign-other x e wanted
@@ -72,7 +79,8 @@ before_stmt-returns-in_ok-add_expr-in-Store-2 t c =
     let second : members c.add_expr-then-contains-2.new.names ≡ either start values = c.in_ok-add_expr-in-Store-2.ensures in
     let is : needed (statement_of c.args.s.now End) wanted ≡ either (either wanted places) values =
     ap (λ (s : Stmt). needed (statement_of s End) wanted) c.in-Store.is ∙ needed-Store a i e wanted here in
-    let plain : loops_in (statement_of c.args.s.now End) ≡ 0 = ap (λ (s : Stmt). loops_in (statement_of s End)) c.in-Store.is ∙ ap loops_in (statement_of-Store a i e End) in
+    let plain : loops_in (statement_of c.args.s.now End) ≡ 0 =
+    ap (λ (s : Stmt). loops_in (statement_of s End)) c.in-Store.is ∙ ap loops_in (statement_of-Store a i e End) in
     over_plain (statement_of c.args.s.now End) wanted (members c.add_expr-then-contains-2.new.names) c.args.loops.now c.requires plain
     (second ∙ ap (λ (s : ℕ → Bool). either s values) first ∙ sym is)
 
@@ -83,7 +91,8 @@ before_stmt-returns-else-contains t c =
     let a = c.in-Store.a in
     let i = c.in-Store.i in
     let e = c.in-Store.e in
-    let plain : loops_in (statement_of c.args.s.now End) ≡ 0 = ap (λ (s : Stmt). loops_in (statement_of s End)) c.in-Store.is ∙ ap loops_in (statement_of-Store a i e End) in
+    let plain : loops_in (statement_of c.args.s.now End) ≡ 0 =
+    ap (λ (s : Stmt). loops_in (statement_of s End)) c.in-Store.is ∙ ap loops_in (statement_of-Store a i e End) in
     over_plain (statement_of c.args.s.now End) wanted wanted c.args.loops.now c.requires plain
     (sym (ap (λ (s : Stmt). needed (statement_of s End) wanted) c.in-Store.is ∙ needed-Store-other a i e wanted
     (sym (members-contains c.args.names.now a.0) ∙ sym c.contains.ensures ∙ c.if-contains.false)))
@@ -98,11 +107,15 @@ before_choice-returns t c =
     let one = c.args.loops.now in
     let two = c.before_block.new.loops in
     let three = c.before_block-2.new.loops in
-    let same : members c.in_ok-others.others ≡ wanted = members-same c.args.names.now c.in_ok-others.others (each_same c.args.names.now.keys c.in_ok-others.others.keys c.in_ok-others.ensures.cases) in
-    let of_d : GoesOver (code_of c.args.d.now) wanted second two three = subst (λ (s : ℕ → Bool). GoesOver (code_of c.args.d.now) s second two three) same c.in_ok-before_block-2.ensures in
+    let same : members c.in_ok-others.others ≡ wanted =
+    members-same c.args.names.now c.in_ok-others.others
+    (each_same c.args.names.now.keys c.in_ok-others.others.keys c.in_ok-others.ensures.cases) in
+    let of_d : GoesOver (code_of c.args.d.now) wanted second two three =
+    subst (λ (s : ℕ → Bool). GoesOver (code_of c.args.d.now) s second two three) same c.in_ok-before_block-2.ensures in
     on_ok c.add_cond.result c.add_cond.ensures
     (λ more.
-    over_choice b (code_of c.args.c.now) (code_of c.args.d.now) wanted first second (members c.add_cond.new.names) one two three c.in_ok-before_block.ensures of_d
+    over_choice b (code_of c.args.c.now) (code_of c.args.d.now) wanted first second
+    (members c.add_cond.new.names) one two three c.in_ok-before_block.ensures of_d
     (more ∙ ap (λ (s : ℕ → Bool). either s (tests b)) c.in_ok-add_all.ensures))
 
 -- the rounds of a loop, from its kept set on
@@ -115,7 +128,8 @@ before_loop-returns t c =
     let four = c.keep.new.loops in
     on_ok c.keep.result c.keep.ensures
     (λ kept.
-    over_loop (condition_of c.args.b.now) (code_of c.args.c.now) wanted (members c.add_cond.new.names) (members c.resume.new.names) settled one c.resume.new.loops three four
+    over_loop (condition_of c.args.b.now) (code_of c.args.c.now) wanted (members c.add_cond.new.names)
+    (members c.resume.new.names) settled one c.resume.new.loops three four
     c.in_ok-add_cond.ensures c.in_ok-number.ensures.set c.in_ok-before_turns.ensures
     (subst (λ (n : ℕ). KeepsSet n settled three four) c.in_ok-number.ensures.number kept))
 
@@ -130,9 +144,11 @@ before_turns-returns-then-len-size t c =
     let between = c.loop-more.loops in
     let again : Loops = record { sets = between.sets; next = c.args.loops.now.next } in
     let copied = members-same old c.in_ok-more.more (each_same old.keys c.in_ok-more.more.keys c.in_ok-more.ensures.cases) in
-    let over : GoesOver body (members old) more again c.before_block.new.loops = subst (λ (s : ℕ → Bool). GoesOver body s more again c.before_block.new.loops) copied c.in_ok-before_block.ensures in
+    let over : GoesOver body (members old) more again c.before_block.new.loops =
+    subst (λ (s : ℕ → Bool). GoesOver body s more again c.before_block.new.loops) copied c.in_ok-before_block.ensures in
     let same : length new.keys ≡ length old.keys = omega (arith, c.len.ensures.len, c.len-size.ensures.len, c.if-len-size.true) in
-    last_turn body start old new more c.args.loops.now between again c.before_block.new.loops c.len-size.ensures.ordered same c.loop-more.invariant refl refl over c.in_ok-add_all.ensures
+    last_turn body start old new more c.args.loops.now between again c.before_block.new.loops c.len-size.ensures.ordered same
+    c.loop-more.invariant refl refl over c.in_ok-add_all.ensures
 
 -- another one makes the set greater
 pub before_turns-loop-more-smaller : goal.before_turns-loop-more-smaller
@@ -151,6 +167,8 @@ before_turns-loop-more-preserved t c =
     let between = c.loop-more.loops in
     let again : Loops = record { sets = between.sets; next = c.args.loops.now.next } in
     let copied = members-same old c.in_ok-more.more (each_same old.keys c.in_ok-more.more.keys c.in_ok-more.ensures.cases) in
-    let over : GoesOver body (members old) more again c.before_block.new.loops = subst (λ (s : ℕ → Bool). GoesOver body s more again c.before_block.new.loops) copied c.in_ok-before_block.ensures in
-    one_turn body (members c.args.names.now) (members old) more (members c.add_all.new.names) c.args.loops.now between again c.before_block.new.loops c.loop-more.invariant refl refl over
+    let over : GoesOver body (members old) more again c.before_block.new.loops =
+    subst (λ (s : ℕ → Bool). GoesOver body s more again c.before_block.new.loops) copied c.in_ok-before_block.ensures in
+    one_turn body (members c.args.names.now) (members old) more
+    (members c.add_all.new.names) c.args.loops.now between again c.before_block.new.loops c.loop-more.invariant refl refl over
     c.in_ok-add_all.ensures

@@ -18,7 +18,8 @@ returns-clause-set c =
       | then-number-len+in_ok-last+in_ok-add_all w ↦
           let kept = w.index.result.now in
           let copied = members-same kept w.in_ok-last.last (each_same kept.keys w.in_ok-last.last.keys w.in_ok-last.ensures.cases) in
-          resumes_last first (members c.if-number-len.names) kept before after (omega (arith, w.if-number-len.true, c.len.ensures)) w.index.ensures
+          resumes_last first (members c.if-number-len.names) kept before after
+          (omega (arith, w.if-number-len.true, c.len.ensures)) w.index.ensures
           (ap members w.names-is ∙ w.in_ok-add_all.ensures ∙ ap (either first) copied) (ap (λ (l : Loops). l.sets) w.loops-is) refl
       | else-number-len+in_ok-first+in_ok-push w ↦
           let set = w.in_ok-first.first in

@@ -7,5 +7,6 @@ use Rattle.sm_deps.proofs.members.add_all.Goals as goal
 pub returns : goal.returns
 returns c =
     on_ok_weaker c.append.result
-    (λ (h : InsertsAll nat_cmp c.args.names.now c.args.others.keys c.append.new.self). members-union c.args.names.now c.args.others c.append.new.self h)
+    (λ (h : InsertsAll nat_cmp c.args.names.now c.args.others.keys c.append.new.self).
+    members-union c.args.names.now c.args.others c.append.new.self h)
     c.append.ensures.inserts_all

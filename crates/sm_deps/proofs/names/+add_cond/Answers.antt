@@ -12,7 +12,8 @@ returns-in_ok-add_expr-in-Cmp t c =
     let d = expression_of c.in-Cmp.d in
     let e = expression_of c.in-Cmp.e in
     on_ok c.add_expr-in-Cmp.result c.add_expr-in-Cmp.ensures
-    (added_two (members c.args.names.now) (members c.add_expr.new.names) (members c.add_expr-in-Cmp.new.names) (mentions d) (mentions e) (tests (condition_of c.args.c.now))
+    (added_two (members c.args.names.now) (members c.add_expr.new.names) (members c.add_expr-in-Cmp.new.names) (mentions d) (mentions e)
+    (tests (condition_of c.args.c.now))
     (c.in_ok-add_expr-in-Cmp.ensures)
     (ap (λ (b : Cond). tests (condition_of b)) c.in-Cmp.is ∙ tests-Compare c.in-Cmp.field-0 d e))
 
@@ -28,7 +29,8 @@ returns-in_ok-add_cond-in-And t c =
     ⊎_elim (λ (is : c.args.c.now ≡ And b d). ap names is ∙ tests-And (condition_of b.value) (condition_of d.value))
     (λ (is : c.args.c.now ≡ Or b d). ap names is ∙ tests-Or (condition_of b.value) (condition_of d.value))
     c.in-And.is in
-    let first : one ≡ either start (names b.value) = c.in_ok-add_cond-in-And.ensures ∙ ap (λ (e : Cond). either start (names e)) c.deref-in-And.ensures in
+    let first : one ≡ either start (names b.value) =
+    c.in_ok-add_cond-in-And.ensures ∙ ap (λ (e : Cond). either start (names e)) c.deref-in-And.ensures in
     on_ok c.add_cond-in-And-2.result c.add_cond-in-And-2.ensures
     (λ more.
     added_two start one (members c.add_cond-in-And-2.new.names) (names b.value) (names d.value) (names c.args.c.now) first parts

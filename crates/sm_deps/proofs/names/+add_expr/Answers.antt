@@ -20,7 +20,8 @@ returns-in_ok-add_expr-in-Add t c =
     ⊎_elim (λ (is : c.args.e.now ≡ Sub d f). ap names is ∙ mentions-Minus (expression_of d.value) (expression_of f.value))
     (λ (is : c.args.e.now ≡ Mul d f). ap names is ∙ mentions-Times (expression_of d.value) (expression_of f.value)) others)
     c.in-Add.is in
-    let first : one ≡ either start (names d.value) = c.in_ok-add_expr-in-Add.ensures ∙ ap (λ (e : Expr). either start (names e)) c.deref-in-Add.ensures in
+    let first : one ≡ either start (names d.value) =
+    c.in_ok-add_expr-in-Add.ensures ∙ ap (λ (e : Expr). either start (names e)) c.deref-in-Add.ensures in
     on_ok c.add_expr-in-Add-2.result c.add_expr-in-Add-2.ensures
     (λ more.
     added_two start one (members c.add_expr-in-Add-2.new.names) (names d.value) (names f.value) (names c.args.e.now) first parts

@@ -30,7 +30,9 @@ run_loop-loop-left-preserved t c =
     let inner = c.in_ok-run_block.ensures in
     record {
       sorts = inner.sorts ∙ c.loop-left.invariant.sorts;
-      events = c.loop-left.invariant.events ∙ turns_event-turn b (event n body) (run n body) c.loop-left.left s next c.if-left-eq0.false guard.0 holds inner.event inner.end;
+      events =
+          c.loop-left.invariant.events ∙
+          turns_event-turn b (event n body) (run n body) c.loop-left.left s next c.if-left-eq0.false guard.0 holds inner.event inner.end;
       ends = c.loop-left.invariant.ends ∙ turns-turn (truth_of b) (run n body) c.loop-left.left s next c.if-left-eq0.false holds inner.end;
     }
 
@@ -38,7 +40,8 @@ run_loop-loop-left-preserved t c =
 pub run_stmt-returns-in-While-clause-err : goal.run_stmt-returns-in-While-clause-err
 run_stmt-returns-in-While-clause-err t c =
     let same = ap (λ (s : Stmt). statement_of s End) c.in-While.is ∙ statement_of-While c.in-While.c c.in-While.d End in
-    subst (λ (k : Code). IfErr c.run_loop.result (λ (e : EvalError). (e ≡ Memory) ⊎ (event c.args.turns k (meaning c.args.s.now) ≡ Some e))) (sym same)
+    subst (λ (k : Code). IfErr c.run_loop.result (λ (e : EvalError). (e ≡ Memory) ⊎ (event c.args.turns k (meaning c.args.s.now) ≡ Some e)))
+    (sym same)
     c.run_loop.ensures.err
 
 -- the expression has the number that was computed
@@ -54,4 +57,5 @@ run_stmt-returns-in_ok-z-in-Assign-clause-end t c =
     let fits : SFits w128 c.in_ok-z-in-Assign.z = search rules in
     let written = simp to_z-of_z at c.set.ensures.value in
     ap (λ (k : Code). run n k (meaning s)) same ∙
-    ap (λ (v : Value). Some (put (meaning s) x v)) (sorted_number s e sorted.1 ∙ ap (λ (z : ℤ). Number z) (sym known.1)) ∙ ap (λ (u : Store). Some u) (sym written)
+    ap (λ (v : Value). Some (put (meaning s) x v)) (sorted_number s e sorted.1 ∙ ap (λ (z : ℤ). Number z) (sym known.1)) ∙
+    ap (λ (u : Store). Some u) (sym written)

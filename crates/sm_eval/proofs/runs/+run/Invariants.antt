@@ -23,8 +23,10 @@ abbrev pub invariant-run_block-loop-t : goal.invariant-run_block-loop-t
 invariant-run_block-loop-t l = record {
   sorts : sorts_of l.s ≡ sorts_of l.fn.s;
   sorted : IsWellSorted (sorts_of l.s) (sequence (map statement_of (drop l.t-index l.t-items)) End);
-  events : event l.turns (code_of l.b) (meaning l.fn.s) ≡ event l.turns (sequence (map statement_of (drop l.t-index l.t-items)) End) (meaning l.s);
-  ends : run l.turns (code_of l.b) (meaning l.fn.s) ≡ run l.turns (sequence (map statement_of (drop l.t-index l.t-items)) End) (meaning l.s);
+  events : event l.turns (code_of l.b) (meaning l.fn.s) ≡ event l.turns (sequence (map statement_of (drop l.t-index l.t-items)) End)
+      (meaning l.s);
+  ends : run l.turns (code_of l.b) (meaning l.fn.s) ≡ run l.turns (sequence (map statement_of (drop l.t-index l.t-items)) End)
+      (meaning l.s);
 }
 
 -- what happens in all turns is what happens in those that are left
@@ -34,7 +36,8 @@ invariant-run_loop-loop-left l =
     let b = code_of l.b in
     record {
       sorts : sorts_of l.s ≡ sorts_of l.fn.s;
-      events : turns_event c (event l.turns b) (run l.turns b) l.turns (meaning l.fn.s) ≡ turns_event c (event l.turns b) (run l.turns b) l.left (meaning l.s);
+      events : turns_event c (event l.turns b) (run l.turns b) l.turns (meaning l.fn.s) ≡ turns_event c (event l.turns b)
+          (run l.turns b) l.left (meaning l.s);
       ends : turns (truth_of c) (run l.turns b) l.turns (meaning l.fn.s) ≡ turns (truth_of c) (run l.turns b) l.left (meaning l.s);
     }
 

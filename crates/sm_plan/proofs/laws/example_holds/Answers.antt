@@ -5,4 +5,9 @@ use Rattle.sm_plan.proofs.ExampleLemmas.{example_fresh, example_obligations, exa
 
 -- the law on plans, at this one
 pub returns : goal.returns
-returns c = (example_fresh, example_obligations, example_discharged, plan_conflict_free example_task example_plan example_dues example_fresh example_obligations example_discharged)
+returns c = (
+  example_fresh,
+  example_obligations,
+  example_discharged,
+  plan_conflict_free example_task example_plan example_dues example_fresh example_obligations example_discharged,
+)

@@ -11,4 +11,5 @@ use Rattle.sm_replay.proofs.first_break.break_at.Goals as goal
 pub returns-in-None-clause-none : goal.returns-in-None-clause-none
 returns-in-None-clause-none c =
     λ (d : Cell) (own : variable d ≡ (c.args.x.0, unwrap_or c.args.sort Num)).
-    undeclared_kept c.args.ends.now c.args.x.0 (subst (HaveSort c.args.ends.now c.args.x.0) c.in-None.is c.requires) d (own ∙ ap (λ (o : Option Sort). (c.args.x.0, unwrap_or o Num)) c.in-None.is)
+    undeclared_kept c.args.ends.now c.args.x.0 (subst (HaveSort c.args.ends.now c.args.x.0) c.in-None.is c.requires) d
+    (own ∙ ap (λ (o : Option Sort). (c.args.x.0, unwrap_or o Num)) c.in-None.is)

@@ -6,4 +6,6 @@ use Rattle.sm_replay.specs.Input.{members_fault}
 use Rattle.sm_replay.proofs.input.check_members.Given as goal
 
 abbrev pub invariant-loop-key : goal.invariant-loop-key
-invariant-loop-key l = members_fault l.names (sorts_of l.s) (members_view l.key-iterator) ≡ members_fault l.names (sorts_of l.s) (members_view l.members.entries)
+invariant-loop-key l =
+    members_fault l.names (sorts_of l.s) (members_view l.key-iterator) ≡ members_fault l.names (sorts_of l.s)
+    (members_view l.members.entries)

@@ -9,5 +9,6 @@ returns-in-None c = unnamed c.args.names.now (sorts_of c.args.s.now) c.args.key.
 
 pub returns-in-Some-sort : goal.returns-in-Some-sort
 returns-in-Some-sort c =
-    named c.args.names.now (sorts_of c.args.s.now) c.args.key.now c.in-Some.name.0 (Some c.in-Some-sort.sort) c.in-Some.ensures.number c.in-Some.ensures.stored
+    named c.args.names.now (sorts_of c.args.s.now) c.args.key.now c.in-Some.name.0
+    (Some c.in-Some-sort.sort) c.in-Some.ensures.number c.in-Some.ensures.stored
     (sym c.in-Some-sort.is ∙ c.sort.ensures)

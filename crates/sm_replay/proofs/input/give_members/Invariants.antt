@@ -11,6 +11,7 @@ use Rattle.sm_replay.proofs.input.give_members.Given as goal
 
 abbrev pub invariant-loop-d : goal.invariant-loop-d
 invariant-loop-d l = record {
-  filling : Filling (sort_of (declared_of l.decls)) (λ (x : ℕ). zero_of (sort_of (declared_of l.decls) x)) (store_of l.names (sort_of (declared_of l.decls)) (view l.input)) (numbered (drop l.d-index l.d-items)) (meaning l.s);
+  filling : Filling (sort_of (declared_of l.decls)) (λ (x : ℕ). zero_of (sort_of (declared_of l.decls) x))
+      (store_of l.names (sort_of (declared_of l.decls)) (view l.input)) (numbered (drop l.d-index l.d-items)) (meaning l.s);
   sorts : sorts_of l.s ≡ sort_of (declared_of l.decls);
 }

@@ -10,8 +10,10 @@ loop-i-preserved c =
     let cell : ℤ × ℤ = get_or c.args.list.now c.loop-i.i-index (pos 0, pos 0) in
     let index : cell.0 ≡ to_z w128 (of_z w128 cell.0) = search rules in
     let number : cell.1 ≡ to_z w128 (of_z w128 cell.1) = search rules in
-    cell_turn c.args.list.now c.loop-i.i-index (pos 0, pos 0) (to_z w128 (of_z w128 cell.0)) (to_z w128 (of_z w128 cell.1)) (members_view c.loop-i.cells.entries)
-    (members_view c.write_cell.new.cells.entries) c.requires c.loop-i-test.true (ap (λ (i : ℤ). (i, cell.1)) index ∙ ap (λ (z : ℤ). (to_z w128 (of_z w128 cell.0), z)) number)
+    cell_turn c.args.list.now c.loop-i.i-index (pos 0, pos 0) (to_z w128 (of_z w128 cell.0)) (to_z w128 (of_z w128 cell.1))
+    (members_view c.loop-i.cells.entries)
+    (members_view c.write_cell.new.cells.entries) c.requires c.loop-i-test.true
+    (ap (λ (i : ℤ). (i, cell.1)) index ∙ ap (λ (z : ℤ). (to_z w128 (of_z w128 cell.0), z)) number)
     c.in_ok-write_cell.ensures.inside c.in_ok-write_cell.ensures.written c.loop-i.invariant
 
 pub returns : goal.returns

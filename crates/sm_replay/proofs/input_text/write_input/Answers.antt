@@ -20,7 +20,12 @@ returns-clause-text c =
     let members = members_view map.entries in
     let written = c.in_ok-members_of.ensures.written in
     IfOk-weaker c.to_vec.result _ _
-    (λ bytes text. (members, text (ap has_float (view-Object map) ∙ written_whole names sorts s members written) ∙ ap compact_text (view-Object map), written)) c.to_vec.ensures.text
+    (λ bytes text. (
+      members,
+      text (ap has_float (view-Object map) ∙ written_whole names sorts s members written) ∙
+          ap compact_text (view-Object map),
+      written,
+    )) c.to_vec.ensures.text
 
 pub returns-clause-reads_back : goal.returns-clause-reads_back
 returns-clause-reads_back c =
@@ -32,5 +37,6 @@ returns-clause-reads_back c =
     let written = c.in_ok-members_of.ensures.written in
     both_ok c.to_vec.result _ _ _
     (λ bytes utf8 read named.
-    written_back names sorts c.args.s.now members bytes.items c.requires (json_of map bytes.items utf8 (written_depth names sorts s members written) read) written c.in_ok-members_of.ensures.inside named)
+    written_back names sorts c.args.s.now members bytes.items c.requires
+    (json_of map bytes.items utf8 (written_depth names sorts s members written) read) written c.in_ok-members_of.ensures.inside named)
     c.to_vec.ensures.utf8 c.to_vec.ensures.reads_back

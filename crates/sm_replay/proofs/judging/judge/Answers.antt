@@ -11,4 +11,5 @@ judged-requires-clause-sorted c = filled_sorted (parts_of c.args.task.now) c.arg
 
 pub returns-clause-violates : goal.returns-clause-violates
 returns-clause-violates c =
-    violates_exactly (task_of (parts_of c.args.task.now)) (meaning c.args.input.now) c.args.turns c.judged.result (c.judged.ensures c.requires.filled)
+    violates_exactly (task_of (parts_of c.args.task.now)) (meaning c.args.input.now) c.args.turns c.judged.result
+    (c.judged.ensures c.requires.filled)

@@ -16,7 +16,9 @@ use Rattle.sm_replay.proofs.RunsSound.{judged_ends, of_task, same_sorts}
 use Rattle.sm_replay.proofs.judging.judged_met.Goals as goal
 
 pub ends_of-requires : goal.ends_of-requires
-ends_of-requires c = sorted_runs (declared_of c.args.task.now.shared.decls) (sorts_of c.args.input.now) c.args.programs.now c.requires.sorted c.requires.declared
+ends_of-requires c =
+    sorted_runs (declared_of c.args.task.now.shared.decls)
+    (sorts_of c.args.input.now) c.args.programs.now c.requires.sorted c.requires.declared
 
 pub verdict_on-requires : goal.verdict_on-requires
 verdict_on-requires c = same_sorts c.in_ok-ends.ends (sorts_of c.args.input.now) c.in_ok-ends.ensures.sorts
@@ -26,7 +28,8 @@ returns c filled =
     let t = task_of (parts_of c.args.task.now) in
     let s = meaning c.args.input.now in
     let end = end_in c.in_ok-ends.ends in
-    let found = λ (sorts : Sorts) (outputs : List Name). Finds (sorted_by sorts (map (λ (x : Name). x.0) outputs)) end c.verdict_on.result in
+    let found =
+    λ (sorts : Sorts) (outputs : List Name). Finds (sorted_by sorts (map (λ (x : Name). x.0) outputs)) end c.verdict_on.result in
     judged_ends t s c.args.turns end c.requires.met
     (of_task (λ (p : Copy → Code). AreEnds p s c.args.turns end) t c.args.programs.now filled c.in_ok-ends.ensures.ends) c.verdict_on.result
     (subst (λ (sorts : Sorts). found sorts c.args.task.now.shared.outputs.list.items) (c.in_ok-ends.ensures.sorts O ∙ c.requires.declared)

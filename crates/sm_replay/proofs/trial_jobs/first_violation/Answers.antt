@@ -15,5 +15,6 @@ returns g c =
     let t = parts_of c.args.task.now in
     first_violates (task_of t) (sort_of t.declared) c.args.turns c.deref.result.now
     (subst (Answered (task_of t) (sort_of t.declared) c.args.turns) (sym c.deref.ensures.value)
-    (answered_where (AreFilled t c.args.programs.now) (task_of t) (sort_of t.declared) c.args.turns _ c.requires.filled c.in_ok-results.ensures))
+    (answered_where (AreFilled t c.args.programs.now) (task_of t)
+    (sort_of t.declared) c.args.turns _ c.requires.filled c.in_ok-results.ensures))
     c.first_found.result c.first_found.ensures.none c.first_found.ensures.some

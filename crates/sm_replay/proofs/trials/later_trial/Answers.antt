@@ -21,4 +21,5 @@ later_filled sorts (suc j) items i s later past f =
 
 pub returns-clause-value : goal.returns-clause-value
 returns-clause-value c =
-    later_filled (sort_of (declared_of c.args.task.now.shared.decls)) c.args.j c.deref-d-items.result.now c.loop-d.d-index (meaning c.loop-d.s) c.requires c.loop-d-test.false c.loop-d.invariant.filling
+    later_filled (sort_of (declared_of c.args.task.now.shared.decls)) c.args.j c.deref-d-items.result.now c.loop-d.d-index
+    (meaning c.loop-d.s) c.requires c.loop-d-test.false c.loop-d.invariant.filling

@@ -28,7 +28,9 @@ returns-else-z-eq0 c =
     let at : IsAt l c.args.i c.args.at = rw c.self.view_is c.requires in
     let fits_i = c.ranges.i in
     let fits_z = c.ranges.z in
-    rw c.put.ensures (simp to_z-of_z (set_is l c.self.invariant c.args.i c.args.at at c.args.z ∙ ap (λ (m : List (ℤ × ℤ)). with_element (listed m) c.args.i c.args.z) c.self.view_is))
+    rw c.put.ensures (simp to_z-of_z
+    (set_is l c.self.invariant c.args.i c.args.at at c.args.z ∙
+    ap (λ (m : List (ℤ × ℤ)). with_element (listed m) c.args.i c.args.z) c.self.view_is))
 
 pub invariant_of-self-else-z-eq0 : goal.invariant_of-self-else-z-eq0
 invariant_of-self-else-z-eq0 c =

@@ -12,4 +12,5 @@ returns c =
     let by_index = facts.position (λ pair. pair.0) (answers_always _ _ _ (λ f a r g called. search rules)) in
     let cells : AreCells c.as_slice.result.now = rw c.as_slice.ensures c.self.invariant in
     let fits = c.ranges.i in
-    rw (← c.self.view_is, ← c.as_slice.ensures) (searched c.as_slice.result.now cells.ascending c.args.i _ facts.bound (simp to_z-of_z at by_index))
+    rw (← c.self.view_is, ← c.as_slice.ensures)
+    (searched c.as_slice.result.now cells.ascending c.args.i _ facts.bound (simp to_z-of_z at by_index))

@@ -25,7 +25,8 @@ returns-clause-ok c =
     let stored = c.args.self.now.stored.items in
     let a = c.args.a.0 in
     let within = declared_within stored a _ c.requires in
-    let here : stored_value_of stored a ≡ Array c.in-Array.cells = get_or_default stored a Absent c.index_mut.result.now within ∙ sym c.index_mut.ensures.value ∙ c.in-Array.is in
+    let here : stored_value_of stored a ≡ Array c.in-Array.cells =
+    get_or_default stored a Absent c.index_mut.result.now within ∙ sym c.index_mut.ensures.value ∙ c.in-Array.is in
     let fits_i = c.ranges.i in
     let fits_z = c.ranges.z in
     on_ok_weaker c.set.result
