@@ -1,9 +1,10 @@
 //! What programs mean, when a merge is free of conflicts, and which text spells a task.
 //!
-//! Read `specs/claim/ConflictFree.antt` first: it states the claim. `specs/claim/Meaning.antt` says what a
-//! program does, `specs/claim/Keeps.antt` what a merge keeps at one cell. `specs/text/Spells.antt` ties a text
-//! to a task, by `specs/text/Tokens.antt`, `specs/text/Symbols.antt`, `specs/text/Grammar.antt` and
-//! `specs/text/Conditions.antt`.
+//! Read `specs/claim/ConflictFree.antt` first: it states the claim. `specs/claim/Meaning.antt` says
+//! what a program does, `specs/claim/Keeps.antt` what a merge keeps at one cell.
+//! `specs/text/Spells.antt` ties a text to a task, by `specs/text/Tokens.antt`,
+//! `specs/text/Symbols.antt`, the grammar from `specs/text/ExpressionGrammar.antt` up to
+//! `specs/text/TaskGrammar.antt`, and `specs/text/Conditions.antt`.
 #![tactic(auto)]
 
 mod cell;

@@ -2,7 +2,8 @@
 -- It says nothing of what the task means.
 use Rattle.std.specs.Prelude.{◌≡◌, ℕ, None, List, map}
 use Rattle.sm_syntax.specs.text.Conditions.{first_refusal}
-use Rattle.sm_syntax.specs.text.Grammar.{IsTask, plain}
+use Rattle.sm_syntax.specs.text.MarkedSymbols.{plain}
+use Rattle.sm_syntax.specs.text.TaskGrammar.{IsTask}
 use Rattle.sm_syntax.specs.text.Parts.{Parts}
 use Rattle.sm_syntax.specs.text.Symbols.{names_of, symbols_of}
 use Rattle.sm_syntax.specs.text.Tokens.{lexed}

@@ -8,8 +8,13 @@ use Rattle.sm_syntax.specs.declared.symbol.Symbol.TheVariants as s
 use Rattle.sm_syntax.specs.declared.tree.Name.{Name}
 use Rattle.sm_syntax.specs.claim.Syntax as plain_code
 use Rattle.sm_syntax.specs.claim.Syntax.{Expression, Condition, Code}
-use Rattle.sm_syntax.specs.text.Grammar as g
-use Rattle.sm_syntax.specs.text.Grammar.{Marked, plain, word, opens, IsExpression, IsCondition, IsHoleNumber, AreStatements, IsBlock}
+use Rattle.sm_syntax.specs.text.ExpressionGrammar as exp
+use Rattle.sm_syntax.specs.text.ConditionGrammar as cond
+use Rattle.sm_syntax.specs.text.StatementGrammar as stmt
+use Rattle.sm_syntax.specs.text.MarkedSymbols.{Marked, plain, word, opens}
+use Rattle.sm_syntax.specs.text.ExpressionGrammar.{IsExpression}
+use Rattle.sm_syntax.specs.text.ConditionGrammar.{IsCondition}
+use Rattle.sm_syntax.specs.text.StatementGrammar.{IsHoleNumber, AreStatements, IsBlock}
 use Rattle.sm_text.specs.declared.rules.reading.Fault.{Fault}
 use Rattle.sm_text.specs.rules.Parsers.{first, Parser, go_on, ◌>>=◌, ◌>>◌, pure, expect}
 use Rattle.sm_text.specs.parsing.Places.{unmarked}
@@ -66,11 +71,11 @@ module _ {U : Type 0} (n d : ℕ) (fits : d + n ≡ 64) (more : (Code → Code) 
   unfolding r.statement r.nothing expect
   skip_read us e = e
 
-  assign_read : {k : ℕ} (x : Name) {ts : List Marked} (us : List Marked) {e : Expression} → IsExpression g.Sum d k ts e → more (plain_code.Assign x.0 e) (unmarked us ++ z) ≡ reach us z a → go_on (r.statement n (r.block n) (s.Name x ∷ s.Mark mark.Becomes ∷ (unmarked (ts ++ word mark.Semicolon ∷ us) ++ z))) more ≡ reach (ts ++ word mark.Semicolon ∷ us) z a
+  assign_read : {k : ℕ} (x : Name) {ts : List Marked} (us : List Marked) {e : Expression} → IsExpression exp.Sum d k ts e → more (plain_code.Assign x.0 e) (unmarked us ++ z) ≡ reach us z a → go_on (r.statement n (r.block n) (s.Name x ∷ s.Mark mark.Becomes ∷ (unmarked (ts ++ word mark.Semicolon ∷ us) ++ z))) more ≡ reach (ts ++ word mark.Semicolon ∷ us) z a
   unfolding r.statement r.changed r.assignment expect
   assign_read x {ts = ts} us {e = e} p f = ended (r.expression n) mark.Semicolon (λ (v : Expression) (k : Code). plain_code.Assign x.0 v k) ts us e z more a (λ y. expression_read p n fits (s.Mark mark.Semicolon ∷ y) semicolon_ends) f
 
-  write_read : {j k : ℕ} (x : Name) {ts us : List Marked} (vs : List Marked) {i e : Expression} → IsExpression g.Sum (suc d) j ts i → IsExpression g.Sum d k us e → more (plain_code.Write x.0 i e) (unmarked vs ++ z) ≡ reach vs z a → go_on (r.statement n (r.block n) (s.Name x ∷ s.Mark mark.OpenSquare ∷ (unmarked (ts ++ word mark.CloseSquare ∷ word mark.Becomes ∷ (us ++ word mark.Semicolon ∷ vs)) ++ z))) more ≡ reach (opens mark.OpenSquare d ∷ (ts ++ word mark.CloseSquare ∷ word mark.Becomes ∷ (us ++ word mark.Semicolon ∷ vs))) z a
+  write_read : {j k : ℕ} (x : Name) {ts us : List Marked} (vs : List Marked) {i e : Expression} → IsExpression exp.Sum (suc d) j ts i → IsExpression exp.Sum d k us e → more (plain_code.Write x.0 i e) (unmarked vs ++ z) ≡ reach vs z a → go_on (r.statement n (r.block n) (s.Name x ∷ s.Mark mark.OpenSquare ∷ (unmarked (ts ++ word mark.CloseSquare ∷ word mark.Becomes ∷ (us ++ word mark.Semicolon ∷ vs)) ++ z))) more ≡ reach (opens mark.OpenSquare d ∷ (ts ++ word mark.CloseSquare ∷ word mark.Becomes ∷ (us ++ word mark.Semicolon ∷ vs))) z a
   unfolding r.statement r.changed r.write r.index expect
   write_read x {ts = ts} {us = us} vs {i = i} {e = e} p q f =
       go_on-go_on (r.index (r.inner_sum n) (s.Mark mark.OpenSquare ∷ (unmarked (ts ++ word mark.CloseSquare ∷ word mark.Becomes ∷ (us ++ word mark.Semicolon ∷ vs)) ++ z))) value more
@@ -84,7 +89,7 @@ module _ {U : Type 0} (n d : ℕ) (fits : d + n ≡ 64) (more : (Code → Code) 
   unfolding r.statement r.hole expect
   hole_read h inside us e = ap (λ (x : Result (ℕ × List Symbol) Fault). go_on (go_on x (λ (y : ℕ). expect mark.Semicolon >> pure (plain_code.Hole y))) more) (hole_number_found h inside (s.Mark mark.Semicolon ∷ (unmarked us ++ z))) ∙ e
 
-  branch_read : {k : ℕ} {ts : List Marked} (us vs ws : List Marked) {b : Condition} {c e : Code} → IsCondition g.Disjunction (suc d) k ts b → ReadsBlock n us c → ReadsBlock n vs e → more (plain_code.If b c e) (unmarked ws ++ z) ≡ reach ws z a → go_on (r.statement n (r.block n) (s.Mark mark.If ∷ s.Mark mark.OpenRound ∷ (unmarked (ts ++ word mark.CloseRound ∷ (us ++ word mark.Else ∷ (vs ++ ws))) ++ z))) more ≡ reach (opens mark.OpenRound d ∷ (ts ++ word mark.CloseRound ∷ (us ++ word mark.Else ∷ (vs ++ ws)))) z a
+  branch_read : {k : ℕ} {ts : List Marked} (us vs ws : List Marked) {b : Condition} {c e : Code} → IsCondition cond.Disjunction (suc d) k ts b → ReadsBlock n us c → ReadsBlock n vs e → more (plain_code.If b c e) (unmarked ws ++ z) ≡ reach ws z a → go_on (r.statement n (r.block n) (s.Mark mark.If ∷ s.Mark mark.OpenRound ∷ (unmarked (ts ++ word mark.CloseRound ∷ (us ++ word mark.Else ∷ (vs ++ ws))) ++ z))) more ≡ reach (opens mark.OpenRound d ∷ (ts ++ word mark.CloseRound ∷ (us ++ word mark.Else ∷ (vs ++ ws)))) z a
   unfolding r.statement r.branch r.guard expect
   branch_read {ts = ts} us vs ws {b = b} {c = c} {e = e} p one two f =
       go_on-go_on (r.guard n (s.Mark mark.OpenRound ∷ (unmarked (ts ++ word mark.CloseRound ∷ (us ++ word mark.Else ∷ (vs ++ ws))) ++ z))) blocks more
@@ -100,7 +105,7 @@ module _ {U : Type 0} (n d : ℕ) (fits : d + n ≡ 64) (more : (Code → Code) 
       blocks : Condition → Parser (Code → Code)
       blocks x = r.block n >>= no_block x
 
-  loop_read : {k : ℕ} {ts : List Marked} (us vs : List Marked) {b : Condition} {c : Code} → IsCondition g.Disjunction (suc d) k ts b → ReadsBlock n us c → more (plain_code.While b c) (unmarked vs ++ z) ≡ reach vs z a → go_on (r.statement n (r.block n) (s.Mark mark.While ∷ s.Mark mark.OpenRound ∷ (unmarked (ts ++ word mark.CloseRound ∷ (us ++ vs)) ++ z))) more ≡ reach (opens mark.OpenRound d ∷ (ts ++ word mark.CloseRound ∷ (us ++ vs))) z a
+  loop_read : {k : ℕ} {ts : List Marked} (us vs : List Marked) {b : Condition} {c : Code} → IsCondition cond.Disjunction (suc d) k ts b → ReadsBlock n us c → more (plain_code.While b c) (unmarked vs ++ z) ≡ reach vs z a → go_on (r.statement n (r.block n) (s.Mark mark.While ∷ s.Mark mark.OpenRound ∷ (unmarked (ts ++ word mark.CloseRound ∷ (us ++ vs)) ++ z))) more ≡ reach (opens mark.OpenRound d ∷ (ts ++ word mark.CloseRound ∷ (us ++ vs))) z a
   unfolding r.statement r.repeated r.guard
   loop_read {ts = ts} us vs {b = b} {c = c} p body f =
       go_on-go_on (r.guard n (s.Mark mark.OpenRound ∷ (unmarked (ts ++ word mark.CloseRound ∷ (us ++ vs)) ++ z))) block_of more
@@ -126,13 +131,13 @@ few n d fits = omega (arith, fits)
 
 mutual
   pub statements_read : {d : ℕ} {ts : List Marked} {c : Code} → AreStatements d ts c → (n : ℕ) → d + n ≡ 64 → ReadsStatements n ts c
-  statements_read (g.none d) n fits before z end = none_read n before z end
-  statements_read (g.skips {d = d} {us = us} {k = k} p) n fits before z end = turn n (few n d fits) before (s.Mark mark.Skip ∷ s.Mark mark.Semicolon ∷ (unmarked us ++ z)) (reach us z (Ok (before (plain_code.Skip k), z))) refl (skip_read n d fits (others n before) z (Ok (before (plain_code.Skip k), z)) us (statements_read p n fits (r.with_statement before plain_code.Skip) z end))
-  statements_read (g.assigns {d = d} {ts = ts} {us = us} {e = e} {k = k} x p q) n fits before z end = turn n (few n d fits) before (s.Name x ∷ s.Mark mark.Becomes ∷ (unmarked (ts ++ word mark.Semicolon ∷ us) ++ z)) (reach (ts ++ word mark.Semicolon ∷ us) z (Ok (before (plain_code.Assign x.0 e k), z))) refl (assign_read n d fits (others n before) z (Ok (before (plain_code.Assign x.0 e k), z)) x us p (statements_read q n fits (r.with_statement before (plain_code.Assign x.0 e)) z end))
-  statements_read (g.writes {d = d} {ts = ts} {us = us} {vs = vs} {i = i} {e = e} {k = k} x p q rest) n fits before z end = turn n (few n d fits) before (s.Name x ∷ s.Mark mark.OpenSquare ∷ (unmarked (ts ++ word mark.CloseSquare ∷ word mark.Becomes ∷ (us ++ word mark.Semicolon ∷ vs)) ++ z)) (reach (opens mark.OpenSquare d ∷ (ts ++ word mark.CloseSquare ∷ word mark.Becomes ∷ (us ++ word mark.Semicolon ∷ vs))) z (Ok (before (plain_code.Write x.0 i e k), z))) refl (write_read n d fits (others n before) z (Ok (before (plain_code.Write x.0 i e k), z)) x vs p q (statements_read rest n fits (r.with_statement before (plain_code.Write x.0 i e)) z end))
-  statements_read (g.branches {d = d} {ts = ts} {us = us} {vs = vs} {ws = ws} {b = b} {c = c} {e = e} {k = k} p one two rest) n fits before z end = turn n (few n d fits) before (s.Mark mark.If ∷ s.Mark mark.OpenRound ∷ (unmarked (ts ++ word mark.CloseRound ∷ (us ++ word mark.Else ∷ (vs ++ ws))) ++ z)) (reach (opens mark.OpenRound d ∷ (ts ++ word mark.CloseRound ∷ (us ++ word mark.Else ∷ (vs ++ ws)))) z (Ok (before (plain_code.If b c e k), z))) refl (branch_read n d fits (others n before) z (Ok (before (plain_code.If b c e k), z)) us vs ws p (block_read one n fits) (block_read two n fits) (statements_read rest n fits (r.with_statement before (plain_code.If b c e)) z end))
-  statements_read (g.loops {d = d} {ts = ts} {us = us} {vs = vs} {b = b} {c = c} {k = k} p body rest) n fits before z end = turn n (few n d fits) before (s.Mark mark.While ∷ s.Mark mark.OpenRound ∷ (unmarked (ts ++ word mark.CloseRound ∷ (us ++ vs)) ++ z)) (reach (opens mark.OpenRound d ∷ (ts ++ word mark.CloseRound ∷ (us ++ vs))) z (Ok (before (plain_code.While b c k), z))) refl (loop_read n d fits (others n before) z (Ok (before (plain_code.While b c k), z)) us vs p (block_read body n fits) (statements_read rest n fits (r.with_statement before (plain_code.While b c)) z end))
-  statements_read (g.holes {d = d} {us = us} {k = k} h inside p) n fits before z end = turn n (few n d fits) before (s.Mark mark.Question ∷ s.Number (pos h) ∷ s.Mark mark.Semicolon ∷ (unmarked us ++ z)) (reach us z (Ok (before (plain_code.Hole h k), z))) refl (hole_read n d fits (others n before) z (Ok (before (plain_code.Hole h k), z)) h inside us (statements_read p n fits (r.with_statement before (plain_code.Hole h)) z end))
+  statements_read (stmt.none d) n fits before z end = none_read n before z end
+  statements_read (stmt.skips {d = d} {us = us} {k = k} p) n fits before z end = turn n (few n d fits) before (s.Mark mark.Skip ∷ s.Mark mark.Semicolon ∷ (unmarked us ++ z)) (reach us z (Ok (before (plain_code.Skip k), z))) refl (skip_read n d fits (others n before) z (Ok (before (plain_code.Skip k), z)) us (statements_read p n fits (r.with_statement before plain_code.Skip) z end))
+  statements_read (stmt.assigns {d = d} {ts = ts} {us = us} {e = e} {k = k} x p q) n fits before z end = turn n (few n d fits) before (s.Name x ∷ s.Mark mark.Becomes ∷ (unmarked (ts ++ word mark.Semicolon ∷ us) ++ z)) (reach (ts ++ word mark.Semicolon ∷ us) z (Ok (before (plain_code.Assign x.0 e k), z))) refl (assign_read n d fits (others n before) z (Ok (before (plain_code.Assign x.0 e k), z)) x us p (statements_read q n fits (r.with_statement before (plain_code.Assign x.0 e)) z end))
+  statements_read (stmt.writes {d = d} {ts = ts} {us = us} {vs = vs} {i = i} {e = e} {k = k} x p q rest) n fits before z end = turn n (few n d fits) before (s.Name x ∷ s.Mark mark.OpenSquare ∷ (unmarked (ts ++ word mark.CloseSquare ∷ word mark.Becomes ∷ (us ++ word mark.Semicolon ∷ vs)) ++ z)) (reach (opens mark.OpenSquare d ∷ (ts ++ word mark.CloseSquare ∷ word mark.Becomes ∷ (us ++ word mark.Semicolon ∷ vs))) z (Ok (before (plain_code.Write x.0 i e k), z))) refl (write_read n d fits (others n before) z (Ok (before (plain_code.Write x.0 i e k), z)) x vs p q (statements_read rest n fits (r.with_statement before (plain_code.Write x.0 i e)) z end))
+  statements_read (stmt.branches {d = d} {ts = ts} {us = us} {vs = vs} {ws = ws} {b = b} {c = c} {e = e} {k = k} p one two rest) n fits before z end = turn n (few n d fits) before (s.Mark mark.If ∷ s.Mark mark.OpenRound ∷ (unmarked (ts ++ word mark.CloseRound ∷ (us ++ word mark.Else ∷ (vs ++ ws))) ++ z)) (reach (opens mark.OpenRound d ∷ (ts ++ word mark.CloseRound ∷ (us ++ word mark.Else ∷ (vs ++ ws)))) z (Ok (before (plain_code.If b c e k), z))) refl (branch_read n d fits (others n before) z (Ok (before (plain_code.If b c e k), z)) us vs ws p (block_read one n fits) (block_read two n fits) (statements_read rest n fits (r.with_statement before (plain_code.If b c e)) z end))
+  statements_read (stmt.loops {d = d} {ts = ts} {us = us} {vs = vs} {b = b} {c = c} {k = k} p body rest) n fits before z end = turn n (few n d fits) before (s.Mark mark.While ∷ s.Mark mark.OpenRound ∷ (unmarked (ts ++ word mark.CloseRound ∷ (us ++ vs)) ++ z)) (reach (opens mark.OpenRound d ∷ (ts ++ word mark.CloseRound ∷ (us ++ vs))) z (Ok (before (plain_code.While b c k), z))) refl (loop_read n d fits (others n before) z (Ok (before (plain_code.While b c k), z)) us vs p (block_read body n fits) (statements_read rest n fits (r.with_statement before (plain_code.While b c)) z end))
+  statements_read (stmt.holes {d = d} {us = us} {k = k} h inside p) n fits before z end = turn n (few n d fits) before (s.Mark mark.Question ∷ s.Number (pos h) ∷ s.Mark mark.Semicolon ∷ (unmarked us ++ z)) (reach us z (Ok (before (plain_code.Hole h k), z))) refl (hole_read n d fits (others n before) z (Ok (before (plain_code.Hole h k), z)) h inside us (statements_read p n fits (r.with_statement before (plain_code.Hole h)) z end))
 
   pub block_read : {d : ℕ} {ts : List Marked} {c : Code} → IsBlock d ts c → (n : ℕ) → d + n ≡ 64 → ReadsBlock n ts c
-  block_read (g.block {d = d} {ts = ts} {c = c} p) n fits = braces_read n d fits ts c (λ m f. statements_read p m f)
+  block_read (stmt.block {d = d} {ts = ts} {c = c} p) n fits = braces_read n d fits ts c (λ m f. statements_read p m f)

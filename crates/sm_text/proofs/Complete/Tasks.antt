@@ -13,8 +13,11 @@ use Rattle.sm_syntax.specs.claim.Syntax.{Condition, Code}
 use Rattle.sm_syntax.specs.claim.Fill.{Fillings}
 use Rattle.sm_syntax.specs.claim.ConflictFree as claim
 use Rattle.sm_syntax.specs.claim.ConflictFree.{Copy}
-use Rattle.sm_syntax.specs.text.Grammar as g
-use Rattle.sm_syntax.specs.text.Grammar.{Marked, plain, word, opens, declares, with_sort, AreNames, AreDeclarations, AreOutputs, IsAssumption, IsShared, AreFillings, IsList, IsTask}
+use Rattle.sm_syntax.specs.text.StatementGrammar as stmt
+use Rattle.sm_syntax.specs.text.TaskGrammar as task
+use Rattle.sm_syntax.specs.text.MarkedSymbols.{Marked, plain, word, opens}
+use Rattle.sm_syntax.specs.text.TaskGrammar.{declares, with_sort, AreNames, AreDeclarations, AreOutputs, IsAssumption, IsShared}
+use Rattle.sm_syntax.specs.text.TaskGrammar.{AreFillings, IsList, IsTask}
 use Rattle.sm_syntax.specs.text.Parts.{Parts, by_copy}
 use Rattle.sm_syntax.specs.text.Spells.{IsInGrammar}
 use Rattle.sm_syntax.specs.text.Symbols.{names_of, symbols_of}
@@ -41,8 +44,8 @@ unfolding r.next_name expect
 next_name_is ts = refl
 
 names_from : {ts : List Marked} {xs : List ℕ} → AreNames ts xs → (before : List ℕ) (z : List Symbol) → stands mark.Comma (first z) ≡ false → go_on (r.name (unmarked ts ++ z)) (λ (x : Name). r.more_names (r.with_name before x)) ≡ reach ts z (Ok (before ++ xs, z))
-names_from (g.last x) before z end = ap (λ (a : Result (Name × List Symbol) Fault). go_on a (λ (y : Name). r.more_names (r.with_name before y))) (name_found x z) ∙ more_names-end (r.with_name before x) z end
-names_from (g.more {ts = ts} {xs = xs} x p) before z end =
+names_from (task.last x) before z end = ap (λ (a : Result (Name × List Symbol) Fault). go_on a (λ (y : Name). r.more_names (r.with_name before y))) (name_found x z) ∙ more_names-end (r.with_name before x) z end
+names_from (task.more {ts = ts} {xs = xs} x p) before z end =
     ap (λ (a : Result (Name × List Symbol) Fault). go_on a (λ (y : Name). r.more_names (r.with_name before y))) (name_found x (s.Mark mark.Comma ∷ (unmarked ts ++ z)))
     ∙ name_step (r.with_name before x) (s.Mark mark.Comma ∷ (unmarked ts ++ z)) refl
     ∙ ap (λ (a : Result (Name × List Symbol) Fault). go_on a (λ (y : Name). r.more_names (r.with_name (r.with_name before x) y))) (next_name_is (unmarked ts ++ z))
@@ -79,8 +82,8 @@ declared-then sort {ts = ts} us p z more a e =
     ∙ names_to_end-then us p z (λ (l : List ℕ). more (with_sort sort l)) a e
 
 declarations_from : {ts : List Marked} {ds : List (ℕ × Sort)} → AreDeclarations ts ds → (before : List (ℕ × Sort)) (z : List Symbol) → r.begins_declaration (first z) ≡ false → r.more_declarations before (unmarked ts ++ z) ≡ reach ts z (Ok (before ++ ds, z))
-declarations_from g.none before z end = more_declarations-end before z end ∙ ap (λ (l : List (ℕ × Sort)). Ok (l, z)) (sym (append-nil before))
-declarations_from (g.more {ts = ts} {us = us} {xs = xs} {ds = ds} sort p q) before z end =
+declarations_from task.none before z end = more_declarations-end before z end ∙ ap (λ (l : List (ℕ × Sort)). Ok (l, z)) (sym (append-nil before))
+declarations_from (task.more {ts = ts} {us = us} {xs = xs} {ds = ds} sort p q) before z end =
     declaration_step before (s.Mark (declares sort) ∷ (unmarked (ts ++ word mark.Semicolon ∷ us) ++ z)) (declares_begins sort)
     ∙ ap (λ (a : Result (List (ℕ × Sort) × List Symbol) Fault). go_on a (λ (x : List (ℕ × Sort)). r.more_declarations (before ++ x))) (declaration_is sort (unmarked (ts ++ word mark.Semicolon ∷ us) ++ z))
     ∙ declared-then sort us p z (λ (x : List (ℕ × Sort)). r.more_declarations (before ++ x)) (Ok (before ++ (with_sort sort xs ++ ds), z))
@@ -94,38 +97,38 @@ declarations_read p z end = declarations_from p [] z end
 -- the outputs are read
 pub outputs_read : {ts : List Marked} {xs : List ℕ} → AreOutputs ts xs → (z : List Symbol) → r.outputs (unmarked ts ++ z) ≡ reach ts z (Ok (xs, z))
 unfolding r.outputs expect
-outputs_read (g.outputs {ts = ts} {xs = xs} p) z = sym (go_on-pure (r.names_to_end (unmarked (ts ++ word mark.Semicolon ∷ []) ++ z))) ∙ names_to_end-then [] p z pure (Ok (xs, z)) refl
+outputs_read (task.outputs {ts = ts} {xs = xs} p) z = sym (go_on-pure (r.names_to_end (unmarked (ts ++ word mark.Semicolon ∷ []) ++ z))) ∙ names_to_end-then [] p z pure (Ok (xs, z)) refl
 
 pub outputs_begin : {ts : List Marked} {xs : List ℕ} → AreOutputs ts xs → (us : List Marked) (z : List Symbol) → r.begins_declaration (first (unmarked (ts ++ us) ++ z)) ≡ false
-outputs_begin (g.outputs p) us z = refl
+outputs_begin (task.outputs p) us z = refl
 
 -- what is assumed is read
 assumption_read : {ts : List Marked} {b : Option Condition} → IsAssumption ts b → (z : List Symbol) → stands mark.Assume (first z) ≡ false → r.assumed (unmarked ts ++ z) ≡ reach ts z (Ok (b, z))
 unfolding r.assumed r.assumption_line r.group_limit
-assumption_read g.none z end = ap (λ (b : Bool). r.assumed_by b z) end
-assumption_read (g.assumes {ts = ts} {b = b} p) z end =
+assumption_read task.none z end = ap (λ (b : Bool). r.assumed_by b z) end
+assumption_read (task.assumes {ts = ts} {b = b} p) z end =
     sym (go_on-pure (r.assumption_line (unmarked (ts ++ word mark.Semicolon ∷ []) ++ z)))
     ∙ ended (r.condition 64) mark.Semicolon (λ (c : Condition). Some c) ts [] b z pure (Ok (Some b, z)) (λ y. condition_read p 64 refl (s.Mark mark.Semicolon ∷ y) (record { value = record { square = refl; product = refl; sum = refl }; conjunction = refl; disjunction = refl })) refl
 
 -- the shared block is read
 pub shared_read : {ts : List Marked} {c : Code} → IsShared ts c → (z : List Symbol) → r.shared (unmarked ts ++ z) ≡ reach ts z (Ok (c, z))
 unfolding r.shared r.group_limit expect
-shared_read (g.shared p) z = block_read p 64 refl z
+shared_read (task.shared p) z = block_read p 64 refl z
 
 shared_begins : {ts : List Marked} {c : Code} → IsShared ts c → (us : List Marked) (z : List Symbol) → stands mark.Assume (first (unmarked (ts ++ us) ++ z)) ≡ false
-shared_begins (g.shared p) us z = refl
+shared_begins (task.shared p) us z = refl
 
 filling_step : (before : Fillings) (ts : List Symbol) → stands mark.Question (first ts) ≡ true → r.more_fillings before ts ≡ go_on (r.hole_filling ts) (λ (f : ℕ × Code). r.more_fillings (r.with_filling before f))
 unfolding r.more_fillings
 filling_step before ts b = gather-step (stands mark.Question) r.hole_filling r.with_filling filling-shorter before ts b
 
-filling_is : (h : ℕ) → g.IsHoleNumber h → (ts : List Symbol) → r.hole_filling (s.Mark mark.Question ∷ s.Number (pos h) ∷ ts) ≡ go_on (r.block 63 ts) (λ (c : Code). pure (h, c))
+filling_is : (h : ℕ) → stmt.IsHoleNumber h → (ts : List Symbol) → r.hole_filling (s.Mark mark.Question ∷ s.Number (pos h) ∷ ts) ≡ go_on (r.block 63 ts) (λ (c : Code). pure (h, c))
 unfolding r.hole_filling r.list_limit expect
 filling_is h inside ts = ap (λ (a : Result (ℕ × List Symbol) Fault). go_on a (λ (n : ℕ). r.block 63 >>= λ (c : Code). pure (n, c))) (hole_number_found h inside ts)
 
 fillings_from : {ts : List Marked} {fs : Fillings} → AreFillings ts fs → (before : Fillings) (z : List Symbol) → stands mark.Question (first z) ≡ false → r.more_fillings before (unmarked ts ++ z) ≡ reach ts z (Ok (before ++ fs, z))
-fillings_from g.none before z end = more_fillings-end before z end ∙ ap (λ (l : Fillings). Ok (l, z)) (sym (append-nil before))
-fillings_from (g.more {ts = ts} {us = us} {c = c} {fs = fs} h inside p q) before z end =
+fillings_from task.none before z end = more_fillings-end before z end ∙ ap (λ (l : Fillings). Ok (l, z)) (sym (append-nil before))
+fillings_from (task.more {ts = ts} {us = us} {c = c} {fs = fs} h inside p q) before z end =
     filling_step before (s.Mark mark.Question ∷ s.Number (pos h) ∷ (unmarked (ts ++ us) ++ z)) refl
     ∙ ap (λ (a : Result ((ℕ × Code) × List Symbol) Fault). go_on a (λ (f : ℕ × Code). r.more_fillings (r.with_filling before f))) (filling_is h inside (unmarked (ts ++ us) ++ z))
     ∙ bind-then (r.block 63) ts us z c (λ (x : Code). pure (h, x)) (λ (f : ℕ × Code). r.more_fillings (r.with_filling before f)) (Ok (before ++ (h, c) ∷ fs, z)) (block_read p 63 refl (unmarked us ++ z))
@@ -139,7 +142,7 @@ fillings_read p z end = fillings_from p [] z end
 -- the list of a copy is read
 list_read : {m : Mark} {ts : List Marked} {fs : Fillings} → IsList m ts fs → (z : List Symbol) → r.list m (unmarked ts ++ z) ≡ reach ts z (Ok (fs, z))
 unfolding r.list
-list_read (g.list {ts = ts} {fs = fs} m p) z =
+list_read (task.list {ts = ts} {fs = fs} m p) z =
     expect-then m (s.Mark mark.OpenCurly ∷ (unmarked (ts ++ word mark.CloseCurly ∷ []) ++ z)) (λ (u : Unit {0}). expect mark.OpenCurly >> inner)
     ∙ expect-then mark.OpenCurly (unmarked (ts ++ word mark.CloseCurly ∷ []) ++ z) (λ (u : Unit {0}). inner)
     ∙ sym (go_on-pure (inner (unmarked (ts ++ word mark.CloseCurly ∷ []) ++ z)))
@@ -200,7 +203,7 @@ lists-then t {os = os} {xs = xs} {ys = ys} {ms = ms} base variant_a variant_b ca
 -- a task is read
 pub task_read : {ts : List Marked} {t : Parts} → IsTask ts t → (z : List Symbol) → r.task (unmarked ts ++ z) ≡ reach ts z (Ok ((front_of t, listed t), z))
 unfolding r.task
-task_read (g.task {o = os} {a = xs} {b = ys} {m = ms} t declared named assumed code base variant_a variant_b candidate) z =
+task_read (task.task {o = os} {a = xs} {b = ys} {m = ms} t declared named assumed code base variant_a variant_b candidate) z =
     head-then t (os ++ (xs ++ (ys ++ ms))) declared named assumed code z (λ (front : r.TaskFront). r.lists >>= λ (fs : Copy → Fillings). pure (front, fs)) (Ok ((front_of t, listed t), z))
     (lists-then t base variant_a variant_b candidate z (λ (fs : Copy → Fillings). pure (front_of t, fs)))
 

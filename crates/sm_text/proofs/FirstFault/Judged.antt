@@ -4,7 +4,7 @@ use Rattle.std.proofs.lemmas.List.{append-nil}
 use Rattle.sm_syntax.specs.declared.symbol.Symbol.{Symbol}
 use Rattle.sm_syntax.specs.claim.ConflictFree.{Copy}
 use Rattle.sm_syntax.specs.claim.Fill.{Fillings}
-use Rattle.sm_syntax.specs.text.Grammar.{Marked, plain}
+use Rattle.sm_syntax.specs.text.MarkedSymbols.{Marked, plain}
 use Rattle.sm_text.specs.parsing.Places.{AreTasks, ArePrograms, IsViable}
 use Rattle.sm_text.specs.parsing.Program as p
 use Rattle.sm_text.specs.parsing.Program.{ProgramBody, program_from}

@@ -16,8 +16,10 @@ use Rattle.sm_syntax.specs.declared.tree.Sort.{Sort}
 use Rattle.sm_syntax.specs.text.Conditions.{Refusal, DoubleName, is_in, first_repeated, first_refusal, ill_formed, program_fault, double_name, first_of_all, double_hole, hole_in_filling, unknown_hole, missing_filling, ill_assumed}
 use Rattle.sm_syntax.specs.claim.ConflictFree.{Copy, O, A, B, M}
 use Rattle.sm_syntax.specs.claim.Fill.{fill}
-use Rattle.sm_syntax.specs.text.Grammar as g
-use Rattle.sm_syntax.specs.text.Grammar.{Marked, plain, AreNames, AreDeclarations, IsTask, with_sort}
+use Rattle.sm_syntax.specs.text.MarkedSymbols as g
+use Rattle.sm_syntax.specs.text.TaskGrammar as task
+use Rattle.sm_syntax.specs.text.MarkedSymbols.{Marked, plain}
+use Rattle.sm_syntax.specs.text.TaskGrammar.{AreNames, AreDeclarations, IsTask, with_sort}
 use Rattle.sm_syntax.specs.text.Parts.{Parts}
 use Rattle.sm_syntax.specs.text.Symbols.{text_of, is_among, with_text, names_after, mark_or, symbol_by, symbol_of, symbols_among, names_among, symbols_of}
 use Rattle.sm_syntax.specs.text.Tokens.{mark_of_word, mark_of_sign, lexed}
@@ -137,7 +139,7 @@ abbrev names_of_all : List (ℕ × Sort) → List ℕ
 names_of_all ds = map (λ (d : ℕ × Sort). d.0) ds
 
 listed : {ts : List Marked} {xs : List ℕ} → AreNames ts xs → marked_numbers ts ≡ xs
-listed (g.last x) = refl
+listed (task.last x) = refl
 listed (AreNames.more x rest) = ap (λ (l : List ℕ). x.0 ∷ l) (listed rest)
 
 with_sort-names : (sort : Sort) (xs : List ℕ) (ds : List (ℕ × Sort)) → names_of_all (with_sort sort xs ++ ds) ≡ xs ++ names_of_all ds
@@ -151,7 +153,7 @@ declared_numbers (AreDeclarations.more {ts = ts} {us = us} {xs = xs} {ds = ds} s
 
 -- the declared names are the first of a task
 declared_first : {ts : List Marked} {t : Parts} → IsTask ts t → (more : List ℕ) × (marked_numbers ts ≡ names_of_all t.declared ++ more)
-declared_first (g.task {ts = ts} {us = us} {vs = vs} {ws = ws} {o = o} {a = a} {b = b} {m = m} t declared named assumed code base variant_a variant_b candidate) =
+declared_first (task.task {ts = ts} {us = us} {vs = vs} {ws = ws} {o = o} {a = a} {b = b} {m = m} t declared named assumed code base variant_a variant_b candidate) =
     let others = us ++ (vs ++ (ws ++ (o ++ (a ++ (b ++ m))))) in
     (marked_numbers others, numbers-append ts others ∙ ap (λ (l : List ℕ). l ++ marked_numbers others) (declared_numbers declared))
 

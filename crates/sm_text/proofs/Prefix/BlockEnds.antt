@@ -18,8 +18,13 @@ use Rattle.sm_syntax.specs.declared.token.TokenKind.TheVariants.{Word, Number, S
 use Rattle.sm_syntax.specs.declared.tree.Cmp.{Cmp}
 use Rattle.sm_syntax.specs.declared.tree.Name.{Name}
 use Rattle.sm_syntax.specs.declared.tree.Cmp.TheVariants.{Eq, Ne, Lt, Le, Gt, Ge}
-use Rattle.sm_syntax.specs.text.Grammar as g
-use Rattle.sm_syntax.specs.text.Grammar.{Marked, plain, word, opens, Level, IsExpression, Rank, IsCondition, AreStatements, IsBlock}
+use Rattle.sm_syntax.specs.text.ExpressionGrammar as exp
+use Rattle.sm_syntax.specs.text.ConditionGrammar as cond
+use Rattle.sm_syntax.specs.text.StatementGrammar as stmt
+use Rattle.sm_syntax.specs.text.MarkedSymbols.{Marked, plain, word, opens}
+use Rattle.sm_syntax.specs.text.ExpressionGrammar.{Level, IsExpression}
+use Rattle.sm_syntax.specs.text.ConditionGrammar.{Rank, IsCondition}
+use Rattle.sm_syntax.specs.text.StatementGrammar.{AreStatements, IsBlock}
 use Rattle.sm_syntax.specs.text.Symbols.{text_of, mark_or, symbol_by, symbol_of, names_after}
 use Rattle.sm_syntax.specs.claim.Syntax.{Expression, Condition, Code}
 use Rattle.sm_syntax.specs.text.Tokens.{Table, entry, mark_of_word, mark_of_sign, reserved_words}
@@ -83,7 +88,7 @@ one t us opening closing more = record {
 both : (us vs : List Marked) → IsBalanced us → IsBalanced vs → IsBalanced (us ++ vs)
 both us vs first second = record { passes = λ n z. ap (behind (suc n)) (append_assoc us vs z) ∙ first.passes n (vs ++ z) ∙ second.passes n z }
 
-comparison_opens : (op : Cmp) → begins_block (s.Mark (g.comparison op)) ≡ false
+comparison_opens : (op : Cmp) → begins_block (s.Mark (cond.comparison op)) ≡ false
 comparison_opens Eq = refl
 comparison_opens Ne = refl
 comparison_opens Lt = refl
@@ -91,7 +96,7 @@ comparison_opens Le = refl
 comparison_opens Gt = refl
 comparison_opens Ge = refl
 
-comparison_closes : (op : Cmp) → ends_block (s.Mark (g.comparison op)) ≡ false
+comparison_closes : (op : Cmp) → ends_block (s.Mark (cond.comparison op)) ≡ false
 comparison_closes Eq = refl
 comparison_closes Ne = refl
 comparison_closes Lt = refl
@@ -100,29 +105,29 @@ comparison_closes Gt = refl
 comparison_closes Ge = refl
 
 expression_balanced : {l : Level} {d k : ℕ} {ts : List Marked} {e : Expression} → IsExpression l d k ts e → IsBalanced ts
-expression_balanced (g.number d z) = one _ _ refl refl nothing
-expression_balanced (g.variable d x) = one _ _ refl refl nothing
-expression_balanced (g.element {ts = ts} a inner) = one _ _ refl refl (one _ _ refl refl (both ts _ (expression_balanced inner) (one _ _ refl refl nothing)))
+expression_balanced (exp.number d z) = one _ _ refl refl nothing
+expression_balanced (exp.variable d x) = one _ _ refl refl nothing
+expression_balanced (exp.element {ts = ts} a inner) = one _ _ refl refl (one _ _ refl refl (both ts _ (expression_balanced inner) (one _ _ refl refl nothing)))
 expression_balanced (IsExpression.group {ts = ts} inner) = one _ _ refl refl (both ts _ (expression_balanced inner) (one _ _ refl refl nothing))
-expression_balanced (g.negative inner) = one _ _ refl refl (expression_balanced inner)
-expression_balanced (g.as_unary inner) = expression_balanced inner
-expression_balanced (g.as_product inner) = expression_balanced inner
-expression_balanced (g.times {ts = ts} left right) = both ts _ (expression_balanced left) (one _ _ refl refl (expression_balanced right))
-expression_balanced (g.as_sum inner) = expression_balanced inner
-expression_balanced (g.plus {ts = ts} left right) = both ts _ (expression_balanced left) (one _ _ refl refl (expression_balanced right))
-expression_balanced (g.minus {ts = ts} left right) = both ts _ (expression_balanced left) (one _ _ refl refl (expression_balanced right))
+expression_balanced (exp.negative inner) = one _ _ refl refl (expression_balanced inner)
+expression_balanced (exp.as_unary inner) = expression_balanced inner
+expression_balanced (exp.as_product inner) = expression_balanced inner
+expression_balanced (exp.times {ts = ts} left right) = both ts _ (expression_balanced left) (one _ _ refl refl (expression_balanced right))
+expression_balanced (exp.as_sum inner) = expression_balanced inner
+expression_balanced (exp.plus {ts = ts} left right) = both ts _ (expression_balanced left) (one _ _ refl refl (expression_balanced right))
+expression_balanced (exp.minus {ts = ts} left right) = both ts _ (expression_balanced left) (one _ _ refl refl (expression_balanced right))
 
 condition_balanced : {r : Rank} {d k : ℕ} {ts : List Marked} {b : Condition} → IsCondition r d k ts b → IsBalanced ts
-condition_balanced (g.always d) = one _ _ refl refl nothing
-condition_balanced (g.never d) = one _ _ refl refl nothing
-condition_balanced (g.compares {ts = ts} op left right) = both ts _ (expression_balanced left) (one _ _ (comparison_opens op) (comparison_closes op) (expression_balanced right))
+condition_balanced (cond.always d) = one _ _ refl refl nothing
+condition_balanced (cond.never d) = one _ _ refl refl nothing
+condition_balanced (cond.compares {ts = ts} op left right) = both ts _ (expression_balanced left) (one _ _ (comparison_opens op) (comparison_closes op) (expression_balanced right))
 condition_balanced (IsCondition.group {ts = ts} inner) = one _ _ refl refl (both ts _ (condition_balanced inner) (one _ _ refl refl nothing))
-condition_balanced (g.denied inner) = one _ _ refl refl (condition_balanced inner)
-condition_balanced (g.as_literal inner) = condition_balanced inner
-condition_balanced (g.as_conjunction inner) = condition_balanced inner
+condition_balanced (cond.denied inner) = one _ _ refl refl (condition_balanced inner)
+condition_balanced (cond.as_literal inner) = condition_balanced inner
+condition_balanced (cond.as_conjunction inner) = condition_balanced inner
 condition_balanced (IsCondition.both {ts = ts} left right) = both ts _ (condition_balanced left) (one _ _ refl refl (condition_balanced right))
-condition_balanced (g.as_disjunction inner) = condition_balanced inner
-condition_balanced (g.either {ts = ts} left right) = both ts _ (condition_balanced left) (one _ _ refl refl (condition_balanced right))
+condition_balanced (cond.as_disjunction inner) = condition_balanced inner
+condition_balanced (cond.either {ts = ts} left right) = both ts _ (condition_balanced left) (one _ _ refl refl (condition_balanced right))
 
 -- the braces of a block stand round what is balanced
 braced : (d : ℕ) (ts : List Marked) → IsBalanced ts → (n : ℕ) (z : List Marked) → behind n ((opens mark.OpenCurly d ∷ (ts ++ word mark.CloseCurly ∷ [])) ++ z) ≡ stop_at n z (behind n z)
@@ -130,23 +135,23 @@ braced d ts inner n z = ap (behind (suc n)) (append_assoc ts (word mark.CloseCur
 
 mutual
   statements_balanced : {d : ℕ} {ts : List Marked} {c : Code} → AreStatements d ts c → IsBalanced ts
-  statements_balanced (g.none d) = nothing
-  statements_balanced (g.skips more) = one _ _ refl refl (one _ _ refl refl (statements_balanced more))
-  statements_balanced (g.assigns {ts = ts} x value more) = one _ _ refl refl (one _ _ refl refl (both ts _ (expression_balanced value) (one _ _ refl refl (statements_balanced more))))
-  statements_balanced (g.writes {ts = ts} {us = us} a index value more) =
+  statements_balanced (stmt.none d) = nothing
+  statements_balanced (stmt.skips more) = one _ _ refl refl (one _ _ refl refl (statements_balanced more))
+  statements_balanced (stmt.assigns {ts = ts} x value more) = one _ _ refl refl (one _ _ refl refl (both ts _ (expression_balanced value) (one _ _ refl refl (statements_balanced more))))
+  statements_balanced (stmt.writes {ts = ts} {us = us} a index value more) =
       one _ _ refl refl (one _ _ refl refl (both ts _ (expression_balanced index) (one _ _ refl refl (one _ _ refl refl (both us _ (expression_balanced value) (one _ _ refl refl (statements_balanced more)))))))
-  statements_balanced (g.branches {ts = ts} {us = us} {vs = vs} test first second more) =
+  statements_balanced (stmt.branches {ts = ts} {us = us} {vs = vs} test first second more) =
       one _ _ refl refl (one _ _ refl refl (both ts _ (condition_balanced test) (one _ _ refl refl (both us _ (block_balanced first) (one _ _ refl refl (both vs _ (block_balanced second) (statements_balanced more)))))))
-  statements_balanced (g.loops {ts = ts} {us = us} test body more) =
+  statements_balanced (stmt.loops {ts = ts} {us = us} test body more) =
       one _ _ refl refl (one _ _ refl refl (both ts _ (condition_balanced test) (one _ _ refl refl (both us _ (block_balanced body) (statements_balanced more)))))
-  statements_balanced (g.holes h fits more) = one _ _ refl refl (one _ _ refl refl (one _ _ refl refl (statements_balanced more)))
+  statements_balanced (stmt.holes h fits more) = one _ _ refl refl (one _ _ refl refl (one _ _ refl refl (statements_balanced more)))
 
   block_balanced : {d : ℕ} {ts : List Marked} {c : Code} → IsBlock d ts c → IsBalanced ts
-  block_balanced (g.block {d = d} {ts = ts} inner) = record { passes = λ n z. braced d ts (statements_balanced inner) (suc n) z }
+  block_balanced (stmt.block {d = d} {ts = ts} inner) = record { passes = λ n z. braced d ts (statements_balanced inner) (suc n) z }
 
 -- a block ends at the brace that closes its first
 block_ends : {d : ℕ} {ts : List Marked} {c : Code} → IsBlock d ts c → (z : List Marked) → behind 0 (ts ++ z) ≡ Some z
-block_ends (g.block {d = d} {ts = ts} inner) z = braced d ts (statements_balanced inner) 0 z
+block_ends (stmt.block {d = d} {ts = ts} inner) z = braced d ts (statements_balanced inner) 0 z
 
 -- no text of a table is this mark
 abbrev AllBut : Mark → Table → Type 0

@@ -7,8 +7,9 @@ use Rattle.sm_syntax.specs.declared.symbol.Mark.TheVariants as mark
 use Rattle.sm_syntax.specs.declared.symbol.Symbol.{Symbol}
 use Rattle.sm_syntax.specs.declared.symbol.Symbol.TheVariants as s
 use Rattle.sm_syntax.specs.claim.ConflictFree.{Copy}
-use Rattle.sm_syntax.specs.text.Grammar as g
-use Rattle.sm_syntax.specs.text.Grammar.{Marked, plain, word, IsBlock}
+use Rattle.sm_syntax.specs.text.StatementGrammar as stmt
+use Rattle.sm_syntax.specs.text.MarkedSymbols.{Marked, plain, word}
+use Rattle.sm_syntax.specs.text.StatementGrammar.{IsBlock}
 use Rattle.sm_syntax.specs.text.Parts.{Parts}
 use Rattle.sm_syntax.specs.text.Symbols.{names_after}
 use Rattle.sm_syntax.specs.claim.Syntax as plain_code
@@ -70,7 +71,7 @@ groups_left d = 64 - d
 -- where all groups are open, a block is refused at its brace
 full_told : (d : ℕ) → nat_le 64 d ≡ true → Describes (r.block 0) (IsBlock d)
 unfolding r.block r.inner_block
-full_told d e = braced_told d (r.inner_block 0) (record { list = []; value = plain_code.End; fits = g.none (suc d) }, e)
+full_told d e = braced_told d (r.inner_block 0) (record { list = []; value = plain_code.End; fits = stmt.none (suc d) }, e)
 
 -- a block is described whatever number of groups is open
 pub any_block_told : (d : ℕ) → Describes (r.block (groups_left d)) (IsBlock d)
@@ -86,7 +87,7 @@ any_block_told d = by (nat_le 64 d) refl
 -- where all groups are open, the grammar's block is refused there too
 full_read : {d : ℕ} {us : List Marked} {c : Code} → IsBlock d us c → nat_le 64 d ≡ true → (z : List Symbol) → r.block 0 (unmarked us ++ z) ≡ reach us z (Ok (c, z))
 unfolding r.block r.braced r.inner_block
-full_read (g.block {d = d} {ts = ts} {c = c} p) deep z =
+full_read (stmt.block {d = d} {ts = ts} {c = c} p) deep z =
     grouped-inside mark.OpenCurly mark.CloseCurly (r.inner_block 0) (unmarked (ts ++ word mark.CloseCurly ∷ []) ++ z)
     ∙ ap (λ (b : Bool). past b (s.Mark mark.OpenCurly ∷ (unmarked (ts ++ word mark.CloseCurly ∷ []) ++ z)) (reach (ts ++ word mark.CloseCurly ∷ []) z (Ok (c, z)))) (sym deep)
 

@@ -3,7 +3,8 @@ use Rattle.std.proofs.Common.{◌≡◌, ℕ, ◌+◌, ◌-◌, ◌≤◌, refl,
 use Rattle.std.proofs.lemmas.List.{length-map, length-drop, length-take-le, take-take}
 use Rattle.sm_syntax.specs.declared.symbol.Symbol.{Symbol}
 use Rattle.sm_syntax.specs.declared.token.Token.{Token}
-use Rattle.sm_syntax.specs.text.Grammar.{Marked, IsBlock}
+use Rattle.sm_syntax.specs.text.MarkedSymbols.{Marked}
+use Rattle.sm_syntax.specs.text.StatementGrammar.{IsBlock}
 use Rattle.sm_syntax.specs.text.Symbols.{symbol_of, names_after}
 use Rattle.sm_syntax.specs.claim.Syntax.{Code}
 use Rattle.sm_syntax.specs.text.Tokens.{lexed}

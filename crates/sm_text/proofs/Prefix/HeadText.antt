@@ -7,7 +7,7 @@ use Rattle.sm_syntax.specs.declared.symbol.Symbol.{Symbol}
 use Rattle.sm_syntax.specs.declared.symbol.Symbol.TheVariants as s
 use Rattle.sm_syntax.specs.declared.tree.Sort.{Sort}
 use Rattle.sm_syntax.specs.text.Uses.{names_in, names_tested}
-use Rattle.sm_syntax.specs.text.Grammar.{Marked, plain}
+use Rattle.sm_syntax.specs.text.MarkedSymbols.{Marked, plain}
 use Rattle.sm_syntax.specs.text.Parts.{sort_of}
 use Rattle.sm_syntax.specs.text.Symbols.{is_among, with_text, symbol_of}
 use Rattle.sm_syntax.specs.claim.Syntax.{Expression, Lit, Var, Read, Neg, Plus, Minus, Times, Condition, Yes, No, Compare, Not, And, Or}

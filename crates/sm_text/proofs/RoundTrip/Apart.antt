@@ -12,7 +12,7 @@ use Rattle.sm_syntax.specs.declared.symbol.Symbol.{Symbol}
 use Rattle.sm_syntax.specs.declared.symbol.Symbol.TheVariants as s
 use Rattle.sm_syntax.specs.declared.tree.Cmp.{Cmp}
 use Rattle.sm_syntax.specs.declared.tree.Cmp.TheVariants.{Eq, Ne, Lt, Le, Gt, Ge}
-use Rattle.sm_syntax.specs.text.Grammar.{comparison}
+use Rattle.sm_syntax.specs.text.ConditionGrammar.{comparison}
 use Rattle.sm_syntax.specs.claim.Syntax.{Expression, Lit, Var, Read, Neg, Plus, Minus, Times, Condition, Yes, No, Compare, Not, And, Or}
 use Rattle.sm_syntax.specs.text.Tokens.{is_word_start, is_word_byte}
 use Rattle.sm_text.specs.printing.Pieces.{Piece, pieces_text, mark_piece, number_piece, name_piece, space}

@@ -6,8 +6,14 @@ use Rattle.sm_syntax.specs.declared.symbol.Mark.TheVariants as mark
 use Rattle.sm_syntax.specs.declared.symbol.Symbol.TheVariants as s
 use Rattle.sm_syntax.specs.claim.Syntax.{Expression, Lit, Var, Read, Neg, Plus, Minus, Times, Condition, Yes, No, Compare, Not, And, Or, Code, End, Skip, Assign, Write, If, While, Hole}
 use Rattle.sm_syntax.specs.text.Conditions.{expression_depth, condition_depth}
-use Rattle.sm_syntax.specs.text.Grammar as g
-use Rattle.sm_syntax.specs.text.Grammar.{Marked, plain, opens, joins, Atom, Unary, Product, Sum, IsExpression, comparison, Test, Literal, Conjunction, Disjunction, IsCondition, IsHoleNumber, AreStatements, IsBlock}
+use Rattle.sm_syntax.specs.text.MarkedSymbols as g
+use Rattle.sm_syntax.specs.text.ExpressionGrammar as exp
+use Rattle.sm_syntax.specs.text.ConditionGrammar as cond
+use Rattle.sm_syntax.specs.text.StatementGrammar as stmt
+use Rattle.sm_syntax.specs.text.MarkedSymbols.{Marked, plain, opens, joins}
+use Rattle.sm_syntax.specs.text.ExpressionGrammar.{Atom, Unary, Product, Sum, IsExpression}
+use Rattle.sm_syntax.specs.text.ConditionGrammar.{comparison, Test, Literal, Conjunction, Disjunction, IsCondition}
+use Rattle.sm_syntax.specs.text.StatementGrammar.{IsHoleNumber, AreStatements, IsBlock}
 use Rattle.sm_text.specs.printing.Pieces.{Piece, Token, Gap, symbols_in, mark_piece, name_piece, space, line_end, deeper, line}
 use Rattle.sm_text.specs.printing.Canonical.{between, is_atom, operand, element_pieces, expression_pieces, is_test, part, condition_pieces, braces, branches, guard_pieces, code_pieces}
 
@@ -82,10 +88,10 @@ pub record IsShown (d : ℕ) (e : Expression) : Type 0 where
   pub atom : is_atom e ≡ true → IsExpression Atom d 0 (marked (expression_pieces e)) e
 
 as_sum : {d : ℕ} {ts : List Marked} {e : Expression} → IsExpression Atom d 0 ts e → IsExpression Sum d 0 ts e
-as_sum i = g.as_sum (g.as_product (g.as_unary i))
+as_sum i = exp.as_sum (exp.as_product (exp.as_unary i))
 
 as_product : {d : ℕ} {ts : List Marked} {e : Expression} → IsExpression Atom d 0 ts e → IsExpression Product d 0 ts e
-as_product i = g.as_product (g.as_unary i)
+as_product i = exp.as_product (exp.as_unary i)
 
 -- an operand
 operand_shown : (b : Bool) (e : Expression) (d : ℕ) → is_atom e ≡ b → 1 + d + expression_depth e ≤ 66 → d + reads e ≤ 64 → ((j : ℕ) → Fits j e → IsShown j e) →
@@ -95,30 +101,30 @@ operand_shown false e d is depth read shows =
     let deep = reads-compound e is in
     let F : List Marked → Type 0 = λ l. IsExpression Atom d 0 l e in
     let inner = shows (suc d) (record { depth = omega arith; reads = omega (arith, deep) }) in
-    subst F (grouped mark.OpenRound mark.CloseRound d (expression_pieces e) (omega (arith, deep))) (g.group inner.sum)
+    subst F (grouped mark.OpenRound mark.CloseRound d (expression_pieces e) (omega (arith, deep))) (exp.group inner.sum)
 
 -- two parts with an operator between them
 marked-between : (ps : List Piece) (m : Mark) (qs : List Piece) → marked (between ps m qs) ≡ marked ps ++ g.word m ∷ marked qs
 marked-between ps m qs = marked-append ps (space ∷ mark_piece m ∷ space ∷ qs)
 
 pub shown : (e : Expression) (d : ℕ) → Fits d e → IsShown d e
-shown (Lit z) d fits = record { chain = 0; sum = as_sum (g.number d z); atom = λ _. g.number d z }
-shown (Var x) d fits = record { chain = 0; sum = as_sum (g.variable d (record { 0 = x })); atom = λ _. g.variable d (record { 0 = x }) }
+shown (Lit z) d fits = record { chain = 0; sum = as_sum (exp.number d z); atom = λ _. exp.number d z }
+shown (Var x) d fits = record { chain = 0; sum = as_sum (exp.variable d (record { 0 = x })); atom = λ _. exp.variable d (record { 0 = x }) }
 shown (Read a i) d fits =
     let inner = shown i (suc d) (record { depth = omega (arith, fits.depth); reads = omega (arith, fits.reads) }) in
     let F : List Marked → Type 0 = λ l. IsExpression Atom d 0 (plain (s.Name (record { 0 = a })) ∷ l) (Read a i) in
-    let it = subst F (grouped mark.OpenSquare mark.CloseSquare d (expression_pieces i) (omega (arith, fits.reads))) (g.element (record { 0 = a }) inner.sum) in
+    let it = subst F (grouped mark.OpenSquare mark.CloseSquare d (expression_pieces i) (omega (arith, fits.reads))) (exp.element (record { 0 = a }) inner.sum) in
     record { chain = 0; sum = as_sum it; atom = λ _. it }
 shown (Neg e) d fits =
     let part = operand_shown (is_atom e) e d refl (omega (arith, fits.depth)) fits.reads (shown e) in
-    record { chain = 0; sum = g.as_sum (g.as_product (g.negative part)); atom = λ h. cc }
+    record { chain = 0; sum = exp.as_sum (exp.as_product (exp.negative part)); atom = λ h. cc }
 shown (Plus e f) d fits =
     let left = operand_shown (is_atom e) e d refl (omega (arith, fits.depth)) (omega (arith, fits.reads)) (shown e) in
     let right = operand_shown (is_atom f) f d refl (omega (arith, fits.depth)) (omega (arith, fits.reads)) (shown f) in
     let F : List Marked → Type 0 = λ l. IsExpression Sum d 1 l (Plus e f) in
     record {
       chain = 1;
-      sum = subst F (sym (marked-between (operand (is_atom e) (expression_pieces e)) mark.Plus (operand (is_atom f) (expression_pieces f)))) (g.plus (as_sum left) (as_product right));
+      sum = subst F (sym (marked-between (operand (is_atom e) (expression_pieces e)) mark.Plus (operand (is_atom f) (expression_pieces f)))) (exp.plus (as_sum left) (as_product right));
       atom = λ h. cc;
     }
 shown (Minus e f) d fits =
@@ -127,7 +133,7 @@ shown (Minus e f) d fits =
     let F : List Marked → Type 0 = λ l. IsExpression Sum d 1 l (Minus e f) in
     record {
       chain = 1;
-      sum = subst F (sym (marked-between (operand (is_atom e) (expression_pieces e)) mark.Minus (operand (is_atom f) (expression_pieces f)))) (g.minus (as_sum left) (as_product right));
+      sum = subst F (sym (marked-between (operand (is_atom e) (expression_pieces e)) mark.Minus (operand (is_atom f) (expression_pieces f)))) (exp.minus (as_sum left) (as_product right));
       atom = λ h. cc;
     }
 shown (Times e f) d fits =
@@ -136,7 +142,7 @@ shown (Times e f) d fits =
     let F : List Marked → Type 0 = λ l. IsExpression Product d 1 l (Times e f) in
     record {
       chain = 0;
-      sum = g.as_sum (subst F (sym (marked-between (operand (is_atom e) (expression_pieces e)) mark.Star (operand (is_atom f) (expression_pieces f)))) (g.times (as_product left) (g.as_unary right)));
+      sum = exp.as_sum (subst F (sym (marked-between (operand (is_atom e) (expression_pieces e)) mark.Star (operand (is_atom f) (expression_pieces f)))) (exp.times (as_product left) (exp.as_unary right)));
       atom = λ h. cc;
     }
 
@@ -177,7 +183,7 @@ pub record IsTold (d : ℕ) (b : Condition) : Type 0 where
   pub test : is_test b ≡ true → IsCondition Test d 0 (marked (condition_pieces b)) b
 
 as_whole : {d : ℕ} {ts : List Marked} {b : Condition} → IsCondition Test d 0 ts b → IsCondition Disjunction d 0 ts b
-as_whole i = g.as_disjunction (g.as_conjunction (g.as_literal i))
+as_whole i = cond.as_disjunction (cond.as_conjunction (cond.as_literal i))
 
 -- a part of a condition
 part_told : (t : Bool) (b : Condition) (d : ℕ) → is_test b ≡ t → 1 + d + condition_depth b ≤ 66 → d + reads_tested b ≤ 64 → ((j : ℕ) → FitsTest j b → IsTold j b) →
@@ -187,27 +193,27 @@ part_told false b d is depth read tells =
     let deep = reads_tested-compound b is in
     let F : List Marked → Type 0 = λ l. IsCondition Test d 0 l b in
     let inner = tells (suc d) (record { depth = omega arith; reads = omega (arith, deep) }) in
-    subst F (grouped mark.OpenSquare mark.CloseSquare d (condition_pieces b) (omega (arith, deep))) (g.group inner.whole)
+    subst F (grouped mark.OpenSquare mark.CloseSquare d (condition_pieces b) (omega (arith, deep))) (cond.group inner.whole)
 
 pub told : (b : Condition) (d : ℕ) → FitsTest d b → IsTold d b
-told Yes d fits = record { chain = 0; whole = as_whole (g.always d); test = λ _. g.always d }
-told No d fits = record { chain = 0; whole = as_whole (g.never d); test = λ _. g.never d }
+told Yes d fits = record { chain = 0; whole = as_whole (cond.always d); test = λ _. cond.always d }
+told No d fits = record { chain = 0; whole = as_whole (cond.never d); test = λ _. cond.never d }
 told (Compare op e f) d fits =
     let left = shown e d (record { depth = omega (arith, fits.depth); reads = omega (arith, fits.reads) }) in
     let right = shown f d (record { depth = omega (arith, fits.depth); reads = omega (arith, fits.reads) }) in
     let F : List Marked → Type 0 = λ l. IsCondition Test d 0 l (Compare op e f) in
-    let it = subst F (sym (marked-between (expression_pieces e) (comparison op) (expression_pieces f))) (g.compares op left.sum right.sum) in
+    let it = subst F (sym (marked-between (expression_pieces e) (comparison op) (expression_pieces f))) (cond.compares op left.sum right.sum) in
     record { chain = 0; whole = as_whole it; test = λ _. it }
 told (Not b) d fits =
     let inner = part_told (is_test b) b d refl (omega (arith, fits.depth)) fits.reads (told b) in
-    record { chain = 0; whole = g.as_disjunction (g.as_conjunction (g.denied inner)); test = λ h. cc }
+    record { chain = 0; whole = cond.as_disjunction (cond.as_conjunction (cond.denied inner)); test = λ h. cc }
 told (And b c) d fits =
     let left = part_told (is_test b) b d refl (omega (arith, fits.depth)) (omega (arith, fits.reads)) (told b) in
     let right = part_told (is_test c) c d refl (omega (arith, fits.depth)) (omega (arith, fits.reads)) (told c) in
     let F : List Marked → Type 0 = λ l. IsCondition Conjunction d 1 l (And b c) in
     record {
       chain = 0;
-      whole = g.as_disjunction (subst F (sym (marked-between (part (is_test b) (condition_pieces b)) mark.Both (part (is_test c) (condition_pieces c)))) (g.both (g.as_conjunction (g.as_literal left)) (g.as_literal right)));
+      whole = cond.as_disjunction (subst F (sym (marked-between (part (is_test b) (condition_pieces b)) mark.Both (part (is_test c) (condition_pieces c)))) (cond.both (cond.as_conjunction (cond.as_literal left)) (cond.as_literal right)));
       test = λ h. cc;
     }
 told (Or b c) d fits =
@@ -216,7 +222,7 @@ told (Or b c) d fits =
     let F : List Marked → Type 0 = λ l. IsCondition Disjunction d 1 l (Or b c) in
     record {
       chain = 1;
-      whole = subst F (sym (marked-between (part (is_test b) (condition_pieces b)) mark.Either (part (is_test c) (condition_pieces c)))) (g.either (as_whole left) (g.as_conjunction (g.as_literal right)));
+      whole = subst F (sym (marked-between (part (is_test b) (condition_pieces b)) mark.Either (part (is_test c) (condition_pieces c)))) (cond.either (as_whole left) (cond.as_conjunction (cond.as_literal right)));
       test = λ h. cc;
     }
 
@@ -238,7 +244,7 @@ block_shown d c margin ps few inside =
     let line : opens mark.OpenCurly d ∷ (marked ps ++ g.word mark.CloseCurly ∷ []) ≡ marked (braces margin ps) =
     ap (λ (t : Marked). t ∷ (marked ps ++ g.word mark.CloseCurly ∷ [])) (opens_is mark.OpenCurly d few) ∙
     ap (λ (l : List Marked). plain (s.Mark mark.OpenCurly) ∷ l) (sym (marked-append ps (Gap margin ∷ mark_piece mark.CloseCurly ∷ []))) in
-    subst F line (g.block inside)
+    subst F line (stmt.block inside)
 
 -- a guard before more symbols
 marked-guard : (b : Condition) (d : ℕ) (us : List Marked) → d < 64 →
@@ -262,9 +268,9 @@ marked-element a d ps us few =
 
 -- the grammar spells the code by its canonical symbols
 pub code_shown : (c : Code) (margin : List ℕ) (d : ℕ) → IsPrintable d c → AreStatements d (marked (code_pieces margin c)) c
-code_shown End margin d fits = g.none d
+code_shown End margin d fits = stmt.none d
 code_shown (Skip k) margin d fits =
-    g.skips (code_shown k margin d fits)
+    stmt.skips (code_shown k margin d fits)
 code_shown (Assign x e k) margin d fits =
     let ps = expression_pieces e in
     let us = marked (code_pieces margin k) in
@@ -273,7 +279,7 @@ code_shown (Assign x e k) margin d fits =
     let line : plain (s.Name (record { 0 = x })) ∷ g.word mark.Becomes ∷ (marked ps ++ g.word mark.Semicolon ∷ us) ≡ marked (code_pieces margin (Assign x e k)) =
     ap (λ (l : List Marked). plain (s.Name (record { 0 = x })) ∷ g.word mark.Becomes ∷ l) (sym (marked_then ps (mark_piece mark.Semicolon ∷ []) us)) ∙
     sym (marked-line margin front (code_pieces margin k)) in
-    subst F line (g.assigns (record { 0 = x }) (shown e d fits.0).sum (code_shown k margin d fits.1))
+    subst F line (stmt.assigns (record { 0 = x }) (shown e d fits.0).sum (code_shown k margin d fits.1))
 code_shown (Write a i e k) margin d fits =
     let ps = expression_pieces i in
     let qs = expression_pieces e in
@@ -287,7 +293,7 @@ code_shown (Write a i e k) margin d fits =
     ap (λ (l : List Marked). marked (element_pieces a ps) ++ l) same ∙
     sym (marked_then (element_pieces a ps) value us) ∙
     sym (marked-line margin (element_pieces a ps ++ value) (code_pieces margin k)) in
-    subst F line (g.writes (record { 0 = a }) (shown i (suc d) fits.1).sum (shown e d fits.2).sum (code_shown k margin d fits.3))
+    subst F line (stmt.writes (record { 0 = a }) (shown i (suc d) fits.1).sum (shown e d fits.2).sum (code_shown k margin d fits.3))
 code_shown (If b c e k) margin d fits =
     let us = marked (code_pieces margin k) in
     let yes_lines = code_pieces (deeper margin) c in
@@ -302,7 +308,7 @@ code_shown (If b c e k) margin d fits =
     sym (marked-line margin (mark_piece mark.If ∷ space ∷ (guard_pieces b ++ choice)) (code_pieces margin k)) in
     let then = block_shown d c margin yes_lines fits.0 (code_shown c (deeper margin) (suc d) fits.2) in
     let other = block_shown d e margin no_lines fits.0 (code_shown e (deeper margin) (suc d) fits.3) in
-    subst F line (g.branches (told b (suc d) fits.1).whole then other (code_shown k margin d fits.4))
+    subst F line (stmt.branches (told b (suc d) fits.1).whole then other (code_shown k margin d fits.4))
 code_shown (While b c k) margin d fits =
     let us = marked (code_pieces margin k) in
     let lines = code_pieces (deeper margin) c in
@@ -312,6 +318,6 @@ code_shown (While b c k) margin d fits =
     ap (λ (l : List Marked). g.word mark.While ∷ l) (marked-guard b d behind fits.0 ∙ sym (marked_then (guard_pieces b) (braces margin lines) us)) ∙
     sym (marked-line margin (mark_piece mark.While ∷ space ∷ (guard_pieces b ++ braces margin lines)) (code_pieces margin k)) in
     let body = block_shown d c margin lines fits.0 (code_shown c (deeper margin) (suc d) fits.2) in
-    subst F line (g.loops (told b (suc d) fits.1).whole body (code_shown k margin d fits.3))
+    subst F line (stmt.loops (told b (suc d) fits.1).whole body (code_shown k margin d fits.3))
 code_shown (Hole h k) margin d fits =
-    g.holes h fits.0 (code_shown k margin d fits.1)
+    stmt.holes h fits.0 (code_shown k margin d fits.1)

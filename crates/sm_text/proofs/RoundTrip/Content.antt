@@ -9,8 +9,17 @@ use Rattle.sm_syntax.specs.claim.Syntax.{Expression, Lit, Var, Read, Neg, Plus, 
 use Rattle.sm_syntax.specs.claim.Fill.{Fillings}
 use Rattle.sm_syntax.specs.claim.ConflictFree.{O, A, B, M}
 use Rattle.sm_syntax.specs.text.Parts.{Parts}
-use Rattle.sm_syntax.specs.text.Grammar as g
-use Rattle.sm_syntax.specs.text.Grammar.{Marked, Level, IsExpression, Rank, IsCondition, AreStatements, IsBlock, AreNames, with_sort, AreDeclarations, AreOutputs, IsAssumption, IsShared, AreFillings, IsList, IsTask}
+use Rattle.sm_syntax.specs.text.MarkedSymbols as g
+use Rattle.sm_syntax.specs.text.ExpressionGrammar as exp
+use Rattle.sm_syntax.specs.text.ConditionGrammar as cond
+use Rattle.sm_syntax.specs.text.StatementGrammar as stmt
+use Rattle.sm_syntax.specs.text.TaskGrammar as task
+use Rattle.sm_syntax.specs.text.MarkedSymbols.{Marked}
+use Rattle.sm_syntax.specs.text.ExpressionGrammar.{Level, IsExpression}
+use Rattle.sm_syntax.specs.text.ConditionGrammar.{Rank, IsCondition}
+use Rattle.sm_syntax.specs.text.StatementGrammar.{AreStatements, IsBlock}
+use Rattle.sm_syntax.specs.text.TaskGrammar.{AreNames, with_sort, AreDeclarations, AreOutputs, IsAssumption, IsShared, AreFillings, IsList}
+use Rattle.sm_syntax.specs.text.TaskGrammar.{IsTask}
 
 -- a name by its number
 abbrev pub named : ℕ → Symbol
@@ -48,17 +57,17 @@ content_of (Minus d e) = content_of d ++ content_of e
 content_of (Times d e) = content_of d ++ content_of e
 
 pub expression_content : {l : Level} {d k : ℕ} {ts : List Marked} {e : Expression} → IsExpression l d k ts e → content ts ≡ content_of e
-expression_content (g.number d z) = refl
-expression_content (g.variable d x) = refl
-expression_content (g.element {ts = ts} {i = i} a inner) = ap (λ (l : List Symbol). s.Name a ∷ l) (closed ts mark.CloseSquare (content_of i) (expression_content inner))
+expression_content (exp.number d z) = refl
+expression_content (exp.variable d x) = refl
+expression_content (exp.element {ts = ts} {i = i} a inner) = ap (λ (l : List Symbol). s.Name a ∷ l) (closed ts mark.CloseSquare (content_of i) (expression_content inner))
 expression_content (IsExpression.group {ts = ts} {e = e} inner) = closed ts mark.CloseRound (content_of e) (expression_content inner)
-expression_content (g.negative inner) = expression_content inner
-expression_content (g.as_unary inner) = expression_content inner
-expression_content (g.as_product inner) = expression_content inner
-expression_content (g.times {k = k} {ts = ts} {us = us} {e = e} {f = f} left right) = both ts (g.joins mark.Star k ∷ us) (content_of e) (content_of f) (expression_content left) (expression_content right)
-expression_content (g.as_sum inner) = expression_content inner
-expression_content (g.plus {k = k} {ts = ts} {us = us} {e = e} {f = f} left right) = both ts (g.joins mark.Plus k ∷ us) (content_of e) (content_of f) (expression_content left) (expression_content right)
-expression_content (g.minus {k = k} {ts = ts} {us = us} {e = e} {f = f} left right) = both ts (g.joins mark.Minus k ∷ us) (content_of e) (content_of f) (expression_content left) (expression_content right)
+expression_content (exp.negative inner) = expression_content inner
+expression_content (exp.as_unary inner) = expression_content inner
+expression_content (exp.as_product inner) = expression_content inner
+expression_content (exp.times {k = k} {ts = ts} {us = us} {e = e} {f = f} left right) = both ts (g.joins mark.Star k ∷ us) (content_of e) (content_of f) (expression_content left) (expression_content right)
+expression_content (exp.as_sum inner) = expression_content inner
+expression_content (exp.plus {k = k} {ts = ts} {us = us} {e = e} {f = f} left right) = both ts (g.joins mark.Plus k ∷ us) (content_of e) (content_of f) (expression_content left) (expression_content right)
+expression_content (exp.minus {k = k} {ts = ts} {us = us} {e = e} {f = f} left right) = both ts (g.joins mark.Minus k ∷ us) (content_of e) (content_of f) (expression_content left) (expression_content right)
 
 -- the same of a condition
 abbrev pub content_tested : Condition → List Symbol
@@ -70,16 +79,16 @@ content_tested (And b c) = content_tested b ++ content_tested c
 content_tested (Or b c) = content_tested b ++ content_tested c
 
 pub condition_content : {r : Rank} {d k : ℕ} {ts : List Marked} {b : Condition} → IsCondition r d k ts b → content ts ≡ content_tested b
-condition_content (g.always d) = refl
-condition_content (g.never d) = refl
-condition_content (g.compares {ts = ts} {us = us} {e = e} {f = f} op left right) = both ts (g.word (g.comparison op) ∷ us) (content_of e) (content_of f) (expression_content left) (expression_content right)
+condition_content (cond.always d) = refl
+condition_content (cond.never d) = refl
+condition_content (cond.compares {ts = ts} {us = us} {e = e} {f = f} op left right) = both ts (g.word (cond.comparison op) ∷ us) (content_of e) (content_of f) (expression_content left) (expression_content right)
 condition_content (IsCondition.group {ts = ts} {b = b} inner) = closed ts mark.CloseSquare (content_tested b) (condition_content inner)
-condition_content (g.denied inner) = condition_content inner
-condition_content (g.as_literal inner) = condition_content inner
-condition_content (g.as_conjunction inner) = condition_content inner
-condition_content (g.both {k = k} {ts = ts} {us = us} {b = b} {c = c} left right) = both ts (g.joins mark.Both k ∷ us) (content_tested b) (content_tested c) (condition_content left) (condition_content right)
-condition_content (g.as_disjunction inner) = condition_content inner
-condition_content (g.either {k = k} {ts = ts} {us = us} {b = b} {c = c} left right) = both ts (g.joins mark.Either k ∷ us) (content_tested b) (content_tested c) (condition_content left) (condition_content right)
+condition_content (cond.denied inner) = condition_content inner
+condition_content (cond.as_literal inner) = condition_content inner
+condition_content (cond.as_conjunction inner) = condition_content inner
+condition_content (cond.both {k = k} {ts = ts} {us = us} {b = b} {c = c} left right) = both ts (g.joins mark.Both k ∷ us) (content_tested b) (content_tested c) (condition_content left) (condition_content right)
+condition_content (cond.as_disjunction inner) = condition_content inner
+condition_content (cond.either {k = k} {ts = ts} {us = us} {b = b} {c = c} left right) = both ts (g.joins mark.Either k ∷ us) (content_tested b) (content_tested c) (condition_content left) (condition_content right)
 
 -- the same of code
 abbrev pub content_used : Code → List Symbol
@@ -93,25 +102,25 @@ content_used (Hole h k) = s.Number (pos h) ∷ content_used k
 
 mutual
   pub code_content : {d : ℕ} {ts : List Marked} {c : Code} → AreStatements d ts c → content ts ≡ content_used c
-  code_content (g.none d) = refl
-  code_content (g.skips more) = code_content more
-  code_content (g.assigns {ts = ts} {us = us} {e = e} {k = k} x value more) =
+  code_content (stmt.none d) = refl
+  code_content (stmt.skips more) = code_content more
+  code_content (stmt.assigns {ts = ts} {us = us} {e = e} {k = k} x value more) =
       ap (λ (l : List Symbol). s.Name x ∷ l) (both ts (g.word mark.Semicolon ∷ us) (content_of e) (content_used k) (expression_content value) (code_content more))
-  code_content (g.writes {ts = ts} {us = us} {vs = vs} {i = i} {e = e} {k = k} a index value more) =
+  code_content (stmt.writes {ts = ts} {us = us} {vs = vs} {i = i} {e = e} {k = k} a index value more) =
       ap (λ (l : List Symbol). s.Name a ∷ l)
       (both ts (g.word mark.CloseSquare ∷ g.word mark.Becomes ∷ (us ++ g.word mark.Semicolon ∷ vs)) (content_of i) (content_of e ++ content_used k) (expression_content index)
       (both us (g.word mark.Semicolon ∷ vs) (content_of e) (content_used k) (expression_content value) (code_content more)))
-  code_content (g.branches {ts = ts} {us = us} {vs = vs} {ws = ws} {b = b} {c = c} {e = e} {k = k} test first second more) =
+  code_content (stmt.branches {ts = ts} {us = us} {vs = vs} {ws = ws} {b = b} {c = c} {e = e} {k = k} test first second more) =
       both ts (g.word mark.CloseRound ∷ (us ++ g.word mark.Else ∷ (vs ++ ws))) (content_tested b) (content_used c ++ (content_used e ++ content_used k)) (condition_content test)
       (both us (g.word mark.Else ∷ (vs ++ ws)) (content_used c) (content_used e ++ content_used k) (block_content first)
       (both vs ws (content_used e) (content_used k) (block_content second) (code_content more)))
-  code_content (g.loops {ts = ts} {us = us} {vs = vs} {b = b} {c = c} {k = k} test body more) =
+  code_content (stmt.loops {ts = ts} {us = us} {vs = vs} {b = b} {c = c} {k = k} test body more) =
       both ts (g.word mark.CloseRound ∷ (us ++ vs)) (content_tested b) (content_used c ++ content_used k) (condition_content test)
       (both us vs (content_used c) (content_used k) (block_content body) (code_content more))
-  code_content (g.holes h fits more) = ap (λ (l : List Symbol). s.Number (pos h) ∷ l) (code_content more)
+  code_content (stmt.holes h fits more) = ap (λ (l : List Symbol). s.Number (pos h) ∷ l) (code_content more)
 
   pub block_content : {d : ℕ} {ts : List Marked} {c : Code} → IsBlock d ts c → content ts ≡ content_used c
-  block_content (g.block {ts = ts} {c = c} inner) = closed ts mark.CloseCurly (content_used c) (code_content inner)
+  block_content (stmt.block {ts = ts} {c = c} inner) = closed ts mark.CloseCurly (content_used c) (code_content inner)
 
 -- names
 abbrev pub content_listed : List ℕ → List Symbol
@@ -119,7 +128,7 @@ content_listed [] = []
 content_listed (x ∷ xs) = named x ∷ content_listed xs
 
 names_content : {ts : List Marked} {xs : List ℕ} → AreNames ts xs → content ts ≡ content_listed xs
-names_content (g.last x) = refl
+names_content (task.last x) = refl
 names_content (AreNames.more x rest) = ap (λ (l : List Symbol). s.Name x ∷ l) (names_content rest)
 
 -- declarations
@@ -137,7 +146,7 @@ declarations_content (AreDeclarations.more {ts = ts} {us = us} {xs = xs} {ds = d
     both ts (g.word mark.Semicolon ∷ us) (content_listed xs) (content_declared ds) (names_content names) (declarations_content rest) ∙ sym (with_sort-content sort xs ds)
 
 pub outputs_content : {ts : List Marked} {xs : List ℕ} → AreOutputs ts xs → content ts ≡ content_listed xs
-outputs_content (g.outputs {ts = ts} {xs = xs} names) = closed ts mark.Semicolon (content_listed xs) (names_content names)
+outputs_content (task.outputs {ts = ts} {xs = xs} names) = closed ts mark.Semicolon (content_listed xs) (names_content names)
 
 -- the assumption
 abbrev pub content_assumed : Option Condition → List Symbol
@@ -146,10 +155,10 @@ content_assumed (Some b) = content_tested b
 
 pub assumption_content : {ts : List Marked} {o : Option Condition} → IsAssumption ts o → content ts ≡ content_assumed o
 assumption_content IsAssumption.none = refl
-assumption_content (g.assumes {ts = ts} {b = b} test) = closed ts mark.Semicolon (content_tested b) (condition_content test)
+assumption_content (task.assumes {ts = ts} {b = b} test) = closed ts mark.Semicolon (content_tested b) (condition_content test)
 
 pub shared_content : {ts : List Marked} {c : Code} → IsShared ts c → content ts ≡ content_used c
-shared_content (g.shared inner) = block_content inner
+shared_content (task.shared inner) = block_content inner
 
 -- fillings
 abbrev pub content_filled : Fillings → List Symbol
@@ -162,7 +171,7 @@ fillings_content (AreFillings.more {ts = ts} {us = us} {c = c} {fs = fs} h fits 
     ap (λ (l : List Symbol). s.Number (pos h) ∷ l) (both ts us (content_used c) (content_filled fs) (block_content inner) (fillings_content rest))
 
 list_content : {m : Mark} {ts : List Marked} {fs : Fillings} → IsList m ts fs → content ts ≡ content_filled fs
-list_content (g.list {ts = ts} {fs = fs} m inner) = closed ts mark.CloseCurly (content_filled fs) (fillings_content inner)
+list_content (task.list {ts = ts} {fs = fs} m inner) = closed ts mark.CloseCurly (content_filled fs) (fillings_content inner)
 
 -- a task
 abbrev pub content_of_task : Parts → List Symbol
@@ -171,7 +180,7 @@ content_of_task t =
     (content_filled (t.fillings O) ++ (content_filled (t.fillings A) ++ (content_filled (t.fillings B) ++ content_filled (t.fillings M)))))))
 
 pub task_content : {ts : List Marked} {t : Parts} → IsTask ts t → content ts ≡ content_of_task t
-task_content (g.task {ts = ts} {us = us} {vs = vs} {ws = ws} {o = o} {a = a} {b = b} {m = m} t decls outs assume body first second third fourth) =
+task_content (task.task {ts = ts} {us = us} {vs = vs} {ws = ws} {o = o} {a = a} {b = b} {m = m} t decls outs assume body first second third fourth) =
     let fo = content_filled (t.fillings O) in
     let fa = content_filled (t.fillings A) in
     let fb = content_filled (t.fillings B) in

@@ -15,8 +15,10 @@ use Rattle.sm_syntax.specs.text.Uses.{names_tested, names_used}
 use Rattle.sm_syntax.specs.claim.Fill.{Fillings, filling, fill}
 use Rattle.sm_syntax.specs.claim.ConflictFree.{Copy, O, A, B, M}
 use Rattle.sm_syntax.specs.text.Parts.{Parts, sort_of}
-use Rattle.sm_syntax.specs.text.Grammar as g
-use Rattle.sm_syntax.specs.text.Grammar.{Marked, plain, IsAssumption, IsShared, AreNames, AreOutputs, AreFillings, IsList, IsTask}
+use Rattle.sm_syntax.specs.text.MarkedSymbols as g
+use Rattle.sm_syntax.specs.text.TaskGrammar as task
+use Rattle.sm_syntax.specs.text.MarkedSymbols.{Marked, plain}
+use Rattle.sm_syntax.specs.text.TaskGrammar.{IsAssumption, IsShared, AreNames, AreOutputs, AreFillings, IsList, IsTask}
 use Rattle.sm_text.proofs.RoundTrip.CodeSpelled.{IsPrintable}
 use Rattle.sm_text.proofs.RoundTrip.TaskSpelled.{FitsAssumption, ArePrintable, HasOutput, IsPrintableTask}
 use Rattle.sm_text.proofs.RoundTrip.Fitting.{IsClean, clean_left, clean_right, clean_plain, condition_reads, block_fits, depth-append, depth-fill}
@@ -182,19 +184,19 @@ fillings_shallow t p c =
 
 -- the parts of a task
 some_names : {ts : List Marked} {xs : List ℕ} → AreNames ts xs → HasOutput xs
-some_names (g.last x) = tt
+some_names (task.last x) = tt
 some_names (AreNames.more x rest) = tt
 
 pub some_outputs : {ts : List Marked} {xs : List ℕ} → AreOutputs ts xs → HasOutput xs
-some_outputs (g.outputs names) = some_names names
+some_outputs (task.outputs names) = some_names names
 
 assumption_fits : {ts : List Marked} {o : Option Condition} (ds : List (ℕ × Sort)) → IsAssumption ts o → IsClean ts → ill_assumed ds o ≡ None → FitsAssumption o
 assumption_fits ds IsAssumption.none clean h = tt
-assumption_fits ds (g.assumes {ts = ts} {b = b} test) clean h =
+assumption_fits ds (task.assumes {ts = ts} {b = b} test) clean h =
     record { depth = omega (arith, assumption_within ds b h); reads = condition_reads test (clean_left ts (g.word mark.Semicolon ∷ []) clean.1) (omega arith) }
 
 pub shared_fits : {ts : List Marked} {c : Code} → IsShared ts c → IsClean ts → code_depth c ≤ 65 → IsPrintable 1 c
-shared_fits (g.shared inner) clean deep = block_fits inner clean.1 (omega (arith, deep))
+shared_fits (task.shared inner) clean deep = block_fits inner clean.1 (omega (arith, deep))
 
 fillings_fit : {ts : List Marked} {fs : Fillings} → AreFillings ts fs → IsClean ts → AreShallow fs → ArePrintable fs
 fillings_fit AreFillings.none clean deep = tt
@@ -202,11 +204,11 @@ fillings_fit (AreFillings.more {ts = ts} {us = us} h fits inner rest) clean deep
     (fits, block_fits inner (clean_left ts us clean.1.1) (omega (arith, deep.0)), fillings_fit rest (clean_right ts us clean.1.1) deep.1)
 
 list_fits : {m : Mark} {ts : List Marked} {fs : Fillings} → IsList m ts fs → IsClean ts → AreShallow fs → ArePrintable fs
-list_fits (g.list {ts = ts} m inner) clean deep = fillings_fit inner (clean_left ts (g.word mark.CloseCurly ∷ []) clean.1.1) deep
+list_fits (task.list {ts = ts} m inner) clean deep = fillings_fit inner (clean_left ts (g.word mark.CloseCurly ∷ []) clean.1.1) deep
 
 -- a valid task of clean symbols
 task_fits : {ms : List Marked} {t : Parts} → IsTask ms t → IsClean ms → Passes t → IsPrintableTask t
-task_fits (g.task {ts = ts} {us = us} {vs = vs} {ws = ws} {o = o} {a = a} {b = b} {m = m} t decls outs assume body first second third fourth) clean p =
+task_fits (task.task {ts = ts} {us = us} {vs = vs} {ws = ws} {o = o} {a = a} {b = b} {m = m} t decls outs assume body first second third fourth) clean p =
     let behind = clean_right ts (us ++ (vs ++ (ws ++ (o ++ (a ++ (b ++ m)))))) clean in
     let rest = clean_right us (vs ++ (ws ++ (o ++ (a ++ (b ++ m))))) behind in
     let more = clean_right vs (ws ++ (o ++ (a ++ (b ++ m)))) rest in

@@ -10,7 +10,7 @@ use Rattle.sm_syntax.specs.declared.tree.Sort.TheVariants.{Num, Arr}
 use Rattle.sm_syntax.specs.claim.Syntax.{Condition, Code}
 use Rattle.sm_syntax.specs.claim.Fill.{Fillings}
 use Rattle.sm_syntax.specs.claim.ConflictFree.{Copy, O, A, B, M}
-use Rattle.sm_syntax.specs.text.Grammar.{declares}
+use Rattle.sm_syntax.specs.text.TaskGrammar.{declares}
 use Rattle.sm_syntax.specs.text.Parts.{Parts}
 use Rattle.sm_syntax.specs.text.Tokens.{is_space, lexed}
 use Rattle.sm_text.specs.printing.Pieces.{Piece, pieces_text, mark_piece, number_piece, space, line_end, margin_at, deeper, line}

@@ -8,8 +8,11 @@ use Rattle.sm_syntax.specs.claim.Syntax.{Condition, Code}
 use Rattle.sm_syntax.specs.claim.Fill.{Fillings}
 use Rattle.sm_syntax.specs.claim.ConflictFree.{Copy, O, A, B, M}
 use Rattle.sm_syntax.specs.text.Parts.{Parts}
-use Rattle.sm_syntax.specs.text.Grammar as g
-use Rattle.sm_syntax.specs.text.Grammar.{Marked, plain, IsHoleNumber, IsBlock, AreNames, AreDeclarations, AreOutputs, IsAssumption, IsShared, AreFillings, IsList, IsTask}
+use Rattle.sm_syntax.specs.text.MarkedSymbols as g
+use Rattle.sm_syntax.specs.text.TaskGrammar as task
+use Rattle.sm_syntax.specs.text.MarkedSymbols.{Marked, plain}
+use Rattle.sm_syntax.specs.text.StatementGrammar.{IsHoleNumber, IsBlock}
+use Rattle.sm_syntax.specs.text.TaskGrammar.{AreNames, AreDeclarations, AreOutputs, IsAssumption, IsShared, AreFillings, IsList, IsTask}
 use Rattle.sm_text.specs.printing.Pieces.{Gap, mark_piece, number_piece, space, line_end, margin_at, deeper}
 use Rattle.sm_text.specs.printing.Canonical.{braces, condition_pieces, code_pieces, block_pieces, declaration_pieces, names_pieces, output_pieces, assumption_pieces, shared_pieces, filling_pieces, list_pieces, lists_pieces, task_pieces}
 use Rattle.sm_text.proofs.RoundTrip.CodeSpelled.{marked, marked-append, marked-line, FitsTest, IsPrintable, told, block_shown, code_shown}
@@ -21,12 +24,12 @@ block_told d c margin few fits =
     block_shown d c margin (code_pieces (deeper margin) c) few (code_shown c (deeper margin) (suc d) (subst (λ (n : ℕ). IsPrintable n c) at fits))
 
 pub declarations_shown : (ds : List (ℕ × Sort)) → AreDeclarations (marked (declaration_pieces ds)) ds
-declarations_shown [] = g.none
-declarations_shown (d ∷ ds) = g.more d.1 (g.last (record { 0 = d.0 })) (declarations_shown ds)
+declarations_shown [] = task.none
+declarations_shown (d ∷ ds) = task.more d.1 (task.last (record { 0 = d.0 })) (declarations_shown ds)
 
 names_shown : (x : ℕ) (xs : List ℕ) → AreNames (marked (names_pieces (x ∷ xs))) (x ∷ xs)
-names_shown x [] = g.last (record { 0 = x })
-names_shown x (y ∷ ys) = g.more (record { 0 = x }) (names_shown y ys)
+names_shown x [] = task.last (record { 0 = x })
+names_shown x (y ∷ ys) = task.more (record { 0 = x }) (names_shown y ys)
 
 outputs_shown : (x : ℕ) (xs : List ℕ) → AreOutputs (marked (output_pieces (x ∷ xs))) (x ∷ xs)
 unfolding output_pieces
@@ -36,7 +39,7 @@ outputs_shown x xs =
     let line : g.word mark.Output ∷ (marked ps ++ g.word mark.Semicolon ∷ []) ≡ marked (output_pieces (x ∷ xs)) =
     ap (λ (l : List Marked). g.word mark.Output ∷ l)
     (sym (marked-append ps (mark_piece mark.Semicolon ∷ line_end ∷ [])) ∙ ap marked (sym (append_assoc ps (mark_piece mark.Semicolon ∷ []) (line_end ∷ [])))) in
-    subst F line (g.outputs (names_shown x xs))
+    subst F line (task.outputs (names_shown x xs))
 
 -- the assumption, where there is one, nests nowhere too deep
 abbrev pub FitsAssumption : Option Condition → Type 0
@@ -45,14 +48,14 @@ FitsAssumption (Some b) = FitsTest 0 b
 
 assumption_shown : (o : Option Condition) → FitsAssumption o → IsAssumption (marked (assumption_pieces o)) o
 unfolding assumption_pieces
-assumption_shown None fits = g.none
+assumption_shown None fits = task.none
 assumption_shown (Some b) fits =
     let ps = condition_pieces b in
     let F : List Marked → Type 0 = λ l. IsAssumption l (Some b) in
     let line : g.word mark.Assume ∷ (marked ps ++ g.word mark.Semicolon ∷ []) ≡ marked (assumption_pieces (Some b)) =
     ap (λ (l : List Marked). g.word mark.Assume ∷ l)
     (sym (marked-append ps (mark_piece mark.Semicolon ∷ line_end ∷ [])) ∙ ap marked (sym (append_assoc ps (mark_piece mark.Semicolon ∷ []) (line_end ∷ [])))) in
-    subst F line (g.assumes (told b 0 fits).whole)
+    subst F line (task.assumes (told b 0 fits).whole)
 
 pub shared_shown : (c : Code) → IsPrintable 1 c → IsShared (marked (shared_pieces c)) c
 unfolding shared_pieces
@@ -60,7 +63,7 @@ shared_shown c fits =
     let F : List Marked → Type 0 = λ l. IsShared (g.word mark.Shared ∷ l) c in
     let line : marked (block_pieces [] c) ≡ marked (block_pieces [] c ++ line_end ∷ []) =
     sym (append-nil (marked (block_pieces [] c))) ∙ sym (marked-append (block_pieces [] c) (line_end ∷ [])) in
-    subst F line (g.shared (block_told 0 c [] (omega arith) fits))
+    subst F line (task.shared (block_told 0 c [] (omega arith) fits))
 
 -- the holes that are filled have numbers, and the fillings nest nowhere too deep
 abbrev pub ArePrintable : Fillings → Type 0
@@ -68,13 +71,13 @@ ArePrintable [] = Unit {0}
 ArePrintable (f ∷ fs) = IsHoleNumber f.0 × IsPrintable 2 f.1 × ArePrintable fs
 
 fillings_shown : (fs : Fillings) → ArePrintable fs → AreFillings (marked (filling_pieces fs)) fs
-fillings_shown [] fits = g.none
+fillings_shown [] fits = task.none
 fillings_shown (f ∷ fs) fits =
     let block = block_pieces (margin_at 1) f.1 in
     let F : List Marked → Type 0 = λ l. AreFillings l (f ∷ fs) in
     let line : g.word mark.Question ∷ plain (s.Number (pos f.0)) ∷ (marked block ++ marked (filling_pieces fs)) ≡ marked (filling_pieces (f ∷ fs)) =
     sym (marked-line (margin_at 1) (mark_piece mark.Question ∷ number_piece (pos f.0) ∷ space ∷ block) (filling_pieces fs)) in
-    subst F line (g.more f.0 fits.0 (block_told 1 f.1 (margin_at 1) (omega arith) fits.1) (fillings_shown fs fits.2))
+    subst F line (task.more f.0 fits.0 (block_told 1 f.1 (margin_at 1) (omega arith) fits.1) (fillings_shown fs fits.2))
 
 list_shown : (m : Mark) (fs : Fillings) → ArePrintable fs → IsList m (g.word m ∷ marked (list_pieces fs)) fs
 unfolding list_pieces braces
@@ -84,7 +87,7 @@ list_shown m fs fits =
     let line : marked ps ++ g.word mark.CloseCurly ∷ [] ≡ marked ((ps ++ Gap [] ∷ mark_piece mark.CloseCurly ∷ []) ++ line_end ∷ []) =
     sym (marked-append ps (Gap [] ∷ mark_piece mark.CloseCurly ∷ line_end ∷ [])) ∙
     ap marked (sym (append_assoc ps (Gap [] ∷ mark_piece mark.CloseCurly ∷ []) (line_end ∷ []))) in
-    subst F line (g.list m (fillings_shown fs fits))
+    subst F line (task.list m (fillings_shown fs fits))
 
 -- the four lists
 marked-lists : (fillings : Copy → Fillings) →
@@ -125,7 +128,7 @@ task_shown t fits =
     let v = assumption_pieces t.assumed in
     let w = shared_pieces t.shared in
     let l = lists_pieces t.fillings in
-    let it = g.task t (declarations_shown t.declared) (some_outputs_shown t.outputs fits.outputs) (assumption_shown t.assumed fits.assumed) (shared_shown t.shared fits.shared)
+    let it = task.task t (declarations_shown t.declared) (some_outputs_shown t.outputs fits.outputs) (assumption_shown t.assumed fits.assumed) (shared_shown t.shared fits.shared)
     (list_shown mark.Base (t.fillings O) (fits.fillings O)) (list_shown mark.VariantA (t.fillings A) (fits.fillings A)) (list_shown mark.VariantB (t.fillings B) (fits.fillings B)) (list_shown mark.Candidate (t.fillings M) (fits.fillings M)) in
     let F : List Marked → Type 0 = λ ms. IsTask ms t in
     let lists = ap (λ (ms : List Marked). marked d ++ (marked x ++ (marked v ++ (marked w ++ ms)))) (marked-lists t.fillings) in

@@ -6,7 +6,7 @@ use Rattle.std.proofs.lemmas.List.{append-nil}
 use Rattle.sm_syntax.specs.declared.symbol.Mark.{Mark}
 use Rattle.sm_syntax.specs.declared.symbol.Symbol.{Symbol}
 use Rattle.sm_syntax.specs.declared.symbol.Symbol.TheVariants as s
-use Rattle.sm_syntax.specs.text.Grammar.{Marked, plain, joins}
+use Rattle.sm_syntax.specs.text.MarkedSymbols.{Marked, plain, joins}
 use Rattle.sm_text.specs.declared.rules.reading.Fault.{Fault}
 use Rattle.sm_text.specs.declared.rules.reading.FaultKind.TheVariants.{Nested}
 use Rattle.sm_text.specs.rules.Parsers.{first, Parser, fault, go_on, pure, Operators, chain_by, chain_in}

@@ -3,7 +3,7 @@ use Rattle.std.proofs.Common.{◌≡◌, ℕ, suc, zero, ◌<◌, refl, sym, ap,
 use Rattle.std.specs.Prelude.{if◌then◌else◌}
 use Rattle.std.proofs.lemmas.List.{append-nil}
 use Rattle.sm_syntax.specs.declared.symbol.Symbol.{Symbol}
-use Rattle.sm_syntax.specs.text.Grammar.{Marked, plain}
+use Rattle.sm_syntax.specs.text.MarkedSymbols.{Marked, plain}
 use Rattle.sm_text.specs.declared.rules.reading.Fault.{Fault}
 use Rattle.sm_text.specs.rules.Parsers.{first, Parser, fault, go_on, gather_in, gather}
 use Rattle.sm_text.proofs.Sound.Parsers.{Takes, Stops, Told, Describes, map-plain-append, begins-alike, shorter}

@@ -8,7 +8,7 @@ use Rattle.sm_syntax.specs.contracts.symbol.Mark.{the_type}
 use Rattle.sm_syntax.specs.declared.symbol.Mark.{Mark}
 use Rattle.sm_syntax.specs.declared.symbol.Symbol.{Symbol}
 use Rattle.sm_syntax.specs.declared.symbol.Symbol.TheVariants as s
-use Rattle.sm_syntax.specs.text.Grammar.{Marked, plain, word, opens}
+use Rattle.sm_syntax.specs.text.MarkedSymbols.{Marked, plain, word, opens}
 use Rattle.sm_text.specs.declared.rules.reading.Fault.{Fault}
 use Rattle.sm_text.specs.declared.rules.reading.FaultKind.TheVariants.{Expected, Nested}
 use Rattle.sm_text.specs.rules.Parsers.{first, Parser, fault, go_on, ◌>>=◌, ◌>>◌, pure, peek, skip, refuse, expect_by, expect, stands, inside_group, grouped_by, grouped}

@@ -19,8 +19,16 @@ use Rattle.sm_syntax.specs.claim.Syntax.{Expression, Condition, Code}
 use Rattle.sm_syntax.specs.claim.Fill.{Fillings}
 use Rattle.sm_syntax.specs.claim.ConflictFree as claim
 use Rattle.sm_syntax.specs.claim.ConflictFree.{Copy}
-use Rattle.sm_syntax.specs.text.Grammar as g
-use Rattle.sm_syntax.specs.text.Grammar.{Marked, plain, word, opens, joins, comparison, declares, IsExpression, IsCondition, IsHoleNumber, AreStatements, IsBlock, AreNames, AreDeclarations, AreOutputs, IsAssumption, IsShared, AreFillings, IsList, IsTask, with_sort}
+use Rattle.sm_syntax.specs.text.ExpressionGrammar as exp
+use Rattle.sm_syntax.specs.text.ConditionGrammar as cond
+use Rattle.sm_syntax.specs.text.StatementGrammar as stmt
+use Rattle.sm_syntax.specs.text.TaskGrammar as task
+use Rattle.sm_syntax.specs.text.MarkedSymbols.{Marked, plain, word, opens, joins}
+use Rattle.sm_syntax.specs.text.ExpressionGrammar.{IsExpression}
+use Rattle.sm_syntax.specs.text.ConditionGrammar.{comparison, IsCondition}
+use Rattle.sm_syntax.specs.text.StatementGrammar.{IsHoleNumber, AreStatements, IsBlock}
+use Rattle.sm_syntax.specs.text.TaskGrammar.{declares, AreNames, AreDeclarations, AreOutputs, IsAssumption, IsShared, AreFillings, IsList}
+use Rattle.sm_syntax.specs.text.TaskGrammar.{IsTask, with_sort}
 use Rattle.sm_syntax.specs.text.Parts.{by_copy}
 use Rattle.sm_text.specs.declared.rules.reading.FaultKind.TheVariants.{Expected}
 use Rattle.sm_text.specs.rules.Parsers.{rest, Parser, ◌>>◌, pure, skip, refuse, stands, inside_group}
@@ -76,11 +84,11 @@ one_behind x y before us vs last e n =
     record {
       others = y.0 ∷ n.others;
       same = n.same ∙ append_assoc before (y.0 ∷ []) n.others;
-      names = subst F (sym e) (g.more x n.names);
+      names = subst F (sym e) (task.more x n.names);
     }
 
 names_behind : {before : List ℕ} {us : List Marked} {last : List ℕ} → Gathers IsNextName r.with_name before us last → (x : Name) → NamesBehind x before us last
-names_behind (none before) x = record { others = []; same = sym (append-nil before); names = g.last x }
+names_behind (none before) x = record { others = []; same = sym (append-nil before); names = task.last x }
 names_behind (more {us = us} {vs = vs} {x = y} {before = before} {last = last} p rest) x = one_behind x y before us vs last p (names_behind rest y)
 
 are_names : (us : List Marked) (xs : List ℕ) → Both IsName (λ x. Gathers IsNextName r.with_name (x.0 ∷ [])) us xs → AreNames us xs
@@ -128,7 +136,7 @@ is_declaration sort us ds b = record { some = omega arith; goes = goes }
     goes vs es others =
         let F : List Marked → Type 0 = λ ts. AreDeclarations (word (declares sort) ∷ ts) (ds ++ es) in
         let G : List (ℕ × Sort) → Type 0 = λ ys. AreDeclarations (word (declares sort) ∷ (b.one.list ++ word mark.Semicolon ∷ vs)) (ys ++ es) in
-        subst F (sym (ap (λ (l : List Marked). l ++ vs) line ∙ append_assoc b.one.list (word mark.Semicolon ∷ []) vs)) (subst G b.two.same (g.more sort b.one.names others))
+        subst F (sym (ap (λ (l : List Marked). l ++ vs) line ∙ append_assoc b.one.list (word mark.Semicolon ∷ []) vs)) (subst G b.two.same (task.more sort b.one.names others))
 
 declared_told : (sort : Sort) → Describes (r.declared sort) (λ us ds. IsDeclaration (word (declares sort) ∷ us) ds)
 unfolding r.declared
@@ -168,7 +176,7 @@ pub record DeclarationsBehind (before : List (ℕ × Sort)) (us : List Marked) (
   pub declared : AreDeclarations us others
 
 declarations_behind : {before last : List (ℕ × Sort)} {us : List Marked} → Gathers IsDeclaration ◌++◌ before us last → DeclarationsBehind before us last
-declarations_behind (none before) = record { others = []; same = sym (append-nil before); declared = g.none }
+declarations_behind (none before) = record { others = []; same = sym (append-nil before); declared = task.none }
 declarations_behind (more {us = us} {vs = vs} {x = ds} {before = before} {last = last} p rest) = one_more (declarations_behind rest)
   where
     one_more : DeclarationsBehind (before ++ ds) vs last → DeclarationsBehind before (us ++ vs) last
@@ -187,7 +195,7 @@ declarations_told = weaken are_declarations (gathered r.begins_declaration r.dec
 are_outputs : (us : List Marked) (xs : List ℕ) → Both (IsMark mark.Output) (λ _. IsNamesToEnd) us xs → AreOutputs us xs
 are_outputs us xs b =
     let F : List Marked → Type 0 = λ ts. AreOutputs ts xs in
-    subst F (sym (b.parts ∙ ap (λ (l : List Marked). l ++ b.behind) b.one ∙ ap (λ (l : List Marked). word mark.Output ∷ l) b.two.split)) (g.outputs b.two.names)
+    subst F (sym (b.parts ∙ ap (λ (l : List Marked). l ++ b.behind) b.one ∙ ap (λ (l : List Marked). word mark.Output ∷ l) b.two.split)) (task.outputs b.two.names)
 
 pub outputs_told : Describes r.outputs AreOutputs
 unfolding r.outputs
@@ -227,18 +235,18 @@ hole_number_told = choose some_hole by
 -- an expression where d groups are open
 pub record IsSum (d : ℕ) (us : List Marked) (e : Expression) : Type 0 where
   pub operators : ℕ
-  pub spelled : IsExpression g.Sum d operators us e
+  pub spelled : IsExpression exp.Sum d operators us e
 
 -- the same of a product
 pub record IsProduct (d : ℕ) (us : List Marked) (e : Expression) : Type 0 where
   pub operators : ℕ
-  pub spelled : IsExpression g.Product d operators us e
+  pub spelled : IsExpression exp.Product d operators us e
 
 abbrev pub IsUnary : ℕ → List Marked → Expression → Type 0
-IsUnary d us e = IsExpression g.Unary d 0 us e
+IsUnary d us e = IsExpression exp.Unary d 0 us e
 
 abbrev pub IsAtom : ℕ → List Marked → Expression → Type 0
-IsAtom d us e = IsExpression g.Atom d 0 us e
+IsAtom d us e = IsExpression exp.Atom d 0 us e
 
 -- a value that was made, where it is so spelled
 made : {T : Type 0} (P : List Marked → T → Type 0) (ts us : List Marked) (x y : T) → us ≡ ts → x ≡ y → P ts x → P us y
@@ -248,20 +256,20 @@ made {T} P ts us x y e f p =
     subst F (sym e) (subst G f p)
 
 some_atom : (d : ℕ) → Possible (IsAtom d)
-some_atom d = record { list = plain (s.Number (pos 0)) ∷ []; value = plain_code.Lit (pos 0); fits = g.number d (pos 0) }
+some_atom d = record { list = plain (s.Number (pos 0)) ∷ []; value = plain_code.Lit (pos 0); fits = exp.number d (pos 0) }
 
 some_unary : (d : ℕ) → Possible (IsUnary d)
-some_unary d = possibly (λ us e a. g.as_unary a) (some_atom d)
+some_unary d = possibly (λ us e a. exp.as_unary a) (some_atom d)
 
 some_sum : (d : ℕ) → Possible (IsSum d)
-some_sum d = possibly (λ us e u. record { operators = 0; spelled = g.as_sum (g.as_product u) }) (some_unary d)
+some_sum d = possibly (λ us e u. record { operators = 0; spelled = exp.as_sum (exp.as_product u) }) (some_unary d)
 
 module _ (deeper : Option (Parser Expression)) (d : ℕ) (inner : Inner deeper (IsSum (suc d)) d) where
   is_element : (x : Name) (us : List Marked) (e : Expression) → Both (Enclosed d mark.OpenSquare mark.CloseSquare (IsSum (suc d))) (λ i. Is (plain_code.Read x.0 i)) us e → IsAtom d (plain (s.Name x) ∷ us) e
-  is_element x us e b = made (λ l y. IsAtom d (plain (s.Name x) ∷ l) y) (opens mark.OpenSquare d ∷ (b.one.body ++ word mark.CloseSquare ∷ [])) us (plain_code.Read x.0 b.value) e (b.parts ∙ ap (λ (l : List Marked). b.front ++ l) b.two.none ∙ append-nil b.front ∙ b.one.split) b.two.same (g.element x b.one.fits.spelled)
+  is_element x us e b = made (λ l y. IsAtom d (plain (s.Name x) ∷ l) y) (opens mark.OpenSquare d ∷ (b.one.body ++ word mark.CloseSquare ∷ [])) us (plain_code.Read x.0 b.value) e (b.parts ∙ ap (λ (l : List Marked). b.front ++ l) b.two.none ∙ append-nil b.front ∙ b.one.split) b.two.same (exp.element x b.one.fits.spelled)
 
   is_variable : (x : Name) (us : List Marked) (e : Expression) → Is (plain_code.Var x.0) us e → IsAtom d (plain (s.Name x) ∷ us) e
-  is_variable x us e i = made (λ l y. IsAtom d (plain (s.Name x) ∷ l) y) [] us (plain_code.Var x.0) e i.none i.same (g.variable d x)
+  is_variable x us e i = made (λ l y. IsAtom d (plain (s.Name x) ∷ l) y) [] us (plain_code.Var x.0) e i.none i.same (exp.variable d x)
 
   named_told : (x : Name) → Describes (r.named deeper x) (λ us e. IsAtom d (plain (s.Name x) ∷ us) e)
   unfolding r.named r.index
@@ -272,10 +280,10 @@ module _ (deeper : Option (Parser Expression)) (d : ℕ) (inner : Inner deeper (
       by o false e = anywhere o (weaken (is_variable x) (give (plain_code.Var x.0)))
 
   is_literal : (z : ℤ) (us : List Marked) (e : Expression) → Is (plain_code.Lit z) us e → IsAtom d (plain (s.Number z) ∷ us) e
-  is_literal z us e i = made (λ l y. IsAtom d (plain (s.Number z) ∷ l) y) [] us (plain_code.Lit z) e i.none i.same (g.number d z)
+  is_literal z us e i = made (λ l y. IsAtom d (plain (s.Number z) ∷ l) y) [] us (plain_code.Lit z) e i.none i.same (exp.number d z)
 
   is_group : (us : List Marked) (e : Expression) → Enclosed d mark.OpenRound mark.CloseRound (IsSum (suc d)) us e → IsAtom d us e
-  is_group us e b = let F : List Marked → Type 0 = λ l. IsAtom d l e in subst F (sym b.split) (g.group b.fits.spelled)
+  is_group us e b = let F : List Marked → Type 0 = λ l. IsAtom d l e in subst F (sym b.split) (exp.group b.fits.spelled)
 
   parenthesized_at : (m : Mark) (b : Bool) → sameb the_type m mark.OpenRound ≡ b → DescribesAt (Some (s.Mark m)) (if b then r.parenthesized deeper else refuse Expected) (IsAtom d)
   unfolding r.parenthesized
@@ -295,7 +303,7 @@ module _ (deeper : Option (Parser Expression)) (d : ℕ) (inner : Inner deeper (
       by (Some (s.Name x)) = after (s.Name x) (λ us e i. i) (named_told x)
 
   is_negative : (us : List Marked) (e : Expression) → Both (IsAtom d) (λ f. Is (plain_code.Neg f)) us e → IsUnary d (word mark.Minus ∷ us) e
-  is_negative us e b = made (λ l y. IsUnary d (word mark.Minus ∷ l) y) b.front us (plain_code.Neg b.value) e (b.parts ∙ ap (λ (l : List Marked). b.front ++ l) b.two.none ∙ append-nil b.front) b.two.same (g.negative b.one)
+  is_negative us e b = made (λ l y. IsUnary d (word mark.Minus ∷ l) y) b.front us (plain_code.Neg b.value) e (b.parts ∙ ap (λ (l : List Marked). b.front ++ l) b.two.none ∙ append-nil b.front) b.two.same (exp.negative b.one)
 
   unary_told : Describes (r.unary deeper) (IsUnary d)
   unfolding r.unary
@@ -303,51 +311,51 @@ module _ (deeper : Option (Parser Expression)) (d : ℕ) (inner : Inner deeper (
     where
       by : (o : Option Symbol) (b : Bool) → stands mark.Minus o ≡ b → DescribesAt o (r.unary_by deeper b) (IsUnary d)
       by o true e = standing mark.Minus o e (after (s.Mark mark.Minus) is_negative (bind atom_told (λ f. give (plain_code.Neg f))))
-      by o false e = anywhere o (weaken (λ us e a. g.as_unary a) atom_told)
+      by o false e = anywhere o (weaken (λ us e a. exp.as_unary a) atom_told)
 
-  product_joins : (o : Option Symbol) (make : Expression → Expression → Expression) → r.product_operators o ≡ Some make → Joins (λ k us e. IsExpression g.Product d k us e) (IsUnary d) o make
+  product_joins : (o : Option Symbol) (make : Expression → Expression → Expression) → r.product_operators o ≡ Some make → Joins (λ k us e. IsExpression exp.Product d k us e) (IsUnary d) o make
   product_joins o make e = by (stands mark.Star o) refl e
     where
-      by : (b : Bool) → stands mark.Star o ≡ b → (if b then Some plain_code.Times else None) ≡ Some make → Joins (λ k us e. IsExpression g.Product d k us e) (IsUnary d) o make
+      by : (b : Bool) → stands mark.Star o ≡ b → (if b then Some plain_code.Times else None) ≡ Some make → Joins (λ k us e. IsExpression exp.Product d k us e) (IsUnary d) o make
       by true f p =
           let same : plain_code.Times ≡ make = cc in
-          let F : (Expression → Expression → Expression) → Type 0 = λ m. Joins (λ k us e. IsExpression g.Product d k us e) (IsUnary d) o m in
-          subst F same (record { sign = mark.Star; stood = stands-is mark.Star o f; makes = λ k ts us x y a b. g.times a b })
+          let F : (Expression → Expression → Expression) → Type 0 = λ m. Joins (λ k us e. IsExpression exp.Product d k us e) (IsUnary d) o m in
+          subst F same (record { sign = mark.Star; stood = stands-is mark.Star o f; makes = λ k ts us x y a b. exp.times a b })
       by false f p = cc
 
-  is_product : (us : List Marked) (e : Expression) → Both (IsUnary d) (λ x. Chained (λ k us e. IsExpression g.Product d k us e) 63 x) us e → IsProduct d us e
+  is_product : (us : List Marked) (e : Expression) → Both (IsUnary d) (λ x. Chained (λ k us e. IsExpression exp.Product d k us e) 63 x) us e → IsProduct d us e
   is_product us e b =
-      let c = b.two.goes 0 b.front refl (g.as_product b.one) in
-      let F : List Marked → Type 0 = λ l. IsExpression g.Product d c.0 l e in
+      let c = b.two.goes 0 b.front refl (exp.as_product b.one) in
+      let F : List Marked → Type 0 = λ l. IsExpression exp.Product d c.0 l e in
       record { operators = c.0; spelled = subst F (sym b.parts) c.1 }
 
   product_told : Describes (r.product deeper) (IsProduct d)
   unfolding r.product r.factors r.chain_limit
-  product_told = weaken is_product (bind unary_told (λ x. chain_told r.product_operators (r.unary deeper) (λ k us e. IsExpression g.Product d k us e) (IsUnary d) unary_told product_joins 63 x))
+  product_told = weaken is_product (bind unary_told (λ x. chain_told r.product_operators (r.unary deeper) (λ k us e. IsExpression exp.Product d k us e) (IsUnary d) unary_told product_joins 63 x))
 
-  sum_joins : (o : Option Symbol) (make : Expression → Expression → Expression) → r.sum_operators o ≡ Some make → Joins (λ k us e. IsExpression g.Sum d k us e) (IsProduct d) o make
+  sum_joins : (o : Option Symbol) (make : Expression → Expression → Expression) → r.sum_operators o ≡ Some make → Joins (λ k us e. IsExpression exp.Sum d k us e) (IsProduct d) o make
   sum_joins o make e = by (stands mark.Plus o) refl (stands mark.Minus o) refl e
     where
-      by : (a : Bool) → stands mark.Plus o ≡ a → (b : Bool) → stands mark.Minus o ≡ b → (if a then Some plain_code.Plus else (if b then Some plain_code.Minus else None)) ≡ Some make → Joins (λ k us e. IsExpression g.Sum d k us e) (IsProduct d) o make
+      by : (a : Bool) → stands mark.Plus o ≡ a → (b : Bool) → stands mark.Minus o ≡ b → (if a then Some plain_code.Plus else (if b then Some plain_code.Minus else None)) ≡ Some make → Joins (λ k us e. IsExpression exp.Sum d k us e) (IsProduct d) o make
       by true f b h p =
           let same : plain_code.Plus ≡ make = cc in
-          let F : (Expression → Expression → Expression) → Type 0 = λ m. Joins (λ k us e. IsExpression g.Sum d k us e) (IsProduct d) o m in
-          subst F same (record { sign = mark.Plus; stood = stands-is mark.Plus o f; makes = λ k ts us x y a b. g.plus a b.spelled })
+          let F : (Expression → Expression → Expression) → Type 0 = λ m. Joins (λ k us e. IsExpression exp.Sum d k us e) (IsProduct d) o m in
+          subst F same (record { sign = mark.Plus; stood = stands-is mark.Plus o f; makes = λ k ts us x y a b. exp.plus a b.spelled })
       by false f true h p =
           let same : plain_code.Minus ≡ make = cc in
-          let F : (Expression → Expression → Expression) → Type 0 = λ m. Joins (λ k us e. IsExpression g.Sum d k us e) (IsProduct d) o m in
-          subst F same (record { sign = mark.Minus; stood = stands-is mark.Minus o h; makes = λ k ts us x y a b. g.minus a b.spelled })
+          let F : (Expression → Expression → Expression) → Type 0 = λ m. Joins (λ k us e. IsExpression exp.Sum d k us e) (IsProduct d) o m in
+          subst F same (record { sign = mark.Minus; stood = stands-is mark.Minus o h; makes = λ k ts us x y a b. exp.minus a b.spelled })
       by false f false h p = cc
 
-  is_sum : (us : List Marked) (e : Expression) → Both (IsProduct d) (λ x. Chained (λ k us e. IsExpression g.Sum d k us e) 63 x) us e → IsSum d us e
+  is_sum : (us : List Marked) (e : Expression) → Both (IsProduct d) (λ x. Chained (λ k us e. IsExpression exp.Sum d k us e) 63 x) us e → IsSum d us e
   is_sum us e b =
-      let c = b.two.goes 0 b.front refl (g.as_sum b.one.spelled) in
-      let F : List Marked → Type 0 = λ l. IsExpression g.Sum d c.0 l e in
+      let c = b.two.goes 0 b.front refl (exp.as_sum b.one.spelled) in
+      let F : List Marked → Type 0 = λ l. IsExpression exp.Sum d c.0 l e in
       record { operators = c.0; spelled = subst F (sym b.parts) c.1 }
 
   pub sum_told : Describes (r.sum deeper) (IsSum d)
   unfolding r.sum r.terms r.chain_limit
-  sum_told = weaken is_sum (bind product_told (λ x. chain_told r.sum_operators (r.product deeper) (λ k us e. IsExpression g.Sum d k us e) (IsProduct d) product_told sum_joins 63 x))
+  sum_told = weaken is_sum (bind product_told (λ x. chain_told r.sum_operators (r.product deeper) (λ k us e. IsExpression exp.Sum d k us e) (IsProduct d) product_told sum_joins 63 x))
 
 shallow : (d n : ℕ) → d + suc n ≡ 64 → nat_le 64 d ≡ false
 shallow d n e = grind (arith, nat_tests)
@@ -399,31 +407,31 @@ comparison_told = choose_by (λ o. r.comparison_if (r.comparison_of o)) (λ ts. 
 -- a condition where d groups are open
 pub record IsDisjunction (d : ℕ) (us : List Marked) (b : Condition) : Type 0 where
   pub operators : ℕ
-  pub spelled : IsCondition g.Disjunction d operators us b
+  pub spelled : IsCondition cond.Disjunction d operators us b
 
 -- the same of a conjunction
 pub record IsConjunction (d : ℕ) (us : List Marked) (b : Condition) : Type 0 where
   pub operators : ℕ
-  pub spelled : IsCondition g.Conjunction d operators us b
+  pub spelled : IsCondition cond.Conjunction d operators us b
 
 abbrev pub IsLiteral : ℕ → List Marked → Condition → Type 0
-IsLiteral d us b = IsCondition g.Literal d 0 us b
+IsLiteral d us b = IsCondition cond.Literal d 0 us b
 
 abbrev pub IsTest : ℕ → List Marked → Condition → Type 0
-IsTest d us b = IsCondition g.Test d 0 us b
+IsTest d us b = IsCondition cond.Test d 0 us b
 
 some_test : (d : ℕ) → Possible (IsTest d)
-some_test d = record { list = word mark.True ∷ []; value = plain_code.Yes; fits = g.always d }
+some_test d = record { list = word mark.True ∷ []; value = plain_code.Yes; fits = cond.always d }
 
 some_literal : (d : ℕ) → Possible (IsLiteral d)
-some_literal d = possibly (λ us b t. g.as_literal t) (some_test d)
+some_literal d = possibly (λ us b t. cond.as_literal t) (some_test d)
 
 some_disjunction : (d : ℕ) → Possible (IsDisjunction d)
-some_disjunction d = possibly (λ us b l. record { operators = 0; spelled = g.as_disjunction (g.as_conjunction l) }) (some_literal d)
+some_disjunction d = possibly (λ us b l. record { operators = 0; spelled = cond.as_disjunction (cond.as_conjunction l) }) (some_literal d)
 
 module _ (deeper : Option (Parser Condition)) (value : Parser Expression) (d : ℕ) (inner : Inner deeper (IsDisjunction (suc d)) d) (reads : Describes value (IsSum d)) where
   is_compared : (us : List Marked) (b : Condition) → Both (IsSum d) (λ x. Both IsComparison (λ op. Both (IsSum d) (λ y. Is (plain_code.Compare op x y)))) us b → IsTest d us b
-  is_compared us b p = made (λ l y. IsTest d l y) (p.front ++ word (comparison p.two.value) ∷ p.two.two.front) us (plain_code.Compare p.two.value p.value p.two.two.value) b line p.two.two.two.same (g.compares p.two.value p.one.spelled p.two.two.one.spelled)
+  is_compared us b p = made (λ l y. IsTest d l y) (p.front ++ word (comparison p.two.value) ∷ p.two.two.front) us (plain_code.Compare p.two.value p.value p.two.two.value) b line p.two.two.two.same (cond.compares p.two.value p.one.spelled p.two.two.one.spelled)
     where
       line : us ≡ p.front ++ word (comparison p.two.value) ∷ p.two.two.front
       line = p.parts ∙ ap (λ (l : List Marked). p.front ++ l) (p.two.parts ∙ ap (λ (l : List Marked). l ++ p.two.behind) p.two.one ∙ ap (λ (l : List Marked). word (comparison p.two.value) ∷ l) (p.two.two.parts ∙ ap (λ (l : List Marked). p.two.two.front ++ l) p.two.two.two.none ∙ append-nil p.two.two.front))
@@ -436,7 +444,7 @@ module _ (deeper : Option (Parser Condition)) (value : Parser Expression) (d : �
   is_constant m c t us b i = made (λ l y. IsTest d (word m ∷ l) y) [] us c b i.none i.same t
 
   is_bracketed : (us : List Marked) (b : Condition) → Enclosed d mark.OpenSquare mark.CloseSquare (IsDisjunction (suc d)) us b → IsTest d us b
-  is_bracketed us b e = let F : List Marked → Type 0 = λ l. IsTest d l b in subst F (sym e.split) (g.group e.fits.spelled)
+  is_bracketed us b e = let F : List Marked → Type 0 = λ l. IsTest d l b in subst F (sym e.split) (cond.group e.fits.spelled)
 
   constant_at : (m : Mark) (c : Condition) → IsTest d (word m ∷ []) c → DescribesAt (Some (s.Mark m)) (skip >> pure c) (IsTest d)
   constant_at m c t = after (s.Mark m) (is_constant m c t) (give c)
@@ -450,13 +458,13 @@ module _ (deeper : Option (Parser Condition)) (value : Parser Expression) (d : �
   test_told = choose_by (r.test_at deeper value) (λ ts. refl) (some_test d) (λ o. by o (stands mark.True o) refl (stands mark.False o) refl (stands mark.OpenSquare o) refl)
     where
       by : (o : Option Symbol) (a : Bool) → stands mark.True o ≡ a → (b : Bool) → stands mark.False o ≡ b → (c : Bool) → stands mark.OpenSquare o ≡ c → DescribesAt o (if a then skip >> pure plain_code.Yes else (if b then skip >> pure plain_code.No else (if c then r.bracketed deeper else r.compared value))) (IsTest d)
-      by o true e b f c h = standing mark.True o e (constant_at mark.True plain_code.Yes (g.always d))
-      by o false e true f c h = standing mark.False o f (constant_at mark.False plain_code.No (g.never d))
+      by o true e b f c h = standing mark.True o e (constant_at mark.True plain_code.Yes (cond.always d))
+      by o false e true f c h = standing mark.False o f (constant_at mark.False plain_code.No (cond.never d))
       by o false e false f true h = standing mark.OpenSquare o h bracketed_at
       by o false e false f false h = anywhere o compared_told
 
   is_denied : (us : List Marked) (b : Condition) → Both (IsTest d) (λ c. Is (plain_code.Not c)) us b → IsLiteral d (word mark.Bang ∷ us) b
-  is_denied us b p = made (λ l y. IsLiteral d (word mark.Bang ∷ l) y) p.front us (plain_code.Not p.value) b (p.parts ∙ ap (λ (l : List Marked). p.front ++ l) p.two.none ∙ append-nil p.front) p.two.same (g.denied p.one)
+  is_denied us b p = made (λ l y. IsLiteral d (word mark.Bang ∷ l) y) p.front us (plain_code.Not p.value) b (p.parts ∙ ap (λ (l : List Marked). p.front ++ l) p.two.none ∙ append-nil p.front) p.two.same (cond.denied p.one)
 
   literal_told : Describes (r.literal deeper value) (IsLiteral d)
   unfolding r.literal
@@ -464,47 +472,47 @@ module _ (deeper : Option (Parser Condition)) (value : Parser Expression) (d : �
     where
       by : (o : Option Symbol) (b : Bool) → stands mark.Bang o ≡ b → DescribesAt o (r.literal_by deeper value b) (IsLiteral d)
       by o true e = standing mark.Bang o e (after (s.Mark mark.Bang) is_denied (bind test_told (λ c. give (plain_code.Not c))))
-      by o false e = anywhere o (weaken (λ us b t. g.as_literal t) test_told)
+      by o false e = anywhere o (weaken (λ us b t. cond.as_literal t) test_told)
 
-  conjunction_joins : (o : Option Symbol) (make : Condition → Condition → Condition) → r.conjunction_operators o ≡ Some make → Joins (λ k us b. IsCondition g.Conjunction d k us b) (IsLiteral d) o make
+  conjunction_joins : (o : Option Symbol) (make : Condition → Condition → Condition) → r.conjunction_operators o ≡ Some make → Joins (λ k us b. IsCondition cond.Conjunction d k us b) (IsLiteral d) o make
   conjunction_joins o make e = by (stands mark.Both o) refl e
     where
-      by : (b : Bool) → stands mark.Both o ≡ b → (if b then Some plain_code.And else None) ≡ Some make → Joins (λ k us b. IsCondition g.Conjunction d k us b) (IsLiteral d) o make
+      by : (b : Bool) → stands mark.Both o ≡ b → (if b then Some plain_code.And else None) ≡ Some make → Joins (λ k us b. IsCondition cond.Conjunction d k us b) (IsLiteral d) o make
       by true f p =
           let same : plain_code.And ≡ make = cc in
-          let F : (Condition → Condition → Condition) → Type 0 = λ m. Joins (λ k us b. IsCondition g.Conjunction d k us b) (IsLiteral d) o m in
-          subst F same (record { sign = mark.Both; stood = stands-is mark.Both o f; makes = λ k ts us x y a b. g.both a b })
+          let F : (Condition → Condition → Condition) → Type 0 = λ m. Joins (λ k us b. IsCondition cond.Conjunction d k us b) (IsLiteral d) o m in
+          subst F same (record { sign = mark.Both; stood = stands-is mark.Both o f; makes = λ k ts us x y a b. cond.both a b })
       by false f p = cc
 
-  is_conjunction : (us : List Marked) (b : Condition) → Both (IsLiteral d) (λ x. Chained (λ k us b. IsCondition g.Conjunction d k us b) 63 x) us b → IsConjunction d us b
+  is_conjunction : (us : List Marked) (b : Condition) → Both (IsLiteral d) (λ x. Chained (λ k us b. IsCondition cond.Conjunction d k us b) 63 x) us b → IsConjunction d us b
   is_conjunction us b p =
-      let c = p.two.goes 0 p.front refl (g.as_conjunction p.one) in
-      let F : List Marked → Type 0 = λ l. IsCondition g.Conjunction d c.0 l b in
+      let c = p.two.goes 0 p.front refl (cond.as_conjunction p.one) in
+      let F : List Marked → Type 0 = λ l. IsCondition cond.Conjunction d c.0 l b in
       record { operators = c.0; spelled = subst F (sym p.parts) c.1 }
 
   conjunction_told : Describes (r.conjunction deeper value) (IsConjunction d)
   unfolding r.conjunction r.literals r.chain_limit
-  conjunction_told = weaken is_conjunction (bind literal_told (λ x. chain_told r.conjunction_operators (r.literal deeper value) (λ k us b. IsCondition g.Conjunction d k us b) (IsLiteral d) literal_told conjunction_joins 63 x))
+  conjunction_told = weaken is_conjunction (bind literal_told (λ x. chain_told r.conjunction_operators (r.literal deeper value) (λ k us b. IsCondition cond.Conjunction d k us b) (IsLiteral d) literal_told conjunction_joins 63 x))
 
-  disjunction_joins : (o : Option Symbol) (make : Condition → Condition → Condition) → r.disjunction_operators o ≡ Some make → Joins (λ k us b. IsCondition g.Disjunction d k us b) (IsConjunction d) o make
+  disjunction_joins : (o : Option Symbol) (make : Condition → Condition → Condition) → r.disjunction_operators o ≡ Some make → Joins (λ k us b. IsCondition cond.Disjunction d k us b) (IsConjunction d) o make
   disjunction_joins o make e = by (stands mark.Either o) refl e
     where
-      by : (b : Bool) → stands mark.Either o ≡ b → (if b then Some plain_code.Or else None) ≡ Some make → Joins (λ k us b. IsCondition g.Disjunction d k us b) (IsConjunction d) o make
+      by : (b : Bool) → stands mark.Either o ≡ b → (if b then Some plain_code.Or else None) ≡ Some make → Joins (λ k us b. IsCondition cond.Disjunction d k us b) (IsConjunction d) o make
       by true f p =
           let same : plain_code.Or ≡ make = cc in
-          let F : (Condition → Condition → Condition) → Type 0 = λ m. Joins (λ k us b. IsCondition g.Disjunction d k us b) (IsConjunction d) o m in
-          subst F same (record { sign = mark.Either; stood = stands-is mark.Either o f; makes = λ k ts us x y a b. g.either a b.spelled })
+          let F : (Condition → Condition → Condition) → Type 0 = λ m. Joins (λ k us b. IsCondition cond.Disjunction d k us b) (IsConjunction d) o m in
+          subst F same (record { sign = mark.Either; stood = stands-is mark.Either o f; makes = λ k ts us x y a b. cond.either a b.spelled })
       by false f p = cc
 
-  is_disjunction : (us : List Marked) (b : Condition) → Both (IsConjunction d) (λ x. Chained (λ k us b. IsCondition g.Disjunction d k us b) 63 x) us b → IsDisjunction d us b
+  is_disjunction : (us : List Marked) (b : Condition) → Both (IsConjunction d) (λ x. Chained (λ k us b. IsCondition cond.Disjunction d k us b) 63 x) us b → IsDisjunction d us b
   is_disjunction us b p =
-      let c = p.two.goes 0 p.front refl (g.as_disjunction p.one.spelled) in
-      let F : List Marked → Type 0 = λ l. IsCondition g.Disjunction d c.0 l b in
+      let c = p.two.goes 0 p.front refl (cond.as_disjunction p.one.spelled) in
+      let F : List Marked → Type 0 = λ l. IsCondition cond.Disjunction d c.0 l b in
       record { operators = c.0; spelled = subst F (sym p.parts) c.1 }
 
   pub disjunction_told : Describes (r.disjunction deeper value) (IsDisjunction d)
   unfolding r.disjunction r.conjunctions r.chain_limit
-  disjunction_told = weaken is_disjunction (bind conjunction_told (λ x. chain_told r.disjunction_operators (r.conjunction deeper value) (λ k us b. IsCondition g.Disjunction d k us b) (IsConjunction d) conjunction_told disjunction_joins 63 x))
+  disjunction_told = weaken is_disjunction (bind conjunction_told (λ x. chain_told r.disjunction_operators (r.conjunction deeper value) (λ k us b. IsCondition cond.Disjunction d k us b) (IsConjunction d) conjunction_told disjunction_joins 63 x))
 
 -- the rule inside a group of a condition
 pub inner_condition_told : (n d : ℕ) → d + n ≡ 64 → Inner (r.inner_condition n) (IsDisjunction (suc d)) d
@@ -535,7 +543,7 @@ module _ (n d : ℕ) (fits : d + n ≡ 64) (body : Parser Code) (blocks : Descri
       goes : (vs : List Marked) (k : Code) → AreStatements d vs k → AreStatements d (plain (s.Name x) ∷ (word mark.Becomes ∷ (b.two.front ++ word mark.Semicolon ∷ []) ++ vs)) (plain_code.Assign x.0 b.two.value k)
       goes vs k others =
           let F : List Marked → Type 0 = λ l. AreStatements d (plain (s.Name x) ∷ word mark.Becomes ∷ l) (plain_code.Assign x.0 b.two.value k) in
-          subst F (sym (append_assoc b.two.front (word mark.Semicolon ∷ []) vs)) (g.assigns x b.two.one.spelled others)
+          subst F (sym (append_assoc b.two.front (word mark.Semicolon ∷ []) vs)) (stmt.assigns x b.two.one.spelled others)
 
   assignment_told : (x : Name) → Describes (r.assignment n x) (λ us f. IsStatement d (plain (s.Name x) ∷ us) f)
   unfolding r.assignment
@@ -553,7 +561,7 @@ module _ (n d : ℕ) (fits : d + n ≡ 64) (body : Parser Code) (blocks : Descri
       goes : (vs : List Marked) (k : Code) → AreStatements d vs k → AreStatements d (plain (s.Name x) ∷ (opens mark.OpenSquare d ∷ (b.one.body ++ word mark.CloseSquare ∷ word mark.Becomes ∷ (b.two.two.front ++ word mark.Semicolon ∷ [])) ++ vs)) (plain_code.Write x.0 b.value b.two.two.value k)
       goes vs k others =
           let F : List Marked → Type 0 = λ l. AreStatements d (plain (s.Name x) ∷ opens mark.OpenSquare d ∷ l) (plain_code.Write x.0 b.value b.two.two.value k) in
-          subst F (sym (append_assoc b.one.body (word mark.CloseSquare ∷ word mark.Becomes ∷ (b.two.two.front ++ word mark.Semicolon ∷ [])) vs ∙ ap (λ (l : List Marked). b.one.body ++ word mark.CloseSquare ∷ word mark.Becomes ∷ l) (append_assoc b.two.two.front (word mark.Semicolon ∷ []) vs))) (g.writes x b.one.fits.spelled b.two.two.one.spelled others)
+          subst F (sym (append_assoc b.one.body (word mark.CloseSquare ∷ word mark.Becomes ∷ (b.two.two.front ++ word mark.Semicolon ∷ [])) vs ∙ ap (λ (l : List Marked). b.one.body ++ word mark.CloseSquare ∷ word mark.Becomes ∷ l) (append_assoc b.two.two.front (word mark.Semicolon ∷ []) vs))) (stmt.writes x b.one.fits.spelled b.two.two.one.spelled others)
 
   changed_told : (x : Name) → Describes (r.changed n x) (λ us f. IsStatement d (plain (s.Name x) ∷ us) f)
   unfolding r.changed r.write r.index
@@ -564,7 +572,7 @@ module _ (n d : ℕ) (fits : d + n ≡ 64) (body : Parser Code) (blocks : Descri
       by o false e = anywhere o (assignment_told x)
 
   is_hole_statement : (us : List Marked) (f : Code → Code) → Both IsHole (λ h. Both (IsMark mark.Semicolon) (λ _. Is (plain_code.Hole h))) us f → IsStatement d (word mark.Question ∷ us) f
-  is_hole_statement us f b = same_statement d (s.Mark mark.Question) (plain (s.Number (pos b.value)) ∷ word mark.Semicolon ∷ []) us (plain_code.Hole b.value) f line b.two.two.same (λ vs k others. g.holes b.value b.one.inside others)
+  is_hole_statement us f b = same_statement d (s.Mark mark.Question) (plain (s.Number (pos b.value)) ∷ word mark.Semicolon ∷ []) us (plain_code.Hole b.value) f line b.two.two.same (λ vs k others. stmt.holes b.value b.one.inside others)
     where
       line : us ≡ plain (s.Number (pos b.value)) ∷ word mark.Semicolon ∷ []
       line = b.parts ∙ ap (λ (l : List Marked). l ++ b.behind) b.one.split ∙ ap (λ (l : List Marked). plain (s.Number (pos b.value)) ∷ l) (b.two.parts ∙ ap (λ (l : List Marked). l ++ b.two.behind) b.two.one ∙ ap (λ (l : List Marked). word mark.Semicolon ∷ l) b.two.two.none)
@@ -574,7 +582,7 @@ module _ (n d : ℕ) (fits : d + n ≡ 64) (body : Parser Code) (blocks : Descri
   hole_told = weaken is_hole_statement (bind hole_number_told (λ h. both (expect_told mark.Semicolon) (give (plain_code.Hole h))))
 
   is_skip : (us : List Marked) (f : Code → Code) → Both (IsMark mark.Semicolon) (λ _. Is plain_code.Skip) us f → IsStatement d (word mark.Skip ∷ us) f
-  is_skip us f b = same_statement d (s.Mark mark.Skip) (word mark.Semicolon ∷ []) us plain_code.Skip f line b.two.same (λ vs k others. g.skips others)
+  is_skip us f b = same_statement d (s.Mark mark.Skip) (word mark.Semicolon ∷ []) us plain_code.Skip f line b.two.same (λ vs k others. stmt.skips others)
     where
       line : us ≡ word mark.Semicolon ∷ []
       line = b.parts ∙ ap (λ (l : List Marked). l ++ b.behind) b.one ∙ ap (λ (l : List Marked). word mark.Semicolon ∷ l) b.two.none
@@ -596,7 +604,7 @@ module _ (n d : ℕ) (fits : d + n ≡ 64) (body : Parser Code) (blocks : Descri
       goes : (vs : List Marked) (k : Code) → AreStatements d vs k → AreStatements d (word mark.If ∷ (opens mark.OpenRound d ∷ (b.one.body ++ word mark.CloseRound ∷ (b.two.front ++ word mark.Else ∷ b.two.two.two.front)) ++ vs)) (plain_code.If b.value b.two.value b.two.two.two.value k)
       goes vs k others =
           let F : List Marked → Type 0 = λ l. AreStatements d (word mark.If ∷ opens mark.OpenRound d ∷ l) (plain_code.If b.value b.two.value b.two.two.two.value k) in
-          subst F (sym (append_assoc b.one.body (word mark.CloseRound ∷ (b.two.front ++ word mark.Else ∷ b.two.two.two.front)) vs ∙ ap (λ (l : List Marked). b.one.body ++ word mark.CloseRound ∷ l) (append_assoc b.two.front (word mark.Else ∷ b.two.two.two.front) vs))) (g.branches b.one.fits.spelled b.two.one b.two.two.two.one others)
+          subst F (sym (append_assoc b.one.body (word mark.CloseRound ∷ (b.two.front ++ word mark.Else ∷ b.two.two.two.front)) vs ∙ ap (λ (l : List Marked). b.one.body ++ word mark.CloseRound ∷ l) (append_assoc b.two.front (word mark.Else ∷ b.two.two.two.front) vs))) (stmt.branches b.one.fits.spelled b.two.one b.two.two.two.one others)
 
   branch_told : Describes (r.branch n body) (λ us f. IsStatement d (word mark.If ∷ us) f)
   unfolding r.branch
@@ -611,7 +619,7 @@ module _ (n d : ℕ) (fits : d + n ≡ 64) (body : Parser Code) (blocks : Descri
       goes : (vs : List Marked) (k : Code) → AreStatements d vs k → AreStatements d (word mark.While ∷ (opens mark.OpenRound d ∷ (b.one.body ++ word mark.CloseRound ∷ b.two.front) ++ vs)) (plain_code.While b.value b.two.value k)
       goes vs k others =
           let F : List Marked → Type 0 = λ l. AreStatements d (word mark.While ∷ opens mark.OpenRound d ∷ l) (plain_code.While b.value b.two.value k) in
-          subst F (sym (append_assoc b.one.body (word mark.CloseRound ∷ b.two.front) vs)) (g.loops b.one.fits.spelled b.two.one others)
+          subst F (sym (append_assoc b.one.body (word mark.CloseRound ∷ b.two.front) vs)) (stmt.loops b.one.fits.spelled b.two.one others)
 
   loop_told : Describes (r.repeated n body) (λ us f. IsStatement d (word mark.While ∷ us) f)
   unfolding r.repeated
@@ -663,7 +671,7 @@ statements_behind d (more {us = us} {vs = ws} {x = f} {before = before} {last = 
 
 are_statements : (d : ℕ) (us : List Marked) (c : Code) → Both (Gathers (IsStatement d) r.with_statement (λ k. k)) (λ front. Is (front plain_code.End)) us c → AreStatements d us c
 are_statements d us c b =
-    let n = statements_behind d b.one [] plain_code.End (g.none d) in
+    let n = statements_behind d b.one [] plain_code.End (stmt.none d) in
     let F : Code → Type 0 = λ x. AreStatements d b.front x in
     let G : List Marked → Type 0 = λ l. AreStatements d l n.code in
     made (λ l y. AreStatements d l y) b.front us (b.value plain_code.End) c (b.parts ∙ ap (λ (l : List Marked). b.front ++ l) b.two.none ∙ append-nil b.front) b.two.same (subst F (sym n.same) (subst G (append-nil b.front) n.statements))
@@ -673,7 +681,7 @@ unfolding r.statements r.more_statements
 statements_told n d e body blocks = weaken (are_statements d) (bind (gathered r.begins_statement (r.statement n body) r.with_statement (IsStatement d) (statement_told n d e body blocks) (λ us f i. i.some) (λ k. k)) (λ front. give (front plain_code.End)))
 
 is_block : (d : ℕ) (us : List Marked) (c : Code) → Enclosed d mark.OpenCurly mark.CloseCurly (AreStatements (suc d)) us c → IsBlock d us c
-is_block d us c e = let F : List Marked → Type 0 = λ l. IsBlock d l c in subst F (sym e.split) (g.block e.fits)
+is_block d us c e = let F : List Marked → Type 0 = λ l. IsBlock d l c in subst F (sym e.split) (stmt.block e.fits)
 
 pub braced_told : (d : ℕ) (deeper : Option (Parser Code)) → Inner deeper (AreStatements (suc d)) d → Describes (r.braced deeper) (IsBlock d)
 unfolding r.braced
@@ -682,7 +690,7 @@ braced_told d deeper i = weaken (is_block d) (grouped_told deeper (AreStatements
 -- the rule inside a block
 pub inner_block_told : (n d : ℕ) → d + n ≡ 64 → Inner (r.inner_block n) (AreStatements (suc d)) d
 unfolding r.inner_block
-inner_block_told zero d e = (record { list = []; value = plain_code.End; fits = g.none (suc d) }, deep d e)
+inner_block_told zero d e = (record { list = []; value = plain_code.End; fits = stmt.none (suc d) }, deep d e)
 inner_block_told (suc n) d e = (statements_told n (suc d) (omega (arith, e)) (r.braced (r.inner_block n)) (braced_told (suc d) (r.inner_block n) (inner_block_told n (suc d) (omega (arith, e)))), shallow d n e)
 
 pub block_told : (n d : ℕ) → d + n ≡ 64 → Describes (r.block n) (IsBlock d)
@@ -695,7 +703,7 @@ pub record IsFilling (us : List Marked) (f : ℕ × Code) : Type 0 where
   pub goes : (vs : List Marked) (fs : Fillings) → AreFillings vs fs → AreFillings (us ++ vs) (f ∷ fs)
 
 is_filling : (us : List Marked) (f : ℕ × Code) → Both (IsMark mark.Question) (λ _. Both IsHole (λ h. Both (IsBlock 1) (λ c. Is (h, c)))) us f → IsFilling us f
-is_filling us f b = subst F (sym line) (subst G b.two.two.two.same (record { some = omega arith; goes = λ vs fs others. g.more b.two.value b.two.one.inside b.two.two.one others }))
+is_filling us f b = subst F (sym line) (subst G b.two.two.two.same (record { some = omega arith; goes = λ vs fs others. task.more b.two.value b.two.one.inside b.two.two.one others }))
   where
     F : List Marked → Type 0
     F l = IsFilling l f
@@ -717,7 +725,7 @@ pub record FillingsBehind (before : Fillings) (us : List Marked) (last : Filling
   pub fillings : AreFillings us others
 
 fillings_behind : {before last : Fillings} {us : List Marked} → Gathers IsFilling r.with_filling before us last → FillingsBehind before us last
-fillings_behind (none before) = record { others = []; same = sym (append-nil before); fillings = g.none }
+fillings_behind (none before) = record { others = []; same = sym (append-nil before); fillings = task.none }
 fillings_behind (more {us = us} {vs = vs} {x = f} {before = before} {last = last} p rest) = one_more (fillings_behind rest)
   where
     one_more : FillingsBehind (r.with_filling before f) vs last → FillingsBehind before (us ++ vs) last
@@ -734,7 +742,7 @@ unfolding r.fillings r.more_fillings
 fillings_told = weaken are_fillings (gathered (stands mark.Question) r.hole_filling r.with_filling IsFilling filling_told (λ us f i. i.some) [])
 
 is_list : (m : Mark) (us : List Marked) (fs : Fillings) → Both (IsMark m) (λ _. Both (IsMark mark.OpenCurly) (λ _. Both AreFillings (λ l. Both (IsMark mark.CloseCurly) (λ _. Is l)))) us fs → IsList m us fs
-is_list m us fs b = subst F (sym line) (subst G b.two.two.two.two.same (g.list m b.two.two.one))
+is_list m us fs b = subst F (sym line) (subst G b.two.two.two.two.same (task.list m b.two.two.one))
   where
     F : List Marked → Type 0
     F l = IsList m l fs
@@ -750,10 +758,10 @@ unfolding r.list
 list_told m = weaken (is_list m) (both (expect_told m) (both (expect_told mark.OpenCurly) (bind fillings_told (λ fs. both (expect_told mark.CloseCurly) (give fs)))))
 
 is_no_assumption : (us : List Marked) (b : Option Condition) → Is None us b → IsAssumption us b
-is_no_assumption us b i = made IsAssumption [] us None b i.none i.same g.none
+is_no_assumption us b i = made IsAssumption [] us None b i.none i.same task.none
 
 is_assumption : (us : List Marked) (b : Option Condition) → Both (IsDisjunction 0) (λ c. Both (IsMark mark.Semicolon) (λ _. Is (Some c))) us b → IsAssumption (word mark.Assume ∷ us) b
-is_assumption us b p = made (λ l y. IsAssumption (word mark.Assume ∷ l) y) (p.front ++ word mark.Semicolon ∷ []) us (Some p.value) b line p.two.two.same (g.assumes p.one.spelled)
+is_assumption us b p = made (λ l y. IsAssumption (word mark.Assume ∷ l) y) (p.front ++ word mark.Semicolon ∷ []) us (Some p.value) b line p.two.two.same (task.assumes p.one.spelled)
   where
     line : us ≡ p.front ++ word mark.Semicolon ∷ []
     line = p.parts ∙ ap (λ (l : List Marked). p.front ++ l) (p.two.parts ∙ ap (λ (l : List Marked). l ++ p.two.behind) p.two.one ∙ ap (λ (l : List Marked). word mark.Semicolon ∷ l) p.two.two.none)
@@ -776,7 +784,7 @@ assumed_told = choose_by (λ o. r.assumed_by (stands mark.Assume o)) (λ ts. ref
 is_shared : (us : List Marked) (c : Code) → Both (IsMark mark.Shared) (λ _. IsBlock 0) us c → IsShared us c
 is_shared us c b =
     let F : List Marked → Type 0 = λ l. IsShared l c in
-    subst F (sym (b.parts ∙ ap (λ (l : List Marked). l ++ b.behind) b.one)) (g.shared b.two)
+    subst F (sym (b.parts ∙ ap (λ (l : List Marked). l ++ b.behind) b.one)) (task.shared b.two)
 
 pub shared_told : Describes r.shared IsShared
 unfolding r.shared r.group_limit
@@ -854,7 +862,7 @@ regrouped : (ds os qs ss rest : List Marked) → (ds ++ (os ++ (qs ++ ss))) ++ r
 regrouped ds os qs ss rest = append_assoc ds (os ++ (qs ++ ss)) rest ∙ ap (λ (l : List Marked). ds ++ l) (append_assoc os (qs ++ ss) rest ∙ ap (λ (l : List Marked). os ++ l) (append_assoc qs ss rest))
 
 is_task : (us : List Marked) (p : r.TaskFront × (Copy → Fillings)) → Both IsFrontOfTask (λ front. Both AreLists (λ fs. Is (front, fs))) us p → IsTaskBody us p
-is_task us p b = subst F (sym line) (subst G b.two.two.same (record { goes = λ names. g.task (r.parts_from names (b.value, b.two.value)) b.one.declared b.one.named b.one.assumed b.one.code b.two.one.base b.two.one.variant_a b.two.one.variant_b b.two.one.candidate }))
+is_task us p b = subst F (sym line) (subst G b.two.two.same (record { goes = λ names. task.task (r.parts_from names (b.value, b.two.value)) b.one.declared b.one.named b.one.assumed b.one.code b.two.one.base b.two.one.variant_a b.two.one.variant_b b.two.one.candidate }))
   where
     F : List Marked → Type 0
     F l = IsTaskBody l p

@@ -7,8 +7,10 @@ use Rattle.sm_syntax.specs.declared.program.Program.{Program}
 use Rattle.sm_syntax.specs.declared.symbol.Symbol.{Symbol}
 use Rattle.sm_syntax.specs.declared.token.Token.{Token}
 use Rattle.sm_syntax.specs.declared.tree.Sort.{Sort}
-use Rattle.sm_syntax.specs.text.Grammar.{Marked, plain, Disjunction, IsCondition, IsBlock}
-use Rattle.sm_syntax.specs.text.Grammar.{AreDeclarations, AreOutputs, IsShared}
+use Rattle.sm_syntax.specs.text.MarkedSymbols.{Marked, plain}
+use Rattle.sm_syntax.specs.text.ConditionGrammar.{Disjunction, IsCondition}
+use Rattle.sm_syntax.specs.text.StatementGrammar.{IsBlock}
+use Rattle.sm_syntax.specs.text.TaskGrammar.{AreDeclarations, AreOutputs, IsShared}
 use Rattle.sm_syntax.specs.trees.Programs.{declared_of, outputs_of}
 use Rattle.sm_syntax.specs.text.Symbols.{text_of, is_among, is_name}
 use Rattle.sm_syntax.specs.text.Symbols.{symbol_of, names_of, symbols_of}

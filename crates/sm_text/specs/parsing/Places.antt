@@ -6,7 +6,8 @@ use Rattle.std.specs.Prelude.{◌≡◌, ℕ, ◌≤◌, true, Option, Some, Non
 use Rattle.sm_syntax.specs.declared.symbol.Symbol.{Symbol}
 use Rattle.sm_syntax.specs.declared.token.LexKind.TheVariants as kind
 use Rattle.sm_syntax.specs.declared.token.Token.{Token}
-use Rattle.sm_syntax.specs.text.Grammar.{Marked, IsTask}
+use Rattle.sm_syntax.specs.text.MarkedSymbols.{Marked}
+use Rattle.sm_syntax.specs.text.TaskGrammar.{IsTask}
 use Rattle.sm_syntax.specs.text.Parts.{Parts}
 use Rattle.sm_text.specs.declared.error.TextError.{TextError}
 use Rattle.sm_text.specs.declared.error.TextError.TheVariants as error

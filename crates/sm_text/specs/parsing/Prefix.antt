@@ -11,8 +11,10 @@ use Rattle.sm_syntax.specs.declared.tree.Block.{Block}
 use Rattle.sm_syntax.specs.declared.tree.Cond.{Cond}
 use Rattle.sm_syntax.specs.declared.tree.Sort.{Sort}
 use Rattle.sm_syntax.specs.text.Uses.{names_tested}
-use Rattle.sm_syntax.specs.text.Grammar.{Marked, plain, AreDeclarations, AreOutputs, IsAssumption}
-use Rattle.sm_syntax.specs.text.Grammar.{IsShared, IsBlock}
+use Rattle.sm_syntax.specs.text.MarkedSymbols.{Marked, plain}
+use Rattle.sm_syntax.specs.text.TaskGrammar.{AreDeclarations, AreOutputs, IsAssumption}
+use Rattle.sm_syntax.specs.text.StatementGrammar.{IsBlock}
+use Rattle.sm_syntax.specs.text.TaskGrammar.{IsShared}
 use Rattle.sm_syntax.specs.text.Parts.{sort_of}
 use Rattle.sm_syntax.specs.text.Symbols.{symbol_of, names_after}
 use Rattle.sm_syntax.specs.claim.Syntax.{Condition, Code}

@@ -6,7 +6,7 @@ use Rattle.sm_syntax.specs.declared.tree.Name.{Name}
 use Rattle.sm_syntax.specs.declared.tree.Sort.{Sort}
 use Rattle.sm_syntax.specs.declared.tree.Stmt.{Stmt}
 use Rattle.sm_syntax.specs.claim.Fill.{Fillings}
-use Rattle.sm_syntax.specs.text.Grammar.{with_sort}
+use Rattle.sm_syntax.specs.text.TaskGrammar.{with_sort}
 use Rattle.sm_syntax.specs.claim.Syntax as plain
 use Rattle.sm_syntax.specs.claim.Syntax.{Expression, Code}
 use Rattle.sm_text.specs.declared.rules.expressions.Operator.{Operator}

@@ -1,7 +1,7 @@
 // Puts the canonical text of expressions and conditions at the end of a list of bytes.
 ghost use Rattle.std.specs.Prelude.{◌≡◌, ◌<◌, ◌++◌, [], length, OnOk, unwrap_or, slice_get, codes};
 ghost use Rattle.std.specs.Fmt.{signed_decimal};
-ghost use Rattle.sm_syntax.specs.text.Grammar.{comparison};
+ghost use Rattle.sm_syntax.specs.text.ConditionGrammar.{comparison};
 ghost use Rattle.sm_syntax.specs.trees.Views.{expression_of, condition_of};
 ghost use Rattle.sm_text.specs.printing.Canonical as canonical;
 ghost use Rattle.sm_text.specs.printing.Named.{IsNamedIn, IsTestedIn};

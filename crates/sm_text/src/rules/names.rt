@@ -5,7 +5,7 @@ ghost use Rattle.sm_syntax.specs.trees.Views.{statement_of};
 ghost use Rattle.sm_text.specs.rules.Answers.{Gives};
 ghost use Rattle.sm_text.specs.rules.Parsers.{stands};
 ghost use Rattle.sm_text.specs.rules.Reading as spec;
-ghost use Rattle.sm_syntax.specs.text.Grammar.{with_sort};
+ghost use Rattle.sm_syntax.specs.text.TaskGrammar.{with_sort};
 ghost use Rattle.sm_syntax.specs.trees.Programs.{declared_of, outputs_of};
 ghost use Rattle.sm_text.specs.rules.Written.{numbers_of, entries_of, declaration_of};
 

@@ -11,7 +11,7 @@ use Rattle.sm_syntax.specs.declared.symbol.Symbol.TheVariants as s
 use Rattle.sm_syntax.specs.declared.tree.Name.{Name}
 use Rattle.sm_syntax.specs.declared.tree.Sort.{Sort}
 use Rattle.sm_syntax.specs.declared.tree.Sort.TheVariants.{Num, Arr}
-use Rattle.sm_syntax.specs.text.Grammar.{with_sort}
+use Rattle.sm_syntax.specs.text.TaskGrammar.{with_sort}
 use Rattle.sm_text.specs.declared.rules.reading.FaultKind.TheVariants.{Expected}
 use Rattle.sm_text.specs.rules.Parsers.{Parser, ◌>>=◌, ◌>>◌, pure, peek, skip}
 use Rattle.sm_text.specs.rules.Parsers.{refuse, expect, stands}

@@ -1,7 +1,7 @@
 use Rattle.std.proofs.Common.{◌≡◌, ◌+◌, ◌-◌, ◌≤◌, Bool, true, false, refl, arith, rules, Err, length, nat_lt, take}
 use Rattle.std.proofs.lemmas.Bool.Decides.{nat_tests}
 use Rattle.std.proofs.lemmas.List.{length-take-le}
-use Rattle.sm_syntax.specs.text.Grammar.{IsBlock}
+use Rattle.sm_syntax.specs.text.StatementGrammar.{IsBlock}
 use Rattle.sm_syntax.specs.trees.Views.{code_of}
 use Rattle.sm_text.specs.parsing.BlockTokens.{token_symbols}
 use Rattle.sm_text.specs.rules.Reading as r

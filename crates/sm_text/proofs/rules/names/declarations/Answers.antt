@@ -1,6 +1,6 @@
 use Rattle.std.proofs.Common.{◌++◌, sym, ap, ◌∙◌}
 use Rattle.std.proofs.lemmas.Result.{err_from_is_err_and}
-use Rattle.sm_syntax.specs.text.Grammar.{with_sort}
+use Rattle.sm_syntax.specs.text.TaskGrammar.{with_sort}
 use Rattle.sm_text.specs.rules.Reading as spec
 use Rattle.sm_text.specs.rules.Written.{numbers_of, entries_of}
 use Rattle.sm_text.proofs.Sound.Loops.{tested, leaves, declaration-shorter, more_declarations-turn, more_declarations-end, more_declarations-fault}
