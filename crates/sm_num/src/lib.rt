@@ -1,18 +1,23 @@
-//! Whole numbers of 128 bits.
+//! Whole numbers of 128 bits, and linear forms over them.
 //!
 //! - `add`, `sub` and `mul` give the exact result, and none exactly where it lies outside 128 bits.
+//! - The atoms of a `LinForm` ascend, no coefficient is 0, and all its numbers lie from
+//!   -(2^127 - 1) to 2^127 - 1.
+//! - `is_contradiction` is true exactly where a form has no parts and doesn't hold.
 //!
-//! Read `specs/Range.antt` first.
+//! Read `specs/Range.antt` first, then `specs/Forms.antt`.
 #![tactic(auto)]
 
 mod arithmetic;
 mod error;
+mod form;
 mod kind;
 mod laws;
 mod op;
 
 pub use arithmetic::{add, mul, sub};
 pub use error::NumError;
+pub use form::{LinForm, is_contradiction};
 pub use kind::Kind;
 pub use laws::{
     combined_has_value, combined_is_kept, contradiction_fails, elim_adds_no_atom, elim_holds,
