@@ -15,3 +15,7 @@ pub mod OrderLemmas
 pub mod AlikeValues
 pub mod OverOtherAtoms
 pub mod EliminationParts
+mod Divisors
+mod KeptForms
+mod KeptSums
+mod Merges

@@ -34,7 +34,8 @@ abbrev pub with_part : {A : Type 0} → A → ℤ → List (A × ℤ) → List (
 with_part a c ps = if int_eq c (pos 0) then ps else (a, c) ∷ ps
 
 -- a computed coefficient of an atom, then the parts that are computed after it
-abbrev pub led_by : {A : Type 0} → A → Outcome ℤ → Outcome (List (A × ℤ)) → Outcome (List (A × ℤ))
+abbrev pub led_by :
+    {A : Type 0} → A → Outcome ℤ → Outcome (List (A × ℤ)) → Outcome (List (A × ℤ))
 led_by a c rest =
     then_with c (λ (z : ℤ). then_with rest (λ ps. Fits (with_part a z ps)))
 

@@ -15,9 +15,9 @@ use std::marker::Model;
 /// Its atoms ascend, no coefficient is 0, and all numbers lie from -(2^127 - 1) to 2^127 - 1.
 #[derive(Debug, Drop)]
 pub struct LinForm {
-    parts: Vec<(u64, i128)>,
-    constant: i128,
-    kind: Kind,
+    pub(crate) parts: Vec<(u64, i128)>,
+    pub(crate) constant: i128,
+    pub(crate) kind: Kind,
 }
 
 impl Model for LinForm {

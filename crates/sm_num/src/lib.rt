@@ -3,19 +3,25 @@
 //! - `add`, `sub` and `mul` give the exact result, and none exactly where it lies outside 128 bits.
 //! - The atoms of a `LinForm` ascend, no coefficient is 0, and all its numbers lie from
 //!   -(2^127 - 1) to 2^127 - 1.
+//! - `combine` gives the exact sum of two forms, each times a number, or the first operation whose
+//!   result leaves that range.
 //! - `is_contradiction` is true exactly where a form has no parts and doesn't hold.
 //!
-//! Read `specs/Range.antt` first, then `specs/Forms.antt`.
+//! Read `specs/Range.antt` first, then `specs/Forms.antt` and `specs/Combining.antt`.
+//! `specs/Errors.antt` says what a call returns.
 #![tactic(auto)]
 
 mod arithmetic;
+mod combining;
 mod error;
 mod form;
 mod kind;
 mod laws;
+mod merging;
 mod op;
 
 pub use arithmetic::{add, mul, sub};
+pub use combining::combine;
 pub use error::NumError;
 pub use form::{LinForm, is_contradiction};
 pub use kind::Kind;

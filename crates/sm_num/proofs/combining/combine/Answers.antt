@@ -1,0 +1,25 @@
+-- The sum ascends and keeps to the range.
+use Rattle.std.proofs.Common.{sym, subst, rules}
+use Rattle.std.proofs.lemmas.Int.{to_z-of_z}
+use Rattle.std.specs.Int.{w128}
+use mir.Val.{SFits}
+use Rattle.sm_num.specs.Forms.{AreParts}
+use Rattle.sm_num.proofs.KeptSums.{sum_kept, sum_in_range}
+use Rattle.sm_num.proofs.combining.combine.Goals as goal
+
+pub invariant_of-result : goal.invariant_of-result
+invariant_of-result c =
+    let p = c.args.p in
+    let q = c.args.q in
+    let fits_p = c.ranges.p in
+    let fits_q = c.ranges.q in
+    let fits : SFits w128 c.in_ok-constant.constant = search rules in
+    let first = subst (AreParts 0) (sym c.deref.ensures.value) c.f.invariant.parts in
+    let second = subst (AreParts 0) (sym c.deref-2.ensures.value) c.g.invariant.parts in
+    let parts = simp to_z-of_z at c.in_ok-parts.ensures.ok in
+    let constant = simp to_z-of_z at c.in_ok-constant.ensures.ok in
+    rw (to_z-of_z w128 c.in_ok-constant.constant fits)
+    (record {
+      parts = sum_kept p q c.deref.result.now c.deref-2.result.now c.in_ok-parts.parts.items first second parts;
+      constant = sum_in_range p c.f.inside.constant q c.g.inside.constant c.in_ok-constant.constant constant;
+    })
