@@ -19,3 +19,4 @@ mod Divisors
 mod KeptForms
 mod KeptSums
 mod Merges
+mod Eliminated

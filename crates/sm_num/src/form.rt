@@ -3,7 +3,8 @@ ghost use Rattle.std.specs.Prelude.{◌≡◌, pos, [], ◌∷◌, IsTrue, IfOk,
 ghost use Rattle.sm_num.specs.declared.error.NumError.TheVariants.{Memory};
 ghost use Rattle.sm_num.specs.declared.kind.Kind.TheVariants.{Eq};
 ghost use Rattle.sm_num.specs.Range.{fits_form};
-ghost use Rattle.sm_num.specs.Forms.{IsKept};
+ghost use Rattle.sm_num.specs.Forms.{IsKept, coefficient, without};
+ghost use Rattle.sm_num.specs.FormLaws.{same_atom};
 ghost use Rattle.sm_num.specs.Tightening.{is_contradictory};
 
 use crate::error::NumError;
@@ -89,6 +90,36 @@ impl LinForm {
     {
         Ok(LinForm {
             parts: self.parts.as_slice().to_vec(alloc)?,
+            constant: self.constant,
+            kind: self.kind,
+        })
+    }
+
+    // The coefficient of an atom, 0 where the form doesn't have it.
+    pub(crate) fn coefficient(&self, t: u64) -> i128
+        ensures value { result ≡ coefficient same_atom t self.now.parts }
+        ensures range { IsTrue (fits_form result) }
+    {
+        for part in &self.parts {
+            if part.0 == t {
+                return part.1;
+            }
+        }
+        0
+    }
+
+    // The form without an atom.
+    pub(crate) fn without(&self, alloc: Global, t: u64) -> Result<LinForm, AllocError>
+        ensures { IfOk result (λ f. f ≡ without same_atom t self.now) }
+    {
+        let mut parts = Vec::new(alloc);
+        for part in &self.parts {
+            if part.0 != t {
+                parts.push(*part)?;
+            }
+        }
+        Ok(LinForm {
+            parts,
             constant: self.constant,
             kind: self.kind,
         })

@@ -5,14 +5,19 @@
 //!   -(2^127 - 1) to 2^127 - 1.
 //! - `combine` gives the exact sum of two forms, each times a number, or the first operation whose
 //!   result leaves that range.
+//! - `cancels` is true exactly where an atom can be cancelled between two forms. `elim` then gives
+//!   their sum without the atom, divided by what divides all its numbers, or the first such
+//!   operation.
 //! - `is_contradiction` is true exactly where a form has no parts and doesn't hold.
 //!
-//! Read `specs/Range.antt` first, then `specs/Forms.antt` and `specs/Combining.antt`.
-//! `specs/Errors.antt` says what a call returns.
+//! Read `specs/Range.antt` first, then `specs/Forms.antt`, `specs/Combining.antt` and
+//! `specs/Eliminating.antt`. `specs/Errors.antt` says what a call returns.
 #![tactic(auto)]
 
 mod arithmetic;
 mod combining;
+mod dividing;
+mod eliminating;
 mod error;
 mod form;
 mod kind;
@@ -22,6 +27,7 @@ mod op;
 
 pub use arithmetic::{add, mul, sub};
 pub use combining::combine;
+pub use eliminating::{cancels, elim};
 pub use error::NumError;
 pub use form::{LinForm, is_contradiction};
 pub use kind::Kind;

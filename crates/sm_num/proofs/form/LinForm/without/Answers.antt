@@ -1,0 +1,22 @@
+use Rattle.std.proofs.Common.{◌≡◌, take, rules, sym, ap, subst, ◌∙◌}
+use Rattle.std.proofs.lemmas.Int.{to_z-of_z}
+use Rattle.std.specs.Int.{w128}
+use mir.Val.{SFits}
+use Rattle.sm_num.specs.Forms.{AreParts, parts_without}
+use Rattle.sm_num.specs.FormLaws.{same_atom}
+use Rattle.sm_num.proofs.KeptForms.{take_all, without_kept}
+use Rattle.sm_num.proofs.form.LinForm.without.Goals as goal
+
+-- the parts that are left ascend, too
+pub invariant_of-result : goal.invariant_of-result
+invariant_of-result c =
+    let items = c.deref-part-items.result.now in
+    let fits : SFits w128 c.self.inside.constant = search rules in
+    let all : take c.loop-part.part-index items ≡ items = take_all c.loop-part.part-index items c.loop-part-test.false in
+    let kept : AreParts 0 items = subst (AreParts 0) (sym c.deref-part-items.ensures.value) c.self.invariant.parts in
+    rw (to_z-of_z w128 c.self.inside.constant fits)
+    (record {
+      parts = subst (AreParts 0) (sym (c.loop-part.invariant ∙ ap (parts_without same_atom c.args.t) all))
+          (without_kept c.args.t 0 items kept);
+      constant = c.self.invariant.constant;
+    })
