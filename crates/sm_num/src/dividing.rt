@@ -1,6 +1,8 @@
 // Greatest common divisors, and numbers that are divided by them.
-ghost use Rattle.std.specs.Prelude.{◌≡◌, ◌<◌, ◌^◌, nat_abs, IfOk};
-ghost use Rattle.sm_num.specs.Eliminating.{gcd, floor_of, divisor_of_parts, divided_parts};
+ghost use Rattle.std.specs.Prelude.{◌≡◌, ◌<◌, ◌^◌, nat_abs, IsTrue, IfOk};
+ghost use Rattle.sm_num.specs.Range.{fits_form};
+ghost use Rattle.sm_num.specs.Eliminating.{gcd, floor_of, ceiling_of, divisor_of_parts};
+ghost use Rattle.sm_num.specs.Eliminating.{divided_parts};
 
 use std::alloc::{AllocError, Global};
 
@@ -63,4 +65,14 @@ pub(crate) fn floor(z: &i128, d: u128) -> i128
         return *z;
     }
     z.div_euclid(d as i128)
+}
+
+// A number divided, rounded up; not divided by 0.
+pub(crate) fn ceiling(z: &i128, d: u128) -> i128
+    requires divisor { d < 2 ^ 127 }
+    requires number { IsTrue (fits_form z.now) }
+    ensures { result ≡ ceiling_of z.now d }
+{
+    let minus = -*z;
+    -floor(&minus, d)
 }

@@ -8,10 +8,13 @@
 //! - `cancels` is true exactly where an atom can be cancelled between two forms. `elim` then gives
 //!   their sum without the atom, divided by what divides all its numbers, or the first such
 //!   operation.
+//! - `tighten` gives what a form says of whole numbers, with coefficients that have no common
+//!   divisor.
 //! - `is_contradiction` is true exactly where a form has no parts and doesn't hold.
 //!
-//! Read `specs/Range.antt` first, then `specs/Forms.antt`, `specs/Combining.antt` and
-//! `specs/Eliminating.antt`. `specs/Errors.antt` says what a call returns.
+//! Read `specs/Range.antt` first, then `specs/Forms.antt`, `specs/Combining.antt`,
+//! `specs/Eliminating.antt` and `specs/Tightening.antt`. `specs/Errors.antt` says what a call
+//! returns.
 #![tactic(auto)]
 
 mod arithmetic;
@@ -24,6 +27,7 @@ mod kind;
 mod laws;
 mod merging;
 mod op;
+mod tightening;
 
 pub use arithmetic::{add, mul, sub};
 pub use combining::combine;
@@ -37,3 +41,4 @@ pub use laws::{
     order_does_not_matter, order_does_not_matter_to_elim, tighten_holds, tighten_is_kept,
 };
 pub use op::Op;
+pub use tightening::tighten;

@@ -1,0 +1,36 @@
+-- The divisor of the parts divides each, so the quotients ascend and keep to the range.
+use Rattle.std.proofs.Common.{◌≡◌, ◌<◌, ◌^◌, ℕ, ℤ, IsTrue, rules, sym, ap, subst, ◌∙◌}
+use Rattle.std.proofs.lemmas.Int.{to_z-of_z}
+use Rattle.std.specs.Int.{w128}
+use mir.Val.{SFits}
+use Rattle.sm_num.specs.Range.{fits_form}
+use Rattle.sm_num.specs.Forms.{Linear}
+use Rattle.sm_num.specs.Eliminating.{divisor_of_parts}
+use Rattle.sm_num.proofs.KeptForms.{DividesParts, ceiling_fits, divided_items, divisor_divides, divisor_below}
+use Rattle.sm_num.proofs.tightening.tighten_sum.Goals as goal
+
+pub divide_parts-requires : goal.divide_parts-requires
+divide_parts-requires c =
+    let ps = c.f.inside.parts.items in
+    let same : c.args.d ≡ divisor_of_parts ps = c.requires ∙ ap (λ (f : Linear ℕ). divisor_of_parts f.parts) (sym c.f.view_is) in
+    subst (λ (n : ℕ). n < 2 ^ 127) (sym same) (divisor_below 0 ps c.f.invariant.parts)
+
+pub ceiling-requires-clause-divisor : goal.ceiling-requires-clause-divisor
+ceiling-requires-clause-divisor c =
+    let ps = c.f.inside.parts.items in
+    let same : c.args.d ≡ divisor_of_parts ps = c.requires ∙ ap (λ (f : Linear ℕ). divisor_of_parts f.parts) (sym c.f.view_is) in
+    subst (λ (n : ℕ). n < 2 ^ 127) (sym same) (divisor_below 0 ps c.f.invariant.parts)
+
+pub invariant_of-result : goal.invariant_of-result
+invariant_of-result c =
+    let ps = c.f.inside.parts.items in
+    let same : c.args.d ≡ divisor_of_parts ps = c.requires ∙ ap (λ (f : Linear ℕ). divisor_of_parts f.parts) (sym c.f.view_is) in
+    let fits : SFits w128 c.ceiling.result = search rules in
+    let all = subst (λ (n : ℕ). DividesParts n ps) (sym same) (divisor_divides ps) in
+    rw (to_z-of_z w128 c.ceiling.result fits)
+    (record {
+      parts = divided_items c.args.d c.in_ok-divide_parts.field-0.items c.deref.result.now ps c.in_ok-divide_parts.ensures
+          c.deref.ensures.value all c.f.invariant.parts;
+      constant = subst (λ (y : ℤ). IsTrue (fits_form y)) (sym c.ceiling.ensures)
+          (ceiling_fits c.f.inside.constant c.args.d c.f.invariant.constant);
+    })
