@@ -1,6 +1,6 @@
 -- Cited by public clauses: facts and lines whose terms have the sorts with which they are used, and
 -- those that name only new values of nodes below a number.
-use Rattle.std.specs.Prelude.{ℕ, ℤ, List, [], ◌∷◌}
+use Rattle.std.specs.Prelude.{◌≢◌, ℕ, ℤ, pos, List, [], ◌∷◌}
 use Rattle.sm_syntax.specs.declared.tree.Sort.TheVariants.{Num}
 use Rattle.sm_syntax.specs.text.Sorts.{Sorts}
 use Rattle.sm_term.specs.Terms.{Tree}
@@ -15,10 +15,16 @@ abbrev pub EachAtom : (Tree → Type 0) → List (Tree × ℤ) → Type 0
 EachAtom P [] = Unit {0}
 EachAtom P (p ∷ ps) = P p.0 × EachAtom P ps
 
--- the terms of a fact are sorted, and the atoms of a form are numbers
+-- each term stands once, and no coefficient is 0: a sum of forms is computed part by part, and is
+-- wrong where the first has a term twice
+abbrev pub StandOnce : List (Tree × ℤ) → Type 0
+StandOnce [] = Unit {0}
+StandOnce (p ∷ ps) = (p.1 ≢ pos 0) × EachAtom (λ (t : Tree). p.0 ≢ t) ps × StandOnce ps
+
+-- the terms of a fact are sorted, and the atoms of a form are numbers, each of which stands once
 abbrev pub IsKnownSorted : Sorts → Known → Type 0
 IsKnownSorted sorts (Formal f) = IsFormSorted sorts f
-IsKnownSorted sorts (Sum f) = EachAtom (HasSort sorts Num) f.parts
+IsKnownSorted sorts (Sum f) = EachAtom (HasSort sorts Num) f.parts × StandOnce f.parts
 
 -- the same of each fact
 abbrev pub AreKnownSorted : Sorts → List Known → Type 0
