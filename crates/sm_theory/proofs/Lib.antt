@@ -8,3 +8,5 @@ pub mod WaysLemmas
 pub mod WaysSound
 pub mod TheoriesLemmas
 mod CasesLemmas
+pub mod LinearSameTree
+pub mod LinearTermsLemmas

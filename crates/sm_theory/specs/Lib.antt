@@ -8,3 +8,4 @@ pub mod Ways
 pub mod SortedFacts
 pub mod Moved
 pub mod Laws
+pub mod LinearLaws

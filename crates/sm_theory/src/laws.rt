@@ -1,6 +1,7 @@
-// Laws of lines, as contracts.
+// Laws of lines of certificates, as contracts.
 ghost use Rattle.sm_theory.specs.Laws.{AddsWhatHolds, AddsWhatIsSorted, AddsWhatIsBelow};
 ghost use Rattle.sm_theory.specs.Laws.{AddsAnywhere, equality, arrays};
+ghost use Rattle.sm_theory.specs.LinearLaws.{LinearHasValue};
 
 /// What a line of equality adds holds wherever the facts of the branch do.
 #[tactic(auto, using(crate::proofs::EqualitySound::equality_holds))]
@@ -46,4 +47,10 @@ pub fn arrays_add_what_is_below()
 /// Another branch on which the facts stand gives it too.
 pub fn arrays_add_anywhere()
     ensures { AddsAnywhere arrays }
+{}
+
+/// The linear form of a term has the term's value, whatever its atoms mean.
+#[tactic(auto, using(crate::proofs::LinearTermsLemmas::linear_value))]
+pub fn linear_has_value()
+    ensures { LinearHasValue }
 {}

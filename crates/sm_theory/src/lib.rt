@@ -7,6 +7,7 @@
 //! - What a line of equality or of arrays adds holds wherever the facts of the branch do. It is
 //!   sorted where these and the line are, and names no later new values than they.
 //! - Another branch on which the facts stand, under other numbers, gives it too.
+//! - The linear form of a term has the term's value.
 //!
 //! Read `specs/Facts.antt` first, then `specs/Lines.antt` and `specs/Laws.antt`.
 #![tactic(auto)]
@@ -14,7 +15,7 @@
 mod laws;
 
 pub use laws::{
-    arrays_add_anywhere, arrays_add_what_holds, arrays_add_what_is_below,
-    arrays_add_what_is_sorted, equality_adds_anywhere, equality_adds_what_holds,
-    equality_adds_what_is_below, equality_adds_what_is_sorted,
+    arrays_add_anywhere, arrays_add_what_holds, arrays_add_what_is_below, arrays_add_what_is_sorted,
+    equality_adds_anywhere, equality_adds_what_holds, equality_adds_what_is_below,
+    equality_adds_what_is_sorted, linear_has_value,
 };
