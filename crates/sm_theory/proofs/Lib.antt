@@ -10,3 +10,7 @@ pub mod TheoriesLemmas
 mod CasesLemmas
 pub mod LinearSameTree
 pub mod LinearTermsLemmas
+pub mod LinearAlikeLemmas
+pub mod ArithmeticSound
+pub mod ArithmeticKept
+pub mod ArithmeticCases

@@ -50,7 +50,7 @@ form_fact (Fits f) = Some (Sum f)
 form_fact (Leaves operation y z) = None
 
 -- the form with a constant that was computed
-abbrev pub with_constant : Linear Tree → ℤ → Linear Tree
+abbrev pub with_constant : {A : Type 0} → Linear A → ℤ → Linear A
 with_constant f c = record { parts = f.parts; constant = c; kind = f.kind }
 
 -- the form of a number less another, which is 0 or at most 0
@@ -58,7 +58,7 @@ abbrev pub difference : Tree → Tree → Kind → Outcome (Linear Tree)
 difference t u k = combination same_tree (linear_of t) (pos 1) (linear_of u) (negsuc 0) k
 
 -- the same form, one more
-abbrev pub one_more : Linear Tree → Outcome (Linear Tree)
+abbrev pub one_more : {A : Type 0} → Linear A → Outcome (Linear A)
 one_more f =
     then_with (computed op.Add f.constant (pos 1)) (λ (c : ℤ). Fits (with_constant f c))
 

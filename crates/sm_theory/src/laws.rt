@@ -1,6 +1,6 @@
 // Laws of lines of certificates, as contracts.
 ghost use Rattle.sm_theory.specs.Laws.{AddsWhatHolds, AddsWhatIsSorted, AddsWhatIsBelow};
-ghost use Rattle.sm_theory.specs.Laws.{AddsAnywhere, equality, arrays};
+ghost use Rattle.sm_theory.specs.Laws.{AddsAnywhere, equality, arrays, arithmetic};
 ghost use Rattle.sm_theory.specs.LinearLaws.{LinearHasValue};
 
 /// What a line of equality adds holds wherever the facts of the branch do.
@@ -53,4 +53,28 @@ pub fn arrays_add_anywhere()
 #[tactic(auto, using(crate::proofs::LinearTermsLemmas::linear_value))]
 pub fn linear_has_value()
     ensures { LinearHasValue }
+{}
+
+/// What a line of arithmetic adds holds wherever the facts do.
+#[tactic(auto, using(crate::proofs::ArithmeticSound::arithmetic_holds))]
+pub fn arithmetic_adds_what_holds()
+    ensures { AddsWhatHolds arithmetic }
+{}
+
+/// What a line of arithmetic adds is sorted where the facts and the line are.
+#[tactic(auto, using(crate::proofs::ArithmeticKept::arithmetic_sorted))]
+pub fn arithmetic_adds_what_is_sorted()
+    ensures { AddsWhatIsSorted arithmetic }
+{}
+
+/// What a line of arithmetic adds names no later new value than the facts and the line.
+#[tactic(auto, using(crate::proofs::ArithmeticKept::arithmetic_below))]
+pub fn arithmetic_adds_what_is_below()
+    ensures { AddsWhatIsBelow arithmetic }
+{}
+
+/// What a line of arithmetic adds is added on another branch too on which the facts stand.
+#[tactic(auto, using(crate::proofs::ArithmeticKept::arithmetic_moves))]
+pub fn arithmetic_adds_anywhere()
+    ensures { AddsAnywhere arithmetic }
 {}

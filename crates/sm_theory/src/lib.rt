@@ -8,6 +8,8 @@
 //!   sorted where these and the line are, and names no later new values than they.
 //! - Another branch on which the facts stand, under other numbers, gives it too.
 //! - The linear form of a term has the term's value.
+//! - What a line of arithmetic adds holds wherever the facts do, is sorted where they are, names no
+//!   later new value, and is added wherever the facts stand.
 //!
 //! Read `specs/Facts.antt` first, then `specs/Lines.antt` and `specs/Laws.antt`.
 #![tactic(auto)]
@@ -15,7 +17,9 @@
 mod laws;
 
 pub use laws::{
-    arrays_add_anywhere, arrays_add_what_holds, arrays_add_what_is_below, arrays_add_what_is_sorted,
-    equality_adds_anywhere, equality_adds_what_holds, equality_adds_what_is_below,
-    equality_adds_what_is_sorted, linear_has_value,
+    arithmetic_adds_anywhere, arithmetic_adds_what_holds, arithmetic_adds_what_is_below,
+    arithmetic_adds_what_is_sorted, arrays_add_anywhere, arrays_add_what_holds,
+    arrays_add_what_is_below, arrays_add_what_is_sorted, equality_adds_anywhere,
+    equality_adds_what_holds, equality_adds_what_is_below, equality_adds_what_is_sorted,
+    linear_has_value,
 };
