@@ -11,6 +11,10 @@ mod CasesLemmas
 pub mod LinearSameTree
 pub mod LinearTermsLemmas
 pub mod LinearAlikeLemmas
+pub mod LinearPlaces
+pub mod LinearStanding
+pub mod LinearNumbers
 pub mod ArithmeticSound
 pub mod ArithmeticKept
 pub mod ArithmeticCases
+pub mod LinearLater

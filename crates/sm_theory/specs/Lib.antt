@@ -9,3 +9,4 @@ pub mod SortedFacts
 pub mod Moved
 pub mod Laws
 pub mod LinearLaws
+pub mod Standing

@@ -2,6 +2,9 @@
 ghost use Rattle.sm_theory.specs.Laws.{AddsWhatHolds, AddsWhatIsSorted, AddsWhatIsBelow};
 ghost use Rattle.sm_theory.specs.Laws.{AddsAnywhere, equality, arrays, arithmetic};
 ghost use Rattle.sm_theory.specs.LinearLaws.{LinearHasValue};
+ghost use Rattle.sm_theory.specs.Standing.{CombinedStands, EliminatedStands, CanCancelStands};
+ghost use Rattle.sm_theory.specs.Standing.{TightenedStands, ContradictoryStands, OneMoreStands};
+ghost use Rattle.sm_theory.specs.Standing.{SamePartsStand, StandsLater, LinearStands};
 
 /// What a line of equality adds holds wherever the facts of the branch do.
 #[tactic(auto, using(crate::proofs::EqualitySound::equality_holds))]
@@ -77,4 +80,58 @@ pub fn arithmetic_adds_what_is_below()
 #[tactic(auto, using(crate::proofs::ArithmeticKept::arithmetic_moves))]
 pub fn arithmetic_adds_anywhere()
     ensures { AddsAnywhere arithmetic }
+{}
+
+/// A sum of kept forms is kept for the sum of what they are kept for.
+#[tactic(auto, using(crate::proofs::LinearStanding::combined_stands))]
+pub fn combined_stands()
+    ensures { CombinedStands }
+{}
+
+/// So is a sum in which an atom cancels.
+#[tactic(auto, using(crate::proofs::LinearStanding::eliminated_stands))]
+pub fn eliminated_stands()
+    ensures { EliminatedStands }
+{}
+
+/// A number cancels where its term does.
+#[tactic(auto, using(crate::proofs::LinearStanding::can_cancel_stands))]
+pub fn can_cancel_stands()
+    ensures { CanCancelStands }
+{}
+
+/// A tight form is kept for the tight form.
+#[tactic(auto, using(crate::proofs::LinearStanding::tightened_stands))]
+pub fn tightened_stands()
+    ensures { TightenedStands }
+{}
+
+/// A contradiction is kept for a contradiction.
+#[tactic(auto, using(crate::proofs::LinearStanding::contradictory_stands))]
+pub fn contradictory_stands()
+    ensures { ContradictoryStands }
+{}
+
+/// 1 more is kept for 1 more.
+#[tactic(auto, using(crate::proofs::LinearLater::one_more_stands))]
+pub fn one_more_stands()
+    ensures { OneMoreStands }
+{}
+
+/// Kept forms have one list of parts where what they are kept for has the same parts.
+#[tactic(auto, using(crate::proofs::LinearLater::same_parts_stand))]
+pub fn same_parts_stand()
+    ensures { SamePartsStand }
+{}
+
+/// What is kept is kept where more terms have places.
+#[tactic(auto, using(crate::proofs::LinearLater::stands_later))]
+pub fn stands_later()
+    ensures { StandsLater }
+{}
+
+/// The form of a term by numbers is kept for the form of the term.
+#[tactic(auto, using(crate::proofs::LinearNumbers::linear_stands))]
+pub fn linear_stands()
+    ensures { LinearStands }
 {}

@@ -10,6 +10,8 @@
 //! - The linear form of a term has the term's value.
 //! - What a line of arithmetic adds holds wherever the facts do, is sorted where they are, names no
 //!   later new value, and is added wherever the facts stand.
+//! - A linear form over numbers of terms stands for a form over the terms. So does what is computed
+//!   of it for what is computed of that, and both leave the range alike.
 //!
 //! Read `specs/Facts.antt` first, then `specs/Lines.antt` and `specs/Laws.antt`.
 #![tactic(auto)]
@@ -19,7 +21,8 @@ mod laws;
 pub use laws::{
     arithmetic_adds_anywhere, arithmetic_adds_what_holds, arithmetic_adds_what_is_below,
     arithmetic_adds_what_is_sorted, arrays_add_anywhere, arrays_add_what_holds,
-    arrays_add_what_is_below, arrays_add_what_is_sorted, equality_adds_anywhere,
-    equality_adds_what_holds, equality_adds_what_is_below, equality_adds_what_is_sorted,
-    linear_has_value,
+    arrays_add_what_is_below, arrays_add_what_is_sorted, can_cancel_stands, combined_stands,
+    contradictory_stands, eliminated_stands, equality_adds_anywhere, equality_adds_what_holds,
+    equality_adds_what_is_below, equality_adds_what_is_sorted, linear_has_value, linear_stands,
+    one_more_stands, same_parts_stand, stands_later, tightened_stands,
 };
