@@ -1,6 +1,7 @@
 // Laws of lines of certificates, as contracts.
 ghost use Rattle.sm_theory.specs.Laws.{AddsWhatHolds, AddsWhatIsSorted, AddsWhatIsBelow};
 ghost use Rattle.sm_theory.specs.Laws.{AddsAnywhere, equality, arrays, arithmetic};
+ghost use Rattle.sm_theory.specs.Laws.{SomeWayHolds, WaysAreSorted, WaysAreBelow, WaysMove};
 ghost use Rattle.sm_theory.specs.LinearLaws.{LinearHasValue};
 ghost use Rattle.sm_theory.specs.Standing.{CombinedStands, EliminatedStands, CanCancelStands};
 ghost use Rattle.sm_theory.specs.Standing.{TightenedStands, ContradictoryStands, OneMoreStands};
@@ -134,4 +135,24 @@ pub fn stands_later()
 #[tactic(auto, using(crate::proofs::LinearNumbers::linear_stands))]
 pub fn linear_stands()
     ensures { LinearStands }
+{}
+
+/// Where the facts of a branch hold, not every way in which it goes on fails.
+pub fn some_way_holds()
+    ensures { SomeWayHolds }
+{}
+
+/// What a way adds is sorted where the facts and the line are.
+pub fn ways_are_sorted()
+    ensures { WaysAreSorted }
+{}
+
+/// What a way adds names no later new value than the facts and the line.
+pub fn ways_are_below()
+    ensures { WaysAreBelow }
+{}
+
+/// The ways are the same on another branch on which the facts stand.
+pub fn ways_move()
+    ensures { WaysMove }
 {}

@@ -12,6 +12,7 @@
 //!   later new value, and is added wherever the facts stand.
 //! - A linear form over numbers of terms stands for a form over the terms. So does what is computed
 //!   of it for what is computed of that, and both leave the range alike.
+//! - Where the facts of a branch hold, not every way in which it goes on after a line fails.
 //!
 //! Read `specs/Facts.antt` first, then `specs/Lines.antt` and `specs/Laws.antt`.
 #![tactic(auto)]
@@ -24,5 +25,6 @@ pub use laws::{
     arrays_add_what_is_below, arrays_add_what_is_sorted, can_cancel_stands, combined_stands,
     contradictory_stands, eliminated_stands, equality_adds_anywhere, equality_adds_what_holds,
     equality_adds_what_is_below, equality_adds_what_is_sorted, linear_has_value, linear_stands,
-    one_more_stands, same_parts_stand, stands_later, tightened_stands,
+    one_more_stands, same_parts_stand, some_way_holds, stands_later, tightened_stands,
+    ways_are_below, ways_are_sorted, ways_move,
 };
