@@ -132,7 +132,7 @@ filter_parts test least (p ∷ ps) parts = by (test p) (filter_parts test (suc p
     by true rest = (parts.0, parts.1, parts.2, rest)
     by false rest = parts_from (suc p.0) least (filter test ps) (omega (arith, parts.0)) rest
 
-divided_are_parts : (d least : ℕ) (ps : List (ℕ × ℤ)) → DividesEach d ps → AreParts least ps → AreParts least (divided_parts d ps)
+pub divided_are_parts : (d least : ℕ) (ps : List (ℕ × ℤ)) → DividesEach d ps → AreParts least ps → AreParts least (divided_parts d ps)
 divided_are_parts d least [] each parts = tt
 divided_are_parts d least (p ∷ ps) each parts =
     (parts.0, floor_fits p.1 d parts.1, floor_some p.1 d each.0 parts.2, divided_are_parts d (suc p.0) ps each.1 parts.3)

@@ -17,6 +17,5 @@ pub mod OverOtherAtoms
 pub mod EliminationParts
 mod Divisors
 mod KeptForms
-mod KeptSums
 mod Merges
 mod Eliminated

@@ -4,13 +4,19 @@ use Rattle.std.proofs.lemmas.Int.{to_z-of_z}
 use Rattle.std.specs.Int.{w128}
 use mir.Val.{SFits}
 use Rattle.sm_num.specs.Forms.{AreParts}
-use Rattle.sm_num.proofs.KeptSums.{sum_kept, sum_in_range}
+use Rattle.sm_num.specs.Combining.{combined_number, merged}
+use Rattle.sm_num.proofs.KeptLemmas.{merged_parts}
+use Rattle.sm_num.proofs.OutcomeLemmas.{IsSum, gives_fits, combined_number_gives}
 use Rattle.sm_num.proofs.combining.combine.Goals as goal
 
 pub invariant_of-result : goal.invariant_of-result
 invariant_of-result c =
     let p = c.args.p in
     let q = c.args.q in
+    let fs = c.deref.result.now in
+    let gs = c.deref-2.result.now in
+    let y = c.f.inside.constant in
+    let z = c.g.inside.constant in
     let fits_p = c.ranges.p in
     let fits_q = c.ranges.q in
     let fits : SFits w128 c.in_ok-constant.constant = search rules in
@@ -20,6 +26,7 @@ invariant_of-result c =
     let constant = simp to_z-of_z at c.in_ok-constant.ensures.ok in
     rw (to_z-of_z w128 c.in_ok-constant.constant fits)
     (record {
-      parts = sum_kept p q c.deref.result.now c.deref-2.result.now c.in_ok-parts.parts.items first second parts;
-      constant = sum_in_range p c.f.inside.constant q c.g.inside.constant c.in_ok-constant.constant constant;
+      parts = gives_fits (AreParts 0) (merged p q fs gs) c.in_ok-parts.parts.items (merged_parts 0 p q fs gs first second) parts;
+      constant = (gives_fits (IsSum p y q z) (combined_number p y q z) c.in_ok-constant.constant (combined_number_gives p y q z)
+          constant).1;
     })

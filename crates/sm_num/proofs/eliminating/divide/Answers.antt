@@ -5,7 +5,10 @@ use Rattle.std.specs.Int.{w128}
 use mir.Val.{SFits}
 use Rattle.sm_num.specs.Range.{fits_form}
 use Rattle.sm_num.specs.Eliminating.{gcd, divisor_of_parts}
-use Rattle.sm_num.proofs.KeptForms.{DividesParts, floor_fits, divided_items, divisor_of_all_divides, divisor_of_all_below}
+use Rattle.sm_num.proofs.KeptForms.{divided_items, divisor_of_all_below}
+use Rattle.sm_num.proofs.DivisionLemmas.{gcd_is, divisor_divides}
+use Rattle.sm_num.proofs.ResultsReduced.{floor_fits}
+use Rattle.std.specs.Int.{◌∣◌}
 use Rattle.sm_num.proofs.eliminating.divide.Goals as goal
 
 pub divide_parts-requires : goal.divide_parts-requires
@@ -34,7 +37,8 @@ invariant_of-result c =
     c.common_divisor-d.ensures ∙ ap (λ (n : ℕ). gcd n c.parts_divisor.result) c.size.ensures ∙
     ap (gcd (nat_abs z)) (c.parts_divisor.ensures ∙ ap divisor_of_parts c.deref.ensures.value) in
     let fits : SFits w128 c.floor.result = search rules in
-    let all = subst (λ (n : ℕ). DividesParts n ps) (sym same) (divisor_of_all_divides (nat_abs z) ps) in
+    let all = divisor_divides c.common_divisor-d.result ps (subst (λ (n : ℕ). n ∣ divisor_of_parts ps) (sym same)
+        (gcd_is (nat_abs z) (divisor_of_parts ps)).1) in
     rw (to_z-of_z w128 c.floor.result fits)
     (record {
       parts = divided_items c.common_divisor-d.result c.in_ok-divide_parts.field-0.items c.deref-2.result.now ps

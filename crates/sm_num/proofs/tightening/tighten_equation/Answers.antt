@@ -6,7 +6,11 @@ use mir.Val.{SFits}
 use Rattle.sm_num.specs.Range.{fits_form}
 use Rattle.sm_num.specs.Forms.{Linear}
 use Rattle.sm_num.specs.Eliminating.{divisor_of_parts}
-use Rattle.sm_num.proofs.KeptForms.{DividesParts, floor_fits, divided_items, divisor_divides, divisor_below}
+use Rattle.sm_num.proofs.KeptForms.{divided_items, divisor_below}
+use Rattle.sm_num.proofs.DivisionLemmas.{divisor_divides}
+use Rattle.sm_num.proofs.ResultsReduced.{floor_fits}
+use Rattle.std.specs.Int.{◌∣◌}
+use Rattle.std.proofs.lemmas.Nat.Gcd.{dvd_refl}
 use Rattle.sm_num.proofs.tightening.tighten_equation.Goals as goal
 
 pub divide_parts-requires : goal.divide_parts-requires
@@ -26,7 +30,7 @@ invariant_of-result c =
     let ps = c.f.inside.parts.items in
     let same : c.args.d ≡ divisor_of_parts ps = c.requires.divisor ∙ ap (λ (f : Linear ℕ). divisor_of_parts f.parts) (sym c.f.view_is) in
     let fits : SFits w128 c.floor.result = search rules in
-    let all = subst (λ (n : ℕ). DividesParts n ps) (sym same) (divisor_divides ps) in
+    let all = divisor_divides c.args.d ps (subst (λ (n : ℕ). n ∣ divisor_of_parts ps) (sym same) (dvd_refl (divisor_of_parts ps))) in
     rw (to_z-of_z w128 c.floor.result fits)
     (record {
       parts = divided_items c.args.d c.in_ok-divide_parts.field-0.items c.deref.result.now ps c.in_ok-divide_parts.ensures

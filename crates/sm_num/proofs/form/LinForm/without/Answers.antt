@@ -1,10 +1,11 @@
-use Rattle.std.proofs.Common.{◌≡◌, take, rules, sym, ap, subst, ◌∙◌}
+use Rattle.std.proofs.Common.{◌≡◌, not, take, rules, sym, ap, subst, ◌∙◌}
 use Rattle.std.proofs.lemmas.Int.{to_z-of_z}
 use Rattle.std.specs.Int.{w128}
 use mir.Val.{SFits}
 use Rattle.sm_num.specs.Forms.{AreParts, parts_without}
 use Rattle.sm_num.specs.FormLaws.{same_atom}
-use Rattle.sm_num.proofs.KeptForms.{take_all, without_kept}
+use Rattle.sm_num.proofs.KeptForms.{take_all}
+use Rattle.sm_num.proofs.KeptLemmas.{filter_parts}
 use Rattle.sm_num.proofs.form.LinForm.without.Goals as goal
 
 -- the parts that are left ascend, too
@@ -17,6 +18,6 @@ invariant_of-result c =
     rw (to_z-of_z w128 c.self.inside.constant fits)
     (record {
       parts = subst (AreParts 0) (sym (c.loop-part.invariant ∙ ap (parts_without same_atom c.args.t) all))
-          (without_kept c.args.t 0 items kept);
+          (filter_parts (λ r. not (same_atom c.args.t r.0)) 0 items kept);
       constant = c.self.invariant.constant;
     })
