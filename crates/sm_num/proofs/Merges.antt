@@ -10,12 +10,12 @@ use Rattle.sm_num.specs.Errors.{Explains}
 use Rattle.sm_num.specs.Merging.{behind}
 use Rattle.sm_num.proofs.KeptForms.{take_all}
 
--- behind nothing
+-- after nothing
 behind-nil : (parts : Outcome (List (ℕ × ℤ))) → behind [] parts ≡ parts
 behind-nil (Fits ps) = refl
 behind-nil (Leaves op y z) = refl
 
--- behind two lists
+-- after two lists
 behind-behind : (out more : List (ℕ × ℤ)) (parts : Outcome (List (ℕ × ℤ))) → behind out (behind more parts) ≡ behind (out ++ more) parts
 behind-behind out more (Fits ps) = ap Fits (sym (append_assoc out more ps))
 behind-behind out more (Leaves op y z) = refl
@@ -44,7 +44,7 @@ merged_end p q fs gs (inr none) =
     alone (Fits ps) = ap Fits (append-nil ps)
     alone (Leaves op y z) = refl
 
--- what goes behind a list that was put, and what was behind nothing yet
+-- what goes after a list that was put, and what was after nothing yet
 behind_then : (out : List (ℕ × ℤ)) (first second : Outcome (List (ℕ × ℤ))) (new : List (ℕ × ℤ)) → behind out first ≡ Fits new →
     behind out (then_with first (λ (ps : List (ℕ × ℤ)). behind ps second)) ≡ behind new second
 behind_then out (Fits ps) second new done =

@@ -43,7 +43,7 @@ pub(crate) fn merge(
     Ok(out)
 }
 
-// Parts times a number, behind others.
+// Parts times a number, after others.
 fn put_products(
     out: &mut Vec<(u64, i128)>,
     by: &i128,
@@ -58,7 +58,7 @@ fn put_products(
     Ok(())
 }
 
-// A part times a number, behind others.
+// A part times a number, after others.
 fn put_product(out: &mut Vec<(u64, i128)>, by: &i128, part: &(u64, i128)) -> Result<(), NumError>
     ensures ok { OnOk result
         (Puts out.old.items part.now.0 (computed Mul by.now part.now.1) out.new.items) }
@@ -68,7 +68,7 @@ fn put_product(out: &mut Vec<(u64, i128)>, by: &i128, part: &(u64, i128)) -> Res
     Ok(put(out, part.0, &c)?)
 }
 
-// The sum of two parts at one atom, each times a number, behind others.
+// The sum of two parts at one atom, each times a number, after others.
 fn put_both(
     out: &mut Vec<(u64, i128)>,
     p: &i128,
@@ -84,7 +84,7 @@ fn put_both(
     Ok(put(out, f.0, &c)?)
 }
 
-// A coefficient behind others, where it isn't 0.
+// A coefficient after others, where it isn't 0.
 fn put(out: &mut Vec<(u64, i128)>, atom: u64, c: &i128) -> Result<(), AllocError>
     ensures ok { OnOk result (out.new.items ≡ out.old.items ++ with_part atom c.now []) }
 {

@@ -15,7 +15,7 @@ use Rattle.sm_syntax.specs.text.Parts.{Parts, sort_of, task_of}
 use Rattle.sm_syntax.specs.text.Sorts.{Sorts, IsWellSorted}
 use Rattle.sm_syntax.specs.text.Spells.{Spells}
 use Rattle.sm_syntax.specs.claim.Syntax.{Condition, Code}
-use Rattle.sm_task.specs.Tasks.{AreFilled}
+use Rattle.sm_task.specs.Filling.{AreFilled}
 use Rattle.sm_replay.specs.Runs.{code_in, AreSorted}
 use Rattle.sm_eval.proofs.Faultless.{code_sorted, condition_sorted}
 use Rattle.sm_replay.specs.Judging.{IsWellSortedAssumption}

@@ -5,7 +5,7 @@ use Rattle.sm_syntax.specs.declared.tree.Block.{Block}
 use Rattle.sm_syntax.specs.claim.ConflictFree.{O, A, B, M, program_of}
 use Rattle.sm_syntax.specs.text.Parts.{Parts, task_of}
 use Rattle.sm_syntax.specs.trees.Views.{code_of}
-use Rattle.sm_task.specs.Tasks.{AreFilled}
+use Rattle.sm_task.specs.Filling.{AreFilled}
 
 -- each of the four is the program of its copy
 pub of_four : (t : Parts) (programs : PerCopy Block) →

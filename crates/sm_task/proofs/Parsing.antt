@@ -10,7 +10,7 @@ use Rattle.sm_text.specs.parsing.Places.{AreTasks, IsFirstFault, IsRefusal}
 use Rattle.sm_text.specs.parsing.Places.Sources.{whole_text}
 use Rattle.sm_task.specs.declared.error.TaskError.{TaskError}
 use Rattle.sm_task.specs.declared.error.TaskError.TheVariants as error
-use Rattle.sm_task.specs.declared.task.Task.{Task}
+use Rattle.sm_text.specs.declared.task.Task.{Task}
 use Rattle.sm_task.specs.Errors.{error_of, from_text, IsRefusedBy, IsRefusedWith, IsReadAs, IsRefusedAs}
 
 -- an error of the conditions is that of the first that fails
@@ -48,12 +48,12 @@ which None e p = absurd (none_error e p)
 which (Some r) e p = (r, refl, some_error (error_of r) e p)
 
 -- the exit at a condition that fails, with the text and its parts
-module _ {T : Type 0} (bytes : List ℕ) (t u : Parts) (result : Result T TaskError) (e : TaskError)
-    (p : (y : TaskError) × (result ≡ Err y) × (y ≡ e)) (g : IsInGrammar bytes u) (same : t ≡ u) (n : Names (first_refusal t) e) where
+module _ {T : Type 0} (bytes : List ℕ) (t : Parts) (result : Result T TaskError) (e : TaskError)
+    (p : (y : TaskError) × (result ≡ Err y) × (y ≡ e)) (g : IsInGrammar bytes t) (n : Names (first_refusal t) e) where
   named : e ≢ error.Memory → (r : Refusal) × IsRefusedBy bytes r × (e ≡ error_of r)
   named other =
       let one = which (first_refusal t) e (n other) in
-      (one.0, (u, g, ap first_refusal (sym same) ∙ one.1), one.2)
+      (one.0, (t, g, one.1), one.2)
 
   pub refused-err : IfErr result (λ x. x ≢ error.Memory → IsRefusedWith bytes x)
   refused-err = rw (p.1, p.2) (λ (other : e ≢ error.Memory). inr (named other))

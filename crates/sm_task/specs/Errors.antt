@@ -14,8 +14,8 @@ use Rattle.sm_text.specs.parsing.Places.{AreTasks, IsFirstFault}
 use Rattle.sm_text.specs.parsing.Places.Sources.{whole_text}
 use Rattle.sm_task.specs.declared.error.TaskError.{TaskError}
 use Rattle.sm_task.specs.declared.error.TaskError.TheVariants as error
-use Rattle.sm_task.specs.declared.task.Task.{Task}
-use Rattle.sm_task.specs.Tasks.{parts_of}
+use Rattle.sm_text.specs.declared.task.Task.{Task}
+use Rattle.sm_text.specs.Tasks.{parts_of}
 
 -- the number of a section: a list has its copy's, and 4 alone is the shared program
 abbrev pub section_number : Section → ℕ

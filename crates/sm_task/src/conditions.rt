@@ -11,13 +11,14 @@ ghost use Rattle.sm_syntax.specs.trees.Copies.{copy_named};
 ghost use Rattle.sm_syntax.specs.text.Parts.{task_of};
 ghost use Rattle.sm_syntax.specs.trees.Views.{code_of};
 ghost use Rattle.sm_task.specs.Checks.{ReportsRefusal, section_of};
-ghost use Rattle.sm_task.specs.Tasks.{AreFilled, fillings_for, parts_of};
+ghost use Rattle.sm_task.specs.Filling.{AreFilled};
+ghost use Rattle.sm_text.specs.Tasks.{lists_of, parts_of};
 
 use crate::error::TaskError;
 use crate::filling::fill_all;
 use crate::holes::{filled_holes, first_outside, first_repeated, holes_inside, holes_of};
-use crate::task::Task;
 use sm_syntax::{Block, CopyName, PerCopy, well_formed_block, well_formed_cond};
+use sm_text::Task;
 use std::alloc::Global;
 
 // The number by which an error names the shared program, after those of the four copies.
@@ -53,7 +54,7 @@ fn check_double_holes(alloc: Global, task: &Task, holes: &[u32]) -> Result<(), T
 #[tactic(auto, using(crate::proofs::Refusals::same_section))]
 fn check_filled_once(alloc: Global, task: &Task, copy: CopyName) -> Result<(), TaskError>
     ensures { let c = copy_named copy in
-        let hole = first_repeated [] (filled_holes (fillings_for task.now c)) in
+        let hole = first_repeated [] (filled_holes (lists_of task.now.lists c)) in
         ReportsRefusal result (at_hole DoubleHole (ListOf c) hole) }
 {
     check_repeated(
@@ -88,7 +89,7 @@ fn check_holes_in_fillings(alloc: Global, task: &Task) -> Result<(), TaskError>
 
 fn check_inside(alloc: Global, task: &Task, copy: CopyName) -> Result<(), TaskError>
     ensures { let c = copy_named copy in
-        let hole = first_outside [] (holes_inside (fillings_for task.now c)) in
+        let hole = first_outside [] (holes_inside (lists_of task.now.lists c)) in
         ReportsRefusal result (at_hole HoleInFilling (ListOf c) hole) }
 {
     match first_outside(alloc, &[], &holes_inside(alloc, task.lists.get(copy))?)? {
@@ -114,7 +115,7 @@ fn check_unknown_holes(alloc: Global, task: &Task, holes: &[u32]) -> Result<(), 
 
 fn check_known(alloc: Global, task: &Task, copy: CopyName, holes: &[u32]) -> Result<(), TaskError>
     ensures { let c = copy_named copy in
-        let hole = first_outside holes.now (filled_holes (fillings_for task.now c)) in
+        let hole = first_outside holes.now (filled_holes (lists_of task.now.lists c)) in
         ReportsRefusal result (at_hole UnknownHole (ListOf c) hole) }
 {
     match first_outside(alloc, holes, &filled_holes(alloc, task.lists.get(copy))?)? {
@@ -140,7 +141,7 @@ fn check_missing_fillings(alloc: Global, task: &Task, holes: &[u32]) -> Result<(
 
 fn check_filled(alloc: Global, task: &Task, copy: CopyName, holes: &[u32]) -> Result<(), TaskError>
     ensures { let c = copy_named copy in
-        let hole = first_outside (filled_holes (fillings_for task.now c)) holes.now in
+        let hole = first_outside (filled_holes (lists_of task.now.lists c)) holes.now in
         ReportsRefusal result (at_hole MissingFilling (ListOf c) hole) }
 {
     match first_outside(alloc, &filled_holes(alloc, task.lists.get(copy))?, holes)? {

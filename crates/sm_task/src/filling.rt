@@ -7,13 +7,14 @@ ghost use Rattle.sm_syntax.specs.text.Parts.{task_of};
 ghost use Rattle.sm_syntax.specs.trees.Programs.{declared_of, outputs_of, fillings_of};
 ghost use Rattle.sm_syntax.specs.claim.Syntax.{Code, End, append};
 ghost use Rattle.sm_syntax.specs.trees.Views.{sequence, statement_of, code_of};
-ghost use Rattle.sm_task.specs.Tasks.{AreFilled, parts_of};
+ghost use Rattle.sm_task.specs.Filling.{AreFilled};
+ghost use Rattle.sm_text.specs.Tasks.{parts_of};
 
-use crate::task::Task;
 use sm_syntax::{
     Block, CopyName, Fillings, PerCopy, Program, Stmt, copy_cond, copy_decls, copy_expr,
     copy_outputs, copy_stmt,
 };
+use sm_text::Task;
 use std::alloc::{AllocError, Global};
 
 /// The program of a copy, by the copy's number from 0 for the base to 3 for the candidate: the

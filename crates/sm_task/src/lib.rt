@@ -7,8 +7,9 @@
 //! - `fill_all` gives the statements of each copy's program: those of the shared program with each
 //!   hole replaced in place. `fill` gives one whole program.
 //!
-//! Read `specs/Tasks.antt` for what a task stands for, `specs/Errors.antt` for why a text is
-//! refused, and `Conditions.antt` and `Spells.antt` of `sm_syntax`.
+//! `Task` and `print_task` are those of `sm_text`. Read `specs/Tasks.antt` there for what a task
+//! stands for, `specs/Errors.antt` for why a text is refused, and `Conditions.antt` and
+//! `Spells.antt` of `sm_syntax`.
 #![tactic(auto)]
 
 mod conditions;
@@ -17,12 +18,9 @@ mod filling;
 mod holes;
 mod laws;
 mod parse;
-mod print;
-mod task;
 
 pub use error::TaskError;
 pub use filling::{fill, fill_all};
 pub use laws::{fault_or_condition, one_condition, one_refusal, one_task, task_or_refusal};
 pub use parse::parse_task;
-pub use print::print_task;
-pub use task::Task;
+pub use sm_text::{Task, print_task};

@@ -4,15 +4,12 @@ ghost use Rattle.sm_syntax.specs.text.Conditions.{Refusal, first_refusal};
 ghost use Rattle.sm_syntax.specs.text.Parts.{Parts};
 ghost use Rattle.sm_syntax.specs.text.Spells.{IsInGrammar, Spells};
 ghost use Rattle.sm_task.specs.Errors.{IsReadAs, IsRefusedAs, IsRefusedWith};
-ghost use Rattle.sm_task.specs.Tasks.{parts_of};
 ghost use Rattle.sm_text.specs.printing.Named.{HasText};
-ghost use Rattle.sm_text.specs.parsing.Text as text;
+ghost use Rattle.sm_text.specs.Tasks.{parts_of};
 
 use crate::conditions::check_conditions;
 use crate::error::TaskError;
-use crate::task::Task;
-use sm_syntax::Program;
-use sm_text::{Sections, read_sections};
+use sm_text::{Task, read_task};
 use std::alloc::Global;
 
 /// Reads a text of fewer than 2^32 bytes as a task.
@@ -28,24 +25,7 @@ pub fn parse_task(alloc: Global, bytes: &[u8]) -> Result<Task, TaskError>
     ensures refused { (t : Parts) (r : Refusal) → IsInGrammar bytes.now t →
         first_refusal t ≡ Some r → IsRefusedAs r result }
 {
-    let task = from_sections(read_sections(alloc, bytes)?);
+    let task = read_task(alloc, bytes)?;
     check_conditions(alloc, &task)?;
     Ok(task)
-}
-
-/// The task of these sections.
-fn from_sections(sections: Sections) -> Task
-    ensures { parts_of result ≡ text.sections_parts sections }
-{
-    let Sections { names, head, lists } = sections;
-    Task {
-        shared: Program {
-            names,
-            decls: head.decls,
-            outputs: head.outputs,
-            body: head.shared,
-        },
-        assumed: head.assumed,
-        lists,
-    }
 }

@@ -3,4 +3,5 @@ pub mod resolving
 pub mod rules
 pub mod parsing
 pub mod printing
+pub mod Tasks
 pub mod Laws

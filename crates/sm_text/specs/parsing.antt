@@ -4,6 +4,5 @@ pub mod Places
 pub mod ErrorPlaces
 pub mod Fragments
 pub mod Program
-pub mod ProgramViews
 pub mod BlockTokens
 pub mod Prefix

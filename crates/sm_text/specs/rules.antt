@@ -3,4 +3,3 @@ pub mod Answers
 pub mod Parsers
 pub mod Reading
 pub mod Written
-pub mod Sections

@@ -4,14 +4,14 @@
 //!   `tokens_are_cut` is the law that says them a second way (`specs/lexing/Cutting.antt`).
 //! - `symbols` and `names` give what the grammar sees of them, with names numbered by first
 //!   appearance.
-//! - `read_sections` reads exactly the texts that the grammar spells, where nothing nests too deep,
+//! - `read_task` reads exactly the texts that the grammar spells, where nothing nests too deep,
 //!   each into what it spells. A refusal names the first fault of the text: its kind and its place.
 //! - `parse_program` reads exactly the texts of a program alone, and a refusal names the first
 //!   fault in the same way.
 //! - `parse_head` and `parse_block` read the front of a task, and a block from a token on, whatever
 //!   follows.
-//! - `print_sections`, `print_program`, `print_block` and `print_cond` give the canonical text. A
-//!   task's spells the task again; the others do where what is printed is no deeper than 64. What
+//! - `print_task`, `print_program`, `print_block` and `print_cond` give the canonical text. That of
+//!   a task spells the task again; the others do where what is printed is no deeper than 64. What
 //!   `parse_program`, `parse_head` and `parse_block` give can be printed.
 //! - Laws: the grammar spells at most one task by a text (`one_parse`) and numbers what it declares
 //!   in order (`declared_in_order`), a text in the grammar has no fault (`no_fault_in_grammar`),
@@ -21,7 +21,8 @@
 //! symbols, `rules` from symbols to trees, `parsing` from a text to what it spells, and `printing`
 //! back to text. `src`, `specs` and the proofs of functions have the same folders.
 //!
-//! What is read stands in `specs/` of `sm_syntax`, which fault is the first in
+//! What is read stands in `specs/` of `sm_syntax`, what the trees of a task, of its front and of a
+//! program carry in `specs/Tasks.antt` here, which fault is the first in
 //! `specs/parsing/Places.antt` here, and what is printed in `specs/printing/Canonical.antt`.
 //! `specs/rules` has the parsers that the code follows. The first line of each file in `specs/`
 //! says whether public clauses cite it.
@@ -34,6 +35,7 @@ mod parsing;
 mod printing;
 mod resolving;
 mod rules;
+mod task;
 
 pub use error::TextError;
 pub use laws::{
@@ -43,8 +45,8 @@ pub use lexing::lexer::tokens;
 pub use lexing::token_list::Tokens;
 pub use parsing::prefix::{parse_block, parse_head};
 pub use parsing::program::parse_program;
-pub use parsing::text::{Sections, read_sections};
-pub use printing::print::{print_block, print_cond, print_program, print_sections};
+pub use parsing::text::read_task;
+pub use printing::print::{print_block, print_cond, print_program, print_task};
 pub use resolving::resolve::{names, symbols};
 pub use resolving::symbol_list::Symbols;
-pub use rules::sections::Head;
+pub use task::Task;

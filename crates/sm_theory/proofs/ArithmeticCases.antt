@@ -55,7 +55,7 @@ adds facts line = arithmetic_adds declared facts line
 multiplies_out : linear_of (Sub (Mul (natural 2) (Add x (natural 3))) y) ≡ form ((x, pos 2) ∷ (y, negsuc 0) ∷ []) (pos 6) kind.Eq
 multiplies_out = refl
 
--- the number may stand behind
+-- the number may stand after
 multiplies_from_behind : linear_of (Mul (Add x (natural 3)) (natural 2)) ≡ form ((x, pos 2) ∷ []) (pos 6) kind.Eq
 multiplies_from_behind = refl
 

@@ -26,6 +26,7 @@ use Rattle.sm_text.specs.rules.Parsers.{first, Parser, go_on, ◌>>=◌, ◌>>�
 use Rattle.sm_text.specs.parsing.Places.{unmarked}
 use Rattle.sm_text.specs.rules.Reading as r
 use Rattle.sm_text.specs.Laws.{OneParse}
+use Rattle.sm_text.specs.Tasks.{HeadParts}
 use Rattle.sm_text.proofs.Sound.Loops.{next_name-shorter, more_names-end, declaration-shorter, more_declarations-end, filling-shorter, more_fillings-end}
 use Rattle.sm_text.proofs.Complete.Parsers.{reach, ended, bind-then, reads-then, go_on-go_on, go_on-pure, expect-then, gather-step, unmarked-plain, reach-plain}
 use Rattle.sm_text.proofs.Complete.Conditions.{condition_read}
@@ -151,32 +152,38 @@ list_read (task.list {ts = ts} {fs = fs} m p) z =
     inner : Parser Fillings
     inner = r.fillings >>= λ (l : Fillings). expect mark.CloseCurly >> pure l
 
--- the front of a task that has these parts
-abbrev pub front_of : Parts → r.TaskFront
-front_of t = record { declared = t.declared; outputs = t.outputs; assumed = t.assumed; shared = t.shared }
+-- the head of a task that has these parts
+abbrev front_of : Parts → HeadParts
+front_of t = record { program = record { names = t.names; declared = t.declared; outputs = t.outputs; body = t.shared }; assumed = t.assumed }
 
 -- the fillings of a task, copy by copy
-abbrev pub listed : Parts → Copy → Fillings
+abbrev listed : Parts → Copy → Fillings
 listed t = by_copy (t.fillings claim.O) (t.fillings claim.A) (t.fillings claim.B) (t.fillings claim.M)
 
-pub head-then : {U : Type 0} (t : Parts) {ts us vs ws : List Marked} (others : List Marked) → AreDeclarations ts t.declared → AreOutputs us t.outputs → IsAssumption vs t.assumed → IsShared ws t.shared → (z : List Symbol) (more : r.TaskFront → Parser U) (a : Result (U × List Symbol) Fault) → more (front_of t) (unmarked others ++ z) ≡ reach others z a → go_on (r.head (unmarked (ts ++ (us ++ (vs ++ (ws ++ others)))) ++ z)) more ≡ reach (ts ++ (us ++ (vs ++ (ws ++ others)))) z a
+pub head-then : {U : Type 0} (h : HeadParts) {ts us vs ws : List Marked} (others : List Marked) → AreDeclarations ts h.program.declared → AreOutputs us h.program.outputs → IsAssumption vs h.assumed → IsShared ws h.program.body → (z : List Symbol) (more : HeadParts → Parser U) (a : Result (U × List Symbol) Fault) → more h (unmarked others ++ z) ≡ reach others z a → go_on (r.head h.program.names (unmarked (ts ++ (us ++ (vs ++ (ws ++ others)))) ++ z)) more ≡ reach (ts ++ (us ++ (vs ++ (ws ++ others)))) z a
 unfolding r.head
-head-then t {ts = ts} {us = us} {vs = vs} {ws = ws} others declared named assumed code z more a e =
-    bind-then r.declarations ts (us ++ (vs ++ (ws ++ others))) z t.declared with_outputs more a (declarations_read declared (unmarked (us ++ (vs ++ (ws ++ others))) ++ z) (outputs_begin named (vs ++ (ws ++ others)) z))
-    (bind-then r.outputs us (vs ++ (ws ++ others)) z t.outputs (with_assumed t.declared) more a (outputs_read named (unmarked (vs ++ (ws ++ others)) ++ z))
-    (bind-then r.assumed vs (ws ++ others) z t.assumed (with_shared t.declared t.outputs) more a (assumption_read assumed (unmarked (ws ++ others) ++ z) (shared_begins code others z))
-    (bind-then r.shared ws others z t.shared (front t.declared t.outputs t.assumed) more a (shared_read code (unmarked others ++ z)) e)))
+head-then h {ts = ts} {us = us} {vs = vs} {ws = ws} others declared named assumed code z more a e =
+    bind-then r.declarations ts (us ++ (vs ++ (ws ++ others))) z ds with_outputs more a (declarations_read declared (unmarked (us ++ (vs ++ (ws ++ others))) ++ z) (outputs_begin named (vs ++ (ws ++ others)) z))
+    (bind-then r.outputs us (vs ++ (ws ++ others)) z xs (with_assumed ds) more a (outputs_read named (unmarked (vs ++ (ws ++ others)) ++ z))
+    (bind-then r.assumed vs (ws ++ others) z h.assumed (with_shared ds xs) more a (assumption_read assumed (unmarked (ws ++ others) ++ z) (shared_begins code others z))
+    (bind-then r.shared ws others z h.program.body (front ds xs h.assumed) more a (shared_read code (unmarked others ++ z)) e)))
   where
-    front : List (ℕ × Sort) → List ℕ → Option Condition → Code → Parser r.TaskFront
-    front ds xs b c = pure (record { declared = ds; outputs = xs; assumed = b; shared = c })
+    ds : List (ℕ × Sort)
+    ds = h.program.declared
 
-    with_shared : List (ℕ × Sort) → List ℕ → Option Condition → Parser r.TaskFront
+    xs : List ℕ
+    xs = h.program.outputs
+
+    front : List (ℕ × Sort) → List ℕ → Option Condition → Code → Parser HeadParts
+    front ds xs b c = pure (record { program = record { names = h.program.names; declared = ds; outputs = xs; body = c }; assumed = b })
+
+    with_shared : List (ℕ × Sort) → List ℕ → Option Condition → Parser HeadParts
     with_shared ds xs b = r.shared >>= front ds xs b
 
-    with_assumed : List (ℕ × Sort) → List ℕ → Parser r.TaskFront
+    with_assumed : List (ℕ × Sort) → List ℕ → Parser HeadParts
     with_assumed ds xs = r.assumed >>= with_shared ds xs
 
-    with_outputs : List (ℕ × Sort) → Parser r.TaskFront
+    with_outputs : List (ℕ × Sort) → Parser HeadParts
     with_outputs ds = r.outputs >>= with_assumed ds
 
 lists-then : {U : Type 0} (t : Parts) {os xs ys ms : List Marked} → IsList mark.Base os (t.fillings claim.O) → IsList mark.VariantA xs (t.fillings claim.A) → IsList mark.VariantB ys (t.fillings claim.B) → IsList mark.Candidate ms (t.fillings claim.M) → (z : List Symbol) (more : (Copy → Fillings) → Parser U) → go_on (r.lists (unmarked (os ++ (xs ++ (ys ++ ms))) ++ z)) more ≡ reach (os ++ (xs ++ (ys ++ ms))) z (more (listed t) z)
@@ -200,13 +207,6 @@ lists-then t {os = os} {xs = xs} {ys = ys} {ms = ms} base variant_a variant_b ca
     with_a : Fillings → Parser (Copy → Fillings)
     with_a o = r.list mark.VariantA >>= with_b o
 
--- a task is read
-pub task_read : {ts : List Marked} {t : Parts} → IsTask ts t → (z : List Symbol) → r.task (unmarked ts ++ z) ≡ reach ts z (Ok ((front_of t, listed t), z))
-unfolding r.task
-task_read (task.task {o = os} {a = xs} {b = ys} {m = ms} t declared named assumed code base variant_a variant_b candidate) z =
-    head-then t (os ++ (xs ++ (ys ++ ms))) declared named assumed code z (λ (front : r.TaskFront). r.lists >>= λ (fs : Copy → Fillings). pure (front, fs)) (Ok ((front_of t, listed t), z))
-    (lists-then t base variant_a variant_b candidate z (λ (fs : Copy → Fillings). pure (front_of t, fs)))
-
 all_copies : (fs : Copy → Fillings) → by_copy (fs claim.O) (fs claim.A) (fs claim.B) (fs claim.M) ≡ fs
 all_copies fs = fun_ext same
   where
@@ -216,40 +216,48 @@ all_copies fs = fun_ext same
     same claim.B = refl
     same claim.M = refl
 
+-- a task is read
+pub task_read : {ts : List Marked} {t : Parts} → IsTask ts t → (z : List Symbol) → r.task t.names (unmarked ts ++ z) ≡ reach ts z (Ok (t, z))
+unfolding r.task
+task_read (task.task {o = os} {a = xs} {b = ys} {m = ms} t declared named assumed code base variant_a variant_b candidate) z =
+    head-then (front_of t) (os ++ (xs ++ (ys ++ ms))) declared named assumed code z (λ (h : HeadParts). r.lists >>= λ (fs : Copy → Fillings). pure (r.with_lists h fs)) (Ok (t, z))
+    (lists-then t base variant_a variant_b candidate z (λ (fs : Copy → Fillings). pure (r.with_lists (front_of t) fs))
+    ∙ ap (λ (fs : Copy → Fillings). reach (os ++ (xs ++ (ys ++ ms))) z (Ok (r.with_lists (front_of t) fs, z))) (all_copies t.fillings))
+
 -- the symbols of a task are read to their end, or refused at the first that nests too deep
-pub whole_read : {ts : List Marked} {t : Parts} → IsTask ts t → r.whole (unmarked ts) ≡ r.to_end (reach ts [] (Ok ((front_of t, t.fillings), [])))
+whole_read : {ts : List Marked} {t : Parts} → IsTask ts t → r.whole t.names (unmarked ts) ≡ r.to_end (reach ts [] (Ok (t, [])))
 unfolding r.whole
 whole_read {ts} {t} p =
-    ap (λ (l : List Symbol). r.to_end (r.task l)) (sym (append-nil (unmarked ts)))
-    ∙ ap (λ (a : Result ((r.TaskFront × (Copy → Fillings)) × List Symbol) Fault). r.to_end a) (task_read p [])
-    ∙ ap (λ (fs : Copy → Fillings). r.to_end (reach ts [] (Ok ((front_of t, fs), [])))) (all_copies t.fillings)
+    ap (λ (l : List Symbol). r.to_end (r.task t.names l)) (sym (append-nil (unmarked ts)))
+    ∙ ap (λ (a : Result (Parts × List Symbol) Fault). r.to_end a) (task_read p [])
 
 -- symbols of which none nests too deep are read as the task that the grammar spells by them
-pub read_complete : (ts : List Symbol) (t : Parts) → IsTask (map plain ts) t → r.whole ts ≡ Ok (front_of t, t.fillings)
+read_complete : (ts : List Symbol) (t : Parts) → IsTask (map plain ts) t → r.whole t.names ts ≡ Ok t
 read_complete ts t p =
-    ap (λ (l : List Symbol). r.whole l) (sym (unmarked-plain ts))
+    ap (λ (l : List Symbol). r.whole t.names l) (sym (unmarked-plain ts))
     ∙ whole_read p
-    ∙ ap (λ (a : Result ((r.TaskFront × (Copy → Fillings)) × List Symbol) Fault). r.to_end a) (reach-plain ts [] (Ok ((front_of t, t.fillings), [])))
+    ∙ ap (λ (a : Result (Parts × List Symbol) Fault). r.to_end a) (reach-plain ts [] (Ok (t, [])))
 
-ok_same : {T : Type 0} (x y : T) → (let a : Result T Fault = Ok x in a) ≡ Ok y → x ≡ y
+-- so is a text that is in the grammar
+pub spelled_read : (bytes : List ℕ) (t : Parts) (names : List (List ℕ)) (ts : List Symbol) → IsInGrammar bytes t → names ≡ names_of bytes → ts ≡ symbols_of bytes → r.whole names ts ≡ Ok t
+spelled_read bytes t names ts p n e =
+    let G : List Symbol → Type 0 = λ l. IsTask (map plain l) t in
+    ap (λ (l : List (List ℕ)). r.whole l ts) (n ∙ sym p.names) ∙ read_complete ts t (subst G (sym e) p.grammar)
+
+ok_same : (x y : Parts) → (let a : Result Parts Fault = Ok x in a) ≡ Ok y → x ≡ y
 ok_same x y e = cc
 
 -- what is read of a text is the task that it spells
-pub parts_read : (bytes : List ℕ) (t : Parts) (names : List (List ℕ)) (ts : List Symbol) (body : r.TaskFront × (Copy → Fillings)) → IsInGrammar bytes t → names ≡ names_of bytes → ts ≡ symbols_of bytes → r.whole ts ≡ Ok body → r.parts_from names body ≡ t
-parts_read bytes t names ts body p n e f =
-    let G : List Symbol → Type 0 = λ l. IsTask (map plain l) t in
-    let same : body ≡ (front_of t, t.fillings) = ok_same body (front_of t, t.fillings) (sym f ∙ read_complete ts t (subst G (sym e) p.grammar)) in
-    ap (λ (b : r.TaskFront × (Copy → Fillings)). r.parts_from names b) same ∙ ap (λ (l : List (List ℕ)). r.parts_from l (front_of t, t.fillings)) (n ∙ sym p.names)
+pub parts_read : (bytes : List ℕ) (t : Parts) (names : List (List ℕ)) (ts : List Symbol) (u : Parts) → IsInGrammar bytes t → names ≡ names_of bytes → ts ≡ symbols_of bytes → r.whole names ts ≡ Ok u → u ≡ t
+parts_read bytes t names ts u p n e f = ok_same u t (sym f ∙ spelled_read bytes t names ts p n e)
 
 -- a text is in the grammar by at most one task
 pub one_parse : OneParse
-one_parse bytes t u p q = sym (parts_read bytes t (names_of bytes) (symbols_of bytes) (front_of t, t.fillings) p refl refl (read_complete (symbols_of bytes) t p.grammar)) ∙ parts_read bytes u (names_of bytes) (symbols_of bytes) (front_of t, t.fillings) q refl refl (read_complete (symbols_of bytes) t p.grammar)
+one_parse bytes t u p q = parts_read bytes u (names_of bytes) (symbols_of bytes) t q refl refl (spelled_read bytes t (names_of bytes) (symbols_of bytes) p refl refl)
 
-not_ok : (f : Fault) (x : r.TaskFront × (Copy → Fillings)) → (let a : Result (r.TaskFront × (Copy → Fillings)) Fault = Err f in a) ≡ Ok x → ⊥
+not_ok : (f : Fault) (x : Parts) → (let a : Result Parts Fault = Err f in a) ≡ Ok x → ⊥
 not_ok f x e = cc
 
 -- a text that is refused is in the grammar by no task
-pub not_refused : (bytes : List ℕ) (t : Parts) (ts : List Symbol) (f : Fault) → IsInGrammar bytes t → ts ≡ symbols_of bytes → r.whole ts ≡ Err f → ⊥
-not_refused bytes t ts f p e g =
-    let G : List Symbol → Type 0 = λ l. IsTask (map plain l) t in
-    not_ok f (front_of t, t.fillings) (sym g ∙ read_complete ts t (subst G (sym e) p.grammar))
+pub not_refused : (bytes : List ℕ) (t : Parts) (names : List (List ℕ)) (ts : List Symbol) (f : Fault) → IsInGrammar bytes t → names ≡ names_of bytes → ts ≡ symbols_of bytes → r.whole names ts ≡ Err f → ⊥
+not_refused bytes t names ts f p n e g = not_ok f t (sym g ∙ spelled_read bytes t names ts p n e)

@@ -6,13 +6,13 @@ use Rattle.sm_syntax.specs.declared.token.Token.{Token}
 use Rattle.sm_syntax.specs.text.MarkedSymbols.{plain}
 use Rattle.sm_syntax.specs.text.Parts.{Parts}
 use Rattle.sm_syntax.specs.text.Spells.{IsInGrammar}
-use Rattle.sm_syntax.specs.text.Symbols.{symbols_of}
+use Rattle.sm_syntax.specs.text.Symbols.{names_of, symbols_of}
 use Rattle.sm_text.specs.declared.error.TextError.{TextError}
 use Rattle.sm_text.specs.declared.error.TextError.TheVariants as error
 use Rattle.sm_text.specs.parsing.Places.{Source, AreTasks, IsViable, IsWhole, IsUnexpected, NestsTooDeep, Stands, at_token, at_end, IsFault, all_symbols, whole_text}
 use Rattle.sm_text.specs.rules.Reading as r
 use Rattle.sm_text.proofs.Complete.Parsers.{unmarked-plain}
-use Rattle.sm_text.proofs.Complete.Tasks.{front_of, read_complete}
+use Rattle.sm_text.proofs.Complete.Tasks.{spelled_read}
 use Rattle.sm_text.proofs.FirstFault.Sound.{symbols-map}
 use Rattle.sm_text.proofs.FirstFault.Judged.{task_judges}
 use Rattle.sm_text.proofs.FirstFault.Refusals.{shorter-viable, nothing_nests}
@@ -44,8 +44,8 @@ module _ (bytes : List ℕ) (t : Parts) (p : IsInGrammar bytes t) where
   can_go_on : IsViable AreTasks symbols
   can_go_on = record { spelled = whole.spelled; grammar = whole.grammar; more = []; begins = whole.all ∙ sym (append-nil symbols) }
 
-  is_read : r.whole symbols ≡ Ok (front_of t, t.fillings)
-  is_read = ap (λ (l : List Symbol). r.whole l) (sym (symbols-map bytes)) ∙ read_complete (symbols_of bytes) t p.grammar
+  is_read : r.whole (names_of bytes) symbols ≡ Ok t
+  is_read = spelled_read bytes t (names_of bytes) symbols p refl (sym (symbols-map bytes))
 
   -- the symbols before a token, its own, and those after it
   around : (before behind : List Token) (u : Token) → source.tokens ≡ before ++ u ∷ behind → symbols ≡ map source.symbol before ++ source.symbol u ∷ map source.symbol behind
@@ -62,7 +62,7 @@ module _ (bytes : List ℕ) (t : Parts) (p : IsInGrammar bytes t) where
   nested : (place : ℕ) (before : List Symbol) (next : Option Symbol) → Stands source place before next → (v : Symbol) → next ≡ Some v → NestsTooDeep AreTasks before v → ⊥
   nested place before next (at_token us vs u cut) v same x =
       let F : Symbol → Type 0 = λ s. NestsTooDeep AreTasks (map source.symbol us) s in
-      nothing_nests r.whole AreTasks task_judges symbols symbols [] (sym (append-nil symbols)) (λ f e. absurd (ok_is_err (front_of t, t.fillings) f (sym is_read ∙ e))) (map source.symbol us) (map source.symbol vs) (source.symbol u) (around us vs u cut) (subst F (sym (some_one (source.symbol u) v same)) x)
+      nothing_nests (r.whole (names_of bytes)) AreTasks (task_judges (names_of bytes)) symbols symbols [] (sym (append-nil symbols)) (λ f e. absurd (ok_is_err t f (sym is_read ∙ e))) (map source.symbol us) (map source.symbol vs) (source.symbol u) (around us vs u cut) (subst F (sym (some_one (source.symbol u) v same)) x)
   nested place before next (at_end none) v same x = none_is_some v same
 
   pub faultless : (e : TextError) → IsFault AreTasks source e → ⊥

@@ -2,51 +2,55 @@
 use Rattle.std.proofs.Common.{ℕ, sym, ◌≡◌, subst, Ok, List, [], map}
 use Rattle.std.proofs.lemmas.List.{append-nil}
 use Rattle.sm_syntax.specs.declared.symbol.Symbol.{Symbol}
-use Rattle.sm_syntax.specs.claim.ConflictFree.{Copy}
-use Rattle.sm_syntax.specs.claim.Fill.{Fillings}
 use Rattle.sm_syntax.specs.text.MarkedSymbols.{Marked, plain}
+use Rattle.sm_syntax.specs.text.TaskGrammar.{IsTask, task}
+use Rattle.sm_syntax.specs.text.Parts.{Parts}
+use Rattle.sm_text.specs.parsing.Fragments.{IsProgram, program}
 use Rattle.sm_text.specs.parsing.Places.{AreTasks, ArePrograms, IsViable}
 use Rattle.sm_text.specs.parsing.Program as p
-use Rattle.sm_text.specs.parsing.Program.{ProgramBody, program_from}
 use Rattle.sm_text.specs.rules.Reading as r
+use Rattle.sm_text.specs.Tasks.{ProgramParts}
 use Rattle.sm_text.proofs.Sound.Parsers.{weaken}
-use Rattle.sm_text.proofs.Sound.Rules.{IsTaskBody, task_told, whole_told}
-use Rattle.sm_text.proofs.Complete.Tasks.{front_of, listed, task_read}
-use Rattle.sm_text.proofs.Sound.Programs.{IsProgramBody, body_of, program_told, program_read, whole_program_told}
+use Rattle.sm_text.proofs.Sound.Rules.{task_told, whole_told}
+use Rattle.sm_text.proofs.Complete.Tasks.{task_read}
+use Rattle.sm_text.proofs.Sound.Programs.{program_told, program_read, whole_program_told}
 use Rattle.sm_text.proofs.FirstFault.Refusals.{Judges, Reads, whole_judges, viable}
 
 -- the names play no part in the symbols
-no_names : List (List ℕ)
-no_names = []
+abbrev task_under : List (List ℕ) → Parts → Parts
+task_under names t = record { names = names; declared = t.declared; outputs = t.outputs; assumed = t.assumed; shared = t.shared; fillings = t.fillings }
 
-is_task : (us : List Marked) (x : r.TaskFront × (Copy → Fillings)) → IsTaskBody us x → AreTasks us
-is_task us x i = (r.parts_from no_names x, i.goes no_names)
+is_under : (names : List (List ℕ)) {ts : List Marked} {t : Parts} → IsTask ts t → IsTask ts (task_under names t)
+is_under names (task t declared named assumed code base variant_a variant_b candidate) = task (task_under names t) declared named assumed code base variant_a variant_b candidate
 
-tasks_read : Reads r.task AreTasks
-tasks_read ts s = ((front_of s.0, listed s.0), task_read s.1 [])
+tasks_read : (names : List (List ℕ)) → Reads (r.task names) AreTasks
+tasks_read names ts s = (task_under names s.0, task_read (is_under names s.1) [])
 
-pub task_judges : Judges r.whole AreTasks
+pub task_judges : (names : List (List ℕ)) → Judges (r.whole names) AreTasks
 unfolding r.whole
-task_judges = whole_judges r.task AreTasks (weaken is_task task_told) tasks_read
+task_judges names = whole_judges (r.task names) AreTasks (weaken (λ us t i. (t, i.0)) (task_told names)) (tasks_read names)
 
 -- what is read as a task is one
-pub task_viable : (ts : List Symbol) (x : r.TaskFront × (Copy → Fillings)) → r.whole ts ≡ Ok x → IsViable AreTasks ts
-task_viable ts x e =
+pub task_viable : (names : List (List ℕ)) (ts : List Symbol) (t : Parts) → r.whole names ts ≡ Ok t → IsViable AreTasks ts
+task_viable names ts t e =
     let F : List Marked → Type 0 = λ l. AreTasks l in
-    viable AreTasks ts [] (subst F (sym (append-nil (map plain ts))) (is_task (map plain ts) x (whole_told ts x e)))
+    viable AreTasks ts [] (subst F (sym (append-nil (map plain ts))) (t, (whole_told names ts t e).0))
 
-is_program : (us : List Marked) (x : ProgramBody) → IsProgramBody us x → ArePrograms us
-is_program us x i = (program_from no_names x, i.goes no_names)
+abbrev program_under : List (List ℕ) → ProgramParts → ProgramParts
+program_under names x = record { names = names; declared = x.declared; outputs = x.outputs; body = x.body }
 
-programs_read : Reads p.program ArePrograms
-programs_read ts s = (body_of s.0, program_read s.1 [])
+is_program_under : (names : List (List ℕ)) {ts : List Marked} {x : ProgramParts} → IsProgram ts x → IsProgram ts (program_under names x)
+is_program_under names (program x declared named code) = program (program_under names x) declared named code
 
-pub program_judges : Judges p.whole_program ArePrograms
+programs_read : (names : List (List ℕ)) → Reads (p.program names) ArePrograms
+programs_read names ts s = (program_under names s.0, program_read (is_program_under names s.1) [])
+
+pub program_judges : (names : List (List ℕ)) → Judges (p.whole_program names) ArePrograms
 unfolding p.whole_program
-program_judges = whole_judges p.program ArePrograms (weaken is_program program_told) programs_read
+program_judges names = whole_judges (p.program names) ArePrograms (weaken (λ us x i. (x, i.0)) (program_told names)) (programs_read names)
 
 -- what is read as a program is one
-pub program_viable : (ts : List Symbol) (x : ProgramBody) → p.whole_program ts ≡ Ok x → IsViable ArePrograms ts
-program_viable ts x e =
+pub program_viable : (names : List (List ℕ)) (ts : List Symbol) (x : ProgramParts) → p.whole_program names ts ≡ Ok x → IsViable ArePrograms ts
+program_viable names ts x e =
     let F : List Marked → Type 0 = λ l. ArePrograms l in
-    viable ArePrograms ts [] (subst F (sym (append-nil (map plain ts))) (is_program (map plain ts) x (whole_program_told ts x e)))
+    viable ArePrograms ts [] (subst F (sym (append-nil (map plain ts))) (x, (whole_program_told names ts x e).0))

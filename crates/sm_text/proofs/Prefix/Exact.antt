@@ -1,28 +1,27 @@
 -- The parsers of heads and blocks read exactly what the grammar spells.
-use Rattle.std.proofs.Common.{◌≡◌, ℕ, suc, ◌-◌, refl, sym, ap, ap₂, ◌∙◌, subst, arith, Bool, true, false, Ok, List, [], ◌∷◌, ◌++◌, map}
+use Rattle.std.proofs.Common.{◌≡◌, ℕ, suc, ◌-◌, refl, sym, ap, ◌∙◌, subst, arith, Bool, true, false, Ok, List, [], ◌∷◌, ◌++◌, map}
 use Rattle.std.specs.Prelude.{nat_le}
 use Rattle.std.proofs.lemmas.Bool.Decides.{nat_tests}
 use Rattle.std.proofs.lemmas.List.{append-nil}
 use Rattle.sm_syntax.specs.declared.symbol.Mark.TheVariants as mark
 use Rattle.sm_syntax.specs.declared.symbol.Symbol.{Symbol}
 use Rattle.sm_syntax.specs.declared.symbol.Symbol.TheVariants as s
-use Rattle.sm_syntax.specs.claim.ConflictFree.{Copy}
 use Rattle.sm_syntax.specs.text.StatementGrammar as stmt
 use Rattle.sm_syntax.specs.text.MarkedSymbols.{Marked, plain, word}
 use Rattle.sm_syntax.specs.text.StatementGrammar.{IsBlock}
-use Rattle.sm_syntax.specs.text.Parts.{Parts}
 use Rattle.sm_syntax.specs.text.Symbols.{names_after}
 use Rattle.sm_syntax.specs.claim.Syntax as plain_code
 use Rattle.sm_syntax.specs.claim.Syntax.{Code}
 use Rattle.sm_syntax.specs.text.Tokens.{lexed}
 use Rattle.sm_text.specs.rules.Parsers.{Parser, pure}
 use Rattle.sm_text.specs.parsing.Places.{unmarked}
-use Rattle.sm_text.specs.parsing.Prefix.{tokens_between, HeadParts, IsHead, head, SpellsHead}
+use Rattle.sm_text.specs.parsing.Prefix.{tokens_between, IsHead, head, SpellsHead}
 use Rattle.sm_text.specs.rules.Reading as r
+use Rattle.sm_text.specs.Tasks.{HeadParts}
 use Rattle.sm_text.proofs.Complete.Parsers.{past, reach, grouped-inside, go_on-pure, unmarked-plain, reach-plain}
 use Rattle.sm_text.proofs.Complete.Statements.{block_read}
 use Rattle.sm_text.proofs.Complete.Tasks.{head-then}
-use Rattle.sm_text.proofs.Sound.Rules.{IsFrontOfTask, braced_told, block_told}
+use Rattle.sm_text.proofs.Sound.Rules.{IsHeadUnder, braced_told, block_told}
 use Rattle.sm_text.proofs.Prefix.Sound.{ReadsAll}
 use Rattle.sm_text.proofs.Sound.Parsers.{Describes}
 
@@ -30,36 +29,26 @@ use Rattle.sm_text.proofs.Sound.Parsers.{Describes}
 reads_plain : {T : Type 0} (p : Parser T) (ss : List Symbol) (x : T) (z : List Symbol) → p (unmarked (map plain ss) ++ z) ≡ reach (map plain ss) z (Ok (x, z)) → p (ss ++ z) ≡ Ok (x, z)
 reads_plain {T} p ss x z e = ap (λ (l : List Symbol). p (l ++ z)) (sym (unmarked-plain ss)) ∙ e ∙ reach-plain ss z (Ok (x, z))
 
--- the front of a task that a head is
-abbrev pub front_from : HeadParts → r.TaskFront
-front_from h = record { declared = h.program.declared; outputs = h.program.outputs; assumed = h.assumed; shared = h.program.body }
+-- a head with other texts of its names
+abbrev pub head_under : List (List ℕ) → HeadParts → HeadParts
+head_under names h = record { program = record { names = names; declared = h.program.declared; outputs = h.program.outputs; body = h.program.body }; assumed = h.assumed }
 
--- the head that a front is, under names
-abbrev pub head_from : List (List ℕ) → r.TaskFront → HeadParts
-head_from names f = record { program = record { names = names; declared = f.declared; outputs = f.outputs; body = f.shared }; assumed = f.assumed }
-
-pub is_head : (names : List (List ℕ)) (f : r.TaskFront) (us : List Marked) → IsFrontOfTask us f → IsHead us (head_from names f)
-is_head names f us k =
-    let F : List Marked → Type 0 = λ l. IsHead l (head_from names f) in
-    subst F (sym k.parts) (head (head_from names f) k.declared k.named k.assumed k.code)
-
-pub is_front : (h : HeadParts) (us : List Marked) → IsHead us h → IsFrontOfTask us (front_from h)
-is_front h us (head {ts = ts} {us = os} {vs = vs} {ws = ws} it declared named assumed code) = record { ds = ts; os = os; qs = vs; ss = ws; parts = refl; declared = declared; named = named; assumed = assumed; code = code }
+-- the names play no part in the symbols
+pub is_under : (names : List (List ℕ)) {us : List Marked} {h : HeadParts} → IsHead us h → IsHead us (head_under names h)
+is_under names (head h declared named assumed code) = head (head_under names h) declared named assumed code
 
 -- a head is read, whatever stands after it
-pub front_read : (us : List Marked) (f : r.TaskFront) → IsFrontOfTask us f → (z : List Symbol) → r.head (unmarked us ++ z) ≡ reach us z (Ok (f, z))
-front_read us f k z =
-    let t : Parts = record { names = []; declared = f.declared; outputs = f.outputs; assumed = f.assumed; shared = f.shared; fillings = λ (c : Copy). [] } in
-    let line : us ≡ k.ds ++ (k.os ++ (k.qs ++ (k.ss ++ []))) = k.parts ∙ ap (λ (l : List Marked). k.ds ++ (k.os ++ (k.qs ++ l))) (sym (append-nil k.ss)) in
-    let F : List Marked → Type 0 = λ l. r.head (unmarked l ++ z) ≡ reach l z (Ok (f, z)) in
-    subst F (sym line) (sym (go_on-pure (r.head (unmarked (k.ds ++ (k.os ++ (k.qs ++ (k.ss ++ [])))) ++ z))) ∙ head-then t [] k.declared k.named k.assumed k.code z pure (Ok (f, z)) refl)
+pub head_read : {us : List Marked} {h : HeadParts} → IsHead us h → (z : List Symbol) → r.head h.program.names (unmarked us ++ z) ≡ reach us z (Ok (h, z))
+head_read (head {ts = ts} {us = us} {vs = vs} {ws = ws} h declared named assumed code) z =
+    let F : List Marked → Type 0 = λ l. r.head h.program.names (unmarked (ts ++ (us ++ (vs ++ l))) ++ z) ≡ reach (ts ++ (us ++ (vs ++ l))) z (Ok (h, z)) in
+    subst F (append-nil ws) (sym (go_on-pure (r.head h.program.names (unmarked (ts ++ (us ++ (vs ++ (ws ++ [])))) ++ z))) ∙ head-then h [] declared named assumed code z pure (Ok (h, z)) refl)
 
-pub head_reads : ReadsAll r.head IsFrontOfTask
-head_reads ss f k z = reads_plain r.head ss f z (front_read (map plain ss) f k z)
+pub head_reads : (names : List (List ℕ)) → ReadsAll (r.head names) (IsHeadUnder names)
+head_reads names ss h k z = ap (λ (l : List (List ℕ)). r.head l (ss ++ z)) (sym k.1) ∙ reads_plain (r.head h.program.names) ss h z (head_read k.0 z)
 
 -- two heads that the first tokens of a text spell are one
-pub head_same : (bytes : List ℕ) (m n : ℕ) (names : List (List ℕ)) (f : r.TaskFront) (h : HeadParts) → SpellsHead bytes m (head_from names f) → SpellsHead bytes n h → (f ≡ front_from h) × (m ≡ n) → (head_from names f ≡ h) × (m ≡ n)
-head_same bytes m n names f h one two same = (ap₂ head_from texts same.0, same.1)
+pub head_same : (bytes : List ℕ) (m n : ℕ) (names table : List (List ℕ)) (f h : HeadParts) → SpellsHead bytes m (head_under names f) → SpellsHead bytes n h → (f ≡ head_under table h) × (m ≡ n) → (head_under names f ≡ h) × (m ≡ n)
+head_same bytes m n names table f h one two same = (ap (head_under names) same.0 ∙ ap (λ (l : List (List ℕ)). head_under l h) texts, same.1)
   where
     texts : names ≡ h.program.names
     texts = one.numbered ∙ ap (λ (k : ℕ). names_after bytes [] (tokens_between 0 k (lexed bytes).0)) same.1 ∙ sym two.numbered

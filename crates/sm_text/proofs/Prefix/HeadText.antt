@@ -13,10 +13,11 @@ use Rattle.sm_syntax.specs.text.Symbols.{is_among, with_text, symbol_of}
 use Rattle.sm_syntax.specs.claim.Syntax.{Expression, Lit, Var, Read, Neg, Plus, Minus, Times, Condition, Yes, No, Compare, Not, And, Or}
 use Rattle.sm_syntax.specs.text.Tokens.{Lexed, lexed}
 use Rattle.sm_syntax.proofs.Numbering.{with_text-among, is_among-with_text, grown-with_text}
-use Rattle.sm_text.specs.parsing.Fragments.{ProgramParts, IsProgram, program, HasProgramText}
+use Rattle.sm_text.specs.parsing.Fragments.{IsProgram, program, HasProgramText}
 use Rattle.sm_text.specs.printing.Pieces.{pieces_text}
 use Rattle.sm_text.specs.parsing.Places.{unmarked}
-use Rattle.sm_text.specs.parsing.Prefix.{tokens_between, HeadParts, IsHead, head, SpellsHead, AssumesDeclared, IsNamedHead}
+use Rattle.sm_text.specs.Tasks.{ProgramParts, HeadParts}
+use Rattle.sm_text.specs.parsing.Prefix.{tokens_between, IsHead, head, SpellsHead, AssumesDeclared, IsNamedHead}
 use Rattle.sm_text.proofs.RoundTrip.Content.{content, both, content_of, content_tested, content_used, content_listed, content_declared, content_assumed, declarations_content, outputs_content, assumption_content, shared_content}
 use Rattle.sm_text.proofs.RoundTrip.Fitting.{IsClean, clean_left, clean_right, clean_plain}
 use Rattle.sm_text.proofs.RoundTrip.Parts.{content_of_program, program_content}

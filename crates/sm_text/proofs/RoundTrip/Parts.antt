@@ -10,7 +10,8 @@ use Rattle.sm_syntax.specs.text.Symbols.{names_of, symbols_of}
 use Rattle.sm_syntax.specs.claim.Syntax.{Condition, Code}
 use Rattle.sm_syntax.specs.text.Tokens.{Lexed, is_space}
 use Rattle.sm_text.specs.printing.Canonical.{condition_pieces, block_pieces, declaration_pieces, output_pieces, shared_pieces, program_pieces}
-use Rattle.sm_text.specs.parsing.Fragments.{ProgramParts, IsProgram, program, SpellsProgram, HasProgramText, IsNamedProgram, IsKnown, symbols_under, IsCutUnder, SpellsCondition, HasConditionText, SpellsBlock, HasBlockText}
+use Rattle.sm_text.specs.Tasks.{ProgramParts}
+use Rattle.sm_text.specs.parsing.Fragments.{IsProgram, program, SpellsProgram, HasProgramText, IsNamedProgram, IsKnown, symbols_under, IsCutUnder, SpellsCondition, HasConditionText, SpellsBlock, HasBlockText}
 use Rattle.sm_text.specs.printing.Named.{IsTestedIn, IsUsedIn}
 use Rattle.sm_text.specs.printing.Pieces.{Piece, pieces_text, symbols_in, margin_at}
 use Rattle.sm_text.proofs.RoundTrip.CodeSpelled.{marked, marked-append, told}

@@ -7,8 +7,8 @@ use Rattle.sm_syntax.specs.declared.tree.Sort.{Sort}
 use Rattle.sm_syntax.specs.claim.Syntax as plain
 use Rattle.sm_syntax.specs.claim.Syntax.{Expression, Condition, Code}
 use Rattle.sm_syntax.specs.declared.symbol.Mark.{Mark}
-use Rattle.sm_syntax.specs.claim.ConflictFree.{Copy}
 use Rattle.sm_syntax.specs.claim.Fill.{Fillings}
+use Rattle.sm_syntax.specs.text.Parts.{Parts}
 use Rattle.sm_text.specs.declared.rules.reading.Fault.{Fault}
 use Rattle.sm_text.specs.declared.rules.reading.FaultKind.TheVariants.{Expected, Nested}
 use Rattle.sm_text.specs.declared.rules.reading.ReadError.{ReadError}
@@ -110,22 +110,22 @@ pub front-push : (list : List Stmt) (one : Stmt) → statements_before (list ++ 
 front-push list one = fun_ext (λ k. sequence-push list one k)
 
 -- a task with no symbol after it
-pub whole-end : (ts : List Symbol) (p : r.TaskFront × (Copy → Fillings)) (after : List Symbol) → r.task ts ≡ Ok (p, after) → first after ≡ None → r.whole ts ≡ Ok p
+pub whole-end : (names : List (List ℕ)) (ts : List Symbol) (t : Parts) (after : List Symbol) → r.task names ts ≡ Ok (t, after) → first after ≡ None → r.whole names ts ≡ Ok t
 unfolding r.whole
-whole-end ts p [] e none = rw e refl
-whole-end ts p (t ∷ after) e none = absurd (some_none t none)
+whole-end names ts t [] e none = rw e refl
+whole-end names ts t (u ∷ after) e none = absurd (some_none u none)
 
 -- a task with symbols after it
-pub whole-rest : (ts : List Symbol) (p : r.TaskFront × (Copy → Fillings)) (after : List Symbol) (u : Symbol) → r.task ts ≡ Ok (p, after) → first after ≡ Some u → r.whole ts ≡ Err (fault Expected after)
+pub whole-rest : (names : List (List ℕ)) (ts : List Symbol) (t : Parts) (after : List Symbol) (u : Symbol) → r.task names ts ≡ Ok (t, after) → first after ≡ Some u → r.whole names ts ≡ Err (fault Expected after)
 unfolding r.whole
-whole-rest ts p [] u e some = absurd (some_none u (sym some))
-whole-rest ts p (t ∷ after) u e some = rw e refl
+whole-rest names ts t [] u e some = absurd (some_none u (sym some))
+whole-rest names ts t (v ∷ after) u e some = rw e refl
 
 -- a task that is refused
-pub whole-fails : (ts : List Symbol) (e : ReadError) → Fails e (r.task ts) → Fails e (r.whole ts)
+pub whole-fails : (names : List (List ℕ)) (ts : List Symbol) (e : ReadError) → Fails e (r.task names ts) → Fails e (r.whole names ts)
 unfolding r.whole
-whole-fails ts (error.Fault f) fails = rw fails refl
-whole-fails ts error.Memory fails = tt
+whole-fails names ts (error.Fault f) fails = rw fails refl
+whole-fails names ts error.Memory fails = tt
 
 -- the end of a chain
 chain-end : {T : Type 0} (operators : Operators T) (operand : Parser T) (n : ℕ) (left : T) (ts : List Symbol) → operators (first ts) ≡ None → chain_in operators operand n left ts ≡ Ok (left, ts)

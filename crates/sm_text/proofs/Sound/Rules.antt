@@ -29,10 +29,12 @@ use Rattle.sm_syntax.specs.text.ConditionGrammar.{comparison, IsCondition}
 use Rattle.sm_syntax.specs.text.StatementGrammar.{IsHoleNumber, AreStatements, IsBlock}
 use Rattle.sm_syntax.specs.text.TaskGrammar.{declares, AreNames, AreDeclarations, AreOutputs, IsAssumption, IsShared, AreFillings, IsList}
 use Rattle.sm_syntax.specs.text.TaskGrammar.{IsTask, with_sort}
-use Rattle.sm_syntax.specs.text.Parts.{by_copy}
+use Rattle.sm_syntax.specs.text.Parts.{Parts, by_copy}
 use Rattle.sm_text.specs.declared.rules.reading.FaultKind.TheVariants.{Expected}
 use Rattle.sm_text.specs.rules.Parsers.{rest, Parser, ◌>>◌, pure, skip, refuse, stands, inside_group}
+use Rattle.sm_text.specs.parsing.Prefix.{IsHead, head}
 use Rattle.sm_text.specs.rules.Reading as r
+use Rattle.sm_text.specs.Tasks.{HeadParts}
 use Rattle.sm_text.proofs.Sound.Parsers.{all_read, Possible, Describes, DescribesAt, Both, Is, IsMark, bind, both, weaken, possibly, possibly-behind, give, refused_at, anywhere, choose, choose_by, after, expect_told, bind_at, weaken_at, stands-is, standing, Inner, Enclosed, inside_told, grouped_told}
 use Rattle.sm_text.proofs.Sound.Chained.{Chained, Joins, chain_told}
 use Rattle.sm_text.proofs.Sound.Gathered.{Gathers, none, more, gathered}
@@ -790,37 +792,28 @@ pub shared_told : Describes r.shared IsShared
 unfolding r.shared r.group_limit
 shared_told = weaken is_shared (both (expect_told mark.Shared) (block_told 64 0 refl))
 
--- the front of a task
-pub record IsFrontOfTask (us : List Marked) (front : r.TaskFront) : Type 0 where
-  pub ds : List Marked
-  pub os : List Marked
-  pub qs : List Marked
-  pub ss : List Marked
-  pub parts : us ≡ ds ++ (os ++ (qs ++ ss))
-  pub declared : AreDeclarations ds front.declared
-  pub named : AreOutputs os front.outputs
-  pub assumed : IsAssumption qs front.assumed
-  pub code : IsShared ss front.shared
+-- a head, where these are the texts of its names
+abbrev pub IsHeadUnder : List (List ℕ) → List Marked → HeadParts → Type 0
+IsHeadUnder names us h = IsHead us h × (h.program.names ≡ names)
 
-is_front_of_task : (us : List Marked) (front : r.TaskFront) → Both AreDeclarations (λ ds. Both AreOutputs (λ xs. Both IsAssumption (λ a. Both IsShared (λ c. Is (record { declared = ds; outputs = xs; assumed = a; shared = c }))))) us front → IsFrontOfTask us front
-is_front_of_task us front b = subst F b.two.two.two.two.same (record {
-  ds = b.front;
-  os = b.two.front;
-  qs = b.two.two.front;
-  ss = b.two.two.two.front;
-  parts = b.parts ∙ ap (λ (l : List Marked). b.front ++ l) (b.two.parts ∙ ap (λ (l : List Marked). b.two.front ++ l) (b.two.two.parts ∙ ap (λ (l : List Marked). b.two.two.front ++ l) (b.two.two.two.parts ∙ ap (λ (l : List Marked). b.two.two.two.front ++ l) b.two.two.two.two.none ∙ append-nil b.two.two.two.front)));
-  declared = b.one;
-  named = b.two.one;
-  assumed = b.two.two.one;
-  code = b.two.two.two.one;
-})
+is_head : (names : List (List ℕ)) (us : List Marked) (h : HeadParts) → Both AreDeclarations (λ ds. Both AreOutputs (λ xs. Both IsAssumption (λ a. Both IsShared (λ c. Is (record { program = record { names = names; declared = ds; outputs = xs; body = c }; assumed = a }))))) us h → IsHeadUnder names us h
+is_head names us h b = subst F b.two.two.two.two.same (subst G (sym line) (head it b.one b.two.one b.two.two.one b.two.two.two.one), refl)
   where
-    F : r.TaskFront → Type 0
-    F f = IsFrontOfTask us f
+    it : HeadParts
+    it = record { program = record { names = names; declared = b.value; outputs = b.two.value; body = b.two.two.two.value }; assumed = b.two.two.value }
 
-pub head_told : Describes r.head IsFrontOfTask
+    F : HeadParts → Type 0
+    F k = IsHeadUnder names us k
+
+    G : List Marked → Type 0
+    G l = IsHead l it
+
+    line : us ≡ b.front ++ (b.two.front ++ (b.two.two.front ++ b.two.two.two.front))
+    line = b.parts ∙ ap (λ (l : List Marked). b.front ++ l) (b.two.parts ∙ ap (λ (l : List Marked). b.two.front ++ l) (b.two.two.parts ∙ ap (λ (l : List Marked). b.two.two.front ++ l) (b.two.two.two.parts ∙ ap (λ (l : List Marked). b.two.two.two.front ++ l) b.two.two.two.two.none ∙ append-nil b.two.two.two.front)))
+
+pub head_told : (names : List (List ℕ)) → Describes (r.head names) (IsHeadUnder names)
 unfolding r.head
-head_told = weaken is_front_of_task (bind declarations_told (λ ds. bind outputs_told (λ xs. bind assumed_told (λ a. bind shared_told (λ c. give (record { declared = ds; outputs = xs; assumed = a; shared = c }))))))
+head_told names = weaken (is_head names) (bind declarations_told (λ ds. bind outputs_told (λ xs. bind assumed_told (λ a. bind shared_told (λ c. give (record { program = record { names = names; declared = ds; outputs = xs; body = c }; assumed = a }))))))
 
 -- the four lists
 pub record AreLists (us : List Marked) (fs : Copy → Fillings) : Type 0 where
@@ -854,30 +847,37 @@ pub lists_told : Describes r.lists AreLists
 unfolding r.lists
 lists_told = weaken are_lists (bind (list_told mark.Base) (λ o. bind (list_told mark.VariantA) (λ a. bind (list_told mark.VariantB) (λ b. bind (list_told mark.Candidate) (λ m. give (by_copy o a b m))))))
 
--- a task, but for the texts of its names
-pub record IsTaskBody (us : List Marked) (p : r.TaskFront × (Copy → Fillings)) : Type 0 where
-  pub goes : (names : List (List ℕ)) → IsTask us (r.parts_from names p)
-
 regrouped : (ds os qs ss rest : List Marked) → (ds ++ (os ++ (qs ++ ss))) ++ rest ≡ ds ++ (os ++ (qs ++ (ss ++ rest)))
 regrouped ds os qs ss rest = append_assoc ds (os ++ (qs ++ ss)) rest ∙ ap (λ (l : List Marked). ds ++ l) (append_assoc os (qs ++ ss) rest ∙ ap (λ (l : List Marked). os ++ l) (append_assoc qs ss rest))
 
-is_task : (us : List Marked) (p : r.TaskFront × (Copy → Fillings)) → Both IsFrontOfTask (λ front. Both AreLists (λ fs. Is (front, fs))) us p → IsTaskBody us p
-is_task us p b = subst F (sym line) (subst G b.two.two.same (record { goes = λ names. task.task (r.parts_from names (b.value, b.two.value)) b.one.declared b.one.named b.one.assumed b.one.code b.two.one.base b.two.one.variant_a b.two.one.variant_b b.two.one.candidate }))
+-- a head and the four lists after it are a task
+head_and_lists : {front behind : List Marked} {h : HeadParts} {fs : Copy → Fillings} → IsHead front h → AreLists behind fs → IsTask (front ++ behind) (r.with_lists h fs)
+head_and_lists {behind = behind} {fs = fs} (head {ts = ts} {us = us} {vs = vs} {ws = ws} h declared named assumed code) k =
+    let F : List Marked → Type 0 = λ l. IsTask l (r.with_lists h fs) in
+    let line = regrouped ts us vs ws behind ∙ ap (λ (l : List Marked). ts ++ (us ++ (vs ++ (ws ++ l)))) k.parts in
+    subst F (sym line) (task.task (r.with_lists h fs) declared named assumed code k.base k.variant_a k.variant_b k.candidate)
+
+-- a task, where these are the texts of its names
+abbrev pub IsTaskUnder : List (List ℕ) → List Marked → Parts → Type 0
+IsTaskUnder names us t = IsTask us t × (t.names ≡ names)
+
+is_task : (names : List (List ℕ)) (us : List Marked) (t : Parts) → Both (IsHeadUnder names) (λ h. Both AreLists (λ fs. Is (r.with_lists h fs))) us t → IsTaskUnder names us t
+is_task names us t b = subst F b.two.two.same (subst G (sym line) (head_and_lists b.one.0 b.two.one), b.one.1)
   where
-    F : List Marked → Type 0
-    F l = IsTaskBody l p
+    F : Parts → Type 0
+    F u = IsTaskUnder names us u
 
-    G : r.TaskFront × (Copy → Fillings) → Type 0
-    G q = IsTaskBody (b.one.ds ++ (b.one.os ++ (b.one.qs ++ (b.one.ss ++ (b.two.one.os ++ (b.two.one.xs ++ (b.two.one.ys ++ b.two.one.ms))))))) q
+    G : List Marked → Type 0
+    G l = IsTask l (r.with_lists b.value b.two.value)
 
-    line : us ≡ b.one.ds ++ (b.one.os ++ (b.one.qs ++ (b.one.ss ++ (b.two.one.os ++ (b.two.one.xs ++ (b.two.one.ys ++ b.two.one.ms))))))
-    line = b.parts ∙ ap (λ (l : List Marked). l ++ b.behind) b.one.parts ∙ regrouped b.one.ds b.one.os b.one.qs b.one.ss b.behind ∙ ap (λ (l : List Marked). b.one.ds ++ (b.one.os ++ (b.one.qs ++ (b.one.ss ++ l)))) (b.two.parts ∙ ap (λ (l : List Marked). b.two.front ++ l) b.two.two.none ∙ append-nil b.two.front ∙ b.two.one.parts)
+    line : us ≡ b.front ++ b.two.front
+    line = b.parts ∙ ap (λ (l : List Marked). b.front ++ l) (b.two.parts ∙ ap (λ (l : List Marked). b.two.front ++ l) b.two.two.none ∙ append-nil b.two.front)
 
-pub task_told : Describes r.task IsTaskBody
+pub task_told : (names : List (List ℕ)) → Describes (r.task names) (IsTaskUnder names)
 unfolding r.task
-task_told = weaken is_task (bind head_told (λ front. bind lists_told (λ fs. give (front, fs))))
+task_told names = weaken (is_task names) (bind (head_told names) (λ h. bind lists_told (λ fs. give (r.with_lists h fs))))
 
 -- what is read to the end is a task
-pub whole_told : (ts : List Symbol) (p : r.TaskFront × (Copy → Fillings)) → r.whole ts ≡ Ok p → IsTaskBody (map plain ts) p
+pub whole_told : (names : List (List ℕ)) (ts : List Symbol) (t : Parts) → r.whole names ts ≡ Ok t → IsTaskUnder names (map plain ts) t
 unfolding r.whole
-whole_told ts p e = all_read task_told ts p e
+whole_told names ts t e = all_read (task_told names) ts t e

@@ -6,36 +6,18 @@ use Rattle.std.specs.List.{AllByRecursion}
 use Rattle.sm_syntax.specs.declared.program.Program.{Program}
 use Rattle.sm_syntax.specs.declared.symbol.Symbol.{Symbol}
 use Rattle.sm_syntax.specs.declared.token.Token.{Token}
-use Rattle.sm_syntax.specs.declared.tree.Sort.{Sort}
 use Rattle.sm_syntax.specs.text.MarkedSymbols.{Marked, plain}
 use Rattle.sm_syntax.specs.text.ConditionGrammar.{Disjunction, IsCondition}
 use Rattle.sm_syntax.specs.text.StatementGrammar.{IsBlock}
 use Rattle.sm_syntax.specs.text.TaskGrammar.{AreDeclarations, AreOutputs, IsShared}
-use Rattle.sm_syntax.specs.trees.Programs.{declared_of, outputs_of}
 use Rattle.sm_syntax.specs.text.Symbols.{text_of, is_among, is_name}
 use Rattle.sm_syntax.specs.text.Symbols.{symbol_of, names_of, symbols_of}
 use Rattle.sm_syntax.specs.claim.Syntax.{Condition, Code}
 use Rattle.sm_syntax.specs.text.Tokens.{lexed}
-use Rattle.sm_syntax.specs.trees.Views.{code_of}
 use Rattle.sm_text.specs.declared.error.TextError.{TextError}
 use Rattle.sm_text.specs.declared.error.TextError.TheVariants as error
 use Rattle.sm_text.specs.printing.Named.{IsUsedIn, AreDeclaredIn, AreOutputsIn}
-
--- the parts of a program, and the text of each name by its number
-pub record ProgramParts : Type 0 where
-  pub names : List (List ℕ)
-  pub declared : List (ℕ × Sort)
-  pub outputs : List ℕ
-  pub body : Code
-
--- the parts that a program stands for
-abbrev pub program_parts : Program → ProgramParts
-program_parts p = record {
-  names = p.names;
-  declared = declared_of p.decls;
-  outputs = outputs_of p.outputs;
-  body = code_of p.body;
-}
+use Rattle.sm_text.specs.Tasks.{ProgramParts, program_parts}
 
 -- the symbols spell a program of these parts
 pub data IsProgram : List Marked → ProgramParts → Type 0 where

@@ -11,7 +11,8 @@ use Rattle.sm_syntax.specs.text.TaskGrammar.{IsTask}
 use Rattle.sm_syntax.specs.text.Parts.{Parts}
 use Rattle.sm_text.specs.declared.error.TextError.{TextError}
 use Rattle.sm_text.specs.declared.error.TextError.TheVariants as error
-use Rattle.sm_text.specs.parsing.Fragments.{ProgramParts, IsProgram}
+use Rattle.sm_text.specs.parsing.Fragments.{IsProgram}
+use Rattle.sm_text.specs.Tasks.{ProgramParts}
 pub use Sources.*
 
 -- what is to be spelled: which symbols spell something of a kind

@@ -2,7 +2,7 @@
 -- Which tokens of a text spell a head or a block, whatever stands after them. The names that were
 -- known before keep their numbers, and the others have the numbers after these, by first
 -- appearance.
-use Rattle.std.specs.Prelude.{◌≡◌, ℕ, ◌-◌, ◌≤◌, true, Option, Some, None, is_some, option_map}
+use Rattle.std.specs.Prelude.{◌≡◌, ℕ, ◌-◌, ◌≤◌, true, Option, Some, None, is_some}
 use Rattle.std.specs.Prelude.{Result, MatchResult, List, [], ◌++◌, map, length, take, drop}
 use Rattle.std.specs.List.{AllByRecursion}
 use Rattle.sm_syntax.specs.declared.program.Program.{Program}
@@ -19,12 +19,13 @@ use Rattle.sm_syntax.specs.text.Parts.{sort_of}
 use Rattle.sm_syntax.specs.text.Symbols.{symbol_of, names_after}
 use Rattle.sm_syntax.specs.claim.Syntax.{Condition, Code}
 use Rattle.sm_syntax.specs.text.Tokens.{lexed}
-use Rattle.sm_syntax.specs.trees.Views.{condition_of, code_of}
+use Rattle.sm_syntax.specs.trees.Views.{code_of}
 use Rattle.sm_text.specs.declared.error.TextError.{TextError}
 use Rattle.sm_text.specs.declared.error.TextError.TheVariants as error
 use Rattle.sm_text.specs.declared.lexing.token_list.Tokens.{Tokens}
-use Rattle.sm_text.specs.parsing.Fragments.{ProgramParts, program_parts, IsNamedProgram}
+use Rattle.sm_text.specs.parsing.Fragments.{IsNamedProgram}
 use Rattle.sm_text.specs.printing.Named.{IsAssumedIn}
+use Rattle.sm_text.specs.Tasks.{HeadParts, head_parts}
 
 -- these are the tokens of the text, and its lexical fault
 abbrev pub AreTokensOf : List ℕ → Tokens → Type 0
@@ -42,15 +43,6 @@ pub record SpellsFrom {T : Type 0} (G : List Marked → T → Type 0) (bytes : L
   pub ends : n ≤ length (lexed bytes).0
   pub numbered : names ≡ names_after bytes before (tokens_between at n (lexed bytes).0)
   pub grammar : G (map plain (map (symbol_of bytes names) (tokens_between at n (lexed bytes).0))) x
-
--- the parts of a head: a program, and what is assumed
-pub record HeadParts : Type 0 where
-  pub program : ProgramParts
-  pub assumed : Option Condition
-
--- the parts that a program and an assumption stand for
-abbrev pub head_parts : Program → Option Cond → HeadParts
-head_parts p b = record { program = program_parts p; assumed = option_map condition_of b }
 
 -- the symbols spell the front of a task: declarations, outputs, what is assumed, and the shared
 -- block

@@ -12,14 +12,14 @@ use Rattle.sm_syntax.specs.declared.symbol.Mark.TheVariants as mark
 use Rattle.sm_syntax.specs.declared.symbol.Symbol.{Symbol}
 use Rattle.sm_syntax.specs.claim.ConflictFree.{Copy}
 use Rattle.sm_syntax.specs.claim.Fill.{Fillings}
-use Rattle.sm_syntax.specs.text.Parts.{by_copy}
+use Rattle.sm_syntax.specs.text.Parts.{Parts, by_copy}
 use Rattle.sm_syntax.specs.claim.Syntax.{Condition, Code}
 use Rattle.sm_text.specs.declared.rules.reading.Fault.{Fault}
 use Rattle.sm_text.specs.declared.rules.reading.FaultKind.TheVariants.{Expected}
 use Rattle.sm_text.specs.rules.Parsers.{first, Parser, fault, ◌>>=◌, ◌>>◌, pure}
 use Rattle.sm_text.specs.rules.Parsers.{skip, expect, stands}
 use Rattle.sm_text.specs.rules.Parsers.{gather}
-pub use Rattle.sm_text.specs.rules.Sections.{TaskFront, parts_from}
+use Rattle.sm_text.specs.Tasks.{HeadParts}
 unfoldable pub use Names.*
 unfoldable pub use Expressions.*
 unfoldable pub use Conditions.*
@@ -81,14 +81,18 @@ assumed ts = assumed_by (stands mark.Assume (first ts)) ts
 unfoldable pub shared : Parser Code
 shared = expect mark.Shared >> block group_limit
 
--- the front of a task: declarations, outputs, what is assumed, and the shared block
-unfoldable pub head : Parser TaskFront
-head = do
+-- a head, where these are the texts of its names: declarations, outputs, what is assumed, and the
+-- shared block
+unfoldable pub head : List (List ℕ) → Parser HeadParts
+head names = do
   ds ← declarations
   xs ← outputs
   b ← assumed
   c ← shared
-  pure (record { declared = ds; outputs = xs; assumed = b; shared = c })
+  pure (record {
+    program = record { names = names; declared = ds; outputs = xs; body = c };
+    assumed = b;
+  })
 
 -- the four lists
 unfoldable pub lists : Parser (Copy → Fillings)
@@ -99,12 +103,23 @@ lists = do
   m ← list mark.Candidate
   pure (by_copy o a b m)
 
--- a task, but for the texts of its names
-unfoldable pub task : Parser (TaskFront × (Copy → Fillings))
-task = do
-  front ← head
+-- a task, by its head and the fillings of each copy
+abbrev pub with_lists : HeadParts → (Copy → Fillings) → Parts
+with_lists h fs = record {
+  names = h.program.names;
+  declared = h.program.declared;
+  outputs = h.program.outputs;
+  assumed = h.assumed;
+  shared = h.program.body;
+  fillings = fs;
+}
+
+-- a task, where these are the texts of its names
+unfoldable pub task : List (List ℕ) → Parser Parts
+task names = do
+  h ← head names
   fs ← lists
-  pure (front, fs)
+  pure (with_lists h fs)
 
 -- what was read, where no symbol is left
 abbrev pub by_rest : {T : Type 0} → T → List Symbol → Result T Fault
@@ -117,5 +132,5 @@ to_end (Err f) = Err f
 to_end (Ok r) = by_rest r.0 r.1
 
 -- the task that all the symbols spell
-unfoldable pub whole : List Symbol → Result (TaskFront × (Copy → Fillings)) Fault
-whole ts = to_end (task ts)
+unfoldable pub whole : List (List ℕ) → List Symbol → Result Parts Fault
+whole names ts = to_end (task names ts)

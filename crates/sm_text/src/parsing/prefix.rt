@@ -8,17 +8,17 @@ ghost use Rattle.sm_syntax.specs.trees.Programs.{declared_of};
 ghost use Rattle.sm_syntax.specs.trees.Views.{condition_of, code_of};
 ghost use Rattle.sm_text.specs.rules.Answers.{Fails};
 ghost use Rattle.sm_text.specs.parsing.BlockTokens.{IsFirstBlock, IsGroup, is_mark, token_symbols};
-ghost use Rattle.sm_text.specs.parsing.Fragments.{HasBlockText, HasProgramText, program_parts};
+ghost use Rattle.sm_text.specs.parsing.Fragments.{HasBlockText, HasProgramText};
 ghost use Rattle.sm_text.specs.resolving.NameCounts as spec;
 ghost use Rattle.sm_text.specs.printing.Named.{IsUsedIn};
 ghost use Rattle.sm_text.specs.parsing.Places.{IsRefusal, whole_text, text_from};
 ghost use Rattle.sm_text.specs.parsing.Prefix.{AreTokensOf};
-ghost use Rattle.sm_text.specs.parsing.Prefix.{HeadParts, head_parts, SpellsHead, IsHeadReadAs};
-ghost use Rattle.sm_text.specs.parsing.Prefix.{AreHeads};
+ghost use Rattle.sm_text.specs.parsing.Prefix.{AreHeads, SpellsHead, IsHeadReadAs};
 ghost use Rattle.sm_text.specs.parsing.Prefix.{IsNamedHead, AssumesDeclared};
 ghost use Rattle.sm_text.specs.parsing.Prefix.{SpellsBlockAt, IsBlockReadAs, AreBlocks};
 ghost use Rattle.sm_text.specs.rules.Reading as grammar;
 ghost use Rattle.sm_text.specs.resolving.TokenTexts.{IsTokenOf};
+ghost use Rattle.sm_text.specs.Tasks.{HeadParts, head_parts, program_parts};
 
 use crate::error::TextError;
 use crate::lexing::token_list::Tokens;
@@ -26,7 +26,7 @@ use crate::parsing::text::refused;
 use crate::resolving::resolve::{sign_of, symbols_after};
 use crate::rules::names::GROUP_LIMIT;
 use crate::rules::reading::{Fault, ReadError};
-use crate::rules::sections::head_of_task;
+use crate::rules::sections::head;
 use crate::rules::statements::block;
 use sm_syntax::{Block, Cond, Mark, NameTable, Program, Symbol, Token};
 use std::alloc::Global;
@@ -34,7 +34,7 @@ use std::alloc::Global;
 /// Reads the front of a task from the tokens of its text: a program, what is assumed, and the
 /// number of the token after them. What stands after them doesn't matter, and the program has
 /// the names of its own tokens alone. A text that doesn't begin with a head is refused at the
-/// first fault in it, as by `read_sections`.
+/// first fault in it, as by `read_task`.
 pub fn parse_head(
     alloc: Global,
     bytes: &[u8],
@@ -55,17 +55,12 @@ pub fn parse_head(
 {
     let mut names = NameTable::new(alloc);
     let symbols = symbols_after(alloc, bytes, &tokens.list, &mut names)?;
-    match head_of_task(alloc, &symbols) {
-        Ok((head, after)) => {
+    match head(alloc, names, &symbols) {
+        Ok((front, after)) => {
             let used = symbols.len() - after.len();
-            names.cut(count_names(0, &symbols[..used]));
-            let program = Program {
-                names,
-                decls: head.decls,
-                outputs: head.outputs,
-                body: head.shared,
-            };
-            Ok((program, head.assumed, used as u64))
+            let (mut program, assumed) = front;
+            program.names.cut(count_names(0, &symbols[..used]));
+            Ok((program, assumed, used as u64))
         }
         Err(ReadError::Fault(fault)) => Err(refused(bytes, tokens, fault)),
         Err(ReadError::Memory) => Err(TextError::Memory),
@@ -76,7 +71,7 @@ pub fn parse_head(
 /// before it, and gives the number of the token after it. Names of the block that aren't in the
 /// table go after those that are; after a refusal the table is as it was. More than 64 open
 /// groups nest too deep, the block's own among them. Where no block stands, the text is refused
-/// at the first fault from `at` on, as by `read_sections`. Want of memory stands also for a table
+/// at the first fault from `at` on, as by `read_task`. Want of memory stands also for a table
 /// without room. The time grows with the block's own tokens: those up to the curly brace that
 /// closes the one at `at`, or all after it where none does.
 pub fn parse_block(

@@ -2,10 +2,10 @@
 ghost use Rattle.std.specs.Prelude.{◌<◌, ◌^◌, length, IfOk, IfErr};
 ghost use Rattle.sm_text.specs.rules.Answers.{Gives};
 ghost use Rattle.sm_text.specs.parsing.Fragments.{HasProgramText, IsNamedProgram, IsProgramReadAs};
-ghost use Rattle.sm_text.specs.parsing.Fragments.{ProgramParts, SpellsProgram, program_parts};
+ghost use Rattle.sm_text.specs.parsing.Fragments.{SpellsProgram};
 ghost use Rattle.sm_text.specs.parsing.Places.{ArePrograms, IsRefusal, whole_text};
 ghost use Rattle.sm_text.specs.parsing.Program as spec;
-ghost use Rattle.sm_text.specs.parsing.ProgramViews.{program_body};
+ghost use Rattle.sm_text.specs.Tasks.{ProgramParts, program_parts};
 
 use crate::error::TextError;
 use crate::lexing::lexer::tokens;
@@ -14,42 +14,37 @@ use crate::resolving::resolve::symbols;
 use crate::rules::names::{declarations, outputs};
 use crate::rules::reading::{FaultKind, ReadError, first, refusal};
 use crate::rules::sections::shared;
-use sm_syntax::{Block, Decls, Outputs, Program, Symbol};
+use sm_syntax::{NameTable, Program, Symbol};
 use std::alloc::Global;
 
-/// The parts of a program, but for its names.
-#[derive(Debug, Drop)]
-pub(crate) struct Parts {
-    pub decls: Decls,
-    pub outputs: Outputs,
-    pub body: Block,
-}
-
-/// A program, and the symbols after it.
+/// A program with the table of its names, and the symbols after it.
 #[tactic(auto, unfolding(crate::specs::parsing::Program::program))]
-fn program(alloc: Global, symbols: &[Symbol]) -> Result<(Parts, &[Symbol]), ReadError>
-    ensures { Gives (λ x. (program_body x.0, x.1.now)) result (spec.program symbols.now) }
+fn program(
+    alloc: Global,
+    names: NameTable,
+    symbols: &[Symbol],
+) -> Result<(Program, &[Symbol]), ReadError>
+    ensures { Gives (λ x. (program_parts x.0, x.1.now)) result (spec.program names symbols.now) }
 {
     let (decls, after) = declarations(alloc, symbols)?;
     let (outputs, after) = outputs(alloc, after)?;
     let (body, after) = shared(alloc, after)?;
-    Ok((
-        Parts {
-            decls,
-            outputs,
-            body,
-        },
-        after,
-    ))
+    let program = Program {
+        names,
+        decls,
+        outputs,
+        body,
+    };
+    Ok((program, after))
 }
 
 /// A whole program, with no symbol after it.
-fn whole_program(alloc: Global, symbols: &[Symbol]) -> Result<Parts, ReadError>
-    ensures { Gives program_body result (spec.whole_program symbols.now) }
+fn whole_program(alloc: Global, names: NameTable, symbols: &[Symbol]) -> Result<Program, ReadError>
+    ensures { Gives program_parts result (spec.whole_program names symbols.now) }
 {
-    match program(alloc, symbols) {
-        Ok((parts, after)) => match first(after) {
-            None => Ok(parts),
+    match program(alloc, names, symbols) {
+        Ok((program, after)) => match first(after) {
+            None => Ok(program),
             Some(_) => Err(refusal(FaultKind::Expected, after)),
         },
         Err(error) => Err(error),
@@ -57,7 +52,7 @@ fn whole_program(alloc: Global, symbols: &[Symbol]) -> Result<Parts, ReadError>
 }
 
 /// Reads a text of fewer than 2^32 bytes as a program: declarations, outputs and a shared block
-/// alone. Any other text is refused at its first fault, as by `read_sections`.
+/// alone. Any other text is refused at its first fault, as by `read_task`.
 pub fn parse_program(alloc: Global, bytes: &[u8]) -> Result<Program, TextError>
     requires { length bytes.now < 2 ^ 32 }
     ensures ok { IfOk result (λ p. SpellsProgram bytes.now (program_parts p)) }
@@ -71,14 +66,9 @@ pub fn parse_program(alloc: Global, bytes: &[u8]) -> Result<Program, TextError>
 {
     let tokens = tokens(alloc, bytes)?;
     let symbols = symbols(alloc, bytes, &tokens.list)?;
-    match whole_program(alloc, &symbols.list) {
-        Ok(parts) => match tokens.fault {
-            None => Ok(Program {
-                names: symbols.names,
-                decls: parts.decls,
-                outputs: parts.outputs,
-                body: parts.body,
-            }),
+    match whole_program(alloc, symbols.names, &symbols.list) {
+        Ok(program) => match tokens.fault {
+            None => Ok(program),
             Some(fault) => Err(lexical_error(fault)),
         },
         Err(ReadError::Fault(fault)) => Err(refused(bytes, &tokens, fault)),

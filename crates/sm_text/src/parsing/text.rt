@@ -1,50 +1,40 @@
-// A whole text, read into the sections of a task.
+// A whole text, read as a task.
 ghost use Rattle.std.specs.Prelude.{◌≡◌, ◌<◌, ◌≤◌, ◌^◌, Some, None, length, IfOk, IfErr, IfSome};
 ghost use Rattle.sm_syntax.specs.text.Parts.{Parts};
 ghost use Rattle.sm_syntax.specs.text.Spells.{IsInGrammar};
 ghost use Rattle.sm_text.specs.parsing.ErrorPlaces.{IsErrorOf, IsPlaceWith};
 ghost use Rattle.sm_text.specs.parsing.Places.{AreTasks, IsRefusal, whole_text};
-ghost use Rattle.sm_text.specs.parsing.Text.{sections_parts, lexical_fault, rule_fault};
-ghost use Rattle.sm_text.specs.parsing.Text.{AreSectionsReadAs};
+ghost use Rattle.sm_text.specs.parsing.Text.{IsTaskReadAs, lexical_fault, rule_fault};
+ghost use Rattle.sm_text.specs.Tasks.{parts_of};
 
 use crate::error::TextError;
 use crate::lexing::lexer::tokens;
 use crate::lexing::token_list::Tokens;
 use crate::resolving::resolve::symbols;
 use crate::rules::reading::{Fault, FaultKind, ReadError};
-use crate::rules::sections::{Head, whole};
-use sm_syntax::{Fillings, LexFault, LexKind, NameTable, PerCopy, Token};
+use crate::rules::sections::whole;
+use crate::task::Task;
+use sm_syntax::{LexFault, LexKind, Token};
 use std::alloc::{AllocError, Global};
 
-/// The sections of a task as its text gives them, and the text of each name by its number.
-#[derive(Debug, Drop)]
-pub struct Sections {
-    pub names: NameTable,
-    pub head: Head,
-    pub lists: PerCopy<Fillings>,
-}
-
-/// Reads a text of fewer than 2^32 bytes. A text that isn't read is refused at the first fault in
-/// it: a lexical one, a token that no task has after those before it (`Expected`, also at the end
-/// of the text), or a token that nests too deep (`Nested`). Whether a task has a token there is a
-/// matter of the grammar alone, whatever nests too deep after it.
-pub fn read_sections(alloc: Global, bytes: &[u8]) -> Result<Sections, TextError>
+/// Reads a text of fewer than 2^32 bytes as a task by the grammar alone, whatever the conditions on
+/// tasks say. A text that isn't read is refused at the first fault in it: a lexical one, a token
+/// that no task has after those before it (`Expected`, also at the end of the text), or a token
+/// that nests too deep (`Nested`). Whether a task has a token there is a matter of the grammar
+/// alone, whatever nests too deep after it.
+pub fn read_task(alloc: Global, bytes: &[u8]) -> Result<Task, TextError>
     requires { length bytes.now < 2 ^ 32 }
-    ensures ok { IfOk result (λ s. IsInGrammar bytes.now (sections_parts s)) }
+    ensures ok { IfOk result (λ t. IsInGrammar bytes.now (parts_of t)) }
     // Each text in the grammar is read, where nothing in it nests too deep.
-    ensures only { (t : Parts) → IsInGrammar bytes.now t → AreSectionsReadAs t result }
+    ensures only { (t : Parts) → IsInGrammar bytes.now t → IsTaskReadAs t result }
     // A refusal is the first fault of the text, and names its kind and its place.
     ensures place { IfErr result (IsRefusal AreTasks (whole_text bytes.now)) }
 {
     let tokens = tokens(alloc, bytes)?;
     let symbols = symbols(alloc, bytes, &tokens.list)?;
-    match whole(alloc, &symbols.list) {
-        Ok((head, lists)) => match tokens.fault {
-            None => Ok(Sections {
-                names: symbols.names,
-                head,
-                lists,
-            }),
+    match whole(alloc, symbols.names, &symbols.list) {
+        Ok(task) => match tokens.fault {
+            None => Ok(task),
             Some(fault) => Err(lexical_error(fault)),
         },
         Err(ReadError::Fault(fault)) => Err(refused(bytes, &tokens, fault)),

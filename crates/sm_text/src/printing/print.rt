@@ -6,19 +6,20 @@ ghost use Rattle.sm_syntax.specs.text.Spells.{Spells};
 ghost use Rattle.sm_syntax.specs.trees.Views.{condition_of, code_of};
 ghost use Rattle.sm_text.specs.printing.Canonical as canonical;
 ghost use Rattle.sm_text.specs.parsing.Fragments.{HasBlockText, HasConditionText, HasProgramText};
-ghost use Rattle.sm_text.specs.parsing.Fragments.{IsNamedProgram, program_parts};
+ghost use Rattle.sm_text.specs.parsing.Fragments.{IsNamedProgram};
 ghost use Rattle.sm_text.specs.parsing.Fragments.{SpellsBlock, SpellsCondition, SpellsProgram};
 ghost use Rattle.sm_text.specs.printing.Named.{IsUsedIn, IsTestedIn, HasText};
 ghost use Rattle.sm_text.specs.printing.Pieces as spec;
 ghost use Rattle.sm_text.specs.printing.Pieces.{pieces_text};
-ghost use Rattle.sm_text.specs.parsing.Text.{task_parts};
+ghost use Rattle.sm_text.specs.Tasks.{parts_of, program_parts};
 
 use crate::printing::expressions::put_cond;
 use crate::printing::sections::{
     put_assumption, put_declarations, put_lists, put_outputs, put_shared,
 };
 use crate::printing::statements::{deeper, put_block};
-use sm_syntax::{Block, Cond, Fillings, NameTable, PerCopy, Program};
+use crate::task::Task;
+use sm_syntax::{Block, Cond, NameTable, Program};
 use std::alloc::{AllocError, Global};
 
 /// The canonical text of a block whose first line stands at a level, which is two spaces wide.
@@ -87,27 +88,25 @@ pub fn print_program(alloc: Global, p: &Program) -> Result<Vec<u8>, AllocError>
     Ok(out)
 }
 
-/// The canonical text of a task that some text spells, by its parts: the shared program with its
-/// holes, what is assumed of inputs, and the fillings of each copy. It reads back to the same task.
+/// The canonical text of a task that some text spells. It reads back to the same task.
 #[tactic(auto, unfolding(crate::specs::printing::Canonical::task_pieces))]
-pub fn print_sections(
-    alloc: Global,
-    shared: &Program,
-    assumed: &Option<Cond>,
-    lists: &PerCopy<Fillings>,
-) -> Result<Vec<u8>, AllocError>
-    requires { HasText (task_parts shared.now assumed.now lists.now) }
-    ensures text { IfOk result (λ v. v.items ≡ pieces_text shared.now.names
-        (canonical.task_pieces (task_parts shared.now assumed.now lists.now))) }
-    ensures reads_back { IfOk result (λ v.
-        Spells v.items (task_parts shared.now assumed.now lists.now)) }
+pub fn print_task(alloc: Global, task: &Task) -> Result<Vec<u8>, AllocError>
+    requires { HasText (parts_of task.now) }
+    ensures text { let names = task.now.shared.names in
+        IfOk result (λ v. v.items ≡ pieces_text names (canonical.task_pieces (parts_of task.now))) }
+    ensures reads_back { IfOk result (λ v. Spells v.items (parts_of task.now)) }
 {
-    let names = &shared.names;
+    let Program {
+        names,
+        decls,
+        outputs,
+        body,
+    } = &task.shared;
     let mut out = Vec::new(alloc);
-    put_declarations(&mut out, names, &shared.decls)?;
-    put_outputs(&mut out, names, &shared.outputs)?;
-    put_assumption(&mut out, names, assumed)?;
-    put_shared(alloc, &mut out, names, &shared.body)?;
-    put_lists(alloc, &mut out, names, lists)?;
+    put_declarations(&mut out, names, decls)?;
+    put_outputs(&mut out, names, outputs)?;
+    put_assumption(&mut out, names, &task.assumed)?;
+    put_shared(alloc, &mut out, names, body)?;
+    put_lists(alloc, &mut out, names, &task.lists)?;
     Ok(out)
 }

@@ -7,8 +7,8 @@ ghost use Rattle.sm_text.specs.printing.Canonical as canonical;
 ghost use Rattle.sm_text.specs.printing.Named.{IsUsedIn, AreDeclaredIn, AreOutputsIn};
 ghost use Rattle.sm_text.specs.printing.Named.{IsAssumedIn, AreFilledIn};
 ghost use Rattle.sm_text.specs.printing.Pieces.{pieces_text};
-ghost use Rattle.sm_text.specs.rules.Sections.{lists_of};
 ghost use Rattle.sm_text.specs.rules.Written.{numbers_of, filling_of};
+ghost use Rattle.sm_text.specs.Tasks.{lists_of};
 
 use crate::printing::expressions::{put_cond, put_name};
 use crate::printing::statements::{put_block, put_hole};

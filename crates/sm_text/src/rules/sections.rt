@@ -4,24 +4,16 @@ ghost use Rattle.sm_syntax.specs.trees.Programs.{fillings_of};
 ghost use Rattle.sm_syntax.specs.trees.Views.{condition_of, code_of};
 ghost use Rattle.sm_text.specs.rules.Answers.{Gives};
 ghost use Rattle.sm_text.specs.rules.Reading as spec;
-ghost use Rattle.sm_text.specs.rules.Written.{filling_of, entries_for};
-ghost use Rattle.sm_text.specs.rules.Sections.{head_of, lists_of, body_of};
+ghost use Rattle.sm_text.specs.rules.Written.{filling_of};
+ghost use Rattle.sm_text.specs.Tasks.{head_parts, lists_of, parts_of};
 
 use crate::rules::conditions::condition;
 use crate::rules::names::{GROUP_LIMIT, declarations, hole_number, outputs, stands};
 use crate::rules::reading::{FaultKind, ReadError, expect, first, refusal, rest};
 use crate::rules::statements::block;
-use sm_syntax::{Block, Cond, Decls, Filling, Fillings, Mark, Outputs, PerCopy, Symbol};
+use crate::task::Task;
+use sm_syntax::{Block, Cond, Filling, Fillings, Mark, NameTable, PerCopy, Program, Symbol};
 use std::alloc::Global;
-
-/// The front of a task: its declarations, outputs, assumption and shared block.
-#[derive(Debug, Drop)]
-pub struct Head {
-    pub decls: Decls,
-    pub outputs: Outputs,
-    pub assumed: Option<Cond>,
-    pub shared: Block,
-}
 
 /// How many more may be open inside a list.
 const LIST_LIMIT: u64 = 63;
@@ -106,27 +98,29 @@ pub(crate) fn assumed(
     }
 }
 
-/// The front of a task.
+/// The front of a task, with the table of its names: the shared program, and what is assumed.
 #[tactic(auto, unfolding(crate::specs::rules::Reading::head))]
-pub(crate) fn head_of_task(
+pub(crate) fn head(
     alloc: Global,
+    names: NameTable,
     symbols: &[Symbol],
-) -> Result<(Head, &[Symbol]), ReadError>
-    ensures { Gives (λ x. (head_of x.0, x.1.now)) result (spec.head symbols.now) }
+) -> Result<((Program, Option<Cond>), &[Symbol]), ReadError>
+    ensures { Gives
+        (λ x. (head_parts x.0.0 x.0.1, x.1.now))
+        result
+        (spec.head names symbols.now) }
 {
     let (decls, after) = declarations(alloc, symbols)?;
     let (outputs, after) = outputs(alloc, after)?;
     let (assumed, after) = assumed(alloc, after)?;
-    let (shared, after) = shared(alloc, after)?;
-    Ok((
-        Head {
-            decls,
-            outputs,
-            assumed,
-            shared,
-        },
-        after,
-    ))
+    let (body, after) = shared(alloc, after)?;
+    let program = Program {
+        names,
+        decls,
+        outputs,
+        body,
+    };
+    Ok(((program, assumed), after))
 }
 
 /// The lists of the four copies.
@@ -152,29 +146,28 @@ pub(crate) fn four_lists(
     ))
 }
 
-/// A task, and the symbols after it.
+/// A task with the table of its names, and the symbols after it.
 #[tactic(auto, unfolding(crate::specs::rules::Reading::task))]
-pub(crate) fn task(
-    alloc: Global,
-    symbols: &[Symbol],
-) -> Result<((Head, PerCopy<Fillings>), &[Symbol]), ReadError>
-    ensures { Gives (λ x. (body_of x.0, x.1.now)) result (spec.task symbols.now) }
+fn task(alloc: Global, names: NameTable, symbols: &[Symbol]) -> Result<(Task, &[Symbol]), ReadError>
+    ensures { Gives (λ x. (parts_of x.0, x.1.now)) result (spec.task names symbols.now) }
 {
-    let (head, after) = head_of_task(alloc, symbols)?;
+    let ((shared, assumed), after) = head(alloc, names, symbols)?;
     let (lists, after) = four_lists(alloc, after)?;
-    Ok(((head, lists), after))
+    let task = Task {
+        shared,
+        assumed,
+        lists,
+    };
+    Ok((task, after))
 }
 
 /// A whole task, with no symbol after it.
-pub(crate) fn whole(
-    alloc: Global,
-    symbols: &[Symbol],
-) -> Result<(Head, PerCopy<Fillings>), ReadError>
-    ensures { Gives body_of result (spec.whole symbols.now) }
+pub(crate) fn whole(alloc: Global, names: NameTable, symbols: &[Symbol]) -> Result<Task, ReadError>
+    ensures { Gives parts_of result (spec.whole names symbols.now) }
 {
-    match task(alloc, symbols) {
-        Ok((body, after)) => match first(after) {
-            None => Ok(body),
+    match task(alloc, names, symbols) {
+        Ok((task, after)) => match first(after) {
+            None => Ok(task),
             Some(_) => Err(refusal(FaultKind::Expected, after)),
         },
         Err(error) => Err(error),

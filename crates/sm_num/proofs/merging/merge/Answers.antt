@@ -1,4 +1,4 @@
--- Where one list has ended, the other is put behind.
+-- Where one list has ended, the other is put after.
 use Rattle.std.proofs.Common.{◌≡◌, ◌⊎◌, inl, inr, List, ℕ, ℤ, [], drop, subst}
 use Rattle.std.proofs.Math.ListN.{drop_of_length-le}
 use Rattle.std.proofs.lemmas.Result.{err_from_is_err_and}

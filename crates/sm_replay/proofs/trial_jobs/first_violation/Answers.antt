@@ -1,7 +1,8 @@
 -- The first answer that is there.
 use Rattle.std.proofs.Common.{sym, subst}
 use Rattle.sm_syntax.specs.text.Parts.{sort_of, task_of}
-use Rattle.sm_task.specs.Tasks.{parts_of, AreFilled}
+use Rattle.sm_task.specs.Filling.{AreFilled}
+use Rattle.sm_task.specs.Tasks.{parts_of}
 use Rattle.sm_replay.proofs.FirstViolationSound.{Answered, answered_where, first_violates}
 use Rattle.sm_replay.proofs.RunnableTasks.{filled_sorted}
 use Rattle.sm_replay.proofs.trial_jobs.first_violation.Goals as goal

@@ -2,7 +2,8 @@
 use Rattle.std.proofs.Common.{◌≡◌, ◌≢◌, Option, Err}
 use Rattle.std.proofs.lemmas.Result.{IfOk-weaker}
 use Rattle.sm_syntax.specs.text.Parts.{sort_of, task_of}
-use Rattle.sm_task.specs.Tasks.{parts_of, AreFilled}
+use Rattle.sm_task.specs.Filling.{AreFilled}
+use Rattle.sm_task.specs.Tasks.{parts_of}
 use Rattle.sm_eval.specs.StoredValues.{meaning}
 use Rattle.sm_replay.specs.declared.error.ReplayError.TheVariants.{Memory}
 use Rattle.sm_replay.specs.declared.verdict.Verdict.{Verdict}

@@ -1,4 +1,4 @@
-use Rattle.std.proofs.Common.{◌≡◌, ◌-◌, ℕ, sym, ap, ◌∙◌, subst, arith, List, [], length, take}
+use Rattle.std.proofs.Common.{◌≡◌, ◌-◌, ℕ, refl, sym, ap, ◌∙◌, subst, arith, List, [], length, take}
 use Rattle.std.proofs.lemmas.List.{length-map}
 use Rattle.std.specs.List.{AllByRecursion}
 use Rattle.sm_syntax.specs.declared.symbol.Symbol.{Symbol}
@@ -9,14 +9,14 @@ use Rattle.sm_text.specs.resolving.NameCounts.{names_counted}
 use Rattle.sm_text.specs.parsing.Places.{all_symbols}
 use Rattle.sm_text.specs.parsing.Prefix.{AreHeads}
 use Rattle.sm_text.specs.rules.Reading as r
-use Rattle.sm_text.specs.rules.Sections.{head_of}
+use Rattle.sm_text.specs.Tasks.{head_parts}
 use Rattle.sm_text.specs.resolving.TokenTexts.{IsTokenOf}
-use Rattle.sm_text.proofs.Sound.Rules.{IsFrontOfTask, head_told}
+use Rattle.sm_text.proofs.Sound.Rules.{IsHeadUnder, head_told}
 use Rattle.sm_text.proofs.Prefix.HeadText.{head_named, head_has_text}
 use Rattle.sm_text.proofs.Cut.Lexing.{IsTokenOf-lexed}
 use Rattle.sm_text.proofs.Prefix.Judged.{head_judges}
-use Rattle.sm_text.proofs.Prefix.Exact.{front_from, is_head, is_front, head_reads, head_same}
-use Rattle.sm_text.proofs.Prefix.Sound.{respelled, signs-of, left_within, answered, read_same, read_not_refused}
+use Rattle.sm_text.proofs.Prefix.Exact.{head_under, is_under, head_reads, head_same}
+use Rattle.sm_text.proofs.Prefix.Sound.{respelled, signs-of, taken, left_within, answered, read_same, read_not_refused}
 use Rattle.sm_text.proofs.FirstFault.Texts.{whole_from, refused_whole}
 use Rattle.sm_text.proofs.parsing.prefix.parse_head.Goals as goal
 
@@ -28,25 +28,42 @@ symbols_after-requires c =
 pub overflow_sub-used : goal.overflow_sub-used
 overflow_sub-used c =
     let bytes = c.args.bytes.now in
+    let names = c.symbols_after.new.names in
+    let h = head_parts c.in-Ok.front.0 c.in-Ok.front.1 in
+    let after = c.in-Ok.after.now in
     let cut : c.deref.result.now ≡ (lexed bytes).0 = c.deref.ensures.value ∙ ap (λ (l : Lexed). l.0) c.requires in
-    let same = c.deref-2.ensures.value ∙ signs-of bytes [] c.symbols_after.new.names c.deref.result.now (lexed bytes).0 c.in_ok-symbols.symbols.items (c.in_ok-symbols.ensures.names ∙ ap (λ l. names_after bytes l c.deref.result.now) c.new-names.ensures) c.in_ok-symbols.ensures.list cut in
-    let size : c.len.result ≡ length (lexed bytes).0 = c.len.ensures ∙ sym c.deref-2.ensures.len ∙ ap (λ (l : List Symbol). length l) same ∙ length-map (lexed bytes).0 (symbol_of bytes (names_after bytes [] (lexed bytes).0)) in
-    let fewer = left_within r.head IsFrontOfTask bytes [] (lexed bytes).0 (head_of c.in-Ok.head) c.in-Ok.after.now head_told (ap r.head (sym same) ∙ c.in-Ok.ensures) in
+    let numbered = c.in_ok-symbols.ensures.names ∙ ap (λ l. names_after bytes l c.deref.result.now) c.new-names.ensures in
+    let same = c.deref-2.ensures.value
+    ∙ signs-of bytes [] names c.deref.result.now (lexed bytes).0 c.in_ok-symbols.symbols.items numbered c.in_ok-symbols.ensures.list cut in
+    let size : c.len.result ≡ length (lexed bytes).0 = c.len.ensures ∙ sym c.deref-2.ensures.len ∙ ap (λ (l : List Symbol). length l) same
+    ∙ length-map (lexed bytes).0 (symbol_of bytes (names_after bytes [] (lexed bytes).0)) in
+    let read = ap (r.head names) (sym same) ∙ c.in-Ok.ensures in
+    let fewer = left_within (r.head names) (IsHeadUnder names) bytes [] (lexed bytes).0 h after (head_told names) read in
     omega (arith, size, fewer)
 
 pub returns-in-Ok-clause-ok : goal.returns-in-Ok-clause-ok
 returns-in-Ok-clause-ok c =
     let bytes = c.args.bytes.now in
+    let names = c.symbols_after.new.names in
+    let h = head_parts c.in-Ok.front.0 c.in-Ok.front.1 in
+    let after = c.in-Ok.after.now in
     let cut : c.deref.result.now ≡ (lexed bytes).0 = c.deref.ensures.value ∙ ap (λ (l : Lexed). l.0) c.requires in
-    let table = c.in_ok-symbols.ensures.names ∙ ap (λ l. names_after bytes l c.deref.result.now) c.new-names.ensures in
-    let same = c.deref-2.ensures.value ∙ signs-of bytes [] c.symbols_after.new.names c.deref.result.now (lexed bytes).0 c.in_ok-symbols.symbols.items table c.in_ok-symbols.ensures.list cut in
-    let size : c.len.result ≡ length (lexed bytes).0 = c.len.ensures ∙ sym c.deref-2.ensures.len ∙ ap (λ (l : List Symbol). length l) same ∙ length-map (lexed bytes).0 (symbol_of bytes (names_after bytes [] (lexed bytes).0)) in
-    let used = c.len.result - length c.in-Ok.after.now in
-    respelled (is_head c.cut.new.self (head_of c.in-Ok.head)) (answered r.head IsFrontOfTask bytes [] 0 (head_of c.in-Ok.head) c.in-Ok.after.now c.deref-2.result.now c.symbols_after.new.names c.cut.new.self used used head_told (omega arith) same c.in-Ok.ensures
-    (ap (λ (k : ℕ). k - length c.in-Ok.after.now) (c.len.ensures ∙ sym c.deref-2.ensures.len))
-    (ap (λ (k : ℕ). k - length c.in-Ok.after.now) size)
-    (table ∙ ap (names_after bytes []) cut)
-    (c.cut.ensures ∙ ap (λ (k : ℕ). take k c.symbols_after.new.names) (c.count_names.ensures ∙ ap (λ (l : List Symbol). names_counted 0 (take used l)) (c.deref-in-Ok.ensures.value ∙ sym c.deref-2.ensures.value))))
+    let numbered = c.in_ok-symbols.ensures.names ∙ ap (λ l. names_after bytes l c.deref.result.now) c.new-names.ensures in
+    let same = c.deref-2.ensures.value
+    ∙ signs-of bytes [] names c.deref.result.now (lexed bytes).0 c.in_ok-symbols.symbols.items numbered c.in_ok-symbols.ensures.list cut in
+    let size : c.len.result ≡ length (lexed bytes).0 = c.len.ensures ∙ sym c.deref-2.ensures.len ∙ ap (λ (l : List Symbol). length l) same
+    ∙ length-map (lexed bytes).0 (symbol_of bytes (names_after bytes [] (lexed bytes).0)) in
+    let read = ap (r.head names) (sym same) ∙ c.in-Ok.ensures in
+    let kept : h.program.names ≡ names = (taken (r.head names) (IsHeadUnder names) bytes [] (lexed bytes).0 h after (head_told names) read).fits.1 in
+    let used = c.len.result - length after in
+    let count = c.count_names.ensures
+    ∙ ap (λ (l : List Symbol). names_counted 0 (take used l)) (c.deref-in-Ok.ensures.value ∙ sym c.deref-2.ensures.value) in
+    respelled (λ us k. is_under c.cut.new.self k.0) (answered (r.head names) (IsHeadUnder names)
+    bytes [] 0 h after c.deref-2.result.now names c.cut.new.self used used (head_told names) (omega arith) same c.in-Ok.ensures
+    (ap (λ (k : ℕ). k - length after) (c.len.ensures ∙ sym c.deref-2.ensures.len))
+    (ap (λ (k : ℕ). k - length after) size)
+    (numbered ∙ ap (names_after bytes []) cut)
+    (c.cut.ensures ∙ ap (take c.count_names.result) kept ∙ ap (λ (k : ℕ). take k names) count))
 
 pub returns-in-Ok-clause-named : goal.returns-in-Ok-clause-named
 returns-in-Ok-clause-named c = head_named _ _ _ (returns-in-Ok-clause-ok c)
@@ -55,24 +72,45 @@ pub returns-in-Ok-clause-printable : goal.returns-in-Ok-clause-printable
 returns-in-Ok-clause-printable c declared = head_has_text _ _ _ (returns-in-Ok-clause-ok c) declared
 
 pub returns-in-Ok-clause-only : goal.returns-in-Ok-clause-only
-returns-in-Ok-clause-only c n h spells =
+returns-in-Ok-clause-only c n other spells =
     let bytes = c.args.bytes.now in
+    let names = c.symbols_after.new.names in
+    let h = head_parts c.in-Ok.front.0 c.in-Ok.front.1 in
+    let after = c.in-Ok.after.now in
     let cut : c.deref.result.now ≡ (lexed bytes).0 = c.deref.ensures.value ∙ ap (λ (l : Lexed). l.0) c.requires in
-    let same = c.deref-2.ensures.value ∙ signs-of bytes [] c.symbols_after.new.names c.deref.result.now (lexed bytes).0 c.in_ok-symbols.symbols.items (c.in_ok-symbols.ensures.names ∙ ap (λ l. names_after bytes l c.deref.result.now) c.new-names.ensures) c.in_ok-symbols.ensures.list cut in
-    let size : c.len.result ≡ length (lexed bytes).0 = c.len.ensures ∙ sym c.deref-2.ensures.len ∙ ap (λ (l : List Symbol). length l) same ∙ length-map (lexed bytes).0 (symbol_of bytes (names_after bytes [] (lexed bytes).0)) in
-    let it = read_same r.head IsFrontOfTask bytes [] 0 n h.program.names (front_from h) (head_of c.in-Ok.head) c.in-Ok.after.now head_reads (respelled (is_front h) spells) (ap r.head (sym same) ∙ c.in-Ok.ensures) in
-    head_same bytes (c.len.result - length c.in-Ok.after.now) n c.cut.new.self (head_of c.in-Ok.head) h (returns-in-Ok-clause-ok c) spells (it.0, ap (λ (k : ℕ). k - length c.in-Ok.after.now) size ∙ it.1)
+    let numbered = c.in_ok-symbols.ensures.names ∙ ap (λ l. names_after bytes l c.deref.result.now) c.new-names.ensures in
+    let same = c.deref-2.ensures.value
+    ∙ signs-of bytes [] names c.deref.result.now (lexed bytes).0 c.in_ok-symbols.symbols.items numbered c.in_ok-symbols.ensures.list cut in
+    let size : c.len.result ≡ length (lexed bytes).0 = c.len.ensures ∙ sym c.deref-2.ensures.len ∙ ap (λ (l : List Symbol). length l) same
+    ∙ length-map (lexed bytes).0 (symbol_of bytes (names_after bytes [] (lexed bytes).0)) in
+    let read = ap (r.head names) (sym same) ∙ c.in-Ok.ensures in
+    let given = respelled (λ us k. (is_under names k, refl)) spells in
+    let it = read_same (r.head names) (IsHeadUnder names)
+    bytes [] 0 n other.program.names (head_under names other) h after (head_reads names) given read in
+    head_same bytes (c.len.result - length after) n c.cut.new.self names h other (returns-in-Ok-clause-ok c) spells
+    (it.0, ap (λ (k : ℕ). k - length after) size ∙ it.1)
 
 pub returns-in-Err-Fault-clause-only : goal.returns-in-Err-Fault-clause-only
 returns-in-Err-Fault-clause-only c n h spells =
     let bytes = c.args.bytes.now in
+    let names = c.symbols_after.new.names in
     let cut : c.deref.result.now ≡ (lexed bytes).0 = c.deref.ensures.value ∙ ap (λ (l : Lexed). l.0) c.requires in
-    let same = c.deref-2.ensures.value ∙ signs-of bytes [] c.symbols_after.new.names c.deref.result.now (lexed bytes).0 c.in_ok-symbols.symbols.items (c.in_ok-symbols.ensures.names ∙ ap (λ l. names_after bytes l c.deref.result.now) c.new-names.ensures) c.in_ok-symbols.ensures.list cut in
-    absurd (read_not_refused r.head IsFrontOfTask bytes [] 0 n h.program.names (front_from h) c.in-Err-Fault.fault head_reads (respelled (is_front h) spells) (ap r.head (sym same) ∙ (rw c.in-Err-Fault.field-0-is at c.in-Err-Fault.ensures)))
+    let numbered = c.in_ok-symbols.ensures.names ∙ ap (λ l. names_after bytes l c.deref.result.now) c.new-names.ensures in
+    let same = c.deref-2.ensures.value
+    ∙ signs-of bytes [] names c.deref.result.now (lexed bytes).0 c.in_ok-symbols.symbols.items numbered c.in_ok-symbols.ensures.list cut in
+    let given = respelled (λ us k. (is_under names k, refl)) spells in
+    let refused = ap (r.head names) (sym same) ∙ (rw c.in-Err-Fault.field-0-is at c.in-Err-Fault.ensures) in
+    absurd (read_not_refused (r.head names) (IsHeadUnder names)
+    bytes [] 0 n h.program.names (head_under names h) c.in-Err-Fault.fault (head_reads names) given refused)
 
 pub returns-in-Err-Fault-clause-place : goal.returns-in-Err-Fault-clause-place
 returns-in-Err-Fault-clause-place c =
     let bytes = c.args.bytes.now in
+    let names = c.symbols_after.new.names in
     let cut : c.deref.result.now ≡ (lexed bytes).0 = c.deref.ensures.value ∙ ap (λ (l : Lexed). l.0) c.requires in
-    let same = c.deref-2.ensures.value ∙ signs-of bytes [] c.symbols_after.new.names c.deref.result.now (lexed bytes).0 c.in_ok-symbols.symbols.items (c.in_ok-symbols.ensures.names ∙ ap (λ l. names_after bytes l c.deref.result.now) c.new-names.ensures) c.in_ok-symbols.ensures.list cut in
-    refused_whole r.head AreHeads head_judges bytes c.args.tokens.now c.requires c.deref-2.result.now (same ∙ ap all_symbols (whole_from bytes)) c.in-Err-Fault.fault (rw c.in-Err-Fault.field-0-is at c.in-Err-Fault.ensures) c.refused.result c.refused.ensures
+    let numbered = c.in_ok-symbols.ensures.names ∙ ap (λ l. names_after bytes l c.deref.result.now) c.new-names.ensures in
+    let same = c.deref-2.ensures.value
+    ∙ signs-of bytes [] names c.deref.result.now (lexed bytes).0 c.in_ok-symbols.symbols.items numbered c.in_ok-symbols.ensures.list cut in
+    refused_whole (r.head names) AreHeads (head_judges names) bytes c.args.tokens.now c.requires c.deref-2.result.now
+    (same ∙ ap all_symbols (whole_from bytes)) c.in-Err-Fault.fault (rw c.in-Err-Fault.field-0-is at c.in-Err-Fault.ensures)
+    c.refused.result c.refused.ensures

@@ -3,10 +3,10 @@ use Rattle.sm_text.proofs.Sound.Loops.{whole-end, whole-rest, whole-fails}
 use Rattle.sm_text.proofs.rules.sections.whole.Goals as goal
 
 pub returns-in-None : goal.returns-in-None
-returns-in-None c = whole-end _ _ _ c.in-Ok.ensures (sym c.first.ensures ∙ c.in-None.is)
+returns-in-None c = whole-end _ _ _ _ c.in-Ok.ensures (sym c.first.ensures ∙ c.in-None.is)
 
 pub returns-in-Some : goal.returns-in-Some
-returns-in-Some c = rw c.refusal.ensures (whole-rest _ _ _ _ c.in-Ok.ensures (sym c.first.ensures ∙ c.in-Some.is))
+returns-in-Some c = rw c.refusal.ensures (whole-rest _ _ _ _ _ c.in-Ok.ensures (sym c.first.ensures ∙ c.in-Some.is))
 
 pub returns-in-Err : goal.returns-in-Err
-returns-in-Err c = whole-fails _ _ c.in-Err.ensures
+returns-in-Err c = whole-fails _ _ _ c.in-Err.ensures

@@ -2,30 +2,30 @@ use Rattle.std.proofs.Common.{ℕ, List, ◌++◌, ◌∙◌, sym, ap, subst}
 use Rattle.sm_syntax.specs.text.Spells.{Spells}
 use Rattle.sm_text.specs.printing.Canonical.{declaration_pieces, output_pieces, assumption_pieces, shared_pieces, lists_pieces, task_pieces}
 use Rattle.sm_text.specs.printing.Pieces.{pieces_text}
-use Rattle.sm_text.specs.parsing.Text.{task_parts}
+use Rattle.sm_text.specs.Tasks.{parts_of}
 use Rattle.sm_text.proofs.RoundTrip.Putting.{put_both}
 use Rattle.sm_text.proofs.RoundTrip.Tasks.{spelled_named, reads_back}
-use Rattle.sm_text.proofs.printing.print.print_sections.Goals as goal
+use Rattle.sm_text.proofs.printing.print.print_task.Goals as goal
 
 pub put_declarations-requires : goal.put_declarations-requires
-put_declarations-requires c = (spelled_named (task_parts c.args.shared.now c.args.assumed.now c.args.lists.now) c.requires).declared
+put_declarations-requires c = (spelled_named (parts_of c.args.task.now) c.requires).declared
 
 pub put_outputs-requires : goal.put_outputs-requires
-put_outputs-requires c = (spelled_named (task_parts c.args.shared.now c.args.assumed.now c.args.lists.now) c.requires).outputs
+put_outputs-requires c = (spelled_named (parts_of c.args.task.now) c.requires).outputs
 
 pub put_assumption-requires : goal.put_assumption-requires
-put_assumption-requires c = (spelled_named (task_parts c.args.shared.now c.args.assumed.now c.args.lists.now) c.requires).assumed
+put_assumption-requires c = (spelled_named (parts_of c.args.task.now) c.requires).assumed
 
 pub put_shared-requires : goal.put_shared-requires
-put_shared-requires c = (spelled_named (task_parts c.args.shared.now c.args.assumed.now c.args.lists.now) c.requires).shared
+put_shared-requires c = (spelled_named (parts_of c.args.task.now) c.requires).shared
 
 pub put_lists-requires : goal.put_lists-requires
-put_lists-requires c = (spelled_named (task_parts c.args.shared.now c.args.assumed.now c.args.lists.now) c.requires).fillings
+put_lists-requires c = (spelled_named (parts_of c.args.task.now) c.requires).fillings
 
 pub returns-clause-text : goal.returns-clause-text
 unfolding task_pieces
 returns-clause-text c =
-    let t = task_parts c.args.shared.now c.args.assumed.now c.args.lists.now in
+    let t = parts_of c.args.task.now in
     let names = t.names in
     let declared = declaration_pieces t.declared in
     let outputs = output_pieces t.outputs in
@@ -46,6 +46,6 @@ returns-clause-text c =
 
 pub returns-clause-reads_back : goal.returns-clause-reads_back
 returns-clause-reads_back c =
-    let t = task_parts c.args.shared.now c.args.assumed.now c.args.lists.now in
+    let t = parts_of c.args.task.now in
     let S : List ℕ → Type 0 = λ l. Spells l t in
     subst S (sym (returns-clause-text c)) (reads_back t c.requires)
