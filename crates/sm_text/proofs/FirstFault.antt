@@ -1,5 +1,6 @@
 -- Where a text is refused its first fault stands, and there is one.
 pub mod Refusals
+pub mod Ordered
 pub mod Sound
 pub mod Texts
 pub mod Judged

@@ -10,6 +10,7 @@ pub mod Content
 pub mod Fitting
 pub mod Printable
 pub mod Spelled
+pub mod TokenBytes
 pub mod Symbols
 pub mod Tasks
 pub mod Parts

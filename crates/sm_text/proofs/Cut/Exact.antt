@@ -1,5 +1,6 @@
 -- The tokens of a text are those into which it is cut.
-use Rattle.std.proofs.Common.{◌≡◌, ℕ, zero, suc, ◌+◌, ◌<◌, Bool, true, false, true≢false, not, ◌||◌, Option, Some, None, is_some, List, [], ◌∷◌, ◌++◌, length, length-append, nat_le, refl, sym, ap, subst, ◌∙◌, arith}
+use Rattle.std.proofs.Common.{◌≡◌, ℕ, zero, suc, ◌+◌, ◌<◌, Bool, true, false, true≢false, not, ◌||◌, Option, Some, None, is_some, List, []}
+use Rattle.std.proofs.Common.{◌∷◌, ◌++◌, length, length-append, nat_le, refl, sym, ap, subst, ◌∙◌, arith}
 use Rattle.std.specs.Char.{is_ascii_digit}
 use Rattle.std.specs.List.{list_all}
 use Rattle.sm_syntax.specs.declared.token.LexFault.{LexFault}
@@ -8,11 +9,15 @@ use Rattle.sm_syntax.specs.declared.token.LexKind.TheVariants.{BadByte, BadToken
 use Rattle.sm_syntax.specs.declared.token.Token.{Token}
 use Rattle.sm_syntax.specs.declared.token.TokenKind.{TokenKind}
 use Rattle.sm_syntax.specs.declared.token.TokenKind.TheVariants.{Word, Number, Sign}
-use Rattle.sm_syntax.specs.text.Tokens.{Front, Gap, Piece, Fault, Lexed, front_of, sign_at, is_space, is_hash, is_in_line, is_word_start, is_word_byte, mark_of_sign, by_front, with_token, lexed_after, lexed_from, lexed}
-use Rattle.sm_text.specs.lexing.Cutting.{begins, IsToken, Ends, IsStuck, is_half, HasNumber, IsFaultOf, IsCutInto, end, space, comment, token, fault}
+use Rattle.sm_syntax.specs.text.Tokens.{Front, Gap, Piece, Fault, Lexed, front_of, sign_at, is_space, is_hash, is_in_line, is_word_start}
+use Rattle.sm_syntax.specs.text.Tokens.{is_word_byte, mark_of_sign, by_front, with_token, lexed_after, lexed_from, lexed}
+use Rattle.sm_text.specs.lexing.Cutting.{begins, IsToken, Ends, IsStuck, is_half, HasNumber, IsFaultOf, IsCutInto, end, space, comment}
+use Rattle.sm_text.specs.lexing.Cutting.{token, fault}
 use Rattle.sm_text.specs.Laws.{TokensAreCut}
-use Rattle.sm_text.proofs.RoundTrip.PieceTokens.{lexed_from-cons, behind_first, lexed-token, front-space, front-word, front-number, front-two, and-false, run_of}
-use Rattle.sm_text.proofs.Cut.Standing.{Stands, a_space, a_comment, a_token, a_fault, stands, opens_sign, is_sign_text, sign_text, first_of_text, number_begins, digit_in_word, or-left}
+use Rattle.sm_text.proofs.RoundTrip.PieceTokens.{lexed_from-cons, behind_first, lexed-token, front-space, front-word, front-number}
+use Rattle.sm_text.proofs.RoundTrip.PieceTokens.{front-two, and-false, run_of}
+use Rattle.sm_text.proofs.Cut.Standing.{Stands, a_space, a_comment, a_token, a_fault, stands, opens_sign, is_sign_text, sign_text}
+use Rattle.sm_text.proofs.Cut.Standing.{first_of_text, number_begins, digit_in_word, or-left}
 
 -- the front of any bytes; of no bytes it says nothing
 abbrev pub front : List ℕ → Front
@@ -20,7 +25,8 @@ front [] = Fault BadByte
 front (b ∷ rest) = front_of b (b ∷ rest)
 
 -- white space and comments are passed over
-passed : (u v : List ℕ) (place size : ℕ) → size ≡ length u → 0 < length u → front (u ++ v) ≡ Gap size → lexed_from place (u ++ v) ≡ lexed_from (place + length u) v
+passed : (u v : List ℕ) (place size : ℕ) → size ≡ length u → 0 < length u → front (u ++ v) ≡ Gap size →
+    lexed_from place (u ++ v) ≡ lexed_from (place + length u) v
 passed [] v place size is some h = absurd (omega (arith, some))
 passed (b ∷ u) v place size is some h =
     lexed_from-cons place b (u ++ v) ∙
@@ -34,7 +40,8 @@ put [] v place k some h = absurd (omega (arith, some))
 put (b ∷ u) v place k some h = lexed-token b u v k place h
 
 -- a fault ends the tokens
-stopped : (bytes : List ℕ) (place : ℕ) (k : LexKind) → 0 < length bytes → front bytes ≡ Fault k → lexed_from place bytes ≡ ([], Some (record { kind = k; place = place }))
+stopped : (bytes : List ℕ) (place : ℕ) (k : LexKind) → 0 < length bytes → front bytes ≡ Fault k →
+    lexed_from place bytes ≡ ([], Some (record { kind = k; place = place }))
 stopped [] place k some h = absurd (omega (arith, some))
 stopped (b ∷ u) place k some h = lexed_from-cons place b u ∙ ap (λ (f : Front). by_front f place (λ left. lexed_after left (place + 1) u)) h
 
@@ -62,7 +69,8 @@ shorter : (u v : List ℕ) → 0 < length u → length v < length (u ++ v)
 shorter u v some = omega (arith, length-append u v, some)
 
 cut_by : (place : ℕ) (bytes : List ℕ) (f : Front) → 0 < length bytes → front bytes ≡ f → Stands bytes f →
-    ((at : ℕ) (rest : List ℕ) → length rest < length bytes → IsCutSo at rest (lexed_from at rest)) → IsCutSo place bytes (lexed_from place bytes)
+    ((at : ℕ) (rest : List ℕ) → length rest < length bytes → IsCutSo at rest (lexed_from at rest)) →
+    IsCutSo place bytes (lexed_from place bytes)
 cut_by place bytes (Gap size) some h (a_space b rest same is) more =
     let P : List ℕ → Type 0 = λ l. IsCutSo place l (lexed_from place l) in
     let at : front ((b ∷ []) ++ rest) ≡ Gap 1 = ap front (sym same) ∙ h in
@@ -83,14 +91,17 @@ cut_by place bytes f some h (a_token kind text after same is ends) more =
     let rest_cut = more (place + length text) after (subst (λ l. length after < length l) (sym same) (shorter text after one)) in
     subst P (sym same) (subst (IsCutSo place (text ++ after)) (sym (put text after place kind one at))
     (token place kind text after _ _ is ends rest_cut))
-cut_by place bytes f some h (a_fault kind stuck of) more = subst (IsCutSo place bytes) (sym (stopped bytes place kind some h)) (fault place kind bytes stuck of)
+cut_by place bytes f some h (a_fault kind stuck of) more =
+    subst (IsCutSo place bytes) (sym (stopped bytes place kind some h)) (fault place kind bytes stuck of)
 
 cut : (n place : ℕ) (bytes : List ℕ) → length bytes < n → IsCutSo place bytes (lexed_from place bytes)
 cut zero place bytes h = absurd (omega (arith, h))
 cut (suc n) place [] h = subst (IsCutSo place []) (sym (nothing place)) (end place)
-cut (suc n) place (b ∷ rest) h = cut_by place (b ∷ rest) (front_of b (b ∷ rest)) (omega arith) refl (stands b rest) (λ at l small. cut n at l (omega (arith, small, h)))
+cut (suc n) place (b ∷ rest) h =
+    cut_by place (b ∷ rest) (front_of b (b ∷ rest)) (omega arith) refl (stands b rest) (λ at l small. cut n at l (omega (arith, small, h)))
 
-comment_front : (body rest : List ℕ) → list_all is_in_line body ≡ true → begins is_in_line rest ≡ false → front (35 ∷ body ++ rest) ≡ Gap (length (35 ∷ body))
+comment_front : (body rest : List ℕ) → list_all is_in_line body ≡ true → begins is_in_line rest ≡ false →
+    front (35 ∷ body ++ rest) ≡ Gap (length (35 ∷ body))
 unfolding front_of
 comment_front body rest all ends = ap Gap (run_of is_in_line (35 ∷ body) rest all ends)
 
@@ -104,7 +115,8 @@ none_of false false true v h = absurd (true≢false (sym h))
 none_of false true u v h = absurd (true≢false (sym h))
 none_of true t u v h = absurd (true≢false (sym h))
 
-one_front : (b : ℕ) (v : List ℕ) → opens_sign b ≡ true → is_some (mark_of_sign (b ∷ [])) ≡ true → Ends Sign (b ∷ []) v → front (b ∷ v) ≡ Piece Sign 1
+one_front : (b : ℕ) (v : List ℕ) → opens_sign b ≡ true → is_some (mark_of_sign (b ∷ [])) ≡ true → Ends Sign (b ∷ []) v →
+    front (b ∷ v) ≡ Piece Sign 1
 unfolding front_of sign_at
 one_front b [] opens single ends =
     let o = none_of (is_space b) (is_hash b) (is_word_start b) (is_ascii_digit b) opens in
@@ -114,7 +126,8 @@ one_front b (c ∷ v) opens single ends =
     let double = ends (c ∷ []) v refl (omega arith) in
     rw (o.0, o.1, o.2, o.3, double, and-false (nat_le 2 (length (b ∷ c ∷ v))), single) refl
 
-sign_front : (text v : List ℕ) → is_sign_text text ≡ true → is_some (mark_of_sign text) ≡ true → Ends Sign text v → front (text ++ v) ≡ Piece Sign (length text)
+sign_front : (text v : List ℕ) → is_sign_text text ≡ true → is_some (mark_of_sign text) ≡ true → Ends Sign text v →
+    front (text ++ v) ≡ Piece Sign (length text)
 sign_front [] v opens is ends = absurd (true≢false (sym opens))
 sign_front (b ∷ []) v opens is ends = one_front b v opens is ends
 sign_front (b ∷ c ∷ []) v opens is ends =
@@ -135,7 +148,9 @@ number_first [] n = by n.text n.same (number_begins n.text n.number)
     by : (text : List ℕ) → [] ≡ text ++ n.after → begins is_ascii_digit text ≡ true → false ≡ true
     by [] same h = h
     by (b ∷ u) same h = absurd (omega (arith, ap length same))
-number_first (b ∷ rest) n = or-left (is_word_byte b) (is_half b) (digit_in_word b (first_of_text is_ascii_digit b rest n.text n.after n.same (number_begins n.text n.number)))
+number_first (b ∷ rest) n =
+    or-left (is_word_byte b) (is_half b)
+    (digit_in_word b (first_of_text is_ascii_digit b rest n.text n.after n.same (number_begins n.text n.number)))
 
 same_fault : (bytes : List ℕ) (k l : LexKind) → IsFaultOf k bytes → IsFaultOf l bytes → k ≡ l
 same_fault bytes BadByte BadByte a b = refl
@@ -157,12 +172,14 @@ fault_front bytes k stuck of = by (front bytes) (front_stands bytes stuck.some)
     by f (a_token kind text after same is ends) = absurd (stuck.token kind text after same is ends)
     by f (a_fault l again other) = ap Fault (same_fault bytes l k other of)
 
-cut_lexed : (place : ℕ) (bytes : List ℕ) (ts : List Token) (f : Option LexFault) → IsCutInto place bytes ts f → lexed_from place bytes ≡ (ts, f)
+cut_lexed : (place : ℕ) (bytes : List ℕ) (ts : List Token) (f : Option LexFault) → IsCutInto place bytes ts f →
+    lexed_from place bytes ≡ (ts, f)
 cut_lexed _ _ _ _ (end place) = nothing place
 cut_lexed _ _ _ _ (space place b rest ts f is c) =
     passed (b ∷ []) rest place 1 refl (omega arith) (space_front b rest is) ∙ cut_lexed (place + 1) rest ts f c
 cut_lexed _ _ _ _ (comment place body rest ts f all ends c) =
-    passed (35 ∷ body) rest place (length (35 ∷ body)) refl (omega arith) (comment_front body rest all ends) ∙ cut_lexed (place + length (35 ∷ body)) rest ts f c
+    passed (35 ∷ body) rest place (length (35 ∷ body)) refl (omega arith) (comment_front body rest all ends)
+    ∙ cut_lexed (place + length (35 ∷ body)) rest ts f c
 cut_lexed _ _ _ _ (token place kind text rest ts f is ends c) =
     put text rest place kind (token_some kind text is) (token_front kind text rest is ends) ∙
     ap (with_token (record { kind = kind; place = place; size = length text })) (cut_lexed (place + length text) rest ts f c)

@@ -1,5 +1,6 @@
 -- Runs of bytes at the front of a text, and the numbers that digits write.
-use Rattle.std.proofs.Common.{◌≡◌, ℕ, ◌+◌, ◌*◌, ◌<◌, ◌≤◌, ◌^◌, ◌-◌, nat_lt, Bool, true, false, List, length, take, get_or, ap, ◌∙◌, get_or-take, length-take, arith}
+use Rattle.std.proofs.Common.{◌≡◌, ℕ, ◌+◌, ◌*◌, ◌<◌, ◌≤◌, ◌^◌, ◌-◌, nat_lt, Bool, true, false, List, length, take, get_or, ap, ◌∙◌}
+use Rattle.std.proofs.Common.{get_or-take, length-take, arith}
 use Rattle.std.proofs.lemmas.Bool.Decides.{nat_tests}
 use Rattle.std.proofs.lemmas.List.Sums.{prefix_len_passes}
 use Rattle.std.proofs.lemmas.Int.Digits.{digits_value_more}
@@ -19,13 +20,15 @@ AllPass-run p bytes k d h =
 
 -- a run of word bytes is ASCII
 pub IsAscii-run : (bytes : List ℕ) → IsAscii (take (prefix_len is_word_byte bytes) bytes)
-IsAscii-run bytes = IsAscii-from_all _ (λ k d h. narrow (get_or (take (prefix_len is_word_byte bytes) bytes) k d) (AllPass-run is_word_byte bytes k d h))
+IsAscii-run bytes = IsAscii-from_all _
+    (λ k d h. narrow (get_or (take (prefix_len is_word_byte bytes) bytes) k d) (AllPass-run is_word_byte bytes k d h))
   where
     narrow : (b : ℕ) → is_word_byte b ≡ true → b < 128
     narrow b h = grind (arith, nat_tests)
 
 -- one more digit
-pub digits_value-next : (ds : List ℕ) (i v u : ℕ) → AllPass is_ascii_digit ds → i < length ds → v ≡ digits_value 10 (take i ds) → u ≡ get_or ds i 0 - 48 → 10 * v + u ≡ digits_value 10 (take (i + 1) ds)
+pub digits_value-next : (ds : List ℕ) (i v u : ℕ) → AllPass is_ascii_digit ds → i < length ds → v ≡ digits_value 10 (take i ds) →
+    u ≡ get_or ds i 0 - 48 → 10 * v + u ≡ digits_value 10 (take (i + 1) ds)
 digits_value-next ds i v u digits h so_far unit =
     let d : is_ascii_digit (get_or ds i 0) ≡ true = digits i 0 h in
     let e = digits_value_more 10 ds i h in

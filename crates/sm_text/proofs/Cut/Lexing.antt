@@ -1,5 +1,7 @@
 -- How the tokens of a text go on after what stands at its front.
-use Rattle.std.proofs.Common.{◌≡◌, ℕ, zero, suc, ◌+◌, ◌-◌, ◌<◌, ◌≤◌, Bool, true, false, ◌^◌, ◌==◌, ◌&&◌, ◌||◌, List, [], ◌∷◌, ◌++◌, length, take, drop, get_or, Option, Some, None, is_some, if◌then◌else◌, refl, sym, ap, ap₂, subst, ◌∙◌, append_assoc, append-nil, true≢false, nat_le, nat_lt, codes, length-drop, drop-drop, arith}
+use Rattle.std.proofs.Common.{◌≡◌, ℕ, zero, suc, ◌+◌, ◌-◌, ◌<◌, ◌≤◌, Bool, true, false, ◌^◌, ◌==◌, ◌&&◌, ◌||◌, List, [], ◌∷◌, ◌++◌, length}
+use Rattle.std.proofs.Common.{take, drop, get_or, Option, Some, None, is_some, if◌then◌else◌, refl, sym, ap, ap₂, subst, ◌∙◌, append_assoc}
+use Rattle.std.proofs.Common.{append-nil, true≢false, nat_le, nat_lt, codes, length-drop, drop-drop, arith}
 use Rattle.std.proofs.lemmas.Bool.Decides.{nat_tests}
 use Rattle.std.proofs.lemmas.List.Sums.{prefix_len-le-length}
 use Rattle.std.specs.Char.{is_ascii_digit}
@@ -14,7 +16,9 @@ use Rattle.sm_syntax.specs.declared.token.TokenKind.{TokenKind}
 use Rattle.sm_syntax.specs.declared.token.TokenKind.TheVariants.{Word, Number, Sign}
 use Rattle.sm_text.specs.resolving.TokenTexts.{IsText, IsTokenOf}
 use Rattle.sm_text.proofs.Cut.Fronts.{AllPass-run, IsAscii-run}
-use Rattle.sm_syntax.specs.text.Tokens.{Front, Gap, Piece, Fault, Lexed, front_of, word_at, number_at, sign_at, is_space, is_hash, is_word_start, is_word_byte, is_in_line, mark_of_sign, by_front, with_token, lexed_after, lexed_from, lexed}
+use Rattle.sm_syntax.specs.text.Tokens.{Front, Gap, Piece, Fault, Lexed, front_of, word_at, number_at, sign_at, is_space, is_hash}
+use Rattle.sm_syntax.specs.text.Tokens.{is_word_start, is_word_byte, is_in_line, mark_of_sign, by_front, with_token, lexed_after}
+use Rattle.sm_syntax.specs.text.Tokens.{lexed_from, lexed}
 
 -- a front has at least one byte and no more than there are, and a token's bytes are of its kind
 abbrev pub Suits : List ℕ → Front → Type 0
@@ -25,7 +29,8 @@ Suits bytes (Fault kind) = Unit {0}
 pub record IsFront (bytes : List ℕ) (f : Front) : Type 0 where
   pub suits : Suits bytes f
 
-IsFront-if : {bytes : List ℕ} (t : Bool) (a b : Front) → (t ≡ true → IsFront bytes a) → (t ≡ false → IsFront bytes b) → IsFront bytes (if t then a else b)
+IsFront-if : {bytes : List ℕ} (t : Bool) (a b : Front) → (t ≡ true → IsFront bytes a) → (t ≡ false → IsFront bytes b) →
+    IsFront bytes (if t then a else b)
 IsFront-if true a b at_true at_false = at_true refl
 IsFront-if false a b at_true at_false = at_false refl
 
@@ -34,7 +39,8 @@ fault : (bytes : List ℕ) (kind : LexKind) → IsFront bytes (Fault kind)
 fault bytes kind = record { suits = tt }
 
 -- a run that begins is not empty
-run_within : (p : ℕ → Bool) (b : ℕ) (bytes : List ℕ) → p b ≡ true → (0 < prefix_len p (b ∷ bytes)) × (prefix_len p (b ∷ bytes) ≤ length (b ∷ bytes))
+run_within : (p : ℕ → Bool) (b : ℕ) (bytes : List ℕ) → p b ≡ true →
+    (0 < prefix_len p (b ∷ bytes)) × (prefix_len p (b ∷ bytes) ≤ length (b ∷ bytes))
 run_within p b bytes h =
     let e = ap (λ t. if t then 1 + prefix_len p bytes else 0) h in
     (omega (arith, e), prefix_len-le-length p (b ∷ bytes))
@@ -58,7 +64,8 @@ unfolding word_at
 IsFront-word_at b bytes h =
     let size = prefix_len is_word_byte (b ∷ bytes) in
     let run = run_within is_word_byte b bytes (start_in_word b h) in
-    IsFront-if (nat_le size 64) (Piece Word size) (Fault BadToken) (λ _. record { suits = (run.0, run.1, IsAscii-run (b ∷ bytes)) }) (λ _. fault _ _)
+    IsFront-if (nat_le size 64) (Piece Word size) (Fault BadToken) (λ _. record { suits = (run.0, run.1, IsAscii-run (b ∷ bytes)) })
+    (λ _. fault _ _)
 
 below : (a b : ℕ) → nat_lt a b ≡ true → a < b
 below a b h = grind (arith, nat_tests)
@@ -101,7 +108,8 @@ IsFront-front_of b bytes =
     let word = if is_word_start b then word_at all else number in
     let comment = if is_hash b then Gap (prefix_len is_in_line all) else word in
     IsFront-if (is_space b) (Gap 1) comment (λ _. record { suits = (omega arith, omega arith) }) (λ _.
-    IsFront-if (is_hash b) (Gap (prefix_len is_in_line all)) word (λ h. record { suits = run_within is_in_line b bytes (hash_in_line b h) }) (λ _.
+    IsFront-if (is_hash b) (Gap (prefix_len is_in_line all)) word (λ h. record { suits = run_within is_in_line b bytes (hash_in_line b h) })
+    (λ _.
     IsFront-if (is_word_start b) (word_at all) number (IsFront-word_at b bytes) (λ _.
     IsFront-if (is_ascii_digit b) (number_at all) (sign_at all) (IsFront-number_at b bytes) (λ _. IsFront-sign_at b bytes))))
 
@@ -109,9 +117,11 @@ IsFront-front_of b bytes =
 lexed_after-drop : (left place : ℕ) (bytes : List ℕ) → lexed_after left place bytes ≡ lexed_after 0 (place + left) (drop left bytes)
 lexed_after-drop zero place bytes = ap (λ p. lexed_after 0 p bytes) (omega arith)
 lexed_after-drop (suc left) place [] = refl
-lexed_after-drop (suc left) place (b ∷ bytes) = lexed_after-drop left (place + 1) bytes ∙ ap (λ p. lexed_after 0 p (drop left bytes)) (omega arith)
+lexed_after-drop (suc left) place (b ∷ bytes) =
+    lexed_after-drop left (place + 1) bytes ∙ ap (λ p. lexed_after 0 p (drop left bytes)) (omega arith)
 
-lexed_after-front : (size place b : ℕ) (bytes : List ℕ) → 0 < size → lexed_after (size - 1) (place + 1) bytes ≡ lexed_from (place + size) (drop size (b ∷ bytes))
+lexed_after-front : (size place b : ℕ) (bytes : List ℕ) → 0 < size →
+    lexed_after (size - 1) (place + 1) bytes ≡ lexed_from (place + size) (drop size (b ∷ bytes))
 unfolding lexed_from
 lexed_after-front zero place b bytes h = absurd (omega arith)
 lexed_after-front (suc m) place b bytes h =
@@ -124,7 +134,8 @@ pub lexed_from-nil : (place : ℕ) → lexed_from place [] ≡ ([], None)
 unfolding lexed_from
 lexed_from-nil place = refl
 
-lexed_from-cons : (place b : ℕ) (bytes : List ℕ) → lexed_from place (b ∷ bytes) ≡ by_front (front_of b (b ∷ bytes)) place (λ left. lexed_after left (place + 1) bytes)
+lexed_from-cons : (place b : ℕ) (bytes : List ℕ) → lexed_from place (b ∷ bytes) ≡ by_front (front_of b (b ∷ bytes)) place
+    (λ left. lexed_after left (place + 1) bytes)
 unfolding lexed_from
 lexed_from-cons place b bytes = refl
 
@@ -141,7 +152,8 @@ pub IsCut-start : (bytes : List ℕ) → IsCut bytes [] bytes
 unfolding lexed
 IsCut-start bytes = record { same = ap (λ p. lexed_from p bytes) (omega arith); within = omega arith }
 
-pub IsCut-end : (bytes : List ℕ) (ts : List Token) (rest : List ℕ) → IsCut bytes ts rest → length rest < 1 → ◌≡◌ {A = Lexed} (ts, None) (lexed bytes)
+pub IsCut-end : (bytes : List ℕ) (ts : List Token) (rest : List ℕ) → IsCut bytes ts rest → length rest < 1 →
+    ◌≡◌ {A = Lexed} (ts, None) (lexed bytes)
 IsCut-end bytes ts [] cut h =
     ap (λ l. (l, None)) (sym (append-nil ts)) ∙ ap (with_tokens ts) (sym (lexed_from-nil (length bytes - 0))) ∙ cut.same
 IsCut-end bytes ts (x ∷ xs) cut h = absurd (omega arith)
@@ -156,37 +168,45 @@ suits x xs f front =
     subst P front (IsFront-front_of x xs).suits
 
 -- and what it gives
-step : (place x : ℕ) (xs : List ℕ) (f : Front) → front_of x (x ∷ xs) ≡ f → lexed_from place (x ∷ xs) ≡ by_front f place (λ left. lexed_after left (place + 1) xs)
+step : (place x : ℕ) (xs : List ℕ) (f : Front) → front_of x (x ∷ xs) ≡ f →
+    lexed_from place (x ∷ xs) ≡ by_front f place (λ left. lexed_after left (place + 1) xs)
 step place x xs f front = lexed_from-cons place x xs ∙ ap (λ g. by_front g place (λ left. lexed_after left (place + 1) xs)) front
 
-moved : (bytes rest : List ℕ) (size : ℕ) → length rest ≤ length bytes → size ≤ length rest → length bytes - length rest + size ≡ length bytes - length (drop size rest)
+moved : (bytes rest : List ℕ) (size : ℕ) → length rest ≤ length bytes → size ≤ length rest →
+    length bytes - length rest + size ≡ length bytes - length (drop size rest)
 moved bytes rest size within fits = omega (arith, length-drop size rest)
 
 -- one more front is cut
-pub IsCut-gap : (bytes : List ℕ) (ts : List Token) (rest : List ℕ) (b size : ℕ) → IsCut bytes ts rest → 1 ≤ length rest → b ≡ get_or rest 0 0 → front_of b rest ≡ Gap size → IsCut bytes ts (drop size rest) × (0 < size) × (size ≤ length rest)
+pub IsCut-gap : (bytes : List ℕ) (ts : List Token) (rest : List ℕ) (b size : ℕ) → IsCut bytes ts rest → 1 ≤ length rest →
+    b ≡ get_or rest 0 0 → front_of b rest ≡ Gap size → IsCut bytes ts (drop size rest) × (0 < size) × (size ≤ length rest)
 IsCut-gap bytes ts [] b size cut some first front = absurd (omega arith)
 IsCut-gap bytes ts (x ∷ xs) b size cut some first front =
     let at = front_is x xs b (Gap size) first front in
     let sizes = suits x xs (Gap size) at in
     let place = length bytes - length (x ∷ xs) in
-    let next : lexed_from place (x ∷ xs) ≡ lexed_from (place + size) (drop size (x ∷ xs)) = step place x xs (Gap size) at ∙ lexed_after-front size place x xs sizes.0 in (
+    let next : lexed_from place (x ∷ xs) ≡ lexed_from (place + size) (drop size (x ∷ xs)) =
+    step place x xs (Gap size) at ∙ lexed_after-front size place x xs sizes.0 in (
       record {
-        same = ap (λ p. with_tokens ts (lexed_from p (drop size (x ∷ xs)))) (sym (moved bytes (x ∷ xs) size cut.within sizes.1)) ∙ ap (with_tokens ts) (sym next) ∙ cut.same;
+        same = ap (λ p. with_tokens ts (lexed_from p (drop size (x ∷ xs)))) (sym (moved bytes (x ∷ xs) size cut.within sizes.1))
+            ∙ ap (with_tokens ts) (sym next) ∙ cut.same;
         within = omega (arith, length-drop size (x ∷ xs), cut.within);
       },
       sizes.0,
       sizes.1,
     )
 
-pub IsCut-piece : (bytes : List ℕ) (ts : List Token) (rest : List ℕ) (b : ℕ) (kind : TokenKind) (size : ℕ) → IsCut bytes ts rest → 1 ≤ length rest → b ≡ get_or rest 0 0 → front_of b rest ≡ Piece kind size
-    → IsCut bytes (ts ++ record { kind = kind; place = length bytes - length rest; size = size } ∷ []) (drop size rest) × (0 < size) × (size ≤ length rest)
+pub IsCut-piece : (bytes : List ℕ) (ts : List Token) (rest : List ℕ) (b : ℕ) (kind : TokenKind) (size : ℕ) → IsCut bytes ts rest →
+    1 ≤ length rest → b ≡ get_or rest 0 0 → front_of b rest ≡ Piece kind size
+    → IsCut bytes (ts ++ record { kind = kind; place = length bytes - length rest; size = size } ∷ [])
+    (drop size rest) × (0 < size) × (size ≤ length rest)
 IsCut-piece bytes ts [] b kind size cut some first front = absurd (omega arith)
 IsCut-piece bytes ts (x ∷ xs) b kind size cut some first front =
     let at = front_is x xs b (Piece kind size) first front in
     let sizes = suits x xs (Piece kind size) at in
     let place = length bytes - length (x ∷ xs) in
     let t : Token = record { kind = kind; place = place; size = size } in
-    let next : lexed_from place (x ∷ xs) ≡ with_token t (lexed_from (place + size) (drop size (x ∷ xs))) = step place x xs (Piece kind size) at ∙ ap (with_token t) (lexed_after-front size place x xs sizes.0) in
+    let next : lexed_from place (x ∷ xs) ≡ with_token t (lexed_from (place + size) (drop size (x ∷ xs))) =
+    step place x xs (Piece kind size) at ∙ ap (with_token t) (lexed_after-front size place x xs sizes.0) in
     let more = lexed_from (place + size) (drop size (x ∷ xs)) in (
       record {
         same =
@@ -200,7 +220,8 @@ IsCut-piece bytes ts (x ∷ xs) b kind size cut some first front =
       sizes.1,
     )
 
-pub IsCut-fault : (bytes : List ℕ) (ts : List Token) (rest : List ℕ) (b : ℕ) (kind : LexKind) → IsCut bytes ts rest → 1 ≤ length rest → b ≡ get_or rest 0 0 → front_of b rest ≡ Fault kind
+pub IsCut-fault : (bytes : List ℕ) (ts : List Token) (rest : List ℕ) (b : ℕ) (kind : LexKind) → IsCut bytes ts rest → 1 ≤ length rest →
+    b ≡ get_or rest 0 0 → front_of b rest ≡ Fault kind
     → ◌≡◌ {A = Lexed} (ts, Some (record { kind = kind; place = length bytes - length rest })) (lexed bytes)
 IsCut-fault bytes ts [] b kind cut some first front = absurd (omega arith)
 IsCut-fault bytes ts (x ∷ xs) b kind cut some first front =
@@ -213,9 +234,11 @@ IsCut-fault bytes ts (x ∷ xs) b kind cut some first front =
 one_on : (bytes : List ℕ) (place b : ℕ) (rest : List ℕ) → drop place bytes ≡ b ∷ rest → drop (place + 1) bytes ≡ rest
 one_on bytes place b rest at = sym (drop-drop 1 place bytes) ∙ ap (drop 1) at
 
-IsTokenOf-lexed_after : (bytes : List ℕ) (left place : ℕ) (rest : List ℕ) → drop place bytes ≡ rest → place + length rest ≡ length bytes → AllByRecursion (IsTokenOf bytes) (lexed_after left place rest).0
+IsTokenOf-lexed_after : (bytes : List ℕ) (left place : ℕ) (rest : List ℕ) → drop place bytes ≡ rest → place + length rest ≡ length bytes →
+    AllByRecursion (IsTokenOf bytes) (lexed_after left place rest).0
 IsTokenOf-lexed_after bytes left place [] at len = tt
-IsTokenOf-lexed_after bytes (suc left) place (b ∷ rest) at len = IsTokenOf-lexed_after bytes left (place + 1) rest (one_on bytes place b rest at) (omega arith)
+IsTokenOf-lexed_after bytes (suc left) place (b ∷ rest) at len =
+    IsTokenOf-lexed_after bytes left (place + 1) rest (one_on bytes place b rest at) (omega arith)
 IsTokenOf-lexed_after bytes zero place (b ∷ rest) at len =
     by (front_of b (b ∷ rest)) (IsFront-front_of b rest).suits
     (λ left. IsTokenOf-lexed_after bytes left (place + 1) rest (one_on bytes place b rest at) (omega arith))
@@ -239,7 +262,8 @@ length-lexed_after left place [] = omega arith
 length-lexed_after (suc left) place (b ∷ bytes) = let h = length-lexed_after left (place + 1) bytes in omega arith
 length-lexed_after zero place (b ∷ bytes) = by (front_of b (b ∷ bytes)) (λ left. length-lexed_after left (place + 1) bytes)
   where
-    by : (f : Front) → ((left : ℕ) → length (lexed_after left (place + 1) bytes).0 ≤ length bytes) → length (by_front f place (λ left. lexed_after left (place + 1) bytes)).0 ≤ length (b ∷ bytes)
+    by : (f : Front) → ((left : ℕ) → length (lexed_after left (place + 1) bytes).0 ≤ length bytes) →
+        length (by_front f place (λ left. lexed_after left (place + 1) bytes)).0 ≤ length (b ∷ bytes)
     by (Gap size) more = let h = more (size - 1) in omega arith
     by (Piece kind size) more = let h = more (size - 1) in omega arith
     by (Fault kind) more = omega arith

@@ -1,5 +1,7 @@
 -- What stands at the front of a text, by the second reading of tokens.
-use Rattle.std.proofs.Common.{◌≡◌, ℕ, ◌+◌, ◌^◌, ◌==◌, ◌<◌, ◌≤◌, Bool, true, false, true≢false, not, ◌&&◌, ◌||◌, if◌then◌else◌, Option, Some, is_some, option_map, List, [], ◌∷◌, ◌++◌, length, take, nat_le, nat_lt, codes, refl, sym, ap, ap₂, subst, ◌∙◌, arith, eq-eqb}
+use Rattle.std.proofs.Common.{◌≡◌, ℕ, ◌+◌, ◌^◌, ◌==◌, ◌<◌, ◌≤◌, Bool, true, false, true≢false, not, ◌&&◌, ◌||◌, if◌then◌else◌, Option, Some}
+use Rattle.std.proofs.Common.{is_some, option_map, List, [], ◌∷◌, ◌++◌, length, take, nat_le, nat_lt, codes, refl, sym, ap, ap₂, subst, ◌∙◌}
+use Rattle.std.proofs.Common.{arith, eq-eqb}
 use Rattle.std.proofs.lemmas.Bool.Decides.{nat_tests}
 use Rattle.std.proofs.lemmas.Slice.Eq.{bytes_eq-Decides}
 use Rattle.std.specs.Char.{is_ascii_digit}
@@ -11,7 +13,8 @@ use Rattle.sm_syntax.specs.declared.token.LexKind.{LexKind}
 use Rattle.sm_syntax.specs.declared.token.LexKind.TheVariants.{BadByte, BadToken, WideNumber}
 use Rattle.sm_syntax.specs.declared.token.TokenKind.{TokenKind}
 use Rattle.sm_syntax.specs.declared.token.TokenKind.TheVariants.{Word, Number, Sign}
-use Rattle.sm_syntax.specs.text.Tokens.{Table, entry, signs, Front, Gap, Piece, Fault, front_of, word_at, number_at, sign_at, is_space, is_hash, is_in_line, is_word_start, is_word_byte, mark_of_sign}
+use Rattle.sm_syntax.specs.text.Tokens.{Table, entry, signs, Front, Gap, Piece, Fault, front_of, word_at, number_at, sign_at, is_space}
+use Rattle.sm_syntax.specs.text.Tokens.{is_hash, is_in_line, is_word_start, is_word_byte, mark_of_sign}
 use Rattle.sm_text.specs.lexing.Cutting.{begins, IsNumber, IsToken, Ends, IsStuck, is_half, HasNumber, IsFaultOf}
 use Rattle.sm_text.proofs.RoundTrip.PieceTokens.{both-left, both-right, run_of, digits_are_word, no_digit, take_front}
 
@@ -26,7 +29,8 @@ is_sign_text (b ∷ c ∷ []) = opens_sign b
 is_sign_text (b ∷ c ∷ d ∷ more) = false
 
 -- what stands in a table passes where all its texts do
-entry_passes : (p : List ℕ → Bool) (table : Table) (text : List ℕ) → list_all (λ (e : List ℕ × Mark). p e.0) table ≡ true → is_some (entry table text) ≡ true → p text ≡ true
+entry_passes : (p : List ℕ → Bool) (table : Table) (text : List ℕ) → list_all (λ (e : List ℕ × Mark). p e.0) table ≡ true →
+    is_some (entry table text) ≡ true → p text ≡ true
 entry_passes p [] text all some = absurd (true≢false (sym some))
 entry_passes p (e ∷ table) text all some =
     by (bytes_eq text e.0) (λ same. (bytes_eq-Decides text e.0).0 same)
@@ -35,7 +39,8 @@ entry_passes p (e ∷ table) text all some =
     found : Bool → Option (List ℕ × Mark)
     found t = if t then Some e else find (λ (e : List ℕ × Mark). bytes_eq text e.0) table
 
-    by : (t : Bool) → (t ≡ true → text ≡ e.0) → (is_some (entry table text) ≡ true → p text ≡ true) → is_some (option_map (λ (e : List ℕ × Mark). e.1) (found t)) ≡ true → p text ≡ true
+    by : (t : Bool) → (t ≡ true → text ≡ e.0) → (is_some (entry table text) ≡ true → p text ≡ true) →
+        is_some (option_map (λ (e : List ℕ × Mark). e.1) (found t)) ≡ true → p text ≡ true
     by true same other some = ap p (same refl) ∙ both-left (p e.0) (list_all (λ (e : List ℕ × Mark). p e.0) table) all
     by false same other some = other some
 
@@ -56,7 +61,14 @@ run p [] = record { text = []; after = []; same = refl; all = refl; ends = refl 
 run p (b ∷ bytes) = by (p b) refl (run p bytes)
   where
     by : (t : Bool) → p b ≡ t → Run p bytes → Run p (b ∷ bytes)
-    by true h r = record { text = b ∷ r.text; after = r.after; same = ap (λ l. b ∷ l) r.same; all = ap (λ t. t && list_all p r.text) h ∙ r.all; ends = r.ends }
+    by true h r = record {
+      text = b ∷ r.text;
+      after = r.after;
+      same = ap (λ l. b ∷ l) r.same;
+      all = ap (λ t. t && list_all p r.text) h
+          ∙ r.all;
+      ends = r.ends;
+    }
     by false h r = record { text = []; after = b ∷ bytes; same = refl; all = refl; ends = h }
 
 run_size : (p : ℕ → Bool) (bytes : List ℕ) (r : Run p bytes) → prefix_len p bytes ≡ length r.text
@@ -77,11 +89,14 @@ begun p b rest r h = by r.text r.after r.same r.ends
 -- what stands at the front of bytes
 pub data Stands (bytes : List ℕ) : Front → Type 0 where
   a_space : (b : ℕ) (rest : List ℕ) → bytes ≡ b ∷ rest → is_space b ≡ true → Stands bytes (Gap 1)
-  a_comment : (body rest : List ℕ) → bytes ≡ 35 ∷ body ++ rest → list_all is_in_line body ≡ true → begins is_in_line rest ≡ false → Stands bytes (Gap (length (35 ∷ body)))
-  a_token : (kind : TokenKind) (text after : List ℕ) → bytes ≡ text ++ after → IsToken kind text → Ends kind text after → Stands bytes (Piece kind (length text))
+  a_comment : (body rest : List ℕ) → bytes ≡ 35 ∷ body ++ rest → list_all is_in_line body ≡ true → begins is_in_line rest ≡ false →
+      Stands bytes (Gap (length (35 ∷ body)))
+  a_token : (kind : TokenKind) (text after : List ℕ) → bytes ≡ text ++ after → IsToken kind text → Ends kind text after →
+      Stands bytes (Piece kind (length text))
   a_fault : (kind : LexKind) → IsStuck bytes → IsFaultOf kind bytes → Stands bytes (Fault kind)
 
-stands_if : (bytes : List ℕ) (t : Bool) (f g : Front) → (t ≡ true → Stands bytes f) → (t ≡ false → Stands bytes g) → Stands bytes (if t then f else g)
+stands_if : (bytes : List ℕ) (t : Bool) (f g : Front) → (t ≡ true → Stands bytes f) → (t ≡ false → Stands bytes g) →
+    Stands bytes (if t then f else g)
 stands_if bytes true f g at_true at_false = at_true refl
 stands_if bytes false f g at_true at_false = at_false refl
 
@@ -99,7 +114,8 @@ stands_comment b rest h =
     let r = run is_in_line rest in
     let P : ℕ → Type 0 = λ n. Stands (b ∷ rest) (Gap n) in
     let size : length (35 ∷ r.text) ≡ prefix_len is_in_line (b ∷ rest) =
-    one_more r.text ∙ ap (λ n. 1 + n) (sym (run_size is_in_line rest r)) ∙ ap (λ t. if t then 1 + prefix_len is_in_line rest else 0) (sym (hash_in_line b h)) in
+    one_more r.text ∙ ap (λ n. 1 + n) (sym (run_size is_in_line rest r))
+    ∙ ap (λ t. if t then 1 + prefix_len is_in_line rest else 0) (sym (hash_in_line b h)) in
     subst P size (a_comment r.text r.after (ap (λ l. b ∷ l) r.same ∙ ap (λ c. c ∷ r.text ++ r.after) (sym (hash_is b h))) r.all r.ends)
 
 -- the first byte of a token tells its kind
@@ -156,7 +172,8 @@ no_less n k h = grind (arith, nat_tests)
 
 -- a text that begins like a word has no number at its front
 no_number : (b : ℕ) (rest : List ℕ) → is_word_start b ≡ true → HasNumber (b ∷ rest) → ⊥
-no_number b rest h n = true≢false (sym (first_of_text is_ascii_digit b rest n.text n.after n.same (number_begins n.text n.number)) ∙ start_no_digit b h)
+no_number b rest h n = true≢false (sym (first_of_text is_ascii_digit b rest n.text n.after n.same (number_begins n.text n.number))
+    ∙ start_no_digit b h)
 
 -- a word that is too long
 stuck_word : (b : ℕ) (rest : List ℕ) → is_word_start b ≡ true → 64 < prefix_len is_word_byte (b ∷ rest) → IsStuck (b ∷ rest)
@@ -168,9 +185,12 @@ stuck_word b rest h long = record {
 }
   where
     none : (kind : TokenKind) (text after : List ℕ) → b ∷ rest ≡ text ++ after → IsToken kind text → Ends kind text after → ⊥
-    none Word text after same is ends = let size = ap (prefix_len is_word_byte) same ∙ run_of is_word_byte text after is.0.bytes ends in omega (arith, size, long, is.1)
-    none Number text after same is ends = no_number b rest h (record { text = text; after = after; same = same; number = is.0; ends = ends })
-    none Sign text after same is ends = true≢false (sym (first_of_text opens_sign b rest text after same (sign_begins text is)) ∙ letter_no_sign b (start_in_word b h))
+    none Word text after same is ends =
+        let size = ap (prefix_len is_word_byte) same ∙ run_of is_word_byte text after is.0.bytes ends in omega (arith, size, long, is.1)
+    none Number text after same is ends =
+        no_number b rest h (record { text = text; after = after; same = same; number = is.0; ends = ends })
+    none Sign text after same is ends =
+        true≢false (sym (first_of_text opens_sign b rest text after same (sign_begins text is)) ∙ letter_no_sign b (start_in_word b h))
 
 stands_word : (b : ℕ) (rest : List ℕ) → is_word_start b ≡ true → Stands (b ∷ rest) (word_at (b ∷ rest))
 unfolding word_at
@@ -183,7 +203,10 @@ stands_word b rest h =
     stands_if (b ∷ rest) (nat_le size 64) (Piece Word size) (Fault BadToken)
     (λ short. subst P (sym is) (a_token Word r.text r.after r.same
     (record { start = ap (begins is_word_start) front.1 ∙ h; bytes = r.all }, let s = within size 64 short in omega (arith, is, s)) r.ends))
-    (λ long. a_fault BadToken (stuck_word b rest h (over size 64 long)) (or-left (is_word_byte b) (is_half b) (start_in_word b h), no_number b rest h))
+    (λ long. a_fault BadToken (stuck_word b rest h (over size 64 long)) (
+      or-left (is_word_byte b) (is_half b) (start_in_word b h),
+      no_number b rest h,
+    ))
 
 -- a run of word bytes goes on after others
 word_run : (u v : List ℕ) → list_all is_word_byte u ≡ true → prefix_len is_word_byte (u ++ v) ≡ length u + prefix_len is_word_byte v
@@ -203,13 +226,15 @@ no_run p (c ∷ v) none = by (p c) none
     by false none = refl
 
 -- where the digits end, no letter follows
-has_number : (b : ℕ) (rest : List ℕ) (r : Run is_ascii_digit (b ∷ rest)) → prefix_len is_word_byte (b ∷ rest) ≡ prefix_len is_ascii_digit (b ∷ rest) → begins is_word_byte r.after ≡ false
+has_number : (b : ℕ) (rest : List ℕ) (r : Run is_ascii_digit (b ∷ rest)) →
+    prefix_len is_word_byte (b ∷ rest) ≡ prefix_len is_ascii_digit (b ∷ rest) → begins is_word_byte r.after ≡ false
 has_number b rest r same =
     let size = run_size is_ascii_digit (b ∷ rest) r in
     let wide = ap (prefix_len is_word_byte) r.same ∙ word_run r.text r.after (digits_are_word r.text r.all) in
     no_run is_word_byte r.after (omega (arith, size, wide, same))
 
-stuck_number : (b : ℕ) (rest : List ℕ) → is_ascii_digit b ≡ true → ((text after : List ℕ) → b ∷ rest ≡ text ++ after → IsToken Number text → Ends Number text after → ⊥) → IsStuck (b ∷ rest)
+stuck_number : (b : ℕ) (rest : List ℕ) → is_ascii_digit b ≡ true →
+    ((text after : List ℕ) → b ∷ rest ≡ text ++ after → IsToken Number text → Ends Number text after → ⊥) → IsStuck (b ∷ rest)
 stuck_number b rest h not_number = record {
   some = omega arith;
   space = letter_no_space b (digit_in_word b h);
@@ -218,9 +243,11 @@ stuck_number b rest h not_number = record {
 }
   where
     none : (kind : TokenKind) (text after : List ℕ) → b ∷ rest ≡ text ++ after → IsToken kind text → Ends kind text after → ⊥
-    none Word text after same is ends = true≢false (sym h ∙ start_no_digit b (first_of_text is_word_start b rest text after same is.0.start))
+    none Word text after same is ends =
+        true≢false (sym h ∙ start_no_digit b (first_of_text is_word_start b rest text after same is.0.start))
     none Number text after same is ends = not_number text after same is ends
-    none Sign text after same is ends = true≢false (sym (first_of_text opens_sign b rest text after same (sign_begins text is)) ∙ letter_no_sign b (digit_in_word b h))
+    none Sign text after same is ends =
+        true≢false (sym (first_of_text opens_sign b rest text after same (sign_begins text is)) ∙ letter_no_sign b (digit_in_word b h))
 
 same_of : (a b : ℕ) → (a == b) ≡ true → a ≡ b
 same_of a b h = grind (arith, nat_tests)
@@ -230,7 +257,8 @@ taken : (bytes text after : List ℕ) (size : ℕ) → bytes ≡ text ++ after �
 taken bytes text after size same is = ap₂ take is same ∙ take_front text after
 
 -- a number at the front with no byte of a word after it: both runs are its size
-number_sizes : (bytes : List ℕ) (n : HasNumber bytes) → (prefix_len is_ascii_digit bytes ≡ length n.text) × (prefix_len is_word_byte bytes ≡ length n.text)
+number_sizes : (bytes : List ℕ) (n : HasNumber bytes) →
+    (prefix_len is_ascii_digit bytes ≡ length n.text) × (prefix_len is_word_byte bytes ≡ length n.text)
 number_sizes bytes n = (
   ap (prefix_len is_ascii_digit) n.same ∙ run_of is_ascii_digit n.text n.after n.number.digits (no_digit n.after n.ends),
   ap (prefix_len is_word_byte) n.same ∙ run_of is_word_byte n.text n.after (digits_are_word n.text n.number.digits) n.ends,
@@ -257,7 +285,8 @@ stands_number b rest h =
     stands_if all (wide == size) (if nat_lt value (2 ^ 127) then Piece Number size else Fault WideNumber) (Fault BadToken)
     (λ e. let ends = has_number b rest r (same_of wide size e) in
     stands_if all (nat_lt value (2 ^ 127)) (Piece Number size) (Fault WideNumber)
-    (λ small. subst P (sym is) (a_token Number r.text r.after r.same (number, subst (λ n. n < 2 ^ 127) own (less value (2 ^ 127) small)) ends))
+    (λ small. subst P (sym is)
+    (a_token Number r.text r.after r.same (number, subst (λ n. n < 2 ^ 127) own (less value (2 ^ 127) small)) ends))
     (λ large. a_fault WideNumber
     (stuck_number b rest h (λ text after same it stops.
     let n : HasNumber all = record { text = text; after = after; same = same; number = it.0; ends = stops } in
@@ -265,7 +294,8 @@ stands_number b rest h =
     omega (arith, mine, it.1, no_less value (2 ^ 127) large)))
     (record { text = r.text; after = r.after; same = r.same; number = number; ends = ends })))
     (λ e. a_fault BadToken
-    (stuck_number b rest h (λ text after same it stops. differ e (record { text = text; after = after; same = same; number = it.0; ends = stops })))
+    (stuck_number b rest h (λ text after same it stops.
+    differ e (record { text = text; after = after; same = same; number = it.0; ends = stops })))
     (or-left (is_word_byte b) (is_half b) (digit_in_word b h), differ e))
 
 -- what is no text of a sign is no sign
@@ -301,17 +331,20 @@ no_double b c w fails = by (nat_le 2 (length (b ∷ c ∷ w))) long fails
     by true l h = h
     by false l h = absurd (true≢false (sym l))
 
-no_next : (b : ℕ) (rest : List ℕ) → is_double (b ∷ rest) ≡ false → (c : ℕ) (w : List ℕ) → rest ≡ c ∷ w → is_some (mark_of_sign (b ∷ c ∷ [])) ≡ false
+no_next : (b : ℕ) (rest : List ℕ) → is_double (b ∷ rest) ≡ false → (c : ℕ) (w : List ℕ) → rest ≡ c ∷ w →
+    is_some (mark_of_sign (b ∷ c ∷ [])) ≡ false
 no_next b rest fails c w is = no_double b c w (subst (λ l. is_double (b ∷ l) ≡ false) is fails)
 
 two_stand : (b : ℕ) (rest : List ℕ) → is_double (b ∷ rest) ≡ true → Stands (b ∷ rest) (Piece Sign 2)
 two_stand b [] h = absurd (true≢false (sym (both-left (nat_le 2 1) (is_some (mark_of_sign (b ∷ []))) h)))
-two_stand b (c ∷ v) h = a_token Sign (b ∷ c ∷ []) v refl (both-right (nat_le 2 (length (b ∷ c ∷ v))) (is_some (mark_of_sign (b ∷ c ∷ []))) h) (longest_two b c v)
+two_stand b (c ∷ v) h = a_token Sign (b ∷ c ∷ []) v refl
+    (both-right (nat_le 2 (length (b ∷ c ∷ v))) (is_some (mark_of_sign (b ∷ c ∷ []))) h) (longest_two b c v)
 
 -- neither the first byte nor the first two are a sign
 stuck_sign : (b : ℕ) (rest : List ℕ) → is_space b ≡ false → is_hash b ≡ false → is_word_start b ≡ false → is_ascii_digit b ≡ false →
     is_double (b ∷ rest) ≡ false → is_some (mark_of_sign (b ∷ [])) ≡ false → IsStuck (b ∷ rest)
-stuck_sign b rest no_space no_hash no_word no_digit no_two no_one = record { some = omega arith; space = no_space; hash = no_hash; token = none }
+stuck_sign b rest no_space no_hash no_word no_digit no_two no_one =
+    record { some = omega arith; space = no_space; hash = no_hash; token = none }
   where
     no_sign : (text after : List ℕ) → b ∷ rest ≡ text ++ after → is_sign_text text ≡ true → is_some (mark_of_sign text) ≡ true → ⊥
     no_sign [] after same is some = true≢false (sym is)
@@ -321,7 +354,8 @@ stuck_sign b rest no_space no_hash no_word no_digit no_two no_one = record { som
 
     none : (kind : TokenKind) (text after : List ℕ) → b ∷ rest ≡ text ++ after → IsToken kind text → Ends kind text after → ⊥
     none Word text after same is ends = true≢false (sym (first_of_text is_word_start b rest text after same is.0.start) ∙ no_word)
-    none Number text after same is ends = true≢false (sym (first_of_text is_ascii_digit b rest text after same (number_begins text is.0)) ∙ no_digit)
+    none Number text after same is ends =
+        true≢false (sym (first_of_text is_ascii_digit b rest text after same (number_begins text is.0)) ∙ no_digit)
     none Sign text after same is ends = no_sign text after same (sign_text text is) is
 
 neither : (b : ℕ) → is_word_start b ≡ false → is_ascii_digit b ≡ false → is_word_byte b ≡ false
@@ -333,20 +367,24 @@ halves false false true u e h = h
 halves false false false u e h = h
 halves true s t u e h = absurd (true≢false e)
 
-stands_sign : (b : ℕ) (rest : List ℕ) → is_space b ≡ false → is_hash b ≡ false → is_word_start b ≡ false → is_ascii_digit b ≡ false → Stands (b ∷ rest) (sign_at (b ∷ rest))
+stands_sign : (b : ℕ) (rest : List ℕ) → is_space b ≡ false → is_hash b ≡ false → is_word_start b ≡ false → is_ascii_digit b ≡ false →
+    Stands (b ∷ rest) (sign_at (b ∷ rest))
 unfolding sign_at
 stands_sign b rest no_space no_hash no_word no_digit =
     let all = b ∷ rest in
     let single = is_some (mark_of_sign (b ∷ [])) in
     let half = bytes_eq (b ∷ []) (codes "&") || bytes_eq (b ∷ []) (codes "|") in
     let unknown = if half then Fault BadToken else Fault BadByte in
-    let number : HasNumber all → ⊥ = λ n. true≢false (sym (first_of_text is_ascii_digit b rest n.text n.after n.same (number_begins n.text n.number)) ∙ no_digit) in
-    let begun : (u : Bool) → half ≡ u → (is_word_byte b || is_half b) ≡ u = λ u h. halves (is_word_byte b) (b == 38) (b == 124) u (neither b no_word no_digit) h in
+    let number : HasNumber all → ⊥ =
+    λ n. true≢false (sym (first_of_text is_ascii_digit b rest n.text n.after n.same (number_begins n.text n.number)) ∙ no_digit) in
+    let begun : (u : Bool) → half ≡ u → (is_word_byte b || is_half b) ≡ u =
+    λ u h. halves (is_word_byte b) (b == 38) (b == 124) u (neither b no_word no_digit) h in
     stands_if all (is_double all) (Piece Sign 2) (if single then Piece Sign 1 else unknown) (two_stand b rest) (λ no_two.
     stands_if all single (Piece Sign 1) unknown
     (λ is. a_token Sign (b ∷ []) rest refl is (longest_one b rest (no_next b rest no_two))) (λ no_one.
     let stuck = stuck_sign b rest no_space no_hash no_word no_digit no_two no_one in
-    stands_if all half (Fault BadToken) (Fault BadByte) (λ h. a_fault BadToken stuck (begun true h, number)) (λ h. a_fault BadByte stuck (begun false h))))
+    stands_if all half (Fault BadToken) (Fault BadByte) (λ h. a_fault BadToken stuck (begun true h, number))
+    (λ h. a_fault BadByte stuck (begun false h))))
 
 pub stands : (b : ℕ) (rest : List ℕ) → Stands (b ∷ rest) (front_of b (b ∷ rest))
 unfolding front_of

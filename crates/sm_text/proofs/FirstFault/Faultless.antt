@@ -1,5 +1,6 @@
 -- A text in the grammar has no fault: its symbols can go on up to the end, are something whole, and nest nowhere too deep.
-use Rattle.std.proofs.Common.{◌≡◌, ℕ, refl, sym, ap, ◌∙◌, subst, Option, Some, None, Result, Ok, Err, List, [], ◌∷◌, ◌++◌, map, append_assoc}
+use Rattle.std.proofs.Common.{◌≡◌, ℕ, refl, sym, ap, ◌∙◌, subst, Option, Some, None, Result, Ok, Err, List, [], ◌∷◌, ◌++◌, map}
+use Rattle.std.proofs.Common.{append_assoc}
 use Rattle.std.proofs.lemmas.List.{append-nil, map-append}
 use Rattle.sm_syntax.specs.declared.symbol.Symbol.{Symbol}
 use Rattle.sm_syntax.specs.declared.token.Token.{Token}
@@ -9,11 +10,12 @@ use Rattle.sm_syntax.specs.text.Spells.{IsInGrammar}
 use Rattle.sm_syntax.specs.text.Symbols.{names_of, symbols_of}
 use Rattle.sm_text.specs.declared.error.TextError.{TextError}
 use Rattle.sm_text.specs.declared.error.TextError.TheVariants as error
-use Rattle.sm_text.specs.parsing.Places.{Source, AreTasks, IsViable, IsWhole, IsUnexpected, NestsTooDeep, Stands, at_token, at_end, IsFault, all_symbols, whole_text}
+use Rattle.sm_text.specs.parsing.Places.{Source, AreTasks, IsViable, IsWhole, IsUnexpected, NestsTooDeep, Stands, at_token, at_end, IsFault}
+use Rattle.sm_text.specs.parsing.Places.{all_symbols, whole_text}
 use Rattle.sm_text.specs.rules.Reading as r
 use Rattle.sm_text.proofs.Complete.Parsers.{unmarked-plain}
 use Rattle.sm_text.proofs.Complete.Tasks.{spelled_read}
-use Rattle.sm_text.proofs.FirstFault.Sound.{symbols-map}
+use Rattle.sm_text.proofs.FirstFault.Ordered.{symbols-map}
 use Rattle.sm_text.proofs.FirstFault.Judged.{task_judges}
 use Rattle.sm_text.proofs.FirstFault.Refusals.{shorter-viable, nothing_nests}
 use Rattle.sm_text.specs.Laws.{NoFaultInGrammar}
@@ -48,10 +50,12 @@ module _ (bytes : List ℕ) (t : Parts) (p : IsInGrammar bytes t) where
   is_read = spelled_read bytes t (names_of bytes) symbols p refl (sym (symbols-map bytes))
 
   -- the symbols before a token, its own, and those after it
-  around : (before behind : List Token) (u : Token) → source.tokens ≡ before ++ u ∷ behind → symbols ≡ map source.symbol before ++ source.symbol u ∷ map source.symbol behind
+  around : (before behind : List Token) (u : Token) → source.tokens ≡ before ++ u ∷ behind →
+      symbols ≡ map source.symbol before ++ source.symbol u ∷ map source.symbol behind
   around before behind u cut = ap (λ (l : List Token). map source.symbol l) cut ∙ map-append source.symbol before (u ∷ behind)
 
-  expected : (place : ℕ) (before : List Symbol) (next : Option Symbol) → Stands source place before next → IsUnexpected AreTasks before next → ⊥
+  expected : (place : ℕ) (before : List Symbol) (next : Option Symbol) → Stands source place before next →
+      IsUnexpected AreTasks before next → ⊥
   expected place before next (at_token us vs u cut) x =
       let before = map source.symbol us in
       let behind = map source.symbol vs in
@@ -59,10 +63,13 @@ module _ (bytes : List ℕ) (t : Parts) (p : IsInGrammar bytes t) where
       x.1 (shorter-viable (before ++ source.symbol u ∷ []) behind symbols line can_go_on)
   expected place before next (at_end none) x = x.1 whole
 
-  nested : (place : ℕ) (before : List Symbol) (next : Option Symbol) → Stands source place before next → (v : Symbol) → next ≡ Some v → NestsTooDeep AreTasks before v → ⊥
+  nested : (place : ℕ) (before : List Symbol) (next : Option Symbol) → Stands source place before next → (v : Symbol) → next ≡ Some v →
+      NestsTooDeep AreTasks before v → ⊥
   nested place before next (at_token us vs u cut) v same x =
       let F : Symbol → Type 0 = λ s. NestsTooDeep AreTasks (map source.symbol us) s in
-      nothing_nests (r.whole (names_of bytes)) AreTasks (task_judges (names_of bytes)) symbols symbols [] (sym (append-nil symbols)) (λ f e. absurd (ok_is_err t f (sym is_read ∙ e))) (map source.symbol us) (map source.symbol vs) (source.symbol u) (around us vs u cut) (subst F (sym (some_one (source.symbol u) v same)) x)
+      nothing_nests (r.whole (names_of bytes)) AreTasks (task_judges (names_of bytes)) symbols symbols [] (sym (append-nil symbols))
+      (λ f e. absurd (ok_is_err t f (sym is_read ∙ e))) (map source.symbol us) (map source.symbol vs) (source.symbol u)
+      (around us vs u cut) (subst F (sym (some_one (source.symbol u) v same)) x)
   nested place before next (at_end none) v same x = none_is_some v same
 
   pub faultless : (e : TextError) → IsFault AreTasks source e → ⊥

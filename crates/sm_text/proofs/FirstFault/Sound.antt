@@ -1,147 +1,36 @@
 -- A refusal of the reading, and a lexical fault that nothing stands before, are the first fault of a text.
-use Rattle.std.proofs.Common.{◌≡◌, ◌⊎◌, inl, inr, ℕ, suc, zero, ◌+◌, ◌-◌, ◌<◌, ◌≤◌, refl, sym, ap, ◌∙◌, subst, arith, Option, Some, None, Result, Ok, Err, List, [], ◌∷◌, ◌++◌, length, map, append_assoc, length-append, take, drop, get_or}
-use Rattle.std.proofs.lemmas.List.{append-nil, take-append-drop, length-drop}
-use Rattle.std.proofs.Math.Seq.{drop-cons}
+use Rattle.std.proofs.Common.{◌≡◌, ◌⊎◌, inl, inr, ℕ, suc, ◌+◌, ◌<◌, ◌≤◌, refl, sym, ap, ◌∙◌, subst, arith, Option, Some, None, Result}
+use Rattle.std.proofs.Common.{Ok, Err, List, [], ◌∷◌, ◌++◌, length, map, append_assoc, length-append}
+use Rattle.std.proofs.lemmas.List.{append-nil}
 use Rattle.sm_syntax.specs.declared.symbol.Symbol.{Symbol}
 use Rattle.sm_syntax.specs.declared.token.LexFault.{LexFault}
 use Rattle.sm_syntax.specs.declared.token.LexKind.TheVariants as kind
 use Rattle.sm_syntax.specs.declared.token.Token.{Token}
-use Rattle.sm_syntax.specs.text.Symbols.{symbols_among, symbols_of, names_of}
-use Rattle.sm_syntax.specs.text.Tokens.{Front, Gap, Piece, Fault, Lexed, front_of, by_front, lexed_after, lexed_from, lexed}
 use Rattle.sm_text.specs.declared.error.TextError.{TextError}
 use Rattle.sm_text.specs.declared.error.TextError.TheVariants as error
 use Rattle.sm_text.specs.declared.rules.reading.Fault as reading
 use Rattle.sm_text.specs.declared.rules.reading.FaultKind.{FaultKind}
 use Rattle.sm_text.specs.declared.rules.reading.FaultKind.TheVariants.{Expected, Nested}
-use Rattle.sm_text.specs.rules.Parsers.{first, rest}
-use Rattle.sm_text.specs.parsing.Places.{Grammar, Source, whole_text, all_symbols, IsViable, IsUnexpected, NestsTooDeep, Stands, at_token, at_end, IsFault, place_of, rank_of, IsFirstFault, IsRefusal}
-use Rattle.sm_text.specs.parsing.ErrorPlaces.{IsPlaceWith}
+use Rattle.sm_text.specs.rules.Parsers.{first}
+use Rattle.sm_text.specs.parsing.Places.{Grammar, Source, all_symbols, IsViable, IsUnexpected, NestsTooDeep, Stands, at_token, at_end}
+use Rattle.sm_text.specs.parsing.Places.{IsFault, place_of, rank_of, IsFirstFault, IsRefusal}
 use Rattle.sm_text.specs.parsing.Text.{lexical_fault, rule_fault}
 use Rattle.sm_text.proofs.FirstFault.Refusals.{Refuses, Judges, viable, shorter-viable, unexpected, too_deep, nested-viable, nothing_nests}
-
--- places ascend, and all stand before the end
-abbrev pub Ascends : ℕ → List Token → Option LexFault → ℕ → Type 0
-Ascends from [] None last = from ≤ last
-Ascends from [] (Some f) last = (from ≤ f.place) × (f.place < last)
-Ascends from (t ∷ ts) f last = (from ≤ t.place) × Ascends (suc t.place) ts f last
-
-lower : (a b last : ℕ) (ts : List Token) (f : Option LexFault) → a ≤ b → Ascends b ts f last → Ascends a ts f last
-lower a b last [] None h x = omega (arith, h, x)
-lower a b last [] (Some f) h x = (omega (arith, h, x.0), x.1)
-lower a b last (t ∷ ts) f h x = (omega (arith, h, x.0), x.1)
-
-by_front-ascends : (f : Front) (place last : ℕ) (more : ℕ → Lexed) → place < last → ((left : ℕ) → Ascends (place + 1) (more left).0 (more left).1 last) → Ascends place (by_front f place more).0 (by_front f place more).1 last
-by_front-ascends (Gap size) place last more h x = lower place (place + 1) last (more (size - 1)).0 (more (size - 1)).1 (omega arith) (x (size - 1))
-by_front-ascends (Piece kind size) place last more h x = (omega arith, lower (suc place) (place + 1) last (more (size - 1)).0 (more (size - 1)).1 (omega arith) (x (size - 1)))
-by_front-ascends (Fault kind) place last more h x = (omega arith, h)
-
--- the tokens and the fault of a text stand in the order of their places
-ascends : (left place last : ℕ) (bytes : List ℕ) → last ≡ place + length bytes → Ascends place (lexed_after left place bytes).0 (lexed_after left place bytes).1 last
-ascends left place last [] e = omega (arith, e)
-ascends (suc left) place last (b ∷ bytes) e = lower place (place + 1) last (lexed_after left (place + 1) bytes).0 (lexed_after left (place + 1) bytes).1 (omega arith) (ascends left (place + 1) last bytes (omega (arith, e)))
-ascends zero place last (b ∷ bytes) e = by_front-ascends (front_of b (b ∷ bytes)) place last (λ left. lexed_after left (place + 1) bytes) (omega (arith, e)) (λ left. ascends left (place + 1) last bytes (omega (arith, e)))
-
--- those of a whole text
-pub lexed-ascends : (bytes : List ℕ) → Ascends 0 (lexed bytes).0 (lexed bytes).1 (length bytes)
-unfolding lexed lexed_from
-lexed-ascends bytes = ascends 0 0 (length bytes) bytes (omega arith)
-
--- those from a number on
-drop-ascends : (n from last : ℕ) (ts : List Token) (f : Option LexFault) → Ascends from ts f last → Ascends from (drop n ts) f last
-drop-ascends zero from last ts f x = x
-drop-ascends (suc n) from last [] f x = x
-drop-ascends (suc n) from last (t ∷ ts) f x = lower from (suc t.place) last (drop n ts) f (omega (arith, x.0)) (drop-ascends n (suc t.place) last ts f x.1)
-
--- the tokens of a text from a number on stand in the order of their places
-pub from-ascends : (bytes : List ℕ) (at : ℕ) → Ascends 0 (drop at (lexed bytes).0) (lexed bytes).1 (length bytes)
-from-ascends bytes at = drop-ascends at 0 (length bytes) (lexed bytes).0 (lexed bytes).1 (lexed-ascends bytes)
-
-behind-ascends : (from last : ℕ) (before ts : List Token) (f : Option LexFault) → Ascends from (before ++ ts) f last → Ascends from ts f last
-behind-ascends from last [] ts f x = x
-behind-ascends from last (b ∷ before) ts f x = lower from (suc b.place) last ts f (omega (arith, x.0)) (behind-ascends (suc b.place) last before ts f x.1)
-
-before_end : (from last : ℕ) (ts : List Token) (f : Option LexFault) → Ascends from ts f last → from ≤ last
-before_end from last [] None x = x
-before_end from last [] (Some f) x = omega (arith, x.0, x.1)
-before_end from last (t ∷ ts) f x = let h = before_end (suc t.place) last ts f x.1 in omega (arith, x.0, h)
-
-before_fault : (from last : ℕ) (ts : List Token) (f : LexFault) → Ascends from ts (Some f) last → from ≤ f.place
-before_fault from last [] f x = x.0
-before_fault from last (t ∷ ts) f x = let h = before_fault (suc t.place) last ts f x.1 in omega (arith, x.0, h)
-
-head_same : (t u : Token) (ts us : List Token) → (t ∷ ts) ≡ u ∷ us → t ≡ u
-head_same t u ts us e = cc
-
-tail_same : (t u : Token) (ts us : List Token) → (t ∷ ts) ≡ u ∷ us → ts ≡ us
-tail_same t u ts us e = cc
-
--- two tokens of a text: the second stands before the first, after it, or is it
-Order : List Token → List Token → Token → Token → Type 0
-Order xs us t u = (length us < length xs) ⊎ ((t.place < u.place) ⊎ ((xs ≡ us) × (t ≡ u)))
-
-later : (x y : Token) (xs us : List Token) (t u : Token) → x ≡ y → Order xs us t u → Order (x ∷ xs) (y ∷ us) t u
-unfolding Order
-later x y xs us t u e (inl h) = inl (omega (arith, h))
-later x y xs us t u e (inr (inl h)) = inr (inl h)
-later x y xs us t u e (inr (inr same)) = inr (inr (ap (λ (l : List Token). x ∷ l) same.0 ∙ ap (λ (v : Token). v ∷ us) e, same.1))
-
-compare : (from last : ℕ) (f : Option LexFault) (xs ys us vs : List Token) (t u : Token) → xs ++ t ∷ ys ≡ us ++ u ∷ vs → Ascends from (xs ++ t ∷ ys) f last → Order xs us t u
-unfolding Order
-compare from last f [] ys [] vs t u e a = inr (inr (refl, head_same t u ys vs e))
-compare from last f [] ys (v ∷ us) vs t u e a =
-    let F : List Token → Type 0 = λ l. Ascends (suc t.place) l f last in
-    let b = behind-ascends (suc t.place) last us (u ∷ vs) f (subst F (tail_same t v ys (us ++ u ∷ vs) e) a.1) in
-    inr (inl (omega (arith, b.0)))
-compare from last f (x ∷ xs) ys [] vs t u e a = inl (omega arith)
-compare from last f (x ∷ xs) ys (v ∷ us) vs t u e a = later x v xs us t u (head_same x v (xs ++ t ∷ ys) (us ++ u ∷ vs) e) (compare (suc x.place) last f xs ys us vs t u (tail_same x v (xs ++ t ∷ ys) (us ++ u ∷ vs) e) a.1)
-
--- the symbols of a whole text
-pub symbols-map : (bytes : List ℕ) → symbols_of bytes ≡ all_symbols (whole_text bytes)
-unfolding symbols_of symbols_among names_of
-symbols-map bytes = refl
-
-map-append : (f : Token → Symbol) (xs ys : List Token) → map f (xs ++ ys) ≡ map f xs ++ map f ys
-map-append f [] ys = refl
-map-append f (x ∷ xs) ys = ap (λ (l : List Symbol). f x ∷ l) (map-append f xs ys)
-
-length-map-of : (f : Token → Symbol) (xs : List Token) → length (map f xs) ≡ length xs
-length-map-of f [] = refl
-length-map-of f (x ∷ xs) = rw (length-map-of f xs) refl
-
-some_one : (u v : Symbol) → Some u ≡ Some v → u ≡ v
-some_one u v p = cc
-
-symbol_head : (t u : Symbol) (ts us : List Symbol) → (t ∷ ts) ≡ u ∷ us → t ≡ u
-symbol_head t u ts us e = some_one t u (ap (λ (l : List Symbol). first l) e)
-
-symbol_tail : (t u : Symbol) (ts us : List Symbol) → (t ∷ ts) ≡ u ∷ us → ts ≡ us
-symbol_tail t u ts us e = ap (λ (l : List Symbol). rest l) e
-
--- the first of two splits of a list goes past the second
-goes_past : (used here us vs : List Symbol) (t : Symbol) → used ++ here ≡ us ++ t ∷ vs → length us < length used → (others : List Symbol) × (used ≡ us ++ t ∷ others)
-goes_past [] here us vs t e h = absurd (omega (arith, h))
-goes_past (x ∷ used) here [] vs t e h = (used, ap (λ (v : Symbol). v ∷ used) (symbol_head x t (used ++ here) vs e))
-goes_past (x ∷ used) here (u ∷ us) vs t e h =
-    let one = goes_past used here us vs t (symbol_tail x u (used ++ here) (us ++ t ∷ vs) e) (omega (arith, h)) in
-    (one.0, ap (λ (v : Symbol). v ∷ used) (symbol_head x u (used ++ here) (us ++ t ∷ vs) e) ∙ ap (λ (l : List Symbol). u ∷ l) one.1)
-
--- two splits of a list of the same size are the same
-same_split : (used here us vs : List Symbol) → used ++ here ≡ us ++ vs → length used ≡ length us → (used ≡ us) × (here ≡ vs)
-same_split [] here [] vs e h = (refl, e)
-same_split [] here (u ∷ us) vs e h = absurd (omega (arith, h))
-same_split (x ∷ used) here [] vs e h = absurd (omega (arith, h))
-same_split (x ∷ used) here (u ∷ us) vs e h =
-    let one = same_split used here us vs (symbol_tail x u (used ++ here) (us ++ vs) e) (omega (arith, h)) in
-    (ap (λ (v : Symbol). v ∷ used) (symbol_head x u (used ++ here) (us ++ vs) e) ∙ ap (λ (l : List Symbol). u ∷ l) one.0, one.1)
+use Rattle.sm_text.proofs.FirstFault.Ordered.{Ascends, behind-ascends, before_end, before_fault, Order, compare, map-append, length-map-of}
+use Rattle.sm_text.proofs.FirstFault.Ordered.{some_one, goes_past, same_split}
 
 -- up to here the grammar goes on, and no refusal comes before
-pub record Reaches {A : Type 0} (read : List Symbol → Result A reading.Fault) (spells : Grammar) (source : Source) (used here : List Symbol) : Type 0 where
+pub record Reaches {A : Type 0} (read : List Symbol → Result A reading.Fault) (spells : Grammar) (source : Source)
+    (used here : List Symbol) : Type 0 where
   pub split : all_symbols source ≡ used ++ here
   pub goes_on : IsViable spells used
   pub late : (f : reading.Fault) → read (all_symbols source) ≡ Err f → f.left ≤ length here
 
 no_fault : {f : LexFault} → (let o : Option LexFault = None in o) ≡ Some f → ⊥
 no_fault e = cc
+
+none_some : (u : Symbol) → (let p : Option Symbol = None in p) ≡ Some u → ⊥
+none_some u p = cc
 
 same_fault : (f g : LexFault) → Some f ≡ Some g → f ≡ g
 same_fault f g e = cc
@@ -166,42 +55,63 @@ ok_err : {A : Type 0} {x : A} {f : reading.Fault} → (let a : Result A reading.
 ok_err e = cc
 
 -- a refusal of a reading that judges by a grammar, over tokens in the order of their places
-module _ {A : Type 0} (read : List Symbol → Result A reading.Fault) (spells : Grammar) (judges : Judges read spells) (source : Source) (ordered : Ascends 0 source.tokens source.fault source.end) where
+module _ {A : Type 0} (read : List Symbol → Result A reading.Fault) (spells : Grammar) (judges : Judges read spells) (source : Source)
+    (ordered : Ascends 0 source.tokens source.fault source.end) where
   -- no fault stands at a token before
-  no_earlier : (used here : List Symbol) → Reaches read spells source used here → (before behind : List Token) (t : Token) → source.tokens ≡ before ++ t ∷ behind → length before < length used → (IsUnexpected spells (map source.symbol before) (Some (source.symbol t)) → ⊥) × (NestsTooDeep spells (map source.symbol before) (source.symbol t) → ⊥)
+  no_earlier : (used here : List Symbol) → Reaches read spells source used here → (before behind : List Token) (t : Token) →
+      source.tokens ≡ before ++ t ∷ behind → length before < length used →
+      (IsUnexpected spells (map source.symbol before) (Some (source.symbol t)) →
+      ⊥) × (NestsTooDeep spells (map source.symbol before) (source.symbol t) → ⊥)
   no_earlier used here w before behind t e h =
-      let line : used ++ here ≡ map source.symbol before ++ source.symbol t ∷ map source.symbol behind = sym w.split ∙ ap (λ (l : List Token). map source.symbol l) e ∙ map-append source.symbol before (t ∷ behind) in
+      let line : used ++ here ≡ map source.symbol before ++ source.symbol t ∷ map source.symbol behind =
+      sym w.split ∙ ap (λ (l : List Token). map source.symbol l) e ∙ map-append source.symbol before (t ∷ behind) in
       let size : length (map source.symbol before) ≡ length before = length-map-of source.symbol before in
-      let past = goes_past used here (map source.symbol before) (map source.symbol behind) (source.symbol t) line (omega (arith, h, size)) in
-      (λ x. x.1 (shorter-viable (map source.symbol before ++ source.symbol t ∷ []) past.0 used (past.1 ∙ sym (append_assoc (map source.symbol before) (source.symbol t ∷ []) past.0)) w.goes_on), nothing_nests read spells judges (all_symbols source) used here w.split w.late (map source.symbol before) past.0 (source.symbol t) past.1)
+      let past = goes_past used here (map source.symbol before) (map source.symbol behind) (source.symbol t) line
+      (omega (arith, h, size)) in (
+        λ x. x.1 (shorter-viable (map source.symbol before ++ source.symbol t ∷ []) past.0 used
+            (past.1 ∙ sym (append_assoc (map source.symbol before) (source.symbol t ∷ []) past.0)) w.goes_on),
+        nothing_nests read spells judges (all_symbols source) used here w.split w.late (map source.symbol before) past.0 (source.symbol t)
+            past.1,
+      )
 
   -- a refusal goes on up to its place
-  refused-reaches : (f : reading.Fault) → read (all_symbols source) ≡ Err f → (w : Refuses read spells (all_symbols source) f) → Reaches read spells source w.used w.here
+  refused-reaches : (f : reading.Fault) → read (all_symbols source) ≡ Err f → (w : Refuses read spells (all_symbols source) f) →
+      Reaches read spells source w.used w.here
   refused-reaches f e w = record {
     split = w.split;
     goes_on = viable spells w.used w.ahead w.goes_on;
-    late = λ g q. let same : f.left ≡ length w.here = ap (λ (h : reading.Fault). h.left) w.place in let less = err_left {A = A} f g (sym e ∙ q) in omega (arith, same, less);
+    late = λ g q. let same : f.left ≡ length w.here =
+        ap (λ (h : reading.Fault). h.left) w.place in let less = err_left {A = A} f g (sym e ∙ q) in omega (arith, same, less);
   }
 
   -- where all symbols are reached, each token stands before
-  within : (used here : List Symbol) → Reaches read spells source used here → here ≡ [] → (before behind : List Token) (t : Token) → source.tokens ≡ before ++ t ∷ behind → length before < length used
+  within : (used here : List Symbol) → Reaches read spells source used here → here ≡ [] → (before behind : List Token) (t : Token) →
+      source.tokens ≡ before ++ t ∷ behind → length before < length used
   within used here w all before behind t e =
-      let line : map source.symbol (before ++ t ∷ behind) ≡ used = ap (λ (ts : List Token). map source.symbol ts) (sym e) ∙ w.split ∙ ap (λ (us : List Symbol). used ++ us) all ∙ append-nil used in
-      let size : length (before ++ t ∷ behind) ≡ length used = sym (length-map-of source.symbol (before ++ t ∷ behind)) ∙ ap (λ (us : List Symbol). length us) line in
+      let line : map source.symbol (before ++ t ∷ behind) ≡ used =
+      ap (λ (ts : List Token). map source.symbol ts) (sym e) ∙ w.split ∙ ap (λ (us : List Symbol). used ++ us) all ∙ append-nil used in
+      let size : length (before ++ t ∷ behind) ≡ length used =
+      sym (length-map-of source.symbol (before ++ t ∷ behind)) ∙ ap (λ (us : List Symbol). length us) line in
       let sum : length (before ++ t ∷ behind) ≡ length before + suc (length behind) = rw length-append refl in
       omega (arith, size, sum)
 
   -- where all symbols can go on, a lexical fault after them is the first fault
-  module _ (used here : List Symbol) (w : Reaches read spells source used here) (all : here ≡ []) (l : LexFault) (is : source.fault ≡ Some l) where
+  module _ (used here : List Symbol) (w : Reaches read spells source used here) (all : here ≡ []) (l : LexFault)
+      (is : source.fault ≡ Some l) where
     lexical_place : (g : LexFault) → source.fault ≡ Some g → l.place ≤ g.place
-    lexical_place g e = let same : l ≡ g = same_fault l g (sym is ∙ e) in let F : LexFault → Type 0 = λ h. l.place ≤ h.place in subst F same (omega arith)
+    lexical_place g e = let same : l ≡ g =
+        same_fault l g (sym is ∙ e) in let F : LexFault → Type 0 = λ h. l.place ≤ h.place in subst F same (omega arith)
 
-    no_expected : (place : ℕ) (before : List Symbol) (next : Option Symbol) → Stands source place before next → IsUnexpected spells before next → ⊥
+    no_expected : (place : ℕ) (before : List Symbol) (next : Option Symbol) → Stands source place before next →
+        IsUnexpected spells before next → ⊥
     no_expected place before next (at_token xs ys t e) u = (no_earlier used here w xs ys t e (within used here w all xs ys t e)).0 u
     no_expected place before next (at_end none) u = no_fault (sym none ∙ is)
 
-    no_nested : (place : ℕ) (before : List Symbol) (o : Option Symbol) → Stands source place before o → (t : Symbol) → o ≡ Some t → NestsTooDeep spells before t → ⊥
-    no_nested place before o (at_token xs ys u e) t same n = let F : Symbol → Type 0 = λ v. NestsTooDeep spells (map source.symbol xs) v in (no_earlier used here w xs ys u e (within used here w all xs ys u e)).1 (subst F (sym (some_one (source.symbol u) t same)) n)
+    no_nested : (place : ℕ) (before : List Symbol) (o : Option Symbol) → Stands source place before o → (t : Symbol) → o ≡ Some t →
+        NestsTooDeep spells before t → ⊥
+    no_nested place before o (at_token xs ys u e) t same n =
+        let F : Symbol → Type 0 = λ v. NestsTooDeep spells (map source.symbol xs) v in
+        (no_earlier used here w xs ys u e (within used here w all xs ys u e)).1 (subst F (sym (some_one (source.symbol u) t same)) n)
     no_nested place before o (at_end none) t same n = no_fault (sym none ∙ is)
 
     lexical_least : (g : TextError) → IsFault spells source g → l.place ≤ place_of g
@@ -213,9 +123,30 @@ module _ {A : Type 0} (read : List Symbol → Result A reading.Fault) (spells : 
     lexical_least error.Memory x = absurd x
 
     pub lexical_first : (e : TextError) → lexical_fault e ≡ Some l → IsFirstFault spells source e
-    lexical_first (error.BadByte place) same = let place_same : l.place ≡ place = ap (λ (f : LexFault). f.place) (sym (same_fault (record { kind = kind.BadByte; place = place }) l same)) in record { stands = is ∙ sym same; least = λ g x. let h = lexical_least g x in omega (arith, h, place_same); order = λ g x q. omega arith }
-    lexical_first (error.WideNumber place) same = let place_same : l.place ≡ place = ap (λ (f : LexFault). f.place) (sym (same_fault (record { kind = kind.WideNumber; place = place }) l same)) in record { stands = is ∙ sym same; least = λ g x. let h = lexical_least g x in omega (arith, h, place_same); order = λ g x q. omega arith }
-    lexical_first (error.BadToken place) same = let place_same : l.place ≡ place = ap (λ (f : LexFault). f.place) (sym (same_fault (record { kind = kind.BadToken; place = place }) l same)) in record { stands = is ∙ sym same; least = λ g x. let h = lexical_least g x in omega (arith, h, place_same); order = λ g x q. omega arith }
+    lexical_first (error.BadByte place) same =
+        let place_same : l.place ≡ place = ap (λ (f : LexFault). f.place)
+        (sym (same_fault (record { kind = kind.BadByte; place = place }) l same)) in
+        record {
+          stands = is ∙ sym same;
+          least = λ g x. let h = lexical_least g x in omega (arith, h, place_same);
+          order = λ g x q. omega arith;
+        }
+    lexical_first (error.WideNumber place) same =
+        let place_same : l.place ≡ place = ap (λ (f : LexFault). f.place)
+        (sym (same_fault (record { kind = kind.WideNumber; place = place }) l same)) in
+        record {
+          stands = is ∙ sym same;
+          least = λ g x. let h = lexical_least g x in omega (arith, h, place_same);
+          order = λ g x q. omega arith;
+        }
+    lexical_first (error.BadToken place) same =
+        let place_same : l.place ≡ place = ap (λ (f : LexFault). f.place)
+        (sym (same_fault (record { kind = kind.BadToken; place = place }) l same)) in
+        record {
+          stands = is ∙ sym same;
+          least = λ g x. let h = lexical_least g x in omega (arith, h, place_same);
+          order = λ g x q. omega arith;
+        }
     lexical_first (error.Expected place) same = absurd (no_fault same)
     lexical_first (error.Nested place) same = absurd (no_fault same)
     lexical_first error.Memory same = absurd (no_fault same)
@@ -228,15 +159,18 @@ module _ {A : Type 0} (read : List Symbol → Result A reading.Fault) (spells : 
     left : f.left ≡ length w.here
     left = ap (λ (g : reading.Fault). g.left) w.place
 
-    module _ (before behind : List Token) (t : Token) (cut : source.tokens ≡ before ++ t ∷ behind) (same_left : f.left ≡ suc (length behind)) where
+    module _ (before behind : List Token) (t : Token) (cut : source.tokens ≡ before ++ t ∷ behind)
+        (same_left : f.left ≡ suc (length behind)) where
       whole : w.used ++ w.here ≡ map source.symbol before ++ source.symbol t ∷ map source.symbol behind
       whole = sym w.split ∙ ap (λ (l : List Token). map source.symbol l) cut ∙ map-append source.symbol before (t ∷ behind)
 
       same_size : length w.used ≡ length (map source.symbol before)
       same_size =
-          let total : length (w.used ++ w.here) ≡ length (map source.symbol before ++ source.symbol t ∷ map source.symbol behind) = ap (λ (l : List Symbol). length l) whole in
+          let total : length (w.used ++ w.here) ≡ length (map source.symbol before ++ source.symbol t ∷ map source.symbol behind) =
+          ap (λ (l : List Symbol). length l) whole in
           let one : length (w.used ++ w.here) ≡ length w.used + length w.here = rw length-append refl in
-          let two : length (map source.symbol before ++ source.symbol t ∷ map source.symbol behind) ≡ length (map source.symbol before) + suc (length (map source.symbol behind)) = rw length-append refl in
+          let two : length (map source.symbol before ++ source.symbol t ∷ map source.symbol behind) ≡ length
+          (map source.symbol before) + suc (length (map source.symbol behind)) = rw length-append refl in
           let others : length (map source.symbol behind) ≡ length behind = length-map-of source.symbol behind in
           omega (arith, total, one, two, others, left, same_left)
 
@@ -262,12 +196,17 @@ module _ {A : Type 0} (read : List Symbol → Result A reading.Fault) (spells : 
       within_text = let h = before_end (suc t.place) source.end behind source.fault behind_place in omega (arith, h)
 
       -- a fault at a token stands no earlier
-      at_other : (us vs : List Token) (u : Token) → source.tokens ≡ us ++ u ∷ vs → (length us < length before) ⊎ ((t.place < u.place) ⊎ ((before ≡ us) × (t ≡ u)))
+      at_other : (us vs : List Token) (u : Token) → source.tokens ≡ us ++ u ∷ vs →
+          (length us < length before) ⊎ ((t.place < u.place) ⊎ ((before ≡ us) × (t ≡ u)))
       unfolding Order
       at_other us vs u same = compare 0 source.end source.fault before behind us vs t u (sym cut ∙ same) order
 
-      not_before : (us vs : List Token) (u : Token) → source.tokens ≡ us ++ u ∷ vs → length us < length before → (IsUnexpected spells (map source.symbol us) (Some (source.symbol u)) → ⊥) × (NestsTooDeep spells (map source.symbol us) (source.symbol u) → ⊥)
-      not_before us vs u same h = let size : length (map source.symbol before) ≡ length before = length-map-of source.symbol before in no_earlier w.used w.here reached us vs u same (omega (arith, h, same_size, size))
+      not_before : (us vs : List Token) (u : Token) → source.tokens ≡ us ++ u ∷ vs → length us < length before →
+          (IsUnexpected spells (map source.symbol us) (Some (source.symbol u)) →
+          ⊥) × (NestsTooDeep spells (map source.symbol us) (source.symbol u) → ⊥)
+      not_before us vs u same h =
+          let size : length (map source.symbol before) ≡ length before = length-map-of source.symbol before in
+          no_earlier w.used w.here reached us vs u same (omega (arith, h, same_size, size))
 
       no_later : (us vs : List Token) (u : Token) → source.tokens ≡ us ++ u ∷ vs → (length us < length before → ⊥) → t.place ≤ u.place
       no_later us vs u same none = by (at_other us vs u same)
@@ -277,11 +216,13 @@ module _ {A : Type 0} (read : List Symbol → Result A reading.Fault) (spells : 
           by (inr (inl h)) = omega (arith, h)
           by (inr (inr q)) = let F : Token → Type 0 = λ v. t.place ≤ v.place in subst F q.1 (omega arith)
 
-      after_expected : (place : ℕ) (us : List Symbol) (o : Option Symbol) → Stands source place us o → IsUnexpected spells us o → t.place ≤ place
+      after_expected : (place : ℕ) (us : List Symbol) (o : Option Symbol) → Stands source place us o → IsUnexpected spells us o →
+          t.place ≤ place
       after_expected place us o (at_token xs ys u q) x = no_later xs ys u q (λ h. (not_before xs ys u q h).0 x)
       after_expected place us o (at_end none) x = omega (arith, within_text)
 
-      after_nested : (place : ℕ) (us : List Symbol) (o : Option Symbol) → Stands source place us o → (v : Symbol) → o ≡ Some v → NestsTooDeep spells us v → t.place ≤ place
+      after_nested : (place : ℕ) (us : List Symbol) (o : Option Symbol) → Stands source place us o → (v : Symbol) → o ≡ Some v →
+          NestsTooDeep spells us v → t.place ≤ place
       after_nested place us o (at_token xs ys u q) v same x =
           let F : Symbol → Type 0 = λ y. NestsTooDeep spells (map source.symbol xs) y in
           no_later xs ys u q (λ h. (not_before xs ys u q h).1 (subst F (sym (some_one (source.symbol u) v same)) x))
@@ -310,7 +251,8 @@ module _ {A : Type 0} (read : List Symbol → Result A reading.Fault) (spells : 
       order_expected error.Memory x q = absurd x
 
       -- where the symbol nests too deep, it is not unexpected
-      not_both : NestsTooDeep spells (map source.symbol before) (source.symbol t) → (place : ℕ) (us : List Symbol) (o : Option Symbol) → Stands source place us o → IsUnexpected spells us o → place ≡ t.place → ⊥
+      not_both : NestsTooDeep spells (map source.symbol before) (source.symbol t) → (place : ℕ) (us : List Symbol) (o : Option Symbol) →
+          Stands source place us o → IsUnexpected spells us o → place ≡ t.place → ⊥
       not_both n place us o (at_token xs ys u q) x same = by (at_other xs ys u q)
         where
           by : (length xs < length before) ⊎ ((t.place < u.place) ⊎ ((before ≡ xs) × (t ≡ u))) → ⊥
@@ -322,7 +264,8 @@ module _ {A : Type 0} (read : List Symbol → Result A reading.Fault) (spells : 
               (subst G (sym p.1) (subst F (sym p.0) x)).1 (nested-viable (map source.symbol before) (source.symbol t) n)
       not_both n place us o (at_end none) x same = omega (arith, within_text, same)
 
-      order_nested : NestsTooDeep spells (map source.symbol before) (source.symbol t) → (g : TextError) → IsFault spells source g → place_of g ≡ t.place → 2 ≤ rank_of g
+      order_nested : NestsTooDeep spells (map source.symbol before) (source.symbol t) → (g : TextError) → IsFault spells source g →
+          place_of g ≡ t.place → 2 ≤ rank_of g
       order_nested n (error.BadByte place) x q = absurd (not_here _ x q)
       order_nested n (error.WideNumber place) x q = absurd (not_here _ x q)
       order_nested n (error.BadToken place) x q = absurd (not_here _ x q)
@@ -335,7 +278,12 @@ module _ {A : Type 0} (read : List Symbol → Result A reading.Fault) (spells : 
           let F : List Symbol → Type 0 = λ l. IsUnexpected spells l (first w.here) in
           let G : Option Symbol → Type 0 = λ o. IsUnexpected spells (map source.symbol before) o in
           record {
-            stands = record { before = map source.symbol before; next = Some (source.symbol t); stands = at_token before behind t cut; unexpected = subst G next (subst F parts.0 (unexpected read spells judges (all_symbols source) f w k)) };
+            stands = record {
+              before = map source.symbol before;
+              next = Some (source.symbol t);
+              stands = at_token before behind t cut;
+              unexpected = subst G next (subst F parts.0 (unexpected read spells judges (all_symbols source) f w k));
+            };
             least = none_earlier;
             order = order_expected;
           }
@@ -349,7 +297,12 @@ module _ {A : Type 0} (read : List Symbol → Result A reading.Fault) (spells : 
 
       pub nested_first : f.kind ≡ Nested → IsFirstFault spells source (error.Nested t.place)
       nested_first k = record {
-        stands = record { before = map source.symbol before; next = source.symbol t; stands = at_token before behind t cut; nests = here_nested k };
+        stands = record {
+          before = map source.symbol before;
+          next = source.symbol t;
+          stands = at_token before behind t cut;
+          nests = here_nested k;
+        };
         least = none_earlier;
         order = order_nested (here_nested k);
       }
@@ -358,18 +311,19 @@ module _ {A : Type 0} (read : List Symbol → Result A reading.Fault) (spells : 
       all_used : w.used ≡ all_symbols source
       all_used = sym (append-nil w.used) ∙ ap (λ (us : List Symbol). w.used ++ us) (sym all) ∙ sym w.split
 
-      at_or_after : (place : ℕ) (us : List Symbol) (o : Option Symbol) → Stands source place us o → IsUnexpected spells us o → source.end ≤ place
-      at_or_after place us o (at_token xs ys u q) x = absurd ((no_earlier w.used w.here reached xs ys u q (within w.used w.here reached all xs ys u q)).0 x)
+      at_or_after : (place : ℕ) (us : List Symbol) (o : Option Symbol) → Stands source place us o → IsUnexpected spells us o →
+          source.end ≤ place
+      at_or_after place us o (at_token xs ys u q) x =
+          absurd ((no_earlier w.used w.here reached xs ys u q (within w.used w.here reached all xs ys u q)).0 x)
       at_or_after place us o (at_end q) x = omega arith
 
-      nests_nowhere : (place : ℕ) (us : List Symbol) (o : Option Symbol) → Stands source place us o → (v : Symbol) → o ≡ Some v → NestsTooDeep spells us v → ⊥
+      nests_nowhere : (place : ℕ) (us : List Symbol) (o : Option Symbol) → Stands source place us o → (v : Symbol) → o ≡ Some v →
+          NestsTooDeep spells us v → ⊥
       nests_nowhere place us o (at_token xs ys u q) v same x =
           let F : Symbol → Type 0 = λ y. NestsTooDeep spells (map source.symbol xs) y in
-          (no_earlier w.used w.here reached xs ys u q (within w.used w.here reached all xs ys u q)).1 (subst F (sym (some_one (source.symbol u) v same)) x)
+          (no_earlier w.used w.here reached xs ys u q (within w.used w.here reached all xs ys u q)).1
+          (subst F (sym (some_one (source.symbol u) v same)) x)
       nests_nowhere place us o (at_end q) v same x = absurd (none_some v same)
-        where
-          none_some : (u : Symbol) → (let p : Option Symbol = None in p) ≡ Some u → ⊥
-          none_some u p = cc
 
       no_lexical : (g : LexFault) → source.fault ≡ Some g → ⊥
       no_lexical g same = no_fault (sym none ∙ same)
@@ -395,7 +349,12 @@ module _ {A : Type 0} (read : List Symbol → Result A reading.Fault) (spells : 
           let F : List Symbol → Type 0 = λ l. IsUnexpected spells l (first w.here) in
           let G : List Symbol → Type 0 = λ l. IsUnexpected spells (all_symbols source) (first l) in
           record {
-            stands = record { before = all_symbols source; next = None; stands = at_end none; unexpected = subst G all (subst F all_used (unexpected read spells judges (all_symbols source) f w k)) };
+            stands = record {
+              before = all_symbols source;
+              next = None;
+              stands = at_end none;
+              unexpected = subst G all (subst F all_used (unexpected read spells judges (all_symbols source) f w k));
+            };
             least = least_end;
             order = order_end;
           }
@@ -404,12 +363,10 @@ module _ {A : Type 0} (read : List Symbol → Result A reading.Fault) (spells : 
       never_nested k =
           let n = too_deep read spells judges (all_symbols source) f w k in
           none_some n.0 (ap (λ (l : List Symbol). first l) (sym all) ∙ n.1)
-        where
-          none_some : (u : Symbol) → (let p : Option Symbol = None in p) ≡ Some u → ⊥
-          none_some u p = cc
 
   -- a refusal of the reading at a token
-  pub refused_at_token : (f : reading.Fault) → read (all_symbols source) ≡ Err f → (before behind : List Token) (t : Token) → source.tokens ≡ before ++ t ∷ behind → f.left ≡ suc (length behind) → IsRefusal spells source (rule_fault f.kind t.place)
+  pub refused_at_token : (f : reading.Fault) → read (all_symbols source) ≡ Err f → (before behind : List Token) (t : Token) →
+      source.tokens ≡ before ++ t ∷ behind → f.left ≡ suc (length behind) → IsRefusal spells source (rule_fault f.kind t.place)
   refused_at_token f e before behind t cut left = by f.kind refl
     where
       w : Refuses read spells (all_symbols source) f
@@ -424,12 +381,14 @@ module _ {A : Type 0} (read : List Symbol → Result A reading.Fault) (spells : 
   left_within f e =
       let w = judges.refuses (all_symbols source) f e in
       let left : f.left ≡ length w.here = ap (λ (g : reading.Fault). g.left) w.place in
-      let total : length (w.used ++ w.here) ≡ length source.tokens = ap (λ (l : List Symbol). length l) (sym w.split) ∙ length-map-of source.symbol source.tokens in
+      let total : length (w.used ++ w.here) ≡ length source.tokens =
+      ap (λ (l : List Symbol). length l) (sym w.split) ∙ length-map-of source.symbol source.tokens in
       let sum : length (w.used ++ w.here) ≡ length w.used + length w.here = rw length-append refl in
       omega (arith, left, total, sum)
 
   -- a refusal at the end of a text of tokens alone
-  pub refused_at_end : (f : reading.Fault) → read (all_symbols source) ≡ Err f → source.fault ≡ None → f.left ≡ 0 → IsRefusal spells source (rule_fault f.kind source.end)
+  pub refused_at_end : (f : reading.Fault) → read (all_symbols source) ≡ Err f → source.fault ≡ None → f.left ≡ 0 →
+      IsRefusal spells source (rule_fault f.kind source.end)
   refused_at_end f e none left = by f.kind refl
     where
       w : Refuses read spells (all_symbols source) f
@@ -443,38 +402,18 @@ module _ {A : Type 0} (read : List Symbol → Result A reading.Fault) (spells : 
       by Nested same = absurd (never_nested f e w none all same)
 
   -- a refusal at a lexical fault
-  pub refused_at_fault : (f : reading.Fault) → read (all_symbols source) ≡ Err f → f.left ≡ 0 → (l : LexFault) → source.fault ≡ Some l → (x : TextError) → lexical_fault x ≡ Some l → IsRefusal spells source x
+  pub refused_at_fault : (f : reading.Fault) → read (all_symbols source) ≡ Err f → f.left ≡ 0 → (l : LexFault) → source.fault ≡ Some l →
+      (x : TextError) → lexical_fault x ≡ Some l → IsRefusal spells source x
   refused_at_fault f e left l is x same =
       let w = judges.refuses (all_symbols source) f e in
-      first_refusal spells source x (lexical_first w.used w.here (refused-reaches f e w) (nothing_left w.here (sym (ap (λ (g : reading.Fault). g.left) w.place) ∙ left)) l is x same)
+      first_refusal spells source x
+      (lexical_first w.used w.here (refused-reaches f e w)
+      (nothing_left w.here (sym (ap (λ (g : reading.Fault). g.left) w.place) ∙ left)) l is x same)
 
   -- a lexical fault after what is read
-  pub read_to_fault : (a : A) → read (all_symbols source) ≡ Ok a → IsViable spells (all_symbols source) → (l : LexFault) → source.fault ≡ Some l → (x : TextError) → lexical_fault x ≡ Some l → IsRefusal spells source x
+  pub read_to_fault : (a : A) → read (all_symbols source) ≡ Ok a → IsViable spells (all_symbols source) → (l : LexFault) →
+      source.fault ≡ Some l → (x : TextError) → lexical_fault x ≡ Some l → IsRefusal spells source x
   read_to_fault a e can_go_on l is x same = first_refusal spells source x (lexical_first (all_symbols source) [] reached refl l is x same)
     where
       reached : Reaches read spells source (all_symbols source) []
       reached = record { split = sym (append-nil (all_symbols source)); goes_on = can_go_on; late = λ f q. absurd (ok_err (sym e ∙ q)) }
-
--- the place of the token at an index from the end
-pub at_index : (tokens : List Token) (left index : ℕ) (t : Token) → index < length tokens → t ≡ get_or tokens index t → index + left ≡ length tokens → IsPlaceWith left tokens t.place
-at_index tokens left index t h e sum = record {
-  before = take index tokens;
-  behind = drop (suc index) tokens;
-  here = t;
-  cut = sym (take-append-drop index tokens) ∙ ap (λ (l : List Token). take index tokens ++ l) (drop-cons tokens index t h ∙ ap (λ (u : Token). u ∷ drop (suc index) tokens) (sym e));
-  count = let size = length-drop (suc index) tokens in omega (arith, size, sum, h);
-  same = refl;
-}
-
--- the token with which `many` are left is the same where tokens before it are left out
-pub place_from : (at many : ℕ) (tokens : List Token) (place : ℕ) → many ≤ length (drop at tokens) → IsPlaceWith many tokens place → IsPlaceWith many (drop at tokens) place
-place_from zero many tokens place h p = p
-place_from (suc n) many [] place h p = p
-place_from (suc n) many (t ∷ ts) place h p = by p.before p.cut (λ q. place_from n many ts place h q)
-  where
-    by : (before : List Token) → (t ∷ ts) ≡ before ++ p.here ∷ p.behind → (IsPlaceWith many ts place → IsPlaceWith many (drop n ts) place) → IsPlaceWith many (drop n ts) place
-    by [] e more =
-        let size : length ts ≡ length p.behind = ap (λ (l : List Token). length l) (tail_same t p.here ts p.behind e) in
-        let few = length-drop n ts in
-        absurd (omega (arith, h, few, size, p.count))
-    by (b ∷ before) e more = more (record { before = before; behind = p.behind; here = p.here; cut = tail_same t b ts (before ++ p.here ∷ p.behind) e; count = p.count; same = p.same })

@@ -1,5 +1,6 @@
 -- The declared names of a task are numbered in order: each name that a text has is one from before, or has the next number.
-use Rattle.std.proofs.Common.{◌≡◌, ◌⊎◌, inl, inr, ℕ, suc, ◌+◌, ◌<◌, ◌==◌, Bool, true, false, ◌||◌, not, Option, Some, None, is_some, List, [], ◌∷◌, ◌++◌, map, length, refl, sym, ap, ap₂, ◌∙◌, subst, if◌then◌else◌, arith}
+use Rattle.std.proofs.Common.{◌≡◌, ◌⊎◌, inl, inr, ℕ, suc, ◌+◌, ◌<◌, ◌==◌, Bool, true, false, ◌||◌, not, Option, Some, None, is_some, List}
+use Rattle.std.proofs.Common.{[], ◌∷◌, ◌++◌, map, length, refl, sym, ap, ap₂, ◌∙◌, subst, if◌then◌else◌, arith}
 use Rattle.std.proofs.lemmas.Bool.Decides.{nat_tests}
 use Rattle.std.proofs.lemmas.List.{length_push}
 use Rattle.std.specs.List.{range_with_len, position_or_len}
@@ -13,7 +14,9 @@ use Rattle.sm_syntax.specs.declared.token.Token.{Token}
 use Rattle.sm_syntax.specs.declared.token.TokenKind.{TokenKind}
 use Rattle.sm_syntax.specs.declared.token.TokenKind.TheVariants.{Word, Number, Sign}
 use Rattle.sm_syntax.specs.declared.tree.Sort.{Sort}
-use Rattle.sm_syntax.specs.text.Conditions.{Refusal, DoubleName, is_in, first_repeated, first_refusal, ill_formed, program_fault, double_name, first_of_all, double_hole, hole_in_filling, unknown_hole, missing_filling, ill_assumed}
+use Rattle.sm_syntax.specs.text.Conditions.{Refusal, DoubleName, is_in, first_repeated, first_refusal, ill_formed, program_fault}
+use Rattle.sm_syntax.specs.text.Conditions.{double_name, first_of_all, double_hole, hole_in_filling, unknown_hole, missing_filling}
+use Rattle.sm_syntax.specs.text.Conditions.{ill_assumed}
 use Rattle.sm_syntax.specs.claim.ConflictFree.{Copy, O, A, B, M}
 use Rattle.sm_syntax.specs.claim.Fill.{fill}
 use Rattle.sm_syntax.specs.text.MarkedSymbols as g
@@ -21,7 +24,8 @@ use Rattle.sm_syntax.specs.text.TaskGrammar as task
 use Rattle.sm_syntax.specs.text.MarkedSymbols.{Marked, plain}
 use Rattle.sm_syntax.specs.text.TaskGrammar.{AreNames, AreDeclarations, IsTask, with_sort}
 use Rattle.sm_syntax.specs.text.Parts.{Parts}
-use Rattle.sm_syntax.specs.text.Symbols.{text_of, is_among, with_text, names_after, mark_or, symbol_by, symbol_of, symbols_among, names_among, symbols_of}
+use Rattle.sm_syntax.specs.text.Symbols.{text_of, is_among, with_text, names_after, mark_or, symbol_by, symbol_of, symbols_among}
+use Rattle.sm_syntax.specs.text.Symbols.{names_among, symbols_of}
 use Rattle.sm_syntax.specs.text.Tokens.{mark_of_word, mark_of_sign, lexed}
 use Rattle.sm_syntax.proofs.Numbering.{with_text-among, with_text-new, number-last}
 use Rattle.sm_text.specs.parsing.BlockTokens.{token_symbols}
@@ -50,7 +54,8 @@ no_some : (x : ℕ) → Some x ≡ (let o : Option ℕ = None in o) → ⊥
 no_some x e = cc
 
 -- one more number is below the next one
-one_more : (k : ℕ) (seen : List ℕ) → ((x : ℕ) → x < k → is_in seen x ≡ true) → (x : ℕ) → x ≡ k → (y : ℕ) → y < k + 1 → is_in (x ∷ seen) y ≡ true
+one_more : (k : ℕ) (seen : List ℕ) → ((x : ℕ) → x < k → is_in seen x ≡ true) → (x : ℕ) → x ≡ k → (y : ℕ) → y < k + 1 →
+    is_in (x ∷ seen) y ≡ true
 one_more k seen below x same y less = by (y == x) refl
   where
     by : (b : Bool) → (y == x) ≡ b → is_in (x ∷ seen) y ≡ true
@@ -58,20 +63,24 @@ one_more k seen below x same y less = by (y == x) refl
     by false e = ap (λ (b : Bool). b || is_in seen y) e ∙ below y (grind (arith, nat_tests, same, less))
 
 -- numbers that appear so, with none twice, are in order
-in_order : (k : ℕ) (seen xs : List ℕ) → Appear k xs → ((x : ℕ) → x < k → is_in seen x ≡ true) → first_repeated seen xs ≡ None → xs ≡ range_with_len k (length xs)
+in_order : (k : ℕ) (seen xs : List ℕ) → Appear k xs → ((x : ℕ) → x < k → is_in seen x ≡ true) → first_repeated seen xs ≡ None →
+    xs ≡ range_with_len k (length xs)
 in_order k seen [] h below none = refl
-in_order k seen (x ∷ xs) (inl h) below none = absurd (no_some x (sym (ap (λ (b : Bool). if b then Some x else first_repeated (x ∷ seen) xs) (below x h.0)) ∙ none))
+in_order k seen (x ∷ xs) (inl h) below none =
+    absurd (no_some x (sym (ap (λ (b : Bool). if b then Some x else first_repeated (x ∷ seen) xs) (below x h.0)) ∙ none))
 in_order k seen (x ∷ xs) (inr h) below none = by (is_in seen x) refl (in_order (k + 1) (x ∷ seen) xs h.1 (one_more k seen below x h.0))
   where
     found : Bool → Option ℕ
     found b = if b then Some x else first_repeated (x ∷ seen) xs
 
-    by : (b : Bool) → is_in seen x ≡ b → (first_repeated (x ∷ seen) xs ≡ None → xs ≡ range_with_len (k + 1) (length xs)) → (x ∷ xs) ≡ range_with_len k (length (x ∷ xs))
+    by : (b : Bool) → is_in seen x ≡ b → (first_repeated (x ∷ seen) xs ≡ None → xs ≡ range_with_len (k + 1) (length xs)) →
+        (x ∷ xs) ≡ range_with_len k (length (x ∷ xs))
     by true e rest = absurd (no_some x (sym (ap found e) ∙ none))
     by false e rest = ap₂ (λ (y : ℕ) (ys : List ℕ). y ∷ ys) h.0 (rest (sym (ap found e) ∙ none))
 
 -- a word that isn't reserved is a name from before, or the next
-next_name : (before : List (List ℕ)) (text : List ℕ) (xs : List ℕ) → Appear (length (with_text before text)) xs → Appear (length before) (position_or_len (bytes_eq text) (with_text before text) ∷ xs)
+next_name : (before : List (List ℕ)) (text : List ℕ) (xs : List ℕ) → Appear (length (with_text before text)) xs →
+    Appear (length before) (position_or_len (bytes_eq text) (with_text before text) ∷ xs)
 next_name before text xs h = by (is_among before text) refl
   where
     P : List (List ℕ) → Type 0
@@ -83,10 +92,13 @@ next_name before text xs h = by (is_among before text) refl
         subst P (sym (with_text-among before text e)) stays h
     by false e =
         let F : ℕ → Type 0 = λ k. Appear k xs in
-        let grows : P (before ++ text ∷ []) = λ a. inr (number-last before text ∙ fresh-last before text e, subst F (length_push before text) a) in
+        let grows : P (before ++ text ∷ []) =
+        λ a. inr (number-last before text ∙ fresh-last before text e, subst F (length_push before text) a) in
         subst P (sym (with_text-new before text e)) grows h
 
-next_symbol : (kind : TokenKind) (before : List (List ℕ)) (text : List ℕ) (ts : List Symbol) → Appear (length (names_with before kind text)) (numbers ts) → Appear (length before) (numbers (symbol_by kind (names_with before kind text) text ∷ ts))
+next_symbol : (kind : TokenKind) (before : List (List ℕ)) (text : List ℕ) (ts : List Symbol) →
+    Appear (length (names_with before kind text)) (numbers ts) →
+    Appear (length before) (numbers (symbol_by kind (names_with before kind text) text ∷ ts))
 next_symbol Number before text ts h = h
 next_symbol Sign before text ts h = by (mark_of_sign text)
   where
@@ -98,12 +110,14 @@ next_symbol Word before text ts h = by (mark_of_word text) h
     added : Option Mark → List (List ℕ)
     added o = if not (is_some o) then with_text before text else before
 
-    by : (o : Option Mark) → Appear (length (added o)) (numbers ts) → Appear (length before) (numbers (mark_or o (s.Name (record { 0 = position_or_len (bytes_eq text) (added o) })) ∷ ts))
+    by : (o : Option Mark) → Appear (length (added o)) (numbers ts) →
+        Appear (length before) (numbers (mark_or o (s.Name (record { 0 = position_or_len (bytes_eq text) (added o) })) ∷ ts))
     by (Some m) h = h
     by None h = next_name before text (numbers ts) h
 
 -- the names of tokens appear in the order of their numbers
-signs_appear : (bytes : List ℕ) (before : List (List ℕ)) (ts : List Token) → Appear (length before) (numbers (token_symbols bytes before ts))
+signs_appear : (bytes : List ℕ) (before : List (List ℕ)) (ts : List Token) →
+    Appear (length before) (numbers (token_symbols bytes before ts))
 unfolding symbol_of
 signs_appear bytes before [] = tt
 signs_appear bytes before (t ∷ ts) =
@@ -111,7 +125,8 @@ signs_appear bytes before (t ∷ ts) =
     let now = names_with before t.kind text in
     let rest = grown-names_after bytes now ts in
     let symbol : symbol_by t.kind (names_after bytes now ts) text ≡ symbol_by t.kind now text =
-    ap (λ (l : List (List ℕ)). symbol_by t.kind l text) rest.1 ∙ symbol_by-append t.kind now rest.0 text (known-names_with before t.kind text) in
+    ap (λ (l : List (List ℕ)). symbol_by t.kind l text) rest.1
+    ∙ symbol_by-append t.kind now rest.0 text (known-names_with before t.kind text) in
     let F : Symbol → Type 0 = λ u. Appear (length before) (numbers (u ∷ token_symbols bytes now ts)) in
     subst F (sym symbol) (next_symbol t.kind before text (token_symbols bytes now ts) (signs_appear bytes now ts))
 
@@ -149,11 +164,13 @@ with_sort-names sort (x ∷ xs) ds = ap (λ (l : List ℕ). x ∷ l) (with_sort-
 declared_numbers : {ts : List Marked} {ds : List (ℕ × Sort)} → AreDeclarations ts ds → marked_numbers ts ≡ names_of_all ds
 declared_numbers AreDeclarations.none = refl
 declared_numbers (AreDeclarations.more {ts = ts} {us = us} {xs = xs} {ds = ds} sort names rest) =
-    numbers-append ts (g.word Semicolon ∷ us) ∙ ap₂ (λ (l r : List ℕ). l ++ r) (listed names) (declared_numbers rest) ∙ sym (with_sort-names sort xs ds)
+    numbers-append ts (g.word Semicolon ∷ us) ∙ ap₂ (λ (l r : List ℕ). l ++ r) (listed names) (declared_numbers rest)
+    ∙ sym (with_sort-names sort xs ds)
 
 -- the declared names are the first of a task
 declared_first : {ts : List Marked} {t : Parts} → IsTask ts t → (more : List ℕ) × (marked_numbers ts ≡ names_of_all t.declared ++ more)
-declared_first (task.task {ts = ts} {us = us} {vs = vs} {ws = ws} {o = o} {a = a} {b = b} {m = m} t declared named assumed code base variant_a variant_b candidate) =
+declared_first (task.task {ts = ts} {us = us} {vs = vs} {ws = ws} {o = o} {a = a} {b = b} {m = m} t declared named assumed code base
+    variant_a variant_b candidate) =
     let others = us ++ (vs ++ (ws ++ (o ++ (a ++ (b ++ m))))) in
     (marked_numbers others, numbers-append ts others ∙ ap (λ (l : List ℕ). l ++ marked_numbers others) (declared_numbers declared))
 
@@ -179,7 +196,8 @@ unfolding first_refusal ill_formed program_fault
 declared_once t valid =
     let fault : Copy → Option Refusal = λ c. program_fault t.declared t.outputs (fill (t.fillings c) t.shared) in
     let formed : first_of_all (fault O ∷ fault A ∷ fault B ∷ fault M ∷ []) ≡ None =
-    fifth (double_hole t) (hole_in_filling t) (unknown_hole t) (missing_filling t) (ill_formed t) (ill_assumed t.declared t.assumed) valid in
+    fifth (double_hole t) (hole_in_filling t) (unknown_hole t) (missing_filling t) (ill_formed t) (ill_assumed t.declared t.assumed)
+    valid in
     let base : fault O ≡ None = none_first (fault O) (first_of_all (fault A ∷ fault B ∷ fault M ∷ [])) formed in
     no_double (first_repeated [] (names_of_all t.declared)) (none_first (double_name t.declared) _ base)
 
@@ -192,8 +210,10 @@ declared_in_order bytes t p =
     let names = names_of_all t.declared in
     let first = declared_first p.text.grammar in
     let F : List ℕ → Type 0 = λ l. Appear 0 l in
-    let appear : Appear 0 names = appear-front 0 names first.0 (subst F (sym (numbers-plain (symbols_of bytes)) ∙ first.1) (names_appear bytes)) in
-    in_order 0 [] names appear (λ x less. absurd (omega (arith, less))) (declared_once t p.valid) ∙ ap (λ (n : ℕ). range_with_len 0 n) (size t.declared)
+    let appear : Appear 0 names =
+    appear-front 0 names first.0 (subst F (sym (numbers-plain (symbols_of bytes)) ∙ first.1) (names_appear bytes)) in
+    in_order 0 [] names appear (λ x less. absurd (omega (arith, less))) (declared_once t p.valid)
+    ∙ ap (λ (n : ℕ). range_with_len 0 n) (size t.declared)
   where
     size : (ds : List (ℕ × Sort)) → length (names_of_all ds) ≡ length ds
     size [] = refl

@@ -1,6 +1,7 @@
 -- Where the curly braces of a block close: all that the grammar spells between them is balanced, so a block ends at the brace
 -- that closes its first, and no rule stops at the end of tokens that do so.
-use Rattle.std.proofs.Common.{◌≡◌, ℕ, zero, suc, ◌+◌, ◌-◌, ◌<◌, ◌≤◌, Bool, true, false, refl, sym, ap, ◌∙◌, subst, arith, Option, Some, None, Result, Ok, Err, List, [], ◌∷◌, ◌++◌, map, length, take, append_assoc, cond, true≢false}
+use Rattle.std.proofs.Common.{◌≡◌, ℕ, ℤ, zero, suc, ◌+◌, ◌-◌, ◌<◌, ◌≤◌, Bool, true, false, refl, sym, ap, ◌∙◌, subst, arith, Option, Some}
+use Rattle.std.proofs.Common.{None, Result, Ok, Err, List, [], ◌∷◌, ◌++◌, map, length, take, append_assoc, cond, true≢false}
 use Rattle.std.proofs.lemmas.List.{append-nil, length-take-le, take-take}
 use Rattle.std.proofs.lemmas.List.Sums.{sum_by-cons}
 use Rattle.std.specs.List.{count_by, position_or_len}
@@ -17,7 +18,6 @@ use Rattle.sm_syntax.specs.declared.token.TokenKind.{TokenKind}
 use Rattle.sm_syntax.specs.declared.token.TokenKind.TheVariants.{Word, Number, Sign}
 use Rattle.sm_syntax.specs.declared.tree.Cmp.{Cmp}
 use Rattle.sm_syntax.specs.declared.tree.Name.{Name}
-use Rattle.sm_syntax.specs.declared.tree.Cmp.TheVariants.{Eq, Ne, Lt, Le, Gt, Ge}
 use Rattle.sm_syntax.specs.text.ExpressionGrammar as exp
 use Rattle.sm_syntax.specs.text.ConditionGrammar as cond
 use Rattle.sm_syntax.specs.text.StatementGrammar as stmt
@@ -33,6 +33,7 @@ use Rattle.sm_text.specs.parsing.BlockTokens.{token_symbols, is_mark, is_sign, m
 use Rattle.sm_text.specs.rules.Parsers.{first, fault}
 use Rattle.sm_text.specs.rules.Reading as r
 use Rattle.sm_text.specs.resolving.TokenTexts.{sign_by}
+use Rattle.sm_text.proofs.Sound.Conditions.{each_comparison}
 use Rattle.sm_text.proofs.Prefix.FirstTokens.{none_left}
 use Rattle.sm_text.proofs.Prefix.Exact.{any_block_told, block_reads}
 use Rattle.sm_text.proofs.Sound.Parsers.{Stops, Told}
@@ -81,34 +82,28 @@ nothing = record { passes = λ n z. refl }
 one : (t : Marked) (us : List Marked) → begins_block t.0 ≡ false → ends_block t.0 ≡ false → IsBalanced us → IsBalanced (t ∷ us)
 one t us opening closing more = record {
   passes = λ n z.
-      let same : depth_after (suc n) t.0 ≡ suc n = ap (λ (b : Bool). depth_by b (ends_block t.0) (suc n)) opening ∙ ap (λ (b : Bool). depth_by false b (suc n)) closing in
+      let same : depth_after (suc n) t.0 ≡ suc n =
+      ap (λ (b : Bool). depth_by b (ends_block t.0) (suc n)) opening ∙ ap (λ (b : Bool). depth_by false b (suc n)) closing in
       ap (λ (k : ℕ). stop_at k (us ++ z) (behind k (us ++ z))) same ∙ more.passes n z;
 }
 
 both : (us vs : List Marked) → IsBalanced us → IsBalanced vs → IsBalanced (us ++ vs)
-both us vs first second = record { passes = λ n z. ap (behind (suc n)) (append_assoc us vs z) ∙ first.passes n (vs ++ z) ∙ second.passes n z }
+both us vs first second =
+    record { passes = λ n z. ap (behind (suc n)) (append_assoc us vs z) ∙ first.passes n (vs ++ z) ∙ second.passes n z }
 
 comparison_opens : (op : Cmp) → begins_block (s.Mark (cond.comparison op)) ≡ false
-comparison_opens Eq = refl
-comparison_opens Ne = refl
-comparison_opens Lt = refl
-comparison_opens Le = refl
-comparison_opens Gt = refl
-comparison_opens Ge = refl
+comparison_opens = each_comparison (λ m. begins_block (s.Mark m) ≡ false) refl refl refl refl refl refl
 
 comparison_closes : (op : Cmp) → ends_block (s.Mark (cond.comparison op)) ≡ false
-comparison_closes Eq = refl
-comparison_closes Ne = refl
-comparison_closes Lt = refl
-comparison_closes Le = refl
-comparison_closes Gt = refl
-comparison_closes Ge = refl
+comparison_closes = each_comparison (λ m. ends_block (s.Mark m) ≡ false) refl refl refl refl refl refl
 
 expression_balanced : {l : Level} {d k : ℕ} {ts : List Marked} {e : Expression} → IsExpression l d k ts e → IsBalanced ts
 expression_balanced (exp.number d z) = one _ _ refl refl nothing
 expression_balanced (exp.variable d x) = one _ _ refl refl nothing
-expression_balanced (exp.element {ts = ts} a inner) = one _ _ refl refl (one _ _ refl refl (both ts _ (expression_balanced inner) (one _ _ refl refl nothing)))
-expression_balanced (IsExpression.group {ts = ts} inner) = one _ _ refl refl (both ts _ (expression_balanced inner) (one _ _ refl refl nothing))
+expression_balanced (exp.element {ts = ts} a inner) =
+    one _ _ refl refl (one _ _ refl refl (both ts _ (expression_balanced inner) (one _ _ refl refl nothing)))
+expression_balanced (IsExpression.group {ts = ts} inner) =
+    one _ _ refl refl (both ts _ (expression_balanced inner) (one _ _ refl refl nothing))
 expression_balanced (exp.negative inner) = one _ _ refl refl (expression_balanced inner)
 expression_balanced (exp.as_unary inner) = expression_balanced inner
 expression_balanced (exp.as_product inner) = expression_balanced inner
@@ -120,30 +115,41 @@ expression_balanced (exp.minus {ts = ts} left right) = both ts _ (expression_bal
 condition_balanced : {r : Rank} {d k : ℕ} {ts : List Marked} {b : Condition} → IsCondition r d k ts b → IsBalanced ts
 condition_balanced (cond.always d) = one _ _ refl refl nothing
 condition_balanced (cond.never d) = one _ _ refl refl nothing
-condition_balanced (cond.compares {ts = ts} op left right) = both ts _ (expression_balanced left) (one _ _ (comparison_opens op) (comparison_closes op) (expression_balanced right))
-condition_balanced (IsCondition.group {ts = ts} inner) = one _ _ refl refl (both ts _ (condition_balanced inner) (one _ _ refl refl nothing))
+condition_balanced (cond.compares {ts = ts} op left right) =
+    both ts _ (expression_balanced left) (one _ _ (comparison_opens op) (comparison_closes op) (expression_balanced right))
+condition_balanced (IsCondition.group {ts = ts} inner) =
+    one _ _ refl refl (both ts _ (condition_balanced inner) (one _ _ refl refl nothing))
 condition_balanced (cond.denied inner) = one _ _ refl refl (condition_balanced inner)
 condition_balanced (cond.as_literal inner) = condition_balanced inner
 condition_balanced (cond.as_conjunction inner) = condition_balanced inner
-condition_balanced (IsCondition.both {ts = ts} left right) = both ts _ (condition_balanced left) (one _ _ refl refl (condition_balanced right))
+condition_balanced (IsCondition.both {ts = ts} left right) =
+    both ts _ (condition_balanced left) (one _ _ refl refl (condition_balanced right))
 condition_balanced (cond.as_disjunction inner) = condition_balanced inner
 condition_balanced (cond.either {ts = ts} left right) = both ts _ (condition_balanced left) (one _ _ refl refl (condition_balanced right))
 
 -- the braces of a block stand round what is balanced
-braced : (d : ℕ) (ts : List Marked) → IsBalanced ts → (n : ℕ) (z : List Marked) → behind n ((opens mark.OpenCurly d ∷ (ts ++ word mark.CloseCurly ∷ [])) ++ z) ≡ stop_at n z (behind n z)
+braced : (d : ℕ) (ts : List Marked) → IsBalanced ts → (n : ℕ) (z : List Marked) →
+    behind n ((opens mark.OpenCurly d ∷ (ts ++ word mark.CloseCurly ∷ [])) ++ z) ≡ stop_at n z (behind n z)
 braced d ts inner n z = ap (behind (suc n)) (append_assoc ts (word mark.CloseCurly ∷ []) z) ∙ inner.passes n (word mark.CloseCurly ∷ z)
 
 mutual
   statements_balanced : {d : ℕ} {ts : List Marked} {c : Code} → AreStatements d ts c → IsBalanced ts
   statements_balanced (stmt.none d) = nothing
   statements_balanced (stmt.skips more) = one _ _ refl refl (one _ _ refl refl (statements_balanced more))
-  statements_balanced (stmt.assigns {ts = ts} x value more) = one _ _ refl refl (one _ _ refl refl (both ts _ (expression_balanced value) (one _ _ refl refl (statements_balanced more))))
+  statements_balanced (stmt.assigns {ts = ts} x value more) =
+      one _ _ refl refl (one _ _ refl refl (both ts _ (expression_balanced value) (one _ _ refl refl (statements_balanced more))))
   statements_balanced (stmt.writes {ts = ts} {us = us} a index value more) =
-      one _ _ refl refl (one _ _ refl refl (both ts _ (expression_balanced index) (one _ _ refl refl (one _ _ refl refl (both us _ (expression_balanced value) (one _ _ refl refl (statements_balanced more)))))))
+      one _ _ refl refl (one _ _ refl refl
+      (both ts _ (expression_balanced index)
+      (one _ _ refl refl (one _ _ refl refl (both us _ (expression_balanced value) (one _ _ refl refl (statements_balanced more)))))))
   statements_balanced (stmt.branches {ts = ts} {us = us} {vs = vs} test first second more) =
-      one _ _ refl refl (one _ _ refl refl (both ts _ (condition_balanced test) (one _ _ refl refl (both us _ (block_balanced first) (one _ _ refl refl (both vs _ (block_balanced second) (statements_balanced more)))))))
+      one _ _ refl refl (one _ _ refl refl
+      (both ts _ (condition_balanced test)
+      (one _ _ refl refl (both us _ (block_balanced first)
+      (one _ _ refl refl (both vs _ (block_balanced second) (statements_balanced more)))))))
   statements_balanced (stmt.loops {ts = ts} {us = us} test body more) =
-      one _ _ refl refl (one _ _ refl refl (both ts _ (condition_balanced test) (one _ _ refl refl (both us _ (block_balanced body) (statements_balanced more)))))
+      one _ _ refl refl (one _ _ refl refl
+      (both ts _ (condition_balanced test) (one _ _ refl refl (both us _ (block_balanced body) (statements_balanced more)))))
   statements_balanced (stmt.holes h fits more) = one _ _ refl refl (one _ _ refl refl (one _ _ refl refl (statements_balanced more)))
 
   block_balanced : {d : ℕ} {ts : List Marked} {c : Code} → IsBlock d ts c → IsBalanced ts
@@ -162,53 +168,49 @@ no_entry : (m : Mark) (table : Table) (text : List ℕ) → AllBut m table → i
 no_entry m [] text none = refl
 no_entry m (e ∷ table) text none = by (bytes_eq text e.0) (no_entry m table text none.1)
   where
-    by : (b : Bool) → is_mark m (entry table text) ≡ false → is_mark m (option_map (λ (e : List ℕ × Mark). e.1) (cond b (Some e) (find (λ (e : List ℕ × Mark). bytes_eq text e.0) table))) ≡ false
+    by : (b : Bool) → is_mark m (entry table text) ≡ false →
+        is_mark m (option_map (λ (e : List ℕ × Mark). e.1) (cond b (Some e) (find (λ (e : List ℕ × Mark). bytes_eq text e.0) table))) ≡
+        false
     by true more = none.0
     by false more = more
 
 -- no reserved word is a brace
 word_opens : (text : List ℕ) → is_mark mark.OpenCurly (mark_of_word text) ≡ false
 unfolding mark_of_word reserved_words
-word_opens text = no_entry mark.OpenCurly reserved_words text (refl, (refl, (refl, (refl, (refl, (refl, (refl, (refl, (refl, (refl, (refl, (refl, (refl, (refl, (refl, tt)))))))))))))))
+word_opens text = no_entry mark.OpenCurly reserved_words text
+    (refl, (refl, (refl, (refl, (refl, (refl, (refl, (refl, (refl, (refl, (refl, (refl, (refl, (refl, (refl, tt)))))))))))))))
 
 word_closes : (text : List ℕ) → is_mark mark.CloseCurly (mark_of_word text) ≡ false
 unfolding mark_of_word reserved_words
-word_closes text = no_entry mark.CloseCurly reserved_words text (refl, (refl, (refl, (refl, (refl, (refl, (refl, (refl, (refl, (refl, (refl, (refl, (refl, (refl, (refl, tt)))))))))))))))
+word_closes text = no_entry mark.CloseCurly reserved_words text
+    (refl, (refl, (refl, (refl, (refl, (refl, (refl, (refl, (refl, (refl, (refl, (refl, (refl, (refl, (refl, tt)))))))))))))))
 
--- the symbol of a token is a brace where its sign is
-opens_same : (bytes : List ℕ) (names : List (List ℕ)) (t : Token) → begins_block (symbol_of bytes names t) ≡ is_sign bytes mark.OpenCurly t
+-- the symbol of a token is a mark that no reserved word is, where its sign is
+sign_same : (m : Mark) (test : Symbol → Bool) → ((n : Mark) → test (s.Mark n) ≡ is_mark m (Some n)) →
+    ((z : ℤ) → test (s.Number z) ≡ false) → ((x : Name) → test (s.Name x) ≡ false) →
+    is_mark m (Some mark.Semicolon) ≡ false → ((text : List ℕ) → is_mark m (mark_of_word text) ≡ false) →
+    (bytes : List ℕ) (names : List (List ℕ)) (t : Token) → test (symbol_of bytes names t) ≡ is_sign bytes m t
 unfolding symbol_of
-opens_same bytes names t = by t.kind (text_of bytes t)
+sign_same m test at_mark at_number at_name semicolon no_word bytes names t = by t.kind (text_of bytes t)
   where
-    word_by : (o : Option Mark) (x : Name) → is_mark mark.OpenCurly o ≡ false → begins_block (mark_or o (s.Name x)) ≡ false
-    word_by None x e = refl
-    word_by (Some m) x e = e
+    word_by : (o : Option Mark) (x : Name) → is_mark m o ≡ false → test (mark_or o (s.Name x)) ≡ false
+    word_by None x e = at_name x
+    word_by (Some n) x e = at_mark n ∙ e
 
-    sign : (o : Option Mark) → begins_block (mark_or o (s.Mark mark.Semicolon)) ≡ is_mark mark.OpenCurly o
-    sign None = refl
-    sign (Some m) = refl
+    sign : (o : Option Mark) → test (mark_or o (s.Mark mark.Semicolon)) ≡ is_mark m o
+    sign None = at_mark mark.Semicolon ∙ semicolon
+    sign (Some n) = at_mark n
 
-    by : (k : TokenKind) (text : List ℕ) → begins_block (symbol_by k names text) ≡ is_mark mark.OpenCurly (sign_by k text)
-    by Word text = word_by (mark_of_word text) (record { 0 = position_or_len (bytes_eq text) names }) (word_opens text)
-    by Number text = refl
+    by : (k : TokenKind) (text : List ℕ) → test (symbol_by k names text) ≡ is_mark m (sign_by k text)
+    by Word text = word_by (mark_of_word text) (record { 0 = position_or_len (bytes_eq text) names }) (no_word text)
+    by Number text = at_number _
     by Sign text = sign (mark_of_sign text)
+
+opens_same : (bytes : List ℕ) (names : List (List ℕ)) (t : Token) → begins_block (symbol_of bytes names t) ≡ is_sign bytes mark.OpenCurly t
+opens_same = sign_same mark.OpenCurly begins_block (λ n. refl) (λ z. refl) (λ x. refl) refl word_opens
 
 closes_same : (bytes : List ℕ) (names : List (List ℕ)) (t : Token) → ends_block (symbol_of bytes names t) ≡ is_sign bytes mark.CloseCurly t
-unfolding symbol_of
-closes_same bytes names t = by t.kind (text_of bytes t)
-  where
-    word_by : (o : Option Mark) (x : Name) → is_mark mark.CloseCurly o ≡ false → ends_block (mark_or o (s.Name x)) ≡ false
-    word_by None x e = refl
-    word_by (Some m) x e = e
-
-    sign : (o : Option Mark) → ends_block (mark_or o (s.Mark mark.Semicolon)) ≡ is_mark mark.CloseCurly o
-    sign None = refl
-    sign (Some m) = refl
-
-    by : (k : TokenKind) (text : List ℕ) → ends_block (symbol_by k names text) ≡ is_mark mark.CloseCurly (sign_by k text)
-    by Word text = word_by (mark_of_word text) (record { 0 = position_or_len (bytes_eq text) names }) (word_closes text)
-    by Number text = refl
-    by Sign text = sign (mark_of_sign text)
+closes_same = sign_same mark.CloseCurly ends_block (λ n. refl) (λ z. refl) (λ x. refl) refl word_closes
 
 -- no sign is both
 one_brace : (o : Option Mark) → is_mark mark.OpenCurly o ≡ true → is_mark mark.CloseCurly o ≡ false
@@ -236,7 +238,8 @@ depth_none false true zero apart few = refl
 depth_none false true (suc n) apart few = omega (arith, few)
 depth_none false false n apart few = omega (arith, few)
 
-module _ {T : Type 0} (f : T → Symbol) (p q : T → Bool) (p_is : (t : T) → begins_block (f t) ≡ p t) (q_is : (t : T) → ends_block (f t) ≡ q t) (apart : (t : T) → p t ≡ true → q t ≡ false) where
+module _ {T : Type 0} (f : T → Symbol) (p q : T → Bool) (p_is : (t : T) → begins_block (f t) ≡ p t)
+    (q_is : (t : T) → ends_block (f t) ≡ q t) (apart : (t : T) → p t ≡ true → q t ≡ false) where
   depth_of : (n : ℕ) (t : T) → depth_after n (f t) ≡ depth_by (p t) (q t) n
   depth_of n t = ap (λ (b : Bool). depth_by b (ends_block (f t)) n) (p_is t) ∙ ap (λ (b : Bool). depth_by (p t) b n) (q_is t)
 
@@ -244,7 +247,9 @@ module _ {T : Type 0} (f : T → Symbol) (p q : T → Bool) (p_is : (t : T) → 
   count r t ts = sum_by-cons (λ x. cond (r x) 1 0) t ts
 
   -- where more open than close up to the last of them, and no more at the end, they end a block
-  group_ends : (us : List T) (n : ℕ) (ahead : List Marked) → 0 < length us → ((k : ℕ) → 0 < k → k < length us → count_by q (take k us) < n + count_by p (take k us)) → n + count_by p us ≤ count_by q us → behind n (map plain (map f us) ++ ahead) ≡ Some ahead
+  group_ends : (us : List T) (n : ℕ) (ahead : List Marked) → 0 < length us →
+      ((k : ℕ) → 0 < k → k < length us → count_by q (take k us) < n + count_by p (take k us)) → n + count_by p us ≤ count_by q us →
+      behind n (map plain (map f us) ++ ahead) ≡ Some ahead
   group_ends [] n ahead some inside ends = absurd (omega (arith, some))
   group_ends (t ∷ []) n ahead some inside ends =
       let opening = count p t [] in
@@ -256,7 +261,8 @@ module _ {T : Type 0} (f : T → Symbol) (p q : T → Bool) (p_is : (t : T) → 
       let closing = count q t [] in
       let first = inside 1 (omega arith) (omega arith) in
       let more : cond (q t) 1 0 < n + cond (p t) 1 0 = omega (arith, first, opening, closing) in
-      let here : depth_after n (f t) + cond (q t) 1 0 ≡ n + cond (p t) 1 0 = ap (λ (k : ℕ). k + cond (q t) 1 0) (depth_of n t) ∙ depth_is (p t) (q t) n (apart t) more in
+      let here : depth_after n (f t) + cond (q t) 1 0 ≡ n + cond (p t) 1 0 =
+      ap (λ (k : ℕ). k + cond (q t) 1 0) (depth_of n t) ∙ depth_is (p t) (q t) n (apart t) more in
       let rest = map plain (map f (u ∷ us)) ++ ahead in
       let d = depth_after n (f t) in
       goes_on d rest (behind d rest) (omega (arith, here, more)) ∙
@@ -275,7 +281,8 @@ ok_not_err : (x : Code × List Symbol) (f : Fault) → (let a : Result (Code × 
 ok_not_err x f e = cc
 
 -- where tokens end with the brace that closes the first, and others stand after them, no block is refused at their end
-pub none_at_end : (bytes : List ℕ) (before : List (List ℕ)) (groups m : ℕ) (ts : List Token) → IsGroup bytes ts m → m < length ts → (f : Fault) → r.block (64 - groups) (token_symbols bytes before (take m ts)) ≡ Err f → f.left ≡ 0 → ⊥
+pub none_at_end : (bytes : List ℕ) (before : List (List ℕ)) (groups m : ℕ) (ts : List Token) → IsGroup bytes ts m → m < length ts →
+    (f : Fault) → r.block (64 - groups) (token_symbols bytes before (take m ts)) ≡ Err f → f.left ≡ 0 → ⊥
 none_at_end bytes before groups m ts group less f e none =
     let us = take m ts in
     let ss = token_symbols bytes before us in
@@ -286,16 +293,22 @@ none_at_end bytes before groups m ts group less f e none =
     let used : ss ≡ k.used = k.split ∙ ap (λ (l : List Symbol). k.used ++ l) empty ∙ append-nil k.used in
     let size = length-take-le m ts group.within in
     let names = names_after bytes before us in
-    let inside : (j : ℕ) → 0 < j → j < length us → many bytes mark.CloseCurly (take j us) < 0 + many bytes mark.OpenCurly (take j us) = λ j some few.
+    let inside : (j : ℕ) → 0 < j → j < length us → many bytes mark.CloseCurly (take j us) < 0 + many bytes mark.OpenCurly (take j us) =
+    λ j some few.
     let same : take j us ≡ take j ts = take-take j m ts (omega (arith, few, size)) in
     let P : List Token → Type 0 = λ l. many bytes mark.CloseCurly l < 0 + many bytes mark.OpenCurly l in
     let here = group.inside j some (omega (arith, few, size)) in
     subst P (sym same) (omega (arith, here)) in
     let closed : behind 0 (map plain ss ++ k.ahead) ≡ Some k.ahead =
-    group_ends (symbol_of bytes names) (is_sign bytes mark.OpenCurly) (is_sign bytes mark.CloseCurly) (opens_same bytes names) (closes_same bytes names) (λ t. one_brace (sign_by t.kind (text_of bytes t)))
-    us 0 k.ahead (let begun = group.begun (omega (arith, less)) in omega (arith, size, begun)) inside (let ends = group.ends less in omega (arith, ends)) in
-    let whole : behind 0 (map plain k.used ++ k.ahead) ≡ Some [] = ap (behind 0) (sym (append-nil (map plain k.used ++ k.ahead))) ∙ block_ends k.goes_on [] in
-    let nothing_more : k.ahead ≡ [] = some_same k.ahead [] (sym closed ∙ ap (λ (l : List Symbol). behind 0 (map plain l ++ k.ahead)) used ∙ whole) in
+    group_ends (symbol_of bytes names) (is_sign bytes mark.OpenCurly) (is_sign bytes mark.CloseCurly) (opens_same bytes names)
+    (closes_same bytes names) (λ t. one_brace (sign_by t.kind (text_of bytes t)))
+    us 0 k.ahead (let begun = group.begun (omega (arith, less)) in omega (arith, size, begun)) inside
+    (let ends = group.ends less in omega (arith, ends)) in
+    let whole : behind 0 (map plain k.used ++ k.ahead) ≡ Some [] =
+    ap (behind 0) (sym (append-nil (map plain k.used ++ k.ahead))) ∙ block_ends k.goes_on [] in
+    let nothing_more : k.ahead ≡ [] =
+    some_same k.ahead [] (sym closed ∙ ap (λ (l : List Symbol). behind 0 (map plain l ++ k.ahead)) used ∙ whole) in
     let G : List Marked → Type 0 = λ l. IsBlock groups l k.value in
-    let spelled : IsBlock groups (map plain k.used) k.value = subst G (ap (λ (l : List Marked). map plain k.used ++ l) nothing_more ∙ append-nil (map plain k.used)) k.goes_on in
+    let spelled : IsBlock groups (map plain k.used) k.value =
+    subst G (ap (λ (l : List Marked). map plain k.used ++ l) nothing_more ∙ append-nil (map plain k.used)) k.goes_on in
     ok_not_err (k.value, []) (fault f.kind []) (sym (block_reads groups k.used k.value spelled []) ∙ k.again [] (ap first (sym empty)))

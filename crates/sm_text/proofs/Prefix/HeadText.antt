@@ -1,5 +1,6 @@
 -- Each name of a head has a text. Where all that it assumes is declared, a text without the assumption spells its program.
-use Rattle.std.proofs.Common.{◌≡◌, ℕ, ◌==◌, Bool, true, false, true≢false, if◌then◌else◌, Option, Some, None, is_some, List, [], ◌∷◌, ◌++◌, map, unwrap_or, refl, sym, ap, ◌∙◌, subst, arith}
+use Rattle.std.proofs.Common.{◌≡◌, ℕ, ◌==◌, Bool, true, false, true≢false, if◌then◌else◌, Option, Some, None, is_some, List, [], ◌∷◌, ◌++◌}
+use Rattle.std.proofs.Common.{map, unwrap_or, refl, sym, ap, ◌∙◌, subst, arith}
 use Rattle.std.proofs.lemmas.Bool.Decides.{nat_tests}
 use Rattle.std.specs.List.{AllByRecursion}
 use Rattle.std.specs.Prelude.{slice_get}
@@ -18,34 +19,39 @@ use Rattle.sm_text.specs.printing.Pieces.{pieces_text}
 use Rattle.sm_text.specs.parsing.Places.{unmarked}
 use Rattle.sm_text.specs.Tasks.{ProgramParts, HeadParts}
 use Rattle.sm_text.specs.parsing.Prefix.{tokens_between, IsHead, head, SpellsHead, AssumesDeclared, IsNamedHead}
-use Rattle.sm_text.proofs.RoundTrip.Content.{content, both, content_of, content_tested, content_used, content_listed, content_declared, content_assumed, declarations_content, outputs_content, assumption_content, shared_content}
+use Rattle.sm_text.proofs.RoundTrip.Content.{content, both, content_of, content_tested, content_used, content_listed, content_declared}
+use Rattle.sm_text.proofs.RoundTrip.Content.{content_assumed, declarations_content, outputs_content, assumption_content, shared_content}
 use Rattle.sm_text.proofs.RoundTrip.Fitting.{IsClean, clean_left, clean_right, clean_plain}
 use Rattle.sm_text.proofs.RoundTrip.Parts.{content_of_program, program_content}
 use Rattle.sm_text.proofs.RoundTrip.Tasks.{AllIn, all_spelled, content_in, content_all, names_by-content, IsContent, pieces_again}
 use Rattle.sm_text.proofs.RoundTrip.TextTokens.{relexed}
 use Rattle.sm_text.proofs.RoundTrip.Symbols.{names_by, among_more, known_behind, names_are}
 use Rattle.sm_text.proofs.Prefix.Spaced.{spaced, spaced-symbols, spaced_apart, part_in}
-use Rattle.sm_text.proofs.RoundTrip.Spelled.{all_left, all_right, declared_written, listed_written, assumed_written, code_written, declared_named, outputs_named, assumed_named, code_named}
+use Rattle.sm_text.proofs.RoundTrip.Spelled.{all_left, all_right, declared_written, listed_written, assumed_written, code_written}
+use Rattle.sm_text.proofs.RoundTrip.Spelled.{declared_named, outputs_named, assumed_named, code_named}
 
 -- the text of a name
 abbrev text : List (List ℕ) → ℕ → List ℕ
 text names x = unwrap_or (slice_get names x) []
 
 -- the names after two lists of symbols
-names_by-append : (names before : List (List ℕ)) (us vs : List Symbol) → names_by names before (us ++ vs) ≡ names_by names (names_by names before us) vs
+names_by-append : (names before : List (List ℕ)) (us vs : List Symbol) →
+    names_by names before (us ++ vs) ≡ names_by names (names_by names before us) vs
 names_by-append names before [] vs = refl
 names_by-append names before (s.Mark m ∷ us) vs = names_by-append names before us vs
 names_by-append names before (s.Number z ∷ us) vs = names_by-append names before us vs
 names_by-append names before (s.Name x ∷ us) vs = names_by-append names (with_text before (text names x.0)) us vs
 
 -- what stood among the names stays there
-among_after : (names before : List (List ℕ)) (us : List Symbol) (t : List ℕ) → is_among before t ≡ true → is_among (names_by names before us) t ≡ true
+among_after : (names before : List (List ℕ)) (us : List Symbol) (t : List ℕ) → is_among before t ≡ true →
+    is_among (names_by names before us) t ≡ true
 among_after names before [] t h = h
 among_after names before (s.Mark m ∷ us) t h = among_after names before us t h
 among_after names before (s.Number z ∷ us) t h = among_after names before us t h
 among_after names before (s.Name x ∷ us) t h =
     let grown = grown-with_text before (text names x.0) in
-    among_after names (with_text before (text names x.0)) us t (ap (λ (l : List (List ℕ)). is_among l t) grown.1 ∙ among_more before grown.0 t h)
+    among_after names (with_text before (text names x.0)) us t (ap (λ (l : List (List ℕ)). is_among l t) grown.1
+    ∙ among_more before grown.0 t h)
 
 -- a name whose text stood before
 abbrev IsHere : List (List ℕ) → List (List ℕ) → Symbol → Type 0
@@ -54,19 +60,23 @@ IsHere names before (s.Number z) = Unit {0}
 IsHere names before (s.Name x) = is_among before (text names x.0) ≡ true
 
 -- such names add nothing
-nothing_new : (names before : List (List ℕ)) (us : List Symbol) → AllByRecursion (IsHere names before) us → names_by names before us ≡ before
+nothing_new : (names before : List (List ℕ)) (us : List Symbol) → AllByRecursion (IsHere names before) us →
+    names_by names before us ≡ before
 nothing_new names before [] all = refl
 nothing_new names before (s.Mark m ∷ us) all = nothing_new names before us all.1
 nothing_new names before (s.Number z ∷ us) all = nothing_new names before us all.1
-nothing_new names before (s.Name x ∷ us) all = ap (λ (l : List (List ℕ)). names_by names l us) (with_text-among before (text names x.0) all.0) ∙ nothing_new names before us all.1
+nothing_new names before (s.Name x ∷ us) all =
+    ap (λ (l : List (List ℕ)). names_by names l us) (with_text-among before (text names x.0) all.0) ∙ nothing_new names before us all.1
 
 -- the text of a declared name stands among the names after the declarations
-declared_among : (names before : List (List ℕ)) (ds : List (ℕ × Sort)) (x : ℕ) → is_some (sort_of ds x) ≡ true → is_among (names_by names before (content_declared ds)) (text names x) ≡ true
+declared_among : (names before : List (List ℕ)) (ds : List (ℕ × Sort)) (x : ℕ) → is_some (sort_of ds x) ≡ true →
+    is_among (names_by names before (content_declared ds)) (text names x) ≡ true
 declared_among names before [] x h = absurd (true≢false (sym h))
 declared_among names before (d ∷ ds) x h = by (d.0 == x) refl h (declared_among names (with_text before (text names d.0)) ds x)
   where
     by : (b : Bool) → (d.0 == x) ≡ b → is_some (if b then Some d.1 else sort_of ds x) ≡ true →
-        (is_some (sort_of ds x) ≡ true → is_among (names_by names (with_text before (text names d.0)) (content_declared ds)) (text names x) ≡ true) →
+        (is_some (sort_of ds x) ≡ true → is_among (names_by names (with_text before (text names d.0)) (content_declared ds))
+        (text names x) ≡ true) →
         is_among (names_by names (with_text before (text names d.0)) (content_declared ds)) (text names x) ≡ true
     by true e h more =
         let same : d.0 ≡ x = grind (arith, nat_tests) in
@@ -78,29 +88,39 @@ all_of : {T : Type 0} (P : T → Type 0) (xs ys : List T) → AllByRecursion P x
 all_of P [] ys one two = two
 all_of P (x ∷ xs) ys one two = (one.0, all_of P xs ys one.1 two)
 
-module _ (names before : List (List ℕ)) (ds : List (ℕ × Sort)) (here : (x : ℕ) → is_some (sort_of ds x) ≡ true → is_among before (text names x) ≡ true) where
+module _ (names before : List (List ℕ)) (ds : List (ℕ × Sort)) (here : (x : ℕ) → is_some (sort_of ds x) ≡ true →
+    is_among before (text names x) ≡ true) where
   abbrev IsDeclared : ℕ × Sort → Type 0
   IsDeclared x = is_some (sort_of ds x.0) ≡ true
 
-  both_here : (xs ys : List (ℕ × Sort)) (us vs : List Symbol) → (AllByRecursion IsDeclared xs → AllByRecursion (IsHere names before) us) → (AllByRecursion IsDeclared ys → AllByRecursion (IsHere names before) vs) → AllByRecursion IsDeclared (xs ++ ys) → AllByRecursion (IsHere names before) (us ++ vs)
-  both_here xs ys us vs one two all = all_of (IsHere names before) us vs (one (all_left IsDeclared xs ys all)) (two (all_right IsDeclared xs ys all))
+  both_here : (xs ys : List (ℕ × Sort)) (us vs : List Symbol) → (AllByRecursion IsDeclared xs → AllByRecursion (IsHere names before) us) →
+      (AllByRecursion IsDeclared ys → AllByRecursion (IsHere names before) vs) → AllByRecursion IsDeclared (xs ++ ys) →
+      AllByRecursion (IsHere names before) (us ++ vs)
+  both_here xs ys us vs one two all =
+      all_of (IsHere names before) us vs (one (all_left IsDeclared xs ys all)) (two (all_right IsDeclared xs ys all))
 
   expression_here : (e : Expression) → AllByRecursion IsDeclared (names_in e) → AllByRecursion (IsHere names before) (content_of e)
   expression_here (Lit z) all = (tt, tt)
   expression_here (Var x) all = (here x all.0, tt)
   expression_here (Read a i) all = (here a all.0, expression_here i all.1)
   expression_here (Neg e) all = expression_here e all
-  expression_here (Plus d e) all = both_here (names_in d) (names_in e) (content_of d) (content_of e) (expression_here d) (expression_here e) all
-  expression_here (Minus d e) all = both_here (names_in d) (names_in e) (content_of d) (content_of e) (expression_here d) (expression_here e) all
-  expression_here (Times d e) all = both_here (names_in d) (names_in e) (content_of d) (content_of e) (expression_here d) (expression_here e) all
+  expression_here (Plus d e) all =
+      both_here (names_in d) (names_in e) (content_of d) (content_of e) (expression_here d) (expression_here e) all
+  expression_here (Minus d e) all =
+      both_here (names_in d) (names_in e) (content_of d) (content_of e) (expression_here d) (expression_here e) all
+  expression_here (Times d e) all =
+      both_here (names_in d) (names_in e) (content_of d) (content_of e) (expression_here d) (expression_here e) all
 
   condition_here : (b : Condition) → AllByRecursion IsDeclared (names_tested b) → AllByRecursion (IsHere names before) (content_tested b)
   condition_here Yes all = tt
   condition_here No all = tt
-  condition_here (Compare op d e) all = both_here (names_in d) (names_in e) (content_of d) (content_of e) (expression_here d) (expression_here e) all
+  condition_here (Compare op d e) all =
+      both_here (names_in d) (names_in e) (content_of d) (content_of e) (expression_here d) (expression_here e) all
   condition_here (Not b) all = condition_here b all
-  condition_here (And b c) all = both_here (names_tested b) (names_tested c) (content_tested b) (content_tested c) (condition_here b) (condition_here c) all
-  condition_here (Or b c) all = both_here (names_tested b) (names_tested c) (content_tested b) (content_tested c) (condition_here b) (condition_here c) all
+  condition_here (And b c) all =
+      both_here (names_tested b) (names_tested c) (content_tested b) (content_tested c) (condition_here b) (condition_here c) all
+  condition_here (Or b c) all =
+      both_here (names_tested b) (names_tested c) (content_tested b) (content_tested c) (condition_here b) (condition_here c) all
 
   assumed_here : (o : Option Condition) → AssumesDeclared ds o → AllByRecursion (IsHere names before) (content_assumed o)
   assumed_here None all = tt
@@ -108,7 +128,8 @@ module _ (names before : List (List ℕ)) (ds : List (ℕ × Sort)) (here : (x :
 
 -- the names and numbers of a head
 abbrev content_of_head : HeadParts → List Symbol
-content_of_head h = content_declared h.program.declared ++ (content_listed h.program.outputs ++ (content_assumed h.assumed ++ content_used h.program.body))
+content_of_head h = content_declared
+    h.program.declared ++ (content_listed h.program.outputs ++ (content_assumed h.assumed ++ content_used h.program.body))
 
 head_content : {ts : List Marked} {h : HeadParts} → IsHead ts h → content ts ≡ content_of_head h
 head_content (head {ts = ts} {us = us} {vs = vs} {ws = ws} h decls outs assume body) =
@@ -127,7 +148,8 @@ head_has bytes n h spells =
     let ts = map (symbol_of bytes names) part in
     let C : List Symbol → Type 0 = λ l. IsContent names l in
     let all = content_in names ts (part_in bytes 0 n [] names spells.numbered) in
-    let numbered = names_by-content names [] ts ∙ names_are bytes names [] part (known_behind bytes [] part names spells.numbered) ∙ sym spells.numbered in
+    let numbered = names_by-content names [] ts ∙ names_are bytes names [] part (known_behind bytes [] part names spells.numbered)
+    ∙ sym spells.numbered in
     subst C (head_content spells.grammar) (record { all = all; numbered = numbered })
 
 -- each name of a head has a text
@@ -151,7 +173,8 @@ head_named bytes n h spells =
     }
 
 -- what it has of the head's program, where all that is assumed is declared
-program_of_head_has : (bytes : List ℕ) (n : ℕ) (h : HeadParts) → SpellsHead bytes n h → AssumesDeclared h.program.declared h.assumed → IsContent h.program.names (content_of_program h.program)
+program_of_head_has : (bytes : List ℕ) (n : ℕ) (h : HeadParts) → SpellsHead bytes n h → AssumesDeclared h.program.declared h.assumed →
+    IsContent h.program.names (content_of_program h.program)
 program_of_head_has bytes n h spells declared =
     let names = h.program.names in
     let d = content_declared h.program.declared in
@@ -163,11 +186,14 @@ program_of_head_has bytes n h spells declared =
     let last = all_right _ x (v ++ c) rest in
     let one = names_by names [] d in
     let two = names_by names one x in
-    let here : (y : ℕ) → is_some (sort_of h.program.declared y) ≡ true → is_among two (text names y) ≡ true = λ y some. among_after names one x (text names y) (declared_among names [] h.program.declared y some) in
+    let here : (y : ℕ) → is_some (sort_of h.program.declared y) ≡ true → is_among two (text names y) ≡ true =
+    λ y some. among_after names one x (text names y) (declared_among names [] h.program.declared y some) in
     let same : names_by names two v ≡ two = nothing_new names two v (assumed_here names two h.program.declared here h.assumed declared) in
     let with_it : names_by names [] (d ++ (x ++ (v ++ c))) ≡ names_by names two c =
-    names_by-append names [] d (x ++ (v ++ c)) ∙ names_by-append names one x (v ++ c) ∙ names_by-append names two v c ∙ ap (λ (l : List (List ℕ)). names_by names l c) same in
-    let without_it : names_by names [] (d ++ (x ++ c)) ≡ names_by names two c = names_by-append names [] d (x ++ c) ∙ names_by-append names one x c in
+    names_by-append names [] d (x ++ (v ++ c)) ∙ names_by-append names one x (v ++ c) ∙ names_by-append names two v c
+    ∙ ap (λ (l : List (List ℕ)). names_by names l c) same in
+    let without_it : names_by names [] (d ++ (x ++ c)) ≡ names_by names two c =
+    names_by-append names [] d (x ++ c) ∙ names_by-append names one x c in
     record {
       all = all_of _ d (x ++ c) (all_left _ d (x ++ (v ++ c)) has.all) (all_of _ x c (all_left _ x (v ++ c) rest) (all_right _ v c last));
       numbered = without_it ∙ sym with_it ∙ has.numbered;
@@ -176,7 +202,8 @@ program_of_head_has bytes n h spells declared =
 -- where nothing nests too deep, the marks say nothing
 plain_again : (ts : List Marked) → IsClean ts → map plain (unmarked ts) ≡ ts
 plain_again [] clean = refl
-plain_again (t ∷ ts) clean = ap (λ (b : Bool). (t.0, b) ∷ map plain (unmarked ts)) (sym clean.0) ∙ ap (λ (l : List Marked). t ∷ l) (plain_again ts clean.1)
+plain_again (t ∷ ts) clean =
+    ap (λ (b : Bool). (t.0, b) ∷ map plain (unmarked ts)) (sym clean.0) ∙ ap (λ (l : List Marked). t ∷ l) (plain_again ts clean.1)
 
 clean_both : (ts us : List Marked) → IsClean ts → IsClean us → IsClean (ts ++ us)
 clean_both [] us one two = two
@@ -192,12 +219,14 @@ program_of_head (head {ts = ts} {us = us} {vs = vs} {ws = ws} h decls outs assum
     let behind = clean_right ts (us ++ (vs ++ ws)) clean in
     let all = ts ++ (us ++ ws) in
     let alone : IsClean all =
-    clean_both ts (us ++ ws) (clean_left ts (us ++ (vs ++ ws)) clean) (clean_both us ws (clean_left us (vs ++ ws) behind) (clean_right vs ws (clean_right us (vs ++ ws) behind))) in
+    clean_both ts (us ++ ws) (clean_left ts (us ++ (vs ++ ws)) clean)
+    (clean_both us ws (clean_left us (vs ++ ws) behind) (clean_right vs ws (clean_right us (vs ++ ws) behind))) in
     let G : List Marked → Type 0 = λ l. IsProgram l h.program in
     record { symbols = unmarked all; grammar = subst G (sym (plain_again all alone)) (program h.program decls outs body) }
 
 -- some text spells it, where all that is assumed is declared
-pub head_has_text : (bytes : List ℕ) (n : ℕ) (h : HeadParts) → SpellsHead bytes n h → AssumesDeclared h.program.declared h.assumed → HasProgramText h.program
+pub head_has_text : (bytes : List ℕ) (n : ℕ) (h : HeadParts) → SpellsHead bytes n h → AssumesDeclared h.program.declared h.assumed →
+    HasProgramText h.program
 head_has_text bytes n h spells declared =
     let p = h.program in
     let names = p.names in

@@ -1,5 +1,6 @@
 -- What the tokens of a part of a text spell, a text of its own spells: their symbols, each before a space.
-use Rattle.std.proofs.Common.{◌≡◌, ℕ, zero, suc, ◌-◌, Bool, true, false, List, [], ◌∷◌, map, take, drop, refl, sym, ap, ◌∙◌, subst, arith, if◌then◌else◌, ◌==◌}
+use Rattle.std.proofs.Common.{◌≡◌, ℕ, zero, suc, ◌-◌, Bool, true, false, List, [], ◌∷◌, map, take, drop, refl, sym, ap, ◌∙◌, subst, arith}
+use Rattle.std.proofs.Common.{if◌then◌else◌, ◌==◌}
 use Rattle.std.specs.List.{AllByRecursion}
 use Rattle.sm_syntax.specs.declared.symbol.Symbol.{Symbol}
 use Rattle.sm_syntax.specs.declared.symbol.Symbol.TheVariants as s
@@ -18,7 +19,8 @@ use Rattle.sm_text.proofs.RoundTrip.Parts.{IsUnder, pieces_under}
 use Rattle.sm_text.proofs.RoundTrip.Tasks.{AllIn, content_in}
 use Rattle.sm_text.proofs.RoundTrip.TextTokens.{goes_on, AreApart}
 use Rattle.sm_text.proofs.RoundTrip.PieceTokens.{is_reserved}
-use Rattle.sm_text.proofs.RoundTrip.Symbols.{IsGoodToken, tokens_good, known_behind, symbols_are_in}
+use Rattle.sm_text.proofs.RoundTrip.TokenBytes.{IsGoodToken, tokens_good}
+use Rattle.sm_text.proofs.RoundTrip.Symbols.{known_behind, symbols_are_in}
 
 -- symbols, each before a space
 abbrev pub spaced : List Symbol → List Piece
@@ -54,18 +56,25 @@ all_dropped P (suc n) [] all = tt
 all_dropped P (suc n) (t ∷ ts) all = all_dropped P n ts all.1
 
 -- the symbols of tokens of a text may stand in a text, under the names that were known and theirs
-pub part_in : (bytes : List ℕ) (at n : ℕ) (before names : List (List ℕ)) → names ≡ names_after bytes before (tokens_between at n (lexed bytes).0) → AllIn names (map (symbol_of bytes names) (tokens_between at n (lexed bytes).0))
+pub part_in : (bytes : List ℕ) (at n : ℕ) (before names : List (List ℕ)) →
+    names ≡ names_after bytes before (tokens_between at n (lexed bytes).0) →
+    AllIn names (map (symbol_of bytes names) (tokens_between at n (lexed bytes).0))
 part_in bytes at n before names numbered =
     let tokens = (lexed bytes).0 in
     let part = tokens_between at n tokens in
-    symbols_are_in bytes names part (all_taken (IsGoodToken bytes) (n - at) (drop at tokens) (all_dropped (IsGoodToken bytes) at tokens (tokens_good bytes))) (known_behind bytes before part names numbered)
+    symbols_are_in bytes names part
+    (all_taken (IsGoodToken bytes) (n - at) (drop at tokens) (all_dropped (IsGoodToken bytes) at tokens (tokens_good bytes)))
+    (known_behind bytes before part names numbered)
 
 -- a text of symbols that may stand in one
 pub spaced_under : (names : List (List ℕ)) (ts : List Symbol) → AllIn names ts → IsUnder names (spaced ts)
-spaced_under names ts all = pieces_under names (spaced ts) (content (map plain ts)) (content_in names ts all) (ap (λ (l : List Symbol). content (map plain l)) (spaced-symbols ts)) (spaced_apart names ts all)
+spaced_under names ts all =
+    pieces_under names (spaced ts) (content (map plain ts)) (content_in names ts all)
+    (ap (λ (l : List Symbol). content (map plain l)) (spaced-symbols ts)) (spaced_apart names ts all)
 
 -- some text spells a block that tokens of a text spell
-pub block_has_text : (bytes : List ℕ) (at groups n : ℕ) (before names : List (List ℕ)) (c : Code) → SpellsBlockAt bytes at groups before n names c → HasBlockText names c
+pub block_has_text : (bytes : List ℕ) (at groups n : ℕ) (before names : List (List ℕ)) (c : Code) →
+    SpellsBlockAt bytes at groups before n names c → HasBlockText names c
 block_has_text bytes at groups n before names c spells =
     let ts = map (symbol_of bytes names) (tokens_between at n (lexed bytes).0) in
     let it = spaced_under names ts (part_in bytes at n before names spells.numbered) in

@@ -1,5 +1,6 @@
 -- In canonical pieces nothing after a token goes on with it.
-use Rattle.std.proofs.Common.{◌≡◌, ℕ, ℤ, pos, negsuc, ◌^◌, lit<, ◌<◌, Bool, true, false, ◌==◌, List, [], ◌∷◌, ◌++◌, length, unwrap_or, if◌then◌else◌, refl, sym, subst, append_assoc, arith}
+use Rattle.std.proofs.Common.{◌≡◌, ℕ, ℤ, pos, negsuc, ◌^◌, lit<, ◌<◌, Bool, true, false, ◌==◌, List, [], ◌∷◌, ◌++◌, length, unwrap_or}
+use Rattle.std.proofs.Common.{if◌then◌else◌, refl, sym, subst, append_assoc, arith}
 use Rattle.std.proofs.lemmas.Bool.Decides.{nat_tests}
 use Rattle.std.proofs.lemmas.Fmt.{decimal_is_IsNumeral_wide}
 use Rattle.std.specs.Char.{is_ascii_digit}
@@ -11,12 +12,12 @@ use Rattle.sm_syntax.specs.declared.symbol.Mark.TheVariants as mark
 use Rattle.sm_syntax.specs.declared.symbol.Symbol.{Symbol}
 use Rattle.sm_syntax.specs.declared.symbol.Symbol.TheVariants as s
 use Rattle.sm_syntax.specs.declared.tree.Cmp.{Cmp}
-use Rattle.sm_syntax.specs.declared.tree.Cmp.TheVariants.{Eq, Ne, Lt, Le, Gt, Ge}
 use Rattle.sm_syntax.specs.text.ConditionGrammar.{comparison}
 use Rattle.sm_syntax.specs.claim.Syntax.{Expression, Lit, Var, Read, Neg, Plus, Minus, Times, Condition, Yes, No, Compare, Not, And, Or}
 use Rattle.sm_syntax.specs.text.Tokens.{is_word_start, is_word_byte}
 use Rattle.sm_text.specs.printing.Pieces.{Piece, pieces_text, mark_piece, number_piece, name_piece, space}
 use Rattle.sm_text.specs.printing.Canonical.{between, is_atom, operand, expression_pieces, is_test, part, condition_pieces}
+use Rattle.sm_text.proofs.Sound.Conditions.{each_comparison}
 use Rattle.sm_text.proofs.RoundTrip.PieceTokens.{begins, is_reserved, goes_on_mark, both-left, digits_of_decimal}
 use Rattle.sm_text.proofs.RoundTrip.TextTokens.{goes_on, IsNameText, IsLiteral, AreApart}
 
@@ -54,7 +55,8 @@ name_safe : (text v : List ℕ) → IsNameText text → begins (λ b. b == 61) (
 name_safe [] v good = let no = good.start in cc
 name_safe (b ∷ u) v good = let start : is_word_start b ≡ true = good.start in grind (arith, nat_tests)
 
-pub name_runs : (names : List (List ℕ)) (x : ℕ) (ps : List Piece) → IsNameText (unwrap_or (slice_get names x) []) → AreApart names ps → IsClosed names ps → Runs names (name_piece x ∷ ps)
+pub name_runs : (names : List (List ℕ)) (x : ℕ) (ps : List Piece) → IsNameText (unwrap_or (slice_get names x) []) → AreApart names ps →
+    IsClosed names ps → Runs names (name_piece x ∷ ps)
 name_runs names x ps good apart behind =
     record {
       apart = (good, behind.closed (s.Name (record { 0 = x })), apart);
@@ -77,7 +79,8 @@ RunsBefore names ps = (rest : List Piece) → AreApart names rest → IsClosed n
 
 -- a group between a sign that no sign goes on with, and another
 grouped_runs : (names : List (List ℕ)) (first last : Mark) (ps : List Piece) →
-    ((qs : List Piece) → begins (λ b. b == 61) (pieces_text names qs) ≡ false → begins (goes_on_mark first) (pieces_text names qs) ≡ false) →
+    ((qs : List Piece) → begins (λ b. b == 61) (pieces_text names qs) ≡ false →
+    begins (goes_on_mark first) (pieces_text names qs) ≡ false) →
     ((qs : List Piece) → begins (λ b. b == 61) (pieces_text names (mark_piece first ∷ qs)) ≡ false) →
     ((qs : List Piece) → IsClosed names (mark_piece last ∷ qs)) →
     ((rest : List Piece) → IsClosed names rest → begins (goes_on_mark last) (pieces_text names rest) ≡ false) →
@@ -91,14 +94,18 @@ grouped_runs names first last ps opens begun closes ends inside rest apart behin
     })
 
 -- parentheses
-round_runs : (names : List (List ℕ)) (ps : List Piece) → RunsBefore names ps → RunsBefore names (mark_piece mark.OpenRound ∷ (ps ++ mark_piece mark.CloseRound ∷ []))
+round_runs : (names : List (List ℕ)) (ps : List Piece) → RunsBefore names ps →
+    RunsBefore names (mark_piece mark.OpenRound ∷ (ps ++ mark_piece mark.CloseRound ∷ []))
 round_runs names ps inside =
-    grouped_runs names mark.OpenRound mark.CloseRound ps (λ qs h. h) (λ qs. refl) (round_closed names) (λ rest h. h.closed (s.Mark mark.CloseRound)) inside
+    grouped_runs names mark.OpenRound mark.CloseRound ps (λ qs h. h) (λ qs. refl) (round_closed names)
+    (λ rest h. h.closed (s.Mark mark.CloseRound)) inside
 
 -- brackets
-pub square_runs : (names : List (List ℕ)) (ps : List Piece) → RunsBefore names ps → RunsBefore names (mark_piece mark.OpenSquare ∷ (ps ++ mark_piece mark.CloseSquare ∷ []))
+pub square_runs : (names : List (List ℕ)) (ps : List Piece) → RunsBefore names ps →
+    RunsBefore names (mark_piece mark.OpenSquare ∷ (ps ++ mark_piece mark.CloseSquare ∷ []))
 square_runs names ps inside =
-    grouped_runs names mark.OpenSquare mark.CloseSquare ps (λ qs h. h) (λ qs. refl) (square_closed names) (λ rest h. h.closed (s.Mark mark.CloseSquare)) inside
+    grouped_runs names mark.OpenSquare mark.CloseSquare ps (λ qs h. h) (λ qs. refl) (square_closed names)
+    (λ rest h. h.closed (s.Mark mark.CloseSquare)) inside
 
 -- an operand
 operand_runs : (names : List (List ℕ)) (b : Bool) (ps : List Piece) → RunsBefore names ps → RunsBefore names (operand b ps)
@@ -106,7 +113,8 @@ operand_runs names true ps inside = inside
 operand_runs names false ps inside = round_runs names ps inside
 
 -- two parts with a sign between them
-between_runs : (names : List (List ℕ)) (ps qs : List Piece) (m : Mark) → begins (goes_on_mark m) (32 ∷ []) ≡ false → RunsBefore names ps → RunsBefore names qs → RunsBefore names (between ps m qs)
+between_runs : (names : List (List ℕ)) (ps qs : List Piece) (m : Mark) → begins (goes_on_mark m) (32 ∷ []) ≡ false → RunsBefore names ps →
+    RunsBefore names qs → RunsBefore names (between ps m qs)
 between_runs names ps qs m ends left right rest apart behind =
     let P : List Piece → Type 0 = λ l. Runs names l in
     let after = right rest apart behind in
@@ -129,25 +137,31 @@ literal_runs names (pos n) good rest apart behind =
     }
 literal_runs names (negsuc n) good rest apart behind = absurd good
 
+-- two operands with an operator between them
+operands_runs : (names : List (List ℕ)) (d e : Expression) (m : Mark) → begins (goes_on_mark m) (32 ∷ []) ≡ false →
+    RunsBefore names (expression_pieces d) → RunsBefore names (expression_pieces e) →
+    RunsBefore names (between (operand (is_atom d) (expression_pieces d)) m (operand (is_atom e) (expression_pieces e)))
+operands_runs names d e m ends left right =
+    between_runs names (operand (is_atom d) (expression_pieces d)) (operand (is_atom e) (expression_pieces e)) m ends
+    (operand_runs names (is_atom d) (expression_pieces d) left) (operand_runs names (is_atom e) (expression_pieces e) right)
+
 -- an expression's pieces are apart, and so is what follows them where no token goes on with it
 pub expression_runs : (names : List (List ℕ)) (e : Expression) → IsWritten names e → RunsBefore names (expression_pieces e)
 expression_runs names (Lit z) good = literal_runs names z good
 expression_runs names (Var x) good = λ rest apart behind. name_runs names x rest good apart behind
 expression_runs names (Read a i) good = λ rest apart behind.
     let inner = square_runs names (expression_pieces i) (expression_runs names i good.1) rest apart behind in
-    name_runs names a ((mark_piece mark.OpenSquare ∷ (expression_pieces i ++ mark_piece mark.CloseSquare ∷ [])) ++ rest) good.0 inner.apart (record { closed = closed_at 91 refl refl })
+    name_runs names a ((mark_piece mark.OpenSquare ∷ (expression_pieces i ++ mark_piece mark.CloseSquare ∷ [])) ++ rest) good.0 inner.apart
+    (record { closed = closed_at 91 refl refl })
 expression_runs names (Neg e) good = λ rest apart behind.
     let inner = operand_runs names (is_atom e) (expression_pieces e) (expression_runs names e good) rest apart behind in
     record { apart = (tt, inner.safe, inner.apart); safe = refl }
 expression_runs names (Plus d e) good =
-    between_runs names (operand (is_atom d) (expression_pieces d)) (operand (is_atom e) (expression_pieces e)) mark.Plus refl
-    (operand_runs names (is_atom d) (expression_pieces d) (expression_runs names d good.0)) (operand_runs names (is_atom e) (expression_pieces e) (expression_runs names e good.1))
+    operands_runs names d e mark.Plus refl (expression_runs names d good.0) (expression_runs names e good.1)
 expression_runs names (Minus d e) good =
-    between_runs names (operand (is_atom d) (expression_pieces d)) (operand (is_atom e) (expression_pieces e)) mark.Minus refl
-    (operand_runs names (is_atom d) (expression_pieces d) (expression_runs names d good.0)) (operand_runs names (is_atom e) (expression_pieces e) (expression_runs names e good.1))
+    operands_runs names d e mark.Minus refl (expression_runs names d good.0) (expression_runs names e good.1)
 expression_runs names (Times d e) good =
-    between_runs names (operand (is_atom d) (expression_pieces d)) (operand (is_atom e) (expression_pieces e)) mark.Star refl
-    (operand_runs names (is_atom d) (expression_pieces d) (expression_runs names d good.0)) (operand_runs names (is_atom e) (expression_pieces e) (expression_runs names e good.1))
+    operands_runs names d e mark.Star refl (expression_runs names d good.0) (expression_runs names e good.1)
 
 -- a condition that a text may have
 abbrev pub IsTested : List (List ℕ) → Condition → Type 0
@@ -162,27 +176,27 @@ part_runs : (names : List (List ℕ)) (t : Bool) (ps : List Piece) → RunsBefor
 part_runs names true ps inside = inside
 part_runs names false ps inside = square_runs names ps inside
 
+-- two parts with an operator between them
+parts_runs : (names : List (List ℕ)) (b c : Condition) (m : Mark) → begins (goes_on_mark m) (32 ∷ []) ≡ false →
+    RunsBefore names (condition_pieces b) → RunsBefore names (condition_pieces c) →
+    RunsBefore names (between (part (is_test b) (condition_pieces b)) m (part (is_test c) (condition_pieces c)))
+parts_runs names b c m ends left right =
+    between_runs names (part (is_test b) (condition_pieces b)) (part (is_test c) (condition_pieces c)) m ends
+    (part_runs names (is_test b) (condition_pieces b) left) (part_runs names (is_test c) (condition_pieces c) right)
+
 -- nothing goes on with a sign before a space
 comparison_ends : (op : Cmp) → begins (goes_on_mark (comparison op)) (32 ∷ []) ≡ false
-comparison_ends Eq = refl
-comparison_ends Ne = refl
-comparison_ends Lt = refl
-comparison_ends Le = refl
-comparison_ends Gt = refl
-comparison_ends Ge = refl
+comparison_ends = each_comparison (λ m. begins (goes_on_mark m) (32 ∷ []) ≡ false) refl refl refl refl refl refl
 
 -- the same of a condition
 pub condition_runs : (names : List (List ℕ)) (b : Condition) → IsTested names b → RunsBefore names (condition_pieces b)
 condition_runs names Yes good = λ rest apart behind. record { apart = (tt, behind.closed (s.Mark mark.True), apart); safe = refl }
 condition_runs names No good = λ rest apart behind. record { apart = (tt, behind.closed (s.Mark mark.False), apart); safe = refl }
 condition_runs names (Compare op d e) good =
-    between_runs names (expression_pieces d) (expression_pieces e) (comparison op) (comparison_ends op) (expression_runs names d good.0) (expression_runs names e good.1)
+    between_runs names (expression_pieces d) (expression_pieces e) (comparison op) (comparison_ends op) (expression_runs names d good.0)
+    (expression_runs names e good.1)
 condition_runs names (Not b) good = λ rest apart behind.
     let inner = part_runs names (is_test b) (condition_pieces b) (condition_runs names b good) rest apart behind in
     record { apart = (tt, inner.safe, inner.apart); safe = refl }
-condition_runs names (And b c) good =
-    between_runs names (part (is_test b) (condition_pieces b)) (part (is_test c) (condition_pieces c)) mark.Both refl
-    (part_runs names (is_test b) (condition_pieces b) (condition_runs names b good.0)) (part_runs names (is_test c) (condition_pieces c) (condition_runs names c good.1))
-condition_runs names (Or b c) good =
-    between_runs names (part (is_test b) (condition_pieces b)) (part (is_test c) (condition_pieces c)) mark.Either refl
-    (part_runs names (is_test b) (condition_pieces b) (condition_runs names b good.0)) (part_runs names (is_test c) (condition_pieces c) (condition_runs names c good.1))
+condition_runs names (And b c) good = parts_runs names b c mark.Both refl (condition_runs names b good.0) (condition_runs names c good.1)
+condition_runs names (Or b c) good = parts_runs names b c mark.Either refl (condition_runs names b good.0) (condition_runs names c good.1)

@@ -1,5 +1,6 @@
 -- In canonical code nothing after a token goes on with it.
-use Rattle.std.proofs.Common.{◌≡◌, ℕ, lit<, ◌^◌, ◌<◌, true, false, ◌==◌, List, [], ◌∷◌, ◌++◌, unwrap_or, refl, sym, subst, append_assoc, arith}
+use Rattle.std.proofs.Common.{◌≡◌, ℕ, lit<, ◌^◌, ◌<◌, true, false, ◌==◌, List, [], ◌∷◌, ◌++◌, unwrap_or, refl, sym, subst, append_assoc}
+use Rattle.std.proofs.Common.{arith}
 use Rattle.std.proofs.lemmas.Fmt.{decimal_is_IsNumeral_wide}
 use Rattle.std.specs.Fmt.{decimal}
 use Rattle.std.specs.List.{list_all}
@@ -9,29 +10,38 @@ use Rattle.sm_syntax.specs.declared.symbol.Symbol.TheVariants as s
 use Rattle.sm_syntax.specs.claim.Syntax.{Condition, Code, End, Skip, Assign, Write, If, While, Hole}
 use Rattle.sm_syntax.specs.text.Tokens.{is_space}
 use Rattle.sm_text.specs.printing.Pieces.{Piece, Gap, pieces_text, mark_piece, name_piece, space, line_end, deeper, line}
-use Rattle.sm_text.specs.printing.Canonical.{element_pieces, expression_pieces, condition_pieces, braces, branches, guard_pieces, code_pieces}
+use Rattle.sm_text.specs.printing.Canonical.{element_pieces, expression_pieces, condition_pieces, braces, branches, guard_pieces}
+use Rattle.sm_text.specs.printing.Canonical.{code_pieces}
 use Rattle.sm_text.proofs.RoundTrip.PieceTokens.{begins, digits_of_decimal}
 use Rattle.sm_text.proofs.RoundTrip.TextTokens.{IsNameText, AreApart}
-use Rattle.sm_text.proofs.RoundTrip.Apart.{decimal_safe, IsClosed, Runs, RunsBefore, IsWritten, IsTested, closed_at, name_runs, square_runs, expression_runs, condition_runs, space_closed}
+use Rattle.sm_text.proofs.RoundTrip.Apart.{decimal_safe, IsClosed, Runs, RunsBefore, IsWritten, IsTested, closed_at, name_runs, square_runs}
+use Rattle.sm_text.proofs.RoundTrip.Apart.{expression_runs, condition_runs, space_closed}
 
 -- pieces before a semicolon
 pub ended_runs : (names : List (List ℕ)) (ps : List Piece) → RunsBefore names ps → RunsBefore names (ps ++ mark_piece mark.Semicolon ∷ [])
 ended_runs names ps inside rest apart behind =
     let P : List Piece → Type 0 = λ l. Runs names l in
     subst P (sym (append_assoc ps (mark_piece mark.Semicolon ∷ []) rest))
-    (inside (mark_piece mark.Semicolon ∷ rest) (tt, behind.closed (s.Mark mark.Semicolon), apart) (record { closed = closed_at 59 refl refl }))
+    (inside (mark_piece mark.Semicolon ∷ rest) (tt, behind.closed (s.Mark mark.Semicolon), apart)
+    (record { closed = closed_at 59 refl refl }))
 
 -- a line
-pub line_apart : (names : List (List ℕ)) (margin : List ℕ) (ps rest : List Piece) → list_all is_space margin ≡ true → RunsBefore names ps → AreApart names rest → AreApart names (line margin ps ++ rest)
+pub line_apart : (names : List (List ℕ)) (margin : List ℕ) (ps rest : List Piece) → list_all is_space margin ≡ true → RunsBefore names ps →
+    AreApart names rest → AreApart names (line margin ps ++ rest)
 line_apart names margin ps rest white inside apart =
-    let P : List Piece → Type 0 = λ l. AreApart names l in
-    (white, subst P (sym (append_assoc ps (line_end ∷ []) rest)) (inside (line_end ∷ rest) (refl, apart) (record { closed = closed_at 10 refl refl })).apart)
+    let P : List Piece → Type 0 = λ l. AreApart names l in (
+      white,
+      subst P (sym (append_assoc ps (line_end ∷ []) rest))
+          (inside (line_end ∷ rest) (refl, apart) (record { closed = closed_at 10 refl refl })).apart,
+    )
 
 -- an element
-element_runs : (names : List (List ℕ)) (a : ℕ) (ps : List Piece) → IsNameText (unwrap_or (slice_get names a) []) → RunsBefore names ps → RunsBefore names (element_pieces a ps)
+element_runs : (names : List (List ℕ)) (a : ℕ) (ps : List Piece) → IsNameText (unwrap_or (slice_get names a) []) → RunsBefore names ps →
+    RunsBefore names (element_pieces a ps)
 element_runs names a ps good inside rest apart behind =
     let inner = square_runs names ps inside rest apart behind in
-    name_runs names a ((mark_piece mark.OpenSquare ∷ (ps ++ mark_piece mark.CloseSquare ∷ [])) ++ rest) good inner.apart (record { closed = closed_at 91 refl refl })
+    name_runs names a ((mark_piece mark.OpenSquare ∷ (ps ++ mark_piece mark.CloseSquare ∷ [])) ++ rest) good inner.apart
+    (record { closed = closed_at 91 refl refl })
 
 -- a value after its `=`
 value_apart : (names : List (List ℕ)) (ps rest : List Piece) → RunsBefore names ps → AreApart names rest → IsClosed names rest →
@@ -39,7 +49,8 @@ value_apart : (names : List (List ℕ)) (ps rest : List Piece) → RunsBefore na
 value_apart names ps rest inside apart behind = (refl, (tt, refl, (refl, (ended_runs names ps inside rest apart behind).apart)))
 
 -- lines in braces, before pieces that no token goes on with
-pub braces_runs : (names : List (List ℕ)) (margin : List ℕ) (ps : List Piece) → list_all is_space margin ≡ true → ((rest : List Piece) → AreApart names rest → AreApart names (ps ++ rest)) → RunsBefore names (braces margin ps)
+pub braces_runs : (names : List (List ℕ)) (margin : List ℕ) (ps : List Piece) → list_all is_space margin ≡ true →
+    ((rest : List Piece) → AreApart names rest → AreApart names (ps ++ rest)) → RunsBefore names (braces margin ps)
 unfolding braces
 braces_runs names margin ps white inside rest apart behind =
     let P : List Piece → Type 0 = λ l. AreApart names l in
@@ -50,7 +61,8 @@ braces_runs names margin ps white inside rest apart behind =
     }
 
 -- a guard before a block
-guard_runs : (names : List (List ℕ)) (rest : List Piece) (b : Condition) → RunsBefore names (condition_pieces b) → AreApart names rest → AreApart names (guard_pieces b ++ rest)
+guard_runs : (names : List (List ℕ)) (rest : List Piece) (b : Condition) → RunsBefore names (condition_pieces b) → AreApart names rest →
+    AreApart names (guard_pieces b ++ rest)
 unfolding guard_pieces
 guard_runs names rest b inside apart =
     let P : List Piece → Type 0 = λ l. Runs names l in
@@ -84,7 +96,8 @@ IsCode names (While b c k) = IsTested names b × IsCode names c × IsCode names 
 IsCode names (Hole h k) = (h < 2 ^ 127) × IsCode names k
 
 -- pieces of code are apart, and so are those after them
-pub code_apart : (names : List (List ℕ)) (c : Code) (margin : List ℕ) → list_all is_space margin ≡ true → IsCode names c → (rest : List Piece) → AreApart names rest → AreApart names (code_pieces margin c ++ rest)
+pub code_apart : (names : List (List ℕ)) (c : Code) (margin : List ℕ) → list_all is_space margin ≡ true → IsCode names c →
+    (rest : List Piece) → AreApart names rest → AreApart names (code_pieces margin c ++ rest)
 code_apart names End margin white good rest apart = apart
 code_apart names (Skip k) margin white good rest apart =
     (white, (tt, refl, (tt, refl, (refl, code_apart names k margin white good rest apart))))
@@ -94,8 +107,10 @@ code_apart names (Assign x e k) margin white good rest apart =
     let more = code_apart names k margin white good.2 rest apart in
     let P : List Piece → Type 0 = λ l. AreApart names l in
     let inside : RunsBefore names front = λ after apart_after behind.
-    name_runs names x ((space ∷ mark_piece mark.Becomes ∷ space ∷ (ps ++ mark_piece mark.Semicolon ∷ [])) ++ after) good.0 (value_apart names ps after (expression_runs names e good.1) apart_after behind) (space_closed names _) in
-    subst P (sym (append_assoc (line margin front) (code_pieces margin k) rest)) (line_apart names margin front (code_pieces margin k ++ rest) white inside more)
+    name_runs names x ((space ∷ mark_piece mark.Becomes ∷ space ∷ (ps ++ mark_piece mark.Semicolon ∷ [])) ++ after) good.0
+    (value_apart names ps after (expression_runs names e good.1) apart_after behind) (space_closed names _) in
+    subst P (sym (append_assoc (line margin front) (code_pieces margin k) rest))
+    (line_apart names margin front (code_pieces margin k ++ rest) white inside more)
 code_apart names (Write a i e k) margin white good rest apart =
     let ps = expression_pieces e in
     let value = space ∷ mark_piece mark.Becomes ∷ space ∷ (ps ++ mark_piece mark.Semicolon ∷ []) in
@@ -105,8 +120,10 @@ code_apart names (Write a i e k) margin white good rest apart =
     let Q : List Piece → Type 0 = λ l. Runs names l in
     let inside : RunsBefore names front = λ after apart_after behind.
     subst Q (sym (append_assoc (element_pieces a (expression_pieces i)) value after))
-    (element_runs names a (expression_pieces i) good.0 (expression_runs names i good.1) (value ++ after) (value_apart names ps after (expression_runs names e good.2) apart_after behind) (space_closed names _)) in
-    subst P (sym (append_assoc (line margin front) (code_pieces margin k) rest)) (line_apart names margin front (code_pieces margin k ++ rest) white inside more)
+    (element_runs names a (expression_pieces i) good.0 (expression_runs names i good.1) (value ++ after)
+    (value_apart names ps after (expression_runs names e good.2) apart_after behind) (space_closed names _)) in
+    subst P (sym (append_assoc (line margin front) (code_pieces margin k) rest))
+    (line_apart names margin front (code_pieces margin k ++ rest) white inside more)
 code_apart names (If b c e k) margin white good rest apart =
     let choice = branches (braces margin (code_pieces (deeper margin) c)) (braces margin (code_pieces (deeper margin) e)) in
     let front = mark_piece mark.If ∷ space ∷ (guard_pieces b ++ choice) in
@@ -116,10 +133,20 @@ code_apart names (If b c e k) margin white good rest apart =
     let P : List Piece → Type 0 = λ l. AreApart names l in
     let inside : RunsBefore names front = λ after apart_after behind.
     record {
-      apart = (tt, refl, (refl, subst P (sym (append_assoc (guard_pieces b) choice after)) (guard_runs names (choice ++ after) b (condition_runs names b good.0) (branches_runs names _ _ first second after apart_after behind).apart)));
+      apart = (
+        tt,
+        refl,
+        (
+          refl,
+          subst P (sym (append_assoc (guard_pieces b) choice after))
+              (guard_runs names (choice ++ after) b (condition_runs names b good.0)
+              (branches_runs names _ _ first second after apart_after behind).apart),
+        ),
+      );
       safe = refl;
     } in
-    subst P (sym (append_assoc (line margin front) (code_pieces margin k) rest)) (line_apart names margin front (code_pieces margin k ++ rest) white inside more)
+    subst P (sym (append_assoc (line margin front) (code_pieces margin k) rest))
+    (line_apart names margin front (code_pieces margin k ++ rest) white inside more)
 code_apart names (While b c k) margin white good rest apart =
     let block = braces margin (code_pieces (deeper margin) c) in
     let front = mark_piece mark.While ∷ space ∷ (guard_pieces b ++ block) in
@@ -128,9 +155,24 @@ code_apart names (While b c k) margin white good rest apart =
     let P : List Piece → Type 0 = λ l. AreApart names l in
     let inside : RunsBefore names front = λ after apart_after behind.
     record {
-      apart = (tt, refl, (refl, subst P (sym (append_assoc (guard_pieces b) block after)) (guard_runs names (block ++ after) b (condition_runs names b good.0) (body after apart_after behind).apart)));
+      apart = (
+        tt,
+        refl,
+        (
+          refl,
+          subst P (sym (append_assoc (guard_pieces b) block after))
+              (guard_runs names (block ++ after) b (condition_runs names b good.0) (body after apart_after behind).apart),
+        ),
+      );
       safe = refl;
     } in
-    subst P (sym (append_assoc (line margin front) (code_pieces margin k) rest)) (line_apart names margin front (code_pieces margin k ++ rest) white inside more)
-code_apart names (Hole h k) margin white good rest apart =
-    (white, (tt, question_ends h (pieces_text names (mark_piece mark.Semicolon ∷ line_end ∷ (code_pieces margin k ++ rest))) good.0, (good.0, refl, (tt, refl, (refl, code_apart names k margin white good.1 rest apart)))))
+    subst P (sym (append_assoc (line margin front) (code_pieces margin k) rest))
+    (line_apart names margin front (code_pieces margin k ++ rest) white inside more)
+code_apart names (Hole h k) margin white good rest apart = (
+  white,
+  (
+    tt,
+    question_ends h (pieces_text names (mark_piece mark.Semicolon ∷ line_end ∷ (code_pieces margin k ++ rest))) good.0,
+    (good.0, refl, (tt, refl, (refl, code_apart names k margin white good.1 rest apart))),
+  ),
+)

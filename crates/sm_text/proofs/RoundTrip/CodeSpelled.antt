@@ -1,10 +1,12 @@
 -- The grammar spells code by its canonical symbols.
-use Rattle.std.proofs.Common.{◌≡◌, ℕ, suc, ◌+◌, ◌<◌, ◌≤◌, Bool, true, false, max, List, [], ◌∷◌, ◌++◌, map, nat_le, refl, sym, ap, subst, ◌∙◌, append_assoc, arith}
+use Rattle.std.proofs.Common.{◌≡◌, ℕ, suc, ◌+◌, ◌<◌, ◌≤◌, Bool, true, false, max, List, [], ◌∷◌, ◌++◌, map, nat_le, refl, sym, ap, subst}
+use Rattle.std.proofs.Common.{◌∙◌, append_assoc, arith}
 use Rattle.std.proofs.lemmas.Bool.Decides.{nat_tests}
 use Rattle.sm_syntax.specs.declared.symbol.Mark.{Mark}
 use Rattle.sm_syntax.specs.declared.symbol.Mark.TheVariants as mark
 use Rattle.sm_syntax.specs.declared.symbol.Symbol.TheVariants as s
-use Rattle.sm_syntax.specs.claim.Syntax.{Expression, Lit, Var, Read, Neg, Plus, Minus, Times, Condition, Yes, No, Compare, Not, And, Or, Code, End, Skip, Assign, Write, If, While, Hole}
+use Rattle.sm_syntax.specs.claim.Syntax.{Expression, Lit, Var, Read, Neg, Plus, Minus, Times, Condition, Yes, No, Compare, Not, And, Or}
+use Rattle.sm_syntax.specs.claim.Syntax.{Code, End, Skip, Assign, Write, If, While, Hole}
 use Rattle.sm_syntax.specs.text.Conditions.{expression_depth, condition_depth}
 use Rattle.sm_syntax.specs.text.MarkedSymbols as g
 use Rattle.sm_syntax.specs.text.ExpressionGrammar as exp
@@ -15,7 +17,8 @@ use Rattle.sm_syntax.specs.text.ExpressionGrammar.{Atom, Unary, Product, Sum, Is
 use Rattle.sm_syntax.specs.text.ConditionGrammar.{comparison, Test, Literal, Conjunction, Disjunction, IsCondition}
 use Rattle.sm_syntax.specs.text.StatementGrammar.{IsHoleNumber, AreStatements, IsBlock}
 use Rattle.sm_text.specs.printing.Pieces.{Piece, Token, Gap, symbols_in, mark_piece, name_piece, space, line_end, deeper, line}
-use Rattle.sm_text.specs.printing.Canonical.{between, is_atom, operand, element_pieces, expression_pieces, is_test, part, condition_pieces, braces, branches, guard_pieces, code_pieces}
+use Rattle.sm_text.specs.printing.Canonical.{between, is_atom, operand, element_pieces, expression_pieces, is_test, part, condition_pieces}
+use Rattle.sm_text.specs.printing.Canonical.{braces, branches, guard_pieces, code_pieces}
 
 -- the symbols of pieces, none of which nests too deep
 abbrev pub marked : List Piece → List Marked
@@ -42,7 +45,8 @@ opens_is m d few =
     ap (λ (b : Bool). (s.Mark m, b)) narrow
 
 -- a group of pieces between two signs
-grouped : (first last : Mark) (d : ℕ) (ps : List Piece) → d < 64 → opens first d ∷ (marked ps ++ g.word last ∷ []) ≡ marked (mark_piece first ∷ (ps ++ mark_piece last ∷ []))
+grouped : (first last : Mark) (d : ℕ) (ps : List Piece) → d < 64 →
+    opens first d ∷ (marked ps ++ g.word last ∷ []) ≡ marked (mark_piece first ∷ (ps ++ mark_piece last ∷ []))
 grouped first last d ps few =
     ap (λ (t : Marked). t ∷ (marked ps ++ g.word last ∷ [])) (opens_is first d few) ∙
     ap (λ (l : List Marked). plain (s.Mark first) ∷ l) (sym (marked-append ps (mark_piece last ∷ [])))
@@ -94,7 +98,8 @@ as_product : {d : ℕ} {ts : List Marked} {e : Expression} → IsExpression Atom
 as_product i = exp.as_product (exp.as_unary i)
 
 -- an operand
-operand_shown : (b : Bool) (e : Expression) (d : ℕ) → is_atom e ≡ b → 1 + d + expression_depth e ≤ 66 → d + reads e ≤ 64 → ((j : ℕ) → Fits j e → IsShown j e) →
+operand_shown : (b : Bool) (e : Expression) (d : ℕ) → is_atom e ≡ b → 1 + d + expression_depth e ≤ 66 → d + reads e ≤ 64 →
+    ((j : ℕ) → Fits j e → IsShown j e) →
     IsExpression Atom d 0 (marked (operand b (expression_pieces e))) e
 operand_shown true e d is depth read shows = (shows d (record { depth = omega arith; reads = read })).atom is
 operand_shown false e d is depth read shows =
@@ -107,44 +112,45 @@ operand_shown false e d is depth read shows =
 marked-between : (ps : List Piece) (m : Mark) (qs : List Piece) → marked (between ps m qs) ≡ marked ps ++ g.word m ∷ marked qs
 marked-between ps m qs = marked-append ps (space ∷ mark_piece m ∷ space ∷ qs)
 
+-- an expression of two operands with an operator between them
+operands_shown : (m : Mark) (whole e f : Expression) (d k : ℕ) → is_atom whole ≡ false →
+    expression_pieces whole ≡ between (operand (is_atom e) (expression_pieces e)) m (operand (is_atom f) (expression_pieces f)) →
+    ((ts us : List Marked) → IsExpression Atom d 0 ts e → IsExpression Atom d 0 us f → IsExpression Sum d k (ts ++ g.word m ∷ us) whole) →
+    1 + d + expression_depth e ≤ 66 → d + reads e ≤ 64 → 1 + d + expression_depth f ≤ 66 → d + reads f ≤ 64 →
+    ((j : ℕ) → Fits j e → IsShown j e) → ((j : ℕ) → Fits j f → IsShown j f) → IsShown d whole
+operands_shown m whole e f d k compound pieces join deep_e reads_e deep_f reads_f shown_e shown_f =
+    let ps = operand (is_atom e) (expression_pieces e) in
+    let qs = operand (is_atom f) (expression_pieces f) in
+    let F : List Marked → Type 0 = λ l. IsExpression Sum d k l whole in
+    record {
+      chain = k;
+      sum = subst F (sym (ap marked pieces ∙ marked-between ps m qs))
+          (join (marked ps) (marked qs) (operand_shown (is_atom e) e d refl deep_e reads_e shown_e)
+          (operand_shown (is_atom f) f d refl deep_f reads_f shown_f));
+      atom = λ h. cc;
+    }
+
 pub shown : (e : Expression) (d : ℕ) → Fits d e → IsShown d e
 shown (Lit z) d fits = record { chain = 0; sum = as_sum (exp.number d z); atom = λ _. exp.number d z }
 shown (Var x) d fits = record { chain = 0; sum = as_sum (exp.variable d (record { 0 = x })); atom = λ _. exp.variable d (record { 0 = x }) }
 shown (Read a i) d fits =
     let inner = shown i (suc d) (record { depth = omega (arith, fits.depth); reads = omega (arith, fits.reads) }) in
     let F : List Marked → Type 0 = λ l. IsExpression Atom d 0 (plain (s.Name (record { 0 = a })) ∷ l) (Read a i) in
-    let it = subst F (grouped mark.OpenSquare mark.CloseSquare d (expression_pieces i) (omega (arith, fits.reads))) (exp.element (record { 0 = a }) inner.sum) in
+    let it = subst F (grouped mark.OpenSquare mark.CloseSquare d (expression_pieces i) (omega (arith, fits.reads)))
+    (exp.element (record { 0 = a }) inner.sum) in
     record { chain = 0; sum = as_sum it; atom = λ _. it }
 shown (Neg e) d fits =
     let part = operand_shown (is_atom e) e d refl (omega (arith, fits.depth)) fits.reads (shown e) in
     record { chain = 0; sum = exp.as_sum (exp.as_product (exp.negative part)); atom = λ h. cc }
 shown (Plus e f) d fits =
-    let left = operand_shown (is_atom e) e d refl (omega (arith, fits.depth)) (omega (arith, fits.reads)) (shown e) in
-    let right = operand_shown (is_atom f) f d refl (omega (arith, fits.depth)) (omega (arith, fits.reads)) (shown f) in
-    let F : List Marked → Type 0 = λ l. IsExpression Sum d 1 l (Plus e f) in
-    record {
-      chain = 1;
-      sum = subst F (sym (marked-between (operand (is_atom e) (expression_pieces e)) mark.Plus (operand (is_atom f) (expression_pieces f)))) (exp.plus (as_sum left) (as_product right));
-      atom = λ h. cc;
-    }
+    operands_shown mark.Plus (Plus e f) e f d 1 refl refl (λ ts us a b. exp.plus (as_sum a) (as_product b)) (omega (arith, fits.depth))
+    (omega (arith, fits.reads)) (omega (arith, fits.depth)) (omega (arith, fits.reads)) (shown e) (shown f)
 shown (Minus e f) d fits =
-    let left = operand_shown (is_atom e) e d refl (omega (arith, fits.depth)) (omega (arith, fits.reads)) (shown e) in
-    let right = operand_shown (is_atom f) f d refl (omega (arith, fits.depth)) (omega (arith, fits.reads)) (shown f) in
-    let F : List Marked → Type 0 = λ l. IsExpression Sum d 1 l (Minus e f) in
-    record {
-      chain = 1;
-      sum = subst F (sym (marked-between (operand (is_atom e) (expression_pieces e)) mark.Minus (operand (is_atom f) (expression_pieces f)))) (exp.minus (as_sum left) (as_product right));
-      atom = λ h. cc;
-    }
+    operands_shown mark.Minus (Minus e f) e f d 1 refl refl (λ ts us a b. exp.minus (as_sum a) (as_product b)) (omega (arith, fits.depth))
+    (omega (arith, fits.reads)) (omega (arith, fits.depth)) (omega (arith, fits.reads)) (shown e) (shown f)
 shown (Times e f) d fits =
-    let left = operand_shown (is_atom e) e d refl (omega (arith, fits.depth)) (omega (arith, fits.reads)) (shown e) in
-    let right = operand_shown (is_atom f) f d refl (omega (arith, fits.depth)) (omega (arith, fits.reads)) (shown f) in
-    let F : List Marked → Type 0 = λ l. IsExpression Product d 1 l (Times e f) in
-    record {
-      chain = 0;
-      sum = exp.as_sum (subst F (sym (marked-between (operand (is_atom e) (expression_pieces e)) mark.Star (operand (is_atom f) (expression_pieces f)))) (exp.times (as_product left) (exp.as_unary right)));
-      atom = λ h. cc;
-    }
+    operands_shown mark.Star (Times e f) e f d 0 refl refl (λ ts us a b. exp.as_sum (exp.times (as_product a) (exp.as_unary b)))
+    (omega (arith, fits.depth)) (omega (arith, fits.reads)) (omega (arith, fits.depth)) (omega (arith, fits.reads)) (shown e) (shown f)
 
 -- how many reads stand in each other, in a condition
 abbrev pub reads_tested : Condition → ℕ
@@ -186,7 +192,8 @@ as_whole : {d : ℕ} {ts : List Marked} {b : Condition} → IsCondition Test d 0
 as_whole i = cond.as_disjunction (cond.as_conjunction (cond.as_literal i))
 
 -- a part of a condition
-part_told : (t : Bool) (b : Condition) (d : ℕ) → is_test b ≡ t → 1 + d + condition_depth b ≤ 66 → d + reads_tested b ≤ 64 → ((j : ℕ) → FitsTest j b → IsTold j b) →
+part_told : (t : Bool) (b : Condition) (d : ℕ) → is_test b ≡ t → 1 + d + condition_depth b ≤ 66 → d + reads_tested b ≤ 64 →
+    ((j : ℕ) → FitsTest j b → IsTold j b) →
     IsCondition Test d 0 (marked (part t (condition_pieces b))) b
 part_told true b d is depth read tells = (tells d (record { depth = omega arith; reads = read })).test is
 part_told false b d is depth read tells =
@@ -195,6 +202,25 @@ part_told false b d is depth read tells =
     let inner = tells (suc d) (record { depth = omega arith; reads = omega (arith, deep) }) in
     subst F (grouped mark.OpenSquare mark.CloseSquare d (condition_pieces b) (omega (arith, deep))) (cond.group inner.whole)
 
+-- a condition of two parts with an operator between them
+parts_told : (m : Mark) (whole b c : Condition) (d k : ℕ) → is_test whole ≡ false →
+    condition_pieces whole ≡ between (part (is_test b) (condition_pieces b)) m (part (is_test c) (condition_pieces c)) →
+    ((ts us : List Marked) → IsCondition Test d 0 ts b → IsCondition Test d 0 us c →
+    IsCondition Disjunction d k (ts ++ g.word m ∷ us) whole) →
+    1 + d + condition_depth b ≤ 66 → d + reads_tested b ≤ 64 → 1 + d + condition_depth c ≤ 66 → d + reads_tested c ≤ 64 →
+    ((j : ℕ) → FitsTest j b → IsTold j b) → ((j : ℕ) → FitsTest j c → IsTold j c) → IsTold d whole
+parts_told m whole b c d k compound pieces join deep_b reads_b deep_c reads_c told_b told_c =
+    let ps = part (is_test b) (condition_pieces b) in
+    let qs = part (is_test c) (condition_pieces c) in
+    let F : List Marked → Type 0 = λ l. IsCondition Disjunction d k l whole in
+    record {
+      chain = k;
+      whole = subst F (sym (ap marked pieces ∙ marked-between ps m qs))
+          (join (marked ps) (marked qs) (part_told (is_test b) b d refl deep_b reads_b told_b)
+          (part_told (is_test c) c d refl deep_c reads_c told_c));
+      test = λ h. cc;
+    }
+
 pub told : (b : Condition) (d : ℕ) → FitsTest d b → IsTold d b
 told Yes d fits = record { chain = 0; whole = as_whole (cond.always d); test = λ _. cond.always d }
 told No d fits = record { chain = 0; whole = as_whole (cond.never d); test = λ _. cond.never d }
@@ -202,29 +228,18 @@ told (Compare op e f) d fits =
     let left = shown e d (record { depth = omega (arith, fits.depth); reads = omega (arith, fits.reads) }) in
     let right = shown f d (record { depth = omega (arith, fits.depth); reads = omega (arith, fits.reads) }) in
     let F : List Marked → Type 0 = λ l. IsCondition Test d 0 l (Compare op e f) in
-    let it = subst F (sym (marked-between (expression_pieces e) (comparison op) (expression_pieces f))) (cond.compares op left.sum right.sum) in
+    let it = subst F (sym (marked-between (expression_pieces e) (comparison op) (expression_pieces f)))
+    (cond.compares op left.sum right.sum) in
     record { chain = 0; whole = as_whole it; test = λ _. it }
 told (Not b) d fits =
     let inner = part_told (is_test b) b d refl (omega (arith, fits.depth)) fits.reads (told b) in
     record { chain = 0; whole = cond.as_disjunction (cond.as_conjunction (cond.denied inner)); test = λ h. cc }
-told (And b c) d fits =
-    let left = part_told (is_test b) b d refl (omega (arith, fits.depth)) (omega (arith, fits.reads)) (told b) in
-    let right = part_told (is_test c) c d refl (omega (arith, fits.depth)) (omega (arith, fits.reads)) (told c) in
-    let F : List Marked → Type 0 = λ l. IsCondition Conjunction d 1 l (And b c) in
-    record {
-      chain = 0;
-      whole = cond.as_disjunction (subst F (sym (marked-between (part (is_test b) (condition_pieces b)) mark.Both (part (is_test c) (condition_pieces c)))) (cond.both (cond.as_conjunction (cond.as_literal left)) (cond.as_literal right)));
-      test = λ h. cc;
-    }
-told (Or b c) d fits =
-    let left = part_told (is_test b) b d refl (omega (arith, fits.depth)) (omega (arith, fits.reads)) (told b) in
-    let right = part_told (is_test c) c d refl (omega (arith, fits.depth)) (omega (arith, fits.reads)) (told c) in
-    let F : List Marked → Type 0 = λ l. IsCondition Disjunction d 1 l (Or b c) in
-    record {
-      chain = 1;
-      whole = subst F (sym (marked-between (part (is_test b) (condition_pieces b)) mark.Either (part (is_test c) (condition_pieces c)))) (cond.either (as_whole left) (cond.as_conjunction (cond.as_literal right)));
-      test = λ h. cc;
-    }
+told (And b c) d fits = parts_told mark.Both (And b c) b c d 0 refl refl
+    (λ ts us p q. cond.as_disjunction (cond.both (cond.as_conjunction (cond.as_literal p)) (cond.as_literal q))) (omega (arith, fits.depth))
+    (omega (arith, fits.reads)) (omega (arith, fits.depth)) (omega (arith, fits.reads)) (told b) (told c)
+told (Or b c) d fits = parts_told mark.Either (Or b c) b c d 1 refl refl
+    (λ ts us p q. cond.either (as_whole p) (cond.as_conjunction (cond.as_literal q))) (omega (arith, fits.depth))
+    (omega (arith, fits.reads)) (omega (arith, fits.depth)) (omega (arith, fits.reads)) (told b) (told c)
 
 -- where d groups are open, the canonical symbols of code nest nowhere too deep, and its holes have numbers
 abbrev pub IsPrintable : ℕ → Code → Type 0
@@ -237,7 +252,8 @@ IsPrintable d (While b c k) = (d < 64) × FitsTest (suc d) b × IsPrintable (suc
 IsPrintable d (Hole h k) = IsHoleNumber h × IsPrintable d k
 
 -- lines in braces
-pub block_shown : (d : ℕ) (c : Code) (margin : List ℕ) (ps : List Piece) → d < 64 → AreStatements (suc d) (marked ps) c → IsBlock d (marked (braces margin ps)) c
+pub block_shown : (d : ℕ) (c : Code) (margin : List ℕ) (ps : List Piece) → d < 64 → AreStatements (suc d) (marked ps) c →
+    IsBlock d (marked (braces margin ps)) c
 unfolding braces
 block_shown d c margin ps few inside =
     let F : List Marked → Type 0 = λ l. IsBlock d l c in
@@ -252,19 +268,24 @@ marked-guard : (b : Condition) (d : ℕ) (us : List Marked) → d < 64 →
 unfolding guard_pieces
 marked-guard b d us few =
     ap (λ (t : Marked). t ∷ (marked (condition_pieces b) ++ g.word mark.CloseRound ∷ us)) (opens_is mark.OpenRound d few) ∙
-    ap (λ (l : List Marked). plain (s.Mark mark.OpenRound) ∷ l) (sym (marked_then (condition_pieces b) (mark_piece mark.CloseRound ∷ space ∷ []) us))
+    ap (λ (l : List Marked). plain (s.Mark mark.OpenRound) ∷ l)
+    (sym (marked_then (condition_pieces b) (mark_piece mark.CloseRound ∷ space ∷ []) us))
 
 -- two branches before more symbols
-marked-branches : (ps qs : List Piece) (us : List Marked) → marked ps ++ g.word mark.Else ∷ (marked qs ++ us) ≡ marked (branches ps qs) ++ us
+marked-branches : (ps qs : List Piece) (us : List Marked) →
+    marked ps ++ g.word mark.Else ∷ (marked qs ++ us) ≡ marked (branches ps qs) ++ us
 unfolding branches
 marked-branches ps qs us = sym (marked_then ps (space ∷ mark_piece mark.Else ∷ space ∷ qs) us)
 
 -- an element before more symbols
 marked-element : (a d : ℕ) (ps : List Piece) (us : List Marked) → d < 64 →
-    plain (s.Name (record { 0 = a })) ∷ opens mark.OpenSquare d ∷ (marked ps ++ g.word mark.CloseSquare ∷ us) ≡ marked (element_pieces a ps) ++ us
+    plain (s.Name (record { 0 = a })) ∷ opens mark.OpenSquare d ∷ (marked ps ++ g.word mark.CloseSquare ∷ us) ≡ marked
+    (element_pieces a ps) ++ us
 marked-element a d ps us few =
-    ap (λ (t : Marked). plain (s.Name (record { 0 = a })) ∷ t ∷ (marked ps ++ g.word mark.CloseSquare ∷ us)) (opens_is mark.OpenSquare d few) ∙
-    ap (λ (l : List Marked). plain (s.Name (record { 0 = a })) ∷ plain (s.Mark mark.OpenSquare) ∷ l) (sym (marked_then ps (mark_piece mark.CloseSquare ∷ []) us))
+    ap (λ (t : Marked). plain (s.Name (record { 0 = a })) ∷ t ∷ (marked ps ++ g.word mark.CloseSquare ∷ us))
+    (opens_is mark.OpenSquare d few) ∙
+    ap (λ (l : List Marked). plain (s.Name (record { 0 = a })) ∷ plain (s.Mark mark.OpenSquare) ∷ l)
+    (sym (marked_then ps (mark_piece mark.CloseSquare ∷ []) us))
 
 -- the grammar spells the code by its canonical symbols
 pub code_shown : (c : Code) (margin : List ℕ) (d : ℕ) → IsPrintable d c → AreStatements d (marked (code_pieces margin c)) c
@@ -276,8 +297,10 @@ code_shown (Assign x e k) margin d fits =
     let us = marked (code_pieces margin k) in
     let F : List Marked → Type 0 = λ l. AreStatements d l (Assign x e k) in
     let front = name_piece x ∷ space ∷ mark_piece mark.Becomes ∷ space ∷ (ps ++ mark_piece mark.Semicolon ∷ []) in
-    let line : plain (s.Name (record { 0 = x })) ∷ g.word mark.Becomes ∷ (marked ps ++ g.word mark.Semicolon ∷ us) ≡ marked (code_pieces margin (Assign x e k)) =
-    ap (λ (l : List Marked). plain (s.Name (record { 0 = x })) ∷ g.word mark.Becomes ∷ l) (sym (marked_then ps (mark_piece mark.Semicolon ∷ []) us)) ∙
+    let line : plain (s.Name (record { 0 = x })) ∷ g.word mark.Becomes ∷ (marked ps ++ g.word mark.Semicolon ∷ us) ≡ marked
+    (code_pieces margin (Assign x e k)) =
+    ap (λ (l : List Marked). plain (s.Name (record { 0 = x })) ∷ g.word mark.Becomes ∷ l)
+    (sym (marked_then ps (mark_piece mark.Semicolon ∷ []) us)) ∙
     sym (marked-line margin front (code_pieces margin k)) in
     subst F line (stmt.assigns (record { 0 = x }) (shown e d fits.0).sum (code_shown k margin d fits.1))
 code_shown (Write a i e k) margin d fits =
@@ -287,8 +310,10 @@ code_shown (Write a i e k) margin d fits =
     let F : List Marked → Type 0 = λ l. AreStatements d l (Write a i e k) in
     let value = space ∷ mark_piece mark.Becomes ∷ space ∷ (qs ++ mark_piece mark.Semicolon ∷ []) in
     let behind = g.word mark.Becomes ∷ (marked qs ++ g.word mark.Semicolon ∷ us) in
-    let same : behind ≡ marked value ++ us = ap (λ (l : List Marked). g.word mark.Becomes ∷ l) (sym (marked_then qs (mark_piece mark.Semicolon ∷ []) us)) in
-    let line : plain (s.Name (record { 0 = a })) ∷ opens mark.OpenSquare d ∷ (marked ps ++ g.word mark.CloseSquare ∷ behind) ≡ marked (code_pieces margin (Write a i e k)) =
+    let same : behind ≡ marked value ++ us =
+    ap (λ (l : List Marked). g.word mark.Becomes ∷ l) (sym (marked_then qs (mark_piece mark.Semicolon ∷ []) us)) in
+    let line : plain (s.Name (record { 0 = a })) ∷ opens mark.OpenSquare d ∷ (marked ps ++ g.word mark.CloseSquare ∷ behind) ≡ marked
+    (code_pieces margin (Write a i e k)) =
     marked-element a d ps behind fits.0 ∙
     ap (λ (l : List Marked). marked (element_pieces a ps) ++ l) same ∙
     sym (marked_then (element_pieces a ps) value us) ∙
@@ -301,7 +326,8 @@ code_shown (If b c e k) margin d fits =
     let choice = branches (braces margin yes_lines) (braces margin no_lines) in
     let behind = marked (braces margin yes_lines) ++ g.word mark.Else ∷ (marked (braces margin no_lines) ++ us) in
     let F : List Marked → Type 0 = λ l. AreStatements d l (If b c e k) in
-    let line : g.word mark.If ∷ opens mark.OpenRound d ∷ (marked (condition_pieces b) ++ g.word mark.CloseRound ∷ behind) ≡ marked (code_pieces margin (If b c e k)) =
+    let line : g.word mark.If ∷ opens mark.OpenRound d ∷ (marked (condition_pieces b) ++ g.word mark.CloseRound ∷ behind) ≡ marked
+    (code_pieces margin (If b c e k)) =
     ap (λ (l : List Marked). g.word mark.If ∷ l) (marked-guard b d behind fits.0 ∙
     ap (λ (l : List Marked). marked (guard_pieces b) ++ l) (marked-branches (braces margin yes_lines) (braces margin no_lines) us) ∙
     sym (marked_then (guard_pieces b) choice us)) ∙
@@ -314,8 +340,10 @@ code_shown (While b c k) margin d fits =
     let lines = code_pieces (deeper margin) c in
     let behind = marked (braces margin lines) ++ us in
     let F : List Marked → Type 0 = λ l. AreStatements d l (While b c k) in
-    let line : g.word mark.While ∷ opens mark.OpenRound d ∷ (marked (condition_pieces b) ++ g.word mark.CloseRound ∷ behind) ≡ marked (code_pieces margin (While b c k)) =
-    ap (λ (l : List Marked). g.word mark.While ∷ l) (marked-guard b d behind fits.0 ∙ sym (marked_then (guard_pieces b) (braces margin lines) us)) ∙
+    let line : g.word mark.While ∷ opens mark.OpenRound d ∷ (marked (condition_pieces b) ++ g.word mark.CloseRound ∷ behind) ≡ marked
+    (code_pieces margin (While b c k)) =
+    ap (λ (l : List Marked). g.word mark.While ∷ l) (marked-guard b d behind fits.0
+    ∙ sym (marked_then (guard_pieces b) (braces margin lines) us)) ∙
     sym (marked-line margin (mark_piece mark.While ∷ space ∷ (guard_pieces b ++ braces margin lines)) (code_pieces margin k)) in
     let body = block_shown d c margin lines fits.0 (code_shown c (deeper margin) (suc d) fits.2) in
     subst F line (stmt.loops (told b (suc d) fits.1).whole body (code_shown k margin d fits.3))

@@ -14,7 +14,6 @@ use Rattle.sm_syntax.specs.text.MarkedSymbols.{Marked, plain}
 use Rattle.sm_syntax.specs.text.ExpressionGrammar.{Level, IsExpression}
 use Rattle.sm_syntax.specs.text.ConditionGrammar.{Rank, IsCondition}
 use Rattle.sm_syntax.specs.text.StatementGrammar.{IsHoleNumber, AreStatements, IsBlock}
-use Rattle.sm_syntax.specs.text.TaskGrammar.{IsAssumption, IsShared, AreNames, AreOutputs, AreFillings, IsList}
 use Rattle.sm_text.proofs.RoundTrip.CodeSpelled.{reads, reads_tested, IsPrintable}
 
 -- nothing nests too deep
@@ -39,7 +38,8 @@ opened : (d : ℕ) → nat_le 64 d ≡ false → d < 64
 opened d h = grind (arith, nat_tests)
 
 -- how many reads stand in each other
-pub expression_reads : {l : Level} {d k : ℕ} {ts : List Marked} {e : Expression} → IsExpression l d k ts e → IsClean ts → d ≤ 64 → d + reads e ≤ 64
+pub expression_reads : {l : Level} {d k : ℕ} {ts : List Marked} {e : Expression} → IsExpression l d k ts e → IsClean ts → d ≤ 64 →
+    d + reads e ≤ 64
 expression_reads (exp.number d z) clean few = omega (arith, few)
 expression_reads (exp.variable d x) clean few = omega (arith, few)
 expression_reads (exp.element {d = d} {ts = ts} a inner) clean few =
@@ -52,19 +52,37 @@ expression_reads (exp.negative inner) clean few = expression_reads inner clean.1
 expression_reads (exp.as_unary inner) clean few = expression_reads inner clean few
 expression_reads (exp.as_product inner) clean few = expression_reads inner clean few
 expression_reads (exp.times {k = k} {ts = ts} {us = us} left right) clean few =
-    omega (arith, expression_reads left (clean_left ts (g.joins mark.Star k ∷ us) clean) few, expression_reads right (clean_right ts (g.joins mark.Star k ∷ us) clean).1 few)
+    omega (
+      arith,
+      expression_reads left (clean_left ts (g.joins mark.Star k ∷ us) clean) few,
+      expression_reads right (clean_right ts (g.joins mark.Star k ∷ us) clean).1 few,
+    )
 expression_reads (exp.as_sum inner) clean few = expression_reads inner clean few
 expression_reads (exp.plus {k = k} {ts = ts} {us = us} left right) clean few =
-    omega (arith, expression_reads left (clean_left ts (g.joins mark.Plus k ∷ us) clean) few, expression_reads right (clean_right ts (g.joins mark.Plus k ∷ us) clean).1 few)
+    omega (
+      arith,
+      expression_reads left (clean_left ts (g.joins mark.Plus k ∷ us) clean) few,
+      expression_reads right (clean_right ts (g.joins mark.Plus k ∷ us) clean).1 few,
+    )
 expression_reads (exp.minus {k = k} {ts = ts} {us = us} left right) clean few =
-    omega (arith, expression_reads left (clean_left ts (g.joins mark.Minus k ∷ us) clean) few, expression_reads right (clean_right ts (g.joins mark.Minus k ∷ us) clean).1 few)
+    omega (
+      arith,
+      expression_reads left (clean_left ts (g.joins mark.Minus k ∷ us) clean) few,
+      expression_reads right (clean_right ts (g.joins mark.Minus k ∷ us) clean).1 few,
+    )
 
-pub condition_reads : {r : Rank} {d k : ℕ} {ts : List Marked} {b : Condition} → IsCondition r d k ts b → IsClean ts → d ≤ 64 → d + reads_tested b ≤ 64
+pub condition_reads : {r : Rank} {d k : ℕ} {ts : List Marked} {b : Condition} → IsCondition r d k ts b → IsClean ts → d ≤ 64 →
+    d + reads_tested b ≤ 64
 condition_reads (cond.always d) clean few = omega (arith, few)
 condition_reads (cond.never d) clean few = omega (arith, few)
 condition_reads (cond.compares {ts = ts} {us = us} op left right) clean few =
     let sign = g.word (cond.comparison op) in
-    omega (arith, expression_reads left (clean_left ts (sign ∷ us) clean) few, expression_reads right (clean_right ts (sign ∷ us) clean).1 few)
+    omega (
+      arith,
+      expression_reads left (clean_left ts (sign ∷ us) clean) few,
+      expression_reads right (clean_right ts (sign ∷ us) clean).1
+          few,
+    )
 condition_reads (IsCondition.group {d = d} {ts = ts} inner) clean few =
     let more = condition_reads inner (clean_left ts (g.word mark.CloseSquare ∷ []) clean.1) (omega (arith, opened d clean.0)) in
     omega (arith, more)
@@ -72,14 +90,23 @@ condition_reads (cond.denied inner) clean few = condition_reads inner clean.1 fe
 condition_reads (cond.as_literal inner) clean few = condition_reads inner clean few
 condition_reads (cond.as_conjunction inner) clean few = condition_reads inner clean few
 condition_reads (cond.both {k = k} {ts = ts} {us = us} left right) clean few =
-    omega (arith, condition_reads left (clean_left ts (g.joins mark.Both k ∷ us) clean) few, condition_reads right (clean_right ts (g.joins mark.Both k ∷ us) clean).1 few)
+    omega (
+      arith,
+      condition_reads left (clean_left ts (g.joins mark.Both k ∷ us) clean) few,
+      condition_reads right (clean_right ts (g.joins mark.Both k ∷ us) clean).1 few,
+    )
 condition_reads (cond.as_disjunction inner) clean few = condition_reads inner clean few
 condition_reads (cond.either {k = k} {ts = ts} {us = us} left right) clean few =
-    omega (arith, condition_reads left (clean_left ts (g.joins mark.Either k ∷ us) clean) few, condition_reads right (clean_right ts (g.joins mark.Either k ∷ us) clean).1 few)
+    omega (
+      arith,
+      condition_reads left (clean_left ts (g.joins mark.Either k ∷ us) clean) few,
+      condition_reads right (clean_right ts (g.joins mark.Either k ∷ us) clean).1 few,
+    )
 
 mutual
   -- code that is no deeper than a program may be
-  pub code_fits : {d : ℕ} {ts : List Marked} {c : Code} → AreStatements d ts c → IsClean ts → d ≤ 64 → code_depth c + d ≤ 66 → IsPrintable d c
+  pub code_fits : {d : ℕ} {ts : List Marked} {c : Code} → AreStatements d ts c → IsClean ts → d ≤ 64 → code_depth c + d ≤ 66 →
+      IsPrintable d c
   code_fits (stmt.none d) clean few deep = tt
   code_fits (stmt.skips more) clean few deep = code_fits more clean.1.1 few (omega (arith, deep))
   code_fits (stmt.assigns {ts = ts} {us = us} x value more) clean few deep =

@@ -9,9 +9,11 @@ use Rattle.sm_syntax.specs.text.StatementGrammar.{IsBlock}
 use Rattle.sm_syntax.specs.text.Symbols.{names_of, symbols_of}
 use Rattle.sm_syntax.specs.claim.Syntax.{Condition, Code}
 use Rattle.sm_syntax.specs.text.Tokens.{Lexed, is_space}
-use Rattle.sm_text.specs.printing.Canonical.{condition_pieces, block_pieces, declaration_pieces, output_pieces, shared_pieces, program_pieces}
+use Rattle.sm_text.specs.printing.Canonical.{condition_pieces, block_pieces, declaration_pieces, output_pieces, shared_pieces}
+use Rattle.sm_text.specs.printing.Canonical.{program_pieces}
 use Rattle.sm_text.specs.Tasks.{ProgramParts}
-use Rattle.sm_text.specs.parsing.Fragments.{IsProgram, program, SpellsProgram, HasProgramText, IsNamedProgram, IsKnown, symbols_under, IsCutUnder, SpellsCondition, HasConditionText, SpellsBlock, HasBlockText}
+use Rattle.sm_text.specs.parsing.Fragments.{IsProgram, program, SpellsProgram, HasProgramText, IsNamedProgram, IsKnown, symbols_under}
+use Rattle.sm_text.specs.parsing.Fragments.{IsCutUnder, SpellsCondition, HasConditionText, SpellsBlock, HasBlockText}
 use Rattle.sm_text.specs.printing.Named.{IsTestedIn, IsUsedIn}
 use Rattle.sm_text.specs.printing.Pieces.{Piece, pieces_text, symbols_in, margin_at}
 use Rattle.sm_text.proofs.RoundTrip.CodeSpelled.{marked, marked-append, told}
@@ -19,11 +21,14 @@ use Rattle.sm_text.proofs.RoundTrip.TaskSpelled.{block_told, declarations_shown,
 use Rattle.sm_text.proofs.RoundTrip.TextTokens.{AreApart, relexed}
 use Rattle.sm_text.proofs.RoundTrip.Apart.{IsClosed, condition_runs}
 use Rattle.sm_text.proofs.RoundTrip.CodeApart.{IsCode}
-use Rattle.sm_text.proofs.RoundTrip.TaskApart.{AreTexts, AreDeclaredTexts, both_apart, declarations_apart, outputs_apart, block_runs, shared_apart}
-use Rattle.sm_text.proofs.RoundTrip.Content.{content, both, content_tested, content_used, content_listed, content_declared, condition_content, block_content, declarations_content, outputs_content, shared_content}
+use Rattle.sm_text.proofs.RoundTrip.TaskApart.{AreTexts, AreDeclaredTexts, both_apart, declarations_apart, outputs_apart, block_runs}
+use Rattle.sm_text.proofs.RoundTrip.TaskApart.{shared_apart}
+use Rattle.sm_text.proofs.RoundTrip.Content.{content, both, content_tested, content_used, content_listed, content_declared}
+use Rattle.sm_text.proofs.RoundTrip.Content.{condition_content, block_content, declarations_content, outputs_content, shared_content}
 use Rattle.sm_text.proofs.RoundTrip.Fitting.{IsClean, clean_right, clean_plain, condition_reads, block_fits}
 use Rattle.sm_text.proofs.RoundTrip.Printable.{some_outputs, shared_fits}
-use Rattle.sm_text.proofs.RoundTrip.Spelled.{left, right, condition_written, code_written, listed_written, declared_written, condition_named, code_named, declared_named, outputs_named}
+use Rattle.sm_text.proofs.RoundTrip.Spelled.{left, right, condition_written, code_written, listed_written, declared_written}
+use Rattle.sm_text.proofs.RoundTrip.Spelled.{condition_named, code_named, declared_named, outputs_named}
 use Rattle.sm_text.proofs.RoundTrip.Symbols.{under_in, printed_under, tokens_known}
 use Rattle.sm_text.proofs.RoundTrip.Tasks.{AllIn, all_spelled, content_in, content_all, IsContent, text_content, pieces_again}
 
@@ -36,32 +41,42 @@ pub record IsUnder (names : List (List ℕ)) (ps : List Piece) : Type 0 where
   pub text : IsCutUnder names (pieces_text names ps)
   pub symbols : symbols_under names (pieces_text names ps) ≡ symbols_in ps
 
-pub pieces_under : (names : List (List ℕ)) (ps : List Piece) (ss : List Symbol) → AllIn names ss → content (marked ps) ≡ ss → AreApart names ps → IsUnder names ps
+pub pieces_under : (names : List (List ℕ)) (ps : List Piece) (ss : List Symbol) → AllIn names ss → content (marked ps) ≡ ss →
+    AreApart names ps → IsUnder names ps
 pieces_under names ps ss all same apart =
     let A : List Symbol → Type 0 = λ l. AllIn names l in
     let good = content_all names (symbols_in ps) (subst A (sym same) all) in
     let cut = relexed names ps apart in
     let K : Lexed → Type 0 = λ l. AllByRecursion (IsKnown (pieces_text names ps) names) l.0 in
     record {
-      text = record { tokens = ap (λ (l : Lexed). l.1) cut; known = subst K (sym cut) (tokens_known names ps [] (pieces_text names ps) 0 refl refl good) };
+      text = record {
+        tokens = ap (λ (l : Lexed). l.1) cut;
+        known = subst K (sym cut) (tokens_known names ps [] (pieces_text names ps) 0 refl refl good);
+      };
       symbols = printed_under names ps cut good;
     }
 
 -- the content of what a text spells under names
-under_content : (names : List (List ℕ)) (bytes : List ℕ) → IsCutUnder names bytes → AllIn names (content (map plain (symbols_under names bytes)))
+under_content : (names : List (List ℕ)) (bytes : List ℕ) → IsCutUnder names bytes →
+    AllIn names (content (map plain (symbols_under names bytes)))
 under_content names bytes cut = content_in names (symbols_under names bytes) (under_in names bytes cut.known)
 
+-- the content of what is spelled is that of the symbols
+all_under : (names : List (List ℕ)) (bytes : List ℕ) (ss : List Symbol) → IsCutUnder names bytes →
+    content (map plain (symbols_under names bytes)) ≡ ss → AllIn names ss
+all_under names bytes ss cut same = let A : List Symbol → Type 0 = λ l. AllIn names l in subst A same (under_content names bytes cut)
+
 condition_all : (names : List (List ℕ)) (bytes : List ℕ) (b : Condition) → SpellsCondition names bytes b → AllIn names (content_tested b)
-condition_all names bytes b spells =
-    let A : List Symbol → Type 0 = λ l. AllIn names l in
-    subst A (condition_content spells.grammar) (under_content names bytes spells.text)
+condition_all names bytes b spells = all_under names bytes (content_tested b) spells.text (condition_content spells.grammar)
 
 -- each name of such a condition has a text
 pub condition_has_names : (names : List (List ℕ)) (b : Condition) → HasConditionText names b → IsTestedIn (length names) b
-condition_has_names names b h = condition_named names b (condition_written names b (all_spelled names (content_tested b) (condition_all names h.0 b h.1)))
+condition_has_names names b h =
+    condition_named names b (condition_written names b (all_spelled names (content_tested b) (condition_all names h.0 b h.1)))
 
 -- and its canonical text spells it
-pub condition_back : (names : List (List ℕ)) (b : Condition) → HasConditionText names b → condition_depth b ≤ 64 → SpellsCondition names (pieces_text names (condition_pieces b)) b
+pub condition_back : (names : List (List ℕ)) (b : Condition) → HasConditionText names b → condition_depth b ≤ 64 →
+    SpellsCondition names (pieces_text names (condition_pieces b)) b
 condition_back names b h deep =
     let ps = condition_pieces b in
     let all = condition_all names h.0 b h.1 in
@@ -75,9 +90,7 @@ condition_back names b h deep =
     record { text = it.text; chain = shown.chain; grammar = subst G (sym it.symbols) shown.whole }
 
 block_all : (names : List (List ℕ)) (bytes : List ℕ) (c : Code) → SpellsBlock names bytes c → AllIn names (content_used c)
-block_all names bytes c spells =
-    let A : List Symbol → Type 0 = λ l. AllIn names l in
-    subst A (block_content spells.grammar) (under_content names bytes spells.text)
+block_all names bytes c spells = all_under names bytes (content_used c) spells.text (block_content spells.grammar)
 
 -- the same of a block
 pub block_has_names : (names : List (List ℕ)) (c : Code) → HasBlockText names c → IsUsedIn (length names) c
@@ -87,7 +100,8 @@ white : (level : ℕ) → list_all is_space (margin_at level) ≡ true
 white zero = refl
 white (suc level) = white level
 
-pub block_back : (names : List (List ℕ)) (c : Code) (level : ℕ) → HasBlockText names c → code_depth c ≤ 64 → SpellsBlock names (pieces_text names (block_pieces (margin_at level) c)) c
+pub block_back : (names : List (List ℕ)) (c : Code) (level : ℕ) → HasBlockText names c → code_depth c ≤ 64 →
+    SpellsBlock names (pieces_text names (block_pieces (margin_at level) c)) c
 block_back names c level h deep =
     let margin = margin_at level in
     let ps = block_pieces margin c in
@@ -156,7 +170,8 @@ program_apart p good =
     (both_apart p.names d (x ++ w) (declarations_apart p.names p.declared good.declared)
     (both_apart p.names x w (outputs_apart p.names p.outputs good.outputs) (shared_apart p.names p.body good.body)) [] tt)
 
-program_fits : {ms : List Marked} {p : ProgramParts} → IsProgram ms p → IsClean ms → code_depth p.body ≤ 64 → IsProgram (marked (program_pieces p.declared p.outputs p.body)) p
+program_fits : {ms : List Marked} {p : ProgramParts} → IsProgram ms p → IsClean ms → code_depth p.body ≤ 64 →
+    IsProgram (marked (program_pieces p.declared p.outputs p.body)) p
 unfolding program_pieces
 program_fits (program {ts = ts} {us = us} {vs = vs} p decls outs body) clean deep =
     let d = declaration_pieces p.declared in
@@ -168,7 +183,8 @@ program_fits (program {ts = ts} {us = us} {vs = vs} p decls outs body) clean dee
     subst F (ap (λ (ms : List Marked). marked d ++ ms) (sym (marked-append x w)) ∙ sym (marked-append d (x ++ w))) it
 
 -- and its canonical text spells it
-pub program_back : (p : ProgramParts) → HasProgramText p → code_depth p.body ≤ 64 → SpellsProgram (pieces_text p.names (program_pieces p.declared p.outputs p.body)) p
+pub program_back : (p : ProgramParts) → HasProgramText p → code_depth p.body ≤ 64 →
+    SpellsProgram (pieces_text p.names (program_pieces p.declared p.outputs p.body)) p
 program_back p h deep =
     let ps = program_pieces p.declared p.outputs p.body in
     let cut = relexed p.names ps (program_apart p (program_text p h)) in

@@ -1,5 +1,6 @@
 -- The tokens of a printed text: each piece is cut as it was put.
-use Rattle.std.proofs.Common.{◌≡◌, ℕ, ◌+◌, ◌-◌, ◌^◌, ◌==◌, ◌<◌, ◌≤◌, Bool, true, false, ◌&&◌, if◌then◌else◌, List, [], ◌∷◌, ◌++◌, length, take, nat_le, nat_lt, ◌%◌, refl, sym, ap, subst, ◌∙◌, is_some, eq-eqb, lit<, arith}
+use Rattle.std.proofs.Common.{◌≡◌, ℕ, ◌+◌, ◌-◌, ◌^◌, ◌==◌, ◌<◌, ◌≤◌, Bool, true, false, ◌&&◌, if◌then◌else◌, List, [], ◌∷◌, ◌++◌, length}
+use Rattle.std.proofs.Common.{take, nat_le, nat_lt, ◌%◌, refl, sym, ap, subst, ◌∙◌, is_some, eq-eqb, lit<, arith}
 use Rattle.std.proofs.lemmas.Bool.Decides.{nat_tests}
 use Rattle.std.proofs.lemmas.Fmt.{decimal_by_steps_wide, decimal_is_IsNumeral_wide}
 use Rattle.std.proofs.lemmas.List.Folds.{list_all-append}
@@ -12,7 +13,8 @@ use Rattle.sm_syntax.specs.declared.symbol.Mark.TheVariants as mark
 use Rattle.sm_syntax.specs.declared.token.LexKind.TheVariants.{BadToken, WideNumber}
 use Rattle.sm_syntax.specs.declared.token.TokenKind.{TokenKind}
 use Rattle.sm_syntax.specs.declared.token.TokenKind.TheVariants as kind
-use Rattle.sm_syntax.specs.text.Tokens.{Front, Gap, Piece, Fault, front_of, word_at, number_at, sign_at, is_space, is_hash, is_word_start, is_word_byte, mark_of_sign, signs, by_front, with_token, lexed_after, lexed_from}
+use Rattle.sm_syntax.specs.text.Tokens.{Front, Gap, Piece, Fault, front_of, word_at, number_at, sign_at, is_space, is_hash, is_word_start}
+use Rattle.sm_syntax.specs.text.Tokens.{is_word_byte, mark_of_sign, signs, by_front, with_token, lexed_after, lexed_from}
 use Rattle.sm_text.specs.printing.Pieces.{spelling}
 
 pub both-left : (a b : Bool) → (a && b) ≡ true → a ≡ true
@@ -23,7 +25,8 @@ pub both-right : (a b : Bool) → (a && b) ≡ true → b ≡ true
 both-right true b h = h
 both-right false b h = cc
 
-pub lexed_from-cons : (place b : ℕ) (bytes : List ℕ) → lexed_from place (b ∷ bytes) ≡ by_front (front_of b (b ∷ bytes)) place (λ left. lexed_after left (place + 1) bytes)
+pub lexed_from-cons : (place b : ℕ) (bytes : List ℕ) → lexed_from place (b ∷ bytes) ≡ by_front (front_of b (b ∷ bytes)) place
+    (λ left. lexed_after left (place + 1) bytes)
 unfolding lexed_from
 lexed_from-cons place b bytes = refl
 
@@ -37,7 +40,8 @@ behind_front : (u v : List ℕ) (place : ℕ) → lexed_after (length u) place (
 behind_front [] v place = ap (λ (p : ℕ). lexed_after 0 p v) (omega arith)
 behind_front (b ∷ u) v place = behind_front u v (place + 1) ∙ ap (λ (p : ℕ). lexed_after 0 p v) (omega arith)
 
-pub behind_first : (u v : List ℕ) (place : ℕ) (b : ℕ) → lexed_after (length (b ∷ u) - 1) (place + 1) (u ++ v) ≡ lexed_from (place + length (b ∷ u)) v
+pub behind_first : (u v : List ℕ) (place : ℕ) (b : ℕ) →
+    lexed_after (length (b ∷ u) - 1) (place + 1) (u ++ v) ≡ lexed_from (place + length (b ∷ u)) v
 unfolding lexed_from
 behind_first u v place b =
     let last : length (b ∷ u) - 1 ≡ length u = omega arith in
@@ -45,7 +49,8 @@ behind_first u v place b =
 
 -- a token that its front names is cut whole
 pub lexed-token : (b : ℕ) (u v : List ℕ) (k : TokenKind) (place : ℕ) → front_of b ((b ∷ u) ++ v) ≡ Piece k (length (b ∷ u)) →
-    lexed_from place ((b ∷ u) ++ v) ≡ with_token (record { kind = k; place = place; size = length (b ∷ u) }) (lexed_from (place + length (b ∷ u)) v)
+    lexed_from place ((b ∷ u) ++ v) ≡ with_token (record { kind = k; place = place; size = length (b ∷ u) })
+    (lexed_from (place + length (b ∷ u)) v)
 lexed-token b u v k place front =
     lexed_from-cons place b (u ++ v) ∙
     ap (λ (f : Front). by_front f place (λ left. lexed_after left (place + 1) (u ++ v))) front ∙
@@ -76,7 +81,8 @@ run_of p (b ∷ u) v all ends =
     ap (λ (t : Bool). if t then 1 + prefix_len p (u ++ v) else 0) here ∙ ap (λ (n : ℕ). 1 + n) (run_of p u v rest ends) ∙ omega arith
 
 -- a word before anything that isn't a byte of it
-pub front-word : (b : ℕ) (u v : List ℕ) → is_word_start b ≡ true → list_all is_word_byte (b ∷ u) ≡ true → length (b ∷ u) ≤ 64 → begins is_word_byte v ≡ false →
+pub front-word : (b : ℕ) (u v : List ℕ) → is_word_start b ≡ true → list_all is_word_byte (b ∷ u) ≡ true → length (b ∷ u) ≤ 64 →
+    begins is_word_byte v ≡ false →
     front_of b ((b ∷ u) ++ v) ≡ Piece kind.Word (length (b ∷ u))
 unfolding front_of word_at
 front-word b u v start all short ends =
@@ -105,18 +111,22 @@ take_front [] v = refl
 take_front (b ∷ u) v = ap (λ (l : List ℕ). b ∷ l) (take_front u v)
 
 -- the digits of a number, where its run of digits and its run of word bytes are the same
-numbered : (b : ℕ) (u v : List ℕ) (size wide : ℕ) → size ≡ length (b ∷ u) → wide ≡ length (b ∷ u) → nat_lt (digits_value 10 (b ∷ u)) (2 ^ 127) ≡ true →
-    (if wide == size then (if nat_lt (digits_value 10 (take size ((b ∷ u) ++ v))) (2 ^ 127) then Piece kind.Number size else Fault WideNumber) else Fault BadToken) ≡ Piece kind.Number (length (b ∷ u))
+numbered : (b : ℕ) (u v : List ℕ) (size wide : ℕ) → size ≡ length (b ∷ u) → wide ≡ length (b ∷ u) →
+    nat_lt (digits_value 10 (b ∷ u)) (2 ^ 127) ≡ true →
+    (if wide == size then (if nat_lt (digits_value 10 (take size ((b ∷ u) ++ v))) (2 ^ 127) then Piece kind.Number size else Fault
+    WideNumber) else Fault BadToken) ≡ Piece kind.Number (length (b ∷ u))
 numbered b u v size wide is also narrow =
     let n = length (b ∷ u) in
-    let at : ℕ → Front = λ size. if nat_lt (digits_value 10 (take size ((b ∷ u) ++ v))) (2 ^ 127) then Piece kind.Number size else Fault WideNumber in
+    let at : ℕ → Front = λ size. if nat_lt (digits_value 10 (take size ((b ∷ u) ++ v))) (2 ^ 127) then Piece kind.Number size else Fault
+    WideNumber in
     ap (λ (k : ℕ). if wide == k then at k else Fault BadToken) is ∙
     ap (λ (k : ℕ). if k == n then at n else Fault BadToken) also ∙
     ap (λ (t : Bool). if t then at n else Fault BadToken) (eq-eqb n n refl) ∙
     ap (λ (l : List ℕ). if nat_lt (digits_value 10 l) (2 ^ 127) then Piece kind.Number n else Fault WideNumber) (take_front (b ∷ u) v) ∙
     ap (λ (t : Bool). if t then Piece kind.Number n else Fault WideNumber) narrow
 
-number_front : (b : ℕ) (u v : List ℕ) → list_all is_ascii_digit (b ∷ u) ≡ true → digits_value 10 (b ∷ u) < 2 ^ 127 → begins is_word_byte v ≡ false →
+number_front : (b : ℕ) (u v : List ℕ) → list_all is_ascii_digit (b ∷ u) ≡ true → digits_value 10 (b ∷ u) < 2 ^ 127 →
+    begins is_word_byte v ≡ false →
     number_at ((b ∷ u) ++ v) ≡ Piece kind.Number (length (b ∷ u))
 unfolding number_at
 number_front b u v all small ends =
@@ -126,7 +136,8 @@ number_front b u v all small ends =
     numbered b u v (prefix_len is_ascii_digit ((b ∷ u) ++ v)) (prefix_len is_word_byte ((b ∷ u) ++ v)) size wide narrow
 
 -- a number before anything that isn't a byte of a word
-pub front-number : (b : ℕ) (u v : List ℕ) → list_all is_ascii_digit (b ∷ u) ≡ true → digits_value 10 (b ∷ u) < 2 ^ 127 → begins is_word_byte v ≡ false →
+pub front-number : (b : ℕ) (u v : List ℕ) → list_all is_ascii_digit (b ∷ u) ≡ true → digits_value 10 (b ∷ u) < 2 ^ 127 →
+    begins is_word_byte v ≡ false →
     front_of b ((b ∷ u) ++ v) ≡ Piece kind.Number (length (b ∷ u))
 unfolding front_of
 front-number b u v all small ends =
@@ -141,15 +152,18 @@ and-false true = refl
 and-false false = refl
 
 -- a sign of one byte, where no `=` follows
-front-one : (c : ℕ) (v : List ℕ) → is_space c ≡ false → is_hash c ≡ false → is_word_start c ≡ false → is_ascii_digit c ≡ false → is_some (mark_of_sign (c ∷ [])) ≡ true →
-    ((x : ℕ) → (x == 61) ≡ false → is_some (mark_of_sign (c ∷ x ∷ [])) ≡ false) → begins (λ x. x == 61) v ≡ false → front_of c (c ∷ v) ≡ Piece kind.Sign 1
+front-one : (c : ℕ) (v : List ℕ) → is_space c ≡ false → is_hash c ≡ false → is_word_start c ≡ false → is_ascii_digit c ≡ false →
+    is_some (mark_of_sign (c ∷ [])) ≡ true →
+    ((x : ℕ) → (x == 61) ≡ false → is_some (mark_of_sign (c ∷ x ∷ [])) ≡ false) → begins (λ x. x == 61) v ≡ false →
+    front_of c (c ∷ v) ≡ Piece kind.Sign 1
 unfolding front_of sign_at
 front-one c [] no_space no_hash no_word no_digit single double ends = rw (no_space, no_hash, no_word, no_digit, single) refl
 front-one c (x ∷ v) no_space no_hash no_word no_digit single double ends =
     rw (no_space, no_hash, no_word, no_digit, double x ends, and-false (nat_le 2 (length (c ∷ x ∷ v))), single) refl
 
 -- a sign of two bytes
-pub front-two : (c d : ℕ) (v : List ℕ) → is_space c ≡ false → is_hash c ≡ false → is_word_start c ≡ false → is_ascii_digit c ≡ false → is_some (mark_of_sign (c ∷ d ∷ [])) ≡ true →
+pub front-two : (c d : ℕ) (v : List ℕ) → is_space c ≡ false → is_hash c ≡ false → is_word_start c ≡ false → is_ascii_digit c ≡ false →
+    is_some (mark_of_sign (c ∷ d ∷ [])) ≡ true →
     front_of c (c ∷ d ∷ v) ≡ Piece kind.Sign 2
 unfolding front_of sign_at
 front-two c d v no_space no_hash no_word no_digit double =
@@ -158,17 +172,23 @@ front-two c d v no_space no_hash no_word no_digit double =
 
 -- the bytes u are cut as a token where v follows them
 pub record Cuts (u v : List ℕ) (k : TokenKind) : Type 0 where
-  pub cut : (place : ℕ) → lexed_from place (u ++ v) ≡ with_token (record { kind = k; place = place; size = length u }) (lexed_from (place + length u) v)
+  pub cut : (place : ℕ) → lexed_from place (u ++ v) ≡ with_token (record { kind = k; place = place; size = length u })
+      (lexed_from (place + length u) v)
 
-pub word_cut : (b : ℕ) (u v : List ℕ) → is_word_start b ≡ true → list_all is_word_byte (b ∷ u) ≡ true → length (b ∷ u) ≤ 64 → begins is_word_byte v ≡ false → Cuts (b ∷ u) v kind.Word
-word_cut b u v start all short ends = record { cut = λ (place : ℕ). lexed-token b u v kind.Word place (front-word b u v start all short ends) }
+pub word_cut : (b : ℕ) (u v : List ℕ) → is_word_start b ≡ true → list_all is_word_byte (b ∷ u) ≡ true → length (b ∷ u) ≤ 64 →
+    begins is_word_byte v ≡ false → Cuts (b ∷ u) v kind.Word
+word_cut b u v start all short ends =
+    record { cut = λ (place : ℕ). lexed-token b u v kind.Word place (front-word b u v start all short ends) }
 
-one_cut : (c : ℕ) (v : List ℕ) → is_space c ≡ false → is_hash c ≡ false → is_word_start c ≡ false → is_ascii_digit c ≡ false → is_some (mark_of_sign (c ∷ [])) ≡ true →
-    ((x : ℕ) → (x == 61) ≡ false → is_some (mark_of_sign (c ∷ x ∷ [])) ≡ false) → begins (λ x. x == 61) v ≡ false → Cuts (c ∷ []) v kind.Sign
+one_cut : (c : ℕ) (v : List ℕ) → is_space c ≡ false → is_hash c ≡ false → is_word_start c ≡ false → is_ascii_digit c ≡ false →
+    is_some (mark_of_sign (c ∷ [])) ≡ true →
+    ((x : ℕ) → (x == 61) ≡ false → is_some (mark_of_sign (c ∷ x ∷ [])) ≡ false) → begins (λ x. x == 61) v ≡ false →
+    Cuts (c ∷ []) v kind.Sign
 one_cut c v no_space no_hash no_word no_digit single double ends =
     record { cut = λ (place : ℕ). lexed-token c [] v kind.Sign place (front-one c v no_space no_hash no_word no_digit single double ends) }
 
-two_cut : (c d : ℕ) (v : List ℕ) → is_space c ≡ false → is_hash c ≡ false → is_word_start c ≡ false → is_ascii_digit c ≡ false → is_some (mark_of_sign (c ∷ d ∷ [])) ≡ true → Cuts (c ∷ d ∷ []) v kind.Sign
+two_cut : (c d : ℕ) (v : List ℕ) → is_space c ≡ false → is_hash c ≡ false → is_word_start c ≡ false → is_ascii_digit c ≡ false →
+    is_some (mark_of_sign (c ∷ d ∷ [])) ≡ true → Cuts (c ∷ d ∷ []) v kind.Sign
 two_cut c d v no_space no_hash no_word no_digit double =
     record { cut = λ (place : ℕ). lexed-token c (d ∷ []) v kind.Sign place (front-two c d v no_space no_hash no_word no_digit double) }
 
@@ -275,9 +295,11 @@ digits_of_decimal n small =
         rw here refl
 
 -- a list of digits that has some is cut as a number
-digits_cut : (u v : List ℕ) → 0 < length u → list_all is_ascii_digit u ≡ true → digits_value 10 u < 2 ^ 127 → begins is_word_byte v ≡ false → Cuts u v kind.Number
+digits_cut : (u v : List ℕ) → 0 < length u → list_all is_ascii_digit u ≡ true → digits_value 10 u < 2 ^ 127 →
+    begins is_word_byte v ≡ false → Cuts u v kind.Number
 digits_cut [] v some all small ends = absurd (omega arith)
-digits_cut (b ∷ u) v some all small ends = record { cut = λ (place : ℕ). lexed-token b u v kind.Number place (front-number b u v all small ends) }
+digits_cut (b ∷ u) v some all small ends =
+    record { cut = λ (place : ℕ). lexed-token b u v kind.Number place (front-number b u v all small ends) }
 
 -- a number in decimal is cut whole
 pub number_cut : (n : ℕ) (v : List ℕ) → n < 2 ^ 127 → begins is_word_byte v ≡ false → Cuts (decimal n) v kind.Number

@@ -1,5 +1,6 @@
 -- A task that a text spells nests nowhere too deep in its canonical text.
-use Rattle.std.proofs.Common.{◌≡◌, ℕ, ◌≤◌, ◌==◌, Bool, true, false, not, ◌||◌, if◌then◌else◌, Option, Some, None, List, [], ◌∷◌, ◌++◌, length, map, nat_lt, refl, sym, ap, ◌∙◌, subst, arith, eq-eqb}
+use Rattle.std.proofs.Common.{◌≡◌, ℕ, ◌≤◌, ◌==◌, Bool, true, false, not, ◌||◌, if◌then◌else◌, Option, Some, None, List, [], ◌∷◌, ◌++◌}
+use Rattle.std.proofs.Common.{length, map, nat_lt, refl, sym, ap, ◌∙◌, subst, arith, eq-eqb}
 use Rattle.std.proofs.lemmas.Bool.Decides.{nat_tests}
 use Rattle.std.proofs.lemmas.List.Folds.{list_any-append}
 use Rattle.std.specs.List.{AllByRecursion}
@@ -10,7 +11,11 @@ use Rattle.sm_syntax.specs.declared.symbol.Mark.TheVariants as mark
 use Rattle.sm_syntax.specs.declared.symbol.Symbol.{Symbol}
 use Rattle.sm_syntax.specs.declared.tree.Sort.{Sort}
 use Rattle.sm_syntax.specs.claim.Syntax.{Condition, Code, End, Skip, Assign, Write, If, While, Hole}
-use Rattle.sm_syntax.specs.text.Conditions.{Refusal, DoubleHole, UnknownHole, TooMany, TooDeep, is_in, first_repeated, first_outside, first_of_all, first_of_lists, Shared, ListOf, at_hole, holes_of, filled_holes, double_hole, hole_in_filling, unknown_hole, missing_filling, double_name, first_output_fault, first_sort_fault, over, size_fault, program_fault, ill_formed, ill_assumed, first_refusal, condition_depth, code_depth, condition_nodes, code_nodes}
+use Rattle.sm_syntax.specs.text.Conditions.{Refusal, DoubleHole, UnknownHole, TooMany, TooDeep, is_in, first_repeated, first_outside}
+use Rattle.sm_syntax.specs.text.Conditions.{first_of_all, first_of_lists, Shared, ListOf, at_hole, holes_of, filled_holes, double_hole}
+use Rattle.sm_syntax.specs.text.Conditions.{hole_in_filling, unknown_hole, missing_filling, double_name, first_output_fault}
+use Rattle.sm_syntax.specs.text.Conditions.{first_sort_fault, over, size_fault, program_fault, ill_formed, ill_assumed, first_refusal}
+use Rattle.sm_syntax.specs.text.Conditions.{condition_depth, code_depth, condition_nodes, code_nodes}
 use Rattle.sm_syntax.specs.text.Uses.{names_tested, names_used}
 use Rattle.sm_syntax.specs.claim.Fill.{Fillings, filling, fill}
 use Rattle.sm_syntax.specs.claim.ConflictFree.{Copy, O, A, B, M}
@@ -21,7 +26,8 @@ use Rattle.sm_syntax.specs.text.MarkedSymbols.{Marked, plain}
 use Rattle.sm_syntax.specs.text.TaskGrammar.{IsAssumption, IsShared, AreNames, AreOutputs, AreFillings, IsList, IsTask}
 use Rattle.sm_text.proofs.RoundTrip.CodeSpelled.{IsPrintable}
 use Rattle.sm_text.proofs.RoundTrip.TaskSpelled.{FitsAssumption, ArePrintable, HasOutput, IsPrintableTask}
-use Rattle.sm_text.proofs.RoundTrip.Fitting.{IsClean, clean_left, clean_right, clean_plain, condition_reads, block_fits, depth-append, depth-fill}
+use Rattle.sm_text.proofs.RoundTrip.Fitting.{IsClean, clean_left, clean_right, clean_plain, condition_reads, block_fits, depth-append}
+use Rattle.sm_text.proofs.RoundTrip.Fitting.{depth-fill}
 
 -- neither of two refusals
 none_left : {T : Type 0} (a b : Option T) → option_or a b ≡ None → a ≡ None
@@ -74,7 +80,8 @@ depth-filling fs (While b c k) h in_ =
 depth-filling fs (Hole j k) h in_ =
     let both = depth-append (filling fs j) (fill fs k) in
     or_then (h == j) (is_in (holes_of k) h) in_
-    (λ p. let same : h ≡ j = grind (arith, nat_tests) in let D : ℕ → Type 0 = λ n. code_depth (filling fs n) ≤ code_depth (fill fs (Hole j k)) in subst D (sym same) (omega (arith, both)))
+    (λ p. let same : h ≡ j = grind (arith, nat_tests) in let D : ℕ →
+    Type 0 = λ n. code_depth (filling fs n) ≤ code_depth (fill fs (Hole j k)) in subst D (sym same) (omega (arith, both)))
     (λ p. omega (arith, both, depth-filling fs k h p))
 
 -- each filling is no deeper than a program may be
@@ -99,18 +106,23 @@ first_there f fs h apart =
     ap (λ (t : Bool). if t then f.1 else filling fs h) other
 
 -- where each hole that is filled is filled once, and stands in a program that is no deeper
-shallow : (all fs : Fillings) (seen holes : List ℕ) → first_repeated seen (filled_holes fs) ≡ None → first_outside holes (filled_holes fs) ≡ None →
-    ((h : ℕ) → is_in seen h ≡ false → filling all h ≡ filling fs h) → ((h : ℕ) → is_in holes h ≡ true → code_depth (filling all h) ≤ 64) → AreShallow fs
+shallow : (all fs : Fillings) (seen holes : List ℕ) → first_repeated seen (filled_holes fs) ≡ None →
+    first_outside holes (filled_holes fs) ≡ None →
+    ((h : ℕ) → is_in seen h ≡ false → filling all h ≡ filling fs h) → ((h : ℕ) → is_in holes h ≡ true → code_depth (filling all h) ≤ 64) →
+    AreShallow fs
 shallow all [] seen holes once known same deep = tt
 shallow all (f ∷ fs) seen holes once known same deep =
     let new : is_in seen f.0 ≡ false = if_first (is_in seen f.0) f.0 (first_repeated (f.0 ∷ seen) (filled_holes fs)) once in
-    let more : first_repeated (f.0 ∷ seen) (filled_holes fs) ≡ None = if_rest (is_in seen f.0) f.0 (first_repeated (f.0 ∷ seen) (filled_holes fs)) once in
+    let more : first_repeated (f.0 ∷ seen) (filled_holes fs) ≡ None =
+    if_rest (is_in seen f.0) f.0 (first_repeated (f.0 ∷ seen) (filled_holes fs)) once in
     let here : not (is_in holes f.0) ≡ false = if_first (not (is_in holes f.0)) f.0 (first_outside holes (filled_holes fs)) known in
-    let rest : first_outside holes (filled_holes fs) ≡ None = if_rest (not (is_in holes f.0)) f.0 (first_outside holes (filled_holes fs)) known in
+    let rest : first_outside holes (filled_holes fs) ≡ None =
+    if_rest (not (is_in holes f.0)) f.0 (first_outside holes (filled_holes fs)) known in
     let D : Code → Type 0 = λ c. code_depth c ≤ 64 in (
       subst D (same f.0 new ∙ first_here f fs) (deep f.0 (not_false (is_in holes f.0) here)),
       shallow all fs (f.0 ∷ seen) holes more rest
-          (λ (h : ℕ) (out : is_in (f.0 ∷ seen) h ≡ false). let apart = either_false (h == f.0) (is_in seen h) out in same h apart.1 ∙ first_there f fs h apart.0)
+          (λ (h : ℕ) (out : is_in (f.0 ∷ seen) h ≡ false). let apart = either_false (h == f.0) (is_in seen h) out in same h apart.1
+          ∙ first_there f fs h apart.0)
           deep,
     )
   where
@@ -138,12 +150,14 @@ program_within : (ds : List (ℕ × Sort)) (os : List ℕ) (c : Code) → progra
 unfolding program_fault
 program_within ds os c h =
     size_within (code_nodes c) (code_depth c)
-    (none_of (double_name ds ∷ first_output_fault (sort_of ds) [] os ∷ first_sort_fault (sort_of ds) (names_used c) ∷ over 200 (length ds) TooMany ∷ size_fault (code_nodes c) (code_depth c) ∷ []) h).1.1.1.1.0
+    (none_of (double_name ds ∷ first_output_fault (sort_of ds) [] os ∷ first_sort_fault (sort_of ds) (names_used c) ∷ over 200
+    (length ds) TooMany ∷ size_fault (code_nodes c) (code_depth c) ∷ []) h).1.1.1.1.0
 
 assumption_within : (ds : List (ℕ × Sort)) (b : Condition) → ill_assumed ds (Some b) ≡ None → condition_depth b ≤ 64
 unfolding ill_assumed
 assumption_within ds b h =
-    size_within (condition_nodes b) (condition_depth b) (none_of (first_sort_fault (sort_of ds) (names_tested b) ∷ size_fault (condition_nodes b) (condition_depth b) ∷ []) h).1.0
+    size_within (condition_nodes b) (condition_depth b)
+    (none_of (first_sort_fault (sort_of ds) (names_tested b) ∷ size_fault (condition_nodes b) (condition_depth b) ∷ []) h).1.0
 
 -- what is used here of a task that no condition refuses
 record Passes (t : Parts) : Type 0 where
@@ -168,12 +182,14 @@ known_in t h c =
 depths : (t : Parts) → ill_formed t ≡ None → (c : Copy) → code_depth (fill (t.fillings c) t.shared) ≤ 64
 unfolding ill_formed
 depths t h c =
-    program_within t.declared t.outputs (fill (t.fillings c) t.shared) (each_list (λ c. program_fault t.declared t.outputs (fill (t.fillings c) t.shared)) h c)
+    program_within t.declared t.outputs (fill (t.fillings c) t.shared)
+    (each_list (λ c. program_fault t.declared t.outputs (fill (t.fillings c) t.shared)) h c)
 
 passes : (t : Parts) → first_refusal t ≡ None → Passes t
 unfolding first_refusal
 passes t valid =
-    let all = none_of (double_hole t ∷ hole_in_filling t ∷ unknown_hole t ∷ missing_filling t ∷ ill_formed t ∷ ill_assumed t.declared t.assumed ∷ []) valid in
+    let all = none_of (double_hole t ∷ hole_in_filling t ∷ unknown_hole t ∷ missing_filling t ∷ ill_formed t ∷ ill_assumed t.declared
+    t.assumed ∷ []) valid in
     record { filled_once = once t all.0; known = known_in t all.1.1.0; programs = depths t all.1.1.1.1.0; assumed = all.1.1.1.1.1.0 }
 
 fillings_shallow : (t : Parts) → Passes t → (c : Copy) → AreShallow (t.fillings c)
@@ -190,10 +206,14 @@ some_names (AreNames.more x rest) = tt
 pub some_outputs : {ts : List Marked} {xs : List ℕ} → AreOutputs ts xs → HasOutput xs
 some_outputs (task.outputs names) = some_names names
 
-assumption_fits : {ts : List Marked} {o : Option Condition} (ds : List (ℕ × Sort)) → IsAssumption ts o → IsClean ts → ill_assumed ds o ≡ None → FitsAssumption o
+assumption_fits : {ts : List Marked} {o : Option Condition} (ds : List (ℕ × Sort)) → IsAssumption ts o → IsClean ts →
+    ill_assumed ds o ≡ None → FitsAssumption o
 assumption_fits ds IsAssumption.none clean h = tt
 assumption_fits ds (task.assumes {ts = ts} {b = b} test) clean h =
-    record { depth = omega (arith, assumption_within ds b h); reads = condition_reads test (clean_left ts (g.word mark.Semicolon ∷ []) clean.1) (omega arith) }
+    record {
+      depth = omega (arith, assumption_within ds b h);
+      reads = condition_reads test (clean_left ts (g.word mark.Semicolon ∷ []) clean.1) (omega arith);
+    }
 
 pub shared_fits : {ts : List Marked} {c : Code} → IsShared ts c → IsClean ts → code_depth c ≤ 65 → IsPrintable 1 c
 shared_fits (task.shared inner) clean deep = block_fits inner clean.1 (omega (arith, deep))
@@ -208,7 +228,8 @@ list_fits (task.list {ts = ts} m inner) clean deep = fillings_fit inner (clean_l
 
 -- a valid task of clean symbols
 task_fits : {ms : List Marked} {t : Parts} → IsTask ms t → IsClean ms → Passes t → IsPrintableTask t
-task_fits (task.task {ts = ts} {us = us} {vs = vs} {ws = ws} {o = o} {a = a} {b = b} {m = m} t decls outs assume body first second third fourth) clean p =
+task_fits (task.task {ts = ts} {us = us} {vs = vs} {ws = ws} {o = o} {a = a} {b = b} {m = m} t decls outs assume body first second third
+    fourth) clean p =
     let behind = clean_right ts (us ++ (vs ++ (ws ++ (o ++ (a ++ (b ++ m)))))) clean in
     let rest = clean_right us (vs ++ (ws ++ (o ++ (a ++ (b ++ m))))) behind in
     let more = clean_right vs (ws ++ (o ++ (a ++ (b ++ m)))) rest in
@@ -216,7 +237,8 @@ task_fits (task.task {ts = ts} {us = us} {vs = vs} {ws = ws} {o = o} {a = a} {b 
     let others = clean_right o (a ++ (b ++ m)) lists in
     let last = clean_right a (b ++ m) others in
     let depth = p.programs O in
-    let of_copy = by_copies t p (list_fits first (clean_left o (a ++ (b ++ m)) lists)) (list_fits second (clean_left a (b ++ m) others)) (list_fits third (clean_left b m last)) (list_fits fourth (clean_right b m last)) in
+    let of_copy = by_copies t p (list_fits first (clean_left o (a ++ (b ++ m)) lists)) (list_fits second (clean_left a (b ++ m) others))
+    (list_fits third (clean_left b m last)) (list_fits fourth (clean_right b m last)) in
     record {
       outputs = some_outputs outs;
       assumed = assumption_fits t.declared assume (clean_left vs (ws ++ (o ++ (a ++ (b ++ m)))) rest) p.assumed;
@@ -224,7 +246,8 @@ task_fits (task.task {ts = ts} {us = us} {vs = vs} {ws = ws} {o = o} {a = a} {b 
       fillings = of_copy;
     }
   where
-    by_copies : (t : Parts) → Passes t → (AreShallow (t.fillings O) → ArePrintable (t.fillings O)) → (AreShallow (t.fillings A) → ArePrintable (t.fillings A)) → (AreShallow (t.fillings B) → ArePrintable (t.fillings B))
+    by_copies : (t : Parts) → Passes t → (AreShallow (t.fillings O) → ArePrintable (t.fillings O)) →
+        (AreShallow (t.fillings A) → ArePrintable (t.fillings A)) → (AreShallow (t.fillings B) → ArePrintable (t.fillings B))
         → (AreShallow (t.fillings M) → ArePrintable (t.fillings M)) → (c : Copy) → ArePrintable (t.fillings c)
     by_copies t p first second third fourth O = first (fillings_shallow t p O)
     by_copies t p first second third fourth A = second (fillings_shallow t p A)

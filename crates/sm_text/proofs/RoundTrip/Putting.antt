@@ -4,7 +4,8 @@ use Rattle.std.proofs.lemmas.Grind.{flat_map-append}
 use Rattle.sm_text.specs.printing.Pieces.{Piece, pieces_text}
 
 -- one list of pieces after another
-pub put_both : (names : List (List ℕ)) (ps qs : List Piece) (o n m : List ℕ) → n ≡ o ++ pieces_text names ps → m ≡ n ++ pieces_text names qs → m ≡ o ++ pieces_text names (ps ++ qs)
+pub put_both : (names : List (List ℕ)) (ps qs : List Piece) (o n m : List ℕ) → n ≡ o ++ pieces_text names ps →
+    m ≡ n ++ pieces_text names qs → m ≡ o ++ pieces_text names (ps ++ qs)
 put_both names ps qs o n m first second =
     second ∙ ap (λ (l : List ℕ). l ++ pieces_text names qs) first ∙ append_assoc o (pieces_text names ps) (pieces_text names qs) ∙
     ap (λ (l : List ℕ). o ++ l) (sym (flat_map-append _ ps qs))

@@ -1,12 +1,14 @@
 -- Trees whose names and numbers a text may have.
-use Rattle.std.proofs.Common.{◌≡◌, ℕ, ◌<◌, ◌≤◌, Bool, true, false, nat_lt, Option, Some, None, List, [], ◌∷◌, ◌++◌, length, unwrap_or, refl, ap, subst, arith}
+use Rattle.std.proofs.Common.{◌≡◌, ℕ, ◌<◌, ◌≤◌, Bool, true, false, nat_lt, Option, Some, None, List, [], ◌∷◌, ◌++◌, length, unwrap_or, refl}
+use Rattle.std.proofs.Common.{ap, subst, arith}
 use Rattle.std.proofs.lemmas.Bool.Decides.{nat_tests}
 use Rattle.std.proofs.lemmas.Option.{slice_get_past}
 use Rattle.std.specs.List.{AllByRecursion}
 use Rattle.std.specs.Prelude.{slice_get}
 use Rattle.sm_syntax.specs.declared.symbol.Symbol.{Symbol}
 use Rattle.sm_syntax.specs.declared.tree.Sort.{Sort}
-use Rattle.sm_syntax.specs.claim.Syntax.{Expression, Lit, Var, Read, Neg, Plus, Minus, Times, Condition, Yes, No, Compare, Not, And, Or, Code, End, Skip, Assign, Write, If, While, Hole}
+use Rattle.sm_syntax.specs.claim.Syntax.{Expression, Lit, Var, Read, Neg, Plus, Minus, Times, Condition, Yes, No, Compare, Not, And, Or}
+use Rattle.sm_syntax.specs.claim.Syntax.{Code, End, Skip, Assign, Write, If, While, Hole}
 use Rattle.sm_syntax.specs.claim.Fill.{Fillings}
 use Rattle.sm_syntax.specs.claim.ConflictFree.{Copy, O, A, B, M}
 use Rattle.sm_syntax.specs.text.Parts.{Parts}
@@ -15,7 +17,8 @@ use Rattle.sm_text.proofs.RoundTrip.TextTokens.{IsNameText, IsSpelled}
 use Rattle.sm_text.proofs.RoundTrip.Apart.{IsWritten, IsTested}
 use Rattle.sm_text.proofs.RoundTrip.CodeApart.{IsCode}
 use Rattle.sm_text.proofs.RoundTrip.TaskApart.{AreTexts, AreDeclaredTexts, IsAssumedText, AreFillingTexts, IsTaskText}
-use Rattle.sm_text.proofs.RoundTrip.Content.{content_of, content_tested, content_used, content_listed, content_declared, content_assumed, content_filled, content_of_task}
+use Rattle.sm_text.proofs.RoundTrip.Content.{content_of, content_tested, content_used, content_listed, content_declared, content_assumed}
+use Rattle.sm_text.proofs.RoundTrip.Content.{content_filled, content_of_lists, content_of_task}
 
 -- each of two lists
 pub all_left : {T : Type 0} (P : T → Type 0) (xs ys : List T) → AllByRecursion P (xs ++ ys) → AllByRecursion P xs
@@ -41,23 +44,44 @@ expression_written names (Lit z) h = h.0
 expression_written names (Var x) h = h.0
 expression_written names (Read a i) h = (h.0, expression_written names i h.1)
 expression_written names (Neg e) h = expression_written names e h
-expression_written names (Plus d e) h = (expression_written names d (left names (content_of d) (content_of e) h), expression_written names e (right names (content_of d) (content_of e) h))
-expression_written names (Minus d e) h = (expression_written names d (left names (content_of d) (content_of e) h), expression_written names e (right names (content_of d) (content_of e) h))
-expression_written names (Times d e) h = (expression_written names d (left names (content_of d) (content_of e) h), expression_written names e (right names (content_of d) (content_of e) h))
+expression_written names (Plus d e) h = (
+  expression_written names d (left names (content_of d) (content_of e) h),
+  expression_written names e (right names (content_of d) (content_of e) h),
+)
+expression_written names (Minus d e) h = (
+  expression_written names d (left names (content_of d) (content_of e) h),
+  expression_written names e (right names (content_of d) (content_of e) h),
+)
+expression_written names (Times d e) h = (
+  expression_written names d (left names (content_of d) (content_of e) h),
+  expression_written names e (right names (content_of d) (content_of e) h),
+)
 
 pub condition_written : (names : List (List ℕ)) (b : Condition) → AllSpelled names (content_tested b) → IsTested names b
 condition_written names Yes h = tt
 condition_written names No h = tt
-condition_written names (Compare op d e) h = (expression_written names d (left names (content_of d) (content_of e) h), expression_written names e (right names (content_of d) (content_of e) h))
+condition_written names (Compare op d e) h = (
+  expression_written names d (left names (content_of d) (content_of e) h),
+  expression_written names e (right names (content_of d) (content_of e) h),
+)
 condition_written names (Not b) h = condition_written names b h
-condition_written names (And b c) h = (condition_written names b (left names (content_tested b) (content_tested c) h), condition_written names c (right names (content_tested b) (content_tested c) h))
-condition_written names (Or b c) h = (condition_written names b (left names (content_tested b) (content_tested c) h), condition_written names c (right names (content_tested b) (content_tested c) h))
+condition_written names (And b c) h = (
+  condition_written names b (left names (content_tested b) (content_tested c) h),
+  condition_written names c (right names (content_tested b) (content_tested c) h),
+)
+condition_written names (Or b c) h = (
+  condition_written names b (left names (content_tested b) (content_tested c) h),
+  condition_written names c (right names (content_tested b) (content_tested c) h),
+)
 
 pub code_written : (names : List (List ℕ)) (c : Code) → AllSpelled names (content_used c) → IsCode names c
 code_written names End h = tt
 code_written names (Skip k) h = code_written names k h
-code_written names (Assign x e k) h =
-    (h.0, expression_written names e (left names (content_of e) (content_used k) h.1), code_written names k (right names (content_of e) (content_used k) h.1))
+code_written names (Assign x e k) h = (
+  h.0,
+  expression_written names e (left names (content_of e) (content_used k) h.1),
+  code_written names k (right names (content_of e) (content_used k) h.1),
+)
 code_written names (Write a i e k) h =
     let rest = right names (content_of i) (content_of e ++ content_used k) h.1 in (
       h.0,
@@ -95,39 +119,51 @@ assumed_written names (Some b) h = condition_written names b h
 
 filled_written : (names : List (List ℕ)) (fs : Fillings) → AllSpelled names (content_filled fs) → AreFillingTexts names fs
 filled_written names [] h = tt
-filled_written names (f ∷ fs) h =
-    (h.0, code_written names f.1 (left names (content_used f.1) (content_filled fs) h.1), filled_written names fs (right names (content_used f.1) (content_filled fs) h.1))
+filled_written names (f ∷ fs) h = (
+  h.0,
+  code_written names f.1 (left names (content_used f.1) (content_filled fs) h.1),
+  filled_written names fs (right names (content_used f.1) (content_filled fs) h.1),
+)
+
+lists_written : (names : List (List ℕ)) (fs : Copy → Fillings) → AllSpelled names (content_of_lists fs) → (c : Copy) →
+    AreFillingTexts names (fs c)
+lists_written names fs h = by
+  where
+    o : List Symbol
+    o = content_filled (fs O)
+
+    a : List Symbol
+    a = content_filled (fs A)
+
+    b : List Symbol
+    b = content_filled (fs B)
+
+    m : List Symbol
+    m = content_filled (fs M)
+
+    by : (c : Copy) → AreFillingTexts names (fs c)
+    by O = filled_written names (fs O) (left names o (a ++ (b ++ m)) h)
+    by A = filled_written names (fs A) (left names a (b ++ m) (right names o (a ++ (b ++ m)) h))
+    by B = filled_written names (fs B) (left names b m (right names a (b ++ m) (right names o (a ++ (b ++ m)) h)))
+    by M = filled_written names (fs M) (right names b m (right names a (b ++ m) (right names o (a ++ (b ++ m)) h)))
 
 pub task_written : (names : List (List ℕ)) (t : Parts) → AllSpelled names (content_of_task t) → IsTaskText names t
 task_written names t h =
-    let fo = content_filled (t.fillings O) in
-    let fa = content_filled (t.fillings A) in
-    let fb = content_filled (t.fillings B) in
-    let fm = content_filled (t.fillings M) in
+    let lists = content_of_lists t.fillings in
     let c = content_used t.shared in
     let v = content_assumed t.assumed in
     let x = content_listed t.outputs in
     let d = content_declared t.declared in
-    let outs = right names d (x ++ (v ++ (c ++ (fo ++ (fa ++ (fb ++ fm)))))) h in
-    let assume = right names x (v ++ (c ++ (fo ++ (fa ++ (fb ++ fm))))) outs in
-    let body = right names v (c ++ (fo ++ (fa ++ (fb ++ fm)))) assume in
-    let lists = right names c (fo ++ (fa ++ (fb ++ fm))) body in
-    let others = right names fo (fa ++ (fb ++ fm)) lists in
-    let last = right names fa (fb ++ fm) others in
+    let outs = right names d (x ++ (v ++ (c ++ lists))) h in
+    let assume = right names x (v ++ (c ++ lists)) outs in
+    let body = right names v (c ++ lists) assume in
     record {
-      declared = declared_written names t.declared (left names d (x ++ (v ++ (c ++ (fo ++ (fa ++ (fb ++ fm)))))) h);
-      outputs = listed_written names t.outputs (left names x (v ++ (c ++ (fo ++ (fa ++ (fb ++ fm))))) outs);
-      assumed = assumed_written names t.assumed (left names v (c ++ (fo ++ (fa ++ (fb ++ fm)))) assume);
-      shared = code_written names t.shared (left names c (fo ++ (fa ++ (fb ++ fm))) body);
-      fillings = of_copy (left names fo (fa ++ (fb ++ fm)) lists) (left names fa (fb ++ fm) others) (left names fb fm last) (right names fb fm last);
+      declared = declared_written names t.declared (left names d (x ++ (v ++ (c ++ lists))) h);
+      outputs = listed_written names t.outputs (left names x (v ++ (c ++ lists)) outs);
+      assumed = assumed_written names t.assumed (left names v (c ++ lists) assume);
+      shared = code_written names t.shared (left names c lists body);
+      fillings = lists_written names t.fillings (right names c lists body);
     }
-  where
-    of_copy : AllSpelled names (content_filled (t.fillings O)) → AllSpelled names (content_filled (t.fillings A)) → AllSpelled names (content_filled (t.fillings B)) → AllSpelled names (content_filled (t.fillings M))
-        → (c : Copy) → AreFillingTexts names (t.fillings c)
-    of_copy o a b m O = filled_written names (t.fillings O) o
-    of_copy o a b m A = filled_written names (t.fillings A) a
-    of_copy o a b m B = filled_written names (t.fillings B) b
-    of_copy o a b m M = filled_written names (t.fillings M) m
 
 -- a name that has a text is one of the names
 no_text : IsNameText [] → ⊥
@@ -164,7 +200,8 @@ pub code_named : (names : List (List ℕ)) (c : Code) → IsCode names c → IsU
 code_named names End h = tt
 code_named names (Skip k) h = code_named names k h
 code_named names (Assign x e k) h = (text_within names x h.0, expression_named names e h.1, code_named names k h.2)
-code_named names (Write a i e k) h = (text_within names a h.0, expression_named names i h.1, expression_named names e h.2, code_named names k h.3)
+code_named names (Write a i e k) h =
+    (text_within names a h.0, expression_named names i h.1, expression_named names e h.2, code_named names k h.3)
 code_named names (If b c e k) h = (condition_named names b h.0, code_named names c h.1, code_named names e h.2, code_named names k h.3)
 code_named names (While b c k) h = (condition_named names b h.0, code_named names c h.1, code_named names k h.2)
 code_named names (Hole h k) good = code_named names k good.1

@@ -1,152 +1,33 @@
 -- The names and symbols of a printed text: they are those of its pieces, where the names are the ones of a text.
-use Rattle.std.proofs.Common.{◌≡◌, ℕ, ℤ, pos, negsuc, ◌+◌, ◌^◌, ◌<◌, ◌≤◌, Bool, true, false, not, ◌||◌, ◌&&◌, if◌then◌else◌, Option, Some, None, is_some, List, [], ◌∷◌, ◌++◌, map, length, take, drop, drop-drop, unwrap_or, zero, suc, ◌-◌, ◌==◌, codes, one-add, nat_le, nat_lt, refl, sym, ap, ap₂, ◌∙◌, subst, append_assoc, arith, lit<, true≢false}
+use Rattle.std.proofs.Common.{◌≡◌, ℕ, ℤ, pos, negsuc, ◌+◌, ◌^◌, ◌<◌, Bool, true, false, not, ◌||◌, if◌then◌else◌, Option, Some, None}
+use Rattle.std.proofs.Common.{is_some, List, [], ◌∷◌, ◌++◌, map, length, take, drop, unwrap_or, refl, sym, ap, ap₂, ◌∙◌, subst}
+use Rattle.std.proofs.Common.{append_assoc, arith, lit<, true≢false}
 use Rattle.std.proofs.Math.Seq.{take-append_seam, drop-append_seam}
-use Rattle.std.proofs.lemmas.Bool.Decides.{nat_tests}
 use Rattle.std.proofs.lemmas.Fmt.{decimal_is_IsNumeral_wide}
 use Rattle.std.proofs.lemmas.List.{length-append}
 use Rattle.std.proofs.lemmas.List.Folds.{list_any-append}
-use Rattle.std.specs.Char.{is_ascii_digit}
-use Rattle.std.specs.List.{prefix_len, list_all, position_or_len, AllByRecursion}
+use Rattle.std.specs.List.{position_or_len, AllByRecursion}
 use Rattle.std.specs.Prelude.{slice_get}
 use Rattle.std.specs.Str.{bytes_eq}
-use Rattle.std.specs.Str.Parse.{digits_value}
 use Rattle.sm_syntax.specs.declared.symbol.Mark.{Mark}
 use Rattle.sm_syntax.specs.declared.symbol.Mark.TheVariants as mark
 use Rattle.sm_syntax.specs.declared.symbol.Symbol.{Symbol}
 use Rattle.sm_syntax.specs.declared.symbol.Symbol.TheVariants as s
-use Rattle.sm_syntax.specs.declared.token.LexKind.{LexKind}
-use Rattle.sm_syntax.specs.declared.token.LexKind.TheVariants.{BadByte, BadToken, WideNumber}
 use Rattle.sm_syntax.specs.declared.token.Token as lexical
 use Rattle.sm_syntax.specs.declared.token.TokenKind.{TokenKind}
 use Rattle.sm_syntax.specs.declared.token.TokenKind.TheVariants as kind
-use Rattle.sm_syntax.specs.text.Tokens.{Front, Gap, Piece, Fault, front_of, word_at, number_at, sign_at, is_space, is_hash, is_in_line, is_word_start, is_word_byte, mark_of_word, reserved_words, mark_of_sign, signs, by_front, Lexed, lexed_after, lexed_from, lexed}
+use Rattle.sm_syntax.specs.text.Tokens.{mark_of_word, reserved_words, mark_of_sign, signs, Lexed, lexed}
 use Rattle.sm_syntax.specs.text.Symbols as symbol
-use Rattle.sm_syntax.specs.text.Symbols.{is_among, with_text, is_name, names_after, mark_or, symbol_by, symbol_of, names_among, symbols_among, names_of, symbols_of}
+use Rattle.sm_syntax.specs.text.Symbols.{is_among, with_text, is_name, names_after, mark_or, symbol_by, symbol_of, names_among}
+use Rattle.sm_syntax.specs.text.Symbols.{symbols_among, names_of, symbols_of}
 use Rattle.sm_syntax.proofs.Numbering.{slice_get-number}
 use Rattle.sm_text.specs.parsing.Fragments.{IsKnown, symbols_under}
 use Rattle.sm_text.specs.printing.Pieces as pieces
 use Rattle.sm_text.specs.printing.Pieces.{spelling, bytes_of, symbols_in}
-use Rattle.sm_text.proofs.RoundTrip.PieceTokens.{begins, mark_kind}
+use Rattle.sm_text.proofs.RoundTrip.PieceTokens.{mark_kind}
 use Rattle.sm_text.proofs.RoundTrip.TextTokens.{kind_of, IsNameText, IsLiteral, IsSpelled, tokens_at}
 use Rattle.sm_text.proofs.Numbering.Symbols.{names_with, grown-names_after, known-names_with}
-
--- a word that begins as one and is short, a number that is not too wide
-abbrev pub IsGoodText : TokenKind → List ℕ → Type 0
-IsGoodText kind.Word text = (begins is_word_start text ≡ true) × (list_all is_word_byte text ≡ true) × (length text ≤ 64)
-IsGoodText kind.Number text = digits_value 10 text < 2 ^ 127
-IsGoodText kind.Sign text = Unit {0}
-
--- a token's bytes are of its kind
-abbrev pub Suits : List ℕ → Front → Type 0
-Suits bytes (Gap size) = Unit {0}
-Suits bytes (Piece k size) = IsGoodText k (take size bytes)
-Suits bytes (Fault k) = Unit {0}
-
-pub record IsGood (bytes : List ℕ) (f : Front) : Type 0 where
-  pub suits : Suits bytes f
-
-good_if : {bytes : List ℕ} (t : Bool) (a b : Front) → (t ≡ true → IsGood bytes a) → (t ≡ false → IsGood bytes b) → IsGood bytes (if t then a else b)
-good_if true a b at_true at_false = at_true refl
-good_if false a b at_true at_false = at_false refl
-
-run_all : (p : ℕ → Bool) (bytes : List ℕ) → list_all p (take (prefix_len p bytes) bytes) ≡ true
-run_all p [] = refl
-run_all p (b ∷ bytes) = by (p b) refl (run_all p bytes)
-  where
-    by : (t : Bool) → p b ≡ t → list_all p (take (prefix_len p bytes) bytes) ≡ true → list_all p (take (if t then 1 + prefix_len p bytes else 0) (b ∷ bytes)) ≡ true
-    by true e more =
-        ap (λ (n : ℕ). list_all p (take n (b ∷ bytes))) (one-add (prefix_len p bytes)) ∙
-        ap (λ (t : Bool). t && list_all p (take (prefix_len p bytes) bytes)) e ∙ more
-    by false e more = refl
-
-run_first : (p q : ℕ → Bool) (b : ℕ) (bytes : List ℕ) → q b ≡ true → p b ≡ true → begins p (take (prefix_len q (b ∷ bytes)) (b ∷ bytes)) ≡ true
-run_first p q b bytes at_q at_p =
-    ap (λ (t : Bool). begins p (take (if t then 1 + prefix_len q bytes else 0) (b ∷ bytes))) at_q ∙
-    ap (λ (n : ℕ). begins p (take n (b ∷ bytes))) (one-add (prefix_len q bytes)) ∙ at_p
-
-run_short : (p : ℕ → Bool) (bytes : List ℕ) → length (take (prefix_len p bytes) bytes) ≤ prefix_len p bytes
-run_short p bytes = length_take (prefix_len p bytes) bytes
-  where
-    length_take : (n : ℕ) (l : List ℕ) → length (take n l) ≤ n
-    length_take zero l = omega arith
-    length_take (suc n) [] = omega arith
-    length_take (suc n) (x ∷ l) = omega (arith, length_take n l)
-
-start_in_word : (b : ℕ) → is_word_start b ≡ true → is_word_byte b ≡ true
-start_in_word b h = grind (arith, nat_tests)
-
-no_fault : (bytes : List ℕ) (k : LexKind) → IsGood bytes (Fault k)
-no_fault bytes k = record { suits = tt }
-
-word_good : (b : ℕ) (bytes : List ℕ) → is_word_start b ≡ true → IsGood (b ∷ bytes) (word_at (b ∷ bytes))
-unfolding word_at
-word_good b bytes h =
-    let size = prefix_len is_word_byte (b ∷ bytes) in
-    let short = run_short is_word_byte (b ∷ bytes) in
-    good_if (nat_le size 64) (Piece kind.Word size) (Fault BadToken)
-    (λ (p : nat_le size 64 ≡ true).
-    let few : size ≤ 64 = grind (arith, nat_tests) in
-    record { suits = (run_first is_word_start is_word_byte b bytes (start_in_word b h) h, run_all is_word_byte (b ∷ bytes), omega (arith, short, few)) })
-    (λ _. no_fault _ _)
-
-number_good : (bytes : List ℕ) → IsGood bytes (number_at bytes)
-unfolding number_at
-number_good bytes =
-    let size = prefix_len is_ascii_digit bytes in
-    let value = digits_value 10 (take size bytes) in
-    good_if (prefix_len is_word_byte bytes == size) (if nat_lt value (2 ^ 127) then Piece kind.Number size else Fault WideNumber) (Fault BadToken)
-    (λ _. good_if (nat_lt value (2 ^ 127)) (Piece kind.Number size) (Fault WideNumber) (λ narrow. record { suits = below value (2 ^ 127) narrow }) (λ _. no_fault _ _))
-    (λ _. no_fault _ _)
-  where
-    below : (a b : ℕ) → nat_lt a b ≡ true → a < b
-    below a b h = grind (arith, nat_tests)
-
-sign_good : (bytes : List ℕ) → IsGood bytes (sign_at bytes)
-unfolding sign_at
-sign_good bytes =
-    let double = nat_le 2 (length bytes) && is_some (mark_of_sign (take 2 bytes)) in
-    let single = is_some (mark_of_sign (take 1 bytes)) in
-    let half = bytes_eq (take 1 bytes) (codes "&") || bytes_eq (take 1 bytes) (codes "|") in
-    let unknown = if half then Fault BadToken else Fault BadByte in
-    good_if double (Piece kind.Sign 2) (if single then Piece kind.Sign 1 else unknown) (λ _. record { suits = tt })
-    (λ _. good_if single (Piece kind.Sign 1) unknown (λ _. record { suits = tt }) (λ _. good_if half (Fault BadToken) (Fault BadByte) (λ _. no_fault _ _) (λ _. no_fault _ _)))
-
-front_good : (b : ℕ) (bytes : List ℕ) → IsGood (b ∷ bytes) (front_of b (b ∷ bytes))
-unfolding front_of
-front_good b bytes =
-    let all = b ∷ bytes in
-    let number = if is_ascii_digit b then number_at all else sign_at all in
-    let word = if is_word_start b then word_at all else number in
-    let comment = if is_hash b then Gap (prefix_len is_in_line all) else word in
-    good_if (is_space b) (Gap 1) comment (λ _. record { suits = tt }) (λ _.
-    good_if (is_hash b) (Gap (prefix_len is_in_line all)) word (λ _. record { suits = tt }) (λ _.
-    good_if (is_word_start b) (word_at all) number (word_good b bytes) (λ _.
-    good_if (is_ascii_digit b) (number_at all) (sign_at all) (λ _. number_good all) (λ _. sign_good all))))
-
--- each token of a text has the bytes of its kind
-pub record IsGoodToken (bytes : List ℕ) (t : lexical.Token) : Type 0 where
-  pub text : IsGoodText t.kind (symbol.text_of bytes t)
-
-one_on : (bytes : List ℕ) (place b : ℕ) (rest : List ℕ) → drop place bytes ≡ b ∷ rest → drop (place + 1) bytes ≡ rest
-one_on bytes place b rest at = sym (drop-drop 1 place bytes) ∙ ap (drop 1) at
-
-tokens_good_behind : (bytes : List ℕ) (left place : ℕ) (rest : List ℕ) → drop place bytes ≡ rest → AllByRecursion (IsGoodToken bytes) (lexed_after left place rest).0
-tokens_good_behind bytes left place [] at = tt
-tokens_good_behind bytes (suc left) place (b ∷ rest) at = tokens_good_behind bytes left (place + 1) rest (one_on bytes place b rest at)
-tokens_good_behind bytes zero place (b ∷ rest) at =
-    by (front_of b (b ∷ rest)) (front_good b rest).suits (λ left. tokens_good_behind bytes left (place + 1) rest (one_on bytes place b rest at))
-  where
-    by : (f : Front) → Suits (b ∷ rest) f → ((left : ℕ) → AllByRecursion (IsGoodToken bytes) (lexed_after left (place + 1) rest).0)
-        → AllByRecursion (IsGoodToken bytes) (by_front f place (λ left. lexed_after left (place + 1) rest)).0
-    by (Gap size) good more = more (size - 1)
-    by (Piece k size) good more =
-        let P : List ℕ → Type 0 = λ l. IsGoodText k (take size l) in
-        (record { text = subst P (sym at) good }, more (size - 1))
-    by (Fault k) good more = tt
-
-pub tokens_good : (bytes : List ℕ) → AllByRecursion (IsGoodToken bytes) (lexed bytes).0
-unfolding lexed lexed_from
-tokens_good bytes = tokens_good_behind bytes 0 0 bytes refl
+use Rattle.sm_text.proofs.RoundTrip.TokenBytes.{IsGoodText, IsGoodToken, tokens_good}
 
 -- the names after symbols, where these are the texts of the names
 abbrev pub names_by : List (List ℕ) → List (List ℕ) → List Symbol → List (List ℕ)
@@ -174,7 +55,8 @@ pub record IsIn (names : List (List ℕ)) (t : Symbol) : Type 0 where
   pub among : IsAmong names t
 
 -- a text of a kind makes a symbol that it has
-symbol_in : (k : TokenKind) (names : List (List ℕ)) (text : List ℕ) → IsGoodText k text → (is_name k text ≡ true → is_among names text ≡ true) → IsIn names (symbol_by k names text)
+symbol_in : (k : TokenKind) (names : List (List ℕ)) (text : List ℕ) → IsGoodText k text →
+    (is_name k text ≡ true → is_among names text ≡ true) → IsIn names (symbol_by k names text)
 symbol_in kind.Number names text good known = record { spelled = good; own = tt; among = tt }
 symbol_in kind.Sign names text good known = by (mark_of_sign text)
   where
@@ -183,10 +65,12 @@ symbol_in kind.Sign names text good known = by (mark_of_sign text)
     by (Some m) = record { spelled = tt; own = tt; among = tt }
 symbol_in kind.Word names text good known = by (mark_of_word text) refl known
   where
-    by : (o : Option Mark) → mark_of_word text ≡ o → (not (is_some o) ≡ true → is_among names text ≡ true) → IsIn names (mark_or o (s.Name (record { 0 = position_or_len (bytes_eq text) names })))
+    by : (o : Option Mark) → mark_of_word text ≡ o → (not (is_some o) ≡ true → is_among names text ≡ true) →
+        IsIn names (mark_or o (s.Name (record { 0 = position_or_len (bytes_eq text) names })))
     by (Some m) e known = record { spelled = tt; own = tt; among = tt }
     by None e known =
-        let here : unwrap_or (slice_get names (position_or_len (bytes_eq text) names)) [] ≡ text = ap (λ (o : Option (List ℕ)). unwrap_or o []) (slice_get-number names text (known refl)) in
+        let here : unwrap_or (slice_get names (position_or_len (bytes_eq text) names)) [] ≡ text =
+        ap (λ (o : Option (List ℕ)). unwrap_or o []) (slice_get-number names text (known refl)) in
         let T : List ℕ → Type 0 = λ l. IsNameText l in
         record {
           spelled = subst T (sym here) (record { start = good.0; word = good.1; short = good.2; free = e });
@@ -195,7 +79,8 @@ symbol_in kind.Word names text good known = by (mark_of_word text) refl known
         }
 
 -- and the names that it adds are those of its symbol
-names_step : (k : TokenKind) (names before : List (List ℕ)) (text : List ℕ) (ss : List Symbol) → (is_name k text ≡ true → is_among names text ≡ true) →
+names_step : (k : TokenKind) (names before : List (List ℕ)) (text : List ℕ) (ss : List Symbol) →
+    (is_name k text ≡ true → is_among names text ≡ true) →
     names_by names before (symbol_by k names text ∷ ss) ≡ names_by names (names_with before k text) ss
 names_step kind.Number names before text ss known = refl
 names_step kind.Sign names before text ss known = by (mark_of_sign text)
@@ -205,17 +90,20 @@ names_step kind.Sign names before text ss known = by (mark_of_sign text)
     by (Some m) = refl
 names_step kind.Word names before text ss known = by (mark_of_word text) known
   where
-    by : (o : Option Mark) → (not (is_some o) ≡ true → is_among names text ≡ true) → names_by names before (mark_or o (s.Name (record { 0 = position_or_len (bytes_eq text) names })) ∷ ss)
+    by : (o : Option Mark) → (not (is_some o) ≡ true → is_among names text ≡ true) →
+        names_by names before (mark_or o (s.Name (record { 0 = position_or_len (bytes_eq text) names })) ∷ ss)
         ≡ names_by names (if not (is_some o) then with_text before text else before) ss
     by (Some m) known = refl
-    by None known = ap (λ (o : Option (List ℕ)). names_by names (with_text before (unwrap_or o [])) ss) (slice_get-number names text (known refl))
+    by None known = ap (λ (o : Option (List ℕ)). names_by names (with_text before (unwrap_or o [])) ss)
+        (slice_get-number names text (known refl))
 
 -- what stood among the names stays there
 pub among_more : (texts more : List (List ℕ)) (text : List ℕ) → is_among texts text ≡ true → is_among (texts ++ more) text ≡ true
 among_more texts more text h = list_any-append (bytes_eq text) texts more ∙ ap (λ (t : Bool). t || is_among more text) h
 
 -- after the tokens, each of their names is among the names
-pub known_behind : (bytes : List ℕ) (before : List (List ℕ)) (ts : List lexical.Token) (names : List (List ℕ)) → names ≡ names_after bytes before ts → AllByRecursion (IsKnown bytes names) ts
+pub known_behind : (bytes : List ℕ) (before : List (List ℕ)) (ts : List lexical.Token) (names : List (List ℕ)) →
+    names ≡ names_after bytes before ts → AllByRecursion (IsKnown bytes names) ts
 known_behind bytes before [] names same = tt
 known_behind bytes before (t ∷ ts) names same =
     let text = symbol.text_of bytes t in
@@ -226,19 +114,22 @@ known_behind bytes before (t ∷ ts) names same =
     )
 
 -- the symbols of a text: each is one that the text has, and their names are the names
-pub symbols_are_in : (bytes : List ℕ) (names : List (List ℕ)) (ts : List lexical.Token) → AllByRecursion (IsGoodToken bytes) ts → AllByRecursion (IsKnown bytes names) ts →
+pub symbols_are_in : (bytes : List ℕ) (names : List (List ℕ)) (ts : List lexical.Token) → AllByRecursion (IsGoodToken bytes) ts →
+    AllByRecursion (IsKnown bytes names) ts →
     AllByRecursion (IsIn names) (map (symbol_of bytes names) ts)
 unfolding symbol_of
 symbols_are_in bytes names [] good known = tt
 symbols_are_in bytes names (t ∷ ts) good known =
     (symbol_in t.kind names (symbol.text_of bytes t) good.0.text known.0, symbols_are_in bytes names ts good.1 known.1)
 
-pub names_are : (bytes : List ℕ) (names before : List (List ℕ)) (ts : List lexical.Token) → AllByRecursion (IsKnown bytes names) ts → names_by names before (map (symbol_of bytes names) ts) ≡ names_after bytes before ts
+pub names_are : (bytes : List ℕ) (names before : List (List ℕ)) (ts : List lexical.Token) → AllByRecursion (IsKnown bytes names) ts →
+    names_by names before (map (symbol_of bytes names) ts) ≡ names_after bytes before ts
 unfolding symbol_of
 names_are bytes names before [] known = refl
 names_are bytes names before (t ∷ ts) known =
     let text = symbol.text_of bytes t in
-    names_step t.kind names before text (map (symbol_of bytes names) ts) known.0 ∙ names_are bytes names (names_with before t.kind text) ts known.1
+    names_step t.kind names before text (map (symbol_of bytes names) ts) known.0
+    ∙ names_are bytes names (names_with before t.kind text) ts known.1
 
 pub text_symbols : (bytes : List ℕ) → AllByRecursion (IsIn (names_of bytes)) (symbols_of bytes)
 unfolding names_of symbols_of names_among symbols_among
@@ -341,67 +232,81 @@ symbol_again : (names : List (List ℕ)) (t : Symbol) → IsIn names t → symbo
 symbol_again names (s.Mark m) good = mark_symbol m names
 symbol_again names (s.Number z) good = literal_again names z good.spelled
   where
-    literal_again : (names : List (List ℕ)) (z : ℤ) → IsLiteral z → symbol_by kind.Number names (bytes_of names (pieces.Token (s.Number z))) ≡ s.Number z
+    literal_again : (names : List (List ℕ)) (z : ℤ) → IsLiteral z →
+        symbol_by kind.Number names (bytes_of names (pieces.Token (s.Number z))) ≡ s.Number z
     literal_again names (pos n) small =
         let wide : n < 10 ^ 64 = omega (arith, lit< {m = 2 ^ 127} {n = 10 ^ 64} tt) in
         ap (λ (k : ℕ). s.Number (pos k)) (decimal_is_IsNumeral_wide n wide).1
     literal_again names (negsuc n) small = absurd small
 symbol_again names (s.Name x) good =
-    ap (λ (o : Option Mark). mark_or o (s.Name (record { 0 = position_or_len (bytes_eq (unwrap_or (slice_get names x.0) [])) names }))) good.spelled.free
+    ap (λ (o : Option Mark). mark_or o (s.Name (record { 0 = position_or_len (bytes_eq (unwrap_or (slice_get names x.0) [])) names })))
+    good.spelled.free
     ∙ ap (λ (n : ℕ). s.Name (record { 0 = n })) good.own
 
 -- the names with a symbol's token
-names_again : (names before : List (List ℕ)) (t : Symbol) (ss : List Symbol) → IsIn names t → names_by names (names_with before (kind_of t) (bytes_of names (pieces.Token t))) ss ≡ names_by names before (t ∷ ss)
-names_again names before (s.Mark m) ss good = ap (λ (t : Bool). names_by names (if t then with_text before (spelling m) else before) ss) (mark_unnamed m)
+names_again : (names before : List (List ℕ)) (t : Symbol) (ss : List Symbol) → IsIn names t →
+    names_by names (names_with before (kind_of t) (bytes_of names (pieces.Token t))) ss ≡ names_by names before (t ∷ ss)
+names_again names before (s.Mark m) ss good =
+    ap (λ (t : Bool). names_by names (if t then with_text before (spelling m) else before) ss) (mark_unnamed m)
 names_again names before (s.Number z) ss good = refl
 names_again names before (s.Name x) ss good =
     let text = unwrap_or (slice_get names x.0) [] in
     ap (λ (o : Option Mark). names_by names (if not (is_some o) then with_text before text else before) ss) good.spelled.free
 
 -- the bytes of a token that was put
-pub put_text : (u w rest bytes : List ℕ) (k : TokenKind) (place : ℕ) → bytes ≡ u ++ (w ++ rest) → place ≡ length u → symbol.text_of bytes (record { kind = k; place = place; size = length w }) ≡ w
+pub put_text : (u w rest bytes : List ℕ) (k : TokenKind) (place : ℕ) → bytes ≡ u ++ (w ++ rest) → place ≡ length u →
+    symbol.text_of bytes (record { kind = k; place = place; size = length w }) ≡ w
 put_text u w rest bytes k place whole at =
     ap₂ (λ (l : List ℕ) (n : ℕ). take (length w) (drop n l)) whole at ∙
     ap (take (length w)) (drop-append_seam u (w ++ rest)) ∙ take-append_seam w rest
 
 -- the symbols and names of pieces' tokens
-again : (names : List (List ℕ)) (ps : List pieces.Piece) (u bytes : List ℕ) (place : ℕ) → bytes ≡ u ++ pieces.pieces_text names ps → place ≡ length u → AllByRecursion (IsIn names) (symbols_in ps) →
-    (map (symbol_of bytes names) (tokens_at names place ps) ≡ symbols_in ps) × ((before : List (List ℕ)) → names_after bytes before (tokens_at names place ps) ≡ names_by names before (symbols_in ps))
+again : (names : List (List ℕ)) (ps : List pieces.Piece) (u bytes : List ℕ) (place : ℕ) → bytes ≡ u ++ pieces.pieces_text names ps →
+    place ≡ length u → AllByRecursion (IsIn names) (symbols_in ps) →
+    (map (symbol_of bytes names) (tokens_at names place ps) ≡ symbols_in ps) × ((before : List (List ℕ)) →
+    names_after bytes before (tokens_at names place ps) ≡ names_by names before (symbols_in ps))
 unfolding symbol_of
 again names [] u bytes place whole at good = (refl, λ before. refl)
 again names (pieces.Token t ∷ ps) u bytes place whole at good =
     let w = bytes_of names (pieces.Token t) in
     let rest = pieces.pieces_text names ps in
     let here = put_text u w rest bytes (kind_of t) place whole at in
-    let more = again names ps (u ++ w) bytes (place + length w) (whole ∙ sym (append_assoc u w rest)) (ap (λ (n : ℕ). n + length w) at ∙ sym (length-append u w)) good.1 in (
+    let more = again names ps (u ++ w) bytes (place + length w) (whole ∙ sym (append_assoc u w rest)) (ap (λ (n : ℕ). n + length w) at
+    ∙ sym (length-append u w)) good.1 in (
       ap₂ (λ (x : Symbol) (l : List Symbol). x ∷ l) (ap (symbol_by (kind_of t) names) here ∙ symbol_again names t good.0) more.0,
       λ (before : List (List ℕ)).
           ap (λ (l : List ℕ). names_after bytes (names_with before (kind_of t) l) (tokens_at names (place + length w) ps)) here ∙
           more.1 (names_with before (kind_of t) w) ∙ names_again names before t (symbols_in ps) good.0,
     )
 again names (pieces.Gap w ∷ ps) u bytes place whole at good =
-    again names ps (u ++ w) bytes (place + length w) (whole ∙ sym (append_assoc u w (pieces.pieces_text names ps))) (ap (λ (n : ℕ). n + length w) at ∙ sym (length-append u w)) good
+    again names ps (u ++ w) bytes (place + length w) (whole ∙ sym (append_assoc u w (pieces.pieces_text names ps)))
+    (ap (λ (n : ℕ). n + length w) at ∙ sym (length-append u w)) good
 
 -- each name among pieces' tokens is one of the names
-known_again : (names : List (List ℕ)) (t : Symbol) (text : List ℕ) → text ≡ bytes_of names (pieces.Token t) → IsIn names t → is_name (kind_of t) text ≡ true → is_among names text ≡ true
+known_again : (names : List (List ℕ)) (t : Symbol) (text : List ℕ) → text ≡ bytes_of names (pieces.Token t) → IsIn names t →
+    is_name (kind_of t) text ≡ true → is_among names text ≡ true
 known_again names (s.Mark m) text same good h = absurd (true≢false (sym h ∙ ap (is_name (mark_kind m)) same ∙ mark_unnamed m))
 known_again names (s.Number z) text same good h = cc
 known_again names (s.Name x) text same good h = ap (is_among names) same ∙ good.among
 
-pub tokens_known : (names : List (List ℕ)) (ps : List pieces.Piece) (u bytes : List ℕ) (place : ℕ) → bytes ≡ u ++ pieces.pieces_text names ps → place ≡ length u → AllByRecursion (IsIn names) (symbols_in ps) →
+pub tokens_known : (names : List (List ℕ)) (ps : List pieces.Piece) (u bytes : List ℕ) (place : ℕ) →
+    bytes ≡ u ++ pieces.pieces_text names ps → place ≡ length u → AllByRecursion (IsIn names) (symbols_in ps) →
     AllByRecursion (IsKnown bytes names) (tokens_at names place ps)
 tokens_known names [] u bytes place whole at good = tt
 tokens_known names (pieces.Token t ∷ ps) u bytes place whole at good =
     let w = bytes_of names (pieces.Token t) in
     let rest = pieces.pieces_text names ps in (
       known_again names t _ (put_text u w rest bytes (kind_of t) place whole at) good.0,
-      tokens_known names ps (u ++ w) bytes (place + length w) (whole ∙ sym (append_assoc u w rest)) (ap (λ (n : ℕ). n + length w) at ∙ sym (length-append u w)) good.1,
+      tokens_known names ps (u ++ w) bytes (place + length w) (whole ∙ sym (append_assoc u w rest)) (ap (λ (n : ℕ). n + length w) at
+          ∙ sym (length-append u w)) good.1,
     )
 tokens_known names (pieces.Gap w ∷ ps) u bytes place whole at good =
-    tokens_known names ps (u ++ w) bytes (place + length w) (whole ∙ sym (append_assoc u w (pieces.pieces_text names ps))) (ap (λ (n : ℕ). n + length w) at ∙ sym (length-append u w)) good
+    tokens_known names ps (u ++ w) bytes (place + length w) (whole ∙ sym (append_assoc u w (pieces.pieces_text names ps)))
+    (ap (λ (n : ℕ). n + length w) at ∙ sym (length-append u w)) good
 
 -- the symbols of a printed text, under the names
-pub printed_under : (names : List (List ℕ)) (ps : List pieces.Piece) → lexed (pieces.pieces_text names ps) ≡ (tokens_at names 0 ps, None) → AllByRecursion (IsIn names) (symbols_in ps) →
+pub printed_under : (names : List (List ℕ)) (ps : List pieces.Piece) → lexed (pieces.pieces_text names ps) ≡ (tokens_at names 0 ps, None) →
+    AllByRecursion (IsIn names) (symbols_in ps) →
     symbols_under names (pieces.pieces_text names ps) ≡ symbols_in ps
 unfolding symbols_under
 printed_under names ps cut good =
@@ -409,7 +314,8 @@ printed_under names ps cut good =
     ap (λ (l : Lexed). map (symbol_of bytes names) l.0) cut ∙ (again names ps [] bytes 0 refl refl good).0
 
 -- the symbols of a text whose names are among these
-pub under_in : (names : List (List ℕ)) (bytes : List ℕ) → AllByRecursion (IsKnown bytes names) (lexed bytes).0 → AllByRecursion (IsIn names) (symbols_under names bytes)
+pub under_in : (names : List (List ℕ)) (bytes : List ℕ) → AllByRecursion (IsKnown bytes names) (lexed bytes).0 →
+    AllByRecursion (IsIn names) (symbols_under names bytes)
 unfolding symbols_under
 under_in names bytes known = symbols_are_in bytes names (lexed bytes).0 (tokens_good bytes) known
 
@@ -418,7 +324,8 @@ pub record IsAgain (names : List (List ℕ)) (ps : List pieces.Piece) : Type 0 w
   pub names_same : names_of (pieces.pieces_text names ps) ≡ names
   pub symbols_same : symbols_of (pieces.pieces_text names ps) ≡ symbols_in ps
 
-pub printed_again : (names : List (List ℕ)) (ps : List pieces.Piece) → lexed (pieces.pieces_text names ps) ≡ (tokens_at names 0 ps, None) → AllByRecursion (IsIn names) (symbols_in ps) →
+pub printed_again : (names : List (List ℕ)) (ps : List pieces.Piece) → lexed (pieces.pieces_text names ps) ≡ (tokens_at names 0 ps, None) →
+    AllByRecursion (IsIn names) (symbols_in ps) →
     names_by names [] (symbols_in ps) ≡ names → IsAgain names ps
 unfolding names_of symbols_of names_among symbols_among
 printed_again names ps cut good same =

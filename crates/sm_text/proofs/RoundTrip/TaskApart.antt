@@ -1,5 +1,6 @@
 -- In a canonical task nothing after a token goes on with it, so its tokens are cut as they were put.
-use Rattle.std.proofs.Common.{◌≡◌, ℕ, pos, ◌^◌, ◌<◌, true, false, Option, Some, None, List, [], ◌∷◌, ◌++◌, unwrap_or, refl, sym, subst, append_assoc, append-nil}
+use Rattle.std.proofs.Common.{◌≡◌, ℕ, pos, ◌^◌, ◌<◌, true, false, Option, Some, None, List, [], ◌∷◌, ◌++◌, unwrap_or, refl, sym, subst}
+use Rattle.std.proofs.Common.{append_assoc, append-nil}
 use Rattle.std.specs.List.{list_all}
 use Rattle.std.specs.Prelude.{slice_get}
 use Rattle.sm_syntax.specs.declared.symbol.Mark.{Mark}
@@ -14,7 +15,9 @@ use Rattle.sm_syntax.specs.text.TaskGrammar.{declares}
 use Rattle.sm_syntax.specs.text.Parts.{Parts}
 use Rattle.sm_syntax.specs.text.Tokens.{is_space, lexed}
 use Rattle.sm_text.specs.printing.Pieces.{Piece, pieces_text, mark_piece, number_piece, space, line_end, margin_at, deeper, line}
-use Rattle.sm_text.specs.printing.Canonical.{condition_pieces, code_pieces, block_pieces, declaration_pieces, more_names_pieces, names_pieces, output_pieces, assumption_pieces, shared_pieces, filling_pieces, list_pieces, lists_pieces, task_pieces}
+use Rattle.sm_text.specs.printing.Canonical.{condition_pieces, code_pieces, block_pieces, declaration_pieces, more_names_pieces}
+use Rattle.sm_text.specs.printing.Canonical.{names_pieces, output_pieces, assumption_pieces, shared_pieces, filling_pieces, list_pieces}
+use Rattle.sm_text.specs.printing.Canonical.{lists_pieces, task_pieces}
 use Rattle.sm_text.proofs.RoundTrip.PieceTokens.{begins, goes_on_mark}
 use Rattle.sm_text.proofs.RoundTrip.TextTokens.{IsNameText, AreApart, tokens_at, relexed}
 use Rattle.sm_text.proofs.RoundTrip.Apart.{IsClosed, RunsBefore, IsTested, closed_at, name_runs, condition_runs}
@@ -43,24 +46,35 @@ declares_ends : (sort : Sort) → begins (goes_on_mark (declares sort)) (32 ∷ 
 declares_ends Num = refl
 declares_ends Arr = refl
 
-pub declarations_apart : (names : List (List ℕ)) (ds : List (ℕ × Sort)) → AreDeclaredTexts names ds → ApartBefore names (declaration_pieces ds)
+pub declarations_apart : (names : List (List ℕ)) (ds : List (ℕ × Sort)) → AreDeclaredTexts names ds →
+    ApartBefore names (declaration_pieces ds)
 declarations_apart names [] good rest apart = apart
 declarations_apart names (d ∷ ds) good rest apart =
     (refl, (tt, declares_ends d.1, (refl, (good.0, refl, (tt, refl, (refl, declarations_apart names ds good.1 rest apart))))))
 
-more_closed : (names : List (List ℕ)) (xs : List ℕ) (rest : List Piece) → IsClosed names rest → IsClosed names (more_names_pieces xs ++ rest)
+more_closed : (names : List (List ℕ)) (xs : List ℕ) (rest : List Piece) → IsClosed names rest →
+    IsClosed names (more_names_pieces xs ++ rest)
 more_closed names [] rest behind = behind
 more_closed names (x ∷ xs) rest behind = record { closed = closed_at 44 refl refl }
 
-more_apart : (names : List (List ℕ)) (xs : List ℕ) (rest : List Piece) → AreTexts names xs → AreApart names rest → IsClosed names rest → AreApart names (more_names_pieces xs ++ rest)
+more_apart : (names : List (List ℕ)) (xs : List ℕ) (rest : List Piece) → AreTexts names xs → AreApart names rest → IsClosed names rest →
+    AreApart names (more_names_pieces xs ++ rest)
 more_apart names [] rest good apart behind = apart
-more_apart names (x ∷ xs) rest good apart behind =
-    (tt, refl, (refl, (name_runs names x (more_names_pieces xs ++ rest) good.0 (more_apart names xs rest good.1 apart behind) (more_closed names xs rest behind)).apart))
+more_apart names (x ∷ xs) rest good apart behind = (
+  tt,
+  refl,
+  (
+    refl,
+    (name_runs names x (more_names_pieces xs ++ rest) good.0 (more_apart names xs rest good.1 apart behind)
+        (more_closed names xs rest behind)).apart,
+  ),
+)
 
 names_run : (names : List (List ℕ)) (xs : List ℕ) → AreTexts names xs → RunsBefore names (names_pieces xs)
 names_run names [] good = λ rest apart behind. record { apart = apart; safe = behind.closed (s.Mark mark.Plus) }
 names_run names (x ∷ xs) good = λ rest apart behind.
-    name_runs names x (more_names_pieces xs ++ rest) good.0 (more_apart names xs rest good.1 apart behind) (more_closed names xs rest behind)
+    name_runs names x (more_names_pieces xs ++ rest) good.0 (more_apart names xs rest good.1 apart behind)
+    (more_closed names xs rest behind)
 
 pub outputs_apart : (names : List (List ℕ)) (xs : List ℕ) → AreTexts names xs → ApartBefore names (output_pieces xs)
 unfolding output_pieces
@@ -82,11 +96,16 @@ assumption_apart names (Some b) good rest apart =
     let ps = condition_pieces b in
     let front = mark_piece mark.Assume ∷ space ∷ (ps ++ mark_piece mark.Semicolon ∷ []) in
     let inside : RunsBefore names front = λ after apart_after behind.
-    record { apart = (tt, refl, (refl, (ended_runs names ps (condition_runs names b good) after apart_after behind).apart)); safe = refl } in
+    record {
+      apart = (tt, refl, (refl, (ended_runs names ps (condition_runs names b good) after apart_after behind).apart));
+      safe = refl;
+    } in
     line_apart names [] front rest refl inside apart
 
-pub block_runs : (names : List (List ℕ)) (c : Code) (margin : List ℕ) → list_all is_space margin ≡ true → IsCode names c → RunsBefore names (block_pieces margin c)
-block_runs names c margin white good = braces_runs names margin (code_pieces (deeper margin) c) white (code_apart names c (deeper margin) white good)
+pub block_runs : (names : List (List ℕ)) (c : Code) (margin : List ℕ) → list_all is_space margin ≡ true → IsCode names c →
+    RunsBefore names (block_pieces margin c)
+block_runs names c margin white good =
+    braces_runs names margin (code_pieces (deeper margin) c) white (code_apart names c (deeper margin) white good)
 
 pub shared_apart : (names : List (List ℕ)) (c : Code) → IsCode names c → ApartBefore names (shared_pieces c)
 unfolding shared_pieces
@@ -108,18 +127,24 @@ fillings_apart names (f ∷ fs) good rest apart =
     let front = mark_piece mark.Question ∷ number_piece (pos f.0) ∷ space ∷ block in
     let inside : RunsBefore names front = λ after apart_after behind.
     record {
-      apart = (tt, question_ends f.0 (pieces_text names (space ∷ (block ++ after))) good.0, (good.0, refl, (refl, (block_runs names f.1 (margin_at 1) refl good.1 after apart_after behind).apart)));
+      apart = (
+        tt,
+        question_ends f.0 (pieces_text names (space ∷ (block ++ after))) good.0,
+        (good.0, refl, (refl, (block_runs names f.1 (margin_at 1) refl good.1 after apart_after behind).apart)),
+      );
       safe = refl;
     } in
     let P : List Piece → Type 0 = λ l. AreApart names l in
     subst P (sym (append_assoc (line (margin_at 1) front) (filling_pieces fs) rest))
     (line_apart names (margin_at 1) front (filling_pieces fs ++ rest) refl inside (fillings_apart names fs good.2 rest apart))
 
-list_apart : (names : List (List ℕ)) (m : Mark) (fs : Fillings) → begins (goes_on_mark m) (32 ∷ []) ≡ false → AreFillingTexts names fs → ApartBefore names (mark_piece m ∷ list_pieces fs)
+list_apart : (names : List (List ℕ)) (m : Mark) (fs : Fillings) → begins (goes_on_mark m) (32 ∷ []) ≡ false → AreFillingTexts names fs →
+    ApartBefore names (mark_piece m ∷ list_pieces fs)
 unfolding list_pieces
 list_apart names m fs ends good rest apart =
     let P : List Piece → Type 0 = λ l. AreApart names l in
-    let block = braces_runs names [] (filling_pieces fs) refl (fillings_apart names fs good) (line_end ∷ rest) (refl, apart) (record { closed = closed_at 10 refl refl }) in
+    let block = braces_runs names [] (filling_pieces fs) refl (fillings_apart names fs good) (line_end ∷ rest) (refl, apart)
+    (record { closed = closed_at 10 refl refl }) in
     (tt, ends, (refl, subst P (sym (append_assoc _ (line_end ∷ []) rest)) block.apart))
 
 -- a task that a text may have
@@ -156,7 +181,8 @@ task_apart names t good =
     (both_apart names w l (shared_apart names t.shared good.shared) (lists_apart names t good))))
 
 -- the tokens of a printed task are those of its pieces, and it has no lexical fault
-pub task_relexed : (names : List (List ℕ)) (t : Parts) → IsTaskText names t → lexed (pieces_text names (task_pieces t)) ≡ (tokens_at names 0 (task_pieces t), None)
+pub task_relexed : (names : List (List ℕ)) (t : Parts) → IsTaskText names t →
+    lexed (pieces_text names (task_pieces t)) ≡ (tokens_at names 0 (task_pieces t), None)
 task_relexed names t good =
     let P : List Piece → Type 0 = λ l. AreApart names l in
     relexed names (task_pieces t) (subst P (append-nil (task_pieces t)) (task_apart names t good [] tt))

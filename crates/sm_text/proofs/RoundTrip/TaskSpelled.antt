@@ -1,5 +1,6 @@
 -- The grammar spells a task by its canonical symbols.
-use Rattle.std.proofs.Common.{◌≡◌, ℕ, pos, ◌+◌, ◌<◌, Option, Some, None, List, [], ◌∷◌, ◌++◌, sym, ap, subst, ◌∙◌, append-nil, arith, append_assoc, suc}
+use Rattle.std.proofs.Common.{◌≡◌, ℕ, pos, ◌+◌, ◌<◌, Option, Some, None, List, [], ◌∷◌, ◌++◌, sym, ap, subst, ◌∙◌, append-nil, arith}
+use Rattle.std.proofs.Common.{append_assoc, suc}
 use Rattle.sm_syntax.specs.declared.symbol.Mark.{Mark}
 use Rattle.sm_syntax.specs.declared.symbol.Mark.TheVariants as mark
 use Rattle.sm_syntax.specs.declared.symbol.Symbol.TheVariants as s
@@ -14,14 +15,17 @@ use Rattle.sm_syntax.specs.text.MarkedSymbols.{Marked, plain}
 use Rattle.sm_syntax.specs.text.StatementGrammar.{IsHoleNumber, IsBlock}
 use Rattle.sm_syntax.specs.text.TaskGrammar.{AreNames, AreDeclarations, AreOutputs, IsAssumption, IsShared, AreFillings, IsList, IsTask}
 use Rattle.sm_text.specs.printing.Pieces.{Gap, mark_piece, number_piece, space, line_end, margin_at, deeper}
-use Rattle.sm_text.specs.printing.Canonical.{braces, condition_pieces, code_pieces, block_pieces, declaration_pieces, names_pieces, output_pieces, assumption_pieces, shared_pieces, filling_pieces, list_pieces, lists_pieces, task_pieces}
+use Rattle.sm_text.specs.printing.Canonical.{braces, condition_pieces, code_pieces, block_pieces, declaration_pieces, names_pieces}
+use Rattle.sm_text.specs.printing.Canonical.{output_pieces, assumption_pieces, shared_pieces, filling_pieces, list_pieces, lists_pieces}
+use Rattle.sm_text.specs.printing.Canonical.{task_pieces}
 use Rattle.sm_text.proofs.RoundTrip.CodeSpelled.{marked, marked-append, marked-line, FitsTest, IsPrintable, told, block_shown, code_shown}
 
 -- a block
 pub block_told : (d : ℕ) (c : Code) (margin : List ℕ) → d < 64 → IsPrintable (1 + d) c → IsBlock d (marked (block_pieces margin c)) c
 block_told d c margin few fits =
     let at : 1 + d ≡ suc d = omega arith in
-    block_shown d c margin (code_pieces (deeper margin) c) few (code_shown c (deeper margin) (suc d) (subst (λ (n : ℕ). IsPrintable n c) at fits))
+    block_shown d c margin (code_pieces (deeper margin) c) few
+    (code_shown c (deeper margin) (suc d) (subst (λ (n : ℕ). IsPrintable n c) at fits))
 
 pub declarations_shown : (ds : List (ℕ × Sort)) → AreDeclarations (marked (declaration_pieces ds)) ds
 declarations_shown [] = task.none
@@ -38,7 +42,8 @@ outputs_shown x xs =
     let F : List Marked → Type 0 = λ l. AreOutputs l (x ∷ xs) in
     let line : g.word mark.Output ∷ (marked ps ++ g.word mark.Semicolon ∷ []) ≡ marked (output_pieces (x ∷ xs)) =
     ap (λ (l : List Marked). g.word mark.Output ∷ l)
-    (sym (marked-append ps (mark_piece mark.Semicolon ∷ line_end ∷ [])) ∙ ap marked (sym (append_assoc ps (mark_piece mark.Semicolon ∷ []) (line_end ∷ [])))) in
+    (sym (marked-append ps (mark_piece mark.Semicolon ∷ line_end ∷ []))
+    ∙ ap marked (sym (append_assoc ps (mark_piece mark.Semicolon ∷ []) (line_end ∷ [])))) in
     subst F line (task.outputs (names_shown x xs))
 
 -- the assumption, where there is one, nests nowhere too deep
@@ -54,7 +59,8 @@ assumption_shown (Some b) fits =
     let F : List Marked → Type 0 = λ l. IsAssumption l (Some b) in
     let line : g.word mark.Assume ∷ (marked ps ++ g.word mark.Semicolon ∷ []) ≡ marked (assumption_pieces (Some b)) =
     ap (λ (l : List Marked). g.word mark.Assume ∷ l)
-    (sym (marked-append ps (mark_piece mark.Semicolon ∷ line_end ∷ [])) ∙ ap marked (sym (append_assoc ps (mark_piece mark.Semicolon ∷ []) (line_end ∷ [])))) in
+    (sym (marked-append ps (mark_piece mark.Semicolon ∷ line_end ∷ []))
+    ∙ ap marked (sym (append_assoc ps (mark_piece mark.Semicolon ∷ []) (line_end ∷ [])))) in
     subst F line (task.assumes (told b 0 fits).whole)
 
 pub shared_shown : (c : Code) → IsPrintable 1 c → IsShared (marked (shared_pieces c)) c
@@ -75,7 +81,8 @@ fillings_shown [] fits = task.none
 fillings_shown (f ∷ fs) fits =
     let block = block_pieces (margin_at 1) f.1 in
     let F : List Marked → Type 0 = λ l. AreFillings l (f ∷ fs) in
-    let line : g.word mark.Question ∷ plain (s.Number (pos f.0)) ∷ (marked block ++ marked (filling_pieces fs)) ≡ marked (filling_pieces (f ∷ fs)) =
+    let line : g.word mark.Question ∷ plain (s.Number (pos f.0)) ∷ (marked block ++ marked (filling_pieces fs)) ≡ marked
+    (filling_pieces (f ∷ fs)) =
     sym (marked-line (margin_at 1) (mark_piece mark.Question ∷ number_piece (pos f.0) ∷ space ∷ block) (filling_pieces fs)) in
     subst F line (task.more f.0 fits.0 (block_told 1 f.1 (margin_at 1) (omega arith) fits.1) (fillings_shown fs fits.2))
 
@@ -91,7 +98,10 @@ list_shown m fs fits =
 
 -- the four lists
 marked-lists : (fillings : Copy → Fillings) →
-    (g.word mark.Base ∷ marked (list_pieces (fillings O))) ++ ((g.word mark.VariantA ∷ marked (list_pieces (fillings A))) ++ ((g.word mark.VariantB ∷ marked (list_pieces (fillings B))) ++ (g.word mark.Candidate ∷ marked (list_pieces (fillings M))))) ≡ marked (lists_pieces fillings)
+    (g.word mark.Base ∷ marked (list_pieces (fillings O))) ++
+    ((g.word mark.VariantA ∷ marked (list_pieces (fillings A))) ++
+    ((g.word mark.VariantB ∷ marked (list_pieces (fillings B))) ++ (g.word mark.Candidate ∷ marked (list_pieces (fillings M))))) ≡
+    marked (lists_pieces fillings)
 unfolding lists_pieces
 marked-lists fillings =
     let o = list_pieces (fillings O) in
@@ -99,10 +109,12 @@ marked-lists fillings =
     let b = list_pieces (fillings B) in
     let m = mark_piece mark.Candidate ∷ list_pieces (fillings M) in
     let last : marked b ++ marked m ≡ marked (b ++ m) = sym (marked-append b m) in
-    let more : marked a ++ marked (mark_piece mark.VariantB ∷ (b ++ m)) ≡ marked (a ++ mark_piece mark.VariantB ∷ (b ++ m)) = sym (marked-append a _) in
+    let more : marked a ++ marked (mark_piece mark.VariantB ∷ (b ++ m)) ≡ marked (a ++ mark_piece mark.VariantB ∷ (b ++ m)) =
+    sym (marked-append a _) in
     ap (λ (l : List Marked). g.word mark.Base ∷ (marked o ++ g.word mark.VariantA ∷ (marked a ++ g.word mark.VariantB ∷ l))) last ∙
     ap (λ (l : List Marked). g.word mark.Base ∷ (marked o ++ g.word mark.VariantA ∷ l)) more ∙
-    ap (λ (l : List Marked). g.word mark.Base ∷ l) (sym (marked-append o (mark_piece mark.VariantA ∷ (a ++ mark_piece mark.VariantB ∷ (b ++ m)))))
+    ap (λ (l : List Marked). g.word mark.Base ∷ l)
+    (sym (marked-append o (mark_piece mark.VariantA ∷ (a ++ mark_piece mark.VariantB ∷ (b ++ m)))))
 
 -- there is an output
 abbrev pub HasOutput : List ℕ → Type 0
@@ -128,8 +140,10 @@ task_shown t fits =
     let v = assumption_pieces t.assumed in
     let w = shared_pieces t.shared in
     let l = lists_pieces t.fillings in
-    let it = task.task t (declarations_shown t.declared) (some_outputs_shown t.outputs fits.outputs) (assumption_shown t.assumed fits.assumed) (shared_shown t.shared fits.shared)
-    (list_shown mark.Base (t.fillings O) (fits.fillings O)) (list_shown mark.VariantA (t.fillings A) (fits.fillings A)) (list_shown mark.VariantB (t.fillings B) (fits.fillings B)) (list_shown mark.Candidate (t.fillings M) (fits.fillings M)) in
+    let it = task.task t (declarations_shown t.declared) (some_outputs_shown t.outputs fits.outputs)
+    (assumption_shown t.assumed fits.assumed) (shared_shown t.shared fits.shared)
+    (list_shown mark.Base (t.fillings O) (fits.fillings O)) (list_shown mark.VariantA (t.fillings A) (fits.fillings A))
+    (list_shown mark.VariantB (t.fillings B) (fits.fillings B)) (list_shown mark.Candidate (t.fillings M) (fits.fillings M)) in
     let F : List Marked → Type 0 = λ ms. IsTask ms t in
     let lists = ap (λ (ms : List Marked). marked d ++ (marked x ++ (marked v ++ (marked w ++ ms)))) (marked-lists t.fillings) in
     let line = lists ∙

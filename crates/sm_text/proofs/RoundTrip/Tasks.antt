@@ -43,7 +43,8 @@ content_all names (s.Mark m ∷ ss) h = (record { spelled = tt; own = tt; among 
 content_all names (s.Number z ∷ ss) h = (h.0, content_all names ss h.1)
 content_all names (s.Name x ∷ ss) h = (h.0, content_all names ss h.1)
 
-pub names_by-content : (names before : List (List ℕ)) (ss : List Symbol) → names_by names before (content (map plain ss)) ≡ names_by names before ss
+pub names_by-content : (names before : List (List ℕ)) (ss : List Symbol) →
+    names_by names before (content (map plain ss)) ≡ names_by names before ss
 names_by-content names before [] = refl
 names_by-content names before (s.Mark m ∷ ss) = names_by-content names before ss
 names_by-content names before (s.Number z ∷ ss) = names_by-content names before ss
@@ -61,7 +62,8 @@ text_content bytes = record {
 }
 
 -- pieces with the content of a text, whose tokens are cut as they were put
-pub pieces_again : (names : List (List ℕ)) (ps : List Piece) (ss : List Symbol) → IsContent names ss → content (marked ps) ≡ ss → lexed (pieces_text names ps) ≡ (tokens_at names 0 ps, None) → IsAgain names ps
+pub pieces_again : (names : List (List ℕ)) (ps : List Piece) (ss : List Symbol) → IsContent names ss → content (marked ps) ≡ ss →
+    lexed (pieces_text names ps) ≡ (tokens_at names 0 ps, None) → IsAgain names ps
 pieces_again names ps ss has same cut =
     let A : List Symbol → Type 0 = λ l. AllIn names l in
     printed_again names ps cut (content_all names (symbols_in ps) (subst A (sym same) has.all))

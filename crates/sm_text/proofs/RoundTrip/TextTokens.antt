@@ -1,5 +1,6 @@
 -- The tokens of pieces, each of which nothing after it goes on with, are their tokens.
-use Rattle.std.proofs.Common.{◌≡◌, ℕ, ℤ, pos, negsuc, ◌+◌, ◌^◌, ◌<◌, ◌≤◌, Bool, true, false, None, List, [], ◌∷◌, length, unwrap_or, refl, ap, ◌∙◌}
+use Rattle.std.proofs.Common.{◌≡◌, ℕ, ℤ, pos, negsuc, ◌+◌, ◌^◌, ◌<◌, ◌≤◌, Bool, true, false, None, List, [], ◌∷◌, length, unwrap_or, refl}
+use Rattle.std.proofs.Common.{ap, ◌∙◌}
 use Rattle.std.specs.List.{list_all}
 use Rattle.std.specs.Prelude.{slice_get}
 use Rattle.sm_syntax.specs.declared.symbol.Symbol.{Symbol}
@@ -46,12 +47,14 @@ name_cut : (text v : List ℕ) → IsNameText text → begins is_word_byte v ≡
 name_cut [] v good ends = let no = good.start in cc
 name_cut (b ∷ u) v good ends = word_cut b u v good.start good.word good.short ends
 
-literal_cut : (z : ℤ) (v : List ℕ) → IsLiteral z → begins is_word_byte v ≡ false → (names : List (List ℕ)) → Cuts (bytes_of names (Token (s.Number z))) v kind.Number
+literal_cut : (z : ℤ) (v : List ℕ) → IsLiteral z → begins is_word_byte v ≡ false → (names : List (List ℕ)) →
+    Cuts (bytes_of names (Token (s.Number z))) v kind.Number
 literal_cut (pos n) v good ends names = number_cut n v good ends
 literal_cut (negsuc n) v good ends names = absurd good
 
 -- a symbol's token is cut whole
-symbol_cut : (names : List (List ℕ)) (t : Symbol) (v : List ℕ) → IsSpelled names t → begins (goes_on t) v ≡ false → Cuts (bytes_of names (Token t)) v (kind_of t)
+symbol_cut : (names : List (List ℕ)) (t : Symbol) (v : List ℕ) → IsSpelled names t → begins (goes_on t) v ≡ false →
+    Cuts (bytes_of names (Token t)) v (kind_of t)
 symbol_cut names (s.Mark m) v good ends = mark_cut m v ends
 symbol_cut names (s.Number z) v good ends = literal_cut z v good ends names
 symbol_cut names (s.Name x) v good ends = name_cut (unwrap_or (slice_get names x.0) []) v good ends
@@ -74,7 +77,8 @@ ended : (place : ℕ) → ◌≡◌ {A = Lexed} (lexed_from place []) ([], None)
 unfolding lexed_from
 ended place = refl
 
-relexed_from : (names : List (List ℕ)) (ps : List Piece) (place : ℕ) → AreApart names ps → lexed_from place (pieces_text names ps) ≡ (tokens_at names place ps, None)
+relexed_from : (names : List (List ℕ)) (ps : List Piece) (place : ℕ) → AreApart names ps →
+    lexed_from place (pieces_text names ps) ≡ (tokens_at names place ps, None)
 relexed_from names [] place apart = ended place
 relexed_from names (Token t ∷ ps) place apart =
     let u = bytes_of names (Token t) in

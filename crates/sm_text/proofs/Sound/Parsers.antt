@@ -1,17 +1,17 @@
 -- What a parser takes is what a fact on marked symbols says, and what it refuses could have gone on up to there. A parser
 -- looks one symbol ahead. One lemma for each way to make a parser.
-use Rattle.std.proofs.Common.{◌≡◌, ℕ, ◌<◌, refl, sym, ap, ◌∙◌, subst, arith, Bool, true, false, Option, Some, None, Result, Ok, Err, List, [], ◌∷◌, ◌++◌, length, map, append_assoc, length-append}
+use Rattle.std.proofs.Common.{◌≡◌, ◌<◌, refl, sym, ap, ◌∙◌, subst, arith, true, Option, Some, None, Result, Ok, Err, List, [], ◌∷◌, ◌++◌}
+use Rattle.std.proofs.Common.{length, map, append_assoc, length-append}
 use Rattle.std.proofs.lemmas.List.{append-nil}
-use Rattle.std.specs.Prelude.{nat_le, if◌then◌else◌}
-use denote.Enum.Bare.{sameb, same_true}
-use Rattle.sm_syntax.specs.contracts.symbol.Mark.{the_type}
 use Rattle.sm_syntax.specs.declared.symbol.Mark.{Mark}
 use Rattle.sm_syntax.specs.declared.symbol.Symbol.{Symbol}
-use Rattle.sm_syntax.specs.declared.symbol.Symbol.TheVariants as s
-use Rattle.sm_syntax.specs.text.MarkedSymbols.{Marked, plain, word, opens}
+use Rattle.sm_syntax.specs.text.MarkedSymbols.{Marked, plain, word}
 use Rattle.sm_text.specs.declared.rules.reading.Fault.{Fault}
 use Rattle.sm_text.specs.declared.rules.reading.FaultKind.TheVariants.{Expected, Nested}
-use Rattle.sm_text.specs.rules.Parsers.{first, Parser, fault, go_on, ◌>>=◌, ◌>>◌, pure, peek, skip, refuse, expect_by, expect, stands, inside_group, grouped_by, grouped}
+use Rattle.sm_text.specs.declared.rules.reading.ReadError.{ReadError}
+use Rattle.sm_text.specs.declared.rules.reading.ReadError.TheVariants as error
+use Rattle.sm_text.specs.rules.Answers.{Fails}
+use Rattle.sm_text.specs.rules.Parsers.{first, Parser, fault, go_on, ◌>>=◌, ◌>>◌, pure}
 use Rattle.sm_text.specs.rules.Reading.{by_rest, to_end}
 
 -- what was read stands for the symbols that were used, and is read before all that begins with the same symbol
@@ -82,13 +82,13 @@ pub map-plain-append : (xs ys : List Symbol) → map plain (xs ++ ys) ≡ map pl
 map-plain-append [] ys = refl
 map-plain-append (x ∷ xs) ys = ap (λ (l : List Marked). plain x ∷ l) (map-plain-append xs ys)
 
-some_one : (u v : Symbol) → Some u ≡ Some v → u ≡ v
+pub some_one : (u v : Symbol) → Some u ≡ Some v → u ≡ v
 some_one u v p = cc
 
-none_some : (u : Symbol) → (let o : Option Symbol = None in o) ≡ Some u → ⊥
+pub none_some : (u : Symbol) → (let o : Option Symbol = None in o) ≡ Some u → ⊥
 none_some u p = cc
 
-not_nested : Expected ≡ Nested → ⊥
+pub not_nested : Expected ≡ Nested → ⊥
 not_nested e = cc
 
 length-map-plain : (xs : List Symbol) → length (map plain xs) ≡ length xs
@@ -104,7 +104,8 @@ pub begins-alike : (used us here ts : List Symbol) → ts ≡ used ++ here → f
 begins-alike used us here ts split e = first_again used us here e ∙ ap (λ (l : List Symbol). first l) (sym split)
 
 -- the same of a parser that answers alike where the same symbol stands first
-pub like : {T : Type 0} (p q : Parser T) (P : List Marked → T → Type 0) (ts : List Symbol) (a : Result (T × List Symbol) Fault) → ((us : List Symbol) → first us ≡ first ts → q us ≡ p us) → Told p P ts a → Told q P ts a
+pub like : {T : Type 0} (p q : Parser T) (P : List Marked → T → Type 0) (ts : List Symbol) (a : Result (T × List Symbol) Fault) →
+    ((us : List Symbol) → first us ≡ first ts → q us ≡ p us) → Told p P ts a → Told q P ts a
 like p q P ts (Ok r) same told = record {
   used = told.used;
   split = told.split;
@@ -125,17 +126,30 @@ like p q P ts (Err f) same told = record {
 
 -- what could go on, with more after it
 pub longer : (here : List Symbol) (ahead behind : List Marked) → Nests here ahead → Nests here (ahead ++ behind)
-longer here ahead behind n = record { sign = n.sign; others = n.others ++ behind; begins = ap (λ (l : List Marked). l ++ behind) n.begins; stands = n.stands }
+longer here ahead behind n =
+    record { sign = n.sign; others = n.others ++ behind; begins = ap (λ (l : List Marked). l ++ behind) n.begins; stands = n.stands }
 
 module _ {T U : Type 0} (p : Parser T) (P : List Marked → T → Type 0) (next : T → Parser U) (Q : T → List Marked → U → Type 0) where
-  in_turn : (ts : List Symbol) (x : T) (after : List Symbol) → Takes p P ts x after → (used here us : List Symbol) → (a : Result (U × List Symbol) Fault) → (t : Takes p P ts x after) → after ≡ used ++ here → first us ≡ first here → next x (used ++ us) ≡ a → go_on (p ((t.used ++ used) ++ us)) next ≡ a
-  in_turn ts x after told used here us a t split e answer = ap (λ (l : List Symbol). go_on (p l) next) (append_assoc t.used used us) ∙ ap (λ (b : Result (T × List Symbol) Fault). go_on b next) (t.again (used ++ us) (begins-alike used us here after split e)) ∙ answer
+  in_turn : (ts : List Symbol) (x : T) (after : List Symbol) → Takes p P ts x after → (used here us : List Symbol) →
+      (a : Result (U × List Symbol) Fault) → (t : Takes p P ts x after) → after ≡ used ++ here → first us ≡ first here →
+      next x (used ++ us) ≡ a → go_on (p ((t.used ++ used) ++ us)) next ≡ a
+  in_turn ts x after told used here us a t split e answer =
+      ap (λ (l : List Symbol). go_on (p l) next) (append_assoc t.used used us)
+      ∙ ap (λ (b : Result (T × List Symbol) Fault). go_on b next) (t.again (used ++ us) (begins-alike used us here after split e)) ∙ answer
 
-  joined : (ts : List Symbol) (x : T) (after : List Symbol) → Takes p P ts x after → (r : Result (U × List Symbol) Fault) → Told (next x) (Q x) after r → Told (λ us. go_on (p us) next) (Both P Q) ts r
+  joined : (ts : List Symbol) (x : T) (after : List Symbol) → Takes p P ts x after → (r : Result (U × List Symbol) Fault) →
+      Told (next x) (Q x) after r → Told (λ us. go_on (p us) next) (Both P Q) ts r
   joined ts x after t (Ok r) told = record {
     used = t.used ++ told.used;
     split = t.split ∙ ap (λ (l : List Symbol). t.used ++ l) told.split ∙ sym (append_assoc t.used told.used r.1);
-    fits = record { front = map plain t.used; behind = map plain told.used; parts = map-plain-append t.used told.used; value = x; one = t.fits; two = told.fits };
+    fits = record {
+      front = map plain t.used;
+      behind = map plain told.used;
+      parts = map-plain-append t.used told.used;
+      value = x;
+      one = t.fits;
+      two = told.fits;
+    };
     again = λ us e. in_turn ts x after t told.used r.1 us (Ok (r.0, us)) t told.split e (told.again us e);
   }
   joined ts x after t (Err f) told = record {
@@ -149,7 +163,8 @@ module _ {T U : Type 0} (p : Parser T) (P : List Marked → T → Type 0) (next 
     goes_on = record {
       front = map plain t.used;
       behind = map plain told.used ++ told.ahead;
-      parts = ap (λ (l : List Marked). l ++ told.ahead) (map-plain-append t.used told.used) ∙ append_assoc (map plain t.used) (map plain told.used) told.ahead;
+      parts = ap (λ (l : List Marked). l ++ told.ahead) (map-plain-append t.used told.used)
+          ∙ append_assoc (map plain t.used) (map plain told.used) told.ahead;
       value = x;
       one = t.fits;
       two = told.goes_on;
@@ -166,28 +181,61 @@ module _ {T U : Type 0} (p : Parser T) (P : List Marked → T → Type 0) (next 
     again = λ us e. ap (λ (b : Result (T × List Symbol) Fault). go_on b next) (t.again us e);
     ahead = t.ahead ++ more.list;
     value = more.value;
-    goes_on = record { front = map plain t.used ++ t.ahead; behind = more.list; parts = sym (append_assoc (map plain t.used) t.ahead more.list); value = t.value; one = t.goes_on; two = more.fits };
+    goes_on = record {
+      front = map plain t.used ++ t.ahead;
+      behind = more.list;
+      parts = sym (append_assoc (map plain t.used) t.ahead more.list);
+      value = t.value;
+      one = t.goes_on;
+      two = more.fits;
+    };
     nested = λ n. longer t.here t.ahead more.list (t.nested n);
   }
 
-  bound : (ts : List Symbol) (r : Result (T × List Symbol) Fault) → Told p P ts r → ((x : T) → Describes (next x) (Q x)) → Told (λ us. go_on (p us) next) (Both P Q) ts (go_on r next)
+  pub bound : (ts : List Symbol) (r : Result (T × List Symbol) Fault) → Told p P ts r → ((x : T) → Describes (next x) (Q x)) →
+      Told (λ us. go_on (p us) next) (Both P Q) ts (go_on r next)
   bound ts (Ok r) told d = joined ts r.0 r.1 told (next r.0 r.1) ((d r.0).tells r.1)
   bound ts (Err f) told d = cut_off ts f told (d told.value).possible
 
   pub possibly-both : Possible P → ((x : T) → Possible (Q x)) → Possible (Both P Q)
-  possibly-both a b = let c = b a.value in record { list = a.list ++ c.list; value = c.value; fits = record { front = a.list; behind = c.list; parts = refl; value = a.value; one = a.fits; two = c.fits } }
+  possibly-both a b = let c =
+      b a.value in record {
+        list = a.list ++ c.list;
+        value = c.value;
+        fits = record { front = a.list; behind = c.list; parts = refl; value = a.value; one = a.fits; two = c.fits };
+      }
 
 -- one parser and then another
-pub bind : {T U : Type 0} {p : Parser T} {P : List Marked → T → Type 0} {next : T → Parser U} {Q : T → List Marked → U → Type 0} → Describes p P → ((x : T) → Describes (next x) (Q x)) → Describes (p >>= next) (Both P Q)
-bind {p = p} {P = P} {next = next} {Q = Q} d e = record { tells = λ ts. bound p P next Q ts (p ts) (d.tells ts) e; possible = possibly-both p P next Q d.possible (λ x. (e x).possible) }
+pub bind : {T U : Type 0} {p : Parser T} {P : List Marked → T → Type 0} {next : T → Parser U} {Q : T → List Marked → U → Type 0} →
+    Describes p P → ((x : T) → Describes (next x) (Q x)) → Describes (p >>= next) (Both P Q)
+bind {p = p} {P = P} {next = next} {Q = Q} d e =
+    record { tells = λ ts. bound p P next Q ts (p ts) (d.tells ts) e; possible = possibly-both p P next Q d.possible (λ x. (e x).possible) }
 
 -- the same, where nothing is kept of the first
-pub both : {T U : Type 0} {p : Parser T} {P : List Marked → T → Type 0} {q : Parser U} {Q : List Marked → U → Type 0} → Describes p P → Describes q Q → Describes (p >> q) (Both P (λ _. Q))
-both {p = p} {P = P} {q = q} {Q = Q} d e = record { tells = λ ts. bound p P (λ _. q) (λ _. Q) ts (p ts) (d.tells ts) (λ _. e); possible = possibly-both p P (λ _. q) (λ _. Q) d.possible (λ _. e.possible) }
+pub both : {T U : Type 0} {p : Parser T} {P : List Marked → T → Type 0} {q : Parser U} {Q : List Marked → U → Type 0} → Describes p P →
+    Describes q Q → Describes (p >> q) (Both P (λ _. Q))
+both {p = p} {P = P} {q = q} {Q = Q} d e =
+    record {
+      tells = λ ts. bound p P (λ _. q) (λ _. Q) ts (p ts) (d.tells ts) (λ _. e);
+      possible = possibly-both p P (λ _. q) (λ _. Q) d.possible (λ _. e.possible);
+    }
 
-weakened : {T : Type 0} (p : Parser T) (P Q : List Marked → T → Type 0) → ((us : List Marked) (x : T) → P us x → Q us x) → (ts : List Symbol) (r : Result (T × List Symbol) Fault) → Told p P ts r → Told p Q ts r
-weakened p P Q f ts (Ok r) told = record { used = told.used; split = told.split; fits = f (map plain told.used) r.0 told.fits; again = told.again }
-weakened p P Q f ts (Err e) told = record { used = told.used; here = told.here; split = told.split; place = told.place; again = told.again; ahead = told.ahead; value = told.value; goes_on = f (map plain told.used ++ told.ahead) told.value told.goes_on; nested = told.nested }
+pub weakened : {T : Type 0} (p : Parser T) (P Q : List Marked → T → Type 0) → ((us : List Marked) (x : T) → P us x → Q us x) →
+    (ts : List Symbol) (r : Result (T × List Symbol) Fault) → Told p P ts r → Told p Q ts r
+weakened p P Q f ts (Ok r) told =
+    record { used = told.used; split = told.split; fits = f (map plain told.used) r.0 told.fits; again = told.again }
+weakened p P Q f ts (Err e) told =
+    record {
+      used = told.used;
+      here = told.here;
+      split = told.split;
+      place = told.place;
+      again = told.again;
+      ahead = told.ahead;
+      value = told.value;
+      goes_on = f (map plain told.used ++ told.ahead) told.value told.goes_on;
+      nested = told.nested;
+    }
 
 -- of a weaker fact there are symbols and a value
 pub possibly : {T : Type 0} {P Q : List Marked → T → Type 0} → ((us : List Marked) (x : T) → P us x → Q us x) → Possible P → Possible Q
@@ -198,7 +246,8 @@ pub possibly-behind : {T : Type 0} {P : List Marked → T → Type 0} (t : Marke
 possibly-behind t may = record { list = t ∷ may.list; value = may.value; fits = may.fits }
 
 -- a weaker fact
-pub weaken : {T : Type 0} {p : Parser T} {P Q : List Marked → T → Type 0} → ((us : List Marked) (x : T) → P us x → Q us x) → Describes p P → Describes p Q
+pub weaken : {T : Type 0} {p : Parser T} {P Q : List Marked → T → Type 0} → ((us : List Marked) (x : T) → P us x → Q us x) → Describes p P →
+    Describes p Q
 weaken {p = p} {P = P} {Q = Q} f d = record { tells = λ ts. weakened p P Q f ts (p ts) (d.tells ts); possible = possibly f d.possible }
 
 -- nothing is read
@@ -208,162 +257,27 @@ give x = record {
   possible = record { list = []; value = x; fits = record { none = refl; same = refl } };
 }
 
-stopped : {T : Type 0} (P : List Marked → T → Type 0) → Possible P → (ts : List Symbol) → Stops (refuse Expected) P ts (fault Expected ts)
-stopped P may ts = record { used = []; here = ts; split = refl; place = refl; again = λ us e. refl; ahead = may.list; value = may.value; goes_on = may.fits; nested = λ n. absurd (not_nested n) }
+-- a value that was made, where it is so spelled
+pub made : {T : Type 0} (P : List Marked → T → Type 0) (ts us : List Marked) (x y : T) → us ≡ ts → x ≡ y → P ts x → P us y
+made {T} P ts us x y e f p =
+    let F : List Marked → Type 0 = λ l. P l y in
+    let G : T → Type 0 = λ z. P ts z in
+    subst F (sym e) (subst G f p)
 
--- a refusal where a symbol stands first
-pub refused_at : {T : Type 0} (P : List Marked → T → Type 0) → Possible P → (o : Option Symbol) → DescribesAt o (refuse Expected) P
-refused_at P may o = record { tells = λ ts _. stopped P may ts }
-
--- what is read whatever stands first
-pub anywhere : {T : Type 0} {p : Parser T} {P : List Marked → T → Type 0} (o : Option Symbol) → Describes p P → DescribesAt o p P
-anywhere o d = record { tells = λ ts _. d.tells ts }
-
--- a choice by the first symbol
-pub choose_by : {T : Type 0} {p : Parser T} {P : List Marked → T → Type 0} (rule : Option Symbol → Parser T) → ((ts : List Symbol) → p ts ≡ rule (first ts) ts) → Possible P → ((o : Option Symbol) → DescribesAt o (rule o) P) → Describes p P
-choose_by {T} {p} {P} rule same may d = record { tells = tells; possible = may }
-  where
-    tells : (ts : List Symbol) → Told p P ts (p ts)
-    tells ts =
-        let F : Result (T × List Symbol) Fault → Type 0 = λ a. Told p P ts a in
-        subst F (sym (same ts)) (like (rule (first ts)) p P ts (rule (first ts) ts) (λ us e. same us ∙ ap (λ (o : Option Symbol). rule o us) e) ((d (first ts)).tells ts refl))
-
-pub choose : {T : Type 0} {rule : Option Symbol → Parser T} {P : List Marked → T → Type 0} → Possible P → ((o : Option Symbol) → DescribesAt o (rule o) P) → Describes (peek >>= rule) P
-choose {rule = rule} may d = choose_by rule (λ ts. refl) may d
-
-behind_first : {T : Type 0} (p : Parser T) (P Q : List Marked → T → Type 0) (t : Symbol) → ((us : List Marked) (x : T) → Q us x → P (plain t ∷ us) x) → (ts : List Symbol) (r : Result (T × List Symbol) Fault) → Told p Q ts r → Told (skip >> p) P (t ∷ ts) r
-behind_first p P Q t f ts (Ok r) told = record { used = t ∷ told.used; split = ap (λ (l : List Symbol). t ∷ l) told.split; fits = f (map plain told.used) r.0 told.fits; again = told.again }
-behind_first p P Q t f ts (Err e) told = record { used = t ∷ told.used; here = told.here; split = ap (λ (l : List Symbol). t ∷ l) told.split; place = told.place; again = told.again; ahead = told.ahead; value = told.value; goes_on = f (map plain told.used ++ told.ahead) told.value told.goes_on; nested = told.nested }
-
--- a step past the first symbol
-pub after : {T : Type 0} {p : Parser T} {P Q : List Marked → T → Type 0} (t : Symbol) → ((us : List Marked) (x : T) → Q us x → P (plain t ∷ us) x) → Describes p Q → DescribesAt (Some t) (skip >> p) P
-after {T} {p} {P} {Q} t f d = record { tells = at }
-  where
-    at : (ts : List Symbol) → first ts ≡ Some t → Told (skip >> p) P ts ((skip >> p) ts)
-    at [] e = absurd (none_some t e)
-    at (u ∷ ts) e = let F : Symbol → Type 0 = λ v. Told (skip >> p) P (v ∷ ts) (p ts) in subst F (sym (some_one u t e)) (behind_first p P Q t f ts (p ts) (d.tells ts))
-
-possibly-mark : (m : Mark) → Possible (IsMark m)
-possibly-mark m = record { list = word m ∷ []; value = tt; fits = refl }
-
-is_mark : (m found : Mark) (b : Bool) → sameb the_type found m ≡ b → DescribesAt (Some (s.Mark found)) (if b then skip else refuse Expected) (IsMark m)
-is_mark m found false e = refused_at (IsMark m) (possibly-mark m) (Some (s.Mark found))
-is_mark m found true e = record { tells = at }
-  where
-    same : found ≡ m
-    same = same_true the_type tt found m e
-
-    at : (ts : List Symbol) → first ts ≡ Some (s.Mark found) → Told skip (IsMark m) ts (skip ts)
-    at [] p = absurd (none_some (s.Mark found) p)
-    at (u ∷ ts) p = record { used = u ∷ []; split = refl; fits = ap (λ (v : Symbol). plain v ∷ []) (some_one u (s.Mark found) p ∙ ap s.Mark same); again = λ us h. refl }
-
--- a mark that has to stand here
-pub expect_told : (m : Mark) → Describes (expect m) (IsMark m)
-unfolding expect
-expect_told m = choose (possibly-mark m) by
-  where
-    by : (o : Option Symbol) → DescribesAt o (expect_by m o) (IsMark m)
-    by None = refused_at (IsMark m) (possibly-mark m) None
-    by (Some (s.Mark found)) = is_mark m found (sameb the_type found m) refl
-    by (Some (s.Number z)) = refused_at (IsMark m) (possibly-mark m) (Some (s.Number z))
-    by (Some (s.Name x)) = refused_at (IsMark m) (possibly-mark m) (Some (s.Name x))
-
-taken_shorter : {T : Type 0} {p : Parser T} {P : List Marked → T → Type 0} {ts : List Symbol} {x : T} {behind : List Symbol} → ((us : List Marked) (y : T) → P us y → 0 < length us) → Takes p P ts x behind → length behind < length ts
+taken_shorter : {T : Type 0} {p : Parser T} {P : List Marked → T → Type 0} {ts : List Symbol} {x : T} {behind : List Symbol} →
+    ((us : List Marked) (y : T) → P us y → 0 < length us) → Takes p P ts x behind → length behind < length ts
 taken_shorter {ts = ts} {x = x} {behind = behind} some t =
     let used : 0 < length (map plain t.used) = some (map plain t.used) x t.fits in
     let total : length ts ≡ length (t.used ++ behind) = ap (λ (l : List Symbol). length l) t.split in
     rw (total, length-append) (grind (arith, length-map-plain t.used))
 
 -- what takes at least one symbol leaves fewer
-pub shorter : {T : Type 0} {p : Parser T} {P : List Marked → T → Type 0} → ((us : List Marked) (y : T) → P us y → 0 < length us) → Describes p P → (ts : List Symbol) (x : T) (behind : List Symbol) → p ts ≡ Ok (x, behind) → length behind < length ts
+pub shorter : {T : Type 0} {p : Parser T} {P : List Marked → T → Type 0} → ((us : List Marked) (y : T) → P us y → 0 < length us) →
+    Describes p P → (ts : List Symbol) (x : T) (behind : List Symbol) → p ts ≡ Ok (x, behind) → length behind < length ts
 shorter {T} {p} {P} some d ts x behind e = taken_shorter some (told (p ts) e (d.tells ts))
   where
     told : (r : Result (T × List Symbol) Fault) → r ≡ Ok (x, behind) → Told p P ts r → Takes p P ts x behind
     told r q t = let F : Result (T × List Symbol) Fault → Type 0 = λ v. Told p P ts v in subst F q t
-
--- one parser and then another, where a symbol stands first
-pub bind_at : {T U : Type 0} {o : Option Symbol} {p : Parser T} {P : List Marked → T → Type 0} {next : T → Parser U} {Q : T → List Marked → U → Type 0} → DescribesAt o p P → ((x : T) → Describes (next x) (Q x)) → DescribesAt o (p >>= next) (Both P Q)
-bind_at {p = p} {P = P} {next = next} {Q = Q} d e = record { tells = λ ts f. bound p P next Q ts (p ts) (d.tells ts f) e }
-
--- a weaker fact, where a symbol stands first
-pub weaken_at : {T : Type 0} {o : Option Symbol} {p : Parser T} {P Q : List Marked → T → Type 0} → ((us : List Marked) (x : T) → P us x → Q us x) → DescribesAt o p P → DescribesAt o p Q
-weaken_at {p = p} {P = P} {Q = Q} f d = record { tells = λ ts e. weakened p P Q f ts (p ts) (d.tells ts e) }
-
-stands_mark : (m found : Mark) → sameb the_type found m ≡ true → s.Mark found ≡ s.Mark m
-stands_mark m found e = ap s.Mark (same_true the_type tt found m e)
-
--- what stands there where a mark stands there
-pub stands-is : (m : Mark) (o : Option Symbol) → stands m o ≡ true → o ≡ Some (s.Mark m)
-stands-is m None e = cc
-stands-is m (Some (s.Mark found)) e = ap Some (stands_mark m found e)
-stands-is m (Some (s.Number z)) e = cc
-stands-is m (Some (s.Name x)) e = cc
-
--- what is read where a mark stands first
-pub standing : {T : Type 0} {p : Parser T} {P : List Marked → T → Type 0} (m : Mark) (o : Option Symbol) → stands m o ≡ true → DescribesAt (Some (s.Mark m)) p P → DescribesAt o p P
-standing {T} {p} {P} m o e d = let F : Option Symbol → Type 0 = λ v. DescribesAt v p P in subst F (sym (stands-is m o e)) d
-
--- the rule inside a group: none where no more may be opened
-abbrev pub Inner : {T : Type 0} → Option (Parser T) → (List Marked → T → Type 0) → ℕ → Type 0
-Inner None P d = Possible P × (nat_le 64 d ≡ true)
-Inner (Some p) P d = Describes p P × (nat_le 64 d ≡ false)
-
--- what is inside a group is possible, whether it may be opened or not
-pub possibly-inside : {T : Type 0} (deeper : Option (Parser T)) (P : List Marked → T → Type 0) (d : ℕ) → Inner deeper P d → Possible P
-possibly-inside None P d i = i.0
-possibly-inside (Some p) P d i = i.0.possible
-
--- a group, where d are open
-pub record Enclosed {T : Type 0} (d : ℕ) (begin close : Mark) (P : List Marked → T → Type 0) (us : List Marked) (x : T) : Type 0 where
-  pub body : List Marked
-  pub split : us ≡ opens begin d ∷ (body ++ word close ∷ [])
-  pub fits : P body x
-
-enclosed : {T : Type 0} (d : ℕ) (begin close : Mark) (P : List Marked → T → Type 0) → nat_le 64 d ≡ false → (us : List Marked) (x : T) → Both P (λ y. Both (IsMark close) (λ _. Is y)) us x → Enclosed d begin close P (word begin ∷ us) x
-enclosed {T} d begin close P shallow us x b =
-    let F : T → Type 0 = λ y. Enclosed d begin close P (word begin ∷ us) y in
-    subst F b.two.two.same (record {
-      body = b.front;
-      split = ap (λ (deep : Bool). (s.Mark begin, deep) ∷ us) (sym shallow) ∙ ap (λ (l : List Marked). opens begin d ∷ l) (b.parts ∙ ap (λ (l : List Marked). b.front ++ l) (b.two.parts ∙ ap (λ (l : List Marked). l ++ b.two.behind) b.two.one ∙ ap (λ (l : List Marked). word close ∷ l) b.two.two.none));
-      fits = b.one;
-    })
-
--- a group is possible where its inside is
-abbrev pub possibly-enclosed : {T : Type 0} (d : ℕ) (begin close : Mark) (P : List Marked → T → Type 0) → Possible P → Possible (Enclosed d begin close P)
-possibly-enclosed d begin close P may = record { list = opens begin d ∷ (may.list ++ word close ∷ []); value = may.value; fits = record { body = may.list; split = refl; fits = may.fits } }
-
--- a group that nests too deep
-too_deep : {T : Type 0} (d : ℕ) (begin close : Mark) (P : List Marked → T → Type 0) → nat_le 64 d ≡ true → Possible P → (ts : List Symbol) → first ts ≡ Some (s.Mark begin) → Stops (refuse Nested) (Enclosed d begin close P) ts (fault Nested ts)
-too_deep d begin close P deep may ts e =
-    let g = possibly-enclosed d begin close P may in
-    record {
-      used = [];
-      here = ts;
-      split = refl;
-      place = refl;
-      again = λ us h. refl;
-      ahead = g.list;
-      value = g.value;
-      goes_on = g.fits;
-      nested = λ n. record { sign = s.Mark begin; others = may.list ++ word close ∷ []; begins = ap (λ (b : Bool). (s.Mark begin, b) ∷ (may.list ++ word close ∷ [])) deep; stands = e };
-    }
-
--- the inside of a group whose sign stands first
-pub inside_told : {T : Type 0} (deeper : Option (Parser T)) (P : List Marked → T → Type 0) (d : ℕ) (begin close : Mark) → Inner deeper P d → DescribesAt (Some (s.Mark begin)) (inside_group deeper close) (Enclosed d begin close P)
-inside_told None P d begin close i = record { tells = λ ts e. too_deep d begin close P i.1 i.0 ts e }
-inside_told (Some p) P d begin close i = after (s.Mark begin) (enclosed d begin close P i.1) (bind i.0 (λ x. both (expect_told close) (give x)))
-
--- a group
-pub grouped_told : {T : Type 0} (deeper : Option (Parser T)) (P : List Marked → T → Type 0) (d : ℕ) (begin close : Mark) → Inner deeper P d → Describes (grouped begin close deeper) (Enclosed d begin close P)
-unfolding grouped
-grouped_told {T} deeper P d begin close i = choose_by (λ o. grouped_by deeper close (stands begin o)) (λ ts. refl) may (λ o. by o (stands begin o) refl)
-  where
-    may : Possible (Enclosed d begin close P)
-    may = possibly-enclosed d begin close P (possibly-inside deeper P d i)
-
-    by : (o : Option Symbol) (b : Bool) → stands begin o ≡ b → DescribesAt o (grouped_by deeper close b) (Enclosed d begin close P)
-    by o true e = standing begin o e (inside_told deeper P d begin close i)
-    by o false e = refused_at (Enclosed d begin close P) may o
 
 not_err : {T : Type 0} {f : Fault} {x : T} → (let a : Result T Fault = Err f in a) ≡ Ok x → ⊥
 not_err e = cc
@@ -372,7 +286,8 @@ ok_same : {T : Type 0} (x y : T) → (let a : Result T Fault = Ok x in a) ≡ Ok
 ok_same x y e = cc
 
 -- all symbols are what is read to the end
-pub all_read : {T : Type 0} {p : Parser T} {P : List Marked → T → Type 0} → Describes p P → (ts : List Symbol) (x : T) → to_end (p ts) ≡ Ok x → P (map plain ts) x
+pub all_read : {T : Type 0} {p : Parser T} {P : List Marked → T → Type 0} → Describes p P → (ts : List Symbol) (x : T) →
+    to_end (p ts) ≡ Ok x → P (map plain ts) x
 all_read {T} {p} {P} d ts x e = by_answer (p ts) (d.tells ts) e
   where
     none_behind : (y : T) (behind : List Symbol) → Takes p P ts y behind → by_rest y behind ≡ Ok x → P (map plain ts) x
@@ -385,3 +300,23 @@ all_read {T} {p} {P} d ts x e = by_answer (p ts) (d.tells ts) e
     by_answer : (a : Result (T × List Symbol) Fault) → Told p P ts a → to_end a ≡ Ok x → P (map plain ts) x
     by_answer (Err f) t q = absurd (not_err q)
     by_answer (Ok a) t q = none_behind a.0 a.1 t q
+
+some_none : (u : Symbol) → Some u ≡ (let o : Option Symbol = None in o) → ⊥
+some_none u p = cc
+
+-- what is read with no symbol after it
+pub to_end-ends : {T : Type 0} {a : Result (T × List Symbol) Fault} (x : T) (after : List Symbol) → a ≡ Ok (x, after) → first after ≡ None →
+    to_end a ≡ Ok x
+to_end-ends x [] e none = rw e refl
+to_end-ends x (t ∷ after) e none = absurd (some_none t none)
+
+-- what is read with symbols after it
+pub to_end-goes_on : {T : Type 0} {a : Result (T × List Symbol) Fault} (x : T) (after : List Symbol) (u : Symbol) → a ≡ Ok (x, after) →
+    first after ≡ Some u → to_end a ≡ Err (fault Expected after)
+to_end-goes_on x [] u e some = absurd (some_none u (sym some))
+to_end-goes_on x (t ∷ after) u e some = rw e refl
+
+-- what is refused
+pub to_end-fails : {T : Type 0} (a : Result (T × List Symbol) Fault) (e : ReadError) → Fails e a → Fails e (to_end a)
+to_end-fails a (error.Fault f) fails = rw fails refl
+to_end-fails a error.Memory fails = tt

@@ -1,5 +1,5 @@
 -- A program is read exactly where the grammar spells it.
-use Rattle.std.proofs.Common.{◌≡◌, ℕ, refl, sym, ap, ◌∙◌, subst, Option, Some, None, Result, Ok, Err, List, [], ◌∷◌, ◌++◌, map}
+use Rattle.std.proofs.Common.{◌≡◌, ℕ, refl, sym, ap, ◌∙◌, subst, Result, Ok, Err, List, [], ◌++◌, map}
 use Rattle.std.proofs.lemmas.List.{append-nil}
 use Rattle.sm_syntax.specs.declared.symbol.Symbol.{Symbol}
 use Rattle.sm_syntax.specs.declared.tree.Sort.{Sort}
@@ -8,26 +8,25 @@ use Rattle.sm_syntax.specs.text.MarkedSymbols.{Marked, plain}
 use Rattle.sm_syntax.specs.text.TaskGrammar.{AreDeclarations, AreOutputs, IsShared}
 use Rattle.sm_syntax.specs.text.Symbols.{names_of, symbols_of}
 use Rattle.sm_text.specs.declared.rules.reading.Fault.{Fault}
-use Rattle.sm_text.specs.declared.rules.reading.FaultKind.TheVariants.{Expected}
-use Rattle.sm_text.specs.declared.rules.reading.ReadError.{ReadError}
-use Rattle.sm_text.specs.declared.rules.reading.ReadError.TheVariants as error
-use Rattle.sm_text.specs.rules.Answers.{Fails}
 use Rattle.sm_text.specs.parsing.Fragments.{IsProgram, program, SpellsProgram}
-use Rattle.sm_text.specs.rules.Parsers.{first, fault, Parser, ◌>>=◌, pure}
+use Rattle.sm_text.specs.rules.Parsers.{Parser, ◌>>=◌, pure}
 use Rattle.sm_text.specs.parsing.Places.{unmarked}
 use Rattle.sm_text.specs.parsing.Program as p
 use Rattle.sm_text.specs.rules.Reading as r
 use Rattle.sm_text.specs.Tasks.{ProgramParts}
 use Rattle.sm_text.proofs.Complete.Parsers.{reach, next, reads-then, unmarked-plain, reach-plain}
 use Rattle.sm_text.proofs.Complete.Tasks.{declarations_read, outputs_read, outputs_begin, shared_read}
-use Rattle.sm_text.proofs.Sound.Rules.{declarations_told, outputs_told, shared_told}
+use Rattle.sm_text.proofs.Sound.Names.{declarations_told, outputs_told}
+use Rattle.sm_text.proofs.Sound.Sections.{shared_told}
 use Rattle.sm_text.proofs.Sound.Parsers.{all_read, Describes, Both, Is, bind, weaken, give}
 
 -- a program, where these are the texts of its names
 abbrev pub IsProgramUnder : List (List ℕ) → List Marked → ProgramParts → Type 0
 IsProgramUnder names us x = IsProgram us x × (x.names ≡ names)
 
-is_program : (names : List (List ℕ)) (us : List Marked) (x : ProgramParts) → Both AreDeclarations (λ ds. Both AreOutputs (λ xs. Both IsShared (λ c. Is (record { names = names; declared = ds; outputs = xs; body = c })))) us x → IsProgramUnder names us x
+is_program : (names : List (List ℕ)) (us : List Marked) (x : ProgramParts) →
+    Both AreDeclarations (λ ds. Both AreOutputs
+    (λ xs. Both IsShared (λ c. Is (record { names = names; declared = ds; outputs = xs; body = c })))) us x → IsProgramUnder names us x
 is_program names us x b = subst F b.two.two.two.same (subst G (sym line) (program it b.one b.two.one b.two.two.one), refl)
   where
     it : ProgramParts
@@ -40,46 +39,32 @@ is_program names us x b = subst F b.two.two.two.same (subst G (sym line) (progra
     G l = IsProgram l it
 
     line : us ≡ b.front ++ (b.two.front ++ b.two.two.front)
-    line = b.parts ∙ ap (λ (l : List Marked). b.front ++ l) (b.two.parts ∙ ap (λ (l : List Marked). b.two.front ++ l) (b.two.two.parts ∙ ap (λ (l : List Marked). b.two.two.front ++ l) b.two.two.two.none ∙ append-nil b.two.two.front))
+    line = b.parts ∙ ap (λ (l : List Marked). b.front ++ l)
+        (b.two.parts ∙ ap (λ (l : List Marked). b.two.front ++ l)
+        (b.two.two.parts ∙ ap (λ (l : List Marked). b.two.two.front ++ l) b.two.two.two.none ∙ append-nil b.two.two.front))
 
 pub program_told : (names : List (List ℕ)) → Describes (p.program names) (IsProgramUnder names)
 unfolding p.program
-program_told names = weaken (is_program names) (bind declarations_told (λ ds. bind outputs_told (λ xs. bind shared_told (λ c. give (record { names = names; declared = ds; outputs = xs; body = c })))))
+program_told names = weaken (is_program names)
+    (bind declarations_told (λ ds. bind outputs_told
+    (λ xs. bind shared_told (λ c. give (record { names = names; declared = ds; outputs = xs; body = c })))))
 
 not_err : {f : Fault} {x : ProgramParts} → (let a : Result ProgramParts Fault = Err f in a) ≡ Ok x → ⊥
 not_err q = cc
 
 -- what is read to the end is a program
-pub whole_program_told : (names : List (List ℕ)) (ts : List Symbol) (x : ProgramParts) → p.whole_program names ts ≡ Ok x → IsProgramUnder names (map plain ts) x
+pub whole_program_told : (names : List (List ℕ)) (ts : List Symbol) (x : ProgramParts) → p.whole_program names ts ≡ Ok x →
+    IsProgramUnder names (map plain ts) x
 unfolding p.whole_program
 whole_program_told names ts x e = all_read (program_told names) ts x e
 
-some_none : (t : Symbol) → (let o : Option Symbol = Some t in o) ≡ None → ⊥
-some_none t p = cc
-
--- a program with no symbol after it
-pub program-end : (names : List (List ℕ)) (ts : List Symbol) (x : ProgramParts) (after : List Symbol) → p.program names ts ≡ Ok (x, after) → first after ≡ None → p.whole_program names ts ≡ Ok x
-unfolding p.whole_program
-program-end names ts x [] e none = rw e refl
-program-end names ts x (t ∷ after) e none = absurd (some_none t none)
-
--- a program with symbols after it
-pub program-rest : (names : List (List ℕ)) (ts : List Symbol) (x : ProgramParts) (after : List Symbol) (u : Symbol) → p.program names ts ≡ Ok (x, after) → first after ≡ Some u → p.whole_program names ts ≡ Err (fault Expected after)
-unfolding p.whole_program
-program-rest names ts x [] u e some = absurd (some_none u (sym some))
-program-rest names ts x (t ∷ after) u e some = rw e refl
-
--- a program that is refused
-pub program-fails : (names : List (List ℕ)) (ts : List Symbol) (e : ReadError) → Fails e (p.program names ts) → Fails e (p.whole_program names ts)
-unfolding p.whole_program
-program-fails names ts (error.Fault f) fails = rw fails refl
-program-fails names ts error.Memory fails = tt
-
 -- a program is read
-pub program_read : {ts : List Marked} {t : ProgramParts} → IsProgram ts t → (z : List Symbol) → p.program t.names (unmarked ts ++ z) ≡ reach ts z (Ok (t, z))
+pub program_read : {ts : List Marked} {t : ProgramParts} → IsProgram ts t → (z : List Symbol) →
+    p.program t.names (unmarked ts ++ z) ≡ reach ts z (Ok (t, z))
 unfolding p.program
 program_read (program {ts = ts} {us = us} {vs = vs} t declared named code) z =
-    next r.declarations ts (us ++ vs) z (Ok (t.declared, unmarked (us ++ vs) ++ z)) with_outputs (Ok (t, z)) (declarations_read declared (unmarked (us ++ vs) ++ z) (outputs_begin named vs z))
+    next r.declarations ts (us ++ vs) z (Ok (t.declared, unmarked (us ++ vs) ++ z)) with_outputs (Ok (t, z))
+    (declarations_read declared (unmarked (us ++ vs) ++ z) (outputs_begin named vs z))
     (next r.outputs us vs z (Ok (t.outputs, unmarked vs ++ z)) (with_body t.declared) (Ok (t, z)) (outputs_read named (unmarked vs ++ z))
     (reads-then vs z (Ok (t.body, z)) (whole t.declared t.outputs) (shared_read code z)))
   where
@@ -102,7 +87,8 @@ program_complete ts t it =
     ∙ ap end (reach-plain ts [] (Ok (t, [])))
 
 -- so is the program that a text spells
-spelled_read : (bytes : List ℕ) (t : ProgramParts) (names : List (List ℕ)) (ts : List Symbol) → SpellsProgram bytes t → names ≡ names_of bytes → ts ≡ symbols_of bytes → p.whole_program names ts ≡ Ok t
+spelled_read : (bytes : List ℕ) (t : ProgramParts) (names : List (List ℕ)) (ts : List Symbol) → SpellsProgram bytes t →
+    names ≡ names_of bytes → ts ≡ symbols_of bytes → p.whole_program names ts ≡ Ok t
 spelled_read bytes t names ts spells n e =
     let G : List Symbol → Type 0 = λ l. IsProgram (map plain l) t in
     ap (λ (l : List (List ℕ)). p.whole_program l ts) (n ∙ sym spells.names) ∙ program_complete ts t (subst G (sym e) spells.grammar)
@@ -111,9 +97,11 @@ ok_same : (x y : ProgramParts) → (let a : Result ProgramParts Fault = Ok x in 
 ok_same x y e = cc
 
 -- what is read of a text is the program that it spells
-pub program_same : (bytes : List ℕ) (t : ProgramParts) (names : List (List ℕ)) (ts : List Symbol) (x : ProgramParts) → SpellsProgram bytes t → names ≡ names_of bytes → ts ≡ symbols_of bytes → p.whole_program names ts ≡ Ok x → x ≡ t
+pub program_same : (bytes : List ℕ) (t : ProgramParts) (names : List (List ℕ)) (ts : List Symbol) (x : ProgramParts) →
+    SpellsProgram bytes t → names ≡ names_of bytes → ts ≡ symbols_of bytes → p.whole_program names ts ≡ Ok x → x ≡ t
 program_same bytes t names ts x spells n e f = ok_same x t (sym f ∙ spelled_read bytes t names ts spells n e)
 
 -- a text that is refused spells no program
-pub program_not_refused : (bytes : List ℕ) (t : ProgramParts) (names : List (List ℕ)) (ts : List Symbol) (f : Fault) → SpellsProgram bytes t → names ≡ names_of bytes → ts ≡ symbols_of bytes → p.whole_program names ts ≡ Err f → ⊥
+pub program_not_refused : (bytes : List ℕ) (t : ProgramParts) (names : List (List ℕ)) (ts : List Symbol) (f : Fault) →
+    SpellsProgram bytes t → names ≡ names_of bytes → ts ≡ symbols_of bytes → p.whole_program names ts ≡ Err f → ⊥
 program_not_refused bytes t names ts f spells n e g = not_err (sym g ∙ spelled_read bytes t names ts spells n e)

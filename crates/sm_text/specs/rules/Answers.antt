@@ -1,6 +1,8 @@
 -- No public clause cites this file.
 -- What the code of a rule answers, by the reading that it follows.
-use Rattle.std.specs.Prelude.{◌≡◌, Result, Ok, Err}
+use Rattle.std.specs.Prelude.{◌≡◌, Result, Ok, Err, List}
+use Rattle.std.specs.Borrow.{Bor}
+use Rattle.sm_syntax.specs.declared.symbol.Symbol.{Symbol}
 use Rattle.sm_text.specs.declared.rules.reading.Fault.{Fault}
 use Rattle.sm_text.specs.declared.rules.reading.ReadError.{ReadError}
 use Rattle.sm_text.specs.declared.rules.reading.ReadError.TheVariants as error
@@ -14,3 +16,8 @@ Fails error.Memory reading = Unit {0}
 abbrev pub Gives : {A B : Type 0} → (A → B) → Result A ReadError → Result B Fault → Type 0
 Gives view (Ok x) reading = reading ≡ Ok (view x)
 Gives view (Err e) reading = Fails e reading
+
+-- the answer stands for what the reading gives, with the symbols after it
+abbrev pub Parses : {A B : Type 0} → (A → B) → Result (A × Bor (List Symbol)) ReadError →
+    Result (B × List Symbol) Fault → Type 0
+Parses view result reading = Gives (λ x. (view x.0, x.1.now)) result reading

@@ -103,6 +103,14 @@ chain_in operators operand zero left ts = chain_by (operators (first ts)) operan
 chain_in operators operand (suc n) left ts =
     chain_by (operators (first ts)) operand (suc n) (chain_in operators operand n) left ts
 
+-- how many operators a chain may have
+unfoldable pub chain_limit : ℕ
+chain_limit = 63
+
+-- operands with an operator between every two, grouped to the left
+unfoldable pub chain : {A : Type 0} → Operators A → Parser A → Parser A
+chain operators operand = operand >>= λ x. chain_in operators operand chain_limit x
+
 -- the rule inside a group that opens here, where one may open, and the sign that closes it
 abbrev pub inside_group : {A : Type 0} → Option (Parser A) → Mark → Parser A
 inside_group None close = refuse Nested

@@ -8,7 +8,9 @@ use Rattle.sm_syntax.specs.declared.tree.Stmt.{Stmt}
 use Rattle.sm_syntax.specs.claim.Fill.{Fillings}
 use Rattle.sm_syntax.specs.text.TaskGrammar.{with_sort}
 use Rattle.sm_syntax.specs.claim.Syntax as plain
-use Rattle.sm_syntax.specs.claim.Syntax.{Expression, Code}
+use Rattle.sm_syntax.specs.claim.Syntax.{Expression, Condition, Code}
+use Rattle.sm_text.specs.declared.rules.conditions.CondChain.{CondChain}
+use Rattle.sm_text.specs.declared.rules.conditions.CondChain.TheVariants.{Conjunction, Disjunction}
 use Rattle.sm_text.specs.declared.rules.expressions.Operator.{Operator}
 use Rattle.sm_text.specs.declared.rules.expressions.Operator.TheVariants.{Plus, Minus, Times}
 use Rattle.sm_text.specs.declared.rules.names.Declared.{Declared}
@@ -31,6 +33,11 @@ abbrev pub joined_by : Operator → Expression → Expression → Expression
 joined_by Plus d e = plain.Plus d e
 joined_by Minus d e = plain.Minus d e
 joined_by Times d e = plain.Times d e
+
+-- what the operator of a chain makes of two conditions
+abbrev pub connected_by : CondChain → Condition → Condition → Condition
+connected_by Conjunction b c = plain.And b c
+connected_by Disjunction b c = plain.Or b c
 
 -- statements, before the code that follows them
 abbrev pub statements_before : List Stmt → Code → Code

@@ -50,21 +50,9 @@ pub(crate) fn put_expr(out: &mut Vec<u8>, names: &NameTable, e: &Expr) -> Result
             out.extend_from_slice(b"-")?;
             put_operand(out, names, d)
         }
-        Expr::Add(d, e) => {
-            put_operand(out, names, d)?;
-            out.extend_from_slice(b" + ")?;
-            put_operand(out, names, e)
-        }
-        Expr::Sub(d, e) => {
-            put_operand(out, names, d)?;
-            out.extend_from_slice(b" - ")?;
-            put_operand(out, names, e)
-        }
-        Expr::Mul(d, e) => {
-            put_operand(out, names, d)?;
-            out.extend_from_slice(b" * ")?;
-            put_operand(out, names, e)
-        }
+        Expr::Add(d, e) => put_operands(out, names, d, b" + ", e),
+        Expr::Sub(d, e) => put_operands(out, names, d, b" - ", e),
+        Expr::Mul(d, e) => put_operands(out, names, d, b" * ", e),
     }
 }
 
@@ -93,10 +81,9 @@ pub(crate) fn put_element(
 #[cycle(put_expression)]
 fn put_operand(out: &mut Vec<u8>, names: &NameTable, e: &Expr) -> Result<(), AllocError>
     requires { IsNamedIn (length names.now) (expression_of e.now) }
-    ensures { let tree = expression_of e.now in OnOk result
+    ensures { OnOk result
         (out.new.items ≡ out.old.items
-        ++ pieces_text names.now
-        (canonical.operand (canonical.is_atom tree) (canonical.expression_pieces tree))) }
+        ++ pieces_text names.now (canonical.operand_pieces (expression_of e.now))) }
 {
     if is_atom(e) {
         return put_expr(out, names, e);
@@ -104,6 +91,27 @@ fn put_operand(out: &mut Vec<u8>, names: &NameTable, e: &Expr) -> Result<(), All
     out.extend_from_slice(b"(")?;
     put_expr(out, names, e)?;
     out.extend_from_slice(b")")
+}
+
+/// Two operands, with an operator between them.
+#[cycle(put_expression)]
+fn put_operands(
+    out: &mut Vec<u8>,
+    names: &NameTable,
+    d: &Expr,
+    sign: &[u8],
+    e: &Expr,
+) -> Result<(), AllocError>
+    requires left { IsNamedIn (length names.now) (expression_of d.now) }
+    requires right { IsNamedIn (length names.now) (expression_of e.now) }
+    ensures { OnOk result
+        (out.new.items ≡ out.old.items
+        ++ pieces_text names.now (canonical.operand_pieces (expression_of d.now)) ++ sign.now
+        ++ pieces_text names.now (canonical.operand_pieces (expression_of e.now))) }
+{
+    put_operand(out, names, d)?;
+    out.extend_from_slice(sign)?;
+    put_operand(out, names, e)
 }
 
 /// A comparison, with a space on both sides.
@@ -148,16 +156,8 @@ pub(crate) fn put_cond(out: &mut Vec<u8>, names: &NameTable, c: &Cond) -> Result
             out.extend_from_slice(b"!")?;
             put_part(out, names, b)
         }
-        Cond::And(b, d) => {
-            put_part(out, names, b)?;
-            out.extend_from_slice(b" && ")?;
-            put_part(out, names, d)
-        }
-        Cond::Or(b, d) => {
-            put_part(out, names, b)?;
-            out.extend_from_slice(b" || ")?;
-            put_part(out, names, d)
-        }
+        Cond::And(b, d) => put_parts(out, names, b, b" && ", d),
+        Cond::Or(b, d) => put_parts(out, names, b, b" || ", d),
     }
 }
 
@@ -165,10 +165,9 @@ pub(crate) fn put_cond(out: &mut Vec<u8>, names: &NameTable, c: &Cond) -> Result
 #[cycle(put_condition)]
 fn put_part(out: &mut Vec<u8>, names: &NameTable, c: &Cond) -> Result<(), AllocError>
     requires { IsTestedIn (length names.now) (condition_of c.now) }
-    ensures { let tree = condition_of c.now in OnOk result
+    ensures { OnOk result
         (out.new.items ≡ out.old.items
-        ++ pieces_text names.now
-        (canonical.part (canonical.is_test tree) (canonical.condition_pieces tree))) }
+        ++ pieces_text names.now (canonical.part_pieces (condition_of c.now))) }
 {
     if is_test(c) {
         return put_cond(out, names, c);
@@ -176,4 +175,25 @@ fn put_part(out: &mut Vec<u8>, names: &NameTable, c: &Cond) -> Result<(), AllocE
     out.extend_from_slice(b"[")?;
     put_cond(out, names, c)?;
     out.extend_from_slice(b"]")
+}
+
+/// Two parts of a condition, with an operator between them.
+#[cycle(put_condition)]
+fn put_parts(
+    out: &mut Vec<u8>,
+    names: &NameTable,
+    b: &Cond,
+    sign: &[u8],
+    c: &Cond,
+) -> Result<(), AllocError>
+    requires left { IsTestedIn (length names.now) (condition_of b.now) }
+    requires right { IsTestedIn (length names.now) (condition_of c.now) }
+    ensures { OnOk result
+        (out.new.items ≡ out.old.items
+        ++ pieces_text names.now (canonical.part_pieces (condition_of b.now)) ++ sign.now
+        ++ pieces_text names.now (canonical.part_pieces (condition_of c.now))) }
+{
+    put_part(out, names, b)?;
+    out.extend_from_slice(sign)?;
+    put_part(out, names, c)
 }

@@ -1,37 +1,36 @@
 // Conditions. A rule takes the number of groups that may still be opened.
-ghost use Rattle.std.specs.Prelude.{◌≡◌, IfOk};
-ghost use Rattle.sm_syntax.specs.claim.Syntax.{And, Or};
+ghost use Rattle.std.specs.Prelude.{◌≡◌, if◌then◌else◌, Some, None, IfOk};
 ghost use Rattle.sm_syntax.specs.trees.Views.{condition_of};
-ghost use Rattle.sm_text.specs.rules.Answers.{Gives};
+ghost use Rattle.sm_text.specs.rules.Answers.{Parses};
 ghost use Rattle.sm_text.specs.rules.Parsers.{inside_group};
 ghost use Rattle.sm_text.specs.rules.Reading as spec;
+ghost use Rattle.sm_text.specs.rules.Written.{connected_by};
 
 use crate::rules::expressions::{CHAIN_LIMIT, expression};
 use crate::rules::names::stands;
-use crate::rules::reading::{FaultKind, ReadError, expect, first, refusal, rest};
+use crate::rules::reading::{FaultKind, Parsed, expect, first, refusal, rest};
 use sm_syntax::{Cmp, Cond, Mark, Symbol};
 use std::alloc::{AllocError, Global};
 
+/// A chain of operators between two conditions each.
+#[derive(Clone, Copy, Debug, PartialEq, Eq)]
+pub(crate) enum CondChain {
+    Conjunction,
+    Disjunction,
+}
+
 /// A condition.
 #[tactic(auto, unfolding(crate::specs::rules::Reading::condition))]
-pub(crate) fn condition(
-    alloc: Global,
-    groups: u64,
-    symbols: &[Symbol],
-) -> Result<(Cond, &[Symbol]), ReadError>
-    ensures { Gives (λ x. (condition_of x.0, x.1.now)) result (spec.condition groups symbols.now) }
+pub(crate) fn condition(alloc: Global, groups: u64, symbols: &[Symbol]) -> Parsed<'_, Cond>
+    ensures { Parses condition_of result (spec.condition groups symbols.now) }
 {
-    disjunction(alloc, groups, symbols)
+    chained(alloc, groups, CondChain::Disjunction, symbols)
 }
 
 /// The condition in parentheses after `if` or `while`.
 #[tactic(auto, unfolding(crate::specs::rules::Reading::guard, crate::specs::rules::Parsers::grouped))]
-pub(crate) fn guard(
-    alloc: Global,
-    groups: u64,
-    symbols: &[Symbol],
-) -> Result<(Cond, &[Symbol]), ReadError>
-    ensures { Gives (λ x. (condition_of x.0, x.1.now)) result (spec.guard groups symbols.now) }
+pub(crate) fn guard(alloc: Global, groups: u64, symbols: &[Symbol]) -> Parsed<'_, Cond>
+    ensures { Parses condition_of result (spec.guard groups symbols.now) }
 {
     if stands(Mark::OpenRound, first(symbols)) {
         group(alloc, groups, Mark::CloseRound, symbols)
@@ -63,8 +62,8 @@ fn comparison_of(symbol: Option<Symbol>) -> Option<Cmp>
 
 /// The sign of a comparison.
 #[tactic(auto, unfolding(crate::specs::rules::Reading::comparison_sign))]
-fn comparison(symbols: &[Symbol]) -> Result<(Cmp, &[Symbol]), ReadError>
-    ensures { Gives (λ x. (x.0, x.1.now)) result (spec.comparison_sign symbols.now) }
+fn comparison(symbols: &[Symbol]) -> Parsed<'_, Cmp>
+    ensures { Parses (λ x. x) result (spec.comparison_sign symbols.now) }
 {
     match comparison_of(first(symbols)) {
         Some(sign) => Ok((sign, rest(symbols))),
@@ -74,11 +73,8 @@ fn comparison(symbols: &[Symbol]) -> Result<(Cmp, &[Symbol]), ReadError>
 
 /// A comparison of two expressions.
 #[tactic(auto, unfolding(crate::specs::rules::Reading::compared))]
-fn compared(alloc: Global, groups: u64, symbols: &[Symbol]) -> Result<(Cond, &[Symbol]), ReadError>
-    ensures { Gives
-        (λ x. (condition_of x.0, x.1.now))
-        result
-        (spec.compared (spec.expression groups) symbols.now) }
+fn compared(alloc: Global, groups: u64, symbols: &[Symbol]) -> Parsed<'_, Cond>
+    ensures { Parses condition_of result (spec.compared (spec.expression groups) symbols.now) }
 {
     let (left, after) = expression(alloc, groups, symbols)?;
     let (sign, after) = comparison(after)?;
@@ -88,21 +84,14 @@ fn compared(alloc: Global, groups: u64, symbols: &[Symbol]) -> Result<(Cond, &[S
 
 /// The inside of a group, whose first sign stands here, and the sign that closes it.
 #[cycle(conditions)]
-fn group(
-    alloc: Global,
-    groups: u64,
-    close: Mark,
-    symbols: &[Symbol],
-) -> Result<(Cond, &[Symbol]), ReadError>
-    ensures { Gives
-        (λ x. (condition_of x.0, x.1.now))
-        result
+fn group(alloc: Global, groups: u64, close: Mark, symbols: &[Symbol]) -> Parsed<'_, Cond>
+    ensures { Parses condition_of result
         (inside_group (spec.inner_condition groups) close symbols.now) }
 {
     if groups == 0 {
         return Err(refusal(FaultKind::Nested, symbols));
     }
-    let (test, after) = disjunction(alloc, groups - 1, rest(symbols))?;
+    let (test, after) = chained(alloc, groups - 1, CondChain::Disjunction, rest(symbols))?;
     let after = expect(close, after)?;
     Ok((test, after))
 }
@@ -110,10 +99,8 @@ fn group(
 /// A condition in square brackets.
 #[cycle(conditions)]
 #[tactic(auto, unfolding(crate::specs::rules::Reading::bracketed))]
-fn bracketed(alloc: Global, groups: u64, symbols: &[Symbol]) -> Result<(Cond, &[Symbol]), ReadError>
-    ensures { Gives
-        (λ x. (condition_of x.0, x.1.now))
-        result
+fn bracketed(alloc: Global, groups: u64, symbols: &[Symbol]) -> Parsed<'_, Cond>
+    ensures { Parses condition_of result
         (spec.bracketed (spec.inner_condition groups) symbols.now) }
 {
     group(alloc, groups, Mark::CloseSquare, symbols)
@@ -122,10 +109,8 @@ fn bracketed(alloc: Global, groups: u64, symbols: &[Symbol]) -> Result<(Cond, &[
 /// A constant, a comparison, or a condition in square brackets.
 #[cycle(conditions)]
 #[tactic(auto, unfolding(crate::specs::rules::Reading::simple_test))]
-fn test(alloc: Global, groups: u64, symbols: &[Symbol]) -> Result<(Cond, &[Symbol]), ReadError>
-    ensures { Gives
-        (λ x. (condition_of x.0, x.1.now))
-        result
+fn test(alloc: Global, groups: u64, symbols: &[Symbol]) -> Parsed<'_, Cond>
+    ensures { Parses condition_of result
         (spec.simple_test (spec.inner_condition groups) (spec.expression groups) symbols.now) }
 {
     let symbol = first(symbols);
@@ -143,10 +128,8 @@ fn test(alloc: Global, groups: u64, symbols: &[Symbol]) -> Result<(Cond, &[Symbo
 /// A test, or one after an exclamation mark.
 #[cycle(conditions)]
 #[tactic(auto, unfolding(crate::specs::rules::Reading::literal))]
-fn literal(alloc: Global, groups: u64, symbols: &[Symbol]) -> Result<(Cond, &[Symbol]), ReadError>
-    ensures { Gives
-        (λ x. (condition_of x.0, x.1.now))
-        result
+fn literal(alloc: Global, groups: u64, symbols: &[Symbol]) -> Parsed<'_, Cond>
+    ensures { Parses condition_of result
         (spec.literal (spec.inner_condition groups) (spec.expression groups) symbols.now) }
 {
     if stands(Mark::Bang, first(symbols)) {
@@ -157,114 +140,60 @@ fn literal(alloc: Global, groups: u64, symbols: &[Symbol]) -> Result<(Cond, &[Sy
     }
 }
 
-/// Both conditions.
-fn both(alloc: Global, left: Cond, right: Cond) -> Result<Cond, AllocError>
-    ensures { IfOk result (λ b. condition_of b ≡ And (condition_of left) (condition_of right)) }
+/// Whether the operator of a chain stands there.
+fn goes_on(chain: CondChain, symbol: Option<Symbol>) -> bool
+    ensures { spec.condition_operators chain symbol ≡
+        (if result then Some (connected_by chain) else None) }
+{
+    match chain {
+        CondChain::Conjunction => stands(Mark::Both, symbol),
+        CondChain::Disjunction => stands(Mark::Either, symbol),
+    }
+}
+
+/// The condition that the operator of a chain makes of two.
+fn join(alloc: Global, chain: CondChain, left: Cond, right: Cond) -> Result<Cond, AllocError>
+    ensures { IfOk result (λ b.
+        condition_of b ≡ connected_by chain (condition_of left) (condition_of right)) }
 {
     let left = Box::new(alloc, left)?;
     let right = Box::new(alloc, right)?;
-    Ok(Cond::And(left, right))
+    Ok(match chain {
+        CondChain::Conjunction => Cond::And(left, right),
+        CondChain::Disjunction => Cond::Or(left, right),
+    })
 }
 
-/// One of two conditions.
-fn either(alloc: Global, left: Cond, right: Cond) -> Result<Cond, AllocError>
-    ensures { IfOk result (λ b. condition_of b ≡ Or (condition_of left) (condition_of right)) }
-{
-    let left = Box::new(alloc, left)?;
-    let right = Box::new(alloc, right)?;
-    Ok(Cond::Or(left, right))
-}
-
-/// The literals after the one that was read.
+/// What stands between the operators of a chain.
 #[cycle(conditions)]
-fn literals(
-    alloc: Global,
-    groups: u64,
-    one: Cond,
-    symbols: &[Symbol],
-) -> Result<(Cond, &[Symbol]), ReadError>
-    ensures { Gives
-        (λ x. (condition_of x.0, x.1.now))
-        result
-        (spec.literals
-        (spec.inner_condition groups) (spec.expression groups) spec.chain_limit (condition_of one)
-        symbols.now) }
+fn operand(alloc: Global, groups: u64, chain: CondChain, symbols: &[Symbol]) -> Parsed<'_, Cond>
+    ensures { Parses condition_of result
+        (spec.condition_operand
+        (spec.inner_condition groups) (spec.expression groups) chain symbols.now) }
 {
-    let mut left = one;
-    let mut after = symbols;
+    match chain {
+        CondChain::Conjunction => literal(alloc, groups, symbols),
+        CondChain::Disjunction => chained(alloc, groups, CondChain::Conjunction, symbols),
+    }
+}
+
+/// A chain, grouped to the left.
+#[cycle(conditions)]
+fn chained(alloc: Global, groups: u64, chain: CondChain, symbols: &[Symbol]) -> Parsed<'_, Cond>
+    ensures { Parses condition_of result
+        (spec.condition_chain
+        (spec.inner_condition groups) (spec.expression groups) chain symbols.now) }
+{
+    let (mut left, mut after) = operand(alloc, groups, chain, symbols)?;
     let mut room = CHAIN_LIMIT;
-    'literals: while stands(Mark::Both, first(after)) {
+    'operators: while goes_on(chain, first(after)) {
         if room == 0 {
             return Err(refusal(FaultKind::Nested, after));
         }
-        let (right, behind) = literal(alloc, groups, rest(after))?;
-        left = both(alloc, left, right)?;
+        let (right, behind) = operand(alloc, groups, chain, rest(after))?;
+        left = join(alloc, chain, left, right)?;
         room -= 1;
         after = behind;
     }
     Ok((left, after))
-}
-
-/// A conjunction.
-#[cycle(conditions)]
-#[tactic(auto, unfolding(crate::specs::rules::Reading::conjunction))]
-fn conjunction(
-    alloc: Global,
-    groups: u64,
-    symbols: &[Symbol],
-) -> Result<(Cond, &[Symbol]), ReadError>
-    ensures { Gives
-        (λ x. (condition_of x.0, x.1.now))
-        result
-        (spec.conjunction (spec.inner_condition groups) (spec.expression groups) symbols.now) }
-{
-    let (one, after) = literal(alloc, groups, symbols)?;
-    literals(alloc, groups, one, after)
-}
-
-/// The conjunctions after the one that was read.
-#[cycle(conditions)]
-fn conjunctions(
-    alloc: Global,
-    groups: u64,
-    one: Cond,
-    symbols: &[Symbol],
-) -> Result<(Cond, &[Symbol]), ReadError>
-    ensures { Gives
-        (λ x. (condition_of x.0, x.1.now))
-        result
-        (spec.conjunctions
-        (spec.inner_condition groups) (spec.expression groups) spec.chain_limit (condition_of one)
-        symbols.now) }
-{
-    let mut left = one;
-    let mut after = symbols;
-    let mut room = CHAIN_LIMIT;
-    'conjunctions: while stands(Mark::Either, first(after)) {
-        if room == 0 {
-            return Err(refusal(FaultKind::Nested, after));
-        }
-        let (right, behind) = conjunction(alloc, groups, rest(after))?;
-        left = either(alloc, left, right)?;
-        room -= 1;
-        after = behind;
-    }
-    Ok((left, after))
-}
-
-/// A disjunction: any condition.
-#[cycle(conditions)]
-#[tactic(auto, unfolding(crate::specs::rules::Reading::disjunction))]
-fn disjunction(
-    alloc: Global,
-    groups: u64,
-    symbols: &[Symbol],
-) -> Result<(Cond, &[Symbol]), ReadError>
-    ensures { Gives
-        (λ x. (condition_of x.0, x.1.now))
-        result
-        (spec.disjunction (spec.inner_condition groups) (spec.expression groups) symbols.now) }
-{
-    let (one, after) = conjunction(alloc, groups, symbols)?;
-    conjunctions(alloc, groups, one, after)
 }

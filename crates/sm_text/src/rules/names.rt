@@ -2,14 +2,14 @@
 // stands for, and the symbols after it.
 ghost use Rattle.std.specs.Prelude.{◌≡◌, ◌++◌, OnOk};
 ghost use Rattle.sm_syntax.specs.trees.Views.{statement_of};
-ghost use Rattle.sm_text.specs.rules.Answers.{Gives};
+ghost use Rattle.sm_text.specs.rules.Answers.{Parses};
 ghost use Rattle.sm_text.specs.rules.Parsers.{stands};
 ghost use Rattle.sm_text.specs.rules.Reading as spec;
 ghost use Rattle.sm_syntax.specs.text.TaskGrammar.{with_sort};
 ghost use Rattle.sm_syntax.specs.trees.Programs.{declared_of, outputs_of};
 ghost use Rattle.sm_text.specs.rules.Written.{numbers_of, entries_of, declaration_of};
 
-use crate::rules::reading::{FaultKind, ReadError, expect, first, refusal, rest};
+use crate::rules::reading::{FaultKind, Parsed, expect, first, refusal, rest};
 use sm_syntax::{Decls, Mark, Name, Outputs, Sort, Stmt, Symbol};
 use std::alloc::{AllocError, Global};
 
@@ -42,8 +42,8 @@ pub(crate) fn is_name(symbol: Option<Symbol>) -> bool
 
 /// A name.
 #[tactic(auto, unfolding(crate::specs::rules::Reading::name))]
-pub(crate) fn name(symbols: &[Symbol]) -> Result<(Name, &[Symbol]), ReadError>
-    ensures { Gives (λ x. (x.0, x.1.now)) result (spec.name symbols.now) }
+pub(crate) fn name(symbols: &[Symbol]) -> Parsed<'_, Name>
+    ensures { Parses (λ x. x) result (spec.name symbols.now) }
 {
     match first(symbols) {
         Some(Symbol::Name(name)) => Ok((name, rest(symbols))),
@@ -53,8 +53,8 @@ pub(crate) fn name(symbols: &[Symbol]) -> Result<(Name, &[Symbol]), ReadError>
 
 /// A comma and a name.
 #[tactic(auto, unfolding(crate::specs::rules::Reading::next_name))]
-pub(crate) fn next_name(symbols: &[Symbol]) -> Result<(Name, &[Symbol]), ReadError>
-    ensures { Gives (λ x. (x.0, x.1.now)) result (spec.next_name symbols.now) }
+pub(crate) fn next_name(symbols: &[Symbol]) -> Parsed<'_, Name>
+    ensures { Parses (λ x. x) result (spec.next_name symbols.now) }
 {
     name(expect(Mark::Comma, symbols)?)
 }
@@ -72,8 +72,8 @@ pub(crate) fn hole_of(value: i128) -> Option<u32>
 
 /// The number of a hole.
 #[tactic(auto, unfolding(crate::specs::rules::Reading::hole_number))]
-pub(crate) fn hole_number(symbols: &[Symbol]) -> Result<(u32, &[Symbol]), ReadError>
-    ensures { Gives (λ x. (x.0, x.1.now)) result (spec.hole_number symbols.now) }
+pub(crate) fn hole_number(symbols: &[Symbol]) -> Parsed<'_, u32>
+    ensures { Parses (λ x. x) result (spec.hole_number symbols.now) }
 {
     if let Some(Symbol::Number(value)) = first(symbols) {
         if let Some(hole) = hole_of(value) {
@@ -85,8 +85,8 @@ pub(crate) fn hole_number(symbols: &[Symbol]) -> Result<(u32, &[Symbol]), ReadEr
 
 /// A hole statement, after its question mark.
 #[tactic(auto, unfolding(crate::specs::rules::Reading::hole))]
-pub(crate) fn hole(symbols: &[Symbol]) -> Result<(Stmt, &[Symbol]), ReadError>
-    ensures { Gives (λ x. (statement_of x.0, x.1.now)) result (spec.hole symbols.now) }
+pub(crate) fn hole(symbols: &[Symbol]) -> Parsed<'_, Stmt>
+    ensures { Parses statement_of result (spec.hole symbols.now) }
 {
     let (hole, after) = hole_number(symbols)?;
     let after = expect(Mark::Semicolon, after)?;
@@ -95,8 +95,8 @@ pub(crate) fn hole(symbols: &[Symbol]) -> Result<(Stmt, &[Symbol]), ReadError>
 
 /// `skip;`, after its word.
 #[tactic(auto, unfolding(crate::specs::rules::Reading::nothing))]
-pub(crate) fn nothing(symbols: &[Symbol]) -> Result<(Stmt, &[Symbol]), ReadError>
-    ensures { Gives (λ x. (statement_of x.0, x.1.now)) result (spec.nothing symbols.now) }
+pub(crate) fn nothing(symbols: &[Symbol]) -> Parsed<'_, Stmt>
+    ensures { Parses statement_of result (spec.nothing symbols.now) }
 {
     let after = expect(Mark::Semicolon, symbols)?;
     Ok((Stmt::Skip, after))
@@ -104,8 +104,8 @@ pub(crate) fn nothing(symbols: &[Symbol]) -> Result<(Stmt, &[Symbol]), ReadError
 
 /// Names with commas between them.
 #[tactic(auto, unfolding(crate::specs::rules::Reading::names))]
-pub(crate) fn names(alloc: Global, symbols: &[Symbol]) -> Result<(Vec<Name>, &[Symbol]), ReadError>
-    ensures { Gives (λ x. (numbers_of x.0.items, x.1.now)) result (spec.names symbols.now) }
+pub(crate) fn names(alloc: Global, symbols: &[Symbol]) -> Parsed<'_, Vec<Name>>
+    ensures { Parses (λ x. numbers_of x.items) result (spec.names symbols.now) }
 {
     let (one, after) = name(symbols)?;
     let mut list = Vec::new(alloc);
@@ -114,13 +114,8 @@ pub(crate) fn names(alloc: Global, symbols: &[Symbol]) -> Result<(Vec<Name>, &[S
 }
 
 /// The names after those that were read.
-pub(crate) fn more_names(
-    mut list: Vec<Name>,
-    symbols: &[Symbol],
-) -> Result<(Vec<Name>, &[Symbol]), ReadError>
-    ensures { Gives
-        (λ x. (numbers_of x.0.items, x.1.now))
-        result
+pub(crate) fn more_names(mut list: Vec<Name>, symbols: &[Symbol]) -> Parsed<'_, Vec<Name>>
+    ensures { Parses (λ x. numbers_of x.items) result
         (spec.more_names (numbers_of list.items) symbols.now) }
 {
     let mut after = symbols;
@@ -134,11 +129,8 @@ pub(crate) fn more_names(
 
 /// Names up to the semicolon after them.
 #[tactic(auto, unfolding(crate::specs::rules::Reading::names_to_end))]
-pub(crate) fn names_to_end(
-    alloc: Global,
-    symbols: &[Symbol],
-) -> Result<(Vec<Name>, &[Symbol]), ReadError>
-    ensures { Gives (λ x. (numbers_of x.0.items, x.1.now)) result (spec.names_to_end symbols.now) }
+pub(crate) fn names_to_end(alloc: Global, symbols: &[Symbol]) -> Parsed<'_, Vec<Name>>
+    ensures { Parses (λ x. numbers_of x.items) result (spec.names_to_end symbols.now) }
 {
     let (list, after) = names(alloc, symbols)?;
     let after = expect(Mark::Semicolon, after)?;
@@ -147,27 +139,16 @@ pub(crate) fn names_to_end(
 
 /// The names of a declaration, after its word.
 #[tactic(auto, unfolding(crate::specs::rules::Reading::declared))]
-pub(crate) fn declared_names(
-    alloc: Global,
-    sort: Sort,
-    symbols: &[Symbol],
-) -> Result<(Declared, &[Symbol]), ReadError>
-    ensures { Gives (λ x. (declaration_of x.0, x.1.now)) result (spec.declared sort symbols.now) }
+pub(crate) fn declared_names(alloc: Global, sort: Sort, symbols: &[Symbol]) -> Parsed<'_, Declared>
+    ensures { Parses declaration_of result (spec.declared sort symbols.now) }
 {
     let (names, after) = names_to_end(alloc, symbols)?;
     Ok((Declared { sort, names }, after))
 }
 
 /// A declaration that begins with a mark.
-pub(crate) fn declaration_at(
-    alloc: Global,
-    mark: Mark,
-    symbols: &[Symbol],
-) -> Result<(Declared, &[Symbol]), ReadError>
-    ensures { Gives
-        (λ x. (declaration_of x.0, x.1.now))
-        result
-        (spec.declaration_at mark symbols.now) }
+pub(crate) fn declaration_at(alloc: Global, mark: Mark, symbols: &[Symbol]) -> Parsed<'_, Declared>
+    ensures { Parses declaration_of result (spec.declaration_at mark symbols.now) }
 {
     if mark == Mark::Var {
         declared_names(alloc, Sort::Num, rest(symbols))
@@ -180,11 +161,8 @@ pub(crate) fn declaration_at(
 
 /// A declaration.
 #[tactic(auto, unfolding(crate::specs::rules::Reading::declaration))]
-pub(crate) fn declaration(
-    alloc: Global,
-    symbols: &[Symbol],
-) -> Result<(Declared, &[Symbol]), ReadError>
-    ensures { Gives (λ x. (declaration_of x.0, x.1.now)) result (spec.declaration symbols.now) }
+pub(crate) fn declaration(alloc: Global, symbols: &[Symbol]) -> Parsed<'_, Declared>
+    ensures { Parses declaration_of result (spec.declaration symbols.now) }
 {
     match first(symbols) {
         Some(Symbol::Mark(mark)) => declaration_at(alloc, mark, symbols),
@@ -217,11 +195,8 @@ pub(crate) fn begins_declaration(symbol: Option<Symbol>) -> bool
 
 /// All declarations.
 #[tactic(auto, unfolding(crate::specs::rules::Reading::declarations))]
-pub(crate) fn declarations(
-    alloc: Global,
-    symbols: &[Symbol],
-) -> Result<(Decls, &[Symbol]), ReadError>
-    ensures { Gives (λ x. (declared_of x.0, x.1.now)) result (spec.declarations symbols.now) }
+pub(crate) fn declarations(alloc: Global, symbols: &[Symbol]) -> Parsed<'_, Decls>
+    ensures { Parses declared_of result (spec.declarations symbols.now) }
 {
     let mut list = Vec::new(alloc);
     let mut after = symbols;
@@ -235,8 +210,8 @@ pub(crate) fn declarations(
 
 /// The outputs.
 #[tactic(auto, unfolding(crate::specs::rules::Reading::outputs))]
-pub(crate) fn outputs(alloc: Global, symbols: &[Symbol]) -> Result<(Outputs, &[Symbol]), ReadError>
-    ensures { Gives (λ x. (outputs_of x.0, x.1.now)) result (spec.outputs symbols.now) }
+pub(crate) fn outputs(alloc: Global, symbols: &[Symbol]) -> Parsed<'_, Outputs>
+    ensures { Parses outputs_of result (spec.outputs symbols.now) }
 {
     let after = expect(Mark::Output, symbols)?;
     let (list, after) = names_to_end(alloc, after)?;

@@ -27,6 +27,9 @@ pub(crate) enum ReadError {
     Memory,
 }
 
+/// What a rule reads of the front of the symbols, and the symbols after it.
+pub(crate) type Parsed<'s, T> = Result<(T, &'s [Symbol]), ReadError>;
+
 impl From<AllocError> for ReadError {
     ghost use Rattle.std.specs.Prelude.{◌≡◌};
     ghost use Rattle.sm_text.specs.declared.rules.reading.ReadError.TheVariants.{Memory};

@@ -1,7 +1,7 @@
 // Statements and blocks. A rule takes the number of groups that may still be opened.
 ghost use Rattle.std.specs.Prelude.{◌≡◌, ◌≤◌};
 ghost use Rattle.sm_syntax.specs.trees.Views.{statement_of, code_of};
-ghost use Rattle.sm_text.specs.rules.Answers.{Gives};
+ghost use Rattle.sm_text.specs.rules.Answers.{Parses};
 ghost use Rattle.sm_syntax.specs.declared.symbol.Mark.TheVariants.{CloseCurly};
 ghost use Rattle.sm_text.specs.rules.Parsers.{inside_group};
 ghost use Rattle.sm_text.specs.rules.Reading as spec;
@@ -10,22 +10,14 @@ ghost use Rattle.sm_text.specs.rules.Written.{statements_before};
 use crate::rules::conditions::guard;
 use crate::rules::expressions::{expression, index};
 use crate::rules::names::{begins_statement, hole, nothing, stands};
-use crate::rules::reading::{FaultKind, ReadError, expect, first, refusal, rest};
+use crate::rules::reading::{FaultKind, Parsed, expect, first, refusal, rest};
 use sm_syntax::{Block, Mark, Name, Stmt, Symbol};
 use std::alloc::Global;
 
 /// An assignment to a name that was read.
 #[tactic(auto, unfolding(crate::specs::rules::Reading::assignment))]
-fn assignment(
-    alloc: Global,
-    groups: u64,
-    name: Name,
-    symbols: &[Symbol],
-) -> Result<(Stmt, &[Symbol]), ReadError>
-    ensures { Gives
-        (λ x. (statement_of x.0, x.1.now))
-        result
-        (spec.assignment groups name symbols.now) }
+fn assignment(alloc: Global, groups: u64, name: Name, symbols: &[Symbol]) -> Parsed<'_, Stmt>
+    ensures { Parses statement_of result (spec.assignment groups name symbols.now) }
 {
     let after = expect(Mark::Becomes, symbols)?;
     let (value, after) = expression(alloc, groups, after)?;
@@ -35,13 +27,8 @@ fn assignment(
 
 /// A write to an element of the array whose name was read.
 #[tactic(auto, unfolding(crate::specs::rules::Reading::write))]
-fn write_element(
-    alloc: Global,
-    groups: u64,
-    name: Name,
-    symbols: &[Symbol],
-) -> Result<(Stmt, &[Symbol]), ReadError>
-    ensures { Gives (λ x. (statement_of x.0, x.1.now)) result (spec.write groups name symbols.now) }
+fn write_element(alloc: Global, groups: u64, name: Name, symbols: &[Symbol]) -> Parsed<'_, Stmt>
+    ensures { Parses statement_of result (spec.write groups name symbols.now) }
 {
     let (place, after) = index(alloc, groups, symbols)?;
     let after = expect(Mark::Becomes, after)?;
@@ -52,16 +39,8 @@ fn write_element(
 
 /// A statement after the name that it begins with.
 #[tactic(auto, unfolding(crate::specs::rules::Reading::changed))]
-fn changed(
-    alloc: Global,
-    groups: u64,
-    name: Name,
-    symbols: &[Symbol],
-) -> Result<(Stmt, &[Symbol]), ReadError>
-    ensures { Gives
-        (λ x. (statement_of x.0, x.1.now))
-        result
-        (spec.changed groups name symbols.now) }
+fn changed(alloc: Global, groups: u64, name: Name, symbols: &[Symbol]) -> Parsed<'_, Stmt>
+    ensures { Parses statement_of result (spec.changed groups name symbols.now) }
 {
     if stands(Mark::OpenSquare, first(symbols)) {
         write_element(alloc, groups, name, symbols)
@@ -73,12 +52,9 @@ fn changed(
 /// A branch, after its word.
 #[cycle(statements)]
 #[tactic(auto, unfolding(crate::specs::rules::Reading::branch))]
-fn branch(alloc: Global, groups: u64, symbols: &[Symbol]) -> Result<(Stmt, &[Symbol]), ReadError>
+fn branch(alloc: Global, groups: u64, symbols: &[Symbol]) -> Parsed<'_, Stmt>
     requires { groups ≤ 64 }
-    ensures { Gives
-        (λ x. (statement_of x.0, x.1.now))
-        result
-        (spec.branch groups (spec.block groups) symbols.now) }
+    ensures { Parses statement_of result (spec.branch groups (spec.block groups) symbols.now) }
 {
     let (test, after) = guard(alloc, groups, symbols)?;
     let (yes, after) = block(alloc, groups, after)?;
@@ -90,12 +66,9 @@ fn branch(alloc: Global, groups: u64, symbols: &[Symbol]) -> Result<(Stmt, &[Sym
 /// A loop, after its word.
 #[cycle(statements)]
 #[tactic(auto, unfolding(crate::specs::rules::Reading::repeated))]
-fn repeated(alloc: Global, groups: u64, symbols: &[Symbol]) -> Result<(Stmt, &[Symbol]), ReadError>
+fn repeated(alloc: Global, groups: u64, symbols: &[Symbol]) -> Parsed<'_, Stmt>
     requires { groups ≤ 64 }
-    ensures { Gives
-        (λ x. (statement_of x.0, x.1.now))
-        result
-        (spec.repeated groups (spec.block groups) symbols.now) }
+    ensures { Parses statement_of result (spec.repeated groups (spec.block groups) symbols.now) }
 {
     let (test, after) = guard(alloc, groups, symbols)?;
     let (body, after) = block(alloc, groups, after)?;
@@ -104,16 +77,9 @@ fn repeated(alloc: Global, groups: u64, symbols: &[Symbol]) -> Result<(Stmt, &[S
 
 /// A statement that begins with a mark.
 #[cycle(statements)]
-fn statement_at(
-    alloc: Global,
-    groups: u64,
-    mark: Mark,
-    symbols: &[Symbol],
-) -> Result<(Stmt, &[Symbol]), ReadError>
+fn statement_at(alloc: Global, groups: u64, mark: Mark, symbols: &[Symbol]) -> Parsed<'_, Stmt>
     requires { groups ≤ 64 }
-    ensures { Gives
-        (λ x. (statement_of x.0, x.1.now))
-        result
+    ensures { Parses statement_of result
         (spec.statement_at groups (spec.block groups) mark symbols.now) }
 {
     if mark == Mark::Skip {
@@ -132,12 +98,9 @@ fn statement_at(
 /// A statement.
 #[cycle(statements)]
 #[tactic(auto, unfolding(crate::specs::rules::Reading::statement))]
-fn statement(alloc: Global, groups: u64, symbols: &[Symbol]) -> Result<(Stmt, &[Symbol]), ReadError>
+fn statement(alloc: Global, groups: u64, symbols: &[Symbol]) -> Parsed<'_, Stmt>
     requires { groups ≤ 64 }
-    ensures { Gives
-        (λ x. (statement_of x.0, x.1.now))
-        result
-        (spec.statement groups (spec.block groups) symbols.now) }
+    ensures { Parses statement_of result (spec.statement groups (spec.block groups) symbols.now) }
 {
     match first(symbols) {
         Some(Symbol::Name(name)) => changed(alloc, groups, name, rest(symbols)),
@@ -148,15 +111,9 @@ fn statement(alloc: Global, groups: u64, symbols: &[Symbol]) -> Result<(Stmt, &[
 
 /// All statements up to the end of a block.
 #[cycle(statements)]
-fn statements(
-    alloc: Global,
-    groups: u64,
-    symbols: &[Symbol],
-) -> Result<(Vec<Stmt>, &[Symbol]), ReadError>
+fn statements(alloc: Global, groups: u64, symbols: &[Symbol]) -> Parsed<'_, Vec<Stmt>>
     requires { groups ≤ 64 }
-    ensures { Gives
-        (λ x. (statements_before x.0.items, x.1.now))
-        result
+    ensures { Parses (λ x. statements_before x.items) result
         (spec.more_statements groups (spec.block groups) (λ k. k) symbols.now) }
 {
     let mut list = Vec::new(alloc);
@@ -172,12 +129,9 @@ fn statements(
 /// The inside of a block, as a block.
 #[cycle(statements)]
 #[tactic(auto, unfolding(crate::specs::rules::Reading::statements))]
-fn code(alloc: Global, groups: u64, symbols: &[Symbol]) -> Result<(Block, &[Symbol]), ReadError>
+fn code(alloc: Global, groups: u64, symbols: &[Symbol]) -> Parsed<'_, Block>
     requires { groups ≤ 64 }
-    ensures { Gives
-        (λ x. (code_of x.0, x.1.now))
-        result
-        (spec.statements groups (spec.block groups) symbols.now) }
+    ensures { Parses code_of result (spec.statements groups (spec.block groups) symbols.now) }
 {
     let (list, after) = statements(alloc, groups, symbols)?;
     Ok((Block { list }, after))
@@ -185,11 +139,9 @@ fn code(alloc: Global, groups: u64, symbols: &[Symbol]) -> Result<(Block, &[Symb
 
 /// The inside of a block, whose first sign stands here, and the sign that closes it.
 #[cycle(statements)]
-fn group(alloc: Global, groups: u64, symbols: &[Symbol]) -> Result<(Block, &[Symbol]), ReadError>
+fn group(alloc: Global, groups: u64, symbols: &[Symbol]) -> Parsed<'_, Block>
     requires { groups ≤ 64 }
-    ensures { Gives
-        (λ x. (code_of x.0, x.1.now))
-        result
+    ensures { Parses code_of result
         (inside_group (spec.inner_block groups) CloseCurly symbols.now) }
 {
     if groups == 0 {
@@ -203,13 +155,9 @@ fn group(alloc: Global, groups: u64, symbols: &[Symbol]) -> Result<(Block, &[Sym
 /// A block.
 #[cycle(statements)]
 #[tactic(auto, unfolding(crate::specs::rules::Reading::block, crate::specs::rules::Reading::braced, crate::specs::rules::Parsers::grouped))]
-pub(crate) fn block(
-    alloc: Global,
-    groups: u64,
-    symbols: &[Symbol],
-) -> Result<(Block, &[Symbol]), ReadError>
+pub(crate) fn block(alloc: Global, groups: u64, symbols: &[Symbol]) -> Parsed<'_, Block>
     requires { groups ≤ 64 }
-    ensures { Gives (λ x. (code_of x.0, x.1.now)) result (spec.block groups symbols.now) }
+    ensures { Parses code_of result (spec.block groups symbols.now) }
 {
     if stands(Mark::OpenCurly, first(symbols)) {
         group(alloc, groups, symbols)

@@ -48,6 +48,10 @@ expression_pieces (Times d e) =
     between (operand (is_atom d) (expression_pieces d)) mark.Star
     (operand (is_atom e) (expression_pieces e))
 
+-- an expression as an operand
+abbrev pub operand_pieces : Expression → List Piece
+operand_pieces e = operand (is_atom e) (expression_pieces e)
+
 -- whether a part of a condition stands without brackets: a constant or a comparison
 abbrev pub is_test : Condition → Bool
 is_test Yes = true
@@ -75,3 +79,7 @@ condition_pieces (And b c) =
 condition_pieces (Or b c) =
     between (part (is_test b) (condition_pieces b)) mark.Either
     (part (is_test c) (condition_pieces c))
+
+-- a condition as a part of another
+abbrev pub part_pieces : Condition → List Piece
+part_pieces b = part (is_test b) (condition_pieces b)

@@ -7,10 +7,12 @@ use Rattle.sm_syntax.specs.declared.tree.Cmp.{Cmp}
 use Rattle.sm_syntax.specs.declared.tree.Cmp.TheVariants.{Eq, Ne, Lt, Le, Gt, Ge}
 use Rattle.sm_syntax.specs.claim.Syntax as plain
 use Rattle.sm_syntax.specs.claim.Syntax.{Expression, Condition}
+use Rattle.sm_text.specs.declared.rules.conditions.CondChain.{CondChain}
+use Rattle.sm_text.specs.declared.rules.conditions.CondChain.TheVariants.{Conjunction, Disjunction}
 use Rattle.sm_text.specs.declared.rules.reading.FaultKind.TheVariants.{Expected}
 use Rattle.sm_text.specs.rules.Parsers.{first, Parser, ◌>>=◌, ◌>>◌, pure, skip, refuse, stands}
-use Rattle.sm_text.specs.rules.Parsers.{Operators, chain_in, inside_group}
-use Rattle.sm_text.specs.rules.Reading.Expressions.{chain_limit, expression}
+use Rattle.sm_text.specs.rules.Parsers.{Operators, chain, inside_group}
+use Rattle.sm_text.specs.rules.Reading.Expressions.{expression}
 
 -- the comparison that stands there
 abbrev pub comparison_of : Option Symbol → Option Cmp
@@ -69,23 +71,30 @@ conjunction_operators o = if stands mark.Both o then Some plain.And else None
 abbrev pub disjunction_operators : Operators Condition
 disjunction_operators o = if stands mark.Either o then Some plain.Or else None
 
--- the literals after those that were read, of which n more may follow
-unfoldable pub literals : Option (Parser Condition) → Parser Expression → ℕ → Condition →
-    Parser Condition
-literals deeper value n left = chain_in conjunction_operators (literal deeper value) n left
-
 -- a conjunction
 unfoldable pub conjunction : Option (Parser Condition) → Parser Expression → Parser Condition
-conjunction deeper value = literal deeper value >>= λ b. literals deeper value chain_limit b
-
--- the conjunctions after those that were read, of which n more may follow
-unfoldable pub conjunctions : Option (Parser Condition) → Parser Expression → ℕ → Condition →
-    Parser Condition
-conjunctions deeper value n left = chain_in disjunction_operators (conjunction deeper value) n left
+conjunction deeper value = chain conjunction_operators (literal deeper value)
 
 -- a disjunction: any condition
 unfoldable pub disjunction : Option (Parser Condition) → Parser Expression → Parser Condition
-disjunction deeper value = conjunction deeper value >>= λ b. conjunctions deeper value chain_limit b
+disjunction deeper value = chain disjunction_operators (conjunction deeper value)
+
+-- the operators of either chain
+abbrev pub condition_operators : CondChain → Operators Condition
+condition_operators Conjunction = conjunction_operators
+condition_operators Disjunction = disjunction_operators
+
+-- what stands between the operators of either chain
+abbrev pub condition_operand : Option (Parser Condition) → Parser Expression → CondChain →
+    Parser Condition
+condition_operand deeper value Conjunction = literal deeper value
+condition_operand deeper value Disjunction = conjunction deeper value
+
+-- either chain
+abbrev pub condition_chain : Option (Parser Condition) → Parser Expression → CondChain →
+    Parser Condition
+condition_chain deeper value Conjunction = conjunction deeper value
+condition_chain deeper value Disjunction = disjunction deeper value
 
 -- the rule inside a group, where g groups may be opened
 unfoldable pub inner_condition : ℕ → Option (Parser Condition)

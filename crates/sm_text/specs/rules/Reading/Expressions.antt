@@ -9,14 +9,12 @@ use Rattle.sm_syntax.specs.declared.symbol.Symbol.TheVariants as s
 use Rattle.sm_syntax.specs.declared.tree.Name.{Name}
 use Rattle.sm_syntax.specs.claim.Syntax as plain
 use Rattle.sm_syntax.specs.claim.Syntax.{Expression}
+use Rattle.sm_text.specs.declared.rules.expressions.ExprChain.{ExprChain}
+use Rattle.sm_text.specs.declared.rules.expressions.ExprChain.TheVariants.{Product, Sum}
 use Rattle.sm_text.specs.declared.rules.reading.FaultKind.TheVariants.{Expected}
 use Rattle.sm_text.specs.rules.Parsers.{first, Parser, ◌>>=◌, ◌>>◌, pure, peek}
 use Rattle.sm_text.specs.rules.Parsers.{skip, refuse, stands}
-use Rattle.sm_text.specs.rules.Parsers.{Operators, chain_in, inside_group}
-
--- how many operators a chain may have
-unfoldable pub chain_limit : ℕ
-chain_limit = 63
+use Rattle.sm_text.specs.rules.Parsers.{Operators, chain, inside_group}
 
 -- the index of an element, after the name of its array
 unfoldable pub index : Option (Parser Expression) → Parser Expression
@@ -63,21 +61,28 @@ sum_operators o =
     if stands mark.Plus o then Some plain.Plus else
     (if stands mark.Minus o then Some plain.Minus else None)
 
--- the factors after those that were read, of which n more may follow
-unfoldable pub factors : Option (Parser Expression) → ℕ → Expression → Parser Expression
-factors deeper n left = chain_in product_operators (unary deeper) n left
-
 -- a product
 unfoldable pub product : Option (Parser Expression) → Parser Expression
-product deeper = unary deeper >>= λ e. factors deeper chain_limit e
-
--- the terms after those that were read, of which n more may follow
-unfoldable pub terms : Option (Parser Expression) → ℕ → Expression → Parser Expression
-terms deeper n left = chain_in sum_operators (product deeper) n left
+product deeper = chain product_operators (unary deeper)
 
 -- a sum: any expression
 unfoldable pub sum : Option (Parser Expression) → Parser Expression
-sum deeper = product deeper >>= λ e. terms deeper chain_limit e
+sum deeper = chain sum_operators (product deeper)
+
+-- the operators of either chain
+abbrev pub expression_operators : ExprChain → Operators Expression
+expression_operators Product = product_operators
+expression_operators Sum = sum_operators
+
+-- what stands between the operators of either chain
+abbrev pub expression_operand : Option (Parser Expression) → ExprChain → Parser Expression
+expression_operand deeper Product = unary deeper
+expression_operand deeper Sum = product deeper
+
+-- either chain
+abbrev pub expression_chain : Option (Parser Expression) → ExprChain → Parser Expression
+expression_chain deeper Product = product deeper
+expression_chain deeper Sum = sum deeper
 
 -- the rule inside a group, where g groups may be opened
 unfoldable pub inner_sum : ℕ → Option (Parser Expression)

@@ -15,5 +15,6 @@ returns-then-value-unit c =
 
 pub loop-digit-preserved : goal.loop-digit-preserved
 loop-digit-preserved c =
-    let next = digits_value-next c.args.digits.now c.loop-digit.digit-index c.loop-digit.value c.from-unit.result c.requires c.loop-digit-test.true c.loop-digit.invariant.0 c.from-unit.ensures in
+    let next = digits_value-next c.args.digits.now c.loop-digit.digit-index c.loop-digit.value c.from-unit.result c.requires
+    c.loop-digit-test.true c.loop-digit.invariant.0 c.from-unit.ensures in
     (next, omega (arith, c.if-value-unit.false))

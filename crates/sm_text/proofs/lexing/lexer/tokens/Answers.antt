@@ -17,7 +17,8 @@ pub returns : goal.returns
 returns c = IsCut-end c.args.bytes.now c.cut.list.items c.cut.rest.now c.cut.invariant c.in_default.len_below
 
 pub returns-in-Fault : goal.returns-in-Fault
-returns-in-Fault c = IsCut-fault c.args.bytes.now c.cut.list.items c.cut.rest.now _ c.in-Fault.kind c.cut.invariant c.in-len1-up.len_at_least refl (sym c.in-Fault.ensures)
+returns-in-Fault c = IsCut-fault c.args.bytes.now c.cut.list.items c.cut.rest.now _ c.in-Fault.kind c.cut.invariant
+    c.in-len1-up.len_at_least refl (sym c.in-Fault.ensures)
 
 pub cut-preserved : goal.cut-preserved
 cut-preserved c =
@@ -25,10 +26,12 @@ cut-preserved c =
     let rest = c.cut.rest.now in
     elim c.match-front_of.branch [
       | in-Gap w ↦
-          let next = IsCut-gap bytes c.cut.list.items rest _ w.in-Gap.size c.cut.invariant c.in-len1-up.len_at_least refl (sym w.in-Gap.ensures) in
+          let next = IsCut-gap bytes c.cut.list.items rest _ w.in-Gap.size c.cut.invariant c.in-len1-up.len_at_least refl
+          (sym w.in-Gap.ensures) in
           rw (w.list-is, c.after-rest.ensures, w.size-is) next.0
       | in-Piece+in_ok-push-in-Piece w ↦
-          let next = IsCut-piece bytes c.cut.list.items rest _ w.in-Piece.kind w.in-Piece.size c.cut.invariant c.in-len1-up.len_at_least refl (sym w.in-Piece.ensures) in
+          let next = IsCut-piece bytes c.cut.list.items rest _ w.in-Piece.kind w.in-Piece.size c.cut.invariant c.in-len1-up.len_at_least
+          refl (sym w.in-Piece.ensures) in
           rw (w.list-is, c.after-rest.ensures, w.size-is, w.in_ok-push-in-Piece.ensures.items) next.0
     ]
 
@@ -39,10 +42,12 @@ cut-smaller c =
     let left = ap length c.after-rest.ensures ∙ length-drop c.match-front_of.size rest in
     elim c.match-front_of.branch [
       | in-Gap w ↦
-          let next = IsCut-gap bytes c.cut.list.items rest _ w.in-Gap.size c.cut.invariant c.in-len1-up.len_at_least refl (sym w.in-Gap.ensures) in
+          let next = IsCut-gap bytes c.cut.list.items rest _ w.in-Gap.size c.cut.invariant c.in-len1-up.len_at_least refl
+          (sym w.in-Gap.ensures) in
           shorter _ _ _ left (rw w.size-is next.1) c.in-len1-up.len_at_least
       | in-Piece+in_ok-push-in-Piece w ↦
-          let next = IsCut-piece bytes c.cut.list.items rest _ w.in-Piece.kind w.in-Piece.size c.cut.invariant c.in-len1-up.len_at_least refl (sym w.in-Piece.ensures) in
+          let next = IsCut-piece bytes c.cut.list.items rest _ w.in-Piece.kind w.in-Piece.size c.cut.invariant c.in-len1-up.len_at_least
+          refl (sym w.in-Piece.ensures) in
           shorter _ _ _ left (rw w.size-is next.1) c.in-len1-up.len_at_least
     ]
 
@@ -52,9 +57,11 @@ after-rest-requires c =
     let rest = c.cut.rest.now in
     elim c.match-front_of.branch [
       | in-Gap w ↦
-          let next = IsCut-gap bytes c.cut.list.items rest _ w.in-Gap.size c.cut.invariant c.in-len1-up.len_at_least refl (sym w.in-Gap.ensures) in
+          let next = IsCut-gap bytes c.cut.list.items rest _ w.in-Gap.size c.cut.invariant c.in-len1-up.len_at_least refl
+          (sym w.in-Gap.ensures) in
           rw w.size-is next.2
       | in-Piece+in_ok-push-in-Piece w ↦
-          let next = IsCut-piece bytes c.cut.list.items rest _ w.in-Piece.kind w.in-Piece.size c.cut.invariant c.in-len1-up.len_at_least refl (sym w.in-Piece.ensures) in
+          let next = IsCut-piece bytes c.cut.list.items rest _ w.in-Piece.kind w.in-Piece.size c.cut.invariant c.in-len1-up.len_at_least
+          refl (sym w.in-Piece.ensures) in
           rw w.size-is next.2
     ]

@@ -31,7 +31,8 @@ overflow_sub-result c =
     let all : c.deref.result.now ≡ (lexed bytes).0 = c.deref.ensures.value ∙ ap (λ (l : Lexed). l.0) c.requires.cut in
     let part = take (length c.deref.result.now - c.args.at) (drop c.args.at c.deref.result.now) in
     let cut : part ≡ drop c.args.at (lexed bytes).0 = rest_of c.args.at c.deref.result.now ∙ ap (drop c.args.at) all in
-    let few = first_within bytes c.args.names.now c.args.groups part c.first_block.new.names (code_of c.in-Ok.block) c.in-Ok.left c.in-Ok.ensures.ok in
+    let few = first_within bytes c.args.names.now c.args.groups part c.first_block.new.names (code_of c.in-Ok.block) c.in-Ok.left
+    c.in-Ok.ensures.ok in
     let size = ap (λ (l : List Token). length l) cut ∙ length-drop c.args.at (lexed bytes).0 in
     let total = c.len.ensures ∙ sym c.deref.ensures.len ∙ ap (λ (l : List Token). length l) all in
     omega (arith, few, size, total)
@@ -42,14 +43,18 @@ returns-in-Ok-clause-ok c =
     let all : c.deref.result.now ≡ (lexed bytes).0 = c.deref.ensures.value ∙ ap (λ (l : Lexed). l.0) c.requires.cut in
     let part = take (length c.deref.result.now - c.args.at) (drop c.args.at c.deref.result.now) in
     let cut : part ≡ drop c.args.at (lexed bytes).0 = rest_of c.args.at c.deref.result.now ∙ ap (drop c.args.at) all in
-    let First : List Token → Type 0 = λ ts. IsFirstBlock bytes c.args.names.now c.args.groups ts c.first_block.new.names (code_of c.in-Ok.block) c.in-Ok.left in
-    let within : c.args.at ≤ length (lexed bytes).0 = let tokens = ap (λ (l : Lexed). length l.0) c.requires.cut in let h = c.requires.within in omega (arith, h, tokens) in
-    first_spelled bytes c.args.names.now c.args.groups c.args.at c.in-Ok.left (c.len.result - c.in-Ok.left) c.first_block.new.names (code_of c.in-Ok.block) within (subst First cut c.in-Ok.ensures.ok)
+    let First : List Token → Type 0 =
+    λ ts. IsFirstBlock bytes c.args.names.now c.args.groups ts c.first_block.new.names (code_of c.in-Ok.block) c.in-Ok.left in
+    let within : c.args.at ≤ length (lexed bytes).0 = let tokens = ap (λ (l : Lexed). length l.0) c.requires.cut in let h =
+    c.requires.within in omega (arith, h, tokens) in
+    first_spelled bytes c.args.names.now c.args.groups c.args.at c.in-Ok.left (c.len.result - c.in-Ok.left) c.first_block.new.names
+    (code_of c.in-Ok.block) within (subst First cut c.in-Ok.ensures.ok)
     (ap (λ (k : ℕ). k - c.in-Ok.left) (c.len.ensures ∙ sym c.deref.ensures.len ∙ ap (λ (l : List Token). length l) all))
 
 pub returns-in-Ok-clause-printable : goal.returns-in-Ok-clause-printable
 returns-in-Ok-clause-printable c =
-    block_has_text c.args.bytes.now c.args.at c.args.groups _ c.args.names.now c.first_block.new.names (code_of c.in-Ok.block) (returns-in-Ok-clause-ok c)
+    block_has_text c.args.bytes.now c.args.at c.args.groups _ c.args.names.now c.first_block.new.names (code_of c.in-Ok.block)
+    (returns-in-Ok-clause-ok c)
 
 pub returns-in-Ok-clause-named : goal.returns-in-Ok-clause-named
 returns-in-Ok-clause-named c = block_has_names c.first_block.new.names (code_of c.in-Ok.block) (returns-in-Ok-clause-printable c)
@@ -60,8 +65,10 @@ returns-in-Ok-clause-only c n after code spells =
     let all : c.deref.result.now ≡ (lexed bytes).0 = c.deref.ensures.value ∙ ap (λ (l : Lexed). l.0) c.requires.cut in
     let part = take (length c.deref.result.now - c.args.at) (drop c.args.at c.deref.result.now) in
     let cut : part ≡ drop c.args.at (lexed bytes).0 = rest_of c.args.at c.deref.result.now ∙ ap (drop c.args.at) all in
-    let First : List Token → Type 0 = λ ts. IsFirstBlock bytes c.args.names.now c.args.groups ts c.first_block.new.names (code_of c.in-Ok.block) c.in-Ok.left in
-    first_same bytes c.args.names.now c.args.groups c.args.at c.in-Ok.left (c.len.result - c.in-Ok.left) n c.first_block.new.names after (code_of c.in-Ok.block) code (subst First cut c.in-Ok.ensures.ok)
+    let First : List Token → Type 0 =
+    λ ts. IsFirstBlock bytes c.args.names.now c.args.groups ts c.first_block.new.names (code_of c.in-Ok.block) c.in-Ok.left in
+    first_same bytes c.args.names.now c.args.groups c.args.at c.in-Ok.left (c.len.result - c.in-Ok.left) n c.first_block.new.names after
+    (code_of c.in-Ok.block) code (subst First cut c.in-Ok.ensures.ok)
     (ap (λ (k : ℕ). k - c.in-Ok.left) (c.len.ensures ∙ sym c.deref.ensures.len ∙ ap (λ (l : List Token). length l) all)) spells
 
 pub returns-in-Err-Fault-clause-only : goal.returns-in-Err-Fault-clause-only
@@ -71,8 +78,10 @@ returns-in-Err-Fault-clause-only c n after code spells =
     let part = take (length c.deref.result.now - c.args.at) (drop c.args.at c.deref.result.now) in
     let cut : part ≡ drop c.args.at (lexed bytes).0 = rest_of c.args.at c.deref.result.now ∙ ap (drop c.args.at) all in
     let parser = r.block (64 - c.args.groups) in
-    let read : parser (token_symbols bytes c.args.names.now part) ≡ Err c.in-Err-Fault.fault = rw c.in-Err-Fault.field-0-is at c.in-Err-Fault.ensures.fault in
-    absurd (read_not_refused parser (IsBlock c.args.groups) bytes c.args.names.now c.args.at n after code c.in-Err-Fault.fault (block_reads c.args.groups) spells (ap (λ (ts : List Token). parser (token_symbols bytes c.args.names.now ts)) (sym cut) ∙ read))
+    let read : parser (token_symbols bytes c.args.names.now part) ≡ Err c.in-Err-Fault.fault =
+    rw c.in-Err-Fault.field-0-is at c.in-Err-Fault.ensures.fault in
+    absurd (read_not_refused parser (IsBlock c.args.groups) bytes c.args.names.now c.args.at n after code c.in-Err-Fault.fault
+    (block_reads c.args.groups) spells (ap (λ (ts : List Token). parser (token_symbols bytes c.args.names.now ts)) (sym cut) ∙ read))
 
 pub returns-in-Err-Fault-clause-place : goal.returns-in-Err-Fault-clause-place
 returns-in-Err-Fault-clause-place c =
@@ -81,5 +90,8 @@ returns-in-Err-Fault-clause-place c =
     let part = take (length c.deref.result.now - c.args.at) (drop c.args.at c.deref.result.now) in
     let cut : part ≡ drop c.args.at (lexed bytes).0 = rest_of c.args.at c.deref.result.now ∙ ap (drop c.args.at) all in
     let parser = r.block (64 - c.args.groups) in
-    let read : parser (token_symbols bytes c.args.names.now part) ≡ Err c.in-Err-Fault.fault = rw c.in-Err-Fault.field-0-is at c.in-Err-Fault.ensures.fault in
-    refused_from parser (AreBlocks c.args.groups) (block_judges c.args.groups) bytes c.args.tokens.now c.requires.cut c.args.at c.args.names.now (token_symbols bytes c.args.names.now part) (ap (token_symbols bytes c.args.names.now) cut) c.in-Err-Fault.fault read c.refused.result c.refused.ensures
+    let read : parser (token_symbols bytes c.args.names.now part) ≡ Err c.in-Err-Fault.fault =
+    rw c.in-Err-Fault.field-0-is at c.in-Err-Fault.ensures.fault in
+    refused_from parser (AreBlocks c.args.groups) (block_judges c.args.groups) bytes c.args.tokens.now c.requires.cut c.args.at
+    c.args.names.now (token_symbols bytes c.args.names.now part) (ap (token_symbols bytes c.args.names.now) cut) c.in-Err-Fault.fault
+    read c.refused.result c.refused.ensures

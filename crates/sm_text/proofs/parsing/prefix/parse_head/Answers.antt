@@ -11,7 +11,7 @@ use Rattle.sm_text.specs.parsing.Prefix.{AreHeads}
 use Rattle.sm_text.specs.rules.Reading as r
 use Rattle.sm_text.specs.Tasks.{head_parts}
 use Rattle.sm_text.specs.resolving.TokenTexts.{IsTokenOf}
-use Rattle.sm_text.proofs.Sound.Rules.{IsHeadUnder, head_told}
+use Rattle.sm_text.proofs.Sound.Sections.{IsHeadUnder, head_told}
 use Rattle.sm_text.proofs.Prefix.HeadText.{head_named, head_has_text}
 use Rattle.sm_text.proofs.Cut.Lexing.{IsTokenOf-lexed}
 use Rattle.sm_text.proofs.Prefix.Judged.{head_judges}
@@ -54,7 +54,8 @@ returns-in-Ok-clause-ok c =
     let size : c.len.result ≡ length (lexed bytes).0 = c.len.ensures ∙ sym c.deref-2.ensures.len ∙ ap (λ (l : List Symbol). length l) same
     ∙ length-map (lexed bytes).0 (symbol_of bytes (names_after bytes [] (lexed bytes).0)) in
     let read = ap (r.head names) (sym same) ∙ c.in-Ok.ensures in
-    let kept : h.program.names ≡ names = (taken (r.head names) (IsHeadUnder names) bytes [] (lexed bytes).0 h after (head_told names) read).fits.1 in
+    let kept : h.program.names ≡ names =
+    (taken (r.head names) (IsHeadUnder names) bytes [] (lexed bytes).0 h after (head_told names) read).fits.1 in
     let used = c.len.result - length after in
     let count = c.count_names.ensures
     ∙ ap (λ (l : List Symbol). names_counted 0 (take used l)) (c.deref-in-Ok.ensures.value ∙ sym c.deref-2.ensures.value) in

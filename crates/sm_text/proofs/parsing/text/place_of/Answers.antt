@@ -1,5 +1,5 @@
 use Rattle.std.proofs.Common.{◌≡◌, ◌+◌, arith, length}
-use Rattle.sm_text.proofs.FirstFault.Sound.{at_index}
+use Rattle.sm_text.proofs.FirstFault.Ordered.{at_index}
 use Rattle.sm_text.proofs.parsing.text.place_of.Goals as goal
 
 pub returns-clause-some : goal.returns-clause-some

@@ -11,4 +11,5 @@ returns-in-Some-default c =
 pub returns-in-None-Some : goal.returns-in-None-Some
 returns-in-None-Some c =
     let F : List Token → Type 0 = λ ts. c.args.fault.left ≤ length ts → c.args.fault.left ≡ 0 in
-    at_fault c.in-None-Some.lexical c.in-None-Some.is-1 c.lexical_error.ensures (subst F c.deref.ensures.value (c.in-None-Some.ensures.none refl))
+    at_fault c.in-None-Some.lexical c.in-None-Some.is-1 c.lexical_error.ensures
+    (subst F c.deref.ensures.value (c.in-None-Some.ensures.none refl))

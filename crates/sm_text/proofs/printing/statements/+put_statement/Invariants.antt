@@ -12,7 +12,9 @@ use Rattle.sm_text.proofs.printing.statements.+put_statement.Given as goal
 abbrev pub invariant-put_block-loop-s : goal.invariant-put_block-loop-s
 invariant-put_block-loop-s l = record {
   named : IsUsedIn (length l.names) (sequence (map statement_of (drop l.s-index l.s-items)) End);
-  same : l.out.items ++ pieces_text l.names (canonical.code_pieces l.inner.items (sequence (map statement_of (drop l.s-index l.s-items)) End)) ≡ l.initial.out.items ++ pieces_text l.names (canonical.code_pieces l.inner.items (code_of l.b));
+  same : l.out.items ++ pieces_text l.names
+      (canonical.code_pieces l.inner.items (sequence (map statement_of (drop l.s-index l.s-items)) End)) ≡ l.initial.out.items ++
+      pieces_text l.names (canonical.code_pieces l.inner.items (code_of l.b));
 }
 
 abbrev pub decreases-put_stmt : goal.decreases-put_stmt

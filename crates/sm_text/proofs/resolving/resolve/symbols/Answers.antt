@@ -14,7 +14,11 @@ symbols_after-requires c =
 
 pub returns-clause-list : goal.returns-clause-list
 returns-clause-list c =
-    symbols_of-all c.args.bytes.now c.args.tokens.now c.symbols_after.new.names c.in_ok-list.list.items c.requires.cut (c.in_ok-list.ensures.names ∙ ap (λ l. names_after c.args.bytes.now l c.args.tokens.now) c.new-names.ensures) c.in_ok-list.ensures.list
+    symbols_of-all c.args.bytes.now c.args.tokens.now c.symbols_after.new.names c.in_ok-list.list.items c.requires.cut
+    (c.in_ok-list.ensures.names ∙ ap (λ l. names_after c.args.bytes.now l c.args.tokens.now) c.new-names.ensures)
+    c.in_ok-list.ensures.list
 
 pub returns-clause-names : goal.returns-clause-names
-returns-clause-names c = names_of-all c.args.bytes.now c.args.tokens.now c.symbols_after.new.names c.requires.cut (c.in_ok-list.ensures.names ∙ ap (λ l. names_after c.args.bytes.now l c.args.tokens.now) c.new-names.ensures)
+returns-clause-names c =
+    names_of-all c.args.bytes.now c.args.tokens.now c.symbols_after.new.names c.requires.cut (c.in_ok-list.ensures.names
+    ∙ ap (λ l. names_after c.args.bytes.now l c.args.tokens.now) c.new-names.ensures)

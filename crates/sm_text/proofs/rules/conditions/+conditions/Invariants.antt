@@ -1,19 +1,18 @@
-use Rattle.std.proofs.Common.{◌≡◌, ◌+◌, ◌*◌}
+use Rattle.std.proofs.Common.{◌≡◌, ℕ, ◌+◌, ◌*◌}
 use Rattle.sm_syntax.specs.trees.Views.{condition_of}
+use Rattle.sm_text.specs.declared.rules.conditions.CondChain.{CondChain}
+use Rattle.sm_text.specs.declared.rules.conditions.CondChain.TheVariants.{Conjunction, Disjunction}
+use Rattle.sm_text.specs.rules.Parsers.{chain_in}
 use Rattle.sm_text.specs.rules.Reading as spec
 use Rattle.sm_text.proofs.rules.conditions.+conditions.Given as goal
 
+-- a conjunction stands inside a disjunction
+abbrev pub height : CondChain → ℕ
+height Conjunction = 6
+height Disjunction = 8
+
 abbrev pub decreases-bracketed : goal.decreases-bracketed
 decreases-bracketed l = 10 * l.groups + 3
-
-abbrev pub decreases-conjunction : goal.decreases-conjunction
-decreases-conjunction l = 10 * l.groups + 7
-
-abbrev pub decreases-conjunctions : goal.decreases-conjunctions
-decreases-conjunctions l = 10 * l.groups + 8
-
-abbrev pub decreases-disjunction : goal.decreases-disjunction
-decreases-disjunction l = 10 * l.groups + 9
 
 abbrev pub decreases-group : goal.decreases-group
 decreases-group l = 10 * l.groups + 2
@@ -21,20 +20,20 @@ decreases-group l = 10 * l.groups + 2
 abbrev pub decreases-literal : goal.decreases-literal
 decreases-literal l = 10 * l.groups + 5
 
-abbrev pub decreases-literals : goal.decreases-literals
-decreases-literals l = 10 * l.groups + 6
-
 abbrev pub decreases-test : goal.decreases-test
 decreases-test l = 10 * l.groups + 4
 
-abbrev pub invariant-conjunctions-conjunctions : goal.invariant-conjunctions-conjunctions
-invariant-conjunctions-conjunctions l = spec.conjunctions (spec.inner_condition l.groups) (spec.expression l.groups) spec.chain_limit (condition_of l.fn.one) l.symbols ≡ spec.conjunctions (spec.inner_condition l.groups) (spec.expression l.groups) l.room (condition_of l.left) l.after
+abbrev pub decreases-operand : goal.decreases-operand
+decreases-operand l = 10 * l.groups + height l.chain
 
-abbrev pub decreases-conjunctions-conjunctions : goal.decreases-conjunctions-conjunctions
-decreases-conjunctions-conjunctions l = l.room
+abbrev pub decreases-chained : goal.decreases-chained
+decreases-chained l = 10 * l.groups + height l.chain + 1
 
-abbrev pub invariant-literals-literals : goal.invariant-literals-literals
-invariant-literals-literals l = spec.literals (spec.inner_condition l.groups) (spec.expression l.groups) spec.chain_limit (condition_of l.fn.one) l.symbols ≡ spec.literals (spec.inner_condition l.groups) (spec.expression l.groups) l.room (condition_of l.left) l.after
+abbrev pub invariant-chained-operators : goal.invariant-chained-operators
+invariant-chained-operators l =
+    spec.condition_chain (spec.inner_condition l.groups) (spec.expression l.groups) l.chain l.symbols ≡ chain_in
+    (spec.condition_operators l.chain) (spec.condition_operand (spec.inner_condition l.groups) (spec.expression l.groups) l.chain) l.room
+    (condition_of l.left) l.after
 
-abbrev pub decreases-literals-literals : goal.decreases-literals-literals
-decreases-literals-literals l = l.room
+abbrev pub decreases-chained-operators : goal.decreases-chained-operators
+decreases-chained-operators l = l.room

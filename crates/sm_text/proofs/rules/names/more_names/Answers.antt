@@ -5,21 +5,30 @@ use Rattle.sm_syntax.specs.declared.symbol.Mark.TheVariants.{Comma}
 use Rattle.sm_text.specs.rules.Parsers.{stands}
 use Rattle.sm_text.specs.rules.Reading as spec
 use Rattle.sm_text.specs.rules.Written.{numbers_of}
-use Rattle.sm_text.proofs.Sound.Loops.{tested, leaves, next_name-shorter, more_names-turn, more_names-end, more_names-fault}
+use Rattle.sm_text.proofs.Sound.Gathered.{gather-turn, gather-end, gather-fault}
+use Rattle.sm_text.proofs.Sound.Loops.{tested, leaves, next_name-shorter}
 use Rattle.sm_text.proofs.rules.names.more_names.Goals as goal
 
 pub returns-in_err-one : goal.returns-in_err-one
+unfolding spec.more_names
 returns-in_err-one c =
     leaves _ c.from_residual.result _ (err_from_is_err_and c.from_residual.result c.from_residual.ensures.1) _ _ c.in_err-one.ensures
-    (λ f e. c.names.invariant ∙ more_names-fault _ _ (tested (stands Comma) c.first.ensures c.stands.ensures c.names-test.true) f e)
+    (λ f e. c.names.invariant
+    ∙ gather-fault (stands Comma) spec.next_name spec.with_name _ _ f
+    (tested (stands Comma) c.first.ensures c.stands.ensures c.names-test.true) e)
 
 pub names-smaller : goal.names-smaller
 names-smaller c = next_name-shorter _ _ _ c.in_ok-one.ensures
 
 pub names-preserved : goal.names-preserved
+unfolding spec.more_names
 names-preserved c =
-    c.names.invariant ∙ more_names-turn _ _ _ _ (tested (stands Comma) c.first.ensures c.stands.ensures c.names-test.true) c.in_ok-one.ensures
+    c.names.invariant ∙ gather-turn (stands Comma) spec.next_name spec.with_name next_name-shorter _ _ _ _
+    (tested (stands Comma) c.first.ensures c.stands.ensures c.names-test.true) c.in_ok-one.ensures
     ∙ ap (λ xs. spec.more_names xs c.in_ok-one.behind.now) (sym (ap numbers_of c.in_ok-push.ensures.items ∙ map-append _ _ _))
 
 pub returns : goal.returns
-returns c = c.names.invariant ∙ more_names-end _ _ (tested (stands Comma) c.first.ensures c.stands.ensures c.names-test.false)
+unfolding spec.more_names
+returns c = c.names.invariant
+    ∙ gather-end (stands Comma) spec.next_name spec.with_name _ _
+    (tested (stands Comma) c.first.ensures c.stands.ensures c.names-test.false)

@@ -1,12 +1,16 @@
 use Rattle.std.proofs.Common.{sym, ◌∙◌}
-use Rattle.sm_text.proofs.Sound.Loops.{whole-end, whole-rest, whole-fails}
+use Rattle.sm_text.specs.rules.Reading.{whole}
+use Rattle.sm_text.proofs.Sound.Parsers.{to_end-ends, to_end-goes_on, to_end-fails}
 use Rattle.sm_text.proofs.rules.sections.whole.Goals as goal
 
 pub returns-in-None : goal.returns-in-None
-returns-in-None c = whole-end _ _ _ _ c.in-Ok.ensures (sym c.first.ensures ∙ c.in-None.is)
+unfolding whole
+returns-in-None c = to_end-ends _ _ c.in-Ok.ensures (sym c.first.ensures ∙ c.in-None.is)
 
 pub returns-in-Some : goal.returns-in-Some
-returns-in-Some c = rw c.refusal.ensures (whole-rest _ _ _ _ _ c.in-Ok.ensures (sym c.first.ensures ∙ c.in-Some.is))
+unfolding whole
+returns-in-Some c = rw c.refusal.ensures (to_end-goes_on _ _ _ c.in-Ok.ensures (sym c.first.ensures ∙ c.in-Some.is))
 
 pub returns-in-Err : goal.returns-in-Err
-returns-in-Err c = whole-fails _ _ _ c.in-Err.ensures
+unfolding whole
+returns-in-Err c = to_end-fails _ _ c.in-Err.ensures

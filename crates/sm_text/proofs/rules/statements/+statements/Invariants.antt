@@ -28,7 +28,9 @@ abbrev pub decreases-statements : goal.decreases-statements
 decreases-statements l = 10 * l.groups + 5
 
 abbrev pub invariant-statements-statements : goal.invariant-statements-statements
-invariant-statements-statements l = spec.more_statements l.groups (spec.block l.groups) (λ k. k) l.symbols ≡ spec.more_statements l.groups (spec.block l.groups) (statements_before l.list.items) l.after
+invariant-statements-statements l =
+    spec.more_statements l.groups (spec.block l.groups) (λ k. k) l.symbols ≡ spec.more_statements l.groups (spec.block l.groups)
+    (statements_before l.list.items) l.after
 
 abbrev pub decreases-statements-statements : goal.decreases-statements-statements
 decreases-statements-statements l = length l.after
