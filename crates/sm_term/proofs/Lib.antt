@@ -4,3 +4,6 @@ pub mod SlotsLemmas
 pub mod FreshLemmas
 pub mod SameTermsLemmas
 pub mod HeadsLemmas
+pub mod TermsLemmas
+pub mod TreesLemmas
+pub mod TablesLemmas

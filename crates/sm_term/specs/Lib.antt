@@ -8,3 +8,11 @@ pub mod Laws
 pub mod Sorted
 pub mod SameTerms
 pub mod Heads
+pub mod Rows
+pub mod RowLaws
+pub mod Tables
+pub mod Fitting
+pub mod TableLaws
+pub mod SameTestLaws
+pub mod SameCodeLaws
+pub mod Bodies

@@ -1,20 +1,32 @@
 //! Terms that stand for the values of programs, formulas over them, and what both mean.
 //!
-//! So far the crate has the definitions and their laws; each law is the contract of a function that
-//! does nothing.
-//!
+//! - A table has each term once, under a number: two numbers are equal exactly where their trees
+//!   are. A new term goes last, and no other number changes.
+//! - A term is put in exactly where each argument has the sort that the term needs there. So each
+//!   term of a table is well sorted, and so is each body of a summary.
+//! - After a refusal the table is as it was.
 //! - A term of an expression means the expression's value in every structure, and a formula of a
 //!   condition its truth.
 //! - Negation says the contrary, and a goal holds wherever the facts do, if the facts and its
 //!   negation are refuted.
 //!
 //! Read `specs/Terms.antt` first, then `specs/Structures.antt`, `specs/Assertions.antt` and
-//! `specs/Laws.antt`.
+//! `specs/Laws.antt`. What a table stands for is in `specs/Tables.antt`, `specs/Fitting.antt` and
+//! `specs/TableLaws.antt`.
 #![tactic(auto)]
 
+mod bodies;
+mod body;
+mod error;
+mod intern;
 mod laws;
+mod table;
+mod term;
 
+pub use error::TermError;
 pub use laws::{
     at_stores_holds, conj_holds, form_means_truth, fresh_holds, holds_is_stable,
     negate_is_contrary, refuted_is_valid, term_means_value,
 };
+pub use table::TermTable;
+pub use term::{BodyId, Term, TermId, Terms};

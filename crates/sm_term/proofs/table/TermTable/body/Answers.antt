@@ -1,0 +1,45 @@
+use Rattle.std.proofs.Common.{[], map, sym, ap, subst, ◌∙◌, Some, slice_get}
+use Rattle.sm_syntax.specs.text.Sorts.{IsWellSorted}
+use Rattle.sm_syntax.specs.text.Parts.{sort_of}
+use Rattle.sm_syntax.specs.trees.Programs.{declared_of}
+use Rattle.sm_syntax.specs.trees.Views.{code_of}
+use Rattle.sm_term.specs.Bodies.{block_of}
+use Rattle.sm_term.specs.Tables.{trees_behind, trees_in, sorts_in, codes_in}
+use Rattle.sm_term.specs.TableLaws.{IsTable, with_code}
+use Rattle.sm_term.proofs.TablesLemmas.{bodies-insert, codes-insert, body-stored, bodies-trees}
+use Rattle.sm_term.proofs.table.TermTable.body.Goals as goal
+
+pub invariant_of-self-2 : goal.invariant_of-self-2
+invariant_of-self-2 c =
+    let sorts = sort_of (declared_of c.self.inside.decls) in
+    let bodies = c.self.inside.bodies.keys in
+    let well = subst (λ v. IsWellSorted (sorts_in v) (code_of c.args.block.now)) (sym c.self.view_is) c.requires in
+    let same = subst (IsWellSorted sorts) (sym c.in_ok-body.ensures) well in
+    (c.self.invariant.0, subst (λ bs. IsTable sorts (map code_of (map block_of bs)) c.self.inside.terms.keys) (sym c.in_ok-index.ensures.keys) (bodies-insert sorts bodies c.self.inside.terms.keys c.self.invariant.1 c.in_ok-body.body same))
+
+pub returns-clause-codes : goal.returns-clause-codes
+returns-clause-codes c =
+    let sorts = sort_of (declared_of c.self.inside.decls) in
+    let bodies = c.self.inside.bodies.keys in
+    ap (λ bs. map code_of (map block_of bs)) c.in_ok-index.ensures.keys
+    ∙ codes-insert sorts bodies c.self.inside.terms.keys c.self.invariant.1 c.in_ok-body.body
+    ∙ ap (with_code (map code_of (map block_of bodies))) c.in_ok-body.ensures
+    ∙ ap (λ v. with_code (codes_in v) (code_of c.args.block.now)) c.self.view_is
+
+pub returns-clause-stored : goal.returns-clause-stored
+returns-clause-stored c =
+    let sorts = sort_of (declared_of c.self.inside.decls) in
+    let bodies = c.self.inside.bodies.keys in
+    let found = c.in_ok-index.ensures.stored in
+    let there = ap (λ l. slice_get l c.in_ok-index.index) (sym c.in_ok-index.ensures.keys) ∙ found.1 in
+    ap (λ bs. slice_get (map code_of (map block_of bs)) c.in_ok-index.index) c.in_ok-index.ensures.keys
+    ∙ body-stored sorts bodies c.self.inside.terms.keys c.self.invariant.1 c.in_ok-body.body found.0 c.in_ok-index.index there found.2
+    ∙ ap Some c.in_ok-body.ensures
+
+pub returns-clause-trees : goal.returns-clause-trees
+returns-clause-trees c =
+    let sorts = sort_of (declared_of c.self.inside.decls) in
+    let bodies = c.self.inside.bodies.keys in
+    ap (λ bs. trees_behind (map code_of (map block_of bs)) [] c.self.inside.terms.keys) c.in_ok-index.ensures.keys
+    ∙ bodies-trees sorts bodies c.self.inside.terms.keys c.self.invariant.1 c.in_ok-body.body
+    ∙ ap trees_in c.self.view_is

@@ -1,0 +1,19 @@
+use Rattle.std.proofs.Common.{[], map, take, sym, ap, subst, ◌∙◌}
+use Rattle.sm_syntax.specs.text.Parts.{sort_of}
+use Rattle.sm_syntax.specs.trees.Programs.{declared_of}
+use Rattle.sm_syntax.specs.trees.Views.{code_of}
+use Rattle.sm_term.specs.Bodies.{block_of}
+use Rattle.sm_term.specs.Tables.{trees_behind, trees_in}
+use Rattle.sm_term.specs.TableLaws.{IsTable}
+use Rattle.sm_term.proofs.TreesLemmas.{take-trees}
+use Rattle.sm_term.proofs.TablesLemmas.{table-take}
+use Rattle.sm_term.proofs.table.TermTable.cut.Goals as goal
+
+pub invariant_of-self : goal.invariant_of-self
+invariant_of-self c =
+    (c.self.invariant.0, subst (λ ts. IsTable (sort_of (declared_of c.self.inside.decls)) (map code_of (map block_of c.self.inside.bodies.keys)) ts) (sym c.truncate.ensures.keys) (table-take _ _ _ c.self.invariant.1 c.args.len))
+
+pub returns-clause-trees : goal.returns-clause-trees
+returns-clause-trees c =
+    let codes = map code_of (map block_of c.self.inside.bodies.keys) in
+    ap (trees_behind codes []) c.truncate.ensures.keys ∙ take-trees codes [] c.self.inside.terms.keys c.args.len ∙ ap (λ v. take c.args.len (trees_in v)) c.self.view_is

@@ -1,0 +1,54 @@
+use Rattle.std.proofs.Common.{◌≡◌, ◌<◌, ℕ, IsTrue, List, [], length, map, Some, slice_get, sym, ap, subst}
+use Rattle.std.proofs.lemmas.Option.{get_or_from_slice_get}
+use Rattle.sm_syntax.specs.text.Parts.{sort_of}
+use Rattle.sm_syntax.specs.text.Sorts.{Sorts}
+use Rattle.sm_syntax.specs.trees.Programs.{declared_of}
+use Rattle.sm_syntax.specs.trees.Views.{code_of}
+use Rattle.sm_syntax.specs.claim.Syntax.{Code}
+use Rattle.sm_term.specs.declared.term.Term.{Term}
+use Rattle.sm_term.specs.declared.term.Term.TheVariants.{Cell}
+use Rattle.sm_term.specs.Bodies.{block_of}
+use Rattle.sm_term.specs.Tables.{TableValue, trees_behind, trees_in, sorts_in, codes_in, tree_in, tree_at, IsTermWithin}
+use Rattle.sm_term.specs.Fitting.{term_fits}
+use Rattle.sm_term.specs.TableLaws.{AreTermsSound}
+use Rattle.sm_term.proofs.TreesLemmas.{length-trees}
+use Rattle.sm_term.proofs.TablesLemmas.{StandsAt, row_at}
+use Rattle.sm_term.proofs.table.TermTable.get.Goals as goal
+
+-- the number is a place among the keys
+inside : (codes : List Code) (keys : List Term) (table : TableValue) (n : ℕ) → trees_behind codes [] keys ≡ trees_in table → n < length (trees_in table) → n < length keys
+inside codes keys table n same h = subst (λ m. n < m) (length-trees codes [] keys) (subst (λ l. n < length l) (sym same) h)
+
+pub index-requires : goal.index-requires
+index-requires c =
+    let codes = map code_of (map block_of c.self.inside.bodies.keys) in
+    inside codes c.self.inside.terms.keys c.args.self.now c.args.t.0 (ap trees_in c.self.view_is) c.requires
+
+-- the row that stands at a number
+pub row_got : (sorts : Sorts) (codes : List Code) (keys : List Term) (n : ℕ) (t : Term) → AreTermsSound sorts codes [] keys → n < length keys → slice_get keys n ≡ Some t → StandsAt sorts codes (trees_behind codes [] keys) n t
+row_got sorts codes keys n t sound h found =
+    subst (StandsAt sorts codes (trees_behind codes [] keys) n) (get_or_from_slice_get keys n t Cell found) (row_at sorts codes keys sound n h)
+
+pub returns-clause-tree : goal.returns-clause-tree
+returns-clause-tree c =
+    let keys = c.self.inside.terms.keys in
+    let codes = map code_of (map block_of c.self.inside.bodies.keys) in
+    let at = inside codes keys c.args.self.now c.args.t.0 (ap trees_in c.self.view_is) c.requires in
+    let place = row_got (sort_of (declared_of c.self.inside.decls)) codes keys c.args.t.0 c.index.result.now c.self.invariant.1.sound at c.index.ensures in
+    subst (λ v. tree_in (codes_in v) (trees_in v) c.index.result.now ≡ tree_at (trees_in v) c.args.t.0) c.self.view_is (sym place.tree)
+
+pub returns-clause-before : goal.returns-clause-before
+returns-clause-before c =
+    let keys = c.self.inside.terms.keys in
+    let codes = map code_of (map block_of c.self.inside.bodies.keys) in
+    let at = inside codes keys c.args.self.now c.args.t.0 (ap trees_in c.self.view_is) c.requires in
+    let place = row_got (sort_of (declared_of c.self.inside.decls)) codes keys c.args.t.0 c.index.result.now c.self.invariant.1.sound at c.index.ensures in
+    subst (λ v. IsTermWithin (sorts_in v) (length (codes_in v)) c.args.t.0 c.index.result.now) c.self.view_is place.before
+
+pub returns-clause-fits : goal.returns-clause-fits
+returns-clause-fits c =
+    let keys = c.self.inside.terms.keys in
+    let codes = map code_of (map block_of c.self.inside.bodies.keys) in
+    let at = inside codes keys c.args.self.now c.args.t.0 (ap trees_in c.self.view_is) c.requires in
+    let place = row_got (sort_of (declared_of c.self.inside.decls)) codes keys c.args.t.0 c.index.result.now c.self.invariant.1.sound at c.index.ensures in
+    subst (λ v. IsTrue (term_fits (sorts_in v) (trees_in v) c.index.result.now)) c.self.view_is place.fit

@@ -1,0 +1,18 @@
+use Rattle.std.proofs.Common.{sym, ap, ◌∙◌, unwrap_or, option_copied}
+use Rattle.sm_syntax.specs.declared.tree.Sort.TheVariants.{Num}
+use Rattle.sm_term.specs.Sorted.{sort_named}
+use Rattle.sm_term.specs.Tables.{sorts_in}
+use Rattle.sm_term.proofs.table.TermTable.sort_named.Goals as goal
+
+-- what the map has is what is declared
+pub returns-in-Some : goal.returns-in-Some
+returns-in-Some c =
+    let x = c.args.name.0 in
+    ap (λ o. unwrap_or o Num) (ap option_copied (sym c.in-Some.is) ∙ c.get.ensures.value ∙ ap (λ f. f x) c.self.invariant.0)
+    ∙ ap (λ v. sort_named (sorts_in v) x) c.self.view_is
+
+pub returns-in-None : goal.returns-in-None
+returns-in-None c =
+    let x = c.args.name.0 in
+    ap (λ o. unwrap_or o Num) (ap option_copied (sym c.in-None.is) ∙ c.get.ensures.value ∙ ap (λ f. f x) c.self.invariant.0)
+    ∙ ap (λ v. sort_named (sorts_in v) x) c.self.view_is
