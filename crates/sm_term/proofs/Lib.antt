@@ -7,3 +7,5 @@ pub mod HeadsLemmas
 pub mod TermsLemmas
 pub mod TreesLemmas
 pub mod TablesLemmas
+pub mod ExpressionLemmas
+pub mod FormsLemmas

@@ -16,3 +16,5 @@ pub mod TableLaws
 pub mod SameTestLaws
 pub mod SameCodeLaws
 pub mod Bodies
+pub mod SymStores
+pub mod Formulas
