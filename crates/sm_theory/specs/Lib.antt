@@ -10,3 +10,4 @@ pub mod Moved
 pub mod Laws
 pub mod LinearLaws
 pub mod Standing
+pub mod Views

@@ -17,8 +17,12 @@
 //! Read `specs/Facts.antt` first, then `specs/Lines.antt` and `specs/Laws.antt`.
 #![tactic(auto)]
 
+mod fact;
 mod laws;
+mod line;
+mod theory;
 
+pub use fact::{Branch, Fact};
 pub use laws::{
     arithmetic_adds_anywhere, arithmetic_adds_what_holds, arithmetic_adds_what_is_below,
     arithmetic_adds_what_is_sorted, arrays_add_anywhere, arrays_add_what_holds,
@@ -28,3 +32,5 @@ pub use laws::{
     one_more_stands, same_parts_stand, some_way_holds, stands_later, tightened_stands,
     ways_are_below, ways_are_sorted, ways_move,
 };
+pub use line::{CertLine, FactNumbers};
+pub use theory::Theory;
