@@ -18,3 +18,4 @@ pub mod ArithmeticSound
 pub mod ArithmeticKept
 pub mod ArithmeticCases
 pub mod LinearLater
+pub mod SidesLemmas

@@ -11,3 +11,4 @@ pub mod Laws
 pub mod LinearLaws
 pub mod Standing
 pub mod Views
+pub mod Sides

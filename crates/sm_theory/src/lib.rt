@@ -13,6 +13,8 @@
 //! - A linear form over numbers of terms stands for a form over the terms. So does what is computed
 //!   of it for what is computed of that, and both leave the range alike.
 //! - Where the facts of a branch hold, not every way in which it goes on after a line fails.
+//! - A fact is found on a branch by its number, with the terms that it compares, and takes no more
+//!   time on a longer branch. Terms of a table are compared by their numbers.
 //!
 //! Read `specs/Facts.antt` first, then `specs/Lines.antt` and `specs/Laws.antt`.
 #![tactic(auto)]
@@ -20,6 +22,7 @@
 mod fact;
 mod laws;
 mod line;
+mod sides;
 mod theory;
 
 pub use fact::{Branch, Fact};
@@ -33,4 +36,7 @@ pub use laws::{
     ways_are_below, ways_are_sorted, ways_move,
 };
 pub use line::{CertLine, FactNumbers};
+pub use sides::{
+    contrary_at, equation_at, fact_at, form_at, formula_at, same_term, says_equal, says_unequal,
+};
 pub use theory::Theory;
