@@ -4,12 +4,11 @@ use Rattle.std.proofs.lemmas.List.{length-append}
 use Rattle.sm_syntax.specs.claim.Syntax.{Condition}
 use Rattle.sm_syntax.specs.text.Sorts.{Sorts, IsWellSortedCondition}
 use Rattle.sm_term.specs.declared.formula.Formula.{Formula}
-use Rattle.sm_term.specs.declared.formula.Formula.TheVariants as form
 use Rattle.sm_term.specs.declared.symbolic.SymStore.{SymStore}
 use Rattle.sm_term.specs.Terms.{Tree}
 use Rattle.sm_term.specs.Symbolic.{form_of}
 use Rattle.sm_term.specs.SymStores.{store_in, IsStoreWithin}
-use Rattle.sm_term.specs.Formulas.{assertion_in, IsFormulaWithin}
+use Rattle.sm_term.specs.Formulas.{NumberedFormula, Yes, No, Eq, Ne, Le, Lt, And, Or, numbered, assertion_in, assertion_of, IsFormulaWithin, HasTermsWithin}
 use Rattle.sm_term.specs.Tables.{TableValue, trees_in, sorts_in}
 use Rattle.sm_term.specs.TableLaws.{Grows}
 use Rattle.sm_term.proofs.TreesLemmas.{tree_at-more}
@@ -20,37 +19,37 @@ pub tested_more : (v w : TableValue) → Grows v w → (c : Condition) → IsWel
 tested_more v w grows c well = subst (λ f. IsWellSortedCondition f c) (sym grows.sorts) well
 
 -- what a formula stands for stays where more trees are put behind
-assertion-trees : (sorts : Sorts) (trees more : List Tree) (f : Formula) → IsFormulaWithin (length trees) f → assertion_in (trees ++ more) sorts f ≡ assertion_in trees sorts f
-assertion-trees sorts trees more form.Yes w = refl
-assertion-trees sorts trees more form.No w = refl
-assertion-trees sorts trees more (form.Eq t u) w = rw (tree_at-more trees more t.0 w.0, tree_at-more trees more u.0 w.1) refl
-assertion-trees sorts trees more (form.Ne t u) w = rw (tree_at-more trees more t.0 w.0, tree_at-more trees more u.0 w.1) refl
-assertion-trees sorts trees more (form.Le t u) w = rw (tree_at-more trees more t.0 w.0, tree_at-more trees more u.0 w.1) refl
-assertion-trees sorts trees more (form.Lt t u) w = rw (tree_at-more trees more t.0 w.0, tree_at-more trees more u.0 w.1) refl
-assertion-trees sorts trees more (form.And' a p b q) w = rw (assertion-trees sorts trees more p w.0, assertion-trees sorts trees more q w.1) refl
-assertion-trees sorts trees more (form.Or' a p b q) w = rw (assertion-trees sorts trees more p w.0, assertion-trees sorts trees more q w.1) refl
+assertion-trees : (sorts : Sorts) (trees more : List Tree) (f : NumberedFormula) → IsFormulaWithin (length trees) f → assertion_in sorts (trees ++ more) f ≡ assertion_in sorts trees f
+assertion-trees sorts trees more Yes w = refl
+assertion-trees sorts trees more No w = refl
+assertion-trees sorts trees more (Eq t u) w = rw (tree_at-more trees more t w.0, tree_at-more trees more u w.1) refl
+assertion-trees sorts trees more (Ne t u) w = rw (tree_at-more trees more t w.0, tree_at-more trees more u w.1) refl
+assertion-trees sorts trees more (Le t u) w = rw (tree_at-more trees more t w.0, tree_at-more trees more u w.1) refl
+assertion-trees sorts trees more (Lt t u) w = rw (tree_at-more trees more t w.0, tree_at-more trees more u w.1) refl
+assertion-trees sorts trees more (And p q) w = rw (assertion-trees sorts trees more p w.0, assertion-trees sorts trees more q w.1) refl
+assertion-trees sorts trees more (Or p q) w = rw (assertion-trees sorts trees more p w.0, assertion-trees sorts trees more q w.1) refl
 
-pub assertion-more : (v w : TableValue) → Grows v w → (f : Formula) → IsFormulaWithin (length (trees_in v)) f → assertion_in (trees_in w) (sorts_in w) f ≡ assertion_in (trees_in v) (sorts_in v) f
+pub assertion-more : (v w : TableValue) → Grows v w → (f : Formula) → HasTermsWithin (length (trees_in v)) f → assertion_of (trees_in w) (sorts_in w) f ≡ assertion_of (trees_in v) (sorts_in v) f
 assertion-more v w grows f within =
-    ap (λ l. assertion_in l (sorts_in w) f) grows.trees.1
-    ∙ ap (λ s. assertion_in (trees_in v ++ grows.trees.0) s f) grows.sorts
-    ∙ assertion-trees (sorts_in v) (trees_in v) grows.trees.0 f within
+    ap (λ l. assertion_of l (sorts_in w) f) grows.trees.1
+    ∙ ap (λ s. assertion_of (trees_in v ++ grows.trees.0) s f) grows.sorts
+    ∙ assertion-trees (sorts_in v) (trees_in v) grows.trees.0 (numbered f) within
 
 -- numbers below a count are below a greater one
-form-later : (m n : ℕ) → m ≤ n → (f : Formula) → IsFormulaWithin m f → IsFormulaWithin n f
-form-later m n h form.Yes w = tt
-form-later m n h form.No w = tt
-form-later m n h (form.Eq t u) w = (omega arith, omega arith)
-form-later m n h (form.Ne t u) w = (omega arith, omega arith)
-form-later m n h (form.Le t u) w = (omega arith, omega arith)
-form-later m n h (form.Lt t u) w = (omega arith, omega arith)
-form-later m n h (form.And' a p b q) w = (form-later m n h p w.0, form-later m n h q w.1)
-form-later m n h (form.Or' a p b q) w = (form-later m n h p w.0, form-later m n h q w.1)
+form-later : (m n : ℕ) → m ≤ n → (f : NumberedFormula) → IsFormulaWithin m f → IsFormulaWithin n f
+form-later m n h Yes w = tt
+form-later m n h No w = tt
+form-later m n h (Eq t u) w = (omega arith, omega arith)
+form-later m n h (Ne t u) w = (omega arith, omega arith)
+form-later m n h (Le t u) w = (omega arith, omega arith)
+form-later m n h (Lt t u) w = (omega arith, omega arith)
+form-later m n h (And p q) w = (form-later m n h p w.0, form-later m n h q w.1)
+form-later m n h (Or p q) w = (form-later m n h p w.0, form-later m n h q w.1)
 
-pub form_kept : (v w : TableValue) → Grows v w → (f : Formula) → IsFormulaWithin (length (trees_in v)) f → IsFormulaWithin (length (trees_in w)) f
+pub form_kept : (v w : TableValue) → Grows v w → (f : Formula) → HasTermsWithin (length (trees_in v)) f → HasTermsWithin (length (trees_in w)) f
 form_kept v w grows f within =
     let long = ap length grows.trees.1 ∙ length-append (trees_in v) grows.trees.0 in
-    form-later (length (trees_in v)) (length (trees_in w)) (omega arith) f within
+    form-later (length (trees_in v)) (length (trees_in w)) (omega arith) (numbered f) within
 
 -- a formula that was made over the store of a later table
 pub formed-more : (u v : TableValue) → Grows u v → (s : SymStore) → IsStoreWithin (length (trees_in u)) s → (c : Condition) → form_of c (store_in (trees_in v) s) ≡ form_of c (store_in (trees_in u) s)

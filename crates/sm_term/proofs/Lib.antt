@@ -9,3 +9,4 @@ pub mod TreesLemmas
 pub mod TablesLemmas
 pub mod ExpressionLemmas
 pub mod FormsLemmas
+pub mod FormulasLemmas

@@ -9,6 +9,9 @@ use Rattle.sm_term.specs.Assertions.{Assertion, Holds, AllHold, IsValid, IsRefut
 use Rattle.sm_term.specs.Symbolic.{SymbolicStore, store_meant, term_of, form_of}
 use Rattle.sm_term.specs.Slots.{at_stores}
 use Rattle.sm_term.specs.Fresh.{IsFormBelow}
+use Rattle.sm_syntax.specs.text.Sorts.{Sorts}
+use Rattle.sm_term.specs.Terms.{Tree}
+use Rattle.sm_term.specs.Formulas.{NumberedFormula, contrary, assertion_in}
 
 -- the term of an expression means the expression's value in the store that the symbolic store means
 abbrev pub TermMeansValue : Type 0
@@ -61,3 +64,9 @@ FreshHolds =
     (m : Structure) (k : ℕ) (new : Copy → Store) (f : Assertion) →
     IsFormBelow k f →
     Holds (with_havoc m k new) f ↔ Holds m f
+
+-- the contrary of a formula over numbers is the negation of the formula over trees
+abbrev pub ContraryIsNegated : Type 0
+ContraryIsNegated =
+    (sorts : Sorts) (trees : List Tree) (f : NumberedFormula) →
+    assertion_in sorts trees (contrary f) ≡ negate (assertion_in sorts trees f)

@@ -3,7 +3,8 @@ ghost use Rattle.std.specs.Prelude.{◌≡◌, ℕ, List, IfOk};
 ghost use Rattle.sm_syntax.specs.text.Sorts.{Sorts};
 ghost use Rattle.sm_term.specs.Terms.{Tree};
 ghost use Rattle.sm_term.specs.Assertions as plain;
-ghost use Rattle.sm_term.specs.Formulas.{assertion_in, IsFormulaWithin};
+ghost use Rattle.sm_term.specs.Formulas.{numbered, contrary, assertion_of, HasTermsWithin};
+ghost use Rattle.sm_term.specs.Laws.{ContraryIsNegated};
 
 use crate::term::TermId;
 use std::alloc::{AllocError, Global};
@@ -24,11 +25,7 @@ pub enum Formula {
 /// The same formula.
 #[cycle(copy_form)]
 pub fn copy_formula(alloc: Global, f: &Formula) -> Result<Formula, AllocError>
-    ensures same { IfOk result (λ g.
-        (trees : List Tree) (sorts : Sorts) →
-        assertion_in trees sorts g ≡ assertion_in trees sorts f.now) }
-    ensures within { IfOk result (λ g.
-        (count : ℕ) → IsFormulaWithin count f.now → IsFormulaWithin count g) }
+    ensures { IfOk result (λ c. numbered c ≡ numbered f.now) }
 {
     match f {
         Formula::Yes => Ok(Formula::Yes),
@@ -37,18 +34,20 @@ pub fn copy_formula(alloc: Global, f: &Formula) -> Result<Formula, AllocError>
         Formula::Ne(t, u) => Ok(Formula::Ne(*t, *u)),
         Formula::Le(t, u) => Ok(Formula::Le(*t, *u)),
         Formula::Lt(t, u) => Ok(Formula::Lt(*t, *u)),
-        Formula::And(p, q) => Ok(Formula::And(boxed_formula(alloc, p)?, boxed_formula(alloc, q)?)),
-        Formula::Or(p, q) => Ok(Formula::Or(boxed_formula(alloc, p)?, boxed_formula(alloc, q)?)),
+        Formula::And(p, q) => Ok(Formula::And(
+            boxed_formula(alloc, p)?,
+            boxed_formula(alloc, q)?,
+        )),
+        Formula::Or(p, q) => Ok(Formula::Or(
+            boxed_formula(alloc, p)?,
+            boxed_formula(alloc, q)?,
+        )),
     }
 }
 
 #[cycle(copy_form)]
 fn boxed_formula(alloc: Global, f: &Formula) -> Result<Box<Formula>, AllocError>
-    ensures same { IfOk result (λ g.
-        (trees : List Tree) (sorts : Sorts) →
-        assertion_in trees sorts g.value ≡ assertion_in trees sorts f.now) }
-    ensures within { IfOk result (λ g.
-        (count : ℕ) → IsFormulaWithin count f.now → IsFormulaWithin count g.value) }
+    ensures { IfOk result (λ c. numbered c.value ≡ numbered f.now) }
 {
     Ok(Box::new(alloc, copy_formula(alloc, f)?)?)
 }
@@ -56,11 +55,12 @@ fn boxed_formula(alloc: Global, f: &Formula) -> Result<Box<Formula>, AllocError>
 /// The formula that says the contrary.
 #[cycle(negate_form)]
 pub fn negate(alloc: Global, f: &Formula) -> Result<Formula, AllocError>
+    ensures contrary { IfOk result (λ g. numbered g ≡ contrary (numbered f.now)) }
     ensures negated { IfOk result (λ g.
         (trees : List Tree) (sorts : Sorts) →
-        assertion_in trees sorts g ≡ plain.negate (assertion_in trees sorts f.now)) }
+        assertion_of trees sorts g ≡ plain.negate (assertion_of trees sorts f.now)) }
     ensures within { IfOk result (λ g.
-        (count : ℕ) → IsFormulaWithin count f.now → IsFormulaWithin count g) }
+        (count : ℕ) → HasTermsWithin count f.now → HasTermsWithin count g) }
 {
     match f {
         Formula::Yes => Ok(Formula::No),
@@ -76,11 +76,18 @@ pub fn negate(alloc: Global, f: &Formula) -> Result<Formula, AllocError>
 
 #[cycle(negate_form)]
 fn boxed_contrary(alloc: Global, f: &Formula) -> Result<Box<Formula>, AllocError>
+    ensures contrary { IfOk result (λ g. numbered g.value ≡ contrary (numbered f.now)) }
     ensures negated { IfOk result (λ g.
         (trees : List Tree) (sorts : Sorts) →
-        assertion_in trees sorts g.value ≡ plain.negate (assertion_in trees sorts f.now)) }
+        assertion_of trees sorts g.value ≡ plain.negate (assertion_of trees sorts f.now)) }
     ensures within { IfOk result (λ g.
-        (count : ℕ) → IsFormulaWithin count f.now → IsFormulaWithin count g.value) }
+        (count : ℕ) → HasTermsWithin count f.now → HasTermsWithin count g.value) }
 {
     Ok(Box::new(alloc, negate(alloc, f)?)?)
 }
+
+/// The contrary of a formula over numbers is the negation of the formula over trees.
+#[tactic(auto, using(crate::proofs::FormulasLemmas::contrary_negates))]
+pub fn contrary_is_negated()
+    ensures { ContraryIsNegated }
+{}

@@ -1,7 +1,7 @@
 -- The second of two is made over the table with the first, and the first stays.
 use Rattle.std.proofs.Common.{rules, length, ap, sym, subst, ◌∙◌}
 use Rattle.sm_syntax.specs.trees.Views.{condition_of}
-use Rattle.sm_term.specs.Formulas.{assertion_in, IsFormulaWithin}
+use Rattle.sm_term.specs.Formulas.{assertion_of, HasTermsWithin}
 use Rattle.sm_term.specs.Tables.{trees_in, sorts_in}
 use Rattle.sm_term.proofs.ExpressionLemmas.{within_more, sorted_more}
 use Rattle.sm_term.proofs.FormsLemmas.{tested_more, assertion-more, form_kept, formed-more}
@@ -22,18 +22,18 @@ pub made_forms-returns-clause-first : goal.made_forms-returns-clause-first
 made_forms-returns-clause-first t c =
     let v1 = c.made_form.new.table in
     let v2 = c.made_form-2.new.table in
-    ap (assertion_in (trees_in v2) (sorts_in v2)) c.in_ok-first.ensures.ok ∙ assertion-more v1 v2 c.made_form-2.ensures.grows c.in_ok-p.p c.in_ok-p.ensures.within ∙ c.in_ok-p.ensures.made
+    ap (assertion_of (trees_in v2) (sorts_in v2)) c.in_ok-first.ensures.ok ∙ assertion-more v1 v2 c.made_form-2.ensures.grows c.in_ok-p.p c.in_ok-p.ensures.within ∙ c.in_ok-p.ensures.made
 
 pub made_forms-returns-clause-second : goal.made_forms-returns-clause-second
 made_forms-returns-clause-second t c =
     let v0 = c.args.table.now in
     let v1 = c.made_form.new.table in
     let v2 = c.made_form-2.new.table in
-    ap (assertion_in (trees_in v2) (sorts_in v2)) c.in_ok-second.ensures.ok ∙ c.in_ok-q.ensures.made ∙ formed-more v0 v1 c.made_form.ensures.grows c.args.s.now c.requires.within (condition_of c.args.c.now)
+    ap (assertion_of (trees_in v2) (sorts_in v2)) c.in_ok-second.ensures.ok ∙ c.in_ok-q.ensures.made ∙ formed-more v0 v1 c.made_form.ensures.grows c.args.s.now c.requires.within (condition_of c.args.c.now)
 
 pub made_forms-returns-clause-within : goal.made_forms-returns-clause-within
 made_forms-returns-clause-within t c =
     let v1 = c.made_form.new.table in
     let v2 = c.made_form-2.new.table in
     let first = form_kept v1 v2 c.made_form-2.ensures.grows c.in_ok-p.p c.in_ok-p.ensures.within in
-    (subst (IsFormulaWithin (length (trees_in v2))) (sym c.in_ok-first.ensures.ok) first, subst (IsFormulaWithin (length (trees_in v2))) (sym c.in_ok-second.ensures.ok) c.in_ok-q.ensures.within)
+    (subst (HasTermsWithin (length (trees_in v2))) (sym c.in_ok-first.ensures.ok) first, subst (HasTermsWithin (length (trees_in v2))) (sym c.in_ok-second.ensures.ok) c.in_ok-q.ensures.within)
