@@ -4,6 +4,7 @@ ghost use Rattle.sm_syntax.specs.claim.Meaning.{value_of, truth_of, relation};
 ghost use Rattle.sm_syntax.specs.text.Sorts.{IsWellSortedExpression, IsWellSortedCondition};
 ghost use Rattle.sm_syntax.specs.claim.Stores as plain;
 ghost use Rattle.sm_syntax.specs.trees.Views.{expression_of, condition_of};
+ghost use Rattle.sm_num.specs.Range.{exact};
 ghost use Rattle.sm_eval.specs.Events.{leaves, before, operation_event, expression_event};
 ghost use Rattle.sm_eval.specs.Events.{condition_event, answer};
 ghost use Rattle.sm_eval.specs.StoredValues.{meaning, sorts_of};

@@ -2,7 +2,7 @@
 use Rattle.std.proofs.Common.{◌≡◌, ℤ, pos, Bool, true, false, if◌then◌else◌, Option, Some, None, Ok, Err, refl, subst}
 use Rattle.sm_num.specs.declared.op.Op.{Op}
 use Rattle.sm_num.specs.declared.op.Op.TheVariants.{Add, Sub, Mul}
-use Rattle.sm_num.specs.Range.{fits}
+use Rattle.sm_num.specs.Range.{exact, fits}
 use Rattle.sm_syntax.specs.claim.Meaning.{value_of, truth_of}
 use Rattle.sm_syntax.specs.claim.Stores.{Store, number}
 use Rattle.sm_syntax.specs.claim.Syntax.{Expression, Lit, Var, Read, Neg, Plus, Minus, Times, Condition, Yes, No, Compare, Not, And, Or}

@@ -3,12 +3,12 @@ use Rattle.std.proofs.Common.{◌≡◌, ℕ, ◌≤◌, List, ◌++◌, length,
 use Rattle.std.proofs.lemmas.List.{length-append}
 use Rattle.sm_syntax.specs.claim.Syntax.{Condition}
 use Rattle.sm_syntax.specs.text.Sorts.{Sorts, IsWellSortedCondition}
-use Rattle.sm_term.specs.declared.formula.Formula.{Formula}
+use Rattle.sm_term.specs.Formulas as form
 use Rattle.sm_term.specs.declared.symbolic.SymStore.{SymStore}
 use Rattle.sm_term.specs.Terms.{Tree}
 use Rattle.sm_term.specs.Symbolic.{form_of}
 use Rattle.sm_term.specs.SymStores.{store_in, IsStoreWithin}
-use Rattle.sm_term.specs.Formulas.{NumberedFormula, Yes, No, Eq, Ne, Le, Lt, And, Or, numbered, assertion_in, assertion_of, IsFormulaWithin, HasTermsWithin}
+use Rattle.sm_term.specs.Formulas.{NumberedFormula, contrary, assertion_in, IsFormulaWithin}
 use Rattle.sm_term.specs.Tables.{TableValue, trees_in, sorts_in}
 use Rattle.sm_term.specs.TableLaws.{Grows}
 use Rattle.sm_term.proofs.TreesLemmas.{tree_at-more}
@@ -20,37 +20,48 @@ tested_more v w grows c well = subst (λ f. IsWellSortedCondition f c) (sym grow
 
 -- what a formula stands for stays where more trees are put behind
 assertion-trees : (sorts : Sorts) (trees more : List Tree) (f : NumberedFormula) → IsFormulaWithin (length trees) f → assertion_in sorts (trees ++ more) f ≡ assertion_in sorts trees f
-assertion-trees sorts trees more Yes w = refl
-assertion-trees sorts trees more No w = refl
-assertion-trees sorts trees more (Eq t u) w = rw (tree_at-more trees more t w.0, tree_at-more trees more u w.1) refl
-assertion-trees sorts trees more (Ne t u) w = rw (tree_at-more trees more t w.0, tree_at-more trees more u w.1) refl
-assertion-trees sorts trees more (Le t u) w = rw (tree_at-more trees more t w.0, tree_at-more trees more u w.1) refl
-assertion-trees sorts trees more (Lt t u) w = rw (tree_at-more trees more t w.0, tree_at-more trees more u w.1) refl
-assertion-trees sorts trees more (And p q) w = rw (assertion-trees sorts trees more p w.0, assertion-trees sorts trees more q w.1) refl
-assertion-trees sorts trees more (Or p q) w = rw (assertion-trees sorts trees more p w.0, assertion-trees sorts trees more q w.1) refl
+assertion-trees sorts trees more form.Yes w = refl
+assertion-trees sorts trees more form.No w = refl
+assertion-trees sorts trees more (form.Eq t u) w = rw (tree_at-more trees more t w.0, tree_at-more trees more u w.1) refl
+assertion-trees sorts trees more (form.Ne t u) w = rw (tree_at-more trees more t w.0, tree_at-more trees more u w.1) refl
+assertion-trees sorts trees more (form.Le t u) w = rw (tree_at-more trees more t w.0, tree_at-more trees more u w.1) refl
+assertion-trees sorts trees more (form.Lt t u) w = rw (tree_at-more trees more t w.0, tree_at-more trees more u w.1) refl
+assertion-trees sorts trees more (form.And p q) w = rw (assertion-trees sorts trees more p w.0, assertion-trees sorts trees more q w.1) refl
+assertion-trees sorts trees more (form.Or p q) w = rw (assertion-trees sorts trees more p w.0, assertion-trees sorts trees more q w.1) refl
 
-pub assertion-more : (v w : TableValue) → Grows v w → (f : Formula) → HasTermsWithin (length (trees_in v)) f → assertion_of (trees_in w) (sorts_in w) f ≡ assertion_of (trees_in v) (sorts_in v) f
+pub assertion-more : (v w : TableValue) → Grows v w → (f : NumberedFormula) → IsFormulaWithin (length (trees_in v)) f → assertion_in (sorts_in w) (trees_in w) f ≡ assertion_in (sorts_in v) (trees_in v) f
 assertion-more v w grows f within =
-    ap (λ l. assertion_of l (sorts_in w) f) grows.trees.1
-    ∙ ap (λ s. assertion_of (trees_in v ++ grows.trees.0) s f) grows.sorts
-    ∙ assertion-trees (sorts_in v) (trees_in v) grows.trees.0 (numbered f) within
+    ap (λ l. assertion_in (sorts_in w) l f) grows.trees.1
+    ∙ ap (λ s. assertion_in s (trees_in v ++ grows.trees.0) f) grows.sorts
+    ∙ assertion-trees (sorts_in v) (trees_in v) grows.trees.0 f within
 
 -- numbers below a count are below a greater one
 form-later : (m n : ℕ) → m ≤ n → (f : NumberedFormula) → IsFormulaWithin m f → IsFormulaWithin n f
-form-later m n h Yes w = tt
-form-later m n h No w = tt
-form-later m n h (Eq t u) w = (omega arith, omega arith)
-form-later m n h (Ne t u) w = (omega arith, omega arith)
-form-later m n h (Le t u) w = (omega arith, omega arith)
-form-later m n h (Lt t u) w = (omega arith, omega arith)
-form-later m n h (And p q) w = (form-later m n h p w.0, form-later m n h q w.1)
-form-later m n h (Or p q) w = (form-later m n h p w.0, form-later m n h q w.1)
+form-later m n h form.Yes w = tt
+form-later m n h form.No w = tt
+form-later m n h (form.Eq t u) w = (omega arith, omega arith)
+form-later m n h (form.Ne t u) w = (omega arith, omega arith)
+form-later m n h (form.Le t u) w = (omega arith, omega arith)
+form-later m n h (form.Lt t u) w = (omega arith, omega arith)
+form-later m n h (form.And p q) w = (form-later m n h p w.0, form-later m n h q w.1)
+form-later m n h (form.Or p q) w = (form-later m n h p w.0, form-later m n h q w.1)
 
-pub form_kept : (v w : TableValue) → Grows v w → (f : Formula) → HasTermsWithin (length (trees_in v)) f → HasTermsWithin (length (trees_in w)) f
+pub form_kept : (v w : TableValue) → Grows v w → (f : NumberedFormula) → IsFormulaWithin (length (trees_in v)) f → IsFormulaWithin (length (trees_in w)) f
 form_kept v w grows f within =
     let long = ap length grows.trees.1 ∙ length-append (trees_in v) grows.trees.0 in
-    form-later (length (trees_in v)) (length (trees_in w)) (omega arith) (numbered f) within
+    form-later (length (trees_in v)) (length (trees_in w)) (omega arith) f within
 
 -- a formula that was made over the store of a later table
 pub formed-more : (u v : TableValue) → Grows u v → (s : SymStore) → IsStoreWithin (length (trees_in u)) s → (c : Condition) → form_of c (store_in (trees_in v) s) ≡ form_of c (store_in (trees_in u) s)
 formed-more u v grows s within c = ap (form_of c) (store-more u v grows s within)
+
+-- the contrary has the same terms
+pub contrary_within : (count : ℕ) (f : NumberedFormula) → IsFormulaWithin count f → IsFormulaWithin count (contrary f)
+contrary_within count form.Yes w = tt
+contrary_within count form.No w = tt
+contrary_within count (form.Eq t u) w = w
+contrary_within count (form.Ne t u) w = w
+contrary_within count (form.Le t u) w = (w.1, w.0)
+contrary_within count (form.Lt t u) w = (w.1, w.0)
+contrary_within count (form.And p q) w = (contrary_within count p w.0, contrary_within count q w.1)
+contrary_within count (form.Or p q) w = (contrary_within count p w.0, contrary_within count q w.1)

@@ -8,5 +8,6 @@ pub mod TermsLemmas
 pub mod TreesLemmas
 pub mod TablesLemmas
 pub mod ExpressionLemmas
-pub mod FormsLemmas
 pub mod FormulasLemmas
+pub mod FormsLemmas
+pub mod CopiesLemmas

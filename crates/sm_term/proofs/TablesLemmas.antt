@@ -72,7 +72,7 @@ any_at p (x ∷ xs) (suc i) d h e = ap (λ b. p x || b) (any_at p xs i d (omega 
     or_true true = refl
     or_true false = refl
 
-any_where : {T : Type 0} (p : T → Bool) (xs : List T) (d : T) → list_any p xs ≡ true → (i : ℕ) × (i < length xs) × (p (get_or xs i d) ≡ true)
+pub any_where : {T : Type 0} (p : T → Bool) (xs : List T) (d : T) → list_any p xs ≡ true → (i : ℕ) × (i < length xs) × (p (get_or xs i d) ≡ true)
 any_where p [] d h = absurd cc
 any_where p (x ∷ xs) d h = by (p x) refl (any_where p xs d)
   where

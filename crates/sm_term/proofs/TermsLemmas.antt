@@ -229,3 +229,84 @@ fit_step sorts trees from args i x t first second = let next : i + 1 ≡ suc i =
 -- nothing is left
 pub fit_end : (sorts : Sorts) (trees : List Tree) (from : List Name) (args : List TermId) (i : ℕ) → length from ≤ i → length from ≡ length args → arguments_fit sorts trees (drop i from) (drop i args) ≡ true
 fit_end sorts trees from args i h long = rw (drop_all i from h, drop_all i args (omega arith)) refl
+
+-- lists that hold the same have the same facts
+before_alike : (n : ℕ) (args parts : List TermId) → parts_in_list args ≡ parts_in_list parts → AreBefore n args → AreBefore n parts
+before_alike n [] [] e w = tt
+before_alike n (t ∷ args) (u ∷ parts) e w =
+    let part : t.0 ≡ u.0 = cc in
+    let rest : parts_in_list args ≡ parts_in_list parts = cc in
+    (subst (λ m. m < n) part w.0, before_alike n args parts rest w.1)
+before_alike n args parts e w = absurd cc
+
+declared_alike : (sorts : Sorts) (from names : List Name) → names_in_list from ≡ names_in_list names → AreNamesDeclared sorts from → AreNamesDeclared sorts names
+declared_alike sorts [] [] e w = tt
+declared_alike sorts (x ∷ from) (y ∷ names) e w =
+    let name : x.0 ≡ y.0 = cc in
+    let rest : names_in_list from ≡ names_in_list names = cc in
+    (subst (IsDeclaredIn sorts) name w.0, declared_alike sorts from names rest w.1)
+declared_alike sorts from names e w = absurd cc
+
+fit_alike :
+    (sorts : Sorts) (trees : List Tree) (from names : List Name) (args parts : List TermId) → names_in_list from ≡ names_in_list names → parts_in_list args ≡ parts_in_list parts
+    → arguments_fit sorts trees from args ≡ arguments_fit sorts trees names parts
+fit_alike sorts trees [] [] [] [] first second = refl
+fit_alike sorts trees [] [] (t ∷ args) (u ∷ parts) first second = refl
+fit_alike sorts trees (x ∷ from) (y ∷ names) [] [] first second = refl
+fit_alike sorts trees (x ∷ from) (y ∷ names) (t ∷ args) (u ∷ parts) first second =
+    let name : x.0 ≡ y.0 = cc in
+    let part : t.0 ≡ u.0 = cc in
+    let behind : names_in_list from ≡ names_in_list names = cc in
+    let after : parts_in_list args ≡ parts_in_list parts = cc in
+    rw (name, part, fit_alike sorts trees from names args parts behind after) refl
+fit_alike sorts trees [] (y ∷ names) args parts first second = absurd cc
+fit_alike sorts trees (x ∷ from) [] args parts first second = absurd cc
+fit_alike sorts trees [] [] [] (u ∷ parts) first second = absurd cc
+fit_alike sorts trees [] [] (t ∷ args) [] first second = absurd cc
+fit_alike sorts trees (x ∷ from) (y ∷ names) [] (u ∷ parts) first second = absurd cc
+fit_alike sorts trees (x ∷ from) (y ∷ names) (t ∷ args) [] first second = absurd cc
+
+-- terms that hold the same stand at the same places, and fit alike
+pub within_alike : (sorts : Sorts) (bodies n : ℕ) (t u : Term) → contents_of t ≡ contents_of u → IsTermWithin sorts bodies n t → IsTermWithin sorts bodies n u
+within_alike sorts bodies n t u e = by t u (ap (λ (h : Contents). h.0) e) (ap (λ (h : Contents). h.1) e) (ap (λ (h : Contents). h.2) e)
+  where
+    by : (t u : Term) → term_numbers t ≡ term_numbers u → names_of_term t ≡ names_of_term u → parts_of_term t ≡ parts_of_term u → IsTermWithin sorts bodies n t → IsTermWithin sorts bodies n u
+    by (row.Lit y) (row.Lit z) m from args w = tt
+    by (row.Start x) (row.Start y) m from args w = subst (λ k. IsDeclaredIn sorts k.first) m w
+    by (row.Havoc j c x) (row.Havoc k d y) m from args w = subst (λ k. (k.second < 4) × IsDeclaredIn sorts k.third) m w
+    by (row.Slot c x) (row.Slot d y) m from args w = subst (λ k. (k.first < 4) × IsDeclaredIn sorts k.second) m w
+    by row.Cell row.Cell m from args w = tt
+    by (row.Read a i) (row.Read b j) m from args w = subst (λ k. (k.first < n) × (k.second < n)) m w
+    by (row.Write a i d) (row.Write b j e) m from args w = subst (λ k. (k.first < n) × (k.second < n) × (k.third < n)) m w
+    by (row.Neg r) (row.Neg s) m from args w = subst (λ k. k.first < n) m w
+    by (row.Add p q) (row.Add r s) m from args w = subst (λ k. (k.first < n) × (k.second < n)) m w
+    by (row.Sub p q) (row.Sub r s) m from args w = subst (λ k. (k.first < n) × (k.second < n)) m w
+    by (row.Mul p q) (row.Mul r s) m from args w = subst (λ k. (k.first < n) × (k.second < n)) m w
+    by (row.Fun b x from args) (row.Fun c y names parts) m names_same parts_same w = (
+      subst (λ k. k.first < bodies) m w.0,
+      subst (λ k. IsDeclaredIn sorts k.second) m w.1,
+      declared_alike sorts from.list.items names.list.items names_same w.2,
+      before_alike n args.list.items parts.list.items parts_same w.3,
+    )
+    by t u m from args w = absurd (let kinds = ap (λ k. k.kind) m in omega arith)
+
+pub fits_alike : (sorts : Sorts) (trees : List Tree) (t u : Term) → contents_of t ≡ contents_of u → term_fits sorts trees t ≡ term_fits sorts trees u
+fits_alike sorts trees t u e = by t u (ap (λ (h : Contents). h.0) e) (ap (λ (h : Contents). h.1) e) (ap (λ (h : Contents). h.2) e)
+  where
+    has : ℕ → Sort → Bool
+    has n sort = has_sort sorts trees (record { 0 = n }) sort
+
+    by : (t u : Term) → term_numbers t ≡ term_numbers u → names_of_term t ≡ names_of_term u → parts_of_term t ≡ parts_of_term u → term_fits sorts trees t ≡ term_fits sorts trees u
+    by (row.Lit y) (row.Lit z) m from args = refl
+    by (row.Start x) (row.Start y) m from args = refl
+    by (row.Havoc j c x) (row.Havoc k d y) m from args = refl
+    by (row.Slot c x) (row.Slot d y) m from args = refl
+    by row.Cell row.Cell m from args = refl
+    by (row.Read a i) (row.Read b j) m from args = ap (λ k. has k.first Arr && has k.second Num) m
+    by (row.Write a i d) (row.Write b j e) m from args = ap (λ k. has k.first Arr && (has k.second Num && has k.third Num)) m
+    by (row.Neg r) (row.Neg s) m from args = ap (λ k. has k.first Num) m
+    by (row.Add p q) (row.Add r s) m from args = ap (λ k. has k.first Num && has k.second Num) m
+    by (row.Sub p q) (row.Sub r s) m from args = ap (λ k. has k.first Num && has k.second Num) m
+    by (row.Mul p q) (row.Mul r s) m from args = ap (λ k. has k.first Num && has k.second Num) m
+    by (row.Fun b x from args) (row.Fun c y names parts) m names_same parts_same = fit_alike sorts trees from.list.items names.list.items args.list.items parts.list.items names_same parts_same
+    by t u m from args = absurd (let kinds = ap (λ k. k.kind) m in omega arith)

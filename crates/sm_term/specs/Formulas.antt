@@ -63,11 +63,3 @@ IsFormulaWithin count (Le t u) = (t < count) × (u < count)
 IsFormulaWithin count (Lt t u) = (t < count) × (u < count)
 IsFormulaWithin count (And p q) = IsFormulaWithin count p × IsFormulaWithin count q
 IsFormulaWithin count (Or p q) = IsFormulaWithin count p × IsFormulaWithin count q
-
--- the formula over trees that a formula of the program stands for
-abbrev pub assertion_of : List Tree → Sorts → Formula → Assertion
-assertion_of trees sorts f = assertion_in sorts trees (numbered f)
-
--- the terms of a formula of the program are in a table of `count` terms
-abbrev pub HasTermsWithin : ℕ → Formula → Type 0
-HasTermsWithin count f = IsFormulaWithin count (numbered f)

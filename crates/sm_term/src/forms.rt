@@ -7,7 +7,7 @@ ghost use Rattle.sm_term.specs.Terms.{Tree};
 ghost use Rattle.sm_term.specs.Sorted.{tree_sort, IsStoreSorted};
 ghost use Rattle.sm_term.specs.Symbolic as plain;
 ghost use Rattle.sm_term.specs.SymStores.{store_in, IsStoreWithin};
-ghost use Rattle.sm_term.specs.Formulas.{assertion_of, HasTermsWithin};
+ghost use Rattle.sm_term.specs.Formulas.{numbered, assertion_in, IsFormulaWithin};
 ghost use Rattle.sm_term.specs.Tables.{trees_in, sorts_in, tree_at};
 ghost use Rattle.sm_term.specs.TableLaws.{Grows};
 
@@ -30,8 +30,8 @@ pub fn form_of(
     requires store { IsStoreSorted (sorts_in table.old) (store_in (trees_in table.old) s.now) }
     ensures made { let f = store_in (trees_in table.old) s.now in
         let a = plain.form_of (condition_of c.now) f in
-        IfOk result (λ g. assertion_of (trees_in table.new) (sorts_in table.new) g ≡ a) }
-    ensures within { IfOk result (λ f. HasTermsWithin (length (trees_in table.new)) f) }
+        IfOk result (λ g. assertion_in (sorts_in table.new) (trees_in table.new) (numbered g) ≡ a) }
+    ensures within { IfOk result (λ f. IsFormulaWithin (length (trees_in table.new)) (numbered f)) }
     ensures grows { Grows table.old table.new }
     ensures err { OnErr result (trees_in table.new ≡ trees_in table.old) }
 {
@@ -58,8 +58,8 @@ fn made_form(
     requires store { IsStoreSorted (sorts_in table.old) (store_in (trees_in table.old) s.now) }
     ensures made { let f = store_in (trees_in table.old) s.now in
         let a = plain.form_of (condition_of c.now) f in
-        IfOk result (λ g. assertion_of (trees_in table.new) (sorts_in table.new) g ≡ a) }
-    ensures within { IfOk result (λ f. HasTermsWithin (length (trees_in table.new)) f) }
+        IfOk result (λ g. assertion_in (sorts_in table.new) (trees_in table.new) (numbered g) ≡ a) }
+    ensures within { IfOk result (λ f. IsFormulaWithin (length (trees_in table.new)) (numbered f)) }
     ensures grows { Grows table.old table.new }
 {
     match c {
@@ -97,12 +97,12 @@ fn made_forms(
     requires store { IsStoreSorted (sorts_in table.old) (store_in (trees_in table.old) s.now) }
     ensures first { let f = store_in (trees_in table.old) s.now in
         let a = plain.form_of (condition_of b.now) f in
-        IfOk result (λ p. assertion_of (trees_in table.new) (sorts_in table.new) p.0.value ≡ a) }
+        IfOk result (λ p. assertion_in (sorts_in table.new) (trees_in table.new) (numbered p.0.value) ≡ a) }
     ensures second { let f = store_in (trees_in table.old) s.now in
         let a = plain.form_of (condition_of c.now) f in
-        IfOk result (λ p. assertion_of (trees_in table.new) (sorts_in table.new) p.1.value ≡ a) }
+        IfOk result (λ p. assertion_in (sorts_in table.new) (trees_in table.new) (numbered p.1.value) ≡ a) }
     ensures within { let count = length (trees_in table.new) in
-        IfOk result (λ p. HasTermsWithin count p.0.value × HasTermsWithin count p.1.value) }
+        IfOk result (λ p. IsFormulaWithin count (numbered p.0.value) × IsFormulaWithin count (numbered p.1.value)) }
     ensures grows { Grows table.old table.new }
 {
     let p = made_form(alloc, table, b, s)?;
@@ -128,8 +128,8 @@ fn compared(
         let left = plain.term_of (expression_of d.now) f in
         let right = plain.term_of (expression_of e.now) f in
         let a = plain.comparison_form op left right in
-        IfOk result (λ g. assertion_of (trees_in table.new) (sorts_in table.new) g ≡ a) }
-    ensures within { IfOk result (λ f. HasTermsWithin (length (trees_in table.new)) f) }
+        IfOk result (λ g. assertion_in (sorts_in table.new) (trees_in table.new) (numbered g) ≡ a) }
+    ensures within { IfOk result (λ f. IsFormulaWithin (length (trees_in table.new)) (numbered f)) }
     ensures grows { Grows table.old table.new }
 {
     let (t, u) = made_terms(table, d, e, s)?;
@@ -141,9 +141,9 @@ fn comparison(op: Cmp, t: TermId, u: TermId) -> Formula
     ensures made { (trees : List Tree) (sorts : Sorts) →
         tree_sort sorts (tree_at trees t.0) ≡ Num →
         tree_sort sorts (tree_at trees u.0) ≡ Num →
-        assertion_of trees sorts result
+        assertion_in sorts trees (numbered result)
         ≡ plain.comparison_form op (tree_at trees t.0) (tree_at trees u.0) }
-    ensures within { (count : ℕ) → t.0 < count → u.0 < count → HasTermsWithin count result }
+    ensures within { (count : ℕ) → t.0 < count → u.0 < count → IsFormulaWithin count (numbered result) }
 {
     match op {
         Cmp::Eq => Formula::Eq(t, u),

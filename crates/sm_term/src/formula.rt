@@ -1,9 +1,6 @@
-// Formulas over the terms of a table.
-ghost use Rattle.std.specs.Prelude.{◌≡◌, ℕ, List, IfOk};
-ghost use Rattle.sm_syntax.specs.text.Sorts.{Sorts};
-ghost use Rattle.sm_term.specs.Terms.{Tree};
-ghost use Rattle.sm_term.specs.Assertions as plain;
-ghost use Rattle.sm_term.specs.Formulas.{numbered, contrary, assertion_of, HasTermsWithin};
+// Formulas over terms of a table.
+ghost use Rattle.std.specs.Prelude.{◌≡◌, IfOk};
+ghost use Rattle.sm_term.specs.Formulas.{numbered, contrary};
 ghost use Rattle.sm_term.specs.Laws.{ContraryIsNegated};
 
 use crate::term::TermId;
@@ -34,14 +31,8 @@ pub fn copy_formula(alloc: Global, f: &Formula) -> Result<Formula, AllocError>
         Formula::Ne(t, u) => Ok(Formula::Ne(*t, *u)),
         Formula::Le(t, u) => Ok(Formula::Le(*t, *u)),
         Formula::Lt(t, u) => Ok(Formula::Lt(*t, *u)),
-        Formula::And(p, q) => Ok(Formula::And(
-            boxed_formula(alloc, p)?,
-            boxed_formula(alloc, q)?,
-        )),
-        Formula::Or(p, q) => Ok(Formula::Or(
-            boxed_formula(alloc, p)?,
-            boxed_formula(alloc, q)?,
-        )),
+        Formula::And(p, q) => Ok(Formula::And(boxed_formula(alloc, p)?, boxed_formula(alloc, q)?)),
+        Formula::Or(p, q) => Ok(Formula::Or(boxed_formula(alloc, p)?, boxed_formula(alloc, q)?)),
     }
 }
 
@@ -52,15 +43,11 @@ fn boxed_formula(alloc: Global, f: &Formula) -> Result<Box<Formula>, AllocError>
     Ok(Box::new(alloc, copy_formula(alloc, f)?)?)
 }
 
-/// The formula that says the contrary.
+/// The formula that says the contrary: equations and their contraries are exchanged, `<=` and `<`
+/// with their sides, and conjunctions and disjunctions with their parts negated.
 #[cycle(negate_form)]
 pub fn negate(alloc: Global, f: &Formula) -> Result<Formula, AllocError>
-    ensures contrary { IfOk result (λ g. numbered g ≡ contrary (numbered f.now)) }
-    ensures negated { IfOk result (λ g.
-        (trees : List Tree) (sorts : Sorts) →
-        assertion_of trees sorts g ≡ plain.negate (assertion_of trees sorts f.now)) }
-    ensures within { IfOk result (λ g.
-        (count : ℕ) → HasTermsWithin count f.now → HasTermsWithin count g) }
+    ensures { IfOk result (λ g. numbered g ≡ contrary (numbered f.now)) }
 {
     match f {
         Formula::Yes => Ok(Formula::No),
@@ -76,12 +63,7 @@ pub fn negate(alloc: Global, f: &Formula) -> Result<Formula, AllocError>
 
 #[cycle(negate_form)]
 fn boxed_contrary(alloc: Global, f: &Formula) -> Result<Box<Formula>, AllocError>
-    ensures contrary { IfOk result (λ g. numbered g.value ≡ contrary (numbered f.now)) }
-    ensures negated { IfOk result (λ g.
-        (trees : List Tree) (sorts : Sorts) →
-        assertion_of trees sorts g.value ≡ plain.negate (assertion_of trees sorts f.now)) }
-    ensures within { IfOk result (λ g.
-        (count : ℕ) → HasTermsWithin count f.now → HasTermsWithin count g.value) }
+    ensures { IfOk result (λ g. numbered g.value ≡ contrary (numbered f.now)) }
 {
     Ok(Box::new(alloc, negate(alloc, f)?)?)
 }

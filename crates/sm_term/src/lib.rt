@@ -19,6 +19,7 @@
 
 mod bodies;
 mod body;
+mod copies;
 mod error;
 mod forms;
 mod formula;
@@ -30,7 +31,7 @@ mod term;
 
 pub use error::TermError;
 pub use forms::form_of;
-pub use formula::{Formula, contrary_is_negated, copy_formula, negate};
+pub use formula::{Formula, copy_formula, negate};
 pub use laws::{
     at_stores_holds, conj_holds, form_means_truth, fresh_holds, holds_is_stable,
     negate_is_contrary, refuted_is_valid, term_means_value,

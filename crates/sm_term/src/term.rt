@@ -1,13 +1,14 @@
 // Terms by number, and when two are equal.
-ghost use Rattle.std.specs.Prelude.{◌≡◌, nat_eq};
+ghost use Rattle.std.specs.Prelude.{◌≡◌, nat_eq, IfOk};
 ghost use Rattle.std.specs.Cmp.{partial_equiv_from_equiv};
 ghost use Rattle.std.specs.Cmp.Lexicographic.{pointwise};
 ghost use Rattle.sm_term.specs.Rows.{kind_numbers, term_numbers, names_of_term};
 ghost use Rattle.sm_term.specs.Rows.{parts_of_term, same_term};
 ghost use Rattle.sm_term.specs.Rows.{names_in_list, parts_in_list, same_numbers, hashed};
-ghost use Rattle.sm_term.specs.RowLaws.{same_term-equiv, same_term-hashed};
+ghost use Rattle.sm_term.specs.RowLaws.{contents_of, same_term-equiv, same_term-hashed};
 
-use sm_syntax::{Name, Outputs};
+use sm_syntax::{Name, Outputs, copy_outputs};
+use std::alloc::{AllocError, Global};
 use std::hash::{Hash, Hasher};
 
 /// The number of a term in a table.
@@ -111,6 +112,38 @@ impl Term {
         }
     }
 
+    // A term that holds the same.
+    pub(crate) fn copied(&self, alloc: Global) -> Result<Term, AllocError>
+        ensures { IfOk result (λ t. contents_of self.now ≡ contents_of t) }
+    {
+        match self {
+            Term::Lit(value) => Ok(Term::Lit(*value)),
+            Term::Start(name) => Ok(Term::Start(*name)),
+            Term::Havoc { node, copy, name } => Ok(Term::Havoc {
+                node: *node,
+                copy: *copy,
+                name: *name,
+            }),
+            Term::Slot { copy, name } => Ok(Term::Slot {
+                copy: *copy,
+                name: *name,
+            }),
+            Term::Cell => Ok(Term::Cell),
+            Term::Read(a, i) => Ok(Term::Read(*a, *i)),
+            Term::Write(a, i, e) => Ok(Term::Write(*a, *i, *e)),
+            Term::Neg(t) => Ok(Term::Neg(*t)),
+            Term::Add(t, u) => Ok(Term::Add(*t, *u)),
+            Term::Sub(t, u) => Ok(Term::Sub(*t, *u)),
+            Term::Mul(t, u) => Ok(Term::Mul(*t, *u)),
+            Term::Fun {
+                body,
+                name,
+                from,
+                args,
+            } => copied_summary(alloc, *body, *name, from, args),
+        }
+    }
+
     // The names of a summary's arguments.
     fn names(&self) -> &[Name]
         ensures { names_in_list result.now ≡ names_of_term self.now }
@@ -130,6 +163,28 @@ impl Term {
             _ => &[],
         }
     }
+}
+
+// A summary with the same names and arguments.
+fn copied_summary(
+    alloc: Global,
+    body: BodyId,
+    name: Name,
+    from: &Outputs,
+    args: &Terms,
+) -> Result<Term, AllocError>
+    ensures { IfOk result (λ t.
+        (kind_numbers 11 body.0 name.0 0, names_in_list from.now.list.items, parts_in_list args.now.list.items)
+        ≡ contents_of t) }
+{
+    let from = copy_outputs(alloc, from)?;
+    let list = Vec::from_slice(alloc, &args.list)?;
+    Ok(Term::Fun {
+        body,
+        name,
+        from,
+        args: Terms { list },
+    })
 }
 
 // Whether two lists have the same names.

@@ -1,14 +1,30 @@
 -- The second of two is made over the table with the first, and the first stays.
 use Rattle.std.proofs.Common.{rules, length, ap, sym, subst, ◌∙◌}
 use Rattle.sm_syntax.specs.trees.Views.{condition_of}
-use Rattle.sm_term.specs.Formulas.{assertion_of, HasTermsWithin}
+use Rattle.sm_term.specs.Assertions as plain
+use Rattle.sm_term.specs.Symbolic as symbolic
+use Rattle.sm_term.specs.SymStores.{store_in}
+use Rattle.sm_term.specs.Formulas.{numbered, assertion_in, IsFormulaWithin}
+use Rattle.sm_term.proofs.FormulasLemmas.{contrary_negates}
 use Rattle.sm_term.specs.Tables.{trees_in, sorts_in}
 use Rattle.sm_term.proofs.ExpressionLemmas.{within_more, sorted_more}
-use Rattle.sm_term.proofs.FormsLemmas.{tested_more, assertion-more, form_kept, formed-more}
+use Rattle.sm_term.proofs.FormsLemmas.{contrary_within, tested_more, assertion-more, form_kept, formed-more}
 use Rattle.sm_term.proofs.forms.+forms.Goals as goal
 
+pub made_form-returns-in_ok-g-in-Not-clause-made : goal.made_form-returns-in_ok-g-in-Not-clause-made
+made_form-returns-in_ok-g-in-Not-clause-made t c =
+    let v1 = c.made_form.new.table in
+    let f = store_in (trees_in c.args.table.now) c.args.s.now in
+    ap (assertion_in (sorts_in v1) (trees_in v1)) c.in_ok-g-in-Not.ensures
+    ∙ contrary_negates (sorts_in v1) (trees_in v1) (numbered c.in_ok-f-in-Not.f)
+    ∙ ap plain.negate c.in_ok-f-in-Not.ensures.made
+    ∙ ap (λ b. plain.negate (symbolic.form_of (condition_of b) f)) c.deref.ensures
+    ∙ ap (λ b. symbolic.form_of (condition_of b) f) (sym c.in-Not.is)
+
 pub made_form-returns-in_ok-g-in-Not-clause-within : goal.made_form-returns-in_ok-g-in-Not-clause-within
-made_form-returns-in_ok-g-in-Not-clause-within t c = c.in_ok-g-in-Not.ensures.within (length (trees_in c.made_form.new.table)) c.in_ok-f-in-Not.ensures.within
+made_form-returns-in_ok-g-in-Not-clause-within t c =
+    let count = length (trees_in c.made_form.new.table) in
+    subst (IsFormulaWithin count) (sym c.in_ok-g-in-Not.ensures) (contrary_within count (numbered c.in_ok-f-in-Not.f) c.in_ok-f-in-Not.ensures.within)
 
 pub made_forms-made_form-requires-2 : goal.made_forms-made_form-requires-2
 made_forms-made_form-requires-2 t c =
@@ -22,18 +38,18 @@ pub made_forms-returns-clause-first : goal.made_forms-returns-clause-first
 made_forms-returns-clause-first t c =
     let v1 = c.made_form.new.table in
     let v2 = c.made_form-2.new.table in
-    ap (assertion_of (trees_in v2) (sorts_in v2)) c.in_ok-first.ensures.ok ∙ assertion-more v1 v2 c.made_form-2.ensures.grows c.in_ok-p.p c.in_ok-p.ensures.within ∙ c.in_ok-p.ensures.made
+    ap (λ f. assertion_in (sorts_in v2) (trees_in v2) (numbered f)) c.in_ok-first.ensures.ok ∙ assertion-more v1 v2 c.made_form-2.ensures.grows (numbered c.in_ok-p.p) c.in_ok-p.ensures.within ∙ c.in_ok-p.ensures.made
 
 pub made_forms-returns-clause-second : goal.made_forms-returns-clause-second
 made_forms-returns-clause-second t c =
     let v0 = c.args.table.now in
     let v1 = c.made_form.new.table in
     let v2 = c.made_form-2.new.table in
-    ap (assertion_of (trees_in v2) (sorts_in v2)) c.in_ok-second.ensures.ok ∙ c.in_ok-q.ensures.made ∙ formed-more v0 v1 c.made_form.ensures.grows c.args.s.now c.requires.within (condition_of c.args.c.now)
+    ap (λ f. assertion_in (sorts_in v2) (trees_in v2) (numbered f)) c.in_ok-second.ensures.ok ∙ c.in_ok-q.ensures.made ∙ formed-more v0 v1 c.made_form.ensures.grows c.args.s.now c.requires.within (condition_of c.args.c.now)
 
 pub made_forms-returns-clause-within : goal.made_forms-returns-clause-within
 made_forms-returns-clause-within t c =
     let v1 = c.made_form.new.table in
     let v2 = c.made_form-2.new.table in
-    let first = form_kept v1 v2 c.made_form-2.ensures.grows c.in_ok-p.p c.in_ok-p.ensures.within in
-    (subst (HasTermsWithin (length (trees_in v2))) (sym c.in_ok-first.ensures.ok) first, subst (HasTermsWithin (length (trees_in v2))) (sym c.in_ok-second.ensures.ok) c.in_ok-q.ensures.within)
+    let first = form_kept v1 v2 c.made_form-2.ensures.grows (numbered c.in_ok-p.p) c.in_ok-p.ensures.within in
+    (subst (λ f. IsFormulaWithin (length (trees_in v2)) (numbered f)) (sym c.in_ok-first.ensures.ok) first, subst (λ f. IsFormulaWithin (length (trees_in v2)) (numbered f)) (sym c.in_ok-second.ensures.ok) c.in_ok-q.ensures.within)
