@@ -18,6 +18,7 @@ use Rattle.sm_text.specs.parsing.Text.{lexical_fault, rule_fault}
 use Rattle.sm_text.proofs.FirstFault.Refusals.{Refuses, Judges, viable, shorter-viable, unexpected, too_deep, nested-viable, nothing_nests}
 use Rattle.sm_text.proofs.FirstFault.Ordered.{Ascends, behind-ascends, before_end, before_fault, Order, compare, map-append, length-map-of}
 use Rattle.sm_text.proofs.FirstFault.Ordered.{some_one, goes_past, same_split}
+use Rattle.sm_text.proofs.FirstFault.FaultLemmas.{no_fault, none_some, same_fault, err_left, first_refusal, nothing_left, ok_err}
 
 -- up to here the grammar goes on, and no refusal comes before
 pub record Reaches {A : Type 0} (read : List Symbol → Result A reading.Fault) (spells : Grammar) (source : Source)
@@ -25,34 +26,6 @@ pub record Reaches {A : Type 0} (read : List Symbol → Result A reading.Fault) 
   pub split : all_symbols source ≡ used ++ here
   pub goes_on : IsViable spells used
   pub late : (f : reading.Fault) → read (all_symbols source) ≡ Err f → f.left ≤ length here
-
-no_fault : {f : LexFault} → (let o : Option LexFault = None in o) ≡ Some f → ⊥
-no_fault e = cc
-
-none_some : (u : Symbol) → (let p : Option Symbol = None in p) ≡ Some u → ⊥
-none_some u p = cc
-
-same_fault : (f g : LexFault) → Some f ≡ Some g → f ≡ g
-same_fault f g e = cc
-
-err_left : {A : Type 0} (f g : reading.Fault) → (let a : Result A reading.Fault = Err f in a) ≡ Err g → g.left ≤ f.left
-err_left f g e = let same : f ≡ g = cc in let F : reading.Fault → Type 0 = λ h. h.left ≤ f.left in subst F same (omega arith)
-
--- a first fault is what a refusal has to be
-pub first_refusal : (spells : Grammar) (source : Source) (e : TextError) → IsFirstFault spells source e → IsRefusal spells source e
-first_refusal spells source (error.BadByte place) x = x
-first_refusal spells source (error.WideNumber place) x = x
-first_refusal spells source (error.BadToken place) x = x
-first_refusal spells source (error.Expected place) x = x
-first_refusal spells source (error.Nested place) x = x
-first_refusal spells source error.Memory x = tt
-
-nothing_left : (us : List Symbol) → length us ≡ 0 → us ≡ []
-nothing_left [] e = refl
-nothing_left (u ∷ us) e = absurd (omega (arith, e))
-
-ok_err : {A : Type 0} {x : A} {f : reading.Fault} → (let a : Result A reading.Fault = Ok x in a) ≡ Err f → ⊥
-ok_err e = cc
 
 -- a refusal of a reading that judges by a grammar, over tokens in the order of their places
 module _ {A : Type 0} (read : List Symbol → Result A reading.Fault) (spells : Grammar) (judges : Judges read spells) (source : Source)
