@@ -68,6 +68,7 @@ moves_past move facts others stand = record {
     chosen : (t b : Bool) (n : ℕ) → t ≡ true → b ≡ t → (if b then move n else length others + (n - length facts)) ≡ move n
     chosen t true n e h = refl
     chosen t false n e h = absurd (let wrong : false ≡ true = h ∙ e in cc)
+
     later : (b : Bool) (j : ℕ) → nat_lt (length facts + j) (length facts) ≡ b → (if b then move (length facts + j) else length others + ((length facts + j) - length facts)) ≡ length others + j
     later true j h = absurd (let less = ltb-true (length facts + j) (length facts) h in omega arith)
     later false j h = let same : (length facts + j) - length facts ≡ j = omega arith in ap (λ (i : ℕ). length others + i) same

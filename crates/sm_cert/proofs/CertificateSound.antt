@@ -27,9 +27,9 @@ sorted_append sorts (k ∷ ks) more h g = (h.0, sorted_append sorts ks more h.1 
 -- what theories add holds, and is sorted
 pub record AreSound (sorts : Sorts) (added : Theories) : Type 0 where
   pub holds :
-    (m : Structure) (facts : List Known) (line : CertificateLine) (k : Known) → AreKnownSorted sorts facts → IsLineSorted sorts line → added facts line ≡ Some k → AreFacts m facts → IsFact m k
+      (m : Structure) (facts : List Known) (line : CertificateLine) (k : Known) → AreKnownSorted sorts facts → IsLineSorted sorts line → added facts line ≡ Some k → AreFacts m facts → IsFact m k
   pub sorted :
-    (facts : List Known) (line : CertificateLine) (k : Known) → AreKnownSorted sorts facts → IsLineSorted sorts line → added facts line ≡ Some k → IsKnownSorted sorts k
+      (facts : List Known) (line : CertificateLine) (k : Known) → AreKnownSorted sorts facts → IsLineSorted sorts line → added facts line ≡ Some k → IsKnownSorted sorts k
 
 -- a first bad line of two parts: none of either
 neither : (o p : Option ℕ) → or_else o p ≡ None → (o ≡ None) × (p ≡ None)
@@ -90,9 +90,10 @@ refutes sorts added facts n (Split line c d) sound good terms e m held =
     (λ (to : List (List Known)) (h : ways_with sorts facts (added facts line) line ≡ Some to).
     ways_with_sorted sorts facts (added facts line) line to good terms.0 (λ (k : Known) (g : added facts line ≡ Some k). sound.sorted facts line k good terms.0 g) h)
     (λ (way other : List Known) (later : or_else (first_bad added sorts (facts ++ way) (suc n) c) (first_bad added sorts (facts ++ other) (suc n + lines_in c) d) ≡ None) (fine : AreKnownSorted sorts way) (fine_too : AreKnownSorted sorts other).
-    let parts = neither (first_bad added sorts (facts ++ way) (suc n) c) (first_bad added sorts (facts ++ other) (suc n + lines_in c) d) later in
-    (λ (h : AreFacts m way). refutes sorts added (facts ++ way) (suc n) c sound (sorted_append sorts facts way good fine) terms.1 parts.0 m (facts_append m facts way held h),
-    λ (h : AreFacts m other). refutes sorts added (facts ++ other) (suc n + lines_in c) d sound (sorted_append sorts facts other good fine_too) terms.2 parts.1 m (facts_append m facts other held h)))
+    let parts = neither (first_bad added sorts (facts ++ way) (suc n) c) (first_bad added sorts (facts ++ other) (suc n + lines_in c) d) later in (
+      λ (h : AreFacts m way). refutes sorts added (facts ++ way) (suc n) c sound (sorted_append sorts facts way good fine) terms.1 parts.0 m (facts_append m facts way held h),
+      λ (h : AreFacts m other). refutes sorts added (facts ++ other) (suc n + lines_in c) d sound (sorted_append sorts facts other good fine_too) terms.2 parts.1 m (facts_append m facts other held h),
+    ))
 
 -- a certificate that isn't refused has no bad line
 pub none_bad : (added : Theories) (sorts : Sorts) (facts : List Known) (c : Certificate) → refused added sorts facts c ≡ None → first_bad added sorts facts 0 c ≡ None

@@ -31,7 +31,7 @@ pub trait Theory {
         ensures { let trees = trees_in table.now in let sorts = sorts_in table.now in
             (facts : List Known) → AllStand sorts trees branch.now.list.items facts →
             IfOk result (λ o. StandsIf sorts trees o
-                (adds self.now sorts facts (line_in trees line.now))) };
+            (adds self.now sorts facts (line_in trees line.now))) };
 
     // what is added holds wherever the facts of the branch do
     ghost holds: { (e : Self) → AddsWhatHolds (adds e) };

@@ -38,7 +38,7 @@ invariant_of-result c =
     ap (gcd (nat_abs z)) (c.parts_divisor.ensures ∙ ap divisor_of_parts c.deref.ensures.value) in
     let fits : SFits w128 c.floor.result = search rules in
     let all = divisor_divides c.common_divisor-d.result ps (subst (λ (n : ℕ). n ∣ divisor_of_parts ps) (sym same)
-        (gcd_is (nat_abs z) (divisor_of_parts ps)).1) in
+    (gcd_is (nat_abs z) (divisor_of_parts ps)).1) in
     rw (to_z-of_z w128 c.floor.result fits)
     (record {
       parts = divided_items c.common_divisor-d.result c.in_ok-divide_parts.field-0.items c.deref-2.result.now ps
