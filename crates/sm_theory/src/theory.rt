@@ -6,6 +6,7 @@ ghost use Rattle.sm_theory.specs.Facts.{Known};
 ghost use Rattle.sm_theory.specs.Lines.{CertificateLine};
 ghost use Rattle.sm_theory.specs.Laws.{AddsWhatHolds, AddsWhatIsSorted};
 ghost use Rattle.sm_theory.specs.Laws.{AddsWhatIsBelow, AddsAnywhere};
+ghost use Rattle.sm_theory.specs.SortedFacts.{AreKnownSorted};
 ghost use Rattle.sm_theory.specs.Views.{line_in, IsLineWithin, AllStand, StandsIf};
 
 use crate::fact::{Branch, Fact};
@@ -30,6 +31,7 @@ pub trait Theory {
         requires { IsLineWithin (length (trees_in table.now)) line.now }
         ensures { let trees = trees_in table.now in let sorts = sorts_in table.now in
             (facts : List Known) → AllStand sorts trees branch.now.list.items facts →
+            AreKnownSorted sorts facts →
             IfOk result (λ o. StandsIf sorts trees o
             (adds self.now sorts facts (line_in trees line.now))) };
 
