@@ -19,3 +19,4 @@ pub mod ArithmeticKept
 pub mod ArithmeticCases
 pub mod LinearLater
 pub mod SidesLemmas
+pub mod FormsOfTermsLemmas

@@ -48,7 +48,7 @@ module _ (trees : List Tree) (distinct : HaveOnePlace trees) where
       rw (sym (term_at_is trees i t first), sym (term_at_is trees j u second)) (places_rename trees distinct i j (t, first) (u, second))
 
   -- an atom's number stands for it
-  atom_stands : (n : ℕ) (t : Tree) → StandsAt trees n t → IsKeptFor trees (atom_form n) (atom_form t)
+  pub atom_stands : (n : ℕ) (t : Tree) → StandsAt trees n t → IsKeptFor trees (atom_form n) (atom_form t)
   atom_stands n t at =
       record {
         kept = record { parts = (omega arith, refl, λ (zero_one : pos 1 ≡ pos 0). absurd cc, tt); constant = refl };
@@ -84,7 +84,7 @@ module _ (trees : List Tree) (distinct : HaveOnePlace trees) where
           (cases_Bool (same_tree u t))
 
   -- a form that was computed, or an atom, stands for one
-  or_atom_stands : (n : ℕ) (t : Tree) (first : Outcome (Linear ℕ)) (second : Outcome (Linear Tree)) → StandsAt trees n t →
+  pub or_atom_stands : (n : ℕ) (t : Tree) (first : Outcome (Linear ℕ)) (second : Outcome (Linear Tree)) → StandsAt trees n t →
       IsOutcomeFor trees first second → IsKeptFor trees (or_atom n first) (or_atom t second)
   or_atom_stands n t (Fits f) (Fits g) at keeps = keeps
   or_atom_stands n t (Fits f) (Leaves o y z) at keeps = absurd keeps
@@ -157,7 +157,7 @@ module _ (trees : List Tree) (distinct : HaveOnePlace trees) where
 
   module _ (place : Tree → ℕ) where
     -- a literal
-    literal_stands : (z : ℤ) → StandsAt trees (place (Lit z)) (Lit z) → IsKeptFor trees (linear_by place (Lit z)) (linear_of (Lit z))
+    pub literal_stands : (z : ℤ) → StandsAt trees (place (Lit z)) (Lit z) → IsKeptFor trees (linear_by place (Lit z)) (linear_of (Lit z))
     literal_stands z at = by (fits_form z) refl
       where
         by : (b : Bool) → fits_form z ≡ b → IsKeptFor trees (if b then constant_form z else atom_form (place (Lit z)))

@@ -10,5 +10,6 @@ pub mod Moved
 pub mod Laws
 pub mod LinearLaws
 pub mod Standing
+pub mod FormsOfTerms
 pub mod Views
 pub mod Sides

@@ -12,6 +12,7 @@
 //!   later new value, and is added wherever the facts stand.
 //! - A linear form over numbers of terms stands for a form over the terms. So does what is computed
 //!   of it for what is computed of that, and both leave the range alike.
+//! - `lin_of` gives the linear form of a term of a table.
 //! - Where the facts of a branch hold, not every way in which it goes on after a line fails.
 //! - A fact is found on a branch by its number, with the terms that it compares, and takes no more
 //!   time on a longer branch. Terms of a table are compared by their numbers.
@@ -22,6 +23,7 @@
 mod fact;
 mod laws;
 mod line;
+mod linear;
 mod sides;
 mod theory;
 
@@ -36,6 +38,7 @@ pub use laws::{
     ways_are_below, ways_are_sorted, ways_move,
 };
 pub use line::{CertLine, FactNumbers};
+pub use linear::lin_of;
 pub use sides::{
     contrary_at, equation_at, fact_at, form_at, formula_at, same_term, says_equal, says_unequal,
 };
