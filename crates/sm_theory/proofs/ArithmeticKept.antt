@@ -106,7 +106,7 @@ module _ (P : Tree → Type 0) where
       by false e = absurd cc
 
 -- a term that is tested to be a number is one
-number_is : (sorts : Sorts) (t : Tree) → is_number sorts t ≡ true → tree_sort sorts t ≡ Num
+pub number_is : (sorts : Sorts) (t : Tree) → is_number sorts t ≡ true → tree_sort sorts t ≡ Num
 number_is sorts t e = (same_sort_is (tree_sort sorts t) Num).0 e
 
 -- a fine form is a sorted fact

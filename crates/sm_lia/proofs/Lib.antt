@@ -1,0 +1,2 @@
+pub mod ComputingLemmas
+pub mod ComparingLemmas

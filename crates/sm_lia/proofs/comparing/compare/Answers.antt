@@ -1,0 +1,16 @@
+-- Both are numbers.
+use Rattle.std.proofs.Common.{sym, ◌∙◌}
+use Rattle.sm_term.specs.Tables.{trees_in, sorts_in, tree_at}
+use Rattle.sm_theory.specs.LinearTerms.{linear_of}
+use Rattle.sm_lia.proofs.ComparingLemmas.{both_numbers}
+use Rattle.sm_lia.proofs.comparing.compare.Goals as goal
+
+pub returns : goal.returns
+returns c =
+    let trees = trees_in c.args.table.now in
+    let first = tree_at trees c.args.t.0 in
+    let second = tree_at trees c.args.u.0 in
+    both_numbers (sorts_in c.args.table.now) first second c.compare_forms.result
+    (sym c.is_number.ensures ∙ c.if-not-is_number.false)
+    (sym c.is_number-else-not-is_number.ensures ∙ c.if-not-is_number-2.false)
+    (c.compare_forms.ensures trees (linear_of first) (linear_of second) c.in_ok-f.ensures c.in_ok-g.ensures)

@@ -1,0 +1,11 @@
+-- Both sides are in the table.
+use Rattle.sm_num.specs.declared.kind.Kind.TheVariants as kind
+use Rattle.sm_term.specs.Tables.{trees_in, sorts_in, tree_at}
+use Rattle.sm_theory.specs.Arithmetic.{difference}
+use Rattle.sm_lia.proofs.subtracting.at_most_form.Goals as goal
+
+pub returns : goal.returns
+returns c = λ left right.
+    let trees = trees_in c.args.table.now in
+    c.fact_of.ensures (sorts_in c.args.table.now) trees (difference (tree_at trees c.args.t.0) (tree_at trees c.args.u.0) kind.Le)
+    c.difference.ensures

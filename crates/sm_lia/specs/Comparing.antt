@@ -1,0 +1,20 @@
+-- Private: how the linear forms of two terms compare.
+use Rattle.std.specs.Prelude.{◌&&◌, if◌then◌else◌}
+use Rattle.std.specs.Ordering.{int_eq}
+use Rattle.sm_syntax.specs.text.Sorts.{Sorts}
+use Rattle.sm_num.specs.Forms.{Linear}
+use Rattle.sm_term.specs.Terms.{Tree}
+use Rattle.sm_theory.specs.LinearTerms.{linear_of}
+use Rattle.sm_theory.specs.Arithmetic.{is_number, same_parts}
+use Rattle.sm_lia.specs.declared.comparing.Comparison.{Comparison}
+use Rattle.sm_lia.specs.declared.comparing.Comparison.TheVariants.{Equal, Unequal, Other}
+
+-- forms with the same parts are equal or unequal by their constants
+abbrev pub comparison : Linear Tree → Linear Tree → Comparison
+comparison f g =
+    if same_parts f g then (if int_eq f.constant g.constant then Equal else Unequal) else Other
+
+-- two terms that are numbers, by their forms
+abbrev pub comparison_of : Sorts → Tree → Tree → Comparison
+comparison_of sorts t u =
+    if is_number sorts t && is_number sorts u then comparison (linear_of t) (linear_of u) else Other
