@@ -1,0 +1,3 @@
+pub mod EquationsLemmas
+pub mod ArgumentsLemmas
+pub mod CongruenceLemmas
