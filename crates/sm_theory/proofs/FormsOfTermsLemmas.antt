@@ -1,9 +1,8 @@
 -- The form of a term is kept for what it should be where those of its parts are.
-use Rattle.std.proofs.Common.{◌≡◌, ◌⊎◌, ◌<◌, ℕ, zero, suc, ℤ, pos, negsuc, if◌then◌else◌}
-use Rattle.std.proofs.Common.{slice_get, get_or, length, Option, Some, List, [], ◌∷◌, ◌++◌, refl}
-use Rattle.std.proofs.Common.{sym, ap, subst, ◌∙◌, ⊎_elim, inl, inr}
-use Rattle.std.specs.Prelude.{unwrap_or}
-use Rattle.std.proofs.lemmas.Option.{get_or_from_slice_get, slice_get-get_or, slice_get_within, slice_get_read}
+use Rattle.std.proofs.Common.{◌≡◌, ◌<◌, ℕ, ℤ, pos, negsuc, if◌then◌else◌}
+use Rattle.std.proofs.Common.{length, List, refl}
+use Rattle.std.proofs.Common.{sym, subst, ◌∙◌}
+use Rattle.std.proofs.lemmas.Option.{get_or_from_slice_get, slice_get-get_or, slice_get_within}
 use Rattle.sm_num.specs.Range.{fits_form}
 use Rattle.sm_num.specs.declared.kind.Kind.TheVariants as kind
 use Rattle.sm_num.specs.Forms.{Linear}
@@ -18,7 +17,6 @@ use Rattle.sm_term.specs.Tables.{tree_at, tree_in}
 use Rattle.sm_term.specs.TableLaws.{AreApart}
 use Rattle.sm_theory.specs.LinearTerms.{constant_form, atom_form, or_atom, scaled_form, product_form, linear_of}
 use Rattle.sm_theory.specs.Standing.{StandsAt, HaveOnePlace, IsKeptFor}
-use Rattle.sm_theory.specs.FormsOfTerms.{AreFormsOf}
 use Rattle.sm_theory.proofs.LinearStanding.{combined_stands}
 use Rattle.sm_theory.proofs.LinearNumbers.{atom_stands, or_atom_stands, literal_stands, scaled_stands, product_stands}
 
@@ -31,38 +29,6 @@ pub one_place : (trees : List Tree) → AreApart trees → HaveOnePlace trees
 one_place trees apart i j t first second =
     apart i j (slice_get_within trees i t first) (slice_get_within trees j t second)
     (get_or_from_slice_get trees i t (Lit (pos 0)) first ∙ sym (get_or_from_slice_get trees j t (Lit (pos 0)) second))
-
--- a form among these is kept for that of its term
-pub part_kept : (trees : List Tree) (forms : List (Linear ℕ)) (n : ℕ) (f : Linear ℕ) → AreFormsOf trees forms → n < length forms →
-    f ≡ get_or forms n f → IsKeptFor trees f (linear_of (tree_at trees n))
-part_kept trees forms n f kept h is = kept n f (slice_get_read forms (length forms) n f refl h is)
-
--- no forms
-pub no_forms : (trees : List Tree) → AreFormsOf trees []
-no_forms trees n f e = absurd cc
-
--- what stands among forms with one more behind them
-last_or_before : (forms : List (Linear ℕ)) (f : Linear ℕ) (n : ℕ) (g : Linear ℕ) → slice_get (forms ++ f ∷ []) n ≡ Some g →
-    (slice_get forms n ≡ Some g) ⊎ ((n ≡ length forms) × (g ≡ f))
-last_or_before [] f zero g e = inr (refl, sym (ap (λ (o : Option (Linear ℕ)). unwrap_or o f) e))
-last_or_before [] f (suc n) g e = absurd cc
-last_or_before (h ∷ hs) f zero g e = inl e
-last_or_before (h ∷ hs) f (suc n) g e =
-    ⊎_elim
-    (λ (there : slice_get hs n ≡ Some g). inl there)
-    (λ (last : (n ≡ length hs) × (g ≡ f)). inr (ap suc last.0, last.1))
-    (last_or_before hs f n g e)
-
--- a form goes last
-pub one_more_form : (trees : List Tree) (forms : List (Linear ℕ)) (f : Linear ℕ) → AreFormsOf trees forms →
-    IsKeptFor trees f (linear_of (tree_at trees (length forms))) → AreFormsOf trees (forms ++ f ∷ [])
-one_more_form trees forms f kept last n g e =
-    ⊎_elim
-    (λ (there : slice_get forms n ≡ Some g). kept n g there)
-    (λ (new : (n ≡ length forms) × (g ≡ f)).
-    subst (λ (m : ℕ). IsKeptFor trees g (linear_of (tree_at trees m))) (sym new.0)
-    (subst (λ (h : Linear ℕ). IsKeptFor trees h (linear_of (tree_at trees (length forms)))) (sym new.1) last))
-    (last_or_before forms f n g e)
 
 -- a term that is no number and no operation on numbers is one atom
 pub is_atom : (codes : List Code) (trees : List Tree) (term : Term) →

@@ -20,3 +20,4 @@ pub mod ArithmeticCases
 pub mod LinearLater
 pub mod SidesLemmas
 pub mod FormsOfTermsLemmas
+pub mod WalkLemmas

@@ -1,6 +1,7 @@
 // Linear forms of terms, whose atoms are numbers of terms.
-ghost use Rattle.std.specs.Prelude.{◌≡◌, ◌<◌, ◌≤◌, ℕ, pos, negsuc, length, IsTrue};
-ghost use Rattle.std.specs.Prelude.{if◌then◌else◌, IfOk};
+ghost use Rattle.std.specs.Prelude.{◌≡◌, ◌<◌, ℕ, pos, negsuc, length, IsTrue};
+ghost use Rattle.std.specs.Prelude.{if◌then◌else◌, ◌⊎◌, nat_eq, Some, None, IfOk, IfErr};
+ghost use Rattle.std.specs.HashMap.{get};
 ghost use Rattle.sm_num.specs.declared.kind.Kind.TheVariants.{Eq};
 ghost use Rattle.sm_num.specs.Forms.{Linear};
 ghost use Rattle.sm_num.specs.Range.{fits_form};
@@ -10,11 +11,12 @@ ghost use Rattle.sm_term.specs.Tables.{trees_in, tree_at};
 ghost use Rattle.sm_theory.specs.LinearTerms.{linear_of, constant_form, atom_form, or_atom};
 ghost use Rattle.sm_theory.specs.LinearTerms.{scaled_form, product_form};
 ghost use Rattle.sm_theory.specs.Standing.{IsKeptFor};
-ghost use Rattle.sm_theory.specs.FormsOfTerms.{AreFormsOf};
+ghost use Rattle.sm_theory.specs.FormsOfTerms.{AreFormsOf, IsFound};
 
 use sm_num::{Kind, LinForm, NumError, combine};
 use sm_term::{Term, TermId, TermTable};
 use std::alloc::{AllocError, Global};
+use std::collections::HashMap;
 
 // One atom.
 fn atom(alloc: Global, n: u64) -> Result<LinForm, AllocError>
@@ -100,42 +102,89 @@ fn product(alloc: Global, n: u64, f: &LinForm, g: &LinForm) -> Result<LinForm, A
     }
 }
 
-// The form of a term, from those of all terms before it.
+// The form of a term, or a part of it whose form isn't there yet.
+#[derive(Debug, Drop)]
+pub(crate) enum Found {
+    Form(LinForm),
+    Part(u64),
+}
+
+// The form of a term, from those of its parts, or the first part that has none.
 fn form_of(
     alloc: Global,
     table: &TermTable,
-    forms: &[LinForm],
+    forms: &HashMap<u64, LinForm>,
     t: TermId,
-) -> Result<LinForm, AllocError>
+) -> Result<Found, AllocError>
     requires within { t.0 < length (trees_in table.now) }
-    requires before { t.0 ≤ length forms.now }
-    requires forms { AreFormsOf (trees_in table.now) forms.now }
-    ensures { IfOk result (λ f.
-        IsKeptFor (trees_in table.now) f (linear_of (tree_at (trees_in table.now) t.0))) }
+    requires forms { AreFormsOf (trees_in table.now) (get nat_eq forms.now) }
+    ensures { IfOk result (λ found.
+        IsFound (trees_in table.now) (get nat_eq forms.now) t.0 found) }
 {
     // No term is there twice.
     let _count = table.len();
     match table.get(t) {
-        Term::Lit(z) => literal(alloc, t.0, z),
-        Term::Neg(a) => multiple(alloc, t.0, &-1, &forms[a.0 as usize]),
-        Term::Add(a, b) => sum(alloc, t.0, &forms[a.0 as usize], &forms[b.0 as usize]),
-        Term::Sub(a, b) => difference(alloc, t.0, &forms[a.0 as usize], &forms[b.0 as usize]),
-        Term::Mul(a, b) => product(alloc, t.0, &forms[a.0 as usize], &forms[b.0 as usize]),
-        _ => atom(alloc, t.0),
+        Term::Lit(z) => Ok(Found::Form(literal(alloc, t.0, z)?)),
+        Term::Neg(a) => match forms.get(&a.0) {
+            Some(f) => Ok(Found::Form(multiple(alloc, t.0, &-1, f)?)),
+            None => Ok(Found::Part(a.0)),
+        },
+        Term::Add(a, b) => match parts(forms, *a, *b) {
+            Ok((f, g)) => Ok(Found::Form(sum(alloc, t.0, f, g)?)),
+            Err(p) => Ok(Found::Part(p)),
+        },
+        Term::Sub(a, b) => match parts(forms, *a, *b) {
+            Ok((f, g)) => Ok(Found::Form(difference(alloc, t.0, f, g)?)),
+            Err(p) => Ok(Found::Part(p)),
+        },
+        Term::Mul(a, b) => match parts(forms, *a, *b) {
+            Ok((f, g)) => Ok(Found::Form(product(alloc, t.0, f, g)?)),
+            Err(p) => Ok(Found::Part(p)),
+        },
+        _ => Ok(Found::Form(atom(alloc, t.0)?)),
+    }
+}
+
+// The forms of two terms, or the first term that has none.
+fn parts(forms: &HashMap<u64, LinForm>, t: TermId, u: TermId) -> Result<(&LinForm, &LinForm), u64>
+    ensures ok { IfOk result (λ p. (get nat_eq forms.now t.0 ≡ Some p.0.now)
+        × (get nat_eq forms.now u.0 ≡ Some p.1.now)) }
+    ensures err { IfErr result (λ n. ((n ≡ t.0) ⊎ (n ≡ u.0)) × (get nat_eq forms.now n ≡ None)) }
+{
+    match forms.get(&t.0) {
+        Some(f) => match forms.get(&u.0) {
+            Some(g) => Ok((f, g)),
+            None => Err(u.0),
+        },
+        None => Err(t.0),
     }
 }
 
 /// The linear form of a term: operations go part by part, every other term is an atom, and so is
-/// one where an operation leaves the range of forms. An atom's number is that of the term.
+/// one where an operation leaves the range of forms. An atom's number is that of the term. The form
+/// of each term under it is computed once.
 pub fn lin_of(alloc: Global, table: &TermTable, t: TermId) -> Result<LinForm, AllocError>
     requires { t.0 < length (trees_in table.now) }
     ensures { IfOk result (λ f.
         IsKeptFor (trees_in table.now) f (linear_of (tree_at (trees_in table.now) t.0))) }
 {
-    let mut forms = Vec::new(alloc);
-    for n in 0..t.0 {
-        let form = form_of(alloc, table, &forms, TermId(n))?;
-        forms.push(form)?;
+    let mut forms = HashMap::new(alloc);
+    // terms that wait for the form of a part, each a part of the one before it
+    let mut waiting = Vec::new(alloc);
+    let mut next = t.0;
+    'walk: loop {
+        match form_of(alloc, table, &forms, TermId(next))? {
+            Found::Part(p) => {
+                waiting.push(next)?;
+                next = p;
+            }
+            Found::Form(form) => match waiting.pop() {
+                Some(n) => {
+                    forms.insert(next, form)?;
+                    next = n;
+                }
+                None => return Ok(form),
+            },
+        }
     }
-    form_of(alloc, table, &forms, t)
 }

@@ -1,11 +1,17 @@
--- The forms of the terms before the next.
-use Rattle.std.proofs.Common.{◌≡◌, length}
+-- The way down from the term, and the forms that are there.
+use Rattle.std.proofs.Common.{◌≡◌, ◌+◌, ◌*◌, None, nat_eq}
+use Rattle.std.specs.HashMap.{get}
 use Rattle.sm_term.specs.Tables.{trees_in}
-use Rattle.sm_theory.specs.FormsOfTerms.{AreFormsOf}
+use Rattle.sm_theory.specs.FormsOfTerms.{AreFormsOf, IsWay, AreOpen, missing_below}
 use Rattle.sm_theory.proofs.linear.lin_of.Given as goal
 
-abbrev pub invariant-loop-n : goal.invariant-loop-n
-invariant-loop-n l = record {
-  count : length l.forms.items ≡ l.n;
-  kept : AreFormsOf (trees_in l.table) l.forms.items;
+abbrev pub invariant-walk : goal.invariant-walk
+invariant-walk l = record {
+  kept : AreFormsOf (trees_in l.table) (get nat_eq l.forms);
+  way : IsWay l.fn.t.0 l.waiting.items l.next;
+  unmade : AreOpen (get nat_eq l.forms) l.waiting.items;
+  last : get nat_eq l.forms l.next ≡ None;
 }
+
+abbrev pub decreases-walk : goal.decreases-walk
+decreases-walk l = missing_below (get nat_eq l.forms) (l.fn.t.0 + 1) * (l.fn.t.0 + 1) + l.next
