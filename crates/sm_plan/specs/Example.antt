@@ -27,8 +27,8 @@ abbrev pub x : ℕ
 x = 2
 
 -- x = x + z
-abbrev pub adds : ℕ → Code
-adds z = Assign x (Plus (Var x) (syntax.Lit (pos z))) End
+abbrev pub increments : ℕ → Code
+increments z = Assign x (Plus (Var x) (syntax.Lit (pos z))) End
 
 -- the loop with code at its hole
 abbrev pub loop_with : Code → Code
@@ -40,7 +40,7 @@ example_task = record {
   assumed = None;
   outputs = (x, Num) ∷ [];
   shared = loop_with (Hole 1 (Assign i (Plus (Var i) (syntax.Lit (pos 1))) End));
-  fillings = by_copy ((1, adds 1) ∷ []) ((1, adds 2) ∷ []) ((1, adds 1) ∷ []) ((1, adds 2) ∷ []);
+  fillings = by_copy ((1, increments 1) ∷ []) ((1, increments 2) ∷ []) ((1, increments 1) ∷ []) ((1, increments 2) ∷ []);
 }
 
 -- A and the candidate
