@@ -24,7 +24,7 @@ use Rattle.sm_theory.proofs.LinearLater.{same_parts_stand}
 use Rattle.sm_theory.proofs.ArithmeticKept.{number_is}
 use Rattle.sm_lia.specs.declared.comparing.Comparison.{Comparison}
 use Rattle.sm_lia.specs.declared.comparing.Comparison.TheVariants.{Equal, Unequal, Other}
-use Rattle.sm_lia.specs.Comparing.{comparison, comparison_of}
+use Rattle.sm_lia.specs.Comparing.{form_comparison, term_comparison}
 
 -- a comparison by the answers to its tests
 abbrev how : Bool → Bool → Bool → Bool → Comparison
@@ -72,7 +72,7 @@ module _ (sorts : Sorts) (trees : List Tree) (t u : TermId) where
   parts = same_parts (linear_of first) (linear_of second)
 
   -- what is added where they are equal
-  pub equal_made : t.0 < length trees → u.0 < length trees → comparison_of sorts first second ≡ Equal →
+  pub equal_made : t.0 < length trees → u.0 < length trees → term_comparison sorts first second ≡ Equal →
       StandsIf sorts trees (Some (fact.Form (formula.Eq t u))) (formula_if (compared sorts first second int_eq) (Eq Num first second))
   equal_made v w h =
       let p = equal_passes (is_number sorts first) (is_number sorts second) parts equal h in
@@ -80,14 +80,14 @@ module _ (sorts : Sorts) (trees : List Tree) (t u : TermId) where
       ((v, w), ap (λ (s : Sort). Eq s first second) (number_is sorts first p.0))
 
   -- nothing is added where they aren't
-  pub equal_none : (comparison_of sorts first second ≡ Equal → ⊥) →
+  pub equal_none : (term_comparison sorts first second ≡ Equal → ⊥) →
       StandsIf sorts trees None (formula_if (compared sorts first second int_eq) (Eq Num first second))
   equal_none h =
       subst (λ (b : Bool). StandsIf sorts trees None (formula_if b (Eq Num first second)))
       (sym (else_fails (is_number sorts first) (is_number sorts second) parts equal h)) tt
 
   -- what is added where the constants alone differ
-  pub unequal_made : t.0 < length trees → u.0 < length trees → comparison_of sorts first second ≡ Unequal →
+  pub unequal_made : t.0 < length trees → u.0 < length trees → term_comparison sorts first second ≡ Unequal →
       StandsIf sorts trees (Some (fact.Form (formula.Ne t u)))
       (formula_if (compared sorts first second (λ (y z : ℤ). not (int_eq y z))) (Ne Num first second))
   unequal_made v w h =
@@ -96,7 +96,7 @@ module _ (sorts : Sorts) (trees : List Tree) (t u : TermId) where
       ((v, w), ap (λ (s : Sort). Ne s first second) (number_is sorts first p.0))
 
   -- nothing is added where they don't
-  pub unequal_none : (comparison_of sorts first second ≡ Unequal → ⊥) →
+  pub unequal_none : (term_comparison sorts first second ≡ Unequal → ⊥) →
       StandsIf sorts trees None (formula_if (compared sorts first second (λ (y z : ℤ). not (int_eq y z))) (Ne Num first second))
   unequal_none h =
       subst (λ (b : Bool). StandsIf sorts trees None (formula_if b (Ne Num first second)))
@@ -129,12 +129,12 @@ module _ (trees : List Tree) (f g : Linear ℕ) (h i : Linear Tree) (first : IsK
       (cases_Bool (same_parts h i))
 
   -- other parts
-  pub compare_other : (f.parts ≡ g.parts → ⊥) → Other ≡ comparison h i
+  pub compare_other : (f.parts ≡ g.parts → ⊥) → Other ≡ form_comparison h i
   compare_other e =
       ap (λ (b : Bool). if b then (if int_eq h.constant i.constant then Equal else Unequal) else Other) (sym (parts_unequal e))
 
   -- one list of parts, and one constant
-  pub compare_equal : f.parts ≡ g.parts → f.constant ≡ g.constant → Equal ≡ comparison h i
+  pub compare_equal : f.parts ≡ g.parts → f.constant ≡ g.constant → Equal ≡ form_comparison h i
   compare_equal e c =
       let constants : h.constant ≡ i.constant = sym first.stands.constant ∙ c ∙ second.stands.constant in
       ap (λ (b : Bool). if b then Equal else Unequal) (sym (equal_told constants))
@@ -144,7 +144,7 @@ module _ (trees : List Tree) (f g : Linear ℕ) (h i : Linear Tree) (first : IsK
       equal_told d = (Decides-int_eq h.constant i.constant).1 d
 
   -- one list of parts, and another constant
-  pub compare_unequal : f.parts ≡ g.parts → (f.constant ≡ g.constant → ⊥) → Unequal ≡ comparison h i
+  pub compare_unequal : f.parts ≡ g.parts → (f.constant ≡ g.constant → ⊥) → Unequal ≡ form_comparison h i
   compare_unequal e c =
       ap (λ (b : Bool). if b then Equal else Unequal) (sym other)
       ∙ ap (λ (b : Bool). if b then (if int_eq h.constant i.constant then Equal else Unequal) else Other) (sym (parts_equal e))
@@ -161,7 +161,7 @@ module _ (trees : List Tree) (f g : Linear ℕ) (h i : Linear Tree) (first : IsK
 
 -- two numbers compare as their forms do
 pub both_numbers : (sorts : Sorts) (t u : Tree) (c : Comparison) → is_number sorts t ≡ true → is_number sorts u ≡ true →
-    c ≡ comparison (linear_of t) (linear_of u) → c ≡ comparison_of sorts t u
+    c ≡ form_comparison (linear_of t) (linear_of u) → c ≡ term_comparison sorts t u
 both_numbers sorts t u c one other e =
-    e ∙ ap (λ (b : Bool). if b then comparison (linear_of t) (linear_of u) else Other)
+    e ∙ ap (λ (b : Bool). if b then form_comparison (linear_of t) (linear_of u) else Other)
     (sym (ap (λ (b : Bool). b && is_number sorts u) one ∙ other))

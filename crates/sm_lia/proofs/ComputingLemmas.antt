@@ -19,6 +19,7 @@ use Rattle.sm_theory.specs.Standing.{IsKeptFor, IsOutcomeFor}
 use Rattle.sm_theory.specs.Facts.{Known}
 use Rattle.sm_theory.specs.Lines.{followed}
 use Rattle.sm_theory.specs.Sides.{OptionStands}
+use Rattle.sm_theory.proofs.LinearLater.{one_more_stands}
 use Rattle.sm_lia.specs.Computing.{ReturnsFor}
 
 -- the form that fits, or another where none does
@@ -67,6 +68,13 @@ combined_one f kept =
     ∙ ap (λ (a : Outcome ℤ). formed (Fits f.parts)
     (then_with a (λ (a : ℤ). then_with (computed op.Mul (pos 1) (pos 1)) (λ (b : ℤ). computed op.Add a b))) f.kind)
     (computed_once f.constant kept.constant)
+
+-- 1 more of what was computed
+pub then_one_more : (trees : List Tree) (p : Outcome (Linear Tree)) (f : Linear ℕ) (r : Result (Linear ℕ) NumError) →
+    ReturnsFor trees p (Ok f) → (IsKept f → Returns (one_more f) r) → ReturnsFor trees (then_with p one_more) r
+then_one_more trees (Fits g) f r keeps returns =
+    returned_for trees (one_more f) (one_more g) r (one_more_stands trees f g keeps) (returns keeps.kept)
+then_one_more trees (Leaves o y z) f r keeps returns = absurd keeps
 
 -- what follows a form that stands for another
 pub followed_form : (trees : List Tree) (f : Linear ℕ) (o : Option (Linear Tree)) (next : Linear Tree → Option Known)

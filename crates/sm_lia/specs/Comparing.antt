@@ -9,12 +9,13 @@ use Rattle.sm_theory.specs.Arithmetic.{is_number, same_parts}
 use Rattle.sm_lia.specs.declared.comparing.Comparison.{Comparison}
 use Rattle.sm_lia.specs.declared.comparing.Comparison.TheVariants.{Equal, Unequal, Other}
 
--- forms with the same parts are equal or unequal by their constants
-abbrev pub comparison : Linear Tree → Linear Tree → Comparison
-comparison f g =
+-- how two forms compare: those with the same parts by their constants
+abbrev pub form_comparison : Linear Tree → Linear Tree → Comparison
+form_comparison f g =
     if same_parts f g then (if int_eq f.constant g.constant then Equal else Unequal) else Other
 
--- two terms that are numbers, by their forms
-abbrev pub comparison_of : Sorts → Tree → Tree → Comparison
-comparison_of sorts t u =
-    if is_number sorts t && is_number sorts u then comparison (linear_of t) (linear_of u) else Other
+-- how two terms compare, which are numbers, by their forms
+abbrev pub term_comparison : Sorts → Tree → Tree → Comparison
+term_comparison sorts t u =
+    if is_number sorts t && is_number sorts u
+    then form_comparison (linear_of t) (linear_of u) else Other

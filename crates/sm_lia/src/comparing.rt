@@ -10,7 +10,7 @@ ghost use Rattle.sm_theory.specs.Equality.{formula_if};
 ghost use Rattle.sm_theory.specs.Arithmetic.{is_number, compared};
 ghost use Rattle.sm_theory.specs.Standing.{IsKeptFor};
 ghost use Rattle.sm_theory.specs.Views.{StandsIf};
-ghost use Rattle.sm_lia.specs.Comparing.{comparison, comparison_of};
+ghost use Rattle.sm_lia.specs.Comparing.{form_comparison, term_comparison};
 
 use sm_num::LinForm;
 use sm_syntax::Sort;
@@ -75,7 +75,7 @@ fn compare(alloc: Global, table: &TermTable, t: TermId, u: TermId) -> Result<Com
     requires right { u.0 < length (trees_in table.now) }
     ensures { let trees = trees_in table.now in
         IfOk result (λ how.
-        how ≡ comparison_of (sorts_in table.now) (tree_at trees t.0) (tree_at trees u.0)) }
+        how ≡ term_comparison (sorts_in table.now) (tree_at trees t.0) (tree_at trees u.0)) }
 {
     if !is_number(table, t) || !is_number(table, u) {
         return Ok(Comparison::Other);
@@ -96,7 +96,7 @@ pub(crate) fn is_number(table: &TermTable, t: TermId) -> bool
 // How two forms compare.
 fn compare_forms(f: &LinForm, g: &LinForm) -> Comparison
     ensures { (trees : List Tree) (h i : Linear Tree) → IsKeptFor trees f.now h →
-        IsKeptFor trees g.now i → result ≡ comparison h i }
+        IsKeptFor trees g.now i → result ≡ form_comparison h i }
 {
     if !have_same_parts(f, g) {
         Comparison::Other

@@ -1,8 +1,10 @@
 //! The lines of certificates that are of linear arithmetic over whole numbers.
 //!
-//! - `Lia` answers `same`, `apart`, `lin`, `elim` and `tight`: the fact that the line adds, or None
-//!   where its condition fails or a number leaves the range of linear forms. What it adds holds
-//!   wherever the branch does. Every other line is none of its own.
+//! - `Lia` answers exactly `same`, `apart`, `lin`, `elim` and `tight`, each with the fact that it
+//!   adds. Where the line's condition fails or a number leaves the range of linear forms, and for
+//!   each other line, it answers none.
+//! - What it adds holds wherever the facts of the branch do, is sorted where they and the line are,
+//!   names no later new value than they, and is added on each other branch on which they stand.
 //!
 //! The lines are defined in `specs/Arithmetic.antt` of `sm_theory`, over terms. Read
 //! `specs/Computing.antt` first, then `specs/Comparing.antt`.

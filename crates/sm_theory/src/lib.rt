@@ -1,23 +1,18 @@
 //! Lines of certificates: what each derives from the facts of a branch, in the theories of equality,
 //! of arrays and of linear arithmetic over whole numbers.
 //!
-//! So far the crate has the definitions and laws of them; each law is the contract of a function
-//! that does nothing.
+//! - `ways` is what a line does to a branch, as one function: the ways in which the branch goes on.
+//!   Where the facts of a branch hold, not every way fails.
+//! - What a line of equality, of arrays or of arithmetic adds holds wherever the facts of the branch
+//!   do. It is sorted where these and the line are, names no later new values than they, and is
+//!   added on each other branch on which the facts stand.
+//! - `Theory` is what a theory promises of its lines, whoever writes it.
+//! - `lin_of` gives the linear form of a term of a table, which has the term's value. A form over
+//!   numbers of terms stands for one over the terms, and so does what is computed of it.
+//! - A fact is found on a branch by its number, with the terms that it compares.
 //!
-//! - What a line of equality or of arrays adds holds wherever the facts of the branch do. It is
-//!   sorted where these and the line are, and names no later new values than they.
-//! - Another branch on which the facts stand, under other numbers, gives it too.
-//! - The linear form of a term has the term's value.
-//! - What a line of arithmetic adds holds wherever the facts do, is sorted where they are, names no
-//!   later new value, and is added wherever the facts stand.
-//! - A linear form over numbers of terms stands for a form over the terms. So does what is computed
-//!   of it for what is computed of that, and both leave the range alike.
-//! - `lin_of` gives the linear form of a term of a table.
-//! - Where the facts of a branch hold, not every way in which it goes on after a line fails.
-//! - A fact is found on a branch by its number, with the terms that it compares, and takes no more
-//!   time on a longer branch. Terms of a table are compared by their numbers.
-//!
-//! Read `specs/Facts.antt` first, then `specs/Lines.antt` and `specs/Laws.antt`.
+//! Read `specs/Facts.antt` first, then `specs/Lines.antt`, `specs/Ways.antt` and `specs/Laws.antt`.
+//! `specs/Equality.antt`, `specs/Elements.antt` and `specs/Arithmetic.antt` have the lines.
 #![tactic(auto)]
 
 mod fact;
