@@ -1,16 +1,16 @@
 -- A certificate closes each other branch on which the facts of its own stand.
-use Rattle.std.proofs.Common.{◌≡◌, ◌⊎◌, ◌<◌, ℕ, zero, suc, ◌+◌, ◌-◌, max, Bool, true, false, nat_lt, if◌then◌else◌, slice_get, Option, Some, None, List, [], ◌∷◌, ◌++◌, length, inl, inr, refl, ap, sym, ◌∙◌, subst, arith}
+use Rattle.std.proofs.Common.{◌≡◌, ◌⊎◌, ◌<◌, ℕ, zero, suc, ◌+◌, ◌-◌, Bool, true, false, nat_lt, if◌then◌else◌, slice_get, Option, Some, None, List, [], ◌∷◌, ◌++◌, length, inl, inr, refl, ap, sym, ◌∙◌, subst, arith}
 use Rattle.std.proofs.lemmas.Option.{slice_get_within}
 use Rattle.std.proofs.lemmas.List.{length-append}
 use Rattle.std.proofs.lemmas.Bool.{ltb-true, lt-ltb}
 use Rattle.sm_syntax.specs.text.Sorts.{Sorts}
-use Rattle.sm_theory.specs.Facts.{Known}
+use Rattle.sm_theory.specs.Facts.{BranchFact}
 use Rattle.sm_theory.specs.Lines.{CertificateLine}
-use Rattle.sm_theory.specs.Equality.{or_else}
+use Rattle.sm_theory.specs.Equality.{or_other}
 use Rattle.sm_theory.specs.Ways.{Ways, ways_with}
 use Rattle.sm_theory.specs.Moved.{moved_line, StandAmong}
 use Rattle.sm_theory.proofs.WaysLemmas.{ways_with_move}
-use Rattle.sm_cert.specs.Certificates.{Certificate, Next, Closed, Split, lines_in, splits_above, in_one_way, in_no_way, in_two_ways, Theories, first_bad, Refused, TooManySplits, bad_line, refused}
+use Rattle.sm_cert.specs.Certificates.{Certificate, Next, Closed, Split, lines_in, splits_above, in_one_way, in_no_way, in_two_ways, Theories, first_bad, TooManySplits, bad_line, refused}
 use Rattle.sm_cert.specs.MovedTrees.{moved_certificate, moved_past}
 
 -- an element of the first of two lists
@@ -38,28 +38,28 @@ in_either (y ∷ xs) ys (suc n) x e = of (in_either xs ys n x e)
     of (inr h) = inr (h.0, (let same = h.1 in omega arith), h.2)
 
 -- numbers move so that facts stand on the other branch, and those after them after its facts
-pub record MovesPast (move : ℕ → ℕ) (facts others : List Known) : Type 0 where
+pub record MovesPast (move : ℕ → ℕ) (facts others : List BranchFact) : Type 0 where
   pub stand : StandAmong move facts others
   pub past : (j : ℕ) → move (length facts + j) ≡ length others + j
 
 -- more facts on both branches
-later_facts : (move : ℕ → ℕ) (facts others way : List Known) → MovesPast move facts others → MovesPast move (facts ++ way) (others ++ way)
+later_facts : (move : ℕ → ℕ) (facts others way : List BranchFact) → MovesPast move facts others → MovesPast move (facts ++ way) (others ++ way)
 later_facts move facts others way moves = record {
-  stand = λ (n : ℕ) (k : Known) (e : slice_get (facts ++ way) n ≡ Some k). of n k (in_either facts way n k e);
+  stand = λ (n : ℕ) (k : BranchFact) (e : slice_get (facts ++ way) n ≡ Some k). of n k (in_either facts way n k e);
   past = λ (j : ℕ).
       let all : length (facts ++ way) + j ≡ length facts + (length way + j) = let l = length-append facts way in omega arith in
       let there : length others + (length way + j) ≡ length (others ++ way) + j = let l = length-append others way in omega arith in
       ap move all ∙ moves.past (length way + j) ∙ there;
 }
   where
-    of : (n : ℕ) (k : Known) → (slice_get facts n ≡ Some k) ⊎ ((j : ℕ) × (n ≡ length facts + j) × (slice_get way j ≡ Some k)) → slice_get (others ++ way) (move n) ≡ Some k
+    of : (n : ℕ) (k : BranchFact) → (slice_get facts n ≡ Some k) ⊎ ((j : ℕ) × (n ≡ length facts + j) × (slice_get way j ≡ Some k)) → slice_get (others ++ way) (move n) ≡ Some k
     of n k (inl h) = in_first others way (move n) k (moves.stand n k h)
     of n k (inr h) = ap (λ (i : ℕ). slice_get (others ++ way) i) (ap move h.1 ∙ moves.past h.0) ∙ in_second others way h.0 ∙ h.2
 
 -- the facts of the branch, and those after them
-pub moves_past : (move : ℕ → ℕ) (facts others : List Known) → StandAmong move facts others → MovesPast (moved_past move (length facts) (length others)) facts others
+pub moves_past : (move : ℕ → ℕ) (facts others : List BranchFact) → StandAmong move facts others → MovesPast (moved_past move (length facts) (length others)) facts others
 moves_past move facts others stand = record {
-  stand = λ (n : ℕ) (k : Known) (e : slice_get facts n ≡ Some k).
+  stand = λ (n : ℕ) (k : BranchFact) (e : slice_get facts n ≡ Some k).
       let within : n < length facts = slice_get_within facts n k e in
       ap (λ (i : ℕ). slice_get others i) (chosen true (nat_lt n (length facts)) n refl (lt-ltb n (length facts) within)) ∙ stand n k e;
   past = λ (j : ℕ). later (nat_lt (length facts + j) (length facts)) j refl;
@@ -74,22 +74,22 @@ moves_past move facts others stand = record {
     later false j h = let same : (length facts + j) - length facts ≡ j = omega arith in ap (λ (i : ℕ). length others + i) same
 
 -- a line that goes on in one way does so on the other branch
-one_moves : (v w : Ways) (n m : ℕ) (next after : List Known → Option ℕ) → ((to : List (List Known)) → v ≡ Some to → w ≡ Some to) →
-    ((way : List Known) → next way ≡ None → after way ≡ None) → in_one_way v n next ≡ None → in_one_way w m after ≡ None
+one_moves : (v w : Ways) (n m : ℕ) (next after : List BranchFact → Option ℕ) → ((to : List (List BranchFact)) → v ≡ Some to → w ≡ Some to) →
+    ((way : List BranchFact) → next way ≡ None → after way ≡ None) → in_one_way v n next ≡ None → in_one_way w m after ≡ None
 one_moves None w n m next after same later e = absurd cc
 one_moves (Some []) w n m next after same later e = absurd cc
 one_moves (Some (way ∷ [])) w n m next after same later e = subst (λ (u : Ways). in_one_way u m after ≡ None) (sym (same (way ∷ []) refl)) (later way e)
 one_moves (Some (way ∷ other ∷ rest)) w n m next after same later e = absurd cc
 
 -- one that closes the branch
-none_moves : (v w : Ways) (n m : ℕ) → ((to : List (List Known)) → v ≡ Some to → w ≡ Some to) → in_no_way v n ≡ None → in_no_way w m ≡ None
+none_moves : (v w : Ways) (n m : ℕ) → ((to : List (List BranchFact)) → v ≡ Some to → w ≡ Some to) → in_no_way v n ≡ None → in_no_way w m ≡ None
 none_moves None w n m same e = absurd cc
 none_moves (Some []) w n m same e = subst (λ (u : Ways). in_no_way u m ≡ None) (sym (same [] refl)) refl
 none_moves (Some (way ∷ rest)) w n m same e = absurd cc
 
 -- one that splits it
-two_move : (v w : Ways) (n m : ℕ) (next after : List Known → List Known → Option ℕ) → ((to : List (List Known)) → v ≡ Some to → w ≡ Some to) →
-    ((way other : List Known) → next way other ≡ None → after way other ≡ None) → in_two_ways v n next ≡ None → in_two_ways w m after ≡ None
+two_move : (v w : Ways) (n m : ℕ) (next after : List BranchFact → List BranchFact → Option ℕ) → ((to : List (List BranchFact)) → v ≡ Some to → w ≡ Some to) →
+    ((way other : List BranchFact) → next way other ≡ None → after way other ≡ None) → in_two_ways v n next ≡ None → in_two_ways w m after ≡ None
 two_move None w n m next after same later e = absurd cc
 two_move (Some []) w n m next after same later e = absurd cc
 two_move (Some (way ∷ [])) w n m next after same later e = absurd cc
@@ -112,54 +112,54 @@ splits_same move (Split line c d) = let p = splits_same move c in let q = splits
 -- what theories add they add on each other branch on which the facts stand
 abbrev pub AddAnywhere : Theories → Type 0
 AddAnywhere added =
-    (move : ℕ → ℕ) (facts others : List Known) (line : CertificateLine) (k : Known) → StandAmong move facts others → added facts line ≡ Some k → added others (moved_line move line) ≡ Some k
+    (move : ℕ → ℕ) (facts others : List BranchFact) (line : CertificateLine) (k : BranchFact) → StandAmong move facts others → added facts line ≡ Some k → added others (moved_line move line) ≡ Some k
 
 -- no line of two parts is bad
-both_none : (o p : Option ℕ) → o ≡ None → p ≡ None → or_else o p ≡ None
+both_none : (o p : Option ℕ) → o ≡ None → p ≡ None → or_other o p ≡ None
 both_none None p e f = f
 both_none (Some n) p e f = absurd cc
 
 -- the parts have no bad line
-parts_none : (o p : Option ℕ) → or_else o p ≡ None → (o ≡ None) × (p ≡ None)
+parts_none : (o p : Option ℕ) → or_other o p ≡ None → (o ≡ None) × (p ≡ None)
 parts_none None p e = (refl, e)
 parts_none (Some n) p e = absurd cc
 
 -- a certificate without a bad line has none on the other branch
-pub first_moves : (sorts : Sorts) (added : Theories) (move : ℕ → ℕ) (facts others : List Known) (n m : ℕ) (c : Certificate) → AddAnywhere added → MovesPast move facts others →
+pub first_moves : (sorts : Sorts) (added : Theories) (move : ℕ → ℕ) (facts others : List BranchFact) (n m : ℕ) (c : Certificate) → AddAnywhere added → MovesPast move facts others →
     first_bad added sorts facts n c ≡ None → first_bad added sorts others m (moved_certificate move c) ≡ None
 first_moves sorts added move facts others n m (Next line c) anywhere moves e =
     let v = ways_with sorts facts (added facts line) line in
     let w = ways_with sorts others (added others (moved_line move line)) (moved_line move line) in
-    let next = λ (way : List Known). first_bad added sorts (facts ++ way) (suc n) c in
-    let after = λ (way : List Known). first_bad added sorts (others ++ way) (suc m) (moved_certificate move c) in
+    let next = λ (way : List BranchFact). first_bad added sorts (facts ++ way) (suc n) c in
+    let after = λ (way : List BranchFact). first_bad added sorts (others ++ way) (suc m) (moved_certificate move c) in
     one_moves v w n m next after
-    (λ (to : List (List Known)) (h : v ≡ Some to).
-    ways_with_move sorts move facts others (added facts line) (added others (moved_line move line)) line to moves.stand (λ (k : Known) (g : added facts line ≡ Some k). anywhere move facts others line k moves.stand g) h)
-    (λ (way : List Known) (h : next way ≡ None). first_moves sorts added move (facts ++ way) (others ++ way) (suc n) (suc m) c anywhere (later_facts move facts others way moves) h) e
+    (λ (to : List (List BranchFact)) (h : v ≡ Some to).
+    ways_with_move sorts move facts others (added facts line) (added others (moved_line move line)) line to moves.stand (λ (k : BranchFact) (g : added facts line ≡ Some k). anywhere move facts others line k moves.stand g) h)
+    (λ (way : List BranchFact) (h : next way ≡ None). first_moves sorts added move (facts ++ way) (others ++ way) (suc n) (suc m) c anywhere (later_facts move facts others way moves) h) e
 first_moves sorts added move facts others n m (Closed line) anywhere moves e =
     let v = ways_with sorts facts (added facts line) line in
     let w = ways_with sorts others (added others (moved_line move line)) (moved_line move line) in
     none_moves v w n m
-    (λ (to : List (List Known)) (h : v ≡ Some to).
-    ways_with_move sorts move facts others (added facts line) (added others (moved_line move line)) line to moves.stand (λ (k : Known) (g : added facts line ≡ Some k). anywhere move facts others line k moves.stand g) h) e
+    (λ (to : List (List BranchFact)) (h : v ≡ Some to).
+    ways_with_move sorts move facts others (added facts line) (added others (moved_line move line)) line to moves.stand (λ (k : BranchFact) (g : added facts line ≡ Some k). anywhere move facts others line k moves.stand g) h) e
 first_moves sorts added move facts others n m (Split line c d) anywhere moves e =
     let v = ways_with sorts facts (added facts line) line in
     let w = ways_with sorts others (added others (moved_line move line)) (moved_line move line) in
-    let first = λ (way : List Known). first_bad added sorts (facts ++ way) (suc n) c in
-    let second = λ (other : List Known). first_bad added sorts (facts ++ other) (suc n + lines_in c) d in
-    let first_there = λ (way : List Known). first_bad added sorts (others ++ way) (suc m) (moved_certificate move c) in
-    let second_there = λ (other : List Known). first_bad added sorts (others ++ other) (suc m + lines_in (moved_certificate move c)) (moved_certificate move d) in
-    two_move v w n m (λ (way other : List Known). or_else (first way) (second other)) (λ (way other : List Known). or_else (first_there way) (second_there other))
-    (λ (to : List (List Known)) (h : v ≡ Some to).
-    ways_with_move sorts move facts others (added facts line) (added others (moved_line move line)) line to moves.stand (λ (k : Known) (g : added facts line ≡ Some k). anywhere move facts others line k moves.stand g) h)
-    (λ (way other : List Known) (h : or_else (first way) (second other) ≡ None).
+    let first = λ (way : List BranchFact). first_bad added sorts (facts ++ way) (suc n) c in
+    let second = λ (other : List BranchFact). first_bad added sorts (facts ++ other) (suc n + lines_in c) d in
+    let first_there = λ (way : List BranchFact). first_bad added sorts (others ++ way) (suc m) (moved_certificate move c) in
+    let second_there = λ (other : List BranchFact). first_bad added sorts (others ++ other) (suc m + lines_in (moved_certificate move c)) (moved_certificate move d) in
+    two_move v w n m (λ (way other : List BranchFact). or_other (first way) (second other)) (λ (way other : List BranchFact). or_other (first_there way) (second_there other))
+    (λ (to : List (List BranchFact)) (h : v ≡ Some to).
+    ways_with_move sorts move facts others (added facts line) (added others (moved_line move line)) line to moves.stand (λ (k : BranchFact) (g : added facts line ≡ Some k). anywhere move facts others line k moves.stand g) h)
+    (λ (way other : List BranchFact) (h : or_other (first way) (second other) ≡ None).
     let parts = parts_none (first way) (second other) h in
     both_none (first_there way) (second_there other)
     (first_moves sorts added move (facts ++ way) (others ++ way) (suc n) (suc m) c anywhere (later_facts move facts others way moves) parts.0)
     (first_moves sorts added move (facts ++ other) (others ++ other) (suc n + lines_in c) (suc m + lines_in (moved_certificate move c)) d anywhere (later_facts move facts others other moves) parts.1)) e
 
 -- a certificate that isn't refused isn't on the other branch
-pub refused_moves : (sorts : Sorts) (added : Theories) (move : ℕ → ℕ) (facts others : List Known) (c : Certificate) → AddAnywhere added → StandAmong move facts others →
+pub refused_moves : (sorts : Sorts) (added : Theories) (move : ℕ → ℕ) (facts others : List BranchFact) (c : Certificate) → AddAnywhere added → StandAmong move facts others →
     refused added sorts facts c ≡ None → refused added sorts others (moved_certificate (moved_past move (length facts) (length others)) c) ≡ None
 refused_moves sorts added move facts others c anywhere stand e =
     let along = moved_past move (length facts) (length others) in

@@ -1,2 +1,6 @@
 pub mod CertificateSound
 pub mod CertificateMoves
+pub mod CertificateLaws
+pub mod WaysLemmas
+pub mod CheckLemmas
+pub mod TreeLemmas

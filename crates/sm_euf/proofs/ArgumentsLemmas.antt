@@ -21,7 +21,7 @@ use Rattle.sm_term.specs.Rows.{names_in_list}
 use Rattle.sm_term.specs.SameTerms.{same_code}
 use Rattle.sm_term.specs.Heads.{same_head, same_names, terms_given, arguments_of}
 use Rattle.sm_term.proofs.SameTermsLemmas.{same_code_is}
-use Rattle.sm_theory.specs.Facts.{Known}
+use Rattle.sm_theory.specs.Facts.{BranchFact}
 use Rattle.sm_theory.specs.Lines.{equation_at}
 use Rattle.sm_theory.specs.Equality.{says_equal, say_equal}
 use Rattle.sm_euf.specs.Arguments.{argument_numbers, have_one_head, trees_of}
@@ -93,7 +93,7 @@ arguments_are sorts codes trees (row.Fun b x from args) f = given_are sorts tree
 arguments_are sorts codes trees t f = refl
 
 -- so facts that say that the arguments of two terms are equal say it of those of their trees
-pub say_of_trees : (sorts : Sorts) (codes : List Code) (trees : List Tree) (facts : List Known) (ns : List ℕ) (t u : Term) →
+pub say_of_trees : (sorts : Sorts) (codes : List Code) (trees : List Tree) (facts : List BranchFact) (ns : List ℕ) (t u : Term) →
     term_fits sorts trees t ≡ true → term_fits sorts trees u ≡ true →
     (x y : Tree) → tree_in codes trees t ≡ x → tree_in codes trees u ≡ y →
     say_equal facts ns (trees_of trees (argument_numbers t)) (trees_of trees (argument_numbers u))
@@ -140,7 +140,7 @@ drop_none (y ∷ xs) zero found = absurd cc
 drop_none (y ∷ xs) (suc i) found = drop_none xs i found
 
 -- one fact after the other
-pub say_step : (facts : List Known) (trees : List Tree) (ns : List ℕ) (ts us : List TermId) (i n : ℕ) (t u : TermId) →
+pub say_step : (facts : List BranchFact) (trees : List Tree) (ns : List ℕ) (ts us : List TermId) (i n : ℕ) (t u : TermId) →
     slice_get ns i ≡ Some n → slice_get ts i ≡ Some t → slice_get us i ≡ Some u →
     say_equal facts (drop i ns) (trees_of trees (drop i ts)) (trees_of trees (drop i us))
     ≡ (says_equal (equation_at facts n) (tree_at trees t.0) (tree_at trees u.0)
@@ -148,19 +148,19 @@ pub say_step : (facts : List Known) (trees : List Tree) (ns : List ℕ) (ts us :
 say_step facts trees ns ts us i n t u one two three = rw (drop_next ns i n one, drop_next ts i t two, drop_next us i u three) refl
 
 -- a fact for which there is no argument
-pub say_left : (facts : List Known) (trees : List Tree) (ns : List ℕ) (ts us : List TermId) (i n : ℕ) →
+pub say_left : (facts : List BranchFact) (trees : List Tree) (ns : List ℕ) (ts us : List TermId) (i n : ℕ) →
     slice_get ns i ≡ Some n → slice_get ts i ≡ None →
     say_equal facts (drop i ns) (trees_of trees (drop i ts)) (trees_of trees (drop i us)) ≡ false
 say_left facts trees ns ts us i n one two = rw (drop_next ns i n one, drop_none ts i two) refl
 
-pub say_right : (facts : List Known) (trees : List Tree) (ns : List ℕ) (ts us : List TermId) (i n : ℕ) (t : TermId) →
+pub say_right : (facts : List BranchFact) (trees : List Tree) (ns : List ℕ) (ts us : List TermId) (i n : ℕ) (t : TermId) →
     slice_get ns i ≡ Some n → slice_get ts i ≡ Some t → slice_get us i ≡ None →
     say_equal facts (drop i ns) (trees_of trees (drop i ts)) (trees_of trees (drop i us)) ≡ false
 say_right facts trees ns ts us i n t one two three =
     rw (drop_next ns i n one, drop_next ts i t two, drop_none us i three) refl
 
 -- no fact is left: no argument may be
-pub say_end : (facts : List Known) (trees : List Tree) (ns : List ℕ) (ts us : List TermId) (i : ℕ) → slice_get ns i ≡ None →
+pub say_end : (facts : List BranchFact) (trees : List Tree) (ns : List ℕ) (ts us : List TermId) (i : ℕ) → slice_get ns i ≡ None →
     say_equal facts (drop i ns) (trees_of trees (drop i ts)) (trees_of trees (drop i us))
     ≡ (is_none (slice_get ts i) && is_none (slice_get us i))
 say_end facts trees ns ts us i none = rw (drop_none ns i none) (by (slice_get ts i) refl (slice_get us i) refl)

@@ -7,7 +7,7 @@ use Rattle.sm_term.specs.Terms.{Tree}
 use Rattle.sm_term.specs.Tables.{tree_at}
 use Rattle.sm_term.specs.Heads.{same_head, arguments_of}
 use Rattle.sm_theory.specs.declared.fact.Fact.TheVariants as fact
-use Rattle.sm_theory.specs.Facts.{Known}
+use Rattle.sm_theory.specs.Facts.{BranchFact}
 use Rattle.sm_theory.specs.Lines.{Cong}
 use Rattle.sm_theory.specs.Equality.{equality_adds, is_inhabited_list, say_equal}
 use Rattle.sm_theory.specs.Views.{StandsIf}
@@ -22,7 +22,7 @@ three : (a b c r : Bool) → a ≡ true → b ≡ true → r ≡ c → r ≡ (a 
 three a b c r one two e = rw (one, two) e
 
 -- all tests are passed
-pub cong_stands : (sorts : Sorts) (trees : List Tree) (facts : List Known) (t u : TermId) (ns : List ℕ) (empty head equal : Bool) →
+pub cong_stands : (sorts : Sorts) (trees : List Tree) (facts : List BranchFact) (t u : TermId) (ns : List ℕ) (empty head equal : Bool) →
     t.0 < length trees → u.0 < length trees → empty ≡ (length ns == 0) → empty ≡ false →
     head ≡ same_head (tree_at trees t.0) (tree_at trees u.0) → head ≡ true →
     equal ≡ say_equal facts ns (arguments_of (tree_at trees t.0)) (arguments_of (tree_at trees u.0)) → equal ≡ true →
@@ -32,7 +32,7 @@ cong_stands sorts trees facts t u ns empty head equal v w e some h same f are =
     rw (sym test, are) ((v, w), refl)
 
 -- the last one isn't
-pub cong_fails : (sorts : Sorts) (trees : List Tree) (facts : List Known) (t u : TermId) (ns : List ℕ) (empty head equal : Bool) →
+pub cong_fails : (sorts : Sorts) (trees : List Tree) (facts : List BranchFact) (t u : TermId) (ns : List ℕ) (empty head equal : Bool) →
     empty ≡ (length ns == 0) → empty ≡ false → head ≡ same_head (tree_at trees t.0) (tree_at trees u.0) → head ≡ true →
     equal ≡ say_equal facts ns (arguments_of (tree_at trees t.0)) (arguments_of (tree_at trees u.0)) → equal ≡ false →
     StandsIf sorts trees None (equality_adds sorts facts (Cong (tree_at trees t.0) (tree_at trees u.0) ns))

@@ -13,22 +13,22 @@ use Rattle.sm_term.specs.Sorted.{tree_sort}
 use Rattle.sm_term.proofs.SameTermsLemmas.{same_tree_is}
 use Rattle.sm_theory.specs.declared.fact.Fact.{Fact}
 use Rattle.sm_theory.specs.declared.fact.Fact.TheVariants as fact
-use Rattle.sm_theory.specs.Facts.{Known, Formal}
+use Rattle.sm_theory.specs.Facts.{BranchFact, Formal}
 use Rattle.sm_theory.specs.Lines.{followed, Sides, equation_at, contrary_at, Sym, Subst}
-use Rattle.sm_theory.specs.Equality.{equality_adds, or_else, turned_equation, turned_contrary, substituted, formula_if}
-use Rattle.sm_theory.specs.SortedFacts.{AreKnownSorted}
+use Rattle.sm_theory.specs.Equality.{equality_adds, or_other, turned_equation, turned_contrary, substituted, formula_if}
+use Rattle.sm_theory.specs.SortedFacts.{AreFactsSorted}
 use Rattle.sm_theory.specs.Views.{FactStands, StandsIf}
 use Rattle.sm_theory.specs.Sides.{OptionStands, SidesStand}
 use Rattle.sm_theory.proofs.FactsLemmas.{fact_is_sorted, equation_stands, contrary_stands, equation, contrary}
 
 -- the right side of an equation has its sort
-right_sort : (sorts : Sorts) (facts : List Known) (n : ℕ) (s : Sides) → AreKnownSorted sorts facts → equation_at facts n ≡ Some s →
+right_sort : (sorts : Sorts) (facts : List BranchFact) (n : ℕ) (s : Sides) → AreFactsSorted sorts facts → equation_at facts n ≡ Some s →
     tree_sort sorts s.right ≡ s.sort
 right_sort sorts facts n s sorted found =
     let both = fact_is_sorted sorts facts n (equation s) sorted (equation_stands facts n s found) in both.1.1
 
 -- so has that of a contrary
-right_sort_contrary : (sorts : Sorts) (facts : List Known) (n : ℕ) (s : Sides) → AreKnownSorted sorts facts → contrary_at facts n ≡ Some s →
+right_sort_contrary : (sorts : Sorts) (facts : List BranchFact) (n : ℕ) (s : Sides) → AreFactsSorted sorts facts → contrary_at facts n ≡ Some s →
     tree_sort sorts s.right ≡ s.sort
 right_sort_contrary sorts facts n s sorted found =
     let both = fact_is_sorted sorts facts n (contrary s) sorted (contrary_stands facts n s found) in both.1.1
@@ -58,21 +58,21 @@ turned_contrary_stands sorts trees pair s same h =
     ((h.1, h.0), ap (λ (sort : Sort). Ne sort right left) there ∙ ap (λ (v : Sides). Ne v.sort v.right v.left) h.2)
 
 -- `sym` of an equation
-pub sym_of_equation : (sorts : Sorts) (trees : List Tree) (facts : List Known) (n : ℕ) (pair : TermId × TermId) →
-    AreKnownSorted sorts facts →
+pub sym_of_equation : (sorts : Sorts) (trees : List Tree) (facts : List BranchFact) (n : ℕ) (pair : TermId × TermId) →
+    AreFactsSorted sorts facts →
     OptionStands (SidesStand sorts trees) (Some pair) (equation_at facts n) →
     StandsIf sorts trees (Some (turned_fact pair)) (equality_adds sorts facts (Sym n))
 sym_of_equation sorts trees facts n pair sorted h = by (equation_at facts n) refl h
   where
     by : (o : Option Sides) → equation_at facts n ≡ o → OptionStands (SidesStand sorts trees) (Some pair) o →
         StandsIf sorts trees (Some (turned_fact pair))
-        (or_else (followed o turned_equation) (followed (contrary_at facts n) turned_contrary))
+        (or_other (followed o turned_equation) (followed (contrary_at facts n) turned_contrary))
     by None found h = absurd h
     by (Some s) found h = turned_stands sorts trees pair s (right_sort sorts facts n s sorted found) h
 
 -- `sym` of the contrary of one
-pub sym_of_contrary : (sorts : Sorts) (trees : List Tree) (facts : List Known) (n : ℕ) (pair : TermId × TermId) →
-    AreKnownSorted sorts facts →
+pub sym_of_contrary : (sorts : Sorts) (trees : List Tree) (facts : List BranchFact) (n : ℕ) (pair : TermId × TermId) →
+    AreFactsSorted sorts facts →
     OptionStands (SidesStand sorts trees) None (equation_at facts n) →
     OptionStands (SidesStand sorts trees) (Some pair) (contrary_at facts n) →
     StandsIf sorts trees (Some (turned_contrary_fact pair)) (equality_adds sorts facts (Sym n))
@@ -80,14 +80,14 @@ sym_of_contrary sorts trees facts n pair sorted none h = by (equation_at facts n
   where
     by : (e : Option Sides) → OptionStands (SidesStand sorts trees) None e → (o : Option Sides) → contrary_at facts n ≡ o →
         OptionStands (SidesStand sorts trees) (Some pair) o →
-        StandsIf sorts trees (Some (turned_contrary_fact pair)) (or_else (followed e turned_equation) (followed o turned_contrary))
+        StandsIf sorts trees (Some (turned_contrary_fact pair)) (or_other (followed e turned_equation) (followed o turned_contrary))
     by (Some s) none o found h = absurd none
     by None none None found h = absurd h
     by None none (Some s) found h = turned_contrary_stands sorts trees pair s (right_sort_contrary sorts facts n s sorted found) h
 
 -- `subst`, where the terms that are exchanged are the same
-pub subst_of_contrary : (sorts : Sorts) (trees : List Tree) (facts : List Known) (m n : ℕ) (one other : TermId × TermId) (same : Bool) →
-    AreKnownSorted sorts facts → OptionStands (SidesStand sorts trees) (Some one) (contrary_at facts m) →
+pub subst_of_contrary : (sorts : Sorts) (trees : List Tree) (facts : List BranchFact) (m n : ℕ) (one other : TermId × TermId) (same : Bool) →
+    AreFactsSorted sorts facts → OptionStands (SidesStand sorts trees) (Some one) (contrary_at facts m) →
     OptionStands (SidesStand sorts trees) (Some other) (equation_at facts n) →
     (one.0.0 < length trees → other.0.0 < length trees → same ≡ same_tree (tree_at trees one.0.0) (tree_at trees other.0.0)) → same ≡ true →
     StandsIf sorts trees (Some (fact.Form (tree.Ne other.1 one.1))) (equality_adds sorts facts (Subst m n))

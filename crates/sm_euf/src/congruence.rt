@@ -2,7 +2,7 @@
 ghost use Rattle.std.specs.Prelude.{◌≡◌, ◌<◌, List, length};
 ghost use Rattle.sm_term.specs.Tables.{tree_at, trees_in, sorts_in, AreBefore};
 ghost use Rattle.sm_term.specs.Heads.{same_head};
-ghost use Rattle.sm_theory.specs.Facts.{Known};
+ghost use Rattle.sm_theory.specs.Facts.{BranchFact};
 ghost use Rattle.sm_theory.specs.Lines.{Cong};
 ghost use Rattle.sm_theory.specs.Equality.{equality_adds, say_equal};
 ghost use Rattle.sm_theory.specs.Views.{AllStand, StandsIf};
@@ -24,7 +24,7 @@ pub(crate) fn congruent(
     requires left { t.0 < length (trees_in table.now) }
     requires right { u.0 < length (trees_in table.now) }
     ensures { let trees = trees_in table.now in let sorts = sorts_in table.now in
-        (facts : List Known) → AllStand sorts trees branch.now.list.items facts →
+        (facts : List BranchFact) → AllStand sorts trees branch.now.list.items facts →
         let cong = Cong (tree_at trees t.0) (tree_at trees u.0) numbers.now in
         StandsIf sorts trees result (equality_adds sorts facts cong) }
 {
@@ -55,7 +55,7 @@ fn equal_arguments(table: &TermTable, branch: &Branch, t: &Term, u: &Term, numbe
     requires left { AreBefore (length (trees_in table.now)) (argument_numbers t.now) }
     requires right { AreBefore (length (trees_in table.now)) (argument_numbers u.now) }
     ensures { let trees = trees_in table.now in
-        (facts : List Known) →
+        (facts : List BranchFact) →
         AllStand (sorts_in table.now) trees branch.now.list.items facts →
         result ≡ say_equal facts numbers.now (trees_of trees (argument_numbers t.now))
         (trees_of trees (argument_numbers u.now)) }

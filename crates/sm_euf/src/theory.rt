@@ -1,9 +1,9 @@
 // The theory of equality.
 ghost use Rattle.std.specs.Prelude.{List, length};
 ghost use Rattle.sm_term.specs.Tables.{trees_in, sorts_in};
-ghost use Rattle.sm_theory.specs.Facts.{Known};
+ghost use Rattle.sm_theory.specs.Facts.{BranchFact};
 ghost use Rattle.sm_theory.specs.Equality.{equality_adds};
-ghost use Rattle.sm_theory.specs.SortedFacts.{AreKnownSorted};
+ghost use Rattle.sm_theory.specs.SortedFacts.{AreFactsSorted};
 ghost use Rattle.sm_theory.specs.Views.{line_in, IsLineWithin, AllStand, StandsIf};
 ghost use Rattle.sm_theory.proofs.EqualitySound.{equality_holds};
 ghost use Rattle.sm_theory.proofs.EqualityLemmas.{equality_sorted, equality_below};
@@ -52,8 +52,8 @@ impl Theory for Euf {
 fn added(table: &TermTable, branch: &Branch, line: &CertLine) -> Option<Fact>
     requires { IsLineWithin (length (trees_in table.now)) line.now }
     ensures { let trees = trees_in table.now in let sorts = sorts_in table.now in
-        (facts : List Known) → AllStand sorts trees branch.now.list.items facts →
-        AreKnownSorted sorts facts →
+        (facts : List BranchFact) → AllStand sorts trees branch.now.list.items facts →
+        AreFactsSorted sorts facts →
         StandsIf sorts trees result (equality_adds sorts facts (line_in trees line.now)) }
 {
     match line {

@@ -17,7 +17,7 @@ use Rattle.sm_term.specs.Tables.{tree_at}
 use Rattle.sm_theory.specs.declared.fact.Fact.TheVariants as fact
 use Rattle.sm_theory.specs.LinearTerms.{linear_of}
 use Rattle.sm_theory.specs.Equality.{formula_if}
-use Rattle.sm_theory.specs.Arithmetic.{is_number, same_parts, compared}
+use Rattle.sm_theory.specs.Arithmetic.{is_numeric, same_parts, compared_forms}
 use Rattle.sm_theory.specs.Standing.{IsKeptFor}
 use Rattle.sm_theory.specs.Views.{StandsIf}
 use Rattle.sm_theory.proofs.LinearLater.{same_parts_stand}
@@ -73,34 +73,34 @@ module _ (sorts : Sorts) (trees : List Tree) (t u : TermId) where
 
   -- what is added where they are equal
   pub equal_made : t.0 < length trees → u.0 < length trees → term_comparison sorts first second ≡ Equal →
-      StandsIf sorts trees (Some (fact.Form (formula.Eq t u))) (formula_if (compared sorts first second int_eq) (Eq Num first second))
+      StandsIf sorts trees (Some (fact.Form (formula.Eq t u))) (formula_if (compared_forms sorts first second int_eq) (Eq Num first second))
   equal_made v w h =
-      let p = equal_passes (is_number sorts first) (is_number sorts second) parts equal h in
+      let p = equal_passes (is_numeric sorts first) (is_numeric sorts second) parts equal h in
       subst (λ (b : Bool). StandsIf sorts trees (Some (fact.Form (formula.Eq t u))) (formula_if b (Eq Num first second))) (sym p.1)
       ((v, w), ap (λ (s : Sort). Eq s first second) (number_is sorts first p.0))
 
   -- nothing is added where they aren't
   pub equal_none : (term_comparison sorts first second ≡ Equal → ⊥) →
-      StandsIf sorts trees None (formula_if (compared sorts first second int_eq) (Eq Num first second))
+      StandsIf sorts trees None (formula_if (compared_forms sorts first second int_eq) (Eq Num first second))
   equal_none h =
       subst (λ (b : Bool). StandsIf sorts trees None (formula_if b (Eq Num first second)))
-      (sym (else_fails (is_number sorts first) (is_number sorts second) parts equal h)) tt
+      (sym (else_fails (is_numeric sorts first) (is_numeric sorts second) parts equal h)) tt
 
   -- what is added where the constants alone differ
   pub unequal_made : t.0 < length trees → u.0 < length trees → term_comparison sorts first second ≡ Unequal →
       StandsIf sorts trees (Some (fact.Form (formula.Ne t u)))
-      (formula_if (compared sorts first second (λ (y z : ℤ). not (int_eq y z))) (Ne Num first second))
+      (formula_if (compared_forms sorts first second (λ (y z : ℤ). not (int_eq y z))) (Ne Num first second))
   unequal_made v w h =
-      let p = unequal_passes (is_number sorts first) (is_number sorts second) parts equal h in
+      let p = unequal_passes (is_numeric sorts first) (is_numeric sorts second) parts equal h in
       subst (λ (b : Bool). StandsIf sorts trees (Some (fact.Form (formula.Ne t u))) (formula_if b (Ne Num first second))) (sym p.1)
       ((v, w), ap (λ (s : Sort). Ne s first second) (number_is sorts first p.0))
 
   -- nothing is added where they don't
   pub unequal_none : (term_comparison sorts first second ≡ Unequal → ⊥) →
-      StandsIf sorts trees None (formula_if (compared sorts first second (λ (y z : ℤ). not (int_eq y z))) (Ne Num first second))
+      StandsIf sorts trees None (formula_if (compared_forms sorts first second (λ (y z : ℤ). not (int_eq y z))) (Ne Num first second))
   unequal_none h =
       subst (λ (b : Bool). StandsIf sorts trees None (formula_if b (Ne Num first second)))
-      (sym (else_not (is_number sorts first) (is_number sorts second) parts equal h)) tt
+      (sym (else_not (is_numeric sorts first) (is_numeric sorts second) parts equal h)) tt
 
 -- two parts are equal where their atoms and coefficients are
 pub pair_decides : (p q : ℕ × ℤ) → Decides ((p.0 == q.0) && int_eq p.1 q.1) (p ≡ q)
@@ -160,8 +160,8 @@ module _ (trees : List Tree) (f g : Linear ℕ) (h i : Linear Tree) (first : IsK
           (cases_Bool (int_eq h.constant i.constant))
 
 -- two numbers compare as their forms do
-pub both_numbers : (sorts : Sorts) (t u : Tree) (c : Comparison) → is_number sorts t ≡ true → is_number sorts u ≡ true →
+pub both_numbers : (sorts : Sorts) (t u : Tree) (c : Comparison) → is_numeric sorts t ≡ true → is_numeric sorts u ≡ true →
     c ≡ form_comparison (linear_of t) (linear_of u) → c ≡ term_comparison sorts t u
 both_numbers sorts t u c one other e =
     e ∙ ap (λ (b : Bool). if b then form_comparison (linear_of t) (linear_of u) else Other)
-    (sym (ap (λ (b : Bool). b && is_number sorts u) one ∙ other))
+    (sym (ap (λ (b : Bool). b && is_numeric sorts u) one ∙ other))

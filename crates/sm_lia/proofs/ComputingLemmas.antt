@@ -16,7 +16,7 @@ use Rattle.sm_term.specs.Terms.{Tree}
 use Rattle.sm_theory.specs.LinearTerms.{constant_form}
 use Rattle.sm_theory.specs.Arithmetic.{one_more}
 use Rattle.sm_theory.specs.Standing.{IsKeptFor, IsOutcomeFor}
-use Rattle.sm_theory.specs.Facts.{Known}
+use Rattle.sm_theory.specs.Facts.{BranchFact}
 use Rattle.sm_theory.specs.Lines.{followed}
 use Rattle.sm_theory.specs.Sides.{OptionStands}
 use Rattle.sm_theory.proofs.LinearLater.{one_more_stands}
@@ -77,8 +77,8 @@ then_one_more trees (Fits g) f r keeps returns =
 then_one_more trees (Leaves o y z) f r keeps returns = absurd keeps
 
 -- what follows a form that stands for another
-pub followed_form : (trees : List Tree) (f : Linear ℕ) (o : Option (Linear Tree)) (next : Linear Tree → Option Known)
-    (P : Option Known → Type 0) → OptionStands (IsKeptFor trees) (Some f) o →
+pub followed_form : (trees : List Tree) (f : Linear ℕ) (o : Option (Linear Tree)) (next : Linear Tree → Option BranchFact)
+    (P : Option BranchFact → Type 0) → OptionStands (IsKeptFor trees) (Some f) o →
     ((g : Linear Tree) → IsKeptFor trees f g → P (next g)) → P (followed o next)
 followed_form trees f (Some g) next P stands each = each g stands
 followed_form trees f None next P stands each = absurd stands

@@ -5,7 +5,7 @@ use Rattle.sm_syntax.specs.text.Sorts.{Sorts}
 use Rattle.sm_num.specs.Forms.{Linear}
 use Rattle.sm_term.specs.Terms.{Tree}
 use Rattle.sm_theory.specs.LinearTerms.{linear_of}
-use Rattle.sm_theory.specs.Arithmetic.{is_number, same_parts}
+use Rattle.sm_theory.specs.Arithmetic.{is_numeric, same_parts}
 use Rattle.sm_lia.specs.declared.comparing.Comparison.{Comparison}
 use Rattle.sm_lia.specs.declared.comparing.Comparison.TheVariants.{Equal, Unequal, Other}
 
@@ -17,5 +17,5 @@ form_comparison f g =
 -- how two terms compare, which are numbers, by their forms
 abbrev pub term_comparison : Sorts → Tree → Tree → Comparison
 term_comparison sorts t u =
-    if is_number sorts t && is_number sorts u
+    if is_numeric sorts t && is_numeric sorts u
     then form_comparison (linear_of t) (linear_of u) else Other

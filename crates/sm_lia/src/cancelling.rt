@@ -3,7 +3,7 @@ ghost use Rattle.std.specs.Prelude.{◌<◌, List, length, IfOk};
 ghost use Rattle.sm_num.specs.Forms.{Linear};
 ghost use Rattle.sm_term.specs.Terms.{Tree};
 ghost use Rattle.sm_term.specs.Tables.{trees_in, sorts_in, tree_at};
-ghost use Rattle.sm_theory.specs.Facts.{Known};
+ghost use Rattle.sm_theory.specs.Facts.{BranchFact};
 ghost use Rattle.sm_theory.specs.Lines.{Elim, Tight};
 ghost use Rattle.sm_theory.specs.Arithmetic.{cancelled, arithmetic_adds};
 ghost use Rattle.sm_theory.specs.Standing.{IsKeptFor};
@@ -26,7 +26,7 @@ pub(crate) fn elim(
 ) -> Result<Option<Fact>, AllocError>
     requires { t.0 < length (trees_in table.now) }
     ensures { let trees = trees_in table.now in let sorts = sorts_in table.now in
-        (facts : List Known) → AllStand sorts trees branch.now.list.items facts →
+        (facts : List BranchFact) → AllStand sorts trees branch.now.list.items facts →
         IfOk result (λ o. StandsIf sorts trees o
         (arithmetic_adds sorts facts (Elim m n (tree_at trees t.0)))) }
 {
@@ -68,7 +68,7 @@ pub(crate) fn tight(
     n: u64,
 ) -> Result<Option<Fact>, AllocError>
     ensures { let trees = trees_in table.now in let sorts = sorts_in table.now in
-        (facts : List Known) → AllStand sorts trees branch.now.list.items facts →
+        (facts : List BranchFact) → AllStand sorts trees branch.now.list.items facts →
         IfOk result (λ o. StandsIf sorts trees o (arithmetic_adds sorts facts (Tight n))) }
 {
     // No term is there twice.

@@ -7,7 +7,7 @@ ghost use Rattle.sm_term.specs.Terms.{Tree};
 ghost use Rattle.sm_term.specs.Assertions.{Eq, Ne};
 ghost use Rattle.sm_term.specs.Tables.{trees_in, sorts_in, tree_at};
 ghost use Rattle.sm_theory.specs.Equality.{formula_if};
-ghost use Rattle.sm_theory.specs.Arithmetic.{is_number, compared};
+ghost use Rattle.sm_theory.specs.Arithmetic.{is_numeric, compared_forms};
 ghost use Rattle.sm_theory.specs.Standing.{IsKeptFor};
 ghost use Rattle.sm_theory.specs.Views.{StandsIf};
 ghost use Rattle.sm_lia.specs.Comparing.{form_comparison, term_comparison};
@@ -40,7 +40,7 @@ pub(crate) fn same(
     ensures { let trees = trees_in table.now in let sorts = sorts_in table.now in
         let first = tree_at trees t.0 in let second = tree_at trees u.0 in
         IfOk result (λ o. StandsIf sorts trees o
-        (formula_if (compared sorts first second int_eq) (Eq Num first second))) }
+        (formula_if (compared_forms sorts first second int_eq) (Eq Num first second))) }
 {
     match compare(alloc, table, t, u)? {
         Comparison::Equal => Ok(Some(Fact::Form(Formula::Eq(t, u)))),
@@ -61,7 +61,7 @@ pub(crate) fn apart(
         let first = tree_at trees t.0 in let second = tree_at trees u.0 in
         IfOk result (λ o. StandsIf sorts trees o
         (formula_if
-        (compared sorts first second (λ y z. not (int_eq y z))) (Ne Num first second))) }
+        (compared_forms sorts first second (λ y z. not (int_eq y z))) (Ne Num first second))) }
 {
     match compare(alloc, table, t, u)? {
         Comparison::Unequal => Ok(Some(Fact::Form(Formula::Ne(t, u)))),
@@ -77,7 +77,7 @@ fn compare(alloc: Global, table: &TermTable, t: TermId, u: TermId) -> Result<Com
         IfOk result (λ how.
         how ≡ term_comparison (sorts_in table.now) (tree_at trees t.0) (tree_at trees u.0)) }
 {
-    if !is_number(table, t) || !is_number(table, u) {
+    if !is_numeric(table, t) || !is_numeric(table, u) {
         return Ok(Comparison::Other);
     }
     let f = lin_of(alloc, table, t)?;
@@ -86,9 +86,9 @@ fn compare(alloc: Global, table: &TermTable, t: TermId, u: TermId) -> Result<Com
 }
 
 // Whether a term is a number.
-pub(crate) fn is_number(table: &TermTable, t: TermId) -> bool
+pub(crate) fn is_numeric(table: &TermTable, t: TermId) -> bool
     requires { t.0 < length (trees_in table.now) }
-    ensures { result ≡ is_number (sorts_in table.now) (tree_at (trees_in table.now) t.0) }
+    ensures { result ≡ is_numeric (sorts_in table.now) (tree_at (trees_in table.now) t.0) }
 {
     table.sort(t) == Sort::Num
 }

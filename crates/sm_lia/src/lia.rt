@@ -1,7 +1,7 @@
 // The theory of linear arithmetic over whole numbers.
 ghost use Rattle.std.specs.Prelude.{List, length, IfOk};
 ghost use Rattle.sm_term.specs.Tables.{trees_in, sorts_in};
-ghost use Rattle.sm_theory.specs.Facts.{Known};
+ghost use Rattle.sm_theory.specs.Facts.{BranchFact};
 ghost use Rattle.sm_theory.specs.Arithmetic.{arithmetic_adds};
 ghost use Rattle.sm_theory.specs.Views.{line_in, IsLineWithin, AllStand, StandsIf};
 ghost use Rattle.sm_theory.proofs.ArithmeticSound.{arithmetic_holds};

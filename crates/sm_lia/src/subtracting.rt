@@ -9,14 +9,14 @@ ghost use Rattle.sm_term.specs.Sorted.{tree_sort};
 ghost use Rattle.sm_term.specs.SameTerms.{same_sort};
 ghost use Rattle.sm_term.specs.Tables.{trees_in, sorts_in, tree_at};
 ghost use Rattle.sm_term.specs.Formulas.{numbered, assertion_in, IsFormulaWithin};
-ghost use Rattle.sm_theory.specs.Facts.{Known};
+ghost use Rattle.sm_theory.specs.Facts.{BranchFact};
 ghost use Rattle.sm_theory.specs.Lines.{Lin};
 ghost use Rattle.sm_theory.specs.Arithmetic.{difference, one_more, form_fact, form_of_comparison};
 ghost use Rattle.sm_theory.specs.Arithmetic.{arithmetic_adds};
 ghost use Rattle.sm_theory.specs.Views.{AllStand, StandsIf};
 ghost use Rattle.sm_lia.specs.Computing.{ReturnsFor};
 
-use crate::comparing::is_number;
+use crate::comparing::is_numeric;
 use crate::computing::fact_of;
 use sm_num::{Kind, LinForm, NumError, combine};
 use sm_term::{Formula, TermId, TermTable};
@@ -31,7 +31,7 @@ pub(crate) fn lin(
     n: u64,
 ) -> Result<Option<Fact>, AllocError>
     ensures { let trees = trees_in table.now in let sorts = sorts_in table.now in
-        (facts : List Known) → AllStand sorts trees branch.now.list.items facts →
+        (facts : List BranchFact) → AllStand sorts trees branch.now.list.items facts →
         IfOk result (λ o. StandsIf sorts trees o (arithmetic_adds sorts facts (Lin n))) }
 {
     match formula_at(branch, n) {
@@ -69,7 +69,7 @@ fn equal_form(
         (if same_sort (tree_sort sorts first) Num then form_fact (difference first second kind.Eq)
         else None)) }
 {
-    if t.0 >= table.len() || u.0 >= table.len() || !is_number(table, t) {
+    if t.0 >= table.len() || u.0 >= table.len() || !is_numeric(table, t) {
         return Ok(None);
     }
     fact_of(difference(alloc, table, t, u, Kind::Eq))

@@ -3,7 +3,7 @@ ghost use Rattle.std.specs.Prelude.{◌≡◌, ◌<◌, List, length, IfSome, If
 ghost use Rattle.sm_term.specs.Terms.{Read};
 ghost use Rattle.sm_term.specs.Tables.{tree_at, trees_in, sorts_in};
 ghost use Rattle.sm_term.specs.SameTerms.{same_tree};
-ghost use Rattle.sm_theory.specs.Facts.{Known};
+ghost use Rattle.sm_theory.specs.Facts.{BranchFact};
 ghost use Rattle.sm_theory.specs.Lines.{Hit, Miss};
 ghost use Rattle.sm_theory.specs.Elements.{element_adds};
 ghost use Rattle.sm_theory.specs.Views.{AllStand, StandsIf};
@@ -25,7 +25,7 @@ struct ReadOfWrite {
 pub(crate) fn hit(table: &TermTable, branch: &Branch, t: TermId, n: u64) -> Option<Fact>
     requires { t.0 < length (trees_in table.now) }
     ensures { let trees = trees_in table.now in let sorts = sorts_in table.now in
-        (facts : List Known) → AllStand sorts trees branch.now.list.items facts →
+        (facts : List BranchFact) → AllStand sorts trees branch.now.list.items facts →
         StandsIf sorts trees result (element_adds facts (Hit (tree_at trees t.0) n)) }
 {
     let r = read_of_write(table, t)?;
@@ -47,7 +47,7 @@ pub(crate) fn missed(
     requires left { t.0 < length (trees_in table.now) }
     requires right { u.0 < length (trees_in table.now) }
     ensures { let trees = trees_in table.now in let sorts = sorts_in table.now in
-        (facts : List Known) → AllStand sorts trees branch.now.list.items facts →
+        (facts : List BranchFact) → AllStand sorts trees branch.now.list.items facts →
         let miss = Miss (tree_at trees t.0) (tree_at trees u.0) n in
         StandsIf sorts trees result (element_adds facts miss) }
 {

@@ -1,7 +1,7 @@
 // The theory of arrays.
 ghost use Rattle.std.specs.Prelude.{List, length};
 ghost use Rattle.sm_term.specs.Tables.{trees_in, sorts_in};
-ghost use Rattle.sm_theory.specs.Facts.{Known};
+ghost use Rattle.sm_theory.specs.Facts.{BranchFact};
 ghost use Rattle.sm_theory.specs.Elements.{element_adds};
 ghost use Rattle.sm_theory.specs.Views.{line_in, IsLineWithin, AllStand, StandsIf};
 ghost use Rattle.sm_theory.proofs.ElementsLemmas.{arrays_hold, arrays_sorted};
@@ -49,7 +49,7 @@ impl Theory for Rows {
 fn added(table: &TermTable, branch: &Branch, line: &CertLine) -> Option<Fact>
     requires { IsLineWithin (length (trees_in table.now)) line.now }
     ensures { let trees = trees_in table.now in let sorts = sorts_in table.now in
-        (facts : List Known) → AllStand sorts trees branch.now.list.items facts →
+        (facts : List BranchFact) → AllStand sorts trees branch.now.list.items facts →
         StandsIf sorts trees result (element_adds facts (line_in trees line.now)) }
 {
     match line {

@@ -10,7 +10,7 @@ use Rattle.sm_num.specs.Eliminating.{gcd, floor_of, ceiling_of}
 use Rattle.sm_term.specs.Terms.{Tree, Lit, Start, Neg, Add, Sub, Mul}
 use Rattle.sm_term.specs.SameTerms.{same_tree}
 use Rattle.sm_term.specs.Assertions.{Eq, Ne, Le, Lt}
-use Rattle.sm_theory.specs.Facts.{Known, Formal, Sum}
+use Rattle.sm_theory.specs.Facts.{BranchFact, Formal, Sum}
 use Rattle.sm_theory.specs.LinearTerms.{linear_of, atom_form, constant_form}
 use Rattle.sm_theory.specs.Lines.{CertificateLine, Same, Apart, Lin, Elim, Tight, Close}
 use Rattle.sm_theory.specs.Arithmetic.{arithmetic_adds}
@@ -41,14 +41,14 @@ abbrev form : List (Tree × ℤ) → ℤ → Kind → Linear Tree
 form parts constant k = record { parts = parts; constant = constant; kind = k }
 
 -- one form as a fact, and two
-abbrev one : Linear Tree → List Known
+abbrev one : Linear Tree → List BranchFact
 one f = Sum f ∷ []
 
-abbrev two : Linear Tree → Linear Tree → List Known
+abbrev two : Linear Tree → Linear Tree → List BranchFact
 two f g = Sum f ∷ Sum g ∷ []
 
 -- what a line adds to facts
-abbrev adds : List Known → CertificateLine → Option Known
+abbrev adds : List BranchFact → CertificateLine → Option BranchFact
 adds facts line = arithmetic_adds declared facts line
 
 -- 2 * (x + 3) - y is 2x - y + 6

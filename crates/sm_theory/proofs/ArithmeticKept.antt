@@ -21,12 +21,12 @@ use Rattle.sm_term.specs.Fresh.{IsBelow, IsFormBelow}
 use Rattle.sm_term.specs.SameTerms.{same_tree}
 use Rattle.sm_term.proofs.SameTermsLemmas.{same_sort_is}
 use Rattle.sm_term.specs.Assertions.{Assertion, Yes, No, Eq, Ne, Le, Lt, And, Or}
-use Rattle.sm_theory.specs.Facts.{Known, Formal, Sum}
+use Rattle.sm_theory.specs.Facts.{BranchFact, Formal, Sum}
 use Rattle.sm_theory.specs.LinearTerms.{linear_of}
 use Rattle.sm_theory.specs.Lines.{CertificateLine, Same, Apart, Lin, Elim, Tight, followed, formula_at, form_at}
-use Rattle.sm_theory.specs.Arithmetic.{is_number, compared, form_fact, with_constant, difference, one_more, form_of_comparison, cancelled}
+use Rattle.sm_theory.specs.Arithmetic.{is_numeric, compared_forms, form_fact, with_constant, difference, one_more, form_of_comparison, cancelled}
 use Rattle.sm_theory.specs.Arithmetic.{arithmetic_adds}
-use Rattle.sm_theory.specs.SortedFacts.{EachAtom, IsKnownSorted, AreKnownSorted, IsKnownBelow, AreKnownBelow, IsLineSorted, IsLineBelow}
+use Rattle.sm_theory.specs.SortedFacts.{EachAtom, IsFactSorted, AreFactsSorted, IsFactBelow, AreFactsBelow, IsLineSorted, IsLineBelow}
 use Rattle.sm_theory.specs.Moved.{moved_line, StandAmong}
 use Rattle.sm_theory.proofs.FactsLemmas.{fact_is_sorted, fact_is_below, followed_from, formula_stands, form_stands, followed_gives}
 use Rattle.sm_theory.proofs.FactsLemmas.{gives_itself, formula_moves, form_moves}
@@ -51,11 +51,11 @@ module _ (P : Tree → Type 0) where
   IsFine f = FormAtoms P f × AreReduced same_tree f.parts
 
   -- a fact that is such a form
-  abbrev pub IsFineForm : Known → Type 0
+  abbrev pub IsFineForm : BranchFact → Type 0
   IsFineForm k = (h : Linear Tree) × (Sum h ≡ k) × FormAtoms P h × AreReduced same_tree h.parts
 
   -- of a computed form
-  fine_fact : (outcome : Outcome (Linear Tree)) (k : Known) → Gives IsFine outcome → form_fact outcome ≡ Some k → IsFineForm k
+  fine_fact : (outcome : Outcome (Linear Tree)) (k : BranchFact) → Gives IsFine outcome → form_fact outcome ≡ Some k → IsFineForm k
   fine_fact outcome k given e =
       let p = form_fact_is outcome k e in
       let fine = gives_fits IsFine outcome p.0 given p.1 in
@@ -89,7 +89,7 @@ module _ (P : Tree → Type 0) where
         (difference_fine t u kind.Le first second) one_more_fine
 
   -- of two forms in which a term cancels
-  cancelled_fine : (t : Tree) (f g : Linear Tree) (k : Known) → IsFine f → IsFine g → cancelled t f g ≡ Some k → IsFineForm k
+  cancelled_fine : (t : Tree) (f g : Linear Tree) (k : BranchFact) → IsFine f → IsFine g → cancelled t f g ≡ Some k → IsFineForm k
   cancelled_fine t f g k first second e = by (can_cancel same_tree f g t) e
     where
       then_parts : (outcome : Outcome (Linear Tree)) → Gives (IsReduced same_tree) outcome →
@@ -106,21 +106,21 @@ module _ (P : Tree → Type 0) where
       by false e = absurd cc
 
 -- a term that is tested to be a number is one
-pub number_is : (sorts : Sorts) (t : Tree) → is_number sorts t ≡ true → tree_sort sorts t ≡ Num
+pub number_is : (sorts : Sorts) (t : Tree) → is_numeric sorts t ≡ true → tree_sort sorts t ≡ Num
 number_is sorts t e = (same_sort_is (tree_sort sorts t) Num).0 e
 
 -- a fine form is a sorted fact
-fine_sorted : (sorts : Sorts) (k : Known) → IsFineForm (HasSort sorts Num) k → IsKnownSorted sorts k
-fine_sorted sorts k fine = subst (IsKnownSorted sorts) fine.1
+fine_sorted : (sorts : Sorts) (k : BranchFact) → IsFineForm (HasSort sorts Num) k → IsFactSorted sorts k
+fine_sorted sorts k fine = subst (IsFactSorted sorts) fine.1
     (atoms_each (HasSort sorts Num) fine.0.parts fine.2, reduced_once fine.0.parts fine.3)
 
 -- and a sorted fact that is a form is fine
-sorted_fine : (sorts : Sorts) (f : Linear Tree) → IsKnownSorted sorts (Sum f) → IsFine (HasSort sorts Num) f
+sorted_fine : (sorts : Sorts) (f : Linear Tree) → IsFactSorted sorts (Sum f) → IsFine (HasSort sorts Num) f
 sorted_fine sorts f sorted = (each_atoms (HasSort sorts Num) f.parts sorted.0, once_reduced f.parts sorted.1)
 
 -- the form of a comparison of sorted terms is sorted
-comparison_sorted : (sorts : Sorts) (f : Assertion) (k : Known) → form_of_comparison f ≡ Some k → IsFormSorted sorts f →
-    IsKnownSorted sorts k
+comparison_sorted : (sorts : Sorts) (f : Assertion) (k : BranchFact) → form_of_comparison f ≡ Some k → IsFormSorted sorts f →
+    IsFactSorted sorts k
 comparison_sorted sorts Yes k e sides = absurd cc
 comparison_sorted sorts No k e sides = absurd cc
 comparison_sorted sorts (Eq Num t u) k e sides =
@@ -138,20 +138,20 @@ comparison_sorted sorts (And p q) k e sides = absurd cc
 comparison_sorted sorts (Or p q) k e sides = absurd cc
 
 -- the one thing that is added
-some_is : (j k : Known) → Some j ≡ Some k → j ≡ k
+some_is : (j k : BranchFact) → Some j ≡ Some k → j ≡ k
 some_is j k e = cc
 
 -- what a line of arithmetic adds is sorted
-pub arithmetic_sorted : (sorts : Sorts) (facts : List Known) (line : CertificateLine) (k : Known) →
-    AreKnownSorted sorts facts → IsLineSorted sorts line → arithmetic_adds sorts facts line ≡ Some k → IsKnownSorted sorts k
+pub arithmetic_sorted : (sorts : Sorts) (facts : List BranchFact) (line : CertificateLine) (k : BranchFact) →
+    AreFactsSorted sorts facts → IsLineSorted sorts line → arithmetic_adds sorts facts line ≡ Some k → IsFactSorted sorts k
 arithmetic_sorted sorts facts (Same t u) k sorted terms e =
-    let p = formula_if_is (compared sorts t u int_eq) (Eq Num t u) k e in
+    let p = formula_if_is (compared_forms sorts t u int_eq) (Eq Num t u) k e in
     let passed = compared_passes sorts t u int_eq p.0 in
-    subst (IsKnownSorted sorts) p.1 ((terms.0, number_is sorts t passed.first), (terms.1, number_is sorts u passed.second))
+    subst (IsFactSorted sorts) p.1 ((terms.0, number_is sorts t passed.first), (terms.1, number_is sorts u passed.second))
 arithmetic_sorted sorts facts (Apart t u) k sorted terms e =
-    let p = formula_if_is (compared sorts t u (λ (y z : ℤ). not (int_eq y z))) (Ne Num t u) k e in
+    let p = formula_if_is (compared_forms sorts t u (λ (y z : ℤ). not (int_eq y z))) (Ne Num t u) k e in
     let passed = compared_passes sorts t u (λ (y z : ℤ). not (int_eq y z)) p.0 in
-    subst (IsKnownSorted sorts) p.1 ((terms.0, number_is sorts t passed.first), (terms.1, number_is sorts u passed.second))
+    subst (IsFactSorted sorts) p.1 ((terms.0, number_is sorts t passed.first), (terms.1, number_is sorts u passed.second))
 arithmetic_sorted sorts facts (Lin n) k sorted terms e =
     let p = followed_from (formula_at facts n) form_of_comparison k e in
     comparison_sorted sorts p.0 k p.2 (fact_is_sorted sorts facts n (Formal p.0) sorted (formula_stands facts n p.0 p.1))
@@ -170,19 +170,19 @@ arithmetic_sorted sorts facts (Tight n) k sorted terms e =
 arithmetic_sorted sorts facts line k sorted terms e = absurd cc
 
 -- atoms alone: what is so of both sides of a comparison is so of its form's
-below_form : (node : ℕ) (outcome : Outcome (Linear Tree)) (k : Known) → Gives (FormAtoms (IsBelow node)) outcome →
-    form_fact outcome ≡ Some k → IsKnownBelow node k
+below_form : (node : ℕ) (outcome : Outcome (Linear Tree)) (k : BranchFact) → Gives (FormAtoms (IsBelow node)) outcome →
+    form_fact outcome ≡ Some k → IsFactBelow node k
 below_form node outcome k given e =
     let p = form_fact_is outcome k e in
-    subst (IsKnownBelow node) p.2 (atoms_each (IsBelow node) p.0.parts (gives_fits (FormAtoms (IsBelow node)) outcome p.0 given p.1))
+    subst (IsFactBelow node) p.2 (atoms_each (IsBelow node) p.0.parts (gives_fits (FormAtoms (IsBelow node)) outcome p.0 given p.1))
 
 -- a fine form's atoms
-fine_below : (node : ℕ) (outcome : Outcome (Linear Tree)) (k : Known) → Gives (IsFine (IsBelow node)) outcome → form_fact outcome ≡ Some k →
-    IsKnownBelow node k
+fine_below : (node : ℕ) (outcome : Outcome (Linear Tree)) (k : BranchFact) → Gives (IsFine (IsBelow node)) outcome → form_fact outcome ≡ Some k →
+    IsFactBelow node k
 fine_below node outcome k given e = below_form node outcome k (gives_more (IsFine (IsBelow node)) (FormAtoms (IsBelow node)) outcome given
     (λ (h : Linear Tree) (fine : IsFine (IsBelow node) h). fine.0)) e
 
-comparison_below : (node : ℕ) (f : Assertion) (k : Known) → form_of_comparison f ≡ Some k → IsFormBelow node f → IsKnownBelow node k
+comparison_below : (node : ℕ) (f : Assertion) (k : BranchFact) → form_of_comparison f ≡ Some k → IsFormBelow node f → IsFactBelow node k
 comparison_below node Yes k e sides = absurd cc
 comparison_below node No k e sides = absurd cc
 comparison_below node (Eq Num t u) k e sides =
@@ -197,11 +197,11 @@ comparison_below node (Lt t u) k e sides =
 comparison_below node (And p q) k e sides = absurd cc
 comparison_below node (Or p q) k e sides = absurd cc
 
-cancelled_below : (node : ℕ) (t : Tree) (f g : Linear Tree) (k : Known) → IsKnownBelow node (Sum f) → IsKnownBelow node (Sum g) →
-    cancelled t f g ≡ Some k → IsKnownBelow node k
+cancelled_below : (node : ℕ) (t : Tree) (f g : Linear Tree) (k : BranchFact) → IsFactBelow node (Sum f) → IsFactBelow node (Sum g) →
+    cancelled t f g ≡ Some k → IsFactBelow node k
 cancelled_below node t f g k first second e = by (can_cancel same_tree f g t) e
   where
-    by : (b : Bool) → (if b then form_fact (elimination same_tree f g t) else None) ≡ Some k → IsKnownBelow node k
+    by : (b : Bool) → (if b then form_fact (elimination same_tree f g t) else None) ≡ Some k → IsFactBelow node k
     by true e =
         below_form node (elimination same_tree f g t) k
         (elimination_among same_tree (IsBelow node) f g t (each_atoms (IsBelow node) f.parts first)
@@ -209,14 +209,14 @@ cancelled_below node t f g k first second e = by (can_cancel same_tree f g t) e
     by false e = absurd cc
 
 -- what a line of arithmetic adds names no later new value than the facts and the line
-pub arithmetic_below : (sorts : Sorts) (node : ℕ) (facts : List Known) (line : CertificateLine) (k : Known) →
-    AreKnownBelow node facts → IsLineBelow node line → arithmetic_adds sorts facts line ≡ Some k → IsKnownBelow node k
+pub arithmetic_below : (sorts : Sorts) (node : ℕ) (facts : List BranchFact) (line : CertificateLine) (k : BranchFact) →
+    AreFactsBelow node facts → IsLineBelow node line → arithmetic_adds sorts facts line ≡ Some k → IsFactBelow node k
 arithmetic_below sorts node facts (Same t u) k below terms e =
-    let p = formula_if_is (compared sorts t u int_eq) (Eq Num t u) k e in
-    subst (IsKnownBelow node) p.1 terms
+    let p = formula_if_is (compared_forms sorts t u int_eq) (Eq Num t u) k e in
+    subst (IsFactBelow node) p.1 terms
 arithmetic_below sorts node facts (Apart t u) k below terms e =
-    let p = formula_if_is (compared sorts t u (λ (y z : ℤ). not (int_eq y z))) (Ne Num t u) k e in
-    subst (IsKnownBelow node) p.1 terms
+    let p = formula_if_is (compared_forms sorts t u (λ (y z : ℤ). not (int_eq y z))) (Ne Num t u) k e in
+    subst (IsFactBelow node) p.1 terms
 arithmetic_below sorts node facts (Lin n) k below terms e =
     let p = followed_from (formula_at facts n) form_of_comparison k e in
     comparison_below node p.0 k p.2 (fact_is_below node facts n (Formal p.0) below (formula_stands facts n p.0 p.1))
@@ -228,12 +228,12 @@ arithmetic_below sorts node facts (Elim i j t) k below terms e =
 arithmetic_below sorts node facts (Tight n) k below terms e =
     let p = followed_from (form_at facts n) (λ (f : Linear Tree). Some (Sum (tightened f))) k e in
     let each = fact_is_below node facts n (Sum p.0) below (form_stands facts n p.0 p.1) in
-    subst (IsKnownBelow node) (some_is (Sum (tightened p.0)) k p.2)
+    subst (IsFactBelow node) (some_is (Sum (tightened p.0)) k p.2)
     (atoms_each (IsBelow node) (tightened p.0).parts (tightened_among (IsBelow node) p.0 (each_atoms (IsBelow node) p.0.parts each)))
 arithmetic_below sorts node facts line k below terms e = absurd cc
 
 -- what is added is added on another branch on which the facts stand
-pub arithmetic_moves : (sorts : Sorts) (move : ℕ → ℕ) (facts others : List Known) (line : CertificateLine) (k : Known) →
+pub arithmetic_moves : (sorts : Sorts) (move : ℕ → ℕ) (facts others : List BranchFact) (line : CertificateLine) (k : BranchFact) →
     StandAmong move facts others → arithmetic_adds sorts facts line ≡ Some k → arithmetic_adds sorts others (moved_line move line) ≡ Some k
 arithmetic_moves sorts move facts others (Same t u) k stand e = e
 arithmetic_moves sorts move facts others (Apart t u) k stand e = e

@@ -26,41 +26,41 @@ use Rattle.sm_term.specs.Terms.{Tree}
 use Rattle.sm_term.specs.Structures.{Structure}
 use Rattle.sm_term.specs.SameTerms.{same_tree}
 use Rattle.sm_term.specs.Assertions.{Assertion, Yes, No, Eq, Ne, Le, Lt, And, Or, Holds}
-use Rattle.sm_theory.specs.Facts.{Known, Formal, Sum, IsFact, AreFacts, number_meant}
+use Rattle.sm_theory.specs.Facts.{BranchFact, Formal, Sum, IsFact, AreFacts, number_meant}
 use Rattle.sm_theory.specs.LinearTerms.{linear_of}
 use Rattle.sm_theory.specs.Lines.{CertificateLine, Same, Apart, Lin, Elim, Tight, followed, formula_at, form_at}
 use Rattle.sm_theory.specs.Equality.{formula_if}
-use Rattle.sm_theory.specs.Arithmetic.{is_number, same_parts, compared, form_fact, difference, one_more, form_of_comparison, cancelled}
+use Rattle.sm_theory.specs.Arithmetic.{is_numeric, same_parts, compared_forms, form_fact, difference, one_more, form_of_comparison, cancelled}
 use Rattle.sm_theory.specs.Arithmetic.{arithmetic_adds}
-use Rattle.sm_theory.specs.SortedFacts.{AreKnownSorted, IsLineSorted}
+use Rattle.sm_theory.specs.SortedFacts.{AreFactsSorted, IsLineSorted}
 use Rattle.sm_theory.proofs.FactsLemmas.{fact_holds, fact_is_sorted, followed_from, formula_stands, form_stands}
 use Rattle.sm_theory.proofs.LinearTermsLemmas.{linear_reduced, linear_value}
 use Rattle.sm_theory.proofs.LinearSameTree.{tree_sound, tree_reflexive}
 use Rattle.sm_theory.proofs.LinearAlikeLemmas.{alike_sum, same_parts_alike, once_reduced}
 
 -- a formula that was added passed its test
-pub formula_if_is : (test : Bool) (f : Assertion) (k : Known) → formula_if test f ≡ Some k → (test ≡ true) × (Formal f ≡ k)
+pub formula_if_is : (test : Bool) (f : Assertion) (k : BranchFact) → formula_if test f ≡ Some k → (test ≡ true) × (Formal f ≡ k)
 formula_if_is true f k e = let same : Formal f ≡ k = cc in (refl, same)
 formula_if_is false f k e = absurd cc
 
 -- a form that was added was computed
-pub form_fact_is : (outcome : Outcome (Linear Tree)) (k : Known) → form_fact outcome ≡ Some k →
+pub form_fact_is : (outcome : Outcome (Linear Tree)) (k : BranchFact) → form_fact outcome ≡ Some k →
     (h : Linear Tree) × (outcome ≡ Fits h) × (Sum h ≡ k)
 form_fact_is (Fits h) k e = let same : Sum h ≡ k = cc in (h, refl, same)
 form_fact_is (Leaves operation y z) k e = absurd cc
 
 -- what two terms passed that were compared
 pub record ArePassed (sorts : Sorts) (t u : Tree) (test : ℤ → ℤ → Bool) : Type 0 where
-  pub first : is_number sorts t ≡ true
-  pub second : is_number sorts u ≡ true
+  pub first : is_numeric sorts t ≡ true
+  pub second : is_numeric sorts u ≡ true
   pub parts : same_parts (linear_of t) (linear_of u) ≡ true
   pub constants : test (linear_of t).constant (linear_of u).constant ≡ true
 
-pub compared_passes : (sorts : Sorts) (t u : Tree) (test : ℤ → ℤ → Bool) → compared sorts t u test ≡ true → ArePassed sorts t u test
+pub compared_passes : (sorts : Sorts) (t u : Tree) (test : ℤ → ℤ → Bool) → compared_forms sorts t u test ≡ true → ArePassed sorts t u test
 compared_passes sorts t u test e =
-    let a = and_parts (is_number sorts t)
-    (is_number sorts u && (same_parts (linear_of t) (linear_of u) && test (linear_of t).constant (linear_of u).constant)) e in
-    let b = and_parts (is_number sorts u) (same_parts (linear_of t) (linear_of u) && test (linear_of t).constant (linear_of u).constant) a.1
+    let a = and_parts (is_numeric sorts t)
+    (is_numeric sorts u && (same_parts (linear_of t) (linear_of u) && test (linear_of t).constant (linear_of u).constant)) e in
+    let b = and_parts (is_numeric sorts u) (same_parts (linear_of t) (linear_of u) && test (linear_of t).constant (linear_of u).constant) a.1
     in
     let c = and_parts (same_parts (linear_of t) (linear_of u)) (test (linear_of t).constant (linear_of u).constant) b.1 in
     record { first = a.0; second = b.0; parts = c.0; constants = c.1 }
@@ -83,7 +83,7 @@ module _ (m : Structure) where
       (same_parts_alike (linear_of t) (linear_of u) first second same)
 
   -- terms of one form are equal numbers
-  pub same_holds : (sorts : Sorts) (t u : Tree) → compared sorts t u int_eq ≡ true → number_meant m t ≡ number_meant m u
+  pub same_holds : (sorts : Sorts) (t u : Tree) → compared_forms sorts t u int_eq ≡ true → number_meant m t ≡ number_meant m u
   same_holds sorts t u e =
       let passed = compared_passes sorts t u int_eq e in
       let parts = sums_of_parts t u passed.parts in
@@ -93,7 +93,7 @@ module _ (m : Structure) where
       omega (arith, sums)
 
   -- terms whose forms differ in the constant alone aren't
-  pub apart_holds : (sorts : Sorts) (t u : Tree) → compared sorts t u (λ (y z : ℤ). not (int_eq y z)) ≡ true →
+  pub apart_holds : (sorts : Sorts) (t u : Tree) → compared_forms sorts t u (λ (y z : ℤ). not (int_eq y z)) ≡ true →
       number_meant m t ≡ number_meant m u → ⊥
   apart_holds sorts t u e equal =
       let passed = compared_passes sorts t u (λ (y z : ℤ). not (int_eq y z)) e in
@@ -141,7 +141,7 @@ module _ (m : Structure) where
       (subst (Satisfies k) (sym value) is)
 
   -- a difference that was added holds where it is as its kind says
-  difference_holds : (t u : Tree) (kd : Kind) (k : Known) → form_fact (difference t u kd) ≡ Some k →
+  difference_holds : (t u : Tree) (kd : Kind) (k : BranchFact) → form_fact (difference t u kd) ≡ Some k →
       Satisfies kd (number_meant m t -ℤ number_meant m u) → IsFact m k
   difference_holds t u kd k e is =
       let p = form_fact_is (difference t u kd) k e in
@@ -149,7 +149,7 @@ module _ (m : Structure) where
       subst (IsFact m) p.2 (holds_by p.0 kd (number_meant m t -ℤ number_meant m u) given.0 given.1 is)
 
   -- so does one with 1 more of a number that is less
-  strict_holds : (t u : Tree) (k : Known) → form_fact (then_with (difference t u kind.Le) one_more) ≡ Some k →
+  strict_holds : (t u : Tree) (k : BranchFact) → form_fact (then_with (difference t u kind.Le) one_more) ≡ Some k →
       number_meant m t <ℤ number_meant m u → IsFact m k
   strict_holds t u k e less =
       let p = form_fact_is (then_with (difference t u kind.Le) one_more) k e in
@@ -166,7 +166,7 @@ module _ (m : Structure) where
       subst (IsFact m) p.2 (holds_by p.0 kind.Le (x +ℤ pos 1) given.0 given.1 (omega (arith, sums)))
 
   -- the form of a comparison holds where the comparison does
-  pub comparison_holds : (f : Assertion) (k : Known) → form_of_comparison f ≡ Some k → Holds m f → IsFact m k
+  pub comparison_holds : (f : Assertion) (k : BranchFact) → form_of_comparison f ≡ Some k → Holds m f → IsFact m k
   comparison_holds Yes k e h = absurd cc
   comparison_holds No k e h = absurd cc
   comparison_holds (Eq Num t u) k e h = difference_holds t u kind.Eq k e (nothing_less (number_meant m t) (number_meant m u) h)
@@ -184,7 +184,7 @@ module _ (m : Structure) where
   comparison_holds (Or p q) k e h = absurd cc
 
   -- the sum of two forms that hold, in which a term cancels, holds
-  pub cancelled_holds : (t : Tree) (f g : Linear Tree) (k : Known) → AreReduced same_tree f.parts → cancelled t f g ≡ Some k →
+  pub cancelled_holds : (t : Tree) (f g : Linear Tree) (k : BranchFact) → AreReduced same_tree f.parts → cancelled t f g ≡ Some k →
       IsFact m (Sum f) → IsFact m (Sum g) → IsFact m k
   cancelled_holds t f g k reduced e first second = by (can_cancel same_tree f g t) refl e
     where
@@ -199,13 +199,13 @@ module _ (m : Structure) where
   contradiction_fails f e h = contradictory_never (number_meant m) f e h
 
 -- what a line of arithmetic adds holds wherever the facts do
-pub arithmetic_holds : (sorts : Sorts) (m : Structure) (facts : List Known) (line : CertificateLine) (k : Known) →
-    AreKnownSorted sorts facts → IsLineSorted sorts line → arithmetic_adds sorts facts line ≡ Some k → AreFacts m facts → IsFact m k
+pub arithmetic_holds : (sorts : Sorts) (m : Structure) (facts : List BranchFact) (line : CertificateLine) (k : BranchFact) →
+    AreFactsSorted sorts facts → IsLineSorted sorts line → arithmetic_adds sorts facts line ≡ Some k → AreFacts m facts → IsFact m k
 arithmetic_holds sorts m facts (Same t u) k sorted terms e all =
-    let p = formula_if_is (compared sorts t u int_eq) (Eq Num t u) k e in
+    let p = formula_if_is (compared_forms sorts t u int_eq) (Eq Num t u) k e in
     subst (IsFact m) p.1 (same_holds m sorts t u p.0)
 arithmetic_holds sorts m facts (Apart t u) k sorted terms e all =
-    let p = formula_if_is (compared sorts t u (λ (y z : ℤ). not (int_eq y z))) (Ne Num t u) k e in
+    let p = formula_if_is (compared_forms sorts t u (λ (y z : ℤ). not (int_eq y z))) (Ne Num t u) k e in
     subst (IsFact m) p.1 (apart_holds m sorts t u p.0)
 arithmetic_holds sorts m facts (Lin n) k sorted terms e all =
     let p = followed_from (formula_at facts n) form_of_comparison k e in
@@ -222,6 +222,6 @@ arithmetic_holds sorts m facts (Tight n) k sorted terms e all =
     let same : Sum (tightened p.0) ≡ k = some_is (Sum (tightened p.0)) k p.2 in
     subst (IsFact m) same ((tighten_means (number_meant m) p.0).0 (fact_holds m facts n (Sum p.0) all (form_stands facts n p.0 p.1)))
   where
-    some_is : (j k : Known) → Some j ≡ Some k → j ≡ k
+    some_is : (j k : BranchFact) → Some j ≡ Some k → j ≡ k
     some_is j k e = cc
 arithmetic_holds sorts m facts line k sorted terms e all = absurd cc

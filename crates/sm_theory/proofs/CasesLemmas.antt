@@ -9,7 +9,7 @@ use Rattle.sm_num.specs.declared.kind.Kind.{Kind}
 use Rattle.sm_num.specs.declared.kind.Kind.TheVariants as kind
 use Rattle.sm_term.specs.Terms.{Tree, Start, Read, Write, Neg, Add, Sub, Mul, Fun, Over, Given}
 use Rattle.sm_term.specs.Assertions.{Assertion, Yes, No, Eq, Ne, Le, Lt, And, Or}
-use Rattle.sm_theory.specs.Facts.{Formal, Sum, known}
+use Rattle.sm_theory.specs.Facts.{Formal, Sum, as_facts}
 use Rattle.sm_theory.specs.Lines.{CertificateLine, Both, Either, Cases, Order, Refl, Sym, Trans, Subst, Cong, Hit, Miss, Close, Clash}
 use Rattle.sm_theory.specs.Ways.{Ways, ways}
 
@@ -40,7 +40,7 @@ b = Start 4
 
 -- what a line does to a branch with these formulas
 abbrev after : List Assertion → CertificateLine → Ways
-after fs line = ways declared (known fs) line
+after fs line = ways declared (as_facts fs) line
 
 -- and to a branch with one linear form, which says that a number is at most 0
 abbrev after_sum : CertificateLine → Ways

@@ -92,17 +92,17 @@ given_same sorts m ts us names sorted alike z = absurd cc
 
 -- values that are equal by the sort of a declared name
 as_declared : (o : Option Sort) (u v : Value) → IsTrue (is_some o) → SameIfSorted o u v → SameAs (unwrap_or o Num) u v
-as_declared None u v known h = absurd cc
-as_declared (Some sort) u v known h = h
+as_declared None u v as_facts h = absurd cc
+as_declared (Some sort) u v as_facts h = h
 
 -- the values of a name at ends that are alike
 ends_same : (sorts : Sorts) (x : ℕ) (o p : Option Store) → IsDeclaredIn sorts x →
     EndAlike (λ (u v : Store). SameIfSorted (sorts x) (u x) (v x)) o p →
     SameAs (sort_named sorts x) (value_at o x) (value_at p x)
-ends_same sorts x None None known h = same_itself (sort_named sorts x) zero_value
-ends_same sorts x None (Some t) known h = absurd h
-ends_same sorts x (Some s) None known h = absurd h
-ends_same sorts x (Some s) (Some t) known h = as_declared (sorts x) (s x) (t x) known h
+ends_same sorts x None None as_facts h = same_itself (sort_named sorts x) zero_value
+ends_same sorts x None (Some t) as_facts h = absurd h
+ends_same sorts x (Some s) None as_facts h = absurd h
+ends_same sorts x (Some s) (Some t) as_facts h = as_declared (sorts x) (s x) (t x) as_facts h
 
 -- summaries of one code and one name
 summaries_same : (sorts : Sorts) (m : Structure) (c : Code) (x : ℕ) (ts us : Arguments) → IsSorted sorts (Fun c x ts) →

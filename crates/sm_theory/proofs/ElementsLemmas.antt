@@ -16,11 +16,11 @@ use Rattle.sm_term.specs.Sorted.{tree_sort, IsSorted}
 use Rattle.sm_term.specs.Fresh.{IsBelow}
 use Rattle.sm_term.specs.SameTerms.{same_tree}
 use Rattle.sm_term.proofs.SameTermsLemmas.{same_tree_is}
-use Rattle.sm_theory.specs.Facts.{Known, Formal, IsFact, AreFacts}
+use Rattle.sm_theory.specs.Facts.{BranchFact, Formal, IsFact, AreFacts}
 use Rattle.sm_theory.specs.Lines.{Hit, Miss, followed, equation_at, contrary_at}
 use Rattle.sm_theory.specs.Equality.{formula_if, says_equal}
 use Rattle.sm_theory.specs.Elements.{Written, written_in, read_in, read_of_written, element_adds}
-use Rattle.sm_theory.specs.SortedFacts.{IsKnownSorted, AreKnownSorted, IsKnownBelow}
+use Rattle.sm_theory.specs.SortedFacts.{IsFactSorted, AreFactsSorted, IsFactBelow}
 use Rattle.sm_theory.specs.Laws.{AddsWhatHolds, AddsWhatIsSorted, AddsWhatIsBelow, AddsAnywhere, arrays}
 use Rattle.sm_theory.proofs.FactsLemmas.{fact_holds, fact_is_sorted, contrary, contrary_stands, followed_from, Gives}
 use Rattle.sm_theory.proofs.FactsLemmas.{followed_gives, gives_itself, equation_moves, contrary_moves}
@@ -43,7 +43,7 @@ abbrev pub read_back : Written → Tree → Tree
 read_back w j = Read (Write w.before w.index w.element) j
 
 -- what goes on from such a read was one
-read_back_from : (t : Tree) (next : Written → Tree → Option Known) (k : Known) → read_of_written t next ≡ Some k →
+read_back_from : (t : Tree) (next : Written → Tree → Option BranchFact) (k : BranchFact) → read_of_written t next ≡ Some k →
     (w : Written) × (j : Tree) × (t ≡ read_back w j) × (next w j ≡ Some k)
 read_back_from t next k h =
     let p = followed_from (read_in t) (λ (r : Tree × Tree). followed (written_in r.0) (λ (w : Written). next w r.1)) k h in
@@ -51,7 +51,7 @@ read_back_from t next k h =
     (q.0, p.0.1, read_is t p.0 p.1 ∙ ap (λ (a : Tree). Read a p.0.1) (written_is p.0.0 q.0 q.1), q.2)
 
 -- an element is read at its index
-pub hit_from : (facts : List Known) (t : Tree) (n : ℕ) (k : Known) → element_adds facts (Hit t n) ≡ Some k →
+pub hit_from : (facts : List BranchFact) (t : Tree) (n : ℕ) (k : BranchFact) → element_adds facts (Hit t n) ≡ Some k →
     (w : Written) × (j : Tree) × (t ≡ read_back w j) × IsTrue (says_equal (equation_at facts n) w.index j) ×
     (Formal (Eq Num t w.element) ≡ k)
 hit_from facts t n k h =
@@ -61,7 +61,7 @@ hit_from facts t n k h =
     (p.0, p.1, p.2, q.0, q.1)
 
 -- at another
-pub miss_from : (facts : List Known) (t u : Tree) (n : ℕ) (k : Known) → element_adds facts (Miss t u n) ≡ Some k →
+pub miss_from : (facts : List BranchFact) (t u : Tree) (n : ℕ) (k : BranchFact) → element_adds facts (Miss t u n) ≡ Some k →
     (w : Written) × (j : Tree) × (t ≡ read_back w j) × IsTrue (says_equal (contrary_at facts n) w.index j) × (u ≡ Read w.before j) ×
     (Formal (Eq Num t u) ≡ k)
 miss_from facts t u n k h =
@@ -73,7 +73,7 @@ miss_from facts t u n k h =
     (p.0, p.1, p.2, r.0, (same_tree_is u (Read p.0.before p.1)).0 r.1, q.1)
 
 -- a fact that says that two terms aren't equal
-pub says_apart : (sorts : Sorts) (m : Structure) (facts : List Known) (n : ℕ) (t u : Tree) → AreKnownSorted sorts facts → AreFacts m facts →
+pub says_apart : (sorts : Sorts) (m : Structure) (facts : List BranchFact) (n : ℕ) (t u : Tree) → AreFactsSorted sorts facts → AreFacts m facts →
     IsTrue (says_equal (contrary_at facts n) t u) →
     SameAs (tree_sort sorts t) (meaning m t) (meaning m u) → ⊥
 says_apart sorts m facts n t u all hold h =
@@ -131,10 +131,10 @@ pub arrays_sorted : AddsWhatIsSorted arrays
 arrays_sorted sorts facts (Hit t n) k all named h =
     let p = hit_from facts t n k h in
     let g = subst (IsSorted sorts) p.2 named in
-    subst (IsKnownSorted sorts) p.4 ((named, ap (tree_sort sorts) p.2), (g.0.4, g.0.5))
+    subst (IsFactSorted sorts) p.4 ((named, ap (tree_sort sorts) p.2), (g.0.4, g.0.5))
 arrays_sorted sorts facts (Miss t u n) k all named h =
     let p = miss_from facts t u n k h in
-    subst (IsKnownSorted sorts) p.5 ((named.0, ap (tree_sort sorts) p.2), (named.1, ap (tree_sort sorts) p.4))
+    subst (IsFactSorted sorts) p.5 ((named.0, ap (tree_sort sorts) p.2), (named.1, ap (tree_sort sorts) p.4))
 arrays_sorted sorts facts line k all named h = absurd cc
 
 -- it names new values of earlier nodes alone
@@ -142,13 +142,13 @@ pub arrays_below : AddsWhatIsBelow arrays
 arrays_below sorts node facts (Hit t n) k all named h =
     let p = hit_from facts t n k h in
     let g = subst (IsBelow node) p.2 named in
-    subst (IsKnownBelow node) p.4 (named, g.0.2)
+    subst (IsFactBelow node) p.4 (named, g.0.2)
 arrays_below sorts node facts (Miss t u n) k all named h =
-    let p = miss_from facts t u n k h in subst (IsKnownBelow node) p.5 named
+    let p = miss_from facts t u n k h in subst (IsFactBelow node) p.5 named
 arrays_below sorts node facts line k all named h = absurd cc
 
 -- what goes on from a read
-read_gives : (t : Tree) (next other : Written → Tree → Option Known) → ((w : Written) (j : Tree) → Gives (next w j) (other w j)) →
+read_gives : (t : Tree) (next other : Written → Tree → Option BranchFact) → ((w : Written) (j : Tree) → Gives (next w j) (other w j)) →
     Gives (read_of_written t next) (read_of_written t other)
 read_gives t next other more =
     followed_gives (read_in t) (read_in t) (λ (r : Tree × Tree). followed (written_in r.0) (λ (w : Written). next w r.1))

@@ -11,12 +11,12 @@ use Rattle.sm_term.specs.SameTerms.{same_tree}
 use Rattle.sm_term.specs.Heads.{arguments_of, same_head}
 use Rattle.sm_term.proofs.SameTermsLemmas.{same_tree_is}
 use Rattle.sm_term.proofs.HeadsLemmas.{same_head_has_sort}
-use Rattle.sm_theory.specs.Facts.{Known, Formal}
+use Rattle.sm_theory.specs.Facts.{BranchFact, Formal}
 use Rattle.sm_theory.specs.Lines.{Refl, Sym, Trans, Subst, Cong, followed, formula_in, Sides, equal_sides}
 use Rattle.sm_theory.specs.Lines.{unequal_sides, equation_at, contrary_at}
-use Rattle.sm_theory.specs.Equality.{formula_if, turned_equation, turned_contrary, or_else, chained, substituted}
+use Rattle.sm_theory.specs.Equality.{formula_if, turned_equation, turned_contrary, or_other, chained, substituted}
 use Rattle.sm_theory.specs.Equality.{says_equal, say_equal, is_inhabited_list, equality_adds}
-use Rattle.sm_theory.specs.SortedFacts.{IsKnownSorted, IsKnownBelow}
+use Rattle.sm_theory.specs.SortedFacts.{IsFactSorted, IsFactBelow}
 use Rattle.sm_theory.specs.Moved.{StandAmong}
 use Rattle.sm_theory.specs.Laws.{AddsWhatIsSorted, AddsWhatIsBelow, AddsAnywhere, equality}
 use Rattle.sm_theory.proofs.FactsLemmas.{fact_is_sorted, fact_is_below, equation, contrary, followed_from}
@@ -24,12 +24,12 @@ use Rattle.sm_theory.proofs.FactsLemmas.{equation_stands, contrary_stands, Gives
 use Rattle.sm_theory.proofs.FactsLemmas.{equation_moves, contrary_moves}
 
 -- the first of two, or the second
-pub or_else_from : {T : Type 0} (o p : Option T) (t : T) → or_else o p ≡ Some t → (o ≡ Some t) ⊎ (p ≡ Some t)
+pub or_else_from : {T : Type 0} (o p : Option T) (t : T) → or_other o p ≡ Some t → (o ≡ Some t) ⊎ (p ≡ Some t)
 or_else_from None p t h = inr h
 or_else_from (Some s) p t h = inl h
 
 -- a formula that is added where a test is passed
-pub formula_if_from : (test : Bool) (f : Assertion) (k : Known) → formula_if test f ≡ Some k → (test ≡ true) × (Formal f ≡ k)
+pub formula_if_from : (test : Bool) (f : Assertion) (k : BranchFact) → formula_if test f ≡ Some k → (test ≡ true) × (Formal f ≡ k)
 formula_if_from true f k h = (refl, cc)
 formula_if_from false f k h = absurd cc
 
@@ -51,8 +51,8 @@ formula_if_moves true other f passes k h = rw (passes refl) h
 formula_if_moves false other f passes k h = absurd cc
 
 -- what turns round: an equation, or its contrary
-sym_from : (facts : List Known) (n : ℕ) (k : Known) →
-    or_else (followed (equation_at facts n) turned_equation) (followed (contrary_at facts n) turned_contrary) ≡ Some k →
+sym_from : (facts : List BranchFact) (n : ℕ) (k : BranchFact) →
+    or_other (followed (equation_at facts n) turned_equation) (followed (contrary_at facts n) turned_contrary) ≡ Some k →
     ((s : Sides) × (slice_get facts n ≡ Some (equation s)) × (Formal (Eq s.sort s.right s.left) ≡ k)) ⊎
     ((s : Sides) × (slice_get facts n ≡ Some (contrary s)) × (Formal (Ne s.sort s.right s.left) ≡ k))
 sym_from facts n k h =
@@ -68,7 +68,7 @@ sym_from facts n k h =
     (or_else_from (followed (equation_at facts n) turned_equation) (followed (contrary_at facts n) turned_contrary) k h)
 
 -- two equations that join
-pub trans_from : (facts : List Known) (i j : ℕ) (k : Known) →
+pub trans_from : (facts : List BranchFact) (i j : ℕ) (k : BranchFact) →
     followed (equation_at facts i) (λ (s : Sides). followed (equation_at facts j) (chained s)) ≡ Some k →
     (s : Sides) × (r : Sides) × (slice_get facts i ≡ Some (equation s)) × (slice_get facts j ≡ Some (equation r)) × (s.right ≡ r.left) ×
     (Formal (Eq s.sort s.left r.right) ≡ k)
@@ -79,7 +79,7 @@ trans_from facts i j k h =
     (p.0, q.0, equation_stands facts i p.0 p.1, equation_stands facts j q.0 q.1, (same_tree_is p.0.right q.0.left).0 r.0, r.1)
 
 -- a contrary and an equation of its first side
-pub subst_from : (facts : List Known) (i j : ℕ) (k : Known) →
+pub subst_from : (facts : List BranchFact) (i j : ℕ) (k : BranchFact) →
     followed (contrary_at facts i) (λ (s : Sides). followed (equation_at facts j) (substituted s)) ≡ Some k →
     (s : Sides) × (r : Sides) × (slice_get facts i ≡ Some (contrary s)) × (slice_get facts j ≡ Some (equation r)) × (s.left ≡ r.left) ×
     (Formal (Ne s.sort r.right s.right) ≡ k)
@@ -90,7 +90,7 @@ subst_from facts i j k h =
     (p.0, q.0, contrary_stands facts i p.0 p.1, equation_stands facts j q.0 q.1, (same_tree_is p.0.left q.0.left).0 r.0, r.1)
 
 -- one head, and equal arguments
-pub cong_from : (sorts : Sorts) (facts : List Known) (t u : Tree) (ns : List ℕ) (k : Known) →
+pub cong_from : (sorts : Sorts) (facts : List BranchFact) (t u : Tree) (ns : List ℕ) (k : BranchFact) →
     equality_adds sorts facts (Cong t u ns) ≡ Some k →
     IsTrue (is_inhabited_list ns) × IsTrue (same_head t u) × IsTrue (say_equal facts ns (arguments_of t) (arguments_of u)) ×
     (Formal (Eq (tree_sort sorts t) t u) ≡ k)
@@ -102,7 +102,7 @@ cong_from sorts facts t u ns k h =
     (q.0, r.0, r.1, p.1)
 
 -- what turns round, of the fact at a place
-pub turned_from : (sorts : Sorts) (facts : List Known) (n : ℕ) (k : Known) → equality_adds sorts facts (Sym n) ≡ Some k →
+pub turned_from : (sorts : Sorts) (facts : List BranchFact) (n : ℕ) (k : BranchFact) → equality_adds sorts facts (Sym n) ≡ Some k →
     ((s : Sides) × (slice_get facts n ≡ Some (equation s)) × (Formal (Eq s.sort s.right s.left) ≡ k)) ⊎
     ((s : Sides) × (slice_get facts n ≡ Some (contrary s)) × (Formal (Ne s.sort s.right s.left) ≡ k))
 turned_from sorts facts n k h = sym_from facts n k h
@@ -110,56 +110,56 @@ turned_from sorts facts n k h = sym_from facts n k h
 -- what equality adds is sorted
 pub equality_sorted : AddsWhatIsSorted equality
 equality_sorted sorts facts (Refl t) k all named h =
-    let is : Formal (Eq (tree_sort sorts t) t t) ≡ k = cc in subst (IsKnownSorted sorts) is ((named, refl), (named, refl))
+    let is : Formal (Eq (tree_sort sorts t) t t) ≡ k = cc in subst (IsFactSorted sorts) is ((named, refl), (named, refl))
 equality_sorted sorts facts (Sym n) k all named h =
     ⊎_elim
     (λ (p : (s : Sides) × (slice_get facts n ≡ Some (equation s)) × (Formal (Eq s.sort s.right s.left) ≡ k)).
-    let g = fact_is_sorted sorts facts n (equation p.0) all p.1 in subst (IsKnownSorted sorts) p.2 (g.1, g.0))
+    let g = fact_is_sorted sorts facts n (equation p.0) all p.1 in subst (IsFactSorted sorts) p.2 (g.1, g.0))
     (λ (p : (s : Sides) × (slice_get facts n ≡ Some (contrary s)) × (Formal (Ne s.sort s.right s.left) ≡ k)).
-    let g = fact_is_sorted sorts facts n (contrary p.0) all p.1 in subst (IsKnownSorted sorts) p.2 (g.1, g.0))
+    let g = fact_is_sorted sorts facts n (contrary p.0) all p.1 in subst (IsFactSorted sorts) p.2 (g.1, g.0))
     (turned_from sorts facts n k h)
 equality_sorted sorts facts (Trans i j) k all named h =
     let p = trans_from facts i j k h in
     let f = fact_is_sorted sorts facts i (equation p.0) all p.2 in
     let g = fact_is_sorted sorts facts j (equation p.1) all p.3 in
-    subst (IsKnownSorted sorts) p.5 (f.0, (g.1.0, g.1.1 ∙ sym g.0.1 ∙ ap (tree_sort sorts) (sym p.4) ∙ f.1.1))
+    subst (IsFactSorted sorts) p.5 (f.0, (g.1.0, g.1.1 ∙ sym g.0.1 ∙ ap (tree_sort sorts) (sym p.4) ∙ f.1.1))
 equality_sorted sorts facts (Subst i j) k all named h =
     let p = subst_from facts i j k h in
     let f = fact_is_sorted sorts facts i (contrary p.0) all p.2 in
     let g = fact_is_sorted sorts facts j (equation p.1) all p.3 in
-    subst (IsKnownSorted sorts) p.5 ((g.1.0, g.1.1 ∙ sym g.0.1 ∙ ap (tree_sort sorts) (sym p.4) ∙ f.0.1), f.1)
+    subst (IsFactSorted sorts) p.5 ((g.1.0, g.1.1 ∙ sym g.0.1 ∙ ap (tree_sort sorts) (sym p.4) ∙ f.0.1), f.1)
 equality_sorted sorts facts (Cong t u ns) k all named h =
     let p = cong_from sorts facts t u ns k h in
-    subst (IsKnownSorted sorts) p.3 ((named.0, refl), (named.1, sym (same_head_has_sort sorts t u p.1)))
+    subst (IsFactSorted sorts) p.3 ((named.0, refl), (named.1, sym (same_head_has_sort sorts t u p.1)))
 equality_sorted sorts facts line k all named h = absurd cc
 
 -- it names new values of earlier nodes alone
 pub equality_below : AddsWhatIsBelow equality
 equality_below sorts node facts (Refl t) k all named h =
-    let is : Formal (Eq (tree_sort sorts t) t t) ≡ k = cc in subst (IsKnownBelow node) is (named, named)
+    let is : Formal (Eq (tree_sort sorts t) t t) ≡ k = cc in subst (IsFactBelow node) is (named, named)
 equality_below sorts node facts (Sym n) k all named h =
     ⊎_elim
     (λ (p : (s : Sides) × (slice_get facts n ≡ Some (equation s)) × (Formal (Eq s.sort s.right s.left) ≡ k)).
-    let g = fact_is_below node facts n (equation p.0) all p.1 in subst (IsKnownBelow node) p.2 (g.1, g.0))
+    let g = fact_is_below node facts n (equation p.0) all p.1 in subst (IsFactBelow node) p.2 (g.1, g.0))
     (λ (p : (s : Sides) × (slice_get facts n ≡ Some (contrary s)) × (Formal (Ne s.sort s.right s.left) ≡ k)).
-    let g = fact_is_below node facts n (contrary p.0) all p.1 in subst (IsKnownBelow node) p.2 (g.1, g.0))
+    let g = fact_is_below node facts n (contrary p.0) all p.1 in subst (IsFactBelow node) p.2 (g.1, g.0))
     (turned_from sorts facts n k h)
 equality_below sorts node facts (Trans i j) k all named h =
     let p = trans_from facts i j k h in
     let f = fact_is_below node facts i (equation p.0) all p.2 in
     let g = fact_is_below node facts j (equation p.1) all p.3 in
-    subst (IsKnownBelow node) p.5 (f.0, g.1)
+    subst (IsFactBelow node) p.5 (f.0, g.1)
 equality_below sorts node facts (Subst i j) k all named h =
     let p = subst_from facts i j k h in
     let f = fact_is_below node facts i (contrary p.0) all p.2 in
     let g = fact_is_below node facts j (equation p.1) all p.3 in
-    subst (IsKnownBelow node) p.5 (g.1, f.1)
+    subst (IsFactBelow node) p.5 (g.1, f.1)
 equality_below sorts node facts (Cong t u ns) k all named h =
-    let p = cong_from sorts facts t u ns k h in subst (IsKnownBelow node) p.3 (named.0, named.1)
+    let p = cong_from sorts facts t u ns k h in subst (IsFactBelow node) p.3 (named.0, named.1)
 equality_below sorts node facts line k all named h = absurd cc
 
 -- facts that say that terms are equal say it on another branch
-say_moves : (move : ℕ → ℕ) (facts others : List Known) (ns : List ℕ) (ts us : List Tree) → StandAmong move facts others →
+say_moves : (move : ℕ → ℕ) (facts others : List BranchFact) (ns : List ℕ) (ts us : List Tree) → StandAmong move facts others →
     say_equal facts ns ts us ≡ true → say_equal others (map move ns) ts us ≡ true
 say_moves move facts others [] [] [] stand h = refl
 say_moves move facts others (n ∷ ns) (t ∷ ts) (u ∷ us) stand h =
@@ -175,14 +175,14 @@ inhabited_moves move [] h = h
 inhabited_moves move (n ∷ ns) h = refl
 
 -- what is made of one fact is made of it on the other branch
-through : (F : Option Known → Option Known) (o p : Option Known) → F None ≡ None → Gives o p → Gives (F o) (F p)
+through : (F : Option BranchFact → Option BranchFact) (o p : Option BranchFact) → F None ≡ None → Gives o p → Gives (F o) (F p)
 through F None p none now k h = absurd cc
-through F (Some f) p none now k h = subst (λ (q : Option Known). F q ≡ Some k) (sym (now f refl)) h
+through F (Some f) p none now k h = subst (λ (q : Option BranchFact). F q ≡ Some k) (sym (now f refl)) h
 
 -- the other way round, of what may be there
-abbrev turned : Option Known → Option Known
+abbrev turned : Option BranchFact → Option BranchFact
 turned o =
-    or_else (followed (followed (followed o formula_in) equal_sides) turned_equation)
+    or_other (followed (followed (followed o formula_in) equal_sides) turned_equation)
     (followed (followed (followed o formula_in) unequal_sides) turned_contrary)
 
 -- another branch with the same facts gives it too

@@ -9,10 +9,10 @@ use Rattle.sm_term.specs.Structures.{Structure, meaning}
 use Rattle.sm_term.specs.Assertions.{Eq, Ne}
 use Rattle.sm_term.specs.Sorted.{tree_sort}
 use Rattle.sm_term.specs.Heads.{arguments_of}
-use Rattle.sm_theory.specs.Facts.{Known, Formal, IsFact, AreFacts}
+use Rattle.sm_theory.specs.Facts.{BranchFact, Formal, IsFact, AreFacts}
 use Rattle.sm_theory.specs.Lines.{Refl, Sym, Trans, Subst, Cong, Sides, equation_at}
 use Rattle.sm_theory.specs.Equality.{says_equal, say_equal}
-use Rattle.sm_theory.specs.SortedFacts.{AreKnownSorted}
+use Rattle.sm_theory.specs.SortedFacts.{AreFactsSorted}
 use Rattle.sm_theory.specs.Laws.{AddsWhatHolds, equality}
 use Rattle.sm_theory.proofs.FactsLemmas.{fact_holds, fact_is_sorted, equation, contrary, equation_stands}
 use Rattle.sm_theory.proofs.EqualityLemmas.{says_from, turned_from, trans_from, subst_from, cong_from}
@@ -23,7 +23,7 @@ one_sort : (sorts : Sorts) (s r : Sort) (t u : Tree) → t ≡ u → tree_sort s
 one_sort sorts s r t u same first second = sym second ∙ ap (tree_sort sorts) (sym same) ∙ first
 
 -- a fact that says that two terms are equal
-pub says_means : (sorts : Sorts) (m : Structure) (facts : List Known) (n : ℕ) (t u : Tree) → AreKnownSorted sorts facts → AreFacts m facts →
+pub says_means : (sorts : Sorts) (m : Structure) (facts : List BranchFact) (n : ℕ) (t u : Tree) → AreFactsSorted sorts facts → AreFacts m facts →
     IsTrue (says_equal (equation_at facts n) t u) →
     SameAs (tree_sort sorts t) (meaning m t) (meaning m u)
 says_means sorts m facts n t u all hold h =
@@ -36,7 +36,7 @@ says_means sorts m facts n t u all hold h =
     (fact_holds m facts n (equation p.0) hold stands)))
 
 -- facts that say that terms are equal in order
-say_means : (sorts : Sorts) (m : Structure) (facts : List Known) (ns : List ℕ) (ts us : List Tree) → AreKnownSorted sorts facts →
+say_means : (sorts : Sorts) (m : Structure) (facts : List BranchFact) (ns : List ℕ) (ts us : List Tree) → AreFactsSorted sorts facts →
     AreFacts m facts → IsTrue (say_equal facts ns ts us) →
     Alike sorts m ts us
 say_means sorts m facts [] [] [] all hold h = tt

@@ -6,38 +6,38 @@ use Rattle.sm_term.specs.Structures.{Structure}
 use Rattle.sm_term.specs.Assertions.{Assertion, Eq, Ne}
 use Rattle.sm_num.specs.Forms.{Linear}
 use Rattle.sm_term.specs.Terms.{Tree}
-use Rattle.sm_theory.specs.Facts.{Known, Formal, Sum, IsFact, AreFacts}
+use Rattle.sm_theory.specs.Facts.{BranchFact, Formal, Sum, IsFact, AreFacts}
 use Rattle.sm_theory.specs.Lines.{followed, formula_in, form_in, formula_at, form_at, Sides, equal_sides, unequal_sides}
 use Rattle.sm_theory.specs.Lines.{equation_at, contrary_at}
-use Rattle.sm_theory.specs.SortedFacts.{IsKnownSorted, AreKnownSorted, IsKnownBelow, AreKnownBelow}
+use Rattle.sm_theory.specs.SortedFacts.{IsFactSorted, AreFactsSorted, IsFactBelow, AreFactsBelow}
 use Rattle.sm_theory.specs.Moved.{StandAmong}
 
 -- each fact of a branch holds where all do
-pub fact_holds : (m : Structure) (facts : List Known) (n : ℕ) (k : Known) → AreFacts m facts → slice_get facts n ≡ Some k → IsFact m k
+pub fact_holds : (m : Structure) (facts : List BranchFact) (n : ℕ) (k : BranchFact) → AreFacts m facts → slice_get facts n ≡ Some k → IsFact m k
 fact_holds m [] n k all is = absurd cc
 fact_holds m (f ∷ fs) zero k all is = let same : f ≡ k = cc in subst (IsFact m) same all.0
 fact_holds m (f ∷ fs) (suc n) k all is = fact_holds m fs n k all.1 is
 
 -- each is sorted where all are
-pub fact_is_sorted : (sorts : Sorts) (facts : List Known) (n : ℕ) (k : Known) → AreKnownSorted sorts facts → slice_get facts n ≡ Some k →
-    IsKnownSorted sorts k
+pub fact_is_sorted : (sorts : Sorts) (facts : List BranchFact) (n : ℕ) (k : BranchFact) → AreFactsSorted sorts facts → slice_get facts n ≡ Some k →
+    IsFactSorted sorts k
 fact_is_sorted sorts [] n k all is = absurd cc
-fact_is_sorted sorts (f ∷ fs) zero k all is = let same : f ≡ k = cc in subst (IsKnownSorted sorts) same all.0
+fact_is_sorted sorts (f ∷ fs) zero k all is = let same : f ≡ k = cc in subst (IsFactSorted sorts) same all.0
 fact_is_sorted sorts (f ∷ fs) (suc n) k all is = fact_is_sorted sorts fs n k all.1 is
 
 -- each names new values of earlier nodes alone where all do
-pub fact_is_below : (node : ℕ) (facts : List Known) (n : ℕ) (k : Known) → AreKnownBelow node facts → slice_get facts n ≡ Some k →
-    IsKnownBelow node k
+pub fact_is_below : (node : ℕ) (facts : List BranchFact) (n : ℕ) (k : BranchFact) → AreFactsBelow node facts → slice_get facts n ≡ Some k →
+    IsFactBelow node k
 fact_is_below node [] n k all is = absurd cc
-fact_is_below node (f ∷ fs) zero k all is = let same : f ≡ k = cc in subst (IsKnownBelow node) same all.0
+fact_is_below node (f ∷ fs) zero k all is = let same : f ≡ k = cc in subst (IsFactBelow node) same all.0
 fact_is_below node (f ∷ fs) (suc n) k all is = fact_is_below node fs n k all.1 is
 
 -- an equation, told by its sides
-abbrev pub equation : Sides → Known
+abbrev pub equation : Sides → BranchFact
 equation s = Formal (Eq s.sort s.left s.right)
 
 -- its contrary
-abbrev pub contrary : Sides → Known
+abbrev pub contrary : Sides → BranchFact
 contrary s = Formal (Ne s.sort s.left s.right)
 
 -- what is followed to an end was there
@@ -47,12 +47,12 @@ followed_from None next t h = absurd cc
 followed_from (Some s) next t h = (s, refl, h)
 
 -- a formula that is found is the fact
-formula_is : (k : Known) (f : Assertion) → formula_in k ≡ Some f → k ≡ Formal f
+formula_is : (k : BranchFact) (f : Assertion) → formula_in k ≡ Some f → k ≡ Formal f
 formula_is (Formal g) f h = let same : g ≡ f = cc in ap Formal same
 formula_is (Sum g) f h = absurd cc
 
 -- so is a form
-form_is : (k : Known) (f : Linear Tree) → form_in k ≡ Some f → k ≡ Sum f
+form_is : (k : BranchFact) (f : Linear Tree) → form_in k ≡ Some f → k ≡ Sum f
 form_is (Formal g) f h = absurd cc
 form_is (Sum g) f h = let same : g ≡ f = cc in ap Sum same
 
@@ -67,22 +67,22 @@ contrary_is (Ne sort t u) s h = let same : record { sort = sort; left = t; right
 contrary_is f s h = absurd cc
 
 -- fact n, where a formula is found there
-pub formula_stands : (facts : List Known) (n : ℕ) (f : Assertion) → formula_at facts n ≡ Some f → slice_get facts n ≡ Some (Formal f)
+pub formula_stands : (facts : List BranchFact) (n : ℕ) (f : Assertion) → formula_at facts n ≡ Some f → slice_get facts n ≡ Some (Formal f)
 formula_stands facts n f h =
     let p = followed_from (slice_get facts n) formula_in f h in p.1 ∙ ap Some (formula_is p.0 f p.2)
 
 -- where a form is
-pub form_stands : (facts : List Known) (n : ℕ) (f : Linear Tree) → form_at facts n ≡ Some f → slice_get facts n ≡ Some (Sum f)
+pub form_stands : (facts : List BranchFact) (n : ℕ) (f : Linear Tree) → form_at facts n ≡ Some f → slice_get facts n ≡ Some (Sum f)
 form_stands facts n f h =
     let p = followed_from (slice_get facts n) form_in f h in p.1 ∙ ap Some (form_is p.0 f p.2)
 
 -- where an equation is
-pub equation_stands : (facts : List Known) (n : ℕ) (s : Sides) → equation_at facts n ≡ Some s → slice_get facts n ≡ Some (equation s)
+pub equation_stands : (facts : List BranchFact) (n : ℕ) (s : Sides) → equation_at facts n ≡ Some s → slice_get facts n ≡ Some (equation s)
 equation_stands facts n s h =
     let p = followed_from (formula_at facts n) equal_sides s h in formula_stands facts n p.0 p.1 ∙ ap Some (equation_is p.0 s p.2)
 
 -- where the contrary of one is
-pub contrary_stands : (facts : List Known) (n : ℕ) (s : Sides) → contrary_at facts n ≡ Some s → slice_get facts n ≡ Some (contrary s)
+pub contrary_stands : (facts : List BranchFact) (n : ℕ) (s : Sides) → contrary_at facts n ≡ Some s → slice_get facts n ≡ Some (contrary s)
 contrary_stands facts n s h =
     let p = followed_from (formula_at facts n) unequal_sides s h in formula_stands facts n p.0 p.1 ∙ ap Some (contrary_is p.0 s p.2)
 
@@ -101,27 +101,27 @@ pub gives_itself : {T : Type 0} (o : Option T) → Gives o o
 gives_itself o t h = h
 
 -- a formula that is found is found on the other branch
-pub formula_moves : (move : ℕ → ℕ) (facts others : List Known) (n : ℕ) → StandAmong move facts others →
+pub formula_moves : (move : ℕ → ℕ) (facts others : List BranchFact) (n : ℕ) → StandAmong move facts others →
     Gives (formula_at facts n) (formula_at others (move n))
 formula_moves move facts others n stand =
     followed_gives (slice_get facts n) (slice_get others (move n)) formula_in formula_in (stand n)
-    (λ (k : Known). gives_itself (formula_in k))
+    (λ (k : BranchFact). gives_itself (formula_in k))
 
 -- so is a form
-pub form_moves : (move : ℕ → ℕ) (facts others : List Known) (n : ℕ) → StandAmong move facts others →
+pub form_moves : (move : ℕ → ℕ) (facts others : List BranchFact) (n : ℕ) → StandAmong move facts others →
     Gives (form_at facts n) (form_at others (move n))
 form_moves move facts others n stand =
-    followed_gives (slice_get facts n) (slice_get others (move n)) form_in form_in (stand n) (λ (k : Known). gives_itself (form_in k))
+    followed_gives (slice_get facts n) (slice_get others (move n)) form_in form_in (stand n) (λ (k : BranchFact). gives_itself (form_in k))
 
 -- an equation
-pub equation_moves : (move : ℕ → ℕ) (facts others : List Known) (n : ℕ) → StandAmong move facts others →
+pub equation_moves : (move : ℕ → ℕ) (facts others : List BranchFact) (n : ℕ) → StandAmong move facts others →
     Gives (equation_at facts n) (equation_at others (move n))
 equation_moves move facts others n stand =
     followed_gives (formula_at facts n) (formula_at others (move n)) equal_sides equal_sides (formula_moves move facts others n stand)
     (λ (f : Assertion). gives_itself (equal_sides f))
 
 -- and its contrary
-pub contrary_moves : (move : ℕ → ℕ) (facts others : List Known) (n : ℕ) → StandAmong move facts others →
+pub contrary_moves : (move : ℕ → ℕ) (facts others : List BranchFact) (n : ℕ) → StandAmong move facts others →
     Gives (contrary_at facts n) (contrary_at others (move n))
 contrary_moves move facts others n stand =
     followed_gives (formula_at facts n) (formula_at others (move n)) unequal_sides unequal_sides (formula_moves move facts others n stand)

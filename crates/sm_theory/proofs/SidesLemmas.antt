@@ -9,12 +9,12 @@ use Rattle.sm_term.specs.TableLaws.{AreApart}
 use Rattle.sm_term.specs.SameTerms.{same_tree}
 use Rattle.sm_term.proofs.SameTermsLemmas.{same_tree_is}
 use Rattle.sm_theory.specs.declared.fact.Fact.{Fact}
-use Rattle.sm_theory.specs.Facts.{Known}
+use Rattle.sm_theory.specs.Facts.{BranchFact}
 use Rattle.sm_theory.specs.Views.{FactStands, AllStand}
 use Rattle.sm_theory.specs.Sides.{OptionStands}
 
 -- the fact with a number stands for the fact with it
-pub fact_found : (sorts : Sorts) (trees : List Tree) (fs : List Fact) (facts : List Known) → AllStand sorts trees fs facts → (n : ℕ) →
+pub fact_found : (sorts : Sorts) (trees : List Tree) (fs : List Fact) (facts : List BranchFact) → AllStand sorts trees fs facts → (n : ℕ) →
     OptionStands (FactStands sorts trees) (slice_get fs n) (slice_get facts n)
 fact_found sorts trees [] [] all n = tt
 fact_found sorts trees (f ∷ fs) (k ∷ ks) all zero = all.0

@@ -1,12 +1,12 @@
 -- Theories together, and the laws of the ways in which a branch goes on, from those of theories.
 use Rattle.std.proofs.Common.{◌≡◌, Option, Some, None, ⊎_elim, refl, subst, sym}
-use Rattle.sm_theory.specs.Facts.{Known}
+use Rattle.sm_theory.specs.Facts.{BranchFact}
 use Rattle.sm_theory.specs.Lines.{Refl, Sym, Trans, Subst, Cong, Same, Apart, Hit, Miss, Lin, Elim, Tight}
-use Rattle.sm_theory.specs.Equality.{or_else, equality_adds}
+use Rattle.sm_theory.specs.Equality.{or_other, equality_adds}
 use Rattle.sm_theory.specs.Arithmetic.{arithmetic_adds}
 use Rattle.sm_theory.specs.Ways.{adds}
 use Rattle.sm_theory.specs.Moved.{moved_line}
-use Rattle.sm_theory.specs.Laws.{Adds, AddsWhatHolds, AddsWhatIsSorted, AddsWhatIsBelow, AddsAnywhere, SomeWayHolds}
+use Rattle.sm_theory.specs.Laws.{TheoryAdds, AddsWhatHolds, AddsWhatIsSorted, AddsWhatIsBelow, AddsAnywhere, SomeWayHolds}
 use Rattle.sm_theory.specs.Laws.{WaysAreSorted, WaysAreBelow, WaysMove, arithmetic, equality, arrays}
 use Rattle.sm_theory.proofs.FactsLemmas.{Gives}
 use Rattle.sm_theory.proofs.EqualityLemmas.{or_else_from, equality_sorted, equality_below, equality_anywhere}
@@ -16,11 +16,11 @@ use Rattle.sm_theory.proofs.WaysLemmas.{ways_with_sorted, ways_with_below, ways_
 use Rattle.sm_theory.proofs.WaysSound.{some_way_with_holds}
 
 -- what the first theory adds, or else the second
-abbrev pub one_of : Adds → Adds → Adds
-one_of a b sorts facts line = or_else (a sorts facts line) (b sorts facts line)
+abbrev pub one_of : TheoryAdds → TheoryAdds → TheoryAdds
+one_of a b sorts facts line = or_other (a sorts facts line) (b sorts facts line)
 
 -- what one of two adds holds wherever the facts do
-pub one_of_holds : (a b : Adds) → AddsWhatHolds a → AddsWhatHolds b → AddsWhatHolds (one_of a b)
+pub one_of_holds : (a b : TheoryAdds) → AddsWhatHolds a → AddsWhatHolds b → AddsWhatHolds (one_of a b)
 one_of_holds a b first second sorts m facts line k all named h hold =
     ⊎_elim
     (λ (e : a sorts facts line ≡ Some k). first sorts m facts line k all named e hold)
@@ -28,7 +28,7 @@ one_of_holds a b first second sorts m facts line k all named h hold =
     (or_else_from (a sorts facts line) (b sorts facts line) k h)
 
 -- it is sorted
-pub one_of_sorted : (a b : Adds) → AddsWhatIsSorted a → AddsWhatIsSorted b → AddsWhatIsSorted (one_of a b)
+pub one_of_sorted : (a b : TheoryAdds) → AddsWhatIsSorted a → AddsWhatIsSorted b → AddsWhatIsSorted (one_of a b)
 one_of_sorted a b first second sorts facts line k all named h =
     ⊎_elim
     (λ (e : a sorts facts line ≡ Some k). first sorts facts line k all named e)
@@ -36,7 +36,7 @@ one_of_sorted a b first second sorts facts line k all named h =
     (or_else_from (a sorts facts line) (b sorts facts line) k h)
 
 -- it names new values of earlier nodes alone
-pub one_of_below : (a b : Adds) → AddsWhatIsBelow a → AddsWhatIsBelow b → AddsWhatIsBelow (one_of a b)
+pub one_of_below : (a b : TheoryAdds) → AddsWhatIsBelow a → AddsWhatIsBelow b → AddsWhatIsBelow (one_of a b)
 one_of_below a b first second sorts node facts line k all named h =
     ⊎_elim
     (λ (e : a sorts facts line ≡ Some k). first sorts node facts line k all named e)
@@ -56,43 +56,43 @@ pub adds_below : AddsWhatIsBelow arithmetic → AddsWhatIsBelow adds
 adds_below law = one_of_below equality (one_of arithmetic arrays) equality_below (one_of_below arithmetic arrays law arrays_below)
 
 -- what only the first can add
-first_alone : (o p : Option Known) → Gives o p → Gives (or_else o None) (or_else p None)
+first_alone : (o p : Option BranchFact) → Gives o p → Gives (or_other o None) (or_other p None)
 first_alone None p now k h = absurd cc
-first_alone (Some f) p now k h = subst (λ (q : Option Known). or_else q None ≡ Some k) (sym (now f refl)) h
+first_alone (Some f) p now k h = subst (λ (q : Option BranchFact). or_other q None ≡ Some k) (sym (now f refl)) h
 
 -- another branch with the same facts gives it too: of each line only one theory adds a fact
 pub adds_anywhere : AddsAnywhere arithmetic → AddsAnywhere adds
 adds_anywhere law sorts move facts others (Refl t) k stand h = h
 adds_anywhere law sorts move facts others (Sym n) k stand h =
     first_alone (equality_adds sorts facts (Sym n)) (equality_adds sorts others (Sym (move n)))
-    (λ (f : Known) (e : equality_adds sorts facts (Sym n) ≡ Some f). equality_anywhere sorts move facts others (Sym n) f stand e)
+    (λ (f : BranchFact) (e : equality_adds sorts facts (Sym n) ≡ Some f). equality_anywhere sorts move facts others (Sym n) f stand e)
     k h
 adds_anywhere law sorts move facts others (Trans i j) k stand h =
     first_alone (equality_adds sorts facts (Trans i j)) (equality_adds sorts others (Trans (move i) (move j)))
-    (λ (f : Known) (e : equality_adds sorts facts (Trans i j) ≡ Some f). equality_anywhere sorts move facts others (Trans i j) f stand e)
+    (λ (f : BranchFact) (e : equality_adds sorts facts (Trans i j) ≡ Some f). equality_anywhere sorts move facts others (Trans i j) f stand e)
     k h
 adds_anywhere law sorts move facts others (Subst i j) k stand h =
     first_alone (equality_adds sorts facts (Subst i j)) (equality_adds sorts others (Subst (move i) (move j)))
-    (λ (f : Known) (e : equality_adds sorts facts (Subst i j) ≡ Some f). equality_anywhere sorts move facts others (Subst i j) f stand e)
+    (λ (f : BranchFact) (e : equality_adds sorts facts (Subst i j) ≡ Some f). equality_anywhere sorts move facts others (Subst i j) f stand e)
     k h
 adds_anywhere law sorts move facts others (Cong t u ns) k stand h =
     first_alone (equality_adds sorts facts (Cong t u ns)) (equality_adds sorts others (moved_line move (Cong t u ns)))
-    (λ (f : Known) (e : equality_adds sorts facts (Cong t u ns) ≡ Some f). equality_anywhere sorts move facts others (Cong t u ns) f stand
+    (λ (f : BranchFact) (e : equality_adds sorts facts (Cong t u ns) ≡ Some f). equality_anywhere sorts move facts others (Cong t u ns) f stand
     e)
     k h
 adds_anywhere law sorts move facts others (Same t u) k stand h = h
 adds_anywhere law sorts move facts others (Apart t u) k stand h = h
 adds_anywhere law sorts move facts others (Lin n) k stand h =
     first_alone (arithmetic_adds sorts facts (Lin n)) (arithmetic_adds sorts others (Lin (move n)))
-    (λ (f : Known) (e : arithmetic_adds sorts facts (Lin n) ≡ Some f). law sorts move facts others (Lin n) f stand e)
+    (λ (f : BranchFact) (e : arithmetic_adds sorts facts (Lin n) ≡ Some f). law sorts move facts others (Lin n) f stand e)
     k h
 adds_anywhere law sorts move facts others (Elim i j t) k stand h =
     first_alone (arithmetic_adds sorts facts (Elim i j t)) (arithmetic_adds sorts others (Elim (move i) (move j) t))
-    (λ (f : Known) (e : arithmetic_adds sorts facts (Elim i j t) ≡ Some f). law sorts move facts others (Elim i j t) f stand e)
+    (λ (f : BranchFact) (e : arithmetic_adds sorts facts (Elim i j t) ≡ Some f). law sorts move facts others (Elim i j t) f stand e)
     k h
 adds_anywhere law sorts move facts others (Tight n) k stand h =
     first_alone (arithmetic_adds sorts facts (Tight n)) (arithmetic_adds sorts others (Tight (move n)))
-    (λ (f : Known) (e : arithmetic_adds sorts facts (Tight n) ≡ Some f). law sorts move facts others (Tight n) f stand e)
+    (λ (f : BranchFact) (e : arithmetic_adds sorts facts (Tight n) ≡ Some f). law sorts move facts others (Tight n) f stand e)
     k h
 adds_anywhere law sorts move facts others (Hit t n) k stand h = arrays_anywhere sorts move facts others (Hit t n) k stand h
 adds_anywhere law sorts move facts others (Miss t u n) k stand h = arrays_anywhere sorts move facts others (Miss t u n) k stand h
@@ -102,24 +102,24 @@ adds_anywhere law sorts move facts others line k stand h = absurd cc
 pub some_way_holds_from : AddsWhatHolds arithmetic → SomeWayHolds
 some_way_holds_from law sorts m facts line to all named h hold never =
     some_way_with_holds sorts m facts (adds sorts facts line) line to all
-    (λ (k : Known) (e : adds sorts facts line ≡ Some k). adds_hold law sorts m facts line k all named e hold)
+    (λ (k : BranchFact) (e : adds sorts facts line ≡ Some k). adds_hold law sorts m facts line k all named e hold)
     h hold never
 
 -- what a way adds is sorted
 pub ways_are_sorted_from : AddsWhatIsSorted arithmetic → WaysAreSorted
 ways_are_sorted_from law sorts facts line to all named h =
     ways_with_sorted sorts facts (adds sorts facts line) line to all named
-    (λ (k : Known) (e : adds sorts facts line ≡ Some k). adds_sorted law sorts facts line k all named e) h
+    (λ (k : BranchFact) (e : adds sorts facts line ≡ Some k). adds_sorted law sorts facts line k all named e) h
 
 -- and names new values of earlier nodes alone
 pub ways_are_below_from : AddsWhatIsBelow arithmetic → WaysAreBelow
 ways_are_below_from law sorts node facts line to all named h =
     ways_with_below sorts node facts (adds sorts facts line) line to all named
-    (λ (k : Known) (e : adds sorts facts line ≡ Some k). adds_below law sorts node facts line k all named e) h
+    (λ (k : BranchFact) (e : adds sorts facts line ≡ Some k). adds_below law sorts node facts line k all named e) h
 
 -- the ways are the same on another branch on which the facts stand
 pub ways_move_from : AddsAnywhere arithmetic → WaysMove
 ways_move_from law sorts move facts others line to stand h =
     ways_with_move sorts move facts others (adds sorts facts line) (adds sorts others (moved_line move line)) line to stand
-    (λ (k : Known) (e : adds sorts facts line ≡ Some k). adds_anywhere law sorts move facts others line k stand e)
+    (λ (k : BranchFact) (e : adds sorts facts line ≡ Some k). adds_anywhere law sorts move facts others line k stand e)
     h

@@ -10,13 +10,13 @@ use Rattle.sm_term.specs.Assertions.{Assertion, Eq, Ne, Lt, And, Or}
 use Rattle.sm_term.specs.Sorted.{tree_sort, HasSort}
 use Rattle.sm_term.specs.SameTerms.{same_sort}
 use Rattle.sm_term.proofs.SameTermsLemmas.{same_sort_is}
-use Rattle.sm_theory.specs.Facts.{Known, Formal}
+use Rattle.sm_theory.specs.Facts.{BranchFact, Formal}
 use Rattle.sm_theory.specs.Lines.{CertificateLine, Both, Either, Cases, Order, Close, Clash, followed, Sides}
 use Rattle.sm_theory.specs.Lines.{formula_at, equation_at, contrary_at}
 use Rattle.sm_theory.specs.Equality.{says_equal}
-use Rattle.sm_theory.specs.Arithmetic.{is_number}
+use Rattle.sm_theory.specs.Arithmetic.{is_numeric}
 use Rattle.sm_theory.specs.Ways.{adding, splitting, closing_if, both_parts, either_part, ordered, cannot_hold, ways_with}
-use Rattle.sm_theory.specs.SortedFacts.{IsKnownSorted, AreKnownSorted, IsKnownBelow, AreKnownBelow, IsLineSorted, IsLineBelow}
+use Rattle.sm_theory.specs.SortedFacts.{IsFactSorted, AreFactsSorted, IsFactBelow, AreFactsBelow, IsLineSorted, IsLineBelow}
 use Rattle.sm_theory.specs.Moved.{moved_line, StandAmong}
 use Rattle.sm_theory.specs.Laws.{EachWay}
 use Rattle.sm_theory.proofs.FactsLemmas.{fact_is_sorted, fact_is_below, contrary, followed_from, formula_stands}
@@ -25,48 +25,48 @@ use Rattle.sm_theory.proofs.FactsLemmas.{equation_moves, contrary_moves}
 use Rattle.sm_theory.proofs.EqualityLemmas.{says_moves}
 
 -- one way with one fact
-abbrev pub one_way : Known → List (List Known)
+abbrev pub one_way : BranchFact → List (List BranchFact)
 one_way k = (k ∷ []) ∷ []
 
 -- two ways, with a formula each
-abbrev pub two_ways : Assertion → Assertion → List (List Known)
+abbrev pub two_ways : Assertion → Assertion → List (List BranchFact)
 two_ways p q = (Formal p ∷ []) ∷ (Formal q ∷ []) ∷ []
 
 -- a fact that is added was there
-pub adding_from : (added : Option Known) (to : List (List Known)) → adding added ≡ Some to → (k : Known) × (added ≡ Some k) ×
+pub adding_from : (added : Option BranchFact) (to : List (List BranchFact)) → adding added ≡ Some to → (k : BranchFact) × (added ≡ Some k) ×
     (one_way k ≡ to)
 adding_from None to h = absurd cc
 adding_from (Some k) to h = (k, refl, cc)
 
 -- a branch is closed where a test is passed
-pub closing_from : (test : Bool) (to : List (List Known)) → closing_if test ≡ Some to → (test ≡ true) × ([] ≡ to)
+pub closing_from : (test : Bool) (to : List (List BranchFact)) → closing_if test ≡ Some to → (test ≡ true) × ([] ≡ to)
 closing_from true to h = (refl, cc)
 closing_from false to h = absurd cc
 
 -- the formula with two parts
-pub both_from : (f : Assertion) (to : List (List Known)) → both_parts f ≡ Some to → (p : Assertion) × (q : Assertion) × (f ≡ And p q) ×
+pub both_from : (f : Assertion) (to : List (List BranchFact)) → both_parts f ≡ Some to → (p : Assertion) × (q : Assertion) × (f ≡ And p q) ×
     ((Formal p ∷ Formal q ∷ []) ∷ [] ≡ to)
 both_from (And p q) to h = (p, q, refl, cc)
 both_from f to h = absurd cc
 
 -- the one of which a part holds
-pub either_from : (f : Assertion) (to : List (List Known)) → either_part f ≡ Some to → (p : Assertion) × (q : Assertion) × (f ≡ Or p q) ×
+pub either_from : (f : Assertion) (to : List (List BranchFact)) → either_part f ≡ Some to → (p : Assertion) × (q : Assertion) × (f ≡ Or p q) ×
     (two_ways p q ≡ to)
 either_from (Or p q) to h = (p, q, refl, cc)
 either_from f to h = absurd cc
 
 -- two ways where a test is passed
-pub splitting_from : (test : Bool) (p q : Assertion) (to : List (List Known)) → (if test then splitting p q else None) ≡ Some to →
+pub splitting_from : (test : Bool) (p q : Assertion) (to : List (List BranchFact)) → (if test then splitting p q else None) ≡ Some to →
     (test ≡ true) × (two_ways p q ≡ to)
 splitting_from true p q to h = (refl, cc)
 splitting_from false p q to h = absurd cc
 
 -- a term that passes as a number is one
-pub is_number_is : (sorts : Sorts) (t : Tree) → IsTrue (is_number sorts t) → tree_sort sorts t ≡ Num
+pub is_number_is : (sorts : Sorts) (t : Tree) → IsTrue (is_numeric sorts t) → tree_sort sorts t ≡ Num
 is_number_is sorts t h = (same_sort_is (tree_sort sorts t) Num).0 h
 
 -- a line that adds a conjunction's parts: of a fact of the branch
-pub both_line : (facts : List Known) (n : ℕ) (to : List (List Known)) → followed (formula_at facts n) both_parts ≡ Some to →
+pub both_line : (facts : List BranchFact) (n : ℕ) (to : List (List BranchFact)) → followed (formula_at facts n) both_parts ≡ Some to →
     (p : Assertion) × (q : Assertion) × (slice_get facts n ≡ Some (Formal (And p q))) × ((Formal p ∷ Formal q ∷ []) ∷ [] ≡ to)
 both_line facts n to h =
     let a = followed_from (formula_at facts n) both_parts to h in
@@ -74,7 +74,7 @@ both_line facts n to h =
     (b.0, b.1, formula_stands facts n a.0 a.1 ∙ ap (λ (f : Assertion). Some (Formal f)) b.2, b.3)
 
 -- one that splits by a disjunction
-pub either_line : (facts : List Known) (n : ℕ) (to : List (List Known)) → followed (formula_at facts n) either_part ≡ Some to →
+pub either_line : (facts : List BranchFact) (n : ℕ) (to : List (List BranchFact)) → followed (formula_at facts n) either_part ≡ Some to →
     (p : Assertion) × (q : Assertion) × (slice_get facts n ≡ Some (Formal (Or p q))) × (two_ways p q ≡ to)
 either_line facts n to h =
     let a = followed_from (formula_at facts n) either_part to h in
@@ -82,7 +82,7 @@ either_line facts n to h =
     (b.0, b.1, formula_stands facts n a.0 a.1 ∙ ap (λ (f : Assertion). Some (Formal f)) b.2, b.3)
 
 -- one that orders numbers that aren't equal
-pub order_line : (facts : List Known) (n : ℕ) (to : List (List Known)) → followed (contrary_at facts n) ordered ≡ Some to →
+pub order_line : (facts : List BranchFact) (n : ℕ) (to : List (List BranchFact)) → followed (contrary_at facts n) ordered ≡ Some to →
     (s : Sides) × (slice_get facts n ≡ Some (contrary s)) × (s.sort ≡ Num) × (two_ways (Lt s.left s.right) (Lt s.right s.left) ≡ to)
 order_line facts n to h =
     let a = followed_from (contrary_at facts n) ordered to h in
@@ -90,25 +90,25 @@ order_line facts n to h =
     (a.0, contrary_stands facts n a.0 a.1, (same_sort_is a.0.sort Num).0 b.0, b.1)
 
 -- one that splits by whether two numbers are equal
-pub cases_line : (sorts : Sorts) (t u : Tree) (to : List (List Known)) →
-    (if is_number sorts t && is_number sorts u then splitting (Eq Num t u) (Ne Num t u) else None) ≡ Some to →
+pub cases_line : (sorts : Sorts) (t u : Tree) (to : List (List BranchFact)) →
+    (if is_numeric sorts t && is_numeric sorts u then splitting (Eq Num t u) (Ne Num t u) else None) ≡ Some to →
     (tree_sort sorts t ≡ Num) × (tree_sort sorts u ≡ Num) × (two_ways (Eq Num t u) (Ne Num t u) ≡ to)
 cases_line sorts t u to h =
-    let a = splitting_from (is_number sorts t && is_number sorts u) (Eq Num t u) (Ne Num t u) to h in
-    let b = and_parts (is_number sorts t) (is_number sorts u) a.0 in
+    let a = splitting_from (is_numeric sorts t && is_numeric sorts u) (Eq Num t u) (Ne Num t u) to h in
+    let b = and_parts (is_numeric sorts t) (is_numeric sorts u) a.0 in
     (is_number_is sorts t b.0, is_number_is sorts u b.1, a.1)
 
 -- one that closes by a fact
-pub close_line : (facts : List Known) (n : ℕ) (to : List (List Known)) →
-    followed (slice_get facts n) (λ (k : Known). closing_if (cannot_hold k)) ≡ Some to →
-    (k : Known) × (slice_get facts n ≡ Some k) × IsTrue (cannot_hold k) × ([] ≡ to)
+pub close_line : (facts : List BranchFact) (n : ℕ) (to : List (List BranchFact)) →
+    followed (slice_get facts n) (λ (k : BranchFact). closing_if (cannot_hold k)) ≡ Some to →
+    (k : BranchFact) × (slice_get facts n ≡ Some k) × IsTrue (cannot_hold k) × ([] ≡ to)
 close_line facts n to h =
-    let a = followed_from (slice_get facts n) (λ (k : Known). closing_if (cannot_hold k)) to h in
+    let a = followed_from (slice_get facts n) (λ (k : BranchFact). closing_if (cannot_hold k)) to h in
     let b = closing_from (cannot_hold a.0) to a.2 in
     (a.0, a.1, b.0, b.1)
 
 -- one that closes by a fact and its contrary
-pub clash_line : (facts : List Known) (i j : ℕ) (to : List (List Known)) →
+pub clash_line : (facts : List BranchFact) (i j : ℕ) (to : List (List BranchFact)) →
     followed (equation_at facts i) (λ (s : Sides). closing_if (says_equal (contrary_at facts j) s.left s.right)) ≡ Some to →
     (s : Sides) × (equation_at facts i ≡ Some s) × IsTrue (says_equal (contrary_at facts j) s.left s.right) × ([] ≡ to)
 clash_line facts i j to h =
@@ -117,62 +117,62 @@ clash_line facts i j to h =
     (a.0, a.1, b.0, b.1)
 
 -- the ways are sorted, where what theories add is
-pub ways_with_sorted : (sorts : Sorts) (facts : List Known) (added : Option Known) (line : CertificateLine) (to : List (List Known)) →
-    AreKnownSorted sorts facts → IsLineSorted sorts line → ((k : Known) → added ≡ Some k → IsKnownSorted sorts k) →
-    ways_with sorts facts added line ≡ Some to → EachWay (AreKnownSorted sorts) to
+pub ways_with_sorted : (sorts : Sorts) (facts : List BranchFact) (added : Option BranchFact) (line : CertificateLine) (to : List (List BranchFact)) →
+    AreFactsSorted sorts facts → IsLineSorted sorts line → ((k : BranchFact) → added ≡ Some k → IsFactSorted sorts k) →
+    ways_with sorts facts added line ≡ Some to → EachWay (AreFactsSorted sorts) to
 ways_with_sorted sorts facts added (Both n) to all named law h =
     let p = both_line facts n to h in
     let g = fact_is_sorted sorts facts n (Formal (And p.0 p.1)) all p.2 in
-    subst (EachWay (AreKnownSorted sorts)) p.3 ((g.0, (g.1, tt)), tt)
+    subst (EachWay (AreFactsSorted sorts)) p.3 ((g.0, (g.1, tt)), tt)
 ways_with_sorted sorts facts added (Either n) to all named law h =
     let p = either_line facts n to h in
     let g = fact_is_sorted sorts facts n (Formal (Or p.0 p.1)) all p.2 in
-    subst (EachWay (AreKnownSorted sorts)) p.3 ((g.0, tt), ((g.1, tt), tt))
+    subst (EachWay (AreFactsSorted sorts)) p.3 ((g.0, tt), ((g.1, tt), tt))
 ways_with_sorted sorts facts added (Cases t u) to all named law h =
     let p = cases_line sorts t u to h in
     let g : HasSort sorts Num t × HasSort sorts Num u = ((named.0, p.0), (named.1, p.1)) in
-    subst (EachWay (AreKnownSorted sorts)) p.2 ((g, tt), ((g, tt), tt))
+    subst (EachWay (AreFactsSorted sorts)) p.2 ((g, tt), ((g, tt), tt))
 ways_with_sorted sorts facts added (Order n) to all named law h =
     let p = order_line facts n to h in
     let s = p.0 in
     let g = fact_is_sorted sorts facts n (contrary s) all p.1 in
     let left : HasSort sorts Num s.left = (g.0.0, g.0.1 ∙ p.2) in
     let right : HasSort sorts Num s.right = (g.1.0, g.1.1 ∙ p.2) in
-    subst (EachWay (AreKnownSorted sorts)) p.3 (((left, right), tt), (((right, left), tt), tt))
-ways_with_sorted sorts facts added (Close n) to all named law h = subst (EachWay (AreKnownSorted sorts)) (close_line facts n to h).3 tt
-ways_with_sorted sorts facts added (Clash i j) to all named law h = subst (EachWay (AreKnownSorted sorts)) (clash_line facts i j to h).3 tt
+    subst (EachWay (AreFactsSorted sorts)) p.3 (((left, right), tt), (((right, left), tt), tt))
+ways_with_sorted sorts facts added (Close n) to all named law h = subst (EachWay (AreFactsSorted sorts)) (close_line facts n to h).3 tt
+ways_with_sorted sorts facts added (Clash i j) to all named law h = subst (EachWay (AreFactsSorted sorts)) (clash_line facts i j to h).3 tt
 ways_with_sorted sorts facts added line to all named law h =
-    let p = adding_from added to h in subst (EachWay (AreKnownSorted sorts)) p.2 ((law p.0 p.1, tt), tt)
+    let p = adding_from added to h in subst (EachWay (AreFactsSorted sorts)) p.2 ((law p.0 p.1, tt), tt)
 
 -- they name new values of earlier nodes alone, where what theories add does
-pub ways_with_below : (sorts : Sorts) (node : ℕ) (facts : List Known) (added : Option Known) (line : CertificateLine)
-    (to : List (List Known)) →
-    AreKnownBelow node facts → IsLineBelow node line → ((k : Known) → added ≡ Some k → IsKnownBelow node k) →
-    ways_with sorts facts added line ≡ Some to → EachWay (AreKnownBelow node) to
+pub ways_with_below : (sorts : Sorts) (node : ℕ) (facts : List BranchFact) (added : Option BranchFact) (line : CertificateLine)
+    (to : List (List BranchFact)) →
+    AreFactsBelow node facts → IsLineBelow node line → ((k : BranchFact) → added ≡ Some k → IsFactBelow node k) →
+    ways_with sorts facts added line ≡ Some to → EachWay (AreFactsBelow node) to
 ways_with_below sorts node facts added (Both n) to all named law h =
     let p = both_line facts n to h in
     let g = fact_is_below node facts n (Formal (And p.0 p.1)) all p.2 in
-    subst (EachWay (AreKnownBelow node)) p.3 ((g.0, (g.1, tt)), tt)
+    subst (EachWay (AreFactsBelow node)) p.3 ((g.0, (g.1, tt)), tt)
 ways_with_below sorts node facts added (Either n) to all named law h =
     let p = either_line facts n to h in
     let g = fact_is_below node facts n (Formal (Or p.0 p.1)) all p.2 in
-    subst (EachWay (AreKnownBelow node)) p.3 ((g.0, tt), ((g.1, tt), tt))
+    subst (EachWay (AreFactsBelow node)) p.3 ((g.0, tt), ((g.1, tt), tt))
 ways_with_below sorts node facts added (Cases t u) to all named law h =
-    subst (EachWay (AreKnownBelow node)) (cases_line sorts t u to h).2 ((named, tt), ((named, tt), tt))
+    subst (EachWay (AreFactsBelow node)) (cases_line sorts t u to h).2 ((named, tt), ((named, tt), tt))
 ways_with_below sorts node facts added (Order n) to all named law h =
     let p = order_line facts n to h in
     let g = fact_is_below node facts n (contrary p.0) all p.1 in
-    subst (EachWay (AreKnownBelow node)) p.3 (((g.0, g.1), tt), (((g.1, g.0), tt), tt))
-ways_with_below sorts node facts added (Close n) to all named law h = subst (EachWay (AreKnownBelow node)) (close_line facts n to h).3 tt
+    subst (EachWay (AreFactsBelow node)) p.3 (((g.0, g.1), tt), (((g.1, g.0), tt), tt))
+ways_with_below sorts node facts added (Close n) to all named law h = subst (EachWay (AreFactsBelow node)) (close_line facts n to h).3 tt
 ways_with_below sorts node facts added (Clash i j) to all named law h =
-    subst (EachWay (AreKnownBelow node)) (clash_line facts i j to h).3 tt
+    subst (EachWay (AreFactsBelow node)) (clash_line facts i j to h).3 tt
 ways_with_below sorts node facts added line to all named law h =
-    let p = adding_from added to h in subst (EachWay (AreKnownBelow node)) p.2 ((law p.0 p.1, tt), tt)
+    let p = adding_from added to h in subst (EachWay (AreFactsBelow node)) p.2 ((law p.0 p.1, tt), tt)
 
 -- what is added on one branch and on another
-adding_gives : (added other : Option Known) → Gives added other → Gives (adding added) (adding other)
+adding_gives : (added other : Option BranchFact) → Gives added other → Gives (adding added) (adding other)
 adding_gives None other now to h = absurd cc
-adding_gives (Some k) other now to h = subst (λ (o : Option Known). adding o ≡ Some to) (sym (now k refl)) h
+adding_gives (Some k) other now to h = subst (λ (o : Option BranchFact). adding o ≡ Some to) (sym (now k refl)) h
 
 -- a branch that is closed is closed where the test is passed too
 closing_gives : (test other : Bool) → (test ≡ true → other ≡ true) → Gives (closing_if test) (closing_if other)
@@ -180,9 +180,9 @@ closing_gives true other passes to h = rw (passes refl) h
 closing_gives false other passes to h = absurd cc
 
 -- the ways are the same on another branch with the same facts, where theories add there what they add here
-pub ways_with_move : (sorts : Sorts) (move : ℕ → ℕ) (facts others : List Known) (added other : Option Known) (line : CertificateLine)
-    (to : List (List Known)) →
-    StandAmong move facts others → ((k : Known) → added ≡ Some k → other ≡ Some k) →
+pub ways_with_move : (sorts : Sorts) (move : ℕ → ℕ) (facts others : List BranchFact) (added other : Option BranchFact) (line : CertificateLine)
+    (to : List (List BranchFact)) →
+    StandAmong move facts others → ((k : BranchFact) → added ≡ Some k → other ≡ Some k) →
     ways_with sorts facts added line ≡ Some to → ways_with sorts others other (moved_line move line) ≡ Some to
 ways_with_move sorts move facts others added other (Both n) to stand law h =
     followed_gives (formula_at facts n) (formula_at others (move n)) both_parts both_parts (formula_moves move facts others n stand)
@@ -195,9 +195,9 @@ ways_with_move sorts move facts others added other (Order n) to stand law h =
     followed_gives (contrary_at facts n) (contrary_at others (move n)) ordered ordered (contrary_moves move facts others n stand)
     (λ (s : Sides). gives_itself (ordered s)) to h
 ways_with_move sorts move facts others added other (Close n) to stand law h =
-    followed_gives (slice_get facts n) (slice_get others (move n)) (λ (k : Known). closing_if (cannot_hold k))
-    (λ (k : Known). closing_if (cannot_hold k)) (stand n)
-    (λ (k : Known). gives_itself (closing_if (cannot_hold k)))
+    followed_gives (slice_get facts n) (slice_get others (move n)) (λ (k : BranchFact). closing_if (cannot_hold k))
+    (λ (k : BranchFact). closing_if (cannot_hold k)) (stand n)
+    (λ (k : BranchFact). gives_itself (closing_if (cannot_hold k)))
     to h
 ways_with_move sorts move facts others added other (Clash i j) to stand law h =
     followed_gives (equation_at facts i) (equation_at others (move i))

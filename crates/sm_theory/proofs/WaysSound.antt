@@ -18,10 +18,10 @@ use Rattle.sm_term.specs.Terms.{Tree}
 use Rattle.sm_term.specs.Structures.{Structure, meaning}
 use Rattle.sm_term.specs.Assertions.{No, Ne, And, Or, Holds}
 use Rattle.sm_term.proofs.SameTermsLemmas.{same_tree_is}
-use Rattle.sm_theory.specs.Facts.{Known, Formal, Sum, number_meant, IsFact, AreFacts}
+use Rattle.sm_theory.specs.Facts.{BranchFact, Formal, Sum, number_meant, IsFact, AreFacts}
 use Rattle.sm_theory.specs.Lines.{CertificateLine, Both, Either, Cases, Order, Close, Clash}
 use Rattle.sm_theory.specs.Ways.{cannot_hold, ways_with}
-use Rattle.sm_theory.specs.SortedFacts.{AreKnownSorted}
+use Rattle.sm_theory.specs.SortedFacts.{AreFactsSorted}
 use Rattle.sm_theory.specs.Laws.{NoWayHolds}
 use Rattle.sm_theory.proofs.FactsLemmas.{fact_holds, fact_is_sorted, equation, contrary, equation_stands}
 use Rattle.sm_theory.proofs.CongruenceSound.{same_itself}
@@ -45,7 +45,7 @@ contradiction_of v [] c k h holds = fails_means k c h holds
 contradiction_of v (p ∷ ps) c k h holds = cc
 
 -- a fact that can't hold doesn't
-pub cannot_hold_means : (m : Structure) (k : Known) → IsTrue (cannot_hold k) → IsFact m k → ⊥
+pub cannot_hold_means : (m : Structure) (k : BranchFact) → IsTrue (cannot_hold k) → IsFact m k → ⊥
 cannot_hold_means m (Formal No) h holds = holds
 cannot_hold_means m (Formal (Ne sort t u)) h holds =
     holds (subst (λ (v : Tree). SameAs sort (meaning m t) (meaning m v)) ((same_tree_is t u).0 h) (same_itself sort (meaning m t)))
@@ -59,9 +59,9 @@ neither_less y z first second =
     (λ (a : z ≤ℤ y). by_lt_z {P = y ≡ z} z y (λ (b : z <ℤ y). absurd (second b)) (λ (b : y ≤ℤ z). omega (arith, ints)))
 
 -- where the facts hold, and what theories add does, not every way fails
-pub some_way_with_holds : (sorts : Sorts) (m : Structure) (facts : List Known) (added : Option Known) (line : CertificateLine)
-    (to : List (List Known)) →
-    AreKnownSorted sorts facts → ((k : Known) → added ≡ Some k → IsFact m k) → ways_with sorts facts added line ≡ Some to →
+pub some_way_with_holds : (sorts : Sorts) (m : Structure) (facts : List BranchFact) (added : Option BranchFact) (line : CertificateLine)
+    (to : List (List BranchFact)) →
+    AreFactsSorted sorts facts → ((k : BranchFact) → added ≡ Some k → IsFact m k) → ways_with sorts facts added line ≡ Some to →
     AreFacts m facts → NoWayHolds m to → ⊥
 some_way_with_holds sorts m facts added (Both n) to all law h hold never =
     let p = both_line facts n to h in

@@ -16,7 +16,7 @@ use Rattle.sm_term.specs.Terms.{Tree}
 use Rattle.sm_term.specs.Assertions.{Assertion, Yes, No, Eq, Ne, Le, Lt, And, Or}
 use Rattle.sm_term.specs.Sorted.{tree_sort}
 use Rattle.sm_term.specs.SameTerms.{same_tree, same_sort}
-use Rattle.sm_theory.specs.Facts.{Known, Sum}
+use Rattle.sm_theory.specs.Facts.{BranchFact, Sum}
 use Rattle.sm_theory.specs.LinearTerms.{linear_of}
 use Rattle.sm_theory.specs.Lines.{CertificateLine, Both, Either, Cases, Order, Refl, Sym, Trans}
 use Rattle.sm_theory.specs.Lines.{Subst, Cong, Same, Apart, Hit, Miss, Lin, Elim, Tight, Close, Clash}
@@ -24,8 +24,8 @@ use Rattle.sm_theory.specs.Lines.{followed, formula_at, form_at}
 use Rattle.sm_theory.specs.Equality.{formula_if}
 
 -- whether a term is a number
-abbrev pub is_number : Sorts → Tree → Bool
-is_number sorts t = same_sort (tree_sort sorts t) Num
+abbrev pub is_numeric : Sorts → Tree → Bool
+is_numeric sorts t = same_sort (tree_sort sorts t) Num
 
 -- whether each part has the coefficient that its term has among other parts
 abbrev pub agree_with : List (Tree × ℤ) → List (Tree × ℤ) → Bool
@@ -38,14 +38,14 @@ abbrev pub same_parts : Linear Tree → Linear Tree → Bool
 same_parts f g = agree_with g.parts f.parts && agree_with f.parts g.parts
 
 -- whether two terms are numbers with the same parts, and whether the constants are as a test wants
-abbrev pub compared : Sorts → Tree → Tree → (ℤ → ℤ → Bool) → Bool
-compared sorts t u test =
+abbrev pub compared_forms : Sorts → Tree → Tree → (ℤ → ℤ → Bool) → Bool
+compared_forms sorts t u test =
     let f = linear_of t in
     let g = linear_of u in
-    is_number sorts t && (is_number sorts u && (same_parts f g && test f.constant g.constant))
+    is_numeric sorts t && (is_numeric sorts u && (same_parts f g && test f.constant g.constant))
 
 -- a form that was computed, as a fact
-abbrev pub form_fact : Outcome (Linear Tree) → Option Known
+abbrev pub form_fact : Outcome (Linear Tree) → Option BranchFact
 form_fact (Fits f) = Some (Sum f)
 form_fact (Leaves operation y z) = None
 
@@ -63,7 +63,7 @@ one_more f =
     then_with (computed op.Add f.constant (pos 1)) (λ (c : ℤ). Fits (with_constant f c))
 
 -- a comparison of numbers as a form
-abbrev pub form_of_comparison : Assertion → Option Known
+abbrev pub form_of_comparison : Assertion → Option BranchFact
 form_of_comparison Yes = None
 form_of_comparison No = None
 form_of_comparison (Eq sort t u) =
@@ -75,15 +75,15 @@ form_of_comparison (And p q) = None
 form_of_comparison (Or p q) = None
 
 -- the sum of two forms in which a term cancels
-abbrev pub cancelled : Tree → Linear Tree → Linear Tree → Option Known
+abbrev pub cancelled : Tree → Linear Tree → Linear Tree → Option BranchFact
 cancelled t f g =
     if can_cancel same_tree f g t then form_fact (elimination same_tree f g t) else None
 
 -- the fact that a line of arithmetic adds, none where it is no such line or its condition fails
-abbrev pub arithmetic_adds : Sorts → List Known → CertificateLine → Option Known
-arithmetic_adds sorts facts (Same t u) = formula_if (compared sorts t u int_eq) (Eq Num t u)
+abbrev pub arithmetic_adds : Sorts → List BranchFact → CertificateLine → Option BranchFact
+arithmetic_adds sorts facts (Same t u) = formula_if (compared_forms sorts t u int_eq) (Eq Num t u)
 arithmetic_adds sorts facts (Apart t u) =
-    formula_if (compared sorts t u (λ (y z : ℤ). not (int_eq y z))) (Ne Num t u)
+    formula_if (compared_forms sorts t u (λ (y z : ℤ). not (int_eq y z))) (Ne Num t u)
 arithmetic_adds sorts facts (Lin n) = followed (formula_at facts n) form_of_comparison
 arithmetic_adds sorts facts (Elim m n t) =
     followed (form_at facts m) (λ (f : Linear Tree). followed (form_at facts n) (cancelled t f))

@@ -5,7 +5,7 @@ use Rattle.sm_term.specs.Terms.{Tree, Read, Write}
 use Rattle.sm_term.specs.Terms.{Lit, Start, Havoc, Slot, Cell, Neg, Add, Sub, Mul, Fun}
 use Rattle.sm_term.specs.Assertions.{Eq}
 use Rattle.sm_term.specs.SameTerms.{same_tree}
-use Rattle.sm_theory.specs.Facts.{Known}
+use Rattle.sm_theory.specs.Facts.{BranchFact}
 use Rattle.sm_theory.specs.Lines.{CertificateLine, Both, Either, Cases, Order, Refl, Sym, Trans}
 use Rattle.sm_theory.specs.Lines.{Subst, Cong, Same, Apart, Hit, Miss, Lin, Elim, Tight, Close, Clash}
 use Rattle.sm_theory.specs.Lines.{followed, equation_at, contrary_at}
@@ -48,14 +48,14 @@ read_in (Mul t u) = None
 read_in (Fun c x args) = None
 
 -- goes on with what was written and the index at which it is read
-abbrev pub read_of_written : Tree → (Written → Tree → Option Known) → Option Known
+abbrev pub read_of_written : Tree → (Written → Tree → Option BranchFact) → Option BranchFact
 read_of_written t next =
     followed (read_in t) (λ (r : Tree × Tree).
     followed (written_in r.0) (λ (w : Written). next w r.1))
 
 -- the fact that a line of arrays adds, none where it is no such line or its condition fails: what
 -- is read at the index that was written is what was written, and at another what was there before
-abbrev pub element_adds : List Known → CertificateLine → Option Known
+abbrev pub element_adds : List BranchFact → CertificateLine → Option BranchFact
 element_adds facts (Hit t n) =
     read_of_written t (λ (w : Written) (j : Tree).
     formula_if (says_equal (equation_at facts n) w.index j) (Eq Num t w.element))

@@ -8,28 +8,28 @@ use Rattle.sm_term.specs.Structures.{Structure, meaning}
 use Rattle.sm_term.specs.Assertions.{Assertion, Holds}
 
 -- what is known on a branch: a formula, or a linear form whose atoms are terms
-pub data Known : Type 0 where
-  Formal : Assertion → Known
-  Sum : Linear Tree → Known
+pub data BranchFact : Type 0 where
+  Formal : Assertion → BranchFact
+  Sum : Linear Tree → BranchFact
 
 -- the whole number that a term means
 abbrev pub number_meant : Structure → Tree → ℤ
 number_meant m t = number (meaning m t)
 
 -- a fact holds in a structure
-abbrev pub IsFact : Structure → Known → Type 0
+abbrev pub IsFact : Structure → BranchFact → Type 0
 IsFact m (Formal f) = Holds m f
 IsFact m (Sum f) = HoldsAt (number_meant m) f
 
 -- each of these does
-abbrev pub AreFacts : Structure → List Known → Type 0
+abbrev pub AreFacts : Structure → List BranchFact → Type 0
 AreFacts m [] = Unit {0}
 AreFacts m (k ∷ ks) = IsFact m k × AreFacts m ks
 
 -- no structure makes all facts hold
-abbrev pub IsContradictory : List Known → Type 0
+abbrev pub IsContradictory : List BranchFact → Type 0
 IsContradictory facts = (m : Structure) → AreFacts m facts → ⊥
 
 -- formulas as facts
-abbrev pub known : List Assertion → List Known
-known fs = map Formal fs
+abbrev pub as_facts : List Assertion → List BranchFact
+as_facts fs = map Formal fs

@@ -4,7 +4,7 @@ use Rattle.sm_syntax.specs.declared.tree.Sort.{Sort}
 use Rattle.sm_num.specs.Forms.{Linear}
 use Rattle.sm_term.specs.Terms.{Tree}
 use Rattle.sm_term.specs.Assertions.{Assertion, Yes, No, Eq, Ne, Le, Lt, And, Or}
-use Rattle.sm_theory.specs.Facts.{Known, Formal, Sum}
+use Rattle.sm_theory.specs.Facts.{BranchFact, Formal, Sum}
 
 -- a line: facts are named by their numbers on the branch, terms stand whole
 pub data CertificateLine : Type 0 where
@@ -40,21 +40,21 @@ followed None next = None
 followed (Some s) next = next s
 
 -- a fact that is a formula
-abbrev pub formula_in : Known → Option Assertion
+abbrev pub formula_in : BranchFact → Option Assertion
 formula_in (Formal f) = Some f
 formula_in (Sum f) = None
 
 -- a fact that is a linear form
-abbrev pub form_in : Known → Option (Linear Tree)
+abbrev pub form_in : BranchFact → Option (Linear Tree)
 form_in (Formal f) = None
 form_in (Sum f) = Some f
 
 -- fact n, where it is a formula
-abbrev pub formula_at : List Known → ℕ → Option Assertion
+abbrev pub formula_at : List BranchFact → ℕ → Option Assertion
 formula_at facts n = followed (slice_get facts n) formula_in
 
 -- fact n, where it is a linear form
-abbrev pub form_at : List Known → ℕ → Option (Linear Tree)
+abbrev pub form_at : List BranchFact → ℕ → Option (Linear Tree)
 form_at facts n = followed (slice_get facts n) form_in
 
 -- the two terms that an equation or its contrary compares, as what has a sort
@@ -86,9 +86,9 @@ unequal_sides (And p q) = None
 unequal_sides (Or p q) = None
 
 -- the sides of fact n, where it is an equation
-abbrev pub equation_at : List Known → ℕ → Option Sides
+abbrev pub equation_at : List BranchFact → ℕ → Option Sides
 equation_at facts n = followed (formula_at facts n) equal_sides
 
 -- the sides of fact n, where it is the contrary of an equation
-abbrev pub contrary_at : List Known → ℕ → Option Sides
+abbrev pub contrary_at : List BranchFact → ℕ → Option Sides
 contrary_at facts n = followed (formula_at facts n) unequal_sides

@@ -1,6 +1,6 @@
 -- Cited by public clauses: lines over another branch, on which facts have other numbers.
 use Rattle.std.specs.Prelude.{◌≡◌, ℕ, slice_get, Some, List, map}
-use Rattle.sm_theory.specs.Facts.{Known}
+use Rattle.sm_theory.specs.Facts.{BranchFact}
 use Rattle.sm_theory.specs.Lines.{CertificateLine, Both, Either, Cases, Order, Refl, Sym, Trans}
 use Rattle.sm_theory.specs.Lines.{Subst, Cong, Same, Apart, Hit, Miss, Lin, Elim, Tight, Close, Clash}
 
@@ -26,6 +26,6 @@ moved_line move (Close n) = Close (move n)
 moved_line move (Clash m n) = Clash (move m) (move n)
 
 -- each fact stands on the other branch, under the number that its own is moved to
-abbrev pub StandAmong : (ℕ → ℕ) → List Known → List Known → Type 0
+abbrev pub StandAmong : (ℕ → ℕ) → List BranchFact → List BranchFact → Type 0
 StandAmong move facts others =
-    (n : ℕ) (k : Known) → slice_get facts n ≡ Some k → slice_get others (move n) ≡ Some k
+    (n : ℕ) (k : BranchFact) → slice_get facts n ≡ Some k → slice_get others (move n) ≡ Some k

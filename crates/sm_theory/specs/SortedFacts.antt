@@ -6,7 +6,7 @@ use Rattle.sm_syntax.specs.text.Sorts.{Sorts}
 use Rattle.sm_term.specs.Terms.{Tree}
 use Rattle.sm_term.specs.Sorted.{IsSorted, HasSort, IsFormSorted}
 use Rattle.sm_term.specs.Fresh.{IsBelow, IsFormBelow}
-use Rattle.sm_theory.specs.Facts.{Known, Formal, Sum}
+use Rattle.sm_theory.specs.Facts.{BranchFact, Formal, Sum}
 use Rattle.sm_theory.specs.Lines.{CertificateLine, Both, Either, Cases, Order, Refl, Sym, Trans}
 use Rattle.sm_theory.specs.Lines.{Subst, Cong, Same, Apart, Hit, Miss, Lin, Elim, Tight, Close, Clash}
 
@@ -22,24 +22,24 @@ StandOnce [] = Unit {0}
 StandOnce (p ∷ ps) = (p.1 ≢ pos 0) × EachAtom (λ (t : Tree). p.0 ≢ t) ps × StandOnce ps
 
 -- the terms of a fact are sorted, and the atoms of a form are numbers, each of which stands once
-abbrev pub IsKnownSorted : Sorts → Known → Type 0
-IsKnownSorted sorts (Formal f) = IsFormSorted sorts f
-IsKnownSorted sorts (Sum f) = EachAtom (HasSort sorts Num) f.parts × StandOnce f.parts
+abbrev pub IsFactSorted : Sorts → BranchFact → Type 0
+IsFactSorted sorts (Formal f) = IsFormSorted sorts f
+IsFactSorted sorts (Sum f) = EachAtom (HasSort sorts Num) f.parts × StandOnce f.parts
 
 -- the same of each fact
-abbrev pub AreKnownSorted : Sorts → List Known → Type 0
-AreKnownSorted sorts [] = Unit {0}
-AreKnownSorted sorts (k ∷ ks) = IsKnownSorted sorts k × AreKnownSorted sorts ks
+abbrev pub AreFactsSorted : Sorts → List BranchFact → Type 0
+AreFactsSorted sorts [] = Unit {0}
+AreFactsSorted sorts (k ∷ ks) = IsFactSorted sorts k × AreFactsSorted sorts ks
 
 -- a fact names no new value of node k or of a later one
-abbrev pub IsKnownBelow : ℕ → Known → Type 0
-IsKnownBelow k (Formal f) = IsFormBelow k f
-IsKnownBelow k (Sum f) = EachAtom (IsBelow k) f.parts
+abbrev pub IsFactBelow : ℕ → BranchFact → Type 0
+IsFactBelow k (Formal f) = IsFormBelow k f
+IsFactBelow k (Sum f) = EachAtom (IsBelow k) f.parts
 
 -- the same of each fact
-abbrev pub AreKnownBelow : ℕ → List Known → Type 0
-AreKnownBelow k [] = Unit {0}
-AreKnownBelow k (f ∷ fs) = IsKnownBelow k f × AreKnownBelow k fs
+abbrev pub AreFactsBelow : ℕ → List BranchFact → Type 0
+AreFactsBelow k [] = Unit {0}
+AreFactsBelow k (f ∷ fs) = IsFactBelow k f × AreFactsBelow k fs
 
 -- something is so of each term that a line names
 abbrev pub EachNamed : (Tree → Type 0) → CertificateLine → Type 0

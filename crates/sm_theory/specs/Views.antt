@@ -9,7 +9,7 @@ use Rattle.sm_theory.specs.declared.fact.Fact.{Fact}
 use Rattle.sm_theory.specs.declared.fact.Fact.TheVariants as fact
 use Rattle.sm_theory.specs.declared.line.CertLine.{CertLine}
 use Rattle.sm_theory.specs.declared.line.CertLine.TheVariants as line
-use Rattle.sm_theory.specs.Facts.{Known, Formal, Sum}
+use Rattle.sm_theory.specs.Facts.{BranchFact, Formal, Sum}
 use Rattle.sm_theory.specs.Lines.{CertificateLine, Both, Either, Cases, Order, Refl, Sym, Trans}
 use Rattle.sm_theory.specs.Lines.{Subst, Cong, Same, Apart, Hit, Miss, Lin, Elim, Tight, Close, Clash}
 use Rattle.sm_theory.specs.Standing.{IsKeptFor}
@@ -58,7 +58,7 @@ IsLineWithin count (line.Clash m n) = Unit {0}
 
 -- a fact of the program stands for a fact: a formula for its assertion, a form for one with the same
 -- coefficients; its terms are in the table
-abbrev pub FactStands : Sorts → List Tree → Fact → Known → Type 0
+abbrev pub FactStands : Sorts → List Tree → Fact → BranchFact → Type 0
 FactStands sorts trees (fact.Form f) (Formal g) =
     IsFormulaWithin (length trees) (numbered f) × (assertion_in sorts trees (numbered f) ≡ g)
 FactStands sorts trees (fact.Form f) (Sum g) = ⊥
@@ -66,14 +66,14 @@ FactStands sorts trees (fact.Lin f) (Formal g) = ⊥
 FactStands sorts trees (fact.Lin f) (Sum g) = IsKeptFor trees f g
 
 -- each fact of a branch stands for the fact at its place
-abbrev pub AllStand : Sorts → List Tree → List Fact → List Known → Type 0
+abbrev pub AllStand : Sorts → List Tree → List Fact → List BranchFact → Type 0
 AllStand sorts trees [] [] = Unit {0}
 AllStand sorts trees [] (k ∷ ks) = ⊥
 AllStand sorts trees (f ∷ fs) [] = ⊥
 AllStand sorts trees (f ∷ fs) (k ∷ ks) = FactStands sorts trees f k × AllStand sorts trees fs ks
 
 -- a fact or none, both alike
-abbrev pub StandsIf : Sorts → List Tree → Option Fact → Option Known → Type 0
+abbrev pub StandsIf : Sorts → List Tree → Option Fact → Option BranchFact → Type 0
 StandsIf sorts trees None None = Unit {0}
 StandsIf sorts trees None (Some k) = ⊥
 StandsIf sorts trees (Some f) None = ⊥

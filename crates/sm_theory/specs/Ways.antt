@@ -8,24 +8,24 @@ use Rattle.sm_syntax.specs.text.Sorts.{Sorts}
 use Rattle.sm_num.specs.Tightening.{is_contradictory}
 use Rattle.sm_term.specs.Assertions.{Assertion, Yes, No, Eq, Ne, Le, Lt, And, Or}
 use Rattle.sm_term.specs.SameTerms.{same_tree, same_sort}
-use Rattle.sm_theory.specs.Facts.{Known, Formal, Sum}
+use Rattle.sm_theory.specs.Facts.{BranchFact, Formal, Sum}
 use Rattle.sm_theory.specs.Lines.{CertificateLine, Both, Either, Cases, Order, Refl, Sym, Trans}
 use Rattle.sm_theory.specs.Lines.{Subst, Cong, Same, Apart, Hit, Miss, Lin, Elim, Tight, Close, Clash}
 use Rattle.sm_theory.specs.Lines.{followed, Sides, formula_at, equation_at, contrary_at}
-use Rattle.sm_theory.specs.Equality.{or_else, equality_adds, says_equal}
+use Rattle.sm_theory.specs.Equality.{or_other, equality_adds, says_equal}
 use Rattle.sm_theory.specs.Elements.{element_adds}
-use Rattle.sm_theory.specs.Arithmetic.{arithmetic_adds, is_number}
+use Rattle.sm_theory.specs.Arithmetic.{arithmetic_adds, is_numeric}
 
 -- the ways in which a branch goes on, each with the facts that it adds
 abbrev pub Ways : Type 0
-Ways = Option (List (List Known))
+Ways = Option (List (List BranchFact))
 
 -- one way, with these formulas
-abbrev pub goes_on_with : List Known → Ways
+abbrev pub goes_on_with : List BranchFact → Ways
 goes_on_with more = Some (more ∷ [])
 
 -- one way, with one fact, where there is one
-abbrev pub adding : Option Known → Ways
+abbrev pub adding : Option BranchFact → Ways
 adding None = None
 adding (Some k) = goes_on_with (k ∷ [])
 
@@ -75,25 +75,25 @@ is_absurd (And p q) = false
 is_absurd (Or p q) = false
 
 -- whether a fact can't hold
-abbrev pub cannot_hold : Known → Bool
+abbrev pub cannot_hold : BranchFact → Bool
 cannot_hold (Formal f) = is_absurd f
 cannot_hold (Sum f) = is_contradictory f
 
 -- the fact that a line of one of the three theories adds
-abbrev pub adds : Sorts → List Known → CertificateLine → Option Known
+abbrev pub adds : Sorts → List BranchFact → CertificateLine → Option BranchFact
 adds sorts facts line =
-    or_else (equality_adds sorts facts line)
-    (or_else (arithmetic_adds sorts facts line) (element_adds facts line))
+    or_other (equality_adds sorts facts line)
+    (or_other (arithmetic_adds sorts facts line) (element_adds facts line))
 
 -- the ways in which a branch goes on after a line, where theories add what is told
-abbrev pub ways_with : Sorts → List Known → Option Known → CertificateLine → Ways
+abbrev pub ways_with : Sorts → List BranchFact → Option BranchFact → CertificateLine → Ways
 ways_with sorts facts added (Both n) = followed (formula_at facts n) both_parts
 ways_with sorts facts added (Either n) = followed (formula_at facts n) either_part
 ways_with sorts facts added (Cases t u) =
-    if is_number sorts t && is_number sorts u then splitting (Eq Num t u) (Ne Num t u) else None
+    if is_numeric sorts t && is_numeric sorts u then splitting (Eq Num t u) (Ne Num t u) else None
 ways_with sorts facts added (Order n) = followed (contrary_at facts n) ordered
 ways_with sorts facts added (Close n) =
-    followed (slice_get facts n) (λ (k : Known). closing_if (cannot_hold k))
+    followed (slice_get facts n) (λ (k : BranchFact). closing_if (cannot_hold k))
 ways_with sorts facts added (Clash m n) =
     followed (equation_at facts m)
     (λ (s : Sides). closing_if (says_equal (contrary_at facts n) s.left s.right))
@@ -111,5 +111,5 @@ ways_with sorts facts added (Elim m n t) = adding added
 ways_with sorts facts added (Tight n) = adding added
 
 -- the ways in which a branch goes on after a line
-abbrev pub ways : Sorts → List Known → CertificateLine → Ways
+abbrev pub ways : Sorts → List BranchFact → CertificateLine → Ways
 ways sorts facts line = ways_with sorts facts (adds sorts facts line) line

@@ -6,7 +6,7 @@ ghost use Rattle.sm_term.specs.Terms.{Tree};
 ghost use Rattle.sm_term.specs.Tables.{tree_at, trees_in, sorts_in};
 ghost use Rattle.sm_term.specs.SameTerms.{same_tree};
 ghost use Rattle.sm_term.specs.Formulas.{numbered, assertion_in, IsFormulaWithin};
-ghost use Rattle.sm_theory.specs.Facts.{Known};
+ghost use Rattle.sm_theory.specs.Facts.{BranchFact};
 ghost use Rattle.sm_theory.specs.Lines.{formula_at, form_at, equation_at, contrary_at};
 ghost use Rattle.sm_theory.specs.Lines.{Sides, equal_sides, unequal_sides};
 ghost use Rattle.sm_theory.specs.Equality.{says_equal};
@@ -20,7 +20,7 @@ use sm_term::{Formula, TermId, TermTable};
 
 /// Fact `n`, None past the end.
 pub fn fact_at(branch: &Branch, n: u64) -> Option<&Fact>
-    ensures { (sorts : Sorts) (trees : List Tree) (facts : List Known) →
+    ensures { (sorts : Sorts) (trees : List Tree) (facts : List BranchFact) →
         AllStand sorts trees branch.now.list.items facts →
         OptionStands (FactStands sorts trees) (option_copied result) (slice_get facts n) }
 {
@@ -29,7 +29,7 @@ pub fn fact_at(branch: &Branch, n: u64) -> Option<&Fact>
 
 /// Fact `n`, where it is a formula.
 pub fn formula_at(branch: &Branch, n: u64) -> Option<&Formula>
-    ensures { (sorts : Sorts) (trees : List Tree) (facts : List Known) →
+    ensures { (sorts : Sorts) (trees : List Tree) (facts : List BranchFact) →
         AllStand sorts trees branch.now.list.items facts →
         OptionStands (FormulaStands sorts trees) (option_copied result) (formula_at facts n) }
 {
@@ -42,7 +42,7 @@ pub fn formula_at(branch: &Branch, n: u64) -> Option<&Formula>
 
 /// Fact `n`, where it is a linear form.
 pub fn form_at(branch: &Branch, n: u64) -> Option<&LinForm>
-    ensures { (sorts : Sorts) (trees : List Tree) (facts : List Known) →
+    ensures { (sorts : Sorts) (trees : List Tree) (facts : List BranchFact) →
         AllStand sorts trees branch.now.list.items facts →
         OptionStands (IsKeptFor trees) (option_copied result) (form_at facts n) }
 {
@@ -55,7 +55,7 @@ pub fn form_at(branch: &Branch, n: u64) -> Option<&LinForm>
 
 /// The terms that fact `n` says are equal, where it is an equation.
 pub fn equation_at(branch: &Branch, n: u64) -> Option<(TermId, TermId)>
-    ensures { (sorts : Sorts) (trees : List Tree) (facts : List Known) →
+    ensures { (sorts : Sorts) (trees : List Tree) (facts : List BranchFact) →
         AllStand sorts trees branch.now.list.items facts →
         OptionStands (SidesStand sorts trees) result (equation_at facts n) }
 {
@@ -67,7 +67,7 @@ pub fn equation_at(branch: &Branch, n: u64) -> Option<(TermId, TermId)>
 
 /// The terms that fact `n` says are not equal, where it is the contrary of an equation.
 pub fn contrary_at(branch: &Branch, n: u64) -> Option<(TermId, TermId)>
-    ensures { (sorts : Sorts) (trees : List Tree) (facts : List Known) →
+    ensures { (sorts : Sorts) (trees : List Tree) (facts : List BranchFact) →
         AllStand sorts trees branch.now.list.items facts →
         OptionStands (SidesStand sorts trees) result (contrary_at facts n) }
 {
@@ -117,7 +117,7 @@ pub fn same_term(table: &TermTable, t: TermId, u: TermId) -> bool
 
 /// Whether fact `n` says that two terms of the table are equal, in this order.
 pub fn says_equal(table: &TermTable, branch: &Branch, n: u64, t: TermId, u: TermId) -> bool
-    ensures { let trees = trees_in table.now in (facts : List Known) →
+    ensures { let trees = trees_in table.now in (facts : List BranchFact) →
         AllStand (sorts_in table.now) trees branch.now.list.items facts →
         t.0 < length trees → u.0 < length trees →
         result ≡ says_equal (equation_at facts n) (tree_at trees t.0) (tree_at trees u.0) }
@@ -127,7 +127,7 @@ pub fn says_equal(table: &TermTable, branch: &Branch, n: u64, t: TermId, u: Term
 
 /// Whether fact `n` says that two terms of the table are not equal, in this order.
 pub fn says_unequal(table: &TermTable, branch: &Branch, n: u64, t: TermId, u: TermId) -> bool
-    ensures { let trees = trees_in table.now in (facts : List Known) →
+    ensures { let trees = trees_in table.now in (facts : List BranchFact) →
         AllStand (sorts_in table.now) trees branch.now.list.items facts →
         t.0 < length trees → u.0 < length trees →
         result ≡ says_equal (contrary_at facts n) (tree_at trees t.0) (tree_at trees u.0) }

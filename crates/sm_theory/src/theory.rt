@@ -2,11 +2,11 @@
 ghost use Rattle.std.specs.Prelude.{IfOk, List, Option, length};
 ghost use Rattle.sm_syntax.specs.text.Sorts.{Sorts};
 ghost use Rattle.sm_term.specs.Tables.{trees_in, sorts_in};
-ghost use Rattle.sm_theory.specs.Facts.{Known};
+ghost use Rattle.sm_theory.specs.Facts.{BranchFact};
 ghost use Rattle.sm_theory.specs.Lines.{CertificateLine};
 ghost use Rattle.sm_theory.specs.Laws.{AddsWhatHolds, AddsWhatIsSorted};
 ghost use Rattle.sm_theory.specs.Laws.{AddsWhatIsBelow, AddsAnywhere};
-ghost use Rattle.sm_theory.specs.SortedFacts.{AreKnownSorted};
+ghost use Rattle.sm_theory.specs.SortedFacts.{AreFactsSorted};
 ghost use Rattle.sm_theory.specs.Views.{line_in, IsLineWithin, AllStand, StandsIf};
 
 use crate::fact::{Branch, Fact};
@@ -17,7 +17,7 @@ use std::alloc::{AllocError, Global};
 /// A theory: what it derives from a line and the facts of a branch.
 pub trait Theory {
     // the fact that a line adds, none where it is no line of the theory or its condition fails
-    ghost adds: { Self → Sorts → List Known → CertificateLine → Option Known };
+    ghost adds: { Self → Sorts → List BranchFact → CertificateLine → Option BranchFact };
 
     /// The fact that a line adds to a branch, None where it is no line of this theory or where its
     /// condition fails.
@@ -30,8 +30,8 @@ pub trait Theory {
     ) -> Result<Option<Fact>, AllocError>
         requires { IsLineWithin (length (trees_in table.now)) line.now }
         ensures { let trees = trees_in table.now in let sorts = sorts_in table.now in
-            (facts : List Known) → AllStand sorts trees branch.now.list.items facts →
-            AreKnownSorted sorts facts →
+            (facts : List BranchFact) → AllStand sorts trees branch.now.list.items facts →
+            AreFactsSorted sorts facts →
             IfOk result (λ o. StandsIf sorts trees o
             (adds self.now sorts facts (line_in trees line.now))) };
 

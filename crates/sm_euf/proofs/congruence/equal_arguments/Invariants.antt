@@ -1,7 +1,7 @@
 -- The facts and arguments that are left say what all of them say.
 use Rattle.std.proofs.Common.{◌≡◌, List, drop}
 use Rattle.sm_term.specs.Tables.{trees_in, sorts_in}
-use Rattle.sm_theory.specs.Facts.{Known}
+use Rattle.sm_theory.specs.Facts.{BranchFact}
 use Rattle.sm_theory.specs.Equality.{say_equal}
 use Rattle.sm_theory.specs.Views.{AllStand}
 use Rattle.sm_euf.specs.Arguments.{argument_numbers, trees_of}
@@ -10,7 +10,7 @@ use Rattle.sm_euf.proofs.congruence.equal_arguments.Given as goal
 abbrev pub invariant-loop-i : goal.invariant-loop-i
 invariant-loop-i l =
     let trees = trees_in l.table in
-    (facts : List Known) → AllStand (sorts_in l.table) trees l.branch.list.items facts →
+    (facts : List BranchFact) → AllStand (sorts_in l.table) trees l.branch.list.items facts →
     say_equal facts l.numbers (trees_of trees (argument_numbers l.t)) (trees_of trees (argument_numbers l.u))
     ≡ say_equal facts (drop l.i l.numbers)
     (trees_of trees (drop l.i (argument_numbers l.t))) (trees_of trees (drop l.i (argument_numbers l.u)))

@@ -4,7 +4,7 @@ use Rattle.std.specs.Result.{IfOk}
 use Rattle.sm_num.specs.Forms.{Linear}
 use Rattle.sm_term.specs.Terms.{Tree}
 use Rattle.sm_term.specs.Tables.{trees_in, sorts_in, tree_at}
-use Rattle.sm_theory.specs.Facts.{Known}
+use Rattle.sm_theory.specs.Facts.{BranchFact}
 use Rattle.sm_theory.specs.Lines.{followed, form_at}
 use Rattle.sm_theory.specs.Arithmetic.{cancelled}
 use Rattle.sm_theory.specs.Views.{StandsIf}
@@ -16,7 +16,7 @@ returns-in-Some-form_at c = λ facts all.
     let trees = trees_in c.args.table.now in
     let sorts = sorts_in c.args.table.now in
     let t = tree_at trees c.args.t.0 in
-    let P = λ (k : Option Known). IfOk c.cancel.result (λ o. StandsIf sorts trees o k) in
+    let P = λ (k : Option BranchFact). IfOk c.cancel.result (λ o. StandsIf sorts trees o k) in
     followed_form trees c.in-Some.f.now (form_at facts c.args.m) (λ (f : Linear Tree). followed (form_at facts c.args.n) (cancelled t f)) P
     (c.in-Some.ensures sorts trees facts all)
     (λ h first. followed_form trees c.in-Some-form_at.g.now (form_at facts c.args.n) (cancelled t h) P

@@ -6,7 +6,7 @@ use Rattle.sm_num.specs.Combining.{Fits}
 use Rattle.sm_num.specs.Tightening.{tightened}
 use Rattle.sm_term.specs.Terms.{Tree}
 use Rattle.sm_term.specs.Tables.{trees_in, sorts_in}
-use Rattle.sm_theory.specs.Facts.{Known, Sum}
+use Rattle.sm_theory.specs.Facts.{BranchFact, Sum}
 use Rattle.sm_theory.specs.Lines.{form_at}
 use Rattle.sm_theory.specs.Views.{StandsIf}
 use Rattle.sm_theory.proofs.LinearStanding.{tightened_stands}
@@ -21,7 +21,7 @@ returns-in-Some c = λ facts all.
     let f = c.in-Some.f.now in
     let distinct = one_place trees c.len-count.ensures.apart in
     followed_form trees f (form_at facts c.args.n) (λ (g : Linear Tree). Some (Sum (tightened g)))
-    (λ (k : Option Known). IfOk c.fact_of.result (λ o. StandsIf sorts trees o k))
+    (λ (k : Option BranchFact). IfOk c.fact_of.result (λ o. StandsIf sorts trees o k))
     (c.in-Some.ensures sorts trees facts all)
     (λ g keeps. c.fact_of.ensures sorts trees (Fits (tightened g))
     (returned_for trees (Fits (tightened f)) (Fits (tightened g)) c.tighten.result

@@ -11,6 +11,6 @@ returns c =
     let first = tree_at trees c.args.t.0 in
     let second = tree_at trees c.args.u.0 in
     both_numbers (sorts_in c.args.table.now) first second c.compare_forms.result
-    (sym c.is_number.ensures ∙ c.if-not-is_number.false)
-    (sym c.is_number-else-not-is_number.ensures ∙ c.if-not-is_number-2.false)
+    (sym c.is_numeric.ensures ∙ c.if-not-is_numeric.false)
+    (sym c.is_numeric-else-not-is_numeric.ensures ∙ c.if-not-is_numeric-2.false)
     (c.compare_forms.ensures trees (linear_of first) (linear_of second) c.in_ok-f.ensures c.in_ok-g.ensures)

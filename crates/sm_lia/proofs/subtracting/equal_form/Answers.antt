@@ -3,7 +3,7 @@ use Rattle.std.proofs.Common.{◌≡◌, Bool, true, None, if◌then◌else◌, 
 use Rattle.std.specs.Result.{IfOk}
 use Rattle.sm_num.specs.declared.kind.Kind.TheVariants as kind
 use Rattle.sm_term.specs.Tables.{trees_in, sorts_in, tree_at}
-use Rattle.sm_theory.specs.Arithmetic.{is_number, form_fact, difference}
+use Rattle.sm_theory.specs.Arithmetic.{is_numeric, form_fact, difference}
 use Rattle.sm_theory.specs.Views.{StandsIf}
 use Rattle.sm_lia.proofs.subtracting.equal_form.Goals as goal
 
@@ -13,6 +13,6 @@ returns c = λ left right.
     let sorts = sorts_in c.args.table.now in
     let t = tree_at trees c.args.t.0 in
     let u = tree_at trees c.args.u.0 in
-    let yes : is_number sorts t ≡ true = sym c.is_number.ensures ∙ c.if-not-is_number.false in
+    let yes : is_numeric sorts t ≡ true = sym c.is_numeric.ensures ∙ c.if-not-is_numeric.false in
     subst (λ (b : Bool). IfOk c.fact_of.result (λ o. StandsIf sorts trees o (if b then form_fact (difference t u kind.Eq) else None)))
     (sym yes) (c.fact_of.ensures sorts trees (difference t u kind.Eq) c.difference.ensures)

@@ -1,0 +1,20 @@
+-- The lines so far lead to the branch as it is, and it begins with the facts that it had.
+use Rattle.std.proofs.Common.{◌≡◌, ℕ, List, length, take}
+use Rattle.sm_term.specs.Tables.{trees_in, sorts_in}
+use Rattle.sm_theory.specs.Facts.{BranchFact}
+use Rattle.sm_theory.specs.SortedFacts.{AreFactsSorted}
+use Rattle.sm_theory.specs.Views.{AllStand}
+use Rattle.sm_cert.specs.Certificates.{first_of_three}
+use Rattle.sm_cert.specs.Check.{line_number, Arrives}
+use Rattle.sm_cert.proofs.check.add_lines.Given as goal
+
+abbrev pub invariant-loop-line : goal.invariant-loop-line
+invariant-loop-line g l =
+    let sorts = sorts_in l.table in
+    let trees = trees_in l.table in
+    let theories = first_of_three (g.E.Theory.adds l.euf) (g.L.Theory.adds l.lia) (g.R.Theory.adds l.rows) sorts in
+    record {
+      kept : take (length l.fn.path.list.items) l.path.list.items ≡ l.fn.path.list.items;
+      arrives : (facts : List BranchFact) (m : ℕ) → AllStand sorts trees l.fn.path.list.items facts → AreFactsSorted sorts facts → l.n ≡ line_number m →
+          Arrives theories sorts trees facts m (take l.line-index l.lines) l.path.list.items l.at;
+    }
