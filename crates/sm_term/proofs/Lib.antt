@@ -11,3 +11,6 @@ pub mod ExpressionLemmas
 pub mod FormulasLemmas
 pub mod FormsLemmas
 pub mod CopiesLemmas
+pub mod TailsLemmas
+pub mod MovesLemmas
+pub mod AdoptionLemmas

@@ -239,7 +239,7 @@ before_alike n (t ∷ args) (u ∷ parts) e w =
     (subst (λ m. m < n) part w.0, before_alike n args parts rest w.1)
 before_alike n args parts e w = absurd cc
 
-declared_alike : (sorts : Sorts) (from names : List Name) → names_in_list from ≡ names_in_list names → AreNamesDeclared sorts from → AreNamesDeclared sorts names
+pub declared_alike : (sorts : Sorts) (from names : List Name) → names_in_list from ≡ names_in_list names → AreNamesDeclared sorts from → AreNamesDeclared sorts names
 declared_alike sorts [] [] e w = tt
 declared_alike sorts (x ∷ from) (y ∷ names) e w =
     let name : x.0 ≡ y.0 = cc in

@@ -13,6 +13,8 @@ pub mod RowLaws
 pub mod Tables
 pub mod Fitting
 pub mod TableLaws
+pub mod Tails
+pub mod Moves
 pub mod SameTestLaws
 pub mod SameCodeLaws
 pub mod Bodies

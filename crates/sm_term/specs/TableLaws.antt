@@ -57,3 +57,19 @@ pub record Grows (old new : TableValue) : Type 0 where
   pub sorts : sorts_in new ≡ sorts_in old
   pub codes : codes_in new ≡ codes_in old
   pub trees : (more : List Tree) × (trees_in new ≡ trees_in old ++ more)
+
+-- the trees with each of some more, in order, where it isn't among them
+abbrev pub with_trees : List Tree → List Tree → List Tree
+with_trees trees [] = trees
+with_trees trees (t ∷ ts) = with_trees (with_tree trees t) ts
+
+-- the same of code
+abbrev pub with_codes : List Code → List Code → List Code
+with_codes codes [] = codes
+with_codes codes (c ∷ cs) = with_codes (with_code codes c) cs
+
+-- a table has the sorts of another, and its code and its terms, each with more behind them
+pub record Widens (old new : TableValue) : Type 0 where
+  pub sorts : sorts_in new ≡ sorts_in old
+  pub codes : (more : List Code) × (codes_in new ≡ codes_in old ++ more)
+  pub trees : (more : List Tree) × (trees_in new ≡ trees_in old ++ more)

@@ -7,6 +7,7 @@ ghost use Rattle.sm_term.specs.Fitting.{has_sort, arguments_fit, term_fits};
 ghost use Rattle.sm_term.specs.Tables.{trees_in, sorts_in, codes_in, tree_in};
 ghost use Rattle.sm_term.specs.Tables.{IsTermWithin, AreBefore};
 ghost use Rattle.sm_term.specs.TableLaws.{with_tree, with_code, Grows};
+ghost use Rattle.sm_term.specs.Moves.{KeepsRows};
 
 use crate::body::Body;
 use crate::error::TermError;
@@ -25,6 +26,7 @@ impl TermTable {
             IfOk result (λ b. slice_get (codes_in self.new) b.0 ≡ Some code) }
         ensures sorts { sorts_in self.new ≡ sorts_in self.old }
         ensures trees { trees_in self.new ≡ trees_in self.old }
+        ensures rows { KeepsRows self.old self.new }
         ensures err { OnErr result (self.new ≡ self.old) }
     {
         let body = Body::copied(*self.bodies.allocator(), block)?;
@@ -69,6 +71,7 @@ impl TermTable {
         ensures stored { let tree = tree_in (codes_in self.old) (trees_in self.old) t in
             IfOk result (λ id. slice_get (trees_in self.new) id.0 ≡ Some tree) }
         ensures grows { Grows self.old self.new }
+        ensures rows { KeepsRows self.old self.new }
         ensures err { OnErr result (self.new ≡ self.old) }
     {
         let (index, _) = self.terms.insert_full(t)?;

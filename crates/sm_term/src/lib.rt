@@ -5,6 +5,8 @@
 //! - A term is put in exactly where each argument has the sort that the term needs there. So each
 //!   term of a table is well sorted, and so is each body of a summary.
 //! - After a refusal the table is as it was.
+//! - The last terms of a table can be put into another whose first trees are the same: each has
+//!   the tree there that it had.
 //! - The term of an expression is the tree that its definition gives over a symbolic store, and the
 //!   formula of a condition the assertion.
 //! - A term of an expression means the expression's value in every structure, and a formula of a
@@ -13,10 +15,11 @@
 //!   negation are refuted.
 //!
 //! Read `specs/Terms.antt` first, then `specs/Structures.antt`, `specs/Assertions.antt` and
-//! `specs/Laws.antt`. What a table stands for is in `specs/Tables.antt`, `specs/Fitting.antt` and
-//! `specs/TableLaws.antt`.
+//! `specs/Laws.antt`. What a table stands for is in `specs/Tables.antt`, `specs/Fitting.antt`,
+//! `specs/TableLaws.antt` and `specs/Tails.antt`.
 #![tactic(auto)]
 
+mod adoption;
 mod bodies;
 mod body;
 mod copies;
@@ -25,8 +28,10 @@ mod forms;
 mod formula;
 mod intern;
 mod laws;
+mod moves;
 mod symbolic;
 mod table;
+mod tails;
 mod term;
 
 pub use error::TermError;
@@ -38,4 +43,5 @@ pub use laws::{
 };
 pub use symbolic::{SymStore, term_of};
 pub use table::TermTable;
+pub use tails::TermRows;
 pub use term::{BodyId, Term, TermId, Terms};

@@ -7,6 +7,10 @@ use Rattle.sm_term.specs.Tables.{trees_behind, trees_in, sorts_in, codes_in, tre
 use Rattle.sm_term.specs.Fitting.{term_fits}
 use Rattle.sm_term.specs.TableLaws.{IsTable, with_tree}
 use Rattle.sm_term.proofs.TablesLemmas.{table-insert, trees-insert, stored-insert, grown-with_tree}
+use Rattle.std.proofs.lemmas.List.{append-nil}
+use Rattle.sm_term.specs.Rows.{same_term}
+use Rattle.sm_term.specs.Tables.{TableValue}
+use Rattle.sm_term.proofs.AdoptionLemmas.{grown_key}
 use Rattle.sm_term.proofs.table.TermTable.add.Goals as goal
 
 -- what is so of the term, over the fields
@@ -55,4 +59,13 @@ returns-clause-grows c =
       sorts = ap sorts_in c.self.view_is;
       codes = ap codes_in c.self.view_is;
       trees = (grown.0, trees ∙ grown.1 ∙ ap (λ v. trees_in v ++ grown.0) c.self.view_is);
+    }
+
+pub returns-clause-rows : goal.returns-clause-rows
+returns-clause-rows c =
+    let grown = grown_key same_term c.self.inside.terms.keys c.args.t in
+    record {
+      declared = ap (λ (v : TableValue). v.declared) c.self.view_is;
+      bodies = ([], ap (λ (v : TableValue). v.bodies) c.self.view_is ∙ sym (append-nil c.args.self.now.bodies));
+      terms = (grown.0, c.in_ok-index.ensures.keys ∙ grown.1 ∙ ap (λ (v : TableValue). v.terms ++ grown.0) c.self.view_is);
     }

@@ -1,4 +1,4 @@
-use Rattle.std.proofs.Common.{[], map, sym, ap, subst, ◌∙◌, Some, slice_get}
+use Rattle.std.proofs.Common.{[], ◌++◌, map, sym, ap, subst, ◌∙◌, Some, slice_get}
 use Rattle.sm_syntax.specs.text.Sorts.{IsWellSorted}
 use Rattle.sm_syntax.specs.text.Parts.{sort_of}
 use Rattle.sm_syntax.specs.trees.Programs.{declared_of}
@@ -7,6 +7,9 @@ use Rattle.sm_term.specs.Bodies.{block_of}
 use Rattle.sm_term.specs.Tables.{trees_behind, trees_in, sorts_in, codes_in}
 use Rattle.sm_term.specs.TableLaws.{IsTable, with_code}
 use Rattle.sm_term.proofs.TablesLemmas.{bodies-insert, codes-insert, body-stored, bodies-trees}
+use Rattle.std.proofs.lemmas.List.{append-nil}
+use Rattle.sm_term.specs.Tables.{TableValue}
+use Rattle.sm_term.proofs.AdoptionLemmas.{grown_bodies}
 use Rattle.sm_term.proofs.table.TermTable.body.Goals as goal
 
 pub invariant_of-self-2 : goal.invariant_of-self-2
@@ -43,3 +46,12 @@ returns-clause-trees c =
     ap (λ bs. trees_behind (map code_of (map block_of bs)) [] c.self.inside.terms.keys) c.in_ok-index.ensures.keys
     ∙ bodies-trees sorts bodies c.self.inside.terms.keys c.self.invariant.1 c.in_ok-body.body
     ∙ ap trees_in c.self.view_is
+
+pub returns-clause-rows : goal.returns-clause-rows
+returns-clause-rows c =
+    let grown = grown_bodies c.self.inside.bodies.keys c.in_ok-body.body in
+    record {
+      declared = ap (λ (v : TableValue). v.declared) c.self.view_is;
+      bodies = (grown.0, ap (map block_of) c.in_ok-index.ensures.keys ∙ grown.1 ∙ ap (λ (v : TableValue). v.bodies ++ grown.0) c.self.view_is);
+      terms = ([], ap (λ (v : TableValue). v.terms) c.self.view_is ∙ sym (append-nil c.args.self.now.terms));
+    }

@@ -1,0 +1,7 @@
+-- The first terms have been copied.
+use Rattle.std.proofs.Common.{◌≡◌, map, take}
+use Rattle.sm_term.specs.RowLaws.{contents_of}
+use Rattle.sm_term.proofs.tails.copied_terms.Given as goal
+
+abbrev pub invariant-loop-term : goal.invariant-loop-term
+invariant-loop-term l = map contents_of l.list.items ≡ map contents_of (take l.term-index l.terms)
