@@ -3,6 +3,12 @@ ghost use Rattle.sm_term.specs.Laws.{TermMeansValue, FormMeansTruth, NegateIsCon
 ghost use Rattle.sm_term.specs.Laws.{ConjHolds, RefutedIsValid, RefutedHere, AtStoresHolds};
 ghost use Rattle.sm_term.specs.Laws.{HoldsIsStable, FreshHolds};
 
+use crate::formula::Formula;
+use crate::symbolic::SymStore;
+use crate::table::TermTable;
+use crate::tails::TermRows;
+use crate::term::Term;
+
 /// The term of an expression means the expression's value.
 #[tactic(auto, using(crate::proofs::SymbolicLemmas::term_means))]
 pub fn term_means_value()
@@ -51,3 +57,14 @@ pub fn at_stores_holds()
 pub fn fresh_holds()
     ensures { FreshHolds }
 {}
+
+/// Tables, terms, formulas and symbolic stores can be used by several threads, and handed over.
+pub fn types_cross_threads() {
+    crosses::<TermTable>();
+    crosses::<TermRows>();
+    crosses::<Term>();
+    crosses::<Formula>();
+    crosses::<SymStore>();
+}
+
+fn crosses<T: Send + Sync>() {}
