@@ -1,4 +1,4 @@
--- Private: a row of one table as a term of another, and tables that keep their rows.
+-- Cited by public clauses: a row of one table as a term of another, and tables that keep their rows.
 use Rattle.std.specs.Prelude.{◌≡◌, ℕ, ◌-◌, nat_lt, if◌then◌else◌, Option, List, ◌++◌, map, get_or}
 use Rattle.std.specs.Prelude.{slice_get}
 use Rattle.sm_syntax.specs.declared.tree.Block.{Block}
