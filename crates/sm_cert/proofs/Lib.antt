@@ -4,3 +4,4 @@ pub mod CertificateLaws
 pub mod WaysLemmas
 pub mod CheckLemmas
 pub mod TreeLemmas
+pub mod NamedLemmas

@@ -1,6 +1,7 @@
 // Certificates checked on a branch.
-ghost use Rattle.std.specs.Prelude.{◌≡◌, ℕ, List, [], ◌∷◌, ◌++◌, length, take, nat_lt};
+ghost use Rattle.std.specs.Prelude.{◌≡◌, ℕ, false, List, [], ◌∷◌, ◌++◌, length, take, nat_lt};
 ghost use Rattle.std.specs.Prelude.{IfOk, OnOk, IfErr, None};
+ghost use Rattle.sm_syntax.specs.text.Sorts.{Sorts};
 ghost use Rattle.sm_term.specs.Tables.{trees_in, sorts_in};
 ghost use Rattle.sm_term.specs.Terms.{Tree};
 ghost use Rattle.sm_term.specs.TableLaws.{AreTreesSorted};
@@ -24,8 +25,13 @@ use std::alloc::Global;
 
 // Whether more than `allowed` splits stand above a line. It goes no deeper than that.
 fn is_deep(tree: &CertTree, allowed: u64) -> bool
-    ensures { (trees : List Tree) →
+    ensures deep { (trees : List Tree) →
         result ≡ nat_lt allowed (splits_above (certificate_in trees tree.now)) }
+
+    // Where it isn't, each line was met, and names what its terms are.
+    ensures named { result ≡ false → (sorts : Sorts) (trees : List Tree) →
+        AreTreesSorted sorts trees → AreLinesWithin (length trees) (lines_of tree.now) →
+        IsCertificateSorted sorts (certificate_in trees tree.now) }
 {
     match &tree.last {
         CertEnd::Close(_) => false,
@@ -189,8 +195,7 @@ pub fn check_tree<E: Theory, L: Theory, R: Theory>(
     // Ok tells that the facts can't all hold, whoever wrote the certificate.
     ensures sound { let trees = trees_in table.now in let sorts = sorts_in table.now in
         (facts : List BranchFact) → AllStand sorts trees branch.now.list.items facts →
-        AreFactsSorted sorts facts → IsCertificateSorted sorts (certificate_in trees tree.now) →
-        IfOk result (λ _. IsContradictory facts) }
+        AreFactsSorted sorts facts → IfOk result (λ _. IsContradictory facts) }
 {
     if is_deep(tree, 1000) {
         return Err(CertFault::Deep);
