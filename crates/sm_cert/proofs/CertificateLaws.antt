@@ -10,8 +10,10 @@ use Rattle.sm_cert.proofs.CertificateMoves.{refused_moves}
 -- what is closed is contradictory
 pub closed_contradicts : ClosedIsContradictory
 closed_contradicts sorts facts c fine terms e =
-    closes sorts (adds sorts) facts c (record { holds = adds_hold arithmetic_holds sorts; sorted = adds_sorted arithmetic_sorted sorts }) fine terms e
+    closes sorts (adds sorts) facts c (record { holds = adds_hold arithmetic_holds sorts; sorted = adds_sorted arithmetic_sorted sorts })
+    fine terms e
 
 -- what closes does so elsewhere
 pub moved_closes : ClosesMoved
-moved_closes sorts move facts others c stand e = refused_moves sorts (adds sorts) move facts others c (adds_anywhere arithmetic_moves sorts) stand e
+moved_closes sorts move facts others c stand e =
+    refused_moves sorts (adds sorts) move facts others c (adds_anywhere arithmetic_moves sorts) stand e

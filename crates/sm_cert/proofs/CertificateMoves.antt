@@ -1,5 +1,6 @@
 -- A certificate closes each other branch on which the facts of its own stand.
-use Rattle.std.proofs.Common.{◌≡◌, ◌⊎◌, ◌<◌, ℕ, zero, suc, ◌+◌, ◌-◌, Bool, true, false, nat_lt, if◌then◌else◌, slice_get, Option, Some, None, List, [], ◌∷◌, ◌++◌, length, inl, inr, refl, ap, sym, ◌∙◌, subst, arith}
+use Rattle.std.proofs.Common.{◌≡◌, ◌⊎◌, ◌<◌, ℕ, zero, suc, ◌+◌, ◌-◌, Bool, true, false, nat_lt, if◌then◌else◌, slice_get, Option, Some}
+use Rattle.std.proofs.Common.{None, List, [], ◌∷◌, ◌++◌, length, inl, inr, refl, ap, sym, ◌∙◌, subst, arith}
 use Rattle.std.proofs.lemmas.Option.{slice_get_within}
 use Rattle.std.proofs.lemmas.List.{length-append}
 use Rattle.std.proofs.lemmas.Bool.{ltb-true, lt-ltb}
@@ -10,7 +11,8 @@ use Rattle.sm_theory.specs.Equality.{or_other}
 use Rattle.sm_theory.specs.Ways.{Ways, ways_with}
 use Rattle.sm_theory.specs.Moved.{moved_line, StandAmong}
 use Rattle.sm_theory.proofs.WaysLemmas.{ways_with_move}
-use Rattle.sm_cert.specs.Certificates.{Certificate, Next, Closed, Split, lines_in, splits_above, in_one_way, in_no_way, in_two_ways, Theories, first_bad, TooManySplits, bad_line, refused}
+use Rattle.sm_cert.specs.Certificates.{Certificate, Next, Closed, Split, lines_in, splits_above, in_one_way, in_no_way, in_two_ways}
+use Rattle.sm_cert.specs.Certificates.{Theories, first_bad, TooManySplits, bad_line, refused}
 use Rattle.sm_cert.specs.MovedTrees.{moved_certificate, moved_past}
 
 -- an element of the first of two lists
@@ -23,7 +25,8 @@ in_first (y ∷ xs) ys (suc n) x e = in_first xs ys n x e
 in_second : {X : Type 0} (xs ys : List X) (j : ℕ) → slice_get (xs ++ ys) (length xs + j) ≡ slice_get ys j
 in_second [] ys j = ap (λ (i : ℕ). slice_get ys i) (let none : 0 + j ≡ j = omega arith in none)
 in_second (x ∷ xs) ys j =
-    ap (λ (i : ℕ). slice_get ((x ∷ xs) ++ ys) i) (let one : suc (length xs) + j ≡ suc (length xs + j) = omega arith in one) ∙ in_second xs ys j
+    ap (λ (i : ℕ). slice_get ((x ∷ xs) ++ ys) i) (let one : suc (length xs) + j ≡ suc (length xs + j) = omega arith in one)
+    ∙ in_second xs ys j
 
 -- an element of either
 in_either : {X : Type 0} (xs ys : List X) (n : ℕ) (x : X) → slice_get (xs ++ ys) n ≡ Some x →
@@ -43,7 +46,8 @@ pub record MovesPast (move : ℕ → ℕ) (facts others : List BranchFact) : Typ
   pub past : (j : ℕ) → move (length facts + j) ≡ length others + j
 
 -- more facts on both branches
-later_facts : (move : ℕ → ℕ) (facts others way : List BranchFact) → MovesPast move facts others → MovesPast move (facts ++ way) (others ++ way)
+later_facts : (move : ℕ → ℕ) (facts others way : List BranchFact) → MovesPast move facts others →
+    MovesPast move (facts ++ way) (others ++ way)
 later_facts move facts others way moves = record {
   stand = λ (n : ℕ) (k : BranchFact) (e : slice_get (facts ++ way) n ≡ Some k). of n k (in_either facts way n k e);
   past = λ (j : ℕ).
@@ -52,12 +56,14 @@ later_facts move facts others way moves = record {
       ap move all ∙ moves.past (length way + j) ∙ there;
 }
   where
-    of : (n : ℕ) (k : BranchFact) → (slice_get facts n ≡ Some k) ⊎ ((j : ℕ) × (n ≡ length facts + j) × (slice_get way j ≡ Some k)) → slice_get (others ++ way) (move n) ≡ Some k
+    of : (n : ℕ) (k : BranchFact) → (slice_get facts n ≡ Some k) ⊎ ((j : ℕ) × (n ≡ length facts + j) × (slice_get way j ≡ Some k)) →
+        slice_get (others ++ way) (move n) ≡ Some k
     of n k (inl h) = in_first others way (move n) k (moves.stand n k h)
     of n k (inr h) = ap (λ (i : ℕ). slice_get (others ++ way) i) (ap move h.1 ∙ moves.past h.0) ∙ in_second others way h.0 ∙ h.2
 
 -- the facts of the branch, and those after them
-pub moves_past : (move : ℕ → ℕ) (facts others : List BranchFact) → StandAmong move facts others → MovesPast (moved_past move (length facts) (length others)) facts others
+pub moves_past : (move : ℕ → ℕ) (facts others : List BranchFact) → StandAmong move facts others →
+    MovesPast (moved_past move (length facts) (length others)) facts others
 moves_past move facts others stand = record {
   stand = λ (n : ℕ) (k : BranchFact) (e : slice_get facts n ≡ Some k).
       let within : n < length facts = slice_get_within facts n k e in
@@ -69,7 +75,8 @@ moves_past move facts others stand = record {
     chosen t true n e h = refl
     chosen t false n e h = absurd (let wrong : false ≡ true = h ∙ e in cc)
 
-    later : (b : Bool) (j : ℕ) → nat_lt (length facts + j) (length facts) ≡ b → (if b then move (length facts + j) else length others + ((length facts + j) - length facts)) ≡ length others + j
+    later : (b : Bool) (j : ℕ) → nat_lt (length facts + j) (length facts) ≡ b →
+        (if b then move (length facts + j) else length others + ((length facts + j) - length facts)) ≡ length others + j
     later true j h = absurd (let less = ltb-true (length facts + j) (length facts) h in omega arith)
     later false j h = let same : (length facts + j) - length facts ≡ j = omega arith in ap (λ (i : ℕ). length others + i) same
 
@@ -78,18 +85,22 @@ one_moves : (v w : Ways) (n m : ℕ) (next after : List BranchFact → Option �
     ((way : List BranchFact) → next way ≡ None → after way ≡ None) → in_one_way v n next ≡ None → in_one_way w m after ≡ None
 one_moves None w n m next after same later e = absurd cc
 one_moves (Some []) w n m next after same later e = absurd cc
-one_moves (Some (way ∷ [])) w n m next after same later e = subst (λ (u : Ways). in_one_way u m after ≡ None) (sym (same (way ∷ []) refl)) (later way e)
+one_moves (Some (way ∷ [])) w n m next after same later e =
+    subst (λ (u : Ways). in_one_way u m after ≡ None) (sym (same (way ∷ []) refl)) (later way e)
 one_moves (Some (way ∷ other ∷ rest)) w n m next after same later e = absurd cc
 
 -- one that closes the branch
-none_moves : (v w : Ways) (n m : ℕ) → ((to : List (List BranchFact)) → v ≡ Some to → w ≡ Some to) → in_no_way v n ≡ None → in_no_way w m ≡ None
+none_moves : (v w : Ways) (n m : ℕ) → ((to : List (List BranchFact)) → v ≡ Some to → w ≡ Some to) → in_no_way v n ≡ None →
+    in_no_way w m ≡ None
 none_moves None w n m same e = absurd cc
 none_moves (Some []) w n m same e = subst (λ (u : Ways). in_no_way u m ≡ None) (sym (same [] refl)) refl
 none_moves (Some (way ∷ rest)) w n m same e = absurd cc
 
 -- one that splits it
-two_move : (v w : Ways) (n m : ℕ) (next after : List BranchFact → List BranchFact → Option ℕ) → ((to : List (List BranchFact)) → v ≡ Some to → w ≡ Some to) →
-    ((way other : List BranchFact) → next way other ≡ None → after way other ≡ None) → in_two_ways v n next ≡ None → in_two_ways w m after ≡ None
+two_move : (v w : Ways) (n m : ℕ) (next after : List BranchFact → List BranchFact → Option ℕ) →
+    ((to : List (List BranchFact)) → v ≡ Some to → w ≡ Some to) →
+    ((way other : List BranchFact) → next way other ≡ None → after way other ≡ None) → in_two_ways v n next ≡ None →
+    in_two_ways w m after ≡ None
 two_move None w n m next after same later e = absurd cc
 two_move (Some []) w n m next after same later e = absurd cc
 two_move (Some (way ∷ [])) w n m next after same later e = absurd cc
@@ -112,7 +123,8 @@ splits_same move (Split line c d) = let p = splits_same move c in let q = splits
 -- what theories add they add on each other branch on which the facts stand
 abbrev pub AddAnywhere : Theories → Type 0
 AddAnywhere added =
-    (move : ℕ → ℕ) (facts others : List BranchFact) (line : CertificateLine) (k : BranchFact) → StandAmong move facts others → added facts line ≡ Some k → added others (moved_line move line) ≡ Some k
+    (move : ℕ → ℕ) (facts others : List BranchFact) (line : CertificateLine) (k : BranchFact) → StandAmong move facts others →
+    added facts line ≡ Some k → added others (moved_line move line) ≡ Some k
 
 -- no line of two parts is bad
 both_none : (o p : Option ℕ) → o ≡ None → p ≡ None → or_other o p ≡ None
@@ -125,7 +137,8 @@ parts_none None p e = (refl, e)
 parts_none (Some n) p e = absurd cc
 
 -- a certificate without a bad line has none on the other branch
-pub first_moves : (sorts : Sorts) (added : Theories) (move : ℕ → ℕ) (facts others : List BranchFact) (n m : ℕ) (c : Certificate) → AddAnywhere added → MovesPast move facts others →
+pub first_moves : (sorts : Sorts) (added : Theories) (move : ℕ → ℕ) (facts others : List BranchFact) (n m : ℕ) (c : Certificate) →
+    AddAnywhere added → MovesPast move facts others →
     first_bad added sorts facts n c ≡ None → first_bad added sorts others m (moved_certificate move c) ≡ None
 first_moves sorts added move facts others n m (Next line c) anywhere moves e =
     let v = ways_with sorts facts (added facts line) line in
@@ -134,40 +147,53 @@ first_moves sorts added move facts others n m (Next line c) anywhere moves e =
     let after = λ (way : List BranchFact). first_bad added sorts (others ++ way) (suc m) (moved_certificate move c) in
     one_moves v w n m next after
     (λ (to : List (List BranchFact)) (h : v ≡ Some to).
-    ways_with_move sorts move facts others (added facts line) (added others (moved_line move line)) line to moves.stand (λ (k : BranchFact) (g : added facts line ≡ Some k). anywhere move facts others line k moves.stand g) h)
-    (λ (way : List BranchFact) (h : next way ≡ None). first_moves sorts added move (facts ++ way) (others ++ way) (suc n) (suc m) c anywhere (later_facts move facts others way moves) h) e
+    ways_with_move sorts move facts others (added facts line) (added others (moved_line move line)) line to moves.stand
+    (λ (k : BranchFact) (g : added facts line ≡ Some k). anywhere move facts others line k moves.stand g) h)
+    (λ (way : List BranchFact) (h : next way ≡ None). first_moves sorts added move (facts ++ way) (others ++ way) (suc n) (suc m) c anywhere
+    (later_facts move facts others way moves) h) e
 first_moves sorts added move facts others n m (Closed line) anywhere moves e =
     let v = ways_with sorts facts (added facts line) line in
     let w = ways_with sorts others (added others (moved_line move line)) (moved_line move line) in
     none_moves v w n m
     (λ (to : List (List BranchFact)) (h : v ≡ Some to).
-    ways_with_move sorts move facts others (added facts line) (added others (moved_line move line)) line to moves.stand (λ (k : BranchFact) (g : added facts line ≡ Some k). anywhere move facts others line k moves.stand g) h) e
+    ways_with_move sorts move facts others (added facts line) (added others (moved_line move line)) line to moves.stand
+    (λ (k : BranchFact) (g : added facts line ≡ Some k). anywhere move facts others line k moves.stand g) h) e
 first_moves sorts added move facts others n m (Split line c d) anywhere moves e =
     let v = ways_with sorts facts (added facts line) line in
     let w = ways_with sorts others (added others (moved_line move line)) (moved_line move line) in
     let first = λ (way : List BranchFact). first_bad added sorts (facts ++ way) (suc n) c in
     let second = λ (other : List BranchFact). first_bad added sorts (facts ++ other) (suc n + lines_in c) d in
     let first_there = λ (way : List BranchFact). first_bad added sorts (others ++ way) (suc m) (moved_certificate move c) in
-    let second_there = λ (other : List BranchFact). first_bad added sorts (others ++ other) (suc m + lines_in (moved_certificate move c)) (moved_certificate move d) in
-    two_move v w n m (λ (way other : List BranchFact). or_other (first way) (second other)) (λ (way other : List BranchFact). or_other (first_there way) (second_there other))
+    let second_there = λ (other : List BranchFact). first_bad added sorts (others ++ other) (suc m + lines_in (moved_certificate move c))
+    (moved_certificate move d) in
+    two_move v w n m (λ (way other : List BranchFact). or_other (first way) (second other))
+    (λ (way other : List BranchFact). or_other (first_there way) (second_there other))
     (λ (to : List (List BranchFact)) (h : v ≡ Some to).
-    ways_with_move sorts move facts others (added facts line) (added others (moved_line move line)) line to moves.stand (λ (k : BranchFact) (g : added facts line ≡ Some k). anywhere move facts others line k moves.stand g) h)
+    ways_with_move sorts move facts others (added facts line) (added others (moved_line move line)) line to moves.stand
+    (λ (k : BranchFact) (g : added facts line ≡ Some k). anywhere move facts others line k moves.stand g) h)
     (λ (way other : List BranchFact) (h : or_other (first way) (second other) ≡ None).
     let parts = parts_none (first way) (second other) h in
     both_none (first_there way) (second_there other)
-    (first_moves sorts added move (facts ++ way) (others ++ way) (suc n) (suc m) c anywhere (later_facts move facts others way moves) parts.0)
-    (first_moves sorts added move (facts ++ other) (others ++ other) (suc n + lines_in c) (suc m + lines_in (moved_certificate move c)) d anywhere (later_facts move facts others other moves) parts.1)) e
+    (first_moves sorts added move (facts ++ way) (others ++ way) (suc n) (suc m) c anywhere (later_facts move facts others way moves)
+    parts.0)
+    (first_moves sorts added move (facts ++ other) (others ++ other) (suc n + lines_in c) (suc m + lines_in (moved_certificate move c)) d
+    anywhere (later_facts move facts others other moves) parts.1)) e
 
 -- a certificate that isn't refused isn't on the other branch
-pub refused_moves : (sorts : Sorts) (added : Theories) (move : ℕ → ℕ) (facts others : List BranchFact) (c : Certificate) → AddAnywhere added → StandAmong move facts others →
-    refused added sorts facts c ≡ None → refused added sorts others (moved_certificate (moved_past move (length facts) (length others)) c) ≡ None
+pub refused_moves : (sorts : Sorts) (added : Theories) (move : ℕ → ℕ) (facts others : List BranchFact) (c : Certificate) →
+    AddAnywhere added → StandAmong move facts others →
+    refused added sorts facts c ≡ None →
+    refused added sorts others (moved_certificate (moved_past move (length facts) (length others)) c) ≡ None
 refused_moves sorts added move facts others c anywhere stand e =
     let along = moved_past move (length facts) (length others) in
-    let deep : nat_lt 1000 (splits_above (moved_certificate along c)) ≡ nat_lt 1000 (splits_above c) = ap (λ (n : ℕ). nat_lt 1000 n) (splits_same along c) in
-    of (nat_lt 1000 (splits_above c)) (nat_lt 1000 (splits_above (moved_certificate along c))) (first_bad added sorts facts 0 c) (first_bad added sorts others 0 (moved_certificate along c)) deep
+    let deep : nat_lt 1000 (splits_above (moved_certificate along c)) ≡ nat_lt 1000 (splits_above c) =
+    ap (λ (n : ℕ). nat_lt 1000 n) (splits_same along c) in
+    of (nat_lt 1000 (splits_above c)) (nat_lt 1000 (splits_above (moved_certificate along c))) (first_bad added sorts facts 0 c)
+    (first_bad added sorts others 0 (moved_certificate along c)) deep
     (first_moves sorts added along facts others 0 0 c anywhere (moves_past move facts others stand)) e
   where
-    of : (b d : Bool) (o p : Option ℕ) → d ≡ b → (o ≡ None → p ≡ None) → (if b then Some TooManySplits else bad_line o) ≡ None → (if d then Some TooManySplits else bad_line p) ≡ None
+    of : (b d : Bool) (o p : Option ℕ) → d ≡ b → (o ≡ None → p ≡ None) → (if b then Some TooManySplits else bad_line o) ≡ None →
+        (if d then Some TooManySplits else bad_line p) ≡ None
     of true d o p same later e = absurd cc
     of false true o p same later e = absurd cc
     of false false None p same later e = ap (λ (q : Option ℕ). bad_line q) (later refl)

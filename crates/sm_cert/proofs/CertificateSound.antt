@@ -10,7 +10,8 @@ use Rattle.sm_theory.specs.SortedFacts.{IsFactSorted, AreFactsSorted, IsLineSort
 use Rattle.sm_theory.specs.Laws.{NoWayHolds, EachWay}
 use Rattle.sm_theory.proofs.WaysSound.{some_way_with_holds}
 use Rattle.sm_theory.proofs.WaysLemmas.{ways_with_sorted}
-use Rattle.sm_cert.specs.Certificates.{Certificate, Next, Closed, Split, lines_in, splits_above, in_one_way, in_no_way, in_two_ways, Theories, first_bad, TooManySplits, bad_line, refused}
+use Rattle.sm_cert.specs.Certificates.{Certificate, Next, Closed, Split, lines_in, splits_above, in_one_way, in_no_way, in_two_ways}
+use Rattle.sm_cert.specs.Certificates.{Theories, first_bad, TooManySplits, bad_line, refused}
 use Rattle.sm_cert.specs.NamedTerms.{IsCertificateSorted}
 
 -- facts of which both parts hold
@@ -19,16 +20,19 @@ facts_append m [] more h g = g
 facts_append m (k ∷ ks) more h g = (h.0, facts_append m ks more h.1 g)
 
 -- facts of which both parts are sorted
-pub sorted_append : (sorts : Sorts) (facts more : List BranchFact) → AreFactsSorted sorts facts → AreFactsSorted sorts more → AreFactsSorted sorts (facts ++ more)
+pub sorted_append : (sorts : Sorts) (facts more : List BranchFact) → AreFactsSorted sorts facts → AreFactsSorted sorts more →
+    AreFactsSorted sorts (facts ++ more)
 sorted_append sorts [] more h g = g
 sorted_append sorts (k ∷ ks) more h g = (h.0, sorted_append sorts ks more h.1 g)
 
 -- what theories add holds, and is sorted
 pub record AreSound (sorts : Sorts) (added : Theories) : Type 0 where
   pub holds :
-      (m : Structure) (facts : List BranchFact) (line : CertificateLine) (k : BranchFact) → AreFactsSorted sorts facts → IsLineSorted sorts line → added facts line ≡ Some k → AreFacts m facts → IsFact m k
+      (m : Structure) (facts : List BranchFact) (line : CertificateLine) (k : BranchFact) → AreFactsSorted sorts facts →
+      IsLineSorted sorts line → added facts line ≡ Some k → AreFacts m facts → IsFact m k
   pub sorted :
-      (facts : List BranchFact) (line : CertificateLine) (k : BranchFact) → AreFactsSorted sorts facts → IsLineSorted sorts line → added facts line ≡ Some k → IsFactSorted sorts k
+      (facts : List BranchFact) (line : CertificateLine) (k : BranchFact) → AreFactsSorted sorts facts → IsLineSorted sorts line →
+      added facts line ≡ Some k → IsFactSorted sorts k
 
 -- a first bad line of two parts: none of either
 neither : (o p : Option ℕ) → or_other o p ≡ None → (o ≡ None) × (p ≡ None)
@@ -47,16 +51,19 @@ one_fails sorts m (Some (way ∷ [])) n next e some kept later =
 one_fails sorts m (Some (way ∷ other ∷ rest)) n next e some kept later = absurd cc
 
 -- no way
-none_fails : (m : Structure) (w : Ways) (n : ℕ) → in_no_way w n ≡ None → ((to : List (List BranchFact)) → w ≡ Some to → NoWayHolds m to → ⊥) → ⊥
+none_fails : (m : Structure) (w : Ways) (n : ℕ) → in_no_way w n ≡ None →
+    ((to : List (List BranchFact)) → w ≡ Some to → NoWayHolds m to → ⊥) → ⊥
 none_fails m None n e some = absurd cc
 none_fails m (Some []) n e some = some [] refl tt
 none_fails m (Some (way ∷ rest)) n e some = absurd cc
 
 -- two ways that fail
-two_fail : (sorts : Sorts) (m : Structure) (w : Ways) (n : ℕ) (next : List BranchFact → List BranchFact → Option ℕ) → in_two_ways w n next ≡ None →
+two_fail : (sorts : Sorts) (m : Structure) (w : Ways) (n : ℕ) (next : List BranchFact → List BranchFact → Option ℕ) →
+    in_two_ways w n next ≡ None →
     ((to : List (List BranchFact)) → w ≡ Some to → NoWayHolds m to → ⊥) →
     ((to : List (List BranchFact)) → w ≡ Some to → EachWay (AreFactsSorted sorts) to) →
-    ((way other : List BranchFact) → next way other ≡ None → AreFactsSorted sorts way → AreFactsSorted sorts other → (AreFacts m way → ⊥) × (AreFacts m other → ⊥)) → ⊥
+    ((way other : List BranchFact) → next way other ≡ None → AreFactsSorted sorts way → AreFactsSorted sorts other →
+    (AreFacts m way → ⊥) × (AreFacts m other → ⊥)) → ⊥
 two_fail sorts m None n next e some kept later = absurd cc
 two_fail sorts m (Some []) n next e some kept later = absurd cc
 two_fail sorts m (Some (way ∷ [])) n next e some kept later = absurd cc
@@ -67,35 +74,48 @@ two_fail sorts m (Some (way ∷ other ∷ [])) n next e some kept later =
 two_fail sorts m (Some (way ∷ other ∷ third ∷ rest)) n next e some kept later = absurd cc
 
 -- a certificate without a bad line closes the branch, whatever number its first line has
-pub refutes : (sorts : Sorts) (added : Theories) (facts : List BranchFact) (n : ℕ) (c : Certificate) → AreSound sorts added → AreFactsSorted sorts facts → IsCertificateSorted sorts c →
+pub refutes : (sorts : Sorts) (added : Theories) (facts : List BranchFact) (n : ℕ) (c : Certificate) → AreSound sorts added →
+    AreFactsSorted sorts facts → IsCertificateSorted sorts c →
     first_bad added sorts facts n c ≡ None → (m : Structure) → AreFacts m facts → ⊥
 refutes sorts added facts n (Next line c) sound good terms e m held =
-    one_fails sorts m (ways_with sorts facts (added facts line) line) n (λ (way : List BranchFact). first_bad added sorts (facts ++ way) (suc n) c) e
+    one_fails sorts m (ways_with sorts facts (added facts line) line) n
+    (λ (way : List BranchFact). first_bad added sorts (facts ++ way) (suc n) c) e
     (λ (to : List (List BranchFact)) (h : ways_with sorts facts (added facts line) line ≡ Some to).
-    some_way_with_holds sorts m facts (added facts line) line to good (λ (k : BranchFact) (g : added facts line ≡ Some k). sound.holds m facts line k good terms.0 g held) h held)
+    some_way_with_holds sorts m facts (added facts line) line to good
+    (λ (k : BranchFact) (g : added facts line ≡ Some k). sound.holds m facts line k good terms.0 g held) h held)
     (λ (to : List (List BranchFact)) (h : ways_with sorts facts (added facts line) line ≡ Some to).
-    ways_with_sorted sorts facts (added facts line) line to good terms.0 (λ (k : BranchFact) (g : added facts line ≡ Some k). sound.sorted facts line k good terms.0 g) h)
+    ways_with_sorted sorts facts (added facts line) line to good terms.0
+    (λ (k : BranchFact) (g : added facts line ≡ Some k). sound.sorted facts line k good terms.0 g) h)
     (λ (way : List BranchFact) (later : first_bad added sorts (facts ++ way) (suc n) c ≡ None) (fine : AreFactsSorted sorts way) (h : AreFacts m way).
-    refutes sorts added (facts ++ way) (suc n) c sound (sorted_append sorts facts way good fine) terms.1 later m (facts_append m facts way held h))
+    refutes sorts added (facts ++ way) (suc n) c sound (sorted_append sorts facts way good fine) terms.1 later m
+    (facts_append m facts way held h))
 refutes sorts added facts n (Closed line) sound good terms e m held =
     none_fails m (ways_with sorts facts (added facts line) line) n e
     (λ (to : List (List BranchFact)) (h : ways_with sorts facts (added facts line) line ≡ Some to).
-    some_way_with_holds sorts m facts (added facts line) line to good (λ (k : BranchFact) (g : added facts line ≡ Some k). sound.holds m facts line k good terms g held) h held)
+    some_way_with_holds sorts m facts (added facts line) line to good
+    (λ (k : BranchFact) (g : added facts line ≡ Some k). sound.holds m facts line k good terms g held) h held)
 refutes sorts added facts n (Split line c d) sound good terms e m held =
     two_fail sorts m (ways_with sorts facts (added facts line) line) n
-    (λ (way other : List BranchFact). or_other (first_bad added sorts (facts ++ way) (suc n) c) (first_bad added sorts (facts ++ other) (suc n + lines_in c) d)) e
+    (λ (way other : List BranchFact). or_other (first_bad added sorts (facts ++ way) (suc n) c)
+    (first_bad added sorts (facts ++ other) (suc n + lines_in c) d)) e
     (λ (to : List (List BranchFact)) (h : ways_with sorts facts (added facts line) line ≡ Some to).
-    some_way_with_holds sorts m facts (added facts line) line to good (λ (k : BranchFact) (g : added facts line ≡ Some k). sound.holds m facts line k good terms.0 g held) h held)
+    some_way_with_holds sorts m facts (added facts line) line to good
+    (λ (k : BranchFact) (g : added facts line ≡ Some k). sound.holds m facts line k good terms.0 g held) h held)
     (λ (to : List (List BranchFact)) (h : ways_with sorts facts (added facts line) line ≡ Some to).
-    ways_with_sorted sorts facts (added facts line) line to good terms.0 (λ (k : BranchFact) (g : added facts line ≡ Some k). sound.sorted facts line k good terms.0 g) h)
+    ways_with_sorted sorts facts (added facts line) line to good terms.0
+    (λ (k : BranchFact) (g : added facts line ≡ Some k). sound.sorted facts line k good terms.0 g) h)
     (λ (way other : List BranchFact) (later : or_other (first_bad added sorts (facts ++ way) (suc n) c) (first_bad added sorts (facts ++ other) (suc n + lines_in c) d) ≡ None) (fine : AreFactsSorted sorts way) (fine_too : AreFactsSorted sorts other).
-    let parts = neither (first_bad added sorts (facts ++ way) (suc n) c) (first_bad added sorts (facts ++ other) (suc n + lines_in c) d) later in (
-      λ (h : AreFacts m way). refutes sorts added (facts ++ way) (suc n) c sound (sorted_append sorts facts way good fine) terms.1 parts.0 m (facts_append m facts way held h),
-      λ (h : AreFacts m other). refutes sorts added (facts ++ other) (suc n + lines_in c) d sound (sorted_append sorts facts other good fine_too) terms.2 parts.1 m (facts_append m facts other held h),
+    let parts = neither (first_bad added sorts (facts ++ way) (suc n) c) (first_bad added sorts (facts ++ other) (suc n + lines_in c) d)
+    later in (
+      λ (h : AreFacts m way). refutes sorts added (facts ++ way) (suc n) c sound (sorted_append sorts facts way good fine) terms.1 parts.0 m
+          (facts_append m facts way held h),
+      λ (h : AreFacts m other). refutes sorts added (facts ++ other) (suc n + lines_in c) d sound
+          (sorted_append sorts facts other good fine_too) terms.2 parts.1 m (facts_append m facts other held h),
     ))
 
 -- a certificate that isn't refused has no bad line
-pub none_bad : (added : Theories) (sorts : Sorts) (facts : List BranchFact) (c : Certificate) → refused added sorts facts c ≡ None → first_bad added sorts facts 0 c ≡ None
+pub none_bad : (added : Theories) (sorts : Sorts) (facts : List BranchFact) (c : Certificate) → refused added sorts facts c ≡ None →
+    first_bad added sorts facts 0 c ≡ None
 none_bad added sorts facts c e = of (nat_lt 1000 (splits_above c)) (first_bad added sorts facts 0 c) e
   where
     of : (deep : Bool) (o : Option ℕ) → (if deep then Some TooManySplits else bad_line o) ≡ None → o ≡ None
@@ -104,6 +124,7 @@ none_bad added sorts facts c e = of (nat_lt 1000 (splits_above c)) (first_bad ad
     of false (Some n) e = absurd cc
 
 -- a certificate that isn't refused closes its branch
-pub closes : (sorts : Sorts) (added : Theories) (facts : List BranchFact) (c : Certificate) → AreSound sorts added → AreFactsSorted sorts facts → IsCertificateSorted sorts c →
+pub closes : (sorts : Sorts) (added : Theories) (facts : List BranchFact) (c : Certificate) → AreSound sorts added →
+    AreFactsSorted sorts facts → IsCertificateSorted sorts c →
     refused added sorts facts c ≡ None → IsContradictory facts
 closes sorts added facts c sound good terms e = refutes sorts added facts 0 c sound good terms (none_bad added sorts facts c e)

@@ -16,7 +16,8 @@ use Rattle.sm_cert.proofs.CheckLemmas.{tree_closed, tree_split, lines_closed, wi
 use Rattle.sm_cert.proofs.TreeLemmas.{own_within, split_within}
 
 -- lines before a certificate
-before_sorted : (sorts : Sorts) (trees : List Tree) (ls : List CertLine) (c : Certificate) → AreTreesSorted sorts trees → AreLinesWithin (length trees) ls →
+before_sorted : (sorts : Sorts) (trees : List Tree) (ls : List CertLine) (c : Certificate) → AreTreesSorted sorts trees →
+    AreLinesWithin (length trees) ls →
     IsCertificateSorted sorts c → IsCertificateSorted sorts (lines_before trees ls c)
 before_sorted sorts trees [] c all within good = good
 before_sorted sorts trees (l ∷ ls) c all within good =
@@ -26,15 +27,19 @@ before_sorted sorts trees (l ∷ ls) c all within good =
 pub closed_sorted : (sorts : Sorts) (trees : List Tree) (t : CertTree) (l : CertLine) → t.last ≡ ends.Close l → AreTreesSorted sorts trees →
     AreLinesWithin (length trees) (lines_of t) → IsCertificateSorted sorts (certificate_in trees t)
 closed_sorted sorts trees t l e all within =
-    let parts = within_parts (length trees) t.lines.list.items (l ∷ []) (subst (λ (ls : List CertLine). AreLinesWithin (length trees) ls) (lines_closed t l e) within) in
+    let parts = within_parts (length trees) t.lines.list.items (l ∷ [])
+    (subst (λ (ls : List CertLine). AreLinesWithin (length trees) ls) (lines_closed t l e) within) in
     subst (λ (c : Certificate). IsCertificateSorted sorts c) (sym (tree_closed trees t l e))
     (before_sorted sorts trees t.lines.list.items (Closed (line_in trees l)) all parts.0 (line_sorted sorts trees l all parts.1.0))
 
 -- a tree that a line splits
-pub split_sorted : (sorts : Sorts) (trees : List Tree) (t : CertTree) (l : CertLine) (c d : Box CertTree Global) → t.last ≡ ends.Split l c d → AreTreesSorted sorts trees →
-    AreLinesWithin (length trees) (lines_of t) → IsCertificateSorted sorts (certificate_in trees c.value) → IsCertificateSorted sorts (certificate_in trees d.value) →
+pub split_sorted : (sorts : Sorts) (trees : List Tree) (t : CertTree) (l : CertLine) (c d : Box CertTree Global) →
+    t.last ≡ ends.Split l c d → AreTreesSorted sorts trees →
+    AreLinesWithin (length trees) (lines_of t) → IsCertificateSorted sorts (certificate_in trees c.value) →
+    IsCertificateSorted sorts (certificate_in trees d.value) →
     IsCertificateSorted sorts (certificate_in trees t)
 split_sorted sorts trees t l c d e all within first second =
     subst (λ (k : Certificate). IsCertificateSorted sorts k) (sym (tree_split trees t l c d e))
-    (before_sorted sorts trees t.lines.list.items (Split (line_in trees l) (certificate_in trees c.value) (certificate_in trees d.value)) all (own_within (length trees) t within)
+    (before_sorted sorts trees t.lines.list.items (Split (line_in trees l) (certificate_in trees c.value) (certificate_in trees d.value))
+    all (own_within (length trees) t within)
     (line_sorted sorts trees l all (split_within (length trees) t l c d e within).0, first, second))

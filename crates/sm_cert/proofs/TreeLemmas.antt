@@ -1,5 +1,6 @@
 -- Where the lines of a tree have led, and how its end goes on from there.
-use Rattle.std.proofs.Common.{◌≡◌, ◌<◌, ◌+◌, ℕ, suc, nat_lt, if◌then◌else◌, Bool, true, false, Option, Some, None, List, [], ◌∷◌, ◌++◌, length, Result, Ok, Err, IfErr, IsErrAnd, refl, ap, sym, ◌∙◌, subst, arith}
+use Rattle.std.proofs.Common.{◌≡◌, ◌<◌, ◌+◌, ℕ, suc, nat_lt, if◌then◌else◌, Bool, true, false, Option, Some, None, List, [], ◌∷◌, ◌++◌}
+use Rattle.std.proofs.Common.{length, Result, Ok, Err, IfErr, IsErrAnd, refl, ap, sym, ◌∙◌, subst, arith}
 use Rattle.sm_syntax.specs.text.Sorts.{Sorts}
 use Rattle.sm_term.specs.Terms.{Tree}
 use Rattle.sm_theory.specs.declared.fact.Fact.{Fact}
@@ -17,7 +18,8 @@ use Rattle.sm_cert.specs.declared.tree.CertTree.{CertTree}
 use Rattle.sm_cert.specs.declared.tree.CertEnd.TheVariants as ends
 use Rattle.sm_cert.specs.declared.error.CertFault.{CertFault}
 use Rattle.sm_cert.specs.declared.error.CertFault.TheVariants as fault
-use Rattle.sm_cert.specs.Certificates.{Certificate, Closed, Split, lines_in, in_no_way, in_two_ways, Theories, first_bad, splits_above, TooManySplits, bad_line, refused}
+use Rattle.sm_cert.specs.Certificates.{Certificate, Closed, Split, lines_in, in_no_way, in_two_ways, Theories, first_bad, splits_above}
+use Rattle.sm_cert.specs.Certificates.{TooManySplits, bad_line, refused}
 use Rattle.sm_cert.specs.Views.{lines_before, lines_of, AreLinesWithin, FaultTells}
 use Rattle.sm_cert.specs.Ways.{is_closed, SplitsInto}
 use Rattle.sm_cert.specs.Check.{line_number, Arrives, Passes}
@@ -30,13 +32,17 @@ lines_counted trees [] c = let none : lines_in c ≡ 0 + lines_in c = omega arit
 lines_counted trees (l ∷ ls) c = let p = lines_counted trees ls c in omega arith
 
 -- a line that closes the branch
-pub closed_passes : (theories : Theories) (sorts : Sorts) (trees : List Tree) (facts : List BranchFact) (m : ℕ) (ls : List CertLine) (path : List Fact) (at : ℕ) (l : CertLine) (next : ℕ) →
+pub closed_passes : (theories : Theories) (sorts : Sorts) (trees : List Tree) (facts : List BranchFact) (m : ℕ) (ls : List CertLine)
+    (path : List Fact) (at : ℕ) (l : CertLine) (next : ℕ) →
     Arrives theories sorts trees facts m ls path at →
-    ((ks : List BranchFact) (added : Option BranchFact) → AllStand sorts trees path ks → true ≡ is_closed (ways_with sorts ks added (line_in trees l))) → next ≡ line_number (at + 1) →
+    ((ks : List BranchFact) (added : Option BranchFact) → AllStand sorts trees path ks →
+    true ≡ is_closed (ways_with sorts ks added (line_in trees l))) → next ≡ line_number (at + 1) →
     Passes theories sorts facts m (lines_before trees ls (Closed (line_in trees l))) next
 closed_passes theories sorts trees facts m ls path at l next r closes e =
-    let count : suc (m + length ls) ≡ m + lines_in (lines_before trees ls (Closed (line_in trees l))) = let p = lines_counted trees ls (Closed (line_in trees l)) in omega arith in (
-      r.leads (Closed (line_in trees l)) ∙ of (ways_with sorts r.later (theories r.later (line_in trees l)) (line_in trees l)) (closes r.later (theories r.later (line_in trees l)) r.stand),
+    let count : suc (m + length ls) ≡ m + lines_in (lines_before trees ls (Closed (line_in trees l))) = let p =
+    lines_counted trees ls (Closed (line_in trees l)) in omega arith in (
+      r.leads (Closed (line_in trees l)) ∙ of (ways_with sorts r.later (theories r.later (line_in trees l)) (line_in trees l))
+          (closes r.later (theories r.later (line_in trees l)) r.stand),
       e ∙ counted_more at (m + length ls) r.count ∙ ap line_number count,
     )
   where
@@ -46,14 +52,17 @@ closed_passes theories sorts trees facts m ls path at l next r closes e =
     of (Some (way ∷ rest)) h = absurd cc
 
 -- one that doesn't
-pub open_tells : (theories : Theories) (sorts : Sorts) (trees : List Tree) (facts : List BranchFact) (m : ℕ) (ls : List CertLine) (path : List Fact) (at : ℕ) (l : CertLine) →
+pub open_tells : (theories : Theories) (sorts : Sorts) (trees : List Tree) (facts : List BranchFact) (m : ℕ) (ls : List CertLine)
+    (path : List Fact) (at : ℕ) (l : CertLine) →
     Arrives theories sorts trees facts m ls path at →
-    ((ks : List BranchFact) (added : Option BranchFact) → AllStand sorts trees path ks → false ≡ is_closed (ways_with sorts ks added (line_in trees l))) →
+    ((ks : List BranchFact) (added : Option BranchFact) → AllStand sorts trees path ks →
+    false ≡ is_closed (ways_with sorts ks added (line_in trees l))) →
     FaultTells (fault.Wrong at) (bad_line (first_bad theories sorts facts m (lines_before trees ls (Closed (line_in trees l)))))
 open_tells theories sorts trees facts m ls path at l r closes = (
   m + length ls,
   ap bad_line (r.leads (Closed (line_in trees l)) ∙
-      of (ways_with sorts r.later (theories r.later (line_in trees l)) (line_in trees l)) (closes r.later (theories r.later (line_in trees l)) r.stand)),
+      of (ways_with sorts r.later (theories r.later (line_in trees l)) (line_in trees l))
+      (closes r.later (theories r.later (line_in trees l)) r.stand)),
   r.count,
 )
   where
@@ -63,21 +72,25 @@ open_tells theories sorts trees facts m ls path at l r closes = (
     of (Some (way ∷ rest)) h = refl
 
 -- a line that doesn't split the branch
-pub whole_tells : (theories : Theories) (sorts : Sorts) (trees : List Tree) (facts : List BranchFact) (m : ℕ) (ls : List CertLine) (path : List Fact) (at : ℕ) (l : CertLine) (c d : Certificate) →
+pub whole_tells : (theories : Theories) (sorts : Sorts) (trees : List Tree) (facts : List BranchFact) (m : ℕ) (ls : List CertLine)
+    (path : List Fact) (at : ℕ) (l : CertLine) (c d : Certificate) →
     Arrives theories sorts trees facts m ls path at →
-    ((ks : List BranchFact) (added : Option BranchFact) → AllStand sorts trees path ks → SplitsInto sorts trees None (ways_with sorts ks added (line_in trees l))) →
+    ((ks : List BranchFact) (added : Option BranchFact) → AllStand sorts trees path ks →
+    SplitsInto sorts trees None (ways_with sorts ks added (line_in trees l))) →
     FaultTells (fault.Wrong at) (bad_line (first_bad theories sorts facts m (lines_before trees ls (Split (line_in trees l) c d))))
 whole_tells theories sorts trees facts m ls path at l c d r whole = (
   m + length ls,
   ap bad_line (r.leads (Split (line_in trees l) c d) ∙
-      of (ways_with sorts r.later (theories r.later (line_in trees l)) (line_in trees l)) (whole r.later (theories r.later (line_in trees l)) r.stand)),
+      of (ways_with sorts r.later (theories r.later (line_in trees l)) (line_in trees l))
+      (whole r.later (theories r.later (line_in trees l)) r.stand)),
   r.count,
 )
   where
     of : (w : Ways) → SplitsInto sorts trees None w →
         in_two_ways w (m + length ls)
         (λ (way other : List BranchFact).
-        or_other (first_bad theories sorts (r.later ++ way) (suc (m + length ls)) c) (first_bad theories sorts (r.later ++ other) (suc (m + length ls) + lines_in c) d)) ≡ Some (m + length ls)
+        or_other (first_bad theories sorts (r.later ++ way) (suc (m + length ls)) c)
+        (first_bad theories sorts (r.later ++ other) (suc (m + length ls) + lines_in c) d)) ≡ Some (m + length ls)
     of None h = refl
     of (Some []) h = refl
     of (Some (way ∷ [])) h = refl
@@ -85,7 +98,8 @@ whole_tells theories sorts trees facts m ls path at l c d r whole = (
     of (Some (way ∷ other ∷ third ∷ rest)) h = refl
 
 -- the two sides of a line that splits the branch
-pub record Halves (theories : Theories) (sorts : Sorts) (trees : List Tree) (facts : List BranchFact) (m : ℕ) (ls : List CertLine) (path : List Fact) (f g : Fact) (l : CertLine) (c d : Certificate) : Type 0 where
+pub record Halves (theories : Theories) (sorts : Sorts) (trees : List Tree) (facts : List BranchFact) (m : ℕ) (ls : List CertLine)
+    (path : List Fact) (f g : Fact) (l : CertLine) (c d : Certificate) : Type 0 where
   pub later : List BranchFact
   pub way : List BranchFact
   pub other : List BranchFact
@@ -96,16 +110,21 @@ pub record Halves (theories : Theories) (sorts : Sorts) (trees : List Tree) (fac
   pub fine_second : AreFactsSorted sorts (later ++ other)
   pub bad :
       first_bad theories sorts facts m (lines_before trees ls (Split (line_in trees l) c d)) ≡
-      or_other (first_bad theories sorts (later ++ way) (suc (m + length ls)) c) (first_bad theories sorts (later ++ other) (suc (m + length ls) + lines_in c) d)
+      or_other (first_bad theories sorts (later ++ way) (suc (m + length ls)) c)
+      (first_bad theories sorts (later ++ other) (suc (m + length ls) + lines_in c) d)
 
-pub halves : (theories : Theories) (sorts : Sorts) (trees : List Tree) (facts : List BranchFact) (m : ℕ) (ls : List CertLine) (path : List Fact) (at : ℕ) (f g : Fact) (l : CertLine) (c d : Certificate) →
+pub halves : (theories : Theories) (sorts : Sorts) (trees : List Tree) (facts : List BranchFact) (m : ℕ) (ls : List CertLine)
+    (path : List Fact) (at : ℕ) (f g : Fact) (l : CertLine) (c d : Certificate) →
     AreSound sorts theories → IsLineSorted sorts (line_in trees l) → Arrives theories sorts trees facts m ls path at →
-    ((ks : List BranchFact) (added : Option BranchFact) → AllStand sorts trees path ks → SplitsInto sorts trees (Some (f, g)) (ways_with sorts ks added (line_in trees l))) →
+    ((ks : List BranchFact) (added : Option BranchFact) → AllStand sorts trees path ks →
+    SplitsInto sorts trees (Some (f, g)) (ways_with sorts ks added (line_in trees l))) →
     Halves theories sorts trees facts m ls path f g l c d
 halves theories sorts trees facts m ls path at f g l c d sound named r splits =
-    of (ways_with sorts r.later (theories r.later (line_in trees l)) (line_in trees l)) refl (splits r.later (theories r.later (line_in trees l)) r.stand)
+    of (ways_with sorts r.later (theories r.later (line_in trees l)) (line_in trees l)) refl
+    (splits r.later (theories r.later (line_in trees l)) r.stand)
   where
-    of : (w : Ways) → ways_with sorts r.later (theories r.later (line_in trees l)) (line_in trees l) ≡ w → SplitsInto sorts trees (Some (f, g)) w → Halves theories sorts trees facts m ls path f g l c d
+    of : (w : Ways) → ways_with sorts r.later (theories r.later (line_in trees l)) (line_in trees l) ≡ w →
+        SplitsInto sorts trees (Some (f, g)) w → Halves theories sorts trees facts m ls path f g l c d
     of None h two = absurd two
     of (Some []) h two = absurd two
     of (Some (way ∷ [])) h two = absurd two
@@ -125,7 +144,8 @@ halves theories sorts trees facts m ls path at f g l c d sound named r splits =
           bad = r.leads (Split (line_in trees l) c d) ∙
               ap (λ (w : Ways). in_two_ways w (m + length ls)
               (λ (way other : List BranchFact).
-              or_other (first_bad theories sorts (r.later ++ way) (suc (m + length ls)) c) (first_bad theories sorts (r.later ++ other) (suc (m + length ls) + lines_in c) d))) h;
+              or_other (first_bad theories sorts (r.later ++ way) (suc (m + length ls)) c)
+              (first_bad theories sorts (r.later ++ other) (suc (m + length ls) + lines_in c) d))) h;
         }
     of (Some (way ∷ other ∷ third ∷ rest)) h two = absurd two
 
@@ -152,10 +172,12 @@ err_is P (Ok t) x h p = tt
 err_is P (Err e) x h p = subst P (sym h) p
 
 -- the lines of a tree that a line splits
-pub split_within : (n : ℕ) (t : CertTree) (l : CertLine) (c d : Box CertTree Global) → t.last ≡ ends.Split l c d → AreLinesWithin n (lines_of t) →
+pub split_within : (n : ℕ) (t : CertTree) (l : CertLine) (c d : Box CertTree Global) → t.last ≡ ends.Split l c d →
+    AreLinesWithin n (lines_of t) →
     IsLineWithin n l × AreLinesWithin n (lines_of c.value) × AreLinesWithin n (lines_of d.value)
 split_within n t l c d e all =
-    let rest = (within_parts n t.lines.list.items (l ∷ (lines_of c.value ++ lines_of d.value)) (subst (AreLinesWithin n) (lines_split t l c d e) all)).1 in
+    let rest = (within_parts n t.lines.list.items (l ∷ (lines_of c.value ++ lines_of d.value))
+    (subst (AreLinesWithin n) (lines_split t l c d e) all)).1 in
     let sides = within_parts n (lines_of c.value) (lines_of d.value) rest.1 in
     (rest.0, sides.0, sides.1)
 
@@ -164,38 +186,48 @@ pub own_within : (n : ℕ) (t : CertTree) → AreLinesWithin n (lines_of t) → 
 own_within n t all = (within_parts n t.lines.list.items (lines_of_end t.last) (subst (AreLinesWithin n) (lines_are t) all)).0
 
 -- both sides of a tree pass
-pub split_passes : (theories : Theories) (sorts : Sorts) (trees : List Tree) (facts : List BranchFact) (m : ℕ) (ls : List CertLine) (path : List Fact) (f g : Fact) (l : CertLine) (c d : Certificate) (next last : ℕ)
+pub split_passes : (theories : Theories) (sorts : Sorts) (trees : List Tree) (facts : List BranchFact) (m : ℕ) (ls : List CertLine)
+    (path : List Fact) (f g : Fact) (l : CertLine) (c d : Certificate) (next last : ℕ)
     (h : Halves theories sorts trees facts m ls path f g l c d) → Passes theories sorts (h.later ++ h.way) (suc (m + length ls)) c next →
-    Passes theories sorts (h.later ++ h.other) (suc (m + length ls) + lines_in c) d last → Passes theories sorts facts m (lines_before trees ls (Split (line_in trees l) c d)) last
+    Passes theories sorts (h.later ++ h.other) (suc (m + length ls) + lines_in c) d last →
+    Passes theories sorts facts m (lines_before trees ls (Split (line_in trees l) c d)) last
 split_passes theories sorts trees facts m ls path f g l c d next last h one two =
     let count : (suc (m + length ls) + lines_in c) + lines_in d ≡ m + lines_in (lines_before trees ls (Split (line_in trees l) c d)) =
     let p = lines_counted trees ls (Split (line_in trees l) c d) in omega arith in (
-      h.bad ∙ both_pass (first_bad theories sorts (h.later ++ h.way) (suc (m + length ls)) c) (first_bad theories sorts (h.later ++ h.other) (suc (m + length ls) + lines_in c) d) one.0 two.0,
+      h.bad ∙ both_pass (first_bad theories sorts (h.later ++ h.way) (suc (m + length ls)) c)
+          (first_bad theories sorts (h.later ++ h.other) (suc (m + length ls) + lines_in c) d) one.0 two.0,
       two.1 ∙ ap line_number count,
     )
 
 -- a fault of the first side
-pub split_first : (theories : Theories) (sorts : Sorts) (trees : List Tree) (facts : List BranchFact) (m : ℕ) (ls : List CertLine) (path : List Fact) (f g : Fact) (l : CertLine) (c d : Certificate) (e : CertFault)
-    (h : Halves theories sorts trees facts m ls path f g l c d) → FaultTells e (bad_line (first_bad theories sorts (h.later ++ h.way) (suc (m + length ls)) c)) →
+pub split_first : (theories : Theories) (sorts : Sorts) (trees : List Tree) (facts : List BranchFact) (m : ℕ) (ls : List CertLine)
+    (path : List Fact) (f g : Fact) (l : CertLine) (c d : Certificate) (e : CertFault)
+    (h : Halves theories sorts trees facts m ls path f g l c d) →
+    FaultTells e (bad_line (first_bad theories sorts (h.later ++ h.way) (suc (m + length ls)) c)) →
     FaultTells e (bad_line (first_bad theories sorts facts m (lines_before trees ls (Split (line_in trees l) c d))))
 split_first theories sorts trees facts m ls path f g l c d e h tells =
     subst (λ (o : Option ℕ). FaultTells e (bad_line o)) (sym h.bad)
-    (first_tells e (first_bad theories sorts (h.later ++ h.way) (suc (m + length ls)) c) (first_bad theories sorts (h.later ++ h.other) (suc (m + length ls) + lines_in c) d) tells)
+    (first_tells e (first_bad theories sorts (h.later ++ h.way) (suc (m + length ls)) c)
+    (first_bad theories sorts (h.later ++ h.other) (suc (m + length ls) + lines_in c) d) tells)
 
 -- of the second
-pub split_second : (theories : Theories) (sorts : Sorts) (trees : List Tree) (facts : List BranchFact) (m : ℕ) (ls : List CertLine) (path : List Fact) (f g : Fact) (l : CertLine) (c d : Certificate) (e : CertFault) (next : ℕ)
+pub split_second : (theories : Theories) (sorts : Sorts) (trees : List Tree) (facts : List BranchFact) (m : ℕ) (ls : List CertLine)
+    (path : List Fact) (f g : Fact) (l : CertLine) (c d : Certificate) (e : CertFault) (next : ℕ)
     (h : Halves theories sorts trees facts m ls path f g l c d) → Passes theories sorts (h.later ++ h.way) (suc (m + length ls)) c next →
     FaultTells e (bad_line (first_bad theories sorts (h.later ++ h.other) (suc (m + length ls) + lines_in c) d)) →
     FaultTells e (bad_line (first_bad theories sorts facts m (lines_before trees ls (Split (line_in trees l) c d))))
 split_second theories sorts trees facts m ls path f g l c d e next h one tells =
     subst (λ (o : Option ℕ). FaultTells e (bad_line o)) (sym h.bad)
-    (second_tells e (first_bad theories sorts (h.later ++ h.way) (suc (m + length ls)) c) (first_bad theories sorts (h.later ++ h.other) (suc (m + length ls) + lines_in c) d) one.0 tells)
+    (second_tells e (first_bad theories sorts (h.later ++ h.way) (suc (m + length ls)) c)
+    (first_bad theories sorts (h.later ++ h.other) (suc (m + length ls) + lines_in c) d) one.0 tells)
 
 -- the sides of a tree, by what holds them
-pub first_within : (n : ℕ) (t : CertTree) (l : CertLine) (c d : Box CertTree Global) (s : CertTree) → t.last ≡ ends.Split l c d → s ≡ c.value → AreLinesWithin n (lines_of t) → AreLinesWithin n (lines_of s)
+pub first_within : (n : ℕ) (t : CertTree) (l : CertLine) (c d : Box CertTree Global) (s : CertTree) → t.last ≡ ends.Split l c d →
+    s ≡ c.value → AreLinesWithin n (lines_of t) → AreLinesWithin n (lines_of s)
 first_within n t l c d s e same all = subst (λ (u : CertTree). AreLinesWithin n (lines_of u)) (sym same) (split_within n t l c d e all).1
 
-pub second_within : (n : ℕ) (t : CertTree) (l : CertLine) (c d : Box CertTree Global) (s : CertTree) → t.last ≡ ends.Split l c d → s ≡ d.value → AreLinesWithin n (lines_of t) → AreLinesWithin n (lines_of s)
+pub second_within : (n : ℕ) (t : CertTree) (l : CertLine) (c d : Box CertTree Global) (s : CertTree) → t.last ≡ ends.Split l c d →
+    s ≡ d.value → AreLinesWithin n (lines_of t) → AreLinesWithin n (lines_of s)
 second_within n t l c d s e same all = subst (λ (u : CertTree). AreLinesWithin n (lines_of u)) (sym same) (split_within n t l c d e all).2
 
 -- each has fewer lines
@@ -204,14 +236,21 @@ sides_fewer : (t : CertTree) (l : CertLine) (c d : Box CertTree Global) → t.la
 sides_fewer t l c d e = ap length (lines_split t l c d e) ∙ length-append t.lines.list.items (l ∷ (lines_of c.value ++ lines_of d.value)) ∙
     ap (λ (n : ℕ). length t.lines.list.items + suc n) (length-append (lines_of c.value) (lines_of d.value))
 
-pub first_fewer : (t : CertTree) (l : CertLine) (c d : Box CertTree Global) (s : CertTree) → t.last ≡ ends.Split l c d → s ≡ c.value → length (lines_of s) < length (lines_of t)
-first_fewer t l c d s e same = let p = sides_fewer t l c d e in let q : length (lines_of s) ≡ length (lines_of c.value) = ap (λ (u : CertTree). length (lines_of u)) same in omega arith
+pub first_fewer : (t : CertTree) (l : CertLine) (c d : Box CertTree Global) (s : CertTree) → t.last ≡ ends.Split l c d → s ≡ c.value →
+    length (lines_of s) < length (lines_of t)
+first_fewer t l c d s e same =
+    let p = sides_fewer t l c d e in let q : length (lines_of s) ≡ length (lines_of c.value) = ap (λ (u : CertTree). length (lines_of u))
+    same in omega arith
 
-pub second_fewer : (t : CertTree) (l : CertLine) (c d : Box CertTree Global) (s : CertTree) → t.last ≡ ends.Split l c d → s ≡ d.value → length (lines_of s) < length (lines_of t)
-second_fewer t l c d s e same = let p = sides_fewer t l c d e in let q : length (lines_of s) ≡ length (lines_of d.value) = ap (λ (u : CertTree). length (lines_of u)) same in omega arith
+pub second_fewer : (t : CertTree) (l : CertLine) (c d : Box CertTree Global) (s : CertTree) → t.last ≡ ends.Split l c d → s ≡ d.value →
+    length (lines_of s) < length (lines_of t)
+second_fewer t l c d s e same =
+    let p = sides_fewer t l c d e in let q : length (lines_of s) ≡ length (lines_of d.value) = ap (λ (u : CertTree). length (lines_of u))
+    same in omega arith
 
 -- a certificate that is too deep is refused for that
-pub refused_deep : (theories : Theories) (sorts : Sorts) (facts : List BranchFact) (c : Certificate) → true ≡ nat_lt 1000 (splits_above c) → refused theories sorts facts c ≡ Some TooManySplits
+pub refused_deep : (theories : Theories) (sorts : Sorts) (facts : List BranchFact) (c : Certificate) → true ≡ nat_lt 1000 (splits_above c) →
+    refused theories sorts facts c ≡ Some TooManySplits
 refused_deep theories sorts facts c e = of (nat_lt 1000 (splits_above c)) e
   where
     of : (b : Bool) → true ≡ b → (if b then Some TooManySplits else bad_line (first_bad theories sorts facts 0 c)) ≡ Some TooManySplits
@@ -219,10 +258,12 @@ refused_deep theories sorts facts c e = of (nat_lt 1000 (splits_above c)) e
     of false e = absurd cc
 
 -- another for its first bad line
-pub refused_flat : (theories : Theories) (sorts : Sorts) (facts : List BranchFact) (c : Certificate) → false ≡ nat_lt 1000 (splits_above c) →
+pub refused_flat : (theories : Theories) (sorts : Sorts) (facts : List BranchFact) (c : Certificate) →
+    false ≡ nat_lt 1000 (splits_above c) →
     refused theories sorts facts c ≡ bad_line (first_bad theories sorts facts 0 c)
 refused_flat theories sorts facts c e = of (nat_lt 1000 (splits_above c)) e
   where
-    of : (b : Bool) → false ≡ b → (if b then Some TooManySplits else bad_line (first_bad theories sorts facts 0 c)) ≡ bad_line (first_bad theories sorts facts 0 c)
+    of : (b : Bool) → false ≡ b → (if b then Some TooManySplits else bad_line (first_bad theories sorts facts 0 c)) ≡ bad_line
+        (first_bad theories sorts facts 0 c)
     of false e = refl
     of true e = absurd cc

@@ -1,5 +1,6 @@
 -- What is found on a branch of the program, by the ways in which the branch that it stands for goes on.
-use Rattle.std.proofs.Common.{◌≡◌, ◌<◌, ◌+◌, ℕ, Bool, true, false, slice_get, get_or, Option, Some, None, List, [], ◌∷◌, ◌++◌, length, drop, take, refl, ap, sym, ◌∙◌, subst}
+use Rattle.std.proofs.Common.{◌≡◌, ◌<◌, ◌+◌, ℕ, Bool, true, false, slice_get, get_or, Option, Some, None, List, [], ◌∷◌, ◌++◌, length, drop}
+use Rattle.std.proofs.Common.{take, refl, ap, sym, ◌∙◌, subst}
 use Rattle.std.specs.Prelude.{pos}
 use Rattle.std.proofs.lemmas.Option.{slice_get_within, get_or_from_slice_get}
 use Rattle.std.proofs.lemmas.List.{drop_more}
@@ -32,7 +33,8 @@ use Rattle.sm_theory.proofs.LinearStanding.{contradictory_stands}
 use Rattle.sm_cert.specs.Ways.{GoesOn, is_closed, SplitsInto}
 
 -- facts behind facts
-pub stand_append : (sorts : Sorts) (trees : List Tree) (path more : List Fact) (facts way : List BranchFact) → AllStand sorts trees path facts → AllStand sorts trees more way →
+pub stand_append : (sorts : Sorts) (trees : List Tree) (path more : List Fact) (facts way : List BranchFact) →
+    AllStand sorts trees path facts → AllStand sorts trees more way →
     AllStand sorts trees (path ++ more) (facts ++ way)
 stand_append sorts trees [] more [] way all and = and
 stand_append sorts trees [] more (k ∷ ks) way all and = absurd all
@@ -40,7 +42,8 @@ stand_append sorts trees (f ∷ fs) more [] way all and = absurd all
 stand_append sorts trees (f ∷ fs) more (k ∷ ks) way all and = (all.0, stand_append sorts trees fs more ks way all.1 and)
 
 -- a fact replaced by one that stands for the same
-stand_replaced : (sorts : Sorts) (trees : List Tree) (path : List Fact) (f g : Fact) (more : List Fact) (facts : List BranchFact) → AllStand sorts trees (path ++ (f ∷ more)) facts →
+stand_replaced : (sorts : Sorts) (trees : List Tree) (path : List Fact) (f g : Fact) (more : List Fact) (facts : List BranchFact) →
+    AllStand sorts trees (path ++ (f ∷ more)) facts →
     ((k : BranchFact) → FactStands sorts trees f k → FactStands sorts trees g k) → AllStand sorts trees ((path ++ (g ∷ [])) ++ more) facts
 stand_replaced sorts trees [] f g more [] all same = absurd all
 stand_replaced sorts trees [] f g more (k ∷ ks) all same = (same k all.0, all.1)
@@ -48,15 +51,19 @@ stand_replaced sorts trees (h ∷ hs) f g more [] all same = absurd all
 stand_replaced sorts trees (h ∷ hs) f g more (k ∷ ks) all same = (all.0, stand_replaced sorts trees hs f g more ks all.1 same)
 
 -- one more fact copied
-pub copied_more : (sorts : Sorts) (trees : List Tree) (path : List Fact) (i : ℕ) (copied : List Fact) (g : Fact) (facts : List BranchFact) → (d : Fact) → i < length path →
-    AllStand sorts trees (copied ++ drop i path) facts → ((k : BranchFact) → FactStands sorts trees (get_or path i d) k → FactStands sorts trees g k) →
+pub copied_more : (sorts : Sorts) (trees : List Tree) (path : List Fact) (i : ℕ) (copied : List Fact) (g : Fact) (facts : List BranchFact) →
+    (d : Fact) → i < length path →
+    AllStand sorts trees (copied ++ drop i path) facts →
+    ((k : BranchFact) → FactStands sorts trees (get_or path i d) k → FactStands sorts trees g k) →
     AllStand sorts trees ((copied ++ (g ∷ [])) ++ drop (i + 1) path) facts
 copied_more sorts trees path i copied g facts d within all same =
-    stand_replaced sorts trees copied (get_or path i d) g (drop (i + 1) path) facts (subst (λ (rest : List Fact). AllStand sorts trees (copied ++ rest) facts) (drop_more path i d within) all) same
+    stand_replaced sorts trees copied (get_or path i d) g (drop (i + 1) path) facts
+    (subst (λ (rest : List Fact). AllStand sorts trees (copied ++ rest) facts) (drop_more path i d within) all) same
 
 -- the trees of a table have one place each
 pub one_place : (trees : List Tree) → AreApart trees → HaveOnePlace trees
-one_place trees apart i j t first second = apart i j (slice_get_within trees i t first) (slice_get_within trees j t second) (read i first ∙ sym (read j second))
+one_place trees apart i j t first second =
+    apart i j (slice_get_within trees i t first) (slice_get_within trees j t second) (read i first ∙ sym (read j second))
   where
     read : (n : ℕ) → slice_get trees n ≡ Some t → tree_at trees n ≡ t
     read n e = get_or_from_slice_get trees n t (Lit (pos 0)) e
@@ -67,28 +74,36 @@ append_two [] k l = refl
 append_two (h ∷ ks) k l = ap (λ (rest : List BranchFact). h ∷ rest) (append_two ks k l)
 
 -- both parts of a conjunction behind the others
-pub both_go_on : (sorts : Sorts) (trees : List Tree) (path : List Fact) (facts : List BranchFact) (whole f g : Formula) (o : Option Assertion) → AllStand sorts trees path facts →
+pub both_go_on : (sorts : Sorts) (trees : List Tree) (path : List Fact) (facts : List BranchFact) (whole f g : Formula)
+    (o : Option Assertion) → AllStand sorts trees path facts →
     numbered whole ≡ And (numbered f) (numbered g) → OptionStands (FormulaStands sorts trees) (Some whole) o →
     GoesOn sorts trees true ((path ++ (fact.Form f ∷ [])) ++ (fact.Form g ∷ [])) facts (followed o both_parts)
 both_go_on sorts trees path facts whole f g None all same stands = absurd stands
-both_go_on sorts trees path facts whole f g (Some a) all same stands = of a (subst (λ (h : NumberedFormula). IsFormulaWithin (length trees) h) same stands.0) (sym (ap (assertion_in sorts trees) same) ∙ stands.1)
+both_go_on sorts trees path facts whole f g (Some a) all same stands =
+    of a (subst (λ (h : NumberedFormula). IsFormulaWithin (length trees) h) same stands.0) (sym (ap (assertion_in sorts trees) same)
+    ∙ stands.1)
   where
-    of : (a : Assertion) → IsFormulaWithin (length trees) (And (numbered f) (numbered g)) → assertion_in sorts trees (And (numbered f) (numbered g)) ≡ a →
+    of : (a : Assertion) → IsFormulaWithin (length trees) (And (numbered f) (numbered g)) →
+        assertion_in sorts trees (And (numbered f) (numbered g)) ≡ a →
         GoesOn sorts trees true ((path ++ (fact.Form f ∷ [])) ++ (fact.Form g ∷ [])) facts (both_parts a)
-    of a within e = subst (λ (a : Assertion). GoesOn sorts trees true ((path ++ (fact.Form f ∷ [])) ++ (fact.Form g ∷ [])) facts (both_parts a)) e
+    of a within e = subst (λ (a : Assertion). GoesOn sorts trees true ((path ++ (fact.Form f ∷ [])) ++ (fact.Form g ∷ [])) facts
+        (both_parts a)) e
         (let p = assertion_in sorts trees (numbered f) in let q = assertion_in sorts trees (numbered g) in
-        subst (λ (as_facts : List BranchFact). AllStand sorts trees ((path ++ (fact.Form f ∷ [])) ++ (fact.Form g ∷ [])) as_facts) (append_two facts (Formal p) (Formal q))
+        subst (λ (as_facts : List BranchFact). AllStand sorts trees ((path ++ (fact.Form f ∷ [])) ++ (fact.Form g ∷ [])) as_facts)
+        (append_two facts (Formal p) (Formal q))
         (stand_append sorts trees (path ++ (fact.Form f ∷ [])) (fact.Form g ∷ []) (facts ++ (Formal p ∷ [])) (Formal q ∷ [])
         (stand_append sorts trees path (fact.Form f ∷ []) facts (Formal p ∷ []) all ((within.0, refl), tt)) ((within.1, refl), tt)))
 
 -- a fact that is added stands behind the others
-pub adding_goes_on : (sorts : Sorts) (trees : List Tree) (path : List Fact) (f : Fact) (facts : List BranchFact) (added : Option BranchFact) → AllStand sorts trees path facts → StandsIf sorts trees (Some f) added →
+pub adding_goes_on : (sorts : Sorts) (trees : List Tree) (path : List Fact) (f : Fact) (facts : List BranchFact)
+    (added : Option BranchFact) → AllStand sorts trees path facts → StandsIf sorts trees (Some f) added →
     GoesOn sorts trees true (path ++ (f ∷ [])) facts (adding added)
 adding_goes_on sorts trees path f facts None all stands = absurd stands
 adding_goes_on sorts trees path f facts (Some k) all stands = stand_append sorts trees path (f ∷ []) facts (k ∷ []) all (stands, tt)
 
 -- where none is added, there isn't one way
-pub adding_stops : (sorts : Sorts) (trees : List Tree) (path : List Fact) (facts : List BranchFact) (added : Option BranchFact) → StandsIf sorts trees None added → GoesOn sorts trees false path facts (adding added)
+pub adding_stops : (sorts : Sorts) (trees : List Tree) (path : List Fact) (facts : List BranchFact) (added : Option BranchFact) →
+    StandsIf sorts trees None added → GoesOn sorts trees false path facts (adding added)
 adding_stops sorts trees path facts None stands = tt
 adding_stops sorts trees path facts (Some k) stands = absurd stands
 
@@ -98,7 +113,8 @@ closing_closes true = refl
 closing_closes false = refl
 
 -- nor does a line that only closes branches go on in one way
-pub closing_stops : (sorts : Sorts) (trees : List Tree) (path : List Fact) (facts : List BranchFact) (b : Bool) → GoesOn sorts trees false path facts (closing_if b)
+pub closing_stops : (sorts : Sorts) (trees : List Tree) (path : List Fact) (facts : List BranchFact) (b : Bool) →
+    GoesOn sorts trees false path facts (closing_if b)
 closing_stops sorts trees path facts true = tt
 closing_stops sorts trees path facts false = tt
 
@@ -108,7 +124,8 @@ close_stops sorts trees path facts None = tt
 close_stops sorts trees path facts (Some k) = closing_stops sorts trees path facts (cannot_hold k)
 
 -- a fact closes the branch where it can't hold
-pub closes_with : (sorts : Sorts) (trees : List Tree) (f : Fact) (o : Option BranchFact) (b : Bool) → OptionStands (FactStands sorts trees) (Some f) o → ((k : BranchFact) → FactStands sorts trees f k → b ≡ cannot_hold k) →
+pub closes_with : (sorts : Sorts) (trees : List Tree) (f : Fact) (o : Option BranchFact) (b : Bool) →
+    OptionStands (FactStands sorts trees) (Some f) o → ((k : BranchFact) → FactStands sorts trees f k → b ≡ cannot_hold k) →
     b ≡ is_closed (followed {T = List (List BranchFact)} o (λ (k : BranchFact). closing_if (cannot_hold k)))
 closes_with sorts trees f None b stands law = absurd stands
 closes_with sorts trees f (Some k) b stands law = law k stands ∙ closing_closes (cannot_hold k)
@@ -126,18 +143,21 @@ form_cannot sorts trees f (Formal g) b stands law = law stands.0 ∙ ap is_absur
 form_cannot sorts trees f (Sum g) b stands law = absurd stands
 
 -- a form that can't
-pub sum_cannot : (sorts : Sorts) (trees : List Tree) (f : Linear ℕ) (k : BranchFact) → AreApart trees → FactStands sorts trees (fact.Lin f) k → is_contradictory f ≡ cannot_hold k
+pub sum_cannot : (sorts : Sorts) (trees : List Tree) (f : Linear ℕ) (k : BranchFact) → AreApart trees →
+    FactStands sorts trees (fact.Lin f) k → is_contradictory f ≡ cannot_hold k
 sum_cannot sorts trees f (Formal g) apart stands = absurd stands
 sum_cannot sorts trees f (Sum g) apart stands = contradictory_stands trees (one_place trees apart) f g stands
 
 -- an equation closes the branch with its contrary
-pub clashes_with : (sorts : Sorts) (trees : List Tree) (pair : TermId × TermId) (o p : Option Sides) (b : Bool) → OptionStands (SidesStand sorts trees) (Some pair) o →
+pub clashes_with : (sorts : Sorts) (trees : List Tree) (pair : TermId × TermId) (o p : Option Sides) (b : Bool) →
+    OptionStands (SidesStand sorts trees) (Some pair) o →
     (pair.0.0 < length trees → pair.1.0 < length trees → b ≡ says_equal p (tree_at trees pair.0.0) (tree_at trees pair.1.0)) →
     b ≡ is_closed (followed {T = List (List BranchFact)} o (λ (s : Sides). closing_if (says_equal p s.left s.right)))
 clashes_with sorts trees pair None p b stands law = absurd stands
 clashes_with sorts trees pair (Some s) p b stands law =
     law stands.0 stands.1 ∙
-    subst (λ (s : Sides). says_equal p (tree_at trees pair.0.0) (tree_at trees pair.1.0) ≡ is_closed (closing_if (says_equal p s.left s.right))) stands.2
+    subst (λ (s : Sides). says_equal p (tree_at trees pair.0.0) (tree_at trees pair.1.0) ≡ is_closed
+    (closing_if (says_equal p s.left s.right))) stands.2
     (closing_closes (says_equal p (tree_at trees pair.0.0) (tree_at trees pair.1.0)))
 
 -- without an equation it isn't closed
@@ -157,17 +177,21 @@ adding_is_whole sorts trees None = tt
 adding_is_whole sorts trees (Some k) = tt
 
 -- the contrary of an equation of numbers splits the branch
-pub ordered_splits : (sorts : Sorts) (trees : List Tree) (pair : TermId × TermId) (o : Option Sides) → OptionStands (SidesStand sorts trees) (Some pair) o →
+pub ordered_splits : (sorts : Sorts) (trees : List Tree) (pair : TermId × TermId) (o : Option Sides) →
+    OptionStands (SidesStand sorts trees) (Some pair) o →
     tree_sort sorts (tree_at trees pair.0.0) ≡ Num →
     SplitsInto sorts trees (Some (fact.Form (Formula.Lt pair.0 pair.1), fact.Form (Formula.Lt pair.1 pair.0))) (followed o ordered)
 ordered_splits sorts trees pair None stands sort = absurd stands
 ordered_splits sorts trees pair (Some s) stands sort =
-    subst (λ (s : Sides). SplitsInto sorts trees (Some (fact.Form (Formula.Lt pair.0 pair.1), fact.Form (Formula.Lt pair.1 pair.0))) (ordered s)) stands.2
+    subst (λ (s : Sides). SplitsInto sorts trees (Some (fact.Form (Formula.Lt pair.0 pair.1), fact.Form (Formula.Lt pair.1 pair.0)))
+    (ordered s)) stands.2
     (by (tree_sort sorts (tree_at trees pair.0.0)) sort)
   where
     by : (r : Sort) → r ≡ Num →
-        SplitsInto sorts trees (Some (fact.Form (Formula.Lt pair.0 pair.1), fact.Form (Formula.Lt pair.1 pair.0))) (ordered (record { sort = r; left = tree_at trees pair.0.0; right = tree_at trees pair.1.0 }))
-    by r e = subst (λ (r : Sort). SplitsInto sorts trees (Some (fact.Form (Formula.Lt pair.0 pair.1), fact.Form (Formula.Lt pair.1 pair.0))) (ordered (record { sort = r; left = tree_at trees pair.0.0; right = tree_at trees pair.1.0 }))) (sym e)
+        SplitsInto sorts trees (Some (fact.Form (Formula.Lt pair.0 pair.1), fact.Form (Formula.Lt pair.1 pair.0)))
+        (ordered (record { sort = r; left = tree_at trees pair.0.0; right = tree_at trees pair.1.0 }))
+    by r e = subst (λ (r : Sort). SplitsInto sorts trees (Some (fact.Form (Formula.Lt pair.0 pair.1), fact.Form (Formula.Lt pair.1 pair.0)))
+        (ordered (record { sort = r; left = tree_at trees pair.0.0; right = tree_at trees pair.1.0 }))) (sym e)
         ((((stands.0, stands.1), refl), tt), (((stands.1, stands.0), refl), tt))
 
 -- a conjunction splits nothing, nor does a line that only closes branches
@@ -186,17 +210,21 @@ closing_is_whole : (sorts : Sorts) (trees : List Tree) (b : Bool) → SplitsInto
 closing_is_whole sorts trees true = tt
 closing_is_whole sorts trees false = tt
 
-close_is_whole : (sorts : Sorts) (trees : List Tree) (o : Option BranchFact) → SplitsInto sorts trees None (followed {T = List (List BranchFact)} o (λ (k : BranchFact). closing_if (cannot_hold k)))
+close_is_whole : (sorts : Sorts) (trees : List Tree) (o : Option BranchFact) →
+    SplitsInto sorts trees None (followed {T = List (List BranchFact)} o (λ (k : BranchFact). closing_if (cannot_hold k)))
 close_is_whole sorts trees None = tt
 close_is_whole sorts trees (Some k) = closing_is_whole sorts trees (cannot_hold k)
 
-clash_is_whole : (sorts : Sorts) (trees : List Tree) (o p : Option Sides) → SplitsInto sorts trees None (followed {T = List (List BranchFact)} o (λ (s : Sides). closing_if (says_equal p s.left s.right)))
+clash_is_whole : (sorts : Sorts) (trees : List Tree) (o p : Option Sides) →
+    SplitsInto sorts trees None (followed {T = List (List BranchFact)} o (λ (s : Sides). closing_if (says_equal p s.left s.right)))
 clash_is_whole sorts trees None p = tt
 clash_is_whole sorts trees (Some s) p = closing_is_whole sorts trees (says_equal p s.left s.right)
 
 -- a line of another kind splits nothing
-pub other_is_whole : (sorts : Sorts) (trees : List Tree) (facts : List BranchFact) (added : Option BranchFact) (l : CertLine) → ((n : ℕ) → l ≡ CertLine.Either n → ⊥) →
-    ((t u : TermId) → l ≡ CertLine.Cases t u → ⊥) → ((n : ℕ) → l ≡ CertLine.Order n → ⊥) → SplitsInto sorts trees None (ways_with sorts facts added (line_in trees l))
+pub other_is_whole : (sorts : Sorts) (trees : List Tree) (facts : List BranchFact) (added : Option BranchFact) (l : CertLine) →
+    ((n : ℕ) → l ≡ CertLine.Either n → ⊥) →
+    ((t u : TermId) → l ≡ CertLine.Cases t u → ⊥) → ((n : ℕ) → l ≡ CertLine.Order n → ⊥) →
+    SplitsInto sorts trees None (ways_with sorts facts added (line_in trees l))
 other_is_whole sorts trees facts added (line.Both n) either cases order = both_is_whole sorts trees (formula_at facts n)
 other_is_whole sorts trees facts added (line.Either n) either cases order = absurd (either n refl)
 other_is_whole sorts trees facts added (line.Cases t u) either cases order = absurd (cases t u refl)
@@ -214,11 +242,14 @@ other_is_whole sorts trees facts added (line.Lin n) either cases order = adding_
 other_is_whole sorts trees facts added (line.Elim m n t) either cases order = adding_is_whole sorts trees added
 other_is_whole sorts trees facts added (line.Tight n) either cases order = adding_is_whole sorts trees added
 other_is_whole sorts trees facts added (line.Close n) either cases order = close_is_whole sorts trees (slice_get facts n)
-other_is_whole sorts trees facts added (line.Clash m n) either cases order = clash_is_whole sorts trees (equation_at facts m) (contrary_at facts n)
+other_is_whole sorts trees facts added (line.Clash m n) either cases order =
+    clash_is_whole sorts trees (equation_at facts m) (contrary_at facts n)
 
 -- a line of a theory goes on as the theory tells
-pub theory_adds : (sorts : Sorts) (trees : List Tree) (facts : List BranchFact) (added : Option BranchFact) (l : CertLine) → ((n : ℕ) → l ≡ CertLine.Both n → ⊥) → ((n : ℕ) → l ≡ CertLine.Either n → ⊥) →
-    ((t u : TermId) → l ≡ CertLine.Cases t u → ⊥) → ((n : ℕ) → l ≡ CertLine.Order n → ⊥) → ((n : ℕ) → l ≡ CertLine.Close n → ⊥) → ((m n : ℕ) → l ≡ CertLine.Clash m n → ⊥) →
+pub theory_adds : (sorts : Sorts) (trees : List Tree) (facts : List BranchFact) (added : Option BranchFact) (l : CertLine) →
+    ((n : ℕ) → l ≡ CertLine.Both n → ⊥) → ((n : ℕ) → l ≡ CertLine.Either n → ⊥) →
+    ((t u : TermId) → l ≡ CertLine.Cases t u → ⊥) → ((n : ℕ) → l ≡ CertLine.Order n → ⊥) → ((n : ℕ) → l ≡ CertLine.Close n → ⊥) →
+    ((m n : ℕ) → l ≡ CertLine.Clash m n → ⊥) →
     ways_with sorts facts added (line_in trees l) ≡ adding added
 theory_adds sorts trees facts added (line.Both n) both either cases order close clash = absurd (both n refl)
 theory_adds sorts trees facts added (line.Either n) both either cases order close clash = absurd (either n refl)

@@ -15,6 +15,7 @@ invariant-loop-line g l =
     let theories = first_of_three (g.E.Theory.adds l.euf) (g.L.Theory.adds l.lia) (g.R.Theory.adds l.rows) sorts in
     record {
       kept : take (length l.fn.path.list.items) l.path.list.items ≡ l.fn.path.list.items;
-      arrives : (facts : List BranchFact) (m : ℕ) → AllStand sorts trees l.fn.path.list.items facts → AreFactsSorted sorts facts → l.n ≡ line_number m →
+      arrives : (facts : List BranchFact) (m : ℕ) → AllStand sorts trees l.fn.path.list.items facts → AreFactsSorted sorts facts →
+          l.n ≡ line_number m →
           Arrives theories sorts trees facts m (take l.line-index l.lines) l.path.list.items l.at;
     }

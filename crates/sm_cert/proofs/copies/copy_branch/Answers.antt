@@ -12,5 +12,7 @@ loop-fact-preserved c = λ sorts trees facts all.
     let item = c.fact-item.result in
     let copy = c.in_ok-copy_fact.field-0 in
     subst (λ (fs : List Fact). AllStand sorts trees (fs ++ drop (i + 1) path) facts) (sym c.in_ok-push.ensures.items)
-    (copied_more sorts trees path i c.loop-fact.list.items copy facts item c.loop-fact-test.true (c.loop-fact.invariant sorts trees facts all)
-    (λ (k : BranchFact) (stands : FactStands sorts trees (get_or path i item) k). c.in_ok-copy_fact.ensures sorts trees k (subst (λ (f : Fact). FactStands sorts trees f k) (sym c.fact-item.is) stands)))
+    (copied_more sorts trees path i c.loop-fact.list.items copy facts item c.loop-fact-test.true
+    (c.loop-fact.invariant sorts trees facts all)
+    (λ (k : BranchFact) (stands : FactStands sorts trees (get_or path i item) k). c.in_ok-copy_fact.ensures sorts trees k
+    (subst (λ (f : Fact). FactStands sorts trees f k) (sym c.fact-item.is) stands)))

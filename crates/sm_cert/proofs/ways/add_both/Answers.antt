@@ -14,10 +14,14 @@ returns-clause-ways c = λ sorts trees facts added all.
     let whole = c.in-Some-And.field-0.now in
     let f = c.in_ok-copy_formula-in-Some-And.field-0 in
     let g = c.in_ok-copy_formula-in-Some-And-2.field-0 in
-    let first : numbered c.in-Some-And.p.value ≡ numbered f = ap numbered (sym c.deref.ensures) ∙ sym c.in_ok-copy_formula-in-Some-And.ensures in
-    let second : numbered c.in-Some-And.q.value ≡ numbered g = ap numbered (sym c.deref-in-Some-And.ensures) ∙ sym c.in_ok-copy_formula-in-Some-And-2.ensures in
+    let first : numbered c.in-Some-And.p.value ≡ numbered f =
+    ap numbered (sym c.deref.ensures) ∙ sym c.in_ok-copy_formula-in-Some-And.ensures in
+    let second : numbered c.in-Some-And.q.value ≡ numbered g =
+    ap numbered (sym c.deref-in-Some-And.ensures) ∙ sym c.in_ok-copy_formula-in-Some-And-2.ensures in
     let same : numbered whole ≡ And (numbered f) (numbered g) =
-    ap numbered c.in-Some-And.field-0-is ∙ (ap (λ (h : NumberedFormula). And h (numbered c.in-Some-And.q.value)) first ∙ ap (λ (h : NumberedFormula). And (numbered f) h) second) in
+    ap numbered c.in-Some-And.field-0-is
+    ∙ (ap (λ (h : NumberedFormula). And h (numbered c.in-Some-And.q.value)) first
+    ∙ ap (λ (h : NumberedFormula). And (numbered f) h) second) in
     let items : c.push-2.new.self.items ≡ (path ++ (fact.Form f ∷ [])) ++ (fact.Form g ∷ []) =
     c.in_ok-push-2.ensures.items ∙ ap (λ (fs : List Fact). fs ++ (fact.Form g ∷ [])) c.in_ok-push.ensures.items in
     subst (λ (fs : List Fact). GoesOn sorts trees true fs facts (followed (formula_at facts c.args.n) both_parts)) (sym items)

@@ -30,4 +30,5 @@ returns-in-Order c = λ facts added all.
 
 pub returns-in_default : goal.returns-in_default
 returns-in_default c = λ facts added all.
-    other_is_whole (sorts_in c.args.table.now) (trees_in c.args.table.now) facts added c.args.line.now c.in_default.not-Either c.in_default.not-Cases c.in_default.not-Order
+    other_is_whole (sorts_in c.args.table.now) (trees_in c.args.table.now) facts added c.args.line.now c.in_default.not-Either
+    c.in_default.not-Cases c.in_default.not-Order
