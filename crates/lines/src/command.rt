@@ -1,0 +1,72 @@
+// Commands.
+use crate::fact::{fact_answer, negate_answer, show_answer};
+use crate::form::form_answer;
+use crate::line::line_answer;
+use crate::refusal::Refusal;
+use crate::scene::{Scene, read_names};
+use crate::term::{get_answer, sort_answer, term_answer};
+use crate::word::{natural, whole};
+use sm_num::{add, mul, sub};
+use std::alloc::{AllocError, Global};
+
+/// What is printed for a command.
+pub fn answer(alloc: Global, scene: &mut Scene, line: &str) -> Result<String, Refusal> {
+    match line.split_once('|') {
+        Some((front, forms)) => {
+            let words: Vec<&str> = front.split_whitespace().collect(alloc)?;
+            form_answer(alloc, &words, forms)
+        }
+        None => {
+            let words: Vec<&str> = line.split_whitespace().collect(alloc)?;
+            command_answer(alloc, scene, &words)
+        }
+    }
+}
+
+// The same of a command with no forms.
+fn command_answer(alloc: Global, scene: &mut Scene, words: &[&str]) -> Result<String, Refusal> {
+    match *words {
+        ["len"] => Ok(format!(in alloc; "{}", scene.table.len())?),
+        ["copy"] => {
+            scene.copy_table(alloc)?;
+            Ok(format!(in alloc; "{}", scene.table.len())?)
+        }
+        ["cut", len] => {
+            scene.cut(natural(len)?)?;
+            Ok(format!(in alloc; "{}", scene.table.len())?)
+        }
+        ["get", t] => get_answer(alloc, scene, t),
+        ["sort", t] => sort_answer(alloc, scene, t),
+        ["show", n] => show_answer(alloc, scene, n),
+        ["negate", n] => negate_answer(alloc, scene, n),
+        ["add", a, b] => Ok(number_words(alloc, add(whole(a)?, whole(b)?))?),
+        ["sub", a, b] => Ok(number_words(alloc, sub(whole(a)?, whole(b)?))?),
+        ["mul", a, b] => Ok(number_words(alloc, mul(whole(a)?, whole(b)?))?),
+        _ => group_answer(alloc, scene, words),
+    }
+}
+
+// The same of a command whose first word says what the others are.
+fn group_answer(alloc: Global, scene: &mut Scene, words: &[&str]) -> Result<String, Refusal> {
+    if words.is_empty() {
+        return Err(Refusal::Bad);
+    }
+    match words[0] {
+        "table" => {
+            *scene = Scene::new(alloc, read_names(alloc, &words[1..])?)?;
+            Ok(String::from_str(alloc, "table")?)
+        }
+        "t" => term_answer(alloc, scene, &words[1..]),
+        "fact" => fact_answer(alloc, scene, &words[1..]),
+        "line" => line_answer(alloc, scene, &words[1..]),
+        _ => Err(Refusal::Bad),
+    }
+}
+
+// A result, `none` where it lies outside 128 bits.
+fn number_words(alloc: Global, computed: Option<i128>) -> Result<String, AllocError> {
+    match computed {
+        Some(z) => Ok(format!(in alloc; "{z}")?),
+        None => Ok(String::from_str(alloc, "none")?),
+    }
+}
