@@ -1,6 +1,8 @@
 // Laws of certificates, as contracts.
 ghost use Rattle.sm_cert.specs.Laws.{ClosedIsContradictory, ClosesMoved};
 
+use crate::tree::{CertEnd, CertLines, CertTree};
+
 /// Where a certificate closes a branch, no structure makes all facts of the branch hold.
 #[tactic(auto, using(crate::proofs::CertificateLaws::closed_contradicts))]
 pub fn closed_is_contradictory()
@@ -12,3 +14,12 @@ pub fn closed_is_contradictory()
 pub fn closes_moved()
     ensures { ClosesMoved }
 {}
+
+/// Certificates can be used by several threads, and handed over.
+pub fn types_cross_threads() {
+    crosses::<CertTree>();
+    crosses::<CertLines>();
+    crosses::<CertEnd>();
+}
+
+fn crosses<T: Send + Sync>() {}
