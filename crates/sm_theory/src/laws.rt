@@ -7,6 +7,9 @@ ghost use Rattle.sm_theory.specs.Standing.{CombinedStands, EliminatedStands, Can
 ghost use Rattle.sm_theory.specs.Standing.{TightenedStands, ContradictoryStands, OneMoreStands};
 ghost use Rattle.sm_theory.specs.Standing.{SamePartsStand, StandsLater, LinearStands};
 
+use crate::fact::{Branch, Fact};
+use crate::line::{CertLine, FactNumbers};
+
 /// What a line of equality adds holds wherever the facts of the branch do.
 #[tactic(auto, using(crate::proofs::EqualitySound::equality_holds))]
 pub fn equality_adds_what_holds()
@@ -156,3 +159,13 @@ pub fn ways_are_below()
 pub fn ways_move()
     ensures { WaysMove }
 {}
+
+/// Facts, branches and lines can be used by several threads, and handed over.
+pub fn types_cross_threads() {
+    crosses::<Fact>();
+    crosses::<Branch>();
+    crosses::<CertLine>();
+    crosses::<FactNumbers>();
+}
+
+fn crosses<T: Send + Sync>() {}
