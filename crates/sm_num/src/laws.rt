@@ -5,6 +5,8 @@ ghost use Rattle.sm_num.specs.FormLaws.{CombinedHasValue, ElimHolds, TightenHold
 ghost use Rattle.sm_num.specs.FormLaws.{ContradictionFails, CombinedIsKept, ElimIsKept};
 ghost use Rattle.sm_num.specs.FormLaws.{TightenIsKept, ElimTakesAtom, ElimAddsNoAtom};
 
+use crate::form::LinForm;
+
 /// By ascending atoms and in the order of the parts one sum is computed, or none.
 #[tactic(auto, using(crate::proofs::OrderLemmas::combined_alike))]
 pub fn order_does_not_matter()
@@ -80,3 +82,10 @@ pub fn elim_takes_atom()
 pub fn elim_adds_no_atom()
     ensures { ElimAddsNoAtom }
 {}
+
+/// Linear forms can be used by several threads, and handed over.
+pub fn types_cross_threads() {
+    crosses::<LinForm>();
+}
+
+fn crosses<T: Send + Sync>() {}
