@@ -1,5 +1,6 @@
 -- Names that are found among declarations.
-use Rattle.std.proofs.Common.{◌≡◌, ◌<◌, ◌==◌, ℕ, zero, suc, Bool, true, false, IsTrue, Option, Some, if◌then◌else◌, List, [], ◌∷◌, length, map, get_or, eq-eqb, refl, arith}
+use Rattle.std.proofs.Common.{◌≡◌, ◌<◌, ◌==◌, ℕ, zero, suc, Bool, true, false, IsTrue, Option, Some, if◌then◌else◌, List, [], ◌∷◌, length}
+use Rattle.std.proofs.Common.{map, get_or, eq-eqb, refl, arith}
 use Rattle.std.specs.Option.{is_some}
 use Rattle.sm_syntax.specs.declared.tree.Name.{Name}
 use Rattle.sm_syntax.specs.declared.tree.Sort.{Sort}
@@ -19,4 +20,6 @@ pub declared_at : (ds : List (Name × Sort)) (i x : ℕ) (d : Name × Sort) → 
     IsTrue (is_some (sort_of (map (λ (e : Name × Sort). (e.0.0, e.1)) ds) x))
 declared_at [] i x d less e = absurd (let none = less in omega arith)
 declared_at (f ∷ ds) zero x d less e = found (f.0.0 == x) f.1 (sort_of (map (λ (e : Name × Sort). (e.0.0, e.1)) ds) x) (eq-eqb f.0.0 x e)
-declared_at (f ∷ ds) (suc i) x d less e = behind (f.0.0 == x) f.1 (sort_of (map (λ (e : Name × Sort). (e.0.0, e.1)) ds) x) (declared_at ds i x d (let there : i < length ds = omega arith in there) e)
+declared_at (f ∷ ds) (suc i) x d less e =
+    behind (f.0.0 == x) f.1 (sort_of (map (λ (e : Name × Sort). (e.0.0, e.1)) ds) x)
+    (declared_at ds i x d (let there : i < length ds = omega arith in there) e)

@@ -1,1 +1,4 @@
 mod DeclaredLemmas
+mod WithinLemmas
+mod SortedNames
+mod GrowthLemmas

@@ -1,10 +1,14 @@
 // Commands.
+use crate::adopting::adopt_answer;
 use crate::fact::{fact_answer, negate_answer, show_answer};
 use crate::form::form_answer;
 use crate::line::line_answer;
 use crate::refusal::Refusal;
 use crate::scene::{Scene, read_names};
+use crate::sizes::sized_answer;
+use crate::symbols::{condition_answer, expression_answer};
 use crate::term::{get_answer, sort_answer, term_answer};
+use crate::tree::tree_answer;
 use crate::word::{natural, whole};
 use sm_num::{add, mul, sub};
 use std::alloc::{AllocError, Global};
@@ -16,10 +20,14 @@ pub fn answer(alloc: Global, scene: &mut Scene, line: &str) -> Result<String, Re
             let words: Vec<&str> = front.split_whitespace().collect(alloc)?;
             form_answer(alloc, &words, forms)
         }
-        None => {
-            let words: Vec<&str> = line.split_whitespace().collect(alloc)?;
-            command_answer(alloc, scene, &words)
-        }
+        None => match line.split_once(' ') {
+            Some(("tree", text)) => tree_answer(alloc, scene, text),
+            Some(("adopt", text)) => adopt_answer(alloc, scene, text),
+            _ => {
+                let words: Vec<&str> = line.split_whitespace().collect(alloc)?;
+                command_answer(alloc, scene, &words)
+            }
+        },
     }
 }
 
@@ -57,9 +65,11 @@ fn group_answer(alloc: Global, scene: &mut Scene, words: &[&str]) -> Result<Stri
             Ok(String::from_str(alloc, "table")?)
         }
         "t" => term_answer(alloc, scene, &words[1..]),
+        "expr" => expression_answer(alloc, scene, &words[1..]),
+        "cond" => condition_answer(alloc, scene, &words[1..]),
         "fact" => fact_answer(alloc, scene, &words[1..]),
         "line" => line_answer(alloc, scene, &words[1..]),
-        _ => Err(Refusal::Bad),
+        _ => sized_answer(alloc, scene, words),
     }
 }
 

@@ -88,8 +88,8 @@ pub fn fact_words(alloc: Global, f: &Fact) -> Result<String, AllocError> {
     }
 }
 
-// The words of a formula.
-fn formula_words(alloc: Global, f: &Formula) -> Result<String, AllocError> {
+/// The words of a formula.
+pub fn formula_words(alloc: Global, f: &Formula) -> Result<String, AllocError> {
     match f {
         Formula::Yes => Ok(String::from_str(alloc, "yes")?),
         Formula::No => Ok(String::from_str(alloc, "no")?),

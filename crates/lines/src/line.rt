@@ -48,8 +48,8 @@ fn added(
     Ok(None)
 }
 
-// Whether the terms that a line names are in the table.
-fn is_line_within(scene: &Scene, line: &CertLine) -> bool
+/// Whether the terms that a line names are in the table.
+pub fn is_line_within(scene: &Scene, line: &CertLine) -> bool
     ensures { OnTrue result (IsLineWithin (length (trees_in scene.now.table)) line.now) }
 {
     match line {
@@ -68,8 +68,8 @@ fn is_line_within(scene: &Scene, line: &CertLine) -> bool
     }
 }
 
-// The line of words.
-fn read_line(alloc: Global, words: &[&str]) -> Result<CertLine, Refusal> {
+/// The line of words.
+pub fn read_line(alloc: Global, words: &[&str]) -> Result<CertLine, Refusal> {
     match *words {
         ["refl", t] => Ok(CertLine::Refl(term_id(t)?)),
         ["sym", n] => Ok(CertLine::Sym(natural(n)?)),

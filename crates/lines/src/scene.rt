@@ -1,14 +1,16 @@
 // A table of terms with a branch of facts over it.
-ghost use Rattle.std.specs.Prelude.{◌≡◌, ◌<◌, length};
+ghost use Rattle.std.specs.Prelude.{◌≡◌, ◌<◌, [], ◌∷◌, length, IfOk, OnOk};
 ghost use Rattle.std.specs.Bool.{OnTrue};
 ghost use Rattle.sm_syntax.specs.text.Parts.{sort_of};
 ghost use Rattle.sm_syntax.specs.trees.Programs.{declared_of};
 ghost use Rattle.sm_term.specs.Sorted.{IsDeclaredIn};
 ghost use Rattle.sm_term.specs.Tables.{trees_in, sorts_in, codes_in, IsTermWithin};
+ghost use Rattle.lines.specs.Scenes.{Continues};
 
 use crate::refusal::Refusal;
-use sm_syntax::{Decls, Name, Sort};
-use sm_term::{Term, TermId, TermTable};
+use crate::summary::is_well_sorted;
+use sm_syntax::{Block, Decls, Name, Outputs, Sort, copy_decls};
+use sm_term::{Term, TermId, TermTable, Terms};
 use sm_theory::Branch;
 use std::alloc::{AllocError, Global};
 
@@ -35,12 +37,64 @@ impl Scene {
         })
     }
 
+    /// A scene with a copy of the table, and no facts.
+    pub fn copied(&self, alloc: Global) -> Result<Scene, AllocError>
+        ensures { IfOk result (λ s. Continues self.now.table s.table) }
+    {
+        Ok(Scene {
+            decls: copy_decls(alloc, &self.decls)?,
+            table: self.table.copy(alloc)?,
+            branch: Branch {
+                list: Vec::new(alloc),
+            },
+        })
+    }
+
     /// Puts a term into the table, where its parts are there and its name is declared.
-    pub fn intern(&mut self, t: Term) -> Result<TermId, Refusal> {
+    pub fn intern(&mut self, t: Term) -> Result<TermId, Refusal>
+        ensures { OnOk result (Continues self.old.table self.new.table) }
+    {
         if !self.is_within(&t) {
             return Err(Refusal::Bad);
         }
         Ok(self.table.intern(t)?)
+    }
+
+    /// Puts the value of a name after a block into the table, from terms at two names.
+    pub fn intern_summary(
+        &mut self,
+        alloc: Global,
+        block: &Block,
+        name: Name,
+        first: (Name, TermId),
+        second: (Name, TermId),
+    ) -> Result<TermId, Refusal>
+        ensures { OnOk result (Continues self.old.table self.new.table) }
+    {
+        if !is_well_sorted(alloc, &self.decls, block)? || !self.declares(name) {
+            return Err(Refusal::Bad);
+        }
+        if !self.declares(first.0) || !self.declares(second.0) {
+            return Err(Refusal::Bad);
+        }
+        if !self.has(first.1) || !self.has(second.1) {
+            return Err(Refusal::Bad);
+        }
+        let from = Outputs {
+            list: two(alloc, first.0, second.0)?,
+        };
+        let args = Terms {
+            list: two(alloc, first.1, second.1)?,
+        };
+        let body = self.table.body(block)?;
+        Ok(
+            self.table.intern(Term::Fun {
+                body,
+                name,
+                from,
+                args,
+            })?,
+        )
     }
 
     // Whether a term's parts are in the table and its name is declared.
@@ -64,8 +118,8 @@ impl Scene {
         }
     }
 
-    // Whether a name is declared.
-    fn declares(&self, name: Name) -> bool
+    /// Whether a name is declared.
+    pub fn declares(&self, name: Name) -> bool
         ensures { OnTrue result (IsDeclaredIn (sorts_in self.now.table) name.0) }
     {
         is_declared(&self.decls, name)
@@ -94,6 +148,16 @@ impl Scene {
         self.table = copy;
         Ok(())
     }
+}
+
+// A list of two.
+fn two<T: Drop>(alloc: Global, first: T, second: T) -> Result<Vec<T>, AllocError>
+    ensures { IfOk result (λ v. v.items ≡ first ∷ second ∷ []) }
+{
+    let mut list = Vec::with_capacity(alloc, 2)?;
+    list.push(first)?;
+    list.push(second)?;
+    Ok(list)
 }
 
 // Whether a name is among declarations.

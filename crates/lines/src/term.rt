@@ -1,15 +1,33 @@
 // Terms as words, and the calls of a table.
+ghost use Rattle.std.specs.Prelude.{OnOk};
+ghost use Rattle.lines.specs.Scenes.{Continues};
+
 use crate::refusal::Refusal;
 use crate::scene::Scene;
+use crate::summary::counting_loop;
 use crate::word::{copy_number, name, natural, term_id, whole};
-use sm_syntax::Sort;
-use sm_term::Term;
+use sm_syntax::{Name, Outputs, Sort};
+use sm_term::{BodyId, Term, TermId, Terms};
 use std::alloc::{AllocError, Global};
 
 /// The number of the term of words, which is put into the table.
 pub fn term_answer(alloc: Global, scene: &mut Scene, words: &[&str]) -> Result<String, Refusal> {
-    let id = scene.intern(read_term(words)?)?;
+    let id = put_term(alloc, scene, words)?;
     Ok(format!(in alloc; "{}", id.0)?)
+}
+
+/// Puts the term of words into the table.
+pub fn put_term(alloc: Global, scene: &mut Scene, words: &[&str]) -> Result<TermId, Refusal>
+    ensures { OnOk result (Continues scene.old.table scene.new.table) }
+{
+    match *words {
+        ["loop", x, y, step, t, u, n] => {
+            let (x, y) = (name(x)?, name(y)?);
+            let block = counting_loop(alloc, x, y, whole(step)?)?;
+            scene.intern_summary(alloc, &block, name(n)?, (x, term_id(t)?), (y, term_id(u)?))
+        }
+        _ => scene.intern(read_term(words)?),
+    }
 }
 
 // The term of words.
@@ -60,8 +78,28 @@ fn term_words(alloc: Global, t: &Term) -> Result<String, AllocError> {
         Term::Add(t, u) => Ok(format!(in alloc; "add {} {}", t.0, u.0)?),
         Term::Sub(t, u) => Ok(format!(in alloc; "sub {} {}", t.0, u.0)?),
         Term::Mul(t, u) => Ok(format!(in alloc; "mul {} {}", t.0, u.0)?),
-        Term::Fun { name, .. } => Ok(format!(in alloc; "fun {}", name.0)?),
+        Term::Fun {
+            body,
+            name,
+            from,
+            args,
+        } => summary_words(alloc, *body, *name, from, args),
     }
+}
+
+// The words of a summary: its body, its name, and each name that it is from with its term.
+fn summary_words(
+    alloc: Global,
+    body: BodyId,
+    name: Name,
+    from: &Outputs,
+    args: &Terms,
+) -> Result<String, AllocError> {
+    let mut text = format!(in alloc; "fun {} {}", body.0, name.0)?;
+    for (x, t) in from.list.iter().zip(args.list.iter()) {
+        text.push_str(&format!(in alloc; " {}={}", x.0, t.0)?)?;
+    }
+    Ok(text)
 }
 
 /// The words of a term of the table.

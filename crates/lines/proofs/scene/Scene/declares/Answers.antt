@@ -7,4 +7,5 @@ use Rattle.lines.proofs.scene.Scene.declares.Goals as goal
 
 pub returns : goal.returns
 returns c =
-    subst (λ (sorts : Sorts). OnTrue c.is_declared.result (IsDeclaredIn sorts c.args.name.0)) (sym c.args.self.now.declared) c.is_declared.ensures
+    subst (λ (sorts : Sorts). OnTrue c.is_declared.result (IsDeclaredIn sorts c.args.name.0))
+    (sym c.args.self.now.declared) c.is_declared.ensures
