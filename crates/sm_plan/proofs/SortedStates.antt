@@ -234,12 +234,12 @@ after_block_sorted sorts k st counts keep b kept =
     }
 
 -- the place of an output's cell
-place_sorted : (sorts : Sorts) (x : ℕ) (sort : Sort) (c : Copy) → sorts x ≡ Some sort → HasSort sorts Num (place (x, sort) c)
+pub place_sorted : (sorts : Sorts) (x : ℕ) (sort : Sort) (c : Copy) → sorts x ≡ Some sort → HasSort sorts Num (place (x, sort) c)
 place_sorted sorts x Num c e = (declared_with sorts x Num e, sort_is sorts x Num e)
 place_sorted sorts x Arr c e = ((declared_with sorts x Arr e, sort_is sorts x Arr e, tt, refl), refl)
 
 -- the goals of outputs
-goals_sorted : (sorts : Sorts) (outputs : List (ℕ × Sort)) → AreOutputsDeclared sorts outputs →
+pub goals_sorted : (sorts : Sorts) (outputs : List (ℕ × Sort)) → AreOutputsDeclared sorts outputs →
     AreFormsSorted sorts (flat_map (λ (output : ℕ × Sort). keeps_goals (place output)) outputs)
 goals_sorted sorts [] d = tt
 goals_sorted sorts (output ∷ rest) d =
@@ -249,14 +249,14 @@ goals_sorted sorts (output ∷ rest) d =
     (goals_sorted sorts rest d.1)
 
 -- the start store
-start_store_sorted : (sorts : Sorts) → IsStoreSorted sorts start_store
+pub start_store_sorted : (sorts : Sorts) → IsStoreSorted sorts start_store
 start_store_sorted sorts = record {
   declared = λ (x : ℕ) (sort : Sort) (e : sorts x ≡ Some sort). (declared_with sorts x sort e, sort_is sorts x sort e);
   other = λ (x : ℕ) (e : sorts x ≡ None). refl;
 }
 
 -- the facts at the start
-start_facts_sorted : (sorts : Sorts) (assumed : Option Condition) → IsAssumptionSorted sorts assumed → AreFormsSorted sorts (start_facts assumed)
+pub start_facts_sorted : (sorts : Sorts) (assumed : Option Condition) → IsAssumptionSorted sorts assumed → AreFormsSorted sorts (start_facts assumed)
 start_facts_sorted sorts None w = tt
 start_facts_sorted sorts (Some b) w = conj_sorted sorts (form_of b start_store) (form_sorted sorts b start_store w (start_store_sorted sorts))
 

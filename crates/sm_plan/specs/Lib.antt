@@ -9,6 +9,14 @@ pub mod Plans
 pub mod NodeLists
 pub mod SoundStates
 pub mod SortedStates
+pub mod Views
+pub mod ReadyStates
+pub mod Filling
+pub mod Heads
+pub mod Kept
+pub mod LoopHeads
 pub mod Laws
 pub mod Example
 pub mod Cases
+pub mod Openings
+pub mod Starts

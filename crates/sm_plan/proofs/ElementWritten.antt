@@ -1,0 +1,60 @@
+-- The term of a write to an array's element, made after the terms of its index and its value.
+use Rattle.std.proofs.Common.{◌≡◌, ℕ, ◌<◌, ◌&&◌, true, Some, List, length, get_or, slice_get, refl, ap, ◌∙◌}
+use Rattle.std.proofs.lemmas.Bool.{and_from}
+use Rattle.std.proofs.lemmas.Option.{slice_get_read}
+use Rattle.sm_syntax.specs.declared.tree.Sort.TheVariants.{Num, Arr}
+use Rattle.sm_syntax.specs.claim.Syntax.{Expression}
+use Rattle.sm_syntax.specs.text.Sorts.{IsAsDeclared, IsWellSortedExpression}
+use Rattle.sm_term.specs.declared.term.TermId.{TermId}
+use Rattle.sm_term.specs.declared.symbolic.SymStore.{SymStore}
+use Rattle.sm_term.specs.Terms.{Tree, Write}
+use Rattle.sm_term.specs.Fitting.{has_sort}
+use Rattle.sm_term.specs.Symbolic.{SymbolicStore, term_of}
+use Rattle.sm_term.specs.SymStores.{store_in}
+use Rattle.sm_term.specs.Tables.{TableValue, trees_in, sorts_in, tree_at}
+use Rattle.sm_term.specs.TableLaws.{Grows}
+use Rattle.sm_term.proofs.TablesLemmas.{grows-twice}
+use Rattle.sm_term.proofs.ExpressionLemmas.{store-more, stays_got, tree_got, sort_got, number_made, name_made, there, name_stored}
+use Rattle.sm_plan.specs.ReadyStates.{IsStoreReady}
+
+module _ (u v w : TableValue) (first : Grows u v) (second : Grows v w) (s : SymStore) (ready : IsStoreReady (sorts_in u) (trees_in u) s) (a : ℕ) (i e : Expression)
+    (name : IsAsDeclared (sorts_in u) a Arr) (place : a < length s.list.items) (i_well : IsWellSortedExpression (sorts_in u) i) (e_well : IsWellSortedExpression (sorts_in u) e)
+    (array index value : TermId) (array_is : array ≡ get_or s.list.items a array)
+    (index_is : slice_get (trees_in v) index.0 ≡ Some (term_of i (store_in (trees_in u) s)))
+    (value_is : slice_get (trees_in w) value.0 ≡ Some (term_of e (store_in (trees_in v) s))) where
+  both : Grows u w
+  both = grows-twice u v w first second
+
+  abbrev f : SymbolicStore
+  f = store_in (trees_in u) s
+
+  abbrev trees : List Tree
+  trees = trees_in w
+
+  array_got : slice_get trees array.0 ≡ Some (f a)
+  array_got = stays_got u w both array.0 (f a) (name_stored (trees_in u) s a array ready.0 (slice_get_read s.list.items (length s.list.items) a array refl place array_is))
+
+  index_got : slice_get trees index.0 ≡ Some (term_of i f)
+  index_got = stays_got v w second index.0 (term_of i f) index_is
+
+  value_got : slice_get trees value.0 ≡ Some (term_of e f)
+  value_got = value_is ∙ ap (λ (g : SymbolicStore). Some (term_of e g)) (store-more u v first s ready.0)
+
+  -- its parts are there
+  pub element_within : (array.0 < length trees) × (index.0 < length trees) × (value.0 < length trees)
+  element_within = (there trees array.0 _ array_got, there trees index.0 _ index_got, there trees value.0 _ value_got)
+
+  -- and have their sorts
+  pub element_fits : (has_sort (sorts_in w) trees array Arr && (has_sort (sorts_in w) trees index Num && has_sort (sorts_in w) trees value Num)) ≡ true
+  element_fits =
+      and_from _ _ (sort_got (sorts_in w) trees array _ Arr array_got (name_made u w both s ready.1 a Arr name))
+      (and_from _ _ (sort_got (sorts_in w) trees index _ Num index_got (number_made u w both s ready.1 i i_well))
+      (sort_got (sorts_in w) trees value _ Num value_got (number_made u w both s ready.1 e e_well)))
+
+  -- it is the write
+  pub element_tree : Write (tree_at trees array.0) (tree_at trees index.0) (tree_at trees value.0) ≡ Write (f a) (term_of i f) (term_of e f)
+  element_tree =
+      let p = tree_got trees array.0 _ array_got in
+      let q = tree_got trees index.0 _ index_got in
+      let r = tree_got trees value.0 _ value_got in
+      λ k. Write (p k) (q k) (r k)

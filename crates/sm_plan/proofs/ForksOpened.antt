@@ -1,0 +1,74 @@
+-- What a choice of a copy opens.
+use Rattle.std.proofs.Common.{◌≡◌, Some, List, [], ◌∷◌, ◌++◌, length, sym, ap, ◌∙◌, subst}
+use Rattle.sm_syntax.specs.claim.Syntax.{Condition, Code, If, append}
+use Rattle.sm_syntax.specs.claim.ConflictFree.{Copy}
+use Rattle.sm_syntax.specs.text.Sorts.{Sorts, IsWellSorted}
+use Rattle.sm_syntax.specs.trees.Copies.{of_copy}
+use Rattle.sm_term.specs.declared.symbolic.SymStore.{SymStore}
+use Rattle.sm_term.specs.declared.formula.Formula.{Formula}
+use Rattle.sm_term.specs.Assertions.{Assertion, negate}
+use Rattle.sm_term.specs.Formulas.{numbered, contrary, assertion_in, IsFormulaWithin}
+use Rattle.sm_term.specs.Symbolic.{SymbolicStore, form_of}
+use Rattle.sm_term.specs.Sorted.{IsFormSorted}
+use Rattle.sm_term.specs.SymStores.{store_in}
+use Rattle.sm_term.specs.Tables.{TableValue, trees_in, sorts_in}
+use Rattle.sm_term.specs.TableLaws.{Widens}
+use Rattle.sm_term.proofs.FormulasLemmas.{contrary_negates}
+use Rattle.sm_term.proofs.FormsLemmas.{contrary_within}
+use Rattle.sm_plan.specs.declared.state.SymState.{SymState}
+use Rattle.sm_plan.specs.Copies.{with_copy}
+use Rattle.sm_plan.specs.Nodes as plan
+use Rattle.sm_plan.specs.States.{State}
+use Rattle.sm_plan.specs.Successors.{moved, with_facts, branch_state}
+use Rattle.sm_plan.specs.Views.{rest_code, forms_in, state_in}
+use Rattle.sm_plan.specs.ReadyStates.{IsFormReady, IsStateReady}
+use Rattle.sm_plan.proofs.PartsMoved.{numbers_of, given_same, moved_is, moved_ready}
+use Rattle.sm_plan.proofs.SortedTerms.{negate_sorted}
+use Rattle.sm_plan.proofs.TablesWiden.{store_stays, store_ready}
+
+-- another rest of one copy
+pub record IsBranch (st next : SymState) (c : Copy) (k : Code) : Type 0 where
+  pub rests : (d : Copy) → rest_code (of_copy next.rests d) ≡ with_copy (λ (e : Copy). rest_code (of_copy st.rests e)) c k d
+  pub stores : (d : Copy) → numbers_of (of_copy next.stores d) ≡ numbers_of (of_copy st.stores d)
+  pub target : next.target.value.list.items ≡ st.target.value.list.items
+  pub is_final : next.is_final ≡ st.is_final
+
+-- the formula of a condition over a store of a ready state, and its contrary
+module _ (v w : TableValue) (wider : Widens v w) (s : SymStore) (b : Condition) (f : Formula)
+    (made : assertion_in (sorts_in w) (trees_in w) (numbered f) ≡ form_of b (store_in (trees_in v) s)) (within : IsFormulaWithin (length (trees_in w)) (numbered f))
+    (sorted : IsFormSorted (sorts_in v) (form_of b (store_in (trees_in v) s))) where
+  pub fact_ready : IsFormReady (sorts_in w) (trees_in w) f
+  fact_ready = (within, subst (IsFormSorted (sorts_in w)) (sym made) (subst (λ (m : Sorts). IsFormSorted m (form_of b (store_in (trees_in v) s))) (sym wider.sorts) sorted))
+
+  module _ (g : Formula) (is : numbered g ≡ contrary (numbered f)) where
+    pub contrary_made : assertion_in (sorts_in w) (trees_in w) (numbered g) ≡ negate (form_of b (store_in (trees_in v) s))
+    contrary_made = ap (assertion_in (sorts_in w) (trees_in w)) is ∙ contrary_negates (sorts_in w) (trees_in w) (numbered f) ∙ ap negate made
+
+    pub contrary_ready : IsFormReady (sorts_in w) (trees_in w) g
+    contrary_ready = (
+      subst (IsFormulaWithin (length (trees_in w))) (sym is) (contrary_within (length (trees_in w)) (numbered f) within),
+      subst (IsFormSorted (sorts_in w)) (sym contrary_made)
+          (negate_sorted (sorts_in w) (form_of b (store_in (trees_in v) s)) (subst (λ (m : Sorts). IsFormSorted m (form_of b (store_in (trees_in v) s))) (sym wider.sorts) sorted)),
+    )
+
+-- one branch
+module _ (v w : TableValue) (wider : Widens v w) (st next : SymState) (c : Copy) (k : Code) (branch : IsBranch st next c k) (ready : IsStateReady (sorts_in v) (trees_in v) st) where
+  same_stores : (d : Copy) → numbers_of (of_copy next.stores d) ≡ with_copy (λ (e : Copy). numbers_of (of_copy st.stores e)) c (numbers_of (of_copy st.stores c)) d
+  same_stores d = branch.stores d ∙ sym (given_same (λ (e : Copy). numbers_of (of_copy st.stores e)) c d)
+
+  pub branch_is : (facts : List Assertion) (f : Formula) (a : Assertion) → assertion_in (sorts_in w) (trees_in w) (numbered f) ≡ a
+      → state_in (sorts_in w) (trees_in w) (facts ++ forms_in (sorts_in w) (trees_in w) (f ∷ [])) next ≡ branch_state (state_in (sorts_in v) (trees_in v) facts st) c k a
+  branch_is facts f a made =
+      let was = state_in (sorts_in v) (trees_in v) facts st in
+      let store = of_copy st.stores c in
+      ap (λ (g : Assertion). state_in (sorts_in w) (trees_in w) (facts ++ g ∷ []) next) made
+      ∙ moved_is v w wider st next c k store branch.rests same_stores branch.target branch.is_final ready facts (a ∷ [])
+      ∙ ap (λ (s : SymbolicStore). with_facts (moved was c k s) (a ∷ [])) (store_stays v w wider store (ready.stores c).0)
+
+  pub branch_ready : IsWellSorted (sorts_in v) k → IsStateReady (sorts_in w) (trees_in w) next
+  branch_ready well = moved_ready v w wider st next c k (of_copy st.stores c) branch.rests same_stores branch.target branch.is_final ready well (store_ready v w wider (of_copy st.stores c) (ready.stores c)) (ready.full c)
+
+-- both branches
+pub fork_is : (st : State) (c : Copy) (code : Code) (b : Condition) (first second k : Code) → code ≡ If b first second k
+    → Some (plan.follows (branch_state st c (append first k) (form_of b (st.stores c)) ∷ branch_state st c (append second k) (negate (form_of b (st.stores c))) ∷ [])) ≡ plan.both_ways st c code
+fork_is st c code b first second k is = sym (ap (plan.both_ways st c) is)

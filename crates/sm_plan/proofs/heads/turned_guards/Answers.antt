@@ -1,0 +1,15 @@
+-- Each guard that is there is ready.
+use Rattle.std.proofs.Common.{◌≡◌, List, [], sym, subst}
+use Rattle.sm_syntax.specs.claim.ConflictFree.{O, A, B, M}
+use Rattle.sm_syntax.specs.text.Sorts.{Sorts}
+use Rattle.sm_term.specs.Terms.{Tree}
+use Rattle.sm_plan.specs.ReadyStates.{AreFormsReady}
+use Rattle.sm_plan.proofs.heads.turned_guards.Goals as goal
+
+pub returns-clause-ready : goal.returns-clause-ready
+returns-clause-ready c = λ (sorts : Sorts) (trees : List Tree) ready.
+    let none = subst (AreFormsReady sorts trees) (sym c.new-list.ensures.items) tt in
+    let one = c.in_ok-put_turned.ensures.ready sorts trees (ready O) none in
+    let two = c.in_ok-put_turned-2.ensures.ready sorts trees (ready A) one in
+    let three = c.in_ok-put_turned-3.ensures.ready sorts trees (ready B) two in
+    c.in_ok-put_turned-4.ensures.ready sorts trees (ready M) three

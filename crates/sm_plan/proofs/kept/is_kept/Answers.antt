@@ -1,0 +1,8 @@
+-- The nodes are counted within the limits.
+use Rattle.std.proofs.Common.{◌∙◌}
+use Rattle.sm_term.specs.Formulas.{numbered}
+use Rattle.sm_plan.proofs.KeptLemmas.{kept_counted}
+use Rattle.sm_plan.proofs.kept.is_kept.Goals as goal
+
+pub returns : goal.returns
+returns c = λ sorts trees. c.is_some.ensures ∙ kept_counted sorts trees (numbered c.args.keep.now) c.nodes_left.result c.nodes_left.ensures

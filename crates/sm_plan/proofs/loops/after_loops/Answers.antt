@@ -1,0 +1,40 @@
+-- The state after the loops.
+use Rattle.std.proofs.Common.{◌≡◌, List, ◌++◌, sym, subst}
+use Rattle.std.proofs.Math.Path.{fun_ext}
+use Rattle.sm_syntax.specs.claim.ConflictFree.{Copy}
+use Rattle.sm_syntax.specs.text.Sorts.{Sorts, IsWellSorted}
+use Rattle.sm_syntax.specs.trees.Copies.{of_copy}
+use Rattle.sm_term.specs.Assertions.{Assertion}
+use Rattle.sm_term.specs.Terms.{Tree}
+use Rattle.sm_plan.specs.Copies.{has}
+use Rattle.sm_plan.specs.LoopHeads.{IsHeadReady}
+use Rattle.sm_plan.specs.Masks.{set_of}
+use Rattle.sm_plan.specs.Views.{rest_code, forms_in, stores_in}
+use Rattle.sm_plan.proofs.TurnsMade.{passed_ready}
+use Rattle.sm_plan.proofs.loops.after_loops.Goals as goal
+
+pub returns-clause-made : goal.returns-clause-made
+returns-clause-made c = λ (sorts : Sorts) (trees : List Tree) (facts : List Assertion).
+    let rest = fun_ext c.pass_loops.ensures in
+    let more = c.in_ok-more.ensures.made sorts trees in
+    λ i. record {
+      rest = rest i;
+      stores = stores_in trees c.args.head.stores;
+      facts = facts ++ (forms_in sorts trees c.args.head.kept.value.list.items ++ more i);
+      target = forms_in sorts trees c.args.target.value.list.items;
+      is_final = c.args.is_final;
+    }
+
+pub returns-clause-ready : goal.returns-clause-ready
+returns-clause-ready c = λ (sorts : Sorts) (trees : List Tree) well (head : IsHeadReady sorts trees c.args.head) target. record {
+  state = record {
+    rests = λ (d : Copy).
+        subst (IsWellSorted sorts) (sym (c.pass_loops.ensures d))
+        (passed_ready sorts (has (set_of c.args.set) d) (rest_code (of_copy c.args.rests d)) (well d));
+    stores = head.stores;
+    target = target;
+    full = head.full;
+  };
+  kept = head.kept;
+  more = c.in_ok-more.ensures.ready sorts trees head.guards;
+}

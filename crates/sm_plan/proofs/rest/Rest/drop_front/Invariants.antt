@@ -1,0 +1,12 @@
+-- What is left to drop is to be dropped from the slices that are left.
+use Rattle.std.proofs.Common.{◌≡◌, length}
+use Rattle.sm_plan.specs.Statements.{rest_after}
+use Rattle.sm_plan.specs.Views.{rest_code}
+use Rattle.sm_plan.proofs.rest.Rest.drop_front.Given as goal
+
+abbrev pub invariant-loop-place : goal.invariant-loop-place
+invariant-loop-place l =
+    (l.place ≡ length l.self.frames.items) × (rest_after l.left (rest_code l.self) ≡ rest_after l.count (rest_code l.fn.self))
+
+abbrev pub decreases-loop-place : goal.decreases-loop-place
+decreases-loop-place l = l.place

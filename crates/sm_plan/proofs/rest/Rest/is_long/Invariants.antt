@@ -1,0 +1,13 @@
+-- The slices behind have the statements that were counted off.
+use Rattle.std.proofs.Common.{◌≡◌, ◌≤◌, length, take}
+use Rattle.sm_syntax.specs.claim.Syntax.{End}
+use Rattle.sm_plan.specs.Statements.{is_long}
+use Rattle.sm_plan.specs.Views.{frames_before, rest_code}
+use Rattle.sm_plan.proofs.rest.Rest.is_long.Given as goal
+
+abbrev pub invariant-loop-place : goal.invariant-loop-place
+invariant-loop-place l =
+    (l.place ≤ length l.self.frames.items) × (is_long l.left (frames_before (take l.place l.self.frames.items) End) ≡ is_long l.count (rest_code l.self))
+
+abbrev pub decreases-loop-place : goal.decreases-loop-place
+decreases-loop-place l = l.place

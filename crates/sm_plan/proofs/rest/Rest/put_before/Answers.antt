@@ -1,0 +1,18 @@
+-- The block's statements are the last slice.
+use Rattle.std.proofs.Common.{ap, ◌∙◌}
+use Rattle.sm_syntax.specs.claim.Syntax.{End, append}
+use Rattle.sm_syntax.specs.trees.Views.{code_of}
+use Rattle.sm_syntax.proofs.Blocks.{block_then}
+use Rattle.sm_plan.specs.Views.{code_before, frames_before, rest_code}
+use Rattle.sm_plan.proofs.RestsLemmas.{frames_push}
+use Rattle.sm_plan.proofs.rest.Rest.put_before.Goals as goal
+
+pub returns : goal.returns
+returns c =
+    let r = c.drop_front.new.self in
+    let k = rest_code r in
+    ap (λ l. frames_before l End) c.in_ok-push.ensures.items
+    ∙ frames_push r.frames.items c.deref.result End
+    ∙ ap (λ ss. code_before ss k) c.deref.ensures.value
+    ∙ block_then c.args.block.now k
+    ∙ ap (append (code_of c.args.block.now)) c.drop_front.ensures

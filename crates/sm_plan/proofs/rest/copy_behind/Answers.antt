@@ -1,0 +1,13 @@
+-- All statements are copied.
+use Rattle.std.proofs.Common.{map, ap, ◌∙◌, ◌++◌}
+use Rattle.std.proofs.lemmas.List.{take_all}
+use Rattle.sm_syntax.specs.claim.Syntax.{Code}
+use Rattle.sm_syntax.specs.trees.Views.{sequence, statement_of}
+use Rattle.sm_plan.proofs.RestsLemmas.{sequence_append}
+use Rattle.sm_plan.proofs.rest.copy_behind.Goals as goal
+
+pub returns : goal.returns
+returns c = λ (k : Code).
+    let before = map statement_of c.args.list.now.items in
+    ap (λ l. sequence l k) (c.loop-s.invariant ∙ ap (λ l. before ++ map statement_of l) (take_all c.loop-s.s-index c.args.more.now c.loop-s-test.false))
+    ∙ sequence_append before (map statement_of c.args.more.now) k

@@ -1,0 +1,41 @@
+-- Each place stays where the table grows.
+use Rattle.std.proofs.Common.{◌≡◌, ℕ, Some, slice_get, ap, ◌∙◌}
+use Rattle.sm_syntax.specs.claim.ConflictFree.{Copy, O, A, B, M}
+use Rattle.sm_syntax.specs.text.Sorts.{Sorts}
+use Rattle.sm_syntax.specs.text.Parts.{by_copy}
+use Rattle.sm_syntax.specs.declared.tree.Sort.{Sort}
+use Rattle.sm_term.specs.declared.term.TermId.{TermId}
+use Rattle.sm_term.specs.Tables.{trees_in}
+use Rattle.sm_term.proofs.TablesLemmas.{grows-twice}
+use Rattle.sm_term.proofs.ExpressionLemmas.{stays_got}
+use Rattle.sm_plan.specs.States.{place}
+use Rattle.sm_plan.proofs.targets.places.Goals as goal
+
+-- what holds of each of four
+of_each : {T : Type 0} (P : T → Copy → Type 0) (o a b m : T) → P o O → P a A → P b B → P m M → (c : Copy) → P (by_copy o a b m c) c
+of_each P o a b m po pa pb pm O = po
+of_each P o a b m po pa pb pm A = pa
+of_each P o a b m po pa pb pm B = pb
+of_each P o a b m po pa pb pm M = pm
+
+pub place-requires-2 : goal.place-requires-2
+place-requires-2 c = ap (λ (f : Sorts). f c.args.x.0) c.place.ensures.grows.sorts ∙ c.requires
+
+pub place-requires-3 : goal.place-requires-3
+place-requires-3 c = ap (λ (f : Sorts). f c.args.x.0) (c.place-2.ensures.grows.sorts ∙ c.place.ensures.grows.sorts) ∙ c.requires
+
+pub place-requires-4 : goal.place-requires-4
+place-requires-4 c = ap (λ (f : Sorts). f c.args.x.0) (c.place-3.ensures.grows.sorts ∙ c.place-2.ensures.grows.sorts ∙ c.place.ensures.grows.sorts) ∙ c.requires
+
+pub returns-clause-made : goal.returns-clause-made
+returns-clause-made c =
+    let z = c.place-4.new.table in
+    let g4 = c.place-4.ensures.grows in
+    let g3 = grows-twice c.place-2.new.table c.place-3.new.table z c.place-3.ensures.grows g4 in
+    let g2 = grows-twice c.place.new.table c.place-2.new.table z c.place-2.ensures.grows g3 in
+    let o : ℕ × Sort = (c.args.x.0, c.args.sort) in
+    of_each (λ (t : TermId) (d : Copy). slice_get (trees_in z) t.0 ≡ Some (place o d)) c.in_ok-base.base c.in_ok-variant_a.variant_a c.in_ok-variant_b.variant_b c.in_ok-candidate.candidate
+    (stays_got c.place.new.table z g2 c.in_ok-base.base.0 _ c.in_ok-base.ensures.made)
+    (stays_got c.place-2.new.table z g3 c.in_ok-variant_a.variant_a.0 _ c.in_ok-variant_a.ensures.made)
+    (stays_got c.place-3.new.table z g4 c.in_ok-variant_b.variant_b.0 _ c.in_ok-variant_b.ensures.made)
+    c.in_ok-candidate.ensures.made

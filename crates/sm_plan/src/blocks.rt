@@ -1,0 +1,154 @@
+// What a block opens.
+ghost use Rattle.std.specs.Prelude.{◌≡◌, List, [], ◌∷◌, ◌++◌, map, IfOk};
+ghost use Rattle.sm_syntax.specs.text.Sorts.{Sorts};
+ghost use Rattle.sm_term.specs.Assertions.{Assertion};
+ghost use Rattle.sm_term.specs.Terms.{Tree};
+ghost use Rattle.sm_plan.specs.ReadyStates.{AreFormsReady, AreStoresReady, AreSuccessorsReady};
+ghost use Rattle.sm_syntax.specs.claim.ConflictFree.{Copy};
+ghost use Rattle.sm_syntax.specs.trees.Copies.{of_copy};
+ghost use Rattle.sm_term.specs.Formulas.{numbered, assertion_in};
+ghost use Rattle.sm_term.specs.Tables.{trees_in, sorts_in};
+ghost use Rattle.sm_term.specs.TableLaws.{Widens};
+ghost use Rattle.sm_plan.specs.Copies.{each};
+ghost use Rattle.sm_plan.specs.Nodes as plan;
+ghost use Rattle.sm_plan.specs.Openings.{IsOpening};
+ghost use Rattle.sm_plan.specs.ReadyStates.{IsStateReady, IsFormReady};
+ghost use Rattle.sm_plan.specs.Statements.{is_long, front, rest_after};
+ghost use Rattle.sm_plan.specs.Views.{rest_code, forms_in, state_in, successor_in};
+
+use crate::kept::{conjuncts, is_kept};
+use crate::opening::{Opened, Successor};
+use crate::renew::renewed_stores;
+use crate::rest::Rest;
+use crate::slots::at_stores;
+use crate::state::{Formulas, SymState};
+use crate::successors::{no_formulas, no_stores};
+use sm_syntax::PerCopy;
+use sm_term::{Formula, TermTable};
+use std::alloc::{AllocError, Global};
+use std::rc::Rc;
+
+// Whether each copy has so many statements left.
+fn are_long(rests: &PerCopy<Rest<'_>>, counts: &PerCopy<u64>) -> bool
+    ensures { result ≡ each (λ c. is_long (of_copy counts.now c) (rest_code (of_copy rests.now c))) }
+{
+    let base = rests.base.is_long(counts.base);
+    let variant_a = rests.variant_a.is_long(counts.variant_a);
+    let variant_b = rests.variant_b.is_long(counts.variant_b);
+    let candidate = rests.candidate.is_long(counts.candidate);
+    base && (variant_a && (variant_b && candidate))
+}
+
+// The first statements of each copy.
+fn fronts<'a>(
+    alloc: Global,
+    rests: &PerCopy<Rest<'a>>,
+    counts: &PerCopy<u64>,
+) -> Result<PerCopy<Rest<'a>>, AllocError>
+    ensures { (c : Copy) → IfOk result (λ p. rest_code (of_copy p c)
+        ≡ front (of_copy counts.now c) (rest_code (of_copy rests.now c))) }
+{
+    Ok(PerCopy {
+        base: rests.base.front(alloc, counts.base)?,
+        variant_a: rests.variant_a.front(alloc, counts.variant_a)?,
+        variant_b: rests.variant_b.front(alloc, counts.variant_b)?,
+        candidate: rests.candidate.front(alloc, counts.candidate)?,
+    })
+}
+
+// Leaves what comes after them.
+fn pass(rests: &mut PerCopy<Rest<'_>>, counts: &PerCopy<u64>)
+    ensures { (c : Copy) → rest_code (of_copy rests.new c)
+        ≡ rest_after (of_copy counts.now c) (rest_code (of_copy rests.old c)) }
+{
+    rests.base.drop_front(counts.base);
+    rests.variant_a.drop_front(counts.variant_a);
+    rests.variant_b.drop_front(counts.variant_b);
+    rests.candidate.drop_front(counts.candidate);
+}
+
+/// What a block with a number opens at a state: the block alone, which ends with a formula, and what
+/// comes after it, where the formula holds and the names that it assigns have new values.
+pub(crate) fn open_block<'a>(
+    alloc: Global,
+    table: &mut TermTable,
+    number: u64,
+    state: SymState<'a>,
+    counts: &PerCopy<u64>,
+    keep: &Formula,
+) -> Result<Option<Opened<'a>>, AllocError>
+    requires state { IsStateReady (sorts_in table.old) (trees_in table.old) state }
+    requires keep { IsFormReady (sorts_in table.old) (trees_in table.old) keep.now }
+    ensures opening { let sorts = sorts_in table.old in let trees = trees_in table.old in
+        IfOk result (IsOpening table.old table.new state.entry (λ facts.
+        plan.opened_by number (state_in sorts trees facts state.entry)
+        (plan.Block (of_copy counts.now) (assertion_in sorts trees (numbered keep.now))))) }
+    ensures widens { Widens table.old table.new }
+{
+    if !are_long(&state.rests, counts) || !is_kept(keep) {
+        return Ok(None);
+    }
+    let done = fronts(alloc, &state.rests, counts)?;
+    let stores = renewed_stores(alloc, table, number, &done, &state.stores)?;
+    let target = conjuncts(alloc, keep)?;
+    let kept = at_stores(alloc, table, &stores, &target.list)?;
+    let mut rests = state.rests;
+    pass(&mut rests, counts);
+    let inner = SymState {
+        rests: done,
+        stores: state.stores,
+        target: Rc::new(alloc, target)?,
+        is_final: false,
+    };
+    let after = SymState {
+        rests,
+        stores,
+        target: state.target,
+        is_final: state.is_final,
+    };
+    let nothing = Rc::new(alloc, no_formulas(alloc))?;
+    let kept = Rc::new(alloc, kept)?;
+    Ok(Some(block_states(alloc, inner, nothing, after, kept)?))
+}
+
+// The two states that follow.
+fn block_states<'a>(
+    alloc: Global,
+    inner: SymState<'a>,
+    nothing: Rc<Formulas>,
+    after: SymState<'a>,
+    kept: Rc<Formulas>,
+) -> Result<Opened<'a>, AllocError>
+    ensures states { (sorts : Sorts) (trees : List Tree) (facts : List Assertion) →
+        let none = forms_in sorts trees nothing.value.list.items in
+        let some = forms_in sorts trees kept.value.list.items in
+        IfOk result (λ o. map (successor_in sorts trees facts) o.states.items
+        ≡ state_in sorts trees (facts ++ (none ++ [])) inner.entry
+        ∷ state_in sorts trees (facts ++ (some ++ [])) after.entry ∷ []) }
+    ensures ready { (sorts : Sorts) (trees : List Tree) →
+        IsStateReady sorts trees inner.entry →
+        AreFormsReady sorts trees nothing.value.list.items →
+        IsStateReady sorts trees after.entry →
+        AreFormsReady sorts trees kept.value.list.items →
+        IfOk result (λ o. AreSuccessorsReady sorts trees o.states.items) }
+    ensures goals { IfOk result (λ o. o.goals.list.items ≡ []) }
+    ensures asking { IfOk result (λ o.
+        (sorts : Sorts) (trees : List Tree) → AreStoresReady sorts trees o.stores) }
+{
+    let mut states = Vec::new(alloc);
+    states.push(Successor {
+        kept: nothing,
+        more: no_formulas(alloc),
+        state: inner,
+    })?;
+    states.push(Successor {
+        kept,
+        more: no_formulas(alloc),
+        state: after,
+    })?;
+    Ok(Opened {
+        goals: no_formulas(alloc),
+        stores: no_stores(alloc),
+        states,
+    })
+}

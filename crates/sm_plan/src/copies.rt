@@ -1,0 +1,72 @@
+// Copies of states.
+ghost use Rattle.std.specs.Prelude.{◌≡◌, IfOk};
+ghost use Rattle.sm_syntax.specs.claim.ConflictFree.{Copy};
+ghost use Rattle.sm_syntax.specs.trees.Copies.{of_copy};
+ghost use Rattle.sm_plan.specs.Views.{rest_code};
+
+use crate::rest::Rest;
+use crate::state::SymState;
+use sm_syntax::PerCopy;
+use sm_term::SymStore;
+use std::alloc::{AllocError, Global};
+
+// The same rests.
+pub(crate) fn copy_rests<'a>(
+    alloc: Global,
+    rests: &PerCopy<Rest<'a>>,
+) -> Result<PerCopy<Rest<'a>>, AllocError>
+    ensures { (c : Copy) →
+        IfOk result (λ p. rest_code (of_copy p c) ≡ rest_code (of_copy rests.now c)) }
+{
+    Ok(PerCopy {
+        base: rests.base.copy(alloc)?,
+        variant_a: rests.variant_a.copy(alloc)?,
+        variant_b: rests.variant_b.copy(alloc)?,
+        candidate: rests.candidate.copy(alloc)?,
+    })
+}
+
+// The same stores.
+pub(crate) fn copy_stores(
+    alloc: Global,
+    stores: &PerCopy<SymStore>,
+) -> Result<PerCopy<SymStore>, AllocError>
+    ensures { (c : Copy) →
+        IfOk result (λ p. (of_copy p c).list.items ≡ (of_copy stores.now c).list.items) }
+{
+    Ok(PerCopy {
+        base: copy_store(alloc, &stores.base)?,
+        variant_a: copy_store(alloc, &stores.variant_a)?,
+        variant_b: copy_store(alloc, &stores.variant_b)?,
+        candidate: copy_store(alloc, &stores.candidate)?,
+    })
+}
+
+// The same store.
+pub(crate) fn copy_store(alloc: Global, store: &SymStore) -> Result<SymStore, AllocError>
+    ensures { IfOk result (λ s. s.list.items ≡ store.now.list.items) }
+{
+    let list = Vec::from_slice(alloc, &store.list)?;
+    Ok(SymStore { list })
+}
+
+// The same state.
+pub(crate) fn copy_state<'a>(
+    alloc: Global,
+    state: &SymState<'a>,
+) -> Result<SymState<'a>, AllocError>
+    ensures rests { (c : Copy) →
+        IfOk result (λ s. rest_code (of_copy s.rests c) ≡ rest_code (of_copy state.now.rests c)) }
+    ensures stores { (c : Copy) → IfOk result (λ s.
+        (of_copy s.stores c).list.items ≡ (of_copy state.now.stores c).list.items) }
+    ensures target { IfOk result (λ s.
+        s.target.value.list.items ≡ state.now.target.value.list.items) }
+    ensures is_final { IfOk result (λ s. s.is_final ≡ state.now.is_final) }
+{
+    Ok(SymState {
+        rests: copy_rests(alloc, &state.rests)?,
+        stores: copy_stores(alloc, &state.stores)?,
+        target: state.target.clone()?,
+        is_final: state.is_final,
+    })
+}

@@ -1,0 +1,116 @@
+// Nodes of one copy that follow its program: a simple statement, and a choice.
+ghost use Rattle.std.specs.Prelude.{◌≡◌, List, None, MatchOption, IfOk, OnOk};
+ghost use Rattle.sm_syntax.specs.claim.ConflictFree.{Copy};
+ghost use Rattle.sm_syntax.specs.claim.Syntax.{If, append};
+ghost use Rattle.sm_syntax.specs.trees.Copies.{copy_named, of_copy};
+ghost use Rattle.sm_syntax.specs.trees.Views.{condition_of, code_of};
+ghost use Rattle.sm_term.specs.Assertions.{Assertion};
+ghost use Rattle.sm_term.specs.Tables.{trees_in, sorts_in};
+ghost use Rattle.sm_term.specs.TableLaws.{Widens};
+ghost use Rattle.sm_plan.specs.Copies.{with_copy};
+ghost use Rattle.sm_plan.specs.Nodes as plan;
+ghost use Rattle.sm_plan.specs.Openings.{IsOpening};
+ghost use Rattle.sm_plan.specs.ReadyStates.{IsStateReady};
+ghost use Rattle.sm_plan.specs.Statements.{rest_after};
+ghost use Rattle.sm_plan.specs.States.{State};
+ghost use Rattle.sm_plan.specs.Successors.{stepped};
+ghost use Rattle.sm_plan.specs.Views.{rest_code, state_in};
+
+use crate::copies::copy_state;
+use crate::opening::Opened;
+use crate::parts::exchange;
+use crate::rest::Rest;
+use crate::state::SymState;
+use crate::steps::step;
+use crate::successors::{follows_one, follows_two, no_formulas, no_terms, one_formula};
+use sm_syntax::{Block, Cond, CopyName, PerCopy, Stmt};
+use sm_term::{TermTable, form_of, negate};
+use std::alloc::{AllocError, Global};
+
+// What a copy's simple statement opens.
+pub(crate) fn open_step<'a>(
+    alloc: Global,
+    table: &mut TermTable,
+    mut state: SymState<'a>,
+    copy: CopyName,
+) -> Result<Option<Opened<'a>>, AllocError>
+    requires { IsStateReady (sorts_in table.old) (trees_in table.old) state }
+    ensures opened { let sorts = sorts_in table.old in let trees = trees_in table.old in
+        IfOk result (IsOpening table.old table.new state.entry (λ facts.
+        let st = state_in sorts trees facts state.entry in let c = copy_named copy in
+        plan.after_step st c (stepped (st.rest c) (st.stores c)))) }
+    ensures widens { Widens table.old table.new }
+{
+    let mut rest = Rest::empty(alloc);
+    let mut store = no_terms(alloc);
+    exchange(&mut state.rests, copy, &mut rest);
+    exchange(&mut state.stores, copy, &mut store);
+    let is_done = step(table, &mut rest, &mut store)?;
+    if !is_done {
+        return Ok(None);
+    }
+    exchange(&mut state.rests, copy, &mut rest);
+    exchange(&mut state.stores, copy, &mut store);
+    let opened = follows_one(alloc, state, no_formulas(alloc))?;
+    Ok(Some(opened))
+}
+
+// What both branches of a copy's choice open.
+pub(crate) fn open_fork<'a>(
+    alloc: Global,
+    table: &mut TermTable,
+    mut state: SymState<'a>,
+    copy: CopyName,
+) -> Result<Option<Opened<'a>>, AllocError>
+    requires { IsStateReady (sorts_in table.old) (trees_in table.old) state }
+    ensures opened { let sorts = sorts_in table.old in let trees = trees_in table.old in
+        IfOk result (IsOpening table.old table.new state.entry (λ facts.
+        let st = state_in sorts trees facts state.entry in let c = copy_named copy in
+        plan.both_ways st c (st.rest c))) }
+    ensures widens { Widens table.old table.new }
+{
+    let Some((guard, first, second)) = first_choice(state.rests.get(copy)) else {
+        return Ok(None);
+    };
+    let fact = form_of(alloc, table, guard, state.stores.get(copy))?;
+    let contrary = negate(alloc, &fact)?;
+    let mut other = copy_state(alloc, &state)?;
+    enter(alloc, &mut state.rests, copy, first)?;
+    enter(alloc, &mut other.rests, copy, second)?;
+    let facts = one_formula(alloc, fact)?;
+    let other_facts = one_formula(alloc, contrary)?;
+    let opened = follows_two(alloc, state, facts, other, other_facts)?;
+    Ok(Some(opened))
+}
+
+// The condition and the branches of the choice that comes next.
+fn first_choice<'a>(rest: &Rest<'a>) -> Option<(&'a Cond, &'a Block, &'a Block)>
+    ensures { let code = rest_code rest.now in let left = rest_after 1 code in MatchOption result
+        ((st : State) (c : Copy) → plan.both_ways st c code ≡ None)
+        (λ p. code ≡ If (condition_of p.0.now) (code_of p.1.now) (code_of p.2.now) left) }
+{
+    match rest.first() {
+        Some(Stmt::If(guard, first, second)) => Some((guard, first, second)),
+        _ => None,
+    }
+}
+
+// Puts a block in the place of a copy's next statement.
+fn enter<'a>(
+    alloc: Global,
+    rests: &mut PerCopy<Rest<'a>>,
+    copy: CopyName,
+    block: &'a Block,
+) -> Result<(), AllocError>
+    ensures { let c = copy_named copy in let rest = rest_code (of_copy rests.old c) in
+        let code = append (code_of block.now) (rest_after 1 rest) in
+        (d : Copy) → OnOk result (rest_code (of_copy rests.new d)
+        ≡ with_copy (λ e. rest_code (of_copy rests.old e)) c code d) }
+{
+    let mut rest = Rest::empty(alloc);
+    exchange(rests, copy, &mut rest);
+    rest.drop_front(1);
+    rest.put_before(block)?;
+    exchange(rests, copy, &mut rest);
+    Ok(())
+}

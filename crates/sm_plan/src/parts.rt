@@ -1,0 +1,20 @@
+// What one copy has.
+ghost use Rattle.std.specs.Prelude.{◌≡◌};
+ghost use Rattle.sm_syntax.specs.trees.Copies.{copy_named, of_copy};
+ghost use Rattle.sm_plan.specs.Copies.{with_copy};
+
+use sm_syntax::{CopyName, PerCopy};
+use std::mem::swap;
+
+// Exchanges what a copy has.
+pub(crate) fn exchange<T>(all: &mut PerCopy<T>, copy: CopyName, one: &mut T)
+    ensures all { of_copy all.new ≡ with_copy (of_copy all.old) (copy_named copy) one.old }
+    ensures one { one.new ≡ of_copy all.old (copy_named copy) }
+{
+    match copy {
+        CopyName::O => swap(&mut all.base, one),
+        CopyName::A => swap(&mut all.variant_a, one),
+        CopyName::B => swap(&mut all.variant_b, one),
+        CopyName::M => swap(&mut all.candidate, one),
+    }
+}

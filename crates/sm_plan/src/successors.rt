@@ -1,0 +1,132 @@
+// States that follow.
+ghost use Rattle.std.specs.Prelude.{◌≡◌, List, [], ◌∷◌, ◌++◌, map, IfOk};
+ghost use Rattle.sm_syntax.specs.text.Sorts.{Sorts};
+ghost use Rattle.sm_term.specs.Assertions.{Assertion};
+ghost use Rattle.sm_term.specs.Terms.{Tree};
+ghost use Rattle.sm_plan.specs.ReadyStates.{IsStateReady, AreFormsReady, AreSuccessorsReady};
+ghost use Rattle.sm_plan.specs.ReadyStates.{IsSuccessorReady, AreStoresReady};
+ghost use Rattle.sm_plan.specs.Views.{forms_in, state_in, successor_in};
+
+use crate::opening::{Opened, Successor};
+use crate::state::{Formulas, SymState};
+use sm_syntax::PerCopy;
+use sm_term::{Formula, SymStore};
+use std::alloc::{AllocError, Global};
+use std::rc::Rc;
+
+// No formulas.
+pub(crate) fn no_formulas(alloc: Global) -> Formulas
+    ensures { result.list.items ≡ [] }
+{
+    Formulas {
+        list: Vec::new(alloc),
+    }
+}
+
+// One formula.
+pub(crate) fn one_formula(alloc: Global, f: Formula) -> Result<Formulas, AllocError>
+    ensures { IfOk result (λ fs. fs.list.items ≡ f ∷ []) }
+{
+    let mut list = Vec::new(alloc);
+    list.push(f)?;
+    Ok(Formulas { list })
+}
+
+// The start values of all names, for each copy.
+pub(crate) fn no_stores(alloc: Global) -> PerCopy<SymStore>
+    ensures { (sorts : Sorts) (trees : List Tree) → AreStoresReady sorts trees result }
+{
+    PerCopy {
+        base: no_terms(alloc),
+        variant_a: no_terms(alloc),
+        variant_b: no_terms(alloc),
+        candidate: no_terms(alloc),
+    }
+}
+
+// The start values of all names.
+pub(crate) fn no_terms(alloc: Global) -> SymStore
+    ensures { result.list.items ≡ [] }
+{
+    SymStore {
+        list: Vec::new(alloc),
+    }
+}
+
+// A state with facts of its own.
+pub(crate) fn successor<'a>(
+    alloc: Global,
+    state: SymState<'a>,
+    more: Formulas,
+) -> Result<Successor<'a>, AllocError>
+    ensures state { (sorts : Sorts) (trees : List Tree) (facts : List Assertion) →
+        IfOk result (λ n. successor_in sorts trees facts n
+        ≡ state_in sorts trees (facts ++ forms_in sorts trees more.list.items) state.entry) }
+    ensures ready { (sorts : Sorts) (trees : List Tree) →
+        IsStateReady sorts trees state.entry →
+        AreFormsReady sorts trees more.list.items →
+        IfOk result (IsSuccessorReady sorts trees) }
+{
+    let kept = Rc::new(alloc, no_formulas(alloc))?;
+    Ok(Successor { kept, more, state })
+}
+
+// What one state follows.
+pub(crate) fn follows_one<'a>(
+    alloc: Global,
+    state: SymState<'a>,
+    more: Formulas,
+) -> Result<Opened<'a>, AllocError>
+    ensures states { (sorts : Sorts) (trees : List Tree) (facts : List Assertion) →
+        IfOk result (λ o. map (successor_in sorts trees facts) o.states.items
+        ≡ state_in sorts trees (facts ++ forms_in sorts trees more.list.items) state.entry ∷ []) }
+    ensures ready { (sorts : Sorts) (trees : List Tree) →
+        IsStateReady sorts trees state.entry →
+        AreFormsReady sorts trees more.list.items →
+        IfOk result (λ o. AreSuccessorsReady sorts trees o.states.items) }
+    ensures goals { IfOk result (λ o. o.goals.list.items ≡ []) }
+    ensures asking { IfOk result (λ o.
+        (sorts : Sorts) (trees : List Tree) → AreStoresReady sorts trees o.stores) }
+{
+    let mut states = Vec::new(alloc);
+    states.push(successor(alloc, state, more)?)?;
+    Ok(Opened {
+        goals: no_formulas(alloc),
+        stores: no_stores(alloc),
+        states,
+    })
+}
+
+// What two states follow.
+pub(crate) fn follows_two<'a>(
+    alloc: Global,
+    state: SymState<'a>,
+    more: Formulas,
+    other: SymState<'a>,
+    other_more: Formulas,
+) -> Result<Opened<'a>, AllocError>
+    ensures states { (sorts : Sorts) (trees : List Tree) (facts : List Assertion) →
+        let a = forms_in sorts trees more.list.items in
+        let b = forms_in sorts trees other_more.list.items in
+        let one = state_in sorts trees (facts ++ a) state.entry in
+        let two = state_in sorts trees (facts ++ b) other.entry in
+        IfOk result (λ o. map (successor_in sorts trees facts) o.states.items ≡ one ∷ two ∷ []) }
+    ensures ready { (sorts : Sorts) (trees : List Tree) →
+        IsStateReady sorts trees state.entry →
+        AreFormsReady sorts trees more.list.items →
+        IsStateReady sorts trees other.entry →
+        AreFormsReady sorts trees other_more.list.items →
+        IfOk result (λ o. AreSuccessorsReady sorts trees o.states.items) }
+    ensures goals { IfOk result (λ o. o.goals.list.items ≡ []) }
+    ensures asking { IfOk result (λ o.
+        (sorts : Sorts) (trees : List Tree) → AreStoresReady sorts trees o.stores) }
+{
+    let mut states = Vec::new(alloc);
+    states.push(successor(alloc, state, more)?)?;
+    states.push(successor(alloc, other, other_more)?)?;
+    Ok(Opened {
+        goals: no_formulas(alloc),
+        stores: no_stores(alloc),
+        states,
+    })
+}
