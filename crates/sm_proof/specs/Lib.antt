@@ -1,0 +1,15 @@
+pub mod Lines
+pub mod FieldRanges
+pub mod HeadWords
+pub mod Spelling
+pub mod Numbers
+pub mod Named
+pub mod Fields
+pub mod Passing
+pub mod Reading
+pub mod Behind
+pub mod Likely
+pub mod SpellingLaws
+pub mod Verdicts
+pub mod Laws
+pub mod Cases

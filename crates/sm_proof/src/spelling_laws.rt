@@ -1,0 +1,19 @@
+// How lines are spelled and read, as contracts.
+ghost use Rattle.sm_proof.specs.SpellingLaws.{ReadIsSpelled, ReadRefuses, SpelledReadsBack};
+
+/// The text of a line within its fields is read as that line.
+#[tactic(auto, using(crate::proofs::SpellingReadsBack::spelled_back))]
+pub fn spelled_reads_back()
+    ensures { SpelledReadsBack }
+{}
+
+/// Bytes that are read as a line are the text of that line, which is within its fields.
+pub fn read_is_spelled()
+    ensures { ReadIsSpelled }
+{}
+
+/// Bytes that are no line are refused as BadLine or as BadNumber.
+#[tactic(auto, using(crate::proofs::ReadRefuses::refused))]
+pub fn read_refuses()
+    ensures { ReadRefuses }
+{}
