@@ -23,6 +23,7 @@ use Rattle.sm_term.specs.Heads.{same_head, same_names, terms_given, arguments_of
 use Rattle.sm_term.proofs.SameTermsLemmas.{same_code_is}
 use Rattle.sm_theory.specs.Facts.{BranchFact}
 use Rattle.sm_theory.specs.Lines.{equation_at}
+use Rattle.sm_theory.specs.Sides.{OptionStands}
 use Rattle.sm_theory.specs.Equality.{says_equal, say_equal}
 use Rattle.sm_euf.specs.Arguments.{argument_numbers, have_one_head, trees_of}
 
@@ -87,7 +88,7 @@ given_are sorts trees (x ∷ from) (t ∷ args) f =
     let rest = given_are sorts trees from args (and_parts _ _ f).1 in ap (λ (ts : List Tree). tree_at trees t.0 ∷ ts) rest
 
 -- the arguments of a term's tree are the trees of its arguments
-arguments_are : (sorts : Sorts) (codes : List Code) (trees : List Tree) (t : Term) → term_fits sorts trees t ≡ true →
+pub arguments_are : (sorts : Sorts) (codes : List Code) (trees : List Tree) (t : Term) → term_fits sorts trees t ≡ true →
     arguments_of (tree_in codes trees t) ≡ trees_of trees (argument_numbers t)
 arguments_are sorts codes trees (row.Fun b x from args) f = given_are sorts trees from.list.items args.list.items f
 arguments_are sorts codes trees t f = refl
@@ -146,6 +147,19 @@ pub say_step : (facts : List BranchFact) (trees : List Tree) (ns : List ℕ) (ts
     ≡ (says_equal (equation_at facts n) (tree_at trees t.0) (tree_at trees u.0)
     && say_equal facts (drop (i + 1) ns) (trees_of trees (drop (i + 1) ts)) (trees_of trees (drop (i + 1) us)))
 say_step facts trees ns ts us i n t u one two three = rw (drop_next ns i n one, drop_next ts i t two, drop_next us i u three) refl
+
+-- a term with a number is in the list
+there : (trees : List Tree) (n : ℕ) → n < length trees → slice_get trees n ≡ Some (tree_at trees n)
+there [] n h = absurd (omega arith)
+there (t ∷ ts) zero h = refl
+there (t ∷ ts) (suc n) h = let less : n < length ts = omega arith in there ts n less
+
+-- an argument that is found stands for its tree
+pub found_stands : (trees : List Tree) (ts : List TermId) (i : ℕ) → AreBefore (length trees) ts →
+    OptionStands (λ (a : TermId) (tree : Tree). slice_get trees a.0 ≡ Some tree) (slice_get ts i) (slice_get (trees_of trees ts) i)
+found_stands trees [] i before = tt
+found_stands trees (t ∷ ts) zero before = there trees t.0 before.0
+found_stands trees (t ∷ ts) (suc i) before = found_stands trees ts i before.1
 
 -- a fact for which there is no argument
 pub say_left : (facts : List BranchFact) (trees : List Tree) (ns : List ℕ) (ts us : List TermId) (i n : ℕ) →

@@ -1,11 +1,24 @@
 // The arguments of a term of a table, and whether two terms have one head.
-ghost use Rattle.std.specs.Prelude.{◌≡◌, nat_eq, slice_get};
+ghost use Rattle.std.specs.Prelude.{◌≡◌, ◌<◌, Some, nat_eq, length, slice_get};
 ghost use Rattle.std.specs.Cmp.Lexicographic.{pointwise};
 ghost use Rattle.sm_term.specs.Rows.{names_in_list};
+ghost use Rattle.sm_term.specs.Heads.{arguments_of};
+ghost use Rattle.sm_term.specs.Tables.{trees_in, tree_at};
+ghost use Rattle.sm_theory.specs.Sides.{OptionStands};
 ghost use Rattle.sm_euf.specs.Arguments.{argument_numbers, have_one_head};
 
 use sm_syntax::Name;
-use sm_term::{Term, TermId};
+use sm_term::{Term, TermId, TermTable};
+
+/// Argument `i` of a term of a table, from 0, None where it has no such.
+pub fn argument_of(table: &TermTable, t: TermId, i: u64) -> Option<TermId>
+    requires { t.0 < length (trees_in table.now) }
+    ensures { let trees = trees_in table.now in
+        OptionStands (λ a tree. slice_get trees a.0 ≡ Some tree) result
+        (slice_get (arguments_of (tree_at trees t.0)) i) }
+{
+    argument(table.get(t), i as usize)
+}
 
 // Argument `i` of a term.
 pub(crate) fn argument(t: &Term, i: usize) -> Option<TermId>

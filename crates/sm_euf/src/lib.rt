@@ -5,6 +5,7 @@
 //!   adds. Where the line's condition fails, and for each other line, it answers none.
 //! - What it adds holds wherever the facts of the branch do, is sorted where they and the line are,
 //!   names no later new value than they, and is added on each other branch on which they stand.
+//! - `argument_of` finds an argument of a term of a table.
 //! - A line takes the time of the terms and the facts that it names, however long the branch is.
 //!   That is no contract: nothing speaks of time.
 //!
@@ -17,4 +18,5 @@ mod congruence;
 mod equations;
 mod theory;
 
+pub use arguments::argument_of;
 pub use theory::Euf;
