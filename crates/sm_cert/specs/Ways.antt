@@ -1,4 +1,5 @@
--- Private: what the functions for one line do, by the ways in which the branch goes on after it.
+-- Cited by public clauses: what the functions for one line do, by the ways in which the branch goes
+-- on after it.
 use Rattle.std.specs.Prelude.{Bool, true, false, Option, Some, None, List, [], ◌∷◌, ◌++◌}
 use Rattle.sm_syntax.specs.text.Sorts.{Sorts}
 use Rattle.sm_term.specs.Terms.{Tree}

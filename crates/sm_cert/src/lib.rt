@@ -5,6 +5,7 @@
 //!   more splits, or the number of the first bad line.
 //! - Ok tells that no structure makes all facts of the branch hold, whichever three theories there
 //!   are: it follows from their laws.
+//! - `add_line`, `closes` and `parts` do one line at a branch, in place.
 //! - A certificate that closes a branch closes each other branch on which the facts stand, with
 //!   their numbers there.
 //!
@@ -22,3 +23,4 @@ pub use check::check_tree;
 pub use error::CertFault;
 pub use laws::{closed_is_contradictory, closes_moved};
 pub use tree::{CertEnd, CertLines, CertTree};
+pub use ways::{add_line, closes, parts};

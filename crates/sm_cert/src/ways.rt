@@ -65,8 +65,9 @@ fn added<E: Theory, L: Theory, R: Theory>(
     rows.check_line(alloc, table, path, line)
 }
 
-// Puts what a line adds on the branch, if the branch goes on in one way.
-pub(crate) fn add_line<E: Theory, L: Theory, R: Theory>(
+/// Puts what a line adds on the branch, if the branch goes on in one way. After want of memory there
+/// may be more facts behind.
+pub fn add_line<E: Theory, L: Theory, R: Theory>(
     alloc: Global,
     euf: &E,
     lia: &L,
@@ -101,8 +102,8 @@ pub(crate) fn add_line<E: Theory, L: Theory, R: Theory>(
     }
 }
 
-// Whether a line closes the branch.
-pub(crate) fn closes(table: &TermTable, path: &Branch, line: &CertLine) -> bool
+/// Whether a line closes the branch.
+pub fn closes(table: &TermTable, path: &Branch, line: &CertLine) -> bool
     ensures { let trees = trees_in table.now in let sorts = sorts_in table.now in
         (facts : List BranchFact) (added : Option BranchFact) →
         AllStand sorts trees path.now.list.items facts →
@@ -172,8 +173,8 @@ fn clash(table: &TermTable, path: &Branch, m: u64, n: u64) -> bool
     }
 }
 
-// The two facts by which a line splits the branch, none where it doesn't.
-pub(crate) fn parts(
+/// The two facts by which a line splits the branch, none where it doesn't.
+pub fn parts(
     alloc: Global,
     table: &TermTable,
     path: &Branch,
