@@ -1,0 +1,125 @@
+-- Where the proof of a checker stands, and how it goes on.
+use Rattle.std.proofs.Common.{◌≡◌, ◌⊎◌, inl, inr, Bool, true, false, if◌then◌else◌, Option, Some, None, Result, Ok, Err, refl, sym, ap, ◌∙◌, subst}
+use Rattle.sm_syntax.specs.text.Sorts.{Sorts}
+use Rattle.sm_term.specs.Tables.{sorts_in}
+use Rattle.sm_proof.specs.declared.word.Word.{Word}
+use Rattle.sm_proof.specs.declared.word.Word.TheVariants.{BadVersion}
+use Rattle.sm_proof.specs.Lines.{ProofLine}
+use Rattle.sm_proof.specs.Named.{and_then}
+use Rattle.sm_proof.specs.Passing.{Progress, start_progress, taken}
+use Rattle.sm_proof.specs.Verdicts.{Subject, Standing, Unopened, Underway, none_waits, passes_version, opens_if, next_standing}
+use Rattle.sm_check.specs.declared.checker.Checker.{Checker}
+use Rattle.sm_check.specs.declared.checker.State.{State}
+use Rattle.sm_check.specs.declared.checker.State.TheVariants.{Done, More}
+use Rattle.sm_check.specs.declared.fault.LineFault.{LineFault}
+use Rattle.sm_check.specs.declared.fault.LineFault.TheVariants.{Wrong, Memory}
+use Rattle.sm_check.specs.Checkers.{IsAbout, IsAt, StandsAt, state_of, GoesOn, Stops}
+use Rattle.sm_check.specs.Tells.{Tells}
+use Rattle.sm_check.specs.Walks.{WalkValue, Walks}
+use Rattle.sm_check.proofs.CertTaken.{tells_then}
+use Rattle.sm_check.proofs.NodeTaken.{tells_on}
+use Rattle.sm_check.proofs.NodesLemmas.{tells_word}
+
+-- what a checker that goes on is, in parts
+pub parts_at : (c : Checker) (s : Subject) (at : Standing) → IsAt c s (Ok at) → (c.stopped ≡ None) × IsAbout c s × StandsAt c s at
+unfolding IsAt
+parts_at c s at is = is
+
+pub at_parts : (c : Checker) (s : Subject) (at : Standing) → c.stopped ≡ None → IsAbout c s → StandsAt c s at → IsAt c s (Ok at)
+unfolding IsAt
+at_parts c s at goes about stands = (goes, about, stands)
+
+-- and what one is that stopped
+pub stopped_is : (c : Checker) (s : Subject) (e : LineFault) → IsAt c s (Err e) → c.stopped ≡ Some e
+unfolding IsAt
+stopped_is c s e is = is
+
+pub is_stopped : (c : Checker) (s : Subject) (e : LineFault) → c.stopped ≡ Some e → IsAt c s (Err e)
+unfolding IsAt
+is_stopped c s e is = is
+
+-- whether it is done
+module _ (c : Checker) (s : Subject) where
+  pub done_told : (at : Standing) → IsAt c s (Ok at) → c.opened ≡ true → (done : Bool) →
+      ((p : Progress) → Walks c.walk p → done ≡ none_waits p.pending) → done ≡ true → Done ≡ state_of at
+  done_told Unopened is taken done told ends = let shut = (parts_at c s Unopened is).2.0 in absurd cc
+  done_told (Underway p) is taken done told ends =
+      sym (ap (λ (b : Bool). if b then Done else More) (sym (told p (parts_at c s (Underway p) is).2.1) ∙ ends))
+
+  pub more_told : (at : Standing) → IsAt c s (Ok at) → c.opened ≡ true → (done : Bool) →
+      ((p : Progress) → Walks c.walk p → done ≡ none_waits p.pending) → done ≡ false → More ≡ state_of at
+  more_told Unopened is taken done told lasts = refl
+  more_told (Underway p) is taken done told lasts =
+      sym (ap (λ (b : Bool). if b then Done else More) (sym (told p (parts_at c s (Underway p) is).2.1) ∙ lasts))
+
+  pub unopened_told : (at : Standing) → IsAt c s (Ok at) → c.opened ≡ false → More ≡ state_of at
+  unopened_told Unopened is shut = refl
+  unopened_told (Underway p) is shut = let taken = (parts_at c s (Underway p) is).2.0 in absurd cc
+
+-- a line of a checker that goes on
+module _ (c d : Checker) (s : Subject) (l : ProofLine) (goes : c.stopped ≡ None → d.stopped ≡ None) (assumes : d.assumes ≡ c.assumes) where
+  abbrev Next : Result Standing Word → Result (Unit {0}) LineFault → Type 0
+  Next after r = Tells {S = Unit {0}} {T = Standing} (λ x at. IsAt d s (Ok at)) r after
+
+  pub line_taken : (at : Standing) (r : Result (Unit {0}) LineFault) → IsAt c s (Ok at) → c.opened ≡ true → d.opened ≡ true →
+      sorts_in d.walk.table ≡ sorts_in c.walk.table →
+      ((p : Progress) → Walks c.walk p →
+      Tells {S = Unit {0}} {T = Progress} (λ x q. Walks d.walk q) r (taken (sorts_in c.walk.table) p l)) →
+      Next (next_standing s at (Ok l)) r
+  line_taken Unopened r is began still sorts told = let shut = (parts_at c s Unopened is).2.0 in absurd cc
+  line_taken (Underway p) r is began still sorts told =
+      let parts = parts_at c s (Underway p) is in
+      let about : IsAbout d s = record {
+        sorts = sorts ∙ parts.1.sorts;
+        assumes = assumes ∙ parts.1.assumes;
+      } in
+      by r
+      (subst (λ (f : Sorts). Tells {S = Unit {0}} {T = Progress} (λ x q. Walks d.walk q) r (taken f p l)) parts.1.sorts (told p parts.2.1))
+      (λ (q : Progress) (walks : Walks d.walk q). at_parts d s (Underway q) (goes parts.0) about (still, walks))
+    where
+      by : (r : Result (Unit {0}) LineFault) → Tells {S = Unit {0}} {T = Progress} (λ x q. Walks d.walk q) r (taken s.sorts p l) →
+          ((q : Progress) → Walks d.walk q → IsAt d s (Ok (Underway q))) → Next (next_standing s (Underway p) (Ok l)) r
+      by (Ok u) h more =
+          tells_then {S = Unit {0}} {T = Progress} {U = Unit {0}} {V = Standing} (λ x q. Walks d.walk q) (λ x at. IsAt d s (Ok at)) u u (taken s.sorts p l) Underway
+          more h
+      by (Err e) h more =
+          tells_on {S = Unit {0}} {T = Progress} {U = Unit {0}} {V = Standing} (λ x q. Walks d.walk q) (λ x at. IsAt d s (Ok at)) e (taken s.sorts p l)
+          (λ (q : Progress). Ok (Underway q)) h
+
+  pub version_taken : (at : Standing) → IsAt c s (Ok at) → c.opened ≡ false → d.opened ≡ true → d.walk ≡ c.walk →
+      passes_version s l ≡ true → Next (next_standing s at (Ok l)) (Ok tt)
+  version_taken Unopened is shut still walk passes =
+      let parts = parts_at c s Unopened is in
+      let about : IsAbout d s = record {
+        sorts = ap (λ (w : WalkValue). sorts_in w.table) walk ∙ parts.1.sorts;
+        assumes = assumes ∙ parts.1.assumes;
+      } in
+      subst (λ (b : Bool). Next (opens_if b s) (Ok tt)) (sym passes)
+      (at_parts d s (Underway (start_progress s.start)) (goes parts.0) about (still, subst (λ (w : WalkValue). Walks w (start_progress s.start)) (sym walk) parts.2.1))
+  version_taken (Underway p) is shut still walk passes = let taken = (parts_at c s (Underway p) is).2.0 in absurd cc
+
+-- the first line is another one
+pub version_refused : (P : Unit {0} → Standing → Type 0) (c : Checker) (s : Subject) (l : ProofLine) (at : Standing) → IsAt c s (Ok at) →
+    c.opened ≡ false → passes_version s l ≡ false → Tells P (Err (Wrong BadVersion)) (next_standing s at (Ok l))
+version_refused P c s l Unopened is shut fails =
+    tells_word P BadVersion (opens_if (passes_version s l) s) (ap (λ (b : Bool). opens_if b s) fails)
+version_refused P c s l (Underway p) is shut fails = let began = (parts_at c s (Underway p) is).2.0 in absurd cc
+
+-- the answer to a line
+pub goes_told : (c d : Checker) (s : Subject) (r : Result Standing Word) (state : State) →
+    Tells {S = Unit {0}} {T = Standing} (λ x at. IsAt c s (Ok at)) (Ok tt) r → c ≡ d →
+    ((at : Standing) → IsAt c s (Ok at) → state ≡ state_of at) → GoesOn s r d state
+goes_told c d s (Ok at) state h same told = (subst (λ (x : Checker). IsAt x s (Ok at)) same h, told at h)
+goes_told c d s (Err w) state h same told = h
+
+pub stops_told : (P : Unit {0} → Standing → Type 0) (d : Checker) (s : Subject) (r : Result Standing Word) (e : LineFault) →
+    Tells P (Err e) r → d.stopped ≡ Some e → Stops s r d e
+stops_told P d s (Ok at) Memory h is = (refl, is_stopped d s Memory is)
+stops_told P d s (Ok at) (Wrong w) h is = absurd h
+stops_told P d s (Err v) Memory h is = inr (refl, is_stopped d s Memory is)
+stops_told P d s (Err v) (Wrong w) h is =
+    inl (ap Wrong h, is_stopped d s (Wrong v) (is ∙ ap (λ (x : Word). Some (Wrong x)) h))
+
+-- a checker that goes on didn't stop
+pub both_ways : (c : Checker) (s : Subject) (e : LineFault) → c.stopped ≡ None → IsAt c s (Err e) → ⊥
+both_ways c s e goes is = let stops = stopped_is c s e is in absurd cc

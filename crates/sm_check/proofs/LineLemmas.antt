@@ -1,0 +1,160 @@
+-- The lines of bytes that come after others, and how far they come.
+use Rattle.std.proofs.Common.{◌≡◌, ◌<◌, ℕ, suc, Bool, true, false, ◌==◌, nat_le, if◌then◌else◌, length, List, [], ◌∷◌, ◌++◌, refl, ap, ◌∙◌}
+use Rattle.std.proofs.Common.{Result, Ok, Err, arith}
+use Rattle.std.proofs.lemmas.Bool.Decides.{nat_tests}
+use Rattle.sm_proof.specs.declared.word.Word.{Word}
+use Rattle.sm_proof.specs.declared.word.Word.TheVariants.{BadLine}
+use Rattle.sm_proof.specs.Reading.{read}
+use Rattle.sm_proof.specs.Verdicts.{Subject, Standing, Unopened, Reached, Refused, Before, reached, reached_after, next_standing}
+use Rattle.sm_proof.specs.Verdicts.{FileLines, lines_in, in_first_line}
+use Rattle.sm_check.specs.Pieces.{HasNoEnd, reach}
+
+-- lines with a rest behind
+abbrev lines_of : List (List ℕ) → List ℕ → FileLines
+lines_of ended rest = record { ended = ended; rest = rest }
+
+-- lines with a byte before them, which ends a line or not
+abbrev with_byte : Bool → ℕ → FileLines → FileLines
+with_byte ends byte more =
+    if ends then lines_of ([] ∷ more.ended) more.rest else in_first_line byte more.ended more.rest
+
+-- lines that go on by more lines
+abbrev over : List (List ℕ) → List ℕ → FileLines → FileLines
+over ended rest more = lines_of (ended ++ more.ended) more.rest
+
+-- bytes without an end are all rest
+pub lines_in-plain : (bytes : List ℕ) → HasNoEnd bytes → lines_in bytes ≡ lines_of [] bytes
+lines_in-plain [] h = refl
+lines_in-plain (b ∷ bs) h =
+    ap (λ (t : Bool). with_byte t b (lines_in bs)) h.0
+    ∙ ap (λ (more : FileLines). in_first_line b more.ended more.rest) (lines_in-plain bs h.1)
+
+-- one line with its end
+pub lines_in-line : (front : List ℕ) → HasNoEnd front → lines_in (front ++ 10 ∷ []) ≡ lines_of (front ∷ []) []
+lines_in-line [] h = refl
+lines_in-line (b ∷ bs) h =
+    ap (λ (t : Bool). with_byte t b (lines_in (bs ++ 10 ∷ []))) h.0
+    ∙ ap (λ (more : FileLines). in_first_line b more.ended more.rest) (lines_in-line bs h.1)
+
+-- one more byte before bytes without an end
+rest_step : (ends : Bool) (byte : ℕ) (ended : List (List ℕ)) (rest more : List ℕ) →
+    with_byte ends byte (lines_of ended (rest ++ more))
+    ≡ (let was = with_byte ends byte (lines_of ended rest) in lines_of was.ended (was.rest ++ more))
+rest_step true byte ended rest more = refl
+rest_step false byte [] rest more = refl
+rest_step false byte (l ∷ ls) rest more = refl
+
+-- bytes without an end go to the rest
+pub lines_in-rest : (bytes more : List ℕ) → HasNoEnd more →
+    lines_in (bytes ++ more) ≡ lines_of (lines_in bytes).ended ((lines_in bytes).rest ++ more)
+lines_in-rest [] more h = lines_in-plain more h
+lines_in-rest (b ∷ bs) more h =
+    ap (λ (ls : FileLines). with_byte (b == 10) b ls) (lines_in-rest bs more h)
+    ∙ rest_step (b == 10) b (lines_in bs).ended (lines_in bs).rest more
+
+-- one more byte before bytes that end a line
+end_step : (ends : Bool) (byte : ℕ) (ended : List (List ℕ)) (rest front : List ℕ) →
+    with_byte ends byte (lines_of (ended ++ (rest ++ front) ∷ []) [])
+    ≡ (let was = with_byte ends byte (lines_of ended rest) in lines_of (was.ended ++ (was.rest ++ front) ∷ []) [])
+end_step true byte ended rest front = refl
+end_step false byte [] rest front = refl
+end_step false byte (l ∷ ls) rest front = refl
+
+-- bytes that end a line: the rest and they are one more line
+pub lines_in-end : (bytes front : List ℕ) → HasNoEnd front →
+    lines_in (bytes ++ (front ++ 10 ∷ [])) ≡ lines_of ((lines_in bytes).ended ++ ((lines_in bytes).rest ++ front) ∷ []) []
+lines_in-end [] front h = lines_in-line front h
+lines_in-end (b ∷ bs) front h =
+    ap (λ (ls : FileLines). with_byte (b == 10) b ls) (lines_in-end bs front h)
+    ∙ end_step (b == 10) b (lines_in bs).ended (lines_in bs).rest front
+
+-- one more byte before any bytes
+more_step : (ends : Bool) (byte : ℕ) (ended later : List (List ℕ)) (rest rest_later : List ℕ) →
+    (tail : List (List ℕ))
+    × ((with_byte ends byte (lines_of (ended ++ later) rest_later)).ended ≡ (with_byte ends byte (lines_of ended rest)).ended ++ tail)
+more_step true byte ended later rest rest_later = (later, refl)
+more_step false byte [] later rest rest_later = ((in_first_line byte later rest_later).ended, refl)
+more_step false byte (l ∷ ls) later rest rest_later = (later, refl)
+
+-- more bytes leave the ended lines as they are, and may end more
+pub lines_in-more : (bytes more : List ℕ) →
+    (tail : List (List ℕ)) × ((lines_in (bytes ++ more)).ended ≡ (lines_in bytes).ended ++ tail)
+lines_in-more [] more = ((lines_in more).ended, refl)
+lines_in-more (b ∷ bs) more =
+    let later = lines_in-more bs more in
+    let step = more_step (b == 10) b (lines_in bs).ended later.0 (lines_in bs).rest (lines_in (bs ++ more)).rest in (
+      step.0,
+      ap (λ (ls : List (List ℕ)). (with_byte (b == 10) b (lines_of ls (lines_in (bs ++ more)).rest)).ended) later.1
+          ∙ step.1,
+    )
+
+-- one more line goes on from where the others came
+abbrev from_there : Subject → List ℕ → Reached → Reached
+from_there s line (Refused n w) = Refused n w
+from_there s line (Before n at) =
+    reached_after n (next_standing s at (read line)) (λ (after : Standing). Before (suc n) after)
+
+-- so after one line that was taken or not
+after_push : (s : Subject) (line : List ℕ) (n : ℕ) (x : Result Standing Word) (f g : Standing → Reached) →
+    ((a : Standing) → f a ≡ from_there s line (g a)) → reached_after n x f ≡ from_there s line (reached_after n x g)
+after_push s line n (Err w) f g h = refl
+after_push s line n (Ok at) f g h = h at
+
+-- lines and one more
+pub reached-push : (s : Subject) (n : ℕ) (at : Standing) (lines : List (List ℕ)) (line : List ℕ) →
+    reached s n at (lines ++ line ∷ []) ≡ from_there s line (reached s n at lines)
+reached-push s n at [] line = refl
+reached-push s n at (l ∷ ls) line =
+    after_push s line n (next_standing s at (read l))
+    (λ (a : Standing). reached s (suc n) a (ls ++ line ∷ [])) (λ (a : Standing). reached s (suc n) a ls)
+    (λ (a : Standing). reached-push s (suc n) a ls line)
+
+-- where one line is refused, or those behind it
+after_refused : (n k : ℕ) (w : Word) (x : Result Standing Word) (f g : Standing → Reached) →
+    ((a : Standing) → f a ≡ Refused k w → g a ≡ Refused k w) →
+    reached_after n x f ≡ Refused k w → reached_after n x g ≡ Refused k w
+after_refused n k w (Err v) f g h e = e
+after_refused n k w (Ok at) f g h e = h at e
+
+-- lines behind a refused one change nothing
+pub reached_refused : (s : Subject) (n : ℕ) (at : Standing) (lines more : List (List ℕ)) (k : ℕ) (w : Word) →
+    reached s n at lines ≡ Refused k w → reached s n at (lines ++ more) ≡ Refused k w
+reached_refused s n at [] more k w e = absurd (cc)
+reached_refused s n at (l ∷ ls) more k w e =
+    after_refused n k w (next_standing s at (read l))
+    (λ (a : Standing). reached s (suc n) a ls) (λ (a : Standing). reached s (suc n) a (ls ++ more))
+    (λ (a : Standing). reached_refused s (suc n) a ls more k w) e
+
+-- no bytes
+pub reach-nil : (s : Subject) → reach s [] ≡ Before 1 Unopened
+unfolding reach
+reach-nil s = refl
+
+-- bytes that end a line
+pub reach-end : (s : Subject) (bytes front : List ℕ) (n : ℕ) (at : Standing) → HasNoEnd front → reach s bytes ≡ Before n at →
+    reach s (bytes ++ (front ++ 10 ∷ []))
+    ≡ reached_after n (next_standing s at (read ((lines_in bytes).rest ++ front))) (λ (after : Standing). Before (suc n) after)
+unfolding reach
+reach-end s bytes front n at h e =
+    ap (λ (ls : FileLines). reached s 1 Unopened ls.ended) (lines_in-end bytes front h)
+    ∙ reached-push s 1 Unopened (lines_in bytes).ended ((lines_in bytes).rest ++ front)
+    ∙ ap (from_there s ((lines_in bytes).rest ++ front)) e
+
+-- bytes without an end
+pub reach-rest : (s : Subject) (bytes more : List ℕ) → HasNoEnd more → reach s (bytes ++ more) ≡ reach s bytes
+unfolding reach
+reach-rest s bytes more h = ap (λ (ls : FileLines). reached s 1 Unopened ls.ended) (lines_in-rest bytes more h)
+
+-- bytes behind a bad line
+pub reach_refused : (s : Subject) (bytes more : List ℕ) (k : ℕ) (w : Word) →
+    reach s bytes ≡ Refused k w → reach s (bytes ++ more) ≡ Refused k w
+unfolding reach
+reach_refused s bytes more k w e =
+    let tail = lines_in-more bytes more in
+    ap (reached s 1 Unopened) tail.1 ∙ reached_refused s 1 Unopened (lines_in bytes).ended tail.0 k w e
+
+-- a line has at most 4,096 bytes
+pub long_lines_are_bad : (bytes : List ℕ) → 4096 < length bytes → read bytes ≡ Err BadLine
+unfolding read
+long_lines_are_bad bytes long =
+    let over_long : nat_le (length bytes) 4096 ≡ false = grind (arith, nat_tests) in rw over_long refl

@@ -1,0 +1,112 @@
+-- Terms that lines make.
+use Rattle.std.proofs.Common.{◌≡◌, ℕ, ◌+◌, Bool, true, false, ◌&&◌, nat_lt, drop, Option, Some, None, Result, Ok, Err, slice_get, get_or, List, [], ◌∷◌, zero, suc, length, ◌<◌, ◌≤◌, arith, refl, sym, ap, ◌∙◌, subst}
+use Rattle.std.proofs.lemmas.Option.{slice_get_within}
+use Rattle.sm_syntax.specs.declared.tree.Name.{Name}
+use Rattle.sm_term.specs.declared.term.TermId.{TermId}
+use Rattle.sm_term.specs.Terms.{Tree}
+use Rattle.sm_term.specs.Terms.{Start}
+use Rattle.sm_term.specs.Tables.{tree_at, AreBefore}
+use Rattle.sm_term.specs.declared.symbolic.SymStore.{SymStore}
+use Rattle.sm_term.specs.SymStores.{store_in, tree_or_start, IsStoreWithin}
+use Rattle.sm_term.proofs.TermsLemmas.{part_before}
+use Rattle.sm_proof.specs.declared.word.Word.{Word}
+use Rattle.sm_proof.specs.declared.word.Word.TheVariants.{BadNumber}
+use Rattle.sm_proof.specs.Passing.{with_tree}
+use Rattle.sm_proof.specs.Named.{naming_term, are_there}
+use Rattle.sm_theory.specs.Lines.{CertificateLine, followed}
+use Rattle.sm_check.specs.declared.fault.LineFault.{LineFault}
+use Rattle.sm_check.specs.declared.fault.LineFault.TheVariants.{Wrong}
+use Rattle.sm_check.specs.LineKinds.{Misses}
+use Rattle.sm_check.specs.Walks.{terms_in}
+use Rattle.sm_check.specs.TermsMade.{with_two, IsTerm}
+use Rattle.sm_check.proofs.FormRowsLemmas.{named_there, named_missing, found_there, found_missing}
+
+-- a term that a line made
+pub with_there : (trees : List Tree) (terms : List TermId) (n : ℕ) (t : TermId) (next : Tree → Result Tree Word) → slice_get terms n ≡ Some t →
+    with_tree (terms_in trees terms) n next ≡ next (tree_at trees t.0)
+with_there trees terms n t next e = found_there (slice_get (terms_in trees terms) n) BadNumber next (tree_at trees t.0) (named_there trees terms n t e)
+
+pub with_missing : (trees : List Tree) (terms : List TermId) (n : ℕ) (next : Tree → Result Tree Word) → slice_get terms n ≡ None →
+    with_tree (terms_in trees terms) n next ≡ Err BadNumber
+with_missing trees terms n next e = found_missing (slice_get (terms_in trees terms) n) BadNumber next (named_missing trees terms n e)
+
+-- a term that is there is the one at its number
+pub there_at : (trees : List Tree) (n : ℕ) → n < length trees → slice_get trees n ≡ Some (tree_at trees n)
+there_at [] n h = absurd (omega arith)
+there_at (t ∷ ts) zero h = refl
+there_at (t ∷ ts) (suc n) h = let less : n < length ts = omega arith in there_at ts n less
+
+-- an element that is there
+got : (ts : List TermId) (n : ℕ) (t : TermId) → n < length ts → ((d : TermId) → t ≡ get_or ts n d) → slice_get ts n ≡ Some t
+got [] n t h e = absurd (omega arith)
+got (u ∷ us) zero t h e = ap (λ (v : TermId). Some v) (sym (e t))
+got (u ∷ us) (suc n) t h e = let less : n < length us = omega arith in got us n t less e
+
+-- and one that isn't
+not_got : (ts : List TermId) (n : ℕ) → length ts ≤ n → slice_get ts n ≡ None
+not_got [] n h = refl
+not_got (u ∷ us) zero h = absurd (omega arith)
+not_got (u ∷ us) (suc n) h = let less : length us ≤ n = omega arith in not_got us n less
+
+module _ (s : SymStore) (x : ℕ) where
+  pub listed_before : (n : ℕ) (t : TermId) (list : List TermId) → list ≡ s.list.items → IsStoreWithin n s →
+      x < length list → ((d : TermId) → t ≡ get_or list x d) → t.0 < n
+  listed_before n t list is within less e =
+      part_before n s.list.items x t within (ap (λ (l : List TermId). slice_get l x) (sym is) ∙ got list x t less e)
+
+  pub listed_term : (trees : List Tree) (t : TermId) (list : List TermId) → list ≡ s.list.items → IsStoreWithin (length trees) s →
+      x < length list → ((d : TermId) → t ≡ get_or list x d) → IsTerm trees t (store_in trees s x)
+  listed_term trees t list is within less e =
+      let at : slice_get s.list.items x ≡ Some t = ap (λ (l : List TermId). slice_get l x) (sym is) ∙ got list x t less e in
+      there_at trees t.0 (part_before (length trees) s.list.items x t within at)
+      ∙ ap (λ (o : Option TermId). Some (tree_or_start trees x o)) (sym at)
+
+  pub unlisted_term : (trees : List Tree) (list : List TermId) → list ≡ s.list.items → length list ≤ x →
+      ◌≡◌ {A = Result Tree Word} (Ok (store_in trees s x)) (Ok (Start x))
+  unlisted_term trees list is less =
+      ap (λ (o : Option TermId). Ok (tree_or_start trees x o)) (ap (λ (l : List TermId). slice_get l x) (sym is) ∙ not_got list x less)
+
+-- a term that a line of a certificate names
+pub naming_there : (trees : List Tree) (terms : List TermId) (n : ℕ) (t : TermId) (next : Tree → Option CertificateLine) →
+    slice_get terms n ≡ Some t →
+    naming_term (terms_in trees terms) n next ≡ next (tree_at trees t.0)
+naming_there trees terms n t next e = ap (λ (o : Option Tree). followed o next) (named_there trees terms n t e)
+
+pub naming_missing : (trees : List Tree) (terms : List TermId) (n : ℕ) (next : Tree → Option CertificateLine) → slice_get terms n ≡ None →
+    naming_term (terms_in trees terms) n next ≡ None
+naming_missing trees terms n next e = ap (λ (o : Option Tree). followed o next) (named_missing trees terms n e)
+
+-- facts that are there, one after the other
+next_there : (count n : ℕ) (fs : List ℕ) (i : ℕ) → i < length fs → n ≡ get_or fs i n →
+    are_there count (drop i fs) ≡ (nat_lt n count && are_there count (drop (suc i) fs))
+next_there count n [] i h e = absurd (omega arith)
+next_there count n (m ∷ ms) zero h e = ap (λ (k : ℕ). nat_lt k count && are_there count ms) (sym e)
+next_there count n (m ∷ ms) (suc i) h e = let less : i < length ms = omega arith in next_there count n ms i less e
+
+pub there_step : (count n : ℕ) (fs : List ℕ) (i : ℕ) → i < length fs → n ≡ get_or fs i n → nat_lt n count ≡ true →
+    are_there count fs ≡ are_there count (drop i fs) → are_there count fs ≡ are_there count (drop (i + 1) fs)
+there_step count n fs i h e less so =
+    let more : suc i ≡ i + 1 = omega arith in
+    so ∙ next_there count n fs i h e ∙ ap (λ (b : Bool). b && are_there count (drop (suc i) fs)) less
+    ∙ ap (λ (k : ℕ). are_there count (drop k fs)) more
+
+pub there_stop : (count n : ℕ) (fs : List ℕ) (i : ℕ) → i < length fs → n ≡ get_or fs i n → nat_lt n count ≡ false →
+    are_there count fs ≡ are_there count (drop i fs) → are_there count fs ≡ false
+there_stop count n fs i h e less so =
+    so ∙ next_there count n fs i h e ∙ ap (λ (b : Bool). b && are_there count (drop (suc i) fs)) less
+
+pub there_all : (count : ℕ) (fs : List ℕ) (i : ℕ) → length fs ≤ i → are_there count fs ≡ are_there count (drop i fs) → are_there count fs ≡ true
+there_all count fs i h so = so ∙ over fs i h
+  where
+    over : (fs : List ℕ) (i : ℕ) → length fs ≤ i → are_there count (drop i fs) ≡ true
+    over [] zero h = refl
+    over [] (suc i) h = refl
+    over (m ∷ ms) zero h = absurd (omega arith)
+    over (m ∷ ms) (suc i) h = let less : length ms ≤ i = omega arith in over ms i less
+
+-- something that is named isn't there
+pub misses : {T : Type 0} (e : LineFault) (o : Option T) → e ≡ Wrong BadNumber → o ≡ None → Misses e o
+misses e o is none = subst (λ (x : LineFault). Misses x o) (sym is) (refl, none)
+
+pub misses_along : {T : Type 0} (e : LineFault) (o p : Option T) → o ≡ p → Misses e p → Misses e o
+misses_along e o p is h = subst (Misses e) (sym is) h

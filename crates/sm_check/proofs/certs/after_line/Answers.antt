@@ -1,0 +1,8 @@
+-- A line that closes the branch.
+use Rattle.sm_term.specs.Tables.{trees_in}
+use Rattle.sm_plan.specs.Views.{stores_in}
+use Rattle.sm_check.proofs.certs.after_line.Goals as goal
+
+pub returns-then-closes_branch-clause-tells : goal.returns-then-closes_branch-clause-tells
+returns-then-closes_branch-clause-tells c facts rest all sorted wait =
+    c.close.ensures.tells (stores_in (trees_in c.args.table.now) c.args.stores.value) c.args.splits facts rest all sorted wait

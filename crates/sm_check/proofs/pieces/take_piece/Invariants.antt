@@ -1,0 +1,15 @@
+use Rattle.std.proofs.Common.{◌≤◌, ◌+◌, ◌-◌, ◌++◌, ℕ, List, length, take}
+use Rattle.sm_proof.specs.Verdicts.{Subject}
+use Rattle.sm_check.specs.Pieces.{AreTaken}
+use Rattle.sm_check.proofs.pieces.take_piece.Given as goal
+
+abbrev pub invariant-loop-end : goal.invariant-loop-end
+invariant-loop-end l = record {
+  within : l.start ≤ length l.piece;
+  number : l.lines.number ≤ l.initial.lines.number + l.start;
+  taken : (s : Subject) (bytes : List ℕ) → AreTaken l.initial.lines l.initial.unfinished s bytes →
+      AreTaken l.lines l.unfinished s (bytes ++ take l.start l.piece);
+}
+
+abbrev pub decreases-loop-end : goal.decreases-loop-end
+decreases-loop-end l = length l.piece - l.start

@@ -1,0 +1,9 @@
+-- The formulas are put on an empty path.
+use Rattle.std.proofs.Common.{List, [], sym, subst}
+use Rattle.sm_theory.specs.declared.fact.Fact.{Fact}
+use Rattle.sm_theory.specs.Views.{AllStand}
+use Rattle.sm_check.proofs.start.branch_of.Goals as goal
+
+pub returns : goal.returns
+returns c = λ sorts trees ready.
+    c.in_ok-add_forms.ensures sorts trees [] (subst (λ (path : List Fact). AllStand sorts trees path []) (sym c.new.ensures.items) tt) ready

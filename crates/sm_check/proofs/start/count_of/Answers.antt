@@ -1,0 +1,13 @@
+-- The last name has the greatest number.
+use Rattle.std.proofs.Common.{◌≡◌, ℕ, ◌+◌, ◌-◌, length, slice_get, Some, List, sym, ap, ◌∙◌, subst}
+use Rattle.sm_syntax.specs.declared.tree.Name.{Name}
+use Rattle.sm_syntax.specs.declared.tree.Sort.{Sort}
+use Rattle.sm_check.proofs.StartLemmas.{counted}
+use Rattle.sm_check.proofs.start.count_of.Goals as goal
+
+pub returns-in-Some-clause-count : goal.returns-in-Some-clause-count
+returns-in-Some-clause-count c =
+    let d = c.in-Some.field-0.now in
+    let e =
+    subst (λ (l : List (Name × Sort)). slice_get l (length l - 1) ≡ Some d) c.deref.ensures.value (sym c.in-Some.ensures.value) in
+    ap (λ (n : ℕ). n + 1) c.from.ensures ∙ counted c.args.decls.now.list.items d c.requires e

@@ -1,0 +1,16 @@
+pub mod Checkable
+pub mod Checkers
+pub mod Errors
+pub mod Files
+pub mod Pieces
+pub mod Tells
+pub mod FormRows
+pub mod TermsMade
+pub mod LineKinds
+pub mod Pending
+pub mod Opened
+pub mod Kept
+pub mod Walks
+pub mod NodesTaken
+pub mod CertsTaken
+pub mod Laws

@@ -1,0 +1,65 @@
+-- Cited by private clauses alone: how far a file is taken by the pieces of it that were read.
+use Rattle.std.specs.Prelude.{◌≡◌, ◌<◌, ◌≤◌, ◌==◌, ℕ, Bool, true, false, length, Result, Ok, Err}
+use Rattle.std.specs.Prelude.{List, [], ◌∷◌}
+use Rattle.sm_proof.specs.declared.word.Word.{Word}
+use Rattle.sm_proof.specs.Verdicts.{Subject, Standing, Unopened, Underway, Reached, Refused, Before}
+use Rattle.sm_proof.specs.Verdicts.{reached, lines_in}
+use Rattle.sm_check.specs.declared.pieces.Stopped.{Stopped}
+use Rattle.sm_check.specs.declared.pieces.Stopped.TheVariants.{Wrong, Memory}
+use Rattle.sm_check.specs.declared.pieces.TakenLines.{TakenLines}
+use Rattle.sm_check.specs.declared.unfinished.Unfinished.{Unfinished}
+use Rattle.sm_check.specs.Checkers.{IsAt, state_of}
+
+-- no byte ends a line
+abbrev pub HasNoEnd : List ℕ → Type 0
+HasNoEnd [] = Unit {0}
+HasNoEnd (byte ∷ bytes) = (byte == 10 ≡ false) × HasNoEnd bytes
+
+-- how far the ended lines of a file come that has these bytes
+unfoldable pub reach : Subject → List ℕ → Reached
+reach s bytes = reached s 1 Unopened (lines_in bytes).ended
+
+-- whether a proof stands before its version line
+abbrev pub is_unopened : Standing → Bool
+is_unopened Unopened = true
+is_unopened (Underway p) = false
+
+-- so many lines were taken, and left the proof here
+pub record StandsAt (lines : TakenLines) (s : Subject) (at : Standing) : Type 0 where
+  pub is_at : IsAt lines.checker s (Ok at)
+  pub state : lines.state ≡ state_of at
+  pub counted : 0 < lines.number
+  pub first : is_unopened at ≡ (lines.number == 1)
+
+-- a line was taken, and left the proof here
+abbrev pub Takes : TakenLines → Subject → Result Standing Word → Type 0
+Takes lines s (Ok at) = StandsAt lines s at
+Takes lines s (Err w) = ⊥
+
+-- the line with this number was refused by its word, or memory was wanting
+abbrev pub RefusesAt : ℕ → Result Standing Word → Stopped → Type 0
+RefusesAt n after Memory = Unit {0}
+RefusesAt n (Ok at) (Wrong line word) = ⊥
+RefusesAt n (Err w) (Wrong line word) = (line ≡ n) × (word ≡ w)
+
+-- what is kept of the bytes behind the last end: all of them, or that no line has so many
+abbrev pub Keeps : Bool → List ℕ → List ℕ → Type 0
+Keeps true kept bytes = 4096 < length bytes
+Keeps false kept bytes = (kept ≡ bytes) × (length bytes ≤ 4096)
+
+-- these bytes are unfinished
+abbrev pub IsKept : Unfinished → List ℕ → Type 0
+IsKept unfinished bytes = Keeps unfinished.is_too_long unfinished.bytes.items bytes
+
+-- bytes of a file were taken: their ended lines were, and what is behind the last end is kept
+pub record AreTaken (lines : TakenLines) (unfinished : Unfinished) (s : Subject) (bytes : List ℕ)
+    : Type 0 where
+  pub at : Standing
+  pub stands : StandsAt lines s at
+  pub reached : reach s bytes ≡ Before lines.number at
+  pub kept : IsKept unfinished (lines_in bytes).rest
+
+-- bytes have a bad line, which is the first, or memory was wanting
+abbrev pub StopsIn : Subject → List ℕ → Stopped → Type 0
+StopsIn s bytes (Wrong line word) = reach s bytes ≡ Refused line word
+StopsIn s bytes Memory = Unit {0}

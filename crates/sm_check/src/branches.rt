@@ -1,0 +1,137 @@
+// A line of a certificate at the branch that is due.
+ghost use Rattle.std.specs.Prelude.{◌≡◌, ◌-◌, ◌^◌, suc, min, if◌then◌else◌, true, false, length, List};
+ghost use Rattle.std.specs.Prelude.{reverse, MatchOption, IfOk};
+ghost use Rattle.sm_term.specs.Tables.{trees_in, sorts_in, AreBefore};
+ghost use Rattle.sm_theory.specs.Facts.{BranchFact};
+ghost use Rattle.sm_theory.specs.SortedFacts.{AreFactsSorted};
+ghost use Rattle.sm_theory.specs.Views.{AllStand};
+ghost use Rattle.sm_plan.specs.Limits.{is_shallow};
+ghost use Rattle.sm_plan.specs.ReadyStates.{AreStoresReady};
+ghost use Rattle.sm_plan.specs.Views.{stores_in};
+ghost use Rattle.sm_proof.specs.declared.word.Word.TheVariants.{BadNumber};
+ghost use Rattle.sm_proof.specs.Lines.{Cert, numbered_line};
+ghost use Rattle.sm_proof.specs.Named.{found_or, named_line};
+ghost use Rattle.sm_proof.specs.Passing.{Pending, Progress, taken, after_line};
+ghost use Rattle.sm_check.specs.CertsTaken.{splits_above, pending_after, WalksIn};
+ghost use Rattle.sm_check.specs.Pending.{IsReadyIfDue, AreWaitingReady, AllWait, PendingStands};
+ghost use Rattle.sm_check.specs.Tells.{Tells};
+ghost use Rattle.sm_check.specs.Walks.{Walks, terms_in};
+
+use crate::certs::{after_line, splits_branch};
+use crate::due::facts_on;
+use crate::fault::LineFault;
+use crate::names::{head_of, named_line};
+use crate::pending::{Due, Waiting};
+use crate::walk::Walk;
+use sm_proof::Word;
+use sm_syntax::PerCopy;
+use sm_term::{SymStore, TermId, TermTable};
+use sm_theory::{Branch, CertLine};
+use std::alloc::Global;
+use std::rc::Rc;
+
+// How many splits stand above what a line opens, None where they are too many.
+fn splits_over(line: &CertLine, splits: u64) -> Option<u64>
+    ensures { let over = splits_above (numbered_line line.now) splits in
+        MatchOption result (is_shallow over ≡ false)
+        (λ n. (n ≡ over) × (is_shallow over ≡ true)) }
+{
+    let over = if splits_branch(line) {
+        splits.saturating_add(1)
+    } else {
+        splits
+    };
+    if over <= 1000 { Some(over) } else { None }
+}
+
+// What is due after a line, over the terms of lines, at a branch that was due. The path has its facts.
+pub(crate) fn line_at<'a>(
+    alloc: Global,
+    table: &TermTable,
+    terms: &[TermId],
+    path: &mut Branch,
+    waiting: &mut Vec<Waiting<'a>>,
+    stores: Rc<PerCopy<SymStore>>,
+    splits: u64,
+    line: &CertLine,
+) -> Result<Option<Due<'a>>, LineFault>
+    requires { AreBefore (length (trees_in table.now)) terms.now }
+    ensures tells { let sorts = sorts_in table.now in let trees = trees_in table.now in
+        (own : List BranchFact) (rest : List Pending) →
+        AllStand sorts trees path.old.list.items own → AreFactsSorted sorts own →
+        AllWait sorts trees own (length own) (reverse waiting.old.items) rest →
+        Tells (λ d ps. PendingStands sorts trees path.new.list.items d waiting.new.items ps) result
+        (pending_after sorts (terms_in trees terms.now) (stores_in trees stores.value) own
+        splits rest (numbered_line line.now)) }
+    ensures ready { let sorts = sorts_in table.now in let trees = trees_in table.now in
+        AreStoresReady sorts trees stores.value →
+        AreWaitingReady sorts trees waiting.old.items →
+        IfOk result (IsReadyIfDue sorts trees) }
+    ensures later { let sorts = sorts_in table.now in let trees = trees_in table.now in
+        AreStoresReady sorts trees stores.value →
+        AreWaitingReady sorts trees waiting.old.items →
+        AreWaitingReady sorts trees waiting.new.items }
+{
+    let count = facts_on(path) as u64;
+    let named = named_line(alloc, table, terms, count, line)?;
+    let over = match splits_over(line, splits) {
+        Some(over) => over,
+        None => return Err(LineFault::Wrong { word: Word::Deep }),
+    };
+    let head = head_of(line);
+    after_line(alloc, table, path, waiting, stores, over, &named, head)
+}
+
+// Takes a line at a branch that was due and whose stores are held apart.
+fn cert_at<'a>(
+    alloc: Global,
+    walk: &mut Walk<'a>,
+    stores: Rc<PerCopy<SymStore>>,
+    splits: u64,
+    line: &CertLine,
+) -> Result<(), LineFault>
+    requires { AreStoresReady (sorts_in walk.old.table) (trees_in walk.old.table) stores.value }
+    ensures tells { let sorts = sorts_in walk.old.table in
+        let held = stores_in (trees_in walk.old.table) stores.value in
+        let l = numbered_line line.now in
+        (p : Progress) (own : List BranchFact) (rest : List Pending) → WalksIn walk.old p own rest →
+        Tells (λ (_ : Unit {0}) (q : Progress). Walks walk.new q) result
+        (found_or (named_line p.terms (length own) l) BadNumber
+        (after_line sorts p held own splits rest l)) }
+    ensures sorts { sorts_in walk.new.table ≡ sorts_in walk.old.table }
+{
+    match line_at(
+        alloc,
+        &walk.table,
+        &walk.terms,
+        &mut walk.path,
+        &mut walk.waiting,
+        stores,
+        splits,
+        line,
+    ) {
+        Ok(due) => {
+            walk.due = due;
+            Ok(())
+        }
+        Err(fault) => Err(fault),
+    }
+}
+
+// Takes a line of a certificate. After an error nothing is known of what is pending.
+pub(crate) fn take_cert(
+    alloc: Global,
+    walk: &mut Walk<'_>,
+    line: &CertLine,
+) -> Result<(), LineFault>
+    ensures tells { (p : Progress) → Walks walk.old p →
+        Tells (λ (_ : Unit {0}) (q : Progress). Walks walk.new q) result
+        (taken (sorts_in walk.old.table) p (Cert (numbered_line line.now))) }
+    ensures sorts { sorts_in walk.new.table ≡ sorts_in walk.old.table }
+{
+    match walk.due.take() {
+        Some(Due::Branch { stores, splits }) => cert_at(alloc, walk, stores, splits, line),
+        Some(Due::State { .. }) => Err(LineFault::Wrong { word: Word::Order }),
+        None => Err(LineFault::Wrong { word: Word::Extra }),
+    }
+}

@@ -1,0 +1,33 @@
+// Why a line isn't taken.
+ghost use Rattle.std.specs.Prelude.{◌≡◌};
+ghost use Rattle.sm_check.specs.declared.fault.LineFault.TheVariants.{Memory};
+
+use sm_proof::Word;
+use std::alloc::{AllocError, AllocFailed};
+use thiserror::Error;
+
+/// Why a line isn't taken.
+#[derive(Clone, Copy, Debug, PartialEq, Eq, Error)]
+pub enum LineFault {
+    /// The line is bad.
+    #[error("the line is bad")]
+    Wrong { word: Word },
+    #[error("out of memory")]
+    Memory,
+}
+
+impl From<AllocError> for LineFault {
+    ghost from_gives = { λ _ e. e ≡ Memory };
+
+    fn from(_e: AllocError) -> LineFault {
+        LineFault::Memory
+    }
+}
+
+impl<T: Drop> From<AllocFailed<T>> for LineFault {
+    ghost from_gives = { λ _ e. e ≡ Memory };
+
+    fn from(_e: AllocFailed<T>) -> LineFault {
+        LineFault::Memory
+    }
+}

@@ -1,0 +1,29 @@
+//! The checker of proof files: it takes one line after another, and keeps nothing of what is done.
+//!
+//! Read `specs/Checkers.antt` first, then `specs/Walks.antt`, `specs/Pending.antt` and
+//! `specs/FormRows.antt`.
+#![tactic(auto)]
+
+mod branches;
+mod certs;
+mod checker;
+mod due;
+mod fault;
+mod forms;
+mod kept;
+mod laws;
+mod names;
+mod nodes;
+mod opened;
+mod pending;
+mod pieces;
+mod start;
+mod terms;
+mod unfinished;
+mod verifying;
+mod walk;
+
+pub use checker::{Checker, State};
+pub use fault::LineFault;
+pub use laws::spelled_is_checkable;
+pub use verifying::{CheckError, Checked, verify};

@@ -1,0 +1,201 @@
+// Proof files.
+ghost use Rattle.std.specs.Prelude.{◌≡◌, ◌+◌, ◌^◌, ◌<◌, ◌≤◌, ℕ, List, [], length, Ok};
+ghost use Rattle.std.specs.Prelude.{IfOk, IsErrOf};
+ghost use Rattle.sm_io.specs.Causes.{HasReadCause};
+ghost use Rattle.sm_io.specs.Files.{WhereHeld};
+ghost use Rattle.sm_proof.specs.Verdicts.{Subject, Unopened, Pass, subject_of, verdict};
+ghost use Rattle.sm_syntax.specs.claim.ConflictFree.{ConflictFree};
+ghost use Rattle.sm_syntax.specs.text.Parts.{task_of};
+ghost use Rattle.sm_text.specs.Tasks.{parts_of};
+ghost use Rattle.sm_check.specs.Checkable.{IsCheckable};
+ghost use Rattle.sm_check.specs.Checkers.{IsAt};
+ghost use Rattle.sm_check.specs.Errors.{check_error_of};
+ghost use Rattle.sm_check.specs.Files.{file_answer, verdict_of, TellsAnswer};
+ghost use Rattle.sm_check.specs.Pieces.{AreTaken};
+ghost use Rattle.sm_check.specs.declared.verifying.CheckError.TheVariants.{Memory as no_memory};
+
+use crate::checker::{Checker, State};
+use crate::pieces::{Stopped, TakenLines, take_piece};
+use crate::unfinished::Unfinished;
+use sm_io::{IoError, Shelf};
+use sm_par::Gate;
+use sm_proof::{Word, pass_is_free};
+use sm_task::{Task, fill_all};
+use std::alloc::{AllocError, Global};
+use std::thread::Threads;
+
+/// How many bytes a file may have.
+const LONGEST: u64 = 268435456;
+
+/// How many bytes a file is asked for at once.
+const PIECE: usize = 65536;
+
+/// The verdict on a proof file.
+#[derive(Clone, Copy, Debug, PartialEq, Eq)]
+pub enum Checked {
+    Pass,
+    /// The first bad line, from 1, and what is wrong with it.
+    Rejected { line: u64, word: Word },
+}
+
+/// Why there is no verdict.
+#[derive(Clone, Copy, Debug, PartialEq, Eq)]
+pub enum CheckError {
+    ReadFault,
+    TooLong,
+    Memory,
+}
+
+impl From<AllocError> for CheckError {
+    ghost from_gives = { λ _ e. e ≡ no_memory };
+
+    fn from(_e: AllocError) -> CheckError {
+        CheckError::Memory
+    }
+}
+
+impl From<IoError> for CheckError {
+    ghost from_gives = { λ error e. e ≡ check_error_of error };
+
+    fn from(error: IoError) -> CheckError {
+        match error {
+            IoError::Fault => CheckError::ReadFault,
+            IoError::Memory => CheckError::Memory,
+        }
+    }
+}
+
+/// Whether the proof file with a name passes for a task. It is read once, in pieces, and may have
+/// 268,435,456 bytes. A bad line that ended goes before a later fault and before too many bytes.
+/// The lines are checked in turn, with any number of workers.
+pub fn verify<R: Threads + Sync, G: Gate, H: Shelf>(
+    rt: &R,
+    alloc: Global,
+    gate: &G,
+    task: &Task,
+    shelf: &mut H,
+    name: &str,
+    workers: u32,
+) -> Result<Checked, CheckError>
+    requires checkable { IsCheckable (parts_of task.now) }
+    requires some { 0 < workers }
+    requires most { workers ≤ 64 }
+    ensures answer { WhereHeld (H.file shelf.old name.now) (λ bytes.
+        TellsAnswer result (file_answer 268435456 (subject_of (parts_of task.now)) bytes)) }
+
+    // Pass tells it of every shelf, whatever that holds.
+    ensures sound { result ≡ Ok Checked.Pass → ConflictFree (task_of (parts_of task.now)) }
+    ensures same { (other : List ℕ) → H.file shelf.new other ≡ H.file shelf.old other }
+    ensures cause { HasReadCause (H.file shelf.old name.now) (H.read_faults shelf.old)
+        (H.read_faults shelf.new) (IsErrOf result CheckError.ReadFault) }
+    ensures writes { H.write_faults shelf.new ≡ H.write_faults shelf.old }
+{
+    pass_is_free();
+    let programs = fill_all(alloc, task)?;
+    let checker = Checker::new(alloc, task, &programs)?;
+    check_file(alloc, checker, shelf, name, LONGEST)
+}
+
+// Whether a file passes, by a checker that took no line of it yet.
+fn check_file<H: Shelf>(
+    alloc: Global,
+    checker: Checker,
+    shelf: &mut H,
+    name: &str,
+    limit: u64,
+) -> Result<Checked, CheckError>
+    requires { limit + 1 < 2 ^ 64 }
+    ensures answer { (s : Subject) → IsAt checker.entry s (Ok Unopened) →
+        WhereHeld (H.file shelf.old name.now) (λ bytes.
+        TellsAnswer result (file_answer limit s bytes)) }
+    ensures sound { (s : Subject) → IsAt checker.entry s (Ok Unopened) →
+        result ≡ Ok Checked.Pass → (bytes : List ℕ) × (verdict s bytes ≡ Pass) }
+    ensures same { (other : List ℕ) → H.file shelf.new other ≡ H.file shelf.old other }
+    ensures cause { HasReadCause (H.file shelf.old name.now) (H.read_faults shelf.old)
+        (H.read_faults shelf.new) (IsErrOf result CheckError.ReadFault) }
+    ensures writes { H.write_faults shelf.new ≡ H.write_faults shelf.old }
+{
+    let mut piece = blank_piece(alloc)?;
+    let mut lines = TakenLines::new(checker);
+    let mut unfinished = Unfinished::new(alloc);
+    check_pieces(
+        alloc,
+        &mut lines,
+        &mut unfinished,
+        shelf,
+        name,
+        limit,
+        &mut piece,
+    )
+}
+
+// A function of its own, so that no proof computes a list of that many zeros.
+fn blank_piece(alloc: Global) -> Result<Vec<u8>, AllocError>
+    ensures { IfOk result (λ piece. 0 < length piece.items) }
+{
+    vec![in alloc; 0; PIECE]
+}
+
+// Whether a file passes of which nothing is read yet, in pieces as long as the one lent.
+fn check_pieces<H: Shelf>(
+    alloc: Global,
+    lines: &mut TakenLines,
+    unfinished: &mut Unfinished,
+    shelf: &mut H,
+    name: &str,
+    limit: u64,
+    piece: &mut [u8],
+) -> Result<Checked, CheckError>
+    requires some { 0 < length piece.old }
+    requires few { lines.old.number + limit < 2 ^ 64 }
+    ensures answer { (s : Subject) → AreTaken lines.old unfinished.old s [] →
+        WhereHeld (H.file shelf.old name.now) (λ bytes.
+        TellsAnswer result (file_answer limit s bytes)) }
+    ensures sound { (s : Subject) → AreTaken lines.old unfinished.old s [] →
+        result ≡ Ok Checked.Pass → (bytes : List ℕ) × (verdict s bytes ≡ Pass) }
+    ensures same { (other : List ℕ) → H.file shelf.new other ≡ H.file shelf.old other }
+    ensures cause { HasReadCause (H.file shelf.old name.now) (H.read_faults shelf.old)
+        (H.read_faults shelf.new) (IsErrOf result CheckError.ReadFault) }
+    ensures writes { H.write_faults shelf.new ≡ H.write_faults shelf.old }
+{
+    let mut place: u64 = 0;
+    loop {
+        let count = shelf.read_at(name, place, piece)?;
+        if count == 0 {
+            return Ok(at_end(lines, unfinished));
+        }
+        let taken = (count as u64).min(limit - place) as usize;
+        match take_piece(lines, unfinished, alloc, &piece[..taken]) {
+            Ok(()) => place += taken as u64,
+            Err(Stopped::Wrong { line, word }) => return Ok(Checked::Rejected { line, word }),
+            Err(Stopped::Memory) => return Err(CheckError::Memory),
+        }
+        if taken < count {
+            return Err(CheckError::TooLong);
+        }
+    }
+}
+
+// The verdict where a file ends.
+fn at_end(lines: &TakenLines, unfinished: &Unfinished) -> Checked
+    ensures { (s : Subject) (bytes : List ℕ) → AreTaken lines.now unfinished.now s bytes →
+        verdict s bytes ≡ verdict_of result }
+{
+    if !unfinished.is_empty() {
+        return missing(lines);
+    }
+    match lines.state {
+        State::Done => Checked::Pass,
+        State::More => missing(lines),
+    }
+}
+
+// The next line is missing, or has no end.
+fn missing(lines: &TakenLines) -> Checked
+    ensures { result ≡ Checked.Rejected lines.now.number Word.Truncated }
+{
+    Checked::Rejected {
+        line: lines.number,
+        word: Word::Truncated,
+    }
+}
