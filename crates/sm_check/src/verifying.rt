@@ -1,8 +1,8 @@
 // Proof files.
-ghost use Rattle.std.specs.Prelude.{◌≡◌, ◌+◌, ◌^◌, ◌<◌, ◌≤◌, ℕ, List, [], length, Ok};
+ghost use Rattle.std.specs.Prelude.{◌≡◌, ◌+◌, ◌^◌, ◌<◌, ◌≤◌, ◌⊎◌, ℕ, List, [], length, Ok};
 ghost use Rattle.std.specs.Prelude.{IfOk, IsErrOf};
 ghost use Rattle.sm_io.specs.Causes.{HasReadCause};
-ghost use Rattle.sm_io.specs.Files.{WhereHeld};
+ghost use Rattle.sm_io.specs.Files.{absent, WhereHeld};
 ghost use Rattle.sm_proof.specs.Verdicts.{Subject, Unopened, Pass, subject_of, verdict};
 ghost use Rattle.sm_syntax.specs.claim.ConflictFree.{ConflictFree};
 ghost use Rattle.sm_syntax.specs.text.Parts.{task_of};
@@ -85,6 +85,8 @@ pub fn verify<R: Threads + Sync, G: Gate, H: Shelf>(
 
     // Pass tells it of every shelf, whatever that holds.
     ensures sound { result ≡ Ok Checked.Pass → ConflictFree (task_of (parts_of task.now)) }
+    ensures absent { H.file shelf.old name.now ≡ absent →
+        IsErrOf result CheckError.ReadFault ⊎ IsErrOf result CheckError.Memory }
     ensures same { (other : List ℕ) → H.file shelf.new other ≡ H.file shelf.old other }
     ensures cause { HasReadCause (H.file shelf.old name.now) (H.read_faults shelf.old)
         (H.read_faults shelf.new) (IsErrOf result CheckError.ReadFault) }
@@ -110,6 +112,8 @@ fn check_file<H: Shelf>(
         TellsAnswer result (file_answer limit s bytes)) }
     ensures sound { (s : Subject) → IsAt checker.entry s (Ok Unopened) →
         result ≡ Ok Checked.Pass → (bytes : List ℕ) × (verdict s bytes ≡ Pass) }
+    ensures absent { H.file shelf.old name.now ≡ absent →
+        IsErrOf result CheckError.ReadFault ⊎ IsErrOf result CheckError.Memory }
     ensures same { (other : List ℕ) → H.file shelf.new other ≡ H.file shelf.old other }
     ensures cause { HasReadCause (H.file shelf.old name.now) (H.read_faults shelf.old)
         (H.read_faults shelf.new) (IsErrOf result CheckError.ReadFault) }
@@ -153,6 +157,8 @@ fn check_pieces<H: Shelf>(
         TellsAnswer result (file_answer limit s bytes)) }
     ensures sound { (s : Subject) → AreTaken lines.old unfinished.old s [] →
         result ≡ Ok Checked.Pass → (bytes : List ℕ) × (verdict s bytes ≡ Pass) }
+    ensures absent { H.file shelf.old name.now ≡ absent →
+        IsErrOf result CheckError.ReadFault ⊎ IsErrOf result CheckError.Memory }
     ensures same { (other : List ℕ) → H.file shelf.new other ≡ H.file shelf.old other }
     ensures cause { HasReadCause (H.file shelf.old name.now) (H.read_faults shelf.old)
         (H.read_faults shelf.new) (IsErrOf result CheckError.ReadFault) }
