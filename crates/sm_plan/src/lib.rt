@@ -39,6 +39,7 @@ mod steps;
 mod successors;
 mod summaries;
 mod targets;
+mod turns;
 
 pub use laws::{
     cases_come_out, example_holds, node_is_sound, nodes_are_plans, nodes_are_sound, plan_is_sound,

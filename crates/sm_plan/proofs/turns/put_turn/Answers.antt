@@ -15,7 +15,7 @@ use Rattle.sm_plan.specs.ReadyStates.{AreFormsReady, AreSuccessorsReady}
 use Rattle.sm_plan.specs.States.{State}
 use Rattle.sm_plan.specs.Views.{rest_code, forms_in, stores_in, successor_in}
 use Rattle.sm_plan.proofs.TurnsMade.{successors_push}
-use Rattle.sm_plan.proofs.loops.put_turn.Goals as goal
+use Rattle.sm_plan.proofs.turns.put_turn.Goals as goal
 
 pub returns-in_ok-push-clause-made : goal.returns-in_ok-push-clause-made
 returns-in_ok-push-clause-made c = λ (sorts : Sorts) (trees : List Tree) (facts : List Assertion).

@@ -11,7 +11,7 @@ use Rattle.sm_plan.specs.LoopHeads.{IsHeadReady}
 use Rattle.sm_plan.specs.Masks.{set_of}
 use Rattle.sm_plan.specs.ReadyStates.{AreFormsReady, AreSuccessorsReady}
 use Rattle.sm_plan.specs.Views.{rest_code, forms_in, stores_in, successor_in}
-use Rattle.sm_plan.proofs.loops.turns.Given as goal
+use Rattle.sm_plan.proofs.turns.turns.Given as goal
 
 abbrev pub invariant-loop-smaller : goal.invariant-loop-smaller
 invariant-loop-smaller l = record {

@@ -11,7 +11,7 @@ use Rattle.sm_plan.specs.LoopHeads.{IsHeadReady}
 use Rattle.sm_plan.specs.Masks.{set_of}
 use Rattle.sm_plan.specs.Views.{rest_code, forms_in, stores_in}
 use Rattle.sm_plan.proofs.TurnsMade.{passed_ready}
-use Rattle.sm_plan.proofs.loops.after_loops.Goals as goal
+use Rattle.sm_plan.proofs.turns.after_loops.Goals as goal
 
 pub returns-clause-made : goal.returns-clause-made
 returns-clause-made c = λ (sorts : Sorts) (trees : List Tree) (facts : List Assertion).

@@ -13,7 +13,7 @@ use Rattle.sm_plan.specs.Masks.{set_of}
 use Rattle.sm_plan.specs.States.{State}
 use Rattle.sm_plan.specs.Views.{rest_code, forms_in, stores_in, successor_in}
 use Rattle.sm_plan.proofs.TurnsMade.{filter_push}
-use Rattle.sm_plan.proofs.loops.turns.Goals as goal
+use Rattle.sm_plan.proofs.turns.turns.Goals as goal
 
 pub loop-smaller-preserved : goal.loop-smaller-preserved
 loop-smaller-preserved c = record {

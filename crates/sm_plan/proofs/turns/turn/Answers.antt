@@ -15,7 +15,7 @@ use Rattle.sm_plan.specs.ReadyStates.{AreFormsReady, IsStoreReady}
 use Rattle.sm_plan.specs.Views.{rest_code, forms_in, stores_in}
 use Rattle.sm_plan.proofs.RenewedStores.{store_alike}
 use Rattle.sm_plan.proofs.TurnsMade.{same_store_ready, same_store_full, bodies_ready}
-use Rattle.sm_plan.proofs.loops.turn.Goals as goal
+use Rattle.sm_plan.proofs.turns.turn.Goals as goal
 
 pub returns-clause-made : goal.returns-clause-made
 returns-clause-made c = λ (sorts : Sorts) (trees : List Tree) (facts : List Assertion).
