@@ -1,11 +1,9 @@
 // A term with the present terms of names in place of its slots.
-ghost use Rattle.std.specs.Prelude.{◌≡◌, ◌<◌, ◌⊎◌, length, IsTrue, Some, None, nat_eq, slice_get};
+ghost use Rattle.std.specs.Prelude.{◌≡◌, ◌<◌, ◌⊎◌, length, Some, None, nat_eq, slice_get};
 ghost use Rattle.std.specs.Prelude.{IfOk, IfErr};
 ghost use Rattle.std.specs.HashMap.{get};
-ghost use Rattle.sm_term.specs.Fitting.{term_fits};
 ghost use Rattle.sm_term.specs.Slots.{fill_term};
-ghost use Rattle.sm_term.specs.Tables.{trees_in, sorts_in, codes_in, tree_at, tree_in};
-ghost use Rattle.sm_term.specs.Tables.{IsTermWithin};
+ghost use Rattle.sm_term.specs.Tables.{trees_in, sorts_in, tree_at};
 ghost use Rattle.sm_term.specs.TableLaws.{Grows};
 ghost use Rattle.sm_syntax.specs.claim.ConflictFree.{copy_of};
 ghost use Rattle.sm_syntax.specs.trees.Copies.{of_copy};
@@ -14,8 +12,9 @@ ghost use Rattle.sm_plan.specs.Filling.{IsSummary, at_name};
 ghost use Rattle.sm_plan.specs.ReadyStates.{AreStoresReady};
 ghost use Rattle.sm_plan.specs.Views.{stores_in};
 
+use crate::steps::made;
 use sm_syntax::{CopyName, Name, Outputs, PerCopy, copy_outputs};
-use sm_term::{BodyId, SymStore, Term, TermError, TermId, TermTable, Terms};
+use sm_term::{BodyId, SymStore, Term, TermId, TermTable, Terms};
 use std::alloc::{AllocError, Global};
 use std::collections::HashMap;
 
@@ -102,7 +101,8 @@ fn summary(
 
 // What a copy has at a name.
 fn at_slot(stores: &PerCopy<SymStore>, copy: u8, name: Name) -> Filling
-    ensures { result ≡ at_name (slice_get (of_copy stores.now (copy_of copy)).list.items name.0) name }
+    ensures { result
+        ≡ at_name (slice_get (of_copy stores.now (copy_of copy)).list.items name.0) name }
 {
     let store = stores.get(CopyName::of_number(copy));
     match store.list.get(name.0 as usize) {
@@ -121,7 +121,8 @@ fn filling_of(
 ) -> Result<Filling, AllocError>
     requires inside { t.0 < length (trees_in table.now) }
     requires stores { AreStoresReady (sorts_in table.now) (trees_in table.now) stores.now }
-    requires known { AreKnown table.now (stores_in (trees_in table.now) stores.now) (get nat_eq known.now) }
+    requires known { AreKnown table.now (stores_in (trees_in table.now) stores.now)
+        (get nat_eq known.now) }
     ensures { let s = stores_in (trees_in table.now) stores.now in
         IfOk result (λ f. IsFilling table.now s (get nat_eq known.now) t.0 f) }
 {
@@ -169,22 +170,6 @@ fn filling_of(
     }
 }
 
-// Puts a term in, which fits.
-fn put(table: &mut TermTable, t: Term) -> Result<TermId, AllocError>
-    requires within { let n = length (trees_in table.old) in
-        IsTermWithin (sorts_in table.old) (length (codes_in table.old)) n t }
-    requires fits { IsTrue (term_fits (sorts_in table.old) (trees_in table.old) t) }
-    ensures stored { let tree = tree_in (codes_in table.old) (trees_in table.old) t in
-        IfOk result (λ id. slice_get (trees_in table.new) id.0 ≡ Some tree) }
-    ensures grows { Grows table.old table.new }
-{
-    match table.intern(t) {
-        Ok(id) => Ok(id),
-        Err(TermError::Memory) => Err(AllocError),
-        Err(TermError::WrongSort) => unreachable!(),
-    }
-}
-
 // The number of a term with its slots replaced, from those of its parts.
 fn number_of(
     alloc: Global,
@@ -195,14 +180,15 @@ fn number_of(
 ) -> Result<Found, AllocError>
     requires inside { t.0 < length (trees_in table.old) }
     requires stores { AreStoresReady (sorts_in table.old) (trees_in table.old) stores.now }
-    requires known { AreKnown table.old (stores_in (trees_in table.old) stores.now) (get nat_eq known.now) }
+    requires known { AreKnown table.old (stores_in (trees_in table.old) stores.now)
+        (get nat_eq known.now) }
     ensures number { let s = stores_in (trees_in table.new) stores.now in
         IfOk result (λ f. IsFound table.new s (get nat_eq known.now) t.0 f) }
     ensures grows { Grows table.old table.new }
 {
     match filling_of(alloc, table, stores, known, t)? {
         Filling::There(id) => Ok(Found::Number(id)),
-        Filling::Made(term) => Ok(Found::Number(put(table, term)?)),
+        Filling::Made(term) => Ok(Found::Number(made(table, term)?)),
         Filling::Part(p) => Ok(Found::Part(p)),
     }
 }
@@ -218,9 +204,11 @@ pub(crate) fn filled_term(
 ) -> Result<TermId, AllocError>
     requires inside { t.0 < length (trees_in table.old) }
     requires stores { AreStoresReady (sorts_in table.old) (trees_in table.old) stores.now }
-    requires known { AreKnown table.old (stores_in (trees_in table.old) stores.now) (get nat_eq known.old) }
+    requires known { AreKnown table.old (stores_in (trees_in table.old) stores.now)
+        (get nat_eq known.old) }
     ensures made { let trees = trees_in table.old in let s = stores_in trees stores.now in
-        IfOk result (λ id. slice_get (trees_in table.new) id.0 ≡ Some (fill_term s (tree_at trees t.0))) }
+        IfOk result (λ id.
+        slice_get (trees_in table.new) id.0 ≡ Some (fill_term s (tree_at trees t.0))) }
     ensures known { let s = stores_in (trees_in table.new) stores.now in
         IfOk result (λ _. AreKnown table.new s (get nat_eq known.new)) }
     ensures grows { Grows table.old table.new }
@@ -241,10 +229,12 @@ fn walked(
 ) -> Result<TermId, AllocError>
     requires inside { t.0 < length (trees_in table.old) }
     requires stores { AreStoresReady (sorts_in table.old) (trees_in table.old) stores.now }
-    requires known { AreKnown table.old (stores_in (trees_in table.old) stores.now) (get nat_eq known.old) }
+    requires known { AreKnown table.old (stores_in (trees_in table.old) stores.now)
+        (get nat_eq known.old) }
     requires open { get nat_eq known.old t.0 ≡ None }
     ensures made { let trees = trees_in table.old in let s = stores_in trees stores.now in
-        IfOk result (λ id. slice_get (trees_in table.new) id.0 ≡ Some (fill_term s (tree_at trees t.0))) }
+        IfOk result (λ id.
+        slice_get (trees_in table.new) id.0 ≡ Some (fill_term s (tree_at trees t.0))) }
     ensures known { let s = stores_in (trees_in table.new) stores.now in
         IfOk result (λ _. AreKnown table.new s (get nat_eq known.new)) }
     ensures grows { Grows table.old table.new }

@@ -18,7 +18,7 @@ ghost use Rattle.sm_plan.specs.Views.{rest_code};
 
 use crate::rest::Rest;
 use sm_syntax::{Expr, Name, Stmt};
-use sm_term::{SymStore, Term, TermId, TermTable, term_of};
+use sm_term::{SymStore, Term, TermError, TermId, TermTable, term_of};
 use std::alloc::AllocError;
 
 // Does the next statement of a copy, where that is skip or an assignment.
@@ -119,6 +119,7 @@ pub(crate) fn made(table: &mut TermTable, t: Term) -> Result<TermId, AllocError>
 {
     match table.intern(t) {
         Ok(id) => Ok(id),
-        Err(_) => Err(AllocError),
+        Err(TermError::Memory) => Err(AllocError),
+        Err(TermError::WrongSort) => unreachable!(),
     }
 }
