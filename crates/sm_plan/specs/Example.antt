@@ -40,7 +40,9 @@ example_task = record {
   assumed = None;
   outputs = (x, Num) ∷ [];
   shared = loop_with (Hole 1 (Assign i (Plus (Var i) (syntax.Lit (pos 1))) End));
-  fillings = by_copy ((1, increments 1) ∷ []) ((1, increments 2) ∷ []) ((1, increments 1) ∷ []) ((1, increments 2) ∷ []);
+  fillings =
+      by_copy ((1, increments 1) ∷ []) ((1, increments 2) ∷ []) ((1, increments 1) ∷ [])
+      ((1, increments 2) ∷ []);
 }
 
 -- A and the candidate
@@ -77,14 +79,12 @@ base_loop =
 -- the summary of a name after the loop of the base, which is that of B
 abbrev pub loop_summary : ℕ → Tree
 loop_summary y =
-    Fun base_loop y
-    (Given i (Start i) (Given n (Start n) (Given x (Start x) term.Over)))
+    Fun base_loop y (Given i (Start i) (Given n (Start n) (Given x (Start x) term.Over)))
 
 -- the same for i, which doesn't need x
 abbrev pub counted : Tree
 counted =
-    Fun base_loop i
-    (Given i (Start i) (Given n (Start n) term.Over))
+    Fun base_loop i (Given i (Start i) (Given n (Start n) term.Over))
 
 -- the facts after both summaries, and then those of the loops, with what is said of two guards
 abbrev pub facts_with : List Assertion → List Assertion

@@ -36,7 +36,8 @@ IsOpenPart known n p = (p < n) × (known p ≡ None)
 
 -- term n with its slots replaced: a number that has it, or a term that may be put in, or a part
 -- that isn't known
-abbrev pub IsFilling : TableValue → (Copy → SymbolicStore) → (ℕ → Option TermId) → ℕ → Filling → Type 0
+abbrev pub IsFilling : TableValue → (Copy → SymbolicStore) → (ℕ → Option TermId) → ℕ → Filling →
+    Type 0
 IsFilling v s known n (There id) = IsFilled v s n id
 IsFilling v s known n (Made t) =
     IsTermWithin (sorts_in v) (length (codes_in v)) (length (trees_in v)) t

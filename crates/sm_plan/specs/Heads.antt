@@ -1,6 +1,7 @@
 -- Private: stores in which some names have new values, and the turns of loops from what their head
 -- has.
-use Rattle.std.specs.Prelude.{ℕ, Bool, true, false, if◌then◌else◌, Option, Some, None, option_map, IfSome}
+use Rattle.std.specs.Prelude.{ℕ, Bool, true, false, if◌then◌else◌}
+use Rattle.std.specs.Prelude.{Option, Some, None, option_map, IfSome}
 use Rattle.std.specs.Prelude.{List, [], ◌∷◌, ◌++◌}
 use Rattle.std.specs.List.{flat_map}
 use Rattle.sm_syntax.specs.declared.copies.PerCopy.{PerCopy}
@@ -41,7 +42,8 @@ abbrev pub turned_guards : (Copy → Option Assertion) → Copies → List Asser
 turned_guards guards turning = flat_map (λ (c : Copy). turned (guards c) (has turning c)) copies
 
 -- one turn of the loops of some copies, from stores, kept facts, guards and a target
-abbrev pub turn_of : (Copy → Code) → List Assertion → (Copy → SymbolicStore) → List Assertion → (Copy → Option Assertion) → List Assertion → Copies → State
+abbrev pub turn_of : (Copy → Code) → List Assertion → (Copy → SymbolicStore) → List Assertion →
+    (Copy → Option Assertion) → List Assertion → Copies → State
 turn_of rest facts stores kept guards target turning = record {
   rest = bodies_of turning rest;
   stores = stores;
@@ -60,7 +62,8 @@ abbrev pub AreGuardsReady : Sorts → List Tree → PerCopy (Option Formula) →
 AreGuardsReady sorts trees guards = (c : Copy) → IfSome (of_copy guards c) (IsFormReady sorts trees)
 
 -- what comes after the loops of a set, from the same
-abbrev pub after_of : (Copy → Code) → List Assertion → (Copy → SymbolicStore) → List Assertion → (Copy → Option Assertion) → List Assertion → Bool → Copies → State
+abbrev pub after_of : (Copy → Code) → List Assertion → (Copy → SymbolicStore) → List Assertion →
+    (Copy → Option Assertion) → List Assertion → Bool → Copies → State
 after_of rest facts stores kept guards target final set = record {
   rest = λ (c : Copy). if has set c then rest_after 1 (rest c) else rest c;
   stores = stores;

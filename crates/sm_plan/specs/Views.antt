@@ -1,5 +1,5 @@
--- Cited by public clauses: the states and nodes that those of the program stand for, by the trees of
--- a table's numbers. The facts of a state stand with whoever holds it.
+-- Cited by public clauses: the states and nodes that those of the program stand for, by the trees
+-- of a table's numbers. The facts of a state stand with whoever holds it.
 use Rattle.std.specs.Prelude.{nat_le, if◌then◌else◌, List, [], ◌∷◌, ◌++◌, map}
 use Rattle.sm_syntax.specs.claim.Syntax.{Code, End}
 use Rattle.sm_syntax.specs.claim.ConflictFree.{Copy}
@@ -75,7 +75,8 @@ abbrev pub successor_in : Sorts → List Tree → List Assertion → Successor �
 successor_in sorts trees facts next =
     state_in sorts trees
     (facts
-    ++ (forms_in sorts trees next.kept.value.list.items ++ forms_in sorts trees next.more.list.items))
+    ++ (forms_in sorts trees next.kept.value.list.items
+    ++ forms_in sorts trees next.more.list.items))
     next.state
 
 -- what a node opens at a state with these facts

@@ -30,7 +30,8 @@ use std::rc::Rc;
 
 // Whether each copy has so many statements left.
 fn are_long(rests: &PerCopy<Rest<'_>>, counts: &PerCopy<u64>) -> bool
-    ensures { result ≡ each (λ c. is_long (of_copy counts.now c) (rest_code (of_copy rests.now c))) }
+    ensures { result
+        ≡ each (λ c. is_long (of_copy counts.now c) (rest_code (of_copy rests.now c))) }
 {
     let base = rests.base.is_long(counts.base);
     let variant_a = rests.variant_a.is_long(counts.variant_a);
@@ -67,8 +68,8 @@ fn pass(rests: &mut PerCopy<Rest<'_>>, counts: &PerCopy<u64>)
     rests.candidate.drop_front(counts.candidate);
 }
 
-/// What a block with a number opens at a state: the block alone, which ends with a formula, and what
-/// comes after it, where the formula holds and the names that it assigns have new values.
+/// What a block with a number opens at a state: the block alone, which ends with a formula, and
+/// what comes after it, where the formula holds and the names that it assigns have new values.
 pub(crate) fn open_block<'a>(
     alloc: Global,
     table: &mut TermTable,

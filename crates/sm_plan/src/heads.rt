@@ -63,7 +63,8 @@ fn body_in<'a>(
     copy: CopyName,
 ) -> Result<Rest<'a>, AllocError>
     ensures { IfOk result (λ r. rest_code r
-        ≡ (if plain.has (set_of mask) (copy_named copy) then loop_body (rest_code rest.now) else End)) }
+        ≡ (if plain.has (set_of mask) (copy_named copy) then loop_body (rest_code rest.now)
+        else End)) }
 {
     if has(mask, copy) {
         body_of(alloc, rest)
@@ -79,7 +80,8 @@ pub(crate) fn bodies<'a>(
     mask: u8,
 ) -> Result<PerCopy<Rest<'a>>, AllocError>
     ensures { (c : Copy) → IfOk result (λ p. rest_code (of_copy p c)
-        ≡ (if plain.has (set_of mask) c then loop_body (rest_code (of_copy rests.now c)) else End)) }
+        ≡ (if plain.has (set_of mask) c then loop_body (rest_code (of_copy rests.now c))
+        else End)) }
 {
     Ok(PerCopy {
         base: body_in(alloc, &rests.base, mask, CopyName::O)?,
@@ -121,7 +123,8 @@ pub(crate) fn guard(
 fn fact(alloc: Global, f: &Formula, is_true: bool) -> Result<Formula, AllocError>
     ensures made { (sorts : Sorts) (trees : List Tree) →
         let form = assertion_in sorts trees (numbered f.now) in IfOk result (λ g.
-        assertion_in sorts trees (numbered g) ≡ (if is_true then form else assertions.negate form)) }
+        assertion_in sorts trees (numbered g)
+        ≡ (if is_true then form else assertions.negate form)) }
     ensures ready { (sorts : Sorts) (trees : List Tree) →
         IsFormReady sorts trees f.now → IfOk result (IsFormReady sorts trees) }
 {

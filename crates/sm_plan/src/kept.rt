@@ -1,5 +1,6 @@
 // Formulas that nodes keep.
-ghost use Rattle.std.specs.Prelude.{◌≡◌, ◌+◌, ◌<◌, ◌≤◌, ◌⊎◌, ◌++◌, List, map, max, MatchOption, IfOk, OnOk};
+ghost use Rattle.std.specs.Prelude.{◌≡◌, ◌+◌, ◌<◌, ◌≤◌, ◌⊎◌, ◌++◌, List, map, max};
+ghost use Rattle.std.specs.Prelude.{MatchOption, IfOk, OnOk};
 ghost use Rattle.sm_syntax.specs.text.Sorts.{Sorts};
 ghost use Rattle.sm_term.specs.Assertions.{conj};
 ghost use Rattle.sm_term.specs.Formulas.{numbered, assertion_in};
@@ -43,7 +44,8 @@ fn nodes_left(f: &Formula, depth: u64, nodes: u64) -> Option<u64>
 #[cycle(count)]
 fn both_left(p: &Formula, q: &Formula, depth: u64, nodes: u64) -> Option<u64>
     ensures { let first = numbered p.now in let second = numbered q.now in MatchOption result
-        ((nodes < nodes_in first + nodes_in second) ⊎ (depth < max (depth_in first) (depth_in second)))
+        ((nodes < nodes_in first + nodes_in second)
+        ⊎ (depth < max (depth_in first) (depth_in second)))
         (λ left. (nodes_in first + nodes_in second + left ≡ nodes)
         × (max (depth_in first) (depth_in second) ≤ depth)) }
 {

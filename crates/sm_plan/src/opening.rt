@@ -57,7 +57,8 @@ pub fn open<'a>(
 
     // The stores that stand beside goals are those of the state; where there is none, any stand.
     ensures stores { IfOk result (λ o. IfSome o (λ p. (p.goals.list.items ≡ [])
-        ⊎ (stores_in (trees_in table.new) p.stores ≡ stores_in (trees_in table.old) state.entry.stores))) }
+        ⊎ (stores_in (trees_in table.new) p.stores
+        ≡ stores_in (trees_in table.old) state.entry.stores))) }
 
     // What is opened can be gone on from.
     ensures ready { IfOk result (λ o. IfSome o (λ p.

@@ -11,7 +11,8 @@ ghost use Rattle.sm_term.specs.SymStores.{store_in, IsStoreWithin};
 ghost use Rattle.sm_term.specs.Tables.{trees_in, sorts_in};
 ghost use Rattle.sm_term.specs.TableLaws.{Grows};
 ghost use Rattle.sm_plan.specs.Heads.{with_new};
-ghost use Rattle.sm_plan.specs.ReadyStates.{IsStoreReady, IsStoreFull, AreStoresReady, AreStoresFull};
+ghost use Rattle.sm_plan.specs.ReadyStates.{IsStoreReady, IsStoreFull};
+ghost use Rattle.sm_plan.specs.ReadyStates.{AreStoresReady, AreStoresFull};
 ghost use Rattle.sm_plan.specs.Successors.{renewed};
 ghost use Rattle.sm_plan.specs.Views.{rest_code, stores_in};
 
@@ -86,7 +87,8 @@ pub(crate) fn renewed_stores(
     done: &PerCopy<Rest<'_>>,
     stores: &PerCopy<SymStore>,
 ) -> Result<PerCopy<SymStore>, AllocError>
-    requires done { (c : Copy) → IsWellSorted (sorts_in table.old) (rest_code (of_copy done.now c)) }
+    requires done { (c : Copy) →
+        IsWellSorted (sorts_in table.old) (rest_code (of_copy done.now c)) }
     requires ready { AreStoresReady (sorts_in table.old) (trees_in table.old) stores.now }
     requires full { AreStoresFull (sorts_in table.old) stores.now }
     ensures made { let old = stores_in (trees_in table.old) stores.now in

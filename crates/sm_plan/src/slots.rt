@@ -29,10 +29,13 @@ fn filled_terms(
     requires first { t.0 < length (trees_in table.old) }
     requires second { u.0 < length (trees_in table.old) }
     requires stores { AreStoresReady (sorts_in table.old) (trees_in table.old) stores.now }
-    requires known { AreKnown table.old (stores_in (trees_in table.old) stores.now) (get nat_eq known.old) }
-    ensures first { let trees = trees_in table.old in let s = stores_in trees stores.now in IfOk result (λ p.
+    requires known { AreKnown table.old (stores_in (trees_in table.old) stores.now)
+        (get nat_eq known.old) }
+    ensures first { let trees = trees_in table.old in
+        let s = stores_in trees stores.now in IfOk result (λ p.
         slice_get (trees_in table.new) p.0.0 ≡ Some (fill_term s (tree_at trees t.0))) }
-    ensures second { let trees = trees_in table.old in let s = stores_in trees stores.now in IfOk result (λ p.
+    ensures second { let trees = trees_in table.old in
+        let s = stores_in trees stores.now in IfOk result (λ p.
         slice_get (trees_in table.new) p.1.0 ≡ Some (fill_term s (tree_at trees u.0))) }
     ensures known { let s = stores_in (trees_in table.new) stores.now in
         IfOk result (λ _. AreKnown table.new s (get nat_eq known.new)) }
@@ -54,10 +57,13 @@ fn filled_form(
 ) -> Result<Formula, AllocError>
     requires form { IsFormReady (sorts_in table.old) (trees_in table.old) f.now }
     requires stores { AreStoresReady (sorts_in table.old) (trees_in table.old) stores.now }
-    requires known { AreKnown table.old (stores_in (trees_in table.old) stores.now) (get nat_eq known.old) }
-    ensures made { let sorts = sorts_in table.old in let trees = trees_in table.old in IfOk result (λ g.
+    requires known { AreKnown table.old (stores_in (trees_in table.old) stores.now)
+        (get nat_eq known.old) }
+    ensures made { let sorts = sorts_in table.old in
+        let trees = trees_in table.old in IfOk result (λ g.
         assertion_in (sorts_in table.new) (trees_in table.new) (numbered g)
-        ≡ plain.at_stores (stores_in trees stores.now) (assertion_in sorts trees (numbered f.now))) }
+        ≡ plain.at_stores (stores_in trees stores.now)
+        (assertion_in sorts trees (numbered f.now))) }
     ensures within { IfOk result (λ g. IsFormulaWithin (length (trees_in table.new)) (numbered g)) }
     ensures known { let s = stores_in (trees_in table.new) stores.now in
         IfOk result (λ _. AreKnown table.new s (get nat_eq known.new)) }
@@ -106,15 +112,21 @@ fn filled_parts(
     requires first { IsFormReady (sorts_in table.old) (trees_in table.old) p.now }
     requires second { IsFormReady (sorts_in table.old) (trees_in table.old) q.now }
     requires stores { AreStoresReady (sorts_in table.old) (trees_in table.old) stores.now }
-    requires known { AreKnown table.old (stores_in (trees_in table.old) stores.now) (get nat_eq known.old) }
-    ensures first { let sorts = sorts_in table.old in let trees = trees_in table.old in IfOk result (λ g.
+    requires known { AreKnown table.old (stores_in (trees_in table.old) stores.now)
+        (get nat_eq known.old) }
+    ensures first { let sorts = sorts_in table.old in
+        let trees = trees_in table.old in IfOk result (λ g.
         assertion_in (sorts_in table.new) (trees_in table.new) (numbered g.0.value)
-        ≡ plain.at_stores (stores_in trees stores.now) (assertion_in sorts trees (numbered p.now))) }
-    ensures second { let sorts = sorts_in table.old in let trees = trees_in table.old in IfOk result (λ g.
+        ≡ plain.at_stores (stores_in trees stores.now)
+        (assertion_in sorts trees (numbered p.now))) }
+    ensures second { let sorts = sorts_in table.old in
+        let trees = trees_in table.old in IfOk result (λ g.
         assertion_in (sorts_in table.new) (trees_in table.new) (numbered g.1.value)
-        ≡ plain.at_stores (stores_in trees stores.now) (assertion_in sorts trees (numbered q.now))) }
+        ≡ plain.at_stores (stores_in trees stores.now)
+        (assertion_in sorts trees (numbered q.now))) }
     ensures within { let count = length (trees_in table.new) in
-        IfOk result (λ g. IsFormulaWithin count (numbered g.0.value) × IsFormulaWithin count (numbered g.1.value)) }
+        IfOk result (λ g. IsFormulaWithin count (numbered g.0.value)
+        × IsFormulaWithin count (numbered g.1.value)) }
     ensures known { let s = stores_in (trees_in table.new) stores.now in
         IfOk result (λ _. AreKnown table.new s (get nat_eq known.new)) }
     ensures grows { Grows table.old table.new }
@@ -136,7 +148,8 @@ pub(crate) fn at_stores(
 ) -> Result<Formulas, AllocError>
     requires forms { AreFormsReady (sorts_in table.old) (trees_in table.old) forms.now }
     requires stores { AreStoresReady (sorts_in table.old) (trees_in table.old) stores.now }
-    ensures made { let sorts = sorts_in table.old in let trees = trees_in table.old in IfOk result (λ fs.
+    ensures made { let sorts = sorts_in table.old in
+        let trees = trees_in table.old in IfOk result (λ fs.
         forms_in (sorts_in table.new) (trees_in table.new) fs.list.items
         ≡ all_at_stores (stores_in trees stores.now) (forms_in sorts trees forms.now)) }
     ensures ready { IfOk result (λ fs.
