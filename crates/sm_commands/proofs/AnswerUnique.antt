@@ -3,10 +3,12 @@ use Rattle.std.proofs.Common.{◌≡◌, ◌≢◌, ◌⊎◌, ◌<◌, ◌++◌
 use Rattle.std.proofs.Common.{codes, refl, sym, ap, subst, ◌∙◌, arith}
 use Rattle.serde_json.specs.Data.{Members, object}
 use Rattle.serde_json.specs.Written.{compact_text}
+use Rattle.sm_check.specs.Files.{FileAnswer, file_answer}
 use Rattle.sm_eval.specs.StoredValues.{meaning}
 use Rattle.sm_eval.specs.declared.store.Store as code
 use Rattle.sm_io.specs.Causes.{Rose}
-use Rattle.sm_io.specs.Files.{Known, untold, absent, holds}
+use Rattle.sm_io.specs.Files.{Known, untold, absent, holds, WhereHeld}
+use Rattle.sm_proof.specs.Verdicts.{subject_of}
 use Rattle.sm_replay.specs.Input.{IsInput, Reads}
 use Rattle.sm_replay.specs.Trials.{trial}
 use Rattle.sm_replay.specs.declared.error.InputError.{InputError}
@@ -31,8 +33,9 @@ use Rattle.sm_commands.specs.Laws.{AreTold, OneAnswer}
 use Rattle.sm_commands.specs.Lines.{decision_line, input_line, input_refusal_line, refusal_line, trial_line, verdict_line}
 use Rattle.sm_commands.specs.Replay.{verdict_status, AnswersReplay, GivesInput, GivesNoInput, IsNoInput, ReplaysInput}
 use Rattle.sm_commands.specs.Status.{Says}
-use Rattle.sm_commands.specs.Top.{Files, AnswersCommand, AnswersRequest, Checks, Prints, Replays}
-use Rattle.sm_commands.specs.Words.{Words, Asked, check, replay, print, asked}
+use Rattle.sm_commands.specs.Top.{Files, AnswersCommand, AnswersRequest, Checks, Prints, Replays, Verifies}
+use Rattle.sm_commands.specs.Verify.{answer_line, answer_status, proof_limit, AnswersProof}
+use Rattle.sm_commands.specs.Words.{Words, Asked, check, verify, replay, print, asked}
 use Rattle.sm_commands.specs.declared.status.Status.{Status}
 
 -- two replies are equal
@@ -273,12 +276,47 @@ replays_same file input turns b n c m s u l k told given no_fault nor_later (inr
     (subst (λ (p : Parts). ReplaysInput p input turns f.between n s l)
     (task_same file b f.between c g.between f.task g.task told f.gives g.gives) f.answers) g.answers
 
+-- ---- verify
+
+-- a file that is told has one answer
+answer_same : (t : Parts) (file : Known) (a d : FileAnswer) → file ≢ untold → file ≢ absent
+    → WhereHeld file (λ (bytes : List ℕ). file_answer proof_limit (subject_of t) bytes ≡ a)
+    → WhereHeld file (λ (bytes : List ℕ). file_answer proof_limit (subject_of t) bytes ≡ d) → a ≡ d
+answer_same t untold a d told there f g = absurd (told refl)
+answer_same t absent a d told there f g = absurd (there refl)
+answer_same t (holds h) a d told there f g = sym (f h refl) ∙ g h refl
+
+proof_same : (t : Parts) (file : Known) (b n c m : ℕ) (s u : Status) (l k : List ℕ) → file ≢ untold → (¬ Rose b n) → (¬ Rose c m)
+    → AnswersProof t file b n s l → AnswersProof t file c m u k → Same s l u k
+proof_same t file b n c m s u l k told no_fault nor_later (inl f) (inl g) = says_same refl refl f.says g.says
+proof_same t file b n c m s u l k told no_fault nor_later (inl f) (inr g) = absurd (g.there (not_there file b n s l no_fault f))
+proof_same t file b n c m s u l k told no_fault nor_later (inr f) (inl g) = absurd (f.there (not_there file c m u k nor_later g))
+proof_same t file b n c m s u l k told no_fault nor_later (inr f) (inr g) =
+    let same : f.answer ≡ g.answer = answer_same t file f.answer g.answer told f.there f.held g.held in
+    says_same (ap answer_status same) (ap answer_line same) f.says g.says
+
+verifies_same : (file proof : Known) (b n c m : ℕ) (s u : Status) (l k : List ℕ) → file ≢ untold → proof ≢ untold
+    → (¬ Rose b n) → (¬ Rose c m) → Verifies file proof b n s l → Verifies file proof c m u k → Same s l u k
+verifies_same file proof b n c m s u l k told given no_fault nor_later (inl f) (inl g) =
+    refused_same file b n c m s u l k told no_fault nor_later f g
+verifies_same file proof b n c m s u l k told given no_fault nor_later (inl f) (inr g) =
+    absurd (task_or_none file c g.between b n g.task s l told no_fault g.gives f)
+verifies_same file proof b n c m s u l k told given no_fault nor_later (inr f) (inl g) =
+    absurd (task_or_none file b f.between c m f.task u k told nor_later f.gives g)
+verifies_same file proof b n c m s u l k told given no_fault nor_later (inr f) (inr g) =
+    proof_same g.task proof f.between n g.between m s u l k given
+    (subst (λ (z : ℕ). ¬ Rose z n) (sym f.gives.read.quiet) no_fault) (subst (λ (z : ℕ). ¬ Rose z m) (sym g.gives.read.quiet) nor_later)
+    (subst (λ (p : Parts). AnswersProof p proof f.between n s l)
+    (task_same file b f.between c g.between f.task g.task told f.gives g.gives) f.answers) g.answers
+
 -- ---- words
 
 command_same : (ask : Asked) (files : Files) (b n c m : ℕ) (s u : Status) (l k : List ℕ) → AreTold files → (¬ Rose b n) → (¬ Rose c m)
     → AnswersCommand ask files b n s l → AnswersCommand ask files c m u k → Same s l u k
 command_same (check task turns workers) files b n c m s u l k told no_fault nor_later x y =
     checks_same (files task) turns b n c m s u l k (told task) no_fault nor_later x y
+command_same (verify task proof workers) files b n c m s u l k told no_fault nor_later x y =
+    verifies_same (files task) (files proof) b n c m s u l k (told task) (told proof) no_fault nor_later x y
 command_same (replay task input turns) files b n c m s u l k told no_fault nor_later x y =
     replays_same (files task) (files input) turns b n c m s u l k (told task) (told input) no_fault nor_later x y
 command_same (print task) files b n c m s u l k told no_fault nor_later x y =

@@ -1,16 +1,20 @@
 -- What a command asks for, by the texts that its matches give.
-use Rattle.std.proofs.Common.{◌≡◌, ◌∙◌, inr, [], Option, Some, Result, Ok, Err, IfOk, IsErrOf, codes, refl, sym, ap}
+use Rattle.std.proofs.Common.{◌≡◌, ◌∙◌, inr, [], Option, Some, None, Result, Ok, Err, IfOk, IsErrOf, codes, refl, sym, ap}
 use Rattle.clap.specs.Walk.{Text}
+use Rattle.sm_commands.specs.Numbers.{workers_by, HasBadNumber}
 use Rattle.sm_commands.specs.Views.{asked_in}
-use Rattle.sm_commands.specs.Words.{Words, asked_by, check_by, word_faults, print_by, replay_by, argument_text, HasBadNumber, IsRefused}
+use Rattle.sm_commands.specs.Words.{Words, asked_by, check_by, verify_by, replay_by, print_by, word_faults, argument_text, IsRefused}
 use Rattle.sm_commands.specs.declared.words.Request.{Request}
 use Rattle.sm_commands.specs.declared.command.Verb.{Verb}
-use Rattle.sm_commands.specs.declared.command.Verb.TheVariants.{Check, Replay, Print}
+use Rattle.sm_commands.specs.declared.command.Verb.TheVariants.{Check, Verify, Replay, Print}
 use Rattle.sm_commands.specs.declared.words.WordsError.{WordsError}
 use Rattle.sm_commands.specs.declared.words.WordsError.TheVariants.{Usage}
 
 same_check : {a b c a' b' c' : Option Text} → a ≡ a' → b ≡ b' → c ≡ c' → check_by a b c ≡ check_by a' b' c'
 same_check p q r = rw (p, q, r) refl
+
+same_verify : {a b c a' b' c' : Option Text} → a ≡ a' → b ≡ b' → c ≡ c' → verify_by a b c ≡ verify_by a' b' c'
+same_verify p q r = rw (p, q, r) refl
 
 same_replay : {a b c d a' b' c' d' : Option Text} → a ≡ a' → b ≡ b' → c ≡ c' → d ≡ d' → replay_by a b c d ≡ replay_by a' b' c' d'
 same_replay p q r s = rw (p, q, r, s) refl
@@ -35,8 +39,25 @@ asks_check Check words f (Err e) is free texts ok bad = record {
   ok = tt;
   usage = λ u. inr (same_bad (texts (codes "turns")) (texts (codes "workers")) (bad u));
 }
+asks_check Verify words f r is free texts ok bad = cc
 asks_check Replay words f r is free texts ok bad = cc
 asks_check Print words f r is free texts ok bad = cc
+
+pub asks_verify : (verb : Verb) (words : Words) (f : Text → Option Text) (r : Result Request WordsError) → verb ≡ Verify
+    → word_faults verb words ≡ [] → ((id : Text) → f id ≡ argument_text verb id words) →
+    IfOk r (λ (q : Request). verify_by (f (codes "TASK")) (f (codes "PROOF")) (f (codes "workers")) ≡ Some (asked_in q))
+    → (IsErrOf r Usage → workers_by (f (codes "workers")) ≡ None) → Asks verb words r
+asks_verify Verify words f (Ok q) is free texts ok bad = record {
+  ok = (free, sym (same_verify (texts (codes "TASK")) (texts (codes "PROOF")) (texts (codes "workers"))) ∙ ok);
+  usage = λ u. cc;
+}
+asks_verify Verify words f (Err e) is free texts ok bad = record {
+  ok = tt;
+  usage = λ u. inr (sym (ap workers_by (texts (codes "workers"))) ∙ bad u);
+}
+asks_verify Check words f r is free texts ok bad = cc
+asks_verify Replay words f r is free texts ok bad = cc
+asks_verify Print words f r is free texts ok bad = cc
 
 pub asks_replay : (verb : Verb) (words : Words) (f : Text → Option Text) (r : Result Request WordsError) → verb ≡ Replay
     → word_faults verb words ≡ [] → ((id : Text) → f id ≡ argument_text verb id words) →
@@ -51,6 +72,7 @@ asks_replay Replay words f (Err e) is free texts ok bad = record {
   usage = λ u. inr (same_bad (texts (codes "turns")) (texts (codes "workers")) (bad u));
 }
 asks_replay Check words f r is free texts ok bad = cc
+asks_replay Verify words f r is free texts ok bad = cc
 asks_replay Print words f r is free texts ok bad = cc
 
 pub asks_print : (verb : Verb) (words : Words) (f : Text → Option Text) (q : Request) → verb ≡ Print → word_faults verb words ≡ []
@@ -58,4 +80,5 @@ pub asks_print : (verb : Verb) (words : Words) (f : Text → Option Text) (q : R
     print_by (f (codes "TASK")) ≡ Some (asked_in q) → (word_faults verb words ≡ []) × (asked_by verb words ≡ Some (asked_in q))
 asks_print Print words f q is free texts ok = (free, sym (ap print_by (texts (codes "TASK"))) ∙ ok)
 asks_print Check words f q is free texts ok = cc
+asks_print Verify words f q is free texts ok = cc
 asks_print Replay words f q is free texts ok = cc

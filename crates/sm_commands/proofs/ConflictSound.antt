@@ -21,14 +21,15 @@ use Rattle.sm_commands.specs.Copies.{decision}
 use Rattle.sm_commands.specs.Lines.{trial_line}
 use Rattle.sm_commands.specs.File.{GivesTask}
 use Rattle.sm_commands.specs.Replay.{verdict_status, GivesInput, GivesNoInput, ReplaysInput}
-use Rattle.sm_commands.specs.Words.{Words, Asked, check, replay, print, asked, task_file}
+use Rattle.sm_commands.specs.Verify.{AnswersProof}
+use Rattle.sm_commands.specs.Words.{Words, Asked, check, verify, replay, print, asked, task_file}
 use Rattle.sm_commands.specs.declared.copies.Decision.{Decision}
 use Rattle.sm_commands.specs.declared.copies.Decision.TheVariants.{Safe, Copies, NotBuilt}
 use Rattle.sm_commands.specs.declared.status.Status.{Status}
 use Rattle.sm_commands.specs.declared.status.Status.TheVariants.{Conflict}
 use Rattle.sm_replay.proofs.ViolationsSound.{violation_conflicts}
 use Rattle.sm_replay.proofs.VerdictSound.{breaks_violates}
-use Rattle.sm_commands.proofs.Answering.{without_task}
+use Rattle.sm_commands.proofs.Statuses.{answered_no_conflict, without_task}
 
 -- an input that is refused shows no conflict
 no_input_no_conflict : (t : Parts) (file : Known) (before now : ℕ) (status : Status) (text : List ℕ)
@@ -41,6 +42,12 @@ decided_no_conflict : (d : Decision) → status_of d ≢ Conflict
 decided_no_conflict Safe e = cc
 decided_no_conflict (Copies x clause) e = cc
 decided_no_conflict NotBuilt e = cc
+
+-- no proof file shows a conflict
+proof_no_conflict : (t : Parts) (file : Known) (before now : ℕ) (status : Status) (text : List ℕ)
+    → AnswersProof t file before now status text → status ≢ Conflict
+proof_no_conflict t file before now status text (inl f) e = let is = f.says.ended in cc
+proof_no_conflict t file before now status text (inr c) e = answered_no_conflict c.answer (sym c.says.ended ∙ e)
 
 -- Conflict of `check` is for a task that isn't free of conflicts
 checked_conflict : (t : Parts) (turns : ℕ) (status : Status) (text : List ℕ) → AnswersCheck t turns status text → status ≡ Conflict
@@ -91,6 +98,10 @@ asked_conflicts (check task turns workers) files before now status text (inl f) 
     absurd ((without_task (files task) before now status text f).not_conflict e)
 asked_conflicts (check task turns workers) files before now status text (inr c) e =
     unsafe_where (files task) before now c.task c.gives (checked_conflict c.task turns status text c.answers e)
+asked_conflicts (verify task proof workers) files before now status text (inl f) e =
+    absurd ((without_task (files task) before now status text f).not_conflict e)
+asked_conflicts (verify task proof workers) files before now status text (inr c) e =
+    absurd (proof_no_conflict c.task (files proof) c.between now status text c.answers e)
 asked_conflicts (replay task input turns) files before now status text (inl f) e =
     absurd ((without_task (files task) before now status text f).not_conflict e)
 asked_conflicts (replay task input turns) files before now status text (inr c) e =

@@ -4,6 +4,8 @@ pub mod Given
 pub mod Digits
 pub mod Asking
 pub mod Usage
+pub mod Statuses
 pub mod Answering
 pub mod ConflictSound
+pub mod Verified
 pub mod AnswerUnique

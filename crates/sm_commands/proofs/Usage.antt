@@ -2,10 +2,11 @@
 use Rattle.std.proofs.Common.{◌≡◌, ◌≢◌, ◌⊎◌, inl, inr, ℕ, List, [], ◌∷◌, Option, Some, None, codes, refl, option_map}
 use Rattle.std.specs.Prelude.{option_and_then}
 use Rattle.clap.specs.Walk.{Text}
-use Rattle.sm_commands.specs.Words.{Words, check, replay, asked, asked_by, asked_where, check_by, replay_by, argument_text, turns_by}
-use Rattle.sm_commands.specs.Words.{workers_by, verb_of, unless, HasBadNumber, HasBadOption, IsRefused, IsUsage}
+use Rattle.sm_commands.specs.Numbers.{turns_by, workers_by, HasBadNumber}
+use Rattle.sm_commands.specs.Words.{Words, check, replay, asked, asked_by, asked_where, check_by, verify_by, replay_by, argument_text}
+use Rattle.sm_commands.specs.Words.{verb_of, unless, HasBadOption, IsRefused, IsUsage}
 use Rattle.sm_commands.specs.declared.command.Verb.{Verb}
-use Rattle.sm_commands.specs.declared.command.Verb.TheVariants.{Check, Replay, Print}
+use Rattle.sm_commands.specs.declared.command.Verb.TheVariants.{Check, Verify, Replay, Print}
 
 -- a number that is none asks for nothing
 no_check : (task turns workers : Option Text) → HasBadNumber turns workers → check_by task turns workers ≡ None
@@ -15,6 +16,11 @@ no_check (Some file) turns workers (inr e) =
     elim (turns_by turns) as
     (λ o. option_and_then (λ (n : ℕ). option_map (λ (w : ℕ). check file n w) (workers_by workers)) o ≡ None)
     [ None ↦ refl | Some n ↦ rw e refl ]
+
+no_verify : (task proof workers : Option Text) → workers_by workers ≡ None → verify_by task proof workers ≡ None
+no_verify None proof workers e = refl
+no_verify (Some file) None workers e = refl
+no_verify (Some file) (Some given) workers e = rw e refl
 
 no_replay : (task input turns workers : Option Text) → HasBadNumber turns workers → replay_by task input turns workers ≡ None
 no_replay None input turns workers h = refl
@@ -29,6 +35,9 @@ none_asked : (verb : Verb) (words : Words) → HasBadOption verb words → asked
 none_asked Check words h =
     no_check (argument_text Check (codes "TASK") words) (argument_text Check (codes "turns") words)
     (argument_text Check (codes "workers") words) h
+none_asked Verify words h =
+    no_verify (argument_text Verify (codes "TASK") words) (argument_text Verify (codes "PROOF") words)
+    (argument_text Verify (codes "workers") words) h
 none_asked Replay words h =
     no_replay (argument_text Replay (codes "TASK") words) (argument_text Replay (codes "INPUT") words)
     (argument_text Replay (codes "turns") words) (argument_text Replay (codes "workers") words) h

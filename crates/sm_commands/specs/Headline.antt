@@ -1,6 +1,6 @@
 -- What Accepted and Conflict say of the files, where the shelf tells their bytes. The public
--- clauses `accepted`, `conflict`, `shown` and `replayed` of `safemerge` cite it.
-use Rattle.std.specs.Prelude.{◌≡◌, ◌++◌, ℕ, List}
+-- clauses `accepted`, `verified`, `conflict`, `shown` and `replayed` of `safemerge` cite it.
+use Rattle.std.specs.Prelude.{◌≡◌, ◌≤◌, ◌++◌, ℕ, Option, Some, None, List, length}
 use Rattle.sm_syntax.specs.claim.ConflictFree.{ConflictFree}
 use Rattle.sm_syntax.specs.text.Parts.{Parts, sort_of, task_of}
 use Rattle.sm_syntax.specs.text.Spells.{Spells}
@@ -9,11 +9,31 @@ use Rattle.sm_eval.specs.declared.store.Store.{Store}
 use Rattle.sm_io.specs.Files.{Known, WhereHeld}
 use Rattle.sm_replay.specs.Input.{IsInput}
 use Rattle.sm_replay.specs.Violations.{Violates}
+use Rattle.sm_proof.specs.Verdicts.{Passes}
+use Rattle.sm_commands.specs.File.{file_limit}
 use Rattle.sm_commands.specs.Lines.{input_line}
+use Rattle.sm_commands.specs.Verify.{proof_limit}
+use Rattle.sm_commands.specs.Words.{Asked, check, verify, replay, print}
 
--- Accepted of `check`: the bytes spell a task that is free of conflicts
+-- the file of the task, where it is asked whether its merge is free of conflicts
+abbrev pub merge_file : Asked → Option (List ℕ)
+merge_file (check task turns workers) = Some task
+merge_file (verify task proof workers) = Some task
+merge_file (replay task input turns) = None
+merge_file (print task) = None
+
+-- Accepted of `check` and of `verify`: the bytes spell a task that is free of conflicts
 abbrev pub IsSafeMerge : List ℕ → Type 0
 IsSafeMerge bytes = (t : Parts) × Spells bytes t × ConflictFree (task_of t)
+
+-- Accepted of `verify`, and nothing else: the task's bytes spell a task for which the proof's pass,
+-- each within its limit
+pub record IsProved (task proof : List ℕ) : Type 0 where
+  pub parts : Parts
+  pub spells : Spells task parts
+  pub passes : Passes parts proof
+  pub short : length task ≤ file_limit
+  pub fits : length proof ≤ proof_limit
 
 -- Conflict: the bytes spell a task that isn't free of conflicts
 abbrev pub IsUnsafeMerge : List ℕ → Type 0

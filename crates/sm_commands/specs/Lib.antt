@@ -3,8 +3,10 @@ pub mod Top
 pub mod Laws
 pub mod File
 pub mod Check
+pub mod Verify
 pub mod Replay
 pub mod Words
+pub mod Numbers
 pub mod Command
 pub mod Copies
 pub mod Lines

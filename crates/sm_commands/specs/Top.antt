@@ -11,7 +11,9 @@ use Rattle.sm_commands.specs.Check.{AnswersCheck}
 use Rattle.sm_commands.specs.File.{GivesTask, GivesNoTask}
 use Rattle.sm_commands.specs.Replay.{ReplaysInput}
 use Rattle.sm_commands.specs.Status.{Says}
-use Rattle.sm_commands.specs.Words.{Words, Asked, check, replay, print, asked, usage_line, IsUsage}
+use Rattle.sm_commands.specs.Verify.{AnswersProof}
+use Rattle.sm_commands.specs.Words.{Words, Asked, check, verify, replay, print, asked, usage_line}
+use Rattle.sm_commands.specs.Words.{IsUsage}
 use Rattle.sm_commands.specs.declared.status.Status.{Status}
 use Rattle.sm_commands.specs.declared.status.Status.TheVariants.{Accepted, Usage, Memory, SinkFault}
 
@@ -37,6 +39,19 @@ pub record ChecksTask (file : Known) (turns before now : ℕ) (status : Status) 
 abbrev pub Checks : Known → ℕ → ℕ → ℕ → Status → List ℕ → Type 0
 Checks file turns before now status text =
     GivesNoTask file before now status text ⊎ ChecksTask file turns before now status text
+
+-- the file gives a task, and then comes the proof's
+pub record VerifiesTask (file proof : Known) (before now : ℕ) (status : Status) (text : List ℕ)
+    : Type 0 where
+  pub task : Parts
+  pub between : ℕ
+  pub gives : GivesTask file before between task
+  pub answers : AnswersProof task proof between now status text
+
+-- what is answered to `verify`
+abbrev pub Verifies : Known → Known → ℕ → ℕ → Status → List ℕ → Type 0
+Verifies file proof before now status text =
+    GivesNoTask file before now status text ⊎ VerifiesTask file proof before now status text
 
 -- the file gives a task, and its canonical text is printed
 pub record PrintsTask (file : Known) (before now : ℕ) (status : Status) (text : List ℕ)
@@ -67,6 +82,8 @@ Replays file input turns before now status text =
 abbrev pub AnswersCommand : Asked → Files → ℕ → ℕ → Status → List ℕ → Type 0
 AnswersCommand (check task turns workers) files before now status text =
     Checks (files task) turns before now status text
+AnswersCommand (verify task proof workers) files before now status text =
+    Verifies (files task) (files proof) before now status text
 AnswersCommand (replay task input turns) files before now status text =
     Replays (files task) (files input) turns before now status text
 AnswersCommand (print task) files before now status text =

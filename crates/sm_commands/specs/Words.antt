@@ -1,17 +1,16 @@
 -- The words that the program is given, without its name: a command, and what `clap` says that this
 -- command takes. Public clauses cite it.
-use Rattle.std.specs.Prelude.{◌≡◌, ◌≢◌, ◌⊎◌, ◌&&◌, ℕ, Bool, true, nat_le, length, List, [], ◌∷◌}
-use Rattle.std.specs.Prelude.{Option, Some, None, is_some, codes, if◌then◌else◌, option_and_then}
-use Rattle.std.specs.Prelude.{option_map}
-use Rattle.std.specs.Str.{bytes_eq, all_ascii_digits}
-use Rattle.std.specs.Str.Parse.{digits_value}
+use Rattle.std.specs.Prelude.{◌≡◌, ◌≢◌, ◌⊎◌, ℕ, true, List, [], ◌∷◌, Option, Some, None, is_some}
+use Rattle.std.specs.Prelude.{codes, if◌then◌else◌, option_and_then, option_map}
+use Rattle.std.specs.Str.{bytes_eq}
 use Rattle.clap.specs.Faults.{fault_of}
 use Rattle.clap.specs.Kinds.{Kinds}
 use Rattle.clap.specs.Simple.{matches_of}
 use Rattle.clap.specs.Walk.{Text, first_of}
 use Rattle.sm_commands.specs.Command.{command_of}
+use Rattle.sm_commands.specs.Numbers.{turns_by, workers_by, HasBadNumber}
 use Rattle.sm_commands.specs.declared.command.Verb.{Verb}
-use Rattle.sm_commands.specs.declared.command.Verb.TheVariants.{Check, Replay, Print}
+use Rattle.sm_commands.specs.declared.command.Verb.TheVariants.{Check, Verify, Replay, Print}
 
 -- the words that the program was given
 abbrev pub Words : Type 0
@@ -21,8 +20,9 @@ Words = List Text
 abbrev pub verb_of : Text → Option Verb
 verb_of word =
     if bytes_eq word (codes "check") then Some Check else
+    (if bytes_eq word (codes "verify") then Some Verify else
     (if bytes_eq word (codes "replay") then Some Replay else
-    (if bytes_eq word (codes "print") then Some Print else None))
+    (if bytes_eq word (codes "print") then Some Print else None)))
 
 -- what `clap` finds wrong with the words of a command: nothing where the command takes them
 unfoldable pub word_faults : Verb → Words → Kinds
@@ -32,38 +32,12 @@ word_faults verb words = fault_of (command_of verb) words
 unfoldable pub argument_text : Verb → Text → Words → Option Text
 argument_text verb id words = first_of id (matches_of (command_of verb) words)
 
--- whether a text is one to ten digits
-abbrev pub is_number : Text → Bool
-is_number text = all_ascii_digits text && (nat_le 1 (length text) && nat_le (length text) 10)
-
--- the number that a text spells, where its value lies between the least and the greatest
-abbrev pub spelled_number : ℕ → ℕ → Text → Option ℕ
-spelled_number least most text =
-    let n = digits_value 10 text in
-    if is_number text && (nat_le least n && nat_le n most) then Some n else None
-
--- the number of an option: where the option isn't there, its default
-abbrev pub number_or : ℕ → ℕ → ℕ → Option Text → Option ℕ
-number_or default least most None = Some default
-number_or default least most (Some text) = spelled_number least most text
-
--- how many turns a loop may take, by the option's text
-abbrev pub turns_by : Option Text → Option ℕ
-turns_by = number_or 10000 1 1000000
-
--- how many workers run jobs, by the option's text
-abbrev pub workers_by : Option Text → Option ℕ
-workers_by = number_or 1 1 64
-
--- one of the numbers isn't one, or isn't in its range
-abbrev pub HasBadNumber : Option Text → Option Text → Type 0
-HasBadNumber turns workers = (turns_by turns ≡ None) ⊎ (workers_by workers ≡ None)
-
 -- a number among the words of a command isn't one, or isn't in its range
 abbrev pub HasBadOption : Verb → Words → Type 0
 HasBadOption Check words =
     HasBadNumber (argument_text Check (codes "turns") words)
     (argument_text Check (codes "workers") words)
+HasBadOption Verify words = workers_by (argument_text Verify (codes "workers") words) ≡ None
 HasBadOption Replay words =
     HasBadNumber (argument_text Replay (codes "turns") words)
     (argument_text Replay (codes "workers") words)
@@ -83,6 +57,8 @@ IsUsage (word ∷ rest) = IsRefused (verb_of word) (word ∷ rest)
 pub data Asked : Type 0 where
   -- the decision on a task's file, with a number of turns for a loop and a number of workers
   check : List ℕ → ℕ → ℕ → Asked
+  -- whether the file of a proof passes for a task's file, with a number of workers
+  verify : List ℕ → List ℕ → ℕ → Asked
   -- what a task's programs do from an input's file
   replay : List ℕ → List ℕ → ℕ → Asked
   -- the canonical text of a task's file
@@ -91,6 +67,7 @@ pub data Asked : Type 0 where
 -- the file of the task
 abbrev pub task_file : Asked → Text
 task_file (check task turns workers) = task
+task_file (verify task proof workers) = task
 task_file (replay task input turns) = task
 task_file (print task) = task
 
@@ -100,6 +77,13 @@ check_by task turns workers =
     option_and_then (λ (t : Text).
     option_and_then (λ (n : ℕ).
     option_map (λ (w : ℕ). check t n w) (workers_by workers)) (turns_by turns)) task
+
+-- what `verify` asks for
+abbrev pub verify_by : Option Text → Option Text → Option Text → Option Asked
+verify_by task proof workers =
+    option_and_then (λ (t : Text).
+    option_and_then (λ (p : Text).
+    option_map (λ (w : ℕ). verify t p w) (workers_by workers)) proof) task
 
 -- what `replay` asks for; its workers change nothing
 abbrev pub replay_by : Option Text → Option Text → Option Text → Option Text → Option Asked
@@ -118,6 +102,9 @@ abbrev pub asked_by : Verb → Words → Option Asked
 asked_by Check words =
     check_by (argument_text Check (codes "TASK") words)
     (argument_text Check (codes "turns") words) (argument_text Check (codes "workers") words)
+asked_by Verify words =
+    verify_by (argument_text Verify (codes "TASK") words)
+    (argument_text Verify (codes "PROOF") words) (argument_text Verify (codes "workers") words)
 asked_by Replay words =
     replay_by (argument_text Replay (codes "TASK") words)
     (argument_text Replay (codes "INPUT") words)
@@ -132,6 +119,8 @@ unless (fault ∷ rest) value = None
 -- each word that a command requires is given
 abbrev pub HasRequired : Verb → (Text → Option Text) → Type 0
 HasRequired Check given = is_some (given (codes "TASK")) ≡ true
+HasRequired Verify given =
+    (is_some (given (codes "TASK")) ≡ true) × (is_some (given (codes "PROOF")) ≡ true)
 HasRequired Replay given =
     (is_some (given (codes "TASK")) ≡ true) × (is_some (given (codes "INPUT")) ≡ true)
 HasRequired Print given = is_some (given (codes "TASK")) ≡ true
@@ -150,6 +139,7 @@ asked (word ∷ rest) = asked_where (verb_of word) (word ∷ rest)
 abbrev pub usage_line_of : Option Verb → List ℕ
 usage_line_of None = codes "Usage\n"
 usage_line_of (Some Check) = codes "Usage check\n"
+usage_line_of (Some Verify) = codes "Usage verify\n"
 usage_line_of (Some Replay) = codes "Usage replay\n"
 usage_line_of (Some Print) = codes "Usage print\n"
 

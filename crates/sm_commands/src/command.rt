@@ -3,6 +3,7 @@ ghost use Rattle.std.specs.Prelude.{◌≡◌, false, codes, IfOk};
 ghost use Rattle.clap.specs.Words.{app_of, rule_of};
 ghost use Rattle.sm_commands.specs.Command.{check_command, command_of, option_word};
 ghost use Rattle.sm_commands.specs.Command.{print_command, replay_command, required_word};
+ghost use Rattle.sm_commands.specs.Command.{verify_command};
 
 use clap::{Arg, ArgAction, Command};
 use std::alloc::{AllocError, Global};
@@ -11,6 +12,7 @@ use std::alloc::{AllocError, Global};
 #[derive(Clone, Copy, Debug, PartialEq, Eq)]
 pub enum Verb {
     Check,
+    Verify,
     Replay,
     Print,
 }
@@ -21,6 +23,7 @@ pub fn command_of<'a>(alloc: Global, verb: Verb) -> Result<Command<'a>, AllocErr
 {
     match verb {
         Verb::Check => check_command(alloc),
+        Verb::Verify => verify_command(alloc),
         Verb::Replay => replay_command(alloc),
         Verb::Print => print_command(alloc),
     }
@@ -49,6 +52,16 @@ fn check_command<'a>(alloc: Global) -> Result<Command<'a>, AllocError>
     Command::new(alloc, "check")
         .arg(required_word(alloc, "TASK"))?
         .arg(option_word(alloc, "turns"))?
+        .arg(option_word(alloc, "workers"))
+}
+
+#[tactic(auto, unfolding(crate::specs::Command::verify_command))]
+fn verify_command<'a>(alloc: Global) -> Result<Command<'a>, AllocError>
+    ensures { IfOk result (λ c. app_of c ≡ verify_command) }
+{
+    Command::new(alloc, "verify")
+        .arg(required_word(alloc, "TASK"))?
+        .arg(required_word(alloc, "PROOF"))?
         .arg(option_word(alloc, "workers"))
 }
 

@@ -1,6 +1,7 @@
 // Files of tasks and of inputs.
 ghost use Rattle.std.specs.Prelude.{◌≡◌, ◌^◌, ◌<◌, ℕ, List, None, length, IfOk, IfErr};
 ghost use Rattle.sm_syntax.specs.text.Spells.{Spells};
+ghost use Rattle.sm_check.specs.Checkable.{IsCheckable};
 ghost use Rattle.sm_task.specs.Tasks.{parts_of};
 ghost use Rattle.sm_eval.specs.StoredValues.{sorts_of};
 ghost use Rattle.sm_replay.specs.Input.{IsInput};
@@ -60,6 +61,7 @@ pub fn task_in<H: Shelf>(alloc: Global, shelf: &mut H, name: &str) -> Result<Tas
     ensures printable { IfOk result (λ t. HasText (parts_of t)) }
     ensures runs { IfOk result (λ t. sort_fault (parts_of t) ≡ None) }
     ensures named { IfOk result (λ t. AreNamed (parts_of t).names (sort_of (parts_of t).declared)) }
+    ensures checkable { IfOk result (λ t. IsCheckable (parts_of t)) }
     ensures exit { IfErr result (ExitsWith (GivesNoTask (H.file shelf.old name.now)
         (H.read_faults shelf.old) (H.read_faults shelf.new))) }
     ensures same { (other : List ℕ) → H.file shelf.new other ≡ H.file shelf.old other }
@@ -77,6 +79,7 @@ pub fn task_from(alloc: Global, bytes: &[u8]) -> Result<Task, Exit>
     ensures printable { IfOk result (λ t. HasText (parts_of t)) }
     ensures runs { IfOk result (λ t. sort_fault (parts_of t) ≡ None) }
     ensures named { IfOk result (λ t. AreNamed (parts_of t).names (sort_of (parts_of t).declared)) }
+    ensures checkable { IfOk result (λ t. IsCheckable (parts_of t)) }
     ensures exit { IfErr result (ExitsWith (IsNoTask bytes.now)) }
 {
     match parse_task(alloc, bytes) {

@@ -2,9 +2,11 @@
 //!
 //! - `safemerge` does all that the program does, over any shelf and any sink. `check` prints
 //!   `Accepted` for a task that is free of conflicts alone, and `Conflict` for one that isn't, with
-//!   the first trial that shows it. `replay` judges one input exactly, and `print` puts the
-//!   canonical text of a task. Words that no command takes, bytes that are no task or no input, and
-//!   faults are answered exactly where they are met.
+//!   the first trial that shows it. `verify` prints `Accepted` exactly where the bytes of a proof's
+//!   file pass for the task, which is then free of conflicts, and else the number of the first bad
+//!   line and the word for what is wrong with it. `replay` judges one input exactly, and `print`
+//!   puts the canonical text of a task. Words that no command takes, bytes that are no task or no
+//!   input, and faults are answered exactly where they are met.
 //! - `one_answer` is the law that two answers to the same words and told files, without a fault,
 //!   are equal.
 //! - `Status::number` is the number with which the program ends.
@@ -12,8 +14,8 @@
 //!
 //! The claim is `ConflictFree` of the crate `sm_syntax`. Read `specs/Headline.antt` first: what
 //! Accepted and Conflict say. `specs/Top.antt` says what is answered, with `specs/File.antt`,
-//! `specs/Check.antt` and `specs/Replay.antt`; `specs/Words.antt` what the words ask for, and
-//! `specs/Copies.antt` how tasks are decided.
+//! `specs/Check.antt`, `specs/Verify.antt` and `specs/Replay.antt`; `specs/Words.antt` what the
+//! words ask for, and `specs/Copies.antt` how `check` decides tasks.
 #![tactic(auto)]
 
 mod check;
@@ -23,9 +25,11 @@ mod exit;
 mod file;
 mod laws;
 mod lines;
+mod numbers;
 mod replay;
 mod status;
 mod top;
+mod verifying;
 mod words;
 
 pub use copies::{Decision, decide};

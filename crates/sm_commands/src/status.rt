@@ -11,7 +11,7 @@ pub enum Status {
     Conflict,
     /// It isn't decided, or a program has no end that can be judged.
     Unknown,
-    /// The bytes of a file spell no task, or no input, or are too many.
+    /// The bytes of a file spell no task or no input, are no proof that passes, or are too many.
     Refused,
     /// No command takes the words.
     Usage,

@@ -10,22 +10,23 @@ ghost use Rattle.sm_task.specs.Tasks.{parts_of};
 ghost use Rattle.sm_text.specs.printing.Canonical.{task_pieces};
 ghost use Rattle.sm_text.specs.printing.Named.{HasText};
 ghost use Rattle.sm_text.specs.printing.Pieces.{pieces_text};
-ghost use Rattle.sm_commands.specs.Headline.{IsSafeMerge, IsUnsafeMerge, ShowsInput};
-ghost use Rattle.sm_commands.specs.Headline.{IsShownByInput};
+ghost use Rattle.sm_commands.specs.Headline.{merge_file, IsProved, IsSafeMerge, IsUnsafeMerge};
+ghost use Rattle.sm_commands.specs.Headline.{IsShownByInput, ShowsInput};
 ghost use Rattle.sm_commands.specs.Top.{IsAnswerTo, AnswersCommand, Checks, Prints, Replays};
 ghost use Rattle.sm_commands.specs.Top.{IsPrinted, PutsPart};
 ghost use Rattle.sm_commands.specs.Status.{Says};
 ghost use Rattle.sm_commands.specs.Replay.{ReplaysInput};
 ghost use Rattle.sm_commands.specs.Views.{asked_in, HasWorkers};
 ghost use Rattle.sm_commands.specs.Exit.{ExitsWith};
-ghost use Rattle.sm_commands.specs.Words.{Asked, asked, check, replay, task_file, usage_line};
-ghost use Rattle.sm_commands.specs.Words.{IsUsage};
+ghost use Rattle.sm_commands.specs.Words.{Asked, asked, check, verify, replay, task_file};
+ghost use Rattle.sm_commands.specs.Words.{usage_line, IsUsage};
 
 use crate::check::check;
 use crate::exit::Exit;
 use crate::file::{input_in, task_in};
 use crate::replay::replay;
 use crate::status::{Reply, Status};
+use crate::verifying::verify_in;
 use crate::words::{Request, WordsError, read_words, usage_line};
 use sm_io::{IoError, Shelf, Sink, put_all};
 use sm_par::Gate;
@@ -43,10 +44,16 @@ pub fn safemerge<R: Threads + Sync, G: Gate, H: Shelf, K: Sink>(
     shelf: &mut H,
     out: &mut K,
 ) -> Status
-    // Where `check` accepts, the file's bytes spell a task that is free of conflicts.
-    ensures accepted { result ≡ Status.Accepted → (task : List ℕ) (turns workers : ℕ) →
-        asked (map string_bytes words.now) ≡ Some (check task turns workers) →
+    // Where `check` or `verify` accepts, the file's bytes spell a task that is free of conflicts.
+    ensures accepted { result ≡ Status.Accepted → (ask : Asked) (task : List ℕ) →
+        asked (map string_bytes words.now) ≡ Some ask → merge_file ask ≡ Some task →
         WhereHeld (H.file shelf.old task) IsSafeMerge }
+    // `verify` accepts exactly the proofs that pass, whoever wrote them.
+    ensures verified { IsPrinted result → result ≢ Status.ReadFault →
+        (task proof : List ℕ) (workers : ℕ) →
+        asked (map string_bytes words.now) ≡ Some (verify task proof workers) →
+        WhereHeld (H.file shelf.old task) (λ bytes. WhereHeld (H.file shelf.old proof) (λ lines.
+        (result ≡ Status.Accepted) ↔ IsProved bytes lines)) }
     // Where `check` or `replay` answers Conflict, they spell a task that isn't.
     ensures conflict { result ≡ Status.Conflict → (ask : Asked) →
         asked (map string_bytes words.now) ≡ Some ask →
@@ -172,6 +179,11 @@ fn answer_to<R: Threads + Sync, G: Gate, H: Shelf>(
             turns,
             workers,
         } => check_in(rt, alloc, gate, shelf, task, turns, workers),
+        Request::Verify {
+            task,
+            proof,
+            workers,
+        } => verify_in(rt, alloc, gate, shelf, task, proof, workers),
         Request::Replay { task, input, turns } => replay_in(alloc, shelf, task, input, turns),
         Request::Print { task } => print_in(alloc, shelf, task),
     }

@@ -1,22 +1,18 @@
 // What the words ask for.
-ghost use Rattle.std.specs.Prelude.{◌≡◌, ◌≢◌, ◌<◌, ◌≤◌, ◌&&◌, true, false, nat_le, [], Some, None};
-ghost use Rattle.std.specs.Prelude.{is_some, length, map, codes, option_map, ℕ, List, IfOk, IfErr};
-ghost use Rattle.std.specs.Prelude.{IfSome, IsErrOf};
-ghost use Rattle.std.specs.Str.{all_ascii_digits};
-ghost use Rattle.std.specs.Str.Parse.{digits_value};
+ghost use Rattle.std.specs.Prelude.{◌≡◌, ◌≢◌, ◌<◌, ◌≤◌, true, [], Some, None, is_some, map, codes};
+ghost use Rattle.std.specs.Prelude.{option_map, ℕ, List, IfOk, IfErr, IsErrOf};
 ghost use Rattle.std.specs.String.{string_bytes};
 ghost use Rattle.clap.specs.Words.{first_value, found_of, kind_of};
+ghost use Rattle.sm_commands.specs.Numbers.{turns_by, workers_by, HasBadNumber};
 ghost use Rattle.sm_commands.specs.Views.{asked_in, HasWorkers};
-ghost use Rattle.sm_commands.specs.Words.{asked, asked_by, check_by};
-ghost use Rattle.sm_commands.specs.Words.{word_faults, is_number, spelled_number, number_or};
-ghost use Rattle.sm_commands.specs.Words.{print_by, replay_by};
-ghost use Rattle.sm_commands.specs.Words.{argument_text, turns_by, usage_line, verb_of};
-ghost use Rattle.sm_commands.specs.Words.{workers_by, HasBadNumber, HasRequired, IsRefused};
-ghost use Rattle.sm_commands.specs.Words.{IsUsage};
+ghost use Rattle.sm_commands.specs.Words.{asked, asked_by, check_by, verify_by, replay_by, print_by};
+ghost use Rattle.sm_commands.specs.Words.{argument_text, usage_line, verb_of, word_faults};
+ghost use Rattle.sm_commands.specs.Words.{HasRequired, IsRefused, IsUsage};
 ghost use Rattle.sm_commands.specs.declared.words.WordsError.TheVariants.{Memory};
 
 use crate::command::{Verb, command_of};
 use crate::lines::line;
+use crate::numbers::number_or;
 use clap::error::ErrorKind;
 use clap::{ArgMatches, Error};
 use std::alloc::{AllocError, Global};
@@ -29,6 +25,12 @@ pub enum Request<'a> {
     Check {
         task: &'a str,
         turns: u64,
+        workers: u32,
+    },
+    /// Whether a proof passes for a task, with `workers` workers.
+    Verify {
+        task: &'a str,
+        proof: &'a str,
         workers: u32,
     },
     /// What a task's programs do from an input, with at most `turns` turns for a loop.
@@ -82,6 +84,7 @@ pub fn usage_line(alloc: Global, words: &[String]) -> Result<Vec<u8>, AllocError
     match words {
         [word, ..] => match verb_of(word.as_str()) {
             Some(Verb::Check) => line(alloc, "Usage", &["check"]),
+            Some(Verb::Verify) => line(alloc, "Usage", &["verify"]),
             Some(Verb::Replay) => line(alloc, "Usage", &["replay"]),
             Some(Verb::Print) => line(alloc, "Usage", &["print"]),
             None => line(alloc, "Usage", &[]),
@@ -96,6 +99,7 @@ fn verb_of(word: &str) -> Option<Verb>
 {
     match word {
         "check" => Some(Verb::Check),
+        "verify" => Some(Verb::Verify),
         "replay" => Some(Verb::Replay),
         "print" => Some(Verb::Print),
         _ => None,
@@ -114,6 +118,7 @@ fn request_by<'a>(alloc: Global, verb: Verb, words: &'a [String]) -> Result<Requ
     let matches = matches_of(alloc, verb, words)?;
     match verb {
         Verb::Check => check_request(&matches),
+        Verb::Verify => verify_request(&matches),
         Verb::Replay => replay_request(&matches),
         Verb::Print => Ok(print_request(&matches)),
     }
@@ -134,6 +139,24 @@ fn check_request<'a>(matches: &ArgMatches<'a>) -> Result<Request<'a>, WordsError
     Ok(Request::Check {
         task: text_in(matches, "TASK"),
         turns,
+        workers,
+    })
+}
+
+fn verify_request<'a>(matches: &ArgMatches<'a>) -> Result<Request<'a>, WordsError>
+    requires task { is_some (first_value (found_of matches.now) (codes "TASK")) ≡ true }
+    requires proof { is_some (first_value (found_of matches.now) (codes "PROOF")) ≡ true }
+    ensures ok { let given = first_value (found_of matches.now) in IfOk result (λ r.
+        verify_by (given (codes "TASK")) (given (codes "PROOF")) (given (codes "workers"))
+        ≡ Some (asked_in r)) }
+    ensures usage { let given = first_value (found_of matches.now) in
+        IsErrOf result WordsError.Usage → workers_by (given (codes "workers")) ≡ None }
+    ensures workers { IfOk result HasWorkers }
+{
+    let workers = workers_by(matches.get_str("workers"))?;
+    Ok(Request::Verify {
+        task: text_in(matches, "TASK"),
+        proof: text_in(matches, "PROOF"),
         workers,
     })
 }
@@ -229,70 +252,5 @@ fn workers_by(text: Option<&str>) -> Result<u32, WordsError>
     match number_or(1, 1, 64, text) {
         Some(workers) => Ok(workers as u32),
         None => Err(WordsError::Usage),
-    }
-}
-
-// ---- numbers
-
-fn number_or(default: u64, least: u64, most: u64, text: Option<&str>) -> Option<u64>
-    requires { (least ≤ default) × (default ≤ most) }
-    ensures value { result ≡ number_or default least most (option_map (λ t. t.now) text.entry) }
-    ensures range { IfSome result (λ n. (least ≤ n) × (n ≤ most)) }
-{
-    match text {
-        Some(text) => number_of(least, most, text),
-        None => Some(default),
-    }
-}
-
-// The number that a text spells, in its range.
-fn number_of(least: u64, most: u64, text: &str) -> Option<u64>
-    ensures value { result ≡ spelled_number least most text.now }
-    ensures range { IfSome result (λ n. (least ≤ n) × (n ≤ most)) }
-{
-    if !is_number(text) {
-        return None;
-    }
-    let n = value_of(text);
-    if least <= n && n <= most {
-        Some(n)
-    } else {
-        None
-    }
-}
-
-// Whether the text is one to ten digits.
-fn is_number(text: &str) -> bool
-    ensures { result ≡ is_number text.now }
-{
-    has_digits(text) && has_few(text.len())
-}
-
-fn has_few(size: usize) -> bool
-    ensures { result ≡ (nat_le 1 size && nat_le size 10) }
-{
-    1 <= size && size <= 10
-}
-
-fn has_digits(text: &str) -> bool
-    ensures { result ≡ all_ascii_digits text.now }
-{
-    let bytes = text.as_bytes();
-    for byte in bytes {
-        if !byte.is_ascii_digit() {
-            return false;
-        }
-    }
-    true
-}
-
-// The value of one to ten digits.
-fn value_of(text: &str) -> u64
-    requires { is_number text.now ≡ true }
-    ensures { result ≡ digits_value 10 text.now }
-{
-    match text.parse::<u64>() {
-        Ok(n) => n,
-        Err(_) => unreachable!(),
     }
 }

@@ -1,7 +1,7 @@
 use Rattle.std.proofs.Common.{map}
 use Rattle.std.specs.String.{string_bytes}
 use Rattle.clap.specs.Matches.{first_value, found_of}
-use Rattle.sm_commands.proofs.Asking.{asks_check, asks_replay, asks_print}
+use Rattle.sm_commands.proofs.Asking.{asks_check, asks_verify, asks_replay, asks_print}
 use Rattle.sm_commands.proofs.words.request_by.Goals as goal
 
 pub returns-in-Check-clause-ok : goal.returns-in-Check-clause-ok
@@ -15,6 +15,18 @@ returns-in-Check-clause-usage c =
     (asks_check c.args.verb (map string_bytes c.args.words.now)
     (first_value (found_of c.in_ok-matches.matches)) c.check_request.result c.in-Check.is c.in_ok-matches.ensures.taken
     c.in_ok-matches.ensures.texts c.check_request.ensures.ok c.check_request.ensures.usage).usage
+
+pub returns-in-Verify-clause-ok : goal.returns-in-Verify-clause-ok
+returns-in-Verify-clause-ok c =
+    (asks_verify c.args.verb (map string_bytes c.args.words.now)
+    (first_value (found_of c.in_ok-matches.matches)) c.verify_request.result c.in-Verify.is c.in_ok-matches.ensures.taken
+    c.in_ok-matches.ensures.texts c.verify_request.ensures.ok c.verify_request.ensures.usage).ok
+
+pub returns-in-Verify-clause-usage : goal.returns-in-Verify-clause-usage
+returns-in-Verify-clause-usage c =
+    (asks_verify c.args.verb (map string_bytes c.args.words.now)
+    (first_value (found_of c.in_ok-matches.matches)) c.verify_request.result c.in-Verify.is c.in_ok-matches.ensures.taken
+    c.in_ok-matches.ensures.texts c.verify_request.ensures.ok c.verify_request.ensures.usage).usage
 
 pub returns-in-Replay-clause-ok : goal.returns-in-Replay-clause-ok
 returns-in-Replay-clause-ok c =

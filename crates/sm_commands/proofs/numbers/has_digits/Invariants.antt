@@ -1,6 +1,6 @@
 use Rattle.std.proofs.Common.{◌≡◌, drop}
 use Rattle.std.specs.Str.{all_ascii_digits}
-use Rattle.sm_commands.proofs.words.has_digits.Given as goal
+use Rattle.sm_commands.proofs.numbers.has_digits.Given as goal
 
 -- what is left of the bytes decides for all of them
 abbrev pub invariant-loop-byte : goal.invariant-loop-byte

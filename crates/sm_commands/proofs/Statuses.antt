@@ -1,0 +1,163 @@
+-- Which statuses the answers to what a command asks for have.
+use Rattle.std.proofs.Common.{◌≡◌, ◌≢◌, inl, inr, ℕ, List, Result, Ok, Err, sym, subst, ◌∙◌}
+use Rattle.sm_check.specs.Files.{FileAnswer, Judged, OverLong}
+use Rattle.sm_io.specs.Files.{Known}
+use Rattle.sm_proof.specs.Verdicts as proof
+use Rattle.sm_replay.specs.declared.error.ReplayError.{ReplayError}
+use Rattle.sm_replay.specs.declared.verdict.Verdict.{Verdict}
+use Rattle.sm_replay.specs.declared.verdict.Verdict.TheVariants as verdict
+use Rattle.sm_syntax.specs.text.Parts.{Parts}
+use Rattle.sm_commands.specs.Top.{Checks, Prints, Replays, Verifies}
+use Rattle.sm_commands.specs.Check.{status_of, AnswersCheck}
+use Rattle.sm_commands.specs.Copies.{decision}
+use Rattle.sm_commands.specs.File.{GivesNoTask}
+use Rattle.sm_commands.specs.Replay.{verdict_status, GivesNoInput, ReplaysInput}
+use Rattle.sm_commands.specs.Verify.{answer_status, AnswersProof}
+use Rattle.sm_commands.specs.declared.copies.Decision.{Decision}
+use Rattle.sm_commands.specs.declared.copies.Decision.TheVariants.{Safe, Copies, NotBuilt}
+use Rattle.sm_commands.specs.declared.status.Status.{Status}
+use Rattle.sm_commands.specs.declared.status.Status.TheVariants.{Accepted, Conflict, Unknown, Refused, Usage, ReadFault, Memory, SinkFault}
+
+-- a command answers with none of these
+pub record IsOfCommand (status : Status) : Type 0 where
+  pub not_usage : status ≢ Usage
+  pub not_memory : status ≢ Memory
+  pub not_sink : status ≢ SinkFault
+
+of_accepted : IsOfCommand Accepted
+of_accepted = record { not_usage = λ e. cc; not_memory = λ e. cc; not_sink = λ e. cc }
+
+of_conflict : IsOfCommand Conflict
+of_conflict = record { not_usage = λ e. cc; not_memory = λ e. cc; not_sink = λ e. cc }
+
+of_unknown : IsOfCommand Unknown
+of_unknown = record { not_usage = λ e. cc; not_memory = λ e. cc; not_sink = λ e. cc }
+
+of_refused : IsOfCommand Refused
+of_refused = record { not_usage = λ e. cc; not_memory = λ e. cc; not_sink = λ e. cc }
+
+of_fault : IsOfCommand ReadFault
+of_fault = record { not_usage = λ e. cc; not_memory = λ e. cc; not_sink = λ e. cc }
+
+-- nor with what is equal to one
+same_as : (status wanted : Status) → status ≡ wanted → IsOfCommand wanted → IsOfCommand status
+same_as status wanted is of = subst IsOfCommand (sym is) of
+
+-- what every answer to what a command asks for says of its status
+pub record IsToCommand (before now : ℕ) (status : Status) : Type 0 where
+  pub of_command : IsOfCommand status
+  pub quiet : status ≢ ReadFault → now ≡ before
+
+-- an answer on a file that gives no task isn't Accepted either
+pub record IsWithoutTask (before now : ℕ) (status : Status) : Type 0 where
+  pub not_accepted : status ≢ Accepted
+  pub not_conflict : status ≢ Conflict
+  pub to_command : IsToCommand before now status
+
+pub without_task : (file : Known) (before now : ℕ) (status : Status) (text : List ℕ) → GivesNoTask file before now status text
+    → IsWithoutTask before now status
+without_task file before now status text (inl (inl f)) =
+    let is = f.says.ended in
+    record {
+      not_accepted =
+          λ e. cc;
+      not_conflict = λ e. cc;
+      to_command = record { of_command = same_as status ReadFault is of_fault; quiet = λ h. absurd (h is) };
+    }
+without_task file before now status text (inl (inr f)) =
+    let is = f.says.ended in
+    record {
+      not_accepted =
+          λ e. cc;
+      not_conflict = λ e. cc;
+      to_command = record { of_command = same_as status Refused is of_refused; quiet = λ h. f.quiet };
+    }
+without_task file before now status text (inr f) =
+    let is = f.refuses.says.ended in
+    record {
+      not_accepted =
+          λ e. cc;
+      not_conflict = λ e. cc;
+      to_command = record { of_command = same_as status Refused is of_refused; quiet = λ h. f.read.quiet };
+    }
+
+decided_status : (d : Decision) → IsOfCommand (status_of d)
+decided_status Safe = of_accepted
+decided_status (Copies x clause) = of_unknown
+decided_status NotBuilt = of_unknown
+
+checked_status : (t : Parts) (turns : ℕ) (status : Status) (text : List ℕ) → AnswersCheck t turns status text
+    → IsOfCommand status
+checked_status t turns status text (inl a) = same_as status Conflict a.says.ended of_conflict
+checked_status t turns status text (inr a) = same_as status (status_of (decision t)) a.says.ended (decided_status (decision t))
+
+pub check_to_command : (file : Known) (turns before now : ℕ) (status : Status) (text : List ℕ) → Checks file turns before now status text
+    → IsToCommand before now status
+check_to_command file turns before now status text (inl f) = (without_task file before now status text f).to_command
+check_to_command file turns before now status text (inr c) = record {
+  of_command = checked_status c.task turns status text c.answers;
+  quiet = λ h. c.gives.read.quiet;
+}
+
+pub print_to_command : (file : Known) (before now : ℕ) (status : Status) (text : List ℕ) → Prints file before now status text
+    → IsToCommand before now status
+print_to_command file before now status text (inl f) = (without_task file before now status text f).to_command
+print_to_command file before now status text (inr c) =
+    record { of_command = same_as status Accepted c.says.ended of_accepted; quiet = λ h. c.gives.read.quiet }
+
+no_input_to_command : (t : Parts) (file : Known) (before now : ℕ) (status : Status) (text : List ℕ)
+    → GivesNoInput t file before now status text → IsToCommand before now status
+no_input_to_command t file before now status text (inl (inl f)) =
+    record { of_command = same_as status ReadFault f.says.ended of_fault; quiet = λ h. absurd (h f.says.ended) }
+no_input_to_command t file before now status text (inl (inr f)) =
+    record { of_command = same_as status Refused f.says.ended of_refused; quiet = λ h. f.quiet }
+no_input_to_command t file before now status text (inr f) =
+    record { of_command = same_as status Refused f.refuses.says.ended of_refused; quiet = λ h. f.read.quiet }
+
+judged_status : (r : Result Verdict ReplayError) → IsOfCommand (verdict_status r)
+judged_status (Ok verdict.Holds) = of_accepted
+judged_status (Ok verdict.Unmet) = of_unknown
+judged_status (Ok (verdict.Violates x i clause)) = of_conflict
+judged_status (Err x) = of_unknown
+
+store_to_command : (t : Parts) (file : Known) (turns before now : ℕ) (status : Status) (text : List ℕ)
+    → ReplaysInput t file turns before now status text → IsToCommand before now status
+store_to_command t file turns before now status text (inl f) = no_input_to_command t file before now status text f
+store_to_command t file turns before now status text (inr c) = record {
+  of_command = same_as status (verdict_status c.answers.verdict) c.answers.says.ended (judged_status c.answers.verdict);
+  quiet = λ h. c.gives.read.quiet;
+}
+
+pub replay_to_command : (file input : Known) (turns before now : ℕ) (status : Status) (text : List ℕ)
+    → Replays file input turns before now status text → IsToCommand before now status
+replay_to_command file input turns before now status text (inl f) = (without_task file before now status text f).to_command
+replay_to_command file input turns before now status text (inr c) =
+    let to = store_to_command c.task input turns c.between now status text c.answers in
+    record { of_command = to.of_command; quiet = λ h. to.quiet h ∙ c.gives.read.quiet }
+
+answered_status : (a : FileAnswer) → IsOfCommand (answer_status a)
+answered_status (Judged proof.Pass) = of_accepted
+answered_status (Judged (proof.Rejected line word)) = of_refused
+answered_status OverLong = of_refused
+
+-- no proof file is answered by Conflict
+pub answered_no_conflict : (a : FileAnswer) → answer_status a ≢ Conflict
+answered_no_conflict (Judged proof.Pass) e = cc
+answered_no_conflict (Judged (proof.Rejected line word)) e = cc
+answered_no_conflict OverLong e = cc
+
+proof_to_command : (t : Parts) (file : Known) (before now : ℕ) (status : Status) (text : List ℕ)
+    → AnswersProof t file before now status text → IsToCommand before now status
+proof_to_command t file before now status text (inl f) =
+    record { of_command = same_as status ReadFault f.says.ended of_fault; quiet = λ h. absurd (h f.says.ended) }
+proof_to_command t file before now status text (inr c) = record {
+  of_command = same_as status (answer_status c.answer) c.says.ended (answered_status c.answer);
+  quiet = λ h. c.quiet;
+}
+
+pub verify_to_command : (file proof : Known) (before now : ℕ) (status : Status) (text : List ℕ)
+    → Verifies file proof before now status text → IsToCommand before now status
+verify_to_command file proof before now status text (inl f) = (without_task file before now status text f).to_command
+verify_to_command file proof before now status text (inr c) =
+    let to = proof_to_command c.task proof c.between now status text c.answers in
+    record { of_command = to.of_command; quiet = λ h. to.quiet h ∙ c.gives.read.quiet }

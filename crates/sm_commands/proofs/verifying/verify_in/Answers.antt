@@ -1,0 +1,19 @@
+use Rattle.sm_task.specs.Tasks.{parts_of}
+use Rattle.sm_commands.proofs.Answering.{verified_by}
+use Rattle.sm_commands.proofs.verifying.verify_in.Goals as goal
+
+pub returns-clause-ok : goal.returns-clause-ok
+returns-clause-ok g c =
+    (verified_by (g.H.Shelf.file c.args.shelf.now c.args.name.now) (g.H.Shelf.file c.args.shelf.now c.args.proof.now)
+    (g.H.Shelf.file c.task_in.new.shelf c.args.proof.now) (g.H.Shelf.read_faults c.args.shelf.now)
+    (g.H.Shelf.read_faults c.task_in.new.shelf) (g.H.Shelf.read_faults c.verify_task.new.shelf) (parts_of c.in_ok-task.task)
+    c.in_ok-task.ensures.ok
+    (c.in_ok-task.ensures.same c.args.proof.now) c.verify_task.result c.verify_task.ensures.ok c.verify_task.ensures.exit).0
+
+pub returns-clause-exit : goal.returns-clause-exit
+returns-clause-exit g c =
+    (verified_by (g.H.Shelf.file c.args.shelf.now c.args.name.now) (g.H.Shelf.file c.args.shelf.now c.args.proof.now)
+    (g.H.Shelf.file c.task_in.new.shelf c.args.proof.now) (g.H.Shelf.read_faults c.args.shelf.now)
+    (g.H.Shelf.read_faults c.task_in.new.shelf) (g.H.Shelf.read_faults c.verify_task.new.shelf) (parts_of c.in_ok-task.task)
+    c.in_ok-task.ensures.ok
+    (c.in_ok-task.ensures.same c.args.proof.now) c.verify_task.result c.verify_task.ensures.ok c.verify_task.ensures.exit).1
