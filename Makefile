@@ -20,7 +20,7 @@ bin/safemerge: crates/safemerge/out/safemerge
 crates/safemerge/out/safemerge: $(SOURCES)
 	@mkdir -p bin
 	@echo "Proving the $(words $(CRATES)) crates of the program, or those that changed."
-	@echo "From nothing this takes about 20 minutes, 3.2 GB of disk and 3 GB of memory."
+	@echo "From nothing this takes most of an hour, 8 GB of disk and 3 GB of memory."
 	@{ (cd crates/safemerge && rt run 2>&1 >/dev/null); echo "ended with $$?"; } | tee bin/build.log | \
 	  while read -r line; do case $$line in "rt: chose --jobs "*) \
 	    crate=$${line##* }; number=$$(echo $(CRATES) | tr ' ' '\n' | grep -n -x "$$crate" | cut -d : -f 1); \
