@@ -1,0 +1,5 @@
+pub mod NumberedPlans
+pub mod Views
+pub mod Tasks
+pub mod Cursors
+pub mod Walks
