@@ -16,8 +16,9 @@ use std::marker::Model;
 /// Its atoms ascend, no coefficient is 0, and all numbers lie from -(2^127 - 1) to 2^127 - 1.
 #[derive(Debug, Drop)]
 pub struct LinForm {
-    pub(crate) parts: Vec<(u64, i128)>,
+    // first, so that a form takes 48 bytes and not 64
     pub(crate) constant: i128,
+    pub(crate) parts: Vec<(u64, i128)>,
     pub(crate) kind: Kind,
 }
 

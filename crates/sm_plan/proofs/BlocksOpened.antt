@@ -17,18 +17,23 @@ use Rattle.sm_plan.specs.Statements.{front, rest_after}
 use Rattle.sm_plan.specs.Successors.{renewed, inner_state, after_block_state}
 use Rattle.sm_plan.specs.Views.{rest_code, forms_in, stores_in, state_in}
 use Rattle.sm_plan.proofs.SortedCode.{front_well, rest_well}
-use Rattle.sm_plan.proofs.TablesWiden.{widens_grown, widens_twice, stores_stay, stores_ready, stores_full, assertion_stays, forms_stay, forms_ready}
+use Rattle.sm_plan.proofs.TablesWiden.{widens_grown, widens_twice, stores_stay, stores_ready, stores_full, assertion_stays, forms_stay}
+use Rattle.sm_plan.proofs.TablesWiden.{forms_ready}
 
 -- over the table `u` of the state, the table `v` with new values and the table `w` with the kept formula
-module _ (u v w : TableValue) (first : Grows u v) (second : Widens v w) (k : ℕ) (st inner after : SymState) (counts : Copy → ℕ) (keep : Formula) (kept : List Formula)
+module _ (u v w : TableValue) (first : Grows u v) (second : Widens v w) (k : ℕ) (st inner after : SymState) (counts : Copy → ℕ)
+    (keep : Formula) (kept : List Formula)
     (fronts : (c : Copy) → rest_code (of_copy inner.rests c) ≡ front (counts c) (rest_code (of_copy st.rests c)))
     (passed : (c : Copy) → rest_code (of_copy after.rests c) ≡ rest_after (counts c) (rest_code (of_copy st.rests c)))
     (old_stores : inner.stores ≡ st.stores)
-    (new_stores : stores_in (trees_in v) after.stores ≡ renewed k (λ (c : Copy). rest_code (of_copy inner.rests c)) (stores_in (trees_in u) st.stores))
-    (inner_target : (sorts : Sorts) (trees : List _) → forms_in sorts trees inner.target.value.list.items ≡ conj (assertion_in sorts trees (numbered keep)))
+    (new_stores : stores_in (trees_in v) after.stores
+    ≡ renewed k (λ (c : Copy). rest_code (of_copy inner.rests c)) (stores_in (trees_in u) st.stores))
+    (inner_target : (sorts : Sorts) (trees : List _) →
+    forms_in sorts trees inner.target.value.list.items ≡ conj (assertion_in sorts trees (numbered keep)))
     (after_target : after.target.value.list.items ≡ st.target.value.list.items)
     (inner_final : inner.is_final ≡ false) (after_final : after.is_final ≡ st.is_final)
-    (made : forms_in (sorts_in w) (trees_in w) kept ≡ all_at_stores (stores_in (trees_in v) after.stores) (forms_in (sorts_in v) (trees_in v) inner.target.value.list.items))
+    (made : forms_in (sorts_in w) (trees_in w) kept
+    ≡ all_at_stores (stores_in (trees_in v) after.stores) (forms_in (sorts_in v) (trees_in v) inner.target.value.list.items))
     (ready : IsStateReady (sorts_in u) (trees_in u) st) (good : IsFormReady (sorts_in u) (trees_in u) keep)
     (new_ready : AreStoresReady (sorts_in v) (trees_in v) after.stores) where
   wider : Widens u w
@@ -58,7 +63,8 @@ module _ (u v w : TableValue) (first : Grows u v) (second : Widens v w) (k : ℕ
       }
 
   -- the stores after it
-  after_stores : stores_in (trees_in v) after.stores ≡ renewed k (λ (c : Copy). front (counts c) (rest_code (of_copy st.rests c))) (stores_in (trees_in u) st.stores)
+  after_stores : stores_in (trees_in v) after.stores
+      ≡ renewed k (λ (c : Copy). front (counts c) (rest_code (of_copy st.rests c))) (stores_in (trees_in u) st.stores)
   after_stores = new_stores ∙ ap (λ (f : Copy → Code). renewed k f (stores_in (trees_in u) st.stores)) (fun_ext fronts)
 
   -- what comes after it
@@ -100,6 +106,7 @@ module _ (u v w : TableValue) (first : Grows u v) (second : Widens v w) (k : ℕ
         sorted_again (rest_after (counts c) (rest_code (of_copy st.rests c))) (rest_code (of_copy after.rests c)) (passed c)
         (rest_well (sorts_in u) (counts c) (rest_code (of_copy st.rests c)) (ready.rests c));
     stores = stores_ready v w second after.stores new_ready;
-    target = subst (AreFormsReady (sorts_in w) (trees_in w)) (sym after_target) (forms_ready u w wider st.target.value.list.items ready.target);
+    target = subst (AreFormsReady (sorts_in w) (trees_in w)) (sym after_target)
+        (forms_ready u w wider st.target.value.list.items ready.target);
     full = stores_full v w second after.stores full;
   }

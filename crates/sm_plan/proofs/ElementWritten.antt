@@ -17,8 +17,10 @@ use Rattle.sm_term.proofs.TablesLemmas.{grows-twice}
 use Rattle.sm_term.proofs.ExpressionLemmas.{store-more, stays_got, tree_got, sort_got, number_made, name_made, there, name_stored}
 use Rattle.sm_plan.specs.ReadyStates.{IsStoreReady}
 
-module _ (u v w : TableValue) (first : Grows u v) (second : Grows v w) (s : SymStore) (ready : IsStoreReady (sorts_in u) (trees_in u) s) (a : ℕ) (i e : Expression)
-    (name : IsAsDeclared (sorts_in u) a Arr) (place : a < length s.list.items) (i_well : IsWellSortedExpression (sorts_in u) i) (e_well : IsWellSortedExpression (sorts_in u) e)
+module _ (u v w : TableValue) (first : Grows u v) (second : Grows v w) (s : SymStore) (ready : IsStoreReady (sorts_in u) (trees_in u) s)
+    (a : ℕ) (i e : Expression)
+    (name : IsAsDeclared (sorts_in u) a Arr) (place : a < length s.list.items) (i_well : IsWellSortedExpression (sorts_in u) i)
+    (e_well : IsWellSortedExpression (sorts_in u) e)
     (array index value : TermId) (array_is : array ≡ get_or s.list.items a array)
     (index_is : slice_get (trees_in v) index.0 ≡ Some (term_of i (store_in (trees_in u) s)))
     (value_is : slice_get (trees_in w) value.0 ≡ Some (term_of e (store_in (trees_in v) s))) where
@@ -32,7 +34,8 @@ module _ (u v w : TableValue) (first : Grows u v) (second : Grows v w) (s : SymS
   trees = trees_in w
 
   array_got : slice_get trees array.0 ≡ Some (f a)
-  array_got = stays_got u w both array.0 (f a) (name_stored (trees_in u) s a array ready.0 (slice_get_read s.list.items (length s.list.items) a array refl place array_is))
+  array_got = stays_got u w both array.0 (f a)
+      (name_stored (trees_in u) s a array ready.0 (slice_get_read s.list.items (length s.list.items) a array refl place array_is))
 
   index_got : slice_get trees index.0 ≡ Some (term_of i f)
   index_got = stays_got v w second index.0 (term_of i f) index_is
@@ -45,7 +48,8 @@ module _ (u v w : TableValue) (first : Grows u v) (second : Grows v w) (s : SymS
   element_within = (there trees array.0 _ array_got, there trees index.0 _ index_got, there trees value.0 _ value_got)
 
   -- and have their sorts
-  pub element_fits : (has_sort (sorts_in w) trees array Arr && (has_sort (sorts_in w) trees index Num && has_sort (sorts_in w) trees value Num)) ≡ true
+  pub element_fits : (has_sort (sorts_in w) trees array Arr
+      && (has_sort (sorts_in w) trees index Num && has_sort (sorts_in w) trees value Num)) ≡ true
   element_fits =
       and_from _ _ (sort_got (sorts_in w) trees array _ Arr array_got (name_made u w both s ready.1 a Arr name))
       (and_from _ _ (sort_got (sorts_in w) trees index _ Num index_got (number_made u w both s ready.1 i i_well))

@@ -39,25 +39,31 @@ module _ (v w : TableValue) (grows : Grows v w) where
 
     -- the tree that a number should have is the same
     pub fill_more : (n : ℕ) → n < length (trees_in v) →
-        fill_term (stores_in (trees_in w) stores) (tree_at (trees_in w) n) ≡ fill_term (stores_in (trees_in v) stores) (tree_at (trees_in v) n)
+        fill_term (stores_in (trees_in w) stores) (tree_at (trees_in w) n)
+        ≡ fill_term (stores_in (trees_in v) stores) (tree_at (trees_in v) n)
     fill_more n h =
-        ap (λ (s : Copy → SymbolicStore). fill_term s (tree_at (trees_in w) n)) stores_more ∙ ap (fill_term (stores_in (trees_in v) stores)) (tree_more n h)
+        ap (λ (s : Copy → SymbolicStore). fill_term s (tree_at (trees_in w) n)) stores_more
+        ∙ ap (fill_term (stores_in (trees_in v) stores)) (tree_more n h)
 
     -- a number that has it, before and after
-    pub filled_more : (n : ℕ) (id : TermId) → n < length (trees_in v) → IsFilled v (stores_in (trees_in v) stores) n id → IsFilled w (stores_in (trees_in w) stores) n id
+    pub filled_more : (n : ℕ) (id : TermId) → n < length (trees_in v) → IsFilled v (stores_in (trees_in v) stores) n id →
+        IsFilled w (stores_in (trees_in w) stores) n id
     filled_more n id h e =
-        stays_got v w grows id.0 (fill_term (stores_in (trees_in v) stores) (tree_at (trees_in v) n)) e ∙ ap (λ (t : Tree). Some t) (sym (fill_more n h))
+        stays_got v w grows id.0 (fill_term (stores_in (trees_in v) stores) (tree_at (trees_in v) n)) e
+        ∙ ap (λ (t : Tree). Some t) (sym (fill_more n h))
 
     pub filled_from : (n : ℕ) (id : TermId) → n < length (trees_in v) → IsFilled w (stores_in (trees_in w) stores) n id →
         slice_get (trees_in w) id.0 ≡ Some (fill_term (stores_in (trees_in v) stores) (tree_at (trees_in v) n))
     filled_from n id h e = e ∙ ap (λ (t : Tree). Some t) (fill_more n h)
 
     pub filled_by : (n : ℕ) (id : TermId) → n < length (trees_in v) →
-        slice_get (trees_in w) id.0 ≡ Some (fill_term (stores_in (trees_in v) stores) (tree_at (trees_in v) n)) → IsFilled w (stores_in (trees_in w) stores) n id
+        slice_get (trees_in w) id.0 ≡ Some (fill_term (stores_in (trees_in v) stores) (tree_at (trees_in v) n)) →
+        IsFilled w (stores_in (trees_in w) stores) n id
     filled_by n id h e = e ∙ ap (λ (t : Tree). Some t) (sym (fill_more n h))
 
     -- the same of all that are known
-    pub known_more : (known : ℕ → Option TermId) → AreKnown v (stores_in (trees_in v) stores) known → AreKnown w (stores_in (trees_in w) stores) known
+    pub known_more : (known : ℕ → Option TermId) → AreKnown v (stores_in (trees_in v) stores) known →
+        AreKnown w (stores_in (trees_in w) stores) known
     known_more known kept n id e =
         let here = kept n id e in
         let long = longer in

@@ -1,5 +1,6 @@
 -- Terms whose parts are known with their slots replaced.
-use Rattle.std.proofs.Common.{◌≡◌, ℕ, pos, ◌<◌, true, Option, Some, None, List, [], ◌∷◌, length, map, slice_get, refl, sym, ap, ◌∙◌, subst, get_or, unwrap_or}
+use Rattle.std.proofs.Common.{◌≡◌, ℕ, pos, ◌<◌, true, Option, Some, None, List, [], ◌∷◌, length, map, slice_get, refl, sym, ap, ◌∙◌, subst}
+use Rattle.std.proofs.Common.{get_or, unwrap_or}
 use Rattle.sm_syntax.specs.declared.tree.Name.{Name}
 use Rattle.sm_syntax.specs.declared.program.Outputs.{Outputs}
 use Rattle.sm_syntax.specs.declared.tree.Sort.{Sort}
@@ -20,7 +21,8 @@ use Rattle.sm_term.specs.Sorted.{sort_named, tree_sort, IsStoreSorted, IsDeclare
 use Rattle.sm_term.specs.Symbolic.{SymbolicStore}
 use Rattle.sm_term.specs.SymStores.{tree_or_start, IsStoreWithin}
 use Rattle.sm_term.specs.TableLaws.{AreTreesSorted}
-use Rattle.sm_term.specs.Tables.{TableValue, trees_in, sorts_in, codes_in, tree_at, tree_in, code_at, arguments_in, IsTermWithin, AreBefore, AreNamesDeclared}
+use Rattle.sm_term.specs.Tables.{TableValue, trees_in, sorts_in, codes_in, tree_at, tree_in, code_at, arguments_in, IsTermWithin, AreBefore}
+use Rattle.sm_term.specs.Tables.{AreNamesDeclared}
 use Rattle.sm_term.specs.Terms.{Tree}
 use Rattle.sm_term.specs.Terms as tree
 use Rattle.std.proofs.lemmas.Option.{slice_get-get_or}
@@ -42,7 +44,8 @@ pub record StandsAs (v : TableValue) (n : ℕ) (t : Term) : Type 0 where
   pub inside : n < length (trees_in v)
 
 -- a row that is known by its value
-pub stands_as : (v : TableValue) (n : ℕ) (t u : Term) → t ≡ u → tree_in (codes_in v) (trees_in v) t ≡ tree_at (trees_in v) n → IsTermWithin (sorts_in v) (length (codes_in v)) n t →
+pub stands_as : (v : TableValue) (n : ℕ) (t u : Term) → t ≡ u → tree_in (codes_in v) (trees_in v) t ≡ tree_at (trees_in v) n →
+    IsTermWithin (sorts_in v) (length (codes_in v)) n t →
     term_fits (sorts_in v) (trees_in v) t ≡ true → n < length (trees_in v) → StandsAs v n u
 stands_as v n t u e tree within fits inside =
     subst (StandsAs v n) e (record {
@@ -52,23 +55,28 @@ stands_as v n t u e tree within fits inside =
       inside = inside;
     })
 
-module _ (v : TableValue) (s : Copy → SymbolicStore) (known : ℕ → Option TermId) (kept : AreKnown v s known) (good : (c : Copy) → IsStoreSorted (sorts_in v) (s c)) (sorted : AreTreesSorted (sorts_in v) (trees_in v)) where
+module _ (v : TableValue) (s : Copy → SymbolicStore) (known : ℕ → Option TermId) (kept : AreKnown v s known)
+    (good : (c : Copy) → IsStoreSorted (sorts_in v) (s c)) (sorted : AreTreesSorted (sorts_in v) (trees_in v)) where
   -- a term without parts and slots is there
-  pub leaf_filled : (n : TermId) (t : Term) → StandsAs v n.0 t → fill_term s (tree_in (codes_in v) (trees_in v) t) ≡ tree_in (codes_in v) (trees_in v) t → IsFilled v s n.0 n
+  pub leaf_filled : (n : TermId) (t : Term) → StandsAs v n.0 t →
+      fill_term s (tree_in (codes_in v) (trees_in v) t) ≡ tree_in (codes_in v) (trees_in v) t → IsFilled v s n.0 n
   leaf_filled n t at fixed =
       let filled : fill_term s (tree_at (trees_in v) n.0) ≡ tree_at (trees_in v) n.0 = ap (fill_term s) (sym at.tree) ∙ fixed ∙ at.tree in
       slice_get-get_or (trees_in v) n.0 (tree.Lit (pos 0)) at.inside ∙ ap (λ (u : Tree). Some u) (sym filled)
 
   -- a slot
-  pub slot_filled : (stores : PerCopy SymStore) → s ≡ stores_in (trees_in v) stores → ((c : Copy) → IsStoreWithin (length (trees_in v)) (of_copy stores c)) →
-      (n c : ℕ) (x : Name) → StandsAs v n (row.Slot c x) → IsFilling v s known n (at_name (slice_get (of_copy stores (copy_of c)).list.items x.0) x)
+  pub slot_filled : (stores : PerCopy SymStore) → s ≡ stores_in (trees_in v) stores →
+      ((c : Copy) → IsStoreWithin (length (trees_in v)) (of_copy stores c)) →
+      (n c : ℕ) (x : Name) → StandsAs v n (row.Slot c x) →
+      IsFilling v s known n (at_name (slice_get (of_copy stores (copy_of c)).list.items x.0) x)
   slot_filled stores same within n c x at = by (slice_get (of_copy stores (copy_of c)).list.items x.0) refl
     where
       by : (o : Option TermId) → slice_get (of_copy stores (copy_of c)).list.items x.0 ≡ o → IsFilling v s known n (at_name o x)
       by None e = (
         at.within.1,
         refl,
-        ap (tree_or_start (trees_in v) x.0) (sym e) ∙ ap (λ (f : Copy → SymbolicStore). f (copy_of c) x.0) (sym same) ∙ ap (fill_term s) at.tree,
+        ap (tree_or_start (trees_in v) x.0) (sym e) ∙ ap (λ (f : Copy → SymbolicStore). f (copy_of c) x.0) (sym same)
+            ∙ ap (fill_term s) at.tree,
       )
       by (Some t) e =
           name_stored (trees_in v) (of_copy stores (copy_of c)) x.0 t (within (copy_of c)) e
@@ -81,20 +89,23 @@ module _ (v : TableValue) (s : Copy → SymbolicStore) (known : ℕ → Option T
   inside : (a b : TermId) → known a.0 ≡ Some b → b.0 < length (trees_in v)
   inside a b e = there (trees_in v) b.0 (fill_term s (tree_at (trees_in v) a.0)) (kept a.0 b e).1
 
-  same_fit : (a b : TermId) (sort : Sort) → known a.0 ≡ Some b → has_sort (sorts_in v) (trees_in v) b sort ≡ has_sort (sorts_in v) (trees_in v) a sort
+  same_fit : (a b : TermId) (sort : Sort) → known a.0 ≡ Some b →
+      has_sort (sorts_in v) (trees_in v) b sort ≡ has_sort (sorts_in v) (trees_in v) a sort
   same_fit a b sort e =
       let part = filled_sorted (sorts_in v) s good (tree_at (trees_in v) a.0) (sorted a.0 (kept a.0 b e).0) in
       ap (λ (r : Sort). same_sort r sort) (ap (tree_sort (sorts_in v)) (got a b e) ∙ part.1)
 
   -- terms of one part, two parts and three parts
-  pub read_filled : (n : ℕ) (a i b j : TermId) → StandsAs v n (row.Read a i) → known a.0 ≡ Some b → known i.0 ≡ Some j → IsFilling v s known n (Made (row.Read b j))
+  pub read_filled : (n : ℕ) (a i b j : TermId) → StandsAs v n (row.Read a i) → known a.0 ≡ Some b → known i.0 ≡ Some j →
+      IsFilling v s known n (Made (row.Read b j))
   read_filled n a i b j at e f = (
     (inside a b e, inside i j f),
     rw (same_fit a b Arr e, same_fit i j Num f) at.fits,
     rw (got a b e, got i j f) (ap (fill_term s) at.tree),
   )
 
-  pub write_filled : (n : ℕ) (a i d b j g : TermId) → StandsAs v n (row.Write a i d) → known a.0 ≡ Some b → known i.0 ≡ Some j → known d.0 ≡ Some g →
+  pub write_filled : (n : ℕ) (a i d b j g : TermId) → StandsAs v n (row.Write a i d) → known a.0 ≡ Some b → known i.0 ≡ Some j →
+      known d.0 ≡ Some g →
       IsFilling v s known n (Made (row.Write b j g))
   write_filled n a i d b j g at e f h = (
     (inside a b e, inside i j f, inside d g h),
@@ -109,21 +120,24 @@ module _ (v : TableValue) (s : Copy → SymbolicStore) (known : ℕ → Option T
     rw (got a b e) (ap (fill_term s) at.tree),
   )
 
-  pub add_filled : (n : ℕ) (a i b j : TermId) → StandsAs v n (row.Add a i) → known a.0 ≡ Some b → known i.0 ≡ Some j → IsFilling v s known n (Made (row.Add b j))
+  pub add_filled : (n : ℕ) (a i b j : TermId) → StandsAs v n (row.Add a i) → known a.0 ≡ Some b → known i.0 ≡ Some j →
+      IsFilling v s known n (Made (row.Add b j))
   add_filled n a i b j at e f = (
     (inside a b e, inside i j f),
     rw (same_fit a b Num e, same_fit i j Num f) at.fits,
     rw (got a b e, got i j f) (ap (fill_term s) at.tree),
   )
 
-  pub sub_filled : (n : ℕ) (a i b j : TermId) → StandsAs v n (row.Sub a i) → known a.0 ≡ Some b → known i.0 ≡ Some j → IsFilling v s known n (Made (row.Sub b j))
+  pub sub_filled : (n : ℕ) (a i b j : TermId) → StandsAs v n (row.Sub a i) → known a.0 ≡ Some b → known i.0 ≡ Some j →
+      IsFilling v s known n (Made (row.Sub b j))
   sub_filled n a i b j at e f = (
     (inside a b e, inside i j f),
     rw (same_fit a b Num e, same_fit i j Num f) at.fits,
     rw (got a b e, got i j f) (ap (fill_term s) at.tree),
   )
 
-  pub mul_filled : (n : ℕ) (a i b j : TermId) → StandsAs v n (row.Mul a i) → known a.0 ≡ Some b → known i.0 ≡ Some j → IsFilling v s known n (Made (row.Mul b j))
+  pub mul_filled : (n : ℕ) (a i b j : TermId) → StandsAs v n (row.Mul a i) → known a.0 ≡ Some b → known i.0 ≡ Some j →
+      IsFilling v s known n (Made (row.Mul b j))
   mul_filled n a i b j at e f = (
     (inside a b e, inside i j f),
     rw (same_fit a b Num e, same_fit i j Num f) at.fits,
@@ -134,7 +148,8 @@ module _ (v : TableValue) (s : Copy → SymbolicStore) (known : ℕ → Option T
   some_same : (t u : TermId) → Some t ≡ Some u → t ≡ u
   some_same t u e = ap (λ (o : Option TermId). unwrap_or o t) e
 
-  args_inside : (args ids : List TermId) → map (λ (t : TermId). known t.0) args ≡ map (λ (t : TermId). Some t) ids → AreBefore (length (trees_in v)) ids
+  args_inside : (args ids : List TermId) → map (λ (t : TermId). known t.0) args ≡ map (λ (t : TermId). Some t) ids →
+      AreBefore (length (trees_in v)) ids
   args_inside [] [] e = tt
   args_inside [] (u ∷ ids) e = tt_of cc
     where
@@ -146,7 +161,8 @@ module _ (v : TableValue) (s : Copy → SymbolicStore) (known : ℕ → Option T
       let rest : map (λ (t : TermId). known t.0) args ≡ map (λ (t : TermId). Some t) ids = cc in
       (inside t u here, args_inside args ids rest)
 
-  names_inside : (from names : List Name) → map (λ (x : Name). x.0) names ≡ map (λ (x : Name). x.0) from → AreNamesDeclared (sorts_in v) from → AreNamesDeclared (sorts_in v) names
+  names_inside : (from names : List Name) → map (λ (x : Name). x.0) names ≡ map (λ (x : Name). x.0) from →
+      AreNamesDeclared (sorts_in v) from → AreNamesDeclared (sorts_in v) names
   names_inside from [] e h = tt
   names_inside [] (y ∷ names) e h = absurd cc
   names_inside (x ∷ from) (y ∷ names) e h =
@@ -190,16 +206,19 @@ module _ (v : TableValue) (s : Copy → SymbolicStore) (known : ℕ → Option T
       rw (name, got t u here, args_filled from names args ids names_same rest) refl
 
   -- a summary
-  pub fun_filled : (n : ℕ) (body : BodyId) (x : Name) (from names : Outputs) (args ids : Terms) → StandsAs v n (row.Fun body x from args) → outputs_of names ≡ outputs_of from →
+  pub fun_filled : (n : ℕ) (body : BodyId) (x : Name) (from names : Outputs) (args ids : Terms) → StandsAs v n (row.Fun body x from args) →
+      outputs_of names ≡ outputs_of from →
       ArePartsKnown known args.list.items (parts.Known ids) → IsFilling v s known n (Made (row.Fun body x names ids))
   fun_filled n body x from names args ids at e f = (
     (at.within.0, at.within.1, names_inside from.list.items names.list.items e at.within.2, args_inside args.list.items ids.list.items f),
     args_fit from.list.items names.list.items args.list.items ids.list.items e f ∙ at.fits,
-    ap (tree.Fun (code_at (codes_in v) body.0) x.0) (args_filled from.list.items names.list.items args.list.items ids.list.items e f) ∙ ap (fill_term s) at.tree,
+    ap (tree.Fun (code_at (codes_in v) body.0) x.0) (args_filled from.list.items names.list.items args.list.items ids.list.items e f)
+        ∙ ap (fill_term s) at.tree,
   )
 
   -- whatever was found of its arguments
-  pub summary_filled : (n : ℕ) (body : BodyId) (x : Name) (from : Outputs) (args : Terms) (f : Filling) → StandsAs v n (row.Fun body x from args) →
+  pub summary_filled : (n : ℕ) (body : BodyId) (x : Name) (from : Outputs) (args : Terms) (f : Filling) →
+      StandsAs v n (row.Fun body x from args) →
       IsSummary known body x from args f → IsFilling v s known n f
   summary_filled n body x from args (There id) at h = absurd h
   summary_filled n body x from args (Made t) at h =

@@ -73,7 +73,8 @@ module _ (f g : ℕ → Option TermId) (k : ℕ) (made : TermId) (gains : (q : �
       (apart n other ∙ none.0, descends_open n ns way.1 none.1)
 
   -- it is known, as the others are
-  pub known_gains : (v : TableValue) (s : Copy → SymbolicStore) → AreKnown v s f → k < length (trees_in v) → IsFilled v s k made → AreKnown v s g
+  pub known_gains : (v : TableValue) (s : Copy → SymbolicStore) → AreKnown v s f → k < length (trees_in v) → IsFilled v s k made →
+      AreKnown v s g
   known_gains v s kept inside new n i e =
       ⊎_elim
       (λ (d : nat_eq n k ≡ true).

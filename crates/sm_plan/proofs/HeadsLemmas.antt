@@ -1,5 +1,6 @@
 -- The guards of loops, one copy after the other, and the turns.
-use Rattle.std.proofs.Common.{◌≡◌, ℕ, Bool, true, false, if◌then◌else◌, Option, Some, None, option_map, List, [], ◌∷◌, ◌++◌, map, length, refl, sym, ap, ◌∙◌, subst}
+use Rattle.std.proofs.Common.{◌≡◌, ℕ, Bool, true, false, if◌then◌else◌, Option, Some, None, option_map, List, [], ◌∷◌, ◌++◌, map, length}
+use Rattle.std.proofs.Common.{refl, sym, ap, ◌∙◌, subst}
 use Rattle.std.specs.Prelude.{IfSome}
 use Rattle.sm_syntax.specs.claim.Syntax.{Code, Condition}
 use Rattle.sm_syntax.specs.text.Sorts.{Sorts, IsWellSorted}
@@ -29,20 +30,24 @@ abbrev pub guard_if : Bool → Code → SymbolicStore → Option Assertion
 guard_if b code s = if b then Some (form_of (loop_guard code) s) else None
 
 -- a guard that was made over a table between two others
-pub guard_more : (u v w x : TableValue) → Grows u v → Grows w x → (b : Bool) (code : Code) (s : SymStore) (o : Option Formula) → IsStoreWithin (length (trees_in u)) s →
-    IfSome o (λ (f : Formula). IsFormulaWithin (length (trees_in w)) (numbered f)) → form_if w o ≡ guard_if b code (store_in (trees_in v) s) →
+pub guard_more : (u v w x : TableValue) → Grows u v → Grows w x → (b : Bool) (code : Code) (s : SymStore) (o : Option Formula) →
+    IsStoreWithin (length (trees_in u)) s →
+    IfSome o (λ (f : Formula). IsFormulaWithin (length (trees_in w)) (numbered f)) →
+    form_if w o ≡ guard_if b code (store_in (trees_in v) s) →
     form_if x o ≡ guard_if b code (store_in (trees_in u) s)
 guard_more u v w x before after b code s o first within e =
     later o within ∙ e ∙ ap (guard_if b code) (store-more u v before s first)
   where
-    later : (o : Option Formula) → IfSome o (λ (f : Formula). IsFormulaWithin (length (trees_in w)) (numbered f)) → form_if x o ≡ form_if w o
+    later : (o : Option Formula) → IfSome o (λ (f : Formula). IsFormulaWithin (length (trees_in w)) (numbered f)) →
+        form_if x o ≡ form_if w o
     later None h = refl
     later (Some f) h = ap (λ (a : Assertion). Some a) (assertion-more w x after (numbered f) h)
 
 -- it is ready
 pub guard_ready : (u w x : TableValue) → Grows u x → Grows w x → (b : Bool) (code : Code) (s : SymbolicStore) (o : Option Formula) →
     IsWellSorted (sorts_in u) code → IsStoreSorted (sorts_in u) s →
-    IfSome o (λ (f : Formula). IsFormulaWithin (length (trees_in w)) (numbered f)) → form_if x o ≡ guard_if b code s → IfSome o (IsFormReady (sorts_in x) (trees_in x))
+    IfSome o (λ (f : Formula). IsFormulaWithin (length (trees_in w)) (numbered f)) → form_if x o ≡ guard_if b code s →
+    IfSome o (IsFormReady (sorts_in x) (trees_in x))
 guard_ready u w x before after b code s None well good within e = tt
 guard_ready u w x before after true code s (Some f) well good within e =
     let same : assertion_in (sorts_in x) (trees_in x) (numbered f) ≡ form_of (loop_guard code) s = cc in (

@@ -1,5 +1,6 @@
 -- Formulas that nodes keep: their size, and the parts of a conjunction.
-use Rattle.std.proofs.Common.{◌≡◌, ◌⊎◌, ℕ, ◌+◌, ◌<◌, ◌≤◌, max, nat_le, inl, inr, Bool, true, false, ◌&&◌, Option, Some, None, is_some, List, [], ◌∷◌, ◌++◌, map, length, refl, sym, ap, ◌∙◌, subst, ⊎_elim, arith}
+use Rattle.std.proofs.Common.{◌≡◌, ◌⊎◌, ℕ, ◌+◌, ◌<◌, ◌≤◌, max, nat_le, inl, inr, Bool, true, false, ◌&&◌, Option, Some, None, is_some, List}
+use Rattle.std.proofs.Common.{[], ◌∷◌, ◌++◌, map, length, refl, sym, ap, ◌∙◌, subst, ⊎_elim, arith}
 use Rattle.std.specs.Prelude.{MatchOption}
 use Rattle.std.proofs.lemmas.Bool.{and_from, le-leb}
 use Rattle.std.proofs.lemmas.Bool.Decides.{leb_tells}
@@ -66,7 +67,8 @@ same_depth sorts trees (Or p q) = λ i. 1 + max (same_depth sorts trees p i) (sa
 
 -- the tests of the limits
 not_le : (m a : ℕ) → a < m → nat_le m a ≡ false
-not_le m a h = ⊎_elim (λ (p : (nat_le m a ≡ true) × (m ≤ a)). absurd (let g = p.1 in omega arith)) (λ (p : (nat_le m a ≡ false) × (a < m)). p.0) (leb_tells m a)
+not_le m a h = ⊎_elim (λ (p : (nat_le m a ≡ true) × (m ≤ a)). absurd (let g = p.1 in omega arith))
+    (λ (p : (nat_le m a ≡ false) × (a < m)). p.0) (leb_tells m a)
 
 false_right : (b : Bool) → (b && false) ≡ false
 false_right true = refl
@@ -82,17 +84,21 @@ inside m a n b left e h = and_from (nat_le m a) (nat_le n b) (le-leb m a (omega 
 
 -- a formula whose nodes are counted within the limits
 pub kept_counted : (sorts : Sorts) (trees : List Tree) (f : NumberedFormula) (o : Option ℕ) →
-    MatchOption o ((200000 < nodes_in f) ⊎ (64 < depth_in f)) (λ (left : ℕ). (nodes_in f + left ≡ 200000) × (depth_in f ≤ 64)) → is_some o ≡ is_kept (assertion_in sorts trees f)
+    MatchOption o ((200000 < nodes_in f) ⊎ (64 < depth_in f)) (λ (left : ℕ). (nodes_in f + left ≡ 200000) × (depth_in f ≤ 64)) →
+    is_some o ≡ is_kept (assertion_in sorts trees f)
 unfolding is_kept
-kept_counted sorts trees f o counted = of o counted ∙ sym (λ i. nat_le (same_nodes sorts trees f i) 200000 && nat_le (same_depth sorts trees f i) 64)
+kept_counted sorts trees f o counted = of o counted
+    ∙ sym (λ i. nat_le (same_nodes sorts trees f i) 200000 && nat_le (same_depth sorts trees f i) 64)
   where
-    of : (o : Option ℕ) → MatchOption o ((200000 < nodes_in f) ⊎ (64 < depth_in f)) (λ (left : ℕ). (nodes_in f + left ≡ 200000) × (depth_in f ≤ 64)) →
+    of : (o : Option ℕ) →
+        MatchOption o ((200000 < nodes_in f) ⊎ (64 < depth_in f)) (λ (left : ℕ). (nodes_in f + left ≡ 200000) × (depth_in f ≤ 64)) →
         is_some o ≡ (nat_le (nodes_in f) 200000 && nat_le (depth_in f) 64)
     of None h = sym (beyond (nodes_in f) 200000 (depth_in f) 64 h)
     of (Some left) h = sym (inside (nodes_in f) 200000 (depth_in f) 64 left h.0 h.1)
 
 -- the parts of a conjunction
-parts_conj : (sorts : Sorts) (trees : List Tree) (f : NumberedFormula) → map (assertion_in sorts trees) (parts_in f) ≡ conj (assertion_in sorts trees f)
+parts_conj : (sorts : Sorts) (trees : List Tree) (f : NumberedFormula) →
+    map (assertion_in sorts trees) (parts_in f) ≡ conj (assertion_in sorts trees f)
 parts_conj sorts trees Yes = refl
 parts_conj sorts trees No = refl
 parts_conj sorts trees (Eq t u) = refl
@@ -103,7 +109,8 @@ parts_conj sorts trees (And p q) =
     map-append (assertion_in sorts trees) (parts_in p) (parts_in q) ∙ (λ i. parts_conj sorts trees p i ++ parts_conj sorts trees q i)
 parts_conj sorts trees (Or p q) = refl
 
-by_numbers : (sorts : Sorts) (trees : List Tree) (fs : List Formula) → forms_in sorts trees fs ≡ map (assertion_in sorts trees) (map numbered fs)
+by_numbers : (sorts : Sorts) (trees : List Tree) (fs : List Formula) →
+    forms_in sorts trees fs ≡ map (assertion_in sorts trees) (map numbered fs)
 by_numbers sorts trees [] = refl
 by_numbers sorts trees (f ∷ fs) = ap (λ l. assertion_in sorts trees (numbered f) ∷ l) (by_numbers sorts trees fs)
 
@@ -137,5 +144,7 @@ forms_within count (f ∷ fs) w = (w.0, forms_within count fs w.1)
 pub conj_ready : (sorts : Sorts) (trees : List Tree) (fs : List Formula) (keep : Formula) → map numbered fs ≡ parts_in (numbered keep) →
     IsFormReady sorts trees keep → AreFormsReady sorts trees fs
 conj_ready sorts trees fs keep e ready =
-    ready_from sorts trees fs (forms_within (length trees) fs (subst (AreWithin (length trees)) (sym e) (parts_within (length trees) (numbered keep) ready.0)))
-    (subst (AreFormsSorted sorts) (sym (conj_made sorts trees fs keep e)) (conj_sorted sorts (assertion_in sorts trees (numbered keep)) ready.1))
+    ready_from sorts trees fs
+    (forms_within (length trees) fs (subst (AreWithin (length trees)) (sym e) (parts_within (length trees) (numbered keep) ready.0)))
+    (subst (AreFormsSorted sorts) (sym (conj_made sorts trees fs keep e))
+    (conj_sorted sorts (assertion_in sorts trees (numbered keep)) ready.1))

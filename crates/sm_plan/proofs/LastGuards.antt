@@ -1,5 +1,6 @@
 -- The last statement of a block.
-use Rattle.std.proofs.Common.{◌≡◌, ℕ, zero, suc, ◌+◌, false, if◌then◌else◌, Some, is_none, List, [], ◌∷◌, length, get_or, refl, sym, ap, ◌∙◌, arith}
+use Rattle.std.proofs.Common.{◌≡◌, ℕ, zero, suc, ◌+◌, false, if◌then◌else◌, Some, is_none, List, [], ◌∷◌, length, get_or, refl, sym, ap}
+use Rattle.std.proofs.Common.{◌∙◌, arith}
 use Rattle.sm_syntax.specs.declared.tree.Block.{Block}
 use Rattle.sm_syntax.specs.declared.tree.Stmt.{Stmt}
 use Rattle.sm_syntax.specs.claim.Syntax.{Code, End}
@@ -22,7 +23,8 @@ put_guard (While b c) k h = ap (λ o. if o then Some b else last_guard k) h
 put_guard (Hole n) k h = refl
 
 -- the last statement alone says whose guard it is
-last_of : (l : List Stmt) (i : ℕ) (s : Stmt) → i + 1 ≡ length l → s ≡ get_or l i s → last_guard (code_before l End) ≡ last_guard (statement_of s End)
+last_of : (l : List Stmt) (i : ℕ) (s : Stmt) → i + 1 ≡ length l → s ≡ get_or l i s →
+    last_guard (code_before l End) ≡ last_guard (statement_of s End)
 last_of [] i s h e = absurd (omega arith)
 last_of (t ∷ []) zero s h e = ap (λ u. last_guard (statement_of u End)) (sym e)
 last_of (t ∷ []) (suc i) s h e = absurd (omega arith)
@@ -32,5 +34,6 @@ last_of (t ∷ u ∷ l) (suc i) s h e =
     ap last_guard ((stands t).1 k) ∙ put_guard (stands t).0 k (not_over u (code_before l End)) ∙ last_of (u ∷ l) i s (omega arith) e
 
 -- the same of a block
-pub last_of_block : (b : Block) (i : ℕ) (s : Stmt) → i + 1 ≡ length b.list.items → s ≡ get_or b.list.items i s → last_guard (code_of b) ≡ last_guard (statement_of s End)
+pub last_of_block : (b : Block) (i : ℕ) (s : Stmt) → i + 1 ≡ length b.list.items → s ≡ get_or b.list.items i s →
+    last_guard (code_of b) ≡ last_guard (statement_of s End)
 last_of_block b i s h e = ap last_guard (block_is b) ∙ last_of b.list.items i s h e

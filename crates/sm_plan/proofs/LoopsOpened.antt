@@ -13,7 +13,8 @@ use Rattle.sm_plan.specs.Statements.{loop_guard}
 use Rattle.sm_plan.specs.Successors.{guard_fact, head_stores, turn_state, after_loops_state}
 
 -- the facts of guards
-guards_same : (st : State) (set turning : Copies) (s : Copy → SymbolicStore) → turned_guards (guards_at set st.rest s) turning ≡ flat_map (guard_fact st set turning s) copies
+guards_same : (st : State) (set turning : Copies) (s : Copy → SymbolicStore) →
+    turned_guards (guards_at set st.rest s) turning ≡ flat_map (guard_fact st set turning s) copies
 guards_same st set turning s =
     ap (λ (f : Copy → List Assertion). flat_map f copies)
     (fun_ext (λ (c : Copy). by (has set c) (has turning c) (form_of (loop_guard (st.rest c)) (s c))))
@@ -23,14 +24,17 @@ guards_same st set turning s =
     by true false f = refl
     by false d f = refl
 
-module _ (k : ℕ) (st : State) (set : Copies) (keep : Assertion) (stores : Copy → SymbolicStore) (kept : List Assertion) (guards : Copy → Option Assertion)
+module _ (k : ℕ) (st : State) (set : Copies) (keep : Assertion) (stores : Copy → SymbolicStore) (kept : List Assertion)
+    (guards : Copy → Option Assertion)
     (stores_are : stores ≡ head_stores st k set) (kept_are : kept ≡ all_at_stores (head_stores st k set) (conj keep))
     (guards_are : guards ≡ guards_at set st.rest (head_stores st k set)) where
   facts_are : (turning : Copies) → turned_guards guards turning ≡ flat_map (guard_fact st set turning (head_stores st k set)) copies
-  facts_are turning = ap (λ (g : Copy → Option Assertion). turned_guards g turning) guards_are ∙ guards_same st set turning (head_stores st k set)
+  facts_are turning = ap (λ (g : Copy → Option Assertion). turned_guards g turning) guards_are
+      ∙ guards_same st set turning (head_stores st k set)
 
   -- a turn
-  pub turn_same : (target : List Assertion) → target ≡ conj keep → (turning : Copies) → turn_of st.rest st.facts stores kept guards target turning ≡ turn_state st k set keep turning
+  pub turn_same : (target : List Assertion) → target ≡ conj keep → (turning : Copies) →
+      turn_of st.rest st.facts stores kept guards target turning ≡ turn_state st k set keep turning
   turn_same target e turning = λ i. record {
     rest = (turn_state st k set keep turning).rest;
     stores = stores_are i;
@@ -40,7 +44,8 @@ module _ (k : ℕ) (st : State) (set : Copies) (keep : Assertion) (stores : Copy
   }
 
   -- what comes after
-  pub after_same : (target : List Assertion) → target ≡ st.target → after_of st.rest st.facts stores kept guards target st.is_final set ≡ after_loops_state st k set keep
+  pub after_same : (target : List Assertion) → target ≡ st.target →
+      after_of st.rest st.facts stores kept guards target st.is_final set ≡ after_loops_state st k set keep
   after_same target e = λ i. record {
     rest = (after_loops_state st k set keep).rest;
     stores = stores_are i;

@@ -14,11 +14,13 @@ use Rattle.sm_plan.specs.Statements.{is_over, is_long, front, rest_after, is_loo
 use Rattle.sm_plan.specs.Limits.{is_kept}
 use Rattle.sm_plan.specs.States.{State}
 use Rattle.sm_plan.specs.Successors as next
-use Rattle.sm_plan.specs.Nodes.{Node, Step, Abs, Fork, Loop, Block, Dead, Ends, Unfit, Opened, follows, asks, where_true, after_step, both_ways, opened_by}
+use Rattle.sm_plan.specs.Nodes.{Node, Step, Abs, Fork, Loop, Block, Dead, Ends, Unfit, Opened, follows, asks, where_true, after_step}
+use Rattle.sm_plan.specs.Nodes.{both_ways, opened_by}
 use Rattle.sm_plan.specs.SortedStates.{IsStateSorted, AreStatesSorted, IsNodeSorted}
 use Rattle.sm_plan.proofs.SortedCode.{append_well, front_well, rest_well}
 use Rattle.sm_plan.proofs.SortedTerms.{negate_sorted, form_sorted, conj_sorted, all_at_stores_sorted}
-use Rattle.sm_plan.proofs.SortedStates.{stepped_sorted, states_append, moved_sorted, moved_alone, summary_sorted, turns_sorted, after_sorted, inner_sorted, after_block_sorted}
+use Rattle.sm_plan.proofs.SortedStates.{stepped_sorted, states_append, moved_sorted, moved_alone, summary_sorted, turns_sorted}
+use Rattle.sm_plan.proofs.SortedStates.{after_sorted, inner_sorted, after_block_sorted}
 
 -- goals and states are sorted
 abbrev pub AreOpenedSorted : Sorts → Opened → Type 0
@@ -30,7 +32,8 @@ passed_sorted sorts true r q e all = subst (λ (o : Opened). AreOpenedSorted sor
 passed_sorted sorts false r q e all = absurd cc
 
 -- after a simple statement
-step_sorted : (sorts : Sorts) (st : State) (c : Copy) (q : Opened) (o : Option (Code × SymbolicStore)) → next.stepped (st.rest c) (st.stores c) ≡ o →
+step_sorted : (sorts : Sorts) (st : State) (c : Copy) (q : Opened) (o : Option (Code × SymbolicStore)) →
+    next.stepped (st.rest c) (st.stores c) ≡ o →
     after_step st c o ≡ Some q → IsStateSorted sorts st → AreOpenedSorted sorts q
 step_sorted sorts st c q None here e b = absurd cc
 step_sorted sorts st c q (Some p) here e b =
@@ -39,7 +42,8 @@ step_sorted sorts st c q (Some p) here e b =
     (tt, (moved_alone sorts st c p.0 p.1 b good.0 good.1, tt))
 
 -- after both branches
-fork_sorted : (sorts : Sorts) (st : State) (c : Copy) (q : Opened) (r : Code) → both_ways st c r ≡ Some q → IsWellSorted sorts r → IsStateSorted sorts st → AreOpenedSorted sorts q
+fork_sorted : (sorts : Sorts) (st : State) (c : Copy) (q : Opened) (r : Code) → both_ways st c r ≡ Some q → IsWellSorted sorts r →
+    IsStateSorted sorts st → AreOpenedSorted sorts q
 fork_sorted sorts st c q syntax.End e w b = absurd cc
 fork_sorted sorts st c q (syntax.Skip k) e w b = absurd cc
 fork_sorted sorts st c q (syntax.Assign x v k) e w b = absurd cc
@@ -54,7 +58,8 @@ fork_sorted sorts st c q (syntax.If g first second k) e w b =
       (
         moved_sorted sorts st c (append first k) (st.stores c) (f ∷ []) b (append_well sorts first k w.1 w.3) (b.stores c) (good, tt),
         (
-          moved_sorted sorts st c (append second k) (st.stores c) (negate f ∷ []) b (append_well sorts second k w.2 w.3) (b.stores c) (negate_sorted sorts f good, tt),
+          moved_sorted sorts st c (append second k) (st.stores c) (negate f ∷ []) b (append_well sorts second k w.2 w.3) (b.stores c)
+              (negate_sorted sorts f good, tt),
           tt,
         ),
       ),
@@ -63,11 +68,19 @@ fork_sorted sorts st c q (syntax.While g d k) e w b = absurd cc
 fork_sorted sorts st c q (syntax.Hole h k) e w b = absurd cc
 
 -- what a node opens
-pub node_sorted : (sorts : Sorts) (k : ℕ) (st : State) (node : Node) (q : Opened) → IsStateSorted sorts st → IsNodeSorted sorts node → opened_by k st node ≡ Some q → AreOpenedSorted sorts q
+pub node_sorted : (sorts : Sorts) (k : ℕ) (st : State) (node : Node) (q : Opened) → IsStateSorted sorts st → IsNodeSorted sorts node →
+    opened_by k st node ≡ Some q → AreOpenedSorted sorts q
 node_sorted sorts k st (Step c) q b kept e = step_sorted sorts st c q (next.stepped (st.rest c) (st.stores c)) refl e b
 node_sorted sorts k st (Abs c n) q b kept e =
-    passed_sorted sorts (nat_le 1 n && is_long n (st.rest c)) (follows (next.summary_state st c (front n (st.rest c)) (rest_after n (st.rest c)) ∷ [])) q e
-    (tt, (summary_sorted sorts st c (front n (st.rest c)) (rest_after n (st.rest c)) b (front_well sorts n (st.rest c) (b.rest c)) (rest_well sorts n (st.rest c) (b.rest c)), tt))
+    passed_sorted sorts (nat_le 1 n && is_long n (st.rest c))
+    (follows (next.summary_state st c (front n (st.rest c)) (rest_after n (st.rest c)) ∷ [])) q e (
+      tt,
+      (
+        summary_sorted sorts st c (front n (st.rest c)) (rest_after n (st.rest c)) b (front_well sorts n (st.rest c) (b.rest c))
+            (rest_well sorts n (st.rest c) (b.rest c)),
+        tt,
+      ),
+    )
 node_sorted sorts k st (Fork c) q b kept e = fork_sorted sorts st c q (st.rest c) e (b.rest c) b
 node_sorted sorts k st (Loop set keep) q b kept e =
     let have_loops = each (λ (c : Copy). not (has set c) || is_loop (st.rest c)) in
@@ -75,7 +88,8 @@ node_sorted sorts k st (Loop set keep) q b kept e =
     passed_sorted sorts (is_inhabited set && (have_loops && is_kept keep))
     (record { goals = all_at_stores st.stores (conj keep); states = turns ++ next.after_loops_state st k set keep ∷ [] }) q e (
       all_at_stores_sorted sorts st.stores b.stores (conj keep) (conj_sorted sorts keep kept),
-      states_append sorts turns (next.after_loops_state st k set keep ∷ []) (turns_sorted sorts k st set keep b kept (subsets set)) (after_sorted sorts k st set keep b kept, tt),
+      states_append sorts turns (next.after_loops_state st k set keep ∷ []) (turns_sorted sorts k st set keep b kept (subsets set))
+          (after_sorted sorts k st set keep b kept, tt),
     )
 node_sorted sorts k st (Block counts keep) q b kept e =
     passed_sorted sorts (each (λ (c : Copy). is_long (counts c) (st.rest c)) && is_kept keep)

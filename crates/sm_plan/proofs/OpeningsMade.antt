@@ -36,5 +36,6 @@ opening_states v w st want o goals asking ready is = record {
 }
 
 -- nothing is opened
-pub opening_none : (v w : TableValue) (st : SymState) (want : List Assertion → Option plan.Opened) → ((facts : List Assertion) → None ≡ want facts) → IsOpening v w st want None
+pub opening_none : (v w : TableValue) (st : SymState) (want : List Assertion → Option plan.Opened) →
+    ((facts : List Assertion) → None ≡ want facts) → IsOpening v w st want None
 opening_none v w st want is = record { opened = is; stores = tt; ready = tt; goals = tt; asking = tt }

@@ -31,7 +31,8 @@ given_twice f c v w = fun_ext (λ (d : Copy). by d (is_copy c d))
     by d false = refl
 
 -- a function of what each copy has
-pub over_given : {T U : Type 0} (g : T → U) (f : Copy → T) (c : Copy) (v : T) → (λ (d : Copy). g (with_copy f c v d)) ≡ with_copy (λ (d : Copy). g (f d)) c (g v)
+pub over_given : {T U : Type 0} (g : T → U) (f : Copy → T) (c : Copy) (v : T) →
+    (λ (d : Copy). g (with_copy f c v d)) ≡ with_copy (λ (d : Copy). g (f d)) c (g v)
 over_given g f c v = fun_ext (λ (d : Copy). by d (is_copy c d))
   where
     by : (d : Copy) (b : Bool) → g (if b then v else f d) ≡ (if b then g v else g (f d))
@@ -39,7 +40,8 @@ over_given g f c v = fun_ext (λ (d : Copy). by d (is_copy c d))
     by d false = refl
 
 -- what holds of the new one and of the old ones
-each_given : {T : Type 0} (P : T → Type 0) (f : Copy → T) (c : Copy) (v : T) → P v → ((d : Copy) → P (f d)) → (d : Copy) → P (with_copy f c v d)
+each_given : {T : Type 0} (P : T → Type 0) (f : Copy → T) (c : Copy) (v : T) → P v → ((d : Copy) → P (f d)) → (d : Copy) →
+    P (with_copy f c v d)
 each_given P f c v new old d = by (is_copy c d)
   where
     by : (b : Bool) → P (if b then v else f d)
@@ -81,8 +83,10 @@ AreAllListed sorts l = (x : ℕ) → IsDeclaredIn sorts x → x < length l
 -- another rest and another store of one copy, over a wider table
 module _ (v w : TableValue) (wider : Widens v w) (st next : SymState) (c : Copy) (k : Code) (store : SymStore)
     (rests : (d : Copy) → rest_code (of_copy next.rests d) ≡ with_copy (λ (e : Copy). rest_code (of_copy st.rests e)) c k d)
-    (stores : (d : Copy) → numbers_of (of_copy next.stores d) ≡ with_copy (λ (e : Copy). numbers_of (of_copy st.stores e)) c (numbers_of store) d)
-    (target : next.target.value.list.items ≡ st.target.value.list.items) (final : next.is_final ≡ st.is_final) (ready : IsStateReady (sorts_in v) (trees_in v) st) where
+    (stores : (d : Copy) → numbers_of (of_copy next.stores d)
+    ≡ with_copy (λ (e : Copy). numbers_of (of_copy st.stores e)) c (numbers_of store) d)
+    (target : next.target.value.list.items ≡ st.target.value.list.items) (final : next.is_final ≡ st.is_final)
+    (ready : IsStateReady (sorts_in v) (trees_in v) st) where
   rest_moved : (λ (d : Copy). rest_code (of_copy next.rests d)) ≡ with_copy (λ (d : Copy). rest_code (of_copy st.rests d)) c k
   rest_moved = fun_ext rests
 
@@ -90,9 +94,11 @@ module _ (v w : TableValue) (wider : Widens v w) (st next : SymState) (c : Copy)
   stores_moved =
       fun_ext (λ (d : Copy). ap (listed (trees_in w)) (stores d))
       ∙ over_given (listed (trees_in w)) (λ (e : Copy). numbers_of (of_copy st.stores e)) c (numbers_of store)
-      ∙ ap (λ (f : Copy → SymbolicStore). with_copy f c (store_in (trees_in w) store)) (fun_ext (λ (d : Copy). store_stays v w wider (of_copy st.stores d) (ready.stores d).0))
+      ∙ ap (λ (f : Copy → SymbolicStore). with_copy f c (store_in (trees_in w) store))
+      (fun_ext (λ (d : Copy). store_stays v w wider (of_copy st.stores d) (ready.stores d).0))
 
-  target_moved : forms_in (sorts_in w) (trees_in w) next.target.value.list.items ≡ forms_in (sorts_in v) (trees_in v) st.target.value.list.items
+  target_moved : forms_in (sorts_in w) (trees_in w) next.target.value.list.items
+      ≡ forms_in (sorts_in v) (trees_in v) st.target.value.list.items
   target_moved = ap (forms_in (sorts_in w) (trees_in w)) target ∙ forms_stay v w wider st.target.value.list.items ready.target
 
   -- what it stands for
@@ -112,7 +118,8 @@ module _ (v w : TableValue) (wider : Widens v w) (st next : SymState) (c : Copy)
       → IsStateReady (sorts_in w) (trees_in w) next
   moved_ready well here full = record {
     rests = λ (d : Copy). subst (IsWellSorted (sorts_in w)) (sym (rests d))
-        (each_given (IsWellSorted (sorts_in w)) (λ (e : Copy). rest_code (of_copy st.rests e)) c k (resort k well) (λ (e : Copy). resort (rest_code (of_copy st.rests e)) (ready.rests e)) d);
+        (each_given (IsWellSorted (sorts_in w)) (λ (e : Copy). rest_code (of_copy st.rests e)) c k (resort k well)
+        (λ (e : Copy). resort (rest_code (of_copy st.rests e)) (ready.rests e)) d);
     stores = λ (d : Copy). subst (AreListed (sorts_in w) (trees_in w)) (sym (stores d))
         (each_given (AreListed (sorts_in w) (trees_in w)) (λ (e : Copy). numbers_of (of_copy st.stores e)) c (numbers_of store) here
         (λ (e : Copy). store_ready v w wider (of_copy st.stores e) (ready.stores e)) d);

@@ -1,5 +1,6 @@
 -- Stores in which names have new values, one name after the other.
-use Rattle.std.proofs.Common.{◌≡◌, ℕ, zero, suc, ◌+◌, ◌<◌, ◌==◌, ◌||◌, Bool, true, false, if◌then◌else◌, List, [], ◌∷◌, ◌++◌, length, get_or, take, slice_get, refl, sym, ap, ◌∙◌, subst, arith}
+use Rattle.std.proofs.Common.{◌≡◌, ℕ, zero, suc, ◌+◌, ◌<◌, ◌==◌, ◌||◌, Bool, true, false, if◌then◌else◌, List, [], ◌∷◌, ◌++◌, length}
+use Rattle.std.proofs.Common.{get_or, take, slice_get, refl, sym, ap, ◌∙◌, subst, arith}
 use Rattle.std.proofs.Math.Path.{fun_ext}
 use Rattle.std.proofs.lemmas.Bool.{eqb-true, eq-eqb}
 use Rattle.std.proofs.lemmas.List.{map_more}
@@ -68,10 +69,13 @@ new_push k c names i d s h =
     let x = (get_or names i d).0 in
     let first = names_in_list (take i names) in
     let more : names_in_list (take (i + 1) names) ≡ first ++ x ∷ [] = map_more (λ (n : Name). n.0) names i d h in
-    fun_ext (λ (y : ℕ). by first x y (y == x) refl ∙ sym (ap (λ (l : List ℕ). with_new k c (is_in l) s y) more ∙ ap (λ (b : Bool). if b then Havoc k c y else s y) (in_push first x y)))
+    fun_ext (λ (y : ℕ). by first x y (y == x) refl
+    ∙ sym (ap (λ (l : List ℕ). with_new k c (is_in l) s y) more
+    ∙ ap (λ (b : Bool). if b then Havoc k c y else s y) (in_push first x y)))
   where
     by : (first : List ℕ) (x y : ℕ) (b : Bool) → (y == x) ≡ b →
-        (if y == x then Havoc k c x else with_new k c (is_in first) s y) ≡ (if (if y == x then true else is_in first y) then Havoc k c y else s y)
+        (if y == x then Havoc k c x else with_new k c (is_in first) s y)
+        ≡ (if (if y == x then true else is_in first y) then Havoc k c y else s y)
     by first x y true e = rw e (ap (Havoc k c) (sym (eqb-true y x e)))
     by first x y false e = rw e refl
 
@@ -80,8 +84,10 @@ pub new_same : (k : ℕ) (c : Copy) (f g : ℕ → Bool) (s : SymbolicStore) →
 new_same k c f g s e = fun_ext (λ (x : ℕ). ap (λ (b : Bool). if b then Havoc k c x else s x) (e x))
 
 -- new values for what code assigns are of the names' sorts
-pub new_sorted : (sorts : Sorts) (k : ℕ) (c : Copy) (done : Code) (s : SymbolicStore) → IsWellSorted sorts done → IsStoreSorted sorts s → IsStoreSorted sorts (with_new k c (assigns done) s)
-new_sorted sorts k c done s well good = renewed_sorted sorts k (λ (d : Copy). done) (λ (d : Copy). s) (λ (d : Copy). well) (λ (d : Copy). good) c
+pub new_sorted : (sorts : Sorts) (k : ℕ) (c : Copy) (done : Code) (s : SymbolicStore) → IsWellSorted sorts done → IsStoreSorted sorts s →
+    IsStoreSorted sorts (with_new k c (assigns done) s)
+new_sorted sorts k c done s well good = renewed_sorted sorts k (λ (d : Copy). done) (λ (d : Copy). s) (λ (d : Copy). well)
+    (λ (d : Copy). good) c
 
 -- what is so of each copy
 pub each_copy : (P : Copy → Type 0) → P O → P A → P B → P M → (c : Copy) → P c
@@ -108,7 +114,8 @@ module _ (v w : TableValue) (grows : Grows v w) where
 -- a store that was made over a table between two others
 pub renewed_more : (u v w x : TableValue) → Grows u v → Grows w x → (k : ℕ) (c : Copy) (test : ℕ → Bool) (s made : SymStore) →
     IsStoreWithin (length (trees_in u)) s → IsStoreWithin (length (trees_in w)) made →
-    store_in (trees_in w) made ≡ with_new k c test (store_in (trees_in v) s) → store_in (trees_in x) made ≡ with_new k c test (store_in (trees_in u) s)
+    store_in (trees_in w) made ≡ with_new k c test (store_in (trees_in v) s) →
+    store_in (trees_in x) made ≡ with_new k c test (store_in (trees_in u) s)
 renewed_more u v w x before after k c test s made first second e =
     store-more w x after made second ∙ e ∙ ap (with_new k c test) (store-more u v before s first)
 

@@ -1,5 +1,6 @@
 -- What is left of programs, as slices of statements.
-use Rattle.std.proofs.Common.{◌≡◌, ℕ, zero, suc, ◌+◌, ◌≤◌, ◌<◌, ◌-◌, true, Some, None, List, [], ◌∷◌, ◌++◌, length, take, drop, drop-cons, get_or, slice_get, refl, sym, ap, ◌∙◌, arith}
+use Rattle.std.proofs.Common.{◌≡◌, ℕ, zero, suc, ◌+◌, ◌≤◌, ◌<◌, ◌-◌, true, Some, None, List, [], ◌∷◌, ◌++◌, length, take, drop, drop-cons}
+use Rattle.std.proofs.Common.{get_or, slice_get, refl, sym, ap, ◌∙◌, arith}
 use Rattle.std.proofs.lemmas.List.{take_more, take_all}
 use Rattle.std.proofs.Math.ListN.{set, length-set}
 use Rattle.std.proofs.Math.Seq.{take-suc-set}
@@ -8,7 +9,8 @@ use Rattle.sm_syntax.specs.declared.tree.Stmt.TheOpen as layer
 use Rattle.sm_syntax.specs.claim.Syntax.{Code, End}
 use Rattle.sm_syntax.specs.trees.Views.{expression_of, condition_of, sequence, statement_layer, statement_of}
 use Rattle.sm_syntax.proofs.Blocks.{statement_layer_is}
-use Rattle.sm_plan.specs.Statements.{Statement, Skip, Assign, Write, If, While, Hole, put_before, first_of, by_first, is_long, front, rest_after}
+use Rattle.sm_plan.specs.Statements.{Statement, Skip, Assign, Write, If, While, Hole, put_before, first_of, by_first, is_long, front}
+use Rattle.sm_plan.specs.Statements.{rest_after}
 use Rattle.sm_plan.specs.Views.{code_before, frames_before}
 use denote.Bor.{Bor}
 
@@ -45,7 +47,8 @@ put_first (While b c) k = refl
 put_first (Hole h) k = refl
 
 -- a function by the first statement, where a tree stands first
-by_stand : {T : Type 0} (none : T) (f : Statement → Code → T) (s : Stmt) (k : Code) → by_first none f (first_of (statement_of s k)) ≡ f (stands s).0 k
+by_stand : {T : Type 0} (none : T) (f : Statement → Code → T) (s : Stmt) (k : Code) →
+    by_first none f (first_of (statement_of s k)) ≡ f (stands s).0 k
 by_stand none f s k = ap (λ (c : Code). by_first none f (first_of c)) ((stands s).1 k) ∙ ap (by_first none f) (put_first (stands s).0 k)
 
 long_one : (n : ℕ) (s : Stmt) (k : Code) → is_long (suc n) (statement_of s k) ≡ is_long n k
@@ -116,7 +119,8 @@ drop_frame fs p f k some inside here =
     ∙ ap (λ (g : Bor (List Stmt)). frames_before (drop p fs) (code_before g.now k)) (sym here)
 
 -- the first statement of a slice
-pub head_is : (ss : List Stmt) (s : Stmt) (k : Code) → Some s ≡ slice_get ss 0 → code_before ss k ≡ statement_of s (code_before (drop 1 ss) k)
+pub head_is : (ss : List Stmt) (s : Stmt) (k : Code) → Some s ≡ slice_get ss 0 →
+    code_before ss k ≡ statement_of s (code_before (drop 1 ss) k)
 head_is [] s k e = absurd cc
 head_is (t ∷ ss) s k e = let same : t ≡ s = cc in ap (λ (u : Stmt). statement_of u (code_before ss k)) same
 
@@ -134,7 +138,8 @@ sequence_append [] b k = refl
 sequence_append (f ∷ a) b k = ap f (sequence_append a b k)
 
 -- one slice more
-pub frames_push : (fs : List (Bor (List Stmt))) (f : Bor (List Stmt)) (k : Code) → frames_before (fs ++ f ∷ []) k ≡ code_before f.now (frames_before fs k)
+pub frames_push : (fs : List (Bor (List Stmt))) (f : Bor (List Stmt)) (k : Code) →
+    frames_before (fs ++ f ∷ []) k ≡ code_before f.now (frames_before fs k)
 frames_push fs f k = frames_append fs (f ∷ []) k
 
 -- the next slice
@@ -150,11 +155,13 @@ pub last_set : (fs : List (Bor (List Stmt))) (i : ℕ) (f : Bor (List Stmt)) (k 
     → frames_before (set fs i f) k ≡ code_before f.now (frames_before (take i fs) k)
 last_set fs i f k last =
     let long : length (set fs i f) ≡ suc i = length-set fs i f ∙ omega arith in
-    ap (λ (l : List (Bor (List Stmt))). frames_before l k) (sym (take_all (suc i) (set fs i f) (omega arith)) ∙ take-suc-set fs i f (omega arith))
+    ap (λ (l : List (Bor (List Stmt))). frames_before l k)
+    (sym (take_all (suc i) (set fs i f) (omega arith)) ∙ take-suc-set fs i f (omega arith))
     ∙ frames_push (take i fs) f k
 
 -- all slices but the last
 pub whole_frames : (fs : List (Bor (List Stmt))) (i : ℕ) (f : Bor (List Stmt)) (k : Code) → i + 1 ≡ length fs → f ≡ get_or fs i f
     → frames_before fs k ≡ code_before f.now (frames_before (take i fs) k)
 whole_frames fs i f k last here =
-    ap (λ (l : List (Bor (List Stmt))). frames_before l k) (sym (take_all (i + 1) fs (omega arith))) ∙ next_frame fs i f k (omega arith) here
+    ap (λ (l : List (Bor (List Stmt))). frames_before l k) (sym (take_all (i + 1) fs (omega arith)))
+    ∙ next_frame fs i f k (omega arith) here

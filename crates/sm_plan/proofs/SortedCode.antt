@@ -58,7 +58,8 @@ body_well sorts (While b f k) w = w.1
 body_well sorts (Hole h k) w = tt
 
 -- the guard of the last statement, where that is a loop
-pub last_guard_well : (sorts : Sorts) (c : Code) (b : Condition) → IsWellSorted sorts c → last_guard c ≡ Some b → IsWellSortedCondition sorts b
+pub last_guard_well : (sorts : Sorts) (c : Code) (b : Condition) → IsWellSorted sorts c → last_guard c ≡ Some b →
+    IsWellSortedCondition sorts b
 last_guard_well sorts End b w e = absurd cc
 last_guard_well sorts (Skip k) b w e = last_guard_well sorts k b w e
 last_guard_well sorts (Assign x v k) b w e = last_guard_well sorts k b w.2 e
@@ -66,7 +67,8 @@ last_guard_well sorts (Write a i v k) b w e = last_guard_well sorts k b w.3 e
 last_guard_well sorts (If g f d k) b w e = last_guard_well sorts k b w.3 e
 last_guard_well sorts (While g f k) b w e = of (is_over k) e (last_guard_well sorts k b w.2)
   where
-    of : (over : Bool) → (if over then Some g else last_guard k) ≡ Some b → (last_guard k ≡ Some b → IsWellSortedCondition sorts b) → IsWellSortedCondition sorts b
+    of : (over : Bool) → (if over then Some g else last_guard k) ≡ Some b → (last_guard k ≡ Some b → IsWellSortedCondition sorts b) →
+        IsWellSortedCondition sorts b
     of true h later = subst (λ (r : Condition). IsWellSortedCondition sorts r) (same_Some g b h) w.0
     of false h later = later h
 last_guard_well sorts (Hole h k) b w e = last_guard_well sorts k b w e

@@ -1,5 +1,6 @@
 -- What a node opens at a sorted state is sorted.
-use Rattle.std.proofs.Common.{◌≡◌, ℕ, Bool, true, false, ◌==◌, ◌||◌, if◌then◌else◌, Option, Some, None, is_some, List, [], ◌∷◌, ◌++◌, map, refl, ap, sym, ◌∙◌, subst}
+use Rattle.std.proofs.Common.{◌≡◌, ℕ, Bool, true, false, ◌==◌, ◌||◌, if◌then◌else◌, Option, Some, None, is_some, List, [], ◌∷◌, ◌++◌, map}
+use Rattle.std.proofs.Common.{refl, ap, sym, ◌∙◌, subst}
 use Rattle.std.specs.List.{flat_map}
 use Rattle.std.proofs.lemmas.Bool.{eq-eqb}
 use Rattle.sm_syntax.specs.declared.tree.Sort.{Sort}
@@ -24,7 +25,8 @@ use Rattle.sm_plan.specs.Successors as next
 use Rattle.sm_plan.specs.SortedStates.{IsStateSorted, AreStatesSorted, IsAssumptionSorted, AreOutputsDeclared, IsTaskSorted}
 use Rattle.sm_plan.proofs.CopiesLemmas.{one_copy}
 use Rattle.sm_plan.proofs.SortedCode.{front_well, rest_well, guard_well, body_well, last_guard_well}
-use Rattle.sm_plan.proofs.SortedTerms.{declared_with, named_sort, sort_is, of_declared, term_sorted, negate_sorted, form_sorted, forms_append, conj_sorted, all_at_stores_sorted, choice_sorted, with_term_sorted}
+use Rattle.sm_plan.proofs.SortedTerms.{declared_with, named_sort, sort_is, of_declared, term_sorted, negate_sorted, form_sorted}
+use Rattle.sm_plan.proofs.SortedTerms.{forms_append, conj_sorted, all_at_stores_sorted, choice_sorted, with_term_sorted}
 
 -- a test that one of two passes
 either_left : (p q : Bool) → p ≡ true → (p || q) ≡ true
@@ -36,7 +38,8 @@ either_right true q e = refl
 either_right false q e = e
 
 -- names with their present terms, each declared
-present_sorted : (sorts : Sorts) (s : SymbolicStore) → IsStoreSorted sorts s → (names : List ℕ) → ((x : ℕ) → is_in names x ≡ true → IsDeclaredIn sorts x) →
+present_sorted : (sorts : Sorts) (s : SymbolicStore) → IsStoreSorted sorts s → (names : List ℕ) →
+    ((x : ℕ) → is_in names x ≡ true → IsDeclaredIn sorts x) →
     AreArgumentsSorted sorts (next.present s names)
 present_sorted sorts s good [] all = tt
 present_sorted sorts s good (x ∷ rest) all =
@@ -49,7 +52,8 @@ present_sorted sorts s good (x ∷ rest) all =
 
 -- a store with new terms for names that code assigns
 assigned_sorted : (sorts : Sorts) (c : Code) (s : SymbolicStore) (new : ℕ → Tree) → IsWellSorted sorts c → IsStoreSorted sorts s →
-    ((x : ℕ) → IsDeclaredIn sorts x → HasSort sorts (sort_named sorts x) (new x)) → IsStoreSorted sorts (λ (x : ℕ). if assigns c x then new x else s x)
+    ((x : ℕ) → IsDeclaredIn sorts x → HasSort sorts (sort_named sorts x) (new x)) →
+    IsStoreSorted sorts (λ (x : ℕ). if assigns c x then new x else s x)
 assigned_sorted sorts c s new well good of_new = record {
   declared = λ (x : ℕ) (sort : Sort) (e : sorts x ≡ Some sort).
       choice_sorted sorts sort (assigns c x) (new x) (s x)
@@ -60,30 +64,42 @@ assigned_sorted sorts c s new well good of_new = record {
 }
   where
     left : (x : ℕ) (b : Bool) → assigns c x ≡ b → sorts x ≡ None → (if b then new x else s x) ≡ Start x
-    left x true h e = absurd (let some : is_some (sorts x) ≡ true = assigned_declared sorts c x well h in let none : is_some (sorts x) ≡ false = ap (λ (o : Option Sort). is_some o) e in cc)
+    left x true h e = absurd (let some : is_some (sorts x) ≡ true = assigned_declared sorts c x well h in
+        let none : is_some (sorts x) ≡ false = ap (λ (o : Option Sort). is_some o) e in cc)
     left x false h e = good.other x e
 
 -- summaries
-pub summarized_sorted : (sorts : Sorts) (c : Code) (s : SymbolicStore) → IsWellSorted sorts c → IsStoreSorted sorts s → IsStoreSorted sorts (next.summarized c s)
+pub summarized_sorted : (sorts : Sorts) (c : Code) (s : SymbolicStore) → IsWellSorted sorts c → IsStoreSorted sorts s →
+    IsStoreSorted sorts (next.summarized c s)
 summarized_sorted sorts c s well good =
     assigned_sorted sorts c s (λ (x : ℕ). Fun c x (next.present s (inputs c x))) well good
-    (λ (x : ℕ) (here : IsDeclaredIn sorts x).
-    ((well, here, present_sorted sorts s good (inputs c x) (λ (y : ℕ) (h : is_in (inputs c x) y ≡ true). inputs_declared sorts c x y well here h)), refl))
+    (λ (x : ℕ) (here : IsDeclaredIn sorts x). (
+      (
+        well,
+        here,
+        present_sorted sorts s good (inputs c x)
+            (λ (y : ℕ) (h : is_in (inputs c x) y ≡ true). inputs_declared sorts c x y well here h),
+      ),
+      refl,
+    ))
 
 -- new values of a node
-pub renewed_sorted : (sorts : Sorts) (k : ℕ) (done : Copy → Code) (s : Copy → SymbolicStore) → ((c : Copy) → IsWellSorted sorts (done c)) → ((c : Copy) → IsStoreSorted sorts (s c)) →
+pub renewed_sorted : (sorts : Sorts) (k : ℕ) (done : Copy → Code) (s : Copy → SymbolicStore) → ((c : Copy) → IsWellSorted sorts (done c)) →
+    ((c : Copy) → IsStoreSorted sorts (s c)) →
     (c : Copy) → IsStoreSorted sorts (next.renewed k done s c)
 renewed_sorted sorts k done s well good c =
     assigned_sorted sorts (done c) (s c) (λ (x : ℕ). Havoc k c x) (well c) (good c) (λ (x : ℕ) (here : IsDeclaredIn sorts x). (here, refl))
 
 -- that a guard is false
-false_guard_sorted : (sorts : Sorts) (g : Option Condition) (s : SymbolicStore) → ((b : Condition) → g ≡ Some b → IsWellSortedCondition sorts b) → IsStoreSorted sorts s →
+false_guard_sorted : (sorts : Sorts) (g : Option Condition) (s : SymbolicStore) →
+    ((b : Condition) → g ≡ Some b → IsWellSortedCondition sorts b) → IsStoreSorted sorts s →
     AreFormsSorted sorts (next.false_guard g s)
 false_guard_sorted sorts None s well good = tt
 false_guard_sorted sorts (Some b) s well good = (negate_sorted sorts (form_of b s) (form_sorted sorts b s (well b refl) good), tt)
 
 -- what a simple statement leaves
-pub stepped_sorted : (sorts : Sorts) (c : Code) (s : SymbolicStore) (p : Code × SymbolicStore) → next.stepped c s ≡ Some p → IsWellSorted sorts c → IsStoreSorted sorts s →
+pub stepped_sorted : (sorts : Sorts) (c : Code) (s : SymbolicStore) (p : Code × SymbolicStore) → next.stepped c s ≡ Some p →
+    IsWellSorted sorts c → IsStoreSorted sorts s →
     IsWellSorted sorts p.0 × IsStoreSorted sorts p.1
 stepped_sorted sorts syntax.End s p e w good = absurd cc
 stepped_sorted sorts (syntax.Skip r) s p e w good =
@@ -107,12 +123,14 @@ stepped_sorted sorts (syntax.While g c r) s p e w good = absurd cc
 stepped_sorted sorts (syntax.Hole h r) s p e w good = absurd cc
 
 -- states one after the other
-pub states_append : (sorts : Sorts) (first second : List State) → AreStatesSorted sorts first → AreStatesSorted sorts second → AreStatesSorted sorts (first ++ second)
+pub states_append : (sorts : Sorts) (first second : List State) → AreStatesSorted sorts first → AreStatesSorted sorts second →
+    AreStatesSorted sorts (first ++ second)
 states_append sorts [] second b d = d
 states_append sorts (st ∷ first) second b d = (b.0, states_append sorts first second b.1 d)
 
 -- one copy moved, with more facts
-pub moved_sorted : (sorts : Sorts) (st : State) (c : Copy) (r : Code) (s : SymbolicStore) (more : List Assertion) → IsStateSorted sorts st → IsWellSorted sorts r → IsStoreSorted sorts s →
+pub moved_sorted : (sorts : Sorts) (st : State) (c : Copy) (r : Code) (s : SymbolicStore) (more : List Assertion) → IsStateSorted sorts st →
+    IsWellSorted sorts r → IsStoreSorted sorts s →
     AreFormsSorted sorts more → IsStateSorted sorts (next.with_facts (next.moved st c r s) more)
 moved_sorted sorts st c r s more b well new facts = record {
   rest = one_copy (λ (p : Code) (t : SymbolicStore) (d : Copy). IsWellSorted sorts p) st.rest st.stores c r s well b.rest;
@@ -122,7 +140,8 @@ moved_sorted sorts st c r s more b well new facts = record {
 }
 
 -- one copy moved
-pub moved_alone : (sorts : Sorts) (st : State) (c : Copy) (r : Code) (s : SymbolicStore) → IsStateSorted sorts st → IsWellSorted sorts r → IsStoreSorted sorts s →
+pub moved_alone : (sorts : Sorts) (st : State) (c : Copy) (r : Code) (s : SymbolicStore) → IsStateSorted sorts st → IsWellSorted sorts r →
+    IsStoreSorted sorts s →
     IsStateSorted sorts (next.moved st c r s)
 moved_alone sorts st c r s b well new = record {
   rest = one_copy (λ (p : Code) (t : SymbolicStore) (d : Copy). IsWellSorted sorts p) st.rest st.stores c r s well b.rest;
@@ -132,13 +151,15 @@ moved_alone sorts st c r s b well new = record {
 }
 
 -- a copy that has done code
-pub summary_sorted : (sorts : Sorts) (st : State) (c : Copy) (done r : Code) → IsStateSorted sorts st → IsWellSorted sorts done → IsWellSorted sorts r →
+pub summary_sorted : (sorts : Sorts) (st : State) (c : Copy) (done r : Code) → IsStateSorted sorts st → IsWellSorted sorts done →
+    IsWellSorted sorts r →
     IsStateSorted sorts (next.summary_state st c done r)
 summary_sorted sorts st c done r b well left =
     let s = next.summarized done (st.stores c) in
     let good = summarized_sorted sorts done (st.stores c) well (b.stores c) in
     moved_sorted sorts st c r s (next.false_guard (last_guard done) s) b left good
-    (false_guard_sorted sorts (last_guard done) s (λ (g : Condition) (e : last_guard done ≡ Some g). last_guard_well sorts done g well e) good)
+    (false_guard_sorted sorts (last_guard done) s
+    (λ (g : Condition) (e : last_guard done ≡ Some g). last_guard_well sorts done g well e) good)
 
 -- the bodies of loops
 bodies_well : (sorts : Sorts) (st : State) (set : Copies) → IsStateSorted sorts st → (c : Copy) → IsWellSorted sorts (next.bodies st set c)
@@ -149,7 +170,8 @@ bodies_well sorts st set b c = of (has set c)
     of false = tt
 
 -- what is left after loops
-after_loops_well : (sorts : Sorts) (st : State) (set : Copies) → IsStateSorted sorts st → (c : Copy) → IsWellSorted sorts (next.rest_after_loops st set c)
+after_loops_well : (sorts : Sorts) (st : State) (set : Copies) → IsStateSorted sorts st → (c : Copy) →
+    IsWellSorted sorts (next.rest_after_loops st set c)
 after_loops_well sorts st set b c = of (has set c)
   where
     of : (inside : Bool) → IsWellSorted sorts (if inside then rest_after 1 (st.rest c) else st.rest c)
@@ -157,12 +179,14 @@ after_loops_well sorts st set b c = of (has set c)
     of false = b.rest c
 
 -- the facts of guards
-guards_sorted : (sorts : Sorts) (st : State) (set turning : Copies) (s : Copy → SymbolicStore) → IsStateSorted sorts st → ((c : Copy) → IsStoreSorted sorts (s c)) →
+guards_sorted : (sorts : Sorts) (st : State) (set turning : Copies) (s : Copy → SymbolicStore) → IsStateSorted sorts st →
+    ((c : Copy) → IsStoreSorted sorts (s c)) →
     (cs : List Copy) → AreFormsSorted sorts (flat_map (next.guard_fact st set turning s) cs)
 guards_sorted sorts st set turning s b all [] = tt
 guards_sorted sorts st set turning s b all (c ∷ cs) =
     forms_append sorts (next.guard_fact st set turning s c) (flat_map (next.guard_fact st set turning s) cs)
-    (of_one (has set c) (has turning c) (form_of (loop_guard (st.rest c)) (s c)) (form_sorted sorts (loop_guard (st.rest c)) (s c) (guard_well sorts (st.rest c) (b.rest c)) (all c)))
+    (of_one (has set c) (has turning c) (form_of (loop_guard (st.rest c)) (s c))
+    (form_sorted sorts (loop_guard (st.rest c)) (s c) (guard_well sorts (st.rest c) (b.rest c)) (all c)))
     (guards_sorted sorts st set turning s b all cs)
   where
     of_one : (b d : Bool) (f : Assertion) → IsFormSorted sorts f → AreFormsSorted sorts (if b then (if d then f else negate f) ∷ [] else [])
@@ -171,11 +195,13 @@ guards_sorted sorts st set turning s b all (c ∷ cs) =
     of_one false d f h = tt
 
 -- the stores at the head of loops
-head_stores_sorted : (sorts : Sorts) (st : State) (k : ℕ) (set : Copies) → IsStateSorted sorts st → (c : Copy) → IsStoreSorted sorts (next.head_stores st k set c)
+head_stores_sorted : (sorts : Sorts) (st : State) (k : ℕ) (set : Copies) → IsStateSorted sorts st → (c : Copy) →
+    IsStoreSorted sorts (next.head_stores st k set c)
 head_stores_sorted sorts st k set b = renewed_sorted sorts k (next.bodies st set) st.stores (bodies_well sorts st set b) b.stores
 
 -- the facts at the head of loops
-head_sorted : (sorts : Sorts) (k : ℕ) (st : State) (set : Copies) (keep : Assertion) (turning : Copies) → IsStateSorted sorts st → IsFormSorted sorts keep →
+head_sorted : (sorts : Sorts) (k : ℕ) (st : State) (set : Copies) (keep : Assertion) (turning : Copies) → IsStateSorted sorts st →
+    IsFormSorted sorts keep →
     AreFormsSorted sorts (st.facts ++ next.head_facts st k set keep turning)
 head_sorted sorts k st set keep turning b kept =
     let stores = next.head_stores st k set in
@@ -186,7 +212,8 @@ head_sorted sorts k st set keep turning b kept =
     (guards_sorted sorts st set turning stores b all copies))
 
 -- the turns of loops
-turn_sorted : (sorts : Sorts) (k : ℕ) (st : State) (set : Copies) (keep : Assertion) (turning : Copies) → IsStateSorted sorts st → IsFormSorted sorts keep →
+turn_sorted : (sorts : Sorts) (k : ℕ) (st : State) (set : Copies) (keep : Assertion) (turning : Copies) → IsStateSorted sorts st →
+    IsFormSorted sorts keep →
     IsStateSorted sorts (next.turn_state st k set keep turning)
 turn_sorted sorts k st set keep turning b kept = record {
   rest = bodies_well sorts st turning b;
@@ -196,13 +223,15 @@ turn_sorted sorts k st set keep turning b kept = record {
 }
 
 -- each of them
-pub turns_sorted : (sorts : Sorts) (k : ℕ) (st : State) (set : Copies) (keep : Assertion) → IsStateSorted sorts st → IsFormSorted sorts keep →
+pub turns_sorted : (sorts : Sorts) (k : ℕ) (st : State) (set : Copies) (keep : Assertion) → IsStateSorted sorts st →
+    IsFormSorted sorts keep →
     (vs : List Copies) → AreStatesSorted sorts (map (next.turn_state st k set keep) vs)
 turns_sorted sorts k st set keep b kept [] = tt
 turns_sorted sorts k st set keep b kept (v ∷ vs) = (turn_sorted sorts k st set keep v b kept, turns_sorted sorts k st set keep b kept vs)
 
 -- after loops
-pub after_sorted : (sorts : Sorts) (k : ℕ) (st : State) (set : Copies) (keep : Assertion) → IsStateSorted sorts st → IsFormSorted sorts keep →
+pub after_sorted : (sorts : Sorts) (k : ℕ) (st : State) (set : Copies) (keep : Assertion) → IsStateSorted sorts st →
+    IsFormSorted sorts keep →
     IsStateSorted sorts (next.after_loops_state st k set keep)
 after_sorted sorts k st set keep b kept = record {
   rest = after_loops_well sorts st set b;
@@ -212,7 +241,8 @@ after_sorted sorts k st set keep b kept = record {
 }
 
 -- the first statements
-pub inner_sorted : (sorts : Sorts) (st : State) (counts : Copy → ℕ) (keep : Assertion) → IsStateSorted sorts st → IsFormSorted sorts keep → IsStateSorted sorts (next.inner_state st counts keep)
+pub inner_sorted : (sorts : Sorts) (st : State) (counts : Copy → ℕ) (keep : Assertion) → IsStateSorted sorts st → IsFormSorted sorts keep →
+    IsStateSorted sorts (next.inner_state st counts keep)
 inner_sorted sorts st counts keep b kept = record {
   rest = λ (c : Copy). front_well sorts (counts c) (st.rest c) (b.rest c);
   stores = b.stores;
@@ -221,15 +251,18 @@ inner_sorted sorts st counts keep b kept = record {
 }
 
 -- after them
-pub after_block_sorted : (sorts : Sorts) (k : ℕ) (st : State) (counts : Copy → ℕ) (keep : Assertion) → IsStateSorted sorts st → IsFormSorted sorts keep →
+pub after_block_sorted : (sorts : Sorts) (k : ℕ) (st : State) (counts : Copy → ℕ) (keep : Assertion) → IsStateSorted sorts st →
+    IsFormSorted sorts keep →
     IsStateSorted sorts (next.after_block_state st k counts keep)
 after_block_sorted sorts k st counts keep b kept =
     let stores = next.renewed k (next.fronts st counts) st.stores in
-    let all = renewed_sorted sorts k (next.fronts st counts) st.stores (λ (c : Copy). front_well sorts (counts c) (st.rest c) (b.rest c)) b.stores in
+    let all = renewed_sorted sorts k (next.fronts st counts) st.stores
+    (λ (c : Copy). front_well sorts (counts c) (st.rest c) (b.rest c)) b.stores in
     record {
       rest = λ (c : Copy). rest_well sorts (counts c) (st.rest c) (b.rest c);
       stores = all;
-      facts = forms_append sorts st.facts (all_at_stores stores (conj keep)) b.facts (all_at_stores_sorted sorts stores all (conj keep) (conj_sorted sorts keep kept));
+      facts = forms_append sorts st.facts (all_at_stores stores (conj keep)) b.facts
+          (all_at_stores_sorted sorts stores all (conj keep) (conj_sorted sorts keep kept));
       target = b.target;
     }
 
@@ -256,9 +289,11 @@ start_store_sorted sorts = record {
 }
 
 -- the facts at the start
-pub start_facts_sorted : (sorts : Sorts) (assumed : Option Condition) → IsAssumptionSorted sorts assumed → AreFormsSorted sorts (start_facts assumed)
+pub start_facts_sorted : (sorts : Sorts) (assumed : Option Condition) → IsAssumptionSorted sorts assumed →
+    AreFormsSorted sorts (start_facts assumed)
 start_facts_sorted sorts None w = tt
-start_facts_sorted sorts (Some b) w = conj_sorted sorts (form_of b start_store) (form_sorted sorts b start_store w (start_store_sorted sorts))
+start_facts_sorted sorts (Some b) w = conj_sorted sorts (form_of b start_store)
+    (form_sorted sorts b start_store w (start_store_sorted sorts))
 
 -- the start
 pub start_sorted : (sorts : Sorts) (t : Task) → IsTaskSorted sorts t → IsStateSorted sorts (start_state t)

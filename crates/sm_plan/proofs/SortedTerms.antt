@@ -1,5 +1,6 @@
 -- Terms and formulas that are made of sorted ones are sorted.
-use Rattle.std.proofs.Common.{◌≡◌, ℕ, Bool, true, false, ◌==◌, if◌then◌else◌, Option, Some, None, is_some, unwrap_or, List, [], ◌∷◌, ◌++◌, refl, ap, sym, ◌∙◌, subst}
+use Rattle.std.proofs.Common.{◌≡◌, ℕ, Bool, true, false, ◌==◌, if◌then◌else◌, Option, Some, None, is_some, unwrap_or, List, [], ◌∷◌, ◌++◌}
+use Rattle.std.proofs.Common.{refl, ap, sym, ◌∙◌, subst}
 use Rattle.std.proofs.lemmas.Bool.{eqb-true}
 use Rattle.std.proofs.lemmas.Option.{same_Some}
 use Rattle.sm_syntax.specs.declared.tree.Cmp.{Cmp}
@@ -14,7 +15,8 @@ use Rattle.sm_term.specs.Terms.{Tree, Lit, Start, Havoc, Slot, Cell, Read, Write
 use Rattle.sm_term.specs.Assertions.{Assertion, Yes, No, Eq, Ne, Le, Lt, And, Or, negate, conj}
 use Rattle.sm_term.specs.Symbolic.{SymbolicStore, with_term, term_of, comparison_form, form_of}
 use Rattle.sm_term.specs.Slots.{fill_term, fill_arguments, at_stores, all_at_stores}
-use Rattle.sm_term.specs.Sorted.{sort_named, tree_sort, IsDeclaredIn, IsSorted, AreArgumentsSorted, HasSort, IsFormSorted, AreFormsSorted, IsStoreSorted}
+use Rattle.sm_term.specs.Sorted.{sort_named, tree_sort, IsDeclaredIn, IsSorted, AreArgumentsSorted, HasSort, IsFormSorted, AreFormsSorted}
+use Rattle.sm_term.specs.Sorted.{IsStoreSorted}
 
 -- a name with a sort is declared
 pub declared_with : (sorts : Sorts) (x : ℕ) (sort : Sort) → sorts x ≡ Some sort → IsDeclaredIn sorts x
@@ -33,11 +35,13 @@ pub sort_is : (sorts : Sorts) (x : ℕ) (sort : Sort) → sorts x ≡ Some sort 
 sort_is sorts x sort e = ap (λ (o : Option Sort). unwrap_or o Num) e
 
 -- the term of a name that is declared
-pub of_declared : (sorts : Sorts) (s : SymbolicStore) → IsStoreSorted sorts s → (x : ℕ) → IsDeclaredIn sorts x → HasSort sorts (sort_named sorts x) (s x)
+pub of_declared : (sorts : Sorts) (s : SymbolicStore) → IsStoreSorted sorts s → (x : ℕ) → IsDeclaredIn sorts x →
+    HasSort sorts (sort_named sorts x) (s x)
 of_declared sorts s good x here = good.declared x (sort_named sorts x) (named_sort sorts x here)
 
 -- the term of an expression
-pub term_sorted : (sorts : Sorts) (e : Expression) (s : SymbolicStore) → IsWellSortedExpression sorts e → IsStoreSorted sorts s → HasSort sorts Num (term_of e s)
+pub term_sorted : (sorts : Sorts) (e : Expression) (s : SymbolicStore) → IsWellSortedExpression sorts e → IsStoreSorted sorts s →
+    HasSort sorts Num (term_of e s)
 term_sorted sorts (syntax.Lit z) s w good = (tt, refl)
 term_sorted sorts (syntax.Var x) s w good = good.declared x Num w
 term_sorted sorts (syntax.Read a i) s w good =
@@ -59,7 +63,8 @@ term_sorted sorts (syntax.Times d e) s w good =
     ((one.0, one.1, other.0, other.1), refl)
 
 -- a comparison of terms
-compared_sorted : (sorts : Sorts) (op : Cmp) (t u : Tree) → HasSort sorts Num t → HasSort sorts Num u → IsFormSorted sorts (comparison_form op t u)
+compared_sorted : (sorts : Sorts) (op : Cmp) (t u : Tree) → HasSort sorts Num t → HasSort sorts Num u →
+    IsFormSorted sorts (comparison_form op t u)
 compared_sorted sorts cmp.Eq t u first second = (first, second)
 compared_sorted sorts cmp.Ne t u first second = (first, second)
 compared_sorted sorts cmp.Lt t u first second = (first, second)
@@ -79,7 +84,8 @@ negate_sorted sorts (And p q) b = (negate_sorted sorts p b.0, negate_sorted sort
 negate_sorted sorts (Or p q) b = (negate_sorted sorts p b.0, negate_sorted sorts q b.1)
 
 -- the formula of a condition
-pub form_sorted : (sorts : Sorts) (b : Condition) (s : SymbolicStore) → IsWellSortedCondition sorts b → IsStoreSorted sorts s → IsFormSorted sorts (form_of b s)
+pub form_sorted : (sorts : Sorts) (b : Condition) (s : SymbolicStore) → IsWellSortedCondition sorts b → IsStoreSorted sorts s →
+    IsFormSorted sorts (form_of b s)
 form_sorted sorts syntax.Yes s w good = tt
 form_sorted sorts syntax.No s w good = tt
 form_sorted sorts (syntax.Compare op d e) s w good =
@@ -89,7 +95,8 @@ form_sorted sorts (syntax.And c d) s w good = (form_sorted sorts c s w.0 good, f
 form_sorted sorts (syntax.Or c d) s w good = (form_sorted sorts c s w.0 good, form_sorted sorts d s w.1 good)
 
 -- formulas one after the other
-pub forms_append : (sorts : Sorts) (fs gs : List Assertion) → AreFormsSorted sorts fs → AreFormsSorted sorts gs → AreFormsSorted sorts (fs ++ gs)
+pub forms_append : (sorts : Sorts) (fs gs : List Assertion) → AreFormsSorted sorts fs → AreFormsSorted sorts gs →
+    AreFormsSorted sorts (fs ++ gs)
 forms_append sorts [] gs b d = d
 forms_append sorts (f ∷ fs) gs b d = (b.0, forms_append sorts fs gs b.1 d)
 
@@ -106,7 +113,8 @@ conj_sorted sorts (Or p q) b = (b, tt)
 
 mutual
   -- a term at stores, which has the sort of the term
-  pub filled_sorted : (sorts : Sorts) (s : Copy → SymbolicStore) → ((c : Copy) → IsStoreSorted sorts (s c)) → (t : Tree) → IsSorted sorts t →
+  pub filled_sorted : (sorts : Sorts) (s : Copy → SymbolicStore) → ((c : Copy) → IsStoreSorted sorts (s c)) → (t : Tree) →
+      IsSorted sorts t →
       HasSort sorts (tree_sort sorts t) (fill_term s t)
   filled_sorted sorts s all (Lit z) b = (tt, refl)
   filled_sorted sorts s all (Start x) b = (b, refl)
@@ -138,7 +146,8 @@ mutual
   filled_sorted sorts s all (Fun c x args) b = ((b.0, b.1, given_sorted sorts s all args b.2), refl)
 
   -- the same of arguments
-  pub given_sorted : (sorts : Sorts) (s : Copy → SymbolicStore) → ((c : Copy) → IsStoreSorted sorts (s c)) → (args : Arguments) → AreArgumentsSorted sorts args →
+  pub given_sorted : (sorts : Sorts) (s : Copy → SymbolicStore) → ((c : Copy) → IsStoreSorted sorts (s c)) → (args : Arguments) →
+      AreArgumentsSorted sorts args →
       AreArgumentsSorted sorts (fill_arguments s args)
   given_sorted sorts s all Over b = tt
   given_sorted sorts s all (Given x t rest) b =
@@ -146,12 +155,14 @@ mutual
       (b.0 ∙ ap (λ (sort : Sort). Some sort) (sym p.1), p.0, given_sorted sorts s all rest b.2)
 
 -- a term with a sort
-pub filled_has : (sorts : Sorts) (s : Copy → SymbolicStore) → ((c : Copy) → IsStoreSorted sorts (s c)) → (sort : Sort) (t : Tree) → HasSort sorts sort t →
+pub filled_has : (sorts : Sorts) (s : Copy → SymbolicStore) → ((c : Copy) → IsStoreSorted sorts (s c)) → (sort : Sort) (t : Tree) →
+    HasSort sorts sort t →
     HasSort sorts sort (fill_term s t)
 filled_has sorts s all sort t b = let p = filled_sorted sorts s all t b.0 in (p.0, p.1 ∙ b.1)
 
 -- a formula at stores
-pub at_stores_sorted : (sorts : Sorts) (s : Copy → SymbolicStore) → ((c : Copy) → IsStoreSorted sorts (s c)) → (f : Assertion) → IsFormSorted sorts f →
+pub at_stores_sorted : (sorts : Sorts) (s : Copy → SymbolicStore) → ((c : Copy) → IsStoreSorted sorts (s c)) → (f : Assertion) →
+    IsFormSorted sorts f →
     IsFormSorted sorts (at_stores s f)
 at_stores_sorted sorts s all Yes b = tt
 at_stores_sorted sorts s all No b = tt
@@ -163,19 +174,22 @@ at_stores_sorted sorts s all (And p q) b = (at_stores_sorted sorts s all p b.0, 
 at_stores_sorted sorts s all (Or p q) b = (at_stores_sorted sorts s all p b.0, at_stores_sorted sorts s all q b.1)
 
 -- the same of a list
-pub all_at_stores_sorted : (sorts : Sorts) (s : Copy → SymbolicStore) → ((c : Copy) → IsStoreSorted sorts (s c)) → (fs : List Assertion) → AreFormsSorted sorts fs →
+pub all_at_stores_sorted : (sorts : Sorts) (s : Copy → SymbolicStore) → ((c : Copy) → IsStoreSorted sorts (s c)) → (fs : List Assertion) →
+    AreFormsSorted sorts fs →
     AreFormsSorted sorts (all_at_stores s fs)
 all_at_stores_sorted sorts s all [] b = tt
 all_at_stores_sorted sorts s all (f ∷ fs) b = (at_stores_sorted sorts s all f b.0, all_at_stores_sorted sorts s all fs b.1)
 
 -- a choice between two terms with a sort
-pub choice_sorted : (sorts : Sorts) (sort : Sort) (b : Bool) (t u : Tree) → (b ≡ true → HasSort sorts sort t) → (b ≡ false → HasSort sorts sort u) →
+pub choice_sorted : (sorts : Sorts) (sort : Sort) (b : Bool) (t u : Tree) → (b ≡ true → HasSort sorts sort t) →
+    (b ≡ false → HasSort sorts sort u) →
     HasSort sorts sort (if b then t else u)
 choice_sorted sorts sort true t u first second = first refl
 choice_sorted sorts sort false t u first second = second refl
 
 -- a new term for a name, with the name's sort
-pub with_term_sorted : (sorts : Sorts) (s : SymbolicStore) (x : ℕ) (sort : Sort) (t : Tree) → IsStoreSorted sorts s → sorts x ≡ Some sort → HasSort sorts sort t →
+pub with_term_sorted : (sorts : Sorts) (s : SymbolicStore) (x : ℕ) (sort : Sort) (t : Tree) → IsStoreSorted sorts s → sorts x ≡ Some sort →
+    HasSort sorts sort t →
     IsStoreSorted sorts (with_term s x t)
 with_term_sorted sorts s x sort t good here new = record {
   declared = λ (y : ℕ) (other : Sort) (e : sorts y ≡ Some other).

@@ -1,5 +1,6 @@
 -- The terms of a summary's inputs, and the store with the summaries of some names.
-use Rattle.std.proofs.Common.{◌≡◌, ℕ, zero, suc, ◌+◌, ◌<◌, ◌==◌, ◌||◌, Bool, true, false, if◌then◌else◌, Some, List, [], ◌∷◌, ◌++◌, length, map, take, get_or, slice_get, refl, sym, ap, ◌∙◌, arith}
+use Rattle.std.proofs.Common.{◌≡◌, ℕ, zero, suc, ◌+◌, ◌<◌, ◌==◌, ◌||◌, Bool, true, false, if◌then◌else◌, Some, List, [], ◌∷◌, ◌++◌, length}
+use Rattle.std.proofs.Common.{map, take, get_or, slice_get, refl, sym, ap, ◌∙◌, arith}
 use Rattle.std.proofs.lemmas.Bool.{eq-eqb, eqb-true, and_from}
 use Rattle.std.proofs.lemmas.List.Folds.{list_any-append}
 use Rattle.std.proofs.lemmas.Option.{slice_get-get_or, get_or_from_slice_get, slice_get_read}
@@ -31,9 +32,13 @@ abbrev pub numbers : List Name → List ℕ
 numbers names = map (λ (x : Name). x.0) names
 
 -- names that are all declared
-pub all_declared : (sorts : Sorts) (names : List Name) → ((x : ℕ) → is_in (numbers names) x ≡ true → IsDeclaredIn sorts x) → AreNamesDeclared sorts names
+pub all_declared : (sorts : Sorts) (names : List Name) → ((x : ℕ) → is_in (numbers names) x ≡ true → IsDeclaredIn sorts x) →
+    AreNamesDeclared sorts names
 all_declared sorts [] h = tt
-all_declared sorts (x ∷ xs) h = (h x.0 (here (x.0 == x.0) (is_in (numbers xs) x.0) (eq-eqb x.0 x.0 refl)), all_declared sorts xs (λ y e. h y (there (y == x.0) (is_in (numbers xs) y) e)))
+all_declared sorts (x ∷ xs) h = (
+  h x.0 (here (x.0 == x.0) (is_in (numbers xs) x.0) (eq-eqb x.0 x.0 refl)),
+  all_declared sorts xs (λ y e. h y (there (y == x.0) (is_in (numbers xs) y) e)),
+)
   where
     here : (p q : Bool) → p ≡ true → (p || q) ≡ true
     here true q e = refl
@@ -43,7 +48,8 @@ all_declared sorts (x ∷ xs) h = (h x.0 (here (x.0 == x.0) (is_in (numbers xs) 
     there true q e = refl
     there false q e = e
 
-pub names_below : (sorts : Sorts) (s : SymStore) → IsStoreFull sorts s → (names : List Name) → AreNamesDeclared sorts names → AreNamesBelow (length s.list.items) names
+pub names_below : (sorts : Sorts) (s : SymStore) → IsStoreFull sorts s → (names : List Name) → AreNamesDeclared sorts names →
+    AreNamesBelow (length s.list.items) names
 names_below sorts s full [] all = tt
 names_below sorts s full (x ∷ xs) all = (full x.0 all.0, names_below sorts s full xs all.1)
 
@@ -53,13 +59,16 @@ name_at_below n (y ∷ ys) zero d all h = all.0
 name_at_below n (y ∷ ys) (suc i) d all h = name_at_below n ys i d all.1 (omega arith)
 
 -- the term of one name more
-pub terms_more : (l : List TermId) (names : List Name) (i : ℕ) (d : Name) (r : TermId) → i < length names → (get_or names i d).0 < length l → r ≡ get_or l (get_or names i d).0 r
+pub terms_more : (l : List TermId) (names : List Name) (i : ℕ) (d : Name) (r : TermId) → i < length names →
+    (get_or names i d).0 < length l → r ≡ get_or l (get_or names i d).0 r
     → terms_named l (take i names) ++ r ∷ [] ≡ terms_named l (take (i + 1) names)
 terms_more l names i d r h below e =
     let x = (get_or names i d).0 in
-    let same : r ≡ get_or l x (record { 0 = 0 }) = sym (get_or_from_slice_get l x r (record { 0 = 0 }) (slice_get_read l (length l) x r refl below e)) in
+    let same : r ≡ get_or l x (record { 0 = 0 }) =
+    sym (get_or_from_slice_get l x r (record { 0 = 0 }) (slice_get_read l (length l) x r refl below e)) in
     ap (λ (t : TermId). terms_named l (take i names) ++ t ∷ []) same
-    ∙ sym (ap (terms_named l) (take_more names i d h) ∙ map-append (λ (y : Name). get_or l y.0 (record { 0 = 0 })) (take i names) (get_or names i d ∷ []))
+    ∙ sym (ap (terms_named l) (take_more names i d h)
+    ∙ map-append (λ (y : Name). get_or l y.0 (record { 0 = 0 })) (take i names) (get_or names i d ∷ []))
 
 -- a name's term in a list
 got_named : (l : List TermId) (x : ℕ) → x < length l → slice_get l x ≡ Some (get_or l x (record { 0 = 0 }))
@@ -71,9 +80,11 @@ module _ (sorts : Sorts) (trees : List Tree) (s : SymStore) (ready : IsStoreRead
 
   pub terms_before : (names : List Name) → AreNamesDeclared sorts names → AreBefore (length trees) (terms names)
   terms_before [] all = tt
-  terms_before (x ∷ xs) all = (part_before (length trees) s.list.items x.0 _ ready.0 (got_named s.list.items x.0 (full x.0 all.0)), terms_before xs all.1)
+  terms_before (x ∷ xs) all =
+      (part_before (length trees) s.list.items x.0 _ ready.0 (got_named s.list.items x.0 (full x.0 all.0)), terms_before xs all.1)
 
-  pub terms_present : (names : List Name) → AreNamesDeclared sorts names → arguments_in trees names (terms names) ≡ present (store_in trees s) (numbers names)
+  pub terms_present : (names : List Name) → AreNamesDeclared sorts names →
+      arguments_in trees names (terms names) ≡ present (store_in trees s) (numbers names)
   terms_present [] all = refl
   terms_present (x ∷ xs) all =
       let here = ap (tree_or_start trees x.0) (got_named s.list.items x.0 (full x.0 all.0)) in
@@ -85,16 +96,20 @@ module _ (sorts : Sorts) (trees : List Tree) (s : SymStore) (ready : IsStoreRead
   terms_fit (x ∷ xs) all =
       let t = get_or s.list.items x.0 (record { 0 = 0 }) in
       and_from _ _
-      (sort_got sorts trees t (store_in trees s x.0) (sort_named sorts x.0) (name_stored trees s x.0 t ready.0 (got_named s.list.items x.0 (full x.0 all.0))) (of_declared sorts (store_in trees s) ready.1 x.0 all.0).1)
+      (sort_got sorts trees t (store_in trees s x.0) (sort_named sorts x.0)
+      (name_stored trees s x.0 t ready.0 (got_named s.list.items x.0 (full x.0 all.0)))
+      (of_declared sorts (store_in trees s) ready.1 x.0 all.0).1)
       (terms_fit xs all.1)
 
 -- the store in which some names have summaries
 abbrev pub summed : Code → SymbolicStore → List ℕ → SymbolicStore
 summed c f names y = if is_in names y then Fun c y (present f (inputs c y)) else f y
 
-pub summed_more : (c : Code) (f : SymbolicStore) (names : List ℕ) (x : ℕ) → with_term (summed c f names) x (Fun c x (present f (inputs c x))) ≡ summed c f (names ++ x ∷ [])
+pub summed_more : (c : Code) (f : SymbolicStore) (names : List ℕ) (x : ℕ) →
+    with_term (summed c f names) x (Fun c x (present f (inputs c x))) ≡ summed c f (names ++ x ∷ [])
 summed_more c f names x =
-    fun_ext (λ (y : ℕ). by y (y == x) (is_in names y) refl ∙ ap (λ b. if b then Fun c y (present f (inputs c y)) else f y) (sym (list_any-append (λ (z : ℕ). y == z) names (x ∷ []))))
+    fun_ext (λ (y : ℕ). by y (y == x) (is_in names y) refl
+    ∙ ap (λ b. if b then Fun c y (present f (inputs c y)) else f y) (sym (list_any-append (λ (z : ℕ). y == z) names (x ∷ []))))
   where
     by : (y : ℕ) (p q : Bool) → (y == x) ≡ p →
         (if p then Fun c x (present f (inputs c x)) else (if q then Fun c y (present f (inputs c y)) else f y))
@@ -104,7 +119,8 @@ summed_more c f names x =
     by y false true e = refl
     by y false false e = refl
 
-pub summed_all : (c : Code) (f : SymbolicStore) (names : List ℕ) → ((x : ℕ) → is_in names x ≡ assigns c x) → summed c f names ≡ summarized c f
+pub summed_all : (c : Code) (f : SymbolicStore) (names : List ℕ) → ((x : ℕ) → is_in names x ≡ assigns c x) →
+    summed c f names ≡ summarized c f
 summed_all c f names all = fun_ext (λ (y : ℕ). ap (λ b. if b then Fun c y (present f (inputs c y)) else f y) (all y))
 
 -- a name of a list is in it
@@ -127,10 +143,12 @@ pub length-numbers : (names : List Name) → length (numbers names) ≡ length n
 length-numbers [] = refl
 length-numbers (x ∷ xs) = ap suc (length-numbers xs)
 
-pub numbers_more : (names : List Name) (i : ℕ) → i < length names → take (i + 1) (numbers names) ≡ take i (numbers names) ++ (get_or names i (record { 0 = 0 })).0 ∷ []
+pub numbers_more : (names : List Name) (i : ℕ) → i < length names →
+    take (i + 1) (numbers names) ≡ take i (numbers names) ++ (get_or names i (record { 0 = 0 })).0 ∷ []
 numbers_more names i h =
     let long = length-numbers names in
     take_more (numbers names) i 0 (omega arith) ∙ ap (λ (x : ℕ). take i (numbers names) ++ x ∷ []) (number_at names i 0)
 
 pub name_in : (names : List Name) (i : ℕ) → i < length names → is_in (numbers names) (get_or names i (record { 0 = 0 })).0 ≡ true
-name_in names i h = let long = length-numbers names in ap (is_in (numbers names)) (sym (number_at names i 0)) ∙ is_in_at (numbers names) i 0 (omega arith)
+name_in names i h = let long = length-numbers names in
+    ap (is_in (numbers names)) (sym (number_at names i 0)) ∙ is_in_at (numbers names) i 0 (omega arith)

@@ -28,14 +28,17 @@ use Rattle.sm_plan.proofs.TablesWiden.{widens_grown, widens_twice, store_stays, 
 use denote.Bor.{Bor}
 
 -- the guard that was found is well sorted
-pub guard_found : (sorts : Sorts) (c : Code) (r : Option (Bor Cond)) → option_map (λ (b : Bor Cond). condition_of b.now) r ≡ last_guard c → IsWellSorted sorts c
+pub guard_found : (sorts : Sorts) (c : Code) (r : Option (Bor Cond)) → option_map (λ (b : Bor Cond). condition_of b.now) r ≡ last_guard c →
+    IsWellSorted sorts c
     → IfSome r (λ (b : Bor Cond). IsWellSortedCondition sorts (condition_of b.now))
 guard_found sorts c None e well = tt
 guard_found sorts c (Some b) e well = last_guard_well sorts c (condition_of b.now) well (sym e)
 
 -- v is the table before, u that of the summaries, and z that with the guard
-module _ (v u : TableValue) (first : Widens v u) (st : SymState) (c : Copy) (n : ℕ) (store : SymStore) (ready : IsStateReady (sorts_in v) (trees_in v) st)
-    (store_is : store_in (trees_in u) store ≡ summarized (front n (rest_code (of_copy st.rests c))) (store_in (trees_in v) (of_copy st.stores c)))
+module _ (v u : TableValue) (first : Widens v u) (st : SymState) (c : Copy) (n : ℕ) (store : SymStore)
+    (ready : IsStateReady (sorts_in v) (trees_in v) st)
+    (store_is : store_in (trees_in u) store ≡ summarized (front n (rest_code (of_copy st.rests c)))
+    (store_in (trees_in v) (of_copy st.stores c)))
     (within : IsStoreWithin (length (trees_in u)) store) (len : length store.list.items ≡ length (of_copy st.stores c).list.items) where
   abbrev code : Code
   code = rest_code (of_copy st.rests c)
@@ -56,15 +59,18 @@ module _ (v u : TableValue) (first : Widens v u) (st : SymState) (c : Copy) (n :
   summed_full x h = let f = ready.full c x h in omega (arith, f, len)
 
   module _ (z : TableValue) (second : Grows u z) (next : SymState)
-      (rests : (d : Copy) → rest_code (of_copy next.rests d) ≡ with_copy (λ (e : Copy). rest_code (of_copy st.rests e)) c (rest_after n code) d)
-      (stores : (d : Copy) → numbers_of (of_copy next.stores d) ≡ with_copy (λ (e : Copy). numbers_of (of_copy st.stores e)) c (numbers_of store) d)
+      (rests : (d : Copy) → rest_code (of_copy next.rests d)
+      ≡ with_copy (λ (e : Copy). rest_code (of_copy st.rests e)) c (rest_after n code) d)
+      (stores : (d : Copy) → numbers_of (of_copy next.stores d)
+      ≡ with_copy (λ (e : Copy). numbers_of (of_copy st.stores e)) c (numbers_of store) d)
       (target : next.target.value.list.items ≡ st.target.value.list.items) (final : next.is_final ≡ st.is_final) where
     whole : Widens v z
     whole = widens_twice v u z first (widens_grown u z second)
 
     pub summary_ready : IsStateReady (sorts_in z) (trees_in z) next
     summary_ready =
-        moved_ready v z whole st next c (rest_after n code) store rests stores target final ready (rest_well (sorts_in v) n code (ready.rests c))
+        moved_ready v z whole st next c (rest_after n code) store rests stores target final ready
+        (rest_well (sorts_in v) n code (ready.rests c))
         (store_ready u z (widens_grown u z second) store summed_ready) summed_full
 
     pub summary_is : (facts : List Assertion) (fs : List Formula) →
@@ -74,6 +80,9 @@ module _ (v u : TableValue) (first : Widens v u) (st : SymState) (c : Copy) (n :
     summary_is facts fs e =
         let was = state_in (sorts_in v) (trees_in v) facts st in
         let later = store_stays u z (widens_grown u z second) store within ∙ store_is in
-        ap (λ (a : List Assertion). state_in (sorts_in z) (trees_in z) (facts ++ a) next) (e ∙ ap (false_guard (last_guard (front n code))) store_is)
-        ∙ moved_is v z whole st next c (rest_after n code) store rests stores target final ready facts (false_guard (last_guard (front n code)) (summarized (front n code) before))
-        ∙ ap (λ (s : SymbolicStore). with_facts (moved was c (rest_after n code) s) (false_guard (last_guard (front n code)) (summarized (front n code) before))) later
+        ap (λ (a : List Assertion). state_in (sorts_in z) (trees_in z) (facts ++ a) next)
+        (e ∙ ap (false_guard (last_guard (front n code))) store_is)
+        ∙ moved_is v z whole st next c (rest_after n code) store rests stores target final ready facts
+        (false_guard (last_guard (front n code)) (summarized (front n code) before))
+        ∙ ap (λ (s : SymbolicStore). with_facts (moved was c (rest_after n code) s)
+        (false_guard (last_guard (front n code)) (summarized (front n code) before))) later

@@ -1,5 +1,6 @@
 -- What a table's numbers stand for stays where the table has more behind.
-use Rattle.std.proofs.Common.{◌≡◌, ℕ, zero, suc, ◌<◌, ◌≤◌, Option, Some, None, List, [], ◌∷◌, ◌++◌, length, slice_get, refl, sym, ap, ◌∙◌, subst, arith}
+use Rattle.std.proofs.Common.{◌≡◌, ℕ, zero, suc, ◌<◌, ◌≤◌, Option, Some, None, List, [], ◌∷◌, ◌++◌, length, slice_get, refl, sym, ap, ◌∙◌}
+use Rattle.std.proofs.Common.{subst, arith}
 use Rattle.std.proofs.Common.{append-nil, append_assoc}
 use Rattle.std.proofs.Math.Path.{fun_ext}
 use Rattle.std.proofs.lemmas.List.{length-append}
@@ -43,8 +44,16 @@ widens_grown v w g = record {
 pub widens_twice : (u v w : TableValue) → Widens u v → Widens v w → Widens u w
 widens_twice u v w first second = record {
   sorts = second.sorts ∙ first.sorts;
-  codes = (first.codes.0 ++ second.codes.0, second.codes.1 ∙ ap (λ (l : List Code). l ++ second.codes.0) first.codes.1 ∙ append_assoc _ first.codes.0 second.codes.0);
-  trees = (first.trees.0 ++ second.trees.0, second.trees.1 ∙ ap (λ (l : List Tree). l ++ second.trees.0) first.trees.1 ∙ append_assoc _ first.trees.0 second.trees.0);
+  codes = (
+    first.codes.0 ++ second.codes.0,
+    second.codes.1 ∙ ap (λ (l : List Code). l ++ second.codes.0) first.codes.1
+        ∙ append_assoc _ first.codes.0 second.codes.0,
+  );
+  trees = (
+    first.trees.0 ++ second.trees.0,
+    second.trees.1 ∙ ap (λ (l : List Tree). l ++ second.trees.0) first.trees.1
+        ∙ append_assoc _ first.trees.0 second.trees.0,
+  );
 }
 
 -- from one table to a wider one
@@ -74,23 +83,28 @@ module _ (v w : TableValue) (wider : Widens v w) where
   pub store_ready : (s : SymStore) → IsStoreReady (sorts_in v) (trees_in v) s → IsStoreReady (sorts_in w) (trees_in w) s
   store_ready s ready = (
     before-later (length (trees_in v)) (length (trees_in w)) longer s.list.items ready.0,
-    subst (λ (f : Sorts). IsStoreSorted f (store_in (trees_in w) s)) (sym wider.sorts) (subst (IsStoreSorted (sorts_in v)) (sym (store_stays s ready.0)) ready.1),
+    subst (λ (f : Sorts). IsStoreSorted f (store_in (trees_in w) s)) (sym wider.sorts)
+        (subst (IsStoreSorted (sorts_in v)) (sym (store_stays s ready.0)) ready.1),
   )
 
-  pub stores_stay : (stores : PerCopy SymStore) → AreStoresReady (sorts_in v) (trees_in v) stores → stores_in (trees_in w) stores ≡ stores_in (trees_in v) stores
+  pub stores_stay : (stores : PerCopy SymStore) → AreStoresReady (sorts_in v) (trees_in v) stores →
+      stores_in (trees_in w) stores ≡ stores_in (trees_in v) stores
   stores_stay stores ready = fun_ext (λ (c : Copy). store_stays (of_copy stores c) (ready c).0)
 
-  pub stores_ready : (stores : PerCopy SymStore) → AreStoresReady (sorts_in v) (trees_in v) stores → AreStoresReady (sorts_in w) (trees_in w) stores
+  pub stores_ready : (stores : PerCopy SymStore) → AreStoresReady (sorts_in v) (trees_in v) stores →
+      AreStoresReady (sorts_in w) (trees_in w) stores
   stores_ready stores ready c = store_ready (of_copy stores c) (ready c)
 
   pub stores_full : (stores : PerCopy SymStore) → AreStoresFull (sorts_in v) stores → AreStoresFull (sorts_in w) stores
   stores_full stores full = subst (λ (f : Sorts). AreStoresFull f stores) (sym wider.sorts) full
 
   -- formulas
-  sort_stays : (n : ℕ) → n < length (trees_in v) → tree_sort (sorts_in w) (tree_at (trees_in w) n) ≡ tree_sort (sorts_in v) (tree_at (trees_in v) n)
+  sort_stays : (n : ℕ) → n < length (trees_in v) →
+      tree_sort (sorts_in w) (tree_at (trees_in w) n) ≡ tree_sort (sorts_in v) (tree_at (trees_in v) n)
   sort_stays n h = ap (λ (f : Sorts). tree_sort f (tree_at (trees_in w) n)) wider.sorts ∙ ap (tree_sort (sorts_in v)) (tree_stays n h)
 
-  pub assertion_stays : (f : NumberedFormula) → IsFormulaWithin (length (trees_in v)) f → assertion_in (sorts_in w) (trees_in w) f ≡ assertion_in (sorts_in v) (trees_in v) f
+  pub assertion_stays : (f : NumberedFormula) → IsFormulaWithin (length (trees_in v)) f →
+      assertion_in (sorts_in w) (trees_in w) f ≡ assertion_in (sorts_in v) (trees_in v) f
   assertion_stays Yes h = refl
   assertion_stays No h = refl
   assertion_stays (Eq t u) h = λ i. plain.Eq (sort_stays t h.0 i) (tree_stays t h.0 i) (tree_stays u h.1 i)
@@ -117,7 +131,8 @@ module _ (v w : TableValue) (wider : Widens v w) where
         (subst (IsFormSorted (sorts_in v)) (sym (assertion_stays (numbered f) ready.0)) ready.1),
   )
 
-  pub forms_stay : (fs : List Formula) → AreFormsReady (sorts_in v) (trees_in v) fs → forms_in (sorts_in w) (trees_in w) fs ≡ forms_in (sorts_in v) (trees_in v) fs
+  pub forms_stay : (fs : List Formula) → AreFormsReady (sorts_in v) (trees_in v) fs →
+      forms_in (sorts_in w) (trees_in w) fs ≡ forms_in (sorts_in v) (trees_in v) fs
   forms_stay [] ready = refl
   forms_stay (f ∷ fs) ready = λ i. assertion_stays (numbered f) ready.0.0 i ∷ forms_stay fs ready.1 i
 

@@ -1,5 +1,6 @@
 -- The goals of outputs over a table that grows.
-use Rattle.std.proofs.Common.{◌≡◌, ℕ, zero, suc, ◌+◌, ◌<◌, Some, List, [], ◌∷◌, ◌++◌, length, map, take, get_or, refl, sym, ap, subst, ◌∙◌, arith}
+use Rattle.std.proofs.Common.{◌≡◌, ℕ, zero, suc, ◌+◌, ◌<◌, Some, List, [], ◌∷◌, ◌++◌, length, map, take, get_or, refl, sym, ap, subst, ◌∙◌}
+use Rattle.std.proofs.Common.{arith}
 use Rattle.std.specs.List.{flat_map}
 use Rattle.std.proofs.lemmas.List.{take_more}
 use Rattle.std.proofs.lemmas.Grind.{flat_map-append}
@@ -32,12 +33,14 @@ copy_back B = refl
 copy_back M = refl
 
 -- formulas by way of their numbers
-pub forms_map : (sorts : Sorts) (trees : List Tree) (fs : List Formula) → forms_in sorts trees fs ≡ map (assertion_in sorts trees) (map numbered fs)
+pub forms_map : (sorts : Sorts) (trees : List Tree) (fs : List Formula) →
+    forms_in sorts trees fs ≡ map (assertion_in sorts trees) (map numbered fs)
 forms_map sorts trees [] = refl
 forms_map sorts trees (f ∷ fs) = ap (λ l. assertion_in sorts trees (numbered f) ∷ l) (forms_map sorts trees fs)
 
 -- the goals of an output, where its places are known
-pub goals_are : (sorts : Sorts) (trees : List Tree) (at : Copy → ℕ) (o : ℕ × Sort) → ((c : Copy) → tree_at trees (at c) ≡ place o c) → ((c : Copy) → tree_sort sorts (place o c) ≡ Num)
+pub goals_are : (sorts : Sorts) (trees : List Tree) (at : Copy → ℕ) (o : ℕ × Sort) → ((c : Copy) → tree_at trees (at c) ≡ place o c) →
+    ((c : Copy) → tree_sort sorts (place o c) ≡ Num)
     → map (assertion_in sorts trees) (goals_over at) ≡ keeps_goals (place o)
 goals_are sorts trees at o e n =
     let s : (c : Copy) → tree_sort sorts (tree_at trees (at c)) ≡ Num = λ (c : Copy). ap (tree_sort sorts) (e c) ∙ n c in
@@ -60,17 +63,20 @@ pub all_stay : (v w : TableValue) → Widens v w → (fs : List NumberedFormula)
 all_stay v w wider [] h = refl
 all_stay v w wider (f ∷ fs) h = λ i. assertion_stays v w wider f h.0 i ∷ all_stay v w wider fs h.1 i
 
-pub all_within : (v w : TableValue) → Widens v w → (fs : List NumberedFormula) → AreAllWithin (length (trees_in v)) fs → AreAllWithin (length (trees_in w)) fs
+pub all_within : (v w : TableValue) → Widens v w → (fs : List NumberedFormula) → AreAllWithin (length (trees_in v)) fs →
+    AreAllWithin (length (trees_in w)) fs
 all_within v w wider [] h = tt
 all_within v w wider (f ∷ fs) h = (within_stays v w wider f h.0, all_within v w wider fs h.1)
 
 -- sorted formulas of a table are ready
-pub ready_from : (sorts : Sorts) (trees : List Tree) (fs : List Formula) → AreAllWithin (length trees) (map numbered fs) → AreFormsSorted sorts (forms_in sorts trees fs) → AreFormsReady sorts trees fs
+pub ready_from : (sorts : Sorts) (trees : List Tree) (fs : List Formula) → AreAllWithin (length trees) (map numbered fs) →
+    AreFormsSorted sorts (forms_in sorts trees fs) → AreFormsReady sorts trees fs
 ready_from sorts trees [] h s = tt
 ready_from sorts trees (f ∷ fs) h s = ((h.0, s.0), ready_from sorts trees fs h.1 s.1)
 
 -- the output at a place of a list
-pub output_at : (sorts : Sorts) (names : List Name) (i : ℕ) → i < length names → AreOutputsDeclared sorts (with_sorts sorts (numbers names)) →
+pub output_at : (sorts : Sorts) (names : List Name) (i : ℕ) → i < length names →
+    AreOutputsDeclared sorts (with_sorts sorts (numbers names)) →
     sorts (get_or names i (record { 0 = 0 })).0 ≡ Some (sort_named sorts (get_or names i (record { 0 = 0 })).0)
 output_at sorts [] i h all = absurd (omega arith)
 output_at sorts (x ∷ xs) zero h all = all.0
@@ -78,7 +84,8 @@ output_at sorts (x ∷ xs) (suc i) h all = output_at sorts xs i (omega arith) al
 
 pub outputs_more : (sorts : Sorts) (names : List Name) (i : ℕ) → i < length names
     → take (i + 1) (with_sorts sorts (numbers names))
-    ≡ take i (with_sorts sorts (numbers names)) ++ ((get_or names i (record { 0 = 0 })).0, sort_named sorts (get_or names i (record { 0 = 0 })).0) ∷ []
+    ≡ take i (with_sorts sorts (numbers names))
+    ++ ((get_or names i (record { 0 = 0 })).0, sort_named sorts (get_or names i (record { 0 = 0 })).0) ∷ []
 outputs_more sorts names i h =
     let d : ℕ × Sort = (0, sort_named sorts 0) in
     take_more (with_sorts sorts (numbers names)) i d (subst (λ n. i < n) (sym (long names)) h)
@@ -88,13 +95,16 @@ outputs_more sorts names i h =
     long [] = refl
     long (x ∷ xs) = ap suc (long xs)
 
-    at : (ns : List Name) (j : ℕ) → get_or (with_sorts sorts (numbers ns)) j (0, sort_named sorts 0) ≡ ((get_or ns j (record { 0 = 0 })).0, sort_named sorts (get_or ns j (record { 0 = 0 })).0)
+    at : (ns : List Name) (j : ℕ) → get_or (with_sorts sorts (numbers ns)) j (0, sort_named sorts 0)
+        ≡ ((get_or ns j (record { 0 = 0 })).0, sort_named sorts (get_or ns j (record { 0 = 0 })).0)
     at [] j = refl
     at (x ∷ xs) zero = refl
     at (x ∷ xs) (suc j) = at xs j
 
 -- the goals of one output more
-pub goals_more : (os : List (ℕ × Sort)) (o : ℕ × Sort) → flat_map (λ (p : ℕ × Sort). keeps_goals (place p)) (os ++ o ∷ []) ≡ flat_map (λ (p : ℕ × Sort). keeps_goals (place p)) os ++ keeps_goals (place o)
+pub goals_more : (os : List (ℕ × Sort)) (o : ℕ × Sort) →
+    flat_map (λ (p : ℕ × Sort). keeps_goals (place p)) (os ++ o ∷ []) ≡ flat_map (λ (p : ℕ × Sort). keeps_goals (place p)) os
+    ++ keeps_goals (place o)
 goals_more os o = flat_map-append (λ (p : ℕ × Sort). keeps_goals (place p)) os (o ∷ [])
 
 pub long-outputs : (sorts : Sorts) (names : List Name) → length (with_sorts sorts (numbers names)) ≡ length names

@@ -1,5 +1,6 @@
 -- Guards that are true or false, as formulas of the program.
-use Rattle.std.proofs.Common.{◌≡◌, ℕ, Bool, true, false, if◌then◌else◌, Option, Some, None, List, [], ◌∷◌, ◌++◌, length, refl, sym, ap, ◌∙◌, subst}
+use Rattle.std.proofs.Common.{◌≡◌, ℕ, Bool, true, false, if◌then◌else◌, Option, Some, None, List, [], ◌∷◌, ◌++◌, length, refl, sym, ap, ◌∙◌}
+use Rattle.std.proofs.Common.{subst}
 use Rattle.std.proofs.lemmas.List.{map-append}
 use Rattle.sm_syntax.specs.text.Sorts.{Sorts}
 use Rattle.sm_term.specs.declared.formula.Formula.{Formula}
@@ -14,10 +15,12 @@ use Rattle.sm_plan.specs.Views.{forms_in}
 use Rattle.sm_plan.proofs.SortedTerms.{negate_sorted}
 
 -- a formula over the same numbers
-pub same_made : (sorts : Sorts) (trees : List Tree) (f g : Formula) → numbered g ≡ numbered f → assertion_in sorts trees (numbered g) ≡ assertion_in sorts trees (numbered f)
+pub same_made : (sorts : Sorts) (trees : List Tree) (f g : Formula) → numbered g ≡ numbered f →
+    assertion_in sorts trees (numbered g) ≡ assertion_in sorts trees (numbered f)
 same_made sorts trees f g e = ap (assertion_in sorts trees) e
 
-pub same_ready : (sorts : Sorts) (trees : List Tree) (f g : Formula) → numbered g ≡ numbered f → IsFormReady sorts trees f → IsFormReady sorts trees g
+pub same_ready : (sorts : Sorts) (trees : List Tree) (f g : Formula) → numbered g ≡ numbered f → IsFormReady sorts trees f →
+    IsFormReady sorts trees g
 same_ready sorts trees f g e ready =
     subst (λ n. IsFormulaWithin (length trees) n × IsFormSorted sorts (assertion_in sorts trees n)) (sym e) ready
 
@@ -26,16 +29,19 @@ pub contrary_made : (sorts : Sorts) (trees : List Tree) (f g : Formula) → numb
     assertion_in sorts trees (numbered g) ≡ negate (assertion_in sorts trees (numbered f))
 contrary_made sorts trees f g e = ap (assertion_in sorts trees) e ∙ contrary_negates sorts trees (numbered f)
 
-pub contrary_ready : (sorts : Sorts) (trees : List Tree) (f g : Formula) → numbered g ≡ contrary (numbered f) → IsFormReady sorts trees f → IsFormReady sorts trees g
+pub contrary_ready : (sorts : Sorts) (trees : List Tree) (f g : Formula) → numbered g ≡ contrary (numbered f) → IsFormReady sorts trees f →
+    IsFormReady sorts trees g
 contrary_ready sorts trees f g e ready = (
   subst (IsFormulaWithin (length trees)) (sym e) (contrary_within (length trees) (numbered f) ready.0),
   subst (IsFormSorted sorts) (sym (contrary_made sorts trees f g e)) (negate_sorted sorts (assertion_in sorts trees (numbered f)) ready.1),
 )
 
 -- one formula more
-pub forms_push : (sorts : Sorts) (trees : List Tree) (fs : List Formula) (g : Formula) → forms_in sorts trees (fs ++ g ∷ []) ≡ forms_in sorts trees fs ++ assertion_in sorts trees (numbered g) ∷ []
+pub forms_push : (sorts : Sorts) (trees : List Tree) (fs : List Formula) (g : Formula) →
+    forms_in sorts trees (fs ++ g ∷ []) ≡ forms_in sorts trees fs ++ assertion_in sorts trees (numbered g) ∷ []
 forms_push sorts trees fs g = map-append (λ (f : Formula). assertion_in sorts trees (numbered f)) fs (g ∷ [])
 
-pub ready_push : (sorts : Sorts) (trees : List Tree) (fs : List Formula) (g : Formula) → AreFormsReady sorts trees fs → IsFormReady sorts trees g → AreFormsReady sorts trees (fs ++ g ∷ [])
+pub ready_push : (sorts : Sorts) (trees : List Tree) (fs : List Formula) (g : Formula) → AreFormsReady sorts trees fs →
+    IsFormReady sorts trees g → AreFormsReady sorts trees (fs ++ g ∷ [])
 ready_push sorts trees [] g ready new = (new, tt)
 ready_push sorts trees (f ∷ fs) g ready new = (ready.0, ready_push sorts trees fs g ready.1 new)

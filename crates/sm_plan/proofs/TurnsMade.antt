@@ -1,5 +1,6 @@
 -- The turns of loops, by ascending masks.
-use Rattle.std.proofs.Common.{◌≡◌, ℕ, zero, suc, ◌+◌, ◌==◌, ◌≤◌, ◌<◌, bit_and, Bool, true, false, if◌then◌else◌, List, [], ◌∷◌, ◌++◌, map, length, refl, sym, ap, ◌∙◌, subst, arith}
+use Rattle.std.proofs.Common.{◌≡◌, ℕ, zero, suc, ◌+◌, ◌==◌, ◌≤◌, ◌<◌, bit_and, Bool, true, false, if◌then◌else◌, List, [], ◌∷◌, ◌++◌, map}
+use Rattle.std.proofs.Common.{length, refl, sym, ap, ◌∙◌, subst, arith}
 use Rattle.std.specs.List.{filter, range_with_len}
 use Rattle.std.proofs.lemmas.List.Elements.{filter-append}
 use Rattle.std.proofs.Math.Path.{fun_ext}
@@ -20,7 +21,8 @@ use Rattle.sm_plan.proofs.RenewedStores.{store_alike}
 use Rattle.sm_plan.proofs.SortedCode.{body_well, rest_well}
 
 -- stores with the same terms
-pub same_store_ready : (sorts : Sorts) (trees : List Tree) (s u : SymStore) → u.list.items ≡ s.list.items → IsStoreReady sorts trees s → IsStoreReady sorts trees u
+pub same_store_ready : (sorts : Sorts) (trees : List Tree) (s u : SymStore) → u.list.items ≡ s.list.items → IsStoreReady sorts trees s →
+    IsStoreReady sorts trees u
 same_store_ready sorts trees s u e ready = (
   subst (AreBefore (length trees)) (sym e) ready.0,
   subst (IsStoreSorted sorts) (sym (store_alike trees u s e)) ready.1,
@@ -30,7 +32,8 @@ pub same_store_full : (sorts : Sorts) (s u : SymStore) → u.list.items ≡ s.li
 same_store_full sorts s u e full = subst (λ (l : List TermId). (x : ℕ) → IsDeclaredIn sorts x → x < length l) (sym e) full
 
 -- bodies of loops are well sorted
-pub bodies_ready : (sorts : Sorts) (b : Bool) (code : Code) → IsWellSorted sorts code → IsWellSorted sorts (if b then loop_body code else End)
+pub bodies_ready : (sorts : Sorts) (b : Bool) (code : Code) → IsWellSorted sorts code →
+    IsWellSorted sorts (if b then loop_body code else End)
 bodies_ready sorts true code well = body_well sorts code well
 bodies_ready sorts false code well = tt
 
@@ -41,11 +44,13 @@ range_push a (suc n) =
     ap (λ (l : List ℕ). a ∷ l) (range_push (a + 1) n)
     ∙ ap (λ (m : ℕ). range_with_len a (suc n) ++ m ∷ []) (omega arith)
 
-pub filter_push : (p : ℕ → Bool) (n : ℕ) → filter p (range_with_len 1 (n + 1)) ≡ filter p (range_with_len 1 n) ++ (if p (n + 1) then (n + 1) ∷ [] else [])
+pub filter_push : (p : ℕ → Bool) (n : ℕ) → filter p (range_with_len 1 (n + 1)) ≡ filter p (range_with_len 1 n)
+    ++ (if p (n + 1) then (n + 1) ∷ [] else [])
 filter_push p n =
     let more : n + 1 ≡ suc n = omega arith in
     let same : 1 + n ≡ n + 1 = omega arith in
-    ap (λ (m : ℕ). filter p (range_with_len 1 m)) more ∙ ap (filter p) (range_push 1 n) ∙ filter-append p (range_with_len 1 n) ((1 + n) ∷ [])
+    ap (λ (m : ℕ). filter p (range_with_len 1 m)) more ∙ ap (filter p) (range_push 1 n)
+    ∙ filter-append p (range_with_len 1 n) ((1 + n) ∷ [])
     ∙ ap (λ (m : ℕ). filter p (range_with_len 1 n) ++ (if p m then m ∷ [] else [])) same
 
 -- the masks up to 15 are those of their sets
@@ -81,12 +86,14 @@ masked f set h =
     back (v ∷ vs) = λ i. f (mask_exact v i) ∷ back vs i
 
 -- one state more
-pub successors_push : (sorts : Sorts) (trees : List Tree) (ns : List Successor) (n : Successor) → AreSuccessorsReady sorts trees ns → IsSuccessorReady sorts trees n →
+pub successors_push : (sorts : Sorts) (trees : List Tree) (ns : List Successor) (n : Successor) → AreSuccessorsReady sorts trees ns →
+    IsSuccessorReady sorts trees n →
     AreSuccessorsReady sorts trees (ns ++ n ∷ [])
 successors_push sorts trees [] n ready new = (new, tt)
 successors_push sorts trees (m ∷ ns) n ready new = (ready.0, successors_push sorts trees ns n ready.1 new)
 
 -- what comes after a loop is well sorted
-pub passed_ready : (sorts : Sorts) (b : Bool) (code : Code) → IsWellSorted sorts code → IsWellSorted sorts (if b then rest_after 1 code else code)
+pub passed_ready : (sorts : Sorts) (b : Bool) (code : Code) → IsWellSorted sorts code →
+    IsWellSorted sorts (if b then rest_after 1 code else code)
 passed_ready sorts true code well = rest_well sorts 1 code well
 passed_ready sorts false code well = well

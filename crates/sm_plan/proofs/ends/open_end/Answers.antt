@@ -32,7 +32,9 @@ returns-clause-opened c =
     record {
       opened = λ (facts : List Assertion).
           (λ i. Some (record { goals = goals i; states = map (successor_in (sorts_in w) (trees_in w) facts) (none i) }))
-          ∙ sym (ap (λ (b : Bool). plan.where_true b (plan.asks (all_at_stores (stores_in (trees_in v) st.stores) (forms_in (sorts_in v) (trees_in v) st.target.value.list.items)))) test);
+          ∙ sym (ap (λ (b : Bool).
+          plan.where_true b (plan.asks
+          (all_at_stores (stores_in (trees_in v) st.stores) (forms_in (sorts_in v) (trees_in v) st.target.value.list.items)))) test);
       stores = inr (stores_stay v w wider st.stores c.requires.stores);
       ready = subst (AreSuccessorsReady (sorts_in w) (trees_in w)) (sym none) tt;
       goals = c.in_ok-goals.ensures.ready;

@@ -8,7 +8,8 @@ use Rattle.sm_term.proofs.TablesLemmas.{grows-twice}
 use Rattle.sm_plan.specs.Filling.{IsFound, IsWay, AreOpen, unknown_below}
 use Rattle.sm_plan.specs.Views.{stores_in}
 use Rattle.sm_plan.proofs.FillingGrows.{longer, stores_ready, known_more, filled_from}
-use Rattle.sm_plan.proofs.FillingWalk.{way_below, way_pushed, way_popped, open_pushed, open_popped, way_open, known_gains, unknown_less, rounds_less, way_start}
+use Rattle.sm_plan.proofs.FillingWalk.{way_below, way_pushed, way_popped, open_pushed, open_popped, way_open, known_gains, unknown_less}
+use Rattle.sm_plan.proofs.FillingWalk.{rounds_less, way_start}
 use Rattle.sm_plan.proofs.filling.walked.Goals as goal
 
 pub number_of-requires-clause-inside : goal.number_of-requires-clause-inside
@@ -36,7 +37,8 @@ walk-preserved-in-Part c =
       kept = known_more v w c.number_of.ensures.grows stores ready known c.walk.invariant.kept;
       way = subst (λ (ns : List ℕ). IsWay t ns c.in-Part.p) (sym items)
           (way_pushed t c.walk.waiting.items c.walk.next c.in-Part.p c.walk.invariant.way found.0);
-      unmade = subst (AreOpen known) (sym items) (open_pushed known c.walk.waiting.items c.walk.next c.walk.invariant.unmade c.walk.invariant.last);
+      unmade = subst (AreOpen known) (sym items)
+          (open_pushed known c.walk.waiting.items c.walk.next c.walk.invariant.unmade c.walk.invariant.last);
       last = found.1;
     }
 

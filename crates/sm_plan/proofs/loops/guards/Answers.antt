@@ -54,14 +54,16 @@ pub guard-requires-4-clause-rest : goal.guard-requires-4-clause-rest
 guard-requires-4-clause-rest c =
     let u = c.args.table.now in
     let v = c.guard-3.new.table in
-    let g = grows-twice u c.guard-2.new.table c.guard-3.new.table (grows-twice u c.guard.new.table c.guard-2.new.table (c.guard.ensures.grows) c.guard-2.ensures.grows) c.guard-3.ensures.grows in
+    let g = grows-twice u c.guard-2.new.table c.guard-3.new.table
+    (grows-twice u c.guard.new.table c.guard-2.new.table (c.guard.ensures.grows) c.guard-2.ensures.grows) c.guard-3.ensures.grows in
     well_more u v g (rest_code c.args.rests.now.candidate) (c.requires.rests M)
 
 pub guard-requires-4-clause-ready : goal.guard-requires-4-clause-ready
 guard-requires-4-clause-ready c =
     let u = c.args.table.now in
     let v = c.guard-3.new.table in
-    let g = grows-twice u c.guard-2.new.table c.guard-3.new.table (grows-twice u c.guard.new.table c.guard-2.new.table (c.guard.ensures.grows) c.guard-2.ensures.grows) c.guard-3.ensures.grows in
+    let g = grows-twice u c.guard-2.new.table c.guard-3.new.table
+    (grows-twice u c.guard.new.table c.guard-2.new.table (c.guard.ensures.grows) c.guard-2.ensures.grows) c.guard-3.ensures.grows in
     ready_more u v g c.args.stores.now.candidate (c.requires.stores M)
 
 pub returns-clause-made : goal.returns-clause-made
@@ -95,12 +97,17 @@ returns-clause-made c =
     let rests = c.args.rests.now in
     let stores = c.args.stores.now in
     let rest = λ (d : Copy). rest_code (of_copy rests d) in
-    let made_o = guard_more u u w1 w4 (grows-not u u refl) from1 (has set O) (rest O) stores.base o.o (c.requires.stores O).0 o.ensures.within o.ensures.made in
-    let made_a = guard_more u w1 w2 w4 g1 from2 (has set A) (rest A) stores.variant_a a.a (c.requires.stores A).0 a.ensures.within a.ensures.made in
-    let made_b = guard_more u w2 w3 w4 u2 from3 (has set B) (rest B) stores.variant_b b.b (c.requires.stores B).0 b.ensures.within b.ensures.made in
-    let made_m = guard_more u w3 w4 w4 u3 (grows-not w4 w4 refl) (has set M) (rest M) stores.candidate m.m (c.requires.stores M).0 m.ensures.within
+    let made_o = guard_more u u w1 w4 (grows-not u u refl) from1 (has set O) (rest O) stores.base o.o (c.requires.stores O).0
+    o.ensures.within o.ensures.made in
+    let made_a = guard_more u w1 w2 w4 g1 from2 (has set A) (rest A) stores.variant_a a.a (c.requires.stores A).0 a.ensures.within
+    a.ensures.made in
+    let made_b = guard_more u w2 w3 w4 u2 from3 (has set B) (rest B) stores.variant_b b.b (c.requires.stores B).0 b.ensures.within
+    b.ensures.made in
+    let made_m = guard_more u w3 w4 w4 u3 (grows-not w4 w4 refl) (has set M) (rest M) stores.candidate m.m (c.requires.stores M).0
+    m.ensures.within
     m.ensures.made in
-    each_copy (λ (d : Copy). guard_forms (sorts_in w4) (trees_in w4) r d ≡ guards_at set rest (stores_in (trees_in u) stores) d) made_o made_a made_b made_m
+    each_copy (λ (d : Copy). guard_forms (sorts_in w4) (trees_in w4) r d ≡ guards_at set rest (stores_in (trees_in u) stores) d) made_o
+    made_a made_b made_m
 
 pub returns-clause-ready : goal.returns-clause-ready
 returns-clause-ready c =
@@ -133,14 +140,22 @@ returns-clause-ready c =
     let rests = c.args.rests.now in
     let stores = c.args.stores.now in
     let rest = λ (d : Copy). rest_code (of_copy rests d) in
-    let made_o = guard_more u u w1 w4 (grows-not u u refl) from1 (has set O) (rest O) stores.base o.o (c.requires.stores O).0 o.ensures.within o.ensures.made in
-    let made_a = guard_more u w1 w2 w4 g1 from2 (has set A) (rest A) stores.variant_a a.a (c.requires.stores A).0 a.ensures.within a.ensures.made in
-    let made_b = guard_more u w2 w3 w4 u2 from3 (has set B) (rest B) stores.variant_b b.b (c.requires.stores B).0 b.ensures.within b.ensures.made in
-    let made_m = guard_more u w3 w4 w4 u3 (grows-not w4 w4 refl) (has set M) (rest M) stores.candidate m.m (c.requires.stores M).0 m.ensures.within
+    let made_o = guard_more u u w1 w4 (grows-not u u refl) from1 (has set O) (rest O) stores.base o.o (c.requires.stores O).0
+    o.ensures.within o.ensures.made in
+    let made_a = guard_more u w1 w2 w4 g1 from2 (has set A) (rest A) stores.variant_a a.a (c.requires.stores A).0 a.ensures.within
+    a.ensures.made in
+    let made_b = guard_more u w2 w3 w4 u2 from3 (has set B) (rest B) stores.variant_b b.b (c.requires.stores B).0 b.ensures.within
+    b.ensures.made in
+    let made_m = guard_more u w3 w4 w4 u3 (grows-not w4 w4 refl) (has set M) (rest M) stores.candidate m.m (c.requires.stores M).0
+    m.ensures.within
     m.ensures.made in
     each_copy (λ (d : Copy). IfSome (of_copy r d) (IsFormReady (sorts_in w4) (trees_in w4)))
-    (guard_ready u w1 w4 u4 from1 (has set O) (rest O) (store_in (trees_in u) stores.base) o.o (c.requires.rests O) (c.requires.stores O).1 o.ensures.within made_o)
-    (guard_ready u w2 w4 u4 from2 (has set A) (rest A) (store_in (trees_in u) stores.variant_a) a.a (c.requires.rests A) (c.requires.stores A).1 a.ensures.within made_a)
-    (guard_ready u w3 w4 u4 from3 (has set B) (rest B) (store_in (trees_in u) stores.variant_b) b.b (c.requires.rests B) (c.requires.stores B).1 b.ensures.within made_b)
-    (guard_ready u w4 w4 u4 (grows-not w4 w4 refl) (has set M) (rest M) (store_in (trees_in u) stores.candidate) m.m (c.requires.rests M) (c.requires.stores M).1
+    (guard_ready u w1 w4 u4 from1 (has set O) (rest O) (store_in (trees_in u) stores.base) o.o (c.requires.rests O) (c.requires.stores O).1
+    o.ensures.within made_o)
+    (guard_ready u w2 w4 u4 from2 (has set A) (rest A) (store_in (trees_in u) stores.variant_a) a.a (c.requires.rests A)
+    (c.requires.stores A).1 a.ensures.within made_a)
+    (guard_ready u w3 w4 u4 from3 (has set B) (rest B) (store_in (trees_in u) stores.variant_b) b.b (c.requires.rests B)
+    (c.requires.stores B).1 b.ensures.within made_b)
+    (guard_ready u w4 w4 u4 (grows-not w4 w4 refl) (has set M) (rest M) (store_in (trees_in u) stores.candidate) m.m (c.requires.rests M)
+    (c.requires.stores M).1
     m.ensures.within made_m)

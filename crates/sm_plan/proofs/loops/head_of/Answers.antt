@@ -29,7 +29,8 @@ at_stores-requires-clause-forms c =
 
 pub guards-requires-clause-stores : goal.guards-requires-clause-stores
 guards-requires-clause-stores c =
-    stores_ready c.renewed_stores.new.table c.at_stores.new.table c.at_stores.ensures.widens c.in_ok-stores.stores c.in_ok-stores.ensures.ready
+    stores_ready c.renewed_stores.new.table c.at_stores.new.table c.at_stores.ensures.widens c.in_ok-stores.stores
+    c.in_ok-stores.ensures.ready
 
 pub returns-in_err-guards-clause-widens : goal.returns-in_err-guards-clause-widens
 returns-in_err-guards-clause-widens c =
@@ -37,7 +38,8 @@ returns-in_err-guards-clause-widens c =
     let v = c.renewed_stores.new.table in
     let w = c.at_stores.new.table in
     let x = c.guards.new.table in
-    widens_twice u w x (widens_twice u v w (widens_grown u v c.renewed_stores.ensures.grows) c.at_stores.ensures.widens) (widens_grown w x c.guards.ensures.grows)
+    widens_twice u w x (widens_twice u v w (widens_grown u v c.renewed_stores.ensures.grows) c.at_stores.ensures.widens)
+    (widens_grown w x c.guards.ensures.grows)
 
 pub returns-in_err-kept-2-clause-widens : goal.returns-in_err-kept-2-clause-widens
 returns-in_err-kept-2-clause-widens c =
@@ -45,7 +47,8 @@ returns-in_err-kept-2-clause-widens c =
     let v = c.renewed_stores.new.table in
     let w = c.at_stores.new.table in
     let x = c.guards.new.table in
-    widens_twice u w x (widens_twice u v w (widens_grown u v c.renewed_stores.ensures.grows) c.at_stores.ensures.widens) (widens_grown w x c.guards.ensures.grows)
+    widens_twice u w x (widens_twice u v w (widens_grown u v c.renewed_stores.ensures.grows) c.at_stores.ensures.widens)
+    (widens_grown w x c.guards.ensures.grows)
 
 pub returns-clause-widens : goal.returns-clause-widens
 returns-clause-widens c =
@@ -53,7 +56,8 @@ returns-clause-widens c =
     let v = c.renewed_stores.new.table in
     let w = c.at_stores.new.table in
     let x = c.guards.new.table in
-    widens_twice u w x (widens_twice u v w (widens_grown u v c.renewed_stores.ensures.grows) c.at_stores.ensures.widens) (widens_grown w x c.guards.ensures.grows)
+    widens_twice u w x (widens_twice u v w (widens_grown u v c.renewed_stores.ensures.grows) c.at_stores.ensures.widens)
+    (widens_grown w x c.guards.ensures.grows)
 
 pub returns-clause-made : goal.returns-clause-made
 returns-clause-made c =
@@ -74,14 +78,17 @@ returns-clause-made c =
     let at_v : stores_in (trees_in v) s ≡ head =
     c.in_ok-stores.ensures.made ∙ ap (λ (f : Copy → Code). renewed k f (stores_in (trees_in u) st.stores)) (fun_ext c.in_ok-done.ensures) in
     let at_w : stores_in (trees_in w) s ≡ head = stores_stay v w c.at_stores.ensures.widens s c.in_ok-stores.ensures.ready ∙ at_v in
-    let same : c.in_ok-kept-2.kept.value.list.items ≡ c.in_ok-kept.kept.list.items = ap (λ (f : Formulas). f.list.items) c.in_ok-kept-2.ensures.ok in
-    let kept : forms_in (sorts_in w) (trees_in w) c.in_ok-kept.kept.list.items ≡ all_at_stores head (forms_in (sorts_in u) (trees_in u) parts) =
+    let same : c.in_ok-kept-2.kept.value.list.items ≡ c.in_ok-kept.kept.list.items =
+    ap (λ (f : Formulas). f.list.items) c.in_ok-kept-2.ensures.ok in
+    let kept : forms_in (sorts_in w) (trees_in w) c.in_ok-kept.kept.list.items
+    ≡ all_at_stores head (forms_in (sorts_in u) (trees_in u) parts) =
     c.in_ok-kept.ensures.made
     ∙ ap (λ (l : List Formula). all_at_stores (stores_in (trees_in v) s) (forms_in (sorts_in v) (trees_in v) l)) c.deref.ensures.value
     ∙ (λ i. all_at_stores (at_v i) (forms_stay u v to_v parts c.requires.parts i)) in
     record {
       stores = stores_stay w x to_x s ready_w ∙ at_w;
-      kept = ap (forms_in (sorts_in x) (trees_in x)) same ∙ forms_stay w x to_x c.in_ok-kept.kept.list.items c.in_ok-kept.ensures.ready ∙ kept;
+      kept = ap (forms_in (sorts_in x) (trees_in x)) same
+          ∙ forms_stay w x to_x c.in_ok-kept.kept.list.items c.in_ok-kept.ensures.ready ∙ kept;
       guards = fun_ext c.in_ok-guards.ensures.made ∙ ap (guards_at set rest) at_w;
     }
 
@@ -92,10 +99,12 @@ returns-clause-ready c =
     let x = c.guards.new.table in
     let s = c.in_ok-stores.stores in
     let to_x = widens_grown w x c.guards.ensures.grows in
-    let same : c.in_ok-kept-2.kept.value.list.items ≡ c.in_ok-kept.kept.list.items = ap (λ (f : Formulas). f.list.items) c.in_ok-kept-2.ensures.ok in
+    let same : c.in_ok-kept-2.kept.value.list.items ≡ c.in_ok-kept.kept.list.items =
+    ap (λ (f : Formulas). f.list.items) c.in_ok-kept-2.ensures.ok in
     record {
       stores = stores_ready w x to_x s (stores_ready v w c.at_stores.ensures.widens s c.in_ok-stores.ensures.ready);
       full = stores_full w x to_x s (stores_full v w c.at_stores.ensures.widens s c.in_ok-stores.ensures.full);
-      kept = subst (AreFormsReady (sorts_in x) (trees_in x)) (sym same) (forms_ready w x to_x c.in_ok-kept.kept.list.items c.in_ok-kept.ensures.ready);
+      kept = subst (AreFormsReady (sorts_in x) (trees_in x)) (sym same)
+          (forms_ready w x to_x c.in_ok-kept.kept.list.items c.in_ok-kept.ensures.ready);
       guards = c.in_ok-guards.ensures.ready;
     }

@@ -1,5 +1,6 @@
 -- The goals and the states are those of the node.
-use Rattle.std.proofs.Common.{◌≡◌, ◌==◌, ◌&&◌, ◌||◌, not, nat_le, bit_and, ℕ, Bool, true, if◌then◌else◌, List, [], ◌∷◌, ◌++◌, map, Some, Option, inr, refl, sym, ap, ◌∙◌, subst}
+use Rattle.std.proofs.Common.{◌≡◌, ◌==◌, ◌&&◌, ◌||◌, not, nat_le, bit_and, ℕ, Bool, true, if◌then◌else◌, List, [], ◌∷◌, ◌++◌, map, Some}
+use Rattle.std.proofs.Common.{Option, inr, refl, sym, ap, ◌∙◌, subst}
 use Rattle.std.specs.List.{filter, range_with_len}
 use Rattle.std.proofs.Math.Path.{fun_ext}
 use Rattle.std.proofs.lemmas.Bool.{and_parts, leb-true}
@@ -30,12 +31,14 @@ use Rattle.sm_plan.specs.Statements.{is_loop}
 use Rattle.sm_plan.specs.Successors.{renewed, head_stores, turn_state, after_loops_state}
 use Rattle.sm_plan.specs.Views.{rest_code, forms_in, stores_in, state_in, successor_in}
 use Rattle.sm_plan.proofs.LoopsOpened.{turn_same, after_same}
-use Rattle.sm_plan.proofs.TablesWiden.{widens_twice, stores_stay, stores_ready, assertion_stays, form_ready, forms_stay, forms_ready, state_ready}
+use Rattle.sm_plan.proofs.TablesWiden.{widens_twice, stores_stay, stores_ready, assertion_stays, form_ready, forms_stay, forms_ready}
+use Rattle.sm_plan.proofs.TablesWiden.{state_ready}
 use Rattle.sm_plan.proofs.TurnsMade.{masked, successors_push}
 use Rattle.sm_plan.proofs.loops.open_loop.Goals as goal
 
 pub head_of-requires-clause-state : goal.head_of-requires-clause-state
-head_of-requires-clause-state c = state_ready c.args.table.now c.at_stores.new.table c.at_stores.ensures.widens c.args.state c.requires.state
+head_of-requires-clause-state c = state_ready c.args.table.now c.at_stores.new.table c.at_stores.ensures.widens c.args.state
+    c.requires.state
 
 pub head_of-requires-clause-parts : goal.head_of-requires-clause-parts
 head_of-requires-clause-parts c =
@@ -82,9 +85,11 @@ returns-clause-opening c =
     made.kept ∙ (λ i. all_at_stores (at_same i) (keep_v i)) in
     let guards_are : heads.guard_forms (sorts_in x) (trees_in x) head.guards ≡ heads.guards_at set rest at =
     made.guards ∙ ap (heads.guards_at set rest) at_same in
-    let goals_are : forms_in (sorts_in x) (trees_in x) c.in_ok-goals.goals.list.items ≡ all_at_stores (stores_in (trees_in u) st.stores) (conj form) =
+    let goals_are : forms_in (sorts_in x) (trees_in x) c.in_ok-goals.goals.list.items
+    ≡ all_at_stores (stores_in (trees_in u) st.stores) (conj form) =
     forms_stay v x from_v c.in_ok-goals.goals.list.items c.in_ok-goals.ensures.ready ∙ c.in_ok-goals.ensures.made
-    ∙ ap (λ (l : List Formula). all_at_stores (stores_in (trees_in u) st.stores) (forms_in (sorts_in u) (trees_in u) l)) c.deref.ensures.value
+    ∙ ap (λ (l : List Formula). all_at_stores (stores_in (trees_in u) st.stores) (forms_in (sorts_in u) (trees_in u) l))
+    c.deref.ensures.value
     ∙ ap (all_at_stores (stores_in (trees_in u) st.stores)) (c.in_ok-parts.ensures.made (sorts_in u) (trees_in u)) in
     let test : Bool = sets.is_inhabited set
     && (sets.each (λ (d : Copy). not (sets.has set d) || is_loop (rest d)) && limits.is_kept form) in
@@ -109,9 +114,11 @@ returns-clause-opening c =
           ∙ ap (λ (f : Copies → State). map f (subsets set)) turn_is in
           let after_is : succ after ≡ after_loops_state old k set form =
           c.in_ok-after.ensures.made (sorts_in x) (trees_in x) facts
-          ∙ after_same k old set form stores kept guards stores_are kept_are guards_are (forms_in (sorts_in x) (trees_in x) st.target.value.list.items)
+          ∙ after_same k old set form stores kept guards stores_are kept_are guards_are
+          (forms_in (sorts_in x) (trees_in x) st.target.value.list.items)
           (forms_stay u x to_x st.target.value.list.items ready.target) in
-          let states_are : map succ c.push.new.self.items ≡ map (turn_state old k set form) (subsets set) ++ after_loops_state old k set form ∷ [] =
+          let states_are : map succ c.push.new.self.items ≡ map (turn_state old k set form) (subsets set)
+          ++ after_loops_state old k set form ∷ [] =
           ap (map succ) items ∙ map-append succ turns (after ∷ []) ∙ (λ i. turns_are i ++ after_is i ∷ []) in
           let want : plan.Opened = record {
             goals = all_at_stores (stores_in (trees_in u) st.stores) (conj form);
@@ -125,7 +132,8 @@ returns-clause-opening c =
           ∙ sym (ap (λ (b : Bool). plan.opened_by k old (if b then plan.Loop set form else plan.Unfit 4)) both.0);
       stores = inr (stores_stay u x to_x st.stores ready.stores);
       ready = subst (AreSuccessorsReady (sorts_in x) (trees_in x)) (sym items)
-          (successors_push (sorts_in x) (trees_in x) turns after (c.in_ok-states.ensures.ready (sorts_in x) (trees_in x) well good target_good)
+          (successors_push (sorts_in x) (trees_in x) turns after
+          (c.in_ok-states.ensures.ready (sorts_in x) (trees_in x) well good target_good)
           (c.in_ok-after.ensures.ready (sorts_in x) (trees_in x) well good old_good));
       goals = forms_ready v x from_v c.in_ok-goals.goals.list.items c.in_ok-goals.ensures.ready;
       asking = stores_ready u x to_x st.stores ready.stores;

@@ -58,10 +58,13 @@ returns-clause-opened c =
     let g_made = contrary_made v w wider store b f made c.in_ok-fact.ensures.within sorted g is in
     let other : SymState = c.in_ok-other.other in
     let one_next : SymState = record { rests = c.enter.new.rests; stores = st.stores; target = st.target; is_final = st.is_final } in
-    let two_next : SymState = record { rests = c.enter-2.new.rests; stores = other.stores; target = other.target; is_final = other.is_final } in
-    let one : IsBranch st one_next k (append first left) = record { rests = c.in_ok-enter.ensures; stores = λ (d : Copy). refl; target = refl; is_final = refl } in
+    let two_next : SymState =
+    record { rests = c.enter-2.new.rests; stores = other.stores; target = other.target; is_final = other.is_final } in
+    let one : IsBranch st one_next k (append first left) =
+    record { rests = c.in_ok-enter.ensures; stores = λ (d : Copy). refl; target = refl; is_final = refl } in
     let two : IsBranch st two_next k (append second left) = record {
-      rests = λ (d : Copy). c.in_ok-enter-2.ensures d ∙ ap (λ (h : Copy → Code). with_copy h k (append second (rest_after 1 (h k))) d) (fun_ext c.in_ok-other.ensures.rests);
+      rests = λ (d : Copy). c.in_ok-enter-2.ensures d
+          ∙ ap (λ (h : Copy → Code). with_copy h k (append second (rest_after 1 (h k))) d) (fun_ext c.in_ok-other.ensures.rests);
       stores = c.in_ok-other.ensures.stores;
       target = c.in_ok-other.ensures.target;
       is_final = c.in_ok-other.ensures.is_final;
@@ -72,13 +75,17 @@ returns-clause-opened c =
     let all = AreFormsReady (sorts_in w) (trees_in w) in
     opening_states v w st _ o c.in_ok-opened.ensures.goals c.in_ok-opened.ensures.asking
     (c.in_ok-opened.ensures.ready (sorts_in w) (trees_in w)
-    (branch_ready v w wider st one_next k (append first left) one c.requires (append_well (sorts_in v) first left well.1 well.3)) (subst all (sym fs) (f_ready, tt))
-    (branch_ready v w wider st two_next k (append second left) two c.requires (append_well (sorts_in v) second left well.2 well.3)) (subst all (sym gs) (g_ready, tt)))
+    (branch_ready v w wider st one_next k (append first left) one c.requires (append_well (sorts_in v) first left well.1 well.3))
+    (subst all (sym fs) (f_ready, tt))
+    (branch_ready v w wider st two_next k (append second left) two c.requires (append_well (sorts_in v) second left well.2 well.3))
+    (subst all (sym gs) (g_ready, tt)))
     (λ facts.
     let was = state_in (sorts_in v) (trees_in v) facts st in
     let p = branch_is v w wider st one_next k (append first left) one c.requires facts f (form_of b (store_in (trees_in v) store)) made in
-    let q = branch_is v w wider st two_next k (append second left) two c.requires facts g (negate (form_of b (store_in (trees_in v) store))) g_made in
-    let view : SymState → List Formula → State = λ (s : SymState) (l : List Formula). state_in (sorts_in w) (trees_in w) (facts ++ forms_in (sorts_in w) (trees_in w) l) s in
+    let q = branch_is v w wider st two_next k (append second left) two c.requires facts g
+    (negate (form_of b (store_in (trees_in v) store))) g_made in
+    let view : SymState → List Formula → State = λ (s : SymState) (l : List Formula). state_in (sorts_in w) (trees_in w)
+    (facts ++ forms_in (sorts_in w) (trees_in w) l) s in
     ap (λ (l : List State). Some (plan.follows l))
     (c.in_ok-opened.ensures.states (sorts_in w) (trees_in w) facts
     ∙ (λ i. view one_next (fs i) ∷ view two_next (gs i) ∷ [])

@@ -42,8 +42,10 @@ returns-clause-opened c =
     record {
       rest_was = c.exchange.ensures.one;
       store_was = c.exchange-2.ensures.one;
-      rests = exchanged rest_code (of_copy st.rests) (of_copy c.exchange.new.all) (of_copy next.rests) k c.empty-rest.result new_rest rests_1 rests_2;
-      stores = exchanged numbers_of (of_copy st.stores) (of_copy c.exchange-2.new.all) (of_copy next.stores) k c.no_terms-store.result new_store stores_1 stores_2;
+      rests = exchanged rest_code (of_copy st.rests) (of_copy c.exchange.new.all) (of_copy next.rests) k c.empty-rest.result new_rest
+          rests_1 rests_2;
+      stores = exchanged numbers_of (of_copy st.stores) (of_copy c.exchange-2.new.all) (of_copy next.stores) k c.no_terms-store.result
+          new_store stores_1 stores_2;
       target = refl;
       is_final = refl;
     } in
@@ -57,7 +59,8 @@ returns-clause-opened c =
     let o = c.in_ok-opened.opened in
     let none = c.no_formulas.ensures in
     let next_ready = step_ready v w grows st next k rest new_rest store new_store ex ready done within len in
-    let facts_ready : AreFormsReady (sorts_in w) (trees_in w) c.no_formulas.result.list.items = subst (AreFormsReady (sorts_in w) (trees_in w)) (sym none) tt in
+    let facts_ready : AreFormsReady (sorts_in w) (trees_in w) c.no_formulas.result.list.items =
+    subst (AreFormsReady (sorts_in w) (trees_in w)) (sym none) tt in
     opening_states v w st _ o c.in_ok-opened.ensures.goals c.in_ok-opened.ensures.asking
     (c.in_ok-opened.ensures.ready (sorts_in w) (trees_in w) next_ready facts_ready)
     (λ facts.

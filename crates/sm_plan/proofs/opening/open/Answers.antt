@@ -13,6 +13,8 @@ returns-in-Block-clause-opened c = λ facts.
     let w = c.open_block.new.table in
     let st = state_in (sorts_in v) (trees_in v) facts c.args.state in
     subst
-    (λ (n : NodeRow). IfOk c.open_block.result (λ o. option_map (opened_in (sorts_in w) (trees_in w) facts) o ≡ plan.opened_by c.args.number st (node_in (sorts_in v) (trees_in v) n)))
+    (λ (n : NodeRow). IfOk c.open_block.result
+    (λ o. option_map (opened_in (sorts_in w) (trees_in w) facts) o
+    ≡ plan.opened_by c.args.number st (node_in (sorts_in v) (trees_in v) n)))
     (sym c.in-Block.is)
     (IfOk-weaker c.open_block.result _ _ (λ o h. h.opened facts) c.open_block.ensures.opening)

@@ -24,7 +24,8 @@ made-requires-clause-within c =
 
 pub put-requires : goal.put-requires
 put-requires c =
-    place_inside (sorts_in c.args.table.now) c.args.names.now c.loop-name.name-index _ c.args.store.now c.loop-name.store c.requires.declared c.requires.full
+    place_inside (sorts_in c.args.table.now) c.args.names.now c.loop-name.name-index _ c.args.store.now c.loop-name.store
+    c.requires.declared c.requires.full
     c.loop-name.invariant.len c.loop-name-test.true
 
 pub loop-name-preserved : goal.loop-name-preserved
@@ -41,10 +42,12 @@ loop-name-preserved c =
     let stored = c.in_ok-t.ensures.stored ∙ ap (λ (d : Copy). Some (Havoc k d x)) (ap copy_of c.number.ensures ∙ copy_numbered copy) in
     let items = c.put.ensures in
     record {
-      made = store_written v w c.made.ensures.grows c.loop-name.store c.put.new.store x c.in_ok-t.t (Havoc k copy x) c.loop-name.invariant.within inside items stored
+      made = store_written v w c.made.ensures.grows c.loop-name.store c.put.new.store x c.in_ok-t.t (Havoc k copy x)
+          c.loop-name.invariant.within inside items stored
           ∙ ap (λ (s : SymbolicStore). with_term s x (Havoc k copy x)) c.loop-name.invariant.made
           ∙ new_push k copy c.args.names.now c.loop-name.name-index _ old c.loop-name-test.true;
-      within = within_written v w c.made.ensures.grows c.loop-name.store c.put.new.store x c.in_ok-t.t (Havoc k copy x) c.loop-name.invariant.within items stored;
+      within = within_written v w c.made.ensures.grows c.loop-name.store c.put.new.store x c.in_ok-t.t (Havoc k copy x)
+          c.loop-name.invariant.within items stored;
       len = ap length items ∙ length-set c.loop-name.store.list.items x c.in_ok-t.t ∙ same;
       grows = grows-twice c.args.table.now v w c.loop-name.invariant.grows c.made.ensures.grows;
     }

@@ -28,8 +28,10 @@ returns-clause-made c =
     let copy = copy_named c.args.copy in
     c.in_ok-renew.ensures.made
     ∙ ap (λ (l : List Name). with_new k copy (is_in (names_in_list l)) (store_in (trees_in v) c.in_ok-store.store)) c.deref.ensures.value
-    ∙ ap (with_new k copy (is_in (names_in_list c.in_ok-names.names.list.items))) (store_alike (trees_in v) c.in_ok-store.store c.args.store.now c.in_ok-store.ensures)
-    ∙ new_same k copy (is_in (names_in_list c.in_ok-names.names.list.items)) (assigns (rest_code c.args.done.now)) (store_in (trees_in v) c.args.store.now)
+    ∙ ap (with_new k copy (is_in (names_in_list c.in_ok-names.names.list.items)))
+    (store_alike (trees_in v) c.in_ok-store.store c.args.store.now c.in_ok-store.ensures)
+    ∙ new_same k copy (is_in (names_in_list c.in_ok-names.names.list.items)) (assigns (rest_code c.args.done.now))
+    (store_in (trees_in v) c.args.store.now)
     c.in_ok-names.ensures.names
 
 pub returns-clause-ready : goal.returns-clause-ready
@@ -39,14 +41,18 @@ returns-clause-ready c =
     let copy = copy_named c.args.copy in
     let made = c.in_ok-renew.ensures.made
     ∙ ap (λ (l : List Name). with_new k copy (is_in (names_in_list l)) (store_in (trees_in v) c.in_ok-store.store)) c.deref.ensures.value
-    ∙ ap (with_new k copy (is_in (names_in_list c.in_ok-names.names.list.items))) (store_alike (trees_in v) c.in_ok-store.store c.args.store.now c.in_ok-store.ensures)
-    ∙ new_same k copy (is_in (names_in_list c.in_ok-names.names.list.items)) (assigns (rest_code c.args.done.now)) (store_in (trees_in v) c.args.store.now)
+    ∙ ap (with_new k copy (is_in (names_in_list c.in_ok-names.names.list.items)))
+    (store_alike (trees_in v) c.in_ok-store.store c.args.store.now c.in_ok-store.ensures)
+    ∙ new_same k copy (is_in (names_in_list c.in_ok-names.names.list.items)) (assigns (rest_code c.args.done.now))
+    (store_in (trees_in v) c.args.store.now)
     c.in_ok-names.ensures.names in (
       c.in_ok-renew.ensures.within,
       subst (IsStoreSorted (sorts_in c.renew.new.table)) (sym made)
-          (subst (λ (sorts : Sorts). IsStoreSorted sorts (with_new k copy (assigns (rest_code c.args.done.now)) (store_in (trees_in v) c.args.store.now)))
+          (subst (λ (sorts : Sorts). IsStoreSorted sorts
+          (with_new k copy (assigns (rest_code c.args.done.now)) (store_in (trees_in v) c.args.store.now)))
           (sym c.renew.ensures.grows.sorts)
-          (new_sorted (sorts_in v) k copy (rest_code c.args.done.now) (store_in (trees_in v) c.args.store.now) c.requires.done c.requires.ready.1)),
+          (new_sorted (sorts_in v) k copy (rest_code c.args.done.now) (store_in (trees_in v) c.args.store.now) c.requires.done
+          c.requires.ready.1)),
     )
 
 pub returns-clause-full : goal.returns-clause-full

@@ -48,42 +48,51 @@ pub renewed_store-requires-3-clause-done : goal.renewed_store-requires-3-clause-
 renewed_store-requires-3-clause-done c =
     let u = c.args.table.now in
     let v = c.renewed_store-2.new.table in
-    let g = grows-twice u c.renewed_store.new.table c.renewed_store-2.new.table (c.renewed_store.ensures.grows) c.renewed_store-2.ensures.grows in
+    let g = grows-twice u c.renewed_store.new.table c.renewed_store-2.new.table (c.renewed_store.ensures.grows)
+    c.renewed_store-2.ensures.grows in
     well_more u v g (rest_code c.args.done.now.variant_b) (c.requires.done B)
 
 pub renewed_store-requires-3-clause-ready : goal.renewed_store-requires-3-clause-ready
 renewed_store-requires-3-clause-ready c =
     let u = c.args.table.now in
     let v = c.renewed_store-2.new.table in
-    let g = grows-twice u c.renewed_store.new.table c.renewed_store-2.new.table (c.renewed_store.ensures.grows) c.renewed_store-2.ensures.grows in
+    let g = grows-twice u c.renewed_store.new.table c.renewed_store-2.new.table (c.renewed_store.ensures.grows)
+    c.renewed_store-2.ensures.grows in
     ready_more u v g c.args.stores.now.variant_b (c.requires.ready B)
 
 pub renewed_store-requires-3-clause-full : goal.renewed_store-requires-3-clause-full
 renewed_store-requires-3-clause-full c =
     let u = c.args.table.now in
     let v = c.renewed_store-2.new.table in
-    let g = grows-twice u c.renewed_store.new.table c.renewed_store-2.new.table (c.renewed_store.ensures.grows) c.renewed_store-2.ensures.grows in
+    let g = grows-twice u c.renewed_store.new.table c.renewed_store-2.new.table (c.renewed_store.ensures.grows)
+    c.renewed_store-2.ensures.grows in
     full_more u v g c.args.stores.now.variant_b (c.requires.full B)
 
 pub renewed_store-requires-4-clause-done : goal.renewed_store-requires-4-clause-done
 renewed_store-requires-4-clause-done c =
     let u = c.args.table.now in
     let v = c.renewed_store-3.new.table in
-    let g = grows-twice u c.renewed_store-2.new.table c.renewed_store-3.new.table (grows-twice u c.renewed_store.new.table c.renewed_store-2.new.table (c.renewed_store.ensures.grows) c.renewed_store-2.ensures.grows) c.renewed_store-3.ensures.grows in
+    let g = grows-twice u c.renewed_store-2.new.table c.renewed_store-3.new.table
+    (grows-twice u c.renewed_store.new.table c.renewed_store-2.new.table (c.renewed_store.ensures.grows)
+    c.renewed_store-2.ensures.grows) c.renewed_store-3.ensures.grows in
     well_more u v g (rest_code c.args.done.now.candidate) (c.requires.done M)
 
 pub renewed_store-requires-4-clause-ready : goal.renewed_store-requires-4-clause-ready
 renewed_store-requires-4-clause-ready c =
     let u = c.args.table.now in
     let v = c.renewed_store-3.new.table in
-    let g = grows-twice u c.renewed_store-2.new.table c.renewed_store-3.new.table (grows-twice u c.renewed_store.new.table c.renewed_store-2.new.table (c.renewed_store.ensures.grows) c.renewed_store-2.ensures.grows) c.renewed_store-3.ensures.grows in
+    let g = grows-twice u c.renewed_store-2.new.table c.renewed_store-3.new.table
+    (grows-twice u c.renewed_store.new.table c.renewed_store-2.new.table (c.renewed_store.ensures.grows)
+    c.renewed_store-2.ensures.grows) c.renewed_store-3.ensures.grows in
     ready_more u v g c.args.stores.now.candidate (c.requires.ready M)
 
 pub renewed_store-requires-4-clause-full : goal.renewed_store-requires-4-clause-full
 renewed_store-requires-4-clause-full c =
     let u = c.args.table.now in
     let v = c.renewed_store-3.new.table in
-    let g = grows-twice u c.renewed_store-2.new.table c.renewed_store-3.new.table (grows-twice u c.renewed_store.new.table c.renewed_store-2.new.table (c.renewed_store.ensures.grows) c.renewed_store-2.ensures.grows) c.renewed_store-3.ensures.grows in
+    let g = grows-twice u c.renewed_store-2.new.table c.renewed_store-3.new.table
+    (grows-twice u c.renewed_store.new.table c.renewed_store-2.new.table (c.renewed_store.ensures.grows)
+    c.renewed_store-2.ensures.grows) c.renewed_store-3.ensures.grows in
     full_more u v g c.args.stores.now.candidate (c.requires.full M)
 
 pub returns-clause-made : goal.returns-clause-made
@@ -117,10 +126,14 @@ returns-clause-made c =
     let stores = c.args.stores.now in
     let old = stores_in (trees_in u) stores in
     fun_ext (each_copy (λ (d : Copy). stores_in (trees_in w4) r d ≡ renewed k done old d)
-    (renewed_more u u w1 w4 (grows-not u u refl) from1 k O (assigns (done O)) stores.base o.base (c.requires.ready O).0 o.ensures.ready.0 o.ensures.made)
-    (renewed_more u w1 w2 w4 g1 from2 k A (assigns (done A)) stores.variant_a a.variant_a (c.requires.ready A).0 a.ensures.ready.0 a.ensures.made)
-    (renewed_more u w2 w3 w4 u2 from3 k B (assigns (done B)) stores.variant_b b.variant_b (c.requires.ready B).0 b.ensures.ready.0 b.ensures.made)
-    (renewed_more u w3 w4 w4 u3 (grows-not w4 w4 refl) k M (assigns (done M)) stores.candidate m.candidate (c.requires.ready M).0 m.ensures.ready.0
+    (renewed_more u u w1 w4 (grows-not u u refl) from1 k O (assigns (done O)) stores.base o.base (c.requires.ready O).0 o.ensures.ready.0
+    o.ensures.made)
+    (renewed_more u w1 w2 w4 g1 from2 k A (assigns (done A)) stores.variant_a a.variant_a (c.requires.ready A).0 a.ensures.ready.0
+    a.ensures.made)
+    (renewed_more u w2 w3 w4 u2 from3 k B (assigns (done B)) stores.variant_b b.variant_b (c.requires.ready B).0 b.ensures.ready.0
+    b.ensures.made)
+    (renewed_more u w3 w4 w4 u3 (grows-not w4 w4 refl) k M (assigns (done M)) stores.candidate m.candidate (c.requires.ready M).0
+    m.ensures.ready.0
     m.ensures.made))
 
 pub returns-clause-ready : goal.returns-clause-ready
@@ -150,7 +163,8 @@ returns-clause-ready c =
       candidate = m.candidate;
     } in
     each_copy (λ (d : Copy). IsStoreReady (sorts_in w4) (trees_in w4) (of_copy r d))
-    (ready_more w1 w4 from1 o.base o.ensures.ready) (ready_more w2 w4 from2 a.variant_a a.ensures.ready) (ready_more w3 w4 from3 b.variant_b b.ensures.ready) m.ensures.ready
+    (ready_more w1 w4 from1 o.base o.ensures.ready) (ready_more w2 w4 from2 a.variant_a a.ensures.ready)
+    (ready_more w3 w4 from3 b.variant_b b.ensures.ready) m.ensures.ready
 
 pub returns-clause-full : goal.returns-clause-full
 returns-clause-full c =
@@ -179,4 +193,5 @@ returns-clause-full c =
       candidate = m.candidate;
     } in
     each_copy (λ (d : Copy). IsStoreFull (sorts_in w4) (of_copy r d))
-    (full_more w1 w4 from1 o.base o.ensures.full) (full_more w2 w4 from2 a.variant_a a.ensures.full) (full_more w3 w4 from3 b.variant_b b.ensures.full) m.ensures.full
+    (full_more w1 w4 from1 o.base o.ensures.full) (full_more w2 w4 from2 a.variant_a a.ensures.full)
+    (full_more w3 w4 from3 b.variant_b b.ensures.full) m.ensures.full

@@ -18,7 +18,8 @@ filled_form-returns-in_ok-a-in-Eq-clause-made t c =
     let stores = c.args.stores.now in
     let got = c.in_ok-a-in-Eq in
     let sorted = (subst (IsFormReady (sorts_in v) (trees_in v)) c.in-Eq.is c.requires.form).1 in
-    eq_made v w c.filled_terms.ensures.grows stores c.requires.stores c.in-Eq.t.0 c.in-Eq.u.0 got.a.0 got.b.0 got.ensures.first got.ensures.second sorted.0.0
+    eq_made v w c.filled_terms.ensures.grows stores c.requires.stores c.in-Eq.t.0 c.in-Eq.u.0 got.a.0 got.b.0 got.ensures.first
+    got.ensures.second sorted.0.0
     ∙ ap (λ (f : Formula). at_stores (stores_in (trees_in v) stores) (assertion_in (sorts_in v) (trees_in v) (numbered f))) (sym c.in-Eq.is)
 
 pub filled_form-returns-in_ok-a-in-Eq-clause-within : goal.filled_form-returns-in_ok-a-in-Eq-clause-within
@@ -27,7 +28,8 @@ filled_form-returns-in_ok-a-in-Eq-clause-within t c =
     let w = c.filled_terms.new.table in
     let stores = c.args.stores.now in
     let got = c.in_ok-a-in-Eq in
-    both_there v w c.filled_terms.ensures.grows stores c.requires.stores c.in-Eq.t.0 c.in-Eq.u.0 got.a.0 got.b.0 got.ensures.first got.ensures.second
+    both_there v w c.filled_terms.ensures.grows stores c.requires.stores c.in-Eq.t.0 c.in-Eq.u.0 got.a.0 got.b.0 got.ensures.first
+    got.ensures.second
 
 pub filled_form-returns-in_ok-a-in-Ne-clause-made : goal.filled_form-returns-in_ok-a-in-Ne-clause-made
 filled_form-returns-in_ok-a-in-Ne-clause-made t c =
@@ -36,7 +38,8 @@ filled_form-returns-in_ok-a-in-Ne-clause-made t c =
     let stores = c.args.stores.now in
     let got = c.in_ok-a-in-Ne in
     let sorted = (subst (IsFormReady (sorts_in v) (trees_in v)) c.in-Ne.is c.requires.form).1 in
-    ne_made v w c.filled_terms-in-Ne.ensures.grows stores c.requires.stores c.in-Ne.t.0 c.in-Ne.u.0 got.a.0 got.b.0 got.ensures.first got.ensures.second sorted.0.0
+    ne_made v w c.filled_terms-in-Ne.ensures.grows stores c.requires.stores c.in-Ne.t.0 c.in-Ne.u.0 got.a.0 got.b.0 got.ensures.first
+    got.ensures.second sorted.0.0
     ∙ ap (λ (f : Formula). at_stores (stores_in (trees_in v) stores) (assertion_in (sorts_in v) (trees_in v) (numbered f))) (sym c.in-Ne.is)
 
 pub filled_form-returns-in_ok-a-in-Ne-clause-within : goal.filled_form-returns-in_ok-a-in-Ne-clause-within
@@ -45,7 +48,8 @@ filled_form-returns-in_ok-a-in-Ne-clause-within t c =
     let w = c.filled_terms-in-Ne.new.table in
     let stores = c.args.stores.now in
     let got = c.in_ok-a-in-Ne in
-    both_there v w c.filled_terms-in-Ne.ensures.grows stores c.requires.stores c.in-Ne.t.0 c.in-Ne.u.0 got.a.0 got.b.0 got.ensures.first got.ensures.second
+    both_there v w c.filled_terms-in-Ne.ensures.grows stores c.requires.stores c.in-Ne.t.0 c.in-Ne.u.0 got.a.0 got.b.0 got.ensures.first
+    got.ensures.second
 
 pub filled_form-returns-in_ok-a-in-Le-clause-made : goal.filled_form-returns-in_ok-a-in-Le-clause-made
 filled_form-returns-in_ok-a-in-Le-clause-made t c =
@@ -53,7 +57,8 @@ filled_form-returns-in_ok-a-in-Le-clause-made t c =
     let w = c.filled_terms-in-Le.new.table in
     let stores = c.args.stores.now in
     let got = c.in_ok-a-in-Le in
-    le_made v w c.filled_terms-in-Le.ensures.grows stores c.requires.stores c.in-Le.t.0 c.in-Le.u.0 got.a.0 got.b.0 got.ensures.first got.ensures.second
+    le_made v w c.filled_terms-in-Le.ensures.grows stores c.requires.stores c.in-Le.t.0 c.in-Le.u.0 got.a.0 got.b.0 got.ensures.first
+    got.ensures.second
     ∙ ap (λ (f : Formula). at_stores (stores_in (trees_in v) stores) (assertion_in (sorts_in v) (trees_in v) (numbered f))) (sym c.in-Le.is)
 
 pub filled_form-returns-in_ok-a-in-Le-clause-within : goal.filled_form-returns-in_ok-a-in-Le-clause-within
@@ -62,7 +67,8 @@ filled_form-returns-in_ok-a-in-Le-clause-within t c =
     let w = c.filled_terms-in-Le.new.table in
     let stores = c.args.stores.now in
     let got = c.in_ok-a-in-Le in
-    both_there v w c.filled_terms-in-Le.ensures.grows stores c.requires.stores c.in-Le.t.0 c.in-Le.u.0 got.a.0 got.b.0 got.ensures.first got.ensures.second
+    both_there v w c.filled_terms-in-Le.ensures.grows stores c.requires.stores c.in-Le.t.0 c.in-Le.u.0 got.a.0 got.b.0 got.ensures.first
+    got.ensures.second
 
 pub filled_form-returns-in_ok-a-in-Lt-clause-made : goal.filled_form-returns-in_ok-a-in-Lt-clause-made
 filled_form-returns-in_ok-a-in-Lt-clause-made t c =
@@ -70,7 +76,8 @@ filled_form-returns-in_ok-a-in-Lt-clause-made t c =
     let w = c.filled_terms-in-Lt.new.table in
     let stores = c.args.stores.now in
     let got = c.in_ok-a-in-Lt in
-    lt_made v w c.filled_terms-in-Lt.ensures.grows stores c.requires.stores c.in-Lt.t.0 c.in-Lt.u.0 got.a.0 got.b.0 got.ensures.first got.ensures.second
+    lt_made v w c.filled_terms-in-Lt.ensures.grows stores c.requires.stores c.in-Lt.t.0 c.in-Lt.u.0 got.a.0 got.b.0 got.ensures.first
+    got.ensures.second
     ∙ ap (λ (f : Formula). at_stores (stores_in (trees_in v) stores) (assertion_in (sorts_in v) (trees_in v) (numbered f))) (sym c.in-Lt.is)
 
 pub filled_form-returns-in_ok-a-in-Lt-clause-within : goal.filled_form-returns-in_ok-a-in-Lt-clause-within
@@ -79,7 +86,8 @@ filled_form-returns-in_ok-a-in-Lt-clause-within t c =
     let w = c.filled_terms-in-Lt.new.table in
     let stores = c.args.stores.now in
     let got = c.in_ok-a-in-Lt in
-    both_there v w c.filled_terms-in-Lt.ensures.grows stores c.requires.stores c.in-Lt.t.0 c.in-Lt.u.0 got.a.0 got.b.0 got.ensures.first got.ensures.second
+    both_there v w c.filled_terms-in-Lt.ensures.grows stores c.requires.stores c.in-Lt.t.0 c.in-Lt.u.0 got.a.0 got.b.0 got.ensures.first
+    got.ensures.second
 
 pub filled_parts-filled_form-requires-2 : goal.filled_parts-filled_form-requires-2
 filled_parts-filled_form-requires-2 t c =

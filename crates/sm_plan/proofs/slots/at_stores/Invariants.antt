@@ -14,6 +14,7 @@ invariant-loop-form l = record {
   grows : Grows l.fn.table l.table;
   known : AreKnown l.table (stores_in (trees_in l.table) l.stores) (get nat_eq l.known);
   made : forms_in (sorts_in l.table) (trees_in l.table) l.list.items
-      ≡ all_at_stores (stores_in (trees_in l.fn.table) l.stores) (forms_in (sorts_in l.fn.table) (trees_in l.fn.table) (take l.form-index l.forms));
+      ≡ all_at_stores (stores_in (trees_in l.fn.table) l.stores)
+      (forms_in (sorts_in l.fn.table) (trees_in l.fn.table) (take l.form-index l.forms));
   within : AreFormsWithin (length (trees_in l.table)) l.list.items;
 }

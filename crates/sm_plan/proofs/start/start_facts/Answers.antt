@@ -19,4 +19,5 @@ returns-in_ok-facts-in-Some-clause-ready c =
     let well = subst (λ o. IfSome o (λ b. IsWellSortedCondition (sorts_in v) (condition_of b.now))) c.in-Some.is c.requires.assumed in
     let sorted = form_sorted (sorts_in v) b (store_in (trees_in v) s) well c.requires.ready.1 in
     c.in_ok-facts-in-Some.ensures.ready (sorts_in w) (trees_in w)
-    (fact_ready v w (widens_grown v w c.form_of.ensures.grows) s b c.in_ok-fact-in-Some.fact c.in_ok-fact-in-Some.ensures.made c.in_ok-fact-in-Some.ensures.within sorted)
+    (fact_ready v w (widens_grown v w c.form_of.ensures.grows) s b c.in_ok-fact-in-Some.fact c.in_ok-fact-in-Some.ensures.made
+    c.in_ok-fact-in-Some.ensures.within sorted)

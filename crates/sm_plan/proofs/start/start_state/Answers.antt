@@ -38,8 +38,11 @@ target-requires c =
     let e1 : sorts_in v1 ≡ sort_of declared = c.start_store.ensures.grows.sorts ∙ c.requires.declared in
     let e2 : sorts_in v2 ≡ sort_of declared = c.start_facts.ensures.grows.sorts ∙ e1 in
     let store : SymStore = c.in_ok-store.store in
-    let store_ready_1 : IsStoreReady (sorts_in v1) (trees_in v1) store =
-    (c.in_ok-store.ensures.within, subst (IsStoreSorted (sorts_in v1)) (sym c.in_ok-store.ensures.store) (start_store_sorted (sorts_in v1))) in
+    let store_ready_1 : IsStoreReady (sorts_in v1) (trees_in v1) store = (
+      c.in_ok-store.ensures.within,
+      subst (IsStoreSorted (sorts_in v1)) (sym c.in_ok-store.ensures.store)
+          (start_store_sorted (sorts_in v1)),
+    ) in
     subst (λ (f : Sorts). AreOutputsDeclared f (with_sorts f (outputs_of c.args.outputs.now))) (sym e2) c.requires.outputs
 
 pub returns-in_err-new-clause-widens : goal.returns-in_err-new-clause-widens
@@ -48,7 +51,8 @@ returns-in_err-new-clause-widens c =
     let v1 = c.start_store.new.table in
     let v2 = c.start_facts.new.table in
     let v3 = c.target.new.table in
-    widens_grown v0 v3 (grows-twice v0 v1 v3 c.start_store.ensures.grows (grows-twice v1 v2 v3 c.start_facts.ensures.grows c.target.ensures.grows))
+    widens_grown v0 v3 (grows-twice v0 v1 v3 c.start_store.ensures.grows
+    (grows-twice v1 v2 v3 c.start_facts.ensures.grows c.target.ensures.grows))
 
 pub returns-clause-widens : goal.returns-clause-widens
 returns-clause-widens c =
@@ -56,10 +60,13 @@ returns-clause-widens c =
     let v1 = c.start_store.new.table in
     let v2 = c.start_facts.new.table in
     let v3 = c.target.new.table in
-    widens_grown v0 v3 (grows-twice v0 v1 v3 c.start_store.ensures.grows (grows-twice v1 v2 v3 c.start_facts.ensures.grows c.target.ensures.grows))
+    widens_grown v0 v3 (grows-twice v0 v1 v3 c.start_store.ensures.grows
+    (grows-twice v1 v2 v3 c.start_facts.ensures.grows c.target.ensures.grows))
 
 pub returns-clause-facts : goal.returns-clause-facts
-returns-clause-facts c = forms_ready c.start_facts.new.table c.target.new.table (widens_grown c.start_facts.new.table c.target.new.table c.target.ensures.grows) c.in_ok-facts.facts.list.items c.in_ok-facts.ensures.ready
+returns-clause-facts c = forms_ready c.start_facts.new.table c.target.new.table
+    (widens_grown c.start_facts.new.table c.target.new.table c.target.ensures.grows) c.in_ok-facts.facts.list.items
+    c.in_ok-facts.ensures.ready
 
 pub returns-clause-start : goal.returns-clause-start
 returns-clause-start c =
@@ -70,8 +77,11 @@ returns-clause-start c =
     let e1 : sorts_in v1 ≡ sort_of declared = c.start_store.ensures.grows.sorts ∙ c.requires.declared in
     let e2 : sorts_in v2 ≡ sort_of declared = c.start_facts.ensures.grows.sorts ∙ e1 in
     let store : SymStore = c.in_ok-store.store in
-    let store_ready_1 : IsStoreReady (sorts_in v1) (trees_in v1) store =
-    (c.in_ok-store.ensures.within, subst (IsStoreSorted (sorts_in v1)) (sym c.in_ok-store.ensures.store) (start_store_sorted (sorts_in v1))) in
+    let store_ready_1 : IsStoreReady (sorts_in v1) (trees_in v1) store = (
+      c.in_ok-store.ensures.within,
+      subst (IsStoreSorted (sorts_in v1)) (sym c.in_ok-store.ensures.store)
+          (start_store_sorted (sorts_in v1)),
+    ) in
     let v3 = c.target.new.table in
     let e3 : sorts_in v3 ≡ sort_of declared = c.target.ensures.grows.sorts ∙ e2 in
     let g13 = grows-twice v1 v2 v3 c.start_facts.ensures.grows c.target.ensures.grows in
@@ -85,7 +95,8 @@ returns-clause-start c =
     let stores = fun_ext (λ (d : Copy). ap (listed (trees_in v3)) (c.in_ok-four.ensures d) ∙ one_store) in
     let facts = forms_stay v2 v3 w23 c.in_ok-facts.facts.list.items c.in_ok-facts.ensures.ready ∙ c.in_ok-facts.ensures.made in
     let target : forms_in (sorts_in v3) (trees_in v3) c.in_ok-new.field-0.value.list.items ≡ goals (sorted_outputs declared names) =
-    ap (λ g. forms_in (sorts_in v3) (trees_in v3) g.list.items) goals_at ∙ c.in_ok-goals.ensures.made ∙ ap (λ (f : Sorts). goals (with_sorts f names)) e2 in
+    ap (λ g. forms_in (sorts_in v3) (trees_in v3) g.list.items) goals_at ∙ c.in_ok-goals.ensures.made
+    ∙ ap (λ (f : Sorts). goals (with_sorts f names)) e2 in
     λ i. record {
       rest = rest i;
       stores = stores i;
@@ -103,8 +114,11 @@ returns-clause-ready c =
     let e1 : sorts_in v1 ≡ sort_of declared = c.start_store.ensures.grows.sorts ∙ c.requires.declared in
     let e2 : sorts_in v2 ≡ sort_of declared = c.start_facts.ensures.grows.sorts ∙ e1 in
     let store : SymStore = c.in_ok-store.store in
-    let store_ready_1 : IsStoreReady (sorts_in v1) (trees_in v1) store =
-    (c.in_ok-store.ensures.within, subst (IsStoreSorted (sorts_in v1)) (sym c.in_ok-store.ensures.store) (start_store_sorted (sorts_in v1))) in
+    let store_ready_1 : IsStoreReady (sorts_in v1) (trees_in v1) store = (
+      c.in_ok-store.ensures.within,
+      subst (IsStoreSorted (sorts_in v1)) (sym c.in_ok-store.ensures.store)
+          (start_store_sorted (sorts_in v1)),
+    ) in
     let v3 = c.target.new.table in
     let e3 : sorts_in v3 ≡ sort_of declared = c.target.ensures.grows.sorts ∙ e2 in
     let g13 = grows-twice v1 v2 v3 c.start_facts.ensures.grows c.target.ensures.grows in

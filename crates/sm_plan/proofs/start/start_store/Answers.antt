@@ -23,7 +23,9 @@ made-requires-clause-within c =
     let i = c.loop-d.d-index in
     let d : Name × Sort = (record { 0 = 0 }, Num) in
     let sorts = c.loop-d.invariant.grows.sorts ∙ c.requires.declared in
-    ap (λ (f : Sorts). is_some (f (get_or ds i d).0.0)) (sorts ∙ ap (λ (l : List (Name × Sort)). sort_of (pairs l)) (sym c.deref-d-items.ensures.value)) ∙ declared_at ds i d c.loop-d-test.true
+    ap (λ (f : Sorts). is_some (f (get_or ds i d).0.0))
+    (sorts ∙ ap (λ (l : List (Name × Sort)). sort_of (pairs l)) (sym c.deref-d-items.ensures.value))
+    ∙ declared_at ds i d c.loop-d-test.true
 
 pub loop-d-preserved : goal.loop-d-preserved
 loop-d-preserved c =
@@ -52,7 +54,8 @@ loop-d-preserved c =
           ∙ sym (ap (map f) (take_more ds i d c.loop-d-test.true) ∙ map-append f (take i ds) (get_or ds i d ∷ []));
       within =
           subst (AreBefore n) (sym items)
-          (before_append n old (t ∷ []) (before-later (length (trees_in u)) n (longer u z wider) old c.loop-d.invariant.within) (there (trees_in z) t.0 _ c.in_ok-made.ensures.stored, tt));
+          (before_append n old (t ∷ []) (before-later (length (trees_in u)) n (longer u z wider) old c.loop-d.invariant.within)
+          (there (trees_in z) t.0 _ c.in_ok-made.ensures.stored, tt));
     }
 
 pub returns-clause-store : goal.returns-clause-store

@@ -11,6 +11,7 @@ use Rattle.sm_plan.proofs.start.start_store.Given as goal
 abbrev pub invariant-loop-d : goal.invariant-loop-d
 invariant-loop-d l = record {
   grows : Grows l.fn.table l.table;
-  made : map (λ (t : TermId). tree_at (trees_in l.table) t.0) l.list.items ≡ map (λ (d : Name × Sort). Start d.0.0) (take l.d-index l.d-items);
+  made : map (λ (t : TermId). tree_at (trees_in l.table) t.0) l.list.items
+      ≡ map (λ (d : Name × Sort). Start d.0.0) (take l.d-index l.d-items);
   within : AreBefore (length (trees_in l.table)) l.list.items;
 }

@@ -24,4 +24,5 @@ returns-clause-within c =
     let w = c.term_of.new.table in
     let s = c.args.store.now in
     let t = symbolic.term_of (expression_of c.args.e.now) (store_in (trees_in v) s) in
-    within_written v w c.term_of.ensures.grows s c.put.new.store c.args.x.0 c.in_ok-t.t t c.requires.ready.0 c.put.ensures c.in_ok-t.ensures.made
+    within_written v w c.term_of.ensures.grows s c.put.new.store c.args.x.0 c.in_ok-t.t t c.requires.ready.0 c.put.ensures
+    c.in_ok-t.ensures.made

@@ -9,5 +9,7 @@ returns-clause-ready c = λ sorts trees h g i j.
     let one : Successor = c.in_ok-successor.field-0 in
     let two : Successor = c.in_ok-successor-2.field-0 in
     let items : c.push-2.new.self.items ≡ one ∷ two ∷ [] =
-    c.in_ok-push-2.ensures.items ∙ ap (λ (l : List Successor). l ++ two ∷ []) (c.in_ok-push.ensures.items ∙ ap (λ (l : List Successor). l ++ one ∷ []) c.new-states.ensures.items) in
-    subst (AreSuccessorsReady sorts trees) (sym items) (c.in_ok-successor.ensures.ready sorts trees h g, (c.in_ok-successor-2.ensures.ready sorts trees i j, tt))
+    c.in_ok-push-2.ensures.items ∙ ap (λ (l : List Successor). l ++ two ∷ [])
+    (c.in_ok-push.ensures.items ∙ ap (λ (l : List Successor). l ++ one ∷ []) c.new-states.ensures.items) in
+    subst (AreSuccessorsReady sorts trees) (sym items)
+    (c.in_ok-successor.ensures.ready sorts trees h g, (c.in_ok-successor-2.ensures.ready sorts trees i j, tt))

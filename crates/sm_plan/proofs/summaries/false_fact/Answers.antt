@@ -24,7 +24,8 @@ returns-clause-made c =
     let wider = widens_grown v w c.form_of.ensures.grows in
     let fs : c.in_ok-facts.facts.list.items ≡ g ∷ [] = c.in_ok-facts.ensures in
     ap (forms_in (sorts_in w) (trees_in w)) fs
-    ∙ ap (λ (a : Assertion). a ∷ []) (contrary_made v w wider s b f c.in_ok-fact.ensures.made c.in_ok-fact.ensures.within sorted g c.in_ok-contrary.ensures)
+    ∙ ap (λ (a : Assertion). a ∷ [])
+    (contrary_made v w wider s b f c.in_ok-fact.ensures.made c.in_ok-fact.ensures.within sorted g c.in_ok-contrary.ensures)
 
 pub returns-clause-ready : goal.returns-clause-ready
 returns-clause-ready c =
@@ -37,4 +38,5 @@ returns-clause-ready c =
     let sorted = form_sorted (sorts_in v) b (store_in (trees_in v) s) c.requires.well c.requires.ready.1 in
     let wider = widens_grown v w c.form_of.ensures.grows in
     let fs : c.in_ok-facts.facts.list.items ≡ g ∷ [] = c.in_ok-facts.ensures in
-    subst (AreFormsReady (sorts_in w) (trees_in w)) (sym fs) (contrary_ready v w wider s b f c.in_ok-fact.ensures.made c.in_ok-fact.ensures.within sorted g c.in_ok-contrary.ensures, tt)
+    subst (AreFormsReady (sorts_in w) (trees_in w)) (sym fs)
+    (contrary_ready v w wider s b f c.in_ok-fact.ensures.made c.in_ok-fact.ensures.within sorted g c.in_ok-contrary.ensures, tt)

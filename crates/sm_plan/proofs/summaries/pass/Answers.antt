@@ -18,6 +18,7 @@ returns c = λ (d : Copy).
     let first : of_copy c.exchange.new.all ≡ with_copy old k c.empty-rest.result = c.exchange.ensures.all in
     let second : of_copy c.exchange-2.new.all ≡ with_copy (of_copy c.exchange.new.all) k rest = c.exchange-2.ensures.all in
     let was : c.exchange.new.one ≡ old k = c.exchange.ensures.one in
-    let code : rest_code rest ≡ rest_after c.args.count (rest_code (old k)) = c.drop_front.ensures ∙ ap (λ (r : Rest). rest_after c.args.count (rest_code r)) was in
+    let code : rest_code rest ≡ rest_after c.args.count (rest_code (old k)) =
+    c.drop_front.ensures ∙ ap (λ (r : Rest). rest_after c.args.count (rest_code r)) was in
     exchanged rest_code old (of_copy c.exchange.new.all) (of_copy c.exchange-2.new.all) k c.empty-rest.result rest first second d
     ∙ ap (λ (r : Code). with_copy (λ (e : Copy). rest_code (old e)) k r d) code

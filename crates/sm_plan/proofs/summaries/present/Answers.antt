@@ -16,4 +16,5 @@ loop-x-preserved c =
     let r = c.index.result.now in
     c.in_ok-push.ensures.items
     ∙ ap (λ (ts : List TermId). ts ++ r ∷ []) c.loop-x.invariant
-    ∙ terms_more l names c.loop-x.x-index (record { 0 = 0 }) r c.loop-x-test.true (name_at_below (length l) names c.loop-x.x-index (record { 0 = 0 }) c.requires c.loop-x-test.true) c.index.ensures
+    ∙ terms_more l names c.loop-x.x-index (record { 0 = 0 }) r c.loop-x-test.true
+    (name_at_below (length l) names c.loop-x.x-index (record { 0 = 0 }) c.requires c.loop-x-test.true) c.index.ensures

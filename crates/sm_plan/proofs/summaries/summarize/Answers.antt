@@ -1,5 +1,6 @@
 -- One name more has its summary.
-use Rattle.std.proofs.Common.{◌≡◌, ℕ, ◌<◌, true, List, [], Some, length, take, get_or, slice_get, refl, sym, ap, subst, ◌∙◌, arith, append-nil}
+use Rattle.std.proofs.Common.{◌≡◌, ℕ, ◌<◌, true, List, [], Some, length, take, get_or, slice_get, refl, sym, ap, subst, ◌∙◌, arith}
+use Rattle.std.proofs.Common.{append-nil}
 use Rattle.std.proofs.lemmas.List.{take_all}
 use Rattle.std.proofs.Math.ListN.{length-set}
 use Rattle.sm_syntax.specs.declared.tree.Name.{Name}
@@ -40,7 +41,8 @@ summary-requires-clause-declared c =
     let i = c.loop-x.x-index in
     let x = (get_or ns i (record { 0 = 0 })).0 in
     let assigned : assigns code x ≡ true =
-    sym (c.in_ok-names.ensures.names x) ∙ ap (λ (l : List Name). is_in (numbers l) x) (sym c.deref-x-items.ensures.value) ∙ name_in ns i c.loop-x-test.true in
+    sym (c.in_ok-names.ensures.names x) ∙ ap (λ (l : List Name). is_in (numbers l) x) (sym c.deref-x-items.ensures.value)
+    ∙ name_in ns i c.loop-x-test.true in
     let declared : IsDeclaredIn (sorts_in v) x = assigned_declared (sorts_in v) code x c.requires.well assigned in
     subst (λ (f : Sorts). IsDeclaredIn f x) (sym wider.sorts) declared
 
@@ -57,7 +59,8 @@ summary-requires-clause-ready c =
     let i = c.loop-x.x-index in
     let x = (get_or ns i (record { 0 = 0 })).0 in
     let assigned : assigns code x ≡ true =
-    sym (c.in_ok-names.ensures.names x) ∙ ap (λ (l : List Name). is_in (numbers l) x) (sym c.deref-x-items.ensures.value) ∙ name_in ns i c.loop-x-test.true in
+    sym (c.in_ok-names.ensures.names x) ∙ ap (λ (l : List Name). is_in (numbers l) x) (sym c.deref-x-items.ensures.value)
+    ∙ name_in ns i c.loop-x-test.true in
     let declared : IsDeclaredIn (sorts_in v) x = assigned_declared (sorts_in v) code x c.requires.well assigned in
     store_ready v u wider s c.requires.ready
 
@@ -74,7 +77,8 @@ summary-requires-clause-full c =
     let i = c.loop-x.x-index in
     let x = (get_or ns i (record { 0 = 0 })).0 in
     let assigned : assigns code x ≡ true =
-    sym (c.in_ok-names.ensures.names x) ∙ ap (λ (l : List Name). is_in (numbers l) x) (sym c.deref-x-items.ensures.value) ∙ name_in ns i c.loop-x-test.true in
+    sym (c.in_ok-names.ensures.names x) ∙ ap (λ (l : List Name). is_in (numbers l) x) (sym c.deref-x-items.ensures.value)
+    ∙ name_in ns i c.loop-x-test.true in
     let declared : IsDeclaredIn (sorts_in v) x = assigned_declared (sorts_in v) code x c.requires.well assigned in
     subst (λ (f : Sorts). IsStoreFull f s) (sym wider.sorts) c.requires.full
 
@@ -91,7 +95,8 @@ put-requires c =
     let i = c.loop-x.x-index in
     let x = (get_or ns i (record { 0 = 0 })).0 in
     let assigned : assigns code x ≡ true =
-    sym (c.in_ok-names.ensures.names x) ∙ ap (λ (l : List Name). is_in (numbers l) x) (sym c.deref-x-items.ensures.value) ∙ name_in ns i c.loop-x-test.true in
+    sym (c.in_ok-names.ensures.names x) ∙ ap (λ (l : List Name). is_in (numbers l) x) (sym c.deref-x-items.ensures.value)
+    ∙ name_in ns i c.loop-x-test.true in
     let declared : IsDeclaredIn (sorts_in v) x = assigned_declared (sorts_in v) code x c.requires.well assigned in
     let h = c.requires.full x declared in omega (arith, h, c.loop-x.invariant.len)
 
@@ -123,14 +128,17 @@ loop-x-preserved c =
     let i = c.loop-x.x-index in
     let x = (get_or ns i (record { 0 = 0 })).0 in
     let assigned : assigns code x ≡ true =
-    sym (c.in_ok-names.ensures.names x) ∙ ap (λ (l : List Name). is_in (numbers l) x) (sym c.deref-x-items.ensures.value) ∙ name_in ns i c.loop-x-test.true in
+    sym (c.in_ok-names.ensures.names x) ∙ ap (λ (l : List Name). is_in (numbers l) x) (sym c.deref-x-items.ensures.value)
+    ∙ name_in ns i c.loop-x-test.true in
     let declared : IsDeclaredIn (sorts_in v) x = assigned_declared (sorts_in v) code x c.requires.well assigned in
     let z = c.summary.new.table in
     let f : SymbolicStore = store_in (trees_in v) s in
     let old : SymStore = c.loop-x.made in
     let t : TermId = c.in_ok-t.t in
     let sum = Fun code x (present f (inputs code x)) in
-    let got : slice_get (trees_in z) t.0 ≡ Some sum = c.in_ok-t.ensures.made ∙ ap (λ (g : SymbolicStore). Some (Fun code x (present g (inputs code x)))) (store_stays v u wider s c.requires.ready.0) in
+    let got : slice_get (trees_in z) t.0 ≡ Some sum =
+    c.in_ok-t.ensures.made ∙ ap (λ (g : SymbolicStore). Some (Fun code x (present g (inputs code x))))
+    (store_stays v u wider s c.requires.ready.0) in
     let inside : x < length old.list.items = let h = c.requires.full x declared in omega (arith, h, c.loop-x.invariant.len) in
     let long = ap length c.put.ensures in
     record {
@@ -153,4 +161,5 @@ returns-clause-store c =
     let long = length-numbers ns in
     c.loop-x.invariant.made
     ∙ ap (summed code f) (take_all c.loop-x.x-index (numbers ns) (omega (arith, long, c.loop-x-test.false)))
-    ∙ summed_all code f (numbers ns) (λ (y : ℕ). ap (λ (l : List Name). is_in (numbers l) y) c.deref-x-items.ensures.value ∙ c.in_ok-names.ensures.names y)
+    ∙ summed_all code f (numbers ns) (λ (y : ℕ). ap (λ (l : List Name). is_in (numbers l) y) c.deref-x-items.ensures.value
+    ∙ c.in_ok-names.ensures.names y)

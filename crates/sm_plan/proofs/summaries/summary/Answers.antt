@@ -27,7 +27,8 @@ present-requires c =
     let from : List Name = c.in_ok-from.from.list.items in
     let of_from : numbers from ≡ inputs code x = c.in_ok-from.ensures in
     let all : AreNamesDeclared sorts from =
-    all_declared sorts from (λ y h. inputs_declared sorts code x y c.requires.well c.requires.declared (ap (λ l. is_in l y) (sym of_from) ∙ h)) in
+    all_declared sorts from
+    (λ y h. inputs_declared sorts code x y c.requires.well c.requires.declared (ap (λ l. is_in l y) (sym of_from) ∙ h)) in
     subst (AreNamesBelow (length s.list.items)) (sym c.deref.ensures.value) (names_below sorts s c.requires.full from all)
 
 pub made-requires-clause-within : goal.made-requires-clause-within
@@ -40,8 +41,10 @@ made-requires-clause-within c =
     let from : List Name = c.in_ok-from.from.list.items in
     let of_from : numbers from ≡ inputs code x = c.in_ok-from.ensures in
     let all : AreNamesDeclared sorts from =
-    all_declared sorts from (λ y h. inputs_declared sorts code x y c.requires.well c.requires.declared (ap (λ l. is_in l y) (sym of_from) ∙ h)) in
-    let terms : c.in_ok-args.args.list.items ≡ terms_named s.list.items from = c.in_ok-args.ensures ∙ ap (terms_named s.list.items) c.deref.ensures.value in (
+    all_declared sorts from
+    (λ y h. inputs_declared sorts code x y c.requires.well c.requires.declared (ap (λ l. is_in l y) (sym of_from) ∙ h)) in
+    let terms : c.in_ok-args.args.list.items ≡ terms_named s.list.items from =
+    c.in_ok-args.ensures ∙ ap (terms_named s.list.items) c.deref.ensures.value in (
       slice_get_within (codes_in v) c.args.body.0 code c.requires.body,
       c.requires.declared,
       all,
@@ -58,8 +61,10 @@ made-requires-clause-fits c =
     let from : List Name = c.in_ok-from.from.list.items in
     let of_from : numbers from ≡ inputs code x = c.in_ok-from.ensures in
     let all : AreNamesDeclared sorts from =
-    all_declared sorts from (λ y h. inputs_declared sorts code x y c.requires.well c.requires.declared (ap (λ l. is_in l y) (sym of_from) ∙ h)) in
-    let terms : c.in_ok-args.args.list.items ≡ terms_named s.list.items from = c.in_ok-args.ensures ∙ ap (terms_named s.list.items) c.deref.ensures.value in
+    all_declared sorts from
+    (λ y h. inputs_declared sorts code x y c.requires.well c.requires.declared (ap (λ l. is_in l y) (sym of_from) ∙ h)) in
+    let terms : c.in_ok-args.args.list.items ≡ terms_named s.list.items from =
+    c.in_ok-args.ensures ∙ ap (terms_named s.list.items) c.deref.ensures.value in
     ap (arguments_fit sorts (trees_in v) from) terms ∙ terms_fit sorts (trees_in v) s c.requires.ready c.requires.full from all
 
 pub returns-clause-made : goal.returns-clause-made
@@ -72,12 +77,17 @@ returns-clause-made c =
     let from : List Name = c.in_ok-from.from.list.items in
     let of_from : numbers from ≡ inputs code x = c.in_ok-from.ensures in
     let all : AreNamesDeclared sorts from =
-    all_declared sorts from (λ y h. inputs_declared sorts code x y c.requires.well c.requires.declared (ap (λ l. is_in l y) (sym of_from) ∙ h)) in
-    let terms : c.in_ok-args.args.list.items ≡ terms_named s.list.items from = c.in_ok-args.ensures ∙ ap (terms_named s.list.items) c.deref.ensures.value in
+    all_declared sorts from
+    (λ y h. inputs_declared sorts code x y c.requires.well c.requires.declared (ap (λ l. is_in l y) (sym of_from) ∙ h)) in
+    let terms : c.in_ok-args.args.list.items ≡ terms_named s.list.items from =
+    c.in_ok-args.ensures ∙ ap (terms_named s.list.items) c.deref.ensures.value in
     let f = store_in (trees_in v) s in
     let body : code_at (codes_in v) c.args.body.0 ≡ code = get_or_from_slice_get (codes_in v) c.args.body.0 code End c.requires.body in
     let given : arguments_in (trees_in v) from c.in_ok-args.args.list.items ≡ present f (inputs code x) =
-    ap (arguments_in (trees_in v) from) terms ∙ terms_present sorts (trees_in v) s c.requires.ready c.requires.full from all ∙ ap (present f) of_from in
-    let same : Fun (code_at (codes_in v) c.args.body.0) x (arguments_in (trees_in v) from c.in_ok-args.args.list.items) ≡ Fun code x (present f (inputs code x)) =
+    ap (arguments_in (trees_in v) from) terms ∙ terms_present sorts (trees_in v) s c.requires.ready c.requires.full from all
+    ∙ ap (present f) of_from in
+    let same : Fun (code_at (codes_in v) c.args.body.0) x (arguments_in (trees_in v) from c.in_ok-args.args.list.items)
+    ≡ Fun code x (present f (inputs code x)) =
     λ i. Fun (body i) x (given i) in
-    subst (λ (t : Tree). IfOk c.made.result (λ (id : TermId). slice_get (trees_in c.made.new.table) id.0 ≡ Some t)) same c.made.ensures.stored
+    subst (λ (t : Tree). IfOk c.made.result (λ (id : TermId). slice_get (trees_in c.made.new.table) id.0 ≡ Some t)) same
+    c.made.ensures.stored

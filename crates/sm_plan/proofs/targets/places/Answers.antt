@@ -25,7 +25,8 @@ pub place-requires-3 : goal.place-requires-3
 place-requires-3 c = ap (λ (f : Sorts). f c.args.x.0) (c.place-2.ensures.grows.sorts ∙ c.place.ensures.grows.sorts) ∙ c.requires
 
 pub place-requires-4 : goal.place-requires-4
-place-requires-4 c = ap (λ (f : Sorts). f c.args.x.0) (c.place-3.ensures.grows.sorts ∙ c.place-2.ensures.grows.sorts ∙ c.place.ensures.grows.sorts) ∙ c.requires
+place-requires-4 c = ap (λ (f : Sorts). f c.args.x.0)
+    (c.place-3.ensures.grows.sorts ∙ c.place-2.ensures.grows.sorts ∙ c.place.ensures.grows.sorts) ∙ c.requires
 
 pub returns-clause-made : goal.returns-clause-made
 returns-clause-made c =
@@ -34,7 +35,8 @@ returns-clause-made c =
     let g3 = grows-twice c.place-2.new.table c.place-3.new.table z c.place-3.ensures.grows g4 in
     let g2 = grows-twice c.place.new.table c.place-2.new.table z c.place-2.ensures.grows g3 in
     let o : ℕ × Sort = (c.args.x.0, c.args.sort) in
-    of_each (λ (t : TermId) (d : Copy). slice_get (trees_in z) t.0 ≡ Some (place o d)) c.in_ok-base.base c.in_ok-variant_a.variant_a c.in_ok-variant_b.variant_b c.in_ok-candidate.candidate
+    of_each (λ (t : TermId) (d : Copy). slice_get (trees_in z) t.0 ≡ Some (place o d)) c.in_ok-base.base c.in_ok-variant_a.variant_a
+    c.in_ok-variant_b.variant_b c.in_ok-candidate.candidate
     (stays_got c.place.new.table z g2 c.in_ok-base.base.0 _ c.in_ok-base.ensures.made)
     (stays_got c.place-2.new.table z g3 c.in_ok-variant_a.variant_a.0 _ c.in_ok-variant_a.ensures.made)
     (stays_got c.place-3.new.table z g4 c.in_ok-variant_b.variant_b.0 _ c.in_ok-variant_b.ensures.made)

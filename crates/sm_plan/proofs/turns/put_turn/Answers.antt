@@ -25,7 +25,8 @@ returns-in_ok-push-clause-made c = λ (sorts : Sorts) (trees : List Tree) (facts
     let head = c.args.head.now in
     let mask = c.args.mask in
     let turn : ℕ → State = λ (m : ℕ).
-    heads.turn_of (λ (d : Copy). rest_code (of_copy c.args.rests.now d)) facts (stores_in trees head.stores) (forms_in sorts trees head.kept.value.list.items)
+    heads.turn_of (λ (d : Copy). rest_code (of_copy c.args.rests.now d)) facts (stores_in trees head.stores)
+    (forms_in sorts trees head.kept.value.list.items)
     (heads.guard_forms sorts trees head.guards) (forms_in sorts trees c.args.target.now.value.list.items) (set_of m) in
     let inside : (bit_and mask c.args.set == mask) ≡ true = eq-eqb (bit_and mask c.args.set) mask c.if-mask-set.true in
     ap (map (successor_in sorts trees facts)) c.in_ok-push.ensures.items ∙ map-append (successor_in sorts trees facts) old (n ∷ [])
@@ -33,6 +34,8 @@ returns-in_ok-push-clause-made c = λ (sorts : Sorts) (trees : List Tree) (facts
     ∙ sym (ap (λ (b : Bool). map (successor_in sorts trees facts) old ++ map turn (if b then mask ∷ [] else [])) inside)
 
 pub returns-in_ok-push-clause-ready : goal.returns-in_ok-push-clause-ready
-returns-in_ok-push-clause-ready c = λ (sorts : Sorts) (trees : List Tree) well (head : IsHeadReady sorts trees c.args.head.now) target ready.
+returns-in_ok-push-clause-ready c = λ (sorts : Sorts) (trees : List Tree) well (head : IsHeadReady sorts trees c.args.head.now)
+    target ready.
     subst (AreSuccessorsReady sorts trees) (sym c.in_ok-push.ensures.items)
-    (successors_push sorts trees c.args.states.now.items c.in_ok-turn.field-0 ready (c.in_ok-turn.ensures.ready sorts trees well head target))
+    (successors_push sorts trees c.args.states.now.items c.in_ok-turn.field-0 ready
+    (c.in_ok-turn.ensures.ready sorts trees well head target))

@@ -27,7 +27,8 @@ loop-smaller-preserved c = record {
       (forms_in sorts trees c.args.target.now.value.list.items) (set_of m) in
       c.in_ok-put_turn.ensures.made sorts trees facts
       ∙ ap (λ (l : List State). l ++ map turn (if test (n + 1) then (n + 1) ∷ [] else [])) (c.loop-smaller.invariant.made sorts trees facts)
-      ∙ sym (ap (map turn) (filter_push test n) ∙ map-append turn (filter test (range_with_len 1 n)) (if test (n + 1) then (n + 1) ∷ [] else []));
+      ∙ sym (ap (map turn) (filter_push test n) ∙ map-append turn (filter test (range_with_len 1 n))
+      (if test (n + 1) then (n + 1) ∷ [] else []));
   ready = λ (sorts : Sorts) (trees : List Tree) well (head : IsHeadReady sorts trees c.args.head.now) target.
       c.in_ok-put_turn.ensures.ready sorts trees well head target (c.loop-smaller.invariant.ready sorts trees well head target);
 }

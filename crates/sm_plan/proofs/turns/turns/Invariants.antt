@@ -19,7 +19,8 @@ invariant-loop-smaller l = record {
       map (successor_in sorts trees facts) l.states.items
       ≡ map
       (λ (m : ℕ).
-      heads.turn_of (λ (c : Copy). rest_code (of_copy l.rests c)) facts (stores_in trees l.head.stores) (forms_in sorts trees l.head.kept.value.list.items)
+      heads.turn_of (λ (c : Copy). rest_code (of_copy l.rests c)) facts (stores_in trees l.head.stores)
+      (forms_in sorts trees l.head.kept.value.list.items)
       (heads.guard_forms sorts trees l.head.guards) (forms_in sorts trees l.target.value.list.items) (set_of m))
       (filter (λ (m : ℕ). bit_and m l.set == m) (range_with_len 1 l.smaller));
   ready : (sorts : Sorts) (trees : List Tree) →

@@ -22,4 +22,5 @@ returns c =
     let fs = c.frames_from-frame-items.result.now in
     let k = code_before c.args.last.now End in
     c.loop-frame.invariant
-    ∙ ap (λ l. frames_before l k) (take_all c.loop-frame.frame-index fs c.loop-frame-test.false ∙ c.frames_from-frame-items.ensures ∙ ap (drop c.args.place) c.deref.ensures.value)
+    ∙ ap (λ l. frames_before l k) (take_all c.loop-frame.frame-index fs c.loop-frame-test.false ∙ c.frames_from-frame-items.ensures
+    ∙ ap (drop c.args.place) c.deref.ensures.value)

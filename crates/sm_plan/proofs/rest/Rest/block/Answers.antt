@@ -14,6 +14,7 @@ loop-place-preserved c =
     let k = frames_before (take (p - 1) fs) End in (
       omega (arith, c.loop-place.invariant.0),
       c.in_ok-copy_behind.ensures k
-          ∙ ap (sequence (map statement_of c.loop-place.list.items)) (sym (take_frame fs p f End (omega arith) c.loop-place.invariant.0 c.index.ensures))
+          ∙ ap (sequence (map statement_of c.loop-place.list.items))
+          (sym (take_frame fs p f End (omega arith) c.loop-place.invariant.0 c.index.ensures))
           ∙ c.loop-place.invariant.1,
     )

@@ -7,7 +7,8 @@ use Rattle.sm_plan.proofs.rest.Rest.block.Given as goal
 
 abbrev pub invariant-loop-place : goal.invariant-loop-place
 invariant-loop-place l =
-    (l.place ≤ length l.self.frames.items) × (sequence (map statement_of l.list.items) (frames_before (take l.place l.self.frames.items) End) ≡ rest_code l.self)
+    (l.place ≤ length l.self.frames.items)
+    × (sequence (map statement_of l.list.items) (frames_before (take l.place l.self.frames.items) End) ≡ rest_code l.self)
 
 abbrev pub decreases-loop-place : goal.decreases-loop-place
 decreases-loop-place l = l.place

@@ -22,6 +22,7 @@ loop-place-preserved c =
     let f = c.index-frame.result.now in
     let k = frames_before (take (p - 1) fs) End in (
       omega (arith, c.loop-place.invariant.0),
-      sym (no_head f.now k c.in_default.ensures.value) ∙ sym (take_frame fs p f End (omega arith) c.loop-place.invariant.0 c.index-frame.ensures)
+      sym (no_head f.now k c.in_default.ensures.value)
+          ∙ sym (take_frame fs p f End (omega arith) c.loop-place.invariant.0 c.index-frame.ensures)
           ∙ c.loop-place.invariant.1,
     )

@@ -17,7 +17,8 @@ returns-then-left-len c =
     let n = c.loop-place.left in
     let whole = take_frame fs p f End (omega arith) c.loop-place.invariant.0 c.index-frame.ensures in
     let next : (p - 1) + 1 ≡ p = omega arith in
-    let made : frames_before (drop ((p - 1) + 1) fs) (code_before c.first_part.result.now End) ≡ front c.args.count (rest_code c.args.self.now) =
+    let made : frames_before (drop ((p - 1) + 1) fs) (code_before c.first_part.result.now End)
+    ≡ front c.args.count (rest_code c.args.self.now) =
     ap (λ j. frames_before (drop j fs) (code_before c.first_part.result.now End)) next
     ∙ ap (λ ss. frames_before (drop p fs) (code_before ss End)) c.first_part.ensures
     ∙ ap (frames_before (drop p fs)) (sym (ap (front n) whole ∙ front_within f.now n k c.if-left-len.true))
