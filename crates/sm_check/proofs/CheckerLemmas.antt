@@ -13,6 +13,7 @@ use Rattle.sm_check.specs.declared.checker.State.{State}
 use Rattle.sm_check.specs.declared.checker.State.TheVariants.{Done, More}
 use Rattle.sm_check.specs.declared.fault.LineFault.{LineFault}
 use Rattle.sm_check.specs.declared.fault.LineFault.TheVariants.{Wrong, Memory}
+use Rattle.sm_check.specs.Aside.{progress_at}
 use Rattle.sm_check.specs.Checkers.{IsAbout, IsAt, StandsAt, state_of, GoesOn, Stops}
 use Rattle.sm_check.specs.Tells.{Tells}
 use Rattle.sm_check.specs.Walks.{WalkValue, Walks}
@@ -37,6 +38,11 @@ stopped_is c s e is = is
 pub is_stopped : (c : Checker) (s : Subject) (e : LineFault) → c.stopped ≡ Some e → IsAt c s (Err e)
 unfolding IsAt
 is_stopped c s e is = is
+
+-- the proof that stands there
+pub walks_at : (c : Checker) (s : Subject) (at : Standing) → IsAt c s (Ok at) → Walks c.walk (progress_at s at)
+walks_at c s Unopened is = (parts_at c s Unopened is).2.1
+walks_at c s (Underway p) is = (parts_at c s (Underway p) is).2.1
 
 -- whether it is done
 module _ (c : Checker) (s : Subject) where

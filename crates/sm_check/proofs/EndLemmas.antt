@@ -11,7 +11,7 @@ use Rattle.sm_proof.specs.Verdicts.{Subject, Standing, Unopened, Reached, Refuse
 use Rattle.sm_proof.specs.Verdicts.{lines_in, reached}
 use Rattle.sm_proof.specs.Verdicts as proof
 use Rattle.sm_check.specs.declared.checker.State.TheVariants.{Done, More}
-use Rattle.sm_check.specs.declared.pieces.TakenLines.{TakenLines}
+use Rattle.sm_check.specs.declared.taken_lines.TakenLines.{TakenLines}
 use Rattle.sm_check.specs.declared.unfinished.Unfinished.{Unfinished}
 use Rattle.sm_check.specs.Files.{Judged, OverLong, file_answer, cut_answer}
 use Rattle.sm_check.specs.Pieces.{reach, AreTaken}

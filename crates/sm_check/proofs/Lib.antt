@@ -12,6 +12,14 @@ pub mod NodeTaken
 pub mod CertTaken
 pub mod LineLemmas
 pub mod PieceLemmas
+pub mod ClosingLemmas
+pub mod AsideLemmas
+pub mod JobsLemmas
+pub mod AsideLists
+pub mod AsideSteps
+pub mod ReadLemmas
+pub mod SkipLemmas
+pub mod SharedLemmas
 pub mod EndLemmas
 pub mod CheckerLemmas
 pub mod StartLemmas

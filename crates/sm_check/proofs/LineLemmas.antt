@@ -1,5 +1,5 @@
 -- The lines of bytes that come after others, and how far they come.
-use Rattle.std.proofs.Common.{◌≡◌, ◌<◌, ℕ, suc, Bool, true, false, ◌==◌, nat_le, if◌then◌else◌, length, List, [], ◌∷◌, ◌++◌, refl, ap, ◌∙◌}
+use Rattle.std.proofs.Common.{◌≡◌, ◌<◌, ℕ, suc, Bool, true, false, ◌==◌, nat_le, length, List, [], ◌∷◌, ◌++◌, refl, ap, ◌∙◌, if◌then◌else◌}
 use Rattle.std.proofs.Common.{Result, Ok, Err, arith}
 use Rattle.std.proofs.lemmas.Bool.Decides.{nat_tests}
 use Rattle.sm_proof.specs.declared.word.Word.{Word}
@@ -88,27 +88,6 @@ lines_in-more (b ∷ bs) more =
           ∙ step.1,
     )
 
--- one more line goes on from where the others came
-abbrev from_there : Subject → List ℕ → Reached → Reached
-from_there s line (Refused n w) = Refused n w
-from_there s line (Before n at) =
-    reached_after n (next_standing s at (read line)) (λ (after : Standing). Before (suc n) after)
-
--- so after one line that was taken or not
-after_push : (s : Subject) (line : List ℕ) (n : ℕ) (x : Result Standing Word) (f g : Standing → Reached) →
-    ((a : Standing) → f a ≡ from_there s line (g a)) → reached_after n x f ≡ from_there s line (reached_after n x g)
-after_push s line n (Err w) f g h = refl
-after_push s line n (Ok at) f g h = h at
-
--- lines and one more
-pub reached-push : (s : Subject) (n : ℕ) (at : Standing) (lines : List (List ℕ)) (line : List ℕ) →
-    reached s n at (lines ++ line ∷ []) ≡ from_there s line (reached s n at lines)
-reached-push s n at [] line = refl
-reached-push s n at (l ∷ ls) line =
-    after_push s line n (next_standing s at (read l))
-    (λ (a : Standing). reached s (suc n) a (ls ++ line ∷ [])) (λ (a : Standing). reached s (suc n) a ls)
-    (λ (a : Standing). reached-push s (suc n) a ls line)
-
 -- where one line is refused, or those behind it
 after_refused : (n k : ℕ) (w : Word) (x : Result Standing Word) (f g : Standing → Reached) →
     ((a : Standing) → f a ≡ Refused k w → g a ≡ Refused k w) →
@@ -129,16 +108,6 @@ reached_refused s n at (l ∷ ls) more k w e =
 pub reach-nil : (s : Subject) → reach s [] ≡ Before 1 Unopened
 unfolding reach
 reach-nil s = refl
-
--- bytes that end a line
-pub reach-end : (s : Subject) (bytes front : List ℕ) (n : ℕ) (at : Standing) → HasNoEnd front → reach s bytes ≡ Before n at →
-    reach s (bytes ++ (front ++ 10 ∷ []))
-    ≡ reached_after n (next_standing s at (read ((lines_in bytes).rest ++ front))) (λ (after : Standing). Before (suc n) after)
-unfolding reach
-reach-end s bytes front n at h e =
-    ap (λ (ls : FileLines). reached s 1 Unopened ls.ended) (lines_in-end bytes front h)
-    ∙ reached-push s 1 Unopened (lines_in bytes).ended ((lines_in bytes).rest ++ front)
-    ∙ ap (from_there s ((lines_in bytes).rest ++ front)) e
 
 -- bytes without an end
 pub reach-rest : (s : Subject) (bytes more : List ℕ) → HasNoEnd more → reach s (bytes ++ more) ≡ reach s bytes

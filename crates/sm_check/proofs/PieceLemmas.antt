@@ -3,28 +3,26 @@ use Rattle.std.proofs.Common.{◌≡◌, ◌<◌, ◌+◌, ◌-◌, ℕ, suc, Bo
 use Rattle.std.proofs.Common.{◌∙◌, subst, Result, Ok, Err, Option, Some, None, append_assoc, arith, get_or, inl, inr, length-take}
 use Rattle.std.specs.Prelude.{IfSome}
 use Rattle.std.proofs.lemmas.Bool.Decides.{nat_tests}
-use Rattle.std.specs.Result.{OnOk, IfErr, IsErrAnd}
+use Rattle.std.specs.Result.{IfErr, IsErrAnd}
 use Rattle.std.proofs.lemmas.List.{take_more, get_or-take, take_rest, take-append-drop}
 use Rattle.std.proofs.Math.Seq.{take-add}
 use Rattle.memchr.specs.Find.{IsFirstByte, is_byte}
 use Rattle.sm_proof.specs.declared.word.Word.{Word}
-use Rattle.sm_proof.specs.declared.word.Word.TheVariants.{BadLine}
 use Rattle.sm_proof.specs.Lines.{ProofLine}
 use Rattle.sm_proof.specs.Named.{and_then}
 use Rattle.sm_proof.specs.Passing.{Progress, taken}
-use Rattle.sm_proof.specs.Reading.{read}
-use Rattle.sm_proof.specs.Verdicts.{Subject, Standing, Unopened, Underway, Before, reached_after, next_standing, opens_if, passes_version}
+use Rattle.sm_proof.specs.Verdicts.{Subject, Standing, Unopened, Underway, Before, next_standing, opens_if, passes_version}
 use Rattle.sm_proof.specs.Verdicts.{FileLines, lines_in}
 use Rattle.sm_check.specs.declared.checker.Checker.{Checker}
 use Rattle.sm_check.specs.declared.fault.LineFault.{LineFault}
 use Rattle.sm_check.specs.declared.fault.LineFault.TheVariants as fault
-use Rattle.sm_check.specs.declared.pieces.Stopped.{Stopped}
-use Rattle.sm_check.specs.declared.pieces.Stopped.TheVariants.{Wrong, Memory}
-use Rattle.sm_check.specs.declared.pieces.TakenLines.{TakenLines}
+use Rattle.sm_check.specs.declared.fault.Stopped.{Stopped}
+use Rattle.sm_check.specs.declared.fault.Stopped.TheVariants.{Wrong, Memory}
+use Rattle.sm_check.specs.declared.taken_lines.TakenLines.{TakenLines}
 use Rattle.sm_check.specs.declared.unfinished.Unfinished.{Unfinished}
 use Rattle.sm_check.specs.Checkers.{GoesOn, Stops}
-use Rattle.sm_check.specs.Pieces.{HasNoEnd, reach, is_unopened, StandsAt, Takes, RefusesAt, Keeps, IsKept, AreTaken, StopsIn}
-use Rattle.sm_check.proofs.LineLemmas.{lines_in-end, reach-end, reach-rest, reach_refused, reach-nil, lines_in-rest, long_lines_are_bad}
+use Rattle.sm_check.specs.Pieces.{HasNoEnd, is_unopened, StandsAt, Takes, RefusesAt, Keeps, IsKept, AreTaken, StopsIn}
+use Rattle.sm_check.proofs.LineLemmas.{reach-rest, reach_refused, reach-nil, lines_in-rest}
 
 -- whether a line leaves the proof before its version line
 abbrev pub opens_of : Result Standing Word → Bool
@@ -106,66 +104,8 @@ nothing_taken lines u s stands first kept = record {
   kept = kept;
 }
 
--- from where lines came, one was taken
-came_to : (x : Result Standing Word) (lines : TakenLines) (v : Unfinished) (s : Subject) (bytes : List ℕ) (n : ℕ) →
-    reach s bytes ≡ reached_after n x (λ (after : Standing). Before (suc n) after) → lines.number ≡ n + 1 → Takes lines s x →
-    IsKept v (lines_in bytes).rest → AreTaken lines v s bytes
-came_to (Err w) lines v s bytes n e counted takes kept = absurd takes
-came_to (Ok at) lines v s bytes n e counted takes kept = record {
-  at = at;
-  stands = takes;
-  reached = let same : suc n ≡ lines.number = omega arith in e ∙ ap (λ (k : ℕ). Before k at) same;
-  kept = kept;
-}
-
--- a line was taken behind what was taken
-pub line_is_taken : (was lines : TakenLines) (u v : Unfinished) (s : Subject) (bytes front : List ℕ) (t : AreTaken was u s bytes) →
-    HasNoEnd front → lines.number ≡ was.number + 1 →
-    Takes lines s (next_standing s t.at (read ((lines_in bytes).rest ++ front))) → IsKept v [] →
-    AreTaken lines v s (bytes ++ (front ++ 10 ∷ []))
-line_is_taken was lines u v s bytes front t h counted takes kept =
-    came_to (next_standing s t.at (read ((lines_in bytes).rest ++ front))) lines v s (bytes ++ (front ++ 10 ∷ [])) was.number
-    (reach-end s bytes front was.number t.at h t.reached) counted takes
-    (subst (IsKept v) (sym (ap (λ (ls : FileLines). ls.rest) (lines_in-end bytes front h))) kept)
-
--- or refused
-stopped_by : (stopped : Stopped) (x : Result Standing Word) (s : Subject) (bytes : List ℕ) (n : ℕ) →
-    reach s bytes ≡ reached_after n x (λ (after : Standing). Before (suc n) after) → RefusesAt n x stopped → StopsIn s bytes stopped
-stopped_by Memory x s bytes n e refused = tt
-stopped_by (Wrong line word) (Ok at) s bytes n e refused = absurd refused
-stopped_by (Wrong line word) (Err w) s bytes n e refused =
-    let first = refused.0 in let second = refused.1 in cc
-
-pub line_is_refused : (was : TakenLines) (u : Unfinished) (s : Subject) (bytes front : List ℕ) (t : AreTaken was u s bytes)
-    (stopped : Stopped) → HasNoEnd front →
-    RefusesAt was.number (next_standing s t.at (read ((lines_in bytes).rest ++ front))) stopped →
-    StopsIn s (bytes ++ (front ++ 10 ∷ [])) stopped
-line_is_refused was u s bytes front t stopped h refused =
-    stopped_by stopped (next_standing s t.at (read ((lines_in bytes).rest ++ front))) s (bytes ++ (front ++ 10 ∷ [])) was.number
-    (reach-end s bytes front was.number t.at h t.reached) refused
-
--- a line that lies whole in a piece was taken
-pub whole_line_taken : {U : Type 0} (r : Result U Stopped) (was lines : TakenLines) (u : Unfinished) (s : Subject)
-    (bytes front : List ℕ) (t : AreTaken was u s bytes) → HasNoEnd front → (lines_in bytes).rest ≡ [] →
-    OnOk r (lines.number ≡ was.number + 1) → OnOk r (Takes lines s (next_standing s t.at (read front))) →
-    OnOk r (AreTaken lines u s (bytes ++ (front ++ 10 ∷ [])))
-whole_line_taken (Err e) was lines u s bytes front t h none counted takes = tt
-whole_line_taken (Ok x) was lines u s bytes front t h none counted takes =
-    line_is_taken was lines u u s bytes front t h counted
-    (subst (λ (rest : List ℕ). Takes lines s (next_standing s t.at (read (rest ++ front)))) (sym none) takes)
-    (subst (IsKept u) none t.kept)
-
--- or refused
-pub whole_line_refused : {U : Type 0} (r : Result U Stopped) (was : TakenLines) (u : Unfinished) (s : Subject)
-    (bytes front : List ℕ) (t : AreTaken was u s bytes) → HasNoEnd front → (lines_in bytes).rest ≡ [] →
-    IfErr r (RefusesAt was.number (next_standing s t.at (read front))) → IfErr r (StopsIn s (bytes ++ (front ++ 10 ∷ [])))
-whole_line_refused (Ok x) was u s bytes front t h none refused = tt
-whole_line_refused (Err stopped) was u s bytes front t h none refused =
-    line_is_refused was u s bytes front t stopped h
-    (subst (λ (rest : List ℕ). RefusesAt was.number (next_standing s t.at (read (rest ++ front))) stopped) (sym none) refused)
-
 -- what is kept of a line that is too long, of another one, and of no line
-keeps_long : (over : Bool) (kept bytes : List ℕ) → over ≡ true → Keeps over kept bytes → 4096 < length bytes
+pub keeps_long : (over : Bool) (kept bytes : List ℕ) → over ≡ true → Keeps over kept bytes → 4096 < length bytes
 keeps_long true kept bytes e keeps = keeps
 keeps_long false kept bytes e keeps = absurd (cc)
 
@@ -176,33 +116,6 @@ keeps_all false kept bytes e keeps = keeps.0
 pub keeps_none : (over : Bool) (kept : List ℕ) → over ≡ false → kept ≡ [] → Keeps over kept []
 keeps_none true kept e none = absurd (cc)
 keeps_none false kept e none = (none, omega arith)
-
--- a line that is too long is refused
-pub long_line_refused : (was : TakenLines) (u v : Unfinished) (s : Subject) (bytes front : List ℕ) (t : AreTaken was u s bytes)
-    (stopped : Stopped) → HasNoEnd front → v.is_too_long ≡ true → IsKept v ((lines_in bytes).rest ++ front) →
-    RefusesAt was.number (next_standing s t.at (Err BadLine)) stopped → StopsIn s (bytes ++ (front ++ 10 ∷ [])) stopped
-long_line_refused was u v s bytes front t stopped h long kept refused =
-    let line = (lines_in bytes).rest ++ front in
-    let bad : read line ≡ Err BadLine =
-    long_lines_are_bad line (keeps_long v.is_too_long v.bytes.items line long kept) in
-    line_is_refused was u s bytes front t stopped h
-    (subst (λ (x : Result ProofLine Word). RefusesAt was.number (next_standing s t.at x) stopped) (sym bad) refused)
-
--- a line that was kept is taken
-pub kept_line_taken : (was lines : TakenLines) (u v : Unfinished) (s : Subject) (bytes front line : List ℕ) (t : AreTaken was u s bytes) →
-    HasNoEnd front → line ≡ (lines_in bytes).rest ++ front → lines.number ≡ was.number + 1 →
-    Takes lines s (next_standing s t.at (read line)) → IsKept v [] → AreTaken lines v s (bytes ++ (front ++ 10 ∷ []))
-kept_line_taken was lines u v s bytes front line t h same counted takes kept =
-    line_is_taken was lines u v s bytes front t h counted
-    (subst (λ (l : List ℕ). Takes lines s (next_standing s t.at (read l))) same takes) kept
-
--- or refused
-pub kept_line_refused : (was : TakenLines) (u : Unfinished) (s : Subject) (bytes front line : List ℕ) (t : AreTaken was u s bytes)
-    (stopped : Stopped) → HasNoEnd front → line ≡ (lines_in bytes).rest ++ front →
-    RefusesAt was.number (next_standing s t.at (read line)) stopped → StopsIn s (bytes ++ (front ++ 10 ∷ [])) stopped
-kept_line_refused was u s bytes front line t stopped h same refused =
-    line_is_refused was u s bytes front t stopped h
-    (subst (λ (l : List ℕ). RefusesAt was.number (next_standing s t.at (read l)) stopped) same refused)
 
 -- a bad line stays the first whatever comes behind it
 pub stops_before : (s : Subject) (bytes more : List ℕ) (stopped : Stopped) → StopsIn s bytes stopped → StopsIn s (bytes ++ more) stopped

@@ -13,4 +13,6 @@ pub mod Kept
 pub mod Walks
 pub mod NodesTaken
 pub mod CertsTaken
+pub mod Closing
+pub mod Aside
 pub mod Laws

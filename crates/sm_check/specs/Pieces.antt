@@ -4,9 +4,9 @@ use Rattle.std.specs.Prelude.{List, [], ◌∷◌}
 use Rattle.sm_proof.specs.declared.word.Word.{Word}
 use Rattle.sm_proof.specs.Verdicts.{Subject, Standing, Unopened, Underway, Reached, Refused, Before}
 use Rattle.sm_proof.specs.Verdicts.{reached, lines_in}
-use Rattle.sm_check.specs.declared.pieces.Stopped.{Stopped}
-use Rattle.sm_check.specs.declared.pieces.Stopped.TheVariants.{Wrong, Memory}
-use Rattle.sm_check.specs.declared.pieces.TakenLines.{TakenLines}
+use Rattle.sm_check.specs.declared.fault.Stopped.{Stopped}
+use Rattle.sm_check.specs.declared.fault.Stopped.TheVariants.{Wrong, Memory}
+use Rattle.sm_check.specs.declared.taken_lines.TakenLines.{TakenLines}
 use Rattle.sm_check.specs.declared.unfinished.Unfinished.{Unfinished}
 use Rattle.sm_check.specs.Checkers.{IsAt, state_of}
 

@@ -204,7 +204,7 @@ pub(crate) fn splits_branch(line: &CertLine) -> bool
 }
 
 // Whether it closes the branch, by its kind.
-fn closes_branch(line: &CertLine) -> bool
+pub(crate) fn closes_branch(line: &CertLine) -> bool
     ensures { result ≡ is_closing (numbered_line line.now) }
 {
     match line {

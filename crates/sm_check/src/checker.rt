@@ -1,22 +1,31 @@
 // A proof on its way.
-ghost use Rattle.std.specs.Prelude.{◌≡◌, Ok, Err, IfOk, IfErr};
+ghost use Rattle.std.specs.Prelude.{◌≡◌, ◌≤◌, ◌∷◌, List, Ok, Err, IfOk, IfErr, length, take};
 ghost use Rattle.sm_proof.specs.FieldRanges.{IsWithinFields};
 ghost use Rattle.sm_proof.specs.Lines.{line_of};
-ghost use Rattle.sm_proof.specs.Verdicts.{Subject, Standing, Unopened, subject_of, next_standing};
+ghost use Rattle.sm_proof.specs.Passing.{Pending, Progress};
+ghost use Rattle.sm_proof.specs.Verdicts.{Subject, Standing, Unopened, Underway, subject_of};
+ghost use Rattle.sm_proof.specs.Verdicts.{next_standing};
 ghost use Rattle.sm_proof.specs.Verdicts.{passes_version};
 ghost use Rattle.sm_task.specs.Filling.{AreFilled};
 ghost use Rattle.sm_text.specs.Tasks.{parts_of};
 ghost use Rattle.sm_check.specs.Checkable.{IsCheckable};
+ghost use Rattle.sm_check.specs.Aside.{certificates_of, progress_at};
 ghost use Rattle.sm_check.specs.Checkers.{IsAt, GoesOn, Stops, state_of};
+ghost use Rattle.sm_check.specs.Closing.{CloseFirst};
 ghost use Rattle.sm_check.specs.Tells.{Tells};
 
+use crate::due::make_due;
 use crate::fault::LineFault;
+use crate::jobs::{Crew, closed_first};
+use crate::openings::goals_due;
 use crate::start::start;
 use crate::walk::Walk;
+use sm_par::Gate;
 use sm_proof::{Line, Word};
 use sm_syntax::{Block, PerCopy};
 use sm_task::Task;
 use std::alloc::{AllocError, Global};
+use std::thread::Threads;
 
 /// Whether a proof is done.
 #[derive(Clone, Copy, Debug, PartialEq, Eq)]
@@ -79,6 +88,38 @@ impl<'a> Checker<'a> {
                 Err(fault)
             }
         }
+    }
+
+    /// How many goals of one node are due, up to 64.
+    pub(crate) fn goals_due(&self) -> usize
+        ensures { result ≤ 64 }
+    {
+        goals_due(&self.walk)
+    }
+
+    /// How many certificates close the branches that are due, the first the first, and so on.
+    pub(crate) fn closed_first<R: Threads + Sync, G: Gate>(
+        &self,
+        crew: &Crew<'_, R, G>,
+        certificates: &[Vec<Line>],
+    ) -> Result<usize, AllocError>
+        ensures few { IfOk result (λ n. n ≤ length certificates.now) }
+        ensures closed { (s : Subject) (at : Standing) → IsAt self.now s (Ok at) →
+            let p = progress_at s at in IfOk result (λ n. CloseFirst s.sorts p.terms p.pending
+            (take n (certificates_of certificates.now))) }
+    {
+        closed_first(crew, self.alloc, &self.walk, certificates)
+    }
+
+    /// Skips the branch that is due, which lines close that aren't taken. After an error nothing is
+    /// known of the proof.
+    pub(crate) fn skip_branch(&mut self) -> Result<State, AllocError>
+        ensures { (s : Subject) (p : Progress) (first : Pending) (rest : List Pending) →
+            IsAt self.old s (Ok (Underway p)) → p.pending ≡ first ∷ rest → IfOk result
+            (GoesOn s (Ok (Underway (record p { pending = rest }))) self.new) }
+    {
+        make_due(self.alloc, &mut self.walk)?;
+        Ok(self.state())
     }
 
     // Takes a line of a proof that goes on.

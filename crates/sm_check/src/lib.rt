@@ -4,20 +4,25 @@
 //! `specs/FormRows.antt`.
 #![tactic(auto)]
 
+mod alone;
+mod aside;
 mod branches;
 mod certs;
 mod checker;
 mod due;
 mod fault;
 mod forms;
+mod jobs;
 mod kept;
 mod laws;
 mod names;
 mod nodes;
 mod opened;
+mod openings;
 mod pending;
 mod pieces;
 mod start;
+mod taken_lines;
 mod terms;
 mod unfinished;
 mod verifying;

@@ -1,121 +1,24 @@
 // The lines of a proof file, piece by piece.
-ghost use Rattle.std.specs.Prelude.{◌≡◌, ◌+◌, ◌^◌, ◌<◌, ◌≤◌, ◌++◌, ℕ, List, [], ◌∷◌, length, take};
-ghost use Rattle.std.specs.Prelude.{Ok, Err, OnOk, IfErr, IfSome, None};
-ghost use Rattle.sm_proof.specs.FieldRanges.{IsWithinFields};
-ghost use Rattle.sm_proof.specs.Lines.{line_of};
-ghost use Rattle.sm_proof.specs.Reading.{read};
-ghost use Rattle.sm_proof.specs.Verdicts.{Subject, Standing, Unopened, next_standing};
-ghost use Rattle.sm_check.specs.Checkers.{IsAt};
-ghost use Rattle.sm_check.specs.Pieces.{AreTaken, HasNoEnd, RefusesAt, StandsAt, StopsIn, Takes};
-ghost use Rattle.sm_check.specs.declared.pieces.Stopped.TheVariants.{Memory};
+ghost use Rattle.std.specs.Prelude.{◌≡◌, ◌+◌, ◌^◌, ◌<◌, ◌≤◌, ◌++◌, ℕ, List, [], ◌∷◌, length};
+ghost use Rattle.std.specs.Prelude.{take, OnOk, IfErr, IfSome, None};
+ghost use Rattle.sm_proof.specs.Verdicts.{Subject};
+ghost use Rattle.sm_check.specs.Aside.{AreRead, AreWithin, lines_aside};
+ghost use Rattle.sm_check.specs.Pieces.{AreTaken, HasNoEnd, StopsIn};
 
-use crate::checker::{Checker, State};
-use crate::fault::LineFault;
+use crate::aside::Aside;
+use crate::fault::Stopped;
+use crate::jobs::Crew;
+use crate::taken_lines::TakenLines;
 use crate::unfinished::Unfinished;
 use memchr::memchr;
-use sm_proof::{Line, LineError, Word, line_from};
-use std::alloc::{AllocError, Global};
+use sm_par::Gate;
+use sm_proof::Word;
+use std::alloc::Global;
+use std::thread::Threads;
 
-/// Why lines aren't taken further.
-#[derive(Clone, Copy, Debug, PartialEq, Eq)]
-pub(crate) enum Stopped {
-    /// A line is bad, the first of the file that is.
-    Wrong { line: u64, word: Word },
-    Memory,
-}
-
-impl From<AllocError> for Stopped {
-    ghost from_gives = { λ _ e. e ≡ Memory };
-
-    fn from(_e: AllocError) -> Stopped {
-        Stopped::Memory
-    }
-}
-
-/// The lines that were taken so far.
-#[derive(Drop)]
-pub(crate) struct TakenLines<'a> {
-    checker: Checker<'a>,
-    /// Whether the proof is done.
-    pub(crate) state: State,
-    /// The number of the next line, from 1.
-    pub(crate) number: u64,
-}
-
-impl<'a> TakenLines<'a> {
-    /// None yet.
-    pub(crate) fn new(checker: Checker<'a>) -> TakenLines<'a>
-        ensures number { result.number ≡ 1 }
-        ensures stands { (s : Subject) → IsAt checker.entry s (Ok Unopened) →
-            StandsAt result s Unopened }
-    {
-        TakenLines {
-            checker,
-            state: State::More,
-            number: 1,
-        }
-    }
-
-    // Takes an ended line by its bytes.
-    fn take(&mut self, alloc: Global, bytes: &[u8]) -> Result<(), Stopped>
-        requires { self.old.number + 1 < 2 ^ 64 }
-        ensures number { OnOk result (self.new.number ≡ self.old.number + 1) }
-        ensures ok { (s : Subject) (at : Standing) → StandsAt self.old s at →
-            OnOk result (Takes self.new s (next_standing s at (read bytes.now))) }
-        ensures err { (s : Subject) (at : Standing) → StandsAt self.old s at →
-            IfErr result (RefusesAt self.old.number (next_standing s at (read bytes.now))) }
-    {
-        match line_from(alloc, bytes) {
-            Ok(line) => self.check(&line),
-            Err(LineError::BadLine) => Err(self.unread(Word::BadLine)),
-            Err(LineError::BadNumber) => Err(self.unread(Word::BadNumber)),
-            Err(LineError::Truncated) => Err(self.unread(Word::Truncated)),
-            Err(LineError::Memory) => Err(Stopped::Memory),
-        }
-    }
-
-    // Takes a line that was read.
-    fn check(&mut self, line: &Line) -> Result<(), Stopped>
-        requires room { self.old.number + 1 < 2 ^ 64 }
-        requires within { IsWithinFields (line_of line.now) }
-        ensures number { OnOk result (self.new.number ≡ self.old.number + 1) }
-        ensures ok { (s : Subject) (at : Standing) → StandsAt self.old s at →
-            OnOk result (Takes self.new s (next_standing s at (Ok (line_of line.now)))) }
-        ensures err { (s : Subject) (at : Standing) → StandsAt self.old s at →
-            IfErr result (RefusesAt self.old.number (next_standing s at (Ok (line_of line.now)))) }
-    {
-        match self.checker.line(line) {
-            Ok(state) => {
-                self.state = state;
-                self.number += 1;
-                Ok(())
-            }
-            Err(LineFault::Wrong { word }) => Err(Stopped::Wrong {
-                line: self.number,
-                word,
-            }),
-            Err(LineFault::Memory) => Err(Stopped::Memory),
-        }
-    }
-
-    // The next line can't be read. The first line then has another word.
-    fn unread(&self, word: Word) -> Stopped
-        ensures { (s : Subject) (at : Standing) → StandsAt self.now s at →
-            RefusesAt self.now.number (next_standing s at (Err word)) result }
-    {
-        Stopped::Wrong {
-            line: self.number,
-            word: if self.number == 1 {
-                Word::BadVersion
-            } else {
-                word
-            },
-        }
-    }
-}
-
-/// Takes the next bytes of a file.
-pub(crate) fn take_piece(
+/// Takes the next bytes of a file. Nothing stays aside.
+pub(crate) fn take_piece<R: Threads + Sync, G: Gate>(
+    crew: &Crew<'_, R, G>,
     lines: &mut TakenLines,
     unfinished: &mut Unfinished,
     alloc: Global,
@@ -128,11 +31,14 @@ pub(crate) fn take_piece(
     ensures err { (s : Subject) (bytes : List ℕ) → AreTaken lines.old unfinished.old s bytes →
         IfErr result (StopsIn s (bytes ++ piece.now)) }
 {
+    let mut aside = Aside::new(alloc, 0);
     let mut start = 0;
     while let Some(end) = line_end(&piece[start..]) {
-        end_line(lines, unfinished, alloc, &piece[start..start + end])?;
+        let front = &piece[start..start + end];
+        end_line(crew, lines, &mut aside, unfinished, alloc, front)?;
         start += end + 1;
     }
+    lines.take_aside(crew, alloc, &mut aside)?;
     unfinished.add(&piece[start..])?;
     Ok(())
 }
@@ -146,30 +52,38 @@ fn line_end(bytes: &[u8]) -> Option<usize>
     memchr(b'\n', bytes)
 }
 
-// Takes the unfinished line, which these bytes and a line end finish. One that lies in them whole
-// isn't copied.
-fn end_line(
+// Takes the unfinished line, which these bytes and a line end finish, or sets it aside. One that
+// lies in them whole isn't copied.
+fn end_line<R: Threads + Sync, G: Gate>(
+    crew: &Crew<'_, R, G>,
     lines: &mut TakenLines,
+    aside: &mut Aside,
     unfinished: &mut Unfinished,
     alloc: Global,
     front: &[u8],
 ) -> Result<(), Stopped>
-    requires room { lines.old.number + 1 < 2 ^ 64 }
+    requires room { lines.old.number + length (lines_aside aside.old) + 1 < 2 ^ 64 }
+    requires within { AreWithin (lines_aside aside.old) }
     requires no_end { HasNoEnd front.now }
-    ensures number { OnOk result (lines.new.number ≡ lines.old.number + 1) }
-    ensures ok { (s : Subject) (bytes : List ℕ) → AreTaken lines.old unfinished.old s bytes →
-        OnOk result (AreTaken lines.new unfinished.new s (bytes ++ (front.now ++ 10 ∷ []))) }
-    ensures err { (s : Subject) (bytes : List ℕ) → AreTaken lines.old unfinished.old s bytes →
+    ensures within { OnOk result (AreWithin (lines_aside aside.new)) }
+    ensures number { OnOk result (lines.new.number + length (lines_aside aside.new)
+        ≡ lines.old.number + length (lines_aside aside.old) + 1) }
+    ensures ok { (s : Subject) (bytes : List ℕ) →
+        AreRead lines.old (lines_aside aside.old) unfinished.old s bytes → OnOk result
+        (AreRead lines.new (lines_aside aside.new) unfinished.new s
+        (bytes ++ (front.now ++ 10 ∷ []))) }
+    ensures err { (s : Subject) (bytes : List ℕ) →
+        AreRead lines.old (lines_aside aside.old) unfinished.old s bytes →
         IfErr result (StopsIn s (bytes ++ (front.now ++ 10 ∷ []))) }
 {
     if unfinished.is_empty() {
-        return lines.take(alloc, front);
+        return lines.take(crew, alloc, aside, front);
     }
     unfinished.add(front)?;
     if unfinished.is_too_long {
-        return Err(lines.unread(Word::BadLine));
+        return Err(lines.refuse(crew, alloc, aside, Word::BadLine));
     }
-    lines.take(alloc, &unfinished.bytes)?;
+    lines.take(crew, alloc, aside, &unfinished.bytes)?;
     unfinished.bytes.clear();
     Ok(())
 }

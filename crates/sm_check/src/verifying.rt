@@ -15,7 +15,10 @@ ghost use Rattle.sm_check.specs.Pieces.{AreTaken};
 ghost use Rattle.sm_check.specs.declared.verifying.CheckError.TheVariants.{Memory as no_memory};
 
 use crate::checker::{Checker, State};
-use crate::pieces::{Stopped, TakenLines, take_piece};
+use crate::fault::Stopped;
+use crate::jobs::Crew;
+use crate::pieces::take_piece;
+use crate::taken_lines::TakenLines;
 use crate::unfinished::Unfinished;
 use sm_io::{IoError, Shelf};
 use sm_par::Gate;
@@ -67,7 +70,8 @@ impl From<IoError> for CheckError {
 
 /// Whether the proof file with a name passes for a task. It is read once, in pieces, and may have
 /// 268,435,456 bytes. A bad line that ended goes before a later fault and before too many bytes.
-/// The lines are checked in turn, with any number of workers.
+/// With more than one worker, certificates of the goals of one node are set aside, up to 64 of
+/// at most 4,096 lines each, and run together. The answer never depends on the workers.
 pub fn verify<R: Threads + Sync, G: Gate, H: Shelf>(
     rt: &R,
     alloc: Global,
@@ -95,11 +99,13 @@ pub fn verify<R: Threads + Sync, G: Gate, H: Shelf>(
     pass_is_free();
     let programs = fill_all(alloc, task)?;
     let checker = Checker::new(alloc, task, &programs)?;
-    check_file(alloc, checker, shelf, name, LONGEST)
+    let crew = Crew { rt, gate, workers };
+    check_file(&crew, alloc, checker, shelf, name, LONGEST)
 }
 
 // Whether a file passes, by a checker that took no line of it yet.
-fn check_file<H: Shelf>(
+fn check_file<R: Threads + Sync, G: Gate, H: Shelf>(
+    crew: &Crew<'_, R, G>,
     alloc: Global,
     checker: Checker,
     shelf: &mut H,
@@ -123,6 +129,7 @@ fn check_file<H: Shelf>(
     let mut lines = TakenLines::new(checker);
     let mut unfinished = Unfinished::new(alloc);
     check_pieces(
+        crew,
         alloc,
         &mut lines,
         &mut unfinished,
@@ -141,7 +148,8 @@ fn blank_piece(alloc: Global) -> Result<Vec<u8>, AllocError>
 }
 
 // Whether a file passes of which nothing is read yet, in pieces as long as the one lent.
-fn check_pieces<H: Shelf>(
+fn check_pieces<R: Threads + Sync, G: Gate, H: Shelf>(
+    crew: &Crew<'_, R, G>,
     alloc: Global,
     lines: &mut TakenLines,
     unfinished: &mut Unfinished,
@@ -171,7 +179,7 @@ fn check_pieces<H: Shelf>(
             return Ok(at_end(lines, unfinished));
         }
         let taken = (count as u64).min(limit - place) as usize;
-        match take_piece(lines, unfinished, alloc, &piece[..taken]) {
+        match take_piece(crew, lines, unfinished, alloc, &piece[..taken]) {
             Ok(()) => place += taken as u64,
             Err(Stopped::Wrong { line, word }) => return Ok(Checked::Rejected { line, word }),
             Err(Stopped::Memory) => return Err(CheckError::Memory),

@@ -1,15 +1,18 @@
+-- The lines that end so far are read.
 use Rattle.std.proofs.Common.{◌≤◌, ◌+◌, ◌-◌, ◌++◌, ℕ, List, length, take}
 use Rattle.sm_proof.specs.Verdicts.{Subject}
+use Rattle.sm_check.specs.Aside.{AreRead, AreWithin, lines_aside}
 use Rattle.sm_check.specs.Pieces.{AreTaken}
 use Rattle.sm_check.proofs.pieces.take_piece.Given as goal
 
 abbrev pub invariant-loop-end : goal.invariant-loop-end
-invariant-loop-end l = record {
+invariant-loop-end g l = record {
   within : l.start ≤ length l.piece;
-  number : l.lines.number ≤ l.initial.lines.number + l.start;
-  taken : (s : Subject) (bytes : List ℕ) → AreTaken l.initial.lines l.initial.unfinished s bytes →
-      AreTaken l.lines l.unfinished s (bytes ++ take l.start l.piece);
+  number : l.lines.number + length (lines_aside l.aside) ≤ l.initial.lines.number + l.start;
+  fields : AreWithin (lines_aside l.aside);
+  read : (s : Subject) (bytes : List ℕ) → AreTaken l.initial.lines l.initial.unfinished s bytes →
+      AreRead l.lines (lines_aside l.aside) l.unfinished s (bytes ++ take l.start l.piece);
 }
 
 abbrev pub decreases-loop-end : goal.decreases-loop-end
-decreases-loop-end l = length l.piece - l.start
+decreases-loop-end g l = length l.piece - l.start

@@ -3,7 +3,7 @@ use Rattle.sm_io.proofs.FileLemmas.{read_end}
 use Rattle.sm_proof.specs.Verdicts.{Refused, Before, Rejected, verdict}
 use Rattle.sm_check.specs.Files.{file_answer, Judged}
 use Rattle.sm_check.specs.Pieces.{StopsIn, reach}
-use Rattle.sm_check.specs.declared.pieces.Stopped.TheVariants.{Wrong}
+use Rattle.sm_check.specs.declared.fault.Stopped.TheVariants.{Wrong}
 use Rattle.sm_check.proofs.EndLemmas.{answer_within, refused_answer, over_long, taken_more, given_stands}
 use Rattle.sm_check.proofs.verifying.check_pieces.Goals as goal
 

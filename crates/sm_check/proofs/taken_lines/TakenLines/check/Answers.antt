@@ -2,7 +2,7 @@ use Rattle.std.proofs.Common.{Ok, arith}
 use Rattle.sm_proof.specs.Lines.{line_of}
 use Rattle.sm_proof.specs.Verdicts.{next_standing}
 use Rattle.sm_check.proofs.PieceLemmas.{goes_on, next-opens, refuses}
-use Rattle.sm_check.proofs.pieces.TakenLines.check.Goals as goal
+use Rattle.sm_check.proofs.taken_lines.TakenLines.check.Goals as goal
 
 pub returns-in-Ok-clause-ok : goal.returns-in-Ok-clause-ok
 returns-in-Ok-clause-ok c = λ s at stands.

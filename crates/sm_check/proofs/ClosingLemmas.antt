@@ -1,0 +1,127 @@
+-- Lines that close a branch alone close it where more is pending behind it.
+use Rattle.std.proofs.Common.{◌≡◌, ℕ, suc, ◌+◌, Bool, true, false, Option, Some, None, Result, Ok, Err}
+use Rattle.std.proofs.Common.{List, [], ◌∷◌, ◌++◌, length, map, refl, sym, ap, ◌∙◌, subst, arith, append-nil}
+use Rattle.sm_syntax.specs.claim.ConflictFree.{Copy}
+use Rattle.sm_syntax.specs.text.Sorts.{Sorts}
+use Rattle.sm_term.specs.Symbolic.{SymbolicStore}
+use Rattle.sm_term.specs.Terms.{Tree}
+use Rattle.sm_theory.specs.Facts.{BranchFact}
+use Rattle.sm_theory.specs.Lines.{CertificateLine}
+use Rattle.sm_theory.specs.Ways.{Ways, ways}
+use Rattle.sm_plan.specs.Limits.{is_shallow}
+use Rattle.sm_proof.specs.declared.word.Word.{Word}
+use Rattle.sm_proof.specs.declared.word.Word.TheVariants.{BadNumber, Deep, First}
+use Rattle.sm_proof.specs.Lines.{ProofLine, NumberedLine, Cert}
+use Rattle.sm_proof.specs.Named.{found_or, tested_or, and_then, named_line, line_head}
+use Rattle.sm_proof.specs.Passing.{Pending, Due, Branch, Progress, branches_before, taken_at}
+use Rattle.sm_proof.specs.Verdicts.{Subject, Standing, Underway, Reached, reached_after, next_standing}
+use Rattle.sm_check.specs.Aside.{reached_by}
+use Rattle.sm_check.specs.CertsTaken.{splits_above, pending_after}
+use Rattle.sm_check.specs.Closing.{LeadsTo, Closes}
+use Rattle.sm_check.proofs.CertTaken.{goes, cert_after_is}
+
+-- a branch with these stores
+abbrev pub restored : (Copy → SymbolicStore) → Pending → Pending
+restored held (Due st above) = Due st above
+restored held (Branch stores own splits) = Branch held own splits
+
+-- what a line opens, over other stores and before more
+opened_before : (stores held : Copy → SymbolicStore) (own : List BranchFact) (over : ℕ) (to : List (List BranchFact)) (rest more : List Pending) →
+    branches_before held own over to (map (restored held) rest ++ more)
+    ≡ map (restored held) (branches_before stores own over to rest) ++ more
+opened_before stores held own over [] rest more = refl
+opened_before stores held own over (w ∷ ws) rest more =
+    ap (λ (l : List Pending). Branch held (own ++ w) over ∷ l) (opened_before stores held own over ws rest more)
+
+-- a line looks at no stores, and at nothing that is pending behind its branch
+pub pending_after-framed : (sorts : Sorts) (terms : List Tree) (stores held : Copy → SymbolicStore) (own : List BranchFact) (splits : ℕ)
+    (rest more : List Pending) (l : NumberedLine) (after : List Pending) →
+    pending_after sorts terms stores own splits rest l ≡ Ok after →
+    pending_after sorts terms held own splits (map (restored held) rest ++ more) l ≡ Ok (map (restored held) after ++ more)
+pending_after-framed sorts terms stores held own splits rest more l after = named (named_line terms (length own) l)
+  where
+    went : (w : Ways) (v : Word) (over : ℕ) →
+        found_or w v (λ (to : List (List BranchFact)). Ok (branches_before stores own over to rest)) ≡ Ok after →
+        found_or w v (λ (to : List (List BranchFact)). Ok (branches_before held own over to (map (restored held) rest ++ more)))
+        ≡ Ok (map (restored held) after ++ more)
+    went None v over e = absurd (cc)
+    went (Some to) v over e =
+        let is : branches_before stores own over to rest ≡ after = cc in
+        ap Ok (opened_before stores held own over to rest more ∙ ap (λ (l : List Pending). map (restored held) l ++ more) is)
+
+    tested : (b : Bool) (w : Ways) (v : Word) (over : ℕ) →
+        tested_or b Deep (found_or w v (λ (to : List (List BranchFact)). Ok (branches_before stores own over to rest))) ≡ Ok after →
+        tested_or b Deep
+        (found_or w v (λ (to : List (List BranchFact)). Ok (branches_before held own over to (map (restored held) rest ++ more))))
+        ≡ Ok (map (restored held) after ++ more)
+    tested false w v over e = absurd (cc)
+    tested true w v over e = went w v over e
+
+    named : (o : Option CertificateLine) →
+        found_or o BadNumber
+        (λ (c : CertificateLine).
+        tested_or (is_shallow (splits_above l splits)) Deep
+        (found_or (ways sorts own c) (First (line_head l))
+        (λ (to : List (List BranchFact)). Ok (branches_before stores own (splits_above l splits) to rest))))
+        ≡ Ok after →
+        found_or o BadNumber
+        (λ (c : CertificateLine).
+        tested_or (is_shallow (splits_above l splits)) Deep
+        (found_or (ways sorts own c) (First (line_head l))
+        (λ (to : List (List BranchFact)).
+        Ok (branches_before held own (splits_above l splits) to (map (restored held) rest ++ more)))))
+        ≡ Ok (map (restored held) after ++ more)
+    named None e = absurd (cc)
+    named (Some c) e = tested (is_shallow (splits_above l splits)) (ways sorts own c) (First (line_head l)) (splits_above l splits) e
+
+-- lines close the same branches with other stores
+pub closes_restored : (sorts : Sorts) (terms : List Tree) (held : Copy → SymbolicStore) (ps : List Pending) (lines : List ProofLine) →
+    Closes sorts terms ps lines → Closes sorts terms (map (restored held) ps) lines
+closes_restored sorts terms held ps [] closes = ap (map (restored held)) closes
+closes_restored sorts terms held ps (line ∷ lines) closes =
+    (map (restored held) closes.0, leads ps closes.0 closes.1, closes_restored sorts terms held closes.0 lines closes.2)
+  where
+    leads : (ps after : List Pending) → LeadsTo sorts terms ps line after →
+        LeadsTo sorts terms (map (restored held) ps) line (map (restored held) after)
+    leads [] after h = absurd h
+    leads (Due st above ∷ rest) after h = absurd h
+    leads (Branch stores own splits ∷ rest) after h = (
+      h.0,
+      h.1,
+      subst (λ (l : List Pending). pending_after sorts terms held own splits l h.0 ≡ Ok (map (restored held) after))
+          (append-nil (map (restored held) rest))
+          (pending_after-framed sorts terms stores held own splits rest [] h.0 after h.2
+          ∙ ap Ok (append-nil (map (restored held) after))),
+    )
+
+-- a line that leads on where its branch is pending first
+step_taken : (s : Subject) (p : Progress) (held : Copy → SymbolicStore) (ps after rest : List Pending) (line : ProofLine) →
+    p.pending ≡ map (restored held) ps ++ rest → LeadsTo s.sorts p.terms ps line after →
+    next_standing s (Underway p) (Ok line) ≡ Ok (Underway (record p { pending = map (restored held) after ++ rest }))
+step_taken s p held [] after rest line is h = absurd h
+step_taken s p held (Due st above ∷ ps) after rest line is h = absurd h
+step_taken s p held (Branch stores own splits ∷ ps) after rest line is h =
+    let next : Result Progress Word → Result Standing Word = λ x. and_then x (λ (q : Progress). Ok (Underway q)) in
+    let framed = pending_after-framed s.sorts p.terms stores held own splits ps rest h.0 after h.2 in
+    ap (λ (l : ProofLine). next_standing s (Underway p) (Ok l)) h.1
+    ∙ ap (λ (l : List Pending). next (taken_at s.sorts p l (Cert h.0))) is
+    ∙ ap next (cert_after_is s.sorts p held own splits (map (restored held) ps ++ rest) h.0)
+    ∙ ap (λ (x : Result (List Pending) Word). next (and_then x (goes p))) framed
+
+-- lines that close what is pending first
+pub closes_along : (s : Subject) (n : ℕ) (p : Progress) (held : Copy → SymbolicStore) (ps rest : List Pending) (lines more : List ProofLine) →
+    p.pending ≡ map (restored held) ps ++ rest → Closes s.sorts p.terms ps lines →
+    reached_by s n (Underway p) (lines ++ more)
+    ≡ reached_by s (n + length lines) (Underway (record p { pending = rest })) more
+closes_along s n p held ps rest [] more is closes =
+    let same : n ≡ n + 0 = omega arith in
+    ap (λ (l : List Pending). reached_by s n (Underway (record p { pending = l })) more)
+    (is ∙ ap (λ (l : List Pending). map (restored held) l ++ rest) closes)
+    ∙ ap (λ (k : ℕ). reached_by s k (Underway (record p { pending = rest })) more) same
+closes_along s n p held ps rest (line ∷ lines) more is closes =
+    let q : Progress = record p { pending = map (restored held) closes.0 ++ rest } in
+    let same : suc n + length lines ≡ n + suc (length lines) = omega arith in
+    ap (λ (x : Result Standing Word). reached_after n x (λ (after : Standing). reached_by s (suc n) after (lines ++ more)))
+    (step_taken s p held ps closes.0 rest line is closes.1)
+    ∙ closes_along s (suc n) q held closes.0 rest lines more refl closes.2
+    ∙ ap (λ (k : ℕ). reached_by s k (Underway (record p { pending = rest })) more) same

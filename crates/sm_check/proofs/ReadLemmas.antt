@@ -1,0 +1,60 @@
+-- The lines of a piece: read behind what was read before, with lines that are set aside.
+use Rattle.std.proofs.Common.{◌≡◌, true, ℕ, List, [], ◌∷◌, ◌++◌, Result, Ok, Err, subst, sym, refl, append-nil, take}
+use Rattle.std.specs.Result.{OnOk, IfErr}
+use Rattle.sm_proof.specs.declared.word.Word.{Word}
+use Rattle.sm_proof.specs.declared.word.Word.TheVariants.{BadLine}
+use Rattle.sm_proof.specs.Lines.{ProofLine}
+use Rattle.sm_proof.specs.Reading.{read}
+use Rattle.sm_proof.specs.Verdicts.{Subject, lines_in}
+use Rattle.sm_check.specs.declared.fault.Stopped.{Stopped}
+use Rattle.sm_check.specs.declared.taken_lines.TakenLines.{TakenLines}
+use Rattle.sm_check.specs.declared.unfinished.Unfinished.{Unfinished}
+use Rattle.sm_check.specs.Aside.{AreRead, ComesTo, StopsAt, with_line}
+use Rattle.sm_check.specs.Pieces.{AreTaken, HasNoEnd, IsKept, StopsIn, reach}
+use Rattle.sm_check.proofs.AsideLemmas.{line_not_read, line_read, read_taken, stops_in, taken_read}
+use Rattle.sm_check.proofs.LineLemmas.{long_lines_are_bad}
+use Rattle.sm_check.proofs.PieceLemmas.{keeps_long, rest_is_taken, stops_in_piece}
+
+-- where a call was good, the line was read
+pub line_read_by : {U : Type 0} (x : Result U Stopped) (lines : TakenLines) (aside : List ProofLine) (v : Unfinished) (s : Subject)
+    (bytes front line : List ℕ) → HasNoEnd front → line ≡ (lines_in bytes).rest ++ front →
+    OnOk x (ComesTo lines aside s (with_line s (read line) (reach s bytes))) → IsKept v [] →
+    OnOk x (AreRead lines aside v s (bytes ++ (front ++ 10 ∷ [])))
+line_read_by (Err e) lines aside v s bytes front line h same comes kept = tt
+line_read_by (Ok u) lines aside v s bytes front line h same comes kept = line_read lines aside v s bytes front line h same comes kept
+
+-- where it wasn't, lines stop there
+pub line_not_read_by : {U : Type 0} (x : Result U Stopped) (s : Subject) (bytes front line : List ℕ) → HasNoEnd front →
+    line ≡ (lines_in bytes).rest ++ front → IfErr x (StopsAt (with_line s (read line) (reach s bytes))) →
+    IfErr x (StopsIn s (bytes ++ (front ++ 10 ∷ [])))
+line_not_read_by (Ok u) s bytes front line h same stops = tt
+line_not_read_by (Err e) s bytes front line h same stops = line_not_read s bytes front line e h same stops
+
+-- a line that is too long can't be read
+pub long_line_not_read : (v : Unfinished) (s : Subject) (bytes front : List ℕ) (e : Stopped) → HasNoEnd front → v.is_too_long ≡ true →
+    IsKept v ((lines_in bytes).rest ++ front) → StopsAt (with_line s (Err BadLine) (reach s bytes)) e →
+    StopsIn s (bytes ++ (front ++ 10 ∷ [])) e
+long_line_not_read v s bytes front e h long kept stops =
+    let line = (lines_in bytes).rest ++ front in
+    let bad : read line ≡ Err BadLine = long_lines_are_bad line (keeps_long v.is_too_long v.bytes.items line long kept) in
+    line_not_read s bytes front line e h refl
+    (subst (λ (x : Result ProofLine Word). StopsAt (with_line s x (reach s bytes)) e) (sym bad) stops)
+
+-- nothing of a piece is read, and nothing is set aside
+pub none_read : (lines : TakenLines) (aside : List ProofLine) (u : Unfinished) (s : Subject) (bytes : List ℕ) → aside ≡ [] →
+    AreTaken lines u s bytes → AreRead lines aside u s (bytes ++ [])
+none_read lines aside u s bytes none t =
+    subst (λ (x : List ProofLine). AreRead lines x u s (bytes ++ [])) (sym none)
+    (subst (λ (x : List ℕ). AreRead lines [] u s x) (sym (append-nil bytes)) (taken_read lines u s bytes t))
+
+-- all that was set aside was taken
+pub aside_taken : (was now : TakenLines) (aside : List ProofLine) (u v : Unfinished) (s : Subject) (bytes more : List ℕ)
+    (t : AreRead was aside u s bytes) → ComesTo now [] s (reach s bytes) → HasNoEnd more →
+    IsKept v ((lines_in bytes).rest ++ more) → AreTaken now v s (bytes ++ more)
+aside_taken was now aside u v s bytes more t comes h kept =
+    rest_is_taken now u v s bytes more (read_taken now u s bytes (record { comes = comes; kept = t.kept })) h kept
+
+-- or a line of it is bad
+pub aside_refused : (s : Subject) (bytes piece : List ℕ) (n : ℕ) (e : Stopped) → StopsAt (reach s (bytes ++ take n piece)) e →
+    StopsIn s (bytes ++ piece) e
+aside_refused s bytes piece n e stops = stops_in_piece s bytes piece n e (stops_in s (bytes ++ take n piece) e stops)

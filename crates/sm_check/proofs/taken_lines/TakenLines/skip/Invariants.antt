@@ -1,0 +1,20 @@
+-- The certificates so far are skipped.
+use Rattle.std.proofs.Common.{◌≡◌, ◌+◌, ◌++◌, List, length, drop}
+use Rattle.sm_proof.specs.Lines.{ProofLine}
+use Rattle.sm_proof.specs.Verdicts.{Subject, Reached}
+use Rattle.sm_check.specs.Aside.{ComesTo, certificates_of, joined, progress_at}
+use Rattle.sm_check.specs.Closing.{CloseFirst}
+use Rattle.sm_check.proofs.AsideLemmas.{Skips}
+use Rattle.sm_check.proofs.taken_lines.TakenLines.skip.Given as goal
+
+abbrev pub invariant-loop-lines : goal.invariant-loop-lines
+invariant-loop-lines l = record {
+  number :
+      l.self.number + length (joined (certificates_of (drop l.lines-index l.certificates)))
+      ≡ l.initial.self.number + length (joined (certificates_of l.certificates));
+  skips :
+      (s : Subject) (r : Reached) (more : List ProofLine)
+      (t : ComesTo l.initial.self (joined (certificates_of l.certificates) ++ more) s r) →
+      CloseFirst s.sorts (progress_at s t.at).terms (progress_at s t.at).pending (certificates_of l.certificates) →
+      Skips l.self s r more (certificates_of (drop l.lines-index l.certificates));
+}

@@ -1,0 +1,143 @@
+// A certificate that is taken for its branch alone.
+ghost use Rattle.std.specs.Prelude.{◌≡◌, ◌∷◌, [], ℕ, List, length, map, true, IfOk};
+ghost use Rattle.sm_syntax.specs.claim.ConflictFree.{Copy};
+ghost use Rattle.sm_syntax.specs.text.Sorts.{Sorts};
+ghost use Rattle.sm_term.specs.Symbolic.{SymbolicStore};
+ghost use Rattle.sm_term.specs.Terms.{Tree};
+ghost use Rattle.sm_theory.specs.Facts.{BranchFact};
+ghost use Rattle.sm_theory.specs.SortedFacts.{AreFactsSorted};
+ghost use Rattle.sm_theory.specs.Views.{AllStand};
+ghost use Rattle.sm_proof.specs.Passing as plain;
+ghost use Rattle.sm_term.specs.Tables.{trees_in, sorts_in, AreBefore};
+ghost use Rattle.sm_proof.specs.Lines.{line_of};
+ghost use Rattle.sm_proof.specs.Passing.{Pending};
+ghost use Rattle.sm_check.specs.Closing.{LeadsTo, OpensAs, Passes};
+ghost use Rattle.sm_check.specs.Pending.{PendingStands};
+ghost use Rattle.sm_check.specs.Walks.{terms_in};
+
+use crate::branches::line_at;
+use crate::fault::LineFault;
+use crate::openings::{Opening, opened};
+use crate::pending::{Due, Waiting};
+use sm_proof::Line;
+use sm_syntax::PerCopy;
+use sm_term::{SymStore, TermId, TermTable};
+use sm_theory::Branch;
+use std::alloc::{AllocError, Global};
+use std::rc::Rc;
+
+// A branch that is closed alone: nothing of the rest of the proof waits behind it.
+#[derive(Drop)]
+struct Alone<'a> {
+    path: Branch,
+    due: Option<Due<'a>>,
+    waiting: Vec<Waiting<'a>>,
+}
+
+/// Whether lines close the branch of an opening, all of it, exactly at their end. An answer of false
+/// says nothing.
+pub(crate) fn closes(
+    alloc: Global,
+    table: &TermTable,
+    terms: &[TermId],
+    path: &Branch,
+    opening: &Opening,
+    lines: &[Line],
+) -> Result<bool, AllocError>
+    requires { AreBefore (length (trees_in table.now)) terms.now }
+    ensures { let trees = trees_in table.now in IfOk result (λ closes. closes ≡ true →
+        Passes (sorts_in table.now) trees (terms_in trees terms.now) path.now.list.items opening.now
+        (map line_of lines.now)) }
+{
+    let mut branch = lone_branch(alloc, path, opening)?;
+    for line in lines {
+        if !goes_on(alloc, table, terms, &mut branch, line)? {
+            return Ok(false);
+        }
+    }
+    Ok(branch.due.is_none())
+}
+
+// The branch of an opening. No line of a certificate looks at its stores, so it has empty ones.
+fn lone_branch<'a>(alloc: Global, path: &Branch, opening: &Opening) -> Result<Alone<'a>, AllocError>
+    ensures { (sorts : Sorts) (trees : List Tree) (facts own : List BranchFact) →
+        (held : Copy → SymbolicStore) (splits : ℕ) →
+        AllStand sorts trees path.now.list.items facts → AreFactsSorted sorts facts →
+        OpensAs sorts trees facts opening.now (plain.Branch held own splits) →
+        IfOk result (λ b. (stores : Copy → SymbolicStore)
+        × PendingStands sorts trees b.path.list.items b.due b.waiting.items
+        (plain.Branch stores own splits ∷ [])) }
+{
+    let stores = Rc::new(alloc, no_stores(alloc))?;
+    Ok(Alone {
+        path: opened(alloc, path, opening)?,
+        due: Some(Due::Branch { stores, splits: 0 }),
+        waiting: Vec::new(alloc),
+    })
+}
+
+// Stores without a term.
+fn no_stores(alloc: Global) -> PerCopy<SymStore>
+    ensures base { result.base.list.items ≡ [] }
+    ensures variant_a { result.variant_a.list.items ≡ [] }
+    ensures variant_b { result.variant_b.list.items ≡ [] }
+    ensures candidate { result.candidate.list.items ≡ [] }
+{
+    PerCopy {
+        base: SymStore {
+            list: Vec::new(alloc),
+        },
+        variant_a: SymStore {
+            list: Vec::new(alloc),
+        },
+        variant_b: SymStore {
+            list: Vec::new(alloc),
+        },
+        candidate: SymStore {
+            list: Vec::new(alloc),
+        },
+    }
+}
+
+// Whether the branch goes on with a line.
+fn goes_on(
+    alloc: Global,
+    table: &TermTable,
+    terms: &[TermId],
+    branch: &mut Alone<'_>,
+    line: &Line,
+) -> Result<bool, AllocError>
+    requires { AreBefore (length (trees_in table.now)) terms.now }
+    ensures { let sorts = sorts_in table.now in let trees = trees_in table.now in
+        (ps : List Pending) → PendingStands sorts trees branch.old.path.list.items branch.old.due
+        branch.old.waiting.items ps → IfOk result (λ goes. goes ≡ true → (qs : List Pending)
+        × LeadsTo sorts (terms_in trees terms.now) ps (line_of line.now) qs
+        × PendingStands sorts trees branch.new.path.list.items branch.new.due
+        branch.new.waiting.items qs) }
+{
+    let line = match line {
+        Line::Cert(line) => line,
+        _ => return Ok(false),
+    };
+    let (stores, splits) = match branch.due.take() {
+        Some(Due::Branch { stores, splits }) => (stores, splits),
+        _ => return Ok(false),
+    };
+    match line_at(
+        alloc,
+        table,
+        terms,
+        &mut branch.path,
+        &mut branch.waiting,
+        stores,
+        splits,
+        line,
+    ) {
+        Ok(due) => {
+            branch.due = due;
+            Ok(true)
+        }
+        Err(LineFault::Wrong { .. }) => Ok(false),
+        Err(LineFault::Memory) => Err(AllocError),
+    }
+}
