@@ -4,6 +4,7 @@ use sm_deps::{inputs, writes};
 use sm_eval::Store;
 use sm_io::{MemShelf, Shelf, append_all};
 use sm_num::{add, mul, sub};
+use sm_proof::{FormLine, Line, LineError, NodeLine, read_line};
 use sm_replay::{read_input, write_input};
 use sm_syntax::{
     Block, Mark, Name, NameTable, Sort, Symbol, copy_block, depth, nodes, same_block, well_formed,
@@ -223,5 +224,26 @@ fn a_shelf_in_memory_is_written(rt: HostRuntime) -> Result<(), Fail> {
         shelf.bytes("b").ok_or("absent")?,
         b"first, second".as_slice()
     );
+    Ok(())
+}
+
+#[test]
+fn the_first_line_of_a_proof_is_read(rt: HostRuntime) -> Result<(), Fail> {
+    let alloc = rt.alloc();
+    let (line, size) = read_line(alloc, b"p and 3 4\nend\n")?;
+    assert!(rt; matches!(line, Line::Form(FormLine::And(3, 4))));
+    assert_eq!(rt; size, 10);
+    let (line, size) = read_line(alloc, b"step 3\n")?;
+    assert!(rt; matches!(line, Line::Node(NodeLine::Step { copy: 3 })));
+    assert_eq!(rt; size, 7);
+    for (text, error) in [
+        (b"step 3".as_slice(), LineError::Truncated),
+        (b"".as_slice(), LineError::Truncated),
+        (b"steps 3\n".as_slice(), LineError::BadLine),
+        (b"\nstep 3\n".as_slice(), LineError::BadLine),
+        (b"step 03\n".as_slice(), LineError::BadNumber),
+    ] {
+        assert!(rt; read_line(alloc, text).is_err_and(|e| e == error));
+    }
     Ok(())
 }

@@ -107,6 +107,14 @@ fn with_one_worker_no_thread_is_made(rt: HostRuntime) -> Result<(), Fail> {
     Ok(())
 }
 
+// A task without a statement.
+const EMPTY: &str =
+    "var x; output x; shared { } base { } variant_a { } variant_b { } candidate { }";
+
+// Its shortest proof: the three goals have a certificate each.
+const SHORTEST: &str = "safemerge-proof 1\nend\nboth 0\nclose 1\nboth 0\nclose 1\n\
+     both 0\nboth 2\nclose 4\n";
+
 // Each variant edits one statement of a loop over arrays.
 const EDITS_IN_A_LOOP: &str = "var i, n; array a, c, out, log; output out, log; \
      shared { i = 0; while (i < n) { ?1; ?2; i = i + 1; } } \
@@ -115,23 +123,44 @@ const EDITS_IN_A_LOOP: &str = "var i, n; array a, c, out, log; output out, log; 
      variant_b { ?1 { out[i] = a[i]; } ?2 { log[i] = c[i] + i; } } \
      candidate { ?1 { out[i] = a[i] + 1; } ?2 { log[i] = c[i] + i; } }";
 
-#[test]
-fn two_trials_run_at_once(rt: HostRuntime) -> Result<(), Fail> {
+// How a command ends over the files t and p with two workers, and whether two jobs of a phase met.
+fn run_by_two(
+    rt: HostRuntime,
+    words: &[&str],
+    phase: Phase,
+    task: &str,
+    proof: &str,
+) -> Result<(Status, bool), Fail> {
     let alloc = rt.alloc();
     let gate = Meet {
-        phase: Phase::Trial,
+        phase,
         entered: AtomicU64::new(0),
         met: AtomicBool::new(false),
     };
-    let mut words = Vec::new(alloc);
-    for word in ["check", "t", "--workers", "2"] {
-        words.push(String::from_str(alloc, word)?)?;
-    }
     let mut shelf = MemShelf::new(alloc);
-    shelf.hold("t", EDITS_IN_A_LOOP.as_bytes())?;
+    shelf.hold("t", task.as_bytes())?;
+    shelf.hold("p", proof.as_bytes())?;
+    let mut given = Vec::new(alloc);
+    for word in words {
+        given.push(String::from_str(alloc, word)?)?;
+    }
     let mut out = MemSink::new(alloc);
-    let status = safemerge(&rt, alloc, &gate, &words, &mut shelf, &mut out);
-    assert_eq!(rt; status, Status::Unknown);
-    assert!(rt; gate.met.load(Ordering::SeqCst));
+    let status = safemerge(&rt, alloc, &gate, &given, &mut shelf, &mut out);
+    Ok((status, gate.met.load(Ordering::SeqCst)))
+}
+
+#[test]
+fn two_trials_run_at_once(rt: HostRuntime) -> Result<(), Fail> {
+    let words = ["check", "t", "--workers", "2"];
+    let seen = run_by_two(rt, &words, Phase::Trial, EDITS_IN_A_LOOP, "")?;
+    assert_eq!(rt; seen, (Status::Unknown, true));
+    Ok(())
+}
+
+#[test]
+fn two_certificates_run_at_once(rt: HostRuntime) -> Result<(), Fail> {
+    let words = ["verify", "t", "p", "--workers", "2"];
+    let seen = run_by_two(rt, &words, Phase::Certificate, EMPTY, SHORTEST)?;
+    assert_eq!(rt; seen, (Status::Accepted, true));
     Ok(())
 }

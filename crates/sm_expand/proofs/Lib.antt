@@ -7,3 +7,4 @@ pub mod DepthLemmas
 pub mod RowsLemmas
 pub mod WholeLemmas
 pub mod NodeOpened
+pub mod PlainPlans

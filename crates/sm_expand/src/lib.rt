@@ -18,6 +18,8 @@ mod expanding;
 mod fault;
 mod nodes;
 mod plan;
+#[cfg(test)]
+mod tests;
 mod walk;
 
 pub use due::{Due, Obligations};
