@@ -1,0 +1,13 @@
+pub mod CoefficientLemmas
+pub mod CrossedLemmas
+pub mod PlaceLemmas
+pub mod SameFormLemmas
+pub mod StateLemmas
+pub mod StepLemmas
+pub mod ElimExamples
+pub mod MembershipLemmas
+pub mod BoundLemmas
+pub mod ValueLemmas
+pub mod BackSubstitution
+pub mod SummedLemmas
+pub mod QuietSolved

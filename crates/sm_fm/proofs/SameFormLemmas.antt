@@ -1,0 +1,51 @@
+-- Two forms are the same where they are equal.
+use Rattle.std.proofs.Common.{◌≡◌, ◌==◌, ◌&&◌, ℕ, ℤ, List, [], ◌∷◌, refl, ap}
+use Rattle.std.specs.Ordering.{int_eq}
+use Rattle.std.specs.Bool.{Decides}
+use Rattle.std.proofs.lemmas.Bool.Decides.{Decides-and, Decides-eqb, Decides-int_eq}
+use Rattle.sm_num.specs.declared.kind.Kind.{Kind}
+use Rattle.sm_num.specs.declared.kind.Kind.TheVariants.{Le, Eq}
+use Rattle.sm_num.specs.Forms.{Linear}
+use Rattle.sm_fm.specs.Elimination.{same_list, same_kind, same_form}
+
+-- two parts are equal where their atoms and coefficients are
+pub pair_decides : (p q : ℕ × ℤ) → Decides ((p.0 == q.0) && int_eq p.1 q.1) (p ≡ q)
+pair_decides p q =
+    let both = Decides-and _ _ (Decides-eqb p.0 q.0) (Decides-int_eq p.1 q.1) in (
+      λ h. let e = both.0 h in λ k. (e.0 k, e.1 k),
+      λ e. both.1 (ap (λ (r : ℕ × ℤ). r.0) e, ap (λ (r : ℕ × ℤ). r.1) e),
+    )
+
+-- so are two lists
+pub same_list-Decides : (ps qs : List (ℕ × ℤ)) → Decides (same_list ps qs) (ps ≡ qs)
+same_list-Decides [] [] = (λ h. refl, λ e. refl)
+same_list-Decides [] (q ∷ qs) = (λ h. absurd cc, λ e. absurd cc)
+same_list-Decides (p ∷ ps) [] = (λ h. absurd cc, λ e. absurd cc)
+same_list-Decides (p ∷ ps) (q ∷ qs) =
+    let rest = Decides-and _ _ (Decides-int_eq p.1 q.1) (same_list-Decides ps qs) in
+    let all = Decides-and _ _ (Decides-eqb p.0 q.0) rest in (
+      λ h. let e = all.0 h in λ k. (e.0 k, e.1.0 k) ∷ e.1.1 k,
+      λ (e : p ∷ ps ≡ q ∷ qs).
+          let first : p ≡ q = cc in
+          let others : ps ≡ qs = cc in
+          all.1 (ap (λ (r : ℕ × ℤ). r.0) first, (ap (λ (r : ℕ × ℤ). r.1) first, others)),
+    )
+
+-- and two kinds
+pub same_kind-Decides : (k l : Kind) → Decides (same_kind k l) (k ≡ l)
+same_kind-Decides Le Le = (λ h. refl, λ e. refl)
+same_kind-Decides Le Eq = (λ h. absurd cc, λ e. absurd cc)
+same_kind-Decides Eq Le = (λ h. absurd cc, λ e. absurd cc)
+same_kind-Decides Eq Eq = (λ h. refl, λ e. refl)
+
+-- and two forms
+pub same_form-Decides : (f g : Linear ℕ) → Decides (same_form f g) (f ≡ g)
+same_form-Decides f g =
+    let rest = Decides-and _ _ (Decides-int_eq f.constant g.constant) (same_kind-Decides f.kind g.kind) in
+    let all = Decides-and _ _ (same_list-Decides f.parts g.parts) rest in (
+      λ h. let e = all.0 h in λ k. record { parts = e.0 k; constant = e.1.0 k; kind = e.1.1 k },
+      λ e. all.1 (
+        ap (λ (r : Linear ℕ). r.parts) e,
+        (ap (λ (r : Linear ℕ). r.constant) e, ap (λ (r : Linear ℕ). r.kind) e),
+      ),
+    )

@@ -1,0 +1,164 @@
+-- What is left of a state as it goes on.
+use Rattle.std.proofs.Common.{◌≡◌, ◌<◌, ◌+◌, ◌-◌, ℕ, zero, suc, Bool, true, false, IsTrue, if◌then◌else◌, Some}
+use Rattle.std.proofs.Common.{List, [], ◌∷◌, ◌++◌, map, length, get_or, refl, sym, ap, subst, ◌∙◌, arith}
+use Rattle.std.specs.List.{range_with_len, All, slice_get}
+use Rattle.std.proofs.lemmas.List.{map-append, map-id, length_push, get_or_push}
+use Rattle.std.proofs.lemmas.List.Elements.{All-push, All-filter, All-weaker}
+use Rattle.std.proofs.lemmas.List.FromFn.{length-range_with_len, get_or-range_with_len, map-range_with_len_more}
+use Rattle.sm_num.specs.Forms.{Linear}
+use Rattle.sm_num.specs.FormLaws.{same_atom}
+use Rattle.sm_num.specs.Eliminating.{can_cancel}
+use Rattle.sm_fm.specs.Elimination.{Placed, Event, pairs, forms_without, placed_from, sums, events}
+use Rattle.sm_fm.specs.declared.roles.Role.TheVariants.{Without}
+use Rattle.sm_fm.specs.Places.{no_form, form_at, placed_at, both_at, plays, places_of, place_pairs, AreWithin, IsPair}
+use Rattle.sm_fm.specs.States.{later_atoms, after_sum, left_of, IsPairOf}
+use Rattle.sm_fm.proofs.PlaceLemmas.{map-filter, pairs_are, placed_are, map-agree, form_stays, placed_stays, pairs_cancel}
+
+-- one more place
+pub range_more : (n : ℕ) → range_with_len 0 (n + 1) ≡ range_with_len 0 n ++ n ∷ []
+range_more n =
+    sym (map-id (range_with_len 0 (n + 1))) ∙ map-range_with_len_more (λ (k : ℕ). k) 0 n n (omega arith)
+    ∙ ap (λ (l : List ℕ). l ++ n ∷ []) (map-id (range_with_len 0 n))
+
+-- all places are places of forms
+pub range_within : (n : ℕ) → AreWithin n (range_with_len 0 n)
+range_within n = λ k d lt.
+    let len = length-range_with_len 0 n in
+    let at = get_or-range_with_len 0 n k d (omega arith) in
+    omega arith
+
+-- the pairs of all places, to begin with
+pub started : (forms : List (Linear ℕ)) (n more : ℕ) (ns : List ℕ) (ps : List (ℕ × ℕ)) → 0 < n → more ≡ n - 1 →
+    ns ≡ range_with_len 0 (length forms) → ps ≡ place_pairs 0 forms ns → left_of forms ns 0 more ps ≡ events forms n
+started forms zero more ns ps some is ns_is ps_is = absurd (omega arith)
+started forms (suc n) more ns ps some is ns_is ps_is =
+    let more_is : more ≡ n = omega arith in
+    let places : map (placed_at forms) ns ≡ placed_from 0 forms = ap (map (placed_at forms)) ns_is ∙ placed_are forms in
+    ap (λ (k : ℕ). left_of forms ns 0 k ps) more_is
+    ∙ ap (left_of forms ns 0 n) ps_is
+    ∙ ap (λ (l : List (Placed × Placed)). sums 0 l (later_atoms n 0) (map (placed_at forms) ns) (length forms)) (pairs_are forms 0 ns)
+    ∙ ap (λ (l : List Placed). sums 0 (pairs 0 l) (later_atoms n 0) l (length forms)) places
+
+-- where there are no atoms, nothing happens
+pub started_none : (forms : List (Linear ℕ)) (n : ℕ) (ns : List ℕ) → n ≡ 0 → left_of forms ns 0 0 [] ≡ events forms n
+started_none forms n ns none = ap (events forms) (sym none)
+
+-- the next atom's pairs, where none is left
+pub went_on : (forms : List (Linear ℕ)) (ns later : List ℕ) (t more next fewer : ℕ) (ps : List (ℕ × ℕ)) → 0 < more →
+    next ≡ t + 1 → fewer ≡ more - 1 → later ≡ places_of Without t forms ns → ps ≡ place_pairs next forms later →
+    left_of forms later next fewer ps ≡ left_of forms ns t more []
+went_on forms ns later t zero next fewer ps some next_is fewer_is later_is ps_is = absurd (omega arith)
+went_on forms ns later t (suc m) next fewer ps some next_is fewer_is later_is ps_is =
+    let at : next ≡ suc t = omega arith in
+    let left : fewer ≡ m = omega arith in
+    let places : map (placed_at forms) later ≡ forms_without t (map (placed_at forms) ns) =
+    ap (map (placed_at forms)) later_is ∙ map-filter (placed_at forms) (plays Without t) ns in
+    ap (left_of forms later next fewer) ps_is
+    ∙ ap (λ (k : ℕ). left_of forms later k fewer (place_pairs k forms later)) at
+    ∙ ap (λ (k : ℕ). left_of forms later (suc t) k (place_pairs (suc t) forms later)) left
+    ∙ ap (λ (l : List (Placed × Placed)). sums (suc t) l (later_atoms m (suc t)) (map (placed_at forms) later) (length forms))
+    (pairs_are forms (suc t) later)
+    ∙ ap (λ (l : List Placed). sums (suc t) (pairs (suc t) l) (later_atoms m (suc t)) l (length forms)) places
+
+-- places stay those of forms
+pub within_same : (forms others : List (Linear ℕ)) (ns ms : List ℕ) → others ≡ forms → ms ≡ ns → AreWithin (length forms) ns →
+    AreWithin (length others) ms
+within_same forms others ns ms same places within =
+    subst (λ (l : List (Linear ℕ)). AreWithin (length l) ms) (sym same) (subst (AreWithin (length forms)) (sym places) within)
+
+-- so do those that are left
+pub later_within : (forms : List (Linear ℕ)) (ns later : List ℕ) (t : ℕ) → later ≡ places_of Without t forms ns →
+    AreWithin (length forms) ns → AreWithin (length forms) later
+later_within forms ns later t is within =
+    subst (AreWithin (length forms)) (sym is) (All-filter (λ n. plays Without t (placed_at forms n)) (λ n. n < length forms) ns within)
+
+-- the pairs of an atom
+pub pairs_of_atom : (forms : List (Linear ℕ)) (atoms t : ℕ) (ns : List ℕ) (ps : List (ℕ × ℕ)) → t < atoms → AreWithin (length forms) ns →
+    ps ≡ place_pairs t forms ns → All (IsPairOf forms atoms t) ps
+pairs_of_atom forms atoms t ns ps lt within is =
+    subst (All (IsPairOf forms atoms t)) (sym is)
+    (All-weaker (IsPair forms t) (IsPairOf forms atoms t) (λ p pair. record { atom = lt; pair = pair }) (place_pairs t forms ns)
+    (pairs_cancel forms t ns within))
+
+module _ (forms : List (Linear ℕ)) (h : Linear ℕ) where
+  abbrev more_forms : List (Linear ℕ)
+  more_forms = forms ++ h ∷ []
+
+  grown : length more_forms ≡ suc (length forms)
+  grown = let e = length_push forms h in omega arith
+
+  -- places stay those of forms
+  pub standing_grows : (ns : List ℕ) → AreWithin (length forms) ns → AreWithin (length more_forms) (ns ++ length forms ∷ [])
+  standing_grows ns within =
+      let e = grown in
+      All-push (λ n. n < length more_forms) ns (length forms)
+      (All-weaker (λ n. n < length forms) (λ n. n < length more_forms) (λ n lt. omega arith) ns within) (omega arith)
+
+  pub standing_stays : (ns : List ℕ) → AreWithin (length forms) ns → AreWithin (length more_forms) ns
+  standing_stays ns within =
+      let e = grown in All-weaker (λ n. n < length forms) (λ n. n < length more_forms) (λ n lt. omega arith) ns within
+
+  pair_stays : (atoms t : ℕ) (p : ℕ × ℕ) → IsPairOf forms atoms t p → IsPairOf more_forms atoms t p
+  pair_stays atoms t p is =
+      let e = grown in
+      let first = is.pair.first in
+      let second = is.pair.second in
+      record {
+        atom = is.atom;
+        pair = record {
+          first = omega arith;
+          second = omega arith;
+          cancels =
+              subst (λ (f : Linear ℕ). IsTrue (can_cancel same_atom f (form_at more_forms p.1) t)) (sym (form_stays forms h p.0 first))
+              (subst (λ (g : Linear ℕ). IsTrue (can_cancel same_atom (form_at forms p.0) g t)) (sym (form_stays forms h p.1 second))
+              is.pair.cancels);
+        };
+      }
+
+  -- pairs stay pairs
+  pub pairs_stay : (atoms t : ℕ) (ps : List (ℕ × ℕ)) → All (IsPairOf forms atoms t) ps → All (IsPairOf more_forms atoms t) ps
+  pairs_stay atoms t ps all = All-weaker (IsPairOf forms atoms t) (IsPairOf more_forms atoms t) (pair_stays atoms t) ps all
+
+  -- and are those of the same forms
+  both_stay : (atoms t : ℕ) (ps : List (ℕ × ℕ)) → All (IsPairOf forms atoms t) ps → map (both_at more_forms) ps ≡ map (both_at forms) ps
+  both_stay atoms t ps all =
+      map-agree (IsPairOf forms atoms t) (both_at more_forms) (both_at forms)
+      (λ p is. λ k. (placed_stays forms h p.0 is.pair.first k, placed_stays forms h p.1 is.pair.second k)) ps all
+
+  last_placed : placed_at more_forms (length forms) ≡ record { place = length forms; form = h }
+  last_placed = ap (λ (f : Linear ℕ). record { place = length forms; form = f }) (get_or_push forms h no_form (length forms) refl)
+
+  -- what is left where the form stands after the others
+  pub kept_left : (ns : List ℕ) (atoms t more : ℕ) (ps : List (ℕ × ℕ)) → AreWithin (length forms) ns → All (IsPairOf forms atoms t) ps →
+      left_of more_forms (ns ++ length forms ∷ []) t more ps
+      ≡ after_sum forms t more ps (map (placed_at forms) ns ++ record { place = length forms; form = h } ∷ []) (suc (length forms))
+  kept_left ns atoms t more ps within all =
+      ap (λ (l : List (Placed × Placed)). sums t l (later_atoms more t) (map (placed_at more_forms) (ns ++ length forms ∷ [])) (length more_forms))
+      (both_stay atoms t ps all)
+      ∙ ap (λ (n : ℕ). after_sum forms t more ps (map (placed_at more_forms) (ns ++ length forms ∷ [])) n) grown
+      ∙ ap (λ (l : List Placed). after_sum forms t more ps l (suc (length forms)))
+      (map-append (placed_at more_forms) ns (length forms ∷ [])
+      ∙ ap (λ (l : List Placed). l ++ placed_at more_forms (length forms) ∷ [])
+      (map-agree (λ n. n < length forms) (placed_at more_forms) (placed_at forms) (placed_stays forms h) ns within)
+      ∙ ap (λ (p : Placed). map (placed_at forms) ns ++ p ∷ []) last_placed)
+
+-- an event list by the answers to its tests
+pub at_contradiction : (c n : Bool) (x y z : List Event) → c ≡ true → (if c then x else if n then y else z) ≡ x
+at_contradiction true n x y z first = refl
+at_contradiction false n x y z first = absurd cc
+
+pub at_new : (c n : Bool) (x y z : List Event) → c ≡ false → n ≡ true → (if c then x else if n then y else z) ≡ y
+at_new false true x y z first second = refl
+at_new false false x y z first second = absurd cc
+at_new true n x y z first second = absurd cc
+
+pub at_old : (c n : Bool) (x y z : List Event) → c ≡ false → n ≡ false → (if c then x else if n then y else z) ≡ z
+at_old false false x y z first second = refl
+at_old false true x y z first second = absurd cc
+at_old true n x y z first second = absurd cc
+
+-- the element at a place
+pub slice_get_is : {A : Type 0} (xs : List A) (n : ℕ) (d : A) → n < length xs → slice_get xs n ≡ Some (get_or xs n d)
+slice_get_is [] n d lt = absurd (omega arith)
+slice_get_is (x ∷ xs) zero d lt = refl
+slice_get_is (x ∷ xs) (suc n) d lt = slice_get_is xs n d (omega arith)

@@ -1,0 +1,7 @@
+-- The places so far are those chosen so far.
+use Rattle.std.proofs.Common.{◌≡◌, take}
+use Rattle.sm_fm.specs.Places.{places_of}
+use Rattle.sm_fm.proofs.roles.select.Given as goal
+
+abbrev pub invariant-loop-place : goal.invariant-loop-place
+invariant-loop-place l = l.out.items ≡ places_of l.role l.t l.forms (take l.place-index l.places)

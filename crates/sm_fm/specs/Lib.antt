@@ -1,0 +1,5 @@
+pub mod Elimination
+pub mod Places
+pub mod Solutions
+pub mod States
+pub mod Taking
