@@ -1,5 +1,6 @@
 -- Certificates that jobs let pass close the branches that are due.
-use Rattle.std.proofs.Common.{◌≡◌, ◌<◌, ◌≤◌, ◌+◌, ℕ, zero, suc, Bool, true, Option, Some, None, Result, Ok, Err, List, [], ◌∷◌, ◌++◌, length, map, take}
+use Rattle.std.proofs.Common.{◌≡◌, ◌<◌, ◌≤◌, ◌+◌, ℕ, zero, suc, Bool, true, Option, Some, None, Result, Ok, Err}
+use Rattle.std.proofs.Common.{List, [], ◌∷◌, ◌++◌, length, map, take}
 use Rattle.std.proofs.Common.{refl, sym, ap, ◌∙◌, subst, arith, reverse, append_assoc, append-nil, get_or, ◌-◌, min, is_some, not, zero-add}
 use Rattle.std.proofs.lemmas.List.{length-append, take_more, take_min}
 use Rattle.std.specs.List.{slice_get, slice_index_or}
@@ -62,7 +63,8 @@ first_close sorts trees terms path facts all sorted (suc n) (o ∷ os) (c ∷ cs
 pub closes_with : (sorts : Sorts) (terms : List Tree) (stores held : Copy → SymbolicStore) (own : List BranchFact) (splits : ℕ)
     (lines : List ProofLine) → Closes sorts terms (plain.Branch stores own splits ∷ []) lines →
     Closes sorts terms (plain.Branch held own splits ∷ []) lines
-closes_with sorts terms stores held own splits lines closes = closes_restored sorts terms held (plain.Branch stores own splits ∷ []) lines closes
+closes_with sorts terms stores held own splits lines closes =
+    closes_restored sorts terms held (plain.Branch stores own splits ∷ []) lines closes
 
 -- where a branch is due it is pending first, with the facts of the path
 pub record DueFirst (sorts : Sorts) (trees : List Tree) (path : List Fact) (stores : PerCopy SymStore) (splits : ℕ)
@@ -131,14 +133,14 @@ pub record OpensUpTo (sorts : Sorts) (trees : List Tree) (facts : List BranchFac
   pub opening : OpenFirst sorts trees facts os front
   pub wait : AllWait sorts trees facts most ws rest
 
-pub opens_first : (sorts : Sorts) (trees : List Tree) (facts : List BranchFact) (os : List Opening) (ws : List Waiting) (ps : List Pending) →
-    OpensUpTo sorts trees facts os ws ps → OpenFirst sorts trees facts os ps
+pub opens_first : (sorts : Sorts) (trees : List Tree) (facts : List BranchFact) (os : List Opening) (ws : List Waiting)
+    (ps : List Pending) → OpensUpTo sorts trees facts os ws ps → OpenFirst sorts trees facts os ps
 opens_first sorts trees facts os ws ps u =
     subst (OpenFirst sorts trees facts os) (sym u.is) (open_first-append sorts trees facts os u.front u.rest u.opening)
 
 -- one more
-pub opens_next : (sorts : Sorts) (trees : List Tree) (facts : List BranchFact) (os : List Opening) (o : Opening) (w : Waiting) (ws : List Waiting)
-    (ps : List Pending) → ((p : Pending) → WaitingStands sorts trees facts w p → OpensAs sorts trees facts o p) →
+pub opens_next : (sorts : Sorts) (trees : List Tree) (facts : List BranchFact) (os : List Opening) (o : Opening) (w : Waiting)
+    (ws : List Waiting) (ps : List Pending) → ((p : Pending) → WaitingStands sorts trees facts w p → OpensAs sorts trees facts o p) →
     OpensUpTo sorts trees facts os (w ∷ ws) ps → OpensUpTo sorts trees facts (os ++ o ∷ []) ws ps
 opens_next sorts trees facts os o w ws ps opens u = by u.rest u.is u.wait
   where
@@ -156,8 +158,8 @@ opens_next sorts trees facts os o w ws ps opens u = by u.rest u.is u.wait
     }
 
 -- the goal that is due
-pub goal_opens : (sorts : Sorts) (trees : List Tree) (path : List Fact) (d : Option Due) (waiting : List Waiting) (ps : List Pending) (o : Opening)
-    (h : PendingStands sorts trees path d waiting ps) → IsGoalDue d → o.shared ≡ length path → o.denied ≡ None →
+pub goal_opens : (sorts : Sorts) (trees : List Tree) (path : List Fact) (d : Option Due) (waiting : List Waiting) (ps : List Pending)
+    (o : Opening) (h : PendingStands sorts trees path d waiting ps) → IsGoalDue d → o.shared ≡ length path → o.denied ≡ None →
     OpensUpTo sorts trees h.facts (o ∷ []) (reverse waiting) ps
 goal_opens sorts trees path None waiting ps o h goal short none = absurd goal
 goal_opens sorts trees path (Some (due.State state above)) waiting ps o h goal short none = absurd goal
@@ -243,8 +245,8 @@ leads_on sorts trees terms path path' d d' waiting waiting' own splits line left
 }
 
 -- nothing is due behind the last line
-pub leads_home : (sorts : Sorts) (trees terms : List Tree) (path : List Fact) (d : Option Due) (waiting : List Waiting) (own : List BranchFact)
-    (splits : ℕ) (all : List ProofLine) (held : Copy → SymbolicStore) → d ≡ None →
+pub leads_home : (sorts : Sorts) (trees terms : List Tree) (path : List Fact) (d : Option Due) (waiting : List Waiting)
+    (own : List BranchFact) (splits : ℕ) (all : List ProofLine) (held : Copy → SymbolicStore) → d ≡ None →
     Leads sorts trees terms path d waiting own splits [] all → Closes sorts terms (plain.Branch held own splits ∷ []) all
 leads_home sorts trees terms path d waiting own splits all held none h =
     closes_with sorts terms h.stores held own splits all
@@ -286,8 +288,8 @@ alone_stands sorts trees path facts own o held splits stores sorted opens stands
 )
 
 -- no line is taken yet
-pub leads_first : (sorts : Sorts) (trees terms : List Tree) (path : List Fact) (d : Option Due) (waiting : List Waiting) (own : List BranchFact)
-    (splits : ℕ) (all : List ProofLine) →
+pub leads_first : (sorts : Sorts) (trees terms : List Tree) (path : List Fact) (d : Option Due) (waiting : List Waiting)
+    (own : List BranchFact) (splits : ℕ) (all : List ProofLine) →
     ((stores : Copy → SymbolicStore) × PendingStands sorts trees path d waiting (plain.Branch stores own splits ∷ [])) →
     Leads sorts trees terms path d waiting own splits all all
 leads_first sorts trees terms path d waiting own splits all h = record {
@@ -316,8 +318,8 @@ last_waits ws n d some fits =
     ∙ last_first (take (n - 1) ws) (get_or ws (n - 1) d)
 
 -- the first facts of a path, as far as it has them
-pub cut_within : (sorts : Sorts) (trees : List Tree) (n : ℕ) (path : List Fact) (facts : List BranchFact) → AllStand sorts trees path facts →
-    AllStand sorts trees (take (min n (length path)) path) (take n facts)
+pub cut_within : (sorts : Sorts) (trees : List Tree) (n : ℕ) (path : List Fact) (facts : List BranchFact) →
+    AllStand sorts trees path facts → AllStand sorts trees (take (min n (length path)) path) (take n facts)
 cut_within sorts trees n path facts all =
     subst (λ (fs : List Fact). AllStand sorts trees fs (take n facts)) (sym (take_min n path)) (stand_cut sorts trees n path facts all)
 
@@ -359,8 +361,8 @@ opens_begin sorts trees path d waiting ws n os o ps h goal short none one same a
     (goal_opens sorts trees path d waiting ps o h goal short none))
 
 -- and go on with those of what waits, the last first
-pub opens_more : (sorts : Sorts) (trees : List Tree) (facts : List BranchFact) (os all : List Opening) (o : Opening) (ws : List Waiting) (n : ℕ)
-    (w : Waiting) (ps : List Pending) → 0 < n → n ≤ length ws → w ≡ get_or ws (n - 1) w →
+pub opens_more : (sorts : Sorts) (trees : List Tree) (facts : List BranchFact) (os all : List Opening) (o : Opening) (ws : List Waiting)
+    (n : ℕ) (w : Waiting) (ps : List Pending) → 0 < n → n ≤ length ws → w ≡ get_or ws (n - 1) w →
     ((p : Pending) → WaitingStands sorts trees facts w p → OpensAs sorts trees facts o p) → all ≡ os ++ o ∷ [] →
     OpensUpTo sorts trees facts os (reverse (take n ws)) ps → OpensUpTo sorts trees facts all (reverse (take (n - 1) ws)) ps
 opens_more sorts trees facts os all o ws n w ps some fits at opens is u =
@@ -379,8 +381,9 @@ Answered sorts trees terms path os cs count results =
     Passes sorts trees terms path o (map line_of c.items)) 0 count results
 
 -- the certificates whose jobs answer true before the first that doesn't close the first branches
-pub answered_close : (sorts : Sorts) (trees terms : List Tree) (path : List Fact) (facts : List BranchFact) → AllStand sorts trees path facts →
-    AreFactsSorted sorts facts → (os : List Opening) (cs : List (Vec Line Global)) (ps : List Pending) (count n : ℕ) (results : List Bool) →
+pub answered_close : (sorts : Sorts) (trees terms : List Tree) (path : List Fact) (facts : List BranchFact) →
+    AllStand sorts trees path facts → AreFactsSorted sorts facts → (os : List Opening) (cs : List (Vec Line Global)) (ps : List Pending)
+    (count n : ℕ) (results : List Bool) →
     OpenFirst sorts trees facts os ps → count ≤ length os → count ≤ length cs → Answered sorts trees terms path os cs count results →
     n ≤ length results → ((k : ℕ) (d : Bool) → k < n → slice_index_or results k d ≡ true) →
     CloseFirst sorts terms ps (take n (certificates_of cs))

@@ -1,6 +1,5 @@
 -- What the jobs read may be read by several threads at once.
-use denote.Param.Send.{IsSync, recorded_sync, struct_sync, sendable}
-use denote.Struct.Declared.{shape}
+use denote.Param.Send.{IsSync, sendable}
 use Rattle.std.proofs.Crossing.{crosses}
 use Rattle.std.proofs.MapsCrossing as maps
 use Rattle.std.proofs.alloc.Global.TheSendSync as heap
@@ -24,14 +23,25 @@ use Rattle.sm_theory.specs.contracts.fact.Branch as Branch
 use Rattle.sm_theory.specs.contracts.fact.Fact as Fact
 use Rattle.sm_check.specs.contracts.openings.Opening as Opening
 
+-- facts of a branch
 pub fact_sync : IsSync Fact.the_row
 fact_sync = search (sendable, crosses, formula.crosses, form.the_sync, id.the_field_sync) depth 40
 
+-- a branch
 pub branch_sync : IsSync Branch.the_row
 branch_sync = search (fact_sync, sendable, crosses) depth 40
 
+-- where certificates begin
 pub opening_sync : IsSync Opening.the_row
 opening_sync = search (fact_sync, option.the_field_sync, sendable, crosses) depth 40
 
+-- the names of a table and its terms, and the bodies of its summaries
+ruleset parts = (decls.the_field_sync, sort.the_field_sync, cmp.the_field_sync, name.the_field_sync, term.the_field_sync)
+
+ruleset bodies = (stmt.crosses, cond.crosses, expr.crosses)
+
+ruleset tables = (set.the_sync, hasher.the_sync, builder.the_sync, heap.the_sync, maps.crosses)
+
+-- a table of terms
 pub table_sync : IsSync TermTable.the_row
-table_sync = search (set.the_sync, hasher.the_sync, builder.the_sync, heap.the_sync, decls.the_field_sync, sort.the_field_sync, term.the_field_sync, stmt.crosses, cond.crosses, expr.crosses, cmp.the_field_sync, name.the_field_sync, sendable, crosses, maps.crosses) depth 40 fits 3000
+table_sync = search (tables, parts, bodies, sendable, crosses) depth 40 fits 3000

@@ -1,5 +1,5 @@
 -- Private: certificates that close branches, each branch alone.
-use Rattle.std.specs.Prelude.{◌≡◌, ℕ, Result, Ok, Option, Some, None, List, [], ◌∷◌, ◌++◌, take}
+use Rattle.std.specs.Prelude.{◌≡◌, Ok, Option, Some, None, List, [], ◌∷◌, ◌++◌, take}
 use Rattle.sm_syntax.specs.text.Sorts.{Sorts}
 use Rattle.sm_term.specs.Terms.{Tree}
 use Rattle.sm_theory.specs.declared.fact.Fact.{Fact}

@@ -34,8 +34,8 @@ struct Alone<'a> {
     waiting: Vec<Waiting<'a>>,
 }
 
-/// Whether lines close the branch of an opening, all of it, exactly at their end. An answer of false
-/// says nothing.
+/// Whether lines close the branch of an opening, all of it, exactly at their end. An answer of
+/// false says nothing.
 pub(crate) fn closes(
     alloc: Global,
     table: &TermTable,

@@ -142,7 +142,8 @@ pub(crate) fn opened(alloc: Global, path: &Branch, opening: &Opening) -> Result<
 // The same facts.
 fn copy_facts(alloc: Global, facts: &[Fact]) -> Result<Vec<Fact>, AllocError>
     ensures { (sorts : Sorts) (trees : List Tree) (ks : List BranchFact) →
-        AllStand sorts trees facts.now ks → IfOk result (λ list. AllStand sorts trees list.items ks) }
+        AllStand sorts trees facts.now ks →
+        IfOk result (λ list. AllStand sorts trees list.items ks) }
 {
     let mut list = Vec::new(alloc);
     for fact in facts {

@@ -1,5 +1,5 @@
 -- One line more, and the last.
-use Rattle.std.proofs.Common.{◌≡◌, ◌+◌, List, ◌∷◌, map, drop, subst, sym, ap, ◌∙◌}
+use Rattle.std.proofs.Common.{◌+◌, List, ◌∷◌, map, drop, subst, sym, ap, ◌∙◌}
 use Rattle.std.proofs.lemmas.List.{drop_more}
 use Rattle.sm_term.specs.Tables.{trees_in, sorts_in}
 use Rattle.sm_proof.specs.declared.line.Line.{Line}
@@ -14,7 +14,8 @@ loop-line-init c = λ facts own held splits all sorted opens.
     let sorts = sorts_in c.args.table.now in
     let trees = trees_in c.args.table.now in
     let b = c.in_ok-branch.branch in
-    leads_first sorts trees (terms_in trees c.args.terms.now) b.path.list.items b.due b.waiting.items own splits (map line_of c.args.lines.now)
+    leads_first sorts trees (terms_in trees c.args.terms.now) b.path.list.items b.due b.waiting.items own splits
+    (map line_of c.args.lines.now)
     (c.in_ok-branch.ensures sorts trees facts own held splits all sorted opens)
 
 pub loop-line-preserved : goal.loop-line-preserved

@@ -1,8 +1,7 @@
 -- The line is taken at the branch that is due.
-use Rattle.std.proofs.Common.{◌≡◌, Option, Some, ap, ◌∙◌, sym, subst}
+use Rattle.std.proofs.Common.{◌≡◌, Some, ap}
 use Rattle.sm_term.specs.Tables.{trees_in, sorts_in}
 use Rattle.sm_proof.specs.Lines.{numbered_line, line_of}
-use Rattle.sm_check.specs.declared.pending.Due.{Due}
 use Rattle.sm_check.specs.declared.pending.Due.TheVariants as due
 use Rattle.sm_check.specs.Walks.{terms_in}
 use Rattle.sm_check.proofs.JobsLemmas.{due_first, went_on}

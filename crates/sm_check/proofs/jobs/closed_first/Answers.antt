@@ -23,7 +23,8 @@ invariant_of-job-clause-before g c = λ k t is.
     (subst (λ (ts : List TermId). slice_get ts k ≡ Some t) c.deref.ensures.value is)
 
 pub run_jobs-requires-sync-J : goal.run_jobs-requires-sync-J
-run_jobs-requires-sync-J g c κs within = search (table_sync, branch_sync, opening_sync, line.the_field_sync, id.the_field_sync, sendable, crosses) depth 40
+run_jobs-requires-sync-J g c κs within =
+    search (table_sync, branch_sync, opening_sync, line.the_field_sync, id.the_field_sync, sendable, crosses) depth 40
 
 pub returns-clause-closed : goal.returns-clause-closed
 returns-clause-closed g c = λ p walks.
@@ -36,7 +37,8 @@ returns-clause-closed g c = λ p walks.
     let rs = c.in_ok-closed.closed.items in
     let inside : Answered (sorts_in i.table) (trees_in i.table) (terms_in (trees_in i.table) i.terms.items) i.path.list.items os cs n rs =
     subst
-    (λ (xs : List Opening). Answered (sorts_in i.table) (trees_in i.table) (terms_in (trees_in i.table) i.terms.items) i.path.list.items xs cs n rs)
+    (λ (xs : List Opening).
+    Answered (sorts_in i.table) (trees_in i.table) (terms_in (trees_in i.table) i.terms.items) i.path.list.items xs cs n rs)
     c.deref-2.ensures.value
     (subst
     (λ (ts : List TermId).
@@ -53,5 +55,5 @@ returns-clause-closed g c = λ p walks.
     let enough : n ≤ length os = omega (arith, c.min-count.ensures, c.len.ensures, c.in_ok-openings.openings.ok.0) in
     let there : n ≤ length cs = omega (arith, c.min-count.ensures) in
     subst (λ (ts : List Tree). CloseFirst (sorts_in v.table) ts p.pending (take c.leading.result (certificates_of cs))) walks.terms
-    (answered_close (sorts_in v.table) (trees_in v.table) (terms_in (trees_in v.table) v.terms) v.path h.facts h.stand h.sorted os cs p.pending n
-    c.leading.result rs (c.in_ok-openings.ensures p walks) enough there answers few lead)
+    (answered_close (sorts_in v.table) (trees_in v.table) (terms_in (trees_in v.table) v.terms) v.path h.facts h.stand h.sorted os cs
+    p.pending n c.leading.result rs (c.in_ok-openings.ensures p walks) enough there answers few lead)

@@ -1,5 +1,5 @@
 -- The first facts of the path, and the denied goal behind them.
-use Rattle.std.proofs.Common.{◌≡◌, ◌++◌, ◌∷◌, [], ℕ, List, Vec, Global, take, min, length, ap, sym, ◌∙◌, subst, arith}
+use Rattle.std.proofs.Common.{◌≡◌, ◌++◌, ℕ, List, Vec, Global, take, min, length, ap, sym, ◌∙◌, subst, arith}
 use Rattle.sm_theory.specs.declared.fact.Fact.{Fact}
 use Rattle.sm_theory.specs.Facts.{BranchFact}
 use Rattle.sm_theory.specs.Views.{AllStand}
@@ -17,7 +17,8 @@ returns c = λ sorts trees facts more all stands.
     let cut : AllStand sorts trees c.in_ok-list.list.items (take shared facts) =
     c.in_ok-list.ensures sorts trees (take shared facts)
     (subst (λ (fs : List Fact). AllStand sorts trees (take c.min-shared.result fs) (take shared facts)) (sym c.deref.ensures.value)
-    (subst (λ (n : ℕ). AllStand sorts trees (take n path) (take shared facts)) (sym count) (cut_within sorts trees shared path facts all))) in
+    (subst (λ (n : ℕ). AllStand sorts trees (take n path) (take shared facts)) (sym count)
+    (cut_within sorts trees shared path facts all))) in
     elim c.match-opening.branch [
       | in-Some+in_ok-copy_fact+in_ok-push w ↦
           subst (λ (fs : List Fact). AllStand sorts trees fs (take shared facts ++ more))

@@ -1,5 +1,5 @@
 -- One opening more.
-use Rattle.std.proofs.Common.{◌≡◌, ◌∷◌, [], ◌++◌, List, Option, Some, None, IfSome, length, get_or, ◌-◌, refl, sym, ap, ◌∙◌, subst, arith}
+use Rattle.std.proofs.Common.{◌≡◌, ◌∷◌, [], ◌++◌, List, Option, None, IfSome, length, ◌-◌, refl, ap, ◌∙◌, subst, arith}
 use Rattle.sm_term.specs.Tables.{trees_in, sorts_in}
 use Rattle.sm_proof.specs.Passing.{Pending}
 use Rattle.sm_check.specs.declared.openings.Opening.{Opening}
@@ -19,8 +19,8 @@ loop-place-init c =
     record {
       within = omega (arith, long);
       opens = λ p w.
-          opens_begin (sorts_in v.table) (trees_in v.table) v.path v.due v.waiting i.waiting.items c.len-place.result c.push.new.self.items o p.pending
-          w.pending (c.is_goal_due.ensures c.if-not-is_goal_due.false)
+          opens_begin (sorts_in v.table) (trees_in v.table) v.path v.due v.waiting i.waiting.items c.len-place.result
+          c.push.new.self.items o p.pending w.pending (c.is_goal_due.ensures c.if-not-is_goal_due.false)
           (short ∙ ap (λ (x : WalkValue). length x.path) c.walk.view_is) refl
           (c.in_ok-push.ensures.items ∙ ap (λ (l : List Opening). l ++ o ∷ []) c.new-list.ensures.items)
           (ap (λ (x : WalkValue). x.waiting) c.walk.view_is) long;
@@ -36,8 +36,8 @@ loop-place-preserved c =
     record {
       within = omega (arith, l.invariant.within);
       opens = λ p walks.
-          opens_more (sorts_in v.table) (trees_in v.table) walks.pending.facts l.list.items c.push-in-Some.new.self.items o i.waiting.items l.place w
-          p.pending (omega (arith, c.loop-place-test.true)) l.invariant.within c.index.ensures
+          opens_more (sorts_in v.table) (trees_in v.table) walks.pending.facts l.list.items c.push-in-Some.new.self.items o
+          i.waiting.items l.place w p.pending (omega (arith, c.loop-place-test.true)) l.invariant.within c.index.ensures
           (λ (q : Pending) (stands : WaitingStands (sorts_in v.table) (trees_in v.table) walks.pending.facts w q).
           subst
           (λ (x : Option Opening).

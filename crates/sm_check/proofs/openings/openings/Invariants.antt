@@ -11,8 +11,8 @@ invariant-loop-place l = record {
   within : l.place ≤ length l.walk-inside.waiting.items;
   opens :
       (p : Progress) (w : Walks l.walk p) →
-      OpensUpTo (sorts_in l.walk.table) (trees_in l.walk.table) w.pending.facts l.list.items (reverse (take l.place l.walk-inside.waiting.items))
-      p.pending;
+      OpensUpTo (sorts_in l.walk.table) (trees_in l.walk.table) w.pending.facts l.list.items
+      (reverse (take l.place l.walk-inside.waiting.items)) p.pending;
 }
 
 abbrev pub decreases-loop-place : goal.decreases-loop-place

@@ -15,6 +15,10 @@ returns c = λ s p first rest at is.
     let on : IsAt _ s (Ok (Underway q)) = (
       at.0,
       record { sorts = ap (λ (t : TableValue). sorts_in t) made.table ∙ at.1.sorts; assumes = at.1.assumes },
-      (at.2.0, walk_skipped c.args.self.now.walk c.make_due.new.walk p first rest at.2.1 is made.table made.nodes made.terms made.forms made.pending),
+      (
+        at.2.0,
+        walk_skipped c.args.self.now.walk c.make_due.new.walk p first rest at.2.1 is made.table made.nodes made.terms made.forms
+        made.pending,
+      ),
     ) in
     (on, c.state.ensures s (Underway q) on)

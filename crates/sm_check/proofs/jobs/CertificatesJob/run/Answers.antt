@@ -19,7 +19,8 @@ returns c =
     let s = c.args.self.now in
     let trees = trees_in s.table.now in
     let passes : Opening → List Line → Type 0 =
-    λ (o : Opening) (ls : List Line). Passes (sorts_in s.table.now) trees (terms_in trees s.terms.now) s.path.now.list.items o (map line_of ls) in
+    λ (o : Opening) (ls : List Line).
+    Passes (sorts_in s.table.now) trees (terms_in trees s.terms.now) s.path.now.list.items o (map line_of ls) in
     IfOk-weaker c.closes.result _ _
     (λ (out : Bool) h (o : Opening) (lines : Vec Line Global) (at : slice_get s.openings.now c.args.index ≡ Some o)
     (is : slice_get s.certificates.now c.args.index ≡ Some lines) (closes : out ≡ true).
