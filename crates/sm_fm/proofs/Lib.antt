@@ -1,7 +1,7 @@
 pub mod CoefficientLemmas
 pub mod CrossedLemmas
+pub mod KnowingLemmas
 pub mod PlaceLemmas
-pub mod SameFormLemmas
 pub mod StateLemmas
 pub mod StepLemmas
 pub mod ElimExamples

@@ -2,10 +2,11 @@
 use Rattle.std.proofs.Common.{◌≡◌, ◌<◌, ◌+◌, ◌==◌, ℕ, suc, ℤ, pos, negsuc, Bool, true, false, ◌&&◌, ◌||◌, not}
 use Rattle.std.proofs.Common.{IsTrue, cond, Option, Some, None, option_map, List, [], ◌∷◌, ◌++◌, map, length, get_or, drop}
 use Rattle.std.proofs.Common.{refl, sym, ap, subst, ◌∙◌, arith}
-use Rattle.std.specs.List.{filter, find, list_any, range_with_len, All}
+use Rattle.std.specs.List.{filter, find, range_with_len, All}
 use Rattle.std.specs.Ordering.{int_eq}
 use Rattle.std.proofs.lemmas.List.{map-append, get_or_append_left, get_or-drop, drop-drop}
-use Rattle.std.proofs.lemmas.List.Elements.{All-nil, All-cons, All-head, All-tail, All-append, All-map, All-filter, All-weaker, filter_passes}
+use Rattle.std.proofs.lemmas.List.Elements.{All-nil, All-cons, All-head, All-tail, All-append, All-map}
+use Rattle.std.proofs.lemmas.List.Elements.{All-filter, All-weaker, filter_passes}
 use Rattle.sm_num.specs.Forms.{Linear}
 use Rattle.sm_num.specs.Tightening.{has_no_part}
 use Rattle.sm_num.specs.Eliminating.{is_equation, is_negative, signs_alike}
@@ -36,11 +37,6 @@ find-map : (p : ℕ → Placed) (test : Placed → Bool) (ns : List ℕ) → fin
 find-map p test [] = refl
 find-map p test (n ∷ ns) = find_step p (test (p n)) n (find (λ k. test (p k)) ns) (find test (map p ns)) (find-map p test ns)
 
--- a form stands among forms where it stands at one of their places
-pub list_any-map : (p : ℕ → Placed) (test : Placed → Bool) (ns : List ℕ) → list_any (λ n. test (p n)) ns ≡ list_any test (map p ns)
-list_any-map p test [] = refl
-list_any-map p test (n ∷ ns) = ap (λ (b : Bool). test (p n) || b) (list_any-map p test ns)
-
 -- a form with a part says something
 pub some_part : (ps : List (ℕ × ℤ)) → 0 < length ps → has_no_part ps ≡ false
 some_part [] some = absurd (omega arith)
@@ -59,7 +55,8 @@ map-crossed forms [] gs = refl
 map-crossed forms (f ∷ fs) gs =
     map-append (both_at forms) (map (λ g. (f, g)) gs) (crossed_places fs gs)
     ∙ ap (λ (l : List (Placed × Placed)). l ++ map (both_at forms) (crossed_places fs gs)) (map-led forms f gs)
-    ∙ ap (λ (l : List (Placed × Placed)). map (λ (g : Placed). (placed_at forms f, g)) (map (placed_at forms) gs) ++ l) (map-crossed forms fs gs)
+    ∙ ap (λ (l : List (Placed × Placed)). map (λ (g : Placed). (placed_at forms f, g)) (map (placed_at forms) gs) ++ l)
+    (map-crossed forms fs gs)
 
 -- all with one
 crossed-one : (fs : List Placed) (g : Placed) → crossed fs (g ∷ []) ≡ map (λ f. (f, g)) fs
@@ -71,7 +68,8 @@ with_are : (forms : List (Linear ℕ)) (t : ℕ) (ns : List ℕ) (pivot : Option
     map (both_at forms) (place_pairs_with pivot t forms ns) ≡ pairs_with (option_map (placed_at forms) pivot) t (map (placed_at forms) ns)
 with_are forms t ns None =
     map-crossed forms (places_of Below t forms ns) (places_of Above t forms ns)
-    ∙ ap (λ (l : List Placed). crossed l (map (placed_at forms) (places_of Above t forms ns))) (map-filter (placed_at forms) (is_below t) ns)
+    ∙ ap (λ (l : List Placed). crossed l (map (placed_at forms) (places_of Above t forms ns)))
+    (map-filter (placed_at forms) (is_below t) ns)
     ∙ ap (crossed (filter (is_below t) (map (placed_at forms) ns))) (map-filter (placed_at forms) (is_above t) ns)
 with_are forms t ns (Some pivot) =
     map-crossed forms (places_of (Beside pivot) t forms ns) (pivot ∷ [])
@@ -105,7 +103,8 @@ placed_are forms = placed_on forms forms 0 refl
 pub map-agree : {X Y : Type 0} (P : X → Type 0) (f g : X → Y) → ((x : X) → P x → f x ≡ g x) → (xs : List X) → All P xs → map f xs ≡ map g xs
 map-agree P f g agree [] all = refl
 map-agree {Y = Y} P f g agree (x ∷ xs) all =
-    ap (λ (y : Y). y ∷ map f xs) (agree x (All-head P x xs all)) ∙ ap (λ (l : List Y). g x ∷ l) (map-agree P f g agree xs (All-tail P x xs all))
+    ap (λ (y : Y). y ∷ map f xs) (agree x (All-head P x xs all)) ∙ ap (λ (l : List Y). g x ∷ l)
+    (map-agree P f g agree xs (All-tail P x xs all))
 
 -- what stands at a place stays there
 pub form_stays : (forms : List (Linear ℕ)) (h : Linear ℕ) (n : ℕ) → n < length forms → form_at (forms ++ h ∷ []) n ≡ form_at forms n
@@ -187,7 +186,8 @@ module _ (forms : List (Linear ℕ)) (t : ℕ) (ns : List ℕ) (within : AreWith
       (λ f g first second. record {
         first = first.0;
         second = second.0;
-        cancels = opposite (coefficient_at t (placed_at forms f)) (coefficient_at t (placed_at forms g)) (is_equation (form_at forms f).kind)
+        cancels = opposite (coefficient_at t (placed_at forms f)) (coefficient_at t (placed_at forms g))
+            (is_equation (form_at forms f).kind)
             (is_equation (form_at forms g).kind) first.1 second.1;
       })
       (places_of Below t forms ns) (places_of Above t forms ns) (passing (is_below t)) (passing (is_above t))
@@ -198,7 +198,8 @@ module _ (forms : List (Linear ℕ)) (t : ℕ) (ns : List ℕ) (within : AreWith
         first = first.0;
         second = second.0;
         cancels = with_equation (has_atom t (placed_at forms f)) (has_atom t (placed_at forms g)) (is_equation (form_at forms f).kind)
-            (is_equation (form_at forms g).kind) (not (signs_alike (coefficient_at t (placed_at forms f)) (coefficient_at t (placed_at forms g))))
+            (is_equation (form_at forms g).kind)
+            (not (signs_alike (coefficient_at t (placed_at forms f)) (coefficient_at t (placed_at forms g))))
             (and_first (has_atom t (placed_at forms f)) (not (f == pivot)) first.1) second.1;
       })
       (places_of (Beside pivot) t forms ns) (pivot ∷ []) (passing (λ (f : Placed). has_atom t f && not (f.place == pivot)))
@@ -207,3 +208,19 @@ module _ (forms : List (Linear ℕ)) (t : ℕ) (ns : List ℕ) (within : AreWith
   -- in each pair the atom cancels
   pub pairs_cancel : All (IsPair forms t) (place_pairs t forms ns)
   pairs_cancel = cancel_with (pivot_place t forms ns) refl
+
+-- what is so of all places is so of those in pairs
+have_with : (P : ℕ → Type 0) (forms : List (Linear ℕ)) (t : ℕ) (ns : List ℕ) → All P ns → (pivot : Option ℕ) →
+    pivot_place t forms ns ≡ pivot →
+    All (λ (p : ℕ × ℕ). P p.0 × P p.1) (place_pairs_with pivot t forms ns)
+have_with P forms t ns all None e =
+    all_crossed P P (λ (p : ℕ × ℕ). P p.0 × P p.1) (λ f g a b. (a, b)) (places_of Below t forms ns) (places_of Above t forms ns)
+    (All-filter (λ n. is_below t (placed_at forms n)) P ns all) (All-filter (λ n. is_above t (placed_at forms n)) P ns all)
+have_with P forms t ns all (Some pivot) e =
+    all_crossed P P (λ (p : ℕ × ℕ). P p.0 × P p.1) (λ f g a b. (a, b)) (places_of (Beside pivot) t forms ns) (pivot ∷ [])
+    (All-filter (λ n. has_atom t (placed_at forms n) && not (n == pivot)) P ns all)
+    (All-cons P pivot [] (found P (λ n. is_pivot t (placed_at forms n)) pivot ns all e).0 (All-nil P))
+
+pub pairs_have : (P : ℕ → Type 0) (forms : List (Linear ℕ)) (t : ℕ) (ns : List ℕ) → All P ns →
+    All (λ (p : ℕ × ℕ). P p.0 × P p.1) (place_pairs t forms ns)
+pairs_have P forms t ns all = have_with P forms t ns all (pivot_place t forms ns) refl

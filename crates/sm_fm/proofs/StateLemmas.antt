@@ -1,18 +1,23 @@
 -- What is left of a state as it goes on.
-use Rattle.std.proofs.Common.{◌≡◌, ◌<◌, ◌+◌, ◌-◌, ℕ, zero, suc, Bool, true, false, IsTrue, if◌then◌else◌, Some}
-use Rattle.std.proofs.Common.{List, [], ◌∷◌, ◌++◌, map, length, get_or, refl, sym, ap, subst, ◌∙◌, arith}
+use Rattle.std.proofs.Common.{◌≡◌, ◌<◌, ◌+◌, ◌-◌, ℕ, zero, suc, Bool, true, false, ◌||◌, IsTrue}
+use Rattle.std.proofs.Common.{if◌then◌else◌, Some, List, [], ◌∷◌, ◌++◌, map, length, get_or}
+use Rattle.std.proofs.Common.{refl, sym, ap, subst, ◌∙◌, arith}
 use Rattle.std.specs.List.{range_with_len, All, slice_get}
 use Rattle.std.proofs.lemmas.List.{map-append, map-id, length_push, get_or_push}
+use Rattle.std.proofs.lemmas.List.Folds.{list_any-append}
 use Rattle.std.proofs.lemmas.List.Elements.{All-push, All-filter, All-weaker}
 use Rattle.std.proofs.lemmas.List.FromFn.{length-range_with_len, get_or-range_with_len, map-range_with_len_more}
 use Rattle.sm_num.specs.Forms.{Linear}
 use Rattle.sm_num.specs.FormLaws.{same_atom}
 use Rattle.sm_num.specs.Eliminating.{can_cancel}
-use Rattle.sm_fm.specs.Elimination.{Placed, Event, pairs, forms_without, placed_from, sums, events}
+use Rattle.sm_fm.specs.Elimination.{Placed, Event, same_form, pairs, forms_without, placed_from, sums, events}
+use Rattle.sm_fm.specs.declared.known.Known.{Known}
 use Rattle.sm_fm.specs.declared.roles.Role.TheVariants.{Without}
-use Rattle.sm_fm.specs.Places.{no_form, form_at, placed_at, both_at, plays, places_of, place_pairs, AreWithin, IsPair}
-use Rattle.sm_fm.specs.States.{later_atoms, after_sum, left_of, IsPairOf}
-use Rattle.sm_fm.proofs.PlaceLemmas.{map-filter, pairs_are, placed_are, map-agree, form_stays, placed_stays, pairs_cancel}
+use Rattle.sm_fm.specs.Known.{knows, Learns}
+use Rattle.sm_fm.specs.Places.{no_form, form_at, placed_at, both_at, plays, places_of, place_pairs, AreWithin}
+use Rattle.sm_fm.specs.States.{later_atoms, after_sum, left_of, IsPairOf, Lacks, KnowsStanding, stands_among}
+use Rattle.sm_fm.proofs.KnowingLemmas.{or_turns, same_form-sym}
+use Rattle.sm_fm.proofs.PlaceLemmas.{map-filter, pairs_are, placed_are, map-agree, form_stays, placed_stays, pairs_cancel, pairs_have}
 
 -- one more place
 pub range_more : (n : ℕ) → range_with_len 0 (n + 1) ≡ range_with_len 0 n ++ n ∷ []
@@ -74,11 +79,12 @@ later_within forms ns later t is within =
 
 -- the pairs of an atom
 pub pairs_of_atom : (forms : List (Linear ℕ)) (atoms t : ℕ) (ns : List ℕ) (ps : List (ℕ × ℕ)) → t < atoms → AreWithin (length forms) ns →
-    ps ≡ place_pairs t forms ns → All (IsPairOf forms atoms t) ps
-pairs_of_atom forms atoms t ns ps lt within is =
+    All (λ n. Lacks t (form_at forms n)) ns → ps ≡ place_pairs t forms ns → All (IsPairOf forms atoms t) ps
+pairs_of_atom forms atoms t ns ps lt within clean is =
     subst (All (IsPairOf forms atoms t)) (sym is)
-    (All-weaker (IsPair forms t) (IsPairOf forms atoms t) (λ p pair. record { atom = lt; pair = pair }) (place_pairs t forms ns)
-    (pairs_cancel forms t ns within))
+    (λ k d here.
+    let lacks = pairs_have (λ n. Lacks t (form_at forms n)) forms t ns clean k d here in
+    record { atom = lt; pair = pairs_cancel forms t ns within k d here; first_lacks = lacks.0; second_lacks = lacks.1 })
 
 module _ (forms : List (Linear ℕ)) (h : Linear ℕ) where
   abbrev more_forms : List (Linear ℕ)
@@ -113,6 +119,8 @@ module _ (forms : List (Linear ℕ)) (h : Linear ℕ) where
               (subst (λ (g : Linear ℕ). IsTrue (can_cancel same_atom (form_at forms p.0) g t)) (sym (form_stays forms h p.1 second))
               is.pair.cancels);
         };
+        first_lacks = subst (Lacks t) (sym (form_stays forms h p.0 first)) is.first_lacks;
+        second_lacks = subst (Lacks t) (sym (form_stays forms h p.1 second)) is.second_lacks;
       }
 
   -- pairs stay pairs
@@ -128,19 +136,53 @@ module _ (forms : List (Linear ℕ)) (h : Linear ℕ) where
   last_placed : placed_at more_forms (length forms) ≡ record { place = length forms; form = h }
   last_placed = ap (λ (f : Linear ℕ). record { place = length forms; form = f }) (get_or_push forms h no_form (length forms) refl)
 
+  -- the forms that stand stay
+  places_stay : (ns : List ℕ) → AreWithin (length forms) ns → map (placed_at more_forms) ns ≡ map (placed_at forms) ns
+  places_stay ns within = map-agree (λ n. n < length forms) (placed_at more_forms) (placed_at forms) (placed_stays forms h) ns within
+
+  -- and with the last one there is one more
+  places_grow : (ns : List ℕ) → AreWithin (length forms) ns →
+      map (placed_at more_forms) (ns ++ length forms ∷ []) ≡ map (placed_at forms) ns ++ record { place = length forms; form = h } ∷ []
+  places_grow ns within =
+      map-append (placed_at more_forms) ns (length forms ∷ [])
+      ∙ ap (λ (l : List Placed). l ++ placed_at more_forms (length forms) ∷ []) (places_stay ns within)
+      ∙ ap (λ (p : Placed). map (placed_at forms) ns ++ p ∷ []) last_placed
+
   -- what is left where the form stands after the others
   pub kept_left : (ns : List ℕ) (atoms t more : ℕ) (ps : List (ℕ × ℕ)) → AreWithin (length forms) ns → All (IsPairOf forms atoms t) ps →
       left_of more_forms (ns ++ length forms ∷ []) t more ps
       ≡ after_sum forms t more ps (map (placed_at forms) ns ++ record { place = length forms; form = h } ∷ []) (suc (length forms))
   kept_left ns atoms t more ps within all =
-      ap (λ (l : List (Placed × Placed)). sums t l (later_atoms more t) (map (placed_at more_forms) (ns ++ length forms ∷ [])) (length more_forms))
-      (both_stay atoms t ps all)
+      let all_placed = map (placed_at more_forms) (ns ++ length forms ∷ []) in
+      ap (λ (l : List (Placed × Placed)). sums t l (later_atoms more t) all_placed (length more_forms)) (both_stay atoms t ps all)
       ∙ ap (λ (n : ℕ). after_sum forms t more ps (map (placed_at more_forms) (ns ++ length forms ∷ [])) n) grown
-      ∙ ap (λ (l : List Placed). after_sum forms t more ps l (suc (length forms)))
-      (map-append (placed_at more_forms) ns (length forms ∷ [])
-      ∙ ap (λ (l : List Placed). l ++ placed_at more_forms (length forms) ∷ [])
-      (map-agree (λ n. n < length forms) (placed_at more_forms) (placed_at forms) (placed_stays forms h) ns within)
-      ∙ ap (λ (p : Placed). map (placed_at forms) ns ++ p ∷ []) last_placed)
+      ∙ ap (λ (l : List Placed). after_sum forms t more ps l (suc (length forms))) (places_grow ns within)
+
+  -- those that stand have no earlier atom
+  pub clean_stays : (ns : List ℕ) (t : ℕ) → AreWithin (length forms) ns → All (λ n. Lacks t (form_at forms n)) ns →
+      All (λ n. Lacks t (form_at more_forms n)) ns
+  clean_stays ns t within clean = λ k d lt. subst (Lacks t) (sym (form_stays forms h (get_or ns k d) (within k d lt))) (clean k d lt)
+
+  pub clean_grows : (ns : List ℕ) (t : ℕ) → AreWithin (length forms) ns → All (λ n. Lacks t (form_at forms n)) ns → Lacks (suc t) h →
+      All (λ n. Lacks t (form_at more_forms n)) (ns ++ length forms ∷ [])
+  clean_grows ns t within clean lacks =
+      All-push (λ n. Lacks t (form_at more_forms n)) ns (length forms) (clean_stays ns t within clean)
+      (subst (Lacks t) (sym (ap (λ (p : Placed). p.form) last_placed)) (λ a lt. lacks a (omega arith)))
+
+  -- those that stand are known
+  pub knows_stays : (known : List Known) (ns : List ℕ) (t : ℕ) → AreWithin (length forms) ns → KnowsStanding known forms ns t →
+      KnowsStanding known more_forms ns t
+  knows_stays known ns t within knows =
+      λ g lacks. knows g lacks ∙ ap (λ (l : List Placed). stands_among l g) (sym (places_stay ns within))
+
+  pub knows_grows : (known all : List Known) (ns : List ℕ) (t : ℕ) → AreWithin (length forms) ns → KnowsStanding known forms ns t →
+      Learns known all h → KnowsStanding all more_forms (ns ++ length forms ∷ []) t
+  knows_grows known all ns t within knows learns = λ g lacks.
+      learns g ∙ ap (λ (b : Bool). same_form h g || b) (knows g lacks)
+      ∙ or_turns (same_form h g) (same_form g h) (stands_among (map (placed_at forms) ns) g) (same_form-sym h g)
+      ∙ sym
+      (list_any-append (λ (f : Placed). same_form g f.form) (map (placed_at forms) ns) (record { place = length forms; form = h } ∷ []))
+      ∙ ap (λ (l : List Placed). stands_among l g) (sym (places_grow ns within))
 
 -- an event list by the answers to its tests
 pub at_contradiction : (c n : Bool) (x y z : List Event) → c ≡ true → (if c then x else if n then y else z) ≡ x

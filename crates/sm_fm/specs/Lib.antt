@@ -1,4 +1,6 @@
 pub mod Elimination
+pub mod Known
+pub mod KnownLaws
 pub mod Places
 pub mod Solutions
 pub mod States

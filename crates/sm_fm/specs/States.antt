@@ -1,8 +1,9 @@
 -- Private: the state of an elimination, and what is left to happen from there.
-use Rattle.std.specs.Prelude.{◌≡◌, ◌<◌, ◌+◌, ℕ, suc, Bool, if◌then◌else◌, List, [], ◌∷◌, ◌++◌}
-use Rattle.std.specs.Prelude.{map, length, Result, Ok, Err}
-use Rattle.std.specs.List.{All}
-use Rattle.sm_num.specs.Forms.{Linear}
+use Rattle.std.specs.Prelude.{◌≡◌, ◌<◌, ◌+◌, ℕ, suc, pos, Bool, if◌then◌else◌, List, [], ◌∷◌}
+use Rattle.std.specs.Prelude.{◌++◌, map, length, Result, Ok, Err}
+use Rattle.std.specs.List.{All, list_any}
+use Rattle.sm_num.specs.Forms.{Linear, coefficient}
+use Rattle.sm_num.specs.FormLaws.{same_atom}
 use Rattle.sm_num.specs.Combining.{Outcome, Fits, Leaves}
 use Rattle.sm_num.specs.Eliminating.{eliminated}
 use Rattle.sm_num.specs.declared.error.NumError.{NumError}
@@ -12,8 +13,10 @@ use Rattle.sm_term.specs.declared.term.TermId.{TermId}
 use Rattle.sm_fm.specs.declared.step.ElimStep.{ElimStep}
 use Rattle.sm_fm.specs.declared.step.ElimStep.TheVariants.{Line, End}
 use Rattle.sm_fm.specs.declared.state.State.{State}
-use Rattle.sm_fm.specs.Elimination.{Event, Cancels, Next, sums, with_sum, taken_out}
-use Rattle.sm_fm.specs.Elimination.{forms_without}
+use Rattle.sm_fm.specs.Elimination.{Placed, Event, Cancels, Next, sums, with_sum, taken_out}
+use Rattle.sm_fm.specs.Elimination.{forms_without, same_form}
+use Rattle.sm_fm.specs.declared.known.Known.{Known}
+use Rattle.sm_fm.specs.Known.{knows}
 use Rattle.sm_fm.specs.Places.{form_at, placed_at, both_at, AreWithin, IsPair}
 use Rattle.sm_fm.specs.Taking.{Taking}
 
@@ -63,15 +66,35 @@ with_form s h =
           (suc n);
     }
 
--- a pair is of forms in which the atom at hand cancels, and it is one of so many
+-- a form has no atom below a number
+abbrev pub Lacks : ℕ → Linear ℕ → Type 0
+Lacks n h = (a : ℕ) → a < n → coefficient same_atom a h.parts ≡ pos 0
+
+-- whether a form is the same as one of some
+abbrev pub stands_among : List Placed → Linear ℕ → Bool
+stands_among forms h = list_any (λ f. same_form h f.form) forms
+
+-- of the forms without the atom at hand and those before it, those that stand are known
+abbrev pub KnowsStanding : List Known → List (Linear ℕ) → List ℕ → ℕ → Type 0
+KnowsStanding known forms standing t =
+    (h : Linear ℕ) → Lacks (suc t) h →
+    knows known h ≡ stands_among (map (placed_at forms) standing) h
+
+-- a pair is of forms in which the atom at hand cancels, which is one of so many, and which have no
+-- earlier one
 pub record IsPairOf (forms : List (Linear ℕ)) (atoms t : ℕ) (p : ℕ × ℕ) : Type 0 where
   pub atom : t < atoms
   pub pair : IsPair forms t p
+  pub first_lacks : Lacks t (form_at forms p.0)
+  pub second_lacks : Lacks t (form_at forms p.1)
 
--- the atoms that come later are among the atoms, and places among the forms
+-- the atoms that come later are among the atoms, and places among the forms; those that stand have
+-- no earlier atom, so a form that was dropped can't be the same as a new sum
 pub record IsSound (s : State) : Type 0 where
   pub later : 0 < s.more → s.atom + s.more < length s.atoms.list.items
   pub standing : AreWithin (length s.forms.items) s.standing.items
+  pub clean : All (λ n. Lacks s.atom (form_at s.forms.items n)) s.standing.items
+  pub known : KnowsStanding s.known.keys s.forms.items s.standing.items s.atom
   pub pairs : All (IsPairOf s.forms.items (length s.atoms.list.items) s.atom) s.pairs
 
 -- a sum that fits was dealt with

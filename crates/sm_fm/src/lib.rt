@@ -9,7 +9,7 @@
 //! - The elimination ends at the first contradiction, at the first operation that leaves the range
 //!   of linear forms, or when each atom was taken out.
 //! - `form` gives the form at a place, so that a caller can write each step as a line of a
-//!   certificate: of each step it is known that the atom cancels, and that the sum is that of `elim`.
+//!   certificate: in each step the atom cancels, and the sum is that of `elim`.
 //! - Where it ends with no contradiction and inside the range, whole numbers over one positive
 //!   denominator satisfy all the forms (`quiet_has_solution`).
 //!
@@ -21,6 +21,7 @@
 
 mod elimination;
 mod forms;
+mod known;
 mod laws;
 mod pairs;
 mod roles;

@@ -21,7 +21,8 @@ impl Model for Pairs {
     ghost Value = { List (ℕ × ℕ) };
 
     ghost view = { λ p.
-        crossed_from (drop p.first p.firsts.items) (drop p.second p.seconds.items) p.seconds.items };
+        crossed_from
+        (drop p.first p.firsts.items) (drop p.second p.seconds.items) p.seconds.items };
 
     ghost invariant = { λ p.
         (p.first ≤ length p.firsts.items)

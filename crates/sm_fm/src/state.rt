@@ -1,23 +1,27 @@
 // The state of an elimination, and its steps.
-ghost use Rattle.std.specs.Prelude.{◌≡◌, ◌≢◌, ◌<◌, ℕ, [], length, IfOk, IfErr, OnOk};
+ghost use Rattle.std.specs.Prelude.{◌≡◌, ◌≢◌, ◌<◌, ℕ, suc, [], ◌∷◌, ◌++◌, map, length};
+ghost use Rattle.std.specs.Prelude.{IfOk, IfErr, OnOk, OnErr};
 ghost use Rattle.std.specs.List.{range_with_len};
 ghost use Rattle.sm_num.specs.declared.error.NumError.TheVariants.{Memory};
 ghost use Rattle.sm_num.specs.Forms.{Linear};
 ghost use Rattle.sm_num.specs.Combining.{Outcome};
 ghost use Rattle.sm_num.specs.Errors.{Returns};
 ghost use Rattle.sm_fm.specs.declared.step.ElimStep.TheVariants as step;
-ghost use Rattle.sm_fm.specs.Elimination.{events};
+ghost use Rattle.sm_fm.specs.Elimination.{events, is_new};
+ghost use Rattle.sm_fm.specs.Known.{Learns};
+ghost use Rattle.sm_fm.specs.Places.{placed_at};
 ghost use Rattle.sm_fm.specs.Taking.{Gives};
-ghost use Rattle.sm_fm.specs.States.{events_left, taking, stopped, with_form, IsSound, TakesPair};
-ghost use Rattle.sm_fm.specs.States.{Settles, Finishes};
+ghost use Rattle.sm_fm.specs.States.{events_left, taking, stopped, with_form, Lacks, IsSound};
+ghost use Rattle.sm_fm.specs.States.{TakesPair, Settles, Finishes};
 
+use crate::known::{Known, know_all, learn};
 use crate::pairs::Pairs;
 use crate::roles::{Role, find_pairs, select};
-use crate::same::is_new;
 use crate::step::ElimStep;
 use sm_num::{LinForm, NumError, elim, is_contradiction};
 use sm_term::{TermId, Terms};
 use std::alloc::{AllocError, Global};
+use std::collections::HashSet;
 
 // The state of an elimination.
 #[derive(Debug, Drop)]
@@ -34,6 +38,8 @@ pub(crate) struct State {
     more: u64,
     // The pairs that are left in which it cancels.
     pairs: Pairs,
+    // All forms that were ever in the list.
+    known: HashSet<Known>,
 }
 
 impl State {
@@ -46,6 +52,7 @@ impl State {
             IfOk result (λ s. events_left s ≡ events forms.items atoms) }
     {
         let standing = places_below(alloc, forms.len() as u64)?;
+        let known = know_all(alloc, &forms)?;
         if atoms.list.is_empty() {
             return Ok(State {
                 atoms,
@@ -54,6 +61,7 @@ impl State {
                 atom: 0,
                 more: 0,
                 pairs: Pairs::none(alloc),
+                known,
             });
         }
         let pairs = find_pairs(alloc, &forms, &standing, 0)?;
@@ -65,6 +73,7 @@ impl State {
             atom: 0,
             more,
             pairs,
+            known,
         })
     }
 
@@ -112,8 +121,11 @@ impl State {
         let atom = self.atoms.list[self.atom as usize];
         let f = &self.forms[pair.0 as usize];
         let g = &self.forms[pair.1 as usize];
+        // Kept forms have ascending atoms.
+        let _first = f.parts().len();
+        let _second = g.parts().len();
         let sum = elim(alloc, f, g, self.atom);
-        self.finish(pair, atom, sum)
+        self.finish(alloc, pair, atom, sum)
     }
 
     // Takes the first pair.
@@ -129,17 +141,19 @@ impl State {
     // Deals with the sum of a pair, or with the operation that left the range.
     fn finish(
         &mut self,
+        alloc: Global,
         pair: (u64, u64),
         atom: TermId,
         sum: Result<LinForm, NumError>,
     ) -> Result<ElimStep, NumError>
-        requires { IsSound self.old }
+        requires sound { IsSound self.old }
+        requires lacks { IfOk sum (Lacks (suc self.old.atom)) }
         ensures sound { IsSound self.new }
         ensures finishes { (outcome : Outcome (Linear ℕ)) → Returns outcome sum →
             Finishes self.old self.new pair atom outcome result }
     {
         match sum {
-            Ok(h) => self.settle(pair, atom, h),
+            Ok(h) => self.settle(alloc, pair, atom, h),
             Err(e) => {
                 self.stop();
                 Err(e)
@@ -148,8 +162,15 @@ impl State {
     }
 
     // Deals with a sum that fits.
-    fn settle(&mut self, pair: (u64, u64), atom: TermId, h: LinForm) -> Result<ElimStep, NumError>
-        requires { IsSound self.old }
+    fn settle(
+        &mut self,
+        alloc: Global,
+        pair: (u64, u64),
+        atom: TermId,
+        h: LinForm,
+    ) -> Result<ElimStep, NumError>
+        requires sound { IsSound self.old }
+        requires lacks { Lacks (suc self.old.atom) h }
         ensures sound { IsSound self.new }
         ensures ok { IfOk result (Settles self.old self.new pair atom h) }
         ensures err { IfErr result (λ e. e ≡ Memory) }
@@ -158,22 +179,35 @@ impl State {
             self.stop();
             return Ok(line(pair, atom, false, true));
         }
-        if !is_new(&h, &self.forms, &self.standing) {
+        let sum = Known { form: h };
+        if !self.is_new(&sum) {
             return Ok(line(pair, atom, false, false));
         }
-        self.keep(h)?;
+        self.keep(alloc, sum)?;
         Ok(line(pair, atom, true, false))
     }
 
+    // Whether a sum that can hold is kept.
+    fn is_new(&self, sum: &Known) -> bool
+        requires sound { IsSound self.now }
+        requires lacks { Lacks (suc self.now.atom) sum.now.form }
+        ensures { let standing = map (placed_at self.now.forms.items) self.now.standing.items in
+            result ≡ is_new sum.now.form standing }
+    {
+        !sum.form.parts().is_empty() && !self.known.contains(sum)
+    }
+
     // Puts a form after the others.
-    fn keep(&mut self, h: LinForm) -> Result<(), AllocError>
-        requires { IsSound self.old }
+    fn keep(&mut self, alloc: Global, sum: Known) -> Result<(), AllocError>
+        requires sound { IsSound self.old }
+        requires lacks { Lacks (suc self.old.atom) sum.form }
         ensures sound { IsSound self.new }
-        ensures ok { OnOk result (taking self.new ≡ with_form self.old h) }
+        ensures ok { OnOk result (taking self.new ≡ with_form self.old sum.form) }
     {
         let place = self.forms.len() as u64;
-        self.forms.push(h)?;
-        self.standing.push(place)?;
+        let form = sum.form.copy(alloc)?;
+        self.forms.push(form)?;
+        stand(&mut self.standing, &mut self.known, place, sum)?;
         Ok(())
     }
 
@@ -198,6 +232,29 @@ fn line(pair: (u64, u64), atom: TermId, kept: bool, contradiction: bool) -> Elim
         atom,
         kept,
         contradiction,
+    }
+}
+
+// Lets a form at a place stand, and knows it; both or neither.
+fn stand(
+    standing: &mut Vec<u64>,
+    known: &mut HashSet<Known>,
+    place: u64,
+    sum: Known,
+) -> Result<(), AllocError>
+    ensures places { OnOk result (standing.new.items ≡ standing.old.items ++ place ∷ []) }
+    ensures learns { OnOk result (Learns known.old.keys known.new.keys sum.form) }
+    ensures err { OnErr result
+        ((standing.new.items ≡ standing.old.items) × (known.new.keys ≡ known.old.keys)) }
+{
+    let count = standing.len();
+    standing.push(place)?;
+    match learn(known, sum) {
+        Ok(()) => Ok(()),
+        Err(e) => {
+            standing.truncate(count);
+            Err(e)
+        }
     }
 }
 

@@ -4,6 +4,7 @@ use Rattle.sm_fm.specs.declared.roles.Role.TheVariants.{Without}
 use Rattle.sm_fm.specs.Elimination.{Event}
 use Rattle.sm_fm.specs.Places.{places_of, place_pairs}
 use Rattle.sm_fm.specs.States.{left_of}
+use Rattle.sm_fm.proofs.KnowingLemmas.{clean_goes_on, knows_goes_on}
 use Rattle.sm_fm.proofs.StateLemmas.{went_on, within_same, later_within, pairs_of_atom}
 use Rattle.sm_fm.proofs.state.State.go_on.Goals as goal
 
@@ -25,11 +26,15 @@ returns-clause-sound c =
     let pairs_is : c.in_ok-pairs.pairs ≡ place_pairs (s.atom + 1) s.forms.items c.in_ok-standing.standing.items =
     c.in_ok-pairs.ensures ∙ (λ k. place_pairs (s.atom + 1) (c.deref-3.ensures.value k) (c.deref-4.ensures.value k)) in
     let within = later_within s.forms.items s.standing.items c.in_ok-standing.standing.items s.atom later_is c.requires.sound.standing in
+    let clean = clean_goes_on s.forms.items s.standing.items c.in_ok-standing.standing.items s.atom later_is c.requires.sound.clean in
     record {
       later = λ more. omega arith;
       standing = within;
+      clean = clean;
+      known =
+          knows_goes_on s.known.keys s.forms.items s.standing.items c.in_ok-standing.standing.items s.atom later_is c.requires.sound.known;
       pairs = pairs_of_atom s.forms.items (length s.atoms.list.items) (s.atom + 1) c.in_ok-standing.standing.items c.in_ok-pairs.pairs
-          (omega arith) within pairs_is;
+          (omega arith) within clean pairs_is;
     }
 
 pub returns-clause-same : goal.returns-clause-same

@@ -6,7 +6,8 @@ use Rattle.sm_num.specs.FormLaws.{same_atom}
 use Rattle.sm_num.specs.Eliminating.{can_cancel, eliminated}
 use Rattle.sm_num.specs.Combining.{Outcome}
 use Rattle.sm_fm.specs.Places.{no_form, form_at}
-use Rattle.sm_fm.specs.States.{Finishes}
+use Rattle.sm_fm.specs.States.{Lacks, Finishes}
+use Rattle.sm_fm.proofs.KnowingLemmas.{sum_lacks}
 use Rattle.sm_fm.proofs.StateLemmas.{slice_get_is}
 use Rattle.sm_fm.proofs.StepLemmas.{gives_sum}
 use Rattle.sm_fm.proofs.state.State.sum.Goals as goal
@@ -21,6 +22,18 @@ elim-sum-requires c =
     let second : c.index-g.result.now ≡ form_at mid.forms.items p.1 =
     get_or_read mid.forms.items p.1 c.index-g.result.now pair.second c.index-g.ensures no_form in
     subst (λ (b : Linear ℕ × Linear ℕ). IsTrue (can_cancel same_atom b.0 b.1 mid.atom)) (sym (λ k. (first k, second k))) pair.cancels
+
+pub finish-requires-clause-lacks : goal.finish-requires-clause-lacks
+finish-requires-clause-lacks c =
+    let mid = c.take_pair-pair.new.self in
+    let p = c.take_pair-pair.result in
+    let pair = c.take_pair-pair.ensures.takes.pair in
+    let first : c.index-f.result.now ≡ form_at mid.forms.items p.0 =
+    get_or_read mid.forms.items p.0 c.index-f.result.now pair.pair.first c.index-f.ensures no_form in
+    let second : c.index-g.result.now ≡ form_at mid.forms.items p.1 =
+    get_or_read mid.forms.items p.1 c.index-g.result.now pair.pair.second c.index-g.ensures no_form in
+    sum_lacks c.index-f.result.now c.index-g.result.now mid.atom c.elim-sum.result c.parts-first.ensures.kept c.parts-second.ensures.kept
+    (subst (Lacks mid.atom) (sym first) pair.first_lacks) (subst (Lacks mid.atom) (sym second) pair.second_lacks) c.elim-sum.ensures
 
 pub returns-clause-gives : goal.returns-clause-gives
 returns-clause-gives c =

@@ -12,6 +12,8 @@ returns-clause-sound c =
     record {
       later = c.requires.sound.later;
       standing = c.requires.sound.standing;
+      clean = c.requires.sound.clean;
+      known = c.requires.sound.known;
       pairs = All-tail P c.take.result c.take.new.self (subst (All P) c.take.ensures c.requires.sound.pairs);
     }
 

@@ -1,5 +1,6 @@
--- Two forms are the same where they are equal.
-use Rattle.std.proofs.Common.{◌≡◌, ◌==◌, ◌&&◌, ℕ, ℤ, List, [], ◌∷◌, refl, ap}
+-- Private: two forms are the same where they are equal, so they are found alike.
+use Rattle.std.proofs.Common.{◌≡◌, ◌==◌, ◌&&◌, ℕ, ℤ, true, List, [], ◌∷◌, ◌++◌}
+use Rattle.std.proofs.Common.{refl, ap}
 use Rattle.std.specs.Ordering.{int_eq}
 use Rattle.std.specs.Bool.{Decides}
 use Rattle.std.proofs.lemmas.Bool.Decides.{Decides-and, Decides-eqb, Decides-int_eq}
@@ -7,6 +8,11 @@ use Rattle.sm_num.specs.declared.kind.Kind.{Kind}
 use Rattle.sm_num.specs.declared.kind.Kind.TheVariants.{Le, Eq}
 use Rattle.sm_num.specs.Forms.{Linear}
 use Rattle.sm_fm.specs.Elimination.{same_list, same_kind, same_form}
+use Rattle.std.specs.Cmp.{IsEquivalence}
+use Rattle.sm_term.specs.RowLaws.{equivalence_by}
+use Rattle.sm_fm.specs.declared.known.Known.{Known}
+use Rattle.sm_fm.specs.Known.{same_known, hashed}
+use Rattle.std.specs.Hash as fed
 
 -- two parts are equal where their atoms and coefficients are
 pub pair_decides : (p q : ℕ × ℤ) → Decides ((p.0 == q.0) && int_eq p.1 q.1) (p ≡ q)
@@ -41,7 +47,8 @@ same_kind-Decides Eq Eq = (λ h. refl, λ e. refl)
 -- and two forms
 pub same_form-Decides : (f g : Linear ℕ) → Decides (same_form f g) (f ≡ g)
 same_form-Decides f g =
-    let rest = Decides-and _ _ (Decides-int_eq f.constant g.constant) (same_kind-Decides f.kind g.kind) in
+    let numbers = Decides-int_eq f.constant g.constant in
+    let rest = Decides-and _ _ numbers (same_kind-Decides f.kind g.kind) in
     let all = Decides-and _ _ (same_list-Decides f.parts g.parts) rest in (
       λ h. let e = all.0 h in λ k. record { parts = e.0 k; constant = e.1.0 k; kind = e.1.1 k },
       λ e. all.1 (
@@ -49,3 +56,17 @@ same_form-Decides f g =
         (ap (λ (r : Linear ℕ). r.constant) e, ap (λ (r : Linear ℕ). r.kind) e),
       ),
     )
+
+-- so sameness is an equivalence
+pub same_known-equiv : IsEquivalence same_known
+same_known-equiv =
+    equivalence_by same_known (λ (x : Known). x.form) (λ x y. same_form-Decides x.form y.form)
+
+-- what is hashed of a form
+abbrev hashed_of : Linear ℕ → List (List ℕ)
+hashed_of f = fed.slice (λ p. fed.u64 p.0 ++ fed.i128 p.1) f.parts ++ fed.i128 f.constant
+
+-- and the same forms are hashed alike
+pub same_known-hashed : (x y : Known) → same_known x y ≡ true → hashed x ≡ hashed y
+unfolding hashed
+same_known-hashed x y h = ap hashed_of ((same_form-Decides x.form y.form).0 h)
