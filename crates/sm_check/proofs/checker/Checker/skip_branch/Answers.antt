@@ -18,7 +18,7 @@ returns c = λ s p first rest at is.
       (
         at.2.0,
         walk_skipped c.args.self.now.walk c.make_due.new.walk p first rest at.2.1 is made.table made.nodes made.terms made.forms
-        made.pending,
+            made.pending,
       ),
     ) in
     (on, c.state.ensures s (Underway q) on)
