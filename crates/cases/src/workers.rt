@@ -9,6 +9,7 @@ use std::fs;
 use std::rt::Files;
 use std::sync::atomic::{AtomicBool, AtomicU64, Ordering};
 use std::test::Fail;
+use std::thread::Threads;
 
 // Job i is to say 3 times i.
 struct Triples;
@@ -124,14 +125,14 @@ const EDITS_IN_A_LOOP: &str = "var i, n; array a, c, out, log; output out, log; 
      candidate { ?1 { out[i] = a[i] + 1; } ?2 { log[i] = c[i] + i; } }";
 
 // How a command ends over the files t and p with two workers, and whether two jobs of a phase met.
-fn run_by_two(
-    rt: HostRuntime,
+fn run_by_two<R: Threads + Sync>(
+    rt: &R,
+    alloc: Global,
     words: &[&str],
     phase: Phase,
     task: &str,
     proof: &str,
 ) -> Result<(Status, bool), Fail> {
-    let alloc = rt.alloc();
     let gate = Meet {
         phase,
         entered: AtomicU64::new(0),
@@ -145,14 +146,14 @@ fn run_by_two(
         given.push(String::from_str(alloc, word)?)?;
     }
     let mut out = MemSink::new(alloc);
-    let status = safemerge(&rt, alloc, &gate, &given, &mut shelf, &mut out);
+    let status = safemerge(rt, alloc, &gate, &given, &mut shelf, &mut out);
     Ok((status, gate.met.load(Ordering::SeqCst)))
 }
 
 #[test]
 fn two_trials_run_at_once(rt: HostRuntime) -> Result<(), Fail> {
     let words = ["check", "t", "--workers", "2"];
-    let seen = run_by_two(rt, &words, Phase::Trial, EDITS_IN_A_LOOP, "")?;
+    let seen = run_by_two(&rt, rt.alloc(), &words, Phase::Trial, EDITS_IN_A_LOOP, "")?;
     assert_eq!(rt; seen, (Status::Unknown, true));
     Ok(())
 }
@@ -160,7 +161,7 @@ fn two_trials_run_at_once(rt: HostRuntime) -> Result<(), Fail> {
 #[test]
 fn two_certificates_run_at_once(rt: HostRuntime) -> Result<(), Fail> {
     let words = ["verify", "t", "p", "--workers", "2"];
-    let seen = run_by_two(rt, &words, Phase::Certificate, EMPTY, SHORTEST)?;
+    let seen = run_by_two(&rt, rt.alloc(), &words, Phase::Certificate, EMPTY, SHORTEST)?;
     assert_eq!(rt; seen, (Status::Accepted, true));
     Ok(())
 }
