@@ -1,0 +1,104 @@
+-- Numbers of values in a list that has each once and grows at its end.
+use Rattle.std.proofs.Common.{◌≡◌, ℕ, zero, suc, Bool, true, false, ◌&&◌, List, [], ◌∷◌, ◌++◌, map}
+use Rattle.std.proofs.Common.{Some, slice_get, Decides, refl, sym, ap, ◌∙◌, if◌then◌else◌, true≢false}
+use Rattle.std.proofs.Common.{ℤ, ◌==◌, Vec, Global}
+use Rattle.std.specs.Ordering.{int_eq}
+use Rattle.std.specs.Cmp.Lexicographic.{pointwise}
+use Rattle.std.proofs.lemmas.Bool.Decides.{Decides-eqb, Decides-int_eq}
+use Rattle.std.proofs.lemmas.Slice.Eq.{slice_eq-Decides}
+use Rattle.std.specs.List.{list_any, IsDistinct, AllByRecursion}
+use Rattle.std.specs.Option.{option_map}
+use Rattle.std.proofs.lemmas.List.{append-nil, map-append}
+use Rattle.std.proofs.lemmas.Option.{slice_get-map}
+use Rattle.std.proofs.lemmas.Map.Keys.{IsDistinct-head, IsDistinct-tail}
+use Rattle.indexmap.specs.IndexSet.{insert_key}
+use Rattle.sm_cc.specs.Numbered.{StandApart, IsLonger}
+
+-- what stands in a list stands there when it is longer
+pub slice_get-longer : {A : Type 0} (old new : List A) → IsLonger old new → (n : ℕ) (x : A) → slice_get old n ≡ Some x → slice_get new n
+    ≡ Some x
+slice_get-longer {A} old new longer n x e = ap (λ (l : List A). slice_get l n) longer.1 ∙ by old n e
+  where
+    by : (l : List A) (n : ℕ) → slice_get l n ≡ Some x → slice_get (l ++ longer.0) n ≡ Some x
+    by [] n e = absurd cc
+    by (y ∷ l) zero e = e
+    by (y ∷ l) (suc n) e = by l n e
+
+-- a list is as long as itself
+pub longer_itself : {A : Type 0} (list : List A) → IsLonger list list
+longer_itself list = ([], sym (append-nil list))
+
+-- twice longer
+pub longer_twice : {A : Type 0} (one two three : List A) → IsLonger one two → IsLonger two three → IsLonger one three
+longer_twice {A} one two three p q =
+    (p.0 ++ q.0, q.1 ∙ ap (λ (l : List A). l ++ q.0) p.1 ∙ assoc one p.0 q.0)
+  where
+    assoc : (a b c : List A) → (a ++ b) ++ c ≡ a ++ (b ++ c)
+    assoc [] b c = refl
+    assoc (x ∷ a) b c = ap (λ (l : List A). x ∷ l) (assoc a b c)
+
+module _ {K A : Type 0} (eq : K → K → Bool) (f : K → A) (decides : (x y : K) → Decides (eq x y) (f x ≡ f y)) where
+  -- keys with one more are longer
+  pub longer_inserted : (ks : List K) (k : K) → IsLonger (map f ks) (map f (insert_key eq ks k))
+  longer_inserted ks k = by (list_any (eq k) ks) refl
+    where
+      by : (b : Bool) → list_any (eq k) ks ≡ b → IsLonger (map f ks) (map f (insert_key eq ks k))
+      by true e = ([], ap (λ (b : Bool). map f (if b then ks else ks ++ k ∷ [])) e ∙ sym (append-nil (map f ks)))
+      by false e = (f k ∷ [], ap (λ (b : Bool). map f (if b then ks else ks ++ k ∷ [])) e ∙ map-append f ks (k ∷ []))
+
+  -- a key that differs from all others has a value of its own
+  differs : (k : K) (ks : List K) (j : ℕ) → AllByRecursion (λ y. eq k y ≡ false) ks → slice_get (map f ks) j ≡ Some (f k) → ⊥
+  differs k [] j all e = absurd cc
+  differs k (y ∷ ks) zero all e = let same : f y ≡ f k = cc in true≢false (sym ((decides k y).1 (sym same)) ∙ all.0)
+  differs k (y ∷ ks) (suc j) all e = differs k ks j all.1 e
+
+  -- the values of distinct keys stand once
+  pub apart_from_distinct : (ks : List K) → IsDistinct eq ks → StandApart (map f ks)
+  apart_from_distinct [] d i j x e g = absurd cc
+  apart_from_distinct (k ∷ ks) d zero zero x e g = refl
+  apart_from_distinct (k ∷ ks) d zero (suc j) x e g =
+      absurd (differs k ks j (IsDistinct-head eq k ks d) (g ∙ sym e))
+  apart_from_distinct (k ∷ ks) d (suc i) zero x e g =
+      absurd (differs k ks i (IsDistinct-head eq k ks d) (e ∙ sym g))
+  apart_from_distinct (k ∷ ks) d (suc i) (suc j) x e g =
+      ap suc (apart_from_distinct ks (IsDistinct-tail eq k ks d) i j x e g)
+
+  -- the value of a key that is stored
+  pub value_stored : (ks : List K) (k : K) (n : ℕ) → (s : K) × (slice_get ks n ≡ Some s) × (eq k s ≡ true) → slice_get (map f ks) n
+      ≡ Some (f k)
+  value_stored ks k n stored =
+      slice_get-map f ks n ∙ ap (option_map f) stored.1 ∙ ap Some (sym ((decides k stored.0).0 stored.2))
+
+-- the program's lists of parts
+abbrev pub Parts : Type 0
+Parts = Vec (ℕ × ℤ) Global
+
+-- the parts of a list
+abbrev pub parts_of : Parts → List (ℕ × ℤ)
+parts_of v = v.items
+
+-- whether two parts are equal
+abbrev pub same_part : ℕ × ℤ → ℕ × ℤ → Bool
+same_part p q = (p.0 == q.0) && int_eq p.1 q.1
+
+-- whether two lists of parts are equal
+abbrev pub same_list : Parts → Parts → Bool
+same_list v w = pointwise same_part v.items w.items
+
+-- two parts are equal where their atoms and coefficients are
+same_part-Decides : (p q : ℕ × ℤ) → Decides (same_part p q) (p ≡ q)
+same_part-Decides p q = by (p.0 == q.0) (int_eq p.1 q.1) (Decides-eqb p.0 q.0) (Decides-int_eq p.1 q.1)
+  where
+    by : (a b : Bool) → Decides a (p.0 ≡ q.0) → Decides b (p.1 ≡ q.1) → Decides (a && b) (p ≡ q)
+    by true b e d = (
+      λ (t : b ≡ true). ap (λ (n : ℕ). (n, p.1)) (e.0 refl) ∙ ap (λ (z : ℤ). (q.0, z)) (d.0 t),
+      λ (both : p ≡ q). d.1 (ap (λ (r : ℕ × ℤ). r.1) both),
+    )
+    by false b e d = (
+      λ (t : false ≡ true). absurd cc,
+      λ (both : p ≡ q). e.1 (ap (λ (r : ℕ × ℤ). r.0) both),
+    )
+
+-- so are lists
+pub same_list-Decides : (v w : Parts) → Decides (same_list v w) (parts_of v ≡ parts_of w)
+same_list-Decides v w = slice_eq-Decides same_part-Decides v.items w.items (same_list v w) refl

@@ -1,0 +1,240 @@
+-- Rows of single terms stand together for the terms.
+use Rattle.std.proofs.Common.{◌≡◌, ℕ, ℤ, ◌==◌, ◌<◌, ◌≤◌, zero, suc, nat_eq, Bool, true, false, ◌&&◌, List, [], ◌∷◌, ◌++◌, map, length}
+use Rattle.std.proofs.Common.{slice_get}
+use Rattle.std.proofs.Common.{Option, Some, None, Decides, refl, sym, ap, ◌∙◌, subst}
+use Rattle.std.proofs.Common.{⊎_elim, inl, inr, ◌⊎◌, get_or}
+use Rattle.std.specs.Option.{option_map}
+use Rattle.std.proofs.lemmas.Option.{slice_get-map, slice_get-get_or}
+use Rattle.std.specs.Cmp.Lexicographic.{pointwise}
+use Rattle.std.proofs.lemmas.Bool.Decides.{Decides-and, Decides-eqb, same_from_decides}
+use Rattle.std.proofs.lemmas.Slice.Eq.{bytes_eq-Decides}
+use Rattle.sm_syntax.specs.text.Sorts.{Sorts}
+use Rattle.sm_term.specs.declared.term.TermId.{TermId}
+use Rattle.sm_term.specs.declared.term.Term.{Term}
+use Rattle.sm_term.specs.declared.term.Term.TheVariants as row
+use Rattle.sm_term.specs.Rows.{names_in_list, same_numbers}
+use Rattle.sm_term.specs.RowLaws.{Contents, same_numbers-Decides}
+use Rattle.sm_term.specs.Terms.{Tree}
+use Rattle.sm_term.specs.Heads.{same_head, arguments_of}
+use Rattle.sm_term.specs.Tables.{TableValue, trees_in, sorts_in, codes_in, tree_at, AreBefore}
+use Rattle.sm_term.specs.TableLaws.{AreCodesApart}
+use Rattle.sm_theory.specs.LinearTerms.{linear_of}
+use Rattle.sm_theory.specs.Arithmetic.{is_numeric, same_parts, compared_forms}
+use Rattle.sm_theory.proofs.LinearLater.{same_parts_stand}
+use Rattle.sm_euf.specs.Arguments.{argument_numbers, have_one_head, trees_of}
+use Rattle.sm_euf.proofs.ArgumentsLemmas.{trees_have_one_head, arguments_are, parts_before}
+use Rattle.sm_cc.specs.declared.row.Row.{Row}
+use Rattle.sm_cc.specs.declared.row.Shape.{Shape}
+use Rattle.sm_cc.specs.declared.positions.Positions.{Positions}
+use Rattle.sm_cc.specs.Classes.{if_there}
+use Rattle.sm_cc.specs.Rows.{one_head}
+use Rattle.sm_cc.specs.Standing.{place_of, RowsStand}
+use Rattle.sm_cc.specs.Numbered.{StandApart, IsLonger, head_of, IsHeadAt, IsShapeAt}
+use Rattle.sm_cc.specs.Positions.{place_at, ArePositions}
+use Rattle.sm_cc.specs.RowOf.{HasTree, IsRowOf}
+use Rattle.sm_cc.proofs.NumberedLemmas.{slice_get-longer}
+
+-- whether two heads hold the same
+same_heads : Option Contents → Option Contents → Bool
+same_heads None d = false
+same_heads (Some c) None = false
+same_heads (Some c) (Some d) = same_numbers c.0 d.0 && (pointwise nat_eq c.1 d.1 && pointwise nat_eq c.2 d.2)
+
+-- terms have one head exactly where their heads hold the same
+heads_are : (t u : Term) → same_heads (head_of t) (head_of u) ≡ have_one_head t u
+unfolding same_heads
+heads_are (row.Fun b x from args) (row.Fun c y names parts) =
+    by (b.0 == c.0) (x.0 == y.0) (pointwise nat_eq (names_in_list from.list.items) (names_in_list names.list.items))
+  where
+    by : (p q r : Bool) → (p && (q && true)) && (r && true) ≡ (p && (q && r))
+    by true true true = refl
+    by true true false = refl
+    by true false r = refl
+    by false q r = refl
+heads_are (row.Read a i) (row.Read b j) = refl
+heads_are (row.Write a i d) (row.Write b j e) = refl
+heads_are (row.Neg p) (row.Neg q) = refl
+heads_are (row.Add p q) (row.Add r s) = refl
+heads_are (row.Sub p q) (row.Sub r s) = refl
+heads_are (row.Mul p q) (row.Mul r s) = refl
+heads_are t u = refl
+
+-- the test is exact
+contents-Decides : (c d : Contents) → Decides (same_numbers c.0 d.0 && (pointwise nat_eq c.1 d.1 && pointwise nat_eq c.2 d.2)) (c ≡ d)
+contents-Decides c d =
+    let lists = Decides-and _ _ (bytes_eq-Decides c.1 d.1) (bytes_eq-Decides c.2 d.2) in
+    let all = Decides-and _ _ (same_numbers-Decides c.0 d.0) lists in (
+      λ h. let e = all.0 h in λ k. (e.0 k, e.1.0 k, e.1.1 k),
+      λ e. all.1 (
+        ap (λ (k : Contents). k.0) e,
+        (ap (λ (k : Contents). k.1) e, ap (λ (k : Contents). k.2) e),
+      ),
+    )
+
+-- numbers of heads are equal exactly where the heads are
+numbers_are : (heads : List Contents) → StandApart heads → (c d : Option Contents) (m n : Option ℕ) → IsHeadAt heads c m →
+    IsHeadAt heads d n →
+    if_there m (λ (h : ℕ). if_there n (λ (k : ℕ). h == k)) ≡ same_heads c d
+unfolding same_heads
+numbers_are heads apart None d None n at of = refl
+numbers_are heads apart None d (Some m) n at of = absurd at
+numbers_are heads apart (Some c) d None n at of = absurd at
+numbers_are heads apart (Some c) None (Some m) None at of = refl
+numbers_are heads apart (Some c) None (Some m) (Some n) at of = absurd of
+numbers_are heads apart (Some c) (Some d) (Some m) None at of = absurd of
+numbers_are heads apart (Some c) (Some d) (Some m) (Some n) at of =
+    same_from_decides (m == n) (same_heads (Some c) (Some d)) (Decides-eqb m n) (
+      λ h. apart m n c at (of ∙ ap Some (sym ((contents-Decides c d).0 h))),
+      λ (e : m ≡ n). (contents-Decides c d).1 (some_is c d (sym at ∙ ap (slice_get heads) e ∙ of)),
+    )
+  where
+    some_is : (c d : Contents) → Some c ≡ Some d → c ≡ d
+    some_is c d e = cc
+
+-- so rows tell whether the terms have one head
+pub heads_stand : (table : TableValue) → AreCodesApart (codes_in table) → (heads : List Contents) → StandApart heads →
+    (term other : Term) (t u : Tree) → HasTree table term t → HasTree table other u → (r s : Row) →
+    IsHeadAt heads (head_of term) r.head → IsHeadAt heads (head_of other) s.head → one_head r s ≡ same_head t u
+heads_stand table codes heads apart term other t u one two r s at of =
+    numbers_are heads apart (head_of term) (head_of other) r.head s.head at of
+    ∙ heads_are term other
+    ∙ trees_have_one_head (sorts_in table) (codes_in table) (trees_in table) codes one.place two.place term other one.within two.within
+    one.fits two.fits t u one.tree two.tree
+
+-- a form that is compared with another
+shapes_are : (sorts : Sorts) (trees : List Tree) (parts : List (List (ℕ × ℤ))) → StandApart parts → (t u : Tree) (test : ℤ → ℤ → Bool)
+    (m n : Option Shape) → IsShapeAt sorts trees parts t m → IsShapeAt sorts trees parts u n →
+    if_there m (λ (f : Shape). if_there n (λ (g : Shape). (f.parts == g.parts) && test f.constant g.constant))
+    ≡ compared_forms sorts t u test
+shapes_are sorts trees parts apart t u test None n at of =
+    sym (ap (λ (b : Bool). b &&
+    (is_numeric sorts u && (same_parts (linear_of t) (linear_of u) && test (linear_of t).constant (linear_of u).constant))) at)
+shapes_are sorts trees parts apart t u test (Some f) None at of =
+    sym (
+    ap (λ (b : Bool). b &&
+    (is_numeric sorts u && (same_parts (linear_of t) (linear_of u) && test (linear_of t).constant (linear_of u).constant))) at.0
+    ∙ ap (λ (b : Bool). b && (same_parts (linear_of t) (linear_of u) && test (linear_of t).constant (linear_of u).constant)) of
+    )
+shapes_are sorts trees parts apart t u test (Some f) (Some g) at of =
+    let F = linear_of t in
+    let G = linear_of u in
+    let law = same_parts_stand trees at.1.0 of.1.0 F G at.1.1 of.1.1 in
+    let first : f.constant ≡ F.constant = at.1.3 ∙ at.1.1.stands.constant in
+    let second : g.constant ≡ G.constant = of.1.3 ∙ of.1.1.stands.constant in
+    let same : (f.parts == g.parts) ≡ same_parts F G =
+    same_from_decides (f.parts == g.parts) (same_parts F G) (Decides-eqb f.parts g.parts) (
+      λ (h : same_parts F G ≡ true). apart f.parts g.parts at.1.0.parts at.1.2 (of.1.2 ∙ ap Some (sym (law.0 h))),
+      λ (e : f.parts ≡ g.parts). law.1 (some_is at.1.0.parts of.1.0.parts (sym at.1.2 ∙ ap (slice_get parts) e ∙ of.1.2)),
+    ) in
+    ap (λ (b : Bool). b && test f.constant g.constant) same
+    ∙ ap (λ (z : ℤ). same_parts F G && test z g.constant) first
+    ∙ ap (λ (z : ℤ). same_parts F G && test F.constant z) second
+    ∙ sym (
+    ap (λ (b : Bool). b && (is_numeric sorts u && (same_parts F G && test F.constant G.constant))) at.0
+    ∙ ap (λ (b : Bool). b && (same_parts F G && test F.constant G.constant)) of.0
+    )
+  where
+    some_is : (c d : List (ℕ × ℤ)) → Some c ≡ Some d → c ≡ d
+    some_is c d e = cc
+
+-- a row stays one where more is numbered
+pub row_later : (table : TableValue) (terms : List Tree) (heads more : List Contents) (parts others : List (List (ℕ × ℤ))) (t : Tree)
+    (r : Row) →
+    IsLonger heads more → IsLonger parts others → IsRowOf table terms heads parts t r → IsRowOf table terms more others t r
+row_later table terms heads more parts others t r longer wider is = record {
+  term = is.term;
+  tree = is.tree;
+  arguments = is.arguments;
+  element = is.element;
+  head = by (head_of is.term) r.head is.head;
+  shape = form r.shape is.shape;
+}
+  where
+    by : (c : Option Contents) (n : Option ℕ) → IsHeadAt heads c n → IsHeadAt more c n
+    by None None at = tt
+    by None (Some n) at = absurd at
+    by (Some c) None at = absurd at
+    by (Some c) (Some n) at = slice_get-longer heads more longer n c at
+
+    form : (o : Option Shape) → IsShapeAt (sorts_in table) (trees_in table) parts t o →
+        IsShapeAt (sorts_in table) (trees_in table) others t o
+    form None at = at
+    form (Some s) at = (at.0, (at.1.0, at.1.1, slice_get-longer parts others wider s.parts at.1.0.parts at.1.2, at.1.3))
+
+-- rows of single terms stand for them all
+pub rows_stand : (table : TableValue) → AreCodesApart (codes_in table) →
+    (terms : List Tree) (heads : List Contents) (parts : List (List (ℕ × ℤ))) →
+    StandApart heads → StandApart parts → (rows : List Row) → length rows ≡ length terms →
+    ((i : ℕ) (r : Row) (t : Tree) → slice_get rows i ≡ Some r → slice_get terms i ≡ Some t → IsRowOf table terms heads parts t r) →
+    RowsStand (sorts_in table) terms rows
+rows_stand table codes terms heads parts one two rows count each = record {
+  count = count;
+  arguments = λ i r t f g. (each i r t f g).arguments;
+  element = λ i r t f g. (each i r t f g).element;
+  heads = λ i j r s t u f g h k.
+      let p = each i r t f g in
+      let q = each j s u h k in
+      heads_stand table codes heads one p.term q.term t u p.tree q.tree r s p.head q.head;
+  shapes = λ i j r s t u test f g h k.
+      shapes_are (sorts_in table) (trees_in table) parts two t u test r.shape s.shape (each i r t f g).shape (each j s u h k).shape;
+}
+
+-- the places of the arguments are those of their terms
+pub arguments_stand : (table : TableValue) (terms : List Tree) (p : Positions) → ArePositions (trees_in table) terms p →
+    (term : Term) (t : Tree) (is : HasTree table term t) → is.place ≤ length (trees_in table) →
+    (places : List ℕ) → places ≡ map (λ (a : TermId). place_at p a.0) (argument_numbers term) → places
+    ≡ map (place_of terms) (arguments_of t)
+arguments_stand table terms p are term t is low places e =
+    let trees = trees_in table in
+    let before = parts_before (sorts_in table) (length (codes_in table)) is.place (length trees) low term is.within in
+    e ∙ by (argument_numbers term) before
+    ∙ ap (map (place_of terms)) (sym (arguments_are (sorts_in table) (codes_in table) trees term is.fits) ∙ ap arguments_of is.tree)
+  where
+    by : (list : List TermId) → AreBefore (length (trees_in table)) list →
+        map (λ (a : TermId). place_at p a.0) list ≡ map (place_of terms) (trees_of (trees_in table) list)
+    by [] before = refl
+    by (a ∷ list) before =
+        ap (λ (n : ℕ). n ∷ map (λ (a : TermId). place_at p a.0) list) (are.places a.0 before.0)
+        ∙ ap (λ (ns : List ℕ). place_of terms (tree_at (trees_in table) a.0) ∷ ns) (by list before.1)
+
+-- each row is that of the term at its place
+abbrev pub AreRowsOf : TableValue → List Tree → List Contents → List (List (ℕ × ℤ)) → List Row → Type 0
+AreRowsOf table terms heads parts rows =
+    (i : ℕ) (r : Row) (t : Tree) → slice_get rows i ≡ Some r → slice_get terms i ≡ Some t → IsRowOf table terms heads parts t r
+
+-- what stands in a list with one more at its end
+pub pushed : {A : Type 0} (xs : List A) (x y : A) (k : ℕ) → slice_get (xs ++ x ∷ []) k ≡ Some y →
+    (slice_get xs k ≡ Some y) ⊎ ((k ≡ length xs) × (x ≡ y))
+pushed [] x y zero e = inr (refl, cc)
+pushed [] x y (suc k) e = absurd cc
+pushed (z ∷ xs) x y zero e = inl e
+pushed (z ∷ xs) x y (suc k) e =
+    ⊎_elim (λ (h : slice_get xs k ≡ Some y). inl h)
+    (λ (h : (k ≡ length xs) × (x ≡ y)). inr (ap suc h.0, h.1))
+    (pushed xs x y k e)
+
+-- one row more
+pub rows_more : (table : TableValue) (ids : List TermId) (heads more : List Contents) (parts others : List (List (ℕ × ℤ)))
+    (rows : List Row) (next : Row) (i : ℕ) (d : TermId) → length rows ≡ i → i < length ids →
+    IsLonger heads more → IsLonger parts others → AreRowsOf table (trees_of (trees_in table) ids) heads parts rows →
+    IsRowOf table (trees_of (trees_in table) ids) more others (tree_at (trees_in table) (get_or ids i d).0) next →
+    AreRowsOf table (trees_of (trees_in table) ids) more others (rows ++ next ∷ [])
+rows_more table ids heads more parts others rows next i d count inside longer wider each new k r t f g =
+    let terms = trees_of (trees_in table) ids in
+    ⊎_elim (λ (h : slice_get rows k ≡ Some r). row_later table terms heads more parts others t r longer wider (each k r t h g))
+    (λ (h : (k ≡ length rows) × (next ≡ r)).
+    let place : k ≡ i = h.0 ∙ count in
+    let there : slice_get terms i ≡ Some (tree_at (trees_in table) (get_or ids i d).0) =
+    slice_get-map (λ (x : TermId). tree_at (trees_in table) x.0) ids i
+    ∙ ap (option_map (λ (x : TermId). tree_at (trees_in table) x.0)) (slice_get-get_or ids i d inside) in
+    let same = some_is _ _ (sym there ∙ ap (slice_get terms) (sym place) ∙ g) in
+    subst (λ (x : Tree). IsRowOf table terms more others x r) same
+    (subst (λ (x : Row). IsRowOf table terms more others (tree_at (trees_in table) (get_or ids i d).0) x) h.1 new))
+    (pushed rows next r k f)
+  where
+    some_is : (c d : Tree) → Some c ≡ Some d → c ≡ d
+    some_is c d e = cc
+
+-- nothing stands in no list twice
+pub none_apart : {A : Type 0} (list : List A) → list ≡ [] → StandApart list
+none_apart {A} list none i j x e f = let wrong : None ≡ Some x = ap (λ (l : List A). slice_get l i) (sym none) ∙ e in absurd cc

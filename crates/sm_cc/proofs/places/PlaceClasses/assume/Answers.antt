@@ -1,0 +1,14 @@
+use Rattle.std.proofs.Common.{refl, sym, subst}
+use Rattle.sm_cc.specs.declared.closure.Closure.{Closure}
+use Rattle.sm_cc.specs.declared.log.Given.{Given}
+use Rattle.sm_cc.specs.Closures.{IsSound}
+use Rattle.sm_cc.proofs.PlacesLemmas.{sound_equal}
+use Rattle.sm_cc.proofs.places.PlaceClasses.assume.Goals as goal
+
+pub settle-requires : goal.settle-requires
+settle-requires c =
+    let old = c.replace-inside.result in
+    let new : Closure = record old { equal = c.push.new.self } in
+    let g : Given = record { fact = c.args.fact; left = c.args.i; right = c.args.j } in
+    sound_equal old new g (subst IsSound (sym c.replace-inside.ensures.value) c.self.invariant.sound) c.in_ok-push.ensures.items refl
+    refl refl refl

@@ -1,0 +1,8 @@
+-- What was passed is settled, or entries were added.
+use Rattle.std.proofs.Common.{ℕ, ◌<◌}
+use Rattle.sm_cc.specs.declared.closure.Closure.{Closure}
+use Rattle.sm_cc.specs.Settled.{Tries, IsElementSettled}
+use Rattle.sm_cc.proofs.rounds.relate_elements.Given as goal
+
+abbrev pub invariant-loop-i : goal.invariant-loop-i
+invariant-loop-i l = Tries (λ (d : Closure). (m : ℕ) → m < l.i → IsElementSettled m d) l.fn.c l.c

@@ -1,0 +1,9 @@
+-- No place that was passed differs.
+use Rattle.std.proofs.Common.{◌≡◌, ℕ, ◌<◌, ◌&&◌, false}
+use Rattle.sm_cc.specs.Rows.{places_differ}
+use Rattle.sm_cc.specs.Closures.{board_of, are_together}
+use Rattle.sm_cc.proofs.witness.find_other.Given as goal
+
+abbrev pub invariant-loop-q : goal.invariant-loop-q
+invariant-loop-q l =
+    (m : ℕ) → m < l.q → (are_together l.c.roots.items m l.j && places_differ (board_of l.c) l.p m) ≡ false

@@ -1,0 +1,34 @@
+-- Private: classes of places that are exact.
+use Rattle.std.specs.Prelude.{ℕ, List, [], ◌∷◌, ◌++◌}
+use Rattle.sm_cc.specs.declared.row.Row.{Row}
+use Rattle.sm_cc.specs.declared.closure.Closure.{Closure}
+use Rattle.sm_cc.specs.Rows.{ArePlacesClosed}
+use Rattle.sm_cc.specs.Log.{Placed}
+use Rattle.sm_cc.specs.Closures.{IsSound, board_of, are_together}
+
+-- classes follow from what is given, and no rule brings more
+pub record IsExact (c : Closure) : Type 0 where
+  pub sound : IsSound c
+  pub closed : ArePlacesClosed (board_of c) (are_together c.roots.items)
+
+-- the rows, of which nothing is given
+abbrev pub nothing_given : List Row → Placed
+nothing_given rows = record {
+  board = record { rows = rows; equal = []; unequal = [] };
+  equal_facts = [];
+  unequal_facts = [];
+}
+
+-- two places are given to be equal, last of all
+abbrev pub with_equal : Placed → ℕ → ℕ → ℕ → Placed
+with_equal v fact i j = record v {
+  board = record v.board { equal = v.board.equal ++ (i, j) ∷ [] };
+  equal_facts = v.equal_facts ++ fact ∷ [];
+}
+
+-- two places are given not to be equal, last of all
+abbrev pub with_unequal : Placed → ℕ → ℕ → ℕ → Placed
+with_unequal v fact i j = record v {
+  board = record v.board { unequal = v.board.unequal ++ (i, j) ∷ [] };
+  unequal_facts = v.unequal_facts ++ fact ∷ [];
+}

@@ -1,0 +1,17 @@
+pub mod Assumed
+pub mod Causes
+pub mod Classes
+pub mod Closures
+pub mod Exact
+pub mod Explained
+pub mod Explaining
+pub mod Log
+pub mod Merges
+pub mod Numbered
+pub mod Positions
+pub mod RowOf
+pub mod Rows
+pub mod Settled
+pub mod Standing
+pub mod Steps
+pub mod Views

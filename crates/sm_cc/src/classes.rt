@@ -1,0 +1,248 @@
+// Classes of equal terms, by what is given of them.
+ghost use Rattle.std.specs.Prelude.{◌≡◌, ◌↔◌, ◌<◌, ◌^◌, IsTrue, IfOk, OnOk, OnErr};
+ghost use Rattle.std.specs.Prelude.{[], ◌∷◌, ◌++◌, length, map};
+ghost use Rattle.sm_term.specs.Tables.{trees_in, sorts_in, tree_at, AreBefore};
+ghost use Rattle.sm_theory.specs.Views.{line_in};
+ghost use Rattle.sm_cc.specs.Classes.{Same, Apart};
+ghost use Rattle.sm_cc.specs.Views.{setting_of, IsTermOf};
+ghost use Rattle.sm_cc.specs.Views.{HaveOneSort, with_given, no_terms};
+ghost use Rattle.sm_cc.specs.Views.{equation_under, contrary_under, equation_of, numbers_of};
+ghost use Rattle.sm_cc.specs.Explained.{Explain, AreLinesOf};
+ghost use Rattle.sm_cc.specs.Assumed.{with_fact};
+
+use crate::lines::lines;
+use crate::places::PlaceClasses;
+use crate::positions::Positions;
+use crate::rows::rows;
+use sm_term::{TermId, TermTable, Terms};
+use sm_theory::CertLine;
+use std::alloc::{AllocError, Global};
+use std::marker::Model;
+
+/// A fact that is given: that two terms are equal, or that they aren't.
+#[derive(Clone, Copy, Debug)]
+pub struct GivenFact {
+    pub number: u64,
+    pub are_equal: bool,
+    pub left: TermId,
+    pub right: TermId,
+}
+
+/// Classes of terms of a table: which are equal by the rules of equality, arrays and linear forms,
+/// and by what is given. Of a term that isn't in the list nothing is known.
+#[derive(Drop)]
+pub struct Classes<'a> {
+    table: &'a TermTable,
+    terms: &'a [TermId],
+    given: Vec<GivenFact>,
+    positions: Positions,
+    places: PlaceClasses,
+}
+
+impl<'a> Model for Classes<'a> {
+    ghost use Rattle.std.specs.Coded.{codes};
+    ghost use Rattle.sm_syntax.specs.contracts.tree.Block as block;
+    ghost use Rattle.sm_cc.specs.Views.{ClassesValue};
+    ghost use Rattle.sm_cc.specs.Assumed.{AreClasses};
+
+    ghost Value = { ClassesValue };
+
+    ghost coded = { Prim.hlevel (codes, block.the_row.coded) };
+
+    ghost view = { λ c. record {
+      table = c.table.now;
+      terms = c.terms.now;
+      given = c.given.items;
+    } };
+
+    ghost invariant = { λ c.
+        let v : ClassesValue =
+        record { table = c.table.now; terms = c.terms.now; given = c.given.items } in
+        AreClasses v c.positions c.places };
+}
+
+impl<'a> Classes<'a> {
+    /// The classes of terms of which nothing is given.
+    pub fn new(
+        alloc: Global,
+        table: &'a TermTable,
+        terms: &'a Terms,
+    ) -> Result<Classes<'a>, AllocError>
+        requires { AreBefore (length (trees_in table.now)) terms.now.list.items }
+        ensures { IfOk result (λ c.
+            c ≡ record { table = table.now; terms = terms.now.list.items; given = [] }) }
+    {
+        let positions = Positions::of(alloc, table, &terms.list)?;
+        let rows = rows(alloc, table, &positions, &terms.list)?;
+        Ok(Classes {
+            table,
+            terms: &terms.list,
+            given: Vec::new(alloc),
+            positions,
+            places: PlaceClasses::new(alloc, rows)?,
+        })
+    }
+
+    /// It is given that two terms are equal, by the fact with a number. After want of memory no
+    /// terms are left.
+    pub fn assume(
+        &mut self,
+        alloc: Global,
+        number: u64,
+        t: TermId,
+        u: TermId,
+    ) -> Result<(), AllocError>
+        requires left { IsTermOf self.old t }
+        requires right { IsTermOf self.old u }
+        requires sorts { HaveOneSort self.old.table t u }
+        ensures given { OnOk result (self.new ≡ with_given self.old (equation_under number t u)) }
+        ensures err { OnErr result (self.new ≡ no_terms self.old.table) }
+    {
+        self.give(
+            alloc,
+            GivenFact {
+                number,
+                are_equal: true,
+                left: t,
+                right: u,
+            },
+        )
+    }
+
+    /// It is given that two terms aren't equal, by the fact with a number. After want of memory no
+    /// terms are left.
+    pub fn assume_apart(
+        &mut self,
+        alloc: Global,
+        number: u64,
+        t: TermId,
+        u: TermId,
+    ) -> Result<(), AllocError>
+        requires left { IsTermOf self.old t }
+        requires right { IsTermOf self.old u }
+        requires sorts { HaveOneSort self.old.table t u }
+        ensures given { OnOk result (self.new ≡ with_given self.old (contrary_under number t u)) }
+        ensures err { OnErr result (self.new ≡ no_terms self.old.table) }
+    {
+        self.give(
+            alloc,
+            GivenFact {
+                number,
+                are_equal: false,
+                left: t,
+                right: u,
+            },
+        )
+    }
+
+    // A fact is given.
+    fn give(&mut self, alloc: Global, g: GivenFact) -> Result<(), AllocError>
+        requires left { IsTermOf self.old g.left }
+        requires right { IsTermOf self.old g.right }
+        requires sorts { HaveOneSort self.old.table g.left g.right }
+        ensures given { OnOk result (self.new ≡ with_given self.old g) }
+        ensures err { OnErr result (self.new ≡ no_terms self.old.table) }
+    {
+        let i = self.positions.place(g.left);
+        let j = self.positions.place(g.right);
+        match note(alloc, &mut self.given, &mut self.places, g, i, j) {
+            Ok(()) => Ok(()),
+            Err(e) => {
+                self.terms = &[];
+                self.given = Vec::new(alloc);
+                self.positions = Positions::none(alloc);
+                self.places = PlaceClasses::none(alloc);
+                Err(e)
+            }
+        }
+    }
+
+    /// Whether two terms are in one class.
+    pub fn same(&self, t: TermId, u: TermId) -> bool
+        requires left { t.0 < length (trees_in self.now.table) }
+        requires right { u.0 < length (trees_in self.now.table) }
+        ensures { let trees = trees_in self.now.table in
+            IsTrue result ↔ Same (setting_of self.now) (tree_at trees t.0) (tree_at trees u.0) }
+    {
+        self.places
+            .same(self.positions.place(t), self.positions.place(u))
+    }
+
+    /// Whether two terms are known apart.
+    pub fn apart(&self, t: TermId, u: TermId) -> bool
+        requires left { t.0 < length (trees_in self.now.table) }
+        requires right { u.0 < length (trees_in self.now.table) }
+        ensures { let trees = trees_in self.now.table in
+            IsTrue result ↔ Apart (setting_of self.now) (tree_at trees t.0) (tree_at trees u.0) }
+    {
+        self.places
+            .apart(self.positions.place(t), self.positions.place(u))
+    }
+
+    /// Lines that explain why two terms of a class are equal. On each branch of `start` facts that
+    /// has the given ones under their numbers they add facts, the last of which is the equation. The
+    /// terms that they name are in the list.
+    pub fn explain(
+        &self,
+        alloc: Global,
+        t: TermId,
+        u: TermId,
+        start: u64,
+    ) -> Result<Vec<CertLine>, AllocError>
+        requires left { t.0 < length (trees_in self.now.table) }
+        requires right { u.0 < length (trees_in self.now.table) }
+        requires same { let trees = trees_in self.now.table in
+            Same (setting_of self.now) (tree_at trees t.0) (tree_at trees u.0) }
+        requires small { start < 2 ^ 63 }
+        ensures named { IfOk result (λ v. AreLinesOf self.now.terms v.items) }
+        ensures lines { IfOk result (λ v.
+            Explain (sorts_in self.now.table) (numbers_of self.now) (setting_of self.now).given start
+            (map (line_in (trees_in self.now.table)) v.items) (equation_of self.now.table t u)) }
+    {
+        // Each term of a table is well sorted, as its length ensures.
+        self.table.len();
+        let i = self.positions.place(t);
+        let j = self.positions.place(u);
+        let steps = self.places.explain(alloc, i, j, start)?;
+        let lines = lines(alloc, self.terms, &steps)?;
+        Ok(lines)
+    }
+}
+
+// A fact is given of terms and of their places.
+fn note(
+    alloc: Global,
+    given: &mut Vec<GivenFact>,
+    places: &mut PlaceClasses,
+    g: GivenFact,
+    i: u64,
+    j: u64,
+) -> Result<(), AllocError>
+    requires left { i < length places.old.board.rows }
+    requires right { j < length places.old.board.rows }
+    ensures given { OnOk result (given.new.items ≡ given.old.items ++ g ∷ []) }
+    ensures places { OnOk result (places.new ≡ with_fact places.old g i j) }
+{
+    relate(alloc, places, g, i, j)?;
+    given.push(g)?;
+    Ok(())
+}
+
+// A fact is given of two places.
+fn relate(
+    alloc: Global,
+    places: &mut PlaceClasses,
+    g: GivenFact,
+    i: u64,
+    j: u64,
+) -> Result<(), AllocError>
+    requires left { i < length places.old.board.rows }
+    requires right { j < length places.old.board.rows }
+    ensures { OnOk result (places.new ≡ with_fact places.old g i j) }
+{
+    if g.are_equal {
+        places.assume(alloc, g.number, i, j)
+    } else {
+        places.assume_apart(alloc, g.number, i, j)
+    }
+}

@@ -1,0 +1,133 @@
+// Classes of equal places, by what is given of them.
+ghost use Rattle.std.specs.Prelude.{◌≡◌, ◌↔◌, ◌<◌, ◌^◌, [], IsTrue, IfOk, OnOk, OnErr, length};
+ghost use Rattle.sm_cc.specs.Rows.{SamePlaces, ApartPlaces};
+ghost use Rattle.sm_cc.specs.Log.{Placed};
+ghost use Rattle.sm_cc.specs.Steps.{ExplainPlaces};
+ghost use Rattle.sm_cc.specs.Exact.{nothing_given, with_equal, with_unequal};
+
+use crate::closure::{Closure, empty, unmerged};
+use crate::compare::together;
+use crate::explain::explanation;
+use crate::log::{Given, Step};
+use crate::rounds::settle;
+use crate::row::Row;
+use crate::witness::find_witness;
+use std::alloc::{AllocError, Global};
+use std::marker::Model;
+use std::mem;
+
+/// Classes of equal places.
+#[derive(Drop)]
+pub(crate) struct PlaceClasses {
+    inside: Closure,
+}
+
+impl Model for PlaceClasses {
+    ghost use Rattle.sm_cc.specs.Log.{Placed};
+    ghost use Rattle.sm_cc.specs.Closures.{placed_of};
+    ghost use Rattle.sm_cc.specs.Exact.{IsExact};
+
+    ghost Value = { Placed };
+
+    ghost view = { λ p. placed_of p.inside };
+
+    ghost invariant = { λ p. IsExact p.inside };
+}
+
+impl PlaceClasses {
+    /// No places.
+    pub(crate) fn none(alloc: Global) -> PlaceClasses
+        ensures { result ≡ nothing_given [] }
+    {
+        PlaceClasses {
+            inside: empty(alloc),
+        }
+    }
+
+    /// The classes of places with these rows, of which nothing is given.
+    pub(crate) fn new(alloc: Global, rows: Vec<Row>) -> Result<PlaceClasses, AllocError>
+        ensures { IfOk result (λ p. p ≡ nothing_given rows.items) }
+    {
+        let mut inside = unmerged(alloc, rows)?;
+        settle(alloc, &mut inside)?;
+        Ok(PlaceClasses { inside })
+    }
+
+    /// It is given under a number that two places are equal. After want of memory no places are
+    /// left.
+    pub(crate) fn assume(
+        &mut self,
+        alloc: Global,
+        fact: u64,
+        i: u64,
+        j: u64,
+    ) -> Result<(), AllocError>
+        requires left { i < length self.old.board.rows }
+        requires right { j < length self.old.board.rows }
+        ensures given { OnOk result (self.new ≡ with_equal self.old fact i j) }
+        ensures err { OnErr result (self.new ≡ nothing_given []) }
+    {
+        let mut inside = mem::replace(&mut self.inside, empty(alloc));
+        inside.equal.push(Given {
+            fact,
+            left: i,
+            right: j,
+        })?;
+        settle(alloc, &mut inside)?;
+        self.inside = inside;
+        Ok(())
+    }
+
+    /// The same, of two places that aren't equal.
+    pub(crate) fn assume_apart(
+        &mut self,
+        alloc: Global,
+        fact: u64,
+        i: u64,
+        j: u64,
+    ) -> Result<(), AllocError>
+        requires left { i < length self.old.board.rows }
+        requires right { j < length self.old.board.rows }
+        ensures given { OnOk result (self.new ≡ with_unequal self.old fact i j) }
+        ensures err { OnErr result (self.new ≡ nothing_given []) }
+    {
+        let mut inside = mem::replace(&mut self.inside, empty(alloc));
+        inside.unequal.push(Given {
+            fact,
+            left: i,
+            right: j,
+        })?;
+        settle(alloc, &mut inside)?;
+        self.inside = inside;
+        Ok(())
+    }
+
+    /// Whether two places are in one class.
+    pub(crate) fn same(&self, i: u64, j: u64) -> bool
+        ensures { IsTrue result ↔ SamePlaces self.now.board i j }
+    {
+        together(&self.inside, i, j)
+    }
+
+    /// Whether two places are known apart.
+    pub(crate) fn apart(&self, i: u64, j: u64) -> bool
+        ensures { IsTrue result ↔ ApartPlaces self.now.board i j }
+    {
+        find_witness(&self.inside, i, j).is_some()
+    }
+    /// Steps, of which the first has the number `start`, that explain why two places are equal. The
+    /// last says that they are.
+    pub(crate) fn explain(
+        &self,
+        alloc: Global,
+        i: u64,
+        j: u64,
+        start: u64,
+    ) -> Result<Vec<Step>, AllocError>
+        requires same { SamePlaces self.now.board i j }
+        requires small { start < 2 ^ 63 }
+        ensures { IfOk result (λ v. ExplainPlaces self.now start v.items i j) }
+    {
+        explanation(alloc, &self.inside, i, j, start)
+    }
+}

@@ -1,0 +1,180 @@
+// Where terms stand in a list, by their numbers.
+ghost use Rattle.std.specs.Prelude.{◌≡◌, ◌<◌, ℕ, List, [], length, map, nat_eq, IfOk, OnOk};
+ghost use Rattle.std.specs.HashMap.{get};
+ghost use Rattle.sm_term.specs.Terms.{Tree};
+ghost use Rattle.sm_term.specs.Tables.{trees_in, tree_at, AreBefore};
+ghost use Rattle.sm_euf.specs.Arguments.{argument_numbers};
+ghost use Rattle.sm_cc.specs.Standing.{element_of};
+ghost use Rattle.sm_cc.specs.Views.{trees_of};
+ghost use Rattle.sm_cc.specs.Positions.{place_at, read_at, ArePositions};
+ghost use Rattle.sm_cc.specs.Positions.{first_or, same_pair, is_read, written_element};
+
+use crate::row::Element;
+use sm_term::{Term, TermId, TermTable};
+use std::alloc::{AllocError, Global};
+use std::collections::HashMap;
+
+/// The first places of the terms of a list, by their numbers.
+#[derive(Debug, Drop)]
+pub(crate) struct Positions {
+    terms: HashMap<u64, u64>,
+    // the elements that are read, by the numbers of the array and of the index
+    reads: HashMap<(u64, u64), u64>,
+    // the place of every term that isn't in the list
+    count: u64,
+}
+
+impl Positions {
+    /// The places of terms of a table.
+    pub(crate) fn of(
+        alloc: Global,
+        table: &TermTable,
+        terms: &[TermId],
+    ) -> Result<Positions, AllocError>
+        requires { AreBefore (length (trees_in table.now)) terms.now }
+        ensures { let trees = trees_in table.now in
+            IfOk result (λ p. ArePositions trees (trees_of trees terms.now) p) }
+    {
+        // A table has no term twice, as its length ensures.
+        table.len();
+        let mut places = HashMap::new(alloc);
+        let mut reads = HashMap::new(alloc);
+        for i in 0..terms.len() {
+            note_term(&mut places, terms[i], i as u64)?;
+            note_read(&mut reads, table.get(terms[i]), i as u64)?;
+        }
+        Ok(Positions {
+            terms: places,
+            reads,
+            count: terms.len() as u64,
+        })
+    }
+
+    /// The places of no terms.
+    pub(crate) fn none(alloc: Global) -> Positions
+        ensures { (trees : List Tree) → ArePositions trees [] result }
+    {
+        Positions {
+            terms: HashMap::new(alloc),
+            reads: HashMap::new(alloc),
+            count: 0,
+        }
+    }
+
+    /// The place of a term.
+    pub(crate) fn place(&self, t: TermId) -> u64
+        ensures { result ≡ place_at self.now t.0 }
+    {
+        match self.terms.get(&t.0) {
+            Some(place) => *place,
+            None => self.count,
+        }
+    }
+
+    // The place of the element of an array at an index.
+    fn read(&self, a: TermId, i: TermId) -> u64
+        ensures { result ≡ read_at self.now a.0 i.0 }
+    {
+        match self.reads.get(&(a.0, i.0)) {
+            Some(place) => *place,
+            None => self.count,
+        }
+    }
+
+    /// The places of a term's arguments.
+    pub(crate) fn arguments(&self, alloc: Global, t: &Term) -> Result<Vec<u64>, AllocError>
+        ensures { IfOk result (λ v.
+            v.items ≡ map (λ a. place_at self.now a.0) (argument_numbers t.now)) }
+    {
+        match t {
+            Term::Neg(a) => self.places(alloc, &[*a]),
+            Term::Read(a, b) => self.places(alloc, &[*a, *b]),
+            Term::Add(a, b) => self.places(alloc, &[*a, *b]),
+            Term::Sub(a, b) => self.places(alloc, &[*a, *b]),
+            Term::Mul(a, b) => self.places(alloc, &[*a, *b]),
+            Term::Write(a, b, e) => self.places(alloc, &[*a, *b, *e]),
+            Term::Fun { args, .. } => self.places(alloc, &args.list),
+            Term::Lit(_) | Term::Start(_) | Term::Cell => Ok(Vec::new(alloc)),
+            Term::Havoc { .. } | Term::Slot { .. } => Ok(Vec::new(alloc)),
+        }
+    }
+
+    // The places of some terms.
+    fn places(&self, alloc: Global, list: &[TermId]) -> Result<Vec<u64>, AllocError>
+        ensures { IfOk result (λ v. v.items ≡ map (λ a. place_at self.now a.0) list.now) }
+    {
+        let mut places = Vec::new(alloc);
+        for t in list {
+            places.push(self.place(*t))?;
+        }
+        Ok(places)
+    }
+
+    /// What a term reads, where it is an element of an array to which one was written.
+    pub(crate) fn element(&self, table: &TermTable, t: TermId) -> Option<Element>
+        requires { t.0 < length (trees_in table.now) }
+        ensures { let trees = trees_in table.now in (terms : List Tree) →
+            ArePositions trees terms self.now → result ≡ element_of terms (tree_at trees t.0) }
+    {
+        match table.get(t) {
+            Term::Read(a, i) => self.written(table, *a, *i),
+            _ => None,
+        }
+    }
+
+    // The same of the array and the index that are read.
+    fn written(&self, table: &TermTable, a: TermId, i: TermId) -> Option<Element>
+        requires array { a.0 < length (trees_in table.now) }
+        requires index { i.0 < length (trees_in table.now) }
+        ensures { let trees = trees_in table.now in (terms : List Tree) →
+            ArePositions trees terms self.now →
+            result ≡ written_element terms (tree_at trees a.0) (tree_at trees i.0) }
+    {
+        match table.get(a) {
+            Term::Write(before, index, element) => Some(Element {
+                index: self.place(*index),
+                written: self.place(*element),
+                other: self.place(i),
+                before: self.read(*before, i),
+            }),
+            _ => None,
+        }
+    }
+}
+
+// Notes the place of a term, unless one is known.
+fn note_term(places: &mut HashMap<u64, u64>, t: TermId, place: u64) -> Result<(), AllocError>
+    ensures { OnOk result ((n : ℕ) → get nat_eq places.new n
+        ≡ first_or (get nat_eq places.old n) (nat_eq t.0 n) place) }
+{
+    if !places.contains_key(&t.0) {
+        places.insert(t.0, place)?;
+    }
+    Ok(())
+}
+
+// Notes the place of a term that reads an element, unless one is known.
+fn note_read(reads: &mut HashMap<(u64, u64), u64>, t: &Term, place: u64) -> Result<(), AllocError>
+    ensures { OnOk result ((a i : ℕ) → get same_pair reads.new (a, i)
+        ≡ first_or (get same_pair reads.old (a, i)) (is_read t.now a i) place) }
+{
+    if let Term::Read(a, i) = t {
+        note_pair(reads, (a.0, i.0), place)?;
+    }
+    Ok(())
+}
+
+// Notes the place of the term that reads an element, unless one is known.
+fn note_pair(
+    reads: &mut HashMap<(u64, u64), u64>,
+    pair: (u64, u64),
+    place: u64,
+) -> Result<(), AllocError>
+    ensures { OnOk result ((a i : ℕ) → get same_pair reads.new (a, i)
+        ≡ first_or (get same_pair reads.old (a, i)) (same_pair pair (a, i)) place) }
+{
+    if !reads.contains_key(&pair) {
+        reads.insert(pair, place)?;
+    }
+    Ok(())
+}

@@ -1,0 +1,173 @@
+// The rules are applied until they bring nothing more.
+ghost use Rattle.std.specs.Prelude.{◌≡◌, ◌<◌, OnOk, length};
+ghost use Rattle.sm_cc.specs.Rows.{ArePlacesClosed};
+ghost use Rattle.sm_cc.specs.Closures.{IsSound, Grows, board_of, placed_of, are_together};
+ghost use Rattle.sm_cc.specs.Settled.{IsSettledAt, IsSettledThere, AreGivenSettled, IsReadSettled};
+ghost use Rattle.sm_cc.specs.Settled.{IsElementSettled, AreElementsSettled, AreSinglesSettled};
+ghost use Rattle.sm_cc.specs.Settled.{ArePairSettled, ArePairsSettled, AllPairsSettled, AreSettled};
+ghost use Rattle.sm_cc.specs.Settled.{Tries};
+ghost use Rattle.sm_cc.specs.Causes.{IsCauseOf};
+
+use crate::cause::{Cause, cause_of, pair_cause};
+use crate::closure::Closure;
+use crate::compare::together;
+use crate::derive::derive;
+use crate::merge::merge;
+use crate::row::Element;
+use std::alloc::{AllocError, Global};
+
+// Two places that are equal come into one class.
+fn apply(alloc: Global, c: &mut Closure, cause: Cause, i: u64, j: u64) -> Result<(), AllocError>
+    requires sound { IsSound c.old }
+    requires cause { IsCauseOf (placed_of c.old) (are_together c.old.roots.items) cause i j }
+    ensures grows { OnOk result (Grows c.old c.new) }
+    ensures more { OnOk result (length c.old.entries.items < length c.new.entries.items) }
+{
+    let e = derive(alloc, c, cause, i, j)?;
+    merge(c, e)
+}
+
+// Two places come into one class, if a rule says so.
+fn relate(alloc: Global, c: &mut Closure, i: u64, j: u64) -> Result<(), AllocError>
+    requires sound { IsSound c.old }
+    requires left { i < length c.old.rows.items }
+    requires right { j < length c.old.rows.items }
+    ensures { OnOk result (Tries (IsSettledAt i j) c.old c.new) }
+{
+    if together(c, i, j) {
+        return Ok(());
+    }
+    match cause_of(c, i, j) {
+        Some(cause) => apply(alloc, c, cause, i, j),
+        None => Ok(()),
+    }
+}
+
+// The same, if both places are there.
+fn relate_there(alloc: Global, c: &mut Closure, i: u64, j: u64) -> Result<(), AllocError>
+    requires sound { IsSound c.old }
+    ensures { OnOk result (Tries (IsSettledThere i j) c.old c.new) }
+{
+    let count = c.rows.len() as u64;
+    if i < count && j < count {
+        return relate(alloc, c, i, j);
+    }
+    Ok(())
+}
+
+// The same for the places that were given to be equal.
+fn relate_given(alloc: Global, c: &mut Closure) -> Result<(), AllocError>
+    requires { IsSound c.old }
+    ensures { OnOk result (Tries AreGivenSettled c.old c.new) }
+{
+    for k in 0..c.equal.len() {
+        let g = c.equal[k];
+        relate_there(alloc, c, g.left, g.right)?;
+    }
+    Ok(())
+}
+
+// The same for an element that is read, what was written and what stood there before.
+fn relate_element(alloc: Global, c: &mut Closure, i: u64) -> Result<(), AllocError>
+    requires sound { IsSound c.old }
+    requires there { i < length c.old.rows.items }
+    ensures { OnOk result (Tries (IsElementSettled i) c.old c.new) }
+{
+    match c.rows[i as usize].element {
+        Some(e) => relate_read(alloc, c, e, i),
+        None => Ok(()),
+    }
+}
+
+// The same for a place, what was written and what stood there before.
+fn relate_read(alloc: Global, c: &mut Closure, e: Element, i: u64) -> Result<(), AllocError>
+    requires sound { IsSound c.old }
+    ensures { OnOk result (Tries (IsReadSettled e i) c.old c.new) }
+{
+    relate_there(alloc, c, i, e.written)?;
+    relate_there(alloc, c, i, e.before)
+}
+
+// The same for all elements that are read.
+fn relate_elements(alloc: Global, c: &mut Closure) -> Result<(), AllocError>
+    requires { IsSound c.old }
+    ensures { OnOk result (Tries AreElementsSettled c.old c.new) }
+{
+    for i in 0..c.rows.len() {
+        relate_element(alloc, c, i as u64)?;
+    }
+    Ok(())
+}
+
+// Two places come into one class, if their forms or their arguments are equal.
+fn relate_rows(alloc: Global, c: &mut Closure, i: u64, j: u64) -> Result<(), AllocError>
+    requires sound { IsSound c.old }
+    requires left { i < length c.old.rows.items }
+    requires right { j < length c.old.rows.items }
+    ensures { OnOk result (Tries (ArePairSettled i j) c.old c.new) }
+{
+    if together(c, i, j) {
+        return Ok(());
+    }
+    match pair_cause(c, i, j) {
+        Some(cause) => apply(alloc, c, cause, i, j),
+        None => Ok(()),
+    }
+}
+
+// The same for a place and each one before it.
+fn relate_before(alloc: Global, c: &mut Closure, i: u64) -> Result<(), AllocError>
+    requires sound { IsSound c.old }
+    requires there { i < length c.old.rows.items }
+    ensures { OnOk result (Tries (ArePairsSettled i) c.old c.new) }
+{
+    for j in 0..i {
+        relate_rows(alloc, c, i, j)?;
+    }
+    Ok(())
+}
+
+// The same for each two places.
+fn relate_pairs(alloc: Global, c: &mut Closure) -> Result<(), AllocError>
+    requires { IsSound c.old }
+    ensures { OnOk result (Tries AllPairsSettled c.old c.new) }
+{
+    for i in 0..c.rows.len() {
+        relate_before(alloc, c, i as u64)?;
+    }
+    Ok(())
+}
+
+// Applies the rules that look at single places.
+fn relate_single(alloc: Global, c: &mut Closure) -> Result<(), AllocError>
+    requires { IsSound c.old }
+    ensures { OnOk result (Tries AreSinglesSettled c.old c.new) }
+{
+    relate_given(alloc, c)?;
+    relate_elements(alloc, c)
+}
+
+// Applies each rule once wherever it can give something.
+fn round(alloc: Global, c: &mut Closure) -> Result<(), AllocError>
+    requires { IsSound c.old }
+    ensures { OnOk result (Tries AreSettled c.old c.new) }
+{
+    relate_single(alloc, c)?;
+    relate_pairs(alloc, c)
+}
+
+/// Places come into one class until no rule brings more.
+pub(crate) fn settle(alloc: Global, c: &mut Closure) -> Result<(), AllocError>
+    requires { IsSound c.old }
+    ensures grows { OnOk result (Grows c.old c.new) }
+    ensures closed { let equal = are_together c.new.roots.items in
+        OnOk result (ArePlacesClosed (board_of c.new) equal) }
+{
+    loop {
+        let count = c.entries.len();
+        round(alloc, c)?;
+        if c.entries.len() == count {
+            return Ok(());
+        }
+    }
+}

@@ -1,0 +1,64 @@
+// The linear forms of numbers, with numbers for their parts.
+ghost use Rattle.std.specs.Prelude.{◌≡◌, ◌<◌, ℕ, ℤ, [], length, IfOk, map, Some, slice_get};
+ghost use Rattle.sm_term.specs.Tables.{trees_in, sorts_in, tree_at};
+ghost use Rattle.sm_cc.specs.Numbered.{StandApart, IsLonger, IsShapeAt, parts_met};
+
+use crate::row::Shape;
+use indexmap::IndexSet;
+use sm_syntax::Sort;
+use sm_term::{TermId, TermTable};
+use sm_theory::lin_of;
+use std::alloc::{AllocError, Global};
+
+/// The parts of the forms that were met, each list once.
+#[derive(Debug, Drop)]
+pub(crate) struct Shapes {
+    parts: IndexSet<Vec<(u64, i128)>>,
+}
+
+impl Shapes {
+    /// No forms.
+    pub(crate) fn new(alloc: Global) -> Shapes
+        ensures { result.parts.keys ≡ [] }
+    {
+        Shapes {
+            parts: IndexSet::new(alloc),
+        }
+    }
+
+    /// The form of a term, where it is a number. Parts that weren't met before get a new number.
+    pub(crate) fn shape(
+        &mut self,
+        alloc: Global,
+        table: &TermTable,
+        t: TermId,
+    ) -> Result<Option<Shape>, AllocError>
+        requires { t.0 < length (trees_in table.now) }
+        ensures longer { IsLonger (parts_met self.old) (parts_met self.new) }
+        ensures apart { StandApart (parts_met self.old) → StandApart (parts_met self.new) }
+        ensures shape { let trees = trees_in table.now in
+            IfOk result (λ o.
+            IsShapeAt (sorts_in table.now) trees (parts_met self.new) (tree_at trees t.0) o) }
+    {
+        if table.sort(t) != Sort::Num {
+            return Ok(None);
+        }
+        let form = lin_of(alloc, table, t)?;
+        let parts = self.number(alloc, form.parts())?;
+        Ok(Some(Shape {
+            parts,
+            constant: form.constant(),
+        }))
+    }
+
+    // The number of a list of parts.
+    fn number(&mut self, alloc: Global, parts: &[(u64, i128)]) -> Result<u64, AllocError>
+        ensures longer { IsLonger (parts_met self.old) (parts_met self.new) }
+        ensures apart { StandApart (parts_met self.old) → StandApart (parts_met self.new) }
+        ensures number { IfOk result (λ n. slice_get (parts_met self.new) n ≡ Some parts.now) }
+    {
+        let list = Vec::from_slice(alloc, parts)?;
+        let (index, _) = self.parts.insert_full(list)?;
+        Ok(index as u64)
+    }
+}
