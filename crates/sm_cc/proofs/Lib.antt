@@ -3,6 +3,7 @@ pub mod ClassesLemmas
 pub mod ClosuresLemmas
 pub mod ExplainLemmas
 pub mod ExplainingLemmas
+pub mod FirstsLemmas
 pub mod GivenLemmas
 pub mod InsideLemmas
 pub mod LinesLemmas

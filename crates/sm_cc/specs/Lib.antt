@@ -5,10 +5,12 @@ pub mod Closures
 pub mod Exact
 pub mod Explained
 pub mod Explaining
+pub mod Firsts
 pub mod Log
 pub mod Merges
 pub mod Numbered
 pub mod Positions
+pub mod Rounds
 pub mod RowOf
 pub mod Rows
 pub mod Settled

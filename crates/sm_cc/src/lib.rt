@@ -1,13 +1,21 @@
 //! Classes of equal terms: congruence closure over terms of a table, with linear forms and arrays.
 //!
+//! - `Classes` takes facts one by one, each that two terms are equal or that they aren't, and
+//!   answers which terms are equal by what was given, and which are known apart.
 //! - Two terms are in one class exactly where each set of pairs has them that is closed under the
 //!   rules: what is given, terms of one linear form, equal arguments, an element that is read where
 //!   it was written or elsewhere, and what makes equality an equivalence.
 //! - They are known apart exactly where terms that equal them have a given contrary, or linear forms
 //!   that differ in the constant alone.
+//! - `explain` gives lines of a certificate for two terms of a class. On each branch of so many
+//!   facts that has the given ones under their numbers, the rules of these lines add facts, the last
+//!   of which is the equation. The lines name terms of the list alone. What is needed twice has one
+//!   line.
 //! - Of terms that aren't in the list nothing is known. After want of memory no terms are left.
 //!
-//! Read `specs/Classes.antt` first, then `specs/Views.antt`.
+//! Classes only become coarser: nothing that was given is taken back.
+//!
+//! Read `specs/Classes.antt` first, then `specs/Views.antt` and `specs/Explained.antt`.
 #![tactic(auto)]
 
 mod cause;
@@ -17,6 +25,7 @@ mod compare;
 mod derive;
 mod explain;
 mod heads;
+mod keys;
 mod lines;
 mod log;
 mod marks;

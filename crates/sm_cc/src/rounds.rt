@@ -1,20 +1,24 @@
 // The rules are applied until they bring nothing more.
-ghost use Rattle.std.specs.Prelude.{◌≡◌, ◌<◌, OnOk, length};
+ghost use Rattle.std.specs.Prelude.{◌≡◌, ◌<◌, ℕ, ℤ, Option, List, OnOk, length};
 ghost use Rattle.sm_cc.specs.Rows.{ArePlacesClosed};
 ghost use Rattle.sm_cc.specs.Closures.{IsSound, Grows, board_of, placed_of, are_together};
 ghost use Rattle.sm_cc.specs.Settled.{IsSettledAt, IsSettledThere, AreGivenSettled, IsReadSettled};
 ghost use Rattle.sm_cc.specs.Settled.{IsElementSettled, AreElementsSettled, AreSinglesSettled};
-ghost use Rattle.sm_cc.specs.Settled.{ArePairSettled, ArePairsSettled, AllPairsSettled, AreSettled};
+ghost use Rattle.sm_cc.specs.Settled.{ArePairSettled, AllPairsSettled, AreSettled};
 ghost use Rattle.sm_cc.specs.Settled.{Tries};
+ghost use Rattle.sm_cc.specs.Firsts.{met_at, key_told, KeysBring, TriesFirst, IsPairThere};
+ghost use Rattle.sm_cc.specs.Firsts.{AreAlikeSettled, AreHeadedSettled};
 ghost use Rattle.sm_cc.specs.Causes.{IsCauseOf};
 
 use crate::cause::{Cause, cause_of, pair_cause};
 use crate::closure::Closure;
 use crate::compare::together;
 use crate::derive::derive;
+use crate::keys::{Key, Met, alike_key, first_place, head_key};
 use crate::merge::merge;
 use crate::row::Element;
 use std::alloc::{AllocError, Global};
+use std::collections::HashMap;
 
 // Two places that are equal come into one class.
 fn apply(alloc: Global, c: &mut Closure, cause: Cause, i: u64, j: u64) -> Result<(), AllocError>
@@ -115,27 +119,74 @@ fn relate_rows(alloc: Global, c: &mut Closure, i: u64, j: u64) -> Result<(), All
     }
 }
 
-// The same for a place and each one before it.
-fn relate_before(alloc: Global, c: &mut Closure, i: u64) -> Result<(), AllocError>
+// The same, if both places are there.
+fn relate_rows_there(alloc: Global, c: &mut Closure, i: u64, j: u64) -> Result<(), AllocError>
     requires sound { IsSound c.old }
-    requires there { i < length c.old.rows.items }
-    ensures { OnOk result (Tries (ArePairsSettled i) c.old c.new) }
+    ensures { OnOk result (Tries (IsPairThere i j) c.old c.new) }
 {
-    for j in 0..i {
-        relate_rows(alloc, c, i, j)?;
+    let count = c.rows.len() as u64;
+    if i < count && j < count {
+        return relate_rows(alloc, c, i, j);
     }
     Ok(())
 }
 
-// The same for each two places.
+// A place comes into one class with the first that has its key, if it has one.
+fn relate_first(
+    alloc: Global,
+    c: &mut Closure,
+    met: &mut Met,
+    key: Option<Key>,
+    i: u64,
+) -> Result<(), AllocError>
+    requires sound { IsSound c.old }
+    requires there { i < length c.old.rows.items }
+    ensures { (key_of : ℕ → Option (List (ℕ × ℤ))) → KeysBring key_of c.old →
+        key_of i ≡ key_told key →
+        OnOk result (TriesFirst key_of i c.old c.new (met_at met.old) (met_at met.new)) }
+{
+    match key {
+        Some(key) => {
+            let j = first_place(met, key, i)?;
+            relate_rows_there(alloc, c, i, j)
+        }
+        None => Ok(()),
+    }
+}
+
+// Places of one linear form come into one class.
+fn relate_alike(alloc: Global, c: &mut Closure) -> Result<(), AllocError>
+    requires { IsSound c.old }
+    ensures { OnOk result (Tries AreAlikeSettled c.old c.new) }
+{
+    let mut met = HashMap::new(alloc);
+    for i in 0..c.rows.len() {
+        let key = alike_key(alloc, c, i as u64)?;
+        relate_first(alloc, c, &mut met, key, i as u64)?;
+    }
+    Ok(())
+}
+
+// Places of one head whose arguments are equal come into one class.
+fn relate_headed(alloc: Global, c: &mut Closure) -> Result<(), AllocError>
+    requires { IsSound c.old }
+    ensures { OnOk result (Tries AreHeadedSettled c.old c.new) }
+{
+    let mut met = HashMap::new(alloc);
+    for i in 0..c.rows.len() {
+        let key = head_key(alloc, c, i as u64)?;
+        relate_first(alloc, c, &mut met, key, i as u64)?;
+    }
+    Ok(())
+}
+
+// Places whose forms or whose arguments are equal come into one class.
 fn relate_pairs(alloc: Global, c: &mut Closure) -> Result<(), AllocError>
     requires { IsSound c.old }
     ensures { OnOk result (Tries AllPairsSettled c.old c.new) }
 {
-    for i in 0..c.rows.len() {
-        relate_before(alloc, c, i as u64)?;
-    }
-    Ok(())
+    relate_alike(alloc, c)?;
+    relate_headed(alloc, c)
 }
 
 // Applies the rules that look at single places.

@@ -1,0 +1,9 @@
+-- The labels of the places from here on go behind the key.
+use Rattle.std.proofs.Common.{◌≡◌, drop}
+use Rattle.sm_cc.specs.Firsts.{labels_of, with_labels}
+use Rattle.sm_cc.proofs.keys.labelled.Given as goal
+
+abbrev pub invariant-loop-place : goal.invariant-loop-place
+invariant-loop-place l =
+    with_labels l.key.items (labels_of l.c.roots.items (drop l.place-index l.places))
+    ≡ with_labels l.fn.key.items (labels_of l.c.roots.items l.places)

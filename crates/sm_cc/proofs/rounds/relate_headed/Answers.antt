@@ -1,0 +1,16 @@
+-- One place more, and then all.
+use Rattle.std.proofs.Common.{sym, arith}
+use Rattle.sm_cc.specs.Firsts.{met_at, headed_at}
+use Rattle.sm_cc.proofs.FirstsLemmas.{firsts_tried_more, firsts_tried_all, headed_bring}
+use Rattle.sm_cc.proofs.rounds.relate_headed.Goals as goal
+
+pub loop-i-preserved : goal.loop-i-preserved
+loop-i-preserved c =
+    let old = c.loop-i.c in
+    firsts_tried_more headed_at c.loop-i.i c.args.c.now old c.relate_first.new.c (met_at c.loop-i.met) (met_at c.relate_first.new.met)
+    c.loop-i.invariant (c.in_ok-relate_first.ensures (headed_at old) (headed_bring old) (sym c.in_ok-key.ensures))
+
+pub returns : goal.returns
+returns c =
+    firsts_tried_all headed_at c.loop-i.i c.args.c.now c.loop-i.c (met_at c.loop-i.met)
+    (omega (arith, c.loop-i-test.false, c.len-i-end.ensures)) c.loop-i.invariant

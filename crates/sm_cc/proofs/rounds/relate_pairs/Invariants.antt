@@ -1,8 +1,0 @@
--- What was passed is settled, or entries were added.
-use Rattle.std.proofs.Common.{ℕ, ◌<◌}
-use Rattle.sm_cc.specs.declared.closure.Closure.{Closure}
-use Rattle.sm_cc.specs.Settled.{Tries, ArePairsSettled}
-use Rattle.sm_cc.proofs.rounds.relate_pairs.Given as goal
-
-abbrev pub invariant-loop-i : goal.invariant-loop-i
-invariant-loop-i l = Tries (λ (d : Closure). (m : ℕ) → m < l.i → ArePairsSettled m d) l.fn.c l.c

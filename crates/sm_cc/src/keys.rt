@@ -1,0 +1,86 @@
+// Keys by which places are found that are equal by their forms or by their arguments.
+ghost use Rattle.std.specs.Prelude.{◌≡◌, ◌<◌, ℕ, Some, IfOk, OnOk, length, slice_get};
+ghost use Rattle.sm_cc.specs.Firsts.{Key as Told};
+ghost use Rattle.sm_cc.specs.Firsts.{met_at, first_met, key_told, alike_at, headed_at};
+ghost use Rattle.sm_cc.specs.Firsts.{label_at, labels_of, with_labels};
+
+use crate::closure::Closure;
+use crate::row::Row;
+use std::alloc::{AllocError, Global};
+use std::collections::HashMap;
+
+/// What tells a linear form, or a head with the labels of its arguments.
+pub(crate) type Key = Vec<(u64, i128)>;
+
+/// The first places that have the keys that were met.
+pub(crate) type Met = HashMap<Key, u64>;
+
+/// The first place that has a key: this one, where it wasn't met before.
+pub(crate) fn first_place(met: &mut Met, key: Key, place: u64) -> Result<u64, AllocError>
+    ensures met { OnOk result ((v : Told) →
+        met_at met.new v.items ≡ first_met (met_at met.old v.items) key.items v.items place) }
+    ensures first { IfOk result (λ j. met_at met.new key.items ≡ Some j) }
+{
+    match met.get(&key) {
+        Some(first) => Ok(*first),
+        None => {
+            met.insert(key, place)?;
+            Ok(place)
+        }
+    }
+}
+
+/// The key of a place by its linear form, where it has one.
+pub(crate) fn alike_key(alloc: Global, c: &Closure, i: u64) -> Result<Option<Key>, AllocError>
+    requires { i < length c.now.rows.items }
+    ensures { IfOk result (λ o. key_told o ≡ alike_at c.now i) }
+{
+    match c.rows[i as usize].shape {
+        Some(shape) => {
+            let mut key = Vec::new(alloc);
+            key.push((shape.parts, shape.constant))?;
+            Ok(Some(key))
+        }
+        None => Ok(None),
+    }
+}
+
+/// The key of a place by its head and the labels of its arguments, where it has a head.
+pub(crate) fn head_key(alloc: Global, c: &Closure, i: u64) -> Result<Option<Key>, AllocError>
+    requires { i < length c.now.rows.items }
+    ensures { IfOk result (λ o. key_told o ≡ headed_at c.now i) }
+{
+    let row = &c.rows[i as usize];
+    match row.head {
+        Some(head) => {
+            let mut key = Vec::new(alloc);
+            key.push((head, 0))?;
+            labelled(c, &row.arguments, key)
+        }
+        None => Ok(None),
+    }
+}
+
+// A key with the labels of places behind it, where each is there.
+fn labelled(c: &Closure, places: &[u64], mut key: Key) -> Result<Option<Key>, AllocError>
+    ensures { IfOk result (λ o.
+        key_told o ≡ with_labels key.items (labels_of c.now.roots.items places.now)) }
+{
+    for place in places {
+        match label_of(c, *place) {
+            Some(label) => key.push((label, 0))?,
+            None => return Ok(None),
+        }
+    }
+    Ok(Some(key))
+}
+
+// The label of a place, where it is there.
+fn label_of(c: &Closure, place: u64) -> Option<u64>
+    ensures { result ≡ label_at (slice_get c.now.roots.items place) }
+{
+    match c.roots.get(place as usize) {
+        Some(root) => Some(root.right),
+        None => None,
+    }
+}
