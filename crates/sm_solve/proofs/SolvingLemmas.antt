@@ -1,0 +1,140 @@
+-- What is given to the walk of an obligation, and what its end says under other numbers.
+use Rattle.std.proofs.Common.{◌≡◌, ℕ, zero, suc, ◌+◌, ◌<◌, nat_lt, Bool, true, false, List, [], ◌∷◌, ◌++◌, length, take}
+use Rattle.std.proofs.Common.{get_or}
+use Rattle.std.proofs.Common.{refl, sym, ap, subst, ◌∙◌, arith}
+use Rattle.std.proofs.lemmas.Bool.{ltb-true}
+use Rattle.std.proofs.lemmas.List.{map-append, take_more}
+use Rattle.sm_syntax.specs.text.Sorts.{Sorts}
+use Rattle.sm_term.specs.declared.formula.Formula.{Formula}
+use Rattle.sm_term.specs.Terms.{Tree}
+use Rattle.sm_term.specs.Assertions.{Assertion, negate}
+use Rattle.sm_term.specs.Sorted.{IsFormSorted, AreFormsSorted}
+use Rattle.sm_term.specs.Formulas.{NumberedFormula, Yes, No, Eq, Ne, Le, Lt, And, Or, numbered, contrary, assertion_in, IsFormulaWithin}
+use Rattle.sm_term.proofs.FormulasLemmas.{contrary_negates}
+use Rattle.sm_theory.specs.Facts.{as_facts}
+use Rattle.sm_theory.specs.Ways.{adds}
+use Rattle.sm_cert.specs.declared.tree.CertTree.{CertTree}
+use Rattle.sm_cert.specs.Certificates.{Certificate, bad_line, splits_above}
+use Rattle.sm_cert.specs.Views.{certificate_in, lines_of, AreLinesWithin}
+use Rattle.sm_cert.proofs.TreeLemmas.{refused_flat}
+use Rattle.sm_solve.specs.declared.solving.Answer.{Answer}
+use Rattle.sm_solve.specs.declared.solving.Answer.TheVariants as answer
+use Rattle.sm_solve.specs.Answers.{Certifies}
+use Rattle.sm_solve.specs.Branches.{with_parts, terms_of}
+use Rattle.sm_solve.specs.Closings.{Refutes}
+use Rattle.sm_solve.specs.Parts.{all_numbered, assertions_in, AreFormulasWithin}
+use Rattle.sm_solve.specs.Walk.{walk_from}
+use Rattle.sm_solve.specs.Walking.{ClosesIn, Shows}
+use Rattle.sm_solve.proofs.PartsLemmas.{within-append}
+use Rattle.sm_solve.proofs.SortedLemmas.{sorted-append, sorted_with, sorted_contrary}
+
+-- the facts and the contrary of the target
+pub given_is : (sorts : Sorts) (trees : List Tree) (facts list all : List Formula) (target other : Formula) →
+    all ≡ list ++ other ∷ [] → all_numbered list ≡ all_numbered facts → numbered other ≡ contrary (numbered target) →
+    assertions_in sorts trees (all_numbered all)
+    ≡ assertions_in sorts trees (all_numbered facts) ++ negate (assertion_in sorts trees (numbered target)) ∷ []
+given_is sorts trees facts list all target other are same against =
+    let says = assertion_in sorts trees in
+    let goal = numbered target in
+    ap (λ (fs : List Formula). assertions_in sorts trees (all_numbered fs)) are
+    ∙ ap (assertions_in sorts trees) (map-append numbered list (other ∷ []))
+    ∙ ap (λ (fs : List NumberedFormula). assertions_in sorts trees (fs ++ numbered other ∷ [])) same
+    ∙ ap (λ (f : NumberedFormula). assertions_in sorts trees (all_numbered facts ++ f ∷ [])) against
+    ∙ map-append says (all_numbered facts) (contrary goal ∷ [])
+    ∙ ap (λ (f : Assertion). assertions_in sorts trees (all_numbered facts) ++ f ∷ []) (contrary_negates sorts trees goal)
+
+within_contrary : (count : ℕ) (f : NumberedFormula) → IsFormulaWithin count f → IsFormulaWithin count (contrary f)
+within_contrary count Yes h = tt
+within_contrary count No h = tt
+within_contrary count (Eq t u) h = h
+within_contrary count (Ne t u) h = h
+within_contrary count (Le t u) h = (h.1, h.0)
+within_contrary count (Lt t u) h = (h.1, h.0)
+within_contrary count (And p q) h = (within_contrary count p h.0, within_contrary count q h.1)
+within_contrary count (Or p q) h = (within_contrary count p h.0, within_contrary count q h.1)
+
+pub given_within : (count : ℕ) (facts list all : List Formula) (target other : Formula) →
+    all ≡ list ++ other ∷ [] → all_numbered list ≡ all_numbered facts → numbered other ≡ contrary (numbered target) →
+    AreFormulasWithin count (all_numbered facts) → IsFormulaWithin count (numbered target) → AreFormulasWithin count (all_numbered all)
+given_within count facts list all target other are same against within one =
+    let whole : all_numbered all ≡ all_numbered facts ++ contrary (numbered target) ∷ [] =
+    ap all_numbered are ∙ map-append numbered list (other ∷ [])
+    ∙ ap (λ (fs : List NumberedFormula). fs ++ numbered other ∷ []) same
+    ∙ ap (λ (f : NumberedFormula). all_numbered facts ++ f ∷ []) against in
+    subst (AreFormulasWithin count) (sym whole)
+    (within-append count (all_numbered facts) (contrary (numbered target) ∷ []) within (within_contrary count (numbered target) one, tt))
+
+-- they are sorted with all their parts
+pub given_sorted : (sorts : Sorts) (facts : List Assertion) (goal : Assertion) → AreFormsSorted sorts facts → IsFormSorted sorts goal →
+    AreFormsSorted sorts (with_parts (facts ++ negate goal ∷ []))
+given_sorted sorts facts goal h k =
+    sorted_with sorts (facts ++ negate goal ∷ []) (sorted-append sorts facts (negate goal ∷ []) h (sorted_contrary sorts goal k, tt))
+
+-- the walk over the terms of the facts alone
+pub walk_own : (sorts own : Sorts) (trees : List Tree) (steps : ℕ) (facts all given : List Assertion) → own ≡ sorts → trees ≡ terms_of all →
+    facts ≡ all → all ≡ given → walk_from own trees steps 1001 0 facts ≡ walk_from sorts (terms_of given) steps 1001 0 given
+walk_own sorts own trees steps facts all given same terms are is =
+    ap (λ (s : Sorts). walk_from s trees steps 1001 0 facts) same
+    ∙ ap (λ (ts : List Tree). walk_from sorts ts steps 1001 0 facts) terms
+    ∙ ap (walk_from sorts (terms_of all) steps 1001 0) are
+    ∙ ap (λ (fs : List Assertion). walk_from sorts (terms_of fs) steps 1001 0 fs) is
+
+-- a certificate under other numbers
+pub renumbered_closes : (sorts : Sorts) (trees others : List Tree) (facts : List Assertion) (room : ℕ) (tree other : CertTree) →
+    certificate_in others other ≡ certificate_in trees tree → AreLinesWithin (length others) (lines_of other) →
+    ClosesIn sorts trees facts room tree → ClosesIn sorts others facts room other
+renumbered_closes sorts trees others facts room tree other same within closes = record {
+  refutes = subst (Refutes sorts (as_facts facts)) (sym same) closes.refutes;
+  within = within;
+  splits = subst (λ (c : Certificate). splits_above c < room) (sym same) closes.splits;
+}
+
+few_splits : (n : ℕ) → n < 1001 → false ≡ nat_lt 1000 n
+few_splits n h = by (nat_lt 1000 n) refl
+  where
+    by : (b : Bool) → nat_lt 1000 n ≡ b → false ≡ b
+    by false e = refl
+    by true e = absurd (let more = ltb-true 1000 n e in omega arith)
+
+-- what is shown of an answer certifies it
+pub shows_certify : (sorts : Sorts) (trees : List Tree) (facts : List Assertion) (goal : Assertion) (a : Answer) →
+    Shows sorts trees (facts ++ negate goal ∷ []) 1001 a → Certifies sorts trees facts goal a
+shows_certify sorts trees facts goal (answer.Closed tree) shows =
+    let all = as_facts (facts ++ negate goal ∷ []) in
+    let c = certificate_in trees tree in
+    (shows.within, refused_flat (adds sorts) sorts all c (few_splits (splits_above c) shows.splits) ∙ ap bad_line (shows.refutes 0))
+shows_certify sorts trees facts goal (answer.Open leaf) shows = tt
+shows_certify sorts trees facts goal answer.Steps shows = tt
+shows_certify sorts trees facts goal (answer.Coefficient op y z) shows = tt
+
+-- a formula at a place is within
+pub item_within : (count : ℕ) (facts : List Formula) (n : ℕ) (f : Formula) → n < length facts → f ≡ get_or facts n f →
+    AreFormulasWithin count (all_numbered facts) → IsFormulaWithin count (numbered f)
+item_within count [] n f less is all = absurd (omega arith)
+item_within count (g ∷ fs) zero f less is all = subst (λ (h : Formula). IsFormulaWithin count (numbered h)) (sym is) all.0
+item_within count (g ∷ fs) (suc n) f less is all = item_within count fs n f (omega arith) is all.1
+
+-- one formula more under other numbers
+pub renumbered_more : (sorts : Sorts) (trees others : List Tree) (facts list now : List Formula) (n : ℕ) (f g : Formula) →
+    n < length facts →
+    f ≡ get_or facts n f → now ≡ list ++ g ∷ [] →
+    assertions_in sorts others (all_numbered list) ≡ assertions_in sorts trees (all_numbered (take n facts)) →
+    assertion_in sorts others (numbered g) ≡ assertion_in sorts trees (numbered f) →
+    assertions_in sorts others (all_numbered now) ≡ assertions_in sorts trees (all_numbered (take (n + 1) facts))
+renumbered_more sorts trees others facts list now n f g less is made before same =
+    let done = take n facts in
+    let more : take (n + 1) facts ≡ done ++ f ∷ [] = take_more facts n f less ∙ ap (λ (h : Formula). done ++ h ∷ []) (sym is) in
+    ap (λ (fs : List Formula). assertions_in sorts others (all_numbered fs)) made
+    ∙ ap (assertions_in sorts others) (map-append numbered list (g ∷ []))
+    ∙ map-append (assertion_in sorts others) (all_numbered list) (numbered g ∷ [])
+    ∙ ap (λ (fs : List Assertion). fs ++ assertion_in sorts others (numbered g) ∷ []) before
+    ∙ ap (λ (a : Assertion). assertions_in sorts trees (all_numbered done) ++ a ∷ []) same
+    ∙ sym (ap (λ (fs : List Formula). assertions_in sorts trees (all_numbered fs)) more
+    ∙ ap (assertions_in sorts trees) (map-append numbered done (f ∷ []))
+    ∙ map-append (assertion_in sorts trees) (all_numbered done) (numbered f ∷ []))
+
+pub more_within : (count : ℕ) (list now : List Formula) (g : Formula) → now ≡ list ++ g ∷ [] → AreFormulasWithin count (all_numbered list) →
+    IsFormulaWithin count (numbered g) → AreFormulasWithin count (all_numbered now)
+more_within count list now g made all one =
+    let is : all_numbered now ≡ all_numbered list ++ numbered g ∷ [] = ap all_numbered made ∙ map-append numbered list (g ∷ []) in
+    subst (AreFormulasWithin count) (sym is) (within-append count (all_numbered list) (numbered g ∷ []) all (one, tt))

@@ -1,0 +1,166 @@
+-- The walk from a branch, by its visits and its parts.
+use Rattle.std.proofs.Common.{◌≡◌, ℕ, zero, suc, ◌+◌, ◌-◌, ◌<◌, ◌≤◌, max, Bool, true, false, if◌then◌else◌, Option, Some}
+use Rattle.std.proofs.Common.{List, [], ◌∷◌, ◌++◌, length, take, drop, refl, sym, ap, subst, ◌∙◌, arith}
+use Rattle.std.proofs.lemmas.Bool.{lt-ltb}
+use Rattle.std.proofs.lemmas.List.{length-append, length-map, drop-map, take-map}
+use Rattle.sm_syntax.specs.text.Sorts.{Sorts}
+use Rattle.sm_term.specs.declared.formula.Formula.{Formula}
+use Rattle.sm_term.specs.Terms.{Tree}
+use Rattle.sm_term.specs.Assertions.{Assertion}
+use Rattle.sm_term.specs.Formulas.{NumberedFormula, numbered, assertion_in}
+use Rattle.sm_term.specs.Tables.{TableValue, trees_in, sorts_in}
+use Rattle.sm_theory.specs.declared.line.CertLine.{CertLine}
+use Rattle.sm_theory.specs.Facts.{as_facts}
+use Rattle.sm_theory.specs.Views.{line_in}
+use Rattle.sm_theory.specs.Ways.{ways, splitting}
+use Rattle.sm_cert.specs.declared.tree.CertTree.{CertTree}
+use Rattle.sm_cert.specs.Certificates as tree
+use Rattle.sm_cert.specs.Certificates.{splits_above}
+use Rattle.sm_cert.specs.Views.{certificate_in, lines_of, AreLinesWithin}
+use Rattle.sm_solve.specs.declared.closing.BranchSplit.{BranchSplit}
+use Rattle.sm_solve.specs.Branches.{with_parts}
+use Rattle.sm_solve.specs.Closings.{Refutes}
+use Rattle.sm_solve.specs.Given.{branch_of}
+use Rattle.sm_solve.specs.Holding.{Seen, Split, seen_by, is_closed, split_of}
+use Rattle.sm_solve.specs.Leading.{both_lines, led_by}
+use Rattle.sm_solve.specs.Parts.{all_numbered, assertions_in, AreFormulasWithin}
+use Rattle.sm_solve.specs.Walk.{Walked, Closes, TooFar, counted, by_classes, by_forms, by_parts, forms_of}
+use Rattle.sm_solve.specs.Walk.{walk_from}
+use Rattle.sm_solve.specs.Splits.{split_told}
+use Rattle.sm_solve.specs.Walking.{ClosesIn}
+use Rattle.sm_solve.proofs.LeadingLemmas.{both_refutes, split_refutes, led_splits}
+
+-- a step is counted where one is left
+counted_next : (steps count : ℕ) (next : ℕ → Walked) → count < steps → counted steps count next ≡ next (suc count)
+counted_next steps count next h = ap (λ (b : Bool). if b then next (suc count) else TooFar) (lt-ltb count steps h)
+
+-- the branch is visited
+pub walk_next : (sorts : Sorts) (trees : List Tree) (steps room count : ℕ) (facts : List Assertion) → (room ≡ 0 → ⊥) → count < steps →
+    walk_from sorts trees steps room count facts
+    ≡ by_classes (walk_from sorts trees steps (room - 1)) steps (seen_by sorts trees facts) (count + 1)
+walk_next sorts trees steps zero count facts some less = absurd (some refl)
+walk_next sorts trees steps (suc room) count facts some less =
+    let back : room ≡ suc room - 1 = omega arith in
+    let more : suc count ≡ count + 1 = omega arith in
+    counted_next steps count (by_classes (walk_from sorts trees steps room) steps (seen_by sorts trees facts)) less
+    ∙ ap (λ (n : ℕ). by_classes (walk_from sorts trees steps n) steps (seen_by sorts trees facts) (suc count)) back
+    ∙ ap (by_classes (walk_from sorts trees steps (suc room - 1)) steps (seen_by sorts trees facts)) more
+
+-- of formulas the first
+drop_first : {X : Type 0} (n : ℕ) (xs ys : List X) → n ≡ length xs → drop n (xs ++ ys) ≡ ys
+drop_first zero [] ys h = refl
+drop_first (suc n) [] ys h = absurd (omega arith)
+drop_first zero (x ∷ xs) ys h = absurd (omega arith)
+drop_first (suc n) (x ∷ xs) ys h = drop_first n xs ys (omega arith)
+
+take_first : {X : Type 0} (n : ℕ) (xs ys : List X) → n ≡ length xs → take n (xs ++ ys) ≡ xs
+take_first zero [] ys h = refl
+take_first (suc n) [] ys h = absurd (omega arith)
+take_first zero (x ∷ xs) ys h = absurd (omega arith)
+take_first {X = X} (suc n) (x ∷ xs) ys h = ap (λ (rest : List X). x ∷ rest) (take_first n xs ys (omega arith))
+
+pub cut_are : (sorts : Sorts) (trees : List Tree) (n : ℕ) (fs : List Formula) (before more : List Assertion) → n ≡ length before →
+    assertions_in sorts trees (all_numbered fs) ≡ before ++ more → assertions_in sorts trees (all_numbered (take n fs)) ≡ before
+cut_are sorts trees n fs before more h are =
+    ap (assertions_in sorts trees) (sym (take-map numbered n fs))
+    ∙ sym (take-map (assertion_in sorts trees) n (all_numbered fs))
+    ∙ ap (take n) are ∙ take_first n before more h
+
+within_cut : (count n : ℕ) (fs : List NumberedFormula) → AreFormulasWithin count fs → AreFormulasWithin count (take n fs)
+within_cut count zero fs h = tt
+within_cut count (suc n) [] h = tt
+within_cut count (suc n) (f ∷ fs) h = (h.0, within_cut count n fs h.1)
+
+pub cut_within : (count n : ℕ) (fs : List Formula) → AreFormulasWithin count (all_numbered fs) →
+    AreFormulasWithin count (all_numbered (take n fs))
+cut_within count n fs h = subst (AreFormulasWithin count) (take-map numbered n fs) (within_cut count n (all_numbered fs) h)
+
+-- a certificate of the branch with all parts, under the lines that add them
+pub led_closes : (sorts : Sorts) (trees : List Tree) (facts : List Formula) (from room : ℕ) (before last : List Assertion)
+    (tree led : CertTree) →
+    from ≡ length before → assertions_in sorts trees (all_numbered facts) ≡ before ++ with_parts last →
+    certificate_in trees led ≡ led_by (both_lines from (drop from (all_numbered facts))) (certificate_in trees tree) →
+    AreLinesWithin (length trees) (lines_of led) → ClosesIn sorts trees (before ++ with_parts last) room tree →
+    ClosesIn sorts trees (before ++ last) room led
+led_closes sorts trees facts from room before last tree led place are is within closes =
+    let left = drop from (all_numbered facts) in
+    let c = certificate_in trees tree in
+    let same : with_parts last ≡ assertions_in sorts trees left =
+    sym (drop_first from before (with_parts last) place) ∙ ap (drop from) (sym are)
+    ∙ drop-map (assertion_in sorts trees) from (all_numbered facts) in
+    let refutes = both_refutes sorts trees c left before last same closes.refutes in
+    let here : Refutes sorts (as_facts (before ++ last)) (led_by (both_lines from left) c) =
+    subst (λ (n : ℕ). Refutes sorts (as_facts (before ++ last)) (led_by (both_lines n left) c)) (sym place) refutes in
+    let flat : splits_above (certificate_in trees led) ≡ splits_above c = ap splits_above is ∙ led_splits (both_lines from left) c in
+    record {
+      refutes = subst (Refutes sorts (as_facts (before ++ last))) (sym is) here;
+      within = within;
+      splits = subst (λ (n : ℕ). n < room) (sym flat) closes.splits;
+    }
+
+-- a certificate of both parts
+pub split_closes : (sorts : Sorts) (trees : List Tree) (room : ℕ) (facts : List Assertion) (p q : Assertion) (line : CertLine)
+    (first second whole : CertTree) →
+    ways sorts (as_facts facts) (line_in trees line) ≡ splitting p q →
+    certificate_in trees whole ≡ tree.Split (line_in trees line) (certificate_in trees first) (certificate_in trees second) →
+    AreLinesWithin (length trees) (lines_of whole) → ClosesIn sorts trees (facts ++ p ∷ []) room first →
+    ClosesIn sorts trees (facts ++ q ∷ []) room second →
+    ClosesIn sorts trees facts (room + 1) whole
+split_closes sorts trees room facts p q line first second whole splits is within one two =
+    let c = certificate_in trees first in
+    let d = certificate_in trees second in
+    let deep : splits_above (certificate_in trees whole) ≡ suc (max (splits_above c) (splits_above d)) = ap splits_above is in
+    let less : suc (max (splits_above c) (splits_above d)) < room + 1 = let a = one.splits in let b = two.splits in omega arith in
+    record {
+      refutes = subst (Refutes sorts (as_facts facts)) (sym is)
+          (split_refutes sorts facts (line_in trees line) p q c d splits one.refutes two.refutes);
+      within = within;
+      splits = subst (λ (n : ℕ). n < room + 1) (sym deep) less;
+    }
+
+-- a branch that is closed at once
+pub closed_told : (go : ℕ → List Assertion → Walked) (steps count : ℕ) (b : Seen) → true ≡ is_closed b →
+    by_classes go steps b count ≡ Closes count
+closed_told go steps count b h =
+    ap (λ (v : Bool). if v then Closes count else by_forms steps count (length b.terms) (forms_of b) (by_parts go b.facts (split_of b)))
+    (sym h)
+
+-- any other
+pub open_told : (go : ℕ → List Assertion → Walked) (steps count : ℕ) (b : Seen) → false ≡ is_closed b →
+    by_classes go steps b count ≡ by_forms steps count (length b.terms) (forms_of b) (by_parts go b.facts (split_of b))
+open_told go steps count b h =
+    ap (λ (v : Bool). if v then Closes count else by_forms steps count (length b.terms) (forms_of b) (by_parts go b.facts (split_of b)))
+    (sym h)
+
+-- the split of a branch, where it is told
+pub split_is : (go : ℕ → List Assertion → Walked) (all : List Assertion) (count : ℕ) (sorts : Sorts) (trees : List Tree) (s b : Seen)
+    (o : Option BranchSplit) (split : BranchSplit) → s ≡ b → o ≡ Some split → split_told sorts trees o ≡ split_of s →
+    by_parts go all (split_of b) count ≡ by_parts go all (split_told sorts trees (Some split)) count
+split_is go all count sorts trees s b o split seen is told =
+    ap (λ (p : Option Split). by_parts go all p count)
+    (sym (ap (split_told sorts trees) (sym is) ∙ told ∙ ap split_of seen))
+
+-- what a visit tells is what the walk comes to
+pub walk_visits : (table : TableValue) (steps room count : ℕ) (facts items : List Formula) (w : Walked) → (room ≡ 0 → ⊥) → count < steps →
+    facts ≡ items →
+    by_classes (walk_from (sorts_in table) (trees_in table) steps (room - 1)) steps (branch_of table facts) (count + 1) ≡ w →
+    walk_from (sorts_in table) (trees_in table) steps room count (assertions_in (sorts_in table) (trees_in table) (all_numbered items)) ≡ w
+walk_visits table steps room count facts items w some less same told =
+    let sorts = sorts_in table in
+    let trees = trees_in table in
+    walk_next sorts trees steps room count (assertions_in sorts trees (all_numbered items)) some less
+    ∙ ap (λ (fs : List Formula). by_classes (walk_from sorts trees steps (room - 1)) steps (branch_of table fs) (count + 1)) (sym same)
+    ∙ told
+
+-- as many formulas
+pub as_many : (sorts : Sorts) (trees : List Tree) (fs : List Formula) → length (assertions_in sorts trees (all_numbered fs)) ≡ length fs
+as_many sorts trees fs = length-map (all_numbered fs) (assertion_in sorts trees) ∙ length-map fs numbered
+
+pub place_within : (sorts : Sorts) (trees : List Tree) (fs gs : List Formula) (more : List Assertion) →
+    assertions_in sorts trees (all_numbered gs) ≡ assertions_in sorts trees (all_numbered fs) ++ more → length fs ≤ length gs
+place_within sorts trees fs gs more are =
+    let one = as_many sorts trees fs in
+    let two = as_many sorts trees gs in
+    let all = ap length are in
+    let both = length-append (assertions_in sorts trees (all_numbered fs)) more in
+    omega arith

@@ -1,0 +1,56 @@
+-- The first disjunction that is split.
+use Rattle.std.proofs.Common.{◌≤◌, ◌∙◌, length, sym, ap, arith}
+use Rattle.sm_term.specs.Formulas.{numbered, assertion_in}
+use Rattle.sm_term.specs.Tables.{trees_in, sorts_in}
+use Rattle.sm_solve.specs.Holding.{part_split}
+use Rattle.sm_solve.specs.Parts.{all_numbered, assertions_in}
+use Rattle.sm_solve.specs.Seeing.{seen_in, split_in}
+use Rattle.sm_solve.proofs.BranchLineLemmas.{part_line}
+use Rattle.sm_solve.proofs.ClosingLemmas.{fact_at, within_at}
+use Rattle.sm_solve.proofs.FirstLemmas.{fact_here, fact_next, facts_end}
+use Rattle.sm_solve.proofs.splits.first_part_split.Goals as goal
+
+pub part_split-requires-clause-formula : goal.part_split-requires-clause-formula
+part_split-requires-clause-formula g c =
+    within_at (length (trees_in c.args.table.now)) c.args.facts.now c.loop-n.n c.index-facts-n.result c.loop-n-test.true c.index-facts-n.is
+    c.requires.facts
+
+pub returns-in-Some-clause-split : goal.returns-in-Some-clause-split
+returns-in-Some-clause-split g c = λ terms.
+    let trees = trees_in c.args.table.now in
+    let sorts = sorts_in c.args.table.now in
+    let facts = c.args.facts.now in
+    let b = seen_in sorts trees terms facts (g.S.Sees.equal c.args.sees.now) (g.S.Sees.apart c.args.sees.now) in
+    fact_here sorts trees (part_split b) facts c.loop-n.n c.index-facts-n.result c.loop-n-test.true c.index-facts-n.is
+    (c.loop-n.invariant terms) (c.in-Some.first, c.in-Some.second)
+    (sym (ap (split_in sorts trees) c.in-Some.is) ∙ c.in_ok-first.ensures.split terms)
+
+pub returns-in-Some-clause-line : goal.returns-in-Some-clause-line
+returns-in-Some-clause-line g c =
+    let trees = trees_in c.args.table.now in
+    let sorts = sorts_in c.args.table.now in
+    let facts = c.args.facts.now in
+    let b = seen_in sorts trees trees facts (g.S.Sees.equal c.args.sees.now) (g.S.Sees.apart c.args.sees.now) in
+    let f = c.index-facts-n.result in
+    part_line b sorts (assertions_in sorts trees (all_numbered facts)) c.loop-n.n (assertion_in sorts trees (numbered f))
+    (assertion_in sorts trees (numbered c.in-Some.first)) (assertion_in sorts trees (numbered c.in-Some.second))
+    (fact_at sorts trees facts c.loop-n.n f c.loop-n-test.true c.index-facts-n.is)
+    (sym (ap (split_in sorts trees) c.in-Some.is) ∙ c.in_ok-first.ensures.split trees)
+
+pub loop-n-preserved : goal.loop-n-preserved
+loop-n-preserved g c = λ terms.
+    let trees = trees_in c.args.table.now in
+    let sorts = sorts_in c.args.table.now in
+    let facts = c.args.facts.now in
+    let b = seen_in sorts trees terms facts (g.S.Sees.equal c.args.sees.now) (g.S.Sees.apart c.args.sees.now) in
+    fact_next sorts trees (part_split b) facts c.loop-n.n c.index-facts-n.result c.loop-n-test.true c.index-facts-n.is
+    (c.loop-n.invariant terms) c.in_ok-first.field-0 (c.in_ok-first.ensures.split terms) c.in_default.not-Some
+
+pub returns-clause-split : goal.returns-clause-split
+returns-clause-split g c = λ terms.
+    let trees = trees_in c.args.table.now in
+    let sorts = sorts_in c.args.table.now in
+    let facts = c.args.facts.now in
+    let b = seen_in sorts trees terms facts (g.S.Sees.equal c.args.sees.now) (g.S.Sees.apart c.args.sees.now) in
+    let past : length facts ≤ c.loop-n.n = omega (arith, c.loop-n-test.false) in
+    facts_end sorts trees (part_split b) facts c.loop-n.n past (c.loop-n.invariant terms)

@@ -1,0 +1,21 @@
+use Rattle.sm_term.specs.Tables.{trees_in, sorts_in}
+use Rattle.sm_cc.specs.Classes.{are_apart}
+use Rattle.sm_cc.specs.Rounds.{are_equal}
+use Rattle.sm_cc.specs.Views.{setting_of}
+use Rattle.sm_solve.specs.Given.{branch_of}
+use Rattle.sm_solve.specs.Holding.{Seen}
+use Rattle.sm_solve.specs.Parts.{all_numbered, assertions_in}
+use Rattle.sm_solve.specs.Seeing.{seen_in}
+use Rattle.sm_solve.proofs.WalkingLemmas.{split_is}
+use Rattle.sm_solve.proofs.visiting.visit_split.Goals as goal
+
+pub returns-in-Some-clause-tells : goal.returns-in-Some-clause-tells
+returns-in-Some-clause-tells c = λ go.
+    let table = c.args.table.now in
+    let sorts = sorts_in table in
+    let trees = trees_in table in
+    let facts = c.args.facts.now in
+    let equal = are_equal (setting_of c.args.classes.now) in
+    let s : Seen = seen_in sorts trees trees facts equal (are_apart (setting_of c.args.classes.now) equal) in
+    split_is go (assertions_in sorts trees (all_numbered facts)) c.args.count sorts trees s (branch_of table facts) c.in_ok-split.field-0
+    c.in-Some.split c.requires.seen c.in-Some.is c.in_ok-split.ensures.split

@@ -1,0 +1,57 @@
+// The linear forms of a branch, and where each comes from.
+ghost use Rattle.std.specs.Prelude.{◌≡◌, List, length};
+ghost use Rattle.sm_term.specs.Terms.{Tree};
+ghost use Rattle.sm_term.specs.Tables.{trees_in, sorts_in};
+ghost use Rattle.sm_solve.specs.Parts.{all_numbered, AreFormulasWithin};
+ghost use Rattle.sm_solve.specs.Refutations.{GivesForms};
+ghost use Rattle.sm_solve.specs.Seeing.{seen_in};
+ghost use Rattle.sm_solve.specs.Walk.{forms_of};
+
+use crate::linears::{add_fact_forms, class_forms, linear_forms};
+use crate::pairs::class_pairs;
+use crate::seeing::Sees;
+use sm_fm::Forms;
+use sm_num::NumError;
+use sm_term::{Formula, TermId, TermTable};
+use std::alloc::Global;
+
+/// Where a form comes from.
+#[derive(Clone, Copy, Debug)]
+pub enum Source {
+    /// Two numbers of one class are equal.
+    Class(TermId, TermId),
+    /// The fact at a place compares numbers.
+    Fact(u64),
+}
+
+/// Forms, each with its source.
+#[derive(Debug, Drop)]
+pub struct SourcedForms {
+    pub forms: Forms,
+    pub sources: Vec<Source>,
+}
+
+/// The forms of the branch of these facts: of each number that isn't the first term of its class
+/// that it equals this one, then those of the comparisons. The first operation that leaves the
+/// range is told; its terms are those of the table.
+pub fn forms_of<S: Sees>(
+    alloc: Global,
+    sees: &S,
+    table: &TermTable,
+    facts: &[Formula],
+) -> Result<SourcedForms, NumError>
+    requires table { S.trees sees.now ≡ trees_in table.now }
+    requires facts { AreFormulasWithin (length (trees_in table.now)) (all_numbered facts.now) }
+    ensures { let trees = trees_in table.now in
+        let b = seen_in (sorts_in table.now) trees trees facts.now
+        (S.equal sees.now) (S.apart sees.now) in
+        GivesForms b (forms_of b) result }
+{
+    // No term is there twice.
+    let _count = table.len();
+    let forms = linear_forms(alloc, table)?;
+    let pairs = class_pairs(alloc, sees, table)?;
+    let mut made = class_forms(alloc, &forms, &pairs)?;
+    add_fact_forms(alloc, &mut made, &forms, facts)?;
+    Ok(made)
+}

@@ -1,0 +1,192 @@
+// Linear forms of a branch, from the forms of all terms of its table.
+ghost use Rattle.std.specs.Prelude.{◌≡◌, ◌<◌, [], length, IfOk, IfErr, OnOk};
+ghost use Rattle.sm_num.specs.declared.error.NumError.TheVariants.{Memory};
+ghost use Rattle.sm_num.specs.declared.kind.Kind.TheVariants as kind;
+ghost use Rattle.sm_num.specs.Combining.{Fits, then_with};
+ghost use Rattle.sm_num.specs.Errors.{Explains, Returns};
+ghost use Rattle.sm_term.specs.Tables.{trees_in};
+ghost use Rattle.sm_term.specs.Formulas.{numbered, IsFormulaWithin};
+ghost use Rattle.sm_theory.specs.Arithmetic.{one_more};
+ghost use Rattle.sm_solve.specs.Making.{linear_forms, difference_at, class_form, comparison_at};
+ghost use Rattle.sm_solve.specs.Making.{some_form, with_form, class_items, fact_items, collected};
+ghost use Rattle.sm_solve.specs.Making.{held, GivesMade, ArePairsWithin};
+ghost use Rattle.sm_solve.specs.Parts.{all_numbered, AreFormulasWithin};
+ghost use Rattle.sm_solve.specs.Walk.{is_zero};
+
+use crate::forms::{Source, SourcedForms};
+use sm_fm::Forms;
+use sm_num::{Kind, LinForm, NumError, combine};
+use sm_term::{Formula, TermId, TermTable};
+use sm_theory::lin_of;
+use std::alloc::{AllocError, Global};
+
+// The form of each term. An atom's number is that of its term.
+pub(crate) fn linear_forms(alloc: Global, table: &TermTable) -> Result<Vec<LinForm>, AllocError>
+    ensures { IfOk result (λ fs. fs.items ≡ linear_forms (trees_in table.now)) }
+{
+    let mut forms = Vec::new(alloc);
+    for n in 0..table.len() {
+        // Its parts stand before it.
+        let _term = table.get(TermId(n));
+        forms.push(lin_of(alloc, table, TermId(n))?)?;
+    }
+    Ok(forms)
+}
+
+// The forms of pairs of equal terms.
+pub(crate) fn class_forms(
+    alloc: Global,
+    forms: &[LinForm],
+    pairs: &[(TermId, TermId)],
+) -> Result<SourcedForms, NumError>
+    requires { ArePairsWithin (length forms.now) pairs.now }
+    ensures { GivesMade (collected (class_items forms.now pairs.now) ([], [])) result }
+{
+    let mut made = SourcedForms {
+        forms: Forms {
+            list: Vec::new(alloc),
+        },
+        sources: Vec::new(alloc),
+    };
+    for pair in pairs {
+        let form = class_form(alloc, forms, pair.0, pair.1)?;
+        put(&mut made, Source::Class(pair.0, pair.1), form)?;
+    }
+    Ok(made)
+}
+
+// Adds the forms of comparisons.
+pub(crate) fn add_fact_forms(
+    alloc: Global,
+    made: &mut SourcedForms,
+    forms: &[LinForm],
+    facts: &[Formula],
+) -> Result<(), NumError>
+    requires { AreFormulasWithin (length forms.now) (all_numbered facts.now) }
+    ensures ok { OnOk result
+        (collected (fact_items forms.now 0 facts.now) (held made.old) ≡ Fits (held made.new)) }
+    ensures err { IfErr result (λ e.
+        Explains (collected (fact_items forms.now 0 facts.now) (held made.old)) e) }
+{
+    for i in 0..facts.len() {
+        let form = comparison(alloc, forms, &facts[i])?;
+        put(made, Source::Fact(i as u64), form)?;
+    }
+    Ok(())
+}
+
+// Puts a form, if there is one, and its source behind others.
+fn put(made: &mut SourcedForms, source: Source, form: Option<LinForm>) -> Result<(), NumError>
+    ensures ok { OnOk result (held made.new ≡ with_form (held made.old) source form) }
+    ensures err { IfErr result (λ e. e ≡ Memory) }
+{
+    match form {
+        Some(f) => {
+            made.forms.list.push(f)?;
+            made.sources.push(source)?;
+            Ok(())
+        }
+        None => Ok(()),
+    }
+}
+
+// That a term is equal to another, where this says anything.
+fn class_form(
+    alloc: Global,
+    forms: &[LinForm],
+    t: TermId,
+    u: TermId,
+) -> Result<Option<LinForm>, NumError>
+    requires left { t.0 < length forms.now }
+    requires right { u.0 < length forms.now }
+    ensures { Returns (class_form forms.now t.0 u.0) result }
+{
+    let form = difference(alloc, forms, t, u, Kind::Eq)?;
+    if is_zero(&form) {
+        return Ok(None);
+    }
+    Ok(Some(form))
+}
+
+// Whether a form is 0 whatever its atoms are.
+fn is_zero(f: &LinForm) -> bool
+    ensures { result ≡ is_zero f.now }
+{
+    f.parts().is_empty() && f.constant() == 0
+}
+
+// A comparison as a form.
+fn comparison(alloc: Global, forms: &[LinForm], f: &Formula) -> Result<Option<LinForm>, NumError>
+    requires { IsFormulaWithin (length forms.now) (numbered f.now) }
+    ensures { Returns (comparison_at forms.now (numbered f.now)) result }
+{
+    match f {
+        Formula::Le(t, u) => at_most(alloc, forms, *t, *u),
+        Formula::Lt(t, u) => below(alloc, forms, *t, *u),
+        Formula::Yes | Formula::No | Formula::Eq(_, _) | Formula::Ne(_, _) => Ok(None),
+        Formula::And(_, _) | Formula::Or(_, _) => Ok(None),
+    }
+}
+
+// That a number is at most another.
+fn at_most(
+    alloc: Global,
+    forms: &[LinForm],
+    t: TermId,
+    u: TermId,
+) -> Result<Option<LinForm>, NumError>
+    requires left { t.0 < length forms.now }
+    requires right { u.0 < length forms.now }
+    ensures { Returns (then_with (difference_at forms.now kind.Le t.0 u.0) some_form) result }
+{
+    Ok(Some(difference(alloc, forms, t, u, Kind::Le)?))
+}
+
+// That a number is less than another.
+fn below(
+    alloc: Global,
+    forms: &[LinForm],
+    t: TermId,
+    u: TermId,
+) -> Result<Option<LinForm>, NumError>
+    requires left { t.0 < length forms.now }
+    requires right { u.0 < length forms.now }
+    ensures { Returns
+        (then_with (then_with (difference_at forms.now kind.Le t.0 u.0) one_more) some_form)
+        result }
+{
+    let form = difference(alloc, forms, t, u, Kind::Le)?;
+    Ok(Some(one_more(alloc, &form)?))
+}
+
+// The form of a term less another.
+fn difference(
+    alloc: Global,
+    forms: &[LinForm],
+    t: TermId,
+    u: TermId,
+    kind: Kind,
+) -> Result<LinForm, NumError>
+    requires left { t.0 < length forms.now }
+    requires right { u.0 < length forms.now }
+    ensures { Returns (difference_at forms.now kind t.0 u.0) result }
+{
+    combine(
+        alloc,
+        &forms[t.0 as usize],
+        1,
+        &forms[u.0 as usize],
+        -1,
+        kind,
+    )
+}
+
+// A form and 1 more.
+fn one_more(alloc: Global, f: &LinForm) -> Result<LinForm, NumError>
+    ensures { Returns (one_more f.now) result }
+{
+    // Its numbers lie in the range.
+    let _count = f.parts().len();
+    let one = LinForm::number(alloc, 1)?;
+    combine(alloc, f, 1, &one, 1, f.kind())
+}

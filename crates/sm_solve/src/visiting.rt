@@ -1,0 +1,161 @@
+// A branch that is visited: its classes, its forms, then by what it is split.
+ghost use Rattle.std.specs.Prelude.{◌≡◌, ◌≤◌, ◌<◌, ◌^◌, ℕ, true, List, length, IfOk};
+ghost use Rattle.sm_term.specs.Assertions.{Assertion};
+ghost use Rattle.sm_term.specs.Sorted.{AreFormsSorted};
+ghost use Rattle.sm_term.specs.Tables.{trees_in, sorts_in};
+ghost use Rattle.sm_cc.specs.Classes.{are_apart};
+ghost use Rattle.sm_cc.specs.Rounds.{are_equal};
+ghost use Rattle.sm_cc.specs.Views.{setting_of};
+ghost use Rattle.sm_solve.specs.Closings.{IsClosing};
+ghost use Rattle.sm_solve.specs.Given.{IsWhole, classes_by, branch_of};
+ghost use Rattle.sm_solve.specs.Holding.{split_of};
+ghost use Rattle.sm_solve.specs.Parts.{all_numbered, assertions_in, AreFormulasWithin};
+ghost use Rattle.sm_solve.specs.Refutations.{IsRefutation};
+ghost use Rattle.sm_solve.specs.Seeing.{seen_in};
+ghost use Rattle.sm_solve.specs.Walk.{Walked, by_classes, by_forms, by_parts, forms_of};
+ghost use Rattle.sm_solve.specs.Walking.{TellsVisit, ShowsVisit, IsVisitCounted};
+
+use crate::certify::closing_tree;
+use crate::classes::classes_of;
+use crate::closing::{BranchSplit, closed_by, split_of};
+use crate::eliminating::{ByForms, by_forms};
+use crate::refute::refutation_tree;
+use sm_cc::Classes;
+use sm_cert::CertTree;
+use sm_num::Op;
+use sm_term::{Formula, TermTable, Terms};
+use std::alloc::{AllocError, Global};
+
+// What the visit of a branch comes to.
+#[derive(Debug, Drop)]
+pub(crate) enum Visit {
+    // It is closed, with the count of steps so far.
+    Closed { count: u64, tree: CertTree },
+    // It stays open.
+    Open,
+    // It is split, with the count of steps so far.
+    Split { count: u64, split: BranchSplit },
+    // No step is left.
+    Steps,
+    // An operation leaves the range of linear forms.
+    Coefficient { op: Op, a: i128, b: i128 },
+}
+
+// Visits the branch of these facts, after `count` steps of `steps` with that of the visit. Its
+// terms are those of the table.
+pub(crate) fn visit_branch(
+    alloc: Global,
+    table: &TermTable,
+    terms: &Terms,
+    facts: &[Formula],
+    steps: u64,
+    count: u64,
+) -> Result<Visit, AllocError>
+    requires whole { IsWhole (trees_in table.now) terms.now.list.items }
+    requires within { AreFormulasWithin (length (trees_in table.now)) (all_numbered facts.now) }
+    requires sorted { AreFormsSorted (sorts_in table.now)
+        (assertions_in (sorts_in table.now) (trees_in table.now) (all_numbered facts.now)) }
+    requires counted { count ≤ steps }
+    ensures tells { let sorts = sorts_in table.now in let trees = trees_in table.now in
+        let all = assertions_in sorts trees (all_numbered facts.now) in
+        (go : ℕ → List Assertion → Walked) → IfOk result (λ v. TellsVisit sorts trees all go v
+        (by_classes go steps (branch_of table.now facts.now) count)) }
+    ensures shows { let sorts = sorts_in table.now in let trees = trees_in table.now in
+        let all = assertions_in sorts trees (all_numbered facts.now) in
+        IfOk result (ShowsVisit sorts trees all) }
+    ensures counted { IfOk result (IsVisitCounted steps) }
+{
+    if !are_few(facts) {
+        return Err(AllocError);
+    }
+    let classes = classes_of(alloc, table, terms, facts)?;
+    match closed_by(alloc, &classes, table, facts)? {
+        Some(why) => {
+            let tree = closing_tree(alloc, &classes, table, terms, facts, why)?;
+            Ok(Visit::Closed { count, tree })
+        }
+        None => visit_forms(alloc, &classes, table, terms, facts, steps, count),
+    }
+}
+
+// Whether there are fewer facts than any memory holds.
+fn are_few(facts: &[Formula]) -> bool
+    ensures { result ≡ true → length facts.now < 2 ^ 62 }
+{
+    facts.len() < 4_611_686_018_427_387_904
+}
+
+// Visits the forms of a branch that isn't closed at once.
+fn visit_forms<'a>(
+    alloc: Global,
+    classes: &Classes<'a>,
+    table: &TermTable,
+    terms: &Terms,
+    facts: &[Formula],
+    steps: u64,
+    count: u64,
+) -> Result<Visit, AllocError>
+    requires whole { IsWhole (trees_in table.now) terms.now.list.items }
+    requires classes { classes.now ≡ classes_by table.now terms.now.list.items facts.now }
+    requires seen { seen_in (sorts_in table.now) (trees_in table.now) (trees_in table.now) facts.now
+        (are_equal (setting_of classes.now))
+        (are_apart (setting_of classes.now) (are_equal (setting_of classes.now)))
+        ≡ branch_of table.now facts.now }
+    requires within { AreFormulasWithin (length (trees_in table.now)) (all_numbered facts.now) }
+    requires sorted { AreFormsSorted (sorts_in table.now)
+        (assertions_in (sorts_in table.now) (trees_in table.now) (all_numbered facts.now)) }
+    requires few { length facts.now < 2 ^ 62 }
+    requires counted { count ≤ steps }
+    ensures tells { let sorts = sorts_in table.now in let trees = trees_in table.now in
+        let all = assertions_in sorts trees (all_numbered facts.now) in
+        let b = branch_of table.now facts.now in
+        (go : ℕ → List Assertion → Walked) → IfOk result (λ v. TellsVisit sorts trees all go v
+        (by_forms steps count (length trees) (forms_of b) (by_parts go all (split_of b)))) }
+    ensures shows { let sorts = sorts_in table.now in let trees = trees_in table.now in
+        let all = assertions_in sorts trees (all_numbered facts.now) in
+        IfOk result (ShowsVisit sorts trees all) }
+    ensures counted { IfOk result (IsVisitCounted steps) }
+{
+    match by_forms(alloc, classes, table, facts, steps, count)? {
+        ByForms::Contradiction {
+            count: at,
+            refutation,
+        } => {
+            let tree = refutation_tree(alloc, classes, table, terms, facts, &refutation)?;
+            Ok(Visit::Closed { count: at, tree })
+        }
+        ByForms::GoesOn { count: at } => visit_split(alloc, classes, table, facts, at),
+        ByForms::Steps => Ok(Visit::Steps),
+        ByForms::Coefficient { op, a, b } => Ok(Visit::Coefficient { op, a, b }),
+    }
+}
+
+// Splits a branch that its forms don't close.
+fn visit_split<'a>(
+    alloc: Global,
+    classes: &Classes<'a>,
+    table: &TermTable,
+    facts: &[Formula],
+    count: u64,
+) -> Result<Visit, AllocError>
+    requires table { trees_in classes.now.table ≡ trees_in table.now }
+    requires seen { seen_in (sorts_in table.now) (trees_in table.now) (trees_in table.now) facts.now
+        (are_equal (setting_of classes.now))
+        (are_apart (setting_of classes.now) (are_equal (setting_of classes.now)))
+        ≡ branch_of table.now facts.now }
+    requires within { AreFormulasWithin (length (trees_in table.now)) (all_numbered facts.now) }
+    ensures tells { let sorts = sorts_in table.now in let trees = trees_in table.now in
+        let all = assertions_in sorts trees (all_numbered facts.now) in
+        let b = branch_of table.now facts.now in
+        (go : ℕ → List Assertion → Walked) → IfOk result (λ v. TellsVisit sorts trees all go v
+        (by_parts go all (split_of b) count)) }
+    ensures shows { let sorts = sorts_in table.now in let trees = trees_in table.now in
+        let all = assertions_in sorts trees (all_numbered facts.now) in
+        IfOk result (ShowsVisit sorts trees all) }
+    ensures counted { (steps : ℕ) → count ≤ steps → IfOk result (IsVisitCounted steps) }
+{
+    match split_of(alloc, classes, table, facts)? {
+        Some(split) => Ok(Visit::Split { count, split }),
+        None => Ok(Visit::Open),
+    }
+}

@@ -1,0 +1,166 @@
+// The walk from a branch.
+ghost use Rattle.std.specs.Prelude.{◌≡◌, ◌≤◌, ◌+◌, Some, List, [], ◌∷◌, ◌++◌, length, IfOk, OnOk};
+ghost use Rattle.sm_term.specs.Formulas.{numbered, assertion_in, IsFormulaWithin};
+ghost use Rattle.sm_term.specs.Sorted.{IsFormSorted, AreFormsSorted};
+ghost use Rattle.sm_term.specs.Tables.{trees_in, sorts_in};
+ghost use Rattle.sm_solve.specs.Branches.{with_parts};
+ghost use Rattle.sm_solve.specs.Given.{IsWhole};
+ghost use Rattle.sm_solve.specs.Parts.{all_numbered, assertions_in, AreFormulasWithin};
+ghost use Rattle.sm_solve.specs.Splits.{split_told, IsToldWithin, SplitsBranch};
+ghost use Rattle.sm_solve.specs.Walk.{walk_from, by_parts};
+ghost use Rattle.sm_solve.specs.Walking.{TellsEnd, ShowsEnd, IsEndCounted};
+
+use crate::branching::copy_facts;
+use crate::closing::BranchSplit;
+use crate::ending::{WalkEnd, led_end, split_end};
+use crate::parts::add_with_parts;
+use crate::solving::Leaf;
+use crate::visiting::{Visit, visit_branch};
+use sm_term::{Formula, TermTable, Terms};
+use std::alloc::{AllocError, Global};
+
+// Walks from the branch of these facts, after `count` steps of `steps`. So many more splits may
+// stand above a branch as there is room for.
+#[cycle(walk)]
+pub(crate) fn walk_from(
+    alloc: Global,
+    table: &TermTable,
+    terms: &Terms,
+    steps: u64,
+    room: u64,
+    count: u64,
+    facts: &mut Vec<Formula>,
+) -> Result<WalkEnd, AllocError>
+    requires whole { IsWhole (trees_in table.now) terms.now.list.items }
+    requires within { let count = length (trees_in table.now) in
+        AreFormulasWithin count (all_numbered facts.old.items) }
+    requires sorted { AreFormsSorted (sorts_in table.now)
+        (assertions_in (sorts_in table.now) (trees_in table.now) (all_numbered facts.old.items)) }
+    requires counted { count ≤ steps }
+    ensures tells { let sorts = sorts_in table.now in let trees = trees_in table.now in
+        let all = assertions_in sorts trees (all_numbered facts.old.items) in
+        IfOk result (λ e. TellsEnd sorts trees e (walk_from sorts trees steps room count all)) }
+    ensures shows { let sorts = sorts_in table.now in let trees = trees_in table.now in
+        let all = assertions_in sorts trees (all_numbered facts.old.items) in
+        IfOk result (ShowsEnd sorts trees all room) }
+    ensures counted { IfOk result (IsEndCounted steps) }
+    ensures kept { let sorts = sorts_in table.now in let trees = trees_in table.now in
+        OnOk result (assertions_in sorts trees (all_numbered facts.new.items)
+        ≡ assertions_in sorts trees (all_numbered facts.old.items)) }
+    ensures within { OnOk result
+        (AreFormulasWithin (length (trees_in table.now)) (all_numbered facts.new.items)) }
+{
+    if room == 0 || count == steps {
+        return Ok(WalkEnd::Steps);
+    }
+    match visit_branch(alloc, table, terms, facts.as_slice(), steps, count + 1)? {
+        Visit::Closed { count: at, tree } => Ok(WalkEnd::Closed { count: at, tree }),
+        Visit::Open => {
+            let list = copy_facts(alloc, facts.as_slice())?;
+            Ok(WalkEnd::Open {
+                leaf: Leaf { list },
+            })
+        }
+        Visit::Split { count: at, split } => {
+            walk_parts(alloc, table, terms, steps, room - 1, at, facts, split)
+        }
+        Visit::Steps => Ok(WalkEnd::Steps),
+        Visit::Coefficient { op, a, b } => Ok(WalkEnd::Coefficient { op, a, b }),
+    }
+}
+
+// Walks from both parts of a branch, the first first.
+#[cycle(walk)]
+fn walk_parts(
+    alloc: Global,
+    table: &TermTable,
+    terms: &Terms,
+    steps: u64,
+    room: u64,
+    count: u64,
+    facts: &mut Vec<Formula>,
+    split: BranchSplit,
+) -> Result<WalkEnd, AllocError>
+    requires whole { IsWhole (trees_in table.now) terms.now.list.items }
+    requires within { let count = length (trees_in table.now) in
+        AreFormulasWithin count (all_numbered facts.old.items) }
+    requires sorted { AreFormsSorted (sorts_in table.now)
+        (assertions_in (sorts_in table.now) (trees_in table.now) (all_numbered facts.old.items)) }
+    requires counted { count ≤ steps }
+    requires split { IsToldWithin (length (trees_in table.now)) (Some split) }
+    requires line { let sorts = sorts_in table.now in let trees = trees_in table.now in
+        SplitsBranch sorts trees (assertions_in sorts trees (all_numbered facts.old.items))
+        (Some split) }
+    ensures tells { let sorts = sorts_in table.now in let trees = trees_in table.now in
+        let all = assertions_in sorts trees (all_numbered facts.old.items) in
+        IfOk result (λ e. TellsEnd sorts trees e
+        (by_parts (walk_from sorts trees steps room) all
+        (split_told sorts trees (Some split)) count)) }
+    ensures shows { let sorts = sorts_in table.now in let trees = trees_in table.now in
+        let all = assertions_in sorts trees (all_numbered facts.old.items) in
+        IfOk result (ShowsEnd sorts trees all (room + 1)) }
+    ensures counted { IfOk result (IsEndCounted steps) }
+    ensures kept { let sorts = sorts_in table.now in let trees = trees_in table.now in
+        OnOk result (assertions_in sorts trees (all_numbered facts.new.items)
+        ≡ assertions_in sorts trees (all_numbered facts.old.items)) }
+    ensures within { OnOk result
+        (AreFormulasWithin (length (trees_in table.now)) (all_numbered facts.new.items)) }
+{
+    // The terms of a table are sorted, as its length ensures.
+    table.len();
+    match walk_part(alloc, table, terms, steps, room, count, facts, split.first)? {
+        WalkEnd::Closed { count: at, tree } => {
+            let end = walk_part(alloc, table, terms, steps, room, at, facts, split.second)?;
+            let whole = split_end(alloc, split.line, tree, end)?;
+            Ok(whole)
+        }
+        WalkEnd::Open { leaf } => Ok(WalkEnd::Open { leaf }),
+        WalkEnd::Steps => Ok(WalkEnd::Steps),
+        WalkEnd::Coefficient { op, a, b } => Ok(WalkEnd::Coefficient { op, a, b }),
+    }
+}
+
+// Walks from the branch with one more formula and its parts, and leaves the facts as they were.
+#[cycle(walk)]
+fn walk_part(
+    alloc: Global,
+    table: &TermTable,
+    terms: &Terms,
+    steps: u64,
+    room: u64,
+    count: u64,
+    facts: &mut Vec<Formula>,
+    f: Formula,
+) -> Result<WalkEnd, AllocError>
+    requires whole { IsWhole (trees_in table.now) terms.now.list.items }
+    requires within { let count = length (trees_in table.now) in
+        AreFormulasWithin count (all_numbered facts.old.items) }
+    requires sorted { AreFormsSorted (sorts_in table.now)
+        (assertions_in (sorts_in table.now) (trees_in table.now) (all_numbered facts.old.items)) }
+    requires counted { count ≤ steps }
+    requires formula { IsFormulaWithin (length (trees_in table.now)) (numbered f) }
+    requires formula_sorted { IsFormSorted (sorts_in table.now)
+        (assertion_in (sorts_in table.now) (trees_in table.now) (numbered f)) }
+    ensures tells { let sorts = sorts_in table.now in let trees = trees_in table.now in
+        let all = assertions_in sorts trees (all_numbered facts.old.items) in
+        let last = assertion_in sorts trees (numbered f) in
+        IfOk result (λ e. TellsEnd sorts trees e
+        (walk_from sorts trees steps room count (all ++ with_parts (last ∷ [])))) }
+    ensures shows { let sorts = sorts_in table.now in let trees = trees_in table.now in
+        let all = assertions_in sorts trees (all_numbered facts.old.items) in
+        let last = assertion_in sorts trees (numbered f) in
+        IfOk result (ShowsEnd sorts trees (all ++ last ∷ []) room) }
+    ensures counted { IfOk result (IsEndCounted steps) }
+    ensures kept { let sorts = sorts_in table.now in let trees = trees_in table.now in
+        OnOk result (assertions_in sorts trees (all_numbered facts.new.items)
+        ≡ assertions_in sorts trees (all_numbered facts.old.items)) }
+    ensures within { OnOk result
+        (AreFormulasWithin (length (trees_in table.now)) (all_numbered facts.new.items)) }
+{
+    let from = facts.len();
+    add_with_parts(alloc, facts, f)?;
+    let end = walk_from(alloc, table, terms, steps, room, count, facts)?;
+    let led = led_end(alloc, facts.as_slice(), from, end)?;
+    facts.truncate(from);
+    Ok(led)
+}
