@@ -1,4 +1,5 @@
 mod DeclaredLemmas
-mod WithinLemmas
-mod SortedNames
 mod GrowthLemmas
+mod SortedNames
+mod WithinLemmas
+pub mod FormulasLemmas

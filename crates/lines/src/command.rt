@@ -6,6 +6,7 @@ use crate::line::line_answer;
 use crate::refusal::Refusal;
 use crate::scene::{Scene, read_names};
 use crate::sizes::sized_answer;
+use crate::solving::solve_answer;
 use crate::symbols::{condition_answer, expression_answer};
 use crate::term::{get_answer, sort_answer, term_answer};
 use crate::tree::tree_answer;
@@ -69,6 +70,7 @@ fn group_answer(alloc: Global, scene: &mut Scene, words: &[&str]) -> Result<Stri
         "cond" => condition_answer(alloc, scene, &words[1..]),
         "fact" => fact_answer(alloc, scene, &words[1..]),
         "line" => line_answer(alloc, scene, &words[1..]),
+        "solve" if words.len() > 1 => solve_answer(alloc, scene, words[1], &words[2..]),
         _ => sized_answer(alloc, scene, words),
     }
 }

@@ -16,8 +16,8 @@ pub fn fact_answer(alloc: Global, scene: &mut Scene, words: &[&str]) -> Result<S
     Ok(format!(in alloc; "{number}")?)
 }
 
-// The formula of words.
-fn read_formula(alloc: Global, scene: &Scene, words: &[&str]) -> Result<Formula, Refusal> {
+/// The formula of words.
+pub fn read_formula(alloc: Global, scene: &Scene, words: &[&str]) -> Result<Formula, Refusal> {
     match *words {
         ["yes"] => Ok(Formula::Yes),
         ["no"] => Ok(Formula::No),

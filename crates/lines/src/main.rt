@@ -29,6 +29,10 @@
 //! - `chain 1000` and `sums 1000` put facts on the branch and ask whether a certificate of that
 //!   many equations that are chained, or of sums without an atom, closes it. `intern 1000` puts in
 //!   that many sums.
+//! - `solve 100 eq 0 1` walks over the branches of the facts and the contrary of the formula, in so
+//!   many steps: `closed` with the first words of the lines of the certificate, which is checked, or
+//!   with their number where they are more than 20; `open` with the facts of the first branch that
+//!   stays open; `steps` where they don't suffice; `beyond` where an operation leaves the range.
 //! - `form`, `elim`, `tight`, `combine`, `cancels` and `contradiction` are calls on linear forms. A
 //!   form is `le -2*0 3*1 1`: what it says of its sum, its parts, each a coefficient and an atom,
 //!   and its constant. `beyond` stands where an operation leaves the range, with its operands.
@@ -43,6 +47,7 @@ mod line;
 mod refusal;
 mod scene;
 mod sizes;
+mod solving;
 mod summary;
 mod symbols;
 mod term;

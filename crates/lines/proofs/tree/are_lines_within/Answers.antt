@@ -1,5 +1,5 @@
 -- A line that is within, before others that are.
-use Rattle.std.proofs.Common.{length, drop, sym, subst}
+use Rattle.std.proofs.Common.{length, sym, subst}
 use Rattle.std.proofs.lemmas.Bool.{OnTrue_at}
 use Rattle.std.proofs.lemmas.List.{drop_all}
 use Rattle.sm_term.specs.Tables.{trees_in}
