@@ -1,0 +1,106 @@
+#!/usr/bin/env python3
+"""Writes an obligation of a size for the program of worked cases, and the same in SMT-LIB for other solvers.
+
+obligations.py KIND FACTS DIRECTORY
+
+`arrays`: arrays and indices that are equal one after the other, and an element of the first that is one of the last.
+`differences`: each number is at most the next one, so the first is at most the last.
+`grid`: each place of a square is the one above it and a step down, and the one on its left and a step to the right.
+The directory gets `lines` and `obligation.smt2`.
+"""
+import sys
+
+
+class Obligation:
+    """Terms and facts, as lines of the program and as SMT-LIB."""
+
+    def __init__(self, arrays, numbers):
+        self.lines = ["table " + " ".join(["a"] * arrays + ["n"] * numbers)]
+        self.smt = ["(set-logic ALL)"]
+        self.count = 0
+        self.words = []
+        for name in range(arrays + numbers):
+            sort = "(Array Int Int)" if name < arrays else "Int"
+            self.smt.append("(declare-const x%d %s)" % (name, sort))
+            self.put("start %d" % name, "x%d" % name)
+
+    def put(self, line, word):
+        self.lines.append("t " + line)
+        self.words.append(word)
+        self.count += 1
+        return self.count - 1
+
+    def add(self, t, u):
+        return self.put("add %d %d" % (t, u), "(+ %s %s)" % (self.words[t], self.words[u]))
+
+    def times(self, t, u):
+        return self.put("mul %d %d" % (t, u), "(* %s %s)" % (self.words[t], self.words[u]))
+
+    def number(self, value):
+        return self.put("lit %d" % value, str(value))
+
+    def read(self, a, i):
+        return self.put("read %d %d" % (a, i), "(select %s %s)" % (self.words[a], self.words[i]))
+
+    def smt_of(self, op, t, u):
+        return "(%s %s %s)" % ({"eq": "=", "le": "<=", "lt": "<"}[op], self.words[t], self.words[u])
+
+    def fact(self, op, t, u):
+        self.lines.append("fact %s %d %d" % (op, t, u))
+        self.smt.append("(assert %s)" % self.smt_of(op, t, u))
+
+    def target(self, op, t, u):
+        self.lines.append("solve 100000000 %s %d %d" % (op, t, u))
+        self.smt.append("(assert (not %s))" % self.smt_of(op, t, u))
+        self.smt.append("(check-sat)")
+
+
+def arrays(facts):
+    half = facts // 2
+    o = Obligation(half + 1, half + 1)
+    first = o.read(0, half + 1)
+    last = o.read(half, 2 * half + 1)
+    for k in range(half):
+        o.fact("eq", k, k + 1)
+        o.fact("eq", half + 1 + k, half + 2 + k)
+    o.target("eq", first, last)
+    return o
+
+
+def differences(facts):
+    o = Obligation(0, facts + 1)
+    for k in range(facts):
+        o.fact("le", k, k + 1)
+    o.target("le", 0, facts)
+    return o
+
+
+def grid(facts):
+    side = max(1, int((facts / 2) ** 0.5))
+    o = Obligation(0, (side + 1) * (side + 1) + 2)
+    down, right = o.count - 2, o.count - 1
+
+    def at(row, column):
+        return row * (side + 1) + column
+
+    for row in range(side + 1):
+        for column in range(side + 1):
+            if row < side:
+                o.fact("eq", at(row + 1, column), o.add(at(row, column), down))
+            if column < side:
+                o.fact("eq", at(row, column + 1), o.add(at(row, column), right))
+    times = o.number(side)
+    whole = o.add(at(0, 0), o.add(o.times(times, down), o.times(times, right)))
+    o.target("eq", at(side, side), whole)
+    return o
+
+
+def main():
+    kind, facts, place = sys.argv[1], int(sys.argv[2]), sys.argv[3]
+    o = {"arrays": arrays, "differences": differences, "grid": grid}[kind](facts)
+    for name, lines in (("lines", o.lines), ("obligation.smt2", o.smt)):
+        with open("%s/%s" % (place, name), "w", encoding="utf-8") as file:
+            file.write("\n".join(lines) + "\n")
+
+
+main()

@@ -1,0 +1,31 @@
+#!/bin/sh
+# Answers obligations of 100, 1,000 and 10,000 facts, written by obligations.py, and shows seconds and KiB of memory, beside
+# the seconds of z3 and of cvc5 where these are installed, one process each. Then it answers 20,000 random ones, written
+# and judged by random_obligations.py. Run it at the top, after `rt run` in crates/lines.
+#
+# bench/obligations.sh [PROGRAM [SIZES]]
+set -eu
+program=${1:-crates/lines/out/lines}
+sizes=${2:-100 1000 10000}
+here=$(dirname "$0")
+place=$(mktemp -d)
+trap 'rm -rf "$place"' EXIT
+
+# The seconds of another solver, none where it isn't installed.
+other() {
+  command -v "$1" > /dev/null || { echo -; return; }
+  /usr/bin/time -q -f %e -o "$place/cost" timeout 600 "$1" "$place/obligation.smt2" > "$place/said" || true
+  grep -q -x unsat "$place/said" && cat "$place/cost" || echo "none"
+}
+
+printf '%-12s %7s %9s %9s %9s %9s  %s\n' kind facts seconds KiB z3 cvc5 answer
+for kind in arrays differences grid; do
+  for size in $sizes; do
+    python3 "$here/obligations.py" "$kind" "$size" "$place"
+    /usr/bin/time -q -f '%e %M' -o "$place/own" timeout 600 "$program" < "$place/lines" > "$place/printed" || true
+    read -r seconds memory < "$place/own"
+    printf '%-12s %7d %9s %9s %9s %9s  %s\n' "$kind" "$size" "$seconds" "$memory" "$(other z3)" "$(other cvc5)" \
+      "$(tail -n 1 "$place/printed")"
+  done
+done
+python3 "$here/random_obligations.py" "$program" 20000
