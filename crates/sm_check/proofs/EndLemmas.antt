@@ -13,12 +13,12 @@ use Rattle.sm_proof.specs.Verdicts as proof
 use Rattle.sm_check.specs.declared.checker.State.TheVariants.{Done, More}
 use Rattle.sm_check.specs.declared.taken_lines.TakenLines.{TakenLines}
 use Rattle.sm_check.specs.declared.unfinished.Unfinished.{Unfinished}
-use Rattle.sm_check.specs.Files.{Judged, OverLong, file_answer, cut_answer}
+use Rattle.sm_check.specs.Files.{Judged, file_answer, cut_answer}
 use Rattle.sm_check.specs.Pieces.{reach, AreTaken}
 use Rattle.sm_check.proofs.LineLemmas.{reach_refused}
 
 -- the verdict by how far the bytes come
-verdict-reach : (s : Subject) (bytes : List ℕ) → verdict s bytes ≡ verdict_at_end (reach s bytes) (lines_in bytes).rest
+pub verdict-reach : (s : Subject) (bytes : List ℕ) → verdict s bytes ≡ verdict_at_end (reach s bytes) (lines_in bytes).rest
 unfolding reach
 verdict-reach s bytes = refl
 
@@ -60,11 +60,6 @@ refused_by limit s bytes k line word false fits low bad =
 pub refused_answer : (limit : ℕ) (s : Subject) (bytes : List ℕ) (k line : ℕ) (word : Word) → k ≤ limit →
     reach s (take k bytes) ≡ Refused line word → file_answer limit s bytes ≡ Judged (proof.Rejected line word)
 refused_answer limit s bytes k line word low bad = refused_by limit s bytes k line word (nat_le (length bytes) limit) refl low bad
-
--- all lines within the limit are fine, and there are more bytes
-pub over_long : (limit : ℕ) (s : Subject) (bytes : List ℕ) (n : ℕ) (at : Standing) → limit < length bytes →
-    reach s (take limit bytes) ≡ Before n at → file_answer limit s bytes ≡ OverLong
-over_long limit s bytes n at past fine = answer_past limit s bytes past ∙ ap cut_answer fine
 
 done_by : (test : Bool) → Done ≡ (if test then Done else More) → test ≡ true
 done_by true e = refl

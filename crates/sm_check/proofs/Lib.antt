@@ -21,6 +21,7 @@ pub mod ReadLemmas
 pub mod SkipLemmas
 pub mod SharedLemmas
 pub mod EndLemmas
+pub mod AnswerLemmas
 pub mod CheckerLemmas
 pub mod StartLemmas
 pub mod SpelledCheckable

@@ -12,7 +12,6 @@ use Rattle.sm_proof.specs.Lines.{ProofLine}
 use Rattle.sm_proof.specs.Named.{and_then}
 use Rattle.sm_proof.specs.Passing.{Progress, taken}
 use Rattle.sm_proof.specs.Verdicts.{Subject, Standing, Unopened, Underway, Before, next_standing, opens_if, passes_version}
-use Rattle.sm_proof.specs.Verdicts.{FileLines, lines_in}
 use Rattle.sm_check.specs.declared.checker.Checker.{Checker}
 use Rattle.sm_check.specs.declared.fault.LineFault.{LineFault}
 use Rattle.sm_check.specs.declared.fault.LineFault.TheVariants as fault
@@ -22,7 +21,7 @@ use Rattle.sm_check.specs.declared.taken_lines.TakenLines.{TakenLines}
 use Rattle.sm_check.specs.declared.unfinished.Unfinished.{Unfinished}
 use Rattle.sm_check.specs.Checkers.{GoesOn, Stops}
 use Rattle.sm_check.specs.Pieces.{HasNoEnd, is_unopened, StandsAt, Takes, RefusesAt, Keeps, IsKept, AreTaken, StopsIn}
-use Rattle.sm_check.proofs.LineLemmas.{reach-rest, reach_refused, reach-nil, lines_in-rest}
+use Rattle.sm_check.proofs.LineLemmas.{reach_refused, reach-nil}
 
 -- whether a line leaves the proof before its version line
 abbrev pub opens_of : Result Standing Word → Bool
@@ -121,16 +120,6 @@ keeps_none false kept e none = (none, omega arith)
 pub stops_before : (s : Subject) (bytes more : List ℕ) (stopped : Stopped) → StopsIn s bytes stopped → StopsIn s (bytes ++ more) stopped
 stops_before s bytes more Memory stops = tt
 stops_before s bytes more (Wrong line word) stops = reach_refused s bytes more line word stops
-
--- bytes without an end are kept
-pub rest_is_taken : (lines : TakenLines) (u v : Unfinished) (s : Subject) (bytes more : List ℕ) (t : AreTaken lines u s bytes) →
-    HasNoEnd more → IsKept v ((lines_in bytes).rest ++ more) → AreTaken lines v s (bytes ++ more)
-rest_is_taken lines u v s bytes more t h kept = record {
-  at = t.at;
-  stands = t.stands;
-  reached = reach-rest s bytes more h ∙ t.reached;
-  kept = subst (IsKept v) (sym (ap (λ (ls : FileLines). ls.rest) (lines_in-rest bytes more h))) kept;
-}
 
 -- an error that is passed on
 pub err_is : {T E : Type 0} (P : E → Type 0) (r : Result T E) (x : E) → IsErrAnd r (λ (e : E). e ≡ x) → P x → IfErr r P

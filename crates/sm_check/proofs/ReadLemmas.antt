@@ -1,19 +1,20 @@
 -- The lines of a piece: read behind what was read before, with lines that are set aside.
-use Rattle.std.proofs.Common.{◌≡◌, true, ℕ, List, [], ◌∷◌, ◌++◌, Result, Ok, Err, subst, sym, refl, append-nil, take}
+use Rattle.std.proofs.Common.{◌≡◌, true, ℕ, List, [], ◌∷◌, ◌++◌, Result, Ok, Err, ap, subst, sym, refl}
 use Rattle.std.specs.Result.{OnOk, IfErr}
 use Rattle.sm_proof.specs.declared.word.Word.{Word}
 use Rattle.sm_proof.specs.declared.word.Word.TheVariants.{BadLine}
 use Rattle.sm_proof.specs.Lines.{ProofLine}
 use Rattle.sm_proof.specs.Reading.{read}
-use Rattle.sm_proof.specs.Verdicts.{Subject, lines_in}
+use Rattle.sm_proof.specs.Verdicts.{Subject, FileLines, lines_in}
 use Rattle.sm_check.specs.declared.fault.Stopped.{Stopped}
+use Rattle.sm_check.specs.declared.fault.Stopped.TheVariants.{Wrong, Memory}
 use Rattle.sm_check.specs.declared.taken_lines.TakenLines.{TakenLines}
 use Rattle.sm_check.specs.declared.unfinished.Unfinished.{Unfinished}
-use Rattle.sm_check.specs.Aside.{AreRead, ComesTo, StopsAt, with_line}
+use Rattle.sm_check.specs.Aside.{AreRead, AreWithin, ComesTo, StopsAt, with_line}
 use Rattle.sm_check.specs.Pieces.{AreTaken, HasNoEnd, IsKept, StopsIn, reach}
-use Rattle.sm_check.proofs.AsideLemmas.{line_not_read, line_read, read_taken, stops_in, taken_read}
-use Rattle.sm_check.proofs.LineLemmas.{long_lines_are_bad}
-use Rattle.sm_check.proofs.PieceLemmas.{keeps_long, rest_is_taken, stops_in_piece}
+use Rattle.sm_check.proofs.AsideLemmas.{line_not_read, line_read, read_taken, taken_read}
+use Rattle.sm_check.proofs.LineLemmas.{lines_in-rest, long_lines_are_bad, reach-rest}
+use Rattle.sm_check.proofs.PieceLemmas.{keeps_long}
 
 -- where a call was good, the line was read
 pub line_read_by : {U : Type 0} (x : Result U Stopped) (lines : TakenLines) (aside : List ProofLine) (v : Unfinished) (s : Subject)
@@ -40,21 +41,24 @@ long_line_not_read v s bytes front e h long kept stops =
     line_not_read s bytes front line e h refl
     (subst (λ (x : Result ProofLine Word). StopsAt (with_line s x (reach s bytes)) e) (sym bad) stops)
 
--- nothing of a piece is read, and nothing is set aside
+-- bytes without an end are kept
+pub rest_is_read : (lines : TakenLines) (aside : List ProofLine) (u v : Unfinished) (s : Subject) (bytes more : List ℕ) →
+    AreRead lines aside u s bytes → HasNoEnd more → IsKept v ((lines_in bytes).rest ++ more) → AreRead lines aside v s (bytes ++ more)
+rest_is_read lines aside u v s bytes more t h kept = record {
+  comes = subst (ComesTo lines aside s) (sym (reach-rest s bytes more h)) t.comes;
+  kept = subst (IsKept v) (sym (ap (λ (ls : FileLines). ls.rest) (lines_in-rest bytes more h))) kept;
+}
+
+-- no byte was taken, and nothing is set aside
 pub none_read : (lines : TakenLines) (aside : List ProofLine) (u : Unfinished) (s : Subject) (bytes : List ℕ) → aside ≡ [] →
-    AreTaken lines u s bytes → AreRead lines aside u s (bytes ++ [])
-none_read lines aside u s bytes none t =
-    subst (λ (x : List ProofLine). AreRead lines x u s (bytes ++ [])) (sym none)
-    (subst (λ (x : List ℕ). AreRead lines [] u s x) (sym (append-nil bytes)) (taken_read lines u s bytes t))
+    AreTaken lines u s bytes → AreRead lines aside u s bytes
+none_read lines aside u s bytes none t = subst (λ (x : List ProofLine). AreRead lines x u s bytes) (sym none) (taken_read lines u s bytes t)
 
 -- all that was set aside was taken
-pub aside_taken : (was now : TakenLines) (aside : List ProofLine) (u v : Unfinished) (s : Subject) (bytes more : List ℕ)
-    (t : AreRead was aside u s bytes) → ComesTo now [] s (reach s bytes) → HasNoEnd more →
-    IsKept v ((lines_in bytes).rest ++ more) → AreTaken now v s (bytes ++ more)
-aside_taken was now aside u v s bytes more t comes h kept =
-    rest_is_taken now u v s bytes more (read_taken now u s bytes (record { comes = comes; kept = t.kept })) h kept
+pub all_taken : (was now : TakenLines) (aside : List ProofLine) (u : Unfinished) (s : Subject) (bytes : List ℕ) →
+    AreRead was aside u s bytes → ComesTo now [] s (reach s bytes) → AreTaken now u s bytes
+all_taken was now aside u s bytes t comes = read_taken now u s bytes (record { comes = comes; kept = t.kept })
 
--- or a line of it is bad
-pub aside_refused : (s : Subject) (bytes piece : List ℕ) (n : ℕ) (e : Stopped) → StopsAt (reach s (bytes ++ take n piece)) e →
-    StopsIn s (bytes ++ piece) e
-aside_refused s bytes piece n e stops = stops_in_piece s bytes piece n e (stops_in s (bytes ++ take n piece) e stops)
+-- no lines are within their fields
+pub none_within : (aside : List ProofLine) → aside ≡ [] → AreWithin aside
+none_within aside none = subst AreWithin (sym none) tt

@@ -29,6 +29,10 @@ joined (lines ∷ more) = lines ++ joined more
 abbrev pub lines_aside : Aside → List ProofLine
 lines_aside aside = joined (certificates_of aside.whole.items) ++ map line_of aside.begun.items
 
+-- nothing is set aside
+abbrev pub HoldsNone : Aside → Type 0
+HoldsNone aside = (aside.whole.items ≡ []) × (aside.begun.items ≡ [])
+
 -- the proof that stands here, before its version line the one that begins
 abbrev pub progress_at : Subject → Standing → Progress
 progress_at s Unopened = start_progress s.start

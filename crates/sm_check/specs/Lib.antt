@@ -2,6 +2,7 @@ pub mod Checkable
 pub mod Checkers
 pub mod Errors
 pub mod Files
+pub mod ReadFaults
 pub mod Pieces
 pub mod Tells
 pub mod FormRows
@@ -15,4 +16,5 @@ pub mod NodesTaken
 pub mod CertsTaken
 pub mod Closing
 pub mod Aside
+pub mod Stops
 pub mod Laws

@@ -1,7 +1,7 @@
 // Certificates that are set aside.
 ghost use Rattle.std.specs.Prelude.{◌≡◌, ◌++◌, true, [], ◌∷◌, OnOk};
 ghost use Rattle.sm_proof.specs.Lines.{line_of};
-ghost use Rattle.sm_check.specs.Aside.{lines_aside};
+ghost use Rattle.sm_check.specs.Aside.{lines_aside, HoldsNone};
 
 use crate::certs::{closes_branch, splits_branch};
 use sm_proof::Line;
@@ -29,7 +29,8 @@ pub(crate) struct Aside {
 impl Aside {
     /// Nothing is set aside yet, where so many goals are due.
     pub(crate) fn new(alloc: Global, goals: usize) -> Aside
-        ensures { lines_aside result ≡ [] }
+        ensures lines { lines_aside result ≡ [] }
+        ensures none { HoldsNone result }
     {
         Aside {
             whole: Vec::new(alloc),
@@ -41,7 +42,8 @@ impl Aside {
 
     /// Whether nothing is set aside.
     pub(crate) fn is_empty(&self) -> bool
-        ensures { result ≡ true → lines_aside self.now ≡ [] }
+        ensures lines { result ≡ true → lines_aside self.now ≡ [] }
+        ensures none { HoldsNone self.now → result ≡ true }
     {
         self.whole.is_empty() && self.begun.is_empty()
     }

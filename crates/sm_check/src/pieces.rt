@@ -3,7 +3,7 @@ ghost use Rattle.std.specs.Prelude.{◌≡◌, ◌+◌, ◌^◌, ◌<◌, ◌≤
 ghost use Rattle.std.specs.Prelude.{take, OnOk, IfErr, IfSome, None};
 ghost use Rattle.sm_proof.specs.Verdicts.{Subject};
 ghost use Rattle.sm_check.specs.Aside.{AreRead, AreWithin, lines_aside};
-ghost use Rattle.sm_check.specs.Pieces.{AreTaken, HasNoEnd, StopsIn};
+ghost use Rattle.sm_check.specs.Pieces.{HasNoEnd, StopsIn};
 
 use crate::aside::Aside;
 use crate::fault::Stopped;
@@ -16,29 +16,33 @@ use sm_proof::Word;
 use std::alloc::Global;
 use std::thread::Threads;
 
-/// Takes the next bytes of a file. Nothing stays aside.
+/// Takes the next bytes of a file. What is set aside stays aside.
 pub(crate) fn take_piece<R: Threads + Sync, G: Gate>(
     crew: &Crew<'_, R, G>,
     lines: &mut TakenLines,
+    aside: &mut Aside,
     unfinished: &mut Unfinished,
     alloc: Global,
     piece: &[u8],
 ) -> Result<(), Stopped>
-    requires { lines.old.number + length piece.now < 2 ^ 64 }
-    ensures number { OnOk result (lines.new.number ≤ lines.old.number + length piece.now) }
-    ensures ok { (s : Subject) (bytes : List ℕ) → AreTaken lines.old unfinished.old s bytes →
-        OnOk result (AreTaken lines.new unfinished.new s (bytes ++ piece.now)) }
-    ensures err { (s : Subject) (bytes : List ℕ) → AreTaken lines.old unfinished.old s bytes →
+    requires room { lines.old.number + length (lines_aside aside.old) + length piece.now < 2 ^ 64 }
+    requires within { AreWithin (lines_aside aside.old) }
+    ensures within { OnOk result (AreWithin (lines_aside aside.new)) }
+    ensures number { OnOk result (lines.new.number + length (lines_aside aside.new)
+        ≤ lines.old.number + length (lines_aside aside.old) + length piece.now) }
+    ensures ok { (s : Subject) (bytes : List ℕ) →
+        AreRead lines.old (lines_aside aside.old) unfinished.old s bytes → OnOk result
+        (AreRead lines.new (lines_aside aside.new) unfinished.new s (bytes ++ piece.now)) }
+    ensures err { (s : Subject) (bytes : List ℕ) →
+        AreRead lines.old (lines_aside aside.old) unfinished.old s bytes →
         IfErr result (StopsIn s (bytes ++ piece.now)) }
 {
-    let mut aside = Aside::new(alloc, 0);
     let mut start = 0;
     while let Some(end) = line_end(&piece[start..]) {
         let front = &piece[start..start + end];
-        end_line(crew, lines, &mut aside, unfinished, alloc, front)?;
+        end_line(crew, lines, aside, unfinished, alloc, front)?;
         start += end + 1;
     }
-    lines.take_aside(crew, alloc, &mut aside)?;
     unfinished.add(&piece[start..])?;
     Ok(())
 }

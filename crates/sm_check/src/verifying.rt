@@ -1,19 +1,22 @@
 // Proof files.
-ghost use Rattle.std.specs.Prelude.{◌≡◌, ◌+◌, ◌^◌, ◌<◌, ◌≤◌, ◌⊎◌, ℕ, List, [], length, Ok};
-ghost use Rattle.std.specs.Prelude.{IfOk, IsErrOf};
-ghost use Rattle.sm_io.specs.Causes.{HasReadCause};
+ghost use Rattle.std.specs.Prelude.{◌≡◌, ◌≢◌, ◌+◌, ◌^◌, ◌<◌, ◌≤◌, ◌⊎◌, ℕ, List, [], length, Ok};
+ghost use Rattle.std.specs.Prelude.{Err, IfOk, IfErr, IsErrOf};
 ghost use Rattle.sm_io.specs.Files.{absent, WhereHeld};
-ghost use Rattle.sm_proof.specs.Verdicts.{Subject, Unopened, Pass, subject_of, verdict};
+ghost use Rattle.sm_proof.specs.Verdicts.{Subject, Unopened, Pass, Reached, subject_of, verdict};
 ghost use Rattle.sm_syntax.specs.claim.ConflictFree.{ConflictFree};
 ghost use Rattle.sm_syntax.specs.text.Parts.{task_of};
 ghost use Rattle.sm_text.specs.Tasks.{parts_of};
+ghost use Rattle.sm_check.specs.Aside.{AreRead, AreWithin, ComesTo, HoldsNone, lines_aside};
 ghost use Rattle.sm_check.specs.Checkable.{IsCheckable};
 ghost use Rattle.sm_check.specs.Checkers.{IsAt};
 ghost use Rattle.sm_check.specs.Errors.{check_error_of};
-ghost use Rattle.sm_check.specs.Files.{file_answer, verdict_of, TellsAnswer};
+ghost use Rattle.sm_check.specs.Files.{file_answer, cut_answer, verdict_of, Judged, TellsAnswer};
 ghost use Rattle.sm_check.specs.Pieces.{AreTaken};
+ghost use Rattle.sm_check.specs.ReadFaults.{HasFaultCause};
+ghost use Rattle.sm_check.specs.Stops.{stopped_answer};
 ghost use Rattle.sm_check.specs.declared.verifying.CheckError.TheVariants.{Memory as no_memory};
 
+use crate::aside::Aside;
 use crate::checker::{Checker, State};
 use crate::fault::Stopped;
 use crate::jobs::Crew;
@@ -71,7 +74,8 @@ impl From<IoError> for CheckError {
 /// Whether the proof file with a name passes for a task. It is read once, in pieces, and may have
 /// 268,435,456 bytes. A bad line that ended goes before a later fault and before too many bytes.
 /// With more than one worker, certificates of the goals of one node are set aside, up to 64 of
-/// at most 4,096 lines each, and run together. The answer never depends on the workers.
+/// at most 4,096 lines each, and run together. So a bad line may be found behind a read that
+/// failed. The answer never depends on the workers.
 pub fn verify<R: Threads + Sync, G: Gate, H: Shelf>(
     rt: &R,
     alloc: Global,
@@ -92,8 +96,8 @@ pub fn verify<R: Threads + Sync, G: Gate, H: Shelf>(
     ensures absent { H.file shelf.old name.now ≡ absent →
         IsErrOf result CheckError.ReadFault ⊎ IsErrOf result CheckError.Memory }
     ensures same { (other : List ℕ) → H.file shelf.new other ≡ H.file shelf.old other }
-    ensures cause { HasReadCause (H.file shelf.old name.now) (H.read_faults shelf.old)
-        (H.read_faults shelf.new) (IsErrOf result CheckError.ReadFault) }
+    ensures cause { HasFaultCause (H.file shelf.old name.now) (H.read_faults shelf.old)
+        (H.read_faults shelf.new) result }
     ensures writes { H.write_faults shelf.new ≡ H.write_faults shelf.old }
 {
     pass_is_free();
@@ -121,8 +125,8 @@ fn check_file<R: Threads + Sync, G: Gate, H: Shelf>(
     ensures absent { H.file shelf.old name.now ≡ absent →
         IsErrOf result CheckError.ReadFault ⊎ IsErrOf result CheckError.Memory }
     ensures same { (other : List ℕ) → H.file shelf.new other ≡ H.file shelf.old other }
-    ensures cause { HasReadCause (H.file shelf.old name.now) (H.read_faults shelf.old)
-        (H.read_faults shelf.new) (IsErrOf result CheckError.ReadFault) }
+    ensures cause { HasFaultCause (H.file shelf.old name.now) (H.read_faults shelf.old)
+        (H.read_faults shelf.new) result }
     ensures writes { H.write_faults shelf.new ≡ H.write_faults shelf.old }
 {
     let mut piece = blank_piece(alloc)?;
@@ -168,25 +172,106 @@ fn check_pieces<R: Threads + Sync, G: Gate, H: Shelf>(
     ensures absent { H.file shelf.old name.now ≡ absent →
         IsErrOf result CheckError.ReadFault ⊎ IsErrOf result CheckError.Memory }
     ensures same { (other : List ℕ) → H.file shelf.new other ≡ H.file shelf.old other }
-    ensures cause { HasReadCause (H.file shelf.old name.now) (H.read_faults shelf.old)
-        (H.read_faults shelf.new) (IsErrOf result CheckError.ReadFault) }
+    ensures cause { HasFaultCause (H.file shelf.old name.now) (H.read_faults shelf.old)
+        (H.read_faults shelf.new) result }
     ensures writes { H.write_faults shelf.new ≡ H.write_faults shelf.old }
 {
+    let mut aside = Aside::new(alloc, 0);
     let mut place: u64 = 0;
     loop {
-        let count = shelf.read_at(name, place, piece)?;
+        let count = match shelf.read_at(name, place, piece) {
+            Ok(count) => count,
+            Err(error) => return answer_to_fault(crew, alloc, lines, &mut aside, error),
+        };
         if count == 0 {
-            return Ok(at_end(lines, unfinished));
+            return answer_at_end(crew, alloc, lines, &mut aside, unfinished);
         }
         let taken = (count as u64).min(limit - place) as usize;
-        match take_piece(crew, lines, unfinished, alloc, &piece[..taken]) {
+        match take_piece(crew, lines, &mut aside, unfinished, alloc, &piece[..taken]) {
             Ok(()) => place += taken as u64,
-            Err(Stopped::Wrong { line, word }) => return Ok(Checked::Rejected { line, word }),
-            Err(Stopped::Memory) => return Err(CheckError::Memory),
+            Err(stopped) => return answer_to(stopped),
         }
         if taken < count {
-            return Err(CheckError::TooLong);
+            return answer_past_limit(crew, alloc, lines, &mut aside);
         }
+    }
+}
+
+// The answer where a read failed. A bad line that is set aside goes before it; where memory is
+// wanted to take such lines, the fault stands.
+fn answer_to_fault<R: Threads + Sync, G: Gate>(
+    crew: &Crew<'_, R, G>,
+    alloc: Global,
+    lines: &mut TakenLines,
+    aside: &mut Aside,
+    error: IoError,
+) -> Result<Checked, CheckError>
+    requires room { lines.old.number + length (lines_aside aside.old) < 2 ^ 64 }
+    requires within { AreWithin (lines_aside aside.old) }
+    ensures answer { (s : Subject) (r : Reached) → ComesTo lines.old (lines_aside aside.old) s r →
+        TellsAnswer result (cut_answer r) }
+    ensures no_pass { result ≢ Ok Checked.Pass }
+    ensures err { IfErr result (λ e. e ≡ check_error_of error) }
+    ensures none { HoldsNone aside.old → IsErrOf result (check_error_of error) }
+{
+    if aside.is_empty() {
+        return Err(CheckError::from(error));
+    }
+    match lines.take_aside(crew, alloc, aside) {
+        Ok(()) => Err(CheckError::from(error)),
+        Err(Stopped::Wrong { line, word }) => Ok(Checked::Rejected { line, word }),
+        Err(Stopped::Memory) => Err(CheckError::from(error)),
+    }
+}
+
+// The answer where a file has too many bytes, unless a line that is set aside is bad.
+fn answer_past_limit<R: Threads + Sync, G: Gate>(
+    crew: &Crew<'_, R, G>,
+    alloc: Global,
+    lines: &mut TakenLines,
+    aside: &mut Aside,
+) -> Result<Checked, CheckError>
+    requires room { lines.old.number + length (lines_aside aside.old) < 2 ^ 64 }
+    requires within { AreWithin (lines_aside aside.old) }
+    ensures answer { (s : Subject) (r : Reached) → ComesTo lines.old (lines_aside aside.old) s r →
+        TellsAnswer result (cut_answer r) }
+    ensures no_pass { result ≢ Ok Checked.Pass }
+    ensures no_fault { result ≢ Err CheckError.ReadFault }
+{
+    match lines.take_aside(crew, alloc, aside) {
+        Ok(()) => Err(CheckError::TooLong),
+        Err(stopped) => answer_to(stopped),
+    }
+}
+
+// The answer where a file ends.
+fn answer_at_end<R: Threads + Sync, G: Gate>(
+    crew: &Crew<'_, R, G>,
+    alloc: Global,
+    lines: &mut TakenLines,
+    aside: &mut Aside,
+    unfinished: &Unfinished,
+) -> Result<Checked, CheckError>
+    requires room { lines.old.number + length (lines_aside aside.old) < 2 ^ 64 }
+    requires within { AreWithin (lines_aside aside.old) }
+    ensures answer { (s : Subject) (bytes : List ℕ) →
+        AreRead lines.old (lines_aside aside.old) unfinished.now s bytes →
+        TellsAnswer result (Judged (verdict s bytes)) }
+    ensures no_fault { result ≢ Err CheckError.ReadFault }
+{
+    match lines.take_aside(crew, alloc, aside) {
+        Ok(()) => Ok(at_end(lines, unfinished)),
+        Err(stopped) => answer_to(stopped),
+    }
+}
+
+// The answer where lines stop.
+fn answer_to(stopped: Stopped) -> Result<Checked, CheckError>
+    ensures { result ≡ stopped_answer stopped }
+{
+    match stopped {
+        Stopped::Wrong { line, word } => Ok(Checked::Rejected { line, word }),
+        Stopped::Memory => Err(CheckError::Memory),
     }
 }
 

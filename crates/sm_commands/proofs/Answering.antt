@@ -5,6 +5,7 @@ use Rattle.std.specs.declared.alloc.AllocError.{AllocError}
 use Rattle.sm_check.specs.Files.{FileAnswer, Judged, OverLong}
 use Rattle.sm_io.specs.Files.{Known, WhereHeld}
 use Rattle.sm_proof.specs.Verdicts as proof
+use Rattle.sm_proof.specs.declared.word.Word.{Word}
 use Rattle.sm_replay.specs.Trials.{trial, IsFirstViolation, IsLeast}
 use Rattle.sm_replay.specs.declared.verdict.Verdict.{Verdict}
 use Rattle.sm_replay.specs.declared.verdict.Verdict.TheVariants as verdict
@@ -13,7 +14,7 @@ use Rattle.sm_syntax.specs.text.Parts.{Parts, sort_of, task_of}
 use Rattle.sm_syntax.specs.declared.tree.Name.{Name}
 use Rattle.sm_syntax.specs.text.Spells.{Spells}
 use Rattle.sm_commands.specs.Headline.{merge_file, IsSafeMerge}
-use Rattle.sm_commands.specs.Top.{Files, IsAnswerTo, AnswersCommand, AnswersRequest, Checks, Replays, Verifies}
+use Rattle.sm_commands.specs.Top.{Files, IsAnswerTo, AnswersCommand, AnswersRequest, AsksToVerify, Checks, Replays, Verifies}
 use Rattle.sm_commands.specs.Check.{status_of, AnswersCheck, IsInputText, IsNote}
 use Rattle.sm_commands.specs.Copies.{decision}
 use Rattle.sm_commands.specs.Lines.{decision_line, input_line, refusal_line, trial_line}
@@ -21,7 +22,7 @@ use Rattle.sm_commands.specs.File.{GivesTask, IsNoTask}
 use Rattle.sm_commands.specs.Status.{Says}
 use Rattle.sm_commands.specs.Replay.{ReplaysInput}
 use Rattle.sm_commands.specs.Exit.{ExitsWith}
-use Rattle.sm_commands.specs.Verify.{answer_status, AnswersProof}
+use Rattle.sm_commands.specs.Verify.{answer_status, rejected_line, AnswersProof}
 use Rattle.sm_commands.specs.Words.{Words, Asked, check, verify, replay, print, asked, usage_line, IsUsage}
 use Rattle.sm_commands.specs.declared.copies.Decision.{Decision}
 use Rattle.sm_commands.specs.declared.copies.Decision.TheVariants.{Safe, Copies, NotBuilt}
@@ -37,7 +38,8 @@ use Rattle.sm_task.specs.declared.error.TaskError.TheVariants as no_task
 use Rattle.sm_task.proofs.RefusalUnique.{task_or_refusal}
 use Rattle.sm_commands.proofs.Soundness.{safe_is_conflict_free}
 use Rattle.sm_commands.proofs.Usage.{usage_asks_nothing}
-use Rattle.sm_commands.proofs.Statuses.{IsToCommand, without_task, check_to_command, print_to_command, replay_to_command, verify_to_command}
+use Rattle.sm_commands.proofs.Statuses.{IsOfCommand, IsToCommand, without_task}
+use Rattle.sm_commands.proofs.Statuses.{check_to_command, print_to_command, replay_to_command, verify_to_command}
 
 -- only a safe decision is accepted
 accepted_is_safe : (d : Decision) → status_of d ≡ Accepted → d ≡ Safe
@@ -114,35 +116,52 @@ pub accepts : (words : Words) (files : Files) (before now : ℕ) (status : Statu
 accepts words files before now status text answers e ask task asks =
     asked_accepts ask files before now status text (rw asks at answers) e task
 
+-- a bad line is named to words that ask for `verify`
+pub record NamesLine (words : Words) (status : Status) (text : List ℕ) : Type 0 where
+  pub to_verify : AsksToVerify words
+  pub number : ℕ
+  pub word : Word
+  pub says : Says Refused (rejected_line number word) status text
+
 -- Usage is answered exactly where no command takes the words, want of memory and a fault of the output aren't answers, and only a fault to
--- read raises the count
-pub record IsSound (words : Words) (before now : ℕ) (status : Status) : Type 0 where
+-- read raises the count, or a bad line that `verify` names
+pub record IsSound (words : Words) (before now : ℕ) (status : Status) (text : List ℕ) : Type 0 where
   pub usage : status ≡ Usage → IsUsage words
   pub only : IsUsage words → status ≡ Usage
   pub not_memory : status ≢ Memory
   pub not_sink : status ≢ SinkFault
-  pub quiet : status ≢ ReadFault → now ≡ before
+  pub quiet : status ≢ ReadFault → (NamesLine words status text → ⊥) → now ≡ before
 
 pub sound : (words : Words) (files : Files) (before now : ℕ) (status : Status) (text : List ℕ)
-    → IsAnswerTo words files before now status text → IsSound words before now status
+    → IsAnswerTo words files before now status text → IsSound words before now status text
 sound words files before now status text answers = go (asked words) refl answers
   where
-    taken : (ask : Asked) → asked words ≡ Some ask → IsToCommand before now status → IsSound words before now status
-    taken ask e to = record {
-      usage = λ u. absurd (to.of_command.not_usage u);
+    taken : (ask : Asked) → asked words ≡ Some ask → IsOfCommand status →
+        (status ≢ ReadFault → (NamesLine words status text → ⊥) → now ≡ before) → IsSound words before now status text
+    taken ask e of_command quiet = record {
+      usage = λ u. absurd (of_command.not_usage u);
       only = λ u. let none : asked words ≡ None = usage_asks_nothing words u in cc;
-      not_memory = to.of_command.not_memory;
-      not_sink = to.of_command.not_sink;
-      quiet = to.quiet;
+      not_memory = of_command.not_memory;
+      not_sink = of_command.not_sink;
+      quiet = quiet;
     }
 
-    to_command : (ask : Asked) → AnswersCommand ask files before now status text → IsToCommand before now status
-    to_command (check task turns workers) a = check_to_command (files task) turns before now status text a
-    to_command (verify task proof workers) a = verify_to_command (files task) (files proof) before now status text a
-    to_command (replay task input turns) a = replay_to_command (files task) (files input) turns before now status text a
-    to_command (print task) a = print_to_command (files task) before now status text a
+    plain : (ask : Asked) → asked words ≡ Some ask → IsToCommand before now status → IsSound words before now status text
+    plain ask e to = taken ask e to.of_command (λ h other. to.quiet h)
 
-    go : (ask : Option Asked) → asked words ≡ ask → AnswersRequest ask words files before now status text → IsSound words before now status
+    by : (ask : Asked) → asked words ≡ Some ask → AnswersCommand ask files before now status text → IsSound words before now status text
+    by (check task turns workers) e a =
+        plain (check task turns workers) e (check_to_command (files task) turns before now status text a)
+    by (verify task proof workers) e a =
+        let to = verify_to_command (files task) (files proof) before now status text a in
+        taken (verify task proof workers) e to.of_command
+        (λ h other. to.quiet h
+        (λ n w says. other (record { to_verify = (task, proof, workers, e); number = n; word = w; says = says })))
+    by (replay task input turns) e a =
+        plain (replay task input turns) e (replay_to_command (files task) (files input) turns before now status text a)
+    by (print task) e a = plain (print task) e (print_to_command (files task) before now status text a)
+
+    go : (ask : Option Asked) → asked words ≡ ask → AnswersRequest ask words files before now status text → IsSound words before now status text
     go None e a =
         let is = a.says.ended in
         record {
@@ -150,9 +169,9 @@ sound words files before now status text answers = go (asked words) refl answers
           only = λ u. is;
           not_memory = λ e. cc;
           not_sink = λ e. cc;
-          quiet = λ h. a.quiet;
+          quiet = λ h other. a.quiet;
         }
-    go (Some ask) e a = taken ask e (to_command ask a)
+    go (Some ask) e a = by ask e a
 
 -- what is answered to what the words ask for is answered to the words
 pub answers_asked : (words : Words) (files : Files) (before now : ℕ) (ask : Asked) → asked words ≡ Some ask

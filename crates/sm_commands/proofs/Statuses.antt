@@ -1,8 +1,9 @@
 -- Which statuses the answers to what a command asks for have.
-use Rattle.std.proofs.Common.{◌≡◌, ◌≢◌, inl, inr, ℕ, List, Result, Ok, Err, sym, subst, ◌∙◌}
+use Rattle.std.proofs.Common.{◌≡◌, ◌≢◌, inl, inr, ℕ, List, Result, Ok, Err, sym, ap, subst, ◌∙◌}
 use Rattle.sm_check.specs.Files.{FileAnswer, Judged, OverLong}
 use Rattle.sm_io.specs.Files.{Known}
 use Rattle.sm_proof.specs.Verdicts as proof
+use Rattle.sm_proof.specs.declared.word.Word.{Word}
 use Rattle.sm_replay.specs.declared.error.ReplayError.{ReplayError}
 use Rattle.sm_replay.specs.declared.verdict.Verdict.{Verdict}
 use Rattle.sm_replay.specs.declared.verdict.Verdict.TheVariants as verdict
@@ -12,7 +13,8 @@ use Rattle.sm_commands.specs.Check.{status_of, AnswersCheck}
 use Rattle.sm_commands.specs.Copies.{decision}
 use Rattle.sm_commands.specs.File.{GivesNoTask}
 use Rattle.sm_commands.specs.Replay.{verdict_status, GivesNoInput, ReplaysInput}
-use Rattle.sm_commands.specs.Verify.{answer_status, AnswersProof}
+use Rattle.sm_commands.specs.Status.{Says}
+use Rattle.sm_commands.specs.Verify.{answer_line, answer_status, rejected_line, AnswersProof}
 use Rattle.sm_commands.specs.declared.copies.Decision.{Decision}
 use Rattle.sm_commands.specs.declared.copies.Decision.TheVariants.{Safe, Copies, NotBuilt}
 use Rattle.sm_commands.specs.declared.status.Status.{Status}
@@ -47,6 +49,11 @@ same_as status wanted is of = subst IsOfCommand (sym is) of
 pub record IsToCommand (before now : ℕ) (status : Status) : Type 0 where
   pub of_command : IsOfCommand status
   pub quiet : status ≢ ReadFault → now ≡ before
+
+-- and of one to `verify`, which may name a bad line that was found behind a read that failed
+pub record IsToVerify (before now : ℕ) (status : Status) (text : List ℕ) : Type 0 where
+  pub of_command : IsOfCommand status
+  pub quiet : status ≢ ReadFault → ((n : ℕ) (word : Word) → Says Refused (rejected_line n word) status text → ⊥) → now ≡ before
 
 -- an answer on a file that gives no task isn't Accepted either
 pub record IsWithoutTask (before now : ℕ) (status : Status) : Type 0 where
@@ -147,17 +154,21 @@ answered_no_conflict (Judged (proof.Rejected line word)) e = cc
 answered_no_conflict OverLong e = cc
 
 proof_to_command : (t : Parts) (file : Known) (before now : ℕ) (status : Status) (text : List ℕ)
-    → AnswersProof t file before now status text → IsToCommand before now status
+    → AnswersProof t file before now status text → IsToVerify before now status text
 proof_to_command t file before now status text (inl f) =
-    record { of_command = same_as status ReadFault f.says.ended of_fault; quiet = λ h. absurd (h f.says.ended) }
+    record { of_command = same_as status ReadFault f.says.ended of_fault; quiet = λ h other. absurd (h f.says.ended) }
 proof_to_command t file before now status text (inr c) = record {
   of_command = same_as status (answer_status c.answer) c.says.ended (answered_status c.answer);
-  quiet = λ h. c.quiet;
+  quiet = λ h other.
+      c.quiet
+      (λ n word is. other n word (record { ended = c.says.ended ∙ ap answer_status is; printed = c.says.printed ∙ ap answer_line is }));
 }
 
 pub verify_to_command : (file proof : Known) (before now : ℕ) (status : Status) (text : List ℕ)
-    → Verifies file proof before now status text → IsToCommand before now status
-verify_to_command file proof before now status text (inl f) = (without_task file before now status text f).to_command
+    → Verifies file proof before now status text → IsToVerify before now status text
+verify_to_command file proof before now status text (inl f) =
+    let to = (without_task file before now status text f).to_command in
+    record { of_command = to.of_command; quiet = λ h other. to.quiet h }
 verify_to_command file proof before now status text (inr c) =
     let to = proof_to_command c.task proof c.between now status text c.answers in
-    record { of_command = to.of_command; quiet = λ h. to.quiet h ∙ c.gives.read.quiet }
+    record { of_command = to.of_command; quiet = λ h other. to.quiet h other ∙ c.gives.read.quiet }

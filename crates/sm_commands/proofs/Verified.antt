@@ -8,10 +8,12 @@ use Rattle.sm_check.specs.declared.verifying.CheckError.{CheckError}
 use Rattle.sm_check.specs.declared.verifying.CheckError.TheVariants as check
 use Rattle.sm_check.specs.declared.verifying.Checked.{Checked}
 use Rattle.sm_check.specs.declared.verifying.Checked.TheVariants as checked
-use Rattle.sm_io.specs.Causes.{HasReadCause, Rose}
+use Rattle.sm_check.specs.ReadFaults.{HasFaultCause, NamesBadLine}
+use Rattle.sm_io.specs.Causes.{Rose}
 use Rattle.sm_io.specs.Files.{Known, absent, holds, WhereHeld}
-use Rattle.sm_proof.specs.Verdicts.{Verdict, Pass, Reached, Refused, Before, Unopened, reached, lines_in, verdict}
+use Rattle.sm_proof.specs.Verdicts.{Verdict, Pass, Rejected, Reached, Refused, Before, Unopened, reached, lines_in, verdict}
 use Rattle.sm_proof.specs.Verdicts.{subject_of, Passes}
+use Rattle.sm_proof.specs.declared.word.Word.{Word}
 use Rattle.sm_syntax.specs.claim.ConflictFree.{ConflictFree}
 use Rattle.sm_syntax.specs.text.Parts.{Parts, task_of}
 use Rattle.sm_syntax.specs.text.Spells.{Spells}
@@ -147,7 +149,12 @@ pub record IsChecked (t : Parts) (file : Known) (before now : ℕ) (r : Result C
   pub answer : WhereHeld file (λ (bytes : List ℕ). TellsAnswer r (file_answer proof_limit (subject_of t) bytes))
   pub gone : file ≡ absent → (r ≡ Err check.ReadFault) ⊎ (r ≡ Err check.Memory)
   pub sound : r ≡ Ok checked.Pass → ConflictFree (task_of t)
-  pub cause : HasReadCause file before now (r ≡ Err check.ReadFault)
+  pub cause : HasFaultCause file before now r
+
+-- the bad line that is named is in the answer
+in_answer : (c : Checked) → NamesBadLine (Ok c) → ((n : ℕ) (word : Word) → Judged (verdict_of c) ≢ Judged (Rejected n word)) → ⊥
+in_answer checked.Pass bad none = bad
+in_answer (checked.Rejected n word) bad none = none n word refl
 
 -- the reply to it is the answer to the file
 pub judged : (t : Parts) (file : Known) (before now : ℕ) (r : Result Checked CheckError) (status : Status) (line : List ℕ)
@@ -155,7 +162,8 @@ pub judged : (t : Parts) (file : Known) (before now : ℕ) (r : Result Checked C
 judged t file before now (Ok c) status line is says = inr (record {
   answer = Judged (verdict_of c);
   there = λ a. no_verdict c (is.gone a);
-  quiet = is.cause.quiet (λ e. no_verdict c (inl e));
+  later = is.cause.later;
+  quiet = λ none. is.cause.quiet (λ e. no_verdict c (inl e)) (λ bad. in_answer c bad none);
   held = is.answer;
   free = λ passes. is.sound (ap checked_ok (pass_is c passes));
   says = says;
@@ -163,7 +171,8 @@ judged t file before now (Ok c) status line is says = inr (record {
 judged t file before now (Err check.TooLong) status line is says = inr (record {
   answer = OverLong;
   there = λ a. not_long (is.gone a);
-  quiet = is.cause.quiet (λ e. not_long (inl e));
+  later = is.cause.later;
+  quiet = λ none. is.cause.quiet (λ e. not_long (inl e)) (λ bad. bad);
   held = is.answer;
   free = λ passes. absurd (over_fails passes);
   says = says;

@@ -4,6 +4,7 @@
 use Rattle.std.specs.Prelude.{◌≡◌, ◌≢◌, ◌⊎◌, ◌<◌, ℕ, List, Option, Some, None, length, take}
 use Rattle.sm_io.specs.Files.{Known}
 use Rattle.sm_io.specs.Sinks.{Adds}
+use Rattle.sm_proof.specs.declared.word.Word.{Word}
 use Rattle.sm_syntax.specs.text.Parts.{Parts}
 use Rattle.sm_text.specs.printing.Canonical.{task_pieces}
 use Rattle.sm_text.specs.printing.Pieces.{pieces_text}
@@ -11,11 +12,12 @@ use Rattle.sm_commands.specs.Check.{AnswersCheck}
 use Rattle.sm_commands.specs.File.{GivesTask, GivesNoTask}
 use Rattle.sm_commands.specs.Replay.{ReplaysInput}
 use Rattle.sm_commands.specs.Status.{Says}
-use Rattle.sm_commands.specs.Verify.{AnswersProof}
+use Rattle.sm_commands.specs.Verify.{AnswersProof, rejected_line}
 use Rattle.sm_commands.specs.Words.{Words, Asked, check, verify, replay, print, asked, usage_line}
 use Rattle.sm_commands.specs.Words.{IsUsage}
 use Rattle.sm_commands.specs.declared.status.Status.{Status}
-use Rattle.sm_commands.specs.declared.status.Status.TheVariants.{Accepted, Usage, Memory, SinkFault}
+use Rattle.sm_commands.specs.declared.status.Status.TheVariants.{Accepted, Refused, Usage}
+use Rattle.sm_commands.specs.declared.status.Status.TheVariants.{Memory, SinkFault}
 
 -- what a shelf tells of each file
 abbrev pub Files : Type 0
@@ -99,6 +101,21 @@ AnswersRequest (Some ask) words files before now status text =
 abbrev pub IsAnswerTo : Words → Files → ℕ → ℕ → Status → List ℕ → Type 0
 IsAnswerTo words files before now status text =
     AnswersRequest (asked words) words files before now status text
+
+-- the words ask for `verify`
+abbrev pub AsksToVerify : Words → Type 0
+AsksToVerify words =
+    (task : List ℕ) × (proof : List ℕ) × (workers : ℕ)
+    × (asked words ≡ Some (verify task proof workers))
+
+-- `verify` printed that a line of the proof is bad
+pub record RejectsProof (words : Words) (status : Status) (before now : Option (List ℕ))
+    : Type 0 where
+  pub to_verify : AsksToVerify words
+  pub refused : status ≡ Refused
+  pub number : ℕ
+  pub word : Word
+  pub printed : Adds before now (rejected_line number word)
 
 -- an answer with this status was printed whole
 abbrev pub IsPrinted : Status → Type 0

@@ -1,6 +1,6 @@
 -- What `verify` answers to a task and a proof file: whether the file passes for the task, or its
 -- first bad line. Public clauses cite it.
-use Rattle.std.specs.Prelude.{◌≡◌, ◌≢◌, ◌⊎◌, ℕ, List, [], ◌∷◌, codes, decimal}
+use Rattle.std.specs.Prelude.{◌≡◌, ◌≢◌, ◌≤◌, ◌⊎◌, ℕ, List, [], ◌∷◌, codes, decimal}
 use Rattle.sm_check.specs.Files.{FileAnswer, Judged, OverLong, file_answer}
 use Rattle.sm_commands.specs.File.{FailsToRead}
 use Rattle.sm_commands.specs.Lines.{line_of}
@@ -35,12 +35,14 @@ answer_line (Judged (Rejected n word)) = rejected_line n word
 answer_line OverLong = line_of (codes "TooLong") (codes "proof" ∷ [])
 
 -- the file was read as far as its answer needs: where the shelf tells the file's bytes, the answer
--- is theirs; and where it is that the file passes, the task is free of conflicts on every shelf
+-- is theirs; and where it is that the file passes, the task is free of conflicts on every shelf.
+-- Only a bad line may be found behind a read that failed
 pub record JudgesProof (t : Parts) (file : Known) (before now : ℕ) (status : Status)
     (text : List ℕ) : Type 0 where
   pub answer : FileAnswer
   pub there : file ≢ absent
-  pub quiet : now ≡ before
+  pub later : before ≤ now
+  pub quiet : ((n : ℕ) (word : Word) → answer ≢ Judged (Rejected n word)) → now ≡ before
   pub held : WhereHeld file (λ (bytes : List ℕ).
       file_answer proof_limit (subject_of t) bytes ≡ answer)
   pub free : answer ≡ Judged Pass → ConflictFree (task_of t)

@@ -13,7 +13,7 @@ ghost use Rattle.sm_text.specs.printing.Pieces.{pieces_text};
 ghost use Rattle.sm_commands.specs.Headline.{merge_file, IsProved, IsSafeMerge, IsUnsafeMerge};
 ghost use Rattle.sm_commands.specs.Headline.{IsShownByInput, ShowsInput};
 ghost use Rattle.sm_commands.specs.Top.{IsAnswerTo, AnswersCommand, Checks, Prints, Replays};
-ghost use Rattle.sm_commands.specs.Top.{IsPrinted, PutsPart};
+ghost use Rattle.sm_commands.specs.Top.{IsPrinted, PutsPart, RejectsProof};
 ghost use Rattle.sm_commands.specs.Status.{Says};
 ghost use Rattle.sm_commands.specs.Replay.{ReplaysInput};
 ghost use Rattle.sm_commands.specs.Views.{asked_in, HasWorkers};
@@ -75,8 +75,10 @@ pub fn safemerge<R: Threads + Sync, G: Gate, H: Shelf, K: Sink>(
         × Adds (K.taken out.old) (K.taken out.new) text }
     ensures usage { IsPrinted result →
         (result ≡ Status.Usage) ↔ IsUsage (map string_bytes words.now) }
+    // Only a bad line of a proof may be found behind a read that failed.
     ensures read_quiet { IsPrinted result → result ≢ Status.ReadFault →
-        H.read_faults shelf.new ≡ H.read_faults shelf.old }
+        (RejectsProof (map string_bytes words.now) result (K.taken out.old) (K.taken out.new) → ⊥)
+        → H.read_faults shelf.new ≡ H.read_faults shelf.old }
 
     // A fault of the output has its cause, and what was put before it is from the answer's front.
     ensures sink { HasCause (K.faults out.old) (K.faults out.new) (result ≡ Status.SinkFault) }

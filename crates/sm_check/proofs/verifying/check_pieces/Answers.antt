@@ -1,54 +1,88 @@
-use Rattle.std.proofs.Common.{◌≡◌, ◌<◌, ◌≤◌, ◌+◌, ◌∙◌, ◌++◌, ℕ, List, length, take, length-take, sym, ap, subst, arith}
+use Rattle.std.proofs.Common.{◌≡◌, ◌<◌, ◌≤◌, ◌+◌, ◌∙◌, ◌++◌, ℕ, List, [], length, take, length-take, refl, ap, subst, arith}
 use Rattle.sm_io.proofs.FileLemmas.{read_end}
-use Rattle.sm_proof.specs.Verdicts.{Refused, Before, Rejected, verdict}
-use Rattle.sm_check.specs.Files.{file_answer, Judged}
+use Rattle.sm_proof.specs.Lines.{ProofLine}
+use Rattle.sm_proof.specs.Verdicts.{verdict}
+use Rattle.sm_check.specs.Aside.{AreWithin, lines_aside}
+use Rattle.sm_check.specs.Files.{Judged, TellsAnswer, cut_answer}
 use Rattle.sm_check.specs.Pieces.{StopsIn, reach}
-use Rattle.sm_check.specs.declared.fault.Stopped.TheVariants.{Wrong}
-use Rattle.sm_check.proofs.EndLemmas.{answer_within, refused_answer, over_long, taken_more, given_stands}
+use Rattle.sm_check.proofs.AnswerLemmas.{end_told, fault_told, pass_told, past_told, stopped_told}
+use Rattle.sm_check.proofs.EndLemmas.{taken_more, given_stands}
+use Rattle.sm_check.proofs.ReadLemmas.{none_read, none_within}
 use Rattle.sm_check.proofs.verifying.check_pieces.Goals as goal
+
+pub loop-count-init : goal.loop-count-init
+loop-count-init g c = record {
+  within = omega arith;
+  room = omega arith;
+  number = let none = ap (λ (x : List ProofLine). length x) c.new-aside.ensures.lines in omega (arith, none);
+  fields = none_within (lines_aside c.new-aside.result) c.new-aside.ensures.lines;
+  gone = λ absent. c.new-aside.ensures.none;
+  read = (
+    [],
+    λ bytes held. refl,
+    λ s start. none_read c.args.lines.now (lines_aside c.new-aside.result) c.args.unfinished.now s [] c.new-aside.ensures.lines start,
+  );
+  same = λ other. refl;
+  count = refl;
+  writes = refl;
+}
 
 pub returns-then-count-eq0-clause-answer : goal.returns-then-count-eq0-clause-answer
 returns-then-count-eq0-clause-answer g c = λ s start bytes held.
     let so_far = c.loop-count.invariant.read in
-    let given = c.in_ok-count.ensures.bytes bytes (c.loop-count.invariant.same c.args.name.now ∙ held) in
+    let given = c.in-Ok.ensures.bytes bytes (c.loop-count.invariant.same c.args.name.now ∙ held) in
     let room : 0 < length c.read_at.new.buf = omega arith in
     let all : so_far.0 ≡ bytes = read_end bytes _ _ _ _ given c.if-count-eq0.true room (so_far.1 bytes held) in
     let last : length bytes ≤ c.loop-count.place = (given.end room).0 c.if-count-eq0.true in
-    answer_within c.args.limit s bytes (let within = c.loop-count.invariant.within in omega arith)
-    ∙ ap Judged (ap (verdict s) (sym all) ∙ c.at_end.ensures s so_far.0 (so_far.2 s start))
+    end_told c.args.limit s bytes c.answer_at_end.result (let within = c.loop-count.invariant.within in omega arith)
+    (subst (λ (bs : List ℕ). TellsAnswer c.answer_at_end.result (Judged (verdict s bs))) all
+    (c.answer_at_end.ensures.answer s so_far.0 (so_far.2 s start)))
 
-pub returns-in-Err-Wrong-clause-answer : goal.returns-in-Err-Wrong-clause-answer
-returns-in-Err-Wrong-clause-answer g c = λ s start bytes held.
+pub returns-then-count-eq0-clause-sound : goal.returns-then-count-eq0-clause-sound
+returns-then-count-eq0-clause-sound g c = λ s start pass.
+    let so_far = c.loop-count.invariant.read in (
+      so_far.0,
+      pass_told c.answer_at_end.result (verdict s so_far.0) pass (c.answer_at_end.ensures.answer s so_far.0 (so_far.2 s start)),
+    )
+
+pub returns-in-Err-clause-answer : goal.returns-in-Err-clause-answer
+returns-in-Err-clause-answer g c = λ s start bytes held.
     let so_far = c.loop-count.invariant.read in
-    let given = c.in_ok-count.ensures.bytes bytes (c.loop-count.invariant.same c.args.name.now ∙ held) in
+    fault_told c.args.limit s bytes c.loop-count.place c.in-Err.error c.answer_to_fault.result c.loop-count.invariant.within
+    c.answer_to_fault.ensures.err
+    (subst (λ (bs : List ℕ). TellsAnswer c.answer_to_fault.result (cut_answer (reach s bs))) (so_far.1 bytes held)
+    (c.answer_to_fault.ensures.answer s (reach s so_far.0) (so_far.2 s start).comes))
+
+pub returns-in-Err-take_piece-clause-answer : goal.returns-in-Err-take_piece-clause-answer
+returns-in-Err-take_piece-clause-answer g c = λ s start bytes held.
+    let so_far = c.loop-count.invariant.read in
+    let given = c.in-Ok.ensures.bytes bytes (c.loop-count.invariant.same c.args.name.now ∙ held) in
     let min = c.min-taken.ensures in
     let low : c.loop-count.place + c.min-taken.result ≤ c.args.limit = let within = c.loop-count.invariant.within in omega (arith, min) in
-    let bad : StopsIn s (so_far.0 ++ take c.min-taken.result c.read_at.new.buf) (Wrong c.in-Err-Wrong.line c.in-Err-Wrong.word) =
-    subst (StopsIn s (so_far.0 ++ take c.min-taken.result c.read_at.new.buf)) c.in-Err-Wrong.field-0-is
-    (c.in-Err-Wrong.ensures.err s so_far.0 (so_far.2 s start)) in
-    let front = taken_more bytes c.read_at.new.buf so_far.0 c.loop-count.place c.in_ok-count.count c.min-taken.result given
+    let front = taken_more bytes c.read_at.new.buf so_far.0 c.loop-count.place c.in-Ok.count c.min-taken.result given
     (omega (arith, min)) (so_far.1 bytes held) in
-    let answer : file_answer c.args.limit s bytes ≡ Judged (Rejected c.in-Err-Wrong.line c.in-Err-Wrong.word) =
-    refused_answer c.args.limit s bytes (c.loop-count.place + c.min-taken.result) c.in-Err-Wrong.line c.in-Err-Wrong.word low
-    (subst (λ (bs : List ℕ). reach s bs ≡ Refused c.in-Err-Wrong.line c.in-Err-Wrong.word) front bad) in
-    rw (c.in-Err-Wrong.line-is, c.in-Err-Wrong.word-is) answer
+    stopped_told c.args.limit s bytes (c.loop-count.place + c.min-taken.result) c.in-Err-take_piece.stopped c.answer_to.result
+    c.answer_to.ensures low
+    (subst (λ (bs : List ℕ). StopsIn s bs c.in-Err-take_piece.stopped) front
+    (c.in-Err-take_piece.ensures.err s so_far.0 (so_far.2 s start)))
 
 pub returns-then-taken-count-clause-answer : goal.returns-then-taken-count-clause-answer
 returns-then-taken-count-clause-answer g c = λ s start bytes held.
     let so_far = c.loop-count.invariant.read in
-    let given = c.in_ok-count.ensures.bytes bytes (c.loop-count.invariant.same c.args.name.now ∙ held) in
+    let given = c.in-Ok.ensures.bytes bytes (c.loop-count.invariant.same c.args.name.now ∙ held) in
     let min = c.min-taken.ensures in
-    let fine = c.in-Ok.ensures.ok s so_far.0 (so_far.2 s start) in
+    let fine = c.in-Ok-take_piece.ensures.ok s so_far.0 (so_far.2 s start) in
     let less = c.if-taken-count.true in
     let within = c.loop-count.invariant.within in
     let full : c.loop-count.place + c.min-taken.result ≡ c.args.limit = omega (arith, min, less, within) in
-    let stand = given_stands bytes c.read_at.new.buf c.loop-count.place c.in_ok-count.count given
-    c.in_ok-count.ensures.bound (omega (arith, less)) in
-    let front = taken_more bytes c.read_at.new.buf so_far.0 c.loop-count.place c.in_ok-count.count c.min-taken.result given
+    let stand = given_stands bytes c.read_at.new.buf c.loop-count.place c.in-Ok.count given
+    c.in-Ok.ensures.bound (omega (arith, less)) in
+    let front = taken_more bytes c.read_at.new.buf so_far.0 c.loop-count.place c.in-Ok.count c.min-taken.result given
     (omega (arith, min)) (so_far.1 bytes held) in
-    over_long c.args.limit s bytes c.take_piece.new.lines.number fine.at (omega (arith, stand, less, full))
-    (subst (λ (bs : List ℕ). reach s bs ≡ Before c.take_piece.new.lines.number fine.at)
-    (front ∙ ap (λ (n : ℕ). take n bytes) full) fine.reached)
+    past_told c.args.limit s bytes c.answer_past_limit.result (omega (arith, stand, less, full))
+    (subst (λ (bs : List ℕ). TellsAnswer c.answer_past_limit.result (cut_answer (reach s bs)))
+    (front ∙ ap (λ (n : ℕ). take n bytes) full)
+    (c.answer_past_limit.ensures.answer s (reach s (so_far.0 ++ take c.min-taken.result c.read_at.new.buf)) fine.comes))
 
 pub loop-count-preserved : goal.loop-count-preserved
 loop-count-preserved g c =
@@ -58,16 +92,20 @@ loop-count-preserved g c =
     record {
       within = low;
       room = omega arith;
-      number = let more = c.in-Ok.ensures.number in omega (arith, simp length-take at more, c.loop-count.invariant.number);
+      number =
+          let more = c.in-Ok-take_piece.ensures.number in omega (arith, simp length-take at more, c.loop-count.invariant.number);
+      fields = c.in-Ok-take_piece.ensures.within;
+      gone = λ none.
+          let fails = c.in-Ok.ensures.absent (c.loop-count.invariant.same c.args.name.now ∙ none) in absurd (cc);
       read = (
         so_far.0 ++ take c.min-taken.result c.read_at.new.buf,
         λ bytes held.
-            taken_more bytes c.read_at.new.buf so_far.0 c.loop-count.place c.in_ok-count.count c.min-taken.result
-            (c.in_ok-count.ensures.bytes bytes (c.loop-count.invariant.same c.args.name.now ∙ held)) (omega (arith, min))
+            taken_more bytes c.read_at.new.buf so_far.0 c.loop-count.place c.in-Ok.count c.min-taken.result
+            (c.in-Ok.ensures.bytes bytes (c.loop-count.invariant.same c.args.name.now ∙ held)) (omega (arith, min))
             (so_far.1 bytes held),
-        λ s start. c.in-Ok.ensures.ok s so_far.0 (so_far.2 s start),
+        λ s start. c.in-Ok-take_piece.ensures.ok s so_far.0 (so_far.2 s start),
       );
-      same = λ other. c.in_ok-count.ensures.same other ∙ c.loop-count.invariant.same other;
+      same = λ other. c.in-Ok.ensures.same other ∙ c.loop-count.invariant.same other;
       count = grind arith;
       writes = grind arith;
     }

@@ -1,6 +1,7 @@
 use Rattle.std.proofs.Common.{◌≡◌, ◌<◌, ◌≤◌, ◌+◌, ◌-◌, ℕ, List, [], length, take}
-use Rattle.sm_io.specs.Files.{WhereHeld}
+use Rattle.sm_io.specs.Files.{absent, WhereHeld}
 use Rattle.sm_proof.specs.Verdicts.{Subject}
+use Rattle.sm_check.specs.Aside.{AreRead, AreWithin, HoldsNone, lines_aside}
 use Rattle.sm_check.specs.Pieces.{AreTaken}
 use Rattle.sm_check.proofs.verifying.check_pieces.Given as goal
 
@@ -8,9 +9,11 @@ abbrev pub invariant-loop-count : goal.invariant-loop-count
 invariant-loop-count g l = record {
   within : l.place ≤ l.limit;
   room : 0 < length l.piece;
-  number : l.lines.number ≤ l.initial.lines.number + l.place;
+  number : l.lines.number + length (lines_aside l.aside) ≤ l.initial.lines.number + l.place;
+  fields : AreWithin (lines_aside l.aside);
+  gone : g.H.Shelf.file l.initial.shelf l.name ≡ absent → HoldsNone l.aside;
   read : (bytes : List ℕ) × WhereHeld (g.H.Shelf.file l.initial.shelf l.name) (λ held. bytes ≡ take l.place held)
-      × ((s : Subject) → AreTaken l.initial.lines l.initial.unfinished s [] → AreTaken l.lines l.unfinished s bytes);
+      × ((s : Subject) → AreTaken l.initial.lines l.initial.unfinished s [] → AreRead l.lines (lines_aside l.aside) l.unfinished s bytes);
   same : (other : List ℕ) → g.H.Shelf.file l.shelf other ≡ g.H.Shelf.file l.initial.shelf other;
   count : g.H.Shelf.read_faults l.shelf ≡ g.H.Shelf.read_faults l.initial.shelf;
   writes : g.H.Shelf.write_faults l.shelf ≡ g.H.Shelf.write_faults l.initial.shelf;

@@ -23,9 +23,13 @@ returns-in-Ok-clause-usage g c = λ _.
     (s.usage, s.only)
 
 pub returns-in-Ok-clause-read_quiet : goal.returns-in-Ok-clause-read_quiet
-returns-in-Ok-clause-read_quiet g c = λ _.
-    (sound (map string_bytes c.args.words.now) (g.H.Shelf.file c.args.shelf.now) (g.H.Shelf.read_faults c.args.shelf.now)
-    (g.H.Shelf.read_faults c.reply_to.new.shelf) c.in-Some.reply.status c.in-Some.reply.text.items c.in-Some.ensures.answers).quiet
+returns-in-Ok-clause-read_quiet g c = λ _ no_fault no_line.
+    let s =
+    sound (map string_bytes c.args.words.now) (g.H.Shelf.file c.args.shelf.now) (g.H.Shelf.read_faults c.args.shelf.now)
+    (g.H.Shelf.read_faults c.reply_to.new.shelf) c.in-Some.reply.status c.in-Some.reply.text.items c.in-Some.ensures.answers in
+    s.quiet no_fault
+    (λ l. no_line
+    (record { to_verify = l.to_verify; refused = l.says.ended; number = l.number; word = l.word; printed = rw (← l.says.printed) (search rules) }))
 
 pub returns-in-Ok-clause-memory : goal.returns-in-Ok-clause-memory
 returns-in-Ok-clause-memory g c = λ e.

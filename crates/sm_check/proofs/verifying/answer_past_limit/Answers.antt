@@ -1,0 +1,14 @@
+use Rattle.std.proofs.Common.{Result, ap, subst, sym}
+use Rattle.sm_check.specs.declared.verifying.Checked.{Checked}
+use Rattle.sm_check.specs.declared.verifying.CheckError.{CheckError}
+use Rattle.sm_check.specs.Files.{cut_answer, TellsAnswer}
+use Rattle.sm_check.proofs.AnswerLemmas.{stopped_tells}
+use Rattle.sm_check.proofs.verifying.answer_past_limit.Goals as goal
+
+pub returns-in-Ok-clause-answer : goal.returns-in-Ok-clause-answer
+returns-in-Ok-clause-answer g c = λ s r t. let all = c.in-Ok.ensures.ok s r t in ap cut_answer all.reached
+
+pub returns-in-Err-clause-answer : goal.returns-in-Err-clause-answer
+returns-in-Err-clause-answer g c = λ s r t.
+    subst (λ (x : Result Checked CheckError). TellsAnswer x (cut_answer r)) (sym c.answer_to.ensures)
+    (stopped_tells r c.in-Err.stopped (c.in-Err.ensures.err s r t))
