@@ -160,7 +160,7 @@ def solved(rows):
     values = {}
     for name, below, above in reversed(steps):
         def bound(row):
-            rest = sum(value * (1 if key is None else values[key]) for key, value in row.items() if key != name)
+            rest = sum(value * (1 if key is None else values[key]) for key, value in row.items() if key != name and value != 0)
             return -rest / row[name]
         lows, highs = [bound(row) for row in below], [bound(row) for row in above]
         values[name] = max(lows) if lows else min(highs) if highs else Fraction(0)
