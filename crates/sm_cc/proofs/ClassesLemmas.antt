@@ -19,8 +19,8 @@ use Rattle.sm_cc.specs.Standing.{place_of, RowsStand, with_places, places_given,
 use Rattle.sm_cc.specs.Positions.{ArePositions, place_at}
 use Rattle.sm_cc.specs.Log.{Placed}
 use Rattle.sm_cc.specs.Exact.{nothing_given, with_equal, with_unequal}
-use Rattle.sm_cc.specs.Views.{ClassesValue, setting_of, assertion_given, IsTermOf, with_given, no_terms}
-use Rattle.sm_cc.specs.Assumed.{numbers_where, placed_for, with_fact, IsOfTwoTerms, AreClasses}
+use Rattle.sm_cc.specs.Views.{ClassesValue, setting_of, assertion_given, IsTermOf, IsOfTwoTerms, with_given, no_terms}
+use Rattle.sm_cc.specs.Assumed.{numbers_where, placed_for, with_fact, AreClasses}
 use Rattle.sm_cc.proofs.StandingLemmas.{among_there}
 use Rattle.sm_cc.proofs.RowsLemmas.{pushed}
 use Rattle.sm_cc.proofs.TermsOfPlaces.{same_told, apart_told}
@@ -54,7 +54,7 @@ numbers_where-push test (e ∷ gs) g = by (test e) (numbers_where-push test gs g
     by false rest = rest
 
 -- what is seen of places by its parts
-abbrev placed_by : List Row → List (ℕ × ℕ) → List (ℕ × ℕ) → List ℕ → List ℕ → Placed
+abbrev pub placed_by : List Row → List (ℕ × ℕ) → List (ℕ × ℕ) → List ℕ → List ℕ → Placed
 placed_by rows equal unequal ns ms = record {
   board = record { rows = rows; equal = equal; unequal = unequal };
   equal_facts = ns;
@@ -62,7 +62,7 @@ placed_by rows equal unequal ns ms = record {
 }
 
 -- two of equal parts are equal
-placed_alike : (rows : List Row) (a b : List (ℕ × ℕ)) (c d : List (ℕ × ℕ)) (k l m n : List ℕ) → a ≡ b → c ≡ d → k ≡ l → m ≡ n →
+pub placed_alike : (rows : List Row) (a b : List (ℕ × ℕ)) (c d : List (ℕ × ℕ)) (k l m n : List ℕ) → a ≡ b → c ≡ d → k ≡ l → m ≡ n →
     placed_by rows a c k m ≡ placed_by rows b d l n
 placed_alike rows a b c d k l m n p q r s =
     ap (λ (x : List (ℕ × ℕ)). placed_by rows x c k m) p

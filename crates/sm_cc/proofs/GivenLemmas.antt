@@ -19,8 +19,8 @@ use Rattle.sm_cc.specs.Standing.{place_of, with_places, places_given}
 use Rattle.sm_cc.specs.Steps.{IsGiven}
 use Rattle.sm_cc.specs.Explained.{StandAt}
 use Rattle.sm_cc.specs.Explaining.{known_fact, IsOfTerms}
-use Rattle.sm_cc.specs.Views.{ClassesValue, setting_of, assertion_given, numbers_of, IsTermOf, HaveOneSort}
-use Rattle.sm_cc.specs.Assumed.{placed_for, numbers_where, IsOfTwoTerms}
+use Rattle.sm_cc.specs.Views.{ClassesValue, setting_of, assertion_given, numbers_of, IsTermOf, HaveOneSort, IsOfTwoTerms}
+use Rattle.sm_cc.specs.Assumed.{placed_for, numbers_where}
 use Rattle.sm_cc.specs.Classes.{is_among}
 use Rattle.sm_cc.proofs.InsideLemmas.{AreInside}
 use Rattle.sm_cc.proofs.StandingLemmas.{one_thing, among_there}

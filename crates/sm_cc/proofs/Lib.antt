@@ -11,6 +11,7 @@ pub mod LogLemmas
 pub mod MarksLemmas
 pub mod MergesLemmas
 pub mod NumberedLemmas
+pub mod PlacedLemmas
 pub mod PlacesLemmas
 pub mod PlacesOfTerms
 pub mod PositionsLemmas

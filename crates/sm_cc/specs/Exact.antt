@@ -1,10 +1,11 @@
 -- Private: classes of places that are exact.
-use Rattle.std.specs.Prelude.{ℕ, List, [], ◌∷◌, ◌++◌}
+use Rattle.std.specs.Prelude.{ℕ, List, [], ◌∷◌, ◌++◌, map}
 use Rattle.sm_cc.specs.declared.row.Row.{Row}
+use Rattle.sm_cc.specs.declared.log.Given.{Given}
 use Rattle.sm_cc.specs.declared.closure.Closure.{Closure}
 use Rattle.sm_cc.specs.Rows.{ArePlacesClosed}
 use Rattle.sm_cc.specs.Log.{Placed}
-use Rattle.sm_cc.specs.Closures.{IsSound, board_of, are_together}
+use Rattle.sm_cc.specs.Closures.{IsSound, board_of, are_together, pair_of, fact_of}
 
 -- classes follow from what is given, and no rule brings more
 pub record IsExact (c : Closure) : Type 0 where
@@ -17,6 +18,18 @@ nothing_given rows = record {
   board = record { rows = rows; equal = []; unequal = [] };
   equal_facts = [];
   unequal_facts = [];
+}
+
+-- the rows, of which it is given that these places are equal, and that these aren't
+abbrev pub placed_with : List Row → List Given → List Given → Placed
+placed_with rows equal unequal = record {
+  board = record {
+    rows = rows;
+    equal = map pair_of equal;
+    unequal = map pair_of unequal;
+  };
+  equal_facts = map fact_of equal;
+  unequal_facts = map fact_of unequal;
 }
 
 -- two places are given to be equal, last of all

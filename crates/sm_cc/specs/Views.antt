@@ -1,6 +1,6 @@
 -- Cited by public clauses: what is seen of classes of terms.
 use Rattle.std.specs.Prelude.{◌≡◌, ℕ, ◌<◌, true, false, IsTrue, if◌then◌else◌, List, [], ◌∷◌, ◌++◌}
-use Rattle.std.specs.Prelude.{length, map}
+use Rattle.std.specs.Prelude.{length, map, slice_get, Some}
 use Rattle.sm_term.specs.declared.term.TermId.{TermId}
 use Rattle.sm_term.specs.Terms.{Tree}
 use Rattle.sm_term.specs.Assertions.{Assertion, Eq, Ne}
@@ -50,6 +50,14 @@ abbrev pub HaveOneSort : TableValue → TermId → TermId → Type 0
 HaveOneSort table t u =
     tree_sort (sorts_in table) (tree_at (trees_in table) t.0)
     ≡ tree_sort (sorts_in table) (tree_at (trees_in table) u.0)
+
+-- a fact is given of two terms of one sort
+abbrev pub IsOfTwoTerms : ClassesValue → GivenFact → Type 0
+IsOfTwoTerms v g = IsTermOf v g.left × IsTermOf v g.right × HaveOneSort v.table g.left g.right
+
+-- so is each given fact
+pub record AreOfTwoTerms (v : ClassesValue) : Type 0 where
+  pub each : (n : ℕ) (g : GivenFact) → slice_get v.given n ≡ Some g → IsOfTwoTerms v g
 
 -- that two terms are equal
 abbrev pub equation_of : TableValue → TermId → TermId → Assertion

@@ -5,15 +5,15 @@ ghost use Rattle.sm_term.specs.Tables.{trees_in, sorts_in, tree_at, AreBefore};
 ghost use Rattle.sm_theory.specs.Views.{line_in};
 ghost use Rattle.sm_cc.specs.Classes.{Same, Apart};
 ghost use Rattle.sm_cc.specs.Views.{setting_of, IsTermOf};
-ghost use Rattle.sm_cc.specs.Views.{HaveOneSort, with_given, no_terms};
+ghost use Rattle.sm_cc.specs.Views.{HaveOneSort, AreOfTwoTerms, with_given, no_terms};
 ghost use Rattle.sm_cc.specs.Views.{equation_under, contrary_under, equation_of, numbers_of};
 ghost use Rattle.sm_cc.specs.Explained.{Explain, AreLinesOf};
 ghost use Rattle.sm_cc.specs.Assumed.{with_fact};
 
+use crate::facts::places_of;
 use crate::lines::lines;
 use crate::places::PlaceClasses;
 use crate::positions::Positions;
-use crate::rows::rows;
 use sm_term::{TermId, TermTable, Terms};
 use sm_theory::CertLine;
 use std::alloc::{AllocError, Global};
@@ -62,6 +62,36 @@ impl<'a> Model for Classes<'a> {
 }
 
 impl<'a> Classes<'a> {
+    /// The classes of terms by all that is given of them. The rules are applied once.
+    pub fn of(
+        alloc: Global,
+        table: &'a TermTable,
+        terms: &'a Terms,
+        given: Vec<GivenFact>,
+    ) -> Result<Classes<'a>, AllocError>
+        requires before { AreBefore (length (trees_in table.now)) terms.now.list.items }
+        requires given { AreOfTwoTerms (record {
+          table = table.now;
+          terms = terms.now.list.items;
+          given = given.items;
+        }) }
+        ensures { IfOk result (λ c. c ≡ record {
+          table = table.now;
+          terms = terms.now.list.items;
+          given = given.items;
+        }) }
+    {
+        let positions = Positions::of(alloc, table, &terms.list)?;
+        let places = places_of(alloc, table, &terms.list, &positions, &given)?;
+        Ok(Classes {
+            table,
+            terms: &terms.list,
+            given,
+            positions,
+            places,
+        })
+    }
+
     /// The classes of terms of which nothing is given.
     pub fn new(
         alloc: Global,
@@ -72,15 +102,7 @@ impl<'a> Classes<'a> {
         ensures { IfOk result (λ c.
             c ≡ record { table = table.now; terms = terms.now.list.items; given = [] }) }
     {
-        let positions = Positions::of(alloc, table, &terms.list)?;
-        let rows = rows(alloc, table, &positions, &terms.list)?;
-        Ok(Classes {
-            table,
-            terms: &terms.list,
-            given: Vec::new(alloc),
-            positions,
-            places: PlaceClasses::new(alloc, rows)?,
-        })
+        Classes::of(alloc, table, terms, Vec::new(alloc))
     }
 
     /// It is given that two terms are equal, by the fact with a number. After want of memory no

@@ -3,7 +3,7 @@ ghost use Rattle.std.specs.Prelude.{◌≡◌, ◌<◌, [], IfOk, OnOk, length};
 ghost use Rattle.sm_cc.specs.Log.{Follows};
 ghost use Rattle.sm_cc.specs.Closures.{IsSound, IsNoted, IsContrary, placed_of, Noted};
 ghost use Rattle.sm_cc.specs.Closures.{Adds, AddsEquation, AddsContrary};
-ghost use Rattle.sm_cc.specs.Exact.{IsExact, nothing_given};
+ghost use Rattle.sm_cc.specs.Exact.{IsExact, nothing_given, placed_with};
 
 use crate::log::{Contrary, Entry, Equation, Given, Known, Rule, Why};
 use crate::row::Row;
@@ -129,10 +129,16 @@ pub(crate) fn empty(alloc: Global) -> Closure
     }
 }
 
-/// Places with these rows, each in a class of its own.
-pub(crate) fn unmerged(alloc: Global, rows: Vec<Row>) -> Result<Closure, AllocError>
+/// Places with these rows, each in a class of its own, whatever is given of them.
+pub(crate) fn unmerged(
+    alloc: Global,
+    rows: Vec<Row>,
+    equal: Vec<Given>,
+    unequal: Vec<Given>,
+) -> Result<Closure, AllocError>
     ensures sound { IfOk result IsSound }
-    ensures given { IfOk result (λ c. placed_of c ≡ nothing_given rows.items) }
+    ensures given { IfOk result (λ c.
+        placed_of c ≡ placed_with rows.items equal.items unequal.items) }
 {
     let mut entries = Vec::new(alloc);
     let mut roots = Vec::new(alloc);
@@ -150,8 +156,8 @@ pub(crate) fn unmerged(alloc: Global, rows: Vec<Row>) -> Result<Closure, AllocEr
     }
     Ok(Closure {
         rows,
-        equal: Vec::new(alloc),
-        unequal: Vec::new(alloc),
+        equal,
+        unequal,
         entries,
         roots,
     })

@@ -1,7 +1,7 @@
 //! Classes of equal terms: congruence closure over terms of a table, with linear forms and arrays.
 //!
-//! - `Classes` takes facts one by one, each that two terms are equal or that they aren't, and
-//!   answers which terms are equal by what was given, and which are known apart.
+//! - `Classes` takes facts, all at once or one by one, each that two terms are equal or that they
+//!   aren't, and answers which terms are equal by what was given, and which are known apart.
 //! - Two terms are in one class exactly where each set of pairs has them that is closed under the
 //!   rules: what is given, terms of one linear form, equal arguments, an element that is read where
 //!   it was written or elsewhere, and what makes equality an equivalence.
@@ -24,6 +24,7 @@ mod closure;
 mod compare;
 mod derive;
 mod explain;
+mod facts;
 mod heads;
 mod keys;
 mod lines;

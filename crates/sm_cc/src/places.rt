@@ -3,7 +3,7 @@ ghost use Rattle.std.specs.Prelude.{◌≡◌, ◌↔◌, ◌<◌, ◌^◌, [], 
 ghost use Rattle.sm_cc.specs.Rows.{SamePlaces, ApartPlaces};
 ghost use Rattle.sm_cc.specs.Log.{Placed};
 ghost use Rattle.sm_cc.specs.Steps.{ExplainPlaces};
-ghost use Rattle.sm_cc.specs.Exact.{nothing_given, with_equal, with_unequal};
+ghost use Rattle.sm_cc.specs.Exact.{nothing_given, placed_with, with_equal, with_unequal};
 
 use crate::closure::{Closure, empty, unmerged};
 use crate::compare::together;
@@ -44,11 +44,17 @@ impl PlaceClasses {
         }
     }
 
-    /// The classes of places with these rows, of which nothing is given.
-    pub(crate) fn new(alloc: Global, rows: Vec<Row>) -> Result<PlaceClasses, AllocError>
-        ensures { IfOk result (λ p. p ≡ nothing_given rows.items) }
+    /// The classes of places with these rows, of which it is given which are equal and which
+    /// aren't.
+    pub(crate) fn of(
+        alloc: Global,
+        rows: Vec<Row>,
+        equal: Vec<Given>,
+        unequal: Vec<Given>,
+    ) -> Result<PlaceClasses, AllocError>
+        ensures { IfOk result (λ p. p ≡ placed_with rows.items equal.items unequal.items) }
     {
-        let mut inside = unmerged(alloc, rows)?;
+        let mut inside = unmerged(alloc, rows, equal, unequal)?;
         settle(alloc, &mut inside)?;
         Ok(PlaceClasses { inside })
     }

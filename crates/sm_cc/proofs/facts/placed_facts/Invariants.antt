@@ -1,0 +1,10 @@
+-- The first facts are sorted by their kinds.
+use Rattle.std.proofs.Common.{◌≡◌, take}
+use Rattle.sm_cc.specs.Assumed.{placed_equations, placed_contraries}
+use Rattle.sm_cc.proofs.facts.placed_facts.Given as goal
+
+abbrev pub invariant-loop-g : goal.invariant-loop-g
+invariant-loop-g l = record {
+  equations : l.equal.items ≡ placed_equations l.positions (take l.g-index l.facts);
+  contraries : l.unequal.items ≡ placed_contraries l.positions (take l.g-index l.facts);
+}

@@ -1,0 +1,92 @@
+// Given facts by the places of their terms.
+ghost use Rattle.std.specs.Prelude.{◌≡◌, [], ◌∷◌, ◌++◌, length, not, if◌then◌else◌, IfOk, OnOk};
+ghost use Rattle.sm_term.specs.Tables.{trees_in, AreBefore};
+ghost use Rattle.sm_cc.specs.Views.{trees_of, AreOfTwoTerms};
+ghost use Rattle.sm_cc.specs.Positions.{ArePositions};
+ghost use Rattle.sm_cc.specs.Assumed.{placed_fact, placed_equations, placed_contraries};
+ghost use Rattle.sm_cc.specs.Assumed.{AreClasses};
+
+use crate::classes::GivenFact;
+use crate::log::Given;
+use crate::places::PlaceClasses;
+use crate::positions::Positions;
+use crate::rows::rows;
+use sm_term::{TermId, TermTable};
+use std::alloc::{AllocError, Global};
+
+/// The classes of the places of terms, by all that is given of the terms.
+pub(crate) fn places_of(
+    alloc: Global,
+    table: &TermTable,
+    terms: &[TermId],
+    positions: &Positions,
+    facts: &[GivenFact],
+) -> Result<PlaceClasses, AllocError>
+    requires before { AreBefore (length (trees_in table.now)) terms.now }
+    requires positions { let trees = trees_in table.now in
+        ArePositions trees (trees_of trees terms.now) positions.now }
+    requires given { AreOfTwoTerms
+        (record { table = table.now; terms = terms.now; given = facts.now }) }
+    ensures { IfOk result (λ p. AreClasses
+        (record { table = table.now; terms = terms.now; given = facts.now }) positions.now p) }
+{
+    let rows = rows(alloc, table, positions, terms)?;
+    let (equal, unequal) = placed_facts(alloc, positions, facts)?;
+    let places = PlaceClasses::of(alloc, rows, equal, unequal)?;
+    Ok(places)
+}
+
+// The equations among given facts and the contraries, each in order.
+fn placed_facts(
+    alloc: Global,
+    positions: &Positions,
+    facts: &[GivenFact],
+) -> Result<(Vec<Given>, Vec<Given>), AllocError>
+    ensures equal { IfOk result (λ p.
+        p.0.items ≡ placed_equations positions.now facts.now) }
+    ensures unequal { IfOk result (λ p.
+        p.1.items ≡ placed_contraries positions.now facts.now) }
+{
+    let mut equal = Vec::new(alloc);
+    let mut unequal = Vec::new(alloc);
+    for g in facts {
+        note_fact(
+            &mut equal,
+            &mut unequal,
+            g.are_equal,
+            placed_fact(positions, *g),
+        )?;
+    }
+    Ok((equal, unequal))
+}
+
+// A given fact by the places of its terms.
+fn placed_fact(positions: &Positions, g: GivenFact) -> Given
+    ensures { result ≡ placed_fact positions.now g }
+{
+    Given {
+        fact: g.number,
+        left: positions.place(g.left),
+        right: positions.place(g.right),
+    }
+}
+
+// Adds a given fact to the equations or to the contraries.
+fn note_fact(
+    equal: &mut Vec<Given>,
+    unequal: &mut Vec<Given>,
+    are_equal: bool,
+    fact: Given,
+) -> Result<(), AllocError>
+    ensures equal { OnOk result
+        (equal.new.items ≡ equal.old.items ++ (if are_equal then fact ∷ [] else [])) }
+    ensures unequal { OnOk result
+        (unequal.new.items ≡ unequal.old.items ++ (if not are_equal then fact ∷ [] else [])) }
+{
+    if are_equal {
+        equal.push(fact)?;
+    } else {
+        unequal.push(fact)?;
+    }
+    Ok(())
+}
