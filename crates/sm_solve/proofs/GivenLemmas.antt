@@ -1,16 +1,18 @@
 -- The classes of a table's terms by the equations and contraries among facts are those of the facts.
 use Rattle.std.proofs.Common.{◌≡◌, ℕ, zero, suc, ◌+◌, ◌<◌, ◌≤◌, pos, Bool, true, ◌&&◌, ◌||◌, List, [], ◌∷◌, ◌++◌, map, length, drop, get_or}
-use Rattle.std.proofs.Common.{refl, sym, ap, subst, ◌∙◌, arith, append_assoc}
+use Rattle.std.proofs.Common.{slice_get, Some, refl, sym, ap, subst, ◌∙◌, arith, append_assoc}
 use Rattle.std.specs.List.{list_any, range_with_len}
 use Rattle.std.proofs.lemmas.Bool.{or_left, or_right}
 use Rattle.std.proofs.lemmas.List.{append-nil, map-append, drop_more}
 use Rattle.std.proofs.lemmas.List.FromFn.{fill_by_all}
+use Rattle.std.proofs.lemmas.Option.{same_Some}
 use Rattle.sm_term.specs.declared.term.TermId.{TermId}
 use Rattle.sm_term.specs.declared.formula.Formula.{Formula}
 use Rattle.sm_term.specs.declared.formula.Formula.TheVariants as tree
 use Rattle.sm_term.specs.Terms.{Tree, Lit}
 use Rattle.sm_term.specs.Assertions.{Assertion}
 use Rattle.sm_term.specs.SameTerms.{same_tree}
+use Rattle.sm_term.specs.Sorted.{AreFormsSorted}
 use Rattle.sm_term.specs.Tables.{TableValue, trees_in, sorts_in, tree_at, AreBefore}
 use Rattle.sm_term.proofs.SameTermsLemmas.{same_tree_is}
 use Rattle.sm_theory.specs.Lines.{equal_sides, unequal_sides}
@@ -18,10 +20,11 @@ use Rattle.sm_theory.specs.Equality.{says_equal}
 use Rattle.sm_cc.specs.declared.classes.GivenFact.{GivenFact}
 use Rattle.sm_cc.specs.Classes.{Pairs, Setting, is_among, are_apart}
 use Rattle.sm_cc.specs.Rounds.{are_equal}
-use Rattle.sm_cc.specs.Views.{ClassesValue, setting_of, trees_of, assertion_given, IsTermOf}
+use Rattle.sm_cc.specs.Views.{ClassesValue, setting_of, trees_of, assertion_given, equation_under, contrary_under}
+use Rattle.sm_cc.specs.Views.{IsTermOf, IsOfTwoTerms, AreOfTwoTerms}
 use Rattle.sm_solve.specs.Given.{IsWhole, given_from, classes_by, branch_of}
 use Rattle.sm_solve.specs.Listing.{trees_at, numbers_of, AreBelow}
-use Rattle.sm_solve.specs.Parts.{all_numbered, assertions_in}
+use Rattle.sm_solve.specs.Parts.{all_numbered, assertions_in, AreFormulasWithin}
 use Rattle.sm_solve.specs.Seeing.{seen_in}
 use Rattle.sm_solve.proofs.BringsLemmas.{GivesMore}
 use Rattle.sm_solve.proofs.LeastLemmas.{equal_alike, apart_alike}
@@ -99,7 +102,7 @@ given_from-cons n (tree.And' a p b q) fs = refl
 given_from-cons n (tree.Or' a p b q) fs = refl
 
 -- one of the formulas that are left, and the others
-pub left_step : (fs : List Formula) (i : ℕ) (f : Formula) → i < length fs → f ≡ get_or fs i f → drop i fs ≡ f ∷ drop (i + 1) fs
+left_step : (fs : List Formula) (i : ℕ) (f : Formula) → i < length fs → f ≡ get_or fs i f → drop i fs ≡ f ∷ drop (i + 1) fs
 left_step fs i f h is = drop_more fs i f h ∙ ap (λ (g : Formula). g ∷ drop (i + 1) fs) (sym is)
 
 -- one more formula is given
@@ -124,14 +127,47 @@ none_left (f ∷ fs) zero h = absurd (omega arith)
 none_left (f ∷ fs) (suc i) h = let less : length fs ≤ i = omega arith in none_left fs i less
 
 -- all formulas are given
-pub given_all : (v : ClassesValue) (table : TableValue) (ts : List TermId) (fs : List Formula) (n i : ℕ) → v.table ≡ table → v.terms ≡ ts →
-    v.given ++ given_from n (drop i fs) ≡ given_from 0 fs → length fs ≤ i → v ≡ classes_by table ts fs
-given_all v table ts fs n i one two three past =
-    let given : v.given ≡ given_from 0 fs =
-    sym (append-nil v.given) ∙ ap (λ (gs : List Formula). v.given ++ given_from n gs) (sym (none_left fs i past)) ∙ three in
-    ap (λ (t : TableValue). let w : ClassesValue = record { table = t; terms = v.terms; given = v.given } in w) one
-    ∙ ap (λ (us : List TermId). let w : ClassesValue = record { table = table; terms = us; given = v.given } in w) two
-    ∙ ap (λ (gs : List GivenFact). let w : ClassesValue = record { table = table; terms = ts; given = gs } in w) given
+pub given_whole : (gs : List GivenFact) (fs : List Formula) (n i : ℕ) → gs ++ given_from n (drop i fs) ≡ given_from 0 fs → length fs ≤ i →
+    gs ≡ given_from 0 fs
+given_whole gs fs n i all past =
+    sym (append-nil gs) ∙ ap (λ (hs : List Formula). gs ++ given_from n hs) (sym (none_left fs i past)) ∙ all
+
+-- classes by what the formulas give
+pub given_all : (table : TableValue) (ts : List TermId) (fs : List Formula) (gs : List GivenFact) → gs ≡ given_from 0 fs →
+    (v : ClassesValue) → v ≡ record { table = table; terms = ts; given = gs } → v ≡ classes_by table ts fs
+given_all table ts fs gs is v made =
+    made ∙ ap (λ (hs : List GivenFact). let w : ClassesValue = record { table = table; terms = ts; given = hs } in w) is
+
+-- what formulas give is given of two terms of one sort
+given_fine : (v : ClassesValue) → IsWhole (trees_in v.table) v.terms → (n : ℕ) (fs : List Formula) →
+    AreFormulasWithin (length (trees_in v.table)) (all_numbered fs) →
+    AreFormsSorted (sorts_in v.table) (assertions_in (sorts_in v.table) (trees_in v.table) (all_numbered fs)) →
+    (k : ℕ) (g : GivenFact) → slice_get (given_from n fs) k ≡ Some g → IsOfTwoTerms v g
+given_fine v whole n [] within sorted k g e = absurd cc
+given_fine v whole n (tree.Yes ∷ fs) within sorted k g e = given_fine v whole (suc n) fs within.1 sorted.1 k g e
+given_fine v whole n (tree.No ∷ fs) within sorted k g e = given_fine v whole (suc n) fs within.1 sorted.1 k g e
+given_fine v whole n (tree.Eq t u ∷ fs) within sorted zero g e =
+    subst (IsOfTwoTerms v) (same_Some (equation_under n t u) g e)
+    (term_of v whole t within.0.0, term_of v whole u within.0.1, sym sorted.0.1.1)
+given_fine v whole n (tree.Eq t u ∷ fs) within sorted (suc k) g e = given_fine v whole (suc n) fs within.1 sorted.1 k g e
+given_fine v whole n (tree.Ne t u ∷ fs) within sorted zero g e =
+    subst (IsOfTwoTerms v) (same_Some (contrary_under n t u) g e)
+    (term_of v whole t within.0.0, term_of v whole u within.0.1, sym sorted.0.1.1)
+given_fine v whole n (tree.Ne t u ∷ fs) within sorted (suc k) g e = given_fine v whole (suc n) fs within.1 sorted.1 k g e
+given_fine v whole n (tree.Le t u ∷ fs) within sorted k g e = given_fine v whole (suc n) fs within.1 sorted.1 k g e
+given_fine v whole n (tree.Lt t u ∷ fs) within sorted k g e = given_fine v whole (suc n) fs within.1 sorted.1 k g e
+given_fine v whole n (tree.And' a p b q ∷ fs) within sorted k g e = given_fine v whole (suc n) fs within.1 sorted.1 k g e
+given_fine v whole n (tree.Or' a p b q ∷ fs) within sorted k g e = given_fine v whole (suc n) fs within.1 sorted.1 k g e
+
+pub given_of_terms : (table : TableValue) (ts : List TermId) → IsWhole (trees_in table) ts → (fs : List Formula) →
+    AreFormulasWithin (length (trees_in table)) (all_numbered fs) →
+    AreFormsSorted (sorts_in table) (assertions_in (sorts_in table) (trees_in table) (all_numbered fs)) → (gs : List GivenFact) →
+    gs ≡ given_from 0 fs → AreOfTwoTerms (record { table = table; terms = ts; given = gs })
+given_of_terms table ts whole fs within sorted gs is =
+    let v : ClassesValue = record { table = table; terms = ts; given = gs } in
+    record {
+      each = λ k g e. given_fine v whole 0 fs within sorted k g (subst (λ (hs : List GivenFact). slice_get hs k ≡ Some g) is e);
+    }
 
 module _ (table : TableValue) where
   abbrev asserted : ℕ → List Formula → List Assertion

@@ -11,11 +11,9 @@ comparison_held b says f g r is same first =
     first ∙ subst (λ (h : Formula). is_fact b (says h) ≡ is_held b (says h)) (sym is) same
 
 -- a part is a fact or is held
-pub part_is : (b : Seen) (says : Formula → Assertion) (f one two : Formula) (r held : Bool) → r ≡ (is_fact b (says one) || held) →
-    held ≡ is_held b (says two) → one ≡ f → two ≡ f → r ≡ (is_fact b (says f) || is_held b (says f))
-part_is b says f one two r held first second same also =
-    first ∙ ap (λ (g : Formula). is_fact b (says g) || held) same
-    ∙ ap (λ (h : Bool). is_fact b (says f) || h) (second ∙ ap (λ (g : Formula). is_held b (says g)) also)
+pub part_is : (b : Seen) (says : Formula → Assertion) (f one : Formula) (r : Bool) → r ≡ (is_fact b (says one) || is_held b (says one)) →
+    one ≡ f → r ≡ (is_fact b (says f) || is_held b (says f))
+part_is b says f one r first same = first ∙ ap (λ (g : Formula). is_fact b (says g) || is_held b (says g)) same
 
 -- by the first part, or by the second
 pub and_first : (b : Seen) (a p q : Assertion) (first : Bool) → a ≡ And p q → first ≡ (is_fact b p || is_held b p) → first ≡ false → first ≡ is_held b a
@@ -40,7 +38,10 @@ or_second b a p q first second same is also e =
     let x : (is_fact b p || is_held b p) ≡ false = sym is ∙ e in
     also ∙ ap (λ (v : Bool). v || (is_fact b q || is_held b q)) (sym x) ∙ ap (is_held b) (sym same)
 
--- what isn't held may be a fact
-pub or_held : (fact held r : Bool) → r ≡ fact → held ≡ false → r ≡ (fact || held)
-or_held true held r same e = same
-or_held false held r same e = same ∙ sym e
+-- what is a fact isn't looked into
+pub fact_first : (b : Seen) (a : Assertion) (r : Bool) → r ≡ is_fact b a → r ≡ true → r ≡ (is_fact b a || is_held b a)
+fact_first b a r is e = e ∙ ap (λ (v : Bool). v || is_held b a) (sym e ∙ is)
+
+-- what isn't a fact may be held
+pub held_then : (b : Seen) (a : Assertion) (r s : Bool) → r ≡ is_fact b a → r ≡ false → s ≡ is_held b a → s ≡ (is_fact b a || is_held b a)
+held_then b a r s is e held = held ∙ ap (λ (v : Bool). v || is_held b a) (sym e ∙ is)

@@ -21,6 +21,7 @@ pub mod LinearsLemmas
 pub mod ListingLemmas
 pub mod MakingLemmas
 pub mod MarkedLemmas
+pub mod NamedTermsLemmas
 pub mod OneMoreLemmas
 pub mod OwnLemmas
 pub mod PairsLemmas

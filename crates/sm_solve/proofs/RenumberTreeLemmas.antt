@@ -10,10 +10,13 @@ use Rattle.sm_theory.specs.Views.{line_in}
 use Rattle.sm_cert.specs.declared.tree.CertTree.{CertTree}
 use Rattle.sm_cert.specs.declared.tree.CertEnd.TheVariants as ends
 use Rattle.sm_cert.specs.Certificates.{Certificate, Next, Closed, Split}
+use Rattle.sm_cert.specs.NamedTerms.{EachTerm}
 use Rattle.sm_cert.specs.Views.{lines_before, certificate_in, lines_of, AreLinesWithin}
 use Rattle.sm_cert.proofs.CheckLemmas.{tree_closed, tree_split, lines_closed, lines_split, within_parts}
+use Rattle.sm_solve.specs.Branches.{IsOneOf}
 use Rattle.sm_solve.specs.Renumber.{IsLineUnder, AreLinesUnder}
 use Rattle.sm_solve.specs.Renumbered.{AreTermsOf}
+use Rattle.sm_solve.proofs.NamedTermsLemmas.{closed_names, split_names}
 use Rattle.sm_solve.proofs.RenumberLemmas.{line_stands, within-append}
 
 -- lines before a certificate
@@ -32,10 +35,12 @@ same_before trees others xs ys c d lines same =
     before_is others ys d ∙ ap (λ (ls : List CertificateLine). before ls d) lines ∙ ap (before (map (line_in trees) xs)) same
     ∙ sym (before_is trees xs c)
 
--- two trees that stand for one certificate, the terms of the other in its table
+-- two trees that stand for one certificate, which names only terms of the first table; the terms of
+-- the other are in its table
 pub record TreeStands (trees others : List Tree) (t u : CertTree) : Type 0 where
   pub same : certificate_in others u ≡ certificate_in trees t
   pub there : AreLinesWithin (length others) (lines_of u)
+  pub names : EachTerm (IsOneOf trees) (certificate_in others u)
 
 -- which a line closes
 pub closed_stands : (trees others : List Tree) (numbers : List TermId) → AreTermsOf others numbers trees →
@@ -47,15 +52,17 @@ closed_stands trees others numbers are t u l m first second lines last within =
     within) in
     let above = lines trees others are parts.0 in
     let end = line_stands trees others numbers l m are last parts.1.0 in
+    let one : certificate_in others u ≡ certificate_in trees t =
+    tree_closed others u m second
+    ∙ same_before trees others t.lines.list.items u.lines.list.items (Closed (line_in trees l)) (Closed (line_in others m)) above.0
+    (ap Closed end.same)
+    ∙ sym (tree_closed trees t l first) in
     record {
-      same =
-          tree_closed others u m second
-          ∙ same_before trees others t.lines.list.items u.lines.list.items (Closed (line_in trees l)) (Closed (line_in others m)) above.0
-          (ap Closed end.same)
-          ∙ sym (tree_closed trees t l first);
+      same = one;
       there =
           subst (AreLinesWithin (length others)) (sym (lines_closed u m second))
           (within-append (length others) u.lines.list.items (m ∷ []) above.1 (end.there, tt));
+      names = subst (λ (k : Certificate). EachTerm (IsOneOf trees) k) (sym one) (closed_names trees t l first within);
     }
 
 -- or splits
@@ -80,15 +87,21 @@ split_stands trees others numbers are t u l m c d p q first second lines last on
     ap (λ (x : CertificateLine). Split x (certificate_in others p.value) (certificate_in others q.value)) end.same
     ∙ ap (λ (x : Certificate). Split (line_in trees l) x (certificate_in others q.value)) left.same
     ∙ ap (Split (line_in trees l) (certificate_in trees c.value)) right.same in
+    let whole : certificate_in others u ≡ certificate_in trees t =
+    tree_split others u m p q second
+    ∙ same_before trees others t.lines.list.items u.lines.list.items
+    (Split (line_in trees l) (certificate_in trees c.value) (certificate_in trees d.value))
+    (Split (line_in others m) (certificate_in others p.value) (certificate_in others q.value)) above.0 split
+    ∙ sym (tree_split trees t l c d first) in
     record {
-      same =
-          tree_split others u m p q second
-          ∙ same_before trees others t.lines.list.items u.lines.list.items
-          (Split (line_in trees l) (certificate_in trees c.value) (certificate_in trees d.value))
-          (Split (line_in others m) (certificate_in others p.value) (certificate_in others q.value)) above.0 split
-          ∙ sym (tree_split trees t l c d first);
+      same = whole;
       there =
           subst (AreLinesWithin (length others)) (sym (lines_split u m p q second))
           (within-append (length others) u.lines.list.items (m ∷ (lines_of p.value ++ lines_of q.value)) above.1
           (end.there, within-append (length others) (lines_of p.value) (lines_of q.value) left.there right.there));
+      names =
+          subst (λ (k : Certificate). EachTerm (IsOneOf trees) k) (sym whole)
+          (split_names trees t l c d first within
+          (subst (λ (k : Certificate). EachTerm (IsOneOf trees) k) left.same left.names)
+          (subst (λ (k : Certificate). EachTerm (IsOneOf trees) k) right.same right.names));
     }

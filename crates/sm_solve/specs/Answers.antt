@@ -6,9 +6,11 @@ use Rattle.sm_term.specs.Assertions.{Assertion, negate}
 use Rattle.sm_theory.specs.Facts.{as_facts}
 use Rattle.sm_theory.specs.Ways.{adds}
 use Rattle.sm_cert.specs.Certificates.{refused}
+use Rattle.sm_cert.specs.NamedTerms.{EachTerm}
 use Rattle.sm_cert.specs.Views.{certificate_in, lines_of, AreLinesWithin}
 use Rattle.sm_solve.specs.declared.solving.Answer.{Answer}
 use Rattle.sm_solve.specs.declared.solving.Answer.TheVariants as answer
+use Rattle.sm_solve.specs.Branches.{with_parts, terms_of, IsOneOf}
 use Rattle.sm_solve.specs.Parts.{all_numbered, assertions_in, AreFormulasWithin}
 use Rattle.sm_solve.specs.Walk.{Walked, Closes, Opens, TooFar, GoesOut}
 
@@ -30,3 +32,15 @@ Certifies sorts trees facts target (answer.Closed tree) =
 Certifies sorts trees facts target (answer.Open leaf) = Unit {0}
 Certifies sorts trees facts target answer.Steps = Unit {0}
 Certifies sorts trees facts target (answer.Coefficient op y z) = Unit {0}
+
+-- the terms of the walk of an obligation: those of the facts and the contrary of the target, with all
+-- parts of their conjunctions
+abbrev pub terms_walked : List Assertion → Assertion → List Tree
+terms_walked facts target = terms_of (with_parts (facts ++ negate target ∷ []))
+
+-- a certificate that comes with it names only these terms
+abbrev pub NamesOnly : List Tree → List Tree → Answer → Type 0
+NamesOnly terms trees (answer.Closed tree) = EachTerm (IsOneOf terms) (certificate_in trees tree)
+NamesOnly terms trees (answer.Open leaf) = Unit {0}
+NamesOnly terms trees answer.Steps = Unit {0}
+NamesOnly terms trees (answer.Coefficient op y z) = Unit {0}

@@ -1,5 +1,5 @@
 -- Cited by public clauses: the facts of a branch, and the terms that they name.
-use Rattle.std.specs.Prelude.{ℕ, zero, suc, max, if◌then◌else◌}
+use Rattle.std.specs.Prelude.{ℕ, zero, suc, max, if◌then◌else◌, IsTrue}
 use Rattle.std.specs.Prelude.{Option, Some, None, List, [], ◌∷◌, ◌++◌, map}
 use Rattle.sm_term.specs.Terms.{Tree, Lit, Start, Havoc, Slot, Cell, Read, Write}
 use Rattle.sm_term.specs.Terms.{Neg, Add, Sub, Mul, Fun, Arguments, Over, Given}
@@ -131,3 +131,7 @@ writes_on (Fun c x args) = 0
 abbrev pub terms_of : List Assertion → List Tree
 terms_of fs =
     let seen = with_formulas fs [] in with_all_reads (greatest_of (map writes_on seen)) seen
+
+-- a term is one of these
+abbrev pub IsOneOf : List Tree → Tree → Type 0
+IsOneOf terms t = IsTrue (is_among terms t)

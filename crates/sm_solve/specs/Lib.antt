@@ -4,7 +4,6 @@ pub mod ByCases
 pub mod Certifying
 pub mod Closings
 pub mod Given
-pub mod Giving
 pub mod Holding
 pub mod Leading
 pub mod Listing

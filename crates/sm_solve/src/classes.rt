@@ -1,18 +1,16 @@
 // The classes of a branch.
-ghost use Rattle.std.specs.Prelude.{◌≡◌, [], ◌∷◌, length, IfOk, OnOk};
-ghost use Rattle.sm_term.specs.Sorted.{IsFormSorted, AreFormsSorted};
+ghost use Rattle.std.specs.Prelude.{◌≡◌, [], ◌∷◌, ◌++◌, length, IfOk, OnOk};
+ghost use Rattle.sm_term.specs.Sorted.{AreFormsSorted};
 ghost use Rattle.sm_term.specs.Tables.{trees_in, sorts_in};
-ghost use Rattle.sm_term.specs.Formulas.{numbered, assertion_in, IsFormulaWithin};
 ghost use Rattle.sm_cc.specs.Classes.{are_apart};
 ghost use Rattle.sm_cc.specs.Rounds.{are_equal};
 ghost use Rattle.sm_cc.specs.Views.{setting_of};
-ghost use Rattle.sm_solve.specs.Given.{IsWhole, classes_by, branch_of};
-ghost use Rattle.sm_solve.specs.Giving.{with_facts};
+ghost use Rattle.sm_solve.specs.Given.{IsWhole, given_from, classes_by, branch_of};
 ghost use Rattle.sm_solve.specs.Parts.{all_numbered, assertions_in, AreFormulasWithin};
 ghost use Rattle.sm_solve.specs.Seeing.{seen_in};
 
 use crate::seeing::Sees;
-use sm_cc::Classes;
+use sm_cc::{Classes, GivenFact};
 use sm_term::{Formula, TermId, TermTable, Terms};
 use std::alloc::{AllocError, Global};
 
@@ -68,26 +66,31 @@ pub fn classes_of<'a>(
         (are_equal (setting_of c)) (are_apart (setting_of c) (are_equal (setting_of c)))
         ≡ branch_of table.now facts.now) }
 {
-    let mut classes = Classes::new(alloc, table, terms)?;
-    let mut n = 0;
-    for f in facts {
-        give(alloc, &mut classes, n, f)?;
-        n += 1;
-    }
+    let given = given_facts(alloc, facts)?;
+    let classes = Classes::of(alloc, table, terms, given)?;
     Ok(classes)
 }
 
+// The equations and contraries among facts, each under its place.
+fn given_facts(alloc: Global, facts: &[Formula]) -> Result<Vec<GivenFact>, AllocError>
+    ensures { IfOk result (λ v. v.items ≡ given_from 0 facts.now) }
+{
+    let mut given = Vec::new(alloc);
+    let mut n = 0;
+    for f in facts {
+        give(&mut given, n, f)?;
+        n += 1;
+    }
+    Ok(given)
+}
+
 // A formula is given with its place, where it is an equation or a contrary.
-fn give<'a>(alloc: Global, classes: &mut Classes<'a>, n: u64, f: &Formula) -> Result<(), AllocError>
-    requires whole { IsWhole (trees_in classes.old.table) classes.old.terms }
-    requires within { IsFormulaWithin (length (trees_in classes.old.table)) (numbered f.now) }
-    requires sorted { let sorts = sorts_in classes.old.table in
-        IsFormSorted sorts (assertion_in sorts (trees_in classes.old.table) (numbered f.now)) }
-    ensures given { OnOk result (classes.new ≡ with_facts classes.old n (f.now ∷ [])) }
+fn give(given: &mut Vec<GivenFact>, n: u64, f: &Formula) -> Result<(), AllocError>
+    ensures { OnOk result (given.new.items ≡ given.old.items ++ given_from n (f.now ∷ [])) }
 {
     match f {
-        Formula::Eq(t, u) => classes.assume(alloc, n, *t, *u),
-        Formula::Ne(t, u) => classes.assume_apart(alloc, n, *t, *u),
+        Formula::Eq(t, u) => put_given(given, n, true, *t, *u),
+        Formula::Ne(t, u) => put_given(given, n, false, *t, *u),
         Formula::Yes => Ok(()),
         Formula::No => Ok(()),
         Formula::Le(_, _) => Ok(()),
@@ -95,4 +98,28 @@ fn give<'a>(alloc: Global, classes: &mut Classes<'a>, n: u64, f: &Formula) -> Re
         Formula::And(_, _) => Ok(()),
         Formula::Or(_, _) => Ok(()),
     }
+}
+
+// Adds a given fact.
+fn put_given(
+    given: &mut Vec<GivenFact>,
+    number: u64,
+    are_equal: bool,
+    left: TermId,
+    right: TermId,
+) -> Result<(), AllocError>
+    ensures { OnOk result (given.new.items ≡ given.old.items ++ record {
+      number = number;
+      are_equal = are_equal;
+      left = left;
+      right = right;
+    } ∷ []) }
+{
+    given.push(GivenFact {
+        number,
+        are_equal,
+        left,
+        right,
+    })?;
+    Ok(())
 }

@@ -62,6 +62,7 @@ fn is_same_formula(f: &Formula, g: &Formula) -> bool
 
 /// Whether a formula holds on a branch: by the classes, or by its parts, where a part may be a
 /// fact.
+#[cycle(is_held)]
 pub fn is_held<S: Sees>(sees: &S, table: &TermTable, facts: &[Formula], f: &Formula) -> bool
     requires table { S.trees sees.now ≡ trees_in table.now }
     requires facts { AreFormulasWithin (length (trees_in table.now)) (all_numbered facts.now) }
@@ -80,26 +81,28 @@ pub fn is_held<S: Sees>(sees: &S, table: &TermTable, facts: &[Formula], f: &Form
         Formula::Le(_, _) => is_fact(table, facts, f),
         Formula::Lt(_, _) => is_fact(table, facts, f),
         Formula::And(p, q) => {
-            is_fact_or(table, facts, p, is_held(sees, table, facts, p))
-                && is_fact_or(table, facts, q, is_held(sees, table, facts, q))
+            is_part_held(sees, table, facts, p) && is_part_held(sees, table, facts, q)
         }
         Formula::Or(p, q) => {
-            is_fact_or(table, facts, p, is_held(sees, table, facts, p))
-                || is_fact_or(table, facts, q, is_held(sees, table, facts, q))
+            is_part_held(sees, table, facts, p) || is_part_held(sees, table, facts, q)
         }
     }
 }
 
-// Whether a formula is a fact, where it isn't held.
-fn is_fact_or(table: &TermTable, facts: &[Formula], f: &Formula, held: bool) -> bool
+// Whether a part of a formula is a fact or holds. A fact isn't looked into: a long disjunction may
+// have facts for all its parts.
+#[cycle(is_held)]
+fn is_part_held<S: Sees>(sees: &S, table: &TermTable, facts: &[Formula], f: &Formula) -> bool
+    requires table { S.trees sees.now ≡ trees_in table.now }
     requires facts { AreFormulasWithin (length (trees_in table.now)) (all_numbered facts.now) }
     requires formula { IsFormulaWithin (length (trees_in table.now)) (numbered f.now) }
     ensures { let trees = trees_in table.now in let sorts = sorts_in table.now in
-        (terms : List Tree) (equal apart : Tree → Tree → Bool) →
-        let b = seen_in sorts trees terms facts.now equal apart in
-        result ≡ (is_fact b (assertion_in sorts trees (numbered f.now)) || held) }
+        (terms : List Tree) →
+        let b = seen_in sorts trees terms facts.now (S.equal sees.now) (S.apart sees.now) in
+        let part = assertion_in sorts trees (numbered f.now) in
+        result ≡ (is_fact b part || is_held b part) }
 {
-    held || is_fact(table, facts, f)
+    is_fact(table, facts, f) || is_held(sees, table, facts, f)
 }
 
 /// Whether a fact can't hold by the classes.

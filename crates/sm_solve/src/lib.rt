@@ -1,30 +1,24 @@
 //! The walk of an obligation: whether its goal follows from its facts.
 //!
 //! - `solve` walks over the branches of the facts and the contrary of the goal, depth first, and
-//!   tells the first event: each branch is closed, with a certificate that checks; a branch stays
-//!   open; the steps don't suffice, or too many splits stand above a branch; an operation leaves the
-//!   range of linear forms.
+//!   tells the first event: each branch is closed, with a certificate that checks and names only
+//!   terms of the walk; a branch stays open; the steps don't suffice, or too many splits stand above
+//!   a branch; an operation leaves the range of linear forms. Want of memory alone is free.
 //! - A branch is closed by its classes (`closed_by`, `closing_tree`) or by its linear forms
 //!   (`by_forms`, `refutation_tree`), or else is split (`split_of`): by two indices, by the parts of
 //!   a disjunction, or by the order of two numbers that aren't equal.
-//! - The walk goes over a table of the branch's own terms, where the number of each is its place in
-//!   their list (`own_branch`); certificates and formulas get the numbers of the caller's table at
-//!   the end (`renumbered`, `renumbered_tree`).
-//! - `Sees` is what the calls ask of classes: which terms are equal, and which are known apart.
-//!
-//! Read `specs/Walk.antt` first, then `specs/Branches.antt`, `specs/Holding.antt` and
-//! `specs/Answers.antt`. `proofs/WalkExamples.antt` has walks worked by hand.
-//! - `solve` walks over the branches of facts and the contrary of a target, and answers just what
-//!   `walk` of `specs/Walk.antt` comes to. Where each branch is closed, a certificate comes with
-//!   it, which closes the branch of the facts and the contrary. Want of memory alone is free.
+//! - `is_held` and `is_refuted` decide whether a formula holds or can't hold on a branch, by the
+//!   classes of its terms. `Sees` is what the calls ask of classes: which terms are equal, and which
+//!   are known apart.
 //! - `add_parts` puts the parts of all conjunctions behind formulas, in the order of a queue.
 //! - `terms_of_formulas` lists the terms of formulas, each once and after its arguments, and what
 //!   each element that is read was before it was written.
-//! - `own_branch` puts the terms of facts into a table of their own, with each fact over it, and
-//!   `renumbered` and `renumbered_tree` take formulas and certificates from one table to another.
-//! - `is_held` and `is_refuted` decide whether a formula holds or can't hold on a branch, by
-//!   classes of its terms, and the splits are those by which such a branch goes on. `Sees` is what
-//!   they ask of classes.
+//! - The walk goes over a table of the branch's own terms, where the number of each is its place in
+//!   their list (`own_branch`); certificates and formulas get the numbers of the caller's table at
+//!   the end (`renumbered`, `renumbered_tree`).
+//!
+//! Read `specs/Walk.antt` first, then `specs/Branches.antt`, `specs/Holding.antt` and
+//! `specs/Answers.antt`. `proofs/WalkExamples.antt` has walks worked by hand.
 #![tactic(auto)]
 
 mod branching;

@@ -1,7 +1,9 @@
 // Certificates under other numbers of terms.
 ghost use Rattle.std.specs.Prelude.{◌≡◌, List, length, IfOk};
 ghost use Rattle.sm_term.specs.Terms.{Tree};
+ghost use Rattle.sm_cert.specs.NamedTerms.{EachTerm};
 ghost use Rattle.sm_cert.specs.Views.{certificate_in, lines_of, AreLinesWithin};
+ghost use Rattle.sm_solve.specs.Branches.{IsOneOf};
 ghost use Rattle.sm_solve.specs.Renumber.{IsLineUnder, AreLinesUnder};
 ghost use Rattle.sm_solve.specs.Renumbered.{AreTermsOf};
 
@@ -24,6 +26,9 @@ pub fn renumbered_tree(
     ensures within { (trees others : List Tree) →
         AreTermsOf others numbers.now trees → AreLinesWithin (length trees) (lines_of tree.now) →
         IfOk result (λ c. AreLinesWithin (length others) (lines_of c)) }
+    ensures names { (trees others : List Tree) →
+        AreTermsOf others numbers.now trees → AreLinesWithin (length trees) (lines_of tree.now) →
+        IfOk result (λ c. EachTerm (IsOneOf trees) (certificate_in others c)) }
 {
     let list = renumbered_lines(alloc, &tree.lines.list, numbers)?;
     match &tree.last {
@@ -58,6 +63,9 @@ fn boxed_tree(
     ensures within { (trees others : List Tree) →
         AreTermsOf others numbers.now trees → AreLinesWithin (length trees) (lines_of tree.now) →
         IfOk result (λ c. AreLinesWithin (length others) (lines_of c.value)) }
+    ensures names { (trees others : List Tree) →
+        AreTermsOf others numbers.now trees → AreLinesWithin (length trees) (lines_of tree.now) →
+        IfOk result (λ c. EachTerm (IsOneOf trees) (certificate_in others c.value)) }
 {
     Ok(Box::new(alloc, renumbered_tree(alloc, tree, numbers)?)?)
 }

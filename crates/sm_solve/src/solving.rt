@@ -7,7 +7,7 @@ ghost use Rattle.sm_term.specs.Tables.{trees_in, sorts_in};
 ghost use Rattle.sm_term.specs.TableLaws.{Grows};
 ghost use Rattle.sm_term.specs.Terms.{Tree};
 ghost use Rattle.sm_term.specs.Formulas.{numbered, assertion_in, IsFormulaWithin};
-ghost use Rattle.sm_solve.specs.Answers.{Tells, Certifies};
+ghost use Rattle.sm_solve.specs.Answers.{Tells, Certifies, terms_walked, NamesOnly};
 ghost use Rattle.sm_solve.specs.Branches.{with_parts};
 ghost use Rattle.sm_solve.specs.Parts.{all_numbered, assertions_in, AreFormulasWithin};
 ghost use Rattle.sm_solve.specs.Renumbered.{AreTermsOf};
@@ -70,6 +70,13 @@ pub fn solve(
         let given = assertions_in sorts trees (all_numbered facts.now) in
         let goal = assertion_in sorts trees (numbered target.now) in
         IfOk result (λ a. Certifies sorts (trees_in table.new) given goal a) }
+
+    // The certificate names only terms of the walk.
+    ensures names { let sorts = sorts_in table.old in let trees = trees_in table.old in
+        let given = assertions_in sorts trees (all_numbered facts.now) in
+        let goal = assertion_in sorts trees (numbered target.now) in
+        IfOk result (NamesOnly (terms_walked given goal) (trees_in table.new)) }
+
     ensures grows { Grows table.old table.new }
     ensures err { OnErr result (trees_in table.new ≡ trees_in table.old) }
 {
@@ -105,6 +112,10 @@ fn answered(
         let given = assertions_in sorts trees (all_numbered facts.now) in
         let goal = assertion_in sorts trees (numbered target.now) in
         IfOk result (λ a. Certifies sorts (trees_in table.new) given goal a) }
+    ensures names { let sorts = sorts_in table.old in let trees = trees_in table.old in
+        let given = assertions_in sorts trees (all_numbered facts.now) in
+        let goal = assertion_in sorts trees (numbered target.now) in
+        IfOk result (NamesOnly (terms_walked given goal) (trees_in table.new)) }
     ensures grows { Grows table.old table.new }
 {
     let all = given_facts(alloc, facts, target)?;
@@ -169,6 +180,9 @@ fn renumbered_end(alloc: Global, end: WalkEnd, numbers: &Terms) -> Result<Answer
     ensures shows { (sorts : Sorts) (trees others : List Tree) (room : ℕ) (given : List Assertion) →
         AreTermsOf others numbers.now.list.items trees → ShowsEnd sorts trees given room end →
         IfOk result (λ a. Shows sorts others given room a) }
+    ensures names { (sorts : Sorts) (trees others : List Tree) (room : ℕ) (given : List Assertion) →
+        AreTermsOf others numbers.now.list.items trees → ShowsEnd sorts trees given room end →
+        IfOk result (NamesOnly trees others) }
 {
     match end {
         WalkEnd::Closed {

@@ -6,11 +6,11 @@ use Rattle.sm_term.specs.Tables.{trees_in, sorts_in}
 use Rattle.sm_term.specs.Assertions.{Assertion, And, Or}
 use Rattle.sm_term.specs.Formulas.{numbered, assertion_in}
 use Rattle.sm_solve.specs.Seeing.{seen_in}
-use Rattle.sm_solve.proofs.HoldingLemmas.{comparison_held, part_is, and_first, and_second, or_first, or_second}
+use Rattle.sm_solve.proofs.HoldingLemmas.{comparison_held, part_is, and_first, and_second, or_first, or_second, fact_first, held_then}
 use Rattle.sm_solve.proofs.holding.+is_held.Goals as goal
 
-pub returns-in-Le : goal.returns-in-Le
-returns-in-Le g t c = λ terms.
+pub is_held-returns-in-Le : goal.is_held-returns-in-Le
+is_held-returns-in-Le g t c = λ terms.
     let sorts = sorts_in c.args.table.now in
     let trees = trees_in c.args.table.now in
     let equal = g.S.Sees.equal c.args.sees.now in
@@ -20,8 +20,8 @@ returns-in-Le g t c = λ terms.
     comparison_held b says c.args.f.now (tree.Le c.in-Le.field-0 c.in-Le.field-1) c.is_fact.result c.in-Le.is refl
     (c.is_fact.ensures terms equal apart)
 
-pub returns-in-Lt : goal.returns-in-Lt
-returns-in-Lt g t c = λ terms.
+pub is_held-returns-in-Lt : goal.is_held-returns-in-Lt
+is_held-returns-in-Lt g t c = λ terms.
     let sorts = sorts_in c.args.table.now in
     let trees = trees_in c.args.table.now in
     let equal = g.S.Sees.equal c.args.sees.now in
@@ -31,8 +31,8 @@ returns-in-Lt g t c = λ terms.
     comparison_held b says c.args.f.now (tree.Lt c.in-Lt.field-0 c.in-Lt.field-1) c.is_fact-in-Lt.result c.in-Lt.is refl
     (c.is_fact-in-Lt.ensures terms equal apart)
 
-pub returns-then-is_fact_or : goal.returns-then-is_fact_or
-returns-then-is_fact_or g t c = λ terms.
+pub is_held-returns-then-is_part_held : goal.is_held-returns-then-is_part_held
+is_held-returns-then-is_part_held g t c = λ terms.
     let sorts = sorts_in c.args.table.now in
     let trees = trees_in c.args.table.now in
     let equal = g.S.Sees.equal c.args.sees.now in
@@ -41,15 +41,14 @@ returns-then-is_fact_or g t c = λ terms.
     let says : Formula → Assertion = λ f. assertion_in sorts trees (numbered f) in
     let p = c.in-And.p.value in
     let q = c.in-And.q.value in
-    let one = part_is b says p c.deref.result.now c.deref-in-And.result.now c.is_fact_or.result c.is_held.result (c.is_fact_or.ensures terms equal apart)
-    (c.is_held.ensures terms) c.deref.ensures c.deref-in-And.ensures in
-    let two = part_is b says q c.deref-then-is_fact_or.result.now c.deref-then-is_fact_or-2.result.now c.is_fact_or-then-is_fact_or.result c.is_held-then-is_fact_or.result (c.is_fact_or-then-is_fact_or.ensures terms equal apart)
-    (c.is_held-then-is_fact_or.ensures terms) c.deref-then-is_fact_or.ensures c.deref-then-is_fact_or-2.ensures in
+    let one = part_is b says p c.deref.result.now c.is_part_held.result (c.is_part_held.ensures terms) c.deref.ensures in
+    let two = part_is b says q c.deref-then-is_part_held.result.now c.is_part_held-then-is_part_held.result (c.is_part_held-then-is_part_held.ensures terms) c.deref-then-is_part_held.ensures in
     let same : says c.args.f.now ≡ And (says p) (says q) = ap says c.in-And.is in
-    and_second b (says c.args.f.now) (says p) (says q) c.is_fact_or.result c.is_fact_or-then-is_fact_or.result same one two c.if-is_fact_or.true
+    and_second b (says c.args.f.now) (says p) (says q) c.is_part_held.result c.is_part_held-then-is_part_held.result same one two
+    c.if-is_part_held.true
 
-pub returns-else-is_fact_or : goal.returns-else-is_fact_or
-returns-else-is_fact_or g t c = λ terms.
+pub is_held-returns-else-is_part_held : goal.is_held-returns-else-is_part_held
+is_held-returns-else-is_part_held g t c = λ terms.
     let sorts = sorts_in c.args.table.now in
     let trees = trees_in c.args.table.now in
     let equal = g.S.Sees.equal c.args.sees.now in
@@ -58,13 +57,12 @@ returns-else-is_fact_or g t c = λ terms.
     let says : Formula → Assertion = λ f. assertion_in sorts trees (numbered f) in
     let p = c.in-And.p.value in
     let q = c.in-And.q.value in
-    let one = part_is b says p c.deref.result.now c.deref-in-And.result.now c.is_fact_or.result c.is_held.result (c.is_fact_or.ensures terms equal apart)
-    (c.is_held.ensures terms) c.deref.ensures c.deref-in-And.ensures in
+    let one = part_is b says p c.deref.result.now c.is_part_held.result (c.is_part_held.ensures terms) c.deref.ensures in
     let same : says c.args.f.now ≡ And (says p) (says q) = ap says c.in-And.is in
-    and_first b (says c.args.f.now) (says p) (says q) c.is_fact_or.result same one c.if-is_fact_or.false
+    and_first b (says c.args.f.now) (says p) (says q) c.is_part_held.result same one c.if-is_part_held.false
 
-pub returns-then-is_fact_or-2 : goal.returns-then-is_fact_or-2
-returns-then-is_fact_or-2 g t c = λ terms.
+pub is_held-returns-then-is_part_held-2 : goal.is_held-returns-then-is_part_held-2
+is_held-returns-then-is_part_held-2 g t c = λ terms.
     let sorts = sorts_in c.args.table.now in
     let trees = trees_in c.args.table.now in
     let equal = g.S.Sees.equal c.args.sees.now in
@@ -73,13 +71,12 @@ returns-then-is_fact_or-2 g t c = λ terms.
     let says : Formula → Assertion = λ f. assertion_in sorts trees (numbered f) in
     let p = c.in-Or.p.value in
     let q = c.in-Or.q.value in
-    let one = part_is b says p c.deref-in-Or.result.now c.deref-in-Or-2.result.now c.is_fact_or-in-Or.result c.is_held-in-Or.result (c.is_fact_or-in-Or.ensures terms equal apart)
-    (c.is_held-in-Or.ensures terms) c.deref-in-Or.ensures c.deref-in-Or-2.ensures in
+    let one = part_is b says p c.deref-in-Or.result.now c.is_part_held-in-Or.result (c.is_part_held-in-Or.ensures terms) c.deref-in-Or.ensures in
     let same : says c.args.f.now ≡ Or (says p) (says q) = ap says c.in-Or.is in
-    or_first b (says c.args.f.now) (says p) (says q) c.is_fact_or-in-Or.result same one c.if-is_fact_or-2.true
+    or_first b (says c.args.f.now) (says p) (says q) c.is_part_held-in-Or.result same one c.if-is_part_held-2.true
 
-pub returns-else-is_fact_or-2 : goal.returns-else-is_fact_or-2
-returns-else-is_fact_or-2 g t c = λ terms.
+pub is_held-returns-else-is_part_held-2 : goal.is_held-returns-else-is_part_held-2
+is_held-returns-else-is_part_held-2 g t c = λ terms.
     let sorts = sorts_in c.args.table.now in
     let trees = trees_in c.args.table.now in
     let equal = g.S.Sees.equal c.args.sees.now in
@@ -88,9 +85,29 @@ returns-else-is_fact_or-2 g t c = λ terms.
     let says : Formula → Assertion = λ f. assertion_in sorts trees (numbered f) in
     let p = c.in-Or.p.value in
     let q = c.in-Or.q.value in
-    let one = part_is b says p c.deref-in-Or.result.now c.deref-in-Or-2.result.now c.is_fact_or-in-Or.result c.is_held-in-Or.result (c.is_fact_or-in-Or.ensures terms equal apart)
-    (c.is_held-in-Or.ensures terms) c.deref-in-Or.ensures c.deref-in-Or-2.ensures in
-    let two = part_is b says q c.deref-else-is_fact_or-2.result.now c.deref-else-is_fact_or-2-2.result.now c.is_fact_or-else-is_fact_or-2.result c.is_held-else-is_fact_or-2.result (c.is_fact_or-else-is_fact_or-2.ensures terms equal apart)
-    (c.is_held-else-is_fact_or-2.ensures terms) c.deref-else-is_fact_or-2.ensures c.deref-else-is_fact_or-2-2.ensures in
+    let one = part_is b says p c.deref-in-Or.result.now c.is_part_held-in-Or.result (c.is_part_held-in-Or.ensures terms) c.deref-in-Or.ensures in
+    let two = part_is b says q c.deref-else-is_part_held-2.result.now c.is_part_held-else-is_part_held-2.result (c.is_part_held-else-is_part_held-2.ensures terms) c.deref-else-is_part_held-2.ensures in
     let same : says c.args.f.now ≡ Or (says p) (says q) = ap says c.in-Or.is in
-    or_second b (says c.args.f.now) (says p) (says q) c.is_fact_or-in-Or.result c.is_fact_or-else-is_fact_or-2.result same one two c.if-is_fact_or-2.false
+    or_second b (says c.args.f.now) (says p) (says q) c.is_part_held-in-Or.result c.is_part_held-else-is_part_held-2.result same one two
+    c.if-is_part_held-2.false
+
+pub is_part_held-returns-then-is_fact : goal.is_part_held-returns-then-is_fact
+is_part_held-returns-then-is_fact g t c = λ terms.
+    let sorts = sorts_in c.args.table.now in
+    let trees = trees_in c.args.table.now in
+    let equal = g.S.Sees.equal c.args.sees.now in
+    let apart = g.S.Sees.apart c.args.sees.now in
+    let b = seen_in sorts trees terms c.args.facts.now equal apart in
+    let says : Formula → Assertion = λ f. assertion_in sorts trees (numbered f) in
+    fact_first b (says c.args.f.now) c.is_fact.result (c.is_fact.ensures terms equal apart) c.if-is_fact.true
+
+pub is_part_held-returns-else-is_fact : goal.is_part_held-returns-else-is_fact
+is_part_held-returns-else-is_fact g t c = λ terms.
+    let sorts = sorts_in c.args.table.now in
+    let trees = trees_in c.args.table.now in
+    let equal = g.S.Sees.equal c.args.sees.now in
+    let apart = g.S.Sees.apart c.args.sees.now in
+    let b = seen_in sorts trees terms c.args.facts.now equal apart in
+    let says : Formula → Assertion = λ f. assertion_in sorts trees (numbered f) in
+    held_then b (says c.args.f.now) c.is_fact.result c.is_held.result (c.is_fact.ensures terms equal apart) c.if-is_fact.false
+    (c.is_held.ensures terms)

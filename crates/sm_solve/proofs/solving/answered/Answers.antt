@@ -6,8 +6,9 @@ use Rattle.sm_term.specs.Assertions.{negate}
 use Rattle.sm_term.specs.Formulas.{numbered, assertion_in}
 use Rattle.sm_term.specs.Sorted.{AreFormsSorted}
 use Rattle.sm_term.specs.Tables.{trees_in, sorts_in}
-use Rattle.sm_solve.specs.Answers.{Tells}
-use Rattle.sm_solve.specs.Branches.{with_parts}
+use Rattle.sm_term.specs.Terms.{Tree}
+use Rattle.sm_solve.specs.Answers.{Tells, NamesOnly}
+use Rattle.sm_solve.specs.Branches.{with_parts, terms_of}
 use Rattle.sm_solve.specs.Parts.{all_numbered, assertions_in, AreFormulasWithin}
 use Rattle.sm_solve.specs.Walk.{walk_from}
 use Rattle.sm_solve.specs.Walking.{Shows}
@@ -68,3 +69,18 @@ returns-clause-certifies c =
     (c.in_ok-end.ensures.shows all (c.in_ok-own.ensures.facts ∙ are)) in
     shows_certify sorts others given target c.in_ok-answer.answer
     (subst (λ (s : Sorts). Shows s others all 1001 c.in_ok-answer.answer) c.in_ok-own.ensures.sorts shown)
+
+pub returns-clause-names : goal.returns-clause-names
+returns-clause-names c =
+    let sorts = sorts_in c.args.table.now in
+    let trees = trees_in c.args.table.now in
+    let others = trees_in c.own_branch.new.table in
+    let own = c.in_ok-own.own in
+    let given = assertions_in sorts trees (all_numbered c.args.facts.now) in
+    let target = assertion_in sorts trees (numbered c.args.target.now) in
+    let all = given ++ negate target ∷ [] in
+    let are = ap (λ (fs : List Formula). assertions_in sorts trees (all_numbered fs)) c.deref.ensures.value
+    ∙ c.in_ok-all.ensures.facts sorts trees in
+    let named = c.in_ok-answer.ensures.names (sorts_in own.table) (trees_in own.table) others 1001 all c.in_ok-own.ensures.numbers
+    (c.in_ok-end.ensures.shows all (c.in_ok-own.ensures.facts ∙ are)) in
+    subst (λ (ts : List Tree). NamesOnly ts others c.in_ok-answer.answer) (c.in_ok-own.ensures.terms ∙ ap terms_of are) named

@@ -19,6 +19,12 @@ returns-in_ok-other-in-Closed-clause-shows c = λ sorts trees others room given 
     (c.in_ok-other-in-Closed.ensures.within trees others ids closes.within)
     closes
 
+pub returns-in_ok-other-in-Closed-clause-names : goal.returns-in_ok-other-in-Closed-clause-names
+returns-in_ok-other-in-Closed-clause-names c = λ sorts trees others room given terms shows.
+    let closes = subst (ShowsEnd sorts trees given room) c.in-Closed.is shows in
+    let ids = subst (λ (ts : List TermId). AreTermsOf others ts trees) (sym c.deref.ensures.value) terms in
+    c.in_ok-other-in-Closed.ensures.names trees others ids closes.within
+
 pub returns-in_ok-list-in-Open-clause-tells : goal.returns-in_ok-list-in-Open-clause-tells
 returns-in_ok-list-in-Open-clause-tells c = λ sorts trees others w terms tells.
     let told = subst (λ (e : WalkEnd). TellsEnd sorts trees e w) c.in-Open.is tells in
