@@ -29,7 +29,8 @@ use Rattle.sm_expand.specs.NumberedPlans.{list_of}
 use Rattle.sm_expand.specs.NumberedPlans.{IsPlanReady, ArePlansReady}
 use Rattle.sm_expand.specs.Cursors.{numbered_at}
 use Rattle.sm_expand.specs.Views.{dues_in, AreDuesReady, FaultTells}
-use Rattle.sm_expand.specs.Walks.{asked, expand_pairs, facts_of, waits_as, waits_with, outcome, OpensAs, weight}
+use Rattle.sm_expand.specs.Opens.{OpensAs}
+use Rattle.sm_expand.specs.Walks.{asked, expand_pairs, facts_of, waits_as, waits_with, outcome, weight}
 use Rattle.sm_expand.specs.Walks.{AreNested, AreWaitingReady, IsReadyWith}
 use Rattle.sm_expand.proofs.PlansWiden.{plans_stay, plans_ready, dues_stay, all_stay, all_ready}
 use Rattle.sm_expand.proofs.PairsLemmas.{joined_assoc, plan_is, counted, due_asked, fitting_expands, all_follow, heavier, below_weighs}

@@ -1,4 +1,4 @@
--- Private: the plans that places in a plan stand for, and the rows of nodes.
+-- Cited by public clauses: the plans that places in a plan stand for, and the rows of nodes.
 use Rattle.std.specs.Prelude.{◌≡◌, ℕ, Option, Some, None, List}
 use Rattle.sm_syntax.specs.text.Sorts.{Sorts}
 use Rattle.sm_term.specs.Terms.{Tree}

@@ -1,27 +1,20 @@
 -- Private: what is left to expand.
-use Rattle.std.specs.Prelude.{◌≡◌, ℕ, ◌+◌, ◌≤◌, Bool, Some, Result, Ok, List, [], ◌∷◌, ◌++◌}
-use Rattle.std.specs.Prelude.{length, map, take}
-use Rattle.std.specs.Prelude.{Vec}
-use Rattle.std.specs.declared.alloc.Global.{Global}
+use Rattle.std.specs.Prelude.{ℕ, ◌+◌, ◌≤◌, Bool, Result, Ok, List, [], ◌∷◌, ◌++◌, length, map, take}
 use Rattle.sm_syntax.specs.text.Sorts.{Sorts}
 use Rattle.sm_term.specs.declared.formula.Formula.{Formula}
 use Rattle.sm_term.specs.Assertions.{Assertion}
 use Rattle.sm_term.specs.Tables.{TableValue, trees_in, sorts_in}
 use Rattle.sm_term.specs.Terms.{Tree}
-use Rattle.sm_plan.specs.declared.opening.Opened.{Opened}
 use Rattle.sm_plan.specs.declared.opening.Successor.{Successor}
-use Rattle.sm_plan.specs.declared.state.SymState.{SymState}
-use Rattle.sm_plan.specs.Nodes.{opened_by}
 use Rattle.sm_plan.specs.Plans as plain
-use Rattle.sm_plan.specs.ReadyStates.{IsStateReady, AreFormsReady, AreSuccessorsReady}
+use Rattle.sm_plan.specs.ReadyStates.{IsStateReady, AreFormsReady}
 use Rattle.sm_plan.specs.States.{State}
-use Rattle.sm_plan.specs.Views.{forms_in, state_in, opened_in}
+use Rattle.sm_plan.specs.Views.{forms_in, state_in}
 use Rattle.sm_expand.specs.declared.cursor.Cursor.{Cursor}
 use Rattle.sm_expand.specs.declared.due.Due.{Due}
 use Rattle.sm_expand.specs.declared.walk.Waiting.{Waiting}
 use Rattle.sm_expand.specs.NumberedPlans as numbers
-use Rattle.sm_expand.specs.NumberedPlans.{NumberedPlan, NumberedPlans, plan_over, node_over}
-use Rattle.sm_expand.specs.NumberedPlans.{IsPlanReady, head, below, list_of}
+use Rattle.sm_expand.specs.NumberedPlans.{NumberedPlan, NumberedPlans, plan_over, IsPlanReady}
 use Rattle.sm_expand.specs.Cursors.{numbered_at}
 use Rattle.sm_expand.specs.Views.{dues_in, AreDuesReady}
 
@@ -109,15 +102,3 @@ waits_with shared (s ∷ ss) (c ∷ cs) =
       state = s.state;
       cursor = c;
     } ∷ waits_with shared ss cs
-
--- what the node at a place opens at a state, with a plan for each state that follows
-pub record OpensAs (old new : TableValue) (k : ℕ) (st : SymState) (cursor : Cursor)
-    (o : Opened × Vec Cursor Global) : Type 0 where
-  pub opened : (facts : List Assertion) →
-      opened_by k (state_in (sorts_in old) (trees_in old) facts st)
-      (node_over (sorts_in old) (trees_in old) (head (numbered_at cursor)))
-      ≡ Some (opened_in (sorts_in new) (trees_in new) facts o.0)
-  pub goals : AreFormsReady (sorts_in new) (trees_in new) o.0.goals.list.items
-  pub states : AreSuccessorsReady (sorts_in new) (trees_in new) o.0.states.items
-  pub plans : map numbered_at o.1.items ≡ list_of (below (numbered_at cursor))
-  pub count : length o.0.states.items ≡ length o.1.items

@@ -18,15 +18,15 @@ use sm_plan::NodeRow;
 use sm_syntax::{CopyName, PerCopy};
 use std::alloc::{AllocError, Global};
 
-// A place in a plan: the simple nodes that are left, and the last node.
+/// A place in a plan: the simple nodes that are left, and the last node.
 #[derive(Debug, Drop)]
-pub(crate) struct Cursor<'p> {
+pub struct Cursor<'p> {
     pub(crate) straight: &'p [Simple],
     pub(crate) last: &'p Last,
 }
 
-// The beginning of a plan.
-pub(crate) fn start_of<'p>(plan: &'p Plan) -> Cursor<'p>
+/// The place of a plan's first node.
+pub fn start_of<'p>(plan: &'p Plan) -> Cursor<'p>
     ensures { numbered_at result ≡ numbered_plan plan.now }
 {
     Cursor {
@@ -104,8 +104,8 @@ fn last_row<'p>(last: &'p Last) -> Option<NodeRow<'p>>
     }
 }
 
-// The node at a place, None where its copy is none.
-pub(crate) fn row_at<'p>(cursor: &Cursor<'p>) -> Option<NodeRow<'p>>
+/// The node at a place, None where its copy is none.
+pub fn row_at<'p>(cursor: &Cursor<'p>) -> Option<NodeRow<'p>>
     ensures row { (sorts : Sorts) (trees : List Tree) →
         IsRowOf sorts trees (head (numbered_at cursor.now)) result }
     ensures ready { (sorts : Sorts) (trees : List Tree) →

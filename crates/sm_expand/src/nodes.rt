@@ -14,7 +14,8 @@ ghost use Rattle.sm_expand.specs.NumberedPlans.{node_over, plan_over, IsPlanRead
 ghost use Rattle.sm_expand.specs.Cursors.{numbered_at};
 ghost use Rattle.sm_expand.specs.declared.fault.PlanFault.TheVariants.{Memory};
 ghost use Rattle.sm_expand.specs.Views.{FaultTells};
-ghost use Rattle.sm_expand.specs.Walks.{OpensAs, outcome, IsReadyWith, weight};
+ghost use Rattle.sm_expand.specs.Opens.{OpensAs};
+ghost use Rattle.sm_expand.specs.Walks.{outcome, IsReadyWith, weight};
 
 use crate::cursor::{Cursor, below_at, ends_at, row_at, rule_at};
 use crate::due::put_due;
@@ -24,8 +25,10 @@ use sm_plan::{Opened, SymState, open};
 use sm_term::TermTable;
 use std::alloc::Global;
 
-// What the node at a place opens at a state, with a plan for each state that follows.
-fn open_at<'a, 'p>(
+/// What the node at a place opens at a state, with a place for each state that follows. Where the
+/// node fails its rule the error names it by its number. After an error the table may have more
+/// terms.
+pub fn open_at<'a, 'p>(
     alloc: Global,
     table: &mut TermTable,
     number: u64,
@@ -39,6 +42,8 @@ fn open_at<'a, 'p>(
         (facts : List Assertion) → IfErr result (λ e. FaultTells e
         (plain.expand number (state_in sorts trees facts state.entry)
         (plan_over sorts trees (numbered_at cursor.now)))) }
+
+    // Each term keeps its number.
     ensures widens { Widens table.old table.new }
 {
     let wrong = PlanFault::Wrong {
