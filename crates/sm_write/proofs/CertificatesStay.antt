@@ -1,0 +1,130 @@
+-- What certificates stand for stays while a table widens.
+use Rattle.std.proofs.Common.{◌≡◌, List, [], ◌∷◌, ◌++◌, length, refl, ap, sym, subst, ◌∙◌, arith}
+use Rattle.sm_term.specs.TableLaws.{Widens}
+use Rattle.sm_term.specs.Tables.{TableValue, trees_in}
+use Rattle.sm_theory.specs.declared.line.CertLine.{CertLine}
+use Rattle.sm_theory.specs.declared.line.CertLine.TheVariants as cert
+use Rattle.sm_theory.specs.Lines.{Both, Either, Cases, Order, Refl, Sym, Trans, Subst}
+use Rattle.sm_theory.specs.Lines.{Cong, Same, Apart, Hit, Miss, Lin, Elim, Tight, Close, Clash}
+use Rattle.sm_theory.specs.Views.{line_in, IsLineWithin}
+use Rattle.sm_cert.specs.declared.tree.CertEnd.{CertEnd, CertEnd-F, roll-CertEnd, map-CertEnd, fold-roll-CertEnd}
+use Rattle.sm_cert.specs.declared.tree.CertEnd.TheOpen as layer
+use Rattle.sm_cert.specs.declared.tree.CertTree.{CertTree, CertTree-F, roll-CertTree, map-CertTree, fold-roll-CertTree, ind-CertTree}
+use Rattle.sm_cert.specs.Certificates.{Certificate, Next, Closed, Split}
+use Rattle.sm_cert.specs.Views.{lines_before, tree_layer, end_layer, certificate_in, end_lines, tree_lines, lines_of, AreLinesWithin}
+use Rattle.sm_cert.proofs.CheckLemmas.{end_in, lines_of_end, within_parts}
+use Rattle.sm_plan.proofs.TablesWiden.{longer, tree_stays}
+
+module _ (v w : TableValue) (wider : Widens v w) where
+  -- a line
+  pub line_stays : (l : CertLine) → IsLineWithin (length (trees_in v)) l → line_in (trees_in w) l ≡ line_in (trees_in v) l
+  line_stays (cert.Both n) h = refl
+  line_stays (cert.Either n) h = refl
+  line_stays (cert.Cases t u) h = λ i. Cases (tree_stays v w wider t.0 h.0 i) (tree_stays v w wider u.0 h.1 i)
+  line_stays (cert.Order n) h = refl
+  line_stays (cert.Refl t) h = λ i. Refl (tree_stays v w wider t.0 h i)
+  line_stays (cert.Sym n) h = refl
+  line_stays (cert.Trans m n) h = refl
+  line_stays (cert.Subst m n) h = refl
+  line_stays (cert.Cong t u ns) h = λ i. Cong (tree_stays v w wider t.0 h.0 i) (tree_stays v w wider u.0 h.1 i) ns.list.items
+  line_stays (cert.Same t u) h = λ i. Same (tree_stays v w wider t.0 h.0 i) (tree_stays v w wider u.0 h.1 i)
+  line_stays (cert.Apart t u) h = λ i. Apart (tree_stays v w wider t.0 h.0 i) (tree_stays v w wider u.0 h.1 i)
+  line_stays (cert.Hit t n) h = λ i. Hit (tree_stays v w wider t.0 h i) n
+  line_stays (cert.Miss t u n) h = λ i. Miss (tree_stays v w wider t.0 h.0 i) (tree_stays v w wider u.0 h.1 i) n
+  line_stays (cert.Lin n) h = refl
+  line_stays (cert.Elim m n t) h = λ i. Elim m n (tree_stays v w wider t.0 h i)
+  line_stays (cert.Tight n) h = refl
+  line_stays (cert.Close n) h = refl
+  line_stays (cert.Clash m n) h = refl
+
+  -- lines before a certificate
+  pub lines_stay : (ls : List CertLine) (c : Certificate) → AreLinesWithin (length (trees_in v)) ls →
+      lines_before (trees_in w) ls c ≡ lines_before (trees_in v) ls c
+  lines_stay [] c h = refl
+  lines_stay (l ∷ ls) c h = λ i. Next (line_stays l h.0 i) (lines_stay ls c h.1 i)
+
+  -- lines within the narrower table are within the wider one
+  pub line_wider : (l : CertLine) → IsLineWithin (length (trees_in v)) l → IsLineWithin (length (trees_in w)) l
+  line_wider (cert.Both n) h = tt
+  line_wider (cert.Either n) h = tt
+  line_wider (cert.Cases t u) h = let m = longer v w wider in (omega (arith, h.0, m), omega (arith, h.1, m))
+  line_wider (cert.Order n) h = tt
+  line_wider (cert.Refl t) h = let m = longer v w wider in omega (arith, h, m)
+  line_wider (cert.Sym n) h = tt
+  line_wider (cert.Trans k n) h = tt
+  line_wider (cert.Subst k n) h = tt
+  line_wider (cert.Cong t u ns) h = let m = longer v w wider in (omega (arith, h.0, m), omega (arith, h.1, m))
+  line_wider (cert.Same t u) h = let m = longer v w wider in (omega (arith, h.0, m), omega (arith, h.1, m))
+  line_wider (cert.Apart t u) h = let m = longer v w wider in (omega (arith, h.0, m), omega (arith, h.1, m))
+  line_wider (cert.Hit t n) h = let m = longer v w wider in omega (arith, h, m)
+  line_wider (cert.Miss t u n) h = let m = longer v w wider in (omega (arith, h.0, m), omega (arith, h.1, m))
+  line_wider (cert.Lin n) h = tt
+  line_wider (cert.Elim k n t) h = let m = longer v w wider in omega (arith, h, m)
+  line_wider (cert.Tight n) h = tt
+  line_wider (cert.Close n) h = tt
+  line_wider (cert.Clash k n) h = tt
+
+  pub lines_wider : (ls : List CertLine) → AreLinesWithin (length (trees_in v)) ls → AreLinesWithin (length (trees_in w)) ls
+  lines_wider [] h = tt
+  lines_wider (l ∷ ls) h = (line_wider l h.0, lines_wider ls h.1)
+
+  -- certificates and their ends
+  abbrev Stays : CertTree → Type 0
+  Stays tree = AreLinesWithin (length (trees_in v)) (lines_of tree) →
+      certificate_in (trees_in w) tree ≡ certificate_in (trees_in v) tree
+
+  abbrev EndStays : CertEnd → Type 0
+  EndStays end = AreLinesWithin (length (trees_in v)) (lines_of_end end) → end_in (trees_in w) end ≡ end_in (trees_in v) end
+
+  -- with what is so of each
+  abbrev StayingTree : Type 0
+  StayingTree = (tree : CertTree) × Stays tree
+
+  abbrev StayingEnd : Type 0
+  StayingEnd = (end : CertEnd) × EndStays end
+
+  -- an end over certificates of which it is so
+  end_layer_stays : (y : CertEnd-F StayingEnd StayingTree) →
+      EndStays (roll-CertEnd (map-CertEnd StayingEnd StayingTree CertEnd CertTree (λ (e : StayingEnd). e.0) (λ (t : StayingTree). t.0) y))
+  end_layer_stays (layer.Close l) all =
+      let lines = fold-roll-CertEnd (List CertLine) (List CertLine) end_lines tree_lines (layer.Close l) in
+      let within = subst (AreLinesWithin (length (trees_in v))) lines all in
+      fold-roll-CertEnd Certificate Certificate (end_layer (trees_in w)) (tree_layer (trees_in w)) (layer.Close l)
+      ∙ (ap Closed (line_stays l within.0)
+      ∙ sym (fold-roll-CertEnd Certificate Certificate (end_layer (trees_in v)) (tree_layer (trees_in v)) (layer.Close l)))
+  end_layer_stays (layer.Split l c d) all =
+      let x =
+      map-CertEnd StayingEnd StayingTree CertEnd CertTree (λ (e : StayingEnd). e.0) (λ (t : StayingTree). t.0) (layer.Split l c d) in
+      let lines = fold-roll-CertEnd (List CertLine) (List CertLine) end_lines tree_lines x in
+      let within = subst (AreLinesWithin (length (trees_in v))) lines all in
+      let sides = within_parts (length (trees_in v)) (lines_of c.value.0) (lines_of d.value.0) within.1 in
+      let one = line_stays l within.0 in
+      let first = c.value.1 sides.0 in
+      let second = d.value.1 sides.1 in
+      let same : Split (line_in (trees_in w) l) (certificate_in (trees_in w) c.value.0) (certificate_in (trees_in w) d.value.0)
+      ≡ Split (line_in (trees_in v) l) (certificate_in (trees_in v) c.value.0) (certificate_in (trees_in v) d.value.0) =
+      λ i. Split (one i) (first i) (second i) in
+      fold-roll-CertEnd Certificate Certificate (end_layer (trees_in w)) (tree_layer (trees_in w)) x
+      ∙ (same ∙ sym (fold-roll-CertEnd Certificate Certificate (end_layer (trees_in v)) (tree_layer (trees_in v)) x))
+
+  -- lines over an end of which it is so
+  tree_layer_stays : (y : CertTree-F StayingEnd StayingTree) →
+      Stays (roll-CertTree (map-CertTree StayingEnd StayingTree CertEnd CertTree (λ (e : StayingEnd). e.0) (λ (t : StayingTree). t.0) y))
+  tree_layer_stays y all =
+      let x = map-CertTree StayingEnd StayingTree CertEnd CertTree (λ (e : StayingEnd). e.0) (λ (t : StayingTree). t.0) y in
+      let ls = y.lines.list.items in
+      let end = y.last.0 in
+      let lines : lines_of (roll-CertTree x) ≡ ls ++ lines_of_end end =
+      fold-roll-CertTree (List CertLine) (List CertLine) end_lines tree_lines x in
+      let parts = within_parts (length (trees_in v)) ls (lines_of_end end) (subst (AreLinesWithin (length (trees_in v))) lines all) in
+      fold-roll-CertTree Certificate Certificate (end_layer (trees_in w)) (tree_layer (trees_in w)) x
+      ∙ (lines_stay ls (end_in (trees_in w) end) parts.0
+      ∙ (ap (lines_before (trees_in v) ls) (y.last.1 parts.1)
+      ∙ sym (fold-roll-CertTree Certificate Certificate (end_layer (trees_in v)) (tree_layer (trees_in v)) x)))
+
+  -- a certificate within the narrower table
+  pub certificate_stays : (tree : CertTree) → AreLinesWithin (length (trees_in v)) (lines_of tree) →
+      certificate_in (trees_in w) tree ≡ certificate_in (trees_in v) tree
+  certificate_stays =
+      ind-CertTree EndStays Stays (λ x y is. subst (λ z. EndStays (roll-CertEnd z)) is (end_layer_stays y))
+      (λ x y is. subst (λ z. Stays (roll-CertTree z)) is (tree_layer_stays y))

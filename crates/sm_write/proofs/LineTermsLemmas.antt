@@ -1,0 +1,123 @@
+-- The terms of a line, one by one.
+use Rattle.std.proofs.Common.{◌≡◌, ℕ, ◌<◌, Option, Some, None, List, IfSome}
+use Rattle.sm_term.specs.declared.term.TermId.{TermId}
+use Rattle.sm_term.specs.Tables.{tree_at}
+use Rattle.sm_term.specs.Terms.{Tree}
+use Rattle.sm_theory.specs.declared.line.CertLine.{CertLine}
+use Rattle.sm_theory.specs.declared.line.CertLine.TheVariants as cert
+use Rattle.sm_theory.specs.SortedFacts.{EachNamed}
+use Rattle.sm_theory.specs.Views.{line_in, IsLineWithin}
+use Rattle.sm_write.specs.LineTerms.{first_term, second_term}
+use Rattle.sm_write.specs.Written.{Names, IsNamed, IsLineNamed}
+
+-- the terms of a line are in the table
+pub first_within : (count : ℕ) (l : CertLine) → IsLineWithin count l → IfSome (first_term l) (λ (t : TermId). t.0 < count)
+first_within count (cert.Both n) h = tt
+first_within count (cert.Either n) h = tt
+first_within count (cert.Cases t u) h = h.0
+first_within count (cert.Order n) h = tt
+first_within count (cert.Refl t) h = h
+first_within count (cert.Sym n) h = tt
+first_within count (cert.Trans m n) h = tt
+first_within count (cert.Subst m n) h = tt
+first_within count (cert.Cong t u ns) h = h.0
+first_within count (cert.Same t u) h = h.0
+first_within count (cert.Apart t u) h = h.0
+first_within count (cert.Hit t n) h = h
+first_within count (cert.Miss t u n) h = h.0
+first_within count (cert.Lin n) h = tt
+first_within count (cert.Elim m n t) h = h
+first_within count (cert.Tight n) h = tt
+first_within count (cert.Close n) h = tt
+first_within count (cert.Clash m n) h = tt
+
+pub second_within : (count : ℕ) (l : CertLine) → IsLineWithin count l → IfSome (second_term l) (λ (t : TermId). t.0 < count)
+second_within count (cert.Both n) h = tt
+second_within count (cert.Either n) h = tt
+second_within count (cert.Cases t u) h = h.1
+second_within count (cert.Order n) h = tt
+second_within count (cert.Refl t) h = tt
+second_within count (cert.Sym n) h = tt
+second_within count (cert.Trans m n) h = tt
+second_within count (cert.Subst m n) h = tt
+second_within count (cert.Cong t u ns) h = h.1
+second_within count (cert.Same t u) h = h.1
+second_within count (cert.Apart t u) h = h.1
+second_within count (cert.Hit t n) h = tt
+second_within count (cert.Miss t u n) h = h.1
+second_within count (cert.Lin n) h = tt
+second_within count (cert.Elim m n t) h = tt
+second_within count (cert.Tight n) h = tt
+second_within count (cert.Close n) h = tt
+second_within count (cert.Clash m n) h = tt
+
+-- what is so of each
+pub first_each : (P : Tree → Type 0) (trees : List Tree) (l : CertLine) → EachNamed P (line_in trees l) →
+    IfSome (first_term l) (λ (t : TermId). P (tree_at trees t.0))
+first_each P trees (cert.Both n) h = tt
+first_each P trees (cert.Either n) h = tt
+first_each P trees (cert.Cases t u) h = h.0
+first_each P trees (cert.Order n) h = tt
+first_each P trees (cert.Refl t) h = h
+first_each P trees (cert.Sym n) h = tt
+first_each P trees (cert.Trans m n) h = tt
+first_each P trees (cert.Subst m n) h = tt
+first_each P trees (cert.Cong t u ns) h = h.0
+first_each P trees (cert.Same t u) h = h.0
+first_each P trees (cert.Apart t u) h = h.0
+first_each P trees (cert.Hit t n) h = h
+first_each P trees (cert.Miss t u n) h = h.0
+first_each P trees (cert.Lin n) h = tt
+first_each P trees (cert.Elim m n t) h = h
+first_each P trees (cert.Tight n) h = tt
+first_each P trees (cert.Close n) h = tt
+first_each P trees (cert.Clash m n) h = tt
+
+pub second_each : (P : Tree → Type 0) (trees : List Tree) (l : CertLine) → EachNamed P (line_in trees l) →
+    IfSome (second_term l) (λ (t : TermId). P (tree_at trees t.0))
+second_each P trees (cert.Both n) h = tt
+second_each P trees (cert.Either n) h = tt
+second_each P trees (cert.Cases t u) h = h.1
+second_each P trees (cert.Order n) h = tt
+second_each P trees (cert.Refl t) h = tt
+second_each P trees (cert.Sym n) h = tt
+second_each P trees (cert.Trans m n) h = tt
+second_each P trees (cert.Subst m n) h = tt
+second_each P trees (cert.Cong t u ns) h = h.1
+second_each P trees (cert.Same t u) h = h.1
+second_each P trees (cert.Apart t u) h = h.1
+second_each P trees (cert.Hit t n) h = tt
+second_each P trees (cert.Miss t u n) h = h.1
+second_each P trees (cert.Lin n) h = tt
+second_each P trees (cert.Elim m n t) h = tt
+second_each P trees (cert.Tight n) h = tt
+second_each P trees (cert.Close n) h = tt
+second_each P trees (cert.Clash m n) h = tt
+
+-- where both are named, the line is
+pub line_named : (names : Names) (l : CertLine) → IfSome (first_term l) (IsNamed names) → IfSome (second_term l) (IsNamed names) →
+    IsLineNamed names l
+line_named names (cert.Both n) h g = tt
+line_named names (cert.Either n) h g = tt
+line_named names (cert.Cases t u) h g = (h, g)
+line_named names (cert.Order n) h g = tt
+line_named names (cert.Refl t) h g = h
+line_named names (cert.Sym n) h g = tt
+line_named names (cert.Trans m n) h g = tt
+line_named names (cert.Subst m n) h g = tt
+line_named names (cert.Cong t u ns) h g = (h, g)
+line_named names (cert.Same t u) h g = (h, g)
+line_named names (cert.Apart t u) h g = (h, g)
+line_named names (cert.Hit t n) h g = h
+line_named names (cert.Miss t u n) h g = (h, g)
+line_named names (cert.Lin n) h g = tt
+line_named names (cert.Elim m n t) h g = h
+line_named names (cert.Tight n) h g = tt
+line_named names (cert.Close n) h g = tt
+line_named names (cert.Clash m n) h g = tt
+
+-- what is named is named still
+pub some_kept : (a b : Names) → ((t : ℕ) (n : TermId) → a t ≡ Some n → b t ≡ Some n) → (o : Option TermId) → IfSome o (IsNamed a) →
+    IfSome o (IsNamed b)
+some_kept a b kept None h = tt
+some_kept a b kept (Some t) h = (h.0, kept t.0 h.0 h.1)

@@ -1,0 +1,17 @@
+-- The goals that are left, with certificates for them that name terms of the table.
+use Rattle.std.proofs.Common.{length, map}
+use Rattle.sm_term.specs.Tables.{trees_in}
+use Rattle.sm_cert.specs.Views.{certificate_in}
+use Rattle.sm_write.specs.GoalsWritten.{LeavesGoals}
+use Rattle.sm_write.specs.TreesWithin.{AreTreesWithin}
+use Rattle.sm_write.specs.Values.{value_of}
+use Rattle.sm_write.proofs.goals.write_goals.Given as goal
+
+abbrev pub invariant-loop-n : goal.invariant-loop-n
+invariant-loop-n l =
+    let trees = trees_in l.table in record {
+      written :
+          LeavesGoals l.table (value_of l.fn.w) (value_of l.w) l.goals (map (certificate_in trees) l.certs) l.n
+          (map (certificate_in trees) l.left);
+      within : AreTreesWithin (length trees) l.left;
+    }

@@ -1,0 +1,22 @@
+-- What waits can be written, and a table only widens.
+use Rattle.std.proofs.Common.{length, reverse}
+use Rattle.sm_term.specs.Tables.{trees_in}
+use Rattle.sm_term.specs.TableLaws.{Widens}
+use Rattle.sm_proof.specs.Verdicts.{Subject}
+use Rattle.sm_write.specs.TreesWithin.{AreTreesWithin}
+use Rattle.sm_write.specs.Underway.{AreWaitingReady, weight, IsUnderway}
+use Rattle.sm_write.specs.Values.{value_of}
+use Rattle.sm_write.proofs.plans.write_nodes.Given as goal
+
+abbrev pub invariant-loop-next : goal.invariant-loop-next
+invariant-loop-next l = record {
+  states : AreWaitingReady l.table (reverse l.waiting.items);
+  trees : AreTreesWithin (length (trees_in l.table)) l.left;
+  underway :
+      (s : Subject) → IsUnderway s l.initial.table (value_of l.initial.w) (reverse l.initial.waiting.items) l.initial.left →
+      IsUnderway s l.table (value_of l.w) (reverse l.waiting.items) l.left;
+  widens : Widens l.initial.table l.table;
+}
+
+abbrev pub decreases-loop-next : goal.decreases-loop-next
+decreases-loop-next l = weight (reverse l.waiting.items)

@@ -1,0 +1,97 @@
+-- Private: a plan that is being written, with the states that wait for their nodes.
+use Rattle.std.specs.Prelude.{◌≡◌, ℕ, ◌+◌, None, List, [], ◌∷◌, map, Vec}
+use Rattle.std.specs.declared.alloc.Global.{Global}
+use Rattle.sm_term.specs.Assertions.{Assertion}
+use Rattle.sm_term.specs.Tables.{TableValue, trees_in, sorts_in}
+use Rattle.sm_cert.specs.declared.tree.CertTree.{CertTree}
+use Rattle.sm_cert.specs.Views.{certificate_in}
+use Rattle.sm_plan.specs.declared.node.NodeRow.{NodeRow}
+use Rattle.sm_plan.specs.declared.opening.Opened.{Opened}
+use Rattle.sm_plan.specs.declared.opening.Successor.{Successor}
+use Rattle.sm_plan.specs.ReadyStates.{IsStateReady}
+use Rattle.sm_plan.specs.States.{State}
+use Rattle.sm_plan.specs.Views.{node_in, state_in}
+use Rattle.sm_proof.specs.Passing.{Progress, start_progress}
+use Rattle.sm_proof.specs.Verdicts.{Subject}
+use Rattle.sm_expand.specs.declared.cursor.Cursor.{Cursor}
+use Rattle.sm_expand.specs.NumberedPlans.{node_over, plan_over, IsPlanReady, head}
+use Rattle.sm_expand.specs.Cursors.{numbered_at}
+use Rattle.sm_expand.specs.Opens.{OpensAs}
+use Rattle.sm_expand.specs.Walks.{size_of}
+use Rattle.sm_write.specs.declared.plans.Waiting.{Waiting}
+use Rattle.sm_write.specs.GoalsWritten.{IsAt}
+use Rattle.sm_write.specs.NodesWritten.{WritesNode}
+use Rattle.sm_write.specs.Texts.{Leads}
+use Rattle.sm_write.specs.Waiting.{Waits, due_for, AreWaiting}
+use Rattle.sm_write.specs.Writers.{WriterValue}
+
+-- a state of the program with a place in its plan stands for one with a plan, where it has some
+-- facts
+pub record StandsFor (v : TableValue) (w : Waits) (x : Waiting) : Type 0 where
+  pub facts : List Assertion
+  pub state : w.state ≡ state_in (sorts_in v) (trees_in v) facts x.state
+  pub plan : w.plan ≡ plan_over (sorts_in v) (trees_in v) (numbered_at x.cursor)
+
+-- the same of each
+abbrev pub AllStandFor : TableValue → List Waits → List Waiting → Type 0
+AllStandFor v [] [] = Unit {0}
+AllStandFor v [] (x ∷ xs) = ⊥
+AllStandFor v (w ∷ ws) [] = ⊥
+AllStandFor v (w ∷ ws) (x ∷ xs) = StandsFor v w x × AllStandFor v ws xs
+
+-- a state that waits can be gone on from
+pub record IsWaitingReady (v : TableValue) (x : Waiting) : Type 0 where
+  pub state : IsStateReady (sorts_in v) (trees_in v) x.state
+  pub plan : IsPlanReady (sorts_in v) (trees_in v) (numbered_at x.cursor)
+
+-- the same of each
+abbrev pub AreWaitingReady : TableValue → List Waiting → Type 0
+AreWaitingReady v [] = Unit {0}
+AreWaitingReady v (x ∷ xs) = IsWaitingReady v x × AreWaitingReady v xs
+
+-- how many nodes the states that wait have before them
+abbrev pub weight : List Waiting → ℕ
+weight [] = 0
+weight (x ∷ xs) = size_of (numbered_at x.cursor) + weight xs
+
+-- states that follow a node, each with its place in the plan
+abbrev pub waits_with : List Successor → List Cursor → List Waiting
+waits_with [] cs = []
+waits_with (s ∷ ss) [] = []
+waits_with (s ∷ ss) (c ∷ cs) = record { state = s.state; cursor = c } ∷ waits_with ss cs
+
+-- a writer can write what waits, with these certificates, to the end of the plan
+pub record IsUnderway (s : Subject) (v : TableValue) (w : WriterValue) (xs : List Waiting)
+    (cs : List CertTree) : Type 0 where
+  pub seen : List State
+  pub progress : Progress
+  pub waits : List Waits
+  pub at : IsAt s v w seen progress
+  pub pending : progress.pending ≡ map due_for waits
+  pub stand : AllStandFor v waits xs
+  pub ready :
+      AreWaiting s.sorts seen progress.nodes waits (map (certificate_in (trees_in v)) cs) []
+
+-- a node was written, and this is what it opens
+pub record OpeningWritten (old new : TableValue) (before after : WriterValue) (x : Waiting)
+    (o : Opened × Vec Cursor Global) : Type 0 where
+  pub opens : OpensAs old new before.nodes x.state x.cursor o
+  pub row : NodeRow
+  pub is :
+      node_over (sorts_in old) (trees_in old) (head (numbered_at x.cursor))
+      ≡ node_in (sorts_in old) (trees_in old) row
+  pub writes : WritesNode old before after x.state.stores row
+
+-- a writer that wrote the version line alone
+pub record IsFresh (s : Subject) (x : WriterValue) : Type 0 where
+  pub leads : Leads s x.text (start_progress s.start)
+  pub names : (t : ℕ) → x.names t ≡ None
+  pub terms : x.terms ≡ 0
+  pub forms : x.forms ≡ 0
+  pub nodes : x.nodes ≡ 0
+
+-- a text by which a proof comes to its end
+pub record IsWhole (s : Subject) (text : List ℕ) : Type 0 where
+  pub last : Progress
+  pub leads : Leads s text last
+  pub done : last.pending ≡ []

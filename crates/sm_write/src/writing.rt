@@ -1,0 +1,86 @@
+// Proof files.
+ghost use Rattle.std.specs.Prelude.{◌≡◌, length, map, IfOk};
+ghost use Rattle.sm_syntax.specs.text.Parts.{sort_of, task_of};
+ghost use Rattle.sm_syntax.specs.trees.Programs.{declared_of};
+ghost use Rattle.sm_term.specs.Tables.{trees_in, sorts_in};
+ghost use Rattle.sm_term.specs.TableLaws.{Widens};
+ghost use Rattle.sm_cert.specs.Views.{certificate_in};
+ghost use Rattle.sm_plan.specs.SortedStates.{IsTaskSorted};
+ghost use Rattle.sm_plan.specs.Starts.{AreNumbered};
+ghost use Rattle.sm_proof.specs.Verdicts.{Subject, Passes};
+ghost use Rattle.sm_text.specs.Tasks.{parts_of};
+ghost use Rattle.sm_expand.specs.NumberedPlans.{IsPlanReady};
+ghost use Rattle.sm_expand.specs.Views.{numbered_plan, plan_in};
+ghost use Rattle.sm_write.specs.TreesWithin.{AreTreesWithin};
+ghost use Rattle.sm_write.specs.Underway.{IsFresh};
+ghost use Rattle.sm_write.specs.Values.{value_of};
+ghost use Rattle.sm_write.specs.Versions.{HasVersion};
+ghost use Rattle.sm_write.specs.Writable.{IsWritable};
+
+use crate::plans::{Waiting, write_nodes};
+use crate::text::put_version;
+use crate::writer::Writer;
+use sm_cert::CertTree;
+use sm_expand::{Plan, start_of};
+use sm_plan::start_state;
+use sm_task::{Task, fill_all};
+use sm_term::TermTable;
+use std::alloc::{AllocError, Global};
+use std::collections::HashMap;
+
+// A writer that wrote the version line alone.
+fn fresh_writer(alloc: Global, assumes: bool) -> Result<Writer, AllocError>
+    ensures { (s : Subject) → s.assumes ≡ assumes → IfOk result (λ w. IsFresh s (value_of w)) }
+{
+    let mut text = Vec::new(alloc);
+    put_version(&mut text, assumes)?;
+    Ok(Writer {
+        text,
+        names: HashMap::new(alloc),
+        order: Vec::new(alloc),
+        forms: 0,
+        nodes: 0,
+    })
+}
+
+/// The proof file of a plan for a task, over a table of the task's declarations, with a certificate
+/// for each goal of the plan's obligations, in order. After want of memory the table may have more
+/// terms.
+pub fn write_proof(
+    alloc: Global,
+    table: &mut TermTable,
+    task: &Task,
+    plan: &Plan,
+    trees: &[CertTree],
+) -> Result<Vec<u8>, AllocError>
+    requires sorted { let t = parts_of task.now in IsTaskSorted (sort_of t.declared) (task_of t) }
+    requires numbered { AreNumbered (declared_of task.now.shared.decls) }
+    requires declared { sorts_in table.old ≡ sort_of (declared_of task.now.shared.decls) }
+    requires plan { IsPlanReady (sorts_in table.old) (trees_in table.old) (numbered_plan plan.now) }
+    requires trees { AreTreesWithin (length (trees_in table.old)) trees.now }
+    requires writable { let terms = trees_in table.old in IsWritable (parts_of task.now)
+        (plan_in (sorts_in table.old) terms plan.now) (map (certificate_in terms) trees.now) }
+    ensures passes { IfOk result (λ text. Passes (parts_of task.now) text.items) }
+    ensures version { IfOk result (λ text. HasVersion (parts_of task.now) text.items) }
+
+    // Each term keeps its number.
+    ensures widens { Widens table.old table.new }
+{
+    let programs = fill_all(alloc, task)?;
+    let shared = &task.shared;
+    let (state, _facts) = start_state(
+        alloc,
+        table,
+        &shared.decls,
+        &shared.outputs,
+        task.assumed.as_ref(),
+        &programs,
+    )?;
+    let mut w = fresh_writer(alloc, task.assumed.is_some())?;
+    let first = Waiting {
+        state,
+        cursor: start_of(plan),
+    };
+    write_nodes(alloc, &mut w, table, first, trees)?;
+    Ok(w.text)
+}
