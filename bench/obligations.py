@@ -6,6 +6,8 @@ obligations.py KIND FACTS DIRECTORY
 `arrays`: arrays and indices that are equal one after the other, and an element of the first that is one of the last.
 `differences`: each number is at most the next one, so the first is at most the last.
 `grid`: each place of a square is the one above it and a step down, and the one on its left and a step to the right.
+`splits`: of as many pairs the first part can't be, and the last pair has no second part that can; so the branches of the
+pairs are split one below another.
 The directory gets `lines` and `obligation.smt2`.
 """
 import sys
@@ -43,11 +45,16 @@ class Obligation:
         return self.put("read %d %d" % (a, i), "(select %s %s)" % (self.words[a], self.words[i]))
 
     def smt_of(self, op, t, u):
-        return "(%s %s %s)" % ({"eq": "=", "le": "<=", "lt": "<"}[op], self.words[t], self.words[u])
+        word = {"eq": "=", "ne": "distinct", "le": "<=", "lt": "<"}[op]
+        return "(%s %s %s)" % (word, self.words[t], self.words[u])
 
     def fact(self, op, t, u):
         self.lines.append("fact %s %d %d" % (op, t, u))
         self.smt.append("(assert %s)" % self.smt_of(op, t, u))
+
+    def either(self, first, second):
+        self.lines.append("fact or %s %d %d %s %d %d" % (first + second))
+        self.smt.append("(assert (or %s %s))" % (self.smt_of(*first), self.smt_of(*second)))
 
     def target(self, op, t, u):
         self.lines.append("solve 100000000 %s %d %d" % (op, t, u))
@@ -95,9 +102,22 @@ def grid(facts):
     return o
 
 
+def splits(facts):
+    side = int(facts ** 0.5) + 1
+    o = Obligation(0, 2 * side + 2)
+    p, q = 2 * side, 2 * side + 1
+    o.fact("ne", p, q)
+    o.fact("le", p, q)
+    for k in range(facts - 1):
+        o.either(("eq", p, q), ("lt", k // side, side + k % side))
+    o.either(("eq", p, q), ("lt", q, p))
+    o.target("lt", 0, 0)
+    return o
+
+
 def main():
     kind, facts, place = sys.argv[1], int(sys.argv[2]), sys.argv[3]
-    o = {"arrays": arrays, "differences": differences, "grid": grid}[kind](facts)
+    o = {"arrays": arrays, "differences": differences, "grid": grid, "splits": splits}[kind](facts)
     for name, lines in (("lines", o.lines), ("obligation.smt2", o.smt)):
         with open("%s/%s" % (place, name), "w", encoding="utf-8") as file:
             file.write("\n".join(lines) + "\n")

@@ -1,7 +1,7 @@
 #!/bin/sh
-# Answers obligations of 100, 1,000 and 10,000 facts, written by obligations.py, and shows seconds and KiB of memory, beside
-# the seconds of z3 and of cvc5 where these are installed, one process each. Then it answers 20,000 random ones, written
-# and judged by random_obligations.py. Run it at the top, after `rt run` in crates/lines.
+# Answers obligations of 100, 1,000 and 10,000 facts, written by obligations.py, and such as are split 1,000 times, and shows
+# seconds and KiB of memory, beside the seconds of z3 and of cvc5 where these are installed, one process each. Then it
+# answers 20,000 random ones, written and judged by random_obligations.py. Run it at the top, after `rt run` in crates/lines.
 #
 # bench/obligations.sh [PROGRAM [SIZES]]
 set -eu
@@ -18,14 +18,23 @@ other() {
   grep -q -x unsat "$place/said" && cat "$place/cost" || echo "none"
 }
 
+# A row for an obligation of a kind and a size.
+row() {
+  python3 "$here/obligations.py" "$1" "$2" "$place"
+  /usr/bin/time -q -f '%e %M' -o "$place/own" timeout 600 "$program" < "$place/lines" > "$place/printed" || true
+  read -r seconds memory < "$place/own"
+  printf '%-12s %7d %9s %9s %9s %9s  %s\n' "$1" "$2" "$seconds" "$memory" "$(other z3)" "$(other cvc5)" \
+    "$(tail -n 1 "$place/printed")"
+}
+
 printf '%-12s %7s %9s %9s %9s %9s  %s\n' kind facts seconds KiB z3 cvc5 answer
 for kind in arrays differences grid; do
   for size in $sizes; do
-    python3 "$here/obligations.py" "$kind" "$size" "$place"
-    /usr/bin/time -q -f '%e %M' -o "$place/own" timeout 600 "$program" < "$place/lines" > "$place/printed" || true
-    read -r seconds memory < "$place/own"
-    printf '%-12s %7d %9s %9s %9s %9s  %s\n' "$kind" "$size" "$seconds" "$memory" "$(other z3)" "$(other cvc5)" \
-      "$(tail -n 1 "$place/printed")"
+    row "$kind" "$size"
   done
+done
+# 1,000 splits one below another are taken, 1,001 aren't.
+for size in 100 1000 1001; do
+  row splits "$size"
 done
 python3 "$here/random_obligations.py" "$program" 20000
