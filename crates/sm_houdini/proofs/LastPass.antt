@@ -1,0 +1,47 @@
+-- What the last pass over the obligations of what is kept comes upon.
+use Rattle.std.proofs.Common.{◌≡◌, ℕ, Bool, true, false, Option, Some, None, is_none, Ok, List, [], ◌∷◌, ◌++◌, map, refl, sym, ap, ◌∙◌}
+use Rattle.std.proofs.Common.{subst}
+use Rattle.std.proofs.lemmas.List.{append_assoc}
+use Rattle.sm_syntax.specs.text.Parts.{Parts, task_of}
+use Rattle.sm_term.specs.Assertions.{Assertion}
+use Rattle.sm_plan.specs.Plans.{Due, obligations}
+use Rattle.sm_product.specs.ProductPlans.{plan_of}
+use Rattle.sm_product.proofs.SetsLemmas.{Each}
+use Rattle.sm_houdini.specs.Certified.{asked}
+use Rattle.sm_houdini.specs.Laws.{AllClose, AllOwnedClose, AreFinalUnowned}
+use Rattle.sm_houdini.specs.Owners.{owner_of}
+use Rattle.sm_houdini.specs.Rounds.{dues_in, kept}
+use Rattle.sm_houdini.proofs.OwnersLemmas.{owners_final}
+use Rattle.sm_houdini.proofs.RoundsLemmas.{kept_inductive}
+
+-- goals that aren't final close
+abbrev pub ClosesInside : (List Assertion → Assertion → Bool) → Due → Type 0
+ClosesInside closes d = d.is_final ≡ false → AllClose (closes d.facts) d.goals
+
+module _ (closes : List Assertion → Assertion → Bool) (t : Parts) where
+  inside : (ds : List Due) → AreFinalUnowned t ds → AllOwnedClose closes t ds → Each (ClosesInside closes) ds
+  inside [] finals owned = tt
+  inside (d ∷ ds) finals owned = (
+    λ (h : d.is_final ≡ false). by (owner_of t d) refl (sym finals.0 ∙ h),
+    inside ds finals.1 owned.1,
+  )
+    where
+      by : (o : Option ℕ) → owner_of t d ≡ o → is_none (owner_of t d) ≡ false → AllClose (closes d.facts) d.goals
+      by None e h = absurd (different (sym (ap is_none e) ∙ h))
+        where
+          different : true ≡ false → ⊥
+          different f = absurd cc
+      by (Some s) e h = owned.0 s e
+
+  -- so it is of each obligation of what is kept
+  pub inside_close : (ds : List Due) → obligations (task_of t) (plan_of t (kept closes t)) ≡ Ok ds → Each (ClosesInside closes) ds
+  inside_close ds e =
+      inside ds (owners_final t (kept closes t) ds e)
+      (subst (AllOwnedClose closes t) (ap dues_in e) (kept_inductive closes t).1)
+
+-- the goals of obligations one after the other
+pub asked_append : (ds es : List Due) → asked (ds ++ es) ≡ asked ds ++ asked es
+asked_append [] es = refl
+asked_append (d ∷ ds) es =
+    let goals = map (λ (g : Assertion). (d.facts, g)) d.goals in
+    ap (λ (rest : List (List Assertion × Assertion)). goals ++ rest) (asked_append ds es) ∙ sym (append_assoc goals (asked ds) (asked es))

@@ -1,0 +1,16 @@
+pub mod OwnersLemmas
+pub mod RoundsLemmas
+pub mod LastPass
+pub mod DroppedLemmas
+pub mod KeptLemmas
+pub mod OutcomeLemmas
+pub mod WalkedTerms
+pub mod NamedGoals
+pub mod SimpleWritable
+pub mod SortedTemplates
+pub mod SortedSites
+pub mod SearchWritable
+pub mod LeanTerms
+pub mod LeanStates
+pub mod ShortLines
+pub mod RoundExamples

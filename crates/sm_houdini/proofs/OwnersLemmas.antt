@@ -1,0 +1,390 @@
+-- A goal is final exactly where no site owns it. What a site asks are the templates that are chosen there, at some stores.
+use Rattle.std.proofs.Common.{◌≡◌, ◌⊎◌, ℕ, zero, suc, ◌+◌, ◌==◌, Bool, true, false, not, ◌&&◌, ◌||◌}
+use Rattle.std.proofs.Common.{if◌then◌else◌, Option, Some, None, is_none, inl, inr}
+use Rattle.std.proofs.Common.{Result, Ok, Err, List, [], ◌∷◌, ◌++◌, map, length, slice_get, refl}
+use Rattle.std.proofs.Common.{sym, ap, ◌∙◌, subst, arith, ⊎_elim}
+use Rattle.std.specs.Prelude.{unwrap_or}
+use Rattle.std.proofs.lemmas.Option.{same_Some}
+use Rattle.std.proofs.lemmas.List.{length-append}
+use Rattle.sm_syntax.specs.claim.Syntax.{Code, End, Skip, Assign, Write, If, While, Hole}
+use Rattle.sm_syntax.specs.claim.ConflictFree.{Copy}
+use Rattle.sm_syntax.specs.text.Parts.{Parts, task_of}
+use Rattle.sm_term.specs.Assertions.{Assertion, conj}
+use Rattle.sm_term.specs.Slots.{all_at_stores}
+use Rattle.sm_term.specs.Symbolic.{SymbolicStore}
+use Rattle.sm_plan.specs.Copies.{Copies, subsets, each, has, is_inhabited}
+use Rattle.sm_plan.specs.Limits.{is_shallow, is_kept}
+use Rattle.sm_plan.specs.Nodes.{Node, Step, Abs, Fork, Loop, Block, Ends, Opened, opened_by}
+use Rattle.sm_plan.specs.Nodes.{rule_of, is_end, where_true, after_step, both_ways}
+use Rattle.sm_plan.specs.Plans.{Due, Fault, Wrong, Deep, due, joined, expand}
+use Rattle.sm_plan.specs.Plans.{expand_all, count, size, sizes, branches, obligations}
+use Rattle.sm_plan.specs.States.{State, start_state}
+use Rattle.sm_plan.specs.Statements.{is_over, is_long, is_loop}
+use Rattle.sm_plan.specs.Successors as next
+use Rattle.sm_product.specs.Choices.{Choice, chosen_at, picked, kept_by}
+use Rattle.sm_product.specs.ProductPlans as plans
+use Rattle.sm_product.specs.ProductPlans.{plan_of}
+use Rattle.sm_product.specs.Products.{sketch_of}
+use Rattle.sm_product.specs.Sketches.{SketchNode, Plain, LoopSite, BlockSite, Sketch, Draw}
+use Rattle.sm_product.specs.Sketches.{Sketches, Over, More}
+use Rattle.sm_product.specs.Sketches.{site_at, sites_of, sites_below, node_with, plan_with, plans_with}
+use Rattle.sm_product.proofs.ChoicesLemmas.{kept_parts_chosen}
+use Rattle.sm_product.proofs.NodesLemmas.{EachNode, EachBelow, HoldsOfNodes, sketch_nodes}
+use Rattle.sm_product.proofs.ObligationsLemmas.{opened_back, joined_back, passed_back}
+use Rattle.sm_product.proofs.SetsLemmas.{Each, each_append}
+use Rattle.sm_houdini.specs.Laws.{AreFinalUnowned, FinalHasNoOwner, AskChosen, SitesAskChosen}
+use Rattle.sm_houdini.specs.Owners.{owners, owners_below, owner_of}
+
+-- a state has the target of another one
+record IsAs (st other : State) : Type 0 where
+  final : other.is_final ≡ st.is_final
+  target : other.target ≡ st.target
+
+-- a node asks nothing or is an end, and what follows goes on to the same target
+record Passes (st : State) (node : Node) (q : Opened) : Type 0 where
+  asks : (q.goals ≡ []) ⊎ ((is_end node ≡ true) × (q.goals ≡ all_at_stores st.stores st.target))
+  follow : Each (IsAs st) q.states
+
+abbrev PassesAt : SketchNode → Type 0
+PassesAt (Plain node) = (k : ℕ) (st : State) (q : Opened) → opened_by k st node ≡ Some q → Passes st node q
+PassesAt (LoopSite set templates) = Unit {0}
+PassesAt (BlockSite counts templates) = Unit {0}
+
+as_before : (st : State) → IsAs st st
+as_before st = record { final = refl; target = refl }
+
+step_passes : (st : State) (c : Copy) (o : Option (Code × SymbolicStore)) (q : Opened) → after_step st c o ≡ Some q → Passes st (Step c) q
+step_passes st c None q e = absurd cc
+step_passes st c (Some p) q e = subst (Passes st (Step c)) (same_Some _ q e) (record { asks = inl refl; follow = (record { final = refl; target = refl }, tt) })
+
+where_passes : (st : State) (node : Node) (b : Bool) (p q : Opened) → where_true b p ≡ Some q → Passes st node p → Passes st node q
+where_passes st node true p q e h = subst (Passes st node) (same_Some p q e) h
+where_passes st node false p q e h = absurd cc
+
+fork_passes : (st : State) (c : Copy) (code : Code) (q : Opened) → both_ways st c code ≡ Some q → Passes st (Fork c) q
+fork_passes st c End q e = absurd cc
+fork_passes st c (Skip k) q e = absurd cc
+fork_passes st c (Assign x v k) q e = absurd cc
+fork_passes st c (Write a i v k) q e = absurd cc
+fork_passes st c (If b one other k) q e =
+    subst (Passes st (Fork c)) (same_Some _ q e)
+    (record { asks = inl refl; follow = (record { final = refl; target = refl }, (record { final = refl; target = refl }, tt)) })
+fork_passes st c (While b body k) q e = absurd cc
+fork_passes st c (Hole h k) q e = absurd cc
+
+nodes_pass : (t : Parts) → HoldsOfNodes t PassesAt
+nodes_pass t = record {
+  of_step = λ (c : Copy) (k : ℕ) (st : State) (q : Opened) (e : opened_by k st (Step c) ≡ Some q).
+      step_passes st c (next.stepped (st.rest c) (st.stores c)) q e;
+  of_summary = λ (c : Copy) (k : ℕ) (st : State) (q : Opened) (e : opened_by k st (Abs c 1) ≡ Some q).
+      where_passes st (Abs c 1) (is_long 1 (st.rest c)) _ q e
+      (record { asks = inl refl; follow = (record { final = refl; target = refl }, tt) });
+  of_fork = λ (c : Copy) (k : ℕ) (st : State) (q : Opened) (e : opened_by k st (Fork c) ≡ Some q). fork_passes st c (st.rest c) q e;
+  of_end = λ (k : ℕ) (st : State) (q : Opened) (e : opened_by k st Ends ≡ Some q).
+      where_passes st Ends (each (λ (c : Copy). is_over (st.rest c))) _ q e
+      (record { asks = inr (refl, refl); follow = tt });
+  of_loops = λ (set : Copies) (code : Copy → Code). tt;
+  of_block = λ (counts : Copy → ℕ) (code : Copy → Code). tt;
+}
+
+-- what is found in a list is found in a longer one
+found_left : (xs ys : List (Option ℕ)) (i : ℕ) (o : Option ℕ) → slice_get xs i ≡ Some o → slice_get (xs ++ ys) i ≡ Some o
+found_left [] ys i o e = absurd cc
+found_left (x ∷ xs) ys zero o e = e
+found_left (x ∷ xs) ys (suc i) o e = found_left xs ys i o e
+
+found_right : (xs ys : List (Option ℕ)) (i : ℕ) → slice_get (xs ++ ys) (length xs + i) ≡ slice_get ys i
+found_right [] ys i = let e : 0 + i ≡ i = omega arith in ap (slice_get ys) e
+found_right (x ∷ xs) ys i =
+    let e : suc (length xs) + i ≡ suc (length xs + i) = omega arith in
+    ap (slice_get (x ∷ (xs ++ ys))) e ∙ found_right xs ys i
+
+opened_same : (b : Bool) (p q : Opened) → where_true b p ≡ Some q → p ≡ q
+opened_same true p q e = same_Some p q e
+opened_same false p q e = absurd cc
+
+not_ok : (ds : List Due) (w : Fault) → (let r : Result (List Due) Fault = Err w in r) ≡ Ok ds → ⊥
+not_ok ds w e = absurd cc
+
+-- a target of a site has certain parts
+abbrev HasParts : (ℕ → List Assertion) → Option ℕ → List Assertion → Type 0
+HasParts parts None fs = Unit {0}
+HasParts parts (Some s) fs = fs ≡ parts s
+
+-- goals of a site are these, at some stores
+abbrev AskParts : (ℕ → List Assertion) → Option ℕ → List Assertion → Type 0
+AskParts parts None goals = Unit {0}
+AskParts parts (Some s) goals = (stores : Copy → SymbolicStore) × (goals ≡ all_at_stores stores (parts s))
+
+parts_asked : (parts : ℕ → List Assertion) (o : Option ℕ) (stores : Copy → SymbolicStore) (fs : List Assertion) → HasParts parts o fs →
+    AskParts parts o (all_at_stores stores fs)
+parts_asked parts None stores fs h = tt
+parts_asked parts (Some s) stores fs h = (stores, ap (all_at_stores stores) h)
+
+-- the formulas that sites keep, numbered from s on, have these parts
+abbrev KeepParts : (ℕ → List Assertion) → (ℕ → List Assertion → Assertion) → ℕ → List (List Assertion) → Type 0
+KeepParts parts keep s [] = Unit {0}
+KeepParts parts keep s (ts ∷ rest) = (conj (keep s ts) ≡ parts s) × KeepParts parts keep (suc s) rest
+
+parts_split : (parts : ℕ → List Assertion) (keep : ℕ → List Assertion → Assertion) (s : ℕ) (xs ys : List (List Assertion)) →
+    KeepParts parts keep s (xs ++ ys) → KeepParts parts keep s xs × KeepParts parts keep (s + length xs) ys
+parts_split parts keep s [] ys h = (tt, subst (λ (n : ℕ). KeepParts parts keep n ys) (omega arith) h)
+parts_split parts keep s (ts ∷ xs) ys h =
+    let both = parts_split parts keep (suc s) xs ys h.1 in
+    let same : suc s + length xs ≡ s + suc (length xs) = omega arith in
+    ((h.0, both.0), subst (λ (n : ℕ). KeepParts parts keep n ys) same both.1)
+
+parts_from : (parts : ℕ → List Assertion) (keep : ℕ → List Assertion → Assertion) (s : ℕ) (xs : List (List Assertion)) →
+    ((i : ℕ) (ts : List Assertion) → slice_get xs i ≡ Some ts → conj (keep (s + i) ts) ≡ parts (s + i)) → KeepParts parts keep s xs
+parts_from parts keep s [] h = tt
+parts_from parts keep s (ts ∷ xs) h =
+    let here : s + 0 ≡ s = omega arith in (
+      subst (λ (n : ℕ). conj (keep n ts) ≡ parts n) here (h 0 ts refl),
+      parts_from parts keep (suc s) xs (λ (i : ℕ) (us : List Assertion) (e : slice_get xs i ≡ Some us).
+          let same : s + suc i ≡ suc s + i = omega arith in
+          subst (λ (n : ℕ). conj (keep n us) ≡ parts n) same (h (suc i) us e)),
+    )
+
+module _ (base : List (Option ℕ)) (keep : ℕ → List Assertion → Assertion) (chosen : ℕ → List Assertion) where
+  -- a state's target is the final one where there is no owner, and otherwise has its owner's parts
+  record IsAimed (target : Option ℕ) (st : State) : Type 0 where
+    final : st.is_final ≡ is_none target
+    has_parts : HasParts chosen target st.target
+
+  -- states that follow go on to one target, but for the last one
+  abbrev AreAimed : Option ℕ → Option ℕ → List State → Type 0
+  AreAimed inner last [] = Unit {0}
+  AreAimed inner last (st ∷ []) = IsAimed last st
+  AreAimed inner last (st ∷ other ∷ rest) = IsAimed inner st × AreAimed inner last (other ∷ rest)
+
+  aimed_as : (target : Option ℕ) (st other : State) → IsAimed target st → IsAs st other → IsAimed target other
+  aimed_as target st other aimed same = record {
+    final = same.final ∙ aimed.final;
+    has_parts = subst (HasParts chosen target) (sym same.target) aimed.has_parts;
+  }
+
+  all_aimed : (target : Option ℕ) (st : State) (states : List State) → IsAimed target st → Each (IsAs st) states →
+      AreAimed target target states
+  all_aimed target st [] aimed all = tt
+  all_aimed target st (other ∷ []) aimed all = aimed_as target st other aimed all.0
+  all_aimed target st (other ∷ third ∷ rest) aimed all =
+      (aimed_as target st other aimed all.0, all_aimed target st (third ∷ rest) aimed all.1)
+
+  -- what follows of loops: turns go on to the kept formula
+  turns_aimed : (st : State) (k s : ℕ) (target : Option ℕ) (set : Copies) (form : Assertion) → conj form ≡ chosen s →
+      IsAimed target st → (vs : List Copies) →
+      AreAimed (Some s) target (map (next.turn_state st k set form) vs ++ next.after_loops_state st k set form ∷ [])
+  turns_aimed st k s target set form keeps aimed [] = record { final = aimed.final; has_parts = aimed.has_parts }
+  turns_aimed st k s target set form keeps aimed (v ∷ []) =
+      (record { final = refl; has_parts = keeps }, record { final = aimed.final; has_parts = aimed.has_parts })
+  turns_aimed st k s target set form keeps aimed (v ∷ u ∷ vs) =
+      (record { final = refl; has_parts = keeps }, turns_aimed st k s target set form keeps aimed (u ∷ vs))
+
+  -- a list stands in the base from a place on
+  abbrev IsAt : ℕ → List (Option ℕ) → Type 0
+  IsAt k xs = (i : ℕ) (o : Option ℕ) → slice_get xs i ≡ Some o → slice_get base (k + i) ≡ Some o
+
+  at_first : (k : ℕ) (x : Option ℕ) (xs : List (Option ℕ)) → IsAt k (x ∷ xs) → slice_get base k ≡ Some x
+  at_first k x xs h = let e : k ≡ k + 0 = omega arith in ap (slice_get base) e ∙ h 0 x refl
+
+  at_rest : (k : ℕ) (x : Option ℕ) (xs : List (Option ℕ)) → IsAt k (x ∷ xs) → IsAt (suc k) xs
+  at_rest k x xs h i o e = let same : suc k + i ≡ k + suc i = omega arith in ap (slice_get base) same ∙ h (suc i) o e
+
+  at_right : (k n : ℕ) (xs ys : List (Option ℕ)) → n ≡ length xs → IsAt k (xs ++ ys) → IsAt (k + n) ys
+  at_right k n xs ys len h i o e =
+      let same : k + n + i ≡ k + (length xs + i) = omega (arith, len) in
+      ap (slice_get base) same ∙ h (length xs + i) o (found_right xs ys i ∙ e)
+
+  -- a goal is final exactly where its node has no owner, and an owner asks its parts
+  record IsOwned (d : Due) : Type 0 where
+    owner : Option ℕ
+    found : slice_get base d.node ≡ Some owner
+    final : d.is_final ≡ is_none owner
+    asks : AskParts chosen owner d.goals
+
+  due_owned : (k : ℕ) (st : State) (node : Node) (o : Option ℕ) (goals : List Assertion) → slice_get base k ≡ Some o →
+      (is_end node && st.is_final) ≡ is_none o → AskParts chosen o goals → Each IsOwned (due k st node goals)
+  due_owned k st node o [] here final asks = tt
+  due_owned k st node o (g ∷ gs) here final asks = (record { owner = o; found = here; final = final; asks = asks }, tt)
+
+  no_due : (k : ℕ) (st : State) (node : Node) (goals : List Assertion) → goals ≡ [] → Each IsOwned (due k st node goals)
+  no_due k st node goals e = subst (λ (gs : List Assertion). Each IsOwned (due k st node gs)) (sym e) tt
+
+  both_owned : (es gs ds : List Due) → es ++ gs ≡ ds → Each IsOwned es → Each IsOwned gs → Each IsOwned ds
+  both_owned es gs ds e h g = subst (Each IsOwned) e (each_append IsOwned es gs h g)
+
+  mutual
+    -- as many owners as nodes
+    owners_length : (p : Sketch) (target : Option ℕ) (s : ℕ) → length (owners target s p) ≡ size (plan_with keep s p)
+    owners_length (Draw (Plain node) ps) target s =
+        ap (λ (n : ℕ). suc n) (below_length ps target target s (s + 0) (omega arith))
+    owners_length (Draw (LoopSite set templates) ps) target s =
+        ap (λ (n : ℕ). suc n) (below_length ps (Some s) target (suc s) (s + 1) (omega arith))
+    owners_length (Draw (BlockSite counts templates) ps) target s =
+        ap (λ (n : ℕ). suc n) (below_length ps (Some s) target (suc s) (s + 1) (omega arith))
+
+    below_length : (ps : Sketches) (inner last : Option ℕ) (s m : ℕ) → s ≡ m →
+        length (owners_below inner last s ps) ≡ sizes (plans_with keep m ps)
+    below_length Over inner last s m e = refl
+    below_length (More p Over) inner last s m e = owners_length p last s ∙ ap (λ (n : ℕ). size (plan_with keep n p)) e ∙ omega arith
+    below_length (More p (More q ps)) inner last s m e =
+        length-append (owners inner s p) (owners_below inner last (s + length (sites_of p)) (More q ps))
+        ∙ (λ i. owners_length p inner s i
+        + below_length (More q ps) inner last (s + length (sites_of p)) (s + length (sites_of p)) refl i)
+        ∙ ap (λ (n : ℕ). size (plan_with keep n p) + sizes (plans_with keep (n + length (sites_of p)) (More q ps))) e
+
+  -- the first node of a plan that has obligations, and what they are
+  record Parted (node : SketchNode) (ps : Sketches) (k s : ℕ) (st : State) (ds : List Due) : Type 0 where
+    q : Opened
+    later : List Due
+    opens : opened_by k st (node_with keep s node) ≡ Some q
+    goes_on : expand_all (Wrong k (rule_of (node_with keep s node))) (suc k) q.states (plans_with keep (s + length (site_at node)) ps)
+        ≡ Ok later
+    whole : due k st (node_with keep s node) q.goals ++ later ≡ ds
+
+  abbrev dues_list : Result (List Due) Fault → List Due
+  dues_list (Ok ds) = ds
+  dues_list (Err w) = []
+
+  parted : (node : SketchNode) (ps : Sketches) (k s : ℕ) (st : State) (ds : List Due) →
+      expand k st (plan_with keep s (Draw node ps)) ≡ Ok ds → Parted node ps k s st ds
+  parted node ps k s st ds e =
+      let below = plans_with keep (s + length (site_at node)) ps in
+      let w = Wrong k (rule_of (node_with keep s node)) in
+      let o = opened_back (opened_by k st (node_with keep s node)) w
+      (λ (q : Opened). if count below == length q.states
+      then joined (Ok (due k st (node_with keep s node) q.goals)) (expand_all w (suc k) q.states below) else Err w) ds e in
+      let parts = joined_back (Ok (due k st (node_with keep s node) o.0.goals)) (expand_all w (suc k) o.0.states below) ds
+      (passed_back (count below == length o.0.states) _ w ds o.2) in
+      record {
+        q = o.0;
+        later = parts.1;
+        opens = o.1;
+        goes_on = parts.3;
+        whole = ap (λ (es : List Due). es ++ parts.1) (dues_same (due k st (node_with keep s node) o.0.goals) parts.0 parts.2) ∙ parts.4;
+      }
+    where
+      dues_same : (x y : List Due) → (let r : Result (List Due) Fault = Ok x in r) ≡ Ok y → x ≡ y
+      dues_same x y h = ap dues_list h
+
+  mutual
+    owned : (p : Sketch) (target : Option ℕ) (k s : ℕ) (st : State) (ds : List Due) → EachNode PassesAt p →
+        KeepParts chosen keep s (sites_of p) → IsAimed target st → IsAt k (owners target s p) → expand k st (plan_with keep s p) ≡ Ok ds →
+        Each IsOwned ds
+    owned (Draw (Plain node) ps) target k s st ds good keeps aimed at e =
+        let p = parted (Plain node) ps k s st ds e in
+        let passes = good.0 k st p.q p.opens in
+        both_owned (due k st node p.q.goals) p.later ds p.whole
+        (⊎_elim (λ (h : p.q.goals ≡ []). no_due k st node p.q.goals h)
+        (λ (h : (is_end node ≡ true) × (p.q.goals ≡ all_at_stores st.stores st.target)). due_owned k st node target p.q.goals
+        (at_first k target (owners_below target target s ps) at) (ap (λ (b : Bool). b && st.is_final) h.0 ∙ aimed.final)
+        (subst (AskParts chosen target) (sym h.1) (parts_asked chosen target st.stores st.target aimed.has_parts)))
+        passes.asks)
+        (all_owned ps target target (Wrong k (rule_of node)) (suc k) s (s + 0) (omega arith) p.q.states p.later good.1 keeps
+        (all_aimed target st p.q.states aimed passes.follow) (at_rest k target (owners_below target target s ps) at) p.goes_on)
+    owned (Draw (LoopSite set templates) ps) target k s st ds good keeps aimed at e =
+        let p = parted (LoopSite set templates) ps k s st ds e in
+        let same = opened_same
+        (is_inhabited set && (each (λ (c : Copy). not (has set c) || is_loop (st.rest c)) && is_kept (keep s templates)))
+        _ p.q p.opens in
+        both_owned (due k st (Loop set (keep s templates)) p.q.goals) p.later ds p.whole
+        (due_owned k st (Loop set (keep s templates)) (Some s) p.q.goals
+        (at_first k (Some s) (owners_below (Some s) target (suc s) ps) at) refl
+        (subst (λ (q : Opened). AskParts chosen (Some s) q.goals) same
+        (parts_asked chosen (Some s) st.stores (conj (keep s templates)) keeps.0)))
+        (all_owned ps (Some s) target (Wrong k 4) (suc k) (suc s) (s + 1) (omega arith) p.q.states p.later good.1 keeps.1
+        (subst (λ (q : Opened). AreAimed (Some s) target q.states) same
+        (turns_aimed st k s target set (keep s templates) keeps.0 aimed (subsets set)))
+        (at_rest k (Some s) (owners_below (Some s) target (suc s) ps) at) p.goes_on)
+    owned (Draw (BlockSite counts templates) ps) target k s st ds good keeps aimed at e =
+        let p = parted (BlockSite counts templates) ps k s st ds e in
+        let same = opened_same (each (λ (c : Copy). is_long (counts c) (st.rest c)) && is_kept (keep s templates)) _ p.q p.opens in
+        both_owned (due k st (Block counts (keep s templates)) p.q.goals) p.later ds p.whole
+        (no_due k st (Block counts (keep s templates)) p.q.goals (sym (ap (λ (q : Opened). q.goals) same)))
+        (all_owned ps (Some s) target (Wrong k 5) (suc k) (suc s) (s + 1) (omega arith) p.q.states p.later good.1 keeps.1
+        (subst (λ (q : Opened). AreAimed (Some s) target q.states) same
+        (record { final = refl; has_parts = keeps.0 }, record { final = aimed.final; has_parts = aimed.has_parts }))
+        (at_rest k target (owners_below (Some s) target (suc s) ps) at) p.goes_on)
+
+    all_owned : (ps : Sketches) (inner last : Option ℕ) (w : Fault) (k s m : ℕ) → s ≡ m → (states : List State) (ds : List Due) →
+        EachBelow PassesAt ps → KeepParts chosen keep s (sites_below ps) → AreAimed inner last states → IsAt k (owners_below inner last s ps) →
+        expand_all w k states (plans_with keep m ps) ≡ Ok ds → Each IsOwned ds
+    all_owned Over inner last w k s m eq [] ds good keeps aimed at e = subst (Each IsOwned) (ap dues_list e) tt
+    all_owned Over inner last w k s m eq (st ∷ states) ds good keeps aimed at e = absurd cc
+    all_owned (More p ps) inner last w k s m eq [] ds good keeps aimed at e = absurd cc
+    all_owned (More p Over) inner last w k s m eq (st ∷ []) ds good keeps aimed at e =
+        let parts = joined_back (expand k st (plan_with keep m p)) (Ok []) ds e in
+        both_owned parts.0 parts.1 ds parts.4
+        (owned p last k s st parts.0 good.0 (parts_split chosen keep s (sites_of p) [] keeps).0 aimed at
+        (ap (λ (n : ℕ). expand k st (plan_with keep n p)) eq ∙ parts.2))
+        (subst (Each IsOwned) (ap dues_list parts.3) tt)
+    all_owned (More p Over) inner last w k s m eq (st ∷ other ∷ states) ds good keeps aimed at e =
+        let parts = joined_back (expand k st (plan_with keep m p)) (Err w) ds e in absurd (not_ok parts.1 w parts.3)
+    all_owned (More p (More q ps)) inner last w k s m eq (st ∷ []) ds good keeps aimed at e =
+        let parts = joined_back (expand k st (plan_with keep m p)) (Err w) ds e in absurd (not_ok parts.1 w parts.3)
+    all_owned (More p (More q ps)) inner last w k s m eq (st ∷ other ∷ states) ds good keeps aimed at e =
+        let n = k + size (plan_with keep m p) in
+        let parts = joined_back (expand k st (plan_with keep m p))
+        (expand_all w n (other ∷ states) (plans_with keep (m + length (sites_of p)) (More q ps))) ds e in
+        let mine = owners inner s p in
+        let rest = owners_below inner last (s + length (sites_of p)) (More q ps) in
+        let sites = parts_split chosen keep s (sites_of p) (sites_below (More q ps)) keeps in
+        both_owned parts.0 parts.1 ds parts.4
+        (owned p inner k s st parts.0 good.0 sites.0 aimed.0
+        (λ (i : ℕ) (o : Option ℕ) (f : slice_get mine i ≡ Some o). at i o (found_left mine rest i o f))
+        (ap (λ (j : ℕ). expand k st (plan_with keep j p)) eq ∙ parts.2))
+        (all_owned (More q ps) inner last w n (s + length (sites_of p)) (m + length (sites_of p))
+        (ap (λ (j : ℕ). j + length (sites_of p)) eq)
+        (other ∷ states) parts.1 good.1 sites.1 aimed.1
+        (at_right k (size (plan_with keep m p)) mine rest
+        (ap (λ (j : ℕ). size (plan_with keep j p)) (sym eq) ∙ sym (owners_length p inner s)) at) parts.3)
+
+-- the templates that are chosen at a site
+abbrev chosen_templates : Parts → Choice → ℕ → List Assertion
+chosen_templates t choice s = picked (plans.templates t s) (chosen_at choice s)
+
+sites_keep : (t : Parts) (choice : Choice) → KeepParts (chosen_templates t choice) (kept_by choice) 0 (sites_of (sketch_of t))
+sites_keep t choice =
+    parts_from (chosen_templates t choice) (kept_by choice) 0 (sites_of (sketch_of t))
+    (λ (i : ℕ) (ts : List Assertion) (e : slice_get (sites_of (sketch_of t)) i ≡ Some ts).
+    let same : i ≡ 0 + i = omega arith in
+    let there : plans.templates t i ≡ ts = ap (λ (o : Option (List Assertion)). unwrap_or o []) e in
+    subst (λ (n : ℕ). conj (kept_by choice n ts) ≡ chosen_templates t choice n) same
+    (kept_parts_chosen t choice i ts e ∙ ap (λ (us : List Assertion). picked us (chosen_at choice i)) (sym there)))
+
+-- which site owns each obligation of a product
+product_owned : (t : Parts) (choice : Choice) (ds : List Due) → obligations (task_of t) (plan_of t choice) ≡ Ok ds →
+    Each (IsOwned (owners None 0 (sketch_of t)) (kept_by choice) (chosen_templates t choice)) ds
+product_owned t choice ds e =
+    let base = owners None 0 (sketch_of t) in
+    owned base (kept_by choice) (chosen_templates t choice) (sketch_of t) None 0 0 (start_state (task_of t)) ds
+    (sketch_nodes t PassesAt (nodes_pass t)) (sites_keep t choice) (record { final = refl; has_parts = tt })
+    (λ (i : ℕ) (o : Option ℕ) (f : slice_get base i ≡ Some o). let same : 0 + i ≡ i = omega arith in ap (slice_get base) same ∙ f)
+    (passed_back (is_shallow (branches (plan_of t choice))) (expand 0 (start_state (task_of t)) (plan_of t choice)) Deep ds e)
+
+module _ (t : Parts) (choice : Choice) where
+  abbrev IsOwnedThere : Due → Type 0
+  IsOwnedThere d = IsOwned (owners None 0 (sketch_of t)) (kept_by choice) (chosen_templates t choice) d
+
+  owner_is : (d : Due) (h : IsOwnedThere d) → owner_of t d ≡ h.owner
+  owner_is d h = ap (λ (x : Option (Option ℕ)). unwrap_or x None) h.found
+
+  ends_of : (ds : List Due) → Each IsOwnedThere ds → AreFinalUnowned t ds
+  ends_of [] h = tt
+  ends_of (d ∷ ds) h = (h.0.final ∙ ap is_none (sym (owner_is d h.0)), ends_of ds h.1)
+
+  asks_of : (ds : List Due) → Each IsOwnedThere ds → AskChosen t choice ds
+  asks_of [] h = tt
+  asks_of (d ∷ ds) h = (
+    λ (s : ℕ) (e : owner_of t d ≡ Some s).
+        subst (λ (o : Option ℕ). AskParts (chosen_templates t choice) o d.goals) (sym (owner_is d h.0) ∙ e) h.0.asks,
+    asks_of ds h.1,
+  )
+
+-- a goal of a product is final exactly where no site owns it
+pub owners_final : FinalHasNoOwner
+owners_final t choice ds e = ends_of t choice ds (product_owned t choice ds e)
+
+-- what a site asks are the templates that are chosen there
+pub owners_ask : SitesAskChosen
+owners_ask t choice ds e = asks_of t choice ds (product_owned t choice ds e)
