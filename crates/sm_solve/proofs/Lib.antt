@@ -14,6 +14,7 @@ pub mod GivenFormsLemmas
 pub mod GivenLemmas
 pub mod GrowingLemmas
 pub mod HoldingLemmas
+pub mod KeyedLemmas
 pub mod LeadingLemmas
 pub mod LeadsLemmas
 pub mod LeastLemmas

@@ -5,6 +5,7 @@ pub mod Certifying
 pub mod Closings
 pub mod Given
 pub mod Holding
+pub mod Keyed
 pub mod Leading
 pub mod Listing
 pub mod Making

@@ -9,6 +9,7 @@ ghost use Rattle.sm_solve.specs.Seeing.{seen_in};
 ghost use Rattle.sm_solve.specs.Splits.{split_told, IsToldWithin, SplitsBranch};
 
 use crate::holding::is_refuted;
+use crate::keyed::KeyedFacts;
 use crate::seeing::Sees;
 use crate::splits::{first_index_split, first_order_split, first_part_split};
 use crate::torn::torn_terms;
@@ -100,8 +101,9 @@ pub fn split_of<S: Sees>(
     if let Some(split) = first_index_split(sees, table) {
         return Ok(Some(split));
     }
-    if let Some(split) = first_part_split(alloc, sees, table, facts)? {
+    let keyed = KeyedFacts::of(alloc, facts)?;
+    if let Some(split) = first_part_split(alloc, sees, table, &keyed)? {
         return Ok(Some(split));
     }
-    Ok(first_order_split(table, facts))
+    Ok(first_order_split(table, &keyed))
 }

@@ -1,7 +1,6 @@
 // What holds on a branch, and by what it is split.
 ghost use Rattle.std.specs.Prelude.{◌≡◌, ◌<◌, ◌||◌, Bool, List, [], ◌∷◌, length, IfOk};
 ghost use Rattle.std.specs.Prelude.{if◌then◌else◌};
-ghost use Rattle.std.specs.List.{list_any};
 ghost use Rattle.sm_term.specs.Terms.{Tree};
 ghost use Rattle.sm_term.specs.Tables.{trees_in, sorts_in, tree_at};
 ghost use Rattle.sm_term.specs.Formulas.{numbered, assertion_in, IsFormulaWithin, Eq, Ne};
@@ -9,16 +8,17 @@ ghost use Rattle.sm_theory.specs.Arithmetic.{is_numeric};
 ghost use Rattle.sm_solve.specs.Holding.{is_fact, is_held, is_refuted};
 ghost use Rattle.sm_solve.specs.Holding.{index_split, part_split, order_split};
 ghost use Rattle.sm_solve.specs.Parts.{all_numbered, AreFormulasWithin, pair_numbered};
-ghost use Rattle.sm_solve.specs.Seeing.{seen_in, same_numbered, split_in, IsSplitWithin};
+ghost use Rattle.sm_solve.specs.Seeing.{seen_in, split_in, IsSplitWithin};
 ghost use Rattle.sm_solve.specs.Seeing.{is_disjunction, disjuncts_of, split_under};
 
+use crate::keyed::KeyedFacts;
 use crate::seeing::Sees;
 use sm_syntax::Sort;
 use sm_term::{Formula, Term, TermId, TermTable, copy_formula};
 use std::alloc::{AllocError, Global};
 
 /// Whether a formula is a fact.
-pub fn is_fact(table: &TermTable, facts: &[Formula], f: &Formula) -> bool
+pub fn is_fact(table: &TermTable, facts: &KeyedFacts<'_>, f: &Formula) -> bool
     requires facts { AreFormulasWithin (length (trees_in table.now)) (all_numbered facts.now) }
     requires formula { IsFormulaWithin (length (trees_in table.now)) (numbered f.now) }
     ensures { let trees = trees_in table.now in let sorts = sorts_in table.now in
@@ -28,42 +28,13 @@ pub fn is_fact(table: &TermTable, facts: &[Formula], f: &Formula) -> bool
 {
     // No term is there twice.
     let _count = table.len();
-    has_formula(facts, f)
-}
-
-// Whether a formula is in a list.
-fn has_formula(facts: &[Formula], f: &Formula) -> bool
-    ensures { result ≡ list_any (same_numbered (numbered f.now)) (all_numbered facts.now) }
-{
-    for g in facts {
-        if is_same_formula(f, g) {
-            return true;
-        }
-    }
-    false
-}
-
-// Whether two formulas are the same.
-fn is_same_formula(f: &Formula, g: &Formula) -> bool
-    ensures { result ≡ same_numbered (numbered f.now) (numbered g.now) }
-{
-    match (f, g) {
-        (Formula::Yes, Formula::Yes) => true,
-        (Formula::No, Formula::No) => true,
-        (Formula::Eq(t, u), Formula::Eq(v, w)) => t.0 == v.0 && u.0 == w.0,
-        (Formula::Ne(t, u), Formula::Ne(v, w)) => t.0 == v.0 && u.0 == w.0,
-        (Formula::Le(t, u), Formula::Le(v, w)) => t.0 == v.0 && u.0 == w.0,
-        (Formula::Lt(t, u), Formula::Lt(v, w)) => t.0 == v.0 && u.0 == w.0,
-        (Formula::And(p, q), Formula::And(r, s)) => is_same_formula(p, r) && is_same_formula(q, s),
-        (Formula::Or(p, q), Formula::Or(r, s)) => is_same_formula(p, r) && is_same_formula(q, s),
-        _ => false,
-    }
+    facts.has(f)
 }
 
 /// Whether a formula holds on a branch: by the classes, or by its parts, where a part may be a
 /// fact.
 #[cycle(is_held)]
-pub fn is_held<S: Sees>(sees: &S, table: &TermTable, facts: &[Formula], f: &Formula) -> bool
+pub fn is_held<S: Sees>(sees: &S, table: &TermTable, facts: &KeyedFacts<'_>, f: &Formula) -> bool
     requires table { S.trees sees.now ≡ trees_in table.now }
     requires facts { AreFormulasWithin (length (trees_in table.now)) (all_numbered facts.now) }
     requires formula { IsFormulaWithin (length (trees_in table.now)) (numbered f.now) }
@@ -92,7 +63,7 @@ pub fn is_held<S: Sees>(sees: &S, table: &TermTable, facts: &[Formula], f: &Form
 // Whether a part of a formula is a fact or holds. A fact isn't looked into: a long disjunction may
 // have facts for all its parts.
 #[cycle(is_held)]
-fn is_part_held<S: Sees>(sees: &S, table: &TermTable, facts: &[Formula], f: &Formula) -> bool
+fn is_part_held<S: Sees>(sees: &S, table: &TermTable, facts: &KeyedFacts<'_>, f: &Formula) -> bool
     requires table { S.trees sees.now ≡ trees_in table.now }
     requires facts { AreFormulasWithin (length (trees_in table.now)) (all_numbered facts.now) }
     requires formula { IsFormulaWithin (length (trees_in table.now)) (numbered f.now) }
@@ -128,7 +99,7 @@ pub fn part_split<S: Sees>(
     alloc: Global,
     sees: &S,
     table: &TermTable,
-    facts: &[Formula],
+    facts: &KeyedFacts<'_>,
     f: &Formula,
 ) -> Result<Option<(Formula, Formula)>, AllocError>
     requires table { S.trees sees.now ≡ trees_in table.now }
@@ -176,7 +147,11 @@ fn disjuncts(alloc: Global, f: &Formula) -> Result<Option<(Formula, Formula)>, A
 
 /// Of two numbers that aren't equal, that the first is less and that the second is, where neither
 /// is a fact.
-pub fn order_split(table: &TermTable, facts: &[Formula], f: &Formula) -> Option<(Formula, Formula)>
+pub fn order_split(
+    table: &TermTable,
+    facts: &KeyedFacts<'_>,
+    f: &Formula,
+) -> Option<(Formula, Formula)>
     requires facts { AreFormulasWithin (length (trees_in table.now)) (all_numbered facts.now) }
     requires formula { IsFormulaWithin (length (trees_in table.now)) (numbered f.now) }
     ensures split { let trees = trees_in table.now in let sorts = sorts_in table.now in
@@ -192,7 +167,12 @@ pub fn order_split(table: &TermTable, facts: &[Formula], f: &Formula) -> Option<
 }
 
 // The same of two terms that aren't equal.
-fn orders(table: &TermTable, facts: &[Formula], t: TermId, u: TermId) -> Option<(Formula, Formula)>
+fn orders(
+    table: &TermTable,
+    facts: &KeyedFacts<'_>,
+    t: TermId,
+    u: TermId,
+) -> Option<(Formula, Formula)>
     requires facts { AreFormulasWithin (length (trees_in table.now)) (all_numbered facts.now) }
     requires left { t.0 < length (trees_in table.now) }
     requires right { u.0 < length (trees_in table.now) }

@@ -8,8 +8,8 @@
 //!   (`by_forms`, `refutation_tree`), or else is split (`split_of`): by two indices, by the parts of
 //!   a disjunction, or by the order of two numbers that aren't equal.
 //! - `is_held` and `is_refuted` decide whether a formula holds or can't hold on a branch, by the
-//!   classes of its terms. `Sees` is what the calls ask of classes: which terms are equal, and which
-//!   are known apart.
+//!   classes of its terms and by its facts, which are found by keys (`KeyedFacts`). `Sees` is what the
+//!   calls ask of classes: which terms are equal, and which are known apart.
 //! - `add_parts` puts the parts of all conjunctions behind formulas, in the order of a queue.
 //! - `terms_of_formulas` lists the terms of formulas, each once and after its arguments, and what
 //!   each element that is read was before it was written.
@@ -30,6 +30,7 @@ mod eliminating;
 mod ending;
 mod forms;
 mod holding;
+mod keyed;
 mod linears;
 mod listing;
 mod marks;
@@ -56,6 +57,7 @@ pub use closing::{BranchSplit, Closing, closed_by, split_of};
 pub use eliminating::{ByForms, ElimLine, Refutation, by_forms};
 pub use forms::{Source, SourcedForms, forms_of};
 pub use holding::{index_split, is_fact, is_held, is_refuted, order_split, part_split};
+pub use keyed::KeyedFacts;
 pub use own::{OwnBranch, own_branch};
 pub use parts::{add_parts, add_with_parts};
 pub use refute::refutation_tree;

@@ -14,6 +14,7 @@ ghost use Rattle.sm_solve.specs.Splits.{split_told, IsToldWithin, SplitsBranch};
 
 use crate::closing::BranchSplit;
 use crate::holding::{index_split, order_split, part_split};
+use crate::keyed::KeyedFacts;
 use crate::seeing::Sees;
 use sm_term::{Formula, TermId, TermTable};
 use sm_theory::CertLine;
@@ -61,7 +62,7 @@ pub(crate) fn first_part_split<S: Sees>(
     alloc: Global,
     sees: &S,
     table: &TermTable,
-    facts: &[Formula],
+    facts: &KeyedFacts<'_>,
 ) -> Result<Option<BranchSplit>, AllocError>
     requires table { S.trees sees.now ≡ trees_in table.now }
     requires facts { AreFormulasWithin (length (trees_in table.now)) (all_numbered facts.now) }
@@ -76,7 +77,7 @@ pub(crate) fn first_part_split<S: Sees>(
         IfOk result (λ o. SplitsBranch sorts trees all o) }
 {
     for n in 0..facts.len() {
-        if let Some((first, second)) = part_split(alloc, sees, table, facts, &facts[n])? {
+        if let Some((first, second)) = part_split(alloc, sees, table, facts, facts.at(n))? {
             let line = CertLine::Either(n as u64);
             return Ok(Some(BranchSplit {
                 line,
@@ -89,7 +90,7 @@ pub(crate) fn first_part_split<S: Sees>(
 }
 
 /// The first split by the order of two numbers that aren't equal, of facts in order.
-pub(crate) fn first_order_split(table: &TermTable, facts: &[Formula]) -> Option<BranchSplit>
+pub(crate) fn first_order_split(table: &TermTable, facts: &KeyedFacts<'_>) -> Option<BranchSplit>
     requires { AreFormulasWithin (length (trees_in table.now)) (all_numbered facts.now) }
     ensures split { let trees = trees_in table.now in let sorts = sorts_in table.now in
         (terms : List Tree) (equal apart : Pairs) →
@@ -102,7 +103,7 @@ pub(crate) fn first_order_split(table: &TermTable, facts: &[Formula]) -> Option<
         SplitsBranch sorts trees all result }
 {
     for n in 0..facts.len() {
-        if let Some((first, second)) = order_split(table, facts, &facts[n]) {
+        if let Some((first, second)) = order_split(table, facts, facts.at(n)) {
             let line = CertLine::Order(n as u64);
             return Some(BranchSplit {
                 line,

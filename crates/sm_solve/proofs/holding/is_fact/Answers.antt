@@ -8,6 +8,6 @@ use Rattle.sm_solve.proofs.holding.is_fact.Goals as goal
 
 pub returns : goal.returns
 returns c = λ terms equal apart.
-    c.has_formula.ensures
+    c.has.ensures
     ∙ facts_tell (sorts_in c.args.table.now) (trees_in c.args.table.now) c.len-count.ensures.apart (numbered c.args.f.now) c.requires.formula
     (all_numbered c.args.facts.now) c.requires.facts

@@ -4,9 +4,9 @@ use Rattle.std.specs.List.{list_any}
 use Rattle.sm_term.specs.Formulas.{numbered}
 use Rattle.sm_solve.specs.Parts.{all_numbered}
 use Rattle.sm_solve.specs.Seeing.{same_numbered}
-use Rattle.sm_solve.proofs.holding.has_formula.Given as goal
+use Rattle.sm_solve.proofs.keyed.has_formula.Given as goal
 
 abbrev pub invariant-loop-g : goal.invariant-loop-g
 invariant-loop-g l =
-    list_any (same_numbered (numbered l.f)) (all_numbered (drop l.g-index l.facts))
-    ≡ list_any (same_numbered (numbered l.f)) (all_numbered l.facts)
+    list_any (same_numbered (numbered l.f)) (all_numbered (drop l.g-index l.list))
+    ≡ list_any (same_numbered (numbered l.f)) (all_numbered l.list)
