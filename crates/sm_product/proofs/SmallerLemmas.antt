@@ -34,7 +34,7 @@ less_in false false false true x y less most some =
     let o = most O in let a = most A in let b = most B in let m = less M refl in omega arith
 less_in false false false false x y less most some = absurd cc
 
-fewer_in : (set : Copies) (r s : Copy → Code) → is_inhabited set ≡ true →
+pub fewer_in : (set : Copies) (r s : Copy → Code) → is_inhabited set ≡ true →
     ((c : Copy) → has set c ≡ true → statements_in (r c) < statements_in (s c)) →
     ((c : Copy) → statements_in (r c) ≤ statements_in (s c)) → statements_left r < statements_left s
 fewer_in set r s some less most =
@@ -42,7 +42,7 @@ fewer_in set r s some less most =
     (λ (c : Copy). statements_in (s c)) less most some
 
 -- fewer statements of one copy
-fewer_of : (r : Copy → Code) (c : Copy) (k : Code) → statements_in k < statements_in (r c) →
+pub fewer_of : (r : Copy → Code) (c : Copy) (k : Code) → statements_in k < statements_in (r c) →
     statements_left (with_copy r c k) < statements_left r
 fewer_of r O k h = omega arith
 fewer_of r A k h = omega arith
@@ -75,7 +75,7 @@ module _ (set : Copies) (r : Copy → Code) (n : ℕ) (is : IsRest set r (suc n)
         by true = ap (rest_after 1) (is.outside d e)
         by false = is.outside d e
 
-    moved_less : (d : Copy) (b : Bool) → has left d ≡ b →
+    pub moved_less : (d : Copy) (b : Bool) → has left d ≡ b →
         (b ≡ true → statements_in (if b then rest_after 1 (r d) else r d) < statements_in (r d))
         × (statements_in (if b then rest_after 1 (r d) else r d) ≤ statements_in (r d))
     moved_less d true e =
@@ -103,7 +103,7 @@ module _ (set : Copies) (r : Copy → Code) (n : ℕ) (is : IsRest set r (suc n)
         by true = body_no_hole (r d) (is.no_hole d)
         by false = refl
 
-    bodies_less : (d : Copy) (b : Bool) → has v d ≡ b →
+    pub bodies_less : (d : Copy) (b : Bool) → has v d ≡ b →
         (b ≡ true → statements_in (if b then loop_body (r d) else End) < statements_in (r d))
         × (statements_in (if b then loop_body (r d) else End) ≤ statements_in (r d))
     bodies_less d true e =

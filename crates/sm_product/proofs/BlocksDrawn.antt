@@ -1,0 +1,120 @@
+-- Where walks over blocks, over copies and over sets of copies begin and end.
+use Rattle.std.proofs.Common.{◌≡◌, ◌<◌, ◌+◌, ◌==◌, ℕ, zero, suc, bit_and, Bool, true, false, cond, if◌then◌else◌, List, []}
+use Rattle.std.proofs.Common.{◌∷◌, ◌++◌, map, take, drop}
+use Rattle.std.proofs.Common.{length, refl, sym, ap, ◌∙◌, subst, arith}
+use Rattle.std.specs.List.{filter, range_with_len}
+use Rattle.std.proofs.lemmas.List.{take_all, map-append}
+use Rattle.std.proofs.Math.Path.{fun_ext}
+use Rattle.sm_syntax.specs.claim.ConflictFree.{Copy, O, A, B, M, copy_of}
+use Rattle.sm_syntax.specs.claim.Fill.{fill}
+use Rattle.sm_syntax.specs.claim.Syntax.{Code, End}
+use Rattle.sm_syntax.specs.declared.copies.PerCopy.{PerCopy}
+use Rattle.sm_syntax.specs.declared.tree.Block.{Block}
+use Rattle.sm_syntax.specs.declared.tree.Stmt.{Stmt}
+use Rattle.sm_syntax.specs.text.Parts.{Parts}
+use Rattle.sm_syntax.specs.text.Sorts.{Sorts, IsWellSorted}
+use Rattle.sm_syntax.specs.trees.Views.{code_of}
+use Rattle.sm_syntax.proofs.Blocks.{block_is, sequence-drop-end}
+use Rattle.sm_plan.specs.Copies.{Copies, copies, has, is_inhabited}
+use Rattle.sm_plan.specs.Masks.{set_of}
+use Rattle.sm_plan.specs.Views.{code_before}
+use Rattle.sm_plan.proofs.TurnsMade.{filter_push}
+use Rattle.sm_product.specs.CopySets.{only_in, with_member}
+use Rattle.sm_product.specs.FilledCode.{piece_of, AreFilledAs}
+use Rattle.sm_product.specs.Products.{where_any, forked, product}
+use Rattle.sm_product.specs.Sketches.{Sketch, forking}
+use denote.Bor.{Bor}
+
+-- filled statements, at the sorts of a wider table
+pub filled_at : (sorts later : Sorts) (t : Parts) (code : Code) (pieces : PerCopy (Bor (List Stmt))) → later ≡ sorts →
+    AreFilledAs sorts t code pieces → AreFilledAs later t code pieces
+filled_at sorts later t code pieces e h = subst (λ (s : Sorts). AreFilledAs s t code pieces) (sym e) h
+
+-- at first all statements are left, and nothing is drawn
+pub begin_filled : (sorts : Sorts) (t : Parts) (b : Block) (n : ℕ) (pieces left : PerCopy (Bor (List Stmt))) → n ≡ length b.list.items →
+    AreFilledAs sorts t (code_of b) pieces → ((c : Copy) → piece_of left c ≡ piece_of pieces c) →
+    AreFilledAs sorts t (code_before (take n b.list.items) End) left
+begin_filled sorts t b n pieces left all h same =
+    let is : code_of b ≡ code_before (take n b.list.items) End =
+    block_is b ∙ sym (ap (λ (l : List Stmt). code_before l End) (take_all n b.list.items (omega (arith, all)))) in
+    record {
+      filled = λ (c : Copy). same c ∙ h.filled c ∙ ap (fill (t.fillings c)) is;
+      sorted = λ (c : Copy). subst (λ (k : Code). IsWellSorted sorts k) (sym (same c)) (h.sorted c);
+    }
+
+pub begin_drawn : (t : Parts) (set : Copies) (p : Sketch) (b : Block) (n : ℕ) → n ≡ length b.list.items →
+    p ≡ product t (code_before (drop n b.list.items) End) set p
+begin_drawn t set p b n all =
+    sym (ap (λ (k : Code). product t k set p) (sequence-drop-end b.list.items n End (omega (arith, all))))
+
+-- at last all is drawn
+pub end_drawn : (t : Parts) (set : Copies) (p q : Sketch) (b : Block) (i : ℕ) → i ≡ 0 →
+    q ≡ product t (code_before (drop i b.list.items) End) set p → q ≡ product t (code_of b) set p
+end_drawn t set p q b i none h =
+    h ∙ ap (λ (n : ℕ). product t (code_before (drop n b.list.items) End) set p) none
+    ∙ ap (λ (k : Code). product t k set p) (sym (block_is b))
+
+-- the copies from one on
+pub next_copy : (n : ℕ) → n < 4 → drop n copies ≡ copy_of n ∷ drop (n + 1) copies
+next_copy zero h = refl
+next_copy (suc zero) h = refl
+next_copy (suc (suc zero)) h = refl
+next_copy (suc (suc (suc zero))) h = refl
+next_copy (suc (suc (suc (suc n)))) h = absurd (omega (arith, h))
+
+no_copy : (n : ℕ) → n ≡ 4 → drop n copies ≡ []
+no_copy n e = ap (λ (m : ℕ). drop m copies) e
+
+pub forks_end : (inner : Copies → Sketch) (set taken : Copies) (n : ℕ) → n ≡ 4 →
+    inner taken ≡ forked inner (filter (has set) (drop n copies)) taken
+forks_end inner set taken n e = sym (ap (λ (l : List Copy). forked inner (filter (has set) l) taken) (no_copy n e))
+
+pub forks_out : (inner : Copies → Sketch) (set taken : Copies) (n : ℕ) → n < 4 → has set (copy_of n) ≡ false →
+    forked inner (filter (has set) (drop (n + 1) copies)) taken ≡ forked inner (filter (has set) (drop n copies)) taken
+forks_out inner set taken n less out =
+    let rest = filter (has set) (drop (n + 1) copies) in
+    sym (ap (λ (l : List Copy). forked inner (filter (has set) l) taken) (next_copy n less)
+    ∙ ap (λ (b : Bool). forked inner (cond b (copy_of n ∷ rest) rest) taken) out)
+
+pub forks_in : (inner : Copies → Sketch) (set taken : Copies) (n : ℕ) → n < 4 → has set (copy_of n) ≡ true →
+    forking (copy_of n) (forked inner (filter (has set) (drop (n + 1) copies)) (with_member taken (copy_of n)))
+    (forked inner (filter (has set) (drop (n + 1) copies)) taken)
+    ≡ forked inner (filter (has set) (drop n copies)) taken
+forks_in inner set taken n less here =
+    let rest = filter (has set) (drop (n + 1) copies) in
+    sym (ap (λ (l : List Copy). forked inner (filter (has set) l) taken) (next_copy n less)
+    ∙ ap (λ (b : Bool). forked inner (cond b (copy_of n ∷ rest) rest) taken) here)
+
+-- what is drawn for a set that has a copy, and for one that has none
+pub any_of_some : (draw : Copies → Sketch → Sketch) (set : Copies) (next : Sketch) → is_inhabited set ≡ true →
+    draw set next ≡ where_any set draw next
+any_of_some draw set next e = sym (ap (λ (b : Bool). if b then draw set next else next) e)
+
+pub any_of_none : (draw : Copies → Sketch → Sketch) (set : Copies) (next : Sketch) → is_inhabited set ≡ false →
+    next ≡ where_any set draw next
+any_of_none draw set next e = sym (ap (λ (b : Bool). if b then draw set next else next) e)
+
+-- rests of the copies of a set
+pub only_these : (set : Copies) (rest code : Copy → Code) → ((c : Copy) → rest c ≡ (if has set c then code c else End)) →
+    rest ≡ only_in set code
+only_these set rest code same = fun_ext same
+
+pub all_these : (rest code : Copy → Code) → ((c : Copy) → rest c ≡ (if has (set_of 15) c then code c else End)) → rest ≡ code
+all_these rest code same = fun_ext (λ (c : Copy). same c ∙ in_all c)
+  where
+    in_all : (c : Copy) → (if has (set_of 15) c then code c else End) ≡ code c
+    in_all O = refl
+    in_all A = refl
+    in_all B = refl
+    in_all M = refl
+
+-- one turn more
+pub turns_push : (f : ℕ → Sketch) (set n : ℕ) (before after : List Sketch) →
+    before ≡ map f (filter (λ (m : ℕ). bit_and m set == m) (range_with_len 1 n)) →
+    after ≡ before ++ map f (if bit_and (n + 1) set == n + 1 then (n + 1) ∷ [] else []) →
+    after ≡ map f (filter (λ (m : ℕ). bit_and m set == m) (range_with_len 1 (n + 1)))
+turns_push f set n before after so_far more =
+    let test : ℕ → Bool = λ (m : ℕ). bit_and m set == m in
+    let new : List ℕ = if test (n + 1) then (n + 1) ∷ [] else [] in
+    more ∙ ap (λ (l : List Sketch). l ++ map f new) so_far
+    ∙ sym (ap (map f) (filter_push test n) ∙ map-append f (filter test (range_with_len 1 n)) new)

@@ -1,0 +1,83 @@
+-- Where there is no room for a part of a fork, or of loops, there is none for the mini-product.
+use Rattle.std.proofs.Common.{◌≡◌, ℕ, ◌+◌, ◌<◌, ◌≤◌, inl, inr, map, arith}
+use Rattle.sm_syntax.specs.claim.Syntax.{Code}
+use Rattle.sm_syntax.specs.claim.ConflictFree.{Copy}
+use Rattle.sm_syntax.specs.text.Parts.{Parts}
+use Rattle.sm_plan.specs.Copies.{Copies, subsets, with_copy}
+use Rattle.sm_product.specs.declared.error.ProductError.{ProductError}
+use Rattle.sm_product.specs.declared.error.ProductError.TheVariants as error
+use Rattle.sm_product.specs.declared.rooms.Room.{Room}
+use Rattle.sm_product.specs.CodeShapes.{by_first_block, by_second_block}
+use Rattle.sm_product.specs.LoopTurns.{turn_of}
+use Rattle.sm_product.specs.MiniProducts.{drawn, side_by_side}
+use Rattle.sm_product.specs.Moves.{Forks, Loops, moved_on}
+use Rattle.sm_product.specs.Rooms.{TellsBeyond, TellAllBeyond, IsTaken}
+use Rattle.sm_product.specs.Sketches.{Sketch, forking}
+use Rattle.sm_product.specs.SketchSizes.{sketch_size}
+use Rattle.sm_product.specs.Templates.{loop_templates}
+use Rattle.sm_product.proofs.GrowthLemmas.{after_side}
+use Rattle.sm_product.proofs.RoomLemmas.{one_beyond, other_beyond, turns_beyond, after_beyond}
+
+-- no branching node may stand there
+fork_deep : (room : Room) (c : Copy) (p q : Sketch) (e : ProductError) → room.branches ≡ 0 → TellsBeyond room e (forking c p q)
+fork_deep room c p q error.TooMany none = inr (omega (arith, none))
+fork_deep room c p q error.Memory none = tt
+
+-- the sketches below a fork have more nodes than there is room for
+fork_full : (room : Room) (c : Copy) (p q : Sketch) (e : ProductError) → room.nodes < sketch_size p + sketch_size q →
+    TellsBeyond room e (forking c p q)
+fork_full room c p q error.TooMany h = inl (omega (arith, h))
+fork_full room c p q error.Memory h = tt
+
+module _ (t : Parts) (set : Copies) (r : Copy → Code) (next : Sketch) (c : Copy) (room : Room) (e : ProductError) where
+  abbrev one : Sketch
+  one = side_by_side t set (with_copy r c (by_first_block (r c))) next
+
+  abbrev other : Sketch
+  other = side_by_side t set (with_copy r c (by_second_block (r c))) next
+
+  next_fits : sketch_size next ≤ sketch_size other
+  next_fits = (after_side t set (with_copy r c (by_second_block (r c))) next).nodes
+
+  pub none_forks : room.branches ≡ 0 → TellsBeyond room e (drawn t set r next (side_by_side t) (Forks c))
+  none_forks none = fork_deep room c one other e none
+
+  module _ (below : Room) (nodes : below.nodes ≡ room.nodes) (branches : below.branches + 1 ≡ room.branches) where
+    pub no_room_for_next : (n : ℕ) → n ≡ sketch_size next → below.nodes < n →
+        TellsBeyond room e (drawn t set r next (side_by_side t) (Forks c))
+    no_room_for_next n is h = fork_full room c one other e (omega (arith, nodes, is, h, next_fits))
+
+    pub no_room_for_one : (s : Room) (n : ℕ) → n ≡ sketch_size next → s.nodes + n ≡ below.nodes → s.branches ≡ below.branches →
+        TellsBeyond s e one → TellsBeyond room e (drawn t set r next (side_by_side t) (Forks c))
+    no_room_for_one s n is left same h =
+        one_beyond s room c one other e n (omega (arith, is, next_fits)) (omega (arith, left, nodes)) (omega (arith, same, branches)) h
+
+    pub no_room_beside : (n : ℕ) → n ≡ sketch_size one → below.nodes < n →
+        TellsBeyond room e (drawn t set r next (side_by_side t) (Forks c))
+    no_room_beside n is h = fork_full room c one other e (omega (arith, nodes, is, h))
+
+    pub no_room_for_other : (s : Room) (n : ℕ) → n ≡ sketch_size one → s.nodes + n ≡ below.nodes → s.branches ≡ below.branches →
+        TellsBeyond s e other → TellsBeyond room e (drawn t set r next (side_by_side t) (Forks c))
+    no_room_for_other s n is left same h =
+        other_beyond s room c one other e (omega (arith, left, nodes, is)) (omega (arith, same, branches)) h
+
+module _ (t : Parts) (set : Copies) (r : Copy → Code) (next : Sketch) (left : Copies) (room : Room) (e : ProductError) where
+  pub none_loops : room.branches ≡ 0 → TellsBeyond room e (drawn t set r next (side_by_side t) (Loops left))
+  none_loops none = by e
+    where
+      by : (f : ProductError) → TellsBeyond room f (drawn t set r next (side_by_side t) (Loops left))
+      by error.TooMany = inr (omega (arith, none))
+      by error.Memory = tt
+
+  module _ (below : Room) (nodes : below.nodes ≡ room.nodes) (branches : below.branches + 1 ≡ room.branches) where
+    pub no_room_for_turns : TellAllBeyond below e (map (turn_of t r) (subsets left)) →
+        TellsBeyond room e (drawn t set r next (side_by_side t) (Loops left))
+    no_room_for_turns h =
+        turns_beyond below room (loop_templates t left r) left (turn_of t r) (side_by_side t set (moved_on left r) next) e nodes branches h
+
+    pub no_room_after : (s : Room) → IsTaken below s (map (turn_of t r) (subsets left)) →
+        TellsBeyond s e (side_by_side t set (moved_on left r) next) →
+        TellsBeyond room e (drawn t set r next (side_by_side t) (Loops left))
+    no_room_after s taken h =
+        after_beyond below room s (loop_templates t left r) left (turn_of t r) (side_by_side t set (moved_on left r) next) e nodes branches
+        taken h

@@ -1,0 +1,67 @@
+-- A task whose sketch is too large isn't within the limits.
+use Rattle.std.proofs.Common.{◌≡◌, ℕ, suc, ◌+◌, ◌<◌, max, nat_le, Bool, false, ◌&&◌, if◌then◌else◌, Result, Ok, Err, List, length}
+use Rattle.std.proofs.Common.{inl, inr, refl, sym, ap, subst, arith}
+use Rattle.std.proofs.lemmas.Bool.{lt-ltb, lt-leb}
+use Rattle.sm_syntax.specs.text.Parts.{Parts, task_of}
+use Rattle.sm_term.specs.Assertions.{Assertion}
+use Rattle.sm_plan.specs.Nodes.{is_branching}
+use Rattle.sm_plan.specs.Plans.{Due, Fault, size, sizes, branches, most_branches, obligations}
+use Rattle.sm_expand.proofs.WholeLemmas.{too_deep}
+use Rattle.sm_product.specs.ProductPlans.{plan_of, full_choice}
+use Rattle.sm_product.specs.Products.{sketch_of}
+use Rattle.sm_product.specs.Sizes.{goals_in, facts_in, is_within, is_small}
+use Rattle.sm_product.specs.Choices.{kept_by}
+use Rattle.sm_product.specs.Sketches.{SketchNode, Plain, LoopSite, BlockSite, Sketch, Draw, Sketches, Over, More}
+use Rattle.sm_product.specs.Sketches.{site_at, sites_of, node_with, plan_with, plans_with}
+use Rattle.sm_product.specs.SketchSizes.{is_branching_node, sketch_size, sizes_below, sketch_depth, deepest_below, IsTooLarge}
+
+module _ (keep : ℕ → List Assertion → Assertion) where
+  -- a plan of a sketch has its nodes
+  mutual
+    pub plan_size : (s : ℕ) (p : Sketch) → size (plan_with keep s p) ≡ sketch_size p
+    plan_size s (Draw node ps) = ap suc (plan_sizes (s + length (site_at node)) ps)
+
+    plan_sizes : (s : ℕ) (ps : Sketches) → sizes (plans_with keep s ps) ≡ sizes_below ps
+    plan_sizes s Over = refl
+    plan_sizes s (More p ps) = λ i. plan_size s p i + plan_sizes (s + length (sites_of p)) ps i
+
+  same_branching : (s : ℕ) (node : SketchNode) → is_branching (node_with keep s node) ≡ is_branching_node node
+  same_branching s (Plain node) = refl
+  same_branching s (LoopSite set ts) = refl
+  same_branching s (BlockSite counts ts) = refl
+
+  -- and branches as deep
+  mutual
+    pub plan_depth : (s : ℕ) (p : Sketch) → branches (plan_with keep s p) ≡ sketch_depth p
+    plan_depth s (Draw node ps) =
+        let below = plans_depth (s + length (site_at node)) ps in
+        λ i. if same_branching s node i then suc (below i) else below i
+
+    plans_depth : (s : ℕ) (ps : Sketches) → most_branches (plans_with keep s ps) ≡ deepest_below ps
+    plans_depth s Over = refl
+    plans_depth s (More p ps) = λ i. max (plan_depth s p i) (plans_depth (s + length (sites_of p)) ps i)
+
+-- too many nodes
+many_nodes : (n : ℕ) (r : Result (List Due) Fault) → 200000 < n → is_within n r ≡ false
+unfolding is_within
+many_nodes n (Err w) h = refl
+many_nodes n (Ok ds) h =
+    let many : 200000 < n + goals_in ds = omega (arith, h) in
+    ap (λ (b : Bool). b && nat_le (facts_in ds) 10000000) (lt-leb (n + goals_in ds) 200000 many)
+
+-- no obligations
+none_within : (n : ℕ) (w : Fault) (r : Result (List Due) Fault) → r ≡ Err w → is_within n r ≡ false
+unfolding is_within
+none_within n w r e = ap (is_within n) e
+
+-- a task whose sketch is too large is too large
+pub large_task : (t : Parts) → IsTooLarge (sketch_of t) → is_small t ≡ false
+large_task t (inl h) =
+    let p = plan_of t (full_choice t) in
+    many_nodes (size p) (obligations (task_of t) p)
+    (subst (λ (n : ℕ). 200000 < n) (sym (plan_size (kept_by (full_choice t)) 0 (sketch_of t))) h)
+large_task t (inr h) =
+    let p = plan_of t (full_choice t) in
+    none_within (size p) _ (obligations (task_of t) p)
+    (too_deep (task_of t) p
+    (lt-ltb 1000 (branches p) (subst (λ (n : ℕ). 1000 < n) (sym (plan_depth (kept_by (full_choice t)) 0 (sketch_of t))) h)))

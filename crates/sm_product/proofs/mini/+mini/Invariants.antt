@@ -1,0 +1,45 @@
+-- Each move leaves fewer statements, and the turns so far are drawn.
+use Rattle.std.proofs.Common.{◌≡◌, ◌==◌, ◌+◌, ◌*◌, ℕ, bit_and, map}
+use Rattle.std.specs.List.{filter, range_with_len}
+use Rattle.sm_syntax.specs.text.Parts.{Parts}
+use Rattle.sm_term.specs.Tables.{trees_in, sorts_in}
+use Rattle.sm_term.specs.TableLaws.{Widens}
+use Rattle.sm_plan.specs.Masks.{set_of}
+use Rattle.sm_product.specs.LoopTurns.{turn_of}
+use Rattle.sm_product.specs.MiniProducts.{statements_left}
+use Rattle.sm_product.specs.Paths.{codes_in}
+use Rattle.sm_product.specs.Rooms.{IsRoom, IsTaken}
+use Rattle.sm_product.specs.Sites.{IsSiteOf}
+use Rattle.sm_product.specs.SketchViews.{sketch_in, AreSketchesReady}
+use Rattle.sm_product.proofs.mini.+mini.Given as goal
+
+abbrev pub decreases-draw : goal.decreases-draw
+decreases-draw l = 8 * statements_left (codes_in l.rests) + 5
+
+abbrev pub decreases-draw_last : goal.decreases-draw_last
+decreases-draw_last l = 8 * statements_left (codes_in l.rests) + 4
+
+abbrev pub decreases-draw_fork : goal.decreases-draw_fork
+decreases-draw_fork l = 8 * statements_left (codes_in l.rests) + 3
+
+abbrev pub decreases-draw_loops : goal.decreases-draw_loops
+decreases-draw_loops l = 8 * statements_left (codes_in l.rests) + 3
+
+abbrev pub decreases-draw_turns : goal.decreases-draw_turns
+decreases-draw_turns l = 8 * statements_left (codes_in l.rests.now) + 2
+
+abbrev pub decreases-draw_turn : goal.decreases-draw_turn
+decreases-draw_turn l = 8 * statements_left (codes_in l.rests.now) + 1
+
+abbrev pub invariant-draw_turns-loop-smaller : goal.invariant-draw_turns-loop-smaller
+invariant-draw_turns-loop-smaller l = record {
+  drawn : (t : Parts) → IsSiteOf t l.site →
+      map (sketch_in (sorts_in l.table) (trees_in l.table)) l.turns.items
+      ≡ map (λ (m : ℕ). turn_of t (codes_in l.rests) (set_of m)) (filter (λ (m : ℕ). bit_and m l.left == m) (range_with_len 1 l.smaller));
+  ready : AreSketchesReady (sorts_in l.table) (trees_in l.table) l.turns.items;
+  taken : (t : Parts) → IsSiteOf t l.site →
+      IsTaken l.initial.room l.room
+      (map (λ (m : ℕ). turn_of t (codes_in l.rests) (set_of m)) (filter (λ (m : ℕ). bit_and m l.left == m) (range_with_len 1 l.smaller)));
+  room : IsRoom l.room;
+  widens : Widens l.initial.table l.table;
+}

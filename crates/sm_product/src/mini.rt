@@ -1,0 +1,314 @@
+// The mini-product of a set of copies: their code, move by move, and then what follows.
+ghost use Rattle.std.specs.Prelude.{◌≡◌, ◌==◌, ◌≤◌, bit_and, false, [], ◌∷◌, ◌++◌, map};
+ghost use Rattle.std.specs.Prelude.{IfOk, IfErr, OnOk, if◌then◌else◌};
+ghost use Rattle.sm_syntax.specs.claim.ConflictFree.{Copy};
+ghost use Rattle.sm_syntax.specs.claim.Syntax.{End};
+ghost use Rattle.sm_syntax.specs.text.Parts.{Parts};
+ghost use Rattle.sm_syntax.specs.text.Sorts.{IsWellSorted};
+ghost use Rattle.sm_syntax.specs.trees.Copies.{copy_named};
+ghost use Rattle.sm_term.specs.Tables.{trees_in, sorts_in};
+ghost use Rattle.sm_term.specs.TableLaws.{Widens};
+ghost use Rattle.sm_plan.specs.Copies.{has, subsets};
+ghost use Rattle.sm_plan.specs.Masks.{set_of};
+ghost use Rattle.sm_product.specs.CodeShapes.{has_hole};
+ghost use Rattle.sm_product.specs.Errors.{TellsSketch};
+ghost use Rattle.sm_product.specs.MiniProducts as spec;
+ghost use Rattle.sm_product.specs.Moves as moves;
+ghost use Rattle.sm_product.specs.MovesWithin.{IsMoveWithin};
+ghost use Rattle.sm_product.specs.Paths.{codes_in, is_straight, IsFilled};
+ghost use Rattle.sm_product.specs.ProgramMoves.{move_in};
+ghost use Rattle.sm_product.specs.LoopTurns.{turn_of, HaveLoops};
+ghost use Rattle.sm_product.specs.Rooms.{IsRoom, TellsBeyond, TellAllBeyond, IsTaken};
+ghost use Rattle.sm_product.specs.Sites.{IsSiteOf, IsSiteReady};
+ghost use Rattle.sm_product.specs.SketchViews.{sketch_in, IsSketchReady, AreSketchesReady};
+
+use crate::bodies::{bodies, copy_rests, fork};
+use crate::copying::copy_sketch;
+use crate::drawing::{ends, forking, looped};
+use crate::error::ProductError;
+use crate::moves::Move;
+use crate::paths::{follow, pass, put_all_before};
+use crate::rooms::Room;
+use crate::site::SiteContext;
+use crate::sketch::Sketch;
+use crate::templates::loop_templates;
+use sm_plan::Rest;
+use sm_syntax::{CopyName, PerCopy};
+use sm_term::TermTable;
+use std::alloc::Global;
+
+/// The mini-product of the code of a set's copies, and what follows.
+pub(crate) fn side_by_side(
+    alloc: Global,
+    table: &mut TermTable,
+    site: &SiteContext<'_>,
+    set: u8,
+    code: PerCopy<Rest<'_>>,
+    next: Sketch,
+) -> Result<Sketch, ProductError>
+    requires set { set ≤ 15 }
+    requires site { IsSiteReady (sorts_in table.old) site.now }
+    requires sorted { (c : Copy) → IsWellSorted (sorts_in table.old) (codes_in code c) }
+    requires no_hole { (c : Copy) → has_hole (codes_in code c) ≡ false }
+    requires outside { (c : Copy) → has (set_of set) c ≡ false → codes_in code c ≡ End }
+    requires next { IsSketchReady (sorts_in table.old) (trees_in table.old) next }
+    ensures drawn { let after = sketch_in (sorts_in table.old) (trees_in table.old) next in
+        (t : Parts) → IsSiteOf t site.now → IfOk result (λ s.
+        sketch_in (sorts_in table.new) (trees_in table.new) s
+        ≡ spec.side_by_side t (set_of set) (codes_in code.entry) after) }
+    ensures err { let after = sketch_in (sorts_in table.old) (trees_in table.old) next in
+        (t : Parts) → IsSiteOf t site.now → IfErr result (λ e.
+        TellsSketch e (spec.side_by_side t (set_of set) (codes_in code.entry) after)) }
+    ensures ready { IfOk result (IsSketchReady (sorts_in table.new) (trees_in table.new)) }
+    ensures widens { Widens table.old table.new }
+{
+    draw(alloc, table, site, set, code, next, Room::whole())
+}
+
+// The same, within some room.
+#[cycle(mini)]
+fn draw(
+    alloc: Global,
+    table: &mut TermTable,
+    site: &SiteContext<'_>,
+    set: u8,
+    mut rests: PerCopy<Rest<'_>>,
+    next: Sketch,
+    room: Room,
+) -> Result<Sketch, ProductError>
+    requires set { set ≤ 15 }
+    requires site { IsSiteReady (sorts_in table.old) site.now }
+    requires sorted { (c : Copy) → IsWellSorted (sorts_in table.old) (codes_in rests c) }
+    requires filled { IsFilled (set_of set) (codes_in rests) }
+    requires next { IsSketchReady (sorts_in table.old) (trees_in table.old) next }
+    requires room { IsRoom room }
+    ensures drawn { let after = sketch_in (sorts_in table.old) (trees_in table.old) next in
+        (t : Parts) → IsSiteOf t site.now → IfOk result (λ s.
+        sketch_in (sorts_in table.new) (trees_in table.new) s
+        ≡ spec.side_by_side t (set_of set) (codes_in rests.entry) after) }
+    ensures err { let after = sketch_in (sorts_in table.old) (trees_in table.old) next in
+        (t : Parts) → IsSiteOf t site.now → IfErr result (λ e. TellsBeyond room e
+        (spec.side_by_side t (set_of set) (codes_in rests.entry) after)) }
+    ensures ready { IfOk result (IsSketchReady (sorts_in table.new) (trees_in table.new)) }
+    ensures widens { Widens table.old table.new }
+{
+    let straight = follow(alloc, &mut rests, set)?;
+    let below = draw_last(alloc, table, site, set, rests, next, room, straight.last)?;
+    put_all_before(straight.moves, below)
+}
+
+// A move after which not one state follows, and what comes then.
+#[cycle(mini)]
+fn draw_last(
+    alloc: Global,
+    table: &mut TermTable,
+    site: &SiteContext<'_>,
+    set: u8,
+    rests: PerCopy<Rest<'_>>,
+    next: Sketch,
+    room: Room,
+    last: Move,
+) -> Result<Sketch, ProductError>
+    requires set { set ≤ 15 }
+    requires site { IsSiteReady (sorts_in table.old) site.now }
+    requires sorted { (c : Copy) → IsWellSorted (sorts_in table.old) (codes_in rests c) }
+    requires filled { IsFilled (set_of set) (codes_in rests) }
+    requires next { IsSketchReady (sorts_in table.old) (trees_in table.old) next }
+    requires room { IsRoom room }
+    requires branches { is_straight (move_in last) ≡ false }
+    requires within { IsMoveWithin last }
+    requires last { move_in last ≡ moves.move_of (set_of set) (codes_in rests) }
+    ensures drawn { let after = sketch_in (sorts_in table.old) (trees_in table.old) next in
+        (t : Parts) → IsSiteOf t site.now → IfOk result (λ s.
+        sketch_in (sorts_in table.new) (trees_in table.new) s
+        ≡ spec.drawn t (set_of set) (codes_in rests.entry) after (spec.side_by_side t)
+        (move_in last)) }
+    ensures err { let after = sketch_in (sorts_in table.old) (trees_in table.old) next in
+        (t : Parts) → IsSiteOf t site.now → IfErr result (λ e. TellsBeyond room e
+        (spec.drawn t (set_of set) (codes_in rests.entry) after (spec.side_by_side t)
+        (move_in last))) }
+    ensures ready { IfOk result (IsSketchReady (sorts_in table.new) (trees_in table.new)) }
+    ensures widens { Widens table.old table.new }
+{
+    match last {
+        Move::Fork(copy) => draw_fork(alloc, table, site, set, rests, next, room, copy),
+        Move::Loops(left) => draw_loops(alloc, table, site, set, rests, next, room, left),
+        Move::Done => Ok(next),
+        // A step and summaries, after which one state follows, were drawn before.
+        Move::Step(_) => Ok(next),
+        Move::Summaries(_) => Ok(next),
+    }
+}
+
+// A fork of a copy, and what comes after either block.
+#[cycle(mini)]
+fn draw_fork(
+    alloc: Global,
+    table: &mut TermTable,
+    site: &SiteContext<'_>,
+    set: u8,
+    mut rests: PerCopy<Rest<'_>>,
+    next: Sketch,
+    room: Room,
+    copy: CopyName,
+) -> Result<Sketch, ProductError>
+    requires set { set ≤ 15 }
+    requires site { IsSiteReady (sorts_in table.old) site.now }
+    requires sorted { (c : Copy) → IsWellSorted (sorts_in table.old) (codes_in rests c) }
+    requires filled { IsFilled (set_of set) (codes_in rests) }
+    requires next { IsSketchReady (sorts_in table.old) (trees_in table.old) next }
+    requires room { IsRoom room }
+    requires last { moves.Forks (copy_named copy) ≡ moves.move_of (set_of set) (codes_in rests) }
+    ensures drawn { let after = sketch_in (sorts_in table.old) (trees_in table.old) next in
+        (t : Parts) → IsSiteOf t site.now → IfOk result (λ s.
+        sketch_in (sorts_in table.new) (trees_in table.new) s
+        ≡ spec.drawn t (set_of set) (codes_in rests.entry) after (spec.side_by_side t)
+        (moves.Forks (copy_named copy))) }
+    ensures err { let after = sketch_in (sorts_in table.old) (trees_in table.old) next in
+        (t : Parts) → IsSiteOf t site.now → IfErr result (λ e. TellsBeyond room e
+        (spec.drawn t (set_of set) (codes_in rests.entry) after (spec.side_by_side t)
+        (moves.Forks (copy_named copy)))) }
+    ensures ready { IfOk result (IsSketchReady (sorts_in table.new) (trees_in table.new)) }
+    ensures widens { Widens table.old table.new }
+{
+    let below = room.below_node()?;
+    let for_one = below.without(next.extent.nodes)?;
+    let mut others = copy_rests(alloc, &rests)?;
+    fork(&mut rests, copy, true)?;
+    fork(&mut others, copy, false)?;
+    let after = copy_sketch(alloc, &next)?;
+    let one = draw(alloc, table, site, set, rests, after, for_one)?;
+    let for_other = below.without(one.extent.nodes)?;
+    let other = draw(alloc, table, site, set, others, next, for_other)?;
+    forking(alloc, copy, one, other)
+}
+
+// The loops of some copies, and what comes after them.
+#[cycle(mini)]
+fn draw_loops(
+    alloc: Global,
+    table: &mut TermTable,
+    site: &SiteContext<'_>,
+    set: u8,
+    mut rests: PerCopy<Rest<'_>>,
+    next: Sketch,
+    room: Room,
+    left: u8,
+) -> Result<Sketch, ProductError>
+    requires set { set ≤ 15 }
+    requires left { left ≤ 15 }
+    requires site { IsSiteReady (sorts_in table.old) site.now }
+    requires sorted { (c : Copy) → IsWellSorted (sorts_in table.old) (codes_in rests c) }
+    requires filled { IsFilled (set_of set) (codes_in rests) }
+    requires next { IsSketchReady (sorts_in table.old) (trees_in table.old) next }
+    requires room { IsRoom room }
+    requires last { moves.Loops (set_of left) ≡ moves.move_of (set_of set) (codes_in rests) }
+    ensures drawn { let after = sketch_in (sorts_in table.old) (trees_in table.old) next in
+        (t : Parts) → IsSiteOf t site.now → IfOk result (λ s.
+        sketch_in (sorts_in table.new) (trees_in table.new) s
+        ≡ spec.drawn t (set_of set) (codes_in rests.entry) after (spec.side_by_side t)
+        (moves.Loops (set_of left))) }
+    ensures err { let after = sketch_in (sorts_in table.old) (trees_in table.old) next in
+        (t : Parts) → IsSiteOf t site.now → IfErr result (λ e. TellsBeyond room e
+        (spec.drawn t (set_of set) (codes_in rests.entry) after (spec.side_by_side t)
+        (moves.Loops (set_of left)))) }
+    ensures ready { IfOk result (IsSketchReady (sorts_in table.new) (trees_in table.new)) }
+    ensures widens { Widens table.old table.new }
+{
+    let mut below = room.below_node()?;
+    let templates = loop_templates(alloc, table, site, left, &rests)?;
+    let turns = draw_turns(alloc, table, site, &rests, left, &mut below)?;
+    pass(&mut rests, left);
+    let after = draw(alloc, table, site, set, rests, next, below)?;
+    looped(alloc, left, templates, turns, after)
+}
+
+// A turn of the loops of each set of copies that is in a set, by ascending masks. What they have is
+// taken from the room.
+#[cycle(mini)]
+fn draw_turns(
+    alloc: Global,
+    table: &mut TermTable,
+    site: &SiteContext<'_>,
+    rests: &PerCopy<Rest<'_>>,
+    left: u8,
+    room: &mut Room,
+) -> Result<Vec<Sketch>, ProductError>
+    requires left { left ≤ 15 }
+    requires site { IsSiteReady (sorts_in table.old) site.now }
+    requires sorted { (c : Copy) → IsWellSorted (sorts_in table.old) (codes_in rests.now c) }
+    requires no_hole { (c : Copy) → has_hole (codes_in rests.now c) ≡ false }
+    requires loops { HaveLoops (set_of left) (codes_in rests.now) }
+    requires room { IsRoom room.old }
+    ensures drawn { (t : Parts) → IsSiteOf t site.now → IfOk result (λ v.
+        map (sketch_in (sorts_in table.new) (trees_in table.new)) v.items
+        ≡ map (turn_of t (codes_in rests.now)) (subsets (set_of left))) }
+    ensures err { (t : Parts) → IsSiteOf t site.now → IfErr result (λ e. TellAllBeyond room.old e
+        (map (turn_of t (codes_in rests.now)) (subsets (set_of left)))) }
+    ensures ready { IfOk result (λ v.
+        AreSketchesReady (sorts_in table.new) (trees_in table.new) v.items) }
+    ensures taken { (t : Parts) → IsSiteOf t site.now → OnOk result (IsTaken room.old room.new
+        (map (turn_of t (codes_in rests.now)) (subsets (set_of left)))) }
+    ensures room { OnOk result (IsRoom room.new) }
+    ensures widens { Widens table.old table.new }
+{
+    let mut turns = Vec::new(alloc);
+    for smaller in 0..15u8 {
+        draw_turn(
+            alloc,
+            table,
+            site,
+            rests,
+            left,
+            smaller + 1,
+            room,
+            &mut turns,
+        )?;
+    }
+    Ok(turns)
+}
+
+// Puts a turn behind others, where its copies are in a set.
+#[cycle(mini)]
+fn draw_turn(
+    alloc: Global,
+    table: &mut TermTable,
+    site: &SiteContext<'_>,
+    rests: &PerCopy<Rest<'_>>,
+    left: u8,
+    turning: u8,
+    room: &mut Room,
+    turns: &mut Vec<Sketch>,
+) -> Result<(), ProductError>
+    requires turning { (1 ≤ turning) × (turning ≤ 15) }
+    requires left { left ≤ 15 }
+    requires site { IsSiteReady (sorts_in table.old) site.now }
+    requires sorted { (c : Copy) → IsWellSorted (sorts_in table.old) (codes_in rests.now c) }
+    requires no_hole { (c : Copy) → has_hole (codes_in rests.now c) ≡ false }
+    requires loops { HaveLoops (set_of left) (codes_in rests.now) }
+    requires room { IsRoom room.old }
+    requires turns { AreSketchesReady (sorts_in table.old) (trees_in table.old) turns.old.items }
+    ensures drawn { (t : Parts) → IsSiteOf t site.now → OnOk result (
+        map (sketch_in (sorts_in table.new) (trees_in table.new)) turns.new.items
+        ≡ map (sketch_in (sorts_in table.old) (trees_in table.old)) turns.old.items
+        ++ map (λ m. turn_of t (codes_in rests.now) (set_of m))
+        (if bit_and turning left == turning then turning ∷ [] else [])) }
+    ensures err { (t : Parts) → IsSiteOf t site.now → IfErr result (λ e. TellAllBeyond room.old e
+        (map (λ m. turn_of t (codes_in rests.now) (set_of m))
+        (if bit_and turning left == turning then turning ∷ [] else []))) }
+    ensures ready { OnOk result
+        (AreSketchesReady (sorts_in table.new) (trees_in table.new) turns.new.items) }
+    ensures taken { (t : Parts) → IsSiteOf t site.now → OnOk result (IsTaken room.old room.new
+        (map (λ m. turn_of t (codes_in rests.now) (set_of m))
+        (if bit_and turning left == turning then turning ∷ [] else []))) }
+    ensures room { OnOk result (IsRoom room.new) }
+    ensures widens { Widens table.old table.new }
+{
+    if turning & left == turning {
+        let code = bodies(alloc, rests, turning)?;
+        let turn = draw(alloc, table, site, turning, code, ends(alloc), *room)?;
+        *room = room.without(turn.extent.nodes)?;
+        turns.push(turn)?;
+    }
+    Ok(())
+}

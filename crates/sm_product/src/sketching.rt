@@ -1,0 +1,54 @@
+// The sketch of a task.
+ghost use Rattle.std.specs.Prelude.{◌≡◌, IfOk, IfErr};
+ghost use Rattle.sm_syntax.specs.claim.ConflictFree.{Copy, program_of};
+ghost use Rattle.sm_syntax.specs.text.Parts.{sort_of, task_of};
+ghost use Rattle.sm_syntax.specs.text.Sorts.{IsWellSorted};
+ghost use Rattle.sm_syntax.specs.trees.Programs.{declared_of};
+ghost use Rattle.sm_term.specs.Tables.{trees_in, sorts_in};
+ghost use Rattle.sm_term.specs.TableLaws.{Widens};
+ghost use Rattle.sm_text.specs.Tasks.{parts_of};
+ghost use Rattle.sm_plan.specs.Starts.{AreNumbered};
+ghost use Rattle.sm_product.specs.Errors.{TellsSketch};
+ghost use Rattle.sm_product.specs.Laws.{HaveNoHole};
+ghost use Rattle.sm_product.specs.Products.{sketch_of};
+ghost use Rattle.sm_product.specs.SketchViews.{sketch_in, IsSketchReady};
+
+use crate::drawing::ends;
+use crate::error::ProductError;
+use crate::filled::{FilledBlock, statements};
+use crate::product::{ProductContext, product_block};
+use crate::site::site_of;
+use crate::sketch::Sketch;
+use sm_task::fill_all;
+use sm_term::TermTable;
+use sm_text::Task;
+use std::alloc::Global;
+
+/// The sketch of a task, over a table of the task's declarations. It isn't made where it has more
+/// than 200,000 nodes or more than 1,000 branching ones one under another. After an error the table
+/// may have more terms.
+pub fn sketch_of(alloc: Global, table: &mut TermTable, task: &Task) -> Result<Sketch, ProductError>
+    requires declared { sorts_in table.old ≡ sort_of (declared_of task.now.shared.decls) }
+    requires numbered { AreNumbered (declared_of task.now.shared.decls) }
+    requires no_hole { HaveNoHole (parts_of task.now) }
+    requires programs { (c : Copy) →
+        IsWellSorted (sorts_in table.old) (program_of (task_of (parts_of task.now)) c) }
+    ensures ok { IfOk result (λ s. sketch_in (sorts_in table.new) (trees_in table.new) s
+        ≡ sketch_of (parts_of task.now)) }
+    ensures err { IfErr result (λ e. TellsSketch e (sketch_of (parts_of task.now))) }
+
+    // Its templates are those of the table.
+    ensures ready { IfOk result (IsSketchReady (sorts_in table.new) (trees_in table.new)) }
+
+    // Each term keeps its number.
+    ensures widens { Widens table.old table.new }
+{
+    let site = site_of(alloc, &task.shared.decls, &task.lists)?;
+    let programs = fill_all(alloc, task)?;
+    let context = ProductContext { task, site };
+    let shared = FilledBlock {
+        shared: &task.shared.body,
+        filled: statements(&programs),
+    };
+    product_block(alloc, table, &context, &shared, 15, ends(alloc))
+}
