@@ -3,3 +3,10 @@ pub mod Rounds
 pub mod Outcomes
 pub mod Certified
 pub mod Laws
+pub mod Views
+pub mod Marks
+pub mod Closing
+pub mod SitesBelow
+pub mod ShortFacts
+pub mod Collected
+pub mod Searchable

@@ -1,0 +1,437 @@
+-- Goals that close or stop a search, and certificates that are collected.
+use Rattle.std.proofs.Common.{◌≡◌, ℕ, zero, suc, ◌+◌, ◌<◌, ◌≤◌, Bool, true, false, if◌then◌else◌, None}
+use Rattle.std.proofs.Common.{List, [], ◌∷◌, ◌++◌, map, length, take, drop, get_or, refl, sym, ap, ◌∙◌, subst, arith}
+use Rattle.std.specs.List.{flat_map}
+use Rattle.std.specs.Prelude.{Option, Some, is_some, MatchOption, Result, Ok, Err, IfOk}
+use Rattle.std.proofs.lemmas.List.{map-append, append_assoc, drop_more, drop-map, take-map, take_all, drop_all}
+use Rattle.sm_syntax.specs.text.Sorts.{Sorts}
+use Rattle.sm_term.specs.declared.formula.Formula.{Formula}
+use Rattle.sm_term.specs.Assertions.{Assertion, negate}
+use Rattle.sm_term.specs.Formulas.{numbered, assertion_in}
+use Rattle.sm_term.specs.Tables.{TableValue, trees_in, sorts_in}
+use Rattle.sm_term.specs.TableLaws.{Widens}
+use Rattle.sm_term.specs.Terms.{Tree}
+use Rattle.sm_theory.specs.Facts.{as_facts}
+use Rattle.sm_cert.specs.declared.tree.CertTree.{CertTree}
+use Rattle.sm_cert.specs.Certificates.{Certificate, Closes}
+use Rattle.sm_cert.specs.NamedTerms.{EachTerm}
+use Rattle.sm_cert.specs.Views.{certificate_in, lines_of, AreLinesWithin}
+use Rattle.sm_plan.specs.Plans.{Due}
+use Rattle.sm_plan.specs.ReadyStates.{IsFormReady, AreFormsReady}
+use Rattle.sm_plan.specs.Views.{forms_in}
+use Rattle.sm_plan.proofs.TablesWiden as widened
+use Rattle.sm_expand.specs.declared.due.Due as program
+use Rattle.sm_expand.specs.Views.{due_in, dues_in, AreDuesReady}
+use Rattle.sm_solve.specs.declared.solving.Answer.{Answer}
+use Rattle.sm_solve.specs.declared.solving.Answer.TheVariants as answers
+use Rattle.sm_solve.specs.Answers.{Tells, Certifies, NamesOnly}
+use Rattle.sm_solve.specs.Parts.{all_numbered, assertions_in, AreFormulasWithin}
+use Rattle.sm_solve.specs.Walk.{walk}
+use Rattle.sm_term.specs.Sorted.{AreFormsSorted}
+use Rattle.sm_replay.specs.declared.verdict.Verdict.{Verdict}
+use Rattle.sm_solve.specs.Answers.{terms_walked}
+use Rattle.sm_solve.specs.Branches.{IsOneOf}
+use Rattle.sm_solve.specs.Walk as walked
+use Rattle.sm_solve.specs.Walk.{Walked}
+use Rattle.sm_write.specs.TreesWithin.{AreTreesWithin}
+use Rattle.sm_write.specs.Writable.{IsShort, AreShort}
+use Rattle.sm_write.proofs.TreesStay.{trees_stay, trees_wider}
+use Rattle.sm_houdini.specs.Certified.{asked, IsCertified, AreCertified}
+use Rattle.sm_houdini.specs.Collected.{AreCollected, goals_with, stop_in, GoalStops, GoalCloses, GoalsStop, GoalsClose}
+use Rattle.sm_houdini.specs.Collected.{FinalStops, FinalCloses, AreInsideClosed}
+use Rattle.sm_houdini.specs.Outcomes.{Outcome, Accepted, Conflict, Open, Steps, Coefficient, TooMany, goal_outcome, goals_outcome, final_outcome, is_closing}
+use Rattle.sm_houdini.specs.declared.ending.Stop.{Stop}
+use Rattle.sm_houdini.proofs.LoopLemmas.{taken}
+use Rattle.sm_houdini.proofs.ClosingLemmas.{forms_same, due_stays}
+use Rattle.sm_houdini.proofs.RoundSteps.{facts_at}
+use Rattle.sm_houdini.proofs.SimpleWritable.{certified_append}
+
+within_append : (n : ℕ) (xs ys : List CertTree) → AreTreesWithin n xs → AreTreesWithin n ys → AreTreesWithin n (xs ++ ys)
+within_append n [] ys a b = b
+within_append n (x ∷ xs) ys a b = (a.0, within_append n xs ys a.1 b)
+
+short_append : (cs es : List Certificate) → AreShort cs → AreShort es → AreShort (cs ++ es)
+short_append [] es a b = b
+short_append (c ∷ cs) es a b = (a.0, short_append cs es a.1 b)
+
+-- what is collected stays while the table widens
+pub collected_stays : (v w : TableValue) → Widens v w → (goals : List (List Assertion × Assertion)) (trees : List CertTree) →
+    AreCollected v goals trees → AreCollected w goals trees
+collected_stays v w wider goals trees c =
+    let same = sym (trees_stay v w wider trees c.within) in
+    record {
+      within = trees_wider v w wider trees c.within;
+      certified = subst (λ (s : Sorts). AreCertified s goals (map (certificate_in (trees_in w)) trees)) (sym wider.sorts)
+          (subst (AreCertified (sorts_in v) goals) same c.certified);
+      short = subst AreShort same c.short;
+    }
+
+-- one certificate more
+pub collected_more : (v w : TableValue) → Widens v w → (goals : List (List Assertion × Assertion)) (trees new : List CertTree)
+    (facts : List Assertion) (goal : Assertion) (tree : CertTree) → new ≡ trees ++ tree ∷ [] → AreCollected v goals trees →
+    AreLinesWithin (length (trees_in w)) (lines_of tree) →
+    Closes (sorts_in v) (as_facts (facts ++ negate goal ∷ [])) (certificate_in (trees_in w) tree) →
+    EachTerm (IsOneOf (terms_walked facts goal)) (certificate_in (trees_in w) tree) →
+    IsShort (certificate_in (trees_in w) tree) → AreCollected w (goals ++ (facts, goal) ∷ []) new
+collected_more v w wider goals trees new facts goal tree is before within closes names short =
+    let c = collected_stays v w wider goals trees before in
+    let certified : IsCertified (sorts_in w) facts goal (certificate_in (trees_in w) tree) =
+    (subst (λ (s : Sorts). Closes s (as_facts (facts ++ negate goal ∷ [])) (certificate_in (trees_in w) tree)) (sym wider.sorts) closes, names) in
+    let both : map (certificate_in (trees_in w)) (trees ++ tree ∷ [])
+    ≡ map (certificate_in (trees_in w)) trees ++ certificate_in (trees_in w) tree ∷ [] = map-append (certificate_in (trees_in w)) trees (tree ∷ []) in
+    subst (AreCollected w (goals ++ (facts, goal) ∷ [])) (sym is) (record {
+      within = within_append (length (trees_in w)) trees (tree ∷ []) c.within (within, tt);
+      certified = subst (AreCertified (sorts_in w) (goals ++ (facts, goal) ∷ [])) (sym both)
+          (certified_append (sorts_in w) goals ((facts, goal) ∷ []) _ _ c.certified (certified, tt));
+      short = subst AreShort (sym both) (short_append _ _ c.short (short, tt));
+    })
+
+-- formulas over a table
+map_count : {X Y : Type 0} (F : X → Y) (xs : List X) → length (map F xs) ≡ length xs
+map_count F [] = refl
+map_count F (x ∷ xs) = ap suc (map_count F xs)
+
+forms_count : (sorts : Sorts) (trees : List Tree) (fs : List Formula) → length (forms_in sorts trees fs) ≡ length fs
+forms_count sorts trees fs = map_count (λ (f : Formula). assertion_in sorts trees (numbered f)) fs
+
+pub form_at : (sorts : Sorts) (trees : List Tree) (fs : List Formula) (i : ℕ) (f : Formula) → AreFormsReady sorts trees fs →
+    i < length fs → f ≡ get_or fs i f → IsFormReady sorts trees f
+form_at sorts trees fs i f ready h e = subst (IsFormReady sorts trees) (sym e) (go fs i ready h)
+  where
+    go : (fs : List Formula) (i : ℕ) → AreFormsReady sorts trees fs → i < length fs → IsFormReady sorts trees (get_or fs i f)
+    go [] i r l = absurd (let no : i < 0 = l in omega arith)
+    go (x ∷ xs) zero r l = r.0
+    go (x ∷ xs) (suc i) r l = let fewer : i < length xs = omega (arith, l) in go xs i r.1 fewer
+
+-- lists over a table, one item further
+pub further : {X Y : Type 0} (F : X → Y) (xs : List X) (i : ℕ) (x : X) → i < length xs → x ≡ get_or xs i x →
+    drop i (map F xs) ≡ F x ∷ drop (i + 1) (map F xs)
+further {X} {Y} F xs i x h e =
+    drop-map F i xs ∙ ap (map F) (drop_more xs i x h ∙ ap (λ (y : X). y ∷ drop (i + 1) xs) (sym e))
+    ∙ ap (λ (l : List Y). F x ∷ l) (sym (drop-map F (i + 1) xs))
+
+pub longer : {X Y : Type 0} (F : X → Y) (xs : List X) (i : ℕ) (x : X) → i < length xs → x ≡ get_or xs i x →
+    take (i + 1) (map F xs) ≡ take i (map F xs) ++ F x ∷ []
+longer {X} {Y} F xs i x h e =
+    take-map F (i + 1) xs ∙ ap (map F) (taken xs i x h e) ∙ map-append F (take i xs) (x ∷ [])
+    ∙ ap (λ (l : List Y). l ++ F x ∷ []) (sym (take-map F i xs))
+
+-- a goal that closes, with its certificate behind the others
+pub goal_ends : (v w : TableValue) → Widens v w → (steps node at : ℕ) (facts : List Formula) (goal : Formula)
+    (a : Answer) (tree : CertTree) (given : List Formula) → given ≡ facts → AreFormsReady (sorts_in v) (trees_in v) facts →
+    Tells (sorts_in v) (trees_in w) a
+    (walk (sorts_in v) steps (assertions_in (sorts_in v) (trees_in v) (all_numbered given)) (assertion_in (sorts_in v) (trees_in v) (numbered goal))) →
+    Certifies (sorts_in v) (trees_in w) (assertions_in (sorts_in v) (trees_in v) (all_numbered given))
+    (assertion_in (sorts_in v) (trees_in v) (numbered goal)) a →
+    NamesOnly (terms_walked (assertions_in (sorts_in v) (trees_in v) (all_numbered given)) (assertion_in (sorts_in v) (trees_in v) (numbered goal)))
+    (trees_in w) a →
+    a ≡ answers.Closed tree → IsShort (certificate_in (trees_in w) tree) →
+    (goals : List (List Assertion × Assertion)) (old new : List CertTree) → new ≡ old ++ tree ∷ [] → AreCollected v goals old →
+    GoalCloses node at (walk (sorts_in v) steps (forms_in (sorts_in v) (trees_in v) facts) (assertion_in (sorts_in v) (trees_in v) (numbered goal)))
+    × AreCollected w (goals ++ (forms_in (sorts_in v) (trees_in v) facts, assertion_in (sorts_in v) (trees_in v) (numbered goal)) ∷ []) new
+goal_ends v w wider steps node at facts goal a tree given same ready tells certifies names closed short goals old new is before =
+    let sorts = sorts_in v in let ts = trees_in v in
+    let fs = forms_in sorts ts facts in
+    let g = assertion_in sorts ts (numbered goal) in
+    let as_forms : assertions_in sorts ts (all_numbered given) ≡ fs = ap (λ (l : List Formula). assertions_in sorts ts (all_numbered l)) same ∙ forms_same sorts ts facts in
+    let told = subst (λ (b : Answer). Tells sorts (trees_in w) b (walk sorts steps fs g)) closed
+    (subst (λ (l : List Assertion). Tells sorts (trees_in w) a (walk sorts steps l g)) as_forms tells) in
+    let shows = subst (λ (b : Answer). Certifies sorts (trees_in w) fs g b) closed
+    (subst (λ (l : List Assertion). Certifies sorts (trees_in w) l g a) as_forms certifies) in
+    let named = subst (λ (b : Answer). NamesOnly (terms_walked fs g) (trees_in w) b) closed
+    (subst (λ (l : List Assertion). NamesOnly (terms_walked l g) (trees_in w) a) as_forms names) in (
+      (λ (later : Outcome (ℕ × Verdict)). ap (λ (x : Walked). goal_outcome node at x later) told.1),
+      collected_more v w wider goals old new fs g tree is before shows.0 shows.1 named short,
+    )
+
+-- a goal that stops the search
+pub goal_stopped : (v w : TableValue) (steps node at : ℕ) (facts : List Formula) (goal : Formula) (a : Answer) (s : Stop)
+    (given : List Formula) → given ≡ facts →
+    Tells (sorts_in v) (trees_in w) a
+    (walk (sorts_in v) steps (assertions_in (sorts_in v) (trees_in v) (all_numbered given)) (assertion_in (sorts_in v) (trees_in v) (numbered goal))) →
+    ((sorts : Sorts) (trees : List Tree) (x : Walked) → Tells sorts trees a x → GoalStops node at x s) →
+    GoalStops node at (walk (sorts_in v) steps (forms_in (sorts_in v) (trees_in v) facts) (assertion_in (sorts_in v) (trees_in v) (numbered goal))) s
+goal_stopped v w steps node at facts goal a s given same tells stops =
+    let sorts = sorts_in v in let ts = trees_in v in
+    let g = assertion_in sorts ts (numbered goal) in
+    let as_forms : assertions_in sorts ts (all_numbered given) ≡ forms_in sorts ts facts =
+    ap (λ (l : List Formula). assertions_in sorts ts (all_numbered l)) same ∙ forms_same sorts ts facts in
+    stops sorts (trees_in w) (walk sorts steps (forms_in sorts ts facts) g)
+    (subst (λ (l : List Assertion). Tells sorts (trees_in w) a (walk sorts steps l g)) as_forms tells)
+
+-- a goal of what a node asks, over a wider table
+goal_stays : (v u : TableValue) → Widens v u → (fs : List Formula) (i : ℕ) (f : Formula) → AreFormsReady (sorts_in v) (trees_in v) fs →
+    i < length fs → f ≡ get_or fs i f →
+    assertion_in (sorts_in u) (trees_in u) (numbered f) ≡ assertion_in (sorts_in v) (trees_in v) (numbered f)
+goal_stays v u wider fs i f ready h e = widened.assertion_stays v u wider (numbered f) (form_at (sorts_in v) (trees_in v) fs i f ready h e).0
+
+-- the goals so far and one more, which closes
+pub goal_next : (v u w : TableValue) → Widens v u → (steps i at : ℕ) (d : program.Due) (f : Formula) →
+    AreFormsReady (sorts_in v) (trees_in v) d.facts.list.items → AreFormsReady (sorts_in v) (trees_in v) d.targets.list.items →
+    i < length d.targets.list.items → f ≡ get_or d.targets.list.items i f → at ≡ i →
+    (goals : List (List Assertion × Assertion)) (new : List CertTree) →
+    (GoalCloses d.node at (walk (sorts_in u) steps (forms_in (sorts_in u) (trees_in u) d.facts.list.items) (assertion_in (sorts_in u) (trees_in u) (numbered f)))
+    × AreCollected w ((goals ++ goals_with (due_in (sorts_in v) (trees_in v) d).facts (take i (due_in (sorts_in v) (trees_in v) d).goals))
+    ++ (forms_in (sorts_in u) (trees_in u) d.facts.list.items, assertion_in (sorts_in u) (trees_in u) (numbered f)) ∷ []) new) →
+    GoalCloses d.node i (walk (sorts_in v) steps (forms_in (sorts_in v) (trees_in v) d.facts.list.items) (assertion_in (sorts_in v) (trees_in v) (numbered f)))
+    × AreCollected w (goals ++ goals_with (due_in (sorts_in v) (trees_in v) d).facts (take (i + 1) (due_in (sorts_in v) (trees_in v) d).goals)) new
+goal_next v u w wider steps i at d f known asks h e same goals new both =
+    let facts = widened.forms_stay v u wider d.facts.list.items known in
+    let goal = goal_stays v u wider d.targets.list.items i f asks h e in
+    let fs = forms_in (sorts_in v) (trees_in v) d.facts.list.items in
+    let gs = forms_in (sorts_in v) (trees_in v) d.targets.list.items in
+    let g = assertion_in (sorts_in v) (trees_in v) (numbered f) in
+    let front = longer (λ (x : Formula). assertion_in (sorts_in v) (trees_in v) (numbered x)) d.targets.list.items i f h e in
+    let moved : (goals ++ goals_with fs (take i gs)) ++ (forms_in (sorts_in u) (trees_in u) d.facts.list.items, assertion_in (sorts_in u) (trees_in u) (numbered f)) ∷ []
+    ≡ goals ++ goals_with fs (take (i + 1) gs) =
+    (λ k. (goals ++ goals_with fs (take i gs)) ++ (facts k, goal k) ∷ [])
+    ∙ append_assoc goals (goals_with fs (take i gs)) ((fs, g) ∷ [])
+    ∙ ap (λ (l : List (List Assertion × Assertion)). goals ++ l)
+    (sym (map-append (λ (x : Assertion). (fs, x)) (take i gs) (g ∷ [])) ∙ ap (goals_with fs) (sym front)) in (
+      (λ (later : Outcome (ℕ × Verdict)).
+          sym (λ k. goal_outcome d.node (same k) (walk (wider.sorts k) steps (facts k) (goal k)) later) ∙ both.0 later),
+      subst (λ (l : List (List Assertion × Assertion)). AreCollected w l new) moved both.1,
+    )
+
+pub goal_left : (sorts : Sorts) (trees : List Tree) (steps i : ℕ) (d : program.Due) (f : Formula) →
+    i < length d.targets.list.items → f ≡ get_or d.targets.list.items i f →
+    GoalCloses d.node i (walk sorts steps (forms_in sorts trees d.facts.list.items) (assertion_in sorts trees (numbered f))) →
+    (later : Outcome (ℕ × Verdict)) →
+    goals_outcome (walk sorts steps (due_in sorts trees d).facts) d.node i (drop i (due_in sorts trees d).goals) later
+    ≡ goals_outcome (walk sorts steps (due_in sorts trees d).facts) d.node (i + 1) (drop (i + 1) (due_in sorts trees d).goals) later
+goal_left sorts trees steps i d f h e closes later =
+    let W = walk sorts steps (due_in sorts trees d).facts in
+    let gs = (due_in sorts trees d).goals in
+    let more : suc i ≡ i + 1 = omega arith in
+    ap (λ (l : List Assertion). goals_outcome W d.node i l later)
+    (further (λ (x : Formula). assertion_in sorts trees (numbered x)) d.targets.list.items i f h e)
+    ∙ closes (goals_outcome W d.node (suc i) (drop (i + 1) gs) later)
+    ∙ ap (λ (n : ℕ). goals_outcome W d.node n (drop (i + 1) gs) later) more
+
+-- or stops the search
+pub goal_stops : (v u : TableValue) → Widens v u → (steps i at : ℕ) (d : program.Due) (f : Formula) (s : Stop) →
+    AreFormsReady (sorts_in v) (trees_in v) d.facts.list.items → AreFormsReady (sorts_in v) (trees_in v) d.targets.list.items →
+    i < length d.targets.list.items → f ≡ get_or d.targets.list.items i f → at ≡ i →
+    GoalStops d.node at (walk (sorts_in u) steps (forms_in (sorts_in u) (trees_in u) d.facts.list.items) (assertion_in (sorts_in u) (trees_in u) (numbered f))) s →
+    (later : Outcome (ℕ × Verdict)) →
+    goals_outcome (walk (sorts_in v) steps (due_in (sorts_in v) (trees_in v) d).facts) d.node i (drop i (due_in (sorts_in v) (trees_in v) d).goals) later
+    ≡ stop_in s
+goal_stops v u wider steps i at d f s known asks h e same stops later =
+    let facts = widened.forms_stay v u wider d.facts.list.items known in
+    let goal = goal_stays v u wider d.targets.list.items i f asks h e in
+    let W = walk (sorts_in v) steps (due_in (sorts_in v) (trees_in v) d).facts in
+    let gs = (due_in (sorts_in v) (trees_in v) d).goals in
+    let next = goals_outcome W d.node (suc i) (drop (i + 1) gs) later in
+    ap (λ (l : List Assertion). goals_outcome W d.node i l later)
+    (further (λ (x : Formula). assertion_in (sorts_in v) (trees_in v) (numbered x)) d.targets.list.items i f h e)
+    ∙ sym (λ k. goal_outcome d.node (same k) (walk (wider.sorts k) steps (facts k) (goal k)) next) ∙ stops next
+
+-- by what the goal came to
+different : {A : Type 0} → true ≡ false → A
+different e = absurd cc
+
+pub goal_passed : (v u w : TableValue) → Widens v u → (steps i at : ℕ) (d : program.Due) (f : Formula) →
+    AreFormsReady (sorts_in v) (trees_in v) d.facts.list.items → AreFormsReady (sorts_in v) (trees_in v) d.targets.list.items →
+    i < length d.targets.list.items → f ≡ get_or d.targets.list.items i f → at ≡ i →
+    (goals : List (List Assertion × Assertion)) (new : List CertTree) (o : Option Stop) → is_some o ≡ false →
+    MatchOption o
+    (GoalCloses d.node at (walk (sorts_in u) steps (forms_in (sorts_in u) (trees_in u) d.facts.list.items) (assertion_in (sorts_in u) (trees_in u) (numbered f)))
+    × AreCollected w ((goals ++ goals_with (due_in (sorts_in v) (trees_in v) d).facts (take i (due_in (sorts_in v) (trees_in v) d).goals))
+    ++ (forms_in (sorts_in u) (trees_in u) d.facts.list.items, assertion_in (sorts_in u) (trees_in u) (numbered f)) ∷ []) new)
+    (GoalStops d.node at (walk (sorts_in u) steps (forms_in (sorts_in u) (trees_in u) d.facts.list.items) (assertion_in (sorts_in u) (trees_in u) (numbered f)))) →
+    GoalCloses d.node i (walk (sorts_in v) steps (forms_in (sorts_in v) (trees_in v) d.facts.list.items) (assertion_in (sorts_in v) (trees_in v) (numbered f)))
+    × AreCollected w (goals ++ goals_with (due_in (sorts_in v) (trees_in v) d).facts (take (i + 1) (due_in (sorts_in v) (trees_in v) d).goals)) new
+goal_passed v u w wider steps i at d f known asks h e same goals new None is both =
+    goal_next v u w wider steps i at d f known asks h e same goals new both
+goal_passed v u w wider steps i at d f known asks h e same goals new (Some s) is both = different is
+
+pub goal_ended : (v u w : TableValue) → Widens v u → (steps i at : ℕ) (d : program.Due) (f : Formula) →
+    AreFormsReady (sorts_in v) (trees_in v) d.facts.list.items → AreFormsReady (sorts_in v) (trees_in v) d.targets.list.items →
+    i < length d.targets.list.items → f ≡ get_or d.targets.list.items i f → at ≡ i →
+    (before goals : List (List Assertion × Assertion)) (new : List CertTree) →
+    ((later : Outcome (ℕ × Verdict)) →
+    goals_outcome (walk (sorts_in v) steps (due_in (sorts_in v) (trees_in v) d).facts) d.node 0 (due_in (sorts_in v) (trees_in v) d).goals later
+    ≡ goals_outcome (walk (sorts_in v) steps (due_in (sorts_in v) (trees_in v) d).facts) d.node i
+    (drop i (due_in (sorts_in v) (trees_in v) d).goals) later) →
+    (o : Option Stop) → is_some o ≡ true →
+    MatchOption o
+    (GoalCloses d.node at (walk (sorts_in u) steps (forms_in (sorts_in u) (trees_in u) d.facts.list.items) (assertion_in (sorts_in u) (trees_in u) (numbered f)))
+    × AreCollected w (before ++ (forms_in (sorts_in u) (trees_in u) d.facts.list.items, assertion_in (sorts_in u) (trees_in u) (numbered f)) ∷ []) new)
+    (GoalStops d.node at (walk (sorts_in u) steps (forms_in (sorts_in u) (trees_in u) d.facts.list.items) (assertion_in (sorts_in u) (trees_in u) (numbered f)))) →
+    MatchOption o
+    (GoalsClose (walk (sorts_in v) steps) (due_in (sorts_in v) (trees_in v) d)
+    × AreCollected w (goals ++ goals_with (due_in (sorts_in v) (trees_in v) d).facts (due_in (sorts_in v) (trees_in v) d).goals) new)
+    (GoalsStop (walk (sorts_in v) steps) (due_in (sorts_in v) (trees_in v) d))
+goal_ended v u w wider steps i at d f known asks h e same before goals new closes None is both = different (sym is)
+goal_ended v u w wider steps i at d f known asks h e same before goals new closes (Some s) is stops =
+    λ (later : Outcome (ℕ × Verdict)). closes later ∙ goal_stops v u wider steps i at d f s known asks h e same stops later
+
+-- all goals of what a node asks
+pub goals_done : (v w : TableValue) (steps i : ℕ) (d : program.Due) → length d.targets.list.items ≤ i →
+    (goals : List (List Assertion × Assertion)) (new : List CertTree) →
+    AreCollected w (goals ++ goals_with (due_in (sorts_in v) (trees_in v) d).facts (take i (due_in (sorts_in v) (trees_in v) d).goals)) new →
+    ((later : Outcome (ℕ × Verdict)) →
+    goals_outcome (walk (sorts_in v) steps (due_in (sorts_in v) (trees_in v) d).facts) d.node 0 (due_in (sorts_in v) (trees_in v) d).goals later
+    ≡ goals_outcome (walk (sorts_in v) steps (due_in (sorts_in v) (trees_in v) d).facts) d.node i
+    (drop i (due_in (sorts_in v) (trees_in v) d).goals) later) →
+    GoalsClose (walk (sorts_in v) steps) (due_in (sorts_in v) (trees_in v) d)
+    × AreCollected w (goals ++ goals_with (due_in (sorts_in v) (trees_in v) d).facts (due_in (sorts_in v) (trees_in v) d).goals) new
+goals_done v w steps i d h goals new collected closes =
+    let due = due_in (sorts_in v) (trees_in v) d in
+    let count = forms_count (sorts_in v) (trees_in v) d.targets.list.items in
+    let past : length due.goals ≤ i = omega (arith, count, h) in (
+      (λ (later : Outcome (ℕ × Verdict)).
+          closes later ∙ ap (λ (l : List Assertion). goals_outcome (walk (sorts_in v) steps due.facts) d.node i l later) (drop_all i due.goals past)),
+      subst (λ (l : List Assertion). AreCollected w (goals ++ goals_with due.facts l) new) (take_all i due.goals past) collected,
+    )
+
+-- an outcome is none that both follow
+none_both : (o : Outcome (ℕ × Verdict)) → Accepted ≡ o → TooMany ≡ o → ⊥
+none_both o first second = apart (first ∙ sym second)
+  where
+    is_accepted : Outcome (ℕ × Verdict) → Bool
+    is_accepted Accepted = true
+    is_accepted (Conflict v) = false
+    is_accepted (Open node goal) = false
+    is_accepted (Steps node goal) = false
+    is_accepted (Coefficient node goal op y z) = false
+    is_accepted TooMany = false
+
+    apart : (let accepted : Outcome (ℕ × Verdict) = Accepted in accepted ≡ TooMany) → ⊥
+    apart e = let same : true ≡ false = ap is_accepted e in absurd cc
+
+-- goals at which a search stops are final where the others close
+stops_final : (walk : List Assertion → Assertion → Walked) (d : Due) (s : Stop) → (d.is_final ≡ false → GoalsClose walk d) →
+    GoalsStop walk d s → d.is_final ≡ true
+stops_final walk d s inside stops = by d.is_final refl
+  where
+    by : (b : Bool) → d.is_final ≡ b → d.is_final ≡ true
+    by true e = e
+    by false e = absurd (none_both (stop_in s) (sym (inside e Accepted) ∙ stops Accepted) (sym (inside e TooMany) ∙ stops TooMany))
+
+inside_at : (walk : List Assertion → Assertion → Walked) (ds rest : List Due) (i : ℕ) (d : Due) → AreInsideClosed walk ds →
+    drop i ds ≡ d ∷ rest → d.is_final ≡ false → GoalsClose walk d
+inside_at walk [] rest i d all e = absurd (no i e)
+  where
+    no : (i : ℕ) → drop i [] ≡ d ∷ rest → ⊥
+    no zero e = absurd cc
+    no (suc i) e = absurd cc
+inside_at walk (x ∷ xs) rest zero d all e =
+    subst (λ (y : Due). y.is_final ≡ false → GoalsClose walk y) (λ k. get_or (e k) 0 d) all.0
+inside_at walk (x ∷ xs) rest (suc i) d all e = inside_at walk xs rest i d all.1 e
+
+-- the goals of one more due
+pub asked_more : (ds : List Due) (d : Due) → asked (ds ++ d ∷ []) ≡ asked ds ++ goals_with d.facts d.goals
+asked_more [] d = none (goals_with d.facts d.goals)
+  where
+    none : (xs : List (List Assertion × Assertion)) → xs ++ [] ≡ xs
+    none [] = refl
+    none (x ∷ xs) = ap (λ (l : List (List Assertion × Assertion)). x ∷ l) (none xs)
+asked_more (e ∷ ds) d =
+    ap (λ (l : List (List Assertion × Assertion)). goals_with e.facts e.goals ++ l) (asked_more ds d)
+    ∙ sym (append_assoc (goals_with e.facts e.goals) (asked ds) (goals_with d.facts d.goals))
+
+-- what nodes ask, one more
+passed_due : (b : Bool) (x later : Outcome (ℕ × Verdict)) → x ≡ later → (if b then x else later) ≡ later
+passed_due true x later e = e
+passed_due false x later e = refl
+
+pub due_left : (v u : TableValue) → Widens v u → (steps i : ℕ) (ds : List program.Due) (d : program.Due) →
+    AreDuesReady (sorts_in v) (trees_in v) ds → i < length ds → d ≡ get_or ds i d →
+    GoalsClose (walk (sorts_in u) steps) (due_in (sorts_in u) (trees_in u) d) →
+    (let whole : Outcome (ℕ × Verdict) = final_outcome (walk (sorts_in v) steps) (drop i (dues_in (sorts_in v) (trees_in v) ds)) in whole)
+    ≡ final_outcome (walk (sorts_in v) steps) (drop (i + 1) (dues_in (sorts_in v) (trees_in v) ds))
+due_left v u wider steps i ds d ready h e closes =
+    let W = walk (sorts_in v) steps in
+    let due = due_in (sorts_in v) (trees_in v) d in
+    let parts = facts_at (sorts_in v) (trees_in v) ds i d ready h e in
+    let same = due_stays v u wider d parts.0 parts.1 in
+    let rest = drop (i + 1) (dues_in (sorts_in v) (trees_in v) ds) in
+    let later = final_outcome W rest in
+    ap (final_outcome W) (further (due_in (sorts_in v) (trees_in v)) ds i d h e)
+    ∙ passed_due due.is_final (goals_outcome (W due.facts) due.node 0 due.goals later) later
+    (sym (λ k. goals_outcome (walk (wider.sorts k) steps (same k).facts) (same k).node 0 (same k).goals later) ∙ closes later)
+
+pub due_asked : (v u w : TableValue) → Widens v u → (i : ℕ) (ds : List program.Due) (d : program.Due) (new : List CertTree) →
+    AreDuesReady (sorts_in v) (trees_in v) ds → i < length ds → d ≡ get_or ds i d →
+    AreCollected w (asked (take i (dues_in (sorts_in v) (trees_in v) ds))
+    ++ goals_with (due_in (sorts_in u) (trees_in u) d).facts (due_in (sorts_in u) (trees_in u) d).goals) new →
+    AreCollected w (asked (take (i + 1) (dues_in (sorts_in v) (trees_in v) ds))) new
+due_asked v u w wider i ds d new ready h e collected =
+    let due = due_in (sorts_in v) (trees_in v) d in
+    let parts = facts_at (sorts_in v) (trees_in v) ds i d ready h e in
+    let same = due_stays v u wider d parts.0 parts.1 in
+    let before = take i (dues_in (sorts_in v) (trees_in v) ds) in
+    subst (λ (l : List (List Assertion × Assertion)). AreCollected w l new)
+    ((λ k. asked before ++ goals_with (same k).facts (same k).goals)
+    ∙ sym (asked_more before due) ∙ ap asked (sym (longer (due_in (sorts_in v) (trees_in v)) ds i d h e))) collected
+
+pub due_stops : (v u : TableValue) → Widens v u → (steps i : ℕ) (ds : List program.Due) (d : program.Due) (s : Stop) →
+    AreDuesReady (sorts_in v) (trees_in v) ds → i < length ds → d ≡ get_or ds i d →
+    AreInsideClosed (walk (sorts_in v) steps) (dues_in (sorts_in v) (trees_in v) ds) →
+    GoalsStop (walk (sorts_in u) steps) (due_in (sorts_in u) (trees_in u) d) s →
+    final_outcome (walk (sorts_in v) steps) (drop i (dues_in (sorts_in v) (trees_in v) ds)) ≡ stop_in s
+due_stops v u wider steps i ds d s ready h e all stops =
+    let W = walk (sorts_in v) steps in
+    let due = due_in (sorts_in v) (trees_in v) d in
+    let parts = facts_at (sorts_in v) (trees_in v) ds i d ready h e in
+    let same = due_stays v u wider d parts.0 parts.1 in
+    let rest = drop (i + 1) (dues_in (sorts_in v) (trees_in v) ds) in
+    let split = further (due_in (sorts_in v) (trees_in v)) ds i d h e in
+    let here : GoalsStop W due s =
+    λ (later : Outcome (ℕ × Verdict)).
+    sym (λ k. goals_outcome (walk (wider.sorts k) steps (same k).facts) (same k).node 0 (same k).goals later) ∙ stops later in
+    let final = stops_final W due s (inside_at W (dues_in (sorts_in v) (trees_in v) ds) rest i due all split) here in
+    ap (final_outcome W) split
+    ∙ ap (λ (b : Bool). if b then goals_outcome (W due.facts) due.node 0 due.goals (final_outcome W rest) else final_outcome W rest) final
+    ∙ here (final_outcome W rest)
+
+-- by what the node's goals came to
+pub due_passed : (v u w : TableValue) → Widens v u → (steps i : ℕ) (ds : List program.Due) (d : program.Due) →
+    AreDuesReady (sorts_in v) (trees_in v) ds → i < length ds → d ≡ get_or ds i d → (new : List CertTree) (o : Option Stop) →
+    is_some o ≡ false →
+    MatchOption o
+    (GoalsClose (walk (sorts_in u) steps) (due_in (sorts_in u) (trees_in u) d)
+    × AreCollected w (asked (take i (dues_in (sorts_in v) (trees_in v) ds))
+    ++ goals_with (due_in (sorts_in u) (trees_in u) d).facts (due_in (sorts_in u) (trees_in u) d).goals) new)
+    (GoalsStop (walk (sorts_in u) steps) (due_in (sorts_in u) (trees_in u) d)) →
+    AreCollected w (asked (take (i + 1) (dues_in (sorts_in v) (trees_in v) ds))) new
+    × (let whole : Outcome (ℕ × Verdict) = final_outcome (walk (sorts_in v) steps) (drop i (dues_in (sorts_in v) (trees_in v) ds)) in
+    whole ≡ final_outcome (walk (sorts_in v) steps) (drop (i + 1) (dues_in (sorts_in v) (trees_in v) ds)))
+due_passed v u w wider steps i ds d ready h e new None is both =
+    (due_asked v u w wider i ds d new ready h e both.1, due_left v u wider steps i ds d ready h e both.0)
+due_passed v u w wider steps i ds d ready h e new (Some s) is both = different is
+
+pub due_ended : (v u w : TableValue) → Widens v u → (steps i : ℕ) (ds : List program.Due) (d : program.Due) →
+    AreDuesReady (sorts_in v) (trees_in v) ds → i < length ds → d ≡ get_or ds i d →
+    AreInsideClosed (walk (sorts_in v) steps) (dues_in (sorts_in v) (trees_in v) ds) →
+    (before : List (List Assertion × Assertion)) (new : List CertTree) →
+    (let whole : Outcome (ℕ × Verdict) = final_outcome (walk (sorts_in v) steps) (dues_in (sorts_in v) (trees_in v) ds) in
+    whole ≡ final_outcome (walk (sorts_in v) steps) (drop i (dues_in (sorts_in v) (trees_in v) ds))) →
+    (o : Option Stop) → is_some o ≡ true →
+    MatchOption o
+    (GoalsClose (walk (sorts_in u) steps) (due_in (sorts_in u) (trees_in u) d)
+    × AreCollected w (before ++ goals_with (due_in (sorts_in u) (trees_in u) d).facts (due_in (sorts_in u) (trees_in u) d).goals) new)
+    (GoalsStop (walk (sorts_in u) steps) (due_in (sorts_in u) (trees_in u) d)) →
+    MatchOption o
+    (FinalCloses (walk (sorts_in v) steps) (dues_in (sorts_in v) (trees_in v) ds)
+    × AreCollected w (asked (dues_in (sorts_in v) (trees_in v) ds)) new)
+    (FinalStops (walk (sorts_in v) steps) (dues_in (sorts_in v) (trees_in v) ds))
+due_ended v u w wider steps i ds d ready h e inside before new closes None is both = different (sym is)
+due_ended v u w wider steps i ds d ready h e inside before new closes (Some s) is stops =
+    closes ∙ due_stops v u wider steps i ds d s ready h e inside stops
+
+-- all of them
+pub dues_done : (v w : TableValue) (steps i : ℕ) (ds : List program.Due) → length ds ≤ i → (new : List CertTree) →
+    AreCollected w (asked (take i (dues_in (sorts_in v) (trees_in v) ds))) new →
+    (let whole : Outcome (ℕ × Verdict) = final_outcome (walk (sorts_in v) steps) (dues_in (sorts_in v) (trees_in v) ds) in whole)
+    ≡ final_outcome (walk (sorts_in v) steps) (drop i (dues_in (sorts_in v) (trees_in v) ds)) →
+    FinalCloses (walk (sorts_in v) steps) (dues_in (sorts_in v) (trees_in v) ds)
+    × AreCollected w (asked (dues_in (sorts_in v) (trees_in v) ds)) new
+dues_done v w steps i ds h new collected closes =
+    let all = dues_in (sorts_in v) (trees_in v) ds in
+    let count = map_count (due_in (sorts_in v) (trees_in v)) ds in
+    let past : length all ≤ i = omega (arith, count, h) in (
+      closes ∙ ap (final_outcome (walk (sorts_in v) steps)) (drop_all i all past),
+      subst (λ (l : List Due). AreCollected w (asked l) new) (take_all i all past) collected,
+    )

@@ -1,0 +1,111 @@
+-- Rounds: marks after what the nodes ask, what is next, and what settles.
+use Rattle.std.proofs.Common.{◌≡◌, ℕ, zero, suc, ◌+◌, ◌<◌, ◌≤◌, Bool, true, false, not, ◌&&◌, ◌||◌, if◌then◌else◌, Option, None}
+use Rattle.std.proofs.Common.{List, [], ◌∷◌, ◌++◌, map, length, take, get_or, slice_get, refl, sym, ap, ◌∙◌, subst, arith}
+use Rattle.std.specs.List.{list_all}
+use Rattle.std.proofs.lemmas.List.{take-map, map-append}
+use Rattle.std.proofs.lemmas.List.Folds.{list_all-append}
+use Rattle.sm_syntax.specs.text.Parts.{Parts, sort_of}
+use Rattle.sm_syntax.specs.text.Sorts.{Sorts}
+use Rattle.sm_term.specs.Assertions.{Assertion}
+use Rattle.sm_term.specs.Tables.{TableValue, trees_in, sorts_in}
+use Rattle.sm_term.specs.TableLaws.{Widens}
+use Rattle.sm_term.specs.Terms.{Tree}
+use Rattle.sm_text.specs.declared.task.Task.{Task}
+use Rattle.sm_plan.specs.Plans as plain
+use Rattle.sm_plan.specs.ReadyStates.{AreFormsReady}
+use Rattle.sm_expand.specs.declared.due.Due.{Due}
+use Rattle.sm_expand.specs.Views.{due_in, dues_in, AreDuesReady}
+use Rattle.sm_product.specs.Choices.{Choice}
+use Rattle.sm_product.specs.Products.{sketch_of}
+use Rattle.sm_product.proofs.SketchesWiden.{sketch_stays, sketch_ready}
+use Rattle.sm_houdini.specs.declared.marks.Marked.{Marked}
+use Rattle.sm_houdini.specs.declared.product.Product.{Product}
+use Rattle.sm_houdini.specs.Closing.{closing, stays_at, owner_in, Knows}
+use Rattle.sm_houdini.specs.Marks.{all_marked, numbers_of}
+use Rattle.sm_houdini.specs.Owners.{owners}
+use Rattle.sm_houdini.specs.Rounds.{is_site, closes_if, holds_at, next_round, settled, dues_of, same_choice}
+use Rattle.sm_houdini.proofs.LoopLemmas.{taken}
+use Rattle.sm_houdini.proofs.MarkedLemmas.{all_same, sites_same}
+use Rattle.sm_houdini.proofs.ClosingLemmas.{due_stays}
+
+-- what is known of a task stays while the table widens
+pub knows_stays : (v w : TableValue) → Widens v w → (task : Task) (p : Product) → Knows v task p → Knows w task p
+knows_stays v w wider task p k = record {
+  declared = wider.sorts ∙ k.declared;
+  numbered = k.numbered;
+  sorted = k.sorted;
+  filled = k.filled;
+  sketch = sketch_stays v w wider p.sketch k.ready ∙ k.sketch;
+  ready = sketch_ready v w wider p.sketch k.ready;
+  owned = k.owned;
+}
+
+-- one due more
+and_true : (b : Bool) → (b && true) ≡ b
+and_true true = refl
+and_true false = refl
+
+holds_more : (closes : List Assertion → Assertion → Bool) (owner : plain.Due → Option ℕ) (ds : List plain.Due) (d : plain.Due) (s i : ℕ) →
+    holds_at closes owner (ds ++ d ∷ []) s i
+    ≡ (holds_at closes owner ds s i && (not (is_site (owner d) s) || closes_if (closes d.facts) (slice_get d.goals i)))
+holds_more closes owner ds d s i =
+    let P = λ (e : plain.Due). not (is_site (owner e) s) || closes_if (closes e.facts) (slice_get e.goals i) in
+    list_all-append P ds (d ∷ []) ∙ ap (λ (b : Bool). list_all P ds && b) (and_true (P d))
+
+pub facts_at : (sorts : Sorts) (trees : List Tree) (ds : List Due) (i : ℕ) (d : Due) → AreDuesReady sorts trees ds → i < length ds →
+    d ≡ get_or ds i d → AreFormsReady sorts trees d.facts.list.items × AreFormsReady sorts trees d.targets.list.items
+facts_at sorts trees ds i d ready h e =
+    subst (λ (x : Due). AreFormsReady sorts trees x.facts.list.items × AreFormsReady sorts trees x.targets.list.items) (sym e) (go ds i ready h)
+  where
+    go : (ds : List Due) (i : ℕ) → AreDuesReady sorts trees ds → i < length ds →
+        (let x = get_or ds i d in AreFormsReady sorts trees x.facts.list.items × AreFormsReady sorts trees x.targets.list.items)
+    go [] i r l = absurd (let no : i < 0 = l in omega arith)
+    go (x ∷ xs) zero r l = (r.0, r.1)
+    go (x ∷ xs) (suc i) r l = let fewer : i < length xs = omega (arith, l) in go xs i r.2 fewer
+
+pub dues_taken : (sorts : Sorts) (trees : List Tree) (ds : List Due) (i : ℕ) (d : Due) → i < length ds → d ≡ get_or ds i d →
+    take (i + 1) (dues_in sorts trees ds) ≡ take i (dues_in sorts trees ds) ++ due_in sorts trees d ∷ []
+dues_taken sorts trees ds i d h e =
+    take-map (due_in sorts trees) (i + 1) ds ∙ ap (map (due_in sorts trees)) (taken ds i d h e)
+    ∙ map-append (due_in sorts trees) (take i ds) (d ∷ [])
+    ∙ ap (λ (xs : List plain.Due). xs ++ due_in sorts trees d ∷ []) (sym (take-map (due_in sorts trees) i ds))
+
+pub round_step : (v w : TableValue) → Widens v w → (steps : ℕ) (owner : plain.Due → Option ℕ) (ds : List Due) (i : ℕ) (d : Due)
+    (choice : Choice) (new : List (List Marked)) → AreDuesReady (sorts_in v) (trees_in v) ds → i < length ds → d ≡ get_or ds i d →
+    new ≡ all_marked (λ (s j : ℕ). holds_at (closing (sorts_in v) steps) owner (take i (dues_in (sorts_in v) (trees_in v) ds)) s j
+    && stays_at (sorts_in w) steps owner (due_in (sorts_in w) (trees_in w) d) s j) 0 choice →
+    new ≡ all_marked (holds_at (closing (sorts_in v) steps) owner (take (i + 1) (dues_in (sorts_in v) (trees_in v) ds))) 0 choice
+round_step v w wider steps owner ds i d choice new ready h e judged =
+    let parts = facts_at (sorts_in v) (trees_in v) ds i d ready h e in
+    let due = due_stays v w wider d parts.0 parts.1 in
+    let before = take i (dues_in (sorts_in v) (trees_in v) ds) in
+    judged
+    ∙ (λ k. all_marked (λ (s j : ℕ). holds_at (closing (sorts_in v) steps) owner before s j
+    && stays_at (wider.sorts k) steps owner (due k) s j) 0 choice)
+    ∙ all_same _ (holds_at (closing (sorts_in v) steps) owner (before ++ due_in (sorts_in v) (trees_in v) d ∷ [])) 0 choice
+    (λ (s j : ℕ) (l : 0 ≤ s). sym (holds_more (closing (sorts_in v) steps) owner before (due_in (sorts_in v) (trees_in v) d) s j))
+    ∙ ap (λ (es : List plain.Due). all_marked (holds_at (closing (sorts_in v) steps) owner es) 0 choice)
+    (sym (dues_taken (sorts_in v) (trees_in v) ds i d h e))
+
+-- the next round
+pub round_is : (t : Parts) (sorts : Sorts) (steps : ℕ) (os : List (Option ℕ)) (ds : List plain.Due) (choice c : Choice)
+    (rows : List (List Marked)) → sorts ≡ sort_of t.declared → os ≡ owners None 0 (sketch_of t) → ds ≡ dues_of t choice →
+    rows ≡ all_marked (holds_at (closing sorts steps) (owner_in os) ds) 0 choice → c ≡ map numbers_of rows →
+    c ≡ next_round (closing (sort_of t.declared) steps) t choice
+round_is t sorts steps os ds choice c rows same owned asked made is =
+    is ∙ ap (map numbers_of) made
+    ∙ (λ k. map numbers_of (all_marked (holds_at (closing (same k) steps) (owner_in (owned k)) (asked k)) 0 choice))
+    ∙ sites_same (holds_at (closing (sort_of t.declared) steps) (owner_in (owners None 0 (sketch_of t))) (dues_of t choice)) 0 choice
+
+-- rounds that are left
+pub settles_now : (next : Choice → Choice) (n : ℕ) (choice : Choice) → 0 < n → same_choice (next choice) choice ≡ true →
+    settled next n choice ≡ choice
+settles_now next zero choice h e = absurd (let no : 0 < 0 = h in omega arith)
+settles_now next (suc n) choice h e =
+    ap (λ (b : Bool). if b then choice else settled next n (next choice)) e
+
+pub settles_later : (next : Choice → Choice) (n m : ℕ) (choice : Choice) → n ≡ suc m → same_choice (next choice) choice ≡ false →
+    settled next n choice ≡ settled next m (next choice)
+settles_later next n m choice eq e =
+    ap (λ (k : ℕ). settled next k choice) eq
+    ∙ ap (λ (b : Bool). if b then choice else settled next m (next choice)) e

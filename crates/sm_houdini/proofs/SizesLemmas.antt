@@ -1,0 +1,86 @@
+-- Goals and facts of obligations, counted one by one.
+use Rattle.std.proofs.Common.{Bool, false, ◌&&◌, nat_le, Result, Ok, Err}
+use Rattle.std.proofs.lemmas.Bool.{lt-leb}
+use Rattle.std.proofs.Common.{◌≡◌, ℕ, zero, suc, ◌+◌, ◌<◌, ◌≤◌, List, [], ◌∷◌, ◌++◌, length, take, get_or, refl, sym, ap, ◌∙◌, arith}
+use Rattle.std.proofs.lemmas.List.{take_more, map-append}
+use Rattle.sm_syntax.specs.text.Sorts.{Sorts}
+use Rattle.sm_term.specs.declared.formula.Formula.{Formula}
+use Rattle.sm_term.specs.Terms.{Tree}
+use Rattle.sm_plan.specs.Plans as plain
+use Rattle.sm_plan.specs.Views.{forms_in}
+use Rattle.sm_expand.specs.declared.due.Due.{Due}
+use Rattle.sm_expand.specs.Views.{due_in, dues_in}
+use Rattle.sm_syntax.specs.text.Parts.{Parts, task_of}
+use Rattle.sm_plan.specs.Plans.{Plan, size, Fault, obligations}
+use Rattle.sm_product.specs.Choices.{kept_by}
+use Rattle.sm_product.specs.ProductPlans.{plan_of, full_choice}
+use Rattle.sm_product.specs.Products.{sketch_of}
+use Rattle.sm_product.specs.SketchSizes.{sketch_size}
+use Rattle.sm_product.specs.Sizes.{goals_in, facts_in, is_within, is_small}
+use Rattle.sm_product.proofs.LargeTasks.{plan_size}
+
+module _ (sorts : Sorts) (trees : List Tree) where
+  forms_length : (fs : List Formula) → length (forms_in sorts trees fs) ≡ length fs
+  forms_length [] = refl
+  forms_length (f ∷ fs) = ap suc (forms_length fs)
+
+  goals_append : (ds : List plain.Due) (d : plain.Due) → goals_in (ds ++ d ∷ []) ≡ goals_in ds + length d.goals
+  goals_append [] d = omega arith
+  goals_append (e ∷ ds) d = let rest = goals_append ds d in omega (arith, rest)
+
+  facts_append : (ds : List plain.Due) (d : plain.Due) → facts_in (ds ++ d ∷ []) ≡ facts_in ds + length d.facts
+  facts_append [] d = omega arith
+  facts_append (e ∷ ds) d = let rest = facts_append ds d in omega (arith, rest)
+
+  front : (ds : List Due) (i : ℕ) (d : Due) → i < length ds → d ≡ get_or ds i d →
+      dues_in sorts trees (take (i + 1) ds) ≡ dues_in sorts trees (take i ds) ++ due_in sorts trees d ∷ []
+  front ds i d h e =
+      ap (dues_in sorts trees) (take_more ds i d h ∙ ap (λ (x : Due). take i ds ++ x ∷ []) (sym e))
+      ∙ map-append (due_in sorts trees) (take i ds) (d ∷ [])
+
+  pub goals_more : (ds : List Due) (i : ℕ) (d : Due) → i < length ds → d ≡ get_or ds i d →
+      goals_in (dues_in sorts trees (take (i + 1) ds)) ≡ goals_in (dues_in sorts trees (take i ds)) + length d.targets.list.items
+  goals_more ds i d h e =
+      ap goals_in (front ds i d h e) ∙ goals_append (dues_in sorts trees (take i ds)) (due_in sorts trees d)
+      ∙ ap (λ (n : ℕ). goals_in (dues_in sorts trees (take i ds)) + n) (forms_length d.targets.list.items)
+
+  pub facts_more : (ds : List Due) (i : ℕ) (d : Due) → i < length ds → d ≡ get_or ds i d →
+      facts_in (dues_in sorts trees (take (i + 1) ds)) ≡ facts_in (dues_in sorts trees (take i ds)) + length d.facts.list.items
+  facts_more ds i d h e =
+      ap facts_in (front ds i d h e) ∙ facts_append (dues_in sorts trees (take i ds)) (due_in sorts trees d)
+      ∙ ap (λ (n : ℕ). facts_in (dues_in sorts trees (take i ds)) + n) (forms_length d.facts.list.items)
+
+  -- those of a front are no more than all
+  pub goals_front : (ds : List Due) (i : ℕ) → goals_in (dues_in sorts trees (take i ds)) ≤ goals_in (dues_in sorts trees ds)
+  goals_front ds zero = omega arith
+  goals_front [] (suc i) = omega arith
+  goals_front (d ∷ ds) (suc i) = let rest = goals_front ds i in omega (arith, rest)
+
+  pub facts_front : (ds : List Due) (i : ℕ) → facts_in (dues_in sorts trees (take i ds)) ≤ facts_in (dues_in sorts trees ds)
+  facts_front ds zero = omega arith
+  facts_front [] (suc i) = omega arith
+  facts_front (d ∷ ds) (suc i) = let rest = facts_front ds i in omega (arith, rest)
+
+-- what is over a limit
+pub over_limit : (n limit : ℕ) → limit < n → false ≡ nat_le n limit
+over_limit n limit h = sym (lt-leb n limit h)
+
+pub within_is : (n : ℕ) (ds : List plain.Due) (b : Bool) → b ≡ (nat_le (n + goals_in ds) 200000 && nat_le (facts_in ds) 10000000) →
+    b ≡ is_within n (Ok ds)
+unfolding is_within
+within_is n ds b e = e
+
+none_within : (n : ℕ) (w : Fault) → false ≡ is_within n (Err w)
+unfolding is_within
+none_within n w = refl
+
+-- whether a task is small, by the obligations of its plan
+pub small_is : (t : Parts) (n : ℕ) (p : Plan) (r : Result (List plain.Due) Fault) (b : Bool) → p ≡ plan_of t (full_choice t) →
+    n ≡ sketch_size (sketch_of t) → obligations (task_of t) p ≡ r → b ≡ is_within n r → b ≡ is_small t
+small_is t n p r b same nodes asks h =
+    h ∙ (λ k. is_within ((nodes ∙ sym (plan_size (kept_by (full_choice t)) 0 (sketch_of t))) k)
+    ((sym asks ∙ ap (obligations (task_of t)) same) k))
+
+pub not_small : (t : Parts) (n : ℕ) (p : Plan) (w : Fault) → p ≡ plan_of t (full_choice t) → n ≡ sketch_size (sketch_of t) →
+    obligations (task_of t) p ≡ Err w → false ≡ is_small t
+not_small t n p w same nodes asks = small_is t n p (Err w) false same nodes asks (none_within n w)

@@ -1,0 +1,8 @@
+-- How many are chosen so far.
+use Rattle.std.proofs.Common.{◌≡◌, take}
+use Rattle.sm_houdini.specs.Marks.{rows}
+use Rattle.sm_houdini.specs.Rounds.{total}
+use Rattle.sm_houdini.proofs.choosing.total.Given as goal
+
+abbrev pub invariant-loop-numbers : goal.invariant-loop-numbers
+invariant-loop-numbers l = l.count ≡ total (rows (take l.numbers-index l.numbers-items))

@@ -1,0 +1,32 @@
+use Rattle.std.proofs.Common.{List, length, sym, subst, ◌∙◌, ap}
+use Rattle.sm_term.specs.declared.formula.Formula.{Formula}
+use Rattle.sm_term.specs.Assertions.{Assertion}
+use Rattle.sm_term.specs.Formulas.{numbered, assertion_in}
+use Rattle.sm_term.specs.Sorted.{AreFormsSorted}
+use Rattle.sm_term.specs.Tables.{trees_in, sorts_in}
+use Rattle.sm_solve.specs.Parts.{all_numbered, assertions_in, AreFormulasWithin}
+use Rattle.sm_solve.specs.Walk.{walk}
+use Rattle.sm_houdini.specs.Closing.{closing}
+use Rattle.sm_houdini.proofs.ClosingLemmas.{forms_within, forms_same, forms_sorted}
+use Rattle.sm_houdini.proofs.closing.closes.Goals as goal
+
+pub solve-requires-clause-facts : goal.solve-requires-clause-facts
+solve-requires-clause-facts c =
+    let sorts = sorts_in c.args.table.now in let trees = trees_in c.args.table.now in
+    subst (λ (fs : List Formula). AreFormulasWithin (length trees) (all_numbered fs)) (sym c.deref.ensures.value)
+    (forms_within sorts trees c.args.facts.now.list.items c.requires.facts)
+
+pub solve-requires-clause-facts_sorted : goal.solve-requires-clause-facts_sorted
+solve-requires-clause-facts_sorted c =
+    let sorts = sorts_in c.args.table.now in let trees = trees_in c.args.table.now in
+    subst (λ (fs : List Formula). AreFormsSorted sorts (assertions_in sorts trees (all_numbered fs))) (sym c.deref.ensures.value)
+    (forms_sorted sorts trees c.args.facts.now.list.items c.requires.facts)
+
+pub returns-clause-closes : goal.returns-clause-closes
+returns-clause-closes c =
+    let sorts = sorts_in c.args.table.now in let trees = trees_in c.args.table.now in
+    let g = assertion_in sorts trees (numbered c.args.goal.now) in
+    c.is_closed.ensures sorts (trees_in c.solve.new.table) (walk sorts c.args.steps (assertions_in sorts trees (all_numbered c.deref.result.now)) g)
+    c.in_ok-answer.ensures.answer
+    ∙ ap (λ (fs : List Formula). closing sorts c.args.steps (assertions_in sorts trees (all_numbered fs)) g) c.deref.ensures.value
+    ∙ ap (λ (fs : List Assertion). closing sorts c.args.steps fs g) (forms_same sorts trees c.args.facts.now.list.items)

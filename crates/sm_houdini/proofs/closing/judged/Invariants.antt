@@ -1,0 +1,17 @@
+-- The marks so far, and the table has no fewer terms.
+use Rattle.std.proofs.Common.{◌≡◌, length, take}
+use Rattle.sm_term.specs.Tables.{trees_in, sorts_in}
+use Rattle.sm_term.specs.TableLaws.{Widens}
+use Rattle.sm_expand.specs.Views.{due_in}
+use Rattle.sm_houdini.specs.Closing.{closes_at}
+use Rattle.sm_houdini.specs.Marks.{still_marked}
+use Rattle.sm_houdini.proofs.closing.judged.Given as goal
+
+abbrev pub invariant-loop-mark : goal.invariant-loop-mark
+invariant-loop-mark l = record {
+  count : length l.list.items ≡ l.mark-index;
+  marks : l.list.items
+      ≡ still_marked (closes_at (sorts_in l.initial.table) l.steps (due_in (sorts_in l.initial.table) (trees_in l.initial.table) l.due)) 0
+      (take l.mark-index l.marks);
+  widens : Widens l.initial.table l.table;
+}

@@ -1,0 +1,18 @@
+use Rattle.std.proofs.Common.{subst}
+use Rattle.sm_text.specs.Tasks.{parts_of}
+use Rattle.sm_product.specs.declared.error.ProductError.{ProductError}
+use Rattle.sm_product.specs.Errors.{TellsSketch}
+use Rattle.sm_product.specs.Products.{sketch_of}
+use Rattle.sm_product.proofs.HolesLemmas.{valid_no_hole}
+use Rattle.sm_product.proofs.LargeTasks.{large_task}
+use Rattle.sm_houdini.proofs.EndedLemmas.{too_many}
+use Rattle.sm_houdini.proofs.deciding.by_plan.Goals as goal
+
+pub sketch_of-requires-clause-no_hole : goal.sketch_of-requires-clause-no_hole
+sketch_of-requires-clause-no_hole c = valid_no_hole (parts_of c.args.task.now) c.requires.valid
+
+pub returns-in-Err-TooMany-clause-tells : goal.returns-in-Err-TooMany-clause-tells
+returns-in-Err-TooMany-clause-tells c =
+    let t = parts_of c.args.task.now in
+    too_many t c.args.steps
+    (large_task t (subst (λ (e : ProductError). TellsSketch e (sketch_of t)) c.in-Err-TooMany.field-0-is c.in-Err-TooMany.ensures.err))

@@ -1,0 +1,16 @@
+use Rattle.sm_syntax.specs.text.Parts.{task_of}
+use Rattle.sm_text.specs.Tasks.{parts_of}
+use Rattle.sm_houdini.proofs.DuesLemmas.{has_parts}
+use Rattle.sm_houdini.proofs.dues.expanded.Goals as goal
+
+pub returns-clause-ok : goal.returns-clause-ok
+returns-clause-ok c =
+    let task = c.args.task.now in
+    c.expand.ensures.ok (task_of (parts_of task))
+    (has_parts task c.args.programs.now c.as_ref-assumed.result c.requires.filled c.as_ref-assumed.ensures.value)
+
+pub returns-clause-err : goal.returns-clause-err
+returns-clause-err c =
+    let task = c.args.task.now in
+    c.expand.ensures.err (task_of (parts_of task))
+    (has_parts task c.args.programs.now c.as_ref-assumed.result c.requires.filled c.as_ref-assumed.ensures.value)

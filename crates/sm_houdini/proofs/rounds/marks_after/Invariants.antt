@@ -1,0 +1,18 @@
+-- The marks after the dues so far.
+use Rattle.std.proofs.Common.{◌≡◌, take}
+use Rattle.sm_term.specs.Tables.{trees_in, sorts_in}
+use Rattle.sm_term.specs.TableLaws.{Widens}
+use Rattle.sm_expand.specs.Views.{dues_in}
+use Rattle.sm_product.specs.ChoiceViews.{choice_in}
+use Rattle.sm_houdini.specs.Closing.{closing, owner_in}
+use Rattle.sm_houdini.specs.Marks.{all_marked, rows}
+use Rattle.sm_houdini.specs.Rounds.{holds_at}
+use Rattle.sm_houdini.proofs.rounds.marks_after.Given as goal
+
+abbrev pub invariant-loop-due : goal.invariant-loop-due
+invariant-loop-due l = record {
+  marks : rows l.marks.sites.items
+      ≡ all_marked (holds_at (closing (sorts_in l.initial.table) l.steps) (owner_in l.owners)
+      (take l.due-index (dues_in (sorts_in l.initial.table) (trees_in l.initial.table) l.dues))) 0 (choice_in l.choice);
+  widens : Widens l.initial.table l.table;
+}

@@ -1,0 +1,20 @@
+-- What is left to be settled.
+use Rattle.std.proofs.Common.{◌≡◌, ◌-◌}
+use Rattle.sm_syntax.specs.text.Parts.{sort_of}
+use Rattle.sm_syntax.specs.trees.Programs.{declared_of}
+use Rattle.sm_term.specs.TableLaws.{Widens}
+use Rattle.sm_text.specs.Tasks.{parts_of}
+use Rattle.sm_product.specs.ChoiceViews.{choice_in}
+use Rattle.sm_houdini.specs.Closing.{closing}
+use Rattle.sm_houdini.specs.Rounds.{next_round, settled, total}
+use Rattle.sm_houdini.proofs.rounds.settled.Given as goal
+
+abbrev pub invariant-loop : goal.invariant-loop
+invariant-loop l = record {
+  settles :
+      settled (next_round (closing (sort_of (declared_of l.task.shared.decls)) l.steps) (parts_of l.task)) (l.rounds - l.counter)
+      (choice_in l.choice)
+      ≡ settled (next_round (closing (sort_of (declared_of l.task.shared.decls)) l.steps) (parts_of l.task))
+      (total (choice_in l.initial.choice)) (choice_in l.initial.choice);
+  widens : Widens l.initial.table l.table;
+}

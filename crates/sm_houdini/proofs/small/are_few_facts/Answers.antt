@@ -1,0 +1,30 @@
+-- Where it is over the limit, so is the whole.
+use Rattle.std.proofs.Common.{◌≡◌, ◌+◌, ◌<◌, length, ap, arith}
+use Rattle.sm_expand.specs.Views.{dues_in}
+use Rattle.sm_product.specs.Sizes.{facts_in}
+use Rattle.sm_houdini.proofs.SizesLemmas.{facts_more, facts_front, over_limit}
+use Rattle.sm_houdini.proofs.small.are_few_facts.Goals as goal
+
+pub returns-then-more-count : goal.returns-then-more-count
+returns-then-more-count c = λ sorts trees.
+    let ds = c.args.dues.now in
+    let i = c.loop-due.due-index in
+    let same : length c.as_slice.result.now ≡ length c.due-item.result.facts.list.items =
+    ap (λ l. length l) c.as_slice.ensures.value in
+    let more = facts_more sorts trees ds i c.due-item.result c.loop-due-test.true c.due-item.is in
+    let part = facts_front sorts trees ds (i + 1) in
+    let count = c.loop-due.invariant.count sorts trees in
+    let over : 10000000 < facts_in (dues_in sorts trees ds) =
+    omega (arith, same, more, part, count, c.if-more-count.true, c.loop-due.invariant.few) in
+    over_limit (facts_in (dues_in sorts trees ds)) 10000000 over
+
+pub loop-due-preserved : goal.loop-due-preserved
+loop-due-preserved c = record {
+  few = omega (arith, c.if-more-count.false, c.loop-due.invariant.few);
+  count = λ sorts trees.
+      let same : length c.as_slice.result.now ≡ length c.due-item.result.facts.list.items =
+      ap (λ l. length l) c.as_slice.ensures.value in
+      let more = facts_more sorts trees c.args.dues.now c.loop-due.due-index c.due-item.result c.loop-due-test.true c.due-item.is in
+      let count = c.loop-due.invariant.count sorts trees in
+      omega (arith, same, more, count);
+}

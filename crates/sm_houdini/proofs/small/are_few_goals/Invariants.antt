@@ -1,0 +1,13 @@
+-- How many there are so far.
+use Rattle.std.proofs.Common.{◌≡◌, ◌+◌, ◌≤◌, List, take}
+use Rattle.sm_syntax.specs.text.Sorts.{Sorts}
+use Rattle.sm_term.specs.Terms.{Tree}
+use Rattle.sm_expand.specs.Views.{dues_in}
+use Rattle.sm_product.specs.Sizes.{goals_in}
+use Rattle.sm_houdini.proofs.small.are_few_goals.Given as goal
+
+abbrev pub invariant-loop-due : goal.invariant-loop-due
+invariant-loop-due l = record {
+  few : l.count ≤ 200000;
+  count : (sorts : Sorts) (trees : List Tree) → l.count ≡ l.nodes + goals_in (dues_in sorts trees (take l.due-index l.dues));
+}

@@ -1,0 +1,22 @@
+-- Both limits.
+use Rattle.std.proofs.Common.{nat_le, Bool, ◌&&◌, sym, ap, ◌∙◌}
+use Rattle.sm_expand.specs.Views.{dues_in}
+use Rattle.sm_product.specs.Sizes.{facts_in}
+use Rattle.sm_houdini.proofs.SizesLemmas.{within_is}
+use Rattle.sm_houdini.proofs.small.are_within.Goals as goal
+
+pub returns-then-are_few_goals : goal.returns-then-are_few_goals
+returns-then-are_few_goals c = λ sorts trees.
+    let ds = dues_in sorts trees c.args.dues.now in
+    within_is c.args.nodes ds c.are_few_facts.result
+    (c.are_few_facts.ensures sorts trees
+    ∙ ap (λ (b : Bool). b && nat_le (facts_in ds) 10000000)
+    (sym (sym (c.are_few_goals.ensures sorts trees) ∙ c.if-are_few_goals.true)))
+
+pub returns-else-are_few_goals : goal.returns-else-are_few_goals
+returns-else-are_few_goals c = λ sorts trees.
+    let ds = dues_in sorts trees c.args.dues.now in
+    within_is c.args.nodes ds c.are_few_goals.result
+    (c.if-are_few_goals.false
+    ∙ ap (λ (b : Bool). b && nat_le (facts_in ds) 10000000)
+    (sym (sym (c.are_few_goals.ensures sorts trees) ∙ c.if-are_few_goals.false)))

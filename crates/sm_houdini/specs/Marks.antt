@@ -1,0 +1,30 @@
+-- Private: templates of sites, each with a mark that says whether it is still there.
+use Rattle.std.specs.Prelude.{ℕ, suc, Bool, ◌&&◌, if◌then◌else◌, List, [], ◌∷◌, map, Vec}
+use Rattle.std.specs.declared.alloc.Global.{Global}
+use Rattle.sm_product.specs.Choices.{Choice}
+use Rattle.sm_houdini.specs.declared.marks.Marked.{Marked}
+
+-- numbers of templates, each marked by whether its place, counted from i on, passes
+abbrev pub marked : (ℕ → Bool) → ℕ → List ℕ → List Marked
+marked passes i [] = []
+marked passes i (n ∷ rest) = record { number = n; holds = passes i } ∷ marked passes (suc i) rest
+
+-- the same of each site, counted from s on
+abbrev pub all_marked : (ℕ → ℕ → Bool) → ℕ → Choice → List (List Marked)
+all_marked passes s [] = []
+all_marked passes s (ns ∷ rest) = marked (passes s) 0 ns ∷ all_marked passes (suc s) rest
+
+-- marks that stay only where their places, counted from i on, pass
+abbrev pub still_marked : (ℕ → Bool) → ℕ → List Marked → List Marked
+still_marked passes i [] = []
+still_marked passes i (m ∷ rest) =
+    record { number = m.number; holds = m.holds && passes i } ∷ still_marked passes (suc i) rest
+
+-- the numbers whose marks are there
+abbrev pub numbers_of : List Marked → List ℕ
+numbers_of [] = []
+numbers_of (m ∷ rest) = if m.holds then m.number ∷ numbers_of rest else numbers_of rest
+
+-- the rows of lists of lists
+abbrev pub rows : {X : Type 0} → List (Vec X Global) → List (List X)
+rows vs = map (λ v. v.items) vs

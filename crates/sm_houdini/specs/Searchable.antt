@@ -1,0 +1,31 @@
+-- Private: what is known where a search ends.
+use Rattle.std.specs.Prelude.{◌≡◌, ℕ, List}
+use Rattle.sm_syntax.specs.text.Parts.{Parts, sort_of, task_of}
+use Rattle.sm_term.specs.Tables.{TableValue}
+use Rattle.sm_expand.specs.declared.plan.Plan.{Plan}
+use Rattle.sm_product.specs.declared.whole.CertTrees.{CertTrees}
+use Rattle.sm_replay.specs.declared.verdict.Verdict.{Verdict}
+use Rattle.sm_solve.specs.Walk.{walk}
+use Rattle.sm_houdini.specs.declared.ending.Stop.{Stop}
+use Rattle.sm_houdini.specs.declared.outcome.Outcome as program
+use Rattle.sm_houdini.specs.Collected.{stop_in}
+use Rattle.sm_houdini.specs.Outcomes.{Outcome, Accepted, plan_outcome}
+use Rattle.sm_houdini.specs.Views.{outcome_in, IsWhole}
+
+-- what the plan of a task decides
+abbrev pub plan_decides : Parts → ℕ → Outcome (ℕ × Verdict)
+plan_decides t steps = plan_outcome (walk (sort_of t.declared) steps) t
+
+-- an outcome is what the plan of a task decides
+abbrev pub TellsPlan : Parts → ℕ → program.Outcome → Type 0
+TellsPlan t steps o = outcome_in o ≡ plan_decides t steps
+
+-- so it is of a search that stops
+abbrev pub TellsStop : Parts → ℕ → Stop → Type 0
+TellsStop t steps s = stop_in s ≡ plan_decides t steps
+
+-- a plan over a table with certificates, by which a task is accepted
+pub record Accepts (t : Parts) (steps : ℕ) (v : TableValue) (p : Plan) (trees : CertTrees) :
+    Type 0 where
+  pub tells : (let accepted : Outcome (ℕ × Verdict) = Accepted in accepted) ≡ plan_decides t steps
+  pub whole : IsWhole t (record { table = v; plan = p; trees = trees })

@@ -1,0 +1,111 @@
+// Goals that close.
+ghost use Rattle.std.specs.Prelude.{◌≡◌, ◌&&◌, List, IfOk};
+ghost use Rattle.sm_syntax.specs.text.Sorts.{Sorts};
+ghost use Rattle.sm_term.specs.Formulas.{numbered, assertion_in};
+ghost use Rattle.sm_term.specs.Tables.{trees_in, sorts_in};
+ghost use Rattle.sm_term.specs.TableLaws.{Widens};
+ghost use Rattle.sm_term.specs.Terms.{Tree};
+ghost use Rattle.sm_plan.specs.ReadyStates.{IsFormReady, AreFormsReady};
+ghost use Rattle.sm_plan.specs.Views.{forms_in};
+ghost use Rattle.sm_expand.specs.Views.{due_in};
+ghost use Rattle.sm_solve.specs.Answers.{Tells};
+ghost use Rattle.sm_solve.specs.Walk.{Walked};
+ghost use Rattle.sm_houdini.specs.Closing.{closing, closes_at};
+ghost use Rattle.sm_houdini.specs.Marks.{still_marked};
+ghost use Rattle.sm_houdini.specs.Outcomes.{is_closing};
+
+use crate::marks::Marked;
+use sm_expand::Due;
+use sm_plan::Formulas;
+use sm_solve::{Answer, solve};
+use sm_term::{Formula, TermTable};
+use std::alloc::{AllocError, Global};
+
+// Whether an answer is a certificate.
+fn is_closed(answer: &Answer) -> bool
+    ensures { (sorts : Sorts) (trees : List Tree) (w : Walked) →
+        Tells sorts trees answer.now w → result ≡ is_closing w }
+{
+    match answer {
+        Answer::Closed(_) => true,
+        Answer::Open { .. } => false,
+        Answer::Steps => false,
+        Answer::Coefficient { .. } => false,
+    }
+}
+
+// Whether a goal closes over facts.
+fn closes(
+    alloc: Global,
+    table: &mut TermTable,
+    facts: &Formulas,
+    goal: &Formula,
+    steps: u64,
+) -> Result<bool, AllocError>
+    requires facts { AreFormsReady (sorts_in table.old) (trees_in table.old)
+        facts.now.list.items }
+    requires goal { IsFormReady (sorts_in table.old) (trees_in table.old) goal.now }
+    ensures closes { let sorts = sorts_in table.old in let trees = trees_in table.old in
+        IfOk result (λ b. b ≡ closing sorts steps (forms_in sorts trees facts.now.list.items)
+        (assertion_in sorts trees (numbered goal.now))) }
+    ensures widens { Widens table.old table.new }
+{
+    let answer = solve(alloc, table, &facts.list, goal, steps)?;
+    Ok(is_closed(&answer))
+}
+
+// Whether a mark stays at a template after what a node asks of it.
+fn stays(
+    alloc: Global,
+    table: &mut TermTable,
+    due: &Due,
+    at: u64,
+    holds: bool,
+    steps: u64,
+) -> Result<bool, AllocError>
+    requires facts { AreFormsReady (sorts_in table.old) (trees_in table.old)
+        due.now.facts.list.items }
+    requires goals { AreFormsReady (sorts_in table.old) (trees_in table.old)
+        due.now.targets.list.items }
+    ensures stays { let sorts = sorts_in table.old in let trees = trees_in table.old in
+        IfOk result (λ b.
+        b ≡ (holds && closes_at sorts steps (due_in sorts trees due.now) at)) }
+    ensures widens { Widens table.old table.new }
+{
+    if !holds {
+        return Ok(false);
+    }
+    match due.targets.list.get(at as usize) {
+        Some(goal) => closes(alloc, table, &due.facts, goal, steps),
+        None => Ok(true),
+    }
+}
+
+// The marks of a site after what a node asks.
+pub(crate) fn judged(
+    alloc: Global,
+    table: &mut TermTable,
+    due: &Due,
+    marks: &[Marked],
+    steps: u64,
+) -> Result<Vec<Marked>, AllocError>
+    requires facts { AreFormsReady (sorts_in table.old) (trees_in table.old)
+        due.now.facts.list.items }
+    requires goals { AreFormsReady (sorts_in table.old) (trees_in table.old)
+        due.now.targets.list.items }
+    ensures judged { let sorts = sorts_in table.old in let trees = trees_in table.old in
+        IfOk result (λ ms. ms.items
+        ≡ still_marked (closes_at sorts steps (due_in sorts trees due.now)) 0 marks.now) }
+    ensures widens { Widens table.old table.new }
+{
+    let mut list = Vec::new(alloc);
+    for mark in marks {
+        let at = list.as_slice().len() as u64;
+        let holds = stays(alloc, table, due, at, mark.holds, steps)?;
+        list.push(Marked {
+            number: mark.number,
+            holds,
+        })?;
+    }
+    Ok(list)
+}

@@ -1,0 +1,200 @@
+// What the plan of a task decides.
+ghost use Rattle.std.specs.Prelude.{◌≡◌, None, true, false, Ok, List, IfOk, MatchOption};
+ghost use Rattle.std.specs.Prelude.{MatchResult};
+ghost use Rattle.sm_syntax.specs.text.Conditions.{first_refusal};
+ghost use Rattle.sm_syntax.specs.text.Parts.{sort_of, task_of};
+ghost use Rattle.sm_syntax.specs.trees.Programs.{declared_of};
+ghost use Rattle.sm_term.specs.Tables.{trees_in, sorts_in};
+ghost use Rattle.sm_term.specs.TableLaws.{Widens};
+ghost use Rattle.sm_text.specs.Tasks.{parts_of};
+ghost use Rattle.sm_task.specs.Filling.{AreFilled};
+ghost use Rattle.sm_plan.specs.Plans as plans;
+ghost use Rattle.sm_plan.specs.Plans.{obligations};
+ghost use Rattle.sm_plan.specs.SortedStates.{IsTaskSorted};
+ghost use Rattle.sm_plan.specs.Starts.{AreNumbered};
+ghost use Rattle.sm_expand.specs.NumberedPlans.{IsPlanReady};
+ghost use Rattle.sm_expand.specs.Views.{numbered_plan, plan_in, dues_in, AreDuesReady};
+ghost use Rattle.sm_product.specs.ChoiceViews.{choice_in};
+ghost use Rattle.sm_product.specs.ProductPlans.{full_choice};
+ghost use Rattle.sm_product.specs.Products as products;
+ghost use Rattle.sm_product.specs.Sizes as sizes;
+ghost use Rattle.sm_product.specs.SketchViews.{sketch_in, IsSketchReady};
+ghost use Rattle.sm_houdini.specs.Closing.{closing, Knows};
+ghost use Rattle.sm_houdini.specs.Rounds.{kept};
+ghost use Rattle.sm_houdini.specs.Searchable.{TellsPlan, TellsStop, Accepts};
+ghost use Rattle.sm_houdini.specs.Views.{IsProof};
+
+use crate::dues::expanded;
+use crate::ending::{Stop, end_all, stopped};
+use crate::outcome::{Outcome, Proof};
+use crate::product::Product;
+use crate::rounds::settled;
+use crate::sites::{Sites, sites_of};
+use crate::small::is_small;
+use sm_expand::{Obligations, Plan, PlanFault};
+use sm_product::{CertTrees, ProductError, Sketch, TemplateChoice, plan_with, sketch_of};
+use sm_syntax::{Block, PerCopy};
+use sm_term::TermTable;
+use sm_text::Task;
+use std::alloc::{AllocError, Global};
+
+// The obligations of a plan that has some.
+fn all_asked(
+    alloc: Global,
+    table: &mut TermTable,
+    task: &Task,
+    product: &Product,
+    plan: &Plan,
+) -> Result<Obligations, AllocError>
+    requires knows { Knows table.old task.now product.now }
+    requires ready { IsPlanReady (sorts_in table.old) (trees_in table.old)
+        (numbered_plan plan.now) }
+    requires expands { let p = plan_in (sorts_in table.old) (trees_in table.old) plan.now in
+        (ds : List plans.Due) × (obligations (task_of (parts_of task.now)) p ≡ Ok ds) }
+    ensures dues { let p = plan_in (sorts_in table.old) (trees_in table.old) plan.now in
+        IfOk result (λ o. obligations (task_of (parts_of task.now)) p
+        ≡ Ok (dues_in (sorts_in table.new) (trees_in table.new) o.list.items)) }
+    ensures ready { IfOk result (λ o.
+        AreDuesReady (sorts_in table.new) (trees_in table.new) o.list.items) }
+    ensures widens { Widens table.old table.new }
+{
+    match expanded(alloc, table, task, &product.programs, plan) {
+        Ok(dues) => Ok(dues),
+        Err(PlanFault::Wrong { .. }) => unreachable!(),
+        Err(PlanFault::Deep) => unreachable!(),
+        Err(PlanFault::Memory) => Err(AllocError),
+    }
+}
+
+// The plan under the templates that are kept, with its certificates, or why there is none.
+fn ended(
+    alloc: Global,
+    table: &mut TermTable,
+    task: &Task,
+    product: &Product,
+    choice: &TemplateChoice,
+    steps: u64,
+) -> Result<Result<(Plan, CertTrees), Stop>, AllocError>
+    requires knows { Knows table.old task.now product.now }
+    requires valid { first_refusal (parts_of task.now) ≡ None }
+    requires small { sizes.is_small (parts_of task.now) ≡ true }
+    requires kept { choice_in choice.now
+        ≡ kept (closing (sort_of (declared_of task.now.shared.decls)) steps) (parts_of task.now) }
+    ensures ends { IfOk result (λ r. MatchResult r
+        (λ p. Accepts (parts_of task.now) steps table.new p.0 p.1)
+        (TellsStop (parts_of task.now) steps)) }
+    ensures widens { Widens table.old table.new }
+{
+    let plan = plan_with(alloc, &product.sketch, choice)?;
+    let dues = all_asked(alloc, table, task, product, &plan)?;
+    let mut list = Vec::new(alloc);
+    match end_all(alloc, table, &dues.list, &mut list, steps)? {
+        Some(stop) => Ok(Err(stop)),
+        None => Ok(Ok((plan, CertTrees { list }))),
+    }
+}
+
+// What the plan under the templates that are kept decides.
+fn decided(
+    alloc: Global,
+    table: TermTable,
+    task: &Task,
+    product: &Product,
+    choice: &TemplateChoice,
+    steps: u64,
+) -> Result<Outcome, AllocError>
+    requires knows { Knows table task.now product.now }
+    requires valid { first_refusal (parts_of task.now) ≡ None }
+    requires small { sizes.is_small (parts_of task.now) ≡ true }
+    requires kept { choice_in choice.now
+        ≡ kept (closing (sort_of (declared_of task.now.shared.decls)) steps) (parts_of task.now) }
+    ensures tells { IfOk result (TellsPlan (parts_of task.now) steps) }
+    ensures proof { IfOk result (IsProof (parts_of task.now)) }
+{
+    let mut table = table;
+    match ended(alloc, &mut table, task, product, choice, steps)? {
+        Ok((plan, trees)) => Ok(Outcome::Accepted(Proof { table, plan, trees })),
+        Err(stop) => Ok(stopped(stop)),
+    }
+}
+
+// The templates that are kept, where the plan of all is small.
+fn kept_if_small(
+    alloc: Global,
+    table: &mut TermTable,
+    task: &Task,
+    product: &Product,
+    full: TemplateChoice,
+    steps: u64,
+) -> Result<Option<TemplateChoice>, AllocError>
+    requires knows { Knows table.old task.now product.now }
+    requires full { choice_in full ≡ full_choice (parts_of task.now) }
+    ensures kept { let closes = closing (sort_of (declared_of task.now.shared.decls)) steps in
+        IfOk result (λ r. MatchOption r
+        (sizes.is_small (parts_of task.now) ≡ false)
+        (λ c. (sizes.is_small (parts_of task.now) ≡ true)
+        × (choice_in c ≡ kept closes (parts_of task.now)))) }
+    ensures widens { Widens table.old table.new }
+{
+    if !is_small(alloc, table, task, product, &full)? {
+        return Ok(None);
+    }
+    Ok(Some(settled(alloc, table, task, product, full, steps)?))
+}
+
+// What the plan of a sketch decides.
+fn decided_by(
+    alloc: Global,
+    table: TermTable,
+    task: &Task,
+    programs: PerCopy<Block>,
+    sketch: Sketch,
+    steps: u64,
+) -> Result<Outcome, AllocError>
+    requires valid { first_refusal (parts_of task.now) ≡ None }
+    requires declared { sorts_in table ≡ sort_of (declared_of task.now.shared.decls) }
+    requires numbered { AreNumbered (declared_of task.now.shared.decls) }
+    requires sorted { IsTaskSorted (sort_of (declared_of task.now.shared.decls))
+        (task_of (parts_of task.now)) }
+    requires filled { AreFilled (parts_of task.now) programs }
+    requires sketch { sketch_in (sorts_in table) (trees_in table) sketch
+        ≡ products.sketch_of (parts_of task.now) }
+    requires ready { IsSketchReady (sorts_in table) (trees_in table) sketch }
+    ensures tells { IfOk result (TellsPlan (parts_of task.now) steps) }
+    ensures proof { IfOk result (IsProof (parts_of task.now)) }
+{
+    let mut table = table;
+    let Sites { owners, full } = sites_of(alloc, &sketch)?;
+    let product = Product {
+        programs,
+        sketch,
+        owners,
+    };
+    match kept_if_small(alloc, &mut table, task, &product, full, steps)? {
+        Some(kept) => decided(alloc, table, task, &product, &kept, steps),
+        None => Ok(Outcome::TooMany),
+    }
+}
+
+/// What the plan of a task decides.
+pub(crate) fn by_plan(
+    alloc: Global,
+    task: &Task,
+    programs: PerCopy<Block>,
+    steps: u64,
+) -> Result<Outcome, AllocError>
+    requires valid { first_refusal (parts_of task.now) ≡ None }
+    requires sorted { IsTaskSorted (sort_of (declared_of task.now.shared.decls))
+        (task_of (parts_of task.now)) }
+    requires numbered { AreNumbered (declared_of task.now.shared.decls) }
+    requires filled { AreFilled (parts_of task.now) programs }
+    ensures tells { IfOk result (TellsPlan (parts_of task.now) steps) }
+    ensures proof { IfOk result (IsProof (parts_of task.now)) }
+{
+    let mut table = TermTable::new(alloc, &task.shared.decls)?;
+    match sketch_of(alloc, &mut table, task) {
+        Ok(sketch) => decided_by(alloc, table, task, programs, sketch, steps),
+        Err(ProductError::TooMany) => Ok(Outcome::TooMany),
+        Err(ProductError::Memory) => Err(AllocError),
+    }
+}

@@ -1,0 +1,203 @@
+// The end of a search: each goal of the plan closes, or a final one doesn't.
+ghost use Rattle.std.specs.Prelude.{◌≡◌, ◌++◌, ◌∷◌, [], List, IfOk, OnOk, MatchOption, MatchResult};
+ghost use Rattle.sm_syntax.specs.text.Parts.{Parts};
+ghost use Rattle.sm_syntax.specs.text.Sorts.{Sorts};
+ghost use Rattle.sm_term.specs.Assertions.{Assertion};
+ghost use Rattle.sm_term.specs.Formulas.{numbered, assertion_in};
+ghost use Rattle.sm_term.specs.Tables.{trees_in, sorts_in};
+ghost use Rattle.sm_term.specs.TableLaws.{Widens};
+ghost use Rattle.sm_term.specs.Terms.{Tree};
+ghost use Rattle.sm_cert.specs.Views.{certificate_in};
+ghost use Rattle.sm_plan.specs.ReadyStates.{IsFormReady, AreFormsReady};
+ghost use Rattle.sm_plan.specs.Views.{forms_in};
+ghost use Rattle.sm_expand.specs.Views.{due_in, dues_in, AreDuesReady};
+ghost use Rattle.sm_solve.specs.Answers.{Tells};
+ghost use Rattle.sm_solve.specs.declared.solving.Answer.TheVariants as answers;
+ghost use Rattle.sm_solve.specs.Walk.{Walked, walk};
+ghost use Rattle.sm_write.specs.Writable.{IsShort};
+ghost use Rattle.sm_houdini.specs.Certified.{asked};
+ghost use Rattle.sm_houdini.specs.Collected.{AreCollected, goals_with, stop_in, GoalStops};
+ghost use Rattle.sm_houdini.specs.Collected.{GoalCloses, GoalsStop, GoalsClose, FinalStops};
+ghost use Rattle.sm_houdini.specs.Collected.{FinalCloses, IsInsideClosed};
+ghost use Rattle.sm_houdini.specs.Views.{outcome_in, IsProof};
+
+use crate::outcome::Outcome;
+use crate::short::is_short;
+use sm_cert::CertTree;
+use sm_expand::Due;
+use sm_num::Op;
+use sm_plan::Formulas;
+use sm_solve::{Answer, solve};
+use sm_term::{Formula, TermTable};
+use std::alloc::{AllocError, Global};
+
+// Why a goal has no certificate.
+#[derive(Clone, Copy, Debug)]
+pub(crate) enum Stop {
+    Open {
+        node: u64,
+        goal: u64,
+    },
+    Steps {
+        node: u64,
+        goal: u64,
+    },
+    Coefficient {
+        node: u64,
+        goal: u64,
+        op: Op,
+        a: i128,
+        b: i128,
+    },
+}
+
+// The outcome of a search that stops.
+pub(crate) fn stopped(stop: Stop) -> Outcome
+    ensures outcome { outcome_in result ≡ stop_in stop }
+    ensures proof { (t : Parts) → IsProof t result }
+{
+    match stop {
+        Stop::Open { node, goal } => Outcome::Open { node, goal },
+        Stop::Steps { node, goal } => Outcome::Steps { node, goal },
+        Stop::Coefficient {
+            node,
+            goal,
+            op,
+            a,
+            b,
+        } => Outcome::Coefficient {
+            node,
+            goal,
+            op,
+            a,
+            b,
+        },
+    }
+}
+
+// The certificate of an answer, or why there is none.
+fn certificate(answer: Answer, node: u64, goal: u64) -> Result<CertTree, Stop>
+    ensures { MatchResult result (λ tree. answer ≡ answers.Closed tree)
+        (λ s. (sorts : Sorts) (trees : List Tree) (w : Walked) → Tells sorts trees answer w →
+        GoalStops node goal w s) }
+{
+    match answer {
+        Answer::Closed(tree) => Ok(tree),
+        Answer::Open { .. } => Err(Stop::Open { node, goal }),
+        Answer::Steps => Err(Stop::Steps { node, goal }),
+        Answer::Coefficient { op, a, b } => Err(Stop::Coefficient {
+            node,
+            goal,
+            op,
+            a,
+            b,
+        }),
+    }
+}
+
+// Puts a certificate behind others.
+fn put(trees: &mut Vec<CertTree>, tree: CertTree) -> Result<(), AllocError>
+    ensures put { OnOk result (trees.new.items ≡ trees.old.items ++ tree ∷ []) }
+    ensures short { (ts : List Tree) → OnOk result (IsShort (certificate_in ts tree)) }
+{
+    // So many facts fit no memory.
+    if !is_short(&tree) {
+        return Err(AllocError);
+    }
+    trees.push(tree)?;
+    Ok(())
+}
+
+// Puts the certificate of a goal behind others, or tells why there is none.
+fn end_goal(
+    alloc: Global,
+    table: &mut TermTable,
+    facts: &Formulas,
+    goal: &Formula,
+    node: u64,
+    at: u64,
+    trees: &mut Vec<CertTree>,
+    steps: u64,
+) -> Result<Option<Stop>, AllocError>
+    requires facts { AreFormsReady (sorts_in table.old) (trees_in table.old)
+        facts.now.list.items }
+    requires goal { IsFormReady (sorts_in table.old) (trees_in table.old) goal.now }
+    ensures ends { let sorts = sorts_in table.old in let ts = trees_in table.old in
+        let given = forms_in sorts ts facts.now.list.items in
+        let asks = assertion_in sorts ts (numbered goal.now) in
+        (goals : List (List Assertion × Assertion)) →
+        AreCollected table.old goals trees.old.items → IfOk result (λ o. MatchOption o
+        (GoalCloses node at (walk sorts steps given asks)
+        × AreCollected table.new (goals ++ (given, asks) ∷ []) trees.new.items)
+        (GoalStops node at (walk sorts steps given asks))) }
+    ensures widens { Widens table.old table.new }
+{
+    let answer = solve(alloc, table, &facts.list, goal, steps)?;
+    match certificate(answer, node, at) {
+        Ok(tree) => {
+            put(trees, tree)?;
+            Ok(None)
+        }
+        Err(stop) => Ok(Some(stop)),
+    }
+}
+
+// The same of the goals of what a node asks, up to the first for which there is none.
+fn end_due(
+    alloc: Global,
+    table: &mut TermTable,
+    due: &Due,
+    trees: &mut Vec<CertTree>,
+    steps: u64,
+) -> Result<Option<Stop>, AllocError>
+    requires facts { AreFormsReady (sorts_in table.old) (trees_in table.old)
+        due.now.facts.list.items }
+    requires goals { AreFormsReady (sorts_in table.old) (trees_in table.old)
+        due.now.targets.list.items }
+    ensures ends { let sorts = sorts_in table.old in let ts = trees_in table.old in
+        let d = due_in sorts ts due.now in
+        (goals : List (List Assertion × Assertion)) →
+        AreCollected table.old goals trees.old.items → IfOk result (λ o. MatchOption o
+        (GoalsClose (walk sorts steps) d
+        × AreCollected table.new (goals ++ goals_with d.facts d.goals) trees.new.items)
+        (GoalsStop (walk sorts steps) d)) }
+    ensures widens { Widens table.old table.new }
+{
+    let mut at = 0;
+    for goal in &due.targets.list {
+        let end = end_goal(alloc, table, &due.facts, goal, due.node, at, trees, steps)?;
+        if end.is_some() {
+            return Ok(end);
+        }
+        at += 1;
+    }
+    Ok(None)
+}
+
+/// Puts the certificates of all goals behind others, or tells the first final goal for which there
+/// is none. The other goals are known to close.
+pub(crate) fn end_all(
+    alloc: Global,
+    table: &mut TermTable,
+    dues: &[Due],
+    trees: &mut Vec<CertTree>,
+    steps: u64,
+) -> Result<Option<Stop>, AllocError>
+    requires ready { AreDuesReady (sorts_in table.old) (trees_in table.old) dues.now }
+    requires inside { IsInsideClosed table.old steps dues.now }
+    ensures ends { let sorts = sorts_in table.old in let ts = trees_in table.old in
+        let ds = dues_in sorts ts dues.now in
+        AreCollected table.old [] trees.old.items → IfOk result (λ o. MatchOption o
+        (FinalCloses (walk sorts steps) ds
+        × AreCollected table.new (asked ds) trees.new.items)
+        (FinalStops (walk sorts steps) ds)) }
+    ensures widens { Widens table.old table.new }
+{
+    for due in dues {
+        let end = end_due(alloc, table, due, trees, steps)?;
+        if end.is_some() {
+            return Ok(end);
+        }
+    }
+    Ok(None)
+}

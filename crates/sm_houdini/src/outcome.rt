@@ -1,0 +1,46 @@
+// What a search comes to.
+use sm_expand::Plan;
+use sm_num::Op;
+use sm_product::CertTrees;
+use sm_replay::Verdict;
+use sm_term::TermTable;
+
+/// A plan of a task, over a table of terms, with a certificate for each goal that it asks.
+#[derive(Debug, Drop)]
+pub struct Proof {
+    pub table: TermTable,
+    pub plan: Plan,
+    pub trees: CertTrees,
+}
+
+/// What the search for a proof of a task comes to. Nodes and goals of the plan are numbered.
+#[derive(Debug, Drop)]
+pub enum Outcome {
+    /// The plan is shown by its certificates.
+    Accepted(Proof),
+    /// The first trial that violates the task, and where.
+    Conflict {
+        trial: u8,
+        verdict: Verdict,
+    },
+    /// The first final goal that doesn't close: a branch stays open.
+    Open {
+        node: u64,
+        goal: u64,
+    },
+    /// The steps don't suffice for it.
+    Steps {
+        node: u64,
+        goal: u64,
+    },
+    /// An operation leaves the range of linear forms.
+    Coefficient {
+        node: u64,
+        goal: u64,
+        op: Op,
+        a: i128,
+        b: i128,
+    },
+    /// The plan has too many nodes, goals or facts.
+    TooMany,
+}
