@@ -12,7 +12,5 @@
 mod building;
 mod drawing;
 mod generating;
-#[cfg(test)]
-mod tests;
 
 pub use generating::{Generated, generate};

@@ -48,8 +48,6 @@ mod sketching;
 mod template_laws;
 mod templates;
 mod terms;
-#[cfg(test)]
-mod tests;
 mod whole;
 mod written;
 

@@ -24,8 +24,6 @@ mod naming;
 mod nodes;
 mod plans;
 mod states;
-#[cfg(test)]
-mod tests;
 mod text;
 mod trees;
 mod writer;
