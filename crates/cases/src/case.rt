@@ -56,7 +56,8 @@ fn run<R: Threads + Sync>(
     Ok(out)
 }
 
-// The second run, where the first printed the text after which its input stands.
+// The second run, over the same files. Where it has a mark, it runs where the first printed that
+// text, and its input is what stands behind it.
 fn run_then<R: Threads + Sync>(
     rt: &R,
     alloc: Global,
@@ -65,12 +66,14 @@ fn run_then<R: Threads + Sync>(
     shelf: &mut MemShelf,
     report: &mut Vec<u8>,
 ) -> Result<()> {
-    let printed = std::str::from_utf8(printed)?;
-    if let Some((_front, input)) = printed.split_once(text_of(then, "mark")?) {
+    if let Some(mark) = then.get("mark").and_then(Value::as_str) {
+        let Some((_front, input)) = std::str::from_utf8(printed)?.split_once(mark) else {
+            return Ok(());
+        };
         shelf.hold("i", input.as_bytes())?;
-        let words = words_of(alloc, then, &mut 0)?;
-        let _out = run(rt, alloc, then, &words, shelf, report)?;
     }
+    let words = words_of(alloc, then, &mut 0)?;
+    let _out = run(rt, alloc, then, &words, shelf, report)?;
     Ok(())
 }
 

@@ -4,8 +4,8 @@
 //! - A file is a JSON array of cases. A case has a `name`, the `words` of the program, and the
 //!   `files` that it finds, by their names.
 //! - `shelf` and `sink` are the numbers of the calls that fail, from 0.
-//! - `then` is a second run with words of its own, where the first answer has the text `mark`.
-//!   What follows that text is the file `i`.
+//! - `then` is a second run with words of its own, over the same files. With a `mark` it comes
+//!   where the first answer has that text, and what follows the text is the file `i`.
 //! - `after` names the files that are printed afterwards.
 //!
 //! A word and a file's content is a part or an array of parts. A part is a text, `{"times": n,

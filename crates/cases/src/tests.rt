@@ -2,6 +2,7 @@
 
 use sm_deps::{inputs, writes};
 use sm_eval::Store;
+use sm_gen::generate;
 use sm_io::{MemShelf, Shelf, append_all};
 use sm_num::{add, mul, sub};
 use sm_proof::{FormLine, Line, LineError, NodeLine, read_line};
@@ -12,10 +13,105 @@ use sm_syntax::{
 use sm_task::{fill, parse_task};
 use sm_text::{
     TextError, names, parse_block, parse_head, parse_program, print_block, print_cond,
-    print_program, symbols, tokens,
+    print_program, print_task, symbols, tokens,
 };
 use std::alloc::Global;
 use std::test::Fail;
+
+// The task of seed 1 and size 1, and that of seed 1 and size 3.
+const OF_ONE: &str = "var i;
+var n;
+var x1;
+output x1;
+shared {
+  i = 0;
+  while (i < n) {
+    i = i + 1;
+  }
+  ?1;
+}
+base {
+  ?1 {
+    x1 = n;
+  }
+}
+variant_a {
+  ?1 {
+    x1 = n + 91;
+  }
+}
+variant_b {
+  ?1 {
+    x1 = n;
+  }
+}
+candidate {
+  ?1 {
+    x1 = n + 91;
+  }
+}
+";
+
+const OF_THREE: &str = "var i;
+var n;
+var x1;
+var x2;
+var x3;
+output x1, x2, x3;
+shared {
+  i = 0;
+  while (i < n) {
+    i = i + 1;
+  }
+  ?1;
+  ?2;
+  ?3;
+}
+base {
+  ?1 {
+    x1 = n;
+  }
+  ?2 {
+    x2 = n;
+  }
+  ?3 {
+    x3 = n;
+  }
+}
+variant_a {
+  ?1 {
+    x1 = n + 91;
+  }
+  ?2 {
+    x2 = n + 85;
+  }
+  ?3 {
+    x3 = n;
+  }
+}
+variant_b {
+  ?1 {
+    x1 = n;
+  }
+  ?2 {
+    x2 = n;
+  }
+  ?3 {
+    x3 = n + 75;
+  }
+}
+candidate {
+  ?1 {
+    x1 = n + 91;
+  }
+  ?2 {
+    x2 = n + 85;
+  }
+  ?3 {
+    x3 = n + 75;
+  }
+}
+";
 
 // The block at the front of a text, where x has number 0, y has 1 and so on for z, v and a.
 fn block_of(alloc: Global, text: &str) -> Result<Block, TextError> {
@@ -245,5 +341,20 @@ fn the_first_line_of_a_proof_is_read(rt: HostRuntime) -> Result<(), Fail> {
     ] {
         assert!(rt; read_line(alloc, text).is_err_and(|e| e == error));
     }
+    Ok(())
+}
+
+#[test]
+fn tasks_that_are_made_up_have_their_texts(rt: HostRuntime) -> Result<(), Fail> {
+    let alloc = rt.alloc();
+    let one = generate(alloc, 1, 1)?;
+    assert_eq!(rt; (one.a, one.b), (1, 0));
+    assert_eq!(rt; print_task(alloc, &one.task)?.as_slice(), OF_ONE.as_bytes());
+    let three = generate(alloc, 1, 3)?;
+    assert_eq!(rt; (three.a, three.b), (2, 1));
+    assert_eq!(rt;
+        print_task(alloc, &three.task)?.as_slice(),
+        OF_THREE.as_bytes()
+    );
     Ok(())
 }

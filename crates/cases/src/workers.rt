@@ -3,7 +3,7 @@ ghost use Rattle.std.specs.Prelude.{◌≡◌, ◌*◌, ℕ};
 
 use sm_commands::{Status, safemerge};
 use sm_io::{MemShelf, MemSink};
-use sm_par::{Gate, Job, Phase, run_jobs};
+use sm_par::{Gate, Job, Open, Phase, run_jobs};
 use std::alloc::{AllocError, Global};
 use std::fs;
 use std::rt::Files;
@@ -124,6 +124,23 @@ const EDITS_IN_A_LOOP: &str = "var i, n; array a, c, out, log; output out, log; 
      variant_b { ?1 { out[i] = a[i]; } ?2 { log[i] = c[i] + i; } } \
      candidate { ?1 { out[i] = a[i] + 1; } ?2 { log[i] = c[i] + i; } }";
 
+// The words of a run.
+fn words_of(alloc: Global, words: &[&str]) -> Result<Vec<String>, Fail> {
+    let mut given = Vec::new(alloc);
+    for word in words {
+        given.push(String::from_str(alloc, word)?)?;
+    }
+    Ok(given)
+}
+
+// A shelf with the files t and p.
+fn shelf_of(alloc: Global, task: &str, proof: &str) -> Result<MemShelf, Fail> {
+    let mut shelf = MemShelf::new(alloc);
+    shelf.hold("t", task.as_bytes())?;
+    shelf.hold("p", proof.as_bytes())?;
+    Ok(shelf)
+}
+
 // How a command ends over the files t and p with two workers, and whether two jobs of a phase met.
 fn run_by_two<R: Threads + Sync>(
     rt: &R,
@@ -138,23 +155,18 @@ fn run_by_two<R: Threads + Sync>(
         entered: AtomicU64::new(0),
         met: AtomicBool::new(false),
     };
-    let mut shelf = MemShelf::new(alloc);
-    shelf.hold("t", task.as_bytes())?;
-    shelf.hold("p", proof.as_bytes())?;
-    let mut given = Vec::new(alloc);
-    for word in words {
-        given.push(String::from_str(alloc, word)?)?;
-    }
+    let words = words_of(alloc, words)?;
+    let mut shelf = shelf_of(alloc, task, proof)?;
     let mut out = MemSink::new(alloc);
-    let status = safemerge(rt, alloc, &gate, &given, &mut shelf, &mut out);
+    let status = safemerge(rt, alloc, &gate, &words, &mut shelf, &mut out);
     Ok((status, gate.met.load(Ordering::SeqCst)))
 }
 
 #[test]
 fn two_trials_run_at_once(rt: HostRuntime) -> Result<(), Fail> {
-    let words = ["check", "t", "--workers", "2"];
+    let words = ["check", "t", "p", "--workers", "2"];
     let seen = run_by_two(&rt, rt.alloc(), &words, Phase::Trial, EDITS_IN_A_LOOP, "")?;
-    assert_eq!(rt; seen, (Status::Unknown, true));
+    assert_eq!(rt; seen, (Status::Accepted, true));
     Ok(())
 }
 
@@ -163,5 +175,25 @@ fn two_certificates_run_at_once(rt: HostRuntime) -> Result<(), Fail> {
     let words = ["verify", "t", "p", "--workers", "2"];
     let seen = run_by_two(&rt, rt.alloc(), &words, Phase::Certificate, EMPTY, SHORTEST)?;
     assert_eq!(rt; seen, (Status::Accepted, true));
+    Ok(())
+}
+
+#[test]
+fn any_number_of_workers_writes_the_same_proof(rt: HostRuntime) -> Result<(), Fail> {
+    let alloc = rt.alloc();
+    let mut first: Option<MemShelf> = None;
+    for workers in ["1", "2", "64"] {
+        let words = words_of(alloc, &["check", "t", "p", "--workers", workers])?;
+        let mut shelf = shelf_of(alloc, EDITS_IN_A_LOOP, "")?;
+        let mut out = MemSink::new(alloc);
+        let status = safemerge(&rt, alloc, &Open, &words, &mut shelf, &mut out);
+        assert_eq!(rt; status, Status::Accepted, "with {workers}");
+        match &first {
+            Some(other) => {
+                assert_eq!(rt; shelf.bytes("p"), other.bytes("p"), "with {workers}");
+            }
+            None => first = Some(shelf),
+        }
+    }
     Ok(())
 }

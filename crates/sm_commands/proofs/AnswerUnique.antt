@@ -1,5 +1,5 @@
 -- Two answers to the same words and told files, each without a fault, are equal.
-use Rattle.std.proofs.Common.{◌≡◌, ◌≢◌, ◌⊎◌, ◌<◌, ◌++◌, inl, inr, ℕ, List, [], Option, Some, None, Result, Ok, Err, length}
+use Rattle.std.proofs.Common.{◌≡◌, ◌≢◌, ◌⊎◌, ◌<◌, ◌∷◌, ◌++◌, inl, inr, ℕ, List, [], Option, Some, None, Result, Ok, Err, length}
 use Rattle.std.proofs.Common.{codes, refl, sym, ap, subst, ◌∙◌, arith}
 use Rattle.serde_json.specs.Data.{Members, object}
 use Rattle.serde_json.specs.Written.{compact_text}
@@ -17,7 +17,7 @@ use Rattle.sm_replay.specs.declared.verdict.Verdict.{Verdict}
 use Rattle.sm_replay.specs.declared.verdict.Verdict.TheVariants as verdict
 use Rattle.sm_replay.specs.InputText.{AreWritten}
 use Rattle.sm_replay.proofs.InputUnique.{reading_one, written_one}
-use Rattle.sm_replay.proofs.VerdictUnique.{least_one, verdict_one}
+use Rattle.sm_replay.proofs.VerdictUnique.{verdict_one}
 use Rattle.sm_syntax.specs.text.Parts.{Parts, sort_of, task_of}
 use Rattle.sm_syntax.specs.text.Spells.{Spells}
 use Rattle.sm_syntax.specs.claim.Stores.{Store}
@@ -26,17 +26,27 @@ use Rattle.sm_task.proofs.RefusalUnique.{one_refusal}
 use Rattle.sm_text.proofs.Complete.Tasks as text
 use Rattle.sm_text.specs.printing.Canonical.{task_pieces}
 use Rattle.sm_text.specs.printing.Pieces.{pieces_text}
-use Rattle.sm_commands.specs.Check.{AnswersCheck, IsInputText, IsNote, ShowsConflict}
-use Rattle.sm_commands.specs.Copies.{decision}
+use Rattle.std.specs.Fmt.{signed_decimal}
+use Rattle.sm_gen.specs.Drawing.{edits, edit_count}
+use Rattle.sm_gen.specs.Generating.{generated}
+use Rattle.sm_houdini.specs.Outcomes as outcome
+use Rattle.sm_houdini.specs.Outcomes.{Outcome}
+use Rattle.sm_syntax.specs.claim.ConflictFree.{A, B}
+use Rattle.sm_commands.proofs.SpelledLemmas.{outcome_one}
+use Rattle.sm_commands.specs.Check.{AnswersCheck, IsInputText, IsNote, SaysNoted, SaysOutcome, ShowsTrial}
+use Rattle.sm_commands.specs.ProofFile.{FailsToWrite}
 use Rattle.sm_commands.specs.File.{file_limit, FailsToRead, GivesNoBytes, GivesNoTask, GivesTask, IsNoTask, IsRead, IsTooLong}
 use Rattle.sm_commands.specs.Laws.{AreTold, OneAnswer}
-use Rattle.sm_commands.specs.Lines.{decision_line, input_line, input_refusal_line, refusal_line, trial_line, verdict_line}
+use Rattle.sm_commands.specs.Lines.{goal_line, input_line, input_refusal_line, op_word, refusal_line, summary_line, too_many_line}
+use Rattle.sm_commands.specs.Lines.{trial_line, verdict_line}
 use Rattle.sm_commands.specs.Replay.{verdict_status, AnswersReplay, GivesInput, GivesNoInput, IsNoInput, ReplaysInput}
 use Rattle.sm_commands.specs.Status.{Says}
-use Rattle.sm_commands.specs.Top.{Files, AnswersCommand, AnswersRequest, Checks, Prints, Replays, Verifies}
+use Rattle.sm_commands.specs.Top.{Files, AnswersCommand, AnswersRequest, Checks, Generates, Prints, Replays, Verifies}
 use Rattle.sm_commands.specs.Verify.{answer_line, answer_status, proof_limit, AnswersProof}
-use Rattle.sm_commands.specs.Words.{Words, Asked, check, verify, replay, print, asked}
+use Rattle.sm_commands.specs.Words.{Words, Asked, check, verify, replay, print, gen, asked}
+use Rattle.sm_commands.specs.declared.effort.Effort.{Effort}
 use Rattle.sm_commands.specs.declared.status.Status.{Status}
+use Rattle.sm_commands.specs.declared.status.Status.TheVariants.{Accepted, Unknown, WriteFault}
 
 -- two replies are equal
 abbrev pub Same : Status → List ℕ → Status → List ℕ → Type 0
@@ -121,12 +131,6 @@ task_same file b n c m p q told g h =
 
 -- ---- check
 
--- the line of a trial, by its verdict
-abbrev shown_line : List (List ℕ) → ℕ → Verdict → List ℕ
-shown_line names j verdict.Holds = []
-shown_line names j verdict.Unmet = []
-shown_line names j (verdict.Violates x i clause) = trial_line names j x i clause
-
 -- the text of a store is one
 text_same : (t : Parts) (s u : Store) (xs ys : List ℕ) → s ≡ u → IsInputText t s xs → IsInputText t u ys → xs ≡ ys
 text_same t s u xs ys same a b =
@@ -134,20 +138,14 @@ text_same t s u xs ys same a b =
     let alike : a.members ≡ b.members = written_one t.names (sort_of t.declared) u a.members b.members written b.written in
     a.compact ∙ ap (λ (ms : Members). compact_text (object ms)) alike ∙ sym b.compact
 
--- a conflict is shown in one way
-conflict_same : (t : Parts) (turns : ℕ) (s u : Status) (l m : List ℕ) → ShowsConflict t turns s l → ShowsConflict t turns u m → Same s l u m
-conflict_same t turns s u l m a b =
-    let one =
-    least_one (task_of t) (sort_of t.declared) turns a.number b.number (verdict.Violates a.name a.index a.clause)
-    (verdict.Violates b.name b.index b.clause) a.least b.least in
-    let line : trial_line t.names a.number a.name a.index a.clause ≡ trial_line t.names b.number b.name b.index b.clause =
-    ap (λ (j : ℕ). shown_line t.names j (verdict.Violates a.name a.index a.clause)) one.0 ∙ ap (shown_line t.names b.number) one.1 in
-    let input : a.input ≡ b.input =
-    text_same t (trial (sort_of t.declared) a.number) (trial (sort_of t.declared) b.number) a.input b.input
-    (ap (trial (sort_of t.declared)) one.0) a.shown b.shown in
+-- a trial is shown in one way
+trial_same : (t : Parts) (j : ℕ) (v : Verdict) (s u : Status) (l m : List ℕ) → ShowsTrial t j v s l → ShowsTrial t j v u m → Same s l u m
+trial_same t j verdict.Holds s u l m a b = absurd a
+trial_same t j verdict.Unmet s u l m a b = absurd a
+trial_same t j (verdict.Violates x i clause) s u l m a b =
+    let here = trial (sort_of t.declared) j in
     says_same refl
-    (ap (λ (front : List ℕ). front ++ input_line a.input) line
-    ∙ ap (λ (given : List ℕ). trial_line t.names b.number b.name b.index b.clause ++ input_line given) input) a.says b.says
+    (ap (λ (given : List ℕ). trial_line t.names j x i clause ++ input_line given) (text_same t here here a.0 b.0 refl a.1 b.1)) a.2 b.2
 
 -- a note is one
 note_same : (t : Parts) (xs ys : List ℕ) → IsNote t xs → IsNote t ys → xs ≡ ys
@@ -156,25 +154,56 @@ note_same t xs ys (inl a) (inr b) = absurd (b.0 a.0)
 note_same t xs ys (inr a) (inl b) = absurd (a.0 b.0)
 note_same t xs ys (inr a) (inr b) = a.1 ∙ sym b.1
 
-check_same : (t : Parts) (turns : ℕ) (s u : Status) (l m : List ℕ) → AnswersCheck t turns s l → AnswersCheck t turns u m → Same s l u m
-check_same t turns s u l m (inl a) (inl b) = conflict_same t turns s u l m a b
-check_same t turns s u l m (inl a) (inr b) = absurd (b.no_violation a.number a.least.inside a.least.violates)
-check_same t turns s u l m (inr a) (inl b) = absurd (a.no_violation b.number b.least.inside b.least.violates)
-check_same t turns s u l m (inr a) (inr b) =
-    says_same refl (ap (λ (note : List ℕ). decision_line t.names (decision t) ++ note) (note_same t a.note b.note a.noted b.noted)) a.says
-    b.says
+noted_same : (t : Parts) (wanted : Status) (line : List ℕ) (s u : Status) (l m : List ℕ) → SaysNoted t wanted line s l
+    → SaysNoted t wanted line u m → Same s l u m
+noted_same t wanted line s u l m a b =
+    says_same refl (ap (λ (note : List ℕ). line ++ note) (note_same t a.0 b.0 a.1 b.1)) a.2 b.2
 
-checks_same : (file : Known) (turns b n c m : ℕ) (s u : Status) (t v : List ℕ) → file ≢ untold → (¬ Rose b n) → (¬ Rose c m)
-    → Checks file turns b n s t → Checks file turns c m u v → Same s t u v
-checks_same file turns b n c m s u t v told no_fault nor_later (inl f) (inl g) =
+outcome_same : (t : Parts) (o : Outcome (ℕ × Verdict)) (s u : Status) (l m : List ℕ) → SaysOutcome t o s l → SaysOutcome t o u m
+    → Same s l u m
+outcome_same t outcome.Accepted s u l m a b = noted_same t Accepted (codes "Accepted\n") s u l m a.1 b.1
+outcome_same t (outcome.Conflict f) s u l m a b = trial_same t f.0 f.1 s u l m a b
+outcome_same t (outcome.Open node goal) s u l m a b = noted_same t Unknown (goal_line (codes "Open") node goal []) s u l m a b
+outcome_same t (outcome.Steps node goal) s u l m a b = noted_same t Unknown (goal_line (codes "Steps") node goal []) s u l m a b
+outcome_same t (outcome.Coefficient node goal op y z) s u l m a b =
+    noted_same t Unknown (goal_line (codes "Coefficient") node goal (op_word op ∷ signed_decimal y ∷ signed_decimal z ∷ [])) s u l m a b
+outcome_same t outcome.TooMany s u l m a b = noted_same t Unknown too_many_line s u l m a b
+
+check_same : (t : Parts) (effort : Effort) (s u : Status) (l m : List ℕ) → AnswersCheck t effort s l → AnswersCheck t effort u m
+    → Same s l u m
+check_same t effort s u l m a b =
+    let one : a.outcome ≡ b.outcome = outcome_one t effort.steps effort.turns a.outcome b.outcome a.found b.found in
+    outcome_same t b.outcome s u l m (subst (λ (o : Outcome (ℕ × Verdict)). SaysOutcome t o s l) one a.says) b.says
+
+-- an answer that isn't a fault to write
+no_write : (t : Parts) (effort : Effort) (s : Status) (l : List ℕ) → s ≢ WriteFault
+    → AnswersCheck t effort s l ⊎ FailsToWrite t effort s l → AnswersCheck t effort s l
+no_write t effort s l no_fault (inl a) = a
+no_write t effort s l no_fault (inr a) = absurd (no_fault a.says.ended)
+
+checks_same : (file : Known) (effort : Effort) (b n c m : ℕ) (s u : Status) (t v : List ℕ) → file ≢ untold → (¬ Rose b n)
+    → (¬ Rose c m) → s ≢ WriteFault → u ≢ WriteFault → Checks file effort b n s t → Checks file effort c m u v → Same s t u v
+checks_same file effort b n c m s u t v told no_fault nor_later whole also (inl f) (inl g) =
     refused_same file b n c m s u t v told no_fault nor_later f g
-checks_same file turns b n c m s u t v told no_fault nor_later (inl f) (inr g) =
+checks_same file effort b n c m s u t v told no_fault nor_later whole also (inl f) (inr g) =
     absurd (task_or_none file c m b n g.task s t told no_fault g.gives f)
-checks_same file turns b n c m s u t v told no_fault nor_later (inr f) (inl g) =
+checks_same file effort b n c m s u t v told no_fault nor_later whole also (inr f) (inl g) =
     absurd (task_or_none file b n c m f.task u v told nor_later f.gives g)
-checks_same file turns b n c m s u t v told no_fault nor_later (inr f) (inr g) =
-    check_same g.task turns s u t v
-    (subst (λ (p : Parts). AnswersCheck p turns s t) (task_same file b n c m f.task g.task told f.gives g.gives) f.answers) g.answers
+checks_same file effort b n c m s u t v told no_fault nor_later whole also (inr f) (inr g) =
+    check_same g.task effort s u t v
+    (subst (λ (p : Parts). AnswersCheck p effort s t) (task_same file b n c m f.task g.task told f.gives g.gives)
+    (no_write f.task effort s t whole f.answers)) (no_write g.task effort u v also g.answers)
+
+gen_same : (seed size : ℕ) (effort : Effort) (b n c m : ℕ) (s u : Status) (t v : List ℕ) → Generates seed size effort b n s t
+    → Generates seed size effort c m u v → Same s t u v
+gen_same seed size effort b n c m s u t v f g =
+    let same = check_same (generated seed size) effort s u f.answers.answer g.answers.answer f.answers.answers g.answers.answers in
+    let drawn = edits seed size in (
+      same.0,
+      f.answers.printed
+          ∙ ap (λ (answer : List ℕ). summary_line seed size (edit_count A drawn) (edit_count B drawn) ++ answer) same.1
+          ∙ sym g.answers.printed,
+    )
 
 -- ---- print
 
@@ -312,22 +341,25 @@ verifies_same file proof b n c m s u l k told given no_fault nor_later (inr f) (
 -- ---- words
 
 command_same : (ask : Asked) (files : Files) (b n c m : ℕ) (s u : Status) (l k : List ℕ) → AreTold files → (¬ Rose b n) → (¬ Rose c m)
-    → AnswersCommand ask files b n s l → AnswersCommand ask files c m u k → Same s l u k
-command_same (check task turns workers) files b n c m s u l k told no_fault nor_later x y =
-    checks_same (files task) turns b n c m s u l k (told task) no_fault nor_later x y
-command_same (verify task proof workers) files b n c m s u l k told no_fault nor_later x y =
+    → s ≢ WriteFault → u ≢ WriteFault → AnswersCommand ask files b n s l → AnswersCommand ask files c m u k → Same s l u k
+command_same (check task proof effort) files b n c m s u l k told no_fault nor_later whole also x y =
+    checks_same (files task) effort b n c m s u l k (told task) no_fault nor_later whole also x y
+command_same (verify task proof workers) files b n c m s u l k told no_fault nor_later whole also x y =
     verifies_same (files task) (files proof) b n c m s u l k (told task) (told proof) no_fault nor_later x y
-command_same (replay task input turns) files b n c m s u l k told no_fault nor_later x y =
+command_same (replay task input turns) files b n c m s u l k told no_fault nor_later whole also x y =
     replays_same (files task) (files input) turns b n c m s u l k (told task) (told input) no_fault nor_later x y
-command_same (print task) files b n c m s u l k told no_fault nor_later x y =
+command_same (print task) files b n c m s u l k told no_fault nor_later whole also x y =
     prints_same (files task) b n c m s u l k (told task) no_fault nor_later x y
+command_same (gen seed size effort) files b n c m s u l k told no_fault nor_later whole also x y =
+    gen_same seed size effort b n c m s u l k x y
 
 request_same : (ask : Option Asked) (words : Words) (files : Files) (b n c m : ℕ) (s u : Status) (l k : List ℕ) → AreTold files
-    → (¬ Rose b n) → (¬ Rose c m) → AnswersRequest ask words files b n s l → AnswersRequest ask words files c m u k → Same s l u k
-request_same None words files b n c m s u l k told no_fault nor_later x y = says_same refl refl x.says y.says
-request_same (Some ask) words files b n c m s u l k told no_fault nor_later x y =
-    command_same ask files b n c m s u l k told no_fault nor_later x y
+    → (¬ Rose b n) → (¬ Rose c m) → s ≢ WriteFault → u ≢ WriteFault → AnswersRequest ask words files b n s l
+    → AnswersRequest ask words files c m u k → Same s l u k
+request_same None words files b n c m s u l k told no_fault nor_later whole also x y = says_same refl refl x.says y.says
+request_same (Some ask) words files b n c m s u l k told no_fault nor_later whole also x y =
+    command_same ask files b n c m s u l k told no_fault nor_later whole also x y
 
 pub answer_one : OneAnswer
-answer_one words files before now earlier later status other line text told no_fault x nor_later y =
-    request_same (asked words) words files before now earlier later status other line text told no_fault nor_later x y
+answer_one words files before now earlier later status other line text told no_fault whole x nor_later also y =
+    request_same (asked words) words files before now earlier later status other line text told no_fault nor_later whole also x y

@@ -1,57 +1,60 @@
 -- What answers say: where Usage is one, and what Accepted promises.
-use Rattle.std.proofs.Common.{◌≡◌, ◌≢◌, inl, inr, ℕ, ℤ, ◌++◌, List, Option, Some, None, Result, Ok, Err, IfOk, IfErr, refl, sym, subst, ◌∙◌}
+use Rattle.std.proofs.Common.{◌≡◌, ◌≢◌, ◌⊎◌, inl, inr, ℕ, List, Option, Some, None, Result, Ok, Err, IfOk, IfErr, refl, sym, subst, ◌∙◌}
 use Rattle.std.proofs.Common.{ap}
-use Rattle.std.specs.declared.alloc.AllocError.{AllocError}
 use Rattle.sm_check.specs.Files.{FileAnswer, Judged, OverLong}
 use Rattle.sm_io.specs.Files.{Known, WhereHeld}
 use Rattle.sm_proof.specs.Verdicts as proof
 use Rattle.sm_proof.specs.declared.word.Word.{Word}
-use Rattle.sm_replay.specs.Trials.{trial, IsFirstViolation, IsLeast}
+use Rattle.sm_houdini.specs.Outcomes as outcome
+use Rattle.sm_houdini.specs.Outcomes.{Outcome}
 use Rattle.sm_replay.specs.declared.verdict.Verdict.{Verdict}
 use Rattle.sm_replay.specs.declared.verdict.Verdict.TheVariants as verdict
 use Rattle.sm_syntax.specs.claim.ConflictFree.{ConflictFree}
-use Rattle.sm_syntax.specs.text.Parts.{Parts, sort_of, task_of}
-use Rattle.sm_syntax.specs.declared.tree.Name.{Name}
+use Rattle.sm_syntax.specs.text.Parts.{Parts, task_of}
 use Rattle.sm_syntax.specs.text.Spells.{Spells}
 use Rattle.sm_commands.specs.Headline.{merge_file, IsSafeMerge}
 use Rattle.sm_commands.specs.Top.{Files, IsAnswerTo, AnswersCommand, AnswersRequest, AsksToVerify, Checks, Replays, Verifies}
-use Rattle.sm_commands.specs.Check.{status_of, AnswersCheck, IsInputText, IsNote}
-use Rattle.sm_commands.specs.Copies.{decision}
-use Rattle.sm_commands.specs.Lines.{decision_line, input_line, refusal_line, trial_line}
+use Rattle.sm_commands.specs.Check.{AnswersCheck, SaysOutcome}
+use Rattle.sm_commands.specs.Lines.{refusal_line}
+use Rattle.sm_commands.specs.ProofFile.{FailsToWrite}
 use Rattle.sm_commands.specs.File.{GivesTask, IsNoTask}
 use Rattle.sm_commands.specs.Status.{Says}
 use Rattle.sm_commands.specs.Replay.{ReplaysInput}
 use Rattle.sm_commands.specs.Exit.{ExitsWith}
 use Rattle.sm_commands.specs.Verify.{answer_status, rejected_line, AnswersProof}
-use Rattle.sm_commands.specs.Words.{Words, Asked, check, verify, replay, print, asked, usage_line, IsUsage}
-use Rattle.sm_commands.specs.declared.copies.Decision.{Decision}
-use Rattle.sm_commands.specs.declared.copies.Decision.TheVariants.{Safe, Copies, NotBuilt}
+use Rattle.sm_commands.specs.Words.{Words, Asked, check, verify, replay, print, gen, asked, usage_line, IsUsage}
+use Rattle.sm_commands.specs.declared.effort.Effort.{Effort}
 use Rattle.sm_commands.specs.declared.exit.Exit.{Exit}
 use Rattle.sm_commands.specs.declared.exit.Exit.TheVariants as stopped
 use Rattle.sm_commands.specs.declared.status.Reply.{Reply}
 use Rattle.sm_commands.specs.declared.status.Status.{Status}
-use Rattle.sm_commands.specs.declared.status.Status.TheVariants.{Accepted, Conflict, Refused, Usage, ReadFault, Memory, SinkFault}
+use Rattle.sm_commands.specs.declared.status.Status.TheVariants.{Accepted, Refused, Usage, ReadFault, Memory, SinkFault}
 use Rattle.sm_syntax.specs.text.Symbols.{names_of}
 use Rattle.sm_task.specs.Errors.{IsRefusedWith}
 use Rattle.sm_task.specs.declared.error.TaskError.{TaskError}
 use Rattle.sm_task.specs.declared.error.TaskError.TheVariants as no_task
 use Rattle.sm_task.proofs.RefusalUnique.{task_or_refusal}
-use Rattle.sm_commands.proofs.Soundness.{safe_is_conflict_free}
 use Rattle.sm_commands.proofs.Usage.{usage_asks_nothing}
 use Rattle.sm_commands.proofs.Statuses.{IsOfCommand, IsToCommand, without_task}
-use Rattle.sm_commands.proofs.Statuses.{check_to_command, print_to_command, replay_to_command, verify_to_command}
+use Rattle.sm_commands.proofs.Statuses.{check_to_command, gen_to_command, print_to_command, replay_to_command, verify_to_command}
 
--- only a safe decision is accepted
-accepted_is_safe : (d : Decision) → status_of d ≡ Accepted → d ≡ Safe
-accepted_is_safe Safe e = refl
-accepted_is_safe (Copies x clause) e = cc
-accepted_is_safe NotBuilt e = cc
+-- only what a search accepts is accepted, and is free of conflicts
+pub outcome_accepted : (t : Parts) (o : Outcome (ℕ × Verdict)) (status : Status) (text : List ℕ) → SaysOutcome t o status text
+    → status ≡ Accepted → (o ≡ outcome.Accepted) × ConflictFree (task_of t)
+outcome_accepted t outcome.Accepted status text h e = (refl, h.0)
+outcome_accepted t (outcome.Conflict (j, verdict.Holds)) status text h e = absurd h
+outcome_accepted t (outcome.Conflict (j, verdict.Unmet)) status text h e = absurd h
+outcome_accepted t (outcome.Conflict (j, verdict.Violates x i clause)) status text h e = let is = h.2.ended in cc
+outcome_accepted t (outcome.Open node goal) status text h e = let is = h.2.ended in cc
+outcome_accepted t (outcome.Steps node goal) status text h e = let is = h.2.ended in cc
+outcome_accepted t (outcome.Coefficient node goal op y z) status text h e = let is = h.2.ended in cc
+outcome_accepted t outcome.TooMany status text h e = let is = h.2.ended in cc
 
--- an accepted task is decided to be safe
-accepted_decides : (t : Parts) (turns : ℕ) (status : Status) (text : List ℕ) → AnswersCheck t turns status text → status ≡ Accepted
-    → decision t ≡ Safe
-accepted_decides t turns status text (inl a) e = let is = a.says.ended in cc
-accepted_decides t turns status text (inr a) e = accepted_is_safe (decision t) (sym a.says.ended ∙ e)
+-- an accepted task is free of conflicts
+accepted_is_free : (t : Parts) (effort : Effort) (status : Status) (text : List ℕ)
+    → AnswersCheck t effort status text ⊎ FailsToWrite t effort status text → status ≡ Accepted → ConflictFree (task_of t)
+accepted_is_free t effort status text (inl a) e = (outcome_accepted t a.outcome status text a.says e).1
+accepted_is_free t effort status text (inr a) e = let is = a.says.ended in cc
 
 -- the file that is asked of is one
 same_file : (file task : List ℕ) → Some file ≡ Some task → file ≡ task
@@ -88,27 +91,29 @@ verify_accepts file proof before now status text (inr c) e bytes told = (
 )
 
 -- Accepted of `check` is for a task that is free of conflicts
-check_accepts : (file : Known) (turns before now : ℕ) (status : Status) (text : List ℕ) → Checks file turns before now status text
-    → status ≡ Accepted → WhereHeld file IsSafeMerge
-check_accepts file turns before now status text (inl f) e bytes told = absurd ((without_task file before now status text f).not_accepted e)
-check_accepts file turns before now status text (inr c) e bytes told = (
+check_accepts : (file : Known) (effort : Effort) (before now : ℕ) (status : Status) (text : List ℕ)
+    → Checks file effort before now status text → status ≡ Accepted → WhereHeld file IsSafeMerge
+check_accepts file effort before now status text (inl f) e bytes told =
+    absurd ((without_task file before now status text f).not_accepted e)
+check_accepts file effort before now status text (inr c) e bytes told = (
   c.task,
   subst (λ (b : List ℕ). Spells b c.task) (sym (c.gives.read.held bytes told)) c.gives.spells,
-  safe_is_conflict_free c.task (accepted_decides c.task turns status text c.answers e),
+  accepted_is_free c.task effort status text c.answers e,
 )
 
 -- so is each task of which it is asked
 asked_accepts : (ask : Asked) (files : Files) (before now : ℕ) (status : Status) (text : List ℕ)
     → AnswersCommand ask files before now status text → status ≡ Accepted →
     (task : List ℕ) → merge_file ask ≡ Some task → WhereHeld (files task) IsSafeMerge
-asked_accepts (check file turns workers) files before now status text a e task is =
+asked_accepts (check file proof effort) files before now status text a e task is =
     subst (λ (f : List ℕ). WhereHeld (files f) IsSafeMerge) (same_file file task is)
-    (check_accepts (files file) turns before now status text a e)
+    (check_accepts (files file) effort before now status text a e)
 asked_accepts (verify file proof workers) files before now status text a e task is =
     subst (λ (f : List ℕ). WhereHeld (files f) IsSafeMerge) (same_file file task is)
     (verify_accepts (files file) (files proof) before now status text a e)
 asked_accepts (replay file input turns) files before now status text a e task is = absurd (no_file task is)
 asked_accepts (print file) files before now status text a e task is = absurd (no_file task is)
+asked_accepts (gen seed size effort) files before now status text a e task is = absurd (no_file task is)
 
 pub accepts : (words : Words) (files : Files) (before now : ℕ) (status : Status) (text : List ℕ)
     → IsAnswerTo words files before now status text → status ≡ Accepted →
@@ -147,19 +152,21 @@ sound words files before now status text answers = go (asked words) refl answers
     }
 
     plain : (ask : Asked) → asked words ≡ Some ask → IsToCommand before now status → IsSound words before now status text
-    plain ask e to = taken ask e to.of_command (λ h other. to.quiet h)
+    plain ask e to = taken ask e to.of_command.of_command (λ h other. to.quiet h)
 
     by : (ask : Asked) → asked words ≡ Some ask → AnswersCommand ask files before now status text → IsSound words before now status text
-    by (check task turns workers) e a =
-        plain (check task turns workers) e (check_to_command (files task) turns before now status text a)
+    by (check task proof effort) e a =
+        let to = check_to_command (files task) effort before now status text a in
+        taken (check task proof effort) e to.of_command (λ h other. to.quiet h)
     by (verify task proof workers) e a =
         let to = verify_to_command (files task) (files proof) before now status text a in
-        taken (verify task proof workers) e to.of_command
+        taken (verify task proof workers) e to.of_command.of_command
         (λ h other. to.quiet h
         (λ n w says. other (record { to_verify = (task, proof, workers, e); number = n; word = w; says = says })))
     by (replay task input turns) e a =
         plain (replay task input turns) e (replay_to_command (files task) (files input) turns before now status text a)
     by (print task) e a = plain (print task) e (print_to_command (files task) before now status text a)
+    by (gen seed size effort) e a = plain (gen seed size effort) e (gen_to_command seed size effort before now status text a)
 
     go : (ask : Option Asked) → asked words ≡ ask → AnswersRequest ask words files before now status text → IsSound words before now status text
     go None e a =
@@ -227,45 +234,6 @@ pub verified_by : (file proof other : Known) (before between now : ℕ) (t : Par
 verified_by file proof other before between now t gives same r ok stop =
     result_by (AnswersProof t other between now) (Verifies file proof before now)
     (verifies_task file proof other before between now t gives same) r ok stop
-
--- the trial that is named is the first that violates
-pub conflict_shown : (t : Parts) (turns : ℕ) (found : Option (ℕ × Verdict)) (number : ℕ) (name : Name) (index : Option ℤ)
-    (clause : ℕ) (r : Result Reply AllocError)
-    → found ≡ Some (number, verdict.Violates name index clause) → IsFirstViolation (task_of t) (sort_of t.declared) turns found →
-    IfOk r (λ (p : Reply). (input : List ℕ) × IsInputText t (trial (sort_of t.declared) number) input
-    × Says Conflict (trial_line t.names number name index clause ++ input_line input) p.status p.text.items)
-    → IfOk r (λ (p : Reply). AnswersCheck t turns p.status p.text.items)
-conflict_shown t turns found number name index clause (Ok p) e first shown =
-    let least : IsLeast (task_of t) (sort_of t.declared) turns number (verdict.Violates name index clause) =
-    subst (IsFirstViolation (task_of t) (sort_of t.declared) turns) e first in
-    inl (record {
-      number =
-          number;
-      name = name;
-      index = index;
-      clause = clause;
-      least = least;
-      input = shown.0;
-      shown = shown.1;
-      says = shown.2;
-    })
-conflict_shown t turns found number name index clause (Err x) e first shown = tt
-
--- where no trial violates, the answer is the decision
-pub decision_shown : (t : Parts) (turns : ℕ) (found : Option (ℕ × Verdict)) (r : Result Reply AllocError) → found ≡ None
-    → IsFirstViolation (task_of t) (sort_of t.declared) turns found
-    → IfOk r (λ (p : Reply). (note : List ℕ) × IsNote t note
-    × Says (status_of (decision t)) (decision_line t.names (decision t) ++ note) p.status p.text.items)
-    → IfOk r (λ (p : Reply). AnswersCheck t turns p.status p.text.items)
-decision_shown t turns found (Ok p) e first d =
-    inr (record {
-      no_violation = subst (IsFirstViolation (task_of t) (sort_of t.declared) turns) e first;
-      note = d.0;
-      noted = d.1;
-      says =
-          d.2;
-    })
-decision_shown t turns found (Err x) e first d = tt
 
 -- bytes that are refused with an error are no task for it
 pub is_no_task : (bytes : List ℕ) (e : TaskError) (names : List (List ℕ)) (text : List ℕ) → e ≢ no_task.Memory → IsRefusedWith bytes e

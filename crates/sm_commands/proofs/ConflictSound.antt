@@ -1,5 +1,5 @@
 -- What Conflict says: the task isn't free of conflicts, and the input that is printed or was given shows it.
-use Rattle.std.proofs.Common.{◌≡◌, ◌≢◌, inl, inr, ℕ, List, Some, Result, Ok, Err, sym, subst, ◌∙◌}
+use Rattle.std.proofs.Common.{◌≡◌, ◌≢◌, ◌⊎◌, inl, inr, ℕ, ◌++◌, List, Option, Some, None, Result, Ok, Err, sym, subst, ◌∙◌}
 use Rattle.sm_io.specs.Files.{Known, WhereHeld}
 use Rattle.sm_replay.specs.Trials.{trial}
 use Rattle.sm_replay.specs.Verdicts.{cell_of, Judges}
@@ -15,16 +15,18 @@ use Rattle.sm_syntax.specs.claim.Stores.{Store}
 use Rattle.sm_syntax.specs.text.Spells.{Spells}
 use Rattle.sm_replay.specs.Violations.{Violates}
 use Rattle.sm_commands.specs.Headline.{IsUnsafeMerge, IsViolatedFrom, ShowsInput, IsShownByInput}
-use Rattle.sm_commands.specs.Top.{Files, IsAnswerTo, AnswersCommand, Checks, Replays}
-use Rattle.sm_commands.specs.Check.{status_of, AnswersCheck, IsInputText}
-use Rattle.sm_commands.specs.Copies.{decision}
-use Rattle.sm_commands.specs.Lines.{trial_line}
+use Rattle.sm_houdini.specs.Outcomes as outcome
+use Rattle.sm_houdini.specs.Outcomes.{Outcome, IsOutcome}
+use Rattle.sm_houdini.proofs.OutcomeLemmas.{conflict_least}
+use Rattle.sm_commands.specs.Top.{Files, IsAnswerTo, AnswersCommand, Checks, Prints, Replays, Verifies}
+use Rattle.sm_commands.specs.Check.{AnswersCheck, IsInputText, SaysOutcome}
+use Rattle.sm_commands.specs.Lines.{input_line, trial_line}
+use Rattle.sm_commands.specs.ProofFile.{FailsToWrite}
 use Rattle.sm_commands.specs.File.{GivesTask}
 use Rattle.sm_commands.specs.Replay.{verdict_status, GivesInput, GivesNoInput, ReplaysInput}
 use Rattle.sm_commands.specs.Verify.{AnswersProof}
-use Rattle.sm_commands.specs.Words.{Words, Asked, check, verify, replay, print, asked, task_file}
-use Rattle.sm_commands.specs.declared.copies.Decision.{Decision}
-use Rattle.sm_commands.specs.declared.copies.Decision.TheVariants.{Safe, Copies, NotBuilt}
+use Rattle.sm_commands.specs.Words.{Words, Asked, check, verify, replay, print, gen, asked, task_file}
+use Rattle.sm_commands.specs.declared.effort.Effort.{Effort}
 use Rattle.sm_commands.specs.declared.status.Status.{Status}
 use Rattle.sm_commands.specs.declared.status.Status.TheVariants.{Conflict}
 use Rattle.sm_replay.proofs.ViolationsSound.{violation_conflicts}
@@ -38,23 +40,48 @@ no_input_no_conflict t file before now status text (inl (inl f)) e = let is = f.
 no_input_no_conflict t file before now status text (inl (inr f)) e = let is = f.says.ended in cc
 no_input_no_conflict t file before now status text (inr f) e = let is = f.refuses.says.ended in cc
 
-decided_no_conflict : (d : Decision) → status_of d ≢ Conflict
-decided_no_conflict Safe e = cc
-decided_no_conflict (Copies x clause) e = cc
-decided_no_conflict NotBuilt e = cc
-
 -- no proof file shows a conflict
 proof_no_conflict : (t : Parts) (file : Known) (before now : ℕ) (status : Status) (text : List ℕ)
     → AnswersProof t file before now status text → status ≢ Conflict
 proof_no_conflict t file before now status text (inl f) e = let is = f.says.ended in cc
 proof_no_conflict t file before now status text (inr c) e = answered_no_conflict c.answer (sym c.says.ended ∙ e)
 
--- Conflict of `check` is for a task that isn't free of conflicts
-checked_conflict : (t : Parts) (turns : ℕ) (status : Status) (text : List ℕ) → AnswersCheck t turns status text → status ≡ Conflict
-    → ¬ ConflictFree (task_of t)
-checked_conflict t turns status text (inl a) e =
-    violation_conflicts (task_of t) (trial (sort_of t.declared) a.number) turns a.least.violates
-checked_conflict t turns status text (inr a) e = absurd (decided_no_conflict (decision t) (sym a.says.ended ∙ e))
+-- what an answer by a search with the status Conflict says: a trial that violates, with its input
+record IsShown (t : Parts) (turns : ℕ) (text : List ℕ) : Type 0 where
+  pub number : ℕ
+  pub violates : Violates (task_of t) (trial (sort_of t.declared) number) turns
+  pub front : List ℕ
+  pub input : List ℕ
+  pub shown : IsInputText t (trial (sort_of t.declared) number) input
+  pub printed : text ≡ front ++ input_line input
+
+outcome_conflict : (t : Parts) (steps turns : ℕ) (o : Outcome (ℕ × Verdict)) (status : Status) (text : List ℕ)
+    → IsOutcome t steps turns o → SaysOutcome t o status text → status ≡ Conflict → IsShown t turns text
+outcome_conflict t steps turns outcome.Accepted status text is h e = let s = h.1.2.ended in cc
+outcome_conflict t steps turns (outcome.Conflict (j, verdict.Holds)) status text is h e = absurd h
+outcome_conflict t steps turns (outcome.Conflict (j, verdict.Unmet)) status text is h e = absurd h
+outcome_conflict t steps turns (outcome.Conflict (j, verdict.Violates x i clause)) status text is h e = record {
+  number = j;
+  violates = (conflict_least t steps turns (j, verdict.Violates x i clause) is).violates;
+  front = trial_line t.names j x i clause;
+  input = h.0;
+  shown = h.1;
+  printed = h.2.printed;
+}
+outcome_conflict t steps turns (outcome.Open node goal) status text is h e = let s = h.2.ended in cc
+outcome_conflict t steps turns (outcome.Steps node goal) status text is h e = let s = h.2.ended in cc
+outcome_conflict t steps turns (outcome.Coefficient node goal op y z) status text is h e = let s = h.2.ended in cc
+outcome_conflict t steps turns outcome.TooMany status text is h e = let s = h.2.ended in cc
+
+checked_conflict : (t : Parts) (effort : Effort) (status : Status) (text : List ℕ)
+    → AnswersCheck t effort status text ⊎ FailsToWrite t effort status text → status ≡ Conflict → IsShown t effort.turns text
+checked_conflict t effort status text (inl a) e =
+    outcome_conflict t effort.steps effort.turns a.outcome status text a.found a.says e
+checked_conflict t effort status text (inr a) e = let s = a.says.ended in cc
+
+-- such a task isn't free of conflicts
+shown_conflict : (t : Parts) (turns : ℕ) (text : List ℕ) → IsShown t turns text → ¬ ConflictFree (task_of t)
+shown_conflict t turns text s = violation_conflicts (task_of t) (trial (sort_of t.declared) s.number) turns s.violates
 
 -- a verdict that is a conflict is that of a store from which the task is violated
 judged_violates : (t : Parts) (s : Store) (turns : ℕ) (r : Result Verdict ReplayError) → Judges (task_of t) s turns r
@@ -92,29 +119,55 @@ unsafe_where : (file : Known) (before now : ℕ) (t : Parts) → GivesTask file 
 unsafe_where file before now t gives conflict bytes told =
     (t, subst (λ (b : List ℕ). Spells b t) (sym (gives.read.held bytes told)) gives.spells, conflict)
 
+same_file : (file task : List ℕ) → Some file ≡ Some task → file ≡ task
+same_file file task e = cc
+
+no_file : (task : List ℕ) → (let o : Option (List ℕ) = None in o) ≡ Some task → ⊥
+no_file task e = cc
+
+check_conflicts : (file : Known) (effort : Effort) (before now : ℕ) (status : Status) (text : List ℕ)
+    → Checks file effort before now status text → status ≡ Conflict → WhereHeld file IsUnsafeMerge
+check_conflicts file effort before now status text (inl f) e = absurd ((without_task file before now status text f).not_conflict e)
+check_conflicts file effort before now status text (inr c) e =
+    unsafe_where file before now c.task c.gives
+    (shown_conflict c.task effort.turns text (checked_conflict c.task effort status text c.answers e))
+
+verify_no_conflict : (file proof : Known) (before now : ℕ) (status : Status) (text : List ℕ)
+    → Verifies file proof before now status text → status ≢ Conflict
+verify_no_conflict file proof before now status text (inl f) e = (without_task file before now status text f).not_conflict e
+verify_no_conflict file proof before now status text (inr c) e = proof_no_conflict c.task proof c.between now status text c.answers e
+
+replay_conflicts : (file input : Known) (turns before now : ℕ) (status : Status) (text : List ℕ)
+    → Replays file input turns before now status text → status ≡ Conflict → WhereHeld file IsUnsafeMerge
+replay_conflicts file input turns before now status text (inl f) e = absurd ((without_task file before now status text f).not_conflict e)
+replay_conflicts file input turns before now status text (inr c) e =
+    unsafe_where file before c.between c.task c.gives (replayed_conflict c.task input turns c.between now status text c.answers e)
+
+print_no_conflict : (file : Known) (before now : ℕ) (status : Status) (text : List ℕ) → Prints file before now status text
+    → status ≢ Conflict
+print_no_conflict file before now status text (inl f) e = (without_task file before now status text f).not_conflict e
+print_no_conflict file before now status text (inr c) e = let is = c.says.ended in cc
+
 asked_conflicts : (ask : Asked) (files : Files) (before now : ℕ) (status : Status) (text : List ℕ)
-    → AnswersCommand ask files before now status text → status ≡ Conflict → WhereHeld (files (task_file ask)) IsUnsafeMerge
-asked_conflicts (check task turns workers) files before now status text (inl f) e =
-    absurd ((without_task (files task) before now status text f).not_conflict e)
-asked_conflicts (check task turns workers) files before now status text (inr c) e =
-    unsafe_where (files task) before now c.task c.gives (checked_conflict c.task turns status text c.answers e)
-asked_conflicts (verify task proof workers) files before now status text (inl f) e =
-    absurd ((without_task (files task) before now status text f).not_conflict e)
-asked_conflicts (verify task proof workers) files before now status text (inr c) e =
-    absurd (proof_no_conflict c.task (files proof) c.between now status text c.answers e)
-asked_conflicts (replay task input turns) files before now status text (inl f) e =
-    absurd ((without_task (files task) before now status text f).not_conflict e)
-asked_conflicts (replay task input turns) files before now status text (inr c) e =
-    unsafe_where (files task) before c.between c.task c.gives
-    (replayed_conflict c.task (files input) turns c.between now status text c.answers e)
-asked_conflicts (print task) files before now status text (inl f) e =
-    absurd ((without_task (files task) before now status text f).not_conflict e)
-asked_conflicts (print task) files before now status text (inr c) e = let is = c.says.ended in cc
+    → AnswersCommand ask files before now status text → status ≡ Conflict → (task : List ℕ) → task_file ask ≡ Some task
+    → WhereHeld (files task) IsUnsafeMerge
+asked_conflicts (check file proof effort) files before now status text a e task is =
+    subst (λ (f : List ℕ). WhereHeld (files f) IsUnsafeMerge) (same_file file task is)
+    (check_conflicts (files file) effort before now status text a e)
+asked_conflicts (verify file proof workers) files before now status text a e task is =
+    absurd (verify_no_conflict (files file) (files proof) before now status text a e)
+asked_conflicts (replay file input turns) files before now status text a e task is =
+    subst (λ (f : List ℕ). WhereHeld (files f) IsUnsafeMerge) (same_file file task is)
+    (replay_conflicts (files file) (files input) turns before now status text a e)
+asked_conflicts (print file) files before now status text a e task is =
+    absurd (print_no_conflict (files file) before now status text a e)
+asked_conflicts (gen seed size effort) files before now status text a e task is = absurd (no_file task is)
 
 pub conflicts : (words : Words) (files : Files) (before now : ℕ) (status : Status) (text : List ℕ)
-    → IsAnswerTo words files before now status text → status ≡ Conflict → (ask : Asked) → asked words ≡ Some ask
-    → WhereHeld (files (task_file ask)) IsUnsafeMerge
-conflicts words files before now status text answers e ask asks = asked_conflicts ask files before now status text (rw asks at answers) e
+    → IsAnswerTo words files before now status text → status ≡ Conflict → (ask : Asked) (task : List ℕ) → asked words ≡ Some ask
+    → task_file ask ≡ Some task → WhereHeld (files task) IsUnsafeMerge
+conflicts words files before now status text answers e ask task asks =
+    asked_conflicts ask files before now status text (rw asks at answers) e task
 
 -- an input's text that gives a store is one from which the task violates, where it does from that store
 violated_from : (file : Known) (before now : ℕ) (t : Parts) → GivesTask file before now t → (s : Store) (input : List ℕ) (turns : ℕ)
@@ -126,25 +179,22 @@ violated_from file before now t gives s input turns shown violates bytes told = 
 )
 
 -- Conflict of `check` shows an input
-checked_shows : (file : Known) (turns before now : ℕ) (status : Status) (text : List ℕ) → Checks file turns before now status text
-    → status ≡ Conflict → ShowsInput file turns text
-checked_shows file turns before now status text (inl f) e = absurd ((without_task file before now status text f).not_conflict e)
-checked_shows file turns before now status text (inr c) e = go c.answers
-  where
-    go : AnswersCheck c.task turns status text → ShowsInput file turns text
-    go (inl a) = (
-      trial_line c.task.names a.number a.name a.index a.clause,
-      a.input,
-      a.says.printed,
-      violated_from file before now c.task c.gives (trial (sort_of c.task.declared) a.number) a.input turns a.shown a.least.violates,
+checked_shows : (file : Known) (effort : Effort) (before now : ℕ) (status : Status) (text : List ℕ)
+    → Checks file effort before now status text → status ≡ Conflict → ShowsInput file effort.turns text
+checked_shows file effort before now status text (inl f) e = absurd ((without_task file before now status text f).not_conflict e)
+checked_shows file effort before now status text (inr c) e =
+    let s = checked_conflict c.task effort status text c.answers e in (
+      s.front,
+      s.input,
+      s.printed,
+      violated_from file before now c.task c.gives (trial (sort_of c.task.declared) s.number) s.input effort.turns s.shown s.violates,
     )
-    go (inr a) = absurd (decided_no_conflict (decision c.task) (sym a.says.ended ∙ e))
 
 pub shows : (words : Words) (files : Files) (before now : ℕ) (status : Status) (text : List ℕ)
-    → IsAnswerTo words files before now status text → status ≡ Conflict → (task : List ℕ) (turns workers : ℕ)
-    → asked words ≡ Some (check task turns workers) → ShowsInput (files task) turns text
-shows words files before now status text answers e task turns workers asks =
-    checked_shows (files task) turns before now status text (rw asks at answers) e
+    → IsAnswerTo words files before now status text → status ≡ Conflict → (task proof : List ℕ) (effort : Effort)
+    → asked words ≡ Some (check task proof effort) → ShowsInput (files task) effort.turns text
+shows words files before now status text answers e task proof effort asks =
+    checked_shows (files task) effort before now status text (rw asks at answers) e
 
 -- Conflict of `replay` is shown by the input that it was given
 replayed_shows : (file input : Known) (turns before now : ℕ) (status : Status) (text : List ℕ)

@@ -25,10 +25,10 @@ use Rattle.clap.proofs.SimpleLemmas.{is_false, is_nil, plain_fields}
 use Rattle.clap.proofs.TakesLemmas.{each_rule}
 use Rattle.clap.proofs.WalkLemmas.{both, first_value-rows}
 use Rattle.clap.specs.declared.parser.matches.Found.{Found}
-use Rattle.sm_commands.specs.Command.{check_command, command_of, print_command, replay_command, required_word, verify_command}
+use Rattle.sm_commands.specs.Command.{check_command, command_of, gen_command, print_command, replay_command, required_word, verify_command}
 use Rattle.sm_commands.specs.Words.{Words, HasRequired, word_faults, argument_text}
 use Rattle.sm_commands.specs.declared.command.Verb.{Verb}
-use Rattle.sm_commands.specs.declared.command.Verb.TheVariants.{Check, Verify, Replay, Print}
+use Rattle.sm_commands.specs.declared.command.Verb.TheVariants.{Check, Verify, Replay, Print, Gen}
 
 is_none : {X : Type 0} (o : Option X) → not (is_some o) ≡ true → o ≡ None
 is_none None e = refl
@@ -134,21 +134,25 @@ is_given c m verb words same parsed rows required = record {
 
 has_required : (c : Command) (m : ArgMatches) (verb : Verb) → app_of c ≡ command_of verb → IsParsedFrom c m
     → HasRequired verb (first_value (found_of m))
-unfolding check_command verify_command replay_command print_command
-has_required c m Check same parsed = given c m check_command 0 (codes "TASK") same parsed refl refl
+unfolding check_command verify_command replay_command print_command gen_command
+has_required c m Check same parsed =
+    (given c m check_command 0 (codes "TASK") same parsed refl refl, given c m check_command 1 (codes "PROOF") same parsed refl refl)
 has_required c m Verify same parsed =
     (given c m verify_command 0 (codes "TASK") same parsed refl refl, given c m verify_command 1 (codes "PROOF") same parsed refl refl)
 has_required c m Replay same parsed =
     (given c m replay_command 0 (codes "TASK") same parsed refl refl, given c m replay_command 1 (codes "INPUT") same parsed refl refl)
 has_required c m Print same parsed = given c m print_command 0 (codes "TASK") same parsed refl refl
+has_required c m Gen same parsed =
+    (given c m gen_command 0 (codes "SEED") same parsed refl refl, given c m gen_command 1 (codes "SIZE") same parsed refl refl)
 
 -- each command is one of which `clap` says all
 is_free : (verb : Verb) → is_simple_and_free (command_of verb) ≡ true
-unfolding check_command verify_command replay_command print_command clap_on_literals
+unfolding check_command verify_command replay_command print_command gen_command clap_on_literals
 is_free Check = refl
 is_free Verify = refl
 is_free Replay = refl
 is_free Print = refl
+is_free Gen = refl
 
 -- what a parse gives, at the command of a word
 pub parses : (c : Command) (verb : Verb) (words : Words) (r : Result ArgMatches Error) → app_of c ≡ command_of verb

@@ -1,5 +1,3 @@
-pub mod Soundness
-pub mod Passes
 pub mod Given
 pub mod Digits
 pub mod Asking
@@ -9,3 +7,5 @@ pub mod Answering
 pub mod ConflictSound
 pub mod Verified
 pub mod AnswerUnique
+pub mod FilesLemmas
+pub mod SpelledLemmas

@@ -1,5 +1,5 @@
 -- Which statuses the answers to what a command asks for have.
-use Rattle.std.proofs.Common.{◌≡◌, ◌≢◌, inl, inr, ℕ, List, Result, Ok, Err, sym, ap, subst, ◌∙◌}
+use Rattle.std.proofs.Common.{◌≡◌, ◌≢◌, ◌⊎◌, inl, inr, ℕ, List, Result, Ok, Err, sym, ap, subst, ◌∙◌}
 use Rattle.sm_check.specs.Files.{FileAnswer, Judged, OverLong}
 use Rattle.sm_io.specs.Files.{Known}
 use Rattle.sm_proof.specs.Verdicts as proof
@@ -8,17 +8,20 @@ use Rattle.sm_replay.specs.declared.error.ReplayError.{ReplayError}
 use Rattle.sm_replay.specs.declared.verdict.Verdict.{Verdict}
 use Rattle.sm_replay.specs.declared.verdict.Verdict.TheVariants as verdict
 use Rattle.sm_syntax.specs.text.Parts.{Parts}
-use Rattle.sm_commands.specs.Top.{Checks, Prints, Replays, Verifies}
-use Rattle.sm_commands.specs.Check.{status_of, AnswersCheck}
-use Rattle.sm_commands.specs.Copies.{decision}
+use Rattle.sm_gen.specs.Generating.{generated}
+use Rattle.sm_houdini.specs.Outcomes as outcome
+use Rattle.sm_houdini.specs.Outcomes.{Outcome}
+use Rattle.sm_commands.specs.Top.{Checks, Generates, Prints, Replays, Verifies}
+use Rattle.sm_commands.specs.Check.{AnswersCheck, SaysOutcome}
+use Rattle.sm_commands.specs.ProofFile.{FailsToWrite}
 use Rattle.sm_commands.specs.File.{GivesNoTask}
 use Rattle.sm_commands.specs.Replay.{verdict_status, GivesNoInput, ReplaysInput}
 use Rattle.sm_commands.specs.Status.{Says}
 use Rattle.sm_commands.specs.Verify.{answer_line, answer_status, rejected_line, AnswersProof}
-use Rattle.sm_commands.specs.declared.copies.Decision.{Decision}
-use Rattle.sm_commands.specs.declared.copies.Decision.TheVariants.{Safe, Copies, NotBuilt}
+use Rattle.sm_commands.specs.declared.effort.Effort.{Effort}
 use Rattle.sm_commands.specs.declared.status.Status.{Status}
-use Rattle.sm_commands.specs.declared.status.Status.TheVariants.{Accepted, Conflict, Unknown, Refused, Usage, ReadFault, Memory, SinkFault}
+use Rattle.sm_commands.specs.declared.status.Status.TheVariants.{Accepted, Conflict, Unknown, Refused, Usage, ReadFault, Memory}
+use Rattle.sm_commands.specs.declared.status.Status.TheVariants.{SinkFault, WriteFault}
 
 -- a command answers with none of these
 pub record IsOfCommand (status : Status) : Type 0 where
@@ -26,33 +29,41 @@ pub record IsOfCommand (status : Status) : Type 0 where
   pub not_memory : status ≢ Memory
   pub not_sink : status ≢ SinkFault
 
-of_accepted : IsOfCommand Accepted
-of_accepted = record { not_usage = λ e. cc; not_memory = λ e. cc; not_sink = λ e. cc }
+-- and but for `check` not with this one either
+pub record WritesNothing (status : Status) : Type 0 where
+  pub of_command : IsOfCommand status
+  pub not_write : status ≢ WriteFault
 
-of_conflict : IsOfCommand Conflict
-of_conflict = record { not_usage = λ e. cc; not_memory = λ e. cc; not_sink = λ e. cc }
+of_accepted : WritesNothing Accepted
+of_accepted = record { of_command = record { not_usage = λ e. cc; not_memory = λ e. cc; not_sink = λ e. cc }; not_write = λ e. cc }
 
-of_unknown : IsOfCommand Unknown
-of_unknown = record { not_usage = λ e. cc; not_memory = λ e. cc; not_sink = λ e. cc }
+of_conflict : WritesNothing Conflict
+of_conflict = record { of_command = record { not_usage = λ e. cc; not_memory = λ e. cc; not_sink = λ e. cc }; not_write = λ e. cc }
 
-of_refused : IsOfCommand Refused
-of_refused = record { not_usage = λ e. cc; not_memory = λ e. cc; not_sink = λ e. cc }
+of_unknown : WritesNothing Unknown
+of_unknown = record { of_command = record { not_usage = λ e. cc; not_memory = λ e. cc; not_sink = λ e. cc }; not_write = λ e. cc }
 
-of_fault : IsOfCommand ReadFault
-of_fault = record { not_usage = λ e. cc; not_memory = λ e. cc; not_sink = λ e. cc }
+of_refused : WritesNothing Refused
+of_refused = record { of_command = record { not_usage = λ e. cc; not_memory = λ e. cc; not_sink = λ e. cc }; not_write = λ e. cc }
+
+of_fault : WritesNothing ReadFault
+of_fault = record { of_command = record { not_usage = λ e. cc; not_memory = λ e. cc; not_sink = λ e. cc }; not_write = λ e. cc }
+
+of_write : IsOfCommand WriteFault
+of_write = record { not_usage = λ e. cc; not_memory = λ e. cc; not_sink = λ e. cc }
 
 -- nor with what is equal to one
-same_as : (status wanted : Status) → status ≡ wanted → IsOfCommand wanted → IsOfCommand status
-same_as status wanted is of = subst IsOfCommand (sym is) of
+same_as : (status wanted : Status) → status ≡ wanted → WritesNothing wanted → WritesNothing status
+same_as status wanted is of = subst WritesNothing (sym is) of
 
 -- what every answer to what a command asks for says of its status
 pub record IsToCommand (before now : ℕ) (status : Status) : Type 0 where
-  pub of_command : IsOfCommand status
+  pub of_command : WritesNothing status
   pub quiet : status ≢ ReadFault → now ≡ before
 
 -- and of one to `verify`, which may name a bad line that was found behind a read that failed
 pub record IsToVerify (before now : ℕ) (status : Status) (text : List ℕ) : Type 0 where
-  pub of_command : IsOfCommand status
+  pub of_command : WritesNothing status
   pub quiet : status ≢ ReadFault → ((n : ℕ) (word : Word) → Says Refused (rejected_line n word) status text → ⊥) → now ≡ before
 
 -- an answer on a file that gives no task isn't Accepted either
@@ -88,22 +99,44 @@ without_task file before now status text (inr f) =
       to_command = record { of_command = same_as status Refused is of_refused; quiet = λ h. f.read.quiet };
     }
 
-decided_status : (d : Decision) → IsOfCommand (status_of d)
-decided_status Safe = of_accepted
-decided_status (Copies x clause) = of_unknown
-decided_status NotBuilt = of_unknown
+-- the status of what a search comes to
+outcome_status : (t : Parts) (o : Outcome (ℕ × Verdict)) (status : Status) (text : List ℕ) → SaysOutcome t o status text
+    → WritesNothing status
+outcome_status t outcome.Accepted status text h = same_as status Accepted h.1.2.ended of_accepted
+outcome_status t (outcome.Conflict (j, verdict.Holds)) status text h = absurd h
+outcome_status t (outcome.Conflict (j, verdict.Unmet)) status text h = absurd h
+outcome_status t (outcome.Conflict (j, verdict.Violates x i clause)) status text h = same_as status Conflict h.2.ended of_conflict
+outcome_status t (outcome.Open node goal) status text h = same_as status Unknown h.2.ended of_unknown
+outcome_status t (outcome.Steps node goal) status text h = same_as status Unknown h.2.ended of_unknown
+outcome_status t (outcome.Coefficient node goal op y z) status text h = same_as status Unknown h.2.ended of_unknown
+outcome_status t outcome.TooMany status text h = same_as status Unknown h.2.ended of_unknown
 
-checked_status : (t : Parts) (turns : ℕ) (status : Status) (text : List ℕ) → AnswersCheck t turns status text
-    → IsOfCommand status
-checked_status t turns status text (inl a) = same_as status Conflict a.says.ended of_conflict
-checked_status t turns status text (inr a) = same_as status (status_of (decision t)) a.says.ended (decided_status (decision t))
+-- an answer by a search writes nothing
+pub checked_status : (t : Parts) (effort : Effort) (status : Status) (text : List ℕ) → AnswersCheck t effort status text
+    → WritesNothing status
+checked_status t effort status text a = outcome_status t a.outcome status text a.says
 
-pub check_to_command : (file : Known) (turns before now : ℕ) (status : Status) (text : List ℕ) → Checks file turns before now status text
-    → IsToCommand before now status
-check_to_command file turns before now status text (inl f) = (without_task file before now status text f).to_command
-check_to_command file turns before now status text (inr c) = record {
-  of_command = checked_status c.task turns status text c.answers;
-  quiet = λ h. c.gives.read.quiet;
+-- what every answer to `check` says of its status
+pub record IsToCheck (before now : ℕ) (status : Status) : Type 0 where
+  pub of_command : IsOfCommand status
+  pub quiet : status ≢ ReadFault → now ≡ before
+
+pub check_to_command : (file : Known) (effort : Effort) (before now : ℕ) (status : Status) (text : List ℕ)
+    → Checks file effort before now status text → IsToCheck before now status
+check_to_command file effort before now status text (inl f) =
+    let to = (without_task file before now status text f).to_command in
+    record { of_command = to.of_command.of_command; quiet = to.quiet }
+check_to_command file effort before now status text (inr c) = record { of_command = go c.answers; quiet = λ h. c.gives.read.quiet }
+  where
+    go : AnswersCheck c.task effort status text ⊎ FailsToWrite c.task effort status text → IsOfCommand status
+    go (inl a) = (checked_status c.task effort status text a).of_command
+    go (inr a) = subst IsOfCommand (sym a.says.ended) of_write
+
+pub gen_to_command : (seed size : ℕ) (effort : Effort) (before now : ℕ) (status : Status) (text : List ℕ)
+    → Generates seed size effort before now status text → IsToCommand before now status
+gen_to_command seed size effort before now status text g = record {
+  of_command = checked_status (generated seed size) effort status g.answers.answer g.answers.answers;
+  quiet = λ h. g.quiet;
 }
 
 pub print_to_command : (file : Known) (before now : ℕ) (status : Status) (text : List ℕ) → Prints file before now status text
@@ -121,7 +154,7 @@ no_input_to_command t file before now status text (inl (inr f)) =
 no_input_to_command t file before now status text (inr f) =
     record { of_command = same_as status Refused f.refuses.says.ended of_refused; quiet = λ h. f.read.quiet }
 
-judged_status : (r : Result Verdict ReplayError) → IsOfCommand (verdict_status r)
+judged_status : (r : Result Verdict ReplayError) → WritesNothing (verdict_status r)
 judged_status (Ok verdict.Holds) = of_accepted
 judged_status (Ok verdict.Unmet) = of_unknown
 judged_status (Ok (verdict.Violates x i clause)) = of_conflict
@@ -142,7 +175,7 @@ replay_to_command file input turns before now status text (inr c) =
     let to = store_to_command c.task input turns c.between now status text c.answers in
     record { of_command = to.of_command; quiet = λ h. to.quiet h ∙ c.gives.read.quiet }
 
-answered_status : (a : FileAnswer) → IsOfCommand (answer_status a)
+answered_status : (a : FileAnswer) → WritesNothing (answer_status a)
 answered_status (Judged proof.Pass) = of_accepted
 answered_status (Judged (proof.Rejected line word)) = of_refused
 answered_status OverLong = of_refused

@@ -1,23 +1,24 @@
--- What `check` answers to a task: the first trial that violates, or else the decision on symbols.
--- Public clauses cite it.
-use Rattle.std.specs.Prelude.{◌≡◌, ◌<◌, ◌⊎◌, ◌++◌, ℕ, ℤ, Option, List, []}
+-- What `check` answers to a task: what its search comes to. Public clauses cite it.
+use Rattle.std.specs.Prelude.{◌≡◌, ◌⊎◌, ◌++◌, ℕ, List, [], ◌∷◌, codes}
+use Rattle.std.specs.Fmt.{signed_decimal}
 use Rattle.serde_json.specs.Data.{Members, object}
 use Rattle.serde_json.specs.Written.{compact_text}
 use Rattle.sm_eval.specs.StoredValues.{meaning}
 use Rattle.sm_eval.specs.declared.store.Store as code
+use Rattle.sm_houdini.specs.Outcomes as outcome
+use Rattle.sm_houdini.specs.Outcomes.{Outcome, IsOutcome}
 use Rattle.sm_replay.specs.Input.{IsInput}
-use Rattle.sm_replay.specs.Trials.{trial, trials, IsLeast, SomeTrialMeets}
-use Rattle.sm_replay.specs.Violations.{Violates}
+use Rattle.sm_replay.specs.Trials.{trial, SomeTrialMeets}
 use Rattle.sm_replay.specs.InputText.{AreWritten}
+use Rattle.sm_replay.specs.declared.verdict.Verdict.{Verdict}
 use Rattle.sm_replay.specs.declared.verdict.Verdict.TheVariants as verdict
-use Rattle.sm_syntax.specs.text.Parts.{Parts, sort_of, task_of}
+use Rattle.sm_syntax.specs.claim.ConflictFree.{ConflictFree}
 use Rattle.sm_syntax.specs.claim.Stores.{Store}
-use Rattle.sm_syntax.specs.declared.tree.Name.{Name}
-use Rattle.sm_commands.specs.Copies.{decision}
-use Rattle.sm_commands.specs.Lines.{decision_line, trial_line, input_line, unmet_line}
+use Rattle.sm_syntax.specs.text.Parts.{Parts, sort_of, task_of}
+use Rattle.sm_commands.specs.Lines.{goal_line, input_line, op_word, too_many_line, trial_line}
+use Rattle.sm_commands.specs.Lines.{unmet_line}
 use Rattle.sm_commands.specs.Status.{Says}
-use Rattle.sm_commands.specs.declared.copies.Decision.{Decision}
-use Rattle.sm_commands.specs.declared.copies.Decision.TheVariants.{Safe, Copies, NotBuilt}
+use Rattle.sm_commands.specs.declared.effort.Effort.{Effort}
 use Rattle.sm_commands.specs.declared.status.Status.{Status}
 use Rattle.sm_commands.specs.declared.status.Status.TheVariants.{Accepted, Conflict, Unknown}
 
@@ -30,25 +31,13 @@ pub record IsInputText (t : Parts) (s : Store) (text : List ℕ) : Type 0 where
   pub compact : text ≡ compact_text (object members)
   pub written : AreWritten t.names (sort_of t.declared) s members
 
--- the least trial that violates is named, with the first cell and clause at which it does, and its
--- input
-pub record ShowsConflict (t : Parts) (turns : ℕ) (status : Status) (text : List ℕ) : Type 0 where
-  pub number : ℕ
-  pub name : Name
-  pub index : Option ℤ
-  pub clause : ℕ
-  pub least : IsLeast (task_of t) (sort_of t.declared) turns number
-      (verdict.Violates name index clause)
-  pub input : List ℕ
-  pub shown : IsInputText t (trial (sort_of t.declared) number) input
-  pub says : Says Conflict (trial_line t.names number name index clause ++ input_line input)
-      status text
-
--- the status of a decision
-abbrev pub status_of : Decision → Status
-status_of Safe = Accepted
-status_of (Copies x clause) = Unknown
-status_of NotBuilt = Unknown
+-- the trial is named, with the first cell and clause at which it violates, and its input
+abbrev pub ShowsTrial : Parts → ℕ → Verdict → Status → List ℕ → Type 0
+ShowsTrial t j verdict.Holds status text = ⊥
+ShowsTrial t j verdict.Unmet status text = ⊥
+ShowsTrial t j (verdict.Violates name index clause) status text = (input : List ℕ)
+    × IsInputText t (trial (sort_of t.declared) j) input
+    × Says Conflict (trial_line t.names j name index clause ++ input_line input) status text
 
 -- the note after an answer: a line exactly where no trial meets the assumption
 abbrev pub IsNote : Parts → List ℕ → Type 0
@@ -56,14 +45,28 @@ IsNote t note =
     let meets = SomeTrialMeets (task_of t) (sort_of t.declared) in
     (meets × (note ≡ [])) ⊎ ((¬ meets) × (note ≡ unmet_line))
 
--- no trial violates, and the answer is the decision on symbols
-pub record Decides (t : Parts) (turns : ℕ) (status : Status) (text : List ℕ) : Type 0 where
-  pub no_violation : (j : ℕ) → j < trials →
-      ¬ Violates (task_of t) (trial (sort_of t.declared) j) turns
-  pub note : List ℕ
-  pub noted : IsNote t note
-  pub says : Says (status_of (decision t)) (decision_line t.names (decision t) ++ note) status text
+-- the reply has this status, with this line and the note
+abbrev pub SaysNoted : Parts → Status → List ℕ → Status → List ℕ → Type 0
+SaysNoted t wanted line status text = (note : List ℕ) × IsNote t note
+    × Says wanted (line ++ note) status text
+
+-- what is said of what a search comes to; only a task that is free of conflicts is accepted
+abbrev pub SaysOutcome : Parts → Outcome (ℕ × Verdict) → Status → List ℕ → Type 0
+SaysOutcome t outcome.Accepted status text =
+    ConflictFree (task_of t) × SaysNoted t Accepted (codes "Accepted\n") status text
+SaysOutcome t (outcome.Conflict found) status text = ShowsTrial t found.0 found.1 status text
+SaysOutcome t (outcome.Open node goal) status text =
+    SaysNoted t Unknown (goal_line (codes "Open") node goal []) status text
+SaysOutcome t (outcome.Steps node goal) status text =
+    SaysNoted t Unknown (goal_line (codes "Steps") node goal []) status text
+SaysOutcome t (outcome.Coefficient node goal op y z) status text =
+    SaysNoted t Unknown
+    (goal_line (codes "Coefficient") node goal
+    (op_word op ∷ signed_decimal y ∷ signed_decimal z ∷ [])) status text
+SaysOutcome t outcome.TooMany status text = SaysNoted t Unknown too_many_line status text
 
 -- what is answered to a task
-abbrev pub AnswersCheck : Parts → ℕ → Status → List ℕ → Type 0
-AnswersCheck t turns status text = ShowsConflict t turns status text ⊎ Decides t turns status text
+pub record AnswersCheck (t : Parts) (effort : Effort) (status : Status) (text : List ℕ) : Type 0 where
+  pub outcome : Outcome (ℕ × Verdict)
+  pub found : IsOutcome t effort.steps effort.turns outcome
+  pub says : SaysOutcome t outcome status text

@@ -13,14 +13,15 @@ use Rattle.sm_proof.specs.Verdicts.{Passes}
 use Rattle.sm_commands.specs.File.{file_limit}
 use Rattle.sm_commands.specs.Lines.{input_line}
 use Rattle.sm_commands.specs.Verify.{proof_limit}
-use Rattle.sm_commands.specs.Words.{Asked, check, verify, replay, print}
+use Rattle.sm_commands.specs.Words.{Asked, check, verify, replay, print, gen}
 
 -- the file of the task, where it is asked whether its merge is free of conflicts
 abbrev pub merge_file : Asked → Option (List ℕ)
-merge_file (check task turns workers) = Some task
+merge_file (check task proof effort) = Some task
 merge_file (verify task proof workers) = Some task
 merge_file (replay task input turns) = None
 merge_file (print task) = None
+merge_file (gen seed size effort) = None
 
 -- Accepted of `check` and of `verify`: the bytes spell a task that is free of conflicts
 abbrev pub IsSafeMerge : List ℕ → Type 0

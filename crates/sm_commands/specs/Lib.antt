@@ -8,7 +8,8 @@ pub mod Replay
 pub mod Words
 pub mod Numbers
 pub mod Command
-pub mod Copies
+pub mod Gen
+pub mod ProofFile
 pub mod Lines
 pub mod Status
 pub mod Exit

@@ -20,8 +20,6 @@ use Rattle.sm_replay.specs.declared.error.ReplayError.{ReplayError}
 use Rattle.sm_replay.specs.declared.error.ReplayError.TheVariants as stop
 use Rattle.sm_replay.specs.declared.verdict.Verdict.{Verdict}
 use Rattle.sm_replay.specs.declared.verdict.Verdict.TheVariants.{Holds, Unmet, Violates}
-use Rattle.sm_commands.specs.declared.copies.Decision.{Decision}
-use Rattle.sm_commands.specs.declared.copies.Decision.TheVariants.{Safe, Copies, NotBuilt}
 
 -- words, each with a space before it
 abbrev pub spaced : List (List ℕ) → List ℕ
@@ -78,13 +76,6 @@ refusal_line names TooDeep = as_whole (codes "TooDeep")
 refusal_line names TooMany = as_whole (codes "TooMany")
 refusal_line names Memory = []
 
--- the line on a task, by the texts of its names
-abbrev pub decision_line : List (List ℕ) → Decision → List ℕ
-decision_line names Safe = codes "Accepted\n"
-decision_line names (Copies x clause) =
-    line_of (codes "Unknown") (codes "Copies" ∷ name_text names x.0 ∷ decimal clause ∷ [])
-decision_line names NotBuilt = line_of (codes "Unknown") (codes "NotBuilt" ∷ [])
-
 -- the line after an answer of `check`, where no trial meets the assumption
 abbrev pub unmet_line : List ℕ
 unmet_line = codes "no trial meets the assumption\n"
@@ -109,6 +100,21 @@ abbrev pub op_word : Op → List ℕ
 op_word Add = codes "add"
 op_word Sub = codes "sub"
 op_word Mul = codes "mul"
+
+-- the line on a goal of a node of the plan that isn't shown, by the word for the cause
+abbrev pub goal_line : List ℕ → ℕ → ℕ → List (List ℕ) → List ℕ
+goal_line cause node goal more =
+    line_of (codes "Unknown") (cause ∷ decimal node ∷ decimal goal ∷ more)
+
+-- the line on a task whose plan is over its limits
+abbrev pub too_many_line : List ℕ
+too_many_line = line_of (codes "Unknown") (codes "TooMany" ∷ [])
+
+-- the line on a task that is made up, with how many holes each variant edits
+abbrev pub summary_line : ℕ → ℕ → ℕ → ℕ → List ℕ
+summary_line seed size a b =
+    line_of (codes "gen") (decimal seed ∷ decimal size
+    ∷ codes "a" ∷ decimal a ∷ codes "b" ∷ decimal b ∷ [])
 
 -- the line on an operation of a copy, or of the assumption, that leaves 128 bits
 abbrev pub beyond_line : List ℕ → Op → ℤ → ℤ → List ℕ

@@ -10,11 +10,15 @@ use Rattle.sm_text.specs.printing.Canonical.{task_pieces}
 use Rattle.sm_text.specs.printing.Pieces.{pieces_text}
 use Rattle.sm_commands.specs.Check.{AnswersCheck}
 use Rattle.sm_commands.specs.File.{GivesTask, GivesNoTask}
+use Rattle.sm_commands.specs.Gen.{AnswersGen}
+use Rattle.sm_commands.specs.ProofFile.{FailsToWrite, LeavesFront, LeavesProof}
 use Rattle.sm_commands.specs.Replay.{ReplaysInput}
 use Rattle.sm_commands.specs.Status.{Says}
 use Rattle.sm_commands.specs.Verify.{AnswersProof, rejected_line}
-use Rattle.sm_commands.specs.Words.{Words, Asked, check, verify, replay, print, asked, usage_line}
+use Rattle.sm_commands.specs.Words.{Words, Asked, check, verify, replay, print, gen, asked}
+use Rattle.sm_commands.specs.Words.{usage_line}
 use Rattle.sm_commands.specs.Words.{IsUsage}
+use Rattle.sm_commands.specs.declared.effort.Effort.{Effort}
 use Rattle.sm_commands.specs.declared.status.Status.{Status}
 use Rattle.sm_commands.specs.declared.status.Status.TheVariants.{Accepted, Refused, Usage}
 use Rattle.sm_commands.specs.declared.status.Status.TheVariants.{Memory, SinkFault}
@@ -22,6 +26,10 @@ use Rattle.sm_commands.specs.declared.status.Status.TheVariants.{Memory, SinkFau
 -- what a shelf tells of each file
 abbrev pub Files : Type 0
 Files = List ℕ → Known
+
+-- no file changes
+abbrev pub IsUnchanged : Files → Files → Type 0
+IsUnchanged before now = (name : List ℕ) → now name ≡ before name
 
 -- no command takes the words, and the answer says so
 pub record RefusesWords (words : Words) (before now : ℕ) (status : Status) (text : List ℕ)
@@ -31,16 +39,22 @@ pub record RefusesWords (words : Words) (before now : ℕ) (status : Status) (te
   pub says : Says Usage (usage_line words) status text
 
 -- the file gives a task, to which `check` answers
-pub record ChecksTask (file : Known) (turns before now : ℕ) (status : Status) (text : List ℕ)
-    : Type 0 where
+pub record ChecksTask (file : Known) (effort : Effort) (before now : ℕ) (status : Status)
+    (text : List ℕ) : Type 0 where
   pub task : Parts
   pub gives : GivesTask file before now task
-  pub answers : AnswersCheck task turns status text
+  pub answers : AnswersCheck task effort status text ⊎ FailsToWrite task effort status text
 
 -- what is answered to `check`
-abbrev pub Checks : Known → ℕ → ℕ → ℕ → Status → List ℕ → Type 0
-Checks file turns before now status text =
-    GivesNoTask file before now status text ⊎ ChecksTask file turns before now status text
+abbrev pub Checks : Known → Effort → ℕ → ℕ → Status → List ℕ → Type 0
+Checks file effort before now status text =
+    GivesNoTask file before now status text ⊎ ChecksTask file effort before now status text
+
+-- what is answered to `gen`
+pub record Generates (seed size : ℕ) (effort : Effort) (before now : ℕ) (status : Status)
+    (text : List ℕ) : Type 0 where
+  pub quiet : now ≡ before
+  pub answers : AnswersGen seed size effort status text
 
 -- the file gives a task, and then comes the proof's
 pub record VerifiesTask (file proof : Known) (before now : ℕ) (status : Status) (text : List ℕ)
@@ -82,14 +96,37 @@ Replays file input turns before now status text =
 
 -- what is answered to what is asked for
 abbrev pub AnswersCommand : Asked → Files → ℕ → ℕ → Status → List ℕ → Type 0
-AnswersCommand (check task turns workers) files before now status text =
-    Checks (files task) turns before now status text
+AnswersCommand (check task proof effort) files before now status text =
+    Checks (files task) effort before now status text
 AnswersCommand (verify task proof workers) files before now status text =
     Verifies (files task) (files proof) before now status text
 AnswersCommand (replay task input turns) files before now status text =
     Replays (files task) (files input) turns before now status text
 AnswersCommand (print task) files before now status text =
     Prints (files task) before now status text
+AnswersCommand (gen seed size effort) files before now status text =
+    Generates seed size effort before now status text
+
+-- what is left in the files by the answer to what is asked for: `check` alone writes, and to the
+-- file of its proof alone
+abbrev pub LeavesFiles : Asked → Files → Status → Files → Type 0
+LeavesFiles (check task proof effort) before status now =
+    ((other : List ℕ) → other ≢ proof → now other ≡ before other)
+    × LeavesProof (before task) status (before proof) (now proof)
+LeavesFiles (verify task proof workers) before status now = IsUnchanged before now
+LeavesFiles (replay task input turns) before status now = IsUnchanged before now
+LeavesFiles (print task) before status now = IsUnchanged before now
+LeavesFiles (gen seed size effort) before status now = IsUnchanged before now
+
+-- what may be left in the files where memory is wanting
+abbrev pub LeavesPart : Asked → Files → Files → Type 0
+LeavesPart (check task proof effort) before now =
+    ((other : List ℕ) → other ≢ proof → now other ≡ before other)
+    × LeavesFront (before task) (before proof) (now proof)
+LeavesPart (verify task proof workers) before now = IsUnchanged before now
+LeavesPart (replay task input turns) before now = IsUnchanged before now
+LeavesPart (print task) before now = IsUnchanged before now
+LeavesPart (gen seed size effort) before now = IsUnchanged before now
 
 -- what is answered to words that ask for this, or for nothing
 abbrev pub AnswersRequest : Option Asked → Words → Files → ℕ → ℕ → Status → List ℕ → Type 0
@@ -101,6 +138,24 @@ AnswersRequest (Some ask) words files before now status text =
 abbrev pub IsAnswerTo : Words → Files → ℕ → ℕ → Status → List ℕ → Type 0
 IsAnswerTo words files before now status text =
     AnswersRequest (asked words) words files before now status text
+
+-- what is left in the files by the answer to words that ask for this, or for nothing
+abbrev pub LeavesBy : Option Asked → Files → Status → Files → Type 0
+LeavesBy None before status now = IsUnchanged before now
+LeavesBy (Some ask) before status now = LeavesFiles ask before status now
+
+-- the same where memory is wanting
+abbrev pub LeavesPartBy : Option Asked → Files → Files → Type 0
+LeavesPartBy None before now = IsUnchanged before now
+LeavesPartBy (Some ask) before now = LeavesPart ask before now
+
+-- the file of the proof that is to be written isn't that of the task
+abbrev pub WritesElsewhere : Asked → Type 0
+WritesElsewhere (check task proof effort) = task ≢ proof
+WritesElsewhere (verify task proof workers) = Unit {0}
+WritesElsewhere (replay task input turns) = Unit {0}
+WritesElsewhere (print task) = Unit {0}
+WritesElsewhere (gen seed size effort) = Unit {0}
 
 -- the words ask for `verify`
 abbrev pub AsksToVerify : Words → Type 0

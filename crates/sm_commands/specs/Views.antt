@@ -1,47 +1,44 @@
--- What requests, tables of origins and answers of the checker stand for. Only private clauses cite
+-- What requests and answers of the checker stand for. Only private clauses cite
 -- it.
-use Rattle.std.specs.Prelude.{◌<◌, ◌≤◌, ℕ, unwrap_or, List, codes, Result, Ok, Err}
-use Rattle.std.specs.BTreeMap.{get}
-use Rattle.std.specs.Ordering.{nat_cmp}
+use Rattle.std.specs.Prelude.{◌≡◌, ◌≢◌, ◌<◌, ◌≤◌, ℕ, List, codes, Option, MatchOption}
+use Rattle.std.specs.Prelude.{Result, Ok, Err}
 use Rattle.sm_check.specs.Files.{Judged, OverLong, verdict_of}
 use Rattle.sm_check.specs.declared.verifying.CheckError.{CheckError}
 use Rattle.sm_check.specs.declared.verifying.CheckError.TheVariants as check_error
 use Rattle.sm_check.specs.declared.verifying.Checked.{Checked}
-use Rattle.sm_syntax.specs.claim.ConflictFree.{Copy}
-use Rattle.sm_syntax.specs.trees.Copies.{of_copy}
-use Rattle.sm_syntax.specs.declared.copies.PerCopy.{PerCopy}
+use Rattle.sm_io.specs.Causes.{HasCause}
+use Rattle.sm_proof.specs.Verdicts.{Passes}
+use Rattle.sm_syntax.specs.text.Parts.{Parts}
 use Rattle.sm_commands.specs.Status.{Says}
 use Rattle.sm_commands.specs.Verify.{answer_line, answer_status}
-use Rattle.sm_commands.specs.Words.{Asked, check, verify, replay, print}
-use Rattle.sm_commands.specs.declared.copies.Origins as table
-use Rattle.sm_commands.specs.declared.copies.Origin.{Origin}
-use Rattle.sm_commands.specs.declared.copies.Origin.TheVariants.{Start}
+use Rattle.sm_commands.specs.Words.{Asked, check, verify, replay, print, gen}
+use Rattle.sm_commands.specs.declared.effort.Effort.{Effort}
+use Rattle.sm_commands.specs.declared.exit.Exit.{Exit}
+use Rattle.sm_commands.specs.declared.exit.Exit.TheVariants.{Answer, Memory}
+use Rattle.sm_commands.specs.declared.status.Reply.{Reply}
 use Rattle.sm_commands.specs.declared.status.Status.{Status}
-use Rattle.sm_commands.specs.declared.status.Status.TheVariants.{ReadFault}
+use Rattle.sm_commands.specs.declared.status.Status.TheVariants.{Accepted, ReadFault, WriteFault}
 use Rattle.sm_commands.specs.declared.words.Request.{Request}
-use Rattle.sm_commands.specs.declared.words.Request.TheVariants.{Check, Verify, Replay, Print}
+use Rattle.sm_commands.specs.declared.words.Request.TheVariants.{Check, Verify, Replay, Print, Gen}
 
 -- what a request asks for
 abbrev pub asked_in : Request → Asked
-asked_in (Check task turns workers) = check task.now turns workers
+asked_in (Check task proof effort) = check task.now proof.now effort
 asked_in (Verify task proof workers) = verify task.now proof.now workers
 asked_in (Replay task input turns) = replay task.now input.now turns
 asked_in (Print task) = print task.now
+asked_in (Gen seed size effort) = gen seed size effort
 
--- the request is for one to 64 workers
-abbrev pub HasWorkers : Request → Type 0
-HasWorkers (Check task turns workers) = (0 < workers) × (workers ≤ 64)
-HasWorkers (Verify task proof workers) = (0 < workers) × (workers ≤ 64)
-HasWorkers (Replay task input turns) = Unit {0}
-HasWorkers (Print task) = Unit {0}
+-- one to 64 workers, where there are workers; and the size is one of a task that is made up
+abbrev pub HasWorkers : Effort → Type 0
+HasWorkers effort = (0 < effort.workers) × (effort.workers ≤ 64)
 
--- what a name has: what the table says, or else what the name had at the start
-abbrev pub origin_in : table.Origins → ℕ → Origin
-origin_in t x = unwrap_or (get nat_cmp t.given x) (Start x)
-
--- what each name has after the program of each copy
-abbrev pub after_in : PerCopy table.Origins → Copy → ℕ → Origin
-after_in ends c = origin_in (of_copy ends c)
+abbrev pub IsWithin : Request → Type 0
+IsWithin (Check task proof effort) = HasWorkers effort
+IsWithin (Verify task proof workers) = (0 < workers) × (workers ≤ 64)
+IsWithin (Replay task input turns) = Unit {0}
+IsWithin (Print task) = Unit {0}
+IsWithin (Gen seed size effort) = (1 ≤ size) × (size ≤ 190) × HasWorkers effort
 
 -- the reply to what the checker answers of a proof's file; want of memory has none
 abbrev pub SaysChecked : Result Checked CheckError → Status → List ℕ → Type 0
@@ -53,3 +50,19 @@ SaysChecked (Err check_error.TooLong) status text =
 SaysChecked (Err check_error.ReadFault) status text =
     Says ReadFault (codes "ReadFault\n") status text
 SaysChecked (Err check_error.Memory) status text = ⊥
+
+-- a proof comes with the answer exactly where the task is accepted, and passes for it
+abbrev pub ComesWith : Parts → Status → Option (List ℕ) → Type 0
+ComesWith t status proof =
+    MatchOption proof (status ≢ Accepted) (λ text. (status ≡ Accepted) × Passes t text)
+
+-- a result of a command has an answer with this status, or the other where memory is wanting
+abbrev pub EndsWith : (Status → Type 0) → Type 0 → Result Reply Exit → Type 0
+EndsWith Has Else (Ok r) = Has r.status
+EndsWith Has Else (Err (Answer r)) = Has r.status
+EndsWith Has Else (Err Memory) = Else
+
+-- over a command: a count of faults to write rises only where it answers one
+abbrev pub CountsWrites : ℕ → ℕ → Result Reply Exit → Type 0
+CountsWrites before now result =
+    EndsWith (λ status. HasCause before now (status ≡ WriteFault)) (now ≡ before) result

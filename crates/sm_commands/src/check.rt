@@ -1,62 +1,123 @@
 // What `check` answers to a task.
-ghost use Rattle.std.specs.Prelude.{◌≡◌, ◌<◌, ◌≤◌, ◌++◌, List, ℕ, None, IfOk};
+ghost use Rattle.std.specs.Prelude.{◌≡◌, ◌<◌, ◌≤◌, ◌++◌, List, ℕ, None, IfOk, option_map, codes};
+ghost use Rattle.sm_check.specs.Checkable.{IsCheckable};
 ghost use Rattle.sm_replay.specs.Sorted.{sort_fault};
-ghost use Rattle.sm_replay.specs.Trials.{trial};
+ghost use Rattle.sm_replay.specs.Trials.{IsLeast, trial};
 ghost use Rattle.sm_replay.specs.InputText.{AreNamed};
-ghost use Rattle.sm_syntax.specs.text.Parts.{sort_of};
-ghost use Rattle.sm_task.specs.Filling.{AreFilled};
+ghost use Rattle.sm_syntax.specs.text.Conditions.{first_refusal};
+ghost use Rattle.sm_syntax.specs.text.Parts.{sort_of, task_of};
 ghost use Rattle.sm_task.specs.Tasks.{parts_of};
-ghost use Rattle.sm_commands.specs.Check.{status_of, AnswersCheck, IsInputText, IsNote};
-ghost use Rattle.sm_commands.specs.Copies.{decision};
-ghost use Rattle.sm_commands.specs.Lines.{decision_line, input_line, trial_line};
+ghost use Rattle.sm_text.specs.printing.Named.{HasText};
+ghost use Rattle.sm_commands.specs.Check.{AnswersCheck, IsInputText, IsNote, SaysNoted, ShowsTrial};
+ghost use Rattle.sm_commands.specs.Lines.{input_line, trial_line};
 ghost use Rattle.sm_commands.specs.Status.{Says};
+ghost use Rattle.sm_commands.specs.Views.{ComesWith, HasWorkers};
 
-use crate::copies::{Decision, decide};
-use crate::lines::{decision_line, put_input_line, trial_line};
+use crate::effort::Effort;
+use crate::lines::{coefficient_line, goal_line, line, put_input_line, too_many_line, trial_line};
 use crate::status::{Reply, Status};
+use sm_houdini::{Outcome, proof_text, search};
 use sm_par::Gate;
-use sm_replay::{Verdict, first_violation, some_trial_meets, trial, write_input};
-use sm_syntax::{Block, Name, PerCopy};
-use sm_task::{Task, fill_all};
+use sm_replay::{Verdict, some_trial_meets, trial, write_input};
+use sm_syntax::Name;
+use sm_task::Task;
 use std::alloc::{AllocError, Global};
 use std::thread::Threads;
 
-/// The answer to a task that may be run, whose declared names have texts: the least trial that
-/// violates, where each loop takes at most `turns` turns, or else the decision on symbols. The
-/// trials are jobs for 1 to 64 workers.
+/// The answer to a task, with the proof where it is accepted.
+#[derive(Drop)]
+pub struct Decided {
+    pub reply: Reply,
+    pub proof: Option<Vec<u8>>,
+}
+
+/// The answer to a task that some text spells: what its search comes to. Jobs are for 1 to 64
+/// workers.
 pub fn check<R: Threads + Sync, G: Gate>(
     rt: &R,
     alloc: Global,
     gate: &G,
     task: &Task,
-    turns: u64,
-    workers: u32,
-) -> Result<Reply, AllocError>
-    requires runs { sort_fault (parts_of task.now) ≡ None }
-    requires named { let t = parts_of task.now in AreNamed t.names (sort_of t.declared) }
-    requires some { 0 < workers }
-    requires most { workers ≤ 64 }
-    ensures { IfOk result (λ r. AnswersCheck (parts_of task.now) turns r.status r.text.items) }
+    effort: Effort,
+) -> Result<Decided, AllocError>
+    requires spelled { HasText (parts_of task.now) }
+    requires workers { HasWorkers effort }
+    ensures answers { IfOk result (λ d.
+        AnswersCheck (parts_of task.now) effort d.reply.status d.reply.text.items) }
+    ensures proof { IfOk result (λ d. ComesWith (parts_of task.now) d.reply.status
+        (option_map (λ v. v.items) d.proof)) }
 {
-    let programs = fill_all(alloc, task)?;
-    match first_violation(rt, alloc, gate, task, &programs, turns, workers)? {
-        Some(
-            (
-                number,
-                Verdict::Violates {
-                    name,
-                    index,
-                    clause,
-                },
-            ),
-        ) => conflict(alloc, task, number, name, index, clause),
-        Some(_) => unreachable!(),
-        None => decided(alloc, task, &programs),
+    let outcome = search(
+        rt,
+        alloc,
+        gate,
+        task,
+        effort.steps,
+        effort.turns,
+        effort.workers,
+    )?;
+    match outcome {
+        Outcome::Accepted(proof) => {
+            let text = proof_text(alloc, task, proof)?;
+            let reply = accepted(alloc, task)?;
+            Ok(Decided {
+                reply,
+                proof: Some(text),
+            })
+        }
+        Outcome::Conflict { trial, verdict } => {
+            let reply = conflict(alloc, task, trial, verdict)?;
+            Ok(Decided { reply, proof: None })
+        }
+        Outcome::Open { node, goal } => {
+            let text = goal_line(alloc, "Open", node, goal)?;
+            let reply = unknown(alloc, task, text)?;
+            Ok(Decided { reply, proof: None })
+        }
+        Outcome::Steps { node, goal } => {
+            let text = goal_line(alloc, "Steps", node, goal)?;
+            let reply = unknown(alloc, task, text)?;
+            Ok(Decided { reply, proof: None })
+        }
+        Outcome::Coefficient {
+            node,
+            goal,
+            op,
+            a,
+            b,
+        } => {
+            let text = coefficient_line(alloc, node, goal, op, a, b)?;
+            let reply = unknown(alloc, task, text)?;
+            Ok(Decided { reply, proof: None })
+        }
+        Outcome::TooMany => {
+            let text = too_many_line(alloc)?;
+            let reply = unknown(alloc, task, text)?;
+            Ok(Decided { reply, proof: None })
+        }
     }
 }
 
 // The answer that a trial violates.
-fn conflict(
+fn conflict(alloc: Global, task: &Task, number: u8, verdict: Verdict) -> Result<Reply, AllocError>
+    requires named { let t = parts_of task.now in AreNamed t.names (sort_of t.declared) }
+    requires least { (turns : ℕ) × (let t = parts_of task.now in
+        IsLeast (task_of t) (sort_of t.declared) turns number verdict) }
+    ensures { IfOk result (λ r.
+        ShowsTrial (parts_of task.now) number verdict r.status r.text.items) }
+{
+    match verdict {
+        Verdict::Violates {
+            name,
+            index,
+            clause,
+        } => shown(alloc, task, number, name, index, clause),
+        Verdict::Holds | Verdict::Unmet => unreachable!(),
+    }
+}
+
+// The same, where the trial violates.
+fn shown(
     alloc: Global,
     task: &Task,
     number: u8,
@@ -81,22 +142,35 @@ fn conflict(
     })
 }
 
-// The answer by the decision on symbols.
-fn decided(alloc: Global, task: &Task, programs: &PerCopy<Block>) -> Result<Reply, AllocError>
-    requires runs { sort_fault (parts_of task.now) ≡ None }
-    requires filled { AreFilled (parts_of task.now) programs.now }
-    ensures { let t = parts_of task.now in IfOk result (λ r. (note : List ℕ) × IsNote t note
-        × Says (status_of (decision t)) (decision_line t.names (decision t) ++ note)
+// The answer that the task is accepted.
+fn accepted(alloc: Global, task: &Task) -> Result<Reply, AllocError>
+    requires { sort_fault (parts_of task.now) ≡ None }
+    ensures { IfOk result (λ r. SaysNoted (parts_of task.now) Status.Accepted (codes "Accepted\n")
         r.status r.text.items) }
 {
-    let decision = decide(alloc, task, programs)?;
+    let text = line(alloc, "Accepted", &[])?;
+    noted(alloc, task, Status::Accepted, text)
+}
+
+// The answer that the task is not decided, with this line.
+fn unknown(alloc: Global, task: &Task, text: Vec<u8>) -> Result<Reply, AllocError>
+    requires { sort_fault (parts_of task.now) ≡ None }
+    ensures { IfOk result (λ r. SaysNoted (parts_of task.now) Status.Unknown text.items
+        r.status r.text.items) }
+{
+    noted(alloc, task, Status::Unknown, text)
+}
+
+// A line with the note behind it.
+fn noted(alloc: Global, task: &Task, status: Status, text: Vec<u8>) -> Result<Reply, AllocError>
+    requires { sort_fault (parts_of task.now) ≡ None }
+    ensures { IfOk result (λ r. SaysNoted (parts_of task.now) status text.items
+        r.status r.text.items) }
+{
     let note = note_of(alloc, task)?;
-    let mut text = decision_line(alloc, &task.shared.names, decision)?;
+    let mut text = text;
     text.extend_from_slice(note.as_bytes())?;
-    Ok(Reply {
-        status: status_of(decision),
-        text,
-    })
+    Ok(Reply { status, text })
 }
 
 // What comes after the decision.
@@ -108,14 +182,5 @@ fn note_of(alloc: Global, task: &Task) -> Result<&'static str, AllocError>
         Ok("")
     } else {
         Ok("no trial meets the assumption\n")
-    }
-}
-
-fn status_of(decision: Decision) -> Status
-    ensures { result ≡ status_of decision }
-{
-    match decision {
-        Decision::Safe => Status::Accepted,
-        Decision::Copies { .. } | Decision::NotBuilt => Status::Unknown,
     }
 }

@@ -1,38 +1,40 @@
 //! SafeMerge: checks that a three-way merge of programs is free of conflicts.
 //!
-//! - `safemerge` does all that the program does, over any shelf and any sink. `check` prints
-//!   `Accepted` for a task that is free of conflicts alone, and `Conflict` for one that isn't, with
-//!   the first trial that shows it. `verify` prints `Accepted` exactly where the bytes of a proof's
-//!   file pass for the task, which is then free of conflicts, and else the number of the first bad
-//!   line and the word for what is wrong with it. `replay` judges one input exactly, and `print`
-//!   puts the canonical text of a task. Words that no command takes, bytes that are no task or no
-//!   input, and faults are answered exactly where they are met.
+//! - `safemerge` does all that the program does, over any shelf and any sink. `check` answers what
+//!   the search of a task comes to: `Accepted` for a task that is free of conflicts alone, whose
+//!   proof it writes to a file; `Conflict` for one that isn't, with the first trial that shows it;
+//!   or `Unknown` with the first goal that stays open. `verify` prints `Accepted` exactly where the
+//!   bytes of a proof's file pass for the task, which is then free of conflicts, and else the number
+//!   of the first bad line and the word for what is wrong with it. `replay` judges one input
+//!   exactly, `print` puts the canonical text of a task, and `gen` makes a task and answers it.
+//!   Words that no command takes, bytes that are no task or no input, and faults are answered
+//!   exactly where they are met.
 //! - `one_answer` is the law that two answers to the same words and told files, without a fault,
 //!   are equal.
 //! - `Status::number` is the number with which the program ends.
-//! - `decide` decides the tasks whose programs only copy, exactly and soundly.
 //!
 //! The claim is `ConflictFree` of the crate `sm_syntax`. Read `specs/Headline.antt` first: what
 //! Accepted and Conflict say. `specs/Top.antt` says what is answered, with `specs/File.antt`,
-//! `specs/Check.antt`, `specs/Verify.antt` and `specs/Replay.antt`; `specs/Words.antt` what the
-//! words ask for, and `specs/Copies.antt` how `check` decides tasks.
+//! `specs/Check.antt`, `specs/Verify.antt`, `specs/Replay.antt` and `specs/Gen.antt`;
+//! `specs/ProofFile.antt` what `check` writes, and `specs/Words.antt` what the words ask for.
 #![tactic(auto)]
 
 mod check;
 mod command;
-mod copies;
+mod effort;
 mod exit;
 mod file;
 mod laws;
 mod lines;
+mod making;
 mod numbers;
+mod proof_file;
 mod replay;
 mod status;
 mod top;
 mod verifying;
 mod words;
 
-pub use copies::{Decision, decide};
 pub use laws::one_answer;
 pub use status::Status;
 pub use top::safemerge;

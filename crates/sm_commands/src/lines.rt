@@ -6,11 +6,10 @@ ghost use Rattle.sm_syntax.specs.claim.ConflictFree.{copy_of};
 ghost use Rattle.sm_syntax.specs.trees.Copies.{letter_of};
 ghost use Rattle.sm_commands.specs.Lines.{line_of, name_text, list_word};
 ghost use Rattle.sm_commands.specs.Lines.{line_at_hole, line_at_place};
-ghost use Rattle.sm_commands.specs.Lines.{refusal_line, decision_line, cell_text, input_line};
-ghost use Rattle.sm_commands.specs.Lines.{trial_line, op_word, verdict_line};
+ghost use Rattle.sm_commands.specs.Lines.{refusal_line, cell_text, goal_line, input_line, summary_line};
+ghost use Rattle.sm_commands.specs.Lines.{too_many_line, trial_line, op_word, verdict_line};
 ghost use Rattle.sm_commands.specs.Lines.{line_at_name, input_refusal_line};
 
-use crate::copies::Decision;
 use itoa::Buffer;
 use sm_num::Op;
 use sm_replay::{InputError, ReplayError, Verdict};
@@ -113,26 +112,82 @@ pub fn refusal_line(
     }
 }
 
-/// The line on a task, by its names.
-pub fn decision_line(
-    alloc: Global,
-    names: &NameTable,
-    decision: Decision,
-) -> Result<Vec<u8>, AllocError>
-    ensures { IfOk result (λ text. text.items ≡ decision_line names.now decision) }
+/// The line on a goal of a node of the plan that isn't shown, by the word for the cause.
+pub fn goal_line(alloc: Global, cause: &str, node: u64, goal: u64) -> Result<Vec<u8>, AllocError>
+    ensures { IfOk result (λ text. text.items ≡ goal_line cause.now node goal []) }
 {
-    match decision {
-        Decision::Safe => line(alloc, "Accepted", &[]),
-        Decision::Copies { name, clause } => {
-            let mut buffer = Buffer::new();
-            line(
-                alloc,
-                "Unknown",
-                &["Copies", name_text(names, name), buffer.format(clause)],
-            )
-        }
-        Decision::NotBuilt => line(alloc, "Unknown", &["NotBuilt"]),
-    }
+    let mut place = Buffer::new();
+    let mut number = Buffer::new();
+    line(
+        alloc,
+        "Unknown",
+        &[cause, place.format(node), number.format(goal)],
+    )
+}
+
+/// The line on a goal whose walk leaves the range by an operation.
+pub fn coefficient_line(
+    alloc: Global,
+    node: u64,
+    goal: u64,
+    op: Op,
+    a: i128,
+    b: i128,
+) -> Result<Vec<u8>, AllocError>
+    ensures { IfOk result (λ text. text.items ≡ goal_line (codes "Coefficient") node goal
+        (op_word op ∷ signed_decimal a ∷ signed_decimal b ∷ [])) }
+{
+    let mut place = Buffer::new();
+    let mut number = Buffer::new();
+    let mut left = Buffer::new();
+    let mut right = Buffer::new();
+    line(
+        alloc,
+        "Unknown",
+        &[
+            "Coefficient",
+            place.format(node),
+            number.format(goal),
+            op_word(op),
+            left.format(a),
+            right.format(b),
+        ],
+    )
+}
+
+/// The line on a task whose plan is over its limits.
+pub fn too_many_line(alloc: Global) -> Result<Vec<u8>, AllocError>
+    ensures { IfOk result (λ text. text.items ≡ too_many_line) }
+{
+    line(alloc, "Unknown", &["TooMany"])
+}
+
+/// The line on a task that is made up, with how many holes each variant edits.
+pub fn summary_line(
+    alloc: Global,
+    seed: u32,
+    size: u16,
+    a: u64,
+    b: u64,
+) -> Result<Vec<u8>, AllocError>
+    ensures { IfOk result (λ text. text.items ≡ summary_line seed size a b) }
+{
+    let mut first = Buffer::new();
+    let mut second = Buffer::new();
+    let mut left = Buffer::new();
+    let mut right = Buffer::new();
+    line(
+        alloc,
+        "gen",
+        &[
+            first.format(seed),
+            second.format(size),
+            "a",
+            left.format(a),
+            "b",
+            right.format(b),
+        ],
+    )
 }
 
 // The text of a cell.

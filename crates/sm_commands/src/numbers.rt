@@ -1,5 +1,6 @@
 // The rule for numbers among the words.
-ghost use Rattle.std.specs.Prelude.{◌≡◌, ◌≤◌, ◌&&◌, true, nat_le, option_map, IfSome};
+ghost use Rattle.std.specs.Prelude.{◌≡◌, ◌≤◌, ◌&&◌, true, nat_le, option_and_then, option_map};
+ghost use Rattle.std.specs.Prelude.{IfSome};
 ghost use Rattle.std.specs.Str.{all_ascii_digits};
 ghost use Rattle.std.specs.Str.Parse.{digits_value};
 ghost use Rattle.sm_commands.specs.Numbers.{is_number, number_or, spelled_number};
@@ -13,6 +14,18 @@ pub fn number_or(default: u64, least: u64, most: u64, text: Option<&str>) -> Opt
     match text {
         Some(text) => number_of(least, most, text),
         None => Some(default),
+    }
+}
+
+/// The number that a text spells, in its range; none where there is no text.
+pub fn spelled(least: u64, most: u64, text: Option<&str>) -> Option<u64>
+    ensures value { result
+        ≡ option_and_then (spelled_number least most) (option_map (λ t. t.now) text.entry) }
+    ensures range { IfSome result (λ n. (least ≤ n) × (n ≤ most)) }
+{
+    match text {
+        Some(text) => number_of(least, most, text),
+        None => None,
     }
 }
 

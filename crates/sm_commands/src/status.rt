@@ -19,7 +19,7 @@ pub enum Status {
     ReadFault,
     /// Want of memory.
     Memory,
-    /// A file can't be written, which no command does yet.
+    /// The proof can't be written.
     WriteFault,
     /// The output can't be written.
     SinkFault,

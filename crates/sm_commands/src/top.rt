@@ -1,11 +1,15 @@
 // The top call: words, files and standard output.
 ghost use Rattle.std.specs.Prelude.{◌≡◌, ◌≢◌, ◌⊎◌, ◌↔◌, ◌<◌, ◌≤◌, ℕ, List, None, Some, length, map};
-ghost use Rattle.std.specs.Prelude.{IfOk, IfErr, IfSome};
+ghost use Rattle.std.specs.Prelude.{codes, take, IfOk, IfErr, IfSome, OnErr, MatchOption};
 ghost use Rattle.std.specs.String.{string_bytes};
-ghost use Rattle.sm_io.specs.Causes.{HasCause};
-ghost use Rattle.sm_io.specs.Files.{WhereHeld};
+ghost use Rattle.sm_houdini.specs.Outcomes as outcome;
+ghost use Rattle.sm_houdini.specs.Outcomes.{IsOutcome};
+ghost use Rattle.sm_io.specs.Causes.{HasCause, Rose};
+ghost use Rattle.sm_io.specs.Files.{WhereHeld, emptied, holds, longer};
 ghost use Rattle.sm_io.specs.Sinks.{Adds};
 ghost use Rattle.sm_replay.specs.Sorted.{sort_fault};
+ghost use Rattle.sm_syntax.specs.text.Parts.{Parts};
+ghost use Rattle.sm_syntax.specs.text.Spells.{Spells};
 ghost use Rattle.sm_task.specs.Tasks.{parts_of};
 ghost use Rattle.sm_text.specs.printing.Canonical.{task_pieces};
 ghost use Rattle.sm_text.specs.printing.Named.{HasText};
@@ -14,16 +18,26 @@ ghost use Rattle.sm_commands.specs.Headline.{merge_file, IsProved, IsSafeMerge, 
 ghost use Rattle.sm_commands.specs.Headline.{IsShownByInput, ShowsInput};
 ghost use Rattle.sm_commands.specs.Top.{IsAnswerTo, AnswersCommand, Checks, Prints, Replays};
 ghost use Rattle.sm_commands.specs.Top.{IsPrinted, PutsPart, RejectsProof};
+ghost use Rattle.sm_commands.specs.Top.{LeavesBy, LeavesFiles, LeavesPart, LeavesPartBy};
+ghost use Rattle.sm_commands.specs.Top.{WritesElsewhere};
+ghost use Rattle.sm_commands.specs.Check.{AnswersCheck};
+ghost use Rattle.sm_commands.specs.File.{file_limit};
+ghost use Rattle.sm_commands.specs.ProofFile.{FailsToWrite, HoldsProof, IsBegun, IsTaskIn};
+ghost use Rattle.sm_commands.specs.ProofFile.{LeavesFront, LeavesProof, LeftBy, LeftCut};
 ghost use Rattle.sm_commands.specs.Status.{Says};
 ghost use Rattle.sm_commands.specs.Replay.{ReplaysInput};
-ghost use Rattle.sm_commands.specs.Views.{asked_in, HasWorkers};
+ghost use Rattle.sm_commands.specs.Views.{asked_in, CountsWrites, EndsWith, HasWorkers, IsWithin};
 ghost use Rattle.sm_commands.specs.Exit.{ExitsWith};
 ghost use Rattle.sm_commands.specs.Words.{Asked, asked, check, verify, replay, task_file};
 ghost use Rattle.sm_commands.specs.Words.{usage_line, IsUsage};
 
-use crate::check::check;
+use crate::check::{Decided, check};
+use crate::effort::Effort;
 use crate::exit::Exit;
 use crate::file::{input_in, task_in};
+use crate::lines::line;
+use crate::making::gen_answer;
+use crate::proof_file::write_file;
 use crate::replay::replay;
 use crate::status::{Reply, Status};
 use crate::verifying::verify_in;
@@ -34,8 +48,8 @@ use sm_task::{Task, print_task};
 use std::alloc::{AllocError, Global};
 use std::thread::Threads;
 
-/// What the program does with its words, which come without its name. It reads from `shelf` alone,
-/// and prints to `out` alone. Jobs run in threads of `rt`, and enter `gate` before they run.
+/// What the program does with its words, which come without its name. It reads from `shelf` and
+/// writes to it alone, and prints to `out` alone. Jobs run in threads of `rt`, and enter `gate` before they run.
 pub fn safemerge<R: Threads + Sync, G: Gate, H: Shelf, K: Sink>(
     rt: &R,
     alloc: Global,
@@ -55,13 +69,13 @@ pub fn safemerge<R: Threads + Sync, G: Gate, H: Shelf, K: Sink>(
         WhereHeld (H.file shelf.old task) (λ bytes. WhereHeld (H.file shelf.old proof) (λ lines.
         (result ≡ Status.Accepted) ↔ IsProved bytes lines)) }
     // Where `check` or `replay` answers Conflict, they spell a task that isn't.
-    ensures conflict { result ≡ Status.Conflict → (ask : Asked) →
-        asked (map string_bytes words.now) ≡ Some ask →
-        WhereHeld (H.file shelf.old (task_file ask)) IsUnsafeMerge }
+    ensures conflict { result ≡ Status.Conflict → (ask : Asked) (task : List ℕ) →
+        asked (map string_bytes words.now) ≡ Some ask → task_file ask ≡ Some task →
+        WhereHeld (H.file shelf.old task) IsUnsafeMerge }
     // That of `check` prints an input that shows it.
-    ensures shown { result ≡ Status.Conflict → (task : List ℕ) (turns workers : ℕ) →
-        asked (map string_bytes words.now) ≡ Some (check task turns workers) →
-        (text : List ℕ) × ShowsInput (H.file shelf.old task) turns text
+    ensures shown { result ≡ Status.Conflict → (task proof : List ℕ) (effort : Effort) →
+        asked (map string_bytes words.now) ≡ Some (check task proof effort) →
+        (text : List ℕ) × ShowsInput (H.file shelf.old task) effort.turns text
         × Adds (K.taken out.old) (K.taken out.new) text }
     // That of `replay` is shown by its input.
     ensures replayed { result ≡ Status.Conflict → (task input : List ℕ) (turns : ℕ) →
@@ -91,9 +105,39 @@ pub fn safemerge<R: Threads + Sync, G: Gate, H: Shelf, K: Sink>(
         (H.read_faults shelf.old) (H.read_faults shelf.new))
         (K.taken out.old) (K.taken out.new) }
 
-    // No file changes.
-    ensures same { (name : List ℕ) → H.file shelf.new name ≡ H.file shelf.old name }
-    ensures writes { H.write_faults shelf.new ≡ H.write_faults shelf.old }
+    // No file changes, but that of the proof of `check`, where it accepts or can't write it whole.
+    ensures same { (name : List ℕ) →
+        ((task : List ℕ) (effort : Effort) →
+        asked (map string_bytes words.now) ≢ Some (check task name effort)) →
+        H.file shelf.new name ≡ H.file shelf.old name }
+    ensures untouched { IsPrinted result → result ≢ Status.Accepted → result ≢ Status.WriteFault →
+        (task proof : List ℕ) (effort : Effort) →
+        asked (map string_bytes words.now) ≡ Some (check task proof effort) →
+        H.file shelf.new proof ≡ H.file shelf.old proof }
+    // Where `check` accepts, the proof's file has a proof that passes for the task.
+    ensures proved { result ≡ Status.Accepted → (task proof : List ℕ) (effort : Effort) →
+        asked (map string_bytes words.now) ≡ Some (check task proof effort) →
+        (t : Parts) × IsTaskIn (H.file shelf.old task) t
+        × HoldsProof t (H.file shelf.old proof) (H.file shelf.new proof) }
+    // Whatever it answers, the file has what it had, or nothing, or such a proof, or a front of one.
+    ensures front { (task proof : List ℕ) (effort : Effort) →
+        asked (map string_bytes words.now) ≡ Some (check task proof effort) →
+        LeavesFront (H.file shelf.old task) (H.file shelf.old proof) (H.file shelf.new proof) }
+    // Where the output fails and no count of the shelf rose, the proof of an accepted task is there.
+    ensures kept { result ≡ Status.SinkFault →
+        (¬ Rose (H.write_faults shelf.old) (H.write_faults shelf.new)) →
+        (¬ Rose (H.read_faults shelf.old) (H.read_faults shelf.new)) →
+        (task proof bytes : List ℕ) (effort : Effort) (t : Parts) →
+        asked (map string_bytes words.now) ≡ Some (check task proof effort) →
+        H.file shelf.old task ≡ holds bytes → length bytes ≤ file_limit → Spells bytes t →
+        IsOutcome t effort.steps effort.turns outcome.Accepted →
+        HoldsProof t (H.file shelf.old proof) (H.file shelf.new proof) }
+
+    // A fault to write has its cause, and so has each rise of the count.
+    ensures written { result ≡ Status.WriteFault →
+        Rose (H.write_faults shelf.old) (H.write_faults shelf.new) }
+    ensures writes { IsPrinted result → result ≢ Status.WriteFault →
+        H.write_faults shelf.new ≡ H.write_faults shelf.old }
 {
     let Some(reply) = reply_to(rt, alloc, gate, words, shelf) else {
         return Status::Memory;
@@ -115,8 +159,13 @@ fn reply_to<R: Threads + Sync, G: Gate, H: Shelf>(
 ) -> Option<Reply>
     ensures answers { IfSome result (λ r. IsAnswerTo (map string_bytes words.now) (H.file shelf.old)
         (H.read_faults shelf.old) (H.read_faults shelf.new) r.status r.text.items) }
-    ensures same { (name : List ℕ) → H.file shelf.new name ≡ H.file shelf.old name }
-    ensures writes { H.write_faults shelf.new ≡ H.write_faults shelf.old }
+    ensures left { MatchOption result
+        (LeavesPartBy (asked (map string_bytes words.now)) (H.file shelf.old) (H.file shelf.new))
+        (λ r. LeavesBy (asked (map string_bytes words.now)) (H.file shelf.old) r.status
+        (H.file shelf.new)) }
+    ensures writes { MatchOption result (H.write_faults shelf.new ≡ H.write_faults shelf.old)
+        (λ r. HasCause (H.write_faults shelf.old) (H.write_faults shelf.new)
+        (r.status ≡ Status.WriteFault)) }
 {
     match answer(rt, alloc, gate, words, shelf) {
         Ok(reply) => Some(reply),
@@ -137,8 +186,12 @@ fn answer<R: Threads + Sync, G: Gate, H: Shelf>(
         (H.read_faults shelf.old) (H.read_faults shelf.new) r.status r.text.items) }
     ensures exit { IfErr result (ExitsWith (IsAnswerTo (map string_bytes words.now)
         (H.file shelf.old) (H.read_faults shelf.old) (H.read_faults shelf.new))) }
-    ensures same { (name : List ℕ) → H.file shelf.new name ≡ H.file shelf.old name }
-    ensures writes { H.write_faults shelf.new ≡ H.write_faults shelf.old }
+    ensures left { EndsWith
+        (λ status. LeavesBy (asked (map string_bytes words.now)) (H.file shelf.old) status
+        (H.file shelf.new))
+        (LeavesPartBy (asked (map string_bytes words.now)) (H.file shelf.old) (H.file shelf.new))
+        result }
+    ensures writes { CountsWrites (H.write_faults shelf.old) (H.write_faults shelf.new) result }
 {
     match read_words(alloc, words) {
         Ok(request) => answer_to(rt, alloc, gate, request, shelf),
@@ -167,20 +220,23 @@ fn answer_to<R: Threads + Sync, G: Gate, H: Shelf>(
     request: Request<'_>,
     shelf: &mut H,
 ) -> Result<Reply, Exit>
-    requires { HasWorkers request }
+    requires within { IsWithin request }
+    requires other { WritesElsewhere (asked_in request) }
     ensures ok { IfOk result (λ r. AnswersCommand (asked_in request.entry) (H.file shelf.old)
         (H.read_faults shelf.old) (H.read_faults shelf.new) r.status r.text.items) }
     ensures exit { IfErr result (ExitsWith (AnswersCommand (asked_in request.entry)
         (H.file shelf.old) (H.read_faults shelf.old) (H.read_faults shelf.new))) }
-    ensures same { (name : List ℕ) → H.file shelf.new name ≡ H.file shelf.old name }
-    ensures writes { H.write_faults shelf.new ≡ H.write_faults shelf.old }
+    ensures left { EndsWith
+        (λ status. LeavesFiles (asked_in request.entry) (H.file shelf.old) status (H.file shelf.new))
+        (LeavesPart (asked_in request.entry) (H.file shelf.old) (H.file shelf.new)) result }
+    ensures writes { CountsWrites (H.write_faults shelf.old) (H.write_faults shelf.new) result }
 {
     match request {
         Request::Check {
             task,
-            turns,
-            workers,
-        } => check_in(rt, alloc, gate, shelf, task, turns, workers),
+            proof,
+            effort,
+        } => check_in(rt, alloc, gate, shelf, task, proof, effort),
         Request::Verify {
             task,
             proof,
@@ -188,29 +244,105 @@ fn answer_to<R: Threads + Sync, G: Gate, H: Shelf>(
         } => verify_in(rt, alloc, gate, shelf, task, proof, workers),
         Request::Replay { task, input, turns } => replay_in(alloc, shelf, task, input, turns),
         Request::Print { task } => print_in(alloc, shelf, task),
+        Request::Gen { seed, size, effort } => {
+            Ok(gen_answer(rt, alloc, gate, seed, size, effort)?)
+        }
     }
 }
 
-// The answer of `check` to a task's file.
+// The answer of `check` to a task's file and a proof's, which is written where the task is accepted.
 fn check_in<R: Threads + Sync, G: Gate, H: Shelf>(
     rt: &R,
     alloc: Global,
     gate: &G,
     shelf: &mut H,
     name: &str,
-    turns: u64,
-    workers: u32,
+    proof: &str,
+    effort: Effort,
 ) -> Result<Reply, Exit>
-    requires { (0 < workers) × (workers ≤ 64) }
-    ensures ok { IfOk result (λ r. Checks (H.file shelf.old name.now) turns
+    requires workers { HasWorkers effort }
+    requires other { name.now ≢ proof.now }
+    ensures ok { IfOk result (λ r. Checks (H.file shelf.old name.now) effort
         (H.read_faults shelf.old) (H.read_faults shelf.new) r.status r.text.items) }
-    ensures exit { IfErr result (ExitsWith (Checks (H.file shelf.old name.now) turns
+    ensures exit { IfErr result (ExitsWith (Checks (H.file shelf.old name.now) effort
         (H.read_faults shelf.old) (H.read_faults shelf.new))) }
-    ensures same { (other : List ℕ) → H.file shelf.new other ≡ H.file shelf.old other }
-    ensures writes { H.write_faults shelf.new ≡ H.write_faults shelf.old }
+    ensures left { EndsWith
+        (λ status. LeavesProof (H.file shelf.old name.now) status (H.file shelf.old proof.now)
+        (H.file shelf.new proof.now))
+        (LeavesFront (H.file shelf.old name.now) (H.file shelf.old proof.now)
+        (H.file shelf.new proof.now)) result }
+    ensures others { (other : List ℕ) → other ≢ proof.now →
+        H.file shelf.new other ≡ H.file shelf.old other }
+    ensures writes { CountsWrites (H.write_faults shelf.old) (H.write_faults shelf.new) result }
 {
     let task = task_in(alloc, shelf, name)?;
-    Ok(check(rt, alloc, gate, &task, turns, workers)?)
+    Ok(check_task(rt, alloc, gate, shelf, &task, proof, effort)?)
+}
+
+// The answer of `check` to a task, and its proof in a file where it is accepted.
+fn check_task<R: Threads + Sync, G: Gate, H: Shelf>(
+    rt: &R,
+    alloc: Global,
+    gate: &G,
+    shelf: &mut H,
+    task: &Task,
+    proof: &str,
+    effort: Effort,
+) -> Result<Reply, AllocError>
+    requires spelled { HasText (parts_of task.now) }
+    requires workers { HasWorkers effort }
+    ensures answers { let t = parts_of task.now in IfOk result (λ r.
+        AnswersCheck t effort r.status r.text.items ⊎ FailsToWrite t effort r.status r.text.items) }
+    ensures left { IfOk result (λ r. LeftBy (parts_of task.now) r.status
+        (H.file shelf.old proof.now) (H.file shelf.new proof.now)) }
+    ensures front { OnErr result (LeftCut (parts_of task.now)
+        (H.file shelf.old proof.now) (H.file shelf.new proof.now)) }
+    ensures others { (other : List ℕ) → other ≢ proof.now →
+        H.file shelf.new other ≡ H.file shelf.old other }
+    ensures writes { IfOk result (λ r. HasCause (H.write_faults shelf.old)
+        (H.write_faults shelf.new) (r.status ≡ Status.WriteFault)) }
+    ensures quiet { OnErr result (H.write_faults shelf.new ≡ H.write_faults shelf.old) }
+    ensures reads { H.read_faults shelf.new ≡ H.read_faults shelf.old }
+{
+    let Decided { reply, proof: text } = check(rt, alloc, gate, task, effort)?;
+    match text {
+        Some(text) => write_proof(alloc, shelf, reply, proof, &text),
+        None => Ok(reply),
+    }
+}
+
+// The answer to a task that is accepted, once its proof was to be written.
+fn write_proof<H: Shelf>(
+    alloc: Global,
+    shelf: &mut H,
+    reply: Reply,
+    name: &str,
+    text: &[u8],
+) -> Result<Reply, AllocError>
+    ensures answers { IfOk result (λ r.
+        (Says reply.status reply.text.items r.status r.text.items
+        × (H.file shelf.new name.now ≡ longer (emptied (H.file shelf.old name.now)) text.now))
+        ⊎ (Says Status.WriteFault (codes "WriteFault\n") r.status r.text.items
+        × IsBegun text.now (H.file shelf.old name.now) (H.file shelf.new name.now))) }
+    ensures begun { OnErr result
+        (IsBegun text.now (H.file shelf.old name.now) (H.file shelf.new name.now)) }
+    ensures others { (other : List ℕ) → other ≢ name.now →
+        H.file shelf.new other ≡ H.file shelf.old other }
+    ensures writes { reply.status ≢ Status.WriteFault → IfOk result (λ r.
+        HasCause (H.write_faults shelf.old) (H.write_faults shelf.new)
+        (r.status ≡ Status.WriteFault)) }
+    ensures quiet { OnErr result (H.write_faults shelf.new ≡ H.write_faults shelf.old) }
+    ensures reads { H.read_faults shelf.new ≡ H.read_faults shelf.old }
+{
+    let failed = line(alloc, "WriteFault", &[])?;
+    match write_file(shelf, name, text) {
+        Ok(()) => Ok(reply),
+        Err(IoError::Fault) => Ok(Reply {
+            status: Status::WriteFault,
+            text: failed,
+        }),
+        Err(IoError::Memory) => Err(AllocError),
+    }
 }
 
 // The answer of `replay` to a task's file and an input's.

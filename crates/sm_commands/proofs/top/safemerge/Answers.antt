@@ -1,6 +1,11 @@
-use Rattle.std.proofs.Common.{map, rules}
+use Rattle.std.proofs.Common.{Option, map, rules, subst}
 use Rattle.std.specs.String.{string_bytes}
+use Rattle.sm_io.specs.Files.{Known}
+use Rattle.sm_commands.specs.ProofFile.{LeavesProof}
+use Rattle.sm_commands.specs.Top.{AnswersRequest, Checks}
+use Rattle.sm_commands.specs.Words.{Asked, asked}
 use Rattle.sm_commands.proofs.Answering.{accepts, sound}
+use Rattle.sm_commands.proofs.FilesLemmas.{kept_whole, leaves_front, left_by}
 use Rattle.sm_commands.proofs.ConflictSound.{conflicts, shows, replays_shown}
 use Rattle.sm_commands.proofs.Verified.{verifies_exactly}
 use Rattle.sm_commands.proofs.top.safemerge.Goals as goal
@@ -69,3 +74,40 @@ pub returns-in-Ok-clause-replayed : goal.returns-in-Ok-clause-replayed
 returns-in-Ok-clause-replayed g c =
     replays_shown (map string_bytes c.args.words.now) (g.H.Shelf.file c.args.shelf.now) (g.H.Shelf.read_faults c.args.shelf.now)
     (g.H.Shelf.read_faults c.reply_to.new.shelf) c.in-Some.reply.status c.in-Some.reply.text.items c.in-Some.ensures.answers
+
+pub returns-in-Ok-clause-front : goal.returns-in-Ok-clause-front
+returns-in-Ok-clause-front g c = λ task proof effort is.
+    leaves_front (g.H.Shelf.file c.args.shelf.now task) c.in-Some.reply.status (g.H.Shelf.file c.args.shelf.now proof)
+    (g.H.Shelf.file c.reply_to.new.shelf proof)
+    (left_by (asked (map string_bytes c.args.words.now)) (g.H.Shelf.file c.args.shelf.now) (g.H.Shelf.file c.reply_to.new.shelf)
+    c.in-Some.reply.status task proof effort c.in-Some.ensures.left is)
+
+pub returns-in-Err-Fault-clause-front : goal.returns-in-Err-Fault-clause-front
+returns-in-Err-Fault-clause-front g c = λ task proof effort is.
+    leaves_front (g.H.Shelf.file c.args.shelf.now task) c.in-Some.reply.status (g.H.Shelf.file c.args.shelf.now proof)
+    (g.H.Shelf.file c.reply_to.new.shelf proof)
+    (left_by (asked (map string_bytes c.args.words.now)) (g.H.Shelf.file c.args.shelf.now) (g.H.Shelf.file c.reply_to.new.shelf)
+    c.in-Some.reply.status task proof effort c.in-Some.ensures.left is)
+
+pub returns-clause-front : goal.returns-clause-front
+returns-clause-front g c = λ task proof effort is.
+    leaves_front (g.H.Shelf.file c.args.shelf.now task) c.in-Some.reply.status (g.H.Shelf.file c.args.shelf.now proof)
+    (g.H.Shelf.file c.reply_to.new.shelf proof)
+    (left_by (asked (map string_bytes c.args.words.now)) (g.H.Shelf.file c.args.shelf.now) (g.H.Shelf.file c.reply_to.new.shelf)
+    c.in-Some.reply.status task proof effort c.in-Some.ensures.left is)
+
+pub returns-in-Err-Fault-clause-kept : goal.returns-in-Err-Fault-clause-kept
+returns-in-Err-Fault-clause-kept g c = λ _ no_write no_read task proof bytes effort t is held fits spells accepted.
+    let words = map string_bytes c.args.words.now in
+    let files = g.H.Shelf.file c.args.shelf.now in
+    let left = g.H.Shelf.file c.reply_to.new.shelf in
+    let b = g.H.Shelf.read_faults c.args.shelf.now in
+    let n = g.H.Shelf.read_faults c.reply_to.new.shelf in
+    let s = c.in-Some.reply.status in
+    let line = c.in-Some.reply.text.items in
+    kept_whole bytes effort b n (g.H.Shelf.write_faults c.args.shelf.now) (g.H.Shelf.write_faults c.reply_to.new.shelf) s line
+    (files proof) (left proof) t no_write no_read c.in-Some.ensures.writes fits spells accepted
+    (subst (λ (k : Known). Checks k effort b n s line) held
+    (subst (λ (o : Option Asked). AnswersRequest o words files b n s line) is c.in-Some.ensures.answers))
+    (subst (λ (k : Known). LeavesProof k s (files proof) (left proof)) held
+    (left_by (asked words) files left s task proof effort c.in-Some.ensures.left is))

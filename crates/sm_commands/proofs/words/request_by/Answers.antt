@@ -1,7 +1,7 @@
 use Rattle.std.proofs.Common.{map}
 use Rattle.std.specs.String.{string_bytes}
 use Rattle.clap.specs.Matches.{first_value, found_of}
-use Rattle.sm_commands.proofs.Asking.{asks_check, asks_verify, asks_replay, asks_print}
+use Rattle.sm_commands.proofs.Asking.{asks_check, asks_gen, asks_verify, asks_replay, asks_print}
 use Rattle.sm_commands.proofs.words.request_by.Goals as goal
 
 pub returns-in-Check-clause-ok : goal.returns-in-Check-clause-ok
@@ -40,8 +40,20 @@ returns-in-Replay-clause-usage c =
     (first_value (found_of c.in_ok-matches.matches)) c.replay_request.result c.in-Replay.is c.in_ok-matches.ensures.taken
     c.in_ok-matches.ensures.texts c.replay_request.ensures.ok c.replay_request.ensures.usage).usage
 
-pub returns-clause-ok : goal.returns-clause-ok
-returns-clause-ok c =
+pub returns-in-Print-clause-ok : goal.returns-in-Print-clause-ok
+returns-in-Print-clause-ok c =
     asks_print c.args.verb (map string_bytes c.args.words.now)
     (first_value (found_of c.in_ok-matches.matches)) c.print_request.result c.in-Print.is c.in_ok-matches.ensures.taken
     c.in_ok-matches.ensures.texts c.print_request.ensures.ok
+
+pub returns-clause-ok : goal.returns-clause-ok
+returns-clause-ok c =
+    (asks_gen c.args.verb (map string_bytes c.args.words.now)
+    (first_value (found_of c.in_ok-matches.matches)) c.gen_request.result c.in-Gen.is c.in_ok-matches.ensures.taken
+    c.in_ok-matches.ensures.texts c.gen_request.ensures.ok c.gen_request.ensures.usage).ok
+
+pub returns-clause-usage : goal.returns-clause-usage
+returns-clause-usage c =
+    (asks_gen c.args.verb (map string_bytes c.args.words.now)
+    (first_value (found_of c.in_ok-matches.matches)) c.gen_request.result c.in-Gen.is c.in_ok-matches.ensures.taken
+    c.in_ok-matches.ensures.texts c.gen_request.ensures.ok c.gen_request.ensures.usage).usage

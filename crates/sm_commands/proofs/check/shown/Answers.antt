@@ -3,7 +3,7 @@ use Rattle.sm_replay.specs.InputText.{AreWritten}
 use Rattle.sm_syntax.specs.text.Parts.{sort_of}
 use Rattle.sm_syntax.specs.trees.Programs.{declared_of}
 use Rattle.sm_syntax.specs.claim.Stores.{Store}
-use Rattle.sm_commands.proofs.check.conflict.Goals as goal
+use Rattle.sm_commands.proofs.check.shown.Goals as goal
 
 pub returns : goal.returns
 returns c =

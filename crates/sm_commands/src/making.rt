@@ -1,0 +1,38 @@
+// What `gen` answers to a seed and a size.
+ghost use Rattle.std.specs.Prelude.{◌≤◌, IfOk};
+ghost use Rattle.sm_commands.specs.Gen.{AnswersGen};
+ghost use Rattle.sm_commands.specs.Views.{HasWorkers};
+
+use crate::check::check;
+use crate::effort::Effort;
+use crate::lines::summary_line;
+use crate::status::Reply;
+use sm_gen::generate;
+use sm_par::Gate;
+use std::alloc::{AllocError, Global};
+use std::thread::Threads;
+
+/// The answer to a seed and a size: a line on the task that they make, and the answer to that task.
+/// Its proof is written nowhere.
+pub fn gen_answer<R: Threads + Sync, G: Gate>(
+    rt: &R,
+    alloc: Global,
+    gate: &G,
+    seed: u32,
+    size: u16,
+    effort: Effort,
+) -> Result<Reply, AllocError>
+    requires some { 1 ≤ size }
+    requires most { size ≤ 190 }
+    requires workers { HasWorkers effort }
+    ensures { IfOk result (λ r. AnswersGen seed size effort r.status r.text.items) }
+{
+    let made = generate(alloc, seed, size)?;
+    let decided = check(rt, alloc, gate, &made.task, effort)?;
+    let mut text = summary_line(alloc, seed, size, made.a, made.b)?;
+    text.extend_from_slice(&decided.reply.text)?;
+    Ok(Reply {
+        status: decided.reply.status,
+        text,
+    })
+}
