@@ -17,6 +17,8 @@ pub mod RoundExamples
 pub mod LoopLemmas
 pub mod MarkedLemmas
 pub mod ClosingLemmas
+pub mod SharedLemmas
+pub mod GoalJobsLemmas
 pub mod TotalsLemmas
 pub mod DuesLemmas
 pub mod RoundSteps

@@ -55,7 +55,7 @@ fn closes(
 }
 
 // Whether a mark stays at a template after what a node asks of it.
-fn stays(
+pub(crate) fn stays(
     alloc: Global,
     table: &mut TermTable,
     due: &Due,

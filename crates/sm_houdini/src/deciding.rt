@@ -26,17 +26,20 @@ ghost use Rattle.sm_houdini.specs.Views.{IsProof};
 
 use crate::dues::expanded;
 use crate::ending::{Stop, end_all, stopped};
+use crate::goal_jobs::Crew;
 use crate::outcome::{Outcome, Proof};
 use crate::product::Product;
 use crate::rounds::settled;
 use crate::sites::{Sites, sites_of};
 use crate::small::is_small;
 use sm_expand::{Obligations, Plan, PlanFault};
+use sm_par::Gate;
 use sm_product::{CertTrees, ProductError, Sketch, TemplateChoice, plan_with, sketch_of};
 use sm_syntax::{Block, PerCopy};
 use sm_term::TermTable;
 use sm_text::Task;
 use std::alloc::{AllocError, Global};
+use std::thread::Threads;
 
 // The obligations of a plan that has some.
 fn all_asked(
@@ -119,7 +122,8 @@ fn decided(
 }
 
 // The templates that are kept, where the plan of all is small.
-fn kept_if_small(
+fn kept_if_small<R: Threads + Sync, G: Gate>(
+    crew: &Crew<'_, R, G>,
     alloc: Global,
     table: &mut TermTable,
     task: &Task,
@@ -139,11 +143,12 @@ fn kept_if_small(
     if !is_small(alloc, table, task, product, &full)? {
         return Ok(None);
     }
-    Ok(Some(settled(alloc, table, task, product, full, steps)?))
+    Ok(Some(settled(crew, alloc, table, task, product, full, steps)?))
 }
 
 // What the plan of a sketch decides.
-fn decided_by(
+fn decided_by<R: Threads + Sync, G: Gate>(
+    crew: &Crew<'_, R, G>,
     alloc: Global,
     table: TermTable,
     task: &Task,
@@ -170,14 +175,15 @@ fn decided_by(
         sketch,
         owners,
     };
-    match kept_if_small(alloc, &mut table, task, &product, full, steps)? {
+    match kept_if_small(crew, alloc, &mut table, task, &product, full, steps)? {
         Some(kept) => decided(alloc, table, task, &product, &kept, steps),
         None => Ok(Outcome::TooMany),
     }
 }
 
 /// What the plan of a task decides.
-pub(crate) fn by_plan(
+pub(crate) fn by_plan<R: Threads + Sync, G: Gate>(
+    crew: &Crew<'_, R, G>,
     alloc: Global,
     task: &Task,
     programs: PerCopy<Block>,
@@ -193,7 +199,7 @@ pub(crate) fn by_plan(
 {
     let mut table = TermTable::new(alloc, &task.shared.decls)?;
     match sketch_of(alloc, &mut table, task) {
-        Ok(sketch) => decided_by(alloc, table, task, programs, sketch, steps),
+        Ok(sketch) => decided_by(crew, alloc, table, task, programs, sketch, steps),
         Err(ProductError::TooMany) => Ok(Outcome::TooMany),
         Err(ProductError::Memory) => Err(AllocError),
     }

@@ -19,6 +19,7 @@ mod closing;
 mod deciding;
 mod dues;
 mod ending;
+mod goal_jobs;
 mod laws;
 mod marks;
 mod outcome;

@@ -15,15 +15,17 @@ ghost use Rattle.sm_houdini.specs.Rounds as plain;
 ghost use Rattle.sm_houdini.specs.Rounds.{holds_at};
 
 use crate::choosing::total;
-use crate::closing::judged;
 use crate::dues::dues_of;
+use crate::goal_jobs::{Crew, judged_by};
 use crate::marks::{Marks, all_marks, kept_choice};
 use crate::product::Product;
 use sm_expand::Due;
+use sm_par::Gate;
 use sm_product::TemplateChoice;
 use sm_term::TermTable;
 use sm_text::Task;
 use std::alloc::{AllocError, Global};
+use std::thread::Threads;
 
 // The owner of a node.
 fn owner(owners: &[Option<u64>], node: u64) -> Option<u64>
@@ -36,7 +38,8 @@ fn owner(owners: &[Option<u64>], node: u64) -> Option<u64>
 }
 
 // Takes marks away from the templates whose goals in what a node asks don't close.
-fn judge(
+fn judge<R: Threads + Sync, G: Gate>(
+    crew: &Crew<'_, R, G>,
     alloc: Global,
     table: &mut TermTable,
     due: &Due,
@@ -62,13 +65,14 @@ fn judge(
     if site >= marks.sites.as_slice().len() {
         return Ok(());
     }
-    let list = judged(alloc, table, due, &marks.sites[site], steps)?;
+    let list = judged_by(crew, alloc, table, due, &marks.sites[site], steps)?;
     marks.sites[site] = list;
     Ok(())
 }
 
 // Marks at the templates of a choice all of whose goals close.
-fn marks_after(
+fn marks_after<R: Threads + Sync, G: Gate>(
+    crew: &Crew<'_, R, G>,
     alloc: Global,
     table: &mut TermTable,
     dues: &[Due],
@@ -84,13 +88,14 @@ fn marks_after(
 {
     let mut marks = all_marks(alloc, choice)?;
     for due in dues {
-        judge(alloc, table, due, owners, &mut marks, steps)?;
+        judge(crew, alloc, table, due, owners, &mut marks, steps)?;
     }
     Ok(marks)
 }
 
 // The templates of a choice all of whose goals close under it.
-fn next_round(
+fn next_round<R: Threads + Sync, G: Gate>(
+    crew: &Crew<'_, R, G>,
     alloc: Global,
     table: &mut TermTable,
     task: &Task,
@@ -98,7 +103,7 @@ fn next_round(
     choice: &TemplateChoice,
     steps: u64,
 ) -> Result<TemplateChoice, AllocError>
-    requires { Knows table.old task.now product.now }
+    requires knows { Knows table.old task.now product.now }
     ensures next { let closes = closing (sort_of (declared_of task.now.shared.decls)) steps in
         IfOk result (λ c. choice_in c
         ≡ plain.next_round closes (parts_of task.now) (choice_in choice.now)) }
@@ -106,12 +111,13 @@ fn next_round(
 {
     let dues = dues_of(alloc, table, task, product, choice)?;
     let owners = product.owners.as_slice();
-    let marks = marks_after(alloc, table, &dues.list, owners, choice, steps)?;
+    let marks = marks_after(crew, alloc, table, &dues.list, owners, choice, steps)?;
     kept_choice(alloc, &marks)
 }
 
 /// The first choice that equals its next, from this one on, which is the choice of all templates.
-pub(crate) fn settled(
+pub(crate) fn settled<R: Threads + Sync, G: Gate>(
+    crew: &Crew<'_, R, G>,
     alloc: Global,
     table: &mut TermTable,
     task: &Task,
@@ -119,7 +125,7 @@ pub(crate) fn settled(
     full: TemplateChoice,
     steps: u64,
 ) -> Result<TemplateChoice, AllocError>
-    requires { Knows table.old task.now product.now }
+    requires knows { Knows table.old task.now product.now }
     ensures settled { let closes = closing (sort_of (declared_of task.now.shared.decls)) steps in
         let next = plain.next_round closes (parts_of task.now) in
         IfOk result (λ c. choice_in c
@@ -129,7 +135,7 @@ pub(crate) fn settled(
     let rounds = total(&full)?;
     let mut choice = full;
     for _ in 0..rounds {
-        let next = next_round(alloc, table, task, product, &choice, steps)?;
+        let next = next_round(crew, alloc, table, task, product, &choice, steps)?;
         // A round only drops templates.
         if total(&next)? == total(&choice)? {
             return Ok(choice);

@@ -16,6 +16,7 @@ ghost use Rattle.sm_houdini.specs.Outcomes.{IsOutcome};
 ghost use Rattle.sm_houdini.specs.Views.{outcome_in, IsProof, IsWhole};
 
 use crate::deciding::by_plan;
+use crate::goal_jobs::Crew;
 use crate::outcome::{Outcome, Proof};
 use sm_par::Gate;
 use sm_product::{one_sided, whole_plan};
@@ -53,7 +54,8 @@ fn whole_proof(alloc: Global, task: &Task, programs: &PerCopy<Block>) -> Result<
 /// What the search for a proof of a task comes to, with at most `steps` steps in each walk. A task
 /// in which only one side was changed is accepted. Of any other one the trials are run, as jobs for
 /// 1 to 64 workers, in which a loop takes at most `turns` turns: the first that violates it is a
-/// conflict. Otherwise its plan decides, under the templates that are kept.
+/// conflict. Otherwise its plan decides, under the templates that are kept. With more than one
+/// worker the goals by which templates are dropped are jobs too, node by node.
 pub fn search<R: Threads + Sync, G: Gate>(
     rt: &R,
     alloc: Global,
@@ -80,6 +82,9 @@ pub fn search<R: Threads + Sync, G: Gate>(
     }
     match first_violation(rt, alloc, gate, task, &programs, turns, workers)? {
         Some((trial, verdict)) => Ok(Outcome::Conflict { trial, verdict }),
-        None => by_plan(alloc, task, programs, steps),
+        None => {
+            let crew = Crew { rt, gate, workers };
+            by_plan(&crew, alloc, task, programs, steps)
+        }
     }
 }

@@ -9,10 +9,10 @@ use Rattle.sm_houdini.proofs.EndedLemmas.{too_many}
 use Rattle.sm_houdini.proofs.deciding.by_plan.Goals as goal
 
 pub sketch_of-requires-clause-no_hole : goal.sketch_of-requires-clause-no_hole
-sketch_of-requires-clause-no_hole c = valid_no_hole (parts_of c.args.task.now) c.requires.valid
+sketch_of-requires-clause-no_hole g c = valid_no_hole (parts_of c.args.task.now) c.requires.valid
 
 pub returns-in-Err-TooMany-clause-tells : goal.returns-in-Err-TooMany-clause-tells
-returns-in-Err-TooMany-clause-tells c =
+returns-in-Err-TooMany-clause-tells g c =
     let t = parts_of c.args.task.now in
     too_many t c.args.steps
     (large_task t (subst (λ (e : ProductError). TellsSketch e (sketch_of t)) c.in-Err-TooMany.field-0-is c.in-Err-TooMany.ensures.err))

@@ -5,7 +5,7 @@ use Rattle.sm_houdini.proofs.ClosingLemmas.{past_judged, there_judged}
 use Rattle.sm_houdini.proofs.rounds.judge.Goals as goal
 
 pub returns-then-site-as_slice-clause-judged : goal.returns-then-site-as_slice-clause-judged
-returns-then-site-as_slice-clause-judged c = λ passes choice e.
+returns-then-site-as_slice-clause-judged g c = λ passes choice e.
     let sorts = sorts_in c.args.table.now in
     let d = due_in sorts (trees_in c.args.table.now) c.args.due.now in
     let vs = c.args.marks.now.sites.items in
@@ -14,7 +14,7 @@ returns-then-site-as_slice-clause-judged c = λ passes choice e.
     past_judged sorts c.args.steps passes c.args.owners.now d c.in-Some.site choice vs (sym c.owner.ensures ∙ c.in-Some.is) past e
 
 pub returns-clause-judged : goal.returns-clause-judged
-returns-clause-judged c = λ passes choice e.
+returns-clause-judged g c = λ passes choice e.
     let sorts = sorts_in c.args.table.now in
     let d = due_in sorts (trees_in c.args.table.now) c.args.due.now in
     let vs = c.args.marks.now.sites.items in

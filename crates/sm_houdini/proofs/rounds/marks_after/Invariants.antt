@@ -10,7 +10,7 @@ use Rattle.sm_houdini.specs.Rounds.{holds_at}
 use Rattle.sm_houdini.proofs.rounds.marks_after.Given as goal
 
 abbrev pub invariant-loop-due : goal.invariant-loop-due
-invariant-loop-due l = record {
+invariant-loop-due g l = record {
   marks : rows l.marks.sites.items
       ≡ all_marked (holds_at (closing (sorts_in l.initial.table) l.steps) (owner_in l.owners)
       (take l.due-index (dues_in (sorts_in l.initial.table) (trees_in l.initial.table) l.dues))) 0 (choice_in l.choice);

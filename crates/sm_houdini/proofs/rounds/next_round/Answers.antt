@@ -11,7 +11,7 @@ use Rattle.sm_houdini.proofs.RoundSteps.{round_is}
 use Rattle.sm_houdini.proofs.rounds.next_round.Goals as goal
 
 pub returns-clause-next : goal.returns-clause-next
-returns-clause-next c =
+returns-clause-next g c =
     let w = c.dues_of.new.table in
     let t = parts_of c.args.task.now in
     let dues = c.in_ok-dues.dues.list.items in
@@ -19,10 +19,10 @@ returns-clause-next c =
     (λ (r : TemplateChoice) (h : choice_in r ≡ map numbers_of (rows c.in_ok-marks.marks.sites.items)).
     round_is t (sorts_in w) c.args.steps c.as_slice-owners.result.now (dues_in (sorts_in w) (trees_in w) c.deref.result.now)
     (choice_in c.args.choice.now) (choice_in r) (rows c.in_ok-marks.marks.sites.items)
-    (c.in_ok-dues.ensures.widens.sorts ∙ c.requires.declared) (c.as_slice-owners.ensures.value ∙ c.requires.owned)
+    (c.in_ok-dues.ensures.widens.sorts ∙ c.requires.knows.declared) (c.as_slice-owners.ensures.value ∙ c.requires.knows.owned)
     (ap (dues_in (sorts_in w) (trees_in w)) c.deref.ensures.value ∙ c.in_ok-dues.ensures.dues) c.in_ok-marks.ensures.marks h)
     c.kept_choice.ensures
 
 pub returns-clause-widens : goal.returns-clause-widens
-returns-clause-widens c =
+returns-clause-widens g c =
     widens_twice c.args.table.now c.dues_of.new.table c.marks_after.new.table c.in_ok-dues.ensures.widens c.in_ok-marks.ensures.widens

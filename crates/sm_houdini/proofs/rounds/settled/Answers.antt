@@ -9,12 +9,12 @@ use Rattle.sm_houdini.proofs.RoundSteps.{knows_stays}
 use Rattle.sm_houdini.proofs.TotalsLemmas.{now_settled, later_settled}
 use Rattle.sm_houdini.proofs.rounds.settled.Goals as goal
 
-pub next_round-requires : goal.next_round-requires
-next_round-requires c =
-    knows_stays c.args.table.now c.loop.table c.loop.invariant.widens c.args.task.now c.args.product.now c.requires
+pub next_round-requires-clause-knows : goal.next_round-requires-clause-knows
+next_round-requires-clause-knows g c = λ κs within.
+    knows_stays c.args.table.now c.loop.table c.loop.invariant.widens c.args.task.now c.args.product.now c.requires.knows
 
 pub returns-then-branch-clause-settled : goal.returns-then-branch-clause-settled
-returns-then-branch-clause-settled c =
+returns-then-branch-clause-settled g c =
     let closes = closing (sort_of (declared_of c.args.task.now.shared.decls)) c.args.steps in
     sym (now_settled closes (parts_of c.args.task.now) c.in_ok-rounds.rounds c.loop.counter c.in_ok-total.field-0 c.in_ok-total-2.field-0
     (choice_in c.loop.choice) (choice_in c.in_ok-next.next) c.loop-test.true c.in_ok-next.ensures.next c.in_ok-total.ensures
@@ -22,7 +22,7 @@ returns-then-branch-clause-settled c =
     ∙ c.loop.invariant.settles
 
 pub loop-preserved : goal.loop-preserved
-loop-preserved c =
+loop-preserved g c =
     let closes = closing (sort_of (declared_of c.args.task.now.shared.decls)) c.args.steps in
     record {
       settles =

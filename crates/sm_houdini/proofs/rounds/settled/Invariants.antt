@@ -10,7 +10,7 @@ use Rattle.sm_houdini.specs.Rounds.{next_round, settled, total}
 use Rattle.sm_houdini.proofs.rounds.settled.Given as goal
 
 abbrev pub invariant-loop : goal.invariant-loop
-invariant-loop l = record {
+invariant-loop g l = record {
   settles :
       settled (next_round (closing (sort_of (declared_of l.task.shared.decls)) l.steps) (parts_of l.task)) (l.rounds - l.counter)
       (choice_in l.choice)
