@@ -14,7 +14,7 @@ use Rattle.sm_commands.proofs.SpelledLemmas.{outcome_one}
 use Rattle.sm_commands.specs.Check.{AnswersCheck, SaysOutcome}
 use Rattle.sm_commands.specs.Exit.{ExitsWith}
 use Rattle.sm_commands.specs.File.{file_limit, GivesNoTask, GivesTask}
-use Rattle.sm_commands.specs.ProofFile.{FailsToWrite, HoldsFront, HoldsProof, IsBegun, IsTaskIn, LeavesFront, LeavesProof, LeftBy, LeftCut}
+use Rattle.sm_commands.specs.ProofFile.{FailsToWrite, HoldsFront, HoldsProof, IsBegun, IsTaskIn, LeavesCut, LeavesFront, LeavesProof, LeftBy, LeftCut}
 use Rattle.sm_commands.specs.Status.{Says}
 use Rattle.sm_commands.specs.Top.{Files, Checks, LeavesBy, LeavesPartBy}
 use Rattle.sm_commands.specs.Views.{CountsWrites, EndsWith}
@@ -97,6 +97,15 @@ leaves_front file s old new (inl h) = inl h.1
 leaves_front file s old new (inr (t, is, inl h)) = inr (inr (t, is, inl h.1))
 leaves_front file s old new (inr (t, is, inr (inl h))) = cut_in file old old new t is refl h.1
 leaves_front file s old new (inr (t, is, inr (inr h))) = inl h.1
+
+-- where it couldn't be written, a proper front of it is there at most
+pub leaves_cut : (file : Known) (s : Status) (old new : Known) → s ≡ WriteFault → LeavesProof file s old new → LeavesCut file old new
+leaves_cut file s old new e (inl h) = inl h.1
+leaves_cut file s old new e (inr (t, is, inl h)) = absurd (not_both s e h.0)
+leaves_cut file s old new e (inr (t, is, inr (inl (same, inl h)))) = inl h
+leaves_cut file s old new e (inr (t, is, inr (inl (same, inr (inl h))))) = inr (inl h)
+leaves_cut file s old new e (inr (t, is, inr (inl (same, inr (inr h))))) = inr (inr (t, is, h))
+leaves_cut file s old new e (inr (t, is, inr (inr h))) = inl h.1
 
 -- where it is accepted, the proof is there
 pub leaves_whole : (file : Known) (s : Status) (old new : Known) → s ≡ Accepted → LeavesProof file s old new

@@ -53,6 +53,13 @@ pub record FailsToWrite (t : Parts) (effort : Effort) (status : Status) (text : 
   pub found : IsOutcome t effort.steps effort.turns outcome.Accepted
   pub says : Says WriteFault (codes "WriteFault\n") status text
 
+-- what is left in the file of a proof that couldn't be written whole: what it had, or nothing, or for
+-- the task of a file a proper front of a proof
+abbrev pub LeavesCut : Known → Known → Known → Type 0
+LeavesCut task before now =
+    (now ≡ before) ⊎ ((now ≡ emptied before) ⊎ ((t : Parts) × IsTaskIn task t
+    × HoldsFront t before now))
+
 -- what may be left in the file of a proof: what it had, or nothing, or for the task of a file a proof
 -- or a proper front of one
 abbrev pub LeavesFront : Known → Known → Known → Type 0

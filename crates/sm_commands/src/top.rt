@@ -23,7 +23,7 @@ ghost use Rattle.sm_commands.specs.Top.{WritesElsewhere};
 ghost use Rattle.sm_commands.specs.Check.{AnswersCheck};
 ghost use Rattle.sm_commands.specs.File.{file_limit};
 ghost use Rattle.sm_commands.specs.ProofFile.{FailsToWrite, HoldsProof, IsBegun, IsTaskIn};
-ghost use Rattle.sm_commands.specs.ProofFile.{LeavesFront, LeavesProof, LeftBy, LeftCut};
+ghost use Rattle.sm_commands.specs.ProofFile.{LeavesCut, LeavesFront, LeavesProof, LeftBy, LeftCut};
 ghost use Rattle.sm_commands.specs.Status.{Says};
 ghost use Rattle.sm_commands.specs.Replay.{ReplaysInput};
 ghost use Rattle.sm_commands.specs.Views.{asked_in, CountsWrites, EndsWith, HasWorkers, IsWithin};
@@ -123,6 +123,10 @@ pub fn safemerge<R: Threads + Sync, G: Gate, H: Shelf, K: Sink>(
     ensures front { (task proof : List ℕ) (effort : Effort) →
         asked (map string_bytes words.now) ≡ Some (check task proof effort) →
         LeavesFront (H.file shelf.old task) (H.file shelf.old proof) (H.file shelf.new proof) }
+    // Where it couldn't be written, a proper front at most.
+    ensures unfinished { result ≡ Status.WriteFault → (task proof : List ℕ) (effort : Effort) →
+        asked (map string_bytes words.now) ≡ Some (check task proof effort) →
+        LeavesCut (H.file shelf.old task) (H.file shelf.old proof) (H.file shelf.new proof) }
     // Where the output fails and no count of the shelf rose, the proof of an accepted task is there.
     ensures kept { result ≡ Status.SinkFault →
         (¬ Rose (H.write_faults shelf.old) (H.write_faults shelf.new)) →

@@ -5,7 +5,7 @@ use Rattle.sm_commands.specs.ProofFile.{LeavesProof}
 use Rattle.sm_commands.specs.Top.{AnswersRequest, Checks}
 use Rattle.sm_commands.specs.Words.{Asked, asked}
 use Rattle.sm_commands.proofs.Answering.{accepts, sound}
-use Rattle.sm_commands.proofs.FilesLemmas.{kept_whole, leaves_front, left_by}
+use Rattle.sm_commands.proofs.FilesLemmas.{kept_whole, leaves_cut, leaves_front, left_by}
 use Rattle.sm_commands.proofs.ConflictSound.{conflicts, shows, replays_shown}
 use Rattle.sm_commands.proofs.Verified.{verifies_exactly}
 use Rattle.sm_commands.proofs.top.safemerge.Goals as goal
@@ -111,3 +111,10 @@ returns-in-Err-Fault-clause-kept g c = λ _ no_write no_read task proof bytes ef
     (subst (λ (o : Option Asked). AnswersRequest o words files b n s line) is c.in-Some.ensures.answers))
     (subst (λ (k : Known). LeavesProof k s (files proof) (left proof)) held
     (left_by (asked words) files left s task proof effort c.in-Some.ensures.left is))
+
+pub returns-in-Ok-clause-unfinished : goal.returns-in-Ok-clause-unfinished
+returns-in-Ok-clause-unfinished g c = λ failed task proof effort is.
+    leaves_cut (g.H.Shelf.file c.args.shelf.now task) c.in-Some.reply.status (g.H.Shelf.file c.args.shelf.now proof)
+    (g.H.Shelf.file c.reply_to.new.shelf proof) failed
+    (left_by (asked (map string_bytes c.args.words.now)) (g.H.Shelf.file c.args.shelf.now) (g.H.Shelf.file c.reply_to.new.shelf)
+    c.in-Some.reply.status task proof effort c.in-Some.ensures.left is)
