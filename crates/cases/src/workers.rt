@@ -173,7 +173,14 @@ fn two_trials_run_at_once(rt: HostRuntime) -> Result<(), Fail> {
 #[test]
 fn two_obligations_run_at_once(rt: HostRuntime) -> Result<(), Fail> {
     let words = ["check", "t", "p", "--workers", "2"];
-    let seen = run_by_two(&rt, rt.alloc(), &words, Phase::Obligation, EDITS_IN_A_LOOP, "")?;
+    let seen = run_by_two(
+        &rt,
+        rt.alloc(),
+        &words,
+        Phase::Obligation,
+        EDITS_IN_A_LOOP,
+        "",
+    )?;
     assert_eq!(rt; seen, (Status::Accepted, true));
     Ok(())
 }
