@@ -28,14 +28,14 @@ crates/safemerge/out/safemerge: $(SOURCES)
 	@tail -n 1 bin/build.log | grep -q '^ended with 4$$' || { cat bin/build.log; exit 1; }
 	@touch crates/safemerge/out/safemerge
 
-# rt runs the program in a new folder, so the task is handed to it under its name.
+# rt runs the program in a new folder, so the task is handed to it under its name. The proof would be a file there.
 look:
 	@mkdir -p bin
 	@echo "Running an example without proving anything. This takes about a minute."
-	@echo "$$ cd examples/edits_that_interfere && cat limits.task && safemerge check limits.task"
+	@echo "$$ cd examples/edits_that_interfere && cat limits.task && safemerge check limits.task found.proof"
 	@cat examples/edits_that_interfere/limits.task
 	@(cd crates/safemerge && rt try --data limits.task=../../examples/edits_that_interfere/limits.task \
-	  -- check limits.task) >bin/printed 2>bin/build.log; cat bin/printed
+	  -- check limits.task found.proof) >bin/printed 2>bin/build.log; cat bin/printed
 	@cmp bin/printed examples/edits_that_interfere/output || { cat bin/build.log; exit 1; }
 	@echo "Nothing was proved: the program ran as it is written. make proves it."
 
@@ -55,9 +55,11 @@ test:
 install: all
 	install -d "$(DESTDIR)$(PREFIX)/bin"
 	install -m 755 bin/safemerge "$(DESTDIR)$(PREFIX)/bin/safemerge"
+	install -d "$(DESTDIR)$(PREFIX)/share/man/man1"
+	install -m 644 docs/safemerge.1 "$(DESTDIR)$(PREFIX)/share/man/man1/safemerge.1"
 
 uninstall:
-	rm -f "$(DESTDIR)$(PREFIX)/bin/safemerge"
+	rm -f "$(DESTDIR)$(PREFIX)/bin/safemerge" "$(DESTDIR)$(PREFIX)/share/man/man1/safemerge.1"
 
 clean:
-	rm -rf bin crates/*/out
+	rm -rf bin crates/*/out examples/*/found.proof

@@ -29,7 +29,8 @@ printf '%-9s %9s %8s %8s  %s\n' nodes bytes seconds KiB answer
 for count in 1220 4900 9990; do
   task "$count" > "$place/task"
   status=0
-  answer=$(/usr/bin/time -q -f '%U %M' -o "$place/cost" "$program" check "$place/task") || status=$?
+  answer=$(/usr/bin/time -q -f '%U %M' -o "$place/cost" \
+    "$program" check "$place/task" "$place/found") || status=$?
   read -r seconds memory < "$place/cost"
   printf '%-9d %9d %8s %8s  %s\n' $((2 * count + 4)) "$(wc -c < "$place/task")" "$seconds" "$memory" "$answer (status $status)"
 done

@@ -29,7 +29,7 @@ task y z > "$place/invented"    # an edit that nobody made
 head -c 65536 "$place/lost" > "$place/mixed"
 tail -c +65537 "$place/invented" >> "$place/mixed"
 
-answer() { "$program" check "$1" | head -n 1; }
+answer() { "$program" check "$1" "$place/found" | head -n 1; }
 lost=$(answer "$place/lost")
 invented=$(answer "$place/invented")
 echo "first file:  $lost"

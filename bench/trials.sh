@@ -37,7 +37,8 @@ TASK
 printf '%-8s %8s %10s  %s\n' workers seconds processor answer
 for workers in 1 2 4; do
   status=0
-  answer=$(/usr/bin/time -q -f '%e %U' -o "$place/cost" "$program" check "$place/task" --workers $workers) || status=$?
+  answer=$(/usr/bin/time -q -f '%e %U' -o "$place/cost" \
+    "$program" check "$place/task" "$place/found" --workers $workers) || status=$?
   read -r seconds processor < "$place/cost"
   printf '%-8s %8s %10s  %s\n' $workers "$seconds" "$processor" "$answer (status $status)"
 done

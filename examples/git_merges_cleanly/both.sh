@@ -8,5 +8,5 @@ echo "git merge-file: $? conflicts"
 cat "$merged"
 echo
 
-sh ./task_of.sh base.prog a.prog b.prog "$merged" | safemerge check /dev/stdin
+sh ./task_of.sh base.prog a.prog b.prog "$merged" | safemerge check /dev/stdin found.proof
 echo "safemerge check: status $?"
