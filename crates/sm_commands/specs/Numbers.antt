@@ -37,10 +37,11 @@ workers_by = number_or 1 1 64
 abbrev pub HasBadNumber : Option Text → Option Text → Type 0
 HasBadNumber turns workers = (turns_by turns ≡ None) ⊎ (workers_by workers ≡ None)
 
--- the seed and the size of a task that is made up, by the words' texts
+-- the seed of a task that is made up, by the word's text
 abbrev pub seed_by : Option Text → Option ℕ
 seed_by = option_and_then (spelled_number 0 2147483647)
 
+-- its size
 abbrev pub size_by : Option Text → Option ℕ
 size_by = option_and_then (spelled_number 1 190)
 

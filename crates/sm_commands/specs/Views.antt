@@ -29,10 +29,11 @@ asked_in (Replay task input turns) = replay task.now input.now turns
 asked_in (Print task) = print task.now
 asked_in (Gen seed size effort) = gen seed size effort
 
--- one to 64 workers, where there are workers; and the size is one of a task that is made up
+-- one to 64 workers
 abbrev pub HasWorkers : Effort → Type 0
 HasWorkers effort = (0 < effort.workers) × (effort.workers ≤ 64)
 
+-- one to 64 workers, where there are workers; and the size is one of a task that is made up
 abbrev pub IsWithin : Request → Type 0
 IsWithin (Check task proof effort) = HasWorkers effort
 IsWithin (Verify task proof workers) = (0 < workers) × (workers ≤ 64)

@@ -49,7 +49,8 @@ use std::alloc::{AllocError, Global};
 use std::thread::Threads;
 
 /// What the program does with its words, which come without its name. It reads from `shelf` and
-/// writes to it alone, and prints to `out` alone. Jobs run in threads of `rt`, and enter `gate` before they run.
+/// writes to it alone, and prints to `out` alone. Jobs run in threads of `rt`, and enter `gate`
+/// before they run.
 pub fn safemerge<R: Threads + Sync, G: Gate, H: Shelf, K: Sink>(
     rt: &R,
     alloc: Global,
