@@ -5,6 +5,8 @@ pub mod ExplainLemmas
 pub mod ExplainingLemmas
 pub mod FirstsLemmas
 pub mod GivenLemmas
+pub mod GroundLemmas
+pub mod GrowingLemmas
 pub mod InsideLemmas
 pub mod LinesLemmas
 pub mod LogLemmas
@@ -15,6 +17,7 @@ pub mod PlacedLemmas
 pub mod PlacesLemmas
 pub mod PlacesOfTerms
 pub mod PositionsLemmas
+pub mod RegroundingLemmas
 pub mod RoundsLemmas
 pub mod RowsLemmas
 pub mod SettledLemmas

@@ -1,10 +1,8 @@
 -- Rows of single terms stand together for the terms.
-use Rattle.std.proofs.Common.{◌≡◌, ℕ, ℤ, ◌==◌, ◌<◌, ◌≤◌, zero, suc, nat_eq, Bool, true, false, ◌&&◌, List, [], ◌∷◌, ◌++◌, map, length}
+use Rattle.std.proofs.Common.{◌≡◌, ℕ, ℤ, ◌==◌, ◌+◌, ◌≤◌, zero, suc, nat_eq, Bool, true, false, ◌&&◌, List, [], ◌∷◌, ◌++◌, map, length}
 use Rattle.std.proofs.Common.{slice_get}
 use Rattle.std.proofs.Common.{Option, Some, None, Decides, refl, sym, ap, ◌∙◌, subst}
-use Rattle.std.proofs.Common.{⊎_elim, inl, inr, ◌⊎◌, get_or}
-use Rattle.std.specs.Option.{option_map}
-use Rattle.std.proofs.lemmas.Option.{slice_get-map, slice_get-get_or}
+use Rattle.std.proofs.Common.{⊎_elim, inl, inr, ◌⊎◌}
 use Rattle.std.specs.Cmp.Lexicographic.{pointwise}
 use Rattle.std.proofs.lemmas.Bool.Decides.{Decides-and, Decides-eqb, same_from_decides}
 use Rattle.std.proofs.lemmas.Slice.Eq.{bytes_eq-Decides}
@@ -29,10 +27,11 @@ use Rattle.sm_cc.specs.declared.positions.Positions.{Positions}
 use Rattle.sm_cc.specs.Classes.{if_there}
 use Rattle.sm_cc.specs.Rows.{one_head}
 use Rattle.sm_cc.specs.Standing.{place_of, RowsStand}
-use Rattle.sm_cc.specs.Numbered.{StandApart, IsLonger, head_of, IsHeadAt, IsShapeAt}
+use Rattle.sm_cc.specs.Numbered.{StandApart, IsLonger, head_of, IsHeadAt, IsShapeAt, heads_met, parts_met}
 use Rattle.sm_cc.specs.Positions.{place_at, ArePositions}
-use Rattle.sm_cc.specs.RowOf.{HasTree, IsRowOf}
-use Rattle.sm_cc.proofs.NumberedLemmas.{slice_get-longer}
+use Rattle.sm_cc.specs.RowOf.{HasTree, IsRowOf, IsFurther, AreRowsFrom}
+use Rattle.sm_cc.specs.declared.ground.Numbering.{Numbering}
+use Rattle.sm_cc.proofs.NumberedLemmas.{slice_get-longer, longer_itself, longer_twice}
 
 -- whether two heads hold the same
 same_heads : Option Contents → Option Contents → Bool
@@ -197,11 +196,6 @@ arguments_stand table terms p are term t is low places e =
         ap (λ (n : ℕ). n ∷ map (λ (a : TermId). place_at p a.0) list) (are.places a.0 before.0)
         ∙ ap (λ (ns : List ℕ). place_of terms (tree_at (trees_in table) a.0) ∷ ns) (by list before.1)
 
--- each row is that of the term at its place
-abbrev pub AreRowsOf : TableValue → List Tree → List Contents → List (List (ℕ × ℤ)) → List Row → Type 0
-AreRowsOf table terms heads parts rows =
-    (i : ℕ) (r : Row) (t : Tree) → slice_get rows i ≡ Some r → slice_get terms i ≡ Some t → IsRowOf table terms heads parts t r
-
 -- what stands in a list with one more at its end
 pub pushed : {A : Type 0} (xs : List A) (x y : A) (k : ℕ) → slice_get (xs ++ x ∷ []) k ≡ Some y →
     (slice_get xs k ≡ Some y) ⊎ ((k ≡ length xs) × (x ≡ y))
@@ -214,26 +208,39 @@ pushed (z ∷ xs) x y (suc k) e =
     (pushed xs x y k e)
 
 -- one row more
-pub rows_more : (table : TableValue) (ids : List TermId) (heads more : List Contents) (parts others : List (List (ℕ × ℤ)))
-    (rows : List Row) (next : Row) (i : ℕ) (d : TermId) → length rows ≡ i → i < length ids →
-    IsLonger heads more → IsLonger parts others → AreRowsOf table (trees_of (trees_in table) ids) heads parts rows →
-    IsRowOf table (trees_of (trees_in table) ids) more others (tree_at (trees_in table) (get_or ids i d).0) next →
-    AreRowsOf table (trees_of (trees_in table) ids) more others (rows ++ next ∷ [])
-rows_more table ids heads more parts others rows next i d count inside longer wider each new k r t f g =
-    let terms = trees_of (trees_in table) ids in
-    ⊎_elim (λ (h : slice_get rows k ≡ Some r). row_later table terms heads more parts others t r longer wider (each k r t h g))
+pub rows_more : (table : TableValue) (terms : List Tree) (old new : Numbering) → IsFurther old new → (from : ℕ) (rows : List Row)
+    (next : Row) → AreRowsFrom table terms old from rows → (u : Tree) → slice_get terms (from + length rows) ≡ Some u →
+    IsRowOf table terms (heads_met new.heads) (parts_met new.shapes) u next → AreRowsFrom table terms new from (rows ++ next ∷ [])
+rows_more table terms old new further from rows next each u there made k r t f g =
+    ⊎_elim
+    (λ (h : slice_get rows k ≡ Some r).
+    row_later table terms (heads_met old.heads) (heads_met new.heads) (parts_met old.shapes) (parts_met new.shapes) t r
+    further.heads further.parts (each k r t h g))
     (λ (h : (k ≡ length rows) × (next ≡ r)).
-    let place : k ≡ i = h.0 ∙ count in
-    let there : slice_get terms i ≡ Some (tree_at (trees_in table) (get_or ids i d).0) =
-    slice_get-map (λ (x : TermId). tree_at (trees_in table) x.0) ids i
-    ∙ ap (option_map (λ (x : TermId). tree_at (trees_in table) x.0)) (slice_get-get_or ids i d inside) in
-    let same = some_is _ _ (sym there ∙ ap (slice_get terms) (sym place) ∙ g) in
-    subst (λ (x : Tree). IsRowOf table terms more others x r) same
-    (subst (λ (x : Row). IsRowOf table terms more others (tree_at (trees_in table) (get_or ids i d).0) x) h.1 new))
+    let same = some_is u t (sym there ∙ ap (λ (n : ℕ). slice_get terms (from + n)) (sym h.0) ∙ g) in
+    subst (λ (x : Tree). IsRowOf table terms (heads_met new.heads) (parts_met new.shapes) x r) same
+    (subst (λ (x : Row). IsRowOf table terms (heads_met new.heads) (parts_met new.shapes) u x) h.1 made))
     (pushed rows next r k f)
   where
     some_is : (c d : Tree) → Some c ≡ Some d → c ≡ d
     some_is c d e = cc
+
+-- what was met goes on
+pub further_itself : (n : Numbering) → IsFurther n n
+further_itself n = record {
+  heads = longer_itself (heads_met n.heads);
+  parts = longer_itself (parts_met n.shapes);
+  heads_apart = λ h. h;
+  parts_apart = λ h. h;
+}
+
+pub further_twice : (l m n : Numbering) → IsFurther l m → IsFurther m n → IsFurther l n
+further_twice l m n p q = record {
+  heads = longer_twice (heads_met l.heads) (heads_met m.heads) (heads_met n.heads) p.heads q.heads;
+  parts = longer_twice (parts_met l.shapes) (parts_met m.shapes) (parts_met n.shapes) p.parts q.parts;
+  heads_apart = λ h. q.heads_apart (p.heads_apart h);
+  parts_apart = λ h. q.parts_apart (p.parts_apart h);
+}
 
 -- nothing stands in no list twice
 pub none_apart : {A : Type 0} (list : List A) → list ≡ [] → StandApart list

@@ -6,10 +6,13 @@ pub mod Exact
 pub mod Explained
 pub mod Explaining
 pub mod Firsts
+pub mod Ground
+pub mod Growing
 pub mod Log
 pub mod Merges
 pub mod Numbered
 pub mod Positions
+pub mod Regrounding
 pub mod Rounds
 pub mod RowOf
 pub mod Rows

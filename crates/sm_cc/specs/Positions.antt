@@ -1,6 +1,7 @@
 -- Private: the first places of terms in a list, by the numbers of the terms.
-use Rattle.std.specs.Prelude.{◌≡◌, ◌==◌, ℕ, suc, ◌<◌, nat_eq, Bool, false, ◌&&◌, if◌then◌else◌}
+use Rattle.std.specs.Prelude.{◌≡◌, ◌==◌, ℕ, suc, ◌<◌, ◌≤◌, Bool, false, ◌&&◌, if◌then◌else◌}
 use Rattle.std.specs.Prelude.{Option, Some, None, option_map, unwrap_or, List, [], ◌∷◌, length}
+use Rattle.std.specs.Prelude.{get_or}
 use Rattle.std.specs.HashMap.{get}
 use Rattle.sm_term.specs.declared.term.Term.{Term}
 use Rattle.sm_term.specs.declared.term.Term.TheVariants as row
@@ -34,7 +35,7 @@ is_read t b j = false
 
 -- the place of a term by its number
 abbrev pub place_at : Positions → ℕ → ℕ
-place_at p n = unwrap_or (get nat_eq p.terms n) p.count
+place_at p n = unwrap_or (get_or p.places.items n None) p.count
 
 -- the place of an element that is read, by the numbers of its array and its index
 abbrev pub read_at : Positions → ℕ → ℕ → ℕ
@@ -51,8 +52,34 @@ HasReads trees terms places =
     (a i : ℕ) → a < length trees → i < length trees →
     places (a, i) ≡ first_place terms (Read (tree_at trees a) (tree_at trees i))
 
+-- a map has elements alone that are read of terms below a bound
+abbrev pub AreReadsBelow : ℕ → (ℕ × ℕ → Option ℕ) → Type 0
+AreReadsBelow bound places =
+    (a i place : ℕ) → places (a, i) ≡ Some place → (a < bound) × (i < bound)
+
+-- a tree has a number in a table
+abbrev pub HasNumber : List Tree → Tree → Type 0
+HasNumber trees t = (n : ℕ) × (n < length trees) × (tree_at trees n ≡ t)
+
+-- the parts of each term in a list that reads an element have numbers
+abbrev pub HavePartsIn : List Tree → List Tree → Type 0
+HavePartsIn trees terms =
+    (a i : Tree) (place : ℕ) → first_place terms (Read a i) ≡ Some place →
+    HasNumber trees a × HasNumber trees i
+
+-- what is noted of the places of terms of a table in a list of such, also where it grows
+pub record AreNoted
+    (trees terms : List Tree) (places : List (Option ℕ)) (reads : ℕ × ℕ → Option ℕ) : Type 0 where
+  pub within : length places ≤ length trees
+  pub places_noted : HasPlaces trees terms (λ n. get_or places n None)
+  pub reads_noted : HasReads trees terms reads
+  pub reads_below : AreReadsBelow (length trees) reads
+  pub parts : HavePartsIn trees terms
+
 -- positions tell the places of terms of a table in a list of such
 pub record ArePositions (trees terms : List Tree) (p : Positions) : Type 0 where
+  pub noted : AreNoted trees terms p.places.items (get same_pair p.reads)
+  pub count : p.count ≡ length terms
   pub places : (n : ℕ) → n < length trees → place_at p n ≡ place_of terms (tree_at trees n)
   pub reads :
       (a i : ℕ) → a < length trees → i < length trees →

@@ -4,13 +4,15 @@ ghost use Rattle.std.specs.Prelude.{[], ◌∷◌, ◌++◌, length, map};
 ghost use Rattle.sm_term.specs.Tables.{trees_in, sorts_in, tree_at, AreBefore};
 ghost use Rattle.sm_theory.specs.Views.{line_in};
 ghost use Rattle.sm_cc.specs.Classes.{Same, Apart};
-ghost use Rattle.sm_cc.specs.Views.{setting_of, IsTermOf};
+ghost use Rattle.sm_cc.specs.Ground.{IsGround, IsLedBy};
+ghost use Rattle.sm_cc.specs.Views.{ClassesValue, setting_of, IsTermOf};
 ghost use Rattle.sm_cc.specs.Views.{HaveOneSort, AreOfTwoTerms, with_given, no_terms};
 ghost use Rattle.sm_cc.specs.Views.{equation_under, contrary_under, equation_of, numbers_of};
 ghost use Rattle.sm_cc.specs.Explained.{Explain, AreLinesOf};
 ghost use Rattle.sm_cc.specs.Assumed.{with_fact};
 
-use crate::facts::places_of;
+use crate::facts::{places_of, places_over};
+use crate::ground::{Ground, Numbering};
 use crate::lines::lines;
 use crate::places::PlaceClasses;
 use crate::positions::Positions;
@@ -103,6 +105,55 @@ impl<'a> Classes<'a> {
             c ≡ record { table = table.now; terms = terms.now.list.items; given = [] }) }
     {
         Classes::of(alloc, table, terms, Vec::new(alloc))
+    }
+
+    /// The classes of terms that begin with those of others, by all that is given of them.
+    pub fn over(
+        alloc: Global,
+        ground: &Ground,
+        numbering: &mut Numbering,
+        table: &'a TermTable,
+        terms: &'a Terms,
+        given: Vec<GivenFact>,
+    ) -> Result<Classes<'a>, AllocError>
+        requires before { AreBefore (length (trees_in table.now)) terms.now.list.items }
+        requires given { AreOfTwoTerms (record {
+          table = table.now;
+          terms = terms.now.list.items;
+          given = given.items;
+        }) }
+        requires led { (v : ClassesValue) × IsGround v ground.now numbering.old
+            × IsLedBy v (record {
+              table = table.now;
+              terms = terms.now.list.items;
+              given = given.items;
+            }) }
+        ensures classes { IfOk result (λ c. c ≡ record {
+          table = table.now;
+          terms = terms.now.list.items;
+          given = given.items;
+        }) }
+        ensures ground { (v : ClassesValue) → IsGround v ground.now numbering.old →
+            IsGround v ground.now numbering.new }
+    {
+        let from = ground.closure.rows.len() as u64;
+        let positions = ground.positions.more(alloc, table, &terms.list, from)?;
+        let places = places_over(
+            alloc,
+            ground,
+            numbering,
+            table,
+            &terms.list,
+            &positions,
+            &given,
+        )?;
+        Ok(Classes {
+            table,
+            terms: &terms.list,
+            given,
+            positions,
+            places,
+        })
     }
 
     /// It is given that two terms are equal, by the fact with a number. After want of memory no

@@ -1,16 +1,19 @@
 // Given facts by the places of their terms.
 ghost use Rattle.std.specs.Prelude.{◌≡◌, [], ◌∷◌, ◌++◌, length, not, if◌then◌else◌, IfOk, OnOk};
 ghost use Rattle.sm_term.specs.Tables.{trees_in, AreBefore};
-ghost use Rattle.sm_cc.specs.Views.{trees_of, AreOfTwoTerms};
+ghost use Rattle.sm_cc.specs.Views.{ClassesValue, trees_of, AreOfTwoTerms};
 ghost use Rattle.sm_cc.specs.Positions.{ArePositions};
 ghost use Rattle.sm_cc.specs.Assumed.{placed_fact, placed_equations, placed_contraries};
 ghost use Rattle.sm_cc.specs.Assumed.{AreClasses};
+ghost use Rattle.sm_cc.specs.RowOf.{IsFurther};
+ghost use Rattle.sm_cc.specs.Ground.{IsGround, IsLedBy};
 
 use crate::classes::GivenFact;
+use crate::ground::{Ground, Numbering};
 use crate::log::Given;
 use crate::places::PlaceClasses;
 use crate::positions::Positions;
-use crate::rows::rows;
+use crate::rows::{rows, rows_from};
 use sm_term::{TermId, TermTable};
 use std::alloc::{AllocError, Global};
 
@@ -36,8 +39,39 @@ pub(crate) fn places_of(
     Ok(places)
 }
 
-// The equations among given facts and the contraries, each in order.
-fn placed_facts(
+//// The classes of the places of terms that begin with those of others, by all that is given of the
+/// terms.
+pub(crate) fn places_over(
+    alloc: Global,
+    ground: &Ground,
+    numbering: &mut Numbering,
+    table: &TermTable,
+    terms: &[TermId],
+    positions: &Positions,
+    facts: &[GivenFact],
+) -> Result<PlaceClasses, AllocError>
+    requires before { AreBefore (length (trees_in table.now)) terms.now }
+    requires positions { let trees = trees_in table.now in
+        ArePositions trees (trees_of trees terms.now) positions.now }
+    requires given { AreOfTwoTerms
+        (record { table = table.now; terms = terms.now; given = facts.now }) }
+    requires led { (v : ClassesValue) × IsGround v ground.now numbering.old
+        × IsLedBy v (record { table = table.now; terms = terms.now; given = facts.now }) }
+    ensures classes { IfOk result (λ p. AreClasses
+        (record { table = table.now; terms = terms.now; given = facts.now }) positions.now p) }
+    ensures further { IsFurther numbering.old numbering.new }
+{
+    // A table has no term and no body twice, as its length ensures.
+    table.len();
+    let from = ground.closure.rows.len();
+    let more = rows_from(alloc, table, positions, numbering, terms, from)?;
+    let (equal, unequal) = placed_facts(alloc, positions, facts)?;
+    let places = PlaceClasses::over(alloc, ground, more, equal, unequal)?;
+    Ok(places)
+}
+
+/// The equations among given facts and the contraries, each in order.
+pub(crate) fn placed_facts(
     alloc: Global,
     positions: &Positions,
     facts: &[GivenFact],

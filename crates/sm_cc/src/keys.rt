@@ -76,7 +76,7 @@ fn labelled(c: &Closure, places: &[u64], mut key: Key) -> Result<Option<Key>, Al
 }
 
 // The label of a place, where it is there.
-fn label_of(c: &Closure, place: u64) -> Option<u64>
+pub(crate) fn label_of(c: &Closure, place: u64) -> Option<u64>
     ensures { result ≡ label_at (slice_get c.now.roots.items place) }
 {
     match c.roots.get(place as usize) {

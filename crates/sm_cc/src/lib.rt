@@ -12,6 +12,9 @@
 //!   of which is the equation. The lines name terms of the list alone. What is needed twice has one
 //!   line.
 //! - Of terms that aren't in the list nothing is known. After want of memory no terms are left.
+//! - `Ground` is made of terms and what is given of them, once. `Classes::over` has the classes of
+//!   these terms and more behind them, of which more is given: what was found is kept, and only keys
+//!   of what is new are made.
 //!
 //! Classes only become coarser: nothing that was given is taken back.
 //!
@@ -25,6 +28,8 @@ mod compare;
 mod derive;
 mod explain;
 mod facts;
+mod ground;
+mod growing;
 mod heads;
 mod keys;
 mod lines;
@@ -33,6 +38,7 @@ mod marks;
 mod merge;
 mod places;
 mod positions;
+mod regrounding;
 mod rounds;
 mod row;
 mod rows;
@@ -40,3 +46,4 @@ mod shapes;
 mod witness;
 
 pub use classes::{Classes, GivenFact};
+pub use ground::{Ground, Grounded, Numbering};

@@ -1,14 +1,21 @@
 // Classes of equal places, by what is given of them.
-ghost use Rattle.std.specs.Prelude.{◌≡◌, ◌↔◌, ◌<◌, ◌^◌, [], IsTrue, IfOk, OnOk, OnErr, length};
+ghost use Rattle.std.specs.Prelude.{◌≡◌, ◌↔◌, ◌<◌, ◌^◌, List, [], IsTrue, IfOk, OnOk, OnErr};
+ghost use Rattle.std.specs.Prelude.{length};
 ghost use Rattle.sm_cc.specs.Rows.{SamePlaces, ApartPlaces};
 ghost use Rattle.sm_cc.specs.Log.{Placed};
 ghost use Rattle.sm_cc.specs.Steps.{ExplainPlaces};
+ghost use Rattle.sm_cc.specs.Closures.{IsSound};
+ghost use Rattle.sm_cc.specs.Ground.{AreAllGiven, AreInside, AreKeyed};
+ghost use Rattle.sm_cc.specs.Growing.{AreGrown};
 ghost use Rattle.sm_cc.specs.Exact.{nothing_given, placed_with, with_equal, with_unequal};
 
 use crate::closure::{Closure, empty, unmerged};
 use crate::compare::together;
 use crate::explain::explanation;
+use crate::ground::Ground;
+use crate::growing::grown;
 use crate::log::{Given, Step};
+use crate::regrounding::settle_over;
 use crate::rounds::settle;
 use crate::row::Row;
 use crate::witness::find_witness;
@@ -56,6 +63,28 @@ impl PlaceClasses {
     {
         let mut inside = unmerged(alloc, rows, equal, unequal)?;
         settle(alloc, &mut inside)?;
+        Ok(PlaceClasses { inside })
+    }
+
+    /// The classes of places that begin with those of others, by all that is given of them.
+    pub(crate) fn over(
+        alloc: Global,
+        ground: &Ground,
+        more: Vec<Row>,
+        equal: Vec<Given>,
+        unequal: Vec<Given>,
+    ) -> Result<PlaceClasses, AllocError>
+        requires sound { IsSound ground.now.closure }
+        requires keyed { AreKeyed ground.now }
+        requires inside { AreInside ground.now.closure.rows.items }
+        requires equal { AreAllGiven ground.now.closure.equal.items equal.items }
+        requires unequal { AreAllGiven ground.now.closure.unequal.items unequal.items }
+        ensures { IfOk result (λ p. (rows : List Row)
+            × AreGrown ground.now.closure.rows.items more.items rows
+            × (p ≡ placed_with rows equal.items unequal.items)) }
+    {
+        let mut inside = grown(alloc, &ground.closure, more, equal, unequal)?;
+        settle_over(alloc, ground, &mut inside)?;
         Ok(PlaceClasses { inside })
     }
 

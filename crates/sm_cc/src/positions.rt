@@ -1,13 +1,15 @@
 // Where terms stand in a list, by their numbers.
-ghost use Rattle.std.specs.Prelude.{◌≡◌, ◌<◌, ℕ, List, [], length, map, nat_eq, IfOk, OnOk};
+ghost use Rattle.std.specs.Prelude.{◌≡◌, ◌<◌, ◌≤◌, ℕ, List, [], length, map, take, get_or};
+ghost use Rattle.std.specs.Prelude.{None, nat_eq, IfOk, OnOk};
 ghost use Rattle.std.specs.HashMap.{get};
 ghost use Rattle.sm_term.specs.Terms.{Tree};
 ghost use Rattle.sm_term.specs.Tables.{trees_in, tree_at, AreBefore};
 ghost use Rattle.sm_euf.specs.Arguments.{argument_numbers};
+ghost use Rattle.sm_cc.specs.Numbered.{IsLonger};
 ghost use Rattle.sm_cc.specs.Standing.{element_of};
 ghost use Rattle.sm_cc.specs.Views.{trees_of};
 ghost use Rattle.sm_cc.specs.Positions.{place_at, read_at, ArePositions};
-ghost use Rattle.sm_cc.specs.Positions.{first_or, same_pair, is_read, written_element};
+ghost use Rattle.sm_cc.specs.Positions.{first_or, same_pair, is_read, written_element, AreNoted};
 
 use crate::row::Element;
 use sm_term::{Term, TermId, TermTable};
@@ -17,7 +19,8 @@ use std::collections::HashMap;
 /// The first places of the terms of a list, by their numbers.
 #[derive(Debug, Drop)]
 pub(crate) struct Positions {
-    terms: HashMap<u64, u64>,
+    // by the number of the term; a number past the end has none
+    places: Vec<Option<u64>>,
     // the elements that are read, by the numbers of the array and of the index
     reads: HashMap<(u64, u64), u64>,
     // the place of every term that isn't in the list
@@ -35,16 +38,37 @@ impl Positions {
         ensures { let trees = trees_in table.now in
             IfOk result (λ p. ArePositions trees (trees_of trees terms.now) p) }
     {
-        // A table has no term twice, as its length ensures.
-        table.len();
-        let mut places = HashMap::new(alloc);
+        let mut places = lengthened(alloc, &[], table.len())?;
         let mut reads = HashMap::new(alloc);
-        for i in 0..terms.len() {
-            note_term(&mut places, terms[i], i as u64)?;
-            note_read(&mut reads, table.get(terms[i]), i as u64)?;
-        }
+        note_behind(table, terms, 0, &mut places, &mut reads)?;
         Ok(Positions {
-            terms: places,
+            places,
+            reads,
+            count: terms.len() as u64,
+        })
+    }
+
+    /// The places of terms behind those of these positions, in a table that may have more terms.
+    pub(crate) fn more(
+        &self,
+        alloc: Global,
+        table: &TermTable,
+        terms: &[TermId],
+        from: u64,
+    ) -> Result<Positions, AllocError>
+        requires before { AreBefore (length (trees_in table.now)) terms.now }
+        requires led { (trees : List Tree) × (first : List TermId)
+            × ArePositions trees (trees_of trees first) self.now
+            × AreBefore (length trees) first × IsLonger trees (trees_in table.now)
+            × IsLonger first terms.now × (length first ≡ from) }
+        ensures { let trees = trees_in table.now in
+            IfOk result (λ p. ArePositions trees (trees_of trees terms.now) p) }
+    {
+        let mut places = lengthened(alloc, &self.places, table.len())?;
+        let mut reads = copy_reads(&self.reads)?;
+        note_behind(table, terms, from, &mut places, &mut reads)?;
+        Ok(Positions {
+            places,
             reads,
             count: terms.len() as u64,
         })
@@ -55,7 +79,7 @@ impl Positions {
         ensures { (trees : List Tree) → ArePositions trees [] result }
     {
         Positions {
-            terms: HashMap::new(alloc),
+            places: Vec::new(alloc),
             reads: HashMap::new(alloc),
             count: 0,
         }
@@ -65,8 +89,9 @@ impl Positions {
     pub(crate) fn place(&self, t: TermId) -> u64
         ensures { result ≡ place_at self.now t.0 }
     {
-        match self.terms.get(&t.0) {
-            Some(place) => *place,
+        match self.places.get(t.0 as usize) {
+            Some(Some(place)) => *place,
+            Some(None) => self.count,
             None => self.count,
         }
     }
@@ -87,24 +112,24 @@ impl Positions {
             v.items ≡ map (λ a. place_at self.now a.0) (argument_numbers t.now)) }
     {
         match t {
-            Term::Neg(a) => self.places(alloc, &[*a]),
-            Term::Read(a, b) => self.places(alloc, &[*a, *b]),
-            Term::Add(a, b) => self.places(alloc, &[*a, *b]),
-            Term::Sub(a, b) => self.places(alloc, &[*a, *b]),
-            Term::Mul(a, b) => self.places(alloc, &[*a, *b]),
-            Term::Write(a, b, e) => self.places(alloc, &[*a, *b, *e]),
-            Term::Fun { args, .. } => self.places(alloc, &args.list),
+            Term::Neg(a) => self.list(alloc, &[*a]),
+            Term::Read(a, b) => self.list(alloc, &[*a, *b]),
+            Term::Add(a, b) => self.list(alloc, &[*a, *b]),
+            Term::Sub(a, b) => self.list(alloc, &[*a, *b]),
+            Term::Mul(a, b) => self.list(alloc, &[*a, *b]),
+            Term::Write(a, b, e) => self.list(alloc, &[*a, *b, *e]),
+            Term::Fun { args, .. } => self.list(alloc, &args.list),
             Term::Lit(_) | Term::Start(_) | Term::Cell => Ok(Vec::new(alloc)),
             Term::Havoc { .. } | Term::Slot { .. } => Ok(Vec::new(alloc)),
         }
     }
 
     // The places of some terms.
-    fn places(&self, alloc: Global, list: &[TermId]) -> Result<Vec<u64>, AllocError>
-        ensures { IfOk result (λ v. v.items ≡ map (λ a. place_at self.now a.0) list.now) }
+    fn list(&self, alloc: Global, terms: &[TermId]) -> Result<Vec<u64>, AllocError>
+        ensures { IfOk result (λ v. v.items ≡ map (λ a. place_at self.now a.0) terms.now) }
     {
         let mut places = Vec::new(alloc);
-        for t in list {
+        for t in terms {
             places.push(self.place(*t))?;
         }
         Ok(places)
@@ -142,15 +167,69 @@ impl Positions {
     }
 }
 
-// Notes the place of a term, unless one is known.
-fn note_term(places: &mut HashMap<u64, u64>, t: TermId, place: u64) -> Result<(), AllocError>
-    ensures { OnOk result ((n : ℕ) → get nat_eq places.new n
-        ≡ first_or (get nat_eq places.old n) (nat_eq t.0 n) place) }
+// Places for the terms of a table of some length, where those of shorter tables are known.
+fn lengthened(
+    alloc: Global,
+    places: &[Option<u64>],
+    len: u64,
+) -> Result<Vec<Option<u64>>, AllocError>
+    ensures len { IfOk result (λ v. length v.items ≡ len) }
+    ensures kept { IfOk result (λ v. (n : ℕ) → n < len →
+        get_or v.items n None ≡ get_or places.now n None) }
 {
-    if !places.contains_key(&t.0) {
-        places.insert(t.0, place)?;
+    let mut list = Vec::with_capacity(alloc, len as usize)?;
+    list.extend_from_slice(places)?;
+    list.resize(len as usize, None)?;
+    Ok(list)
+}
+
+// The same elements with their places.
+fn copy_reads(reads: &HashMap<(u64, u64), u64>) -> Result<HashMap<(u64, u64), u64>, AllocError>
+    ensures { IfOk result (λ m. (q : ℕ × ℕ) →
+        get same_pair m q ≡ get same_pair reads.now q) }
+{
+    let copy = reads.clone()?;
+    Ok(copy)
+}
+
+// Notes the places of the terms of a list from one on, where those before it are noted.
+fn note_behind(
+    table: &TermTable,
+    terms: &[TermId],
+    from: u64,
+    places: &mut Vec<Option<u64>>,
+    reads: &mut HashMap<(u64, u64), u64>,
+) -> Result<(), AllocError>
+    requires before { AreBefore (length (trees_in table.now)) terms.now }
+    requires from { from ≤ length terms.now }
+    requires len { length places.old.items ≡ length (trees_in table.now) }
+    requires noted { let trees = trees_in table.now in
+        AreNoted trees (trees_of trees (take from terms.now)) places.old.items
+        (get same_pair reads.old) }
+    ensures { let trees = trees_in table.now in
+        OnOk result (AreNoted trees (trees_of trees terms.now) places.new.items
+        (get same_pair reads.new)) }
+{
+    // A table has no term twice, as its length ensures.
+    table.len();
+    for i in from as usize..terms.len() {
+        note_term(places, terms[i], i as u64);
+        note_read(reads, table.get(terms[i]), i as u64)?;
     }
     Ok(())
+}
+
+// Notes the place of a term, unless one is known.
+fn note_term(places: &mut Vec<Option<u64>>, t: TermId, place: u64)
+    requires { t.0 < length places.old.items }
+    ensures len { length places.new.items ≡ length places.old.items }
+    ensures noted { (n : ℕ) → get_or places.new.items n None
+        ≡ first_or (get_or places.old.items n None) (nat_eq t.0 n) place }
+{
+    let number = t.0 as usize;
+    if places[number].is_none() {
+        places[number] = Some(place);
+    }
 }
 
 // Notes the place of a term that reads an element, unless one is known.

@@ -120,7 +120,12 @@ fn relate_rows(alloc: Global, c: &mut Closure, i: u64, j: u64) -> Result<(), All
 }
 
 // The same, if both places are there.
-fn relate_rows_there(alloc: Global, c: &mut Closure, i: u64, j: u64) -> Result<(), AllocError>
+pub(crate) fn relate_rows_there(
+    alloc: Global,
+    c: &mut Closure,
+    i: u64,
+    j: u64,
+) -> Result<(), AllocError>
     requires sound { IsSound c.old }
     ensures { OnOk result (Tries (IsPairThere i j) c.old c.new) }
 {
@@ -155,7 +160,7 @@ fn relate_first(
 }
 
 // Places of one linear form come into one class.
-fn relate_alike(alloc: Global, c: &mut Closure) -> Result<(), AllocError>
+pub(crate) fn relate_alike(alloc: Global, c: &mut Closure) -> Result<(), AllocError>
     requires { IsSound c.old }
     ensures { OnOk result (Tries AreAlikeSettled c.old c.new) }
 {
@@ -168,7 +173,7 @@ fn relate_alike(alloc: Global, c: &mut Closure) -> Result<(), AllocError>
 }
 
 // Places of one head whose arguments are equal come into one class.
-fn relate_headed(alloc: Global, c: &mut Closure) -> Result<(), AllocError>
+pub(crate) fn relate_headed(alloc: Global, c: &mut Closure) -> Result<(), AllocError>
     requires { IsSound c.old }
     ensures { OnOk result (Tries AreHeadedSettled c.old c.new) }
 {
@@ -190,7 +195,7 @@ fn relate_pairs(alloc: Global, c: &mut Closure) -> Result<(), AllocError>
 }
 
 // Applies the rules that look at single places.
-fn relate_single(alloc: Global, c: &mut Closure) -> Result<(), AllocError>
+pub(crate) fn relate_single(alloc: Global, c: &mut Closure) -> Result<(), AllocError>
     requires { IsSound c.old }
     ensures { OnOk result (Tries AreSinglesSettled c.old c.new) }
 {

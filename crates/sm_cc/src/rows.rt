@@ -1,13 +1,15 @@
 // What there is to know of the terms of a list.
-ghost use Rattle.std.specs.Prelude.{◌≡◌, ◌<◌, List, length, IfOk};
+ghost use Rattle.std.specs.Prelude.{◌≡◌, ◌<◌, ◌≤◌, ◌+◌, List, length, IfOk};
 ghost use Rattle.sm_term.specs.Terms.{Tree};
 ghost use Rattle.sm_term.specs.Tables.{trees_in, sorts_in, tree_at, AreBefore};
-ghost use Rattle.sm_cc.specs.Numbered.{StandApart, IsLonger, heads_met, parts_met};
+ghost use Rattle.sm_cc.specs.Numbered.{heads_met, parts_met};
 ghost use Rattle.sm_cc.specs.Views.{trees_of};
 ghost use Rattle.sm_cc.specs.Positions.{ArePositions};
 ghost use Rattle.sm_cc.specs.Standing.{RowsStand};
-ghost use Rattle.sm_cc.specs.RowOf.{IsRowOf};
+ghost use Rattle.sm_cc.specs.RowOf.{IsRowOf, IsFurther, AreRowsFrom};
+ghost use Rattle.sm_cc.specs.Ground.{AreNumberedBy};
 
+use crate::ground::Numbering;
 use crate::heads::Heads;
 use crate::positions::Positions;
 use crate::row::Row;
@@ -28,13 +30,56 @@ pub(crate) fn rows(
     ensures { IfOk result (λ rows.
         RowsStand (sorts_in table.now) (trees_of (trees_in table.now) terms.now) rows.items) }
 {
+    let (rows, _) = numbered_rows(alloc, table, positions, terms)?;
+    Ok(rows)
+}
+
+/// The same, with what the heads and the forms of the terms are numbered by.
+pub(crate) fn numbered_rows(
+    alloc: Global,
+    table: &TermTable,
+    positions: &Positions,
+    terms: &[TermId],
+) -> Result<(Vec<Row>, Numbering), AllocError>
+    requires before { AreBefore (length (trees_in table.now)) terms.now }
+    requires positions { let trees = trees_in table.now in
+        ArePositions trees (trees_of trees terms.now) positions.now }
+    ensures stand { IfOk result (λ p.
+        RowsStand (sorts_in table.now) (trees_of (trees_in table.now) terms.now) p.0.items) }
+    ensures numbered { IfOk result (λ p.
+        AreNumberedBy table.now (trees_of (trees_in table.now) terms.now) p.0.items p.1) }
+{
     // A table has no body twice, as its length ensures.
     table.len();
-    let mut heads = Heads::new(alloc);
-    let mut shapes = Shapes::new(alloc);
+    let mut numbering = Numbering {
+        heads: Heads::new(alloc),
+        shapes: Shapes::new(alloc),
+    };
+    let rows = rows_from(alloc, table, positions, &mut numbering, terms, 0)?;
+    Ok((rows, numbering))
+}
+
+/// A row for each term from a place on, by what terms are numbered by.
+pub(crate) fn rows_from(
+    alloc: Global,
+    table: &TermTable,
+    positions: &Positions,
+    numbering: &mut Numbering,
+    terms: &[TermId],
+    from: usize,
+) -> Result<Vec<Row>, AllocError>
+    requires before { AreBefore (length (trees_in table.now)) terms.now }
+    requires positions { let trees = trees_in table.now in
+        ArePositions trees (trees_of trees terms.now) positions.now }
+    requires inside { from ≤ length terms.now }
+    ensures further { IsFurther numbering.old numbering.new }
+    ensures count { IfOk result (λ rows. from + length rows.items ≡ length terms.now) }
+    ensures rows { let trees = trees_in table.now in IfOk result (λ rows.
+        AreRowsFrom table.now (trees_of trees terms.now) numbering.new from rows.items) }
+{
     let mut rows = Vec::new(alloc);
-    for i in 0..terms.len() {
-        let row = row(alloc, table, positions, &mut heads, &mut shapes, terms[i])?;
+    for i in from..terms.len() {
+        let row = row(alloc, table, positions, numbering, terms[i])?;
         rows.push(row)?;
     }
     Ok(rows)
@@ -45,24 +90,20 @@ fn row(
     alloc: Global,
     table: &TermTable,
     positions: &Positions,
-    heads: &mut Heads,
-    shapes: &mut Shapes,
+    numbering: &mut Numbering,
     t: TermId,
 ) -> Result<Row, AllocError>
     requires { t.0 < length (trees_in table.now) }
-    ensures heads { IsLonger (heads_met heads.old) (heads_met heads.new) }
-    ensures heads_apart { StandApart (heads_met heads.old) → StandApart (heads_met heads.new) }
-    ensures parts { IsLonger (parts_met shapes.old) (parts_met shapes.new) }
-    ensures parts_apart { StandApart (parts_met shapes.old) → StandApart (parts_met shapes.new) }
+    ensures further { IsFurther numbering.old numbering.new }
     ensures row { let trees = trees_in table.now in (terms : List Tree) →
         ArePositions trees terms positions.now → IfOk result (λ r.
-        IsRowOf table.now terms (heads_met heads.new) (parts_met shapes.new)
+        IsRowOf table.now terms (heads_met numbering.new.heads) (parts_met numbering.new.shapes)
         (tree_at trees t.0) r) }
 {
     let term = table.get(t);
-    let head = heads.number(alloc, term)?;
+    let head = numbering.heads.number(alloc, term)?;
     let arguments = positions.arguments(alloc, term)?;
-    let shape = shapes.shape(alloc, table, t)?;
+    let shape = numbering.shapes.shape(alloc, table, t)?;
     let element = positions.element(table, t);
     Ok(Row {
         head,

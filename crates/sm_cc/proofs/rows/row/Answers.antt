@@ -12,6 +12,7 @@ returns-clause-row c = λ terms are.
     let term = c.get-term.result.now in
     let tree : HasTree table term t = record {
       place = c.args.t.0;
+      inside = c.requires;
       within = c.get-term.ensures.before;
       fits = c.get-term.ensures.fits;
       tree = c.get-term.ensures.tree;

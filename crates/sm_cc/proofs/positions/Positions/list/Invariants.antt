@@ -2,7 +2,7 @@
 use Rattle.std.proofs.Common.{◌≡◌, map, take}
 use Rattle.sm_term.specs.declared.term.TermId.{TermId}
 use Rattle.sm_cc.specs.Positions.{place_at}
-use Rattle.sm_cc.proofs.positions.Positions.places.Given as goal
+use Rattle.sm_cc.proofs.positions.Positions.list.Given as goal
 
 abbrev pub invariant-loop-t : goal.invariant-loop-t
-invariant-loop-t l = l.places.items ≡ map (λ (a : TermId). place_at l.self a.0) (take l.t-index l.list)
+invariant-loop-t l = l.places.items ≡ map (λ (a : TermId). place_at l.self a.0) (take l.t-index l.terms)

@@ -1,0 +1,13 @@
+-- The places that were passed have their entries and roots.
+use Rattle.std.proofs.Common.{◌≡◌, length}
+use Rattle.sm_cc.specs.Log.{AllFollow}
+use Rattle.sm_cc.specs.Closures.{AllRooted}
+use Rattle.sm_cc.specs.Exact.{placed_with}
+use Rattle.sm_cc.proofs.growing.completed.Given as goal
+
+abbrev pub invariant-loop-k : goal.invariant-loop-k
+invariant-loop-k l = record {
+  follow : AllFollow (placed_with l.rows.items l.equal.items l.unequal.items) l.entries.items;
+  rooted : AllRooted l.entries.items l.roots.items;
+  count : length l.roots.items ≡ l.k;
+}

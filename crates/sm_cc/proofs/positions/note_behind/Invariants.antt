@@ -1,0 +1,13 @@
+-- What is noted of the first terms.
+use Rattle.std.proofs.Common.{◌≡◌, length, take}
+use Rattle.std.specs.HashMap.{get}
+use Rattle.sm_term.specs.Tables.{trees_in}
+use Rattle.sm_cc.specs.Views.{trees_of}
+use Rattle.sm_cc.specs.Positions.{AreNoted, same_pair}
+use Rattle.sm_cc.proofs.positions.note_behind.Given as goal
+
+abbrev pub invariant-loop-i : goal.invariant-loop-i
+invariant-loop-i l = record {
+  len : length l.places.items ≡ length (trees_in l.table);
+  noted : AreNoted (trees_in l.table) (trees_of (trees_in l.table) (take l.i l.terms)) l.places.items (get same_pair l.reads);
+}

@@ -1,0 +1,20 @@
+-- One place more, and then all.
+use Rattle.std.proofs.Common.{sym, subst, arith, ℕ, length}
+use Rattle.sm_cc.specs.Closures.{are_together}
+use Rattle.sm_cc.specs.Firsts.{AreFirsts, met_at, headed_at}
+use Rattle.sm_cc.proofs.FirstsLemmas.{headed_bring}
+use Rattle.sm_cc.proofs.RegroundingLemmas.{exact_meet}
+use Rattle.sm_cc.proofs.regrounding.headed_places.Goals as goal
+
+pub loop-i-preserved : goal.loop-i-preserved
+loop-i-preserved c =
+    let old = c.args.c.now in
+    c.in_ok-meet.ensures (headed_at old) (are_together old.roots.items) (length old.rows.items)
+    (exact_meet headed_at old c.requires (headed_bring old)) (omega (arith, c.loop-i-test.true, c.len-i-end.ensures))
+    (sym c.in_ok-key.ensures) c.loop-i.invariant
+
+pub returns : goal.returns
+returns c =
+    let old = c.args.c.now in
+    subst (λ (n : ℕ). AreFirsts (headed_at old) (are_together old.roots.items) (met_at c.loop-i.met) n)
+    (omega (arith, c.loop-i-test.false, c.len-i-end.ensures, c.loop-i.auto.i-end)) c.loop-i.invariant

@@ -1,0 +1,35 @@
+-- The places before, one place more, and then all.
+use Rattle.std.proofs.Common.{◌≡◌, ℕ, None, ap, length, sym, subst, arith, rules}
+use Rattle.sm_cc.specs.Firsts.{Key, met_at, alike_at, TriesFirsts}
+use Rattle.sm_cc.specs.Regrounding.{over_at}
+use Rattle.sm_cc.proofs.FirstsLemmas.{firsts_tried_more, firsts_tried_all, alike_bring}
+use Rattle.sm_cc.proofs.RegroundingLemmas.{alike_before}
+use Rattle.sm_cc.proofs.regrounding.relate_alike_behind.Goals as goal
+
+pub loop-i-init : goal.loop-i-init
+loop-i-init c =
+    let g = c.args.ground.now in
+    let old = c.args.c.now in
+    let none : (v : Key) → met_at c.new-met.result v.items ≡ None = λ (v : Key). search rules in
+    let count : length g.closure.rows.items ≡ c.len-i.result = omega (arith, c.len-i.ensures) in
+    subst (λ (n : ℕ). TriesFirsts alike_at n old old (over_at (met_at g.alike) (met_at c.new-met.result))) count
+    (alike_before g old (met_at g.alike) (met_at c.new-met.result) c.requires.sound c.requires.over c.requires.labels
+    c.requires.over.keyed.alike none)
+
+pub alike_key-requires : goal.alike_key-requires
+alike_key-requires c =
+    let count = ap (λ e. length e.items) c.loop-i.invariant.grows.rows in
+    omega (arith, count, c.loop-i-test.true, c.len-i-end.ensures)
+
+pub loop-i-preserved : goal.loop-i-preserved
+loop-i-preserved c =
+    let base = met_at c.args.ground.now.alike in
+    let old = c.loop-i.c in
+    firsts_tried_more alike_at c.loop-i.i c.args.c.now old c.relate_first_over.new.c (over_at base (met_at c.loop-i.met))
+    (over_at base (met_at c.relate_first_over.new.met)) c.loop-i.invariant
+    (c.in_ok-relate_first_over.ensures (alike_at old) (alike_bring old) (sym c.in_ok-key.ensures))
+
+pub returns : goal.returns
+returns c =
+    firsts_tried_all alike_at c.loop-i.i c.args.c.now c.loop-i.c (over_at (met_at c.args.ground.now.alike) (met_at c.loop-i.met))
+    (omega (arith, c.loop-i-test.false, c.len-i-end.ensures)) c.loop-i.invariant

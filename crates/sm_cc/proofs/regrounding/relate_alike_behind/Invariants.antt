@@ -1,0 +1,7 @@
+-- Each place below is in one class with the first that has its key, or entries were added.
+use Rattle.sm_cc.specs.Firsts.{met_at, alike_at, TriesFirsts}
+use Rattle.sm_cc.specs.Regrounding.{over_at}
+use Rattle.sm_cc.proofs.regrounding.relate_alike_behind.Given as goal
+
+abbrev pub invariant-loop-i : goal.invariant-loop-i
+invariant-loop-i l = TriesFirsts alike_at l.i l.fn.c l.c (over_at (met_at l.ground.alike) (met_at l.met))

@@ -1,0 +1,27 @@
+-- The rows from the first place on.
+use Rattle.std.proofs.Common.{◌∙◌, ap, map, slice_get, arith, zero-add}
+use Rattle.std.proofs.lemmas.List.{length-map}
+use Rattle.sm_term.specs.declared.term.TermId.{TermId}
+use Rattle.sm_term.specs.RowLaws.{contents_of}
+use Rattle.sm_term.specs.Tables.{trees_in, tree_at}
+use Rattle.sm_cc.specs.Numbered.{heads_met, parts_met}
+use Rattle.sm_cc.specs.Views.{trees_of}
+use Rattle.sm_cc.proofs.NumberedLemmas.{parts_of}
+use Rattle.sm_cc.proofs.RowsLemmas.{rows_stand, none_apart}
+use Rattle.sm_cc.proofs.rows.numbered_rows.Goals as goal
+
+pub returns-clause-stand : goal.returns-clause-stand
+returns-clause-stand c =
+    let table = c.args.table.now in
+    let ids = c.args.terms.now in
+    let terms = trees_of (trees_in table) ids in
+    let n = c.rows_from.new.numbering in
+    let made = c.in_ok-rows.ensures in
+    let long = length-map ids (λ (t : TermId). tree_at (trees_in table) t.0) in
+    let count = made.count in
+    rows_stand table c.len.ensures.codes_apart terms (heads_met n.heads) (parts_met n.shapes)
+    (made.further.heads_apart (none_apart (heads_met c.new.result) (ap (map contents_of) c.new.ensures)))
+    (made.further.parts_apart (none_apart (parts_met c.new-2.result) (ap (map parts_of) c.new-2.ensures)))
+    c.in_ok-rows.rows.items
+    (omega (arith, count, long))
+    (λ i r t f g. made.rows i r t f (ap (slice_get terms) (zero-add i) ∙ g))
