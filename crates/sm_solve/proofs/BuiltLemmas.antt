@@ -137,7 +137,7 @@ FormulasAmong seen [] = Unit {0}
 FormulasAmong seen (f ∷ fs) = FormulaAmong seen f × FormulasAmong seen fs
 
 -- what is among terms is among more
-abbrev Keeps : List Tree → List Tree → Type 0
+abbrev pub Keeps : List Tree → List Tree → Type 0
 Keeps seen later = (u : Tree) → is_among seen u ≡ true → is_among later u ≡ true
 
 formula_kept : (seen later : List Tree) → Keeps seen later → (f : Assertion) → FormulaAmong seen f → FormulaAmong later f
@@ -150,14 +150,14 @@ formula_kept seen later more (Lt t u) h = (more t h.0, more u h.1)
 formula_kept seen later more (And p q) h = (formula_kept seen later more p h.0, formula_kept seen later more q h.1)
 formula_kept seen later more (Or p q) h = (formula_kept seen later more p h.0, formula_kept seen later more q h.1)
 
-formulas_kept : (seen later : List Tree) → Keeps seen later → (fs : List Assertion) → FormulasAmong seen fs → FormulasAmong later fs
+pub formulas_kept : (seen later : List Tree) → Keeps seen later → (fs : List Assertion) → FormulasAmong seen fs → FormulasAmong later fs
 formulas_kept seen later more [] h = tt
 formulas_kept seen later more (f ∷ fs) h = (formula_kept seen later more f h.0, formulas_kept seen later more fs h.1)
 
 kept_two : (t u : Tree) (seen : List Tree) → Keeps seen (with_term u (with_term t seen))
 kept_two t u seen v h = kept_with_term u (with_term t seen) v (kept_with_term t seen v h)
 
-kept_formula : (f : Assertion) (seen : List Tree) → Keeps seen (with_formula f seen)
+pub kept_formula : (f : Assertion) (seen : List Tree) → Keeps seen (with_formula f seen)
 kept_formula Yes seen v h = h
 kept_formula No seen v h = h
 kept_formula (Eq sort t u) seen v h = kept_two t u seen v h
@@ -193,7 +193,7 @@ formula_among (Or p q) seen =
     let first = with_formula p seen in
     (formula_kept first (with_formula q first) (kept_formula q first) p (formula_among p seen), formula_among q first)
 
-formulas_among : (fs : List Assertion) (seen : List Tree) → FormulasAmong (with_formulas fs seen) fs
+pub formulas_among : (fs : List Assertion) (seen : List Tree) → FormulasAmong (with_formulas fs seen) fs
 formulas_among [] seen = tt
 formulas_among (f ∷ fs) seen =
     let first = with_formula f seen in

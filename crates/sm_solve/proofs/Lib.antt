@@ -1,4 +1,5 @@
 pub mod AddingLemmas
+pub mod AtGoalLemmas
 pub mod BranchFormsLemmas
 pub mod BranchLeadsLemmas
 pub mod BranchLineLemmas
@@ -12,6 +13,7 @@ pub mod FactsWithinLemmas
 pub mod FirstLemmas
 pub mod GivenFormsLemmas
 pub mod GivenLemmas
+pub mod GroundingLemmas
 pub mod GrowingLemmas
 pub mod HoldingLemmas
 pub mod KeyedLemmas
@@ -23,6 +25,7 @@ pub mod ListingLemmas
 pub mod MakingLemmas
 pub mod MarkedLemmas
 pub mod NamedTermsLemmas
+pub mod NodeLemmas
 pub mod OneMoreLemmas
 pub mod OwnLemmas
 pub mod PairsLemmas
@@ -34,10 +37,12 @@ pub mod RenumberTermLemmas
 pub mod RenumberTreeLemmas
 pub mod SameLemmas
 pub mod SeeingLemmas
+pub mod SharedLemmas
 pub mod SolvingLemmas
 pub mod SortedLemmas
 pub mod SourcesLemmas
 pub mod SplitLemmas
+pub mod StaysLemmas
 pub mod SummingLemmas
 pub mod TermPlacesLemmas
 pub mod TornLemmas

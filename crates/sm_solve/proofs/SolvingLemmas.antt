@@ -43,7 +43,7 @@ given_is sorts trees facts list all target other are same against =
     ∙ map-append says (all_numbered facts) (contrary goal ∷ [])
     ∙ ap (λ (f : Assertion). assertions_in sorts trees (all_numbered facts) ++ f ∷ []) (contrary_negates sorts trees goal)
 
-within_contrary : (count : ℕ) (f : NumberedFormula) → IsFormulaWithin count f → IsFormulaWithin count (contrary f)
+pub within_contrary : (count : ℕ) (f : NumberedFormula) → IsFormulaWithin count f → IsFormulaWithin count (contrary f)
 within_contrary count Yes h = tt
 within_contrary count No h = tt
 within_contrary count (Eq t u) h = h

@@ -1,4 +1,5 @@
 pub mod Answers
+pub mod AtGoal
 pub mod Branches
 pub mod ByCases
 pub mod Certifying
@@ -17,6 +18,7 @@ pub mod Refuting
 pub mod Renumber
 pub mod Renumbered
 pub mod Seeing
+pub mod Sharing
 pub mod Splits
 pub mod Summing
 pub mod Torn

@@ -1,11 +1,13 @@
 // The classes of a branch.
 ghost use Rattle.std.specs.Prelude.{◌≡◌, [], ◌∷◌, ◌++◌, length, IfOk, OnOk};
+ghost use Rattle.std.specs.List.{range_with_len};
 ghost use Rattle.sm_term.specs.Sorted.{AreFormsSorted};
 ghost use Rattle.sm_term.specs.Tables.{trees_in, sorts_in};
 ghost use Rattle.sm_cc.specs.Classes.{are_apart};
 ghost use Rattle.sm_cc.specs.Rounds.{are_equal};
 ghost use Rattle.sm_cc.specs.Views.{setting_of};
 ghost use Rattle.sm_solve.specs.Given.{IsWhole, given_from, classes_by, branch_of};
+ghost use Rattle.sm_solve.specs.Listing.{numbers_of};
 ghost use Rattle.sm_solve.specs.Parts.{all_numbered, assertions_in, AreFormulasWithin};
 ghost use Rattle.sm_solve.specs.Seeing.{seen_in};
 
@@ -37,7 +39,9 @@ impl<'a> Sees for Classes<'a> {
 
 /// All terms of a table, in order.
 pub fn all_terms(alloc: Global, table: &TermTable) -> Result<Terms, AllocError>
-    ensures { IfOk result (λ ts. IsWhole (trees_in table.now) ts.list.items) }
+    ensures whole { IfOk result (λ ts. IsWhole (trees_in table.now) ts.list.items) }
+    ensures counted { let count = length (trees_in table.now) in
+        IfOk result (λ ts. numbers_of ts.list.items ≡ range_with_len 0 count) }
 {
     let mut list = Vec::new(alloc);
     for n in 0..table.len() {
@@ -72,7 +76,7 @@ pub fn classes_of<'a>(
 }
 
 // The equations and contraries among facts, each under its place.
-fn given_facts(alloc: Global, facts: &[Formula]) -> Result<Vec<GivenFact>, AllocError>
+pub(crate) fn given_facts(alloc: Global, facts: &[Formula]) -> Result<Vec<GivenFact>, AllocError>
     ensures { IfOk result (λ v. v.items ≡ given_from 0 facts.now) }
 {
     let mut given = Vec::new(alloc);

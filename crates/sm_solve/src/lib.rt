@@ -16,6 +16,9 @@
 //! - The walk goes over a table of the branch's own terms, where the number of each is its place in
 //!   their list (`own_branch`); certificates and formulas get the numbers of the caller's table at
 //!   the end (`renumbered`, `renumbered_tree`).
+//! - `Node` is made of the facts of several obligations, once: the table of their terms, and their
+//!   classes. `solve_at` answers an obligation of these facts as `solve` does, and makes anew only
+//!   what its goal adds.
 //!
 //! Read `specs/Walk.antt` first, then `specs/Branches.antt`, `specs/Holding.antt` and
 //! `specs/Answers.antt`. `proofs/WalkExamples.antt` has walks worked by hand.
@@ -28,12 +31,15 @@ mod closing;
 mod draft;
 mod eliminating;
 mod ending;
+mod first;
 mod forms;
+mod grounding;
 mod holding;
 mod keyed;
 mod linears;
 mod listing;
 mod marks;
+mod node;
 mod own;
 mod pairs;
 mod parts;
@@ -42,6 +48,8 @@ mod refute;
 mod renumber;
 mod renumber_lines;
 mod seeing;
+mod shared;
+mod sharing;
 mod solving;
 mod splits;
 mod summing;
@@ -58,11 +66,13 @@ pub use eliminating::{ByForms, ElimLine, Refutation, by_forms};
 pub use forms::{Source, SourcedForms, forms_of};
 pub use holding::{index_split, is_fact, is_held, is_refuted, order_split, part_split};
 pub use keyed::KeyedFacts;
+pub use node::Node;
 pub use own::{OwnBranch, own_branch};
 pub use parts::{add_parts, add_with_parts};
 pub use refute::refutation_tree;
 pub use renumber::renumbered;
 pub use renumber_lines::renumbered_tree;
 pub use seeing::Sees;
+pub use sharing::solve_at;
 pub use solving::{Answer, Leaf, solve};
 pub use terms::terms_of_formulas;

@@ -122,7 +122,7 @@ fn over_own(
 }
 
 // A table of no terms, with the sorts and bodies of another.
-fn no_terms(alloc: Global, table: &TermTable) -> Result<TermTable, AllocError>
+pub(crate) fn no_terms(alloc: Global, table: &TermTable) -> Result<TermTable, AllocError>
     ensures trees { IfOk result (λ t. trees_in t ≡ []) }
     ensures sorts { IfOk result (λ t. sorts_in t ≡ sorts_in table.now) }
     ensures codes { IfOk result (λ t. codes_in t ≡ codes_in table.now) }
@@ -133,7 +133,7 @@ fn no_terms(alloc: Global, table: &TermTable) -> Result<TermTable, AllocError>
 }
 
 // A number for each of so many terms, that of none of them yet.
-fn blank_numbers(alloc: Global, count: u64) -> Result<Vec<TermId>, AllocError>
+pub(crate) fn blank_numbers(alloc: Global, count: u64) -> Result<Vec<TermId>, AllocError>
     ensures { IfOk result (λ v. length v.items ≡ count) }
 {
     vec![in alloc; TermId(0); count as usize]
@@ -166,7 +166,7 @@ fn put_terms(
 }
 
 // Puts a term of a table into another, which has its arguments, and notes its number there.
-fn put_term(
+pub(crate) fn put_term(
     alloc: Global,
     table: &TermTable,
     t: TermId,

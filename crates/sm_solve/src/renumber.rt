@@ -118,7 +118,11 @@ pub fn renumbered(alloc: Global, f: &Formula, numbers: &[TermId]) -> Result<Form
 
 // The same, by numbers alone.
 #[cycle(renumber_form)]
-fn renumbered_formula(alloc: Global, f: &Formula, numbers: &[TermId]) -> Result<Formula, AllocError>
+pub(crate) fn renumbered_formula(
+    alloc: Global,
+    f: &Formula,
+    numbers: &[TermId],
+) -> Result<Formula, AllocError>
     ensures { IfOk result (λ g.
         numbered g ≡ formula_under (number_under numbers.now) (numbered f.now)) }
 {

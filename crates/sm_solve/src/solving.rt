@@ -173,7 +173,11 @@ fn walk_all(
 }
 
 // The end of a walk as an answer, under the numbers that its terms have in another table.
-fn renumbered_end(alloc: Global, end: WalkEnd, numbers: &Terms) -> Result<Answer, AllocError>
+pub(crate) fn renumbered_end(
+    alloc: Global,
+    end: WalkEnd,
+    numbers: &Terms,
+) -> Result<Answer, AllocError>
     ensures tells { (sorts : Sorts) (trees others : List Tree) (w : Walked) →
         AreTermsOf others numbers.now.list.items trees → TellsEnd sorts trees end w →
         IfOk result (λ a. Tells sorts others a w) }

@@ -61,7 +61,7 @@ fn listed_terms(
 }
 
 // Lists the terms of formulas.
-fn list_formulas(
+pub(crate) fn list_formulas(
     alloc: Global,
     table: &TermTable,
     listed: &mut IndexSet<u64>,
@@ -84,7 +84,7 @@ fn list_formulas(
 }
 
 // Terms with these numbers.
-fn numbered_terms(alloc: Global, numbers: &[u64]) -> Result<Terms, AllocError>
+pub(crate) fn numbered_terms(alloc: Global, numbers: &[u64]) -> Result<Terms, AllocError>
     ensures { IfOk result (λ ts. numbers_of ts.list.items ≡ numbers.now) }
 {
     let mut list = Vec::new(alloc);

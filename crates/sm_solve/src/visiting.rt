@@ -65,16 +65,48 @@ pub(crate) fn visit_branch(
         IfOk result (ShowsVisit sorts trees all) }
     ensures counted { IfOk result (IsVisitCounted steps) }
 {
+    let classes = classes_of(alloc, table, terms, facts)?;
+    visit_classes(alloc, &classes, table, terms, facts, steps, count)
+}
+
+// The same by the classes of the branch.
+pub(crate) fn visit_classes<'a>(
+    alloc: Global,
+    classes: &Classes<'a>,
+    table: &TermTable,
+    terms: &Terms,
+    facts: &[Formula],
+    steps: u64,
+    count: u64,
+) -> Result<Visit, AllocError>
+    requires whole { IsWhole (trees_in table.now) terms.now.list.items }
+    requires classes { classes.now ≡ classes_by table.now terms.now.list.items facts.now }
+    requires seen { seen_in (sorts_in table.now) (trees_in table.now) (trees_in table.now) facts.now
+        (are_equal (setting_of classes.now))
+        (are_apart (setting_of classes.now) (are_equal (setting_of classes.now)))
+        ≡ branch_of table.now facts.now }
+    requires within { AreFormulasWithin (length (trees_in table.now)) (all_numbered facts.now) }
+    requires sorted { AreFormsSorted (sorts_in table.now)
+        (assertions_in (sorts_in table.now) (trees_in table.now) (all_numbered facts.now)) }
+    requires counted { count ≤ steps }
+    ensures tells { let sorts = sorts_in table.now in let trees = trees_in table.now in
+        let all = assertions_in sorts trees (all_numbered facts.now) in
+        (go : ℕ → List Assertion → Walked) → IfOk result (λ v. TellsVisit sorts trees all go v
+        (by_classes go steps (branch_of table.now facts.now) count)) }
+    ensures shows { let sorts = sorts_in table.now in let trees = trees_in table.now in
+        let all = assertions_in sorts trees (all_numbered facts.now) in
+        IfOk result (ShowsVisit sorts trees all) }
+    ensures counted { IfOk result (IsVisitCounted steps) }
+{
     if !are_few(facts) {
         return Err(AllocError);
     }
-    let classes = classes_of(alloc, table, terms, facts)?;
-    match closed_by(alloc, &classes, table, facts)? {
+    match closed_by(alloc, classes, table, facts)? {
         Some(why) => {
-            let tree = closing_tree(alloc, &classes, table, terms, facts, why)?;
+            let tree = closing_tree(alloc, classes, table, terms, facts, why)?;
             Ok(Visit::Closed { count, tree })
         }
-        None => visit_forms(alloc, &classes, table, terms, facts, steps, count),
+        None => visit_forms(alloc, classes, table, terms, facts, steps, count),
     }
 }
 

@@ -71,7 +71,7 @@ pub(crate) fn walk_from(
 
 // Walks from both parts of a branch, the first first.
 #[cycle(walk)]
-fn walk_parts(
+pub(crate) fn walk_parts(
     alloc: Global,
     table: &TermTable,
     terms: &Terms,

@@ -1,0 +1,13 @@
+-- All terms of the table are listed, and the facts are given of them.
+use Rattle.std.proofs.Common.{◌∙◌}
+use Rattle.sm_term.specs.Tables.{trees_in}
+use Rattle.sm_solve.proofs.GivenLemmas.{whole_before, given_of_terms}
+use Rattle.sm_solve.proofs.grounding.ground_of.Goals as goal
+
+pub of-requires-clause-before : goal.of-requires-clause-before
+of-requires-clause-before c = whole_before (trees_in c.args.table.now) c.in_ok-terms.terms.list.items c.in_ok-terms.ensures.whole
+
+pub of-requires-clause-given : goal.of-requires-clause-given
+of-requires-clause-given c =
+    given_of_terms c.args.table.now c.in_ok-terms.terms.list.items c.in_ok-terms.ensures.whole c.args.facts.now c.requires.within
+    c.requires.sorted c.deref.result.now (c.deref.ensures.value ∙ c.in_ok-given.ensures)

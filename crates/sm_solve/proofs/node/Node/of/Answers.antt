@@ -1,0 +1,66 @@
+-- No more terms stand in the table of their own than the facts name.
+use Rattle.std.proofs.Common.{◌≡◌, IfSome, Option, List, [], length, sym, ap, ◌∙◌, subst, arith}
+use Rattle.std.specs.List.{range_with_len}
+use Rattle.sm_syntax.specs.text.Sorts.{Sorts}
+use Rattle.sm_term.specs.declared.formula.Formula.{Formula}
+use Rattle.sm_term.specs.declared.term.TermId.{TermId}
+use Rattle.sm_term.specs.Sorted.{AreFormsSorted}
+use Rattle.sm_term.specs.Tables.{trees_in, sorts_in}
+use Rattle.sm_cc.specs.declared.ground.Grounded.{Grounded}
+use Rattle.sm_cc.specs.Ground.{IsGround}
+use Rattle.sm_solve.specs.Branches.{with_formulas}
+use Rattle.sm_solve.specs.Given.{IsWhole, classes_by}
+use Rattle.sm_solve.specs.Listing.{numbers_of}
+use Rattle.sm_solve.specs.Parts.{all_numbered, assertions_in, AreFormulasWithin}
+use Rattle.sm_solve.proofs.GroundingLemmas.{room_sorted, as_many, node_of}
+use Rattle.sm_solve.proofs.node.Node.of.Goals as goal
+
+pub count_named-requires : goal.count_named-requires
+count_named-requires c =
+    let count = length (trees_in c.args.table.now) in
+    subst (λ (fs : List Formula). AreFormulasWithin count (all_numbered fs)) (sym c.deref.ensures.value)
+    (c.in_ok-all.ensures.within count c.requires.within)
+
+pub shared_facts-requires : goal.shared_facts-requires
+shared_facts-requires c =
+    let count = length (trees_in c.args.table.now) in
+    subst (λ (fs : List Formula). AreFormulasWithin count (all_numbered fs)) (sym c.deref-2.ensures.value)
+    (c.in_ok-all.ensures.within count c.requires.within)
+
+pub ground_of-requires-clause-sorted : goal.ground_of-requires-clause-sorted
+ground_of-requires-clause-sorted c =
+    let sorts = sorts_in c.args.table.now in
+    let trees = trees_in c.args.table.now in
+    let own = c.in_ok-shared.shared.terms.own in
+    let given = assertions_in sorts trees (all_numbered c.args.facts.now) in
+    let here = c.in_ok-shared.ensures.terms.sorts ∙ c.in_ok-shared.ensures.grows.sorts in
+    let are = ap (λ (fs : List Formula). assertions_in sorts (trees_in own) (all_numbered fs)) c.deref-3.ensures.value
+    ∙ c.in_ok-shared.ensures.facts
+    ∙ ap (λ (fs : List Formula). assertions_in sorts trees (all_numbered fs)) c.deref-2.ensures.value
+    ∙ c.in_ok-all.ensures.facts sorts trees in
+    subst (λ (s : Sorts). AreFormsSorted s (assertions_in s (trees_in own) (all_numbered c.deref-3.result.now))) (sym here)
+    (subst (AreFormsSorted sorts) (sym are) (room_sorted sorts given c.requires.sorted))
+
+pub returns-in-Some-clause-node : goal.returns-in-Some-clause-node
+returns-in-Some-clause-node c =
+    let table = c.args.table.now in
+    let sorts = sorts_in table in
+    let trees = trees_in table in
+    let own = c.in_ok-shared.shared.terms.own in
+    let given = assertions_in sorts trees (all_numbered c.args.facts.now) in
+    let first = assertions_in sorts trees (all_numbered c.deref.result.now) in
+    let second = assertions_in sorts trees (all_numbered c.deref-2.result.now) in
+    let one = ap (λ (fs : List Formula). assertions_in sorts trees (all_numbered fs)) c.deref.ensures.value
+    ∙ c.in_ok-all.ensures.facts sorts trees in
+    let two = ap (λ (fs : List Formula). assertions_in sorts trees (all_numbered fs)) c.deref-2.ensures.value
+    ∙ c.in_ok-all.ensures.facts sorts trees in
+    let many : length (trees_in own) ≡ length (with_formulas first []) =
+    omega (arith, c.len.ensures.len, c.if-len-count.false, c.in_ok-count.ensures) in
+    let found = subst (λ (o : Option Grounded). IfSome o (λ (g : Grounded). (ids : List TermId) × IsWhole (trees_in own) ids
+    × (numbers_of ids ≡ range_with_len 0 (length (trees_in own)))
+    × IsGround (classes_by own ids c.deref-3.result.now) g.ground g.numbering)) c.in-Some.is c.in_ok-found.ensures in
+    let ground = subst (λ (fs : List Formula). IsGround (classes_by own found.0 fs) c.in-Some.found.ground c.in-Some.found.numbering)
+    c.deref-3.ensures.value found.3 in
+    node_of table c.shared_facts.new.table given first second _ c.in_ok-shared.ensures.grows.sorts one two c.in_ok-shared.ensures.terms
+    many c.in_ok-shared.ensures.facts c.in_ok-shared.ensures.within (as_many sorts trees c.args.facts.now) c.requires.sorted found.0
+    found.1 found.2 ground

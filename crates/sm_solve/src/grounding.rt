@@ -1,0 +1,74 @@
+// What a node is made of: its facts with room for a goal, how many terms they name, their classes.
+ghost use Rattle.std.specs.Prelude.{◌≡◌, ℕ, List, [], length, IfOk, IfSome};
+ghost use Rattle.std.specs.List.{range_with_len};
+ghost use Rattle.sm_syntax.specs.text.Sorts.{Sorts};
+ghost use Rattle.sm_term.specs.declared.term.TermId.{TermId};
+ghost use Rattle.sm_term.specs.Sorted.{AreFormsSorted};
+ghost use Rattle.sm_term.specs.Tables.{trees_in, sorts_in};
+ghost use Rattle.sm_term.specs.Terms.{Tree};
+ghost use Rattle.sm_cc.specs.Ground.{IsGround};
+ghost use Rattle.sm_solve.specs.Branches.{with_formulas};
+ghost use Rattle.sm_solve.specs.Given.{IsWhole, classes_by};
+ghost use Rattle.sm_solve.specs.Listing.{numbers_of};
+ghost use Rattle.sm_solve.specs.Parts.{all_numbered, assertions_in, AreFormulasWithin};
+ghost use Rattle.sm_solve.specs.Sharing.{room_for_goal};
+
+use crate::branching::copy_facts;
+use crate::classes::{all_terms, given_facts};
+use crate::parts::add_parts;
+use crate::terms::list_formulas;
+use indexmap::IndexSet;
+use sm_cc::{Ground, Grounded};
+use sm_term::{Formula, TermTable};
+use std::alloc::{AllocError, Global};
+
+// Facts with what always holds where the contrary of a goal goes, and all parts of their
+// conjunctions.
+pub(crate) fn with_room(alloc: Global, facts: &[Formula]) -> Result<Vec<Formula>, AllocError>
+    ensures facts { (sorts : Sorts) (trees : List Tree) →
+        let given = assertions_in sorts trees (all_numbered facts.now) in
+        IfOk result (λ v. assertions_in sorts trees (all_numbered v.items) ≡ room_for_goal given) }
+    ensures within { (count : ℕ) → AreFormulasWithin count (all_numbered facts.now) →
+        IfOk result (λ v. AreFormulasWithin count (all_numbered v.items)) }
+{
+    let mut all = copy_facts(alloc, facts)?;
+    all.push(Formula::Yes)?;
+    add_parts(alloc, &mut all, 0)?;
+    Ok(all)
+}
+
+// How many terms formulas name, with their arguments.
+pub(crate) fn count_named(
+    alloc: Global,
+    table: &TermTable,
+    facts: &[Formula],
+) -> Result<usize, AllocError>
+    requires { AreFormulasWithin (length (trees_in table.now)) (all_numbered facts.now) }
+    ensures { let all = assertions_in (sorts_in table.now) (trees_in table.now)
+        (all_numbered facts.now) in
+        IfOk result (λ n. n ≡ length (with_formulas all [])) }
+{
+    let mut listed = IndexSet::new(alloc);
+    list_formulas(alloc, table, &mut listed, facts)?;
+    Ok(listed.len())
+}
+
+// The classes of all terms of a table, by the equations and contraries among facts.
+pub(crate) fn ground_of(
+    alloc: Global,
+    table: &TermTable,
+    facts: &[Formula],
+) -> Result<Option<Grounded>, AllocError>
+    requires within { AreFormulasWithin (length (trees_in table.now)) (all_numbered facts.now) }
+    requires sorted { AreFormsSorted (sorts_in table.now)
+        (assertions_in (sorts_in table.now) (trees_in table.now) (all_numbered facts.now)) }
+    ensures { IfOk result (λ o. IfSome o (λ g.
+        (ids : List TermId) × IsWhole (trees_in table.now) ids
+        × (numbers_of ids ≡ range_with_len 0 (length (trees_in table.now)))
+        × IsGround (classes_by table.now ids facts.now) g.ground g.numbering)) }
+{
+    let terms = all_terms(alloc, table)?;
+    let given = given_facts(alloc, facts)?;
+    let found = Ground::of(alloc, table, &terms, &given)?;
+    Ok(found)
+}

@@ -1,0 +1,205 @@
+// The goals of a node, which share the terms and the classes of its facts.
+ghost use Rattle.std.specs.Prelude.{◌≡◌, false, List, [], ◌∷◌, ◌++◌, length, IfOk, OnOk, IfSome};
+ghost use Rattle.sm_syntax.specs.text.Sorts.{Sorts};
+ghost use Rattle.sm_term.specs.Assertions.{Assertion};
+ghost use Rattle.sm_term.specs.Formulas.{numbered, assertion_in, IsFormulaWithin};
+ghost use Rattle.sm_term.specs.Sorted.{IsFormSorted, AreFormsSorted};
+ghost use Rattle.sm_term.specs.Tables.{TableValue, trees_in, sorts_in};
+ghost use Rattle.sm_term.specs.Terms.{Tree};
+ghost use Rattle.sm_term.specs.TableLaws.{Grows};
+ghost use Rattle.sm_solve.specs.Answers.{Tells, Certifies, terms_walked, NamesOnly};
+ghost use Rattle.sm_solve.specs.AtGoal.{IsAtGoal};
+ghost use Rattle.sm_solve.specs.Branches.{depth_of, with_parts, with_formulas, terms_of};
+ghost use Rattle.sm_solve.specs.Parts.{all_numbered, assertions_in, AreFormulasWithin};
+ghost use Rattle.sm_solve.specs.Sharing.{IsNode, room_for_goal};
+ghost use Rattle.sm_solve.specs.Walk.{walk, walk_from};
+ghost use Rattle.sm_solve.specs.Walking.{TellsEnd, ShowsEnd};
+
+use crate::ending::WalkEnd;
+use crate::first::walk_over;
+use crate::grounding::{count_named, ground_of, with_room};
+use crate::shared::{SharedTerms, shared_facts};
+use crate::solving::{Answer, renumbered_end};
+use crate::terms::numbered_terms;
+use sm_cc::{Ground, Numbering};
+use sm_term::{Formula, TermTable, negate};
+use std::alloc::{AllocError, Global};
+
+/// Facts whose terms and classes are found once for all goals.
+#[derive(Drop)]
+pub struct Node {
+    pub(crate) terms: SharedTerms,
+    // the facts with all parts of their conjunctions; where the contrary of a goal goes stands what
+    // always holds
+    pub(crate) facts: Vec<Formula>,
+    pub(crate) place: usize,
+    pub(crate) ground: Ground,
+    pub(crate) numbering: Numbering,
+}
+
+impl Node {
+    /// The facts of a node; none where an element that they read was written before, and what it
+    /// was then isn't among their terms.
+    pub fn of(
+        alloc: Global,
+        table: &mut TermTable,
+        facts: &[Formula],
+    ) -> Result<Option<Node>, AllocError>
+        requires within { AreFormulasWithin (length (trees_in table.old)) (all_numbered facts.now) }
+        requires sorted { AreFormsSorted (sorts_in table.old)
+            (assertions_in (sorts_in table.old) (trees_in table.old) (all_numbered facts.now)) }
+        ensures node { let given = assertions_in (sorts_in table.old) (trees_in table.old)
+            (all_numbered facts.now) in
+            IfOk result (λ o. IfSome o (IsNode table.new given)) }
+        ensures grows { Grows table.old table.new }
+    {
+        let all = with_room(alloc, facts)?;
+        let count = count_named(alloc, table, &all)?;
+        let shared = shared_facts(alloc, table, &all)?;
+        if shared.terms.own.len() as usize != count {
+            return Ok(None);
+        }
+        match ground_of(alloc, &shared.terms.own, &shared.facts)? {
+            Some(found) => Ok(Some(Node {
+                terms: shared.terms,
+                facts: shared.facts,
+                place: facts.len(),
+                ground: found.ground,
+                numbering: found.numbering,
+            })),
+            None => Ok(None),
+        }
+    }
+
+    /// The answer to the obligation of these facts and a target, as `solve` gives it; none where
+    /// the contrary of the target is a conjunction. New terms go last in the table. After want of
+    /// memory nothing is known of the node.
+    pub fn solve(
+        &mut self,
+        alloc: Global,
+        table: &mut TermTable,
+        target: &Formula,
+        steps: u64,
+    ) -> Result<Option<Answer>, AllocError>
+        requires within { IsFormulaWithin (length (trees_in table.old)) (numbered target.now) }
+        requires sorted { IsFormSorted (sorts_in table.old)
+            (assertion_in (sorts_in table.old) (trees_in table.old) (numbered target.now)) }
+        requires node { (given : List Assertion) × IsNode table.old given self.old }
+        ensures answer { let sorts = sorts_in table.old in
+            let goal = assertion_in sorts (trees_in table.old) (numbered target.now) in
+            (given : List Assertion) → IsNode table.old given self.old →
+            IfOk result (λ o. IfSome o (λ a.
+            Tells sorts (trees_in table.new) a (walk sorts steps given goal))) }
+        ensures certifies { let sorts = sorts_in table.old in
+            let goal = assertion_in sorts (trees_in table.old) (numbered target.now) in
+            (given : List Assertion) → IsNode table.old given self.old →
+            IfOk result (λ o. IfSome o (λ a.
+            Certifies sorts (trees_in table.new) given goal a)) }
+        ensures names { let sorts = sorts_in table.old in
+            let goal = assertion_in sorts (trees_in table.old) (numbered target.now) in
+            (given : List Assertion) → IsNode table.old given self.old →
+            IfOk result (λ o. IfSome o
+            (NamesOnly (terms_walked given goal) (trees_in table.new))) }
+        ensures stays { (given : List Assertion) → IsNode table.old given self.old →
+            IfOk result (λ o. IsNode table.new given self.new) }
+        ensures grows { Grows table.old table.new }
+    {
+        let contrary = negate(alloc, target)?;
+        if is_conjunction(&contrary) {
+            return Ok(None);
+        }
+        let len = self.terms.own.len();
+        self.open_goal(alloc, table, &contrary)?;
+        let end = self.walk_goal(alloc, steps)?;
+        let numbers = numbered_terms(alloc, self.terms.listed.as_slice())?;
+        let answer = renumbered_end(alloc, end, &numbers)?;
+        self.close_goal(len);
+        Ok(Some(answer))
+    }
+
+    /// A node over a table that has got more terms.
+    pub fn stays(&self, table: &TermTable)
+        ensures { (old : TableValue) (given : List Assertion) → IsNode old given self.now →
+            Grows old table.now → IsNode table.now given self.now }
+    {
+        // No term is there twice.
+        table.len();
+    }
+
+    // Puts the contrary of a goal in its place, and its terms behind those of the facts.
+    fn open_goal(
+        &mut self,
+        alloc: Global,
+        table: &mut TermTable,
+        contrary: &Formula,
+    ) -> Result<(), AllocError>
+        requires within { IsFormulaWithin (length (trees_in table.old)) (numbered contrary.now) }
+        requires sorted { IsFormSorted (sorts_in table.old)
+            (assertion_in (sorts_in table.old) (trees_in table.old) (numbered contrary.now)) }
+        requires flat { depth_of
+            (assertion_in (sorts_in table.old) (trees_in table.old) (numbered contrary.now)) ≡ 0 }
+        requires node { (given : List Assertion) × IsNode table.old given self.old }
+        ensures goal { let form = assertion_in (sorts_in table.old) (trees_in table.old)
+            (numbered contrary.now) in
+            (given : List Assertion) → IsNode table.old given self.old →
+            OnOk result (IsAtGoal table.new given form self.new) }
+        ensures grows { Grows table.old table.new }
+    {
+        let fact = self.terms.add(alloc, table, contrary)?;
+        self.facts[self.place] = fact;
+        Ok(())
+    }
+
+    // The walk of the facts and the contrary of a goal.
+    fn walk_goal(&mut self, alloc: Global, steps: u64) -> Result<WalkEnd, AllocError>
+        requires { (table : TableValue) × (given : List Assertion) × (contrary : Assertion)
+            × IsAtGoal table given contrary self.old }
+        ensures tells { (table : TableValue) (given : List Assertion) (contrary : Assertion) →
+            IsAtGoal table given contrary self.old →
+            let all = with_parts (given ++ contrary ∷ []) in
+            IfOk result (λ e. TellsEnd (sorts_in table) (trees_in self.new.terms.own) e
+            (walk_from (sorts_in table) (terms_of all) steps 1001 0 all)) }
+        ensures shows { (table : TableValue) (given : List Assertion) (contrary : Assertion) →
+            IsAtGoal table given contrary self.old →
+            IfOk result (ShowsEnd (sorts_in table) (trees_in self.new.terms.own)
+            (given ++ contrary ∷ []) 1001) }
+        ensures stays { (table : TableValue) (given : List Assertion) (contrary : Assertion) →
+            IsAtGoal table given contrary self.old →
+            IsAtGoal table given contrary self.new }
+    {
+        walk_over(
+            alloc,
+            &self.ground,
+            &mut self.numbering,
+            &self.terms.own,
+            &self.facts,
+            steps,
+        )
+    }
+
+    // Takes the contrary of a goal out of its place, and its terms from those of the facts.
+    fn close_goal(&mut self, len: u64)
+        requires { (table : TableValue) × (given : List Assertion) × (contrary : Assertion)
+            × IsAtGoal table given contrary self.old
+            × (length (with_formulas (room_for_goal given) []) ≡ len) }
+        ensures { (table : TableValue) (given : List Assertion) (contrary : Assertion) →
+            IsAtGoal table given contrary self.old →
+            length (with_formulas (room_for_goal given) []) ≡ len → IsNode table given self.new }
+    {
+        self.facts[self.place] = Formula::Yes;
+        self.terms.cut(len);
+    }
+}
+
+// Whether a formula is a conjunction.
+fn is_conjunction(f: &Formula) -> bool
+    ensures { result ≡ false → (sorts : Sorts) (trees : List Tree) →
+        depth_of (assertion_in sorts trees (numbered f.now)) ≡ 0 }
+{
+    match f {
+        Formula::And(_, _) => true,
+        Formula::Yes | Formula::No | Formula::Or(_, _) => false,
+        Formula::Eq(_, _) | Formula::Ne(_, _) => false,
+        Formula::Le(_, _) | Formula::Lt(_, _) => false,
+    }
+}

@@ -1,0 +1,101 @@
+// Obligations of one node.
+ghost use Rattle.std.specs.Prelude.{length, IfOk, IfSome};
+ghost use Rattle.sm_term.specs.Formulas.{numbered, assertion_in, IsFormulaWithin};
+ghost use Rattle.sm_term.specs.Sorted.{IsFormSorted, AreFormsSorted};
+ghost use Rattle.sm_term.specs.Tables.{trees_in, sorts_in};
+ghost use Rattle.sm_term.specs.TableLaws.{Grows};
+ghost use Rattle.sm_solve.specs.Answers.{Tells, Certifies, terms_walked, NamesOnly};
+ghost use Rattle.sm_solve.specs.Parts.{all_numbered, assertions_in, AreFormulasWithin};
+ghost use Rattle.sm_solve.specs.Sharing.{IsNode};
+ghost use Rattle.sm_solve.specs.Walk.{walk};
+
+use crate::node::Node;
+use crate::solving::{Answer, solve};
+use sm_term::{Formula, TermTable};
+use std::alloc::{AllocError, Global};
+
+/// The answer to an obligation as `solve` gives it, by a node of its facts where there is one. After
+/// want of memory nothing is known of the node.
+pub fn solve_at(
+    alloc: Global,
+    table: &mut TermTable,
+    node: &mut Option<Node>,
+    facts: &[Formula],
+    target: &Formula,
+    steps: u64,
+) -> Result<Answer, AllocError>
+    requires facts { AreFormulasWithin (length (trees_in table.old)) (all_numbered facts.now) }
+    requires target { IsFormulaWithin (length (trees_in table.old)) (numbered target.now) }
+    requires facts_sorted { AreFormsSorted (sorts_in table.old)
+        (assertions_in (sorts_in table.old) (trees_in table.old) (all_numbered facts.now)) }
+    requires target_sorted { IsFormSorted (sorts_in table.old)
+        (assertion_in (sorts_in table.old) (trees_in table.old) (numbered target.now)) }
+    requires node { let given = assertions_in (sorts_in table.old) (trees_in table.old)
+        (all_numbered facts.now) in
+        IfSome node.old (IsNode table.old given) }
+    ensures answer { let sorts = sorts_in table.old in let trees = trees_in table.old in
+        let given = assertions_in sorts trees (all_numbered facts.now) in
+        let goal = assertion_in sorts trees (numbered target.now) in
+        IfOk result (λ a. Tells sorts (trees_in table.new) a (walk sorts steps given goal)) }
+    ensures certifies { let sorts = sorts_in table.old in let trees = trees_in table.old in
+        let given = assertions_in sorts trees (all_numbered facts.now) in
+        let goal = assertion_in sorts trees (numbered target.now) in
+        IfOk result (λ a. Certifies sorts (trees_in table.new) given goal a) }
+    ensures names { let sorts = sorts_in table.old in let trees = trees_in table.old in
+        let given = assertions_in sorts trees (all_numbered facts.now) in
+        let goal = assertion_in sorts trees (numbered target.now) in
+        IfOk result (NamesOnly (terms_walked given goal) (trees_in table.new)) }
+    ensures node { let given = assertions_in (sorts_in table.old) (trees_in table.old)
+        (all_numbered facts.now) in
+        IfOk result (λ a. IfSome node.new (IsNode table.new given)) }
+    ensures grows { Grows table.old table.new }
+{
+    match node {
+        Some(n) => solve_shared(alloc, table, n, facts, target, steps),
+        None => solve(alloc, table, facts, target, steps),
+    }
+}
+
+// The same by a node.
+fn solve_shared(
+    alloc: Global,
+    table: &mut TermTable,
+    node: &mut Node,
+    facts: &[Formula],
+    target: &Formula,
+    steps: u64,
+) -> Result<Answer, AllocError>
+    requires facts { AreFormulasWithin (length (trees_in table.old)) (all_numbered facts.now) }
+    requires target { IsFormulaWithin (length (trees_in table.old)) (numbered target.now) }
+    requires facts_sorted { AreFormsSorted (sorts_in table.old)
+        (assertions_in (sorts_in table.old) (trees_in table.old) (all_numbered facts.now)) }
+    requires target_sorted { IsFormSorted (sorts_in table.old)
+        (assertion_in (sorts_in table.old) (trees_in table.old) (numbered target.now)) }
+    requires node { IsNode table.old (assertions_in (sorts_in table.old) (trees_in table.old)
+        (all_numbered facts.now)) node.old }
+    ensures answer { let sorts = sorts_in table.old in let trees = trees_in table.old in
+        let given = assertions_in sorts trees (all_numbered facts.now) in
+        let goal = assertion_in sorts trees (numbered target.now) in
+        IfOk result (λ a. Tells sorts (trees_in table.new) a (walk sorts steps given goal)) }
+    ensures certifies { let sorts = sorts_in table.old in let trees = trees_in table.old in
+        let given = assertions_in sorts trees (all_numbered facts.now) in
+        let goal = assertion_in sorts trees (numbered target.now) in
+        IfOk result (λ a. Certifies sorts (trees_in table.new) given goal a) }
+    ensures names { let sorts = sorts_in table.old in let trees = trees_in table.old in
+        let given = assertions_in sorts trees (all_numbered facts.now) in
+        let goal = assertion_in sorts trees (numbered target.now) in
+        IfOk result (NamesOnly (terms_walked given goal) (trees_in table.new)) }
+    ensures node { let given = assertions_in (sorts_in table.old) (trees_in table.old)
+        (all_numbered facts.now) in
+        IfOk result (λ a. IsNode table.new given node.new) }
+    ensures grows { Grows table.old table.new }
+{
+    match node.solve(alloc, table, target, steps)? {
+        Some(answer) => Ok(answer),
+        None => {
+            let answer = solve(alloc, table, facts, target, steps)?;
+            node.stays(table);
+            Ok(answer)
+        }
+    }
+}
