@@ -5,7 +5,8 @@ use Rattle.std.proofs.lemmas.Bool.{eq-eqb, eqb-true}
 use Rattle.std.proofs.lemmas.Option.{same_Some}
 use Rattle.std.proofs.lemmas.List.{length-take-le, take_more, map-set, get_or-map}
 use Rattle.std.proofs.Math.ListN.{set}
-use Rattle.std.specs.Prelude.{Vec, Result, Ok, Err, IfOk}
+use Rattle.std.specs.Prelude.{Vec, Result, Ok, Err, IfOk, IfSome}
+use Rattle.std.specs.declared.alloc.AllocError.{AllocError}
 use Rattle.std.specs.declared.alloc.Global.{Global}
 use Rattle.sm_syntax.specs.text.Sorts.{Sorts}
 use Rattle.sm_term.specs.declared.formula.Formula.{Formula}
@@ -13,7 +14,7 @@ use Rattle.sm_term.specs.Assertions.{Assertion}
 use Rattle.sm_term.specs.Formulas.{numbered, assertion_in}
 use Rattle.sm_term.specs.Sorted.{AreFormsSorted}
 use Rattle.sm_term.specs.Tables.{TableValue, trees_in, sorts_in}
-use Rattle.sm_term.specs.TableLaws.{Widens}
+use Rattle.sm_term.specs.TableLaws.{Grows, Widens}
 use Rattle.sm_term.specs.Terms.{Tree}
 use Rattle.sm_plan.specs.Plans as plain
 use Rattle.sm_plan.specs.ReadyStates.{IsFormReady, AreFormsReady}
@@ -22,13 +23,16 @@ use Rattle.sm_plan.proofs.TablesWiden as widened
 use Rattle.sm_expand.specs.declared.due.Due.{Due}
 use Rattle.sm_expand.specs.Views.{due_in}
 use Rattle.sm_product.specs.Choices.{Choice}
+use Rattle.sm_solve.specs.declared.node.Node.{Node}
 use Rattle.sm_solve.specs.declared.solving.Answer.{Answer}
 use Rattle.sm_solve.specs.Answers.{Tells}
 use Rattle.sm_solve.specs.Parts.{all_numbered, assertions_in, AreFormulasWithin}
+use Rattle.sm_solve.specs.Sharing.{IsNode}
 use Rattle.sm_solve.specs.Walk.{Walked, walk}
 use Rattle.sm_houdini.specs.declared.marks.Marked.{Marked}
 use Rattle.sm_houdini.specs.Closing.{closing, closes_at, stays_at, owner_in}
 use Rattle.sm_houdini.specs.Marks.{all_marked, still_marked, rows}
+use Rattle.sm_houdini.specs.Nodes.{IsNodeOf}
 use Rattle.sm_houdini.specs.Outcomes.{is_closing}
 use Rattle.sm_houdini.specs.Rounds.{is_site, closes_if}
 use Rattle.sm_houdini.proofs.MarkedLemmas.{still_more, still_both, marked_same, all_same}
@@ -96,16 +100,16 @@ closes_stays v w wider steps d i known asks =
     λ k. closes_at (wider.sorts k) steps (due k) i
 
 -- one more mark of a site
-pub still_put : (passes : ℕ → Bool) (new old ms : List Marked) (i : ℕ) (d : Marked) (b : Bool) →
-    new ≡ old ++ record { number = (get_or ms i d).number; holds = b } ∷ [] → b ≡ ((get_or ms i d).holds && passes i) → i < length ms →
-    old ≡ still_marked passes 0 (take i ms) → new ≡ still_marked passes 0 (take (i + 1) ms)
-still_put passes new old ms i d b is holds h before =
+pub still_put : (passes : ℕ → Bool) (first : ℕ) (new old ms : List Marked) (i : ℕ) (d : Marked) (b : Bool) →
+    new ≡ old ++ record { number = (get_or ms i d).number; holds = b } ∷ [] → b ≡ ((get_or ms i d).holds && passes (first + i)) → i < length ms →
+    old ≡ still_marked passes first (take i ms) → new ≡ still_marked passes first (take (i + 1) ms)
+still_put passes first new old ms i d b is holds h before =
     let m = get_or ms i d in
     let least : i ≤ length ms = omega (arith, h) in
     let long : length (take i ms) ≡ i = length-take-le i ms least in
-    let count : 0 + length (take i ms) ≡ i = omega (arith, long) in
+    let count : first + length (take i ms) ≡ first + i = ap (λ (n : ℕ). first + n) long in
     is ∙ (λ k. before k ++ record { number = m.number; holds = (holds ∙ ap (λ (j : ℕ). m.holds && passes j) (sym count)) k } ∷ [])
-    ∙ sym (still_more passes 0 (take i ms) m) ∙ ap (still_marked passes 0) (sym (take_more ms i d h))
+    ∙ sym (still_more passes first (take i ms) m) ∙ ap (still_marked passes first) (sym (take_more ms i d h))
 
 -- a site whose marks were judged
 other_site : (s r : ℕ) → suc s ≤ r → (s == r) ≡ false
@@ -172,22 +176,44 @@ none_judged passes stays choice h = go 0 choice (λ (r i : ℕ) (l : 0 ≤ r) (m
 -- marks after one more goal, over a table that widened
 pub judged_step : (v w : TableValue) → Widens v w → (steps : ℕ) (due : Due) →
     AreFormsReady (sorts_in v) (trees_in v) due.facts.list.items → AreFormsReady (sorts_in v) (trees_in v) due.targets.list.items →
-    (new old ms : List Marked) (i : ℕ) (d : Marked) (at : ℕ) (b : Bool) →
+    (first : ℕ) (new old ms : List Marked) (i : ℕ) (d : Marked) (at : ℕ) (b : Bool) →
     new ≡ old ++ record { number = (get_or ms i d).number; holds = b } ∷ [] →
-    b ≡ ((get_or ms i d).holds && closes_at (sorts_in w) steps (due_in (sorts_in w) (trees_in w) due) at) → at ≡ i → i < length ms →
-    old ≡ still_marked (closes_at (sorts_in v) steps (due_in (sorts_in v) (trees_in v) due)) 0 (take i ms) →
-    new ≡ still_marked (closes_at (sorts_in v) steps (due_in (sorts_in v) (trees_in v) due)) 0 (take (i + 1) ms)
-judged_step v w wider steps due known asks new old ms i d at b is holds place h before =
+    b ≡ ((get_or ms i d).holds && closes_at (sorts_in w) steps (due_in (sorts_in w) (trees_in w) due) at) → at ≡ first + i → i < length ms →
+    old ≡ still_marked (closes_at (sorts_in v) steps (due_in (sorts_in v) (trees_in v) due)) first (take i ms) →
+    new ≡ still_marked (closes_at (sorts_in v) steps (due_in (sorts_in v) (trees_in v) due)) first (take (i + 1) ms)
+judged_step v w wider steps due known asks first new old ms i d at b is holds place h before =
     let passes = closes_at (sorts_in v) steps (due_in (sorts_in v) (trees_in v) due) in
-    let same : b ≡ ((get_or ms i d).holds && passes i) =
+    let same : b ≡ ((get_or ms i d).holds && passes (first + i)) =
     holds ∙ ap (λ (x : Bool). (get_or ms i d).holds && x) (closes_stays v w wider steps due at known asks)
     ∙ ap (λ (j : ℕ). (get_or ms i d).holds && passes j) place in
-    still_put passes new old ms i d b is same h before
+    still_put passes first new old ms i d b is same h before
 
 -- what is told of what went well
 pub ok_map : {X E : Type 0} (r : Result X E) (P Q : X → Type 0) → ((x : X) → P x → Q x) → IfOk r P → IfOk r Q
 ok_map (Ok x) P Q f h = f x h
 ok_map (Err e) P Q f h = h
+
+-- marks that were judged over a wider table
+pub judged_over : (v w : TableValue) → Widens v w → (steps : ℕ) (due : Due) →
+    AreFormsReady (sorts_in v) (trees_in v) due.facts.list.items → AreFormsReady (sorts_in v) (trees_in v) due.targets.list.items →
+    (first : ℕ) (ms : List Marked) (r : Result (Vec Marked Global) AllocError) →
+    IfOk r (λ x. x.items ≡ still_marked (closes_at (sorts_in w) steps (due_in (sorts_in w) (trees_in w) due)) first ms) →
+    IfOk r (λ x. x.items ≡ still_marked (closes_at (sorts_in v) steps (due_in (sorts_in v) (trees_in v) due)) first ms)
+judged_over v w wider steps due known asks first ms r h =
+    let same = due_stays v w wider due known asks in
+    ok_map r (λ (x : Vec Marked Global). x.items ≡ still_marked (closes_at (sorts_in w) steps (due_in (sorts_in w) (trees_in w) due)) first ms)
+    (λ (x : Vec Marked Global). x.items ≡ still_marked (closes_at (sorts_in v) steps (due_in (sorts_in v) (trees_in v) due)) first ms)
+    (λ x is. is ∙ (λ k. still_marked (closes_at (wider.sorts k) steps (same k)) first ms)) h
+
+-- a node of facts, over a table that has got more terms
+pub node_over : (v w : TableValue) → Grows v w → (fs : List Formula) → AreFormsReady (sorts_in v) (trees_in v) fs →
+    (given : List Formula) → given ≡ fs → (node : Option Node) →
+    IfSome node (IsNode w (assertions_in (sorts_in v) (trees_in v) (all_numbered given))) → IsNodeOf w fs node
+node_over v w grows fs ready given are node h =
+    let same : assertions_in (sorts_in v) (trees_in v) (all_numbered given) ≡ assertions_in (sorts_in w) (trees_in w) (all_numbered fs) =
+    ap (λ (gs : List Formula). assertions_in (sorts_in v) (trees_in v) (all_numbered gs)) are ∙ forms_same (sorts_in v) (trees_in v) fs
+    ∙ sym (widened.forms_stay v w (widened.widens_grown v w grows) fs ready) ∙ sym (forms_same (sorts_in w) (trees_in w) fs) in
+    subst (λ (gs : List Assertion). IfSome node (IsNode w gs)) same h
 
 -- sites and their marks
 marked_length : (passes : ℕ → ℕ → Bool) (s : ℕ) (choice : Choice) → length (all_marked passes s choice) ≡ length choice

@@ -3,6 +3,7 @@ use Rattle.std.proofs.Common.{◌≡◌, ℕ, zero, suc, ◌+◌, ◌<◌, ◌�
 use Rattle.std.proofs.Common.{List, [], ◌∷◌, ◌++◌, map, length, take, drop, get_or, refl, sym, ap, ◌∙◌, subst, arith}
 use Rattle.std.specs.List.{flat_map}
 use Rattle.std.specs.Prelude.{Option, Some, is_some, MatchOption, Result, Ok, Err, IfOk}
+use Rattle.std.specs.declared.alloc.AllocError.{AllocError}
 use Rattle.std.proofs.lemmas.List.{map-append, append_assoc, drop_more, drop-map, take-map, take_all, drop_all}
 use Rattle.sm_syntax.specs.text.Sorts.{Sorts}
 use Rattle.sm_term.specs.declared.formula.Formula.{Formula}
@@ -435,3 +436,25 @@ dues_done v w steps i ds h new collected closes =
       closes ∙ ap (final_outcome (walk (sorts_in v) steps)) (drop_all i all past),
       subst (λ (l : List Due). AreCollected w (asked l) new) (take_all i all past) collected,
     )
+
+-- the end of what a node asks, over a wider table
+pub due_over : (v w x : TableValue) → Widens v w → (steps : ℕ) (d : program.Due) →
+    AreFormsReady (sorts_in v) (trees_in v) d.facts.list.items → AreFormsReady (sorts_in v) (trees_in v) d.targets.list.items →
+    (goals : List (List Assertion × Assertion)) (old new : List CertTree) (r : Result (Option Stop) AllocError) →
+    (AreCollected w goals old → IfOk r (λ o. MatchOption o
+    (GoalsClose (walk (sorts_in w) steps) (due_in (sorts_in w) (trees_in w) d)
+    × AreCollected x (goals ++ goals_with (due_in (sorts_in w) (trees_in w) d).facts (due_in (sorts_in w) (trees_in w) d).goals) new)
+    (GoalsStop (walk (sorts_in w) steps) (due_in (sorts_in w) (trees_in w) d)))) →
+    AreCollected v goals old → IfOk r (λ o. MatchOption o
+    (GoalsClose (walk (sorts_in v) steps) (due_in (sorts_in v) (trees_in v) d)
+    × AreCollected x (goals ++ goals_with (due_in (sorts_in v) (trees_in v) d).facts (due_in (sorts_in v) (trees_in v) d).goals) new)
+    (GoalsStop (walk (sorts_in v) steps) (due_in (sorts_in v) (trees_in v) d)))
+due_over v w x wider steps d known asks goals old new r h before =
+    let same = due_stays v w wider d known asks in
+    subst (λ (s : Sorts). IfOk r (λ o. MatchOption o
+    (GoalsClose (walk s steps) (due_in (sorts_in v) (trees_in v) d)
+    × AreCollected x (goals ++ goals_with (due_in (sorts_in v) (trees_in v) d).facts (due_in (sorts_in v) (trees_in v) d).goals) new)
+    (GoalsStop (walk s steps) (due_in (sorts_in v) (trees_in v) d)))) wider.sorts
+    (subst (λ (e : Due). IfOk r (λ o. MatchOption o
+    (GoalsClose (walk (sorts_in w) steps) e × AreCollected x (goals ++ goals_with e.facts e.goals) new)
+    (GoalsStop (walk (sorts_in w) steps) e))) same (h (collected_stays v w wider goals old before)))

@@ -6,6 +6,7 @@ pub mod Laws
 pub mod Views
 pub mod Marks
 pub mod Closing
+pub mod Nodes
 pub mod GoalJobs
 pub mod SitesBelow
 pub mod ShortFacts

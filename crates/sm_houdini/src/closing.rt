@@ -1,5 +1,5 @@
 // Goals that close.
-ghost use Rattle.std.specs.Prelude.{◌≡◌, ◌&&◌, List, IfOk};
+ghost use Rattle.std.specs.Prelude.{◌≡◌, ◌+◌, ◌<◌, ◌^◌, ◌&&◌, List, length, IfOk};
 ghost use Rattle.sm_syntax.specs.text.Sorts.{Sorts};
 ghost use Rattle.sm_term.specs.Formulas.{numbered, assertion_in};
 ghost use Rattle.sm_term.specs.Tables.{trees_in, sorts_in};
@@ -12,12 +12,13 @@ ghost use Rattle.sm_solve.specs.Answers.{Tells};
 ghost use Rattle.sm_solve.specs.Walk.{Walked};
 ghost use Rattle.sm_houdini.specs.Closing.{closing, closes_at};
 ghost use Rattle.sm_houdini.specs.Marks.{still_marked};
+ghost use Rattle.sm_houdini.specs.Nodes.{IsNodeOf};
 ghost use Rattle.sm_houdini.specs.Outcomes.{is_closing};
 
 use crate::marks::Marked;
 use sm_expand::Due;
 use sm_plan::Formulas;
-use sm_solve::{Answer, solve};
+use sm_solve::{Answer, Node, solve_at};
 use sm_term::{Formula, TermTable};
 use std::alloc::{AllocError, Global};
 
@@ -34,10 +35,29 @@ fn is_closed(answer: &Answer) -> bool
     }
 }
 
+// The node of these facts, where goals are to share it.
+pub(crate) fn node_of(
+    alloc: Global,
+    table: &mut TermTable,
+    facts: &Formulas,
+    is_shared: bool,
+) -> Result<Option<Node>, AllocError>
+    requires { AreFormsReady (sorts_in table.old) (trees_in table.old) facts.now.list.items }
+    ensures node { IfOk result (IsNodeOf table.new facts.now.list.items) }
+    ensures widens { Widens table.old table.new }
+{
+    if !is_shared {
+        return Ok(None);
+    }
+    let node = Node::of(alloc, table, &facts.list)?;
+    Ok(node)
+}
+
 // Whether a goal closes over facts.
 fn closes(
     alloc: Global,
     table: &mut TermTable,
+    node: &mut Option<Node>,
     facts: &Formulas,
     goal: &Formula,
     steps: u64,
@@ -45,19 +65,22 @@ fn closes(
     requires facts { AreFormsReady (sorts_in table.old) (trees_in table.old)
         facts.now.list.items }
     requires goal { IsFormReady (sorts_in table.old) (trees_in table.old) goal.now }
+    requires node { IsNodeOf table.old facts.now.list.items node.old }
     ensures closes { let sorts = sorts_in table.old in let trees = trees_in table.old in
         IfOk result (λ b. b ≡ closing sorts steps (forms_in sorts trees facts.now.list.items)
         (assertion_in sorts trees (numbered goal.now))) }
+    ensures node { IfOk result (λ b. IsNodeOf table.new facts.now.list.items node.new) }
     ensures widens { Widens table.old table.new }
 {
-    let answer = solve(alloc, table, &facts.list, goal, steps)?;
+    let answer = solve_at(alloc, table, node, &facts.list, goal, steps)?;
     Ok(is_closed(&answer))
 }
 
-// Whether a mark stays at a template after what a node asks of it.
-pub(crate) fn stays(
+// Whether a mark stays at a template after what a node asks.
+fn stays(
     alloc: Global,
     table: &mut TermTable,
+    node: &mut Option<Node>,
     due: &Due,
     at: u64,
     holds: bool,
@@ -67,25 +90,42 @@ pub(crate) fn stays(
         due.now.facts.list.items }
     requires goals { AreFormsReady (sorts_in table.old) (trees_in table.old)
         due.now.targets.list.items }
+    requires node { IsNodeOf table.old due.now.facts.list.items node.old }
     ensures stays { let sorts = sorts_in table.old in let trees = trees_in table.old in
         IfOk result (λ b.
         b ≡ (holds && closes_at sorts steps (due_in sorts trees due.now) at)) }
+    ensures node { IfOk result (λ b. IsNodeOf table.new due.now.facts.list.items node.new) }
     ensures widens { Widens table.old table.new }
 {
     if !holds {
         return Ok(false);
     }
     match due.targets.list.get(at as usize) {
-        Some(goal) => closes(alloc, table, &due.facts, goal, steps),
+        Some(goal) => closes(alloc, table, node, &due.facts, goal, steps),
         None => Ok(true),
     }
 }
 
-// The marks of a site after what a node asks.
+// Whether two marks or more are there. Any answer is right: it tells only whether a node is made.
+pub(crate) fn are_several(marks: &[Marked]) -> bool {
+    let mut is_one = false;
+    for mark in marks {
+        if mark.holds {
+            if is_one {
+                return true;
+            }
+            is_one = true;
+        }
+    }
+    false
+}
+
+// The marks of a site from a place on after what a node asks. Goals share its facts' classes.
 pub(crate) fn judged(
     alloc: Global,
     table: &mut TermTable,
     due: &Due,
+    first: u64,
     marks: &[Marked],
     steps: u64,
 ) -> Result<Vec<Marked>, AllocError>
@@ -93,15 +133,41 @@ pub(crate) fn judged(
         due.now.facts.list.items }
     requires goals { AreFormsReady (sorts_in table.old) (trees_in table.old)
         due.now.targets.list.items }
+    requires places { first + length marks.now < 2 ^ 64 }
     ensures judged { let sorts = sorts_in table.old in let trees = trees_in table.old in
         IfOk result (λ ms. ms.items
-        ≡ still_marked (closes_at sorts steps (due_in sorts trees due.now)) 0 marks.now) }
+        ≡ still_marked (closes_at sorts steps (due_in sorts trees due.now)) first marks.now) }
+    ensures widens { Widens table.old table.new }
+{
+    let mut node = node_of(alloc, table, &due.facts, are_several(marks))?;
+    judged_at(alloc, table, &mut node, due, first, marks, steps)
+}
+
+// The same by a node of the facts, where there is one.
+fn judged_at(
+    alloc: Global,
+    table: &mut TermTable,
+    node: &mut Option<Node>,
+    due: &Due,
+    first: u64,
+    marks: &[Marked],
+    steps: u64,
+) -> Result<Vec<Marked>, AllocError>
+    requires facts { AreFormsReady (sorts_in table.old) (trees_in table.old)
+        due.now.facts.list.items }
+    requires goals { AreFormsReady (sorts_in table.old) (trees_in table.old)
+        due.now.targets.list.items }
+    requires places { first + length marks.now < 2 ^ 64 }
+    requires node { IsNodeOf table.old due.now.facts.list.items node.old }
+    ensures judged { let sorts = sorts_in table.old in let trees = trees_in table.old in
+        IfOk result (λ ms. ms.items
+        ≡ still_marked (closes_at sorts steps (due_in sorts trees due.now)) first marks.now) }
     ensures widens { Widens table.old table.new }
 {
     let mut list = Vec::new(alloc);
     for mark in marks {
-        let at = list.as_slice().len() as u64;
-        let holds = stays(alloc, table, due, at, mark.holds, steps)?;
+        let at = first + list.as_slice().len() as u64;
+        let holds = stays(alloc, table, node, due, at, mark.holds, steps)?;
         list.push(Marked {
             number: mark.number,
             holds,

@@ -19,15 +19,17 @@ ghost use Rattle.sm_houdini.specs.Certified.{asked};
 ghost use Rattle.sm_houdini.specs.Collected.{AreCollected, goals_with, stop_in, GoalStops};
 ghost use Rattle.sm_houdini.specs.Collected.{GoalCloses, GoalsStop, GoalsClose, FinalStops};
 ghost use Rattle.sm_houdini.specs.Collected.{FinalCloses, IsInsideClosed};
+ghost use Rattle.sm_houdini.specs.Nodes.{IsNodeOf};
 ghost use Rattle.sm_houdini.specs.Views.{outcome_in, IsProof};
 
+use crate::closing::node_of;
 use crate::outcome::Outcome;
 use crate::short::is_short;
 use sm_cert::CertTree;
 use sm_expand::Due;
 use sm_num::Op;
 use sm_plan::Formulas;
-use sm_solve::{Answer, solve};
+use sm_solve::{Answer, Node, solve_at};
 use sm_term::{Formula, TermTable};
 use std::alloc::{AllocError, Global};
 
@@ -112,6 +114,7 @@ fn put(trees: &mut Vec<CertTree>, tree: CertTree) -> Result<(), AllocError>
 fn end_goal(
     alloc: Global,
     table: &mut TermTable,
+    shared: &mut Option<Node>,
     facts: &Formulas,
     goal: &Formula,
     node: u64,
@@ -122,6 +125,7 @@ fn end_goal(
     requires facts { AreFormsReady (sorts_in table.old) (trees_in table.old)
         facts.now.list.items }
     requires goal { IsFormReady (sorts_in table.old) (trees_in table.old) goal.now }
+    requires shared { IsNodeOf table.old facts.now.list.items shared.old }
     ensures ends { let sorts = sorts_in table.old in let ts = trees_in table.old in
         let given = forms_in sorts ts facts.now.list.items in
         let asks = assertion_in sorts ts (numbered goal.now) in
@@ -130,9 +134,10 @@ fn end_goal(
         (GoalCloses node at (walk sorts steps given asks)
         × AreCollected table.new (goals ++ (given, asks) ∷ []) trees.new.items)
         (GoalStops node at (walk sorts steps given asks))) }
+    ensures shared { IfOk result (λ o. IsNodeOf table.new facts.now.list.items shared.new) }
     ensures widens { Widens table.old table.new }
 {
-    let answer = solve(alloc, table, &facts.list, goal, steps)?;
+    let answer = solve_at(alloc, table, shared, &facts.list, goal, steps)?;
     match certificate(answer, node, at) {
         Ok(tree) => {
             put(trees, tree)?;
@@ -163,9 +168,40 @@ fn end_due(
         (GoalsStop (walk sorts steps) d)) }
     ensures widens { Widens table.old table.new }
 {
+    let several = due.targets.list.len() > 1;
+    let mut shared = node_of(alloc, table, &due.facts, several)?;
+    end_due_at(alloc, table, &mut shared, due, trees, steps)
+}
+
+// The same by a node of the facts, where there is one.
+fn end_due_at(
+    alloc: Global,
+    table: &mut TermTable,
+    shared: &mut Option<Node>,
+    due: &Due,
+    trees: &mut Vec<CertTree>,
+    steps: u64,
+) -> Result<Option<Stop>, AllocError>
+    requires facts { AreFormsReady (sorts_in table.old) (trees_in table.old)
+        due.now.facts.list.items }
+    requires goals { AreFormsReady (sorts_in table.old) (trees_in table.old)
+        due.now.targets.list.items }
+    requires shared { IsNodeOf table.old due.now.facts.list.items shared.old }
+    ensures ends { let sorts = sorts_in table.old in let ts = trees_in table.old in
+        let d = due_in sorts ts due.now in
+        (goals : List (List Assertion × Assertion)) →
+        AreCollected table.old goals trees.old.items → IfOk result (λ o. MatchOption o
+        (GoalsClose (walk sorts steps) d
+        × AreCollected table.new (goals ++ goals_with d.facts d.goals) trees.new.items)
+        (GoalsStop (walk sorts steps) d)) }
+    ensures widens { Widens table.old table.new }
+{
     let mut at = 0;
     for goal in &due.targets.list {
-        let end = end_goal(alloc, table, &due.facts, goal, due.node, at, trees, steps)?;
+        let facts = &due.facts;
+        let end = end_goal(
+            alloc, table, shared, facts, goal, due.node, at, trees, steps,
+        )?;
         if end.is_some() {
             return Ok(end);
         }

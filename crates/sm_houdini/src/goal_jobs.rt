@@ -1,15 +1,14 @@
 // Goals that are run as jobs.
-ghost use Rattle.std.specs.Prelude.{◌≡◌, ◌<◌, ◌≤◌, ◌&&◌, ℕ, Bool, Some, length, IfOk, slice_get};
+ghost use Rattle.std.specs.Prelude.{◌≡◌, ◌+◌, ◌*◌, ◌<◌, ◌≤◌, length, flat_map, IfOk};
 ghost use Rattle.sm_term.specs.Tables.{trees_in, sorts_in};
 ghost use Rattle.sm_term.specs.TableLaws.{Widens};
 ghost use Rattle.sm_plan.specs.ReadyStates.{AreFormsReady};
 ghost use Rattle.sm_expand.specs.Views.{due_in};
-ghost use Rattle.sm_houdini.specs.declared.marks.Marked.{Marked};
 ghost use Rattle.sm_houdini.specs.Closing.{closes_at};
-ghost use Rattle.sm_houdini.specs.GoalJobs.{TellsMark};
+ghost use Rattle.sm_houdini.specs.GoalJobs.{TellsRun};
 ghost use Rattle.sm_houdini.specs.Marks.{still_marked};
 
-use crate::closing::{judged, stays};
+use crate::closing::{are_several, judged};
 use crate::marks::Marked;
 use sm_expand::Due;
 use sm_par::{Gate, Job, Phase, run_jobs};
@@ -29,7 +28,7 @@ pub(crate) struct Crew<'c, R: Threads + Sync, G: Gate> {
 }
 
 /// The marks of a site after what a node asks. One worker walks the goals in turn, over the one
-/// table; several have them as jobs, each over a copy of it. A goal alone is no job.
+/// table; several have runs of them as jobs, each over a copy of it. A goal alone is no job.
 pub(crate) fn judged_by<R: Threads + Sync, G: Gate>(
     crew: &Crew<'_, R, G>,
     alloc: Global,
@@ -47,13 +46,13 @@ pub(crate) fn judged_by<R: Threads + Sync, G: Gate>(
         ≡ still_marked (closes_at sorts steps (due_in sorts trees due.now)) 0 marks.now) }
     ensures widens { Widens table.old table.new }
 {
-    if crew.workers == 1 || marks.len() < 2 {
-        return judged(alloc, table, due, marks, steps);
+    if crew.workers == 1 || !are_several(marks) {
+        return judged(alloc, table, due, 0, marks, steps);
     }
     judged_by_jobs(crew, alloc, table, due, marks, steps)
 }
 
-// The marks of a site after what a node asks. The goals are jobs of the phase Obligation.
+// The marks of a site after what a node asks. Runs of the goals are jobs of the phase Obligation.
 fn judged_by_jobs<R: Threads + Sync, G: Gate>(
     crew: &Crew<'_, R, G>,
     alloc: Global,
@@ -70,53 +69,65 @@ fn judged_by_jobs<R: Threads + Sync, G: Gate>(
         IfOk result (λ ms. ms.items
         ≡ still_marked (closes_at sorts steps (due_in sorts trees due.now)) 0 marks.now) }
 {
+    let size = size_of(marks.len(), crew.workers as usize);
+    let count = marks.len().div_ceil(size);
     let job = NodeGoals {
         table,
         due,
         marks,
         steps,
+        size,
+        count,
     };
-    let answers = run_jobs(
+    let runs = run_jobs(
         crew.rt,
         alloc,
         crew.gate,
         Phase::Obligation,
         &job,
-        marks.len() as u64,
+        count as u64,
         crew.workers,
     )?;
-    answered(alloc, marks, &answers)
+    joined(alloc, &runs)
 }
 
-// Marks that stay where the answers with their numbers are true.
-fn answered(alloc: Global, marks: &[Marked], answers: &[bool]) -> Result<Vec<Marked>, AllocError>
-    requires { length answers.now ≡ length marks.now }
-    ensures { (passes : ℕ → Bool) → ((k : ℕ) (m : Marked) → slice_get marks.now k ≡ Some m →
-        slice_get answers.now k ≡ Some (m.holds && passes k)) →
-        IfOk result (λ ms. ms.items ≡ still_marked passes 0 marks.now) }
+// How many marks a run has, so that there are no more runs than workers.
+fn size_of(marks: usize, workers: usize) -> usize
+    requires { 0 < workers }
+    ensures { 0 < result }
+{
+    if marks == 0 {
+        return 1;
+    }
+    marks.div_ceil(workers)
+}
+
+// The marks of all runs, in order.
+fn joined(alloc: Global, runs: &[Vec<Marked>]) -> Result<Vec<Marked>, AllocError>
+    ensures { IfOk result (λ ms. ms.items ≡ flat_map (λ run. run.items) runs.now) }
 {
     let mut list = Vec::new(alloc);
-    for i in 0..marks.len() {
-        list.push(Marked {
-            number: marks[i].number,
-            holds: answers[i],
-        })?;
+    for run in runs {
+        list.extend_from_slice(run)?;
     }
     Ok(list)
 }
 
-// What a node asks of the templates of its site, with their marks. Each is told whether its mark
-// stays.
+// What a node asks of the templates of its site, with their marks, in runs of one size; the last
+// may be shorter. A job has one run, and gives its marks that stay.
 #[derive(Drop)]
 struct NodeGoals<'a> {
     table: &'a TermTable,
     due: &'a Due,
     marks: &'a [Marked],
     steps: u64,
+    size: usize,
+    count: usize,
 }
 
 impl<'a> Model for NodeGoals<'a> {
-    ghost use Rattle.sm_houdini.specs.GoalJobs.{NodeGoalsValue, IsDueReady};
+    ghost use Rattle.std.specs.Prelude.{length};
+    ghost use Rattle.sm_houdini.specs.GoalJobs.{NodeGoalsValue, IsDueReady, AreRunsWithin};
 
     ghost Value = { NodeGoalsValue };
 
@@ -131,25 +142,38 @@ impl<'a> Model for NodeGoals<'a> {
       due = g.due.now;
       marks = g.marks.now;
       steps = g.steps;
+      size = g.size;
+      count = g.count;
     } };
 
-    ghost invariant = { λ g. IsDueReady g.table.now g.due.now };
+    ghost invariant = { λ g. IsDueReady g.table.now g.due.now
+        × AreRunsWithin (length g.marks.now) g.size g.count };
 }
 
 impl Job for NodeGoals<'_> {
-    type Out = bool;
+    type Out = Vec<Marked>;
 
-    ghost indices = { λ job. length job.marks };
+    ghost indices = { λ job. job.count };
 
-    ghost stands_for = { TellsMark };
+    ghost stands_for = { TellsRun };
 
-    fn run(&self, alloc: Global, index: u64) -> Result<bool, AllocError> {
+    fn run(&self, alloc: Global, index: u64) -> Result<Vec<Marked>, AllocError> {
         let marks = self.marks;
-        let mark = marks[index as usize];
-        if !mark.holds {
-            return Ok(false);
-        }
+        let first = index as usize * self.size;
+        let left = marks.len() - first;
+        let end = if left < self.size {
+            marks.len()
+        } else {
+            first + self.size
+        };
         let mut table = self.table.copy(alloc)?;
-        stays(alloc, &mut table, self.due, index, mark.holds, self.steps)
+        judged(
+            alloc,
+            &mut table,
+            self.due,
+            first as u64,
+            &marks[first..end],
+            self.steps,
+        )
     }
 }

@@ -1,4 +1,4 @@
--- The goals so far close.
+-- The goals so far close, and the node is one over the table.
 use Rattle.std.proofs.Common.{◌≡◌, ◌++◌, ℕ, List, drop, take}
 use Rattle.sm_term.specs.Assertions.{Assertion}
 use Rattle.sm_term.specs.Tables.{trees_in, sorts_in}
@@ -8,7 +8,8 @@ use Rattle.sm_replay.specs.declared.verdict.Verdict.{Verdict}
 use Rattle.sm_solve.specs.Walk.{walk}
 use Rattle.sm_houdini.specs.Collected.{AreCollected, goals_with}
 use Rattle.sm_houdini.specs.Outcomes.{Outcome, goals_outcome}
-use Rattle.sm_houdini.proofs.ending.end_due.Given as goal
+use Rattle.sm_houdini.specs.Nodes.{IsNodeOf}
+use Rattle.sm_houdini.proofs.ending.end_due_at.Given as goal
 
 abbrev pub invariant-loop-goal : goal.invariant-loop-goal
 invariant-loop-goal l =
@@ -22,4 +23,5 @@ invariant-loop-goal l =
           goals_outcome (walk sorts l.steps d.facts) d.node 0 d.goals later
           ≡ goals_outcome (walk sorts l.steps d.facts) d.node l.goal-index (drop l.goal-index d.goals) later;
       widens : Widens l.initial.table l.table;
+      shared : IsNodeOf l.table l.due.facts.list.items l.shared;
     }

@@ -1,17 +1,19 @@
--- The marks so far, and the table has no fewer terms.
+-- The marks so far, and the table has no fewer terms; the node is one over it.
 use Rattle.std.proofs.Common.{◌≡◌, length, take}
 use Rattle.sm_term.specs.Tables.{trees_in, sorts_in}
 use Rattle.sm_term.specs.TableLaws.{Widens}
 use Rattle.sm_expand.specs.Views.{due_in}
 use Rattle.sm_houdini.specs.Closing.{closes_at}
 use Rattle.sm_houdini.specs.Marks.{still_marked}
-use Rattle.sm_houdini.proofs.closing.judged.Given as goal
+use Rattle.sm_houdini.specs.Nodes.{IsNodeOf}
+use Rattle.sm_houdini.proofs.closing.judged_at.Given as goal
 
 abbrev pub invariant-loop-mark : goal.invariant-loop-mark
 invariant-loop-mark l = record {
   count : length l.list.items ≡ l.mark-index;
   marks : l.list.items
-      ≡ still_marked (closes_at (sorts_in l.initial.table) l.steps (due_in (sorts_in l.initial.table) (trees_in l.initial.table) l.due)) 0
+      ≡ still_marked (closes_at (sorts_in l.initial.table) l.steps (due_in (sorts_in l.initial.table) (trees_in l.initial.table) l.due)) l.first
       (take l.mark-index l.marks);
   widens : Widens l.initial.table l.table;
+  node : IsNodeOf l.table l.due.facts.list.items l.node;
 }

@@ -1,0 +1,13 @@
+-- Private: nodes that the goals of the same facts share.
+use Rattle.std.specs.Prelude.{List, Option, IfSome}
+use Rattle.sm_term.specs.declared.formula.Formula.{Formula}
+use Rattle.sm_term.specs.Tables.{TableValue, trees_in, sorts_in}
+use Rattle.sm_solve.specs.declared.node.Node.{Node}
+use Rattle.sm_solve.specs.Parts.{all_numbered, assertions_in}
+use Rattle.sm_solve.specs.Sharing.{IsNode}
+
+-- a node is of these facts over a table, where there is one
+abbrev pub IsNodeOf : TableValue → List Formula → Option Node → Type 0
+IsNodeOf table facts node =
+    IfSome node (IsNode table
+    (assertions_in (sorts_in table) (trees_in table) (all_numbered facts)))
