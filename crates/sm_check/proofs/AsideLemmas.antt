@@ -1,16 +1,12 @@
 -- Lines that were taken, with lines set aside behind them.
-use Rattle.std.proofs.Common.{◌≡◌, ◌≢◌, ◌<◌, ◌+◌, ℕ, suc, Bool, true, false, ◌==◌, length, List, [], ◌∷◌, ◌++◌, map, refl, sym, ap}
-use Rattle.std.proofs.Common.{◌∙◌, subst, Result, Ok, Err, append_assoc, arith, ◌≤◌, zero, drop, get_or}
+use Rattle.std.proofs.Common.{◌≡◌, ◌≢◌, ◌+◌, ℕ, suc, false, ◌==◌, length, List, [], ◌∷◌, ◌++◌, refl, sym, ap}
+use Rattle.std.proofs.Common.{◌∙◌, subst, Result, Ok, Err, append_assoc, append-nil, arith, ◌≤◌, zero, drop}
 use Rattle.std.proofs.lemmas.Bool.Decides.{nat_tests}
-use Rattle.std.proofs.lemmas.List.{drop_more}
-use Rattle.std.specs.Result.{OnOk, IfErr}
 use Rattle.sm_syntax.specs.text.Sorts.{Sorts}
 use Rattle.sm_term.specs.Terms.{Tree}
 use Rattle.sm_plan.specs.States.{State}
 use Rattle.sm_proof.specs.declared.word.Word.{Word}
-use Rattle.sm_proof.specs.declared.line.Line.{Line}
-use Rattle.sm_proof.specs.FieldRanges.{IsWithinFields}
-use Rattle.sm_proof.specs.Lines.{ProofLine, line_of}
+use Rattle.sm_proof.specs.Lines.{ProofLine}
 use Rattle.sm_proof.specs.Passing.{Pending, Due, Branch, Progress}
 use Rattle.sm_proof.specs.Reading.{read}
 use Rattle.sm_proof.specs.Verdicts.{Subject, Standing, Unopened, Underway, Reached, Refused, Before, reached, reached_after, next_standing}
@@ -19,10 +15,11 @@ use Rattle.sm_check.specs.declared.fault.Stopped.{Stopped}
 use Rattle.sm_check.specs.declared.fault.Stopped.TheVariants.{Wrong, Memory}
 use Rattle.sm_check.specs.declared.taken_lines.TakenLines.{TakenLines}
 use Rattle.sm_check.specs.declared.unfinished.Unfinished.{Unfinished}
-use Rattle.sm_check.specs.Aside.{reached_by, with_line, ComesTo, StopsAt, joined, progress_at, AreRead, AreWithin}
+use Rattle.sm_check.specs.Aside.{with_line, ComesTo, StopsAt, joined, progress_at, AreRead}
 use Rattle.sm_check.specs.Checkers.{IsAt, GoesOn}
 use Rattle.sm_check.specs.Closing.{Closes, CloseFirst}
-use Rattle.sm_check.specs.Pieces.{HasNoEnd, reach, StandsAt, Takes, RefusesAt, StopsIn, IsKept, AreTaken}
+use Rattle.sm_check.specs.LineEnds.{HasNoEnd}
+use Rattle.sm_check.specs.Pieces.{reach, StandsAt, Takes, RefusesAt, StopsIn, IsKept, AreTaken}
 use Rattle.sm_check.proofs.ClosingLemmas.{closes_along}
 use Rattle.sm_check.proofs.LineLemmas.{lines_in-end}
 
@@ -33,97 +30,111 @@ after_push s line n (Err w) f g h = refl
 after_push s line n (Ok at) f g h = h at
 
 -- lines and one more
-pub reached_by-push : (s : Subject) (n : ℕ) (at : Standing) (lines : List ProofLine) (line : ProofLine) →
-    reached_by s n at (lines ++ line ∷ []) ≡ with_line s (Ok line) (reached_by s n at lines)
-reached_by-push s n at [] line = refl
-reached_by-push s n at (l ∷ ls) line =
-    after_push s (Ok line) n (next_standing s at (Ok l))
-    (λ (a : Standing). reached_by s (suc n) a (ls ++ line ∷ [])) (λ (a : Standing). reached_by s (suc n) a ls)
-    (λ (a : Standing). reached_by-push s (suc n) a ls line)
+pub reached-line : (s : Subject) (n : ℕ) (at : Standing) (lines : List (List ℕ)) (line : List ℕ) →
+    reached s n at (lines ++ line ∷ []) ≡ with_line s (read line) (reached s n at lines)
+reached-line s n at [] line = refl
+reached-line s n at (l ∷ ls) line =
+    after_push s (read line) n (next_standing s at (read l))
+    (λ (a : Standing). reached s (suc n) a (ls ++ line ∷ [])) (λ (a : Standing). reached s (suc n) a ls)
+    (λ (a : Standing). reached-line s (suc n) a ls line)
+
+-- how far lines come with more of them
+abbrev pub with_lines : Subject → List (List ℕ) → Reached → Reached
+with_lines s [] r = r
+with_lines s (line ∷ lines) r = with_lines s lines (with_line s (read line) r)
+
+-- lines and more of them
+pub reached-lines : (s : Subject) (n : ℕ) (at : Standing) (lines more : List (List ℕ)) →
+    reached s n at (lines ++ more) ≡ with_lines s more (reached s n at lines)
+reached-lines s n at lines [] = ap (reached s n at) (append-nil lines)
+reached-lines s n at lines (l ∷ ls) =
+    ap (reached s n at) (sym (append_assoc lines (l ∷ []) ls))
+    ∙ reached-lines s n at (lines ++ l ∷ []) ls
+    ∙ ap (with_lines s ls) (reached-line s n at lines l)
 
 -- a line is set aside
-pub set_aside : (lines : TakenLines) (aside : List ProofLine) (s : Subject) (r : Reached) (line : ProofLine) → ComesTo lines aside s r →
-    ComesTo lines (aside ++ line ∷ []) s (with_line s (Ok line) r)
+pub set_aside : (lines : TakenLines) (aside : List (List ℕ)) (s : Subject) (r : Reached) (line : List ℕ) → ComesTo lines aside s r →
+    ComesTo lines (aside ++ line ∷ []) s (with_line s (read line) r)
 set_aside lines aside s r line t = record {
   at = t.at;
   stands = t.stands;
-  reached = ap (with_line s (Ok line)) t.reached ∙ sym (reached_by-push s lines.number t.at aside line);
+  is = ap (with_line s (read line)) t.is ∙ sym (reached-line s lines.number t.at aside line);
 }
 
 -- a line was taken
-pub line_taken : (was now : TakenLines) (s : Subject) (r : Reached) (read : Result ProofLine Word) (t : ComesTo was [] s r) →
-    now.number ≡ was.number + 1 → Takes now s (next_standing s t.at read) → ComesTo now [] s (with_line s read r)
-line_taken was now s r read t counted takes = by (next_standing s t.at read) refl takes
+pub line_taken : (was now : TakenLines) (s : Subject) (r : Reached) (line : Result ProofLine Word) (t : ComesTo was [] s r) →
+    now.number ≡ was.number + 1 → Takes now s (next_standing s t.at line) → ComesTo now [] s (with_line s line r)
+line_taken was now s r line t counted takes = by (next_standing s t.at line) refl takes
   where
-    by : (x : Result Standing Word) → next_standing s t.at read ≡ x → Takes now s x → ComesTo now [] s (with_line s read r)
+    by : (x : Result Standing Word) → next_standing s t.at line ≡ x → Takes now s x → ComesTo now [] s (with_line s line r)
     by (Err w) e takes = absurd takes
     by (Ok at) e takes = record {
       at = at;
       stands = takes;
-      reached =
+      is =
           let same : suc was.number ≡ now.number = omega arith in
-          ap (with_line s read) t.reached
+          ap (with_line s line) t.is
           ∙ ap (λ (x : Result Standing Word). reached_after was.number x (λ (a : Standing). Before (suc was.number) a)) e
           ∙ ap (λ (k : ℕ). Before k at) same;
     }
 
 -- or refused
-pub line_refused : (was : TakenLines) (s : Subject) (r : Reached) (read : Result ProofLine Word) (t : ComesTo was [] s r) (e : Stopped) →
-    RefusesAt was.number (next_standing s t.at read) e → StopsAt (with_line s read r) e
-line_refused was s r read t Memory refused = tt
-line_refused was s r read t (Wrong line word) refused = by (next_standing s t.at read) refl refused
+pub line_refused : (was : TakenLines) (s : Subject) (r : Reached) (line : Result ProofLine Word) (t : ComesTo was [] s r) (e : Stopped) →
+    RefusesAt was.number (next_standing s t.at line) e → StopsAt (with_line s line r) e
+line_refused was s r line t Memory refused = tt
+line_refused was s r line t (Wrong n word) refused = by (next_standing s t.at line) refl refused
   where
-    by : (x : Result Standing Word) → next_standing s t.at read ≡ x → RefusesAt was.number x (Wrong line word) →
-        with_line s read r ≡ Refused line word
+    by : (x : Result Standing Word) → next_standing s t.at line ≡ x → RefusesAt was.number x (Wrong n word) →
+        with_line s line r ≡ Refused n word
     by (Ok at) e refused = absurd refused
     by (Err w) e refused =
-        ap (with_line s read) t.reached
+        ap (with_line s line) t.is
         ∙ ap (λ (x : Result Standing Word). reached_after was.number x (λ (a : Standing). Before (suc was.number) a)) e
         ∙ (let first = refused.0 in let second = refused.1 in cc)
 
 -- a bad line stays the first
-pub stopped_before : (s : Subject) (r : Reached) (read : Result ProofLine Word) (e : Stopped) → StopsAt r e → StopsAt (with_line s read r) e
-stopped_before s r read Memory stops = tt
-stopped_before s r read (Wrong line word) stops = ap (with_line s read) stops
+pub stopped_before : (s : Subject) (r : Reached) (line : Result ProofLine Word) (e : Stopped) → StopsAt r e → StopsAt (with_line s line r) e
+stopped_before s r line Memory stops = tt
+stopped_before s r line (Wrong n word) stops = ap (with_line s line) stops
 
 -- the first of the lines that are set aside was taken
-pub next_taken : (was now : TakenLines) (s : Subject) (r : Reached) (line : ProofLine) (more : List ProofLine)
+pub next_taken : (was now : TakenLines) (s : Subject) (r : Reached) (line : List ℕ) (more : List (List ℕ))
     (t : ComesTo was (line ∷ more) s r) →
-    now.number ≡ was.number + 1 → Takes now s (next_standing s t.at (Ok line)) → ComesTo now more s r
-next_taken was now s r line more t counted takes = by (next_standing s t.at (Ok line)) refl takes
+    now.number ≡ was.number + 1 → Takes now s (next_standing s t.at (read line)) → ComesTo now more s r
+next_taken was now s r line more t counted takes = by (next_standing s t.at (read line)) refl takes
   where
-    by : (x : Result Standing Word) → next_standing s t.at (Ok line) ≡ x → Takes now s x → ComesTo now more s r
+    by : (x : Result Standing Word) → next_standing s t.at (read line) ≡ x → Takes now s x → ComesTo now more s r
     by (Err w) e takes = absurd takes
     by (Ok at) e takes = record {
       at = at;
       stands = takes;
-      reached =
+      is =
           let same : suc was.number ≡ now.number = omega arith in
-          t.reached
-          ∙ ap (λ (x : Result Standing Word). reached_after was.number x (λ (a : Standing). reached_by s (suc was.number) a more)) e
-          ∙ ap (λ (k : ℕ). reached_by s k at more) same;
+          t.is
+          ∙ ap (λ (x : Result Standing Word). reached_after was.number x (λ (a : Standing). reached s (suc was.number) a more)) e
+          ∙ ap (λ (k : ℕ). reached s k at more) same;
     }
 
 -- or refused
-pub next_refused : (was : TakenLines) (s : Subject) (r : Reached) (line : ProofLine) (more : List ProofLine)
+pub next_refused : (was : TakenLines) (s : Subject) (r : Reached) (line : List ℕ) (more : List (List ℕ))
     (t : ComesTo was (line ∷ more) s r)
-    (e : Stopped) → RefusesAt was.number (next_standing s t.at (Ok line)) e → StopsAt r e
+    (e : Stopped) → RefusesAt was.number (next_standing s t.at (read line)) e → StopsAt r e
 next_refused was s r line more t Memory refused = tt
-next_refused was s r line more t (Wrong n word) refused = by (next_standing s t.at (Ok line)) refl refused
+next_refused was s r line more t (Wrong n word) refused = by (next_standing s t.at (read line)) refl refused
   where
-    by : (x : Result Standing Word) → next_standing s t.at (Ok line) ≡ x → RefusesAt was.number x (Wrong n word) → r ≡ Refused n word
+    by : (x : Result Standing Word) → next_standing s t.at (read line) ≡ x → RefusesAt was.number x (Wrong n word) → r ≡ Refused n word
     by (Ok at) e refused = absurd refused
     by (Err w) e refused =
-        t.reached ∙ ap (λ (x : Result Standing Word). reached_after was.number x (λ (a : Standing). reached_by s (suc was.number) a more)) e
+        t.is ∙ ap (λ (x : Result Standing Word). reached_after was.number x (λ (a : Standing). reached s (suc was.number) a more)) e
         ∙ (let first = refused.0 in let second = refused.1 in cc)
 
 -- certificates that are set aside close the branches that are due, one each
-pub record Skips (lines : TakenLines) (s : Subject) (r : Reached) (more : List ProofLine) (cs : List (List ProofLine)) : Type 0 where
+pub record Skips (lines : TakenLines) (s : Subject) (r : Reached) (more : List (List ℕ)) (cs : List (List (List ℕ))) : Type 0 where
   pub comes : ComesTo lines (joined cs ++ more) s r
   pub close : CloseFirst s.sorts (progress_at s comes.at).terms (progress_at s comes.at).pending cs
 
 -- no lines close a state
-no_state : (sorts : Sorts) (terms : List Tree) (st : State) (above : ℕ) (lines : List ProofLine) →
+no_state : (sorts : Sorts) (terms : List Tree) (st : State) (above : ℕ) (lines : List (List ℕ)) →
     Closes sorts terms (Due st above ∷ []) lines → ⊥
 no_state sorts terms st above [] closes = absurd (cc)
 no_state sorts terms st above (l ∷ ls) closes = closes.1
@@ -133,18 +144,18 @@ not_one : (n : ℕ) → false ≡ (n == 1) → n ≢ 1
 not_one n e is = absurd (grind (arith, nat_tests))
 
 -- the first of them is skipped
-pub one_skipped : (was now : TakenLines) (s : Subject) (r : Reached) (more c : List ProofLine) (cs : List (List ProofLine)) →
+pub one_skipped : (was now : TakenLines) (s : Subject) (r : Reached) (more c : List (List ℕ)) (cs : List (List (List ℕ))) →
     Skips was s r more (c ∷ cs) → now.number ≡ was.number + length c →
     ((p : Progress) (first : Pending) (rest : List Pending) → IsAt was.checker s (Ok (Underway p)) → p.pending ≡ first ∷ rest →
     GoesOn s (Ok (Underway (record p { pending = rest }))) now.checker now.state) →
     Skips now s r more cs
-one_skipped was now s r more c cs h counted goes = by h.comes.at h.comes.stands h.comes.reached h.close
+one_skipped was now s r more c cs h counted goes = by h.comes.at h.comes.stands h.comes.is h.close
   where
     at_branch : (p : Progress) (ps : List Pending) → p.pending ≡ ps → StandsAt was s (Underway p) →
-        r ≡ reached_by s was.number (Underway p) ((c ++ joined cs) ++ more) → CloseFirst s.sorts p.terms ps (c ∷ cs) → Skips now s r more cs
-    at_branch p [] e stands reached close = absurd close
-    at_branch p (Due st above ∷ rest) e stands reached close = absurd (no_state s.sorts p.terms st above c close.0)
-    at_branch p (Branch held own splits ∷ rest) e stands reached close =
+        r ≡ reached s was.number (Underway p) ((c ++ joined cs) ++ more) → CloseFirst s.sorts p.terms ps (c ∷ cs) → Skips now s r more cs
+    at_branch p [] e stands comes close = absurd close
+    at_branch p (Due st above ∷ rest) e stands comes close = absurd (no_state s.sorts p.terms st above c close.0)
+    at_branch p (Branch held own splits ∷ rest) e stands comes close =
         let on = goes p (Branch held own splits) rest stands.is_at e in
         let far : was.number ≢ 1 = not_one was.number stands.first in
         let low = stands.counted in
@@ -157,27 +168,18 @@ one_skipped was now s r more c cs h counted goes = by h.comes.at h.comes.stands 
               counted = omega arith;
               first = let other : (now.number == 1) ≡ false = grind (arith, nat_tests) in sym other;
             };
-            reached =
-                reached ∙ ap (reached_by s was.number (Underway p)) (append_assoc c (joined cs) more)
+            is =
+                comes ∙ ap (reached s was.number (Underway p)) (append_assoc c (joined cs) more)
                 ∙ closes_along s was.number p held (Branch held own splits ∷ []) rest c (joined cs ++ more) e close.0
-                ∙ ap (λ (k : ℕ). reached_by s k (Underway (record p { pending = rest })) (joined cs ++ more)) (sym counted);
+                ∙ ap (λ (k : ℕ). reached s k (Underway (record p { pending = rest })) (joined cs ++ more)) (sym counted);
           };
           close = close.1;
         }
 
-    by : (at : Standing) → StandsAt was s at → r ≡ reached_by s was.number at ((c ++ joined cs) ++ more) →
+    by : (at : Standing) → StandsAt was s at → r ≡ reached s was.number at ((c ++ joined cs) ++ more) →
         CloseFirst s.sorts (progress_at s at).terms (progress_at s at).pending (c ∷ cs) → Skips now s r more cs
-    by Unopened stands reached close = absurd (no_state s.sorts [] s.start 0 c close.0)
-    by (Underway p) stands reached close = at_branch p p.pending refl stands reached close
-
--- lines as bytes, and one more
-reached-line : (s : Subject) (n : ℕ) (at : Standing) (lines : List (List ℕ)) (line : List ℕ) →
-    reached s n at (lines ++ line ∷ []) ≡ with_line s (read line) (reached s n at lines)
-reached-line s n at [] line = refl
-reached-line s n at (l ∷ ls) line =
-    after_push s (read line) n (next_standing s at (read l))
-    (λ (a : Standing). reached s (suc n) a (ls ++ line ∷ [])) (λ (a : Standing). reached s (suc n) a ls)
-    (λ (a : Standing). reached-line s (suc n) a ls line)
+    by Unopened stands comes close = absurd (no_state s.sorts [] s.start 0 c close.0)
+    by (Underway p) stands comes close = at_branch p p.pending refl stands comes close
 
 -- bytes that end a line
 reach-line : (s : Subject) (bytes front : List ℕ) → HasNoEnd front →
@@ -188,7 +190,7 @@ reach-line s bytes front h =
     ∙ reached-line s 1 Unopened (lines_in bytes).ended ((lines_in bytes).rest ++ front)
 
 -- a line by its bytes was taken or set aside
-pub line_read : (lines : TakenLines) (aside : List ProofLine) (v : Unfinished) (s : Subject) (bytes front line : List ℕ) → HasNoEnd front →
+pub line_read : (lines : TakenLines) (aside : List (List ℕ)) (v : Unfinished) (s : Subject) (bytes front line : List ℕ) → HasNoEnd front →
     line ≡ (lines_in bytes).rest ++ front → ComesTo lines aside s (with_line s (read line) (reach s bytes)) → IsKept v [] →
     AreRead lines aside v s (bytes ++ (front ++ 10 ∷ []))
 line_read lines aside v s bytes front line h same comes kept = record {
@@ -215,7 +217,7 @@ line_not_read s bytes front line e h same stops =
 pub taken_read : (lines : TakenLines) (u : Unfinished) (s : Subject) (bytes : List ℕ) → AreTaken lines u s bytes →
     AreRead lines [] u s bytes
 taken_read lines u s bytes t = record {
-  comes = record { at = t.at; stands = t.stands; reached = t.reached };
+  comes = record { at = t.at; stands = t.stands; is = t.reached };
   kept = t.kept;
 }
 
@@ -224,7 +226,7 @@ pub read_taken : (lines : TakenLines) (u : Unfinished) (s : Subject) (bytes : Li
 read_taken lines u s bytes t = record {
   at = t.comes.at;
   stands = t.comes.stands;
-  reached = t.comes.reached;
+  reached = t.comes.is;
   kept = t.kept;
 }
 
@@ -234,25 +236,3 @@ drop_whole [] zero h = refl
 drop_whole [] (suc i) h = refl
 drop_whole (x ∷ xs) zero h = absurd (omega arith)
 drop_whole (x ∷ xs) (suc i) h = drop_whole xs i (omega arith)
-
--- each line is within its fields
-pub within_at : (lines : List Line) (i : ℕ) (d : Line) → i < length lines → AreWithin (map line_of lines) →
-    IsWithinFields (line_of (get_or lines i d))
-within_at [] i d h all = absurd (omega arith)
-within_at (l ∷ ls) zero d h all = all.0
-within_at (l ∷ ls) (suc i) d h all = within_at ls i d (omega arith) all.1
-
--- the line at a place is the next
-pub next_aside : (lines : TakenLines) (s : Subject) (r : Reached) (ls : List Line) (i : ℕ) (line : Line) (more : List ProofLine) →
-    i < length ls →
-    line ≡ get_or ls i line → ComesTo lines (map line_of (drop i ls) ++ more) s r →
-    ComesTo lines (line_of line ∷ (map line_of (drop (i + 1) ls) ++ more)) s r
-next_aside lines s r ls i line more h is t =
-    subst (λ (xs : List ProofLine). ComesTo lines (xs ++ more) s r)
-    (ap (map line_of) (drop_more ls i line h) ∙ ap (λ (l : Line). line_of l ∷ map line_of (drop (i + 1) ls)) (sym is)) t
-
--- all lines were taken
-pub all_taken : (lines : TakenLines) (s : Subject) (r : Reached) (ls : List Line) (i : ℕ) (more : List ProofLine) → length ls ≤ i →
-    ComesTo lines (map line_of (drop i ls) ++ more) s r → ComesTo lines more s r
-all_taken lines s r ls i more h t =
-    subst (λ (xs : List Line). ComesTo lines (map line_of xs ++ more) s r) (drop_whole ls i h) t

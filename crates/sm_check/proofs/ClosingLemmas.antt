@@ -1,6 +1,6 @@
 -- Lines that close a branch alone close it where more is pending behind it.
-use Rattle.std.proofs.Common.{◌≡◌, ℕ, suc, ◌+◌, Bool, true, false, Option, Some, None, Result, Ok, Err}
-use Rattle.std.proofs.Common.{List, [], ◌∷◌, ◌++◌, length, map, refl, sym, ap, ◌∙◌, subst, arith, append-nil}
+use Rattle.std.proofs.Common.{◌≡◌, ℕ, suc, ◌+◌, Bool, true, false, Option, Some, None, Result, Ok}
+use Rattle.std.proofs.Common.{List, [], ◌∷◌, ◌++◌, length, map, refl, ap, ◌∙◌, subst, arith, append-nil}
 use Rattle.sm_syntax.specs.claim.ConflictFree.{Copy}
 use Rattle.sm_syntax.specs.text.Sorts.{Sorts}
 use Rattle.sm_term.specs.Symbolic.{SymbolicStore}
@@ -14,8 +14,8 @@ use Rattle.sm_proof.specs.declared.word.Word.TheVariants.{BadNumber, Deep, First
 use Rattle.sm_proof.specs.Lines.{ProofLine, NumberedLine, Cert}
 use Rattle.sm_proof.specs.Named.{found_or, tested_or, and_then, named_line, line_head}
 use Rattle.sm_proof.specs.Passing.{Pending, Due, Branch, Progress, branches_before, taken_at}
-use Rattle.sm_proof.specs.Verdicts.{Subject, Standing, Underway, Reached, reached_after, next_standing}
-use Rattle.sm_check.specs.Aside.{reached_by}
+use Rattle.sm_proof.specs.Reading.{read}
+use Rattle.sm_proof.specs.Verdicts.{Subject, Standing, Underway, reached, reached_after, next_standing}
 use Rattle.sm_check.specs.CertsTaken.{splits_above, pending_after}
 use Rattle.sm_check.specs.Closing.{LeadsTo, Closes}
 use Rattle.sm_check.proofs.CertTaken.{goes, cert_after_is}
@@ -75,7 +75,7 @@ pending_after-framed sorts terms stores held own splits rest more l after = name
     named (Some c) e = tested (is_shallow (splits_above l splits)) (ways sorts own c) (First (line_head l)) (splits_above l splits) e
 
 -- lines close the same branches with other stores
-pub closes_restored : (sorts : Sorts) (terms : List Tree) (held : Copy → SymbolicStore) (ps : List Pending) (lines : List ProofLine) →
+pub closes_restored : (sorts : Sorts) (terms : List Tree) (held : Copy → SymbolicStore) (ps : List Pending) (lines : List (List ℕ)) →
     Closes sorts terms ps lines → Closes sorts terms (map (restored held) ps) lines
 closes_restored sorts terms held ps [] closes = ap (map (restored held)) closes
 closes_restored sorts terms held ps (line ∷ lines) closes =
@@ -95,33 +95,33 @@ closes_restored sorts terms held ps (line ∷ lines) closes =
     )
 
 -- a line that leads on where its branch is pending first
-step_taken : (s : Subject) (p : Progress) (held : Copy → SymbolicStore) (ps after rest : List Pending) (line : ProofLine) →
+step_taken : (s : Subject) (p : Progress) (held : Copy → SymbolicStore) (ps after rest : List Pending) (line : List ℕ) →
     p.pending ≡ map (restored held) ps ++ rest → LeadsTo s.sorts p.terms ps line after →
-    next_standing s (Underway p) (Ok line) ≡ Ok (Underway (record p { pending = map (restored held) after ++ rest }))
+    next_standing s (Underway p) (read line) ≡ Ok (Underway (record p { pending = map (restored held) after ++ rest }))
 step_taken s p held [] after rest line is h = absurd h
 step_taken s p held (Due st above ∷ ps) after rest line is h = absurd h
 step_taken s p held (Branch stores own splits ∷ ps) after rest line is h =
     let next : Result Progress Word → Result Standing Word = λ x. and_then x (λ (q : Progress). Ok (Underway q)) in
     let framed = pending_after-framed s.sorts p.terms stores held own splits ps rest h.0 after h.2 in
-    ap (λ (l : ProofLine). next_standing s (Underway p) (Ok l)) h.1
+    ap (λ (x : Result ProofLine Word). next_standing s (Underway p) x) h.1
     ∙ ap (λ (l : List Pending). next (taken_at s.sorts p l (Cert h.0))) is
     ∙ ap next (cert_after_is s.sorts p held own splits (map (restored held) ps ++ rest) h.0)
     ∙ ap (λ (x : Result (List Pending) Word). next (and_then x (goes p))) framed
 
 -- lines that close what is pending first
-pub closes_along : (s : Subject) (n : ℕ) (p : Progress) (held : Copy → SymbolicStore) (ps rest : List Pending) (lines more : List ProofLine) →
+pub closes_along : (s : Subject) (n : ℕ) (p : Progress) (held : Copy → SymbolicStore) (ps rest : List Pending) (lines more : List (List ℕ)) →
     p.pending ≡ map (restored held) ps ++ rest → Closes s.sorts p.terms ps lines →
-    reached_by s n (Underway p) (lines ++ more)
-    ≡ reached_by s (n + length lines) (Underway (record p { pending = rest })) more
+    reached s n (Underway p) (lines ++ more)
+    ≡ reached s (n + length lines) (Underway (record p { pending = rest })) more
 closes_along s n p held ps rest [] more is closes =
     let same : n ≡ n + 0 = omega arith in
-    ap (λ (l : List Pending). reached_by s n (Underway (record p { pending = l })) more)
+    ap (λ (l : List Pending). reached s n (Underway (record p { pending = l })) more)
     (is ∙ ap (λ (l : List Pending). map (restored held) l ++ rest) closes)
-    ∙ ap (λ (k : ℕ). reached_by s k (Underway (record p { pending = rest })) more) same
+    ∙ ap (λ (k : ℕ). reached s k (Underway (record p { pending = rest })) more) same
 closes_along s n p held ps rest (line ∷ lines) more is closes =
     let q : Progress = record p { pending = map (restored held) closes.0 ++ rest } in
     let same : suc n + length lines ≡ n + suc (length lines) = omega arith in
-    ap (λ (x : Result Standing Word). reached_after n x (λ (after : Standing). reached_by s (suc n) after (lines ++ more)))
+    ap (λ (x : Result Standing Word). reached_after n x (λ (after : Standing). reached s (suc n) after (lines ++ more)))
     (step_taken s p held ps closes.0 rest line is closes.1)
     ∙ closes_along s (suc n) q held closes.0 rest lines more refl closes.2
-    ∙ ap (λ (k : ℕ). reached_by s k (Underway (record p { pending = rest })) more) same
+    ∙ ap (λ (k : ℕ). reached s k (Underway (record p { pending = rest })) more) same

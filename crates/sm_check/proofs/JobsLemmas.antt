@@ -1,12 +1,11 @@
 -- Certificates that jobs let pass close the branches that are due.
 use Rattle.std.proofs.Common.{◌≡◌, ◌<◌, ◌≤◌, ◌+◌, ℕ, zero, suc, Bool, true, Option, Some, None, Result, Ok, Err}
-use Rattle.std.proofs.Common.{List, [], ◌∷◌, ◌++◌, length, map, take}
+use Rattle.std.proofs.Common.{List, [], ◌∷◌, ◌++◌, length, take}
 use Rattle.std.proofs.Common.{refl, sym, ap, ◌∙◌, subst, arith, reverse, append_assoc, append-nil, get_or, ◌-◌, min, is_some, not, zero-add}
 use Rattle.std.proofs.lemmas.List.{length-append, take_more, take_min}
 use Rattle.std.specs.List.{slice_get, slice_index_or}
 use Rattle.std.specs.declared.alloc.Global.{Global}
 use Rattle.std.specs.declared.rc.Rc.{Rc}
-use Rattle.std.specs.declared.vec.Vec.{Vec}
 use Rattle.sm_par.specs.Results.{StandInOrder}
 use Rattle.sm_syntax.specs.claim.ConflictFree.{Copy}
 use Rattle.sm_syntax.specs.declared.copies.PerCopy.{PerCopy}
@@ -21,19 +20,21 @@ use Rattle.sm_theory.specs.Facts.{BranchFact}
 use Rattle.sm_theory.specs.SortedFacts.{AreFactsSorted}
 use Rattle.sm_theory.specs.Views.{FactStands, AllStand}
 use Rattle.sm_plan.specs.Views.{stores_in}
-use Rattle.sm_proof.specs.declared.line.Line.{Line}
 use Rattle.sm_proof.specs.declared.word.Word.{Word}
-use Rattle.sm_proof.specs.Lines.{ProofLine, NumberedLine, Cert, line_of}
+use Rattle.sm_proof.specs.Lines.{NumberedLine, Cert}
 use Rattle.sm_proof.specs.Passing as plain
 use Rattle.sm_proof.specs.Passing.{Pending}
+use Rattle.sm_proof.specs.Reading.{read}
 use Rattle.sm_check.specs.declared.openings.Opening.{Opening}
 use Rattle.sm_check.specs.declared.pending.Due.{Due}
 use Rattle.sm_check.specs.declared.pending.Due.TheVariants as due
 use Rattle.sm_check.specs.declared.pending.Waiting.{Waiting}
+use Rattle.sm_check.specs.declared.raw_lines.RawLines.{RawLines}
 use Rattle.sm_check.specs.declared.pending.Waiting.TheVariants as waits
 use Rattle.sm_check.specs.Aside.{certificates_of}
 use Rattle.sm_check.specs.CertsTaken.{pending_after}
 use Rattle.sm_check.specs.Closing.{LeadsTo, Closes, CloseFirst, IsGoalDue, MoreStands, OpensAs, OpenFirst, Passes}
+use Rattle.sm_check.specs.LineEnds.{ended_in}
 use Rattle.sm_check.specs.Pending.{shared_by, WaitingStands, AllWait, AllPending, PendingStands}
 use Rattle.sm_check.specs.Tells.{Tells}
 use Rattle.sm_check.proofs.ClosingLemmas.{closes_restored}
@@ -43,10 +44,10 @@ use Rattle.sm_cert.proofs.WaysLemmas.{stand_append}
 
 -- the first certificates pass
 pub first_close : (sorts : Sorts) (trees terms : List Tree) (path : List Fact) (facts : List BranchFact) → AllStand sorts trees path facts →
-    AreFactsSorted sorts facts → (n : ℕ) (os : List Opening) (cs : List (Vec Line Global)) (ps : List Pending) →
+    AreFactsSorted sorts facts → (n : ℕ) (os : List Opening) (cs : List RawLines) (ps : List Pending) →
     OpenFirst sorts trees facts os ps → n ≤ length os → n ≤ length cs →
-    ((k : ℕ) (o : Opening) (c : Vec Line Global) → k < n → slice_get os k ≡ Some o → slice_get cs k ≡ Some c →
-    Passes sorts trees terms path o (map line_of c.items)) →
+    ((k : ℕ) (o : Opening) (c : RawLines) → k < n → slice_get os k ≡ Some o → slice_get cs k ≡ Some c →
+    Passes sorts trees terms path o (ended_in c.bytes.items)) →
     CloseFirst sorts terms ps (take n (certificates_of cs))
 first_close sorts trees terms path facts all sorted zero os cs ps opens enough there passes = tt
 first_close sorts trees terms path facts all sorted (suc n) [] cs ps opens enough there passes = absurd (omega arith)
@@ -55,13 +56,13 @@ first_close sorts trees terms path facts all sorted (suc n) (o ∷ os) (c ∷ cs
 first_close sorts trees terms path facts all sorted (suc n) (o ∷ os) (c ∷ cs) (p ∷ ps) opens enough there passes = (
   passes 0 o c (omega arith) refl refl facts p all sorted opens.0,
   first_close sorts trees terms path facts all sorted n os cs ps opens.1 (omega arith) (omega arith)
-      (λ (k : ℕ) (d : Opening) (b : Vec Line Global) (below : k < n) (at : slice_get os k ≡ Some d) (is : slice_get cs k ≡ Some b).
+      (λ (k : ℕ) (d : Opening) (b : RawLines) (below : k < n) (at : slice_get os k ≡ Some d) (is : slice_get cs k ≡ Some b).
       passes (suc k) d b (omega arith) at is),
 )
 
 -- lines that close a branch with some stores close it with others
 pub closes_with : (sorts : Sorts) (terms : List Tree) (stores held : Copy → SymbolicStore) (own : List BranchFact) (splits : ℕ)
-    (lines : List ProofLine) → Closes sorts terms (plain.Branch stores own splits ∷ []) lines →
+    (lines : List (List ℕ)) → Closes sorts terms (plain.Branch stores own splits ∷ []) lines →
     Closes sorts terms (plain.Branch held own splits ∷ []) lines
 closes_with sorts terms stores held own splits lines closes =
     closes_restored sorts terms held (plain.Branch stores own splits ∷ []) lines closes
@@ -209,8 +210,8 @@ waiting_opens sorts trees facts (plain.Branch held own over) shared f copy store
 
 -- a branch that goes on with a line of a certificate
 pub went_on : (sorts : Sorts) (trees terms : List Tree) (path path' : List Fact) (stores : PerCopy SymStore) (splits : ℕ)
-    (waiting waiting' : List Waiting) (ps : List Pending) (l : NumberedLine) (line : ProofLine) (d : Option Due)
-    (f : DueFirst sorts trees path stores splits waiting ps) → line ≡ Cert l →
+    (waiting waiting' : List Waiting) (ps : List Pending) (l : NumberedLine) (line : List ℕ) (d : Option Due)
+    (f : DueFirst sorts trees path stores splits waiting ps) → read line ≡ Ok (Cert l) →
     Tells {S = Option Due} {T = List Pending} (λ d qs. PendingStands sorts trees path' d waiting' qs) (Ok d)
     (pending_after sorts terms (stores_in trees stores) f.own splits f.rest l) →
     (qs : List Pending) × LeadsTo sorts terms ps line qs × PendingStands sorts trees path' d waiting' qs
@@ -225,7 +226,7 @@ went_on sorts trees terms path path' stores splits waiting waiting' ps l line d 
 
 -- where lines so far led, and that the others, if they close this, close the branch with all
 pub record Leads (sorts : Sorts) (trees terms : List Tree) (path : List Fact) (d : Option Due) (waiting : List Waiting)
-    (own : List BranchFact) (splits : ℕ) (left all : List ProofLine) : Type 0 where
+    (own : List BranchFact) (splits : ℕ) (left all : List (List ℕ)) : Type 0 where
   pub stores : Copy → SymbolicStore
   pub pending : List Pending
   pub stands : PendingStands sorts trees path d waiting pending
@@ -233,7 +234,7 @@ pub record Leads (sorts : Sorts) (trees terms : List Tree) (path : List Fact) (d
 
 -- one line more
 pub leads_on : (sorts : Sorts) (trees terms : List Tree) (path path' : List Fact) (d d' : Option Due) (waiting waiting' : List Waiting)
-    (own : List BranchFact) (splits : ℕ) (line : ProofLine) (left all : List ProofLine)
+    (own : List BranchFact) (splits : ℕ) (line : List ℕ) (left all : List (List ℕ))
     (h : Leads sorts trees terms path d waiting own splits (line ∷ left) all) →
     ((qs : List Pending) × LeadsTo sorts terms h.pending line qs × PendingStands sorts trees path' d' waiting' qs) →
     Leads sorts trees terms path' d' waiting' own splits left all
@@ -246,7 +247,7 @@ leads_on sorts trees terms path path' d d' waiting waiting' own splits line left
 
 -- nothing is due behind the last line
 pub leads_home : (sorts : Sorts) (trees terms : List Tree) (path : List Fact) (d : Option Due) (waiting : List Waiting)
-    (own : List BranchFact) (splits : ℕ) (all : List ProofLine) (held : Copy → SymbolicStore) → d ≡ None →
+    (own : List BranchFact) (splits : ℕ) (all : List (List ℕ)) (held : Copy → SymbolicStore) → d ≡ None →
     Leads sorts trees terms path d waiting own splits [] all → Closes sorts terms (plain.Branch held own splits ∷ []) all
 leads_home sorts trees terms path d waiting own splits all held none h =
     closes_with sorts terms h.stores held own splits all
@@ -289,7 +290,7 @@ alone_stands sorts trees path facts own o held splits stores sorted opens stands
 
 -- no line is taken yet
 pub leads_first : (sorts : Sorts) (trees terms : List Tree) (path : List Fact) (d : Option Due) (waiting : List Waiting)
-    (own : List BranchFact) (splits : ℕ) (all : List ProofLine) →
+    (own : List BranchFact) (splits : ℕ) (all : List (List ℕ)) →
     ((stores : Copy → SymbolicStore) × PendingStands sorts trees path d waiting (plain.Branch stores own splits ∷ [])) →
     Leads sorts trees terms path d waiting own splits all all
 leads_first sorts trees terms path d waiting own splits all h = record {
@@ -301,7 +302,7 @@ leads_first sorts trees terms path d waiting own splits all h = record {
 
 -- all lines are taken, and nothing is due
 pub closed_home : (sorts : Sorts) (trees terms : List Tree) (path : List Fact) (d : Option Due) (waiting : List Waiting)
-    (facts : List BranchFact) (o : Opening) (p : Pending) (all : List ProofLine) → d ≡ None → OpensAs sorts trees facts o p →
+    (facts : List BranchFact) (o : Opening) (p : Pending) (all : List (List ℕ)) → d ≡ None → OpensAs sorts trees facts o p →
     ((own : List BranchFact) (held : Copy → SymbolicStore) (splits : ℕ) → OpensAs sorts trees facts o (plain.Branch held own splits) →
     Leads sorts trees terms path d waiting own splits [] all) →
     Closes sorts terms (p ∷ []) all
@@ -373,23 +374,23 @@ opens_more sorts trees facts os all o ws n w ps some fits at opens is u =
     (subst (λ (xs : List Waiting). OpensUpTo sorts trees facts os xs ps) last u))
 
 -- what jobs answer of their certificates
-abbrev pub Answered : Sorts → List Tree → List Tree → List Fact → List Opening → List (Vec Line Global) → ℕ → List Bool → Type 0
+abbrev pub Answered : Sorts → List Tree → List Tree → List Fact → List Opening → List RawLines → ℕ → List Bool → Type 0
 Answered sorts trees terms path os cs count results =
     StandInOrder
     (λ (k : ℕ) (out : Bool).
-    (o : Opening) (c : Vec Line Global) → slice_get os k ≡ Some o → slice_get cs k ≡ Some c → out ≡ true →
-    Passes sorts trees terms path o (map line_of c.items)) 0 count results
+    (o : Opening) (c : RawLines) → slice_get os k ≡ Some o → slice_get cs k ≡ Some c → out ≡ true →
+    Passes sorts trees terms path o (ended_in c.bytes.items)) 0 count results
 
 -- the certificates whose jobs answer true before the first that doesn't close the first branches
 pub answered_close : (sorts : Sorts) (trees terms : List Tree) (path : List Fact) (facts : List BranchFact) →
-    AllStand sorts trees path facts → AreFactsSorted sorts facts → (os : List Opening) (cs : List (Vec Line Global)) (ps : List Pending)
+    AllStand sorts trees path facts → AreFactsSorted sorts facts → (os : List Opening) (cs : List RawLines) (ps : List Pending)
     (count n : ℕ) (results : List Bool) →
     OpenFirst sorts trees facts os ps → count ≤ length os → count ≤ length cs → Answered sorts trees terms path os cs count results →
     n ≤ length results → ((k : ℕ) (d : Bool) → k < n → slice_index_or results k d ≡ true) →
     CloseFirst sorts terms ps (take n (certificates_of cs))
 answered_close sorts trees terms path facts all sorted os cs ps count n results opens enough there answers few lead =
     first_close sorts trees terms path facts all sorted n os cs ps opens (omega (arith, answers.all)) (omega (arith, answers.all))
-    (λ (k : ℕ) (o : Opening) (c : Vec Line Global) (less : k < n) (at : slice_get os k ≡ Some o) (is : slice_get cs k ≡ Some c).
+    (λ (k : ℕ) (o : Opening) (c : RawLines) (less : k < n) (at : slice_get os k ≡ Some o) (is : slice_get cs k ≡ Some c).
     let place : k ≡ 0 + k = sym (zero-add k) in
     answers.each k true (omega (arith, answers.all)) o c (subst (λ (i : ℕ). slice_get os i ≡ Some o) place at)
     (subst (λ (i : ℕ). slice_get cs i ≡ Some c) place is) (lead k true less))

@@ -11,6 +11,7 @@ pub mod NodesLemmas
 pub mod NodeTaken
 pub mod CertTaken
 pub mod LineLemmas
+pub mod EndedLines
 pub mod PieceLemmas
 pub mod ClosingLemmas
 pub mod AsideLemmas

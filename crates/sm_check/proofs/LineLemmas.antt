@@ -7,14 +7,15 @@ use Rattle.sm_proof.specs.declared.word.Word.TheVariants.{BadLine}
 use Rattle.sm_proof.specs.Reading.{read}
 use Rattle.sm_proof.specs.Verdicts.{Subject, Standing, Unopened, Reached, Refused, Before, reached, reached_after, next_standing}
 use Rattle.sm_proof.specs.Verdicts.{FileLines, lines_in, in_first_line}
-use Rattle.sm_check.specs.Pieces.{HasNoEnd, reach}
+use Rattle.sm_check.specs.LineEnds.{HasNoEnd}
+use Rattle.sm_check.specs.Pieces.{reach}
 
 -- lines with a rest behind
-abbrev lines_of : List (List ℕ) → List ℕ → FileLines
+abbrev pub lines_of : List (List ℕ) → List ℕ → FileLines
 lines_of ended rest = record { ended = ended; rest = rest }
 
 -- lines with a byte before them, which ends a line or not
-abbrev with_byte : Bool → ℕ → FileLines → FileLines
+abbrev pub with_byte : Bool → ℕ → FileLines → FileLines
 with_byte ends byte more =
     if ends then lines_of ([] ∷ more.ended) more.rest else in_first_line byte more.ended more.rest
 

@@ -20,7 +20,8 @@ use Rattle.sm_check.specs.declared.fault.Stopped.TheVariants.{Wrong, Memory}
 use Rattle.sm_check.specs.declared.taken_lines.TakenLines.{TakenLines}
 use Rattle.sm_check.specs.declared.unfinished.Unfinished.{Unfinished}
 use Rattle.sm_check.specs.Checkers.{GoesOn, Stops}
-use Rattle.sm_check.specs.Pieces.{HasNoEnd, is_unopened, StandsAt, Takes, RefusesAt, Keeps, IsKept, AreTaken, StopsIn}
+use Rattle.sm_check.specs.LineEnds.{HasNoEnd, Keeps}
+use Rattle.sm_check.specs.Pieces.{is_unopened, StandsAt, Takes, RefusesAt, IsKept, AreTaken, StopsIn}
 use Rattle.sm_check.proofs.LineLemmas.{reach_refused, reach-nil}
 
 -- whether a line leaves the proof before its version line
@@ -139,6 +140,14 @@ to_next_end bytes piece start end ends =
     (ap (λ (k : ℕ). take start piece ++ (take k (drop start piece) ++ 10 ∷ [])) same
     ∙ ap (λ (x : List ℕ). take start piece ++ x) (sym rest)
     ∙ sym (take-add start (end + 1) piece))
+
+-- the bytes of a piece up to the end of a run of lines
+pub to_run_end : (bytes piece : List ℕ) (start n : ℕ) →
+    (bytes ++ take start piece) ++ take n (take (length piece - start) (drop start piece)) ≡ bytes ++ take (start + n) piece
+to_run_end bytes piece start n =
+    append_assoc bytes (take start piece) (take n (take (length piece - start) (drop start piece)))
+    ∙ ap (λ (x : List ℕ). bytes ++ x)
+    (ap (λ (x : List ℕ). take start piece ++ take n x) (take_rest piece start) ∙ sym (take-add start n piece))
 
 -- the rest of a piece
 pub to_piece_end : (bytes piece : List ℕ) (start : ℕ) →

@@ -1,23 +1,24 @@
 -- The lines of a piece: read behind what was read before, with lines that are set aside.
-use Rattle.std.proofs.Common.{◌≡◌, true, ℕ, List, [], ◌∷◌, ◌++◌, Result, Ok, Err, ap, subst, sym, refl}
+use Rattle.std.proofs.Common.{◌≡◌, true, ℕ, List, [], ◌∷◌, ◌++◌, Result, Ok, Err, ap, subst, sym, refl, ◌∙◌}
 use Rattle.std.specs.Result.{OnOk, IfErr}
 use Rattle.sm_proof.specs.declared.word.Word.{Word}
 use Rattle.sm_proof.specs.declared.word.Word.TheVariants.{BadLine}
 use Rattle.sm_proof.specs.Lines.{ProofLine}
 use Rattle.sm_proof.specs.Reading.{read}
-use Rattle.sm_proof.specs.Verdicts.{Subject, FileLines, lines_in}
+use Rattle.sm_proof.specs.Verdicts.{Subject, Unopened, FileLines, lines_in, reached}
 use Rattle.sm_check.specs.declared.fault.Stopped.{Stopped}
-use Rattle.sm_check.specs.declared.fault.Stopped.TheVariants.{Wrong, Memory}
 use Rattle.sm_check.specs.declared.taken_lines.TakenLines.{TakenLines}
 use Rattle.sm_check.specs.declared.unfinished.Unfinished.{Unfinished}
-use Rattle.sm_check.specs.Aside.{AreRead, AreWithin, ComesTo, StopsAt, with_line}
-use Rattle.sm_check.specs.Pieces.{AreTaken, HasNoEnd, IsKept, StopsIn, reach}
-use Rattle.sm_check.proofs.AsideLemmas.{line_not_read, line_read, read_taken, taken_read}
+use Rattle.sm_check.specs.Aside.{AreRead, ComesTo, StopsAt, with_line}
+use Rattle.sm_check.specs.LineEnds.{HasNoEnd, ended_in}
+use Rattle.sm_check.specs.Pieces.{AreTaken, IsKept, StopsIn, reach}
+use Rattle.sm_check.proofs.AsideLemmas.{line_not_read, line_read, reached-lines, read_taken, taken_read, with_lines}
+use Rattle.sm_check.proofs.EndedLines.{lines_in-behind}
 use Rattle.sm_check.proofs.LineLemmas.{lines_in-rest, long_lines_are_bad, reach-rest}
 use Rattle.sm_check.proofs.PieceLemmas.{keeps_long}
 
 -- where a call was good, the line was read
-pub line_read_by : {U : Type 0} (x : Result U Stopped) (lines : TakenLines) (aside : List ProofLine) (v : Unfinished) (s : Subject)
+pub line_read_by : {U : Type 0} (x : Result U Stopped) (lines : TakenLines) (aside : List (List ℕ)) (v : Unfinished) (s : Subject)
     (bytes front line : List ℕ) → HasNoEnd front → line ≡ (lines_in bytes).rest ++ front →
     OnOk x (ComesTo lines aside s (with_line s (read line) (reach s bytes))) → IsKept v [] →
     OnOk x (AreRead lines aside v s (bytes ++ (front ++ 10 ∷ [])))
@@ -42,23 +43,45 @@ long_line_not_read v s bytes front e h long kept stops =
     (subst (λ (x : Result ProofLine Word). StopsAt (with_line s x (reach s bytes)) e) (sym bad) stops)
 
 -- bytes without an end are kept
-pub rest_is_read : (lines : TakenLines) (aside : List ProofLine) (u v : Unfinished) (s : Subject) (bytes more : List ℕ) →
+pub rest_is_read : (lines : TakenLines) (aside : List (List ℕ)) (u v : Unfinished) (s : Subject) (bytes more : List ℕ) →
     AreRead lines aside u s bytes → HasNoEnd more → IsKept v ((lines_in bytes).rest ++ more) → AreRead lines aside v s (bytes ++ more)
 rest_is_read lines aside u v s bytes more t h kept = record {
   comes = subst (ComesTo lines aside s) (sym (reach-rest s bytes more h)) t.comes;
   kept = subst (IsKept v) (sym (ap (λ (ls : FileLines). ls.rest) (lines_in-rest bytes more h))) kept;
 }
 
+-- a run of lines behind a line end
+reach-behind : (s : Subject) (bytes run : List ℕ) → (lines_in bytes).rest ≡ [] →
+    reach s (bytes ++ run) ≡ with_lines s (ended_in run) (reach s bytes)
+unfolding reach
+reach-behind s bytes run none =
+    ap (λ (ls : FileLines). reached s 1 Unopened ls.ended) (lines_in-behind bytes run none)
+    ∙ reached-lines s 1 Unopened (ended_in bytes) (ended_in run)
+
+-- it is set aside
+pub run_is_read : (lines : TakenLines) (aside now : List (List ℕ)) (u : Unfinished) (s : Subject) (bytes run : List ℕ) →
+    (lines_in bytes).rest ≡ [] → (lines_in run).rest ≡ [] → now ≡ aside ++ ended_in run → AreRead lines aside u s bytes →
+    AreRead lines now u s (bytes ++ run)
+run_is_read lines aside now u s bytes run none ended is t = record {
+  comes = record {
+    at = t.comes.at;
+    stands = t.comes.stands;
+    is =
+        reach-behind s bytes run none
+        ∙ ap (with_lines s (ended_in run)) t.comes.is
+        ∙ sym (reached-lines s lines.number t.comes.at aside (ended_in run))
+        ∙ ap (reached s lines.number t.comes.at) (sym is);
+  };
+  kept =
+      subst (IsKept u) (none ∙ sym (ap (λ (ls : FileLines). ls.rest) (lines_in-behind bytes run none) ∙ ended)) t.kept;
+}
+
 -- no byte was taken, and nothing is set aside
-pub none_read : (lines : TakenLines) (aside : List ProofLine) (u : Unfinished) (s : Subject) (bytes : List ℕ) → aside ≡ [] →
+pub none_read : (lines : TakenLines) (aside : List (List ℕ)) (u : Unfinished) (s : Subject) (bytes : List ℕ) → aside ≡ [] →
     AreTaken lines u s bytes → AreRead lines aside u s bytes
-none_read lines aside u s bytes none t = subst (λ (x : List ProofLine). AreRead lines x u s bytes) (sym none) (taken_read lines u s bytes t)
+none_read lines aside u s bytes none t = subst (λ (x : List (List ℕ)). AreRead lines x u s bytes) (sym none) (taken_read lines u s bytes t)
 
 -- all that was set aside was taken
-pub all_taken : (was now : TakenLines) (aside : List ProofLine) (u : Unfinished) (s : Subject) (bytes : List ℕ) →
+pub all_taken : (was now : TakenLines) (aside : List (List ℕ)) (u : Unfinished) (s : Subject) (bytes : List ℕ) →
     AreRead was aside u s bytes → ComesTo now [] s (reach s bytes) → AreTaken now u s bytes
 all_taken was now aside u s bytes t comes = read_taken now u s bytes (record { comes = comes; kept = t.kept })
-
--- no lines are within their fields
-pub none_within : (aside : List ProofLine) → aside ≡ [] → AreWithin aside
-none_within aside none = subst AreWithin (sym none) tt

@@ -22,6 +22,7 @@ use Rattle.sm_term.specs.contracts.table.TermTable as TermTable
 use Rattle.sm_theory.specs.contracts.fact.Branch as Branch
 use Rattle.sm_theory.specs.contracts.fact.Fact as Fact
 use Rattle.sm_check.specs.contracts.openings.Opening as Opening
+use Rattle.sm_check.specs.contracts.raw_lines.RawLines as RawLines
 
 -- facts of a branch
 pub fact_sync : IsSync Fact.the_row
@@ -34,6 +35,10 @@ branch_sync = search (fact_sync, sendable, crosses) depth 40
 -- where certificates begin
 pub opening_sync : IsSync Opening.the_row
 opening_sync = search (fact_sync, option.the_field_sync, sendable, crosses) depth 40
+
+-- certificates
+pub raw_sync : IsSync RawLines.the_row
+raw_sync = search (sendable, crosses) depth 40
 
 -- the names of a table and its terms, and the bodies of its summaries
 ruleset parts = (decls.the_field_sync, sort.the_field_sync, cmp.the_field_sync, name.the_field_sync, term.the_field_sync)

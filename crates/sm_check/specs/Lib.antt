@@ -3,6 +3,7 @@ pub mod Checkers
 pub mod Errors
 pub mod Files
 pub mod ReadFaults
+pub mod LineEnds
 pub mod Pieces
 pub mod Tells
 pub mod FormRows

@@ -1,6 +1,5 @@
 -- Cited by private clauses alone: how far a file is taken by the pieces of it that were read.
-use Rattle.std.specs.Prelude.{◌≡◌, ◌<◌, ◌≤◌, ◌==◌, ℕ, Bool, true, false, length, Result, Ok, Err}
-use Rattle.std.specs.Prelude.{List, [], ◌∷◌}
+use Rattle.std.specs.Prelude.{◌≡◌, ◌<◌, ◌==◌, ℕ, Bool, true, false, Result, Ok, Err, List}
 use Rattle.sm_proof.specs.declared.word.Word.{Word}
 use Rattle.sm_proof.specs.Verdicts.{Subject, Standing, Unopened, Underway, Reached, Refused, Before}
 use Rattle.sm_proof.specs.Verdicts.{reached, lines_in}
@@ -9,15 +8,11 @@ use Rattle.sm_check.specs.declared.fault.Stopped.TheVariants.{Wrong, Memory}
 use Rattle.sm_check.specs.declared.taken_lines.TakenLines.{TakenLines}
 use Rattle.sm_check.specs.declared.unfinished.Unfinished.{Unfinished}
 use Rattle.sm_check.specs.Checkers.{IsAt, state_of}
-
--- no byte ends a line
-abbrev pub HasNoEnd : List ℕ → Type 0
-HasNoEnd [] = Unit {0}
-HasNoEnd (byte ∷ bytes) = (byte == 10 ≡ false) × HasNoEnd bytes
+use Rattle.sm_check.specs.LineEnds.{Keeps, ended_in}
 
 -- how far the ended lines of a file come that has these bytes
 unfoldable pub reach : Subject → List ℕ → Reached
-reach s bytes = reached s 1 Unopened (lines_in bytes).ended
+reach s bytes = reached s 1 Unopened (ended_in bytes)
 
 -- whether a proof stands before its version line
 abbrev pub is_unopened : Standing → Bool
@@ -41,11 +36,6 @@ abbrev pub RefusesAt : ℕ → Result Standing Word → Stopped → Type 0
 RefusesAt n after Memory = Unit {0}
 RefusesAt n (Ok at) (Wrong line word) = ⊥
 RefusesAt n (Err w) (Wrong line word) = (line ≡ n) × (word ≡ w)
-
--- what is kept of the bytes behind the last end: all of them, or that no line has so many
-abbrev pub Keeps : Bool → List ℕ → List ℕ → Type 0
-Keeps true kept bytes = 4096 < length bytes
-Keeps false kept bytes = (kept ≡ bytes) × (length bytes ≤ 4096)
 
 -- these bytes are unfinished
 abbrev pub IsKept : Unfinished → List ℕ → Type 0

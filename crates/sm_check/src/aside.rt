@@ -1,26 +1,28 @@
 // Certificates that are set aside.
-ghost use Rattle.std.specs.Prelude.{◌≡◌, ◌++◌, true, [], ◌∷◌, OnOk};
-ghost use Rattle.sm_proof.specs.Lines.{line_of};
+ghost use Rattle.std.specs.Prelude.{◌≡◌, ◌++◌, ◌≤◌, true, [], ◌∷◌, length, take, OnOk, IfOk};
+ghost use Rattle.sm_proof.specs.Verdicts.{lines_in};
 ghost use Rattle.sm_check.specs.Aside.{lines_aside, HoldsNone};
+ghost use Rattle.sm_check.specs.LineEnds.{HasNoEnd, ended_in};
 
-use crate::certs::{closes_branch, splits_branch};
-use sm_proof::Line;
+use crate::guess::Guess;
+use crate::raw_lines::RawLines;
+use crate::runs::run_of;
 use std::alloc::{AllocError, Global};
 use std::mem;
 
 /// How many lines a certificate may have that is set aside.
-const LONGEST: usize = 4096;
+const LONGEST: u64 = 4096;
 
-/// Certificates of goals of one node that are set aside, to be run together. How they are cut
-/// decides only what runs together: one that is cut wrongly isn't closed by its lines, and is taken
-/// in turn.
+/// Certificates of goals of one node that are set aside, to be read and run together. How they are
+/// cut decides only what runs together: where a cut is wrong, lines don't close their branch, and
+/// are taken in turn.
 #[derive(Drop)]
 pub(crate) struct Aside {
     /// The certificates that are whole.
-    pub(crate) whole: Vec<Vec<Line>>,
+    pub(crate) whole: Vec<RawLines>,
     /// The lines of the next one.
-    pub(crate) begun: Vec<Line>,
-    // How many of its branches are open.
+    pub(crate) begun: RawLines,
+    // How many of its branches seem to be open.
     open: u64,
     // How many goals are due.
     goals: usize,
@@ -34,7 +36,7 @@ impl Aside {
     {
         Aside {
             whole: Vec::new(alloc),
-            begun: Vec::new(alloc),
+            begun: RawLines::new(alloc),
             open: 1,
             goals,
         }
@@ -53,7 +55,7 @@ impl Aside {
         if self.begun.is_empty() {
             self.whole.len() < self.goals
         } else {
-            self.begun.len() < LONGEST
+            self.begun.count < LONGEST
         }
     }
 
@@ -63,35 +65,51 @@ impl Aside {
     }
 
     /// Sets a line of a certificate aside.
-    pub(crate) fn push(&mut self, alloc: Global, line: Line) -> Result<(), AllocError>
-        ensures { OnOk result
-            (lines_aside self.new ≡ lines_aside self.old ++ line_of line ∷ []) }
+    pub(crate) fn push(
+        &mut self,
+        alloc: Global,
+        line: &[u8],
+        guess: Guess,
+    ) -> Result<(), AllocError>
+        requires { HasNoEnd line.now }
+        ensures { OnOk result (lines_aside self.new ≡ lines_aside self.old ++ line.now ∷ []) }
     {
-        let open = open_after(self.open, &line);
-        self.begun.push(line)?;
+        let lines = mem::replace(&mut self.begun, RawLines::new(alloc));
+        let begun = lines.with_line(line)?;
+        let open = open_after(self.open, guess);
         if open > 0 {
+            self.begun = begun;
             self.open = open;
             return Ok(());
         }
-        let begun = mem::replace(&mut self.begun, Vec::new(alloc));
         self.whole.push(begun)?;
         self.open = 1;
         Ok(())
     }
+
+    /// Sets the lines aside that bytes begin with, as long as they seem to go on with the branch
+    /// of the certificate that is begun. Answers how many bytes they have.
+    pub(crate) fn push_run(&mut self, alloc: Global, bytes: &[u8]) -> Result<usize, AllocError>
+        ensures few { IfOk result (λ n. n ≤ length bytes.now) }
+        ensures ended { IfOk result (λ n. (lines_in (take n bytes.now)).rest ≡ []) }
+        ensures lines { OnOk result (IfOk result (λ n. lines_aside self.new
+            ≡ lines_aside self.old ++ ended_in (take n bytes.now))) }
+    {
+        if self.begun.is_empty() || self.begun.count >= LONGEST {
+            return Ok(0);
+        }
+        let (size, count) = run_of(bytes, LONGEST - self.begun.count);
+        let lines = mem::replace(&mut self.begun, RawLines::new(alloc));
+        self.begun = lines.with_run(&bytes[..size], count)?;
+        Ok(size)
+    }
 }
 
-// How many branches of a certificate are open after a line.
-fn open_after(open: u64, line: &Line) -> u64 {
-    match line {
-        Line::Cert(line) => {
-            if splits_branch(line) {
-                open.saturating_add(1)
-            } else if closes_branch(line) {
-                open.saturating_sub(1)
-            } else {
-                open
-            }
-        }
-        _ => open,
+// How many branches of a certificate seem to be open after a line.
+fn open_after(open: u64, guess: Guess) -> u64 {
+    match guess {
+        Guess::Splits => open.saturating_add(1),
+        Guess::Closes => open.saturating_sub(1),
+        Guess::Adds | Guess::Other => open,
     }
 }

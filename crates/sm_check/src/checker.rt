@@ -18,6 +18,7 @@ use crate::due::make_due;
 use crate::fault::LineFault;
 use crate::jobs::{Crew, closed_first};
 use crate::openings::goals_due;
+use crate::raw_lines::RawLines;
 use crate::start::start;
 use crate::walk::Walk;
 use sm_par::Gate;
@@ -101,7 +102,7 @@ impl<'a> Checker<'a> {
     pub(crate) fn closed_first<R: Threads + Sync, G: Gate>(
         &self,
         crew: &Crew<'_, R, G>,
-        certificates: &[Vec<Line>],
+        certificates: &[RawLines],
     ) -> Result<usize, AllocError>
         ensures few { IfOk result (λ n. n ≤ length certificates.now) }
         ensures closed { (s : Subject) (at : Standing) → IsAt self.now s (Ok at) →

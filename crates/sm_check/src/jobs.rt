@@ -1,23 +1,21 @@
 // Certificates that are run as jobs.
-ghost use Rattle.std.specs.Prelude.{◌≡◌, ◌<◌, ◌≤◌, ℕ, Bool, true, length, map, take, Some, IfOk};
+ghost use Rattle.std.specs.Prelude.{◌≡◌, ◌<◌, ◌≤◌, ℕ, Bool, true, length, take, Some, IfOk};
 ghost use Rattle.std.specs.Prelude.{slice_get, slice_index_or};
-ghost use Rattle.std.specs.declared.alloc.Global.{Global};
-ghost use Rattle.std.specs.declared.vec.Vec.{Vec};
 ghost use Rattle.sm_term.specs.declared.term.TermId.{TermId};
 ghost use Rattle.sm_term.specs.Tables.{trees_in, sorts_in};
-ghost use Rattle.sm_proof.specs.declared.line.Line.{Line};
-ghost use Rattle.sm_proof.specs.Lines.{line_of};
 ghost use Rattle.sm_proof.specs.Passing.{Progress};
 ghost use Rattle.sm_check.specs.Aside.{certificates_of};
 ghost use Rattle.sm_check.specs.Closing.{CloseFirst, Passes};
+ghost use Rattle.sm_check.specs.LineEnds.{ended_in};
 ghost use Rattle.sm_check.specs.declared.openings.Opening.{Opening};
+ghost use Rattle.sm_check.specs.declared.raw_lines.RawLines.{RawLines};
 ghost use Rattle.sm_check.specs.Walks.{Walks, terms_in};
 
 use crate::alone::closes;
 use crate::openings::{Opening, openings};
+use crate::raw_lines::RawLines;
 use crate::walk::Walk;
 use sm_par::{Gate, Job, Phase, run_jobs};
-use sm_proof::Line;
 use sm_term::{TermId, TermTable};
 use sm_theory::Branch;
 use std::alloc::{AllocError, Global};
@@ -33,13 +31,13 @@ pub(crate) struct Crew<'c, R: Threads + Sync, G: Gate> {
     pub(crate) ghost most: { workers ≤ 64 },
 }
 
-/// How many certificates close the branches that are due, the first the first, and so on. They run
-/// as jobs, each for its branch alone.
+/// How many certificates close the branches that are due, the first the first, and so on. They are
+/// read and run as jobs, each for its branch alone.
 pub(crate) fn closed_first<R: Threads + Sync, G: Gate>(
     crew: &Crew<'_, R, G>,
     alloc: Global,
     walk: &Walk<'_>,
-    certificates: &[Vec<Line>],
+    certificates: &[RawLines],
 ) -> Result<usize, AllocError>
     ensures few { IfOk result (λ n. n ≤ length certificates.now) }
     ensures closed { (p : Progress) → Walks walk.now p → IfOk result (λ n.
@@ -91,7 +89,7 @@ struct Certificates<'c> {
     terms: &'c [TermId],
     path: &'c Branch,
     openings: &'c [Opening],
-    certificates: &'c [Vec<Line>],
+    certificates: &'c [RawLines],
     count: usize,
     ghost before: { (k : ℕ) (t : TermId) → slice_get terms.now k ≡ Some t →
         t.0 < length (trees_in table.now) },
@@ -105,10 +103,10 @@ impl Job for Certificates<'_> {
     ghost indices = { λ job. job.count };
 
     ghost stands_for = { λ job index out. let trees = trees_in job.table.now in
-        (o : Opening) (c : Vec Line Global) →
+        (o : Opening) (c : RawLines) →
         slice_get job.openings.now index ≡ Some o → slice_get job.certificates.now index ≡ Some c →
         out ≡ true → Passes (sorts_in job.table.now) trees (terms_in trees job.terms.now)
-        job.path.now.list.items o (map line_of c.items) };
+        job.path.now.list.items o (ended_in c.bytes.items) };
 
     fn run(&self, alloc: Global, index: u64) -> Result<bool, AllocError> {
         let place = index as usize;
@@ -118,7 +116,7 @@ impl Job for Certificates<'_> {
             self.terms,
             self.path,
             &self.openings[place],
-            &self.certificates[place],
+            &self.certificates[place].bytes,
         )
     }
 }

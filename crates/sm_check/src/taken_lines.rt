@@ -1,14 +1,15 @@
 // The lines of a proof file that were taken, and those set aside behind them.
-ghost use Rattle.std.specs.Prelude.{◌≡◌, ◌+◌, ◌^◌, ◌<◌, ◌++◌, List, [], length, map};
+ghost use Rattle.std.specs.Prelude.{◌≡◌, ◌+◌, ◌^◌, ◌<◌, ◌++◌, ℕ, List, [], length};
 ghost use Rattle.std.specs.Prelude.{Ok, Err, OnOk, IfErr};
 ghost use Rattle.sm_proof.specs.FieldRanges.{IsWithinFields};
-ghost use Rattle.sm_proof.specs.Lines.{ProofLine, line_of};
+ghost use Rattle.sm_proof.specs.Lines.{line_of};
 ghost use Rattle.sm_proof.specs.Reading.{read};
 ghost use Rattle.sm_proof.specs.Verdicts.{Subject, Standing, Unopened, Reached, next_standing};
-ghost use Rattle.sm_check.specs.Aside.{AreWithin, ComesTo, StopsAt, certificates_of};
+ghost use Rattle.sm_check.specs.Aside.{ComesTo, StopsAt, certificates_of};
 ghost use Rattle.sm_check.specs.Aside.{joined, lines_aside, progress_at, with_line};
 ghost use Rattle.sm_check.specs.Checkers.{IsAt};
 ghost use Rattle.sm_check.specs.Closing.{CloseFirst};
+ghost use Rattle.sm_check.specs.LineEnds.{HasNoEnd, ended_in};
 ghost use Rattle.sm_check.specs.Pieces.{RefusesAt, StandsAt, Takes};
 ghost use Rattle.sm_check.specs.declared.fault.Stopped.TheVariants.{Memory};
 
@@ -16,7 +17,9 @@ use crate::aside::Aside;
 use crate::certs::closes_branch;
 use crate::checker::{Checker, State};
 use crate::fault::{LineFault, Stopped};
+use crate::guess::Guess;
 use crate::jobs::Crew;
+use crate::raw_lines::{RawLines, first_line};
 use sm_par::Gate;
 use sm_proof::{Line, LineError, Word, line_from};
 use std::alloc::Global;
@@ -49,32 +52,34 @@ impl<'a> TakenLines<'a> {
         }
     }
 
-    /// Takes an ended line by its bytes, or sets it aside.
+    /// Takes an ended line, or sets it aside.
     pub(crate) fn take<R: Threads + Sync, G: Gate>(
         &mut self,
         crew: &Crew<'_, R, G>,
         alloc: Global,
         aside: &mut Aside,
-        bytes: &[u8],
+        line: &[u8],
     ) -> Result<(), Stopped>
         requires room { self.old.number + length (lines_aside aside.old) + 1 < 2 ^ 64 }
-        requires within { AreWithin (lines_aside aside.old) }
-        ensures within { OnOk result (AreWithin (lines_aside aside.new)) }
+        requires no_end { HasNoEnd line.now }
         ensures number { OnOk result (self.new.number + length (lines_aside aside.new)
             ≡ self.old.number + length (lines_aside aside.old) + 1) }
         ensures ok { (s : Subject) (r : Reached) → ComesTo self.old (lines_aside aside.old) s r →
             OnOk result
-            (ComesTo self.new (lines_aside aside.new) s (with_line s (read bytes.now) r)) }
+            (ComesTo self.new (lines_aside aside.new) s (with_line s (read line.now) r)) }
         ensures err { (s : Subject) (r : Reached) → ComesTo self.old (lines_aside aside.old) s r →
-            IfErr result (StopsAt (with_line s (read bytes.now) r)) }
+            IfErr result (StopsAt (with_line s (read line.now) r)) }
     {
-        match line_from(alloc, bytes) {
-            Ok(line) => self.take_line(crew, alloc, aside, line),
-            Err(LineError::BadLine) => Err(self.refuse(crew, alloc, aside, Word::BadLine)),
-            Err(LineError::BadNumber) => Err(self.refuse(crew, alloc, aside, Word::BadNumber)),
-            Err(LineError::Truncated) => Err(self.refuse(crew, alloc, aside, Word::Truncated)),
-            Err(LineError::Memory) => Err(Stopped::Memory),
+        let guess = guessed(crew.workers, line);
+        if !self.may_wait(alloc, aside, guess) {
+            self.take_aside(crew, alloc, aside)?;
+            return self.check(alloc, line);
         }
+        aside.push(alloc, line, guess)?;
+        if aside.is_full() {
+            return self.take_aside(crew, alloc, aside);
+        }
+        Ok(())
     }
 
     /// The next line can't be read, unless one that is set aside is bad.
@@ -86,7 +91,6 @@ impl<'a> TakenLines<'a> {
         word: Word,
     ) -> Stopped
         requires room { self.old.number + length (lines_aside aside.old) < 2 ^ 64 }
-        requires within { AreWithin (lines_aside aside.old) }
         ensures { (s : Subject) (r : Reached) → ComesTo self.old (lines_aside aside.old) s r →
             StopsAt (with_line s (Err word) r) result }
     {
@@ -104,7 +108,6 @@ impl<'a> TakenLines<'a> {
         aside: &mut Aside,
     ) -> Result<(), Stopped>
         requires room { self.old.number + length (lines_aside aside.old) < 2 ^ 64 }
-        requires within { AreWithin (lines_aside aside.old) }
         ensures none { OnOk result (lines_aside aside.new ≡ []) }
         ensures number { OnOk result
             (self.new.number ≡ self.old.number + length (lines_aside aside.old)) }
@@ -113,50 +116,22 @@ impl<'a> TakenLines<'a> {
         ensures err { (s : Subject) (r : Reached) → ComesTo self.old (lines_aside aside.old) s r →
             IfErr result (StopsAt r) }
     {
+        if aside.is_empty() {
+            return Ok(());
+        }
         let closed = self.checker.closed_first(crew, &aside.whole)?;
         self.skip(&aside.whole[..closed])?;
-        self.check_each(&aside.whole[closed..])?;
-        self.check_all(&aside.begun)?;
+        self.check_each(alloc, &aside.whole[closed..])?;
+        self.check_all(alloc, &aside.begun.bytes)?;
         *aside = Aside::new(alloc, 0);
         Ok(())
     }
 
-    // Takes a line that was read, or sets it aside.
-    fn take_line<R: Threads + Sync, G: Gate>(
-        &mut self,
-        crew: &Crew<'_, R, G>,
-        alloc: Global,
-        aside: &mut Aside,
-        line: Line,
-    ) -> Result<(), Stopped>
-        requires room { self.old.number + length (lines_aside aside.old) + 1 < 2 ^ 64 }
-        requires within { AreWithin (lines_aside aside.old) }
-        requires fits { IsWithinFields (line_of line) }
-        ensures within { OnOk result (AreWithin (lines_aside aside.new)) }
-        ensures number { OnOk result (self.new.number + length (lines_aside aside.new)
-            ≡ self.old.number + length (lines_aside aside.old) + 1) }
-        ensures ok { (s : Subject) (r : Reached) → ComesTo self.old (lines_aside aside.old) s r →
-            OnOk result
-            (ComesTo self.new (lines_aside aside.new) s (with_line s (Ok (line_of line)) r)) }
-        ensures err { (s : Subject) (r : Reached) → ComesTo self.old (lines_aside aside.old) s r →
-            IfErr result (StopsAt (with_line s (Ok (line_of line)) r)) }
-    {
-        if !self.may_wait(crew.workers, alloc, aside, &line) {
-            self.take_aside(crew, alloc, aside)?;
-            return self.check(&line);
-        }
-        aside.push(alloc, line)?;
-        if aside.is_full() {
-            return self.take_aside(crew, alloc, aside);
-        }
-        Ok(())
-    }
-
     // Whether a line may be set aside. The first one begins the certificate that is due.
-    fn may_wait(&self, workers: u32, alloc: Global, aside: &mut Aside, line: &Line) -> bool
+    fn may_wait(&self, alloc: Global, aside: &mut Aside, guess: Guess) -> bool
         ensures { lines_aside aside.new ≡ lines_aside aside.old }
     {
-        if workers == 1 || !is_of_certificate(line) {
+        if !guess.is_of_certificate() {
             return false;
         }
         if self.at_start && aside.is_empty() {
@@ -166,11 +141,11 @@ impl<'a> TakenLines<'a> {
     }
 
     // Skips certificates that close the branches that are due.
-    fn skip(&mut self, certificates: &[Vec<Line>]) -> Result<(), Stopped>
+    fn skip(&mut self, certificates: &[RawLines]) -> Result<(), Stopped>
         requires { self.old.number + length (joined (certificates_of certificates.now)) < 2 ^ 64 }
         ensures number { OnOk result (self.new.number
             ≡ self.old.number + length (joined (certificates_of certificates.now))) }
-        ensures ok { (s : Subject) (r : Reached) (more : List ProofLine) →
+        ensures ok { (s : Subject) (r : Reached) (more : List (List ℕ)) →
             let cs = certificates_of certificates.now in
             (t : ComesTo self.old (joined cs ++ more) s r) → let p = progress_at s t.at in
             CloseFirst s.sorts p.terms p.pending cs → OnOk result (ComesTo self.new more s r) }
@@ -178,51 +153,69 @@ impl<'a> TakenLines<'a> {
     {
         for lines in certificates {
             self.state = self.checker.skip_branch()?;
-            self.number += count_of(lines);
+            self.number += lines.count;
             self.at_start = true;
         }
         Ok(())
     }
 
     // Takes the lines of certificates in turn.
-    fn check_each(&mut self, certificates: &[Vec<Line>]) -> Result<(), Stopped>
-        requires room { self.old.number
-            + length (joined (certificates_of certificates.now)) < 2 ^ 64 }
-        requires within { AreWithin (joined (certificates_of certificates.now)) }
+    fn check_each(&mut self, alloc: Global, certificates: &[RawLines]) -> Result<(), Stopped>
+        requires { self.old.number + length (joined (certificates_of certificates.now)) < 2 ^ 64 }
         ensures number { OnOk result (self.new.number
             ≡ self.old.number + length (joined (certificates_of certificates.now))) }
-        ensures ok { (s : Subject) (r : Reached) (more : List ProofLine) →
+        ensures ok { (s : Subject) (r : Reached) (more : List (List ℕ)) →
             ComesTo self.old (joined (certificates_of certificates.now) ++ more) s r →
             OnOk result (ComesTo self.new more s r) }
-        ensures err { (s : Subject) (r : Reached) (more : List ProofLine) →
+        ensures err { (s : Subject) (r : Reached) (more : List (List ℕ)) →
             ComesTo self.old (joined (certificates_of certificates.now) ++ more) s r →
             IfErr result (StopsAt r) }
     {
         for lines in certificates {
-            self.check_all(lines)?;
+            self.check_all(alloc, &lines.bytes)?;
         }
         Ok(())
     }
 
-    // Takes lines in turn.
-    fn check_all(&mut self, lines: &[Line]) -> Result<(), Stopped>
-        requires room { self.old.number + length lines.now < 2 ^ 64 }
-        requires within { AreWithin (map line_of lines.now) }
-        ensures number { OnOk result (self.new.number ≡ self.old.number + length lines.now) }
-        ensures ok { (s : Subject) (r : Reached) (more : List ProofLine) →
-            ComesTo self.old (map line_of lines.now ++ more) s r →
+    // Takes ended lines in turn.
+    fn check_all(&mut self, alloc: Global, bytes: &[u8]) -> Result<(), Stopped>
+        requires { self.old.number + length (ended_in bytes.now) < 2 ^ 64 }
+        ensures number { OnOk result
+            (self.new.number ≡ self.old.number + length (ended_in bytes.now)) }
+        ensures ok { (s : Subject) (r : Reached) (more : List (List ℕ)) →
+            ComesTo self.old (ended_in bytes.now ++ more) s r →
             OnOk result (ComesTo self.new more s r) }
-        ensures err { (s : Subject) (r : Reached) (more : List ProofLine) →
-            ComesTo self.old (map line_of lines.now ++ more) s r → IfErr result (StopsAt r) }
+        ensures err { (s : Subject) (r : Reached) (more : List (List ℕ)) →
+            ComesTo self.old (ended_in bytes.now ++ more) s r → IfErr result (StopsAt r) }
     {
-        for line in lines {
-            self.check(line)?;
+        let mut left = bytes;
+        while let Some((line, behind)) = first_line(left) {
+            self.check(alloc, line)?;
+            left = behind;
         }
         Ok(())
+    }
+
+    // Reads a line and takes it.
+    fn check(&mut self, alloc: Global, line: &[u8]) -> Result<(), Stopped>
+        requires { self.old.number + 1 < 2 ^ 64 }
+        ensures number { OnOk result (self.new.number ≡ self.old.number + 1) }
+        ensures ok { (s : Subject) (at : Standing) → StandsAt self.old s at →
+            OnOk result (Takes self.new s (next_standing s at (read line.now))) }
+        ensures err { (s : Subject) (at : Standing) → StandsAt self.old s at →
+            IfErr result (RefusesAt self.old.number (next_standing s at (read line.now))) }
+    {
+        match line_from(alloc, line) {
+            Ok(line) => self.check_line(&line),
+            Err(LineError::BadLine) => Err(self.unread(Word::BadLine)),
+            Err(LineError::BadNumber) => Err(self.unread(Word::BadNumber)),
+            Err(LineError::Truncated) => Err(self.unread(Word::Truncated)),
+            Err(LineError::Memory) => Err(Stopped::Memory),
+        }
     }
 
     // Takes a line that was read.
-    fn check(&mut self, line: &Line) -> Result<(), Stopped>
+    fn check_line(&mut self, line: &Line) -> Result<(), Stopped>
         requires room { self.old.number + 1 < 2 ^ 64 }
         requires within { IsWithinFields (line_of line.now) }
         ensures number { OnOk result (self.new.number ≡ self.old.number + 1) }
@@ -262,18 +255,12 @@ impl<'a> TakenLines<'a> {
     }
 }
 
-// How many lines there are.
-fn count_of(lines: &[Line]) -> u64
-    ensures { result ≡ length lines.now }
-{
-    lines.len() as u64
-}
-
-// Whether a line is of a certificate.
-fn is_of_certificate(line: &Line) -> bool {
-    match line {
-        Line::Cert(_) => true,
-        _ => false,
+// What a line seems to do. With one worker none is looked at, and none is set aside.
+fn guessed(workers: u32, line: &[u8]) -> Guess {
+    if workers == 1 {
+        Guess::Other
+    } else {
+        Guess::of(line)
     }
 }
 

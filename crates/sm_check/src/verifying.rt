@@ -6,7 +6,7 @@ ghost use Rattle.sm_proof.specs.Verdicts.{Subject, Unopened, Pass, Reached, subj
 ghost use Rattle.sm_syntax.specs.claim.ConflictFree.{ConflictFree};
 ghost use Rattle.sm_syntax.specs.text.Parts.{task_of};
 ghost use Rattle.sm_text.specs.Tasks.{parts_of};
-ghost use Rattle.sm_check.specs.Aside.{AreRead, AreWithin, ComesTo, HoldsNone, lines_aside};
+ghost use Rattle.sm_check.specs.Aside.{AreRead, ComesTo, HoldsNone, lines_aside};
 ghost use Rattle.sm_check.specs.Checkable.{IsCheckable};
 ghost use Rattle.sm_check.specs.Checkers.{IsAt};
 ghost use Rattle.sm_check.specs.Errors.{check_error_of};
@@ -74,8 +74,8 @@ impl From<IoError> for CheckError {
 /// Whether the proof file with a name passes for a task. It is read once, in pieces, and may have
 /// 268,435,456 bytes. A bad line that ended goes before a later fault and before too many bytes.
 /// With more than one worker, certificates of the goals of one node are set aside, up to 64 of
-/// at most 4,096 lines each, and run together. So a bad line may be found behind a read that
-/// failed. The answer never depends on the workers.
+/// at most 4,096 lines each, and read and run together. So a bad line may be found behind a read
+/// that failed. The answer never depends on the workers.
 pub fn verify<R: Threads + Sync, G: Gate, H: Shelf>(
     rt: &R,
     alloc: Global,
@@ -207,7 +207,6 @@ fn answer_to_fault<R: Threads + Sync, G: Gate>(
     error: IoError,
 ) -> Result<Checked, CheckError>
     requires room { lines.old.number + length (lines_aside aside.old) < 2 ^ 64 }
-    requires within { AreWithin (lines_aside aside.old) }
     ensures answer { (s : Subject) (r : Reached) → ComesTo lines.old (lines_aside aside.old) s r →
         TellsAnswer result (cut_answer r) }
     ensures no_pass { result ≢ Ok Checked.Pass }
@@ -232,7 +231,6 @@ fn answer_past_limit<R: Threads + Sync, G: Gate>(
     aside: &mut Aside,
 ) -> Result<Checked, CheckError>
     requires room { lines.old.number + length (lines_aside aside.old) < 2 ^ 64 }
-    requires within { AreWithin (lines_aside aside.old) }
     ensures answer { (s : Subject) (r : Reached) → ComesTo lines.old (lines_aside aside.old) s r →
         TellsAnswer result (cut_answer r) }
     ensures no_pass { result ≢ Ok Checked.Pass }
@@ -253,7 +251,6 @@ fn answer_at_end<R: Threads + Sync, G: Gate>(
     unfinished: &Unfinished,
 ) -> Result<Checked, CheckError>
     requires room { lines.old.number + length (lines_aside aside.old) < 2 ^ 64 }
-    requires within { AreWithin (lines_aside aside.old) }
     ensures answer { (s : Subject) (bytes : List ℕ) →
         AreRead lines.old (lines_aside aside.old) unfinished.now s bytes →
         TellsAnswer result (Judged (verdict s bytes)) }

@@ -1,14 +1,14 @@
 -- The lines so far lead on.
-use Rattle.std.proofs.Common.{ℕ, List, map, drop}
+use Rattle.std.proofs.Common.{ℕ, List, length}
 use Rattle.sm_syntax.specs.claim.ConflictFree.{Copy}
 use Rattle.sm_term.specs.Symbolic.{SymbolicStore}
 use Rattle.sm_term.specs.Tables.{trees_in, sorts_in}
 use Rattle.sm_theory.specs.Facts.{BranchFact}
 use Rattle.sm_theory.specs.SortedFacts.{AreFactsSorted}
 use Rattle.sm_theory.specs.Views.{AllStand}
-use Rattle.sm_proof.specs.Lines.{line_of}
 use Rattle.sm_proof.specs.Passing as plain
 use Rattle.sm_check.specs.Closing.{OpensAs}
+use Rattle.sm_check.specs.LineEnds.{ended_in}
 use Rattle.sm_check.specs.Walks.{terms_in}
 use Rattle.sm_check.proofs.JobsLemmas.{Leads}
 use Rattle.sm_check.proofs.alone.closes.Given as goal
@@ -19,4 +19,7 @@ invariant-loop-line l =
     AllStand (sorts_in l.table) (trees_in l.table) l.path.list.items facts → AreFactsSorted (sorts_in l.table) facts →
     OpensAs (sorts_in l.table) (trees_in l.table) facts l.opening (plain.Branch held own splits) →
     Leads (sorts_in l.table) (trees_in l.table) (terms_in (trees_in l.table) l.terms) l.branch.path.list.items l.branch.due
-    l.branch.waiting.items own splits (map line_of (drop l.line-index l.lines)) (map line_of l.lines)
+    l.branch.waiting.items own splits (ended_in l.left) (ended_in l.bytes)
+
+abbrev pub decreases-loop-line : goal.decreases-loop-line
+decreases-loop-line l = length l.left

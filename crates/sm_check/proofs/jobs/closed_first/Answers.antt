@@ -3,7 +3,6 @@ use denote.Param.Send.{sendable}
 use Rattle.std.proofs.Common.{◌≡◌, ◌<◌, ◌≤◌, ℕ, Bool, true, List, Some, length, take, subst, arith}
 use Rattle.std.proofs.Crossing.{crosses}
 use Rattle.std.specs.List.{slice_get, slice_index_or}
-use Rattle.sm_proof.proofs.line.Line.TheSendSync as line
 use Rattle.sm_term.proofs.term.TermId.TheSendSync as id
 use Rattle.sm_term.specs.Tables.{trees_in, sorts_in}
 use Rattle.sm_term.specs.Terms.{Tree}
@@ -13,7 +12,7 @@ use Rattle.sm_check.specs.Aside.{certificates_of}
 use Rattle.sm_check.specs.Closing.{CloseFirst}
 use Rattle.sm_check.specs.Walks.{WalkValue, terms_in}
 use Rattle.sm_check.proofs.JobsLemmas.{Answered, each_before, answered_close}
-use Rattle.sm_check.proofs.SharedLemmas.{table_sync, branch_sync, opening_sync}
+use Rattle.sm_check.proofs.SharedLemmas.{table_sync, branch_sync, opening_sync, raw_sync}
 use Rattle.sm_check.proofs.jobs.closed_first.Goals as goal
 
 pub invariant_of-job-clause-before : goal.invariant_of-job-clause-before
@@ -24,7 +23,7 @@ invariant_of-job-clause-before g c = λ k t is.
 
 pub run_jobs-requires-sync-J : goal.run_jobs-requires-sync-J
 run_jobs-requires-sync-J g c κs within =
-    search (table_sync, branch_sync, opening_sync, line.the_field_sync, id.the_field_sync, sendable, crosses) depth 40
+    search (table_sync, branch_sync, opening_sync, raw_sync, id.the_field_sync, sendable, crosses) depth 40
 
 pub returns-clause-closed : goal.returns-clause-closed
 returns-clause-closed g c = λ p walks.

@@ -2,6 +2,7 @@
 use Rattle.std.proofs.Common.{◌∙◌, ◌++◌, ◌∷◌, [], ℕ, List, ap, subst, sym}
 use Rattle.sm_proof.specs.Verdicts.{lines_in}
 use Rattle.sm_check.specs.Aside.{lines_aside}
+use Rattle.sm_check.specs.LineEnds.{ended_in}
 use Rattle.sm_check.specs.Pieces.{IsKept, StopsIn, reach}
 use Rattle.sm_check.proofs.AsideLemmas.{line_not_read, line_read}
 use Rattle.sm_check.proofs.PieceLemmas.{err_is, keeps_all, keeps_none}
@@ -33,7 +34,7 @@ returns-in_err-take-clause-err g c = λ s bytes t.
     c.if-unfinished.false kept in
     err_is (StopsIn s (bytes ++ (c.args.front.now ++ 10 ∷ []))) c.from_residual-in_err-take.result c.in_err-take.field-0.0
     c.from_residual-in_err-take.ensures.1
-    (line_not_read s bytes c.args.front.now c.deref.result.now c.in_err-take.field-0.0 c.requires.no_end (c.deref.ensures.value ∙ line)
+    (line_not_read s bytes c.args.front.now c.line.result.now c.in_err-take.field-0.0 c.requires.no_end (c.line.ensures.bytes ∙ line)
     (c.in_err-take.ensures.err s (reach s bytes) t.comes))
 
 pub returns-clause-ok : goal.returns-clause-ok
@@ -41,6 +42,9 @@ returns-clause-ok g c = λ s bytes t.
     let kept = c.in_ok-add.ensures (lines_in bytes).rest t.kept in
     let line = keeps_all c.add.new.self.is_too_long c.add.new.self.bytes.items ((lines_in bytes).rest ++ c.args.front.now)
     c.if-unfinished.false kept in
-    line_read _ _ _ s bytes c.args.front.now c.deref.result.now c.requires.no_end (c.deref.ensures.value ∙ line)
+    line_read _ _ _ s bytes c.args.front.now c.line.result.now c.requires.no_end (c.line.ensures.bytes ∙ line)
     (c.in_ok-take.ensures.ok s (reach s bytes) t.comes)
     (keeps_none c.add.new.self.is_too_long c.clear.new.self.items c.if-unfinished.false c.clear.ensures.items)
+
+pub invariant_of-unfinished : goal.invariant_of-unfinished
+invariant_of-unfinished g c = record { no_end = ap ended_in c.clear.ensures.items }

@@ -1,17 +1,21 @@
 -- One line more, and at the end the bytes that no end follows.
-use Rattle.std.proofs.Common.{◌<◌, ◌+◌, ◌-◌, ◌++◌, ℕ, List, refl, sym, subst, take, drop, length, length-take, length-drop, arith}
-use Rattle.std.proofs.Common.{append-nil}
+use Rattle.std.proofs.Common.{◌≡◌, ◌<◌, ◌≤◌, ◌+◌, ◌-◌, ◌++◌, ◌∷◌, [], ℕ, List, refl, sym, ap, subst, take, drop, length}
+use Rattle.std.proofs.Common.{length-take, length-drop, append-nil, ◌∙◌, arith}
+use Rattle.std.proofs.lemmas.List.{length-append, take_rest}
+use Rattle.sm_proof.specs.Verdicts.{FileLines}
 use Rattle.sm_check.specs.Aside.{AreRead, lines_aside}
+use Rattle.sm_check.specs.LineEnds.{HasNoEnd, ended_in}
 use Rattle.sm_check.specs.Pieces.{StopsIn}
-use Rattle.sm_check.proofs.PieceLemmas.{err_is, to_next_end, to_piece_end, stops_in_piece}
-use Rattle.sm_check.proofs.ReadLemmas.{rest_is_read}
+use Rattle.sm_check.proofs.EndedLines.{ended-few}
+use Rattle.sm_check.proofs.LineLemmas.{lines_in-end}
+use Rattle.sm_check.proofs.PieceLemmas.{err_is, to_next_end, to_piece_end, to_run_end, stops_in_piece}
+use Rattle.sm_check.proofs.ReadLemmas.{rest_is_read, run_is_read}
 use Rattle.sm_check.proofs.pieces.take_piece.Goals as goal
 
 pub loop-end-init : goal.loop-end-init
 loop-end-init g c = record {
   within = omega arith;
   number = omega arith;
-  fields = c.requires.within;
   read = λ s bytes t.
       subst (AreRead c.args.lines.now (lines_aside c.args.aside.now) c.args.unfinished.now s) (sym (append-nil bytes)) t;
 }
@@ -27,19 +31,39 @@ returns-in_err-end_line-clause-err g c = λ s bytes t.
 
 pub loop-end-preserved : goal.loop-end-preserved
 loop-end-preserved g c =
-    let below : c.in-Some.end < length (take (length c.args.piece.now - c.loop-end.start) (drop c.loop-end.start c.args.piece.now)) =
-    c.in-Some.ensures.some.0 in
-    let room : c.in-Some.end < length c.args.piece.now - c.loop-end.start =
-    omega (arith, length-take {A = ℕ}, length-drop {A = ℕ}) in
-    let counted = c.in_ok-end_line.ensures.number in
+    let piece = c.args.piece.now in
+    let start = c.loop-end.start in
+    let end = c.in-Some.end in
+    let found = c.in-Some.ensures.some in
+    let below : end < length (take (length piece - start) (drop start piece)) = found.0 in
+    let room : end < length piece - start = omega (arith, length-take {A = ℕ}, length-drop {A = ℕ}) in
+    let behind = start + (end + 1) in
+    let n = c.in_ok-start.field-0 in
+    let run = take n (take (length piece - behind) (drop behind piece)) in
+    let fits : n ≤ length (take (length piece - behind) (drop behind piece)) = c.in_ok-start.ensures.few in
+    let near : n ≤ length piece - behind = omega (arith, length-take {A = ℕ}, length-drop {A = ℕ}, fits) in
+    let set = c.in_ok-start.ensures.lines in
     record {
-      within = omega (arith, room);
-      number = omega (arith, counted, c.loop-end.invariant.number);
-      fields = c.in_ok-end_line.ensures.within;
+      within = omega (arith, room, near);
+      number =
+          let counted = c.in_ok-end_line.ensures.number in
+          let all = ap (λ (x : List (List ℕ)). length x) set in
+          let more = length-append (lines_aside c.end_line.new.aside) (ended_in run) in
+          let few = ended-few run in
+          let size = length-take n (take (length piece - behind) (drop behind piece)) in
+          omega (arith, counted, all, more, few, size, near, c.loop-end.invariant.number);
       read = λ s bytes t.
-          subst (AreRead c.end_line.new.lines (lines_aside c.end_line.new.aside) c.end_line.new.unfinished s)
-          (to_next_end bytes c.args.piece.now c.loop-end.start c.in-Some.end c.in-Some.ensures.some.2)
-          (c.in_ok-end_line.ensures.ok s (bytes ++ take c.loop-end.start c.args.piece.now) (c.loop-end.invariant.read s bytes t));
+          let front = take (start + end - start) (drop start piece) in
+          let was = bytes ++ take start piece in
+          let line = c.in_ok-end_line.ensures.ok s was (c.loop-end.invariant.read s bytes t) in
+          let size : end ≡ start + end - start = omega arith in
+          let same : take end (take (length piece - start) (drop start piece)) ≡ front =
+          ap (λ (x : List ℕ). take end x) (take_rest piece start) ∙ ap (λ (k : ℕ). take k (drop start piece)) size in
+          let whole = ap (λ (ls : FileLines). ls.rest) (lines_in-end was front (subst HasNoEnd same found.1)) in
+          let added = run_is_read c.end_line.new.lines (lines_aside c.end_line.new.aside) (lines_aside c.push_run.new.self)
+          c.end_line.new.unfinished s (was ++ (front ++ 10 ∷ [])) run whole c.in_ok-start.ensures.ended set line in
+          subst (AreRead c.end_line.new.lines (lines_aside c.push_run.new.self) c.end_line.new.unfinished s)
+          (ap (λ (x : List ℕ). x ++ run) (to_next_end bytes piece start end found.2) ∙ to_run_end bytes piece behind n) added;
     }
 
 pub returns-clause-ok : goal.returns-clause-ok
@@ -50,3 +74,6 @@ returns-clause-ok g c = λ s bytes t.
     (to_piece_end bytes c.args.piece.now c.loop-end.start)
     (rest_is_read c.loop-end.lines (lines_aside c.loop-end.aside) c.loop-end.unfinished c.add.new.self s front _ before
     (c.in_default.ensures.none refl) (c.in_ok-add.ensures _ before.kept))
+
+pub add-requires : goal.add-requires
+add-requires g c = c.in_default.ensures.none refl

@@ -1,14 +1,13 @@
 -- The lines that end so far are read.
 use Rattle.std.proofs.Common.{◌≤◌, ◌+◌, ◌-◌, ◌++◌, ℕ, List, length, take}
 use Rattle.sm_proof.specs.Verdicts.{Subject}
-use Rattle.sm_check.specs.Aside.{AreRead, AreWithin, lines_aside}
+use Rattle.sm_check.specs.Aside.{AreRead, lines_aside}
 use Rattle.sm_check.proofs.pieces.take_piece.Given as goal
 
 abbrev pub invariant-loop-end : goal.invariant-loop-end
 invariant-loop-end g l = record {
   within : l.start ≤ length l.piece;
   number : l.lines.number + length (lines_aside l.aside) ≤ l.initial.lines.number + length (lines_aside l.initial.aside) + l.start;
-  fields : AreWithin (lines_aside l.aside);
   read : (s : Subject) (bytes : List ℕ) → AreRead l.initial.lines (lines_aside l.initial.aside) l.initial.unfinished s bytes →
       AreRead l.lines (lines_aside l.aside) l.unfinished s (bytes ++ take l.start l.piece);
 }

@@ -6,7 +6,7 @@ use Rattle.sm_check.proofs.AnswerLemmas.{stopped_tells}
 use Rattle.sm_check.proofs.verifying.answer_past_limit.Goals as goal
 
 pub returns-in-Ok-clause-answer : goal.returns-in-Ok-clause-answer
-returns-in-Ok-clause-answer g c = λ s r t. let all = c.in-Ok.ensures.ok s r t in ap cut_answer all.reached
+returns-in-Ok-clause-answer g c = λ s r t. let all = c.in-Ok.ensures.ok s r t in ap cut_answer all.is
 
 pub returns-in-Err-clause-answer : goal.returns-in-Err-clause-answer
 returns-in-Err-clause-answer g c = λ s r t.

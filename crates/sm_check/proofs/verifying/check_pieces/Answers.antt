@@ -1,21 +1,19 @@
 use Rattle.std.proofs.Common.{◌≡◌, ◌<◌, ◌≤◌, ◌+◌, ◌∙◌, ◌++◌, ℕ, List, [], length, take, length-take, refl, ap, subst, arith}
 use Rattle.sm_io.proofs.FileLemmas.{read_end}
-use Rattle.sm_proof.specs.Lines.{ProofLine}
 use Rattle.sm_proof.specs.Verdicts.{verdict}
-use Rattle.sm_check.specs.Aside.{AreWithin, lines_aside}
+use Rattle.sm_check.specs.Aside.{lines_aside}
 use Rattle.sm_check.specs.Files.{Judged, TellsAnswer, cut_answer}
 use Rattle.sm_check.specs.Pieces.{StopsIn, reach}
 use Rattle.sm_check.proofs.AnswerLemmas.{end_told, fault_told, pass_told, past_told, stopped_told}
 use Rattle.sm_check.proofs.EndLemmas.{taken_more, given_stands}
-use Rattle.sm_check.proofs.ReadLemmas.{none_read, none_within}
+use Rattle.sm_check.proofs.ReadLemmas.{none_read}
 use Rattle.sm_check.proofs.verifying.check_pieces.Goals as goal
 
 pub loop-count-init : goal.loop-count-init
 loop-count-init g c = record {
   within = omega arith;
   room = omega arith;
-  number = let none = ap (λ (x : List ProofLine). length x) c.new-aside.ensures.lines in omega (arith, none);
-  fields = none_within (lines_aside c.new-aside.result) c.new-aside.ensures.lines;
+  number = let none = ap (λ (x : List (List ℕ)). length x) c.new-aside.ensures.lines in omega (arith, none);
   gone = λ absent. c.new-aside.ensures.none;
   read = (
     [],
@@ -94,7 +92,6 @@ loop-count-preserved g c =
       room = omega arith;
       number =
           let more = c.in-Ok-take_piece.ensures.number in omega (arith, simp length-take at more, c.loop-count.invariant.number);
-      fields = c.in-Ok-take_piece.ensures.within;
       gone = λ none.
           let fails = c.in-Ok.ensures.absent (c.loop-count.invariant.same c.args.name.now ∙ none) in absurd (cc);
       read = (

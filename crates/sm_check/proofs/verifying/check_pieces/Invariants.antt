@@ -1,7 +1,7 @@
 use Rattle.std.proofs.Common.{◌≡◌, ◌<◌, ◌≤◌, ◌+◌, ◌-◌, ℕ, List, [], length, take}
 use Rattle.sm_io.specs.Files.{absent, WhereHeld}
 use Rattle.sm_proof.specs.Verdicts.{Subject}
-use Rattle.sm_check.specs.Aside.{AreRead, AreWithin, HoldsNone, lines_aside}
+use Rattle.sm_check.specs.Aside.{AreRead, HoldsNone, lines_aside}
 use Rattle.sm_check.specs.Pieces.{AreTaken}
 use Rattle.sm_check.proofs.verifying.check_pieces.Given as goal
 
@@ -10,7 +10,6 @@ invariant-loop-count g l = record {
   within : l.place ≤ l.limit;
   room : 0 < length l.piece;
   number : l.lines.number + length (lines_aside l.aside) ≤ l.initial.lines.number + l.place;
-  fields : AreWithin (lines_aside l.aside);
   gone : g.H.Shelf.file l.initial.shelf l.name ≡ absent → HoldsNone l.aside;
   read : (bytes : List ℕ) × WhereHeld (g.H.Shelf.file l.initial.shelf l.name) (λ held. bytes ≡ take l.place held)
       × ((s : Subject) → AreTaken l.initial.lines l.initial.unfinished s [] → AreRead l.lines (lines_aside l.aside) l.unfinished s bytes);

@@ -1,15 +1,14 @@
 -- The certificate is whole by its last line.
-use Rattle.std.proofs.Common.{◌∙◌, ap}
-use Rattle.std.specs.declared.alloc.Global.{Global}
-use Rattle.std.specs.declared.vec.Vec.{Vec}
-use Rattle.sm_proof.specs.declared.line.Line.{Line}
+use Rattle.std.proofs.Common.{◌++◌, ◌∷◌, [], ◌∙◌, ap}
+use Rattle.sm_check.specs.declared.raw_lines.RawLines.{RawLines}
+use Rattle.sm_check.specs.LineEnds.{ended_in}
 use Rattle.sm_check.proofs.AsideSteps.{whole_more}
 use Rattle.sm_check.proofs.aside.Aside.push.Goals as goal
 
 pub returns : goal.returns
 returns c =
-    whole_more c.args.self.now.whole.items c.push-2.new.self.items c.replace-begun.result c.args.self.now.begun.items
-    c.replace-begun.new.dest.items c.args.line
-    (ap (λ (v : Vec Line Global). v.items) c.replace-begun.ensures.value ∙ c.in_ok-push.ensures.items)
-    c.in_ok-push-2.ensures.items
-    (ap (λ (v : Vec Line Global). v.items) c.replace-begun.ensures.after ∙ c.new.ensures.items)
+    whole_more c.args.self.now.whole.items c.push.new.self.items c.in_ok-begun.begun (ended_in c.args.self.now.begun.bytes.items)
+    c.replace-lines.new.dest.bytes.items c.args.line.now
+    (c.in_ok-begun.ensures ∙ ap (λ (v : RawLines). ended_in v.bytes.items ++ c.args.line.now ∷ []) c.replace-lines.ensures.value)
+    c.in_ok-push.ensures.items
+    (ap (λ (v : RawLines). v.bytes.items) c.replace-lines.ensures.after ∙ c.new.ensures)

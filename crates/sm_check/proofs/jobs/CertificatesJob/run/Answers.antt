@@ -1,12 +1,12 @@
 -- The certificate with the job's number closes the branch of the opening with it.
-use Rattle.std.proofs.Common.{◌≡◌, Bool, true, List, Vec, Global, length, map, Some, ap, ◌∙◌, subst}
+use Rattle.std.proofs.Common.{◌≡◌, ℕ, Bool, true, List, length, Some, ap, ◌∙◌, subst}
 use Rattle.std.proofs.lemmas.Result.{IfOk-weaker}
 use Rattle.std.specs.List.{slice_get}
 use Rattle.sm_term.specs.Tables.{trees_in, sorts_in}
-use Rattle.sm_proof.specs.declared.line.Line.{Line}
-use Rattle.sm_proof.specs.Lines.{line_of}
 use Rattle.sm_check.specs.declared.openings.Opening.{Opening}
+use Rattle.sm_check.specs.declared.raw_lines.RawLines.{RawLines}
 use Rattle.sm_check.specs.Closing.{Passes}
+use Rattle.sm_check.specs.LineEnds.{ended_in}
 use Rattle.sm_check.specs.Walks.{terms_in}
 use Rattle.sm_check.proofs.JobsLemmas.{all_before, got_at}
 use Rattle.sm_check.proofs.jobs.CertificatesJob.run.Goals as goal
@@ -18,13 +18,13 @@ pub returns : goal.returns
 returns c =
     let s = c.args.self.now in
     let trees = trees_in s.table.now in
-    let passes : Opening → List Line → Type 0 =
-    λ (o : Opening) (ls : List Line).
-    Passes (sorts_in s.table.now) trees (terms_in trees s.terms.now) s.path.now.list.items o (map line_of ls) in
+    let passes : Opening → List ℕ → Type 0 =
+    λ (o : Opening) (bytes : List ℕ).
+    Passes (sorts_in s.table.now) trees (terms_in trees s.terms.now) s.path.now.list.items o (ended_in bytes) in
     IfOk-weaker c.closes.result _ _
-    (λ (out : Bool) h (o : Opening) (lines : Vec Line Global) (at : slice_get s.openings.now c.args.index ≡ Some o)
+    (λ (out : Bool) h (o : Opening) (lines : RawLines) (at : slice_get s.openings.now c.args.index ≡ Some o)
     (is : slice_get s.certificates.now c.args.index ≡ Some lines) (closes : out ≡ true).
-    subst (λ (ls : List Line). passes o ls)
-    (c.deref.ensures.value ∙ ap (λ (v : Vec Line Global). v.items) (got_at s.certificates.now c.args.index _ lines is))
+    subst (λ (bytes : List ℕ). passes o bytes)
+    (c.deref.ensures.value ∙ ap (λ (v : RawLines). v.bytes.items) (got_at s.certificates.now c.args.index _ lines is))
     (subst (λ (x : Opening). passes x c.deref.result.now) (got_at s.openings.now c.args.index _ o at) (h closes)))
     c.closes.ensures

@@ -1,18 +1,20 @@
-use Rattle.std.proofs.Common.{Ok, arith}
-use Rattle.sm_proof.specs.Lines.{line_of}
+-- What the bytes are read as is the line.
+use Rattle.std.proofs.Common.{Result, sym, subst}
+use Rattle.std.specs.Result.{OnOk, IfErr}
+use Rattle.sm_proof.specs.declared.word.Word.{Word}
+use Rattle.sm_proof.specs.Lines.{ProofLine}
 use Rattle.sm_proof.specs.Verdicts.{next_standing}
-use Rattle.sm_check.proofs.PieceLemmas.{goes_on, next-opens, refuses}
+use Rattle.sm_check.specs.Pieces.{RefusesAt, Takes}
 use Rattle.sm_check.proofs.taken_lines.TakenLines.check.Goals as goal
 
 pub returns-in-Ok-clause-ok : goal.returns-in-Ok-clause-ok
 returns-in-Ok-clause-ok c = λ s at stands.
-    goes_on s (next_standing s at (Ok (line_of c.args.line.now))) _ (next-opens s at (Ok (line_of c.args.line.now)))
-    (let low = stands.counted in omega arith) (c.in-Ok.ensures.ok s at stands.is_at)
+    subst
+    (λ (x : Result ProofLine Word). OnOk c.check_line.result (Takes c.check_line.new.self s (next_standing s at x)))
+    (sym c.in-Ok.ensures.ok) (c.check_line.ensures.ok s at stands)
 
-pub returns-in-Err-Wrong-clause-err : goal.returns-in-Err-Wrong-clause-err
-returns-in-Err-Wrong-clause-err c = λ s at stands.
-    refuses s (next_standing s at (Ok (line_of c.args.line.now))) _ _ c.in-Err-Wrong.field-0 c.in-Err-Wrong.word (cc)
-    (c.in-Err-Wrong.ensures.err s at stands.is_at)
-
-pub returns-in-Err-Memory-clause-err : goal.returns-in-Err-Memory-clause-err
-returns-in-Err-Memory-clause-err c = λ s at stands. tt
+pub returns-in-Ok-clause-err : goal.returns-in-Ok-clause-err
+returns-in-Ok-clause-err c = λ s at stands.
+    subst
+    (λ (x : Result ProofLine Word). IfErr c.check_line.result (RefusesAt c.args.self.now.number (next_standing s at x)))
+    (sym c.in-Ok.ensures.ok) (c.check_line.ensures.err s at stands)

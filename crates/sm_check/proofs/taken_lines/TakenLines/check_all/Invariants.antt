@@ -1,14 +1,17 @@
 -- The lines so far were taken.
-use Rattle.std.proofs.Common.{◌≡◌, ◌+◌, ◌++◌, List, map, drop}
-use Rattle.sm_proof.specs.Lines.{ProofLine, line_of}
+use Rattle.std.proofs.Common.{◌≡◌, ◌+◌, ◌++◌, ℕ, List, length}
 use Rattle.sm_proof.specs.Verdicts.{Subject, Reached}
 use Rattle.sm_check.specs.Aside.{ComesTo}
+use Rattle.sm_check.specs.LineEnds.{ended_in}
 use Rattle.sm_check.proofs.taken_lines.TakenLines.check_all.Given as goal
 
 abbrev pub invariant-loop-line : goal.invariant-loop-line
 invariant-loop-line l = record {
-  number : l.self.number ≡ l.initial.self.number + l.line-index;
+  number : l.self.number + length (ended_in l.left) ≡ l.initial.self.number + length (ended_in l.bytes);
   comes :
-      (s : Subject) (r : Reached) (more : List ProofLine) → ComesTo l.initial.self (map line_of l.lines ++ more) s r →
-      ComesTo l.self (map line_of (drop l.line-index l.lines) ++ more) s r;
+      (s : Subject) (r : Reached) (more : List (List ℕ)) → ComesTo l.initial.self (ended_in l.bytes ++ more) s r →
+      ComesTo l.self (ended_in l.left ++ more) s r;
 }
+
+abbrev pub decreases-loop-line : goal.decreases-loop-line
+decreases-loop-line l = length l.left

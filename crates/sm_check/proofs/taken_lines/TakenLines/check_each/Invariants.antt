@@ -1,8 +1,7 @@
 -- The certificates so far were taken.
-use Rattle.std.proofs.Common.{◌≡◌, ◌+◌, ◌++◌, List, length, drop}
-use Rattle.sm_proof.specs.Lines.{ProofLine}
+use Rattle.std.proofs.Common.{◌≡◌, ◌+◌, ◌++◌, ℕ, List, length, drop}
 use Rattle.sm_proof.specs.Verdicts.{Subject, Reached}
-use Rattle.sm_check.specs.Aside.{AreWithin, ComesTo, certificates_of, joined}
+use Rattle.sm_check.specs.Aside.{ComesTo, certificates_of, joined}
 use Rattle.sm_check.proofs.taken_lines.TakenLines.check_each.Given as goal
 
 abbrev pub invariant-loop-lines : goal.invariant-loop-lines
@@ -10,9 +9,8 @@ invariant-loop-lines l = record {
   number :
       l.self.number + length (joined (certificates_of (drop l.lines-index l.certificates)))
       ≡ l.initial.self.number + length (joined (certificates_of l.certificates));
-  within : AreWithin (joined (certificates_of (drop l.lines-index l.certificates)));
   comes :
-      (s : Subject) (r : Reached) (more : List ProofLine) →
+      (s : Subject) (r : Reached) (more : List (List ℕ)) →
       ComesTo l.initial.self (joined (certificates_of l.certificates) ++ more) s r →
       ComesTo l.self (joined (certificates_of (drop l.lines-index l.certificates)) ++ more) s r;
 }

@@ -1,10 +1,9 @@
 -- One certificate more.
-use Rattle.std.proofs.Common.{◌≡◌, ◌+◌, ℕ, List, length, drop, map, refl, sym, ap, ◌∙◌, subst}
+use Rattle.std.proofs.Common.{◌≡◌, ◌+◌, ℕ, length, drop, refl, sym, ap, subst}
 use Rattle.sm_check.specs.Aside.{joined, certificates_of}
-use Rattle.sm_proof.specs.declared.line.Line.{Line}
-use Rattle.sm_proof.specs.Lines.{line_of}
+use Rattle.sm_check.specs.LineEnds.{ended_in}
 use Rattle.sm_check.proofs.AsideLemmas.{one_skipped}
-use Rattle.sm_check.proofs.AsideLists.{next_number, next_skips, all_skipped, all_counted, line_count}
+use Rattle.sm_check.proofs.AsideLists.{next_number, next_skips, all_skipped, all_counted}
 use Rattle.sm_check.proofs.taken_lines.TakenLines.skip.Goals as goal
 
 pub loop-lines-init : goal.loop-lines-init
@@ -20,16 +19,14 @@ loop-lines-preserved c = record {
       (λ (n : ℕ).
       (c.loop-lines.self.number + n) + length (joined (certificates_of (drop (c.loop-lines.lines-index + 1) c.args.certificates.now)))
       ≡ c.args.self.now.number + length (joined (certificates_of c.args.certificates.now)))
-      (sym (c.count_of.ensures ∙ ap (λ (ls : List Line). length ls) c.deref.ensures.value))
+      (sym c.lines-item.result.counted)
       (next_number c.args.certificates.now c.loop-lines.lines-index c.lines-item.result c.loop-lines.self.number _ c.loop-lines-test.true
       c.lines-item.is c.loop-lines.invariant.number);
   skips = λ s r more t close.
-      one_skipped c.loop-lines.self _ s r more (map line_of c.lines-item.result.items) _
+      one_skipped c.loop-lines.self _ s r more (ended_in c.lines-item.result.bytes.items) _
       (next_skips c.loop-lines.self s r more c.args.certificates.now c.loop-lines.lines-index c.lines-item.result c.loop-lines-test.true
       c.lines-item.is (c.loop-lines.invariant.skips s r more t close))
-      (ap (λ (n : ℕ). c.loop-lines.self.number + n)
-      (c.count_of.ensures ∙ ap (λ (ls : List Line). length ls) c.deref.ensures.value)
-      ∙ line_count c.lines-item.result.items c.loop-lines.self.number)
+      (ap (λ (n : ℕ). c.loop-lines.self.number + n) c.lines-item.result.counted)
       (λ p first rest at is. c.in_ok-self.ensures s p first rest at is);
 }
 

@@ -1,14 +1,15 @@
 -- The line is taken at the branch that is due.
-use Rattle.std.proofs.Common.{◌≡◌, Some, ap}
+use Rattle.std.proofs.Common.{◌≡◌, ◌∙◌, Ok, Some, ap}
 use Rattle.sm_term.specs.Tables.{trees_in, sorts_in}
+use Rattle.sm_proof.specs.declared.line.Line.{Line}
 use Rattle.sm_proof.specs.Lines.{numbered_line, line_of}
 use Rattle.sm_check.specs.declared.pending.Due.TheVariants as due
 use Rattle.sm_check.specs.Walks.{terms_in}
 use Rattle.sm_check.proofs.JobsLemmas.{due_first, went_on}
-use Rattle.sm_check.proofs.alone.goes_on.Goals as goal
+use Rattle.sm_check.proofs.alone.goes_on_by.Goals as goal
 
 pub returns-in-Ok : goal.returns-in-Ok
-returns-in-Ok c = λ ps stands goes.
+returns-in-Ok c = λ bytes spelled ps stands goes.
     let sorts = sorts_in c.args.table.now in
     let trees = trees_in c.args.table.now in
     let some = c.in-Some-Branch in
@@ -16,5 +17,5 @@ returns-in-Ok c = λ ps stands goes.
     let f = due_first sorts trees c.args.branch.now.path.list.items c.args.branch.now.due some.stores some.splits
     c.args.branch.now.waiting.items ps is stands in
     went_on sorts trees (terms_in trees c.args.terms.now) c.args.branch.now.path.list.items c.line_at.new.path.list.items some.stores.value
-    some.splits c.args.branch.now.waiting.items c.line_at.new.waiting.items ps (numbered_line c.in-Cert.line) (line_of c.args.line.now)
-    c.in-Ok.due f (ap line_of c.in-Cert.is) (c.in-Ok.ensures.tells f.own f.rest f.stand f.sorted f.later)
+    some.splits c.args.branch.now.waiting.items c.line_at.new.waiting.items ps (numbered_line c.in-Cert.line) bytes
+    c.in-Ok.due f (spelled ∙ ap (λ (l : Line). Ok (line_of l)) c.in-Cert.is) (c.in-Ok.ensures.tells f.own f.rest f.stand f.sorted f.later)

@@ -1,5 +1,5 @@
 use Rattle.sm_check.proofs.PieceLemmas.{end_found, end_missing}
-use Rattle.sm_check.proofs.pieces.line_end.Goals as goal
+use Rattle.sm_check.proofs.raw_lines.line_end.Goals as goal
 
 pub returns-clause-some : goal.returns-clause-some
 returns-clause-some c = end_found c.args.bytes.now c.memchr.result c.memchr.ensures

@@ -1,0 +1,15 @@
+-- So many bytes are ended lines, so many of them.
+use Rattle.std.proofs.Common.{◌≡◌, ◌≤◌, ◌-◌, [], ℕ, List, length, take}
+use Rattle.sm_proof.specs.Verdicts.{lines_in}
+use Rattle.sm_check.specs.LineEnds.{ended_in}
+use Rattle.sm_check.proofs.runs.run_of.Given as goal
+
+abbrev pub invariant-loop-count : goal.invariant-loop-count
+invariant-loop-count l = record {
+  within : l.size ≤ length l.bytes;
+  ended : (lines_in (take l.size l.bytes)).rest ≡ [];
+  counted : l.count ≡ length (ended_in (take l.size l.bytes));
+}
+
+abbrev pub decreases-loop-count : goal.decreases-loop-count
+decreases-loop-count l = l.most - l.count
