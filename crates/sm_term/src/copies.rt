@@ -20,8 +20,9 @@ impl TermTable {
         Ok(copy)
     }
 
-    // A table of no terms, with the same bodies.
-    fn copied_bodies(&self, alloc: Global) -> Result<TermTable, AllocError>
+    /// A table of no terms, with the same sorts and bodies, each body with the number that it has
+    /// here.
+    pub fn copied_bodies(&self, alloc: Global) -> Result<TermTable, AllocError>
         ensures trees { IfOk result (λ t. trees_in t ≡ []) }
         ensures sorts { IfOk result (λ t. sorts_in t ≡ sorts_in self.now) }
         ensures codes { IfOk result (λ t. codes_in t ≡ codes_in self.now) }

@@ -9,6 +9,7 @@ use Rattle.sm_num.specs.Tightening.{tightened, is_contradictory}
 use Rattle.sm_num.specs.FormLaws.{same_atom}
 use Rattle.sm_term.specs.Terms.{Tree, Neg, Add, Sub, Mul}
 use Rattle.sm_term.specs.SameTerms.{same_tree}
+use Rattle.sm_term.specs.Tables.{tree_at}
 use Rattle.sm_theory.specs.LinearTerms.{linear_of, linear_by}
 use Rattle.sm_theory.specs.Arithmetic.{same_parts, one_more}
 use Rattle.sm_theory.specs.SortedFacts.{StandOnce}
@@ -41,6 +42,12 @@ pub record IsKeptFor (trees : List Tree) (f : Linear ℕ) (g : Linear Tree) : Ty
   pub kept : IsKept f
   pub once : StandOnce g.parts
   pub stands : StandsFor trees f g
+
+-- forms of the first terms, in order
+abbrev pub AreLinearForms : List Tree → List (Linear ℕ) → Type 0
+AreLinearForms trees forms =
+    (n : ℕ) (f : Linear ℕ) → slice_get forms n ≡ Some f →
+    IsKeptFor trees f (linear_of (tree_at trees n))
 
 -- both are forms, of which one is kept for the other, or both leave the range
 abbrev pub IsOutcomeFor : List Tree → Outcome (Linear ℕ) → Outcome (Linear Tree) → Type 0

@@ -7,8 +7,9 @@
 //!   do. It is sorted where these and the line are, names no later new values than they, and is
 //!   added on each other branch on which the facts stand.
 //! - `Theory` is what a theory promises of its lines, whoever writes it.
-//! - `lin_of` gives the linear form of a term of a table, which has the term's value. A form over
-//!   numbers of terms stands for one over the terms, and so does what is computed of it.
+//! - `lin_of` gives the linear form of a term of a table, which has the term's value; so does
+//!   `next_lin`, where the forms of all terms before it are there. A form over numbers of terms stands
+//!   for one over the terms, and so does what is computed of it.
 //! - A fact is found on a branch by its number, with the terms that it compares.
 //!
 //! Read `specs/Facts.antt` first, then `specs/Lines.antt`, `specs/Ways.antt` and `specs/Laws.antt`.
@@ -33,7 +34,7 @@ pub use laws::{
     ways_are_below, ways_are_sorted, ways_move,
 };
 pub use line::{CertLine, FactNumbers};
-pub use linear::lin_of;
+pub use linear::{lin_of, next_lin};
 pub use sides::{
     contrary_at, equation_at, fact_at, form_at, formula_at, same_term, says_equal, says_unequal,
 };

@@ -10,7 +10,7 @@ ghost use Rattle.sm_num.specs.Errors.{Returns};
 ghost use Rattle.sm_term.specs.Tables.{trees_in, tree_at};
 ghost use Rattle.sm_theory.specs.LinearTerms.{linear_of, constant_form, atom_form, or_atom};
 ghost use Rattle.sm_theory.specs.LinearTerms.{scaled_form, product_form};
-ghost use Rattle.sm_theory.specs.Standing.{IsKeptFor};
+ghost use Rattle.sm_theory.specs.Standing.{IsKeptFor, AreLinearForms};
 ghost use Rattle.sm_theory.specs.FormsOfTerms.{AreFormsOf, IsFound};
 
 use sm_num::{Kind, LinForm, NumError, combine};
@@ -186,5 +186,26 @@ pub fn lin_of(alloc: Global, table: &TermTable, t: TermId) -> Result<LinForm, Al
                 None => return Ok(form),
             },
         }
+    }
+}
+
+/// The linear form of the first term that has none among these, which are those of the terms before
+/// it, in order. Its parts stand before it, so it takes one operation.
+pub fn next_lin(alloc: Global, table: &TermTable, forms: &[LinForm]) -> Result<LinForm, AllocError>
+    requires there { length forms.now < length (trees_in table.now) }
+    requires forms { AreLinearForms (trees_in table.now) forms.now }
+    ensures { let n = length forms.now in IfOk result (λ f.
+        IsKeptFor (trees_in table.now) f (linear_of (tree_at (trees_in table.now) n))) }
+{
+    // No term is there twice.
+    let _count = table.len();
+    let n = forms.len() as u64;
+    match table.get(TermId(n)) {
+        Term::Lit(z) => literal(alloc, n, z),
+        Term::Neg(a) => multiple(alloc, n, &-1, &forms[a.0 as usize]),
+        Term::Add(a, b) => sum(alloc, n, &forms[a.0 as usize], &forms[b.0 as usize]),
+        Term::Sub(a, b) => difference(alloc, n, &forms[a.0 as usize], &forms[b.0 as usize]),
+        Term::Mul(a, b) => product(alloc, n, &forms[a.0 as usize], &forms[b.0 as usize]),
+        _ => atom(alloc, n),
     }
 }
