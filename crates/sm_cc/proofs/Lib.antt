@@ -8,6 +8,7 @@ pub mod GivenLemmas
 pub mod GroundLemmas
 pub mod GrowingLemmas
 pub mod InsideLemmas
+pub mod LabelsLemmas
 pub mod LinesLemmas
 pub mod LogLemmas
 pub mod MarksLemmas

@@ -8,6 +8,8 @@ pub mod Explaining
 pub mod Firsts
 pub mod Ground
 pub mod Growing
+pub mod Labels
+pub mod LabelsAt
 pub mod Log
 pub mod Merges
 pub mod Numbered

@@ -3,8 +3,12 @@ ghost use Rattle.std.specs.Prelude.{◌≡◌, ◌↔◌, ◌<◌, ◌^◌, IsTr
 ghost use Rattle.std.specs.Prelude.{[], ◌∷◌, ◌++◌, length, map};
 ghost use Rattle.sm_term.specs.Tables.{trees_in, sorts_in, tree_at, AreBefore};
 ghost use Rattle.sm_theory.specs.Views.{line_in};
+ghost use Rattle.sm_theory.specs.Standing.{AreLinearForms};
 ghost use Rattle.sm_cc.specs.Classes.{Same, Apart};
 ghost use Rattle.sm_cc.specs.Ground.{IsGround, IsLedBy};
+ghost use Rattle.sm_cc.specs.Labels.{AreTermLabels};
+ghost use Rattle.sm_cc.specs.LabelsAt.{label_at};
+ghost use Rattle.sm_cc.specs.Positions.{place_at};
 ghost use Rattle.sm_cc.specs.Views.{ClassesValue, setting_of, IsTermOf};
 ghost use Rattle.sm_cc.specs.Views.{HaveOneSort, AreOfTwoTerms, with_given, no_terms};
 ghost use Rattle.sm_cc.specs.Views.{equation_under, contrary_under, equation_of, numbers_of};
@@ -16,6 +20,7 @@ use crate::ground::{Ground, Numbering};
 use crate::lines::lines;
 use crate::places::PlaceClasses;
 use crate::positions::Positions;
+use sm_num::LinForm;
 use sm_term::{TermId, TermTable, Terms};
 use sm_theory::CertLine;
 use std::alloc::{AllocError, Global};
@@ -64,13 +69,17 @@ impl<'a> Model for Classes<'a> {
 }
 
 impl<'a> Classes<'a> {
-    /// The classes of terms by all that is given of them. The rules are applied once.
+    /// The classes of terms by all that is given of them. The rules are applied once. The forms are
+    /// those of all terms of the table, as `next_lin` of `sm_theory` makes them one after the other.
     pub fn of(
         alloc: Global,
         table: &'a TermTable,
+        forms: &[LinForm],
         terms: &'a Terms,
         given: Vec<GivenFact>,
     ) -> Result<Classes<'a>, AllocError>
+        requires forms { AreLinearForms (trees_in table.now) forms.now }
+        requires counted { length forms.now ≡ length (trees_in table.now) }
         requires before { AreBefore (length (trees_in table.now)) terms.now.list.items }
         requires given { AreOfTwoTerms (record {
           table = table.now;
@@ -84,7 +93,7 @@ impl<'a> Classes<'a> {
         }) }
     {
         let positions = Positions::of(alloc, table, &terms.list)?;
-        let places = places_of(alloc, table, &terms.list, &positions, &given)?;
+        let places = places_of(alloc, table, forms, &terms.list, &positions, &given)?;
         Ok(Classes {
             table,
             terms: &terms.list,
@@ -94,28 +103,35 @@ impl<'a> Classes<'a> {
         })
     }
 
-    /// The classes of terms of which nothing is given.
+    /// The classes of terms of which nothing is given, by the forms of all terms of the table.
     pub fn new(
         alloc: Global,
         table: &'a TermTable,
+        forms: &[LinForm],
         terms: &'a Terms,
     ) -> Result<Classes<'a>, AllocError>
-        requires { AreBefore (length (trees_in table.now)) terms.now.list.items }
+        requires forms { AreLinearForms (trees_in table.now) forms.now }
+        requires counted { length forms.now ≡ length (trees_in table.now) }
+        requires before { AreBefore (length (trees_in table.now)) terms.now.list.items }
         ensures { IfOk result (λ c.
             c ≡ record { table = table.now; terms = terms.now.list.items; given = [] }) }
     {
-        Classes::of(alloc, table, terms, Vec::new(alloc))
+        Classes::of(alloc, table, forms, terms, Vec::new(alloc))
     }
 
-    /// The classes of terms that begin with those of others, by all that is given of them.
+    /// The classes of terms that begin with those of others, by all that is given of them. The
+    /// forms are those of all terms of the table, as `next_lin` of `sm_theory` makes them.
     pub fn over(
         alloc: Global,
         ground: &Ground,
         numbering: &mut Numbering,
         table: &'a TermTable,
+        forms: &[LinForm],
         terms: &'a Terms,
         given: Vec<GivenFact>,
     ) -> Result<Classes<'a>, AllocError>
+        requires forms { AreLinearForms (trees_in table.now) forms.now }
+        requires counted { length forms.now ≡ length (trees_in table.now) }
         requires before { AreBefore (length (trees_in table.now)) terms.now.list.items }
         requires given { AreOfTwoTerms (record {
           table = table.now;
@@ -143,6 +159,7 @@ impl<'a> Classes<'a> {
             ground,
             numbering,
             table,
+            forms,
             &terms.list,
             &positions,
             &given,
@@ -241,6 +258,15 @@ impl<'a> Classes<'a> {
             .same(self.positions.place(t), self.positions.place(u))
     }
 
+    /// A label for each term of the list: two terms have one exactly where they are in one class.
+    pub fn labels(&self, alloc: Global) -> Result<Vec<u64>, AllocError>
+        requires { AreBefore (length (trees_in self.now.table)) self.now.terms }
+        ensures { IfOk result (λ v. AreTermLabels self.now v.items) }
+    {
+        let labels = self.places.labels(alloc)?;
+        labels_of(alloc, &labels, &self.positions, self.terms)
+    }
+
     /// Whether two terms are known apart.
     pub fn apart(&self, t: TermId, u: TermId) -> bool
         requires left { t.0 < length (trees_in self.now.table) }
@@ -318,4 +344,31 @@ fn relate(
     } else {
         places.assume_apart(alloc, g.number, i, j)
     }
+}
+
+// The label at a place.
+fn label_at(labels: &[u64], place: u64) -> u64
+    ensures { result ≡ label_at labels.now place }
+{
+    match labels.get(place as usize) {
+        Some(label) => *label,
+        None => place,
+    }
+}
+
+// The labels of terms, by those of their places.
+fn labels_of(
+    alloc: Global,
+    labels: &[u64],
+    positions: &Positions,
+    terms: &[TermId],
+) -> Result<Vec<u64>, AllocError>
+    ensures { IfOk result (λ v.
+        v.items ≡ map (λ t. label_at labels.now (place_at positions.now t.0)) terms.now) }
+{
+    let mut list = Vec::new(alloc);
+    for t in terms {
+        list.push(label_at(labels, positions.place(*t)))?;
+    }
+    Ok(list)
 }

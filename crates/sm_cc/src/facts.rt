@@ -1,6 +1,7 @@
 // Given facts by the places of their terms.
 ghost use Rattle.std.specs.Prelude.{◌≡◌, [], ◌∷◌, ◌++◌, length, not, if◌then◌else◌, IfOk, OnOk};
 ghost use Rattle.sm_term.specs.Tables.{trees_in, AreBefore};
+ghost use Rattle.sm_theory.specs.Standing.{AreLinearForms};
 ghost use Rattle.sm_cc.specs.Views.{ClassesValue, trees_of, AreOfTwoTerms};
 ghost use Rattle.sm_cc.specs.Positions.{ArePositions};
 ghost use Rattle.sm_cc.specs.Assumed.{placed_fact, placed_equations, placed_contraries};
@@ -14,6 +15,7 @@ use crate::log::Given;
 use crate::places::PlaceClasses;
 use crate::positions::Positions;
 use crate::rows::{rows, rows_from};
+use sm_num::LinForm;
 use sm_term::{TermId, TermTable};
 use std::alloc::{AllocError, Global};
 
@@ -21,10 +23,13 @@ use std::alloc::{AllocError, Global};
 pub(crate) fn places_of(
     alloc: Global,
     table: &TermTable,
+    forms: &[LinForm],
     terms: &[TermId],
     positions: &Positions,
     facts: &[GivenFact],
 ) -> Result<PlaceClasses, AllocError>
+    requires forms { AreLinearForms (trees_in table.now) forms.now }
+    requires counted { length forms.now ≡ length (trees_in table.now) }
     requires before { AreBefore (length (trees_in table.now)) terms.now }
     requires positions { let trees = trees_in table.now in
         ArePositions trees (trees_of trees terms.now) positions.now }
@@ -33,23 +38,26 @@ pub(crate) fn places_of(
     ensures { IfOk result (λ p. AreClasses
         (record { table = table.now; terms = terms.now; given = facts.now }) positions.now p) }
 {
-    let rows = rows(alloc, table, positions, terms)?;
+    let rows = rows(alloc, table, forms, positions, terms)?;
     let (equal, unequal) = placed_facts(alloc, positions, facts)?;
     let places = PlaceClasses::of(alloc, rows, equal, unequal)?;
     Ok(places)
 }
 
-//// The classes of the places of terms that begin with those of others, by all that is given of the
+/// The classes of the places of terms that begin with those of others, by all that is given of the
 /// terms.
 pub(crate) fn places_over(
     alloc: Global,
     ground: &Ground,
     numbering: &mut Numbering,
     table: &TermTable,
+    forms: &[LinForm],
     terms: &[TermId],
     positions: &Positions,
     facts: &[GivenFact],
 ) -> Result<PlaceClasses, AllocError>
+    requires forms { AreLinearForms (trees_in table.now) forms.now }
+    requires counted { length forms.now ≡ length (trees_in table.now) }
     requires before { AreBefore (length (trees_in table.now)) terms.now }
     requires positions { let trees = trees_in table.now in
         ArePositions trees (trees_of trees terms.now) positions.now }
@@ -64,7 +72,7 @@ pub(crate) fn places_over(
     // A table has no term and no body twice, as its length ensures.
     table.len();
     let from = ground.closure.rows.len();
-    let more = rows_from(alloc, table, positions, numbering, terms, from)?;
+    let more = rows_from(alloc, table, forms, positions, numbering, terms, from)?;
     let (equal, unequal) = placed_facts(alloc, positions, facts)?;
     let places = PlaceClasses::over(alloc, ground, more, equal, unequal)?;
     Ok(places)

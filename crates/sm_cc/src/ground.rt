@@ -1,6 +1,7 @@
 // Classes that others begin with, whose terms go behind these.
 ghost use Rattle.std.specs.Prelude.{◌≡◌, IsTrue, length, IfOk, IfSome};
 ghost use Rattle.sm_term.specs.Tables.{trees_in, AreBefore};
+ghost use Rattle.sm_theory.specs.Standing.{AreLinearForms};
 ghost use Rattle.sm_cc.specs.Closures.{placed_of};
 ghost use Rattle.sm_cc.specs.Exact.{IsExact, placed_with};
 ghost use Rattle.sm_cc.specs.Ground.{IsGround, AreKeyed, AreInside};
@@ -19,6 +20,7 @@ use crate::rounds::settle;
 use crate::row::{Element, Row};
 use crate::rows::numbered_rows;
 use crate::shapes::Shapes;
+use sm_num::LinForm;
 use sm_term::{TermTable, Terms};
 use std::alloc::{AllocError, Global};
 
@@ -50,13 +52,17 @@ pub struct Grounded {
 
 impl Ground {
     /// The classes of terms by all that is given of them; none where an argument of a term, or an
-    /// element before it was written, isn't in the list.
+    /// element before it was written, isn't in the list. The forms are those of all terms of the
+    /// table, as `next_lin` of `sm_theory` makes them one after the other.
     pub fn of(
         alloc: Global,
         table: &TermTable,
+        forms: &[LinForm],
         terms: &Terms,
         given: &[GivenFact],
     ) -> Result<Option<Grounded>, AllocError>
+        requires forms { AreLinearForms (trees_in table.now) forms.now }
+        requires counted { length forms.now ≡ length (trees_in table.now) }
         requires before { AreBefore (length (trees_in table.now)) terms.now.list.items }
         requires given { AreOfTwoTerms (record {
           table = table.now;
@@ -70,7 +76,7 @@ impl Ground {
         }) g.ground g.numbering)) }
     {
         let positions = Positions::of(alloc, table, &terms.list)?;
-        let (rows, numbering) = numbered_rows(alloc, table, &positions, &terms.list)?;
+        let (rows, numbering) = numbered_rows(alloc, table, forms, &positions, &terms.list)?;
         let (equal, unequal) = placed_facts(alloc, &positions, given)?;
         let closure = settled(alloc, rows, equal, unequal)?;
         if !are_inside(&closure.rows) {

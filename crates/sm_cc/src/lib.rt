@@ -12,6 +12,8 @@
 //!   of which is the equation. The lines name terms of the list alone. What is needed twice has one
 //!   line.
 //! - Of terms that aren't in the list nothing is known. After want of memory no terms are left.
+//! - The linear forms of all terms of the table are handed in, made once by `next_lin` of
+//!   `sm_theory` in a loop. They aren't kept.
 //! - `Ground` is made of terms and what is given of them, once. `Classes::over` has the classes of
 //!   these terms and more behind them, of which more is given: what was found is kept, and only keys
 //!   of what is new are made.

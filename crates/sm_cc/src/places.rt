@@ -1,10 +1,11 @@
 // Classes of equal places, by what is given of them.
 ghost use Rattle.std.specs.Prelude.{◌≡◌, ◌↔◌, ◌<◌, ◌^◌, List, [], IsTrue, IfOk, OnOk, OnErr};
-ghost use Rattle.std.specs.Prelude.{length};
+ghost use Rattle.std.specs.Prelude.{length, map};
 ghost use Rattle.sm_cc.specs.Rows.{SamePlaces, ApartPlaces};
 ghost use Rattle.sm_cc.specs.Log.{Placed};
 ghost use Rattle.sm_cc.specs.Steps.{ExplainPlaces};
 ghost use Rattle.sm_cc.specs.Closures.{IsSound};
+ghost use Rattle.sm_cc.specs.Labels.{AreLabels};
 ghost use Rattle.sm_cc.specs.Ground.{AreAllGiven, AreInside, AreKeyed};
 ghost use Rattle.sm_cc.specs.Growing.{AreGrown};
 ghost use Rattle.sm_cc.specs.Exact.{nothing_given, placed_with, with_equal, with_unequal};
@@ -14,7 +15,7 @@ use crate::compare::together;
 use crate::explain::explanation;
 use crate::ground::Ground;
 use crate::growing::grown;
-use crate::log::{Given, Step};
+use crate::log::{Equation, Given, Step};
 use crate::regrounding::settle_over;
 use crate::rounds::settle;
 use crate::row::Row;
@@ -144,6 +145,13 @@ impl PlaceClasses {
         together(&self.inside, i, j)
     }
 
+    /// A label for each place: two have one exactly where they are in one class.
+    pub(crate) fn labels(&self, alloc: Global) -> Result<Vec<u64>, AllocError>
+        ensures { IfOk result (λ v. AreLabels self.now.board v.items) }
+    {
+        right_sides(alloc, &self.inside.roots)
+    }
+
     /// Whether two places are known apart.
     pub(crate) fn apart(&self, i: u64, j: u64) -> bool
         ensures { IsTrue result ↔ ApartPlaces self.now.board i j }
@@ -165,4 +173,15 @@ impl PlaceClasses {
     {
         explanation(alloc, &self.inside, i, j, start)
     }
+}
+
+// The right sides of equations.
+fn right_sides(alloc: Global, equations: &[Equation]) -> Result<Vec<u64>, AllocError>
+    ensures { IfOk result (λ v. v.items ≡ map (λ e. e.right) equations.now) }
+{
+    let mut places = Vec::new(alloc);
+    for e in equations {
+        places.push(e.right)?;
+    }
+    Ok(places)
 }

@@ -2,6 +2,7 @@
 ghost use Rattle.std.specs.Prelude.{◌≡◌, ◌<◌, ◌≤◌, ◌+◌, List, length, IfOk};
 ghost use Rattle.sm_term.specs.Terms.{Tree};
 ghost use Rattle.sm_term.specs.Tables.{trees_in, sorts_in, tree_at, AreBefore};
+ghost use Rattle.sm_theory.specs.Standing.{AreLinearForms};
 ghost use Rattle.sm_cc.specs.Numbered.{heads_met, parts_met};
 ghost use Rattle.sm_cc.specs.Views.{trees_of};
 ghost use Rattle.sm_cc.specs.Positions.{ArePositions};
@@ -14,6 +15,7 @@ use crate::heads::Heads;
 use crate::positions::Positions;
 use crate::row::Row;
 use crate::shapes::Shapes;
+use sm_num::LinForm;
 use sm_term::{TermId, TermTable};
 use std::alloc::{AllocError, Global};
 
@@ -21,16 +23,19 @@ use std::alloc::{AllocError, Global};
 pub(crate) fn rows(
     alloc: Global,
     table: &TermTable,
+    forms: &[LinForm],
     positions: &Positions,
     terms: &[TermId],
 ) -> Result<Vec<Row>, AllocError>
+    requires forms { AreLinearForms (trees_in table.now) forms.now }
+    requires counted { length forms.now ≡ length (trees_in table.now) }
     requires before { AreBefore (length (trees_in table.now)) terms.now }
     requires positions { let trees = trees_in table.now in
         ArePositions trees (trees_of trees terms.now) positions.now }
     ensures { IfOk result (λ rows.
         RowsStand (sorts_in table.now) (trees_of (trees_in table.now) terms.now) rows.items) }
 {
-    let (rows, _) = numbered_rows(alloc, table, positions, terms)?;
+    let (rows, _) = numbered_rows(alloc, table, forms, positions, terms)?;
     Ok(rows)
 }
 
@@ -38,9 +43,12 @@ pub(crate) fn rows(
 pub(crate) fn numbered_rows(
     alloc: Global,
     table: &TermTable,
+    forms: &[LinForm],
     positions: &Positions,
     terms: &[TermId],
 ) -> Result<(Vec<Row>, Numbering), AllocError>
+    requires forms { AreLinearForms (trees_in table.now) forms.now }
+    requires counted { length forms.now ≡ length (trees_in table.now) }
     requires before { AreBefore (length (trees_in table.now)) terms.now }
     requires positions { let trees = trees_in table.now in
         ArePositions trees (trees_of trees terms.now) positions.now }
@@ -55,7 +63,7 @@ pub(crate) fn numbered_rows(
         heads: Heads::new(alloc),
         shapes: Shapes::new(alloc),
     };
-    let rows = rows_from(alloc, table, positions, &mut numbering, terms, 0)?;
+    let rows = rows_from(alloc, table, forms, positions, &mut numbering, terms, 0)?;
     Ok((rows, numbering))
 }
 
@@ -63,11 +71,14 @@ pub(crate) fn numbered_rows(
 pub(crate) fn rows_from(
     alloc: Global,
     table: &TermTable,
+    forms: &[LinForm],
     positions: &Positions,
     numbering: &mut Numbering,
     terms: &[TermId],
     from: usize,
 ) -> Result<Vec<Row>, AllocError>
+    requires forms { AreLinearForms (trees_in table.now) forms.now }
+    requires counted { length forms.now ≡ length (trees_in table.now) }
     requires before { AreBefore (length (trees_in table.now)) terms.now }
     requires positions { let trees = trees_in table.now in
         ArePositions trees (trees_of trees terms.now) positions.now }
@@ -79,7 +90,7 @@ pub(crate) fn rows_from(
 {
     let mut rows = Vec::new(alloc);
     for i in from..terms.len() {
-        let row = row(alloc, table, positions, numbering, terms[i])?;
+        let row = row(alloc, table, forms, positions, numbering, terms[i])?;
         rows.push(row)?;
     }
     Ok(rows)
@@ -89,11 +100,14 @@ pub(crate) fn rows_from(
 fn row(
     alloc: Global,
     table: &TermTable,
+    forms: &[LinForm],
     positions: &Positions,
     numbering: &mut Numbering,
     t: TermId,
 ) -> Result<Row, AllocError>
-    requires { t.0 < length (trees_in table.now) }
+    requires forms { AreLinearForms (trees_in table.now) forms.now }
+    requires counted { length forms.now ≡ length (trees_in table.now) }
+    requires there { t.0 < length (trees_in table.now) }
     ensures further { IsFurther numbering.old numbering.new }
     ensures row { let trees = trees_in table.now in (terms : List Tree) →
         ArePositions trees terms positions.now → IfOk result (λ r.
@@ -103,7 +117,7 @@ fn row(
     let term = table.get(t);
     let head = numbering.heads.number(alloc, term)?;
     let arguments = positions.arguments(alloc, term)?;
-    let shape = numbering.shapes.shape(alloc, table, t)?;
+    let shape = numbering.shapes.shape(alloc, table, forms, t)?;
     let element = positions.element(table, t);
     Ok(Row {
         head,

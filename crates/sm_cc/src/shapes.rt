@@ -1,13 +1,14 @@
 // The linear forms of numbers, with numbers for their parts.
 ghost use Rattle.std.specs.Prelude.{◌≡◌, ◌<◌, ℕ, ℤ, [], length, IfOk, map, Some, slice_get};
 ghost use Rattle.sm_term.specs.Tables.{trees_in, sorts_in, tree_at};
+ghost use Rattle.sm_theory.specs.Standing.{AreLinearForms};
 ghost use Rattle.sm_cc.specs.Numbered.{StandApart, IsLonger, IsShapeAt, parts_met};
 
 use crate::row::Shape;
 use indexmap::IndexSet;
+use sm_num::LinForm;
 use sm_syntax::Sort;
 use sm_term::{TermId, TermTable};
-use sm_theory::lin_of;
 use std::alloc::{AllocError, Global};
 
 /// The parts of the forms that were met, each list once.
@@ -26,14 +27,18 @@ impl Shapes {
         }
     }
 
-    /// The form of a term, where it is a number. Parts that weren't met before get a new number.
+    /// The form of a term, where it is a number, among those of all terms. Parts that weren't met
+    /// before get a new number.
     pub(crate) fn shape(
         &mut self,
         alloc: Global,
         table: &TermTable,
+        forms: &[LinForm],
         t: TermId,
     ) -> Result<Option<Shape>, AllocError>
-        requires { t.0 < length (trees_in table.now) }
+        requires there { t.0 < length (trees_in table.now) }
+        requires forms { AreLinearForms (trees_in table.now) forms.now }
+        requires counted { length forms.now ≡ length (trees_in table.now) }
         ensures longer { IsLonger (parts_met self.old) (parts_met self.new) }
         ensures apart { StandApart (parts_met self.old) → StandApart (parts_met self.new) }
         ensures shape { let trees = trees_in table.now in
@@ -43,7 +48,7 @@ impl Shapes {
         if table.sort(t) != Sort::Num {
             return Ok(None);
         }
-        let form = lin_of(alloc, table, t)?;
+        let form = &forms[t.0 as usize];
         let parts = self.number(alloc, form.parts())?;
         Ok(Some(Shape {
             parts,

@@ -12,7 +12,7 @@ returns-clause-row c = λ terms are.
     let term = c.get-term.result.now in
     let tree : HasTree table term t = record {
       place = c.args.t.0;
-      inside = c.requires;
+      inside = c.requires.there;
       within = c.get-term.ensures.before;
       fits = c.get-term.ensures.fits;
       tree = c.get-term.ensures.tree;
@@ -20,7 +20,7 @@ returns-clause-row c = λ terms are.
     record {
       term = term;
       tree = tree;
-      arguments = arguments_stand table terms c.args.positions.now are term t tree (omega (arith, c.requires))
+      arguments = arguments_stand table terms c.args.positions.now are term t tree (omega (arith, c.requires.there))
           c.in_ok-arguments.arguments.items c.in_ok-arguments.ensures;
       element = c.element-element.ensures terms are;
       head = c.in_ok-head.ensures.head;

@@ -11,8 +11,8 @@ use Rattle.sm_cc.specs.RowOf.{AreRowsFrom}
 use Rattle.sm_cc.proofs.RowsLemmas.{rows_more, further_twice}
 use Rattle.sm_cc.proofs.rows.rows_from.Goals as goal
 
-pub row-requires : goal.row-requires
-row-requires c =
+pub row-requires-clause-there : goal.row-requires-clause-there
+row-requires-clause-there c =
     let terms = c.args.terms.now in
     part_before _ terms c.loop-i.i _ c.requires.before (slice_get-get_or terms c.loop-i.i (record { 0 = 0 }) c.loop-i-test.true)
 
