@@ -1,12 +1,14 @@
 -- A node before, while and after the contrary of a goal stands in its place.
-use Rattle.std.proofs.Common.{◌≡◌, ℕ, zero, suc, ◌+◌, ◌<◌, ◌≤◌, Some, None, get_or, List, [], ◌∷◌, ◌++◌, length, slice_get, slice_set, refl, sym, ap, subst, ◌∙◌, arith}
-use Rattle.std.proofs.lemmas.List.{length-set, length-map, length-append}
+use Rattle.std.proofs.Common.{◌≡◌, inl, inr, ℕ, zero, suc, ◌+◌, ◌<◌, ◌≤◌, Some, List, [], ◌∷◌, ◌++◌, length}
+use Rattle.std.proofs.Common.{take, drop, slice_get, slice_set, refl, sym, ap, subst, ◌∙◌, arith}
+use Rattle.std.proofs.lemmas.List.{append-nil, length-set, length-map, length-append, take-append-drop}
 use Rattle.std.specs.List.{range_with_len}
 use Rattle.sm_syntax.specs.text.Sorts.{Sorts}
+use Rattle.sm_num.specs.Forms.{Linear}
 use Rattle.sm_term.specs.declared.formula.Formula.{Formula}
 use Rattle.sm_term.specs.declared.formula.Formula.TheVariants as tree
 use Rattle.sm_term.specs.declared.term.TermId.{TermId}
-use Rattle.sm_term.specs.Assertions.{Assertion, negate}
+use Rattle.sm_term.specs.Assertions.{Assertion}
 use Rattle.sm_term.specs.Formulas.{numbered, assertion_in, IsFormulaWithin}
 use Rattle.sm_term.specs.Sorted.{AreFormsSorted, IsFormSorted}
 use Rattle.sm_term.specs.Terms.{Tree}
@@ -17,15 +19,20 @@ use Rattle.sm_cc.specs.Numbered.{IsLonger}
 use Rattle.sm_cc.specs.Views.{ClassesValue}
 use Rattle.sm_solve.specs.declared.node.Node.{Node}
 use Rattle.sm_solve.specs.declared.shared.SharedTerms.{SharedTerms}
-use Rattle.sm_solve.specs.AtGoal.{IsAtGoal, AreGroundedBelow, facts_without}
-use Rattle.sm_solve.specs.Branches.{with_parts, with_formula, with_formulas, terms_of, depth_of}
-use Rattle.sm_solve.specs.Given.{IsWhole, classes_by, given_from}
+use Rattle.sm_solve.specs.AllForms.{AreAllForms}
+use Rattle.sm_solve.specs.AtGoal.{IsAtGoal, HasRoom, facts_without}
+use Rattle.sm_solve.specs.Branches.{with_parts, with_formula, with_formulas, depth_of}
+use Rattle.sm_solve.specs.Given.{classes_by, given_from}
 use Rattle.sm_solve.specs.Listing.{trees_at, numbers_of, AreBelow, IsClosed}
 use Rattle.sm_solve.specs.Parts.{all_numbered, assertions_in, AreFormulasWithin}
 use Rattle.sm_solve.specs.Renumbered.{AreTermsOf}
-use Rattle.sm_solve.specs.Sharing.{AreShared, AreGrounded, IsNode, room_for_goal, with_those_before}
-use Rattle.sm_solve.proofs.NodeLemmas.{terms_there, added_behind, given_still, replaced_is, replaced_within, always_there, put_back}
+use Rattle.sm_solve.specs.Sharing.{AreShared, IsNode, room_for_goal, with_those_before}
+use Rattle.sm_solve.proofs.GroundingLemmas.{as_many}
+use Rattle.sm_solve.proofs.LinearsLemmas.{first_forms}
+use Rattle.sm_solve.proofs.NodeLemmas.{terms_there, added_behind, given_still, given_first, replaced_is, replaced_last, replaced_within}
+use Rattle.sm_solve.proofs.NodeLemmas.{always_there, put_back, cut_back}
 use Rattle.sm_solve.proofs.OwnLemmas.{facts_grown, facts_within_grown}
+use Rattle.sm_solve.proofs.PartsLemmas.{queue_from}
 use Rattle.sm_solve.proofs.WithTermLemmas.{closed_with_formulas, closed_none}
 use Rattle.sm_solve.proofs.SortedLemmas.{sorted-append, sorted_with}
 
@@ -44,77 +51,143 @@ own_grows old new terms more sorts codes first all = record {
   trees = (more, all ∙ ap (λ (ts : List Tree). ts ++ more) (sym first));
 }
 
--- the contrary of a goal is put in its place
-pub opened : (old new : TableValue) (given : List Assertion) (n m : Node) (fact : Formula) (form : Assertion) →
-    IsNode old given n → Grows old new → AreShared new (with_those_before (with_formula form (with_formulas (room_for_goal given) []))) m.terms →
-    m.facts.items ≡ slice_set n.facts.items n.place fact → m.place ≡ n.place → m.ground ≡ n.ground → m.numbering ≡ n.numbering →
-    assertion_in (sorts_in old) (trees_in m.terms.own) (numbered fact) ≡ form →
-    IsFormulaWithin (length (trees_in m.terms.own)) (numbered fact) →
-    depth_of form ≡ 0 → IsFormSorted (sorts_in old) form → IsAtGoal new given form m
-opened old new given n m fact form is grows shared facts place ground numbering told within flat sorted =
-    let first = with_formulas (room_for_goal given) [] in
-    let behind = added_behind form first in
-    let more = behind.0 in
-    let own = trees_in m.terms.own in
-    let now : AreShared new (first ++ more) m.terms = subst (λ (ts : List Tree). AreShared new ts m.terms) behind.1 shared in
-    let own_sorts : sorts_in m.terms.own ≡ sorts_in n.terms.own = now.sorts ∙ grows.sorts ∙ sym is.shared.sorts in
-    let own_codes : codes_in m.terms.own ≡ codes_in n.terms.own = now.codes ∙ grows.codes ∙ sym is.shared.codes in
-    let wider = own_grows n.terms.own m.terms.own first more own_sorts own_codes is.shared.own now.own in
-    let fs = n.facts.items in
-    let still : assertions_in (sorts_in m.terms.own) own (all_numbered fs)
-    ≡ assertions_in (sorts_in n.terms.own) (trees_in n.terms.own) (all_numbered fs) =
-    facts_grown n.terms.own m.terms.own wider (all_numbered fs) is.within in
-    let before : assertions_in (sorts_in old) own (all_numbered fs) ≡ room_for_goal given =
-    ap (λ (s : Sorts). assertions_in s own (all_numbered fs)) (sym is.shared.sorts ∙ sym own_sorts)
-    ∙ still ∙ ap (λ (s : Sorts). assertions_in s (trees_in n.terms.own) (all_numbered fs)) is.shared.sorts ∙ is.facts in
-    let flat_told : depth_of (assertion_in (sorts_in old) own (numbered fact)) ≡ 0 = ap depth_of told ∙ flat in
-    let at : m.facts.items ≡ slice_set fs (length given) fact = facts ∙ ap (λ (k : ℕ). slice_set fs k fact) is.place in
-    let yes = always_there (sorts_in old) own given fs before in
-    let back : facts_without m ≡ fs =
-    ap (λ (gs : List Formula). slice_set gs m.place tree.Yes) at ∙ ap (λ (k : ℕ). slice_set (slice_set fs (length given) fact) k tree.Yes)
-    (place ∙ is.place) ∙ put_back fs (length given) fact tree.Yes yes in
-    let all_is = replaced_is (sorts_in old) own given fs fact flat_told before in
-    let inside = replaced_within (length own) fs (length given) fact (facts_within_grown n.terms.own m.terms.own wider (all_numbered fs) is.within)
-    within in
-    record {
-      more = more;
-      shared = now;
-      unread = is.unread;
-      terms = sym behind.1 ∙ sym (terms_there given form flat);
-      facts =
-          ap (λ (s : Sorts). assertions_in s own (all_numbered m.facts.items)) grows.sorts
-          ∙ ap (λ (gs : List Formula). assertions_in (sorts_in old) own (all_numbered gs)) at
-          ∙ all_is ∙ ap (λ (f : Assertion). with_parts (given ++ f ∷ [])) told;
-      within = subst (λ (gs : List Formula). AreFormulasWithin (length own) (all_numbered gs)) (sym at) inside;
-      without = (
-        ap (λ (s : Sorts). assertions_in s first (all_numbered (facts_without m))) grows.sorts
-            ∙ ap (λ (gs : List Formula). assertions_in (sorts_in old) first (all_numbered gs)) back
-            ∙ ap (λ (ts : List Tree). assertions_in (sorts_in old) ts (all_numbered fs)) (sym is.shared.own) ∙ is.facts,
-        subst (λ (gs : List Formula). AreFormulasWithin (length first) (all_numbered gs)) (sym back)
-            (subst (λ (ts : List Tree). AreFormulasWithin (length ts) (all_numbered fs)) is.shared.own is.within),
-      );
-      place = place ∙ is.place;
-      there =
-          let long = place_there fs (length given) tree.Yes yes in
-          let same = ap length at ∙ length-set fs (length given) fact in
-          let here = place ∙ is.place in
-          omega (arith, long, same, here);
-      sorted = subst (λ (s : Sorts). AreFormsSorted s given) (sym grows.sorts) is.sorted;
-      contrary_sorted = subst (λ (s : Sorts). IsFormSorted s form) (sym grows.sorts) sorted;
-      grounded = record {
-        table = is.grounded.table;
-        sorts = own_sorts ∙ is.grounded.sorts;
-        codes = own_codes ∙ is.grounded.codes;
-        trees = sym is.grounded.trees ∙ is.shared.own;
-        ids = is.grounded.ids;
-        whole = is.grounded.whole;
-        counted = is.grounded.counted;
-        ground =
-            subst (λ (gs : List Formula). IsGround (classes_by is.grounded.table is.grounded.ids gs) m.ground m.numbering) (sym back)
-            (subst (λ x. IsGround (classes_by is.grounded.table is.grounded.ids fs) x m.numbering) (sym ground)
-            (subst (λ x. IsGround (classes_by is.grounded.table is.grounded.ids fs) n.ground x) (sym numbering) is.grounded.ground));
-      };
-    }
+-- the facts of a node over its terms with those of a goal
+record AreStill (sorts : Sorts) (given : List Assertion) (own : List Tree) (fs : List Formula) : Type 0 where
+  are : assertions_in sorts own (all_numbered fs) ≡ room_for_goal given
+  within : AreFormulasWithin (length own) (all_numbered fs)
+
+module _ (old new : TableValue) (given : List Assertion) (n m : Node) (form : Assertion) (is : IsNode old given n) (grows : Grows old new)
+    (shared : AreShared new (with_those_before (with_formula form (with_formulas (room_for_goal given) []))) m.terms)
+    (forms : AreAllForms (trees_in m.terms.own) m.forms.items) (later : (ls : List (Linear ℕ)) × (m.forms.items ≡ n.forms.items ++ ls)) where
+  abbrev first : List Tree
+  first = with_formulas (room_for_goal given) []
+
+  behind : (more : List Tree) × (with_those_before (with_formula form first) ≡ first ++ more)
+  behind = added_behind form first
+
+  now : AreShared new (first ++ behind.0) m.terms
+  now = subst (λ (ts : List Tree). AreShared new ts m.terms) behind.1 shared
+
+  own_sorts : sorts_in m.terms.own ≡ sorts_in n.terms.own
+  own_sorts = now.sorts ∙ grows.sorts ∙ sym is.shared.sorts
+
+  own_codes : codes_in m.terms.own ≡ codes_in n.terms.own
+  own_codes = now.codes ∙ grows.codes ∙ sym is.shared.codes
+
+  still : AreStill (sorts_in old) given (trees_in m.terms.own) n.facts.items
+  still =
+      let fs = n.facts.items in
+      let own = trees_in m.terms.own in
+      let wider = own_grows n.terms.own m.terms.own first behind.0 own_sorts own_codes is.shared.own now.own in
+      record {
+        are =
+            ap (λ (s : Sorts). assertions_in s own (all_numbered fs)) (sym is.shared.sorts ∙ sym own_sorts)
+            ∙ facts_grown n.terms.own m.terms.own wider (all_numbered fs) is.within
+            ∙ ap (λ (s : Sorts). assertions_in s (trees_in n.terms.own) (all_numbered fs)) is.shared.sorts ∙ is.facts;
+        within = facts_within_grown n.terms.own m.terms.own wider (all_numbered fs) is.within;
+      }
+
+  yes : slice_get n.facts.items (length given) ≡ Some tree.Yes
+  yes = always_there (sorts_in old) (trees_in m.terms.own) given n.facts.items still.are
+
+  -- as many facts as there is room for
+  many : length n.facts.items ≡ length (room_for_goal given)
+  many = as_many (sorts_in old) (trees_in m.terms.own) n.facts.items ∙ ap length still.are
+
+  -- the contrary of a goal is put in its place, and what parts it has behind the facts
+  at_goal : (fact : Formula) → IsLonger (slice_set n.facts.items n.place fact) m.facts.items → m.place ≡ n.place → m.ground ≡ n.ground →
+      m.numbering ≡ n.numbering →
+      assertions_in (sorts_in old) (trees_in m.terms.own) (all_numbered m.facts.items) ≡ with_parts (given ++ form ∷ []) →
+      AreFormulasWithin (length (trees_in m.terms.own)) (all_numbered m.facts.items) → IsFormSorted (sorts_in old) form →
+      IsAtGoal new given form m
+  at_goal fact longer place ground numbering told within sorted =
+      let fs = n.facts.items in
+      let own = trees_in m.terms.own in
+      let here : slice_get fs n.place ≡ Some tree.Yes = ap (slice_get fs) is.place ∙ yes in
+      let back : facts_without given m ≡ fs =
+      ap (λ (k : ℕ). slice_set (take (length (room_for_goal given)) m.facts.items) k tree.Yes) place
+      ∙ ap (λ (gs : List Formula). slice_set (take (length (room_for_goal given)) gs) n.place tree.Yes) longer.1
+      ∙ ap (λ (k : ℕ). slice_set (take k (slice_set fs n.place fact ++ longer.0)) n.place tree.Yes) (sym many)
+      ∙ cut_back fs longer.0 n.place fact tree.Yes here in
+      record {
+        more = behind.0;
+        shared = now;
+        forms = forms;
+        first_forms =
+            first_forms first n.forms.items m.forms.items later.0
+            (subst (λ (ts : List Tree). AreAllForms ts n.forms.items) is.shared.own is.forms) later.1;
+        unread = is.unread;
+        terms = sym behind.1 ∙ sym (terms_there given form);
+        facts = ap (λ (s : Sorts). assertions_in s own (all_numbered m.facts.items)) grows.sorts ∙ told;
+        within = within;
+        without = (
+          ap (λ (s : Sorts). assertions_in s first (all_numbered (facts_without given m))) grows.sorts
+              ∙ ap (λ (gs : List Formula). assertions_in (sorts_in old) first (all_numbered gs)) back
+              ∙ ap (λ (ts : List Tree). assertions_in (sorts_in old) ts (all_numbered fs)) (sym is.shared.own) ∙ is.facts,
+          subst (λ (gs : List Formula). AreFormulasWithin (length first) (all_numbered gs)) (sym back)
+              (subst (λ (ts : List Tree). AreFormulasWithin (length ts) (all_numbered fs)) is.shared.own is.within),
+        );
+        place = place ∙ is.place;
+        there =
+            let long = place_there fs n.place tree.Yes here in
+            let same = ap length back in
+            omega (arith, long, same, place);
+        sorted = subst (λ (s : Sorts). AreFormsSorted s given) (sym grows.sorts) is.sorted;
+        contrary_sorted = subst (λ (s : Sorts). IsFormSorted s form) (sym grows.sorts) sorted;
+        grounded = record {
+          table = is.grounded.table;
+          sorts = own_sorts ∙ is.grounded.sorts;
+          codes = own_codes ∙ is.grounded.codes;
+          trees = sym is.grounded.trees ∙ is.shared.own;
+          ids = is.grounded.ids;
+          whole = is.grounded.whole;
+          counted = is.grounded.counted;
+          ground =
+              subst (λ (gs : List Formula). IsGround (classes_by is.grounded.table is.grounded.ids gs) m.ground m.numbering) (sym back)
+              (subst (λ x. IsGround (classes_by is.grounded.table is.grounded.ids fs) x m.numbering) (sym ground)
+              (subst (λ x. IsGround (classes_by is.grounded.table is.grounded.ids fs) n.ground x) (sym numbering) is.grounded.ground));
+        };
+      }
+
+  module _ (fact : Formula) (told : assertion_in (sorts_in old) (trees_in m.terms.own) (numbered fact) ≡ form)
+      (within : IsFormulaWithin (length (trees_in m.terms.own)) (numbered fact)) where
+    replaced : AreFormulasWithin (length (trees_in m.terms.own)) (all_numbered (slice_set n.facts.items n.place fact))
+    replaced = replaced_within (length (trees_in m.terms.own)) n.facts.items n.place fact still.within within
+
+    -- a contrary that has no parts
+    pub opened : m.facts.items ≡ slice_set n.facts.items n.place fact → m.place ≡ n.place → m.ground ≡ n.ground →
+        m.numbering ≡ n.numbering → depth_of form ≡ 0 → IsFormSorted (sorts_in old) form → IsAtGoal new given form m
+    opened facts place ground numbering flat sorted =
+        let fs = n.facts.items in
+        let own = trees_in m.terms.own in
+        let all : assertions_in (sorts_in old) own (all_numbered m.facts.items) ≡ with_parts (given ++ form ∷ []) =
+        ap (λ (gs : List Formula). assertions_in (sorts_in old) own (all_numbered gs)) facts
+        ∙ ap (λ (k : ℕ). assertions_in (sorts_in old) own (all_numbered (slice_set fs k fact))) is.place
+        ∙ replaced_is (sorts_in old) own given fs fact (ap depth_of told ∙ flat) still.are
+        ∙ ap (λ (f : Assertion). with_parts (given ++ f ∷ [])) told in
+        at_goal fact ([], facts ∙ sym (append-nil (slice_set fs n.place fact))) place ground numbering all
+        (subst (λ (gs : List Formula). AreFormulasWithin (length own) (all_numbered gs)) (sym facts) replaced) sorted
+
+    -- a contrary at the last place, behind which its parts are put
+    pub opened_last : (mid : List Formula) → mid ≡ slice_set n.facts.items n.place fact → IsLonger mid m.facts.items →
+        ((sorts : Sorts) (trees : List Tree) → assertions_in sorts trees (all_numbered m.facts.items)
+        ≡ queue_from n.place (assertions_in sorts trees (all_numbered mid))) →
+        ((count : ℕ) → AreFormulasWithin count (all_numbered mid) → AreFormulasWithin count (all_numbered m.facts.items)) →
+        m.place ≡ n.place → m.ground ≡ n.ground → m.numbering ≡ n.numbering → length n.facts.items ≡ n.place + 1 →
+        IsFormSorted (sorts_in old) form → IsAtGoal new given form m
+    opened_last mid put longer added stay place ground numbering last sorted =
+        let fs = n.facts.items in
+        let own = trees_in m.terms.own in
+        let room : length (room_for_goal given) ≡ length given + 1 = sym many ∙ last ∙ ap (λ (k : ℕ). k + 1) is.place in
+        let queue : assertions_in (sorts_in old) own (all_numbered m.facts.items)
+        ≡ queue_from (length given) (assertions_in (sorts_in old) own (all_numbered (slice_set fs (length given) fact))) =
+        added (sorts_in old) own
+        ∙ ap (λ (gs : List Formula). queue_from n.place (assertions_in (sorts_in old) own (all_numbered gs))) put
+        ∙ ap (λ (k : ℕ). queue_from k (assertions_in (sorts_in old) own (all_numbered (slice_set fs k fact)))) is.place in
+        let all = replaced_last (sorts_in old) own given fs m.facts.items fact still.are room queue
+        ∙ ap (λ (f : Assertion). with_parts (given ++ f ∷ [])) told in
+        at_goal fact (subst (λ (gs : List Formula). IsLonger gs m.facts.items) put longer) place ground numbering all
+        (stay (length own) (subst (λ (gs : List Formula). AreFormulasWithin (length own) (all_numbered gs)) (sym put) replaced)) sorted
 
 -- an element that is put at a place
 set_there : {A : Type 0} (xs : List A) (k : ℕ) (x : A) → k < length xs → slice_get (slice_set xs k x) k ≡ Some x
@@ -168,13 +241,8 @@ led table given form n at =
     let g = at.grounded in
     let own = n.terms.own in
     let first = with_formulas (room_for_goal given) [] in
-    let fs = n.facts.items in
-    let grows : Grows g.table own = own_grows g.table own first at.more g.sorts g.codes g.trees at.shared.own in
-    let here = thing_at fs n.place at.there in
-    let yes = set_there fs n.place tree.Yes at.there in
-    let all : slice_set (facts_without n) n.place here.0 ≡ fs = put_back fs n.place tree.Yes here.0 here.1 in
-    let still = given_still 0 (facts_without n) n.place here.0 yes in (
-      classes_by g.table g.ids (facts_without n),
+    let grows : Grows g.table own = own_grows g.table own first at.more g.sorts g.codes g.trees at.shared.own in (
+      classes_by g.table g.ids (facts_without given n),
       g.ground,
       λ ids counted. record {
         table = grows;
@@ -184,24 +252,47 @@ led table given form n at =
             let more = ap length grows.trees.1 ∙ length-append (trees_in g.table) grows.trees.0 in
             counted_longer 0 g.ids ids (g.counted ∙ ap (range_with_len 0) (sym few)) (counted ∙ ap (range_with_len 0) (sym many))
             (omega (arith, many, few, more));
-        given = subst (λ (gs : List Formula). AreAllGiven (given_from 0 (facts_without n)) (given_from 0 gs)) all still;
+        given = all_given (length (room_for_goal given)) n.facts.items n.place at.there;
       },
     )
+  where
+    -- what is given of the first formulas, where what always holds stands at a place, is given of all
+    all_given : (count : ℕ) (fs : List Formula) (place : ℕ) → place < length (slice_set (take count fs) place tree.Yes) →
+        AreAllGiven (given_from 0 (slice_set (take count fs) place tree.Yes)) (given_from 0 fs)
+    all_given count fs place there =
+        let kept = take count fs in
+        let without = slice_set kept place tree.Yes in
+        let long = length-set kept place tree.Yes in
+        let inside : place < length kept = omega (arith, there, long) in
+        let here = thing_at kept place inside in
+        let one = given_still 0 without place here.0 (set_there kept place tree.Yes inside) in
+        let back = put_back kept place tree.Yes here.0 here.1 in
+        let two : AreAllGiven (given_from 0 without) (given_from 0 kept) =
+        subst (λ (gs : List Formula). AreAllGiven (given_from 0 without) (given_from 0 gs)) back one in
+        let three : AreAllGiven (given_from 0 kept) (given_from 0 fs) =
+        subst (λ (gs : List Formula). AreAllGiven (given_from 0 kept) (given_from 0 gs)) (take-append-drop count fs)
+        (given_first 0 kept (drop count fs)) in
+        λ k g is. let found = two k g is in three found.0 g found.1
 
 -- nothing but the numbering is another
-pub renumbered_goal : (table : TableValue) (given : List Assertion) (form : Assertion) (n m : Node) → m.terms ≡ n.terms → m.facts ≡ n.facts →
-    m.place ≡ n.place → m.ground ≡ n.ground →
+pub renumbered_goal : (table : TableValue) (given : List Assertion) (form : Assertion) (n m : Node) → m.terms ≡ n.terms → m.forms ≡ n.forms →
+    m.facts ≡ n.facts → m.place ≡ n.place → m.ground ≡ n.ground →
     ((v : ClassesValue) → IsGround v n.ground n.numbering → IsGround v n.ground m.numbering) →
     IsAtGoal table given form n → IsAtGoal table given form m
-renumbered_goal table given form n m terms facts place ground still at =
+renumbered_goal table given form n m terms forms facts place ground still at =
     let first = with_formulas (room_for_goal given) [] in
-    let back : facts_without m ≡ facts_without n = ap (λ x. slice_set x.items m.place tree.Yes) facts
-    ∙ ap (λ (k : ℕ). slice_set n.facts.items k tree.Yes) place in
+    let count = length (room_for_goal given) in
+    let back : facts_without given m ≡ facts_without given n = ap (λ x. slice_set (take count x.items) m.place tree.Yes) facts
+    ∙ ap (λ (k : ℕ). slice_set (take count n.facts.items) k tree.Yes) place in
     let g = at.grounded in
     let own : m.terms.own ≡ n.terms.own = ap (λ (s : SharedTerms). s.own) terms in
     record {
       more = at.more;
       shared = subst (λ (s : SharedTerms). AreShared table (first ++ at.more) s) (sym terms) at.shared;
+      forms =
+          subst (λ (o : TableValue). AreAllForms (trees_in o) m.forms.items) (sym own)
+          (subst (λ x. AreAllForms (trees_in n.terms.own) x.items) (sym forms) at.forms);
+      first_forms = subst (λ x. AreAllForms first (take (length first) x.items)) (sym forms) at.first_forms;
       unread = at.unread;
       terms = at.terms;
       facts =
@@ -215,7 +306,7 @@ renumbered_goal table given form n m terms facts place ground still at =
           × AreFormulasWithin (length first) (all_numbered gs)) (sym back) at.without;
       place = place ∙ at.place;
       there =
-          let long = ap (λ x. length x.items) facts in
+          let long = ap length back in
           let less = at.there in
           omega (arith, long, place, less);
       sorted = at.sorted;
@@ -230,20 +321,25 @@ renumbered_goal table given form n m terms facts place ground still at =
         counted = g.counted;
         ground =
             subst (λ (gs : List Formula). IsGround (classes_by g.table g.ids gs) m.ground m.numbering) (sym back)
-            (subst (λ x. IsGround (classes_by g.table g.ids (facts_without n)) x m.numbering) (sym ground)
-            (still (classes_by g.table g.ids (facts_without n)) g.ground));
+            (subst (λ x. IsGround (classes_by g.table g.ids (facts_without given n)) x m.numbering) (sym ground)
+            (still (classes_by g.table g.ids (facts_without given n)) g.ground));
       };
     }
 
 -- the contrary of a goal is taken out of its place
 pub closed : (table : TableValue) (given : List Assertion) (form : Assertion) (n m : Node) → IsAtGoal table given form n →
-    AreShared table (with_formulas (room_for_goal given) []) m.terms → m.facts.items ≡ facts_without n → m.place ≡ n.place →
+    AreShared table (with_formulas (room_for_goal given) []) m.terms →
+    m.forms.items ≡ take (length (with_formulas (room_for_goal given) [])) n.forms.items → m.facts.items ≡ facts_without given n →
+    m.place ≡ n.place →
     m.ground ≡ n.ground → m.numbering ≡ n.numbering → IsNode table given m
-closed table given form n m at shared facts place ground numbering =
+closed table given form n m at shared forms facts place ground numbering =
     let first = with_formulas (room_for_goal given) [] in
     let g = at.grounded in
     record {
       shared = shared;
+      forms =
+          subst (λ (ts : List Tree). AreAllForms ts m.forms.items) (sym shared.own)
+          (subst (AreAllForms first) (sym forms) at.first_forms);
       unread = at.unread;
       facts =
           ap (λ (ts : List Tree). assertions_in (sorts_in table) ts (all_numbered m.facts.items)) shared.own
@@ -263,8 +359,8 @@ closed table given form n m at shared facts place ground numbering =
         counted = g.counted;
         ground =
             subst (λ (gs : List Formula). IsGround (classes_by g.table g.ids gs) m.ground m.numbering) (sym facts)
-            (subst (λ x. IsGround (classes_by g.table g.ids (facts_without n)) x m.numbering) (sym ground)
-            (subst (λ x. IsGround (classes_by g.table g.ids (facts_without n)) n.ground x) (sym numbering) g.ground));
+            (subst (λ x. IsGround (classes_by g.table g.ids (facts_without given n)) x m.numbering) (sym ground)
+            (subst (λ x. IsGround (classes_by g.table g.ids (facts_without given n)) n.ground x) (sym numbering) g.ground));
       };
     }
 
@@ -287,6 +383,24 @@ room_below table given n is =
     let long = place_there n.facts.items (length given) tree.Yes yes in
     let here = is.place in
     omega (arith, long, here)
+
+-- what has room has no parts where the place of a goal isn't the last
+pub flat_there : (n : Node) (form : Assertion) → HasRoom n form → (length n.facts.items ≡ n.place + 1 → ⊥) → depth_of form ≡ 0
+flat_there n form (inl flat) other = flat
+flat_there n form (inr last) other = absurd (other last)
+
+-- as many facts as there is room for
+pub room_counted : (table : TableValue) (given : List Assertion) (n : Node) → IsNode table given n →
+    length (room_for_goal given) ≡ length n.facts.items
+room_counted table given n is = sym (as_many (sorts_in table) (trees_in n.terms.own) n.facts.items ∙ ap length is.facts)
+
+-- the place of a goal is among the facts that are left
+pub place_left : (given : List Assertion) (n : Node) (count : ℕ) (left : List Formula) → left ≡ take count n.facts.items →
+    length (room_for_goal given) ≡ count → n.place < length (facts_without given n) → n.place < length left
+place_left given n count left cut many there =
+    let same = length-set (take (length (room_for_goal given)) n.facts.items) n.place tree.Yes in
+    let kept = ap length cut ∙ ap (λ (k : ℕ). length (take k n.facts.items)) (sym many) in
+    omega (arith, there, same, kept)
 
 -- the terms of the facts are the first
 pub first_fits : (table : TableValue) (given : List Assertion) (form : Assertion) (n : Node) → IsAtGoal table given form n →

@@ -175,14 +175,13 @@ module _ (sorts : Sorts) (trees : List Tree) (facts : List Formula) (equal apart
       mapped k h e = slice_get-map (assertion_in sorts trees) (all_numbered facts) k (numbered h) (slice_get-map numbered facts k h e)
 
   -- the forms and their sources, or why there are none
-  module _ (distinct : AreApart trees) (fs gs : FormList) (fs_are : fs ≡ forms sorts trees facts equal apart)
-      (gs_are : gs ≡ forms sorts trees facts equal apart) (pairs : List Two) (are : places_of pairs ≡ pairs_of sorts equal trees 0 trees)
+  module _ (distinct : AreApart trees) (fs : FormList) (fs_are : fs ≡ forms sorts trees facts equal apart) (pairs : List Two) (are : places_of pairs ≡ pairs_of sorts equal trees 0 trees)
       (within : AreFormulasWithin (length trees) (all_numbered facts)) where
     abbrev of_classes : List Item
     of_classes = class_items fs pairs
 
     abbrev of_facts : List Item
-    of_facts = fact_items gs 0 facts
+    of_facts = fact_items fs 0 facts
 
     abbrev all_facts : Outcome FormList
     all_facts = all_led (outcomes of_facts) (Fits [])
@@ -193,7 +192,7 @@ module _ (sorts : Sorts) (trees : List Tree) (facts : List Formula) (equal apart
         (subst (λ (hs : FormList). forms_of b
         ≡ all_led (outcomes (class_items (forms sorts trees facts equal apart) pairs))
         (all_led (outcomes (fact_items hs 0 facts)) (Fits [])))
-        (sym gs_are)
+        (sym fs_are)
         (branch_led sorts trees facts equal apart distinct pairs are within))
 
     class_sources : AreItems b of_classes
@@ -202,7 +201,7 @@ module _ (sorts : Sorts) (trees : List Tree) (facts : List Formula) (equal apart
         (classes_are pairs (subst AreKnown (sym are) (pairs_known 0 trees refl (omega arith))))
 
     fact_sources : AreItems b of_facts
-    fact_sources = subst (λ (hs : FormList). AreItems b (fact_items hs 0 facts)) (sym gs_are) (facts_are 0 facts refl (omega arith) within)
+    fact_sources = subst (λ (hs : FormList). AreItems b (fact_items hs 0 facts)) (sym fs_are) (facts_are 0 facts refl (omega arith) within)
 
     pub forms_given : (first all : Made) → collected of_classes ([], []) ≡ Fits first → collected of_facts first ≡ Fits all →
         (forms_of b ≡ Fits all.0) × AreSources b all.1 all.0

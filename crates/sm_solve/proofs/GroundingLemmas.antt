@@ -14,6 +14,7 @@ use Rattle.sm_term.specs.Sorted.{AreFormsSorted}
 use Rattle.sm_term.specs.Tables.{TableValue, trees_in, sorts_in}
 use Rattle.sm_cc.specs.Ground.{IsGround}
 use Rattle.sm_solve.specs.declared.node.Node.{Node}
+use Rattle.sm_solve.specs.AllForms.{AreAllForms}
 use Rattle.sm_solve.specs.Branches.{with_formulas, terms_of}
 use Rattle.sm_solve.specs.Given.{IsWhole, classes_by}
 use Rattle.sm_solve.specs.Listing.{numbers_of}
@@ -54,13 +55,13 @@ as_many sorts trees facts = sym (length-map (all_numbered facts) (assertion_in s
 -- facts over a table of their own, in which no more terms stand than they name, with their classes
 pub node_of : (table new : TableValue) (given first second : List Assertion) (n : Node) → sorts_in new ≡ sorts_in table →
     first ≡ room_for_goal given → second ≡ room_for_goal given → AreShared new (terms_of second) n.terms →
-    length (trees_in n.terms.own) ≡ length (with_formulas first []) →
+    AreAllForms (trees_in n.terms.own) n.forms.items → length (trees_in n.terms.own) ≡ length (with_formulas first []) →
     assertions_in (sorts_in table) (trees_in n.terms.own) (all_numbered n.facts.items) ≡ second →
     AreFormulasWithin (length (trees_in n.terms.own)) (all_numbered n.facts.items) → n.place ≡ length given →
     AreFormsSorted (sorts_in table) given → (ids : List TermId) → IsWhole (trees_in n.terms.own) ids →
     numbers_of ids ≡ range_with_len 0 (length (trees_in n.terms.own)) →
     IsGround (classes_by n.terms.own ids n.facts.items) n.ground n.numbering → IsNode new given n
-node_of table new given first second n sorts one two shared count facts within place sorted ids whole counted ground =
+node_of table new given first second n sorts one two shared forms count facts within place sorted ids whole counted ground =
     let own = trees_in n.terms.own in
     let room = room_for_goal given in
     let many : length (terms_of room) ≡ length (with_formulas room []) =
@@ -69,6 +70,7 @@ node_of table new given first second n sorts one two shared count facts within p
     let none = unread room many in
     record {
       shared = subst (λ (ts : List Tree). AreShared new ts n.terms) (ap terms_of two ∙ none) shared;
+      forms = forms;
       unread = none;
       facts = ap (λ (s : Sorts). assertions_in s own (all_numbered n.facts.items)) sorts ∙ facts ∙ two;
       within = within;

@@ -1,6 +1,7 @@
 pub mod AddingLemmas
 pub mod AtGoalLemmas
 pub mod BranchFormsLemmas
+pub mod BranchLabelsLemmas
 pub mod BranchLeadsLemmas
 pub mod BranchLineLemmas
 pub mod BringsLemmas
@@ -17,6 +18,7 @@ pub mod GroundingLemmas
 pub mod GrowingLemmas
 pub mod HoldingLemmas
 pub mod KeyedLemmas
+pub mod LabelledLemmas
 pub mod LeadingLemmas
 pub mod LeadsLemmas
 pub mod LeastLemmas

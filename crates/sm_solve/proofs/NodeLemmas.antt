@@ -1,10 +1,10 @@
--- The facts of a node with the contrary of a goal at its place: the parts stand behind as they stood,
--- and the terms of the goal go behind those of the facts.
+-- The facts of a node with the contrary of a goal at its place: behind them stand their parts as they
+-- stood, or those of the contrary alone, and the terms of the goal go behind those of the facts.
 use Rattle.std.proofs.Common.{◌≡◌, ℕ, zero, suc, ◌+◌, max, Bool, true, false, Option, Some, None, List, [], ◌∷◌, ◌++◌, map, length}
-use Rattle.std.proofs.Common.{slice_get, slice_set, refl, sym, ap, ◌∙◌, subst, arith}
-use Rattle.std.proofs.lemmas.List.{append-nil, append_assoc, length-append, map-set}
+use Rattle.std.proofs.Common.{slice_get, slice_set, take, refl, sym, ap, ◌∙◌, subst, arith}
+use Rattle.std.proofs.lemmas.List.{append-nil, append_assoc, length-append, length-set, map-set}
 use Rattle.std.proofs.lemmas.Option.{same_Some}
-use Rattle.std.proofs.Math.Seq.{set-append_seam}
+use Rattle.std.proofs.Math.Seq.{set-append_seam, take-append_seam}
 use Rattle.sm_syntax.specs.text.Sorts.{Sorts}
 use Rattle.sm_term.specs.declared.formula.Formula.{Formula}
 use Rattle.sm_term.specs.declared.formula.Formula.TheVariants as tree
@@ -21,10 +21,11 @@ use Rattle.sm_solve.specs.Given.{given_from}
 use Rattle.sm_solve.specs.Listing.{IsClosed}
 use Rattle.sm_solve.specs.Parts.{all_numbered, assertions_in, AreFormulasWithin}
 use Rattle.sm_solve.specs.Sharing.{with_those_before, room_for_goal}
-use Rattle.sm_solve.proofs.BuiltLemmas.{FormulaAmong, FormulasAmong, kept_formula, formulas_kept, formulas_among}
+use Rattle.sm_solve.proofs.BuiltLemmas.{FormulaAmong, FormulasAmong, formulas_among}
 use Rattle.sm_solve.proofs.GivenLemmas.{given_from-cons}
+use Rattle.sm_solve.proofs.PartsLemmas.{flat_parts, shallow_below, with_parts-next, queue_from, queue_last}
 use Rattle.sm_solve.proofs.WithTermLemmas.{AllOf, by_arguments, with_terms, with_term_is, put_there, put_new, same_with_term}
-use Rattle.sm_solve.proofs.WithTermLemmas.{closed_none, closed_with_formula, closed_with_formulas}
+use Rattle.sm_solve.proofs.WithTermLemmas.{closed_none, closed_with_formulas}
 
 -- what is no conjunction has no parts
 no_parts : (n : Assertion) → depth_of n ≡ 0 → parts_of n ≡ []
@@ -51,6 +52,10 @@ deepest_last (f ∷ fs) n h = ap (max (depth_of f)) (deepest_last fs n h)
 abbrev parts_behind : ℕ → List Assertion → List Assertion
 parts_behind zero fs = []
 parts_behind (suc k) fs = taken_apart k (parts_of_all fs)
+
+apart_behind : (k : ℕ) (fs : List Assertion) → taken_apart k fs ≡ fs ++ parts_behind k fs
+apart_behind zero fs = sym (append-nil fs)
+apart_behind (suc k) fs = refl
 
 apart_last : (k : ℕ) (fs : List Assertion) (n : Assertion) → depth_of n ≡ 0 → taken_apart k (fs ++ n ∷ []) ≡ fs ++ n ∷ parts_behind k fs
 apart_last zero fs n h = refl
@@ -81,6 +86,58 @@ room_there given = ap (λ (fs : List Assertion). slice_get fs (length given)) (p
     seam : (fs rest : List Assertion) → slice_get (fs ++ Yes ∷ rest) (length fs) ≡ Some Yes
     seam [] rest = refl
     seam (f ∷ fs) rest = seam fs rest
+
+-- lists of no elements
+nothing : {A : Type 0} (xs : List A) → length xs ≡ 0 → xs ≡ []
+nothing [] h = refl
+nothing (x ∷ xs) h = absurd (omega arith)
+
+none_first : {A : Type 0} (xs ys : List A) → xs ++ ys ≡ [] → xs ≡ []
+none_first [] ys h = refl
+none_first (x ∷ xs) ys h = absurd cc
+
+none_second : {A : Type 0} (xs ys : List A) → xs ++ ys ≡ [] → ys ≡ []
+none_second [] ys h = h
+none_second (x ∷ xs) ys h = absurd cc
+
+-- where the place of a goal is the last of the room, no fact has parts
+none_behind : (given : List Assertion) → length (room_for_goal given) ≡ length given + 1 → parts_after given ≡ []
+none_behind given h =
+    let rest = parts_after given in
+    let long = ap length (parts_are given Yes refl) ∙ length-append given (Yes ∷ rest) in
+    nothing rest (omega (arith, long, h))
+
+no_parts_given : (given : List Assertion) → parts_after given ≡ [] → parts_of_all given ≡ []
+no_parts_given given none = by (greatest_of (map depth_of given)) refl
+  where
+    by : (k : ℕ) → greatest_of (map depth_of given) ≡ k → parts_of_all given ≡ []
+    by zero e = flat_parts given (shallow_below 0 given (omega (arith, e)))
+    by (suc k) e =
+        let parts = parts_of_all given in
+        let all : parts ++ parts_behind k parts ≡ [] = sym (apart_behind k parts) ∙ ap (λ (m : ℕ). parts_behind m given) (sym e) ∙ none in
+        none_first parts (parts_behind k parts) all
+
+-- so only the parts of the contrary stand behind it
+alone : (given : List Assertion) (n : Assertion) → parts_of_all given ≡ [] → with_parts (given ++ n ∷ []) ≡ given ++ with_parts (n ∷ [])
+alone [] n h = refl
+alone (f ∷ fs) n h =
+    let others = fs ++ n ∷ [] in
+    let one = none_first (parts_of f) (parts_of_all fs) h in
+    let rest = none_second (parts_of f) (parts_of_all fs) h in
+    with_parts-next f others
+    ∙ ap (λ (gs : List Assertion). f ∷ with_parts (others ++ gs)) one
+    ∙ ap (λ (gs : List Assertion). f ∷ with_parts gs) (append-nil others)
+    ∙ ap (λ (gs : List Assertion). f ∷ gs) (alone fs n rest)
+
+-- the facts with the contrary at the last place, behind which its parts are put
+room_end : (given all : List Assertion) (n : Assertion) → length (room_for_goal given) ≡ length given + 1 →
+    all ≡ queue_from (length given) (slice_set (room_for_goal given) (length given) n) → all ≡ with_parts (given ++ n ∷ [])
+room_end given all n last are =
+    let none = none_behind given last in
+    let room : slice_set (room_for_goal given) (length given) n ≡ given ++ n ∷ [] =
+    ap (λ (fs : List Assertion). slice_set fs (length given) n) (parts_are given Yes refl)
+    ∙ ap (λ (fs : List Assertion). slice_set (given ++ Yes ∷ fs) (length given) n) none ∙ set-append_seam given Yes [] n in
+    are ∙ ap (queue_from (length given)) room ∙ queue_last given n ∙ sym (alone given n (no_parts_given given none))
 
 -- the parts of conjunctions name no other terms
 parts_among : (seen : List Tree) (f : Assertion) → FormulaAmong seen f → FormulasAmong seen (parts_of f)
@@ -133,40 +190,31 @@ formulas-append : (fs gs : List Assertion) (seen : List Tree) → with_formulas 
 formulas-append [] gs seen = refl
 formulas-append (f ∷ fs) gs seen = formulas-append fs gs (with_formula f seen)
 
--- the parts of formulas whose terms are there change nothing
-behind_same : (given : List Assertion) → with_formulas (parts_after given) (with_formulas given []) ≡ with_formulas given []
-behind_same given =
-    let seen = with_formulas given [] in
-    same_formulas (parts_after given) seen (closed_with_formulas given [] closed_none)
-    (behind_among (greatest_of (map depth_of given)) seen given (formulas_among given []))
+-- the parts of formulas name no terms but theirs
+behind_same : (fs : List Assertion) → with_formulas (parts_after fs) (with_formulas fs []) ≡ with_formulas fs []
+behind_same fs =
+    let seen = with_formulas fs [] in
+    same_formulas (parts_after fs) seen (closed_with_formulas fs [] closed_none)
+    (behind_among (greatest_of (map depth_of fs)) seen fs (formulas_among fs []))
 
-after_parts : (given : List Assertion) (n : Assertion) →
-    with_formulas (parts_after given) (with_formula n (with_formulas given [])) ≡ with_formula n (with_formulas given [])
-after_parts given n =
-    let first = with_formulas given [] in
-    let seen = with_formula n first in
-    same_formulas (parts_after given) seen (closed_with_formula n first (closed_with_formulas given [] closed_none))
-    (formulas_kept first seen (kept_formula n first) (parts_after given)
-    (behind_among (greatest_of (map depth_of given)) first given (formulas_among given [])))
+parts_name : (fs : List Assertion) → with_formulas (with_parts fs) [] ≡ with_formulas fs []
+parts_name fs =
+    ap (λ (gs : List Assertion). with_formulas gs []) (apart_behind (greatest_of (map depth_of fs)) fs)
+    ∙ formulas-append fs (parts_after fs) [] ∙ behind_same fs
 
 -- the terms of the room are those of the facts
 pub room_terms : (given : List Assertion) → with_formulas (room_for_goal given) [] ≡ with_formulas given []
-room_terms given =
-    ap (λ (fs : List Assertion). with_formulas fs []) (parts_are given Yes refl)
-    ∙ formulas-append given (Yes ∷ parts_after given) [] ∙ behind_same given
+room_terms given = parts_name (given ++ Yes ∷ []) ∙ formulas-append given (Yes ∷ []) []
 
 -- those of a goal go behind them
-pub named_there : (given : List Assertion) (n : Assertion) → depth_of n ≡ 0 →
+pub named_there : (given : List Assertion) (n : Assertion) →
     with_formulas (with_parts (given ++ n ∷ [])) [] ≡ with_formula n (with_formulas (room_for_goal given) [])
-named_there given n h =
-    ap (λ (fs : List Assertion). with_formulas fs []) (parts_are given n h)
-    ∙ formulas-append given (n ∷ parts_after given) []
-    ∙ after_parts given n
-    ∙ ap (with_formula n) (sym (room_terms given))
+named_there given n =
+    parts_name (given ++ n ∷ []) ∙ formulas-append given (n ∷ []) [] ∙ ap (with_formula n) (sym (room_terms given))
 
-pub terms_there : (given : List Assertion) (n : Assertion) → depth_of n ≡ 0 →
+pub terms_there : (given : List Assertion) (n : Assertion) →
     terms_of (with_parts (given ++ n ∷ [])) ≡ with_those_before (with_formula n (with_formulas (room_for_goal given) []))
-terms_there given n h = ap with_those_before (named_there given n h)
+terms_there given n = ap with_those_before (named_there given n)
 
 -- terms with others behind them
 abbrev pub Behind : List Tree → List Tree → Type 0
@@ -289,6 +337,17 @@ given_still k (h ∷ fs) (suc place) f there =
     (subst (AreAllGiven (first ++ old)) (sym (given_from-cons k h (slice_set fs place f)))
     (given_behind first old new (given_still (suc k) fs place f there)))
 
+-- what is given of formulas is given where others stand behind them
+pub given_first : (k : ℕ) (fs more : List Formula) → AreAllGiven (given_from k fs) (given_from k (fs ++ more))
+given_first k [] more = λ n g is. absurd cc
+given_first k (f ∷ fs) more =
+    let first = given_from k (f ∷ []) in
+    let old = given_from (suc k) fs in
+    let new = given_from (suc k) (fs ++ more) in
+    subst (λ (gs : List GivenFact). AreAllGiven gs (given_from k (f ∷ fs ++ more))) (sym (given_from-cons k f fs))
+    (subst (AreAllGiven (first ++ old)) (sym (given_from-cons k f (fs ++ more)))
+    (given_behind first old new (given_first (suc k) fs more)))
+
 -- the program's formulas where one comes in place of another
 replaced_says : (sorts : Sorts) (trees : List Tree) (fs : List Formula) (place : ℕ) (f : Formula) →
     assertions_in sorts trees (all_numbered (slice_set fs place f))
@@ -312,6 +371,17 @@ replaced_is sorts trees given facts f flat are =
     let n = assertion_in sorts trees (numbered f) in
     replaced_says sorts trees facts (length given) f
     ∙ ap (λ (fs : List Assertion). slice_set fs (length given) n) are ∙ sym (room_with given n flat)
+
+-- the same where its place is the last, and its parts are put behind it
+pub replaced_last : (sorts : Sorts) (trees : List Tree) (given : List Assertion) (facts all : List Formula) (f : Formula) →
+    assertions_in sorts trees (all_numbered facts) ≡ room_for_goal given → length (room_for_goal given) ≡ length given + 1 →
+    assertions_in sorts trees (all_numbered all)
+    ≡ queue_from (length given) (assertions_in sorts trees (all_numbered (slice_set facts (length given) f))) →
+    assertions_in sorts trees (all_numbered all) ≡ with_parts (given ++ assertion_in sorts trees (numbered f) ∷ [])
+replaced_last sorts trees given facts all f are last added =
+    let n = assertion_in sorts trees (numbered f) in
+    let room = replaced_says sorts trees facts (length given) f ∙ ap (λ (fs : List Assertion). slice_set fs (length given) n) are in
+    room_end given (assertions_in sorts trees (all_numbered all)) n last (added ∙ ap (queue_from (length given)) room)
 
 -- what always holds stands at the place where a formula says so
 always : (sorts : Sorts) (trees : List Tree) (f : Formula) → assertion_in sorts trees (numbered f) ≡ Yes → f ≡ tree.Yes
@@ -340,3 +410,11 @@ pub put_back : (fs : List Formula) (place : ℕ) (f g : Formula) → slice_get f
 put_back [] place f g h = absurd cc
 put_back (x ∷ fs) zero f g h = ap (λ (y : Formula). y ∷ fs) (sym (same_Some x g h))
 put_back (x ∷ fs) (suc place) f g h = ap (λ (ys : List Formula). x ∷ ys) (put_back fs place f g h)
+
+-- so are the facts where more stands behind them
+pub cut_back : (fs more : List Formula) (place : ℕ) (f g : Formula) → slice_get fs place ≡ Some g →
+    slice_set (take (length fs) (slice_set fs place f ++ more)) place g ≡ fs
+cut_back fs more place f g there =
+    let first = slice_set fs place f in
+    ap (λ (k : ℕ). slice_set (take k (first ++ more)) place g) (sym (length-set fs place f))
+    ∙ ap (λ (gs : List Formula). slice_set gs place g) (take-append_seam first more) ∙ put_back fs place f g there

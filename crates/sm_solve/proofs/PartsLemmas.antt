@@ -49,7 +49,7 @@ flat_part (Ne sort t u) h = refl
 flat_part (Le t u) h = refl
 flat_part (Lt t u) h = refl
 
-flat_parts : (fs : List Assertion) → AreShallow 0 fs → parts_of_all fs ≡ []
+pub flat_parts : (fs : List Assertion) → AreShallow 0 fs → parts_of_all fs ≡ []
 flat_parts [] h = refl
 flat_parts (f ∷ fs) h = ap (λ (gs : List Assertion). gs ++ parts_of_all fs) (flat_part f h.0) ∙ flat_parts fs h.1
 

@@ -42,6 +42,7 @@ pub node_grown : (old new : TableValue) (given : List Assertion) (n : Node) → 
     IsNode old given n → IsNode new given n
 node_grown old new given n grows apart is = record {
   shared = shared_grown old new (with_formulas (room_for_goal given) []) n.terms grows apart is.shared;
+  forms = is.forms;
   unread = is.unread;
   facts = ap (λ (s : Sorts). assertions_in s (trees_in n.terms.own) (all_numbered n.facts.items)) grows.sorts ∙ is.facts;
   within = is.within;

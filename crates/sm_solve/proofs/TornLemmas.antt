@@ -1,11 +1,11 @@
 -- Pairs of terms that are torn are told by the linear forms of their numbers.
-use Rattle.std.proofs.Common.{◌≡◌, ◌↔◌, ℕ, ℤ, pos, suc, ◌<◌, Bool, true, false, ◌&&◌, ◌||◌, not, Option, Some, None, List, [], ◌∷◌, ◌++◌}
-use Rattle.std.proofs.Common.{length, get_or, ◌==◌, refl, sym, ap, subst, ◌∙◌, below_more, arith}
+use Rattle.std.proofs.Common.{◌≡◌, ◌↔◌, ℕ, ℤ, pos, suc, ◌<◌, Bool, true, false, ◌&&◌, ◌||◌, not, Option, Some, None, List, [], ◌∷◌}
+use Rattle.std.proofs.Common.{length, get_or, ◌==◌, refl, sym, ap, ◌∙◌, arith}
 use Rattle.std.specs.List.{list_any}
 use Rattle.std.specs.Ordering.{int_eq}
 use Rattle.std.specs.Bool.{Decides}
 use Rattle.std.proofs.lemmas.Bool.Decides.{Decides-eqb, Decides-int_eq}
-use Rattle.std.proofs.lemmas.List.{get_or_append_left, get_or_push, get_or_default, length_push}
+use Rattle.std.proofs.lemmas.Option.{slice_get-get_or}
 use Rattle.sm_syntax.specs.text.Sorts.{Sorts}
 use Rattle.sm_num.specs.Forms.{Linear}
 use Rattle.sm_term.specs.declared.term.TermId.{TermId}
@@ -16,7 +16,8 @@ use Rattle.sm_theory.specs.Arithmetic.{is_numeric, same_parts}
 use Rattle.sm_theory.specs.Standing.{IsKeptFor}
 use Rattle.sm_theory.proofs.LinearLater.{same_parts_stand}
 use Rattle.sm_cc.specs.Classes.{Pairs}
-use Rattle.sm_solve.specs.Torn.{torn_by, any_torn, IsNumberForm, AreFirstForms, AreNumberForms, IsPartnerIf}
+use Rattle.sm_solve.specs.AllForms.{AreAllForms}
+use Rattle.sm_solve.specs.Torn.{torn_by, any_torn, IsPartnerIf}
 
 -- of a list none passes where none at a place does
 pub none_passes : {X : Type 0} (p : X → Bool) (d : X) (xs : List X) → ((m : ℕ) → m < length xs → p (get_or xs m d) ≡ false) →
@@ -25,28 +26,33 @@ none_passes p d [] h = refl
 none_passes p d (x ∷ xs) h =
     ap (λ (b : Bool). b || list_any p xs) (h 0 (omega arith)) ∙ none_passes p d xs (λ m k. h (suc m) (omega arith))
 
--- one form more
-pub forms_push : (sorts : Sorts) (trees : List Tree) (forms : List (Option (Linear ℕ))) (o : Option (Linear ℕ)) (n : ℕ) → length forms ≡ n →
-    AreFirstForms sorts trees forms → IsNumberForm sorts trees (tree_at trees n) o → AreFirstForms sorts trees (forms ++ o ∷ [])
-forms_push sorts trees forms o n count each one m inside =
-    let more = length_push forms o in
-    below_more (λ (k : ℕ). IsNumberForm sorts trees (tree_at trees k) (get_or (forms ++ o ∷ []) k None)) n
-    (λ k below. subst (IsNumberForm sorts trees (tree_at trees k)) (sym (get_or_append_left forms (o ∷ []) None k (omega (arith, count))))
-    (each k (omega (arith, count))))
-    (subst (IsNumberForm sorts trees (tree_at trees n)) (sym (get_or_push forms o None n count)) one)
-    m (omega (arith, count, more))
-
 module _ (sorts : Sorts) (equal : Pairs) (t u : Tree) where
   -- what is compared of two numbers
   abbrev rest : Bool
   rest = same_parts (linear_of t) (linear_of u) && not (int_eq (linear_of t).constant (linear_of u).constant)
 
-  -- two numbers
-  pub torn_numbers : is_numeric sorts t ≡ true → is_numeric sorts u ≡ true → (r : Bool) → r ≡ (equal t u && rest) →
-      r ≡ torn_by sorts equal t u
-  torn_numbers one other r is =
-      is ∙ ap (λ (b : Bool). equal t u && b)
-      (sym (ap (λ (b : Bool). b && (is_numeric sorts u && rest)) one ∙ ap (λ (b : Bool). b && rest) other))
+  -- a number, which is compared before the sort of the other is looked at
+  pub torn_then : is_numeric sorts t ≡ true → (r : Bool) → r ≡ (equal t u && rest) → r ≡ true →
+      is_numeric sorts u ≡ torn_by sorts equal t u
+  torn_then one r is e =
+      by (equal t u) (is_numeric sorts u) rest (sym is ∙ e)
+      ∙ ap (λ (b : Bool). equal t u && (b && (is_numeric sorts u && rest))) (sym one)
+    where
+      by : (a n b : Bool) → (a && b) ≡ true → n ≡ (a && (n && b))
+      by true true b e = sym e
+      by true false b e = refl
+      by false n b e = absurd cc
+
+  pub torn_else : is_numeric sorts t ≡ true → (r : Bool) → r ≡ (equal t u && rest) → r ≡ false → r ≡ torn_by sorts equal t u
+  torn_else one r is e =
+      e
+      ∙ by (equal t u) (is_numeric sorts u) rest (sym is ∙ e)
+      ∙ ap (λ (b : Bool). equal t u && (b && (is_numeric sorts u && rest))) (sym one)
+    where
+      by : (a n b : Bool) → (a && b) ≡ false → false ≡ (a && (n && b))
+      by true true b e = sym e
+      by true false b e = refl
+      by false n b e = refl
 
   -- a term that is no number is torn from none
   pub no_left : is_numeric sorts t ≡ false → torn_by sorts equal t u ≡ false
@@ -56,20 +62,12 @@ module _ (sorts : Sorts) (equal : Pairs) (t u : Tree) where
       and_false true = refl
       and_false false = refl
 
-  pub no_right : is_numeric sorts u ≡ false → torn_by sorts equal t u ≡ false
-  no_right h = ap (λ (b : Bool). equal t u && (is_numeric sorts t && (b && rest))) h ∙ by (equal t u) (is_numeric sorts t)
-    where
-      by : (b c : Bool) → (b && (c && false)) ≡ false
-      by true true = refl
-      by true false = refl
-      by false c = refl
-
 -- the form of a term of a table
-pub form_at : (sorts : Sorts) (trees : List Tree) (forms : List (Option (Linear ℕ))) → AreNumberForms sorts trees forms →
-    (n : ℕ) (o : Option (Linear ℕ)) → n < length trees → o ≡ get_or forms n o → IsNumberForm sorts trees (tree_at trees n) o
-form_at sorts trees forms all n o inside is =
-    let within : n < length forms = omega (arith, all.count) in
-    subst (IsNumberForm sorts trees (tree_at trees n)) (get_or_default forms n None o within ∙ sym is) (all.each n within)
+pub form_at : (trees : List Tree) (forms : List (Linear ℕ)) (n : ℕ) (f : Linear ℕ) → AreAllForms trees forms → n < length trees →
+    f ≡ get_or forms n f → IsKeptFor trees f (linear_of (tree_at trees n))
+form_at trees forms n f all inside is =
+    let within : n < length forms = omega (arith, inside, all.counted) in
+    all.each n f (slice_get-get_or forms n f within ∙ ap Some (sym is))
 
 -- a term that is no number has no partner
 pub no_partner : (sorts : Sorts) (equal : Pairs) (trees : List Tree) (t : Tree) → is_numeric sorts t ≡ false →

@@ -1,3 +1,4 @@
+pub mod AllForms
 pub mod Answers
 pub mod AtGoal
 pub mod Branches
@@ -8,6 +9,7 @@ pub mod Given
 pub mod Holding
 pub mod Keyed
 pub mod Leading
+pub mod Labelled
 pub mod Listing
 pub mod Making
 pub mod Own

@@ -1,14 +1,8 @@
 -- Cited by public clauses: what stands for the same under other numbers of terms.
-use Rattle.std.specs.Prelude.{◌≡◌, ℕ, List, length}
-use Rattle.sm_syntax.specs.text.Sorts.{Sorts}
+use Rattle.std.specs.Prelude.{◌≡◌, List, length}
 use Rattle.sm_term.specs.declared.term.TermId.{TermId}
 use Rattle.sm_term.specs.Terms.{Tree}
-use Rattle.sm_term.specs.Tables.{TableValue, trees_in, sorts_in}
-use Rattle.sm_term.specs.Assertions.{Assertion}
-use Rattle.sm_solve.specs.declared.own.OwnBranch.{OwnBranch}
-use Rattle.sm_solve.specs.Branches.{terms_of}
 use Rattle.sm_solve.specs.Listing.{trees_at, numbers_of, AreBelow}
-use Rattle.sm_solve.specs.Parts.{all_numbered, assertions_in, AreFormulasWithin}
 
 -- terms of a table are those of a list, in order
 pub record AreTermsOf (trees : List Tree) (ids : List TermId) (terms : List Tree) : Type 0 where

@@ -1,5 +1,5 @@
 -- Cited by public clauses: the facts of a node, whose terms and classes its goals share.
-use Rattle.std.specs.Prelude.{◌≡◌, ℕ, ◌≤◌, List, [], ◌∷◌, ◌++◌, length, map}
+use Rattle.std.specs.Prelude.{◌≡◌, ◌≤◌, List, [], ◌∷◌, ◌++◌, length, map}
 use Rattle.std.specs.List.{range_with_len}
 use Rattle.sm_term.specs.declared.term.TermId.{TermId}
 use Rattle.sm_term.specs.Assertions.{Assertion, Yes}
@@ -9,6 +9,7 @@ use Rattle.sm_term.specs.Tables.{TableValue, trees_in, sorts_in, codes_in}
 use Rattle.sm_cc.specs.Ground.{IsGround}
 use Rattle.sm_solve.specs.declared.shared.SharedTerms.{SharedTerms}
 use Rattle.sm_solve.specs.declared.node.Node.{Node}
+use Rattle.sm_solve.specs.AllForms.{AreAllForms}
 use Rattle.sm_solve.specs.Branches.{with_parts, with_formulas, with_all_reads, writes_on}
 use Rattle.sm_solve.specs.Branches.{greatest_of, terms_of}
 use Rattle.sm_solve.specs.Given.{IsWhole, classes_by}
@@ -50,6 +51,7 @@ pub record AreGrounded (own : TableValue) (n : Node) : Type 0 where
 -- a node has these facts; no element that they read was written before
 pub record IsNode (table : TableValue) (given : List Assertion) (n : Node) : Type 0 where
   pub shared : AreShared table (with_formulas (room_for_goal given) []) n.terms
+  pub forms : AreAllForms (trees_in n.terms.own) n.forms.items
   pub unread : terms_of (room_for_goal given) ≡ with_formulas (room_for_goal given) []
   pub facts :
       assertions_in (sorts_in table) (trees_in n.terms.own) (all_numbered n.facts.items)

@@ -1,16 +1,13 @@
--- Private: equal numbers whose linear forms differ in the constant alone, by forms that were made.
-use Rattle.std.specs.Prelude.{◌≡◌, ℕ, ℤ, ◌<◌, IsTrue, Bool, true, false, ◌&&◌, not}
-use Rattle.std.specs.Prelude.{Option, Some, None, List, length, get_or}
+-- Private: equal numbers whose linear forms differ in the constant alone.
+use Rattle.std.specs.Prelude.{◌≡◌, ℤ, ◌<◌, IsTrue, Bool, false, ◌&&◌, not}
+use Rattle.std.specs.Prelude.{Option, Some, None, List, length}
 use Rattle.std.specs.List.{list_any}
 use Rattle.std.specs.Ordering.{int_eq}
 use Rattle.sm_syntax.specs.text.Sorts.{Sorts}
-use Rattle.sm_num.specs.Forms.{Linear}
 use Rattle.sm_term.specs.declared.term.TermId.{TermId}
 use Rattle.sm_term.specs.Terms.{Tree}
 use Rattle.sm_term.specs.Tables.{tree_at}
-use Rattle.sm_theory.specs.LinearTerms.{linear_of}
-use Rattle.sm_theory.specs.Arithmetic.{is_numeric, compared_forms}
-use Rattle.sm_theory.specs.Standing.{IsKeptFor}
+use Rattle.sm_theory.specs.Arithmetic.{compared_forms}
 use Rattle.sm_cc.specs.Classes.{Pairs}
 
 -- whether two terms are equal and their linear forms differ in the constant alone
@@ -21,23 +18,6 @@ torn_by sorts equal t u =
 -- whether a term is torn from one of some terms
 abbrev pub any_torn : Sorts → Pairs → List Tree → Tree → Bool
 any_torn sorts equal terms t = list_any (torn_by sorts equal t) terms
-
--- the form of a number, none of another term
-abbrev pub IsNumberForm : Sorts → List Tree → Tree → Option (Linear ℕ) → Type 0
-IsNumberForm sorts trees t None = is_numeric sorts t ≡ false
-IsNumberForm sorts trees t (Some f) =
-    (is_numeric sorts t ≡ true) × IsKeptFor trees f (linear_of t)
-
--- the forms of the first terms of a table
-abbrev pub AreFirstForms : Sorts → List Tree → List (Option (Linear ℕ)) → Type 0
-AreFirstForms sorts trees forms =
-    (n : ℕ) → n < length forms → IsNumberForm sorts trees (tree_at trees n) (get_or forms n None)
-
--- the forms of all terms of a table
-pub record AreNumberForms (sorts : Sorts) (trees : List Tree) (forms : List (Option (Linear ℕ)))
-    : Type 0 where
-  pub count : length forms ≡ length trees
-  pub each : AreFirstForms sorts trees forms
 
 -- a term from which another is torn, or none where there is none
 abbrev pub IsPartnerIf : Sorts → List Tree → Pairs → Tree → Option TermId → Type 0

@@ -6,6 +6,7 @@ ghost use Rattle.sm_term.specs.Tables.{trees_in, sorts_in};
 ghost use Rattle.sm_cc.specs.Classes.{are_apart};
 ghost use Rattle.sm_cc.specs.Rounds.{are_equal};
 ghost use Rattle.sm_cc.specs.Views.{setting_of};
+ghost use Rattle.sm_solve.specs.AllForms.{AreAllForms};
 ghost use Rattle.sm_solve.specs.Given.{IsWhole, given_from, classes_by, branch_of};
 ghost use Rattle.sm_solve.specs.Listing.{numbers_of};
 ghost use Rattle.sm_solve.specs.Parts.{all_numbered, assertions_in, AreFormulasWithin};
@@ -13,6 +14,7 @@ ghost use Rattle.sm_solve.specs.Seeing.{seen_in};
 
 use crate::seeing::Sees;
 use sm_cc::{Classes, GivenFact};
+use sm_num::LinForm;
 use sm_term::{Formula, TermId, TermTable, Terms};
 use std::alloc::{AllocError, Global};
 
@@ -50,14 +52,16 @@ pub fn all_terms(alloc: Global, table: &TermTable) -> Result<Terms, AllocError>
     Ok(Terms { list })
 }
 
-/// The classes of all terms of a table, by the equations and contraries among facts. A fact's
-/// number is its place.
+/// The classes of all terms of a table, by the equations and contraries among facts and the forms of
+/// the terms. A fact's number is its place.
 pub fn classes_of<'a>(
     alloc: Global,
     table: &'a TermTable,
+    forms: &[LinForm],
     terms: &'a Terms,
     facts: &[Formula],
 ) -> Result<Classes<'a>, AllocError>
+    requires forms { AreAllForms (trees_in table.now) forms.now }
     requires whole { IsWhole (trees_in table.now) terms.now.list.items }
     requires within { AreFormulasWithin (length (trees_in table.now)) (all_numbered facts.now) }
     requires sorted { AreFormsSorted (sorts_in table.now)
@@ -71,7 +75,7 @@ pub fn classes_of<'a>(
         ≡ branch_of table.now facts.now) }
 {
     let given = given_facts(alloc, facts)?;
-    let classes = Classes::of(alloc, table, terms, given)?;
+    let classes = Classes::of(alloc, table, forms, terms, given)?;
     Ok(classes)
 }
 

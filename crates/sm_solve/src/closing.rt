@@ -2,6 +2,7 @@
 ghost use Rattle.std.specs.Prelude.{◌≡◌, length, IfOk, is_some};
 ghost use Rattle.std.specs.List.{list_any};
 ghost use Rattle.sm_term.specs.Tables.{trees_in, sorts_in};
+ghost use Rattle.sm_solve.specs.AllForms.{AreAllForms};
 ghost use Rattle.sm_solve.specs.Closings.{IfClosing};
 ghost use Rattle.sm_solve.specs.Holding.{is_refuted, is_closed, split_of};
 ghost use Rattle.sm_solve.specs.Parts.{all_numbered, assertions_in, AreFormulasWithin};
@@ -13,6 +14,7 @@ use crate::keyed::KeyedFacts;
 use crate::seeing::Sees;
 use crate::splits::{first_index_split, first_order_split, first_part_split};
 use crate::torn::torn_terms;
+use sm_num::LinForm;
 use sm_term::{Formula, TermId, TermTable};
 use sm_theory::CertLine;
 use std::alloc::{AllocError, Global};
@@ -26,28 +28,30 @@ pub enum Closing {
     Torn(TermId, TermId),
 }
 
-/// Why the branch of these facts is closed at once, where it is; its terms are those of the table.
+/// Why the branch of these facts is closed at once, where it is; its terms are those of the table,
+/// and the forms those of the terms.
 pub fn closed_by<S: Sees>(
-    alloc: Global,
     sees: &S,
     table: &TermTable,
+    forms: &[LinForm],
     facts: &[Formula],
-) -> Result<Option<Closing>, AllocError>
+) -> Option<Closing>
     requires table { S.trees sees.now ≡ trees_in table.now }
+    requires forms { AreAllForms (trees_in table.now) forms.now }
     requires facts { AreFormulasWithin (length (trees_in table.now)) (all_numbered facts.now) }
     ensures closed { let trees = trees_in table.now in let sorts = sorts_in table.now in
         let b = seen_in sorts trees trees facts.now (S.equal sees.now) (S.apart sees.now) in
-        IfOk result (λ o. is_some o ≡ is_closed b) }
+        is_some result ≡ is_closed b }
     ensures why { let trees = trees_in table.now in let sorts = sorts_in table.now in
         let b = seen_in sorts trees trees facts.now (S.equal sees.now) (S.apart sees.now) in
-        IfOk result (λ o. IfClosing b o) }
+        IfClosing b result }
 {
     if let Some(why) = refuted(sees, table, facts) {
-        return Ok(Some(why));
+        return Some(why);
     }
-    match torn_terms(alloc, sees, table)? {
-        Some((t, u)) => Ok(Some(Closing::Torn(t, u))),
-        None => Ok(None),
+    match torn_terms(sees, table, forms) {
+        Some((t, u)) => Some(Closing::Torn(t, u)),
+        None => None,
     }
 }
 

@@ -2,6 +2,8 @@
 ghost use Rattle.std.specs.Prelude.{◌≡◌, ◌≤◌, ℕ, List, length, IfOk};
 ghost use Rattle.sm_term.specs.Terms.{Tree};
 ghost use Rattle.sm_term.specs.Tables.{trees_in, sorts_in};
+ghost use Rattle.sm_solve.specs.AllForms.{AreAllForms};
+ghost use Rattle.sm_solve.specs.Labelled.{AreLabels};
 ghost use Rattle.sm_solve.specs.Parts.{all_numbered, AreFormulasWithin};
 ghost use Rattle.sm_solve.specs.Refutations.{TellsForms, ShowsWhy, IsCountWithin};
 ghost use Rattle.sm_solve.specs.Seeing.{seen_in};
@@ -10,7 +12,7 @@ ghost use Rattle.sm_solve.specs.Walk.{Walked, by_forms, forms_of};
 use crate::forms::{Source, forms_of};
 use crate::seeing::Sees;
 use crate::summing::eliminate;
-use sm_num::{NumError, Op};
+use sm_num::{LinForm, NumError, Op};
 use sm_term::{Formula, TermId, TermTable};
 use std::alloc::{AllocError, Global};
 
@@ -45,16 +47,20 @@ pub enum ByForms {
 }
 
 /// What the forms of the branch of these facts come to after `count` steps of `steps`; its terms
-/// are those of the table.
+/// are those of the table, the forms those of the terms, and labels tell their classes.
 pub fn by_forms<S: Sees>(
     alloc: Global,
     sees: &S,
+    labels: &[u64],
     table: &TermTable,
+    forms: &[LinForm],
     facts: &[Formula],
     steps: u64,
     count: u64,
 ) -> Result<ByForms, AllocError>
     requires table { S.trees sees.now ≡ trees_in table.now }
+    requires labels { AreLabels (trees_in table.now) (S.equal sees.now) labels.now }
+    requires forms { AreAllForms (trees_in table.now) forms.now }
     requires facts { AreFormulasWithin (length (trees_in table.now)) (all_numbered facts.now) }
     requires counted { count ≤ steps }
     ensures forms { let trees = trees_in table.now in
@@ -68,7 +74,7 @@ pub fn by_forms<S: Sees>(
         IfOk result (λ r. ShowsWhy b r) }
     ensures counted { IfOk result (λ r. IsCountWithin steps r) }
 {
-    match forms_of(alloc, sees, table, facts) {
+    match forms_of(alloc, sees, labels, table, forms, facts) {
         Ok(made) => eliminate(alloc, made, table.len(), steps, count),
         Err(NumError::Beyond { op, a, b }) => Ok(ByForms::Coefficient { op, a, b }),
         Err(NumError::Memory) => Err(AllocError),

@@ -7,6 +7,7 @@ ghost use Rattle.sm_term.specs.Sorted.{AreFormsSorted};
 ghost use Rattle.sm_term.specs.Tables.{trees_in, sorts_in};
 ghost use Rattle.sm_cc.specs.Ground.{IsGround, IsLedBy};
 ghost use Rattle.sm_cc.specs.Views.{ClassesValue};
+ghost use Rattle.sm_solve.specs.AllForms.{AreAllForms};
 ghost use Rattle.sm_solve.specs.Branches.{with_parts};
 ghost use Rattle.sm_solve.specs.Given.{IsWhole, classes_by, branch_of};
 ghost use Rattle.sm_solve.specs.Listing.{numbers_of};
@@ -22,6 +23,7 @@ use crate::solving::Leaf;
 use crate::visiting::{Visit, visit_classes};
 use crate::walking::walk_parts;
 use sm_cc::{Classes, Ground, Numbering};
+use sm_num::LinForm;
 use sm_term::{Formula, TermTable, Terms};
 use std::alloc::{AllocError, Global};
 
@@ -31,10 +33,12 @@ fn first_visit(
     ground: &Ground,
     numbering: &mut Numbering,
     table: &TermTable,
+    forms: &[LinForm],
     terms: &Terms,
     facts: &[Formula],
     steps: u64,
 ) -> Result<Visit, AllocError>
+    requires forms { AreAllForms (trees_in table.now) forms.now }
     requires whole { IsWhole (trees_in table.now) terms.now.list.items }
     requires within { AreFormulasWithin (length (trees_in table.now)) (all_numbered facts.now) }
     requires sorted { AreFormsSorted (sorts_in table.now)
@@ -54,19 +58,21 @@ fn first_visit(
         IsGround v ground.now numbering.new }
 {
     let given = given_facts(alloc, facts)?;
-    let classes = Classes::over(alloc, ground, numbering, table, terms, given)?;
-    visit_classes(alloc, &classes, table, terms, facts, steps, 1)
+    let classes = Classes::over(alloc, ground, numbering, table, forms, terms, given)?;
+    visit_classes(alloc, &classes, table, forms, terms, facts, steps, 1)
 }
 
 // The walk from the branch of these facts after its visit.
 fn after_visit(
     alloc: Global,
     table: &TermTable,
+    forms: &[LinForm],
     terms: &Terms,
     steps: u64,
     facts: &[Formula],
     visit: Visit,
 ) -> Result<WalkEnd, AllocError>
+    requires forms { AreAllForms (trees_in table.now) forms.now }
     requires whole { IsWhole (trees_in table.now) terms.now.list.items }
     requires within { AreFormulasWithin (length (trees_in table.now)) (all_numbered facts.now) }
     requires sorted { AreFormsSorted (sorts_in table.now)
@@ -92,7 +98,17 @@ fn after_visit(
         }
         Visit::Split { count: at, split } => {
             let mut branch = copy_facts(alloc, facts)?;
-            walk_parts(alloc, table, terms, steps, 1000, at, &mut branch, split)
+            walk_parts(
+                alloc,
+                table,
+                forms,
+                terms,
+                steps,
+                1000,
+                at,
+                &mut branch,
+                split,
+            )
         }
         Visit::Steps => Ok(WalkEnd::Steps),
         Visit::Coefficient { op, a, b } => Ok(WalkEnd::Coefficient { op, a, b }),
@@ -105,10 +121,12 @@ fn first_walk(
     ground: &Ground,
     numbering: &mut Numbering,
     table: &TermTable,
+    forms: &[LinForm],
     terms: &Terms,
     facts: &[Formula],
     steps: u64,
 ) -> Result<WalkEnd, AllocError>
+    requires forms { AreAllForms (trees_in table.now) forms.now }
     requires whole { IsWhole (trees_in table.now) terms.now.list.items }
     requires within { AreFormulasWithin (length (trees_in table.now)) (all_numbered facts.now) }
     requires sorted { AreFormsSorted (sorts_in table.now)
@@ -127,20 +145,23 @@ fn first_walk(
     if steps == 0 {
         return Ok(WalkEnd::Steps);
     }
-    let visit = first_visit(alloc, ground, numbering, table, terms, facts, steps)?;
-    after_visit(alloc, table, terms, steps, facts, visit)
+    let visit = first_visit(alloc, ground, numbering, table, forms, terms, facts, steps)?;
+    after_visit(alloc, table, forms, terms, steps, facts, visit)
 }
 
 /// The walk of facts that are given with all parts of their conjunctions. Its classes begin with those
-/// of the ground. The certificate is of the branch of the facts that are given alone.
+/// of the ground, and its forms are those of all terms of the table. The certificate is of the branch
+/// of the facts that are given alone.
 pub(crate) fn walk_over(
     alloc: Global,
     ground: &Ground,
     numbering: &mut Numbering,
     table: &TermTable,
+    forms: &[LinForm],
     facts: &[Formula],
     steps: u64,
 ) -> Result<WalkEnd, AllocError>
+    requires forms { AreAllForms (trees_in table.now) forms.now }
     requires within { AreFormulasWithin (length (trees_in table.now)) (all_numbered facts.now) }
     requires sorted { AreFormsSorted (sorts_in table.now)
         (assertions_in (sorts_in table.now) (trees_in table.now) (all_numbered facts.now)) }
@@ -159,7 +180,7 @@ pub(crate) fn walk_over(
         IsGround v ground.now numbering.new }
 {
     let terms = all_terms(alloc, table)?;
-    let end = first_walk(alloc, ground, numbering, table, &terms, facts, steps)?;
+    let end = first_walk(alloc, ground, numbering, table, forms, &terms, facts, steps)?;
     let led = led_end(alloc, facts, 0, end)?;
     Ok(led)
 }

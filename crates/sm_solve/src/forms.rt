@@ -2,16 +2,19 @@
 ghost use Rattle.std.specs.Prelude.{◌≡◌, List, length};
 ghost use Rattle.sm_term.specs.Terms.{Tree};
 ghost use Rattle.sm_term.specs.Tables.{trees_in, sorts_in};
+ghost use Rattle.sm_solve.specs.AllForms.{AreAllForms};
+ghost use Rattle.sm_solve.specs.Labelled.{AreLabels};
 ghost use Rattle.sm_solve.specs.Parts.{all_numbered, AreFormulasWithin};
 ghost use Rattle.sm_solve.specs.Refutations.{GivesForms};
 ghost use Rattle.sm_solve.specs.Seeing.{seen_in};
 ghost use Rattle.sm_solve.specs.Walk.{forms_of};
 
-use crate::linears::{add_fact_forms, class_forms, linear_forms};
+use crate::linears::{add_fact_forms, class_forms};
 use crate::pairs::class_pairs;
 use crate::seeing::Sees;
+use crate::term_places::terms_have_places;
 use sm_fm::Forms;
-use sm_num::NumError;
+use sm_num::{LinForm, NumError};
 use sm_term::{Formula, TermId, TermTable};
 use std::alloc::Global;
 
@@ -33,14 +36,19 @@ pub struct SourcedForms {
 
 /// The forms of the branch of these facts: of each number that isn't the first term of its class
 /// that it equals this one, then those of the comparisons. The first operation that leaves the
-/// range is told; its terms are those of the table.
+/// range is told; its terms are those of the table, the forms those of the terms, and labels tell
+/// their classes.
 pub fn forms_of<S: Sees>(
     alloc: Global,
     sees: &S,
+    labels: &[u64],
     table: &TermTable,
+    forms: &[LinForm],
     facts: &[Formula],
 ) -> Result<SourcedForms, NumError>
     requires table { S.trees sees.now ≡ trees_in table.now }
+    requires labels { AreLabels (trees_in table.now) (S.equal sees.now) labels.now }
+    requires forms { AreAllForms (trees_in table.now) forms.now }
     requires facts { AreFormulasWithin (length (trees_in table.now)) (all_numbered facts.now) }
     ensures { let trees = trees_in table.now in
         let b = seen_in (sorts_in table.now) trees trees facts.now
@@ -49,9 +57,9 @@ pub fn forms_of<S: Sees>(
 {
     // No term is there twice.
     let _count = table.len();
-    let forms = linear_forms(alloc, table)?;
-    let pairs = class_pairs(alloc, sees, table)?;
-    let mut made = class_forms(alloc, &forms, &pairs)?;
-    add_fact_forms(alloc, &mut made, &forms, facts)?;
+    terms_have_places(table);
+    let pairs = class_pairs(alloc, labels, table)?;
+    let mut made = class_forms(alloc, forms, &pairs)?;
+    add_fact_forms(alloc, &mut made, forms, facts)?;
     Ok(made)
 }

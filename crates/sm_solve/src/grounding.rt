@@ -7,6 +7,7 @@ ghost use Rattle.sm_term.specs.Sorted.{AreFormsSorted};
 ghost use Rattle.sm_term.specs.Tables.{trees_in, sorts_in};
 ghost use Rattle.sm_term.specs.Terms.{Tree};
 ghost use Rattle.sm_cc.specs.Ground.{IsGround};
+ghost use Rattle.sm_solve.specs.AllForms.{AreAllForms};
 ghost use Rattle.sm_solve.specs.Branches.{with_formulas};
 ghost use Rattle.sm_solve.specs.Given.{IsWhole, classes_by};
 ghost use Rattle.sm_solve.specs.Listing.{numbers_of};
@@ -19,6 +20,7 @@ use crate::parts::add_parts;
 use crate::terms::list_formulas;
 use indexmap::IndexSet;
 use sm_cc::{Ground, Grounded};
+use sm_num::LinForm;
 use sm_term::{Formula, TermTable};
 use std::alloc::{AllocError, Global};
 
@@ -53,12 +55,15 @@ pub(crate) fn count_named(
     Ok(listed.len())
 }
 
-// The classes of all terms of a table, by the equations and contraries among facts.
+// The classes of all terms of a table, by the equations and contraries among facts and the forms of
+// the terms.
 pub(crate) fn ground_of(
     alloc: Global,
     table: &TermTable,
+    forms: &[LinForm],
     facts: &[Formula],
 ) -> Result<Option<Grounded>, AllocError>
+    requires forms { AreAllForms (trees_in table.now) forms.now }
     requires within { AreFormulasWithin (length (trees_in table.now)) (all_numbered facts.now) }
     requires sorted { AreFormsSorted (sorts_in table.now)
         (assertions_in (sorts_in table.now) (trees_in table.now) (all_numbered facts.now)) }
@@ -69,6 +74,6 @@ pub(crate) fn ground_of(
 {
     let terms = all_terms(alloc, table)?;
     let given = given_facts(alloc, facts)?;
-    let found = Ground::of(alloc, table, &terms, &given)?;
+    let found = Ground::of(alloc, table, forms, &terms, &given)?;
     Ok(found)
 }

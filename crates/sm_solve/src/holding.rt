@@ -193,8 +193,8 @@ fn orders(
     Some((first, second))
 }
 
-// Whether a term is a number.
-fn is_numeric(table: &TermTable, t: TermId) -> bool
+/// Whether a term is a number.
+pub(crate) fn is_numeric(table: &TermTable, t: TermId) -> bool
     requires { t.0 < length (trees_in table.now) }
     ensures { result ≡ is_numeric (sorts_in table.now) (tree_at (trees_in table.now) t.0) }
 {

@@ -1,13 +1,16 @@
 // Linear forms of a branch, from the forms of all terms of its table.
-ghost use Rattle.std.specs.Prelude.{◌≡◌, ◌<◌, [], length, IfOk, IfErr, OnOk};
+ghost use Rattle.std.specs.Prelude.{◌≡◌, ◌<◌, ℕ, List, [], ◌++◌, length, IfOk, IfErr, OnOk};
 ghost use Rattle.sm_num.specs.declared.error.NumError.TheVariants.{Memory};
 ghost use Rattle.sm_num.specs.declared.kind.Kind.TheVariants as kind;
 ghost use Rattle.sm_num.specs.Combining.{Fits, then_with};
 ghost use Rattle.sm_num.specs.Errors.{Explains, Returns};
+ghost use Rattle.sm_num.specs.Forms.{Linear};
+ghost use Rattle.sm_term.specs.Terms.{Tree};
 ghost use Rattle.sm_term.specs.Tables.{trees_in};
 ghost use Rattle.sm_term.specs.Formulas.{numbered, IsFormulaWithin};
 ghost use Rattle.sm_theory.specs.Arithmetic.{one_more};
-ghost use Rattle.sm_solve.specs.Making.{linear_forms, difference_at, class_form, comparison_at};
+ghost use Rattle.sm_solve.specs.AllForms.{AreAllForms};
+ghost use Rattle.sm_solve.specs.Making.{difference_at, class_form, comparison_at};
 ghost use Rattle.sm_solve.specs.Making.{some_form, with_form, class_items, fact_items, collected};
 ghost use Rattle.sm_solve.specs.Making.{held, GivesMade, ArePairsWithin};
 ghost use Rattle.sm_solve.specs.Parts.{all_numbered, AreFormulasWithin};
@@ -17,20 +20,37 @@ use crate::forms::{Source, SourcedForms};
 use sm_fm::Forms;
 use sm_num::{Kind, LinForm, NumError, combine};
 use sm_term::{Formula, TermId, TermTable};
-use sm_theory::lin_of;
+use sm_theory::next_lin;
 use std::alloc::{AllocError, Global};
 
-// The form of each term. An atom's number is that of its term.
+/// The form of each term of a table. An atom's number is that of its term.
 pub(crate) fn linear_forms(alloc: Global, table: &TermTable) -> Result<Vec<LinForm>, AllocError>
-    ensures { IfOk result (λ fs. fs.items ≡ linear_forms (trees_in table.now)) }
+    ensures { IfOk result (λ fs. AreAllForms (trees_in table.now) fs.items) }
 {
     let mut forms = Vec::new(alloc);
-    for n in 0..table.len() {
-        // Its parts stand before it.
-        let _term = table.get(TermId(n));
-        forms.push(lin_of(alloc, table, TermId(n))?)?;
-    }
+    add_linear_forms(alloc, table, &mut forms)?;
     Ok(forms)
+}
+
+/// Puts the forms of the terms that have none yet behind those of the first.
+pub(crate) fn add_linear_forms(
+    alloc: Global,
+    table: &TermTable,
+    forms: &mut Vec<LinForm>,
+) -> Result<(), AllocError>
+    requires { (first more : List Tree) × (trees_in table.now ≡ first ++ more)
+        × AreAllForms first forms.old.items }
+    ensures all { OnOk result (AreAllForms (trees_in table.now) forms.new.items) }
+    ensures more { OnOk result ((more : List (Linear ℕ)) ×
+        (forms.new.items ≡ forms.old.items ++ more)) }
+{
+    // No term is there twice.
+    let count = table.len();
+    while (forms.len() as u64) < count {
+        let form = next_lin(alloc, table, forms.as_slice())?;
+        forms.push(form)?;
+    }
+    Ok(())
 }
 
 // The forms of pairs of equal terms.

@@ -1,5 +1,6 @@
 // The goals of a node, which share the terms and the classes of its facts.
-ghost use Rattle.std.specs.Prelude.{◌≡◌, false, List, [], ◌∷◌, ◌++◌, length, IfOk, OnOk, IfSome};
+ghost use Rattle.std.specs.Prelude.{◌≡◌, true, false, List, [], ◌∷◌, ◌++◌, length};
+ghost use Rattle.std.specs.Prelude.{IfOk, OnOk, IfSome};
 ghost use Rattle.sm_syntax.specs.text.Sorts.{Sorts};
 ghost use Rattle.sm_term.specs.Assertions.{Assertion};
 ghost use Rattle.sm_term.specs.Formulas.{numbered, assertion_in, IsFormulaWithin};
@@ -8,7 +9,7 @@ ghost use Rattle.sm_term.specs.Tables.{TableValue, trees_in, sorts_in};
 ghost use Rattle.sm_term.specs.Terms.{Tree};
 ghost use Rattle.sm_term.specs.TableLaws.{Grows};
 ghost use Rattle.sm_solve.specs.Answers.{Tells, Certifies, terms_walked, NamesOnly};
-ghost use Rattle.sm_solve.specs.AtGoal.{IsAtGoal};
+ghost use Rattle.sm_solve.specs.AtGoal.{IsAtGoal, HasRoom};
 ghost use Rattle.sm_solve.specs.Branches.{depth_of, with_parts, with_formulas, terms_of};
 ghost use Rattle.sm_solve.specs.Parts.{all_numbered, assertions_in, AreFormulasWithin};
 ghost use Rattle.sm_solve.specs.Sharing.{IsNode, room_for_goal};
@@ -18,10 +19,13 @@ ghost use Rattle.sm_solve.specs.Walking.{TellsEnd, ShowsEnd};
 use crate::ending::WalkEnd;
 use crate::first::walk_over;
 use crate::grounding::{count_named, ground_of, with_room};
+use crate::linears::{add_linear_forms, linear_forms};
+use crate::parts::add_parts;
 use crate::shared::{SharedTerms, shared_facts};
 use crate::solving::{Answer, renumbered_end};
 use crate::terms::numbered_terms;
 use sm_cc::{Ground, Numbering};
+use sm_num::LinForm;
 use sm_term::{Formula, TermTable, negate};
 use std::alloc::{AllocError, Global};
 
@@ -29,6 +33,8 @@ use std::alloc::{AllocError, Global};
 #[derive(Drop)]
 pub struct Node {
     pub(crate) terms: SharedTerms,
+    // the linear forms of the terms in the table of their own
+    pub(crate) forms: Vec<LinForm>,
     // the facts with all parts of their conjunctions; where the contrary of a goal goes stands what
     // always holds
     pub(crate) facts: Vec<Formula>,
@@ -59,9 +65,11 @@ impl Node {
         if shared.terms.own.len() as usize != count {
             return Ok(None);
         }
-        match ground_of(alloc, &shared.terms.own, &shared.facts)? {
+        let forms = linear_forms(alloc, &shared.terms.own)?;
+        match ground_of(alloc, &shared.terms.own, &forms, &shared.facts)? {
             Some(found) => Ok(Some(Node {
                 terms: shared.terms,
+                forms,
                 facts: shared.facts,
                 place: facts.len(),
                 ground: found.ground,
@@ -72,8 +80,8 @@ impl Node {
     }
 
     /// The answer to the obligation of these facts and a target, as `solve` gives it; none where
-    /// the contrary of the target is a conjunction. New terms go last in the table. After want of
-    /// memory nothing is known of the node.
+    /// the contrary of the target is a conjunction and one of the facts is one, too. New terms go
+    /// last in the table. After want of memory nothing is known of the node.
     pub fn solve(
         &mut self,
         alloc: Global,
@@ -105,15 +113,16 @@ impl Node {
         ensures grows { Grows table.old table.new }
     {
         let contrary = negate(alloc, target)?;
-        if is_conjunction(&contrary) {
+        if !self.has_room(&contrary) {
             return Ok(None);
         }
+        let count = self.facts.len();
         let len = self.terms.own.len();
         self.open_goal(alloc, table, &contrary)?;
         let end = self.walk_goal(alloc, steps)?;
         let numbers = numbered_terms(alloc, self.terms.listed.as_slice())?;
         let answer = renumbered_end(alloc, end, &numbers)?;
-        self.close_goal(len);
+        self.close_goal(count, len);
         Ok(Some(answer))
     }
 
@@ -126,7 +135,18 @@ impl Node {
         table.len();
     }
 
-    // Puts the contrary of a goal in its place, and its terms behind those of the facts.
+    // Whether the contrary of a goal can stand in its place with no fact at another: it has no
+    // parts, or none of a fact stand behind that place.
+    fn has_room(&self, contrary: &Formula) -> bool
+        requires { (table : TableValue) × (given : List Assertion) × IsNode table given self.now }
+        ensures { result ≡ true → (sorts : Sorts) (trees : List Tree) →
+            HasRoom self.now (assertion_in sorts trees (numbered contrary.now)) }
+    {
+        !is_conjunction(contrary) || self.place + 1 == self.facts.len()
+    }
+
+    // Puts the contrary of a goal in its place with its parts behind the facts, and its terms behind
+    // those of the facts.
     fn open_goal(
         &mut self,
         alloc: Global,
@@ -136,8 +156,8 @@ impl Node {
         requires within { IsFormulaWithin (length (trees_in table.old)) (numbered contrary.now) }
         requires sorted { IsFormSorted (sorts_in table.old)
             (assertion_in (sorts_in table.old) (trees_in table.old) (numbered contrary.now)) }
-        requires flat { depth_of
-            (assertion_in (sorts_in table.old) (trees_in table.old) (numbered contrary.now)) ≡ 0 }
+        requires room { HasRoom self.old
+            (assertion_in (sorts_in table.old) (trees_in table.old) (numbered contrary.now)) }
         requires node { (given : List Assertion) × IsNode table.old given self.old }
         ensures goal { let form = assertion_in (sorts_in table.old) (trees_in table.old)
             (numbered contrary.now) in
@@ -146,7 +166,11 @@ impl Node {
         ensures grows { Grows table.old table.new }
     {
         let fact = self.terms.add(alloc, table, contrary)?;
+        add_linear_forms(alloc, &self.terms.own, &mut self.forms)?;
         self.facts[self.place] = fact;
+        if self.place + 1 == self.facts.len() {
+            add_parts(alloc, &mut self.facts, self.place)?;
+        }
         Ok(())
     }
 
@@ -172,22 +196,26 @@ impl Node {
             &self.ground,
             &mut self.numbering,
             &self.terms.own,
+            &self.forms,
             &self.facts,
             steps,
         )
     }
 
-    // Takes the contrary of a goal out of its place, and its terms from those of the facts.
-    fn close_goal(&mut self, len: u64)
+    // Takes the contrary of a goal out of its place and its parts from behind the facts, and its
+    // terms from behind those of the facts.
+    fn close_goal(&mut self, count: usize, len: u64)
         requires { (table : TableValue) × (given : List Assertion) × (contrary : Assertion)
-            × IsAtGoal table given contrary self.old
+            × IsAtGoal table given contrary self.old × (length (room_for_goal given) ≡ count)
             × (length (with_formulas (room_for_goal given) []) ≡ len) }
         ensures { (table : TableValue) (given : List Assertion) (contrary : Assertion) →
-            IsAtGoal table given contrary self.old →
+            IsAtGoal table given contrary self.old → length (room_for_goal given) ≡ count →
             length (with_formulas (room_for_goal given) []) ≡ len → IsNode table given self.new }
     {
+        self.facts.truncate(count);
         self.facts[self.place] = Formula::Yes;
         self.terms.cut(len);
+        self.forms.truncate(len as usize);
     }
 }
 

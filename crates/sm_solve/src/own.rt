@@ -110,7 +110,7 @@ fn over_own(
     ensures numbers { IfOk result (λ b.
         AreTermsOf (trees_in table.now) b.numbers.list.items (trees_in b.table)) }
 {
-    let mut own = no_terms(alloc, table)?;
+    let mut own = table.copied_bodies(alloc)?;
     let mut numbers = blank_numbers(alloc, table.len())?;
     put_terms(alloc, table, &terms.list, &mut own, &mut numbers)?;
     let facts = renumbered_formulas(alloc, facts, &numbers)?;
@@ -119,17 +119,6 @@ fn over_own(
         numbers: terms,
         facts,
     })
-}
-
-// A table of no terms, with the sorts and bodies of another.
-pub(crate) fn no_terms(alloc: Global, table: &TermTable) -> Result<TermTable, AllocError>
-    ensures trees { IfOk result (λ t. trees_in t ≡ []) }
-    ensures sorts { IfOk result (λ t. sorts_in t ≡ sorts_in table.now) }
-    ensures codes { IfOk result (λ t. codes_in t ≡ codes_in table.now) }
-{
-    let mut own = table.copy(alloc)?;
-    own.cut(0);
-    Ok(own)
 }
 
 // A number for each of so many terms, that of none of them yet.

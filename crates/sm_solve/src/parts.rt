@@ -4,6 +4,7 @@ ghost use Rattle.std.specs.Prelude.{IfOk, OnOk};
 ghost use Rattle.sm_syntax.specs.text.Sorts.{Sorts};
 ghost use Rattle.sm_term.specs.Terms.{Tree};
 ghost use Rattle.sm_term.specs.Formulas.{numbered, assertion_in, IsFormulaWithin};
+ghost use Rattle.sm_cc.specs.Numbered.{IsLonger};
 ghost use Rattle.sm_solve.specs.Branches.{with_parts};
 ghost use Rattle.sm_solve.specs.Parts.{all_numbered, assertions_in, AreFormulasWithin};
 ghost use Rattle.sm_solve.specs.Parts.{numbered_parts, pair_numbered, numbered_at};
@@ -36,6 +37,7 @@ pub fn add_parts(alloc: Global, facts: &mut Vec<Formula>, from: usize) -> Result
         let before = assertions_in sorts trees (all_numbered facts.old.items) in
         let all = take from before ++ with_parts (drop from before) in
         OnOk result (assertions_in sorts trees (all_numbered facts.new.items) ≡ all) }
+    ensures longer { OnOk result (IsLonger facts.old.items facts.new.items) }
     ensures within { (count : ℕ) →
         AreFormulasWithin count (all_numbered facts.old.items) →
         OnOk result (AreFormulasWithin count (all_numbered facts.new.items)) }
@@ -51,9 +53,10 @@ pub fn add_parts(alloc: Global, facts: &mut Vec<Formula>, from: usize) -> Result
 // Puts the two parts of the formula at a place last, where it is a conjunction.
 fn push_parts(alloc: Global, facts: &mut Vec<Formula>, n: usize) -> Result<(), AllocError>
     requires { n < length facts.old.items }
-    ensures { let before = all_numbered facts.old.items in
+    ensures parts { let before = all_numbered facts.old.items in
         let parts = numbered_parts (numbered_at facts.old.items n) in
         OnOk result (all_numbered facts.new.items ≡ before ++ parts) }
+    ensures longer { OnOk result (IsLonger facts.old.items facts.new.items) }
 {
     match parts(alloc, &facts[n])? {
         Some((p, q)) => push_two(facts, p, q),
@@ -63,9 +66,10 @@ fn push_parts(alloc: Global, facts: &mut Vec<Formula>, n: usize) -> Result<(), A
 
 // Puts two formulas last.
 fn push_two(facts: &mut Vec<Formula>, p: Formula, q: Formula) -> Result<(), AllocError>
-    ensures { let before = all_numbered facts.old.items in
+    ensures parts { let before = all_numbered facts.old.items in
         OnOk result (all_numbered facts.new.items
         ≡ before ++ (numbered p ∷ numbered q ∷ [])) }
+    ensures longer { OnOk result (IsLonger facts.old.items facts.new.items) }
 {
     facts.push(p)?;
     facts.push(q)?;

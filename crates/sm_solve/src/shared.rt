@@ -12,7 +12,7 @@ ghost use Rattle.sm_solve.specs.Renumber.{number_under};
 ghost use Rattle.sm_solve.specs.Sharing.{AreShared, with_those_before};
 
 use crate::listing::list_formula;
-use crate::own::{blank_numbers, no_terms, put_term};
+use crate::own::{blank_numbers, put_term};
 use crate::reads::list_reads;
 use crate::renumber::{renumbered_formula, renumbered_formulas};
 use crate::terms::list_formulas;
@@ -84,7 +84,7 @@ fn over_listed(
     ensures within { IfOk result (λ s.
         AreFormulasWithin (length (trees_in s.terms.own)) (all_numbered s.facts.items)) }
 {
-    let mut own = no_terms(alloc, table)?;
+    let mut own = table.copied_bodies(alloc)?;
     let mut numbers = blank_numbers(alloc, table.len())?;
     put_rest(alloc, table, listed.as_slice(), &mut own, &mut numbers)?;
     let facts = renumbered_formulas(alloc, facts, &numbers)?;

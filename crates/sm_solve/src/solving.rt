@@ -17,6 +17,7 @@ ghost use Rattle.sm_solve.specs.Walking.{TellsEnd, ShowsEnd, Shows};
 use crate::branching::copy_facts;
 use crate::classes::all_terms;
 use crate::ending::{WalkEnd, led_end};
+use crate::linears::linear_forms;
 use crate::own::own_branch;
 use crate::parts::add_parts;
 use crate::renumber::renumbered;
@@ -167,7 +168,8 @@ fn walk_all(
         IfOk result (ShowsEnd sorts trees given 1001) }
 {
     let terms = all_terms(alloc, table)?;
-    let end = walk_from(alloc, table, &terms, steps, 1001, 0, facts)?;
+    let forms = linear_forms(alloc, table)?;
+    let end = walk_from(alloc, table, &forms, &terms, steps, 1001, 0, facts)?;
     let led = led_end(alloc, facts.as_slice(), 0, end)?;
     Ok(led)
 }

@@ -6,6 +6,7 @@ ghost use Rattle.sm_term.specs.Tables.{trees_in, sorts_in};
 ghost use Rattle.sm_cc.specs.Classes.{are_apart};
 ghost use Rattle.sm_cc.specs.Rounds.{are_equal};
 ghost use Rattle.sm_cc.specs.Views.{setting_of};
+ghost use Rattle.sm_solve.specs.AllForms.{AreAllForms};
 ghost use Rattle.sm_solve.specs.Closings.{IsClosing};
 ghost use Rattle.sm_solve.specs.Given.{IsWhole, classes_by, branch_of};
 ghost use Rattle.sm_solve.specs.Holding.{split_of};
@@ -22,7 +23,7 @@ use crate::eliminating::{ByForms, by_forms};
 use crate::refute::refutation_tree;
 use sm_cc::Classes;
 use sm_cert::CertTree;
-use sm_num::Op;
+use sm_num::{LinForm, Op};
 use sm_term::{Formula, TermTable, Terms};
 use std::alloc::{AllocError, Global};
 
@@ -42,15 +43,17 @@ pub(crate) enum Visit {
 }
 
 // Visits the branch of these facts, after `count` steps of `steps` with that of the visit. Its
-// terms are those of the table.
+// terms are those of the table, and the forms those of the terms.
 pub(crate) fn visit_branch(
     alloc: Global,
     table: &TermTable,
+    forms: &[LinForm],
     terms: &Terms,
     facts: &[Formula],
     steps: u64,
     count: u64,
 ) -> Result<Visit, AllocError>
+    requires forms { AreAllForms (trees_in table.now) forms.now }
     requires whole { IsWhole (trees_in table.now) terms.now.list.items }
     requires within { AreFormulasWithin (length (trees_in table.now)) (all_numbered facts.now) }
     requires sorted { AreFormsSorted (sorts_in table.now)
@@ -65,8 +68,8 @@ pub(crate) fn visit_branch(
         IfOk result (ShowsVisit sorts trees all) }
     ensures counted { IfOk result (IsVisitCounted steps) }
 {
-    let classes = classes_of(alloc, table, terms, facts)?;
-    visit_classes(alloc, &classes, table, terms, facts, steps, count)
+    let classes = classes_of(alloc, table, forms, terms, facts)?;
+    visit_classes(alloc, &classes, table, forms, terms, facts, steps, count)
 }
 
 // The same by the classes of the branch.
@@ -74,11 +77,13 @@ pub(crate) fn visit_classes<'a>(
     alloc: Global,
     classes: &Classes<'a>,
     table: &TermTable,
+    forms: &[LinForm],
     terms: &Terms,
     facts: &[Formula],
     steps: u64,
     count: u64,
 ) -> Result<Visit, AllocError>
+    requires forms { AreAllForms (trees_in table.now) forms.now }
     requires whole { IsWhole (trees_in table.now) terms.now.list.items }
     requires classes { classes.now ≡ classes_by table.now terms.now.list.items facts.now }
     requires seen { seen_in (sorts_in table.now) (trees_in table.now) (trees_in table.now) facts.now
@@ -101,12 +106,12 @@ pub(crate) fn visit_classes<'a>(
     if !are_few(facts) {
         return Err(AllocError);
     }
-    match closed_by(alloc, classes, table, facts)? {
+    match closed_by(classes, table, forms, facts) {
         Some(why) => {
             let tree = closing_tree(alloc, classes, table, terms, facts, why)?;
             Ok(Visit::Closed { count, tree })
         }
-        None => visit_forms(alloc, classes, table, terms, facts, steps, count),
+        None => visit_forms(alloc, classes, table, forms, terms, facts, steps, count),
     }
 }
 
@@ -122,11 +127,13 @@ fn visit_forms<'a>(
     alloc: Global,
     classes: &Classes<'a>,
     table: &TermTable,
+    forms: &[LinForm],
     terms: &Terms,
     facts: &[Formula],
     steps: u64,
     count: u64,
 ) -> Result<Visit, AllocError>
+    requires forms { AreAllForms (trees_in table.now) forms.now }
     requires whole { IsWhole (trees_in table.now) terms.now.list.items }
     requires classes { classes.now ≡ classes_by table.now terms.now.list.items facts.now }
     requires seen { seen_in (sorts_in table.now) (trees_in table.now) (trees_in table.now) facts.now
@@ -148,7 +155,8 @@ fn visit_forms<'a>(
         IfOk result (ShowsVisit sorts trees all) }
     ensures counted { IfOk result (IsVisitCounted steps) }
 {
-    match by_forms(alloc, classes, table, facts, steps, count)? {
+    let labels = classes.labels(alloc)?;
+    match by_forms(alloc, classes, &labels, table, forms, facts, steps, count)? {
         ByForms::Contradiction {
             count: at,
             refutation,

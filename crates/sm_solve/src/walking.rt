@@ -3,6 +3,7 @@ ghost use Rattle.std.specs.Prelude.{◌≡◌, ◌≤◌, ◌+◌, Some, List, [
 ghost use Rattle.sm_term.specs.Formulas.{numbered, assertion_in, IsFormulaWithin};
 ghost use Rattle.sm_term.specs.Sorted.{IsFormSorted, AreFormsSorted};
 ghost use Rattle.sm_term.specs.Tables.{trees_in, sorts_in};
+ghost use Rattle.sm_solve.specs.AllForms.{AreAllForms};
 ghost use Rattle.sm_solve.specs.Branches.{with_parts};
 ghost use Rattle.sm_solve.specs.Given.{IsWhole};
 ghost use Rattle.sm_solve.specs.Parts.{all_numbered, assertions_in, AreFormulasWithin};
@@ -16,21 +17,24 @@ use crate::ending::{WalkEnd, led_end, split_end};
 use crate::parts::add_with_parts;
 use crate::solving::Leaf;
 use crate::visiting::{Visit, visit_branch};
+use sm_num::LinForm;
 use sm_term::{Formula, TermTable, Terms};
 use std::alloc::{AllocError, Global};
 
 // Walks from the branch of these facts, after `count` steps of `steps`. So many more splits may
-// stand above a branch as there is room for.
+// stand above a branch as there is room for. The forms are those of all terms of the table.
 #[cycle(walk)]
 pub(crate) fn walk_from(
     alloc: Global,
     table: &TermTable,
+    forms: &[LinForm],
     terms: &Terms,
     steps: u64,
     room: u64,
     count: u64,
     facts: &mut Vec<Formula>,
 ) -> Result<WalkEnd, AllocError>
+    requires forms { AreAllForms (trees_in table.now) forms.now }
     requires whole { IsWhole (trees_in table.now) terms.now.list.items }
     requires within { let count = length (trees_in table.now) in
         AreFormulasWithin count (all_numbered facts.old.items) }
@@ -53,7 +57,15 @@ pub(crate) fn walk_from(
     if room == 0 || count == steps {
         return Ok(WalkEnd::Steps);
     }
-    match visit_branch(alloc, table, terms, facts.as_slice(), steps, count + 1)? {
+    match visit_branch(
+        alloc,
+        table,
+        forms,
+        terms,
+        facts.as_slice(),
+        steps,
+        count + 1,
+    )? {
         Visit::Closed { count: at, tree } => Ok(WalkEnd::Closed { count: at, tree }),
         Visit::Open => {
             let list = copy_facts(alloc, facts.as_slice())?;
@@ -62,7 +74,17 @@ pub(crate) fn walk_from(
             })
         }
         Visit::Split { count: at, split } => {
-            walk_parts(alloc, table, terms, steps, room - 1, at, facts, split)
+            walk_parts(
+                alloc,
+                table,
+                forms,
+                terms,
+                steps,
+                room - 1,
+                at,
+                facts,
+                split,
+            )
         }
         Visit::Steps => Ok(WalkEnd::Steps),
         Visit::Coefficient { op, a, b } => Ok(WalkEnd::Coefficient { op, a, b }),
@@ -74,6 +96,7 @@ pub(crate) fn walk_from(
 pub(crate) fn walk_parts(
     alloc: Global,
     table: &TermTable,
+    forms: &[LinForm],
     terms: &Terms,
     steps: u64,
     room: u64,
@@ -81,6 +104,7 @@ pub(crate) fn walk_parts(
     facts: &mut Vec<Formula>,
     split: BranchSplit,
 ) -> Result<WalkEnd, AllocError>
+    requires forms { AreAllForms (trees_in table.now) forms.now }
     requires whole { IsWhole (trees_in table.now) terms.now.list.items }
     requires within { let count = length (trees_in table.now) in
         AreFormulasWithin count (all_numbered facts.old.items) }
@@ -108,9 +132,29 @@ pub(crate) fn walk_parts(
 {
     // The terms of a table are sorted, as its length ensures.
     table.len();
-    match walk_part(alloc, table, terms, steps, room, count, facts, split.first)? {
+    match walk_part(
+        alloc,
+        table,
+        forms,
+        terms,
+        steps,
+        room,
+        count,
+        facts,
+        split.first,
+    )? {
         WalkEnd::Closed { count: at, tree } => {
-            let end = walk_part(alloc, table, terms, steps, room, at, facts, split.second)?;
+            let end = walk_part(
+                alloc,
+                table,
+                forms,
+                terms,
+                steps,
+                room,
+                at,
+                facts,
+                split.second,
+            )?;
             let whole = split_end(alloc, split.line, tree, end)?;
             Ok(whole)
         }
@@ -125,6 +169,7 @@ pub(crate) fn walk_parts(
 fn walk_part(
     alloc: Global,
     table: &TermTable,
+    forms: &[LinForm],
     terms: &Terms,
     steps: u64,
     room: u64,
@@ -132,6 +177,7 @@ fn walk_part(
     facts: &mut Vec<Formula>,
     f: Formula,
 ) -> Result<WalkEnd, AllocError>
+    requires forms { AreAllForms (trees_in table.now) forms.now }
     requires whole { IsWhole (trees_in table.now) terms.now.list.items }
     requires within { let count = length (trees_in table.now) in
         AreFormulasWithin count (all_numbered facts.old.items) }
@@ -159,7 +205,7 @@ fn walk_part(
 {
     let from = facts.len();
     add_with_parts(alloc, facts, f)?;
-    let end = walk_from(alloc, table, terms, steps, room, count, facts)?;
+    let end = walk_from(alloc, table, forms, terms, steps, room, count, facts)?;
     let led = led_end(alloc, facts.as_slice(), from, end)?;
     facts.truncate(from);
     Ok(led)

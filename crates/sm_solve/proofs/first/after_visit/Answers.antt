@@ -1,7 +1,5 @@
 -- The walk of the parts is over a copy of the facts.
 use Rattle.std.proofs.Common.{◌≡◌, List, IfOk, sym, ap, subst, ◌∙◌, Some}
-use Rattle.sm_term.specs.declared.formula.Formula.{Formula}
-use Rattle.sm_term.specs.Assertions.{Assertion}
 use Rattle.sm_term.specs.Formulas.{NumberedFormula}
 use Rattle.sm_term.specs.Tables.{trees_in, sorts_in}
 use Rattle.sm_solve.specs.declared.visiting.Visit.{Visit}

@@ -3,6 +3,12 @@ use Rattle.sm_term.specs.Tables.{trees_in}
 use Rattle.sm_solve.proofs.GivenLemmas.{whole_before, given_of_terms, given_all, seen_by_classes}
 use Rattle.sm_solve.proofs.first.first_visit.Goals as goal
 
+pub over-requires-clause-forms : goal.over-requires-clause-forms
+over-requires-clause-forms c = c.requires.forms.each
+
+pub over-requires-clause-counted : goal.over-requires-clause-counted
+over-requires-clause-counted c = c.requires.forms.counted
+
 pub over-requires-clause-before : goal.over-requires-clause-before
 over-requires-clause-before c = whole_before (trees_in c.args.table.now) c.args.terms.now.list.items c.requires.whole
 

@@ -1,9 +1,8 @@
 -- The walk goes on as the visit of the branch tells.
 use Rattle.std.proofs.Common.{◌≡◌, ◌<◌, arith, sym, subst}
 use Rattle.sm_term.specs.Tables.{trees_in, sorts_in}
-use Rattle.sm_solve.specs.Given.{branch_of}
 use Rattle.sm_solve.specs.Parts.{all_numbered, assertions_in}
-use Rattle.sm_solve.specs.Walk.{Walked, walk_from, by_classes}
+use Rattle.sm_solve.specs.Walk.{Walked, walk_from}
 use Rattle.sm_solve.specs.Walking.{TellsVisit}
 use Rattle.sm_solve.proofs.WalkingLemmas.{walk_next}
 use Rattle.sm_solve.proofs.first.first_walk.Goals as goal

@@ -5,6 +5,7 @@ use Rattle.sm_term.specs.Tables.{trees_in, sorts_in}
 use Rattle.sm_solve.specs.Making.{linear_forms, Two, places_of, held}
 use Rattle.sm_solve.specs.Seeing.{seen_in}
 use Rattle.sm_solve.proofs.GivenFormsLemmas.{forms_given, classes_explained, facts_explained, error_given}
+use Rattle.sm_solve.proofs.LinearsLemmas.{all_forms_are}
 use Rattle.sm_solve.proofs.forms.forms_of.Goals as goal
 
 pub returns-in_err-made : goal.returns-in_err-made
@@ -14,13 +15,13 @@ returns-in_err-made g c =
     let facts = c.args.facts.now in
     let equal = g.S.Sees.equal c.args.sees.now in
     let apart = g.S.Sees.apart c.args.sees.now in
-    let fs : List (Linear ℕ) = c.deref.result.now in
-    let fs_are : fs ≡ linear_forms trees = c.deref.ensures.value ∙ c.in_ok-forms.ensures in
-    let pairs : List Two = c.deref-2.result.now in
-    let are = ap places_of c.deref-2.ensures.value ∙ c.in_ok-pairs.ensures.pairs in
+    let fs : List (Linear ℕ) = c.args.forms.now in
+    let fs_are : fs ≡ linear_forms trees = all_forms_are trees fs c.len-count.ensures.apart c.terms_have_places.ensures c.requires.forms in
+    let pairs : List Two = c.deref.result.now in
+    let are = ap places_of c.deref.ensures.value ∙ c.in_ok-pairs.ensures.pairs equal c.requires.labels.tell in
     let e = c.in_err-made.field-0.0 in
     error_given (seen_in sorts trees trees facts equal apart) c.from_residual-in_err-made.result e (search rules)
-    (classes_explained sorts trees facts equal apart c.len-count.ensures.apart fs fs fs_are fs_are pairs are c.requires.facts e
+    (classes_explained sorts trees facts equal apart c.len-count.ensures.apart fs fs_are pairs are c.requires.facts e
     c.in_err-made.ensures)
 
 pub returns-in_err-add_fact_forms : goal.returns-in_err-add_fact_forms
@@ -30,15 +31,13 @@ returns-in_err-add_fact_forms g c =
     let facts = c.args.facts.now in
     let equal = g.S.Sees.equal c.args.sees.now in
     let apart = g.S.Sees.apart c.args.sees.now in
-    let fs : List (Linear ℕ) = c.deref.result.now in
-    let fs_are : fs ≡ linear_forms trees = c.deref.ensures.value ∙ c.in_ok-forms.ensures in
-    let gs : List (Linear ℕ) = c.deref-3.result.now in
-    let gs_are : gs ≡ linear_forms trees = c.deref-3.ensures.value ∙ c.in_ok-forms.ensures in
-    let pairs : List Two = c.deref-2.result.now in
-    let are = ap places_of c.deref-2.ensures.value ∙ c.in_ok-pairs.ensures.pairs in
+    let fs : List (Linear ℕ) = c.args.forms.now in
+    let fs_are : fs ≡ linear_forms trees = all_forms_are trees fs c.len-count.ensures.apart c.terms_have_places.ensures c.requires.forms in
+    let pairs : List Two = c.deref.result.now in
+    let are = ap places_of c.deref.ensures.value ∙ c.in_ok-pairs.ensures.pairs equal c.requires.labels.tell in
     let e = c.in_err-add_fact_forms.field-0.0 in
     error_given (seen_in sorts trees trees facts equal apart) c.from_residual-in_err-add_fact_forms.result e (search rules)
-    (facts_explained sorts trees facts equal apart c.len-count.ensures.apart fs gs fs_are gs_are pairs are c.requires.facts
+    (facts_explained sorts trees facts equal apart c.len-count.ensures.apart fs fs_are pairs are c.requires.facts
     (held c.in_ok-made.made) e c.in_ok-made.ensures c.in_err-add_fact_forms.ensures.err)
 
 pub returns : goal.returns
@@ -48,11 +47,9 @@ returns g c =
     let facts = c.args.facts.now in
     let equal = g.S.Sees.equal c.args.sees.now in
     let apart = g.S.Sees.apart c.args.sees.now in
-    let fs : List (Linear ℕ) = c.deref.result.now in
-    let fs_are : fs ≡ linear_forms trees = c.deref.ensures.value ∙ c.in_ok-forms.ensures in
-    let gs : List (Linear ℕ) = c.deref-3.result.now in
-    let gs_are : gs ≡ linear_forms trees = c.deref-3.ensures.value ∙ c.in_ok-forms.ensures in
-    let pairs : List Two = c.deref-2.result.now in
-    let are = ap places_of c.deref-2.ensures.value ∙ c.in_ok-pairs.ensures.pairs in
-    forms_given sorts trees facts equal apart c.len-count.ensures.apart fs gs fs_are gs_are pairs are c.requires.facts
+    let fs : List (Linear ℕ) = c.args.forms.now in
+    let fs_are : fs ≡ linear_forms trees = all_forms_are trees fs c.len-count.ensures.apart c.terms_have_places.ensures c.requires.forms in
+    let pairs : List Two = c.deref.result.now in
+    let are = ap places_of c.deref.ensures.value ∙ c.in_ok-pairs.ensures.pairs equal c.requires.labels.tell in
+    forms_given sorts trees facts equal apart c.len-count.ensures.apart fs fs_are pairs are c.requires.facts
     (held c.in_ok-made.made) (held c.add_fact_forms.new.made) c.in_ok-made.ensures c.in_ok-add_fact_forms.ensures.ok

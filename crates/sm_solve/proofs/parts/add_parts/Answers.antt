@@ -2,6 +2,7 @@
 use Rattle.std.proofs.Common.{◌≡◌, ◌<◌, ◌≤◌, ◌+◌, ◌++◌, List, length, drop, sym, ap, subst, ◌∙◌, arith}
 use Rattle.std.proofs.lemmas.List.{length-map}
 use Rattle.sm_term.specs.Formulas.{NumberedFormula, numbered, assertion_in}
+use Rattle.sm_cc.proofs.NumberedLemmas.{longer_twice}
 use Rattle.sm_solve.specs.Parts.{all_numbered, assertions_in, AreFormulasWithin, numbered_parts, numbered_at}
 use Rattle.sm_solve.proofs.PartsLemmas.{queue_from, queue_step, queue_end, weight_of_all, weight_step, within_step, longer}
 use Rattle.sm_solve.proofs.parts.add_parts.Goals as goal
@@ -12,7 +13,7 @@ loop-next-smaller c =
     let fs = all_numbered c.loop-next.facts.items in
     let count = length-map c.loop-next.facts.items numbered in
     let inside : n < length fs = omega arith in
-    subst (λ (gs : List NumberedFormula). weight_of_all (drop (n + 1) gs) < weight_of_all (drop n fs)) (sym c.in_ok-push_parts.ensures)
+    subst (λ (gs : List NumberedFormula). weight_of_all (drop (n + 1) gs) < weight_of_all (drop n fs)) (sym c.in_ok-push_parts.ensures.parts)
     (weight_step fs n inside)
 
 pub loop-next-preserved : goal.loop-next-preserved
@@ -24,7 +25,7 @@ loop-next-preserved c =
     let count = length-map c.loop-next.facts.items numbered in
     let after = length-map c.push_parts.new.facts.items numbered in
     let inside : n < length fs = omega arith in
-    let items : new ≡ fs ++ parts = c.in_ok-push_parts.ensures in
+    let items : new ≡ fs ++ parts = c.in_ok-push_parts.ensures.parts in
     let more : n + 1 ≤ length (fs ++ parts) = longer fs n (numbered_at c.loop-next.facts.items n) inside in
     let now : n + 1 ≤ length new = subst (λ (gs : List NumberedFormula). n + 1 ≤ length gs) (sym items) more in
     record {
@@ -34,6 +35,9 @@ loop-next-preserved c =
           ∙ queue_step sorts trees fs n inside ∙ c.loop-next.invariant.queue sorts trees;
       within = λ count all.
           subst (AreFormulasWithin count) (sym items) (within_step count fs n (c.loop-next.invariant.within count all));
+      longer =
+          longer_twice c.args.facts.now.items c.loop-next.facts.items c.push_parts.new.facts.items c.loop-next.invariant.longer
+          c.in_ok-push_parts.ensures.longer;
     }
 
 pub returns-clause-added : goal.returns-clause-added

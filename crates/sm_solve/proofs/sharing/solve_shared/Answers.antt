@@ -1,5 +1,5 @@
 -- The obligation without the node is the same over the table that has grown, and the node stays.
-use Rattle.std.proofs.Common.{List, length}
+use Rattle.std.proofs.Common.{List}
 use Rattle.sm_syntax.specs.text.Sorts.{Sorts}
 use Rattle.sm_term.specs.Assertions.{Assertion}
 use Rattle.sm_term.specs.Formulas.{numbered}

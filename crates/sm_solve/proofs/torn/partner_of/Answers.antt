@@ -1,20 +1,19 @@
 -- By the form of the term.
-use Rattle.std.proofs.Common.{subst}
-use Rattle.sm_term.specs.Tables.{tree_at}
-use Rattle.sm_solve.specs.Torn.{IsNumberForm}
+use Rattle.std.proofs.Common.{sym, ◌∙◌}
+use Rattle.sm_term.specs.Tables.{trees_in, sorts_in, tree_at}
 use Rattle.sm_solve.proofs.TornLemmas.{form_at, no_partner}
 use Rattle.sm_solve.proofs.torn.partner_of.Goals as goal
 
-pub returns-in-Some : goal.returns-in-Some
-returns-in-Some g c = λ sorts forms.
-    let trees = g.S.Sees.trees c.args.sees.now in
-    let t = tree_at trees c.args.i in
-    let at = form_at sorts trees c.args.forms.now forms c.args.i c.index-forms-i.result c.requires.within c.index-forms-i.is in
-    c.partner.ensures sorts forms (subst (IsNumberForm sorts trees t) c.in-Some.is at)
+pub returns-then-not-is_numeric : goal.returns-then-not-is_numeric
+returns-then-not-is_numeric g c =
+    let trees = trees_in c.args.table.now in
+    no_partner (sorts_in c.args.table.now) (g.S.Sees.equal c.args.sees.now) trees (tree_at trees c.args.t.0)
+    (sym c.is_numeric.ensures ∙ c.if-not-is_numeric.true)
 
-pub returns-in-None : goal.returns-in-None
-returns-in-None g c = λ sorts forms.
-    let trees = g.S.Sees.trees c.args.sees.now in
-    let t = tree_at trees c.args.i in
-    let at = form_at sorts trees c.args.forms.now forms c.args.i c.index-forms-i.result c.requires.within c.index-forms-i.is in
-    no_partner sorts (g.S.Sees.equal c.args.sees.now) trees t (subst (IsNumberForm sorts trees t) c.in-None.is at)
+pub partner-requires-clause-number : goal.partner-requires-clause-number
+partner-requires-clause-number g c = sym c.is_numeric.ensures ∙ c.if-not-is_numeric.false
+
+pub partner-requires-clause-form : goal.partner-requires-clause-form
+partner-requires-clause-form g c =
+    form_at (trees_in c.args.table.now) c.args.forms.now c.args.t.0 c.index-forms-t.result c.requires.forms c.requires.within
+    c.index-forms-t.is

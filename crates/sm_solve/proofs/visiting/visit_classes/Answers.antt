@@ -14,7 +14,7 @@ returns-in_ok-tree-in-Some-clause-tells c = λ go.
     let table = c.args.table.now in
     let b = branch_of table c.args.facts.now in
     let closed : true ≡ is_closed b =
-    ap (λ (o : Option Closing). is_some o) (sym c.in-Some.is) ∙ c.in_ok-why.ensures.closed ∙ ap is_closed c.requires.seen in
+    ap (λ (o : Option Closing). is_some o) (sym c.in-Some.is) ∙ c.closed_by.ensures.closed ∙ ap is_closed c.requires.seen in
     closed_told go c.args.steps c.args.count b closed
 
 pub returns-in-None-clause-tells : goal.returns-in-None-clause-tells
@@ -25,6 +25,6 @@ returns-in-None-clause-tells c = λ go.
     let all = assertions_in sorts trees (all_numbered c.args.facts.now) in
     let b = branch_of table c.args.facts.now in
     let open_still : false ≡ is_closed b =
-    ap (λ (o : Option Closing). is_some o) (sym c.in-None.is) ∙ c.in_ok-why.ensures.closed ∙ ap is_closed c.requires.seen in
+    ap (λ (o : Option Closing). is_some o) (sym c.in-None.is) ∙ c.closed_by.ensures.closed ∙ ap is_closed c.requires.seen in
     subst (λ (w : Walked). IfOk c.visit_forms.result (λ v. TellsVisit sorts trees all go v w))
     (sym (open_told go c.args.steps c.args.count b open_still)) (c.visit_forms.ensures.tells go)

@@ -13,9 +13,9 @@ use Rattle.sm_solve.specs.declared.visiting.Visit.{Visit}
 use Rattle.sm_solve.specs.Branches.{with_parts}
 use Rattle.sm_solve.specs.Given.{branch_of}
 use Rattle.sm_solve.specs.Parts.{all_numbered, assertions_in, AreFormulasWithin}
-use Rattle.sm_solve.specs.Splits.{split_told}
+use Rattle.sm_solve.specs.Splits.{split_told, SplitsBranch}
 use Rattle.sm_solve.specs.Walk.{Walked, Closes, Opens, TooFar, GoesOut, walk_from, by_classes, by_parts}
-use Rattle.sm_solve.specs.Walking.{TellsVisit, TellsEnd, ShowsEnd, IsEndCounted}
+use Rattle.sm_solve.specs.Walking.{TellsVisit, ShowsVisit, IsVisitCounted, TellsEnd, ShowsEnd, IsEndCounted}
 use Rattle.sm_solve.proofs.SortedLemmas.{sorted_more, told_sorted}
 use Rattle.sm_solve.proofs.WalkingLemmas.{walk_visits, as_many, place_within, cut_are, cut_within}
 use Rattle.sm_solve.proofs.walking.+walk.Goals as goal
@@ -54,6 +54,19 @@ walk_from-returns-in_ok-list-in-Open-clause-tells t c =
       subst (AreFormulasWithin (length trees)) (sym same) c.requires.within,
       told ∙ ap (λ (fs : List NumberedFormula). Opens (assertions_in sorts trees fs)) back,
     )
+
+pub walk_from-walk_parts-requires : goal.walk_from-walk_parts-requires
+walk_from-walk_parts-requires t c =
+    let sorts = sorts_in c.args.table.now in
+    let trees = trees_in c.args.table.now in
+    let whole : 3 * c.args.room ≡ t = c.decreases in
+    let less : 3 * (c.args.room - 1) + 2 < t = omega arith in
+    let counted = subst (IsVisitCounted c.args.steps) c.in-Split.is c.in_ok-at.ensures.counted in
+    let shows = subst (ShowsVisit sorts trees (assertions_in sorts trees (all_numbered c.as_slice.result.now))) c.in-Split.is
+    c.in_ok-at.ensures.shows in
+    let line = subst (λ (fs : List Formula). SplitsBranch sorts trees (assertions_in sorts trees (all_numbered fs)) (Some c.in-Split.split))
+    c.as_slice.ensures.value shows.1 in
+    (less, (c.requires.forms, (c.requires.whole, (c.requires.within, (c.requires.sorted, (counted, (shows.0, line)))))))
 
 pub walk_from-returns-in-Split-clause-tells : goal.walk_from-returns-in-Split-clause-tells
 walk_from-returns-in-Split-clause-tells t c =
@@ -122,7 +135,7 @@ walk_part-walk_from-requires t c =
     let within = c.in_ok-add_with_parts.ensures.within (length trees) c.requires.within c.requires.formula in
     let sorted = subst (AreFormsSorted sorts) (sym (c.in_ok-add_with_parts.ensures.added sorts trees))
     (sorted_more sorts all (assertion_in sorts trees (numbered c.args.f)) c.requires.sorted c.requires.formula_sorted) in
-    (less, (c.requires.whole, (within, (sorted, c.requires.counted))))
+    (less, (c.requires.forms, (c.requires.whole, (within, (sorted, c.requires.counted)))))
 
 pub walk_part-led_end-requires : goal.walk_part-led_end-requires
 walk_part-led_end-requires t c =
@@ -174,7 +187,7 @@ walk_parts-walk_part-requires t c =
     let whole : 3 * c.args.room + 2 ≡ t = c.decreases in
     let less : 3 * c.args.room + 1 < t = omega arith in
     let sorted = told_sorted sorts trees all c.args.split c.len.ensures.sorted c.requires.split c.requires.line c.requires.sorted in
-    (less, (c.requires.whole, (c.requires.within, (c.requires.sorted, (c.requires.counted, (c.requires.split.1.0, sorted.0))))))
+    (less, (c.requires.forms, (c.requires.whole, (c.requires.within, (c.requires.sorted, (c.requires.counted, (c.requires.split.1.0, sorted.0)))))))
 
 pub walk_parts-walk_part-requires-in-Closed : goal.walk_parts-walk_part-requires-in-Closed
 walk_parts-walk_part-requires-in-Closed t c =
@@ -186,7 +199,7 @@ walk_parts-walk_part-requires-in-Closed t c =
     let sorted = told_sorted sorts trees all c.args.split c.len.ensures.sorted c.requires.split c.requires.line c.requires.sorted in
     let still = subst (AreFormsSorted sorts) (sym c.in_ok-at.ensures.kept) c.requires.sorted in
     let counted = subst (IsEndCounted c.args.steps) c.in-Closed.is c.in_ok-at.ensures.counted in
-    (less, (c.requires.whole, (c.in_ok-at.ensures.within, (still, (counted, (c.requires.split.1.1, sorted.1))))))
+    (less, (c.requires.forms, (c.requires.whole, (c.in_ok-at.ensures.within, (still, (counted, (c.requires.split.1.1, sorted.1)))))))
 
 pub walk_parts-returns-in_ok-whole-in-Closed-clause-shows : goal.walk_parts-returns-in_ok-whole-in-Closed-clause-shows
 walk_parts-returns-in_ok-whole-in-Closed-clause-shows t c =

@@ -8,6 +8,7 @@ use Rattle.sm_term.specs.Sorted.{AreFormsSorted}
 use Rattle.sm_term.specs.Tables.{trees_in, sorts_in}
 use Rattle.sm_cc.specs.declared.ground.Grounded.{Grounded}
 use Rattle.sm_cc.specs.Ground.{IsGround}
+use Rattle.sm_solve.specs.AllForms.{AreAllForms}
 use Rattle.sm_solve.specs.Branches.{with_formulas}
 use Rattle.sm_solve.specs.Given.{IsWhole, classes_by}
 use Rattle.sm_solve.specs.Listing.{numbers_of}
@@ -34,11 +35,11 @@ ground_of-requires-clause-sorted c =
     let own = c.in_ok-shared.shared.terms.own in
     let given = assertions_in sorts trees (all_numbered c.args.facts.now) in
     let here = c.in_ok-shared.ensures.terms.sorts ∙ c.in_ok-shared.ensures.grows.sorts in
-    let are = ap (λ (fs : List Formula). assertions_in sorts (trees_in own) (all_numbered fs)) c.deref-3.ensures.value
+    let are = ap (λ (fs : List Formula). assertions_in sorts (trees_in own) (all_numbered fs)) c.deref-4.ensures.value
     ∙ c.in_ok-shared.ensures.facts
     ∙ ap (λ (fs : List Formula). assertions_in sorts trees (all_numbered fs)) c.deref-2.ensures.value
     ∙ c.in_ok-all.ensures.facts sorts trees in
-    subst (λ (s : Sorts). AreFormsSorted s (assertions_in s (trees_in own) (all_numbered c.deref-3.result.now))) (sym here)
+    subst (λ (s : Sorts). AreFormsSorted s (assertions_in s (trees_in own) (all_numbered c.deref-4.result.now))) (sym here)
     (subst (AreFormsSorted sorts) (sym are) (room_sorted sorts given c.requires.sorted))
 
 pub returns-in-Some-clause-node : goal.returns-in-Some-clause-node
@@ -58,9 +59,13 @@ returns-in-Some-clause-node c =
     omega (arith, c.len.ensures.len, c.if-len-count.false, c.in_ok-count.ensures) in
     let found = subst (λ (o : Option Grounded). IfSome o (λ (g : Grounded). (ids : List TermId) × IsWhole (trees_in own) ids
     × (numbers_of ids ≡ range_with_len 0 (length (trees_in own)))
-    × IsGround (classes_by own ids c.deref-3.result.now) g.ground g.numbering)) c.in-Some.is c.in_ok-found.ensures in
+    × IsGround (classes_by own ids c.deref-4.result.now) g.ground g.numbering)) c.in-Some.is c.in_ok-found.ensures in
     let ground = subst (λ (fs : List Formula). IsGround (classes_by own found.0 fs) c.in-Some.found.ground c.in-Some.found.numbering)
-    c.deref-3.ensures.value found.3 in
+    c.deref-4.ensures.value found.3 in
     node_of table c.shared_facts.new.table given first second _ c.in_ok-shared.ensures.grows.sorts one two c.in_ok-shared.ensures.terms
-    many c.in_ok-shared.ensures.facts c.in_ok-shared.ensures.within (as_many sorts trees c.args.facts.now) c.requires.sorted found.0
+    c.in_ok-forms.ensures many c.in_ok-shared.ensures.facts c.in_ok-shared.ensures.within (as_many sorts trees c.args.facts.now) c.requires.sorted found.0
     found.1 found.2 ground
+
+pub ground_of-requires-clause-forms : goal.ground_of-requires-clause-forms
+ground_of-requires-clause-forms c =
+    subst (AreAllForms (trees_in c.in_ok-shared.shared.terms.own)) (sym c.deref-3.ensures.value) c.in_ok-forms.ensures

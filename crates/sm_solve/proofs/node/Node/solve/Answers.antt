@@ -2,17 +2,16 @@
 use Rattle.std.proofs.Common.{◌≡◌, List, [], ◌∷◌, ◌++◌, length, sym, ap, subst, ◌∙◌, arith}
 use Rattle.sm_syntax.specs.text.Sorts.{Sorts}
 use Rattle.sm_term.specs.Assertions.{Assertion, negate}
-use Rattle.sm_term.specs.Formulas.{NumberedFormula, numbered, assertion_in, IsFormulaWithin}
+use Rattle.sm_term.specs.Formulas.{numbered, assertion_in, IsFormulaWithin}
 use Rattle.sm_term.specs.Sorted.{IsFormSorted}
 use Rattle.sm_term.specs.Tables.{trees_in, sorts_in}
 use Rattle.sm_term.specs.Terms.{Tree}
 use Rattle.sm_term.proofs.FormulasLemmas.{contrary_negates}
 use Rattle.sm_solve.specs.Answers.{Tells, NamesOnly}
-use Rattle.sm_solve.specs.Branches.{with_parts, with_formulas, terms_of}
-use Rattle.sm_solve.specs.Sharing.{room_for_goal}
+use Rattle.sm_solve.specs.Branches.{with_parts, terms_of}
 use Rattle.sm_solve.specs.Walk.{walk_from}
 use Rattle.sm_solve.specs.Walking.{Shows}
-use Rattle.sm_solve.proofs.AtGoalLemmas.{terms_of_goal}
+use Rattle.sm_solve.proofs.AtGoalLemmas.{terms_of_goal, room_counted}
 use Rattle.sm_solve.proofs.SolvingLemmas.{within_contrary, shows_certify}
 use Rattle.sm_solve.proofs.SortedLemmas.{sorted_contrary}
 use Rattle.sm_solve.proofs.node.Node.solve.Goals as goal
@@ -37,11 +36,13 @@ close_goal-requires c =
     let table = c.open_goal.new.table in
     let form = assertion_in (sorts_in c.args.table.now) (trees_in c.args.table.now) (numbered c.in_ok-contrary.contrary) in
     let first = ap length is.shared.own in
+    let many = room_counted c.args.table.now given c.args.self.now is in
     let len = c.len-len.ensures.len in (
       table,
       given,
       form,
       c.in_ok-end.ensures.stays table given form (c.in_ok-open_goal.ensures.goal given is),
+      omega (arith, many),
       omega (arith, first, len),
     )
 
@@ -110,5 +111,7 @@ returns-clause-stays c = λ given is.
     let form = assertion_in (sorts_in c.args.table.now) (trees_in c.args.table.now) (numbered c.in_ok-contrary.contrary) in
     let at = c.in_ok-open_goal.ensures.goal given is in
     let first = ap length is.shared.own in
+    let many = room_counted c.args.table.now given c.args.self.now is in
     let len = c.len-len.ensures.len in
-    c.close_goal.ensures table given form (c.in_ok-end.ensures.stays table given form at) (omega (arith, first, len))
+    c.close_goal.ensures table given form (c.in_ok-end.ensures.stays table given form at) (omega (arith, many))
+    (omega (arith, first, len))
