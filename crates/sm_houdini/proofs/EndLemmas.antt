@@ -1,8 +1,7 @@
 -- Goals that close or stop a search, and certificates that are collected.
 use Rattle.std.proofs.Common.{◌≡◌, ℕ, zero, suc, ◌+◌, ◌<◌, ◌≤◌, Bool, true, false, if◌then◌else◌, None}
 use Rattle.std.proofs.Common.{List, [], ◌∷◌, ◌++◌, map, length, take, drop, get_or, refl, sym, ap, ◌∙◌, subst, arith}
-use Rattle.std.specs.List.{flat_map}
-use Rattle.std.specs.Prelude.{Option, Some, is_some, MatchOption, Result, Ok, Err, IfOk}
+use Rattle.std.specs.Prelude.{Option, Some, is_some, MatchOption, Result, IfOk}
 use Rattle.std.specs.declared.alloc.AllocError.{AllocError}
 use Rattle.std.proofs.lemmas.List.{map-append, append_assoc, drop_more, drop-map, take-map, take_all, drop_all}
 use Rattle.sm_syntax.specs.text.Sorts.{Sorts}
@@ -26,32 +25,31 @@ use Rattle.sm_expand.specs.Views.{due_in, dues_in, AreDuesReady}
 use Rattle.sm_solve.specs.declared.solving.Answer.{Answer}
 use Rattle.sm_solve.specs.declared.solving.Answer.TheVariants as answers
 use Rattle.sm_solve.specs.Answers.{Tells, Certifies, NamesOnly}
-use Rattle.sm_solve.specs.Parts.{all_numbered, assertions_in, AreFormulasWithin}
+use Rattle.sm_solve.specs.Parts.{all_numbered, assertions_in}
 use Rattle.sm_solve.specs.Walk.{walk}
-use Rattle.sm_term.specs.Sorted.{AreFormsSorted}
 use Rattle.sm_replay.specs.declared.verdict.Verdict.{Verdict}
 use Rattle.sm_solve.specs.Answers.{terms_walked}
 use Rattle.sm_solve.specs.Branches.{IsOneOf}
-use Rattle.sm_solve.specs.Walk as walked
 use Rattle.sm_solve.specs.Walk.{Walked}
 use Rattle.sm_write.specs.TreesWithin.{AreTreesWithin}
 use Rattle.sm_write.specs.Writable.{IsShort, AreShort}
 use Rattle.sm_write.proofs.TreesStay.{trees_stay, trees_wider}
 use Rattle.sm_houdini.specs.Certified.{asked, IsCertified, AreCertified}
-use Rattle.sm_houdini.specs.Collected.{AreCollected, goals_with, stop_in, GoalStops, GoalCloses, GoalsStop, GoalsClose}
+use Rattle.sm_houdini.specs.Collected.{AreCollected, goals_with, stop_in, GoalStops, GoalCloses, RunStops, RunCloses, GoalsStop, GoalsClose}
 use Rattle.sm_houdini.specs.Collected.{FinalStops, FinalCloses, AreInsideClosed}
-use Rattle.sm_houdini.specs.Outcomes.{Outcome, Accepted, Conflict, Open, Steps, Coefficient, TooMany, goal_outcome, goals_outcome, final_outcome, is_closing}
+use Rattle.sm_houdini.specs.Outcomes.{Outcome, Accepted, Conflict, Open, Steps}
+use Rattle.sm_houdini.specs.Outcomes.{Coefficient, TooMany, goal_outcome, goals_outcome, final_outcome}
 use Rattle.sm_houdini.specs.declared.ending.Stop.{Stop}
 use Rattle.sm_houdini.proofs.LoopLemmas.{taken}
 use Rattle.sm_houdini.proofs.ClosingLemmas.{forms_same, due_stays}
 use Rattle.sm_houdini.proofs.RoundSteps.{facts_at}
 use Rattle.sm_houdini.proofs.SimpleWritable.{certified_append}
 
-within_append : (n : ℕ) (xs ys : List CertTree) → AreTreesWithin n xs → AreTreesWithin n ys → AreTreesWithin n (xs ++ ys)
+pub within_append : (n : ℕ) (xs ys : List CertTree) → AreTreesWithin n xs → AreTreesWithin n ys → AreTreesWithin n (xs ++ ys)
 within_append n [] ys a b = b
 within_append n (x ∷ xs) ys a b = (a.0, within_append n xs ys a.1 b)
 
-short_append : (cs es : List Certificate) → AreShort cs → AreShort es → AreShort (cs ++ es)
+pub short_append : (cs es : List Certificate) → AreShort cs → AreShort es → AreShort (cs ++ es)
 short_append [] es a b = b
 short_append (c ∷ cs) es a b = (a.0, short_append cs es a.1 b)
 
@@ -76,10 +74,14 @@ pub collected_more : (v w : TableValue) → Widens v w → (goals : List (List A
     IsShort (certificate_in (trees_in w) tree) → AreCollected w (goals ++ (facts, goal) ∷ []) new
 collected_more v w wider goals trees new facts goal tree is before within closes names short =
     let c = collected_stays v w wider goals trees before in
-    let certified : IsCertified (sorts_in w) facts goal (certificate_in (trees_in w) tree) =
-    (subst (λ (s : Sorts). Closes s (as_facts (facts ++ negate goal ∷ [])) (certificate_in (trees_in w) tree)) (sym wider.sorts) closes, names) in
+    let certified : IsCertified (sorts_in w) facts goal (certificate_in (trees_in w) tree) = (
+      subst (λ (s : Sorts). Closes s (as_facts (facts ++ negate goal ∷ [])) (certificate_in (trees_in w) tree))
+          (sym wider.sorts) closes,
+      names,
+    ) in
     let both : map (certificate_in (trees_in w)) (trees ++ tree ∷ [])
-    ≡ map (certificate_in (trees_in w)) trees ++ certificate_in (trees_in w) tree ∷ [] = map-append (certificate_in (trees_in w)) trees (tree ∷ []) in
+    ≡ map (certificate_in (trees_in w)) trees ++ certificate_in (trees_in w) tree ∷ [] = map-append (certificate_in (trees_in w)) trees
+    (tree ∷ []) in
     subst (AreCollected w (goals ++ (facts, goal) ∷ [])) (sym is) (record {
       within = within_append (length (trees_in w)) trees (tree ∷ []) c.within (within, tt);
       certified = subst (AreCertified (sorts_in w) (goals ++ (facts, goal) ∷ [])) (sym both)
@@ -92,7 +94,7 @@ map_count : {X Y : Type 0} (F : X → Y) (xs : List X) → length (map F xs) ≡
 map_count F [] = refl
 map_count F (x ∷ xs) = ap suc (map_count F xs)
 
-forms_count : (sorts : Sorts) (trees : List Tree) (fs : List Formula) → length (forms_in sorts trees fs) ≡ length fs
+pub forms_count : (sorts : Sorts) (trees : List Tree) (fs : List Formula) → length (forms_in sorts trees fs) ≡ length fs
 forms_count sorts trees fs = map_count (λ (f : Formula). assertion_in sorts trees (numbered f)) fs
 
 pub form_at : (sorts : Sorts) (trees : List Tree) (fs : List Formula) (i : ℕ) (f : Formula) → AreFormsReady sorts trees fs →
@@ -121,20 +123,24 @@ longer {X} {Y} F xs i x h e =
 pub goal_ends : (v w : TableValue) → Widens v w → (steps node at : ℕ) (facts : List Formula) (goal : Formula)
     (a : Answer) (tree : CertTree) (given : List Formula) → given ≡ facts → AreFormsReady (sorts_in v) (trees_in v) facts →
     Tells (sorts_in v) (trees_in w) a
-    (walk (sorts_in v) steps (assertions_in (sorts_in v) (trees_in v) (all_numbered given)) (assertion_in (sorts_in v) (trees_in v) (numbered goal))) →
+    (walk (sorts_in v) steps (assertions_in (sorts_in v) (trees_in v) (all_numbered given)) (assertion_in (sorts_in v) (trees_in v)
+    (numbered goal))) →
     Certifies (sorts_in v) (trees_in w) (assertions_in (sorts_in v) (trees_in v) (all_numbered given))
     (assertion_in (sorts_in v) (trees_in v) (numbered goal)) a →
-    NamesOnly (terms_walked (assertions_in (sorts_in v) (trees_in v) (all_numbered given)) (assertion_in (sorts_in v) (trees_in v) (numbered goal)))
+    NamesOnly (terms_walked (assertions_in (sorts_in v) (trees_in v) (all_numbered given)) (assertion_in (sorts_in v) (trees_in v)
+    (numbered goal)))
     (trees_in w) a →
     a ≡ answers.Closed tree → IsShort (certificate_in (trees_in w) tree) →
     (goals : List (List Assertion × Assertion)) (old new : List CertTree) → new ≡ old ++ tree ∷ [] → AreCollected v goals old →
-    GoalCloses node at (walk (sorts_in v) steps (forms_in (sorts_in v) (trees_in v) facts) (assertion_in (sorts_in v) (trees_in v) (numbered goal)))
+    GoalCloses node at (walk (sorts_in v) steps (forms_in (sorts_in v) (trees_in v) facts) (assertion_in (sorts_in v) (trees_in v)
+    (numbered goal)))
     × AreCollected w (goals ++ (forms_in (sorts_in v) (trees_in v) facts, assertion_in (sorts_in v) (trees_in v) (numbered goal)) ∷ []) new
 goal_ends v w wider steps node at facts goal a tree given same ready tells certifies names closed short goals old new is before =
     let sorts = sorts_in v in let ts = trees_in v in
     let fs = forms_in sorts ts facts in
     let g = assertion_in sorts ts (numbered goal) in
-    let as_forms : assertions_in sorts ts (all_numbered given) ≡ fs = ap (λ (l : List Formula). assertions_in sorts ts (all_numbered l)) same ∙ forms_same sorts ts facts in
+    let as_forms : assertions_in sorts ts (all_numbered given) ≡ fs = ap (λ (l : List Formula). assertions_in sorts ts
+    (all_numbered l)) same ∙ forms_same sorts ts facts in
     let told = subst (λ (b : Answer). Tells sorts (trees_in w) b (walk sorts steps fs g)) closed
     (subst (λ (l : List Assertion). Tells sorts (trees_in w) a (walk sorts steps l g)) as_forms tells) in
     let shows = subst (λ (b : Answer). Certifies sorts (trees_in w) fs g b) closed
@@ -149,9 +155,11 @@ goal_ends v w wider steps node at facts goal a tree given same ready tells certi
 pub goal_stopped : (v w : TableValue) (steps node at : ℕ) (facts : List Formula) (goal : Formula) (a : Answer) (s : Stop)
     (given : List Formula) → given ≡ facts →
     Tells (sorts_in v) (trees_in w) a
-    (walk (sorts_in v) steps (assertions_in (sorts_in v) (trees_in v) (all_numbered given)) (assertion_in (sorts_in v) (trees_in v) (numbered goal))) →
+    (walk (sorts_in v) steps (assertions_in (sorts_in v) (trees_in v) (all_numbered given)) (assertion_in (sorts_in v) (trees_in v)
+    (numbered goal))) →
     ((sorts : Sorts) (trees : List Tree) (x : Walked) → Tells sorts trees a x → GoalStops node at x s) →
-    GoalStops node at (walk (sorts_in v) steps (forms_in (sorts_in v) (trees_in v) facts) (assertion_in (sorts_in v) (trees_in v) (numbered goal))) s
+    GoalStops node at (walk (sorts_in v) steps (forms_in (sorts_in v) (trees_in v) facts) (assertion_in (sorts_in v) (trees_in v)
+    (numbered goal))) s
 goal_stopped v w steps node at facts goal a s given same tells stops =
     let sorts = sorts_in v in let ts = trees_in v in
     let g = assertion_in sorts ts (numbered goal) in
@@ -164,26 +172,34 @@ goal_stopped v w steps node at facts goal a s given same tells stops =
 goal_stays : (v u : TableValue) → Widens v u → (fs : List Formula) (i : ℕ) (f : Formula) → AreFormsReady (sorts_in v) (trees_in v) fs →
     i < length fs → f ≡ get_or fs i f →
     assertion_in (sorts_in u) (trees_in u) (numbered f) ≡ assertion_in (sorts_in v) (trees_in v) (numbered f)
-goal_stays v u wider fs i f ready h e = widened.assertion_stays v u wider (numbered f) (form_at (sorts_in v) (trees_in v) fs i f ready h e).0
+goal_stays v u wider fs i f ready h e = widened.assertion_stays v u wider (numbered f) (form_at (sorts_in v)
+    (trees_in v) fs i f ready h e).0
 
 -- the goals so far and one more, which closes
-pub goal_next : (v u w : TableValue) → Widens v u → (steps i at : ℕ) (d : program.Due) (f : Formula) →
-    AreFormsReady (sorts_in v) (trees_in v) d.facts.list.items → AreFormsReady (sorts_in v) (trees_in v) d.targets.list.items →
-    i < length d.targets.list.items → f ≡ get_or d.targets.list.items i f → at ≡ i →
+pub goal_next : (v u w : TableValue) → Widens v u → (steps first i at : ℕ) (d : program.Due) (asks : List Formula) (f : Formula) →
+    AreFormsReady (sorts_in v) (trees_in v) d.facts.list.items → AreFormsReady (sorts_in v) (trees_in v) asks →
+    i < length asks → f ≡ get_or asks i f → at ≡ first + i →
     (goals : List (List Assertion × Assertion)) (new : List CertTree) →
-    (GoalCloses d.node at (walk (sorts_in u) steps (forms_in (sorts_in u) (trees_in u) d.facts.list.items) (assertion_in (sorts_in u) (trees_in u) (numbered f)))
-    × AreCollected w ((goals ++ goals_with (due_in (sorts_in v) (trees_in v) d).facts (take i (due_in (sorts_in v) (trees_in v) d).goals))
+    (GoalCloses d.node at (walk (sorts_in u) steps (forms_in (sorts_in u) (trees_in u) d.facts.list.items) (assertion_in (sorts_in u)
+    (trees_in u) (numbered f)))
+    × AreCollected w ((goals ++ goals_with (due_in (sorts_in v) (trees_in v) d).facts (take i (forms_in (sorts_in v) (trees_in v) asks)))
     ++ (forms_in (sorts_in u) (trees_in u) d.facts.list.items, assertion_in (sorts_in u) (trees_in u) (numbered f)) ∷ []) new) →
-    GoalCloses d.node i (walk (sorts_in v) steps (forms_in (sorts_in v) (trees_in v) d.facts.list.items) (assertion_in (sorts_in v) (trees_in v) (numbered f)))
-    × AreCollected w (goals ++ goals_with (due_in (sorts_in v) (trees_in v) d).facts (take (i + 1) (due_in (sorts_in v) (trees_in v) d).goals)) new
-goal_next v u w wider steps i at d f known asks h e same goals new both =
+    GoalCloses d.node (first + i) (walk (sorts_in v) steps (forms_in (sorts_in v) (trees_in v) d.facts.list.items) (assertion_in
+    (sorts_in v) (trees_in v) (numbered f)))
+    × AreCollected w (goals ++ goals_with (due_in (sorts_in v) (trees_in v) d).facts (take (i + 1) (forms_in (sorts_in v)
+    (trees_in v) asks))) new
+goal_next v u w wider steps first i at d asks f known ready h e same goals new both =
     let facts = widened.forms_stay v u wider d.facts.list.items known in
-    let goal = goal_stays v u wider d.targets.list.items i f asks h e in
+    let goal = goal_stays v u wider asks i f ready h e in
     let fs = forms_in (sorts_in v) (trees_in v) d.facts.list.items in
-    let gs = forms_in (sorts_in v) (trees_in v) d.targets.list.items in
+    let gs = forms_in (sorts_in v) (trees_in v) asks in
     let g = assertion_in (sorts_in v) (trees_in v) (numbered f) in
-    let front = longer (λ (x : Formula). assertion_in (sorts_in v) (trees_in v) (numbered x)) d.targets.list.items i f h e in
-    let moved : (goals ++ goals_with fs (take i gs)) ++ (forms_in (sorts_in u) (trees_in u) d.facts.list.items, assertion_in (sorts_in u) (trees_in u) (numbered f)) ∷ []
+    let front = longer (λ (x : Formula). assertion_in (sorts_in v) (trees_in v) (numbered x)) asks i f h e in
+    let moved : (goals ++ goals_with fs (take i gs)) ++ (
+      forms_in (sorts_in u) (trees_in u) d.facts.list.items,
+      assertion_in
+          (sorts_in u) (trees_in u) (numbered f),
+    ) ∷ []
     ≡ goals ++ goals_with fs (take (i + 1) gs) =
     (λ k. (goals ++ goals_with fs (take i gs)) ++ (facts k, goal k) ∷ [])
     ∙ append_assoc goals (goals_with fs (take i gs)) ((fs, g) ∷ [])
@@ -194,96 +210,113 @@ goal_next v u w wider steps i at d f known asks h e same goals new both =
       subst (λ (l : List (List Assertion × Assertion)). AreCollected w l new) moved both.1,
     )
 
-pub goal_left : (sorts : Sorts) (trees : List Tree) (steps i : ℕ) (d : program.Due) (f : Formula) →
-    i < length d.targets.list.items → f ≡ get_or d.targets.list.items i f →
-    GoalCloses d.node i (walk sorts steps (forms_in sorts trees d.facts.list.items) (assertion_in sorts trees (numbered f))) →
+pub goal_left : (sorts : Sorts) (trees : List Tree) (steps first i : ℕ) (d : program.Due) (asks : List Formula) (f : Formula) →
+    i < length asks → f ≡ get_or asks i f →
+    GoalCloses d.node (first + i) (walk sorts steps (forms_in sorts trees d.facts.list.items) (assertion_in sorts trees (numbered f))) →
     (later : Outcome (ℕ × Verdict)) →
-    goals_outcome (walk sorts steps (due_in sorts trees d).facts) d.node i (drop i (due_in sorts trees d).goals) later
-    ≡ goals_outcome (walk sorts steps (due_in sorts trees d).facts) d.node (i + 1) (drop (i + 1) (due_in sorts trees d).goals) later
-goal_left sorts trees steps i d f h e closes later =
+    goals_outcome (walk sorts steps (due_in sorts trees d).facts) d.node (first + i) (drop i (forms_in sorts trees asks)) later
+    ≡ goals_outcome (walk sorts steps (due_in sorts trees d).facts) d.node (first + (i + 1)) (drop (i + 1)
+    (forms_in sorts trees asks)) later
+goal_left sorts trees steps first i d asks f h e closes later =
     let W = walk sorts steps (due_in sorts trees d).facts in
-    let gs = (due_in sorts trees d).goals in
-    let more : suc i ≡ i + 1 = omega arith in
-    ap (λ (l : List Assertion). goals_outcome W d.node i l later)
-    (further (λ (x : Formula). assertion_in sorts trees (numbered x)) d.targets.list.items i f h e)
-    ∙ closes (goals_outcome W d.node (suc i) (drop (i + 1) gs) later)
+    let gs = forms_in sorts trees asks in
+    let more : suc (first + i) ≡ first + (i + 1) = omega arith in
+    ap (λ (l : List Assertion). goals_outcome W d.node (first + i) l later)
+    (further (λ (x : Formula). assertion_in sorts trees (numbered x)) asks i f h e)
+    ∙ closes (goals_outcome W d.node (suc (first + i)) (drop (i + 1) gs) later)
     ∙ ap (λ (n : ℕ). goals_outcome W d.node n (drop (i + 1) gs) later) more
 
 -- or stops the search
-pub goal_stops : (v u : TableValue) → Widens v u → (steps i at : ℕ) (d : program.Due) (f : Formula) (s : Stop) →
-    AreFormsReady (sorts_in v) (trees_in v) d.facts.list.items → AreFormsReady (sorts_in v) (trees_in v) d.targets.list.items →
-    i < length d.targets.list.items → f ≡ get_or d.targets.list.items i f → at ≡ i →
-    GoalStops d.node at (walk (sorts_in u) steps (forms_in (sorts_in u) (trees_in u) d.facts.list.items) (assertion_in (sorts_in u) (trees_in u) (numbered f))) s →
+pub goal_stops : (v u : TableValue) → Widens v u → (steps first i at : ℕ) (d : program.Due) (asks : List Formula) (f : Formula) (s : Stop) →
+    AreFormsReady (sorts_in v) (trees_in v) d.facts.list.items → AreFormsReady (sorts_in v) (trees_in v) asks →
+    i < length asks → f ≡ get_or asks i f → at ≡ first + i →
+    GoalStops d.node at (walk (sorts_in u) steps (forms_in (sorts_in u) (trees_in u) d.facts.list.items) (assertion_in (sorts_in u)
+    (trees_in u) (numbered f))) s →
     (later : Outcome (ℕ × Verdict)) →
-    goals_outcome (walk (sorts_in v) steps (due_in (sorts_in v) (trees_in v) d).facts) d.node i (drop i (due_in (sorts_in v) (trees_in v) d).goals) later
+    goals_outcome (walk (sorts_in v) steps (due_in (sorts_in v) (trees_in v) d).facts) d.node (first + i) (drop i (forms_in
+    (sorts_in v) (trees_in v) asks)) later
     ≡ stop_in s
-goal_stops v u wider steps i at d f s known asks h e same stops later =
+goal_stops v u wider steps first i at d asks f s known ready h e same stops later =
     let facts = widened.forms_stay v u wider d.facts.list.items known in
-    let goal = goal_stays v u wider d.targets.list.items i f asks h e in
+    let goal = goal_stays v u wider asks i f ready h e in
     let W = walk (sorts_in v) steps (due_in (sorts_in v) (trees_in v) d).facts in
-    let gs = (due_in (sorts_in v) (trees_in v) d).goals in
-    let next = goals_outcome W d.node (suc i) (drop (i + 1) gs) later in
-    ap (λ (l : List Assertion). goals_outcome W d.node i l later)
-    (further (λ (x : Formula). assertion_in (sorts_in v) (trees_in v) (numbered x)) d.targets.list.items i f h e)
+    let gs = forms_in (sorts_in v) (trees_in v) asks in
+    let next = goals_outcome W d.node (suc (first + i)) (drop (i + 1) gs) later in
+    ap (λ (l : List Assertion). goals_outcome W d.node (first + i) l later)
+    (further (λ (x : Formula). assertion_in (sorts_in v) (trees_in v) (numbered x)) asks i f h e)
     ∙ sym (λ k. goal_outcome d.node (same k) (walk (wider.sorts k) steps (facts k) (goal k)) next) ∙ stops next
 
 -- by what the goal came to
-different : {A : Type 0} → true ≡ false → A
+pub different : {A : Type 0} → true ≡ false → A
 different e = absurd cc
 
-pub goal_passed : (v u w : TableValue) → Widens v u → (steps i at : ℕ) (d : program.Due) (f : Formula) →
-    AreFormsReady (sorts_in v) (trees_in v) d.facts.list.items → AreFormsReady (sorts_in v) (trees_in v) d.targets.list.items →
-    i < length d.targets.list.items → f ≡ get_or d.targets.list.items i f → at ≡ i →
+pub goal_passed : (v u w : TableValue) → Widens v u → (steps first i at : ℕ) (d : program.Due) (asks : List Formula) (f : Formula) →
+    AreFormsReady (sorts_in v) (trees_in v) d.facts.list.items → AreFormsReady (sorts_in v) (trees_in v) asks →
+    i < length asks → f ≡ get_or asks i f → at ≡ first + i →
     (goals : List (List Assertion × Assertion)) (new : List CertTree) (o : Option Stop) → is_some o ≡ false →
     MatchOption o
-    (GoalCloses d.node at (walk (sorts_in u) steps (forms_in (sorts_in u) (trees_in u) d.facts.list.items) (assertion_in (sorts_in u) (trees_in u) (numbered f)))
-    × AreCollected w ((goals ++ goals_with (due_in (sorts_in v) (trees_in v) d).facts (take i (due_in (sorts_in v) (trees_in v) d).goals))
+    (GoalCloses d.node at (walk (sorts_in u) steps (forms_in (sorts_in u) (trees_in u) d.facts.list.items) (assertion_in (sorts_in u)
+    (trees_in u) (numbered f)))
+    × AreCollected w ((goals ++ goals_with (due_in (sorts_in v) (trees_in v) d).facts (take i (forms_in (sorts_in v) (trees_in v) asks)))
     ++ (forms_in (sorts_in u) (trees_in u) d.facts.list.items, assertion_in (sorts_in u) (trees_in u) (numbered f)) ∷ []) new)
-    (GoalStops d.node at (walk (sorts_in u) steps (forms_in (sorts_in u) (trees_in u) d.facts.list.items) (assertion_in (sorts_in u) (trees_in u) (numbered f)))) →
-    GoalCloses d.node i (walk (sorts_in v) steps (forms_in (sorts_in v) (trees_in v) d.facts.list.items) (assertion_in (sorts_in v) (trees_in v) (numbered f)))
-    × AreCollected w (goals ++ goals_with (due_in (sorts_in v) (trees_in v) d).facts (take (i + 1) (due_in (sorts_in v) (trees_in v) d).goals)) new
-goal_passed v u w wider steps i at d f known asks h e same goals new None is both =
-    goal_next v u w wider steps i at d f known asks h e same goals new both
-goal_passed v u w wider steps i at d f known asks h e same goals new (Some s) is both = different is
+    (GoalStops d.node at (walk (sorts_in u) steps (forms_in (sorts_in u) (trees_in u) d.facts.list.items) (assertion_in (sorts_in u)
+    (trees_in u) (numbered f)))) →
+    GoalCloses d.node (first + i) (walk (sorts_in v) steps (forms_in (sorts_in v) (trees_in v) d.facts.list.items) (assertion_in
+    (sorts_in v) (trees_in v) (numbered f)))
+    × AreCollected w (goals ++ goals_with (due_in (sorts_in v) (trees_in v) d).facts (take (i + 1) (forms_in (sorts_in v)
+    (trees_in v) asks))) new
+goal_passed v u w wider steps first i at d asks f known ready h e same goals new None is both =
+    goal_next v u w wider steps first i at d asks f known ready h e same goals new both
+goal_passed v u w wider steps first i at d asks f known ready h e same goals new (Some s) is both = different is
 
-pub goal_ended : (v u w : TableValue) → Widens v u → (steps i at : ℕ) (d : program.Due) (f : Formula) →
-    AreFormsReady (sorts_in v) (trees_in v) d.facts.list.items → AreFormsReady (sorts_in v) (trees_in v) d.targets.list.items →
-    i < length d.targets.list.items → f ≡ get_or d.targets.list.items i f → at ≡ i →
+pub goal_ended : (v u w : TableValue) → Widens v u → (steps first i at : ℕ) (d : program.Due) (asks : List Formula) (f : Formula) →
+    AreFormsReady (sorts_in v) (trees_in v) d.facts.list.items → AreFormsReady (sorts_in v) (trees_in v) asks →
+    i < length asks → f ≡ get_or asks i f → at ≡ first + i →
     (before goals : List (List Assertion × Assertion)) (new : List CertTree) →
     ((later : Outcome (ℕ × Verdict)) →
-    goals_outcome (walk (sorts_in v) steps (due_in (sorts_in v) (trees_in v) d).facts) d.node 0 (due_in (sorts_in v) (trees_in v) d).goals later
-    ≡ goals_outcome (walk (sorts_in v) steps (due_in (sorts_in v) (trees_in v) d).facts) d.node i
-    (drop i (due_in (sorts_in v) (trees_in v) d).goals) later) →
+    goals_outcome (walk (sorts_in v) steps (due_in (sorts_in v) (trees_in v) d).facts) d.node first (forms_in (sorts_in v)
+    (trees_in v) asks) later
+    ≡ goals_outcome (walk (sorts_in v) steps (due_in (sorts_in v) (trees_in v) d).facts) d.node (first + i)
+    (drop i (forms_in (sorts_in v) (trees_in v) asks)) later) →
     (o : Option Stop) → is_some o ≡ true →
     MatchOption o
-    (GoalCloses d.node at (walk (sorts_in u) steps (forms_in (sorts_in u) (trees_in u) d.facts.list.items) (assertion_in (sorts_in u) (trees_in u) (numbered f)))
-    × AreCollected w (before ++ (forms_in (sorts_in u) (trees_in u) d.facts.list.items, assertion_in (sorts_in u) (trees_in u) (numbered f)) ∷ []) new)
-    (GoalStops d.node at (walk (sorts_in u) steps (forms_in (sorts_in u) (trees_in u) d.facts.list.items) (assertion_in (sorts_in u) (trees_in u) (numbered f)))) →
+    (GoalCloses d.node at (walk (sorts_in u) steps (forms_in (sorts_in u) (trees_in u) d.facts.list.items) (assertion_in (sorts_in u)
+    (trees_in u) (numbered f)))
+    × AreCollected w (before ++ (
+      forms_in (sorts_in u) (trees_in u) d.facts.list.items,
+      assertion_in (sorts_in u) (trees_in u)
+          (numbered f),
+    ) ∷ []) new)
+    (GoalStops d.node at (walk (sorts_in u) steps (forms_in (sorts_in u) (trees_in u) d.facts.list.items) (assertion_in (sorts_in u)
+    (trees_in u) (numbered f)))) →
     MatchOption o
-    (GoalsClose (walk (sorts_in v) steps) (due_in (sorts_in v) (trees_in v) d)
-    × AreCollected w (goals ++ goals_with (due_in (sorts_in v) (trees_in v) d).facts (due_in (sorts_in v) (trees_in v) d).goals) new)
-    (GoalsStop (walk (sorts_in v) steps) (due_in (sorts_in v) (trees_in v) d))
-goal_ended v u w wider steps i at d f known asks h e same before goals new closes None is both = different (sym is)
-goal_ended v u w wider steps i at d f known asks h e same before goals new closes (Some s) is stops =
-    λ (later : Outcome (ℕ × Verdict)). closes later ∙ goal_stops v u wider steps i at d f s known asks h e same stops later
+    (RunCloses (walk (sorts_in v) steps) (due_in (sorts_in v) (trees_in v) d) first (forms_in (sorts_in v) (trees_in v) asks)
+    × AreCollected w (goals ++ goals_with (due_in (sorts_in v) (trees_in v) d).facts (forms_in (sorts_in v) (trees_in v) asks)) new)
+    (RunStops (walk (sorts_in v) steps) (due_in (sorts_in v) (trees_in v) d) first (forms_in (sorts_in v) (trees_in v) asks))
+goal_ended v u w wider steps first i at d asks f known ready h e same before goals new closes None is both = different (sym is)
+goal_ended v u w wider steps first i at d asks f known ready h e same before goals new closes (Some s) is stops =
+    λ (later : Outcome (ℕ × Verdict)). closes later ∙ goal_stops v u wider steps first i at d asks f s known ready h e same stops later
 
--- all goals of what a node asks
-pub goals_done : (v w : TableValue) (steps i : ℕ) (d : program.Due) → length d.targets.list.items ≤ i →
+-- all goals of the run
+pub goals_done : (v w : TableValue) (steps first i : ℕ) (d : program.Due) (asks : List Formula) → length asks ≤ i →
     (goals : List (List Assertion × Assertion)) (new : List CertTree) →
-    AreCollected w (goals ++ goals_with (due_in (sorts_in v) (trees_in v) d).facts (take i (due_in (sorts_in v) (trees_in v) d).goals)) new →
+    AreCollected w (goals ++ goals_with (due_in (sorts_in v) (trees_in v) d).facts (take i (forms_in (sorts_in v) (trees_in v) asks))) new →
     ((later : Outcome (ℕ × Verdict)) →
-    goals_outcome (walk (sorts_in v) steps (due_in (sorts_in v) (trees_in v) d).facts) d.node 0 (due_in (sorts_in v) (trees_in v) d).goals later
-    ≡ goals_outcome (walk (sorts_in v) steps (due_in (sorts_in v) (trees_in v) d).facts) d.node i
-    (drop i (due_in (sorts_in v) (trees_in v) d).goals) later) →
-    GoalsClose (walk (sorts_in v) steps) (due_in (sorts_in v) (trees_in v) d)
-    × AreCollected w (goals ++ goals_with (due_in (sorts_in v) (trees_in v) d).facts (due_in (sorts_in v) (trees_in v) d).goals) new
-goals_done v w steps i d h goals new collected closes =
-    let due = due_in (sorts_in v) (trees_in v) d in
-    let count = forms_count (sorts_in v) (trees_in v) d.targets.list.items in
-    let past : length due.goals ≤ i = omega (arith, count, h) in (
+    goals_outcome (walk (sorts_in v) steps (due_in (sorts_in v) (trees_in v) d).facts) d.node first (forms_in (sorts_in v)
+    (trees_in v) asks) later
+    ≡ goals_outcome (walk (sorts_in v) steps (due_in (sorts_in v) (trees_in v) d).facts) d.node (first + i)
+    (drop i (forms_in (sorts_in v) (trees_in v) asks)) later) →
+    RunCloses (walk (sorts_in v) steps) (due_in (sorts_in v) (trees_in v) d) first (forms_in (sorts_in v) (trees_in v) asks)
+    × AreCollected w (goals ++ goals_with (due_in (sorts_in v) (trees_in v) d).facts (forms_in (sorts_in v) (trees_in v) asks)) new
+goals_done v w steps first i d asks h goals new collected closes =
+    let W = walk (sorts_in v) steps (due_in (sorts_in v) (trees_in v) d).facts in
+    let gs = forms_in (sorts_in v) (trees_in v) asks in
+    let count = forms_count (sorts_in v) (trees_in v) asks in
+    let past : length gs ≤ i = omega (arith, count, h) in (
       (λ (later : Outcome (ℕ × Verdict)).
-          closes later ∙ ap (λ (l : List Assertion). goals_outcome (walk (sorts_in v) steps due.facts) d.node i l later) (drop_all i due.goals past)),
-      subst (λ (l : List Assertion). AreCollected w (goals ++ goals_with due.facts l) new) (take_all i due.goals past) collected,
+          closes later ∙ ap (λ (l : List Assertion). goals_outcome W d.node (first + i) l later) (drop_all i gs past)),
+      subst (λ (l : List Assertion). AreCollected w (goals ++ goals_with (due_in (sorts_in v) (trees_in v) d).facts l) new)
+          (take_all i gs past) collected,
     )
 
 -- an outcome is none that both follow
@@ -437,24 +470,34 @@ dues_done v w steps i ds h new collected closes =
       subst (λ (l : List Due). AreCollected w (asked l) new) (take_all i all past) collected,
     )
 
--- the end of what a node asks, over a wider table
-pub due_over : (v w x : TableValue) → Widens v w → (steps : ℕ) (d : program.Due) →
-    AreFormsReady (sorts_in v) (trees_in v) d.facts.list.items → AreFormsReady (sorts_in v) (trees_in v) d.targets.list.items →
+-- the end of a run of goals, over a wider table
+abbrev pub Ended : (sorts : Sorts) (steps node first : ℕ) (facts run : List Assertion) → TableValue →
+    List (List Assertion × Assertion) → List CertTree →
+    Option Stop → Type 0
+Ended sorts steps node first facts run x goals new o =
+    MatchOption o
+    (((later : Outcome (ℕ × Verdict)) → goals_outcome (walk sorts steps facts) node first run later ≡ later)
+    × AreCollected x (goals ++ goals_with facts run) new)
+    (λ (s : Stop). (later : Outcome (ℕ × Verdict)) → goals_outcome (walk sorts steps facts) node first run later ≡ stop_in s)
+
+pub run_over : (v w x : TableValue) → Widens v w → (steps first : ℕ) (d : program.Due) (asks : List Formula) →
+    AreFormsReady (sorts_in v) (trees_in v) d.facts.list.items → AreFormsReady (sorts_in v) (trees_in v) asks →
     (goals : List (List Assertion × Assertion)) (old new : List CertTree) (r : Result (Option Stop) AllocError) →
     (AreCollected w goals old → IfOk r (λ o. MatchOption o
-    (GoalsClose (walk (sorts_in w) steps) (due_in (sorts_in w) (trees_in w) d)
-    × AreCollected x (goals ++ goals_with (due_in (sorts_in w) (trees_in w) d).facts (due_in (sorts_in w) (trees_in w) d).goals) new)
-    (GoalsStop (walk (sorts_in w) steps) (due_in (sorts_in w) (trees_in w) d)))) →
+    (RunCloses (walk (sorts_in w) steps) (due_in (sorts_in w) (trees_in w) d) first (forms_in (sorts_in w) (trees_in w) asks)
+    × AreCollected x (goals ++ goals_with (due_in (sorts_in w) (trees_in w) d).facts (forms_in (sorts_in w) (trees_in w) asks)) new)
+    (RunStops (walk (sorts_in w) steps) (due_in (sorts_in w) (trees_in w) d) first (forms_in (sorts_in w) (trees_in w) asks)))) →
     AreCollected v goals old → IfOk r (λ o. MatchOption o
-    (GoalsClose (walk (sorts_in v) steps) (due_in (sorts_in v) (trees_in v) d)
-    × AreCollected x (goals ++ goals_with (due_in (sorts_in v) (trees_in v) d).facts (due_in (sorts_in v) (trees_in v) d).goals) new)
-    (GoalsStop (walk (sorts_in v) steps) (due_in (sorts_in v) (trees_in v) d)))
-due_over v w x wider steps d known asks goals old new r h before =
-    let same = due_stays v w wider d known asks in
-    subst (λ (s : Sorts). IfOk r (λ o. MatchOption o
-    (GoalsClose (walk s steps) (due_in (sorts_in v) (trees_in v) d)
-    × AreCollected x (goals ++ goals_with (due_in (sorts_in v) (trees_in v) d).facts (due_in (sorts_in v) (trees_in v) d).goals) new)
-    (GoalsStop (walk s steps) (due_in (sorts_in v) (trees_in v) d)))) wider.sorts
-    (subst (λ (e : Due). IfOk r (λ o. MatchOption o
-    (GoalsClose (walk (sorts_in w) steps) e × AreCollected x (goals ++ goals_with e.facts e.goals) new)
-    (GoalsStop (walk (sorts_in w) steps) e))) same (h (collected_stays v w wider goals old before)))
+    (RunCloses (walk (sorts_in v) steps) (due_in (sorts_in v) (trees_in v) d) first (forms_in (sorts_in v) (trees_in v) asks)
+    × AreCollected x (goals ++ goals_with (due_in (sorts_in v) (trees_in v) d).facts (forms_in (sorts_in v) (trees_in v) asks)) new)
+    (RunStops (walk (sorts_in v) steps) (due_in (sorts_in v) (trees_in v) d) first (forms_in (sorts_in v) (trees_in v) asks)))
+run_over v w x wider steps first d asks known ready goals old new r h before =
+    let facts = widened.forms_stay v w wider d.facts.list.items known in
+    let run = widened.forms_stay v w wider asks ready in
+    let fs = forms_in (sorts_in v) (trees_in v) d.facts.list.items in
+    let gs = forms_in (sorts_in v) (trees_in v) asks in
+    subst (λ (s : Sorts). IfOk r (Ended s steps d.node first fs gs x goals new)) wider.sorts
+    (subst (λ (l : List Assertion). IfOk r (Ended (sorts_in w) steps d.node first l gs x goals new)) facts
+    (subst (λ (l : List Assertion).
+    IfOk r (Ended (sorts_in w) steps d.node first (forms_in (sorts_in w) (trees_in w) d.facts.list.items) l x goals new)) run
+    (h (collected_stays v w wider goals old before))))

@@ -95,20 +95,20 @@ runs_tell v within runs tell =
     ∙ ap (λ (n : ℕ). still_marked (goal_closes v) n (run_from v (k * v.size))) place)
 
 -- a run as a slice
-pub run_is : (v : NodeGoalsValue) (first finish : ℕ) → first ≤ length v.marks →
-    ((length v.marks - first < v.size) × (finish ≡ length v.marks)) ⊎ (finish ≡ first + v.size) →
-    slice_range v.marks first finish ≡ run_from v first
-run_is v first finish within (inl h) =
-    let left : length (drop first v.marks) ≡ length v.marks - first = length-drop first v.marks in
-    let one : length (drop first v.marks) ≤ length v.marks - first = omega (arith, left) in
+pub run_is : {X : Type 0} (xs : List X) (size first finish : ℕ) → first ≤ length xs →
+    ((length xs - first < size) × (finish ≡ length xs)) ⊎ (finish ≡ first + size) →
+    slice_range xs first finish ≡ take size (drop first xs)
+run_is {X} xs size first finish within (inl h) =
+    let left : length (drop first xs) ≡ length xs - first = length-drop first xs in
+    let one : length (drop first xs) ≤ length xs - first = omega (arith, left) in
     let less = h.0 in
-    let two : length (drop first v.marks) ≤ v.size = omega (arith, left, less) in
-    ap (λ (n : ℕ). take (n - first) (drop first v.marks)) h.1
-    ∙ take_all (length v.marks - first) (drop first v.marks) one
-    ∙ sym (take_all v.size (drop first v.marks) two)
-run_is v first finish within (inr e) =
-    let size : finish - first ≡ v.size = omega (arith, e) in
-    ap (λ (n : ℕ). take n (drop first v.marks)) size
+    let two : length (drop first xs) ≤ size = omega (arith, left, less) in
+    ap (λ (n : ℕ). take (n - first) (drop first xs)) h.1
+    ∙ take_all (length xs - first) (drop first xs) one
+    ∙ sym (take_all size (drop first xs) two)
+run_is {X} xs size first finish within (inr e) =
+    let count : finish - first ≡ size = omega (arith, e) in
+    ap (λ (n : ℕ). take n (drop first xs)) count
 
 -- marks that were judged of a run, over a table with the same terms
 pub run_tells : (v x : NodeGoalsValue) → v ≡ x → (w : TableValue) (i first : ℕ) (part : List Marked) (r : Result (Vec Marked Global) AllocError) →

@@ -26,6 +26,7 @@ pub mod ShortLemmas
 pub mod SizesLemmas
 pub mod SitesLemmas
 pub mod EndLemmas
+pub mod EndJobsLemmas
 pub mod EndedLemmas
 pub mod UnnamedLines
 pub mod WholeProofs

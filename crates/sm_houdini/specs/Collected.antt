@@ -1,5 +1,5 @@
 -- Private: certificates that are collected, goal by goal, and goals that stop a search.
-use Rattle.std.specs.Prelude.{◌≡◌, ℕ, Bool, false, List, [], ◌∷◌, map, length}
+use Rattle.std.specs.Prelude.{◌≡◌, ℕ, false, List, [], ◌∷◌, map, length}
 use Rattle.sm_term.specs.Assertions.{Assertion}
 use Rattle.sm_term.specs.Tables.{TableValue, trees_in, sorts_in}
 use Rattle.sm_cert.specs.declared.tree.CertTree.{CertTree}
@@ -42,15 +42,24 @@ GoalStops node goal w s =
 abbrev pub GoalCloses : ℕ → ℕ → Walked → Type 0
 GoalCloses node goal w = (later : Outcome (ℕ × Verdict)) → goal_outcome node goal w later ≡ later
 
--- the same of the goals of what a node asks
-abbrev pub GoalsStop : (List Assertion → Assertion → Walked) → Due → Stop → Type 0
-GoalsStop walk d s =
+-- the same of a run of the goals of what a node asks, which begins at a place
+abbrev pub RunStops : (List Assertion → Assertion → Walked) → Due → ℕ → List Assertion → Stop →
+    Type 0
+RunStops walk d first run s =
     (later : Outcome (ℕ × Verdict)) →
-    goals_outcome (walk d.facts) d.node 0 d.goals later ≡ stop_in s
+    goals_outcome (walk d.facts) d.node first run later ≡ stop_in s
+
+abbrev pub RunCloses : (List Assertion → Assertion → Walked) → Due → ℕ → List Assertion → Type 0
+RunCloses walk d first run =
+    (later : Outcome (ℕ × Verdict)) →
+    goals_outcome (walk d.facts) d.node first run later ≡ later
+
+-- the same of all its goals
+abbrev pub GoalsStop : (List Assertion → Assertion → Walked) → Due → Stop → Type 0
+GoalsStop walk d s = RunStops walk d 0 d.goals s
 
 abbrev pub GoalsClose : (List Assertion → Assertion → Walked) → Due → Type 0
-GoalsClose walk d =
-    (later : Outcome (ℕ × Verdict)) → goals_outcome (walk d.facts) d.node 0 d.goals later ≡ later
+GoalsClose walk d = RunCloses walk d 0 d.goals
 
 -- the same of all final goals
 abbrev pub FinalStops : (List Assertion → Assertion → Walked) → List Due → Stop → Type 0

@@ -11,4 +11,5 @@ pub mod GoalJobs
 pub mod SitesBelow
 pub mod ShortFacts
 pub mod Collected
+pub mod EndJobs
 pub mod Searchable

@@ -70,7 +70,8 @@ fn all_asked(
 }
 
 // The plan under the templates that are kept, with its certificates, or why there is none.
-fn ended(
+fn ended<R: Threads + Sync, G: Gate>(
+    crew: &Crew<'_, R, G>,
     alloc: Global,
     table: &mut TermTable,
     task: &Task,
@@ -91,14 +92,15 @@ fn ended(
     let plan = plan_with(alloc, &product.sketch, choice)?;
     let dues = all_asked(alloc, table, task, product, &plan)?;
     let mut list = Vec::new(alloc);
-    match end_all(alloc, table, &dues.list, &mut list, steps)? {
+    match end_all(crew, alloc, table, &dues.list, &mut list, steps)? {
         Some(stop) => Ok(Err(stop)),
         None => Ok(Ok((plan, CertTrees { list }))),
     }
 }
 
 // What the plan under the templates that are kept decides.
-fn decided(
+fn decided<R: Threads + Sync, G: Gate>(
+    crew: &Crew<'_, R, G>,
     alloc: Global,
     table: TermTable,
     task: &Task,
@@ -115,7 +117,7 @@ fn decided(
     ensures proof { IfOk result (IsProof (parts_of task.now)) }
 {
     let mut table = table;
-    match ended(alloc, &mut table, task, product, choice, steps)? {
+    match ended(crew, alloc, &mut table, task, product, choice, steps)? {
         Ok((plan, trees)) => Ok(Outcome::Accepted(Proof { table, plan, trees })),
         Err(stop) => Ok(stopped(stop)),
     }
@@ -176,7 +178,7 @@ fn decided_by<R: Threads + Sync, G: Gate>(
         owners,
     };
     match kept_if_small(crew, alloc, &mut table, task, &product, full, steps)? {
-        Some(kept) => decided(alloc, table, task, &product, &kept, steps),
+        Some(kept) => decided(crew, alloc, table, task, &product, &kept, steps),
         None => Ok(Outcome::TooMany),
     }
 }

@@ -1,5 +1,6 @@
 // The end of a search: each goal of the plan closes, or a final one doesn't.
-ghost use Rattle.std.specs.Prelude.{◌≡◌, ◌++◌, ◌∷◌, [], List, IfOk, OnOk, MatchOption, MatchResult};
+ghost use Rattle.std.specs.Prelude.{◌≡◌, ◌+◌, ◌<◌, ◌^◌, ◌++◌, ◌∷◌, [], List, length};
+ghost use Rattle.std.specs.Prelude.{IfOk, OnOk, MatchOption, MatchResult};
 ghost use Rattle.sm_syntax.specs.text.Parts.{Parts};
 ghost use Rattle.sm_syntax.specs.text.Sorts.{Sorts};
 ghost use Rattle.sm_term.specs.Assertions.{Assertion};
@@ -17,21 +18,25 @@ ghost use Rattle.sm_solve.specs.Walk.{Walked, walk};
 ghost use Rattle.sm_write.specs.Writable.{IsShort};
 ghost use Rattle.sm_houdini.specs.Certified.{asked};
 ghost use Rattle.sm_houdini.specs.Collected.{AreCollected, goals_with, stop_in, GoalStops};
-ghost use Rattle.sm_houdini.specs.Collected.{GoalCloses, GoalsStop, GoalsClose, FinalStops};
+ghost use Rattle.sm_houdini.specs.Collected.{GoalCloses, RunStops, RunCloses, FinalStops};
 ghost use Rattle.sm_houdini.specs.Collected.{FinalCloses, IsInsideClosed};
 ghost use Rattle.sm_houdini.specs.Nodes.{IsNodeOf};
 ghost use Rattle.sm_houdini.specs.Views.{outcome_in, IsProof};
 
 use crate::closing::node_of;
+use crate::end_jobs::end_due;
+use crate::goal_jobs::Crew;
 use crate::outcome::Outcome;
 use crate::short::is_short;
 use sm_cert::CertTree;
 use sm_expand::Due;
 use sm_num::Op;
+use sm_par::Gate;
 use sm_plan::Formulas;
 use sm_solve::{Answer, Node, solve_at};
 use sm_term::{Formula, TermTable};
 use std::alloc::{AllocError, Global};
+use std::thread::Threads;
 
 // Why a goal has no certificate.
 #[derive(Clone, Copy, Debug)]
@@ -147,57 +152,63 @@ fn end_goal(
     }
 }
 
-// The same of the goals of what a node asks, up to the first for which there is none.
-fn end_due(
+// The same of a run of the goals of what a node asks, which begins at a place, up to the first for
+// which there is none. Where the node asks several they share the classes of its facts, though the
+// run has one alone: so each has the same certificate, whatever the runs.
+pub(crate) fn end_run(
     alloc: Global,
     table: &mut TermTable,
     due: &Due,
+    first: u64,
+    run: &[Formula],
     trees: &mut Vec<CertTree>,
     steps: u64,
 ) -> Result<Option<Stop>, AllocError>
     requires facts { AreFormsReady (sorts_in table.old) (trees_in table.old)
         due.now.facts.list.items }
-    requires goals { AreFormsReady (sorts_in table.old) (trees_in table.old)
-        due.now.targets.list.items }
+    requires goals { AreFormsReady (sorts_in table.old) (trees_in table.old) run.now }
+    requires places { first + length run.now < 2 ^ 64 }
     ensures ends { let sorts = sorts_in table.old in let ts = trees_in table.old in
-        let d = due_in sorts ts due.now in
+        let d = due_in sorts ts due.now in let asks = forms_in sorts ts run.now in
         (goals : List (List Assertion × Assertion)) →
         AreCollected table.old goals trees.old.items → IfOk result (λ o. MatchOption o
-        (GoalsClose (walk sorts steps) d
-        × AreCollected table.new (goals ++ goals_with d.facts d.goals) trees.new.items)
-        (GoalsStop (walk sorts steps) d)) }
+        (RunCloses (walk sorts steps) d first asks
+        × AreCollected table.new (goals ++ goals_with d.facts asks) trees.new.items)
+        (RunStops (walk sorts steps) d first asks)) }
     ensures widens { Widens table.old table.new }
 {
     let several = due.targets.list.len() > 1;
     let mut shared = node_of(alloc, table, &due.facts, several)?;
-    end_due_at(alloc, table, &mut shared, due, trees, steps)
+    end_run_at(alloc, table, &mut shared, due, first, run, trees, steps)
 }
 
 // The same by a node of the facts, where there is one.
-fn end_due_at(
+fn end_run_at(
     alloc: Global,
     table: &mut TermTable,
     shared: &mut Option<Node>,
     due: &Due,
+    first: u64,
+    run: &[Formula],
     trees: &mut Vec<CertTree>,
     steps: u64,
 ) -> Result<Option<Stop>, AllocError>
     requires facts { AreFormsReady (sorts_in table.old) (trees_in table.old)
         due.now.facts.list.items }
-    requires goals { AreFormsReady (sorts_in table.old) (trees_in table.old)
-        due.now.targets.list.items }
+    requires goals { AreFormsReady (sorts_in table.old) (trees_in table.old) run.now }
+    requires places { first + length run.now < 2 ^ 64 }
     requires shared { IsNodeOf table.old due.now.facts.list.items shared.old }
     ensures ends { let sorts = sorts_in table.old in let ts = trees_in table.old in
-        let d = due_in sorts ts due.now in
+        let d = due_in sorts ts due.now in let asks = forms_in sorts ts run.now in
         (goals : List (List Assertion × Assertion)) →
         AreCollected table.old goals trees.old.items → IfOk result (λ o. MatchOption o
-        (GoalsClose (walk sorts steps) d
-        × AreCollected table.new (goals ++ goals_with d.facts d.goals) trees.new.items)
-        (GoalsStop (walk sorts steps) d)) }
+        (RunCloses (walk sorts steps) d first asks
+        × AreCollected table.new (goals ++ goals_with d.facts asks) trees.new.items)
+        (RunStops (walk sorts steps) d first asks)) }
     ensures widens { Widens table.old table.new }
 {
-    let mut at = 0;
-    for goal in &due.targets.list {
+    let mut at = first;
+    for goal in run {
         let facts = &due.facts;
         let end = end_goal(
             alloc, table, shared, facts, goal, due.node, at, trees, steps,
@@ -212,7 +223,8 @@ fn end_due_at(
 
 /// Puts the certificates of all goals behind others, or tells the first final goal for which there
 /// is none. The other goals are known to close.
-pub(crate) fn end_all(
+pub(crate) fn end_all<R: Threads + Sync, G: Gate>(
+    crew: &Crew<'_, R, G>,
     alloc: Global,
     table: &mut TermTable,
     dues: &[Due],
@@ -230,7 +242,7 @@ pub(crate) fn end_all(
     ensures widens { Widens table.old table.new }
 {
     for due in dues {
-        let end = end_due(alloc, table, due, trees, steps)?;
+        let end = end_due(crew, alloc, table, due, trees, steps)?;
         if end.is_some() {
             return Ok(end);
         }

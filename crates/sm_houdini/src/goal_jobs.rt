@@ -91,15 +91,15 @@ fn judged_by_jobs<R: Threads + Sync, G: Gate>(
     joined(alloc, &runs)
 }
 
-// How many marks a run has, so that there are no more runs than workers.
-fn size_of(marks: usize, workers: usize) -> usize
+/// How many of a node's goals a run has, so that there are no more runs than workers.
+pub(crate) fn size_of(goals: usize, workers: usize) -> usize
     requires { 0 < workers }
     ensures { 0 < result }
 {
-    if marks == 0 {
+    if goals == 0 {
         return 1;
     }
-    marks.div_ceil(workers)
+    goals.div_ceil(workers)
 }
 
 // The marks of all runs, in order.

@@ -18,6 +18,7 @@ mod choosing;
 mod closing;
 mod deciding;
 mod dues;
+mod end_jobs;
 mod ending;
 mod goal_jobs;
 mod laws;

@@ -14,7 +14,7 @@ use Rattle.sm_houdini.proofs.RoundSteps.{knows_stays}
 use Rattle.sm_houdini.proofs.deciding.decided_by.Goals as goal
 
 pub decided-requires-clause-knows : goal.decided-requires-clause-knows
-decided-requires-clause-knows g c =
+decided-requires-clause-knows g c κs within =
     let v = c.args.table in
     knows_stays v c.kept_if_small.new.table c.in_ok-kept.ensures.widens c.args.task.now _ (record {
       declared = c.requires.declared;
@@ -27,7 +27,7 @@ decided-requires-clause-knows g c =
     })
 
 pub decided-requires-clause-kept : goal.decided-requires-clause-kept
-decided-requires-clause-kept g c =
+decided-requires-clause-kept g c κs within =
     let t = parts_of c.args.task.now in
     let closes = closing (sort_of (declared_of c.args.task.now.shared.decls)) c.args.steps in
     (MatchOption-at_some (is_small t ≡ false) (λ (k : TemplateChoice). (is_small t ≡ true) × (choice_in k ≡ kept closes t)) c.in-Some.kept

@@ -1,8 +1,8 @@
-use Rattle.std.proofs.Common.{◌≡◌, Ok, List, [], sym, ap, ◌∙◌, subst}
+use Rattle.std.proofs.Common.{Ok, List, [], sym, ap, ◌∙◌, subst}
 use Rattle.sm_syntax.specs.text.Parts.{sort_of, task_of}
 use Rattle.sm_text.specs.Tasks.{parts_of}
 use Rattle.sm_term.specs.Tables.{trees_in, sorts_in}
-use Rattle.sm_plan.specs.Plans.{Due, obligations}
+use Rattle.sm_plan.specs.Plans.{obligations}
 use Rattle.sm_plan.proofs.TablesWiden.{widens_twice}
 use Rattle.sm_expand.specs.declared.due.Due as program
 use Rattle.sm_expand.specs.Views.{dues_in, AreDuesReady}
@@ -18,7 +18,7 @@ use Rattle.sm_houdini.proofs.KeptLemmas.{kept_expands}
 use Rattle.sm_houdini.proofs.deciding.ended.Goals as goal
 
 pub all_asked-requires-clause-expands : goal.all_asked-requires-clause-expands
-all_asked-requires-clause-expands c =
+all_asked-requires-clause-expands g c =
     let v = c.args.table.now in
     let k = c.requires.knows in
     let t = parts_of c.args.task.now in
@@ -27,12 +27,12 @@ all_asked-requires-clause-expands c =
     (all.0, ap (obligations (task_of t)) made ∙ all.1)
 
 pub end_all-requires-clause-ready : goal.end_all-requires-clause-ready
-end_all-requires-clause-ready c =
+end_all-requires-clause-ready g c κs within =
     let w = c.all_asked.new.table in
     subst (AreDuesReady (sorts_in w) (trees_in w)) (sym c.deref.ensures.value) c.in_ok-dues.ensures.ready
 
 pub end_all-requires-clause-inside : goal.end_all-requires-clause-inside
-end_all-requires-clause-inside c =
+end_all-requires-clause-inside g c κs within =
     let v = c.args.table.now in
     let w = c.all_asked.new.table in
     let k = c.requires.knows in
@@ -46,7 +46,7 @@ end_all-requires-clause-inside c =
     }
 
 pub returns-in-Some-clause-ends : goal.returns-in-Some-clause-ends
-returns-in-Some-clause-ends c =
+returns-in-Some-clause-ends g c =
     let v = c.args.table.now in
     let w = c.all_asked.new.table in
     let k = c.requires.knows in
@@ -62,7 +62,7 @@ returns-in-Some-clause-ends c =
     (final_stop closed by ds c.in_ok-stop.field-0 c.in-Some.stop c.in-Some.is (c.in_ok-stop.ensures.ends (subst (AreCollected w []) (sym c.new-list.ensures.items) (none_collected w))))
 
 pub returns-in-None-clause-ends : goal.returns-in-None-clause-ends
-returns-in-None-clause-ends c =
+returns-in-None-clause-ends g c =
     let v = c.args.table.now in
     let w = c.all_asked.new.table in
     let x = c.end_all.new.table in
@@ -80,13 +80,13 @@ returns-in-None-clause-ends c =
     ∙ ap (λ (ds : List program.Due). Ok (dues_in (sorts_in w) (trees_in w) ds)) (sym c.deref.ensures.value)) end.0 end.1
 
 pub returns-in_err-stop-clause-widens : goal.returns-in_err-stop-clause-widens
-returns-in_err-stop-clause-widens c =
+returns-in_err-stop-clause-widens g c =
     widens_twice c.args.table.now c.all_asked.new.table c.end_all.new.table c.in_ok-dues.ensures.widens c.in_err-stop.ensures.widens
 
 pub returns-in-Some-clause-widens : goal.returns-in-Some-clause-widens
-returns-in-Some-clause-widens c =
+returns-in-Some-clause-widens g c =
     widens_twice c.args.table.now c.all_asked.new.table c.end_all.new.table c.in_ok-dues.ensures.widens c.in_ok-stop.ensures.widens
 
 pub returns-in-None-clause-widens : goal.returns-in-None-clause-widens
-returns-in-None-clause-widens c =
+returns-in-None-clause-widens g c =
     widens_twice c.args.table.now c.all_asked.new.table c.end_all.new.table c.in_ok-dues.ensures.widens c.in_ok-stop.ensures.widens

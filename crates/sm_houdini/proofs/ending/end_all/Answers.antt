@@ -1,4 +1,4 @@
-use Rattle.std.proofs.Common.{◌≡◌, [], take, drop, sym, ap, ◌∙◌}
+use Rattle.std.proofs.Common.{[], sym, ◌∙◌}
 use Rattle.sm_term.specs.Tables.{trees_in, sorts_in}
 use Rattle.sm_plan.proofs.TablesWiden.{widens_twice, forms_ready}
 use Rattle.sm_houdini.specs.Collected.{AreCollected}
@@ -7,34 +7,34 @@ use Rattle.sm_houdini.proofs.RoundSteps.{facts_at}
 use Rattle.sm_houdini.proofs.ending.end_all.Goals as goal
 
 pub end_due-requires-clause-facts : goal.end_due-requires-clause-facts
-end_due-requires-clause-facts c =
+end_due-requires-clause-facts g c κs within =
     let v = c.args.table.now in
     forms_ready v c.loop-due.table c.loop-due.invariant.widens c.due-item.result.facts.list.items
     (facts_at (sorts_in v) (trees_in v) c.args.dues.now c.loop-due.due-index c.due-item.result c.requires.ready c.loop-due-test.true c.due-item.is).0
 
 pub end_due-requires-clause-goals : goal.end_due-requires-clause-goals
-end_due-requires-clause-goals c =
+end_due-requires-clause-goals g c κs within =
     let v = c.args.table.now in
     forms_ready v c.loop-due.table c.loop-due.invariant.widens c.due-item.result.targets.list.items
     (facts_at (sorts_in v) (trees_in v) c.args.dues.now c.loop-due.due-index c.due-item.result c.requires.ready c.loop-due-test.true c.due-item.is).1
 
 pub returns-in_err-end-clause-widens : goal.returns-in_err-end-clause-widens
-returns-in_err-end-clause-widens c =
+returns-in_err-end-clause-widens g c =
     widens_twice c.args.table.now c.loop-due.table c.end_due.new.table c.loop-due.invariant.widens c.in_err-end.ensures.widens
 
 pub returns-then-is_some-clause-widens : goal.returns-then-is_some-clause-widens
-returns-then-is_some-clause-widens c =
+returns-then-is_some-clause-widens g c =
     widens_twice c.args.table.now c.loop-due.table c.end_due.new.table c.loop-due.invariant.widens c.in_ok-end.ensures.widens
 
 pub returns-then-is_some-clause-ends : goal.returns-then-is_some-clause-ends
-returns-then-is_some-clause-ends c = λ before.
+returns-then-is_some-clause-ends g c = λ before.
     let inv = c.loop-due.invariant in
     due_ended c.args.table.now c.loop-due.table c.end_due.new.table inv.widens c.args.steps c.loop-due.due-index c.args.dues.now
     c.due-item.result c.requires.ready c.loop-due-test.true c.due-item.is c.requires.inside.closes _ c.end_due.new.trees.items (inv.closes before)
     c.in_ok-end.end (sym c.is_some.ensures ∙ c.if-is_some.true) (c.in_ok-end.ensures.ends _ (inv.collected before))
 
 pub loop-due-preserved : goal.loop-due-preserved
-loop-due-preserved c =
+loop-due-preserved g c =
     let inv = c.loop-due.invariant in
     let v = c.args.table.now in
     let none = sym c.is_some.ensures ∙ c.if-is_some.false in

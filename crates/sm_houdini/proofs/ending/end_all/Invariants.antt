@@ -11,7 +11,7 @@ use Rattle.sm_houdini.specs.Outcomes.{Outcome, final_outcome}
 use Rattle.sm_houdini.proofs.ending.end_all.Given as goal
 
 abbrev pub invariant-loop-due : goal.invariant-loop-due
-invariant-loop-due l =
+invariant-loop-due g l =
     let sorts = sorts_in l.initial.table in
     let ds = dues_in sorts (trees_in l.initial.table) l.dues in
     record {

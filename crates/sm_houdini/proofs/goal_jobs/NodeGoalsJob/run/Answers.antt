@@ -18,4 +18,4 @@ returns c =
     let last : ((length v.marks - first < v.size) × (end ≡ length v.marks)) ⊎ (end ≡ first + v.size) =
     elim c.if-left-self.branch [ then-left-self w ↦ inl (w.if-left-self.true, w.end-is) | else-left-self w ↦ inr w.end-is ] in
     run_tells v c.args.self.now c.self.view_is c.in_ok-table.table c.args.index first _ c.judged.result c.in_ok-table.ensures.sorts
-    c.in_ok-table.ensures.trees refl (run_is v first end within last) c.judged.ensures.judged
+    c.in_ok-table.ensures.trees refl (run_is v.marks v.size first end within last) c.judged.ensures.judged

@@ -1,11 +1,10 @@
-use Rattle.std.proofs.Common.{◌≡◌, ◌+◌, ◌≤◌, ◌<◌, List, length, get_or, sym, ap, ◌∙◌, subst, arith}
-use Rattle.sm_term.specs.declared.formula.Formula.{Formula}
+use Rattle.std.proofs.Common.{◌≡◌, ◌+◌, ◌≤◌, List, length, sym, ◌∙◌, arith}
 use Rattle.sm_term.specs.Assertions.{Assertion}
 use Rattle.sm_houdini.specs.Collected.{AreCollected}
 use Rattle.sm_term.specs.Tables.{trees_in, sorts_in}
 use Rattle.sm_plan.proofs.TablesWiden.{widens_twice, forms_ready, form_ready}
 use Rattle.sm_houdini.proofs.EndLemmas.{form_at, goal_passed, goal_ended, goal_left, goals_done}
-use Rattle.sm_houdini.proofs.ending.end_due_at.Goals as goal
+use Rattle.sm_houdini.proofs.ending.end_run_at.Goals as goal
 
 pub end_goal-requires-clause-facts : goal.end_goal-requires-clause-facts
 end_goal-requires-clause-facts c =
@@ -16,10 +15,9 @@ end_goal-requires-clause-goal c =
     let v = c.args.table.now in
     let f = c.goal-item.result in
     let i = c.loop-goal.goal-index in
-    let same = c.deref-goal-items.ensures.value in
     form_ready v c.loop-goal.table c.loop-goal.invariant.widens f
-    (form_at (sorts_in v) (trees_in v) c.args.due.now.targets.list.items i f c.requires.goals
-    (subst (λ (l : List Formula). i < length l) same c.loop-goal-test.true) (subst (λ (l : List Formula). f ≡ get_or l i f) same c.goal-item.is))
+    (form_at (sorts_in v) (trees_in v) c.args.run.now i f c.requires.goals
+    c.loop-goal-test.true c.goal-item.is)
 
 pub returns-in_err-end-clause-widens : goal.returns-in_err-end-clause-widens
 returns-in_err-end-clause-widens c =
@@ -34,19 +32,19 @@ returns-then-is_some-clause-ends c = λ goals before.
     let inv = c.loop-goal.invariant in
     let f = c.goal-item.result in
     let i = c.loop-goal.goal-index in
-    let same = c.deref-goal-items.ensures.value in
-    goal_ended c.args.table.now c.loop-goal.table c.end_goal.new.table inv.widens c.args.steps i c.loop-goal.at c.args.due.now f
-    c.requires.facts c.requires.goals (subst (λ (l : List Formula). i < length l) same c.loop-goal-test.true)
-    (subst (λ (l : List Formula). f ≡ get_or l i f) same c.goal-item.is) inv.count _ goals c.end_goal.new.trees.items (inv.closes goals before)
+    goal_ended c.args.table.now c.loop-goal.table c.end_goal.new.table inv.widens c.args.steps c.args.first i c.loop-goal.at
+    c.args.due.now c.args.run.now f
+    c.requires.facts c.requires.goals c.loop-goal-test.true c.goal-item.is inv.count _ goals c.end_goal.new.trees.items
+    (inv.closes goals before)
     c.in_ok-end.end (sym c.is_some.ensures ∙ c.if-is_some.true) (c.in_ok-end.ensures.ends _ (inv.collected goals before))
 
 pub returns-clause-ends : goal.returns-clause-ends
 returns-clause-ends c = λ goals before.
     let inv = c.loop-goal.invariant in
     let i = c.loop-goal.goal-index in
-    let count = ap (λ (l : List Formula). length l) c.deref-goal-items.ensures.value in
-    let past : length c.args.due.now.targets.list.items ≤ i = omega (arith, count, c.loop-goal-test.false) in
-    goals_done c.args.table.now c.loop-goal.table c.args.steps i c.args.due.now past goals c.loop-goal.trees.items
+    let past : length c.args.run.now ≤ i = omega (arith, c.loop-goal-test.false) in
+    goals_done c.args.table.now c.loop-goal.table c.args.steps c.args.first i c.args.due.now c.args.run.now past goals
+    c.loop-goal.trees.items
     (inv.collected goals before) (inv.closes goals before)
 
 pub loop-goal-preserved : goal.loop-goal-preserved
@@ -55,20 +53,19 @@ loop-goal-preserved c =
     let v = c.args.table.now in
     let f = c.goal-item.result in
     let i = c.loop-goal.goal-index in
-    let same = c.deref-goal-items.ensures.value in
-    let inside = subst (λ (l : List Formula). i < length l) same c.loop-goal-test.true in
-    let there = subst (λ (l : List Formula). f ≡ get_or l i f) same c.goal-item.is in
     let none = sym c.is_some.ensures ∙ c.if-is_some.false in
     let passed = λ (goals : List (List Assertion × Assertion)) (before : AreCollected v goals c.args.trees.now.items).
-    goal_passed v c.loop-goal.table c.end_goal.new.table inv.widens c.args.steps i c.loop-goal.at c.args.due.now f c.requires.facts
-    c.requires.goals inside there inv.count goals c.end_goal.new.trees.items c.in_ok-end.end none
+    goal_passed v c.loop-goal.table c.end_goal.new.table inv.widens c.args.steps c.args.first i c.loop-goal.at c.args.due.now
+    c.args.run.now f c.requires.facts
+    c.requires.goals c.loop-goal-test.true c.goal-item.is inv.count goals c.end_goal.new.trees.items c.in_ok-end.end none
     (c.in_ok-end.ensures.ends _ (inv.collected goals before)) in
     record {
-      count = ap (λ n. n + 1) inv.count;
+      count = let next = inv.count in let one : c.loop-goal.at + 1 ≡ c.args.first + (i + 1) = omega (arith, next) in one;
       collected = λ goals before. (passed goals before).1;
       closes = λ goals before later.
           inv.closes goals before later
-          ∙ goal_left (sorts_in v) (trees_in v) c.args.steps i c.args.due.now f inside there (passed goals before).0 later;
+          ∙ goal_left (sorts_in v) (trees_in v) c.args.steps c.args.first i c.args.due.now c.args.run.now f c.loop-goal-test.true
+          c.goal-item.is (passed goals before).0 later;
       widens = widens_twice v c.loop-goal.table c.end_goal.new.table inv.widens c.in_ok-end.ensures.widens;
       shared = c.in_ok-end.ensures.shared;
     }
