@@ -20,7 +20,7 @@ chosen true x y z first second = first refl
 chosen false x y z first second = second refl
 
 -- a lesser atom has no part
-coefficient_below : (t least : ℕ) (ps : List (ℕ × ℤ)) → t < least → AreParts least ps → coefficient same_atom t ps ≡ pos 0
+pub coefficient_below : (t least : ℕ) (ps : List (ℕ × ℤ)) → t < least → AreParts least ps → coefficient same_atom t ps ≡ pos 0
 coefficient_below t least [] lt kept = refl
 coefficient_below t least (p ∷ ps) lt kept =
     let first = kept.0 in
@@ -29,7 +29,7 @@ coefficient_below t least (p ∷ ps) lt kept =
     (λ (e : (t == p.0) ≡ false). coefficient_below t (suc p.0) ps (omega arith) kept.3)
 
 -- the first part with the atom has its coefficient
-coefficient_first : (t least : ℕ) (p : ℕ × ℤ) (ps : List (ℕ × ℤ)) → AreParts least (p ∷ ps) → t ≡ p.0 →
+pub coefficient_first : (t least : ℕ) (p : ℕ × ℤ) (ps : List (ℕ × ℤ)) → AreParts least (p ∷ ps) → t ≡ p.0 →
     coefficient same_atom t (p ∷ ps) ≡ p.1
 coefficient_first t least p ps kept same =
     ap (λ (b : Bool). if b then p.1 +ℤ coefficient same_atom t ps else coefficient same_atom t ps) ((Decides-eqb t p.0).1 same) ∙
@@ -45,3 +45,16 @@ coefficient_there t i ps kept within here =
     let shown = drop-cons ps i (0, pos 0) within in
     let rest = subst (AreParts 0) shown (dropped 0 i ps kept) in
     ap (coefficient same_atom t) shown ∙ coefficient_first t 0 (get_or ps i (0, pos 0)) (drop (suc i) ps) rest (sym here)
+
+-- where the part at a place has a later atom, none from there on has the atom
+pub coefficient_past : (t i : ℕ) (ps : List (ℕ × ℤ)) → AreParts 0 ps → i < length ps → t < (get_or ps i (0, pos 0)).0 →
+    coefficient same_atom t (drop i ps) ≡ pos 0
+coefficient_past t i ps kept within later =
+    let shown = drop-cons ps i (0, pos 0) within in
+    let rest = subst (AreParts 0) shown (dropped 0 i ps kept) in
+    ap (coefficient same_atom t) shown
+    ∙ coefficient_below t (get_or ps i (0, pos 0)).0 (get_or ps i (0, pos 0) ∷ drop (suc i) ps) later
+    (from_its_first (get_or ps i (0, pos 0)) (drop (suc i) ps) rest)
+  where
+    from_its_first : (p : ℕ × ℤ) (rest : List (ℕ × ℤ)) → AreParts 0 (p ∷ rest) → AreParts p.0 (p ∷ rest)
+    from_its_first p rest parts = (omega arith, parts.1, parts.2, parts.3)

@@ -1,5 +1,6 @@
 pub mod CoefficientLemmas
 pub mod CrossedLemmas
+pub mod JumpLemmas
 pub mod KnowingLemmas
 pub mod PlaceLemmas
 pub mod StateLemmas
@@ -11,3 +12,4 @@ pub mod ValueLemmas
 pub mod BackSubstitution
 pub mod SummedLemmas
 pub mod QuietSolved
+pub mod WithLemmas

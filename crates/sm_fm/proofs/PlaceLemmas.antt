@@ -127,11 +127,11 @@ all_crossed P Q R both (f ∷ fs) gs first second =
     (all_crossed P Q R both fs gs (All-tail P f fs first) second)
 
 -- a conjunction's parts
-and_first : (a b : Bool) → a && b ≡ true → a ≡ true
+pub and_first : (a b : Bool) → a && b ≡ true → a ≡ true
 and_first true b e = refl
 and_first false b e = e
 
-and_second : (a b : Bool) → a && b ≡ true → b ≡ true
+pub and_second : (a b : Bool) → a && b ≡ true → b ≡ true
 and_second true b e = e
 and_second false b e = absurd cc
 

@@ -10,14 +10,14 @@ use Rattle.std.proofs.lemmas.List.FromFn.{length-range_with_len, get_or-range_wi
 use Rattle.sm_num.specs.Forms.{Linear}
 use Rattle.sm_num.specs.FormLaws.{same_atom}
 use Rattle.sm_num.specs.Eliminating.{can_cancel}
-use Rattle.sm_fm.specs.Elimination.{Placed, Event, same_form, pairs, forms_without, placed_from, sums, events}
+use Rattle.sm_fm.specs.Elimination.{Placed, Event, same_form, pairs, placed_from, sums, events}
 use Rattle.sm_fm.specs.declared.known.Known.{Known}
 use Rattle.sm_fm.specs.declared.roles.Role.TheVariants.{Without}
 use Rattle.sm_fm.specs.Known.{knows, Learns}
 use Rattle.sm_fm.specs.Places.{no_form, form_at, placed_at, both_at, plays, places_of, place_pairs, AreWithin}
 use Rattle.sm_fm.specs.States.{later_atoms, after_sum, left_of, IsPairOf, Lacks, KnowsStanding, stands_among}
 use Rattle.sm_fm.proofs.KnowingLemmas.{or_turns, same_form-sym}
-use Rattle.sm_fm.proofs.PlaceLemmas.{map-filter, pairs_are, placed_are, map-agree, form_stays, placed_stays, pairs_cancel, pairs_have}
+use Rattle.sm_fm.proofs.PlaceLemmas.{pairs_are, placed_are, map-agree, form_stays, placed_stays, pairs_cancel, pairs_have}
 
 -- one more place
 pub range_more : (n : ℕ) → range_with_len 0 (n + 1) ≡ range_with_len 0 n ++ n ∷ []
@@ -47,23 +47,6 @@ started forms (suc n) more ns ps some is ns_is ps_is =
 -- where there are no atoms, nothing happens
 pub started_none : (forms : List (Linear ℕ)) (n : ℕ) (ns : List ℕ) → n ≡ 0 → left_of forms ns 0 0 [] ≡ events forms n
 started_none forms n ns none = ap (events forms) (sym none)
-
--- the next atom's pairs, where none is left
-pub went_on : (forms : List (Linear ℕ)) (ns later : List ℕ) (t more next fewer : ℕ) (ps : List (ℕ × ℕ)) → 0 < more →
-    next ≡ t + 1 → fewer ≡ more - 1 → later ≡ places_of Without t forms ns → ps ≡ place_pairs next forms later →
-    left_of forms later next fewer ps ≡ left_of forms ns t more []
-went_on forms ns later t zero next fewer ps some next_is fewer_is later_is ps_is = absurd (omega arith)
-went_on forms ns later t (suc m) next fewer ps some next_is fewer_is later_is ps_is =
-    let at : next ≡ suc t = omega arith in
-    let left : fewer ≡ m = omega arith in
-    let places : map (placed_at forms) later ≡ forms_without t (map (placed_at forms) ns) =
-    ap (map (placed_at forms)) later_is ∙ map-filter (placed_at forms) (plays Without t) ns in
-    ap (left_of forms later next fewer) ps_is
-    ∙ ap (λ (k : ℕ). left_of forms later k fewer (place_pairs k forms later)) at
-    ∙ ap (λ (k : ℕ). left_of forms later (suc t) k (place_pairs (suc t) forms later)) left
-    ∙ ap (λ (l : List (Placed × Placed)). sums (suc t) l (later_atoms m (suc t)) (map (placed_at forms) later) (length forms))
-    (pairs_are forms (suc t) later)
-    ∙ ap (λ (l : List Placed). sums (suc t) (pairs (suc t) l) (later_atoms m (suc t)) l (length forms)) places
 
 -- places stay those of forms
 pub within_same : (forms others : List (Linear ℕ)) (ns ms : List ℕ) → others ≡ forms → ms ≡ ns → AreWithin (length forms) ns →

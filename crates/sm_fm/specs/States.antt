@@ -70,6 +70,10 @@ with_form s h =
 abbrev pub Lacks : ℕ → Linear ℕ → Type 0
 Lacks n h = (a : ℕ) → a < n → coefficient same_atom a h.parts ≡ pos 0
 
+-- where it has neither an atom nor an earlier one, it has none below a later number
+abbrev pub Skips : ℕ → ℕ → Linear ℕ → Type 0
+Skips t next h = Lacks (suc t) h → Lacks next h
+
 -- whether a form is the same as one of some
 abbrev pub stands_among : List Placed → Linear ℕ → Bool
 stands_among forms h = list_any (λ f. same_form h f.form) forms

@@ -19,6 +19,7 @@
 //! Read `specs/Elimination.antt` first, then `specs/Taking.antt` and `specs/Solutions.antt`.
 #![tactic(auto)]
 
+mod ahead;
 mod elimination;
 mod forms;
 mod known;

@@ -20,17 +20,29 @@ pub(crate) enum Role {
     Above,
     // It doesn't have the atom.
     Without,
+    // It has the atom.
+    With,
     // It has the atom and isn't the pivot, which stands at this place.
     Beside(u64),
 }
 
-// The pairs of the forms at some places in which an atom cancels.
+// The pairs of the forms at some places in which an atom cancels. Few forms have it, so each other
+// is looked at once.
 pub(crate) fn find_pairs(
     alloc: Global,
     forms: &[LinForm],
     places: &[u64],
     t: u64,
 ) -> Result<Pairs, AllocError>
+    requires { AreWithin (length forms.now) places.now }
+    ensures { IfOk result (λ ps. ps ≡ place_pairs t forms.now places.now) }
+{
+    let with = select(alloc, forms, places, t, Role::With)?;
+    pairs_of(alloc, forms, &with, t)
+}
+
+// The same, where most of the forms have the atom.
+fn pairs_of(alloc: Global, forms: &[LinForm], places: &[u64], t: u64) -> Result<Pairs, AllocError>
     requires { AreWithin (length forms.now) places.now }
     ensures { IfOk result (λ ps. ps ≡ place_pairs t forms.now places.now) }
 {
@@ -131,6 +143,7 @@ fn plays(f: &LinForm, place: u64, t: u64, role: Role) -> bool
         Role::Below => c < 0,
         Role::Above => c > 0,
         Role::Without => c == 0,
+        Role::With => c != 0,
         Role::Beside(pivot) => c != 0 && place != pivot,
     }
 }
@@ -141,6 +154,9 @@ fn coefficient(f: &LinForm, t: u64) -> i128
 {
     let parts = f.parts();
     for part in parts {
+        if part.0 > t {
+            return 0;
+        }
         if part.0 == t {
             return part.1;
         }

@@ -14,6 +14,7 @@ ghost use Rattle.sm_fm.specs.Taking.{Gives};
 ghost use Rattle.sm_fm.specs.States.{events_left, taking, stopped, with_form, Lacks, IsSound};
 ghost use Rattle.sm_fm.specs.States.{TakesPair, Settles, Finishes};
 
+use crate::ahead::next_atom;
 use crate::known::{Known, know_all, learn};
 use crate::pairs::Pairs;
 use crate::roles::{Role, find_pairs, select};
@@ -92,7 +93,7 @@ impl State {
         self.sum(alloc)
     }
 
-    // Goes on to the next atom.
+    // Goes on to the next atom that a form has. Atoms that none has aren't looked at.
     fn go_on(&mut self, alloc: Global) -> Result<(), AllocError>
         requires sound { IsSound self.old }
         requires more { 0 < self.old.more }
@@ -101,12 +102,18 @@ impl State {
         ensures same { taking self.new ≡ taking self.old }
         ensures less { OnOk result (self.new.more < self.old.more) }
     {
+        let end = self.atom + self.more + 1;
+        let next = next_atom(&self.forms, &self.standing, self.atom, end);
+        if next == end {
+            self.stop();
+            return Ok(());
+        }
         let standing = select(alloc, &self.forms, &self.standing, self.atom, Role::Without)?;
-        let pairs = find_pairs(alloc, &self.forms, &standing, self.atom + 1)?;
+        let pairs = find_pairs(alloc, &self.forms, &standing, next)?;
         self.standing = standing;
         self.pairs = pairs;
-        self.atom += 1;
-        self.more -= 1;
+        self.atom = next;
+        self.more = end - next - 1;
         Ok(())
     }
 
@@ -216,6 +223,7 @@ impl State {
         requires { IsSound self.old }
         ensures sound { IsSound self.new }
         ensures stopped { taking self.new ≡ stopped self.old }
+        ensures more { self.new.more ≡ 0 }
     {
         self.pairs.clear();
         self.more = 0;

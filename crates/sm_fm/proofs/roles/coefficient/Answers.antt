@@ -1,20 +1,28 @@
+-- The part that was found has the coefficient, and past a later atom there is none.
 use Rattle.std.proofs.Common.{pos, get_or, rules, sym, ap, subst, ◌∙◌}
 use Rattle.std.proofs.lemmas.Int.{to_z-of_z}
 use Rattle.std.specs.Int.{w128}
 use mir.Val.{SFits}
 use Rattle.sm_num.specs.Forms.{coefficient, AreParts}
 use Rattle.sm_num.specs.FormLaws.{same_atom}
-use Rattle.sm_fm.proofs.CoefficientLemmas.{coefficient_there}
+use Rattle.sm_fm.proofs.CoefficientLemmas.{coefficient_there, coefficient_past}
 use Rattle.sm_fm.proofs.roles.coefficient.Goals as goal
 
--- the part that was found has the coefficient
 pub returns-then-part-t : goal.returns-then-part-t
 returns-then-part-t c =
+    let items = c.parts-parts.result.now in
+    let kept : AreParts 0 items = subst (AreParts 0) (sym c.parts-parts.ensures.parts) c.parts-parts.ensures.kept.parts in
+    sym (coefficient_past c.args.t c.loop-part.part-index items kept c.loop-part-test.true c.if-part-t.true)
+    ∙ sym c.loop-part.invariant
+    ∙ ap (coefficient same_atom c.args.t) c.parts-parts.ensures.parts
+
+pub returns-then-part-t-2 : goal.returns-then-part-t-2
+returns-then-part-t-2 c =
     let items = c.parts-parts.result.now in
     let kept : AreParts 0 items = subst (AreParts 0) (sym c.parts-parts.ensures.parts) c.parts-parts.ensures.kept.parts in
     let found = get_or items c.loop-part.part-index (0, pos 0) in
     let fits : SFits w128 found.1 = search rules in
     to_z-of_z w128 found.1 fits
-    ∙ sym (coefficient_there c.args.t c.loop-part.part-index items kept c.loop-part-test.true c.if-part-t.true)
+    ∙ sym (coefficient_there c.args.t c.loop-part.part-index items kept c.loop-part-test.true c.if-part-t-2.true)
     ∙ sym c.loop-part.invariant
     ∙ ap (coefficient same_atom c.args.t) c.parts-parts.ensures.parts
