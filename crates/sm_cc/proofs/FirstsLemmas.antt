@@ -55,7 +55,7 @@ met_anew None key k place j e = by (same_key k key) refl e
     by false other f = inl f
 
 -- what was met stays so
-met_still : (o : Option ℕ) (key k : Keyed) (place j : ℕ) → o ≡ Some j → first_met o key k place ≡ Some j
+pub met_still : (o : Option ℕ) (key k : Keyed) (place j : ℕ) → o ≡ Some j → first_met o key k place ≡ Some j
 met_still (Some x) key k place j e = e
 met_still None key k place j e = absurd cc
 
@@ -200,7 +200,7 @@ firsts_tried_all key n a b met all tried = record {
 }
 
 -- rows of one linear form have one key
-alike_keys : (o p : Option Shape) → if_there o (λ f. if_there p (λ g. (f.parts == g.parts) && int_eq f.constant g.constant)) ≡ true →
+pub alike_keys : (o p : Option Shape) → if_there o (λ f. if_there p (λ g. (f.parts == g.parts) && int_eq f.constant g.constant)) ≡ true →
     (k : Keyed) × (shape_key o ≡ Some k) × (shape_key p ≡ Some k)
 alike_keys None p h = absurd (false≢true h)
 alike_keys (Some f) None h = absurd (false≢true h)
@@ -236,7 +236,7 @@ equal_labels roots (i ∷ is) (j ∷ js) h =
         ∙ ap (λ (o : Option Keyed). followed o (λ (ks : Keyed). Some ((r.right, pos 0) ∷ ks))) f
 
 -- rows of one head with equal arguments have one key
-headed_keys : (roots : List Equation) (r s : Row) →
+pub headed_keys : (roots : List Equation) (r s : Row) →
     (one_head r s && equal_places (are_together roots) r.arguments.items s.arguments.items) ≡ true →
     (k : Keyed) × (row_key roots r ≡ Some k) × (row_key roots s ≡ Some k)
 headed_keys roots r s h =
@@ -357,7 +357,7 @@ rest_same : (p q : ℕ × ℤ) (ps qs : Keyed) → p ∷ ps ≡ q ∷ qs → ps 
 rest_same p q ps qs e = cc
 
 -- places with the same labels are equal one by one
-labels_equal : (roots : List Equation) (is js : List ℕ) (ls : Keyed) → labels_of roots is ≡ Some ls → labels_of roots js ≡ Some ls →
+pub labels_equal : (roots : List Equation) (is js : List ℕ) (ls : Keyed) → labels_of roots is ≡ Some ls → labels_of roots js ≡ Some ls →
     equal_places (are_together roots) is js ≡ true
 labels_equal roots [] [] ls e f = refl
 labels_equal roots [] (j ∷ js) ls e f =
@@ -380,21 +380,22 @@ labels_equal roots (i ∷ is) (j ∷ js) ls e f =
     (together_from roots i j x.0 y.0 x.1 y.1 (ap (λ (p : ℕ × ℤ). p.0) label))
     (labels_equal roots is js x.2.0 x.2.1 (y.2.1 ∙ ap Some (sym rest)))
 
+-- forms with one key are equal
+pub shapes_bring : (k : Keyed) (o p : Option Shape) → shape_key o ≡ Some k → shape_key p ≡ Some k →
+    if_there o (λ f. if_there p (λ g. (f.parts == g.parts) && int_eq f.constant g.constant)) ≡ true
+shapes_bring k None p x y = absurd (none-some k x)
+shapes_bring k (Some g) None x y = absurd (none-some k y)
+shapes_bring k (Some g) (Some h) x y =
+    let one : (g.parts, g.constant) ∷ [] ≡ (h.parts, h.constant) ∷ [] =
+    same_Some ((g.parts, g.constant) ∷ []) k x ∙ sym (same_Some ((h.parts, h.constant) ∷ []) k y) in
+    let both = first_same (g.parts, g.constant) (h.parts, h.constant) [] [] one in
+    and_from (g.parts == h.parts) (int_eq g.constant h.constant) (eq-eqb g.parts h.parts (ap (λ (p : ℕ × ℤ). p.0) both))
+    ((Decides-int_eq g.constant h.constant).1 (ap (λ (p : ℕ × ℤ). p.1) both))
+
 -- places of one linear form are equal by a rule
 pub alike_bring : (c : Closure) → KeysBring (alike_at c) c
 alike_bring c i j k e f = by (slice_get c.rows.items i) (slice_get c.rows.items j) e f
   where
-    shapes : (o p : Option Shape) → shape_key o ≡ Some k → shape_key p ≡ Some k →
-        if_there o (λ f. if_there p (λ g. (f.parts == g.parts) && int_eq f.constant g.constant)) ≡ true
-    shapes None p x y = absurd (none-some k x)
-    shapes (Some g) None x y = absurd (none-some k y)
-    shapes (Some g) (Some h) x y =
-        let one : (g.parts, g.constant) ∷ [] ≡ (h.parts, h.constant) ∷ [] =
-        same_Some ((g.parts, g.constant) ∷ []) k x ∙ sym (same_Some ((h.parts, h.constant) ∷ []) k y) in
-        let both = first_same (g.parts, g.constant) (h.parts, h.constant) [] [] one in
-        and_from (g.parts == h.parts) (int_eq g.constant h.constant) (eq-eqb g.parts h.parts (ap (λ (p : ℕ × ℤ). p.0) both))
-        ((Decides-int_eq g.constant h.constant).1 (ap (λ (p : ℕ × ℤ). p.1) both))
-
     by : (o p : Option Row) → followed o (λ (q : Row). shape_key q.shape) ≡ Some k →
         followed p (λ (q : Row). shape_key q.shape) ≡ Some k →
         (if_there o (λ r. if_there p (λ s. shapes_pass r s int_eq))
@@ -405,30 +406,35 @@ alike_bring c i j k e f = by (slice_get c.rows.items i) (slice_get c.rows.items 
     by (Some r) (Some s) x y =
         or_left (shapes_pass r s int_eq)
         (one_head r s && equal_places (are_together c.roots.items) r.arguments.items s.arguments.items)
-        (shapes r.shape s.shape x y)
+        (shapes_bring k r.shape s.shape x y)
+
+-- rows with one key have one head, and arguments with the same labels
+pub rows_bring_headed : (roots : List Equation) (k : Keyed) (r s : Row) → row_key roots r ≡ Some k → row_key roots s ≡ Some k →
+    (one_head r s && equal_places (are_together roots) r.arguments.items s.arguments.items) ≡ true
+rows_bring_headed roots k r s x y =
+    heads r.head s.head (labels_of roots r.arguments.items) (labels_of roots s.arguments.items) refl refl x y
+  where
+    heads : (a b : Option ℕ) (p q : Option Keyed) → labels_of roots r.arguments.items ≡ p → labels_of roots s.arguments.items ≡ q →
+        followed a (λ (h : ℕ). with_labels ((h, pos 0) ∷ []) p) ≡ Some k →
+        followed b (λ (h : ℕ). with_labels ((h, pos 0) ∷ []) q) ≡ Some k →
+        (if_there a (λ (x : ℕ). if_there b (λ (y : ℕ). x == y))
+        && equal_places (are_together roots) r.arguments.items s.arguments.items) ≡ true
+    heads None b p q l m x y = absurd (none-some k x)
+    heads (Some g) None p q l m x y = absurd (none-some k y)
+    heads (Some g) (Some h) None q l m x y = absurd (none-some k x)
+    heads (Some g) (Some h) (Some ls) None l m x y = absurd (none-some k y)
+    heads (Some g) (Some h) (Some ls) (Some ms) l m x y =
+        let one : (g, pos 0) ∷ ls ≡ (h, pos 0) ∷ ms = same_Some ((g, pos 0) ∷ ls) k x ∙ sym (same_Some ((h, pos 0) ∷ ms) k y) in
+        let head : (g, pos 0) ≡ (h, pos 0) = first_same (g, pos 0) (h, pos 0) ls ms one in
+        let rest : ls ≡ ms = rest_same (g, pos 0) (h, pos 0) ls ms one in
+        and_from (g == h) (equal_places (are_together roots) r.arguments.items s.arguments.items)
+        (eq-eqb g h (ap (λ (z : ℕ × ℤ). z.0) head))
+        (labels_equal roots r.arguments.items s.arguments.items ls l (m ∙ ap Some (sym rest)))
 
 -- so are places of one head whose arguments have the same labels
 pub headed_bring : (c : Closure) → KeysBring (headed_at c) c
 headed_bring c i j k e f = by (slice_get c.rows.items i) (slice_get c.rows.items j) e f
   where
-    heads : (r s : Row) (a b : Option ℕ) (p q : Option Keyed) → labels_of c.roots.items r.arguments.items ≡ p →
-        labels_of c.roots.items s.arguments.items ≡ q →
-        followed a (λ (h : ℕ). with_labels ((h, pos 0) ∷ []) p) ≡ Some k →
-        followed b (λ (h : ℕ). with_labels ((h, pos 0) ∷ []) q) ≡ Some k →
-        (if_there a (λ (x : ℕ). if_there b (λ (y : ℕ). x == y))
-        && equal_places (are_together c.roots.items) r.arguments.items s.arguments.items) ≡ true
-    heads r s None b p q l m x y = absurd (none-some k x)
-    heads r s (Some g) None p q l m x y = absurd (none-some k y)
-    heads r s (Some g) (Some h) None q l m x y = absurd (none-some k x)
-    heads r s (Some g) (Some h) (Some ls) None l m x y = absurd (none-some k y)
-    heads r s (Some g) (Some h) (Some ls) (Some ms) l m x y =
-        let one : (g, pos 0) ∷ ls ≡ (h, pos 0) ∷ ms = same_Some ((g, pos 0) ∷ ls) k x ∙ sym (same_Some ((h, pos 0) ∷ ms) k y) in
-        let head : (g, pos 0) ≡ (h, pos 0) = first_same (g, pos 0) (h, pos 0) ls ms one in
-        let rest : ls ≡ ms = rest_same (g, pos 0) (h, pos 0) ls ms one in
-        and_from (g == h) (equal_places (are_together c.roots.items) r.arguments.items s.arguments.items)
-        (eq-eqb g h (ap (λ (z : ℕ × ℤ). z.0) head))
-        (labels_equal c.roots.items r.arguments.items s.arguments.items ls l (m ∙ ap Some (sym rest)))
-
     by : (o p : Option Row) → followed o (row_key c.roots.items) ≡ Some k → followed p (row_key c.roots.items) ≡ Some k →
         (if_there o (λ r. if_there p (λ s. shapes_pass r s int_eq))
         || if_there o (λ r. if_there p (λ s. one_head r s && equal_places (are_together c.roots.items) r.arguments.items s.arguments.items)))
@@ -438,4 +444,4 @@ headed_bring c i j k e f = by (slice_get c.rows.items i) (slice_get c.rows.items
     by (Some r) (Some s) x y =
         or_right (shapes_pass r s int_eq)
         (one_head r s && equal_places (are_together c.roots.items) r.arguments.items s.arguments.items)
-        (heads r s r.head s.head (labels_of c.roots.items r.arguments.items) (labels_of c.roots.items s.arguments.items) refl refl x y)
+        (rows_bring_headed c.roots.items k r s x y)

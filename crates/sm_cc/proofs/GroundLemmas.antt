@@ -246,7 +246,7 @@ module _ (old new : TableValue) (grows : Grows old new) (apart : AreApart (trees
       (further.parts_apart numbered.parts_apart) all (omega (arith, long, same, same_count, total)) each
 
 -- what stands in a list that is chosen from another
-filtered : {A : Type 0} (test : A → Bool) (xs : List A) (n : ℕ) (x : A) → slice_get (filter test xs) n ≡ Some x →
+pub filtered : {A : Type 0} (test : A → Bool) (xs : List A) (n : ℕ) (x : A) → slice_get (filter test xs) n ≡ Some x →
     (m : ℕ) × (slice_get xs m ≡ Some x) × (test x ≡ true)
 filtered test [] n x e = absurd cc
 filtered {A} test (y ∷ xs) n x e = by (test y) refl (filtered test xs) n e
@@ -259,7 +259,7 @@ filtered {A} test (y ∷ xs) n x e = by (test y) refl (filtered test xs) n e
     by true is rest (suc n) e = let found = rest n x e in (suc found.0, found.1, found.2)
     by false is rest n e = let found = rest n x e in (suc found.0, found.1, found.2)
 
-chosen : {A : Type 0} (test : A → Bool) (xs : List A) (m : ℕ) (x : A) → slice_get xs m ≡ Some x → test x ≡ true →
+pub chosen : {A : Type 0} (test : A → Bool) (xs : List A) (m : ℕ) (x : A) → slice_get xs m ≡ Some x → test x ≡ true →
     (n : ℕ) × (slice_get (filter test xs) n ≡ Some x)
 chosen test [] m x e h = absurd cc
 chosen test (y ∷ xs) zero x e h =
@@ -272,7 +272,7 @@ chosen {A} test (y ∷ xs) (suc m) x e h = by (test y) (chosen test xs m x e h)
     by false rest = rest
 
 -- what stands in a mapped list
-mapped : {A B : Type 0} (f : A → B) (xs : List A) (n : ℕ) (y : B) → slice_get (map f xs) n ≡ Some y →
+pub mapped : {A B : Type 0} (f : A → B) (xs : List A) (n : ℕ) (y : B) → slice_get (map f xs) n ≡ Some y →
     (x : A) × (slice_get xs n ≡ Some x) × (f x ≡ y)
 mapped f [] n y e = absurd cc
 mapped f (x ∷ xs) zero y e = (x, refl, one_thing (f x) y e)
@@ -305,7 +305,7 @@ place_kept trees later ts us p q grown longer tell told n h below =
     ∙ sym (tell.places n h)
 
 -- given pairs are told by their places and their numbers
-given_same : (xs ys : List Given) → map pair_of xs ≡ map pair_of ys → map fact_of xs ≡ map fact_of ys → xs ≡ ys
+pub given_same : (xs ys : List Given) → map pair_of xs ≡ map pair_of ys → map fact_of xs ≡ map fact_of ys → xs ≡ ys
 given_same [] [] e f = refl
 given_same [] (y ∷ ys) e f = absurd cc
 given_same (x ∷ xs) [] e f = absurd cc
@@ -368,7 +368,7 @@ module _ (old new : ClassesValue) (g : Ground) (n : Numbering) (is : IsGround ol
   )
 
   -- what is given of the places is what is given of the terms
-  placed : placed_of g.closure
+  pub placed : placed_of g.closure
       ≡ placed_with rows (placed_equations g.positions old.given) (placed_contraries g.positions old.given)
   placed =
       let equal = placed_equations g.positions old.given in
@@ -379,7 +379,7 @@ module _ (old new : ClassesValue) (g : Ground) (n : Numbering) (is : IsGround ol
 
   module _ (q : Positions) (told : ArePositions (trees_in new.table) us q) where
     -- the places of a fact stay
-    fact_stays : (k : ℕ) (f : GivenFact) → slice_get old.given k ≡ Some f → placed_fact q f ≡ placed_fact g.positions f
+    pub fact_stays : (k : ℕ) (f : GivenFact) → slice_get old.given k ≡ Some f → placed_fact q f ≡ placed_fact g.positions f
     fact_stays k f e =
         let fine = is.classes.of_two_terms k f e in
         let trees = trees_in old.table in

@@ -26,7 +26,7 @@ use Rattle.sm_cc.proofs.StandingLemmas.{among_there, there_among}
 use Rattle.sm_cc.proofs.PlacesLemmas.{exact_same}
 
 -- the equation whose right side stands at a place
-right_at : (roots : List Equation) (i l : ℕ) → slice_get (map (λ (e : Equation). e.right) roots) i ≡ Some l →
+pub right_at : (roots : List Equation) (i l : ℕ) → slice_get (map (λ (e : Equation). e.right) roots) i ≡ Some l →
     (r : Equation) × (slice_get roots i ≡ Some r) × (r.right ≡ l)
 right_at roots i l at = by (slice_get roots i) refl (sym (slice_get-map (λ (e : Equation). e.right) roots i) ∙ at)
   where
@@ -36,7 +36,7 @@ right_at roots i l at = by (slice_get roots i) refl (sym (slice_get-map (λ (e :
     by (Some r) some is = (r, some, cc)
 
 -- two places are together where their equations have one right side
-together_by : (roots : List Equation) (i j : ℕ) (r s : Equation) → slice_get roots i ≡ Some r → slice_get roots j ≡ Some s →
+pub together_by : (roots : List Equation) (i j : ℕ) (r s : Equation) → slice_get roots i ≡ Some r → slice_get roots j ≡ Some s →
     are_together roots i j ≡ (r.right == s.right)
 together_by roots i j r s first second =
     ap (λ (o : Option Equation). if_there o (λ (x : Equation). if_there (slice_get roots j) (λ (y : Equation). x.right == y.right))) first
@@ -63,14 +63,14 @@ module _ (v : ClassesValue) (positions : Positions) (places : Placed) (are : Are
   tree t = tree_at (trees_in v.table) t.0
 
   -- a term of the list is one of the table, and its place is there
-  inside : (ts : List TermId) → AreBefore (length (trees_in v.table)) ts → (i : ℕ) (t : TermId) → slice_get ts i ≡ Some t →
+  pub inside : (ts : List TermId) → AreBefore (length (trees_in v.table)) ts → (i : ℕ) (t : TermId) → slice_get ts i ≡ Some t →
       t.0 < length (trees_in v.table)
   inside [] all i t at = let wrong : None ≡ Some t = at in absurd cc
   inside (u ∷ us) all zero t at =
       let same : u ≡ t = cc in subst (λ (w : TermId). w.0 < length (trees_in v.table)) same all.0
   inside (u ∷ us) all (suc i) t at = inside us all.1 i t at
 
-  stands : (i : ℕ) (t : TermId) → slice_get v.terms i ≡ Some t → place_at positions t.0 < length places.board.rows
+  pub stands : (i : ℕ) (t : TermId) → slice_get v.terms i ≡ Some t → place_at positions t.0 < length places.board.rows
   stands i t at =
       let terms = (setting_of v).terms in
       let is : slice_get terms i ≡ Some (tree t) =

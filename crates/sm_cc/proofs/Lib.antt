@@ -1,9 +1,12 @@
+pub mod BehindLemmas
+pub mod BehindTerms
 pub mod CausesLemmas
 pub mod ClassesLemmas
 pub mod ClosuresLemmas
 pub mod ExplainLemmas
 pub mod ExplainingLemmas
 pub mod FirstsLemmas
+pub mod FreshLemmas
 pub mod GivenLemmas
 pub mod GroundLemmas
 pub mod GrowingLemmas
@@ -11,6 +14,7 @@ pub mod InsideLemmas
 pub mod LabelsLemmas
 pub mod LinesLemmas
 pub mod LogLemmas
+pub mod LookedLemmas
 pub mod MarksLemmas
 pub mod MergesLemmas
 pub mod NumberedLemmas

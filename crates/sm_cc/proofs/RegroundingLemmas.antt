@@ -75,7 +75,7 @@ over_more (Some x) o n key k place e = refl
 over_more None o n key k place e = e
 
 -- first places are so by the same keys in coarser classes
-firsts_moved : (key moved : ℕ → Option Keyed) (equal coarser : ℕ → ℕ → Bool) (old new : Keyed → Option ℕ) (bound : ℕ) →
+pub firsts_moved : (key moved : ℕ → Option Keyed) (equal coarser : ℕ → ℕ → Bool) (old new : Keyed → Option ℕ) (bound : ℕ) →
     ((i : ℕ) → i < bound → moved i ≡ key i) →
     ((i j : ℕ) → i < bound → j < bound → equal i j ≡ true → coarser i j ≡ true) →
     ((v : Key) → new v.items ≡ old v.items) → AreFirsts key equal old bound → AreFirsts moved coarser new bound
@@ -90,7 +90,7 @@ firsts_moved key moved equal coarser old new bound keys more met before = record
 }
 
 -- a label is that of a root
-root_with : (o : Option Equation) (l : ℕ) → label_at o ≡ Some l → (r : Equation) × (o ≡ Some r) × (r.right ≡ l)
+pub root_with : (o : Option Equation) (l : ℕ) → label_at o ≡ Some l → (r : Equation) × (o ≡ Some r) × (r.right ≡ l)
 root_with None l e = absurd (none-some l e)
 root_with (Some r) l e = (r, refl, same_Some r.right l e)
 
@@ -104,7 +104,7 @@ together_kept bound old new kept i j first second h =
     together_from new i j r.0 s.0 r.1 s.1 (r.2 ∙ x.label ∙ sym s.2)
 
 -- so the labels of several places are the same
-labels_kept : (bound : ℕ) (old new : List Equation) → AreLabelsKept bound old new → (is : List ℕ) → AreBelow bound is →
+pub labels_kept : (bound : ℕ) (old new : List Equation) → AreLabelsKept bound old new → (is : List ℕ) → AreBelow bound is →
     labels_of new is ≡ labels_of old is
 labels_kept bound old new kept [] below = refl
 labels_kept bound old new kept (i ∷ is) below =
@@ -140,7 +140,7 @@ headed_kept g c kept inside labels i less =
     ∙ sym (ap (λ (o : Option Row). followed o (row_key g.roots.items)) r.1)
 
 -- nothing is met yet by the other map
-over_nothing : (base met : Keyed → Option ℕ) (k : Keyed) → met k ≡ None → over_at base met k ≡ base k
+pub over_nothing : (base met : Keyed → Option ℕ) (k : Keyed) → met k ≡ None → over_at base met k ≡ base k
 over_nothing base met k none = by (base k)
   where
     by : (o : Option ℕ) → met_or o (met k) ≡ o

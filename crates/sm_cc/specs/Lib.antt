@@ -1,4 +1,5 @@
 pub mod Assumed
+pub mod Behind
 pub mod Causes
 pub mod Classes
 pub mod Closures
@@ -11,6 +12,7 @@ pub mod Growing
 pub mod Labels
 pub mod LabelsAt
 pub mod Log
+pub mod Looked
 pub mod Merges
 pub mod Numbered
 pub mod Positions

@@ -356,8 +356,8 @@ fn label_at(labels: &[u64], place: u64) -> u64
     }
 }
 
-// The labels of terms, by those of their places.
-fn labels_of(
+/// The labels of terms, by those of their places.
+pub(crate) fn labels_of(
     alloc: Global,
     labels: &[u64],
     positions: &Positions,

@@ -140,8 +140,8 @@ fn is_row_below(bound: u64, r: &Row) -> bool
     are_below(bound, &r.arguments) && is_element_below(bound, r.element)
 }
 
-// Whether numbers are below a bound.
-fn are_below(bound: u64, places: &[u64]) -> bool
+/// Whether numbers are below a bound.
+pub(crate) fn are_below(bound: u64, places: &[u64]) -> bool
     ensures { IsTrue result → AreBelow bound places.now }
 {
     for p in places {

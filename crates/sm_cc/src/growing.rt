@@ -95,8 +95,8 @@ fn copy_entries(alloc: Global, old: &[Entry]) -> Result<Vec<Entry>, AllocError>
     Ok(entries)
 }
 
-// The same roots.
-fn copy_roots(alloc: Global, old: &[Equation]) -> Result<Vec<Equation>, AllocError>
+/// The same roots.
+pub(crate) fn copy_roots(alloc: Global, old: &[Equation]) -> Result<Vec<Equation>, AllocError>
     ensures { IfOk result (λ rs. rs.items ≡ old.now) }
 {
     let roots = old.to_vec(alloc)?;

@@ -5,6 +5,7 @@ ghost use Rattle.sm_cc.specs.Firsts.{met_at, first_met, key_told, alike_at, head
 ghost use Rattle.sm_cc.specs.Firsts.{label_at, labels_of, with_labels};
 
 use crate::closure::Closure;
+use crate::log::Equation;
 use crate::row::Row;
 use std::alloc::{AllocError, Global};
 use std::collections::HashMap;
@@ -55,19 +56,23 @@ pub(crate) fn head_key(alloc: Global, c: &Closure, i: u64) -> Result<Option<Key>
         Some(head) => {
             let mut key = Vec::new(alloc);
             key.push((head, 0))?;
-            labelled(c, &row.arguments, key)
+            labelled(&c.roots, &row.arguments, key)
         }
         None => Ok(None),
     }
 }
 
-// A key with the labels of places behind it, where each is there.
-fn labelled(c: &Closure, places: &[u64], mut key: Key) -> Result<Option<Key>, AllocError>
+/// A key with the labels of places behind it, where each is there.
+pub(crate) fn labelled(
+    roots: &[Equation],
+    places: &[u64],
+    mut key: Key,
+) -> Result<Option<Key>, AllocError>
     ensures { IfOk result (λ o.
-        key_told o ≡ with_labels key.items (labels_of c.now.roots.items places.now)) }
+        key_told o ≡ with_labels key.items (labels_of roots.now places.now)) }
 {
     for place in places {
-        match label_of(c, *place) {
+        match label_in(roots, *place) {
             Some(label) => key.push((label, 0))?,
             None => return Ok(None),
         }
@@ -75,11 +80,18 @@ fn labelled(c: &Closure, places: &[u64], mut key: Key) -> Result<Option<Key>, Al
     Ok(Some(key))
 }
 
-// The label of a place, where it is there.
+/// The label of a place, where it is there.
 pub(crate) fn label_of(c: &Closure, place: u64) -> Option<u64>
     ensures { result ≡ label_at (slice_get c.now.roots.items place) }
 {
-    match c.roots.get(place as usize) {
+    label_in(&c.roots, place)
+}
+
+/// The same, by the equations of places and their labels.
+pub(crate) fn label_in(roots: &[Equation], place: u64) -> Option<u64>
+    ensures { result ≡ label_at (slice_get roots.now place) }
+{
+    match roots.get(place as usize) {
         Some(root) => Some(root.right),
         None => None,
     }

@@ -17,12 +17,17 @@
 //! - `Ground` is made of terms and what is given of them, once. `Classes::over` has the classes of
 //!   these terms and more behind them, of which more is given: what was found is kept, and only keys
 //!   of what is new are made.
+//! - `Ground::behind` looks once at each term behind those of a ground: terms that get one label
+//!   are in one class, whatever more is given. The labels are exact where each of these terms has a
+//!   form and a head with arguments of its own, and no rule tells anything of an element that is
+//!   read.
 //!
 //! Classes only become coarser: nothing that was given is taken back.
 //!
 //! Read `specs/Classes.antt` first, then `specs/Views.antt` and `specs/Explained.antt`.
 #![tactic(auto)]
 
+mod behind;
 mod cause;
 mod classes;
 mod closure;
@@ -47,5 +52,6 @@ mod rows;
 mod shapes;
 mod witness;
 
+pub use behind::Behind;
 pub use classes::{Classes, GivenFact};
 pub use ground::{Ground, Grounded, Numbering};

@@ -175,8 +175,8 @@ impl PlaceClasses {
     }
 }
 
-// The right sides of equations.
-fn right_sides(alloc: Global, equations: &[Equation]) -> Result<Vec<u64>, AllocError>
+/// The right sides of equations.
+pub(crate) fn right_sides(alloc: Global, equations: &[Equation]) -> Result<Vec<u64>, AllocError>
     ensures { IfOk result (λ v. v.items ≡ map (λ e. e.right) equations.now) }
 {
     let mut places = Vec::new(alloc);

@@ -89,8 +89,8 @@ fn are_labels_kept(old: &Closure, c: &Closure) -> bool
     true
 }
 
-// The first place that has a key, by a map of earlier ones: this one, where it wasn't met at all.
-fn first_over(base: &Met, met: &mut Met, key: Key, place: u64) -> Result<u64, AllocError>
+/// The first place that has a key, by a map of earlier ones: this one, where it wasn't met at all.
+pub(crate) fn first_over(base: &Met, met: &mut Met, key: Key, place: u64) -> Result<u64, AllocError>
     ensures met { OnOk result ((v : Told) →
         over_at (met_at base.now) (met_at met.new) v.items
         ≡ first_met (over_at (met_at base.now) (met_at met.old) v.items)

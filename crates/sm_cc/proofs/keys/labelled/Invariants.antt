@@ -5,5 +5,5 @@ use Rattle.sm_cc.proofs.keys.labelled.Given as goal
 
 abbrev pub invariant-loop-place : goal.invariant-loop-place
 invariant-loop-place l =
-    with_labels l.key.items (labels_of l.c.roots.items (drop l.place-index l.places))
-    ≡ with_labels l.fn.key.items (labels_of l.c.roots.items l.places)
+    with_labels l.key.items (labels_of l.roots (drop l.place-index l.places))
+    ≡ with_labels l.fn.key.items (labels_of l.roots l.places)

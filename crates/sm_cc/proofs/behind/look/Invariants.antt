@@ -1,0 +1,10 @@
+-- The first places behind the ground were looked at.
+use Rattle.std.proofs.Common.{◌≡◌, ◌+◌, length}
+use Rattle.sm_cc.specs.Looked.{AreLooked}
+use Rattle.sm_cc.proofs.behind.look.Given as goal
+
+abbrev pub invariant-loop-k : goal.invariant-loop-k
+invariant-loop-k l = record {
+  looked : AreLooked l.ground l.more l.s;
+  place : length l.s.roots.items ≡ length l.ground.closure.rows.items + l.k;
+}

@@ -1,0 +1,9 @@
+-- The places of the first pairs.
+use Rattle.std.proofs.Common.{◌≡◌, map, take}
+use Rattle.sm_term.specs.declared.term.TermId.{TermId}
+use Rattle.sm_cc.specs.Positions.{place_at}
+use Rattle.sm_cc.proofs.behind.placed_pairs.Given as goal
+
+abbrev pub invariant-loop-p : goal.invariant-loop-p
+invariant-loop-p l =
+    l.list.items ≡ map (λ (p : TermId × TermId). (place_at l.positions p.0.0, place_at l.positions p.1.0)) (take l.p-index l.pairs)

@@ -1,0 +1,371 @@
+// What terms behind those of a ground are equal to, as far as one look at each tells.
+ghost use Rattle.std.specs.Prelude.{◌≡◌, ℕ, ◌+◌, ◌<◌, ◌≤◌, ℤ, Bool, true, IsTrue, Option, List};
+ghost use Rattle.std.specs.Prelude.{length, map, slice_get, IfOk, OnOk};
+ghost use Rattle.sm_term.specs.Tables.{trees_in, AreBefore};
+ghost use Rattle.sm_term.specs.TableLaws.{Grows};
+ghost use Rattle.sm_theory.specs.Standing.{AreLinearForms};
+ghost use Rattle.sm_cc.specs.declared.classes.GivenFact.{GivenFact as Fact};
+ghost use Rattle.sm_cc.specs.Behind.{AreEqualByLabels, AddsOnly};
+ghost use Rattle.sm_cc.specs.Closures.{are_together};
+ghost use Rattle.sm_cc.specs.Exact.{IsExact};
+ghost use Rattle.sm_cc.specs.Firsts.{AreFirsts, met_at, key_told, shape_key, row_key};
+ghost use Rattle.sm_cc.specs.Ground.{AreBelow, AreInside, AreKeyed, IsGround, IsLedBy};
+ghost use Rattle.sm_cc.specs.Labels.{AreTermLabels};
+ghost use Rattle.sm_cc.specs.Looked.{any_two, IsMetFor, IsLabelFor, AreLooked};
+ghost use Rattle.sm_cc.specs.Looked.{has_labels, are_parted, IsQuiet, IsQuietBehind, AreQuiet};
+ghost use Rattle.sm_cc.specs.Numbered.{IsLonger};
+ghost use Rattle.sm_cc.specs.Positions.{place_at};
+ghost use Rattle.sm_cc.specs.Regrounding.{over_at};
+ghost use Rattle.sm_cc.specs.Views.{ClassesValue, AreOfTwoTerms};
+
+use crate::classes::labels_of;
+use crate::closure::Closure;
+use crate::compare::together;
+use crate::ground::{Ground, Numbering, are_below};
+use crate::growing::copy_roots;
+use crate::keys::{Key, Met, label_in, labelled};
+use crate::log::Equation;
+use crate::places::right_sides;
+use crate::positions::Positions;
+use crate::regrounding::first_over;
+use crate::row::{Element, Row};
+use crate::rows::rows_from;
+use crate::witness::find_witness;
+use sm_num::LinForm;
+use sm_term::{TermId, TermTable, Terms};
+use std::alloc::{AllocError, Global};
+use std::collections::HashMap;
+
+/// What terms behind those of a ground are equal to, as far as one look at each tells.
+#[derive(Drop)]
+pub struct Behind {
+    /// A label for each term of the list, by its place.
+    pub labels: Vec<u64>,
+    /// Whether the labels tell the classes exactly: no rule brings anything of the new terms.
+    pub is_exact: bool,
+}
+
+/// Places behind those of a ground that were looked at.
+#[derive(Drop)]
+pub(crate) struct Looked {
+    // for each place the equation of it and its label; the entries say nothing
+    roots: Vec<Equation>,
+    // the first of these places that have the keys of forms which the ground's don't have
+    alike: Met,
+    // the same of keys of heads with arguments
+    headed: Met,
+    // whether each of these places has keys of its own
+    are_new: bool,
+}
+
+impl Ground {
+    /// What terms behind those of the ground are equal to, as far as one look at each tells. The
+    /// forms are those of all terms of the table, as `next_lin` of `sm_theory` makes them. The
+    /// labels are exact also where the terms of these pairs aren't equal.
+    pub fn behind(
+        &self,
+        alloc: Global,
+        numbering: &mut Numbering,
+        table: &TermTable,
+        forms: &[LinForm],
+        terms: &Terms,
+        apart: &[(TermId, TermId)],
+    ) -> Result<Behind, AllocError>
+        requires forms { AreLinearForms (trees_in table.now) forms.now }
+        requires counted { length forms.now ≡ length (trees_in table.now) }
+        requires before { AreBefore (length (trees_in table.now)) terms.now.list.items }
+        requires ground { (v : ClassesValue) × IsGround v self.now numbering.old
+            × Grows v.table table.now × IsLonger v.terms terms.now.list.items }
+        ensures equal { (v : ClassesValue) → (given : List Fact) →
+            IsGround v self.now numbering.old →
+            let w : ClassesValue =
+            record { table = table.now; terms = terms.now.list.items; given = given } in
+            AreOfTwoTerms w → IsLedBy v w → IfOk result (λ b. AreEqualByLabels w b.labels.items) }
+        ensures exact { (v : ClassesValue) → (given : List Fact) →
+            IsGround v self.now numbering.old →
+            let w : ClassesValue =
+            record { table = table.now; terms = terms.now.list.items; given = given } in
+            AreOfTwoTerms w → IsLedBy v w → AddsOnly v.given apart.now given →
+            IfOk result (λ b. IsTrue b.is_exact → AreTermLabels w b.labels.items) }
+        ensures ground { (v : ClassesValue) → IsGround v self.now numbering.old →
+            IsGround v self.now numbering.new }
+    {
+        // A table has no term and no body twice, as its length ensures.
+        table.len();
+        let from = self.closure.rows.len();
+        let positions = self.positions.more(alloc, table, &terms.list, from as u64)?;
+        let more = rows_from(
+            alloc,
+            table,
+            forms,
+            &positions,
+            numbering,
+            &terms.list,
+            from,
+        )?;
+        let looked = look(alloc, self, &more)?;
+        let pairs = placed_pairs(alloc, &positions, apart)?;
+        let is_exact = are_exact(&self.closure, &more, &looked, &pairs);
+        let places = right_sides(alloc, &looked.roots)?;
+        let labels = labels_of(alloc, &places, &positions, &terms.list)?;
+        Ok(Behind { labels, is_exact })
+    }
+}
+
+// Pairs of terms by the places of these.
+fn placed_pairs(
+    alloc: Global,
+    positions: &Positions,
+    pairs: &[(TermId, TermId)],
+) -> Result<Vec<(u64, u64)>, AllocError>
+    ensures { IfOk result (λ v. v.items
+        ≡ map (λ p. (place_at positions.now p.0.0, place_at positions.now p.1.0)) pairs.now) }
+{
+    let mut list = Vec::new(alloc);
+    for p in pairs {
+        list.push((positions.place(p.0), positions.place(p.1)))?;
+    }
+    Ok(list)
+}
+
+// The key of a row by its linear form, where it has one.
+fn form_key(alloc: Global, row: &Row) -> Result<Option<Key>, AllocError>
+    ensures { IfOk result (λ o. key_told o ≡ shape_key row.now.shape) }
+{
+    match row.shape {
+        Some(shape) => {
+            let mut key = Vec::new(alloc);
+            key.push((shape.parts, shape.constant))?;
+            Ok(Some(key))
+        }
+        None => Ok(None),
+    }
+}
+
+// The key of a row by its head and the labels of its arguments, where it has a head.
+fn argument_key(alloc: Global, roots: &[Equation], row: &Row) -> Result<Option<Key>, AllocError>
+    ensures { IfOk result (λ o. key_told o ≡ row_key roots.now row.now) }
+{
+    match row.head {
+        Some(head) => {
+            let mut key = Vec::new(alloc);
+            key.push((head, 0))?;
+            labelled(roots, &row.arguments, key)
+        }
+        None => Ok(None),
+    }
+}
+
+// The first place that has a key, by a map of earlier ones: this one, where there is none or the
+// place has no key.
+fn meet_over(base: &Met, met: &mut Met, key: Option<Key>, place: u64) -> Result<u64, AllocError>
+    ensures firsts { (key_of : ℕ → Option (List (ℕ × ℤ))) → key_of place ≡ key_told key →
+        AreFirsts key_of any_two (over_at (met_at base.now) (met_at met.old)) place →
+        OnOk result
+        (AreFirsts key_of any_two (over_at (met_at base.now) (met_at met.new)) (place + 1)) }
+    ensures met { (key_of : ℕ → Option (List (ℕ × ℤ))) → key_of place ≡ key_told key →
+        AreFirsts key_of any_two (over_at (met_at base.now) (met_at met.old)) place →
+        IfOk result (IsMetFor key_of place) }
+{
+    match key {
+        Some(key) => {
+            let first = first_over(base, met, key, place)?;
+            Ok(first)
+        }
+        None => Ok(place),
+    }
+}
+
+// The label of a place that was met for one of two keys: its own, where neither was met before.
+fn label_for(roots: &[Equation], place: u64, i: u64, j: u64) -> u64
+    ensures label { IsLabelFor roots.now place i j result }
+    ensures own { i ≡ place → j ≡ place → result ≡ place }
+{
+    if i != place {
+        if let Some(label) = label_in(roots, i) {
+            return label;
+        }
+    }
+    if j != place {
+        if let Some(label) = label_in(roots, j) {
+            return label;
+        }
+    }
+    place
+}
+
+// Whether places have keys of their own, and one more place is the first with each of its keys and
+// names places before it.
+fn are_still_new(are_new: bool, place: u64, i: u64, j: u64, arguments: &[u64]) -> bool
+    ensures { IsTrue result →
+        IsTrue are_new × (i ≡ place) × (j ≡ place) × AreBelow place arguments.now }
+{
+    are_new && i == place && j == place && are_below(place, arguments)
+}
+
+// The places of a ground, where none behind them was looked at.
+fn not_looked(alloc: Global, ground: &Ground) -> Result<Looked, AllocError>
+    requires exact { IsExact ground.now.closure }
+    requires keyed { AreKeyed ground.now }
+    requires inside { AreInside ground.now.closure.rows.items }
+    ensures looked { (more : List Row) → IfOk result (AreLooked ground.now more) }
+    ensures count { IfOk result (λ s.
+        length s.roots.items ≡ length ground.now.closure.rows.items) }
+{
+    let roots = copy_roots(alloc, &ground.closure.roots)?;
+    Ok(Looked {
+        roots,
+        alike: HashMap::new(alloc),
+        headed: HashMap::new(alloc),
+        are_new: true,
+    })
+}
+
+// Looks at one more place.
+fn look_at(
+    alloc: Global,
+    ground: &Ground,
+    more: &[Row],
+    k: usize,
+    s: &mut Looked,
+) -> Result<(), AllocError>
+    requires there { k < length more.now }
+    requires place { length s.old.roots.items ≡ length ground.now.closure.rows.items + k }
+    requires looked { AreLooked ground.now more.now s.old }
+    ensures looked { OnOk result (AreLooked ground.now more.now s.new) }
+    ensures place { OnOk result
+        (length s.new.roots.items ≡ length ground.now.closure.rows.items + k + 1) }
+{
+    let row = &more[k];
+    let place = s.roots.len() as u64;
+    let form = form_key(alloc, row)?;
+    let alike = meet_over(&ground.alike, &mut s.alike, form, place)?;
+    let head = argument_key(alloc, &s.roots, row)?;
+    let headed = meet_over(&ground.headed, &mut s.headed, head, place)?;
+    let right = label_for(&s.roots, place, headed, alike);
+    s.are_new = are_still_new(s.are_new, place, alike, headed, &row.arguments);
+    s.roots.push(Equation {
+        left: place,
+        right,
+        entry: 0,
+    })?;
+    Ok(())
+}
+
+// Looks at the places behind those of a ground, in order.
+fn look(alloc: Global, ground: &Ground, more: &[Row]) -> Result<Looked, AllocError>
+    requires exact { IsExact ground.now.closure }
+    requires keyed { AreKeyed ground.now }
+    requires inside { AreInside ground.now.closure.rows.items }
+    ensures looked { IfOk result (AreLooked ground.now more.now) }
+    ensures count { IfOk result (λ s.
+        length s.roots.items ≡ length ground.now.closure.rows.items + length more.now) }
+{
+    let mut s = not_looked(alloc, ground)?;
+    for k in 0..more.len() {
+        look_at(alloc, ground, more, k, &mut s)?;
+    }
+    Ok(s)
+}
+
+// Whether two places have one label.
+fn have_one_label(roots: &[Equation], i: u64, j: u64) -> bool
+    ensures { result ≡ are_together roots.now i j }
+{
+    match (roots.get(i as usize), roots.get(j as usize)) {
+        (Some(r), Some(s)) => r.right == s.right,
+        _ => false,
+    }
+}
+
+// Whether two places have the labels of the two of a pair, in either order.
+fn has_labels(roots: &[Equation], i: u64, j: u64, p: (u64, u64)) -> bool
+    ensures { result ≡ has_labels roots.now i j p }
+{
+    (have_one_label(roots, p.0, i) && have_one_label(roots, p.1, j))
+        || (have_one_label(roots, p.0, j) && have_one_label(roots, p.1, i))
+}
+
+// Whether two places have the labels of the two of some pair.
+fn are_parted(roots: &[Equation], apart: &[(u64, u64)], i: u64, j: u64) -> bool
+    ensures { result ≡ are_parted roots.now apart.now i j }
+{
+    for p in apart {
+        if has_labels(roots, i, j, *p) {
+            return true;
+        }
+    }
+    false
+}
+
+// Whether it brings nothing more of an element that is read at a place that the two of these pairs
+// aren't equal.
+fn is_quiet(
+    c: &Closure,
+    roots: &[Equation],
+    apart: &[(u64, u64)],
+    i: u64,
+    element: Option<Element>,
+) -> bool
+    ensures { IsTrue result → IsQuiet c.now roots.now apart.now i element }
+{
+    match element {
+        Some(e) => together(c, i, e.before) || !are_parted(roots, apart, e.index, e.other),
+        None => true,
+    }
+}
+
+// Whether no rule brings anything of an element that is read behind those of classes.
+fn is_quiet_behind(
+    c: &Closure,
+    roots: &[Equation],
+    apart: &[(u64, u64)],
+    element: Option<Element>,
+) -> bool
+    ensures { IsTrue result → IsQuietBehind c.now roots.now apart.now element }
+{
+    match element {
+        Some(e) => {
+            are_below(c.rows.len() as u64, &[e.index, e.other])
+                && !together(c, e.index, e.other)
+                && find_witness(c, e.index, e.other).is_none()
+                && !are_parted(roots, apart, e.index, e.other)
+        }
+        None => true,
+    }
+}
+
+// Whether it brings nothing more of the elements that are read at the places of classes.
+fn are_old_quiet(c: &Closure, roots: &[Equation], apart: &[(u64, u64)]) -> bool
+    ensures { IsTrue result → (i : ℕ) → (r : Row) → slice_get c.now.rows.items i ≡ Option.Some r →
+        IsQuiet c.now roots.now apart.now i r.element }
+{
+    for i in 0..c.rows.len() {
+        if !is_quiet(c, roots, apart, i as u64, c.rows[i].element) {
+            return false;
+        }
+    }
+    true
+}
+
+// Whether no rule brings anything of the elements that are read behind them.
+fn are_new_quiet(c: &Closure, more: &[Row], roots: &[Equation], apart: &[(u64, u64)]) -> bool
+    ensures { IsTrue result → (i : ℕ) → (r : Row) → slice_get more.now i ≡ Option.Some r →
+        IsQuietBehind c.now roots.now apart.now r.element }
+{
+    for r in more {
+        if !is_quiet_behind(c, roots, apart, r.element) {
+            return false;
+        }
+    }
+    true
+}
+
+// Whether each place behind those of classes has keys of its own, and no rule brings anything more
+// of any element.
+fn are_exact(c: &Closure, more: &[Row], s: &Looked, apart: &[(u64, u64)]) -> bool
+    ensures { IsTrue result →
+        IsTrue s.now.are_new × AreQuiet c.now more.now s.now.roots.items apart.now }
+{
+    s.are_new && are_new_quiet(c, more, &s.roots, apart) && are_old_quiet(c, &s.roots, apart)
+}
