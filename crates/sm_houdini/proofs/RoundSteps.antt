@@ -1,9 +1,8 @@
 -- Rounds: marks after what the nodes ask, what is next, and what settles.
 use Rattle.std.proofs.Common.{◌≡◌, ℕ, zero, suc, ◌+◌, ◌<◌, ◌≤◌, Bool, true, false, not, ◌&&◌, ◌||◌, if◌then◌else◌, Option, None}
-use Rattle.std.proofs.Common.{List, [], ◌∷◌, ◌++◌, map, length, take, get_or, slice_get, refl, sym, ap, ◌∙◌, subst, arith}
-use Rattle.std.specs.List.{list_all}
-use Rattle.std.proofs.lemmas.List.{take-map, map-append}
-use Rattle.std.proofs.lemmas.List.Folds.{list_all-append}
+use Rattle.std.proofs.Common.{List, [], ◌∷◌, map, length, drop, get_or, slice_get, add-one, refl, sym, ap, ◌∙◌, subst, arith}
+use Rattle.std.proofs.Math.Seq.{drop-cons}
+use Rattle.std.proofs.lemmas.List.{drop-map}
 use Rattle.sm_syntax.specs.text.Parts.{Parts, sort_of}
 use Rattle.sm_syntax.specs.text.Sorts.{Sorts}
 use Rattle.sm_term.specs.Assertions.{Assertion}
@@ -24,7 +23,6 @@ use Rattle.sm_houdini.specs.Closing.{closing, stays_at, owner_in, Knows}
 use Rattle.sm_houdini.specs.Marks.{all_marked, numbers_of}
 use Rattle.sm_houdini.specs.Owners.{owners}
 use Rattle.sm_houdini.specs.Rounds.{is_site, closes_if, holds_at, next_round, settled, dues_of, same_choice}
-use Rattle.sm_houdini.proofs.LoopLemmas.{taken}
 use Rattle.sm_houdini.proofs.MarkedLemmas.{all_same, sites_same}
 use Rattle.sm_houdini.proofs.ClosingLemmas.{due_stays}
 
@@ -41,16 +39,17 @@ knows_stays v w wider task p k = record {
 }
 
 -- one due more
-and_true : (b : Bool) → (b && true) ≡ b
-and_true true = refl
-and_true false = refl
+and_turned : (a b : Bool) → (a && b) ≡ (b && a)
+and_turned true true = refl
+and_turned true false = refl
+and_turned false true = refl
+and_turned false false = refl
 
 holds_more : (closes : List Assertion → Assertion → Bool) (owner : plain.Due → Option ℕ) (ds : List plain.Due) (d : plain.Due) (s i : ℕ) →
-    holds_at closes owner (ds ++ d ∷ []) s i
+    holds_at closes owner (d ∷ ds) s i
     ≡ (holds_at closes owner ds s i && (not (is_site (owner d) s) || closes_if (closes d.facts) (slice_get d.goals i)))
 holds_more closes owner ds d s i =
-    let P = λ (e : plain.Due). not (is_site (owner e) s) || closes_if (closes e.facts) (slice_get e.goals i) in
-    list_all-append P ds (d ∷ []) ∙ ap (λ (b : Bool). list_all P ds && b) (and_true (P d))
+    and_turned (not (is_site (owner d) s) || closes_if (closes d.facts) (slice_get d.goals i)) (holds_at closes owner ds s i)
 
 pub facts_at : (sorts : Sorts) (trees : List Tree) (ds : List Due) (i : ℕ) (d : Due) → AreDuesReady sorts trees ds → i < length ds →
     d ≡ get_or ds i d → AreFormsReady sorts trees d.facts.list.items × AreFormsReady sorts trees d.targets.list.items
@@ -63,29 +62,31 @@ facts_at sorts trees ds i d ready h e =
     go (x ∷ xs) zero r l = (r.0, r.1)
     go (x ∷ xs) (suc i) r l = let fewer : i < length xs = omega (arith, l) in go xs i r.2 fewer
 
-pub dues_taken : (sorts : Sorts) (trees : List Tree) (ds : List Due) (i : ℕ) (d : Due) → i < length ds → d ≡ get_or ds i d →
-    take (i + 1) (dues_in sorts trees ds) ≡ take i (dues_in sorts trees ds) ++ due_in sorts trees d ∷ []
-dues_taken sorts trees ds i d h e =
-    take-map (due_in sorts trees) (i + 1) ds ∙ ap (map (due_in sorts trees)) (taken ds i d h e)
-    ∙ map-append (due_in sorts trees) (take i ds) (d ∷ [])
-    ∙ ap (λ (xs : List plain.Due). xs ++ due_in sorts trees d ∷ []) (sym (take-map (due_in sorts trees) i ds))
+-- the dues from a place on are the one there and those behind it
+pub dues_left : (sorts : Sorts) (trees : List Tree) (ds : List Due) (i : ℕ) (d : Due) → i < length ds → d ≡ get_or ds i d →
+    drop i (dues_in sorts trees ds) ≡ due_in sorts trees d ∷ drop (i + 1) (dues_in sorts trees ds)
+dues_left sorts trees ds i d h e =
+    drop-map (due_in sorts trees) i ds
+    ∙ ap (map (due_in sorts trees)) (drop-cons ds i d h ∙ ap (λ (x : Due). x ∷ drop (suc i) ds) (sym e))
+    ∙ ap (λ (k : ℕ). due_in sorts trees d ∷ map (due_in sorts trees) (drop k ds)) (sym (add-one i))
+    ∙ ap (λ (xs : List plain.Due). due_in sorts trees d ∷ xs) (sym (drop-map (due_in sorts trees) (i + 1) ds))
 
 pub round_step : (v w : TableValue) → Widens v w → (steps : ℕ) (owner : plain.Due → Option ℕ) (ds : List Due) (i : ℕ) (d : Due)
     (choice : Choice) (new : List (List Marked)) → AreDuesReady (sorts_in v) (trees_in v) ds → i < length ds → d ≡ get_or ds i d →
-    new ≡ all_marked (λ (s j : ℕ). holds_at (closing (sorts_in v) steps) owner (take i (dues_in (sorts_in v) (trees_in v) ds)) s j
+    new ≡ all_marked (λ (s j : ℕ). holds_at (closing (sorts_in v) steps) owner (drop (i + 1) (dues_in (sorts_in v) (trees_in v) ds)) s j
     && stays_at (sorts_in w) steps owner (due_in (sorts_in w) (trees_in w) d) s j) 0 choice →
-    new ≡ all_marked (holds_at (closing (sorts_in v) steps) owner (take (i + 1) (dues_in (sorts_in v) (trees_in v) ds))) 0 choice
+    new ≡ all_marked (holds_at (closing (sorts_in v) steps) owner (drop i (dues_in (sorts_in v) (trees_in v) ds))) 0 choice
 round_step v w wider steps owner ds i d choice new ready h e judged =
     let parts = facts_at (sorts_in v) (trees_in v) ds i d ready h e in
     let due = due_stays v w wider d parts.0 parts.1 in
-    let before = take i (dues_in (sorts_in v) (trees_in v) ds) in
+    let behind = drop (i + 1) (dues_in (sorts_in v) (trees_in v) ds) in
     judged
-    ∙ (λ k. all_marked (λ (s j : ℕ). holds_at (closing (sorts_in v) steps) owner before s j
+    ∙ (λ k. all_marked (λ (s j : ℕ). holds_at (closing (sorts_in v) steps) owner behind s j
     && stays_at (wider.sorts k) steps owner (due k) s j) 0 choice)
-    ∙ all_same _ (holds_at (closing (sorts_in v) steps) owner (before ++ due_in (sorts_in v) (trees_in v) d ∷ [])) 0 choice
-    (λ (s j : ℕ) (l : 0 ≤ s). sym (holds_more (closing (sorts_in v) steps) owner before (due_in (sorts_in v) (trees_in v) d) s j))
+    ∙ all_same _ (holds_at (closing (sorts_in v) steps) owner (due_in (sorts_in v) (trees_in v) d ∷ behind)) 0 choice
+    (λ (s j : ℕ) (l : 0 ≤ s). sym (holds_more (closing (sorts_in v) steps) owner behind (due_in (sorts_in v) (trees_in v) d) s j))
     ∙ ap (λ (es : List plain.Due). all_marked (holds_at (closing (sorts_in v) steps) owner es) 0 choice)
-    (sym (dues_taken (sorts_in v) (trees_in v) ds i d h e))
+    (sym (dues_left (sorts_in v) (trees_in v) ds i d h e))
 
 -- the next round
 pub round_is : (t : Parts) (sorts : Sorts) (steps : ℕ) (os : List (Option ℕ)) (ds : List plain.Due) (choice c : Choice)

@@ -41,6 +41,7 @@ pub(crate) fn node_of(
     table: &mut TermTable,
     facts: &Formulas,
     is_shared: bool,
+    steps: u64,
 ) -> Result<Option<Node>, AllocError>
     requires { AreFormsReady (sorts_in table.old) (trees_in table.old) facts.now.list.items }
     ensures node { IfOk result (IsNodeOf table.new facts.now.list.items) }
@@ -49,7 +50,7 @@ pub(crate) fn node_of(
     if !is_shared {
         return Ok(None);
     }
-    let node = Node::of(alloc, table, &facts.list)?;
+    let node = Node::of(alloc, table, &facts.list, steps)?;
     Ok(node)
 }
 
@@ -139,7 +140,7 @@ pub(crate) fn judged(
         ≡ still_marked (closes_at sorts steps (due_in sorts trees due.now)) first marks.now) }
     ensures widens { Widens table.old table.new }
 {
-    let mut node = node_of(alloc, table, &due.facts, are_several(marks))?;
+    let mut node = node_of(alloc, table, &due.facts, are_several(marks), steps)?;
     judged_at(alloc, table, &mut node, due, first, marks, steps)
 }
 

@@ -178,7 +178,7 @@ pub(crate) fn end_run(
     ensures widens { Widens table.old table.new }
 {
     let several = due.targets.list.len() > 1;
-    let mut shared = node_of(alloc, table, &due.facts, several)?;
+    let mut shared = node_of(alloc, table, &due.facts, several, steps)?;
     end_run_at(alloc, table, &mut shared, due, first, run, trees, steps)
 }
 

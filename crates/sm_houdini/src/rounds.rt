@@ -70,7 +70,9 @@ fn judge<R: Threads + Sync, G: Gate>(
     Ok(())
 }
 
-// Marks at the templates of a choice all of whose goals close.
+// Marks at the templates of a choice all of whose goals close. The last that is asked comes first:
+// it is the turn that all copies take, where templates are refuted, and what is refuted isn't looked
+// at again.
 fn marks_after<R: Threads + Sync, G: Gate>(
     crew: &Crew<'_, R, G>,
     alloc: Global,
@@ -87,8 +89,10 @@ fn marks_after<R: Threads + Sync, G: Gate>(
     ensures widens { Widens table.old table.new }
 {
     let mut marks = all_marks(alloc, choice)?;
-    for due in dues {
-        judge(crew, alloc, table, due, owners, &mut marks, steps)?;
+    let mut left = dues.len();
+    while left > 0 {
+        left -= 1;
+        judge(crew, alloc, table, &dues[left], owners, &mut marks, steps)?;
     }
     Ok(marks)
 }

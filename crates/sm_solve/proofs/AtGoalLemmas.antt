@@ -1,5 +1,5 @@
 -- A node before, while and after the contrary of a goal stands in its place.
-use Rattle.std.proofs.Common.{◌≡◌, inl, inr, ℕ, zero, suc, ◌+◌, ◌<◌, ◌≤◌, Some, List, [], ◌∷◌, ◌++◌, length}
+use Rattle.std.proofs.Common.{◌≡◌, inl, inr, ℕ, zero, suc, ◌+◌, ◌<◌, ◌≤◌, Some, Option, IfSome, List, [], ◌∷◌, ◌++◌, length}
 use Rattle.std.proofs.Common.{take, drop, slice_get, slice_set, refl, sym, ap, subst, ◌∙◌, arith}
 use Rattle.std.proofs.lemmas.List.{append-nil, length-set, length-map, length-append, take-append-drop}
 use Rattle.std.specs.List.{range_with_len}
@@ -8,25 +8,28 @@ use Rattle.sm_num.specs.Forms.{Linear}
 use Rattle.sm_term.specs.declared.formula.Formula.{Formula}
 use Rattle.sm_term.specs.declared.formula.Formula.TheVariants as tree
 use Rattle.sm_term.specs.declared.term.TermId.{TermId}
-use Rattle.sm_term.specs.Assertions.{Assertion}
+use Rattle.sm_term.specs.Assertions.{Assertion, Yes}
 use Rattle.sm_term.specs.Formulas.{numbered, assertion_in, IsFormulaWithin}
 use Rattle.sm_term.specs.Sorted.{AreFormsSorted, IsFormSorted}
 use Rattle.sm_term.specs.Terms.{Tree}
 use Rattle.sm_term.specs.Tables.{TableValue, trees_in, sorts_in, codes_in}
 use Rattle.sm_term.specs.TableLaws.{Grows}
-use Rattle.sm_cc.specs.Ground.{IsGround, IsLedBy, AreAllGiven}
+use Rattle.sm_cc.specs.Ground.{IsLedBy, AreAllGiven}
 use Rattle.sm_cc.specs.Numbered.{IsLonger}
 use Rattle.sm_cc.specs.Views.{ClassesValue}
 use Rattle.sm_solve.specs.declared.node.Node.{Node}
 use Rattle.sm_solve.specs.declared.shared.SharedTerms.{SharedTerms}
+use Rattle.sm_solve.specs.declared.shut.Shut.{Shut}
 use Rattle.sm_solve.specs.AllForms.{AreAllForms}
 use Rattle.sm_solve.specs.AtGoal.{IsAtGoal, HasRoom, facts_without}
+use Rattle.sm_solve.specs.Bases.{IsFrom}
 use Rattle.sm_solve.specs.Branches.{with_parts, with_formula, with_formulas, depth_of}
 use Rattle.sm_solve.specs.Given.{classes_by, given_from}
 use Rattle.sm_solve.specs.Listing.{trees_at, numbers_of, AreBelow, IsClosed}
 use Rattle.sm_solve.specs.Parts.{all_numbered, assertions_in, AreFormulasWithin}
 use Rattle.sm_solve.specs.Renumbered.{AreTermsOf}
 use Rattle.sm_solve.specs.Sharing.{AreShared, IsNode, room_for_goal, with_those_before}
+use Rattle.sm_solve.specs.Shut.{IsShut}
 use Rattle.sm_solve.proofs.GroundingLemmas.{as_many}
 use Rattle.sm_solve.proofs.LinearsLemmas.{first_forms}
 use Rattle.sm_solve.proofs.NodeLemmas.{terms_there, added_behind, given_still, given_first, replaced_is, replaced_last, replaced_within}
@@ -43,7 +46,7 @@ place_there (y ∷ ys) zero x e = omega arith
 place_there (y ∷ ys) (suc k) x e = let less = place_there ys k x e in omega arith
 
 -- own tables of which one has more terms
-own_grows : (old new : TableValue) (terms more : List Tree) → sorts_in new ≡ sorts_in old → codes_in new ≡ codes_in old →
+pub own_grows : (old new : TableValue) (terms more : List Tree) → sorts_in new ≡ sorts_in old → codes_in new ≡ codes_in old →
     trees_in old ≡ terms → trees_in new ≡ terms ++ more → Grows old new
 own_grows old new terms more sorts codes first all = record {
   sorts = sorts;
@@ -95,12 +98,11 @@ module _ (old new : TableValue) (given : List Assertion) (n m : Node) (form : As
   many = as_many (sorts_in old) (trees_in m.terms.own) n.facts.items ∙ ap length still.are
 
   -- the contrary of a goal is put in its place, and what parts it has behind the facts
-  at_goal : (fact : Formula) → IsLonger (slice_set n.facts.items n.place fact) m.facts.items → m.place ≡ n.place → m.ground ≡ n.ground →
-      m.numbering ≡ n.numbering →
+  at_goal : (fact : Formula) → IsLonger (slice_set n.facts.items n.place fact) m.facts.items → m.place ≡ n.place → m.base ≡ n.base → m.shut ≡ n.shut →
       assertions_in (sorts_in old) (trees_in m.terms.own) (all_numbered m.facts.items) ≡ with_parts (given ++ form ∷ []) →
       AreFormulasWithin (length (trees_in m.terms.own)) (all_numbered m.facts.items) → IsFormSorted (sorts_in old) form →
       IsAtGoal new given form m
-  at_goal fact longer place ground numbering told within sorted =
+  at_goal fact longer place same_base same_shut told within sorted =
       let fs = n.facts.items in
       let own = trees_in m.terms.own in
       let here : slice_get fs n.place ≡ Some tree.Yes = ap (slice_get fs) is.place ∙ yes in
@@ -143,10 +145,12 @@ module _ (old new : TableValue) (given : List Assertion) (n m : Node) (form : As
           whole = is.grounded.whole;
           counted = is.grounded.counted;
           ground =
-              subst (λ (gs : List Formula). IsGround (classes_by is.grounded.table is.grounded.ids gs) m.ground m.numbering) (sym back)
-              (subst (λ x. IsGround (classes_by is.grounded.table is.grounded.ids fs) x m.numbering) (sym ground)
-              (subst (λ x. IsGround (classes_by is.grounded.table is.grounded.ids fs) n.ground x) (sym numbering) is.grounded.ground));
+              subst (λ (gs : List Formula). IsFrom (classes_by is.grounded.table is.grounded.ids gs) m.base) (sym back)
+              (subst (IsFrom (classes_by is.grounded.table is.grounded.ids fs)) (sym same_base) is.grounded.ground);
         };
+        shut =
+            subst (λ (o : Option Shut). IfSome o (IsShut (sorts_in new) first (given ++ Yes ∷ []))) (sym same_shut)
+            (subst (λ (s : Sorts). IfSome n.shut (IsShut s first (given ++ Yes ∷ []))) (sym grows.sorts) is.shut);
       }
 
   module _ (fact : Formula) (told : assertion_in (sorts_in old) (trees_in m.terms.own) (numbered fact) ≡ form)
@@ -155,9 +159,9 @@ module _ (old new : TableValue) (given : List Assertion) (n m : Node) (form : As
     replaced = replaced_within (length (trees_in m.terms.own)) n.facts.items n.place fact still.within within
 
     -- a contrary that has no parts
-    pub opened : m.facts.items ≡ slice_set n.facts.items n.place fact → m.place ≡ n.place → m.ground ≡ n.ground →
-        m.numbering ≡ n.numbering → depth_of form ≡ 0 → IsFormSorted (sorts_in old) form → IsAtGoal new given form m
-    opened facts place ground numbering flat sorted =
+    pub opened : m.facts.items ≡ slice_set n.facts.items n.place fact → m.place ≡ n.place → m.base ≡ n.base → m.shut ≡ n.shut →
+        depth_of form ≡ 0 → IsFormSorted (sorts_in old) form → IsAtGoal new given form m
+    opened facts place same_base same_shut flat sorted =
         let fs = n.facts.items in
         let own = trees_in m.terms.own in
         let all : assertions_in (sorts_in old) own (all_numbered m.facts.items) ≡ with_parts (given ++ form ∷ []) =
@@ -165,7 +169,7 @@ module _ (old new : TableValue) (given : List Assertion) (n m : Node) (form : As
         ∙ ap (λ (k : ℕ). assertions_in (sorts_in old) own (all_numbered (slice_set fs k fact))) is.place
         ∙ replaced_is (sorts_in old) own given fs fact (ap depth_of told ∙ flat) still.are
         ∙ ap (λ (f : Assertion). with_parts (given ++ f ∷ [])) told in
-        at_goal fact ([], facts ∙ sym (append-nil (slice_set fs n.place fact))) place ground numbering all
+        at_goal fact ([], facts ∙ sym (append-nil (slice_set fs n.place fact))) place same_base same_shut all
         (subst (λ (gs : List Formula). AreFormulasWithin (length own) (all_numbered gs)) (sym facts) replaced) sorted
 
     -- a contrary at the last place, behind which its parts are put
@@ -173,9 +177,9 @@ module _ (old new : TableValue) (given : List Assertion) (n m : Node) (form : As
         ((sorts : Sorts) (trees : List Tree) → assertions_in sorts trees (all_numbered m.facts.items)
         ≡ queue_from n.place (assertions_in sorts trees (all_numbered mid))) →
         ((count : ℕ) → AreFormulasWithin count (all_numbered mid) → AreFormulasWithin count (all_numbered m.facts.items)) →
-        m.place ≡ n.place → m.ground ≡ n.ground → m.numbering ≡ n.numbering → length n.facts.items ≡ n.place + 1 →
+        m.place ≡ n.place → m.base ≡ n.base → m.shut ≡ n.shut → length n.facts.items ≡ n.place + 1 →
         IsFormSorted (sorts_in old) form → IsAtGoal new given form m
-    opened_last mid put longer added stay place ground numbering last sorted =
+    opened_last mid put longer added stay place same_base same_shut last sorted =
         let fs = n.facts.items in
         let own = trees_in m.terms.own in
         let room : length (room_for_goal given) ≡ length given + 1 = sym many ∙ last ∙ ap (λ (k : ℕ). k + 1) is.place in
@@ -186,7 +190,7 @@ module _ (old new : TableValue) (given : List Assertion) (n m : Node) (form : As
         ∙ ap (λ (k : ℕ). queue_from k (assertions_in (sorts_in old) own (all_numbered (slice_set fs k fact)))) is.place in
         let all = replaced_last (sorts_in old) own given fs m.facts.items fact still.are room queue
         ∙ ap (λ (f : Assertion). with_parts (given ++ f ∷ [])) told in
-        at_goal fact (subst (λ (gs : List Formula). IsLonger gs m.facts.items) put longer) place ground numbering all
+        at_goal fact (subst (λ (gs : List Formula). IsLonger gs m.facts.items) put longer) place same_base same_shut all
         (stay (length own) (subst (λ (gs : List Formula). AreFormulasWithin (length own) (all_numbered gs)) (sym put) replaced)) sorted
 
 -- an element that is put at a place
@@ -202,7 +206,7 @@ thing_at (y ∷ ys) zero h = (y, refl)
 thing_at (y ∷ ys) (suc k) h = let less : k < length ys = omega arith in thing_at ys k less
 
 -- terms that are counted from a number on
-counted_longer : (n : ℕ) (xs ys : List TermId) → numbers_of xs ≡ range_with_len n (length xs) → numbers_of ys ≡ range_with_len n (length ys) →
+pub counted_longer : (n : ℕ) (xs ys : List TermId) → numbers_of xs ≡ range_with_len n (length xs) → numbers_of ys ≡ range_with_len n (length ys) →
     length xs ≤ length ys → IsLonger xs ys
 counted_longer n [] ys e f h = (ys, refl)
 counted_longer n (x ∷ xs) [] e f h = absurd (omega arith)
@@ -229,21 +233,22 @@ length_range s zero = refl
 length_range s (suc n) = ap suc (length_range (s + 1) n)
 
 -- how many terms are counted
-count_of : (ids : List TermId) (n : ℕ) → numbers_of ids ≡ range_with_len 0 n → length ids ≡ n
+pub count_of : (ids : List TermId) (n : ℕ) → numbers_of ids ≡ range_with_len 0 n → length ids ≡ n
 count_of ids n e = sym (length-map ids (λ (t : TermId). t.0)) ∙ ap length e ∙ length_range 0 n
 
 -- the classes of a goal begin with those of the node's facts
-pub led : (table : TableValue) (given : List Assertion) (form : Assertion) (n : Node) → IsAtGoal table given form n →
-    (v : ClassesValue) × IsGround v n.ground n.numbering
+pub led_with : (table : TableValue) (given : List Assertion) (form : Assertion) (n : Node) → IsAtGoal table given form n →
+    (v : ClassesValue) × IsFrom v n.base × (v.given ≡ given_from 0 (facts_without given n))
     × ((ids : List TermId) → numbers_of ids ≡ range_with_len 0 (length (trees_in n.terms.own)) →
     IsLedBy v (classes_by n.terms.own ids n.facts.items))
-led table given form n at =
+led_with table given form n at =
     let g = at.grounded in
     let own = n.terms.own in
     let first = with_formulas (room_for_goal given) [] in
     let grows : Grows g.table own = own_grows g.table own first at.more g.sorts g.codes g.trees at.shared.own in (
       classes_by g.table g.ids (facts_without given n),
       g.ground,
+      refl,
       λ ids counted. record {
         table = grows;
         terms =
@@ -274,15 +279,28 @@ led table given form n at =
         (given_first 0 kept (drop count fs)) in
         λ k g is. let found = two k g is in three found.0 g found.1
 
--- nothing but the numbering is another
+-- the same without what is given
+pub led : (table : TableValue) (given : List Assertion) (form : Assertion) (n : Node) → IsAtGoal table given form n →
+    (v : ClassesValue) × IsFrom v n.base
+    × ((ids : List TermId) → numbers_of ids ≡ range_with_len 0 (length (trees_in n.terms.own)) →
+    IsLedBy v (classes_by n.terms.own ids n.facts.items))
+led table given form n at = let l = led_with table given form n at in (l.0, l.1, l.3)
+
+-- as many facts of a node stand at a goal
+pub room_kept : (table : TableValue) (given : List Assertion) (form : Assertion) (n : Node) → IsAtGoal table given form n →
+    length (take (length (room_for_goal given)) n.facts.items) ≡ length (room_for_goal given)
+room_kept table given form n at =
+    sym (length-set (take (length (room_for_goal given)) n.facts.items) n.place tree.Yes)
+    ∙ as_many (sorts_in table) (with_formulas (room_for_goal given) []) (facts_without given n) ∙ ap length at.without.0
+
+-- nothing but what the base is numbered by is another
 pub renumbered_goal : (table : TableValue) (given : List Assertion) (form : Assertion) (n m : Node) → m.terms ≡ n.terms → m.forms ≡ n.forms →
-    m.facts ≡ n.facts → m.place ≡ n.place → m.ground ≡ n.ground →
-    ((v : ClassesValue) → IsGround v n.ground n.numbering → IsGround v n.ground m.numbering) →
+    m.facts.items ≡ n.facts.items → m.place ≡ n.place → m.shut ≡ n.shut → ((v : ClassesValue) → IsFrom v n.base → IsFrom v m.base) →
     IsAtGoal table given form n → IsAtGoal table given form m
-renumbered_goal table given form n m terms forms facts place ground still at =
+renumbered_goal table given form n m terms forms facts place same_shut later at =
     let first = with_formulas (room_for_goal given) [] in
     let count = length (room_for_goal given) in
-    let back : facts_without given m ≡ facts_without given n = ap (λ x. slice_set (take count x.items) m.place tree.Yes) facts
+    let back : facts_without given m ≡ facts_without given n = ap (λ (gs : List Formula). slice_set (take count gs) m.place tree.Yes) facts
     ∙ ap (λ (k : ℕ). slice_set (take count n.facts.items) k tree.Yes) place in
     let g = at.grounded in
     let own : m.terms.own ≡ n.terms.own = ap (λ (s : SharedTerms). s.own) terms in
@@ -297,10 +315,10 @@ renumbered_goal table given form n m terms forms facts place ground still at =
       terms = at.terms;
       facts =
           ap (λ (o : TableValue). assertions_in (sorts_in table) (trees_in o) (all_numbered m.facts.items)) own
-          ∙ ap (λ x. assertions_in (sorts_in table) (trees_in n.terms.own) (all_numbered x.items)) facts ∙ at.facts;
+          ∙ ap (λ (gs : List Formula). assertions_in (sorts_in table) (trees_in n.terms.own) (all_numbered gs)) facts ∙ at.facts;
       within =
           subst (λ (o : TableValue). AreFormulasWithin (length (trees_in o)) (all_numbered m.facts.items)) (sym own)
-          (subst (λ x. AreFormulasWithin (length (trees_in n.terms.own)) (all_numbered x.items)) (sym facts) at.within);
+          (subst (λ (gs : List Formula). AreFormulasWithin (length (trees_in n.terms.own)) (all_numbered gs)) (sym facts) at.within);
       without =
           subst (λ (gs : List Formula). (assertions_in (sorts_in table) first (all_numbered gs) ≡ room_for_goal given)
           × AreFormulasWithin (length first) (all_numbered gs)) (sym back) at.without;
@@ -320,10 +338,10 @@ renumbered_goal table given form n m terms forms facts place ground still at =
         whole = g.whole;
         counted = g.counted;
         ground =
-            subst (λ (gs : List Formula). IsGround (classes_by g.table g.ids gs) m.ground m.numbering) (sym back)
-            (subst (λ x. IsGround (classes_by g.table g.ids (facts_without given n)) x m.numbering) (sym ground)
-            (still (classes_by g.table g.ids (facts_without given n)) g.ground));
+            subst (λ (gs : List Formula). IsFrom (classes_by g.table g.ids gs) m.base) (sym back)
+            (later (classes_by g.table g.ids (facts_without given n)) g.ground);
       };
+      shut = subst (λ (o : Option Shut). IfSome o (IsShut (sorts_in table) first (given ++ Yes ∷ []))) (sym same_shut) at.shut;
     }
 
 -- the contrary of a goal is taken out of its place
@@ -331,8 +349,8 @@ pub closed : (table : TableValue) (given : List Assertion) (form : Assertion) (n
     AreShared table (with_formulas (room_for_goal given) []) m.terms →
     m.forms.items ≡ take (length (with_formulas (room_for_goal given) [])) n.forms.items → m.facts.items ≡ facts_without given n →
     m.place ≡ n.place →
-    m.ground ≡ n.ground → m.numbering ≡ n.numbering → IsNode table given m
-closed table given form n m at shared forms facts place ground numbering =
+    m.base ≡ n.base → m.shut ≡ n.shut → IsNode table given m
+closed table given form n m at shared forms facts place same_base same_shut =
     let first = with_formulas (room_for_goal given) [] in
     let g = at.grounded in
     record {
@@ -358,10 +376,10 @@ closed table given form n m at shared forms facts place ground numbering =
         whole = g.whole;
         counted = g.counted;
         ground =
-            subst (λ (gs : List Formula). IsGround (classes_by g.table g.ids gs) m.ground m.numbering) (sym facts)
-            (subst (λ x. IsGround (classes_by g.table g.ids (facts_without given n)) x m.numbering) (sym ground)
-            (subst (λ x. IsGround (classes_by g.table g.ids (facts_without given n)) n.ground x) (sym numbering) g.ground));
+            subst (λ (gs : List Formula). IsFrom (classes_by g.table g.ids gs) m.base) (sym facts)
+            (subst (IsFrom (classes_by g.table g.ids (facts_without given n))) (sym same_base) g.ground);
       };
+      shut = subst (λ (o : Option Shut). IfSome o (IsShut (sorts_in table) first (given ++ Yes ∷ []))) (sym same_shut) at.shut;
     }
 
 -- all facts of a goal are sorted
@@ -413,17 +431,6 @@ first_fits table given form n at =
 -- their arguments are among them
 pub first_closed : (given : List Assertion) → IsClosed (with_formulas (room_for_goal given) [])
 first_closed given = closed_with_formulas (room_for_goal given) [] closed_none
-
--- the same classes by an equal list of facts
-pub ledby_facts : (n : Node) (facts : List Formula) → facts ≡ n.facts.items →
-    (v : ClassesValue) × IsGround v n.ground n.numbering
-    × ((ids : List TermId) → numbers_of ids ≡ range_with_len 0 (length (trees_in n.terms.own)) →
-    IsLedBy v (classes_by n.terms.own ids n.facts.items)) →
-    (v : ClassesValue) × IsGround v n.ground n.numbering
-    × ((ids : List TermId) → numbers_of ids ≡ range_with_len 0 (length (trees_in n.terms.own)) →
-    IsLedBy v (classes_by n.terms.own ids facts))
-ledby_facts n facts same h =
-    (h.0, h.1, λ ids counted. subst (λ (fs : List Formula). IsLedBy h.0 (classes_by n.terms.own ids fs)) (sym same) (h.2 ids counted))
 
 -- the numbers that the terms have in the other table
 pub terms_of_goal : (table : TableValue) (given : List Assertion) (form : Assertion) (n : Node) → IsAtGoal table given form n →

@@ -1,5 +1,5 @@
 -- What a node is made of: the facts with room for a goal, over a table of their terms.
-use Rattle.std.proofs.Common.{◌≡◌, ℕ, List, [], ◌∷◌, ◌++◌, length, refl, sym, ap, ◌∙◌, subst}
+use Rattle.std.proofs.Common.{◌≡◌, ℕ, None, Option, IfSome, List, [], ◌∷◌, ◌++◌, length, refl, sym, ap, ◌∙◌, subst}
 use Rattle.std.proofs.lemmas.List.{map-append, length-map}
 use Rattle.std.specs.List.{range_with_len}
 use Rattle.sm_syntax.specs.text.Sorts.{Sorts}
@@ -12,14 +12,16 @@ use Rattle.sm_term.specs.Formulas as number
 use Rattle.sm_term.specs.Formulas.{NumberedFormula, numbered, assertion_in}
 use Rattle.sm_term.specs.Sorted.{AreFormsSorted}
 use Rattle.sm_term.specs.Tables.{TableValue, trees_in, sorts_in}
-use Rattle.sm_cc.specs.Ground.{IsGround}
 use Rattle.sm_solve.specs.declared.node.Node.{Node}
+use Rattle.sm_solve.specs.declared.shut.Shut.{Shut}
 use Rattle.sm_solve.specs.AllForms.{AreAllForms}
+use Rattle.sm_solve.specs.Bases.{IsFrom}
 use Rattle.sm_solve.specs.Branches.{with_formulas, terms_of}
 use Rattle.sm_solve.specs.Given.{IsWhole, classes_by}
 use Rattle.sm_solve.specs.Listing.{numbers_of}
 use Rattle.sm_solve.specs.Parts.{all_numbered, assertions_in, AreFormulasWithin}
 use Rattle.sm_solve.specs.Sharing.{AreShared, IsNode, room_for_goal}
+use Rattle.sm_solve.specs.Shut.{IsShut}
 use Rattle.sm_solve.proofs.NodeLemmas.{unread}
 use Rattle.sm_solve.proofs.PartsLemmas.{within-append}
 use Rattle.sm_solve.proofs.SortedLemmas.{sorted-append, sorted_with}
@@ -60,8 +62,8 @@ pub node_of : (table new : TableValue) (given first second : List Assertion) (n 
     AreFormulasWithin (length (trees_in n.terms.own)) (all_numbered n.facts.items) → n.place ≡ length given →
     AreFormsSorted (sorts_in table) given → (ids : List TermId) → IsWhole (trees_in n.terms.own) ids →
     numbers_of ids ≡ range_with_len 0 (length (trees_in n.terms.own)) →
-    IsGround (classes_by n.terms.own ids n.facts.items) n.ground n.numbering → IsNode new given n
-node_of table new given first second n sorts one two shared forms count facts within place sorted ids whole counted ground =
+    IsFrom (classes_by n.terms.own ids n.facts.items) n.base → n.shut ≡ None → IsNode new given n
+node_of table new given first second n sorts one two shared forms count facts within place sorted ids whole counted ground none_shut =
     let own = trees_in n.terms.own in
     let room = room_for_goal given in
     let many : length (terms_of room) ≡ length (with_formulas room []) =
@@ -86,4 +88,6 @@ node_of table new given first second n sorts one two shared forms count facts wi
         counted = counted;
         ground = ground;
       };
+      shut =
+          subst (λ (o : Option Shut). IfSome o (IsShut (sorts_in new) (with_formulas room []) (given ++ Yes ∷ []))) (sym none_shut) tt;
     }

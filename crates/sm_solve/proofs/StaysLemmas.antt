@@ -1,8 +1,8 @@
 -- A node over a table that has got more terms.
-use Rattle.std.proofs.Common.{List, [], length, sym, ap, ◌∙◌, subst, arith}
+use Rattle.std.proofs.Common.{IfSome, List, [], ◌∷◌, ◌++◌, length, sym, ap, ◌∙◌, subst, arith}
 use Rattle.std.proofs.lemmas.List.{length-append}
 use Rattle.sm_syntax.specs.text.Sorts.{Sorts}
-use Rattle.sm_term.specs.Assertions.{Assertion}
+use Rattle.sm_term.specs.Assertions.{Assertion, Yes}
 use Rattle.sm_term.specs.Formulas.{NumberedFormula, assertion_in, IsFormulaWithin}
 use Rattle.sm_term.specs.Sorted.{AreFormsSorted}
 use Rattle.sm_term.specs.Tables.{TableValue, trees_in, sorts_in}
@@ -14,6 +14,7 @@ use Rattle.sm_solve.specs.declared.shared.SharedTerms.{SharedTerms}
 use Rattle.sm_solve.specs.Branches.{with_formulas}
 use Rattle.sm_solve.specs.Parts.{all_numbered, assertions_in, AreFormulasWithin}
 use Rattle.sm_solve.specs.Sharing.{AreShared, IsNode, room_for_goal}
+use Rattle.sm_solve.specs.Shut.{IsShut}
 use Rattle.sm_solve.proofs.ListingLemmas.{below_grown, same_grown}
 use Rattle.sm_solve.proofs.OwnLemmas.{facts_grown}
 use Rattle.sm_solve.proofs.SharedLemmas.{placed_grown}
@@ -49,6 +50,9 @@ node_grown old new given n grows apart is = record {
   place = is.place;
   sorted = subst (λ (s : Sorts). AreFormsSorted s given) (sym grows.sorts) is.sorted;
   grounded = is.grounded;
+  shut =
+      let terms = with_formulas (room_for_goal given) [] in
+      subst (λ (s : Sorts). IfSome n.shut (IsShut s terms (given ++ Yes ∷ []))) (sym grows.sorts) is.shut;
 }
 
 -- what is so of facts and a target over a table is so over one that has got more terms, and back

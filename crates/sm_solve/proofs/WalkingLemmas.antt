@@ -1,18 +1,18 @@
 -- The walk from a branch, by its visits and its parts.
-use Rattle.std.proofs.Common.{◌≡◌, ℕ, zero, suc, ◌+◌, ◌-◌, ◌<◌, ◌≤◌, max, Bool, true, false, if◌then◌else◌, Option, Some}
+use Rattle.std.proofs.Common.{◌≡◌, ℕ, zero, suc, ◌+◌, ◌-◌, ◌<◌, max, Bool, true, false, if◌then◌else◌, Option, Some}
 use Rattle.std.proofs.Common.{List, [], ◌∷◌, ◌++◌, length, take, drop, refl, sym, ap, subst, ◌∙◌, arith}
 use Rattle.std.proofs.lemmas.Bool.{lt-ltb}
-use Rattle.std.proofs.lemmas.List.{length-append, length-map, drop-map, take-map}
+use Rattle.std.proofs.lemmas.List.{length-map, drop-map}
 use Rattle.sm_syntax.specs.text.Sorts.{Sorts}
 use Rattle.sm_term.specs.declared.formula.Formula.{Formula}
 use Rattle.sm_term.specs.Terms.{Tree}
 use Rattle.sm_term.specs.Assertions.{Assertion}
-use Rattle.sm_term.specs.Formulas.{NumberedFormula, numbered, assertion_in}
-use Rattle.sm_term.specs.Tables.{TableValue, trees_in, sorts_in}
+use Rattle.sm_term.specs.Formulas.{numbered, assertion_in}
 use Rattle.sm_theory.specs.declared.line.CertLine.{CertLine}
 use Rattle.sm_theory.specs.Facts.{as_facts}
 use Rattle.sm_theory.specs.Views.{line_in}
 use Rattle.sm_theory.specs.Ways.{ways, splitting}
+use Rattle.sm_cc.specs.Numbered.{IsLonger}
 use Rattle.sm_cert.specs.declared.tree.CertTree.{CertTree}
 use Rattle.sm_cert.specs.Certificates as tree
 use Rattle.sm_cert.specs.Certificates.{splits_above}
@@ -20,10 +20,9 @@ use Rattle.sm_cert.specs.Views.{certificate_in, lines_of, AreLinesWithin}
 use Rattle.sm_solve.specs.declared.closing.BranchSplit.{BranchSplit}
 use Rattle.sm_solve.specs.Branches.{with_parts}
 use Rattle.sm_solve.specs.Closings.{Refutes}
-use Rattle.sm_solve.specs.Given.{branch_of}
 use Rattle.sm_solve.specs.Holding.{Seen, Split, seen_by, is_closed, split_of}
 use Rattle.sm_solve.specs.Leading.{both_lines, led_by}
-use Rattle.sm_solve.specs.Parts.{all_numbered, assertions_in, AreFormulasWithin}
+use Rattle.sm_solve.specs.Parts.{all_numbered, assertions_in}
 use Rattle.sm_solve.specs.Walk.{Walked, Closes, TooFar, counted, by_classes, by_forms, by_parts, forms_of}
 use Rattle.sm_solve.specs.Walk.{walk_from}
 use Rattle.sm_solve.specs.Splits.{split_told}
@@ -59,21 +58,9 @@ take_first (suc n) [] ys h = absurd (omega arith)
 take_first zero (x ∷ xs) ys h = absurd (omega arith)
 take_first {X = X} (suc n) (x ∷ xs) ys h = ap (λ (rest : List X). x ∷ rest) (take_first n xs ys (omega arith))
 
-pub cut_are : (sorts : Sorts) (trees : List Tree) (n : ℕ) (fs : List Formula) (before more : List Assertion) → n ≡ length before →
-    assertions_in sorts trees (all_numbered fs) ≡ before ++ more → assertions_in sorts trees (all_numbered (take n fs)) ≡ before
-cut_are sorts trees n fs before more h are =
-    ap (assertions_in sorts trees) (sym (take-map numbered n fs))
-    ∙ sym (take-map (assertion_in sorts trees) n (all_numbered fs))
-    ∙ ap (take n) are ∙ take_first n before more h
-
-within_cut : (count n : ℕ) (fs : List NumberedFormula) → AreFormulasWithin count fs → AreFormulasWithin count (take n fs)
-within_cut count zero fs h = tt
-within_cut count (suc n) [] h = tt
-within_cut count (suc n) (f ∷ fs) h = (h.0, within_cut count n fs h.1)
-
-pub cut_within : (count n : ℕ) (fs : List Formula) → AreFormulasWithin count (all_numbered fs) →
-    AreFormulasWithin count (all_numbered (take n fs))
-cut_within count n fs h = subst (AreFormulasWithin count) (take-map numbered n fs) (within_cut count n (all_numbered fs) h)
+-- of a longer list what was there
+pub cut_back : (n : ℕ) (fs gs : List Formula) → n ≡ length fs → IsLonger fs gs → take n gs ≡ fs
+cut_back n fs gs h longer = ap (take n) longer.1 ∙ take_first n fs longer.0 h
 
 -- a certificate of the branch with all parts, under the lines that add them
 pub led_closes : (sorts : Sorts) (trees : List Tree) (facts : List Formula) (from room : ℕ) (before last : List Assertion)
@@ -140,27 +127,6 @@ split_is go all count sorts trees s b o split seen is told =
     ap (λ (p : Option Split). by_parts go all p count)
     (sym (ap (split_told sorts trees) (sym is) ∙ told ∙ ap split_of seen))
 
--- what a visit tells is what the walk comes to
-pub walk_visits : (table : TableValue) (steps room count : ℕ) (facts items : List Formula) (w : Walked) → (room ≡ 0 → ⊥) → count < steps →
-    facts ≡ items →
-    by_classes (walk_from (sorts_in table) (trees_in table) steps (room - 1)) steps (branch_of table facts) (count + 1) ≡ w →
-    walk_from (sorts_in table) (trees_in table) steps room count (assertions_in (sorts_in table) (trees_in table) (all_numbered items)) ≡ w
-walk_visits table steps room count facts items w some less same told =
-    let sorts = sorts_in table in
-    let trees = trees_in table in
-    walk_next sorts trees steps room count (assertions_in sorts trees (all_numbered items)) some less
-    ∙ ap (λ (fs : List Formula). by_classes (walk_from sorts trees steps (room - 1)) steps (branch_of table fs) (count + 1)) (sym same)
-    ∙ told
-
 -- as many formulas
 pub as_many : (sorts : Sorts) (trees : List Tree) (fs : List Formula) → length (assertions_in sorts trees (all_numbered fs)) ≡ length fs
 as_many sorts trees fs = length-map (all_numbered fs) (assertion_in sorts trees) ∙ length-map fs numbered
-
-pub place_within : (sorts : Sorts) (trees : List Tree) (fs gs : List Formula) (more : List Assertion) →
-    assertions_in sorts trees (all_numbered gs) ≡ assertions_in sorts trees (all_numbered fs) ++ more → length fs ≤ length gs
-place_within sorts trees fs gs more are =
-    let one = as_many sorts trees fs in
-    let two = as_many sorts trees gs in
-    let all = ap length are in
-    let both = length-append (assertions_in sorts trees (all_numbered fs)) more in
-    omega arith

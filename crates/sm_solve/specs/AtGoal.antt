@@ -1,21 +1,22 @@
 -- Private: a node at which the contrary of a goal stands in its place.
-use Rattle.std.specs.Prelude.{◌≡◌, ◌⊎◌, ◌+◌, ◌<◌, List, [], ◌∷◌, ◌++◌, length, take, slice_set}
+use Rattle.std.specs.Prelude.{◌≡◌, ◌⊎◌, ◌+◌, ◌<◌, IfSome, List, [], ◌∷◌, ◌++◌, length, take, slice_set}
 use Rattle.std.specs.List.{range_with_len}
 use Rattle.sm_term.specs.declared.formula.Formula.{Formula}
 use Rattle.sm_term.specs.declared.formula.Formula.TheVariants as tree
 use Rattle.sm_term.specs.declared.term.TermId.{TermId}
-use Rattle.sm_term.specs.Assertions.{Assertion}
+use Rattle.sm_term.specs.Assertions.{Assertion, Yes}
 use Rattle.sm_term.specs.Sorted.{AreFormsSorted, IsFormSorted}
 use Rattle.sm_term.specs.Terms.{Tree}
 use Rattle.sm_term.specs.Tables.{TableValue, trees_in, sorts_in, codes_in}
-use Rattle.sm_cc.specs.Ground.{IsGround}
 use Rattle.sm_solve.specs.declared.node.Node.{Node}
 use Rattle.sm_solve.specs.AllForms.{AreAllForms}
+use Rattle.sm_solve.specs.Bases.{IsFrom}
 use Rattle.sm_solve.specs.Branches.{depth_of, with_parts, with_formulas, terms_of}
 use Rattle.sm_solve.specs.Given.{IsWhole, classes_by}
 use Rattle.sm_solve.specs.Listing.{numbers_of}
 use Rattle.sm_solve.specs.Parts.{all_numbered, assertions_in, AreFormulasWithin}
 use Rattle.sm_solve.specs.Sharing.{AreShared, room_for_goal}
+use Rattle.sm_solve.specs.Shut.{IsShut}
 
 -- the contrary of a goal can stand in its place with no fact at another: it has no parts, or none of
 -- a fact stand behind that place
@@ -36,7 +37,7 @@ pub record AreGroundedBelow (own : TableValue) (given : List Assertion) (n : Nod
   pub ids : List TermId
   pub whole : IsWhole (trees_in table) ids
   pub counted : numbers_of ids ≡ range_with_len 0 (length (trees_in table))
-  pub ground : IsGround (classes_by table ids (facts_without given n)) n.ground n.numbering
+  pub ground : IsFrom (classes_by table ids (facts_without given n)) n.base
 
 -- a node has these facts and the contrary of a goal
 pub record IsAtGoal (table : TableValue) (given : List Assertion) (contrary : Assertion) (n : Node)
@@ -64,3 +65,6 @@ pub record IsAtGoal (table : TableValue) (given : List Assertion) (contrary : As
   pub sorted : AreFormsSorted (sorts_in table) given
   pub contrary_sorted : IsFormSorted (sorts_in table) contrary
   pub grounded : AreGroundedBelow n.terms.own given n
+  pub shut :
+      let terms = with_formulas (room_for_goal given) [] in
+      IfSome n.shut (IsShut (sorts_in table) terms (given ++ Yes ∷ []))

@@ -1,11 +1,13 @@
 pub mod AllForms
 pub mod Answers
 pub mod AtGoal
+pub mod Bases
 pub mod Branches
 pub mod ByCases
 pub mod Certifying
 pub mod Closings
 pub mod Given
+pub mod GoalEnds
 pub mod Holding
 pub mod Keyed
 pub mod Leading
@@ -21,6 +23,7 @@ pub mod Renumber
 pub mod Renumbered
 pub mod Seeing
 pub mod Sharing
+pub mod Shut
 pub mod Splits
 pub mod Summing
 pub mod Torn

@@ -1,21 +1,22 @@
 -- Cited by public clauses: the facts of a node, whose terms and classes its goals share.
-use Rattle.std.specs.Prelude.{◌≡◌, ◌≤◌, List, [], ◌∷◌, ◌++◌, length, map}
+use Rattle.std.specs.Prelude.{◌≡◌, ◌≤◌, IfSome, List, [], ◌∷◌, ◌++◌, length, map}
 use Rattle.std.specs.List.{range_with_len}
 use Rattle.sm_term.specs.declared.term.TermId.{TermId}
 use Rattle.sm_term.specs.Assertions.{Assertion, Yes}
 use Rattle.sm_term.specs.Sorted.{AreFormsSorted}
 use Rattle.sm_term.specs.Terms.{Tree}
 use Rattle.sm_term.specs.Tables.{TableValue, trees_in, sorts_in, codes_in}
-use Rattle.sm_cc.specs.Ground.{IsGround}
 use Rattle.sm_solve.specs.declared.shared.SharedTerms.{SharedTerms}
 use Rattle.sm_solve.specs.declared.node.Node.{Node}
 use Rattle.sm_solve.specs.AllForms.{AreAllForms}
+use Rattle.sm_solve.specs.Bases.{IsFrom}
 use Rattle.sm_solve.specs.Branches.{with_parts, with_formulas, with_all_reads, writes_on}
 use Rattle.sm_solve.specs.Branches.{greatest_of, terms_of}
 use Rattle.sm_solve.specs.Given.{IsWhole, classes_by}
 use Rattle.sm_solve.specs.Listing.{trees_at, numbers_of, AreBelow, IsClosed}
 use Rattle.sm_solve.specs.Own.{AreBuilt, ArePlaced}
 use Rattle.sm_solve.specs.Parts.{all_numbered, assertions_in, AreFormulasWithin}
+use Rattle.sm_solve.specs.Shut.{IsShut}
 
 -- terms of a table stand in a table of their own, where the number of each is its place in the list
 pub record AreShared (table : TableValue) (terms : List Tree) (s : SharedTerms) : Type 0 where
@@ -46,7 +47,7 @@ pub record AreGrounded (own : TableValue) (n : Node) : Type 0 where
   pub ids : List TermId
   pub whole : IsWhole (trees_in table) ids
   pub counted : numbers_of ids ≡ range_with_len 0 (length (trees_in table))
-  pub ground : IsGround (classes_by table ids n.facts.items) n.ground n.numbering
+  pub ground : IsFrom (classes_by table ids n.facts.items) n.base
 
 -- a node has these facts; no element that they read was written before
 pub record IsNode (table : TableValue) (given : List Assertion) (n : Node) : Type 0 where
@@ -60,3 +61,6 @@ pub record IsNode (table : TableValue) (given : List Assertion) (n : Node) : Typ
   pub place : n.place ≡ length given
   pub sorted : AreFormsSorted (sorts_in table) given
   pub grounded : AreGrounded n.terms.own n
+  pub shut :
+      let terms = with_formulas (room_for_goal given) [] in
+      IfSome n.shut (IsShut (sorts_in table) terms (given ++ Yes ∷ []))

@@ -4,8 +4,9 @@ ghost use Rattle.std.specs.List.{range_with_len};
 ghost use Rattle.sm_term.specs.Sorted.{AreFormsSorted};
 ghost use Rattle.sm_term.specs.Tables.{trees_in, sorts_in};
 ghost use Rattle.sm_cc.specs.Classes.{are_apart};
+ghost use Rattle.sm_cc.specs.Ground.{IsGround, IsLedBy};
 ghost use Rattle.sm_cc.specs.Rounds.{are_equal};
-ghost use Rattle.sm_cc.specs.Views.{setting_of};
+ghost use Rattle.sm_cc.specs.Views.{ClassesValue, setting_of};
 ghost use Rattle.sm_solve.specs.AllForms.{AreAllForms};
 ghost use Rattle.sm_solve.specs.Given.{IsWhole, given_from, classes_by, branch_of};
 ghost use Rattle.sm_solve.specs.Listing.{numbers_of};
@@ -13,7 +14,7 @@ ghost use Rattle.sm_solve.specs.Parts.{all_numbered, assertions_in, AreFormulasW
 ghost use Rattle.sm_solve.specs.Seeing.{seen_in};
 
 use crate::seeing::Sees;
-use sm_cc::{Classes, GivenFact};
+use sm_cc::{Classes, GivenFact, Ground, Numbering};
 use sm_num::LinForm;
 use sm_term::{Formula, TermId, TermTable, Terms};
 use std::alloc::{AllocError, Global};
@@ -76,6 +77,36 @@ pub fn classes_of<'a>(
 {
     let given = given_facts(alloc, facts)?;
     let classes = Classes::of(alloc, table, forms, terms, given)?;
+    Ok(classes)
+}
+
+/// The same classes, which begin with those of others.
+pub(crate) fn classes_over<'a>(
+    alloc: Global,
+    ground: &Ground,
+    numbering: &mut Numbering,
+    table: &'a TermTable,
+    forms: &[LinForm],
+    terms: &'a Terms,
+    facts: &[Formula],
+) -> Result<Classes<'a>, AllocError>
+    requires forms { AreAllForms (trees_in table.now) forms.now }
+    requires whole { IsWhole (trees_in table.now) terms.now.list.items }
+    requires within { AreFormulasWithin (length (trees_in table.now)) (all_numbered facts.now) }
+    requires sorted { AreFormsSorted (sorts_in table.now)
+        (assertions_in (sorts_in table.now) (trees_in table.now) (all_numbered facts.now)) }
+    requires led { (v : ClassesValue) × IsGround v ground.now numbering.old
+        × IsLedBy v (classes_by table.now terms.now.list.items facts.now) }
+    ensures value { IfOk result (λ c. c ≡ classes_by table.now terms.now.list.items facts.now) }
+    ensures seen { IfOk result (λ c.
+        seen_in (sorts_in table.now) (trees_in table.now) (trees_in table.now) facts.now
+        (are_equal (setting_of c)) (are_apart (setting_of c) (are_equal (setting_of c)))
+        ≡ branch_of table.now facts.now) }
+    ensures stays { (v : ClassesValue) → IsGround v ground.now numbering.old →
+        IsGround v ground.now numbering.new }
+{
+    let given = given_facts(alloc, facts)?;
+    let classes = Classes::over(alloc, ground, numbering, table, forms, terms, given)?;
     Ok(classes)
 }
 

@@ -5,6 +5,7 @@ ghost use Rattle.sm_term.specs.Tables.{trees_in, sorts_in};
 ghost use Rattle.sm_solve.specs.AllForms.{AreAllForms};
 ghost use Rattle.sm_solve.specs.Closings.{IfClosing};
 ghost use Rattle.sm_solve.specs.Holding.{is_refuted, is_closed, split_of};
+ghost use Rattle.sm_solve.specs.Labelled.{AreLabels};
 ghost use Rattle.sm_solve.specs.Parts.{all_numbered, assertions_in, AreFormulasWithin};
 ghost use Rattle.sm_solve.specs.Seeing.{seen_in};
 ghost use Rattle.sm_solve.specs.Splits.{split_told, IsToldWithin, SplitsBranch};
@@ -29,29 +30,32 @@ pub enum Closing {
 }
 
 /// Why the branch of these facts is closed at once, where it is; its terms are those of the table,
-/// and the forms those of the terms.
+/// the forms those of the terms, and labels tell their classes.
 pub fn closed_by<S: Sees>(
+    alloc: Global,
     sees: &S,
+    labels: &[u64],
     table: &TermTable,
     forms: &[LinForm],
     facts: &[Formula],
-) -> Option<Closing>
+) -> Result<Option<Closing>, AllocError>
     requires table { S.trees sees.now ≡ trees_in table.now }
+    requires labels { AreLabels (trees_in table.now) (S.equal sees.now) labels.now }
     requires forms { AreAllForms (trees_in table.now) forms.now }
     requires facts { AreFormulasWithin (length (trees_in table.now)) (all_numbered facts.now) }
     ensures closed { let trees = trees_in table.now in let sorts = sorts_in table.now in
         let b = seen_in sorts trees trees facts.now (S.equal sees.now) (S.apart sees.now) in
-        is_some result ≡ is_closed b }
+        IfOk result (λ o. is_some o ≡ is_closed b) }
     ensures why { let trees = trees_in table.now in let sorts = sorts_in table.now in
         let b = seen_in sorts trees trees facts.now (S.equal sees.now) (S.apart sees.now) in
-        IfClosing b result }
+        IfOk result (λ o. IfClosing b o) }
 {
     if let Some(why) = refuted(sees, table, facts) {
-        return Some(why);
+        return Ok(Some(why));
     }
-    match torn_terms(sees, table, forms) {
-        Some((t, u)) => Some(Closing::Torn(t, u)),
-        None => None,
+    match torn_terms(alloc, labels, table, forms)? {
+        Some((t, u)) => Ok(Some(Closing::Torn(t, u))),
+        None => Ok(None),
     }
 }
 

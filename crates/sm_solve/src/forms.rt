@@ -2,6 +2,7 @@
 ghost use Rattle.std.specs.Prelude.{◌≡◌, List, length};
 ghost use Rattle.sm_term.specs.Terms.{Tree};
 ghost use Rattle.sm_term.specs.Tables.{trees_in, sorts_in};
+ghost use Rattle.sm_cc.specs.Classes.{Pairs};
 ghost use Rattle.sm_solve.specs.AllForms.{AreAllForms};
 ghost use Rattle.sm_solve.specs.Labelled.{AreLabels};
 ghost use Rattle.sm_solve.specs.Parts.{all_numbered, AreFormulasWithin};
@@ -53,6 +54,25 @@ pub fn forms_of<S: Sees>(
     ensures { let trees = trees_in table.now in
         let b = seen_in (sorts_in table.now) trees trees facts.now
         (S.equal sees.now) (S.apart sees.now) in
+        GivesForms b (forms_of b) result }
+{
+    forms_by_labels(alloc, labels, table, forms, facts)
+}
+
+/// The same by labels that tell the classes.
+pub(crate) fn forms_by_labels(
+    alloc: Global,
+    labels: &[u64],
+    table: &TermTable,
+    forms: &[LinForm],
+    facts: &[Formula],
+) -> Result<SourcedForms, NumError>
+    requires counted { length labels.now ≡ length (trees_in table.now) }
+    requires forms { AreAllForms (trees_in table.now) forms.now }
+    requires facts { AreFormulasWithin (length (trees_in table.now)) (all_numbered facts.now) }
+    ensures { let trees = trees_in table.now in
+        (equal apart : Pairs) → AreLabels trees equal labels.now →
+        let b = seen_in (sorts_in table.now) trees trees facts.now equal apart in
         GivesForms b (forms_of b) result }
 {
     // No term is there twice.

@@ -18,16 +18,18 @@
 //!   the end (`renumbered`, `renumbered_tree`).
 //! - `Node` is made of the facts of several obligations, once: the table of their terms, and their
 //!   classes. `solve_at` answers an obligation of these facts as `solve` does, and makes anew only
-//!   what its goal adds.
+//!   what its goal adds. All branches of such a walk begin with these classes (`Base`).
 //!
 //! Read `specs/Walk.antt` first, then `specs/Branches.antt`, `specs/Holding.antt` and
 //! `specs/Answers.antt`. `proofs/WalkExamples.antt` has walks worked by hand.
 #![tactic(auto)]
 
+mod base;
 mod branching;
 mod certify;
 mod classes;
 mod closing;
+mod contraries;
 mod draft;
 mod eliminating;
 mod ending;
@@ -36,6 +38,7 @@ mod forms;
 mod grounding;
 mod holding;
 mod keyed;
+mod labelled;
 mod linears;
 mod listing;
 mod marks;
@@ -50,6 +53,7 @@ mod renumber_lines;
 mod seeing;
 mod shared;
 mod sharing;
+mod shut;
 mod solving;
 mod splits;
 mod summing;

@@ -1,5 +1,5 @@
 // The goals of a node, which share the terms and the classes of its facts.
-ghost use Rattle.std.specs.Prelude.{◌≡◌, true, false, List, [], ◌∷◌, ◌++◌, length};
+ghost use Rattle.std.specs.Prelude.{◌≡◌, ℕ, true, false, List, [], ◌∷◌, ◌++◌, length};
 ghost use Rattle.std.specs.Prelude.{IfOk, OnOk, IfSome};
 ghost use Rattle.sm_syntax.specs.text.Sorts.{Sorts};
 ghost use Rattle.sm_term.specs.Assertions.{Assertion};
@@ -13,18 +13,21 @@ ghost use Rattle.sm_solve.specs.AtGoal.{IsAtGoal, HasRoom};
 ghost use Rattle.sm_solve.specs.Branches.{depth_of, with_parts, with_formulas, terms_of};
 ghost use Rattle.sm_solve.specs.Parts.{all_numbered, assertions_in, AreFormulasWithin};
 ghost use Rattle.sm_solve.specs.Sharing.{IsNode, room_for_goal};
-ghost use Rattle.sm_solve.specs.Walk.{walk, walk_from};
-ghost use Rattle.sm_solve.specs.Walking.{TellsEnd, ShowsEnd};
+ghost use Rattle.sm_solve.specs.GoalEnds.{TellsGoal, ShowsGoal};
+ghost use Rattle.sm_solve.specs.Walk.{Closes, walk, walk_from};
+ghost use Rattle.sm_solve.specs.Walking.{ClosesIn, TellsEnd, ShowsEnd};
 
+use crate::base::Base;
 use crate::ending::WalkEnd;
 use crate::first::walk_over;
 use crate::grounding::{count_named, ground_of, with_room};
 use crate::linears::{add_linear_forms, linear_forms};
 use crate::parts::add_parts;
 use crate::shared::{SharedTerms, shared_facts};
-use crate::solving::{Answer, renumbered_end};
+use crate::shut::{GoalEnd, Shut, renumbered_goal_end, shut_of, shut_tree};
+use crate::solving::Answer;
 use crate::terms::numbered_terms;
-use sm_cc::{Ground, Numbering};
+use sm_cert::CertTree;
 use sm_num::LinForm;
 use sm_term::{Formula, TermTable, negate};
 use std::alloc::{AllocError, Global};
@@ -39,14 +42,41 @@ pub struct Node {
     // always holds
     pub(crate) facts: Vec<Formula>,
     pub(crate) place: usize,
-    pub(crate) ground: Ground,
-    pub(crate) numbering: Numbering,
+    // the classes of the facts
+    pub(crate) base: Base,
+    // where the facts can't hold together
+    pub(crate) shut: Option<Shut>,
 }
 
 impl Node {
     /// The facts of a node; none where an element that they read was written before, and what it
-    /// was then isn't among their terms.
+    /// was then isn't among their terms. Whether they can't hold together is looked for within so
+    /// many steps.
     pub fn of(
+        alloc: Global,
+        table: &mut TermTable,
+        facts: &[Formula],
+        steps: u64,
+    ) -> Result<Option<Node>, AllocError>
+        requires within { AreFormulasWithin (length (trees_in table.old)) (all_numbered facts.now) }
+        requires sorted { AreFormsSorted (sorts_in table.old)
+            (assertions_in (sorts_in table.old) (trees_in table.old) (all_numbered facts.now)) }
+        ensures node { let given = assertions_in (sorts_in table.old) (trees_in table.old)
+            (all_numbered facts.now) in
+            IfOk result (λ o. IfSome o (IsNode table.new given)) }
+        ensures grows { Grows table.old table.new }
+    {
+        match Node::grounded(alloc, table, facts)? {
+            Some(node) => {
+                let whole = with_shut(alloc, node, steps)?;
+                Ok(Some(whole))
+            }
+            None => Ok(None),
+        }
+    }
+
+    // The same, but whether the facts can't hold together isn't looked for.
+    fn grounded(
         alloc: Global,
         table: &mut TermTable,
         facts: &[Formula],
@@ -72,8 +102,8 @@ impl Node {
                 forms,
                 facts: shared.facts,
                 place: facts.len(),
-                ground: found.ground,
-                numbering: found.numbering,
+                base: Base::Over(found),
+                shut: None,
             })),
             None => Ok(None),
         }
@@ -119,9 +149,9 @@ impl Node {
         let count = self.facts.len();
         let len = self.terms.own.len();
         self.open_goal(alloc, table, &contrary)?;
-        let end = self.walk_goal(alloc, steps)?;
+        let end = self.end_of_goal(alloc, steps)?;
         let numbers = numbered_terms(alloc, self.terms.listed.as_slice())?;
-        let answer = renumbered_end(alloc, end, &numbers)?;
+        let answer = renumbered_goal_end(alloc, end, &numbers)?;
         self.close_goal(count, len);
         Ok(Some(answer))
     }
@@ -174,6 +204,65 @@ impl Node {
         Ok(())
     }
 
+    // How the walk of the facts and the contrary of a goal ends.
+    fn end_of_goal(&mut self, alloc: Global, steps: u64) -> Result<GoalEnd, AllocError>
+        requires { (table : TableValue) × (given : List Assertion) × (contrary : Assertion)
+            × IsAtGoal table given contrary self.old }
+        ensures tells { (table : TableValue) (given : List Assertion) (contrary : Assertion) →
+            IsAtGoal table given contrary self.old →
+            let all = with_parts (given ++ contrary ∷ []) in
+            IfOk result (λ e. TellsGoal (sorts_in table) (trees_in self.new.terms.own) e
+            (walk_from (sorts_in table) (terms_of all) steps 1001 0 all)) }
+        ensures shows { (table : TableValue) (given : List Assertion) (contrary : Assertion) →
+            IsAtGoal table given contrary self.old →
+            IfOk result (ShowsGoal (sorts_in table) (trees_in self.new.terms.own)
+            (given ++ contrary ∷ []) 1001) }
+        ensures stays { (table : TableValue) (given : List Assertion) (contrary : Assertion) →
+            IsAtGoal table given contrary self.old →
+            OnOk result (IsAtGoal table given contrary self.new) }
+    {
+        match self.shut_goal(alloc, steps)? {
+            Some(tree) => Ok(GoalEnd::Shut(tree)),
+            None => {
+                let end = self.walk_goal(alloc, steps)?;
+                Ok(GoalEnd::Walked(end))
+            }
+        }
+    }
+
+    // A certificate where the facts alone can't hold together, and that is told of them with the
+    // contrary, too: then the walk closes.
+    fn shut_goal(&mut self, alloc: Global, steps: u64) -> Result<Option<CertTree>, AllocError>
+        requires { (table : TableValue) × (given : List Assertion) × (contrary : Assertion)
+            × IsAtGoal table given contrary self.old }
+        ensures tells { (table : TableValue) (given : List Assertion) (contrary : Assertion) →
+            IsAtGoal table given contrary self.old →
+            let all = with_parts (given ++ contrary ∷ []) in
+            IfOk result (λ o. IfSome o (λ t. (n : ℕ)
+            × (walk_from (sorts_in table) (terms_of all) steps 1001 0 all ≡ Closes n))) }
+        ensures shows { (table : TableValue) (given : List Assertion) (contrary : Assertion) →
+            IsAtGoal table given contrary self.old →
+            IfOk result (λ o. IfSome o (ClosesIn (sorts_in table) (trees_in self.new.terms.own)
+            (given ++ contrary ∷ []) 1001)) }
+        ensures stays { (table : TableValue) (given : List Assertion) (contrary : Assertion) →
+            IsAtGoal table given contrary self.old →
+            OnOk result (IsAtGoal table given contrary self.new) }
+    {
+        match &self.shut {
+            Some(shut) => shut_tree(
+                alloc,
+                shut,
+                &mut self.base,
+                &self.terms.own,
+                &self.forms,
+                &self.facts,
+                self.place,
+                steps,
+            ),
+            None => Ok(None),
+        }
+    }
+
     // The walk of the facts and the contrary of a goal.
     fn walk_goal(&mut self, alloc: Global, steps: u64) -> Result<WalkEnd, AllocError>
         requires { (table : TableValue) × (given : List Assertion) × (contrary : Assertion)
@@ -189,15 +278,14 @@ impl Node {
             (given ++ contrary ∷ []) 1001) }
         ensures stays { (table : TableValue) (given : List Assertion) (contrary : Assertion) →
             IsAtGoal table given contrary self.old →
-            IsAtGoal table given contrary self.new }
+            OnOk result (IsAtGoal table given contrary self.new) }
     {
         walk_over(
             alloc,
-            &self.ground,
-            &mut self.numbering,
+            &mut self.base,
             &self.terms.own,
             &self.forms,
-            &self.facts,
+            &mut self.facts,
             steps,
         )
     }
@@ -217,6 +305,26 @@ impl Node {
         self.terms.cut(len);
         self.forms.truncate(len as usize);
     }
+}
+
+// The node with whether its facts can't hold together, as the visit of their branch finds within so
+// many steps.
+fn with_shut(alloc: Global, node: Node, steps: u64) -> Result<Node, AllocError>
+    requires { (table : TableValue) × (given : List Assertion) × IsNode table given node }
+    ensures { (table : TableValue) (given : List Assertion) → IsNode table given node →
+        IfOk result (IsNode table given) }
+{
+    let mut node = node;
+    let shut = shut_of(
+        alloc,
+        &mut node.base,
+        &node.terms.own,
+        &node.forms,
+        &node.facts,
+        steps,
+    )?;
+    node.shut = shut;
+    Ok(node)
 }
 
 // Whether a formula is a conjunction.

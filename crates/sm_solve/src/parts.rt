@@ -19,6 +19,7 @@ pub fn add_with_parts(alloc: Global, facts: &mut Vec<Formula>, f: Formula) -> Re
         let before = assertions_in sorts trees (all_numbered facts.old.items) in
         let added = with_parts (assertion_in sorts trees (numbered f) ∷ []) in
         OnOk result (assertions_in sorts trees (all_numbered facts.new.items) ≡ before ++ added) }
+    ensures longer { OnOk result (IsLonger facts.old.items facts.new.items) }
     ensures within { (count : ℕ) →
         AreFormulasWithin count (all_numbered facts.old.items) →
         IsFormulaWithin count (numbered f) →

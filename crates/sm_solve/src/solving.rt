@@ -14,15 +14,15 @@ ghost use Rattle.sm_solve.specs.Renumbered.{AreTermsOf};
 ghost use Rattle.sm_solve.specs.Walk.{Walked, walk, walk_from};
 ghost use Rattle.sm_solve.specs.Walking.{TellsEnd, ShowsEnd, Shows};
 
+use crate::base::Base;
 use crate::branching::copy_facts;
-use crate::classes::all_terms;
-use crate::ending::{WalkEnd, led_end};
+use crate::ending::WalkEnd;
+use crate::first::walk_over;
 use crate::linears::linear_forms;
 use crate::own::own_branch;
 use crate::parts::add_parts;
 use crate::renumber::renumbered;
 use crate::renumber_lines::renumbered_tree;
-use crate::walking::walk_from;
 use sm_cert::CertTree;
 use sm_num::Op;
 use sm_term::{Formula, TermId, TermTable, Terms, negate};
@@ -167,11 +167,9 @@ fn walk_all(
         assertions_in sorts trees (all_numbered facts.old.items) ≡ with_parts given →
         IfOk result (ShowsEnd sorts trees given 1001) }
 {
-    let terms = all_terms(alloc, table)?;
     let forms = linear_forms(alloc, table)?;
-    let end = walk_from(alloc, table, &forms, &terms, steps, 1001, 0, facts)?;
-    let led = led_end(alloc, facts.as_slice(), 0, end)?;
-    Ok(led)
+    let mut base = Base::Nothing;
+    walk_over(alloc, &mut base, table, &forms, facts, steps)
 }
 
 // The end of a walk as an answer, under the numbers that its terms have in another table.

@@ -4,20 +4,23 @@ ghost use Rattle.sm_term.specs.Assertions.{Assertion};
 ghost use Rattle.sm_term.specs.Sorted.{AreFormsSorted};
 ghost use Rattle.sm_term.specs.Tables.{trees_in, sorts_in};
 ghost use Rattle.sm_cc.specs.Classes.{are_apart};
+ghost use Rattle.sm_cc.specs.Ground.{IsLedBy};
 ghost use Rattle.sm_cc.specs.Rounds.{are_equal};
-ghost use Rattle.sm_cc.specs.Views.{setting_of};
+ghost use Rattle.sm_cc.specs.Views.{ClassesValue, setting_of};
 ghost use Rattle.sm_solve.specs.AllForms.{AreAllForms};
+ghost use Rattle.sm_solve.specs.Bases.{IsFrom};
 ghost use Rattle.sm_solve.specs.Closings.{IsClosing};
 ghost use Rattle.sm_solve.specs.Given.{IsWhole, classes_by, branch_of};
 ghost use Rattle.sm_solve.specs.Holding.{split_of};
+ghost use Rattle.sm_solve.specs.Labelled.{AreLabels};
 ghost use Rattle.sm_solve.specs.Parts.{all_numbered, assertions_in, AreFormulasWithin};
 ghost use Rattle.sm_solve.specs.Refutations.{IsRefutation};
 ghost use Rattle.sm_solve.specs.Seeing.{seen_in};
 ghost use Rattle.sm_solve.specs.Walk.{Walked, by_classes, by_forms, by_parts, forms_of};
 ghost use Rattle.sm_solve.specs.Walking.{TellsVisit, ShowsVisit, IsVisitCounted};
 
+use crate::base::Base;
 use crate::certify::closing_tree;
-use crate::classes::classes_of;
 use crate::closing::{BranchSplit, closed_by, split_of};
 use crate::eliminating::{ByForms, by_forms};
 use crate::refute::refutation_tree;
@@ -43,9 +46,10 @@ pub(crate) enum Visit {
 }
 
 // Visits the branch of these facts, after `count` steps of `steps` with that of the visit. Its
-// terms are those of the table, and the forms those of the terms.
+// terms are those of the table, and the forms those of the terms; its classes begin with the base.
 pub(crate) fn visit_branch(
     alloc: Global,
+    base: &mut Base,
     table: &TermTable,
     forms: &[LinForm],
     terms: &Terms,
@@ -59,6 +63,8 @@ pub(crate) fn visit_branch(
     requires sorted { AreFormsSorted (sorts_in table.now)
         (assertions_in (sorts_in table.now) (trees_in table.now) (all_numbered facts.now)) }
     requires counted { count ≤ steps }
+    requires led { (v : ClassesValue) × IsFrom v base.old
+        × IsLedBy v (classes_by table.now terms.now.list.items facts.now) }
     ensures tells { let sorts = sorts_in table.now in let trees = trees_in table.now in
         let all = assertions_in sorts trees (all_numbered facts.now) in
         (go : ℕ → List Assertion → Walked) → IfOk result (λ v. TellsVisit sorts trees all go v
@@ -67,8 +73,9 @@ pub(crate) fn visit_branch(
         let all = assertions_in sorts trees (all_numbered facts.now) in
         IfOk result (ShowsVisit sorts trees all) }
     ensures counted { IfOk result (IsVisitCounted steps) }
+    ensures stays { (v : ClassesValue) → IsFrom v base.old → IsFrom v base.new }
 {
-    let classes = classes_of(alloc, table, forms, terms, facts)?;
+    let classes = base.classes(alloc, table, forms, terms, facts)?;
     visit_classes(alloc, &classes, table, forms, terms, facts, steps, count)
 }
 
@@ -106,26 +113,30 @@ pub(crate) fn visit_classes<'a>(
     if !are_few(facts) {
         return Err(AllocError);
     }
-    match closed_by(classes, table, forms, facts) {
+    let labels = classes.labels(alloc)?;
+    match closed_by(alloc, classes, &labels, table, forms, facts)? {
         Some(why) => {
             let tree = closing_tree(alloc, classes, table, terms, facts, why)?;
             Ok(Visit::Closed { count, tree })
         }
-        None => visit_forms(alloc, classes, table, forms, terms, facts, steps, count),
+        None => visit_forms(
+            alloc, classes, &labels, table, forms, terms, facts, steps, count,
+        ),
     }
 }
 
 // Whether there are fewer facts than any memory holds.
-fn are_few(facts: &[Formula]) -> bool
+pub(crate) fn are_few(facts: &[Formula]) -> bool
     ensures { result ≡ true → length facts.now < 2 ^ 62 }
 {
     facts.len() < 4_611_686_018_427_387_904
 }
 
-// Visits the forms of a branch that isn't closed at once.
+// Visits the forms of a branch that isn't closed at once; labels tell the classes of its terms.
 fn visit_forms<'a>(
     alloc: Global,
     classes: &Classes<'a>,
+    labels: &[u64],
     table: &TermTable,
     forms: &[LinForm],
     terms: &Terms,
@@ -140,6 +151,8 @@ fn visit_forms<'a>(
         (are_equal (setting_of classes.now))
         (are_apart (setting_of classes.now) (are_equal (setting_of classes.now)))
         ≡ branch_of table.now facts.now }
+    requires labels { let equal = are_equal (setting_of classes.now) in
+        AreLabels (trees_in table.now) equal labels.now }
     requires within { AreFormulasWithin (length (trees_in table.now)) (all_numbered facts.now) }
     requires sorted { AreFormsSorted (sorts_in table.now)
         (assertions_in (sorts_in table.now) (trees_in table.now) (all_numbered facts.now)) }
@@ -155,8 +168,7 @@ fn visit_forms<'a>(
         IfOk result (ShowsVisit sorts trees all) }
     ensures counted { IfOk result (IsVisitCounted steps) }
 {
-    let labels = classes.labels(alloc)?;
-    match by_forms(alloc, classes, &labels, table, forms, facts, steps, count)? {
+    match by_forms(alloc, classes, labels, table, forms, facts, steps, count)? {
         ByForms::Contradiction {
             count: at,
             refutation,

@@ -3,14 +3,19 @@ ghost use Rattle.std.specs.Prelude.{◌≡◌, ◌≤◌, ◌+◌, Some, List, [
 ghost use Rattle.sm_term.specs.Formulas.{numbered, assertion_in, IsFormulaWithin};
 ghost use Rattle.sm_term.specs.Sorted.{IsFormSorted, AreFormsSorted};
 ghost use Rattle.sm_term.specs.Tables.{trees_in, sorts_in};
+ghost use Rattle.sm_cc.specs.Ground.{IsLedBy};
+ghost use Rattle.sm_cc.specs.Views.{ClassesValue};
 ghost use Rattle.sm_solve.specs.AllForms.{AreAllForms};
+ghost use Rattle.sm_solve.specs.Bases.{IsFrom};
 ghost use Rattle.sm_solve.specs.Branches.{with_parts};
-ghost use Rattle.sm_solve.specs.Given.{IsWhole};
+ghost use Rattle.sm_solve.specs.Given.{IsWhole, classes_by};
 ghost use Rattle.sm_solve.specs.Parts.{all_numbered, assertions_in, AreFormulasWithin};
 ghost use Rattle.sm_solve.specs.Splits.{split_told, IsToldWithin, SplitsBranch};
-ghost use Rattle.sm_solve.specs.Walk.{walk_from, by_parts};
+ghost use Rattle.sm_solve.specs.Walk.{Walked, walk_from, by_parts};
+ghost use Rattle.sm_solve.specs.Walking.{TellsVisit, ShowsVisit, IsVisitCounted};
 ghost use Rattle.sm_solve.specs.Walking.{TellsEnd, ShowsEnd, IsEndCounted};
 
+use crate::base::Base;
 use crate::branching::copy_facts;
 use crate::closing::BranchSplit;
 use crate::ending::{WalkEnd, led_end, split_end};
@@ -22,10 +27,12 @@ use sm_term::{Formula, TermTable, Terms};
 use std::alloc::{AllocError, Global};
 
 // Walks from the branch of these facts, after `count` steps of `steps`. So many more splits may
-// stand above a branch as there is room for. The forms are those of all terms of the table.
+// stand above a branch as there is room for. The forms are those of all terms of the table, and the
+// classes of each branch begin with the base.
 #[cycle(walk)]
 pub(crate) fn walk_from(
     alloc: Global,
+    base: &mut Base,
     table: &TermTable,
     forms: &[LinForm],
     terms: &Terms,
@@ -41,6 +48,8 @@ pub(crate) fn walk_from(
     requires sorted { AreFormsSorted (sorts_in table.now)
         (assertions_in (sorts_in table.now) (trees_in table.now) (all_numbered facts.old.items)) }
     requires counted { count ≤ steps }
+    requires led { (v : ClassesValue) × IsFrom v base.old
+        × IsLedBy v (classes_by table.now terms.now.list.items facts.old.items) }
     ensures tells { let sorts = sorts_in table.now in let trees = trees_in table.now in
         let all = assertions_in sorts trees (all_numbered facts.old.items) in
         IfOk result (λ e. TellsEnd sorts trees e (walk_from sorts trees steps room count all)) }
@@ -48,24 +57,71 @@ pub(crate) fn walk_from(
         let all = assertions_in sorts trees (all_numbered facts.old.items) in
         IfOk result (ShowsEnd sorts trees all room) }
     ensures counted { IfOk result (IsEndCounted steps) }
-    ensures kept { let sorts = sorts_in table.now in let trees = trees_in table.now in
-        OnOk result (assertions_in sorts trees (all_numbered facts.new.items)
-        ≡ assertions_in sorts trees (all_numbered facts.old.items)) }
-    ensures within { OnOk result
-        (AreFormulasWithin (length (trees_in table.now)) (all_numbered facts.new.items)) }
+    ensures kept { OnOk result (facts.new.items ≡ facts.old.items) }
+    ensures stays { (v : ClassesValue) → IsFrom v base.old → IsFrom v base.new }
 {
     if room == 0 || count == steps {
         return Ok(WalkEnd::Steps);
     }
-    match visit_branch(
+    let visit = visit_branch(
         alloc,
+        base,
         table,
         forms,
         terms,
         facts.as_slice(),
         steps,
         count + 1,
-    )? {
+    )?;
+    walk_on(
+        alloc,
+        base,
+        table,
+        forms,
+        terms,
+        steps,
+        room - 1,
+        facts,
+        visit,
+    )
+}
+
+// Walks on from the branch of these facts after its visit.
+#[cycle(walk)]
+pub(crate) fn walk_on(
+    alloc: Global,
+    base: &mut Base,
+    table: &TermTable,
+    forms: &[LinForm],
+    terms: &Terms,
+    steps: u64,
+    room: u64,
+    facts: &mut Vec<Formula>,
+    visit: Visit,
+) -> Result<WalkEnd, AllocError>
+    requires forms { AreAllForms (trees_in table.now) forms.now }
+    requires whole { IsWhole (trees_in table.now) terms.now.list.items }
+    requires within { let count = length (trees_in table.now) in
+        AreFormulasWithin count (all_numbered facts.old.items) }
+    requires sorted { AreFormsSorted (sorts_in table.now)
+        (assertions_in (sorts_in table.now) (trees_in table.now) (all_numbered facts.old.items)) }
+    requires shows { let sorts = sorts_in table.now in let trees = trees_in table.now in
+        ShowsVisit sorts trees (assertions_in sorts trees (all_numbered facts.old.items)) visit }
+    requires counted { IsVisitCounted steps visit }
+    requires led { (v : ClassesValue) × IsFrom v base.old
+        × IsLedBy v (classes_by table.now terms.now.list.items facts.old.items) }
+    ensures tells { let sorts = sorts_in table.now in let trees = trees_in table.now in
+        let all = assertions_in sorts trees (all_numbered facts.old.items) in
+        (w : Walked) → TellsVisit sorts trees all (walk_from sorts trees steps room) visit w →
+        IfOk result (λ e. TellsEnd sorts trees e w) }
+    ensures shows { let sorts = sorts_in table.now in let trees = trees_in table.now in
+        let all = assertions_in sorts trees (all_numbered facts.old.items) in
+        IfOk result (ShowsEnd sorts trees all (room + 1)) }
+    ensures counted { IfOk result (IsEndCounted steps) }
+    ensures kept { OnOk result (facts.new.items ≡ facts.old.items) }
+    ensures stays { (v : ClassesValue) → IsFrom v base.old → IsFrom v base.new }
+{
+    match visit {
         Visit::Closed { count: at, tree } => Ok(WalkEnd::Closed { count: at, tree }),
         Visit::Open => {
             let list = copy_facts(alloc, facts.as_slice())?;
@@ -75,15 +131,7 @@ pub(crate) fn walk_from(
         }
         Visit::Split { count: at, split } => {
             walk_parts(
-                alloc,
-                table,
-                forms,
-                terms,
-                steps,
-                room - 1,
-                at,
-                facts,
-                split,
+                alloc, base, table, forms, terms, steps, room, at, facts, split,
             )
         }
         Visit::Steps => Ok(WalkEnd::Steps),
@@ -93,8 +141,9 @@ pub(crate) fn walk_from(
 
 // Walks from both parts of a branch, the first first.
 #[cycle(walk)]
-pub(crate) fn walk_parts(
+fn walk_parts(
     alloc: Global,
+    base: &mut Base,
     table: &TermTable,
     forms: &[LinForm],
     terms: &Terms,
@@ -111,6 +160,8 @@ pub(crate) fn walk_parts(
     requires sorted { AreFormsSorted (sorts_in table.now)
         (assertions_in (sorts_in table.now) (trees_in table.now) (all_numbered facts.old.items)) }
     requires counted { count ≤ steps }
+    requires led { (v : ClassesValue) × IsFrom v base.old
+        × IsLedBy v (classes_by table.now terms.now.list.items facts.old.items) }
     requires split { IsToldWithin (length (trees_in table.now)) (Some split) }
     requires line { let sorts = sorts_in table.now in let trees = trees_in table.now in
         SplitsBranch sorts trees (assertions_in sorts trees (all_numbered facts.old.items))
@@ -124,16 +175,14 @@ pub(crate) fn walk_parts(
         let all = assertions_in sorts trees (all_numbered facts.old.items) in
         IfOk result (ShowsEnd sorts trees all (room + 1)) }
     ensures counted { IfOk result (IsEndCounted steps) }
-    ensures kept { let sorts = sorts_in table.now in let trees = trees_in table.now in
-        OnOk result (assertions_in sorts trees (all_numbered facts.new.items)
-        ≡ assertions_in sorts trees (all_numbered facts.old.items)) }
-    ensures within { OnOk result
-        (AreFormulasWithin (length (trees_in table.now)) (all_numbered facts.new.items)) }
+    ensures kept { OnOk result (facts.new.items ≡ facts.old.items) }
+    ensures stays { (v : ClassesValue) → IsFrom v base.old → IsFrom v base.new }
 {
     // The terms of a table are sorted, as its length ensures.
     table.len();
     match walk_part(
         alloc,
+        base,
         table,
         forms,
         terms,
@@ -146,6 +195,7 @@ pub(crate) fn walk_parts(
         WalkEnd::Closed { count: at, tree } => {
             let end = walk_part(
                 alloc,
+                base,
                 table,
                 forms,
                 terms,
@@ -168,6 +218,7 @@ pub(crate) fn walk_parts(
 #[cycle(walk)]
 fn walk_part(
     alloc: Global,
+    base: &mut Base,
     table: &TermTable,
     forms: &[LinForm],
     terms: &Terms,
@@ -184,6 +235,8 @@ fn walk_part(
     requires sorted { AreFormsSorted (sorts_in table.now)
         (assertions_in (sorts_in table.now) (trees_in table.now) (all_numbered facts.old.items)) }
     requires counted { count ≤ steps }
+    requires led { (v : ClassesValue) × IsFrom v base.old
+        × IsLedBy v (classes_by table.now terms.now.list.items facts.old.items) }
     requires formula { IsFormulaWithin (length (trees_in table.now)) (numbered f) }
     requires formula_sorted { IsFormSorted (sorts_in table.now)
         (assertion_in (sorts_in table.now) (trees_in table.now) (numbered f)) }
@@ -197,15 +250,12 @@ fn walk_part(
         let last = assertion_in sorts trees (numbered f) in
         IfOk result (ShowsEnd sorts trees (all ++ last ∷ []) room) }
     ensures counted { IfOk result (IsEndCounted steps) }
-    ensures kept { let sorts = sorts_in table.now in let trees = trees_in table.now in
-        OnOk result (assertions_in sorts trees (all_numbered facts.new.items)
-        ≡ assertions_in sorts trees (all_numbered facts.old.items)) }
-    ensures within { OnOk result
-        (AreFormulasWithin (length (trees_in table.now)) (all_numbered facts.new.items)) }
+    ensures kept { OnOk result (facts.new.items ≡ facts.old.items) }
+    ensures stays { (v : ClassesValue) → IsFrom v base.old → IsFrom v base.new }
 {
     let from = facts.len();
     add_with_parts(alloc, facts, f)?;
-    let end = walk_from(alloc, table, forms, terms, steps, room, count, facts)?;
+    let end = walk_from(alloc, base, table, forms, terms, steps, room, count, facts)?;
     let led = led_end(alloc, facts.as_slice(), from, end)?;
     facts.truncate(from);
     Ok(led)

@@ -1,5 +1,5 @@
--- The marks after the dues so far.
-use Rattle.std.proofs.Common.{◌≡◌, take}
+-- The marks after the dues from a place on.
+use Rattle.std.proofs.Common.{◌≡◌, ◌≤◌, length, drop}
 use Rattle.sm_term.specs.Tables.{trees_in, sorts_in}
 use Rattle.sm_term.specs.TableLaws.{Widens}
 use Rattle.sm_expand.specs.Views.{dues_in}
@@ -9,10 +9,14 @@ use Rattle.sm_houdini.specs.Marks.{all_marked, rows}
 use Rattle.sm_houdini.specs.Rounds.{holds_at}
 use Rattle.sm_houdini.proofs.rounds.marks_after.Given as goal
 
-abbrev pub invariant-loop-due : goal.invariant-loop-due
-invariant-loop-due g l = record {
+abbrev pub invariant-loop-left : goal.invariant-loop-left
+invariant-loop-left g l = record {
   marks : rows l.marks.sites.items
       ≡ all_marked (holds_at (closing (sorts_in l.initial.table) l.steps) (owner_in l.owners)
-      (take l.due-index (dues_in (sorts_in l.initial.table) (trees_in l.initial.table) l.dues))) 0 (choice_in l.choice);
+      (drop l.left (dues_in (sorts_in l.initial.table) (trees_in l.initial.table) l.dues))) 0 (choice_in l.choice);
+  fits : l.left ≤ length l.dues;
   widens : Widens l.initial.table l.table;
 }
+
+abbrev pub decreases-loop-left : goal.decreases-loop-left
+decreases-loop-left g l = l.left

@@ -1,8 +1,10 @@
 -- The formula stands behind the others, and its parts behind it.
 use Rattle.std.proofs.Common.{◌≡◌, ◌++◌, ◌∷◌, [], ℕ, List, OnOk, length, sym, ap, subst, ◌∙◌, arith}
 use Rattle.std.proofs.lemmas.List.{length-map, map-append}
+use Rattle.std.proofs.lemmas.Result.{on_ok_weaker}
 use Rattle.sm_term.specs.Assertions.{Assertion}
 use Rattle.sm_term.specs.Formulas.{numbered, assertion_in}
+use Rattle.sm_cc.proofs.NumberedLemmas.{longer_twice}
 use Rattle.sm_solve.specs.Branches.{with_parts}
 use Rattle.sm_solve.specs.Parts.{all_numbered, assertions_in, AreFormulasWithin}
 use Rattle.sm_solve.proofs.PartsLemmas.{queue_from, queue_last, within-append}
@@ -32,3 +34,9 @@ returns-clause-within c = λ count all one.
     ap all_numbered c.in_ok-push.ensures.items ∙ map-append numbered c.args.facts.now.items (c.args.f ∷ []) in
     c.add_parts.ensures.within count
     (subst (AreFormulasWithin count) (sym items) (within-append count old (numbered c.args.f ∷ []) all (one, tt)))
+
+pub returns-clause-longer : goal.returns-clause-longer
+returns-clause-longer c =
+    on_ok_weaker c.add_parts.result
+    (longer_twice c.args.facts.now.items c.push.new.self.items c.add_parts.new.facts.items (c.args.f ∷ [], c.in_ok-push.ensures.items))
+    c.add_parts.ensures.longer

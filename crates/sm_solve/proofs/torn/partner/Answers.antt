@@ -1,28 +1,24 @@
--- The first partner.
-use Rattle.std.proofs.Common.{◌≡◌, ◌<◌, ◌∙◌, ℕ, pos, false, length, sym, below_more, arith}
-use Rattle.sm_term.specs.Terms.{Lit}
-use Rattle.sm_term.specs.Tables.{trees_in, sorts_in, tree_at}
-use Rattle.sm_solve.specs.Torn.{torn_by}
-use Rattle.sm_solve.proofs.TornLemmas.{none_passes}
+-- Back along the chain.
+use Rattle.std.proofs.Common.{◌≡◌, ◌<◌, ◌∙◌, ℕ, Option, None, IfSome, List, length, get_or, sym, subst, arith}
+use Rattle.sm_term.specs.Tables.{trees_in, sorts_in}
+use Rattle.sm_solve.specs.Torn.{AreLinked}
+use Rattle.sm_solve.proofs.TornLemmas.{IsSearched, below_later, searched_next}
 use Rattle.sm_solve.proofs.torn.partner.Goals as goal
 
-pub returns-then-is_partner : goal.returns-then-is_partner
-returns-then-is_partner g c =
-    let inside : c.loop-n.n < length (trees_in c.args.table.now) = omega (arith, c.loop-n-test.true, c.len-n-end.ensures.len) in
-    (inside, sym c.is_partner.ensures ∙ c.if-is_partner.true)
-
-pub loop-n-preserved : goal.loop-n-preserved
-loop-n-preserved g c =
+pub loop-next-preserved : goal.loop-next-preserved
+loop-next-preserved c =
     let sorts = sorts_in c.args.table.now in
     let trees = trees_in c.args.table.now in
-    let t = tree_at trees c.args.t.0 in
-    below_more (λ (m : ℕ). torn_by sorts (g.S.Sees.equal c.args.sees.now) t (tree_at trees m) ≡ false) c.loop-n.n
-    c.loop-n.invariant (sym c.is_partner.ensures ∙ c.if-is_partner.false)
-
-pub returns : goal.returns
-returns g c =
-    let sorts = sorts_in c.args.table.now in
-    let trees = trees_in c.args.table.now in
-    let t = tree_at trees c.args.t.0 in
-    none_passes (torn_by sorts (g.S.Sees.equal c.args.sees.now) t) (Lit (pos 0)) trees
-    (λ (m : ℕ) (h : m < length trees). c.loop-n.invariant m (omega (arith, h, c.len-n-end.ensures.len, c.loop-n-test.false)))
+    let before = c.args.before.now in
+    let n = c.args.t.0 in
+    let m = c.in-Some.m in
+    let next : Option ℕ = get_or before m None in
+    let earlier : m < n = subst (λ (place : Option ℕ). IfSome place (λ (k : ℕ). k < n)) c.in-Some.is c.loop-next.invariant.below in
+    let inside : m < length before = omega (arith, earlier, c.requires.count, c.requires.within) in
+    record {
+      below = below_later m n next earlier (c.requires.back m inside);
+      searched = λ (labels : List ℕ) (count : length labels ≡ length before) (linked : AreLinked labels before).
+          searched_next sorts trees labels n m next
+          (subst (IsSearched sorts trees labels n) c.in-Some.is (c.loop-next.invariant.searched labels count linked))
+          (sym c.is_partner.ensures ∙ c.if-is_partner.false) (linked m (omega (arith, inside, count)));
+    }

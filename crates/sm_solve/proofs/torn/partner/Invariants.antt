@@ -1,10 +1,19 @@
--- The number is torn from no term before.
-use Rattle.std.proofs.Common.{◌≡◌, ℕ, ◌<◌, false}
-use Rattle.sm_term.specs.Tables.{trees_in, sorts_in, tree_at}
-use Rattle.sm_solve.specs.Torn.{torn_by}
+-- The places behind the next one are searched.
+use Rattle.std.proofs.Common.{◌≡◌, ℕ, ◌<◌, IfSome, List, length}
+use Rattle.sm_term.specs.Tables.{trees_in, sorts_in}
+use Rattle.sm_solve.specs.Torn.{behind, AreLinked}
+use Rattle.sm_solve.proofs.TornLemmas.{IsSearched}
 use Rattle.sm_solve.proofs.torn.partner.Given as goal
 
-abbrev pub invariant-loop-n : goal.invariant-loop-n
-invariant-loop-n g l =
+abbrev pub invariant-loop-next : goal.invariant-loop-next
+invariant-loop-next l =
     let trees = trees_in l.table in
-    (m : ℕ) → m < l.n → torn_by (sorts_in l.table) (g.S.Sees.equal l.sees) (tree_at trees l.t.0) (tree_at trees m) ≡ false
+    record {
+      below : IfSome l.next (λ (m : ℕ). m < l.t.0);
+      searched :
+          (labels : List ℕ) → length labels ≡ length l.before → AreLinked labels l.before →
+          IsSearched (sorts_in l.table) trees labels l.t.0 l.next;
+    }
+
+abbrev pub decreases-loop-next : goal.decreases-loop-next
+decreases-loop-next l = behind l.next

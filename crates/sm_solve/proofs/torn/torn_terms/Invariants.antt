@@ -1,10 +1,10 @@
--- No term before is torn from another.
-use Rattle.std.proofs.Common.{◌≡◌, ℕ, ◌<◌, false}
-use Rattle.sm_term.specs.Tables.{trees_in, sorts_in, tree_at}
-use Rattle.sm_solve.specs.Torn.{any_torn}
+-- No term before has a partner.
+use Rattle.std.proofs.Common.{ℕ, ◌<◌, None}
+use Rattle.sm_term.specs.Tables.{trees_in, sorts_in}
+use Rattle.sm_solve.specs.Torn.{IsPartnerIf}
 use Rattle.sm_solve.proofs.torn.torn_terms.Given as goal
 
 abbrev pub invariant-loop-n : goal.invariant-loop-n
-invariant-loop-n g l =
+invariant-loop-n l =
     let trees = trees_in l.table in
-    (m : ℕ) → m < l.n → any_torn (sorts_in l.table) (g.S.Sees.equal l.sees) trees (tree_at trees m) ≡ false
+    (m : ℕ) → m < l.n → IsPartnerIf (sorts_in l.table) trees l.labels m None

@@ -1,30 +1,55 @@
-use Rattle.std.proofs.Common.{◌≡◌, true, false, is_some, Option, IfOk, sym, ap, subst, ◌∙◌}
-use Rattle.sm_term.specs.Tables.{trees_in, sorts_in}
+use Rattle.std.proofs.Common.{◌≡◌, true, false, is_some, Option, length, IfOk, sym, ap, subst, ◌∙◌}
+use Rattle.sm_term.specs.Tables.{trees_in, sorts_in, AreBefore}
+use Rattle.sm_cc.specs.Rounds.{are_equal}
+use Rattle.sm_cc.specs.Views.{ClassesValue, setting_of}
 use Rattle.sm_solve.specs.declared.closing.Closing.{Closing}
 use Rattle.sm_solve.specs.Given.{branch_of}
 use Rattle.sm_solve.specs.Holding.{is_closed}
+use Rattle.sm_solve.specs.Labelled.{AreLabels}
 use Rattle.sm_solve.specs.Parts.{all_numbered, assertions_in}
 use Rattle.sm_solve.specs.Walk.{Walked}
 use Rattle.sm_solve.specs.Walking.{TellsVisit}
+use Rattle.sm_solve.proofs.BranchLabelsLemmas.{labels_of_branch}
+use Rattle.sm_solve.proofs.GivenLemmas.{whole_before}
 use Rattle.sm_solve.proofs.WalkingLemmas.{closed_told, open_told}
 use Rattle.sm_solve.proofs.visiting.visit_classes.Goals as goal
 
-pub returns-in_ok-tree-in-Some-clause-tells : goal.returns-in_ok-tree-in-Some-clause-tells
-returns-in_ok-tree-in-Some-clause-tells c = λ go.
+pub labels-requires : goal.labels-requires
+labels-requires c =
+    let terms = c.args.terms.now.list.items in
+    subst (λ (v : ClassesValue). AreBefore (length (trees_in v.table)) v.terms) (sym c.requires.classes)
+    (whole_before (trees_in c.args.table.now) terms c.requires.whole)
+
+pub closed_by-requires-clause-labels : goal.closed_by-requires-clause-labels
+closed_by-requires-clause-labels c =
+    let equal = are_equal (setting_of c.args.classes.now) in
+    subst (AreLabels (trees_in c.args.table.now) equal) (sym c.deref.ensures.value)
+    (labels_of_branch c.args.table.now c.args.terms.now.list.items c.args.facts.now c.requires.whole c.args.classes.now c.requires.classes
+    c.in_ok-labels.labels.items c.in_ok-labels.ensures)
+
+pub visit_forms-requires-clause-labels : goal.visit_forms-requires-clause-labels
+visit_forms-requires-clause-labels c =
+    let equal = are_equal (setting_of c.args.classes.now) in
+    subst (AreLabels (trees_in c.args.table.now) equal) (sym c.deref-in-None.ensures.value)
+    (labels_of_branch c.args.table.now c.args.terms.now.list.items c.args.facts.now c.requires.whole c.args.classes.now c.requires.classes
+    c.in_ok-labels.labels.items c.in_ok-labels.ensures)
+
+pub returns-in-Some-clause-tells : goal.returns-in-Some-clause-tells
+returns-in-Some-clause-tells c = λ go.
     let table = c.args.table.now in
     let b = branch_of table c.args.facts.now in
     let closed : true ≡ is_closed b =
-    ap (λ (o : Option Closing). is_some o) (sym c.in-Some.is) ∙ c.closed_by.ensures.closed ∙ ap is_closed c.requires.seen in
+    ap (λ (o : Option Closing). is_some o) (sym c.in-Some.is) ∙ c.in_ok-why.ensures.closed ∙ ap is_closed c.requires.seen in
     closed_told go c.args.steps c.args.count b closed
 
-pub returns-in-None-clause-tells : goal.returns-in-None-clause-tells
-returns-in-None-clause-tells c = λ go.
+pub returns-clause-tells : goal.returns-clause-tells
+returns-clause-tells c = λ go.
     let table = c.args.table.now in
     let sorts = sorts_in table in
     let trees = trees_in table in
     let all = assertions_in sorts trees (all_numbered c.args.facts.now) in
     let b = branch_of table c.args.facts.now in
     let open_still : false ≡ is_closed b =
-    ap (λ (o : Option Closing). is_some o) (sym c.in-None.is) ∙ c.closed_by.ensures.closed ∙ ap is_closed c.requires.seen in
+    ap (λ (o : Option Closing). is_some o) (sym c.in-None.is) ∙ c.in_ok-why.ensures.closed ∙ ap is_closed c.requires.seen in
     subst (λ (w : Walked). IfOk c.visit_forms.result (λ v. TellsVisit sorts trees all go v w))
     (sym (open_told go c.args.steps c.args.count b open_still)) (c.visit_forms.ensures.tells go)

@@ -1,33 +1,17 @@
-use Rattle.std.proofs.Common.{◌≡◌, ℕ, List, length, IfOk, sym, subst}
-use Rattle.sm_term.specs.Tables.{trees_in, sorts_in, AreBefore}
+use Rattle.std.proofs.Common.{◌≡◌, ℕ, length, IfOk, sym, subst}
+use Rattle.sm_term.specs.Tables.{trees_in, sorts_in}
 use Rattle.sm_cc.specs.Classes.{are_apart}
 use Rattle.sm_cc.specs.Rounds.{are_equal}
-use Rattle.sm_cc.specs.Views.{ClassesValue, setting_of}
+use Rattle.sm_cc.specs.Views.{setting_of}
 use Rattle.sm_solve.specs.declared.eliminating.ByForms.{ByForms}
 use Rattle.sm_solve.specs.Given.{branch_of}
-use Rattle.sm_solve.specs.Labelled.{AreLabels}
 use Rattle.sm_solve.specs.Holding.{Seen, split_of}
 use Rattle.sm_solve.specs.Parts.{all_numbered, assertions_in}
 use Rattle.sm_solve.specs.Refutations.{TellsForms}
 use Rattle.sm_solve.specs.Seeing.{seen_in}
 use Rattle.sm_solve.specs.Walk.{Walked, by_forms, by_parts, forms_of}
 use Rattle.sm_solve.specs.Walking.{TellsVisit}
-use Rattle.sm_solve.proofs.BranchLabelsLemmas.{labels_of_branch}
-use Rattle.sm_solve.proofs.GivenLemmas.{whole_before}
 use Rattle.sm_solve.proofs.visiting.visit_forms.Goals as goal
-
-pub labels-requires : goal.labels-requires
-labels-requires c =
-    let terms = c.args.terms.now.list.items in
-    subst (λ (v : ClassesValue). AreBefore (length (trees_in v.table)) v.terms) (sym c.requires.classes)
-    (whole_before (trees_in c.args.table.now) terms c.requires.whole)
-
-pub by_forms-requires-clause-labels : goal.by_forms-requires-clause-labels
-by_forms-requires-clause-labels c =
-    let equal = are_equal (setting_of c.args.classes.now) in
-    subst (λ (ls : List ℕ). AreLabels (trees_in c.args.table.now) equal ls) (sym c.deref.ensures.value)
-    (labels_of_branch c.args.table.now c.args.terms.now.list.items c.args.facts.now c.requires.whole c.args.classes.now c.requires.classes
-    c.in_ok-labels.labels.items c.in_ok-labels.ensures)
 
 pub returns-in-GoesOn-clause-tells : goal.returns-in-GoesOn-clause-tells
 returns-in-GoesOn-clause-tells c = λ go.

@@ -26,5 +26,4 @@ returns c = λ table given contrary at many len.
     let left = ap (λ (fs : List Formula). slice_set fs c.args.self.now.place tree.Yes)
     (c.truncate.ensures.items ∙ ap (λ (k : ℕ). take k c.args.self.now.facts.items) (sym many)) in
     closed table given contrary c.args.self.now _ at (c.cut.ensures table first at.more at.shared len (first_closed given))
-    (c.truncate-2.ensures.items ∙ ap (λ (k : ℕ). take k c.args.self.now.forms.items) (sym len)) left refl
-    refl refl
+    (c.truncate-2.ensures.items ∙ ap (λ (k : ℕ). take k c.args.self.now.forms.items) (sym len)) left refl refl refl

@@ -1,5 +1,5 @@
 -- No more terms stand in the table of their own than the facts name.
-use Rattle.std.proofs.Common.{◌≡◌, IfSome, Option, List, [], length, sym, ap, ◌∙◌, subst, arith}
+use Rattle.std.proofs.Common.{◌≡◌, IfSome, Option, List, [], length, refl, sym, ap, ◌∙◌, subst, arith}
 use Rattle.std.specs.List.{range_with_len}
 use Rattle.sm_syntax.specs.text.Sorts.{Sorts}
 use Rattle.sm_term.specs.declared.formula.Formula.{Formula}
@@ -8,13 +8,15 @@ use Rattle.sm_term.specs.Sorted.{AreFormsSorted}
 use Rattle.sm_term.specs.Tables.{trees_in, sorts_in}
 use Rattle.sm_cc.specs.declared.ground.Grounded.{Grounded}
 use Rattle.sm_cc.specs.Ground.{IsGround}
+use Rattle.sm_solve.specs.declared.base.Base.TheVariants as base
 use Rattle.sm_solve.specs.AllForms.{AreAllForms}
+use Rattle.sm_solve.specs.Bases.{IsFrom}
 use Rattle.sm_solve.specs.Branches.{with_formulas}
 use Rattle.sm_solve.specs.Given.{IsWhole, classes_by}
 use Rattle.sm_solve.specs.Listing.{numbers_of}
 use Rattle.sm_solve.specs.Parts.{all_numbered, assertions_in, AreFormulasWithin}
 use Rattle.sm_solve.proofs.GroundingLemmas.{room_sorted, as_many, node_of}
-use Rattle.sm_solve.proofs.node.Node.of.Goals as goal
+use Rattle.sm_solve.proofs.node.Node.grounded.Goals as goal
 
 pub count_named-requires : goal.count_named-requires
 count_named-requires c =
@@ -60,11 +62,10 @@ returns-in-Some-clause-node c =
     let found = subst (λ (o : Option Grounded). IfSome o (λ (g : Grounded). (ids : List TermId) × IsWhole (trees_in own) ids
     × (numbers_of ids ≡ range_with_len 0 (length (trees_in own)))
     × IsGround (classes_by own ids c.deref-4.result.now) g.ground g.numbering)) c.in-Some.is c.in_ok-found.ensures in
-    let ground = subst (λ (fs : List Formula). IsGround (classes_by own found.0 fs) c.in-Some.found.ground c.in-Some.found.numbering)
-    c.deref-4.ensures.value found.3 in
+    let ground = subst (λ (fs : List Formula). IsFrom (classes_by own found.0 fs) (base.Over c.in-Some.found)) c.deref-4.ensures.value found.3 in
     node_of table c.shared_facts.new.table given first second _ c.in_ok-shared.ensures.grows.sorts one two c.in_ok-shared.ensures.terms
     c.in_ok-forms.ensures many c.in_ok-shared.ensures.facts c.in_ok-shared.ensures.within (as_many sorts trees c.args.facts.now) c.requires.sorted found.0
-    found.1 found.2 ground
+    found.1 found.2 ground refl
 
 pub ground_of-requires-clause-forms : goal.ground_of-requires-clause-forms
 ground_of-requires-clause-forms c =

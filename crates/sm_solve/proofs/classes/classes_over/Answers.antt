@@ -1,7 +1,7 @@
 -- The facts are given of terms of the table, and the classes see what is seen on the branch.
 use Rattle.sm_term.specs.Tables.{trees_in}
 use Rattle.sm_solve.proofs.GivenLemmas.{whole_before, given_of_terms, given_all, seen_by_classes}
-use Rattle.sm_solve.proofs.first.first_visit.Goals as goal
+use Rattle.sm_solve.proofs.classes.classes_over.Goals as goal
 
 pub over-requires-clause-forms : goal.over-requires-clause-forms
 over-requires-clause-forms c = c.requires.forms.each
@@ -17,8 +17,13 @@ over-requires-clause-given c =
     given_of_terms c.args.table.now c.args.terms.now.list.items c.requires.whole c.args.facts.now c.requires.within c.requires.sorted
     c.in_ok-given.given.items c.in_ok-given.ensures
 
-pub visit_classes-requires-clause-seen : goal.visit_classes-requires-clause-seen
-visit_classes-requires-clause-seen c =
+pub returns-clause-value : goal.returns-clause-value
+returns-clause-value c =
+    given_all c.args.table.now c.args.terms.now.list.items c.args.facts.now c.in_ok-given.given.items c.in_ok-given.ensures
+    c.in_ok-classes.classes c.in_ok-classes.ensures.classes
+
+pub returns-clause-seen : goal.returns-clause-seen
+returns-clause-seen c =
     let all = given_all c.args.table.now c.args.terms.now.list.items c.args.facts.now c.in_ok-given.given.items c.in_ok-given.ensures
     c.in_ok-classes.classes c.in_ok-classes.ensures.classes in
     seen_by_classes c.args.table.now c.args.terms.now.list.items c.args.facts.now c.requires.whole c.in_ok-classes.classes all

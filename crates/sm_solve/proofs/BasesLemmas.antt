@@ -1,0 +1,34 @@
+-- Classes that begin with others, where facts go behind.
+use Rattle.std.proofs.Common.{◌≡◌, List, [], refl, sym, subst}
+use Rattle.std.proofs.lemmas.List.{append-nil}
+use Rattle.sm_term.specs.declared.formula.Formula.{Formula}
+use Rattle.sm_term.specs.declared.term.TermId.{TermId}
+use Rattle.sm_term.specs.Tables.{TableValue, trees_in}
+use Rattle.sm_cc.specs.Ground.{IsLedBy}
+use Rattle.sm_cc.specs.Numbered.{IsLonger}
+use Rattle.sm_cc.specs.Views.{ClassesValue}
+use Rattle.sm_solve.specs.Given.{classes_by}
+use Rattle.sm_solve.proofs.NodeLemmas.{given_first}
+
+-- nothing leads to all
+pub led_nothing : (table : TableValue) (ids : List TermId) (fs : List Formula) →
+    IsLedBy (record { table = table; terms = []; given = [] }) (classes_by table ids fs)
+led_nothing table ids fs = record {
+  table = record { sorts = refl; codes = refl; trees = ([], sym (append-nil (trees_in table))) };
+  terms = (ids, refl);
+  given = λ n g is. absurd cc;
+}
+
+pub led_same : (v : ClassesValue) (table : TableValue) (ids : List TermId) (fs gs : List Formula) → gs ≡ fs →
+    IsLedBy v (classes_by table ids fs) → IsLedBy v (classes_by table ids gs)
+led_same v table ids fs gs same led = subst (λ (hs : List Formula). IsLedBy v (classes_by table ids hs)) (sym same) led
+
+-- more facts lead to more classes
+pub led_longer : (v : ClassesValue) (table : TableValue) (ids : List TermId) (fs gs : List Formula) → IsLonger fs gs →
+    IsLedBy v (classes_by table ids fs) → IsLedBy v (classes_by table ids gs)
+led_longer v table ids fs gs longer led =
+    subst (λ (hs : List Formula). IsLedBy v (classes_by table ids hs)) (sym longer.1) (record {
+      table = led.table;
+      terms = led.terms;
+      given = λ n g is. let one = led.given n g is in given_first 0 fs longer.0 one.0 g one.1;
+    })

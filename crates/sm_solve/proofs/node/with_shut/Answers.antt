@@ -1,0 +1,37 @@
+-- What is found of the facts of a node is noted.
+use Rattle.std.proofs.Common.{◌≡◌, List, [], ◌∷◌, ◌++◌, refl, sym, ap, subst, ◌∙◌}
+use Rattle.sm_syntax.specs.text.Sorts.{Sorts}
+use Rattle.sm_term.specs.declared.formula.Formula.{Formula}
+use Rattle.sm_term.specs.Assertions.{Yes}
+use Rattle.sm_term.specs.Sorted.{AreFormsSorted}
+use Rattle.sm_term.specs.Tables.{trees_in, sorts_in}
+use Rattle.sm_cc.specs.Ground.{IsLedBy}
+use Rattle.sm_solve.specs.Given.{classes_by}
+use Rattle.sm_solve.specs.Parts.{all_numbered, assertions_in}
+use Rattle.sm_solve.specs.Sharing.{room_for_goal}
+use Rattle.sm_solve.proofs.ShutLemmas.{node_led, node_sorted, node_shut}
+use Rattle.sm_solve.proofs.node.with_shut.Goals as goal
+
+pub shut_of-requires-clause-sorted : goal.shut_of-requires-clause-sorted
+shut_of-requires-clause-sorted c =
+    let own = c.args.node.terms.own in
+    subst (λ (fs : List Formula). AreFormsSorted (sorts_in own) (assertions_in (sorts_in own) (trees_in own) (all_numbered fs)))
+    (sym c.deref-2.ensures.value) (node_sorted c.requires.0 c.requires.1 c.args.node c.requires.2)
+
+pub shut_of-requires-clause-led : goal.shut_of-requires-clause-led
+shut_of-requires-clause-led c =
+    let own = c.args.node.terms.own in
+    let l = node_led c.requires.0 c.requires.1 c.args.node c.requires.2 in (
+      l.0,
+      l.1,
+      λ ids counted. subst (λ (fs : List Formula). IsLedBy l.0 (classes_by own ids fs)) (sym c.deref-2.ensures.value) (l.2 ids counted),
+    )
+
+pub returns : goal.returns
+returns c = λ table given is.
+    let own = c.args.node.terms.own in
+    let sorts = sorts_in own in
+    let told : assertions_in sorts (trees_in own) (all_numbered c.deref-2.result.now) ≡ room_for_goal given =
+    ap (λ (fs : List Formula). assertions_in sorts (trees_in own) (all_numbered fs)) c.deref-2.ensures.value
+    ∙ ap (λ (s : Sorts). assertions_in s (trees_in own) (all_numbered c.args.node.facts.items)) is.shared.sorts ∙ is.facts in
+    node_shut table given c.args.node _ refl refl refl refl c.in_ok-shut.ensures.stays (c.in_ok-shut.ensures.shut (given ++ Yes ∷ []) told) is

@@ -1,0 +1,14 @@
+use Rattle.std.proofs.Common.{Option, IfSome, List, subst}
+use Rattle.sm_term.specs.Assertions.{Assertion}
+use Rattle.sm_term.specs.Tables.{trees_in, sorts_in}
+use Rattle.sm_cert.specs.declared.tree.CertTree.{CertTree}
+use Rattle.sm_solve.specs.Walking.{ShowsVisit, ClosesIn}
+use Rattle.sm_solve.proofs.shut.found.Goals as goal
+
+pub returns-in-Some-2-clause-closes : goal.returns-in-Some-2-clause-closes
+returns-in-Some-2-clause-closes c = λ given is.
+    let sorts = sorts_in c.args.table.now in
+    let trees = trees_in c.args.table.now in
+    let shows = subst (λ (fs : List Assertion). ShowsVisit sorts trees fs c.in_ok-visit-in-Some.visit) is c.in_ok-visit-in-Some.ensures.shows in
+    subst (λ (o : Option CertTree). IfSome o (ClosesIn sorts trees given 1)) c.in-Some-2.is
+    (c.in_ok-tree-in-Some.ensures sorts trees given is shows)

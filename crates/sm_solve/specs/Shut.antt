@@ -1,0 +1,45 @@
+-- Cited by public clauses: facts that can't hold together, as the visit of their branch finds.
+use Rattle.std.specs.Prelude.{◌≡◌, ◌⊎◌, ℕ, ◌≤◌, true, Some, List, length, slice_get}
+use Rattle.std.specs.List.{range_with_len}
+use Rattle.sm_syntax.specs.text.Sorts.{Sorts}
+use Rattle.sm_num.specs.Combining.{Fits}
+use Rattle.sm_term.specs.Terms.{Tree}
+use Rattle.sm_term.specs.Assertions.{Assertion, Yes}
+use Rattle.sm_cc.specs.Numbered.{IsLonger}
+use Rattle.sm_solve.specs.declared.shut.Shut.{Shut}
+use Rattle.sm_solve.specs.declared.shut.ShutBy.{ShutBy}
+use Rattle.sm_solve.specs.declared.shut.ShutBy.TheVariants as shut
+use Rattle.sm_solve.specs.Branches.{with_parts}
+use Rattle.sm_solve.specs.Holding.{Seen, seen_by, is_closed}
+use Rattle.sm_solve.specs.Listing.{numbers_of}
+use Rattle.sm_solve.specs.Walk.{Walked, Closes, by_forms, forms_of}
+use Rattle.sm_solve.specs.Walking.{ClosesIn}
+
+-- a branch is closed by its classes, or its forms come to a contradiction after so many steps
+abbrev pub IsShutBy : ℕ → Seen → ShutBy → Type 0
+IsShutBy steps b shut.Classes = is_closed b ≡ true
+IsShutBy steps b (shut.Forms count forms) =
+    (forms_of b ≡ Fits forms.items)
+    × ((next : ℕ → Walked) →
+    by_forms steps 1 (length b.terms) (Fits forms.items) next ≡ Closes count)
+
+-- facts can't hold together: the visit of the branch of them and all their parts closes it, and so
+-- does a certificate, which names these terms alone
+pub record IsShut (sorts : Sorts) (terms : List Tree) (facts : List Assertion) (s : Shut)
+    : Type 0 where
+  pub some : 1 ≤ s.steps
+  pub by : IsShutBy s.steps (seen_by sorts terms (with_parts facts)) s.by
+  pub many : s.facts ≡ length (with_parts facts)
+  pub counted : numbers_of s.terms.list.items ≡ range_with_len 0 (length terms)
+  pub closes : ClosesIn sorts terms facts 1 s.tree
+
+-- each fact of a branch is one of another, but for what always holds
+abbrev pub AreFactsStill : List Assertion → List Assertion → Type 0
+AreFactsStill facts others =
+    (n : ℕ) (f : Assertion) → slice_get facts n ≡ Some f →
+    (f ≡ Yes) ⊎ ((m : ℕ) × (slice_get others m ≡ Some f))
+
+-- a branch has the terms and the facts of another, but for what always holds
+pub record IsBelow (first trees : List Tree) (facts others : List Assertion) : Type 0 where
+  pub longer : IsLonger first trees
+  pub still : AreFactsStill facts others
