@@ -8,7 +8,7 @@ use Rattle.sm_product.specs.AddedForms.{AddsForms}
 use Rattle.sm_product.specs.NameShapes.{shape_form}
 use Rattle.sm_product.proofs.AddedLemmas.{added_none}
 use Rattle.sm_product.proofs.TemplatesMade.{fit_at, shape_added}
-use Rattle.sm_product.proofs.templates.put_shapes.Goals as goal
+use Rattle.sm_product.proofs.site_templates.put_shapes.Goals as goal
 
 pub loop-shape-init : goal.loop-shape-init
 loop-shape-init c =

@@ -8,7 +8,7 @@ use Rattle.sm_term.specs.Tables.{sorts_in}
 use Rattle.sm_plan.specs.SortedStates.{AreOutputsDeclared}
 use Rattle.sm_plan.specs.Views.{rest_code}
 use Rattle.sm_product.proofs.SitesLemmas.{written_declared, block_made}
-use Rattle.sm_product.proofs.templates.block_templates.Goals as goal
+use Rattle.sm_product.proofs.site_templates.block_templates.Goals as goal
 
 pub put_names-requires : goal.put_names-requires
 put_names-requires c =

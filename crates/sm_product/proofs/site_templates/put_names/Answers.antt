@@ -13,7 +13,7 @@ use Rattle.sm_product.specs.AddedForms.{AddsForms}
 use Rattle.sm_product.specs.Templates.{name_templates}
 use Rattle.sm_product.proofs.AddedLemmas.{added_none}
 use Rattle.sm_product.proofs.TemplatesMade.{names_of, name_at, name_added}
-use Rattle.sm_product.proofs.templates.put_names.Goals as goal
+use Rattle.sm_product.proofs.site_templates.put_names.Goals as goal
 
 pub loop-d-init : goal.loop-d-init
 loop-d-init c =

@@ -20,7 +20,7 @@ use Rattle.sm_product.specs.Guards.{guard_templates}
 use Rattle.sm_product.specs.SameFormulas.{same_formula}
 use Rattle.sm_product.specs.Templates.{name_templates}
 use Rattle.sm_product.proofs.SitesLemmas.{written_declared, new_forms, loop_added, loop_made}
-use Rattle.sm_product.proofs.templates.loop_templates.Goals as goal
+use Rattle.sm_product.proofs.site_templates.loop_templates.Goals as goal
 
 pub put_names-requires : goal.put_names-requires
 put_names-requires c =

@@ -5,7 +5,7 @@ use Rattle.sm_term.specs.Assertions.{Assertion}
 use Rattle.sm_product.specs.AddedForms.{AddsForms}
 use Rattle.sm_product.specs.NameShapes.{shape_form, AreShapesFit}
 use Rattle.sm_product.proofs.NameShapesLemmas.{name_forms, shapes_fit}
-use Rattle.sm_product.proofs.templates.put_name.Goals as goal
+use Rattle.sm_product.proofs.site_templates.put_name.Goals as goal
 
 pub put_shapes-requires-clause-fits : goal.put_shapes-requires-clause-fits
 put_shapes-requires-clause-fits c =

@@ -5,7 +5,7 @@ use Rattle.sm_term.specs.TableLaws.{Grows}
 use Rattle.sm_product.specs.AddedForms.{AddsForms}
 use Rattle.sm_product.specs.Templates.{name_templates}
 use Rattle.sm_product.proofs.TemplatesMade.{names_of}
-use Rattle.sm_product.proofs.templates.put_names.Given as goal
+use Rattle.sm_product.proofs.site_templates.put_names.Given as goal
 
 abbrev pub invariant-loop-d : goal.invariant-loop-d
 invariant-loop-d l = record {

@@ -3,7 +3,7 @@ use Rattle.std.proofs.Common.{map, take}
 use Rattle.sm_term.specs.TableLaws.{Grows}
 use Rattle.sm_product.specs.AddedForms.{AddsForms}
 use Rattle.sm_product.specs.NameShapes.{shape_form}
-use Rattle.sm_product.proofs.templates.put_shapes.Given as goal
+use Rattle.sm_product.proofs.site_templates.put_shapes.Given as goal
 
 abbrev pub invariant-loop-shape : goal.invariant-loop-shape
 invariant-loop-shape l = record {
