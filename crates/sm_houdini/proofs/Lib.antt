@@ -20,10 +20,8 @@ pub mod ClosingLemmas
 pub mod SharedLemmas
 pub mod GoalJobsLemmas
 pub mod TotalsLemmas
-pub mod DuesLemmas
 pub mod RoundSteps
 pub mod ShortLemmas
-pub mod SizesLemmas
 pub mod SitesLemmas
 pub mod EndLemmas
 pub mod EndJobsLemmas

@@ -1,5 +1,5 @@
 -- Owners of nodes and templates of sites, by how a sketch ends.
-use Rattle.std.proofs.Common.{◌≡◌, ℕ, zero, suc, ◌+◌, ◌<◌, ◌≤◌, Option, Some, None, Result, Ok, Err}
+use Rattle.std.proofs.Common.{◌≡◌, ℕ, suc, ◌+◌, ◌<◌, ◌≤◌, Option, Some, None, Result, Ok, Err}
 use Rattle.std.proofs.Common.{List, [], ◌∷◌, ◌++◌, map, length, take, get_or}
 use Rattle.std.proofs.Common.{refl, sym, ap, ◌∙◌, subst, arith}
 use Rattle.std.specs.Prelude.{Vec, Box, OnOk}
@@ -61,18 +61,6 @@ pub targets_put : (old new : List (Option ℕ)) (target : Option ℕ) (l all : L
     new ≡ old ++ targets target (take i l) → length l ≤ i → l ≡ all → new ≡ old ++ targets target all
 targets_put old new target l all i before past same =
     before ∙ ap (λ (ss : List Simple). old ++ targets target ss) (take_all i l past ∙ same)
-
--- one number more
-range_last : (a n j : ℕ) → a + n ≡ j → range_with_len a (suc n) ≡ range_with_len a n ++ j ∷ []
-range_last a zero j e = let same : a ≡ j = omega (arith, e) in ap (λ (k : ℕ). k ∷ []) same
-range_last a (suc n) j e =
-    let on : a + 1 + n ≡ j = omega (arith, e) in ap (λ (l : List ℕ). a ∷ l) (range_last (a + 1) n j on)
-
-pub number_put : (old new : List ℕ) (n : ℕ) → old ≡ range_with_len 0 n → new ≡ old ++ n ∷ [] → new ≡ range_with_len 0 (n + 1)
-number_put old new n before put =
-    let on : suc n ≡ n + 1 = omega arith in
-    let whole : 0 + n ≡ n = omega arith in
-    put ∙ ap (λ (l : List ℕ). l ++ n ∷ []) before ∙ sym (range_last 0 n n whole) ∙ ap (range_with_len 0) on
 
 -- templates of both parts
 chosen_append : (xs ys : List (List Assertion)) → all_chosen (xs ++ ys) ≡ all_chosen xs ++ all_chosen ys

@@ -24,17 +24,17 @@ ghost use Rattle.sm_houdini.specs.Rounds.{kept};
 ghost use Rattle.sm_houdini.specs.Searchable.{TellsPlan, TellsStop, Accepts};
 ghost use Rattle.sm_houdini.specs.Views.{IsProof};
 
-use crate::dues::expanded;
 use crate::ending::{Stop, end_all, stopped};
 use crate::goal_jobs::Crew;
 use crate::outcome::{Outcome, Proof};
 use crate::product::Product;
 use crate::rounds::settled;
 use crate::sites::{Sites, sites_of};
-use crate::small::is_small;
 use sm_expand::{Obligations, Plan, PlanFault};
 use sm_par::Gate;
-use sm_product::{CertTrees, ProductError, Sketch, TemplateChoice, plan_with, sketch_of};
+use sm_product::{
+    CertTrees, ProductError, Sketch, TemplateChoice, is_small, obligations_of, plan_with, sketch_of,
+};
 use sm_syntax::{Block, PerCopy};
 use sm_term::TermTable;
 use sm_text::Task;
@@ -61,7 +61,7 @@ fn all_asked(
         AreDuesReady (sorts_in table.new) (trees_in table.new) o.list.items) }
     ensures widens { Widens table.old table.new }
 {
-    match expanded(alloc, table, task, &product.programs, plan) {
+    match obligations_of(alloc, table, task, &product.programs, plan) {
         Ok(dues) => Ok(dues),
         Err(PlanFault::Wrong { .. }) => unreachable!(),
         Err(PlanFault::Deep) => unreachable!(),
@@ -142,7 +142,14 @@ fn kept_if_small<R: Threads + Sync, G: Gate>(
         × (choice_in c ≡ kept closes (parts_of task.now)))) }
     ensures widens { Widens table.old table.new }
 {
-    if !is_small(alloc, table, task, product, &full)? {
+    if !is_small(
+        alloc,
+        table,
+        task,
+        &product.programs,
+        &product.sketch,
+        &full,
+    )? {
         return Ok(None);
     }
     Ok(Some(settled(crew, alloc, table, task, product, full, steps)?))

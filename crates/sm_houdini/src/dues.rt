@@ -1,63 +1,19 @@
 // The obligations of a task under a choice.
-ghost use Rattle.std.specs.Prelude.{◌≡◌, Ok, IfOk, IfErr};
-ghost use Rattle.sm_syntax.specs.text.Parts.{sort_of, task_of};
-ghost use Rattle.sm_syntax.specs.trees.Programs.{declared_of};
+ghost use Rattle.std.specs.Prelude.{◌≡◌, IfOk};
 ghost use Rattle.sm_term.specs.Tables.{trees_in, sorts_in};
 ghost use Rattle.sm_term.specs.TableLaws.{Widens};
 ghost use Rattle.sm_text.specs.Tasks.{parts_of};
-ghost use Rattle.sm_task.specs.Filling.{AreFilled};
-ghost use Rattle.sm_plan.specs.Plans.{obligations};
-ghost use Rattle.sm_plan.specs.SortedStates.{IsTaskSorted};
-ghost use Rattle.sm_plan.specs.Starts.{AreNumbered};
-ghost use Rattle.sm_expand.specs.NumberedPlans.{IsPlanReady};
-ghost use Rattle.sm_expand.specs.Views.{numbered_plan, plan_in, dues_in, AreDuesReady, FaultTells};
+ghost use Rattle.sm_expand.specs.Views.{dues_in, AreDuesReady};
 ghost use Rattle.sm_product.specs.ChoiceViews.{choice_in};
 ghost use Rattle.sm_houdini.specs.Closing.{Knows};
 ghost use Rattle.sm_houdini.specs.Rounds as plain;
 
 use crate::product::Product;
-use sm_expand::{Obligations, Plan, PlanFault, expand};
-use sm_product::{TemplateChoice, plan_with};
-use sm_syntax::{Block, PerCopy};
+use sm_expand::{Obligations, PlanFault};
+use sm_product::{TemplateChoice, obligations_of, plan_with};
 use sm_term::TermTable;
 use sm_text::Task;
 use std::alloc::{AllocError, Global};
-
-// The obligations of a plan for a task.
-pub(crate) fn expanded(
-    alloc: Global,
-    table: &mut TermTable,
-    task: &Task,
-    programs: &PerCopy<Block>,
-    plan: &Plan,
-) -> Result<Obligations, PlanFault>
-    requires declared { sorts_in table.old ≡ sort_of (declared_of task.now.shared.decls) }
-    requires numbered { AreNumbered (declared_of task.now.shared.decls) }
-    requires sorted { IsTaskSorted (sort_of (declared_of task.now.shared.decls))
-        (task_of (parts_of task.now)) }
-    requires filled { AreFilled (parts_of task.now) programs.now }
-    requires plan { IsPlanReady (sorts_in table.old) (trees_in table.old) (numbered_plan plan.now) }
-    ensures ok { let p = plan_in (sorts_in table.old) (trees_in table.old) plan.now in
-        IfOk result (λ o. obligations (task_of (parts_of task.now)) p
-        ≡ Ok (dues_in (sorts_in table.new) (trees_in table.new) o.list.items)) }
-    ensures err { let p = plan_in (sorts_in table.old) (trees_in table.old) plan.now in
-        IfErr result (λ e. FaultTells e (obligations (task_of (parts_of task.now)) p)) }
-    ensures ready { IfOk result (λ o.
-        AreDuesReady (sorts_in table.new) (trees_in table.new) o.list.items) }
-    ensures widens { Widens table.old table.new }
-{
-    let shared = &task.shared;
-    let assumed = task.assumed.as_ref();
-    expand(
-        alloc,
-        table,
-        &shared.decls,
-        &shared.outputs,
-        assumed,
-        programs,
-        plan,
-    )
-}
 
 // The obligations under a choice, none where its plan has none.
 pub(crate) fn dues_of(
@@ -75,7 +31,7 @@ pub(crate) fn dues_of(
     ensures widens { Widens table.old table.new }
 {
     let plan = plan_with(alloc, &product.sketch, choice)?;
-    match expanded(alloc, table, task, &product.programs, &plan) {
+    match obligations_of(alloc, table, task, &product.programs, &plan) {
         Ok(dues) => Ok(dues),
         Err(PlanFault::Memory) => Err(AllocError),
         Err(_) => Ok(Obligations {

@@ -29,7 +29,6 @@ mod rounds;
 mod searching;
 mod short;
 mod sites;
-mod small;
 mod writing;
 
 pub use laws::{

@@ -14,7 +14,7 @@ ghost use Rattle.sm_houdini.specs.SitesBelow.{targets, Puts, PutsAll};
 
 use sm_expand::Simples;
 use sm_plan::Formulas;
-use sm_product::{Sketch, SketchEnd, Sketches, TemplateChoice};
+use sm_product::{Sketch, SketchEnd, Sketches, TemplateChoice, all_numbers};
 use std::alloc::{AllocError, Global};
 
 /// The owners of nodes so far, and all templates of the sites so far.
@@ -22,17 +22,6 @@ use std::alloc::{AllocError, Global};
 pub(crate) struct Sites {
     pub(crate) owners: Vec<Option<u64>>,
     pub(crate) full: TemplateChoice,
-}
-
-// Numbers below one.
-fn numbers_below(alloc: Global, count: usize) -> Result<Vec<u64>, AllocError>
-    ensures { IfOk result (λ ns. ns.items ≡ range_with_len 0 count) }
-{
-    let mut list = Vec::new(alloc);
-    for n in 0..count {
-        list.push(n as u64)?;
-    }
-    Ok(list)
 }
 
 // Puts a site with all its templates behind others, and gives its number.
@@ -46,9 +35,7 @@ fn add_site(
         ≡ rows choice.old.sites.items ++ range_with_len 0 (length templates.now.list.items) ∷ []) }
 {
     let site = choice.sites.len() as u64;
-    choice
-        .sites
-        .push(numbers_below(alloc, templates.list.len())?)?;
+    choice.sites.push(all_numbers(alloc, templates)?)?;
     Ok(site)
 }
 

@@ -34,6 +34,9 @@ pub mod SharedLemmas
 pub mod WalksLemmas
 pub mod LargeSketches
 pub mod LargeTasks
+pub mod SizesLemmas
+pub mod AllChosen
+pub mod TaskParts
 pub mod SketchEnds
 pub mod SketchesWiden
 pub mod SketchesDrawn

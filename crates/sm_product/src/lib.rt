@@ -19,7 +19,9 @@
 //! `proofs/LoopExamples.antt` and `proofs/BranchExamples.antt`.
 #![tactic(auto)]
 
+mod asking;
 mod bodies;
+mod choices;
 mod copying;
 mod drawing;
 mod error;
@@ -30,6 +32,7 @@ mod hole;
 mod holes;
 mod kept;
 mod laws;
+mod limits;
 mod listing;
 mod literals;
 mod masks;
@@ -51,9 +54,12 @@ mod terms;
 mod whole;
 mod written;
 
+pub use asking::obligations_of;
+pub use choices::{all_numbers, all_templates};
 pub use error::ProductError;
 pub use kept::TemplateChoice;
 pub use laws::{products_expand, sites_keep_chosen};
+pub use limits::is_small;
 pub use listing::sites;
 pub use planning::plan_with;
 pub use sided::{Change, one_sided};

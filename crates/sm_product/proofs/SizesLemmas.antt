@@ -20,7 +20,7 @@ use Rattle.sm_product.specs.Sizes.{goals_in, facts_in, is_within, is_small}
 use Rattle.sm_product.proofs.LargeTasks.{plan_size}
 
 module _ (sorts : Sorts) (trees : List Tree) where
-  forms_length : (fs : List Formula) → length (forms_in sorts trees fs) ≡ length fs
+  pub forms_length : (fs : List Formula) → length (forms_in sorts trees fs) ≡ length fs
   forms_length [] = refl
   forms_length (f ∷ fs) = ap suc (forms_length fs)
 

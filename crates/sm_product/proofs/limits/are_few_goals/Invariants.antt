@@ -4,7 +4,7 @@ use Rattle.sm_syntax.specs.text.Sorts.{Sorts}
 use Rattle.sm_term.specs.Terms.{Tree}
 use Rattle.sm_expand.specs.Views.{dues_in}
 use Rattle.sm_product.specs.Sizes.{goals_in}
-use Rattle.sm_houdini.proofs.small.are_few_goals.Given as goal
+use Rattle.sm_product.proofs.limits.are_few_goals.Given as goal
 
 abbrev pub invariant-loop-due : goal.invariant-loop-due
 invariant-loop-due l = record {

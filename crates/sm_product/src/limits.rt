@@ -1,20 +1,29 @@
-// Whether the plan of all templates is small enough.
+// Whether the plan of all templates is within the limits.
 ghost use Rattle.std.specs.Prelude.{◌≡◌, ◌+◌, nat_le, List, Ok, IfOk};
+ghost use Rattle.sm_syntax.specs.text.Parts.{sort_of, task_of};
 ghost use Rattle.sm_syntax.specs.text.Sorts.{Sorts};
-ghost use Rattle.sm_term.specs.Terms.{Tree};
+ghost use Rattle.sm_syntax.specs.trees.Programs.{declared_of};
+ghost use Rattle.sm_term.specs.Tables.{trees_in, sorts_in};
 ghost use Rattle.sm_term.specs.TableLaws.{Widens};
+ghost use Rattle.sm_term.specs.Terms.{Tree};
 ghost use Rattle.sm_text.specs.Tasks.{parts_of};
+ghost use Rattle.sm_task.specs.Filling.{AreFilled};
+ghost use Rattle.sm_plan.specs.SortedStates.{IsTaskSorted};
+ghost use Rattle.sm_plan.specs.Starts.{AreNumbered};
 ghost use Rattle.sm_expand.specs.Views.{dues_in};
 ghost use Rattle.sm_product.specs.ChoiceViews.{choice_in};
 ghost use Rattle.sm_product.specs.ProductPlans.{full_choice};
+ghost use Rattle.sm_product.specs.Products.{sketch_of};
 ghost use Rattle.sm_product.specs.Sizes as plain;
 ghost use Rattle.sm_product.specs.Sizes.{goals_in, facts_in};
-ghost use Rattle.sm_houdini.specs.Closing.{Knows};
+ghost use Rattle.sm_product.specs.SketchViews.{sketch_in, IsSketchReady};
 
-use crate::dues::expanded;
-use crate::product::Product;
+use crate::asking::obligations_of;
+use crate::kept::TemplateChoice;
+use crate::planning::plan_with;
+use crate::sketch::Sketch;
 use sm_expand::{Due, PlanFault};
-use sm_product::{TemplateChoice, plan_with};
+use sm_syntax::{Block, PerCopy};
 use sm_term::TermTable;
 use sm_text::Task;
 use std::alloc::{AllocError, Global};
@@ -62,23 +71,35 @@ fn are_within(nodes: u64, dues: &[Due]) -> bool
     are_few_goals(nodes, dues) && are_few_facts(dues)
 }
 
-/// Whether the plan of all templates has obligations and is within the limits.
-pub(crate) fn is_small(
+/// Whether the plan of a task under the choice of all templates has obligations and is within the
+/// limits: at most 200,000 nodes and goals, and at most 10,000,000 facts. After an error, too, the
+/// table may have more terms.
+pub fn is_small(
     alloc: Global,
     table: &mut TermTable,
     task: &Task,
-    product: &Product,
+    programs: &PerCopy<Block>,
+    sketch: &Sketch,
     full: &TemplateChoice,
 ) -> Result<bool, AllocError>
-    requires knows { Knows table.old task.now product.now }
+    requires declared { sorts_in table.old ≡ sort_of (declared_of task.now.shared.decls) }
+    requires numbered { AreNumbered (declared_of task.now.shared.decls) }
+    requires sorted { IsTaskSorted (sort_of (declared_of task.now.shared.decls))
+        (task_of (parts_of task.now)) }
+    requires filled { AreFilled (parts_of task.now) programs.now }
+    requires sketch { sketch_in (sorts_in table.old) (trees_in table.old) sketch.now
+        ≡ sketch_of (parts_of task.now) }
+    requires ready { IsSketchReady (sorts_in table.old) (trees_in table.old) sketch.now }
     requires full { choice_in full.now ≡ full_choice (parts_of task.now) }
     ensures small { IfOk result (λ b. b ≡ plain.is_small (parts_of task.now)) }
+
+    // Each term keeps its number.
     ensures widens { Widens table.old table.new }
 {
-    let plan = plan_with(alloc, &product.sketch, full)?;
-    match expanded(alloc, table, task, &product.programs, &plan) {
+    let plan = plan_with(alloc, sketch, full)?;
+    match obligations_of(alloc, table, task, programs, &plan) {
         Ok(dues) => {
-            let nodes = product.sketch.extent.nodes;
+            let nodes = sketch.extent.nodes;
             Ok(are_within(nodes, &dues.list))
         }
         Err(PlanFault::Wrong { .. }) => Ok(false),

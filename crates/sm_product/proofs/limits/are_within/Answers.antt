@@ -2,8 +2,8 @@
 use Rattle.std.proofs.Common.{nat_le, Bool, ◌&&◌, sym, ap, ◌∙◌}
 use Rattle.sm_expand.specs.Views.{dues_in}
 use Rattle.sm_product.specs.Sizes.{facts_in}
-use Rattle.sm_houdini.proofs.SizesLemmas.{within_is}
-use Rattle.sm_houdini.proofs.small.are_within.Goals as goal
+use Rattle.sm_product.proofs.SizesLemmas.{within_is}
+use Rattle.sm_product.proofs.limits.are_within.Goals as goal
 
 pub returns-then-are_few_goals : goal.returns-then-are_few_goals
 returns-then-are_few_goals c = λ sorts trees.

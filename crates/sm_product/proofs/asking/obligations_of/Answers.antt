@@ -1,7 +1,7 @@
 use Rattle.sm_syntax.specs.text.Parts.{task_of}
 use Rattle.sm_text.specs.Tasks.{parts_of}
-use Rattle.sm_houdini.proofs.DuesLemmas.{has_parts}
-use Rattle.sm_houdini.proofs.dues.expanded.Goals as goal
+use Rattle.sm_product.proofs.TaskParts.{has_parts}
+use Rattle.sm_product.proofs.asking.obligations_of.Goals as goal
 
 pub returns-clause-ok : goal.returns-clause-ok
 returns-clause-ok c =

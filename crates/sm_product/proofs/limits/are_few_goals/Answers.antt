@@ -2,8 +2,8 @@
 use Rattle.std.proofs.Common.{◌≡◌, ◌+◌, ◌<◌, length, ap, arith}
 use Rattle.sm_expand.specs.Views.{dues_in}
 use Rattle.sm_product.specs.Sizes.{goals_in}
-use Rattle.sm_houdini.proofs.SizesLemmas.{goals_more, goals_front, over_limit}
-use Rattle.sm_houdini.proofs.small.are_few_goals.Goals as goal
+use Rattle.sm_product.proofs.SizesLemmas.{goals_more, goals_front, over_limit}
+use Rattle.sm_product.proofs.limits.are_few_goals.Goals as goal
 
 pub returns-then-more-count : goal.returns-then-more-count
 returns-then-more-count c = λ sorts trees.
