@@ -1,5 +1,5 @@
 -- A task whose sketch is too large isn't within the limits.
-use Rattle.std.proofs.Common.{◌≡◌, ℕ, suc, ◌+◌, ◌<◌, max, nat_le, Bool, false, ◌&&◌, if◌then◌else◌, Result, Ok, Err, List, length}
+use Rattle.std.proofs.Common.{◌≡◌, ℕ, suc, ◌+◌, ◌<◌, max, nat_le, Bool, false, ◌&&◌, if◌then◌else◌, Result, Ok, Err, List, length, IfErr}
 use Rattle.std.proofs.Common.{inl, inr, refl, sym, ap, subst, arith}
 use Rattle.std.proofs.lemmas.Bool.{lt-ltb, lt-leb}
 use Rattle.sm_syntax.specs.text.Parts.{Parts, task_of}
@@ -7,6 +7,9 @@ use Rattle.sm_term.specs.Assertions.{Assertion}
 use Rattle.sm_plan.specs.Nodes.{is_branching}
 use Rattle.sm_plan.specs.Plans.{Due, Fault, size, sizes, branches, most_branches, obligations}
 use Rattle.sm_expand.proofs.WholeLemmas.{too_deep}
+use Rattle.sm_product.specs.declared.error.ProductError.{ProductError}
+use Rattle.sm_product.specs.declared.error.ProductError.TheVariants as error
+use Rattle.sm_product.specs.Errors.{TellsSketch, TellsTask}
 use Rattle.sm_product.specs.ProductPlans.{plan_of, full_choice}
 use Rattle.sm_product.specs.Products.{sketch_of}
 use Rattle.sm_product.specs.Sizes.{goals_in, facts_in, is_within, is_small}
@@ -65,3 +68,13 @@ large_task t (inr h) =
     none_within (size p) _ (obligations (task_of t) p)
     (too_deep (task_of t) p
     (lt-ltb 1000 (branches p) (subst (λ (n : ℕ). 1000 < n) (sym (plan_depth (kept_by (full_choice t)) 0 (sketch_of t))) h)))
+
+-- so an error that tells of the sketch tells of the task
+tells_task : (e : ProductError) (t : Parts) → TellsSketch e (sketch_of t) → TellsTask e t
+tells_task error.TooMany t h = large_task t h
+tells_task error.Memory t h = tt
+
+pub err_tells_task : {T : Type 0} (r : Result T ProductError) (e : ProductError) (t : Parts) → r ≡ Err e → TellsSketch e (sketch_of t) →
+    IfErr r (λ (x : ProductError). TellsTask x t)
+err_tells_task {T} r e t is h =
+    subst (λ (q : Result T ProductError). IfErr q (λ (x : ProductError). TellsTask x t)) (sym is) (tells_task e t h)

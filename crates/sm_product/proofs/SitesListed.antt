@@ -1,7 +1,7 @@
 -- The templates of a sketch's sites, by how it ends.
-use Rattle.std.proofs.Common.{◌≡◌, ℕ, ◌+◌, ◌<◌, ◌≤◌, Result, Ok, Err, List, [], ◌∷◌, ◌++◌, map, take, length, get_or, refl, sym, ap, ◌∙◌}
-use Rattle.std.proofs.Common.{append-nil, append_assoc}
-use Rattle.std.proofs.lemmas.List.{map-append, take_more, take_all}
+use Rattle.std.proofs.Common.{◌≡◌, ℕ, zero, suc, ◌+◌, ◌<◌, ◌≤◌, Result, Ok, Err, List, [], ◌∷◌, ◌++◌, map, take, length, get_or, refl, sym, ap, ◌∙◌}
+use Rattle.std.proofs.Common.{append-nil, append_assoc, subst, arith}
+use Rattle.std.proofs.lemmas.List.{length-map, map-append, take_more, take_all}
 use Rattle.std.specs.Prelude.{Box, OnOk}
 use Rattle.std.specs.declared.alloc.Global.{Global}
 use Rattle.std.specs.declared.rc.Rc.{Rc}
@@ -10,6 +10,7 @@ use Rattle.sm_term.specs.declared.formula.Formula.{Formula}
 use Rattle.sm_term.specs.Assertions.{Assertion}
 use Rattle.sm_term.specs.Terms.{Tree}
 use Rattle.sm_plan.specs.declared.state.Formulas.{Formulas}
+use Rattle.sm_plan.specs.ReadyStates.{AreFormsReady}
 use Rattle.sm_plan.specs.Views.{forms_in}
 use Rattle.sm_expand.specs.declared.plan.Simple.{Simple}
 use Rattle.sm_expand.specs.Views.{simple_node}
@@ -17,10 +18,10 @@ use Rattle.sm_product.specs.declared.sketch.Sketch.{Sketch}
 use Rattle.sm_product.specs.declared.sketch.SketchEnd.TheVariants as last
 use Rattle.sm_product.specs.declared.sketch.Sketches.{Sketches, out-Sketches}
 use Rattle.sm_product.specs.NumberedSketches.{NumberedSite, Plain, LoopSite, BlockSite, NumberedSketch, Draw, NumberedSketches, Over, More}
-use Rattle.sm_product.specs.NumberedSketches.{site_over, sketch_over, sketches_over, sketches_before}
+use Rattle.sm_product.specs.NumberedSketches.{site_over, sketch_over, sketches_over, sketches_before, IsSiteReady, AreNodesReady, AreBelowReady}
 use Rattle.sm_product.specs.Sketches.{site_at, sites_of, sites_below}
-use Rattle.sm_product.specs.SketchSites.{forms_at, forms_of, forms_below, forms_of_all, shared_forms}
-use Rattle.sm_product.specs.SketchViews.{stacked, numbered_sketch, numbered_end, numbered_sketches, sketch_in}
+use Rattle.sm_product.specs.SketchSites.{forms_at, forms_of, forms_below, forms_of_all, shared_forms, AreListsReady}
+use Rattle.sm_product.specs.SketchViews.{stacked, numbered_sketch, numbered_end, numbered_sketches, sketch_in, IsSketchReady}
 use Rattle.sm_product.proofs.SketchEnds.{sketch_is, sketches_are, end_fork, end_loop, end_block, end_end}
 
 -- over the trees of a table they are those of the sketch
@@ -50,6 +51,45 @@ module _ (sorts : Sorts) (trees : List Tree) where
   pub listed : (s : Sketch) (l : List (Rc Formulas Global)) → shared_forms l ≡ forms_of (numbered_sketch s) →
       map (λ (fs : Rc Formulas Global). forms_in sorts trees fs.value.list.items) l ≡ sites_of (sketch_in sorts trees s)
   listed s l e = forms_shared l ∙ ap (map (forms_in sorts trees)) e ∙ over_sites (numbered_sketch s)
+
+  -- and the formulas of each are in the table where those of the sketch are
+  lists_append : (xs ys : List (List Formula)) → AreListsReady sorts trees xs → AreListsReady sorts trees ys →
+      AreListsReady sorts trees (xs ++ ys)
+  lists_append [] ys first second = second
+  lists_append (x ∷ xs) ys first second = (first.0, lists_append xs ys first.1 second)
+
+  node_ready : (n : NumberedSite) → IsSiteReady sorts trees n → AreListsReady sorts trees (forms_at n)
+  node_ready (Plain node) r = tt
+  node_ready (LoopSite set fs) r = (r.1, tt)
+  node_ready (BlockSite counts fs) r = (r, tt)
+
+  mutual
+    over_ready : (p : NumberedSketch) → AreNodesReady sorts trees p → AreListsReady sorts trees (forms_of p)
+    over_ready (Draw node ps) r = lists_append (forms_at node) (forms_below ps) (node_ready node r.0) (below_ready ps r.1)
+
+    below_ready : (ps : NumberedSketches) → AreBelowReady sorts trees ps → AreListsReady sorts trees (forms_below ps)
+    below_ready Over r = tt
+    below_ready (More p ps) r = lists_append (forms_of p) (forms_below ps) (over_ready p r.0) (below_ready ps r.1)
+
+  pub listed_ready : (s : Sketch) (l : List (Rc Formulas Global)) → shared_forms l ≡ forms_of (numbered_sketch s) →
+      IsSketchReady sorts trees s → AreListsReady sorts trees (shared_forms l)
+  listed_ready s l e r = subst (AreListsReady sorts trees) (sym e) (over_ready (numbered_sketch s) r.formulas)
+
+  -- as many as the sketch has
+  pub site_inside : (l : List (Rc Formulas Global)) (all : List (List Assertion)) (i : ℕ) →
+      map (λ (fs : Rc Formulas Global). forms_in sorts trees fs.value.list.items) l ≡ all → i < length all → i < length l
+  site_inside l all i same inside =
+      let long = length-map l (λ (fs : Rc Formulas Global). forms_in sorts trees fs.value.list.items) in
+      let whole = ap (λ (r : List (List Assertion)). length r) same in
+      omega (arith, long, whole, inside)
+
+  -- the formulas of one are ready
+  pub one_ready : (l : List (Rc Formulas Global)) (i : ℕ) (x : Rc Formulas Global) → AreListsReady sorts trees (shared_forms l) →
+      i < length l → x ≡ get_or l i x → AreFormsReady sorts trees x.value.list.items
+  one_ready [] i x r inside item = absurd (omega (arith, inside))
+  one_ready (y ∷ l) zero x r inside item =
+      subst (λ (z : Rc Formulas Global). AreFormsReady sorts trees z.value.list.items) (sym item) r.0
+  one_ready (y ∷ l) (suc i) x r inside item = let less : i < length l = omega (arith, inside) in one_ready l i x r.1 less item
 
 -- simple nodes have none
 stacked_none : (ss : List Simple) (p : NumberedSketch) → forms_of (stacked ss p) ≡ forms_of p

@@ -6,6 +6,9 @@
 //!   keeps what is chosen.
 //! - `sketch_of` draws the product of a task, over a table of terms, with the templates of each
 //!   site. `sites` lists them, in preorder, and `plan_with` makes the plan of a choice of them.
+//! - `plan_of` gives the plan of a task under a choice of its templates, exactly where the plan of all
+//!   templates is within the limits: `is_small` tells that, by what `obligations_of` gives.
+//!   `templates` gives the templates of a site.
 //! - The templates of a site are made as they are defined. No template of a name stands twice, so
 //!   that only what the guards of loops suggest is looked up before it is put there.
 //! - `one_sided` tells whether the candidate has the only change of the base: that of one variant,
@@ -41,6 +44,7 @@ mod moves;
 mod paths;
 mod planning;
 mod product;
+mod product_plans;
 mod rooms;
 mod sets;
 mod shapes;
@@ -62,6 +66,7 @@ pub use laws::{products_expand, sites_keep_chosen};
 pub use limits::is_small;
 pub use listing::sites;
 pub use planning::plan_with;
+pub use product_plans::{plan_of, templates};
 pub use sided::{Change, one_sided};
 pub use sketch::{Extent, Sketch, SketchEnd, Sketches};
 pub use sketching::sketch_of;

@@ -4,8 +4,9 @@ ghost use Rattle.sm_syntax.specs.text.Sorts.{Sorts};
 ghost use Rattle.sm_term.specs.Terms.{Tree};
 ghost use Rattle.sm_plan.specs.Views.{forms_in};
 ghost use Rattle.sm_product.specs.Sketches.{sites_of};
-ghost use Rattle.sm_product.specs.SketchSites.{forms_of, forms_of_all, shared_forms};
-ghost use Rattle.sm_product.specs.SketchViews.{numbered_sketch, numbered_sketches, sketch_in};
+ghost use Rattle.sm_product.specs.SketchSites.{forms_of, forms_of_all, shared_forms, AreListsReady};
+ghost use Rattle.sm_product.specs.SketchViews.{numbered_sketch, numbered_sketches};
+ghost use Rattle.sm_product.specs.SketchViews.{sketch_in, IsSketchReady};
 
 use crate::sketch::{Sketch, SketchEnd, Sketches};
 use sm_plan::Formulas;
@@ -14,9 +15,11 @@ use std::rc::Rc;
 
 /// The templates of each site of a sketch, in preorder.
 pub fn sites(alloc: Global, sketch: &Sketch) -> Result<Vec<Rc<Formulas>>, AllocError>
-    ensures { (sorts : Sorts) (trees : List Tree) → IfOk result (λ l.
+    ensures listed { (sorts : Sorts) (trees : List Tree) → IfOk result (λ l.
         map (λ fs. forms_in sorts trees fs.value.list.items) l.items
         ≡ sites_of (sketch_in sorts trees sketch.now)) }
+    ensures ready { (sorts : Sorts) (trees : List Tree) → IsSketchReady sorts trees sketch.now →
+        IfOk result (λ l. AreListsReady sorts trees (shared_forms l.items)) }
 {
     let mut list = Vec::new(alloc);
     put_sites(&mut list, sketch)?;

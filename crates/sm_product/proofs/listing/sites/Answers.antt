@@ -5,12 +5,19 @@ use Rattle.std.specs.declared.rc.Rc.{Rc}
 use Rattle.sm_plan.specs.declared.state.Formulas.{Formulas}
 use Rattle.sm_product.specs.SketchSites.{forms_of, shared_forms}
 use Rattle.sm_product.specs.SketchViews.{numbered_sketch}
-use Rattle.sm_product.proofs.SitesListed.{listed}
+use Rattle.sm_product.proofs.SitesListed.{listed, listed_ready}
 use Rattle.sm_product.proofs.listing.sites.Goals as goal
 
-pub returns : goal.returns
-returns c = λ sorts trees.
+pub returns-clause-listed : goal.returns-clause-listed
+returns-clause-listed c = λ sorts trees.
     let s = c.args.sketch.now in
     listed sorts trees s c.put_sites.new.list.items
     (c.in_ok-put_sites.ensures
     ∙ ap (λ (l : List (Rc Formulas Global)). shared_forms l ++ forms_of (numbered_sketch s)) c.new-list.ensures.items)
+
+pub returns-clause-ready : goal.returns-clause-ready
+returns-clause-ready c = λ sorts trees ready.
+    let s = c.args.sketch.now in
+    listed_ready sorts trees s c.put_sites.new.list.items
+    (c.in_ok-put_sites.ensures
+    ∙ ap (λ (l : List (Rc Formulas Global)). shared_forms l ++ forms_of (numbered_sketch s)) c.new-list.ensures.items) ready

@@ -1,0 +1,107 @@
+// The plan of a task under a choice of templates, and the templates of its sites.
+ghost use Rattle.std.specs.Prelude.{◌≡◌, ◌<◌, true, IfOk, IfErr, OnOk};
+ghost use Rattle.sm_syntax.specs.claim.ConflictFree.{Copy, program_of};
+ghost use Rattle.sm_syntax.specs.text.Parts.{sort_of, task_of};
+ghost use Rattle.sm_syntax.specs.text.Sorts.{IsWellSorted};
+ghost use Rattle.sm_syntax.specs.trees.Programs.{declared_of};
+ghost use Rattle.sm_term.specs.Tables.{trees_in, sorts_in};
+ghost use Rattle.sm_term.specs.TableLaws.{Widens};
+ghost use Rattle.sm_text.specs.Tasks.{parts_of};
+ghost use Rattle.sm_plan.specs.ReadyStates.{AreFormsReady};
+ghost use Rattle.sm_plan.specs.SortedStates.{IsTaskSorted};
+ghost use Rattle.sm_plan.specs.Starts.{AreNumbered};
+ghost use Rattle.sm_plan.specs.Views.{forms_in};
+ghost use Rattle.sm_expand.specs.NumberedPlans.{IsPlanReady};
+ghost use Rattle.sm_expand.specs.Views.{numbered_plan, plan_in};
+ghost use Rattle.sm_product.specs.ChoiceViews.{choice_in};
+ghost use Rattle.sm_product.specs.Errors.{TellsSketch, TellsTask};
+ghost use Rattle.sm_product.specs.Laws.{HaveNoHole};
+ghost use Rattle.sm_product.specs.ProductPlans as plain;
+ghost use Rattle.sm_product.specs.ProductPlans.{site_count};
+ghost use Rattle.sm_product.specs.Products.{sketch_of};
+ghost use Rattle.sm_product.specs.Sizes as sizes;
+
+use crate::choices::all_templates;
+use crate::error::ProductError;
+use crate::kept::TemplateChoice;
+use crate::limits::is_small;
+use crate::listing::sites;
+use crate::planning::plan_with;
+use crate::sketching::sketch_of;
+use sm_expand::Plan;
+use sm_plan::Formulas;
+use sm_task::fill_all;
+use sm_term::TermTable;
+use sm_text::Task;
+use std::alloc::Global;
+use std::rc::Rc;
+
+/// The plan of a task under a choice of its templates, over a table of the task's declarations. It
+/// is `TooMany` where the plan under the choice of all templates has no obligations, or has more
+/// nodes, goals or facts than the limits allow: that doesn't depend on `choice`. After an error the
+/// table may have more terms.
+pub fn plan_of(
+    alloc: Global,
+    table: &mut TermTable,
+    task: &Task,
+    choice: &TemplateChoice,
+) -> Result<Plan, ProductError>
+    requires declared { sorts_in table.old ≡ sort_of (declared_of task.now.shared.decls) }
+    requires numbered { AreNumbered (declared_of task.now.shared.decls) }
+    requires no_hole { HaveNoHole (parts_of task.now) }
+    requires sorted { IsTaskSorted (sort_of (declared_of task.now.shared.decls))
+        (task_of (parts_of task.now)) }
+    ensures ok { IfOk result (λ p. plan_in (sorts_in table.new) (trees_in table.new) p
+        ≡ plain.plan_of (parts_of task.now) (choice_in choice.now)) }
+
+    // It is made exactly where the plan of all templates is within the limits.
+    ensures small { OnOk result (sizes.is_small (parts_of task.now) ≡ true) }
+    ensures err { IfErr result (λ e. TellsTask e (parts_of task.now)) }
+
+    // The formulas that it keeps are those of the table.
+    ensures ready { IfOk result (λ p.
+        IsPlanReady (sorts_in table.new) (trees_in table.new) (numbered_plan p)) }
+
+    // Each term keeps its number.
+    ensures widens { Widens table.old table.new }
+{
+    let sketch = sketch_of(alloc, table, task)?;
+    let programs = fill_all(alloc, task)?;
+    let full = all_templates(alloc, &sketch)?;
+    if !is_small(alloc, table, task, &programs, &sketch, &full)? {
+        return Err(ProductError::TooMany);
+    }
+    Ok(plan_with(alloc, &sketch, choice)?)
+}
+
+/// The templates of a site of a task, over a table of the task's declarations. Sites are numbered in
+/// preorder, from 0. It is `TooMany` where the task's sketch is too large. After an error the table
+/// may have more terms.
+pub fn templates(
+    alloc: Global,
+    table: &mut TermTable,
+    task: &Task,
+    site: u64,
+) -> Result<Rc<Formulas>, ProductError>
+    requires declared { sorts_in table.old ≡ sort_of (declared_of task.now.shared.decls) }
+    requires numbered { AreNumbered (declared_of task.now.shared.decls) }
+    requires no_hole { HaveNoHole (parts_of task.now) }
+    requires programs { (c : Copy) →
+        IsWellSorted (sorts_in table.old) (program_of (task_of (parts_of task.now)) c) }
+    requires site { site < site_count (parts_of task.now) }
+    ensures ok { IfOk result (λ fs.
+        forms_in (sorts_in table.new) (trees_in table.new) fs.value.list.items
+        ≡ plain.templates (parts_of task.now) site) }
+    ensures err { IfErr result (λ e. TellsSketch e (sketch_of (parts_of task.now))) }
+
+    // Their terms are those of the table, each part with the sort that it is used with.
+    ensures ready { IfOk result (λ fs.
+        AreFormsReady (sorts_in table.new) (trees_in table.new) fs.value.list.items) }
+
+    // Each term keeps its number.
+    ensures widens { Widens table.old table.new }
+{
+    let sketch = sketch_of(alloc, table, task)?;
+    let mut list = sites(alloc, &sketch)?;
+    Ok(list.swap_remove(site as usize))
+}
