@@ -1,6 +1,6 @@
 -- The templates of a sketch's sites, by how it ends.
-use Rattle.std.proofs.Common.{◌≡◌, ℕ, zero, suc, ◌+◌, ◌<◌, ◌≤◌, Result, Ok, Err, List, [], ◌∷◌, ◌++◌, map, take, length, get_or, refl, sym, ap, ◌∙◌}
-use Rattle.std.proofs.Common.{append-nil, append_assoc, subst, arith}
+use Rattle.std.proofs.Common.{◌≡◌, ℕ, zero, suc, ◌+◌, ◌<◌, ◌≤◌, Result, Ok, Err, List, [], ◌∷◌, ◌++◌, map, take, length, get_or}
+use Rattle.std.proofs.Common.{append-nil, append_assoc, refl, sym, ap, ◌∙◌, subst, arith}
 use Rattle.std.proofs.lemmas.List.{length-map, map-append, take_more, take_all}
 use Rattle.std.specs.Prelude.{Box, OnOk}
 use Rattle.std.specs.declared.alloc.Global.{Global}
@@ -18,7 +18,8 @@ use Rattle.sm_product.specs.declared.sketch.Sketch.{Sketch}
 use Rattle.sm_product.specs.declared.sketch.SketchEnd.TheVariants as last
 use Rattle.sm_product.specs.declared.sketch.Sketches.{Sketches, out-Sketches}
 use Rattle.sm_product.specs.NumberedSketches.{NumberedSite, Plain, LoopSite, BlockSite, NumberedSketch, Draw, NumberedSketches, Over, More}
-use Rattle.sm_product.specs.NumberedSketches.{site_over, sketch_over, sketches_over, sketches_before, IsSiteReady, AreNodesReady, AreBelowReady}
+use Rattle.sm_product.specs.NumberedSketches.{site_over, sketch_over, sketches_over, sketches_before}
+use Rattle.sm_product.specs.NumberedSketches.{IsSiteReady, AreNodesReady, AreBelowReady}
 use Rattle.sm_product.specs.Sketches.{site_at, sites_of, sites_below}
 use Rattle.sm_product.specs.SketchSites.{forms_at, forms_of, forms_below, forms_of_all, shared_forms, AreListsReady}
 use Rattle.sm_product.specs.SketchViews.{stacked, numbered_sketch, numbered_end, numbered_sketches, sketch_in, IsSketchReady}

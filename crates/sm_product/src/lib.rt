@@ -6,8 +6,8 @@
 //!   keeps what is chosen.
 //! - `sketch_of` draws the product of a task, over a table of terms, with the templates of each
 //!   site. `sites` lists them, in preorder, and `plan_with` makes the plan of a choice of them.
-//! - `plan_of` gives the plan of a task under a choice of its templates, exactly where the plan of all
-//!   templates is within the limits: `is_small` tells that, by what `obligations_of` gives.
+//! - `plan_of` gives the plan of a task under a choice of its templates, exactly where the plan of
+//!   all templates is within the limits: `is_small` tells that, by what `obligations_of` gives.
 //!   `templates` gives the templates of a site.
 //! - The templates of a site are made as they are defined. No template of a name stands twice, so
 //!   that only what the guards of loops suggest is looked up before it is put there.

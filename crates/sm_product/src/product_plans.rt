@@ -74,9 +74,9 @@ pub fn plan_of(
     Ok(plan_with(alloc, &sketch, choice)?)
 }
 
-/// The templates of a site of a task, over a table of the task's declarations. Sites are numbered in
-/// preorder, from 0. It is `TooMany` where the task's sketch is too large. After an error the table
-/// may have more terms.
+/// The templates of a site of a task, over a table of the task's declarations. Sites are numbered
+/// in preorder, from 0. It is `TooMany` where the task's sketch is too large. After an error the
+/// table may have more terms.
 pub fn templates(
     alloc: Global,
     table: &mut TermTable,

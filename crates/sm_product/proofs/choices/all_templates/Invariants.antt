@@ -11,4 +11,5 @@ use Rattle.sm_product.proofs.choices.all_templates.Given as goal
 abbrev pub invariant-loop-templates : goal.invariant-loop-templates
 invariant-loop-templates l =
     (sorts : Sorts) (trees : List Tree) →
-    map (λ (ns : Vec ℕ Global). ns.items) l.chosen.items ≡ all_chosen (map (listed_at sorts trees) (take l.templates-index l.templates-items))
+    map (λ (ns : Vec ℕ Global). ns.items) l.chosen.items
+    ≡ all_chosen (map (listed_at sorts trees) (take l.templates-index l.templates-items))
