@@ -216,11 +216,11 @@ node_over v w grows fs ready given are node h =
     subst (λ (gs : List Assertion). IfSome node (IsNode w gs)) same h
 
 -- sites and their marks
-marked_length : (passes : ℕ → ℕ → Bool) (s : ℕ) (choice : Choice) → length (all_marked passes s choice) ≡ length choice
+pub marked_length : (passes : ℕ → ℕ → Bool) (s : ℕ) (choice : Choice) → length (all_marked passes s choice) ≡ length choice
 marked_length passes s [] = refl
 marked_length passes s (ns ∷ choice) = ap suc (marked_length passes (suc s) choice)
 
-rows_length : {X : Type 0} (vs : List (Vec X Global)) → length (rows vs) ≡ length vs
+pub rows_length : {X : Type 0} (vs : List (Vec X Global)) → length (rows vs) ≡ length vs
 rows_length [] = refl
 rows_length (v ∷ vs) = ap suc (rows_length vs)
 

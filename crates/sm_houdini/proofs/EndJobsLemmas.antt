@@ -35,7 +35,7 @@ use Rattle.sm_write.specs.Writable.{AreShort}
 use Rattle.sm_houdini.specs.Certified.{AreCertified}
 use Rattle.sm_houdini.specs.Collected.{AreCollected, goals_with, stop_in, RunStops, RunCloses, GoalsStop, GoalsClose}
 use Rattle.sm_houdini.specs.EndJobs.{NodeEndsValue, IsRunEnd, AreRunEnds, TellsEnd, goals_from}
-use Rattle.sm_houdini.specs.GoalJobs.{AreRunsWithin}
+use Rattle.sm_houdini.specs.EndJobs.{AreRunsWithin}
 use Rattle.sm_houdini.specs.Outcomes.{Outcome, goal_outcome, goals_outcome}
 use Rattle.sm_houdini.specs.declared.ending.Stop.{Stop}
 use Rattle.sm_houdini.specs.declared.end_jobs.RunEnd.{RunEnd}

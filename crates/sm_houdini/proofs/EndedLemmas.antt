@@ -1,12 +1,11 @@
 -- What the plan under the kept templates decides.
-use Rattle.std.proofs.Common.{◌≡◌, ℕ, suc, Bool, true, false, if◌then◌else◌, List, [], ◌∷◌, map, length, refl, sym, ap, ◌∙◌, subst}
+use Rattle.std.proofs.Common.{◌≡◌, ℕ, suc, Bool, true, false, if◌then◌else◌, List, [], ◌∷◌, map, refl, sym, ap, ◌∙◌, subst}
 use Rattle.std.specs.Prelude.{Option, Some, None, MatchOption, Result, Ok, Err}
 use Rattle.sm_syntax.specs.text.Parts.{Parts, sort_of, task_of}
 use Rattle.sm_syntax.specs.text.Sorts.{Sorts}
 use Rattle.sm_term.specs.Assertions.{Assertion}
 use Rattle.sm_term.specs.Tables.{TableValue, trees_in, sorts_in}
 use Rattle.sm_term.specs.TableLaws.{Widens}
-use Rattle.sm_cert.specs.Certificates.{Certificate}
 use Rattle.sm_cert.specs.Views.{certificate_in}
 use Rattle.sm_plan.specs.Plans as plain
 use Rattle.sm_plan.specs.Plans.{Due, Fault, obligations}
@@ -27,9 +26,9 @@ use Rattle.sm_write.specs.Writable.{IsWritable}
 use Rattle.sm_houdini.specs.declared.ending.Stop.{Stop}
 use Rattle.sm_houdini.specs.Certified.{asked, AreCertified}
 use Rattle.sm_houdini.specs.Closing.{closing}
-use Rattle.sm_houdini.specs.Collected.{AreCollected, AreInsideClosed, FinalCloses, FinalStops, stop_in}
+use Rattle.sm_houdini.specs.Collected.{AreCollected, AreInsideClosed, FinalCloses, FinalStops}
 use Rattle.sm_houdini.specs.Laws.{AllClose}
-use Rattle.sm_houdini.specs.Outcomes.{Outcome, Accepted, TooMany, is_closing, goal_outcome, goals_outcome, final_outcome, kept_dues}
+use Rattle.sm_houdini.specs.Outcomes.{Outcome, TooMany, is_closing, goal_outcome, goals_outcome, final_outcome, kept_dues}
 use Rattle.sm_houdini.specs.Rounds.{dues_in, kept}
 use Rattle.sm_houdini.specs.Searchable.{plan_decides, TellsStop, Accepts}
 use Rattle.sm_houdini.proofs.LastPass.{ClosesInside, inside_close}

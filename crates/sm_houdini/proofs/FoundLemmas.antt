@@ -1,6 +1,5 @@
 -- What a search comes to, case by case.
 use Rattle.std.proofs.Common.{◌≡◌, inl, inr, ℕ, Bool, true, false, Option, Some, None, refl, sym, ap, ◌∙◌}
-use Rattle.sm_syntax.specs.claim.Syntax.{Code}
 use Rattle.sm_syntax.specs.claim.ConflictFree.{Copy, program_of}
 use Rattle.sm_syntax.specs.declared.copies.PerCopy.{PerCopy}
 use Rattle.sm_syntax.specs.declared.tree.Block.{Block}

@@ -16,11 +16,14 @@ pub mod ShortLines
 pub mod RoundExamples
 pub mod LoopLemmas
 pub mod MarkedLemmas
+pub mod ShareLemmas
 pub mod ClosingLemmas
 pub mod SharedLemmas
 pub mod GoalJobsLemmas
+pub mod RunLemmas
 pub mod TotalsLemmas
 pub mod RoundSteps
+pub mod KnownLemmas
 pub mod ShortLemmas
 pub mod SitesLemmas
 pub mod EndLemmas

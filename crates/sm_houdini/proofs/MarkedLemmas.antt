@@ -3,7 +3,7 @@ use Rattle.std.proofs.Common.{◌≡◌, ℕ, suc, ◌+◌, ◌<◌, ◌≤◌, 
 use Rattle.std.proofs.Common.{List, [], ◌∷◌, ◌++◌, map, length, take, get_or, refl, sym, ap, ◌∙◌, arith}
 use Rattle.std.specs.Prelude.{Vec}
 use Rattle.std.specs.declared.alloc.Global.{Global}
-use Rattle.std.proofs.lemmas.List.{map-append, take_more}
+use Rattle.std.proofs.lemmas.List.{length-take-le, map-append, take_more}
 use Rattle.sm_product.specs.Choices.{Choice}
 use Rattle.sm_houdini.specs.declared.marks.Marked.{Marked}
 use Rattle.sm_houdini.specs.Marks.{marked, all_marked, still_marked, numbers_of, rows}
@@ -87,27 +87,27 @@ numbers_more (k ∷ ms) m =
     kept_or k.holds k.number (numbers_of ms) (numbers_of (ms ++ m ∷ [])) (if m.holds then m.number ∷ [] else []) (numbers_more ms m)
 
 -- the loops that make marks, and choices of them
-abbrev always : ℕ → Bool
-always i = true
+pub mark_put : (passes : ℕ → Bool) (new old : List Marked) (ns : List ℕ) (i d : ℕ) (b : Bool) →
+    new ≡ old ++ record { number = get_or ns i d; holds = b } ∷ [] → b ≡ passes i → i < length ns →
+    old ≡ marked passes 0 (take i ns) → new ≡ marked passes 0 (take (i + 1) ns)
+mark_put passes new old ns i d b is told h before =
+    let least : i ≤ length ns = omega (arith, h) in
+    let long = length-take-le i ns least in
+    let place : i ≡ 0 + length (take i ns) = omega (arith, long) in
+    is ∙ ap (λ (ms : List Marked). ms ++ record { number = get_or ns i d; holds = b } ∷ []) before
+    ∙ ap (λ (c : Bool). marked passes 0 (take i ns) ++ record { number = get_or ns i d; holds = c } ∷ []) (told ∙ ap passes place)
+    ∙ sym (marked_more passes 0 (take i ns) (get_or ns i d)) ∙ ap (marked passes 0) (sym (take_more ns i d h))
 
-abbrev ever : ℕ → ℕ → Bool
-ever s i = true
-
-pub mark_put : (new old : List Marked) (ns : List ℕ) (i d : ℕ) → new ≡ old ++ record { number = get_or ns i d; holds = true } ∷ [] →
-    i < length ns → old ≡ marked (λ (j : ℕ). true) 0 (take i ns) → new ≡ marked (λ (j : ℕ). true) 0 (take (i + 1) ns)
-mark_put new old ns i d is h before =
-    is ∙ ap (λ (ms : List Marked). ms ++ record { number = get_or ns i d; holds = true } ∷ []) before
-    ∙ sym (marked_more always 0 (take i ns) (get_or ns i d)) ∙ ap (marked always 0) (sym (take_more ns i d h))
-
-pub site_put : (new old : List (Vec Marked Global)) (v : Vec Marked Global) (xs : List (Vec ℕ Global)) (i : ℕ) (x : Vec ℕ Global)
-    (ns : List ℕ) → new ≡ old ++ v ∷ [] → v.items ≡ marked (λ (j : ℕ). true) 0 ns → ns ≡ x.items → i < length xs → x ≡ get_or xs i x →
-    rows old ≡ all_marked (λ (s j : ℕ). true) 0 (rows (take i xs)) →
-    rows new ≡ all_marked (λ (s j : ℕ). true) 0 (rows (take (i + 1) xs))
-site_put new old v xs i x ns is made same h e before =
+pub site_put : (passes : ℕ → Bool) (new old : List (Vec Marked Global)) (v : Vec Marked Global) (xs : List (Vec ℕ Global)) (i : ℕ)
+    (x : Vec ℕ Global) (ns : List ℕ) → new ≡ old ++ v ∷ [] → v.items ≡ marked passes 0 ns → ns ≡ x.items → i < length xs →
+    x ≡ get_or xs i x → rows old ≡ all_marked (λ (s : ℕ). passes) 0 (rows (take i xs)) →
+    rows new ≡ all_marked (λ (s : ℕ). passes) 0 (rows (take (i + 1) xs))
+site_put passes new old v xs i x ns is made same h e before =
     ap rows is ∙ map-append (λ (w : Vec Marked Global). w.items) old (v ∷ [])
-    ∙ (λ k. before k ++ (made ∙ ap (marked always 0) same) k ∷ [])
-    ∙ sym (all_marked_more ever 0 (rows (take i xs)) x.items)
-    ∙ ap (all_marked ever 0) (sym (ap rows (taken xs i x h e) ∙ map-append (λ (w : Vec ℕ Global). w.items) (take i xs) (x ∷ [])))
+    ∙ (λ k. before k ++ (made ∙ ap (marked passes 0) same) k ∷ [])
+    ∙ sym (all_marked_more (λ (s : ℕ). passes) 0 (rows (take i xs)) x.items)
+    ∙ ap (all_marked (λ (s : ℕ). passes) 0)
+    (sym (ap rows (taken xs i x h e) ∙ map-append (λ (w : Vec ℕ Global). w.items) (take i xs) (x ∷ [])))
 
 pub number_put : (new old : List ℕ) (ms : List Marked) (i : ℕ) (d : Marked) → new ≡ old ++ (get_or ms i d).number ∷ [] →
     (get_or ms i d).holds ≡ true → i < length ms → old ≡ numbers_of (take i ms) → new ≡ numbers_of (take (i + 1) ms)

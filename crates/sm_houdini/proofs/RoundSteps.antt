@@ -71,21 +71,43 @@ dues_left sorts trees ds i d h e =
     ∙ ap (λ (k : ℕ). due_in sorts trees d ∷ map (due_in sorts trees) (drop k ds)) (sym (add-one i))
     ∙ ap (λ (xs : List plain.Due). due_in sorts trees d ∷ xs) (sym (drop-map (due_in sorts trees) (i + 1) ds))
 
+-- nothing asked takes no mark away
+with_true : (b : Bool) → b ≡ (b && true)
+with_true true = refl
+with_true false = refl
+
+pub none_asked : (closes : List Assertion → Assertion → Bool) (owner : plain.Due → Option ℕ) (passes : ℕ → ℕ → Bool)
+    (choice : Choice) →
+    all_marked passes 0 choice ≡ all_marked (λ (s i : ℕ). passes s i && holds_at closes owner [] s i) 0 choice
+none_asked closes owner passes choice =
+    all_same passes (λ (s i : ℕ). passes s i && holds_at closes owner [] s i) 0 choice (λ (s i : ℕ) (l : 0 ≤ s). with_true (passes s i))
+
+and_grouped : (a b c d : Bool) → d ≡ (b && c) → ((a && b) && c) ≡ (a && d)
+and_grouped true b c d e = sym e
+and_grouped false b c d e = refl
+
 pub round_step : (v w : TableValue) → Widens v w → (steps : ℕ) (owner : plain.Due → Option ℕ) (ds : List Due) (i : ℕ) (d : Due)
-    (choice : Choice) (new : List (List Marked)) → AreDuesReady (sorts_in v) (trees_in v) ds → i < length ds → d ≡ get_or ds i d →
-    new ≡ all_marked (λ (s j : ℕ). holds_at (closing (sorts_in v) steps) owner (drop (i + 1) (dues_in (sorts_in v) (trees_in v) ds)) s j
+    (passes : ℕ → ℕ → Bool) (choice : Choice) (new : List (List Marked)) → AreDuesReady (sorts_in v) (trees_in v) ds →
+    i < length ds → d ≡ get_or ds i d →
+    new ≡ all_marked (λ (s j : ℕ).
+    (passes s j && holds_at (closing (sorts_in v) steps) owner (drop (i + 1) (dues_in (sorts_in v) (trees_in v) ds)) s j)
     && stays_at (sorts_in w) steps owner (due_in (sorts_in w) (trees_in w) d) s j) 0 choice →
-    new ≡ all_marked (holds_at (closing (sorts_in v) steps) owner (drop i (dues_in (sorts_in v) (trees_in v) ds))) 0 choice
-round_step v w wider steps owner ds i d choice new ready h e judged =
+    new ≡ all_marked (λ (s j : ℕ). passes s j
+    && holds_at (closing (sorts_in v) steps) owner (drop i (dues_in (sorts_in v) (trees_in v) ds)) s j) 0 choice
+round_step v w wider steps owner ds i d passes choice new ready h e judged =
     let parts = facts_at (sorts_in v) (trees_in v) ds i d ready h e in
     let due = due_stays v w wider d parts.0 parts.1 in
     let behind = drop (i + 1) (dues_in (sorts_in v) (trees_in v) ds) in
+    let closes = closing (sorts_in v) steps in
+    let here = due_in (sorts_in v) (trees_in v) d in
     judged
-    ∙ (λ k. all_marked (λ (s j : ℕ). holds_at (closing (sorts_in v) steps) owner behind s j
+    ∙ (λ k. all_marked (λ (s j : ℕ). (passes s j && holds_at closes owner behind s j)
     && stays_at (wider.sorts k) steps owner (due k) s j) 0 choice)
-    ∙ all_same _ (holds_at (closing (sorts_in v) steps) owner (due_in (sorts_in v) (trees_in v) d ∷ behind)) 0 choice
-    (λ (s j : ℕ) (l : 0 ≤ s). sym (holds_more (closing (sorts_in v) steps) owner behind (due_in (sorts_in v) (trees_in v) d) s j))
-    ∙ ap (λ (es : List plain.Due). all_marked (holds_at (closing (sorts_in v) steps) owner es) 0 choice)
+    ∙ all_same _ (λ (s j : ℕ). passes s j && holds_at closes owner (here ∷ behind) s j) 0 choice
+    (λ (s j : ℕ) (l : 0 ≤ s).
+    and_grouped (passes s j) (holds_at closes owner behind s j) (stays_at (sorts_in v) steps owner here s j)
+    (holds_at closes owner (here ∷ behind) s j) (holds_more closes owner behind here s j))
+    ∙ ap (λ (es : List plain.Due). all_marked (λ (s j : ℕ). passes s j && holds_at closes owner es s j) 0 choice)
     (sym (dues_left (sorts_in v) (trees_in v) ds i d h e))
 
 -- the next round

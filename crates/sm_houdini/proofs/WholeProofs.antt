@@ -7,7 +7,6 @@ use Rattle.sm_syntax.specs.text.Sorts.{Sorts}
 use Rattle.sm_term.specs.Assertions.{Assertion}
 use Rattle.sm_theory.specs.Facts.{BranchFact}
 use Rattle.sm_cert.specs.Certificates.{Certificate}
-use Rattle.sm_cert.specs.NamedTerms.{EachTerm}
 use Rattle.sm_plan.specs.Nodes as node
 use Rattle.sm_plan.specs.Nodes.{Node}
 use Rattle.sm_plan.specs.Plans.{Plan, nodes_of, Due}

@@ -1,5 +1,5 @@
 -- Private: what runs of a node's goals come to at the end of a search, as jobs give it.
-use Rattle.std.specs.Prelude.{◌≡◌, ℕ, ◌*◌, ◌<◌, ◌≤◌, List, ◌++◌, MatchOption, take, drop, length}
+use Rattle.std.specs.Prelude.{◌≡◌, ℕ, ◌+◌, ◌*◌, ◌<◌, ◌≤◌, List, ◌++◌, MatchOption, take, drop, length}
 use Rattle.std.specs.Prelude.{slice_index_or}
 use Rattle.sm_term.specs.declared.formula.Formula.{Formula}
 use Rattle.sm_term.specs.Tables.{TableValue, trees_in, sorts_in}
@@ -43,6 +43,11 @@ pub record IsRunEnd (v : TableValue) (steps : ℕ) (due : Due) (first : ℕ) (ru
       (RunCloses (walk (sorts_in v) steps) d first asks
       × AreCollected copy (goals_with d.facts asks) end.trees.items)
       (RunStops (walk (sorts_in v) steps) d first asks))
+
+-- runs of one size have all places below a number, and none of them begins past these
+pub record AreRunsWithin (all size count : ℕ) : Type 0 where
+  pub reach : all ≤ count * size
+  pub begin : count * size < all + size
 
 -- the goals of a run, from a place on
 abbrev pub goals_from : ℕ → ℕ → List Formula → List Formula

@@ -1,47 +1,31 @@
--- Private: what a node asks of the templates of its site, as jobs take it.
-use Rattle.std.specs.Prelude.{◌≡◌, ℕ, ◌+◌, ◌*◌, ◌<◌, ◌≤◌, Bool, List, Vec, take, drop}
-use Rattle.std.specs.declared.alloc.Global.{Global}
+-- Private: a round's goals, as jobs take them.
+use Rattle.std.specs.Prelude.{◌≡◌, ℕ, ◌&&◌, Bool, List, Option}
 use Rattle.sm_term.specs.Tables.{TableValue, trees_in, sorts_in}
-use Rattle.sm_plan.specs.ReadyStates.{AreFormsReady}
 use Rattle.sm_expand.specs.declared.due.Due.{Due}
-use Rattle.sm_expand.specs.Views.{due_in}
-use Rattle.sm_houdini.specs.declared.marks.Marked.{Marked}
-use Rattle.sm_houdini.specs.Closing.{closes_at}
-use Rattle.sm_houdini.specs.Marks.{still_marked}
+use Rattle.sm_expand.specs.Views.{dues_in}
+use Rattle.sm_product.specs.declared.kept.TemplateChoice.{TemplateChoice}
+use Rattle.sm_product.specs.ChoiceViews.{choice_in}
+use Rattle.sm_houdini.specs.declared.marks.Marks.{Marks}
+use Rattle.sm_houdini.specs.Closing.{closing, owner_in}
+use Rattle.sm_houdini.specs.Marks.{all_marked, in_share, rows}
+use Rattle.sm_houdini.specs.Rounds.{holds_at}
 
--- a table, what a node asks over it, the marks of its site, and the most steps of a walk; how many
--- marks a run has, and how many runs there are
-pub record NodeGoalsValue : Type 0 where
+-- a table, what nodes ask over it, flags of what is known to close, the nodes' owners, a choice of
+-- templates, the most steps of a walk, and how many shares there are of the templates
+pub record RoundGoalsValue : Type 0 where
   pub table : TableValue
-  pub due : Due
-  pub marks : List Marked
+  pub dues : List Due
+  pub known : List Bool
+  pub owners : List (Option ℕ)
+  pub choice : TemplateChoice
   pub steps : ℕ
-  pub size : ℕ
-  pub count : ℕ
+  pub shares : ℕ
 
--- the facts and the goals are in the table, each part with the sort that it is used with
-abbrev pub IsDueReady : TableValue → Due → Type 0
-IsDueReady v d =
-    AreFormsReady (sorts_in v) (trees_in v) d.facts.list.items
-    × AreFormsReady (sorts_in v) (trees_in v) d.targets.list.items
-
--- runs of one size have all places below a number, and none of them begins past these
-pub record AreRunsWithin (all size count : ℕ) : Type 0 where
-  pub reach : all ≤ count * size
-  pub begin : count * size < all + size
-
--- whether the goal at a place closes, where there is one
-abbrev pub goal_closes : NodeGoalsValue → ℕ → Bool
-goal_closes v i =
+-- marks at the templates of a share all of whose goals close
+abbrev pub TellsShare : RoundGoalsValue → ℕ → Marks → Type 0
+TellsShare v share marks =
     let sorts = sorts_in v.table in
-    closes_at sorts v.steps (due_in sorts (trees_in v.table) v.due) i
-
--- the marks of a run, from a place on
-abbrev pub run_from : NodeGoalsValue → ℕ → List Marked
-run_from v first = take v.size (drop first v.marks)
-
--- marks are those that stay of a run
-abbrev pub TellsRun : NodeGoalsValue → ℕ → Vec Marked Global → Type 0
-TellsRun v i run =
-    let first = i * v.size in
-    run.items ≡ still_marked (goal_closes v) first (run_from v first)
+    let asked = dues_in sorts (trees_in v.table) v.dues in
+    rows marks.sites.items
+    ≡ all_marked (λ s i. in_share v.shares share i
+    && holds_at (closing sorts v.steps) (owner_in v.owners) asked s i) 0 (choice_in v.choice)

@@ -7,6 +7,7 @@ pub mod Views
 pub mod Marks
 pub mod Closing
 pub mod Nodes
+pub mod Known
 pub mod GoalJobs
 pub mod SitesBelow
 pub mod ShortFacts

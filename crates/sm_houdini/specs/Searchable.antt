@@ -1,6 +1,6 @@
 -- Private: what is known where a search ends.
-use Rattle.std.specs.Prelude.{◌≡◌, ℕ, List}
-use Rattle.sm_syntax.specs.text.Parts.{Parts, sort_of, task_of}
+use Rattle.std.specs.Prelude.{◌≡◌, ℕ}
+use Rattle.sm_syntax.specs.text.Parts.{Parts, sort_of}
 use Rattle.sm_term.specs.Tables.{TableValue}
 use Rattle.sm_expand.specs.declared.plan.Plan.{Plan}
 use Rattle.sm_product.specs.declared.whole.CertTrees.{CertTrees}

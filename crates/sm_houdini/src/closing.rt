@@ -1,5 +1,5 @@
 // Goals that close.
-ghost use Rattle.std.specs.Prelude.{◌≡◌, ◌+◌, ◌<◌, ◌^◌, ◌&&◌, List, length, IfOk};
+ghost use Rattle.std.specs.Prelude.{◌≡◌, ◌&&◌, List, IfOk};
 ghost use Rattle.sm_syntax.specs.text.Sorts.{Sorts};
 ghost use Rattle.sm_term.specs.Formulas.{numbered, assertion_in};
 ghost use Rattle.sm_term.specs.Tables.{trees_in, sorts_in};
@@ -121,12 +121,11 @@ pub(crate) fn are_several(marks: &[Marked]) -> bool {
     false
 }
 
-// The marks of a site from a place on after what a node asks. Goals share its facts' classes.
+// The marks of a site after what a node asks. Goals share its facts' classes.
 pub(crate) fn judged(
     alloc: Global,
     table: &mut TermTable,
     due: &Due,
-    first: u64,
     marks: &[Marked],
     steps: u64,
 ) -> Result<Vec<Marked>, AllocError>
@@ -134,14 +133,13 @@ pub(crate) fn judged(
         due.now.facts.list.items }
     requires goals { AreFormsReady (sorts_in table.old) (trees_in table.old)
         due.now.targets.list.items }
-    requires places { first + length marks.now < 2 ^ 64 }
     ensures judged { let sorts = sorts_in table.old in let trees = trees_in table.old in
         IfOk result (λ ms. ms.items
-        ≡ still_marked (closes_at sorts steps (due_in sorts trees due.now)) first marks.now) }
+        ≡ still_marked (closes_at sorts steps (due_in sorts trees due.now)) 0 marks.now) }
     ensures widens { Widens table.old table.new }
 {
     let mut node = node_of(alloc, table, &due.facts, are_several(marks), steps)?;
-    judged_at(alloc, table, &mut node, due, first, marks, steps)
+    judged_at(alloc, table, &mut node, due, marks, steps)
 }
 
 // The same by a node of the facts, where there is one.
@@ -150,7 +148,6 @@ fn judged_at(
     table: &mut TermTable,
     node: &mut Option<Node>,
     due: &Due,
-    first: u64,
     marks: &[Marked],
     steps: u64,
 ) -> Result<Vec<Marked>, AllocError>
@@ -158,16 +155,15 @@ fn judged_at(
         due.now.facts.list.items }
     requires goals { AreFormsReady (sorts_in table.old) (trees_in table.old)
         due.now.targets.list.items }
-    requires places { first + length marks.now < 2 ^ 64 }
     requires node { IsNodeOf table.old due.now.facts.list.items node.old }
     ensures judged { let sorts = sorts_in table.old in let trees = trees_in table.old in
         IfOk result (λ ms. ms.items
-        ≡ still_marked (closes_at sorts steps (due_in sorts trees due.now)) first marks.now) }
+        ≡ still_marked (closes_at sorts steps (due_in sorts trees due.now)) 0 marks.now) }
     ensures widens { Widens table.old table.new }
 {
     let mut list = Vec::new(alloc);
     for mark in marks {
-        let at = first + list.as_slice().len() as u64;
+        let at = list.as_slice().len() as u64;
         let holds = stays(alloc, table, node, due, at, mark.holds, steps)?;
         list.push(Marked {
             number: mark.number,

@@ -23,7 +23,7 @@ ghost use Rattle.sm_houdini.specs.Collected.{RunStops, RunCloses};
 ghost use Rattle.sm_houdini.specs.EndJobs.{AreRunEnds, TellsEnd};
 
 use crate::ending::{Stop, end_run};
-use crate::goal_jobs::{Crew, size_of};
+use crate::goal_jobs::Crew;
 use sm_cert::CertTree;
 use sm_expand::Due;
 use sm_par::{Gate, Job, Phase, run_jobs};
@@ -63,6 +63,17 @@ pub(crate) fn end_due<R: Threads + Sync, G: Gate>(
     }
     let runs = run_ends(crew, alloc, table, due, goals, steps)?;
     joined(alloc, table, &runs, trees)
+}
+
+// How many of a node's goals a run has, so that there are no more runs than workers.
+fn size_of(goals: usize, workers: usize) -> usize
+    requires { 0 < workers }
+    ensures { 0 < result }
+{
+    if goals == 0 {
+        return 1;
+    }
+    goals.div_ceil(workers)
 }
 
 // What the runs of a node's goals come to, as jobs of the phase Obligation.
@@ -233,7 +244,7 @@ struct NodeEnds<'a> {
 impl<'a> Model for NodeEnds<'a> {
     ghost use Rattle.std.specs.Prelude.{length};
     ghost use Rattle.sm_houdini.specs.EndJobs.{NodeEndsValue, AreEndsReady};
-    ghost use Rattle.sm_houdini.specs.GoalJobs.{AreRunsWithin};
+    ghost use Rattle.sm_houdini.specs.EndJobs.{AreRunsWithin};
 
     ghost Value = { NodeEndsValue };
 

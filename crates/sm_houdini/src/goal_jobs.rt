@@ -1,17 +1,20 @@
-// Goals that are run as jobs.
-ghost use Rattle.std.specs.Prelude.{◌≡◌, ◌+◌, ◌*◌, ◌<◌, ◌≤◌, length, flat_map, IfOk};
+// A round's goals, run as jobs.
+ghost use Rattle.std.specs.Prelude.{◌≡◌, ◌<◌, ◌≤◌, ◌&&◌, ℕ, Bool, length, slice_index_or, IfOk};
 ghost use Rattle.sm_term.specs.Tables.{trees_in, sorts_in};
 ghost use Rattle.sm_term.specs.TableLaws.{Widens};
-ghost use Rattle.sm_plan.specs.ReadyStates.{AreFormsReady};
-ghost use Rattle.sm_expand.specs.Views.{due_in};
-ghost use Rattle.sm_houdini.specs.Closing.{closes_at};
-ghost use Rattle.sm_houdini.specs.GoalJobs.{TellsRun};
-ghost use Rattle.sm_houdini.specs.Marks.{still_marked};
+ghost use Rattle.sm_expand.specs.Views.{dues_in, AreDuesReady};
+ghost use Rattle.sm_product.specs.ChoiceViews.{choice_in};
+ghost use Rattle.sm_houdini.specs.Closing.{closing, owner_in};
+ghost use Rattle.sm_houdini.specs.GoalJobs.{RoundGoalsValue, TellsShare};
+ghost use Rattle.sm_houdini.specs.Known.{AreKnown};
+ghost use Rattle.sm_houdini.specs.Marks.{all_marked, in_share, rows};
+ghost use Rattle.sm_houdini.specs.Rounds.{holds_at};
 
-use crate::closing::{are_several, judged};
-use crate::marks::Marked;
+use crate::judging::judge_all;
+use crate::marks::{Marks, either, share_marks};
 use sm_expand::Due;
 use sm_par::{Gate, Job, Phase, run_jobs};
+use sm_product::TemplateChoice;
 use sm_term::TermTable;
 use std::alloc::{AllocError, Global};
 use std::marker::Model;
@@ -27,109 +30,141 @@ pub(crate) struct Crew<'c, R: Threads + Sync, G: Gate> {
     pub(crate) ghost most: { workers ≤ 64 },
 }
 
-/// The marks of a site after what a node asks. One worker walks the goals in turn, over the one
-/// table; several have runs of them as jobs, each over a copy of it. A goal alone is no job.
-pub(crate) fn judged_by<R: Threads + Sync, G: Gate>(
+// The most templates that a site of a choice has.
+fn most_at_site(choice: &TemplateChoice) -> usize {
+    let mut most = 0;
+    for numbers in &choice.sites {
+        let count = numbers.as_slice().len();
+        if count > most {
+            most = count;
+        }
+    }
+    most
+}
+
+// How many shares the templates have: no more than workers, nor than there are at one site.
+fn shares_of(workers: u32, most: usize) -> u64
+    requires workers { 0 < workers }
+    requires most { 0 < most }
+    ensures { 0 < result }
+{
+    let workers = workers as u64;
+    let most = most as u64;
+    if most < workers { most } else { workers }
+}
+
+/// Marks at the templates of a choice all of whose goals close. One worker walks all goals in turn,
+/// over the one table; several have a share of each site's templates, as jobs of the phase
+/// Obligation, each over a copy of it.
+pub(crate) fn marks_after<R: Threads + Sync, G: Gate>(
     crew: &Crew<'_, R, G>,
     alloc: Global,
     table: &mut TermTable,
-    due: &Due,
-    marks: &[Marked],
+    dues: &[Due],
+    known: &[bool],
+    owners: &[Option<u64>],
+    choice: &TemplateChoice,
     steps: u64,
-) -> Result<Vec<Marked>, AllocError>
-    requires facts { AreFormsReady (sorts_in table.old) (trees_in table.old)
-        due.now.facts.list.items }
-    requires goals { AreFormsReady (sorts_in table.old) (trees_in table.old)
-        due.now.targets.list.items }
-    ensures judged { let sorts = sorts_in table.old in let trees = trees_in table.old in
-        IfOk result (λ ms. ms.items
-        ≡ still_marked (closes_at sorts steps (due_in sorts trees due.now)) 0 marks.now) }
+) -> Result<Marks, AllocError>
+    requires ready { AreDuesReady (sorts_in table.old) (trees_in table.old) dues.now }
+    requires known { AreKnown table.old steps dues.now known.now }
+    ensures marks { let sorts = sorts_in table.old in let trees = trees_in table.old in
+        IfOk result (λ ms. rows ms.sites.items ≡ all_marked (holds_at (closing sorts steps)
+        (owner_in owners.now) (dues_in sorts trees dues.now)) 0 (choice_in choice.now)) }
     ensures widens { Widens table.old table.new }
 {
-    if crew.workers == 1 || !are_several(marks) {
-        return judged(alloc, table, due, 0, marks, steps);
+    let most = most_at_site(choice);
+    if crew.workers == 1 || most < 2 {
+        let mut marks = share_marks(alloc, choice, 0, 1)?;
+        judge_all(alloc, table, dues, known, owners, &mut marks, steps)?;
+        return Ok(marks);
     }
-    judged_by_jobs(crew, alloc, table, due, marks, steps)
+    let shares = shares_of(crew.workers, most);
+    marks_by_jobs(
+        crew, alloc, table, dues, known, owners, choice, steps, shares,
+    )
 }
 
-// The marks of a site after what a node asks. Runs of the goals are jobs of the phase Obligation.
-fn judged_by_jobs<R: Threads + Sync, G: Gate>(
+// The same by jobs, one for each of so many shares.
+fn marks_by_jobs<R: Threads + Sync, G: Gate>(
     crew: &Crew<'_, R, G>,
     alloc: Global,
     table: &TermTable,
-    due: &Due,
-    marks: &[Marked],
+    dues: &[Due],
+    known: &[bool],
+    owners: &[Option<u64>],
+    choice: &TemplateChoice,
     steps: u64,
-) -> Result<Vec<Marked>, AllocError>
-    requires facts { AreFormsReady (sorts_in table.now) (trees_in table.now)
-        due.now.facts.list.items }
-    requires goals { AreFormsReady (sorts_in table.now) (trees_in table.now)
-        due.now.targets.list.items }
-    ensures judged { let sorts = sorts_in table.now in let trees = trees_in table.now in
-        IfOk result (λ ms. ms.items
-        ≡ still_marked (closes_at sorts steps (due_in sorts trees due.now)) 0 marks.now) }
+    shares: u64,
+) -> Result<Marks, AllocError>
+    requires ready { AreDuesReady (sorts_in table.now) (trees_in table.now) dues.now }
+    requires known { AreKnown table.now steps dues.now known.now }
+    requires some { 0 < shares }
+    ensures { let sorts = sorts_in table.now in let trees = trees_in table.now in
+        IfOk result (λ ms. rows ms.sites.items ≡ all_marked (holds_at (closing sorts steps)
+        (owner_in owners.now) (dues_in sorts trees dues.now)) 0 (choice_in choice.now)) }
 {
-    let size = size_of(marks.len(), crew.workers as usize);
-    let count = marks.len().div_ceil(size);
-    let job = NodeGoals {
+    let job = RoundGoals {
         table,
-        due,
-        marks,
+        dues,
+        known,
+        owners,
+        choice,
         steps,
-        size,
-        count,
+        shares,
     };
-    let runs = run_jobs(
+    let parts = run_jobs(
         crew.rt,
         alloc,
         crew.gate,
         Phase::Obligation,
         &job,
-        count as u64,
+        shares,
         crew.workers,
     )?;
-    joined(alloc, &runs)
+    all_shares(alloc, &parts, choice)
 }
 
-/// How many of a node's goals a run has, so that there are no more runs than workers.
-pub(crate) fn size_of(goals: usize, workers: usize) -> usize
-    requires { 0 < workers }
-    ensures { 0 < result }
+// The marks of all shares.
+fn all_shares(alloc: Global, parts: &[Marks], choice: &TemplateChoice) -> Result<Marks, AllocError>
+    requires some { 0 < length parts.now }
+    ensures { (passes : ℕ → ℕ → Bool) →
+        ((k : ℕ) → (d : Marks) → k < length parts.now →
+        rows (slice_index_or parts.now k d).sites.items
+        ≡ all_marked (λ s i. in_share (length parts.now) k i && passes s i) 0
+        (choice_in choice.now)) →
+        IfOk result (λ ms. rows ms.sites.items ≡ all_marked passes 0 (choice_in choice.now)) }
 {
-    if goals == 0 {
-        return 1;
+    let shares = parts.len() as u64;
+    // None is in the share behind the last.
+    let mut marks = share_marks(alloc, choice, shares, shares)?;
+    for part in parts {
+        marks = either(alloc, &marks, part)?;
     }
-    goals.div_ceil(workers)
+    Ok(marks)
 }
 
-// The marks of all runs, in order.
-fn joined(alloc: Global, runs: &[Vec<Marked>]) -> Result<Vec<Marked>, AllocError>
-    ensures { IfOk result (λ ms. ms.items ≡ flat_map (λ run. run.items) runs.now) }
-{
-    let mut list = Vec::new(alloc);
-    for run in runs {
-        list.extend_from_slice(run)?;
-    }
-    Ok(list)
-}
-
-// What a node asks of the templates of its site, with their marks, in runs of one size; the last
-// may be shorter. A job has one run, and gives its marks that stay.
+// What nodes ask of the templates of a choice, in equal shares of each site's. A job has one share,
+// and gives its marks that stay.
 #[derive(Drop)]
-struct NodeGoals<'a> {
+struct RoundGoals<'a> {
     table: &'a TermTable,
-    due: &'a Due,
-    marks: &'a [Marked],
+    dues: &'a [Due],
+    known: &'a [bool],
+    owners: &'a [Option<u64>],
+    choice: &'a TemplateChoice,
     steps: u64,
-    size: usize,
-    count: usize,
+    shares: u64,
 }
 
-impl<'a> Model for NodeGoals<'a> {
-    ghost use Rattle.std.specs.Prelude.{length};
-    ghost use Rattle.sm_houdini.specs.GoalJobs.{NodeGoalsValue, IsDueReady, AreRunsWithin};
+impl<'a> Model for RoundGoals<'a> {
+    ghost use Rattle.sm_expand.specs.Views.{AreDuesReady};
+    ghost use Rattle.sm_term.specs.Tables.{trees_in, sorts_in};
+    ghost use Rattle.sm_houdini.specs.GoalJobs.{RoundGoalsValue};
+    ghost use Rattle.sm_houdini.specs.Known.{AreKnown};
+    ghost use Rattle.std.specs.Prelude.{◌<◌};
 
-    ghost Value = { NodeGoalsValue };
+    ghost Value = { RoundGoalsValue };
 
     ghost use Rattle.sm_syntax.specs.contracts.tree.Block as block;
     ghost use Rattle.sm_term.specs.contracts.formula.Formula as formula;
@@ -139,41 +174,37 @@ impl<'a> Model for NodeGoals<'a> {
 
     ghost view = { λ g. record {
       table = g.table.now;
-      due = g.due.now;
-      marks = g.marks.now;
+      dues = g.dues.now;
+      known = g.known.now;
+      owners = g.owners.now;
+      choice = g.choice.now;
       steps = g.steps;
-      size = g.size;
-      count = g.count;
+      shares = g.shares;
     } };
 
-    ghost invariant = { λ g. IsDueReady g.table.now g.due.now
-        × AreRunsWithin (length g.marks.now) g.size g.count };
+    ghost invariant = { λ g. AreDuesReady (sorts_in g.table.now) (trees_in g.table.now) g.dues.now
+        × AreKnown g.table.now g.steps g.dues.now g.known.now × (0 < g.shares) };
 }
 
-impl Job for NodeGoals<'_> {
-    type Out = Vec<Marked>;
+impl Job for RoundGoals<'_> {
+    type Out = Marks;
 
-    ghost indices = { λ job. job.count };
+    ghost indices = { λ job. job.shares };
 
-    ghost stands_for = { TellsRun };
+    ghost stands_for = { TellsShare };
 
-    fn run(&self, alloc: Global, index: u64) -> Result<Vec<Marked>, AllocError> {
-        let marks = self.marks;
-        let first = index as usize * self.size;
-        let left = marks.len() - first;
-        let end = if left < self.size {
-            marks.len()
-        } else {
-            first + self.size
-        };
+    fn run(&self, alloc: Global, index: u64) -> Result<Marks, AllocError> {
         let mut table = self.table.copy(alloc)?;
-        judged(
+        let mut marks = share_marks(alloc, self.choice, index, self.shares)?;
+        judge_all(
             alloc,
             &mut table,
-            self.due,
-            first as u64,
-            &marks[first..end],
+            self.dues,
+            self.known,
+            self.owners,
+            &mut marks,
             self.steps,
-        )
+        )?;
+        Ok(marks)
     }
 }

@@ -14,6 +14,7 @@
 //! Read `specs/Rounds.antt` first, then `specs/Outcomes.antt` and `specs/Laws.antt`.
 #![tactic(auto)]
 
+mod asked;
 mod choosing;
 mod closing;
 mod deciding;
@@ -21,9 +22,12 @@ mod dues;
 mod end_jobs;
 mod ending;
 mod goal_jobs;
+mod judging;
+mod known;
 mod laws;
 mod marks;
 mod outcome;
+mod owners;
 mod product;
 mod rounds;
 mod searching;

@@ -1,8 +1,8 @@
 // Marks of templates.
-ghost use Rattle.std.specs.Prelude.{◌≡◌, true, map, ℕ, IfOk};
+ghost use Rattle.std.specs.Prelude.{◌≡◌, ◌<◌, ◌||◌, ℕ, Bool, List, [], map, get_or, slice_get, IfOk};
 ghost use Rattle.sm_product.specs.Choices.{Choice};
 ghost use Rattle.sm_product.specs.ChoiceViews.{choice_in};
-ghost use Rattle.sm_houdini.specs.Marks.{marked, all_marked, numbers_of, rows};
+ghost use Rattle.sm_houdini.specs.Marks.{marked, all_marked, in_share, is_there, numbers_of, rows};
 
 use sm_product::TemplateChoice;
 use std::alloc::{AllocError, Global};
@@ -20,28 +20,92 @@ pub(crate) struct Marks {
     pub(crate) sites: Vec<Vec<Marked>>,
 }
 
-// Marks at all of a site's numbers.
-fn marks_at(alloc: Global, numbers: &[u64]) -> Result<Vec<Marked>, AllocError>
-    ensures { IfOk result (λ ms. ms.items ≡ marked (λ i. true) 0 numbers.now) }
+/// Whether the mark at a place is there, where there is one.
+pub(crate) fn is_marked(marks: &[Marked], at: usize) -> bool
+    ensures { result ≡ is_there (slice_get marks.now at) }
+{
+    match marks.get(at) {
+        Some(mark) => mark.holds,
+        None => false,
+    }
+}
+
+// Marks at those of a site's numbers whose places are in a share.
+fn marks_at(
+    alloc: Global,
+    numbers: &[u64],
+    share: u64,
+    shares: u64,
+) -> Result<Vec<Marked>, AllocError>
+    requires some { 0 < shares }
+    ensures { IfOk result (λ ms. ms.items ≡ marked (in_share shares share) 0 numbers.now) }
 {
     let mut list = Vec::new(alloc);
-    for number in numbers {
+    for at in 0..numbers.len() {
+        let holds = at as u64 % shares == share;
         list.push(Marked {
-            number: *number,
-            holds: true,
+            number: numbers[at],
+            holds,
         })?;
     }
     Ok(list)
 }
 
-// Marks at all templates of a choice.
-pub(crate) fn all_marks(alloc: Global, choice: &TemplateChoice) -> Result<Marks, AllocError>
-    ensures { IfOk result (λ ms.
-        rows ms.sites.items ≡ all_marked (λ s i. true) 0 (choice_in choice.now)) }
+/// Marks at the templates of a choice that are in a share, one of so many. Behind the last there is
+/// a share without templates.
+pub(crate) fn share_marks(
+    alloc: Global,
+    choice: &TemplateChoice,
+    share: u64,
+    shares: u64,
+) -> Result<Marks, AllocError>
+    requires some { 0 < shares }
+    ensures { IfOk result (λ ms. rows ms.sites.items
+        ≡ all_marked (λ s. in_share shares share) 0 (choice_in choice.now)) }
 {
     let mut sites = Vec::new(alloc);
     for numbers in &choice.sites {
-        sites.push(marks_at(alloc, numbers)?)?;
+        sites.push(marks_at(alloc, numbers, share, shares)?)?;
+    }
+    Ok(Marks { sites })
+}
+
+// The marks of a site that one of two lists has.
+fn either_at(alloc: Global, marks: &[Marked], others: &[Marked]) -> Result<Vec<Marked>, AllocError>
+    ensures { (p q : ℕ → Bool) (ns : List ℕ) → marks.now ≡ marked p 0 ns →
+        others.now ≡ marked q 0 ns → IfOk result (λ ms. ms.items ≡ marked (λ i. p i || q i) 0 ns) }
+{
+    let mut list = Vec::new(alloc);
+    for at in 0..marks.len() {
+        let number = marks[at].number;
+        let holds = marks[at].holds || is_marked(others, at);
+        list.push(Marked { number, holds })?;
+    }
+    Ok(list)
+}
+
+// The marks of a site, none where there is no such site.
+fn site_marks(marks: &Marks, site: usize) -> &[Marked]
+    ensures { result.now ≡ get_or (rows marks.now.sites.items) site [] }
+{
+    match marks.sites.get(site) {
+        Some(list) => list.as_slice(),
+        None => &[],
+    }
+}
+
+/// The marks that one of two has.
+pub(crate) fn either(alloc: Global, marks: &Marks, others: &Marks) -> Result<Marks, AllocError>
+    ensures { (p q : ℕ → ℕ → Bool) (c : Choice) →
+        rows marks.now.sites.items ≡ all_marked p 0 c →
+        rows others.now.sites.items ≡ all_marked q 0 c →
+        IfOk result (λ ms. rows ms.sites.items ≡ all_marked (λ s i. p s i || q s i) 0 c) }
+{
+    let mut sites = Vec::new(alloc);
+    for site in 0..marks.sites.len() {
+        let mine = site_marks(marks, site);
+        let theirs = site_marks(others, site);
+        sites.push(either_at(alloc, mine, theirs)?)?;
     }
     Ok(Marks { sites })
 }

@@ -1,4 +1,4 @@
-use Rattle.std.proofs.Common.{ℕ, ◌+◌, length, ap, ◌∙◌}
+use Rattle.std.proofs.Common.{◌+◌, length, zero-add, sym, ap, ◌∙◌}
 use Rattle.std.proofs.lemmas.List.{length-append}
 use Rattle.sm_plan.proofs.TablesWiden.{widens_twice, forms_ready}
 use Rattle.sm_houdini.proofs.ClosingLemmas.{judged_step}
@@ -23,8 +23,8 @@ loop-mark-preserved c =
       count = ap length c.in_ok-push.ensures.items ∙ length-append c.loop-mark.list.items _ ∙ ap (λ n. n + 1) inv.count;
       marks =
           judged_step c.args.table.now c.loop-mark.table inv.widens c.args.steps c.args.due.now c.requires.facts c.requires.goals
-          c.args.first c.push.new.self.items c.loop-mark.list.items c.args.marks.now c.loop-mark.mark-index _ _ c.in_ok-holds.holds
-          c.in_ok-push.ensures.items c.in_ok-holds.ensures.stays (ap (λ (n : ℕ). c.args.first + n) (ap length c.as_slice.ensures.value ∙ inv.count))
+          0 c.push.new.self.items c.loop-mark.list.items c.args.marks.now c.loop-mark.mark-index _ _ c.in_ok-holds.holds
+          c.in_ok-push.ensures.items c.in_ok-holds.ensures.stays (ap length c.as_slice.ensures.value ∙ inv.count ∙ sym (zero-add c.loop-mark.mark-index))
           c.loop-mark-test.true inv.marks;
       widens = widens_twice c.args.table.now c.loop-mark.table c.stays.new.table inv.widens c.in_ok-holds.ensures.widens;
       node = c.in_ok-holds.ensures.node;

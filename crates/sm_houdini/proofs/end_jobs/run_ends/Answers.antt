@@ -4,10 +4,10 @@ use Rattle.std.proofs.Common.{length, sym, subst}
 use Rattle.std.proofs.Crossing.{crosses}
 use Rattle.sm_term.proofs.formula.Formula.TheLaws.TheKnot as formula
 use Rattle.sm_houdini.specs.EndJobs.{NodeEndsValue}
-use Rattle.sm_houdini.specs.GoalJobs.{AreRunsWithin}
+use Rattle.sm_houdini.specs.EndJobs.{AreRunsWithin}
 use Rattle.sm_houdini.proofs.ClosingLemmas.{ok_map}
 use Rattle.sm_houdini.proofs.EndJobsLemmas.{runs_told}
-use Rattle.sm_houdini.proofs.GoalJobsLemmas.{runs_are}
+use Rattle.sm_houdini.proofs.RunLemmas.{runs_are}
 use Rattle.sm_houdini.proofs.SharedLemmas.{table_sync, due_sync}
 use Rattle.sm_houdini.proofs.end_jobs.run_ends.Goals as goal
 

@@ -1,7 +1,7 @@
 -- Each number so far has its mark.
-use Rattle.std.proofs.Common.{◌≡◌, ℕ, true, take}
-use Rattle.sm_houdini.specs.Marks.{marked}
+use Rattle.std.proofs.Common.{◌≡◌, take}
+use Rattle.sm_houdini.specs.Marks.{marked, in_share}
 use Rattle.sm_houdini.proofs.marks.marks_at.Given as goal
 
-abbrev pub invariant-loop-number : goal.invariant-loop-number
-invariant-loop-number l = l.list.items ≡ marked (λ (i : ℕ). true) 0 (take l.number-index l.numbers)
+abbrev pub invariant-loop-at : goal.invariant-loop-at
+invariant-loop-at l = l.list.items ≡ marked (in_share l.shares l.share) 0 (take l.at l.numbers)

@@ -30,5 +30,6 @@ loop-preserved g c =
           c.in_ok-total-2.field-0 (choice_in c.loop.choice) (choice_in c.in_ok-next.next) c.loop-test.true c.in_ok-next.ensures.next
           c.in_ok-total.ensures c.in_ok-total-2.ensures c.if-branch.false)
           ∙ c.loop.invariant.settles;
+      before = c.in_ok-next.ensures.before;
       widens = widens_twice c.args.table.now c.loop.table c.next_round.new.table c.loop.invariant.widens c.in_ok-next.ensures.widens;
     }

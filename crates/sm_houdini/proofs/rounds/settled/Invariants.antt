@@ -6,6 +6,7 @@ use Rattle.sm_term.specs.TableLaws.{Widens}
 use Rattle.sm_text.specs.Tasks.{parts_of}
 use Rattle.sm_product.specs.ChoiceViews.{choice_in}
 use Rattle.sm_houdini.specs.Closing.{closing}
+use Rattle.sm_houdini.specs.Known.{IsAskedBefore}
 use Rattle.sm_houdini.specs.Rounds.{next_round, settled, total}
 use Rattle.sm_houdini.proofs.rounds.settled.Given as goal
 
@@ -16,5 +17,6 @@ invariant-loop g l = record {
       (choice_in l.choice)
       ≡ settled (next_round (closing (sort_of (declared_of l.task.shared.decls)) l.steps) (parts_of l.task))
       (total (choice_in l.initial.choice)) (choice_in l.initial.choice);
+  before : IsAskedBefore l.table l.steps l.product.owners.items l.before;
   widens : Widens l.initial.table l.table;
 }

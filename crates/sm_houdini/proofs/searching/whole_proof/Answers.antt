@@ -1,5 +1,5 @@
-use Rattle.std.proofs.Common.{◌≡◌, map, sym, ap, ◌∙◌, subst, length}
-use Rattle.sm_syntax.specs.text.Parts.{sort_of, task_of}
+use Rattle.std.proofs.Common.{map, ◌∙◌, subst, length}
+use Rattle.sm_syntax.specs.text.Parts.{task_of}
 use Rattle.sm_syntax.specs.text.Sorts.{Sorts}
 use Rattle.sm_term.specs.Tables.{trees_in, sorts_in}
 use Rattle.sm_text.specs.Tasks.{parts_of}

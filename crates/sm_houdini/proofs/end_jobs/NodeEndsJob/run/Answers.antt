@@ -4,7 +4,7 @@ use Rattle.sm_houdini.specs.Collected.{AreCollected}
 use Rattle.sm_houdini.specs.EndJobs.{NodeEndsValue}
 use Rattle.sm_houdini.proofs.EndedLemmas.{none_collected}
 use Rattle.sm_houdini.proofs.EndJobsLemmas.{run_told, part_ready, first_within}
-use Rattle.sm_houdini.proofs.GoalJobsLemmas.{run_within, run_is}
+use Rattle.sm_houdini.proofs.RunLemmas.{run_within, run_is}
 use Rattle.sm_houdini.proofs.end_jobs.NodeEndsJob.run.Goals as goal
 use Rattle.sm_houdini.proofs.end_jobs.NodeEndsJob.run.Goals.{then-left-self, else-left-self}
 

@@ -2,10 +2,11 @@ use Rattle.std.proofs.Common.{◌≡◌, ◌<◌, ◌≤◌, length, sym, ap, �
 use Rattle.sm_term.specs.Tables.{trees_in, sorts_in}
 use Rattle.sm_expand.specs.Views.{due_in}
 use Rattle.sm_houdini.proofs.ClosingLemmas.{past_judged, there_judged}
-use Rattle.sm_houdini.proofs.rounds.judge.Goals as goal
+use Rattle.sm_houdini.proofs.KnownLemmas.{known_judged}
+use Rattle.sm_houdini.proofs.judging.judge.Goals as goal
 
 pub returns-then-site-as_slice-clause-judged : goal.returns-then-site-as_slice-clause-judged
-returns-then-site-as_slice-clause-judged g c = λ passes choice e.
+returns-then-site-as_slice-clause-judged c = λ passes choice e.
     let sorts = sorts_in c.args.table.now in
     let d = due_in sorts (trees_in c.args.table.now) c.args.due.now in
     let vs = c.args.marks.now.sites.items in
@@ -14,7 +15,7 @@ returns-then-site-as_slice-clause-judged g c = λ passes choice e.
     past_judged sorts c.args.steps passes c.args.owners.now d c.in-Some.site choice vs (sym c.owner.ensures ∙ c.in-Some.is) past e
 
 pub returns-clause-judged : goal.returns-clause-judged
-returns-clause-judged g c = λ passes choice e.
+returns-clause-judged c = λ passes choice e.
     let sorts = sorts_in c.args.table.now in
     let d = due_in sorts (trees_in c.args.table.now) c.args.due.now in
     let vs = c.args.marks.now.sites.items in
@@ -22,3 +23,9 @@ returns-clause-judged g c = λ passes choice e.
     let inside : c.in-Some.site < length vs = omega (arith, count, c.if-site-as_slice.false) in
     there_judged sorts c.args.steps passes c.args.owners.now d c.in-Some.site choice vs c.index.result.now c.in_ok-list.list c.deref.result.now
     (sym c.owner.ensures ∙ c.in-Some.is) inside c.index.ensures c.deref.ensures.value c.in_ok-list.ensures.judged e
+
+pub returns-then-is_known-clause-judged : goal.returns-then-is_known-clause-judged
+returns-then-is_known-clause-judged c = λ passes choice e.
+    let sorts = sorts_in c.args.table.now in
+    known_judged sorts c.args.steps passes c.args.owners.now (due_in sorts (trees_in c.args.table.now) c.args.due.now) choice _
+    (c.requires.known c.if-is_known.true) e

@@ -1,0 +1,97 @@
+use Rattle.std.proofs.Common.{◌≡◌, ℕ, ◌<◌, ◌+◌, ◌-◌, ◌&&◌, List, length, drop, sym, ap, ◌∙◌, subst, arith}
+use Rattle.std.proofs.lemmas.List.{length-map, drop_all}
+use Rattle.sm_plan.proofs.TablesWiden.{widens_twice, widens_same, forms_ready}
+use Rattle.sm_term.specs.Tables.{trees_in, sorts_in}
+use Rattle.sm_plan.specs.Plans.{Due}
+use Rattle.sm_expand.specs.Views.{due_in, dues_in}
+use Rattle.sm_houdini.specs.Closing.{closing, closes_at, owner_in}
+use Rattle.sm_houdini.specs.Marks.{all_marked, rows}
+use Rattle.sm_houdini.specs.Rounds.{holds_at}
+use Rattle.sm_houdini.proofs.ClosingLemmas.{closes_stays}
+use Rattle.sm_houdini.proofs.RoundSteps.{facts_at, none_asked, round_step}
+use Rattle.sm_houdini.proofs.judging.judge_all.Goals as goal
+
+pub loop-left-init : goal.loop-left-init
+loop-left-init c =
+    let v = c.args.table.now in
+    let ds = dues_in (sorts_in v) (trees_in v) c.args.dues.now in
+    let none = drop_all (length c.args.dues.now) ds (omega (arith, length-map c.args.dues.now (due_in (sorts_in v) (trees_in v)))) in
+    record {
+      marks = λ passes choice e.
+          e ∙ none_asked (closing (sorts_in v) c.args.steps) (owner_in c.args.owners.now) passes choice
+          ∙ ap (λ (xs : List Due). all_marked (λ (s i : ℕ). passes s i
+          && holds_at (closing (sorts_in v) c.args.steps) (owner_in c.args.owners.now) xs s i) 0 choice) (sym none);
+      fits = omega arith;
+      widens = widens_same v;
+    }
+
+pub judge-requires-clause-facts : goal.judge-requires-clause-facts
+judge-requires-clause-facts c =
+    let v = c.args.table.now in
+    let some = c.loop-left-test.true in
+    let fits = c.loop-left.invariant.fits in
+    forms_ready v c.loop-left.table c.loop-left.invariant.widens c.index-dues-left.result.facts.list.items
+    (facts_at (sorts_in v) (trees_in v) c.args.dues.now (c.loop-left.left - 1) c.index-dues-left.result c.requires.ready
+    (omega (arith, some, fits)) c.index-dues-left.is).0
+
+pub judge-requires-clause-goals : goal.judge-requires-clause-goals
+judge-requires-clause-goals c =
+    let v = c.args.table.now in
+    let some = c.loop-left-test.true in
+    let fits = c.loop-left.invariant.fits in
+    forms_ready v c.loop-left.table c.loop-left.invariant.widens c.index-dues-left.result.targets.list.items
+    (facts_at (sorts_in v) (trees_in v) c.args.dues.now (c.loop-left.left - 1) c.index-dues-left.result c.requires.ready
+    (omega (arith, some, fits)) c.index-dues-left.is).1
+
+pub judge-requires-clause-known : goal.judge-requires-clause-known
+judge-requires-clause-known c =
+    let v = c.args.table.now in
+    let w = c.loop-left.table in
+    let at = c.loop-left.left - 1 in
+    let d = c.index-dues-left.result in
+    let some = c.loop-left-test.true in
+    let fits = c.loop-left.invariant.fits in
+    let inside : at < length c.args.dues.now = omega (arith, some, fits) in
+    let parts = facts_at (sorts_in v) (trees_in v) c.args.dues.now at d c.requires.ready inside c.index-dues-left.is in
+    λ is_known i.
+    closes_stays v w c.loop-left.invariant.widens c.args.steps d i parts.0 parts.1
+    ∙ ap (λ x. closes_at (sorts_in v) c.args.steps (due_in (sorts_in v) (trees_in v) x) i) c.index-dues-left.is
+    ∙ c.requires.known at i d inside (sym c.is_flagged-is_known.ensures ∙ is_known)
+
+pub returns-in_err-judge-clause-widens : goal.returns-in_err-judge-clause-widens
+returns-in_err-judge-clause-widens c =
+    widens_twice c.args.table.now c.loop-left.table c.judge.new.table c.loop-left.invariant.widens c.in_err-judge.ensures.widens
+
+pub loop-left-preserved : goal.loop-left-preserved
+loop-left-preserved c =
+    let v = c.args.table.now in
+    let at = c.loop-left.left - 1 in
+    let some = c.loop-left-test.true in
+    let fits = c.loop-left.invariant.fits in
+    let here : c.loop-left.left ≡ at + 1 = omega (arith, some) in
+    let ds = dues_in (sorts_in v) (trees_in v) c.args.dues.now in
+    let closes = closing (sorts_in v) c.args.steps in
+    let owner = owner_in c.args.owners.now in
+    record {
+      marks = λ passes choice e.
+          let left = λ (k : ℕ) (s i : ℕ). passes s i && holds_at closes owner (drop k ds) s i in
+          let marks = subst (λ (k : ℕ). rows c.loop-left.marks.sites.items ≡ all_marked (left k) 0 choice) here
+          (c.loop-left.invariant.marks passes choice e) in
+          round_step v c.loop-left.table c.loop-left.invariant.widens c.args.steps owner c.args.dues.now at c.index-dues-left.result
+          passes choice (rows c.judge.new.marks.sites.items) c.requires.ready (omega (arith, some, fits)) c.index-dues-left.is
+          (c.in_ok-judge.ensures.judged (left (at + 1)) choice marks);
+      fits = omega (arith, fits);
+      widens = widens_twice v c.loop-left.table c.judge.new.table c.loop-left.invariant.widens c.in_ok-judge.ensures.widens;
+    }
+
+pub returns-clause-judged : goal.returns-clause-judged
+returns-clause-judged c = λ passes choice e.
+    let v = c.args.table.now in
+    let ds = dues_in (sorts_in v) (trees_in v) c.args.dues.now in
+    let none : c.loop-left.left ≡ 0 = omega (arith, c.loop-left-test.false) in
+    subst
+    (λ (k : ℕ).
+    rows c.loop-left.marks.sites.items
+    ≡ all_marked (λ (s i : ℕ). passes s i
+    && holds_at (closing (sorts_in v) c.args.steps) (owner_in c.args.owners.now) (drop k ds) s i) 0 choice)
+    none (c.loop-left.invariant.marks passes choice e)

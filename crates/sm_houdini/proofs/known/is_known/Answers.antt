@@ -1,0 +1,33 @@
+use Rattle.std.proofs.Common.{◌≡◌, ℕ, Option, Some, None, List, slice_get, sym, ap, ◌∙◌}
+use Rattle.std.proofs.lemmas.Option.{slice_get-get_or}
+use Rattle.std.specs.Prelude.{Vec, unwrap_or}
+use Rattle.std.specs.declared.alloc.Global.{Global}
+use Rattle.sm_term.specs.Tables.{trees_in, sorts_in}
+use Rattle.sm_expand.specs.declared.due.Due.{Due}
+use Rattle.sm_expand.specs.Views.{due_in}
+use Rattle.sm_houdini.specs.declared.marks.Marked.{Marked}
+use Rattle.sm_houdini.specs.Closing.{owner_in}
+use Rattle.sm_houdini.specs.Marks.{is_there}
+use Rattle.sm_houdini.proofs.KnownLemmas.{asked_closes}
+use Rattle.sm_houdini.proofs.known.is_known.Goals as goal
+
+pub returns-in-Some-get : goal.returns-in-Some-get
+returns-in-Some-get c = λ v steps asked is i.
+    let old = c.in-Some.old.now in
+    let m = c.in-Some-get.marks.now in
+    let there : slice_get c.args.before.now.dues.items c.args.at ≡ Some old =
+    ap (λ (ds : List Due). slice_get ds c.args.at) (sym c.deref.ensures.value)
+    ∙ slice_get-get_or c.deref.result.now c.args.at old c.in-Some.ensures.lookup.3.0
+    ∙ ap (λ (d : Due). Some d) (sym (c.in-Some.ensures.lookup.3.1 old)) in
+    let row : slice_get c.args.before.now.marks.sites.items c.in-Some-owner.site ≡ Some m =
+    ap (λ (vs : List (Vec Marked Global)). slice_get vs c.in-Some-owner.site) (sym c.deref-2.ensures.value)
+    ∙ slice_get-get_or c.deref-2.result.now c.in-Some-owner.site m c.in-Some-get.ensures.lookup.3.0
+    ∙ ap (λ (w : Vec Marked Global). Some w) (sym (c.in-Some-get.ensures.lookup.3.1 m)) in
+    let owned : owner_in c.args.owners.now (due_in (sorts_in v) (trees_in v) old) ≡ Some c.in-Some-owner.site =
+    ap (λ (n : ℕ). let none : Option ℕ = None in unwrap_or (slice_get c.args.owners.now n) none) c.if-old-due.false
+    ∙ sym c.owner.ensures ∙ c.in-Some-owner.is in
+    c.is_asked_again.ensures v steps
+    (λ j marked.
+    asked_closes v steps c.args.owners.now c.args.before.now c.args.at old c.in-Some-owner.site m asked there owned row j
+    (ap (λ (ms : List Marked). is_there (slice_get ms j)) (sym c.deref-in-Some-get.ensures.value) ∙ marked))
+    is i
