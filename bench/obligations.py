@@ -8,8 +8,11 @@ obligations.py KIND FACTS DIRECTORY
 `grid`: each place of a square is the one above it and a step down, and the one on its left and a step to the right.
 `splits`: of as many pairs the first part can't be, and the last pair has no second part that can; so the branches of the
 pairs are split one below another.
+`merges`: no facts, but as many goals of merges without loops, each over terms of its own: six linear assignments, of
+which A edits one and B another, and what the condition asks of a name at the end.
 The directory gets `lines` and `obligation.smt2`.
 """
+import random
 import sys
 
 
@@ -115,10 +118,69 @@ def splits(facts):
     return o
 
 
+class Merge(Obligation):
+    """The goals of a merge of linear assignments, which hold. The candidate writes its sums the other way round. Terms
+    that are the same are put once."""
+
+    NAMES, STATEMENTS = 4, 6
+
+    def __init__(self, draw):
+        self.known = {}
+        super().__init__(0, self.NAMES)
+        statements = [self.statement(draw) for _ in range(self.STATEMENTS)]
+        at_a, at_b = draw.sample(range(self.STATEMENTS), 2)
+        edit_a, edit_b = {at_a: self.statement(draw)}, {at_b: self.statement(draw)}
+        ends = [self.end(statements, edits) for edits in ({}, edit_a, edit_b)]
+        ends.append(self.end(statements, {**edit_a, **edit_b}, is_turned=True))
+        self.goals = [goal for base, a, b, both in zip(*ends)
+                      for goal in (((base, a), (both, a)), ((base, b), (both, b)), ((both, a), (both, b)))
+                      if any(one[1] == other[1] for one, other in goal)]
+
+    def put(self, line, word):
+        if line not in self.known:
+            self.known[line] = super().put(line, word)
+        return self.known[line]
+
+    def statement(self, draw):
+        target, one, other = (draw.randrange(self.NAMES) for _ in range(3))
+        return target, one, other, draw.randint(1, 9), draw.randint(0, 9)
+
+    def end(self, statements, edits, is_turned=False):
+        """What each name has at the end: its term, and its linear form."""
+        store = [(name, tuple(int(k == name) for k in range(self.NAMES)) + (0,)) for name in range(self.NAMES)]
+        for at, statement in enumerate(statements):
+            target, one, other, times, more = edits.get(at, statement)
+            (first, form), (second, rest) = store[one], store[other]
+            parts = [self.times(self.number(times), first), second, self.number(more)]
+            if is_turned:
+                parts.reverse()
+            form = tuple(times * x + y for x, y in zip(form, rest))
+            store[target] = self.add(self.add(parts[0], parts[1]), parts[2]), form[:-1] + (form[-1] + more,)
+        return store
+
+
+def merges(count):
+    draw = random.Random(count)
+    lines, smt = [], ["(set-logic ALL)"]
+    while count > 0:
+        merge = Merge(draw)
+        for goal in merge.goals[:count]:
+            parts = [("eq", one[0], other[0]) for one, other in goal]
+            lines += merge.lines + ["solve 100000000 or %s %d %d %s %d %d" % (parts[0] + parts[1])]
+            smt += ["(push)"] + merge.smt[1:]
+            smt += ["(assert (not (or %s %s)))" % tuple(merge.smt_of(*part) for part in parts), "(check-sat)", "(pop)"]
+        count -= len(merge.goals[:count])
+    return lines, smt
+
+
 def main():
     kind, facts, place = sys.argv[1], int(sys.argv[2]), sys.argv[3]
-    o = {"arrays": arrays, "differences": differences, "grid": grid, "splits": splits}[kind](facts)
-    for name, lines in (("lines", o.lines), ("obligation.smt2", o.smt)):
+    if kind == "merges":
+        own, smt = merges(facts)
+    else:
+        o = {"arrays": arrays, "differences": differences, "grid": grid, "splits": splits}[kind](facts)
+        own, smt = o.lines, o.smt
+    for name, lines in (("lines", own), ("obligation.smt2", smt)):
         with open("%s/%s" % (place, name), "w", encoding="utf-8") as file:
             file.write("\n".join(lines) + "\n")
 

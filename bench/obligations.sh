@@ -37,4 +37,28 @@ done
 for size in 100 1000 1001; do
   row splits "$size"
 done
+
+# Goals of merges without loops: milliseconds of a process with one, and of each of 100 in a process, its start left out.
+milliseconds() {
+  first=$(date +%s%N)
+  for _ in 1 2 3 4 5 6 7 8 9 10; do "$@" < "$place/lines" > "$place/printed" 2>&1; done
+  last=$(date +%s%N)
+  echo $(((last - first) / 10000))
+}
+printf '%-12s %7s %9s %9s %9s\n' "" goals ms z3 cvc5
+for goals in 0 1 100; do
+  python3 "$here/obligations.py" merges "$goals" "$place"
+  set -- "$goals" "$(milliseconds "$program")"
+  [ "$(grep -c '^closed' "$place/printed")" = "$goals" ] || { cat "$place/printed"; exit 1; }
+  for other in z3 cvc5; do
+    command -v "$other" > /dev/null || { set -- "$@" 0; continue; }
+    set -- "$@" "$(milliseconds "$other" $([ "$other" = cvc5 ] && echo --incremental) "$place/obligation.smt2")"
+    [ "$(grep -c -x unsat "$place/printed")" = "$goals" ] || { cat "$place/printed"; exit 1; }
+  done
+  echo "$@"
+done | awk '{
+  if ($1 == 0) { own = $2; z3 = $3; cvc5 = $4; next }
+  if ($1 > 1) { $2 -= own; $3 -= z3; $4 -= cvc5 }
+  printf "%-12s %7d %9.3f %9.3f %9.3f\n", "merges", $1, $2 / 1000 / $1, $3 / 1000 / $1, $4 / 1000 / $1
+}'
 python3 "$here/random_obligations.py" "$program" 20000
