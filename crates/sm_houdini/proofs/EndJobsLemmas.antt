@@ -1,10 +1,12 @@
 -- What runs of a node's goals come to, one after another, over the one table.
-use Rattle.std.proofs.Common.{◌≡◌, ℕ, zero, suc, ◌+◌, ◌*◌, ◌<◌, ◌≤◌, pos, true, false, List, [], ◌∷◌, ◌++◌, length, map, take, drop, get_or}
-use Rattle.std.proofs.Common.{refl, sym, ap, ◌∙◌, subst, zero-add, zero-mul, suc-mul, mul-le-mul_right, arith}
+use Rattle.std.proofs.Common.{◌≡◌, ℕ, zero, suc, ◌+◌, ◌-◌, ◌*◌, ◌%◌, ◌<◌, ◌≤◌, pos, true, false, List, [], ◌∷◌, ◌++◌, length, map, take, drop, get_or}
+use Rattle.std.proofs.Common.{refl, sym, ap, ◌∙◌, subst, zero-add, zero-mul, suc-mul, mul_comm, mul-le-mul_right, arith}
 use Rattle.std.proofs.Math.Seq.{take-add}
 use Rattle.std.proofs.lemmas.List.{map-append, append_assoc, append-nil, drop-drop, drop-map}
 use Rattle.std.proofs.lemmas.List.{take-map, take_all, drop_all, take-append-drop, take-append-le}
-use Rattle.std.proofs.lemmas.List.{drop_more, length-append, take_at}
+use Rattle.std.proofs.lemmas.List.{drop_more, length-append, length-drop, length-take-le, get_or-take, get_or-drop, take_at}
+use Rattle.std.proofs.lemmas.Grind.{div_ceil_times}
+use Rattle.std.proofs.lemmas.Nat.{div-mul-add, mod-mul-add}
 use Rattle.std.proofs.lemmas.Option.{slice_get_within, get_or_from_slice_get}
 use Rattle.std.specs.List.{range_with_len}
 use Rattle.std.specs.Prelude.{Option, Some, None, is_some, MatchOption, Vec, Result, IfOk, slice_get}
@@ -34,8 +36,7 @@ use Rattle.sm_write.specs.TreesWithin.{AreTreesWithin}
 use Rattle.sm_write.specs.Writable.{AreShort}
 use Rattle.sm_houdini.specs.Certified.{AreCertified}
 use Rattle.sm_houdini.specs.Collected.{AreCollected, goals_with, stop_in, RunStops, RunCloses, GoalsStop, GoalsClose}
-use Rattle.sm_houdini.specs.EndJobs.{NodeEndsValue, IsRunEnd, AreRunEnds, TellsEnd, goals_from}
-use Rattle.sm_houdini.specs.EndJobs.{AreRunsWithin}
+use Rattle.sm_houdini.specs.EndJobs.{PlanEndsValue, IsRunEnd, AreRunEnds, ArePlanEnds, IsPartEnd, TellsEnd, goals_from, size_of}
 use Rattle.sm_houdini.specs.Outcomes.{Outcome, goal_outcome, goals_outcome}
 use Rattle.sm_houdini.specs.declared.ending.Stop.{Stop}
 use Rattle.sm_houdini.specs.declared.end_jobs.RunEnd.{RunEnd}
@@ -323,13 +324,23 @@ first_within v w wider from is =
     ∙ length-append (trees_in v) wider.trees.0 in
     omega (arith, long, is)
 
-pub rows_sound : (v w : TableValue) → Widens v w → (from : ℕ) → from ≡ length (trees_in v) → (runs : List RunEnd) (i : ℕ) (run : RunEnd) →
-    run ≡ get_or runs i run → AreRowsSound (sorts_in v) (trees_in v) (get_or runs i run).rows →
+-- the first terms of a table stay, as many as there are
+pub front_stays : (v w : TableValue) → Widens v w → (from : ℕ) → from ≤ length (trees_in v) → take from (trees_in w) ≡ take from (trees_in v)
+front_stays v w wider from within = ap (take from) wider.trees.1 ∙ take-append-le from (trees_in v) wider.trees.0 within
+
+pub front_within : (v w : TableValue) → Widens v w → (from : ℕ) → from ≤ length (trees_in v) → from ≤ length (trees_in w)
+front_within v w wider from within =
+    let long : length (trees_in w) ≡ length (trees_in v) + length wider.trees.0 = ap length wider.trees.1
+    ∙ length-append (trees_in v) wider.trees.0 in
+    omega (arith, long, within)
+
+pub rows_sound : (v w : TableValue) → Widens v w → (from : ℕ) → from ≤ length (trees_in v) → (runs : List RunEnd) (i : ℕ) (run : RunEnd) →
+    run ≡ get_or runs i run → AreRowsSound (sorts_in v) (take from (trees_in v)) (get_or runs i run).rows →
     AreRowsSound (sorts_in w) (take from (trees_in w)) run.rows
-rows_sound v w wider from is runs i run same sound =
+rows_sound v w wider from within runs i run same sound =
     subst (λ (s : Sorts). AreRowsSound s (take from (trees_in w)) run.rows) (sym wider.sorts)
-    (subst (λ (l : List Tree). AreRowsSound (sorts_in v) l run.rows) (sym (first_stays v w wider from is))
-    (subst (λ (r : RunEnd). AreRowsSound (sorts_in v) (trees_in v) r.rows) (sym same) sound))
+    (subst (λ (l : List Tree). AreRowsSound (sorts_in v) l run.rows) (sym (front_stays v w wider from within))
+    (subst (λ (r : RunEnd). AreRowsSound (sorts_in v) (take from (trees_in v)) r.rows) (sym same) sound))
 
 -- one run more, whose goals all close
 pub runs_more : (v u w : TableValue) → Widens v u → (from : ℕ) → from ≡ length (trees_in v) →
@@ -411,16 +422,49 @@ runs_done v w steps d asks runs ends i over goals new collected closes =
     )
 
 -- what the jobs tell, each of its run
-pub runs_told : (v : NodeEndsValue) → AreRunsWithin (length v.goals) v.size v.count → (runs : List RunEnd) →
-    StandInOrder (TellsEnd v) 0 v.count runs → AreRunEnds v.table v.steps v.due v.goals runs
-runs_told v within runs tell =
-    let count = tell.all in
+pub plan_told : (v : PlanEndsValue) → 0 < v.each → v.count ≡ length v.dues * v.each → (runs : List RunEnd) →
+    StandInOrder (TellsEnd v) 0 v.count runs → ArePlanEnds v.table v.steps v.dues v.each runs
+plan_told v some all runs tell = record {
+  count = tell.all ∙ all;
+  at = λ (i k : ℕ) (due : program.Due) (e : RunEnd) (h : i < length v.dues) (l : k < v.each).
+      let place = i * v.each + k in
+      let least : suc i ≤ length v.dues = omega (arith, h) in
+      let more : suc i * v.each ≤ length v.dues * v.each = mul-le-mul_right v.each least in
+      let one = suc-mul i v.each in
+      let inside : place < v.count = omega (arith, all, more, one, l) in
+      let told = subst (λ (n : ℕ). TellsEnd v n (get_or runs place e)) (zero-add place) (tell.each place e inside) in
+      subst (λ (n : ℕ). IsPartEnd v.table v.steps (get_or v.dues i due) v.each n (get_or runs place e)) (mod-mul-add i v.each k l)
+      (subst (λ (n : ℕ). IsPartEnd v.table v.steps (get_or v.dues n due) v.each (place % v.each) (get_or runs place e))
+      (div-mul-add i v.each k l) (told due));
+}
+
+-- the runs of one node
+pub node_ends : (v : TableValue) (steps : ℕ) (dues : List program.Due) (each : ℕ) (runs : List RunEnd) → 0 < each →
+    ArePlanEnds v steps dues each runs → (i : ℕ) (due : program.Due) → i < length dues → due ≡ get_or dues i due → (part : List RunEnd) →
+    part ≡ take each (drop (i * each) runs) → AreRunEnds v steps due due.targets.list.items part
+node_ends v steps dues each runs some ends i due h is part part_is =
+    let goals = due.targets.list.items in
+    let size = size_of (length goals) each in
+    let least : suc i ≤ length dues = omega (arith, h) in
+    let more : suc i * each ≤ length dues * each = mul-le-mul_right each least in
+    let one = suc-mul i each in
+    let count = ends.count in
+    let left : length (drop (i * each) runs) ≡ length runs - i * each = length-drop (i * each) runs in
+    let enough : each ≤ length (drop (i * each) runs) = omega (arith, left, more, one, count) in
+    let long : length part ≡ each = ap (λ (l : List RunEnd). length l) part_is ∙ length-take-le each (drop (i * each) runs) enough in
+    let ceil = (div_ceil_times (length goals) each some).0 in
+    let turned : size * each ≡ length part * size = mul_comm size each ∙ ap (λ (n : ℕ). n * size) (sym long) in
     record {
-      size = v.size;
-      reach = subst (λ (n : ℕ). length v.goals ≤ n * v.size) (sym count) within.reach;
-      each = λ (k : ℕ) (e : RunEnd) (h : k < length runs).
-          let inside : k < v.count = subst (λ (n : ℕ). k < n) count h in
-          subst (λ (i : ℕ). TellsEnd v i (get_or runs k e)) (zero-add k) (tell.each k e inside);
+      size = size;
+      reach = omega (arith, ceil, turned);
+      each = λ (k : ℕ) (e : RunEnd) (l : k < length part).
+          let inside : k < each = omega (arith, l, long) in
+          let place : get_or part k e ≡ get_or runs (i * each + k) e =
+          ap (λ (p : List RunEnd). get_or p k e) part_is ∙ get_or-take each (drop (i * each) runs) k e inside
+          ∙ get_or-drop (i * each) runs k e in
+          let told = ends.at i k due e h inside in
+          subst (IsRunEnd v steps due (k * size) (goals_from size (k * size) goals)) (sym place)
+          (subst (λ (d : program.Due). IsPartEnd v steps d each k (get_or runs (i * each + k) e)) (sym is) told);
     }
 
 -- the end of a run over a table with the same terms
@@ -432,32 +476,40 @@ EndsOver sorts trees w steps first d part e =
     × AreCollected w (goals_with (due_in sorts trees d).facts (forms_in sorts trees part)) e.trees.items)
     (RunStops (walk sorts steps) (due_in sorts trees d) first (forms_in sorts trees part))
 
-pub run_told : (v x : NodeEndsValue) → v ≡ x → (t w : TableValue) → sorts_in t ≡ sorts_in v.table → trees_in t ≡ trees_in v.table →
-    Widens t w →
-    (i first from : ℕ) (part : List Formula) (e : RunEnd) → first ≡ i * v.size → part ≡ goals_from v.size first v.goals →
-    from ≡ length (trees_in t) →
+pub run_ended : (v t w : TableValue) → sorts_in t ≡ sorts_in v → trees_in t ≡ trees_in v → Widens t w →
+    (steps first from : ℕ) (due : program.Due) (part : List Formula) (e : RunEnd) → from ≡ length (trees_in t) →
     row_trees (take from (trees_in w)) e.rows ≡ drop from (trees_in w) → AreRowsSound (sorts_in w) (take from (trees_in w)) e.rows →
     MatchOption e.stop
-    (RunCloses (walk (sorts_in t) v.steps) (due_in (sorts_in t) (trees_in t) v.due) first (forms_in (sorts_in t) (trees_in t) part)
-    × AreCollected w ([] ++ goals_with (due_in (sorts_in t) (trees_in t) v.due).facts (forms_in (sorts_in t)
+    (RunCloses (walk (sorts_in t) steps) (due_in (sorts_in t) (trees_in t) due) first (forms_in (sorts_in t) (trees_in t) part)
+    × AreCollected w ([] ++ goals_with (due_in (sorts_in t) (trees_in t) due).facts (forms_in (sorts_in t)
     (trees_in t) part)) e.trees.items)
-    (RunStops (walk (sorts_in t) v.steps) (due_in (sorts_in t) (trees_in t) v.due) first (forms_in (sorts_in t) (trees_in t) part)) →
-    TellsEnd x i e
-run_told v x same t w sorts trees wider i first from part e place is all behind sound ends =
-    let front : take from (trees_in w) ≡ trees_in v.table = first_stays t w wider from all ∙ trees in
-    let here : IsRunEnd v.table v.steps v.due first part e = record {
-      sound = subst (λ (s : Sorts). AreRowsSound s (trees_in v.table) e.rows) (wider.sorts ∙ sorts)
+    (RunStops (walk (sorts_in t) steps) (due_in (sorts_in t) (trees_in t) due) first (forms_in (sorts_in t) (trees_in t) part)) →
+    IsRunEnd v steps due first part e
+run_ended v t w sorts trees wider steps first from due part e all behind sound ends =
+    let front : take from (trees_in w) ≡ trees_in v = first_stays t w wider from all ∙ trees in
+    record {
+      sound = subst (λ (s : Sorts). AreRowsSound s (trees_in v) e.rows) (wider.sorts ∙ sorts)
           (subst (λ (l : List Tree). AreRowsSound (sorts_in w) l e.rows) front sound);
       copy = w;
       sorts = wider.sorts ∙ sorts;
       trees = sym (take-append-drop from (trees_in w)) ∙ ap (λ (l : List Tree). take from (trees_in w) ++ l) (sym behind)
           ∙ ap (λ (l : List Tree). l ++ row_trees l e.rows) front;
-      ends = subst (λ (s : Sorts). EndsOver s (trees_in v.table) w v.steps first v.due part e) sorts
-          (subst (λ (l : List Tree). EndsOver (sorts_in t) l w v.steps first v.due part e) trees ends);
-    } in
-    subst (λ (y : NodeEndsValue). TellsEnd y i e) same
-    (subst (λ (n : ℕ). IsRunEnd v.table v.steps v.due n (goals_from v.size n v.goals) e) place
-    (subst (λ (p : List Formula). IsRunEnd v.table v.steps v.due first p e) is here))
+      ends = subst (λ (s : Sorts). EndsOver s (trees_in v) w steps first due part e) sorts
+          (subst (λ (l : List Tree). EndsOver (sorts_in t) l w steps first due part e) trees ends);
+    }
+
+-- a run as a part of the goals
+pub part_ended : (v : TableValue) (steps : ℕ) (due : program.Due) (each number size first : ℕ) (goals part : List Formula) (e : RunEnd) →
+    goals ≡ due.targets.list.items → size ≡ size_of (length goals) each → first ≡ number * size → part ≡ take size (drop first goals) →
+    IsRunEnd v steps due first part e → IsPartEnd v steps due each number e
+part_ended v steps due each number size first goals part e same sized place is end =
+    let all = due.targets.list.items in
+    let big : size ≡ size_of (length all) each = sized ∙ ap (λ (l : List Formula). size_of (length l) each) same in
+    let from : first ≡ number * size_of (length all) each = place ∙ ap (λ (n : ℕ). number * n) big in
+    let run : part ≡ goals_from (size_of (length all) each) (number * size_of (length all) each) all =
+    is ∙ (λ k. take (big k) (drop (from k) (same k))) in
+    subst (λ (n : ℕ). IsRunEnd v steps due n (goals_from (size_of (length all) each) (number * size_of (length all) each) all) e) from
+    (subst (λ (p : List Formula). IsRunEnd v steps due first p e) run end)
 
 -- the numbers that come of an adoption
 pub numbers_adopted : (v w : TableValue) → Widens v w → (from : ℕ) → from ≤ length (trees_in v) →
@@ -471,27 +523,29 @@ numbers_adopted v w wider from behind made ids others same r stored =
     (λ all is. terms_adopted v w wider from behind made ids all.items stored
     (is ∙ ap (λ (l : List TermId). range_with_len 0 from ++ numbers_of l) same))
 
--- the rows of each run are sound
-pub runs_sound : (v : TableValue) (steps : ℕ) (d : program.Due) (asks : List Formula) (runs given : List RunEnd) → given ≡ runs →
-    AreRunEnds v steps d asks runs → (k : ℕ) (run : RunEnd) → k < length given →
-    AreRowsSound (sorts_in v) (trees_in v) (get_or given k run).rows
-runs_sound v steps d asks runs given same ends k run h =
-    let there = subst (AreRunEnds v steps d asks) (sym same) ends in (there.each k run h).sound
+-- the rows of each run are sound, over a wider table
+pub runs_sound : (v w : TableValue) → Widens v w → (from : ℕ) → from ≡ length (trees_in v) → (steps : ℕ) (d : program.Due)
+    (asks : List Formula) (runs : List RunEnd) → AreRunEnds v steps d asks runs → (k : ℕ) (run : RunEnd) → k < length runs →
+    AreRowsSound (sorts_in w) (take from (trees_in w)) (get_or runs k run).rows
+runs_sound v w wider from is steps d asks runs ends k run h =
+    subst (λ (s : Sorts). AreRowsSound s (take from (trees_in w)) (get_or runs k run).rows) (sym wider.sorts)
+    (subst (λ (l : List Tree). AreRowsSound (sorts_in v) l (get_or runs k run).rows) (sym (first_stays v w wider from is))
+    (ends.each k run h).sound)
 
 -- all goals that a node asks are those of the list
-pub due_ends : (v w : TableValue) (steps : ℕ) (d : program.Due) (asks : List Formula) → asks ≡ d.targets.list.items →
-    (goals : List (List Assertion × Assertion)) (new : List CertTree) (r : Result (Option Stop) AllocError) →
-    IfOk r (λ o. MatchOption o
+pub due_whole : (v w : TableValue) (steps : ℕ) (d : program.Due) (asks : List Formula) → asks ≡ d.targets.list.items →
+    (goals : List (List Assertion × Assertion)) (new : List CertTree) (o : Option Stop) →
+    MatchOption o
     (RunCloses (walk (sorts_in v) steps) (due_in (sorts_in v) (trees_in v) d) 0 (forms_in (sorts_in v) (trees_in v) asks)
     × AreCollected w (goals ++ goals_with (due_in (sorts_in v) (trees_in v) d).facts (forms_in (sorts_in v) (trees_in v) asks)) new)
-    (RunStops (walk (sorts_in v) steps) (due_in (sorts_in v) (trees_in v) d) 0 (forms_in (sorts_in v) (trees_in v) asks))) →
-    IfOk r (λ o. MatchOption o
+    (RunStops (walk (sorts_in v) steps) (due_in (sorts_in v) (trees_in v) d) 0 (forms_in (sorts_in v) (trees_in v) asks)) →
+    MatchOption o
     (GoalsClose (walk (sorts_in v) steps) (due_in (sorts_in v) (trees_in v) d)
     × AreCollected w (goals ++ goals_with (due_in (sorts_in v) (trees_in v) d).facts (due_in (sorts_in v) (trees_in v) d).goals) new)
-    (GoalsStop (walk (sorts_in v) steps) (due_in (sorts_in v) (trees_in v) d)))
-due_ends v w steps d asks same goals new r h =
-    subst (λ (fs : List Formula). IfOk r (Ended (sorts_in v) steps d.node 0 (forms_in (sorts_in v) (trees_in v) d.facts.list.items)
-    (forms_in (sorts_in v) (trees_in v) fs) w goals new)) same h
+    (GoalsStop (walk (sorts_in v) steps) (due_in (sorts_in v) (trees_in v) d))
+due_whole v w steps d asks same goals new o h =
+    subst (λ (fs : List Formula). Ended (sorts_in v) steps d.node 0 (forms_in (sorts_in v) (trees_in v) d.facts.list.items)
+    (forms_in (sorts_in v) (trees_in v) fs) w goals new o) same h
 
 pub goals_ready : (v : TableValue) (asks given : List Formula) → given ≡ asks → AreFormsReady (sorts_in v) (trees_in v) asks →
     AreFormsReady (sorts_in v) (trees_in v) given
@@ -519,3 +573,16 @@ part_ready v t sorts trees size first asks h =
     let part = take size (drop first asks) in
     subst (λ (s : Sorts). AreFormsReady s (trees_in t) part) (sym sorts)
     (subst (λ (l : List Tree). AreFormsReady (sorts_in v) l part) (sym trees) (run_ready (sorts_in v) (trees_in v) size first asks h))
+
+pub facts_over : (v t : TableValue) → sorts_in t ≡ sorts_in v → trees_in t ≡ trees_in v → (fs : List Formula) →
+    AreFormsReady (sorts_in v) (trees_in v) fs → AreFormsReady (sorts_in t) (trees_in t) fs
+facts_over v t sorts trees fs h =
+    subst (λ (s : Sorts). AreFormsReady s (trees_in t) fs) (sym sorts)
+    (subst (λ (l : List Tree). AreFormsReady (sorts_in v) l fs) (sym trees) h)
+
+pub goals_part : (v t : TableValue) → sorts_in t ≡ sorts_in v → trees_in t ≡ trees_in v → (size first : ℕ) (all goals part : List Formula) →
+    goals ≡ all → part ≡ take size (drop first goals) → AreFormsReady (sorts_in v) (trees_in v) all →
+    AreFormsReady (sorts_in t) (trees_in t) part
+goals_part v t sorts trees size first all goals part same is h =
+    subst (AreFormsReady (sorts_in t) (trees_in t)) (sym (is ∙ ap (λ (l : List Formula). take size (drop first l)) same))
+    (part_ready v t sorts trees size first all h)

@@ -27,7 +27,7 @@ use Rattle.sm_houdini.specs.Closing.{closing, closes_at, stays_at, owner_in}
 use Rattle.sm_houdini.specs.Known.{IsAsked, IsAskedBefore, AreKnown, is_flagged}
 use Rattle.sm_houdini.specs.Marks.{marked, all_marked, is_there, has_mark, rows}
 use Rattle.sm_houdini.specs.Rounds.{is_site, closes_if, holds_at}
-use Rattle.sm_houdini.proofs.LoopLemmas.{taken}
+use Rattle.sm_houdini.proofs.LoopLemmas.{taken, get_any}
 use Rattle.sm_houdini.proofs.MarkedLemmas.{all_same}
 
 -- a mark that is there passes
@@ -270,11 +270,6 @@ flags_put v steps ds new old at b d is count here known before k i x h flag =
         let place : at ≡ k = sym count ∙ sym p.0 in
         let same : get_or ds k x ≡ d = get_any ds k x d h ∙ ap (λ (n : ℕ). get_or ds n d) (sym place) ∙ sym here in
         ap (λ (y : Due). closes_at (sorts_in v) steps (due_in (sorts_in v) (trees_in v) y) i) same ∙ known p.1 i
-      where
-        get_any : (ds : List Due) (k : ℕ) (x d : Due) → k < length ds → get_or ds k x ≡ get_or ds k d
-        get_any [] k x d h = absurd (let no : k < 0 = h in omega arith)
-        get_any (y ∷ ds) zero x d h = refl
-        get_any (y ∷ ds) (suc k) x d h = let less : k < length ds = omega (arith, h) in get_any ds k x d less
 
 -- what a round asked, where it is left for the next
 pub left_asked : (v : TableValue) (steps : ℕ) (owners : List (Option ℕ)) (a : Asked) (o : Option Asked) →

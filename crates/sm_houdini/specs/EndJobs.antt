@@ -1,10 +1,9 @@
 -- Private: what runs of a node's goals come to at the end of a search, as jobs give it.
-use Rattle.std.specs.Prelude.{◌≡◌, ℕ, ◌+◌, ◌*◌, ◌<◌, ◌≤◌, List, ◌++◌, MatchOption, take, drop, length}
-use Rattle.std.specs.Prelude.{slice_index_or}
+use Rattle.std.specs.Prelude.{◌≡◌, ℕ, ◌+◌, ◌*◌, ◌/◌, ◌%◌, ◌<◌, ◌≤◌, min, List, ◌++◌, MatchOption, take}
+use Rattle.std.specs.Prelude.{drop, length, slice_index_or}
 use Rattle.sm_term.specs.declared.formula.Formula.{Formula}
 use Rattle.sm_term.specs.Tables.{TableValue, trees_in, sorts_in}
 use Rattle.sm_term.specs.Tails.{row_trees, AreRowsSound}
-use Rattle.sm_plan.specs.ReadyStates.{AreFormsReady}
 use Rattle.sm_plan.specs.Views.{forms_in}
 use Rattle.sm_expand.specs.declared.due.Due.{Due}
 use Rattle.sm_expand.specs.Views.{due_in}
@@ -12,21 +11,14 @@ use Rattle.sm_solve.specs.Walk.{walk}
 use Rattle.sm_houdini.specs.declared.end_jobs.RunEnd.{RunEnd}
 use Rattle.sm_houdini.specs.Collected.{AreCollected, goals_with, RunStops, RunCloses}
 
--- a table, what a node asks over it and the goals of that, and the most steps of a walk; how many
--- goals a run has, and how many runs there are
-pub record NodeEndsValue : Type 0 where
+-- a table, what nodes ask over it, how many runs the goals of each node have, the most steps of a
+-- walk, and how many runs there are
+pub record PlanEndsValue : Type 0 where
   pub table : TableValue
-  pub due : Due
-  pub goals : List Formula
+  pub dues : List Due
+  pub each : ℕ
   pub steps : ℕ
-  pub size : ℕ
   pub count : ℕ
-
--- the facts and the goals are in the table, each part with the sort that it is used with
-abbrev pub AreEndsReady : TableValue → Due → List Formula → Type 0
-AreEndsReady v d goals =
-    AreFormsReady (sorts_in v) (trees_in v) d.facts.list.items
-    × AreFormsReady (sorts_in v) (trees_in v) goals
 
 -- what a run of goals of a node comes to, which begins at a place: its new terms stand behind those
 -- of the table, and over both its certificates show the goals; or else a goal stops the search
@@ -44,20 +36,25 @@ pub record IsRunEnd (v : TableValue) (steps : ℕ) (due : Due) (first : ℕ) (ru
       × AreCollected copy (goals_with d.facts asks) end.trees.items)
       (RunStops (walk (sorts_in v) steps) d first asks))
 
--- runs of one size have all places below a number, and none of them begins past these
-pub record AreRunsWithin (all size count : ℕ) : Type 0 where
-  pub reach : all ≤ count * size
-  pub begin : count * size < all + size
-
 -- the goals of a run, from a place on
 abbrev pub goals_from : ℕ → ℕ → List Formula → List Formula
 goals_from size first goals = take size (drop first goals)
 
+-- how many goals a run has, where there are so many runs of them
+abbrev pub size_of : ℕ → ℕ → ℕ
+size_of goals runs = goals / runs + min 1 (goals % runs)
+
+-- what the k-th run of a node's goals comes to
+abbrev pub IsPartEnd : TableValue → ℕ → Due → ℕ → ℕ → RunEnd → Type 0
+IsPartEnd v steps due each k end =
+    let goals = due.targets.list.items in
+    let size = size_of (length goals) each in
+    IsRunEnd v steps due (k * size) (goals_from size (k * size) goals) end
+
 -- what the run with a job's number comes to
-abbrev pub TellsEnd : NodeEndsValue → ℕ → RunEnd → Type 0
+abbrev pub TellsEnd : PlanEndsValue → ℕ → RunEnd → Type 0
 TellsEnd v i end =
-    let first = i * v.size in
-    IsRunEnd v.table v.steps v.due first (goals_from v.size first v.goals) end
+    (due : Due) → IsPartEnd v.table v.steps (slice_index_or v.dues (i / v.each) due) v.each (i % v.each) end
 
 -- what all runs of goals come to, in order
 pub record AreRunEnds (v : TableValue) (steps : ℕ) (due : Due) (goals : List Formula)
@@ -68,3 +65,13 @@ pub record AreRunEnds (v : TableValue) (steps : ℕ) (due : Due) (goals : List F
       (k : ℕ) (e : RunEnd) →
       k < length runs →
       IsRunEnd v steps due (k * size) (goals_from size (k * size) goals) (slice_index_or runs k e)
+
+-- what the runs of all nodes' goals come to, node by node
+pub record ArePlanEnds (v : TableValue) (steps : ℕ) (dues : List Due) (each : ℕ)
+    (runs : List RunEnd) : Type 0 where
+  pub count : length runs ≡ length dues * each
+  pub at :
+      (i k : ℕ) (due : Due) (e : RunEnd) →
+      i < length dues →
+      k < each →
+      IsPartEnd v steps (slice_index_or dues i due) each k (slice_index_or runs (i * each + k) e)

@@ -1,6 +1,6 @@
 // Goals whose certificates are made by jobs.
-ghost use Rattle.std.specs.Prelude.{◌≡◌, ◌≤◌, ◌<◌, ◌++◌, ℕ, List, length, map, take};
-ghost use Rattle.std.specs.Prelude.{IfOk, OnOk, MatchOption, slice_index_or};
+ghost use Rattle.std.specs.Prelude.{◌≡◌, ◌≤◌, ◌<◌, ◌+◌, ◌^◌, ◌++◌, ℕ, List, [], length, map};
+ghost use Rattle.std.specs.Prelude.{take, drop, IfOk, OnOk, MatchOption, slice_index_or};
 ghost use Rattle.std.specs.List.{range_with_len};
 ghost use Rattle.sm_term.specs.Assertions.{Assertion};
 ghost use Rattle.sm_term.specs.declared.formula.Formula.{Formula};
@@ -12,15 +12,16 @@ ghost use Rattle.sm_cert.specs.Views.{certificate_in};
 ghost use Rattle.sm_plan.specs.ReadyStates.{AreFormsReady};
 ghost use Rattle.sm_plan.specs.Views.{forms_in};
 ghost use Rattle.sm_expand.specs.declared.due.Due.{Due};
-ghost use Rattle.sm_expand.specs.Views.{due_in};
+ghost use Rattle.sm_expand.specs.Views.{due_in, dues_in, AreDuesReady};
 ghost use Rattle.sm_solve.specs.Listing.{numbers_of};
 ghost use Rattle.sm_solve.specs.Renumbered.{AreTermsOf};
 ghost use Rattle.sm_solve.specs.Walk.{walk};
 ghost use Rattle.sm_write.specs.TreesWithin.{AreTreesWithin};
 ghost use Rattle.sm_houdini.specs.declared.end_jobs.RunEnd.{RunEnd};
-ghost use Rattle.sm_houdini.specs.Collected.{AreCollected, goals_with, GoalsStop, GoalsClose};
-ghost use Rattle.sm_houdini.specs.Collected.{RunStops, RunCloses};
-ghost use Rattle.sm_houdini.specs.EndJobs.{AreRunEnds, TellsEnd};
+ghost use Rattle.sm_houdini.specs.Certified.{asked};
+ghost use Rattle.sm_houdini.specs.Collected.{AreCollected, goals_with, IsInsideClosed};
+ghost use Rattle.sm_houdini.specs.Collected.{RunStops, RunCloses, FinalStops, FinalCloses};
+ghost use Rattle.sm_houdini.specs.EndJobs.{AreRunEnds, ArePlanEnds, IsPartEnd, TellsEnd, size_of};
 
 use crate::ending::{Stop, end_run};
 use crate::goal_jobs::Crew;
@@ -33,71 +34,74 @@ use std::alloc::{AllocError, Global};
 use std::marker::Model;
 use std::thread::Threads;
 
-/// Puts the certificates of the goals of what a node asks behind others, or tells the first goal
-/// for which there is none. One worker walks the goals in turn, over the one table; several have
-/// runs of them as jobs, each over a copy of it. A goal alone is no job.
-pub(crate) fn end_due<R: Threads + Sync, G: Gate>(
+/// Puts the certificates of all goals behind others, or tells the first goal for which there is
+/// none, from what jobs made of each node's goals. The other goals are known to close.
+pub(crate) fn end_by_jobs<R: Threads + Sync, G: Gate>(
     crew: &Crew<'_, R, G>,
     alloc: Global,
     table: &mut TermTable,
-    due: &Due,
+    dues: &[Due],
     trees: &mut Vec<CertTree>,
     steps: u64,
 ) -> Result<Option<Stop>, AllocError>
-    requires facts { AreFormsReady (sorts_in table.old) (trees_in table.old)
-        due.now.facts.list.items }
-    requires goals { AreFormsReady (sorts_in table.old) (trees_in table.old)
-        due.now.targets.list.items }
+    requires ready { AreDuesReady (sorts_in table.old) (trees_in table.old) dues.now }
+    requires inside { IsInsideClosed table.old steps dues.now }
     ensures ends { let sorts = sorts_in table.old in let ts = trees_in table.old in
-        let d = due_in sorts ts due.now in
-        (goals : List (List Assertion × Assertion)) →
-        AreCollected table.old goals trees.old.items → IfOk result (λ o. MatchOption o
-        (GoalsClose (walk sorts steps) d
-        × AreCollected table.new (goals ++ goals_with d.facts d.goals) trees.new.items)
-        (GoalsStop (walk sorts steps) d)) }
+        let ds = dues_in sorts ts dues.now in
+        AreCollected table.old [] trees.old.items → IfOk result (λ o. MatchOption o
+        (FinalCloses (walk sorts steps) ds
+        × AreCollected table.new (asked ds) trees.new.items)
+        (FinalStops (walk sorts steps) ds)) }
     ensures widens { Widens table.old table.new }
 {
-    let goals = due.targets.list.as_slice();
-    if crew.workers == 1 || goals.len() < 2 {
-        return end_run(alloc, table, due, 0, goals, trees, steps);
-    }
-    let runs = run_ends(crew, alloc, table, due, goals, steps)?;
-    joined(alloc, table, &runs, trees)
+    let each = runs_each(dues.len(), crew.workers as usize);
+    let ends = run_ends(crew, alloc, table, dues, each, steps)?;
+    joined_all(alloc, table, dues, each, &ends, trees, steps)
 }
 
-// How many of a node's goals a run has, so that there are no more runs than workers.
-fn size_of(goals: usize, workers: usize) -> usize
-    requires { 0 < workers }
+// How many runs the goals of each node have, so that there is a run for each worker.
+fn runs_each(nodes: usize, workers: usize) -> usize
     ensures { 0 < result }
 {
-    if goals == 0 {
+    if nodes == 0 || workers < nodes {
         return 1;
     }
-    goals.div_ceil(workers)
+    match (workers / nodes).checked_add(1) {
+        Some(runs) => runs,
+        None => 1,
+    }
 }
 
-// What the runs of a node's goals come to, as jobs of the phase Obligation.
+// How many goals a run has, where there are so many runs of them.
+fn size_of(goals: usize, runs: usize) -> usize
+    requires { 0 < runs }
+    ensures { result ≡ size_of goals runs }
+{
+    goals.div_ceil(runs)
+}
+
+// What the runs of all nodes' goals come to, as jobs of the phase Obligation.
 fn run_ends<R: Threads + Sync, G: Gate>(
     crew: &Crew<'_, R, G>,
     alloc: Global,
     table: &TermTable,
-    due: &Due,
-    goals: &[Formula],
+    dues: &[Due],
+    each: usize,
     steps: u64,
 ) -> Result<Vec<RunEnd>, AllocError>
-    requires facts { AreFormsReady (sorts_in table.now) (trees_in table.now)
-        due.now.facts.list.items }
-    requires goals { AreFormsReady (sorts_in table.now) (trees_in table.now) goals.now }
-    ensures { IfOk result (λ runs. AreRunEnds table.now steps due.now goals.now runs.items) }
+    requires ready { AreDuesReady (sorts_in table.now) (trees_in table.now) dues.now }
+    requires some { 0 < each }
+    ensures { IfOk result (λ ends. ArePlanEnds table.now steps dues.now each ends.items) }
 {
-    let size = size_of(goals.len(), crew.workers as usize);
-    let count = goals.len().div_ceil(size);
-    let job = NodeEnds {
+    // So many runs fit no memory.
+    let Some(count) = dues.len().checked_mul(each) else {
+        return Err(AllocError);
+    };
+    let job = PlanEnds {
         table,
-        due,
-        goals,
+        dues,
+        each,
         steps,
-        size,
         count,
     };
     run_jobs(
@@ -111,20 +115,57 @@ fn run_ends<R: Threads + Sync, G: Gate>(
     )
 }
 
-// Puts the certificates of all runs behind others, in order, up to the first run with a goal for
-// which there is none.
+// Puts the certificates of all nodes' goals behind others, up to the first goal for which there is
+// none.
+fn joined_all(
+    alloc: Global,
+    table: &mut TermTable,
+    dues: &[Due],
+    each: usize,
+    ends: &[RunEnd],
+    trees: &mut Vec<CertTree>,
+    steps: u64,
+) -> Result<Option<Stop>, AllocError>
+    requires ready { AreDuesReady (sorts_in table.old) (trees_in table.old) dues.now }
+    requires inside { IsInsideClosed table.old steps dues.now }
+    requires some { 0 < each }
+    requires made { ArePlanEnds table.old steps dues.now each ends.now }
+    ensures ends { let sorts = sorts_in table.old in let ts = trees_in table.old in
+        let ds = dues_in sorts ts dues.now in
+        AreCollected table.old [] trees.old.items → IfOk result (λ o. MatchOption o
+        (FinalCloses (walk sorts steps) ds
+        × AreCollected table.new (asked ds) trees.new.items)
+        (FinalStops (walk sorts steps) ds)) }
+    ensures widens { Widens table.old table.new }
+{
+    let from = table.len();
+    for at in 0..dues.len() {
+        let first = at * each;
+        let end = joined(alloc, table, from, &ends[first..first + each], trees)?;
+        if end.is_some() {
+            return Ok(end);
+        }
+    }
+    Ok(None)
+}
+
+// Puts the certificates of all runs of a node's goals behind others, in order, up to the first run
+// with a goal for which there is none.
 fn joined(
     alloc: Global,
     table: &mut TermTable,
+    from: u64,
     runs: &[RunEnd],
     trees: &mut Vec<CertTree>,
 ) -> Result<Option<Stop>, AllocError>
+    requires behind { from ≤ length (trees_in table.old) }
     requires sound { (k : ℕ) (run : RunEnd) → k < length runs.now →
-        AreRowsSound (sorts_in table.old) (trees_in table.old)
+        AreRowsSound (sorts_in table.old) (take from (trees_in table.old))
         (slice_index_or runs.now k run).rows }
-    ensures ends { let sorts = sorts_in table.old in let ts = trees_in table.old in
+    ensures ends { (v : TableValue) → Widens v table.old → from ≡ length (trees_in v) →
+        let sorts = sorts_in v in let ts = trees_in v in
         (steps : ℕ) (due : Due) (asks : List Formula) (goals : List (List Assertion × Assertion)) →
-        AreRunEnds table.old steps due asks runs.now →
+        AreRunEnds v steps due asks runs.now →
         AreCollected table.old goals trees.old.items → IfOk result (λ o. MatchOption o
         (RunCloses (walk sorts steps) (due_in sorts ts due) 0 (forms_in sorts ts asks)
         × AreCollected table.new
@@ -132,7 +173,6 @@ fn joined(
         (RunStops (walk sorts steps) (due_in sorts ts due) 0 (forms_in sorts ts asks))) }
     ensures widens { Widens table.old table.new }
 {
-    let from = table.len();
     for run in runs {
         if run.stop.is_some() {
             return Ok(run.stop);
@@ -230,23 +270,23 @@ pub(crate) struct RunEnd {
     stop: Option<Stop>,
 }
 
-// The goals that a node asks, in runs of one size; the last may be shorter. A job has one run.
+// The goals that nodes ask, so many runs of each; the last may be shorter. A job has one run.
 #[derive(Drop)]
-struct NodeEnds<'a> {
+struct PlanEnds<'a> {
     table: &'a TermTable,
-    due: &'a Due,
-    goals: &'a [Formula],
+    dues: &'a [Due],
+    each: usize,
     steps: u64,
-    size: usize,
     count: usize,
 }
 
-impl<'a> Model for NodeEnds<'a> {
-    ghost use Rattle.std.specs.Prelude.{length};
-    ghost use Rattle.sm_houdini.specs.EndJobs.{NodeEndsValue, AreEndsReady};
-    ghost use Rattle.sm_houdini.specs.EndJobs.{AreRunsWithin};
+impl<'a> Model for PlanEnds<'a> {
+    ghost use Rattle.sm_houdini.specs.EndJobs.{PlanEndsValue};
+    ghost use Rattle.sm_term.specs.Tables.{trees_in, sorts_in};
+    ghost use Rattle.sm_expand.specs.Views.{AreDuesReady};
+    ghost use Rattle.std.specs.Prelude.{◌<◌, ◌≡◌, ◌*◌, length};
 
-    ghost Value = { NodeEndsValue };
+    ghost Value = { PlanEndsValue };
 
     ghost use Rattle.sm_syntax.specs.contracts.tree.Block as block;
     ghost use Rattle.sm_term.specs.contracts.formula.Formula as formula;
@@ -256,18 +296,17 @@ impl<'a> Model for NodeEnds<'a> {
 
     ghost view = { λ g. record {
       table = g.table.now;
-      due = g.due.now;
-      goals = g.goals.now;
+      dues = g.dues.now;
+      each = g.each;
       steps = g.steps;
-      size = g.size;
       count = g.count;
     } };
 
-    ghost invariant = { λ g. AreEndsReady g.table.now g.due.now g.goals.now
-        × AreRunsWithin (length g.goals.now) g.size g.count };
+    ghost invariant = { λ g. AreDuesReady (sorts_in g.table.now) (trees_in g.table.now) g.dues.now
+        × (0 < g.each) × (g.count ≡ length g.dues.now * g.each) };
 }
 
-impl Job for NodeEnds<'_> {
+impl Job for PlanEnds<'_> {
     type Out = RunEnd;
 
     ghost indices = { λ job. job.count };
@@ -275,27 +314,60 @@ impl Job for NodeEnds<'_> {
     ghost stands_for = { TellsEnd };
 
     fn run(&self, alloc: Global, index: u64) -> Result<RunEnd, AllocError> {
-        let goals = self.goals;
-        let first = index as usize * self.size;
-        let left = goals.len() - first;
-        let end = if left < self.size {
-            goals.len()
-        } else {
-            first + self.size
-        };
-        let mut table = self.table.copy(alloc)?;
-        let from = table.len();
-        let mut trees = Vec::new(alloc);
-        let stop = end_run(
+        let at = index as usize;
+        let due = &self.dues[at / self.each];
+        run_end(
             alloc,
-            &mut table,
-            self.due,
-            first as u64,
-            &goals[first..end],
-            &mut trees,
+            self.table,
+            due,
+            at % self.each,
+            self.each,
             self.steps,
-        )?;
-        let rows = table.tail(alloc, from)?;
-        Ok(RunEnd { rows, trees, stop })
+        )
     }
+}
+
+// What a run of the goals of a node comes to, over a copy of a table.
+fn run_end(
+    alloc: Global,
+    table: &TermTable,
+    due: &Due,
+    number: usize,
+    each: usize,
+    steps: u64,
+) -> Result<RunEnd, AllocError>
+    requires facts { AreFormsReady (sorts_in table.now) (trees_in table.now)
+        due.now.facts.list.items }
+    requires goals { AreFormsReady (sorts_in table.now) (trees_in table.now)
+        due.now.targets.list.items }
+    requires some { 0 < each }
+    ensures { IfOk result (IsPartEnd table.now steps due.now each number) }
+{
+    let goals = due.targets.list.as_slice();
+    let size = size_of(goals.len(), each);
+    // So many goals fit no memory.
+    let Some(first) = number.checked_mul(size) else {
+        return Err(AllocError);
+    };
+    let run = part(goals, first, size);
+    let mut table = table.copy(alloc)?;
+    let from = table.len();
+    let mut trees = Vec::new(alloc);
+    let stop = end_run(alloc, &mut table, due, first as u64, run, &mut trees, steps)?;
+    let rows = table.tail(alloc, from)?;
+    Ok(RunEnd { rows, trees, stop })
+}
+
+// So many goals from a place on, as far as there are some.
+fn part(goals: &[Formula], first: usize, size: usize) -> &[Formula]
+    ensures part { result.now ≡ take size (drop first goals.now) }
+    ensures places { first + length result.now < 2 ^ 64 }
+{
+    if first >= goals.len() {
+        return &[];
+    }
+    if goals.len() - first < size {
+        return &goals[first..];
+    }
+    &goals[first..first + size]
 }

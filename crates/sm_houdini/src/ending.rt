@@ -24,7 +24,7 @@ ghost use Rattle.sm_houdini.specs.Nodes.{IsNodeOf};
 ghost use Rattle.sm_houdini.specs.Views.{outcome_in, IsProof};
 
 use crate::closing::node_of;
-use crate::end_jobs::end_due;
+use crate::end_jobs::end_by_jobs;
 use crate::goal_jobs::Crew;
 use crate::outcome::Outcome;
 use crate::short::is_short;
@@ -241,8 +241,34 @@ pub(crate) fn end_all<R: Threads + Sync, G: Gate>(
         (FinalStops (walk sorts steps) ds)) }
     ensures widens { Widens table.old table.new }
 {
+    if crew.workers == 1 {
+        end_in_turn(alloc, table, dues, trees, steps)
+    } else {
+        end_by_jobs(crew, alloc, table, dues, trees, steps)
+    }
+}
+
+// The same node by node, over the one table.
+fn end_in_turn(
+    alloc: Global,
+    table: &mut TermTable,
+    dues: &[Due],
+    trees: &mut Vec<CertTree>,
+    steps: u64,
+) -> Result<Option<Stop>, AllocError>
+    requires ready { AreDuesReady (sorts_in table.old) (trees_in table.old) dues.now }
+    requires inside { IsInsideClosed table.old steps dues.now }
+    ensures ends { let sorts = sorts_in table.old in let ts = trees_in table.old in
+        let ds = dues_in sorts ts dues.now in
+        AreCollected table.old [] trees.old.items → IfOk result (λ o. MatchOption o
+        (FinalCloses (walk sorts steps) ds
+        × AreCollected table.new (asked ds) trees.new.items)
+        (FinalStops (walk sorts steps) ds)) }
+    ensures widens { Widens table.old table.new }
+{
     for due in dues {
-        let end = end_due(crew, alloc, table, due, trees, steps)?;
+        let goals = due.targets.list.as_slice();
+        let end = end_run(alloc, table, due, 0, goals, trees, steps)?;
         if end.is_some() {
             return Ok(end);
         }

@@ -1,8 +1,8 @@
 -- The goals of the runs so far close.
-use Rattle.std.proofs.Common.{◌≡◌, ◌++◌, ◌*◌, ℕ, List, drop, take}
+use Rattle.std.proofs.Common.{◌≡◌, ◌++◌, ◌*◌, ℕ, List, length, drop, take}
 use Rattle.sm_term.specs.declared.formula.Formula.{Formula}
 use Rattle.sm_term.specs.Assertions.{Assertion}
-use Rattle.sm_term.specs.Tables.{trees_in, sorts_in}
+use Rattle.sm_term.specs.Tables.{TableValue, trees_in, sorts_in}
 use Rattle.sm_term.specs.TableLaws.{Widens}
 use Rattle.sm_plan.specs.Views.{forms_in}
 use Rattle.sm_expand.specs.declared.due.Due.{Due}
@@ -15,18 +15,17 @@ use Rattle.sm_houdini.specs.Outcomes.{Outcome, goals_outcome}
 use Rattle.sm_houdini.proofs.end_jobs.joined.Given as goal
 
 abbrev pub invariant-loop-run : goal.invariant-loop-run
-invariant-loop-run l =
-    let v = l.initial.table in
-    let sorts = sorts_in v in
-    let ts = trees_in v in
-    record {
-      collected : (steps : ℕ) (due : Due) (asks : List Formula) (goals : List (List Assertion × Assertion)) →
-          (ends : AreRunEnds v steps due asks l.runs) → AreCollected v goals l.initial.trees.items →
-          AreCollected l.table (goals ++ goals_with (due_in sorts ts due).facts (take (l.run-index * ends.size)
-          (forms_in sorts ts asks))) l.trees.items;
-      closes : (steps : ℕ) (due : Due) (asks : List Formula) (ends : AreRunEnds v steps due asks l.runs) (later : Outcome (ℕ × Verdict)) →
-          goals_outcome (walk sorts steps (due_in sorts ts due).facts) due.node 0 (forms_in sorts ts asks) later
-          ≡ goals_outcome (walk sorts steps (due_in sorts ts due).facts) due.node (l.run-index * ends.size)
-          (drop (l.run-index * ends.size) (forms_in sorts ts asks)) later;
-      widens : Widens v l.table;
-    }
+invariant-loop-run l = record {
+  collected : (v : TableValue) → Widens v l.initial.table → l.from ≡ length (trees_in v) → (steps : ℕ) (due : Due) (asks : List Formula)
+      (goals : List (List Assertion × Assertion)) (ends : AreRunEnds v steps due asks l.runs) →
+      AreCollected l.initial.table goals l.initial.trees.items →
+      AreCollected l.table (goals ++ goals_with (due_in (sorts_in v) (trees_in v) due).facts (take (l.run-index * ends.size)
+      (forms_in (sorts_in v) (trees_in v) asks))) l.trees.items;
+  closes : (v : TableValue) (steps : ℕ) (due : Due) (asks : List Formula) (ends : AreRunEnds v steps due asks l.runs)
+      (later : Outcome (ℕ × Verdict)) →
+      goals_outcome (walk (sorts_in v) steps (due_in (sorts_in v) (trees_in v) due).facts) due.node 0
+      (forms_in (sorts_in v) (trees_in v) asks) later
+      ≡ goals_outcome (walk (sorts_in v) steps (due_in (sorts_in v) (trees_in v) due).facts) due.node (l.run-index * ends.size)
+      (drop (l.run-index * ends.size) (forms_in (sorts_in v) (trees_in v) asks)) later;
+  widens : Widens l.initial.table l.table;
+}

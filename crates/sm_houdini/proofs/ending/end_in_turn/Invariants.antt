@@ -8,10 +8,10 @@ use Rattle.sm_solve.specs.Walk.{walk}
 use Rattle.sm_houdini.specs.Certified.{asked}
 use Rattle.sm_houdini.specs.Collected.{AreCollected}
 use Rattle.sm_houdini.specs.Outcomes.{Outcome, final_outcome}
-use Rattle.sm_houdini.proofs.ending.end_all.Given as goal
+use Rattle.sm_houdini.proofs.ending.end_in_turn.Given as goal
 
 abbrev pub invariant-loop-due : goal.invariant-loop-due
-invariant-loop-due g l =
+invariant-loop-due l =
     let sorts = sorts_in l.initial.table in
     let ds = dues_in sorts (trees_in l.initial.table) l.dues in
     record {

@@ -1,0 +1,24 @@
+-- The dues so far close.
+use Rattle.std.proofs.Common.{◌≡◌, ℕ, [], drop, take}
+use Rattle.sm_term.specs.Tables.{trees_in, sorts_in}
+use Rattle.sm_term.specs.TableLaws.{Widens}
+use Rattle.sm_expand.specs.Views.{dues_in}
+use Rattle.sm_replay.specs.declared.verdict.Verdict.{Verdict}
+use Rattle.sm_solve.specs.Walk.{walk}
+use Rattle.sm_houdini.specs.Certified.{asked}
+use Rattle.sm_houdini.specs.Collected.{AreCollected}
+use Rattle.sm_houdini.specs.Outcomes.{Outcome, final_outcome}
+use Rattle.sm_houdini.proofs.end_jobs.joined_all.Given as goal
+
+abbrev pub invariant-loop-at : goal.invariant-loop-at
+invariant-loop-at l =
+    let sorts = sorts_in l.initial.table in
+    let ds = dues_in sorts (trees_in l.initial.table) l.dues in
+    record {
+      collected : AreCollected l.initial.table [] l.initial.trees.items →
+          AreCollected l.table (asked (take l.at ds)) l.trees.items;
+      closes : AreCollected l.initial.table [] l.initial.trees.items →
+          (let whole : Outcome (ℕ × Verdict) = final_outcome (walk sorts l.steps) ds in
+          whole ≡ final_outcome (walk sorts l.steps) (drop l.at ds));
+      widens : Widens l.initial.table l.table;
+    }
