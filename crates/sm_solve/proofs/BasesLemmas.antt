@@ -19,6 +19,14 @@ led_nothing table ids fs = record {
   given = λ n g is. absurd cc;
 }
 
+-- classes lead to themselves
+pub led_alone : (v : ClassesValue) → IsLedBy v v
+led_alone v = record {
+  table = record { sorts = refl; codes = refl; trees = ([], sym (append-nil (trees_in v.table))) };
+  terms = ([], sym (append-nil v.terms));
+  given = λ n g is. (n, is);
+}
+
 pub led_same : (v : ClassesValue) (table : TableValue) (ids : List TermId) (fs gs : List Formula) → gs ≡ fs →
     IsLedBy v (classes_by table ids fs) → IsLedBy v (classes_by table ids gs)
 led_same v table ids fs gs same led = subst (λ (hs : List Formula). IsLedBy v (classes_by table ids hs)) (sym same) led

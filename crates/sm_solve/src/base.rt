@@ -12,8 +12,8 @@ ghost use Rattle.sm_solve.specs.Given.{IsWhole, classes_by, branch_of};
 ghost use Rattle.sm_solve.specs.Parts.{all_numbered, assertions_in, AreFormulasWithin};
 ghost use Rattle.sm_solve.specs.Seeing.{seen_in};
 
-use crate::classes::{classes_of, classes_over};
-use sm_cc::{Classes, Grounded};
+use crate::classes::{classes_of, classes_over, given_facts};
+use sm_cc::{Classes, Ground, Grounded};
 use sm_num::LinForm;
 use sm_term::{Formula, TermTable, Terms};
 use std::alloc::{AllocError, Global};
@@ -66,5 +66,27 @@ impl Base {
                 )
             }
         }
+    }
+}
+
+// The classes of all terms of a table by facts, for those of the branches that have these facts.
+pub(crate) fn base_of(
+    alloc: Global,
+    table: &TermTable,
+    forms: &[LinForm],
+    terms: &Terms,
+    facts: &[Formula],
+) -> Result<Base, AllocError>
+    requires forms { AreAllForms (trees_in table.now) forms.now }
+    requires whole { IsWhole (trees_in table.now) terms.now.list.items }
+    requires within { AreFormulasWithin (length (trees_in table.now)) (all_numbered facts.now) }
+    requires sorted { AreFormsSorted (sorts_in table.now)
+        (assertions_in (sorts_in table.now) (trees_in table.now) (all_numbered facts.now)) }
+    ensures { IfOk result (IsFrom (classes_by table.now terms.now.list.items facts.now)) }
+{
+    let given = given_facts(alloc, facts)?;
+    match Ground::of(alloc, table, forms, terms, &given)? {
+        Some(found) => Ok(Base::Over(found)),
+        None => Ok(Base::Nothing),
     }
 }

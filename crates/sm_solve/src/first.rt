@@ -1,4 +1,4 @@
-// The walk of all facts, from the first branch on.
+// The walk of all facts, from the first branch on: over a base, or over one that is made at a split.
 ghost use Rattle.std.specs.Prelude.{◌≡◌, List, length, IfOk, OnOk};
 ghost use Rattle.std.specs.List.{range_with_len};
 ghost use Rattle.sm_term.specs.Assertions.{Assertion};
@@ -10,18 +10,19 @@ ghost use Rattle.sm_cc.specs.Views.{ClassesValue};
 ghost use Rattle.sm_solve.specs.AllForms.{AreAllForms};
 ghost use Rattle.sm_solve.specs.Bases.{IsFrom};
 ghost use Rattle.sm_solve.specs.Branches.{with_parts};
-ghost use Rattle.sm_solve.specs.Given.{classes_by};
+ghost use Rattle.sm_solve.specs.Given.{IsWhole, classes_by};
 ghost use Rattle.sm_solve.specs.Listing.{numbers_of};
 ghost use Rattle.sm_solve.specs.Parts.{all_numbered, assertions_in, AreFormulasWithin};
 ghost use Rattle.sm_solve.specs.Walk.{walk_from};
 ghost use Rattle.sm_solve.specs.Walking.{TellsEnd, ShowsEnd};
 
-use crate::base::Base;
+use crate::base::{Base, base_of};
 use crate::classes::all_terms;
 use crate::ending::{WalkEnd, led_end};
-use crate::walking::walk_from;
+use crate::visiting::{Visit, visit_branch};
+use crate::walking::{walk_from, walk_on};
 use sm_num::LinForm;
-use sm_term::{Formula, TermTable};
+use sm_term::{Formula, TermTable, Terms};
 use std::alloc::{AllocError, Global};
 
 /// The walk of facts that are given with all parts of their conjunctions. Its classes begin with the
@@ -58,4 +59,74 @@ pub(crate) fn walk_over(
     let end = walk_from(alloc, base, table, forms, &terms, steps, 1001, 0, facts)?;
     let led = led_end(alloc, facts.as_slice(), 0, end)?;
     Ok(led)
+}
+
+/// The same with no base. Where the first branch is split, the branches below it begin with its
+/// classes.
+pub(crate) fn walk_alone(
+    alloc: Global,
+    table: &TermTable,
+    forms: &[LinForm],
+    facts: &mut Vec<Formula>,
+    steps: u64,
+) -> Result<WalkEnd, AllocError>
+    requires forms { AreAllForms (trees_in table.now) forms.now }
+    requires within { let count = length (trees_in table.now) in
+        AreFormulasWithin count (all_numbered facts.old.items) }
+    requires sorted { AreFormsSorted (sorts_in table.now)
+        (assertions_in (sorts_in table.now) (trees_in table.now) (all_numbered facts.old.items)) }
+    ensures tells { let sorts = sorts_in table.now in let trees = trees_in table.now in
+        let all = assertions_in sorts trees (all_numbered facts.old.items) in
+        IfOk result (λ e. TellsEnd sorts trees e (walk_from sorts trees steps 1001 0 all)) }
+    ensures shows { let sorts = sorts_in table.now in let trees = trees_in table.now in
+        (given : List Assertion) →
+        assertions_in sorts trees (all_numbered facts.old.items) ≡ with_parts given →
+        IfOk result (ShowsEnd sorts trees given 1001) }
+{
+    if steps == 0 {
+        return Ok(WalkEnd::Steps);
+    }
+    let terms = all_terms(alloc, table)?;
+    let mut nothing = Base::Nothing;
+    let visit = visit_branch(
+        alloc,
+        &mut nothing,
+        table,
+        forms,
+        &terms,
+        facts.as_slice(),
+        steps,
+        1,
+    )?;
+    let mut base = base_after(alloc, table, forms, &terms, facts.as_slice(), &visit)?;
+    let end = walk_on(
+        alloc, &mut base, table, forms, &terms, steps, 1000, facts, visit,
+    )?;
+    let led = led_end(alloc, facts.as_slice(), 0, end)?;
+    Ok(led)
+}
+
+// Where the branches below one begin: with its classes, where it is split.
+fn base_after(
+    alloc: Global,
+    table: &TermTable,
+    forms: &[LinForm],
+    terms: &Terms,
+    facts: &[Formula],
+    visit: &Visit,
+) -> Result<Base, AllocError>
+    requires forms { AreAllForms (trees_in table.now) forms.now }
+    requires whole { IsWhole (trees_in table.now) terms.now.list.items }
+    requires within { AreFormulasWithin (length (trees_in table.now)) (all_numbered facts.now) }
+    requires sorted { AreFormsSorted (sorts_in table.now)
+        (assertions_in (sorts_in table.now) (trees_in table.now) (all_numbered facts.now)) }
+    ensures { IfOk result (IsFrom (classes_by table.now terms.now.list.items facts.now)) }
+{
+    match visit {
+        Visit::Split {
+            count: _count,
+            split: _split,
+        } => base_of(alloc, table, forms, terms, facts),
+        _ => Ok(Base::Nothing),
+    }
 }

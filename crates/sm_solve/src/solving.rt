@@ -14,10 +14,9 @@ ghost use Rattle.sm_solve.specs.Renumbered.{AreTermsOf};
 ghost use Rattle.sm_solve.specs.Walk.{Walked, walk, walk_from};
 ghost use Rattle.sm_solve.specs.Walking.{TellsEnd, ShowsEnd, Shows};
 
-use crate::base::Base;
 use crate::branching::copy_facts;
 use crate::ending::WalkEnd;
-use crate::first::walk_over;
+use crate::first::walk_alone;
 use crate::linears::linear_forms;
 use crate::own::own_branch;
 use crate::parts::add_parts;
@@ -168,8 +167,7 @@ fn walk_all(
         IfOk result (ShowsEnd sorts trees given 1001) }
 {
     let forms = linear_forms(alloc, table)?;
-    let mut base = Base::Nothing;
-    walk_over(alloc, &mut base, table, &forms, facts, steps)
+    walk_alone(alloc, table, &forms, facts, steps)
 }
 
 // The end of a walk as an answer, under the numbers that its terms have in another table.
