@@ -1,5 +1,5 @@
 -- What runs of a node's goals come to, one after another, over the one table.
-use Rattle.std.proofs.Common.{◌≡◌, ℕ, zero, suc, ◌+◌, ◌-◌, ◌*◌, ◌%◌, ◌<◌, ◌≤◌, pos, true, false, List, [], ◌∷◌, ◌++◌, length, map, take, drop, get_or}
+use Rattle.std.proofs.Common.{◌≡◌, ℕ, zero, suc, ◌+◌, ◌-◌, ◌*◌, ◌/◌, ◌%◌, ◌<◌, ◌≤◌, pos, true, false, List, [], ◌∷◌, ◌++◌, length, map, take, drop, get_or}
 use Rattle.std.proofs.Common.{refl, sym, ap, ◌∙◌, subst, zero-add, zero-mul, suc-mul, mul_comm, mul-le-mul_right, arith}
 use Rattle.std.proofs.Math.Seq.{take-add}
 use Rattle.std.proofs.lemmas.List.{map-append, append_assoc, append-nil, drop-drop, drop-map}
@@ -36,11 +36,13 @@ use Rattle.sm_write.specs.TreesWithin.{AreTreesWithin}
 use Rattle.sm_write.specs.Writable.{AreShort}
 use Rattle.sm_houdini.specs.Certified.{AreCertified}
 use Rattle.sm_houdini.specs.Collected.{AreCollected, goals_with, stop_in, RunStops, RunCloses, GoalsStop, GoalsClose}
+use Rattle.sm_houdini.specs.Dealing.{dealt, placed}
 use Rattle.sm_houdini.specs.EndJobs.{PlanEndsValue, IsRunEnd, AreRunEnds, ArePlanEnds, IsPartEnd, TellsEnd, goals_from, size_of}
 use Rattle.sm_houdini.specs.Outcomes.{Outcome, goal_outcome, goals_outcome}
 use Rattle.sm_houdini.specs.declared.ending.Stop.{Stop}
 use Rattle.sm_houdini.specs.declared.end_jobs.RunEnd.{RunEnd}
 use Rattle.sm_houdini.proofs.ClosingLemmas.{ok_map}
+use Rattle.sm_houdini.proofs.DealtNodes.{placed_inside, dealt_placed}
 use Rattle.sm_houdini.proofs.EndLemmas.{collected_stays, within_append, short_append, forms_count, different, Ended}
 use Rattle.sm_houdini.proofs.LoopLemmas.{taken}
 use Rattle.sm_houdini.proofs.SimpleWritable.{certified_append}
@@ -427,31 +429,35 @@ pub plan_told : (v : PlanEndsValue) → 0 < v.each → v.count ≡ length v.dues
 plan_told v some all runs tell = record {
   count = tell.all ∙ all;
   at = λ (i k : ℕ) (due : program.Due) (e : RunEnd) (h : i < length v.dues) (l : k < v.each).
-      let place = i * v.each + k in
-      let least : suc i ≤ length v.dues = omega (arith, h) in
-      let more : suc i * v.each ≤ length v.dues * v.each = mul-le-mul_right v.each least in
-      let one = suc-mul i v.each in
+      let n = length v.dues in
+      let at = placed n i in
+      let place = at * v.each + k in
+      let least : suc at ≤ n = omega (arith, placed_inside n i h) in
+      let more : suc at * v.each ≤ n * v.each = mul-le-mul_right v.each least in
+      let one = suc-mul at v.each in
       let inside : place < v.count = omega (arith, all, more, one, l) in
-      let told = subst (λ (n : ℕ). TellsEnd v n (get_or runs place e)) (zero-add place) (tell.each place e inside) in
-      subst (λ (n : ℕ). IsPartEnd v.table v.steps (get_or v.dues i due) v.each n (get_or runs place e)) (mod-mul-add i v.each k l)
-      (subst (λ (n : ℕ). IsPartEnd v.table v.steps (get_or v.dues n due) v.each (place % v.each) (get_or runs place e))
-      (div-mul-add i v.each k l) (told due));
+      let node : dealt n (place / v.each) ≡ i = ap (dealt n) (div-mul-add at v.each k l) ∙ dealt_placed n i h in
+      let told = subst (λ (j : ℕ). TellsEnd v j (get_or runs place e)) (zero-add place) (tell.each place e inside) in
+      subst (λ (j : ℕ). IsPartEnd v.table v.steps (get_or v.dues i due) v.each j (get_or runs place e)) (mod-mul-add at v.each k l)
+      (subst (λ (j : ℕ). IsPartEnd v.table v.steps (get_or v.dues j due) v.each (place % v.each) (get_or runs place e))
+      node (told due));
 }
 
 -- the runs of one node
 pub node_ends : (v : TableValue) (steps : ℕ) (dues : List program.Due) (each : ℕ) (runs : List RunEnd) → 0 < each →
     ArePlanEnds v steps dues each runs → (i : ℕ) (due : program.Due) → i < length dues → due ≡ get_or dues i due → (part : List RunEnd) →
-    part ≡ take each (drop (i * each) runs) → AreRunEnds v steps due due.targets.list.items part
+    part ≡ take each (drop (placed (length dues) i * each) runs) → AreRunEnds v steps due due.targets.list.items part
 node_ends v steps dues each runs some ends i due h is part part_is =
     let goals = due.targets.list.items in
     let size = size_of (length goals) each in
-    let least : suc i ≤ length dues = omega (arith, h) in
-    let more : suc i * each ≤ length dues * each = mul-le-mul_right each least in
-    let one = suc-mul i each in
+    let at = placed (length dues) i in
+    let least : suc at ≤ length dues = omega (arith, placed_inside (length dues) i h) in
+    let more : suc at * each ≤ length dues * each = mul-le-mul_right each least in
+    let one = suc-mul at each in
     let count = ends.count in
-    let left : length (drop (i * each) runs) ≡ length runs - i * each = length-drop (i * each) runs in
-    let enough : each ≤ length (drop (i * each) runs) = omega (arith, left, more, one, count) in
-    let long : length part ≡ each = ap (λ (l : List RunEnd). length l) part_is ∙ length-take-le each (drop (i * each) runs) enough in
+    let left : length (drop (at * each) runs) ≡ length runs - at * each = length-drop (at * each) runs in
+    let enough : each ≤ length (drop (at * each) runs) = omega (arith, left, more, one, count) in
+    let long : length part ≡ each = ap (λ (l : List RunEnd). length l) part_is ∙ length-take-le each (drop (at * each) runs) enough in
     let ceil = (div_ceil_times (length goals) each some).0 in
     let turned : size * each ≡ length part * size = mul_comm size each ∙ ap (λ (n : ℕ). n * size) (sym long) in
     record {
@@ -459,12 +465,12 @@ node_ends v steps dues each runs some ends i due h is part part_is =
       reach = omega (arith, ceil, turned);
       each = λ (k : ℕ) (e : RunEnd) (l : k < length part).
           let inside : k < each = omega (arith, l, long) in
-          let place : get_or part k e ≡ get_or runs (i * each + k) e =
-          ap (λ (p : List RunEnd). get_or p k e) part_is ∙ get_or-take each (drop (i * each) runs) k e inside
-          ∙ get_or-drop (i * each) runs k e in
+          let place : get_or part k e ≡ get_or runs (at * each + k) e =
+          ap (λ (p : List RunEnd). get_or p k e) part_is ∙ get_or-take each (drop (at * each) runs) k e inside
+          ∙ get_or-drop (at * each) runs k e in
           let told = ends.at i k due e h inside in
           subst (IsRunEnd v steps due (k * size) (goals_from size (k * size) goals)) (sym place)
-          (subst (λ (d : program.Due). IsPartEnd v steps d each k (get_or runs (i * each + k) e)) (sym is) told);
+          (subst (λ (d : program.Due). IsPartEnd v steps d each k (get_or runs (at * each + k) e)) (sym is) told);
     }
 
 -- the end of a run over a table with the same terms

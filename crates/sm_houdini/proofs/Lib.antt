@@ -27,6 +27,7 @@ pub mod KnownLemmas
 pub mod ShortLemmas
 pub mod SitesLemmas
 pub mod EndLemmas
+pub mod DealtNodes
 pub mod EndJobsLemmas
 pub mod EndedLemmas
 pub mod UnnamedLines

@@ -10,6 +10,7 @@ use Rattle.sm_expand.specs.Views.{due_in}
 use Rattle.sm_solve.specs.Walk.{walk}
 use Rattle.sm_houdini.specs.declared.end_jobs.RunEnd.{RunEnd}
 use Rattle.sm_houdini.specs.Collected.{AreCollected, goals_with, RunStops, RunCloses}
+use Rattle.sm_houdini.specs.Dealing.{dealt, placed}
 
 -- a table, what nodes ask over it, how many runs the goals of each node have, the most steps of a
 -- walk, and how many runs there are
@@ -54,7 +55,8 @@ IsPartEnd v steps due each k end =
 -- what the run with a job's number comes to
 abbrev pub TellsEnd : PlanEndsValue → ℕ → RunEnd → Type 0
 TellsEnd v i end =
-    (due : Due) → IsPartEnd v.table v.steps (slice_index_or v.dues (i / v.each) due) v.each (i % v.each) end
+    let node = dealt (length v.dues) (i / v.each) in
+    (due : Due) → IsPartEnd v.table v.steps (slice_index_or v.dues node due) v.each (i % v.each) end
 
 -- what all runs of goals come to, in order
 pub record AreRunEnds (v : TableValue) (steps : ℕ) (due : Due) (goals : List Formula)
@@ -66,7 +68,7 @@ pub record AreRunEnds (v : TableValue) (steps : ℕ) (due : Due) (goals : List F
       k < length runs →
       IsRunEnd v steps due (k * size) (goals_from size (k * size) goals) (slice_index_or runs k e)
 
--- what the runs of all nodes' goals come to, node by node
+-- what the runs of all nodes' goals come to, those of each node together at its place
 pub record ArePlanEnds (v : TableValue) (steps : ℕ) (dues : List Due) (each : ℕ)
     (runs : List RunEnd) : Type 0 where
   pub count : length runs ≡ length dues * each
@@ -74,4 +76,5 @@ pub record ArePlanEnds (v : TableValue) (steps : ℕ) (dues : List Due) (each : 
       (i k : ℕ) (due : Due) (e : RunEnd) →
       i < length dues →
       k < each →
-      IsPartEnd v steps (slice_index_or dues i due) each k (slice_index_or runs (i * each + k) e)
+      IsPartEnd v steps (slice_index_or dues i due) each k
+      (slice_index_or runs (placed (length dues) i * each + k) e)

@@ -12,5 +12,6 @@ pub mod GoalJobs
 pub mod SitesBelow
 pub mod ShortFacts
 pub mod Collected
+pub mod Dealing
 pub mod EndJobs
 pub mod Searchable

@@ -23,6 +23,7 @@ ghost use Rattle.sm_houdini.specs.Collected.{AreCollected, goals_with, IsInsideC
 ghost use Rattle.sm_houdini.specs.Collected.{RunStops, RunCloses, FinalStops, FinalCloses};
 ghost use Rattle.sm_houdini.specs.EndJobs.{AreRunEnds, ArePlanEnds, IsPartEnd, TellsEnd, size_of};
 
+use crate::dealing::{dealt, placed};
 use crate::ending::{Stop, end_run};
 use crate::goal_jobs::Crew;
 use sm_cert::CertTree;
@@ -140,7 +141,7 @@ fn joined_all(
 {
     let from = table.len();
     for at in 0..dues.len() {
-        let first = at * each;
+        let first = placed(dues.len(), at) * each;
         let end = joined(alloc, table, from, &ends[first..first + each], trees)?;
         if end.is_some() {
             return Ok(end);
@@ -270,7 +271,8 @@ pub(crate) struct RunEnd {
     stop: Option<Stop>,
 }
 
-// The goals that nodes ask, so many runs of each; the last may be shorter. A job has one run.
+// The goals that nodes ask, so many runs of each; the last may be shorter. A job has one run, and
+// the runs of a node stand together at its place.
 #[derive(Drop)]
 struct PlanEnds<'a> {
     table: &'a TermTable,
@@ -315,7 +317,7 @@ impl Job for PlanEnds<'_> {
 
     fn run(&self, alloc: Global, index: u64) -> Result<RunEnd, AllocError> {
         let at = index as usize;
-        let due = &self.dues[at / self.each];
+        let due = &self.dues[dealt(self.dues.len(), at / self.each)];
         run_end(
             alloc,
             self.table,

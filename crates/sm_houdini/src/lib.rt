@@ -17,6 +17,7 @@
 mod asked;
 mod choosing;
 mod closing;
+mod dealing;
 mod deciding;
 mod dues;
 mod end_jobs;

@@ -1,0 +1,10 @@
+-- Each node comes at its place.
+use Rattle.std.proofs.Common.{◌≡◌, ℕ, ◌+◌, ◌-◌, ◌*◌, ◌/◌, ◌%◌, ◌==◌, ◌<◌, nat_lt, if◌then◌else◌, arith}
+use Rattle.std.proofs.lemmas.Bool.Decides.{nat_tests}
+use Rattle.sm_houdini.specs.Dealing.{dealt, placed}
+
+pub placed_inside : (count node : ℕ) → node < count → placed count node < count
+placed_inside count node h = grind (arith, nat_tests)
+
+pub dealt_placed : (count node : ℕ) → node < count → dealt count (placed count node) ≡ node
+dealt_placed count node h = grind (arith, nat_tests)
