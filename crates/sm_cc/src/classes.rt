@@ -366,7 +366,7 @@ pub(crate) fn labels_of(
     ensures { IfOk result (λ v.
         v.items ≡ map (λ t. label_at labels.now (place_at positions.now t.0)) terms.now) }
 {
-    let mut list = Vec::new(alloc);
+    let mut list = Vec::with_capacity(alloc, terms.len())?;
     for t in terms {
         list.push(label_at(labels, positions.place(*t)))?;
     }

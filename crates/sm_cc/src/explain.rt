@@ -131,7 +131,7 @@ fn emitted(alloc: Global, c: &Closure, marks: &[bool], start: u64) -> Result<Dra
 {
     let mut draft = Draft {
         steps: Vec::new(alloc),
-        numbers: Vec::new(alloc),
+        numbers: Vec::with_capacity(alloc, c.entries.len())?,
     };
     for m in 0..c.entries.len() {
         emit(alloc, c, marks, start, m, &mut draft)?;

@@ -179,7 +179,7 @@ impl PlaceClasses {
 pub(crate) fn right_sides(alloc: Global, equations: &[Equation]) -> Result<Vec<u64>, AllocError>
     ensures { IfOk result (λ v. v.items ≡ map (λ e. e.right) equations.now) }
 {
-    let mut places = Vec::new(alloc);
+    let mut places = Vec::with_capacity(alloc, equations.len())?;
     for e in equations {
         places.push(e.right)?;
     }

@@ -108,7 +108,7 @@ pub(crate) fn select(
     requires { AreWithin (length forms.now) places.now }
     ensures { IfOk result (λ v. v.items ≡ places_of role t forms.now places.now) }
 {
-    let mut out = Vec::new(alloc);
+    let mut out = Vec::with_capacity(alloc, places.len())?;
     for place in places {
         let chosen = plays(&forms[*place as usize], *place, t, role);
         put_if(&mut out, *place, chosen)?;

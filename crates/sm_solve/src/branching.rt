@@ -19,7 +19,7 @@ use std::alloc::{AllocError, Global};
 pub(crate) fn copy_facts(alloc: Global, facts: &[Formula]) -> Result<Vec<Formula>, AllocError>
     ensures { IfOk result (λ v. all_numbered v.items ≡ all_numbered facts.now) }
 {
-    let mut list = Vec::new(alloc);
+    let mut list = Vec::with_capacity(alloc, facts.len())?;
     for f in facts {
         list.push(copy_formula(alloc, f)?)?;
     }

@@ -46,7 +46,7 @@ pub fn all_terms(alloc: Global, table: &TermTable) -> Result<Terms, AllocError>
     ensures counted { let count = length (trees_in table.now) in
         IfOk result (λ ts. numbers_of ts.list.items ≡ range_with_len 0 count) }
 {
-    let mut list = Vec::new(alloc);
+    let mut list = Vec::with_capacity(alloc, table.len() as usize)?;
     for n in 0..table.len() {
         list.push(TermId(n))?;
     }
@@ -114,7 +114,7 @@ pub(crate) fn classes_over<'a>(
 pub(crate) fn given_facts(alloc: Global, facts: &[Formula]) -> Result<Vec<GivenFact>, AllocError>
     ensures { IfOk result (λ v. v.items ≡ given_from 0 facts.now) }
 {
-    let mut given = Vec::new(alloc);
+    let mut given = Vec::with_capacity(alloc, facts.len())?;
     let mut n = 0;
     for f in facts {
         give(&mut given, n, f)?;

@@ -25,7 +25,7 @@ pub(crate) fn class_pairs(
         places_of ps.items ≡ pairs_of (sorts_in table.now) equal trees 0 trees) }
     ensures within { IfOk result (λ ps. ArePairsWithin (length (trees_in table.now)) ps.items) }
 {
-    let mut firsts = HashMap::new(alloc);
+    let mut firsts = HashMap::with_capacity(alloc, labels.len())?;
     let mut pairs = Vec::new(alloc);
     for n in 0..table.len() {
         let first = first_with(&mut firsts, labels[n as usize], n)?;

@@ -87,7 +87,7 @@ pub(crate) fn list_formulas(
 pub(crate) fn numbered_terms(alloc: Global, numbers: &[u64]) -> Result<Terms, AllocError>
     ensures { IfOk result (λ ts. numbers_of ts.list.items ≡ numbers.now) }
 {
-    let mut list = Vec::new(alloc);
+    let mut list = Vec::with_capacity(alloc, numbers.len())?;
     for n in numbers {
         list.push(TermId(*n))?;
     }
