@@ -1,7 +1,7 @@
 // Goals that are known to close from the round before.
 ghost use Rattle.std.specs.Prelude.{◌≡◌, ◌<◌, ℕ, Bool, true, Some, length, slice_get};
 ghost use Rattle.std.specs.Prelude.{IfOk};
-ghost use Rattle.sm_term.specs.Formulas.{NumberedFormula, numbered};
+ghost use Rattle.sm_term.specs.Formulas.{NumberedFormula};
 ghost use Rattle.sm_term.specs.Tables.{TableValue, trees_in, sorts_in};
 ghost use Rattle.sm_expand.specs.Views.{due_in};
 ghost use Rattle.sm_solve.specs.Parts.{all_numbered};
@@ -13,6 +13,7 @@ use crate::asked::Asked;
 use crate::marks::{Marked, is_marked};
 use crate::owners::owner;
 use sm_expand::Due;
+use sm_solve::is_same_formula;
 use sm_term::Formula;
 use std::alloc::{AllocError, Global};
 
@@ -26,24 +27,6 @@ pub(crate) fn is_flagged(flags: &[bool], at: usize) -> bool
     }
 }
 
-// Whether two formulas are the same, by their numbers of terms.
-#[cycle(same_formula)]
-fn is_same(f: &Formula, g: &Formula) -> bool
-    ensures { result ≡ true → numbered f.now ≡ numbered g.now }
-{
-    match (f, g) {
-        (Formula::Yes, Formula::Yes) => true,
-        (Formula::No, Formula::No) => true,
-        (Formula::Eq(a, b), Formula::Eq(c, d)) => a.0 == c.0 && b.0 == d.0,
-        (Formula::Ne(a, b), Formula::Ne(c, d)) => a.0 == c.0 && b.0 == d.0,
-        (Formula::Le(a, b), Formula::Le(c, d)) => a.0 == c.0 && b.0 == d.0,
-        (Formula::Lt(a, b), Formula::Lt(c, d)) => a.0 == c.0 && b.0 == d.0,
-        (Formula::And(p, q), Formula::And(r, s)) => is_same(p, r) && is_same(q, s),
-        (Formula::Or(p, q), Formula::Or(r, s)) => is_same(p, r) && is_same(q, s),
-        _ => false,
-    }
-}
-
 // Whether two lists have the same formulas, in order.
 fn are_same(list: &[Formula], others: &[Formula]) -> bool
     ensures { result ≡ true → all_numbered list.now ≡ all_numbered others.now }
@@ -52,7 +35,7 @@ fn are_same(list: &[Formula], others: &[Formula]) -> bool
         return false;
     }
     for n in 0..list.len() {
-        if !is_same(&list[n], &others[n]) {
+        if !is_same_formula(&list[n], &others[n]) {
             return false;
         }
     }
@@ -70,7 +53,7 @@ fn is_next(list: &[Formula], found: usize, others: &[Formula], marks: &[Marked],
         return false;
     }
     match (list.get(found), others.get(at)) {
-        (Some(f), Some(g)) => is_same(f, g),
+        (Some(f), Some(g)) => is_same_formula(f, g),
         _ => false,
     }
 }

@@ -76,7 +76,7 @@ impl<'a> KeyedFacts<'a> {
 fn places_of(alloc: Global, list: &[Formula]) -> Result<HashMap<u64, u64>, AllocError>
     ensures { IfOk result (λ m. AreKeyed (get nat_eq m) list.now) }
 {
-    let mut places = HashMap::new(alloc);
+    let mut places = HashMap::with_capacity(alloc, list.len())?;
     for n in 0..list.len() {
         note(&mut places, key_of(&list[n]), n as u64)?;
     }
@@ -149,9 +149,10 @@ fn has_formula(list: &[Formula], f: &Formula) -> bool
     false
 }
 
-// Whether two formulas are the same.
-fn is_same_formula(f: &Formula, g: &Formula) -> bool
-    ensures { result ≡ same_numbered (numbered f.now) (numbered g.now) }
+/// Whether two formulas are the same, by their numbers of terms.
+pub fn is_same_formula(f: &Formula, g: &Formula) -> bool
+    ensures same { result ≡ same_numbered (numbered f.now) (numbered g.now) }
+    ensures equal { result ≡ true → numbered f.now ≡ numbered g.now }
 {
     match (f, g) {
         (Formula::Yes, Formula::Yes) => true,

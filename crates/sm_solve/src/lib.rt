@@ -18,7 +18,8 @@
 //!   the end (`renumbered`, `renumbered_tree`).
 //! - `Node` is made of the facts of several obligations, once: the table of their terms, and their
 //!   classes. `solve_at` answers an obligation of these facts as `solve` does, and makes anew only
-//!   what its goal adds. All branches of such a walk begin with these classes (`Base`).
+//!   what its goal adds. All branches of such a walk begin with these classes (`Base`);
+//!   those of a walk of its own begin with those of its first branch, where that is split.
 //!
 //! Read `specs/Walk.antt` first, then `specs/Branches.antt`, `specs/Holding.antt` and
 //! `specs/Answers.antt`. `proofs/WalkExamples.antt` has walks worked by hand.
@@ -69,7 +70,7 @@ pub use closing::{BranchSplit, Closing, closed_by, split_of};
 pub use eliminating::{ByForms, ElimLine, Refutation, by_forms};
 pub use forms::{Source, SourcedForms, forms_of};
 pub use holding::{index_split, is_fact, is_held, is_refuted, order_split, part_split};
-pub use keyed::KeyedFacts;
+pub use keyed::{KeyedFacts, is_same_formula};
 pub use node::Node;
 pub use own::{OwnBranch, own_branch};
 pub use parts::{add_parts, add_with_parts};

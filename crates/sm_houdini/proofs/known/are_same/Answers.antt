@@ -7,4 +7,4 @@ loop-n-preserved c =
     let count = c.if-list-others.false in
     let other : c.loop-n.n < length c.args.others.now = omega (arith, count, c.loop-n-test.true) in
     same_put c.args.list.now c.args.others.now c.loop-n.n c.index-list-n.result c.index-others-n.result c.loop-n-test.true other
-    c.index-list-n.is c.index-others-n.is (c.is_same.ensures c.if-not-is_same.false) c.loop-n.invariant
+    c.index-list-n.is c.index-others-n.is (c.is_same_formula.ensures.equal c.if-not-is_same_formula.false) c.loop-n.invariant
