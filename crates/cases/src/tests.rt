@@ -2,15 +2,18 @@
 
 use sm_deps::{inputs, writes};
 use sm_eval::Store;
+use sm_expand::Last;
 use sm_gen::generate;
 use sm_io::{MemShelf, Shelf, append_all};
 use sm_num::{add, mul, sub};
+use sm_product::{all_templates, plan_of, sites, sketch_of, templates};
 use sm_proof::{FormLine, Line, LineError, NodeLine, read_line};
 use sm_replay::{read_input, write_input};
 use sm_syntax::{
     Block, Mark, Name, NameTable, Sort, Symbol, copy_block, depth, nodes, same_block, well_formed,
 };
 use sm_task::{fill, parse_task};
+use sm_term::TermTable;
 use sm_text::{
     TextError, names, parse_block, parse_head, parse_program, print_block, print_cond,
     print_program, print_task, symbols, tokens,
@@ -112,6 +115,10 @@ candidate {
   }
 }
 ";
+
+// Two edits in the body of one loop.
+const OF_A_LOOP: &str =
+    "var i, n; array a, c, out, log; output out, log; shared { i = 0; while (i < n) { ?1; ?2; i = i + 1; } } base { ?1 { out[i] = a[i]; } ?2 { log[i] = c[i]; } } variant_a { ?1 { out[i] = a[i] + 1; } ?2 { log[i] = c[i]; } } variant_b { ?1 { out[i] = a[i]; } ?2 { log[i] = c[i] + i; } } candidate { ?1 { out[i] = a[i] + 1; } ?2 { log[i] = c[i] + i; } }";
 
 // The block at the front of a text, where x has number 0, y has 1 and so on for z, v and a.
 fn block_of(alloc: Global, text: &str) -> Result<Block, TextError> {
@@ -356,5 +363,27 @@ fn tasks_that_are_made_up_have_their_texts(rt: HostRuntime) -> Result<(), Fail> 
         print_task(alloc, &three.task)?.as_slice(),
         OF_THREE.as_bytes()
     );
+    Ok(())
+}
+
+#[test]
+fn a_task_has_a_plan_of_all_its_templates(rt: HostRuntime) -> Result<(), Fail> {
+    let task = parse_task(rt.alloc(), OF_A_LOOP.as_bytes())?;
+    let mut table = TermTable::new(rt.alloc(), &task.shared.decls)?;
+    let sketch = sketch_of(rt.alloc(), &mut table, &task)?;
+    let all = all_templates(rt.alloc(), &sketch)?;
+    let listed = sites(rt.alloc(), &sketch)?;
+    // The four copies set i, and run the loop together, with a turn for each set of them.
+    let plan = plan_of(rt.alloc(), &mut table, &task, &all)?;
+    let (set, turns) = match &plan.last {
+        Last::Loop { set, turns, .. } => (*set, turns.list.len()),
+        _ => (0, 0),
+    };
+    assert_eq!(rt; (plan.straight.list.len(), set, turns), (4, 15, 15));
+    assert_eq!(rt; (listed.len(), all.sites.len()), (1, 1));
+    if listed.len() == 1 {
+        let of_loop = templates(rt.alloc(), &mut table, &task, 0)?;
+        assert_eq!(rt; (of_loop.list.len(), listed[0].list.len()), (75, 75));
+    }
     Ok(())
 }
