@@ -38,6 +38,11 @@ fn list_term(
     ensures listed { OnOk result (AreBelow (length (trees_in table.now)) listed.new.keys) }
     ensures closed { OnOk result (IsClosed (trees_at (trees_in table.now) listed.new.keys)) }
 {
+    // No term is there twice.
+    let _count = table.len();
+    if listed.contains(&t.0) {
+        return Ok(());
+    }
     let mut steps = Vec::new(alloc);
     steps.push(Step::Visit(t.0))?;
     while let Some(step) = steps.pop() {

@@ -1,10 +1,21 @@
 -- The step that is taken is one of those that were left.
-use Rattle.std.proofs.Common.{◌≡◌, ◌<◌, ◌+◌, ◌++◌, ◌∷◌, [], List, length, subst, ap, ◌∙◌, arith}
-use Rattle.sm_term.specs.Tables.{trees_in}
+use Rattle.std.proofs.Common.{◌≡◌, ◌<◌, ◌+◌, ◌++◌, ◌∷◌, [], List, true, length, nat_eq, sym, subst, ap, ◌∙◌, arith}
+use Rattle.std.specs.List.{list_any}
+use Rattle.sm_term.specs.Tables.{trees_in, tree_at}
 use Rattle.sm_solve.specs.declared.listing.Step.{Step}
-use Rattle.sm_solve.specs.Listing.{AreStepsWithin, cost_of_step, cost_of_steps}
-use Rattle.sm_solve.proofs.ListingLemmas.{steps_within-split, cost-append}
+use Rattle.sm_solve.specs.Listing.{trees_at, AreStepsWithin, cost_of_step, cost_of_steps}
+use Rattle.sm_solve.proofs.ListingLemmas.{steps_within-split, cost-append, listed_tells}
+use Rattle.sm_solve.proofs.WithTermLemmas.{same_with_term}
 use Rattle.sm_solve.proofs.listing.list_term.Goals as goal
+
+pub returns-then-contains-clause-terms : goal.returns-then-contains-clause-terms
+returns-then-contains-clause-terms c =
+    let trees = trees_in c.args.table.now in
+    let keys = c.args.listed.now.keys in
+    let n = c.args.t.0 in
+    let there : list_any (nat_eq n) keys ≡ true = sym c.contains.ensures ∙ c.if-contains.true in
+    let told = sym (listed_tells trees c.len-count.ensures.apart keys c.requires.listed n c.requires.within) ∙ there in
+    sym (same_with_term (tree_at trees n) (trees_at trees keys) c.requires.closed told)
 
 pub take_step-requires : goal.take_step-requires
 take_step-requires c =
