@@ -1,19 +1,28 @@
 // Nodes that are dealt to jobs.
-ghost use Rattle.std.specs.Prelude.{◌≡◌, ◌<◌};
-ghost use Rattle.sm_houdini.specs.Dealing.{dealt, placed};
+ghost use Rattle.std.specs.Prelude.{◌≡◌, ◌<◌, ◌≤◌};
+ghost use Rattle.sm_houdini.specs.Dealing.{first_count, dealt, placed};
 
-/// The node that comes at a place: every second one comes first, from the second on, and then the
-/// others. So each half of the places has as many nodes of any part of a plan.
+/// How many nodes come first: two of each four, the second and the third.
+fn first_count(count: usize) -> usize
+    ensures first { result ≡ first_count count }
+    ensures inside { result ≤ count }
+{
+    count / 2 + count % 4 / 3
+}
+
+/// The node that comes at a place: of each four the second and the third come first, and then the
+/// others. So both parts have as many nodes of any part of a plan, and neither all of every second one.
 pub(crate) fn dealt(count: usize, place: usize) -> usize
     requires { place < count }
     ensures node { result ≡ dealt count place }
     ensures inside { result < count }
 {
-    let half = count / 2;
-    if place < half {
-        2 * place + 1
+    let first = first_count(count);
+    if place < first {
+        2 * place + 1 - place % 2
     } else {
-        2 * (place - half)
+        let behind = place - first;
+        2 * behind + behind % 2
     }
 }
 
@@ -23,9 +32,10 @@ pub(crate) fn placed(count: usize, node: usize) -> usize
     ensures place { result ≡ placed count node }
     ensures inside { result < count }
 {
-    if node % 2 == 1 {
-        node / 2
+    let half = node / 2;
+    if (node % 2 + half) % 2 == 1 {
+        half
     } else {
-        count / 2 + node / 2
+        first_count(count) + half
     }
 }
