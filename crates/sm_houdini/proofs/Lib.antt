@@ -19,6 +19,7 @@ pub mod MarkedLemmas
 pub mod ShareLemmas
 pub mod ClosingLemmas
 pub mod SharedLemmas
+pub mod NodeLemmas
 pub mod GoalJobsLemmas
 pub mod RunLemmas
 pub mod TotalsLemmas

@@ -21,10 +21,12 @@ use Rattle.sm_houdini.specs.declared.marks.Marked.{Marked}
 use Rattle.sm_houdini.specs.declared.product.Product.{Product}
 use Rattle.sm_houdini.specs.Closing.{closing, stays_at, owner_in, Knows}
 use Rattle.sm_houdini.specs.Marks.{all_marked, numbers_of}
+use Rattle.sm_houdini.specs.NodeJobs.{holds_but}
 use Rattle.sm_houdini.specs.Owners.{owners}
 use Rattle.sm_houdini.specs.Rounds.{is_site, closes_if, holds_at, next_round, settled, dues_of, same_choice}
 use Rattle.sm_houdini.proofs.MarkedLemmas.{all_same, sites_same}
 use Rattle.sm_houdini.proofs.ClosingLemmas.{due_stays}
+use Rattle.sm_houdini.proofs.NodeLemmas.{with_true}
 
 -- what is known of a task stays while the table widens
 pub knows_stays : (v w : TableValue) → Widens v w → (task : Task) (p : Product) → Knows v task p → Knows w task p
@@ -45,11 +47,14 @@ and_turned true false = refl
 and_turned false true = refl
 and_turned false false = refl
 
-holds_more : (closes : List Assertion → Assertion → Bool) (owner : plain.Due → Option ℕ) (ds : List plain.Due) (d : plain.Due) (s i : ℕ) →
-    holds_at closes owner (d ∷ ds) s i
-    ≡ (holds_at closes owner ds s i && (not (is_site (owner d) s) || closes_if (closes d.facts) (slice_get d.goals i)))
-holds_more closes owner ds d s i =
-    and_turned (not (is_site (owner d) s) || closes_if (closes d.facts) (slice_get d.goals i)) (holds_at closes owner ds s i)
+holds_more : (out : ℕ → Bool) (closes : List Assertion → Assertion → Bool) (owner : plain.Due → Option ℕ) (n : ℕ) (ds : List plain.Due)
+    (d : plain.Due) (s i : ℕ) →
+    holds_but out closes owner n (d ∷ ds) s i
+    ≡ (holds_but out closes owner (suc n) ds s i
+    && (out n || (not (is_site (owner d) s) || closes_if (closes d.facts) (slice_get d.goals i))))
+holds_more out closes owner n ds d s i =
+    and_turned (out n || (not (is_site (owner d) s) || closes_if (closes d.facts) (slice_get d.goals i)))
+    (holds_but out closes owner (suc n) ds s i)
 
 pub facts_at : (sorts : Sorts) (trees : List Tree) (ds : List Due) (i : ℕ) (d : Due) → AreDuesReady sorts trees ds → i < length ds →
     d ≡ get_or ds i d → AreFormsReady sorts trees d.facts.list.items × AreFormsReady sorts trees d.targets.list.items
@@ -72,42 +77,39 @@ dues_left sorts trees ds i d h e =
     ∙ ap (λ (xs : List plain.Due). due_in sorts trees d ∷ xs) (sym (drop-map (due_in sorts trees) (i + 1) ds))
 
 -- nothing asked takes no mark away
-with_true : (b : Bool) → b ≡ (b && true)
-with_true true = refl
-with_true false = refl
-
-pub none_asked : (closes : List Assertion → Assertion → Bool) (owner : plain.Due → Option ℕ) (passes : ℕ → ℕ → Bool)
-    (choice : Choice) →
-    all_marked passes 0 choice ≡ all_marked (λ (s i : ℕ). passes s i && holds_at closes owner [] s i) 0 choice
-none_asked closes owner passes choice =
-    all_same passes (λ (s i : ℕ). passes s i && holds_at closes owner [] s i) 0 choice (λ (s i : ℕ) (l : 0 ≤ s). with_true (passes s i))
+pub none_asked : (out : ℕ → Bool) (closes : List Assertion → Assertion → Bool) (owner : plain.Due → Option ℕ) (n : ℕ)
+    (passes : ℕ → ℕ → Bool) (choice : Choice) →
+    all_marked passes 0 choice ≡ all_marked (λ (s i : ℕ). passes s i && holds_but out closes owner n [] s i) 0 choice
+none_asked out closes owner n passes choice =
+    all_same passes (λ (s i : ℕ). passes s i && holds_but out closes owner n [] s i) 0 choice
+    (λ (s i : ℕ) (l : 0 ≤ s). with_true (passes s i))
 
 and_grouped : (a b c d : Bool) → d ≡ (b && c) → ((a && b) && c) ≡ (a && d)
 and_grouped true b c d e = sym e
 and_grouped false b c d e = refl
 
-pub round_step : (v w : TableValue) → Widens v w → (steps : ℕ) (owner : plain.Due → Option ℕ) (ds : List Due) (i : ℕ) (d : Due)
-    (passes : ℕ → ℕ → Bool) (choice : Choice) (new : List (List Marked)) → AreDuesReady (sorts_in v) (trees_in v) ds →
-    i < length ds → d ≡ get_or ds i d →
+pub round_step : (v w : TableValue) → Widens v w → (steps : ℕ) (owner : plain.Due → Option ℕ) (out : ℕ → Bool) (ds : List Due) (i : ℕ)
+    (d : Due) (b : Bool) (passes : ℕ → ℕ → Bool) (choice : Choice) (new : List (List Marked)) →
+    AreDuesReady (sorts_in v) (trees_in v) ds → i < length ds → d ≡ get_or ds i d → b ≡ out i →
     new ≡ all_marked (λ (s j : ℕ).
-    (passes s j && holds_at (closing (sorts_in v) steps) owner (drop (i + 1) (dues_in (sorts_in v) (trees_in v) ds)) s j)
-    && stays_at (sorts_in w) steps owner (due_in (sorts_in w) (trees_in w) d) s j) 0 choice →
+    (passes s j && holds_but out (closing (sorts_in v) steps) owner (i + 1) (drop (i + 1) (dues_in (sorts_in v) (trees_in v) ds)) s j)
+    && (b || stays_at (sorts_in w) steps owner (due_in (sorts_in w) (trees_in w) d) s j)) 0 choice →
     new ≡ all_marked (λ (s j : ℕ). passes s j
-    && holds_at (closing (sorts_in v) steps) owner (drop i (dues_in (sorts_in v) (trees_in v) ds)) s j) 0 choice
-round_step v w wider steps owner ds i d passes choice new ready h e judged =
+    && holds_but out (closing (sorts_in v) steps) owner i (drop i (dues_in (sorts_in v) (trees_in v) ds)) s j) 0 choice
+round_step v w wider steps owner out ds i d b passes choice new ready h e left judged =
     let parts = facts_at (sorts_in v) (trees_in v) ds i d ready h e in
     let due = due_stays v w wider d parts.0 parts.1 in
     let behind = drop (i + 1) (dues_in (sorts_in v) (trees_in v) ds) in
     let closes = closing (sorts_in v) steps in
     let here = due_in (sorts_in v) (trees_in v) d in
     judged
-    ∙ (λ k. all_marked (λ (s j : ℕ). (passes s j && holds_at closes owner behind s j)
-    && stays_at (wider.sorts k) steps owner (due k) s j) 0 choice)
-    ∙ all_same _ (λ (s j : ℕ). passes s j && holds_at closes owner (here ∷ behind) s j) 0 choice
+    ∙ (λ k. all_marked (λ (s j : ℕ). (passes s j && holds_but out closes owner (add-one i k) behind s j)
+    && (left k || stays_at (wider.sorts k) steps owner (due k) s j)) 0 choice)
+    ∙ all_same _ (λ (s j : ℕ). passes s j && holds_but out closes owner i (here ∷ behind) s j) 0 choice
     (λ (s j : ℕ) (l : 0 ≤ s).
-    and_grouped (passes s j) (holds_at closes owner behind s j) (stays_at (sorts_in v) steps owner here s j)
-    (holds_at closes owner (here ∷ behind) s j) (holds_more closes owner behind here s j))
-    ∙ ap (λ (es : List plain.Due). all_marked (λ (s j : ℕ). passes s j && holds_at closes owner es s j) 0 choice)
+    and_grouped (passes s j) (holds_but out closes owner (suc i) behind s j) (out i || stays_at (sorts_in v) steps owner here s j)
+    (holds_but out closes owner i (here ∷ behind) s j) (holds_more out closes owner i behind here s j))
+    ∙ ap (λ (es : List plain.Due). all_marked (λ (s j : ℕ). passes s j && holds_but out closes owner i es s j) 0 choice)
     (sym (dues_left (sorts_in v) (trees_in v) ds i d h e))
 
 -- the next round

@@ -1,4 +1,4 @@
--- Marks that one of two has, and those of all shares together.
+-- Marks that two become, and those of all shares together.
 use Rattle.std.proofs.Common.{◌≡◌, ℕ, zero, suc, ◌+◌, ◌%◌, ◌==◌, ◌<◌, ◌≤◌, Bool, true, false, ◌&&◌, ◌||◌}
 use Rattle.std.proofs.Common.{List, [], ◌∷◌, ◌++◌, length, take, get_or, slice_get, mod-lt, refl, sym, ap, ◌∙◌, arith}
 use Rattle.std.proofs.lemmas.List.{length-take-le, map-append, take_more}
@@ -34,21 +34,21 @@ pub length_marked : (p : ℕ → Bool) (i : ℕ) (ns : List ℕ) → length (mar
 length_marked p i [] = refl
 length_marked p i (n ∷ ns) = ap suc (length_marked p (suc i) ns)
 
--- one more mark that one of two lists has
-pub either_put : (p q : ℕ → Bool) (ns : List ℕ) (marks others : List Marked) → marks ≡ marked p 0 ns → others ≡ marked q 0 ns →
-    (new old : List Marked) (i : ℕ) (d : Marked) (b : Bool) →
+-- one more mark that two become
+pub joined_put : (f : Bool → Bool → Bool) (p q : ℕ → Bool) (ns : List ℕ) (marks others : List Marked) → marks ≡ marked p 0 ns →
+    others ≡ marked q 0 ns → (new old : List Marked) (i : ℕ) (d : Marked) (b : Bool) →
     new ≡ old ++ record { number = (get_or marks i d).number; holds = b } ∷ [] →
-    b ≡ ((get_or marks i d).holds || is_there (slice_get others i)) → i < length marks →
-    old ≡ marked (λ (j : ℕ). p j || q j) 0 (take i ns) → new ≡ marked (λ (j : ℕ). p j || q j) 0 (take (i + 1) ns)
-either_put p q ns marks others mine theirs new old i d b is told h before =
+    b ≡ f (get_or marks i d).holds (is_there (slice_get others i)) → i < length marks →
+    old ≡ marked (λ (j : ℕ). f (p j) (q j)) 0 (take i ns) → new ≡ marked (λ (j : ℕ). f (p j) (q j)) 0 (take (i + 1) ns)
+joined_put f p q ns marks others mine theirs new old i d b is told h before =
     let count : length marks ≡ length ns = ap (λ (ms : List Marked). length ms) mine ∙ length_marked p 0 ns in
     let inside : i < length ns = omega (arith, h, count) in
     let zero_is : 0 + i ≡ i = omega arith in
     let mark = ap (λ (ms : List Marked). get_or ms i d) mine ∙ get_marked p 0 ns i d 0 inside in
     let other = ap (λ (ms : List Marked). is_there (slice_get ms i)) theirs ∙ there_marked q 0 ns i inside ∙ ap q zero_is in
-    mark_put (λ (j : ℕ). p j || q j) new old ns i 0 b
+    mark_put (λ (j : ℕ). f (p j) (q j)) new old ns i 0 b
     (is ∙ ap (λ (m : Marked). old ++ record { number = m.number; holds = b } ∷ []) mark)
-    (told ∙ (λ k. (mark k).holds || other k) ∙ ap (λ (j : ℕ). p j || q i) zero_is) inside before
+    (told ∙ (λ k. f (mark k).holds (other k)) ∙ ap (λ (j : ℕ). f (p j) (q i)) zero_is) inside before
 
 -- the marks of a site
 site_of : (p : ℕ → ℕ → Bool) (s : ℕ) (c : Choice) (k : ℕ) → k < length c →
@@ -71,10 +71,10 @@ site_is p c vs k h e =
     ap (λ (l : List (List Marked)). get_or l k []) e ∙ site_of p 0 c k h ∙ ap (λ (r : ℕ). marked (p r) 0 (get_or c k [])) zero_is
 
 -- one more site
-pub either_site : (both : ℕ → ℕ → Bool) (c : Choice) (new old : List (Vec Marked Global)) (v : Vec Marked Global) (k : ℕ) →
+pub joined_site : (both : ℕ → ℕ → Bool) (c : Choice) (new old : List (Vec Marked Global)) (v : Vec Marked Global) (k : ℕ) →
     new ≡ old ++ v ∷ [] → v.items ≡ marked (both k) 0 (get_or c k []) → k < length c → rows old ≡ all_marked both 0 (take k c) →
     rows new ≡ all_marked both 0 (take (k + 1) c)
-either_site both c new old v k is made h before =
+joined_site both c new old v k is made h before =
     let least : k ≤ length c = omega (arith, h) in
     let long = length-take-le k c least in
     let place : k ≡ 0 + length (take k c) = omega (arith, long) in

@@ -8,6 +8,7 @@ pub mod Marks
 pub mod Closing
 pub mod Nodes
 pub mod Known
+pub mod NodeJobs
 pub mod GoalJobs
 pub mod SitesBelow
 pub mod ShortFacts

@@ -1,8 +1,10 @@
 -- Private: templates of sites, each with a mark that says whether it is still there.
-use Rattle.std.specs.Prelude.{ℕ, zero, suc, ◌%◌, ◌==◌, Bool, false, ◌&&◌, if◌then◌else◌, Option, Some, None, List}
+use Rattle.std.specs.Prelude.{ℕ, zero, suc, ◌%◌, ◌==◌, Bool, false, ◌&&◌, ◌||◌, if◌then◌else◌, Option, Some, None, List}
 use Rattle.std.specs.Prelude.{[], ◌∷◌, map, Vec, slice_get}
 use Rattle.std.specs.declared.alloc.Global.{Global}
 use Rattle.sm_product.specs.Choices.{Choice}
+use Rattle.sm_houdini.specs.declared.marks.Join.{Join}
+use Rattle.sm_houdini.specs.declared.marks.Join.TheVariants as join
 use Rattle.sm_houdini.specs.declared.marks.Marked.{Marked}
 
 -- numbers of templates, each marked by whether its place, counted from i on, passes
@@ -24,6 +26,11 @@ abbrev pub still_marked : (ℕ → Bool) → ℕ → List Marked → List Marked
 still_marked passes i [] = []
 still_marked passes i (m ∷ rest) =
     record { number = m.number; holds = m.holds && passes i } ∷ still_marked passes (suc i) rest
+
+-- the mark that two become
+abbrev pub joins : Join → Bool → Bool → Bool
+joins join.Either one other = one || other
+joins join.Both one other = one && other
 
 -- the numbers whose marks are there
 abbrev pub numbers_of : List Marked → List ℕ

@@ -11,7 +11,8 @@ ghost use Rattle.sm_houdini.specs.Marks.{all_marked, in_share, rows};
 ghost use Rattle.sm_houdini.specs.Rounds.{holds_at};
 
 use crate::judging::judge_all;
-use crate::marks::{Marks, either, share_marks};
+use crate::marks::{Join, Marks, joined_marks, share_marks};
+use crate::node_jobs::{job_numbers, marks_by_nodes};
 use sm_expand::Due;
 use sm_par::{Gate, Job, Phase, run_jobs};
 use sm_product::TemplateChoice;
@@ -46,7 +47,8 @@ fn most_at_site(choice: &TemplateChoice) -> usize {
 fn shares_of(workers: u32, most: usize) -> u64
     requires workers { 0 < workers }
     requires most { 0 < most }
-    ensures { 0 < result }
+    ensures some { 0 < result }
+    ensures few { result ≤ workers }
 {
     let workers = workers as u64;
     let most = most as u64;
@@ -76,7 +78,18 @@ pub(crate) fn marks_after<R: Threads + Sync, G: Gate>(
     let most = most_at_site(choice);
     if crew.workers == 1 || most < 2 {
         let mut marks = share_marks(alloc, choice, 0, 1)?;
-        judge_all(alloc, table, dues, known, owners, &mut marks, steps)?;
+        judge_all(
+            alloc,
+            table,
+            dues,
+            known,
+            &[],
+            0,
+            None,
+            owners,
+            &mut marks,
+            steps,
+        )?;
         return Ok(marks);
     }
     let shares = shares_of(crew.workers, most);
@@ -85,7 +98,10 @@ pub(crate) fn marks_after<R: Threads + Sync, G: Gate>(
     )
 }
 
-// The same by jobs, one for each of so many shares.
+// The same by so many jobs, twice. First each job has a share of the templates, at the first node
+// and the last that a site asks: the last is the turn that all copies take, where most goals are
+// asked and most templates fall. Then the other nodes are dealt to the jobs, for what is left of all
+// templates: there it costs as much to make a node as to ask its goals.
 fn marks_by_jobs<R: Threads + Sync, G: Gate>(
     crew: &Crew<'_, R, G>,
     alloc: Global,
@@ -100,14 +116,18 @@ fn marks_by_jobs<R: Threads + Sync, G: Gate>(
     requires ready { AreDuesReady (sorts_in table.now) (trees_in table.now) dues.now }
     requires known { AreKnown table.now steps dues.now known.now }
     requires some { 0 < shares }
+    requires few { shares ≤ 64 }
     ensures { let sorts = sorts_in table.now in let trees = trees_in table.now in
         IfOk result (λ ms. rows ms.sites.items ≡ all_marked (holds_at (closing sorts steps)
         (owner_in owners.now) (dues_in sorts trees dues.now)) 0 (choice_in choice.now)) }
 {
+    let dealt = job_numbers(alloc, owners, dues, shares)?;
+    let numbers = dealt.as_slice();
     let job = RoundGoals {
         table,
         dues,
         known,
+        numbers,
         owners,
         choice,
         steps,
@@ -122,7 +142,10 @@ fn marks_by_jobs<R: Threads + Sync, G: Gate>(
         shares,
         crew.workers,
     )?;
-    all_shares(alloc, &parts, choice)
+    let marks = all_shares(alloc, &parts, choice)?;
+    marks_by_nodes(
+        crew, alloc, table, dues, known, numbers, owners, &marks, steps, shares,
+    )
 }
 
 // The marks of all shares.
@@ -139,18 +162,19 @@ fn all_shares(alloc: Global, parts: &[Marks], choice: &TemplateChoice) -> Result
     // None is in the share behind the last.
     let mut marks = share_marks(alloc, choice, shares, shares)?;
     for part in parts {
-        marks = either(alloc, &marks, part)?;
+        marks = joined_marks(alloc, Join::Either, &marks, part)?;
     }
     Ok(marks)
 }
 
 // What nodes ask of the templates of a choice, in equal shares of each site's. A job has one share,
-// and gives its marks that stay.
+// and gives its marks that stay after the nodes that jobs share.
 #[derive(Drop)]
 struct RoundGoals<'a> {
     table: &'a TermTable,
     dues: &'a [Due],
     known: &'a [bool],
+    numbers: &'a [u64],
     owners: &'a [Option<u64>],
     choice: &'a TemplateChoice,
     steps: u64,
@@ -176,6 +200,7 @@ impl<'a> Model for RoundGoals<'a> {
       table = g.table.now;
       dues = g.dues.now;
       known = g.known.now;
+      numbers = g.numbers.now;
       owners = g.owners.now;
       choice = g.choice.now;
       steps = g.steps;
@@ -201,6 +226,9 @@ impl Job for RoundGoals<'_> {
             &mut table,
             self.dues,
             self.known,
+            self.numbers,
+            self.shares,
+            None,
             self.owners,
             &mut marks,
             self.steps,

@@ -1,5 +1,5 @@
 // Templates that are judged by what nodes ask of them.
-ghost use Rattle.std.specs.Prelude.{◌≡◌, ◌+◌, ◌&&◌, ℕ, Bool, true, OnOk};
+ghost use Rattle.std.specs.Prelude.{◌≡◌, ◌+◌, ◌&&◌, ◌||◌, ℕ, Bool, true, OnOk};
 ghost use Rattle.sm_term.specs.Tables.{trees_in, sorts_in};
 ghost use Rattle.sm_term.specs.TableLaws.{Widens};
 ghost use Rattle.sm_expand.specs.Views.{due_in, dues_in, AreDuesReady};
@@ -8,11 +8,12 @@ ghost use Rattle.sm_product.specs.Choices.{Choice};
 ghost use Rattle.sm_houdini.specs.Closing.{closing, closes_at, stays_at, owner_in};
 ghost use Rattle.sm_houdini.specs.Known.{AreKnown};
 ghost use Rattle.sm_houdini.specs.Marks.{all_marked, rows};
-ghost use Rattle.sm_houdini.specs.Rounds.{holds_at};
+ghost use Rattle.sm_houdini.specs.NodeJobs.{holds_but, is_left_out};
 
 use crate::closing::judged;
 use crate::known::is_flagged;
 use crate::marks::Marks;
+use crate::node_jobs::is_left_out;
 use crate::owners::owner;
 use sm_expand::Due;
 use sm_term::TermTable;
@@ -58,14 +59,49 @@ fn judge(
     Ok(())
 }
 
-/// Takes marks away from the templates one of whose goals doesn't close. The last that is asked
-/// comes first: it is the turn that all copies take, where templates are refuted, and what is
-/// refuted isn't looked at again. Nor is what is known to close, by its flag.
+// The same, but of a node that is left out nothing is done.
+fn judge_unless(
+    alloc: Global,
+    table: &mut TermTable,
+    due: &Due,
+    is_left: bool,
+    is_known: bool,
+    owners: &[Option<u64>],
+    marks: &mut Marks,
+    steps: u64,
+) -> Result<(), AllocError>
+    requires facts { AreFormsReady (sorts_in table.old) (trees_in table.old)
+        due.now.facts.list.items }
+    requires goals { AreFormsReady (sorts_in table.old) (trees_in table.old)
+        due.now.targets.list.items }
+    requires known { is_known ≡ true → (i : ℕ) →
+        closes_at (sorts_in table.old) steps
+        (due_in (sorts_in table.old) (trees_in table.old) due.now) i ≡ true }
+    ensures judged { let sorts = sorts_in table.old in let trees = trees_in table.old in
+        (passes : ℕ → ℕ → Bool) (choice : Choice) →
+        rows marks.old.sites.items ≡ all_marked passes 0 choice →
+        OnOk result (rows marks.new.sites.items ≡ all_marked (λ s i. passes s i && (is_left
+        || stays_at sorts steps (owner_in owners.now) (due_in sorts trees due.now) s i)) 0 choice) }
+    ensures widens { Widens table.old table.new }
+{
+    if is_left {
+        return Ok(());
+    }
+    judge(alloc, table, due, is_known, owners, marks, steps)
+}
+
+/// Takes marks away from the templates one of whose goals doesn't close, at the nodes that are dealt
+/// to a job, or that jobs share; with no numbers, at all. The last that is asked comes first: it is
+/// the turn that all copies take, where templates are refuted, and what is refuted isn't looked at
+/// again. Nor is what is known to close, by its flag.
 pub(crate) fn judge_all(
     alloc: Global,
     table: &mut TermTable,
     dues: &[Due],
     known: &[bool],
+    numbers: &[u64],
+    jobs: u64,
+    job: Option<u64>,
     owners: &[Option<u64>],
     marks: &mut Marks,
     steps: u64,
@@ -76,15 +112,25 @@ pub(crate) fn judge_all(
         (passes : ℕ → ℕ → Bool) (choice : Choice) →
         rows marks.old.sites.items ≡ all_marked passes 0 choice →
         OnOk result (rows marks.new.sites.items ≡ all_marked (λ s i. passes s i
-        && holds_at (closing sorts steps) (owner_in owners.now) (dues_in sorts trees dues.now) s i)
-        0 choice) }
+        && holds_but (is_left_out numbers.now jobs job) (closing sorts steps) (owner_in owners.now) 0
+        (dues_in sorts trees dues.now) s i) 0 choice) }
     ensures widens { Widens table.old table.new }
 {
     let mut left = dues.len();
     while left > 0 {
         left -= 1;
+        let is_left = is_left_out(numbers, jobs, job, left);
         let is_known = is_flagged(known, left);
-        judge(alloc, table, &dues[left], is_known, owners, marks, steps)?;
+        judge_unless(
+            alloc,
+            table,
+            &dues[left],
+            is_left,
+            is_known,
+            owners,
+            marks,
+            steps,
+        )?;
     }
     Ok(())
 }

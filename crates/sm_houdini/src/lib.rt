@@ -27,6 +27,7 @@ mod judging;
 mod known;
 mod laws;
 mod marks;
+mod node_jobs;
 mod outcome;
 mod owners;
 mod product;

@@ -1,8 +1,8 @@
 // Marks of templates.
-ghost use Rattle.std.specs.Prelude.{◌≡◌, ◌<◌, ◌||◌, ℕ, Bool, List, [], map, get_or, slice_get, IfOk};
+ghost use Rattle.std.specs.Prelude.{◌≡◌, ◌<◌, ℕ, Bool, List, [], map, get_or, slice_get, IfOk};
 ghost use Rattle.sm_product.specs.Choices.{Choice};
 ghost use Rattle.sm_product.specs.ChoiceViews.{choice_in};
-ghost use Rattle.sm_houdini.specs.Marks.{marked, all_marked, in_share, is_there, numbers_of, rows};
+ghost use Rattle.sm_houdini.specs.Marks.{marked, all_marked, in_share, is_there, joins, numbers_of, rows};
 
 use sm_product::TemplateChoice;
 use std::alloc::{AllocError, Global};
@@ -70,15 +70,41 @@ pub(crate) fn share_marks(
     Ok(Marks { sites })
 }
 
-// The marks of a site that one of two lists has.
-fn either_at(alloc: Global, marks: &[Marked], others: &[Marked]) -> Result<Vec<Marked>, AllocError>
+// How two marks become one.
+#[derive(Clone, Copy, Debug)]
+pub(crate) enum Join {
+    // It is there where one of the two is.
+    Either,
+    // It is there where both are.
+    Both,
+}
+
+// The mark that two become.
+fn joined_mark(join: Join, one: bool, other: bool) -> bool
+    ensures { result ≡ joins join one other }
+{
+    match join {
+        Join::Either => one || other,
+        Join::Both => one && other,
+    }
+}
+
+// The marks that those of a site in two lists become.
+fn joined_at(
+    alloc: Global,
+    join: Join,
+    marks: &[Marked],
+    others: &[Marked],
+) -> Result<Vec<Marked>, AllocError>
     ensures { (p q : ℕ → Bool) (ns : List ℕ) → marks.now ≡ marked p 0 ns →
-        others.now ≡ marked q 0 ns → IfOk result (λ ms. ms.items ≡ marked (λ i. p i || q i) 0 ns) }
+        others.now ≡ marked q 0 ns →
+        IfOk result (λ ms. ms.items ≡ marked (λ i. joins join (p i) (q i)) 0 ns) }
 {
     let mut list = Vec::new(alloc);
     for at in 0..marks.len() {
         let number = marks[at].number;
-        let holds = marks[at].holds || is_marked(others, at);
+        let other = is_marked(others, at);
+        let holds = joined_mark(join, marks[at].holds, other);
         list.push(Marked { number, holds })?;
     }
     Ok(list)
@@ -94,18 +120,34 @@ fn site_marks(marks: &Marks, site: usize) -> &[Marked]
     }
 }
 
-/// The marks that one of two has.
-pub(crate) fn either(alloc: Global, marks: &Marks, others: &Marks) -> Result<Marks, AllocError>
+/// The marks that those of two become.
+pub(crate) fn joined_marks(
+    alloc: Global,
+    join: Join,
+    marks: &Marks,
+    others: &Marks,
+) -> Result<Marks, AllocError>
     ensures { (p q : ℕ → ℕ → Bool) (c : Choice) →
         rows marks.now.sites.items ≡ all_marked p 0 c →
-        rows others.now.sites.items ≡ all_marked q 0 c →
-        IfOk result (λ ms. rows ms.sites.items ≡ all_marked (λ s i. p s i || q s i) 0 c) }
+        rows others.now.sites.items ≡ all_marked q 0 c → IfOk result (λ ms.
+        rows ms.sites.items ≡ all_marked (λ s i. joins join (p s i) (q s i)) 0 c) }
 {
     let mut sites = Vec::new(alloc);
     for site in 0..marks.sites.len() {
         let mine = site_marks(marks, site);
         let theirs = site_marks(others, site);
-        sites.push(either_at(alloc, mine, theirs)?)?;
+        sites.push(joined_at(alloc, join, mine, theirs)?)?;
+    }
+    Ok(Marks { sites })
+}
+
+/// The same marks.
+pub(crate) fn copied(alloc: Global, marks: &Marks) -> Result<Marks, AllocError>
+    ensures { IfOk result (λ ms. rows ms.sites.items ≡ rows marks.now.sites.items) }
+{
+    let mut sites = Vec::new(alloc);
+    for list in &marks.sites {
+        sites.push(list.as_slice().to_vec(alloc)?)?;
     }
     Ok(Marks { sites })
 }

@@ -55,8 +55,8 @@ fn whole_proof(alloc: Global, task: &Task, programs: &PerCopy<Block>) -> Result<
 /// in which only one side was changed is accepted. Of any other one the trials are run, as jobs for
 /// 1 to 64 workers, in which a loop takes at most `turns` turns: the first that violates it is a
 /// conflict. Otherwise its plan decides, under the templates that are kept. With more than one
-/// worker shares of the templates are jobs too, in each round, and so are the goals of each node of
-/// the plan that is kept.
+/// worker shares of the templates and of the nodes are jobs too, in each round, and so are the goals
+/// of each node of the plan that is kept.
 pub fn search<R: Threads + Sync, G: Gate>(
     rt: &R,
     alloc: Global,

@@ -1,16 +1,12 @@
--- The marks are those of all shares.
+-- The marks are those of all shares at the nodes that are shared, after the nodes that are dealt.
 use denote.Param.Send.{sendable}
 use Rattle.std.proofs.Common.{◌≡◌, ◌<◌, ℕ, ◌&&◌, List, length, get_or, sym, subst}
 use Rattle.std.proofs.Crossing.{crosses}
-use Rattle.sm_term.specs.Tables.{trees_in, sorts_in}
-use Rattle.sm_expand.specs.Views.{dues_in}
 use Rattle.sm_product.specs.ChoiceViews.{choice_in}
 use Rattle.sm_houdini.specs.declared.marks.Marks.{Marks}
-use Rattle.sm_houdini.specs.Closing.{closing, owner_in}
-use Rattle.sm_houdini.specs.GoalJobs.{RoundGoalsValue}
+use Rattle.sm_houdini.specs.GoalJobs.{RoundGoalsValue, holds_at_shared}
 use Rattle.sm_houdini.specs.Marks.{all_marked, in_share, rows}
-use Rattle.sm_houdini.specs.Rounds.{holds_at}
-use Rattle.sm_houdini.proofs.GoalJobsLemmas.{shares_tell}
+use Rattle.sm_houdini.proofs.GoalJobsLemmas.{shares_tell, round_tells}
 use Rattle.sm_houdini.proofs.SharedLemmas.{table_sync, due_sync}
 use Rattle.sm_houdini.proofs.goal_jobs.marks_by_jobs.Goals as goal
 
@@ -25,13 +21,16 @@ returns g c =
       table = a.table.now;
       dues = a.dues.now;
       known = a.known.now;
+      numbers = c.as_slice-numbers.result.now;
       owners = a.owners.now;
       choice = a.choice.now;
       steps = a.steps;
       shares = a.shares;
     } in
-    let passes = holds_at (closing (sorts_in v.table) v.steps) (owner_in v.owners) (dues_in (sorts_in v.table) (trees_in v.table) v.dues) in
+    let passes = holds_at_shared v in
+    let choice = choice_in v.choice in
     let Told = λ (parts : List Marks). (k : ℕ) (d : Marks) → k < length parts → rows (get_or parts k d).sites.items
-    ≡ all_marked (λ (s i : ℕ). in_share (length parts) k i && passes s i) 0 (choice_in v.choice) in
-    c.all_shares.ensures passes
-    (subst Told (sym c.deref.ensures.value) (shares_tell v c.in_ok-parts.parts.items c.in_ok-parts.ensures))
+    ≡ all_marked (λ (s i : ℕ). in_share (length parts) k i && passes s i) 0 choice in
+    let shared = c.in_ok-marks.ensures passes
+    (subst Told (sym c.deref.ensures.value) (shares_tell v c.in_ok-parts.parts.items c.in_ok-parts.ensures)) in
+    round_tells v c.marks_by_nodes.result (c.marks_by_nodes.ensures passes choice shared)

@@ -6,7 +6,7 @@ use Rattle.sm_plan.specs.Plans.{Due}
 use Rattle.sm_expand.specs.Views.{due_in, dues_in}
 use Rattle.sm_houdini.specs.Closing.{closing, closes_at, owner_in}
 use Rattle.sm_houdini.specs.Marks.{all_marked, rows}
-use Rattle.sm_houdini.specs.Rounds.{holds_at}
+use Rattle.sm_houdini.specs.NodeJobs.{holds_but, is_left_out}
 use Rattle.sm_houdini.proofs.ClosingLemmas.{closes_stays}
 use Rattle.sm_houdini.proofs.RoundSteps.{facts_at, none_asked, round_step}
 use Rattle.sm_houdini.proofs.judging.judge_all.Goals as goal
@@ -18,15 +18,17 @@ loop-left-init c =
     let none = drop_all (length c.args.dues.now) ds (omega (arith, length-map c.args.dues.now (due_in (sorts_in v) (trees_in v)))) in
     record {
       marks = λ passes choice e.
-          e ∙ none_asked (closing (sorts_in v) c.args.steps) (owner_in c.args.owners.now) passes choice
+          let out = is_left_out c.args.numbers.now c.args.jobs c.args.job in
+          let n = length c.args.dues.now in
+          e ∙ none_asked out (closing (sorts_in v) c.args.steps) (owner_in c.args.owners.now) n passes choice
           ∙ ap (λ (xs : List Due). all_marked (λ (s i : ℕ). passes s i
-          && holds_at (closing (sorts_in v) c.args.steps) (owner_in c.args.owners.now) xs s i) 0 choice) (sym none);
+          && holds_but out (closing (sorts_in v) c.args.steps) (owner_in c.args.owners.now) n xs s i) 0 choice) (sym none);
       fits = omega arith;
       widens = widens_same v;
     }
 
-pub judge-requires-clause-facts : goal.judge-requires-clause-facts
-judge-requires-clause-facts c =
+pub judge_unless-requires-clause-facts : goal.judge_unless-requires-clause-facts
+judge_unless-requires-clause-facts c =
     let v = c.args.table.now in
     let some = c.loop-left-test.true in
     let fits = c.loop-left.invariant.fits in
@@ -34,8 +36,8 @@ judge-requires-clause-facts c =
     (facts_at (sorts_in v) (trees_in v) c.args.dues.now (c.loop-left.left - 1) c.index-dues-left.result c.requires.ready
     (omega (arith, some, fits)) c.index-dues-left.is).0
 
-pub judge-requires-clause-goals : goal.judge-requires-clause-goals
-judge-requires-clause-goals c =
+pub judge_unless-requires-clause-goals : goal.judge_unless-requires-clause-goals
+judge_unless-requires-clause-goals c =
     let v = c.args.table.now in
     let some = c.loop-left-test.true in
     let fits = c.loop-left.invariant.fits in
@@ -43,8 +45,8 @@ judge-requires-clause-goals c =
     (facts_at (sorts_in v) (trees_in v) c.args.dues.now (c.loop-left.left - 1) c.index-dues-left.result c.requires.ready
     (omega (arith, some, fits)) c.index-dues-left.is).1
 
-pub judge-requires-clause-known : goal.judge-requires-clause-known
-judge-requires-clause-known c =
+pub judge_unless-requires-clause-known : goal.judge_unless-requires-clause-known
+judge_unless-requires-clause-known c =
     let v = c.args.table.now in
     let w = c.loop-left.table in
     let at = c.loop-left.left - 1 in
@@ -58,9 +60,9 @@ judge-requires-clause-known c =
     ∙ ap (λ x. closes_at (sorts_in v) c.args.steps (due_in (sorts_in v) (trees_in v) x) i) c.index-dues-left.is
     ∙ c.requires.known at i d inside (sym c.is_flagged-is_known.ensures ∙ is_known)
 
-pub returns-in_err-judge-clause-widens : goal.returns-in_err-judge-clause-widens
-returns-in_err-judge-clause-widens c =
-    widens_twice c.args.table.now c.loop-left.table c.judge.new.table c.loop-left.invariant.widens c.in_err-judge.ensures.widens
+pub returns-in_err-judge_unless-clause-widens : goal.returns-in_err-judge_unless-clause-widens
+returns-in_err-judge_unless-clause-widens c =
+    widens_twice c.args.table.now c.loop-left.table c.judge_unless.new.table c.loop-left.invariant.widens c.in_err-judge_unless.ensures.widens
 
 pub loop-left-preserved : goal.loop-left-preserved
 loop-left-preserved c =
@@ -72,16 +74,18 @@ loop-left-preserved c =
     let ds = dues_in (sorts_in v) (trees_in v) c.args.dues.now in
     let closes = closing (sorts_in v) c.args.steps in
     let owner = owner_in c.args.owners.now in
+    let out = is_left_out c.args.numbers.now c.args.jobs c.args.job in
     record {
       marks = λ passes choice e.
-          let left = λ (k : ℕ) (s i : ℕ). passes s i && holds_at closes owner (drop k ds) s i in
+          let left = λ (k : ℕ) (s i : ℕ). passes s i && holds_but out closes owner k (drop k ds) s i in
           let marks = subst (λ (k : ℕ). rows c.loop-left.marks.sites.items ≡ all_marked (left k) 0 choice) here
           (c.loop-left.invariant.marks passes choice e) in
-          round_step v c.loop-left.table c.loop-left.invariant.widens c.args.steps owner c.args.dues.now at c.index-dues-left.result
-          passes choice (rows c.judge.new.marks.sites.items) c.requires.ready (omega (arith, some, fits)) c.index-dues-left.is
-          (c.in_ok-judge.ensures.judged (left (at + 1)) choice marks);
+          round_step v c.loop-left.table c.loop-left.invariant.widens c.args.steps owner out c.args.dues.now at c.index-dues-left.result
+          c.is_left_out-is_left.result passes choice (rows c.judge_unless.new.marks.sites.items) c.requires.ready
+          (omega (arith, some, fits)) c.index-dues-left.is c.is_left_out-is_left.ensures
+          (c.in_ok-judge_unless.ensures.judged (left (at + 1)) choice marks);
       fits = omega (arith, fits);
-      widens = widens_twice v c.loop-left.table c.judge.new.table c.loop-left.invariant.widens c.in_ok-judge.ensures.widens;
+      widens = widens_twice v c.loop-left.table c.judge_unless.new.table c.loop-left.invariant.widens c.in_ok-judge_unless.ensures.widens;
     }
 
 pub returns-clause-judged : goal.returns-clause-judged
@@ -93,5 +97,5 @@ returns-clause-judged c = λ passes choice e.
     (λ (k : ℕ).
     rows c.loop-left.marks.sites.items
     ≡ all_marked (λ (s i : ℕ). passes s i
-    && holds_at (closing (sorts_in v) c.args.steps) (owner_in c.args.owners.now) (drop k ds) s i) 0 choice)
+    && holds_but (is_left_out c.args.numbers.now c.args.jobs c.args.job) (closing (sorts_in v) c.args.steps) (owner_in c.args.owners.now) k (drop k ds) s i) 0 choice)
     none (c.loop-left.invariant.marks passes choice e)

@@ -19,6 +19,7 @@ returns c =
       table = i.table.now;
       dues = i.dues.now;
       known = i.known.now;
+      numbers = i.numbers.now;
       owners = i.owners.now;
       choice = i.choice.now;
       steps = i.steps;

@@ -1,10 +1,10 @@
 -- The sites so far.
-use Rattle.std.proofs.Common.{◌≡◌, ℕ, Bool, ◌||◌, take}
+use Rattle.std.proofs.Common.{◌≡◌, ℕ, Bool, take}
 use Rattle.sm_product.specs.Choices.{Choice}
-use Rattle.sm_houdini.specs.Marks.{all_marked, rows}
-use Rattle.sm_houdini.proofs.marks.either.Given as goal
+use Rattle.sm_houdini.specs.Marks.{all_marked, joins, rows}
+use Rattle.sm_houdini.proofs.marks.joined_marks.Given as goal
 
 abbrev pub invariant-loop-site : goal.invariant-loop-site
 invariant-loop-site l =
     (p q : ℕ → ℕ → Bool) (c : Choice) → rows l.marks.sites.items ≡ all_marked p 0 c → rows l.others.sites.items ≡ all_marked q 0 c →
-    rows l.sites.items ≡ all_marked (λ s i. p s i || q s i) 0 (take l.site c)
+    rows l.sites.items ≡ all_marked (λ s i. joins l.join (p s i) (q s i)) 0 (take l.site c)

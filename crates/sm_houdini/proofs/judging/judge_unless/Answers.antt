@@ -1,0 +1,25 @@
+use Rattle.std.proofs.Common.{◌≡◌, ◌&&◌, ◌||◌, ℕ, Bool, ◌≤◌, sym, ap, ◌∙◌, subst}
+use Rattle.std.specs.Prelude.{OnOk}
+use Rattle.sm_term.specs.Tables.{trees_in, sorts_in}
+use Rattle.sm_expand.specs.Views.{due_in}
+use Rattle.sm_houdini.specs.Closing.{stays_at, owner_in}
+use Rattle.sm_houdini.specs.Marks.{all_marked, rows}
+use Rattle.sm_houdini.proofs.MarkedLemmas.{all_same}
+use Rattle.sm_houdini.proofs.NodeLemmas.{with_true}
+use Rattle.sm_houdini.proofs.judging.judge_unless.Goals as goal
+
+pub returns-then-is_left-clause-judged : goal.returns-then-is_left-clause-judged
+returns-then-is_left-clause-judged c = λ passes choice e.
+    let stays = stays_at (sorts_in c.args.table.now) c.args.steps (owner_in c.args.owners.now)
+    (due_in (sorts_in c.args.table.now) (trees_in c.args.table.now) c.args.due.now) in
+    e
+    ∙ all_same passes (λ (s i : ℕ). passes s i && (c.args.is_left || stays s i)) 0 choice
+    (λ (s i : ℕ) (l : 0 ≤ s).
+    with_true (passes s i) ∙ sym (ap (λ (b : Bool). passes s i && (b || stays s i)) c.if-is_left.true))
+
+pub returns-clause-judged : goal.returns-clause-judged
+returns-clause-judged c = λ passes choice e.
+    let stays = stays_at (sorts_in c.args.table.now) c.args.steps (owner_in c.args.owners.now)
+    (due_in (sorts_in c.args.table.now) (trees_in c.args.table.now) c.args.due.now) in
+    subst (λ (b : Bool). OnOk c.judge.result (rows c.judge.new.marks.sites.items ≡ all_marked (λ (s i : ℕ). passes s i && (b || stays s i)) 0 choice))
+    (sym c.if-is_left.false) (c.judge.ensures.judged passes choice e)

@@ -1,9 +1,0 @@
--- The marks so far that one of the two has.
-use Rattle.std.proofs.Common.{◌≡◌, ℕ, Bool, ◌||◌, List, take}
-use Rattle.sm_houdini.specs.Marks.{marked}
-use Rattle.sm_houdini.proofs.marks.either_at.Given as goal
-
-abbrev pub invariant-loop-at : goal.invariant-loop-at
-invariant-loop-at l =
-    (p q : ℕ → Bool) (ns : List ℕ) → l.marks ≡ marked p 0 ns → l.others ≡ marked q 0 ns →
-    l.list.items ≡ marked (λ i. p i || q i) 0 (take l.at ns)

@@ -1,0 +1,37 @@
+-- The marks are those after all jobs.
+use denote.Param.Send.{sendable}
+use Rattle.std.proofs.Common.{◌≡◌, ◌<◌, ℕ, ◌&&◌, Some, List, length, get_or, sym, ap, ◌∙◌, subst}
+use Rattle.std.proofs.Crossing.{crosses}
+use Rattle.sm_houdini.specs.declared.marks.Marks.{Marks}
+use Rattle.sm_houdini.specs.Marks.{all_marked, rows}
+use Rattle.sm_houdini.specs.NodeJobs.{NodeGoalsValue, holds_in_job}
+use Rattle.sm_houdini.proofs.ClosingLemmas.{ok_map}
+use Rattle.sm_houdini.proofs.GoalJobsLemmas.{jobs_told, jobs_tell}
+use Rattle.sm_houdini.proofs.SharedLemmas.{table_sync, due_sync}
+use Rattle.sm_houdini.proofs.node_jobs.marks_by_nodes.Goals as goal
+
+pub run_jobs-requires-sync-J : goal.run_jobs-requires-sync-J
+run_jobs-requires-sync-J g c κs within = search (table_sync, due_sync, sendable, crosses) depth 40
+
+pub returns : goal.returns
+returns g c = λ passes choice e.
+    let a = c.args in
+    let v : NodeGoalsValue =
+    record {
+      table = a.table.now;
+      dues = a.dues.now;
+      known = a.known.now;
+      numbers = a.numbers.now;
+      owners = a.owners.now;
+      marks = a.marks.now;
+      steps = a.steps;
+      jobs = a.jobs;
+    } in
+    let told = λ (k s i : ℕ). passes s i && holds_in_job v (Some k) s i in
+    let Told = λ (parts : List Marks). (k : ℕ) (d : Marks) → k < length parts → rows (get_or parts k d).sites.items
+    ≡ all_marked (told k) 0 choice in
+    let count = ap (λ (parts : List Marks). length parts) c.deref.ensures.value ∙ c.in_ok-parts.ensures.all in
+    ok_map c.all_parts.result _ _
+    (λ ms made. jobs_tell v passes choice (length c.deref.result.now) count (rows ms.sites.items) made)
+    (c.all_parts.ensures passes told choice e
+    (subst Told (sym c.deref.ensures.value) (jobs_told v c.in_ok-parts.parts.items c.in_ok-parts.ensures passes choice e)))
