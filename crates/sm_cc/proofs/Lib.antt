@@ -31,3 +31,4 @@ pub mod StandingLemmas
 pub mod StartLemmas
 pub mod StepsLemmas
 pub mod TermsOfPlaces
+pub mod WitnessLemmas

@@ -1,10 +1,13 @@
 -- Private: which rule makes two places equal, or keeps them apart.
-use Rattle.std.specs.Prelude.{◌≡◌, ℕ, ◌==◌, IsTrue, Bool, ◌&&◌, ◌||◌, not, slice_get, length}
-use Rattle.std.specs.Prelude.{Some}
+use Rattle.std.specs.Prelude.{◌≡◌, ℕ, ◌==◌, pos, IsTrue, Bool, ◌&&◌, ◌||◌, not, slice_get}
+use Rattle.std.specs.Prelude.{length, Some}
 use Rattle.std.specs.List.{list_any, range_with_len}
 use Rattle.std.specs.Ordering.{int_eq}
 use Rattle.sm_cc.specs.declared.row.Row.{Row}
+use Rattle.sm_cc.specs.declared.row.Shape.{Shape}
 use Rattle.sm_cc.specs.declared.row.Element.{Element}
+use Rattle.sm_cc.specs.declared.log.Given.{Given}
+use Rattle.sm_cc.specs.declared.closure.Closure.{Closure}
 use Rattle.sm_cc.specs.declared.witness.Difference.{Difference}
 use Rattle.sm_cc.specs.declared.witness.Difference.TheVariants as difference
 use Rattle.sm_cc.specs.declared.witness.Witness.{Witness}
@@ -14,6 +17,7 @@ use Rattle.sm_cc.specs.Classes.{if_there}
 use Rattle.sm_cc.specs.Rows.{Board, PlacePairs, one_head, shapes_pass, rows_pass, equal_places}
 use Rattle.sm_cc.specs.Rows.{places_apart, places_differ, is_listed}
 use Rattle.sm_cc.specs.Log.{Placed, AreIn, IsGivenAs}
+use Rattle.sm_cc.specs.Closures.{are_together}
 
 -- why two places differ
 abbrev pub IsDifference : Placed → Difference → ℕ → ℕ → Type 0
@@ -51,6 +55,32 @@ pub record IsWitness (v : Placed) (equal : PlacePairs) (w : Witness) (i j : ℕ)
   pub left : IsTrue (equal w.left i)
   pub right : IsTrue (equal w.right j)
   pub differ : IsDifference v w.difference w.left w.right
+
+-- whether a given pair is of the classes of two places, in either order
+abbrev pub is_between : PlacePairs → ℕ → ℕ → Given → Bool
+is_between equal i j g = (equal g.left i && equal g.right j) || (equal g.right i && equal g.left j)
+
+-- whether a pair of the classes of two places was given to be unequal
+abbrev pub are_given_apart : Closure → ℕ → ℕ → Bool
+are_given_apart c i j = list_any (is_between (are_together c.roots.items) i j) c.unequal.items
+
+-- whether a row is of a linear form whose constant isn't 0
+abbrev pub has_constant : Row → Bool
+has_constant r = if_there r.shape (λ (f : Shape). not (int_eq f.constant (pos 0)))
+
+-- whether a place is in one of the classes of two, and its linear form has a constant
+abbrev pub is_constant_of : Closure → ℕ → ℕ → ℕ → Bool
+is_constant_of c i j p =
+    let equal = are_together c.roots.items in
+    (equal p i || equal p j) && if_there (slice_get c.rows.items p) has_constant
+
+-- whether a linear form of the classes of two places has a constant
+abbrev pub have_constant : Closure → ℕ → ℕ → Bool
+have_constant c i j = list_any (is_constant_of c i j) (range_with_len 0 (length c.rows.items))
+
+-- whether two places may be apart at all
+abbrev pub may_be_apart : Closure → ℕ → ℕ → Bool
+may_be_apart c i j = are_given_apart c i j || have_constant c i j
 
 -- whether an element that is read is the one at a place
 abbrev pub element_is : Board → PlacePairs → Element → ℕ → Bool

@@ -4,9 +4,13 @@ ghost use Rattle.sm_cc.specs.Rows.{places_differ, places_apart};
 ghost use Rattle.sm_cc.specs.Closures.{board_of, placed_of, are_together};
 ghost use Rattle.sm_cc.specs.Causes.{IsDifference, IsWitness, IsHalfWitness};
 ghost use Rattle.sm_cc.specs.Causes.{differ_otherwise, differ_in_form, any_differs};
+ghost use Rattle.sm_cc.specs.Causes.{is_between, are_given_apart, has_constant, is_constant_of};
+ghost use Rattle.sm_cc.specs.Causes.{have_constant, may_be_apart};
 
 use crate::closure::Closure;
 use crate::compare::{given, shifted, together};
+use crate::log::Given;
+use crate::row::Row;
 
 /// Why two places differ.
 #[derive(Clone, Copy)]
@@ -118,8 +122,8 @@ fn other_witness(c: &Closure, p: u64, i: u64, j: u64) -> Option<Witness>
     }
 }
 
-/// Places that differ and equal these two.
-pub(crate) fn find_witness(c: &Closure, i: u64, j: u64) -> Option<Witness>
+// Places that differ and equal these two, where all places are looked at.
+fn search_witness(c: &Closure, i: u64, j: u64) -> Option<Witness>
     ensures { let equal = are_together c.now.roots.items in
         MatchOption result (places_apart (board_of c.now) equal i j ≡ false)
         (λ w. IsWitness (placed_of c.now) equal w i j) }
@@ -130,4 +134,75 @@ pub(crate) fn find_witness(c: &Closure, i: u64, j: u64) -> Option<Witness>
         }
     }
     None
+}
+
+// Whether a given pair is of the classes of two places, in either order.
+fn is_between(c: &Closure, g: Given, i: u64, j: u64) -> bool
+    ensures { result ≡ is_between (are_together c.now.roots.items) i j g }
+{
+    (together(c, g.left, i) && together(c, g.right, j))
+        || (together(c, g.right, i) && together(c, g.left, j))
+}
+
+// Whether a pair of their classes was given to be unequal.
+fn are_given_apart(c: &Closure, i: u64, j: u64) -> bool
+    ensures { result ≡ are_given_apart c.now i j }
+{
+    for g in &c.unequal {
+        if is_between(c, *g, i, j) {
+            return true;
+        }
+    }
+    false
+}
+
+// Whether a row is of a linear form whose constant isn't 0.
+fn has_constant(r: &Row) -> bool
+    ensures { result ≡ has_constant r.now }
+{
+    match &r.shape {
+        Some(f) => f.constant != 0,
+        None => false,
+    }
+}
+
+// Whether a place is in one of the classes of two, and its linear form has a constant.
+fn is_constant_of(c: &Closure, p: u64, i: u64, j: u64) -> bool
+    requires { p < length c.now.rows.items }
+    ensures { result ≡ is_constant_of c.now i j p }
+{
+    (together(c, p, i) || together(c, p, j)) && has_constant(&c.rows[p as usize])
+}
+
+// Whether a linear form of their classes has a constant.
+fn have_constant(c: &Closure, i: u64, j: u64) -> bool
+    ensures { result ≡ have_constant c.now i j }
+{
+    for p in 0..c.rows.len() {
+        if is_constant_of(c, p as u64, i, j) {
+            return true;
+        }
+    }
+    false
+}
+
+// Whether two places may be apart at all, as one look at each given pair and at each place tells.
+fn may_be_apart(c: &Closure, i: u64, j: u64) -> bool
+    ensures { result ≡ may_be_apart c.now i j }
+{
+    are_given_apart(c, i, j) || have_constant(c, i, j)
+}
+
+/// Places that differ and equal these two. Mostly there are none: no contrary was given of the two
+/// classes, and none of their linear forms has a constant.
+pub(crate) fn find_witness(c: &Closure, i: u64, j: u64) -> Option<Witness>
+    ensures { let equal = are_together c.now.roots.items in
+        MatchOption result (places_apart (board_of c.now) equal i j ≡ false)
+        (λ w. IsWitness (placed_of c.now) equal w i j) }
+{
+    if may_be_apart(c, i, j) {
+        search_witness(c, i, j)
+    } else {
+        None
+    }
 }

@@ -2,7 +2,7 @@
 use Rattle.std.proofs.Common.{◌≡◌, ℕ, ◌<◌, ◌&&◌, false}
 use Rattle.sm_cc.specs.Causes.{any_differs}
 use Rattle.sm_cc.specs.Closures.{board_of, are_together}
-use Rattle.sm_cc.proofs.witness.find_witness.Given as goal
+use Rattle.sm_cc.proofs.witness.search_witness.Given as goal
 
 abbrev pub invariant-loop-p : goal.invariant-loop-p
 invariant-loop-p l =
