@@ -1,8 +1,10 @@
 pub mod CoefficientLemmas
 pub mod CrossedLemmas
+pub mod FirstLemmas
 pub mod JumpLemmas
 pub mod KnowingLemmas
 pub mod PlaceLemmas
+pub mod StandingLemmas
 pub mod StateLemmas
 pub mod StepLemmas
 pub mod ElimExamples

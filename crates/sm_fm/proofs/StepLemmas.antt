@@ -12,7 +12,7 @@ use Rattle.sm_fm.specs.declared.step.ElimStep.TheVariants.{Line, End}
 use Rattle.sm_fm.specs.declared.state.State.{State}
 use Rattle.sm_fm.specs.Elimination.{Cancels}
 use Rattle.sm_fm.specs.Places.{no_form, form_at}
-use Rattle.sm_fm.specs.Taking.{Taking, EndsWith, Gives}
+use Rattle.sm_fm.specs.Taking.{Taking, Gives}
 use Rattle.sm_fm.specs.States.{events_left, events_of_sum, taking, TakesPair, Finishes}
 use Rattle.sm_fm.proofs.StateLemmas.{slice_get_is}
 
@@ -52,12 +52,3 @@ gives_sum old mid new p atom (Err (Beyond op y z)) takes is done = record {
   over = ap (λ (t : Taking). t.left) done.1;
 }
 gives_sum old mid new p atom (Err Memory) takes is done = tt
-
--- where nothing is left, a step changes nothing
-pub ended : (old new : Taking) → new ≡ old → new.left ≡ [] → EndsWith old new []
-ended old new same over = record {
-  atoms_are = ap (λ (t : Taking). t.atoms) same;
-  forms_are = ap (λ (t : Taking). t.forms) same;
-  happens = ap (λ (t : Taking). t.left) (sym same) ∙ over;
-  over = over;
-}

@@ -1,39 +1,36 @@
 -- The pairs in which an atom cancels are those of the forms that have it.
-use Rattle.std.proofs.Common.{◌≡◌, ◌==◌, ℕ, ℤ, pos, negsuc, Bool, true, false, not, cond, Option, Some, None, List, [], ◌∷◌}
+use Rattle.std.proofs.Common.{◌≡◌, ◌==◌, ℕ, ℤ, pos, negsuc, Bool, true, false, not, cond, ◌&&◌, Option, Some, None, List, [], ◌∷◌, map}
 use Rattle.std.proofs.Common.{refl, ap, ◌∙◌}
 use Rattle.std.specs.List.{filter, find}
 use Rattle.std.specs.Ordering.{int_eq}
-use Rattle.sm_num.specs.Forms.{Linear}
 use Rattle.sm_num.specs.Eliminating.{is_equation, is_negative}
-use Rattle.sm_fm.specs.Elimination.{coefficient_at, has_atom, is_below, is_above, is_pivot}
-use Rattle.sm_fm.specs.declared.roles.Role.TheVariants.{Below, Above, With, Beside}
-use Rattle.sm_fm.specs.Places.{placed_at, plays, places_of, crossed_places, place_pairs_with, pivot_place, place_pairs}
+use Rattle.sm_fm.specs.Elimination.{Placed, coefficient_at, has_atom, is_below, is_above, is_pivot, crossed, pairs_with, pairs}
 use Rattle.sm_fm.proofs.PlaceLemmas.{and_first, and_second}
 
-module _ (test wide : ℕ → Bool) (more : (n : ℕ) → test n ≡ true → wide n ≡ true) where
+module _ (test wide : Placed → Bool) (more : (f : Placed) → test f ≡ true → wide f ≡ true) where
   -- what passes a test is chosen from those that pass a wider one
-  pub chosen_twice : (ns : List ℕ) → filter test (filter wide ns) ≡ filter test ns
-  chosen_twice [] = refl
-  chosen_twice (n ∷ ns) = by (wide n) (test n) refl refl (chosen_twice ns)
+  chosen_among : (fs : List Placed) → filter test (filter wide fs) ≡ filter test fs
+  chosen_among [] = refl
+  chosen_among (f ∷ fs) = by (wide f) (test f) refl refl (chosen_among fs)
     where
-      by : (b c : Bool) → wide n ≡ b → test n ≡ c → filter test (filter wide ns) ≡ filter test ns →
-          filter test (cond b (n ∷ filter wide ns) (filter wide ns)) ≡ cond c (n ∷ filter test ns) (filter test ns)
+      by : (b c : Bool) → wide f ≡ b → test f ≡ c → filter test (filter wide fs) ≡ filter test fs →
+          filter test (cond b (f ∷ filter wide fs) (filter wide fs)) ≡ cond c (f ∷ filter test fs) (filter test fs)
       by true c is here rest =
-          ap (λ (d : Bool). cond d (n ∷ filter test (filter wide ns)) (filter test (filter wide ns))) here
-          ∙ ap (λ (l : List ℕ). cond c (n ∷ l) l) rest
-      by false true is here rest = let wrong = more n here in absurd cc
+          ap (λ (d : Bool). cond d (f ∷ filter test (filter wide fs)) (filter test (filter wide fs))) here
+          ∙ ap (λ (l : List Placed). cond c (f ∷ l) l) rest
+      by false true is here rest = let wrong = more f here in absurd cc
       by false false is here rest = rest
 
   -- and found among them
-  pub found_twice : (ns : List ℕ) → find test (filter wide ns) ≡ find test ns
-  found_twice [] = refl
-  found_twice (n ∷ ns) = by (wide n) (test n) refl refl (found_twice ns)
+  found_among : (fs : List Placed) → find test (filter wide fs) ≡ find test fs
+  found_among [] = refl
+  found_among (f ∷ fs) = by (wide f) (test f) refl refl (found_among fs)
     where
-      by : (b c : Bool) → wide n ≡ b → test n ≡ c → find test (filter wide ns) ≡ find test ns →
-          find test (cond b (n ∷ filter wide ns) (filter wide ns)) ≡ cond c (Some n) (find test ns)
+      by : (b c : Bool) → wide f ≡ b → test f ≡ c → find test (filter wide fs) ≡ find test fs →
+          find test (cond b (f ∷ filter wide fs) (filter wide fs)) ≡ cond c (Some f) (find test fs)
       by true c is here rest =
-          ap (λ (d : Bool). cond d (Some n) (find test (filter wide ns))) here ∙ ap (λ (o : Option ℕ). cond c (Some n) o) rest
-      by false true is here rest = let wrong = more n here in absurd cc
+          ap (λ (d : Bool). cond d (Some f) (find test (filter wide fs))) here ∙ ap (λ (o : Option Placed). cond c (Some f) o) rest
+      by false true is here rest = let wrong = more f here in absurd cc
       by false false is here rest = rest
 
 -- a number below 0 isn't 0
@@ -41,28 +38,24 @@ below_some : (z : ℤ) → is_negative z ≡ true → not (int_eq z (pos 0)) ≡
 below_some (pos n) e = absurd cc
 below_some (negsuc n) e = refl
 
-module _ (t : ℕ) (forms : List (Linear ℕ)) (ns : List ℕ) where
-  -- the places of the forms that have the atom
-  abbrev having : List ℕ
-  having = places_of With t forms ns
+module _ (t : ℕ) (forms : List Placed) where
+  -- the forms that have the atom
+  abbrev having : List Placed
+  having = filter (has_atom t) forms
 
-  abbrev has : ℕ → Bool
-  has n = has_atom t (placed_at forms n)
-
-  same_pairs : (pivot : Option ℕ) → place_pairs_with pivot t forms having ≡ place_pairs_with pivot t forms ns
+  same_pairs : (pivot : Option Placed) → pairs_with pivot t having ≡ pairs_with pivot t forms
   same_pairs None =
-      ap (λ (l : List ℕ). crossed_places l (places_of Above t forms having))
-      (chosen_twice (λ n. is_below t (placed_at forms n)) has (λ n e. below_some (coefficient_at t (placed_at forms n)) e) ns)
-      ∙ ap (crossed_places (places_of Below t forms ns))
-      (chosen_twice (λ n. is_above t (placed_at forms n)) has
-      (λ n e. and_first (has n) (not (is_below t (placed_at forms n))) e) ns)
+      ap (λ (l : List Placed). crossed l (filter (is_above t) having))
+      (chosen_among (is_below t) (has_atom t) (λ f e. below_some (coefficient_at t f) e) forms)
+      ∙ ap (crossed (filter (is_below t) forms))
+      (chosen_among (is_above t) (has_atom t) (λ f e. and_first (has_atom t f) (not (is_below t f)) e) forms)
   same_pairs (Some pivot) =
-      ap (λ (l : List ℕ). crossed_places l (pivot ∷ []))
-      (chosen_twice (λ n. plays (Beside pivot) t (placed_at forms n)) has (λ n e. and_first (has n) (not (n == pivot)) e) ns)
+      ap (map (λ (f : Placed). (f, pivot)))
+      (chosen_among (λ (f : Placed). has_atom t f && not (f.place == pivot.place)) (has_atom t)
+      (λ f e. and_first (has_atom t f) (not (f.place == pivot.place)) e) forms)
 
-  pub pairs_having : place_pairs t forms having ≡ place_pairs t forms ns
+  pub pairs_having : pairs t having ≡ pairs t forms
   pairs_having =
-      ap (λ (o : Option ℕ). place_pairs_with o t forms having)
-      (found_twice (λ n. is_pivot t (placed_at forms n)) has
-      (λ n e. and_second (is_equation (placed_at forms n).form.kind) (has n) e) ns)
-      ∙ same_pairs (pivot_place t forms ns)
+      ap (λ (o : Option Placed). pairs_with o t having)
+      (found_among (is_pivot t) (has_atom t) (λ f e. and_second (is_equation f.form.kind) (has_atom t f) e) forms)
+      ∙ same_pairs (find (is_pivot t) forms)

@@ -22,3 +22,7 @@ knows known h = list_any (λ k. same_form h k.form) known
 -- a form is known, too
 abbrev pub Learns : List Known → List Known → Linear ℕ → Type 0
 Learns old new f = (h : Linear ℕ) → knows new h ≡ (same_form f h || knows old h)
+
+-- exactly the forms of a list are known
+abbrev pub KnowsAll : List Known → List (Linear ℕ) → Type 0
+KnowsAll known forms = (h : Linear ℕ) → knows known h ≡ list_any (same_form h) forms

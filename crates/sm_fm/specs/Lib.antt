@@ -1,4 +1,5 @@
 pub mod Elimination
+pub mod Firsts
 pub mod Known
 pub mod KnownLaws
 pub mod Places

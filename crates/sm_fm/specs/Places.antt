@@ -7,7 +7,7 @@ use Rattle.sm_num.specs.Forms.{Linear}
 use Rattle.sm_num.specs.FormLaws.{same_atom}
 use Rattle.sm_num.specs.Eliminating.{can_cancel}
 use Rattle.sm_fm.specs.declared.roles.Role.{Role}
-use Rattle.sm_fm.specs.declared.roles.Role.TheVariants.{Below, Above, Without, With, Beside}
+use Rattle.sm_fm.specs.declared.roles.Role.TheVariants.{Below, Above, Beside}
 use Rattle.sm_fm.specs.Elimination.{Placed, has_atom, is_below, is_above, is_pivot}
 
 -- a form that says that 0 is at most 0
@@ -30,8 +30,6 @@ both_at forms p = (placed_at forms p.0, placed_at forms p.1)
 abbrev pub plays : Role → ℕ → Placed → Bool
 plays Below t f = is_below t f
 plays Above t f = is_above t f
-plays Without t f = not (has_atom t f)
-plays With t f = has_atom t f
 plays (Beside pivot) t f = has_atom t f && not (f.place == pivot)
 
 -- the places at which the forms play a role

@@ -1,7 +1,7 @@
 -- Private: the state of an elimination, and what is left to happen from there.
 use Rattle.std.specs.Prelude.{◌≡◌, ◌<◌, ◌+◌, ℕ, suc, pos, Bool, if◌then◌else◌, List, [], ◌∷◌}
 use Rattle.std.specs.Prelude.{◌++◌, map, length, Result, Ok, Err}
-use Rattle.std.specs.List.{All, list_any}
+use Rattle.std.specs.List.{All}
 use Rattle.sm_num.specs.Forms.{Linear, coefficient}
 use Rattle.sm_num.specs.FormLaws.{same_atom}
 use Rattle.sm_num.specs.Combining.{Outcome, Fits, Leaves}
@@ -13,11 +13,10 @@ use Rattle.sm_term.specs.declared.term.TermId.{TermId}
 use Rattle.sm_fm.specs.declared.step.ElimStep.{ElimStep}
 use Rattle.sm_fm.specs.declared.step.ElimStep.TheVariants.{Line, End}
 use Rattle.sm_fm.specs.declared.state.State.{State}
-use Rattle.sm_fm.specs.Elimination.{Placed, Event, Cancels, Next, sums, with_sum, taken_out}
-use Rattle.sm_fm.specs.Elimination.{forms_without, same_form}
-use Rattle.sm_fm.specs.declared.known.Known.{Known}
-use Rattle.sm_fm.specs.Known.{knows}
-use Rattle.sm_fm.specs.Places.{form_at, placed_at, both_at, AreWithin, IsPair}
+use Rattle.sm_fm.specs.Elimination.{Event, Cancels, Next, sums, with_sum, taken_out, forms_without}
+use Rattle.sm_fm.specs.Firsts.{standing, ListsFirsts}
+use Rattle.sm_fm.specs.Known.{KnowsAll}
+use Rattle.sm_fm.specs.Places.{form_at, placed_at, both_at, IsPair}
 use Rattle.sm_fm.specs.Taking.{Taking}
 
 -- the atoms after one are taken out of the forms without it
@@ -28,22 +27,21 @@ later_atoms more t forms count = taken_out more (suc t) (forms_without t forms) 
 abbrev pub after_sum : List (Linear ℕ) → ℕ → ℕ → List (ℕ × ℕ) → Next
 after_sum forms t more pairs = sums t (map (both_at forms) pairs) (later_atoms more t)
 
--- what is left to happen, by the forms, the places of those that stand, the atom at hand, how many
--- come after it, and the pairs that are left
-abbrev pub left_of : List (Linear ℕ) → List ℕ → ℕ → ℕ → List (ℕ × ℕ) → List Event
-left_of forms standing t more pairs =
-    after_sum forms t more pairs (map (placed_at forms) standing) (length forms)
+-- what is left to happen, by the forms, the atom at hand, how many come after it, and the pairs
+-- that are left
+abbrev pub left_of : List (Linear ℕ) → ℕ → ℕ → List (ℕ × ℕ) → List Event
+left_of forms t more pairs = after_sum forms t more pairs (standing forms t) (length forms)
 
 -- what is left of a state
 abbrev pub events_left : State → List Event
-events_left s = left_of s.forms.items s.standing.items s.atom s.more s.pairs
+events_left s = left_of s.forms.items s.atom s.more s.pairs
 
 -- the same where a pair that was just taken has this sum
 abbrev pub events_of_sum : State → ℕ × ℕ → Outcome (Linear ℕ) → List Event
 events_of_sum s p outcome =
     with_sum s.atom (placed_at s.forms.items p.0) (placed_at s.forms.items p.1) outcome
     (after_sum s.forms.items s.atom s.more s.pairs)
-    (map (placed_at s.forms.items) s.standing.items) (length s.forms.items)
+    (standing s.forms.items s.atom) (length s.forms.items)
 
 -- the state as it is seen
 abbrev pub taking : State → Taking
@@ -62,27 +60,13 @@ with_form s h =
       atoms = s.atoms.list.items;
       forms = s.forms.items ++ h ∷ [];
       left = after_sum s.forms.items s.atom s.more s.pairs
-          (map (placed_at s.forms.items) s.standing.items ++ record { place = n; form = h } ∷ [])
+          (standing s.forms.items s.atom ++ record { place = n; form = h } ∷ [])
           (suc n);
     }
 
 -- a form has no atom below a number
 abbrev pub Lacks : ℕ → Linear ℕ → Type 0
 Lacks n h = (a : ℕ) → a < n → coefficient same_atom a h.parts ≡ pos 0
-
--- where it has neither an atom nor an earlier one, it has none below a later number
-abbrev pub Skips : ℕ → ℕ → Linear ℕ → Type 0
-Skips t next h = Lacks (suc t) h → Lacks next h
-
--- whether a form is the same as one of some
-abbrev pub stands_among : List Placed → Linear ℕ → Bool
-stands_among forms h = list_any (λ f. same_form h f.form) forms
-
--- of the forms without the atom at hand and those before it, those that stand are known
-abbrev pub KnowsStanding : List Known → List (Linear ℕ) → List ℕ → ℕ → Type 0
-KnowsStanding known forms standing t =
-    (h : Linear ℕ) → Lacks (suc t) h →
-    knows known h ≡ stands_among (map (placed_at forms) standing) h
 
 -- a pair is of forms in which the atom at hand cancels, which is one of so many, and which have no
 -- earlier one
@@ -92,13 +76,13 @@ pub record IsPairOf (forms : List (Linear ℕ)) (atoms t : ℕ) (p : ℕ × ℕ)
   pub first_lacks : Lacks t (form_at forms p.0)
   pub second_lacks : Lacks t (form_at forms p.1)
 
--- the atoms that come later are among the atoms, and places among the forms; those that stand have
--- no earlier atom, so a form that was dropped can't be the same as a new sum
+-- the atoms that come later are among the atoms; the places of the forms are listed by the atoms
+-- with which they begin; exactly the forms of the list are known, of which those that don't stand
+-- have an atom that a new sum lacks; pairs are of forms that stand
 pub record IsSound (s : State) : Type 0 where
   pub later : 0 < s.more → s.atom + s.more < length s.atoms.list.items
-  pub standing : AreWithin (length s.forms.items) s.standing.items
-  pub clean : All (λ n. Lacks s.atom (form_at s.forms.items n)) s.standing.items
-  pub known : KnowsStanding s.known.keys s.forms.items s.standing.items s.atom
+  pub firsts : ListsFirsts s.firsts.items s.forms.items (length s.atoms.list.items)
+  pub known : KnowsAll s.known.keys s.forms.items
   pub pairs : All (IsPairOf s.forms.items (length s.atoms.list.items) s.atom) s.pairs
 
 -- a sum that fits was dealt with

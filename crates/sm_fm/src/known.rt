@@ -1,10 +1,7 @@
-// The forms that were ever in the list, as they are looked up.
-ghost use Rattle.std.specs.Prelude.{◌≡◌, ℕ, IfOk, OnOk, OnErr};
-ghost use Rattle.std.specs.List.{list_any};
+// The forms of the list, as they are looked up.
+ghost use Rattle.std.specs.Prelude.{◌≡◌, IfOk, OnOk, OnErr};
 ghost use Rattle.std.specs.Cmp.{partial_equiv_from_equiv};
-ghost use Rattle.sm_num.specs.Forms.{Linear};
-ghost use Rattle.sm_fm.specs.Elimination.{same_form};
-ghost use Rattle.sm_fm.specs.Known.{same_known, hashed, knows, Learns};
+ghost use Rattle.sm_fm.specs.Known.{same_known, hashed, Learns, KnowsAll};
 ghost use Rattle.sm_fm.specs.KnownLaws.{same_known-equiv, same_known-hashed};
 
 use crate::same::same;
@@ -47,8 +44,7 @@ impl Hash for Known {
 
 // A set of all forms of a list.
 pub(crate) fn know_all(alloc: Global, forms: &[LinForm]) -> Result<HashSet<Known>, AllocError>
-    ensures { IfOk result (λ s. (h : Linear ℕ) →
-        knows s.keys h ≡ list_any (same_form h) forms.now) }
+    ensures { IfOk result (λ s. KnowsAll s.keys forms.now) }
 {
     let mut known = HashSet::new(alloc);
     for form in forms {

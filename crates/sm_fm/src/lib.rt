@@ -19,8 +19,9 @@
 //! Read `specs/Elimination.antt` first, then `specs/Taking.antt` and `specs/Solutions.antt`.
 #![tactic(auto)]
 
-mod ahead;
 mod elimination;
+mod entry;
+mod firsts;
 mod forms;
 mod known;
 mod laws;

@@ -18,31 +18,17 @@ pub(crate) enum Role {
     Below,
     // Its coefficient is above 0.
     Above,
-    // It doesn't have the atom.
-    Without,
-    // It has the atom.
-    With,
     // It has the atom and isn't the pivot, which stands at this place.
     Beside(u64),
 }
 
-// The pairs of the forms at some places in which an atom cancels. Few forms have it, so each other
-// is looked at once.
-pub(crate) fn find_pairs(
+// The pairs of the forms at some places in which an atom cancels.
+pub(crate) fn pairs_of(
     alloc: Global,
     forms: &[LinForm],
     places: &[u64],
     t: u64,
 ) -> Result<Pairs, AllocError>
-    requires { AreWithin (length forms.now) places.now }
-    ensures { IfOk result (λ ps. ps ≡ place_pairs t forms.now places.now) }
-{
-    let with = select(alloc, forms, places, t, Role::With)?;
-    pairs_of(alloc, forms, &with, t)
-}
-
-// The same, where most of the forms have the atom.
-fn pairs_of(alloc: Global, forms: &[LinForm], places: &[u64], t: u64) -> Result<Pairs, AllocError>
     requires { AreWithin (length forms.now) places.now }
     ensures { IfOk result (λ ps. ps ≡ place_pairs t forms.now places.now) }
 {
@@ -98,7 +84,7 @@ fn find_pivot(forms: &[LinForm], places: &[u64], t: u64) -> Option<u64>
 }
 
 // The places at which the forms play a role.
-pub(crate) fn select(
+fn select(
     alloc: Global,
     forms: &[LinForm],
     places: &[u64],
@@ -142,8 +128,6 @@ fn plays(f: &LinForm, place: u64, t: u64, role: Role) -> bool
     match role {
         Role::Below => c < 0,
         Role::Above => c > 0,
-        Role::Without => c == 0,
-        Role::With => c != 0,
         Role::Beside(pivot) => c != 0 && place != pivot,
     }
 }

@@ -1,23 +1,22 @@
 // The state of an elimination, and its steps.
-ghost use Rattle.std.specs.Prelude.{◌≡◌, ◌≢◌, ◌<◌, ℕ, suc, [], ◌∷◌, ◌++◌, map, length};
-ghost use Rattle.std.specs.Prelude.{IfOk, IfErr, OnOk, OnErr};
-ghost use Rattle.std.specs.List.{range_with_len};
+ghost use Rattle.std.specs.Prelude.{◌≡◌, ◌≢◌, ◌<◌, ℕ, suc, [], length};
+ghost use Rattle.std.specs.Prelude.{IfOk, IfErr, OnOk};
 ghost use Rattle.sm_num.specs.declared.error.NumError.TheVariants.{Memory};
 ghost use Rattle.sm_num.specs.Forms.{Linear};
 ghost use Rattle.sm_num.specs.Combining.{Outcome};
 ghost use Rattle.sm_num.specs.Errors.{Returns};
 ghost use Rattle.sm_fm.specs.declared.step.ElimStep.TheVariants as step;
 ghost use Rattle.sm_fm.specs.Elimination.{events, is_new};
-ghost use Rattle.sm_fm.specs.Known.{Learns};
-ghost use Rattle.sm_fm.specs.Places.{placed_at};
+ghost use Rattle.sm_fm.specs.Firsts.{standing};
 ghost use Rattle.sm_fm.specs.Taking.{Gives};
 ghost use Rattle.sm_fm.specs.States.{events_left, taking, stopped, with_form, Lacks, IsSound};
 ghost use Rattle.sm_fm.specs.States.{TakesPair, Settles, Finishes};
 
-use crate::ahead::next_atom;
-use crate::known::{Known, know_all, learn};
+use crate::entry::enter;
+use crate::firsts::{list_firsts, next_atom};
+use crate::known::{Known, know_all};
 use crate::pairs::Pairs;
-use crate::roles::{Role, find_pairs, select};
+use crate::roles::pairs_of;
 use crate::step::ElimStep;
 use sm_num::{LinForm, NumError, elim, is_contradiction};
 use sm_term::{TermId, Terms};
@@ -31,15 +30,15 @@ pub(crate) struct State {
     pub(crate) atoms: Terms,
     // The given forms, then the kept sums.
     pub(crate) forms: Vec<LinForm>,
-    // The places of the forms that have no atom before the one at hand.
-    standing: Vec<u64>,
+    // For each atom, the places of the forms that begin with it.
+    firsts: Vec<Vec<u64>>,
     // The number of the atom at hand.
     atom: u64,
     // How many atoms come after it.
     more: u64,
     // The pairs that are left in which it cancels.
     pairs: Pairs,
-    // All forms that were ever in the list.
+    // All forms of the list.
     known: HashSet<Known>,
 }
 
@@ -52,25 +51,25 @@ impl State {
         ensures left { let atoms = length atoms.list.items in
             IfOk result (λ s. events_left s ≡ events forms.items atoms) }
     {
-        let standing = places_below(alloc, forms.len() as u64)?;
+        let firsts = list_firsts(alloc, &forms, atoms.list.len())?;
         let known = know_all(alloc, &forms)?;
         if atoms.list.is_empty() {
             return Ok(State {
                 atoms,
                 forms,
-                standing,
+                firsts,
                 atom: 0,
                 more: 0,
                 pairs: Pairs::none(alloc),
                 known,
             });
         }
-        let pairs = find_pairs(alloc, &forms, &standing, 0)?;
+        let pairs = pairs_of(alloc, &forms, &firsts[0], 0)?;
         let more = atoms.list.len() as u64 - 1;
         Ok(State {
             atoms,
             forms,
-            standing,
+            firsts,
             atom: 0,
             more,
             pairs,
@@ -93,7 +92,7 @@ impl State {
         self.sum(alloc)
     }
 
-    // Goes on to the next atom that a form has. Atoms that none has aren't looked at.
+    // Goes on to the next atom with which a form begins. At others nothing happens.
     fn go_on(&mut self, alloc: Global) -> Result<(), AllocError>
         requires sound { IsSound self.old }
         requires more { 0 < self.old.more }
@@ -103,14 +102,12 @@ impl State {
         ensures less { OnOk result (self.new.more < self.old.more) }
     {
         let end = self.atom + self.more + 1;
-        let next = next_atom(&self.forms, &self.standing, self.atom, end);
+        let next = next_atom(&self.firsts, self.atom, end);
         if next == end {
             self.stop();
             return Ok(());
         }
-        let standing = select(alloc, &self.forms, &self.standing, self.atom, Role::Without)?;
-        let pairs = find_pairs(alloc, &self.forms, &standing, next)?;
-        self.standing = standing;
+        let pairs = pairs_of(alloc, &self.forms, &self.firsts[next as usize], next)?;
         self.pairs = pairs;
         self.atom = next;
         self.more = end - next - 1;
@@ -198,8 +195,7 @@ impl State {
     fn is_new(&self, sum: &Known) -> bool
         requires sound { IsSound self.now }
         requires lacks { Lacks (suc self.now.atom) sum.now.form }
-        ensures { let standing = map (placed_at self.now.forms.items) self.now.standing.items in
-            result ≡ is_new sum.now.form standing }
+        ensures { result ≡ is_new sum.now.form (standing self.now.forms.items self.now.atom) }
     {
         !sum.form.parts().is_empty() && !self.known.contains(sum)
     }
@@ -211,11 +207,14 @@ impl State {
         ensures sound { IsSound self.new }
         ensures ok { OnOk result (taking self.new ≡ with_form self.old sum.form) }
     {
-        let place = self.forms.len() as u64;
         let form = sum.form.copy(alloc)?;
-        self.forms.push(form)?;
-        stand(&mut self.standing, &mut self.known, place, sum)?;
-        Ok(())
+        enter(
+            &mut self.firsts,
+            &mut self.forms,
+            &mut self.known,
+            form,
+            sum,
+        )
     }
 
     // Leaves nothing to happen.
@@ -241,38 +240,4 @@ fn line(pair: (u64, u64), atom: TermId, kept: bool, contradiction: bool) -> Elim
         kept,
         contradiction,
     }
-}
-
-// Lets a form at a place stand, and knows it; both or neither.
-fn stand(
-    standing: &mut Vec<u64>,
-    known: &mut HashSet<Known>,
-    place: u64,
-    sum: Known,
-) -> Result<(), AllocError>
-    ensures places { OnOk result (standing.new.items ≡ standing.old.items ++ place ∷ []) }
-    ensures learns { OnOk result (Learns known.old.keys known.new.keys sum.form) }
-    ensures err { OnErr result
-        ((standing.new.items ≡ standing.old.items) × (known.new.keys ≡ known.old.keys)) }
-{
-    let count = standing.len();
-    standing.push(place)?;
-    match learn(known, sum) {
-        Ok(()) => Ok(()),
-        Err(e) => {
-            standing.truncate(count);
-            Err(e)
-        }
-    }
-}
-
-// The places below a number.
-fn places_below(alloc: Global, n: u64) -> Result<Vec<u64>, AllocError>
-    ensures { IfOk result (λ v. v.items ≡ range_with_len 0 n) }
-{
-    let mut places = Vec::new(alloc);
-    for place in 0..n {
-        places.push(place)?;
-    }
-    Ok(places)
 }

@@ -11,8 +11,7 @@ returns-clause-sound c =
     let P = IsPairOf s.forms.items (length s.atoms.list.items) s.atom in
     record {
       later = c.requires.sound.later;
-      standing = c.requires.sound.standing;
-      clean = c.requires.sound.clean;
+      firsts = c.requires.sound.firsts;
       known = c.requires.sound.known;
       pairs = All-tail P c.take.result c.take.new.self (subst (All P) c.take.ensures c.requires.sound.pairs);
     }
@@ -25,5 +24,5 @@ returns-clause-takes c =
       atoms_are = refl;
       forms_are = refl;
       pair = All-head P c.take.result c.take.new.self (subst (All P) c.take.ensures c.requires.sound.pairs);
-      happens = ap (left_of s.forms.items s.standing.items s.atom s.more) c.take.ensures;
+      happens = ap (left_of s.forms.items s.atom s.more) c.take.ensures;
     }

@@ -1,0 +1,7 @@
+-- No form begins with an atom so far.
+use Rattle.std.proofs.Common.{◌≡◌, ◌<◌, ℕ, [], get_or}
+use Rattle.sm_fm.specs.Firsts.{lists_in}
+use Rattle.sm_fm.proofs.firsts.next_atom.Given as goal
+
+abbrev pub invariant-loop-next : goal.invariant-loop-next
+invariant-loop-next l = (a : ℕ) → l.t < a → a < l.next → get_or (lists_in l.firsts) a [] ≡ []
