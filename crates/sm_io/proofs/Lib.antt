@@ -1,2 +1,4 @@
 pub mod FileLemmas
+pub mod LogWalks
+pub mod ReadLemmas
 pub mod SinkLemmas

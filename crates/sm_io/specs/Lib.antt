@@ -1,6 +1,8 @@
 pub mod Causes
 pub mod Errors
 pub mod Files
+pub mod Logged
 pub mod MemShelf
 pub mod MemSink
+pub mod Reads
 pub mod Sinks

@@ -2,6 +2,7 @@
 use Rattle.std.specs.Prelude.{◌≡◌, ℕ, List, Contains, option_map}
 use Rattle.std.specs.BTreeMap.{get_by_text}
 use Rattle.sm_io.specs.Files.{Known, known_of}
+use Rattle.sm_io.specs.Reads.{Read}
 use Rattle.sm_io.specs.declared.mem_shelf.MemShelf.{MemShelf}
 
 -- what the shelf tells of the file with a name
@@ -23,6 +24,10 @@ read_faults_of shelf = shelf.read_faults
 -- how many calls of `start` and `append` failed by their number
 abbrev pub write_faults_of : MemShelf → ℕ
 write_faults_of shelf = shelf.write_faults
+
+-- what the calls of `read_at` gave
+abbrev pub given_by : MemShelf → List Read
+given_by shelf = shelf.log.reads
 
 -- the next call is one that is to fail
 abbrev pub IsFailing : MemShelf → Type 0

@@ -8,13 +8,17 @@
 //! - `put_all` and `append_all` write all bytes. After an error they wrote a proper prefix.
 //! - `MemShelf` and `MemSink` tell all that they hold. They fail at the calls that they were given,
 //!   and otherwise only where no file has the name.
+//! - Each read that succeeds is kept in `given`, for proofs alone: which file, from where, and which
+//!   bytes. `read_all` reads a file in one pass from its start to its end, and gives what these
+//!   reads gave, of a shelf that tells nothing too.
 //! - `FileShelf` and `OutSink` are real files and standard output. They tell nothing, so that they
 //!   read and write the bytes that they should is tested, and not proved. A file that is read piece
 //!   after piece stays open, so that no two files are read as one.
 //! - `read_all` makes no further read once more than the limit came. No contract counts the reads:
 //!   a case shows it, over a shelf whose next call would fail.
 //!
-//! Read `specs/Files.antt` first, then `specs/Causes.antt` and `specs/Sinks.antt`.
+//! Read `specs/Files.antt` first, then `specs/Reads.antt`, `specs/Causes.antt` and
+//! `specs/Sinks.antt`.
 #![tactic(auto)]
 
 mod calls;
@@ -26,6 +30,7 @@ mod mem_sink;
 mod out_sink;
 mod put;
 mod read;
+mod read_log;
 mod shelf;
 mod sink;
 

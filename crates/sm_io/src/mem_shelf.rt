@@ -6,6 +6,7 @@ ghost use Rattle.sm_io.specs.Causes.{HasCause, HasReadCause};
 
 use crate::calls::Calls;
 use crate::error::IoError;
+use crate::read_log::{Gave, ReadLog};
 use crate::shelf::Shelf;
 use std::alloc::Global;
 use std::collections::BTreeMap;
@@ -19,11 +20,12 @@ pub struct MemShelf {
     calls: Calls,
     read_faults: u64,
     write_faults: u64,
+    log: ReadLog,
 }
 
 impl MemShelf {
     ghost use Rattle.sm_io.specs.MemShelf.{file_in, failing_calls, calls_of, read_faults_of};
-    ghost use Rattle.sm_io.specs.MemShelf.{write_faults_of, SameFiles, SameCounts};
+    ghost use Rattle.sm_io.specs.MemShelf.{write_faults_of, given_by, SameFiles, SameCounts};
 
     /// A shelf with no files, of which no call is to fail.
     pub fn new(alloc: Global) -> MemShelf
@@ -32,6 +34,7 @@ impl MemShelf {
         ensures calls { calls_of result ≡ 0 }
         ensures read_faults { read_faults_of result ≡ 0 }
         ensures write_faults { write_faults_of result ≡ 0 }
+        ensures given { given_by result ≡ [] }
     {
         MemShelf {
             alloc,
@@ -39,6 +42,7 @@ impl MemShelf {
             calls: Calls::new(alloc),
             read_faults: 0,
             write_faults: 0,
+            log: ReadLog::new(),
         }
     }
 
@@ -52,6 +56,7 @@ impl MemShelf {
 
         ensures failing { failing_calls self.new ≡ failing_calls self.old }
         ensures counts { SameCounts self.old self.new }
+        ensures keeps { given_by self.new ≡ given_by self.old }
     {
         let name = String::from_str(self.alloc, name)?;
         let bytes = Vec::from_slice(self.alloc, bytes)?;
@@ -68,6 +73,7 @@ impl MemShelf {
 
         ensures files { SameFiles self.old self.new }
         ensures counts { SameCounts self.old self.new }
+        ensures keeps { given_by self.new ≡ given_by self.old }
     {
         self.calls.fail_at(call)
     }
@@ -100,9 +106,11 @@ fn copy_from(bytes: &[u8], place: u64, buf: &mut [u8]) -> usize
 
 impl Shelf for MemShelf {
     ghost use Rattle.sm_io.specs.MemShelf.{file_in, failing_calls, calls_of, read_faults_of};
-    ghost use Rattle.sm_io.specs.MemShelf.{write_faults_of, IsFailing, SameFiles};
+    ghost use Rattle.sm_io.specs.MemShelf.{write_faults_of, given_by, IsFailing, SameFiles};
 
     ghost file = { file_in };
+
+    ghost given = { given_by };
 
     ghost read_faults = { read_faults_of };
 
@@ -117,6 +125,9 @@ impl Shelf for MemShelf {
         ensures cause { HasReadCause (file_in self.old name.now) (read_faults_of self.old)
             (read_faults_of self.new) (IsErrOf result IoError.Fault) }
         ensures writes { write_faults_of self.new ≡ write_faults_of self.old }
+        ensures gives { IfOk result (λ n.
+            given_by self.new ≡ given_by self.old ++ (name.now, place, take n buf.new) ∷ []) }
+        ensures gives_none { IsErr result → given_by self.new ≡ given_by self.old }
 
         // Every error is a fault, and one comes exactly at the calls that were given and where no
         // file has the name.
@@ -130,10 +141,16 @@ impl Shelf for MemShelf {
             self.read_faults = self.read_faults.saturating_add(1);
             return Err(IoError::Fault);
         }
-        match self.bytes(name) {
-            Some(bytes) => Ok(copy_from(bytes, place, buf)),
-            None => Err(IoError::Fault),
-        }
+        let Some(bytes) = self.bytes(name) else {
+            return Err(IoError::Fault);
+        };
+        let count = copy_from(bytes, place, buf);
+        self.log = self.log.with(&Gave {
+            name,
+            place,
+            bytes: &buf[..count],
+        });
+        Ok(count)
     }
 
     fn start(&mut self, name: &str) -> Result<(), IoError>
@@ -145,6 +162,7 @@ impl Shelf for MemShelf {
         ensures cause { HasCause (write_faults_of self.old) (write_faults_of self.new)
             (IsErrOf result IoError.Fault) }
         ensures reads { read_faults_of self.new ≡ read_faults_of self.old }
+        ensures keeps { given_by self.new ≡ given_by self.old }
 
         // A fault comes exactly at the calls that were given, and an error changes no file.
         ensures fails { IsErrOf result IoError.Fault ↔ IsFailing self.old }
@@ -171,6 +189,7 @@ impl Shelf for MemShelf {
         ensures cause { HasReadCause (file_in self.old name.now) (write_faults_of self.old)
             (write_faults_of self.new) (IsErrOf result IoError.Fault) }
         ensures reads { read_faults_of self.new ≡ read_faults_of self.old }
+        ensures keeps { given_by self.new ≡ given_by self.old }
 
         // A fault comes exactly at the calls that were given and where no file has the name.
         ensures fails { IsErrOf result IoError.Fault

@@ -36,6 +36,7 @@ pub fn append_all<H: Shelf>(shelf: &mut H, name: &str, bytes: &[u8]) -> Result<(
     ensures cause { HasReadCause (H.file shelf.old name.now) (H.write_faults shelf.old)
         (H.write_faults shelf.new) (IsErrOf result IoError.Fault) }
     ensures reads { H.read_faults shelf.new ≡ H.read_faults shelf.old }
+    ensures keeps { H.given shelf.new ≡ H.given shelf.old }
 {
     let mut done = 0;
     while done < bytes.len() {

@@ -1,6 +1,8 @@
-ghost use Rattle.std.specs.Prelude.{◌≡◌, ◌<◌, ◌≤◌, ◌⊎◌, ℕ, List, length, vec_len, IfOk, IsErrOf};
+ghost use Rattle.std.specs.Prelude.{◌≡◌, ◌<◌, ◌≤◌, ◌⊎◌, ℕ, List, length, vec_len, IfOk, IsErr};
+ghost use Rattle.std.specs.Prelude.{IsErrOf};
 ghost use Rattle.sm_io.specs.Files.{absent, WhereHeld};
 ghost use Rattle.sm_io.specs.Causes.{HasReadCause};
+ghost use Rattle.sm_io.specs.Reads.{ReadsOn, ReadsWhole};
 
 use crate::error::ReadError;
 use crate::shelf::Shelf;
@@ -10,7 +12,8 @@ use std::alloc::{AllocError, Global};
 const PIECE: usize = 65536;
 
 /// Reads the whole file, which may have `limit` bytes. It reads until a read gives no bytes, or
-/// until more than `limit` came. A file that grows or shrinks meanwhile may be read in part.
+/// until more than `limit` came, each time where the last read ended, and makes no other read. A
+/// file that grows or shrinks meanwhile may be read in part.
 pub fn read_all<H: Shelf>(
     alloc: Global,
     shelf: &mut H,
@@ -29,6 +32,13 @@ pub fn read_all<H: Shelf>(
     ensures cause { HasReadCause (H.file shelf.old name.now) (H.read_faults shelf.old)
         (H.read_faults shelf.new) (IsErrOf result ReadError.Fault) }
     ensures writes { H.write_faults shelf.new ≡ H.write_faults shelf.old }
+
+    ensures whole { IfOk result (λ read.
+        ReadsWhole name.now (H.given shelf.old) (H.given shelf.new) read.items) }
+    ensures part { IsErr result → (bytes : List ℕ)
+        × ReadsOn name.now (H.given shelf.old) (H.given shelf.new) bytes }
+    ensures over { IsErrOf result ReadError.TooLong → (bytes : List ℕ) × (limit < length bytes)
+        × ReadsOn name.now (H.given shelf.old) (H.given shelf.new) bytes }
 {
     let mut piece = blank_piece(alloc)?;
     read_by(alloc, shelf, name, limit, &mut piece)
@@ -62,6 +72,13 @@ fn read_by<H: Shelf>(
     ensures cause { HasReadCause (H.file shelf.old name.now) (H.read_faults shelf.old)
         (H.read_faults shelf.new) (IsErrOf result ReadError.Fault) }
     ensures writes { H.write_faults shelf.new ≡ H.write_faults shelf.old }
+
+    ensures whole { IfOk result (λ read.
+        ReadsWhole name.now (H.given shelf.old) (H.given shelf.new) read.items) }
+    ensures part { IsErr result → (bytes : List ℕ)
+        × ReadsOn name.now (H.given shelf.old) (H.given shelf.new) bytes }
+    ensures over { IsErrOf result ReadError.TooLong → (bytes : List ℕ) × (limit < length bytes)
+        × ReadsOn name.now (H.given shelf.old) (H.given shelf.new) bytes }
 {
     let mut bytes = Vec::new(alloc);
     loop {

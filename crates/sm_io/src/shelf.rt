@@ -1,7 +1,8 @@
-ghost use Rattle.std.specs.Prelude.{◌≡◌, ◌≢◌, ◌<◌, ◌≤◌, ◌⊎◌, ℕ, List, length, take, IfOk, OnOk};
-ghost use Rattle.std.specs.Prelude.{OnErr, IsErr, IsErrOf};
+ghost use Rattle.std.specs.Prelude.{◌≡◌, ◌≢◌, ◌<◌, ◌≤◌, ◌⊎◌, ◌++◌, ℕ, List, [], ◌∷◌, length, take};
+ghost use Rattle.std.specs.Prelude.{IfOk, OnOk, OnErr, IsErr, IsErrOf};
 ghost use Rattle.sm_io.specs.Files.{Known, absent, emptied, longer, WhereHeld, ReadsFrom};
 ghost use Rattle.sm_io.specs.Causes.{HasCause, HasReadCause};
+ghost use Rattle.sm_io.specs.Reads.{Read};
 
 use crate::error::IoError;
 
@@ -10,6 +11,9 @@ pub trait Shelf {
     // what is told of the file with a name
     ghost file: { Self → List ℕ → Known };
 
+    // what its reads gave so far, in order, whether it tells of its files or not
+    ghost given: { Self → List Read };
+
     // how often a read answered a fault of its own
     ghost read_faults: { Self → ℕ };
 
@@ -17,7 +21,7 @@ pub trait Shelf {
     ghost write_faults: { Self → ℕ };
 
     /// Reads bytes from `place` on into the front of `buf`, and answers how many. It may read fewer
-    /// than there is room for, and answers 0 only at the end.
+    /// than there is room for, and answers 0 only at the end. What it gave is kept in `given`.
     fn read_at(&mut self, name: &str, place: u64, buf: &mut [u8]) -> Result<usize, IoError>
         ensures bound { IfOk result (λ n. n ≤ length buf.new) }
         ensures bytes { WhereHeld (file self.old name.now)
@@ -27,7 +31,11 @@ pub trait Shelf {
 
         ensures cause { HasReadCause (file self.old name.now) (read_faults self.old)
             (read_faults self.new) (IsErrOf result IoError.Fault) }
-        ensures writes { write_faults self.new ≡ write_faults self.old };
+        ensures writes { write_faults self.new ≡ write_faults self.old }
+
+        ensures gives { IfOk result (λ n.
+            given self.new ≡ given self.old ++ (name.now, place, take n buf.new) ∷ []) }
+        ensures gives_none { IsErr result → given self.new ≡ given self.old };
 
     /// Makes the file empty, and makes it if there is none.
     fn start(&mut self, name: &str) -> Result<(), IoError>
@@ -39,7 +47,8 @@ pub trait Shelf {
 
         ensures cause { HasCause (write_faults self.old) (write_faults self.new)
             (IsErrOf result IoError.Fault) }
-        ensures reads { read_faults self.new ≡ read_faults self.old };
+        ensures reads { read_faults self.new ≡ read_faults self.old }
+        ensures keeps { given self.new ≡ given self.old };
 
     /// Adds the first of `bytes` to the file's end, and answers how many. It may add fewer than
     /// there are, but at least one of them.
@@ -55,5 +64,6 @@ pub trait Shelf {
 
         ensures cause { HasReadCause (file self.old name.now) (write_faults self.old)
             (write_faults self.new) (IsErrOf result IoError.Fault) }
-        ensures reads { read_faults self.new ≡ read_faults self.old };
+        ensures reads { read_faults self.new ≡ read_faults self.old }
+        ensures keeps { given self.new ≡ given self.old };
 }

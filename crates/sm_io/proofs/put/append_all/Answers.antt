@@ -9,5 +9,6 @@ loop-done-preserved g c = record {
   held = grind arith;
   others = λ other ne. c.in_ok-done.ensures.others other ne ∙ c.loop-done.invariant.others other ne;
   count = grind arith;
+  keeps = c.in_ok-done.ensures.keeps ∙ c.loop-done.invariant.keeps;
   reads = grind arith;
 }

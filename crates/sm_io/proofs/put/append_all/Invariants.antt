@@ -9,6 +9,7 @@ invariant-loop-done g l = record {
   held : g.H.Shelf.file l.initial.shelf l.name ≡ absent → l.done ≡ 0;
   others : (other : List ℕ) → other ≢ l.name → g.H.Shelf.file l.shelf other ≡ g.H.Shelf.file l.initial.shelf other;
   count : g.H.Shelf.write_faults l.shelf ≡ g.H.Shelf.write_faults l.initial.shelf;
+  keeps : g.H.Shelf.given l.shelf ≡ g.H.Shelf.given l.initial.shelf;
   reads : g.H.Shelf.read_faults l.shelf ≡ g.H.Shelf.read_faults l.initial.shelf;
 }
 
