@@ -1,5 +1,5 @@
 // The obligations of a plan.
-ghost use Rattle.std.specs.Prelude.{◌≡◌, reverse, option_map, Ok, IfOk, IfErr, IfSome};
+ghost use Rattle.std.specs.Prelude.{◌≡◌, reverse, option_map, Ok, IfOk, IfErr, IfSome, OnErr};
 ghost use Rattle.sm_syntax.specs.claim.ConflictFree.{Copy, Task};
 ghost use Rattle.sm_syntax.specs.text.Parts.{sort_of, sorted_outputs};
 ghost use Rattle.sm_syntax.specs.text.Sorts.{IsWellSorted, IsWellSortedCondition};
@@ -97,8 +97,9 @@ fn expand_at(
 }
 
 /// The obligations of a plan for a task, over a table of the task's declarations. Too many
-/// branching nodes above a node are found first, and then the first node whose rule fails. After
-/// want of memory the table may have more terms.
+/// branching nodes above a node are found first, and then the first node whose rule fails. After an
+/// error the table has the terms that it had.
+#[tactic(auto, using(sm_plan::proofs::TablesWiden::widens_cut, sm_plan::proofs::TablesWiden::cut_back))]
 pub fn expand(
     alloc: Global,
     table: &mut TermTable,
@@ -134,6 +135,51 @@ pub fn expand(
         AreDuesReady (sorts_in table.new) (trees_in table.new) o.list.items) }
 
     // Each term keeps its number.
+    ensures widens { Widens table.old table.new }
+    ensures unchanged { OnErr result (trees_in table.new ≡ trees_in table.old) }
+{
+    let len = table.len();
+    match expand_whole(alloc, table, decls, outputs, assumed, programs, plan) {
+        Ok(dues) => Ok(dues),
+        Err(fault) => {
+            table.cut(len);
+            Err(fault)
+        }
+    }
+}
+
+// The obligations of a plan for a task, where an error leaves the terms that were made.
+fn expand_whole(
+    alloc: Global,
+    table: &mut TermTable,
+    decls: &Decls,
+    outputs: &Outputs,
+    assumed: Option<&Cond>,
+    programs: &PerCopy<Block>,
+    plan: &Plan,
+) -> Result<Obligations, PlanFault>
+    requires declared { sorts_in table.old ≡ sort_of (declared_of decls.now) }
+    requires numbered { AreNumbered (declared_of decls.now) }
+    requires outputs { let declared = declared_of decls.now in
+        AreOutputsDeclared (sort_of declared) (sorted_outputs declared (outputs_of outputs.now)) }
+    requires assumed { let sorts = sorts_in table.old in
+        IfSome assumed (λ b. IsWellSortedCondition sorts (condition_of b.now)) }
+    requires programs { (c : Copy) →
+        IsWellSorted (sorts_in table.old) (code_of (of_copy programs.now c)) }
+    requires plan { IsPlanReady (sorts_in table.old) (trees_in table.old) (numbered_plan plan.now) }
+    ensures ok { let p = plan_in (sorts_in table.old) (trees_in table.old) plan.now in
+        let all = sorted_outputs (declared_of decls.now) (outputs_of outputs.now) in
+        let b = option_map (λ b. condition_of b.now) assumed.entry in
+        (t : Task) → HasParts t b all (λ c. code_of (of_copy programs.now c)) →
+        IfOk result (λ o. plain.obligations t p
+        ≡ Ok (dues_in (sorts_in table.new) (trees_in table.new) o.list.items)) }
+    ensures err { let p = plan_in (sorts_in table.old) (trees_in table.old) plan.now in
+        let all = sorted_outputs (declared_of decls.now) (outputs_of outputs.now) in
+        let b = option_map (λ b. condition_of b.now) assumed.entry in
+        (t : Task) → HasParts t b all (λ c. code_of (of_copy programs.now c)) →
+        IfErr result (λ e. FaultTells e (plain.obligations t p)) }
+    ensures ready { IfOk result (λ o.
+        AreDuesReady (sorts_in table.new) (trees_in table.new) o.list.items) }
     ensures widens { Widens table.old table.new }
 {
     if is_deep(plan, 1000) {

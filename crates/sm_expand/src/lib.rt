@@ -20,8 +20,6 @@ mod expanding;
 mod fault;
 mod nodes;
 mod plan;
-#[cfg(test)]
-mod tests;
 mod walk;
 
 pub use cursor::{Cursor, row_at, start_of};

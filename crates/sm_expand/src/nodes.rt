@@ -1,5 +1,5 @@
 // One node of a plan.
-ghost use Rattle.std.specs.Prelude.{◌≡◌, ◌+◌, ◌<◌, ◌∷◌, List, length, map, reverse, IfOk, OnOk};
+ghost use Rattle.std.specs.Prelude.{◌≡◌, ◌+◌, ◌<◌, ◌∷◌, List, length, map, reverse, IfOk, OnOk, OnErr};
 ghost use Rattle.std.specs.Prelude.{IfErr, IfSome, ◌&&◌};
 ghost use Rattle.sm_syntax.specs.text.Sorts.{Sorts};
 ghost use Rattle.sm_term.specs.Assertions.{Assertion};
@@ -26,8 +26,9 @@ use sm_term::TermTable;
 use std::alloc::Global;
 
 /// What the node at a place opens at a state, with a place for each state that follows. Where the
-/// node fails its rule the error names it by its number. After an error the table may have more
-/// terms.
+/// node fails its rule the error names it by its number. After an error the table has the terms that
+/// it had.
+#[tactic(auto, using(sm_plan::proofs::TablesWiden::widens_cut, sm_plan::proofs::TablesWiden::cut_back))]
 pub fn open_at<'a, 'p>(
     alloc: Global,
     table: &mut TermTable,
@@ -44,6 +45,34 @@ pub fn open_at<'a, 'p>(
         (plan_over sorts trees (numbered_at cursor.now)))) }
 
     // Each term keeps its number.
+    ensures widens { Widens table.old table.new }
+    ensures unchanged { OnErr result (trees_in table.new ≡ trees_in table.old) }
+{
+    let len = table.len();
+    match open_with(alloc, table, number, state, cursor) {
+        Ok(opened) => Ok(opened),
+        Err(fault) => {
+            table.cut(len);
+            Err(fault)
+        }
+    }
+}
+
+// What a node opens and the places that follow, where an error leaves the terms that were made.
+fn open_with<'a, 'p>(
+    alloc: Global,
+    table: &mut TermTable,
+    number: u64,
+    state: SymState<'a>,
+    cursor: &Cursor<'p>,
+) -> Result<(Opened<'a>, Vec<Cursor<'p>>), PlanFault>
+    requires state { IsStateReady (sorts_in table.old) (trees_in table.old) state }
+    requires plan { IsPlanReady (sorts_in table.old) (trees_in table.old) (numbered_at cursor.now) }
+    ensures ok { IfOk result (OpensAs table.old table.new number state.entry cursor.now) }
+    ensures err { let sorts = sorts_in table.old in let trees = trees_in table.old in
+        (facts : List Assertion) → IfErr result (λ e. FaultTells e
+        (plain.expand number (state_in sorts trees facts state.entry)
+        (plan_over sorts trees (numbered_at cursor.now)))) }
     ensures widens { Widens table.old table.new }
 {
     let wrong = PlanFault::Wrong {

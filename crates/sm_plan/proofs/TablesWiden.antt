@@ -1,7 +1,8 @@
 -- What a table's numbers stand for stays where the table has more behind.
 use Rattle.std.proofs.Common.{◌≡◌, ℕ, zero, suc, ◌<◌, ◌≤◌, Option, Some, None, List, [], ◌∷◌, ◌++◌, length, slice_get, refl, sym, ap, ◌∙◌}
 use Rattle.std.proofs.Common.{subst, arith}
-use Rattle.std.proofs.Common.{append-nil, append_assoc}
+use Rattle.std.proofs.Common.{append-nil, append_assoc, take}
+use Rattle.std.proofs.Math.Seq.{take-append_seam}
 use Rattle.std.proofs.Math.Path.{fun_ext}
 use Rattle.std.proofs.lemmas.List.{length-append}
 use Rattle.sm_syntax.specs.claim.Syntax.{Code}
@@ -18,7 +19,7 @@ use Rattle.sm_term.specs.Assertions.{Assertion}
 use Rattle.sm_term.specs.Sorted.{tree_sort, IsFormSorted, IsStoreSorted}
 use Rattle.sm_term.specs.Formulas.{NumberedFormula, Yes, No, Eq, Ne, Le, Lt, And, Or, numbered, assertion_in, IsFormulaWithin}
 use Rattle.sm_term.specs.SymStores.{tree_or_start, store_in, IsStoreWithin}
-use Rattle.sm_term.specs.Tables.{TableValue, trees_in, sorts_in, tree_at}
+use Rattle.sm_term.specs.Tables.{TableValue, trees_in, sorts_in, codes_in, tree_at}
 use Rattle.sm_term.specs.TableLaws.{Grows, Widens}
 use Rattle.sm_term.proofs.TermsLemmas.{part_before}
 use Rattle.sm_term.proofs.TreesLemmas.{tree_at-more, before-later}
@@ -54,6 +55,17 @@ widens_twice u v w first second = record {
     second.trees.1 ∙ ap (λ (l : List Tree). l ++ second.trees.0) first.trees.1
         ∙ append_assoc _ first.trees.0 second.trees.0,
   );
+}
+
+-- a table that widened and was cut back has the trees that it had, and is no narrower
+pub cut_back : (u v w : TableValue) → Widens u v → trees_in w ≡ take (length (trees_in u)) (trees_in v) → trees_in w ≡ trees_in u
+cut_back u v w wider cut = cut ∙ ap (take (length (trees_in u))) wider.trees.1 ∙ take-append_seam (trees_in u) wider.trees.0
+
+pub widens_cut : (u v w : TableValue) → Widens u v → trees_in w ≡ take (length (trees_in u)) (trees_in v) → sorts_in w ≡ sorts_in v → codes_in w ≡ codes_in v → Widens u w
+widens_cut u v w wider cut sorts codes = record {
+  sorts = sorts ∙ wider.sorts;
+  codes = (wider.codes.0, codes ∙ wider.codes.1);
+  trees = ([], cut_back u v w wider cut ∙ sym (append-nil _));
 }
 
 -- from one table to a wider one

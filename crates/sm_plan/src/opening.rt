@@ -1,5 +1,6 @@
 // What nodes open.
-ghost use Rattle.std.specs.Prelude.{◌≡◌, ◌⊎◌, List, [], option_map, IfOk, IfSome};
+ghost use Rattle.std.specs.Prelude.{◌≡◌, ◌⊎◌, List, [], option_map, IfOk, IfSome, IfNone};
+ghost use Rattle.std.specs.Prelude.{OnErr};
 ghost use Rattle.sm_term.specs.Tables.{trees_in, sorts_in};
 ghost use Rattle.sm_term.specs.TableLaws.{Widens};
 ghost use Rattle.sm_term.specs.Assertions.{Assertion};
@@ -38,8 +39,9 @@ pub struct Opened<'a> {
     pub states: Vec<Successor<'a>>,
 }
 
-/// What a node with a number opens at a state, None where its condition fails. After want of memory
-/// the table may have more terms.
+/// What a node with a number opens at a state, None where its condition fails. The table then has
+/// the terms that it had, and so it has after want of memory.
+#[tactic(auto, using(crate::proofs::TablesWiden::widens_cut, crate::proofs::TablesWiden::cut_back))]
 pub fn open<'a>(
     alloc: Global,
     table: &mut TermTable,
@@ -69,6 +71,48 @@ pub fn open<'a>(
         AreStoresReady (sorts_in table.new) (trees_in table.new) p.stores)) }
 
     // Each term keeps its number.
+    ensures widens { Widens table.old table.new }
+    ensures refused { IfOk result (λ o. IfNone o (trees_in table.new ≡ trees_in table.old)) }
+    ensures err { OnErr result (trees_in table.new ≡ trees_in table.old) }
+{
+    let len = table.len();
+    match open_node(alloc, table, number, state, node) {
+        Ok(Some(opened)) => Ok(Some(opened)),
+        Ok(None) => {
+            table.cut(len);
+            Ok(None)
+        }
+        Err(refused) => {
+            table.cut(len);
+            Err(refused)
+        }
+    }
+}
+
+// What a node opens, where a refusal leaves the terms that were made.
+fn open_node<'a>(
+    alloc: Global,
+    table: &mut TermTable,
+    number: u64,
+    state: SymState<'a>,
+    node: &NodeRow<'_>,
+) -> Result<Option<Opened<'a>>, AllocError>
+    requires state { IsStateReady (sorts_in table.old) (trees_in table.old) state }
+    requires node { IsNodeReady (sorts_in table.old) (trees_in table.old) node.now }
+    ensures opened { let sorts = sorts_in table.old in let trees = trees_in table.old in
+        (facts : List Assertion) → IfOk result (λ o.
+        option_map (opened_in (sorts_in table.new) (trees_in table.new) facts) o
+        ≡ plan.opened_by number (state_in sorts trees facts state.entry)
+        (node_in sorts trees node.now)) }
+    ensures stores { IfOk result (λ o. IfSome o (λ p. (p.goals.list.items ≡ [])
+        ⊎ (stores_in (trees_in table.new) p.stores
+        ≡ stores_in (trees_in table.old) state.entry.stores))) }
+    ensures ready { IfOk result (λ o. IfSome o (λ p.
+        AreSuccessorsReady (sorts_in table.new) (trees_in table.new) p.states.items)) }
+    ensures goals { IfOk result (λ o. IfSome o (λ p.
+        AreFormsReady (sorts_in table.new) (trees_in table.new) p.goals.list.items)) }
+    ensures asking { IfOk result (λ o. IfSome o (λ p.
+        AreStoresReady (sorts_in table.new) (trees_in table.new) p.stores)) }
     ensures widens { Widens table.old table.new }
 {
     match node {

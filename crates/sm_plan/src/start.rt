@@ -1,5 +1,5 @@
 // The start of a proof.
-ghost use Rattle.std.specs.Prelude.{◌≡◌, ℕ, ◌<◌, map, length, option_map, IfOk, IfSome};
+ghost use Rattle.std.specs.Prelude.{◌≡◌, ℕ, ◌<◌, map, length, option_map, IfOk, IfSome, OnErr};
 ghost use Rattle.std.specs.List.{range_with_len};
 ghost use Rattle.sm_syntax.specs.claim.ConflictFree.{Copy};
 ghost use Rattle.sm_syntax.specs.text.Parts.{sort_of, sorted_outputs};
@@ -98,7 +98,8 @@ fn four(alloc: Global, store: SymStore) -> Result<PerCopy<SymStore>, AllocError>
 }
 
 /// The start of the programs of a task over a table of its declarations, and the facts of its
-/// assumption. After want of memory the table may have more terms.
+/// assumption. After want of memory the table has the terms that it had.
+#[tactic(auto, using(crate::proofs::TablesWiden::widens_cut, crate::proofs::TablesWiden::cut_back))]
 pub fn start_state<'a>(
     alloc: Global,
     table: &mut TermTable,
@@ -127,6 +128,44 @@ pub fn start_state<'a>(
         AreFormsReady (sorts_in table.new) (trees_in table.new) p.1.list.items) }
 
     // Each term keeps its number.
+    ensures widens { Widens table.old table.new }
+    ensures err { OnErr result (trees_in table.new ≡ trees_in table.old) }
+{
+    let len = table.len();
+    match made_state(alloc, table, decls, outputs, assumed, programs) {
+        Ok(made) => Ok(made),
+        Err(refused) => {
+            table.cut(len);
+            Err(refused)
+        }
+    }
+}
+
+// The start and its facts, where want of memory leaves the terms that were made.
+fn made_state<'a>(
+    alloc: Global,
+    table: &mut TermTable,
+    decls: &Decls,
+    outputs: &Outputs,
+    assumed: Option<&Cond>,
+    programs: &'a PerCopy<Block>,
+) -> Result<(SymState<'a>, Formulas), AllocError>
+    requires declared { sorts_in table.old ≡ sort_of (declared_of decls.now) }
+    requires numbered { AreNumbered (declared_of decls.now) }
+    requires outputs { let declared = declared_of decls.now in
+        AreOutputsDeclared (sort_of declared) (sorted_outputs declared (outputs_of outputs.now)) }
+    requires assumed { let sorts = sorts_in table.old in
+        IfSome assumed (λ b. IsWellSortedCondition sorts (condition_of b.now)) }
+    requires programs { (c : Copy) →
+        IsWellSorted (sorts_in table.old) (code_of (of_copy programs.now c)) }
+    ensures start { let all = sorted_outputs (declared_of decls.now) (outputs_of outputs.now) in
+        let b = option_map (λ b. condition_of b.now) assumed.entry in
+        let sorts = sorts_in table.new in let trees = trees_in table.new in
+        IfOk result (λ p. state_in sorts trees (forms_in sorts trees p.1.list.items) p.0
+        ≡ plain.start_of b all (λ c. code_of (of_copy programs.now c))) }
+    ensures ready { IfOk result (λ p. IsStateReady (sorts_in table.new) (trees_in table.new) p.0) }
+    ensures facts { IfOk result (λ p.
+        AreFormsReady (sorts_in table.new) (trees_in table.new) p.1.list.items) }
     ensures widens { Widens table.old table.new }
 {
     let store = start_store(alloc, table, decls)?;

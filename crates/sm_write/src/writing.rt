@@ -1,5 +1,5 @@
 // Proof files.
-ghost use Rattle.std.specs.Prelude.{◌≡◌, length, map, IfOk};
+ghost use Rattle.std.specs.Prelude.{◌≡◌, length, map, IfOk, OnErr};
 ghost use Rattle.sm_syntax.specs.text.Parts.{sort_of, task_of};
 ghost use Rattle.sm_syntax.specs.trees.Programs.{declared_of};
 ghost use Rattle.sm_term.specs.Tables.{trees_in, sorts_in};
@@ -44,8 +44,8 @@ fn fresh_writer(alloc: Global, assumes: bool) -> Result<Writer, AllocError>
 }
 
 /// The proof file of a plan for a task, over a table of the task's declarations, with a certificate
-/// for each goal of the plan's obligations, in order. After want of memory the table may have more
-/// terms.
+/// for each goal of the plan's obligations, in order. After want of memory the table has the terms
+/// that it had.
 pub fn write_proof(
     alloc: Global,
     table: &mut TermTable,
@@ -64,6 +64,36 @@ pub fn write_proof(
     ensures version { IfOk result (λ text. HasVersion (parts_of task.now) text.items) }
 
     // Each term keeps its number.
+    ensures widens { Widens table.old table.new }
+    ensures err { OnErr result (trees_in table.new ≡ trees_in table.old) }
+{
+    let len = table.len();
+    match written_proof(alloc, table, task, plan, trees) {
+        Ok(text) => Ok(text),
+        Err(refused) => {
+            table.cut(len);
+            Err(refused)
+        }
+    }
+}
+
+// The same, but an error leaves the terms that were made.
+fn written_proof(
+    alloc: Global,
+    table: &mut TermTable,
+    task: &Task,
+    plan: &Plan,
+    trees: &[CertTree],
+) -> Result<Vec<u8>, AllocError>
+    requires sorted { let t = parts_of task.now in IsTaskSorted (sort_of t.declared) (task_of t) }
+    requires numbered { AreNumbered (declared_of task.now.shared.decls) }
+    requires declared { sorts_in table.old ≡ sort_of (declared_of task.now.shared.decls) }
+    requires plan { IsPlanReady (sorts_in table.old) (trees_in table.old) (numbered_plan plan.now) }
+    requires trees { AreTreesWithin (length (trees_in table.old)) trees.now }
+    requires writable { let terms = trees_in table.old in IsWritable (parts_of task.now)
+        (plan_in (sorts_in table.old) terms plan.now) (map (certificate_in terms) trees.now) }
+    ensures passes { IfOk result (λ text. Passes (parts_of task.now) text.items) }
+    ensures version { IfOk result (λ text. HasVersion (parts_of task.now) text.items) }
     ensures widens { Widens table.old table.new }
 {
     let programs = fill_all(alloc, task)?;

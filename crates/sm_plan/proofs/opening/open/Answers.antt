@@ -1,20 +1,17 @@
--- What a block opens is what its node opens.
-use Rattle.std.proofs.Common.{◌≡◌, IfOk, option_map, sym, subst}
-use Rattle.std.proofs.lemmas.Result.{IfOk-weaker}
-use Rattle.sm_term.specs.Tables.{trees_in, sorts_in}
-use Rattle.sm_plan.specs.declared.node.NodeRow.{NodeRow}
-use Rattle.sm_plan.specs.Nodes as plan
-use Rattle.sm_plan.specs.Views.{state_in, node_in, opened_in}
+-- A table that is cut back is as wide as before.
+use Rattle.std.proofs.Common.{◌∙◌, ap, take}
+use Rattle.sm_term.specs.Tables.{trees_in}
+use Rattle.sm_plan.proofs.TablesWiden.{widens_cut}
 use Rattle.sm_plan.proofs.opening.open.Goals as goal
 
-pub returns-in-Block-clause-opened : goal.returns-in-Block-clause-opened
-returns-in-Block-clause-opened c = λ facts.
-    let v = c.args.table.now in
-    let w = c.open_block.new.table in
-    let st = state_in (sorts_in v) (trees_in v) facts c.args.state in
-    subst
-    (λ (n : NodeRow). IfOk c.open_block.result
-    (λ o. option_map (opened_in (sorts_in w) (trees_in w) facts) o
-    ≡ plan.opened_by c.args.number st (node_in (sorts_in v) (trees_in v) n)))
-    (sym c.in-Block.is)
-    (IfOk-weaker c.open_block.result _ _ (λ o h. h.opened facts) c.open_block.ensures.opening)
+pub returns-in-Ok-None-clause-widens : goal.returns-in-Ok-None-clause-widens
+returns-in-Ok-None-clause-widens c =
+    widens_cut c.args.table.now c.open_node.new.table c.cut.new.self c.in-Ok-None.ensures.widens
+    (c.cut.ensures.trees ∙ ap (λ n. take n (trees_in c.open_node.new.table)) c.len-len.ensures.len) c.cut.ensures.sorts
+    c.cut.ensures.codes
+
+pub returns-in-Err-clause-widens : goal.returns-in-Err-clause-widens
+returns-in-Err-clause-widens c =
+    widens_cut c.args.table.now c.open_node.new.table c.cut-in-Err.new.self c.in-Err.ensures.widens
+    (c.cut-in-Err.ensures.trees ∙ ap (λ n. take n (trees_in c.open_node.new.table)) c.len-len.ensures.len)
+    c.cut-in-Err.ensures.sorts c.cut-in-Err.ensures.codes

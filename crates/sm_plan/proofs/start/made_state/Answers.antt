@@ -22,7 +22,7 @@ use Rattle.sm_plan.proofs.PartsMoved.{listed, AreListed}
 use Rattle.sm_plan.proofs.SortedStates.{start_store_sorted}
 use Rattle.sm_plan.proofs.StartsMade.{declared_below}
 use Rattle.sm_plan.proofs.TablesWiden.{widens_grown, store_stays, store_ready, forms_stay, forms_ready}
-use Rattle.sm_plan.proofs.start.start_state.Goals as goal
+use Rattle.sm_plan.proofs.start.made_state.Goals as goal
 
 pub start_facts-requires-clause-ready : goal.start_facts-requires-clause-ready
 start_facts-requires-clause-ready c =
