@@ -1,5 +1,5 @@
 // The theory of equality.
-ghost use Rattle.std.specs.Prelude.{List, length};
+ghost use Rattle.std.specs.Prelude.{List, length, IfOk, IsOk};
 ghost use Rattle.sm_term.specs.Tables.{trees_in, sorts_in};
 ghost use Rattle.sm_theory.specs.Facts.{BranchFact};
 ghost use Rattle.sm_theory.specs.Equality.{equality_adds};
@@ -35,7 +35,17 @@ impl Theory for Euf {
         table: &TermTable,
         branch: &Branch,
         line: &CertLine,
-    ) -> Result<Option<Fact>, AllocError> {
+    ) -> Result<Option<Fact>, AllocError>
+        requires { IsLineWithin (length (trees_in table.now)) line.now }
+        ensures added { let trees = trees_in table.now in let sorts = sorts_in table.now in
+            (facts : List BranchFact) → AllStand sorts trees branch.now.list.items facts →
+            AreFactsSorted sorts facts →
+            IfOk result (λ o. StandsIf sorts trees o
+            (equality_adds sorts facts (line_in trees line.now))) }
+
+        // No memory is asked for, so there always is an answer.
+        ensures memory { IsOk result }
+    {
         Ok(added(table, branch, line))
     }
 

@@ -1,8 +1,9 @@
 // The theory of arrays.
-ghost use Rattle.std.specs.Prelude.{List, length};
+ghost use Rattle.std.specs.Prelude.{List, length, IfOk, IsOk};
 ghost use Rattle.sm_term.specs.Tables.{trees_in, sorts_in};
 ghost use Rattle.sm_theory.specs.Facts.{BranchFact};
 ghost use Rattle.sm_theory.specs.Elements.{element_adds};
+ghost use Rattle.sm_theory.specs.SortedFacts.{AreFactsSorted};
 ghost use Rattle.sm_theory.specs.Views.{line_in, IsLineWithin, AllStand, StandsIf};
 ghost use Rattle.sm_theory.proofs.ElementsLemmas.{arrays_hold, arrays_sorted};
 ghost use Rattle.sm_theory.proofs.ElementsLemmas.{arrays_below, arrays_anywhere};
@@ -32,7 +33,16 @@ impl Theory for Rows {
         table: &TermTable,
         branch: &Branch,
         line: &CertLine,
-    ) -> Result<Option<Fact>, AllocError> {
+    ) -> Result<Option<Fact>, AllocError>
+        requires { IsLineWithin (length (trees_in table.now)) line.now }
+        ensures added { let trees = trees_in table.now in let sorts = sorts_in table.now in
+            (facts : List BranchFact) → AllStand sorts trees branch.now.list.items facts →
+            AreFactsSorted sorts facts →
+            IfOk result (λ o. StandsIf sorts trees o (element_adds facts (line_in trees line.now))) }
+
+        // No memory is asked for, so there always is an answer.
+        ensures memory { IsOk result }
+    {
         Ok(added(table, branch, line))
     }
 
