@@ -36,7 +36,8 @@ use Rattle.sm_cc.specs.Rows.{rows_pass, one_head, shapes_pass}
 use Rattle.sm_cc.specs.Log.{SayEqual, Derives, HasElement}
 use Rattle.sm_cc.specs.Standing.{place_of, element_of, RowsStand}
 use Rattle.sm_cc.specs.Explaining.{left_of, right_of, congruence_line, line_of, known_fact, IsOfTerms}
-use Rattle.sm_cc.proofs.StandingLemmas.{one_thing, place_found}
+use Rattle.sm_pairs.proofs.AmongLemmas.{one_thing}
+use Rattle.sm_cc.proofs.StandingLemmas.{place_found}
 
 -- rows that pass a test are there
 pub pass_gives : (rows : List Row) (i j : ℕ) (test : Row → Row → Bool) → rows_pass rows i j test ≡ true →

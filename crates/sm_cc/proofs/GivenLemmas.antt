@@ -21,9 +21,10 @@ use Rattle.sm_cc.specs.Explained.{StandAt}
 use Rattle.sm_cc.specs.Explaining.{known_fact, IsOfTerms}
 use Rattle.sm_cc.specs.Views.{ClassesValue, setting_of, assertion_given, numbers_of, IsTermOf, HaveOneSort, IsOfTwoTerms}
 use Rattle.sm_cc.specs.Assumed.{placed_for, numbers_where}
-use Rattle.sm_cc.specs.Classes.{is_among}
+use Rattle.sm_pairs.specs.Pairs.{is_among}
 use Rattle.sm_cc.proofs.InsideLemmas.{AreInside}
-use Rattle.sm_cc.proofs.StandingLemmas.{one_thing, among_there}
+use Rattle.sm_pairs.proofs.AmongLemmas.{one_thing}
+use Rattle.sm_cc.proofs.StandingLemmas.{among_there}
 
 -- each given fact stands under its number
 given_at : (table : TableValue) (facts : List BranchFact) (gs : List GivenFact) →

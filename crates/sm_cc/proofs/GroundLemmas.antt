@@ -32,9 +32,10 @@ use Rattle.sm_cc.specs.declared.positions.Positions.{Positions}
 use Rattle.sm_cc.specs.declared.row.Row.{Row}
 use Rattle.sm_cc.specs.declared.row.Shape.{Shape}
 use Rattle.sm_cc.specs.declared.row.Element.{Element}
-use Rattle.sm_cc.specs.Classes.{is_among}
+use Rattle.sm_pairs.specs.Pairs.{is_among}
 use Rattle.sm_cc.specs.Standing.{place_of, element_of, RowsStand}
-use Rattle.sm_cc.specs.Numbered.{IsLonger, head_of, IsHeadAt, IsShapeAt, heads_met, parts_met}
+use Rattle.sm_pairs.specs.Longer.{IsLonger}
+use Rattle.sm_cc.specs.Numbered.{head_of, IsHeadAt, IsShapeAt, heads_met, parts_met}
 use Rattle.sm_cc.specs.RowOf.{HasTree, IsRowOf, IsFurther, AreRowsFrom}
 use Rattle.sm_cc.specs.Growing.{IsCopy, AreGrown}
 use Rattle.sm_cc.specs.Ground.{AreBelow, IsElementBelow, IsRowBelow, AreInside, AreKeyed, AreNumberedBy, AreAllGiven, IsGround, IsLedBy}
@@ -44,8 +45,9 @@ use Rattle.sm_cc.specs.Log.{Placed}
 use Rattle.sm_cc.specs.Closures.{pair_of, fact_of, placed_of}
 use Rattle.sm_cc.specs.Exact.{IsExact, placed_with}
 use Rattle.sm_cc.specs.Assumed.{placed_fact, placed_equations, placed_contraries, AreClasses}
-use Rattle.sm_cc.proofs.NumberedLemmas.{slice_get-longer}
-use Rattle.sm_cc.proofs.StandingLemmas.{one_thing, among_there}
+use Rattle.sm_pairs.proofs.LongerLemmas.{slice_get-longer}
+use Rattle.sm_pairs.proofs.AmongLemmas.{one_thing}
+use Rattle.sm_cc.proofs.StandingLemmas.{among_there}
 use Rattle.sm_cc.proofs.RowsLemmas.{row_later, rows_stand}
 use Rattle.sm_cc.proofs.PlacedLemmas.{classes_made}
 

@@ -20,7 +20,7 @@ use Rattle.sm_cc.specs.Steps.{IsGiven, IsStated, StepsFollow, step_says}
 use Rattle.sm_cc.specs.Explaining.{left_of, right_of, AreStepsIn}
 use Rattle.sm_cc.specs.Explained.{IsLineOf, AreLinesOf}
 use Rattle.sm_cc.specs.Views.{trees_of}
-use Rattle.sm_cc.proofs.StandingLemmas.{one_thing}
+use Rattle.sm_pairs.proofs.AmongLemmas.{one_thing}
 use Rattle.sm_cc.proofs.ExplainingLemmas.{pass_gives}
 
 -- the places of what is known are below a number

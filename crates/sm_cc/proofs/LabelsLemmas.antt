@@ -22,7 +22,8 @@ use Rattle.sm_cc.specs.Positions.{place_at}
 use Rattle.sm_cc.specs.Standing.{place_of}
 use Rattle.sm_cc.specs.Views.{ClassesValue, setting_of}
 use Rattle.sm_cc.proofs.ClassesLemmas.{same_of_places}
-use Rattle.sm_cc.proofs.StandingLemmas.{among_there, there_among}
+use Rattle.sm_cc.proofs.StandingLemmas.{among_there}
+use Rattle.sm_pairs.proofs.AmongLemmas.{there_among}
 use Rattle.sm_cc.proofs.PlacesLemmas.{exact_same}
 
 -- the equation whose right side stands at a place

@@ -1,5 +1,6 @@
 pub mod BehindLemmas
 pub mod BehindTerms
+pub mod BringsLemmas
 pub mod CausesLemmas
 pub mod ClassesLemmas
 pub mod ClosuresLemmas
@@ -11,13 +12,16 @@ pub mod GivenLemmas
 pub mod GroundLemmas
 pub mod GrowingLemmas
 pub mod InsideLemmas
+pub mod IteratedLemmas
 pub mod LabelsLemmas
+pub mod LeastLemmas
 pub mod LinesLemmas
 pub mod LogLemmas
 pub mod LookedLemmas
 pub mod MarksLemmas
 pub mod MergesLemmas
 pub mod NumberedLemmas
+pub mod PairsLemmas
 pub mod PlacedLemmas
 pub mod PlacesLemmas
 pub mod PlacesOfTerms

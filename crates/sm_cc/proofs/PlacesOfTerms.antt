@@ -17,12 +17,14 @@ use Rattle.sm_theory.specs.Elements.{Written, written_in, read_in}
 use Rattle.sm_theory.specs.Arithmetic.{compared_forms}
 use Rattle.sm_cc.specs.declared.row.Row.{Row}
 use Rattle.sm_cc.specs.declared.row.Element.{Element}
-use Rattle.sm_cc.specs.Classes.{Pairs, Setting, given_equal, differ, are_apart, equal_lists, if_there, reads_written}
+use Rattle.sm_pairs.specs.Pairs.{Pairs}
+use Rattle.sm_cc.specs.Classes.{Setting, given_equal, differ, are_apart, equal_lists, if_there, reads_written}
 use Rattle.sm_cc.specs.Classes.{brings}
 use Rattle.sm_cc.specs.Rows.{PlacePairs, Board, is_listed, rows_pass, one_head, shapes_pass, places_differ, places_apart, equal_places}
 use Rattle.sm_cc.specs.Rows.{row_brings}
 use Rattle.sm_cc.specs.Standing.{place_of, element_of, RowsStand, board_for}
-use Rattle.sm_cc.proofs.StandingLemmas.{or_map, and_map, both, any_from, any_to, in_range, place_there}
+use Rattle.sm_cc.proofs.StandingLemmas.{or_map, and_map, both, any_from, in_range, place_there}
+use Rattle.sm_pairs.proofs.AmongLemmas.{any_to}
 use Rattle.sm_cc.proofs.StandingLemmas.{row_there, pass, forms_alike, said_of_places}
 use Rattle.sm_cc.proofs.StandingLemmas.{places_differ_alike}
 

@@ -24,7 +24,7 @@ use Rattle.sm_theory.proofs.SidesLemmas.{numbers_tell}
 use Rattle.sm_cc.specs.Standing.{place_of}
 use Rattle.sm_cc.specs.Views.{trees_of}
 use Rattle.sm_cc.specs.declared.positions.Positions.{Positions}
-use Rattle.sm_cc.specs.Numbered.{IsLonger}
+use Rattle.sm_pairs.specs.Longer.{IsLonger}
 use Rattle.sm_cc.specs.Positions.{first_place, first_or, same_pair, is_read, HasPlaces, HasReads}
 use Rattle.sm_cc.specs.Positions.{AreReadsBelow, HasNumber, HavePartsIn, AreNoted, ArePositions}
 

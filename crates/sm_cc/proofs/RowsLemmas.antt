@@ -27,11 +27,12 @@ use Rattle.sm_cc.specs.declared.positions.Positions.{Positions}
 use Rattle.sm_cc.specs.Classes.{if_there}
 use Rattle.sm_cc.specs.Rows.{one_head}
 use Rattle.sm_cc.specs.Standing.{place_of, RowsStand}
-use Rattle.sm_cc.specs.Numbered.{StandApart, IsLonger, head_of, IsHeadAt, IsShapeAt, heads_met, parts_met}
+use Rattle.sm_cc.specs.Numbered.{StandApart, head_of, IsHeadAt, IsShapeAt, heads_met, parts_met}
+use Rattle.sm_pairs.specs.Longer.{IsLonger}
 use Rattle.sm_cc.specs.Positions.{place_at, ArePositions}
 use Rattle.sm_cc.specs.RowOf.{HasTree, IsRowOf, IsFurther, AreRowsFrom}
 use Rattle.sm_cc.specs.declared.ground.Numbering.{Numbering}
-use Rattle.sm_cc.proofs.NumberedLemmas.{slice_get-longer, longer_itself, longer_twice}
+use Rattle.sm_pairs.proofs.LongerLemmas.{slice_get-longer, longer_itself, longer_twice}
 
 -- whether two heads hold the same
 same_heads : Option Contents → Option Contents → Bool

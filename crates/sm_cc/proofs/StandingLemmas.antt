@@ -16,9 +16,11 @@ use Rattle.sm_theory.specs.Lines.{Sides, unequal_sides}
 use Rattle.sm_theory.specs.Equality.{says_equal}
 use Rattle.sm_theory.specs.Arithmetic.{compared_forms}
 use Rattle.sm_cc.specs.declared.row.Row.{Row}
-use Rattle.sm_cc.specs.Classes.{Setting, is_among, given_unequal, differ, if_there}
+use Rattle.sm_cc.specs.Classes.{Setting, given_unequal, differ, if_there}
+use Rattle.sm_pairs.specs.Pairs.{is_among}
 use Rattle.sm_cc.specs.Rows.{Board, is_listed, rows_pass, shapes_pass, places_differ}
 use Rattle.sm_cc.specs.Standing.{place_of, RowsStand, with_places, places_given, board_for}
+use Rattle.sm_pairs.proofs.AmongLemmas.{one_thing}
 
 -- tests of which each part is passed where another is
 pub or_map : (a c : Bool) {b d : Bool} → (a ≡ true → c ≡ true) → (b ≡ true → d ≡ true) → (a || b) ≡ true → (c || d) ≡ true
@@ -33,10 +35,6 @@ and_map false c f g h = absurd cc
 pub both : {a b : Bool} → a ≡ true → b ≡ true → (a && b) ≡ true
 both {a} {b} e f = ap (λ (x : Bool). x && b) e ∙ f
 
--- what is there is one thing
-pub one_thing : {A : Type 0} (x y : A) → Some x ≡ Some y → x ≡ y
-one_thing x y e = cc
-
 -- an element that passes a test
 pub any_from : {A : Type 0} (p : A → Bool) (xs : List A) → list_any p xs ≡ true →
     (k : ℕ) × (x : A) × (slice_get xs k ≡ Some x) × (p x ≡ true)
@@ -47,15 +45,6 @@ any_from {A} p (x ∷ xs) h = by (p x) refl (any_from p xs) h
         (b || list_any p xs) ≡ true → (k : ℕ) × (y : A) × (slice_get (x ∷ xs) k ≡ Some y) × (p y ≡ true)
     by true e rest g = (0, x, refl, e)
     by false e rest g = let more = rest g in (suc more.0, more.1, more.2, more.3)
-
-pub any_to : {A : Type 0} (p : A → Bool) (xs : List A) (k : ℕ) (x : A) → slice_get xs k ≡ Some x → p x ≡ true → list_any p xs ≡ true
-any_to p [] k x e h = absurd cc
-any_to p (y ∷ xs) zero x e h = ap (λ (b : Bool). b || list_any p xs) (ap p (one_thing y x e) ∙ h)
-any_to p (y ∷ xs) (suc k) x e h = by (p y) (any_to p xs k x e h)
-  where
-    by : (b : Bool) → list_any p xs ≡ true → (b || list_any p xs) ≡ true
-    by true g = refl
-    by false g = g
 
 -- a number is in the range below a bound
 pub in_range : (n k : ℕ) → k < n → slice_get (range_with_len 0 n) k ≡ Some k
@@ -98,9 +87,6 @@ pub among_there : (terms : List Tree) (t : Tree) → is_among terms t ≡ true �
 among_there terms t h =
     let found = any_from (same_tree t) terms h in
     place_there terms found.0 t (found.2 ∙ ap Some (sym ((same_tree_is t found.1).0 found.3)))
-
-pub there_among : (terms : List Tree) (i : ℕ) (t : Tree) → slice_get terms i ≡ Some t → is_among terms t ≡ true
-there_among terms i t e = any_to (same_tree t) terms i t e ((same_tree_is t t).1 refl)
 
 -- a term stands at each place
 pub term_there : (terms : List Tree) (i : ℕ) → i < length terms → (t : Tree) × (slice_get terms i ≡ Some t)

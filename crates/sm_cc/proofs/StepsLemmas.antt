@@ -17,9 +17,9 @@ use Rattle.sm_cc.specs.Steps.{IsGiven, IsStated, StepsFollow, step_says}
 use Rattle.sm_cc.specs.Standing.{RowsStand}
 use Rattle.sm_cc.specs.Explained.{added_by}
 use Rattle.sm_cc.specs.Explaining.{line_of, known_fact, IsOfTerms}
-use Rattle.sm_cc.proofs.NumberedLemmas.{slice_get-longer}
+use Rattle.sm_pairs.proofs.LongerLemmas.{slice_get-longer}
 use Rattle.sm_cc.proofs.RowsLemmas.{pushed}
-use Rattle.sm_cc.proofs.StandingLemmas.{one_thing}
+use Rattle.sm_pairs.proofs.AmongLemmas.{one_thing}
 use Rattle.sm_cc.proofs.ExplainingLemmas.{rule_adds}
 
 -- what stands behind a list

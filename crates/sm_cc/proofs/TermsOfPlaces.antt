@@ -17,13 +17,16 @@ use Rattle.sm_theory.specs.Elements.{Written, written_in, read_in}
 use Rattle.sm_theory.specs.Arithmetic.{compared_forms}
 use Rattle.sm_cc.specs.declared.row.Row.{Row}
 use Rattle.sm_cc.specs.declared.row.Element.{Element}
-use Rattle.sm_cc.specs.Classes.{Pairs, Setting, is_among, given_equal, differ, are_apart, equal_lists, if_there, reads_written}
+use Rattle.sm_pairs.specs.Pairs.{Pairs, is_among}
+use Rattle.sm_cc.specs.Classes.{Setting, given_equal, differ, are_apart, equal_lists, if_there, reads_written}
 use Rattle.sm_cc.specs.Classes.{brings, AreClosed, Same, Apart}
 use Rattle.sm_cc.specs.Rows.{PlacePairs, Board, is_listed, rows_pass, one_head, shapes_pass, places_differ, places_apart, equal_places}
 use Rattle.sm_cc.specs.Rows.{row_brings, ArePlacesClosed, SamePlaces, ApartPlaces}
 use Rattle.sm_cc.specs.Standing.{place_of, element_of, RowsStand, board_for}
-use Rattle.sm_cc.proofs.StandingLemmas.{or_map, and_map, both, one_thing, any_from, any_to, term_there, place_found}
-use Rattle.sm_cc.proofs.StandingLemmas.{among_there, there_among, row_there, pass, forms_alike, said_of_terms}
+use Rattle.sm_cc.proofs.StandingLemmas.{or_map, and_map, both, any_from, term_there, place_found}
+use Rattle.sm_pairs.proofs.AmongLemmas.{one_thing, any_to}
+use Rattle.sm_cc.proofs.StandingLemmas.{among_there, row_there, pass, forms_alike, said_of_terms}
+use Rattle.sm_pairs.proofs.AmongLemmas.{there_among}
 use Rattle.sm_cc.proofs.StandingLemmas.{differ_alike}
 use Rattle.sm_cc.proofs.PlacesOfTerms.{apart_of_places, brings_of_places}
 

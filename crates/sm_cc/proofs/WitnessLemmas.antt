@@ -14,7 +14,8 @@ use Rattle.sm_cc.specs.Closures.{pair_of, board_of, are_together}
 use Rattle.sm_cc.specs.Causes.{is_between, are_given_apart, has_constant, is_constant_of, have_constant, may_be_apart}
 use Rattle.sm_cc.proofs.CausesLemmas.{is_pair, is_listed-map}
 use Rattle.sm_cc.proofs.SoundLemmas.{any_in, parts_of}
-use Rattle.sm_cc.proofs.StandingLemmas.{any_from, any_to}
+use Rattle.sm_cc.proofs.StandingLemmas.{any_from}
+use Rattle.sm_pairs.proofs.AmongLemmas.{any_to}
 
 -- a listed pair of places of two classes is between these
 given_between : (equal : PlacePairs) (list : List Given) (p q i j : ℕ) → equal p i ≡ true → equal q j ≡ true →

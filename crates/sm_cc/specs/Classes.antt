@@ -13,20 +13,13 @@ use Rattle.sm_theory.specs.Lines.{equal_sides, unequal_sides}
 use Rattle.sm_theory.specs.Equality.{says_equal}
 use Rattle.sm_theory.specs.Elements.{Written, written_in, read_in}
 use Rattle.sm_theory.specs.Arithmetic.{compared_forms}
-
--- which pairs of terms are equal
-abbrev pub Pairs : Type 0
-Pairs = Tree → Tree → Bool
+use Rattle.sm_pairs.specs.Pairs.{Pairs, is_among}
 
 -- what classes are made of: the terms, and the equations and contraries that are given
 pub record Setting : Type 0 where
   pub sorts : Sorts
   pub terms : List Tree
   pub given : List Assertion
-
--- whether a term is in a list
-abbrev pub is_among : List Tree → Tree → Bool
-is_among terms t = list_any (same_tree t) terms
 
 -- whether it is given that two terms are equal
 abbrev pub given_equal : Setting → Tree → Tree → Bool

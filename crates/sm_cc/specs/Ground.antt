@@ -7,7 +7,8 @@ use Rattle.sm_cc.specs.declared.row.Row.{Row}
 use Rattle.sm_cc.specs.declared.row.Element.{Element}
 use Rattle.sm_cc.specs.declared.ground.Ground.{Ground}
 use Rattle.sm_cc.specs.declared.ground.Numbering.{Numbering}
-use Rattle.sm_cc.specs.Numbered.{StandApart, IsLonger, heads_met, parts_met}
+use Rattle.sm_cc.specs.Numbered.{StandApart, heads_met, parts_met}
+use Rattle.sm_pairs.specs.Longer.{IsLonger}
 use Rattle.sm_cc.specs.RowOf.{IsRowOf}
 use Rattle.sm_cc.specs.Views.{ClassesValue, trees_of}
 use Rattle.sm_cc.specs.Closures.{placed_of, are_together}

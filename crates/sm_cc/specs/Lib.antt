@@ -11,6 +11,7 @@ pub mod Ground
 pub mod Growing
 pub mod Labels
 pub mod LabelsAt
+pub mod Laws
 pub mod Log
 pub mod Looked
 pub mod Merges

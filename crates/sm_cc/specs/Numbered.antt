@@ -1,6 +1,6 @@
 -- Private: what the heads and the linear forms of terms are numbered by, in lists without repeats.
 use Rattle.std.specs.Prelude.{◌≡◌, ℕ, ℤ, false, true, slice_get, Option, Some, None, List, [], map}
-use Rattle.std.specs.Prelude.{◌++◌, Vec}
+use Rattle.std.specs.Prelude.{Vec}
 use Rattle.std.specs.Global.{Global}
 use Rattle.sm_syntax.specs.text.Sorts.{Sorts}
 use Rattle.sm_num.specs.Forms.{Linear}
@@ -20,10 +20,6 @@ use Rattle.sm_cc.specs.declared.shapes.Shapes.{Shapes}
 abbrev pub StandApart : {A : Type 0} → List A → Type 0
 StandApart {A} list =
     (i j : ℕ) (x : A) → slice_get list i ≡ Some x → slice_get list j ≡ Some x → i ≡ j
-
--- a list is another with more behind it
-abbrev pub IsLonger : {A : Type 0} → List A → List A → Type 0
-IsLonger {A} old new = (more : List A) × (new ≡ old ++ more)
 
 -- what the head of a term holds, which is the term over no arguments, where it has a head
 abbrev pub head_of : Term → Option Contents

@@ -3,7 +3,8 @@ use Rattle.std.specs.Prelude.{ℕ, zero, suc, ◌*◌, Bool, ◌&&◌, ◌||◌,
 use Rattle.std.specs.List.{filter, list_any}
 use Rattle.sm_term.specs.Terms.{Tree}
 use Rattle.sm_term.specs.SameTerms.{same_tree}
-use Rattle.sm_cc.specs.Classes.{Pairs, Setting, brings}
+use Rattle.sm_pairs.specs.Pairs.{Pairs}
+use Rattle.sm_cc.specs.Classes.{Setting, brings}
 
 -- each term of one list with each of another
 abbrev pub pairs_of : List Tree → List Tree → List (Tree × Tree)

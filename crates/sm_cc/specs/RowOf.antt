@@ -8,7 +8,8 @@ use Rattle.sm_term.specs.Fitting.{term_fits}
 use Rattle.sm_term.specs.Tables.{TableValue, trees_in, sorts_in, codes_in, tree_in, IsTermWithin}
 use Rattle.sm_cc.specs.declared.row.Row.{Row}
 use Rattle.sm_cc.specs.declared.ground.Numbering.{Numbering}
-use Rattle.sm_cc.specs.Numbered.{StandApart, IsLonger, heads_met, parts_met}
+use Rattle.sm_cc.specs.Numbered.{StandApart, heads_met, parts_met}
+use Rattle.sm_pairs.specs.Longer.{IsLonger}
 use Rattle.sm_cc.specs.Numbered.{head_of, IsHeadAt, IsShapeAt}
 use Rattle.sm_cc.specs.Standing.{place_of, element_of}
 

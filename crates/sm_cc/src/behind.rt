@@ -13,7 +13,7 @@ ghost use Rattle.sm_cc.specs.Ground.{AreBelow, AreInside, AreKeyed, IsGround, Is
 ghost use Rattle.sm_cc.specs.Labels.{AreTermLabels};
 ghost use Rattle.sm_cc.specs.Looked.{any_two, IsMetFor, IsLabelFor, AreLooked};
 ghost use Rattle.sm_cc.specs.Looked.{has_labels, are_parted, IsQuiet, IsQuietBehind, AreQuiet};
-ghost use Rattle.sm_cc.specs.Numbered.{IsLonger};
+ghost use Rattle.sm_pairs.specs.Longer.{IsLonger};
 ghost use Rattle.sm_cc.specs.Positions.{place_at};
 ghost use Rattle.sm_cc.specs.Regrounding.{over_at};
 ghost use Rattle.sm_cc.specs.Views.{ClassesValue, AreOfTwoTerms};

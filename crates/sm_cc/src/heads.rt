@@ -2,7 +2,8 @@
 ghost use Rattle.std.specs.Prelude.{◌≡◌, [], IfOk, option_map};
 ghost use Rattle.sm_term.specs.Rows.{kind_numbers, names_in_list};
 ghost use Rattle.sm_term.specs.RowLaws.{contents_of};
-ghost use Rattle.sm_cc.specs.Numbered.{StandApart, IsLonger, head_of, IsHeadAt, heads_met};
+ghost use Rattle.sm_cc.specs.Numbered.{StandApart, head_of, IsHeadAt, heads_met};
+ghost use Rattle.sm_pairs.specs.Longer.{IsLonger};
 
 use indexmap::IndexSet;
 use sm_syntax::{Name, Outputs, copy_outputs};

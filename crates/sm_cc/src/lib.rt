@@ -7,6 +7,7 @@
 //!   it was written or elsewhere, and what makes equality an equivalence.
 //! - They are known apart exactly where terms that equal them have a given contrary, or linear forms
 //!   that differ in the constant alone.
+//! - To `Sees` of `sm_pairs` they answer what is computed in rounds over all pairs, which is the same.
 //! - `explain` gives lines of a certificate for two terms of a class. On each branch of so many
 //!   facts that has the given ones under their numbers, the rules of these lines add facts, the last
 //!   of which is the equation. The lines name terms of the list alone. What is needed twice has one
@@ -21,10 +22,14 @@
 //!   are in one class, whatever more is given. The labels are exact where each of these terms has a
 //!   form and a head with arguments of its own, and no rule tells anything of an element that is
 //!   read.
+//! - `are_equal` of `specs/Rounds.antt`, by which the walk is stated, computes the same classes in
+//!   rounds: it is the least set of pairs that is closed, and what is known apart by it is known
+//!   apart by each (`classes_are_least`).
 //!
 //! Classes only become coarser: nothing that was given is taken back.
 //!
-//! Read `specs/Classes.antt` first, then `specs/Views.antt` and `specs/Explained.antt`.
+//! Read `specs/Classes.antt` first, then `specs/Laws.antt`, `specs/Views.antt` and
+//! `specs/Explained.antt`.
 #![tactic(auto)]
 
 mod behind;
@@ -39,6 +44,7 @@ mod ground;
 mod growing;
 mod heads;
 mod keys;
+mod laws;
 mod lines;
 mod log;
 mod marks;
@@ -49,9 +55,11 @@ mod regrounding;
 mod rounds;
 mod row;
 mod rows;
+mod seen;
 mod shapes;
 mod witness;
 
 pub use behind::Behind;
 pub use classes::{Classes, GivenFact};
 pub use ground::{Ground, Grounded, Numbering};
+pub use laws::classes_are_least;

@@ -5,7 +5,7 @@ ghost use Rattle.std.specs.HashMap.{get};
 ghost use Rattle.sm_term.specs.Terms.{Tree};
 ghost use Rattle.sm_term.specs.Tables.{trees_in, tree_at, AreBefore};
 ghost use Rattle.sm_euf.specs.Arguments.{argument_numbers};
-ghost use Rattle.sm_cc.specs.Numbered.{IsLonger};
+ghost use Rattle.sm_pairs.specs.Longer.{IsLonger};
 ghost use Rattle.sm_cc.specs.Standing.{element_of};
 ghost use Rattle.sm_cc.specs.Views.{trees_of};
 ghost use Rattle.sm_cc.specs.Positions.{place_at, read_at, ArePositions};

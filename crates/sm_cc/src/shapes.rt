@@ -2,7 +2,8 @@
 ghost use Rattle.std.specs.Prelude.{◌≡◌, ◌<◌, ℕ, ℤ, [], length, IfOk, map, Some, slice_get};
 ghost use Rattle.sm_term.specs.Tables.{trees_in, sorts_in, tree_at};
 ghost use Rattle.sm_theory.specs.Standing.{AreLinearForms};
-ghost use Rattle.sm_cc.specs.Numbered.{StandApart, IsLonger, IsShapeAt, parts_met};
+ghost use Rattle.sm_cc.specs.Numbered.{StandApart, IsShapeAt, parts_met};
+ghost use Rattle.sm_pairs.specs.Longer.{IsLonger};
 
 use crate::row::Shape;
 use indexmap::IndexSet;

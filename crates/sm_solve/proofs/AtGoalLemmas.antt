@@ -15,28 +15,29 @@ use Rattle.sm_term.specs.Terms.{Tree}
 use Rattle.sm_term.specs.Tables.{TableValue, trees_in, sorts_in, codes_in}
 use Rattle.sm_term.specs.TableLaws.{Grows}
 use Rattle.sm_cc.specs.Ground.{IsLedBy, AreAllGiven}
-use Rattle.sm_cc.specs.Numbered.{IsLonger}
+use Rattle.sm_pairs.specs.Longer.{IsLonger}
 use Rattle.sm_cc.specs.Views.{ClassesValue}
 use Rattle.sm_solve.specs.declared.node.Node.{Node}
-use Rattle.sm_solve.specs.declared.shared.SharedTerms.{SharedTerms}
+use Rattle.sm_list.specs.declared.shared.SharedTerms.{SharedTerms}
 use Rattle.sm_solve.specs.declared.shut.Shut.{Shut}
-use Rattle.sm_solve.specs.AllForms.{AreAllForms}
+use Rattle.sm_judge.specs.AllForms.{AreAllForms}
 use Rattle.sm_solve.specs.AtGoal.{IsAtGoal, HasRoom, facts_without}
-use Rattle.sm_solve.specs.Bases.{IsFrom}
-use Rattle.sm_solve.specs.Branches.{with_parts, with_formula, with_formulas, depth_of}
-use Rattle.sm_solve.specs.Given.{classes_by, given_from}
-use Rattle.sm_solve.specs.Listing.{trees_at, numbers_of, AreBelow, IsClosed}
-use Rattle.sm_solve.specs.Parts.{all_numbered, assertions_in, AreFormulasWithin}
-use Rattle.sm_solve.specs.Renumbered.{AreTermsOf}
-use Rattle.sm_solve.specs.Sharing.{AreShared, IsNode, room_for_goal, with_those_before}
+use Rattle.sm_certify.specs.Bases.{IsFrom}
+use Rattle.sm_list.specs.Branches.{with_parts, with_formula, with_formulas, depth_of}
+use Rattle.sm_certify.specs.Given.{classes_by, given_from}
+use Rattle.sm_list.specs.Listing.{trees_at, numbers_of, AreBelow, IsClosed}
+use Rattle.sm_list.specs.Parts.{all_numbered, assertions_in, AreFormulasWithin}
+use Rattle.sm_list.specs.Renumbered.{AreTermsOf}
+use Rattle.sm_list.specs.Shared.{AreShared, with_those_before}
+use Rattle.sm_solve.specs.Sharing.{IsNode, room_for_goal}
 use Rattle.sm_solve.specs.Shut.{IsShut}
 use Rattle.sm_solve.proofs.GroundingLemmas.{as_many}
-use Rattle.sm_solve.proofs.LinearsLemmas.{first_forms}
+use Rattle.sm_judge.proofs.LinearsLemmas.{first_forms}
 use Rattle.sm_solve.proofs.NodeLemmas.{terms_there, added_behind, given_still, given_first, replaced_is, replaced_last, replaced_within}
 use Rattle.sm_solve.proofs.NodeLemmas.{always_there, put_back, cut_back}
-use Rattle.sm_solve.proofs.OwnLemmas.{facts_grown, facts_within_grown}
-use Rattle.sm_solve.proofs.PartsLemmas.{queue_from}
-use Rattle.sm_solve.proofs.WithTermLemmas.{closed_with_formulas, closed_none}
+use Rattle.sm_list.proofs.OwnLemmas.{facts_grown, facts_within_grown}
+use Rattle.sm_list.proofs.PartsLemmas.{queue_from}
+use Rattle.sm_list.proofs.WithTermLemmas.{closed_with_formulas, closed_none}
 use Rattle.sm_solve.proofs.SortedLemmas.{sorted-append, sorted_with}
 
 -- a place at which something stands

@@ -8,7 +8,7 @@ use Rattle.sm_num.specs.Eliminating.{eliminated}
 use Rattle.sm_num.specs.Tightening.{is_contradictory}
 use Rattle.sm_fm.specs.Elimination.{Placed, Event, Cancels, GoesBeyond, Next, is_new, with_sum, sums, pairs, forms_without, taken_out}
 use Rattle.sm_fm.specs.Elimination.{placed_from, events}
-use Rattle.sm_solve.specs.Walk.{Walked, Closes, TooFar, eliminated_by, by_forms}
+use Rattle.sm_judge.specs.Forms.{Walked, Closes, TooFar, eliminated_by, by_forms}
 
 -- a list begins with another
 abbrev Begins : List Event → List Event → Type 0

@@ -5,9 +5,9 @@ use Rattle.sm_term.specs.declared.formula.Formula.{Formula}
 use Rattle.sm_term.specs.declared.term.TermId.{TermId}
 use Rattle.sm_term.specs.Tables.{TableValue, trees_in}
 use Rattle.sm_cc.specs.Ground.{IsLedBy}
-use Rattle.sm_cc.specs.Numbered.{IsLonger}
+use Rattle.sm_pairs.specs.Longer.{IsLonger}
 use Rattle.sm_cc.specs.Views.{ClassesValue}
-use Rattle.sm_solve.specs.Given.{classes_by}
+use Rattle.sm_certify.specs.Given.{classes_by}
 use Rattle.sm_solve.proofs.NodeLemmas.{given_first}
 
 -- nothing leads to all

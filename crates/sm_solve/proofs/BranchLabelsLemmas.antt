@@ -10,11 +10,11 @@ use Rattle.sm_term.specs.Tables.{TableValue, trees_in, tree_at}
 use Rattle.sm_cc.specs.Labels.{AreTermLabels}
 use Rattle.sm_cc.specs.Rounds.{are_equal}
 use Rattle.sm_cc.specs.Views.{ClassesValue, setting_of}
-use Rattle.sm_solve.specs.Given.{IsWhole, classes_by}
-use Rattle.sm_solve.specs.Labelled.{AreLabels}
-use Rattle.sm_solve.specs.Listing.{trees_at, numbers_of}
-use Rattle.sm_solve.proofs.GrowingLemmas.{one_test}
-use Rattle.sm_solve.proofs.LeastLemmas.{equal_is_same}
+use Rattle.sm_certify.specs.Given.{IsWhole, classes_by}
+use Rattle.sm_judge.specs.Labelled.{AreLabels}
+use Rattle.sm_list.specs.Listing.{trees_at, numbers_of}
+use Rattle.sm_pairs.proofs.AmongLemmas.{one_test}
+use Rattle.sm_cc.proofs.LeastLemmas.{equal_is_same}
 
 -- the number at the place of a term
 number_at : (trees : List Tree) (terms : List TermId) → trees_at trees (numbers_of terms) ≡ trees → (i : ℕ) (t : Tree) →

@@ -12,13 +12,16 @@ use Rattle.sm_theory.specs.Lines.{equal_sides, unequal_sides}
 use Rattle.sm_theory.specs.Equality.{says_equal}
 use Rattle.sm_theory.specs.Elements.{Written, written_in, read_in}
 use Rattle.sm_theory.specs.Arithmetic.{compared_forms}
-use Rattle.sm_cc.specs.Classes.{Pairs, Setting, given_equal, given_unequal, differ, are_apart, equal_lists, if_there}
+use Rattle.sm_pairs.specs.Pairs.{Pairs}
+use Rattle.sm_cc.specs.Classes.{Setting, given_equal, given_unequal, differ, are_apart, equal_lists, if_there}
 use Rattle.sm_cc.specs.Classes.{reads_written, brings, AreClosed}
 use Rattle.sm_cc.specs.Rounds.{are_equal}
-use Rattle.sm_cc.proofs.StandingLemmas.{or_map, and_map, any_from, any_to}
-use Rattle.sm_solve.specs.Branches.{greatest_of, parts_of, parts_of_all, depth_of, taken_apart, with_parts}
-use Rattle.sm_solve.specs.Holding.{seen_by, is_refuted, are_torn, is_closed}
-use Rattle.sm_solve.proofs.LeastLemmas.{equal_closed, equal_least}
+use Rattle.sm_cc.proofs.StandingLemmas.{or_map, and_map, any_from}
+use Rattle.sm_pairs.proofs.AmongLemmas.{any_to}
+use Rattle.sm_list.specs.Branches.{greatest_of, parts_of, parts_of_all, depth_of, taken_apart, with_parts}
+use Rattle.sm_certify.specs.Given.{seen_by}
+use Rattle.sm_judge.specs.Holding.{is_refuted, are_torn, is_closed}
+use Rattle.sm_cc.proofs.LeastLemmas.{equal_closed, equal_least}
 
 -- one test for each element is passed where another is
 any_more : {A : Type 0} (p q : A → Bool) → ((x : A) → p x ≡ true → q x ≡ true) → (xs : List A) → list_any p xs ≡ true →

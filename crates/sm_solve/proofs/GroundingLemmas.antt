@@ -14,16 +14,17 @@ use Rattle.sm_term.specs.Sorted.{AreFormsSorted}
 use Rattle.sm_term.specs.Tables.{TableValue, trees_in, sorts_in}
 use Rattle.sm_solve.specs.declared.node.Node.{Node}
 use Rattle.sm_solve.specs.declared.shut.Shut.{Shut}
-use Rattle.sm_solve.specs.AllForms.{AreAllForms}
-use Rattle.sm_solve.specs.Bases.{IsFrom}
-use Rattle.sm_solve.specs.Branches.{with_formulas, terms_of}
-use Rattle.sm_solve.specs.Given.{IsWhole, classes_by}
-use Rattle.sm_solve.specs.Listing.{numbers_of}
-use Rattle.sm_solve.specs.Parts.{all_numbered, assertions_in, AreFormulasWithin}
-use Rattle.sm_solve.specs.Sharing.{AreShared, IsNode, room_for_goal}
+use Rattle.sm_judge.specs.AllForms.{AreAllForms}
+use Rattle.sm_certify.specs.Bases.{IsFrom}
+use Rattle.sm_list.specs.Branches.{with_formulas, terms_of}
+use Rattle.sm_certify.specs.Given.{IsWhole, classes_by}
+use Rattle.sm_list.specs.Listing.{numbers_of}
+use Rattle.sm_list.specs.Parts.{all_numbered, assertions_in, AreFormulasWithin}
+use Rattle.sm_list.specs.Shared.{AreShared}
+use Rattle.sm_solve.specs.Sharing.{IsNode, room_for_goal}
 use Rattle.sm_solve.specs.Shut.{IsShut}
 use Rattle.sm_solve.proofs.NodeLemmas.{unread}
-use Rattle.sm_solve.proofs.PartsLemmas.{within-append}
+use Rattle.sm_list.proofs.PartsLemmas.{within-append}
 use Rattle.sm_solve.proofs.SortedLemmas.{sorted-append, sorted_with}
 
 -- facts and what always holds

@@ -24,11 +24,11 @@ use Rattle.sm_cert.specs.declared.tree.CertEnd.TheVariants.{rolls-Split}
 use Rattle.sm_cert.specs.Certificates.{Certificate, Next, Split, splits_above, first_bad, in_one_way, in_two_ways, lines_in}
 use Rattle.sm_cert.specs.Views.{lines_before, tree_layer, end_layer, certificate_in, end_lines, tree_lines, lines_of, AreLinesWithin}
 use Rattle.sm_cert.proofs.CheckLemmas.{end_in, tree_is, lines_of_end, lines_are}
-use Rattle.sm_solve.specs.Branches.{parts_of, with_parts}
-use Rattle.sm_solve.specs.Closings.{Refutes}
+use Rattle.sm_list.specs.Branches.{parts_of, with_parts}
+use Rattle.sm_certify.specs.Refutes.{Refutes}
 use Rattle.sm_solve.specs.Leading.{both_line, both_lines, led_by}
-use Rattle.sm_solve.specs.Parts.{all_numbered, assertions_in}
-use Rattle.sm_solve.proofs.PartsLemmas.{with_parts-next}
+use Rattle.sm_list.specs.Parts.{all_numbered, assertions_in}
+use Rattle.sm_list.proofs.PartsLemmas.{with_parts-next}
 
 -- lines of the program before a certificate
 pub before_is : (trees : List Tree) (ls : List CertLine) (c : Certificate) → lines_before trees ls c ≡ led_by (map (line_in trees) ls) c

@@ -13,19 +13,20 @@ use Rattle.sm_term.specs.Heads.{arguments_of}
 use Rattle.sm_term.specs.Assertions.{Assertion, Yes, No, Eq, Ne, Le, Lt, And, Or}
 use Rattle.sm_term.specs.Formulas.{numbered, assertion_in, IsFormulaWithin}
 use Rattle.sm_cc.specs.declared.classes.GivenFact.{GivenFact}
-use Rattle.sm_cc.specs.Classes.{is_among}
+use Rattle.sm_pairs.specs.Pairs.{is_among}
 use Rattle.sm_cc.specs.Ground.{AreAllGiven}
-use Rattle.sm_solve.specs.Branches.{greatest_of, writes_on, parts_of, parts_of_all, depth_of, taken_apart, with_parts}
-use Rattle.sm_solve.specs.Branches.{put, put_if, read_before, with_term, with_formula, with_formulas, with_reads, with_all_reads, terms_of}
-use Rattle.sm_solve.specs.Given.{given_from}
-use Rattle.sm_solve.specs.Listing.{IsClosed}
-use Rattle.sm_solve.specs.Parts.{all_numbered, assertions_in, AreFormulasWithin}
-use Rattle.sm_solve.specs.Sharing.{with_those_before, room_for_goal}
-use Rattle.sm_solve.proofs.BuiltLemmas.{FormulaAmong, FormulasAmong, formulas_among}
-use Rattle.sm_solve.proofs.GivenLemmas.{given_from-cons}
-use Rattle.sm_solve.proofs.PartsLemmas.{flat_parts, shallow_below, with_parts-next, queue_from, queue_last}
-use Rattle.sm_solve.proofs.WithTermLemmas.{AllOf, by_arguments, with_terms, with_term_is, put_there, put_new, same_with_term}
-use Rattle.sm_solve.proofs.WithTermLemmas.{closed_none, closed_with_formulas}
+use Rattle.sm_list.specs.Branches.{greatest_of, writes_on, parts_of, parts_of_all, depth_of, taken_apart, with_parts}
+use Rattle.sm_list.specs.Branches.{put, put_if, read_before, with_term, with_formula, with_formulas, with_reads, with_all_reads, terms_of}
+use Rattle.sm_certify.specs.Given.{given_from}
+use Rattle.sm_list.specs.Listing.{IsClosed}
+use Rattle.sm_list.specs.Parts.{all_numbered, assertions_in, AreFormulasWithin}
+use Rattle.sm_list.specs.Shared.{with_those_before}
+use Rattle.sm_solve.specs.Sharing.{room_for_goal}
+use Rattle.sm_list.proofs.BuiltLemmas.{FormulaAmong, FormulasAmong, formulas_among}
+use Rattle.sm_certify.proofs.GivenLemmas.{given_from-cons}
+use Rattle.sm_list.proofs.PartsLemmas.{flat_parts, shallow_below, with_parts-next, queue_from, queue_last}
+use Rattle.sm_list.proofs.WithTermLemmas.{AllOf, by_arguments, with_terms, with_term_is, put_there, put_new, same_with_term}
+use Rattle.sm_list.proofs.WithTermLemmas.{closed_none, closed_with_formulas}
 
 -- what is no conjunction has no parts
 no_parts : (n : Assertion) → depth_of n ≡ 0 → parts_of n ≡ []

@@ -27,7 +27,7 @@ use Rattle.sm_theory.proofs.EqualityLemmas.{says_moves, formula_if_moves}
 use Rattle.sm_cert.specs.declared.tree.CertTree.{CertTree}
 use Rattle.sm_cert.specs.Certificates.{Certificate, Next, Closed, Split, lines_in, in_one_way, in_no_way, in_two_ways, first_bad}
 use Rattle.sm_cert.specs.Views.{certificate_in}
-use Rattle.sm_solve.specs.Closings.{Refutes}
+use Rattle.sm_certify.specs.Refutes.{Refutes}
 use Rattle.sm_solve.specs.Walking.{ClosesIn}
 
 -- the second has what the first has, or the first says nothing

@@ -21,28 +21,31 @@ use Rattle.sm_cert.specs.Certificates.{Certificate, splits_above}
 use Rattle.sm_cert.specs.Views.{certificate_in, lines_of, AreLinesWithin}
 use Rattle.sm_cc.specs.Ground.{IsLedBy}
 use Rattle.sm_cc.specs.Views.{ClassesValue}
-use Rattle.sm_cc.specs.Numbered.{IsLonger}
+use Rattle.sm_pairs.specs.Longer.{IsLonger}
 use Rattle.sm_solve.specs.declared.node.Node.{Node}
-use Rattle.sm_solve.specs.AllForms.{AreAllForms}
+use Rattle.sm_judge.specs.AllForms.{AreAllForms}
 use Rattle.sm_solve.specs.AtGoal.{IsAtGoal}
-use Rattle.sm_solve.specs.Bases.{IsFrom}
-use Rattle.sm_solve.specs.Branches.{with_parts, with_formulas}
-use Rattle.sm_solve.specs.Closings.{Refutes}
-use Rattle.sm_solve.specs.Given.{classes_by}
-use Rattle.sm_solve.specs.Holding.{Seen, seen_by, is_closed, split_of}
-use Rattle.sm_solve.specs.Listing.{numbers_of}
-use Rattle.sm_solve.specs.Parts.{all_numbered, assertions_in, AreFormulasWithin}
-use Rattle.sm_solve.specs.Renumbered.{AreTermsOf}
-use Rattle.sm_solve.specs.Sharing.{AreShared, IsNode, room_for_goal}
+use Rattle.sm_certify.specs.Bases.{IsFrom}
+use Rattle.sm_list.specs.Branches.{with_parts, with_formulas}
+use Rattle.sm_certify.specs.Refutes.{Refutes}
+use Rattle.sm_certify.specs.Given.{classes_by}
+use Rattle.sm_judge.specs.Holding.{Seen, is_closed, split_of}
+use Rattle.sm_certify.specs.Given.{seen_by}
+use Rattle.sm_list.specs.Listing.{numbers_of}
+use Rattle.sm_list.specs.Parts.{all_numbered, assertions_in, AreFormulasWithin}
+use Rattle.sm_list.specs.Renumbered.{AreTermsOf}
+use Rattle.sm_list.specs.Shared.{AreShared}
+use Rattle.sm_solve.specs.Sharing.{IsNode, room_for_goal}
 use Rattle.sm_solve.specs.Shut.{IsShut, IsBelow}
 use Rattle.sm_solve.specs.Walking.{ClosesIn}
-use Rattle.sm_solve.specs.Walk.{Walked, Closes, by_classes, by_forms, by_parts, forms_of, walk_from}
+use Rattle.sm_judge.specs.Forms.{Walked, Closes, by_forms, forms_of}
+use Rattle.sm_solve.specs.Walk.{by_classes, by_parts, walk_from}
 use Rattle.sm_solve.proofs.AtGoalLemmas.{own_grows, counted_longer, count_of}
 use Rattle.sm_solve.proofs.AtomsLemmas.{more_atoms}
 use Rattle.sm_solve.proofs.ClosedLemmas.{closed_more, parts_among}
-use Rattle.sm_solve.proofs.CountedLemmas.{counted_on}
-use Rattle.sm_solve.proofs.GivenLemmas.{all_whole}
-use Rattle.sm_solve.proofs.ListingLemmas.{below_grown, same_grown}
+use Rattle.sm_judge.proofs.CountedLemmas.{counted_on}
+use Rattle.sm_certify.proofs.GivenLemmas.{all_whole}
+use Rattle.sm_list.proofs.ListingLemmas.{below_grown, same_grown}
 use Rattle.sm_solve.proofs.ReplacedLemmas.{closes_in_replaced}
 use Rattle.sm_solve.proofs.SortedLemmas.{sorted-append, sorted_with}
 

@@ -20,12 +20,12 @@ use Rattle.sm_cert.proofs.TreeLemmas.{refused_flat}
 use Rattle.sm_solve.specs.declared.solving.Answer.{Answer}
 use Rattle.sm_solve.specs.declared.solving.Answer.TheVariants as answer
 use Rattle.sm_solve.specs.Answers.{Certifies}
-use Rattle.sm_solve.specs.Branches.{with_parts, terms_of}
-use Rattle.sm_solve.specs.Closings.{Refutes}
-use Rattle.sm_solve.specs.Parts.{all_numbered, assertions_in, AreFormulasWithin}
+use Rattle.sm_list.specs.Branches.{with_parts, terms_of}
+use Rattle.sm_certify.specs.Refutes.{Refutes}
+use Rattle.sm_list.specs.Parts.{all_numbered, assertions_in, AreFormulasWithin}
 use Rattle.sm_solve.specs.Walk.{walk_from}
 use Rattle.sm_solve.specs.Walking.{ClosesIn, Shows}
-use Rattle.sm_solve.proofs.PartsLemmas.{within-append}
+use Rattle.sm_list.proofs.PartsLemmas.{within-append}
 use Rattle.sm_solve.proofs.SortedLemmas.{sorted-append, sorted_with, sorted_contrary}
 
 -- the facts and the contrary of the target

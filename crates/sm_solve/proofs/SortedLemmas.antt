@@ -14,9 +14,9 @@ use Rattle.sm_theory.specs.Views.{line_in}
 use Rattle.sm_theory.specs.Ways.{ways_with, adds}
 use Rattle.sm_theory.proofs.WaysLemmas.{ways_with_sorted, adding_from}
 use Rattle.sm_cert.proofs.CheckLemmas.{line_sorted}
-use Rattle.sm_solve.specs.declared.closing.BranchSplit.{BranchSplit}
-use Rattle.sm_solve.specs.Branches.{greatest_of, depth_of, parts_of, parts_of_all, taken_apart, with_parts}
-use Rattle.sm_solve.specs.Splits.{IsToldWithin, SplitsBranch}
+use Rattle.sm_judge.specs.declared.closing.BranchSplit.{BranchSplit}
+use Rattle.sm_list.specs.Branches.{greatest_of, depth_of, parts_of, parts_of_all, taken_apart, with_parts}
+use Rattle.sm_judge.specs.Splits.{IsToldWithin, SplitsBranch}
 
 -- formulas with others
 pub sorted-append : (sorts : Sorts) (fs gs : List Assertion) → AreFormsSorted sorts fs → AreFormsSorted sorts gs →

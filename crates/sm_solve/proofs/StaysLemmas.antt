@@ -10,14 +10,15 @@ use Rattle.sm_term.specs.TableLaws.{AreApart, Grows}
 use Rattle.sm_term.specs.Terms.{Tree}
 use Rattle.sm_term.proofs.FormsLemmas.{assertion-more}
 use Rattle.sm_solve.specs.declared.node.Node.{Node}
-use Rattle.sm_solve.specs.declared.shared.SharedTerms.{SharedTerms}
-use Rattle.sm_solve.specs.Branches.{with_formulas}
-use Rattle.sm_solve.specs.Parts.{all_numbered, assertions_in, AreFormulasWithin}
-use Rattle.sm_solve.specs.Sharing.{AreShared, IsNode, room_for_goal}
+use Rattle.sm_list.specs.declared.shared.SharedTerms.{SharedTerms}
+use Rattle.sm_list.specs.Branches.{with_formulas}
+use Rattle.sm_list.specs.Parts.{all_numbered, assertions_in, AreFormulasWithin}
+use Rattle.sm_list.specs.Shared.{AreShared}
+use Rattle.sm_solve.specs.Sharing.{IsNode, room_for_goal}
 use Rattle.sm_solve.specs.Shut.{IsShut}
-use Rattle.sm_solve.proofs.ListingLemmas.{below_grown, same_grown}
-use Rattle.sm_solve.proofs.OwnLemmas.{facts_grown}
-use Rattle.sm_solve.proofs.SharedLemmas.{placed_grown}
+use Rattle.sm_list.proofs.ListingLemmas.{below_grown, same_grown}
+use Rattle.sm_list.proofs.OwnLemmas.{facts_grown}
+use Rattle.sm_list.proofs.SharedLemmas.{placed_grown}
 
 -- the terms in a table of their own are still those of a table that has got more
 pub shared_grown : (old new : TableValue) (terms : List Tree) (s : SharedTerms) → Grows old new → AreApart (trees_in new) →

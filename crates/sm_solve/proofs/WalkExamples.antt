@@ -7,7 +7,8 @@ use Rattle.sm_term.specs.Terms.{Tree, Start}
 use Rattle.sm_term.specs.Assertions.{Eq, Ne, Le, Lt, And, No}
 use Rattle.sm_num.specs.Eliminating.{gcd}
 use Rattle.sm_cc.specs.Rounds.{are_equal}
-use Rattle.sm_solve.specs.Walk.{Closes, Opens, TooFar, walk}
+use Rattle.sm_judge.specs.Forms.{Closes, Opens, TooFar}
+use Rattle.sm_solve.specs.Walk.{walk}
 
 -- all names are numbers
 abbrev numbers : Sorts

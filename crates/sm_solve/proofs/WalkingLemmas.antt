@@ -12,20 +12,22 @@ use Rattle.sm_theory.specs.declared.line.CertLine.{CertLine}
 use Rattle.sm_theory.specs.Facts.{as_facts}
 use Rattle.sm_theory.specs.Views.{line_in}
 use Rattle.sm_theory.specs.Ways.{ways, splitting}
-use Rattle.sm_cc.specs.Numbered.{IsLonger}
+use Rattle.sm_pairs.specs.Longer.{IsLonger}
 use Rattle.sm_cert.specs.declared.tree.CertTree.{CertTree}
 use Rattle.sm_cert.specs.Certificates as tree
 use Rattle.sm_cert.specs.Certificates.{splits_above}
 use Rattle.sm_cert.specs.Views.{certificate_in, lines_of, AreLinesWithin}
-use Rattle.sm_solve.specs.declared.closing.BranchSplit.{BranchSplit}
-use Rattle.sm_solve.specs.Branches.{with_parts}
-use Rattle.sm_solve.specs.Closings.{Refutes}
-use Rattle.sm_solve.specs.Holding.{Seen, Split, seen_by, is_closed, split_of}
+use Rattle.sm_judge.specs.declared.closing.BranchSplit.{BranchSplit}
+use Rattle.sm_list.specs.Branches.{with_parts}
+use Rattle.sm_certify.specs.Refutes.{Refutes}
+use Rattle.sm_judge.specs.Holding.{Seen, Split, is_closed, split_of}
+use Rattle.sm_certify.specs.Given.{seen_by}
 use Rattle.sm_solve.specs.Leading.{both_lines, led_by}
-use Rattle.sm_solve.specs.Parts.{all_numbered, assertions_in}
-use Rattle.sm_solve.specs.Walk.{Walked, Closes, TooFar, counted, by_classes, by_forms, by_parts, forms_of}
+use Rattle.sm_list.specs.Parts.{all_numbered, assertions_in}
+use Rattle.sm_judge.specs.Forms.{Walked, Closes, TooFar, counted, by_forms, forms_of}
+use Rattle.sm_solve.specs.Walk.{by_classes, by_parts}
 use Rattle.sm_solve.specs.Walk.{walk_from}
-use Rattle.sm_solve.specs.Splits.{split_told}
+use Rattle.sm_judge.specs.Splits.{split_told}
 use Rattle.sm_solve.specs.Walking.{ClosesIn}
 use Rattle.sm_solve.proofs.LeadingLemmas.{both_refutes, split_refutes, led_splits}
 

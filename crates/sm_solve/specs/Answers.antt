@@ -10,9 +10,9 @@ use Rattle.sm_cert.specs.NamedTerms.{EachTerm}
 use Rattle.sm_cert.specs.Views.{certificate_in, lines_of, AreLinesWithin}
 use Rattle.sm_solve.specs.declared.solving.Answer.{Answer}
 use Rattle.sm_solve.specs.declared.solving.Answer.TheVariants as answer
-use Rattle.sm_solve.specs.Branches.{with_parts, terms_of, IsOneOf}
-use Rattle.sm_solve.specs.Parts.{all_numbered, assertions_in, AreFormulasWithin}
-use Rattle.sm_solve.specs.Walk.{Walked, Closes, Opens, TooFar, GoesOut}
+use Rattle.sm_list.specs.Branches.{with_parts, terms_of, IsOneOf}
+use Rattle.sm_list.specs.Parts.{all_numbered, assertions_in, AreFormulasWithin}
+use Rattle.sm_judge.specs.Forms.{Walked, Closes, Opens, TooFar, GoesOut}
 
 -- an answer is what the walk comes to, whatever its count
 abbrev pub Tells : Sorts → List Tree → Answer → Walked → Type 0

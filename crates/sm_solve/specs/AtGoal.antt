@@ -9,13 +9,14 @@ use Rattle.sm_term.specs.Sorted.{AreFormsSorted, IsFormSorted}
 use Rattle.sm_term.specs.Terms.{Tree}
 use Rattle.sm_term.specs.Tables.{TableValue, trees_in, sorts_in, codes_in}
 use Rattle.sm_solve.specs.declared.node.Node.{Node}
-use Rattle.sm_solve.specs.AllForms.{AreAllForms}
-use Rattle.sm_solve.specs.Bases.{IsFrom}
-use Rattle.sm_solve.specs.Branches.{depth_of, with_parts, with_formulas, terms_of}
-use Rattle.sm_solve.specs.Given.{IsWhole, classes_by}
-use Rattle.sm_solve.specs.Listing.{numbers_of}
-use Rattle.sm_solve.specs.Parts.{all_numbered, assertions_in, AreFormulasWithin}
-use Rattle.sm_solve.specs.Sharing.{AreShared, room_for_goal}
+use Rattle.sm_judge.specs.AllForms.{AreAllForms}
+use Rattle.sm_certify.specs.Bases.{IsFrom}
+use Rattle.sm_list.specs.Branches.{depth_of, with_parts, with_formulas, terms_of}
+use Rattle.sm_certify.specs.Given.{IsWhole, classes_by}
+use Rattle.sm_list.specs.Listing.{numbers_of}
+use Rattle.sm_list.specs.Parts.{all_numbered, assertions_in, AreFormulasWithin}
+use Rattle.sm_list.specs.Shared.{AreShared}
+use Rattle.sm_solve.specs.Sharing.{room_for_goal}
 use Rattle.sm_solve.specs.Shut.{IsShut}
 
 -- the contrary of a goal can stand in its place with no fact at another: it has no parts, or none of

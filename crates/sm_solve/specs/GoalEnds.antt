@@ -5,7 +5,7 @@ use Rattle.sm_term.specs.Assertions.{Assertion}
 use Rattle.sm_term.specs.Terms.{Tree}
 use Rattle.sm_solve.specs.declared.shut.GoalEnd.{GoalEnd}
 use Rattle.sm_solve.specs.declared.shut.GoalEnd.TheVariants as goal
-use Rattle.sm_solve.specs.Walk.{Walked, Closes}
+use Rattle.sm_judge.specs.Forms.{Walked, Closes}
 use Rattle.sm_solve.specs.Walking.{ClosesIn, TellsEnd, ShowsEnd}
 
 -- the end is what the walk comes to, whatever its count

@@ -1,38 +1,20 @@
 -- Cited by public clauses: the facts of a node, whose terms and classes its goals share.
-use Rattle.std.specs.Prelude.{◌≡◌, ◌≤◌, IfSome, List, [], ◌∷◌, ◌++◌, length, map}
+use Rattle.std.specs.Prelude.{◌≡◌, IfSome, List, [], ◌∷◌, ◌++◌, length}
 use Rattle.std.specs.List.{range_with_len}
 use Rattle.sm_term.specs.declared.term.TermId.{TermId}
 use Rattle.sm_term.specs.Assertions.{Assertion, Yes}
 use Rattle.sm_term.specs.Sorted.{AreFormsSorted}
-use Rattle.sm_term.specs.Terms.{Tree}
 use Rattle.sm_term.specs.Tables.{TableValue, trees_in, sorts_in, codes_in}
-use Rattle.sm_solve.specs.declared.shared.SharedTerms.{SharedTerms}
 use Rattle.sm_solve.specs.declared.node.Node.{Node}
-use Rattle.sm_solve.specs.AllForms.{AreAllForms}
-use Rattle.sm_solve.specs.Bases.{IsFrom}
-use Rattle.sm_solve.specs.Branches.{with_parts, with_formulas, with_all_reads, writes_on}
-use Rattle.sm_solve.specs.Branches.{greatest_of, terms_of}
-use Rattle.sm_solve.specs.Given.{IsWhole, classes_by}
-use Rattle.sm_solve.specs.Listing.{trees_at, numbers_of, AreBelow, IsClosed}
-use Rattle.sm_solve.specs.Own.{AreBuilt, ArePlaced}
-use Rattle.sm_solve.specs.Parts.{all_numbered, assertions_in, AreFormulasWithin}
+use Rattle.sm_judge.specs.AllForms.{AreAllForms}
+use Rattle.sm_certify.specs.Bases.{IsFrom}
+use Rattle.sm_list.specs.Branches.{with_parts, with_formulas}
+use Rattle.sm_list.specs.Branches.{terms_of}
+use Rattle.sm_certify.specs.Given.{IsWhole, classes_by}
+use Rattle.sm_list.specs.Listing.{numbers_of}
+use Rattle.sm_list.specs.Parts.{all_numbered, assertions_in, AreFormulasWithin}
 use Rattle.sm_solve.specs.Shut.{IsShut}
-
--- terms of a table stand in a table of their own, where the number of each is its place in the list
-pub record AreShared (table : TableValue) (terms : List Tree) (s : SharedTerms) : Type 0 where
-  pub sorts : sorts_in s.own ≡ sorts_in table
-  pub codes : codes_in s.own ≡ codes_in table
-  pub own : trees_in s.own ≡ terms
-  pub listed : trees_at (trees_in table) s.listed.keys ≡ terms
-  pub below : AreBelow (length (trees_in table)) s.listed.keys
-  pub closed : IsClosed terms
-  pub built : AreBuilt [] terms
-  pub count : length s.numbers.items ≤ length (trees_in table)
-  pub placed : ArePlaced (trees_in table) terms s.numbers.items
-
--- terms with what each element that is read was before it was written
-abbrev pub with_those_before : List Tree → List Tree
-with_those_before seen = with_all_reads (greatest_of (map writes_on seen)) seen
+use Rattle.sm_list.specs.Shared.{AreShared}
 
 -- the facts of a node with the place where the contrary of a goal stands, and all parts
 abbrev pub room_for_goal : List Assertion → List Assertion

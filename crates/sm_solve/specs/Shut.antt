@@ -5,14 +5,15 @@ use Rattle.sm_syntax.specs.text.Sorts.{Sorts}
 use Rattle.sm_num.specs.Combining.{Fits}
 use Rattle.sm_term.specs.Terms.{Tree}
 use Rattle.sm_term.specs.Assertions.{Assertion, Yes}
-use Rattle.sm_cc.specs.Numbered.{IsLonger}
+use Rattle.sm_pairs.specs.Longer.{IsLonger}
 use Rattle.sm_solve.specs.declared.shut.Shut.{Shut}
 use Rattle.sm_solve.specs.declared.shut.ShutBy.{ShutBy}
 use Rattle.sm_solve.specs.declared.shut.ShutBy.TheVariants as shut
-use Rattle.sm_solve.specs.Branches.{with_parts}
-use Rattle.sm_solve.specs.Holding.{Seen, seen_by, is_closed}
-use Rattle.sm_solve.specs.Listing.{numbers_of}
-use Rattle.sm_solve.specs.Walk.{Walked, Closes, by_forms, forms_of}
+use Rattle.sm_list.specs.Branches.{with_parts}
+use Rattle.sm_judge.specs.Holding.{Seen, is_closed}
+use Rattle.sm_certify.specs.Given.{seen_by}
+use Rattle.sm_list.specs.Listing.{numbers_of}
+use Rattle.sm_judge.specs.Forms.{Walked, Closes, by_forms, forms_of}
 use Rattle.sm_solve.specs.Walking.{ClosesIn}
 
 -- a branch is closed by its classes, or its forms come to a contradiction after so many steps

@@ -13,10 +13,11 @@ use Rattle.sm_solve.specs.declared.ending.WalkEnd.{WalkEnd}
 use Rattle.sm_solve.specs.declared.ending.WalkEnd.TheVariants as ends
 use Rattle.sm_solve.specs.declared.solving.Answer.{Answer}
 use Rattle.sm_solve.specs.declared.solving.Answer.TheVariants as answer
-use Rattle.sm_solve.specs.Closings.{Refutes}
-use Rattle.sm_solve.specs.Parts.{all_numbered, assertions_in, AreFormulasWithin}
-use Rattle.sm_solve.specs.Splits.{split_told, IsToldWithin, SplitsBranch}
-use Rattle.sm_solve.specs.Walk.{Walked, Closes, Opens, TooFar, GoesOut, by_parts}
+use Rattle.sm_certify.specs.Refutes.{Refutes}
+use Rattle.sm_list.specs.Parts.{all_numbered, assertions_in, AreFormulasWithin}
+use Rattle.sm_judge.specs.Splits.{split_told, IsToldWithin, SplitsBranch}
+use Rattle.sm_judge.specs.Forms.{Walked, Closes, Opens, TooFar, GoesOut}
+use Rattle.sm_solve.specs.Walk.{by_parts}
 
 -- a certificate of the program closes a branch, with fewer splits above a line than there is room
 pub record ClosesIn (sorts : Sorts) (trees : List Tree) (facts : List Assertion) (room : ℕ)

@@ -8,7 +8,7 @@ ghost use Rattle.sm_theory.specs.Views.{line_in, IsLineWithin};
 ghost use Rattle.sm_cert.specs.Certificates.{Split};
 ghost use Rattle.sm_cert.specs.Views.{certificate_in, lines_of, AreLinesWithin};
 ghost use Rattle.sm_solve.specs.Leading.{both_line, both_lines, led_by};
-ghost use Rattle.sm_solve.specs.Parts.{all_numbered};
+ghost use Rattle.sm_list.specs.Parts.{all_numbered};
 
 use sm_cert::{CertEnd, CertLines, CertTree};
 use sm_term::{Formula, copy_formula};

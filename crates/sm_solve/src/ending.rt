@@ -6,9 +6,9 @@ ghost use Rattle.sm_term.specs.Assertions.{Assertion};
 ghost use Rattle.sm_theory.specs.Facts.{as_facts};
 ghost use Rattle.sm_theory.specs.Views.{line_in, IsLineWithin};
 ghost use Rattle.sm_theory.specs.Ways.{ways, splitting};
-ghost use Rattle.sm_solve.specs.Branches.{with_parts};
-ghost use Rattle.sm_solve.specs.Parts.{all_numbered, assertions_in};
-ghost use Rattle.sm_solve.specs.Walk.{Walked};
+ghost use Rattle.sm_list.specs.Branches.{with_parts};
+ghost use Rattle.sm_list.specs.Parts.{all_numbered, assertions_in};
+ghost use Rattle.sm_judge.specs.Forms.{Walked};
 ghost use Rattle.sm_solve.specs.Walking.{ClosesIn, TellsEnd, ShowsEnd, IsEndCounted};
 
 use crate::branching::{led_tree, split_tree};

@@ -1,6 +1,6 @@
 // The goals of a node, which share the terms and the classes of its facts.
 ghost use Rattle.std.specs.Prelude.{◌≡◌, ℕ, true, false, List, [], ◌∷◌, ◌++◌, length};
-ghost use Rattle.std.specs.Prelude.{IfOk, OnOk, IfSome};
+ghost use Rattle.std.specs.Prelude.{IfOk, OnOk, OnErr, IfSome, IfNone};
 ghost use Rattle.sm_syntax.specs.text.Sorts.{Sorts};
 ghost use Rattle.sm_term.specs.Assertions.{Assertion};
 ghost use Rattle.sm_term.specs.Formulas.{numbered, assertion_in, IsFormulaWithin};
@@ -10,24 +10,23 @@ ghost use Rattle.sm_term.specs.Terms.{Tree};
 ghost use Rattle.sm_term.specs.TableLaws.{Grows};
 ghost use Rattle.sm_solve.specs.Answers.{Tells, Certifies, terms_walked, NamesOnly};
 ghost use Rattle.sm_solve.specs.AtGoal.{IsAtGoal, HasRoom};
-ghost use Rattle.sm_solve.specs.Branches.{depth_of, with_parts, with_formulas, terms_of};
-ghost use Rattle.sm_solve.specs.Parts.{all_numbered, assertions_in, AreFormulasWithin};
+ghost use Rattle.sm_list.specs.Branches.{depth_of, with_parts, with_formulas, terms_of};
+ghost use Rattle.sm_list.specs.Parts.{all_numbered, assertions_in, AreFormulasWithin};
 ghost use Rattle.sm_solve.specs.Sharing.{IsNode, room_for_goal};
 ghost use Rattle.sm_solve.specs.GoalEnds.{TellsGoal, ShowsGoal};
-ghost use Rattle.sm_solve.specs.Walk.{Closes, walk, walk_from};
+ghost use Rattle.sm_judge.specs.Forms.{Closes};
+ghost use Rattle.sm_solve.specs.Walk.{walk, walk_from};
 ghost use Rattle.sm_solve.specs.Walking.{ClosesIn, TellsEnd, ShowsEnd};
 
-use crate::base::Base;
 use crate::ending::WalkEnd;
 use crate::first::walk_over;
 use crate::grounding::{count_named, ground_of, with_room};
-use crate::linears::{add_linear_forms, linear_forms};
-use crate::parts::add_parts;
-use crate::shared::{SharedTerms, shared_facts};
 use crate::shut::{GoalEnd, Shut, renumbered_goal_end, shut_of, shut_tree};
 use crate::solving::Answer;
-use crate::terms::numbered_terms;
 use sm_cert::CertTree;
+use sm_certify::Base;
+use sm_judge::{add_linear_forms, linear_forms};
+use sm_list::{SharedTerms, add_parts, numbered_terms, shared_facts};
 use sm_num::LinForm;
 use sm_term::{Formula, TermTable, negate};
 use std::alloc::{AllocError, Global};
@@ -51,8 +50,39 @@ pub struct Node {
 impl Node {
     /// The facts of a node; none where an element that they read was written before, and what it
     /// was then isn't among their terms. Whether they can't hold together is looked for within so
-    /// many steps.
+    /// many steps. Without a node, and after want of memory, the table is as it was.
     pub fn of(
+        alloc: Global,
+        table: &mut TermTable,
+        facts: &[Formula],
+        steps: u64,
+    ) -> Result<Option<Node>, AllocError>
+        requires within { AreFormulasWithin (length (trees_in table.old)) (all_numbered facts.now) }
+        requires sorted { AreFormsSorted (sorts_in table.old)
+            (assertions_in (sorts_in table.old) (trees_in table.old) (all_numbered facts.now)) }
+        ensures node { let given = assertions_in (sorts_in table.old) (trees_in table.old)
+            (all_numbered facts.now) in
+            IfOk result (λ o. IfSome o (IsNode table.new given)) }
+        ensures grows { Grows table.old table.new }
+        ensures none { IfOk result (λ o. IfNone o (trees_in table.new ≡ trees_in table.old)) }
+        ensures err { OnErr result (trees_in table.new ≡ trees_in table.old) }
+    {
+        let len = table.len();
+        match Node::made(alloc, table, facts, steps) {
+            Ok(Some(node)) => Ok(Some(node)),
+            Ok(None) => {
+                table.cut(len);
+                Ok(None)
+            }
+            Err(e) => {
+                table.cut(len);
+                Err(e)
+            }
+        }
+    }
+
+    // The same, but the terms that were made stay in the table.
+    fn made(
         alloc: Global,
         table: &mut TermTable,
         facts: &[Formula],
@@ -109,10 +139,10 @@ impl Node {
         }
     }
 
-    /// The answer to the obligation of these facts and a target, as `solve` gives it; none where
-    /// the contrary of the target is a conjunction and one of the facts is one, too. New terms go
-    /// last in the table. After want of memory nothing is known of the node.
-    pub fn solve(
+    // The answer to the obligation of these facts and a target, as `solve` gives it; none where
+    // the contrary of the target is a conjunction and one of the facts is one, too. New terms go
+    // last in the table. After want of memory nothing is known of the node.
+    pub(crate) fn solve(
         &mut self,
         alloc: Global,
         table: &mut TermTable,
@@ -156,8 +186,8 @@ impl Node {
         Ok(Some(answer))
     }
 
-    /// A node over a table that has got more terms.
-    pub fn stays(&self, table: &TermTable)
+    // A node over a table that has got more terms.
+    pub(crate) fn stays(&self, table: &TermTable)
         ensures { (old : TableValue) (given : List Assertion) → IsNode old given self.now →
             Grows old table.now → IsNode table.now given self.now }
     {

@@ -1,11 +1,11 @@
 // Obligations of one node.
-ghost use Rattle.std.specs.Prelude.{length, IfOk, IfSome};
+ghost use Rattle.std.specs.Prelude.{◌≡◌, length, IfOk, IfSome, OnErr};
 ghost use Rattle.sm_term.specs.Formulas.{numbered, assertion_in, IsFormulaWithin};
 ghost use Rattle.sm_term.specs.Sorted.{IsFormSorted, AreFormsSorted};
 ghost use Rattle.sm_term.specs.Tables.{trees_in, sorts_in};
 ghost use Rattle.sm_term.specs.TableLaws.{Grows};
 ghost use Rattle.sm_solve.specs.Answers.{Tells, Certifies, terms_walked, NamesOnly};
-ghost use Rattle.sm_solve.specs.Parts.{all_numbered, assertions_in, AreFormulasWithin};
+ghost use Rattle.sm_list.specs.Parts.{all_numbered, assertions_in, AreFormulasWithin};
 ghost use Rattle.sm_solve.specs.Sharing.{IsNode};
 ghost use Rattle.sm_solve.specs.Walk.{walk};
 
@@ -15,8 +15,54 @@ use sm_term::{Formula, TermTable};
 use std::alloc::{AllocError, Global};
 
 /// The answer to an obligation as `solve` gives it, by a node of its facts where there is one. After
-/// want of memory nothing is known of the node.
+/// want of memory the table is as it was, and nothing is known of the node.
 pub fn solve_at(
+    alloc: Global,
+    table: &mut TermTable,
+    node: &mut Option<Node>,
+    facts: &[Formula],
+    target: &Formula,
+    steps: u64,
+) -> Result<Answer, AllocError>
+    requires facts { AreFormulasWithin (length (trees_in table.old)) (all_numbered facts.now) }
+    requires target { IsFormulaWithin (length (trees_in table.old)) (numbered target.now) }
+    requires facts_sorted { AreFormsSorted (sorts_in table.old)
+        (assertions_in (sorts_in table.old) (trees_in table.old) (all_numbered facts.now)) }
+    requires target_sorted { IsFormSorted (sorts_in table.old)
+        (assertion_in (sorts_in table.old) (trees_in table.old) (numbered target.now)) }
+    requires node { let given = assertions_in (sorts_in table.old) (trees_in table.old)
+        (all_numbered facts.now) in
+        IfSome node.old (IsNode table.old given) }
+    ensures answer { let sorts = sorts_in table.old in let trees = trees_in table.old in
+        let given = assertions_in sorts trees (all_numbered facts.now) in
+        let goal = assertion_in sorts trees (numbered target.now) in
+        IfOk result (λ a. Tells sorts (trees_in table.new) a (walk sorts steps given goal)) }
+    ensures certifies { let sorts = sorts_in table.old in let trees = trees_in table.old in
+        let given = assertions_in sorts trees (all_numbered facts.now) in
+        let goal = assertion_in sorts trees (numbered target.now) in
+        IfOk result (λ a. Certifies sorts (trees_in table.new) given goal a) }
+    ensures names { let sorts = sorts_in table.old in let trees = trees_in table.old in
+        let given = assertions_in sorts trees (all_numbered facts.now) in
+        let goal = assertion_in sorts trees (numbered target.now) in
+        IfOk result (NamesOnly (terms_walked given goal) (trees_in table.new)) }
+    ensures node { let given = assertions_in (sorts_in table.old) (trees_in table.old)
+        (all_numbered facts.now) in
+        IfOk result (λ a. IfSome node.new (IsNode table.new given)) }
+    ensures grows { Grows table.old table.new }
+    ensures err { OnErr result (trees_in table.new ≡ trees_in table.old) }
+{
+    let len = table.len();
+    match answered_at(alloc, table, node, facts, target, steps) {
+        Ok(answer) => Ok(answer),
+        Err(e) => {
+            table.cut(len);
+            Err(e)
+        }
+    }
+}
+
+// The same, but an error leaves the terms that were made.
+fn answered_at(
     alloc: Global,
     table: &mut TermTable,
     node: &mut Option<Node>,

@@ -5,7 +5,7 @@ use Rattle.sm_term.specs.Formulas.{numbered}
 use Rattle.sm_theory.specs.Lines.{CertificateLine}
 use Rattle.sm_theory.specs.Views.{line_in}
 use Rattle.sm_solve.specs.Leading.{both_line, both_lines}
-use Rattle.sm_solve.specs.Parts.{all_numbered}
+use Rattle.sm_list.specs.Parts.{all_numbered}
 use Rattle.sm_solve.proofs.LeadingLemmas.{lines_next, lines_end}
 use Rattle.sm_solve.proofs.branching.lines_of_parts.Goals as goal
 

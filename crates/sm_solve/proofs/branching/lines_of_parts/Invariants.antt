@@ -4,7 +4,7 @@ use Rattle.sm_term.specs.Terms.{Tree}
 use Rattle.sm_theory.specs.Views.{line_in}
 use Rattle.sm_cert.specs.Views.{AreLinesWithin}
 use Rattle.sm_solve.specs.Leading.{both_lines}
-use Rattle.sm_solve.specs.Parts.{all_numbered}
+use Rattle.sm_list.specs.Parts.{all_numbered}
 use Rattle.sm_solve.proofs.branching.lines_of_parts.Given as goal
 
 abbrev pub invariant-loop-at : goal.invariant-loop-at

@@ -4,10 +4,11 @@ use Rattle.sm_term.specs.declared.formula.Formula.{Formula}
 use Rattle.sm_term.specs.Assertions.{Assertion}
 use Rattle.sm_term.specs.Sorted.{AreFormsSorted}
 use Rattle.sm_term.specs.Tables.{trees_in, sorts_in}
-use Rattle.sm_solve.specs.Bases.{IsFrom}
-use Rattle.sm_solve.specs.Given.{classes_by, branch_of}
-use Rattle.sm_solve.specs.Parts.{all_numbered, assertions_in}
-use Rattle.sm_solve.specs.Walk.{Walked, walk_from, by_classes}
+use Rattle.sm_certify.specs.Bases.{IsFrom}
+use Rattle.sm_certify.specs.Given.{classes_by, branch_of}
+use Rattle.sm_list.specs.Parts.{all_numbered, assertions_in}
+use Rattle.sm_judge.specs.Forms.{Walked}
+use Rattle.sm_solve.specs.Walk.{walk_from, by_classes}
 use Rattle.sm_solve.specs.Walking.{TellsVisit, ShowsVisit, ShowsEnd}
 use Rattle.sm_solve.proofs.BasesLemmas.{led_nothing, led_same, led_alone}
 use Rattle.sm_solve.proofs.WalkingLemmas.{walk_next}

@@ -6,8 +6,8 @@ use Rattle.sm_term.specs.Assertions.{Yes}
 use Rattle.sm_term.specs.Sorted.{AreFormsSorted}
 use Rattle.sm_term.specs.Tables.{trees_in, sorts_in}
 use Rattle.sm_cc.specs.Ground.{IsLedBy}
-use Rattle.sm_solve.specs.Given.{classes_by}
-use Rattle.sm_solve.specs.Parts.{all_numbered, assertions_in}
+use Rattle.sm_certify.specs.Given.{classes_by}
+use Rattle.sm_list.specs.Parts.{all_numbered, assertions_in}
 use Rattle.sm_solve.specs.Sharing.{room_for_goal}
 use Rattle.sm_solve.proofs.ShutLemmas.{node_led, node_sorted, node_shut}
 use Rattle.sm_solve.proofs.node.with_shut.Goals as goal

@@ -6,9 +6,9 @@ use Rattle.sm_term.specs.Formulas.{numbered}
 use Rattle.sm_term.specs.Sorted.{IsFormSorted, AreFormsSorted}
 use Rattle.sm_term.specs.Tables.{trees_in, sorts_in}
 use Rattle.sm_solve.specs.Answers.{Tells, Certifies, terms_walked, NamesOnly}
-use Rattle.sm_solve.specs.Parts.{all_numbered, assertions_in}
+use Rattle.sm_list.specs.Parts.{all_numbered, assertions_in}
 use Rattle.sm_solve.specs.Walk.{walk}
-use Rattle.sm_solve.proofs.OwnLemmas.{facts_within_grown}
+use Rattle.sm_list.proofs.OwnLemmas.{facts_within_grown}
 use Rattle.sm_term.proofs.FormsLemmas.{form_kept}
 use Rattle.sm_solve.proofs.StaysLemmas.{moved_on, moved_back}
 use Rattle.sm_solve.proofs.sharing.solve_shared.Goals as goal

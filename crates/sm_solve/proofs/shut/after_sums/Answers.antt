@@ -1,8 +1,8 @@
 use Rattle.std.proofs.Common.{length, subst}
 use Rattle.sm_term.specs.Tables.{trees_in, sorts_in}
-use Rattle.sm_solve.specs.Refutations.{GivesForms}
-use Rattle.sm_solve.specs.Seeing.{seen_in}
-use Rattle.sm_solve.specs.Walk.{forms_of}
+use Rattle.sm_judge.specs.Refutations.{GivesForms}
+use Rattle.sm_judge.specs.Seeing.{seen_in}
+use Rattle.sm_judge.specs.Forms.{forms_of}
 use Rattle.sm_solve.proofs.ShutLemmas.{shut_by_forms}
 use Rattle.sm_solve.proofs.shut.after_sums.Goals as goal
 

@@ -11,14 +11,15 @@ use Rattle.sm_cc.specs.Behind.{AddsOnly, AreEqualByLabels}
 use Rattle.sm_cc.specs.Classes.{are_apart}
 use Rattle.sm_cc.specs.Rounds.{are_equal}
 use Rattle.sm_cc.specs.Views.{setting_of}
-use Rattle.sm_solve.specs.Given.{given_from, classes_by, branch_of}
-use Rattle.sm_solve.specs.Holding.{Seen}
-use Rattle.sm_solve.specs.Labelled.{AreLabels}
-use Rattle.sm_solve.specs.Seeing.{seen_in}
-use Rattle.sm_solve.specs.Walk.{Closes, by_classes, by_forms, forms_of}
+use Rattle.sm_certify.specs.Given.{given_from, classes_by, branch_of}
+use Rattle.sm_judge.specs.Holding.{Seen}
+use Rattle.sm_judge.specs.Labelled.{AreLabels}
+use Rattle.sm_judge.specs.Seeing.{seen_in}
+use Rattle.sm_judge.specs.Forms.{Closes, by_forms, forms_of}
+use Rattle.sm_solve.specs.Walk.{by_classes}
 use Rattle.sm_solve.proofs.AtGoalLemmas.{count_of}
 use Rattle.sm_solve.proofs.BranchLabelsLemmas.{labels_of_branch}
-use Rattle.sm_solve.proofs.GivenLemmas.{whole_before, given_of_terms, seen_by_classes}
+use Rattle.sm_certify.proofs.GivenLemmas.{whole_before, given_of_terms, seen_by_classes}
 use Rattle.sm_solve.proofs.ShutLemmas.{closed_walks, closes_either}
 use Rattle.sm_solve.proofs.shut.is_shut_over.Goals as goal
 

@@ -2,12 +2,12 @@ use Rattle.std.proofs.Common.{ℕ, List, length, ap, subst, ◌∙◌}
 use Rattle.sm_num.specs.Combining.{Fits}
 use Rattle.sm_num.specs.Forms.{Linear}
 use Rattle.sm_term.specs.Tables.{trees_in, sorts_in}
-use Rattle.sm_solve.specs.Branches.{with_parts}
-use Rattle.sm_solve.specs.Given.{branch_of}
-use Rattle.sm_solve.specs.Holding.{seen_by}
-use Rattle.sm_solve.specs.Parts.{all_numbered, assertions_in}
+use Rattle.sm_list.specs.Branches.{with_parts}
+use Rattle.sm_certify.specs.Given.{branch_of}
+use Rattle.sm_certify.specs.Given.{seen_by}
+use Rattle.sm_list.specs.Parts.{all_numbered, assertions_in}
 use Rattle.sm_solve.specs.Shut.{IsShutBy}
-use Rattle.sm_solve.specs.Walk.{by_forms}
+use Rattle.sm_judge.specs.Forms.{by_forms}
 use Rattle.sm_solve.proofs.ShutLemmas.{closed_walks, closed_below, sums_later}
 use Rattle.sm_solve.proofs.shut.is_still_shut.Goals as goal
 

@@ -3,7 +3,7 @@ use Rattle.std.proofs.Common.{List, sym, subst}
 use Rattle.sm_term.specs.declared.term.TermId.{TermId}
 use Rattle.sm_solve.specs.declared.shut.GoalEnd.{GoalEnd}
 use Rattle.sm_solve.specs.GoalEnds.{ShowsGoal}
-use Rattle.sm_solve.specs.Renumbered.{AreTermsOf}
+use Rattle.sm_list.specs.Renumbered.{AreTermsOf}
 use Rattle.sm_solve.proofs.SolvingLemmas.{renumbered_closes}
 use Rattle.sm_solve.proofs.shut.renumbered_goal_end.Goals as goal
 

@@ -2,9 +2,10 @@
 use Rattle.std.proofs.Common.{◌≡◌, ℕ, List, sym, subst}
 use Rattle.sm_term.specs.declared.term.TermId.{TermId}
 use Rattle.sm_term.specs.Tables.{trees_in, sorts_in}
-use Rattle.sm_solve.specs.Parts.{all_numbered, assertions_in}
-use Rattle.sm_solve.specs.Renumbered.{AreTermsOf}
-use Rattle.sm_solve.specs.Walk.{Closes, walk_from}
+use Rattle.sm_list.specs.Parts.{all_numbered, assertions_in}
+use Rattle.sm_list.specs.Renumbered.{AreTermsOf}
+use Rattle.sm_judge.specs.Forms.{Closes}
+use Rattle.sm_solve.specs.Walk.{walk_from}
 use Rattle.sm_solve.proofs.ShutLemmas.{visit_walks, closes_on, first_terms}
 use Rattle.sm_solve.proofs.shut.shut_tree.Goals as goal
 

@@ -1,7 +1,7 @@
 -- The certificate of the branch with all parts, led by the lines that add these.
 use Rattle.std.proofs.Common.{refl, [], subst}
 use Rattle.sm_solve.specs.declared.visiting.Visit.{Visit}
-use Rattle.sm_solve.specs.Branches.{with_parts}
+use Rattle.sm_list.specs.Branches.{with_parts}
 use Rattle.sm_solve.specs.Walking.{ShowsVisit}
 use Rattle.sm_solve.proofs.shut.visited_tree.Goals as goal
 

@@ -3,15 +3,15 @@ use Rattle.sm_term.specs.Tables.{trees_in, sorts_in, AreBefore}
 use Rattle.sm_cc.specs.Classes.{are_apart}
 use Rattle.sm_cc.specs.Rounds.{are_equal}
 use Rattle.sm_cc.specs.Views.{ClassesValue, setting_of}
-use Rattle.sm_solve.specs.Holding.{Seen, is_closed}
-use Rattle.sm_solve.specs.Labelled.{AreLabels}
-use Rattle.sm_solve.specs.Seeing.{seen_in}
-use Rattle.sm_solve.specs.declared.eliminating.ByForms.{ByForms}
-use Rattle.sm_solve.specs.Refutations.{TellsForms}
+use Rattle.sm_judge.specs.Holding.{Seen, is_closed}
+use Rattle.sm_judge.specs.Labelled.{AreLabels}
+use Rattle.sm_judge.specs.Seeing.{seen_in}
+use Rattle.sm_judge.specs.declared.eliminating.ByForms.{ByForms}
+use Rattle.sm_judge.specs.Refutations.{TellsForms}
 use Rattle.sm_solve.specs.Shut.{IsShutBy}
-use Rattle.sm_solve.specs.Walk.{Walked, Closes, by_forms, forms_of}
+use Rattle.sm_judge.specs.Forms.{Walked, Closes, by_forms, forms_of}
 use Rattle.sm_solve.proofs.BranchLabelsLemmas.{labels_of_branch}
-use Rattle.sm_solve.proofs.GivenLemmas.{whole_before}
+use Rattle.sm_certify.proofs.GivenLemmas.{whole_before}
 use Rattle.sm_solve.proofs.shut.why_shut.Goals as goal
 
 pub labels-requires : goal.labels-requires

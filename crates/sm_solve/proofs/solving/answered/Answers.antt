@@ -8,8 +8,8 @@ use Rattle.sm_term.specs.Sorted.{AreFormsSorted}
 use Rattle.sm_term.specs.Tables.{trees_in, sorts_in}
 use Rattle.sm_term.specs.Terms.{Tree}
 use Rattle.sm_solve.specs.Answers.{Tells, NamesOnly}
-use Rattle.sm_solve.specs.Branches.{with_parts, terms_of}
-use Rattle.sm_solve.specs.Parts.{all_numbered, assertions_in, AreFormulasWithin}
+use Rattle.sm_list.specs.Branches.{with_parts, terms_of}
+use Rattle.sm_list.specs.Parts.{all_numbered, assertions_in, AreFormulasWithin}
 use Rattle.sm_solve.specs.Walk.{walk_from}
 use Rattle.sm_solve.specs.Walking.{Shows}
 use Rattle.sm_solve.proofs.SolvingLemmas.{given_sorted, walk_own, shows_certify}

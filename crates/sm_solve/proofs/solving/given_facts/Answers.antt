@@ -1,7 +1,7 @@
 use Rattle.std.proofs.Common.{◌≡◌, List, subst}
 use Rattle.sm_term.specs.Assertions.{Assertion}
-use Rattle.sm_solve.specs.Branches.{with_parts}
-use Rattle.sm_solve.specs.Parts.{all_numbered, assertions_in}
+use Rattle.sm_list.specs.Branches.{with_parts}
+use Rattle.sm_list.specs.Parts.{all_numbered, assertions_in}
 use Rattle.sm_solve.proofs.SolvingLemmas.{given_is, given_within}
 use Rattle.sm_solve.proofs.solving.given_facts.Goals as goal
 

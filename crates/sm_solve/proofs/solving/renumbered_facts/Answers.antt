@@ -1,7 +1,7 @@
 use Rattle.std.proofs.Common.{◌≤◌, List, length, ap, ◌∙◌, arith}
 use Rattle.std.proofs.lemmas.List.{take_all}
 use Rattle.sm_term.specs.declared.formula.Formula.{Formula}
-use Rattle.sm_solve.specs.Parts.{all_numbered, assertions_in}
+use Rattle.sm_list.specs.Parts.{all_numbered, assertions_in}
 use Rattle.sm_solve.proofs.SolvingLemmas.{item_within, renumbered_more, more_within}
 use Rattle.sm_solve.proofs.solving.renumbered_facts.Goals as goal
 

@@ -2,15 +2,15 @@ use Rattle.std.proofs.Common.{◌≡◌, true, false, is_some, Option, length, I
 use Rattle.sm_term.specs.Tables.{trees_in, sorts_in, AreBefore}
 use Rattle.sm_cc.specs.Rounds.{are_equal}
 use Rattle.sm_cc.specs.Views.{ClassesValue, setting_of}
-use Rattle.sm_solve.specs.declared.closing.Closing.{Closing}
-use Rattle.sm_solve.specs.Given.{branch_of}
-use Rattle.sm_solve.specs.Holding.{is_closed}
-use Rattle.sm_solve.specs.Labelled.{AreLabels}
-use Rattle.sm_solve.specs.Parts.{all_numbered, assertions_in}
-use Rattle.sm_solve.specs.Walk.{Walked}
+use Rattle.sm_judge.specs.declared.closing.Closing.{Closing}
+use Rattle.sm_certify.specs.Given.{branch_of}
+use Rattle.sm_judge.specs.Holding.{is_closed}
+use Rattle.sm_judge.specs.Labelled.{AreLabels}
+use Rattle.sm_list.specs.Parts.{all_numbered, assertions_in}
+use Rattle.sm_judge.specs.Forms.{Walked}
 use Rattle.sm_solve.specs.Walking.{TellsVisit}
 use Rattle.sm_solve.proofs.BranchLabelsLemmas.{labels_of_branch}
-use Rattle.sm_solve.proofs.GivenLemmas.{whole_before}
+use Rattle.sm_certify.proofs.GivenLemmas.{whole_before}
 use Rattle.sm_solve.proofs.WalkingLemmas.{closed_told, open_told}
 use Rattle.sm_solve.proofs.visiting.visit_classes.Goals as goal
 

@@ -3,13 +3,14 @@ use Rattle.sm_term.specs.Tables.{trees_in, sorts_in}
 use Rattle.sm_cc.specs.Classes.{are_apart}
 use Rattle.sm_cc.specs.Rounds.{are_equal}
 use Rattle.sm_cc.specs.Views.{setting_of}
-use Rattle.sm_solve.specs.declared.eliminating.ByForms.{ByForms}
-use Rattle.sm_solve.specs.Given.{branch_of}
-use Rattle.sm_solve.specs.Holding.{Seen, split_of}
-use Rattle.sm_solve.specs.Parts.{all_numbered, assertions_in}
-use Rattle.sm_solve.specs.Refutations.{TellsForms}
-use Rattle.sm_solve.specs.Seeing.{seen_in}
-use Rattle.sm_solve.specs.Walk.{Walked, by_forms, by_parts, forms_of}
+use Rattle.sm_judge.specs.declared.eliminating.ByForms.{ByForms}
+use Rattle.sm_certify.specs.Given.{branch_of}
+use Rattle.sm_judge.specs.Holding.{Seen, split_of}
+use Rattle.sm_list.specs.Parts.{all_numbered, assertions_in}
+use Rattle.sm_judge.specs.Refutations.{TellsForms}
+use Rattle.sm_judge.specs.Seeing.{seen_in}
+use Rattle.sm_judge.specs.Forms.{Walked, by_forms, forms_of}
+use Rattle.sm_solve.specs.Walk.{by_parts}
 use Rattle.sm_solve.specs.Walking.{TellsVisit}
 use Rattle.sm_solve.proofs.visiting.visit_forms.Goals as goal
 

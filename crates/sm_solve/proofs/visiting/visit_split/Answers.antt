@@ -2,10 +2,10 @@ use Rattle.sm_term.specs.Tables.{trees_in, sorts_in}
 use Rattle.sm_cc.specs.Classes.{are_apart}
 use Rattle.sm_cc.specs.Rounds.{are_equal}
 use Rattle.sm_cc.specs.Views.{setting_of}
-use Rattle.sm_solve.specs.Given.{branch_of}
-use Rattle.sm_solve.specs.Holding.{Seen}
-use Rattle.sm_solve.specs.Parts.{all_numbered, assertions_in}
-use Rattle.sm_solve.specs.Seeing.{seen_in}
+use Rattle.sm_certify.specs.Given.{branch_of}
+use Rattle.sm_judge.specs.Holding.{Seen}
+use Rattle.sm_list.specs.Parts.{all_numbered, assertions_in}
+use Rattle.sm_judge.specs.Seeing.{seen_in}
 use Rattle.sm_solve.proofs.WalkingLemmas.{split_is}
 use Rattle.sm_solve.proofs.visiting.visit_split.Goals as goal
 

@@ -8,10 +8,11 @@ use Rattle.sm_term.specs.Formulas.{numbered, assertion_in}
 use Rattle.sm_term.specs.Sorted.{AreFormsSorted}
 use Rattle.sm_term.specs.Tables.{trees_in, sorts_in}
 use Rattle.sm_solve.specs.declared.visiting.Visit.{Visit}
-use Rattle.sm_solve.specs.Given.{branch_of}
-use Rattle.sm_solve.specs.Parts.{all_numbered, assertions_in, AreFormulasWithin}
-use Rattle.sm_solve.specs.Splits.{split_told}
-use Rattle.sm_solve.specs.Walk.{Walked, walk_from, by_classes, by_parts}
+use Rattle.sm_certify.specs.Given.{branch_of}
+use Rattle.sm_list.specs.Parts.{all_numbered, assertions_in, AreFormulasWithin}
+use Rattle.sm_judge.specs.Splits.{split_told}
+use Rattle.sm_judge.specs.Forms.{Walked}
+use Rattle.sm_solve.specs.Walk.{walk_from, by_classes, by_parts}
 use Rattle.sm_solve.specs.Walking.{TellsVisit, ShowsVisit, IsVisitCounted, TellsEnd, ShowsEnd, IsEndCounted}
 use Rattle.sm_solve.proofs.BasesLemmas.{led_same, led_longer}
 use Rattle.sm_solve.proofs.SortedLemmas.{sorted_more, told_sorted}

@@ -2,8 +2,9 @@
 use Rattle.std.proofs.Common.{◌≡◌, ℕ, [], ◌∷◌, ◌++◌, Option, IfSome, subst}
 use Rattle.sm_term.specs.Tables.{trees_in, sorts_in}
 use Rattle.sm_cert.specs.declared.tree.CertTree.{CertTree}
-use Rattle.sm_solve.specs.Branches.{with_parts, terms_of}
-use Rattle.sm_solve.specs.Walk.{Closes, walk_from}
+use Rattle.sm_list.specs.Branches.{with_parts, terms_of}
+use Rattle.sm_judge.specs.Forms.{Closes}
+use Rattle.sm_solve.specs.Walk.{walk_from}
 use Rattle.sm_solve.specs.Walking.{ClosesIn}
 use Rattle.sm_solve.proofs.node.Node.end_of_goal.Goals as goal
 

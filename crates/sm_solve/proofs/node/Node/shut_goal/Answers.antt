@@ -10,12 +10,13 @@ use Rattle.sm_term.specs.Tables.{trees_in, sorts_in}
 use Rattle.sm_term.specs.Terms.{Tree}
 use Rattle.sm_cc.specs.Ground.{IsLedBy}
 use Rattle.sm_solve.specs.declared.shut.Shut.{Shut}
-use Rattle.sm_solve.specs.Branches.{with_parts, with_formulas, terms_of}
-use Rattle.sm_solve.specs.Given.{given_from, classes_by}
-use Rattle.sm_solve.specs.Parts.{all_numbered, assertions_in, AreFormulasWithin}
+use Rattle.sm_list.specs.Branches.{with_parts, with_formulas, terms_of}
+use Rattle.sm_certify.specs.Given.{given_from, classes_by}
+use Rattle.sm_list.specs.Parts.{all_numbered, assertions_in, AreFormulasWithin}
 use Rattle.sm_solve.specs.Sharing.{room_for_goal}
 use Rattle.sm_solve.specs.Shut.{IsShut, IsBelow}
-use Rattle.sm_solve.specs.Walk.{Walked, Closes, walk_from}
+use Rattle.sm_judge.specs.Forms.{Walked, Closes}
+use Rattle.sm_solve.specs.Walk.{walk_from}
 use Rattle.sm_solve.specs.Walking.{ClosesIn}
 use Rattle.sm_solve.proofs.AtGoalLemmas.{led_with, goal_sorted, renumbered_goal, room_kept}
 use Rattle.sm_solve.proofs.ShutLemmas.{goal_below, on_ok_from, front_fits}

@@ -8,7 +8,7 @@ use Rattle.sm_term.specs.Tables.{trees_in, sorts_in}
 use Rattle.sm_term.specs.Terms.{Tree}
 use Rattle.sm_term.proofs.FormulasLemmas.{contrary_negates}
 use Rattle.sm_solve.specs.Answers.{Tells, NamesOnly}
-use Rattle.sm_solve.specs.Branches.{with_parts, terms_of}
+use Rattle.sm_list.specs.Branches.{with_parts, terms_of}
 use Rattle.sm_solve.specs.Walk.{walk_from}
 use Rattle.sm_solve.specs.Walking.{Shows}
 use Rattle.sm_solve.proofs.AtGoalLemmas.{terms_of_goal, room_counted}

@@ -5,9 +5,10 @@ use Rattle.sm_syntax.specs.text.Sorts.{Sorts}
 use Rattle.sm_term.specs.Assertions.{Assertion}
 use Rattle.sm_term.specs.Tables.{trees_in, sorts_in}
 use Rattle.sm_term.specs.Terms.{Tree}
-use Rattle.sm_solve.specs.Branches.{with_parts, terms_of}
-use Rattle.sm_solve.specs.Parts.{all_numbered, assertions_in}
-use Rattle.sm_solve.specs.Walk.{Walked, walk_from}
+use Rattle.sm_list.specs.Branches.{with_parts, terms_of}
+use Rattle.sm_list.specs.Parts.{all_numbered, assertions_in}
+use Rattle.sm_judge.specs.Forms.{Walked}
+use Rattle.sm_solve.specs.Walk.{walk_from}
 use Rattle.sm_solve.specs.Walking.{TellsEnd, ShowsEnd}
 use Rattle.sm_solve.proofs.AtGoalLemmas.{led, goal_sorted, renumbered_goal}
 use Rattle.sm_solve.proofs.node.Node.walk_goal.Goals as goal

@@ -1,0 +1,13 @@
+pub mod AddingLemmas
+pub mod BranchLeadsLemmas
+pub mod ByLabelsLemmas
+pub mod CertifyLemmas
+pub mod ContrariesLemmas
+pub mod EquationLemmas
+pub mod GivenLemmas
+pub mod LeadsLemmas
+pub mod MarkedLemmas
+pub mod RefutingLemmas
+pub mod SameLemmas
+pub mod SourcesLemmas
+pub mod WrittenLemmas

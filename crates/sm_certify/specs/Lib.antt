@@ -1,0 +1,5 @@
+pub mod Bases
+pub mod Certifying
+pub mod Given
+pub mod Refutes
+pub mod Refuting

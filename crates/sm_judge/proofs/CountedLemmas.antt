@@ -1,0 +1,93 @@
+-- Each event is counted before it happens.
+use Rattle.std.proofs.Common.{◌≡◌, ℕ, suc, ◌+◌, ◌<◌, nat_lt, Bool, true, false, if◌then◌else◌, List, [], ◌∷◌, ◌++◌, length}
+use Rattle.std.proofs.Common.{Some, slice_get, sym, ap, subst, ◌∙◌, ⊎_elim, add-one, arith}
+use Rattle.std.specs.Prelude.{ℤ}
+use Rattle.std.proofs.lemmas.Bool.{cases_Bool, ltb-true, ltb-false}
+use Rattle.sm_num.specs.declared.op.Op.{Op}
+use Rattle.sm_num.specs.Forms.{Linear}
+use Rattle.sm_fm.specs.Elimination.{Event, Cancels, GoesBeyond}
+use Rattle.sm_fm.specs.Taking.{Taking, TakesSum}
+use Rattle.sm_judge.specs.declared.forms.Source.{Source}
+use Rattle.sm_judge.specs.declared.eliminating.ElimLine.{ElimLine}
+use Rattle.sm_judge.specs.Holding.{Seen}
+use Rattle.sm_judge.specs.Refutations.{AreSources, Contradict}
+use Rattle.sm_judge.specs.Summing.{AreSums, AreNumbered}
+use Rattle.sm_judge.specs.Forms.{Walked, Closes, TooFar, GoesOut, counted, eliminated_by}
+use Rattle.sm_judge.proofs.MakingLemmas.{sources_many}
+use Rattle.sm_judge.proofs.SummingLemmas.{sums_more, sums_if, sums_count, sums_contradict, last_at, taken_sum}
+
+-- a step is left
+pub counted_on : (steps count : ℕ) (next : ℕ → Walked) → count < steps → counted steps count next ≡ next (count + 1)
+counted_on steps count next left =
+    ⊎_elim
+    (λ (e : nat_lt count steps ≡ true). ap (λ (b : Bool). if b then next (suc count) else TooFar) e ∙ ap next (sym (add-one count)))
+    (λ (e : nat_lt count steps ≡ false). let wrong = ltb-false count steps e in absurd (omega arith))
+    (cases_Bool (nat_lt count steps))
+
+-- no step is left
+pub counted_out : (steps count : ℕ) (next : ℕ → Walked) → count ≡ steps → counted steps count next ≡ TooFar
+counted_out steps count next none =
+    ⊎_elim
+    (λ (e : nat_lt count steps ≡ true). let wrong = ltb-true count steps e in absurd (omega arith))
+    (λ (e : nat_lt count steps ≡ false). ap (λ (b : Bool). if b then next (suc count) else TooFar) e)
+    (cases_Bool (nat_lt count steps))
+
+module _ (steps count : ℕ) (left : List Event) (next : ℕ → Walked) where
+  -- nothing is left to happen
+  pub walked_end : left ≡ [] → eliminated_by steps count left next ≡ next count
+  walked_end e = ap (λ (es : List Event). eliminated_by steps count es next) e
+
+  -- something is, and no step is left
+  pub walked_steps : (e : Event) (es : List Event) → left ≡ e ∷ es → count ≡ steps → eliminated_by steps count left next ≡ TooFar
+  walked_steps e es is none = ap (λ (all : List Event). eliminated_by steps count all next) is ∙ by e
+    where
+      by : (e : Event) → eliminated_by steps count (e ∷ es) next ≡ TooFar
+      by (Cancels f g t kept wrong) = counted_out steps count (λ (n : ℕ). if wrong then Closes n else eliminated_by steps n es next) none
+      by (GoesBeyond op y z) = counted_out steps count (λ (n : ℕ). GoesOut op y z) none
+
+  -- a sum
+  pub walked_sum : (f g t : ℕ) (kept wrong : Bool) (es : List Event) → left ≡ Cancels f g t kept wrong ∷ es → count < steps →
+      eliminated_by steps count left next ≡ (if wrong then Closes (count + 1) else eliminated_by steps (count + 1) es next)
+  walked_sum f g t kept wrong es is more =
+      ap (λ (all : List Event). eliminated_by steps count all next) is
+      ∙ counted_on steps count (λ (n : ℕ). if wrong then Closes n else eliminated_by steps n es next) more
+
+  -- a sum that isn't a contradiction
+  pub walked_on : (f g t : ℕ) (kept wrong : Bool) (es : List Event) → left ≡ Cancels f g t kept wrong ∷ es → count < steps → wrong ≡ false →
+      eliminated_by steps count left next ≡ eliminated_by steps (count + 1) es next
+  walked_on f g t kept wrong es is more quiet =
+      walked_sum f g t kept wrong es is more
+      ∙ ap (λ (b : Bool). if b then Closes (count + 1) else eliminated_by steps (count + 1) es next) quiet
+
+  -- an operation that leaves the range
+  pub walked_out : (op : Op) (y z : ℤ) (es : List Event) → left ≡ GoesBeyond op y z ∷ es → count < steps →
+      eliminated_by steps count left next ≡ GoesOut op y z
+  walked_out op y z es is more =
+      ap (λ (all : List Event). eliminated_by steps count all next) is ∙ counted_on steps count (λ (n : ℕ). GoesOut op y z) more
+
+-- sums that are kept are recorded
+pub recorded : (forms : List (Linear ℕ)) (es new_es : List ElimLine) (old new : Taking) (e : ElimLine) (kept wrong : Bool) →
+    AreNumbered 0 old.atoms → AreSums forms es old.forms → TakesSum old new e.f e.g e.atom kept wrong →
+    new_es ≡ es ++ (if kept then e ∷ [] else []) → AreSums forms new_es new.forms
+recorded forms es new_es old new e kept wrong own sums takes are =
+    let one = taken_sum old new e kept wrong own takes in
+    let h = one.0 in
+    let more = sums_if kept forms es old.forms e h sums one.1 in
+    subst (λ (l : List ElimLine). AreSums forms l new.forms) (sym are)
+    (subst (λ (l : List (Linear ℕ)). AreSums forms (es ++ (if kept then e ∷ [] else [])) l) (sym one.3) more)
+
+-- the last sum can't hold
+pub contradicted : (b : Seen) (ss : List Source) (forms : List (Linear ℕ)) (es new_es : List ElimLine) (old new : Taking) (e : ElimLine)
+    (kept wrong : Bool) (bad : ℕ) → AreSources b ss forms → AreNumbered 0 old.atoms → AreSums forms es old.forms →
+    TakesSum old new e.f e.g e.atom kept wrong → wrong ≡ true → new_es ≡ es ++ e ∷ [] → bad ≡ length ss + length es →
+    Contradict forms new_es bad
+contradicted b ss forms es new_es old new e kept wrong bad sources own sums takes is are place =
+    let one = taken_sum old new e kept wrong own takes in
+    let h = one.0 in
+    let many = sources_many b ss forms sources in
+    let count = sums_count forms es old.forms sums in
+    let last : bad ≡ length old.forms = omega arith in
+    let at : slice_get (old.forms ++ h ∷ []) bad ≡ Some h =
+    subst (λ (n : ℕ). slice_get (old.forms ++ h ∷ []) n ≡ Some h) (sym last) (last_at old.forms h) in
+    subst (λ (l : List ElimLine). Contradict forms l bad) (sym are)
+    (sums_contradict forms (es ++ e ∷ []) (old.forms ++ h ∷ []) bad h (sums_more forms es old.forms e h sums one.1) at (sym one.2 ∙ is))

@@ -1,0 +1,13 @@
+-- No fact before is refuted.
+use Rattle.std.proofs.Common.{◌≡◌, ℕ, ◌<◌, false, get_or}
+use Rattle.sm_term.specs.Assertions.{Yes}
+use Rattle.sm_term.specs.Tables.{trees_in, sorts_in}
+use Rattle.sm_judge.specs.Holding.{is_refuted}
+use Rattle.sm_judge.specs.Seeing.{seen_in}
+use Rattle.sm_judge.proofs.closing.refuted.Given as goal
+
+abbrev pub invariant-loop-i : goal.invariant-loop-i
+invariant-loop-i g l =
+    let trees = trees_in l.table in
+    let b = seen_in (sorts_in l.table) trees trees l.facts (g.S.Sees.equal l.sees) (g.S.Sees.apart l.sees) in
+    (m : ℕ) → m < l.i → is_refuted b (get_or b.facts m Yes) ≡ false

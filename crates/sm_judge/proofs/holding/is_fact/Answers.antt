@@ -1,0 +1,13 @@
+-- Formulas are told by their numbers.
+use Rattle.std.proofs.Common.{◌∙◌}
+use Rattle.sm_term.specs.Tables.{trees_in, sorts_in}
+use Rattle.sm_term.specs.Formulas.{numbered}
+use Rattle.sm_list.specs.Parts.{all_numbered}
+use Rattle.sm_judge.proofs.SeeingLemmas.{facts_tell}
+use Rattle.sm_judge.proofs.holding.is_fact.Goals as goal
+
+pub returns : goal.returns
+returns c = λ terms equal apart.
+    c.has.ensures
+    ∙ facts_tell (sorts_in c.args.table.now) (trees_in c.args.table.now) c.len-count.ensures.apart (numbered c.args.f.now) c.requires.formula
+    (all_numbered c.args.facts.now) c.requires.facts

@@ -1,0 +1,16 @@
+-- The forms of the terms so far.
+use Rattle.std.proofs.Common.{◌≡◌, ◌≤◌, ◌-◌, ◌++◌, ℕ, List, length}
+use Rattle.sm_num.specs.Forms.{Linear}
+use Rattle.sm_term.specs.Tables.{trees_in}
+use Rattle.sm_theory.specs.Standing.{AreLinearForms}
+use Rattle.sm_judge.proofs.linears.add_linear_forms.Given as goal
+
+abbrev pub invariant-loop-alloc : goal.invariant-loop-alloc
+invariant-loop-alloc l = record {
+  each : AreLinearForms (trees_in l.table) l.forms.items;
+  few : length l.forms.items ≤ length (trees_in l.table);
+  more : (more : List (Linear ℕ)) × (l.forms.items ≡ l.fn.forms.items ++ more);
+}
+
+abbrev pub decreases-loop-alloc : goal.decreases-loop-alloc
+decreases-loop-alloc l = length (trees_in l.table) - length l.forms.items

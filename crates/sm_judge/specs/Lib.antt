@@ -1,0 +1,14 @@
+pub mod AllForms
+pub mod ByCases
+pub mod Closings
+pub mod Forms
+pub mod Holding
+pub mod Keyed
+pub mod Labelled
+pub mod Making
+pub mod Places
+pub mod Refutations
+pub mod Seeing
+pub mod Splits
+pub mod Summing
+pub mod Torn

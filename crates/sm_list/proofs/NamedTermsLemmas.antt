@@ -1,0 +1,71 @@
+-- A certificate whose lines are within a table names only terms of the table.
+use Rattle.std.proofs.Common.{◌≡◌, ◌<◌, ℕ, List, [], ◌∷◌, length, sym, subst}
+use Rattle.std.proofs.lemmas.Option.{slice_get-get_or}
+use Rattle.std.specs.Prelude.{Box}
+use Rattle.std.specs.declared.alloc.Global.{Global}
+use Rattle.sm_term.specs.Terms.{Tree}
+use Rattle.sm_term.specs.Tables.{tree_at}
+use Rattle.sm_theory.specs.declared.line.CertLine.{CertLine}
+use Rattle.sm_theory.specs.declared.line.CertLine.TheVariants as line
+use Rattle.sm_theory.specs.SortedFacts.{EachNamed}
+use Rattle.sm_theory.specs.Views.{line_in, IsLineWithin}
+use Rattle.sm_cert.specs.declared.tree.CertTree.{CertTree}
+use Rattle.sm_cert.specs.declared.tree.CertEnd.TheVariants as ends
+use Rattle.sm_cert.specs.Certificates.{Certificate, Closed, Split}
+use Rattle.sm_cert.specs.NamedTerms.{EachTerm}
+use Rattle.sm_cert.specs.Views.{lines_before, certificate_in, lines_of, AreLinesWithin}
+use Rattle.sm_cert.proofs.CheckLemmas.{tree_closed, tree_split, lines_closed, within_parts}
+use Rattle.sm_cert.proofs.TreeLemmas.{own_within, split_within}
+use Rattle.sm_pairs.proofs.AmongLemmas.{there_among}
+use Rattle.sm_list.specs.Branches.{IsOneOf}
+
+-- the term with a number is one of them
+one_at : (trees : List Tree) (n : ℕ) → n < length trees → IsOneOf trees (tree_at trees n)
+one_at trees n h = there_among trees n (tree_at trees n) (slice_get-get_or trees n _ h)
+
+-- so are those that a line names
+line_names : (trees : List Tree) (l : CertLine) → IsLineWithin (length trees) l → EachNamed (IsOneOf trees) (line_in trees l)
+line_names trees (line.Both n) h = tt
+line_names trees (line.Either n) h = tt
+line_names trees (line.Cases t u) h = (one_at trees t.0 h.0, one_at trees u.0 h.1)
+line_names trees (line.Order n) h = tt
+line_names trees (line.Refl t) h = one_at trees t.0 h
+line_names trees (line.Sym n) h = tt
+line_names trees (line.Trans m n) h = tt
+line_names trees (line.Subst m n) h = tt
+line_names trees (line.Cong t u ns) h = (one_at trees t.0 h.0, one_at trees u.0 h.1)
+line_names trees (line.Same t u) h = (one_at trees t.0 h.0, one_at trees u.0 h.1)
+line_names trees (line.Apart t u) h = (one_at trees t.0 h.0, one_at trees u.0 h.1)
+line_names trees (line.Hit t n) h = one_at trees t.0 h
+line_names trees (line.Miss t u n) h = (one_at trees t.0 h.0, one_at trees u.0 h.1)
+line_names trees (line.Lin n) h = tt
+line_names trees (line.Elim m n t) h = one_at trees t.0 h
+line_names trees (line.Tight n) h = tt
+line_names trees (line.Close n) h = tt
+line_names trees (line.Clash m n) h = tt
+
+-- lines before a certificate
+lines_name : (trees : List Tree) (ls : List CertLine) (c : Certificate) → AreLinesWithin (length trees) ls →
+    EachTerm (IsOneOf trees) c → EachTerm (IsOneOf trees) (lines_before trees ls c)
+lines_name trees [] c h named = named
+lines_name trees (l ∷ ls) c h named = (line_names trees l h.0, lines_name trees ls c h.1 named)
+
+-- a tree that a line closes
+pub closed_names : (trees : List Tree) (t : CertTree) (l : CertLine) → t.last ≡ ends.Close l →
+    AreLinesWithin (length trees) (lines_of t) → EachTerm (IsOneOf trees) (certificate_in trees t)
+closed_names trees t l e within =
+    let parts = within_parts (length trees) t.lines.list.items (l ∷ [])
+    (subst (λ (ls : List CertLine). AreLinesWithin (length trees) ls) (lines_closed t l e) within) in
+    subst (λ (c : Certificate). EachTerm (IsOneOf trees) c) (sym (tree_closed trees t l e))
+    (lines_name trees t.lines.list.items (Closed (line_in trees l)) parts.0 (line_names trees l parts.1.0))
+
+-- a tree that a line splits
+pub split_names : (trees : List Tree) (t : CertTree) (l : CertLine) (c d : Box CertTree Global) → t.last ≡ ends.Split l c d →
+    AreLinesWithin (length trees) (lines_of t) →
+    EachTerm (IsOneOf trees) (certificate_in trees c.value) → EachTerm (IsOneOf trees) (certificate_in trees d.value) →
+    EachTerm (IsOneOf trees) (certificate_in trees t)
+split_names trees t l c d e within first second =
+    subst (λ (k : Certificate). EachTerm (IsOneOf trees) k) (sym (tree_split trees t l c d e))
+    (lines_name trees t.lines.list.items (Split (line_in trees l) (certificate_in trees c.value) (certificate_in trees d.value))
+    (own_within (length trees) t within)
+    (line_names trees l (split_within (length trees) t l c d e within).0, first, second))

@@ -1,0 +1,12 @@
+-- The number is listed, and so its tree.
+use Rattle.std.proofs.Common.{ℕ, List, sym, subst}
+use Rattle.sm_term.specs.Tables.{trees_in}
+use Rattle.sm_list.specs.Listing.{Leads}
+use Rattle.sm_list.proofs.ListingLemmas.{put_leads}
+use Rattle.sm_list.proofs.listing.put.Goals as goal
+
+pub returns : goal.returns
+returns c = λ steps terms leads.
+    let trees = trees_in c.args.table.now in
+    subst (λ (ns : List ℕ). Leads trees ns steps terms) (sym c.in_ok-insert.ensures.keys)
+    (put_leads trees c.len-count.ensures.apart c.args.listed.now.keys steps c.args.n terms c.requires leads)

@@ -1,0 +1,8 @@
+pub mod Branches
+pub mod Listing
+pub mod Own
+pub mod Parts
+pub mod Reading
+pub mod Renumber
+pub mod Renumbered
+pub mod Shared

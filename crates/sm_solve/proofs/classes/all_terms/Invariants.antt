@@ -1,8 +1,0 @@
--- The first terms are listed.
-use Rattle.std.proofs.Common.{◌≡◌}
-use Rattle.std.specs.List.{range_with_len}
-use Rattle.sm_solve.specs.Listing.{numbers_of}
-use Rattle.sm_solve.proofs.classes.all_terms.Given as goal
-
-abbrev pub invariant-loop-n : goal.invariant-loop-n
-invariant-loop-n l = numbers_of l.list.items ≡ range_with_len 0 l.n

@@ -1,9 +1,0 @@
-use Rattle.std.proofs.Common.{refl}
-use Rattle.sm_cert.proofs.CheckLemmas.{tree_closed, lines_closed}
-use Rattle.sm_solve.proofs.draft.closed_tree.Goals as goal
-
-pub returns-clause-certificate : goal.returns-clause-certificate
-returns-clause-certificate c = λ trees. tree_closed trees _ c.args.last refl
-
-pub returns-clause-lines : goal.returns-clause-lines
-returns-clause-lines c = lines_closed _ c.args.last refl

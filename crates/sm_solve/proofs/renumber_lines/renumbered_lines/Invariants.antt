@@ -1,6 +1,0 @@
-use Rattle.std.proofs.Common.{take}
-use Rattle.sm_solve.specs.Renumber.{AreLinesUnder}
-use Rattle.sm_solve.proofs.renumber_lines.renumbered_lines.Given as goal
-
-abbrev pub invariant-loop-line : goal.invariant-loop-line
-invariant-loop-line l = AreLinesUnder l.numbers (take l.line-index l.lines) l.list.items

@@ -1,8 +1,0 @@
--- None of the forms before is a contradiction.
-use Rattle.std.proofs.Common.{◌≡◌, drop}
-use Rattle.std.specs.List.{list_any}
-use Rattle.sm_num.specs.Tightening.{is_contradictory}
-use Rattle.sm_solve.proofs.summing.first_contradiction.Given as goal
-
-abbrev pub invariant-loop-i : goal.invariant-loop-i
-invariant-loop-i l = list_any is_contradictory (drop l.i l.forms) ≡ list_any is_contradictory l.forms
