@@ -19,10 +19,10 @@ use Rattle.sm_plan.specs.Copies.{Copies, copies, has, is_inhabited}
 use Rattle.sm_plan.specs.Masks.{set_of}
 use Rattle.sm_plan.specs.Views.{code_before}
 use Rattle.sm_plan.proofs.TurnsMade.{filter_push}
-use Rattle.sm_product.specs.CopySets.{only_in, with_member}
-use Rattle.sm_product.specs.FilledCode.{piece_of, AreFilledAs}
+use Rattle.sm_moves.specs.CopySets.{only_in, with_member}
+use Rattle.sm_moves.specs.FilledCode.{piece_of, AreFilledAs}
+use Rattle.sm_sketch.specs.Sketches.{Sketch, forking}
 use Rattle.sm_product.specs.Products.{where_any, forked, product}
-use Rattle.sm_product.specs.Sketches.{Sketch, forking}
 use denote.Bor.{Bor}
 
 -- filled statements, at the sorts of a wider table

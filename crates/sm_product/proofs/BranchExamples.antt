@@ -16,11 +16,11 @@ use Rattle.sm_term.specs.Assertions.{Assertion, Eq, Ne, Le, Or}
 use Rattle.sm_plan.specs.Copies.{copies, has}
 use Rattle.sm_plan.specs.Nodes.{Fork}
 use Rattle.sm_plan.specs.Plans.{size}
-use Rattle.sm_product.specs.CodeShapes.{own_statements}
-use Rattle.sm_product.specs.CopySets.{all_copies, only_in}
-use Rattle.sm_product.specs.Guards.{guard_templates}
-use Rattle.sm_product.specs.Literals.{literals_of}
-use Rattle.sm_product.specs.Sketches.{Sketch, Draw, Plain, BlockSite, Over, More}
+use Rattle.sm_moves.specs.CodeShapes.{own_statements}
+use Rattle.sm_moves.specs.CopySets.{all_copies, only_in}
+use Rattle.sm_template.specs.Guards.{guard_templates}
+use Rattle.sm_template.specs.Literals.{literals_of}
+use Rattle.sm_sketch.specs.Sketches.{Sketch, Draw, Plain, BlockSite, Over, More}
 use Rattle.sm_product.specs.Products.{sketch_of}
 use Rattle.sm_product.specs.ProductPlans.{plan_of, full_choice}
 use Rattle.sm_product.proofs.LoopExamples.{steps, the_end, same, one_more, as_before, of_number}

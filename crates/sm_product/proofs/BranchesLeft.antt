@@ -8,15 +8,15 @@ use Rattle.sm_plan.specs.Statements.{loop_body}
 use Rattle.sm_plan.proofs.CopiesLemmas.{one_copy}
 use Rattle.sm_plan.proofs.SortedCode.{append_well}
 use Rattle.sm_plan.proofs.TurnsMade.{bodies_ready}
-use Rattle.sm_product.specs.CodeShapes.{by_first_block, by_second_block, has_hole}
-use Rattle.sm_product.specs.CopySets.{all_copies, only_in}
+use Rattle.sm_moves.specs.CodeShapes.{by_first_block, by_second_block, has_hole}
+use Rattle.sm_moves.specs.CopySets.{all_copies, only_in}
+use Rattle.sm_moves.specs.Moves.{Forks, Loops, move_of, moved_on}
+use Rattle.sm_moves.proofs.CodesLemmas.{loop_left, blocks_no_hole, fewer_ways}
+use Rattle.sm_moves.proofs.SetsLemmas.{IsWithin}
 use Rattle.sm_product.specs.LoopTurns.{HaveLoops}
 use Rattle.sm_product.specs.MiniProducts.{statements_left}
-use Rattle.sm_product.specs.Moves.{Forks, Loops, move_of, moved_on}
 use Rattle.sm_product.specs.Paths.{IsFilled}
-use Rattle.sm_product.proofs.CodesLemmas.{loop_left, blocks_no_hole, fewer_ways}
 use Rattle.sm_product.proofs.FitsLemmas.{bodies_left}
-use Rattle.sm_product.proofs.SetsLemmas.{IsWithin}
 use Rattle.sm_product.proofs.SmallerLemmas.{IsRest, fewer_in, fewer_of, one_smaller, moved_less, moved_smaller, bodies_less}
 use Rattle.sm_product.proofs.SmallerLemmas.{bodies_smaller}
 use Rattle.sm_product.proofs.StraightLemmas.{rest_more, filled_is, says_of}

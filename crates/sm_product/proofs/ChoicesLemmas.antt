@@ -15,13 +15,14 @@ use Rattle.sm_term.specs.Assertions.{Assertion, conj}
 use Rattle.sm_term.specs.Symbolic.{term_of}
 use Rattle.sm_term.specs.Terms.{Tree}
 use Rattle.sm_plan.specs.Copies.{Copies}
-use Rattle.sm_product.specs.Choices.{Choice, chosen_at, picked, halved, conjoined, kept_by, all_chosen}
-use Rattle.sm_product.specs.Guards.{slots, weaker}
+use Rattle.sm_moves.proofs.SetsLemmas.{Each}
+use Rattle.sm_template.specs.Guards.{slots, weaker}
+use Rattle.sm_template.proofs.TemplatesLemmas.{HoldsOfTemplates, of_block_templates, of_loop_templates, each_take, each_drop}
+use Rattle.sm_sketch.specs.Choices.{Choice, chosen_at, picked, halved, conjoined, kept_by, all_chosen}
+use Rattle.sm_sketch.specs.Sketches.{SketchNode, site_at, sites_of}
+use Rattle.sm_sketch.proofs.PickedLemmas.{each_picked}
 use Rattle.sm_product.specs.Products.{sketch_of}
-use Rattle.sm_product.specs.Sketches.{SketchNode, site_at, sites_of}
 use Rattle.sm_product.proofs.NodesLemmas.{HoldsOfNodes, sketch_nodes, each_site}
-use Rattle.sm_product.proofs.SetsLemmas.{Each}
-use Rattle.sm_product.proofs.TemplatesLemmas.{HoldsOfTemplates, of_block_templates, of_loop_templates, each_take, each_drop, each_picked}
 
 -- a formula that is no conjunction
 abbrev pub IsSingle : Assertion → Type 0

@@ -25,19 +25,19 @@ use Rattle.sm_plan.specs.Views.{code_before}
 use Rattle.sm_plan.proofs.CopiesLemmas.{In, in_map, in_filter}
 use Rattle.sm_plan.proofs.SortedCode.{front_well, rest_well}
 use Rattle.sm_plan.proofs.TurnsMade.{masked}
-use Rattle.sm_product.specs.declared.error.ProductError.{ProductError}
-use Rattle.sm_product.specs.declared.error.ProductError.TheVariants as error
-use Rattle.sm_product.specs.declared.sketch.Sketch.{Sketch}
-use Rattle.sm_product.specs.CodeShapes.{has_hole, own_statements}
+use Rattle.sm_moves.specs.CodeShapes.{has_hole, own_statements}
+use Rattle.sm_moves.specs.FilledCode.{piece_of, AreFilledAs, first_inside, second_inside}
+use Rattle.sm_moves.proofs.CodesLemmas.{own_front, own_rest}
+use Rattle.sm_sketch.specs.declared.error.ProductError.{ProductError}
+use Rattle.sm_sketch.specs.declared.error.ProductError.TheVariants as error
+use Rattle.sm_sketch.specs.declared.sketch.Sketch.{Sketch}
+use Rattle.sm_sketch.specs.Errors.{TellsSketch}
+use Rattle.sm_sketch.specs.Sketches as plain
+use Rattle.sm_sketch.specs.SketchViews.{sketch_in, IsSketchReady}
 use Rattle.sm_product.specs.Drawn.{IsDrawn}
-use Rattle.sm_product.specs.Errors.{TellsSketch}
-use Rattle.sm_product.specs.FilledCode.{piece_of, AreFilledAs, first_inside, second_inside}
 use Rattle.sm_product.specs.Products.{product_if, product_while, product}
-use Rattle.sm_product.specs.Sketches as plain
-use Rattle.sm_product.specs.SketchViews.{sketch_in, IsSketchReady}
-use Rattle.sm_product.proofs.CodesLemmas.{own_front, own_rest}
 use Rattle.sm_product.proofs.GrowthLemmas.{IsNoLarger, part_large, after_product, turn_of_loop}
-use Rattle.sm_product.proofs.PiecesLemmas.{product-append}
+use Rattle.sm_product.proofs.ProductAppends.{product-append}
 use denote.Bor.{Bor}
 
 -- an error that tells of a part tells of the whole

@@ -20,14 +20,14 @@ use Rattle.sm_plan.specs.Plans.{expand_all, count}
 use Rattle.sm_plan.specs.States.{State}
 use Rattle.sm_plan.specs.Statements.{is_over, is_long, front, rest_after, is_loop, loop_body}
 use Rattle.sm_plan.specs.Successors as next
-use Rattle.sm_product.specs.CodeShapes.{is_simple, is_fork, by_first_block, by_second_block}
-use Rattle.sm_product.specs.CopySets.{only_in}
+use Rattle.sm_moves.specs.CodeShapes.{is_simple, is_fork, by_first_block, by_second_block}
+use Rattle.sm_moves.specs.CopySets.{only_in}
+use Rattle.sm_moves.specs.Moves.{moved_on}
+use Rattle.sm_sketch.specs.Sketches.{SketchNode, Plain, LoopSite, BlockSite, Sketch, Draw}
+use Rattle.sm_sketch.specs.Sketches.{Sketches, Over, More}
+use Rattle.sm_sketch.specs.Sketches.{site_at, sites_of, sites_below, node_with, plan_with}
+use Rattle.sm_sketch.specs.Sketches.{plans_with}
 use Rattle.sm_product.specs.Laws.{AreKept}
-use Rattle.sm_product.specs.Moves.{moved_on}
-use Rattle.sm_product.specs.Sketches.{SketchNode, Plain, LoopSite, BlockSite, Sketch, Draw}
-use Rattle.sm_product.specs.Sketches.{Sketches, Over, More}
-use Rattle.sm_product.specs.Sketches.{site_at, sites_of, sites_below, node_with, plan_with}
-use Rattle.sm_product.specs.Sketches.{plans_with}
 
 -- a node that is chosen may stand where this is left
 abbrev pub PlainOpens : Node → (Copy → Code) → Type 0

@@ -6,14 +6,14 @@ use Rattle.sm_syntax.specs.claim.ConflictFree.{Copy, O, A, B, M}
 use Rattle.sm_term.specs.SameTerms.{is_copy}
 use Rattle.sm_plan.specs.Copies.{Copies, has, no_copies, with_copy}
 use Rattle.sm_plan.proofs.CopiesLemmas.{has_that}
-use Rattle.sm_product.specs.CodeShapes.{is_fork, by_first_block, by_second_block}
-use Rattle.sm_product.specs.CopySets.{members, with_member, without}
+use Rattle.sm_moves.specs.CodeShapes.{is_fork, by_first_block, by_second_block}
+use Rattle.sm_moves.specs.CopySets.{members, with_member, without}
+use Rattle.sm_moves.proofs.CodesLemmas.{neither}
+use Rattle.sm_moves.proofs.SetsLemmas.{IsOneOf, among_members, members_wait, Waits, copy_itself}
+use Rattle.sm_moves.proofs.SetsLemmas.{same_copies, other_copies}
+use Rattle.sm_sketch.specs.Sketches.{Sketch}
 use Rattle.sm_product.specs.Products.{forked}
-use Rattle.sm_product.specs.Sketches.{Sketch}
-use Rattle.sm_product.proofs.CodesLemmas.{neither}
 use Rattle.sm_product.proofs.FitsLemmas.{Fits, fits_same}
-use Rattle.sm_product.proofs.SetsLemmas.{IsOneOf, among_members, members_wait, Waits, copy_itself}
-use Rattle.sm_product.proofs.SetsLemmas.{same_copies, other_copies}
 
 -- an if of each copy of a set, nothing for the others
 abbrev pub ifs_of : (Copy → Condition) → (Copy → Code) → (Copy → Code) → Copies → Copy → Code

@@ -15,15 +15,16 @@ use Rattle.sm_plan.specs.Copies.{Copies}
 use Rattle.sm_plan.specs.Nodes.{IsFreshAt}
 use Rattle.sm_plan.specs.Plans.{IsFresh, AreFresh, size}
 use Rattle.sm_plan.specs.States.{place, keeps_goals}
-use Rattle.sm_product.specs.Choices.{Choice, chosen_at, picked, halved, kept_by}
-use Rattle.sm_product.specs.Guards.{slots, weaker}
+use Rattle.sm_moves.proofs.SetsLemmas.{Each}
+use Rattle.sm_template.specs.Guards.{slots, weaker}
+use Rattle.sm_template.specs.Templates.{block_templates, loop_templates}
+use Rattle.sm_template.proofs.TemplatesLemmas.{HoldsOfTemplates, of_block_templates, of_loop_templates, each_take, each_drop}
+use Rattle.sm_sketch.specs.Choices.{Choice, chosen_at, picked, halved, kept_by}
+use Rattle.sm_sketch.specs.Sketches.{SketchNode, Sketch, Draw, Sketches, Over, More, site_at, sites_of, node_with, plan_with, plans_with}
+use Rattle.sm_sketch.proofs.PickedLemmas.{each_picked}
 use Rattle.sm_product.specs.ProductPlans.{plan_of}
 use Rattle.sm_product.specs.Products.{sketch_of}
-use Rattle.sm_product.specs.Sketches.{SketchNode, Sketch, Draw, Sketches, Over, More, site_at, sites_of, node_with, plan_with, plans_with}
-use Rattle.sm_product.specs.Templates.{block_templates, loop_templates}
 use Rattle.sm_product.proofs.NodesLemmas.{EachNode, EachBelow, HoldsOfNodes, sketch_nodes}
-use Rattle.sm_product.proofs.SetsLemmas.{Each}
-use Rattle.sm_product.proofs.TemplatesLemmas.{HoldsOfTemplates, of_block_templates, of_loop_templates, each_take, each_drop, each_picked}
 
 -- a conjunction of formulas below a number is below it
 halved_below : (k n : ℕ) (fs : List Assertion) → Each (IsFormBelow k) fs → IsFormBelow k (halved n fs)

@@ -7,19 +7,19 @@ use Rattle.sm_syntax.specs.text.Parts.{Parts}
 use Rattle.sm_plan.specs.Copies.{Copies, has, is_inhabited, subsets, with_copy}
 use Rattle.sm_plan.specs.Nodes.{Step, Abs}
 use Rattle.sm_plan.specs.Statements.{rest_after}
-use Rattle.sm_product.specs.CodeShapes.{by_first_block, by_second_block}
-use Rattle.sm_product.specs.CopySets.{members}
+use Rattle.sm_moves.specs.CodeShapes.{by_first_block, by_second_block}
+use Rattle.sm_moves.specs.CopySets.{members}
+use Rattle.sm_moves.specs.Moves.{Move, Done, Steps, Summaries, Forks, Loops, move_of, moved_on}
+use Rattle.sm_moves.proofs.CodesLemmas.{simple_left, loop_left, rest_no_hole, blocks_no_hole}
+use Rattle.sm_moves.proofs.CodesLemmas.{fewer_after, fewer_ways}
+use Rattle.sm_moves.proofs.MovesLemmas.{MoveSays, move_says}
+use Rattle.sm_moves.proofs.SetsLemmas.{Each, each_of_all, IsWithin, each_subset}
+use Rattle.sm_template.specs.Templates.{loop_templates}
+use Rattle.sm_sketch.specs.Sketches.{Sketch, LoopSite, Draw, More, ends, then_draw, each_of}
+use Rattle.sm_sketch.specs.Sketches.{forking, turns_then, looped}
 use Rattle.sm_product.specs.MiniProducts.{drawn, mini_product, statements_left, side_by_side}
-use Rattle.sm_product.specs.Moves.{Move, Done, Steps, Summaries, Forks, Loops, move_of, moved_on}
-use Rattle.sm_product.specs.Sketches.{Sketch, LoopSite, Draw, More, ends, then_draw, each_of}
-use Rattle.sm_product.specs.Sketches.{forking, turns_then, looped}
-use Rattle.sm_product.specs.Templates.{loop_templates}
-use Rattle.sm_product.proofs.CodesLemmas.{simple_left, loop_left, rest_no_hole, blocks_no_hole}
-use Rattle.sm_product.proofs.CodesLemmas.{fewer_after, fewer_ways}
 use Rattle.sm_product.proofs.FitsLemmas.{bodies_left}
 use Rattle.sm_product.proofs.MiniLemmas.{nothing_left}
-use Rattle.sm_product.proofs.MovesLemmas.{MoveSays, move_says}
-use Rattle.sm_product.proofs.SetsLemmas.{Each, each_of_all, IsWithin, each_subset}
 use Rattle.sm_product.proofs.SmallerLemmas.{IsRest, one_smaller, moved_smaller, bodies_smaller}
 
 -- two ways of drawing are the same for rests with at most n statements

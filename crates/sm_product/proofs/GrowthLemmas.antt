@@ -10,15 +10,15 @@ use Rattle.sm_plan.specs.Copies.{Copies, with_copy, no_copies, is_inhabited, has
 use Rattle.sm_plan.specs.Nodes.{Node, Step, Abs, Fork}
 use Rattle.sm_plan.specs.Statements.{rest_after, loop_body}
 use Rattle.sm_plan.proofs.CopiesLemmas.{In}
-use Rattle.sm_product.specs.CodeShapes.{by_first_block, by_second_block, has_hole, has_fork, own_statements}
-use Rattle.sm_product.specs.CopySets.{members, only_in}
+use Rattle.sm_moves.specs.CodeShapes.{by_first_block, by_second_block, has_hole, has_fork, own_statements}
+use Rattle.sm_moves.specs.CopySets.{members, only_in}
+use Rattle.sm_moves.specs.Moves.{Move, Done, Steps, Summaries, Forks, Loops, move_of, moved_on, is_shared}
+use Rattle.sm_template.specs.Templates.{block_templates, loop_templates}
+use Rattle.sm_sketch.specs.SketchSizes.{sketch_size, sizes_below, sketch_depth, deepest_below, is_branching_node, IsTooLarge}
+use Rattle.sm_sketch.specs.Sketches.{SketchNode, Plain, LoopSite, BlockSite, Sketch, Draw, Sketches, Over, More}
+use Rattle.sm_sketch.specs.Sketches.{ends, then_draw, each_of, forking, turns_then, looped, apart}
 use Rattle.sm_product.specs.MiniProducts.{drawn, mini_product, side_by_side, statements_left}
-use Rattle.sm_product.specs.Moves.{Move, Done, Steps, Summaries, Forks, Loops, move_of, moved_on, is_shared}
 use Rattle.sm_product.specs.Products.{where_any, forked, branched, product_if, product_while, filled, product}
-use Rattle.sm_product.specs.SketchSizes.{sketch_size, sizes_below, sketch_depth, deepest_below, is_branching_node, IsTooLarge}
-use Rattle.sm_product.specs.Sketches.{SketchNode, Plain, LoopSite, BlockSite, Sketch, Draw, Sketches, Over, More}
-use Rattle.sm_product.specs.Sketches.{ends, then_draw, each_of, forking, turns_then, looped, apart}
-use Rattle.sm_product.specs.Templates.{block_templates, loop_templates}
 
 -- a sketch has at most the nodes of another, and branches no deeper
 pub record IsNoLarger (p whole : Sketch) : Type 0 where

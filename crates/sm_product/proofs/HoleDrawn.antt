@@ -6,16 +6,16 @@ use Rattle.sm_syntax.specs.claim.Syntax.{Code}
 use Rattle.sm_syntax.specs.text.Parts.{Parts}
 use Rattle.sm_term.specs.Tables.{TableValue}
 use Rattle.sm_plan.specs.Copies.{Copies}
-use Rattle.sm_product.specs.declared.error.ProductError.{ProductError}
-use Rattle.sm_product.specs.declared.sketch.Sketch.{Sketch}
-use Rattle.sm_product.specs.CodeShapes.{has_fork, own_statements}
-use Rattle.sm_product.specs.CopySets.{members}
+use Rattle.sm_moves.specs.CodeShapes.{has_fork, own_statements}
+use Rattle.sm_moves.specs.CopySets.{members}
+use Rattle.sm_moves.specs.Moves.{is_shared}
+use Rattle.sm_template.specs.Templates.{block_templates}
+use Rattle.sm_sketch.specs.declared.error.ProductError.{ProductError}
+use Rattle.sm_sketch.specs.declared.sketch.Sketch.{Sketch}
+use Rattle.sm_sketch.specs.Sketches as plain
 use Rattle.sm_product.specs.Drawn.{IsDrawn}
 use Rattle.sm_product.specs.MiniProducts.{side_by_side}
-use Rattle.sm_product.specs.Moves.{is_shared}
 use Rattle.sm_product.specs.Products.{filled}
-use Rattle.sm_product.specs.Sketches as plain
-use Rattle.sm_product.specs.Templates.{block_templates}
 use Rattle.sm_product.proofs.DrawnLemmas.{drawn_same}
 
 module _ (t : Parts) (w : TableValue) (set : Copies) (given code : Copy → Code) (same : given ≡ code) (p : plain.Sketch)

@@ -9,7 +9,7 @@ use Rattle.sm_syntax.specs.text.Conditions.{Section, Refusal, ListOf, HoleInFill
 use Rattle.sm_syntax.specs.text.Conditions.{first_outside, first_of_all}
 use Rattle.sm_syntax.specs.text.Conditions.{holes_of, holes_inside, hole_in_filling, first_refusal}
 use Rattle.sm_syntax.specs.text.Parts.{Parts}
-use Rattle.sm_product.specs.CodeShapes.{has_hole}
+use Rattle.sm_moves.specs.CodeShapes.{has_hole}
 use Rattle.sm_product.specs.Laws.{ValidHasNoHole}
 
 -- neither of two lists has an item

@@ -7,16 +7,17 @@ use Rattle.sm_term.specs.Assertions.{Assertion}
 use Rattle.sm_plan.specs.Nodes.{is_branching}
 use Rattle.sm_plan.specs.Plans.{Due, Fault, size, sizes, branches, most_branches, obligations}
 use Rattle.sm_expand.proofs.WholeLemmas.{too_deep}
-use Rattle.sm_product.specs.declared.error.ProductError.{ProductError}
-use Rattle.sm_product.specs.declared.error.ProductError.TheVariants as error
-use Rattle.sm_product.specs.Errors.{TellsSketch, TellsTask}
+use Rattle.sm_sketch.specs.declared.error.ProductError.{ProductError}
+use Rattle.sm_sketch.specs.declared.error.ProductError.TheVariants as error
+use Rattle.sm_sketch.specs.Errors.{TellsSketch}
+use Rattle.sm_sketch.specs.Choices.{kept_by}
+use Rattle.sm_sketch.specs.Sketches.{SketchNode, Plain, LoopSite, BlockSite, Sketch, Draw, Sketches, Over, More}
+use Rattle.sm_sketch.specs.Sketches.{site_at, sites_of, node_with, plan_with, plans_with}
+use Rattle.sm_sketch.specs.SketchSizes.{is_branching_node, sketch_size, sizes_below, sketch_depth, deepest_below, IsTooLarge}
+use Rattle.sm_product.specs.Errors.{TellsTask}
 use Rattle.sm_product.specs.ProductPlans.{plan_of, full_choice}
 use Rattle.sm_product.specs.Products.{sketch_of}
 use Rattle.sm_product.specs.Sizes.{goals_in, facts_in, is_within, is_small}
-use Rattle.sm_product.specs.Choices.{kept_by}
-use Rattle.sm_product.specs.Sketches.{SketchNode, Plain, LoopSite, BlockSite, Sketch, Draw, Sketches, Over, More}
-use Rattle.sm_product.specs.Sketches.{site_at, sites_of, node_with, plan_with, plans_with}
-use Rattle.sm_product.specs.SketchSizes.{is_branching_node, sketch_size, sizes_below, sketch_depth, deepest_below, IsTooLarge}
 
 module _ (keep : ℕ → List Assertion → Assertion) where
   -- a plan of a sketch has its nodes

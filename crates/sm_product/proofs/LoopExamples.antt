@@ -14,8 +14,8 @@ use Rattle.sm_term.specs.Assertions.{Assertion, Eq, Ne, Le, Or}
 use Rattle.sm_plan.specs.Limits.{is_kept, is_shallow}
 use Rattle.sm_plan.specs.Nodes.{Step, Abs, Ends}
 use Rattle.sm_plan.specs.Plans.{size, Due, Fault, obligations, nodes_of}
-use Rattle.sm_product.specs.CopySets.{all_copies}
-use Rattle.sm_product.specs.Sketches.{Sketch, Sketches, Draw, Plain, LoopSite, Over, More, sites_of}
+use Rattle.sm_moves.specs.CopySets.{all_copies}
+use Rattle.sm_sketch.specs.Sketches.{Sketch, Sketches, Draw, Plain, LoopSite, Over, More, sites_of}
 use Rattle.sm_product.specs.Products.{sketch_of}
 use Rattle.sm_product.specs.ProductPlans.{site_count, templates, plan_of, full_choice}
 use Rattle.sm_product.specs.Sizes.{goals_in, facts_in, is_within, is_small}

@@ -4,15 +4,15 @@ use Rattle.sm_syntax.specs.claim.Syntax.{Code}
 use Rattle.sm_syntax.specs.claim.ConflictFree.{Copy}
 use Rattle.sm_syntax.specs.text.Parts.{Parts}
 use Rattle.sm_plan.specs.Copies.{Copies}
-use Rattle.sm_product.specs.declared.error.ProductError.{ProductError}
+use Rattle.sm_moves.specs.Moves.{Move, move_of}
+use Rattle.sm_sketch.specs.declared.error.ProductError.{ProductError}
+use Rattle.sm_sketch.specs.Errors.{TellsSketch}
+use Rattle.sm_sketch.specs.Sketches.{Sketch}
+use Rattle.sm_sketch.specs.SketchSizes.{sketch_size, sketch_depth}
 use Rattle.sm_product.specs.declared.rooms.Room.{Room}
-use Rattle.sm_product.specs.Errors.{TellsSketch}
 use Rattle.sm_product.specs.MiniProducts.{drawn, side_by_side}
-use Rattle.sm_product.specs.Moves.{Move, move_of}
 use Rattle.sm_product.specs.Paths.{IsFilled, moves_before}
 use Rattle.sm_product.specs.Rooms.{IsRoom, TellsBeyond}
-use Rattle.sm_product.specs.Sketches.{Sketch}
-use Rattle.sm_product.specs.SketchSizes.{sketch_size, sketch_depth}
 use Rattle.sm_product.proofs.RoomLemmas.{part_beyond, limit_beyond}
 use Rattle.sm_product.proofs.StraightLemmas.{one_drawn, moves_grow}
 

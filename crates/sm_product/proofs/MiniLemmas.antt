@@ -9,18 +9,18 @@ use Rattle.sm_plan.specs.Copies.{Copies, has, is_inhabited, with_copy}
 use Rattle.sm_plan.specs.Statements.{is_over, rest_after, is_loop, loop_body}
 use Rattle.sm_plan.proofs.CopiesLemmas.{one_copy}
 use Rattle.sm_plan.proofs.StatementsLemmas.{over_is}
-use Rattle.sm_product.specs.CodeShapes.{has_hole, by_first_block, by_second_block, statements_in}
+use Rattle.sm_moves.specs.CodeShapes.{has_hole, by_first_block, by_second_block, statements_in}
+use Rattle.sm_moves.specs.Moves.{Move, Done, Steps, Summaries, Forks, Loops, move_of, moved_on}
+use Rattle.sm_moves.proofs.CodesLemmas.{long_append, rest_append, simple_left, simple_append}
+use Rattle.sm_moves.proofs.CodesLemmas.{fork_append, loop_left, loop_append}
+use Rattle.sm_moves.proofs.CodesLemmas.{rest_no_hole, blocks_no_hole, fewer_after, fewer_ways}
+use Rattle.sm_moves.proofs.MovesLemmas.{MoveSays, move_says}
+use Rattle.sm_moves.proofs.SetsLemmas.{IsWithin}
+use Rattle.sm_template.specs.Templates.{loop_templates}
+use Rattle.sm_sketch.specs.Sketches.{Sketch, ends}
 use Rattle.sm_product.specs.MiniProducts.{drawn, mini_product}
-use Rattle.sm_product.specs.Moves.{Move, Done, Steps, Summaries, Forks, Loops, move_of, moved_on}
-use Rattle.sm_product.specs.Sketches.{Sketch, ends}
-use Rattle.sm_product.specs.Templates.{loop_templates}
-use Rattle.sm_product.proofs.CodesLemmas.{long_append, rest_append, simple_left, simple_append}
-use Rattle.sm_product.proofs.CodesLemmas.{fork_append, loop_left, loop_append}
-use Rattle.sm_product.proofs.CodesLemmas.{rest_no_hole, blocks_no_hole, fewer_after, fewer_ways}
 use Rattle.sm_product.proofs.DrawingLemmas.{summaries_fit, looped_fits, ends_fit}
 use Rattle.sm_product.proofs.FitsLemmas.{Fits, fits_same, bodies_left}
-use Rattle.sm_product.proofs.MovesLemmas.{MoveSays, move_says}
-use Rattle.sm_product.proofs.SetsLemmas.{IsWithin}
 use Rattle.sm_product.proofs.SmallerLemmas.{IsRest, one_smaller, moved_smaller, bodies_smaller}
 
 -- the code of each copy, and then other code

@@ -13,15 +13,15 @@ use Rattle.sm_plan.specs.Plans.{Due, Fault, Wrong, Deep, due, joined, opened, ex
 use Rattle.sm_plan.specs.Plans.{count, size, branches, obligations}
 use Rattle.sm_plan.specs.States.{State, start_state}
 use Rattle.sm_plan.specs.Statements.{is_long, is_loop}
-use Rattle.sm_product.specs.Choices.{Choice, kept_by}
+use Rattle.sm_sketch.specs.Choices.{Choice, kept_by}
+use Rattle.sm_sketch.specs.Sketches.{SketchNode, Plain, LoopSite, BlockSite, Sketch, Draw}
+use Rattle.sm_sketch.specs.Sketches.{Sketches, Over, More}
+use Rattle.sm_sketch.specs.Sketches.{site_at, sites_of, sites_below, node_with, plan_with}
+use Rattle.sm_sketch.specs.Sketches.{plans_with}
 use Rattle.sm_product.specs.Laws.{AreKept, ProductExpands}
 use Rattle.sm_product.specs.ProductPlans.{plan_of}
 use Rattle.sm_product.specs.Products.{sketch_of}
 use Rattle.sm_product.proofs.ProductLemmas.{plan_expands}
-use Rattle.sm_product.specs.Sketches.{SketchNode, Plain, LoopSite, BlockSite, Sketch, Draw}
-use Rattle.sm_product.specs.Sketches.{Sketches, Over, More}
-use Rattle.sm_product.specs.Sketches.{site_at, sites_of, sites_below, node_with, plan_with}
-use Rattle.sm_product.specs.Sketches.{plans_with}
 
 -- what is opened, where obligations come of it
 pub opened_back : (o : Option Opened) (w : Fault) (f : Opened → Result (List Due) Fault) (ds : List Due) → opened o w f ≡ Ok ds →

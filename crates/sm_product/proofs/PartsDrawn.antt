@@ -8,17 +8,17 @@ use Rattle.sm_term.specs.Assertions.{Assertion}
 use Rattle.sm_term.specs.Tables.{TableValue, trees_in, sorts_in}
 use Rattle.sm_term.specs.TableLaws.{Widens}
 use Rattle.sm_plan.specs.Copies.{Copies, with_copy}
-use Rattle.sm_product.specs.declared.site.SiteContext.{SiteContext}
-use Rattle.sm_product.specs.declared.sketch.Sketch as own
-use Rattle.sm_product.specs.CodeShapes.{by_first_block, by_second_block}
+use Rattle.sm_moves.specs.CodeShapes.{by_first_block, by_second_block}
+use Rattle.sm_moves.specs.Moves.{Forks, Loops, moved_on}
+use Rattle.sm_template.specs.declared.site.SiteContext.{SiteContext}
+use Rattle.sm_template.specs.Sites.{IsSiteReady}
+use Rattle.sm_template.specs.Templates.{loop_templates}
+use Rattle.sm_sketch.specs.declared.sketch.Sketch as own
+use Rattle.sm_sketch.specs.SketchViews.{sketch_in, IsSketchReady}
+use Rattle.sm_sketch.specs.Sketches.{Sketch, forking, looped}
+use Rattle.sm_sketch.proofs.SketchesWiden.{sketch_stays}
 use Rattle.sm_product.specs.LoopTurns.{turn_of}
 use Rattle.sm_product.specs.MiniProducts.{drawn, side_by_side}
-use Rattle.sm_product.specs.Moves.{Forks, Loops, moved_on}
-use Rattle.sm_product.specs.Sites.{IsSiteReady}
-use Rattle.sm_product.specs.SketchViews.{sketch_in, IsSketchReady}
-use Rattle.sm_product.specs.Sketches.{Sketch, forking, looped}
-use Rattle.sm_product.specs.Templates.{loop_templates}
-use Rattle.sm_product.proofs.SketchesWiden.{sketch_stays}
 
 module _ (v w : TableValue) (wider : Widens v w) where
   pub still_drawn : (s : own.Sketch) (p : Sketch) → IsSketchReady (sorts_in v) (trees_in v) s →

@@ -15,26 +15,26 @@ use Rattle.sm_plan.specs.Plans.{Deep, branches, expand, obligations}
 use Rattle.sm_plan.specs.Statements.{is_long, front, rest_after, is_loop, loop_body}
 use Rattle.sm_plan.specs.States.{start_state}
 use Rattle.sm_plan.proofs.CopiesLemmas.{has_that}
-use Rattle.sm_product.specs.Choices.{Choice, kept_by}
-use Rattle.sm_product.specs.CodeShapes.{is_simple, has_hole, has_fork, own_statements}
-use Rattle.sm_product.specs.CopySets.{all_copies, members, without, only_in}
+use Rattle.sm_moves.specs.CodeShapes.{is_simple, has_hole, has_fork, own_statements}
+use Rattle.sm_moves.specs.CopySets.{all_copies, members, without, only_in}
+use Rattle.sm_moves.specs.Moves.{is_shared, moved_on}
+use Rattle.sm_moves.proofs.CodesLemmas.{own_long, own_front, own_rest}
+use Rattle.sm_moves.proofs.MovesLemmas.{uninhabited}
+use Rattle.sm_moves.proofs.SetsLemmas.{IsWithin}
+use Rattle.sm_template.specs.Templates.{block_templates, loop_templates}
+use Rattle.sm_sketch.specs.Choices.{Choice, kept_by}
+use Rattle.sm_sketch.specs.Sketches.{Sketch, ends, each_of, apart, sites_of}
 use Rattle.sm_product.specs.Laws.{HaveNoHole, AreKept}
 use Rattle.sm_product.specs.MiniProducts.{statements_left, side_by_side}
-use Rattle.sm_product.specs.Moves.{is_shared, moved_on}
 use Rattle.sm_product.specs.ProductPlans.{plan_of}
 use Rattle.sm_product.specs.Products.{where_any, forked, branched, product_if, product_while}
 use Rattle.sm_product.specs.Products.{filled, product, sketch_of}
-use Rattle.sm_product.specs.Sketches.{Sketch, ends, each_of, apart, sites_of}
-use Rattle.sm_product.specs.Templates.{block_templates, loop_templates}
-use Rattle.sm_product.proofs.CodesLemmas.{own_long, own_front, own_rest}
 use Rattle.sm_product.proofs.DrawingLemmas.{steps_fit, summaries_fit, looped_fits, apart_fits}
 use Rattle.sm_product.proofs.DrawingLemmas.{ends_fit}
 use Rattle.sm_product.proofs.FitsLemmas.{Fits, fits_same, bodies_left, IsExpanded}
 use Rattle.sm_product.proofs.FitsLemmas.{expanded}
 use Rattle.sm_product.proofs.ForksLemmas.{ifs_of, blocks_of, forks_fit}
 use Rattle.sm_product.proofs.MiniLemmas.{then_tail, mini_fits}
-use Rattle.sm_product.proofs.MovesLemmas.{uninhabited}
-use Rattle.sm_product.proofs.SetsLemmas.{IsWithin}
 use Rattle.sm_product.proofs.SmallerLemmas.{IsRest}
 
 -- the code of a set's copies, and then what is left of each copy

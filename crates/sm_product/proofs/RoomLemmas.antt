@@ -5,13 +5,13 @@ use Rattle.std.specs.Result.{IsErrAnd}
 use Rattle.sm_syntax.specs.claim.ConflictFree.{Copy}
 use Rattle.sm_term.specs.Assertions.{Assertion}
 use Rattle.sm_plan.specs.Copies.{Copies, subsets}
-use Rattle.sm_product.specs.declared.error.ProductError.{ProductError}
-use Rattle.sm_product.specs.declared.error.ProductError.TheVariants as error
+use Rattle.sm_sketch.specs.declared.error.ProductError.{ProductError}
+use Rattle.sm_sketch.specs.declared.error.ProductError.TheVariants as error
+use Rattle.sm_sketch.specs.Errors.{TellsSketch}
+use Rattle.sm_sketch.specs.Sketches.{Sketch, turns_then, forking, looped}
+use Rattle.sm_sketch.specs.SketchSizes.{sketch_size, sizes_below, sketch_depth, deepest_below}
 use Rattle.sm_product.specs.declared.rooms.Room.{Room}
-use Rattle.sm_product.specs.Errors.{TellsSketch}
 use Rattle.sm_product.specs.Rooms.{IsRoom, TellsBeyond, all_below, TellAllBeyond, IsTaken}
-use Rattle.sm_product.specs.Sketches.{Sketch, turns_then, forking, looped}
-use Rattle.sm_product.specs.SketchSizes.{sketch_size, sizes_below, sketch_depth, deepest_below}
 
 -- what is so of an error is so of that which is returned
 pub err_is : {T E : Type 0} (P : E → Type 0) (r : Result T E) (x : E) → IsErrAnd r (λ (e : E). e ≡ x) → P x → IfErr r P

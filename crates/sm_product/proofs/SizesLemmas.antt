@@ -4,7 +4,6 @@ use Rattle.std.proofs.lemmas.Bool.{lt-leb}
 use Rattle.std.proofs.Common.{◌≡◌, ℕ, zero, suc, ◌+◌, ◌<◌, ◌≤◌, List, [], ◌∷◌, ◌++◌, length, take, get_or, refl, sym, ap, ◌∙◌, arith}
 use Rattle.std.proofs.lemmas.List.{take_more, map-append}
 use Rattle.sm_syntax.specs.text.Sorts.{Sorts}
-use Rattle.sm_term.specs.declared.formula.Formula.{Formula}
 use Rattle.sm_term.specs.Terms.{Tree}
 use Rattle.sm_plan.specs.Plans as plain
 use Rattle.sm_plan.specs.Views.{forms_in}
@@ -12,18 +11,15 @@ use Rattle.sm_expand.specs.declared.due.Due.{Due}
 use Rattle.sm_expand.specs.Views.{due_in, dues_in}
 use Rattle.sm_syntax.specs.text.Parts.{Parts, task_of}
 use Rattle.sm_plan.specs.Plans.{Plan, size, Fault, obligations}
-use Rattle.sm_product.specs.Choices.{kept_by}
+use Rattle.sm_sketch.specs.Choices.{kept_by}
+use Rattle.sm_sketch.specs.SketchSizes.{sketch_size}
+use Rattle.sm_sketch.proofs.AllChosen.{forms_length}
 use Rattle.sm_product.specs.ProductPlans.{plan_of, full_choice}
 use Rattle.sm_product.specs.Products.{sketch_of}
-use Rattle.sm_product.specs.SketchSizes.{sketch_size}
 use Rattle.sm_product.specs.Sizes.{goals_in, facts_in, is_within, is_small}
 use Rattle.sm_product.proofs.LargeTasks.{plan_size}
 
 module _ (sorts : Sorts) (trees : List Tree) where
-  pub forms_length : (fs : List Formula) → length (forms_in sorts trees fs) ≡ length fs
-  forms_length [] = refl
-  forms_length (f ∷ fs) = ap suc (forms_length fs)
-
   goals_append : (ds : List plain.Due) (d : plain.Due) → goals_in (ds ++ d ∷ []) ≡ goals_in ds + length d.goals
   goals_append [] d = omega arith
   goals_append (e ∷ ds) d = let rest = goals_append ds d in omega (arith, rest)
@@ -42,13 +38,13 @@ module _ (sorts : Sorts) (trees : List Tree) where
       goals_in (dues_in sorts trees (take (i + 1) ds)) ≡ goals_in (dues_in sorts trees (take i ds)) + length d.targets.list.items
   goals_more ds i d h e =
       ap goals_in (front ds i d h e) ∙ goals_append (dues_in sorts trees (take i ds)) (due_in sorts trees d)
-      ∙ ap (λ (n : ℕ). goals_in (dues_in sorts trees (take i ds)) + n) (forms_length d.targets.list.items)
+      ∙ ap (λ (n : ℕ). goals_in (dues_in sorts trees (take i ds)) + n) (forms_length sorts trees d.targets.list.items)
 
   pub facts_more : (ds : List Due) (i : ℕ) (d : Due) → i < length ds → d ≡ get_or ds i d →
       facts_in (dues_in sorts trees (take (i + 1) ds)) ≡ facts_in (dues_in sorts trees (take i ds)) + length d.facts.list.items
   facts_more ds i d h e =
       ap facts_in (front ds i d h e) ∙ facts_append (dues_in sorts trees (take i ds)) (due_in sorts trees d)
-      ∙ ap (λ (n : ℕ). facts_in (dues_in sorts trees (take i ds)) + n) (forms_length d.facts.list.items)
+      ∙ ap (λ (n : ℕ). facts_in (dues_in sorts trees (take i ds)) + n) (forms_length sorts trees d.facts.list.items)
 
   -- those of a front are no more than all
   pub goals_front : (ds : List Due) (i : ℕ) → goals_in (dues_in sorts trees (take i ds)) ≤ goals_in (dues_in sorts trees ds)

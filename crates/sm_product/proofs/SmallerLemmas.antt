@@ -6,13 +6,13 @@ use Rattle.sm_syntax.specs.claim.ConflictFree.{Copy, O, A, B, M}
 use Rattle.sm_plan.specs.Copies.{Copies, has, is_inhabited, with_copy}
 use Rattle.sm_plan.specs.Statements.{is_over, rest_after, is_loop, loop_body}
 use Rattle.sm_plan.proofs.CopiesLemmas.{one_copy}
-use Rattle.sm_product.specs.CodeShapes.{has_hole, statements_in}
+use Rattle.sm_moves.specs.CodeShapes.{has_hole, statements_in}
+use Rattle.sm_moves.specs.Moves.{moved_on}
+use Rattle.sm_moves.proofs.CodesLemmas.{loop_left, rest_no_hole, body_no_hole, fewer_after}
+use Rattle.sm_moves.proofs.CodesLemmas.{fewer_inside}
+use Rattle.sm_moves.proofs.SetsLemmas.{IsWithin}
 use Rattle.sm_product.specs.MiniProducts.{statements_left}
-use Rattle.sm_product.specs.Moves.{moved_on}
-use Rattle.sm_product.proofs.CodesLemmas.{loop_left, rest_no_hole, body_no_hole, fewer_after}
-use Rattle.sm_product.proofs.CodesLemmas.{fewer_inside}
 use Rattle.sm_product.proofs.FitsLemmas.{bodies_left}
-use Rattle.sm_product.proofs.SetsLemmas.{IsWithin}
 
 -- code of a set's copies, with no hole and nothing for the others, and at most n statements
 pub record IsRest (set : Copies) (r : Copy → Code) (n : ℕ) : Type 0 where

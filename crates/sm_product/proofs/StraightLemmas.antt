@@ -12,70 +12,22 @@ use Rattle.sm_plan.specs.Statements.{rest_after}
 use Rattle.sm_plan.proofs.CopiesLemmas.{one_copy}
 use Rattle.sm_plan.proofs.SortedCode.{rest_well}
 use Rattle.sm_plan.proofs.TurnsMade.{passed_ready}
-use Rattle.sm_product.specs.declared.error.ProductError.{ProductError}
-use Rattle.sm_product.specs.declared.error.ProductError.TheVariants as error
-use Rattle.sm_product.specs.CopySets.{members}
-use Rattle.sm_product.specs.Errors.{TellsSketch}
+use Rattle.sm_moves.specs.CopySets.{members}
+use Rattle.sm_moves.specs.Moves.{Move, Done, Steps, Summaries, Forks, Loops, move_of, moved_on}
+use Rattle.sm_moves.specs.declared.moves.Move as own
+use Rattle.sm_moves.specs.ProgramMoves.{move_in}
+use Rattle.sm_moves.proofs.CopiesLemmas.{of_each, passed_one, forked_at}
+use Rattle.sm_moves.proofs.CodesLemmas.{simple_left, rest_no_hole, fewer_after}
+use Rattle.sm_moves.proofs.MovesLemmas.{MoveSays, move_says}
+use Rattle.sm_sketch.specs.declared.error.ProductError.{ProductError}
+use Rattle.sm_sketch.specs.declared.error.ProductError.TheVariants as error
+use Rattle.sm_sketch.specs.Errors.{TellsSketch}
+use Rattle.sm_sketch.specs.Sketches.{Sketch}
 use Rattle.sm_product.specs.MiniProducts.{drawn, side_by_side, statements_left}
-use Rattle.sm_product.specs.Moves.{Move, Done, Steps, Summaries, Forks, Loops, move_of, moved_on}
-use Rattle.sm_product.specs.declared.moves.Move as own
 use Rattle.sm_product.specs.Paths.{IsFilled, is_straight, after_move, move_before, moves_before}
-use Rattle.sm_product.specs.ProgramMoves.{move_in}
-use Rattle.sm_product.specs.Sketches.{Sketch}
-use Rattle.sm_product.proofs.CodesLemmas.{simple_left, rest_no_hole, fewer_after}
 use Rattle.sm_product.proofs.FuelLemmas.{side_by_side_is}
 use Rattle.sm_product.proofs.GrowthLemmas.{IsNoLarger, part_large, itself, through, under_node, under_each}
-use Rattle.sm_product.proofs.MovesLemmas.{MoveSays, move_says}
 use Rattle.sm_product.proofs.SmallerLemmas.{IsRest, fewer_in, fewer_of, one_smaller, moved_less, moved_smaller}
-
--- what holds of each copy
-pub of_each : (P : Copy → Type 0) → P O → P A → P B → P M → (c : Copy) → P c
-of_each P o a b m O = o
-of_each P o a b m A = a
-of_each P o a b m B = b
-of_each P o a b m M = m
-
--- a set of one copy
-pub passed_one : (c d : Copy) (r : Copy → Code) → moved_on (set_of (bit_of c)) r d ≡ with_copy r c (rest_after 1 (r c)) d
-passed_one O O r = refl
-passed_one O A r = refl
-passed_one O B r = refl
-passed_one O M r = refl
-passed_one A O r = refl
-passed_one A A r = refl
-passed_one A B r = refl
-passed_one A M r = refl
-passed_one B O r = refl
-passed_one B A r = refl
-passed_one B B r = refl
-passed_one B M r = refl
-passed_one M O r = refl
-passed_one M A r = refl
-passed_one M B r = refl
-passed_one M M r = refl
-
--- the block of a copy, where those of a set of one copy go on by their blocks
-pub forked_at : (c : Copy) (n : ℕ) → n ≡ bit_of c → (old new block : Copy → Code) →
-    ((d : Copy) → new d ≡ (if has (set_of n) d then block d else old d)) → (d : Copy) → new d ≡ with_copy old c (block c) d
-forked_at c n e old new block h d = h d ∙ ap (λ (m : ℕ). if has (set_of m) d then block d else old d) e ∙ at c d
-  where
-    at : (c d : Copy) → (if has (set_of (bit_of c)) d then block d else old d) ≡ with_copy old c (block c) d
-    at O O = refl
-    at O A = refl
-    at O B = refl
-    at O M = refl
-    at A O = refl
-    at A A = refl
-    at A B = refl
-    at A M = refl
-    at B O = refl
-    at B A = refl
-    at B B = refl
-    at B M = refl
-    at M O = refl
-    at M A = refl
-    at M B = refl
-    at M M = refl
 
 -- code of a set's copies as what is left, with as many statements as there are
 pub rest_is : (set : Copies) (r : Copy → Code) → IsFilled set r → IsRest set r (statements_left r)

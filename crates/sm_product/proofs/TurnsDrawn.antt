@@ -9,14 +9,14 @@ use Rattle.sm_term.specs.Terms.{Tree}
 use Rattle.sm_plan.specs.Copies.{Copies, subsets}
 use Rattle.sm_plan.specs.Masks.{set_of}
 use Rattle.sm_plan.proofs.TurnsMade.{filter_push, masked}
-use Rattle.sm_product.specs.declared.error.ProductError.{ProductError}
-use Rattle.sm_product.specs.declared.error.ProductError.TheVariants as error
+use Rattle.sm_sketch.specs.declared.error.ProductError.{ProductError}
+use Rattle.sm_sketch.specs.declared.error.ProductError.TheVariants as error
+use Rattle.sm_sketch.specs.declared.sketch.Sketch as own
+use Rattle.sm_sketch.specs.Sketches.{Sketch}
+use Rattle.sm_sketch.specs.SketchSizes.{sketch_size}
+use Rattle.sm_sketch.specs.SketchViews.{IsSketchReady, AreSketchesReady}
 use Rattle.sm_product.specs.declared.rooms.Room.{Room}
-use Rattle.sm_product.specs.declared.sketch.Sketch as own
 use Rattle.sm_product.specs.Rooms.{TellsBeyond, TellAllBeyond, IsTaken}
-use Rattle.sm_product.specs.Sketches.{Sketch}
-use Rattle.sm_product.specs.SketchSizes.{sketch_size}
-use Rattle.sm_product.specs.SketchViews.{IsSketchReady, AreSketchesReady}
 use Rattle.sm_product.proofs.RoomLemmas.{sizes_append, depth_append}
 
 -- room that is taken twice

@@ -5,10 +5,10 @@ use Rattle.sm_syntax.specs.text.Sorts.{Sorts}
 use Rattle.sm_term.specs.Tables.{TableValue, trees_in, sorts_in}
 use Rattle.sm_term.specs.TableLaws.{Widens}
 use Rattle.sm_term.specs.Terms.{Tree}
-use Rattle.sm_product.specs.declared.sketch.Sketch.{Sketch}
-use Rattle.sm_product.specs.Sketches as plain
-use Rattle.sm_product.specs.SketchViews.{sketch_in, IsSketchReady, AreSketchesReady}
-use Rattle.sm_product.proofs.SketchesWiden.{sketches_stay, sketches_ready}
+use Rattle.sm_sketch.specs.declared.sketch.Sketch.{Sketch}
+use Rattle.sm_sketch.specs.Sketches as plain
+use Rattle.sm_sketch.specs.SketchViews.{sketch_in, IsSketchReady, AreSketchesReady}
+use Rattle.sm_sketch.proofs.SketchesWiden.{sketches_stay, sketches_ready}
 
 push_ready : (sorts : Sorts) (trees : List Tree) (ss : List Sketch) (s : Sketch) → AreSketchesReady sorts trees ss →
     IsSketchReady sorts trees s → AreSketchesReady sorts trees (ss ++ s ∷ [])

@@ -1,16 +1,9 @@
 -- Cited by public clauses: what the errors of this crate tell.
 use Rattle.std.specs.Prelude.{◌≡◌, false}
 use Rattle.sm_syntax.specs.text.Parts.{Parts}
-use Rattle.sm_product.specs.declared.error.ProductError.{ProductError}
-use Rattle.sm_product.specs.declared.error.ProductError.TheVariants as error
+use Rattle.sm_sketch.specs.declared.error.ProductError.{ProductError}
+use Rattle.sm_sketch.specs.declared.error.ProductError.TheVariants as error
 use Rattle.sm_product.specs.Sizes.{is_small}
-use Rattle.sm_product.specs.Sketches.{Sketch}
-use Rattle.sm_product.specs.SketchSizes.{IsTooLarge}
-
--- an error tells that a sketch is too large; want of memory tells nothing
-abbrev pub TellsSketch : ProductError → Sketch → Type 0
-TellsSketch error.TooMany p = IsTooLarge p
-TellsSketch error.Memory p = Unit {0}
 
 -- an error tells that the plan of all templates of a task isn't within the limits; want of memory
 -- tells nothing

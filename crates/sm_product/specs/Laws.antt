@@ -8,11 +8,11 @@ use Rattle.sm_syntax.specs.text.Parts.{Parts, task_of}
 use Rattle.sm_term.specs.Assertions.{Assertion, conj}
 use Rattle.sm_plan.specs.Limits.{is_kept, is_shallow}
 use Rattle.sm_plan.specs.Plans.{Due, branches, IsFresh, obligations}
-use Rattle.sm_product.specs.Choices.{Choice, chosen_at, picked, kept_by}
-use Rattle.sm_product.specs.CodeShapes.{has_hole}
+use Rattle.sm_moves.specs.CodeShapes.{has_hole}
+use Rattle.sm_sketch.specs.Choices.{Choice, chosen_at, picked, kept_by}
+use Rattle.sm_sketch.specs.Sketches.{sites_of}
 use Rattle.sm_product.specs.ProductPlans.{plan_of}
 use Rattle.sm_product.specs.Products.{sketch_of}
-use Rattle.sm_product.specs.Sketches.{sites_of}
 
 -- no filling of a task has a hole
 abbrev pub HaveNoHole : Parts → Type 0

@@ -5,9 +5,9 @@ use Rattle.sm_syntax.specs.claim.ConflictFree.{Copy}
 use Rattle.sm_syntax.specs.text.Parts.{Parts}
 use Rattle.sm_plan.specs.Copies.{Copies, has}
 use Rattle.sm_plan.specs.Statements.{is_loop, loop_body}
-use Rattle.sm_product.specs.CopySets.{only_in}
+use Rattle.sm_moves.specs.CopySets.{only_in}
+use Rattle.sm_sketch.specs.Sketches.{Sketch, ends}
 use Rattle.sm_product.specs.MiniProducts.{side_by_side}
-use Rattle.sm_product.specs.Sketches.{Sketch, ends}
 
 -- what is drawn for a turn of the loops of a set
 abbrev pub turn_of : Parts → (Copy → Code) → Copies → Sketch

@@ -7,11 +7,11 @@ use Rattle.sm_syntax.specs.text.Parts.{Parts}
 use Rattle.sm_plan.specs.Copies.{Copies, with_copy}
 use Rattle.sm_plan.specs.Statements.{rest_after, loop_body}
 use Rattle.sm_plan.specs.Nodes.{Step, Abs}
-use Rattle.sm_product.specs.CodeShapes.{by_first_block, by_second_block, statements_in}
-use Rattle.sm_product.specs.CopySets.{members, only_in}
-use Rattle.sm_product.specs.Moves.{Move, Done, Steps, Summaries, Forks, Loops, move_of, moved_on}
-use Rattle.sm_product.specs.Sketches.{Sketch, ends, then_draw, each_of, forking, looped}
-use Rattle.sm_product.specs.Templates.{loop_templates}
+use Rattle.sm_moves.specs.CodeShapes.{by_first_block, by_second_block, statements_in}
+use Rattle.sm_moves.specs.CopySets.{members, only_in}
+use Rattle.sm_moves.specs.Moves.{Move, Done, Steps, Summaries, Forks, Loops, move_of, moved_on}
+use Rattle.sm_template.specs.Templates.{loop_templates}
+use Rattle.sm_sketch.specs.Sketches.{Sketch, ends, then_draw, each_of, forking, looped}
 
 -- a move, where `go` draws the mini-product of a set and what follows
 abbrev pub drawn : Parts → Copies → (Copy → Code) → Sketch →

@@ -2,21 +2,13 @@
 use Rattle.std.specs.Prelude.{◌≡◌, Bool, true, false, List, [], ◌∷◌}
 use Rattle.sm_syntax.specs.claim.Syntax.{Code, End}
 use Rattle.sm_syntax.specs.claim.ConflictFree.{Copy}
-use Rattle.sm_syntax.specs.declared.copies.PerCopy.{PerCopy}
-use Rattle.sm_syntax.specs.trees.Copies.{of_copy}
-use Rattle.sm_plan.specs.declared.rest.Rest.{Rest}
 use Rattle.sm_plan.specs.Copies.{Copies, has, with_copy}
 use Rattle.sm_plan.specs.Nodes.{Step, Abs}
 use Rattle.sm_plan.specs.Statements.{rest_after}
-use Rattle.sm_plan.specs.Views.{rest_code}
-use Rattle.sm_product.specs.CodeShapes.{has_hole}
-use Rattle.sm_product.specs.CopySets.{members}
-use Rattle.sm_product.specs.Moves.{Move, Done, Steps, Summaries, Forks, Loops, moved_on}
-use Rattle.sm_product.specs.Sketches.{Sketch, then_draw, each_of}
-
--- the code that is left of each copy
-abbrev pub codes_in : PerCopy Rest → Copy → Code
-codes_in rests c = rest_code (of_copy rests c)
+use Rattle.sm_moves.specs.CodeShapes.{has_hole}
+use Rattle.sm_moves.specs.CopySets.{members}
+use Rattle.sm_moves.specs.Moves.{Move, Done, Steps, Summaries, Forks, Loops, moved_on}
+use Rattle.sm_sketch.specs.Sketches.{Sketch, then_draw, each_of}
 
 -- code of a set's copies that has no hole, and nothing for the others
 pub record IsFilled (set : Copies) (code : Copy → Code) : Type 0 where

@@ -3,9 +3,9 @@ use Rattle.std.specs.Prelude.{ℕ, List, [], length, slice_get, unwrap_or}
 use Rattle.sm_syntax.specs.text.Parts.{Parts}
 use Rattle.sm_term.specs.Assertions.{Assertion}
 use Rattle.sm_plan.specs.Plans.{Plan}
-use Rattle.sm_product.specs.Choices.{Choice, kept_by, all_chosen}
+use Rattle.sm_sketch.specs.Choices.{Choice, kept_by, all_chosen}
+use Rattle.sm_sketch.specs.Sketches.{sites_of, plan_with}
 use Rattle.sm_product.specs.Products.{sketch_of}
-use Rattle.sm_product.specs.Sketches.{sites_of, plan_with}
 
 -- how many sites a task has
 abbrev pub site_count : Parts → ℕ

@@ -8,12 +8,12 @@ use Rattle.sm_syntax.specs.claim.ConflictFree.{Copy}
 use Rattle.sm_syntax.specs.text.Parts.{Parts}
 use Rattle.sm_plan.specs.Copies.{Copies, has, no_copies, is_inhabited}
 use Rattle.sm_plan.specs.Nodes.{Step, Abs}
-use Rattle.sm_product.specs.CodeShapes.{has_hole, has_fork, own_statements}
-use Rattle.sm_product.specs.CopySets.{all_copies, members, with_member, without, only_in}
+use Rattle.sm_moves.specs.CodeShapes.{has_hole, has_fork, own_statements}
+use Rattle.sm_moves.specs.CopySets.{all_copies, members, with_member, without, only_in}
+use Rattle.sm_moves.specs.Moves.{is_shared}
+use Rattle.sm_template.specs.Templates.{block_templates, loop_templates}
+use Rattle.sm_sketch.specs.Sketches.{Sketch, ends, each_of, forking, looped, apart}
 use Rattle.sm_product.specs.MiniProducts.{side_by_side}
-use Rattle.sm_product.specs.Moves.{is_shared}
-use Rattle.sm_product.specs.Sketches.{Sketch, ends, each_of, forking, looped, apart}
-use Rattle.sm_product.specs.Templates.{block_templates, loop_templates}
 
 -- the product of a set, nothing where no copy is in it
 abbrev pub where_any : Copies → (Copies → Sketch → Sketch) → Sketch → Sketch

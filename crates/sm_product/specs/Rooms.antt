@@ -1,10 +1,10 @@
 -- Private: how large what is drawn may still get.
 use Rattle.std.specs.Prelude.{◌≡◌, ◌+◌, ◌<◌, ◌≤◌, ◌⊎◌, List, [], ◌∷◌}
-use Rattle.sm_product.specs.declared.error.ProductError.{ProductError}
-use Rattle.sm_product.specs.declared.error.ProductError.TheVariants as error
+use Rattle.sm_sketch.specs.declared.error.ProductError.{ProductError}
+use Rattle.sm_sketch.specs.declared.error.ProductError.TheVariants as error
+use Rattle.sm_sketch.specs.Sketches.{Sketch, Sketches, Over, More}
+use Rattle.sm_sketch.specs.SketchSizes.{sketch_size, sizes_below, sketch_depth, deepest_below}
 use Rattle.sm_product.specs.declared.rooms.Room.{Room}
-use Rattle.sm_product.specs.Sketches.{Sketch, Sketches, Over, More}
-use Rattle.sm_product.specs.SketchSizes.{sketch_size, sizes_below, sketch_depth, deepest_below}
 
 -- no more than any sketch may have
 abbrev pub IsRoom : Room → Type 0

@@ -1,5 +1,5 @@
 // What a plan asks of a task.
-ghost use Rattle.std.specs.Prelude.{◌≡◌, Ok, IfOk, IfErr};
+ghost use Rattle.std.specs.Prelude.{◌≡◌, Ok, IfOk, IfErr, OnErr};
 ghost use Rattle.sm_syntax.specs.text.Parts.{sort_of, task_of};
 ghost use Rattle.sm_syntax.specs.trees.Programs.{declared_of};
 ghost use Rattle.sm_term.specs.Tables.{trees_in, sorts_in};
@@ -19,7 +19,7 @@ use sm_text::Task;
 use std::alloc::Global;
 
 /// The obligations of a plan for a task with these programs, or why there are none. After an error
-/// the table may have more terms.
+/// the table has the terms that it had.
 pub fn obligations_of(
     alloc: Global,
     table: &mut TermTable,
@@ -45,6 +45,7 @@ pub fn obligations_of(
 
     // Each term keeps its number.
     ensures widens { Widens table.old table.new }
+    ensures unchanged { OnErr result (trees_in table.new ≡ trees_in table.old) }
 {
     let shared = &task.shared;
     let assumed = task.assumed.as_ref();

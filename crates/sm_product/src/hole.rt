@@ -15,28 +15,25 @@ ghost use Rattle.sm_text.specs.Tasks.{parts_of};
 ghost use Rattle.sm_plan.specs.Copies as sets;
 ghost use Rattle.sm_plan.specs.Masks.{set_of};
 ghost use Rattle.sm_plan.specs.Views.{rest_code};
-ghost use Rattle.sm_product.specs.CodeShapes as shapes;
-ghost use Rattle.sm_product.specs.CopySets.{members, only_in};
+ghost use Rattle.sm_moves.specs.CodeShapes as shapes;
+ghost use Rattle.sm_moves.specs.CopySets.{members, only_in};
+ghost use Rattle.sm_moves.specs.FilledCode.{block_codes};
+ghost use Rattle.sm_moves.specs.Moves as moves;
+ghost use Rattle.sm_template.specs.Templates as formulas;
+ghost use Rattle.sm_sketch.specs.Sketches as sketches;
+ghost use Rattle.sm_sketch.specs.SketchViews.{sketch_in, IsSketchReady};
 ghost use Rattle.sm_product.specs.Drawn.{IsDrawn};
 ghost use Rattle.sm_product.specs.ProductContexts.{IsContextReady};
-ghost use Rattle.sm_product.specs.FilledCode.{block_codes};
 ghost use Rattle.sm_product.specs.MiniProducts as beside;
-ghost use Rattle.sm_product.specs.Moves as moves;
 ghost use Rattle.sm_product.specs.Products as plain;
-ghost use Rattle.sm_product.specs.Sketches as sketches;
-ghost use Rattle.sm_product.specs.SketchViews.{sketch_in, IsSketchReady};
-ghost use Rattle.sm_product.specs.Templates as formulas;
 
-use crate::drawing::{apart, ends};
-use crate::error::ProductError;
-use crate::filled::filling_at;
-use crate::masks::{has, least};
 use crate::mini::side_by_side;
 use crate::product::ProductContext;
-use crate::site_templates::block_templates;
-use crate::sketch::Sketch;
+use sm_moves::{filling_at, has, least};
 use sm_plan::Rest;
+use sm_sketch::{ProductError, Sketch, apart, ends};
 use sm_syntax::{Block, CopyName, Fillings, PerCopy, Stmt, same_block};
+use sm_template::block_templates;
 use sm_term::TermTable;
 use std::alloc::{AllocError, Global};
 
@@ -130,7 +127,7 @@ fn has_fork(block: &Block) -> bool
 }
 
 // Whether a statement is an if.
-#[tactic(auto, using(crate::proofs::WalksLemmas::fork_tests))]
+#[tactic(auto, using(sm_moves::proofs::WalksLemmas::fork_tests))]
 fn is_fork(s: &Stmt) -> bool
     ensures { result ≡ shapes.has_fork (statement_of s.now End) }
 {

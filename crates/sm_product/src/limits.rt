@@ -1,5 +1,5 @@
 // Whether the plan of all templates is within the limits.
-ghost use Rattle.std.specs.Prelude.{◌≡◌, ◌+◌, nat_le, List, Ok, IfOk};
+ghost use Rattle.std.specs.Prelude.{◌≡◌, ◌+◌, nat_le, List, Ok, IfOk, OnErr};
 ghost use Rattle.sm_syntax.specs.text.Parts.{sort_of, task_of};
 ghost use Rattle.sm_syntax.specs.text.Sorts.{Sorts};
 ghost use Rattle.sm_syntax.specs.trees.Programs.{declared_of};
@@ -11,18 +11,16 @@ ghost use Rattle.sm_task.specs.Filling.{AreFilled};
 ghost use Rattle.sm_plan.specs.SortedStates.{IsTaskSorted};
 ghost use Rattle.sm_plan.specs.Starts.{AreNumbered};
 ghost use Rattle.sm_expand.specs.Views.{dues_in};
-ghost use Rattle.sm_product.specs.ChoiceViews.{choice_in};
+ghost use Rattle.sm_sketch.specs.ChoiceViews.{choice_in};
+ghost use Rattle.sm_sketch.specs.SketchViews.{sketch_in, IsSketchReady};
 ghost use Rattle.sm_product.specs.ProductPlans.{full_choice};
 ghost use Rattle.sm_product.specs.Products.{sketch_of};
 ghost use Rattle.sm_product.specs.Sizes as plain;
 ghost use Rattle.sm_product.specs.Sizes.{goals_in, facts_in};
-ghost use Rattle.sm_product.specs.SketchViews.{sketch_in, IsSketchReady};
 
 use crate::asking::obligations_of;
-use crate::kept::TemplateChoice;
-use crate::planning::plan_with;
-use crate::sketch::Sketch;
 use sm_expand::{Due, PlanFault};
+use sm_sketch::{Sketch, TemplateChoice, plan_with};
 use sm_syntax::{Block, PerCopy};
 use sm_term::TermTable;
 use sm_text::Task;
@@ -72,9 +70,43 @@ fn are_within(nodes: u64, dues: &[Due]) -> bool
 }
 
 /// Whether the plan of a task under the choice of all templates has obligations and is within the
-/// limits: at most 200,000 nodes and goals, and at most 10,000,000 facts. After an error, too, the
-/// table may have more terms.
+/// limits: at most 200,000 nodes and goals, and at most 10,000,000 facts. After an error the table
+/// has the terms that it had.
 pub fn is_small(
+    alloc: Global,
+    table: &mut TermTable,
+    task: &Task,
+    programs: &PerCopy<Block>,
+    sketch: &Sketch,
+    full: &TemplateChoice,
+) -> Result<bool, AllocError>
+    requires declared { sorts_in table.old ≡ sort_of (declared_of task.now.shared.decls) }
+    requires numbered { AreNumbered (declared_of task.now.shared.decls) }
+    requires sorted { IsTaskSorted (sort_of (declared_of task.now.shared.decls))
+        (task_of (parts_of task.now)) }
+    requires filled { AreFilled (parts_of task.now) programs.now }
+    requires sketch { sketch_in (sorts_in table.old) (trees_in table.old) sketch.now
+        ≡ sketch_of (parts_of task.now) }
+    requires ready { IsSketchReady (sorts_in table.old) (trees_in table.old) sketch.now }
+    requires full { choice_in full.now ≡ full_choice (parts_of task.now) }
+    ensures small { IfOk result (λ b. b ≡ plain.is_small (parts_of task.now)) }
+
+    // Each term keeps its number.
+    ensures widens { Widens table.old table.new }
+    ensures err { OnErr result (trees_in table.new ≡ trees_in table.old) }
+{
+    let len = table.len();
+    match is_within_limits(alloc, table, task, programs, sketch, full) {
+        Ok(answer) => Ok(answer),
+        Err(refused) => {
+            table.cut(len);
+            Err(refused)
+        }
+    }
+}
+
+// The same, but an error leaves the terms that were made.
+fn is_within_limits(
     alloc: Global,
     table: &mut TermTable,
     task: &Task,

@@ -13,26 +13,23 @@ ghost use Rattle.sm_text.specs.Tasks.{parts_of};
 ghost use Rattle.sm_plan.specs.Copies as sets;
 ghost use Rattle.sm_plan.specs.Copies.{Copies, subsets};
 ghost use Rattle.sm_plan.specs.Masks.{set_of};
-ghost use Rattle.sm_product.specs.CodeShapes as shapes;
+ghost use Rattle.sm_moves.specs.CodeShapes as shapes;
+ghost use Rattle.sm_moves.specs.FilledCode.{piece_of, AreFilledAs};
+ghost use Rattle.sm_sketch.specs.Errors.{TellsSketch};
+ghost use Rattle.sm_sketch.specs.Sketches as sketches;
+ghost use Rattle.sm_sketch.specs.SketchViews.{sketch_in, IsSketchReady, AreSketchesReady};
 ghost use Rattle.sm_product.specs.Drawn.{IsDrawn};
 ghost use Rattle.sm_product.specs.ProductContexts.{IsContextReady};
-ghost use Rattle.sm_product.specs.Errors.{TellsSketch};
-ghost use Rattle.sm_product.specs.FilledCode.{piece_of, AreFilledAs};
 ghost use Rattle.sm_product.specs.Products as plain;
-ghost use Rattle.sm_product.specs.Sketches as sketches;
-ghost use Rattle.sm_product.specs.SketchViews.{sketch_in, IsSketchReady, AreSketchesReady};
 
-use crate::drawing::{apart, each_step, each_summary, ends, forking, looped};
-use crate::error::ProductError;
-use crate::filled::{FilledBlock, copied, cut, inside, rests_in};
 use crate::hole::product_hole;
-use crate::holes::has_hole;
-use crate::masks::{has, is_empty};
-use crate::sets::{one_each, with_member, without};
-use crate::site::SiteContext;
-use crate::site_templates::{block_templates, loop_templates};
-use crate::sketch::Sketch;
+use sm_moves::{
+    FilledBlock, copied, cut, has, has_hole, inside, is_empty, one_each, rests_in, with_member,
+    without,
+};
+use sm_sketch::{ProductError, Sketch, apart, each_step, each_summary, ends, forking, looped};
 use sm_syntax::{Block, CopyName, PerCopy, Stmt};
+use sm_template::{SiteContext, block_templates, loop_templates};
 use sm_term::TermTable;
 use sm_text::Task;
 use std::alloc::Global;

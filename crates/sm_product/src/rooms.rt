@@ -1,9 +1,9 @@
 // How large what is drawn may still get.
 ghost use Rattle.std.specs.Prelude.{◌≡◌, ◌+◌, ◌<◌, IfOk, MatchResult};
-ghost use Rattle.sm_product.specs.declared.error.ProductError.TheVariants.{TooMany};
+ghost use Rattle.sm_sketch.specs.declared.error.ProductError.TheVariants.{TooMany};
 ghost use Rattle.sm_product.specs.Rooms.{IsRoom};
 
-use crate::error::ProductError;
+use sm_sketch::ProductError;
 
 // How many nodes a part of a sketch may have, and how many branching ones one under another.
 #[derive(Clone, Copy, Debug, PartialEq, Eq)]

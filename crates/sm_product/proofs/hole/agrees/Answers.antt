@@ -6,7 +6,7 @@ use Rattle.sm_syntax.specs.trees.Copies.{copy_named}
 use Rattle.sm_syntax.specs.trees.Views.{code_of}
 use Rattle.sm_term.specs.SameCodeLaws.{same_code_is}
 use Rattle.sm_term.specs.SameTerms.{same_code}
-use Rattle.sm_product.specs.FilledCode.{block_codes}
+use Rattle.sm_moves.specs.FilledCode.{block_codes}
 use Rattle.sm_product.proofs.hole.agrees.Goals as goal
 use denote.Bor.{Bor}
 

@@ -9,16 +9,16 @@ use Rattle.sm_text.specs.Tasks.{parts_of}
 use Rattle.sm_plan.specs.Masks.{set_of}
 use Rattle.sm_plan.specs.Views.{rest_code, forms_in}
 use Rattle.sm_plan.proofs.TablesWiden.{widens_twice}
-use Rattle.sm_product.specs.CodeShapes.{own_statements}
-use Rattle.sm_product.specs.Errors.{TellsSketch}
-use Rattle.sm_product.specs.FilledCode.{block_codes}
+use Rattle.sm_moves.specs.CodeShapes.{own_statements}
+use Rattle.sm_moves.specs.FilledCode.{block_codes}
+use Rattle.sm_template.specs.Templates.{block_templates}
+use Rattle.sm_sketch.specs.Errors.{TellsSketch}
+use Rattle.sm_sketch.specs.Sketches as plain
+use Rattle.sm_sketch.specs.SketchViews.{sketch_in}
+use Rattle.sm_sketch.proofs.SketchesWiden.{sketch_stays, sketch_ready}
 use Rattle.sm_product.specs.MiniProducts.{side_by_side}
-use Rattle.sm_product.specs.Sketches as plain
-use Rattle.sm_product.specs.SketchViews.{sketch_in}
-use Rattle.sm_product.specs.Templates.{block_templates}
 use Rattle.sm_product.proofs.DrawnLemmas.{tells_whole, drawn_fault, apart_drawn}
 use Rattle.sm_product.proofs.GrowthLemmas.{inside_block}
-use Rattle.sm_product.proofs.SketchesWiden.{sketch_stays, sketch_ready}
 use Rattle.sm_product.proofs.hole.apart_blocks.Goals as goal
 
 pub returns-in_err-inner-clause-drawn : goal.returns-in_err-inner-clause-drawn

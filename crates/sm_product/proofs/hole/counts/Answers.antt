@@ -1,5 +1,5 @@
 -- Each block's statements are counted.
-use Rattle.sm_product.proofs.PiecesLemmas.{counts_are}
+use Rattle.sm_moves.proofs.PiecesLemmas.{counts_are}
 use Rattle.sm_product.proofs.hole.counts.Goals as goal
 
 pub returns : goal.returns

@@ -3,7 +3,7 @@ use Rattle.std.proofs.Common.{◌≡◌, drop}
 use Rattle.sm_syntax.specs.claim.Syntax.{End}
 use Rattle.sm_syntax.specs.trees.Views.{code_of}
 use Rattle.sm_plan.specs.Views.{code_before}
-use Rattle.sm_product.specs.CodeShapes.{has_fork}
+use Rattle.sm_moves.specs.CodeShapes.{has_fork}
 use Rattle.sm_product.proofs.hole.has_fork.Given as goal
 
 abbrev pub invariant-loop-s : goal.invariant-loop-s

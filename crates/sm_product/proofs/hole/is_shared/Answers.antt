@@ -8,8 +8,8 @@ use Rattle.sm_syntax.specs.trees.Views.{code_of}
 use Rattle.sm_term.specs.SameTerms.{same_code}
 use Rattle.sm_plan.specs.Copies.{each, has}
 use Rattle.sm_plan.specs.Masks.{set_of}
-use Rattle.sm_product.specs.FilledCode.{block_codes}
-use Rattle.sm_product.proofs.SharedLemmas.{shared_first}
+use Rattle.sm_moves.specs.FilledCode.{block_codes}
+use Rattle.sm_moves.proofs.SharedLemmas.{shared_first}
 use Rattle.sm_product.proofs.hole.is_shared.Goals as goal
 use denote.Bor.{Bor}
 

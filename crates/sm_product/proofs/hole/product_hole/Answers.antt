@@ -11,12 +11,12 @@ use Rattle.sm_text.specs.Tasks.{parts_of}
 use Rattle.sm_plan.specs.Copies.{has}
 use Rattle.sm_plan.specs.Masks.{set_of}
 use Rattle.sm_plan.specs.Views.{rest_code}
-use Rattle.sm_product.specs.CodeShapes.{has_hole}
-use Rattle.sm_product.specs.CopySets.{only_in}
+use Rattle.sm_moves.specs.CodeShapes.{has_hole}
+use Rattle.sm_moves.specs.CopySets.{only_in}
+use Rattle.sm_moves.specs.FilledCode.{block_codes}
+use Rattle.sm_sketch.specs.SketchViews.{sketch_in}
 use Rattle.sm_product.specs.Drawn.{IsDrawn}
-use Rattle.sm_product.specs.FilledCode.{block_codes}
 use Rattle.sm_product.specs.MiniProducts.{side_by_side}
-use Rattle.sm_product.specs.SketchViews.{sketch_in}
 use Rattle.sm_product.proofs.DrawnLemmas.{drawn_by}
 use Rattle.sm_product.proofs.HoleDrawn.{hole_apart, hole_beside}
 use Rattle.sm_product.proofs.hole.product_hole.Goals as goal

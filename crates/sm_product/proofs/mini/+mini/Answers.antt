@@ -16,32 +16,33 @@ use Rattle.sm_plan.specs.Masks.{set_of}
 use Rattle.sm_plan.specs.Statements.{loop_body}
 use Rattle.sm_plan.specs.Views.{forms_in}
 use Rattle.sm_plan.proofs.TablesWiden.{widens_twice, forms_stay, forms_ready}
-use Rattle.sm_product.specs.declared.error.ProductError.{ProductError}
-use Rattle.sm_product.specs.declared.moves.Move.{Move}
-use Rattle.sm_product.specs.declared.sketch.Sketch as own
-use Rattle.sm_product.specs.CodeShapes.{by_first_block, by_second_block}
-use Rattle.sm_product.specs.CopySets.{only_in}
-use Rattle.sm_product.specs.Errors.{TellsSketch}
+use Rattle.sm_moves.specs.declared.moves.Move.{Move}
+use Rattle.sm_moves.specs.CodeShapes.{by_first_block, by_second_block}
+use Rattle.sm_moves.specs.CopySets.{only_in}
+use Rattle.sm_moves.specs.Moves.{Summaries, Forks, Loops, moved_on}
+use Rattle.sm_moves.specs.MovesWithin.{IsMoveWithin}
+use Rattle.sm_moves.specs.Rests.{codes_in}
+use Rattle.sm_moves.specs.ProgramMoves.{move_in}
+use Rattle.sm_moves.proofs.MaskLemmas.{mask_within, mask_inhabited}
+use Rattle.sm_template.specs.Sites.{IsSiteOf}
+use Rattle.sm_sketch.specs.declared.error.ProductError.{ProductError}
+use Rattle.sm_sketch.specs.declared.sketch.Sketch as own
+use Rattle.sm_sketch.specs.Errors.{TellsSketch}
+use Rattle.sm_sketch.specs.Sketches.{Sketch, forking, looped}
+use Rattle.sm_sketch.specs.SketchSizes.{sketch_size}
+use Rattle.sm_sketch.specs.SketchViews.{sketch_in, AreSketchesReady}
+use Rattle.sm_sketch.proofs.SketchesWiden.{sketch_stays, sketch_ready, sketches_stay, sketches_ready}
 use Rattle.sm_product.specs.LoopTurns.{turn_of}
 use Rattle.sm_product.specs.MiniProducts.{drawn, side_by_side, statements_left}
-use Rattle.sm_product.specs.Moves.{Summaries, Forks, Loops, moved_on}
-use Rattle.sm_product.specs.MovesWithin.{IsMoveWithin}
-use Rattle.sm_product.specs.Paths.{codes_in, IsFilled, moves_before}
-use Rattle.sm_product.specs.ProgramMoves.{move_in}
+use Rattle.sm_product.specs.Paths.{IsFilled, moves_before}
 use Rattle.sm_product.specs.Rooms.{TellsBeyond, TellAllBeyond, IsTaken}
-use Rattle.sm_product.specs.Sites.{IsSiteOf}
-use Rattle.sm_product.specs.Sketches.{Sketch, forking, looped}
-use Rattle.sm_product.specs.SketchSizes.{sketch_size}
-use Rattle.sm_product.specs.SketchViews.{sketch_in, AreSketchesReady}
 use Rattle.sm_product.proofs.BranchesDrawn.{none_forks, no_room_for_next, no_room_for_one, no_room_beside, no_room_for_other}
 use Rattle.sm_product.proofs.BranchesDrawn.{none_loops, no_room_for_turns, no_room_after}
 use Rattle.sm_product.proofs.BranchesLeft.{first_way, second_way, have_loops, after_loops, one_turn}
 use Rattle.sm_product.proofs.BranchesLeft.{first_sorted, second_sorted, turn_sorted}
-use Rattle.sm_product.proofs.MaskLemmas.{mask_within, mask_inhabited}
 use Rattle.sm_product.proofs.MiniDrawn.{all_drawn, last_beyond, all_beyond}
 use Rattle.sm_product.proofs.PartsDrawn.{still_drawn, still_sited, still_sorted, fork_drawn, loops_drawn}
 use Rattle.sm_product.proofs.RoomLemmas.{err_is, no_memory, limit_beyond}
-use Rattle.sm_product.proofs.SketchesWiden.{sketch_stays, sketch_ready, sketches_stay, sketches_ready}
 use Rattle.sm_product.proofs.StraightLemmas.{straight_sorted}
 use Rattle.sm_product.proofs.TurnsDrawn.{one_told, none_left, one_taken, sketches_push, up_to_more, up_to_last, up_to_taken, up_to_told}
 use Rattle.sm_product.proofs.mini.+mini.Goals as goal

@@ -5,12 +5,12 @@ use Rattle.sm_syntax.specs.text.Parts.{Parts}
 use Rattle.sm_term.specs.Tables.{trees_in, sorts_in}
 use Rattle.sm_term.specs.TableLaws.{Widens}
 use Rattle.sm_plan.specs.Masks.{set_of}
+use Rattle.sm_moves.specs.Rests.{codes_in}
+use Rattle.sm_template.specs.Sites.{IsSiteOf}
+use Rattle.sm_sketch.specs.SketchViews.{sketch_in, AreSketchesReady}
 use Rattle.sm_product.specs.LoopTurns.{turn_of}
 use Rattle.sm_product.specs.MiniProducts.{statements_left}
-use Rattle.sm_product.specs.Paths.{codes_in}
 use Rattle.sm_product.specs.Rooms.{IsRoom, IsTaken}
-use Rattle.sm_product.specs.Sites.{IsSiteOf}
-use Rattle.sm_product.specs.SketchViews.{sketch_in, AreSketchesReady}
 use Rattle.sm_product.proofs.mini.+mini.Given as goal
 
 abbrev pub decreases-draw : goal.decreases-draw

@@ -2,9 +2,9 @@
 use Rattle.std.proofs.Common.{◌≡◌, List, map, vec_len}
 use Rattle.sm_syntax.specs.text.Sorts.{Sorts}
 use Rattle.sm_term.specs.Terms.{Tree}
+use Rattle.sm_moves.specs.ProgramMoves.{move_in}
+use Rattle.sm_sketch.specs.SketchViews.{sketch_in, IsSketchReady}
 use Rattle.sm_product.specs.Paths.{moves_before}
-use Rattle.sm_product.specs.ProgramMoves.{move_in}
-use Rattle.sm_product.specs.SketchViews.{sketch_in, IsSketchReady}
 use Rattle.sm_product.proofs.paths.put_all_before.Given as goal
 
 abbrev pub invariant-loop-m : goal.invariant-loop-m

@@ -2,10 +2,10 @@
 use Rattle.std.proofs.Common.{◌≡◌, List, IfOk, sym, subst}
 use Rattle.sm_syntax.specs.text.Sorts.{Sorts}
 use Rattle.sm_term.specs.Terms.{Tree}
-use Rattle.sm_product.specs.declared.moves.Move.{Move}
+use Rattle.sm_moves.specs.declared.moves.Move.{Move}
+use Rattle.sm_moves.specs.ProgramMoves.{move_in}
+use Rattle.sm_sketch.specs.SketchViews.{sketch_in}
 use Rattle.sm_product.specs.Paths.{move_before}
-use Rattle.sm_product.specs.ProgramMoves.{move_in}
-use Rattle.sm_product.specs.SketchViews.{sketch_in}
 use Rattle.sm_product.proofs.paths.put_before.Goals as goal
 
 pub returns-in-Summaries-clause-drawn : goal.returns-in-Summaries-clause-drawn

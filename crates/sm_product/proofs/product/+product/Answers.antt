@@ -21,18 +21,20 @@ use Rattle.sm_plan.specs.Masks.{set_of}
 use Rattle.sm_plan.specs.Views.{rest_code, forms_in}
 use Rattle.sm_plan.proofs.TablesWiden.{widens_twice}
 use Rattle.sm_plan.proofs.TurnsMade.{masked}
-use Rattle.sm_product.specs.declared.error.ProductError.{ProductError}
+use Rattle.sm_moves.specs.CodeShapes.{has_hole, statements_in}
+use Rattle.sm_moves.specs.CopySets.{only_in, members, with_member, without}
+use Rattle.sm_moves.specs.FilledCode.{piece_of}
+use Rattle.sm_moves.proofs.WalksLemmas.{statement_within}
+use Rattle.sm_template.specs.Templates.{block_templates, loop_templates}
+use Rattle.sm_sketch.specs.declared.error.ProductError.{ProductError}
+use Rattle.sm_sketch.specs.Errors.{TellsSketch}
+use Rattle.sm_sketch.specs.Sketches as plain
+use Rattle.sm_sketch.specs.SketchViews.{sketch_in}
+use Rattle.sm_sketch.proofs.SketchesWiden.{sketch_stays, sketch_ready, sketches_stay, sketches_ready}
 use Rattle.sm_product.specs.declared.product.FilledIf.{FilledIf}
 use Rattle.sm_product.specs.declared.product.ProductContext.{ProductContext}
-use Rattle.sm_product.specs.CodeShapes.{has_hole, statements_in}
-use Rattle.sm_product.specs.CopySets.{only_in, members, with_member, without}
-use Rattle.sm_product.specs.Errors.{TellsSketch}
-use Rattle.sm_product.specs.FilledCode.{piece_of}
 use Rattle.sm_product.specs.ProductContexts.{IsContextReady}
 use Rattle.sm_product.specs.Products.{product, product_if, product_while, branched, forked, where_any}
-use Rattle.sm_product.specs.Sketches as plain
-use Rattle.sm_product.specs.SketchViews.{sketch_in}
-use Rattle.sm_product.specs.Templates.{block_templates, loop_templates}
 use Rattle.sm_product.proofs.BlocksDrawn.{filled_at, end_drawn, forks_out, forks_in}
 use Rattle.sm_product.proofs.BlocksDrawn.{only_these, all_these, turns_push}
 use Rattle.sm_product.proofs.DrawnLemmas.{err_is, tells_whole, drawn_by, drawn_same, drawn_fault, apart_drawn, looped_drawn}
@@ -40,9 +42,7 @@ use Rattle.sm_product.proofs.DrawnLemmas.{forking_drawn, step_drawn}
 use Rattle.sm_product.proofs.DrawnLemmas.{if_drawn, while_drawn, if_inside, while_inside, hole_inside, cut_step, drawn_step}
 use Rattle.sm_product.proofs.DrawnLemmas.{told_step, mask_tells}
 use Rattle.sm_product.proofs.GrowthLemmas.{after_any, first_of_fork, second_of_fork}
-use Rattle.sm_product.proofs.SketchesWiden.{sketch_stays, sketch_ready, sketches_stay, sketches_ready}
 use Rattle.sm_product.proofs.TurnsPut.{put_drawn, put_ready}
-use Rattle.sm_product.proofs.WalksLemmas.{statement_within}
 use Rattle.sm_product.proofs.PartsPut.{fork_out, one_fails, other_fails, both_forked, last_is, branches_fail}
 use Rattle.sm_product.proofs.PartsPut.{if_summed, if_apart, while_summed, while_looped}
 use Rattle.sm_product.proofs.product.+product.Goals as goal

@@ -10,11 +10,11 @@ use Rattle.sm_term.specs.TableLaws.{Widens}
 use Rattle.sm_text.specs.Tasks.{parts_of}
 use Rattle.sm_plan.specs.Masks.{set_of}
 use Rattle.sm_plan.specs.Views.{code_before}
-use Rattle.sm_product.specs.CodeShapes.{statements_in}
-use Rattle.sm_product.specs.FilledCode.{AreFilledAs}
+use Rattle.sm_moves.specs.CodeShapes.{statements_in}
+use Rattle.sm_moves.specs.FilledCode.{AreFilledAs}
+use Rattle.sm_sketch.specs.Sketches.{ends}
+use Rattle.sm_sketch.specs.SketchViews.{sketch_in, IsSketchReady, AreSketchesReady}
 use Rattle.sm_product.specs.Products.{product}
-use Rattle.sm_product.specs.Sketches.{ends}
-use Rattle.sm_product.specs.SketchViews.{sketch_in, IsSketchReady, AreSketchesReady}
 use Rattle.sm_product.proofs.product.+product.Given as goal
 
 abbrev pub decreases-product_block : goal.decreases-product_block

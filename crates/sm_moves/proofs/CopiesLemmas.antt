@@ -1,0 +1,57 @@
+-- What holds of the four copies, one by one.
+use Rattle.std.proofs.Common.{◌≡◌, ℕ, if◌then◌else◌, refl, ap, ◌∙◌}
+use Rattle.sm_syntax.specs.claim.Syntax.{Code}
+use Rattle.sm_syntax.specs.claim.ConflictFree.{Copy, O, A, B, M}
+use Rattle.sm_plan.specs.Copies.{has, with_copy}
+use Rattle.sm_plan.specs.Masks.{bit_of, set_of}
+use Rattle.sm_plan.specs.Statements.{rest_after}
+use Rattle.sm_moves.specs.Moves.{moved_on}
+
+-- what holds of each copy
+pub of_each : (P : Copy → Type 0) → P O → P A → P B → P M → (c : Copy) → P c
+of_each P o a b m O = o
+of_each P o a b m A = a
+of_each P o a b m B = b
+of_each P o a b m M = m
+
+-- a set of one copy
+pub passed_one : (c d : Copy) (r : Copy → Code) → moved_on (set_of (bit_of c)) r d ≡ with_copy r c (rest_after 1 (r c)) d
+passed_one O O r = refl
+passed_one O A r = refl
+passed_one O B r = refl
+passed_one O M r = refl
+passed_one A O r = refl
+passed_one A A r = refl
+passed_one A B r = refl
+passed_one A M r = refl
+passed_one B O r = refl
+passed_one B A r = refl
+passed_one B B r = refl
+passed_one B M r = refl
+passed_one M O r = refl
+passed_one M A r = refl
+passed_one M B r = refl
+passed_one M M r = refl
+
+-- the block of a copy, where those of a set of one copy go on by their blocks
+pub forked_at : (c : Copy) (n : ℕ) → n ≡ bit_of c → (old new block : Copy → Code) →
+    ((d : Copy) → new d ≡ (if has (set_of n) d then block d else old d)) → (d : Copy) → new d ≡ with_copy old c (block c) d
+forked_at c n e old new block h d = h d ∙ ap (λ (m : ℕ). if has (set_of m) d then block d else old d) e ∙ at c d
+  where
+    at : (c d : Copy) → (if has (set_of (bit_of c)) d then block d else old d) ≡ with_copy old c (block c) d
+    at O O = refl
+    at O A = refl
+    at O B = refl
+    at O M = refl
+    at A O = refl
+    at A A = refl
+    at A B = refl
+    at A M = refl
+    at B O = refl
+    at B A = refl
+    at B B = refl
+    at B M = refl
+    at M O = refl
+    at M A = refl
+    at M B = refl
+    at M M = refl

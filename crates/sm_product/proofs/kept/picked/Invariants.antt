@@ -1,7 +1,0 @@
--- The templates of the numbers so far.
-use Rattle.std.proofs.Common.{◌≡◌, take}
-use Rattle.sm_product.specs.ChoiceViews.{pointed, picked_forms}
-use Rattle.sm_product.proofs.kept.picked.Given as goal
-
-abbrev pub invariant-loop-number : goal.invariant-loop-number
-invariant-loop-number l = pointed l.list.items ≡ picked_forms l.templates (take l.number-index l.numbers)

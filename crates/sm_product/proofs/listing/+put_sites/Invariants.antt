@@ -1,9 +1,0 @@
--- Those of the sketches so far stand behind the others.
-use Rattle.std.proofs.Common.{◌≡◌, ◌++◌, map, take}
-use Rattle.sm_product.specs.SketchSites.{forms_of_all, shared_forms}
-use Rattle.sm_product.specs.SketchViews.{numbered_sketch}
-use Rattle.sm_product.proofs.listing.+put_sites.Given as goal
-
-abbrev pub invariant-put_all-loop-sketch : goal.invariant-put_all-loop-sketch
-invariant-put_all-loop-sketch l =
-    shared_forms l.list.items ≡ shared_forms l.initial.list.items ++ forms_of_all (map numbered_sketch (take l.sketch-index l.sketch-items))

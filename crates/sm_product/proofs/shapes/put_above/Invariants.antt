@@ -1,7 +1,0 @@
--- The kinds with the first literals are there.
-use Rattle.std.proofs.Common.{◌≡◌, ◌++◌, take}
-use Rattle.sm_product.specs.NameShapes.{above_any}
-use Rattle.sm_product.proofs.shapes.put_above.Given as goal
-
-abbrev pub invariant-loop-v : goal.invariant-loop-v
-invariant-loop-v l = l.list.items ≡ l.fn.list.items ++ above_any (take l.v-index l.literals) (l.c, l.d)

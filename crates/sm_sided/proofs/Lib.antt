@@ -1,0 +1,9 @@
+mod OneSidedLemmas
+mod WholeExpands
+mod GoalsClosed
+mod WholeShown
+mod WholeNodesLemmas
+mod WholeExample
+mod WholeKept
+mod TreesMade
+mod DuesCounted

@@ -1,0 +1,55 @@
+-- The whole plan keeps no formula, and its certificates name no term.
+use Rattle.std.proofs.Common.{◌≡◌, ℕ, zero, suc, Bool, true, false, if◌then◌else◌, List, ◌++◌, ap, sym, ◌∙◌, subst}
+use Rattle.std.specs.List.{AllByRecursion}
+use Rattle.std.proofs.lemmas.List.{append-nil, append_assoc}
+use Rattle.sm_syntax.specs.claim.Syntax.{Code}
+use Rattle.sm_syntax.specs.claim.ConflictFree.{Copy, O, A, B, M}
+use Rattle.sm_cert.specs.Certificates.{Certificate}
+use Rattle.sm_plan.specs.Nodes as node
+use Rattle.sm_plan.specs.Nodes.{Node}
+use Rattle.sm_plan.specs.Plans.{Plan, At, Over, More, nodes_of}
+use Rattle.sm_plan.specs.Statements.{is_over}
+use Rattle.sm_moves.specs.CodeShapes.{own_statements}
+use Rattle.sm_sided.specs.declared.sided.Change.{Change}
+use Rattle.sm_sided.specs.declared.sided.Change.TheVariants.{OfA, OfB, OfBoth}
+use Rattle.sm_sided.specs.WholeCertificates.{certificates_of, whole_certificates, NamesNoTerm}
+use Rattle.sm_sided.specs.WholePlan.{summary_before, whole_plan, KeepsNone}
+
+-- a summary keeps none
+summary_keeps : (program : Copy → Code) (c : Copy) (p : Plan) → AllByRecursion KeepsNone (nodes_of p) →
+    AllByRecursion KeepsNone (nodes_of (summary_before program c p))
+summary_keeps program c p none = of (is_over (program c))
+  where
+    of : (b : Bool) →
+        AllByRecursion KeepsNone (nodes_of (if b then p else At (node.Abs c (own_statements (program c))) (More p Over)))
+    of true = none
+    of false = (tt, subst (AllByRecursion KeepsNone) (sym (append-nil (nodes_of p))) none)
+
+-- nor does the whole plan
+pub whole_keeps : (program : Copy → Code) → AllByRecursion KeepsNone (nodes_of (whole_plan program))
+whole_keeps program =
+    summary_keeps program O (summary_before program A (summary_before program B (summary_before program M (At node.Ends Over))))
+    (summary_keeps program A (summary_before program B (summary_before program M (At node.Ends Over)))
+    (summary_keeps program B (summary_before program M (At node.Ends Over))
+    (summary_keeps program M (At node.Ends Over) (tt, tt))))
+
+-- three certificates that name no term, before others
+names_none : (change : Change) (n : ℕ) (cs : List Certificate) → AllByRecursion NamesNoTerm cs →
+    AllByRecursion NamesNoTerm (certificates_of change n ++ cs)
+names_none OfA n cs none = ((tt, tt), ((tt, tt), ((tt, (tt, tt)), none)))
+names_none OfB n cs none = ((tt, tt), ((tt, tt), ((tt, (tt, (tt, tt))), none)))
+names_none OfBoth n cs none = ((tt, tt), ((tt, tt), ((tt, (tt, (tt, tt))), none)))
+
+-- those of all outputs
+pub whole_names_none : (change : Change) (n outputs : ℕ) → AllByRecursion NamesNoTerm (whole_certificates change n outputs)
+whole_names_none change n zero = tt
+whole_names_none change n (suc outputs) =
+    names_none change n (whole_certificates change n outputs) (whole_names_none change n outputs)
+
+-- those of one output more
+pub one_output_more : (change : Change) (n outputs : ℕ) →
+    whole_certificates change n outputs ++ certificates_of change n ≡ whole_certificates change n (suc outputs)
+one_output_more change n zero = sym (append-nil (certificates_of change n))
+one_output_more change n (suc outputs) =
+    append_assoc (certificates_of change n) (whole_certificates change n outputs) (certificates_of change n)
+    ∙ ap (λ (cs : List Certificate). certificates_of change n ++ cs) (one_output_more change n outputs)

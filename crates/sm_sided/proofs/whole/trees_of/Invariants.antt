@@ -1,0 +1,9 @@
+-- The trees so far are those of as many outputs.
+use Rattle.std.proofs.Common.{◌≡◌, List, map}
+use Rattle.sm_term.specs.Terms.{Tree}
+use Rattle.sm_cert.specs.Views.{certificate_in}
+use Rattle.sm_sided.specs.WholeCertificates.{whole_certificates}
+use Rattle.sm_sided.proofs.whole.trees_of.Given as goal
+
+abbrev pub invariant-loop-output : goal.invariant-loop-output
+invariant-loop-output l = (ts : List Tree) → map (certificate_in ts) l.list.items ≡ whole_certificates l.change l.n l._output-index

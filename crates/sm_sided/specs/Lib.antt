@@ -1,0 +1,4 @@
+pub mod OneSided
+pub mod WholePlan
+pub mod WholeCertificates
+pub mod WholeNodes

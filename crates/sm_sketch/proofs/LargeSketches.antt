@@ -1,0 +1,94 @@
+-- What is too large stays so with nodes before it; and the nodes of a set, one copy after the other.
+use Rattle.std.proofs.Common.{◌≡◌, Result, Err, IfErr, ℕ, suc, ◌+◌, ◌≤◌, inl, inr, max, Bool, true, false, if◌then◌else◌, refl, sym, ap}
+use Rattle.std.proofs.Common.{◌∙◌, subst, arith}
+use Rattle.sm_syntax.specs.claim.ConflictFree.{Copy, O, A, B, M}
+use Rattle.sm_plan.specs.Copies.{Copies, has}
+use Rattle.sm_plan.specs.Nodes.{Node, is_branching}
+use Rattle.sm_moves.specs.CopySets.{members}
+use Rattle.sm_sketch.specs.declared.error.ProductError.{ProductError}
+use Rattle.sm_sketch.specs.declared.error.ProductError.TheVariants as error
+use Rattle.sm_sketch.specs.Errors.{TellsSketch}
+use Rattle.sm_sketch.specs.Extents.{TellsExtent, drawn_where}
+use Rattle.sm_sketch.specs.Sketches.{Sketch, then_draw, each_of}
+use Rattle.sm_sketch.specs.SketchSizes.{sketch_size, sketch_depth, IsTooLarge}
+
+-- a sketch with at least as many nodes, that branches at least as deep
+larger : (p q : Sketch) → sketch_size p ≤ sketch_size q → sketch_depth p ≤ sketch_depth q → IsTooLarge p → IsTooLarge q
+larger p q nodes branches (inl h) = inl (omega (arith, nodes, h))
+larger p q nodes branches (inr h) = inr (omega (arith, branches, h))
+
+tells_larger : (e : ProductError) (p q : Sketch) → sketch_size p ≤ sketch_size q → sketch_depth p ≤ sketch_depth q →
+    TellsSketch e p → TellsSketch e q
+tells_larger error.TooMany p q nodes branches h = larger p q nodes branches h
+tells_larger error.Memory p q nodes branches h = tt
+
+-- an extent that is too large is that of a sketch that is
+pub tells_sketch : (e : ProductError) (n b : ℕ) (p : Sketch) → n ≤ sketch_size p → b ≤ sketch_depth p → TellsExtent e n b → TellsSketch e p
+tells_sketch error.TooMany n b p nodes branches (inl h) = inl (omega (arith, nodes, h))
+tells_sketch error.TooMany n b p nodes branches (inr h) = inr (omega (arith, branches, h))
+tells_sketch error.Memory n b p nodes branches h = tt
+
+-- one node that doesn't branch
+pub drawn_size : (node : Node) (p : Sketch) → sketch_size (then_draw node p) ≡ sketch_size p + 1
+drawn_size node p = omega arith
+
+pub drawn_depth : (node : Node) (p : Sketch) → is_branching node ≡ false → sketch_depth (then_draw node p) ≡ sketch_depth p
+drawn_depth node p flat =
+    let none : max (sketch_depth p) 0 ≡ sketch_depth p = omega arith in
+    ap (λ (b : Bool). if b then suc (max (sketch_depth p) 0) else max (sketch_depth p) 0) flat ∙ none
+
+depth_below : (b : Bool) (n : ℕ) → n ≤ (if b then suc (max n 0) else max n 0)
+depth_below true n = omega arith
+depth_below false n = omega arith
+
+tells_drawn : (e : ProductError) (node : Node) (p : Sketch) → TellsSketch e p → TellsSketch e (then_draw node p)
+tells_drawn e node p h =
+    let size = drawn_size node p in
+    tells_larger e p (then_draw node p) (omega (arith, size)) (depth_below (is_branching node) (sketch_depth p)) h
+
+-- a node where it is wanted
+pub tells_where : (e : ProductError) (b : Bool) (node : Node) (p : Sketch) → TellsSketch e p → TellsSketch e (drawn_where b node p)
+tells_where e true node p h = tells_drawn e node p h
+tells_where e false node p h = h
+
+-- a node for each copy of a set, by the copies
+set_drawn : (o a b m : Bool) (node : Copy → Node) (p : Sketch) →
+    each_of node (members (record { base = o; variant_a = a; variant_b = b; candidate = m })) p
+    ≡ drawn_where o (node O) (drawn_where a (node A) (drawn_where b (node B) (drawn_where m (node M) p)))
+set_drawn true true true true node p = refl
+set_drawn true true true false node p = refl
+set_drawn true true false true node p = refl
+set_drawn true true false false node p = refl
+set_drawn true false true true node p = refl
+set_drawn true false true false node p = refl
+set_drawn true false false true node p = refl
+set_drawn true false false false node p = refl
+set_drawn false true true true node p = refl
+set_drawn false true true false node p = refl
+set_drawn false true false true node p = refl
+set_drawn false true false false node p = refl
+set_drawn false false true true node p = refl
+set_drawn false false true false node p = refl
+set_drawn false false false true node p = refl
+set_drawn false false false false node p = refl
+
+pub members_drawn : (set : Copies) (node : Copy → Node) (p : Sketch) →
+    each_of node (members set) p
+    ≡ drawn_where (has set O) (node O) (drawn_where (has set A) (node A)
+    (drawn_where (has set B) (node B) (drawn_where (has set M) (node M) p)))
+members_drawn set node p = set_drawn set.base set.variant_a set.variant_b set.candidate node p
+
+-- the nodes of a set drawn one after the other, that of the last copy first
+pub each_drawn : (set : Copies) (node : Copy → Node) (p q r s t : Sketch) → q ≡ drawn_where (has set M) (node M) p →
+    r ≡ drawn_where (has set B) (node B) q → s ≡ drawn_where (has set A) (node A) r → t ≡ drawn_where (has set O) (node O) s →
+    t ≡ each_of node (members set) p
+each_drawn set node p q r s t four three two one =
+    one
+    ∙ ap (drawn_where (has set O) (node O))
+    (two ∙ ap (drawn_where (has set A) (node A)) (three ∙ ap (drawn_where (has set B) (node B)) four))
+    ∙ sym (members_drawn set node p)
+
+-- an answer that is an error
+pub err_tells : {T : Type 0} (r : Result T ProductError) (e : ProductError) (p : Sketch) → r ≡ Err e → TellsSketch e p →
+    IfErr r (λ (x : ProductError). TellsSketch x p)
+err_tells {T} r e p is h = subst (λ (q : Result T ProductError). IfErr q (λ (x : ProductError). TellsSketch x p)) (sym is) h

@@ -1,0 +1,256 @@
+-- What sketches that are drawn of others stand for, and that they tell their size and are ready.
+use Rattle.std.proofs.Common.{◌≡◌, Result, Ok, Err, IfOk, ℕ, suc, ◌+◌, ◌≤◌, max, if◌then◌else◌, Bool, true, false, List, [], ◌∷◌, ◌++◌, map}
+use Rattle.std.proofs.Common.{refl, sym, ap, ◌∙◌, subst, arith}
+use Rattle.sm_syntax.specs.claim.ConflictFree.{Copy, O, A, B, M}
+use Rattle.sm_syntax.specs.text.Sorts.{Sorts}
+use Rattle.sm_syntax.specs.trees.Copies.{number_of}
+use Rattle.sm_term.specs.declared.formula.Formula.{Formula}
+use Rattle.sm_term.specs.Terms.{Tree}
+use Rattle.sm_plan.specs.Copies.{Copies, has, subsets}
+use Rattle.sm_plan.specs.Masks.{set_of}
+use Rattle.sm_plan.specs.Nodes as plan
+use Rattle.sm_plan.specs.Nodes.{Node, is_branching}
+use Rattle.sm_plan.specs.Views.{forms_in}
+use Rattle.sm_expand.specs.declared.plan.Simple.{Simple}
+use Rattle.sm_expand.specs.declared.plan.Simple.TheVariants as simple
+use Rattle.sm_expand.specs.NumberedPlans.{of_copy_or, node_over, IsKeepReady, Fork, Ends}
+use Rattle.sm_expand.specs.Views.{simple_node}
+use Rattle.sm_moves.specs.CopySets.{members}
+use Rattle.sm_sketch.specs.declared.drawing.Way.{Way}
+use Rattle.sm_sketch.specs.declared.drawing.Way.TheVariants as way
+use Rattle.sm_sketch.specs.declared.error.ProductError.{ProductError}
+use Rattle.sm_sketch.specs.declared.sketch.Sketch.{Sketch}
+use Rattle.sm_sketch.specs.Errors.{TellsSketch}
+use Rattle.sm_sketch.specs.Extents.{TellsExtent, total_nodes, most_branches, node_by, drawn_where}
+use Rattle.sm_sketch.specs.NumberedSketches.{NumberedSite, Plain, LoopSite, NumberedSketch, Draw, Over, More, sketches_before}
+use Rattle.sm_sketch.specs.NumberedSketches.{site_over, sketch_over, sketches_over, IsSiteReady, AreNodesReady, AreBelowReady}
+use Rattle.sm_sketch.specs.Sketches as tree
+use Rattle.sm_sketch.specs.Sketches.{then_draw, each_of, turns_then, looped}
+use Rattle.sm_sketch.specs.SketchSizes.{is_branching_node, sketch_size, sizes_below, sketch_depth, deepest_below}
+use Rattle.sm_sketch.specs.SketchViews.{numbered_sketch, numbered_end, sketch_in, IsSketchReady, AreSketchesReady}
+use Rattle.sm_sketch.proofs.LargeSketches.{drawn_size, drawn_depth, tells_sketch, each_drawn}
+use Rattle.sm_sketch.proofs.SketchEnds.{pushed, bare}
+
+-- the node of the copy with a number of a copy
+pub copy_numbered : (rule : ℕ) (node : Copy → Node) (c : Copy) → of_copy_or rule node (number_of c) ≡ node c
+copy_numbered rule node O = refl
+copy_numbered rule node A = refl
+copy_numbered rule node B = refl
+copy_numbered rule node M = refl
+
+module _ (sorts : Sorts) (trees : List Tree) where
+  -- a fork of a copy
+  pub fork_is : (c : Copy) (n : ℕ) → n ≡ number_of c → site_over sorts trees (Plain (Fork n)) ≡ tree.Plain (plan.Fork c)
+  fork_is c n e = ap (λ (m : ℕ). tree.Plain (of_copy_or 3 plan.Fork m)) e ∙ ap tree.Plain (copy_numbered 3 plan.Fork c)
+
+  -- a sketch is ready where it tells its size and its templates are
+  ready_as : (t : Sketch) (p : NumberedSketch) → numbered_sketch t ≡ p → t.extent.nodes ≡ sketch_size (sketch_over sorts trees p) →
+      t.extent.branches ≡ sketch_depth (sketch_over sorts trees p) → AreNodesReady sorts trees p → IsSketchReady sorts trees t
+  ready_as t p is nodes branches formulas = record {
+    nodes = nodes ∙ ap (λ (q : NumberedSketch). sketch_size (sketch_over sorts trees q)) (sym is);
+    branches = branches ∙ ap (λ (q : NumberedSketch). sketch_depth (sketch_over sorts trees q)) (sym is);
+    formulas = subst (AreNodesReady sorts trees) (sym is) formulas;
+  }
+
+  -- a simple node before a sketch
+  simple_ready : (s : Simple) → IsKeepReady sorts trees (simple_node s)
+  simple_ready (simple.Step copy) = tt
+  simple_ready (simple.Abs copy n) = tt
+
+  put_over : (s : Simple) (node : Node) (next : Sketch) → node_over sorts trees (simple_node s) ≡ node →
+      sketch_over sorts trees (Draw (Plain (simple_node s)) (More (numbered_sketch next) Over))
+      ≡ then_draw node (sketch_in sorts trees next)
+  put_over s node next is = ap (λ (n : Node). then_draw n (sketch_in sorts trees next)) is
+
+  pub put_drawn : (t next : Sketch) (s : Simple) (node : Node) → t.straight.list.items ≡ next.straight.list.items ++ s ∷ [] →
+      t.last ≡ next.last → node_over sorts trees (simple_node s) ≡ node →
+      sketch_in sorts trees t ≡ then_draw node (sketch_in sorts trees next)
+  put_drawn t next s node items last is = ap (sketch_over sorts trees) (pushed t next s items last) ∙ put_over s node next is
+
+  pub put_ready : (t next : Sketch) (s : Simple) (node : Node) → t.straight.list.items ≡ next.straight.list.items ++ s ∷ [] →
+      t.last ≡ next.last → node_over sorts trees (simple_node s) ≡ node → is_branching node ≡ false →
+      t.extent.nodes ≡ next.extent.nodes + 1 → t.extent.branches ≡ next.extent.branches → IsSketchReady sorts trees next →
+      IsSketchReady sorts trees t
+  put_ready t next s node items last is flat nodes branches r =
+      let p = sketch_in sorts trees next in
+      ready_as t (Draw (Plain (simple_node s)) (More (numbered_sketch next) Over)) (pushed t next s items last)
+      (nodes ∙ ap (λ (n : ℕ). n + 1) r.nodes ∙ sym (drawn_size node p) ∙ ap sketch_size (sym (put_over s node next is)))
+      (branches ∙ r.branches ∙ sym (drawn_depth node p flat) ∙ ap sketch_depth (sym (put_over s node next is)))
+      (simple_ready s, (r.formulas, tt))
+
+  pub put_err : (e : ProductError) (next : Sketch) (node : Node) → is_branching node ≡ false → IsSketchReady sorts trees next →
+      TellsExtent e (next.extent.nodes + 1) next.extent.branches → TellsSketch e (then_draw node (sketch_in sorts trees next))
+  put_err e next node flat r h =
+      let p = sketch_in sorts trees next in
+      let size : sketch_size (then_draw node p) ≡ sketch_size p + 1 = drawn_size node p in
+      let depth : sketch_depth (then_draw node p) ≡ sketch_depth p = drawn_depth node p flat in
+      let nodes : next.extent.nodes ≡ sketch_size p = r.nodes in
+      let branches : next.extent.branches ≡ sketch_depth p = r.branches in
+      tells_sketch e (next.extent.nodes + 1) next.extent.branches (then_draw node p) (omega arith) (omega arith) h
+
+  -- the end of all copies
+  pub ends_drawn : (t : Sketch) → t.straight.list.items ≡ [] → numbered_end t.last ≡ Draw (Plain Ends) Over →
+      sketch_in sorts trees t ≡ tree.ends
+  ends_drawn t none is = ap (sketch_over sorts trees) (bare t (Draw (Plain Ends) Over) none is)
+
+  pub ends_ready : (t : Sketch) → t.straight.list.items ≡ [] → numbered_end t.last ≡ Draw (Plain Ends) Over → t.extent.nodes ≡ 1 →
+      t.extent.branches ≡ 0 → IsSketchReady sorts trees t
+  ends_ready t none is nodes branches =
+      ready_as t (Draw (Plain Ends) Over) (bare t (Draw (Plain Ends) Over) none is) nodes branches (tt, tt)
+
+  -- a branching node before two sketches
+  abbrev two : NumberedSite → Sketch → Sketch → NumberedSketch
+  two site p q = Draw site (More (numbered_sketch p) (More (numbered_sketch q) Over))
+
+  abbrev two_over : tree.SketchNode → Sketch → Sketch → tree.Sketch
+  two_over node p q = tree.Draw node (tree.More (sketch_in sorts trees p) (tree.More (sketch_in sorts trees q) tree.Over))
+
+  two_size : (node : tree.SketchNode) (p q : Sketch) →
+      sketch_size (two_over node p q) ≡ sketch_size (sketch_in sorts trees p) + sketch_size (sketch_in sorts trees q) + 1
+  two_size node p q = omega arith
+
+  two_depth : (node : tree.SketchNode) (p q : Sketch) → is_branching_node node ≡ true →
+      sketch_depth (two_over node p q) ≡ max (sketch_depth (sketch_in sorts trees p)) (sketch_depth (sketch_in sorts trees q)) + 1
+  two_depth node p q h =
+      let a = sketch_depth (sketch_in sorts trees p) in
+      let b = sketch_depth (sketch_in sorts trees q) in
+      let e : suc (max a (max b 0)) ≡ max a b + 1 = omega arith in
+      ap (λ (x : Bool). if x then suc (max a (max b 0)) else max a (max b 0)) h ∙ e
+
+  pub two_drawn : (t p q : Sketch) (site : NumberedSite) (node : tree.SketchNode) → t.straight.list.items ≡ [] →
+      numbered_end t.last ≡ two site p q → site_over sorts trees site ≡ node → sketch_in sorts trees t ≡ two_over node p q
+  two_drawn t p q site node none is same =
+      ap (sketch_over sorts trees) (bare t (two site p q) none is) ∙ ap (λ (n : tree.SketchNode). two_over n p q) same
+
+  pub two_ready : (t p q : Sketch) (site : NumberedSite) (node : tree.SketchNode) → t.straight.list.items ≡ [] →
+      numbered_end t.last ≡ two site p q → site_over sorts trees site ≡ node → is_branching_node node ≡ true →
+      IsSiteReady sorts trees site → t.extent.nodes ≡ p.extent.nodes + q.extent.nodes + 1 →
+      t.extent.branches ≡ max p.extent.branches q.extent.branches + 1 → IsSketchReady sorts trees p → IsSketchReady sorts trees q →
+      IsSketchReady sorts trees t
+  two_ready t p q site node none is same branching ready nodes branches first second =
+      ready_as t (two site p q) (bare t (two site p q) none is)
+      (nodes ∙ (λ i. first.nodes i + second.nodes i + 1) ∙ sym (two_size node p q)
+      ∙ ap (λ (n : tree.SketchNode). sketch_size (two_over n p q)) (sym same))
+      (branches ∙ (λ i. max (first.branches i) (second.branches i) + 1) ∙ sym (two_depth node p q branching)
+      ∙ ap (λ (n : tree.SketchNode). sketch_depth (two_over n p q)) (sym same))
+      (ready, (first.formulas, (second.formulas, tt)))
+
+  pub two_err : (e : ProductError) (p q : Sketch) (node : tree.SketchNode) (n b : ℕ) → is_branching_node node ≡ true →
+      n ≤ p.extent.nodes + q.extent.nodes + 1 → b ≤ max p.extent.branches q.extent.branches + 1 → IsSketchReady sorts trees p →
+      IsSketchReady sorts trees q → TellsExtent e n b → TellsSketch e (two_over node p q)
+  two_err e p q node n b branching few flat first second h =
+      let size = two_size node p q in
+      let depth = two_depth node p q branching in
+      let nodes : p.extent.nodes + q.extent.nodes + 1 ≡ sketch_size (two_over node p q) =
+      (λ i. first.nodes i + second.nodes i + 1) ∙ sym size in
+      let branches : max p.extent.branches q.extent.branches + 1 ≡ sketch_depth (two_over node p q) =
+      (λ i. max (first.branches i) (second.branches i) + 1) ∙ sym depth in
+      tells_sketch e n b (two_over node p q) (subst (λ (m : ℕ). n ≤ m) nodes few) (subst (λ (m : ℕ). b ≤ m) branches flat) h
+
+  -- turns before what follows
+  turns_over : (ss : List Sketch) (q : NumberedSketch) (turn : Copies → tree.Sketch) (vs : List Copies) →
+      map (sketch_in sorts trees) ss ≡ map turn vs →
+      sketches_over sorts trees (sketches_before (map numbered_sketch ss) (More q Over)) ≡ turns_then turn vs (sketch_over sorts trees q)
+  turns_over [] q turn [] e = refl
+  turns_over [] q turn (v ∷ vs) e = absurd cc
+  turns_over (s ∷ ss) q turn [] e = absurd cc
+  turns_over (s ∷ ss) q turn (v ∷ vs) e =
+      let one : sketch_in sorts trees s ≡ turn v = cc in
+      let rest : map (sketch_in sorts trees) ss ≡ map turn vs = cc in
+      let more = turns_over ss q turn vs rest in
+      λ i. tree.More (one i) (more i)
+
+  turns_size : (ss : List Sketch) (q : NumberedSketch) → AreSketchesReady sorts trees ss →
+      sizes_below (sketches_over sorts trees (sketches_before (map numbered_sketch ss) (More q Over)))
+      ≡ total_nodes ss + sketch_size (sketch_over sorts trees q)
+  turns_size [] q r = omega arith
+  turns_size (s ∷ ss) q r =
+      let one : s.extent.nodes ≡ sketch_size (sketch_over sorts trees (numbered_sketch s)) = r.0.nodes in
+      let rest = turns_size ss q r.1 in
+      let size = sketch_size (sketch_over sorts trees q) in
+      let e : s.extent.nodes + (total_nodes ss + size) ≡ (s.extent.nodes + total_nodes ss) + size = omega arith in
+      (λ i. sym one i + rest i) ∙ e
+
+  turns_depth : (ss : List Sketch) (q : NumberedSketch) → AreSketchesReady sorts trees ss →
+      deepest_below (sketches_over sorts trees (sketches_before (map numbered_sketch ss) (More q Over)))
+      ≡ max (most_branches ss) (sketch_depth (sketch_over sorts trees q))
+  turns_depth [] q r = let d = sketch_depth (sketch_over sorts trees q) in let e : max d 0 ≡ max 0 d = omega arith in e
+  turns_depth (s ∷ ss) q r =
+      let one : s.extent.branches ≡ sketch_depth (sketch_over sorts trees (numbered_sketch s)) = r.0.branches in
+      let rest = turns_depth ss q r.1 in
+      let b = s.extent.branches in
+      let m = most_branches ss in
+      let d = sketch_depth (sketch_over sorts trees q) in
+      let e : max b (max m d) ≡ max (max b m) d = omega arith in
+      (λ i. max (sym one i) (rest i)) ∙ e
+
+  turns_ready : (ss : List Sketch) (q : NumberedSketch) → AreSketchesReady sorts trees ss → AreNodesReady sorts trees q →
+      AreBelowReady sorts trees (sketches_before (map numbered_sketch ss) (More q Over))
+  turns_ready [] q r last = (last, tt)
+  turns_ready (s ∷ ss) q r last = (r.0.formulas, turns_ready ss q r.1 last)
+
+  -- loops
+  abbrev loops : ℕ → List Formula → List Sketch → Sketch → NumberedSketch
+  loops set fs ss after = Draw (LoopSite set fs) (sketches_before (map numbered_sketch ss) (More (numbered_sketch after) Over))
+
+  loops_over : (set : ℕ) (fs : List Formula) (ss : List Sketch) (after : Sketch) (turn : Copies → tree.Sketch) →
+      map (sketch_in sorts trees) ss ≡ map turn (subsets (set_of set)) →
+      sketch_over sorts trees (loops set fs ss after) ≡ looped (forms_in sorts trees fs) (set_of set) turn (sketch_in sorts trees after)
+  loops_over set fs ss after turn e =
+      ap (tree.Draw (tree.LoopSite (set_of set) (forms_in sorts trees fs)))
+      (turns_over ss (numbered_sketch after) turn (subsets (set_of set)) e)
+
+  loops_size : (set : ℕ) (fs : List Formula) (ss : List Sketch) (after : Sketch) → AreSketchesReady sorts trees ss →
+      IsSketchReady sorts trees after →
+      total_nodes ss + after.extent.nodes + 1 ≡ sketch_size (sketch_over sorts trees (loops set fs ss after))
+  loops_size set fs ss after turns last =
+      let size = sketch_size (sketch_in sorts trees after) in
+      let e : total_nodes ss + size + 1 ≡ suc (total_nodes ss + size) = omega arith in
+      (λ i. total_nodes ss + last.nodes i + 1) ∙ e ∙ ap suc (sym (turns_size ss (numbered_sketch after) turns))
+
+  loops_depth : (set : ℕ) (fs : List Formula) (ss : List Sketch) (after : Sketch) → AreSketchesReady sorts trees ss →
+      IsSketchReady sorts trees after →
+      max (most_branches ss) after.extent.branches + 1 ≡ sketch_depth (sketch_over sorts trees (loops set fs ss after))
+  loops_depth set fs ss after turns last =
+      let d = sketch_depth (sketch_in sorts trees after) in
+      let e : max (most_branches ss) d + 1 ≡ suc (max (most_branches ss) d) = omega arith in
+      (λ i. max (most_branches ss) (last.branches i) + 1) ∙ e ∙ ap suc (sym (turns_depth ss (numbered_sketch after) turns))
+
+  pub loops_drawn : (t : Sketch) (set : ℕ) (fs : List Formula) (ss : List Sketch) (after : Sketch) (turn : Copies → tree.Sketch) →
+      t.straight.list.items ≡ [] → numbered_end t.last ≡ loops set fs ss after →
+      map (sketch_in sorts trees) ss ≡ map turn (subsets (set_of set)) →
+      sketch_in sorts trees t ≡ looped (forms_in sorts trees fs) (set_of set) turn (sketch_in sorts trees after)
+  loops_drawn t set fs ss after turn none is e =
+      ap (sketch_over sorts trees) (bare t (loops set fs ss after) none is) ∙ loops_over set fs ss after turn e
+
+  pub loops_ready : (t : Sketch) (set : ℕ) (fs : List Formula) (ss : List Sketch) (after : Sketch) → t.straight.list.items ≡ [] →
+      numbered_end t.last ≡ loops set fs ss after → t.extent.nodes ≡ total_nodes ss + after.extent.nodes + 1 →
+      t.extent.branches ≡ max (most_branches ss) after.extent.branches + 1 → IsSiteReady sorts trees (LoopSite set fs) →
+      AreSketchesReady sorts trees ss → IsSketchReady sorts trees after → IsSketchReady sorts trees t
+  loops_ready t set fs ss after none is nodes branches ready turns last =
+      ready_as t (loops set fs ss after) (bare t (loops set fs ss after) none is) (nodes ∙ loops_size set fs ss after turns last)
+      (branches ∙ loops_depth set fs ss after turns last) (ready, turns_ready ss (numbered_sketch after) turns last.formulas)
+
+  pub loops_err : (e : ProductError) (set : ℕ) (fs : List Formula) (ss : List Sketch) (after : Sketch) (turn : Copies → tree.Sketch)
+      (n b : ℕ) → map (sketch_in sorts trees) ss ≡ map turn (subsets (set_of set)) → n ≤ total_nodes ss + after.extent.nodes + 1 →
+      b ≤ max (most_branches ss) after.extent.branches + 1 → AreSketchesReady sorts trees ss → IsSketchReady sorts trees after →
+      TellsExtent e n b → TellsSketch e (looped (forms_in sorts trees fs) (set_of set) turn (sketch_in sorts trees after))
+  loops_err e set fs ss after turn n b same few flat turns last h =
+      let over = sketch_over sorts trees (loops set fs ss after) in
+      subst (TellsSketch e) (loops_over set fs ss after turn same)
+      (tells_sketch e n b over (subst (λ (m : ℕ). n ≤ m) (loops_size set fs ss after turns last) few)
+      (subst (λ (m : ℕ). b ≤ m) (loops_depth set fs ss after turns last) flat) h)
+
+-- nodes of a set, of which that of the first copy comes last
+pub each_ok : (sorts : Sorts) (trees : List Tree) (set : Copies) (node : Copy → Node) (p q r s : tree.Sketch) →
+    q ≡ drawn_where (has set M) (node M) p → r ≡ drawn_where (has set B) (node B) q → s ≡ drawn_where (has set A) (node A) r →
+    (done : Result Sketch ProductError) →
+    IfOk done (λ (t : Sketch). sketch_in sorts trees t ≡ drawn_where (has set O) (node O) s) →
+    IfOk done (λ (t : Sketch). sketch_in sorts trees t ≡ each_of node (members set) p)
+each_ok sorts trees set node p q r s four three two (Ok t) one = each_drawn set node p q r s (sketch_in sorts trees t) four three two one
+each_ok sorts trees set node p q r s four three two (Err e) one = tt
+
+-- a statement by itself or by its summary doesn't branch
+pub way_flat : (w : Way) (c : Copy) → is_branching (node_by w c) ≡ false
+way_flat way.Statement c = refl
+way_flat way.Summary c = refl

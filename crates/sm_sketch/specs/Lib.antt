@@ -1,0 +1,9 @@
+pub mod Sketches
+pub mod Choices
+pub mod SketchSizes
+pub mod NumberedSketches
+pub mod SketchViews
+pub mod Errors
+pub mod Extents
+pub mod ChoiceViews
+pub mod SketchSites

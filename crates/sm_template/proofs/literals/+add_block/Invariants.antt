@@ -1,0 +1,12 @@
+-- The literals so far, with those of the statements that are left, are those of the start with the block's.
+use Rattle.std.proofs.Common.{◌≡◌, map, drop}
+use Rattle.sm_syntax.specs.claim.Syntax.{End}
+use Rattle.sm_syntax.specs.trees.Views.{sequence, statement_of, code_of}
+use Rattle.sm_template.specs.FirstLiterals.{with_literals}
+use Rattle.sm_template.specs.Literals.{literals_used}
+use Rattle.sm_template.proofs.literals.+add_block.Given as goal
+
+abbrev pub invariant-add_block-loop-s : goal.invariant-add_block-loop-s
+invariant-add_block-loop-s l =
+    with_literals l.fn.list.items (literals_used (code_of l.b))
+    ≡ with_literals l.list.items (literals_used (sequence (map statement_of (drop l.s-index l.s-items)) End))

@@ -1,0 +1,10 @@
+-- The literals of the first fillings are taken.
+use Rattle.std.proofs.Common.{◌≡◌, take}
+use Rattle.sm_template.specs.FirstLiterals.{with_literals}
+use Rattle.sm_template.specs.Literals.{literals_filled}
+use Rattle.sm_template.proofs.LiteralsLemmas.{filled_by}
+use Rattle.sm_template.proofs.literals.add_fillings.Given as goal
+
+abbrev pub invariant-loop-f : goal.invariant-loop-f
+invariant-loop-f l =
+    l.list.items ≡ with_literals l.fn.list.items (literals_filled (filled_by (take l.f-index l.f-items)))

@@ -1,0 +1,40 @@
+-- The slot, the literal and their sum.
+use Rattle.std.proofs.Common.{◌≡◌, Some, refl, IfOk, slice_get, ap, subst, ◌∙◌}
+use Rattle.std.specs.Int.{w128}
+use Rattle.std.proofs.lemmas.Bool.{and_from}
+use Rattle.std.proofs.lemmas.Int.{to_z-of_z}
+use Rattle.sm_syntax.specs.declared.tree.Sort.TheVariants.{Num}
+use Rattle.sm_syntax.specs.text.Sorts.{Sorts}
+use Rattle.sm_syntax.specs.trees.Copies.{copy_named}
+use Rattle.sm_term.specs.declared.term.TermId.{TermId}
+use Rattle.sm_term.specs.Terms.{Tree, Lit, Slot, Add}
+use Rattle.sm_term.specs.Sorted.{sort_named}
+use Rattle.sm_term.specs.Tables.{trees_in, sorts_in, tree_at}
+use Rattle.sm_term.proofs.ExpressionLemmas.{stays_got, tree_got, sort_got}
+use Rattle.sm_plan.proofs.SortedTerms.{sort_is}
+use Rattle.sm_template.proofs.terms.above.Goals as goal
+
+pub made-requires-2-clause-fits : goal.made-requires-2-clause-fits
+made-requires-2-clause-fits c =
+    let v = c.args.table.now in
+    let u = c.slot.new.table in
+    let w = c.made.new.table in
+    let x = c.args.x.0 in
+    let slot = stays_got u w c.made.ensures.grows c.in_ok-t.t.0 _ c.in_ok-t.ensures.made in
+    let sort : sort_named (sorts_in w) x ≡ Num =
+    ap (λ (f : Sorts). sort_named f x) (c.made.ensures.grows.sorts ∙ c.slot.ensures.grows.sorts)
+    ∙ sort_is (sorts_in v) x Num c.requires in
+    and_from _ _ (sort_got (sorts_in w) (trees_in w) c.in_ok-t.t _ Num slot sort)
+    (sort_got (sorts_in w) (trees_in w) c.in_ok-u.u _ Num c.in_ok-u.ensures.stored refl)
+
+pub returns-clause-made : goal.returns-clause-made
+returns-clause-made c =
+    let u = c.slot.new.table in
+    let w = c.made.new.table in
+    let z = c.made-2.new.table in
+    let slot = stays_got u w c.made.ensures.grows c.in_ok-t.t.0 _ c.in_ok-t.ensures.made in
+    let p : tree_at (trees_in w) c.in_ok-t.t.0 ≡ Slot (copy_named c.args.c) c.args.x.0 = tree_got (trees_in w) c.in_ok-t.t.0 _ slot in
+    let q : tree_at (trees_in w) c.in_ok-u.u.0 ≡ Lit c.args.v = tree_got (trees_in w) c.in_ok-u.u.0 _ c.in_ok-u.ensures.stored
+    ∙ ap Lit (to_z-of_z w128 c.args.v c.ranges.v) in
+    subst (λ (t : Tree). IfOk c.made-2.result (λ (id : TermId). slice_get (trees_in z) id.0 ≡ Some t)) (λ k. Add (p k) (q k))
+    c.made-2.ensures.stored

@@ -1,0 +1,50 @@
+-- The six places, of which the first four stay.
+use Rattle.std.proofs.Common.{◌≡◌, ◌∙◌, ℕ, Some, ap}
+use Rattle.sm_syntax.specs.declared.tree.Sort.{Sort}
+use Rattle.sm_syntax.specs.text.Sorts.{Sorts}
+use Rattle.sm_deps.proofs.MembersLemmas.{if_ok}
+use Rattle.sm_term.specs.declared.formula.Formula.{Formula}
+use Rattle.sm_term.specs.Formulas as over
+use Rattle.sm_term.specs.Formulas.{numbered}
+use Rattle.sm_term.specs.Tables.{sorts_in}
+use Rattle.sm_term.proofs.ExpressionLemmas.{stays_got}
+use Rattle.sm_plan.specs.States.{place}
+use Rattle.sm_template.specs.AddedForms.{IsFormMade}
+use Rattle.sm_template.specs.NameShapes.{adds_nothing}
+use Rattle.sm_template.proofs.TermsMade.{adds_made}
+use Rattle.sm_template.proofs.terms.adds_nothing.Goals as goal
+
+pub places-requires-2 : goal.places-requires-2
+places-requires-2 c = record { declared = ap (λ (f : Sorts). f c.args.x.0) c.places.ensures.grows.sorts ∙ c.requires.declared }
+
+pub places-requires-3 : goal.places-requires-3
+places-requires-3 c =
+    record { declared = ap (λ (f : Sorts). f c.args.x.0) (c.places-2.ensures.grows.sorts ∙ c.places.ensures.grows.sorts) ∙ c.requires.declared }
+
+pub returns-clause-made : goal.returns-clause-made
+returns-clause-made c =
+    let u = c.places.new.table in
+    let v = c.places-2.new.table in
+    let w = c.places-3.new.table in
+    let first = c.places-2.ensures.grows in
+    let second = c.places-3.ensures.grows in
+    let name : ℕ × Sort = (c.args.x.0, c.args.sort) in
+    let known : sorts_in w name.0 ≡ Some name.1 =
+    ap (λ (f : Sorts). f c.args.x.0) (second.sorts ∙ first.sorts ∙ c.places.ensures.grows.sorts) ∙ c.requires.declared in
+    let t = c.in_ok-t.t.0 in
+    let s = c.in_ok-t.u.0 in
+    let a = c.in_ok-a.a.0 in
+    let b = c.in_ok-a.b.0 in
+    let m = c.in_ok-m.m.0 in
+    let o = c.in_ok-m.o.0 in
+    let inner = over.Or (over.Ne a b) (over.Eq m o) in
+    let last = numbered c.in_ok-last.last in
+    if_ok c.either-2.result (λ (f : Formula). numbered f ≡ over.Or (over.Ne t s) last)
+    (λ (f : Formula). IsFormMade w f (adds_nothing (place name))) c.either-2.ensures
+    (λ (f : Formula) (e : numbered f ≡ over.Or (over.Ne t s) last).
+    adds_made w name known f t s a b m o (e ∙ ap (over.Or (over.Ne t s)) c.in_ok-last.ensures)
+    (stays_got v w second t _ (stays_got u v first t _ c.in_ok-t.ensures.first))
+    (stays_got v w second s _ (stays_got u v first s _ c.in_ok-t.ensures.second))
+    (stays_got v w second a _ c.in_ok-a.ensures.first)
+    (stays_got v w second b _ c.in_ok-a.ensures.second)
+    c.in_ok-m.ensures.first c.in_ok-m.ensures.second)

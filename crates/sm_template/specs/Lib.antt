@@ -1,0 +1,12 @@
+pub mod Distinct
+pub mod SameFormulas
+pub mod Written
+pub mod Literals
+pub mod Guards
+pub mod Templates
+pub mod Sites
+pub mod AddedForms
+pub mod Bounds
+pub mod FirstLiterals
+pub mod NameShapes
+pub mod TemplateLaws
