@@ -6,19 +6,18 @@ use Rattle.std.specs.Prelude.{unwrap_or, option_to_list}
 use Rattle.std.specs.List.{list_all, range_with_len}
 use Rattle.std.proofs.lemmas.Bool.Decides.{nat_tests, Decides-eqb}
 use Rattle.std.proofs.lemmas.Option.{same_Some}
-use Rattle.sm_syntax.specs.claim.ConflictFree.{Copy}
 use Rattle.sm_syntax.specs.text.Conditions.{is_in}
 use Rattle.sm_syntax.specs.text.Parts.{Parts, task_of}
 use Rattle.sm_term.specs.Assertions.{Assertion}
-use Rattle.sm_term.specs.Slots.{at_stores, all_at_stores}
-use Rattle.sm_term.specs.Symbolic.{SymbolicStore}
+use Rattle.sm_term.specs.Slots.{at_stores}
 use Rattle.sm_plan.specs.Plans.{Due, Fault, obligations}
-use Rattle.sm_product.specs.Choices.{Choice, chosen_at, picked, all_chosen}
+use Rattle.sm_moves.proofs.SetsLemmas.{Each}
+use Rattle.sm_sketch.specs.Choices.{Choice, chosen_at, picked, all_chosen}
+use Rattle.sm_sketch.specs.Sketches.{sites_of}
 use Rattle.sm_product.specs.ProductPlans.{templates, plan_of, full_choice}
 use Rattle.sm_product.specs.Products.{sketch_of}
-use Rattle.sm_product.specs.Sketches.{sites_of}
-use Rattle.sm_product.proofs.SetsLemmas.{Each}
-use Rattle.sm_houdini.specs.Laws.{AskChosen, round_at, IsRefuted, DroppedAreRefuted}
+use Rattle.sm_houdini.specs.Laws.{AllAskChosen, round_at, IsRefuted, DroppedAreRefuted}
+use Rattle.sm_houdini.specs.Obligations.{AsksChosen}
 use Rattle.sm_houdini.specs.Owners.{owner_of}
 use Rattle.sm_houdini.specs.Rounds.{dues_in, dues_of, is_site, closes_if, holds_at, numbers_kept, sites_kept, next_round, total, same_choice}
 use Rattle.sm_houdini.specs.Rounds.{settled, kept}
@@ -52,15 +51,15 @@ full_at [] s = refl
 full_at (ts ∷ sites) zero = refl
 full_at (ts ∷ sites) (suc s) = full_at sites s
 
-either_right : (a b : Bool) → b ≡ true → (a || b) ≡ true
+pub either_right : (a b : Bool) → b ≡ true → (a || b) ≡ true
 either_right true b e = refl
 either_right false b e = e
 
-either_left : (a b : Bool) → a ≡ true → (a || b) ≡ true
+pub either_left : (a b : Bool) → a ≡ true → (a || b) ≡ true
 either_left true b e = refl
 either_left false b e = absurd cc
 
-number_itself : (n : ℕ) → (n == n) ≡ true
+pub number_itself : (n : ℕ) → (n == n) ≡ true
 number_itself n = grind (arith, nat_tests)
 
 range_has : (k len n : ℕ) → n < len → is_in (range_with_len k len) (k + n) ≡ true
@@ -75,7 +74,7 @@ range_has k (suc len) (suc n) less =
     (subst (λ (m : ℕ). is_in (range_with_len (k + 1) len) m ≡ true) same (range_has (k + 1) len n (omega (arith, less))))
 
 -- numbers below one
-abbrev AreBelow : ℕ → List ℕ → Type 0
+abbrev pub AreBelow : ℕ → List ℕ → Type 0
 AreBelow len ns = Each (λ (n : ℕ). n < len) ns
 
 range_below : (k len most : ℕ) → k + len ≡ most → AreBelow most (range_with_len k len)
@@ -92,7 +91,7 @@ kept_below most passes i (n ∷ ns) h = by (passes i) (kept_below most passes (s
     by false g = g
 
 -- a number in a list has a place
-place_in : (ns : List ℕ) (n : ℕ) → is_in ns n ≡ true → (i : ℕ) × (slice_get ns i ≡ Some n)
+pub place_in : (ns : List ℕ) (n : ℕ) → is_in ns n ≡ true → (i : ℕ) × (slice_get ns i ≡ Some n)
 place_in [] n h = absurd cc
 place_in (m ∷ ns) n h = by (n == m) refl h (place_in ns n)
   where
@@ -102,7 +101,7 @@ place_in (m ∷ ns) n h = by (n == m) refl h (place_in ns n)
     by false e g later = let p = later g in (suc p.0, p.1)
 
 -- where its place passes, it is kept
-number_kept : (passes : ℕ → Bool) (i : ℕ) (ns : List ℕ) (j n : ℕ) → slice_get ns j ≡ Some n → passes (i + j) ≡ true →
+pub number_kept : (passes : ℕ → Bool) (i : ℕ) (ns : List ℕ) (j n : ℕ) → slice_get ns j ≡ Some n → passes (i + j) ≡ true →
     is_in (numbers_kept passes i ns) n ≡ true
 number_kept passes i [] j n e h = absurd cc
 number_kept passes i (m ∷ ns) zero n e h =
@@ -122,13 +121,88 @@ number_kept passes i (m ∷ ns) (suc j) n e h =
     by true f = either_right (n == m) (is_in (numbers_kept passes (suc i) ns) n) f
     by false f = f
 
-there_is : (us : List Assertion) (k : ℕ) → k < length us → (f : Assertion) × (slice_get us k ≡ Some f)
+-- no number stands twice
+abbrev AreOnce : List ℕ → Type 0
+AreOnce [] = Unit {0}
+AreOnce (n ∷ ns) = (is_in ns n ≡ false) × AreOnce ns
+
+neither : (a b : Bool) → a ≡ false → b ≡ false → (a || b) ≡ false
+neither true b e f = absurd cc
+neither false b e f = f
+
+range_without : (k len n : ℕ) → n < k → is_in (range_with_len k len) n ≡ false
+range_without k zero n less = refl
+range_without k (suc len) n less =
+    neither (n == k) (is_in (range_with_len (k + 1) len) n) (other n k less) (range_without (k + 1) len n (omega (arith, less)))
+  where
+    other : (m l : ℕ) → m < l → (m == l) ≡ false
+    other m l h = grind (arith, nat_tests, h)
+
+range_once : (k len : ℕ) → AreOnce (range_with_len k len)
+range_once k zero = tt
+range_once k (suc len) = (range_without (k + 1) len k (omega arith), range_once (k + 1) len)
+
+-- what isn't there isn't kept
+kept_without : (passes : ℕ → Bool) (i : ℕ) (ns : List ℕ) (n : ℕ) → is_in ns n ≡ false → is_in (numbers_kept passes i ns) n ≡ false
+kept_without passes i [] n h = refl
+kept_without passes i (m ∷ ns) n h = by (n == m) refl h (passes i) (kept_without passes (suc i) ns n)
+  where
+    by : (b : Bool) → (n == m) ≡ b → (b || is_in ns n) ≡ false → (c : Bool) →
+        (is_in ns n ≡ false → is_in (numbers_kept passes (suc i) ns) n ≡ false) →
+        is_in (if c then m ∷ numbers_kept passes (suc i) ns else numbers_kept passes (suc i) ns) n ≡ false
+    by true e g c later = absurd cc
+    by false e g true later = neither (n == m) (is_in (numbers_kept passes (suc i) ns) n) e (later g)
+    by false e g false later = later g
+
+kept_once : (passes : ℕ → Bool) (i : ℕ) (ns : List ℕ) → AreOnce ns → AreOnce (numbers_kept passes i ns)
+kept_once passes i [] h = tt
+kept_once passes i (n ∷ ns) h = by (passes i) (kept_once passes (suc i) ns h.1)
+  where
+    by : (b : Bool) → AreOnce (numbers_kept passes (suc i) ns) →
+        AreOnce (if b then n ∷ numbers_kept passes (suc i) ns else numbers_kept passes (suc i) ns)
+    by true g = (kept_without passes (suc i) ns n h.0, g)
+    by false g = g
+
+-- what has a place is there
+in_place : (ns : List ℕ) (j n : ℕ) → slice_get ns j ≡ Some n → is_in ns n ≡ true
+in_place [] j n e = absurd cc
+in_place (m ∷ ns) zero n e = either_left (n == m) (is_in ns n) (ap (λ (k : ℕ). n == k) (same_Some m n e) ∙ number_itself n)
+in_place (m ∷ ns) (suc j) n e = either_right (n == m) (is_in ns n) (in_place ns j n e)
+
+-- where its place doesn't pass, it isn't kept
+number_gone : (passes : ℕ → Bool) (i : ℕ) (ns : List ℕ) (j n : ℕ) → AreOnce ns → slice_get ns j ≡ Some n → passes (i + j) ≡ false →
+    is_in (numbers_kept passes i ns) n ≡ false
+number_gone passes i [] j n once e h = refl
+number_gone passes i (m ∷ ns) zero n once e h =
+    let same : i + 0 ≡ i = omega arith in by (passes i) (ap passes (sym same) ∙ h)
+  where
+    by : (b : Bool) → b ≡ false → is_in (if b then m ∷ numbers_kept passes (suc i) ns else numbers_kept passes (suc i) ns) n ≡ false
+    by true f = absurd cc
+    by false f =
+        kept_without passes (suc i) ns n (subst (λ (k : ℕ). is_in ns k ≡ false) (same_Some m n e) once.0)
+number_gone passes i (m ∷ ns) (suc j) n once e h =
+    let same : suc i + j ≡ i + suc j = omega arith in
+    by (passes i) (n == m) refl (number_gone passes (suc i) ns j n once.1 e (ap passes same ∙ h))
+  where
+    different : true ≡ false → ⊥
+    different g = absurd cc
+
+    by : (b c : Bool) → (n == m) ≡ c → is_in (numbers_kept passes (suc i) ns) n ≡ false →
+        is_in (if b then m ∷ numbers_kept passes (suc i) ns else numbers_kept passes (suc i) ns) n ≡ false
+    by true true f g =
+        absurd
+        (different
+        (sym (in_place ns j n e) ∙ subst (λ (k : ℕ). is_in ns k ≡ false) (sym ((Decides-eqb n m).0 f)) once.0))
+    by true false f g = neither (n == m) (is_in (numbers_kept passes (suc i) ns) n) f g
+    by false c f g = g
+
+pub there_is : (us : List Assertion) (k : ℕ) → k < length us → (f : Assertion) × (slice_get us k ≡ Some f)
 there_is [] k less = absurd (omega (arith, less))
 there_is (u ∷ us) zero less = (u, refl)
 there_is (u ∷ us) (suc k) less = there_is us k (omega (arith, less))
 
 -- the template at a number's place
-picked_at : (ts : List Assertion) (ns : List ℕ) (i n : ℕ) → AreBelow (length ts) ns → slice_get ns i ≡ Some n →
+pub picked_at : (ts : List Assertion) (ns : List ℕ) (i n : ℕ) → AreBelow (length ts) ns → slice_get ns i ≡ Some n →
     slice_get (picked ts ns) i ≡ slice_get ts n
 picked_at ts [] i n below e = absurd cc
 picked_at ts (m ∷ ns) i n below e = by i e (there_is ts m below.0) (λ (j : ℕ) (f : slice_get ns j ≡ Some n). picked_at ts ns j n below.1 f)
@@ -142,7 +216,7 @@ picked_at ts (m ∷ ns) i n below e = by i e (there_is ts m below.0) (λ (j : �
     by (suc j) g f later =
         ap (λ (o : Option Assertion). slice_get (option_to_list o ++ picked ts ns) (suc j)) f.1 ∙ later j g
 
-map_at : (f : Assertion → Assertion) (gs : List Assertion) (i : ℕ) (g : Assertion) → slice_get gs i ≡ Some g →
+pub map_at : (f : Assertion → Assertion) (gs : List Assertion) (i : ℕ) (g : Assertion) → slice_get gs i ≡ Some g →
     slice_get (map f gs) i ≡ Some (f g)
 map_at f [] i g e = absurd cc
 map_at f (h ∷ gs) zero g e = ap (λ (k : Assertion). Some (f k)) (same_Some h g e)
@@ -164,15 +238,11 @@ one_fails test (d ∷ ds) h = by (test d) refl h (one_fails test ds)
     by false e g later = record { place = 0; due = d; there = refl; fails = e }
 
 -- what an obligation of a site asks
-ask_at : (t : Parts) (choice : Choice) (ds : List Due) (place : ℕ) (d : Due) → AskChosen t choice ds → slice_get ds place ≡ Some d →
-    (s : ℕ) → owner_of t d ≡ Some s →
-    (stores : Copy → SymbolicStore) × (d.goals ≡ all_at_stores stores (picked (templates t s) (chosen_at choice s)))
+ask_at : (t : Parts) (choice : Choice) (ds : List Due) (place : ℕ) (d : Due) → AllAskChosen t choice ds → slice_get ds place ≡ Some d →
+    (s : ℕ) → owner_of t d ≡ Some s → AsksChosen t choice s d
 ask_at t choice [] place d asks e = absurd cc
 ask_at t choice (c ∷ ds) zero d asks e =
-    subst
-    (λ (b : Due). (s : ℕ) → owner_of t b ≡ Some s →
-    (stores : Copy → SymbolicStore) × (b.goals ≡ all_at_stores stores (picked (templates t s) (chosen_at choice s))))
-    (same_Some c d e) asks.0
+    subst (λ (b : Due). (s : ℕ) → owner_of t b ≡ Some s → AsksChosen t choice s b) (same_Some c d e) asks.0
 ask_at t choice (c ∷ ds) (suc place) d asks e = ask_at t choice ds place d asks.1 e
 
 -- a test that fails though a site may own it
@@ -186,7 +256,7 @@ owned_by (Some n) s h = ap (λ (k : ℕ). Some k) ((Decides-eqb n s).0 h)
 
 module _ (closes : List Assertion → Assertion → Bool) (t : Parts) where
   -- the numbers of a round are those of templates
-  round_below : (r s : ℕ) → AreBelow (length (templates t s)) (chosen_at (round_at closes t r) s)
+  pub round_below : (r s : ℕ) → AreBelow (length (templates t s)) (chosen_at (round_at closes t r) s)
   round_below zero s =
       subst (AreBelow (length (templates t s))) (sym (full_at (sites_of (sketch_of t)) s))
       (range_below 0 (length (templates t s)) (length (templates t s)) (omega arith))
@@ -195,15 +265,24 @@ module _ (closes : List Assertion → Assertion → Bool) (t : Parts) where
       subst (AreBelow (length (templates t s))) (sym (sites_at passes 0 (round_at closes t r) s))
       (kept_below (length (templates t s)) (passes (0 + s)) 0 (chosen_at (round_at closes t r) s) (round_below r s))
 
-  all_ask : (choice : Choice) → AskChosen t choice (dues_of t choice)
+  -- no number of a round stands twice
+  round_once : (r s : ℕ) → AreOnce (chosen_at (round_at closes t r) s)
+  round_once zero s =
+      subst AreOnce (sym (full_at (sites_of (sketch_of t)) s)) (range_once 0 (length (templates t s)))
+  round_once (suc r) s =
+      let passes = holds_at closes (owner_of t) (dues_of t (round_at closes t r)) in
+      subst AreOnce (sym (sites_at passes 0 (round_at closes t r) s))
+      (kept_once (passes (0 + s)) 0 (chosen_at (round_at closes t r) s) (round_once r s))
+
+  all_ask : (choice : Choice) → AllAskChosen t choice (dues_of t choice)
   all_ask choice = by (obligations (task_of t) (plan_of t choice)) refl
     where
-      by : (x : Result (List Due) Fault) → obligations (task_of t) (plan_of t choice) ≡ x → AskChosen t choice (dues_in x)
+      by : (x : Result (List Due) Fault) → obligations (task_of t) (plan_of t choice) ≡ x → AllAskChosen t choice (dues_in x)
       by (Err w) e = tt
       by (Ok ds) e = owners_ask t choice ds e
 
   -- a template whose place doesn't hold is refuted
-  place_refuted : (r s n i : ℕ) (template : Assertion) → slice_get (templates t s) n ≡ Some template →
+  pub place_refuted : (r s n i : ℕ) (template : Assertion) → slice_get (templates t s) n ≡ Some template →
       slice_get (chosen_at (round_at closes t r) s) i ≡ Some n →
       holds_at closes (owner_of t) (dues_of t (round_at closes t r)) s i ≡ false →
       IsRefuted closes t (round_at closes t r) s n
@@ -216,20 +295,33 @@ module _ (closes : List Assertion → Assertion → Bool) (t : Parts) where
       let own = owned_by (owner_of t d) s both.0 in
       let asks = ask_at t choice (dues_of t choice) failed.place d (all_ask choice) failed.there s own in
       let stands = picked_at (templates t s) (chosen_at choice s) i n (round_below r s) chosen ∙ there in
-      let goal : slice_get d.goals i ≡ Some (at_stores asks.0 template) =
-      ap (λ (gs : List Assertion). slice_get gs i) asks.1
-      ∙ map_at (at_stores asks.0) (picked (templates t s) (chosen_at choice s)) i template stands in
+      let goal : slice_get d.goals i ≡ Some (at_stores asks.state.stores template) =
+      ap (λ (gs : List Assertion). slice_get gs i) asks.goals
+      ∙ map_at (at_stores asks.state.stores) (picked (templates t s) (chosen_at choice s)) i template stands in
+      let site : 0 + s ≡ s = omega arith in
       record {
-        due = d;
-        place = failed.place;
-        asked_there = failed.there;
-        owner = own;
+        obligation = record {
+          number = failed.place;
+          due = d;
+          is_due = failed.there;
+          owner = own;
+          place = i;
+          is_chosen = chosen;
+          goal = at_stores asks.state.stores template;
+          is_goal = goal;
+        };
+        asks = asks;
         template = template;
         is_template = there;
-        stores = asks.0;
-        goal = i;
-        is_goal = goal;
+        is_picked = stands;
+        is_instance = refl;
         fails = ap (closes_if (closes d.facts)) (sym goal) ∙ both.1;
+        goes =
+            subst (λ (ns : List ℕ). is_in ns n ≡ false) (sym (sites_at (holds_at closes (owner_of t) (dues_of t choice)) 0 choice s))
+            (number_gone (holds_at closes (owner_of t) (dues_of t choice) (0 + s)) 0 (chosen_at choice s) i n (round_once r s) chosen
+            (let first : 0 + i ≡ i = omega arith in
+            ap (λ (m : ℕ). holds_at closes (owner_of t) (dues_of t choice) m (0 + i)) site
+            ∙ (ap (holds_at closes (owner_of t) (dues_of t choice) s) first ∙ h)));
       }
 
   -- a template that isn't chosen in a round was refuted in one before

@@ -29,9 +29,10 @@ use Rattle.sm_plan.specs.Views.{forms_in}
 use Rattle.sm_expand.specs.declared.due.Due as program
 use Rattle.sm_expand.specs.Views.{due_in}
 use Rattle.sm_replay.specs.declared.verdict.Verdict.{Verdict}
-use Rattle.sm_solve.specs.Listing.{trees_at, numbers_of, AreBelow}
-use Rattle.sm_solve.specs.Renumbered.{AreTermsOf}
-use Rattle.sm_solve.specs.Walk.{Walked, walk}
+use Rattle.sm_list.specs.Listing.{trees_at, numbers_of, AreBelow}
+use Rattle.sm_list.specs.Renumbered.{AreTermsOf}
+use Rattle.sm_judge.specs.Forms.{Walked}
+use Rattle.sm_solve.specs.Walk.{walk}
 use Rattle.sm_write.specs.TreesWithin.{AreTreesWithin}
 use Rattle.sm_write.specs.Writable.{AreShort}
 use Rattle.sm_houdini.specs.Certified.{AreCertified}

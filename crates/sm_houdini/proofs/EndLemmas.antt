@@ -25,12 +25,12 @@ use Rattle.sm_expand.specs.Views.{due_in, dues_in, AreDuesReady}
 use Rattle.sm_solve.specs.declared.solving.Answer.{Answer}
 use Rattle.sm_solve.specs.declared.solving.Answer.TheVariants as answers
 use Rattle.sm_solve.specs.Answers.{Tells, Certifies, NamesOnly}
-use Rattle.sm_solve.specs.Parts.{all_numbered, assertions_in}
+use Rattle.sm_list.specs.Parts.{all_numbered, assertions_in}
 use Rattle.sm_solve.specs.Walk.{walk}
 use Rattle.sm_replay.specs.declared.verdict.Verdict.{Verdict}
 use Rattle.sm_solve.specs.Answers.{terms_walked}
-use Rattle.sm_solve.specs.Branches.{IsOneOf}
-use Rattle.sm_solve.specs.Walk.{Walked}
+use Rattle.sm_list.specs.Branches.{IsOneOf}
+use Rattle.sm_judge.specs.Forms.{Walked}
 use Rattle.sm_write.specs.TreesWithin.{AreTreesWithin}
 use Rattle.sm_write.specs.Writable.{IsShort, AreShort}
 use Rattle.sm_write.proofs.TreesStay.{trees_stay, trees_wider}

@@ -15,13 +15,14 @@ use Rattle.sm_expand.specs.declared.plan.Plan.{Plan}
 use Rattle.sm_expand.specs.NumberedPlans.{IsPlanReady}
 use Rattle.sm_expand.specs.Views.{numbered_plan, plan_in}
 use Rattle.sm_expand.proofs.PlansWiden.{plan_stays, plan_ready}
-use Rattle.sm_product.specs.declared.whole.CertTrees.{CertTrees}
+use Rattle.sm_moves.proofs.SetsLemmas.{Each}
 use Rattle.sm_product.specs.ProductPlans.{plan_of}
 use Rattle.sm_product.specs.Sizes.{is_small}
-use Rattle.sm_product.proofs.SetsLemmas.{Each}
+use Rattle.sm_sided.specs.declared.whole.CertTrees.{CertTrees}
 use Rattle.sm_replay.specs.declared.verdict.Verdict.{Verdict}
-use Rattle.sm_solve.specs.Walk as walked
-use Rattle.sm_solve.specs.Walk.{Walked, walk}
+use Rattle.sm_judge.specs.Forms as walked
+use Rattle.sm_judge.specs.Forms.{Walked}
+use Rattle.sm_solve.specs.Walk.{walk}
 use Rattle.sm_write.specs.Writable.{IsWritable}
 use Rattle.sm_houdini.specs.declared.ending.Stop.{Stop}
 use Rattle.sm_houdini.specs.Certified.{asked, AreCertified}

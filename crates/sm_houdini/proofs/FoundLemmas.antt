@@ -7,7 +7,7 @@ use Rattle.sm_syntax.specs.text.Parts.{Parts, sort_of, task_of}
 use Rattle.sm_syntax.specs.trees.Copies.{of_copy}
 use Rattle.sm_syntax.specs.trees.Views.{code_of}
 use Rattle.sm_task.specs.Filling.{AreFilled}
-use Rattle.sm_product.specs.OneSided.{is_one_sided}
+use Rattle.sm_sided.specs.OneSided.{is_one_sided}
 use Rattle.sm_replay.specs.declared.verdict.Verdict.{Verdict}
 use Rattle.sm_replay.specs.Trials.{IsFirstViolation}
 use Rattle.sm_houdini.specs.Outcomes.{Outcome, Accepted, Conflict, or_conflict, IsOutcome}

@@ -17,18 +17,19 @@ use Rattle.sm_plan.specs.Copies.{Copies}
 use Rattle.sm_plan.specs.Limits.{form_nodes, form_depth, is_kept, is_shallow}
 use Rattle.sm_plan.specs.Nodes.{is_branching}
 use Rattle.sm_plan.specs.Plans.{Due, Fault, branches, most_branches, size, obligations}
-use Rattle.sm_product.specs.Choices.{Choice, chosen_at, picked, halved, conjoined, kept_by}
-use Rattle.sm_product.specs.Guards.{slots, weaker}
+use Rattle.sm_moves.proofs.SetsLemmas.{Each}
+use Rattle.sm_template.specs.Guards.{slots, weaker}
+use Rattle.sm_template.proofs.TemplatesLemmas.{HoldsOfTemplates, of_block_templates, of_loop_templates, each_take, each_drop}
+use Rattle.sm_sketch.specs.Choices.{Choice, chosen_at, picked, halved, conjoined, kept_by}
+use Rattle.sm_sketch.specs.Sketches.{SketchNode, Plain, LoopSite, BlockSite, Sketch, Draw, Sketches, Over, More}
+use Rattle.sm_sketch.specs.Sketches.{site_at, sites_of, plan_with, plans_with}
+use Rattle.sm_sketch.proofs.PickedLemmas.{each_picked}
 use Rattle.sm_product.specs.Laws.{AreKept}
 use Rattle.sm_product.specs.ProductPlans.{plan_of, full_choice}
 use Rattle.sm_product.specs.Products.{sketch_of}
 use Rattle.sm_product.specs.Sizes.{is_within}
-use Rattle.sm_product.specs.Sketches.{SketchNode, Plain, LoopSite, BlockSite, Sketch, Draw, Sketches, Over, More}
-use Rattle.sm_product.specs.Sketches.{site_at, sites_of, plan_with, plans_with}
 use Rattle.sm_product.proofs.NodesLemmas.{HoldsOfNodes, sketch_nodes, each_site}
 use Rattle.sm_product.proofs.ObligationsLemmas.{obligations_back, expands_exactly}
-use Rattle.sm_product.proofs.SetsLemmas.{Each}
-use Rattle.sm_product.proofs.TemplatesLemmas.{HoldsOfTemplates, of_block_templates, of_loop_templates, each_take, each_drop, each_picked}
 use Rattle.sm_houdini.specs.Laws.{round_at, KeptExpands}
 use Rattle.sm_houdini.specs.Owners.{owner_of}
 use Rattle.sm_houdini.specs.Rounds.{dues_of, holds_at, numbers_kept, kept}

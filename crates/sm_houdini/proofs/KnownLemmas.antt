@@ -19,8 +19,8 @@ use Rattle.sm_plan.specs.Views.{forms_in}
 use Rattle.sm_expand.specs.declared.due.Due.{Due}
 use Rattle.sm_expand.specs.Views.{due_in, dues_in, AreDuesReady}
 use Rattle.sm_expand.proofs.PlansWiden.{dues_stay, dues_ready}
-use Rattle.sm_product.specs.Choices.{Choice}
-use Rattle.sm_solve.specs.Parts.{all_numbered}
+use Rattle.sm_sketch.specs.Choices.{Choice}
+use Rattle.sm_list.specs.Parts.{all_numbered}
 use Rattle.sm_houdini.specs.declared.asked.Asked.{Asked}
 use Rattle.sm_houdini.specs.declared.marks.Marked.{Marked}
 use Rattle.sm_houdini.specs.Closing.{closing, closes_at, stays_at, owner_in}

@@ -5,8 +5,8 @@ use Rattle.std.proofs.lemmas.List.{append_assoc}
 use Rattle.sm_syntax.specs.text.Parts.{Parts, task_of}
 use Rattle.sm_term.specs.Assertions.{Assertion}
 use Rattle.sm_plan.specs.Plans.{Due, obligations}
+use Rattle.sm_moves.proofs.SetsLemmas.{Each}
 use Rattle.sm_product.specs.ProductPlans.{plan_of}
-use Rattle.sm_product.proofs.SetsLemmas.{Each}
 use Rattle.sm_houdini.specs.Certified.{asked}
 use Rattle.sm_houdini.specs.Laws.{AllClose, AllOwnedClose, AreFinalUnowned}
 use Rattle.sm_houdini.specs.Owners.{owner_of}

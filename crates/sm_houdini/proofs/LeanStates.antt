@@ -34,7 +34,7 @@ use Rattle.sm_plan.proofs.NodeSorted.{node_sorted}
 use Rattle.sm_plan.proofs.SortedCode.{front_well}
 use Rattle.sm_plan.proofs.SortedStates.{start_sorted}
 use Rattle.sm_plan.proofs.StartsMade.{declared_below}
-use Rattle.sm_product.proofs.SetsLemmas.{Each, each_append}
+use Rattle.sm_moves.proofs.SetsLemmas.{Each, each_append}
 use Rattle.sm_write.specs.Nameable.{EachSide, AllSides}
 use Rattle.sm_write.specs.PlainPlans.{NoTerm}
 use Rattle.sm_write.specs.PlanStates.{states_opened, plan_states, plans_states}

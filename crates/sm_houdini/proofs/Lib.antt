@@ -1,7 +1,11 @@
+pub mod PlacesLemmas
 pub mod OwnersLemmas
 pub mod RoundsLemmas
 pub mod LastPass
 pub mod DroppedLemmas
+pub mod PairedLemmas
+pub mod AmongLemmas
+pub mod ShownLemmas
 pub mod KeptLemmas
 pub mod OutcomeLemmas
 pub mod WalkedTerms

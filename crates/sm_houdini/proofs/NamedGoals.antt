@@ -1,8 +1,7 @@
 -- What a plan asks compares what can be named where it is asked, where what its nodes keep is sorted and has no new value and no summary.
-use Rattle.std.proofs.Common.{◌≡◌, ℕ, zero, suc, ◌+◌, ◌==◌, nat_le, Bool, true, false, not, ◌&&◌, ◌||◌, if◌then◌else◌, Option, Some, None}
-use Rattle.std.proofs.Common.{Result, Ok, Err, List, [], ◌∷◌, ◌++◌, map, length, slice_get, refl, sym, ap, ◌∙◌, subst, arith}
+use Rattle.std.proofs.Common.{◌≡◌, ℕ, zero, suc, ◌+◌, nat_le, Bool, true, false, not, ◌&&◌, ◌||◌, Option, Some, None}
+use Rattle.std.proofs.Common.{Ok, List, [], ◌∷◌, ◌++◌, map, slice_get, refl, sym, subst}
 use Rattle.std.specs.List.{flat_map}
-use Rattle.std.proofs.lemmas.List.{length-append}
 use Rattle.std.proofs.lemmas.Option.{same_Some}
 use Rattle.sm_syntax.specs.claim.ConflictFree.{Copy, O, A, B, M, Task}
 use Rattle.sm_syntax.specs.claim.Syntax.{Code, End, Skip, Assign, Write, If, While, Hole}
@@ -17,7 +16,7 @@ use Rattle.sm_plan.specs.Copies.{Copies, each, has, is_inhabited, subsets}
 use Rattle.sm_plan.specs.Limits.{is_kept}
 use Rattle.sm_plan.specs.Nodes.{Node, Step, Abs, Fork, Loop, Block, Dead, Ends, Unfit, Opened, opened_by, where_true, after_step}
 use Rattle.sm_plan.specs.Nodes.{both_ways, rule_of}
-use Rattle.sm_plan.specs.Plans.{Plan, At, Plans, Over, More, size, sizes, count, Due, Fault, Wrong, due, joined, expand, expand_all}
+use Rattle.sm_plan.specs.Plans.{Plan, At, Plans, Over, More, size, Due, Fault, Wrong, due, expand, expand_all}
 use Rattle.sm_plan.specs.SortedStates.{IsStateSorted, AreStatesSorted, IsNodeSorted, IsTaskSorted}
 use Rattle.sm_plan.specs.States.{State, place, keeps_goals, start_state}
 use Rattle.sm_plan.specs.Statements.{is_over, is_long, is_loop}
@@ -25,8 +24,8 @@ use Rattle.sm_plan.specs.Successors as next
 use Rattle.sm_plan.proofs.NodeSorted.{node_sorted}
 use Rattle.sm_plan.proofs.SortedStates.{start_sorted}
 use Rattle.sm_plan.proofs.SortedTerms.{conj_sorted}
-use Rattle.sm_product.proofs.ObligationsLemmas.{opened_back, joined_back, passed_back}
-use Rattle.sm_product.proofs.SetsLemmas.{Each, each_append}
+use Rattle.sm_moves.proofs.SetsLemmas.{Each, each_append}
+use Rattle.sm_product.proofs.ObligationsLemmas.{joined_back}
 use Rattle.sm_write.specs.Nameable.{AllSides, Nameable}
 use Rattle.sm_write.specs.PlainPlans.{NoTerm}
 use Rattle.sm_write.specs.PlanStates.{states_opened, plan_states, plans_states}
@@ -35,6 +34,7 @@ use Rattle.sm_write.specs.Writable.{EachKept, states_until}
 use Rattle.sm_write.proofs.BranchNameable.{states_are_nameable}
 use Rattle.sm_write.proofs.BuiltTerms.{conj_sides, sides_append}
 use Rattle.sm_write.proofs.SimpleNameable.{goals_nameable}
+use Rattle.sm_houdini.proofs.PlacesLemmas.{IsAt, at_first, at_rest, at_left, at_right, at_start, dues_same, plan_parts, states_length}
 
 -- what a node keeps is sorted and has no new value and no summary
 abbrev pub IsSimple : Sorts → Node → Type 0
@@ -120,72 +120,11 @@ both_fine : (sorts : Sorts) (states : List State) → AreStatesSorted sorts stat
 both_fine sorts [] sorted aimed = tt
 both_fine sorts (st ∷ states) sorted aimed = ((sorted.0, aimed.0), both_fine sorts states sorted.1 aimed.1)
 
--- what is found in a list is found in a longer one
-found_left : (xs ys : List State) (i : ℕ) (st : State) → slice_get xs i ≡ Some st → slice_get (xs ++ ys) i ≡ Some st
-found_left [] ys i st e = absurd cc
-found_left (x ∷ xs) ys zero st e = e
-found_left (x ∷ xs) ys (suc i) st e = found_left xs ys i st e
-
-found_right : (xs ys : List State) (i : ℕ) → slice_get (xs ++ ys) (length xs + i) ≡ slice_get ys i
-found_right [] ys i = let e : 0 + i ≡ i = omega arith in ap (slice_get ys) e
-found_right (x ∷ xs) ys i =
-    let e : suc (length xs) + i ≡ suc (length xs + i) = omega arith in
-    ap (slice_get (x ∷ (xs ++ ys))) e ∙ found_right xs ys i
-
+-- a state is among those up to its node
 found_until : (xs : List State) (n : ℕ) (st : State) → slice_get xs n ≡ Some st → slice_get (states_until xs n) n ≡ Some st
 found_until [] n st e = absurd cc
 found_until (x ∷ xs) zero st e = e
 found_until (x ∷ xs) (suc n) st e = found_until xs n st e
-
--- a plan that has obligations has a state for each node
-ok_same : (x y : List Due) → (let r : Result (List Due) Fault = Ok x in r) ≡ Ok y → x ≡ y
-ok_same x y h = ap list_in h
-  where
-    list_in : Result (List Due) Fault → List Due
-    list_in (Ok ds) = ds
-    list_in (Err w) = []
-
--- the first node of a plan that has obligations, and what they are
-record Parted (node : Node) (ps : Plans) (k : ℕ) (st : State) (ds : List Due) : Type 0 where
-  q : Opened
-  later : List Due
-  opens : opened_by k st node ≡ Some q
-  goes_on : expand_all (Wrong k (rule_of node)) (suc k) q.states ps ≡ Ok later
-  whole : due k st node q.goals ++ later ≡ ds
-
-parted : (node : Node) (ps : Plans) (k : ℕ) (st : State) (ds : List Due) → expand k st (At node ps) ≡ Ok ds → Parted node ps k st ds
-parted node ps k st ds e =
-    let w = Wrong k (rule_of node) in
-    let o = opened_back (opened_by k st node) w
-    (λ (q : Opened). if count ps == length q.states then joined (Ok (due k st node q.goals)) (expand_all w (suc k) q.states ps)
-    else Err w) ds e in
-    let parts = joined_back (Ok (due k st node o.0.goals)) (expand_all w (suc k) o.0.states ps) ds
-    (passed_back (count ps == length o.0.states) _ w ds o.2) in
-    record {
-      q = o.0;
-      later = parts.1;
-      opens = o.1;
-      goes_on = parts.3;
-      whole = ap (λ (es : List Due). es ++ parts.1) (ok_same (due k st node o.0.goals) parts.0 parts.2) ∙ parts.4;
-    }
-
-mutual
-  states_length : (p : Plan) (k : ℕ) (st : State) (ds : List Due) → expand k st p ≡ Ok ds → length (plan_states k st p) ≡ size p
-  states_length (At node ps) k st ds e =
-      let p = parted node ps k st ds e in
-      ap suc
-      (ap (λ (o : Option Opened). length (plans_states (suc k) (states_opened o) ps)) p.opens
-      ∙ all_length ps (Wrong k (rule_of node)) (suc k) p.q.states p.later p.goes_on)
-
-  all_length : (ps : Plans) (w : Fault) (k : ℕ) (states : List State) (ds : List Due) → expand_all w k states ps ≡ Ok ds →
-      length (plans_states k states ps) ≡ sizes ps
-  all_length Over w k [] ds e = refl
-  all_length Over w k (st ∷ states) ds e = absurd cc
-  all_length (More p ps) w k [] ds e = absurd cc
-  all_length (More p ps) w k (st ∷ states) ds e =
-      let parts = joined_back (expand k st p) (expand_all w (k + size p) states ps) ds e in
-      length-append (plan_states k st p) (plans_states (k + size p) states ps)
-      ∙ (λ i. states_length p k st parts.0 parts.2 i + all_length ps w (k + size p) states parts.1 parts.3 i)
 
 -- the facts and the goals of an obligation are sorted, and can be named after the states up to its node's
 pub record IsNamed (sorts : Sorts) (all : List State) (d : Due) : Type 0 where
@@ -195,24 +134,6 @@ pub record IsNamed (sorts : Sorts) (all : List State) (d : Due) : Type 0 where
   pub goals_named : AllSides (Nameable sorts (states_until all d.node)) d.goals
 
 module _ (sorts : Sorts) (all : List State) where
-  -- states stand among all from a place on
-  abbrev IsAt : ℕ → List State → Type 0
-  IsAt k xs = (i : ℕ) (st : State) → slice_get xs i ≡ Some st → slice_get all (k + i) ≡ Some st
-
-  at_first : (k : ℕ) (x : State) (xs : List State) → IsAt k (x ∷ xs) → slice_get all k ≡ Some x
-  at_first k x xs h = let e : k ≡ k + 0 = omega arith in ap (slice_get all) e ∙ h 0 x refl
-
-  at_rest : (k : ℕ) (x : State) (xs : List State) → IsAt k (x ∷ xs) → IsAt (suc k) xs
-  at_rest k x xs h i st e = let same : suc k + i ≡ k + suc i = omega arith in ap (slice_get all) same ∙ h (suc i) st e
-
-  at_left : (k : ℕ) (xs ys : List State) → IsAt k (xs ++ ys) → IsAt k xs
-  at_left k xs ys h i st e = h i st (found_left xs ys i st e)
-
-  at_right : (k n : ℕ) (xs ys : List State) → length xs ≡ n → IsAt k (xs ++ ys) → IsAt (k + n) ys
-  at_right k n xs ys len h i st e =
-      let same : k + n + i ≡ k + (length xs + i) = omega (arith, len) in
-      ap (slice_get all) same ∙ h (length xs + i) st (found_right xs ys i ∙ e)
-
   due_named : (k : ℕ) (st : State) (node : Node) (goals : List Assertion) → slice_get all k ≡ Some st → IsStateSorted sorts st →
       AreFormsSorted sorts goals → AllSides (Nameable sorts (states_until all k)) goals → Each (IsNamed sorts all) (due k st node goals)
   due_named k st node [] here sorted good named = tt
@@ -231,13 +152,13 @@ module _ (sorts : Sorts) (all : List State) where
   both_named es gs ds e h g = subst (Each (IsNamed sorts all)) e (each_append (IsNamed sorts all) es gs h g)
 
   mutual
-    plan_named : (p : Plan) (k : ℕ) (st : State) (ds : List Due) → AreSimple sorts p → IsFine sorts st → IsAt k (plan_states k st p) →
+    plan_named : (p : Plan) (k : ℕ) (st : State) (ds : List Due) → AreSimple sorts p → IsFine sorts st → IsAt all k (plan_states k st p) →
         expand k st p ≡ Ok ds → Each (IsNamed sorts all) ds
     plan_named (At node ps) k st ds simple fine at e =
-        let p = parted node ps k st ds e in
+        let p = plan_parts node ps k st ds e in
         let does = node_simply sorts k st node p.q simple.0 fine.0 fine.1 p.opens in
         let sorted = node_sorted sorts k st node p.q fine.0 simple.0.0 p.opens in
-        let here = at_first k st (plans_states (suc k) (states_opened (opened_by k st node)) ps) at in
+        let here = at_first all k st (plans_states (suc k) (states_opened (opened_by k st node)) ps) at in
         let fs = does.goals.0 in
         let named = goals_nameable sorts (states_until all k) k st (found_until all k st here) fine.0 fs does.goals.2 does.goals.3 in
         both_named (due k st node p.q.goals) p.later ds p.whole
@@ -245,13 +166,13 @@ module _ (sorts : Sorts) (all : List State) where
         (subst (AllSides (Nameable sorts (states_until all k))) (sym does.goals.1) named))
         (plans_named ps (Wrong k (rule_of node)) (suc k) p.q.states p.later simple.1
         (both_fine sorts p.q.states sorted.1 does.states)
-        (subst (λ (o : Option Opened). IsAt (suc k) (plans_states (suc k) (states_opened o) ps)) p.opens
-        (at_rest k st (plans_states (suc k) (states_opened (opened_by k st node)) ps) at))
+        (subst (λ (o : Option Opened). IsAt all (suc k) (plans_states (suc k) (states_opened o) ps)) p.opens
+        (at_rest all k st (plans_states (suc k) (states_opened (opened_by k st node)) ps) at))
         p.goes_on)
 
     plans_named : (ps : Plans) (w : Fault) (k : ℕ) (states : List State) (ds : List Due) → AreAllSimple sorts ps →
-        Each (IsFine sorts) states → IsAt k (plans_states k states ps) → expand_all w k states ps ≡ Ok ds → Each (IsNamed sorts all) ds
-    plans_named Over w k [] ds simple fine at e = subst (Each (IsNamed sorts all)) (ok_same [] ds e) tt
+        Each (IsFine sorts) states → IsAt all k (plans_states k states ps) → expand_all w k states ps ≡ Ok ds → Each (IsNamed sorts all) ds
+    plans_named Over w k [] ds simple fine at e = subst (Each (IsNamed sorts all)) (dues_same [] ds e) tt
     plans_named Over w k (st ∷ states) ds simple fine at e = absurd cc
     plans_named (More p ps) w k [] ds simple fine at e = absurd cc
     plans_named (More p ps) w k (st ∷ states) ds simple fine at e =
@@ -259,9 +180,9 @@ module _ (sorts : Sorts) (all : List State) where
         let first = plan_states k st p in
         let second = plans_states (k + size p) states ps in
         both_named parts.0 parts.1 ds parts.4
-        (plan_named p k st parts.0 simple.0 fine.0 (at_left k first second at) parts.2)
+        (plan_named p k st parts.0 simple.0 fine.0 (at_left all k first second at) parts.2)
         (plans_named ps w (k + size p) states parts.1 simple.1 fine.1
-        (at_right k (size p) first second (states_length p k st parts.0 parts.2) at) parts.3)
+        (at_right all k (size p) first second (sym (states_length p k st parts.0 parts.2)) at) parts.3)
 
 -- the start aims at such formulas
 place_simple : (output : ℕ × Sort) (c : Copy) → IsBuilt NoTerm (place output c)
@@ -286,6 +207,4 @@ pub asked_named : (sorts : Sorts) (t : Task) (p : Plan) (ds : List Due) → IsTa
 asked_named sorts t p ds sorted simple e =
     plan_named sorts (plan_states 0 (start_state t) p) p 0 (start_state t) ds simple
     (start_sorted sorts t sorted, outputs_simple t.outputs)
-    (λ (i : ℕ) (st : State) (f : slice_get (plan_states 0 (start_state t) p) i ≡ Some st).
-    let same : 0 + i ≡ i = omega arith in ap (slice_get (plan_states 0 (start_state t) p)) same ∙ f)
-    e
+    (at_start (plan_states 0 (start_state t) p)) e

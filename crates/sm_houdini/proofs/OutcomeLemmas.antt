@@ -8,7 +8,7 @@ use Rattle.sm_product.specs.Sizes.{is_small}
 use Rattle.sm_replay.specs.declared.verdict.Verdict.{Verdict}
 use Rattle.sm_replay.specs.Laws.{FirstViolationIsOne}
 use Rattle.sm_replay.specs.Trials.{IsLeast, IsFirstViolation}
-use Rattle.sm_solve.specs.Walk.{Walked, Closes, Opens, TooFar, GoesOut}
+use Rattle.sm_judge.specs.Forms.{Walked, Closes, Opens, TooFar, GoesOut}
 use Rattle.sm_solve.specs.Walk as walks
 use Rattle.sm_houdini.specs.Laws.{OutcomeIsOne, ConflictIsLeast}
 use Rattle.sm_houdini.specs.Outcomes.{Outcome, Accepted, Conflict, Open, Steps, Coefficient, TooMany, goal_outcome, goals_outcome}

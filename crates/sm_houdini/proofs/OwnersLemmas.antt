@@ -1,6 +1,6 @@
--- A goal is final exactly where no site owns it. What a site asks are the templates that are chosen there, at some stores.
-use Rattle.std.proofs.Common.{◌≡◌, ◌⊎◌, ℕ, zero, suc, ◌+◌, ◌==◌, Bool, true, false, not, ◌&&◌, ◌||◌}
-use Rattle.std.proofs.Common.{if◌then◌else◌, Option, Some, None, is_none, inl, inr}
+-- A goal is final exactly where no site owns it. What a site asks are the templates that are chosen there, at the stores of the node that asks.
+use Rattle.std.proofs.Common.{◌≡◌, ◌⊎◌, ℕ, suc, ◌+◌, Bool, true, false, not, ◌&&◌, ◌||◌}
+use Rattle.std.proofs.Common.{Option, Some, None, is_none, inl, inr}
 use Rattle.std.proofs.Common.{Result, Ok, Err, List, [], ◌∷◌, ◌++◌, map, length, slice_get, refl}
 use Rattle.std.proofs.Common.{sym, ap, ◌∙◌, subst, arith, ⊎_elim}
 use Rattle.std.specs.Prelude.{unwrap_or}
@@ -16,24 +16,27 @@ use Rattle.sm_plan.specs.Copies.{Copies, subsets, each, has, is_inhabited}
 use Rattle.sm_plan.specs.Limits.{is_shallow, is_kept}
 use Rattle.sm_plan.specs.Nodes.{Node, Step, Abs, Fork, Loop, Block, Ends, Opened, opened_by}
 use Rattle.sm_plan.specs.Nodes.{rule_of, is_end, where_true, after_step, both_ways}
-use Rattle.sm_plan.specs.Plans.{Due, Fault, Wrong, Deep, due, joined, expand}
-use Rattle.sm_plan.specs.Plans.{expand_all, count, size, sizes, branches, obligations}
+use Rattle.sm_plan.specs.Plans.{Plans, At, Due, Fault, Wrong, Deep, due, expand}
+use Rattle.sm_plan.specs.Plans.{expand_all, size, sizes, branches, obligations}
 use Rattle.sm_plan.specs.States.{State, start_state}
 use Rattle.sm_plan.specs.Statements.{is_over, is_long, is_loop}
 use Rattle.sm_plan.specs.Successors as next
-use Rattle.sm_product.specs.Choices.{Choice, chosen_at, picked, kept_by}
+use Rattle.sm_moves.proofs.SetsLemmas.{Each, each_append}
+use Rattle.sm_sketch.specs.Choices.{Choice, chosen_at, picked, kept_by}
+use Rattle.sm_sketch.specs.Sketches.{SketchNode, Plain, LoopSite, BlockSite, Sketch, Draw}
+use Rattle.sm_sketch.specs.Sketches.{Sketches, Over, More}
+use Rattle.sm_sketch.specs.Sketches.{sites_of, sites_below, plan_with, plans_with}
 use Rattle.sm_product.specs.ProductPlans as plans
 use Rattle.sm_product.specs.ProductPlans.{plan_of}
 use Rattle.sm_product.specs.Products.{sketch_of}
-use Rattle.sm_product.specs.Sketches.{SketchNode, Plain, LoopSite, BlockSite, Sketch, Draw}
-use Rattle.sm_product.specs.Sketches.{Sketches, Over, More}
-use Rattle.sm_product.specs.Sketches.{site_at, sites_of, sites_below, node_with, plan_with, plans_with}
 use Rattle.sm_product.proofs.ChoicesLemmas.{kept_parts_chosen}
 use Rattle.sm_product.proofs.NodesLemmas.{EachNode, EachBelow, HoldsOfNodes, sketch_nodes}
-use Rattle.sm_product.proofs.ObligationsLemmas.{opened_back, joined_back, passed_back}
-use Rattle.sm_product.proofs.SetsLemmas.{Each, each_append}
-use Rattle.sm_houdini.specs.Laws.{AreFinalUnowned, FinalHasNoOwner, AskChosen, SitesAskChosen}
+use Rattle.sm_product.proofs.ObligationsLemmas.{joined_back, passed_back}
+use Rattle.sm_houdini.specs.Laws.{AreFinalUnowned, FinalHasNoOwner, AllAskChosen, SitesAskChosen}
+use Rattle.sm_write.specs.PlanStates.{states_opened, plan_states, plans_states}
+use Rattle.sm_houdini.specs.Obligations.{states_of, AsksChosen}
 use Rattle.sm_houdini.specs.Owners.{owners, owners_below, owner_of}
+use Rattle.sm_houdini.proofs.PlacesLemmas.{IsAt, at_first, at_rest, at_left, at_right, at_start, dues_same, plan_parts, states_length}
 
 -- a state has the target of another one
 record IsAs (st other : State) : Type 0 where
@@ -87,46 +90,34 @@ nodes_pass t = record {
   of_block = λ (counts : Copy → ℕ) (code : Copy → Code). tt;
 }
 
--- what is found in a list is found in a longer one
-found_left : (xs ys : List (Option ℕ)) (i : ℕ) (o : Option ℕ) → slice_get xs i ≡ Some o → slice_get (xs ++ ys) i ≡ Some o
-found_left [] ys i o e = absurd cc
-found_left (x ∷ xs) ys zero o e = e
-found_left (x ∷ xs) ys (suc i) o e = found_left xs ys i o e
-
-found_right : (xs ys : List (Option ℕ)) (i : ℕ) → slice_get (xs ++ ys) (length xs + i) ≡ slice_get ys i
-found_right [] ys i = let e : 0 + i ≡ i = omega arith in ap (slice_get ys) e
-found_right (x ∷ xs) ys i =
-    let e : suc (length xs) + i ≡ suc (length xs + i) = omega arith in
-    ap (slice_get (x ∷ (xs ++ ys))) e ∙ found_right xs ys i
-
-opened_same : (b : Bool) (p q : Opened) → where_true b p ≡ Some q → p ≡ q
+pub opened_same : (b : Bool) (p q : Opened) → where_true b p ≡ Some q → p ≡ q
 opened_same true p q e = same_Some p q e
 opened_same false p q e = absurd cc
 
-not_ok : (ds : List Due) (w : Fault) → (let r : Result (List Due) Fault = Err w in r) ≡ Ok ds → ⊥
+pub not_ok : (ds : List Due) (w : Fault) → (let r : Result (List Due) Fault = Err w in r) ≡ Ok ds → ⊥
 not_ok ds w e = absurd cc
 
 -- a target of a site has certain parts
-abbrev HasParts : (ℕ → List Assertion) → Option ℕ → List Assertion → Type 0
+abbrev pub HasParts : (ℕ → List Assertion) → Option ℕ → List Assertion → Type 0
 HasParts parts None fs = Unit {0}
 HasParts parts (Some s) fs = fs ≡ parts s
 
--- goals of a site are these, at some stores
-abbrev AskParts : (ℕ → List Assertion) → Option ℕ → List Assertion → Type 0
-AskParts parts None goals = Unit {0}
-AskParts parts (Some s) goals = (stores : Copy → SymbolicStore) × (goals ≡ all_at_stores stores (parts s))
+-- goals of a site are these, at stores
+abbrev pub AskParts : (ℕ → List Assertion) → (Copy → SymbolicStore) → Option ℕ → List Assertion → Type 0
+AskParts parts stores None goals = Unit {0}
+AskParts parts stores (Some s) goals = goals ≡ all_at_stores stores (parts s)
 
-parts_asked : (parts : ℕ → List Assertion) (o : Option ℕ) (stores : Copy → SymbolicStore) (fs : List Assertion) → HasParts parts o fs →
-    AskParts parts o (all_at_stores stores fs)
+pub parts_asked : (parts : ℕ → List Assertion) (o : Option ℕ) (stores : Copy → SymbolicStore) (fs : List Assertion) → HasParts parts o fs →
+    AskParts parts stores o (all_at_stores stores fs)
 parts_asked parts None stores fs h = tt
-parts_asked parts (Some s) stores fs h = (stores, ap (all_at_stores stores) h)
+parts_asked parts (Some s) stores fs h = ap (all_at_stores stores) h
 
 -- the formulas that sites keep, numbered from s on, have these parts
-abbrev KeepParts : (ℕ → List Assertion) → (ℕ → List Assertion → Assertion) → ℕ → List (List Assertion) → Type 0
+abbrev pub KeepParts : (ℕ → List Assertion) → (ℕ → List Assertion → Assertion) → ℕ → List (List Assertion) → Type 0
 KeepParts parts keep s [] = Unit {0}
 KeepParts parts keep s (ts ∷ rest) = (conj (keep s ts) ≡ parts s) × KeepParts parts keep (suc s) rest
 
-parts_split : (parts : ℕ → List Assertion) (keep : ℕ → List Assertion → Assertion) (s : ℕ) (xs ys : List (List Assertion)) →
+pub parts_split : (parts : ℕ → List Assertion) (keep : ℕ → List Assertion → Assertion) (s : ℕ) (xs ys : List (List Assertion)) →
     KeepParts parts keep s (xs ++ ys) → KeepParts parts keep s xs × KeepParts parts keep (s + length xs) ys
 parts_split parts keep s [] ys h = (tt, subst (λ (n : ℕ). KeepParts parts keep n ys) (omega arith) h)
 parts_split parts keep s (ts ∷ xs) ys h =
@@ -145,7 +136,27 @@ parts_from parts keep s (ts ∷ xs) h =
           subst (λ (n : ℕ). conj (keep n us) ≡ parts n) same (h (suc i) us e)),
     )
 
-module _ (base : List (Option ℕ)) (keep : ℕ → List Assertion → Assertion) (chosen : ℕ → List Assertion) where
+mutual
+  -- as many owners as nodes
+  pub owners_length : (keep : ℕ → List Assertion → Assertion) (p : Sketch) (target : Option ℕ) (s : ℕ) → length (owners target s p) ≡ size (plan_with keep s p)
+  owners_length keep (Draw (Plain node) ps) target s =
+      ap (λ (n : ℕ). suc n) (below_length keep ps target target s (s + 0) (omega arith))
+  owners_length keep (Draw (LoopSite set templates) ps) target s =
+      ap (λ (n : ℕ). suc n) (below_length keep ps (Some s) target (suc s) (s + 1) (omega arith))
+  owners_length keep (Draw (BlockSite counts templates) ps) target s =
+      ap (λ (n : ℕ). suc n) (below_length keep ps (Some s) target (suc s) (s + 1) (omega arith))
+
+  below_length : (keep : ℕ → List Assertion → Assertion) (ps : Sketches) (inner last : Option ℕ) (s m : ℕ) → s ≡ m →
+      length (owners_below inner last s ps) ≡ sizes (plans_with keep m ps)
+  below_length keep Over inner last s m e = refl
+  below_length keep (More p Over) inner last s m e = owners_length keep p last s ∙ ap (λ (n : ℕ). size (plan_with keep n p)) e ∙ omega arith
+  below_length keep (More p (More q ps)) inner last s m e =
+      length-append (owners inner s p) (owners_below inner last (s + length (sites_of p)) (More q ps))
+      ∙ (λ i. owners_length keep p inner s i
+      + below_length keep (More q ps) inner last (s + length (sites_of p)) (s + length (sites_of p)) refl i)
+      ∙ ap (λ (n : ℕ). size (plan_with keep n p) + sizes (plans_with keep (n + length (sites_of p)) (More q ps))) e
+
+module _ (base : List (Option ℕ)) (all : List State) (keep : ℕ → List Assertion → Assertion) (chosen : ℕ → List Assertion) where
   -- a state's target is the final one where there is no owner, and otherwise has its owner's parts
   record IsAimed (target : Option ℕ) (st : State) : Type 0 where
     final : st.is_final ≡ is_none target
@@ -180,32 +191,22 @@ module _ (base : List (Option ℕ)) (keep : ℕ → List Assertion → Assertion
   turns_aimed st k s target set form keeps aimed (v ∷ u ∷ vs) =
       (record { final = refl; has_parts = keeps }, turns_aimed st k s target set form keeps aimed (u ∷ vs))
 
-  -- a list stands in the base from a place on
-  abbrev IsAt : ℕ → List (Option ℕ) → Type 0
-  IsAt k xs = (i : ℕ) (o : Option ℕ) → slice_get xs i ≡ Some o → slice_get base (k + i) ≡ Some o
-
-  at_first : (k : ℕ) (x : Option ℕ) (xs : List (Option ℕ)) → IsAt k (x ∷ xs) → slice_get base k ≡ Some x
-  at_first k x xs h = let e : k ≡ k + 0 = omega arith in ap (slice_get base) e ∙ h 0 x refl
-
-  at_rest : (k : ℕ) (x : Option ℕ) (xs : List (Option ℕ)) → IsAt k (x ∷ xs) → IsAt (suc k) xs
-  at_rest k x xs h i o e = let same : suc k + i ≡ k + suc i = omega arith in ap (slice_get base) same ∙ h (suc i) o e
-
-  at_right : (k n : ℕ) (xs ys : List (Option ℕ)) → n ≡ length xs → IsAt k (xs ++ ys) → IsAt (k + n) ys
-  at_right k n xs ys len h i o e =
-      let same : k + n + i ≡ k + (length xs + i) = omega (arith, len) in
-      ap (slice_get base) same ∙ h (length xs + i) o (found_right xs ys i ∙ e)
-
-  -- a goal is final exactly where its node has no owner, and an owner asks its parts
+  -- a goal is final exactly where its node has no owner, and an owner asks its parts at the stores of the node's state
   record IsOwned (d : Due) : Type 0 where
     owner : Option ℕ
     found : slice_get base d.node ≡ Some owner
     final : d.is_final ≡ is_none owner
-    asks : AskParts chosen owner d.goals
+    state : State
+    stands : slice_get all d.node ≡ Some state
+    facts : d.facts ≡ state.facts
+    asks : AskParts chosen state.stores owner d.goals
 
   due_owned : (k : ℕ) (st : State) (node : Node) (o : Option ℕ) (goals : List Assertion) → slice_get base k ≡ Some o →
-      (is_end node && st.is_final) ≡ is_none o → AskParts chosen o goals → Each IsOwned (due k st node goals)
-  due_owned k st node o [] here final asks = tt
-  due_owned k st node o (g ∷ gs) here final asks = (record { owner = o; found = here; final = final; asks = asks }, tt)
+      slice_get all k ≡ Some st → (is_end node && st.is_final) ≡ is_none o → AskParts chosen st.stores o goals →
+      Each IsOwned (due k st node goals)
+  due_owned k st node o [] here stands final asks = tt
+  due_owned k st node o (g ∷ gs) here stands final asks =
+      (record { owner = o; found = here; final = final; state = st; stands = stands; facts = refl; asks = asks }, tt)
 
   no_due : (k : ℕ) (st : State) (node : Node) (goals : List Assertion) → goals ≡ [] → Each IsOwned (due k st node goals)
   no_due k st node goals e = subst (λ (gs : List Assertion). Each IsOwned (due k st node gs)) (sym e) tt
@@ -213,137 +214,110 @@ module _ (base : List (Option ℕ)) (keep : ℕ → List Assertion → Assertion
   both_owned : (es gs ds : List Due) → es ++ gs ≡ ds → Each IsOwned es → Each IsOwned gs → Each IsOwned ds
   both_owned es gs ds e h g = subst (Each IsOwned) e (each_append IsOwned es gs h g)
 
-  mutual
-    -- as many owners as nodes
-    owners_length : (p : Sketch) (target : Option ℕ) (s : ℕ) → length (owners target s p) ≡ size (plan_with keep s p)
-    owners_length (Draw (Plain node) ps) target s =
-        ap (λ (n : ℕ). suc n) (below_length ps target target s (s + 0) (omega arith))
-    owners_length (Draw (LoopSite set templates) ps) target s =
-        ap (λ (n : ℕ). suc n) (below_length ps (Some s) target (suc s) (s + 1) (omega arith))
-    owners_length (Draw (BlockSite counts templates) ps) target s =
-        ap (λ (n : ℕ). suc n) (below_length ps (Some s) target (suc s) (s + 1) (omega arith))
+  -- the states that follow a node stand behind its own
+  states_later : (k : ℕ) (st : State) (node : Node) (ps : Plans) (q : Opened) → opened_by k st node ≡ Some q →
+      IsAt all k (plan_states k st (At node ps)) → IsAt all (suc k) (plans_states (suc k) q.states ps)
+  states_later k st node ps q e at =
+      subst (λ (o : Option Opened). IsAt all (suc k) (plans_states (suc k) (states_opened o) ps)) e
+      (at_rest all k st (plans_states (suc k) (states_opened (opened_by k st node)) ps) at)
 
-    below_length : (ps : Sketches) (inner last : Option ℕ) (s m : ℕ) → s ≡ m →
-        length (owners_below inner last s ps) ≡ sizes (plans_with keep m ps)
-    below_length Over inner last s m e = refl
-    below_length (More p Over) inner last s m e = owners_length p last s ∙ ap (λ (n : ℕ). size (plan_with keep n p)) e ∙ omega arith
-    below_length (More p (More q ps)) inner last s m e =
-        length-append (owners inner s p) (owners_below inner last (s + length (sites_of p)) (More q ps))
-        ∙ (λ i. owners_length p inner s i
-        + below_length (More q ps) inner last (s + length (sites_of p)) (s + length (sites_of p)) refl i)
-        ∙ ap (λ (n : ℕ). size (plan_with keep n p) + sizes (plans_with keep (n + length (sites_of p)) (More q ps))) e
+  state_here : (k : ℕ) (st : State) (node : Node) (ps : Plans) → IsAt all k (plan_states k st (At node ps)) → slice_get all k ≡ Some st
+  state_here k st node ps at = at_first all k st (plans_states (suc k) (states_opened (opened_by k st node)) ps) at
 
-  -- the first node of a plan that has obligations, and what they are
-  record Parted (node : SketchNode) (ps : Sketches) (k s : ℕ) (st : State) (ds : List Due) : Type 0 where
-    q : Opened
-    later : List Due
-    opens : opened_by k st (node_with keep s node) ≡ Some q
-    goes_on : expand_all (Wrong k (rule_of (node_with keep s node))) (suc k) q.states (plans_with keep (s + length (site_at node)) ps)
-        ≡ Ok later
-    whole : due k st (node_with keep s node) q.goals ++ later ≡ ds
-
-  abbrev dues_list : Result (List Due) Fault → List Due
-  dues_list (Ok ds) = ds
-  dues_list (Err w) = []
-
-  parted : (node : SketchNode) (ps : Sketches) (k s : ℕ) (st : State) (ds : List Due) →
-      expand k st (plan_with keep s (Draw node ps)) ≡ Ok ds → Parted node ps k s st ds
-  parted node ps k s st ds e =
-      let below = plans_with keep (s + length (site_at node)) ps in
-      let w = Wrong k (rule_of (node_with keep s node)) in
-      let o = opened_back (opened_by k st (node_with keep s node)) w
-      (λ (q : Opened). if count below == length q.states
-      then joined (Ok (due k st (node_with keep s node) q.goals)) (expand_all w (suc k) q.states below) else Err w) ds e in
-      let parts = joined_back (Ok (due k st (node_with keep s node) o.0.goals)) (expand_all w (suc k) o.0.states below) ds
-      (passed_back (count below == length o.0.states) _ w ds o.2) in
-      record {
-        q = o.0;
-        later = parts.1;
-        opens = o.1;
-        goes_on = parts.3;
-        whole = ap (λ (es : List Due). es ++ parts.1) (dues_same (due k st (node_with keep s node) o.0.goals) parts.0 parts.2) ∙ parts.4;
-      }
-    where
-      dues_same : (x y : List Due) → (let r : Result (List Due) Fault = Ok x in r) ≡ Ok y → x ≡ y
-      dues_same x y h = ap dues_list h
+  -- the number of a site, by two forms of one number
+  renumbered_at : (k : ℕ) (st : State) (p : Sketch) (s m : ℕ) → s ≡ m → IsAt all k (plan_states k st (plan_with keep m p)) →
+      IsAt all k (plan_states k st (plan_with keep s p))
+  renumbered_at k st p s m eq = subst (λ (n : ℕ). IsAt all k (plan_states k st (plan_with keep n p))) (sym eq)
 
   mutual
     owned : (p : Sketch) (target : Option ℕ) (k s : ℕ) (st : State) (ds : List Due) → EachNode PassesAt p →
-        KeepParts chosen keep s (sites_of p) → IsAimed target st → IsAt k (owners target s p) → expand k st (plan_with keep s p) ≡ Ok ds →
-        Each IsOwned ds
-    owned (Draw (Plain node) ps) target k s st ds good keeps aimed at e =
-        let p = parted (Plain node) ps k s st ds e in
+        KeepParts chosen keep s (sites_of p) → IsAimed target st → IsAt base k (owners target s p) →
+        IsAt all k (plan_states k st (plan_with keep s p)) → expand k st (plan_with keep s p) ≡ Ok ds → Each IsOwned ds
+    owned (Draw (Plain node) ps) target k s st ds good keeps aimed at there e =
+        let below = plans_with keep (s + 0) ps in
+        let p = plan_parts node below k st ds e in
         let passes = good.0 k st p.q p.opens in
         both_owned (due k st node p.q.goals) p.later ds p.whole
         (⊎_elim (λ (h : p.q.goals ≡ []). no_due k st node p.q.goals h)
         (λ (h : (is_end node ≡ true) × (p.q.goals ≡ all_at_stores st.stores st.target)). due_owned k st node target p.q.goals
-        (at_first k target (owners_below target target s ps) at) (ap (λ (b : Bool). b && st.is_final) h.0 ∙ aimed.final)
-        (subst (AskParts chosen target) (sym h.1) (parts_asked chosen target st.stores st.target aimed.has_parts)))
+        (at_first base k target (owners_below target target s ps) at) (state_here k st node below there)
+        (ap (λ (b : Bool). b && st.is_final) h.0 ∙ aimed.final)
+        (subst (AskParts chosen st.stores target) (sym h.1) (parts_asked chosen target st.stores st.target aimed.has_parts)))
         passes.asks)
         (all_owned ps target target (Wrong k (rule_of node)) (suc k) s (s + 0) (omega arith) p.q.states p.later good.1 keeps
-        (all_aimed target st p.q.states aimed passes.follow) (at_rest k target (owners_below target target s ps) at) p.goes_on)
-    owned (Draw (LoopSite set templates) ps) target k s st ds good keeps aimed at e =
-        let p = parted (LoopSite set templates) ps k s st ds e in
+        (all_aimed target st p.q.states aimed passes.follow) (at_rest base k target (owners_below target target s ps) at)
+        (states_later k st node below p.q p.opens there) p.goes_on)
+    owned (Draw (LoopSite set templates) ps) target k s st ds good keeps aimed at there e =
+        let node = Loop set (keep s templates) in
+        let below = plans_with keep (s + 1) ps in
+        let p = plan_parts node below k st ds e in
         let same = opened_same
         (is_inhabited set && (each (λ (c : Copy). not (has set c) || is_loop (st.rest c)) && is_kept (keep s templates)))
         _ p.q p.opens in
-        both_owned (due k st (Loop set (keep s templates)) p.q.goals) p.later ds p.whole
-        (due_owned k st (Loop set (keep s templates)) (Some s) p.q.goals
-        (at_first k (Some s) (owners_below (Some s) target (suc s) ps) at) refl
-        (subst (λ (q : Opened). AskParts chosen (Some s) q.goals) same
+        both_owned (due k st node p.q.goals) p.later ds p.whole
+        (due_owned k st node (Some s) p.q.goals
+        (at_first base k (Some s) (owners_below (Some s) target (suc s) ps) at) (state_here k st node below there) refl
+        (subst (λ (q : Opened). AskParts chosen st.stores (Some s) q.goals) same
         (parts_asked chosen (Some s) st.stores (conj (keep s templates)) keeps.0)))
         (all_owned ps (Some s) target (Wrong k 4) (suc k) (suc s) (s + 1) (omega arith) p.q.states p.later good.1 keeps.1
         (subst (λ (q : Opened). AreAimed (Some s) target q.states) same
         (turns_aimed st k s target set (keep s templates) keeps.0 aimed (subsets set)))
-        (at_rest k (Some s) (owners_below (Some s) target (suc s) ps) at) p.goes_on)
-    owned (Draw (BlockSite counts templates) ps) target k s st ds good keeps aimed at e =
-        let p = parted (BlockSite counts templates) ps k s st ds e in
+        (at_rest base k (Some s) (owners_below (Some s) target (suc s) ps) at) (states_later k st node below p.q p.opens there) p.goes_on)
+    owned (Draw (BlockSite counts templates) ps) target k s st ds good keeps aimed at there e =
+        let node = Block counts (keep s templates) in
+        let below = plans_with keep (s + 1) ps in
+        let p = plan_parts node below k st ds e in
         let same = opened_same (each (λ (c : Copy). is_long (counts c) (st.rest c)) && is_kept (keep s templates)) _ p.q p.opens in
-        both_owned (due k st (Block counts (keep s templates)) p.q.goals) p.later ds p.whole
-        (no_due k st (Block counts (keep s templates)) p.q.goals (sym (ap (λ (q : Opened). q.goals) same)))
+        both_owned (due k st node p.q.goals) p.later ds p.whole
+        (no_due k st node p.q.goals (sym (ap (λ (q : Opened). q.goals) same)))
         (all_owned ps (Some s) target (Wrong k 5) (suc k) (suc s) (s + 1) (omega arith) p.q.states p.later good.1 keeps.1
         (subst (λ (q : Opened). AreAimed (Some s) target q.states) same
         (record { final = refl; has_parts = keeps.0 }, record { final = aimed.final; has_parts = aimed.has_parts }))
-        (at_rest k target (owners_below (Some s) target (suc s) ps) at) p.goes_on)
+        (at_rest base k target (owners_below (Some s) target (suc s) ps) at) (states_later k st node below p.q p.opens there) p.goes_on)
 
     all_owned : (ps : Sketches) (inner last : Option ℕ) (w : Fault) (k s m : ℕ) → s ≡ m → (states : List State) (ds : List Due) →
-        EachBelow PassesAt ps → KeepParts chosen keep s (sites_below ps) → AreAimed inner last states → IsAt k (owners_below inner last s ps) →
+        EachBelow PassesAt ps → KeepParts chosen keep s (sites_below ps) → AreAimed inner last states →
+        IsAt base k (owners_below inner last s ps) → IsAt all k (plans_states k states (plans_with keep m ps)) →
         expand_all w k states (plans_with keep m ps) ≡ Ok ds → Each IsOwned ds
-    all_owned Over inner last w k s m eq [] ds good keeps aimed at e = subst (Each IsOwned) (ap dues_list e) tt
-    all_owned Over inner last w k s m eq (st ∷ states) ds good keeps aimed at e = absurd cc
-    all_owned (More p ps) inner last w k s m eq [] ds good keeps aimed at e = absurd cc
-    all_owned (More p Over) inner last w k s m eq (st ∷ []) ds good keeps aimed at e =
+    all_owned Over inner last w k s m eq [] ds good keeps aimed at there e = subst (Each IsOwned) (dues_same [] ds e) tt
+    all_owned Over inner last w k s m eq (st ∷ states) ds good keeps aimed at there e = absurd cc
+    all_owned (More p ps) inner last w k s m eq [] ds good keeps aimed at there e = absurd cc
+    all_owned (More p Over) inner last w k s m eq (st ∷ []) ds good keeps aimed at there e =
         let parts = joined_back (expand k st (plan_with keep m p)) (Ok []) ds e in
         both_owned parts.0 parts.1 ds parts.4
         (owned p last k s st parts.0 good.0 (parts_split chosen keep s (sites_of p) [] keeps).0 aimed at
+        (renumbered_at k st p s m eq (at_left all k (plan_states k st (plan_with keep m p)) [] there))
         (ap (λ (n : ℕ). expand k st (plan_with keep n p)) eq ∙ parts.2))
-        (subst (Each IsOwned) (ap dues_list parts.3) tt)
-    all_owned (More p Over) inner last w k s m eq (st ∷ other ∷ states) ds good keeps aimed at e =
+        (subst (Each IsOwned) (dues_same [] parts.1 parts.3) tt)
+    all_owned (More p Over) inner last w k s m eq (st ∷ other ∷ states) ds good keeps aimed at there e =
         let parts = joined_back (expand k st (plan_with keep m p)) (Err w) ds e in absurd (not_ok parts.1 w parts.3)
-    all_owned (More p (More q ps)) inner last w k s m eq (st ∷ []) ds good keeps aimed at e =
+    all_owned (More p (More q ps)) inner last w k s m eq (st ∷ []) ds good keeps aimed at there e =
         let parts = joined_back (expand k st (plan_with keep m p)) (Err w) ds e in absurd (not_ok parts.1 w parts.3)
-    all_owned (More p (More q ps)) inner last w k s m eq (st ∷ other ∷ states) ds good keeps aimed at e =
+    all_owned (More p (More q ps)) inner last w k s m eq (st ∷ other ∷ states) ds good keeps aimed at there e =
         let n = k + size (plan_with keep m p) in
         let parts = joined_back (expand k st (plan_with keep m p))
         (expand_all w n (other ∷ states) (plans_with keep (m + length (sites_of p)) (More q ps))) ds e in
         let mine = owners inner s p in
         let rest = owners_below inner last (s + length (sites_of p)) (More q ps) in
+        let here = plan_states k st (plan_with keep m p) in
+        let later = plans_states n (other ∷ states) (plans_with keep (m + length (sites_of p)) (More q ps)) in
         let sites = parts_split chosen keep s (sites_of p) (sites_below (More q ps)) keeps in
         both_owned parts.0 parts.1 ds parts.4
-        (owned p inner k s st parts.0 good.0 sites.0 aimed.0
-        (λ (i : ℕ) (o : Option ℕ) (f : slice_get mine i ≡ Some o). at i o (found_left mine rest i o f))
+        (owned p inner k s st parts.0 good.0 sites.0 aimed.0 (at_left base k mine rest at)
+        (renumbered_at k st p s m eq (at_left all k here later there))
         (ap (λ (j : ℕ). expand k st (plan_with keep j p)) eq ∙ parts.2))
         (all_owned (More q ps) inner last w n (s + length (sites_of p)) (m + length (sites_of p))
         (ap (λ (j : ℕ). j + length (sites_of p)) eq)
         (other ∷ states) parts.1 good.1 sites.1 aimed.1
-        (at_right k (size (plan_with keep m p)) mine rest
-        (ap (λ (j : ℕ). size (plan_with keep j p)) (sym eq) ∙ sym (owners_length p inner s)) at) parts.3)
+        (at_right base k (size (plan_with keep m p)) mine rest
+        (ap (λ (j : ℕ). size (plan_with keep j p)) (sym eq) ∙ sym (owners_length keep p inner s)) at)
+        (at_right all k (size (plan_with keep m p)) here later (sym (states_length (plan_with keep m p) k st parts.0 parts.2)) there) parts.3)
 
 -- the templates that are chosen at a site
-abbrev chosen_templates : Parts → Choice → ℕ → List Assertion
+abbrev pub chosen_templates : Parts → Choice → ℕ → List Assertion
 chosen_templates t choice s = picked (plans.templates t s) (chosen_at choice s)
 
-sites_keep : (t : Parts) (choice : Choice) → KeepParts (chosen_templates t choice) (kept_by choice) 0 (sites_of (sketch_of t))
+pub sites_keep : (t : Parts) (choice : Choice) → KeepParts (chosen_templates t choice) (kept_by choice) 0 (sites_of (sketch_of t))
 sites_keep t choice =
     parts_from (chosen_templates t choice) (kept_by choice) 0 (sites_of (sketch_of t))
     (λ (i : ℕ) (ts : List Assertion) (e : slice_get (sites_of (sketch_of t)) i ≡ Some ts).
@@ -354,17 +328,17 @@ sites_keep t choice =
 
 -- which site owns each obligation of a product
 product_owned : (t : Parts) (choice : Choice) (ds : List Due) → obligations (task_of t) (plan_of t choice) ≡ Ok ds →
-    Each (IsOwned (owners None 0 (sketch_of t)) (kept_by choice) (chosen_templates t choice)) ds
+    Each (IsOwned (owners None 0 (sketch_of t)) (states_of t choice) (kept_by choice) (chosen_templates t choice)) ds
 product_owned t choice ds e =
     let base = owners None 0 (sketch_of t) in
-    owned base (kept_by choice) (chosen_templates t choice) (sketch_of t) None 0 0 (start_state (task_of t)) ds
+    owned base (states_of t choice) (kept_by choice) (chosen_templates t choice) (sketch_of t) None 0 0 (start_state (task_of t)) ds
     (sketch_nodes t PassesAt (nodes_pass t)) (sites_keep t choice) (record { final = refl; has_parts = tt })
-    (λ (i : ℕ) (o : Option ℕ) (f : slice_get base i ≡ Some o). let same : 0 + i ≡ i = omega arith in ap (slice_get base) same ∙ f)
+    (at_start base) (at_start (states_of t choice))
     (passed_back (is_shallow (branches (plan_of t choice))) (expand 0 (start_state (task_of t)) (plan_of t choice)) Deep ds e)
 
 module _ (t : Parts) (choice : Choice) where
   abbrev IsOwnedThere : Due → Type 0
-  IsOwnedThere d = IsOwned (owners None 0 (sketch_of t)) (kept_by choice) (chosen_templates t choice) d
+  IsOwnedThere d = IsOwned (owners None 0 (sketch_of t)) (states_of t choice) (kept_by choice) (chosen_templates t choice) d
 
   owner_is : (d : Due) (h : IsOwnedThere d) → owner_of t d ≡ h.owner
   owner_is d h = ap (λ (x : Option (Option ℕ)). unwrap_or x None) h.found
@@ -373,13 +347,17 @@ module _ (t : Parts) (choice : Choice) where
   ends_of [] h = tt
   ends_of (d ∷ ds) h = (h.0.final ∙ ap is_none (sym (owner_is d h.0)), ends_of ds h.1)
 
-  asks_of : (ds : List Due) → Each IsOwnedThere ds → AskChosen t choice ds
+  asks_there : (d : Due) → IsOwnedThere d → (s : ℕ) → owner_of t d ≡ Some s → AsksChosen t choice s d
+  asks_there d h s e = record {
+    state = h.state;
+    stands = h.stands;
+    facts = h.facts;
+    goals = subst (λ (o : Option ℕ). AskParts (chosen_templates t choice) h.state.stores o d.goals) (sym (owner_is d h) ∙ e) h.asks;
+  }
+
+  asks_of : (ds : List Due) → Each IsOwnedThere ds → AllAskChosen t choice ds
   asks_of [] h = tt
-  asks_of (d ∷ ds) h = (
-    λ (s : ℕ) (e : owner_of t d ≡ Some s).
-        subst (λ (o : Option ℕ). AskParts (chosen_templates t choice) o d.goals) (sym (owner_is d h.0) ∙ e) h.0.asks,
-    asks_of ds h.1,
-  )
+  asks_of (d ∷ ds) h = (asks_there d h.0, asks_of ds h.1)
 
 -- a goal of a product is final exactly where no site owns it
 pub owners_final : FinalHasNoOwner

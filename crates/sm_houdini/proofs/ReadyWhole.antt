@@ -14,8 +14,8 @@ use Rattle.sm_plan.specs.Plans.{nodes_of, all_nodes}
 use Rattle.sm_plan.specs.Statements.{is_over}
 use Rattle.sm_expand.specs.NumberedPlans.{NumberedNode, Step, Abs, Fork, Loop, Block, Dead, Ends, NumberedPlan, At, NumberedPlans, Over, More}
 use Rattle.sm_expand.specs.NumberedPlans.{node_over, plan_over, plans_over, IsKeepReady, IsPlanReady, ArePlansReady}
-use Rattle.sm_product.specs.CodeShapes.{own_statements}
-use Rattle.sm_product.specs.WholePlan.{summary_before, whole_plan}
+use Rattle.sm_moves.specs.CodeShapes.{own_statements}
+use Rattle.sm_sided.specs.WholePlan.{summary_before, whole_plan}
 
 -- nodes that fit a state and keep no formula
 abbrev IsBare : Node → Type 0

@@ -14,9 +14,9 @@ use Rattle.sm_plan.specs.Plans as plain
 use Rattle.sm_plan.specs.ReadyStates.{AreFormsReady}
 use Rattle.sm_expand.specs.declared.due.Due.{Due}
 use Rattle.sm_expand.specs.Views.{due_in, dues_in, AreDuesReady}
-use Rattle.sm_product.specs.Choices.{Choice}
+use Rattle.sm_sketch.specs.Choices.{Choice}
+use Rattle.sm_sketch.proofs.SketchesWiden.{sketch_stays, sketch_ready}
 use Rattle.sm_product.specs.Products.{sketch_of}
-use Rattle.sm_product.proofs.SketchesWiden.{sketch_stays, sketch_ready}
 use Rattle.sm_houdini.specs.declared.marks.Marked.{Marked}
 use Rattle.sm_houdini.specs.declared.product.Product.{Product}
 use Rattle.sm_houdini.specs.Closing.{closing, stays_at, owner_in, Knows}

@@ -12,9 +12,10 @@ use Rattle.sm_term.specs.Assertions.{Assertion}
 use Rattle.sm_term.specs.Slots.{at_stores, all_at_stores}
 use Rattle.sm_term.specs.Symbolic.{SymbolicStore}
 use Rattle.sm_plan.specs.Plans.{Due, Fault, obligations}
-use Rattle.sm_product.specs.Choices.{Choice, chosen_at, picked}
+use Rattle.sm_sketch.specs.Choices.{Choice, chosen_at, picked}
 use Rattle.sm_product.specs.ProductPlans.{templates, plan_of, full_choice}
-use Rattle.sm_houdini.specs.Laws.{AskChosen, AllClose, AllOwnedClose, KeptIsInductive}
+use Rattle.sm_houdini.specs.Laws.{AllAskChosen, AllClose, AllOwnedClose, KeptIsInductive}
+use Rattle.sm_houdini.specs.Obligations.{AsksChosen}
 use Rattle.sm_houdini.specs.Owners.{owner_of}
 use Rattle.sm_houdini.specs.Rounds.{dues_in, dues_of, is_site, closes_if, holds_at, numbers_kept, sites_kept, next_round, total, same_numbers}
 use Rattle.sm_houdini.specs.Rounds.{same_choice, settled, kept}
@@ -202,12 +203,15 @@ module _ (closes : List Assertion → Assertion → Bool) (t : Parts) (choice : 
       so true b e g = g
       so false b e g = absurd cc
 
+  asked_few : (s : ℕ) (d : Due) → AsksChosen t choice s d → length d.goals ≤ length (chosen_at choice s)
+  asked_few s d h = few_asked (templates t s) (chosen_at choice s) d.goals (h.state.stores, h.goals)
+
   owned_close : (ds : List Due) → ((s j : ℕ) → j < length (chosen_at choice s) → list_all (is_closed s j) ds ≡ true) →
-      AskChosen t choice ds → AllOwnedClose closes t ds
+      AllAskChosen t choice ds → AllOwnedClose closes t ds
   owned_close [] each asks = tt
   owned_close (d ∷ ds) each asks = (
     λ (s : ℕ) (own : owner_of t d ≡ Some s).
-        all_close (closes d.facts) d.goals (length (chosen_at choice s)) (few_asked (templates t s) (chosen_at choice s) d.goals (asks.0 s own))
+        all_close (closes d.facts) d.goals (length (chosen_at choice s)) (asked_few s d (asks.0 s own))
         (λ (j : ℕ) (h : j < length (chosen_at choice s)).
         own_closes s j d own (and_parts (is_closed s j d) (list_all (is_closed s j) ds) (each s j h)).0),
     owned_close ds
@@ -224,7 +228,7 @@ module _ (closes : List Assertion → Assertion → Bool) (t : Parts) (choice : 
       ∙ sites_pass (holds_at closes (owner_of t) (dues_of t choice)) 0 choice e s j h)
       (asks (obligations (task_of t) (plan_of t choice)) refl)
     where
-      asks : (r : Result (List Due) Fault) → obligations (task_of t) (plan_of t choice) ≡ r → AskChosen t choice (dues_in r)
+      asks : (r : Result (List Due) Fault) → obligations (task_of t) (plan_of t choice) ≡ r → AllAskChosen t choice (dues_in r)
       asks (Err w) e = tt
       asks (Ok ds) e = owners_ask t choice ds e
 

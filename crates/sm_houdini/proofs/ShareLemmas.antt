@@ -5,7 +5,7 @@ use Rattle.std.proofs.lemmas.List.{length-take-le, map-append, take_more}
 use Rattle.std.proofs.lemmas.Bool.Decides.{nat_tests}
 use Rattle.std.specs.Prelude.{Vec}
 use Rattle.std.specs.declared.alloc.Global.{Global}
-use Rattle.sm_product.specs.Choices.{Choice}
+use Rattle.sm_sketch.specs.Choices.{Choice}
 use Rattle.sm_houdini.specs.declared.marks.Marked.{Marked}
 use Rattle.sm_houdini.specs.Marks.{marked, all_marked, in_share, is_there, rows}
 use Rattle.sm_houdini.proofs.ClosingLemmas.{marked_length, rows_length}

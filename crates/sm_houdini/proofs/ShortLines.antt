@@ -30,9 +30,9 @@ use Rattle.sm_cert.specs.Certificates.{Certificate, Next, Closed, Split, lines_i
 use Rattle.sm_cert.specs.Certificates.{TooManySplits, bad_line, refused}
 use Rattle.sm_cert.specs.NamedTerms.{EachTerm}
 use Rattle.sm_plan.specs.States.{State, start_state}
+use Rattle.sm_moves.proofs.SetsLemmas.{Each}
+use Rattle.sm_template.proofs.TemplatesLemmas.{each_take}
 use Rattle.sm_product.specs.ProductPlans.{plan_of}
-use Rattle.sm_product.proofs.SetsLemmas.{Each}
-use Rattle.sm_product.proofs.TemplatesLemmas.{each_take}
 use Rattle.sm_write.specs.Nameable.{EachInStates, IsClosed, Nameable}
 use Rattle.sm_write.specs.PlainPlans.{NoTerm}
 use Rattle.sm_write.specs.PlanStates.{plan_states}
@@ -41,7 +41,8 @@ use Rattle.sm_write.specs.Writable.{Goal, all_goals, states_until, AreShown, fac
 use Rattle.sm_write.proofs.BuiltTerms.{built_more, sides_more}
 use Rattle.sm_write.proofs.ReadyPlans.{term_more}
 use Rattle.sm_houdini.specs.Certified.{NamesShort, AllNameShort}
-use Rattle.sm_houdini.specs.Laws.{CertifiedAreShort}
+use Rattle.sm_product.proofs.HolesLemmas.{valid_no_hole}
+use Rattle.sm_houdini.specs.Laws.{CertifiedAreShort, ValidIsSearchable}
 use Rattle.sm_houdini.proofs.LeanStates.{IsLeanState, states_lean}
 use Rattle.sm_houdini.proofs.LeanTerms.{is_lean, both_true, Lean, built_lean, arguments_lean, arguments_few}
 use Rattle.sm_houdini.proofs.SimpleWritable.{shown_goals}
@@ -243,11 +244,15 @@ few_names t e =
     double_hole t ∷ hole_in_filling t ∷ unknown_hole t ∷ missing_filling t ∷ ill_formed t ∷ ill_assumed t.declared t.assumed ∷ [] in
     formed_few t (none_at refusals 4 (ill_formed t) e refl)
 
+-- it can be searched
+pub valid_searchable : ValidIsSearchable
+valid_searchable t e = (valid_no_hole t e, few_names t e)
+
 pub certified_short : CertifiedAreShort
-certified_short t choice ds cs valid numbered sorted e certified short =
+certified_short t choice ds cs few numbered sorted e certified short =
     let sorts = sort_of t.declared in
     let p = plan_of t choice in
     let simple = product_simple t choice numbered sorted in
     let all = plan_states 0 (start_state (task_of t)) p in
-    goals_short sorts (length t.declared) (few_names t valid) all (states_lean t.declared numbered (task_of t) p sorted simple)
+    goals_short sorts (length t.declared) few all (states_lean t.declared numbered (task_of t) p sorted simple)
     (all_goals ds) cs (shown_goals t p ds cs sorted simple e certified) short

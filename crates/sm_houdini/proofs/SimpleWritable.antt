@@ -12,10 +12,10 @@ use Rattle.sm_plan.specs.Nodes.{Node, Step, Abs, Fork, Loop, Block, Dead, Ends, 
 use Rattle.sm_plan.specs.Plans.{Plan, At, Plans, Over, More, branches, nodes_of, all_nodes, Due, Deep, expand, obligations}
 use Rattle.sm_plan.specs.SortedStates.{IsTaskSorted}
 use Rattle.sm_plan.specs.States.{State, start_state}
+use Rattle.sm_moves.proofs.SetsLemmas.{Each, each_append}
 use Rattle.sm_product.proofs.ObligationsLemmas.{passed_back}
-use Rattle.sm_product.proofs.SetsLemmas.{Each, each_append}
 use Rattle.sm_solve.specs.Answers.{terms_walked}
-use Rattle.sm_solve.specs.Branches.{IsOneOf}
+use Rattle.sm_list.specs.Branches.{IsOneOf}
 use Rattle.sm_write.specs.BranchTerms.{IsTermOf}
 use Rattle.sm_write.specs.Nameable.{EachSide, AllSides, Nameable}
 use Rattle.sm_write.specs.PlanStates.{plan_states}

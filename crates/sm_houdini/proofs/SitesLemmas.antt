@@ -15,18 +15,18 @@ use Rattle.sm_plan.specs.declared.state.Formulas.{Formulas}
 use Rattle.sm_plan.specs.Views.{forms_in}
 use Rattle.sm_expand.specs.declared.plan.Simple.{Simple}
 use Rattle.sm_expand.specs.Views.{simple_node}
-use Rattle.sm_product.specs.declared.kept.TemplateChoice.{TemplateChoice}
-use Rattle.sm_product.specs.declared.sketch.Sketch.{Sketch}
-use Rattle.sm_product.specs.declared.sketch.SketchEnd.{SketchEnd}
-use Rattle.sm_product.specs.declared.sketch.SketchEnd.TheVariants as last
-use Rattle.sm_product.specs.declared.sketch.Sketches.{Sketches, out-Sketches}
-use Rattle.sm_product.specs.Choices.{Choice, all_chosen}
-use Rattle.sm_product.specs.NumberedSketches.{Plain, LoopSite, NumberedSketch, Draw, Over, More}
-use Rattle.sm_product.specs.NumberedSketches.{sketch_over, sketches_over, sketches_before}
-use Rattle.sm_product.specs.Sketches as tree
-use Rattle.sm_product.specs.Sketches.{sites_of, sites_below}
-use Rattle.sm_product.specs.SketchViews.{stacked, numbered_sketch, numbered_end, numbered_sketches, sketch_in}
-use Rattle.sm_product.proofs.SketchEnds.{sketch_is, sketches_are, fork_end, end_loop, block_end}
+use Rattle.sm_sketch.specs.declared.kept.TemplateChoice.{TemplateChoice}
+use Rattle.sm_sketch.specs.declared.sketch.Sketch.{Sketch}
+use Rattle.sm_sketch.specs.declared.sketch.SketchEnd.{SketchEnd}
+use Rattle.sm_sketch.specs.declared.sketch.SketchEnd.TheVariants as last
+use Rattle.sm_sketch.specs.declared.sketch.Sketches.{Sketches, out-Sketches}
+use Rattle.sm_sketch.specs.Choices.{Choice, all_chosen}
+use Rattle.sm_sketch.specs.NumberedSketches.{Plain, LoopSite, NumberedSketch, Draw, Over, More}
+use Rattle.sm_sketch.specs.NumberedSketches.{sketch_over, sketches_over, sketches_before}
+use Rattle.sm_sketch.specs.Sketches as tree
+use Rattle.sm_sketch.specs.Sketches.{sites_of, sites_below}
+use Rattle.sm_sketch.specs.SketchViews.{stacked, numbered_sketch, numbered_end, numbered_sketches, sketch_in}
+use Rattle.sm_sketch.proofs.SketchEnds.{sketch_is, sketches_are, fork_end, end_loop, block_end}
 use Rattle.sm_houdini.specs.declared.sites.Sites.{Sites}
 use Rattle.sm_houdini.specs.Marks.{rows}
 use Rattle.sm_houdini.specs.Owners.{owners, owners_below}

@@ -13,18 +13,18 @@ use Rattle.sm_plan.specs.SortedStates.{IsTaskSorted}
 use Rattle.sm_plan.specs.Starts.{AreNumbered}
 use Rattle.sm_plan.specs.Statements.{rest_after, loop_body}
 use Rattle.sm_plan.proofs.SortedCode.{append_well, rest_well, guard_well, body_well}
-use Rattle.sm_product.specs.Choices.{Choice, kept_by}
-use Rattle.sm_product.specs.CodeShapes.{has_hole, has_fork, own_statements, by_first_block, by_second_block}
-use Rattle.sm_product.specs.CopySets.{all_copies, members, with_member, without, only_in}
+use Rattle.sm_moves.specs.CodeShapes.{has_hole, has_fork, own_statements, by_first_block, by_second_block}
+use Rattle.sm_moves.specs.CopySets.{all_copies, members, with_member, without, only_in}
+use Rattle.sm_moves.specs.Moves.{Move, Done, Steps, Summaries, Forks, Loops, is_shared, move_of, moved_on}
+use Rattle.sm_moves.proofs.SetsLemmas.{Each}
+use Rattle.sm_template.specs.Templates.{block_templates, loop_templates}
+use Rattle.sm_sketch.specs.Choices.{Choice, kept_by}
+use Rattle.sm_sketch.specs.Sketches.{SketchNode, Plain, LoopSite, BlockSite, Sketch, Draw, Sketches, Over, More}
+use Rattle.sm_sketch.specs.Sketches.{ends, each_of, turns_then, looped, apart, site_at, sites_of, node_with, plan_with, plans_with}
 use Rattle.sm_product.specs.MiniProducts.{drawn, mini_product, statements_left, side_by_side}
-use Rattle.sm_product.specs.Moves.{Move, Done, Steps, Summaries, Forks, Loops, is_shared, move_of, moved_on}
 use Rattle.sm_product.specs.ProductPlans.{plan_of}
 use Rattle.sm_product.specs.Products.{where_any, forked, branched, product_if, product_while, filled, product, sketch_of}
-use Rattle.sm_product.specs.Sketches.{SketchNode, Plain, LoopSite, BlockSite, Sketch, Draw, Sketches, Over, More}
-use Rattle.sm_product.specs.Sketches.{ends, each_of, turns_then, looped, apart, site_at, sites_of, node_with, plan_with, plans_with}
-use Rattle.sm_product.specs.Templates.{block_templates, loop_templates}
 use Rattle.sm_product.proofs.NodesLemmas.{EachNode, EachBelow}
-use Rattle.sm_product.proofs.SetsLemmas.{Each}
 use Rattle.sm_houdini.proofs.NamedGoals.{IsSimple, AreSimple, AreAllSimple}
 use Rattle.sm_houdini.proofs.SortedTemplates.{IsSimpleForm, AreDeclared, numbered_declared, block_simple, loops_simple, kept_simple}
 

@@ -22,16 +22,17 @@ use Rattle.sm_plan.specs.States.{place, keeps_goals}
 use Rattle.sm_plan.specs.Statements.{loop_guard, loop_body}
 use Rattle.sm_plan.proofs.SortedStates.{place_sorted}
 use Rattle.sm_plan.proofs.SortedTerms.{declared_with, sort_is}
-use Rattle.sm_product.specs.Choices.{Choice, chosen_at, picked, halved, kept_by}
-use Rattle.sm_product.specs.CopySets.{members, only_in, pairs}
-use Rattle.sm_product.specs.Guards.{slots, next_to, weaker, guard_templates}
-use Rattle.sm_product.specs.Literals.{literals_of}
-use Rattle.sm_product.specs.SameFormulas.{same_formula}
-use Rattle.sm_product.specs.Templates.{equal_cells, equal_copies, unchanged, apart_by, shifted, name_templates, written_templates}
-use Rattle.sm_product.specs.Templates.{block_templates, loop_templates}
-use Rattle.sm_product.specs.Written.{is_written, names_written}
-use Rattle.sm_product.proofs.SetsLemmas.{Each, each_append, each_filter, each_of_all}
-use Rattle.sm_product.proofs.TemplatesLemmas.{each_distinct, each_take, each_drop, each_picked}
+use Rattle.sm_moves.specs.CopySets.{members, only_in, pairs}
+use Rattle.sm_moves.proofs.SetsLemmas.{Each, each_append, each_filter, each_of_all}
+use Rattle.sm_template.specs.Guards.{slots, next_to, weaker, guard_templates}
+use Rattle.sm_template.specs.Literals.{literals_of}
+use Rattle.sm_template.specs.SameFormulas.{same_formula}
+use Rattle.sm_template.specs.Templates.{equal_cells, equal_copies, unchanged, apart_by, shifted, name_templates, written_templates}
+use Rattle.sm_template.specs.Templates.{block_templates, loop_templates}
+use Rattle.sm_template.specs.Written.{is_written, names_written}
+use Rattle.sm_template.proofs.TemplatesLemmas.{each_distinct, each_take, each_drop}
+use Rattle.sm_sketch.specs.Choices.{Choice, chosen_at, picked, halved, kept_by}
+use Rattle.sm_sketch.proofs.PickedLemmas.{each_picked}
 use Rattle.sm_write.specs.Nameable.{EachSide}
 use Rattle.sm_write.specs.PlainPlans.{NoTerm}
 use Rattle.sm_write.specs.Seen.{IsBuilt}

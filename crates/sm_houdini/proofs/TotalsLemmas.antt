@@ -5,7 +5,7 @@ use Rattle.std.specs.Prelude.{Vec}
 use Rattle.std.specs.declared.alloc.Global.{Global}
 use Rattle.std.proofs.lemmas.Bool.{eq-eqb}
 use Rattle.std.proofs.lemmas.List.{map-append}
-use Rattle.sm_product.specs.Choices.{Choice}
+use Rattle.sm_sketch.specs.Choices.{Choice}
 use Rattle.sm_houdini.specs.Marks.{rows}
 use Rattle.sm_syntax.specs.text.Parts.{Parts}
 use Rattle.sm_term.specs.Assertions.{Assertion}

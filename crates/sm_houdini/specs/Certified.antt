@@ -8,7 +8,7 @@ use Rattle.sm_cert.specs.Certificates.{Certificate, Next, Closed, Split, Closes}
 use Rattle.sm_cert.specs.NamedTerms.{EachTerm}
 use Rattle.sm_plan.specs.Plans.{Due}
 use Rattle.sm_solve.specs.Answers.{terms_walked}
-use Rattle.sm_solve.specs.Branches.{IsOneOf}
+use Rattle.sm_list.specs.Branches.{IsOneOf}
 use Rattle.sm_write.specs.Writable.{facts_named, AreShortNumbers}
 
 -- each goal of obligations, in order, with the facts over which it is asked
@@ -22,7 +22,13 @@ IsCertified sorts facts goal c =
     Closes sorts (as_facts (facts ++ negate goal ∷ [])) c
     × EachTerm (IsOneOf (terms_walked facts goal)) c
 
--- each goal has such a certificate, in order
+-- a goal over facts has a certificate that checks: one that closes the branch of the facts and the
+-- goal's contrary
+abbrev pub HasCertificate : Sorts → List Assertion → Assertion → Type 0
+HasCertificate sorts facts goal =
+    (c : Certificate) × Closes sorts (as_facts (facts ++ negate goal ∷ [])) c
+
+-- each goal has a certificate that shows it, in order
 abbrev pub AreCertified : Sorts → List (List Assertion × Assertion) → List Certificate → Type 0
 AreCertified sorts [] [] = Unit {0}
 AreCertified sorts [] (c ∷ cs) = ⊥

@@ -11,8 +11,8 @@ use Rattle.sm_task.specs.Filling.{AreFilled}
 use Rattle.sm_plan.specs.Plans.{Due}
 use Rattle.sm_plan.specs.SortedStates.{IsTaskSorted}
 use Rattle.sm_plan.specs.Starts.{AreNumbered}
+use Rattle.sm_sketch.specs.SketchViews.{sketch_in, IsSketchReady}
 use Rattle.sm_product.specs.Products.{sketch_of}
-use Rattle.sm_product.specs.SketchViews.{sketch_in, IsSketchReady}
 use Rattle.sm_solve.specs.Walk.{walk}
 use Rattle.sm_houdini.specs.declared.product.Product.{Product}
 use Rattle.sm_houdini.specs.Outcomes.{is_closing}

@@ -8,7 +8,8 @@ use Rattle.sm_plan.specs.Plans.{Due}
 use Rattle.sm_expand.specs.declared.due.Due as program
 use Rattle.sm_expand.specs.Views.{dues_in}
 use Rattle.sm_replay.specs.declared.verdict.Verdict.{Verdict}
-use Rattle.sm_solve.specs.Walk.{Walked, walk}
+use Rattle.sm_judge.specs.Forms.{Walked}
+use Rattle.sm_solve.specs.Walk.{walk}
 use Rattle.sm_write.specs.TreesWithin.{AreTreesWithin}
 use Rattle.sm_write.specs.Writable.{AreShort}
 use Rattle.sm_houdini.specs.declared.ending.Stop.{Stop}

@@ -3,8 +3,8 @@ use Rattle.std.specs.Prelude.{◌≡◌, ℕ, ◌&&◌, Bool, List, Option, None
 use Rattle.sm_term.specs.Tables.{TableValue, trees_in, sorts_in}
 use Rattle.sm_expand.specs.declared.due.Due.{Due}
 use Rattle.sm_expand.specs.Views.{dues_in}
-use Rattle.sm_product.specs.declared.kept.TemplateChoice.{TemplateChoice}
-use Rattle.sm_product.specs.ChoiceViews.{choice_in}
+use Rattle.sm_sketch.specs.declared.kept.TemplateChoice.{TemplateChoice}
+use Rattle.sm_sketch.specs.ChoiceViews.{choice_in}
 use Rattle.sm_houdini.specs.declared.marks.Marks.{Marks}
 use Rattle.sm_houdini.specs.Closing.{closing, owner_in}
 use Rattle.sm_houdini.specs.Marks.{all_marked, in_share, rows}

@@ -2,6 +2,7 @@ pub mod Owners
 pub mod Rounds
 pub mod Outcomes
 pub mod Certified
+pub mod Obligations
 pub mod Laws
 pub mod Views
 pub mod Marks

@@ -2,7 +2,7 @@
 use Rattle.std.specs.Prelude.{ℕ, zero, suc, ◌%◌, ◌==◌, Bool, false, ◌&&◌, ◌||◌, if◌then◌else◌, Option, Some, None, List}
 use Rattle.std.specs.Prelude.{[], ◌∷◌, map, Vec, slice_get}
 use Rattle.std.specs.declared.alloc.Global.{Global}
-use Rattle.sm_product.specs.Choices.{Choice}
+use Rattle.sm_sketch.specs.Choices.{Choice}
 use Rattle.sm_houdini.specs.declared.marks.Join.{Join}
 use Rattle.sm_houdini.specs.declared.marks.Join.TheVariants as join
 use Rattle.sm_houdini.specs.declared.marks.Marked.{Marked}

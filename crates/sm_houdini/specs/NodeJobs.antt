@@ -6,7 +6,7 @@ use Rattle.sm_term.specs.Tables.{TableValue, trees_in, sorts_in}
 use Rattle.sm_plan.specs.Plans as plain
 use Rattle.sm_expand.specs.declared.due.Due.{Due}
 use Rattle.sm_expand.specs.Views.{dues_in}
-use Rattle.sm_product.specs.Choices.{Choice}
+use Rattle.sm_sketch.specs.Choices.{Choice}
 use Rattle.sm_houdini.specs.declared.marks.Marks.{Marks}
 use Rattle.sm_houdini.specs.Closing.{closing, owner_in}
 use Rattle.sm_houdini.specs.Marks.{all_marked, rows}

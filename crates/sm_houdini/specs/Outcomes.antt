@@ -6,12 +6,12 @@ use Rattle.sm_syntax.specs.text.Parts.{Parts, sort_of, task_of}
 use Rattle.sm_num.specs.declared.op.Op.{Op}
 use Rattle.sm_term.specs.Assertions.{Assertion}
 use Rattle.sm_plan.specs.Plans.{Due}
-use Rattle.sm_product.specs.OneSided.{is_one_sided}
 use Rattle.sm_product.specs.Sizes.{is_small}
+use Rattle.sm_sided.specs.OneSided.{is_one_sided}
 use Rattle.sm_replay.specs.declared.verdict.Verdict.{Verdict}
 use Rattle.sm_replay.specs.Trials.{IsFirstViolation}
 use Rattle.sm_solve.specs.Walk as walks
-use Rattle.sm_solve.specs.Walk.{Walked, Closes, Opens, TooFar, GoesOut}
+use Rattle.sm_judge.specs.Forms.{Walked, Closes, Opens, TooFar, GoesOut}
 use Rattle.sm_houdini.specs.Rounds.{dues_of, kept}
 
 -- what a search comes to, where V is what is said of a violation; nodes and goals are numbered

@@ -3,9 +3,9 @@ use Rattle.std.specs.Prelude.{ℕ, suc, ◌+◌, Option, Some, None, List, [], �
 use Rattle.std.specs.Prelude.{slice_get, unwrap_or}
 use Rattle.sm_syntax.specs.text.Parts.{Parts}
 use Rattle.sm_plan.specs.Plans.{Due}
+use Rattle.sm_sketch.specs.Sketches.{Plain, LoopSite, BlockSite, Sketch, Draw, Sketches, Over, More}
+use Rattle.sm_sketch.specs.Sketches.{sites_of}
 use Rattle.sm_product.specs.Products.{sketch_of}
-use Rattle.sm_product.specs.Sketches.{Plain, LoopSite, BlockSite, Sketch, Draw, Sketches, Over, More}
-use Rattle.sm_product.specs.Sketches.{sites_of}
 
 abbrev mutual
   -- for each node of a sketch, in preorder, the site whose kept formula is asked there, none where

@@ -1,16 +1,23 @@
--- Private: what is known where a search ends.
+-- What a search asks of a task, which public clauses cite, and what is known where it ends, which is
+-- private.
 use Rattle.std.specs.Prelude.{◌≡◌, ℕ}
 use Rattle.sm_syntax.specs.text.Parts.{Parts, sort_of}
 use Rattle.sm_term.specs.Tables.{TableValue}
 use Rattle.sm_expand.specs.declared.plan.Plan.{Plan}
-use Rattle.sm_product.specs.declared.whole.CertTrees.{CertTrees}
+use Rattle.sm_sided.specs.declared.whole.CertTrees.{CertTrees}
 use Rattle.sm_replay.specs.declared.verdict.Verdict.{Verdict}
+use Rattle.sm_product.specs.Laws.{HaveNoHole}
 use Rattle.sm_solve.specs.Walk.{walk}
 use Rattle.sm_houdini.specs.declared.ending.Stop.{Stop}
 use Rattle.sm_houdini.specs.declared.outcome.Outcome as program
 use Rattle.sm_houdini.specs.Collected.{stop_in}
 use Rattle.sm_houdini.specs.Outcomes.{Outcome, Accepted, plan_outcome}
 use Rattle.sm_houdini.specs.Views.{outcome_in, IsWhole}
+
+-- what a search asks of a task, beside sorts and numbers: no filling has a hole. It may have any
+-- number of nodes
+abbrev pub IsSearchable : Parts → Type 0
+IsSearchable t = HaveNoHole t
 
 -- what the plan of a task decides
 abbrev pub plan_decides : Parts → ℕ → Outcome (ℕ × Verdict)

@@ -1,8 +1,8 @@
 -- Private: owners of nodes and templates of sites that are put behind others.
 use Rattle.std.specs.Prelude.{◌≡◌, ℕ, ◌+◌, Option, List, [], ◌∷◌, ◌++◌, length, map}
 use Rattle.sm_expand.specs.declared.plan.Simple.{Simple}
-use Rattle.sm_product.specs.Choices.{Choice, all_chosen}
-use Rattle.sm_product.specs.Sketches.{Sketch, sites_of}
+use Rattle.sm_sketch.specs.Choices.{Choice, all_chosen}
+use Rattle.sm_sketch.specs.Sketches.{Sketch, sites_of}
 use Rattle.sm_houdini.specs.declared.sites.Sites.{Sites}
 use Rattle.sm_houdini.specs.Marks.{rows}
 use Rattle.sm_houdini.specs.Owners.{owners}

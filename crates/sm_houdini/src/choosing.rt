@@ -1,9 +1,9 @@
 // Choices of templates, counted.
 ghost use Rattle.std.specs.Prelude.{◌≡◌, IfOk};
-ghost use Rattle.sm_product.specs.ChoiceViews.{choice_in};
+ghost use Rattle.sm_sketch.specs.ChoiceViews.{choice_in};
 ghost use Rattle.sm_houdini.specs.Rounds as plain;
 
-use sm_product::TemplateChoice;
+use sm_sketch::TemplateChoice;
 use std::alloc::AllocError;
 
 // How many templates are chosen.

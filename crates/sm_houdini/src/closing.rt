@@ -9,7 +9,7 @@ ghost use Rattle.sm_plan.specs.ReadyStates.{IsFormReady, AreFormsReady};
 ghost use Rattle.sm_plan.specs.Views.{forms_in};
 ghost use Rattle.sm_expand.specs.Views.{due_in};
 ghost use Rattle.sm_solve.specs.Answers.{Tells};
-ghost use Rattle.sm_solve.specs.Walk.{Walked};
+ghost use Rattle.sm_judge.specs.Forms.{Walked};
 ghost use Rattle.sm_houdini.specs.Closing.{closing, closes_at};
 ghost use Rattle.sm_houdini.specs.Marks.{still_marked};
 ghost use Rattle.sm_houdini.specs.Nodes.{IsNodeOf};

@@ -1,7 +1,6 @@
 // What the plan of a task decides.
-ghost use Rattle.std.specs.Prelude.{◌≡◌, None, true, false, Ok, List, IfOk, MatchOption};
+ghost use Rattle.std.specs.Prelude.{◌≡◌, true, false, Ok, List, IfOk, MatchOption};
 ghost use Rattle.std.specs.Prelude.{MatchResult};
-ghost use Rattle.sm_syntax.specs.text.Conditions.{first_refusal};
 ghost use Rattle.sm_syntax.specs.text.Parts.{sort_of, task_of};
 ghost use Rattle.sm_syntax.specs.trees.Programs.{declared_of};
 ghost use Rattle.sm_term.specs.Tables.{trees_in, sorts_in};
@@ -14,14 +13,14 @@ ghost use Rattle.sm_plan.specs.SortedStates.{IsTaskSorted};
 ghost use Rattle.sm_plan.specs.Starts.{AreNumbered};
 ghost use Rattle.sm_expand.specs.NumberedPlans.{IsPlanReady};
 ghost use Rattle.sm_expand.specs.Views.{numbered_plan, plan_in, dues_in, AreDuesReady};
-ghost use Rattle.sm_product.specs.ChoiceViews.{choice_in};
+ghost use Rattle.sm_sketch.specs.ChoiceViews.{choice_in};
+ghost use Rattle.sm_sketch.specs.SketchViews.{sketch_in, IsSketchReady};
 ghost use Rattle.sm_product.specs.ProductPlans.{full_choice};
 ghost use Rattle.sm_product.specs.Products as products;
 ghost use Rattle.sm_product.specs.Sizes as sizes;
-ghost use Rattle.sm_product.specs.SketchViews.{sketch_in, IsSketchReady};
 ghost use Rattle.sm_houdini.specs.Closing.{closing, Knows};
 ghost use Rattle.sm_houdini.specs.Rounds.{kept};
-ghost use Rattle.sm_houdini.specs.Searchable.{TellsPlan, TellsStop, Accepts};
+ghost use Rattle.sm_houdini.specs.Searchable.{IsSearchable, TellsPlan, TellsStop, Accepts};
 ghost use Rattle.sm_houdini.specs.Views.{IsProof};
 
 use crate::ending::{Stop, end_all, stopped};
@@ -32,9 +31,9 @@ use crate::rounds::settled;
 use crate::sites::{Sites, sites_of};
 use sm_expand::{Obligations, Plan, PlanFault};
 use sm_par::Gate;
-use sm_product::{
-    CertTrees, ProductError, Sketch, TemplateChoice, is_small, obligations_of, plan_with, sketch_of,
-};
+use sm_product::{is_small, obligations_of, sketch_of};
+use sm_sided::CertTrees;
+use sm_sketch::{ProductError, Sketch, TemplateChoice, plan_with};
 use sm_syntax::{Block, PerCopy};
 use sm_term::TermTable;
 use sm_text::Task;
@@ -80,7 +79,7 @@ fn ended<R: Threads + Sync, G: Gate>(
     steps: u64,
 ) -> Result<Result<(Plan, CertTrees), Stop>, AllocError>
     requires knows { Knows table.old task.now product.now }
-    requires valid { first_refusal (parts_of task.now) ≡ None }
+    requires searchable { IsSearchable (parts_of task.now) }
     requires small { sizes.is_small (parts_of task.now) ≡ true }
     requires kept { choice_in choice.now
         ≡ kept (closing (sort_of (declared_of task.now.shared.decls)) steps) (parts_of task.now) }
@@ -109,7 +108,7 @@ fn decided<R: Threads + Sync, G: Gate>(
     steps: u64,
 ) -> Result<Outcome, AllocError>
     requires knows { Knows table task.now product.now }
-    requires valid { first_refusal (parts_of task.now) ≡ None }
+    requires searchable { IsSearchable (parts_of task.now) }
     requires small { sizes.is_small (parts_of task.now) ≡ true }
     requires kept { choice_in choice.now
         ≡ kept (closing (sort_of (declared_of task.now.shared.decls)) steps) (parts_of task.now) }
@@ -165,7 +164,7 @@ fn decided_by<R: Threads + Sync, G: Gate>(
     sketch: Sketch,
     steps: u64,
 ) -> Result<Outcome, AllocError>
-    requires valid { first_refusal (parts_of task.now) ≡ None }
+    requires searchable { IsSearchable (parts_of task.now) }
     requires declared { sorts_in table ≡ sort_of (declared_of task.now.shared.decls) }
     requires numbered { AreNumbered (declared_of task.now.shared.decls) }
     requires sorted { IsTaskSorted (sort_of (declared_of task.now.shared.decls))
@@ -198,7 +197,7 @@ pub(crate) fn by_plan<R: Threads + Sync, G: Gate>(
     programs: PerCopy<Block>,
     steps: u64,
 ) -> Result<Outcome, AllocError>
-    requires valid { first_refusal (parts_of task.now) ≡ None }
+    requires searchable { IsSearchable (parts_of task.now) }
     requires sorted { IsTaskSorted (sort_of (declared_of task.now.shared.decls))
         (task_of (parts_of task.now)) }
     requires numbered { AreNumbered (declared_of task.now.shared.decls) }

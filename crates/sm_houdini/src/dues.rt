@@ -4,13 +4,14 @@ ghost use Rattle.sm_term.specs.Tables.{trees_in, sorts_in};
 ghost use Rattle.sm_term.specs.TableLaws.{Widens};
 ghost use Rattle.sm_text.specs.Tasks.{parts_of};
 ghost use Rattle.sm_expand.specs.Views.{dues_in, AreDuesReady};
-ghost use Rattle.sm_product.specs.ChoiceViews.{choice_in};
+ghost use Rattle.sm_sketch.specs.ChoiceViews.{choice_in};
 ghost use Rattle.sm_houdini.specs.Closing.{Knows};
 ghost use Rattle.sm_houdini.specs.Rounds as plain;
 
 use crate::product::Product;
 use sm_expand::{Obligations, PlanFault};
-use sm_product::{TemplateChoice, obligations_of, plan_with};
+use sm_product::obligations_of;
+use sm_sketch::{TemplateChoice, plan_with};
 use sm_term::TermTable;
 use sm_text::Task;
 use std::alloc::{AllocError, Global};

@@ -3,7 +3,7 @@ ghost use Rattle.std.specs.Prelude.{◌≡◌, ◌<◌, ◌≤◌, ◌&&◌, ℕ
 ghost use Rattle.sm_term.specs.Tables.{trees_in, sorts_in};
 ghost use Rattle.sm_term.specs.TableLaws.{Widens};
 ghost use Rattle.sm_expand.specs.Views.{dues_in, AreDuesReady};
-ghost use Rattle.sm_product.specs.ChoiceViews.{choice_in};
+ghost use Rattle.sm_sketch.specs.ChoiceViews.{choice_in};
 ghost use Rattle.sm_houdini.specs.Closing.{closing, owner_in};
 ghost use Rattle.sm_houdini.specs.GoalJobs.{RoundGoalsValue, TellsShare};
 ghost use Rattle.sm_houdini.specs.Known.{AreKnown};
@@ -15,7 +15,7 @@ use crate::marks::{Join, Marks, joined_marks, share_marks};
 use crate::node_jobs::{job_numbers, marks_by_nodes};
 use sm_expand::Due;
 use sm_par::{Gate, Job, Phase, run_jobs};
-use sm_product::TemplateChoice;
+use sm_sketch::TemplateChoice;
 use sm_term::TermTable;
 use std::alloc::{AllocError, Global};
 use std::marker::Model;

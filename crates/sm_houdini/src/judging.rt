@@ -4,7 +4,7 @@ ghost use Rattle.sm_term.specs.Tables.{trees_in, sorts_in};
 ghost use Rattle.sm_term.specs.TableLaws.{Widens};
 ghost use Rattle.sm_expand.specs.Views.{due_in, dues_in, AreDuesReady};
 ghost use Rattle.sm_plan.specs.ReadyStates.{AreFormsReady};
-ghost use Rattle.sm_product.specs.Choices.{Choice};
+ghost use Rattle.sm_sketch.specs.Choices.{Choice};
 ghost use Rattle.sm_houdini.specs.Closing.{closing, closes_at, stays_at, owner_in};
 ghost use Rattle.sm_houdini.specs.Known.{AreKnown};
 ghost use Rattle.sm_houdini.specs.Marks.{all_marked, rows};

@@ -4,7 +4,7 @@ ghost use Rattle.std.specs.Prelude.{IfOk};
 ghost use Rattle.sm_term.specs.Formulas.{NumberedFormula};
 ghost use Rattle.sm_term.specs.Tables.{TableValue, trees_in, sorts_in};
 ghost use Rattle.sm_expand.specs.Views.{due_in};
-ghost use Rattle.sm_solve.specs.Parts.{all_numbered};
+ghost use Rattle.sm_list.specs.Parts.{all_numbered};
 ghost use Rattle.sm_houdini.specs.Closing.{closes_at};
 ghost use Rattle.sm_houdini.specs.Known.{IsAsked, IsAskedBefore, AreKnown, is_flagged};
 ghost use Rattle.sm_houdini.specs.Marks.{is_there};
@@ -13,7 +13,7 @@ use crate::asked::Asked;
 use crate::marks::{Marked, is_marked};
 use crate::owners::owner;
 use sm_expand::Due;
-use sm_solve::is_same_formula;
+use sm_judge::is_same_formula;
 use sm_term::Formula;
 use std::alloc::{AllocError, Global};
 

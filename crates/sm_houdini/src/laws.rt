@@ -1,14 +1,17 @@
 // What holds of the rounds, as contracts.
+ghost use Rattle.sm_houdini.specs.Laws.{ValidIsSearchable};
 ghost use Rattle.sm_houdini.specs.Laws.{FinalHasNoOwner, SitesAskChosen, KeptIsInductive};
-ghost use Rattle.sm_houdini.specs.Laws.{DroppedAreRefuted, KeptExpands, SearchIsWritable};
-ghost use Rattle.sm_houdini.specs.Laws.{CertifiedAreShort, OutcomeIsOne, ConflictIsLeast};
+ghost use Rattle.sm_houdini.specs.Laws.{DroppedAreRefuted, AskedUnderFewer, ShownInRounds};
+ghost use Rattle.sm_houdini.specs.Laws.{KeptExpands, SearchIsWritable, CertifiedAreShort};
+ghost use Rattle.sm_houdini.specs.Laws.{OutcomeIsOne, ConflictIsLeast};
 
 /// A goal of a plan is final exactly where it isn't one of a site.
 pub fn final_has_no_owner()
     ensures { FinalHasNoOwner }
 {}
 
-/// What a site asks are the templates that are chosen there, in order, at some stores.
+/// What a site asks are the templates that are chosen there, in order, at the stores of the node
+/// that asks them.
 pub fn sites_ask_chosen()
     ensures { SitesAskChosen }
 {}
@@ -18,9 +21,23 @@ pub fn kept_is_inductive()
     ensures { KeptIsInductive }
 {}
 
-/// Each template that isn't kept was refuted in a round: one of its obligations didn't close.
+/// Each template that isn't kept was refuted in a round: one of its obligations didn't close, and
+/// the next round was without it.
 pub fn dropped_are_refuted()
     ensures { DroppedAreRefuted }
+{}
+
+/// Of two choices the smaller stands in order in the larger. Then each obligation of its templates
+/// under the larger is one under the smaller as well: at the same node, with the same goal, over
+/// facts that stand in order among those.
+pub fn asked_under_fewer()
+    ensures { AskedUnderFewer }
+{}
+
+/// Where each template of a choice is shown under it, each is shown in every round that has them all
+/// as well, and dropped there only where the walk of one of its obligations doesn't close.
+pub fn shown_in_rounds()
+    ensures { ShownInRounds }
 {}
 
 /// The plan of what is kept has obligations, where no filling has a hole and the task is small.
@@ -33,7 +50,13 @@ pub fn search_is_writable()
     ensures { SearchIsWritable }
 {}
 
-/// Of certificates of all that it asks no line is too long where no number is.
+/// A task that meets the conditions can be searched, and has few enough names for its lines.
+pub fn valid_is_searchable()
+    ensures { ValidIsSearchable }
+{}
+
+/// Of certificates of all that it asks no line is too long where no number is, and no more than 200
+/// names are there.
 pub fn certified_are_short()
     ensures { CertifiedAreShort }
 {}

@@ -1,10 +1,10 @@
 // Marks of templates.
 ghost use Rattle.std.specs.Prelude.{◌≡◌, ◌<◌, ℕ, Bool, List, [], map, get_or, slice_get, IfOk};
-ghost use Rattle.sm_product.specs.Choices.{Choice};
-ghost use Rattle.sm_product.specs.ChoiceViews.{choice_in};
+ghost use Rattle.sm_sketch.specs.Choices.{Choice};
+ghost use Rattle.sm_sketch.specs.ChoiceViews.{choice_in};
 ghost use Rattle.sm_houdini.specs.Marks.{marked, all_marked, in_share, is_there, joins, numbers_of, rows};
 
-use sm_product::TemplateChoice;
+use sm_sketch::TemplateChoice;
 use std::alloc::{AllocError, Global};
 
 // The number of a template, and whether all its goals so far close.

@@ -3,7 +3,7 @@ ghost use Rattle.std.specs.Prelude.{◌≡◌, ◌<◌, ◌≤◌, ◌&&◌, ℕ
 ghost use Rattle.std.specs.Prelude.{slice_index_or, IfOk};
 ghost use Rattle.sm_term.specs.Tables.{trees_in, sorts_in};
 ghost use Rattle.sm_expand.specs.Views.{dues_in, AreDuesReady};
-ghost use Rattle.sm_product.specs.Choices.{Choice};
+ghost use Rattle.sm_sketch.specs.Choices.{Choice};
 ghost use Rattle.sm_houdini.specs.Closing.{closing, owner_in};
 ghost use Rattle.sm_houdini.specs.Known.{AreKnown};
 ghost use Rattle.sm_houdini.specs.Marks.{all_marked, rows};

@@ -1,8 +1,8 @@
 // What a search comes to.
 use sm_expand::Plan;
 use sm_num::Op;
-use sm_product::CertTrees;
 use sm_replay::Verdict;
+use sm_sided::CertTrees;
 use sm_term::TermTable;
 
 /// A plan of a task, over a table of terms, with a certificate for each goal that it asks.

@@ -1,5 +1,5 @@
 // What is known of a task while it is searched.
-use sm_product::Sketch;
+use sm_sketch::Sketch;
 use sm_syntax::{Block, PerCopy};
 
 // The programs of the copies, the sketch of their product, and for each of its nodes the site that

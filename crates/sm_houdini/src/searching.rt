@@ -1,6 +1,5 @@
 // The search for a proof of a task.
 ghost use Rattle.std.specs.Prelude.{◌≡◌, ◌<◌, ◌≤◌, None, IfOk};
-ghost use Rattle.sm_syntax.specs.text.Conditions.{first_refusal};
 ghost use Rattle.sm_syntax.specs.text.Parts.{sort_of, task_of};
 ghost use Rattle.sm_syntax.specs.trees.Copies.{of_copy};
 ghost use Rattle.sm_syntax.specs.trees.Programs.{declared_of};
@@ -10,17 +9,18 @@ ghost use Rattle.sm_text.specs.Tasks.{parts_of};
 ghost use Rattle.sm_task.specs.Filling.{AreFilled};
 ghost use Rattle.sm_plan.specs.SortedStates.{IsTaskSorted};
 ghost use Rattle.sm_plan.specs.Starts.{AreNumbered};
-ghost use Rattle.sm_product.specs.OneSided.{IsOneSided};
+ghost use Rattle.sm_sided.specs.OneSided.{IsOneSided};
 ghost use Rattle.sm_replay.specs.Sorted.{sort_fault};
 ghost use Rattle.sm_houdini.specs.Outcomes.{IsOutcome};
+ghost use Rattle.sm_houdini.specs.Searchable.{IsSearchable};
 ghost use Rattle.sm_houdini.specs.Views.{outcome_in, IsProof, IsWhole};
 
 use crate::deciding::by_plan;
 use crate::goal_jobs::Crew;
 use crate::outcome::{Outcome, Proof};
 use sm_par::Gate;
-use sm_product::{one_sided, whole_plan};
 use sm_replay::first_violation;
+use sm_sided::{one_sided, whole_plan};
 use sm_syntax::{Block, PerCopy};
 use sm_task::fill_all;
 use sm_term::TermTable;
@@ -67,7 +67,7 @@ pub fn search<R: Threads + Sync, G: Gate>(
     workers: u32,
 ) -> Result<Outcome, AllocError>
     requires runs { sort_fault (parts_of task.now) ≡ None }
-    requires valid { first_refusal (parts_of task.now) ≡ None }
+    requires searchable { IsSearchable (parts_of task.now) }
     requires sorted { let t = parts_of task.now in IsTaskSorted (sort_of t.declared) (task_of t) }
     requires numbered { AreNumbered (declared_of task.now.shared.decls) }
     requires some { 0 < workers }

@@ -3,18 +3,18 @@ ghost use Rattle.std.specs.Prelude.{◌≡◌, ◌++◌, ◌∷◌, [], None, Li
 ghost use Rattle.std.specs.List.{range_with_len};
 ghost use Rattle.sm_syntax.specs.text.Sorts.{Sorts};
 ghost use Rattle.sm_term.specs.Terms.{Tree};
-ghost use Rattle.sm_product.specs.Choices.{all_chosen};
-ghost use Rattle.sm_product.specs.ChoiceViews.{choice_in};
-ghost use Rattle.sm_product.specs.NumberedSketches.{sketch_over};
-ghost use Rattle.sm_product.specs.Sketches as plain;
-ghost use Rattle.sm_product.specs.SketchViews.{sketch_in, numbered_end, numbered_sketches};
+ghost use Rattle.sm_sketch.specs.Choices.{all_chosen};
+ghost use Rattle.sm_sketch.specs.ChoiceViews.{choice_in};
+ghost use Rattle.sm_sketch.specs.NumberedSketches.{sketch_over};
+ghost use Rattle.sm_sketch.specs.Sketches as plain;
+ghost use Rattle.sm_sketch.specs.SketchViews.{sketch_in, numbered_end, numbered_sketches};
 ghost use Rattle.sm_houdini.specs.Marks.{rows};
 ghost use Rattle.sm_houdini.specs.Owners as nodes;
 ghost use Rattle.sm_houdini.specs.SitesBelow.{targets, Puts, PutsAll};
 
 use sm_expand::Simples;
 use sm_plan::Formulas;
-use sm_product::{Sketch, SketchEnd, Sketches, TemplateChoice, all_numbers};
+use sm_sketch::{Sketch, SketchEnd, Sketches, TemplateChoice, all_numbers};
 use std::alloc::{AllocError, Global};
 
 /// The owners of nodes so far, and all templates of the sites so far.

@@ -6,6 +6,7 @@ ghost use Rattle.sm_text.specs.Tasks.{parts_of};
 ghost use Rattle.sm_plan.specs.SortedStates.{IsTaskSorted};
 ghost use Rattle.sm_plan.specs.Starts.{AreNumbered};
 ghost use Rattle.sm_proof.specs.Verdicts.{Passes};
+ghost use Rattle.sm_write.specs.Versions.{HasVersion};
 ghost use Rattle.sm_houdini.specs.Views.{IsWhole};
 
 use crate::outcome::Proof;
@@ -19,6 +20,7 @@ pub fn proof_text(alloc: Global, task: &Task, proof: Proof) -> Result<Vec<u8>, A
     requires numbered { AreNumbered (declared_of task.now.shared.decls) }
     requires proof { IsWhole (parts_of task.now) proof }
     ensures passes { IfOk result (λ text. Passes (parts_of task.now) text.items) }
+    ensures version { IfOk result (λ text. HasVersion (parts_of task.now) text.items) }
 {
     let Proof { table, plan, trees } = proof;
     let mut table = table;

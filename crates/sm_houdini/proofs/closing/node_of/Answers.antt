@@ -3,7 +3,7 @@ use Rattle.std.proofs.Common.{List, length, sym, subst}
 use Rattle.sm_term.specs.declared.formula.Formula.{Formula}
 use Rattle.sm_term.specs.Sorted.{AreFormsSorted}
 use Rattle.sm_term.specs.Tables.{trees_in, sorts_in}
-use Rattle.sm_solve.specs.Parts.{all_numbered, assertions_in, AreFormulasWithin}
+use Rattle.sm_list.specs.Parts.{all_numbered, assertions_in, AreFormulasWithin}
 use Rattle.sm_houdini.proofs.ClosingLemmas.{forms_within, forms_sorted, node_over}
 use Rattle.sm_houdini.proofs.closing.node_of.Goals as goal
 

@@ -1,15 +1,14 @@
 use Rattle.std.proofs.Common.{subst}
 use Rattle.sm_text.specs.Tasks.{parts_of}
-use Rattle.sm_product.specs.declared.error.ProductError.{ProductError}
-use Rattle.sm_product.specs.Errors.{TellsSketch}
+use Rattle.sm_sketch.specs.declared.error.ProductError.{ProductError}
+use Rattle.sm_sketch.specs.Errors.{TellsSketch}
 use Rattle.sm_product.specs.Products.{sketch_of}
-use Rattle.sm_product.proofs.HolesLemmas.{valid_no_hole}
 use Rattle.sm_product.proofs.LargeTasks.{large_task}
 use Rattle.sm_houdini.proofs.EndedLemmas.{too_many}
 use Rattle.sm_houdini.proofs.deciding.by_plan.Goals as goal
 
 pub sketch_of-requires-clause-no_hole : goal.sketch_of-requires-clause-no_hole
-sketch_of-requires-clause-no_hole g c = valid_no_hole (parts_of c.args.task.now) c.requires.valid
+sketch_of-requires-clause-no_hole g c = c.requires.searchable
 
 pub returns-in-Err-TooMany-clause-tells : goal.returns-in-Err-TooMany-clause-tells
 returns-in-Err-TooMany-clause-tells g c =

@@ -4,8 +4,8 @@ use Rattle.sm_syntax.specs.text.Parts.{sort_of}
 use Rattle.sm_syntax.specs.trees.Programs.{declared_of}
 use Rattle.sm_text.specs.Tasks.{parts_of}
 use Rattle.sm_term.specs.Tables.{trees_in, sorts_in}
-use Rattle.sm_product.specs.declared.kept.TemplateChoice.{TemplateChoice}
-use Rattle.sm_product.specs.ChoiceViews.{choice_in}
+use Rattle.sm_sketch.specs.declared.kept.TemplateChoice.{TemplateChoice}
+use Rattle.sm_sketch.specs.ChoiceViews.{choice_in}
 use Rattle.sm_product.specs.Sizes.{is_small}
 use Rattle.sm_houdini.specs.Closing.{closing}
 use Rattle.sm_houdini.specs.Owners.{owners}

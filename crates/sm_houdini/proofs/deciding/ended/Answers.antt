@@ -6,8 +6,8 @@ use Rattle.sm_plan.specs.Plans.{obligations}
 use Rattle.sm_plan.proofs.TablesWiden.{widens_twice}
 use Rattle.sm_expand.specs.declared.due.Due as program
 use Rattle.sm_expand.specs.Views.{dues_in, AreDuesReady}
-use Rattle.sm_product.specs.Choices.{kept_by}
-use Rattle.sm_product.specs.Sketches.{plan_with}
+use Rattle.sm_sketch.specs.Choices.{kept_by}
+use Rattle.sm_sketch.specs.Sketches.{plan_with}
 use Rattle.sm_product.proofs.HolesLemmas.{valid_no_hole}
 use Rattle.sm_solve.specs.Walk.{walk}
 use Rattle.sm_houdini.specs.Closing.{closing}
@@ -23,7 +23,7 @@ all_asked-requires-clause-expands g c =
     let k = c.requires.knows in
     let t = parts_of c.args.task.now in
     let made = c.in_ok-plan.ensures.made (sorts_in v) (trees_in v) k.ready ∙ (λ i. plan_with (kept_by (c.requires.kept i)) 0 (k.sketch i)) in
-    let all = kept_expands (closing (sort_of t.declared) c.args.steps) t (valid_no_hole t c.requires.valid) c.requires.small in
+    let all = kept_expands (closing (sort_of t.declared) c.args.steps) t c.requires.searchable c.requires.small in
     (all.0, ap (obligations (task_of t)) made ∙ all.1)
 
 pub end_all-requires-clause-ready : goal.end_all-requires-clause-ready

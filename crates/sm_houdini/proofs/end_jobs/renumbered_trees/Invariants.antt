@@ -2,7 +2,7 @@
 use Rattle.std.proofs.Common.{◌≡◌, List, length, map, take}
 use Rattle.sm_term.specs.Terms.{Tree}
 use Rattle.sm_cert.specs.Views.{certificate_in}
-use Rattle.sm_solve.specs.Renumbered.{AreTermsOf}
+use Rattle.sm_list.specs.Renumbered.{AreTermsOf}
 use Rattle.sm_write.specs.TreesWithin.{AreTreesWithin}
 use Rattle.sm_houdini.proofs.end_jobs.renumbered_trees.Given as goal
 

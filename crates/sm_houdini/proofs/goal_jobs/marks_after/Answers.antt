@@ -1,7 +1,7 @@
 use Rattle.std.proofs.Common.{ℕ, ◌≤◌, Bool, ◌&&◌, ap, ◌∙◌}
 use Rattle.sm_term.specs.Tables.{trees_in, sorts_in}
 use Rattle.sm_expand.specs.Views.{dues_in}
-use Rattle.sm_product.specs.ChoiceViews.{choice_in}
+use Rattle.sm_sketch.specs.ChoiceViews.{choice_in}
 use Rattle.sm_houdini.specs.Closing.{closing, owner_in}
 use Rattle.sm_houdini.specs.Marks.{in_share}
 use Rattle.sm_houdini.specs.Rounds.{holds_at}

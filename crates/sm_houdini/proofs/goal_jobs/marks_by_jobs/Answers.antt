@@ -2,7 +2,7 @@
 use denote.Param.Send.{sendable}
 use Rattle.std.proofs.Common.{◌≡◌, ◌<◌, ℕ, ◌&&◌, List, length, get_or, sym, subst}
 use Rattle.std.proofs.Crossing.{crosses}
-use Rattle.sm_product.specs.ChoiceViews.{choice_in}
+use Rattle.sm_sketch.specs.ChoiceViews.{choice_in}
 use Rattle.sm_houdini.specs.declared.marks.Marks.{Marks}
 use Rattle.sm_houdini.specs.GoalJobs.{RoundGoalsValue, holds_at_shared}
 use Rattle.sm_houdini.specs.Marks.{all_marked, in_share, rows}

@@ -3,7 +3,7 @@ use Rattle.std.proofs.Common.{◌≡◌, ℕ, ◌≤◌, Bool, ◌&&◌, length,
 use Rattle.sm_term.specs.Tables.{trees_in, sorts_in}
 use Rattle.sm_term.specs.TableLaws.{Widens}
 use Rattle.sm_expand.specs.Views.{dues_in}
-use Rattle.sm_product.specs.Choices.{Choice}
+use Rattle.sm_sketch.specs.Choices.{Choice}
 use Rattle.sm_houdini.specs.Closing.{closing, owner_in}
 use Rattle.sm_houdini.specs.Marks.{all_marked, rows}
 use Rattle.sm_houdini.specs.NodeJobs.{holds_but, is_left_out}

@@ -1,7 +1,7 @@
 -- The formulas that are found so far.
 use Rattle.std.proofs.Common.{◌≡◌, ◌≤◌, ◌<◌, ℕ, Bool, true, Some, length, slice_get}
 use Rattle.sm_term.specs.Formulas.{NumberedFormula}
-use Rattle.sm_solve.specs.Parts.{all_numbered}
+use Rattle.sm_list.specs.Parts.{all_numbered}
 use Rattle.sm_houdini.specs.Marks.{is_there}
 use Rattle.sm_houdini.proofs.known.are_among.Given as goal
 

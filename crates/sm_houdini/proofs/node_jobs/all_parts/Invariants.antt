@@ -1,6 +1,6 @@
 -- The marks that the lists so far have.
 use Rattle.std.proofs.Common.{◌≡◌, ◌<◌, ℕ, Bool, ◌&&◌, length, get_or}
-use Rattle.sm_product.specs.Choices.{Choice}
+use Rattle.sm_sketch.specs.Choices.{Choice}
 use Rattle.sm_houdini.specs.declared.marks.Marks.{Marks}
 use Rattle.sm_houdini.specs.Marks.{all_marked, rows}
 use Rattle.sm_houdini.specs.NodeJobs.{all_below}

@@ -3,7 +3,7 @@ use Rattle.sm_syntax.specs.text.Parts.{sort_of}
 use Rattle.sm_syntax.specs.trees.Programs.{declared_of}
 use Rattle.sm_text.specs.Tasks.{parts_of}
 use Rattle.sm_plan.proofs.TablesWiden.{widens_twice}
-use Rattle.sm_product.specs.ChoiceViews.{choice_in}
+use Rattle.sm_sketch.specs.ChoiceViews.{choice_in}
 use Rattle.sm_houdini.specs.Closing.{closing}
 use Rattle.sm_houdini.proofs.RoundSteps.{knows_stays}
 use Rattle.sm_houdini.proofs.TotalsLemmas.{now_settled, later_settled}

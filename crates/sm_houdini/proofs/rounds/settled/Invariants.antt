@@ -4,7 +4,7 @@ use Rattle.sm_syntax.specs.text.Parts.{sort_of}
 use Rattle.sm_syntax.specs.trees.Programs.{declared_of}
 use Rattle.sm_term.specs.TableLaws.{Widens}
 use Rattle.sm_text.specs.Tasks.{parts_of}
-use Rattle.sm_product.specs.ChoiceViews.{choice_in}
+use Rattle.sm_sketch.specs.ChoiceViews.{choice_in}
 use Rattle.sm_houdini.specs.Closing.{closing}
 use Rattle.sm_houdini.specs.Known.{IsAskedBefore}
 use Rattle.sm_houdini.specs.Rounds.{next_round, settled, total}

@@ -9,8 +9,8 @@ use Rattle.sm_houdini.proofs.ReadyWhole.{whole_ready}
 use Rattle.sm_syntax.specs.claim.ConflictFree.{Copy}
 use Rattle.sm_syntax.specs.trees.Copies.{of_copy}
 use Rattle.sm_syntax.specs.trees.Views.{code_of}
-use Rattle.sm_product.specs.WholePlan.{IsShown}
 use Rattle.sm_product.proofs.TaskParts.{has_parts}
+use Rattle.sm_sided.specs.WholePlan.{IsShown}
 use Rattle.sm_houdini.proofs.UnnamedLines.{unnamed_within}
 use Rattle.sm_houdini.proofs.WholeProofs.{whole_writable}
 use Rattle.sm_houdini.proofs.searching.whole_proof.Goals as goal

@@ -2,7 +2,7 @@
 use Rattle.std.proofs.Common.{List, map, take}
 use Rattle.sm_syntax.specs.text.Sorts.{Sorts}
 use Rattle.sm_term.specs.Terms.{Tree}
-use Rattle.sm_product.specs.SketchViews.{sketch_in}
+use Rattle.sm_sketch.specs.SketchViews.{sketch_in}
 use Rattle.sm_houdini.specs.SitesBelow.{PutsAll}
 use Rattle.sm_houdini.proofs.sites.+sites.Given as goal
 

@@ -1,5 +1,5 @@
 -- All nodes and sites are put behind none.
-use Rattle.sm_product.specs.SketchViews.{sketch_in}
+use Rattle.sm_sketch.specs.SketchViews.{sketch_in}
 use Rattle.sm_houdini.proofs.SitesLemmas.{whole_owners, whole_choice}
 use Rattle.sm_houdini.proofs.sites.sites_of.Goals as goal
 
