@@ -23,6 +23,7 @@ pub mod SkipLemmas
 pub mod SharedLemmas
 pub mod EndLemmas
 pub mod AnswerLemmas
+pub mod GivenLemmas
 pub mod CheckerLemmas
 pub mod StartLemmas
 pub mod SpelledCheckable

@@ -2,6 +2,7 @@ pub mod Checkable
 pub mod Checkers
 pub mod Errors
 pub mod Files
+pub mod FilesRead
 pub mod ReadFaults
 pub mod LineEnds
 pub mod Pieces

@@ -11,6 +11,7 @@ ghost use Rattle.sm_check.specs.Checkable.{IsCheckable};
 ghost use Rattle.sm_check.specs.Checkers.{IsAt};
 ghost use Rattle.sm_check.specs.Errors.{check_error_of};
 ghost use Rattle.sm_check.specs.Files.{file_answer, cut_answer, verdict_of, Judged, TellsAnswer};
+ghost use Rattle.sm_check.specs.FilesRead.{AnswersRead};
 ghost use Rattle.sm_check.specs.Pieces.{AreTaken};
 ghost use Rattle.sm_check.specs.ReadFaults.{HasFaultCause};
 ghost use Rattle.sm_check.specs.Stops.{stopped_answer};
@@ -90,6 +91,9 @@ pub fn verify<R: Threads + Sync, G: Gate, H: Shelf>(
     requires most { workers ≤ 64 }
     ensures answer { WhereHeld (H.file shelf.old name.now) (λ bytes.
         TellsAnswer result (file_answer 268435456 (subject_of (parts_of task.now)) bytes)) }
+    // Of a shelf that tells nothing too it is the answer to the bytes that its reads gave.
+    ensures read { AnswersRead name.now (H.given shelf.old) (H.given shelf.new) 268435456
+        (subject_of (parts_of task.now)) result }
 
     // Pass tells it of every shelf, whatever that holds.
     ensures sound { result ≡ Ok Checked.Pass → ConflictFree (task_of (parts_of task.now)) }
@@ -120,6 +124,8 @@ fn check_file<R: Threads + Sync, G: Gate, H: Shelf>(
     ensures answer { (s : Subject) → IsAt checker.entry s (Ok Unopened) →
         WhereHeld (H.file shelf.old name.now) (λ bytes.
         TellsAnswer result (file_answer limit s bytes)) }
+    ensures read { (s : Subject) → IsAt checker.entry s (Ok Unopened) →
+        AnswersRead name.now (H.given shelf.old) (H.given shelf.new) limit s result }
     ensures sound { (s : Subject) → IsAt checker.entry s (Ok Unopened) →
         result ≡ Ok Checked.Pass → (bytes : List ℕ) × (verdict s bytes ≡ Pass) }
     ensures absent { H.file shelf.old name.now ≡ absent →
@@ -167,6 +173,8 @@ fn check_pieces<R: Threads + Sync, G: Gate, H: Shelf>(
     ensures answer { (s : Subject) → AreTaken lines.old unfinished.old s [] →
         WhereHeld (H.file shelf.old name.now) (λ bytes.
         TellsAnswer result (file_answer limit s bytes)) }
+    ensures read { (s : Subject) → AreTaken lines.old unfinished.old s [] →
+        AnswersRead name.now (H.given shelf.old) (H.given shelf.new) limit s result }
     ensures sound { (s : Subject) → AreTaken lines.old unfinished.old s [] →
         result ≡ Ok Checked.Pass → (bytes : List ℕ) × (verdict s bytes ≡ Pass) }
     ensures absent { H.file shelf.old name.now ≡ absent →

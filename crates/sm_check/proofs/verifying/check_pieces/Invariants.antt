@@ -1,5 +1,6 @@
 use Rattle.std.proofs.Common.{◌≡◌, ◌<◌, ◌≤◌, ◌+◌, ◌-◌, ℕ, List, [], length, take}
 use Rattle.sm_io.specs.Files.{absent, WhereHeld}
+use Rattle.sm_io.specs.Reads.{ReadsOn}
 use Rattle.sm_proof.specs.Verdicts.{Subject}
 use Rattle.sm_check.specs.Aside.{AreRead, HoldsNone, lines_aside}
 use Rattle.sm_check.specs.Pieces.{AreTaken}
@@ -12,7 +13,8 @@ invariant-loop-count g l = record {
   number : l.lines.number + length (lines_aside l.aside) ≤ l.initial.lines.number + l.place;
   gone : g.H.Shelf.file l.initial.shelf l.name ≡ absent → HoldsNone l.aside;
   read : (bytes : List ℕ) × WhereHeld (g.H.Shelf.file l.initial.shelf l.name) (λ held. bytes ≡ take l.place held)
-      × ((s : Subject) → AreTaken l.initial.lines l.initial.unfinished s [] → AreRead l.lines (lines_aside l.aside) l.unfinished s bytes);
+      × ((s : Subject) → AreTaken l.initial.lines l.initial.unfinished s [] → AreRead l.lines (lines_aside l.aside) l.unfinished s bytes)
+      × (length bytes ≡ l.place) × ReadsOn l.name (g.H.Shelf.given l.initial.shelf) (g.H.Shelf.given l.shelf) bytes;
   same : (other : List ℕ) → g.H.Shelf.file l.shelf other ≡ g.H.Shelf.file l.initial.shelf other;
   count : g.H.Shelf.read_faults l.shelf ≡ g.H.Shelf.read_faults l.initial.shelf;
   writes : g.H.Shelf.write_faults l.shelf ≡ g.H.Shelf.write_faults l.initial.shelf;
