@@ -36,12 +36,12 @@ use Rattle.sm_commands.proofs.SpelledLemmas.{outcome_one}
 use Rattle.sm_commands.specs.Check.{AnswersCheck, IsInputText, IsNote, SaysNoted, SaysOutcome, ShowsTrial}
 use Rattle.sm_commands.specs.ProofFile.{FailsToWrite}
 use Rattle.sm_commands.specs.File.{file_limit, FailsToRead, GivesNoBytes, GivesNoTask, GivesTask, IsNoTask, IsRead, IsTooLong}
-use Rattle.sm_commands.specs.Laws.{AreTold, OneAnswer}
+use Rattle.sm_commands.specs.Laws.{AreTold, AskAlike, OneAnswer, with_workers}
 use Rattle.sm_commands.specs.Lines.{goal_line, input_line, input_refusal_line, op_word, refusal_line, summary_line, too_many_line}
 use Rattle.sm_commands.specs.Lines.{trial_line, verdict_line}
 use Rattle.sm_commands.specs.Replay.{verdict_status, AnswersReplay, GivesInput, GivesNoInput, IsNoInput, ReplaysInput}
 use Rattle.sm_commands.specs.Status.{Says}
-use Rattle.sm_commands.specs.Top.{Files, AnswersCommand, AnswersRequest, Checks, Generates, Prints, Replays, Verifies}
+use Rattle.sm_commands.specs.Top.{Files, AnswersCommand, AnswersRequest, Checks, Generates, IsAnswerTo, Prints, Replays, Verifies}
 use Rattle.sm_commands.specs.Verify.{answer_line, answer_status, proof_limit, AnswersProof}
 use Rattle.sm_commands.specs.Words.{Words, Asked, check, verify, replay, print, gen, asked}
 use Rattle.sm_commands.specs.declared.effort.Effort.{Effort}
@@ -360,6 +360,56 @@ request_same None words files b n c m s u l k told no_fault nor_later whole also
 request_same (Some ask) words files b n c m s u l k told no_fault nor_later whole also x y =
     command_same ask files b n c m s u l k told no_fault nor_later whole also x y
 
+-- ---- workers
+
+-- what is answered to a task doesn't depend on them
+fewer_check : (t : Parts) (effort : Effort) (workers : ℕ) (s : Status) (l : List ℕ) →
+    let hired : Effort = record { steps = effort.steps; turns = effort.turns; workers = workers } in
+    AnswersCheck t hired s l → AnswersCheck t effort s l
+fewer_check t effort workers s l a = record { outcome = a.outcome; found = a.found; says = a.says }
+
+fewer_written : (t : Parts) (effort : Effort) (workers : ℕ) (s : Status) (l : List ℕ) →
+    let hired : Effort = record { steps = effort.steps; turns = effort.turns; workers = workers } in
+    AnswersCheck t hired s l ⊎ FailsToWrite t hired s l → AnswersCheck t effort s l ⊎ FailsToWrite t effort s l
+fewer_written t effort workers s l (inl a) = inl (fewer_check t effort workers s l a)
+fewer_written t effort workers s l (inr f) = inr (record { found = f.found; says = f.says })
+
+fewer_checks : (file : Known) (effort : Effort) (workers b n : ℕ) (s : Status) (l : List ℕ) →
+    let hired : Effort = record { steps = effort.steps; turns = effort.turns; workers = workers } in
+    Checks file hired b n s l → Checks file effort b n s l
+fewer_checks file effort workers b n s l (inl f) = inl f
+fewer_checks file effort workers b n s l (inr g) =
+    inr (record { task = g.task; gives = g.gives; answers = fewer_written g.task effort workers s l g.answers })
+
+-- nor what is answered to what is asked for
+fewer_workers : (ask : Asked) (workers : ℕ) (files : Files) (b n : ℕ) (s : Status) (l : List ℕ)
+    → AnswersCommand (with_workers workers ask) files b n s l → AnswersCommand ask files b n s l
+fewer_workers (check task proof effort) workers files b n s l x = fewer_checks (files task) effort workers b n s l x
+fewer_workers (verify task proof others) workers files b n s l x = x
+fewer_workers (replay task input turns) workers files b n s l x = x
+fewer_workers (print task) workers files b n s l x = x
+fewer_workers (gen seed size effort) workers files b n s l x =
+    record {
+      quiet = x.quiet;
+      answers =
+          record {
+            answer = x.answers.answer;
+            answers = fewer_check (generated seed size) effort workers s x.answers.answer x.answers.answers;
+            printed = x.answers.printed;
+          };
+    }
+
+-- an answer to words is one to those that ask alike
+alike_answers : (words others : Words) (files : Files) (b n : ℕ) (s : Status) (l : List ℕ) → AskAlike words others
+    → IsAnswerTo others files b n s l → IsAnswerTo words files b n s l
+alike_answers words others files b n s l (inl same) x = subst (λ (ws : Words). IsAnswerTo ws files b n s l) same x
+alike_answers words others files b n s l (inr alike) x =
+    let given : AnswersCommand (with_workers alike.1 alike.0) files b n s l =
+    subst (λ (a : Option Asked). AnswersRequest a others files b n s l) alike.3 x in
+    subst (λ (a : Option Asked). AnswersRequest a words files b n s l) (sym alike.2)
+    (fewer_workers alike.0 alike.1 files b n s l given)
+
 pub answer_one : OneAnswer
-answer_one words files before now earlier later status other line text told no_fault whole x nor_later also y =
-    request_same (asked words) words files before now earlier later status other line text told no_fault nor_later whole also x y
+answer_one words others files before now earlier later status other line text alike told no_fault whole x nor_later also y =
+    request_same (asked words) words files before now earlier later status other line text told no_fault nor_later whole also x
+    (alike_answers words others files earlier later other text alike y)

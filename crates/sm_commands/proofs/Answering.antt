@@ -51,7 +51,7 @@ outcome_accepted t (outcome.Coefficient node goal op y z) status text h e = let 
 outcome_accepted t outcome.TooMany status text h e = let is = h.2.ended in cc
 
 -- an accepted task is free of conflicts
-accepted_is_free : (t : Parts) (effort : Effort) (status : Status) (text : List ℕ)
+pub accepted_is_free : (t : Parts) (effort : Effort) (status : Status) (text : List ℕ)
     → AnswersCheck t effort status text ⊎ FailsToWrite t effort status text → status ≡ Accepted → ConflictFree (task_of t)
 accepted_is_free t effort status text (inl a) e = (outcome_accepted t a.outcome status text a.says e).1
 accepted_is_free t effort status text (inr a) e = let is = a.says.ended in cc

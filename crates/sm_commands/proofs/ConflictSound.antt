@@ -34,7 +34,7 @@ use Rattle.sm_replay.proofs.VerdictSound.{breaks_violates}
 use Rattle.sm_commands.proofs.Statuses.{answered_no_conflict, without_task}
 
 -- an input that is refused shows no conflict
-no_input_no_conflict : (t : Parts) (file : Known) (before now : ℕ) (status : Status) (text : List ℕ)
+pub no_input_no_conflict : (t : Parts) (file : Known) (before now : ℕ) (status : Status) (text : List ℕ)
     → GivesNoInput t file before now status text → status ≢ Conflict
 no_input_no_conflict t file before now status text (inl (inl f)) e = let is = f.says.ended in cc
 no_input_no_conflict t file before now status text (inl (inr f)) e = let is = f.says.ended in cc
@@ -47,7 +47,7 @@ proof_no_conflict t file before now status text (inl f) e = let is = f.says.ende
 proof_no_conflict t file before now status text (inr c) e = answered_no_conflict c.answer (sym c.says.ended ∙ e)
 
 -- what an answer by a search with the status Conflict says: a trial that violates, with its input
-record IsShown (t : Parts) (turns : ℕ) (text : List ℕ) : Type 0 where
+pub record IsShown (t : Parts) (turns : ℕ) (text : List ℕ) : Type 0 where
   pub number : ℕ
   pub violates : Violates (task_of t) (trial (sort_of t.declared) number) turns
   pub front : List ℕ
@@ -73,18 +73,18 @@ outcome_conflict t steps turns (outcome.Steps node goal) status text is h e = le
 outcome_conflict t steps turns (outcome.Coefficient node goal op y z) status text is h e = let s = h.2.ended in cc
 outcome_conflict t steps turns outcome.TooMany status text is h e = let s = h.2.ended in cc
 
-checked_conflict : (t : Parts) (effort : Effort) (status : Status) (text : List ℕ)
+pub checked_conflict : (t : Parts) (effort : Effort) (status : Status) (text : List ℕ)
     → AnswersCheck t effort status text ⊎ FailsToWrite t effort status text → status ≡ Conflict → IsShown t effort.turns text
 checked_conflict t effort status text (inl a) e =
     outcome_conflict t effort.steps effort.turns a.outcome status text a.found a.says e
 checked_conflict t effort status text (inr a) e = let s = a.says.ended in cc
 
 -- such a task isn't free of conflicts
-shown_conflict : (t : Parts) (turns : ℕ) (text : List ℕ) → IsShown t turns text → ¬ ConflictFree (task_of t)
+pub shown_conflict : (t : Parts) (turns : ℕ) (text : List ℕ) → IsShown t turns text → ¬ ConflictFree (task_of t)
 shown_conflict t turns text s = violation_conflicts (task_of t) (trial (sort_of t.declared) s.number) turns s.violates
 
 -- a verdict that is a conflict is that of a store from which the task is violated
-judged_violates : (t : Parts) (s : Store) (turns : ℕ) (r : Result Verdict ReplayError) → Judges (task_of t) s turns r
+pub judged_violates : (t : Parts) (s : Store) (turns : ℕ) (r : Result Verdict ReplayError) → Judges (task_of t) s turns r
     → verdict_status r ≡ Conflict → Violates (task_of t) s turns
 judged_violates t s turns (Ok verdict.Holds) j e = cc
 judged_violates t s turns (Ok verdict.Unmet) j e = cc
@@ -132,7 +132,7 @@ check_conflicts file effort before now status text (inr c) e =
     unsafe_where file before now c.task c.gives
     (shown_conflict c.task effort.turns text (checked_conflict c.task effort status text c.answers e))
 
-verify_no_conflict : (file proof : Known) (before now : ℕ) (status : Status) (text : List ℕ)
+pub verify_no_conflict : (file proof : Known) (before now : ℕ) (status : Status) (text : List ℕ)
     → Verifies file proof before now status text → status ≢ Conflict
 verify_no_conflict file proof before now status text (inl f) e = (without_task file before now status text f).not_conflict e
 verify_no_conflict file proof before now status text (inr c) e = proof_no_conflict c.task proof c.between now status text c.answers e
@@ -143,7 +143,7 @@ replay_conflicts file input turns before now status text (inl f) e = absurd ((wi
 replay_conflicts file input turns before now status text (inr c) e =
     unsafe_where file before c.between c.task c.gives (replayed_conflict c.task input turns c.between now status text c.answers e)
 
-print_no_conflict : (file : Known) (before now : ℕ) (status : Status) (text : List ℕ) → Prints file before now status text
+pub print_no_conflict : (file : Known) (before now : ℕ) (status : Status) (text : List ℕ) → Prints file before now status text
     → status ≢ Conflict
 print_no_conflict file before now status text (inl f) e = (without_task file before now status text f).not_conflict e
 print_no_conflict file before now status text (inr c) e = let is = c.says.ended in cc

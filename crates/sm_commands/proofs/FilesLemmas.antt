@@ -10,13 +10,14 @@ use Rattle.sm_replay.specs.declared.verdict.Verdict.{Verdict}
 use Rattle.sm_syntax.specs.text.Parts.{Parts}
 use Rattle.sm_syntax.specs.text.Spells.{Spells}
 use Rattle.sm_text.proofs.Complete.Tasks as text
+use Rattle.sm_write.specs.Versions.{HasVersion}
 use Rattle.sm_commands.proofs.SpelledLemmas.{outcome_one}
 use Rattle.sm_commands.specs.Check.{AnswersCheck, SaysOutcome}
 use Rattle.sm_commands.specs.Exit.{ExitsWith}
 use Rattle.sm_commands.specs.File.{file_limit, GivesNoTask, GivesTask}
 use Rattle.sm_commands.specs.ProofFile.{FailsToWrite, HoldsFront, HoldsProof, IsBegun, IsTaskIn, LeavesCut, LeavesFront, LeavesProof, LeftBy, LeftCut}
 use Rattle.sm_commands.specs.Status.{Says}
-use Rattle.sm_commands.specs.Top.{Files, Checks, LeavesBy, LeavesPartBy}
+use Rattle.sm_commands.specs.Top.{Files, Checks, LeavesBy, LeavesFiles, LeavesPart, LeavesPartBy}
 use Rattle.sm_commands.specs.Views.{CountsWrites, EndsWith}
 use Rattle.sm_commands.specs.Words.{Asked, check, verify, replay, print, gen}
 use Rattle.sm_commands.specs.declared.effort.Effort.{Effort}
@@ -218,15 +219,29 @@ written_answers t effort s u l m P Q a e (inr h) = inr (record {
   says = h.0;
 })
 
-pub written_cut : (t : Parts) (old new : Known) (proof : List ℕ) → Passes t proof → IsBegun proof old new → LeftCut t old new
-written_cut t old new proof passes (inl e) = inl e
-written_cut t old new proof passes (inr (inl e)) = inr (inl e)
-written_cut t old new proof passes (inr (inr h)) =
-    inr (inr (record { proof = proof; passes = passes; count = h.0; part = h.1; holds = h.2 }))
+pub written_cut : (t : Parts) (old new : Known) (proof : List ℕ) → Passes t proof → HasVersion t proof → IsBegun proof old new
+    → LeftCut t old new
+written_cut t old new proof passes version (inl e) = inl e
+written_cut t old new proof passes version (inr (inl e)) = inr (inl e)
+written_cut t old new proof passes version (inr (inr h)) =
+    inr (inr (record { proof = proof; passes = passes; version = version; count = h.0; part = h.1; holds = h.2 }))
 
 pub written_left : (t : Parts) (s u : Status) (l m : List ℕ) (old new : Known) (proof : List ℕ) → s ≡ Accepted → Passes t proof
+    → HasVersion t proof
     → (Says s l u m × (new ≡ longer (emptied old) proof)) ⊎ (Says WriteFault (codes "WriteFault\n") u m × IsBegun proof old new)
     → LeftBy t u old new
-written_left t s u l m old new proof e passes (inl h) =
-    inl (h.0.ended ∙ e, record { proof = proof; passes = passes; holds = h.1 })
-written_left t s u l m old new proof e passes (inr h) = inr (inl (h.0.ended, written_cut t old new proof passes h.1))
+written_left t s u l m old new proof e passes version (inl h) =
+    inl (h.0.ended ∙ e, record { proof = proof; passes = passes; version = version; holds = h.1 })
+written_left t s u l m old new proof e passes version (inr h) = inr (inl (h.0.ended, written_cut t old new proof passes version h.1))
+
+-- ---- what `check` leaves
+
+pub check_leaves : (task proof : List ℕ) (effort : Effort) (before now : Files) (r : Result Reply Exit)
+    → ((other : List ℕ) → other ≢ proof → now other ≡ before other)
+    → EndsWith (λ (s : Status). LeavesProof (before task) s (before proof) (now proof))
+    (LeavesFront (before task) (before proof) (now proof)) r
+    → EndsWith (λ (s : Status). LeavesFiles (check task proof effort) before s now) (LeavesPart (check task proof effort) before now) r
+check_leaves task proof effort before now r others =
+    ends_by (λ (s : Status). LeavesProof (before task) s (before proof) (now proof))
+    (λ (s : Status). LeavesFiles (check task proof effort) before s now) (LeavesFront (before task) (before proof) (now proof))
+    (LeavesPart (check task proof effort) before now) (λ s left. (others, left)) (λ left. (others, left)) r

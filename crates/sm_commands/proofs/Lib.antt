@@ -9,3 +9,4 @@ pub mod Verified
 pub mod AnswerUnique
 pub mod FilesLemmas
 pub mod SpelledLemmas
+pub mod ReadingsLemmas

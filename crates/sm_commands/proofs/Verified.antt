@@ -40,7 +40,7 @@ whole_passes false v (Refused n w) e = cc
 whole_passes false v (Before n standing) e = cc
 
 -- the bytes pass within the limit
-passing_fits : (t : Parts) (bytes : List ℕ) → file_answer proof_limit (subject_of t) bytes ≡ Judged Pass
+pub passing_fits : (t : Parts) (bytes : List ℕ) → file_answer proof_limit (subject_of t) bytes ≡ Judged Pass
     → (length bytes ≤ proof_limit) × Passes t bytes
 passing_fits t bytes e =
     let both =

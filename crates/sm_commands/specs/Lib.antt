@@ -1,4 +1,6 @@
 pub mod Headline
+pub mod HeadlineRead
+pub mod Readings
 pub mod Top
 pub mod Laws
 pub mod File

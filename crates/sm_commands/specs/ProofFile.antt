@@ -6,15 +6,18 @@ use Rattle.sm_houdini.specs.Outcomes.{IsOutcome}
 use Rattle.sm_proof.specs.Verdicts.{Passes}
 use Rattle.sm_syntax.specs.text.Parts.{Parts}
 use Rattle.sm_syntax.specs.text.Spells.{Spells}
+use Rattle.sm_write.specs.Versions.{HasVersion}
 use Rattle.sm_commands.specs.Status.{Says}
 use Rattle.sm_commands.specs.declared.effort.Effort.{Effort}
 use Rattle.sm_commands.specs.declared.status.Status.{Status}
 use Rattle.sm_commands.specs.declared.status.Status.TheVariants.{Accepted, WriteFault}
 
--- the file was emptied, and has the bytes of a proof that passes for the task
+-- the file was emptied, and has the bytes of a proof that passes for the task, of version 2 exactly
+-- where that assumes something
 pub record HoldsProof (t : Parts) (before now : Known) : Type 0 where
   pub proof : List ℕ
   pub passes : Passes t proof
+  pub version : HasVersion t proof
   pub holds : now ≡ longer (emptied before) proof
 
 -- bytes were begun to be written into a file, but not all were: it is as it was, or empty, or has
@@ -28,6 +31,7 @@ IsBegun bytes before now =
 pub record HoldsFront (t : Parts) (before now : Known) : Type 0 where
   pub proof : List ℕ
   pub passes : Passes t proof
+  pub version : HasVersion t proof
   pub count : ℕ
   pub part : count < length proof
   pub holds : now ≡ longer (emptied before) (take count proof)

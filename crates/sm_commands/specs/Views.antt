@@ -9,6 +9,7 @@ use Rattle.sm_check.specs.declared.verifying.Checked.{Checked}
 use Rattle.sm_io.specs.Causes.{HasCause}
 use Rattle.sm_proof.specs.Verdicts.{Passes}
 use Rattle.sm_syntax.specs.text.Parts.{Parts}
+use Rattle.sm_write.specs.Versions.{HasVersion}
 use Rattle.sm_commands.specs.Status.{Says}
 use Rattle.sm_commands.specs.Verify.{answer_line, answer_status}
 use Rattle.sm_commands.specs.Words.{Asked, check, verify, replay, print, gen}
@@ -52,10 +53,12 @@ SaysChecked (Err check_error.ReadFault) status text =
     Says ReadFault (codes "ReadFault\n") status text
 SaysChecked (Err check_error.Memory) status text = ⊥
 
--- a proof comes with the answer exactly where the task is accepted, and passes for it
+-- a proof comes with the answer exactly where the task is accepted. It passes for the task, and is of
+-- version 2 exactly where that assumes something
 abbrev pub ComesWith : Parts → Status → Option (List ℕ) → Type 0
 ComesWith t status proof =
-    MatchOption proof (status ≢ Accepted) (λ text. (status ≡ Accepted) × Passes t text)
+    MatchOption proof (status ≢ Accepted)
+    (λ text. (status ≡ Accepted) × Passes t text × HasVersion t text)
 
 -- a result of a command has an answer with this status, or the other where memory is wanting
 abbrev pub EndsWith : (Status → Type 0) → Type 0 → Result Reply Exit → Type 0

@@ -4,7 +4,6 @@ ghost use Rattle.sm_check.specs.Checkable.{IsCheckable};
 ghost use Rattle.sm_replay.specs.Sorted.{sort_fault};
 ghost use Rattle.sm_replay.specs.Trials.{IsLeast, trial};
 ghost use Rattle.sm_replay.specs.InputText.{AreNamed};
-ghost use Rattle.sm_syntax.specs.text.Conditions.{first_refusal};
 ghost use Rattle.sm_syntax.specs.text.Parts.{sort_of, task_of};
 ghost use Rattle.sm_task.specs.Tasks.{parts_of};
 ghost use Rattle.sm_text.specs.printing.Named.{HasText};

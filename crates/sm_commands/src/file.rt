@@ -13,6 +13,8 @@ ghost use Rattle.sm_text.specs.printing.Named.{HasText};
 ghost use Rattle.sm_commands.specs.Replay.{GivesInput, GivesNoInput, IsNoInput};
 ghost use Rattle.sm_commands.specs.File.{GivesNoBytes, GivesNoTask, GivesTask, IsNoTask, IsRead};
 ghost use Rattle.sm_commands.specs.Exit.{ExitsWith};
+ghost use Rattle.sm_commands.specs.Readings.{ReadsInput, ReadsTask};
+ghost use Rattle.sm_io.specs.Reads.{ReadsWhole};
 
 use crate::exit::Exit;
 use crate::lines::{input_refusal_line, line, refusal_line};
@@ -35,6 +37,8 @@ pub fn bytes_in<H: Shelf>(
 ) -> Result<Vec<u8>, Exit>
     ensures ok { IfOk result (λ bytes. IsRead (H.file shelf.old name.now)
         (H.read_faults shelf.old) (H.read_faults shelf.new) bytes.items) }
+    ensures whole { IfOk result (λ bytes.
+        ReadsWhole name.now (H.given shelf.old) (H.given shelf.new) bytes.items) }
     ensures exit { IfErr result (ExitsWith (GivesNoBytes kind.now (H.file shelf.old name.now)
         (H.read_faults shelf.old) (H.read_faults shelf.new))) }
     ensures same { (other : List ℕ) → H.file shelf.new other ≡ H.file shelf.old other }
@@ -58,6 +62,8 @@ pub fn bytes_in<H: Shelf>(
 pub fn task_in<H: Shelf>(alloc: Global, shelf: &mut H, name: &str) -> Result<Task, Exit>
     ensures ok { IfOk result (λ t. GivesTask (H.file shelf.old name.now)
         (H.read_faults shelf.old) (H.read_faults shelf.new) (parts_of t)) }
+    ensures read { IfOk result (λ t.
+        ReadsTask name.now (H.given shelf.old) (H.given shelf.new) (parts_of t)) }
     ensures printable { IfOk result (λ t. HasText (parts_of t)) }
     ensures runs { IfOk result (λ t. sort_fault (parts_of t) ≡ None) }
     ensures named { IfOk result (λ t. AreNamed (parts_of t).names (sort_of (parts_of t).declared)) }
@@ -105,6 +111,8 @@ pub fn input_in<H: Shelf>(
 ) -> Result<Store, Exit>
     ensures ok { IfOk result (GivesInput (parts_of task.now) (H.file shelf.old name.now)
         (H.read_faults shelf.old) (H.read_faults shelf.new)) }
+    ensures read { IfOk result
+        (ReadsInput (parts_of task.now) name.now (H.given shelf.old) (H.given shelf.new)) }
     ensures declared { IfOk result (λ s. sorts_of s ≡ sort_of (declared_of task.now.shared.decls)) }
     ensures exit { IfErr result (ExitsWith (GivesNoInput (parts_of task.now)
         (H.file shelf.old name.now) (H.read_faults shelf.old) (H.read_faults shelf.new))) }

@@ -9,14 +9,16 @@
 //!   exactly, `print` puts the canonical text of a task, and `gen` makes a task and answers it.
 //!   Words that no command takes, bytes that are no task or no input, and faults are answered
 //!   exactly where they are met.
-//! - `one_answer` is the law that two answers to the same words and told files, without a fault,
-//!   are equal.
+//! - `one_answer` is the law that two answers to told files, without a fault, are equal where the
+//!   words are the same, or ask for the same with another number of workers.
 //! - `Status::number` is the number with which the program ends.
 //!
 //! The claim is `ConflictFree` of the crate `sm_syntax`. Read `specs/Headline.antt` first: what
-//! Accepted and Conflict say. `specs/Top.antt` says what is answered, with `specs/File.antt`,
-//! `specs/Check.antt`, `specs/Verify.antt`, `specs/Replay.antt` and `specs/Gen.antt`;
-//! `specs/ProofFile.antt` what `check` writes, and `specs/Words.antt` what the words ask for.
+//! Accepted and Conflict say of files that are told; and then `specs/HeadlineRead.antt`: what they
+//! say of the bytes that were read, on every shelf. `specs/Top.antt` says what is answered, with
+//! `specs/File.antt`, `specs/Check.antt`, `specs/Verify.antt`, `specs/Replay.antt` and
+//! `specs/Gen.antt`; `specs/ProofFile.antt` what `check` writes, and `specs/Words.antt` what the
+//! words ask for.
 #![tactic(auto)]
 
 mod check;

@@ -19,6 +19,7 @@ pub fn write_file<H: Shelf>(shelf: &mut H, name: &str, bytes: &[u8]) -> Result<(
     ensures cause { HasCause (H.write_faults shelf.old) (H.write_faults shelf.new)
         (IsErrOf result IoError.Fault) }
     ensures reads { H.read_faults shelf.new ≡ H.read_faults shelf.old }
+    ensures keeps { H.given shelf.new ≡ H.given shelf.old }
 {
     shelf.start(name)?;
     append_all(shelf, name, bytes)

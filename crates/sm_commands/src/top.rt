@@ -16,6 +16,8 @@ ghost use Rattle.sm_text.specs.printing.Named.{HasText};
 ghost use Rattle.sm_text.specs.printing.Pieces.{pieces_text};
 ghost use Rattle.sm_commands.specs.Headline.{merge_file, IsProved, IsSafeMerge, IsUnsafeMerge};
 ghost use Rattle.sm_commands.specs.Headline.{IsShownByInput, ShowsInput};
+ghost use Rattle.sm_commands.specs.HeadlineRead.{AcceptsRead, ConflictsRead, ShowsReadInput};
+ghost use Rattle.sm_commands.specs.Readings.{AnswersByReads, ChecksRead, ReplaysRead, RunsRead};
 ghost use Rattle.sm_commands.specs.Top.{IsAnswerTo, AnswersCommand, Checks, Prints, Replays};
 ghost use Rattle.sm_commands.specs.Top.{IsPrinted, PutsPart, RejectsProof};
 ghost use Rattle.sm_commands.specs.Top.{LeavesBy, LeavesFiles, LeavesPart, LeavesPartBy};
@@ -83,6 +85,19 @@ pub fn safemerge<R: Threads + Sync, G: Gate, H: Shelf, K: Sink>(
         asked (map string_bytes words.now) ≡ Some (replay task input turns) →
         IsShownByInput (H.file shelf.old task) (H.file shelf.old input) turns }
 
+    // All this stands of the bytes that were read as well, on every shelf: each file was read once,
+    // in one pass to its end, and nothing else was read.
+    ensures accepted_read { result ≡ Status.Accepted → (ask : Asked) →
+        asked (map string_bytes words.now) ≡ Some ask →
+        AcceptsRead ask (H.given shelf.old) (H.given shelf.new) }
+    ensures conflict_read { result ≡ Status.Conflict → (ask : Asked) →
+        asked (map string_bytes words.now) ≡ Some ask →
+        ConflictsRead ask (H.given shelf.old) (H.given shelf.new) }
+    ensures shown_read { result ≡ Status.Conflict → (task proof : List ℕ) (effort : Effort) →
+        asked (map string_bytes words.now) ≡ Some (check task proof effort) → (text : List ℕ)
+        × ShowsReadInput task (H.given shelf.old) (H.given shelf.new) effort.turns text
+        × Adds (K.taken out.old) (K.taken out.new) text }
+
     // What is printed is the answer, whole.
     ensures answers { IsPrinted result → (text : List ℕ)
         × IsAnswerTo (map string_bytes words.now) (H.file shelf.old)
@@ -115,7 +130,8 @@ pub fn safemerge<R: Threads + Sync, G: Gate, H: Shelf, K: Sink>(
         (task proof : List ℕ) (effort : Effort) →
         asked (map string_bytes words.now) ≡ Some (check task proof effort) →
         H.file shelf.new proof ≡ H.file shelf.old proof }
-    // Where `check` accepts, the proof's file has a proof that passes for the task.
+    // Where `check` accepts, the proof's file has a proof that passes for the task, of version 2
+    // exactly where that assumes something.
     ensures proved { result ≡ Status.Accepted → (task proof : List ℕ) (effort : Effort) →
         asked (map string_bytes words.now) ≡ Some (check task proof effort) →
         (t : Parts) × IsTaskIn (H.file shelf.old task) t
@@ -164,6 +180,8 @@ fn reply_to<R: Threads + Sync, G: Gate, H: Shelf>(
 ) -> Option<Reply>
     ensures answers { IfSome result (λ r. IsAnswerTo (map string_bytes words.now) (H.file shelf.old)
         (H.read_faults shelf.old) (H.read_faults shelf.new) r.status r.text.items) }
+    ensures read { IfSome result (λ r. AnswersByReads (asked (map string_bytes words.now))
+        (H.given shelf.old) (H.given shelf.new) r.status r.text.items) }
     ensures left { MatchOption result
         (LeavesPartBy (asked (map string_bytes words.now)) (H.file shelf.old) (H.file shelf.new))
         (λ r. LeavesBy (asked (map string_bytes words.now)) (H.file shelf.old) r.status
@@ -191,6 +209,10 @@ fn answer<R: Threads + Sync, G: Gate, H: Shelf>(
         (H.read_faults shelf.old) (H.read_faults shelf.new) r.status r.text.items) }
     ensures exit { IfErr result (ExitsWith (IsAnswerTo (map string_bytes words.now)
         (H.file shelf.old) (H.read_faults shelf.old) (H.read_faults shelf.new))) }
+    ensures read { IfOk result (λ r. AnswersByReads (asked (map string_bytes words.now))
+        (H.given shelf.old) (H.given shelf.new) r.status r.text.items) }
+    ensures exit_read { IfErr result (ExitsWith (AnswersByReads (asked (map string_bytes words.now))
+        (H.given shelf.old) (H.given shelf.new))) }
     ensures left { EndsWith
         (λ status. LeavesBy (asked (map string_bytes words.now)) (H.file shelf.old) status
         (H.file shelf.new))
@@ -231,6 +253,10 @@ fn answer_to<R: Threads + Sync, G: Gate, H: Shelf>(
         (H.read_faults shelf.old) (H.read_faults shelf.new) r.status r.text.items) }
     ensures exit { IfErr result (ExitsWith (AnswersCommand (asked_in request.entry)
         (H.file shelf.old) (H.read_faults shelf.old) (H.read_faults shelf.new))) }
+    ensures read { IfOk result (λ r. AnswersByReads (Some (asked_in request.entry))
+        (H.given shelf.old) (H.given shelf.new) r.status r.text.items) }
+    ensures exit_read { IfErr result (ExitsWith (AnswersByReads (Some (asked_in request.entry))
+        (H.given shelf.old) (H.given shelf.new))) }
     ensures left { EndsWith
         (λ status. LeavesFiles (asked_in request.entry) (H.file shelf.old) status (H.file shelf.new))
         (LeavesPart (asked_in request.entry) (H.file shelf.old) (H.file shelf.new)) result }
@@ -271,6 +297,10 @@ fn check_in<R: Threads + Sync, G: Gate, H: Shelf>(
         (H.read_faults shelf.old) (H.read_faults shelf.new) r.status r.text.items) }
     ensures exit { IfErr result (ExitsWith (Checks (H.file shelf.old name.now) effort
         (H.read_faults shelf.old) (H.read_faults shelf.new))) }
+    ensures read { IfOk result (λ r. ChecksRead name.now effort
+        (H.given shelf.old) (H.given shelf.new) r.status r.text.items) }
+    ensures exit_read { IfErr result (ExitsWith (ChecksRead name.now effort
+        (H.given shelf.old) (H.given shelf.new))) }
     ensures left { EndsWith
         (λ status. LeavesProof (H.file shelf.old name.now) status (H.file shelf.old proof.now)
         (H.file shelf.new proof.now))
@@ -308,6 +338,7 @@ fn check_task<R: Threads + Sync, G: Gate, H: Shelf>(
         (H.write_faults shelf.new) (r.status ≡ Status.WriteFault)) }
     ensures quiet { OnErr result (H.write_faults shelf.new ≡ H.write_faults shelf.old) }
     ensures reads { H.read_faults shelf.new ≡ H.read_faults shelf.old }
+    ensures keeps { H.given shelf.new ≡ H.given shelf.old }
 {
     let Decided { reply, proof: text } = check(rt, alloc, gate, task, effort)?;
     match text {
@@ -338,6 +369,7 @@ fn write_proof<H: Shelf>(
         (r.status ≡ Status.WriteFault)) }
     ensures quiet { OnErr result (H.write_faults shelf.new ≡ H.write_faults shelf.old) }
     ensures reads { H.read_faults shelf.new ≡ H.read_faults shelf.old }
+    ensures keeps { H.given shelf.new ≡ H.given shelf.old }
 {
     let failed = line(alloc, "WriteFault", &[])?;
     match write_file(shelf, name, text) {
@@ -362,6 +394,10 @@ fn replay_in<H: Shelf>(
         turns (H.read_faults shelf.old) (H.read_faults shelf.new) r.status r.text.items) }
     ensures exit { IfErr result (ExitsWith (Replays (H.file shelf.old name.now)
         (H.file shelf.old input.now) turns (H.read_faults shelf.old) (H.read_faults shelf.new))) }
+    ensures read { IfOk result (λ r. ReplaysRead name.now input.now turns
+        (H.given shelf.old) (H.given shelf.new) r.status r.text.items) }
+    ensures exit_read { IfErr result (ExitsWith (ReplaysRead name.now input.now turns
+        (H.given shelf.old) (H.given shelf.new))) }
     ensures same { (other : List ℕ) → H.file shelf.new other ≡ H.file shelf.old other }
     ensures writes { H.write_faults shelf.new ≡ H.write_faults shelf.old }
 {
@@ -382,6 +418,10 @@ fn replay_task<H: Shelf>(
         turns (H.read_faults shelf.old) (H.read_faults shelf.new) r.status r.text.items) }
     ensures exit { IfErr result (ExitsWith (ReplaysInput (parts_of task.now)
         (H.file shelf.old input.now) turns (H.read_faults shelf.old) (H.read_faults shelf.new))) }
+    ensures read { IfOk result (λ r. RunsRead (parts_of task.now) input.now turns
+        (H.given shelf.old) (H.given shelf.new) r.status r.text.items) }
+    ensures exit_read { IfErr result (ExitsWith (RunsRead (parts_of task.now) input.now turns
+        (H.given shelf.old) (H.given shelf.new))) }
     ensures same { (other : List ℕ) → H.file shelf.new other ≡ H.file shelf.old other }
     ensures writes { H.write_faults shelf.new ≡ H.write_faults shelf.old }
 {

@@ -3,6 +3,7 @@ ghost use Rattle.std.specs.Prelude.{◌≡◌, ◌≢◌, ◌<◌, ◌≤◌, �
 ghost use Rattle.sm_check.specs.Checkable.{IsCheckable};
 ghost use Rattle.sm_task.specs.Tasks.{parts_of};
 ghost use Rattle.sm_commands.specs.Exit.{ExitsWith};
+ghost use Rattle.sm_commands.specs.Readings.{PassesRead, VerifiesRead};
 ghost use Rattle.sm_commands.specs.Top.{Verifies};
 ghost use Rattle.sm_commands.specs.Verify.{rejected_line, AnswersProof};
 ghost use Rattle.sm_commands.specs.Views.{SaysChecked};
@@ -35,6 +36,10 @@ pub fn verify_in<R: Threads + Sync, G: Gate, H: Shelf>(
         (H.read_faults shelf.old) (H.read_faults shelf.new) r.status r.text.items) }
     ensures exit { IfErr result (ExitsWith (Verifies (H.file shelf.old name.now)
         (H.file shelf.old proof.now) (H.read_faults shelf.old) (H.read_faults shelf.new))) }
+    ensures read { IfOk result (λ r. VerifiesRead name.now proof.now
+        (H.given shelf.old) (H.given shelf.new) r.status r.text.items) }
+    ensures exit_read { IfErr result (ExitsWith (VerifiesRead name.now proof.now
+        (H.given shelf.old) (H.given shelf.new))) }
     ensures same { (other : List ℕ) → H.file shelf.new other ≡ H.file shelf.old other }
     ensures writes { H.write_faults shelf.new ≡ H.write_faults shelf.old }
 {
@@ -59,6 +64,10 @@ fn verify_task<R: Threads + Sync, G: Gate, H: Shelf>(
         (H.read_faults shelf.old) (H.read_faults shelf.new) r.status r.text.items) }
     ensures exit { IfErr result (ExitsWith (AnswersProof (parts_of task.now)
         (H.file shelf.old proof.now) (H.read_faults shelf.old) (H.read_faults shelf.new))) }
+    ensures read { IfOk result (λ r. PassesRead (parts_of task.now) proof.now
+        (H.given shelf.old) (H.given shelf.new) r.status r.text.items) }
+    ensures exit_read { IfErr result (ExitsWith (PassesRead (parts_of task.now) proof.now
+        (H.given shelf.old) (H.given shelf.new))) }
     ensures same { (other : List ℕ) → H.file shelf.new other ≡ H.file shelf.old other }
     ensures writes { H.write_faults shelf.new ≡ H.write_faults shelf.old }
 {

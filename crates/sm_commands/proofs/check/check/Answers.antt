@@ -4,6 +4,7 @@ use Rattle.sm_task.specs.Tasks.{parts_of}
 use Rattle.std.proofs.Common.{◌≡◌, ◌∙◌, ◌∷◌, [], ℤ, ap, codes, of_z, rules, to_z}
 use Rattle.std.specs.Fmt.{signed_decimal}
 use Rattle.std.specs.Int.{w128}
+use Rattle.sm_houdini.proofs.ShortLines.{valid_searchable}
 use Rattle.sm_proof.proofs.PassSound.{pass_free}
 use Rattle.sm_commands.specs.Lines.{goal_line, op_word, too_many_line}
 use Rattle.sm_commands.specs.declared.status.Status.TheVariants.{Unknown}
@@ -12,6 +13,11 @@ use Rattle.sm_commands.proofs.check.check.Goals as goal
 
 pub search-requires-clause-runs : goal.search-requires-clause-runs
 search-requires-clause-runs g c = λ κs within. (is_spelled (parts_of c.args.task.now) c.requires.spelled).runs
+
+pub search-requires-clause-searchable : goal.search-requires-clause-searchable
+search-requires-clause-searchable g c = λ κs within.
+    let t = parts_of c.args.task.now in
+    (valid_searchable t (is_spelled t c.requires.spelled).valid).0
 
 pub search-requires-clause-sorted : goal.search-requires-clause-sorted
 search-requires-clause-sorted g c = λ κs within. (is_spelled (parts_of c.args.task.now) c.requires.spelled).sorted

@@ -1,7 +1,9 @@
-use Rattle.std.proofs.Common.{ℕ, List}
-use Rattle.sm_commands.specs.Top.{Verifies}
+use Rattle.std.proofs.Common.{ℕ, List, subst, sym}
+use Rattle.sm_commands.specs.Top.{LeavesFiles, LeavesPart, Verifies}
+use Rattle.sm_commands.specs.Views.{EndsWith, asked_in}
 use Rattle.sm_commands.specs.declared.status.Status.{Status}
-use Rattle.sm_commands.proofs.FilesLemmas.{counts_none}
+use Rattle.sm_commands.specs.declared.words.Request.{Request}
+use Rattle.sm_commands.proofs.FilesLemmas.{check_leaves, counts_none}
 use Rattle.sm_commands.proofs.Statuses.{verify_to_command}
 use Rattle.sm_commands.proofs.top.answer_to.Goals as goal
 
@@ -15,3 +17,13 @@ returns-in-Verify-clause-writes g c =
     (g.H.Shelf.write_faults c.verify_in.new.shelf) c.verify_in.ensures.writes
     (λ (s : Status) (t : List ℕ) h. (verify_to_command task proof before now s t h).of_command.not_write) c.verify_in.result
     c.verify_in.ensures.ok c.verify_in.ensures.exit
+
+pub returns-in-Check-clause-left : goal.returns-in-Check-clause-left
+returns-in-Check-clause-left g c =
+    let before = g.H.Shelf.file c.args.shelf.now in
+    let now = g.H.Shelf.file c.check_in.new.shelf in
+    subst (λ (q : Request). EndsWith (λ (s : Status). LeavesFiles (asked_in q) before s now) (LeavesPart (asked_in q) before now)
+    c.check_in.result)
+    (sym c.in-Check.is)
+    (check_leaves c.in-Check.task.now c.in-Check.proof.now c.in-Check.effort before now c.check_in.result c.check_in.ensures.others
+    c.check_in.ensures.left)

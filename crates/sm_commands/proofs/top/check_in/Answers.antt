@@ -1,6 +1,7 @@
-use Rattle.std.proofs.Common.{rules}
+use Rattle.std.proofs.Common.{inr, rules}
 use Rattle.sm_task.specs.Tasks.{parts_of}
 use Rattle.sm_commands.proofs.FilesLemmas.{cut_in, left_in, task_told}
+use Rattle.sm_commands.proofs.ReadingsLemmas.{none_checked, read_still}
 use Rattle.sm_commands.proofs.top.check_in.Goals as goal
 
 pub returns-clause-left : goal.returns-clause-left
@@ -21,4 +22,22 @@ returns-in_err-check_task-clause-left g c =
     (g.H.Shelf.file c.check_task.new.shelf c.args.proof.now) t
     (task_told file (g.H.Shelf.read_faults c.args.shelf.now) (g.H.Shelf.read_faults c.task_in.new.shelf) t c.in_ok-task.ensures.ok)
     (c.in_ok-task.ensures.same c.args.proof.now) c.in_err-check_task.ensures.front in
+    search rules
+
+pub returns-clause-read : goal.returns-clause-read
+returns-clause-read g c =
+    let t = parts_of c.in_ok-task.task in
+    inr (
+      t,
+      read_still c.args.name.now (g.H.Shelf.given c.args.shelf.now) (g.H.Shelf.given c.task_in.new.shelf)
+          (g.H.Shelf.given c.check_task.new.shelf) t c.in_ok-task.ensures.read c.in_ok-check_task.ensures.keeps,
+      c.in_ok-check_task.ensures.answers,
+    )
+
+pub returns-in_err-task-clause-exit_read : goal.returns-in_err-task-clause-exit_read
+returns-in_err-task-clause-exit_read g c =
+    let none =
+    none_checked c.args.name.now c.args.effort (g.H.Shelf.given c.args.shelf.now) (g.H.Shelf.given c.task_in.new.shelf)
+    (g.H.Shelf.file c.args.shelf.now c.args.name.now) (g.H.Shelf.read_faults c.args.shelf.now)
+    (g.H.Shelf.read_faults c.task_in.new.shelf) c.in_err-task.field-0.0 c.in_err-task.ensures.exit in
     search rules

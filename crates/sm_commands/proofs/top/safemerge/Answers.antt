@@ -7,6 +7,7 @@ use Rattle.sm_commands.specs.Words.{Asked, asked}
 use Rattle.sm_commands.proofs.Answering.{accepts, sound}
 use Rattle.sm_commands.proofs.FilesLemmas.{kept_whole, leaves_cut, leaves_front, left_by}
 use Rattle.sm_commands.proofs.ConflictSound.{conflicts, shows, replays_shown}
+use Rattle.sm_commands.proofs.ReadingsLemmas.{accepts_read, conflicts_read, shows_read}
 use Rattle.sm_commands.proofs.Verified.{verifies_exactly}
 use Rattle.sm_commands.proofs.top.safemerge.Goals as goal
 
@@ -118,3 +119,22 @@ returns-in-Ok-clause-unfinished g c = λ failed task proof effort is.
     (g.H.Shelf.file c.reply_to.new.shelf proof) failed
     (left_by (asked (map string_bytes c.args.words.now)) (g.H.Shelf.file c.args.shelf.now) (g.H.Shelf.file c.reply_to.new.shelf)
     c.in-Some.reply.status task proof effort c.in-Some.ensures.left is)
+
+pub returns-in-Ok-clause-accepted_read : goal.returns-in-Ok-clause-accepted_read
+returns-in-Ok-clause-accepted_read g c =
+    accepts_read (map string_bytes c.args.words.now) (g.H.Shelf.given c.args.shelf.now) (g.H.Shelf.given c.reply_to.new.shelf)
+    c.in-Some.reply.status c.in-Some.reply.text.items c.in-Some.ensures.read
+
+pub returns-in-Ok-clause-conflict_read : goal.returns-in-Ok-clause-conflict_read
+returns-in-Ok-clause-conflict_read g c =
+    conflicts_read (map string_bytes c.args.words.now) (g.H.Shelf.file c.args.shelf.now) (g.H.Shelf.read_faults c.args.shelf.now)
+    (g.H.Shelf.read_faults c.reply_to.new.shelf) (g.H.Shelf.given c.args.shelf.now) (g.H.Shelf.given c.reply_to.new.shelf)
+    c.in-Some.reply.status c.in-Some.reply.text.items c.in-Some.ensures.answers c.in-Some.ensures.read
+
+pub returns-in-Ok-clause-shown_read : goal.returns-in-Ok-clause-shown_read
+returns-in-Ok-clause-shown_read g c = λ e task proof effort asks. (
+  c.in-Some.reply.text.items,
+  shows_read (map string_bytes c.args.words.now) (g.H.Shelf.given c.args.shelf.now) (g.H.Shelf.given c.reply_to.new.shelf)
+      c.in-Some.reply.status c.in-Some.reply.text.items c.in-Some.ensures.read e task proof effort asks,
+  search rules,
+)

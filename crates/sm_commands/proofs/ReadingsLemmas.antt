@@ -1,0 +1,188 @@
+-- What Accepted and Conflict say of the bytes that were read.
+use Rattle.std.proofs.Common.{◌≡◌, inl, inr, ℕ, List, Some, Result, Ok, Err, IfOk, IfErr, refl, sym, subst, ◌∙◌}
+use Rattle.sm_check.specs.FilesRead.{AnswersRead}
+use Rattle.sm_check.specs.declared.verifying.CheckError.{CheckError}
+use Rattle.sm_check.specs.declared.verifying.CheckError.TheVariants as check
+use Rattle.sm_check.specs.declared.verifying.Checked.{Checked}
+use Rattle.sm_check.specs.declared.verifying.Checked.TheVariants as checked
+use Rattle.sm_eval.specs.StoredValues.{meaning}
+use Rattle.sm_eval.specs.declared.store.Store as code
+use Rattle.sm_io.specs.Files.{Known}
+use Rattle.sm_io.specs.Reads.{Read}
+use Rattle.sm_proof.specs.Verdicts.{subject_of}
+use Rattle.sm_replay.specs.Violations.{Violates}
+use Rattle.sm_replay.proofs.ViolationsSound.{violation_conflicts}
+use Rattle.sm_syntax.specs.claim.ConflictFree.{ConflictFree}
+use Rattle.sm_syntax.specs.claim.Stores.{Store}
+use Rattle.sm_syntax.specs.text.Parts.{Parts, task_of}
+use Rattle.sm_commands.specs.Exit.{ExitsWith}
+use Rattle.sm_commands.specs.File.{GivesNoTask}
+use Rattle.sm_commands.specs.HeadlineRead.{AcceptsRead, ConflictsRead, ShowsReadInput}
+use Rattle.sm_commands.specs.Readings.{AnswersByReads, ChecksRead, PassesRead, ReadsInput, ReadsTask, ReplaysRead, RunsRead, VerifiesRead}
+use Rattle.sm_commands.specs.Replay.{AnswersReplay, GivesNoInput}
+use Rattle.sm_commands.specs.Top.{AnswersCommand, Files, IsAnswerTo}
+use Rattle.sm_commands.specs.Verify.{proof_limit}
+use Rattle.sm_commands.specs.Views.{SaysChecked}
+use Rattle.sm_commands.specs.Words.{Words, Asked, check as to_check, verify, replay, print, gen, asked}
+use Rattle.sm_commands.specs.declared.effort.Effort.{Effort}
+use Rattle.sm_commands.specs.declared.exit.Exit.{Exit}
+use Rattle.sm_commands.specs.declared.status.Reply.{Reply}
+use Rattle.sm_commands.specs.declared.status.Status.{Status}
+use Rattle.sm_commands.specs.declared.status.Status.TheVariants.{Accepted, Conflict}
+use Rattle.sm_commands.proofs.Answering.{accepted_is_free, result_by, stops_by}
+use Rattle.sm_commands.proofs.ConflictSound.{checked_conflict, judged_violates, no_input_no_conflict, print_no_conflict, shown_conflict, verify_no_conflict}
+use Rattle.sm_commands.proofs.Statuses.{without_task}
+use Rattle.sm_commands.proofs.Verified.{passing_fits}
+
+-- a task that was read, after what was read is written otherwise
+pub read_still : (name : List ℕ) (before now next : List Read) (t : Parts) → ReadsTask name before now t → next ≡ now →
+    ReadsTask name before next t
+read_still name before now next t reads same = subst (λ (rs : List Read). ReadsTask name before rs t) (sym same) reads
+
+-- no task was given
+pub none_checked : (name : List ℕ) (effort : Effort) (before now : List Read) (file : Known) (b n : ℕ) (stop : Exit) →
+    ExitsWith (GivesNoTask file b n) stop → ExitsWith (ChecksRead name effort before now) stop
+none_checked name effort before now file b n stop =
+    stops_by (GivesNoTask file b n) (ChecksRead name effort before now)
+    (λ status text none.
+    let is = without_task file b n status text none in inl ((λ e. is.not_accepted e), (λ e. is.not_conflict e))) stop
+
+pub none_verified : (name proof : List ℕ) (before now : List Read) (file : Known) (b n : ℕ) (stop : Exit) →
+    ExitsWith (GivesNoTask file b n) stop → ExitsWith (VerifiesRead name proof before now) stop
+none_verified name proof before now file b n stop =
+    stops_by (GivesNoTask file b n) (VerifiesRead name proof before now)
+    (λ status text none e. absurd ((without_task file b n status text none).not_accepted e)) stop
+
+pub none_replayed : (name input : List ℕ) (turns : ℕ) (before now : List Read) (file : Known) (b n : ℕ) (stop : Exit) →
+    ExitsWith (GivesNoTask file b n) stop → ExitsWith (ReplaysRead name input turns before now) stop
+none_replayed name input turns before now file b n stop =
+    stops_by (GivesNoTask file b n) (ReplaysRead name input turns before now)
+    (λ status text none e. absurd ((without_task file b n status text none).not_conflict e)) stop
+
+-- no input was
+pub none_run : (t : Parts) (name : List ℕ) (turns : ℕ) (before now : List Read) (file : Known) (b n : ℕ) (stop : Exit) →
+    ExitsWith (GivesNoInput t file b n) stop → ExitsWith (RunsRead t name turns before now) stop
+none_run t name turns before now file b n stop =
+    stops_by (GivesNoInput t file b n) (RunsRead t name turns before now)
+    (λ status text none e. absurd (no_input_no_conflict t file b n status text none e)) stop
+
+-- a task that was read, and then a proof's file
+pub verified_read : (name proof : List ℕ) (before between now : List Read) (t : Parts) → ReadsTask name before between t →
+    (r : Result Reply Exit) → IfOk r (λ (p : Reply). PassesRead t proof between now p.status p.text.items) →
+    IfErr r (ExitsWith (PassesRead t proof between now)) →
+    IfOk r (λ (p : Reply). VerifiesRead name proof before now p.status p.text.items) × IfErr r
+    (ExitsWith (VerifiesRead name proof before now))
+verified_read name proof before between now t reads r ok stop =
+    result_by (PassesRead t proof between now) (VerifiesRead name proof before now) (λ status text passes e. (t, between, reads, passes e))
+    r ok stop
+
+-- a task that was read, and then an input's file
+pub replayed_read : (name input : List ℕ) (turns : ℕ) (before between now : List Read) (t : Parts) → ReadsTask name before between t →
+    (r : Result Reply Exit) → IfOk r (λ (p : Reply). RunsRead t input turns between now p.status p.text.items) →
+    IfErr r (ExitsWith (RunsRead t input turns between now)) →
+    IfOk r (λ (p : Reply). ReplaysRead name input turns before now p.status p.text.items) × IfErr r
+    (ExitsWith (ReplaysRead name input turns before now))
+replayed_read name input turns before between now t reads r ok stop =
+    result_by (RunsRead t input turns between now) (ReplaysRead name input turns before now)
+    (λ status text runs e. (t, between, reads, runs e)) r ok stop
+
+-- a proof's file that was read, and what the checker says of it
+pub passed_read : (t : Parts) (name : List ℕ) (before now : List Read) (r : Result Checked CheckError) (status : Status) (text : List ℕ) →
+    AnswersRead name before now proof_limit (subject_of t) r → (r ≡ Ok checked.Pass → ConflictFree (task_of t)) →
+    SaysChecked r status text → PassesRead t name before now status text
+passed_read t name before now (Ok checked.Pass) status text a free says e =
+    let both = passing_fits t a.bytes a.tells in
+    record { bytes = a.bytes; read = a.whole refl; fits = both.0; passes = both.1; free = free refl }
+passed_read t name before now (Ok (checked.Rejected line word)) status text a free says e = let is = says.ended in absurd (cc)
+passed_read t name before now (Err check.TooLong) status text a free says e = let is = says.ended in absurd (cc)
+passed_read t name before now (Err check.ReadFault) status text a free says e = let is = says.ended in absurd (cc)
+passed_read t name before now (Err check.Memory) status text a free says e = absurd says
+
+-- an input that was read, and what the programs do from it
+pub run_read : (t : Parts) (name : List ℕ) (turns : ℕ) (before now : List Read) (s : code.Store) (status : Status) (text : List ℕ) →
+    ReadsInput t name before now s → AnswersReplay t (meaning s) turns status text → RunsRead t name turns before now status text
+run_read t name turns before now s status text reads a e =
+    record { store = s; input = reads; violates = judged_violates t (meaning s) turns a.verdict a.judged (sym a.says.ended ∙ e) }
+
+-- Accepted by what was read
+accepted_by : (ask : Asked) (before now : List Read) (status : Status) (text : List ℕ) → AnswersByReads (Some ask) before now status text →
+    status ≡ Accepted → AcceptsRead ask before now
+accepted_by (to_check task proof effort) before now status text (inl none) e = absurd (none.0 e)
+accepted_by (to_check task proof effort) before now status text (inr c) e =
+    (c.1.bytes, c.1.read, (c.0, c.1.spells, accepted_is_free c.0 effort status text c.2 e))
+accepted_by (verify task proof workers) before now status text a e =
+    let v = a e in (
+      v.2.bytes,
+      v.3.bytes,
+      v.1,
+      v.2.read,
+      v.3.read,
+      (
+        (v.0, v.2.spells, v.3.free),
+        record { parts = v.0; spells = v.2.spells; passes = v.3.passes; short = v.2.short; fits = v.3.fits },
+      ),
+    )
+accepted_by (replay task input turns) before now status text a e = tt
+accepted_by (print task) before now status text a e = tt
+accepted_by (gen seed size effort) before now status text a e = tt
+
+pub accepts_read : (words : Words) (before now : List Read) (status : Status) (text : List ℕ) →
+    AnswersByReads (asked words) before now status text → status ≡ Accepted → (ask : Asked) → asked words ≡ Some ask →
+    AcceptsRead ask before now
+accepts_read words before now status text a e ask asks = accepted_by ask before now status text (rw asks at a) e
+
+-- Conflict by what was read
+conflict_by : (ask : Asked) (files : Files) (b n : ℕ) (before now : List Read) (status : Status) (text : List ℕ) →
+    AnswersCommand ask files b n status text → AnswersByReads (Some ask) before now status text → status ≡ Conflict →
+    ConflictsRead ask before now
+conflict_by (to_check task proof effort) files b n before now status text answers (inl none) e = absurd (none.1 e)
+conflict_by (to_check task proof effort) files b n before now status text answers (inr c) e =
+    (c.1.bytes, c.1.read, (c.0, c.1.spells, shown_conflict c.0 effort.turns text (checked_conflict c.0 effort status text c.2 e)))
+conflict_by (verify task proof workers) files b n before now status text answers a e =
+    verify_no_conflict (files task) (files proof) b n status text answers e
+conflict_by (replay task input turns) files b n before now status text answers a e =
+    let v = a e in (
+      v.2.bytes,
+      v.3.input.bytes,
+      v.1,
+      v.2.read,
+      v.3.input.read,
+      (
+        (v.0, v.2.spells, violation_conflicts (task_of v.0) (meaning v.3.store) turns v.3.violates),
+        (v.0, v.2.spells, (v.3.store, v.3.input.gives, v.3.violates)),
+      ),
+    )
+conflict_by (print task) files b n before now status text answers a e = print_no_conflict (files task) b n status text answers e
+conflict_by (gen seed size effort) files b n before now status text answers a e = tt
+
+pub conflicts_read : (words : Words) (files : Files) (b n : ℕ) (before now : List Read) (status : Status) (text : List ℕ) →
+    IsAnswerTo words files b n status text → AnswersByReads (asked words) before now status text → status ≡ Conflict →
+    (ask : Asked) → asked words ≡ Some ask → ConflictsRead ask before now
+conflicts_read words files b n before now status text answers a e ask asks =
+    conflict_by ask files b n before now status text (rw asks at answers) (rw asks at a) e
+
+-- and the input that `check` shows
+shown_by : (task : List ℕ) (effort : Effort) (before now : List Read) (status : Status) (text : List ℕ) →
+    ChecksRead task effort before now status text → status ≡ Conflict → ShowsReadInput task before now effort.turns text
+shown_by task effort before now status text (inl none) e = absurd (none.1 e)
+shown_by task effort before now status text (inr c) e =
+    let s = checked_conflict c.0 effort status text c.2 e in (
+      c.1.bytes,
+      c.1.read,
+      (
+        s.front,
+        s.input,
+        s.printed,
+        (
+          c.0,
+          c.1.spells,
+          (s.shown.store, s.shown.reads, subst (λ (m : Store). Violates (task_of c.0) m effort.turns) (sym s.shown.gives) s.violates),
+        ),
+      ),
+    )
+
+pub shows_read : (words : Words) (before now : List Read) (status : Status) (text : List ℕ) →
+    AnswersByReads (asked words) before now status text → status ≡ Conflict → (task proof : List ℕ) (effort : Effort) →
+    asked words ≡ Some (to_check task proof effort) → ShowsReadInput task before now effort.turns text
+shows_read words before now status text a e task proof effort asks =
+    shown_by task effort before now status text (rw asks at a) e

@@ -1,0 +1,48 @@
+-- What Accepted and Conflict say of the bytes that were read: on every shelf, whether it tells what
+-- its files hold or not. The public clauses `accepted_read`, `conflict_read` and `shown_read` of
+-- `safemerge` cite it.
+use Rattle.std.specs.Prelude.{◌≡◌, ◌++◌, ℕ, List}
+use Rattle.sm_io.specs.Reads.{Read, ReadsWhole}
+use Rattle.sm_commands.specs.Headline.{IsProved, IsSafeMerge, IsUnsafeMerge, IsViolatedFrom}
+use Rattle.sm_commands.specs.Lines.{input_line}
+use Rattle.sm_commands.specs.Words.{Asked, check, verify, replay, print, gen}
+
+-- the one file was read, in one pass to its end, and no other; of its bytes this holds
+abbrev pub ReadsOne : List ℕ → List Read → List Read → (List ℕ → Type 0) → Type 0
+ReadsOne name before now P = (bytes : List ℕ) × ReadsWhole name before now bytes × P bytes
+
+-- the one file was read so, and then the other, and nothing else; of their bytes this holds
+abbrev pub ReadsTwo : List ℕ → List ℕ → List Read → List Read → (List ℕ → List ℕ → Type 0) → Type 0
+ReadsTwo name other before now P = (bytes others : List ℕ) × (between : List Read)
+    × ReadsWhole name before between bytes × ReadsWhole other between now others
+    × P bytes others
+
+-- Accepted of `check`: what was read spells a task that is free of conflicts. Of `verify`: and then
+-- a proof was read that passes for it
+abbrev pub AcceptsRead : Asked → List Read → List Read → Type 0
+AcceptsRead (check task proof effort) before now = ReadsOne task before now IsSafeMerge
+AcceptsRead (verify task proof workers) before now =
+    ReadsTwo task proof before now (λ (bytes lines : List ℕ).
+    IsSafeMerge bytes × IsProved bytes lines)
+AcceptsRead (replay task input turns) before now = Unit {0}
+AcceptsRead (print task) before now = Unit {0}
+AcceptsRead (gen seed size effort) before now = Unit {0}
+
+-- Conflict of `check`: what was read spells a task that isn't free of conflicts. Of `replay`: and
+-- then an input was read that shows one. `verify` and `print` don't answer it
+abbrev pub ConflictsRead : Asked → List Read → List Read → Type 0
+ConflictsRead (check task proof effort) before now = ReadsOne task before now IsUnsafeMerge
+ConflictsRead (verify task proof workers) before now = ⊥
+ConflictsRead (replay task input turns) before now =
+    ReadsTwo task input before now (λ (bytes given : List ℕ).
+    IsUnsafeMerge bytes × IsViolatedFrom given turns bytes)
+ConflictsRead (print task) before now = ⊥
+ConflictsRead (gen seed size effort) before now = Unit {0}
+
+-- Conflict of `check`: the text ends with the line of an input that shows a conflict of the task
+-- that was read
+abbrev pub ShowsReadInput : List ℕ → List Read → List Read → ℕ → List ℕ → Type 0
+ShowsReadInput task before now turns text =
+    ReadsOne task before now (λ (bytes : List ℕ).
+    (front input : List ℕ) × (text ≡ front ++ input_line input)
+    × IsViolatedFrom input turns bytes)
