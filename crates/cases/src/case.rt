@@ -1,11 +1,11 @@
 // One case, and what comes of it.
 
 use crate::content::bytes_of;
+use crate::meeting::Meeting;
 use anyhow::{Context, Result};
 use serde_json::Value;
 use sm_commands::safemerge;
 use sm_io::{MemShelf, MemSink};
-use sm_par::Open;
 use std::alloc::Global;
 use std::thread::Threads;
 
@@ -18,6 +18,7 @@ pub fn report<R: Threads + Sync>(rt: &R, alloc: Global, case: &Value) -> Result<
     report.extend_from_slice(b"# ")?;
     report.extend_from_slice(text_of(case, "name")?.as_bytes())?;
     report.push(b'\n')?;
+    let mut first: Option<MemShelf> = None;
     for number in 0..MOST_CHOICES {
         let mut choice = number;
         let words = words_of(alloc, case, &mut choice)?;
@@ -33,11 +34,15 @@ pub fn report<R: Threads + Sync>(rt: &R, alloc: Global, case: &Value) -> Result<
             run_then(rt, alloc, then, out.bytes(), &mut shelf, &mut report)?;
         }
         add_files(case, &shelf, &mut report)?;
+        match &first {
+            Some(other) => add_alike(case, other, &shelf, &mut report)?,
+            None => first = Some(shelf),
+        }
     }
     Ok(report)
 }
 
-// Runs the top call, and adds its status and what it printed.
+// Runs the top call, and adds its status and what it printed, and whether jobs met.
 fn run<R: Threads + Sync>(
     rt: &R,
     alloc: Global,
@@ -50,9 +55,11 @@ fn run<R: Threads + Sync>(
     if let Some(call) = case.get("sink").and_then(Value::as_u64) {
         out.fail_at(call)?;
     }
-    let status = safemerge(rt, alloc, &Open, words, shelf, &mut out).number();
+    let meeting = Meeting::of(case)?;
+    let status = safemerge(rt, alloc, &meeting, words, shelf, &mut out).number();
     report.extend_from_slice(format!(in alloc; "status {status}\n")?.as_bytes())?;
     report.extend_from_slice(out.bytes())?;
+    report.extend_from_slice(meeting.report().as_bytes())?;
     Ok(out)
 }
 
@@ -119,6 +126,21 @@ fn add_files(case: &Value, shelf: &MemShelf, report: &mut Vec<u8>) -> Result<()>
                 report.extend_from_slice(bytes)?;
                 report.push(b'\n')?;
             }
+        }
+    }
+    Ok(())
+}
+
+// Adds whether files that the case asks for hold what they hold with the first choice.
+fn add_alike(case: &Value, first: &MemShelf, shelf: &MemShelf, report: &mut Vec<u8>) -> Result<()> {
+    if let Some(names) = case.get("alike").and_then(Value::as_array) {
+        for name in names {
+            let name = name.as_str().context("a file has no name")?;
+            let is_alike = shelf.bytes(name) == first.bytes(name);
+            let told: &[u8] = if is_alike { b"alike " } else { b"unlike " };
+            report.extend_from_slice(told)?;
+            report.extend_from_slice(name.as_bytes())?;
+            report.push(b'\n')?;
         }
     }
     Ok(())

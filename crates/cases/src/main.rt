@@ -7,6 +7,9 @@
 //! - `then` is a second run with words of its own, over the same files. With a `mark` it comes
 //!   where the first answer has that text, and what follows the text is the file `i`.
 //! - `after` names the files that are printed afterwards.
+//! - `alike` names those of which is printed, with each other choice, whether they hold what they
+//!   hold with the first.
+//! - `meet` is `trials`, `obligations` or `certificates`, and asks whether two of these ran at once.
 //!
 //! A word and a file's content is a part or an array of parts. A part is a text, `{"times": n,
 //! "text": ".."}`, `{"hex": ".."}` for bytes that are no text, or `{"each": [..]}`, of which one
@@ -15,14 +18,7 @@
 
 mod case;
 mod content;
-#[cfg(test)]
-mod messages;
-#[cfg(test)]
-mod real_files;
-#[cfg(test)]
-mod tests;
-#[cfg(test)]
-mod workers;
+mod meeting;
 
 use anyhow::{Context, Result};
 use serde_json::Value;

@@ -5,7 +5,7 @@ ghost use Rattle.sm_term.specs.Formulas.{numbered, assertion_in, IsFormulaWithin
 ghost use Rattle.sm_syntax.specs.declared.tree.Sort.TheVariants.{Num};
 ghost use Rattle.sm_term.specs.Sorted.{IsFormSorted, AreFormsSorted, tree_sort};
 ghost use Rattle.sm_term.specs.Tables.{trees_in, sorts_in, tree_at};
-ghost use Rattle.sm_solve.specs.Parts.{all_numbered, assertions_in, AreFormulasWithin};
+ghost use Rattle.sm_list.specs.Parts.{all_numbered, assertions_in, AreFormulasWithin};
 
 use crate::fact::{formula_words, read_formula};
 use crate::refusal::Refusal;

@@ -3,7 +3,7 @@ use Rattle.std.proofs.Common.{length, List, sym, subst}
 use Rattle.sm_term.specs.Sorted.{AreFormsSorted}
 use Rattle.sm_term.specs.Tables.{trees_in, sorts_in}
 use Rattle.sm_term.specs.declared.formula.Formula.{Formula}
-use Rattle.sm_solve.specs.Parts.{all_numbered, assertions_in, AreFormulasWithin}
+use Rattle.sm_list.specs.Parts.{all_numbered, assertions_in, AreFormulasWithin}
 use Rattle.lines.proofs.FormulasLemmas.{within_more, sorted_more}
 use Rattle.lines.proofs.solving.formulas.Goals as goal
 

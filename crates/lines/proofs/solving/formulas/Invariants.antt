@@ -2,7 +2,7 @@
 use Rattle.std.proofs.Common.{length}
 use Rattle.sm_term.specs.Sorted.{AreFormsSorted}
 use Rattle.sm_term.specs.Tables.{trees_in, sorts_in}
-use Rattle.sm_solve.specs.Parts.{all_numbered, assertions_in, AreFormulasWithin}
+use Rattle.sm_list.specs.Parts.{all_numbered, assertions_in, AreFormulasWithin}
 use Rattle.lines.proofs.solving.formulas.Given as goal
 
 abbrev pub invariant-loop-fact : goal.invariant-loop-fact

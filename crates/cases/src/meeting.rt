@@ -1,0 +1,58 @@
+// A gate in which two jobs meet, which no answer shows.
+
+use anyhow::{Result, bail};
+use serde_json::Value;
+use sm_par::{Gate, Phase};
+use std::sync::atomic::{AtomicBool, AtomicU64, Ordering};
+
+// How often a job that came first asks whether another came.
+const TURNS: u64 = 1_000_000_000;
+
+/// Notes whether two jobs of one phase were ever inside at once; of no phase, nothing.
+#[derive(Drop)]
+pub struct Meeting {
+    phase: Option<Phase>,
+    entered: AtomicU64,
+    met: AtomicBool,
+}
+
+impl Meeting {
+    /// For the phase that a case names.
+    pub fn of(case: &Value) -> Result<Meeting> {
+        let phase = match case.get("meet").and_then(Value::as_str) {
+            None => None,
+            Some("trials") => Some(Phase::Trial),
+            Some("obligations") => Some(Phase::Obligation),
+            Some("certificates") => Some(Phase::Certificate),
+            Some(_) => bail!("no phase"),
+        };
+        Ok(Meeting {
+            phase,
+            entered: AtomicU64::new(0),
+            met: AtomicBool::new(false),
+        })
+    }
+
+    /// What is told of the jobs of the phase.
+    pub fn report(&self) -> &str {
+        match (self.phase, self.met.load(Ordering::SeqCst)) {
+            (None, _) => "",
+            (Some(_), true) => "two at once\n",
+            (Some(_), false) => "no two at once\n",
+        }
+    }
+}
+
+impl Gate for Meeting {
+    fn enter(&self, phase: Phase) {
+        if self.phase != Some(phase) || self.entered.fetch_add(1, Ordering::SeqCst) != 0 {
+            return;
+        }
+        'turns: for _ in 0..TURNS {
+            if self.entered.load(Ordering::SeqCst) >= 2 {
+                self.met.store(true, Ordering::SeqCst);
+                return;
+            }
+        }
+    }
+}
