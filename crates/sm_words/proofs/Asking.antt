@@ -1,0 +1,131 @@
+-- What a command asks for, by the texts that its matches give.
+use Rattle.std.proofs.Common.{◌≡◌, ◌∙◌, ◌⊎◌, inl, inr, [], Option, Some, None, Result, Ok, Err, IfOk, IsErrOf, codes, refl, sym, ap}
+use Rattle.clap.specs.Walk.{Text}
+use Rattle.sm_words.specs.Numbers.{effort_by, seed_by, size_by, workers_by, HasBadNumber}
+use Rattle.sm_words.specs.Views.{asked_in}
+use Rattle.sm_words.specs.Words.{Words, asked_by, check_by, verify_by, replay_by, print_by, gen_by, word_faults, argument_text, effort_in}
+use Rattle.sm_words.specs.Words.{IsRefused}
+use Rattle.sm_words.specs.declared.effort.Effort.{Effort}
+use Rattle.sm_words.specs.declared.words.Request.{Request}
+use Rattle.sm_words.specs.declared.command.Verb.{Verb}
+use Rattle.sm_words.specs.declared.command.Verb.TheVariants.{Check, Verify, Replay, Print, Gen}
+use Rattle.sm_words.specs.declared.words.WordsError.{WordsError}
+use Rattle.sm_words.specs.declared.words.WordsError.TheVariants.{Usage}
+
+same_effort : {a b c a' b' c' : Option Text} → a ≡ a' → b ≡ b' → c ≡ c' → effort_by a b c ≡ effort_by a' b' c'
+same_effort p q r = rw (p, q, r) refl
+
+same_check : {a b a' b' : Option Text} {e e' : Option Effort} → a ≡ a' → b ≡ b' → e ≡ e' → check_by a b e ≡ check_by a' b' e'
+same_check p q r = rw (p, q, r) refl
+
+same_gen : {a b a' b' : Option Text} {e e' : Option Effort} → a ≡ a' → b ≡ b' → e ≡ e' → gen_by a b e ≡ gen_by a' b' e'
+same_gen p q r = rw (p, q, r) refl
+
+same_verify : {a b c a' b' c' : Option Text} → a ≡ a' → b ≡ b' → c ≡ c' → verify_by a b c ≡ verify_by a' b' c'
+same_verify p q r = rw (p, q, r) refl
+
+same_replay : {a b c d a' b' c' d' : Option Text} → a ≡ a' → b ≡ b' → c ≡ c' → d ≡ d' → replay_by a b c d ≡ replay_by a' b' c' d'
+same_replay p q r s = rw (p, q, r, s) refl
+
+same_bad : {a b a' b' : Option Text} → a ≡ a' → b ≡ b' → HasBadNumber a b → HasBadNumber a' b'
+same_bad p q h = rw (← p, ← q) h
+
+-- what an answer says of the words of a command
+pub record Asks (verb : Verb) (words : Words) (r : Result Request WordsError) : Type 0 where
+  pub ok : IfOk r (λ (q : Request). (word_faults verb words ≡ []) × (asked_by verb words ≡ Some (asked_in q)))
+  pub usage : IsErrOf r Usage → IsRefused (Some verb) words
+
+-- how much a search may do, by texts that are those of the arguments
+given_effort : (verb : Verb) (words : Words) (f : Text → Option Text) → ((id : Text) → f id ≡ argument_text verb id words)
+    → effort_by (f (codes "steps")) (f (codes "turns")) (f (codes "workers")) ≡ effort_in verb words
+given_effort verb words f texts = same_effort (texts (codes "steps")) (texts (codes "turns")) (texts (codes "workers"))
+
+pub asks_check : (verb : Verb) (words : Words) (f : Text → Option Text) (r : Result Request WordsError) → verb ≡ Check
+    → word_faults verb words ≡ [] → ((id : Text) → f id ≡ argument_text verb id words) →
+    IfOk r (λ (q : Request). check_by (f (codes "TASK")) (f (codes "PROOF"))
+    (effort_by (f (codes "steps")) (f (codes "turns")) (f (codes "workers"))) ≡ Some (asked_in q))
+    → (IsErrOf r Usage → (f (codes "TASK") ≡ f (codes "PROOF"))
+    ⊎ (effort_by (f (codes "steps")) (f (codes "turns")) (f (codes "workers")) ≡ None)) → Asks verb words r
+asks_check Check words f (Ok q) is free texts ok bad = record {
+  ok = (free, sym (same_check (texts (codes "TASK")) (texts (codes "PROOF")) (given_effort Check words f texts)) ∙ ok);
+  usage = λ u. cc;
+}
+asks_check Check words f (Err e) is free texts ok bad = record {
+  ok = tt;
+  usage = λ u. inr (elim (bad u) [
+    | inl same ↦ inl (sym (texts (codes "TASK")) ∙ same ∙ texts (codes "PROOF"))
+    | inr none ↦ inr (sym (given_effort Check words f texts) ∙ none)
+  ]);
+}
+asks_check Verify words f r is free texts ok bad = cc
+asks_check Replay words f r is free texts ok bad = cc
+asks_check Print words f r is free texts ok bad = cc
+asks_check Gen words f r is free texts ok bad = cc
+
+pub asks_gen : (verb : Verb) (words : Words) (f : Text → Option Text) (r : Result Request WordsError) → verb ≡ Gen
+    → word_faults verb words ≡ [] → ((id : Text) → f id ≡ argument_text verb id words) →
+    IfOk r (λ (q : Request). gen_by (f (codes "SEED")) (f (codes "SIZE"))
+    (effort_by (f (codes "steps")) (f (codes "turns")) (f (codes "workers"))) ≡ Some (asked_in q))
+    → (IsErrOf r Usage → (seed_by (f (codes "SEED")) ≡ None) ⊎ ((size_by (f (codes "SIZE")) ≡ None)
+    ⊎ (effort_by (f (codes "steps")) (f (codes "turns")) (f (codes "workers")) ≡ None))) → Asks verb words r
+asks_gen Gen words f (Ok q) is free texts ok bad = record {
+  ok = (free, sym (same_gen (texts (codes "SEED")) (texts (codes "SIZE")) (given_effort Gen words f texts)) ∙ ok);
+  usage = λ u. cc;
+}
+asks_gen Gen words f (Err e) is free texts ok bad = record {
+  ok = tt;
+  usage = λ u. inr (elim (bad u) [
+    | inl none ↦ inl (sym (ap seed_by (texts (codes "SEED"))) ∙ none)
+    | inr other ↦ inr (elim other [
+      | inl none ↦ inl (sym (ap size_by (texts (codes "SIZE"))) ∙ none)
+      | inr none ↦ inr (sym (given_effort Gen words f texts) ∙ none)
+    ])
+  ]);
+}
+asks_gen Check words f r is free texts ok bad = cc
+asks_gen Verify words f r is free texts ok bad = cc
+asks_gen Replay words f r is free texts ok bad = cc
+asks_gen Print words f r is free texts ok bad = cc
+
+pub asks_verify : (verb : Verb) (words : Words) (f : Text → Option Text) (r : Result Request WordsError) → verb ≡ Verify
+    → word_faults verb words ≡ [] → ((id : Text) → f id ≡ argument_text verb id words) →
+    IfOk r (λ (q : Request). verify_by (f (codes "TASK")) (f (codes "PROOF")) (f (codes "workers")) ≡ Some (asked_in q))
+    → (IsErrOf r Usage → workers_by (f (codes "workers")) ≡ None) → Asks verb words r
+asks_verify Verify words f (Ok q) is free texts ok bad = record {
+  ok = (free, sym (same_verify (texts (codes "TASK")) (texts (codes "PROOF")) (texts (codes "workers"))) ∙ ok);
+  usage = λ u. cc;
+}
+asks_verify Verify words f (Err e) is free texts ok bad = record {
+  ok = tt;
+  usage = λ u. inr (sym (ap workers_by (texts (codes "workers"))) ∙ bad u);
+}
+asks_verify Check words f r is free texts ok bad = cc
+asks_verify Gen words f r is free texts ok bad = cc
+asks_verify Replay words f r is free texts ok bad = cc
+asks_verify Print words f r is free texts ok bad = cc
+
+pub asks_replay : (verb : Verb) (words : Words) (f : Text → Option Text) (r : Result Request WordsError) → verb ≡ Replay
+    → word_faults verb words ≡ [] → ((id : Text) → f id ≡ argument_text verb id words) →
+    IfOk r (λ (q : Request). replay_by (f (codes "TASK")) (f (codes "INPUT")) (f (codes "turns")) (f (codes "workers")) ≡ Some (asked_in q))
+    → (IsErrOf r Usage → HasBadNumber (f (codes "turns")) (f (codes "workers"))) → Asks verb words r
+asks_replay Replay words f (Ok q) is free texts ok bad = record {
+  ok = (free, sym (same_replay (texts (codes "TASK")) (texts (codes "INPUT")) (texts (codes "turns")) (texts (codes "workers"))) ∙ ok);
+  usage = λ u. cc;
+}
+asks_replay Replay words f (Err e) is free texts ok bad = record {
+  ok = tt;
+  usage = λ u. inr (same_bad (texts (codes "turns")) (texts (codes "workers")) (bad u));
+}
+asks_replay Check words f r is free texts ok bad = cc
+asks_replay Gen words f r is free texts ok bad = cc
+asks_replay Verify words f r is free texts ok bad = cc
+asks_replay Print words f r is free texts ok bad = cc
+
+pub asks_print : (verb : Verb) (words : Words) (f : Text → Option Text) (q : Request) → verb ≡ Print → word_faults verb words ≡ []
+    → ((id : Text) → f id ≡ argument_text verb id words) →
+    print_by (f (codes "TASK")) ≡ Some (asked_in q) → (word_faults verb words ≡ []) × (asked_by verb words ≡ Some (asked_in q))
+asks_print Print words f q is free texts ok = (free, sym (ap print_by (texts (codes "TASK"))) ∙ ok)
+asks_print Check words f q is free texts ok = cc
+asks_print Gen words f q is free texts ok = cc
+asks_print Verify words f q is free texts ok = cc
+asks_print Replay words f q is free texts ok = cc

@@ -1,0 +1,4 @@
+pub mod Given
+pub mod Digits
+pub mod Asking
+pub mod Usage

@@ -1,0 +1,59 @@
+use Rattle.std.proofs.Common.{map}
+use Rattle.std.specs.String.{string_bytes}
+use Rattle.clap.specs.Matches.{first_value, found_of}
+use Rattle.sm_words.proofs.Asking.{asks_check, asks_gen, asks_verify, asks_replay, asks_print}
+use Rattle.sm_words.proofs.words.request_by.Goals as goal
+
+pub returns-in-Check-clause-ok : goal.returns-in-Check-clause-ok
+returns-in-Check-clause-ok c =
+    (asks_check c.args.verb (map string_bytes c.args.words.now)
+    (first_value (found_of c.in_ok-matches.matches)) c.check_request.result c.in-Check.is c.in_ok-matches.ensures.taken
+    c.in_ok-matches.ensures.texts c.check_request.ensures.ok c.check_request.ensures.usage).ok
+
+pub returns-in-Check-clause-usage : goal.returns-in-Check-clause-usage
+returns-in-Check-clause-usage c =
+    (asks_check c.args.verb (map string_bytes c.args.words.now)
+    (first_value (found_of c.in_ok-matches.matches)) c.check_request.result c.in-Check.is c.in_ok-matches.ensures.taken
+    c.in_ok-matches.ensures.texts c.check_request.ensures.ok c.check_request.ensures.usage).usage
+
+pub returns-in-Verify-clause-ok : goal.returns-in-Verify-clause-ok
+returns-in-Verify-clause-ok c =
+    (asks_verify c.args.verb (map string_bytes c.args.words.now)
+    (first_value (found_of c.in_ok-matches.matches)) c.verify_request.result c.in-Verify.is c.in_ok-matches.ensures.taken
+    c.in_ok-matches.ensures.texts c.verify_request.ensures.ok c.verify_request.ensures.usage).ok
+
+pub returns-in-Verify-clause-usage : goal.returns-in-Verify-clause-usage
+returns-in-Verify-clause-usage c =
+    (asks_verify c.args.verb (map string_bytes c.args.words.now)
+    (first_value (found_of c.in_ok-matches.matches)) c.verify_request.result c.in-Verify.is c.in_ok-matches.ensures.taken
+    c.in_ok-matches.ensures.texts c.verify_request.ensures.ok c.verify_request.ensures.usage).usage
+
+pub returns-in-Replay-clause-ok : goal.returns-in-Replay-clause-ok
+returns-in-Replay-clause-ok c =
+    (asks_replay c.args.verb (map string_bytes c.args.words.now)
+    (first_value (found_of c.in_ok-matches.matches)) c.replay_request.result c.in-Replay.is c.in_ok-matches.ensures.taken
+    c.in_ok-matches.ensures.texts c.replay_request.ensures.ok c.replay_request.ensures.usage).ok
+
+pub returns-in-Replay-clause-usage : goal.returns-in-Replay-clause-usage
+returns-in-Replay-clause-usage c =
+    (asks_replay c.args.verb (map string_bytes c.args.words.now)
+    (first_value (found_of c.in_ok-matches.matches)) c.replay_request.result c.in-Replay.is c.in_ok-matches.ensures.taken
+    c.in_ok-matches.ensures.texts c.replay_request.ensures.ok c.replay_request.ensures.usage).usage
+
+pub returns-in-Print-clause-ok : goal.returns-in-Print-clause-ok
+returns-in-Print-clause-ok c =
+    asks_print c.args.verb (map string_bytes c.args.words.now)
+    (first_value (found_of c.in_ok-matches.matches)) c.print_request.result c.in-Print.is c.in_ok-matches.ensures.taken
+    c.in_ok-matches.ensures.texts c.print_request.ensures.ok
+
+pub returns-clause-ok : goal.returns-clause-ok
+returns-clause-ok c =
+    (asks_gen c.args.verb (map string_bytes c.args.words.now)
+    (first_value (found_of c.in_ok-matches.matches)) c.gen_request.result c.in-Gen.is c.in_ok-matches.ensures.taken
+    c.in_ok-matches.ensures.texts c.gen_request.ensures.ok c.gen_request.ensures.usage).ok
+
+pub returns-clause-usage : goal.returns-clause-usage
+returns-clause-usage c =
+    (asks_gen c.args.verb (map string_bytes c.args.words.now)
+    (first_value (found_of c.in_ok-matches.matches)) c.gen_request.result c.in-Gen.is c.in_ok-matches.ensures.taken
+    c.in_ok-matches.ensures.texts c.gen_request.ensures.ok c.gen_request.ensures.usage).usage

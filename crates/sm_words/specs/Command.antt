@@ -1,0 +1,62 @@
+-- What `clap` knows of each command. Public clauses cite it.
+use Rattle.std.specs.Prelude.{true, Some, codes}
+use Rattle.clap.specs.Simple.{App, new_app, new_rule, with_rule}
+use Rattle.clap.specs.Walk.{Rule, Text}
+use Rattle.clap.specs.declared.builder.action.ArgAction.TheVariants.{Set}
+use Rattle.sm_words.specs.declared.command.Verb.{Verb}
+use Rattle.sm_words.specs.declared.command.Verb.TheVariants.{Check, Verify, Replay, Print, Gen}
+
+-- a word that has to be there
+abbrev pub required_word : Text → Rule
+required_word id = record (new_rule id) { required = true; action = Some Set }
+
+-- an option with a value
+abbrev pub option_word : Text → Rule
+option_word id = record (new_rule id) { long = Some id; action = Some Set }
+
+-- two words that have to be there, and the options of a search
+abbrev pub search_command : Text → Text → Text → App
+search_command word first second =
+    with_rule (with_rule (with_rule (with_rule (with_rule (new_app word)
+    (required_word first))
+    (required_word second))
+    (option_word (codes "steps")))
+    (option_word (codes "turns")))
+    (option_word (codes "workers"))
+
+-- check TASK PROOF [--steps N] [--turns N] [--workers N]
+unfoldable pub check_command : App
+check_command = search_command (codes "check") (codes "TASK") (codes "PROOF")
+
+-- verify TASK PROOF [--workers N]
+unfoldable pub verify_command : App
+verify_command =
+    with_rule (with_rule (with_rule (new_app (codes "verify"))
+    (required_word (codes "TASK")))
+    (required_word (codes "PROOF")))
+    (option_word (codes "workers"))
+
+-- replay TASK INPUT [--turns N] [--workers N]
+unfoldable pub replay_command : App
+replay_command =
+    with_rule (with_rule (with_rule (with_rule (new_app (codes "replay"))
+    (required_word (codes "TASK")))
+    (required_word (codes "INPUT")))
+    (option_word (codes "turns")))
+    (option_word (codes "workers"))
+
+-- print TASK
+unfoldable pub print_command : App
+print_command = with_rule (new_app (codes "print")) (required_word (codes "TASK"))
+
+-- gen SEED SIZE [--steps N] [--turns N] [--workers N]
+unfoldable pub gen_command : App
+gen_command = search_command (codes "gen") (codes "SEED") (codes "SIZE")
+
+-- what `clap` knows of a command
+abbrev pub command_of : Verb → App
+command_of Check = check_command
+command_of Verify = verify_command
+command_of Replay = replay_command
+command_of Print = print_command
+command_of Gen = gen_command

@@ -1,0 +1,54 @@
+-- Numbers among the words: one to ten digits, with a value in a range. Public clauses cite it.
+use Rattle.std.specs.Prelude.{◌≡◌, ◌⊎◌, ◌&&◌, ℕ, Bool, nat_le, length, Option, Some, None}
+use Rattle.std.specs.Prelude.{if◌then◌else◌, option_and_then, option_map}
+use Rattle.std.specs.Str.{all_ascii_digits}
+use Rattle.std.specs.Str.Parse.{digits_value}
+use Rattle.clap.specs.Walk.{Text}
+use Rattle.sm_words.specs.declared.effort.Effort.{Effort}
+
+-- whether a text is one to ten digits
+abbrev pub is_number : Text → Bool
+is_number text = all_ascii_digits text && (nat_le 1 (length text) && nat_le (length text) 10)
+
+-- the number that a text spells, where its value lies between the least and the greatest
+abbrev pub spelled_number : ℕ → ℕ → Text → Option ℕ
+spelled_number least most text =
+    let n = digits_value 10 text in
+    if is_number text && (nat_le least n && nat_le n most) then Some n else None
+
+-- the number of an option: where the option isn't there, its default
+abbrev pub number_or : ℕ → ℕ → ℕ → Option Text → Option ℕ
+number_or default least most None = Some default
+number_or default least most (Some text) = spelled_number least most text
+
+-- how many steps a walk may take, by the option's text
+abbrev pub steps_by : Option Text → Option ℕ
+steps_by = number_or 100000 1 10000000
+
+-- how many turns a loop may take
+abbrev pub turns_by : Option Text → Option ℕ
+turns_by = number_or 10000 1 1000000
+
+-- how many workers run jobs
+abbrev pub workers_by : Option Text → Option ℕ
+workers_by = number_or 1 1 64
+
+-- one of the numbers isn't one, or isn't in its range
+abbrev pub HasBadNumber : Option Text → Option Text → Type 0
+HasBadNumber turns workers = (turns_by turns ≡ None) ⊎ (workers_by workers ≡ None)
+
+-- the seed of a task that is made up, by the word's text
+abbrev pub seed_by : Option Text → Option ℕ
+seed_by = option_and_then (spelled_number 0 2147483647)
+
+-- its size
+abbrev pub size_by : Option Text → Option ℕ
+size_by = option_and_then (spelled_number 1 190)
+
+-- how much a search may do, by the texts of its options
+abbrev pub effort_by : Option Text → Option Text → Option Text → Option Effort
+effort_by steps turns workers =
+    option_and_then (λ (s : ℕ).
+    option_and_then (λ (n : ℕ).
+    option_map (λ (w : ℕ). record { steps = s; turns = n; workers = w }) (workers_by workers))
+    (turns_by turns)) (steps_by steps)

@@ -1,0 +1,26 @@
+-- What requests stand for. Public clauses cite it.
+use Rattle.std.specs.Prelude.{◌<◌, ◌≤◌}
+use Rattle.sm_words.specs.Words.{Asked, check, verify, replay, print, gen}
+use Rattle.sm_words.specs.declared.effort.Effort.{Effort}
+use Rattle.sm_words.specs.declared.words.Request.{Request}
+use Rattle.sm_words.specs.declared.words.Request.TheVariants.{Check, Verify, Replay, Print, Gen}
+
+-- what a request asks for
+abbrev pub asked_in : Request → Asked
+asked_in (Check task proof effort) = check task.now proof.now effort
+asked_in (Verify task proof workers) = verify task.now proof.now workers
+asked_in (Replay task input turns) = replay task.now input.now turns
+asked_in (Print task) = print task.now
+asked_in (Gen seed size effort) = gen seed size effort
+
+-- one to 64 workers
+abbrev pub HasWorkers : Effort → Type 0
+HasWorkers effort = (0 < effort.workers) × (effort.workers ≤ 64)
+
+-- one to 64 workers, where there are workers; and the size is one of a task that is made up
+abbrev pub IsWithin : Request → Type 0
+IsWithin (Check task proof effort) = HasWorkers effort
+IsWithin (Verify task proof workers) = (0 < workers) × (workers ≤ 64)
+IsWithin (Replay task input turns) = Unit {0}
+IsWithin (Print task) = Unit {0}
+IsWithin (Gen seed size effort) = (1 ≤ size) × (size ≤ 190) × HasWorkers effort

@@ -1,0 +1,178 @@
+-- The words that the program is given, without its name: a command, and what `clap` says that this
+-- command takes. Public clauses cite it.
+use Rattle.std.specs.Prelude.{◌≡◌, ◌≢◌, ◌⊎◌, ℕ, true, List, [], ◌∷◌, Option, Some, None, is_some}
+use Rattle.std.specs.Prelude.{codes, if◌then◌else◌, option_and_then, option_map}
+use Rattle.std.specs.Str.{bytes_eq}
+use Rattle.clap.specs.Faults.{fault_of}
+use Rattle.clap.specs.Kinds.{Kinds}
+use Rattle.clap.specs.Simple.{matches_of}
+use Rattle.clap.specs.Walk.{Text, first_of}
+use Rattle.sm_words.specs.Command.{command_of}
+use Rattle.sm_words.specs.Numbers.{turns_by, workers_by, HasBadNumber, effort_by, seed_by, size_by}
+use Rattle.sm_words.specs.declared.command.Verb.{Verb}
+use Rattle.sm_words.specs.declared.effort.Effort.{Effort}
+use Rattle.sm_words.specs.declared.command.Verb.TheVariants.{Check, Verify, Replay, Print, Gen}
+
+-- the words that the program was given
+abbrev pub Words : Type 0
+Words = List Text
+
+-- the command that a word names
+abbrev pub verb_of : Text → Option Verb
+verb_of word =
+    if bytes_eq word (codes "check") then Some Check else
+    (if bytes_eq word (codes "verify") then Some Verify else
+    (if bytes_eq word (codes "replay") then Some Replay else
+    (if bytes_eq word (codes "print") then Some Print else
+    (if bytes_eq word (codes "gen") then Some Gen else None))))
+
+-- what `clap` finds wrong with the words of a command: nothing where the command takes them
+unfoldable pub word_faults : Verb → Words → Kinds
+word_faults verb words = fault_of (command_of verb) words
+
+-- the text that the words give for an argument of a command
+unfoldable pub argument_text : Verb → Text → Words → Option Text
+argument_text verb id words = first_of id (matches_of (command_of verb) words)
+
+-- how much a search may do, by the words of a command
+abbrev pub effort_in : Verb → Words → Option Effort
+effort_in verb words =
+    effort_by (argument_text verb (codes "steps") words)
+    (argument_text verb (codes "turns") words) (argument_text verb (codes "workers") words)
+
+-- a number among the words of a command isn't one, or isn't in its range; or the file of the proof
+-- that is to be written is that of the task
+abbrev pub HasBadOption : Verb → Words → Type 0
+HasBadOption Check words =
+    (argument_text Check (codes "TASK") words ≡ argument_text Check (codes "PROOF") words)
+    ⊎ (effort_in Check words ≡ None)
+HasBadOption Verify words = workers_by (argument_text Verify (codes "workers") words) ≡ None
+HasBadOption Replay words =
+    HasBadNumber (argument_text Replay (codes "turns") words)
+    (argument_text Replay (codes "workers") words)
+HasBadOption Print words = ⊥
+HasBadOption Gen words =
+    (seed_by (argument_text Gen (codes "SEED") words) ≡ None)
+    ⊎ ((size_by (argument_text Gen (codes "SIZE") words) ≡ None) ⊎ (effort_in Gen words ≡ None))
+
+-- the words are none of the command's: `clap` refuses them, or a number isn't one
+abbrev pub IsRefused : Option Verb → Words → Type 0
+IsRefused None words = Unit {0}
+IsRefused (Some verb) words = (word_faults verb words ≢ []) ⊎ HasBadOption verb words
+
+-- no command takes the words
+abbrev pub IsUsage : Words → Type 0
+IsUsage [] = Unit {0}
+IsUsage (word ∷ rest) = IsRefused (verb_of word) (word ∷ rest)
+
+-- what is asked for
+pub data Asked : Type 0 where
+  -- the decision on a task's file, and its proof in another file
+  check : List ℕ → List ℕ → Effort → Asked
+  -- whether the file of a proof passes for a task's file, with a number of workers
+  verify : List ℕ → List ℕ → ℕ → Asked
+  -- what a task's programs do from an input's file
+  replay : List ℕ → List ℕ → ℕ → Asked
+  -- the canonical text of a task's file
+  print : List ℕ → Asked
+  -- the decision on the task that a seed and a size make
+  gen : ℕ → ℕ → Effort → Asked
+
+-- the file of the task
+abbrev pub task_file : Asked → Option Text
+task_file (check task proof effort) = Some task
+task_file (verify task proof workers) = Some task
+task_file (replay task input turns) = Some task
+task_file (print task) = Some task
+task_file (gen seed size effort) = None
+
+-- what `check` asks for, by the texts of its arguments
+abbrev pub check_by : Option Text → Option Text → Option Effort → Option Asked
+check_by task proof effort =
+    option_and_then (λ (t : Text).
+    option_and_then (λ (p : Text).
+    if bytes_eq t p then None else option_map (λ (e : Effort). check t p e) effort) proof) task
+
+-- what `verify` asks for
+abbrev pub verify_by : Option Text → Option Text → Option Text → Option Asked
+verify_by task proof workers =
+    option_and_then (λ (t : Text).
+    option_and_then (λ (p : Text).
+    option_map (λ (w : ℕ). verify t p w) (workers_by workers)) proof) task
+
+-- what `replay` asks for; its workers change nothing
+abbrev pub replay_by : Option Text → Option Text → Option Text → Option Text → Option Asked
+replay_by task input turns workers =
+    option_and_then (λ (t : Text).
+    option_and_then (λ (i : Text).
+    option_and_then (λ (n : ℕ).
+    option_map (λ (w : ℕ). replay t i n) (workers_by workers)) (turns_by turns)) input) task
+
+-- what `print` asks for
+abbrev pub print_by : Option Text → Option Asked
+print_by task = option_map (λ (t : Text). print t) task
+
+-- what `gen` asks for
+abbrev pub gen_by : Option Text → Option Text → Option Effort → Option Asked
+gen_by seed size effort =
+    option_and_then (λ (s : ℕ).
+    option_and_then (λ (n : ℕ).
+    option_map (λ (e : Effort). gen s n e) effort) (size_by size)) (seed_by seed)
+
+-- what a command asks for by its words
+abbrev pub asked_by : Verb → Words → Option Asked
+asked_by Check words =
+    check_by (argument_text Check (codes "TASK") words)
+    (argument_text Check (codes "PROOF") words) (effort_in Check words)
+asked_by Verify words =
+    verify_by (argument_text Verify (codes "TASK") words)
+    (argument_text Verify (codes "PROOF") words) (argument_text Verify (codes "workers") words)
+asked_by Replay words =
+    replay_by (argument_text Replay (codes "TASK") words)
+    (argument_text Replay (codes "INPUT") words)
+    (argument_text Replay (codes "turns") words) (argument_text Replay (codes "workers") words)
+asked_by Print words = print_by (argument_text Print (codes "TASK") words)
+asked_by Gen words =
+    gen_by (argument_text Gen (codes "SEED") words) (argument_text Gen (codes "SIZE") words)
+    (effort_in Gen words)
+
+-- the value where there is no fault
+abbrev pub unless : {X Y : Type 0} → List X → Option Y → Option Y
+unless [] value = value
+unless (fault ∷ rest) value = None
+
+-- each word that a command requires is given
+abbrev pub HasRequired : Verb → (Text → Option Text) → Type 0
+HasRequired Check given =
+    (is_some (given (codes "TASK")) ≡ true) × (is_some (given (codes "PROOF")) ≡ true)
+HasRequired Verify given =
+    (is_some (given (codes "TASK")) ≡ true) × (is_some (given (codes "PROOF")) ≡ true)
+HasRequired Replay given =
+    (is_some (given (codes "TASK")) ≡ true) × (is_some (given (codes "INPUT")) ≡ true)
+HasRequired Print given = is_some (given (codes "TASK")) ≡ true
+HasRequired Gen given =
+    (is_some (given (codes "SEED")) ≡ true) × (is_some (given (codes "SIZE")) ≡ true)
+
+-- what the words ask for, where the command takes them
+abbrev pub asked_where : Option Verb → Words → Option Asked
+asked_where None words = None
+asked_where (Some verb) words = unless (word_faults verb words) (asked_by verb words)
+
+-- what the words ask for; nothing where no command takes them
+abbrev pub asked : Words → Option Asked
+asked [] = None
+asked (word ∷ rest) = asked_where (verb_of word) (word ∷ rest)
+
+-- the line on words that no command takes
+abbrev pub usage_line_of : Option Verb → List ℕ
+usage_line_of None = codes "Usage\n"
+usage_line_of (Some Check) = codes "Usage check\n"
+usage_line_of (Some Verify) = codes "Usage verify\n"
+usage_line_of (Some Replay) = codes "Usage replay\n"
+usage_line_of (Some Print) = codes "Usage print\n"
+usage_line_of (Some Gen) = codes "Usage gen\n"
+
+-- the line on words that no command takes, by the first of them
+abbrev pub usage_line : Words → List ℕ
+usage_line [] = codes "Usage\n"
+usage_line (word ∷ rest) = usage_line_of (verb_of word)

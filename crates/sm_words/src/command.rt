@@ -1,0 +1,119 @@
+// What `clap` knows of the commands.
+ghost use Rattle.std.specs.Prelude.{◌≡◌, false, codes, IfOk};
+ghost use Rattle.clap.specs.Words.{app_of, rule_of, with_rule};
+ghost use Rattle.sm_words.specs.Command.{check_command, command_of, gen_command, option_word};
+ghost use Rattle.sm_words.specs.Command.{print_command, replay_command, required_word};
+ghost use Rattle.sm_words.specs.Command.{search_command, verify_command};
+
+use clap::{Arg, ArgAction, Command};
+use std::alloc::{AllocError, Global};
+
+/// The commands.
+#[derive(Clone, Copy, Debug, PartialEq, Eq)]
+pub enum Verb {
+    Check,
+    Verify,
+    Replay,
+    Print,
+    Gen,
+}
+
+/// What `clap` knows of a command.
+pub fn command_of<'a>(alloc: Global, verb: Verb) -> Result<Command<'a>, AllocError>
+    ensures { IfOk result (λ c. app_of c ≡ command_of verb) }
+{
+    match verb {
+        Verb::Check => check_command(alloc),
+        Verb::Verify => verify_command(alloc),
+        Verb::Replay => replay_command(alloc),
+        Verb::Print => print_command(alloc),
+        Verb::Gen => gen_command(alloc),
+    }
+}
+
+// A word that has to be there.
+fn required_word<'a>(alloc: Global, id: &'a str) -> Arg<'a>
+    ensures rule { rule_of result ≡ required_word id.entry.now }
+    ensures local { result.global ≡ false }
+{
+    Arg::new(alloc, id).required(true).action(ArgAction::Set)
+}
+
+// An option with a value.
+fn option_word<'a>(alloc: Global, id: &'a str) -> Arg<'a>
+    ensures rule { rule_of result ≡ option_word id.entry.now }
+    ensures local { result.global ≡ false }
+{
+    Arg::new(alloc, id).long(id).action(ArgAction::Set)
+}
+
+#[tactic(auto, unfolding(crate::specs::Command::check_command))]
+fn check_command<'a>(alloc: Global) -> Result<Command<'a>, AllocError>
+    ensures { IfOk result (λ c. app_of c ≡ check_command) }
+{
+    search_command(alloc, "check", "TASK", "PROOF")
+}
+
+#[tactic(auto, unfolding(crate::specs::Command::gen_command))]
+fn gen_command<'a>(alloc: Global) -> Result<Command<'a>, AllocError>
+    ensures { IfOk result (λ c. app_of c ≡ gen_command) }
+{
+    search_command(alloc, "gen", "SEED", "SIZE")
+}
+
+// A command with two words that have to be there, and with the options of a search.
+fn search_command<'a>(
+    alloc: Global,
+    word: &'a str,
+    first: &'a str,
+    second: &'a str,
+) -> Result<Command<'a>, AllocError>
+    ensures { IfOk result (λ c.
+        app_of c ≡ search_command word.entry.now first.entry.now second.entry.now) }
+{
+    let command = Command::new(alloc, word)
+        .arg(required_word(alloc, first))?
+        .arg(required_word(alloc, second))?;
+    with_effort(alloc, command)
+}
+
+// The command with the options of a search.
+fn with_effort<'a>(alloc: Global, command: Command<'a>) -> Result<Command<'a>, AllocError>
+    ensures { IfOk result (λ c. app_of c ≡
+        with_rule (with_rule (with_rule (app_of command.entry)
+        (option_word (codes "steps"))) (option_word (codes "turns")))
+        (option_word (codes "workers"))) }
+{
+    command
+        .arg(option_word(alloc, "steps"))?
+        .arg(option_word(alloc, "turns"))?
+        .arg(option_word(alloc, "workers"))
+}
+
+#[tactic(auto, unfolding(crate::specs::Command::verify_command))]
+fn verify_command<'a>(alloc: Global) -> Result<Command<'a>, AllocError>
+    ensures { IfOk result (λ c. app_of c ≡ verify_command) }
+{
+    Command::new(alloc, "verify")
+        .arg(required_word(alloc, "TASK"))?
+        .arg(required_word(alloc, "PROOF"))?
+        .arg(option_word(alloc, "workers"))
+}
+
+#[tactic(auto, unfolding(crate::specs::Command::replay_command))]
+fn replay_command<'a>(alloc: Global) -> Result<Command<'a>, AllocError>
+    ensures { IfOk result (λ c. app_of c ≡ replay_command) }
+{
+    Command::new(alloc, "replay")
+        .arg(required_word(alloc, "TASK"))?
+        .arg(required_word(alloc, "INPUT"))?
+        .arg(option_word(alloc, "turns"))?
+        .arg(option_word(alloc, "workers"))
+}
+
+#[tactic(auto, unfolding(crate::specs::Command::print_command))]
+fn print_command<'a>(alloc: Global) -> Result<Command<'a>, AllocError>
+    ensures { IfOk result (λ c. app_of c ≡ print_command) }
+{
+    Command::new(alloc, "print").arg(required_word(alloc, "TASK"))
+}

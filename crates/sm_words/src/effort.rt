@@ -1,0 +1,12 @@
+// How much a search may do.
+
+/// How much a search may do, and by how many workers its jobs are run.
+#[derive(Clone, Copy, Debug, PartialEq, Eq)]
+pub struct Effort {
+    /// The most steps of one walk.
+    pub steps: u64,
+    /// The most turns of a loop in a trial.
+    pub turns: u64,
+    /// From 1 to 64.
+    pub workers: u32,
+}

@@ -1,0 +1,21 @@
+//! What the words that the program is given ask for.
+//!
+//! - `read_words` gives what the words ask for, as `clap`'s own definitions of the five commands and
+//!   the rule for numbers have it, with 1 to 64 workers and a size from 1 to 190. It answers `Usage`
+//!   only where no command takes the words.
+//! - `usage_line` is the line on words that no command takes, and `line` one of any words.
+//!
+//! It opens no file: these are named as the words name them. Read `specs/Words.antt` first, then
+//! `specs/Numbers.antt`, `specs/Command.antt` and `specs/Lines.antt`; `specs/Views.antt` says what
+//! a request stands for.
+#![tactic(auto)]
+
+mod command;
+mod effort;
+mod lines;
+mod numbers;
+mod words;
+
+pub use effort::Effort;
+pub use lines::line;
+pub use words::{Request, WordsError, read_words, usage_line};
