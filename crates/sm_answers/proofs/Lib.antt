@@ -1,0 +1,5 @@
+pub mod Statuses
+pub mod Answering
+pub mod Verified
+pub mod AnswerUnique
+pub mod ReadingsLemmas

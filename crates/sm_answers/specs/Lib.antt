@@ -1,0 +1,9 @@
+pub mod Verify
+pub mod Replay
+pub mod File
+pub mod Readings
+pub mod ProofFile
+pub mod Lines
+pub mod Status
+pub mod Exit
+pub mod Views

@@ -1,0 +1,341 @@
+// The lines that are printed.
+ghost use Rattle.std.specs.Prelude.{◌≡◌, ◌≢◌, [], ◌∷◌, ◌++◌, Err, codes, decimal, IfOk, OnOk};
+ghost use Rattle.std.specs.Fmt.{signed_decimal};
+ghost use Rattle.std.specs.String.{string_bytes};
+ghost use Rattle.sm_syntax.specs.claim.ConflictFree.{copy_of};
+ghost use Rattle.sm_syntax.specs.trees.Copies.{letter_of};
+ghost use Rattle.sm_words.specs.Lines.{line_of};
+ghost use Rattle.sm_answers.specs.Lines.{name_text, list_word, line_at_hole, line_at_place};
+ghost use Rattle.sm_answers.specs.Lines.{refusal_line, cell_text, goal_line, input_line};
+ghost use Rattle.sm_answers.specs.Lines.{summary_line, too_many_line, trial_line, op_word};
+ghost use Rattle.sm_answers.specs.Lines.{verdict_line, line_at_name, input_refusal_line};
+
+use itoa::Buffer;
+use sm_num::Op;
+use sm_replay::{InputError, ReplayError, Verdict};
+use sm_syntax::{CopyName, Name, NameTable};
+use sm_task::TaskError;
+use sm_words::line;
+use std::alloc::{AllocError, Global};
+
+fn name_text(names: &NameTable, name: Name) -> &str
+    ensures { result.now ≡ name_text names.now name.0 }
+{
+    if (name.0 as usize) < names.len() {
+        names.text(name)
+    } else {
+        ""
+    }
+}
+
+fn list_word(list: u8) -> &'static str
+    ensures { result.now ≡ list_word list }
+{
+    match list {
+        0 => "base",
+        1 => "variant_a",
+        2 => "variant_b",
+        3 => "candidate",
+        _ => "shared",
+    }
+}
+
+// What is refused at a place.
+fn at_place(alloc: Global, kind: &str, place: u64) -> Result<Vec<u8>, AllocError>
+    ensures { IfOk result (λ text. text.items ≡ line_at_place kind.now place) }
+{
+    let mut buffer = Buffer::new();
+    line(alloc, "Refused", &[kind, buffer.format(place)])
+}
+
+// What is refused at a hole of a list, by the list's number.
+fn at_hole(alloc: Global, kind: &str, list: u8, hole: u32) -> Result<Vec<u8>, AllocError>
+    ensures { IfOk result (λ text. text.items ≡ line_at_hole kind.now list hole) }
+{
+    at_hole_of(alloc, kind, list_word(list), hole)
+}
+
+// The same, by the list's word.
+fn at_hole_of(alloc: Global, kind: &str, list: &str, hole: u32) -> Result<Vec<u8>, AllocError>
+    ensures { IfOk result (λ text.
+        text.items ≡ line_of (codes "Refused") (kind.now ∷ list.now ∷ decimal hole ∷ [])) }
+{
+    let mut buffer = Buffer::new();
+    line(alloc, "Refused", &[kind, list, buffer.format(hole)])
+}
+
+// What is refused at a name.
+fn at_name(alloc: Global, kind: &str, names: &NameTable, name: Name) -> Result<Vec<u8>, AllocError>
+    ensures { IfOk result (λ text. text.items ≡ line_at_name kind.now names.now name) }
+{
+    line(alloc, "Refused", &[kind, name_text(names, name)])
+}
+
+/// The line on a text that is no task, by the names of the text.
+pub fn refusal_line(
+    alloc: Global,
+    names: &NameTable,
+    error: TaskError,
+) -> Result<Vec<u8>, AllocError>
+    requires { error ≢ TaskError.Memory }
+    ensures { IfOk result (λ text. text.items ≡ refusal_line names.now error) }
+{
+    match error {
+        TaskError::BadByte { place } => at_place(alloc, "BadByte", place),
+        TaskError::WideNumber { place } => at_place(alloc, "WideNumber", place),
+        TaskError::BadToken { place } => at_place(alloc, "BadToken", place),
+        TaskError::Expected { place } => at_place(alloc, "Expected", place),
+        TaskError::Nested { place } => at_place(alloc, "Nested", place),
+        TaskError::MissingFilling { list, hole } => at_hole(alloc, "MissingFilling", list, hole),
+        TaskError::UnknownHole { list, hole } => at_hole(alloc, "UnknownHole", list, hole),
+        TaskError::DoubleHole { list, hole } => at_hole(alloc, "DoubleHole", list, hole),
+        TaskError::HoleInFilling { list, hole } => at_hole(alloc, "HoleInFilling", list, hole),
+        TaskError::UnknownName { name } => at_name(alloc, "UnknownName", names, name),
+        TaskError::WrongSort { name } => at_name(alloc, "WrongSort", names, name),
+        TaskError::DoubleName { name } => at_name(alloc, "DoubleName", names, name),
+        TaskError::TooDeep => line(alloc, "Refused", &["TooDeep"]),
+        TaskError::TooMany => line(alloc, "Refused", &["TooMany"]),
+        TaskError::Memory => unreachable!(),
+    }
+}
+
+/// The line on a goal of a node of the plan that isn't shown, by the word for the cause.
+pub fn goal_line(alloc: Global, cause: &str, node: u64, goal: u64) -> Result<Vec<u8>, AllocError>
+    ensures { IfOk result (λ text. text.items ≡ goal_line cause.now node goal []) }
+{
+    let mut place = Buffer::new();
+    let mut number = Buffer::new();
+    line(
+        alloc,
+        "Unknown",
+        &[cause, place.format(node), number.format(goal)],
+    )
+}
+
+/// The line on a goal whose walk leaves the range by an operation.
+pub fn coefficient_line(
+    alloc: Global,
+    node: u64,
+    goal: u64,
+    op: Op,
+    a: i128,
+    b: i128,
+) -> Result<Vec<u8>, AllocError>
+    ensures { IfOk result (λ text. text.items ≡ goal_line (codes "Coefficient") node goal
+        (op_word op ∷ signed_decimal a ∷ signed_decimal b ∷ [])) }
+{
+    let mut place = Buffer::new();
+    let mut number = Buffer::new();
+    let mut left = Buffer::new();
+    let mut right = Buffer::new();
+    line(
+        alloc,
+        "Unknown",
+        &[
+            "Coefficient",
+            place.format(node),
+            number.format(goal),
+            op_word(op),
+            left.format(a),
+            right.format(b),
+        ],
+    )
+}
+
+/// The line on a task whose plan is over its limits.
+pub fn too_many_line(alloc: Global) -> Result<Vec<u8>, AllocError>
+    ensures { IfOk result (λ text. text.items ≡ too_many_line) }
+{
+    line(alloc, "Unknown", &["TooMany"])
+}
+
+/// The line on a task that is made up, with how many holes each variant edits.
+pub fn summary_line(
+    alloc: Global,
+    seed: u32,
+    size: u16,
+    a: u64,
+    b: u64,
+) -> Result<Vec<u8>, AllocError>
+    ensures { IfOk result (λ text. text.items ≡ summary_line seed size a b) }
+{
+    let mut first = Buffer::new();
+    let mut second = Buffer::new();
+    let mut left = Buffer::new();
+    let mut right = Buffer::new();
+    line(
+        alloc,
+        "gen",
+        &[
+            first.format(seed),
+            second.format(size),
+            "a",
+            left.format(a),
+            "b",
+            right.format(b),
+        ],
+    )
+}
+
+// The text of a cell.
+fn cell_text(
+    alloc: Global,
+    names: &NameTable,
+    name: Name,
+    index: Option<i128>,
+) -> Result<String, AllocError>
+    ensures { IfOk result (λ text. string_bytes text ≡ cell_text names.now name index) }
+{
+    let mut text = String::from_str(alloc, name_text(names, name))?;
+    if let Some(i) = index {
+        let mut buffer = Buffer::new();
+        text.push_str("[")?;
+        text.push_str(buffer.format(i))?;
+        text.push_str("]")?;
+    }
+    Ok(text)
+}
+
+/// The line on a trial that violates, and where.
+pub fn trial_line(
+    alloc: Global,
+    names: &NameTable,
+    trial: u8,
+    name: Name,
+    index: Option<i128>,
+    clause: u8,
+) -> Result<Vec<u8>, AllocError>
+    ensures { IfOk result (λ text. text.items ≡ trial_line names.now trial name index clause) }
+{
+    let cell = cell_text(alloc, names, name, index)?;
+    let mut number = Buffer::new();
+    let mut part = Buffer::new();
+    line(
+        alloc,
+        "Conflict",
+        &[
+            "trial",
+            number.format(trial),
+            "cell",
+            cell.as_str(),
+            "clause",
+            part.format(clause),
+        ],
+    )
+}
+
+/// Puts the line with an input's text after a text.
+pub fn put_input_line(text: &mut Vec<u8>, input: &[u8]) -> Result<(), AllocError>
+    ensures { OnOk result (text.new.items ≡ text.old.items ++ input_line input.now) }
+{
+    text.extend_from_slice(b"input ")?;
+    text.extend_from_slice(input)?;
+    text.extend_from_slice(b"\n")?;
+    Ok(())
+}
+
+// The line on where an input violates.
+fn violation_line(
+    alloc: Global,
+    names: &NameTable,
+    name: Name,
+    index: Option<i128>,
+    clause: u8,
+) -> Result<Vec<u8>, AllocError>
+    ensures { IfOk result (λ text. text.items ≡ line_of (codes "Conflict")
+        (codes "cell" ∷ cell_text names.now name index ∷ codes "clause" ∷ decimal clause ∷ [])) }
+{
+    let cell = cell_text(alloc, names, name, index)?;
+    let mut part = Buffer::new();
+    line(
+        alloc,
+        "Conflict",
+        &["cell", cell.as_str(), "clause", part.format(clause)],
+    )
+}
+
+// The letter of a copy, by its number.
+fn letter(copy: u8) -> &'static str
+    ensures { result.now ≡ letter_of (copy_of copy) }
+{
+    CopyName::of_number(copy).letter()
+}
+
+fn op_word(op: Op) -> &'static str
+    ensures { result.now ≡ op_word op }
+{
+    match op {
+        Op::Add => "add",
+        Op::Sub => "sub",
+        Op::Mul => "mul",
+    }
+}
+
+// The line on an operation, by its word, that leaves 128 bits.
+fn beyond_line(
+    alloc: Global,
+    whose: &str,
+    op: &str,
+    a: i128,
+    b: i128,
+) -> Result<Vec<u8>, AllocError>
+    ensures { IfOk result (λ text. text.items ≡ line_of (codes "Beyond")
+        (whose.now ∷ op.now ∷ signed_decimal a ∷ signed_decimal b ∷ [])) }
+{
+    let mut left = Buffer::new();
+    let mut right = Buffer::new();
+    line(
+        alloc,
+        "Beyond",
+        &[whose, op, left.format(a), right.format(b)],
+    )
+}
+
+/// The line on what an input shows.
+pub fn verdict_line(
+    alloc: Global,
+    names: &NameTable,
+    verdict: Result<Verdict, ReplayError>,
+) -> Result<Vec<u8>, AllocError>
+    requires { verdict ≢ Err ReplayError.Memory }
+    ensures { IfOk result (λ text. text.items ≡ verdict_line names.now verdict) }
+{
+    match verdict {
+        Ok(Verdict::Holds) => line(alloc, "Holds", &[]),
+        Ok(Verdict::Unmet) => line(alloc, "Unmet", &[]),
+        Ok(
+            Verdict::Violates {
+                name,
+                index,
+                clause,
+            },
+        ) => violation_line(alloc, names, name, index, clause),
+        Err(ReplayError::OutOfTurns { copy }) => line(alloc, "OutOfTurns", &[letter(copy)]),
+        Err(ReplayError::Beyond { copy, op, a, b }) => {
+            beyond_line(alloc, letter(copy), op_word(op), a, b)
+        }
+        Err(ReplayError::BeyondAssumed { op, a, b }) => {
+            beyond_line(alloc, "assume", op_word(op), a, b)
+        },
+        Err(ReplayError::Memory) => unreachable!(),
+    }
+}
+
+/// The line on bytes that are no input.
+pub fn input_refusal_line(
+    alloc: Global,
+    names: &NameTable,
+    error: InputError,
+) -> Result<Vec<u8>, AllocError>
+    requires { error ≢ InputError.Memory }
+    ensures { IfOk result (λ text. text.items ≡ input_refusal_line names.now error) }
+{
+    match error {
+        InputError::BadJson => line(alloc, "Refused", &["BadJson"]),
+        InputError::NotObject => line(alloc, "Refused", &["NotObject"]),
+        InputError::UnknownKey => line(alloc, "Refused", &["UnknownKey"]),
+        InputError::BadValue { name } => at_name(alloc, "BadValue", names, name),
+        InputError::BadIndex { name } => at_name(alloc, "BadIndex", names, name),
+        InputError::Memory => unreachable!(),
+    }
+}
