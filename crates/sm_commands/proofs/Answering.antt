@@ -1,9 +1,6 @@
 -- What answers say: where Usage is one, and what Accepted promises.
-use Rattle.std.proofs.Common.{◌≡◌, ◌≢◌, ◌⊎◌, inl, inr, ℕ, List, Option, Some, None, Result, Ok, Err, IfOk, IfErr, refl, sym, subst, ◌∙◌}
-use Rattle.std.proofs.Common.{ap}
-use Rattle.sm_check.specs.Files.{FileAnswer, Judged, OverLong}
+use Rattle.std.proofs.Common.{◌≡◌, ◌≢◌, ◌⊎◌, inl, inr, ℕ, List, Option, Some, None, Result, IfOk, IfErr, refl, sym, subst, ◌∙◌}
 use Rattle.sm_io.specs.Files.{Known, WhereHeld}
-use Rattle.sm_proof.specs.Verdicts as proof
 use Rattle.sm_proof.specs.declared.word.Word.{Word}
 use Rattle.sm_houdini.specs.Outcomes as outcome
 use Rattle.sm_houdini.specs.Outcomes.{Outcome}
@@ -13,30 +10,24 @@ use Rattle.sm_syntax.specs.claim.ConflictFree.{ConflictFree}
 use Rattle.sm_syntax.specs.text.Parts.{Parts, task_of}
 use Rattle.sm_syntax.specs.text.Spells.{Spells}
 use Rattle.sm_commands.specs.Headline.{merge_file, IsSafeMerge}
-use Rattle.sm_commands.specs.Top.{Files, IsAnswerTo, AnswersCommand, AnswersRequest, AsksToVerify, Checks, Replays, Verifies}
+use Rattle.sm_commands.specs.Top.{Files, IsAnswerTo, AnswersCommand, AnswersRequest, AsksToVerify, Checks, Replays}
+use Rattle.sm_answers.specs.Verify.{Verifies, rejected_line, AnswersProof}
 use Rattle.sm_commands.specs.Check.{AnswersCheck, SaysOutcome}
-use Rattle.sm_commands.specs.Lines.{refusal_line}
 use Rattle.sm_commands.specs.ProofFile.{FailsToWrite}
-use Rattle.sm_commands.specs.File.{GivesTask, IsNoTask}
-use Rattle.sm_commands.specs.Status.{Says}
-use Rattle.sm_commands.specs.Replay.{ReplaysInput}
-use Rattle.sm_commands.specs.Exit.{ExitsWith}
-use Rattle.sm_commands.specs.Verify.{answer_status, rejected_line, AnswersProof}
-use Rattle.sm_commands.specs.Words.{Words, Asked, check, verify, replay, print, gen, asked, usage_line, IsUsage}
-use Rattle.sm_commands.specs.declared.effort.Effort.{Effort}
-use Rattle.sm_commands.specs.declared.exit.Exit.{Exit}
-use Rattle.sm_commands.specs.declared.exit.Exit.TheVariants as stopped
-use Rattle.sm_commands.specs.declared.status.Reply.{Reply}
-use Rattle.sm_commands.specs.declared.status.Status.{Status}
-use Rattle.sm_commands.specs.declared.status.Status.TheVariants.{Accepted, Refused, Usage, ReadFault, Memory, SinkFault}
-use Rattle.sm_syntax.specs.text.Symbols.{names_of}
-use Rattle.sm_task.specs.Errors.{IsRefusedWith}
-use Rattle.sm_task.specs.declared.error.TaskError.{TaskError}
-use Rattle.sm_task.specs.declared.error.TaskError.TheVariants as no_task
-use Rattle.sm_task.proofs.RefusalUnique.{task_or_refusal}
-use Rattle.sm_commands.proofs.Usage.{usage_asks_nothing}
-use Rattle.sm_commands.proofs.Statuses.{IsOfCommand, IsToCommand, without_task}
-use Rattle.sm_commands.proofs.Statuses.{check_to_command, gen_to_command, print_to_command, replay_to_command, verify_to_command}
+use Rattle.sm_answers.specs.File.{GivesTask}
+use Rattle.sm_answers.specs.Status.{Says}
+use Rattle.sm_answers.specs.Replay.{ReplaysInput}
+use Rattle.sm_answers.specs.Exit.{ExitsWith}
+use Rattle.sm_words.specs.Words.{Words, Asked, check, verify, replay, print, gen, asked, usage_line, IsUsage}
+use Rattle.sm_words.specs.declared.effort.Effort.{Effort}
+use Rattle.sm_answers.specs.declared.exit.Exit.{Exit}
+use Rattle.sm_answers.specs.declared.status.Reply.{Reply}
+use Rattle.sm_answers.specs.declared.status.Status.{Status}
+use Rattle.sm_answers.specs.declared.status.Status.TheVariants.{Accepted, Refused, Usage, ReadFault, Memory, SinkFault}
+use Rattle.sm_words.proofs.Usage.{usage_asks_nothing}
+use Rattle.sm_answers.proofs.Statuses.{IsOfCommand, IsToCommand, without_task, verify_to_command}
+use Rattle.sm_commands.proofs.Statuses.{check_to_command, gen_to_command, print_to_command, replay_to_command}
+use Rattle.sm_answers.proofs.Answering.{accepted_passes, fault_not_accepted, result_by}
 
 -- only what a search accepts is accepted, and is free of conflicts
 pub outcome_accepted : (t : Parts) (o : Outcome (ℕ × Verdict)) (status : Status) (text : List ℕ) → SaysOutcome t o status text
@@ -62,16 +53,6 @@ same_file file task e = cc
 
 no_file : (task : List ℕ) → (let o : Option (List ℕ) = None in o) ≡ Some task → ⊥
 no_file task e = cc
-
--- only a file that passes is accepted
-pub accepted_passes : (a : FileAnswer) → answer_status a ≡ Accepted → a ≡ Judged proof.Pass
-accepted_passes (Judged proof.Pass) e = refl
-accepted_passes (Judged (proof.Rejected line word)) e = cc
-accepted_passes OverLong e = cc
-
--- a read that failed isn't accepted
-pub fault_not_accepted : (status : Status) → status ≡ ReadFault → status ≡ Accepted → ⊥
-fault_not_accepted status e f = cc
 
 -- a task with a proof that is accepted is free of conflicts
 proof_accepts : (t : Parts) (file : Known) (before now : ℕ) (status : Status) (text : List ℕ)
@@ -192,18 +173,6 @@ pub answers_usage : (words : Words) (files : Files) (before now : ℕ) → IsUsa
 answers_usage words files before now refused quiet status text says =
     rw (usage_asks_nothing words refused) (record { refused = refused; quiet = quiet; says = says })
 
--- where all answers of one kind are of another, so are those at which a call stops
-pub stops_by : (Gives Takes : Status → List ℕ → Type 0) → ((status : Status) (text : List ℕ) → Gives status text → Takes status text)
-    → (stop : Exit) → ExitsWith Gives stop → ExitsWith Takes stop
-stops_by Gives Takes f (stopped.Answer r) h = f r.status r.text.items h
-stops_by Gives Takes f stopped.Memory h = tt
-
-pub result_by : (Gives Takes : Status → List ℕ → Type 0) → ((status : Status) (text : List ℕ) → Gives status text → Takes status text)
-    → (r : Result Reply Exit) → IfOk r (λ (p : Reply). Gives p.status p.text.items) → IfErr r (ExitsWith Gives)
-    → IfOk r (λ (p : Reply). Takes p.status p.text.items) × IfErr r (ExitsWith Takes)
-result_by Gives Takes f (Ok p) ok stop = (f p.status p.text.items ok, tt)
-result_by Gives Takes f (Err e) ok stop = (tt, stops_by Gives Takes f e stop)
-
 -- a task that the first file gives, with what is answered to it and the other file
 replays_task : (file input other : Known) (turns before between now : ℕ) (t : Parts) → GivesTask file before between t → other ≡ input
     → (status : Status) (text : List ℕ) → ReplaysInput t other turns between now status text
@@ -219,29 +188,3 @@ pub replayed_by : (file input other : Known) (turns before between now : ℕ) (t
 replayed_by file input other turns before between now t gives same r ok stop =
     result_by (ReplaysInput t other turns between now) (Replays file input turns before now)
     (replays_task file input other turns before between now t gives same) r ok stop
-
--- a task that the first file gives, with what is answered to it and a proof's file
-verifies_task : (file proof other : Known) (before between now : ℕ) (t : Parts) → GivesTask file before between t → other ≡ proof
-    → (status : Status) (text : List ℕ) → AnswersProof t other between now status text → Verifies file proof before now status text
-verifies_task file proof other before between now t gives same status text a =
-    inr (record { task = t; between = between; gives = gives; answers = rw (← same) a })
-
-pub verified_by : (file proof other : Known) (before between now : ℕ) (t : Parts) → GivesTask file before between t
-    → other ≡ proof → (r : Result Reply Exit) → IfOk r (λ (p : Reply). AnswersProof t other between now p.status p.text.items)
-    → IfErr r (ExitsWith (AnswersProof t other between now)) →
-    IfOk r (λ (p : Reply). Verifies file proof before now p.status p.text.items) × IfErr r
-    (ExitsWith (Verifies file proof before now))
-verified_by file proof other before between now t gives same r ok stop =
-    result_by (AnswersProof t other between now) (Verifies file proof before now)
-    (verifies_task file proof other before between now t gives same) r ok stop
-
--- bytes that are refused with an error are no task for it
-pub is_no_task : (bytes : List ℕ) (e : TaskError) (names : List (List ℕ)) (text : List ℕ) → e ≢ no_task.Memory → IsRefusedWith bytes e
-    → names ≡ names_of bytes → text ≡ refusal_line names e → IsNoTask bytes Refused text
-is_no_task bytes e names text some first same line = record {
-  error = e;
-  cause = some;
-  first = first;
-  spells_none = λ t s. task_or_refusal bytes t e s first;
-  says = record { ended = refl; printed = line ∙ ap (λ (ns : List (List ℕ)). refusal_line ns e) same };
-}

@@ -18,20 +18,20 @@ use Rattle.sm_commands.specs.Headline.{IsUnsafeMerge, IsViolatedFrom, ShowsInput
 use Rattle.sm_houdini.specs.Outcomes as outcome
 use Rattle.sm_houdini.specs.Outcomes.{Outcome, IsOutcome}
 use Rattle.sm_houdini.proofs.OutcomeLemmas.{conflict_least}
-use Rattle.sm_commands.specs.Top.{Files, IsAnswerTo, AnswersCommand, Checks, Prints, Replays, Verifies}
+use Rattle.sm_commands.specs.Top.{Files, IsAnswerTo, AnswersCommand, Checks, Prints, Replays}
+use Rattle.sm_answers.specs.Verify.{Verifies, AnswersProof}
 use Rattle.sm_commands.specs.Check.{AnswersCheck, IsInputText, SaysOutcome}
-use Rattle.sm_commands.specs.Lines.{input_line, trial_line}
+use Rattle.sm_answers.specs.Lines.{input_line, trial_line}
 use Rattle.sm_commands.specs.ProofFile.{FailsToWrite}
-use Rattle.sm_commands.specs.File.{GivesTask}
-use Rattle.sm_commands.specs.Replay.{verdict_status, GivesInput, GivesNoInput, ReplaysInput}
-use Rattle.sm_commands.specs.Verify.{AnswersProof}
-use Rattle.sm_commands.specs.Words.{Words, Asked, check, verify, replay, print, gen, asked, task_file}
-use Rattle.sm_commands.specs.declared.effort.Effort.{Effort}
-use Rattle.sm_commands.specs.declared.status.Status.{Status}
-use Rattle.sm_commands.specs.declared.status.Status.TheVariants.{Conflict}
+use Rattle.sm_answers.specs.File.{GivesTask}
+use Rattle.sm_answers.specs.Replay.{verdict_status, GivesInput, GivesNoInput, ReplaysInput}
+use Rattle.sm_words.specs.Words.{Words, Asked, check, verify, replay, print, gen, asked, task_file}
+use Rattle.sm_words.specs.declared.effort.Effort.{Effort}
+use Rattle.sm_answers.specs.declared.status.Status.{Status}
+use Rattle.sm_answers.specs.declared.status.Status.TheVariants.{Conflict}
 use Rattle.sm_replay.proofs.ViolationsSound.{violation_conflicts}
 use Rattle.sm_replay.proofs.VerdictSound.{breaks_violates}
-use Rattle.sm_commands.proofs.Statuses.{answered_no_conflict, without_task}
+use Rattle.sm_answers.proofs.Statuses.{answered_no_conflict, without_task}
 
 -- an input that is refused shows no conflict
 pub no_input_no_conflict : (t : Parts) (file : Known) (before now : ℕ) (status : Status) (text : List ℕ)

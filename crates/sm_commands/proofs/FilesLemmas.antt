@@ -1,6 +1,6 @@
 -- What answers leave in the files.
-use Rattle.std.proofs.Common.{◌≡◌, ◌≢◌, ◌≤◌, ◌<◌, ◌⊎◌, inl, inr, ℕ, List, length, Option, Some, None}
-use Rattle.std.proofs.Common.{Result, Ok, Err, IfOk, IfErr, codes, refl, sym, ap, subst, ◌∙◌, arith}
+use Rattle.std.proofs.Common.{◌≡◌, ◌≢◌, ◌≤◌, ◌<◌, ◌⊎◌, inl, inr, ℕ, List, length, Option, Some, None, Result, Ok, Err, IfOk, IfErr, codes}
+use Rattle.std.proofs.Common.{refl, sym, ap, subst, ◌∙◌, arith}
 use Rattle.sm_houdini.specs.Outcomes as outcome
 use Rattle.sm_houdini.specs.Outcomes.{Outcome, IsOutcome}
 use Rattle.sm_io.specs.Causes.{HasCause, Rose}
@@ -13,21 +13,23 @@ use Rattle.sm_text.proofs.Complete.Tasks as text
 use Rattle.sm_write.specs.Versions.{HasVersion}
 use Rattle.sm_commands.proofs.SpelledLemmas.{outcome_one}
 use Rattle.sm_commands.specs.Check.{AnswersCheck, SaysOutcome}
-use Rattle.sm_commands.specs.Exit.{ExitsWith}
-use Rattle.sm_commands.specs.File.{file_limit, GivesNoTask, GivesTask}
-use Rattle.sm_commands.specs.ProofFile.{FailsToWrite, HoldsFront, HoldsProof, IsBegun, IsTaskIn, LeavesCut, LeavesFront, LeavesProof, LeftBy, LeftCut}
-use Rattle.sm_commands.specs.Status.{Says}
+use Rattle.sm_answers.specs.Exit.{ExitsWith}
+use Rattle.sm_answers.specs.File.{file_limit, GivesNoTask, GivesTask}
+use Rattle.sm_commands.specs.ProofFile.{FailsToWrite, HoldsFront, HoldsProof, IsTaskIn, LeavesCut, LeavesFront, LeavesProof, LeftBy}
+use Rattle.sm_commands.specs.ProofFile.{LeftCut}
+use Rattle.sm_answers.specs.ProofFile.{IsBegun}
+use Rattle.sm_answers.specs.Status.{Says}
 use Rattle.sm_commands.specs.Top.{Files, Checks, LeavesBy, LeavesFiles, LeavesPart, LeavesPartBy}
 use Rattle.sm_commands.specs.Views.{CountsWrites, EndsWith}
-use Rattle.sm_commands.specs.Words.{Asked, check, verify, replay, print, gen}
-use Rattle.sm_commands.specs.declared.effort.Effort.{Effort}
-use Rattle.sm_commands.specs.declared.exit.Exit.{Exit}
-use Rattle.sm_commands.specs.declared.exit.Exit.TheVariants as stopped
-use Rattle.sm_commands.specs.declared.status.Reply.{Reply}
-use Rattle.sm_commands.specs.declared.status.Status.{Status}
-use Rattle.sm_commands.specs.declared.status.Status.TheVariants.{Accepted, WriteFault}
+use Rattle.sm_words.specs.Words.{Asked, check, verify, replay, print, gen}
+use Rattle.sm_words.specs.declared.effort.Effort.{Effort}
+use Rattle.sm_answers.specs.declared.exit.Exit.{Exit}
+use Rattle.sm_answers.specs.declared.exit.Exit.TheVariants as stopped
+use Rattle.sm_answers.specs.declared.status.Reply.{Reply}
+use Rattle.sm_answers.specs.declared.status.Status.{Status}
+use Rattle.sm_answers.specs.declared.status.Status.TheVariants.{Accepted, WriteFault}
 use Rattle.sm_commands.proofs.Answering.{outcome_accepted}
-use Rattle.sm_commands.proofs.Statuses.{without_task}
+use Rattle.sm_answers.proofs.Statuses.{without_task}
 
 -- ---- results of commands
 

@@ -1,7 +1,4 @@
-pub mod Given
-pub mod Digits
-pub mod Asking
-pub mod Usage
+pub mod Elsewhere
 pub mod Statuses
 pub mod Answering
 pub mod ConflictSound

@@ -1,38 +1,31 @@
 -- What Accepted and Conflict say of the bytes that were read.
-use Rattle.std.proofs.Common.{◌≡◌, inl, inr, ℕ, List, Some, Result, Ok, Err, IfOk, IfErr, refl, sym, subst, ◌∙◌}
-use Rattle.sm_check.specs.FilesRead.{AnswersRead}
-use Rattle.sm_check.specs.declared.verifying.CheckError.{CheckError}
-use Rattle.sm_check.specs.declared.verifying.CheckError.TheVariants as check
-use Rattle.sm_check.specs.declared.verifying.Checked.{Checked}
-use Rattle.sm_check.specs.declared.verifying.Checked.TheVariants as checked
+use Rattle.std.proofs.Common.{◌≡◌, inl, inr, ℕ, List, Some, Result, IfOk, IfErr, sym, subst, ◌∙◌}
 use Rattle.sm_eval.specs.StoredValues.{meaning}
 use Rattle.sm_eval.specs.declared.store.Store as code
 use Rattle.sm_io.specs.Files.{Known}
 use Rattle.sm_io.specs.Reads.{Read}
-use Rattle.sm_proof.specs.Verdicts.{subject_of}
 use Rattle.sm_replay.specs.Violations.{Violates}
 use Rattle.sm_replay.proofs.ViolationsSound.{violation_conflicts}
-use Rattle.sm_syntax.specs.claim.ConflictFree.{ConflictFree}
 use Rattle.sm_syntax.specs.claim.Stores.{Store}
 use Rattle.sm_syntax.specs.text.Parts.{Parts, task_of}
-use Rattle.sm_commands.specs.Exit.{ExitsWith}
-use Rattle.sm_commands.specs.File.{GivesNoTask}
+use Rattle.sm_answers.specs.Exit.{ExitsWith}
+use Rattle.sm_answers.specs.File.{GivesNoTask}
 use Rattle.sm_commands.specs.HeadlineRead.{AcceptsRead, ConflictsRead, ShowsReadInput}
-use Rattle.sm_commands.specs.Readings.{AnswersByReads, ChecksRead, PassesRead, ReadsInput, ReadsTask, ReplaysRead, RunsRead, VerifiesRead}
-use Rattle.sm_commands.specs.Replay.{AnswersReplay, GivesNoInput}
+use Rattle.sm_commands.specs.Readings.{AnswersByReads, ChecksRead, ReplaysRead, RunsRead}
+use Rattle.sm_answers.specs.Readings.{ReadsInput, ReadsTask}
+use Rattle.sm_answers.specs.Replay.{AnswersReplay, GivesNoInput}
 use Rattle.sm_commands.specs.Top.{AnswersCommand, Files, IsAnswerTo}
-use Rattle.sm_commands.specs.Verify.{proof_limit}
-use Rattle.sm_commands.specs.Views.{SaysChecked}
-use Rattle.sm_commands.specs.Words.{Words, Asked, check as to_check, verify, replay, print, gen, asked}
-use Rattle.sm_commands.specs.declared.effort.Effort.{Effort}
-use Rattle.sm_commands.specs.declared.exit.Exit.{Exit}
-use Rattle.sm_commands.specs.declared.status.Reply.{Reply}
-use Rattle.sm_commands.specs.declared.status.Status.{Status}
-use Rattle.sm_commands.specs.declared.status.Status.TheVariants.{Accepted, Conflict}
-use Rattle.sm_commands.proofs.Answering.{accepted_is_free, result_by, stops_by}
-use Rattle.sm_commands.proofs.ConflictSound.{checked_conflict, judged_violates, no_input_no_conflict, print_no_conflict, shown_conflict, verify_no_conflict}
-use Rattle.sm_commands.proofs.Statuses.{without_task}
-use Rattle.sm_commands.proofs.Verified.{passing_fits}
+use Rattle.sm_words.specs.Words.{Words, Asked, check as to_check, verify, replay, print, gen, asked}
+use Rattle.sm_words.specs.declared.effort.Effort.{Effort}
+use Rattle.sm_answers.specs.declared.exit.Exit.{Exit}
+use Rattle.sm_answers.specs.declared.status.Reply.{Reply}
+use Rattle.sm_answers.specs.declared.status.Status.{Status}
+use Rattle.sm_answers.specs.declared.status.Status.TheVariants.{Accepted, Conflict}
+use Rattle.sm_commands.proofs.Answering.{accepted_is_free}
+use Rattle.sm_answers.proofs.Answering.{result_by, stops_by}
+use Rattle.sm_commands.proofs.ConflictSound.{checked_conflict, judged_violates, no_input_no_conflict, print_no_conflict, shown_conflict}
+use Rattle.sm_commands.proofs.ConflictSound.{verify_no_conflict}
+use Rattle.sm_answers.proofs.Statuses.{without_task}
 
 -- a task that was read, after what was read is written otherwise
 pub read_still : (name : List ℕ) (before now next : List Read) (t : Parts) → ReadsTask name before now t → next ≡ now →
@@ -47,12 +40,6 @@ none_checked name effort before now file b n stop =
     (λ status text none.
     let is = without_task file b n status text none in inl ((λ e. is.not_accepted e), (λ e. is.not_conflict e))) stop
 
-pub none_verified : (name proof : List ℕ) (before now : List Read) (file : Known) (b n : ℕ) (stop : Exit) →
-    ExitsWith (GivesNoTask file b n) stop → ExitsWith (VerifiesRead name proof before now) stop
-none_verified name proof before now file b n stop =
-    stops_by (GivesNoTask file b n) (VerifiesRead name proof before now)
-    (λ status text none e. absurd ((without_task file b n status text none).not_accepted e)) stop
-
 pub none_replayed : (name input : List ℕ) (turns : ℕ) (before now : List Read) (file : Known) (b n : ℕ) (stop : Exit) →
     ExitsWith (GivesNoTask file b n) stop → ExitsWith (ReplaysRead name input turns before now) stop
 none_replayed name input turns before now file b n stop =
@@ -66,16 +53,6 @@ none_run t name turns before now file b n stop =
     stops_by (GivesNoInput t file b n) (RunsRead t name turns before now)
     (λ status text none e. absurd (no_input_no_conflict t file b n status text none e)) stop
 
--- a task that was read, and then a proof's file
-pub verified_read : (name proof : List ℕ) (before between now : List Read) (t : Parts) → ReadsTask name before between t →
-    (r : Result Reply Exit) → IfOk r (λ (p : Reply). PassesRead t proof between now p.status p.text.items) →
-    IfErr r (ExitsWith (PassesRead t proof between now)) →
-    IfOk r (λ (p : Reply). VerifiesRead name proof before now p.status p.text.items) × IfErr r
-    (ExitsWith (VerifiesRead name proof before now))
-verified_read name proof before between now t reads r ok stop =
-    result_by (PassesRead t proof between now) (VerifiesRead name proof before now) (λ status text passes e. (t, between, reads, passes e))
-    r ok stop
-
 -- a task that was read, and then an input's file
 pub replayed_read : (name input : List ℕ) (turns : ℕ) (before between now : List Read) (t : Parts) → ReadsTask name before between t →
     (r : Result Reply Exit) → IfOk r (λ (p : Reply). RunsRead t input turns between now p.status p.text.items) →
@@ -85,18 +62,6 @@ pub replayed_read : (name input : List ℕ) (turns : ℕ) (before between now : 
 replayed_read name input turns before between now t reads r ok stop =
     result_by (RunsRead t input turns between now) (ReplaysRead name input turns before now)
     (λ status text runs e. (t, between, reads, runs e)) r ok stop
-
--- a proof's file that was read, and what the checker says of it
-pub passed_read : (t : Parts) (name : List ℕ) (before now : List Read) (r : Result Checked CheckError) (status : Status) (text : List ℕ) →
-    AnswersRead name before now proof_limit (subject_of t) r → (r ≡ Ok checked.Pass → ConflictFree (task_of t)) →
-    SaysChecked r status text → PassesRead t name before now status text
-passed_read t name before now (Ok checked.Pass) status text a free says e =
-    let both = passing_fits t a.bytes a.tells in
-    record { bytes = a.bytes; read = a.whole refl; fits = both.0; passes = both.1; free = free refl }
-passed_read t name before now (Ok (checked.Rejected line word)) status text a free says e = let is = says.ended in absurd (cc)
-passed_read t name before now (Err check.TooLong) status text a free says e = let is = says.ended in absurd (cc)
-passed_read t name before now (Err check.ReadFault) status text a free says e = let is = says.ended in absurd (cc)
-passed_read t name before now (Err check.Memory) status text a free says e = absurd says
 
 -- an input that was read, and what the programs do from it
 pub run_read : (t : Parts) (name : List ℕ) (turns : ℕ) (before now : List Read) (s : code.Store) (status : Status) (text : List ℕ) →

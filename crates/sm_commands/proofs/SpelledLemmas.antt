@@ -20,7 +20,7 @@ use Rattle.sm_syntax.specs.text.Conditions.{first_refusal}
 use Rattle.sm_syntax.specs.text.Parts.{Parts, sort_of, task_of}
 use Rattle.sm_text.specs.printing.Named.{HasText}
 use Rattle.sm_commands.specs.Check.{SaysNoted}
-use Rattle.sm_commands.specs.declared.status.Status.{Status}
+use Rattle.sm_answers.specs.declared.status.Status.{Status}
 
 -- it runs, meets the conditions, and its proofs may be checked
 pub record IsSpelled (t : Parts) : Type 0 where

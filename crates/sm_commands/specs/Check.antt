@@ -15,12 +15,12 @@ use Rattle.sm_replay.specs.declared.verdict.Verdict.TheVariants as verdict
 use Rattle.sm_syntax.specs.claim.ConflictFree.{ConflictFree}
 use Rattle.sm_syntax.specs.claim.Stores.{Store}
 use Rattle.sm_syntax.specs.text.Parts.{Parts, sort_of, task_of}
-use Rattle.sm_commands.specs.Lines.{goal_line, input_line, op_word, too_many_line, trial_line}
-use Rattle.sm_commands.specs.Lines.{unmet_line}
-use Rattle.sm_commands.specs.Status.{Says}
-use Rattle.sm_commands.specs.declared.effort.Effort.{Effort}
-use Rattle.sm_commands.specs.declared.status.Status.{Status}
-use Rattle.sm_commands.specs.declared.status.Status.TheVariants.{Accepted, Conflict, Unknown}
+use Rattle.sm_answers.specs.Lines.{goal_line, input_line, op_word, too_many_line, trial_line}
+use Rattle.sm_answers.specs.Lines.{unmet_line}
+use Rattle.sm_answers.specs.Status.{Says}
+use Rattle.sm_words.specs.declared.effort.Effort.{Effort}
+use Rattle.sm_answers.specs.declared.status.Status.{Status}
+use Rattle.sm_answers.specs.declared.status.Status.TheVariants.{Accepted, Conflict, Unknown}
 
 -- the text is an input of the task that gives the store, in compact JSON of each declared name
 pub record IsInputText (t : Parts) (s : Store) (text : List ℕ) : Type 0 where

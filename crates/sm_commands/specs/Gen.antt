@@ -5,9 +5,9 @@ use Rattle.sm_gen.specs.Drawing.{edits, edit_count}
 use Rattle.sm_gen.specs.Generating.{generated}
 use Rattle.sm_syntax.specs.claim.ConflictFree.{A, B}
 use Rattle.sm_commands.specs.Check.{AnswersCheck}
-use Rattle.sm_commands.specs.Lines.{summary_line}
-use Rattle.sm_commands.specs.declared.effort.Effort.{Effort}
-use Rattle.sm_commands.specs.declared.status.Status.{Status}
+use Rattle.sm_answers.specs.Lines.{summary_line}
+use Rattle.sm_words.specs.declared.effort.Effort.{Effort}
+use Rattle.sm_answers.specs.declared.status.Status.{Status}
 
 -- what is answered to a seed and a size
 pub record AnswersGen (seed size : ℕ) (effort : Effort) (status : Status) (text : List ℕ) : Type 0 where

@@ -10,10 +10,10 @@ use Rattle.sm_io.specs.Files.{Known, WhereHeld}
 use Rattle.sm_replay.specs.Input.{IsInput}
 use Rattle.sm_replay.specs.Violations.{Violates}
 use Rattle.sm_proof.specs.Verdicts.{Passes}
-use Rattle.sm_commands.specs.File.{file_limit}
-use Rattle.sm_commands.specs.Lines.{input_line}
-use Rattle.sm_commands.specs.Verify.{proof_limit}
-use Rattle.sm_commands.specs.Words.{Asked, check, verify, replay, print, gen}
+use Rattle.sm_answers.specs.File.{file_limit}
+use Rattle.sm_answers.specs.Lines.{input_line}
+use Rattle.sm_answers.specs.Verify.{proof_limit}
+use Rattle.sm_words.specs.Words.{Asked, check, verify, replay, print, gen}
 
 -- the file of the task, where it is asked whether its merge is free of conflicts
 abbrev pub merge_file : Asked → Option (List ℕ)

@@ -4,8 +4,8 @@
 use Rattle.std.specs.Prelude.{◌≡◌, ◌++◌, ℕ, List}
 use Rattle.sm_io.specs.Reads.{Read, ReadsWhole}
 use Rattle.sm_commands.specs.Headline.{IsProved, IsSafeMerge, IsUnsafeMerge, IsViolatedFrom}
-use Rattle.sm_commands.specs.Lines.{input_line}
-use Rattle.sm_commands.specs.Words.{Asked, check, verify, replay, print, gen}
+use Rattle.sm_answers.specs.Lines.{input_line}
+use Rattle.sm_words.specs.Words.{Asked, check, verify, replay, print, gen}
 
 -- the one file was read, in one pass to its end, and no other; of its bytes this holds
 abbrev pub ReadsOne : List ℕ → List Read → List Read → (List ℕ → Type 0) → Type 0

@@ -3,9 +3,9 @@ use Rattle.std.specs.Prelude.{◌≡◌, ◌≢◌, ◌⊎◌, ℕ, List, Some}
 use Rattle.sm_io.specs.Causes.{Rose}
 use Rattle.sm_io.specs.Files.{untold}
 use Rattle.sm_commands.specs.Top.{Files, IsAnswerTo}
-use Rattle.sm_commands.specs.Words.{Words, Asked, check, verify, replay, print, gen, asked}
-use Rattle.sm_commands.specs.declared.status.Status.{Status}
-use Rattle.sm_commands.specs.declared.status.Status.TheVariants.{WriteFault}
+use Rattle.sm_words.specs.Words.{Words, Asked, check, verify, replay, print, gen, asked}
+use Rattle.sm_answers.specs.declared.status.Status.{Status}
+use Rattle.sm_answers.specs.declared.status.Status.TheVariants.{WriteFault}
 
 -- the shelf tells of each file whether it is there, and which bytes it has
 abbrev pub AreTold : Files → Type 0

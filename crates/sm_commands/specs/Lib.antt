@@ -3,16 +3,7 @@ pub mod HeadlineRead
 pub mod Readings
 pub mod Top
 pub mod Laws
-pub mod File
 pub mod Check
-pub mod Verify
-pub mod Replay
-pub mod Words
-pub mod Numbers
-pub mod Command
 pub mod Gen
 pub mod ProofFile
-pub mod Lines
-pub mod Status
-pub mod Exit
 pub mod Views

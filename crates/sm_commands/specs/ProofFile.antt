@@ -7,10 +7,10 @@ use Rattle.sm_proof.specs.Verdicts.{Passes}
 use Rattle.sm_syntax.specs.text.Parts.{Parts}
 use Rattle.sm_syntax.specs.text.Spells.{Spells}
 use Rattle.sm_write.specs.Versions.{HasVersion}
-use Rattle.sm_commands.specs.Status.{Says}
-use Rattle.sm_commands.specs.declared.effort.Effort.{Effort}
-use Rattle.sm_commands.specs.declared.status.Status.{Status}
-use Rattle.sm_commands.specs.declared.status.Status.TheVariants.{Accepted, WriteFault}
+use Rattle.sm_answers.specs.Status.{Says}
+use Rattle.sm_words.specs.declared.effort.Effort.{Effort}
+use Rattle.sm_answers.specs.declared.status.Status.{Status}
+use Rattle.sm_answers.specs.declared.status.Status.TheVariants.{Accepted, WriteFault}
 
 -- the file was emptied, and has the bytes of a proof that passes for the task, of version 2 exactly
 -- where that assumes something
@@ -19,13 +19,6 @@ pub record HoldsProof (t : Parts) (before now : Known) : Type 0 where
   pub passes : Passes t proof
   pub version : HasVersion t proof
   pub holds : now ≡ longer (emptied before) proof
-
--- bytes were begun to be written into a file, but not all were: it is as it was, or empty, or has
--- some of the first of them
-abbrev pub IsBegun : List ℕ → Known → Known → Type 0
-IsBegun bytes before now =
-    (now ≡ before) ⊎ ((now ≡ emptied before)
-    ⊎ ((n : ℕ) × (n < length bytes) × (now ≡ longer (emptied before) (take n bytes))))
 
 -- the file was emptied, and has a proper front of such a proof
 pub record HoldsFront (t : Parts) (before now : Known) : Type 0 where

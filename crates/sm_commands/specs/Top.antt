@@ -9,19 +9,18 @@ use Rattle.sm_syntax.specs.text.Parts.{Parts}
 use Rattle.sm_text.specs.printing.Canonical.{task_pieces}
 use Rattle.sm_text.specs.printing.Pieces.{pieces_text}
 use Rattle.sm_commands.specs.Check.{AnswersCheck}
-use Rattle.sm_commands.specs.File.{GivesTask, GivesNoTask}
+use Rattle.sm_answers.specs.File.{GivesTask, GivesNoTask}
 use Rattle.sm_commands.specs.Gen.{AnswersGen}
 use Rattle.sm_commands.specs.ProofFile.{FailsToWrite, LeavesFront, LeavesProof}
-use Rattle.sm_commands.specs.Replay.{ReplaysInput}
-use Rattle.sm_commands.specs.Status.{Says}
-use Rattle.sm_commands.specs.Verify.{AnswersProof, rejected_line}
-use Rattle.sm_commands.specs.Words.{Words, Asked, check, verify, replay, print, gen, asked}
-use Rattle.sm_commands.specs.Words.{usage_line}
-use Rattle.sm_commands.specs.Words.{IsUsage}
-use Rattle.sm_commands.specs.declared.effort.Effort.{Effort}
-use Rattle.sm_commands.specs.declared.status.Status.{Status}
-use Rattle.sm_commands.specs.declared.status.Status.TheVariants.{Accepted, Refused, Usage}
-use Rattle.sm_commands.specs.declared.status.Status.TheVariants.{Memory, SinkFault}
+use Rattle.sm_answers.specs.Replay.{ReplaysInput}
+use Rattle.sm_answers.specs.Status.{Says}
+use Rattle.sm_answers.specs.Verify.{rejected_line, Verifies}
+use Rattle.sm_words.specs.Words.{Words, Asked, check, verify, replay, print, gen, asked, usage_line}
+use Rattle.sm_words.specs.Words.{IsUsage}
+use Rattle.sm_words.specs.declared.effort.Effort.{Effort}
+use Rattle.sm_answers.specs.declared.status.Status.{Status}
+use Rattle.sm_answers.specs.declared.status.Status.TheVariants.{Accepted, Refused, Usage, Memory}
+use Rattle.sm_answers.specs.declared.status.Status.TheVariants.{SinkFault}
 
 -- what a shelf tells of each file
 abbrev pub Files : Type 0
@@ -55,19 +54,6 @@ pub record Generates (seed size : ℕ) (effort : Effort) (before now : ℕ) (sta
     (text : List ℕ) : Type 0 where
   pub quiet : now ≡ before
   pub answers : AnswersGen seed size effort status text
-
--- the file gives a task, and then comes the proof's
-pub record VerifiesTask (file proof : Known) (before now : ℕ) (status : Status) (text : List ℕ)
-    : Type 0 where
-  pub task : Parts
-  pub between : ℕ
-  pub gives : GivesTask file before between task
-  pub answers : AnswersProof task proof between now status text
-
--- what is answered to `verify`
-abbrev pub Verifies : Known → Known → ℕ → ℕ → Status → List ℕ → Type 0
-Verifies file proof before now status text =
-    GivesNoTask file before now status text ⊎ VerifiesTask file proof before now status text
 
 -- the file gives a task, and its canonical text is printed
 pub record PrintsTask (file : Known) (before now : ℕ) (status : Status) (text : List ℕ)

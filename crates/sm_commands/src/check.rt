@@ -8,18 +8,20 @@ ghost use Rattle.sm_syntax.specs.text.Parts.{sort_of, task_of};
 ghost use Rattle.sm_task.specs.Tasks.{parts_of};
 ghost use Rattle.sm_text.specs.printing.Named.{HasText};
 ghost use Rattle.sm_commands.specs.Check.{AnswersCheck, IsInputText, IsNote, SaysNoted, ShowsTrial};
-ghost use Rattle.sm_commands.specs.Lines.{input_line, trial_line};
-ghost use Rattle.sm_commands.specs.Status.{Says};
-ghost use Rattle.sm_commands.specs.Views.{ComesWith, HasWorkers};
+ghost use Rattle.sm_answers.specs.Lines.{input_line, trial_line};
+ghost use Rattle.sm_answers.specs.Status.{Says};
+ghost use Rattle.sm_commands.specs.Views.{ComesWith};
+ghost use Rattle.sm_words.specs.Views.{HasWorkers};
 
-use crate::effort::Effort;
-use crate::lines::{coefficient_line, goal_line, line, put_input_line, too_many_line, trial_line};
-use crate::status::{Reply, Status};
+use sm_answers::{
+    Reply, Status, coefficient_line, goal_line, put_input_line, too_many_line, trial_line,
+};
 use sm_houdini::{Outcome, proof_text, search};
 use sm_par::Gate;
 use sm_replay::{Verdict, some_trial_meets, trial, write_input};
 use sm_syntax::Name;
 use sm_task::Task;
+use sm_words::{Effort, line};
 use std::alloc::{AllocError, Global};
 use std::thread::Threads;
 

@@ -16,27 +16,16 @@
 //! The claim is `ConflictFree` of the crate `sm_syntax`. Read `specs/Headline.antt` first: what
 //! Accepted and Conflict say of files that are told; and then `specs/HeadlineRead.antt`: what they
 //! say of the bytes that were read, on every shelf. `specs/Top.antt` says what is answered, with
-//! `specs/File.antt`, `specs/Check.antt`, `specs/Verify.antt`, `specs/Replay.antt` and
-//! `specs/Gen.antt`; `specs/ProofFile.antt` what `check` writes, and `specs/Words.antt` what the
-//! words ask for.
+//! `specs/Check.antt` and `specs/Gen.antt`, and `specs/File.antt`, `specs/Verify.antt` and
+//! `specs/Replay.antt` of the crate `sm_answers`; `specs/ProofFile.antt` what `check` writes, and
+//! `specs/Words.antt` of `sm_words` what the words ask for.
 #![tactic(auto)]
 
 mod check;
-mod command;
-mod effort;
-mod exit;
-mod file;
 mod laws;
-mod lines;
 mod making;
-mod numbers;
-mod proof_file;
-mod replay;
-mod status;
 mod top;
-mod verifying;
-mod words;
 
 pub use laws::one_answer;
-pub use status::Status;
+pub use sm_answers::Status;
 pub use top::safemerge;

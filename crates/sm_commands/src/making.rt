@@ -1,14 +1,13 @@
 // What `gen` answers to a seed and a size.
 ghost use Rattle.std.specs.Prelude.{◌≤◌, IfOk};
 ghost use Rattle.sm_commands.specs.Gen.{AnswersGen};
-ghost use Rattle.sm_commands.specs.Views.{HasWorkers};
+ghost use Rattle.sm_words.specs.Views.{HasWorkers};
 
 use crate::check::check;
-use crate::effort::Effort;
-use crate::lines::summary_line;
-use crate::status::Reply;
+use sm_answers::{Reply, summary_line};
 use sm_gen::generate;
 use sm_par::Gate;
+use sm_words::Effort;
 use std::alloc::{AllocError, Global};
 use std::thread::Threads;
 

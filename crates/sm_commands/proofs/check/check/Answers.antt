@@ -6,8 +6,8 @@ use Rattle.std.specs.Fmt.{signed_decimal}
 use Rattle.std.specs.Int.{w128}
 use Rattle.sm_houdini.proofs.ShortLines.{valid_searchable}
 use Rattle.sm_proof.proofs.PassSound.{pass_free}
-use Rattle.sm_commands.specs.Lines.{goal_line, op_word, too_many_line}
-use Rattle.sm_commands.specs.declared.status.Status.TheVariants.{Unknown}
+use Rattle.sm_answers.specs.Lines.{goal_line, op_word, too_many_line}
+use Rattle.sm_answers.specs.declared.status.Status.TheVariants.{Unknown}
 use Rattle.sm_commands.proofs.SpelledLemmas.{is_spelled, least_trial, noted_by, outcome_so}
 use Rattle.sm_commands.proofs.check.check.Goals as goal
 

@@ -1,10 +1,12 @@
 use Rattle.std.proofs.Common.{ℕ, List, subst, sym}
-use Rattle.sm_commands.specs.Top.{LeavesFiles, LeavesPart, Verifies}
-use Rattle.sm_commands.specs.Views.{EndsWith, asked_in}
-use Rattle.sm_commands.specs.declared.status.Status.{Status}
-use Rattle.sm_commands.specs.declared.words.Request.{Request}
+use Rattle.sm_commands.specs.Top.{LeavesFiles, LeavesPart}
+use Rattle.sm_answers.specs.Verify.{Verifies}
+use Rattle.sm_commands.specs.Views.{EndsWith}
+use Rattle.sm_words.specs.Views.{asked_in}
+use Rattle.sm_answers.specs.declared.status.Status.{Status}
+use Rattle.sm_words.specs.declared.words.Request.{Request}
 use Rattle.sm_commands.proofs.FilesLemmas.{check_leaves, counts_none}
-use Rattle.sm_commands.proofs.Statuses.{verify_to_command}
+use Rattle.sm_answers.proofs.Statuses.{verify_to_command}
 use Rattle.sm_commands.proofs.top.answer_to.Goals as goal
 
 pub returns-in-Verify-clause-writes : goal.returns-in-Verify-clause-writes

@@ -3,7 +3,7 @@ use Rattle.std.specs.String.{string_bytes}
 use Rattle.sm_io.specs.Files.{Known}
 use Rattle.sm_commands.specs.ProofFile.{LeavesProof}
 use Rattle.sm_commands.specs.Top.{AnswersRequest, Checks}
-use Rattle.sm_commands.specs.Words.{Asked, asked}
+use Rattle.sm_words.specs.Words.{Asked, asked}
 use Rattle.sm_commands.proofs.Answering.{accepts, sound}
 use Rattle.sm_commands.proofs.FilesLemmas.{kept_whole, leaves_cut, leaves_front, left_by}
 use Rattle.sm_commands.proofs.ConflictSound.{conflicts, shows, replays_shown}

@@ -1,83 +1,17 @@
--- Words that no command takes ask for nothing; and no command writes over what it reads.
-use Rattle.std.proofs.Common.{◌≡◌, ◌≢◌, ◌⊎◌, inl, inr, ℕ, true, false, if◌then◌else◌, Bool, true≢false, sym, subst, ◌∙◌, List, [], ◌∷◌, Option, Some, None, codes, refl, option_map}
+-- No command writes over what it reads.
+use Rattle.std.proofs.Common.{◌≡◌, ◌≢◌, ℕ, true, false, if◌then◌else◌, Bool, true≢false, sym, subst, ◌∙◌, List, [], ◌∷◌, Option, Some, None}
+use Rattle.std.proofs.Common.{codes, refl, option_map}
 use Rattle.std.specs.Prelude.{option_and_then}
 use Rattle.std.specs.Str.{bytes_eq}
 use Rattle.std.proofs.lemmas.Slice.Eq.{bytes_eq-Decides}
 use Rattle.clap.specs.Walk.{Text}
 use Rattle.sm_commands.specs.Top.{WritesElsewhere}
-use Rattle.sm_commands.specs.declared.effort.Effort.{Effort}
-use Rattle.sm_commands.specs.Numbers.{seed_by, size_by, turns_by, workers_by, HasBadNumber}
-use Rattle.sm_commands.specs.Words.{Words, Asked, check, verify, replay, print, gen, word_faults, asked, asked_by, asked_where, check_by, verify_by, replay_by, gen_by, argument_text, effort_in}
-use Rattle.sm_commands.specs.Words.{verb_of, unless, HasBadOption, IsRefused, IsUsage}
-use Rattle.sm_commands.specs.declared.command.Verb.{Verb}
-use Rattle.sm_commands.specs.declared.command.Verb.TheVariants.{Check, Verify, Replay, Print, Gen}
-
--- a file isn't another of the same name
-one_file : (file : Text) (other : Option Asked) → (if bytes_eq file file then None else other) ≡ None
-one_file file other = rw ((bytes_eq-Decides file file).1 refl) refl
-
--- a proof that would be written over the task asks for nothing, nor does a number that is none
-no_check : (task proof : Option Text) (effort : Option Effort) → (task ≡ proof) ⊎ (effort ≡ None) → check_by task proof effort ≡ None
-no_check None proof effort h = refl
-no_check (Some file) proof effort (inl e) = rw (← e) (one_file file (option_map (λ (f : Effort). check file file f) effort))
-no_check (Some file) None effort (inr e) = refl
-no_check (Some file) (Some given) effort (inr e) =
-    rw e (elim (bytes_eq file given) as
-    (λ b. (if b then None else option_map (λ (f : Effort). check file given f) None) ≡ None) [ true ↦ refl | false ↦ refl ])
-
-no_gen : (seed size : Option Text) (effort : Option Effort) → (seed_by seed ≡ None) ⊎ ((size_by size ≡ None) ⊎ (effort ≡ None))
-    → gen_by seed size effort ≡ None
-no_gen seed size effort h = go (seed_by seed) (size_by size) effort h
-  where
-    go : (s n : Option ℕ) (e : Option Effort) → (s ≡ None) ⊎ ((n ≡ None) ⊎ (e ≡ None))
-        → option_and_then (λ (s : ℕ). option_and_then (λ (n : ℕ). option_map (λ (e : Effort). gen s n e) e) n) s ≡ None
-    go None n e h = refl
-    go (Some s) None e h = refl
-    go (Some s) (Some n) None h = refl
-    go (Some s) (Some n) (Some e) (inl p) = cc
-    go (Some s) (Some n) (Some e) (inr (inl p)) = cc
-    go (Some s) (Some n) (Some e) (inr (inr p)) = cc
-
-no_verify : (task proof workers : Option Text) → workers_by workers ≡ None → verify_by task proof workers ≡ None
-no_verify None proof workers e = refl
-no_verify (Some file) None workers e = refl
-no_verify (Some file) (Some given) workers e = rw e refl
-
-no_replay : (task input turns workers : Option Text) → HasBadNumber turns workers → replay_by task input turns workers ≡ None
-no_replay None input turns workers h = refl
-no_replay (Some file) None turns workers h = refl
-no_replay (Some file) (Some given) turns workers (inl e) = rw e refl
-no_replay (Some file) (Some given) turns workers (inr e) =
-    elim (turns_by turns) as
-    (λ o. option_and_then (λ (n : ℕ). option_map (λ (w : ℕ). replay file given n) (workers_by workers)) o ≡ None)
-    [ None ↦ refl | Some n ↦ rw e refl ]
-
-none_asked : (verb : Verb) (words : Words) → HasBadOption verb words → asked_by verb words ≡ None
-none_asked Check words h =
-    no_check (argument_text Check (codes "TASK") words) (argument_text Check (codes "PROOF") words) (effort_in Check words) h
-none_asked Verify words h =
-    no_verify (argument_text Verify (codes "TASK") words) (argument_text Verify (codes "PROOF") words)
-    (argument_text Verify (codes "workers") words) h
-none_asked Replay words h =
-    no_replay (argument_text Replay (codes "TASK") words) (argument_text Replay (codes "INPUT") words)
-    (argument_text Replay (codes "turns") words) (argument_text Replay (codes "workers") words) h
-none_asked Print words h = absurd h
-none_asked Gen words h =
-    no_gen (argument_text Gen (codes "SEED") words) (argument_text Gen (codes "SIZE") words) (effort_in Gen words) h
-
-not_taken : {X Y : Type 0} (kinds : List X) (o : Option Y) → (kinds ≢ []) ⊎ (o ≡ None) → unless kinds o ≡ None
-not_taken [] o (inl h) = absurd (h refl)
-not_taken [] o (inr e) = e
-not_taken (k ∷ ks) o h = refl
-
-pub usage_asks_nothing : (words : Words) → IsUsage words → asked words ≡ None
-usage_asks_nothing [] h = refl
-usage_asks_nothing (word ∷ rest) h = go (verb_of word) (word ∷ rest) h
-  where
-    go : (verb : Option Verb) (words : Words) → IsRefused verb words → asked_where verb words ≡ None
-    go None words h = refl
-    go (Some verb) words (inl h) = not_taken _ _ (inl h)
-    go (Some verb) words (inr h) = not_taken _ _ (inr (none_asked verb words h))
+use Rattle.sm_words.specs.declared.effort.Effort.{Effort}
+use Rattle.sm_words.specs.Numbers.{seed_by, size_by, turns_by, workers_by}
+use Rattle.sm_words.specs.Words.{Words, Asked, check, verify, replay, print, gen, word_faults, asked, asked_by, asked_where, check_by}
+use Rattle.sm_words.specs.Words.{argument_text, effort_in, verb_of, unless}
+use Rattle.sm_words.specs.declared.command.Verb.{Verb}
+use Rattle.sm_words.specs.declared.command.Verb.TheVariants.{Check, Verify, Replay, Print, Gen}
 
 same_ask : (p q : Asked) → Some p ≡ Some q → p ≡ q
 same_ask p q e = cc
