@@ -42,7 +42,7 @@ passing_fits t bytes e =
     (leb-true (length bytes) proof_limit both.0, both.1)
 
 -- and back
-fitting_passes : (t : Parts) (bytes : List ℕ) → length bytes ≤ proof_limit → Passes t bytes
+pub fitting_passes : (t : Parts) (bytes : List ℕ) → length bytes ≤ proof_limit → Passes t bytes
     → file_answer proof_limit (subject_of t) bytes ≡ Judged Pass
 fitting_passes t bytes fits passes =
     let cut = cut_answer (reached (subject_of t) 1 Unopened (lines_in (take proof_limit bytes)).ended) in

@@ -1,8 +1,8 @@
 -- What the reads of a task, an input and a proof gave, of told files and of others, and what the
 -- answer of `verify` says of them. Public clauses cite it.
-use Rattle.std.specs.Prelude.{◌≡◌, ◌≤◌, ℕ, List, length}
+use Rattle.std.specs.Prelude.{◌≡◌, ◌≢◌, ◌≤◌, ◌⊎◌, ℕ, List, length}
 use Rattle.sm_eval.specs.declared.store.Store.{Store}
-use Rattle.sm_io.specs.Reads.{Read, ReadsWhole}
+use Rattle.sm_io.specs.Reads.{Read, ReadsOn, ReadsWhole}
 use Rattle.sm_proof.specs.Verdicts.{Passes}
 use Rattle.sm_replay.specs.Input.{IsInput}
 use Rattle.sm_syntax.specs.claim.ConflictFree.{ConflictFree}
@@ -11,7 +11,12 @@ use Rattle.sm_syntax.specs.text.Spells.{Spells}
 use Rattle.sm_answers.specs.File.{file_limit}
 use Rattle.sm_answers.specs.Verify.{proof_limit}
 use Rattle.sm_answers.specs.declared.status.Status.{Status}
-use Rattle.sm_answers.specs.declared.status.Status.TheVariants.{Accepted}
+use Rattle.sm_answers.specs.declared.status.Status.TheVariants.{Accepted, ReadFault}
+
+-- a file alone was read, in one pass, to its end or not
+abbrev pub ReadsOnce : List ℕ → List Read → List Read → Type 0
+ReadsOnce name before now = (bytes : List ℕ)
+    × (ReadsOn name before now bytes ⊎ ReadsWhole name before now bytes)
 
 -- a file alone was read, in one pass to its end, and its bytes spell the task
 pub record ReadsTask (name : List ℕ) (before now : List Read) (t : Parts) : Type 0 where
@@ -21,25 +26,34 @@ pub record ReadsTask (name : List ℕ) (before now : List Read) (t : Parts) : Ty
   pub spells : Spells bytes t
 
 -- so was one whose bytes give the store as an input of the task
-pub record ReadsInput (t : Parts) (name : List ℕ) (before now : List Read) (s : Store) : Type 0 where
+pub record ReadsInput (t : Parts) (name : List ℕ) (before now : List Read) (s : Store)
+    : Type 0 where
   pub bytes : List ℕ
   pub read : ReadsWhole name before now bytes
   pub gives : IsInput t.names (sort_of t.declared) bytes s
 
--- so was one whose bytes pass as a proof for the task, which is free of conflicts
+-- so was one whose bytes pass as a proof for the task
 pub record ReadsProof (t : Parts) (name : List ℕ) (before now : List Read) : Type 0 where
   pub bytes : List ℕ
   pub read : ReadsWhole name before now bytes
   pub fits : length bytes ≤ proof_limit
   pub passes : Passes t bytes
-  pub free : ConflictFree (task_of t)
 
--- the answer to a proof's file is Accepted only where a proof was read
-abbrev pub PassesRead : Parts → List ℕ → List Read → List Read → Status → List ℕ → Type 0
-PassesRead t proof before now status text = status ≡ Accepted → ReadsProof t proof before now
+-- the answer to a proof's file, which was read in one pass: but for a fault to read, Accepted
+-- exactly where it is a proof, and only for a task that is free of conflicts
+pub record PassesRead (t : Parts) (proof : List ℕ) (before now : List Read) (status : Status)
+    (text : List ℕ) : Type 0 where
+  pub once : ReadsOnce proof before now
+  pub only : status ≡ Accepted → ReadsProof t proof before now
+  pub all : status ≢ ReadFault → ReadsProof t proof before now → status ≡ Accepted
+  pub free : status ≡ Accepted → ConflictFree (task_of t)
 
--- and that of `verify` only where a task was read, and then a proof for it
-abbrev pub VerifiesRead : List ℕ → List ℕ → List Read → List Read → Status → List ℕ → Type 0
-VerifiesRead task proof before now status text = status ≡ Accepted →
-    (t : Parts) × (between : List Read) × ReadsTask task before between t
-    × ReadsProof t proof between now
+-- and that of `verify`: but for such a fault, Accepted exactly where a task was read, and then a
+-- proof for it
+pub record VerifiesRead (task proof : List ℕ) (before now : List Read) (status : Status)
+    (text : List ℕ) : Type 0 where
+  pub only : status ≡ Accepted →
+      (t : Parts) × (between : List Read) × ReadsTask task before between t
+      × ReadsProof t proof between now × ConflictFree (task_of t)
+  pub all : status ≢ ReadFault → (t : Parts) (between : List Read) →
+      ReadsTask task before between t → ReadsProof t proof between now → status ≡ Accepted

@@ -1,5 +1,5 @@
 // Files of tasks and of inputs.
-ghost use Rattle.std.specs.Prelude.{◌≡◌, ◌^◌, ◌<◌, ℕ, List, None, length, IfOk, IfErr};
+ghost use Rattle.std.specs.Prelude.{◌≡◌, ◌^◌, ◌<◌, ℕ, List, None, length, IfOk, IfErr, IsErr};
 ghost use Rattle.sm_syntax.specs.text.Spells.{Spells};
 ghost use Rattle.sm_check.specs.Checkable.{IsCheckable};
 ghost use Rattle.sm_task.specs.Tasks.{parts_of};
@@ -13,8 +13,8 @@ ghost use Rattle.sm_text.specs.printing.Named.{HasText};
 ghost use Rattle.sm_answers.specs.Replay.{GivesInput, GivesNoInput, IsNoInput};
 ghost use Rattle.sm_answers.specs.File.{GivesNoBytes, GivesNoTask, GivesTask, IsNoTask, IsRead};
 ghost use Rattle.sm_answers.specs.Exit.{ExitsWith};
-ghost use Rattle.sm_answers.specs.Readings.{ReadsInput, ReadsTask};
-ghost use Rattle.sm_io.specs.Reads.{ReadsWhole};
+ghost use Rattle.sm_answers.specs.Readings.{ReadsInput, ReadsOnce, ReadsTask};
+ghost use Rattle.sm_io.specs.Reads.{ReadsOn, ReadsWhole};
 
 use crate::exit::Exit;
 use crate::lines::{input_refusal_line, refusal_line};
@@ -40,6 +40,8 @@ pub fn bytes_in<H: Shelf>(
         (H.read_faults shelf.old) (H.read_faults shelf.new) bytes.items) }
     ensures whole { IfOk result (λ bytes.
         ReadsWhole name.now (H.given shelf.old) (H.given shelf.new) bytes.items) }
+    ensures part { IsErr result → (bytes : List ℕ)
+        × ReadsOn name.now (H.given shelf.old) (H.given shelf.new) bytes }
     ensures exit { IfErr result (ExitsWith (GivesNoBytes kind.now (H.file shelf.old name.now)
         (H.read_faults shelf.old) (H.read_faults shelf.new))) }
     ensures same { (other : List ℕ) → H.file shelf.new other ≡ H.file shelf.old other }
@@ -65,6 +67,7 @@ pub fn task_in<H: Shelf>(alloc: Global, shelf: &mut H, name: &str) -> Result<Tas
         (H.read_faults shelf.old) (H.read_faults shelf.new) (parts_of t)) }
     ensures read { IfOk result (λ t.
         ReadsTask name.now (H.given shelf.old) (H.given shelf.new) (parts_of t)) }
+    ensures once { ReadsOnce name.now (H.given shelf.old) (H.given shelf.new) }
     ensures printable { IfOk result (λ t. HasText (parts_of t)) }
     ensures runs { IfOk result (λ t. sort_fault (parts_of t) ≡ None) }
     ensures named { IfOk result (λ t. AreNamed (parts_of t).names (sort_of (parts_of t).declared)) }

@@ -2,14 +2,14 @@
 //! lines of all.
 //!
 //! - `task_in` reads the task that a file's bytes spell, and `input_in` an input of it, each in one
-//!   pass. Where there is none they stop with the answer: `ReadFault`, `TooLong`, or what is refused
-//!   first. What is read holds of told files, and on every shelf of the bytes that were read.
+//!   pass. Where there is none they stop with the answer: `ReadFault`, `TooLong`, or what is
+//!   refused first. What is read holds of told files, and on every shelf of the bytes that were read.
 //! - `verify_in` answers `Accepted` exactly where the bytes of a proof's file pass for the task,
 //!   which is then free of conflicts, and else the number of the first bad line and the word for
 //!   what is wrong with it.
 //! - `replay` answers the verdict on one input exactly, or what stops the programs.
-//! - `write_file` gives a file these bytes. After an error it is as it was, or empty, or has some of
-//!   the first of them.
+//! - `write_file` gives a file these bytes. After an error it is as it was, or empty, or has some
+//!   of the first of them.
 //! - `Status::number` is the number with which the program ends.
 //!
 //! Read `specs/Verify.antt` first, then `specs/File.antt`, `specs/Replay.antt`,

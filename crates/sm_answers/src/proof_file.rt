@@ -6,8 +6,8 @@ ghost use Rattle.sm_answers.specs.ProofFile.{IsBegun};
 
 use sm_io::{IoError, Shelf, append_all};
 
-/// Empties the file, or makes it, and gives it these bytes. After an error it is as it was, or empty,
-/// or has some of the first of them.
+/// Empties the file, or makes it, and gives it these bytes. After an error it is as it was, or
+/// empty, or has some of the first of them.
 pub fn write_file<H: Shelf>(shelf: &mut H, name: &str, bytes: &[u8]) -> Result<(), IoError>
     ensures ok { OnOk result (H.file shelf.new name.now
         ≡ longer (emptied (H.file shelf.old name.now)) bytes.now) }

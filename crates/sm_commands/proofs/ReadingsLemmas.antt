@@ -1,5 +1,6 @@
 -- What Accepted and Conflict say of the bytes that were read.
-use Rattle.std.proofs.Common.{◌≡◌, inl, inr, ℕ, List, Some, Result, IfOk, IfErr, sym, subst, ◌∙◌}
+use Rattle.std.proofs.Common.{◌≡◌, ◌≢◌, inl, inr, ℕ, List, Some, Result, IfOk, IfErr, sym, subst, ◌∙◌}
+use Rattle.std.specs.Prelude.{◌↔◌}
 use Rattle.sm_eval.specs.StoredValues.{meaning}
 use Rattle.sm_eval.specs.declared.store.Store as code
 use Rattle.sm_io.specs.Files.{Known}
@@ -10,9 +11,9 @@ use Rattle.sm_syntax.specs.claim.Stores.{Store}
 use Rattle.sm_syntax.specs.text.Parts.{Parts, task_of}
 use Rattle.sm_answers.specs.Exit.{ExitsWith}
 use Rattle.sm_answers.specs.File.{GivesNoTask}
-use Rattle.sm_commands.specs.HeadlineRead.{AcceptsRead, ConflictsRead, ShowsReadInput}
+use Rattle.sm_commands.specs.HeadlineRead.{AcceptsRead, ConflictsRead, ReadsProved, ShowsReadInput}
 use Rattle.sm_commands.specs.Readings.{AnswersByReads, ChecksRead, ReplaysRead, RunsRead}
-use Rattle.sm_answers.specs.Readings.{ReadsInput, ReadsTask}
+use Rattle.sm_answers.specs.Readings.{ReadsInput, ReadsTask, VerifiesRead}
 use Rattle.sm_answers.specs.Replay.{AnswersReplay, GivesNoInput}
 use Rattle.sm_commands.specs.Top.{AnswersCommand, Files, IsAnswerTo}
 use Rattle.sm_words.specs.Words.{Words, Asked, check as to_check, verify, replay, print, gen, asked}
@@ -20,7 +21,7 @@ use Rattle.sm_words.specs.declared.effort.Effort.{Effort}
 use Rattle.sm_answers.specs.declared.exit.Exit.{Exit}
 use Rattle.sm_answers.specs.declared.status.Reply.{Reply}
 use Rattle.sm_answers.specs.declared.status.Status.{Status}
-use Rattle.sm_answers.specs.declared.status.Status.TheVariants.{Accepted, Conflict}
+use Rattle.sm_answers.specs.declared.status.Status.TheVariants.{Accepted, Conflict, ReadFault}
 use Rattle.sm_commands.proofs.Answering.{accepted_is_free}
 use Rattle.sm_answers.proofs.Answering.{result_by, stops_by}
 use Rattle.sm_commands.proofs.ConflictSound.{checked_conflict, judged_violates, no_input_no_conflict, print_no_conflict, shown_conflict}
@@ -76,14 +77,14 @@ accepted_by (to_check task proof effort) before now status text (inl none) e = a
 accepted_by (to_check task proof effort) before now status text (inr c) e =
     (c.1.bytes, c.1.read, (c.0, c.1.spells, accepted_is_free c.0 effort status text c.2 e))
 accepted_by (verify task proof workers) before now status text a e =
-    let v = a e in (
+    let v = a.only e in (
       v.2.bytes,
       v.3.bytes,
       v.1,
       v.2.read,
       v.3.read,
       (
-        (v.0, v.2.spells, v.3.free),
+        (v.0, v.2.spells, v.4),
         record { parts = v.0; spells = v.2.spells; passes = v.3.passes; short = v.2.short; fits = v.3.fits },
       ),
     )
@@ -95,6 +96,30 @@ pub accepts_read : (words : Words) (before now : List Read) (status : Status) (t
     AnswersByReads (asked words) before now status text → status ≡ Accepted → (ask : Asked) → asked words ≡ Some ask →
     AcceptsRead ask before now
 accepts_read words before now status text a e ask asks = accepted_by ask before now status text (rw asks at a) e
+
+-- and exactly where a task was read, and then a proof for it
+proved_by : (task proof : List ℕ) (before now : List Read) (status : Status) (text : List ℕ) →
+    VerifiesRead task proof before now status text → status ≢ ReadFault → (status ≡ Accepted) ↔ ReadsProved task proof before now
+proved_by task proof before now status text a no_fault = (
+  λ e.
+      let v = a.only e in (
+        v.2.bytes,
+        v.3.bytes,
+        v.1,
+        v.2.read,
+        v.3.read,
+        record { parts = v.0; spells = v.2.spells; passes = v.3.passes; short = v.2.short; fits = v.3.fits },
+      ),
+  λ r.
+      a.all no_fault r.5.parts r.2 (record { bytes = r.0; read = r.3; short = r.5.short; spells = r.5.spells })
+      (record { bytes = r.1; read = r.4; fits = r.5.fits; passes = r.5.passes }),
+)
+
+pub proves_read : (words : Words) (before now : List Read) (status : Status) (text : List ℕ) →
+    AnswersByReads (asked words) before now status text → status ≢ ReadFault → (task proof : List ℕ) (workers : ℕ) →
+    asked words ≡ Some (verify task proof workers) → (status ≡ Accepted) ↔ ReadsProved task proof before now
+proves_read words before now status text a no_fault task proof workers asks =
+    proved_by task proof before now status text (rw asks at a) no_fault
 
 -- Conflict by what was read
 conflict_by : (ask : Asked) (files : Files) (b n : ℕ) (before now : List Read) (status : Status) (text : List ℕ) →

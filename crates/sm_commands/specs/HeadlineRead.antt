@@ -1,6 +1,6 @@
 -- What Accepted and Conflict say of the bytes that were read: on every shelf, whether it tells what
--- its files hold or not. The public clauses `accepted_read`, `conflict_read` and `shown_read` of
--- `safemerge` cite it.
+-- its files hold or not. The public clauses `accepted_read`, `verified_read`, `conflict_read` and
+-- `shown_read` of `safemerge` cite it.
 use Rattle.std.specs.Prelude.{◌≡◌, ◌++◌, ℕ, List}
 use Rattle.sm_io.specs.Reads.{Read, ReadsWhole}
 use Rattle.sm_commands.specs.Headline.{IsProved, IsSafeMerge, IsUnsafeMerge, IsViolatedFrom}
@@ -27,6 +27,10 @@ AcceptsRead (verify task proof workers) before now =
 AcceptsRead (replay task input turns) before now = Unit {0}
 AcceptsRead (print task) before now = Unit {0}
 AcceptsRead (gen seed size effort) before now = Unit {0}
+
+-- Accepted of `verify`, and nothing else: the task was read, and then a proof that passes for it
+abbrev pub ReadsProved : List ℕ → List ℕ → List Read → List Read → Type 0
+ReadsProved task proof before now = ReadsTwo task proof before now IsProved
 
 -- Conflict of `check`: what was read spells a task that isn't free of conflicts. Of `replay`: and
 -- then an input was read that shows one. `verify` and `print` don't answer it

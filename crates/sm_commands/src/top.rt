@@ -16,7 +16,8 @@ ghost use Rattle.sm_text.specs.printing.Named.{HasText};
 ghost use Rattle.sm_text.specs.printing.Pieces.{pieces_text};
 ghost use Rattle.sm_commands.specs.Headline.{merge_file, IsProved, IsSafeMerge, IsUnsafeMerge};
 ghost use Rattle.sm_commands.specs.Headline.{IsShownByInput, ShowsInput};
-ghost use Rattle.sm_commands.specs.HeadlineRead.{AcceptsRead, ConflictsRead, ShowsReadInput};
+ghost use Rattle.sm_commands.specs.HeadlineRead.{AcceptsRead, ConflictsRead, ReadsProved};
+ghost use Rattle.sm_commands.specs.HeadlineRead.{ShowsReadInput};
 ghost use Rattle.sm_commands.specs.Readings.{AnswersByReads, ChecksRead, ReplaysRead, RunsRead};
 ghost use Rattle.sm_commands.specs.Top.{IsAnswerTo, AnswersCommand, Checks, Prints, Replays};
 ghost use Rattle.sm_commands.specs.Top.{IsPrinted, PutsPart, RejectsProof, LeavesBy, LeavesFiles};
@@ -84,6 +85,11 @@ pub fn safemerge<R: Threads + Sync, G: Gate, H: Shelf, K: Sink>(
     ensures accepted_read { result ≡ Status.Accepted → (ask : Asked) →
         asked (map string_bytes words.now) ≡ Some ask →
         AcceptsRead ask (H.given shelf.old) (H.given shelf.new) }
+    ensures verified_read { IsPrinted result → result ≢ Status.ReadFault →
+        (task proof : List ℕ) (workers : ℕ) →
+        asked (map string_bytes words.now) ≡ Some (verify task proof workers) →
+        (result ≡ Status.Accepted)
+        ↔ ReadsProved task proof (H.given shelf.old) (H.given shelf.new) }
     ensures conflict_read { result ≡ Status.Conflict → (ask : Asked) →
         asked (map string_bytes words.now) ≡ Some ask →
         ConflictsRead ask (H.given shelf.old) (H.given shelf.new) }

@@ -1,7 +1,7 @@
 //! What the words that the program is given ask for.
 //!
-//! - `read_words` gives what the words ask for, as `clap`'s own definitions of the five commands and
-//!   the rule for numbers have it. It answers `Usage` only where no command takes the words, and
+//! - `read_words` gives what the words ask for, as `clap`'s own definitions of the five commands
+//!   and the rule for numbers have it. It answers `Usage` only where no command takes the words, and
 //!   they then ask for nothing. What it gives has 1 to 64 workers, and a size from 1 to 190.
 //! - `usage_line` is the line on words that no command takes, and `line` one of any words.
 //!

@@ -37,5 +37,6 @@ returns-in_err-task-clause-exit_read g c =
     let none =
     none_verified c.args.name.now c.args.proof.now (g.H.Shelf.given c.args.shelf.now) (g.H.Shelf.given c.task_in.new.shelf)
     (g.H.Shelf.file c.args.shelf.now c.args.name.now) (g.H.Shelf.read_faults c.args.shelf.now)
-    (g.H.Shelf.read_faults c.task_in.new.shelf) c.in_err-task.field-0.0 c.in_err-task.ensures.exit in
+    (g.H.Shelf.read_faults c.task_in.new.shelf) c.in_err-task.field-0.0 c.in_err-task.ensures.once
+    c.in_err-task.ensures.exit in
     search rules

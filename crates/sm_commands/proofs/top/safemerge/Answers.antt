@@ -7,7 +7,7 @@ use Rattle.sm_words.specs.Words.{Asked, asked}
 use Rattle.sm_commands.proofs.Answering.{accepts, sound}
 use Rattle.sm_commands.proofs.FilesLemmas.{kept_whole, leaves_cut, leaves_front, left_by}
 use Rattle.sm_commands.proofs.ConflictSound.{conflicts, shows, replays_shown}
-use Rattle.sm_commands.proofs.ReadingsLemmas.{accepts_read, conflicts_read, shows_read}
+use Rattle.sm_commands.proofs.ReadingsLemmas.{accepts_read, conflicts_read, proves_read, shows_read}
 use Rattle.sm_commands.proofs.Verified.{verifies_exactly}
 use Rattle.sm_commands.proofs.top.safemerge.Goals as goal
 
@@ -123,6 +123,11 @@ returns-in-Ok-clause-unfinished g c = λ failed task proof effort is.
 pub returns-in-Ok-clause-accepted_read : goal.returns-in-Ok-clause-accepted_read
 returns-in-Ok-clause-accepted_read g c =
     accepts_read (map string_bytes c.args.words.now) (g.H.Shelf.given c.args.shelf.now) (g.H.Shelf.given c.reply_to.new.shelf)
+    c.in-Some.reply.status c.in-Some.reply.text.items c.in-Some.ensures.read
+
+pub returns-in-Ok-clause-verified_read : goal.returns-in-Ok-clause-verified_read
+returns-in-Ok-clause-verified_read g c = λ _.
+    proves_read (map string_bytes c.args.words.now) (g.H.Shelf.given c.args.shelf.now) (g.H.Shelf.given c.reply_to.new.shelf)
     c.in-Some.reply.status c.in-Some.reply.text.items c.in-Some.ensures.read
 
 pub returns-in-Ok-clause-conflict_read : goal.returns-in-Ok-clause-conflict_read
