@@ -1,0 +1,14 @@
+mod CoefficientLemmas
+mod EntryLemmas
+mod RowLemmas
+mod StackLemmas
+mod StepLemmas
+mod TurnLemmas
+mod DecideLemmas
+mod ValuesLemmas
+mod GivingLemmas
+mod ModularLemmas
+mod SplittingLemmas
+mod BoundsLemmas
+mod ShadowsLemmas
+mod SplintersLemmas

@@ -1,0 +1,7 @@
+-- The number so far, with the parts from here on, gives that of all parts.
+use Rattle.std.proofs.Common.{◌≡◌, drop}
+use Rattle.sm_omega.specs.Exact.{above_parts}
+use Rattle.sm_exact.proofs.atoms.above_parts.Given as goal
+
+abbrev pub invariant-loop-part : goal.invariant-loop-part
+invariant-loop-part l = above_parts l.parts l.fn.n ≡ above_parts (drop l.part-index l.parts) l.above

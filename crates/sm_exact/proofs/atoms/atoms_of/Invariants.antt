@@ -1,0 +1,7 @@
+-- The variables so far, with those of the forms from here on, are those of all forms.
+use Rattle.std.proofs.Common.{◌≡◌, [], drop}
+use Rattle.sm_exact.specs.Telling.{with_forms}
+use Rattle.sm_exact.proofs.atoms.atoms_of.Given as goal
+
+abbrev pub invariant-loop-f : goal.invariant-loop-f
+invariant-loop-f l = with_forms l.forms [] ≡ with_forms (drop l.f-index l.forms) l.atoms.items

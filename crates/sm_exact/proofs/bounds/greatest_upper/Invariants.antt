@@ -1,0 +1,13 @@
+-- The greatest so far, with the coefficients from here on, is that of all.
+use Rattle.std.proofs.Common.{take, drop, IsTrue}
+use Rattle.std.specs.List.{All}
+use Rattle.sm_num.specs.Range.{fits_form}
+use Rattle.sm_omega.specs.Solving.{at}
+use Rattle.sm_exact.proofs.BoundsLemmas.{IsTop}
+use Rattle.sm_exact.proofs.bounds.greatest_upper.Given as goal
+
+abbrev pub invariant-loop-f : goal.invariant-loop-f
+invariant-loop-f l = record {
+  top : IsTop l.t l.forms (drop l.f-index l.forms) l.greatest;
+  numbers : All (λ f. IsTrue (fits_form (at l.t f))) (take l.f-index l.forms);
+}

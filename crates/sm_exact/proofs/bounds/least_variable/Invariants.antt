@@ -1,0 +1,13 @@
+-- The least variable so far is that of the forms from here on.
+use Rattle.std.proofs.Common.{◌≡◌, ◌≤◌, length, drop}
+use Rattle.sm_omega.specs.Solving.{least_variable}
+use Rattle.sm_exact.proofs.bounds.least_variable.Given as goal
+
+abbrev pub invariant-loop-i : goal.invariant-loop-i
+invariant-loop-i l = record {
+  within : l.i ≤ length l.forms;
+  least : l.least ≡ least_variable (drop l.i l.forms);
+}
+
+abbrev pub decreases-loop-i : goal.decreases-loop-i
+decreases-loop-i l = l.i

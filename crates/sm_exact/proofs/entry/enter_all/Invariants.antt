@@ -1,0 +1,9 @@
+-- The forms so far have entered.
+use Rattle.std.proofs.Common.{◌≡◌, ℕ, map, drop}
+use Rattle.sm_omega.specs.Counting.{Enter, entered}
+use Rattle.sm_exact.specs.Entries.{before}
+use Rattle.sm_exact.proofs.entry.enter_all.Given as goal
+
+abbrev pub invariant-loop-f : goal.invariant-loop-f
+invariant-loop-f l =
+    (limit : ℕ) → entered limit (map Enter l.forms) 0 ≡ before l.out.items (entered limit (map Enter (drop l.f-index l.forms)) l.counted)

@@ -1,0 +1,11 @@
+-- What is left enters behind the forms so far.
+use Rattle.std.proofs.Common.{◌≡◌, map}
+use Rattle.sm_omega.specs.Counting.{entered}
+use Rattle.sm_omega.specs.Equalities.{eliminated_item}
+use Rattle.sm_exact.specs.Entries.{before}
+use Rattle.sm_exact.proofs.equation.eliminate_all.Given as goal
+
+abbrev pub invariant-loop-f : goal.invariant-loop-f
+invariant-loop-f l =
+    entered l.steps (map (eliminated_item l.e l.t) l.fn.forms.items) l.count
+    ≡ before l.out.items (entered l.steps (map (eliminated_item l.e l.t) l.f-iterator.rest.items) l.counted)

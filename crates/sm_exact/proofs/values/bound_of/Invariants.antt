@@ -1,0 +1,11 @@
+-- The best bound so far, with those of the forms from here on, is that of all forms.
+use Rattle.std.proofs.Common.{◌≡◌, nat_eq, None, drop}
+use Rattle.std.specs.HashMap.{get}
+use Rattle.sm_exact.specs.Valued.{values_in}
+use Rattle.sm_exact.proofs.ValuesLemmas.{bound_behind}
+use Rattle.sm_exact.proofs.values.bound_of.Given as goal
+
+abbrev pub invariant-loop-f : goal.invariant-loop-f
+invariant-loop-f l =
+    bound_behind l.side l.t (values_in (get nat_eq l.values)) None l.forms
+    ≡ bound_behind l.side l.t (values_in (get nat_eq l.values)) l.best (drop l.f-index l.forms)

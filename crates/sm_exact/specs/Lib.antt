@@ -1,0 +1,5 @@
+pub mod Entries
+pub mod Rows
+pub mod Stack
+pub mod Telling
+pub mod Valued
