@@ -1,5 +1,6 @@
 // Commands.
 use crate::adopting::adopt_answer;
+use crate::deciding::decide_answer;
 use crate::fact::{fact_answer, negate_answer, show_answer};
 use crate::form::form_answer;
 use crate::line::line_answer;
@@ -24,6 +25,7 @@ pub fn answer(alloc: Global, scene: &mut Scene, line: &str) -> Result<String, Re
         None => match line.split_once(' ') {
             Some(("tree", text)) => tree_answer(alloc, scene, text),
             Some(("adopt", text)) => adopt_answer(alloc, scene, text),
+            Some(("decide", text)) => decide_answer(alloc, text),
             _ => {
                 let words: Vec<&str> = line.split_whitespace().collect(alloc)?;
                 command_answer(alloc, scene, &words)

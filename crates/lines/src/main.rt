@@ -36,11 +36,16 @@
 //! - `form`, `elim`, `tight`, `combine`, `cancels` and `contradiction` are calls on linear forms. A
 //!   form is `le -2*0 3*1 1`: what it says of its sum, its parts, each a coefficient and an atom,
 //!   and its constant. `beyond` stands where an operation leaves the range, with its operands.
+//! - `decide 1000 eq 2*0 -2*1 -1, le 1*0 0` asks whether whole numbers satisfy forms, in so many
+//!   steps: `refuted` with the count of the steps that it took; `solution 0=12 1=7` with a value for
+//!   each atom of the forms; `steps` where they don't suffice; `beyond` where an operation leaves
+//!   the range.
 //! - `add`, `sub` and `mul` are those of whole numbers, `none` where the result is none.
 #![tactic(auto)]
 
 mod adopting;
 mod command;
+mod deciding;
 mod fact;
 mod form;
 mod line;
