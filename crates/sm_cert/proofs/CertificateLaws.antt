@@ -15,5 +15,5 @@ closed_contradicts sorts facts c fine terms e =
 
 -- what closes does so elsewhere
 pub moved_closes : ClosesMoved
-moved_closes sorts move facts others c stand e =
-    refused_moves sorts (adds sorts) move facts others c (adds_anywhere arithmetic_moves sorts) stand e
+moved_closes sorts move facts others c stand named e =
+    refused_moves sorts (adds sorts) move facts others c (adds_anywhere arithmetic_moves sorts) stand named e

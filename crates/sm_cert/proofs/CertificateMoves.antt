@@ -6,14 +6,17 @@ use Rattle.std.proofs.lemmas.List.{length-append}
 use Rattle.std.proofs.lemmas.Bool.{ltb-true, lt-ltb}
 use Rattle.sm_syntax.specs.text.Sorts.{Sorts}
 use Rattle.sm_theory.specs.Facts.{BranchFact}
-use Rattle.sm_theory.specs.Lines.{CertificateLine}
+use Rattle.sm_theory.specs.Lines.{CertificateLine, Both, Either, Cases, Order, Refl, Sym, Trans, Subst, Cong, Same, Apart, Hit, Miss, Lin, Elim}
+use Rattle.sm_theory.specs.Lines.{Tight, Exact, Close, Clash}
 use Rattle.sm_theory.specs.Equality.{or_other}
 use Rattle.sm_theory.specs.Ways.{Ways, ways_with}
-use Rattle.sm_theory.specs.Moved.{moved_line, StandAmong}
+use Rattle.sm_theory.specs.Named.{reads_all}
+use Rattle.sm_theory.specs.Moved.{moved_line, StandAmong, ReadsAlike}
+use Rattle.sm_theory.proofs.FactsLemmas.{among_alike}
 use Rattle.sm_theory.proofs.WaysLemmas.{ways_with_move}
 use Rattle.sm_cert.specs.Certificates.{Certificate, Next, Closed, Split, lines_in, splits_above, in_one_way, in_no_way, in_two_ways}
 use Rattle.sm_cert.specs.Certificates.{Theories, first_bad, TooManySplits, bad_line, refused}
-use Rattle.sm_cert.specs.MovedTrees.{moved_certificate, moved_past}
+use Rattle.sm_cert.specs.MovedTrees.{moved_certificate, NamesWhatItReads, moved_past}
 
 -- an element of the first of two lists
 in_first : {X : Type 0} (xs ys : List X) (n : ℕ) (x : X) → slice_get xs n ≡ Some x → slice_get (xs ++ ys) n ≡ Some x
@@ -120,10 +123,38 @@ splits_same move (Next line c) = splits_same move c
 splits_same move (Closed line) = refl
 splits_same move (Split line c d) = let p = splits_same move c in let q = splits_same move d in rw (p, q) refl
 
--- what theories add they add on each other branch on which the facts stand
+-- a moved line reads all facts where the line does
+reads_same : (move : ℕ → ℕ) (line : CertificateLine) → reads_all (moved_line move line) ≡ reads_all line
+reads_same move (Exact n) = refl
+reads_same move (Both n) = refl
+reads_same move (Either n) = refl
+reads_same move (Cases t u) = refl
+reads_same move (Order n) = refl
+reads_same move (Refl t) = refl
+reads_same move (Sym n) = refl
+reads_same move (Trans i j) = refl
+reads_same move (Subst i j) = refl
+reads_same move (Cong t u ns) = refl
+reads_same move (Same t u) = refl
+reads_same move (Apart t u) = refl
+reads_same move (Hit t n) = refl
+reads_same move (Miss t u n) = refl
+reads_same move (Lin n) = refl
+reads_same move (Elim i j t) = refl
+reads_same move (Tight n) = refl
+reads_same move (Close n) = refl
+reads_same move (Clash i j) = refl
+
+-- a moved certificate reads only what it names where the certificate does
+pub moved_names : (move : ℕ → ℕ) (c : Certificate) → NamesWhatItReads c → NamesWhatItReads (moved_certificate move c)
+moved_names move (Next line c) named = (reads_same move line ∙ named.0, moved_names move c named.1)
+moved_names move (Closed line) named = reads_same move line ∙ named
+moved_names move (Split line c d) named = (reads_same move line ∙ named.0, moved_names move c named.1, moved_names move d named.2)
+
+-- what theories add they add on each other branch on which the line reads the same
 abbrev pub AddAnywhere : Theories → Type 0
 AddAnywhere added =
-    (move : ℕ → ℕ) (facts others : List BranchFact) (line : CertificateLine) (k : BranchFact) → StandAmong move facts others →
+    (move : ℕ → ℕ) (facts others : List BranchFact) (line : CertificateLine) (k : BranchFact) → ReadsAlike move facts others line →
     added facts line ≡ Some k → added others (moved_line move line) ≡ Some k
 
 -- no line of two parts is bad
@@ -138,27 +169,30 @@ parts_none (Some n) p e = absurd cc
 
 -- a certificate without a bad line has none on the other branch
 pub first_moves : (sorts : Sorts) (added : Theories) (move : ℕ → ℕ) (facts others : List BranchFact) (n m : ℕ) (c : Certificate) →
-    AddAnywhere added → MovesPast move facts others →
+    AddAnywhere added → NamesWhatItReads c → MovesPast move facts others →
     first_bad added sorts facts n c ≡ None → first_bad added sorts others m (moved_certificate move c) ≡ None
-first_moves sorts added move facts others n m (Next line c) anywhere moves e =
+first_moves sorts added move facts others n m (Next line c) anywhere named moves e =
+    let alike = among_alike move facts others line moves.stand named.0 in
     let v = ways_with sorts facts (added facts line) line in
     let w = ways_with sorts others (added others (moved_line move line)) (moved_line move line) in
     let next = λ (way : List BranchFact). first_bad added sorts (facts ++ way) (suc n) c in
     let after = λ (way : List BranchFact). first_bad added sorts (others ++ way) (suc m) (moved_certificate move c) in
     one_moves v w n m next after
     (λ (to : List (List BranchFact)) (h : v ≡ Some to).
-    ways_with_move sorts move facts others (added facts line) (added others (moved_line move line)) line to moves.stand
-    (λ (k : BranchFact) (g : added facts line ≡ Some k). anywhere move facts others line k moves.stand g) h)
+    ways_with_move sorts move facts others (added facts line) (added others (moved_line move line)) line to alike
+    (λ (k : BranchFact) (g : added facts line ≡ Some k). anywhere move facts others line k alike g) h)
     (λ (way : List BranchFact) (h : next way ≡ None). first_moves sorts added move (facts ++ way) (others ++ way) (suc n) (suc m) c anywhere
-    (later_facts move facts others way moves) h) e
-first_moves sorts added move facts others n m (Closed line) anywhere moves e =
+    named.1 (later_facts move facts others way moves) h) e
+first_moves sorts added move facts others n m (Closed line) anywhere named moves e =
+    let alike = among_alike move facts others line moves.stand named in
     let v = ways_with sorts facts (added facts line) line in
     let w = ways_with sorts others (added others (moved_line move line)) (moved_line move line) in
     none_moves v w n m
     (λ (to : List (List BranchFact)) (h : v ≡ Some to).
-    ways_with_move sorts move facts others (added facts line) (added others (moved_line move line)) line to moves.stand
-    (λ (k : BranchFact) (g : added facts line ≡ Some k). anywhere move facts others line k moves.stand g) h) e
-first_moves sorts added move facts others n m (Split line c d) anywhere moves e =
+    ways_with_move sorts move facts others (added facts line) (added others (moved_line move line)) line to alike
+    (λ (k : BranchFact) (g : added facts line ≡ Some k). anywhere move facts others line k alike g) h) e
+first_moves sorts added move facts others n m (Split line c d) anywhere named moves e =
+    let alike = among_alike move facts others line moves.stand named.0 in
     let v = ways_with sorts facts (added facts line) line in
     let w = ways_with sorts others (added others (moved_line move line)) (moved_line move line) in
     let first = λ (way : List BranchFact). first_bad added sorts (facts ++ way) (suc n) c in
@@ -169,28 +203,28 @@ first_moves sorts added move facts others n m (Split line c d) anywhere moves e 
     two_move v w n m (λ (way other : List BranchFact). or_other (first way) (second other))
     (λ (way other : List BranchFact). or_other (first_there way) (second_there other))
     (λ (to : List (List BranchFact)) (h : v ≡ Some to).
-    ways_with_move sorts move facts others (added facts line) (added others (moved_line move line)) line to moves.stand
-    (λ (k : BranchFact) (g : added facts line ≡ Some k). anywhere move facts others line k moves.stand g) h)
+    ways_with_move sorts move facts others (added facts line) (added others (moved_line move line)) line to alike
+    (λ (k : BranchFact) (g : added facts line ≡ Some k). anywhere move facts others line k alike g) h)
     (λ (way other : List BranchFact) (h : or_other (first way) (second other) ≡ None).
     let parts = parts_none (first way) (second other) h in
     both_none (first_there way) (second_there other)
-    (first_moves sorts added move (facts ++ way) (others ++ way) (suc n) (suc m) c anywhere (later_facts move facts others way moves)
+    (first_moves sorts added move (facts ++ way) (others ++ way) (suc n) (suc m) c anywhere named.1 (later_facts move facts others way moves)
     parts.0)
     (first_moves sorts added move (facts ++ other) (others ++ other) (suc n + lines_in c) (suc m + lines_in (moved_certificate move c)) d
-    anywhere (later_facts move facts others other moves) parts.1)) e
+    anywhere named.2 (later_facts move facts others other moves) parts.1)) e
 
 -- a certificate that isn't refused isn't on the other branch
 pub refused_moves : (sorts : Sorts) (added : Theories) (move : ℕ → ℕ) (facts others : List BranchFact) (c : Certificate) →
-    AddAnywhere added → StandAmong move facts others →
+    AddAnywhere added → StandAmong move facts others → NamesWhatItReads c →
     refused added sorts facts c ≡ None →
     refused added sorts others (moved_certificate (moved_past move (length facts) (length others)) c) ≡ None
-refused_moves sorts added move facts others c anywhere stand e =
+refused_moves sorts added move facts others c anywhere stand named e =
     let along = moved_past move (length facts) (length others) in
     let deep : nat_lt 1000 (splits_above (moved_certificate along c)) ≡ nat_lt 1000 (splits_above c) =
     ap (λ (n : ℕ). nat_lt 1000 n) (splits_same along c) in
     of (nat_lt 1000 (splits_above c)) (nat_lt 1000 (splits_above (moved_certificate along c))) (first_bad added sorts facts 0 c)
     (first_bad added sorts others 0 (moved_certificate along c)) deep
-    (first_moves sorts added along facts others 0 0 c anywhere (moves_past move facts others stand)) e
+    (first_moves sorts added along facts others 0 0 c anywhere named (moves_past move facts others stand)) e
   where
     of : (b d : Bool) (o p : Option ℕ) → d ≡ b → (o ≡ None → p ≡ None) → (if b then Some TooManySplits else bad_line o) ≡ None →
         (if d then Some TooManySplits else bad_line p) ≡ None

@@ -170,6 +170,7 @@ line_sorted sorts trees (line.Miss t u n) all within = (all t.0 within.0, all u.
 line_sorted sorts trees (line.Lin n) all within = tt
 line_sorted sorts trees (line.Elim m n t) all within = all t.0 within
 line_sorted sorts trees (line.Tight n) all within = tt
+line_sorted sorts trees (line.Exact n) all within = tt
 line_sorted sorts trees (line.Close n) all within = tt
 line_sorted sorts trees (line.Clash m n) all within = tt
 

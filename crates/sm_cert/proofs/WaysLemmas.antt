@@ -241,6 +241,7 @@ other_is_whole sorts trees facts added (line.Miss t u n) either cases order = ad
 other_is_whole sorts trees facts added (line.Lin n) either cases order = adding_is_whole sorts trees added
 other_is_whole sorts trees facts added (line.Elim m n t) either cases order = adding_is_whole sorts trees added
 other_is_whole sorts trees facts added (line.Tight n) either cases order = adding_is_whole sorts trees added
+other_is_whole sorts trees facts added (line.Exact n) either cases order = adding_is_whole sorts trees added
 other_is_whole sorts trees facts added (line.Close n) either cases order = close_is_whole sorts trees (slice_get facts n)
 other_is_whole sorts trees facts added (line.Clash m n) either cases order =
     clash_is_whole sorts trees (equation_at facts m) (contrary_at facts n)
@@ -269,6 +270,7 @@ theory_adds sorts trees facts added (line.Miss t u n) both either cases order cl
 theory_adds sorts trees facts added (line.Lin n) both either cases order close clash = refl
 theory_adds sorts trees facts added (line.Elim m n t) both either cases order close clash = refl
 theory_adds sorts trees facts added (line.Tight n) both either cases order close clash = refl
+theory_adds sorts trees facts added (line.Exact n) both either cases order close clash = refl
 
 -- the first elements of a list and others
 pub take_first : {X : Type 0} (xs ys : List X) → take (length xs) (xs ++ ys) ≡ xs

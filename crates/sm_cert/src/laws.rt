@@ -9,7 +9,8 @@ pub fn closed_is_contradictory()
     ensures { ClosedIsContradictory }
 {}
 
-/// A certificate closes each other branch on which the facts stand, with their numbers there.
+/// A certificate without an exact line closes each other branch on which the facts stand, with their
+/// numbers there.
 #[tactic(auto, using(crate::proofs::CertificateLaws::moved_closes))]
 pub fn closes_moved()
     ensures { ClosesMoved }

@@ -76,6 +76,7 @@ fn added(table: &TermTable, branch: &Branch, line: &CertLine) -> Option<Fact>
         CertLine::Cases(_, _) | CertLine::Same(_, _) | CertLine::Apart(_, _) => None,
         CertLine::Hit(_, _) | CertLine::Miss(_, _, _) => None,
         CertLine::Lin(_) | CertLine::Elim(_, _, _) | CertLine::Tight(_) => None,
+        CertLine::Exact(_) => None,
         CertLine::Close(_) | CertLine::Clash(_, _) => None,
     }
 }

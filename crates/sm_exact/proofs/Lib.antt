@@ -12,3 +12,6 @@ mod SplittingLemmas
 mod BoundsLemmas
 mod ShadowsLemmas
 mod SplintersLemmas
+mod PlacingLemmas
+mod PlacedBranch
+mod AnswersLemmas

@@ -6,6 +6,7 @@ ghost use Rattle.sm_omega.specs.Rules.{Answer};
 ghost use Rattle.sm_omega.specs.Exact.{exact};
 ghost use Rattle.sm_omega.specs.ExactLaws.{AllKept};
 ghost use Rattle.sm_exact.specs.declared.deciding.Turned.TheVariants as turned;
+ghost use Rattle.sm_exact.specs.Answers.{IsRight, HasVariables, ClosesBranches};
 ghost use Rattle.sm_exact.specs.Stack.{Awaits, Stands, told, all_zero};
 ghost use Rattle.sm_exact.specs.Telling.{TellsExact};
 ghost use Rattle.sm_exact.specs.Valued.{Turns, TellsFailure};
@@ -35,6 +36,22 @@ enum Turned {
 /// want of memory, which is also said where a variable has the greatest number there is, so that
 /// there is none for a new one.
 pub fn decide(alloc: Global, forms: &[LinForm], steps: u64) -> Result<ExactAnswer, AllocError>
+    ensures tells { IfOk result (TellsExact forms.now (exact forms.now steps)) }
+    ensures right { IfOk result (IsRight forms.now) }
+    ensures variables { IfOk result (HasVariables forms.now) }
+    ensures line { IfOk result (ClosesBranches forms.now) }
+{
+    look_at(forms);
+    let answer = decided(alloc, forms, steps)?;
+    Ok(answer)
+}
+
+// What the decision comes to.
+pub(crate) fn decided(
+    alloc: Global,
+    forms: &[LinForm],
+    steps: u64,
+) -> Result<ExactAnswer, AllocError>
     ensures { IfOk result (TellsExact forms.now (exact forms.now steps)) }
 {
     let Some(above) = above_all(forms) else {

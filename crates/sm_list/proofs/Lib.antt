@@ -1,5 +1,4 @@
 pub mod BuiltLemmas
-pub mod ListingLemmas
 pub mod NamedTermsLemmas
 pub mod OwnLemmas
 pub mod PartsLemmas
@@ -8,4 +7,3 @@ pub mod RenumberLemmas
 pub mod RenumberTermLemmas
 pub mod RenumberTreeLemmas
 pub mod SharedLemmas
-pub mod WithTermLemmas

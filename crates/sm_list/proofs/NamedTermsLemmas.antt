@@ -41,6 +41,7 @@ line_names trees (line.Miss t u n) h = (one_at trees t.0 h.0, one_at trees u.0 h
 line_names trees (line.Lin n) h = tt
 line_names trees (line.Elim m n t) h = one_at trees t.0 h
 line_names trees (line.Tight n) h = tt
+line_names trees (line.Exact n) h = tt
 line_names trees (line.Close n) h = tt
 line_names trees (line.Clash m n) h = tt
 

@@ -22,13 +22,13 @@ use Rattle.sm_term.proofs.TreesLemmas.{tree_at-more}
 use Rattle.sm_term.proofs.TablesLemmas.{grown-with_tree}
 use Rattle.sm_euf.specs.Arguments.{argument_numbers, trees_of}
 use Rattle.sm_euf.proofs.ArgumentsLemmas.{arguments_are, parts_before}
-use Rattle.sm_pairs.specs.Pairs.{is_among}
-use Rattle.sm_list.specs.Listing.{trees_at, numbers_of, AreBelow, AllAmong}
+use Rattle.sm_theory.specs.TermsOfFormulas.{is_among}
+use Rattle.sm_terms.specs.Listing.{trees_at, numbers_of, AreBelow, AllAmong}
 use Rattle.sm_list.specs.Own.{AreBuilt, ArePlaced}
 use Rattle.sm_list.specs.Parts.{assertions_in, AreFormulasWithin}
 use Rattle.sm_list.specs.Renumber.{number_under}
-use Rattle.sm_list.proofs.WithTermLemmas.{among_put_cases, put_new}
-use Rattle.sm_list.proofs.ListingLemmas.{below_at, tree_of_place}
+use Rattle.sm_terms.proofs.WithTermLemmas.{among_put_cases, put_new}
+use Rattle.sm_terms.proofs.ListingLemmas.{below_at, tree_of_place}
 use Rattle.sm_list.proofs.RenumberLemmas.{Stands, FormulaStands, FormulasStand}
 use Rattle.sm_list.proofs.RenumberTermLemmas.{AllStand, renumbered_tree, renumbered_within, renumbered_fits}
 use Rattle.sm_list.proofs.BuiltLemmas.{FormulaAmong, FormulasAmong, built_at}

@@ -8,10 +8,10 @@ use Rattle.sm_term.specs.Terms.{Tree, Lit, Start, Havoc, Slot, Cell, Read, Write
 use Rattle.sm_term.specs.Terms.{Neg, Add, Sub, Mul, Fun}
 use Rattle.sm_term.specs.SameTerms.{same_tree}
 use Rattle.sm_term.proofs.SameTermsLemmas.{same_tree_is}
-use Rattle.sm_pairs.specs.Pairs.{is_among}
-use Rattle.sm_list.specs.Branches.{greatest_of, writes_on, put, put_if, read_before, with_reads, with_all_reads}
-use Rattle.sm_list.specs.Listing.{AllAmong, IsClosed}
-use Rattle.sm_list.proofs.WithTermLemmas.{AllOf, same_itself, among-right, put_there, put_new, among_put, kept_put}
+use Rattle.sm_theory.specs.TermsOfFormulas.{put, is_among}
+use Rattle.sm_list.specs.Branches.{greatest_of, writes_on, put_if, read_before, with_reads, with_all_reads}
+use Rattle.sm_terms.specs.Listing.{AllAmong, IsClosed}
+use Rattle.sm_terms.proofs.WithTermLemmas.{AllOf, same_itself, among-right, put_there, put_new, among_put, kept_put}
 
 -- how many writes stand on one another in the array of which an element is read
 abbrev pub reads_on : Tree → ℕ

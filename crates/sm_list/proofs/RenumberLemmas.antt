@@ -15,11 +15,11 @@ use Rattle.sm_theory.specs.Lines as told
 use Rattle.sm_theory.specs.Views.{line_in, IsLineWithin}
 use Rattle.sm_cert.specs.Views.{AreLinesWithin}
 use Rattle.sm_cert.proofs.CheckLemmas.{within_parts}
-use Rattle.sm_list.specs.Listing.{trees_at, numbers_of, AreBelow}
+use Rattle.sm_terms.specs.Listing.{trees_at, numbers_of, AreBelow}
 use Rattle.sm_list.specs.Parts.{assertions_in, AreFormulasWithin}
 use Rattle.sm_list.specs.Renumber.{number_under, formula_under, line_by, terms_in_line, IsLineUnder, AreLinesUnder}
 use Rattle.sm_list.specs.Renumbered.{AreTermsOf}
-use Rattle.sm_list.proofs.ListingLemmas.{below_at, tree_of_place}
+use Rattle.sm_terms.proofs.ListingLemmas.{below_at, tree_of_place}
 
 -- what stands at a place doesn't turn on what is said past the end
 other_default : (ns : List ℕ) (k d e : ℕ) → k < length ns → get_or ns k d ≡ get_or ns k e
@@ -135,6 +135,7 @@ line_is trees (line.Miss t u n) = refl
 line_is trees (line.Lin n) = refl
 line_is trees (line.Elim m n t) = refl
 line_is trees (line.Tight n) = refl
+line_is trees (line.Exact n) = refl
 line_is trees (line.Close n) = refl
 line_is trees (line.Clash m n) = refl
 
@@ -156,6 +157,7 @@ below_line count (line.Miss t u n) h = (h.0, (h.1, tt))
 below_line count (line.Lin n) h = tt
 below_line count (line.Elim m n t) h = (h, tt)
 below_line count (line.Tight n) h = tt
+below_line count (line.Exact n) h = tt
 below_line count (line.Close n) h = tt
 below_line count (line.Clash m n) h = tt
 
@@ -176,6 +178,7 @@ within_line count (line.Miss t u n) h = (h.0, h.1.0)
 within_line count (line.Lin n) h = tt
 within_line count (line.Elim m n t) h = h.0
 within_line count (line.Tight n) h = tt
+within_line count (line.Exact n) h = tt
 within_line count (line.Close n) h = tt
 within_line count (line.Clash m n) h = tt
 
@@ -202,6 +205,7 @@ line_same_by at by (line.Miss t u n) h = ap (λ (x : Tree). told.Miss x (at u.0)
 line_same_by at by (line.Lin n) h = refl
 line_same_by at by (line.Elim m n t) h = ap (told.Elim m n) h.0
 line_same_by at by (line.Tight n) h = refl
+line_same_by at by (line.Exact n) h = refl
 line_same_by at by (line.Close n) h = refl
 line_same_by at by (line.Clash m n) h = refl
 

@@ -1,5 +1,4 @@
 pub mod Branches
-pub mod Listing
 pub mod Own
 pub mod Parts
 pub mod Reading

@@ -4,8 +4,8 @@ use Rattle.sm_term.specs.declared.term.TermId.{TermId}
 use Rattle.sm_term.specs.Terms.{Tree}
 use Rattle.sm_term.specs.Tables.{tree_at}
 use Rattle.sm_term.specs.Heads.{arguments_of}
-use Rattle.sm_pairs.specs.Pairs.{is_among}
-use Rattle.sm_list.specs.Listing.{AllAmong}
+use Rattle.sm_theory.specs.TermsOfFormulas.{is_among}
+use Rattle.sm_terms.specs.Listing.{AllAmong}
 use Rattle.sm_list.specs.Renumber.{number_under}
 
 -- behind other terms, each term stands once and after its arguments

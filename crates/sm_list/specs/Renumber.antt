@@ -10,7 +10,7 @@ use Rattle.sm_theory.specs.Lines as plain
 use Rattle.sm_theory.specs.Lines.{CertificateLine}
 use Rattle.sm_theory.specs.Views.{line_in}
 use Rattle.sm_cert.specs.Views.{AreLinesWithin}
-use Rattle.sm_list.specs.Listing.{numbers_of}
+use Rattle.sm_terms.specs.Listing.{numbers_of}
 use Rattle.sm_list.specs.Renumbered.{AreTermsOf}
 
 -- the number at a number's place, the same number where there is none
@@ -46,6 +46,7 @@ line_by at (line.Miss t u n) = plain.Miss (at t.0) (at u.0) n
 line_by at (line.Lin n) = plain.Lin n
 line_by at (line.Elim m n t) = plain.Elim m n (at t.0)
 line_by at (line.Tight n) = plain.Tight n
+line_by at (line.Exact n) = plain.Exact n
 line_by at (line.Close n) = plain.Close n
 line_by at (line.Clash m n) = plain.Clash m n
 
@@ -67,6 +68,7 @@ terms_in_line (line.Miss t u n) = t.0 ∷ u.0 ∷ []
 terms_in_line (line.Lin n) = []
 terms_in_line (line.Elim m n t) = t.0 ∷ []
 terms_in_line (line.Tight n) = []
+terms_in_line (line.Exact n) = []
 terms_in_line (line.Close n) = []
 terms_in_line (line.Clash m n) = []
 

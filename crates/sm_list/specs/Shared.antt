@@ -5,7 +5,7 @@ use Rattle.sm_term.specs.Tables.{TableValue, trees_in, sorts_in, codes_in}
 use Rattle.sm_list.specs.declared.shared.SharedTerms.{SharedTerms}
 use Rattle.sm_list.specs.Branches.{with_all_reads, writes_on}
 use Rattle.sm_list.specs.Branches.{greatest_of}
-use Rattle.sm_list.specs.Listing.{trees_at, AreBelow, IsClosed}
+use Rattle.sm_terms.specs.Listing.{trees_at, AreBelow, IsClosed}
 use Rattle.sm_list.specs.Own.{AreBuilt, ArePlaced}
 
 -- terms of a table stand in a table of their own, where the number of each is its place in the list

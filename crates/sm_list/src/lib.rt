@@ -13,11 +13,10 @@
 //! - `renumbered` and `renumbered_tree` put a formula and a certificate under the numbers that terms
 //!   have in another table. They stand for the same there.
 //!
-//! Read `specs/Branches.antt` first, then `specs/Parts.antt`, `specs/Listing.antt`,
+//! Read `specs/Branches.antt` first, then `specs/Parts.antt`,
 //! `specs/Renumbered.antt` and `specs/Shared.antt`.
 #![tactic(auto)]
 
-mod listing;
 mod own;
 mod parts;
 mod reads;

@@ -7,7 +7,7 @@ ghost use Rattle.sm_term.specs.Tables.{trees_in, sorts_in, codes_in, tree_at, tr
 ghost use Rattle.sm_term.specs.Tables.{IsTermWithin};
 ghost use Rattle.sm_term.specs.TableLaws.{Grows, with_tree};
 ghost use Rattle.sm_list.specs.Branches.{terms_of};
-ghost use Rattle.sm_list.specs.Listing.{trees_at, numbers_of, AreBelow, AllAmong};
+ghost use Rattle.sm_terms.specs.Listing.{trees_at, numbers_of, AreBelow, AllAmong};
 ghost use Rattle.sm_list.specs.Own.{AreBuilt, ArePlaced};
 ghost use Rattle.sm_list.specs.Parts.{all_numbered, assertions_in, AreFormulasWithin};
 ghost use Rattle.sm_list.specs.Renumbered.{AreTermsOf};

@@ -127,6 +127,7 @@ fn renumbered_line(
         CertLine::Lin(n) => Ok(CertLine::Lin(*n)),
         CertLine::Elim(m, n, t) => Ok(CertLine::Elim(*m, *n, new_number(*t, numbers))),
         CertLine::Tight(n) => Ok(CertLine::Tight(*n)),
+        CertLine::Exact(n) => Ok(CertLine::Exact(*n)),
         CertLine::Close(n) => Ok(CertLine::Close(*n)),
         CertLine::Clash(m, n) => Ok(CertLine::Clash(*m, *n)),
     }

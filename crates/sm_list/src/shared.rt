@@ -4,20 +4,21 @@ ghost use Rattle.sm_term.specs.Formulas.{numbered, assertion_in, IsFormulaWithin
 ghost use Rattle.sm_term.specs.Tables.{TableValue, trees_in, sorts_in, codes_in};
 ghost use Rattle.sm_term.specs.TableLaws.{Grows};
 ghost use Rattle.sm_term.specs.Terms.{Tree};
-ghost use Rattle.sm_list.specs.Branches.{with_formula, terms_of};
-ghost use Rattle.sm_list.specs.Listing.{trees_at, AreBelow, IsClosed};
+ghost use Rattle.sm_theory.specs.TermsOfFormulas.{with_formula};
+ghost use Rattle.sm_list.specs.Branches.{terms_of};
+ghost use Rattle.sm_terms.specs.Listing.{trees_at, AreBelow, IsClosed};
 ghost use Rattle.sm_list.specs.Own.{AreBuilt, ArePlaced};
 ghost use Rattle.sm_list.specs.Parts.{all_numbered, assertions_in, AreFormulasWithin};
 ghost use Rattle.sm_list.specs.Renumber.{number_under};
 ghost use Rattle.sm_list.specs.Shared.{AreShared, with_those_before};
 
-use crate::listing::list_formula;
 use crate::own::{blank_numbers, put_term};
 use crate::reads::list_reads;
 use crate::renumber::{renumbered_formula, renumbered_formulas};
 use crate::terms::list_formulas;
 use indexmap::IndexSet;
 use sm_term::{Formula, TermId, TermTable};
+use sm_terms::list_formula;
 use std::alloc::{AllocError, Global};
 
 /// Terms of a table in a table of their own, where the number of each is its place in the list.

@@ -2,14 +2,15 @@
 ghost use Rattle.std.specs.Prelude.{◌≡◌, ◌<◌, [], length, map, IfOk, OnOk, OnErr};
 ghost use Rattle.sm_term.specs.Tables.{trees_in, sorts_in};
 ghost use Rattle.sm_term.specs.TableLaws.{Grows};
-ghost use Rattle.sm_list.specs.Branches.{with_formulas, terms_of};
+ghost use Rattle.sm_theory.specs.TermsOfFormulas.{with_formulas};
+ghost use Rattle.sm_list.specs.Branches.{terms_of};
 ghost use Rattle.sm_list.specs.Parts.{all_numbered, assertions_in, AreFormulasWithin};
-ghost use Rattle.sm_list.specs.Listing.{trees_at, AreBelow, IsClosed, numbers_of};
+ghost use Rattle.sm_terms.specs.Listing.{trees_at, AreBelow, IsClosed, numbers_of};
 
-use crate::listing::list_formula;
 use crate::reads::list_reads;
 use indexmap::IndexSet;
 use sm_term::{Formula, TermId, TermTable, Terms};
+use sm_terms::list_formula;
 use std::alloc::{AllocError, Global};
 
 // The terms of formulas, each after its arguments and once, and behind them what each element that

@@ -4,7 +4,7 @@ use Rattle.std.specs.List.{list_any}
 use Rattle.sm_term.specs.Terms.{Tree}
 use Rattle.sm_term.specs.SameTerms.{same_tree}
 use Rattle.sm_term.proofs.SameTermsLemmas.{same_tree_is}
-use Rattle.sm_pairs.specs.Pairs.{is_among}
+use Rattle.sm_theory.specs.TermsOfFormulas.{is_among}
 
 -- what is there is one thing
 pub one_thing : {A : Type 0} (x y : A) → Some x ≡ Some y → x ≡ y

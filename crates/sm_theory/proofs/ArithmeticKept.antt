@@ -27,7 +27,7 @@ use Rattle.sm_theory.specs.Lines.{CertificateLine, Same, Apart, Lin, Elim, Tight
 use Rattle.sm_theory.specs.Arithmetic.{is_numeric, compared_forms, form_fact, with_constant, difference, one_more, form_of_comparison, cancelled}
 use Rattle.sm_theory.specs.Arithmetic.{arithmetic_adds}
 use Rattle.sm_theory.specs.SortedFacts.{EachAtom, IsFactSorted, AreFactsSorted, IsFactBelow, AreFactsBelow, IsLineSorted, IsLineBelow}
-use Rattle.sm_theory.specs.Moved.{moved_line, StandAmong}
+use Rattle.sm_theory.specs.Moved.{moved_line, ReadsAlike}
 use Rattle.sm_theory.proofs.FactsLemmas.{fact_is_sorted, fact_is_below, followed_from, formula_stands, form_stands, followed_gives}
 use Rattle.sm_theory.proofs.FactsLemmas.{gives_itself, formula_moves, form_moves}
 use Rattle.sm_theory.proofs.LinearSameTree.{tree_sound, tree_reflexive}
@@ -232,23 +232,23 @@ arithmetic_below sorts node facts (Tight n) k below terms e =
     (atoms_each (IsBelow node) (tightened p.0).parts (tightened_among (IsBelow node) p.0 (each_atoms (IsBelow node) p.0.parts each)))
 arithmetic_below sorts node facts line k below terms e = absurd cc
 
--- what is added is added on another branch on which the facts stand
+-- what is added is added on another branch on which the line reads the same
 pub arithmetic_moves : (sorts : Sorts) (move : ℕ → ℕ) (facts others : List BranchFact) (line : CertificateLine) (k : BranchFact) →
-    StandAmong move facts others → arithmetic_adds sorts facts line ≡ Some k → arithmetic_adds sorts others (moved_line move line) ≡ Some k
-arithmetic_moves sorts move facts others (Same t u) k stand e = e
-arithmetic_moves sorts move facts others (Apart t u) k stand e = e
-arithmetic_moves sorts move facts others (Lin n) k stand e =
+    ReadsAlike move facts others line → arithmetic_adds sorts facts line ≡ Some k → arithmetic_adds sorts others (moved_line move line) ≡ Some k
+arithmetic_moves sorts move facts others (Same t u) k alike e = e
+arithmetic_moves sorts move facts others (Apart t u) k alike e = e
+arithmetic_moves sorts move facts others (Lin n) k alike e =
     followed_gives (formula_at facts n) (formula_at others (move n)) form_of_comparison form_of_comparison
-    (formula_moves move facts others n stand) (λ (f : Assertion). gives_itself (form_of_comparison f)) k e
-arithmetic_moves sorts move facts others (Elim i j t) k stand e =
+    (formula_moves move facts others n alike.0.0) (λ (f : Assertion). gives_itself (form_of_comparison f)) k e
+arithmetic_moves sorts move facts others (Elim i j t) k alike e =
     followed_gives (form_at facts i) (form_at others (move i)) (λ (f : Linear Tree). followed (form_at facts j) (cancelled t f))
     (λ (f : Linear Tree). followed (form_at others (move j)) (cancelled t f))
-    (form_moves move facts others i stand)
+    (form_moves move facts others i alike.0.0)
     (λ (f : Linear Tree). followed_gives (form_at facts j) (form_at others (move j)) (cancelled t f) (cancelled t f)
-    (form_moves move facts others j stand) (λ (g : Linear Tree). gives_itself (cancelled t f g)))
+    (form_moves move facts others j alike.0.1.0) (λ (g : Linear Tree). gives_itself (cancelled t f g)))
     k e
-arithmetic_moves sorts move facts others (Tight n) k stand e =
+arithmetic_moves sorts move facts others (Tight n) k alike e =
     followed_gives (form_at facts n) (form_at others (move n)) (λ (f : Linear Tree). Some (Sum (tightened f)))
     (λ (f : Linear Tree). Some (Sum (tightened f)))
-    (form_moves move facts others n stand) (λ (f : Linear Tree). gives_itself (Some (Sum (tightened f)))) k e
-arithmetic_moves sorts move facts others line k stand e = absurd cc
+    (form_moves move facts others n alike.0.0) (λ (f : Linear Tree). gives_itself (Some (Sum (tightened f)))) k e
+arithmetic_moves sorts move facts others line k alike e = absurd cc

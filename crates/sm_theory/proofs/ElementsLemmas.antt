@@ -158,15 +158,15 @@ read_gives t next other more =
 
 -- another branch with the same facts gives it too
 pub arrays_anywhere : AddsAnywhere arrays
-arrays_anywhere sorts move facts others (Hit t n) k stand h =
+arrays_anywhere sorts move facts others (Hit t n) k alike h =
     read_gives t
     (λ (w : Written) (j : Tree). formula_if (says_equal (equation_at facts n) w.index j) (Eq Num t w.element))
     (λ (w : Written) (j : Tree). formula_if (says_equal (equation_at others (move n)) w.index j) (Eq Num t w.element))
     (λ (w : Written) (j : Tree).
     formula_if_moves (says_equal (equation_at facts n) w.index j) (says_equal (equation_at others (move n)) w.index j) (Eq Num t w.element)
-    (says_moves (equation_at facts n) (equation_at others (move n)) w.index j (equation_moves move facts others n stand)))
+    (says_moves (equation_at facts n) (equation_at others (move n)) w.index j (equation_moves move facts others n alike.0.0)))
     k h
-arrays_anywhere sorts move facts others (Miss t u n) k stand h =
+arrays_anywhere sorts move facts others (Miss t u n) k alike h =
     read_gives t
     (λ (w : Written) (j : Tree). formula_if (says_equal (contrary_at facts n) w.index j && same_tree u (Read w.before j)) (Eq Num t u))
     (λ (w : Written) (j : Tree). formula_if (says_equal (contrary_at others (move n)) w.index j && same_tree u (Read w.before j))
@@ -177,7 +177,7 @@ arrays_anywhere sorts move facts others (Miss t u n) k stand h =
     (λ (b : (says_equal (contrary_at facts n) w.index j && same_tree u (Read w.before j)) ≡ true).
     let q = and_parts (says_equal (contrary_at facts n) w.index j) (same_tree u (Read w.before j)) b in
     and_from (says_equal (contrary_at others (move n)) w.index j) (same_tree u (Read w.before j))
-    (says_moves (contrary_at facts n) (contrary_at others (move n)) w.index j (contrary_moves move facts others n stand) q.0)
+    (says_moves (contrary_at facts n) (contrary_at others (move n)) w.index j (contrary_moves move facts others n alike.0.0) q.0)
     q.1))
     k h
-arrays_anywhere sorts move facts others line k stand h = absurd cc
+arrays_anywhere sorts move facts others line k alike h = absurd cc

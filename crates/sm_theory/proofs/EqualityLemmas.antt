@@ -2,6 +2,7 @@
 -- that another branch with the same facts gives it too.
 use Rattle.std.proofs.Common.{◌≡◌, ◌⊎◌, ℕ, Bool, true, false, ◌&&◌, slice_get, IsTrue, Option, Some, None, List, []}
 use Rattle.std.proofs.Common.{◌∷◌, map, inl, inr, ⊎_elim, refl, subst, sym, ap, ◌∙◌}
+use Rattle.std.specs.List.{AllByRecursion}
 use Rattle.std.proofs.lemmas.Bool.{and_parts, and_from}
 use Rattle.sm_syntax.specs.text.Sorts.{Sorts}
 use Rattle.sm_term.specs.Terms.{Tree}
@@ -17,7 +18,7 @@ use Rattle.sm_theory.specs.Lines.{unequal_sides, equation_at, contrary_at}
 use Rattle.sm_theory.specs.Equality.{formula_if, turned_equation, turned_contrary, or_other, chained, substituted}
 use Rattle.sm_theory.specs.Equality.{says_equal, say_equal, is_inhabited_list, equality_adds}
 use Rattle.sm_theory.specs.SortedFacts.{IsFactSorted, IsFactBelow}
-use Rattle.sm_theory.specs.Moved.{StandAmong}
+use Rattle.sm_theory.specs.Moved.{StandsMoved}
 use Rattle.sm_theory.specs.Laws.{AddsWhatIsSorted, AddsWhatIsBelow, AddsAnywhere, equality}
 use Rattle.sm_theory.proofs.FactsLemmas.{fact_is_sorted, fact_is_below, equation, contrary, followed_from}
 use Rattle.sm_theory.proofs.FactsLemmas.{equation_stands, contrary_stands, Gives, followed_gives, gives_itself}
@@ -159,14 +160,14 @@ equality_below sorts node facts (Cong t u ns) k all named h =
 equality_below sorts node facts line k all named h = absurd cc
 
 -- facts that say that terms are equal say it on another branch
-say_moves : (move : ℕ → ℕ) (facts others : List BranchFact) (ns : List ℕ) (ts us : List Tree) → StandAmong move facts others →
-    say_equal facts ns ts us ≡ true → say_equal others (map move ns) ts us ≡ true
+say_moves : (move : ℕ → ℕ) (facts others : List BranchFact) (ns : List ℕ) (ts us : List Tree) →
+    AllByRecursion (StandsMoved move facts others) ns → say_equal facts ns ts us ≡ true → say_equal others (map move ns) ts us ≡ true
 say_moves move facts others [] [] [] stand h = refl
 say_moves move facts others (n ∷ ns) (t ∷ ts) (u ∷ us) stand h =
     let p = and_parts (says_equal (equation_at facts n) t u) (say_equal facts ns ts us) h in
     and_from (says_equal (equation_at others (move n)) t u) (say_equal others (map move ns) ts us)
-    (says_moves (equation_at facts n) (equation_at others (move n)) t u (equation_moves move facts others n stand) p.0)
-    (say_moves move facts others ns ts us stand p.1)
+    (says_moves (equation_at facts n) (equation_at others (move n)) t u (equation_moves move facts others n stand.0) p.0)
+    (say_moves move facts others ns ts us stand.1 p.1)
 say_moves move facts others ns ts us stand h = absurd cc
 
 -- numbers are as many when they are moved
@@ -187,29 +188,29 @@ turned o =
 
 -- another branch with the same facts gives it too
 pub equality_anywhere : AddsAnywhere equality
-equality_anywhere sorts move facts others (Refl t) k stand h = h
-equality_anywhere sorts move facts others (Sym n) k stand h =
-    through turned (slice_get facts n) (slice_get others (move n)) refl (stand n) k h
-equality_anywhere sorts move facts others (Trans i j) k stand h =
+equality_anywhere sorts move facts others (Refl t) k alike h = h
+equality_anywhere sorts move facts others (Sym n) k alike h =
+    through turned (slice_get facts n) (slice_get others (move n)) refl alike.0.0 k h
+equality_anywhere sorts move facts others (Trans i j) k alike h =
     followed_gives (equation_at facts i) (equation_at others (move i)) (λ (s : Sides). followed (equation_at facts j) (chained s))
     (λ (s : Sides). followed (equation_at others (move j)) (chained s))
-    (equation_moves move facts others i stand)
+    (equation_moves move facts others i alike.0.0)
     (λ (s : Sides). followed_gives (equation_at facts j) (equation_at others (move j)) (chained s) (chained s)
-    (equation_moves move facts others j stand) (λ (r : Sides). gives_itself (chained s r)))
+    (equation_moves move facts others j alike.0.1.0) (λ (r : Sides). gives_itself (chained s r)))
     k h
-equality_anywhere sorts move facts others (Subst i j) k stand h =
+equality_anywhere sorts move facts others (Subst i j) k alike h =
     followed_gives (contrary_at facts i) (contrary_at others (move i)) (λ (s : Sides). followed (equation_at facts j) (substituted s))
     (λ (s : Sides). followed (equation_at others (move j)) (substituted s))
-    (contrary_moves move facts others i stand)
+    (contrary_moves move facts others i alike.0.0)
     (λ (s : Sides).
     followed_gives (equation_at facts j) (equation_at others (move j)) (substituted s) (substituted s)
-    (equation_moves move facts others j stand) (λ (r : Sides). gives_itself (substituted s r)))
+    (equation_moves move facts others j alike.0.1.0) (λ (r : Sides). gives_itself (substituted s r)))
     k h
-equality_anywhere sorts move facts others (Cong t u ns) k stand h =
+equality_anywhere sorts move facts others (Cong t u ns) k alike h =
     let p = cong_from sorts facts t u ns k h in
     let all = and_from (same_head t u) (say_equal others (map move ns) (arguments_of t) (arguments_of u)) p.1
-    (say_moves move facts others ns (arguments_of t) (arguments_of u) stand p.2) in
+    (say_moves move facts others ns (arguments_of t) (arguments_of u) alike.0 p.2) in
     let test = and_from (is_inhabited_list (map move ns))
     (same_head t u && say_equal others (map move ns) (arguments_of t) (arguments_of u)) (inhabited_moves move ns p.0) all in
     subst (λ (b : Bool). formula_if b (Eq (tree_sort sorts t) t u) ≡ Some k) (sym test) (ap Some p.3)
-equality_anywhere sorts move facts others line k stand h = absurd cc
+equality_anywhere sorts move facts others line k alike h = absurd cc

@@ -1,16 +1,18 @@
 -- Facts that a line names: what is so of all facts of a branch is so of each, and a fact stands on
 -- another branch under another number.
-use Rattle.std.proofs.Common.{◌≡◌, ℕ, zero, suc, slice_get, Option, Some, None, List, [], ◌∷◌, refl, subst, ap, ◌∙◌}
+use Rattle.std.proofs.Common.{◌≡◌, ℕ, zero, suc, false, IsTrue, slice_get, Option, Some, None, List, [], ◌∷◌, refl, subst, ap, ◌∙◌}
+use Rattle.std.specs.List.{AllByRecursion}
 use Rattle.sm_syntax.specs.text.Sorts.{Sorts}
 use Rattle.sm_term.specs.Structures.{Structure}
 use Rattle.sm_term.specs.Assertions.{Assertion, Eq, Ne}
 use Rattle.sm_num.specs.Forms.{Linear}
 use Rattle.sm_term.specs.Terms.{Tree}
 use Rattle.sm_theory.specs.Facts.{BranchFact, Formal, Sum, IsFact, AreFacts}
-use Rattle.sm_theory.specs.Lines.{followed, formula_in, form_in, formula_at, form_at, Sides, equal_sides, unequal_sides}
+use Rattle.sm_theory.specs.Lines.{CertificateLine, followed, formula_in, form_in, formula_at, form_at, Sides, equal_sides, unequal_sides}
 use Rattle.sm_theory.specs.Lines.{equation_at, contrary_at}
 use Rattle.sm_theory.specs.SortedFacts.{IsFactSorted, AreFactsSorted, IsFactBelow, AreFactsBelow}
-use Rattle.sm_theory.specs.Moved.{StandAmong}
+use Rattle.sm_theory.specs.Named.{facts_named, reads_all}
+use Rattle.sm_theory.specs.Moved.{StandsMoved, StandAmong, ReadsAlike}
 
 -- each fact of a branch holds where all do
 pub fact_holds : (m : Structure) (facts : List BranchFact) (n : ℕ) (k : BranchFact) → AreFacts m facts → slice_get facts n ≡ Some k → IsFact m k
@@ -101,28 +103,39 @@ pub gives_itself : {T : Type 0} (o : Option T) → Gives o o
 gives_itself o t h = h
 
 -- a formula that is found is found on the other branch
-pub formula_moves : (move : ℕ → ℕ) (facts others : List BranchFact) (n : ℕ) → StandAmong move facts others →
+pub formula_moves : (move : ℕ → ℕ) (facts others : List BranchFact) (n : ℕ) → StandsMoved move facts others n →
     Gives (formula_at facts n) (formula_at others (move n))
 formula_moves move facts others n stand =
-    followed_gives (slice_get facts n) (slice_get others (move n)) formula_in formula_in (stand n)
+    followed_gives (slice_get facts n) (slice_get others (move n)) formula_in formula_in stand
     (λ (k : BranchFact). gives_itself (formula_in k))
 
 -- so is a form
-pub form_moves : (move : ℕ → ℕ) (facts others : List BranchFact) (n : ℕ) → StandAmong move facts others →
+pub form_moves : (move : ℕ → ℕ) (facts others : List BranchFact) (n : ℕ) → StandsMoved move facts others n →
     Gives (form_at facts n) (form_at others (move n))
 form_moves move facts others n stand =
-    followed_gives (slice_get facts n) (slice_get others (move n)) form_in form_in (stand n) (λ (k : BranchFact). gives_itself (form_in k))
+    followed_gives (slice_get facts n) (slice_get others (move n)) form_in form_in stand (λ (k : BranchFact). gives_itself (form_in k))
 
 -- an equation
-pub equation_moves : (move : ℕ → ℕ) (facts others : List BranchFact) (n : ℕ) → StandAmong move facts others →
+pub equation_moves : (move : ℕ → ℕ) (facts others : List BranchFact) (n : ℕ) → StandsMoved move facts others n →
     Gives (equation_at facts n) (equation_at others (move n))
 equation_moves move facts others n stand =
     followed_gives (formula_at facts n) (formula_at others (move n)) equal_sides equal_sides (formula_moves move facts others n stand)
     (λ (f : Assertion). gives_itself (equal_sides f))
 
 -- and its contrary
-pub contrary_moves : (move : ℕ → ℕ) (facts others : List BranchFact) (n : ℕ) → StandAmong move facts others →
+pub contrary_moves : (move : ℕ → ℕ) (facts others : List BranchFact) (n : ℕ) → StandsMoved move facts others n →
     Gives (contrary_at facts n) (contrary_at others (move n))
 contrary_moves move facts others n stand =
     followed_gives (formula_at facts n) (formula_at others (move n)) unequal_sides unequal_sides (formula_moves move facts others n stand)
     (λ (f : Assertion). gives_itself (unequal_sides f))
+
+-- what is so of all numbers is so of each of some
+each_number : (P : ℕ → Type 0) → ((n : ℕ) → P n) → (ns : List ℕ) → AllByRecursion P ns
+each_number P all [] = tt
+each_number P all (n ∷ ns) = (all n, each_number P all ns)
+
+-- where all facts stand on the other branch, a line that doesn't read all reads the same
+pub among_alike : (move : ℕ → ℕ) (facts others : List BranchFact) (line : CertificateLine) → StandAmong move facts others →
+    reads_all line ≡ false → ReadsAlike move facts others line
+among_alike move facts others line stand few =
+    (each_number (StandsMoved move facts others) stand (facts_named line), λ (all : IsTrue (reads_all line)). absurd cc)

@@ -6,6 +6,10 @@ pub mod EqualitySound
 pub mod ElementsLemmas
 pub mod WaysLemmas
 pub mod WaysSound
+pub mod ExactLineSound
+pub mod PlacedForms
+pub mod TermsOfFormulasLemmas
+pub mod ExactCases
 pub mod TheoriesLemmas
 mod CasesLemmas
 pub mod LinearSameTree

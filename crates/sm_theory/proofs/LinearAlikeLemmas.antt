@@ -29,7 +29,7 @@ module _ {A : Type 0} (same : A → A → Bool) where
   Alike fs gs = (a : A) → coefficient same a fs ≡ coefficient same a gs
 
   -- reduced parts without coefficients aren't there
-  none_there : IsSound same → IsReflexive same → (gs : List (A × ℤ)) → AreReduced same gs → Alike [] gs → gs ≡ []
+  pub none_there : IsSound same → IsReflexive same → (gs : List (A × ℤ)) → AreReduced same gs → Alike [] gs → gs ≡ []
   none_there sound reflexive [] reduced alike = refl
   none_there sound reflexive (g ∷ gs) reduced alike =
       absurd (reduced.0 (sym (coefficient_one same g.0 g gs sound reduced.1 (reflexive g.0)) ∙ sym (alike g.0)))

@@ -1,18 +1,20 @@
 -- Theories together, and the laws of the ways in which a branch goes on, from those of theories.
-use Rattle.std.proofs.Common.{◌≡◌, Option, Some, None, ⊎_elim, refl, subst, sym}
+use Rattle.std.proofs.Common.{◌≡◌, Option, Some, None, List, ⊎_elim, refl, subst, sym}
 use Rattle.sm_theory.specs.Facts.{BranchFact}
-use Rattle.sm_theory.specs.Lines.{Refl, Sym, Trans, Subst, Cong, Same, Apart, Hit, Miss, Lin, Elim, Tight}
+use Rattle.sm_theory.specs.Lines.{Refl, Sym, Trans, Subst, Cong, Same, Apart, Hit, Miss, Lin, Elim, Tight, Exact}
 use Rattle.sm_theory.specs.Equality.{or_other, equality_adds}
 use Rattle.sm_theory.specs.Arithmetic.{arithmetic_adds}
+use Rattle.sm_theory.specs.ExactLine.{with_exact}
 use Rattle.sm_theory.specs.Ways.{adds}
 use Rattle.sm_theory.specs.Moved.{moved_line}
 use Rattle.sm_theory.specs.Laws.{TheoryAdds, AddsWhatHolds, AddsWhatIsSorted, AddsWhatIsBelow, AddsAnywhere, SomeWayHolds}
-use Rattle.sm_theory.specs.Laws.{WaysAreSorted, WaysAreBelow, WaysMove, arithmetic, equality, arrays}
+use Rattle.sm_theory.specs.Laws.{WaysAreSorted, WaysAreBelow, WaysAddSoMany, WaysMove, arithmetic, equality, arrays}
 use Rattle.sm_theory.proofs.FactsLemmas.{Gives}
 use Rattle.sm_theory.proofs.EqualityLemmas.{or_else_from, equality_sorted, equality_below, equality_anywhere}
 use Rattle.sm_theory.proofs.EqualitySound.{equality_holds}
 use Rattle.sm_theory.proofs.ElementsLemmas.{arrays_hold, arrays_sorted, arrays_below, arrays_anywhere}
-use Rattle.sm_theory.proofs.WaysLemmas.{ways_with_sorted, ways_with_below, ways_with_move}
+use Rattle.sm_theory.proofs.ExactLineSound.{with_exact_holds, with_exact_sorted, with_exact_below}
+use Rattle.sm_theory.proofs.WaysLemmas.{ways_with_sorted, ways_with_below, ways_with_long, ways_with_move}
 use Rattle.sm_theory.proofs.WaysSound.{some_way_with_holds}
 
 -- what the first theory adds, or else the second
@@ -45,58 +47,66 @@ one_of_below a b first second sorts node facts line k all named h =
 
 -- what the three theories add holds wherever the facts do
 pub adds_hold : AddsWhatHolds arithmetic → AddsWhatHolds adds
-adds_hold law = one_of_holds equality (one_of arithmetic arrays) equality_holds (one_of_holds arithmetic arrays law arrays_hold)
+adds_hold law =
+    one_of_holds equality (one_of (with_exact arithmetic) arrays) equality_holds
+    (one_of_holds (with_exact arithmetic) arrays (with_exact_holds arithmetic law) arrays_hold)
 
 -- it is sorted
 pub adds_sorted : AddsWhatIsSorted arithmetic → AddsWhatIsSorted adds
-adds_sorted law = one_of_sorted equality (one_of arithmetic arrays) equality_sorted (one_of_sorted arithmetic arrays law arrays_sorted)
+adds_sorted law =
+    one_of_sorted equality (one_of (with_exact arithmetic) arrays) equality_sorted
+    (one_of_sorted (with_exact arithmetic) arrays (with_exact_sorted arithmetic law) arrays_sorted)
 
 -- it names new values of earlier nodes alone
 pub adds_below : AddsWhatIsBelow arithmetic → AddsWhatIsBelow adds
-adds_below law = one_of_below equality (one_of arithmetic arrays) equality_below (one_of_below arithmetic arrays law arrays_below)
+adds_below law =
+    one_of_below equality (one_of (with_exact arithmetic) arrays) equality_below
+    (one_of_below (with_exact arithmetic) arrays (with_exact_below arithmetic law) arrays_below)
 
 -- what only the first can add
 first_alone : (o p : Option BranchFact) → Gives o p → Gives (or_other o None) (or_other p None)
 first_alone None p now k h = absurd cc
 first_alone (Some f) p now k h = subst (λ (q : Option BranchFact). or_other q None ≡ Some k) (sym (now f refl)) h
 
--- another branch with the same facts gives it too: of each line only one theory adds a fact
+-- another branch on which the line reads the same gives it too: of each line only one theory adds a fact
 pub adds_anywhere : AddsAnywhere arithmetic → AddsAnywhere adds
-adds_anywhere law sorts move facts others (Refl t) k stand h = h
-adds_anywhere law sorts move facts others (Sym n) k stand h =
+adds_anywhere law sorts move facts others (Refl t) k alike h = h
+adds_anywhere law sorts move facts others (Sym n) k alike h =
     first_alone (equality_adds sorts facts (Sym n)) (equality_adds sorts others (Sym (move n)))
-    (λ (f : BranchFact) (e : equality_adds sorts facts (Sym n) ≡ Some f). equality_anywhere sorts move facts others (Sym n) f stand e)
+    (λ (f : BranchFact) (e : equality_adds sorts facts (Sym n) ≡ Some f). equality_anywhere sorts move facts others (Sym n) f alike e)
     k h
-adds_anywhere law sorts move facts others (Trans i j) k stand h =
+adds_anywhere law sorts move facts others (Trans i j) k alike h =
     first_alone (equality_adds sorts facts (Trans i j)) (equality_adds sorts others (Trans (move i) (move j)))
-    (λ (f : BranchFact) (e : equality_adds sorts facts (Trans i j) ≡ Some f). equality_anywhere sorts move facts others (Trans i j) f stand e)
+    (λ (f : BranchFact) (e : equality_adds sorts facts (Trans i j) ≡ Some f). equality_anywhere sorts move facts others (Trans i j) f alike e)
     k h
-adds_anywhere law sorts move facts others (Subst i j) k stand h =
+adds_anywhere law sorts move facts others (Subst i j) k alike h =
     first_alone (equality_adds sorts facts (Subst i j)) (equality_adds sorts others (Subst (move i) (move j)))
-    (λ (f : BranchFact) (e : equality_adds sorts facts (Subst i j) ≡ Some f). equality_anywhere sorts move facts others (Subst i j) f stand e)
+    (λ (f : BranchFact) (e : equality_adds sorts facts (Subst i j) ≡ Some f). equality_anywhere sorts move facts others (Subst i j) f alike e)
     k h
-adds_anywhere law sorts move facts others (Cong t u ns) k stand h =
+adds_anywhere law sorts move facts others (Cong t u ns) k alike h =
     first_alone (equality_adds sorts facts (Cong t u ns)) (equality_adds sorts others (moved_line move (Cong t u ns)))
-    (λ (f : BranchFact) (e : equality_adds sorts facts (Cong t u ns) ≡ Some f). equality_anywhere sorts move facts others (Cong t u ns) f stand
+    (λ (f : BranchFact) (e : equality_adds sorts facts (Cong t u ns) ≡ Some f). equality_anywhere sorts move facts others (Cong t u ns) f alike
     e)
     k h
-adds_anywhere law sorts move facts others (Same t u) k stand h = h
-adds_anywhere law sorts move facts others (Apart t u) k stand h = h
-adds_anywhere law sorts move facts others (Lin n) k stand h =
+adds_anywhere law sorts move facts others (Same t u) k alike h = h
+adds_anywhere law sorts move facts others (Apart t u) k alike h = h
+adds_anywhere law sorts move facts others (Lin n) k alike h =
     first_alone (arithmetic_adds sorts facts (Lin n)) (arithmetic_adds sorts others (Lin (move n)))
-    (λ (f : BranchFact) (e : arithmetic_adds sorts facts (Lin n) ≡ Some f). law sorts move facts others (Lin n) f stand e)
+    (λ (f : BranchFact) (e : arithmetic_adds sorts facts (Lin n) ≡ Some f). law sorts move facts others (Lin n) f alike e)
     k h
-adds_anywhere law sorts move facts others (Elim i j t) k stand h =
+adds_anywhere law sorts move facts others (Elim i j t) k alike h =
     first_alone (arithmetic_adds sorts facts (Elim i j t)) (arithmetic_adds sorts others (Elim (move i) (move j) t))
-    (λ (f : BranchFact) (e : arithmetic_adds sorts facts (Elim i j t) ≡ Some f). law sorts move facts others (Elim i j t) f stand e)
+    (λ (f : BranchFact) (e : arithmetic_adds sorts facts (Elim i j t) ≡ Some f). law sorts move facts others (Elim i j t) f alike e)
     k h
-adds_anywhere law sorts move facts others (Tight n) k stand h =
+adds_anywhere law sorts move facts others (Tight n) k alike h =
     first_alone (arithmetic_adds sorts facts (Tight n)) (arithmetic_adds sorts others (Tight (move n)))
-    (λ (f : BranchFact) (e : arithmetic_adds sorts facts (Tight n) ≡ Some f). law sorts move facts others (Tight n) f stand e)
+    (λ (f : BranchFact) (e : arithmetic_adds sorts facts (Tight n) ≡ Some f). law sorts move facts others (Tight n) f alike e)
     k h
-adds_anywhere law sorts move facts others (Hit t n) k stand h = arrays_anywhere sorts move facts others (Hit t n) k stand h
-adds_anywhere law sorts move facts others (Miss t u n) k stand h = arrays_anywhere sorts move facts others (Miss t u n) k stand h
-adds_anywhere law sorts move facts others line k stand h = absurd cc
+adds_anywhere law sorts move facts others (Exact n) k alike h =
+    subst (λ (there : List BranchFact). adds sorts there (Exact n) ≡ Some k) (alike.1 refl) h
+adds_anywhere law sorts move facts others (Hit t n) k alike h = arrays_anywhere sorts move facts others (Hit t n) k alike h
+adds_anywhere law sorts move facts others (Miss t u n) k alike h = arrays_anywhere sorts move facts others (Miss t u n) k alike h
+adds_anywhere law sorts move facts others line k alike h = absurd cc
 
 -- where the facts hold, not every way in which the branch goes on fails
 pub some_way_holds_from : AddsWhatHolds arithmetic → SomeWayHolds
@@ -117,9 +127,13 @@ ways_are_below_from law sorts node facts line to all named h =
     ways_with_below sorts node facts (adds sorts facts line) line to all named
     (λ (k : BranchFact) (e : adds sorts facts line ≡ Some k). adds_below law sorts node facts line k all named e) h
 
--- the ways are the same on another branch on which the facts stand
+-- each way has as many facts as the line adds
+pub ways_add_so_many : WaysAddSoMany
+ways_add_so_many sorts facts line to h = ways_with_long sorts facts (adds sorts facts line) line to h
+
+-- the ways are the same on another branch on which the line reads the same
 pub ways_move_from : AddsAnywhere arithmetic → WaysMove
-ways_move_from law sorts move facts others line to stand h =
-    ways_with_move sorts move facts others (adds sorts facts line) (adds sorts others (moved_line move line)) line to stand
-    (λ (k : BranchFact) (e : adds sorts facts line ≡ Some k). adds_anywhere law sorts move facts others line k stand e)
+ways_move_from law sorts move facts others line to alike h =
+    ways_with_move sorts move facts others (adds sorts facts line) (adds sorts others (moved_line move line)) line to alike
+    (λ (k : BranchFact) (e : adds sorts facts line ≡ Some k). adds_anywhere law sorts move facts others line k alike e)
     h

@@ -1,7 +1,7 @@
 -- Ways in which a branch goes on, where theories add what is told: from what they come, that they are
 -- sorted and below as the facts are, and that they are the same on another branch with the facts.
 use Rattle.std.proofs.Common.{◌≡◌, ℕ, Bool, true, false, ◌&&◌, if◌then◌else◌, slice_get, IsTrue, Option, Some, None}
-use Rattle.std.proofs.Common.{List, [], ◌∷◌, refl, subst, sym, ap, ◌∙◌}
+use Rattle.std.proofs.Common.{List, [], ◌∷◌, length, refl, subst, sym, ap, ◌∙◌}
 use Rattle.std.proofs.lemmas.Bool.{and_parts}
 use Rattle.sm_syntax.specs.declared.tree.Sort.TheVariants.{Num}
 use Rattle.sm_syntax.specs.text.Sorts.{Sorts}
@@ -17,7 +17,8 @@ use Rattle.sm_theory.specs.Equality.{says_equal}
 use Rattle.sm_theory.specs.Arithmetic.{is_numeric}
 use Rattle.sm_theory.specs.Ways.{adding, splitting, closing_if, both_parts, either_part, ordered, cannot_hold, ways_with}
 use Rattle.sm_theory.specs.SortedFacts.{IsFactSorted, AreFactsSorted, IsFactBelow, AreFactsBelow, IsLineSorted, IsLineBelow}
-use Rattle.sm_theory.specs.Moved.{moved_line, StandAmong}
+use Rattle.sm_theory.specs.Moved.{moved_line, ReadsAlike}
+use Rattle.sm_theory.specs.Named.{facts_added}
 use Rattle.sm_theory.specs.Laws.{EachWay}
 use Rattle.sm_theory.proofs.FactsLemmas.{fact_is_sorted, fact_is_below, contrary, followed_from, formula_stands}
 use Rattle.sm_theory.proofs.FactsLemmas.{contrary_stands, Gives, followed_gives, gives_itself, formula_moves}
@@ -169,6 +170,22 @@ ways_with_below sorts node facts added (Clash i j) to all named law h =
 ways_with_below sorts node facts added line to all named law h =
     let p = adding_from added to h in subst (EachWay (AreFactsBelow node)) p.2 ((law p.0 p.1, tt), tt)
 
+-- a way has as many facts as a line adds
+abbrev pub IsSoLong : CertificateLine → List BranchFact → Type 0
+IsSoLong line way = length way ≡ facts_added line
+
+-- each way does
+pub ways_with_long : (sorts : Sorts) (facts : List BranchFact) (added : Option BranchFact) (line : CertificateLine)
+    (to : List (List BranchFact)) →
+    ways_with sorts facts added line ≡ Some to → EachWay (IsSoLong line) to
+ways_with_long sorts facts added (Both n) to h = subst (EachWay (IsSoLong (Both n))) (both_line facts n to h).3 (refl, tt)
+ways_with_long sorts facts added (Either n) to h = subst (EachWay (IsSoLong (Either n))) (either_line facts n to h).3 (refl, (refl, tt))
+ways_with_long sorts facts added (Cases t u) to h = subst (EachWay (IsSoLong (Cases t u))) (cases_line sorts t u to h).2 (refl, (refl, tt))
+ways_with_long sorts facts added (Order n) to h = subst (EachWay (IsSoLong (Order n))) (order_line facts n to h).3 (refl, (refl, tt))
+ways_with_long sorts facts added (Close n) to h = subst (EachWay (IsSoLong (Close n))) (close_line facts n to h).3 tt
+ways_with_long sorts facts added (Clash i j) to h = subst (EachWay (IsSoLong (Clash i j))) (clash_line facts i j to h).3 tt
+ways_with_long sorts facts added line to h = subst (EachWay (IsSoLong line)) (adding_from added to h).2 (refl, tt)
+
 -- what is added on one branch and on another
 adding_gives : (added other : Option BranchFact) → Gives added other → Gives (adding added) (adding other)
 adding_gives None other now to h = absurd cc
@@ -179,33 +196,33 @@ closing_gives : (test other : Bool) → (test ≡ true → other ≡ true) → G
 closing_gives true other passes to h = rw (passes refl) h
 closing_gives false other passes to h = absurd cc
 
--- the ways are the same on another branch with the same facts, where theories add there what they add here
+-- the ways are the same on another branch on which the line reads the same, where theories add there what they add here
 pub ways_with_move : (sorts : Sorts) (move : ℕ → ℕ) (facts others : List BranchFact) (added other : Option BranchFact) (line : CertificateLine)
     (to : List (List BranchFact)) →
-    StandAmong move facts others → ((k : BranchFact) → added ≡ Some k → other ≡ Some k) →
+    ReadsAlike move facts others line → ((k : BranchFact) → added ≡ Some k → other ≡ Some k) →
     ways_with sorts facts added line ≡ Some to → ways_with sorts others other (moved_line move line) ≡ Some to
-ways_with_move sorts move facts others added other (Both n) to stand law h =
-    followed_gives (formula_at facts n) (formula_at others (move n)) both_parts both_parts (formula_moves move facts others n stand)
+ways_with_move sorts move facts others added other (Both n) to alike law h =
+    followed_gives (formula_at facts n) (formula_at others (move n)) both_parts both_parts (formula_moves move facts others n alike.0.0)
     (λ (f : Assertion). gives_itself (both_parts f)) to h
-ways_with_move sorts move facts others added other (Either n) to stand law h =
-    followed_gives (formula_at facts n) (formula_at others (move n)) either_part either_part (formula_moves move facts others n stand)
+ways_with_move sorts move facts others added other (Either n) to alike law h =
+    followed_gives (formula_at facts n) (formula_at others (move n)) either_part either_part (formula_moves move facts others n alike.0.0)
     (λ (f : Assertion). gives_itself (either_part f)) to h
-ways_with_move sorts move facts others added other (Cases t u) to stand law h = h
-ways_with_move sorts move facts others added other (Order n) to stand law h =
-    followed_gives (contrary_at facts n) (contrary_at others (move n)) ordered ordered (contrary_moves move facts others n stand)
+ways_with_move sorts move facts others added other (Cases t u) to alike law h = h
+ways_with_move sorts move facts others added other (Order n) to alike law h =
+    followed_gives (contrary_at facts n) (contrary_at others (move n)) ordered ordered (contrary_moves move facts others n alike.0.0)
     (λ (s : Sides). gives_itself (ordered s)) to h
-ways_with_move sorts move facts others added other (Close n) to stand law h =
+ways_with_move sorts move facts others added other (Close n) to alike law h =
     followed_gives (slice_get facts n) (slice_get others (move n)) (λ (k : BranchFact). closing_if (cannot_hold k))
-    (λ (k : BranchFact). closing_if (cannot_hold k)) (stand n)
+    (λ (k : BranchFact). closing_if (cannot_hold k)) alike.0.0
     (λ (k : BranchFact). gives_itself (closing_if (cannot_hold k)))
     to h
-ways_with_move sorts move facts others added other (Clash i j) to stand law h =
+ways_with_move sorts move facts others added other (Clash i j) to alike law h =
     followed_gives (equation_at facts i) (equation_at others (move i))
     (λ (s : Sides). closing_if (says_equal (contrary_at facts j) s.left s.right))
     (λ (s : Sides). closing_if (says_equal (contrary_at others (move j)) s.left s.right))
-    (equation_moves move facts others i stand)
+    (equation_moves move facts others i alike.0.0)
     (λ (s : Sides).
     closing_gives (says_equal (contrary_at facts j) s.left s.right) (says_equal (contrary_at others (move j)) s.left s.right)
-    (says_moves (contrary_at facts j) (contrary_at others (move j)) s.left s.right (contrary_moves move facts others j stand)))
+    (says_moves (contrary_at facts j) (contrary_at others (move j)) s.left s.right (contrary_moves move facts others j alike.0.1.0)))
     to h
-ways_with_move sorts move facts others added other line to stand law h = adding_gives added other law to h
+ways_with_move sorts move facts others added other line to alike law h = adding_gives added other law to h

@@ -19,8 +19,8 @@ use Rattle.sm_term.specs.SameTerms.{same_tree, same_sort}
 use Rattle.sm_theory.specs.Facts.{BranchFact, Sum}
 use Rattle.sm_theory.specs.LinearTerms.{linear_of}
 use Rattle.sm_theory.specs.Lines.{CertificateLine, Both, Either, Cases, Order, Refl, Sym, Trans}
-use Rattle.sm_theory.specs.Lines.{Subst, Cong, Same, Apart, Hit, Miss, Lin, Elim, Tight, Close, Clash}
-use Rattle.sm_theory.specs.Lines.{followed, formula_at, form_at}
+use Rattle.sm_theory.specs.Lines.{Subst, Cong, Same, Apart, Hit, Miss, Lin, Elim, Tight, Exact}
+use Rattle.sm_theory.specs.Lines.{Close, Clash, followed, formula_at, form_at}
 use Rattle.sm_theory.specs.Equality.{formula_if}
 
 -- whether a term is a number
@@ -100,5 +100,6 @@ arithmetic_adds sorts facts (Subst m n) = None
 arithmetic_adds sorts facts (Cong t u ns) = None
 arithmetic_adds sorts facts (Hit t n) = None
 arithmetic_adds sorts facts (Miss t u n) = None
+arithmetic_adds sorts facts (Exact n) = None
 arithmetic_adds sorts facts (Close n) = None
 arithmetic_adds sorts facts (Clash m n) = None

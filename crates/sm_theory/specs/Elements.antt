@@ -7,8 +7,8 @@ use Rattle.sm_term.specs.Assertions.{Eq}
 use Rattle.sm_term.specs.SameTerms.{same_tree}
 use Rattle.sm_theory.specs.Facts.{BranchFact}
 use Rattle.sm_theory.specs.Lines.{CertificateLine, Both, Either, Cases, Order, Refl, Sym, Trans}
-use Rattle.sm_theory.specs.Lines.{Subst, Cong, Same, Apart, Hit, Miss, Lin, Elim, Tight, Close, Clash}
-use Rattle.sm_theory.specs.Lines.{followed, equation_at, contrary_at}
+use Rattle.sm_theory.specs.Lines.{Subst, Cong, Same, Apart, Hit, Miss, Lin, Elim, Tight, Exact}
+use Rattle.sm_theory.specs.Lines.{Close, Clash, followed, equation_at, contrary_at}
 use Rattle.sm_theory.specs.Equality.{formula_if, says_equal}
 
 -- an array to which an element was written, with its index and the number that was written
@@ -78,5 +78,6 @@ element_adds facts (Apart t u) = None
 element_adds facts (Lin n) = None
 element_adds facts (Elim m n t) = None
 element_adds facts (Tight n) = None
+element_adds facts (Exact n) = None
 element_adds facts (Close n) = None
 element_adds facts (Clash m n) = None

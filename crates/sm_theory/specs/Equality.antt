@@ -9,8 +9,8 @@ use Rattle.sm_term.specs.SameTerms.{same_tree}
 use Rattle.sm_term.specs.Heads.{arguments_of, same_head}
 use Rattle.sm_theory.specs.Facts.{BranchFact, Formal}
 use Rattle.sm_theory.specs.Lines.{CertificateLine, Both, Either, Cases, Order, Refl, Sym, Trans}
-use Rattle.sm_theory.specs.Lines.{Subst, Cong, Same, Apart, Hit, Miss, Lin, Elim, Tight, Close, Clash}
-use Rattle.sm_theory.specs.Lines.{followed, Sides, equation_at, contrary_at}
+use Rattle.sm_theory.specs.Lines.{Subst, Cong, Same, Apart, Hit, Miss, Lin, Elim, Tight, Exact}
+use Rattle.sm_theory.specs.Lines.{Close, Clash, followed, Sides, equation_at, contrary_at}
 
 -- a formula, where a test is passed
 abbrev pub formula_if : Bool → Assertion → Option BranchFact
@@ -81,5 +81,6 @@ equality_adds sorts facts (Miss t u n) = None
 equality_adds sorts facts (Lin n) = None
 equality_adds sorts facts (Elim m n t) = None
 equality_adds sorts facts (Tight n) = None
+equality_adds sorts facts (Exact n) = None
 equality_adds sorts facts (Close n) = None
 equality_adds sorts facts (Clash m n) = None

@@ -1,5 +1,5 @@
 -- Cited by public clauses: laws of lines, for all declarations, structures and facts.
-use Rattle.std.specs.Prelude.{◌≡◌, ℕ, Option, Some, List, [], ◌∷◌}
+use Rattle.std.specs.Prelude.{◌≡◌, ℕ, Option, Some, List, [], ◌∷◌, length}
 use Rattle.sm_syntax.specs.text.Sorts.{Sorts}
 use Rattle.sm_term.specs.Structures.{Structure}
 use Rattle.sm_theory.specs.Facts.{BranchFact, IsFact, AreFacts}
@@ -10,7 +10,8 @@ use Rattle.sm_theory.specs.Arithmetic.{arithmetic_adds}
 use Rattle.sm_theory.specs.Ways.{ways}
 use Rattle.sm_theory.specs.SortedFacts.{IsFactSorted, AreFactsSorted, IsFactBelow, AreFactsBelow}
 use Rattle.sm_theory.specs.SortedFacts.{IsLineSorted, IsLineBelow}
-use Rattle.sm_theory.specs.Moved.{moved_line, StandAmong}
+use Rattle.sm_theory.specs.Named.{facts_added}
+use Rattle.sm_theory.specs.Moved.{moved_line, ReadsAlike}
 
 -- what a theory adds: a fact or none, by the facts and the line
 abbrev pub TheoryAdds : Type 0
@@ -37,12 +38,12 @@ AddsWhatIsBelow adds =
     AreFactsBelow node facts → IsLineBelow node line → adds sorts facts line ≡ Some k →
     IsFactBelow node k
 
--- what is added is added on another branch on which the facts stand, with their numbers there
+-- what is added is added on another branch on which the line reads the same, with the numbers there
 abbrev pub AddsAnywhere : TheoryAdds → Type 0
 AddsAnywhere adds =
     (sorts : Sorts) (move : ℕ → ℕ) (facts others : List BranchFact) (line : CertificateLine)
     (k : BranchFact) →
-    StandAmong move facts others → adds sorts facts line ≡ Some k →
+    ReadsAlike move facts others line → adds sorts facts line ≡ Some k →
     adds sorts others (moved_line move line) ≡ Some k
 
 -- in none of the ways do all the facts that it adds hold
@@ -78,12 +79,19 @@ WaysAreBelow =
     AreFactsBelow node facts → IsLineBelow node line → ways sorts facts line ≡ Some to →
     EachWay (AreFactsBelow node) to
 
--- the ways are the same on another branch on which the facts stand
+-- each way has as many facts as the line adds
+abbrev pub WaysAddSoMany : Type 0
+WaysAddSoMany =
+    (sorts : Sorts) (facts : List BranchFact) (line : CertificateLine) (to : List (List BranchFact)) →
+    ways sorts facts line ≡ Some to →
+    EachWay (λ (way : List BranchFact). length way ≡ facts_added line) to
+
+-- the ways are the same on another branch on which the line reads the same
 abbrev pub WaysMove : Type 0
 WaysMove =
     (sorts : Sorts) (move : ℕ → ℕ) (facts others : List BranchFact) (line : CertificateLine)
     (to : List (List BranchFact)) →
-    StandAmong move facts others → ways sorts facts line ≡ Some to →
+    ReadsAlike move facts others line → ways sorts facts line ≡ Some to →
     ways sorts others (moved_line move line) ≡ Some to
 
 -- the three theories

@@ -4,8 +4,11 @@ pub mod Lines
 pub mod Equality
 pub mod Elements
 pub mod Arithmetic
+pub mod TermsOfFormulas
+pub mod ExactLine
 pub mod Ways
 pub mod SortedFacts
+pub mod Named
 pub mod Moved
 pub mod Laws
 pub mod LinearLaws

@@ -30,6 +30,8 @@ pub data CertificateLine : Type 0 where
   Lin : ℕ → CertificateLine
   Elim : ℕ → ℕ → Tree → CertificateLine
   Tight : ℕ → CertificateLine
+  -- the forms of the branch have no solution, by the exact decision in so many steps
+  Exact : ℕ → CertificateLine
   -- a fact that can't hold, or a fact and its contrary
   Close : ℕ → CertificateLine
   Clash : ℕ → ℕ → CertificateLine

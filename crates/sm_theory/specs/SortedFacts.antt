@@ -8,7 +8,8 @@ use Rattle.sm_term.specs.Sorted.{IsSorted, HasSort, IsFormSorted}
 use Rattle.sm_term.specs.Fresh.{IsBelow, IsFormBelow}
 use Rattle.sm_theory.specs.Facts.{BranchFact, Formal, Sum}
 use Rattle.sm_theory.specs.Lines.{CertificateLine, Both, Either, Cases, Order, Refl, Sym, Trans}
-use Rattle.sm_theory.specs.Lines.{Subst, Cong, Same, Apart, Hit, Miss, Lin, Elim, Tight, Close, Clash}
+use Rattle.sm_theory.specs.Lines.{Subst, Cong, Same, Apart, Hit, Miss, Lin, Elim, Tight, Exact}
+use Rattle.sm_theory.specs.Lines.{Close, Clash}
 
 -- something is so of the term of each part
 abbrev pub EachAtom : (Tree → Type 0) → List (Tree × ℤ) → Type 0
@@ -59,6 +60,7 @@ EachNamed P (Miss t u n) = P t × P u
 EachNamed P (Lin n) = Unit {0}
 EachNamed P (Elim m n t) = P t
 EachNamed P (Tight n) = Unit {0}
+EachNamed P (Exact n) = Unit {0}
 EachNamed P (Close n) = Unit {0}
 EachNamed P (Clash m n) = Unit {0}
 

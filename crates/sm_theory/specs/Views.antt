@@ -11,7 +11,8 @@ use Rattle.sm_theory.specs.declared.line.CertLine.{CertLine}
 use Rattle.sm_theory.specs.declared.line.CertLine.TheVariants as line
 use Rattle.sm_theory.specs.Facts.{BranchFact, Formal, Sum}
 use Rattle.sm_theory.specs.Lines.{CertificateLine, Both, Either, Cases, Order, Refl, Sym, Trans}
-use Rattle.sm_theory.specs.Lines.{Subst, Cong, Same, Apart, Hit, Miss, Lin, Elim, Tight, Close, Clash}
+use Rattle.sm_theory.specs.Lines.{Subst, Cong, Same, Apart, Hit, Miss, Lin, Elim, Tight, Exact}
+use Rattle.sm_theory.specs.Lines.{Close, Clash}
 use Rattle.sm_theory.specs.Standing.{IsKeptFor}
 
 -- the line that a line of the program stands for
@@ -32,6 +33,7 @@ line_in trees (line.Miss t u n) = Miss (tree_at trees t.0) (tree_at trees u.0) n
 line_in trees (line.Lin n) = Lin n
 line_in trees (line.Elim m n t) = Elim m n (tree_at trees t.0)
 line_in trees (line.Tight n) = Tight n
+line_in trees (line.Exact n) = Exact n
 line_in trees (line.Close n) = Close n
 line_in trees (line.Clash m n) = Clash m n
 
@@ -53,6 +55,7 @@ IsLineWithin count (line.Miss t u n) = (t.0 < count) × (u.0 < count)
 IsLineWithin count (line.Lin n) = Unit {0}
 IsLineWithin count (line.Elim m n t) = t.0 < count
 IsLineWithin count (line.Tight n) = Unit {0}
+IsLineWithin count (line.Exact n) = Unit {0}
 IsLineWithin count (line.Close n) = Unit {0}
 IsLineWithin count (line.Clash m n) = Unit {0}
 

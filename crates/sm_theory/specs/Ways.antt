@@ -10,11 +10,13 @@ use Rattle.sm_term.specs.Assertions.{Assertion, Yes, No, Eq, Ne, Le, Lt, And, Or
 use Rattle.sm_term.specs.SameTerms.{same_tree, same_sort}
 use Rattle.sm_theory.specs.Facts.{BranchFact, Formal, Sum}
 use Rattle.sm_theory.specs.Lines.{CertificateLine, Both, Either, Cases, Order, Refl, Sym, Trans}
-use Rattle.sm_theory.specs.Lines.{Subst, Cong, Same, Apart, Hit, Miss, Lin, Elim, Tight, Close, Clash}
-use Rattle.sm_theory.specs.Lines.{followed, Sides, formula_at, equation_at, contrary_at}
+use Rattle.sm_theory.specs.Lines.{Subst, Cong, Same, Apart, Hit, Miss, Lin, Elim, Tight, Exact}
+use Rattle.sm_theory.specs.Lines.{Close, Clash, followed, Sides, formula_at}
+use Rattle.sm_theory.specs.Lines.{equation_at, contrary_at}
 use Rattle.sm_theory.specs.Equality.{or_other, equality_adds, says_equal}
 use Rattle.sm_theory.specs.Elements.{element_adds}
 use Rattle.sm_theory.specs.Arithmetic.{arithmetic_adds, is_numeric}
+use Rattle.sm_theory.specs.ExactLine.{with_exact}
 
 -- the ways in which a branch goes on, each with the facts that it adds
 abbrev pub Ways : Type 0
@@ -79,11 +81,11 @@ abbrev pub cannot_hold : BranchFact → Bool
 cannot_hold (Formal f) = is_absurd f
 cannot_hold (Sum f) = is_contradictory f
 
--- the fact that a line of one of the three theories adds
+-- the fact that a line of one of the three theories adds, arithmetic with the exact line
 abbrev pub adds : Sorts → List BranchFact → CertificateLine → Option BranchFact
 adds sorts facts line =
     or_other (equality_adds sorts facts line)
-    (or_other (arithmetic_adds sorts facts line) (element_adds facts line))
+    (or_other (with_exact arithmetic_adds sorts facts line) (element_adds facts line))
 
 -- the ways in which a branch goes on after a line, where theories add what is told
 abbrev pub ways_with : Sorts → List BranchFact → Option BranchFact → CertificateLine → Ways
@@ -109,6 +111,7 @@ ways_with sorts facts added (Miss t u n) = adding added
 ways_with sorts facts added (Lin n) = adding added
 ways_with sorts facts added (Elim m n t) = adding added
 ways_with sorts facts added (Tight n) = adding added
+ways_with sorts facts added (Exact n) = adding added
 
 -- the ways in which a branch goes on after a line
 abbrev pub ways : Sorts → List BranchFact → CertificateLine → Ways

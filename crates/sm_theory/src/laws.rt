@@ -2,6 +2,7 @@
 ghost use Rattle.sm_theory.specs.Laws.{AddsWhatHolds, AddsWhatIsSorted, AddsWhatIsBelow};
 ghost use Rattle.sm_theory.specs.Laws.{AddsAnywhere, equality, arrays, arithmetic};
 ghost use Rattle.sm_theory.specs.Laws.{SomeWayHolds, WaysAreSorted, WaysAreBelow, WaysMove};
+ghost use Rattle.sm_theory.specs.Laws.{WaysAddSoMany};
 ghost use Rattle.sm_theory.specs.LinearLaws.{LinearHasValue};
 ghost use Rattle.sm_theory.specs.Standing.{CombinedStands, EliminatedStands, CanCancelStands};
 ghost use Rattle.sm_theory.specs.Standing.{TightenedStands, ContradictoryStands, OneMoreStands};
@@ -28,7 +29,7 @@ pub fn equality_adds_what_is_below()
     ensures { AddsWhatIsBelow equality }
 {}
 
-/// Another branch on which the facts stand gives it too.
+/// Another branch on which the line reads the same gives it too.
 #[tactic(auto, using(crate::proofs::EqualityLemmas::equality_anywhere))]
 pub fn equality_adds_anywhere()
     ensures { AddsAnywhere equality }
@@ -51,7 +52,7 @@ pub fn arrays_add_what_is_below()
     ensures { AddsWhatIsBelow arrays }
 {}
 
-/// Another branch on which the facts stand gives it too.
+/// Another branch on which the line reads the same gives it too.
 pub fn arrays_add_anywhere()
     ensures { AddsAnywhere arrays }
 {}
@@ -80,7 +81,7 @@ pub fn arithmetic_adds_what_is_below()
     ensures { AddsWhatIsBelow arithmetic }
 {}
 
-/// What a line of arithmetic adds is added on another branch too on which the facts stand.
+/// What a line of arithmetic adds is added on another branch too on which the line reads the same.
 #[tactic(auto, using(crate::proofs::ArithmeticKept::arithmetic_moves))]
 pub fn arithmetic_adds_anywhere()
     ensures { AddsAnywhere arithmetic }
@@ -155,7 +156,13 @@ pub fn ways_are_below()
     ensures { WaysAreBelow }
 {}
 
-/// The ways are the same on another branch on which the facts stand.
+/// Each way has as many facts as the line adds.
+#[tactic(auto, using(crate::proofs::TheoriesLemmas::ways_add_so_many))]
+pub fn ways_add_so_many()
+    ensures { WaysAddSoMany }
+{}
+
+/// The ways are the same on another branch on which the line reads the same.
 pub fn ways_move()
     ensures { WaysMove }
 {}

@@ -5,7 +5,8 @@
 //!   Where the facts of a branch hold, not every way fails.
 //! - What a line of equality, of arrays or of arithmetic adds holds wherever the facts of the branch
 //!   do. It is sorted where these and the line are, names no later new values than they, and is
-//!   added on each other branch on which the facts stand.
+//!   added on each other branch on which the line reads the same. The exact line reads the whole
+//!   branch, every other line the facts that it names.
 //! - `Theory` is what a theory promises of its lines, whoever writes it.
 //! - `lin_of` gives the linear form of a term of a table, which has the term's value; so does
 //!   `next_lin`, where the forms of all terms before it are there. A form over numbers of terms stands
@@ -13,7 +14,8 @@
 //! - A fact is found on a branch by its number, with the terms that it compares.
 //!
 //! Read `specs/Facts.antt` first, then `specs/Lines.antt`, `specs/Ways.antt` and `specs/Laws.antt`.
-//! `specs/Equality.antt`, `specs/Elements.antt` and `specs/Arithmetic.antt` have the lines.
+//! `specs/Equality.antt`, `specs/Elements.antt`, `specs/Arithmetic.antt` and `specs/ExactLine.antt`
+//! have the lines.
 #![tactic(auto)]
 
 mod fact;
@@ -31,7 +33,7 @@ pub use laws::{
     contradictory_stands, eliminated_stands, equality_adds_anywhere, equality_adds_what_holds,
     equality_adds_what_is_below, equality_adds_what_is_sorted, linear_has_value, linear_stands,
     one_more_stands, same_parts_stand, some_way_holds, stands_later, tightened_stands,
-    ways_are_below, ways_are_sorted, ways_move,
+    ways_add_so_many, ways_are_below, ways_are_sorted, ways_move,
 };
 pub use line::{CertLine, FactNumbers};
 pub use linear::{lin_of, next_lin};

@@ -7,7 +7,7 @@ pub struct FactNumbers {
     pub list: Vec<u64>,
 }
 
-/// A line of a certificate. A number names a fact of the branch.
+/// A line of a certificate. A number names a fact of the branch, but for that of `Exact`.
 #[derive(Debug, Drop)]
 pub enum CertLine {
     /// Both parts of a conjunction are added.
@@ -42,6 +42,9 @@ pub enum CertLine {
     Elim(u64, u64, TermId),
     /// A form divided by what divides its coefficients, with its constant rounded.
     Tight(u64),
+    /// The linear forms of the branch have no solution in whole numbers, by the exact decision in so
+    /// many steps. The number is no fact's.
+    Exact(u64),
     /// A fact that can't hold closes the branch.
     Close(u64),
     /// A fact and its contrary close the branch.

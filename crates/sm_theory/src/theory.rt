@@ -44,6 +44,6 @@ pub trait Theory {
     // and names no new value but of nodes that they and the line may name
     ghost below: { (e : Self) → AddsWhatIsBelow (adds e) };
 
-    // and is added on each other branch on which the facts stand
+    // and is added on each other branch on which the line reads the same
     ghost anywhere: { (e : Self) → AddsAnywhere (adds e) };
 }

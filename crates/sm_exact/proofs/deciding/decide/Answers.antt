@@ -1,32 +1,15 @@
--- Each turn keeps what the whole is, and the last one tells it.
+-- What the answer tells of the decision says the rest.
 use Rattle.sm_omega.specs.Exact.{exact}
-use Rattle.sm_omega.proofs.LimitLemmas.{exact_answers}
-use Rattle.sm_exact.proofs.DecideLemmas.{begins, turns_next, turns_solved, turns_ends}
+use Rattle.sm_exact.proofs.AnswersLemmas.{tells_right, tells_variables, tells_line}
 use Rattle.sm_exact.proofs.deciding.decide.Goals as goal
 
-pub loop-turn-init : goal.loop-turn-init
-loop-turn-init c =
-    begins c.args.forms.now c.args.steps c.in-Some.above c.in_ok-entry.entry c.new-frames.result.items c.new-frames.ensures.items
-    c.in-Some.ensures (c.in_ok-entry.ensures c.args.steps)
+pub returns-clause-right : goal.returns-clause-right
+returns-clause-right c =
+    tells_right c.args.forms.now c.args.steps c.in_ok-answer.answer c.look_at.ensures c.in_ok-answer.ensures
 
-pub returns-in-Solved : goal.returns-in-Solved
-returns-in-Solved c =
-    let whole = exact c.args.forms.now c.args.steps in
-    let never = exact_answers c.args.forms.now c.args.steps c.look_at.ensures in
-    let turns = c.in_ok-next.ensures whole never c.loop-turn.invariant in
-    turns_solved c.args.steps c.turn.new.frames.items whole c.in_ok-next.field-0 c.args.forms.now c.solution.result c.in-Solved.is turns
-    c.solution.ensures
+pub returns-clause-variables : goal.returns-clause-variables
+returns-clause-variables c =
+    tells_variables c.args.forms.now (exact c.args.forms.now c.args.steps) c.in_ok-answer.answer c.in_ok-answer.ensures
 
-pub returns-in-Ends : goal.returns-in-Ends
-returns-in-Ends c =
-    let whole = exact c.args.forms.now c.args.steps in
-    let never = exact_answers c.args.forms.now c.args.steps c.look_at.ensures in
-    let turns = c.in_ok-next.ensures whole never c.loop-turn.invariant in
-    turns_ends c.args.steps c.turn.new.frames.items whole c.in_ok-next.field-0 c.args.forms.now c.in-Ends.answer c.in-Ends.is turns
-
-pub loop-turn-preserved : goal.loop-turn-preserved
-loop-turn-preserved c =
-    let whole = exact c.args.forms.now c.args.steps in
-    let never = exact_answers c.args.forms.now c.args.steps c.look_at.ensures in
-    let turns = c.in_ok-next.ensures whole never c.loop-turn.invariant in
-    turns_next c.args.steps c.turn.new.frames.items whole c.in_ok-next.field-0 c.in-Next.next c.in-Next.e c.in-Next.is turns
+pub returns-clause-line : goal.returns-clause-line
+returns-clause-line c = tells_line c.args.forms.now c.args.steps c.in_ok-answer.answer c.in_ok-answer.ensures

@@ -4,7 +4,7 @@ use Rattle.sm_term.specs.Terms.{Tree}
 use Rattle.sm_term.specs.Heads.{arguments_of}
 use Rattle.sm_term.specs.Tables.{trees_in, tree_at}
 use Rattle.sm_term.specs.TableLaws.{with_tree}
-use Rattle.sm_list.specs.Listing.{AllAmong}
+use Rattle.sm_terms.specs.Listing.{AllAmong}
 use Rattle.sm_list.proofs.OwnLemmas.{next_term}
 use Rattle.sm_list.proofs.own.put_terms.Goals as goal
 

@@ -1,7 +1,7 @@
 -- The first terms are there, under their places, which are noted.
 use Rattle.std.proofs.Common.{◌≡◌, length, take}
 use Rattle.sm_term.specs.Tables.{trees_in, sorts_in, codes_in}
-use Rattle.sm_list.specs.Listing.{trees_at, numbers_of}
+use Rattle.sm_terms.specs.Listing.{trees_at, numbers_of}
 use Rattle.sm_list.specs.Own.{ArePlaced}
 use Rattle.sm_list.proofs.own.put_terms.Given as goal
 

@@ -3,9 +3,9 @@ use Rattle.std.proofs.Common.{◌≡◌, length, sym, ap, subst, ◌∙◌, pos}
 use Rattle.std.proofs.lemmas.Option.{slice_get_within, get_or_from_slice_get}
 use Rattle.sm_term.specs.Terms.{Tree, Read, Lit}
 use Rattle.sm_term.specs.Tables.{trees_in, tree_at}
-use Rattle.sm_list.specs.Branches.{put}
-use Rattle.sm_list.specs.Listing.{trees_at, AreBelow}
-use Rattle.sm_list.proofs.ListingLemmas.{listed_put, below_put, below_grown, same_grown}
+use Rattle.sm_theory.specs.TermsOfFormulas.{put}
+use Rattle.sm_terms.specs.Listing.{trees_at, AreBelow}
+use Rattle.sm_terms.proofs.ListingLemmas.{listed_put, below_put, below_grown, same_grown}
 use Rattle.sm_list.proofs.reads.list_read.Goals as goal
 
 pub returns-clause-terms : goal.returns-clause-terms

@@ -5,7 +5,7 @@ use Rattle.sm_term.specs.Terms.{Tree}
 use Rattle.sm_term.specs.Tables.{trees_in, tree_at}
 use Rattle.sm_term.proofs.TablesLemmas.{grows-twice}
 use Rattle.sm_list.specs.Branches.{with_reads, with_all_reads}
-use Rattle.sm_list.specs.Listing.{trees_at}
+use Rattle.sm_terms.specs.Listing.{trees_at}
 use Rattle.sm_list.proofs.ReadsLemmas.{AllRead, IsSettled, rank_of, round_from, rounds_next, rounds_end, settled_past}
 use Rattle.sm_list.proofs.reads.list_reads.Goals as goal
 

@@ -3,7 +3,7 @@ use Rattle.std.proofs.Common.{◌≡◌, ◌≤◌, ℕ, length, take, drop}
 use Rattle.sm_term.specs.Tables.{trees_in}
 use Rattle.sm_term.specs.TableLaws.{Grows}
 use Rattle.sm_list.specs.Branches.{with_all_reads}
-use Rattle.sm_list.specs.Listing.{trees_at, AreBelow}
+use Rattle.sm_terms.specs.Listing.{trees_at, AreBelow}
 use Rattle.sm_list.proofs.ReadsLemmas.{AllRead, rank_of}
 use Rattle.sm_list.proofs.reads.list_reads.Given as goal
 

@@ -6,8 +6,8 @@ use Rattle.sm_term.specs.Terms.{Tree}
 use Rattle.sm_term.specs.Tables.{trees_in, tree_at}
 use Rattle.sm_term.proofs.TablesLemmas.{grows-twice}
 use Rattle.sm_list.specs.Branches.{put_if, read_before, with_reads}
-use Rattle.sm_list.specs.Listing.{trees_at}
-use Rattle.sm_list.proofs.ListingLemmas.{below_at, tree_of_place}
+use Rattle.sm_terms.specs.Listing.{trees_at}
+use Rattle.sm_terms.proofs.ListingLemmas.{below_at, tree_of_place}
 use Rattle.sm_list.proofs.ReadsLemmas.{reads_on, grown_put_if}
 use Rattle.sm_list.proofs.reads.list_round.Goals as goal
 

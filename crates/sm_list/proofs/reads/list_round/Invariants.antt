@@ -4,7 +4,7 @@ use Rattle.sm_term.specs.Terms.{Tree}
 use Rattle.sm_term.specs.Tables.{trees_in}
 use Rattle.sm_term.specs.TableLaws.{Grows}
 use Rattle.sm_list.specs.Branches.{with_reads}
-use Rattle.sm_list.specs.Listing.{trees_at, AreBelow}
+use Rattle.sm_terms.specs.Listing.{trees_at, AreBelow}
 use Rattle.sm_list.proofs.reads.list_round.Given as goal
 
 abbrev pub invariant-loop-k : goal.invariant-loop-k

@@ -3,8 +3,9 @@ use Rattle.std.proofs.Common.{ℕ, List, sym, ap, ◌∙◌, subst}
 use Rattle.sm_syntax.specs.text.Sorts.{Sorts}
 use Rattle.sm_term.specs.Assertions.{Assertion}
 use Rattle.sm_term.specs.Tables.{trees_in, sorts_in}
-use Rattle.sm_list.specs.Branches.{with_formulas, terms_of}
-use Rattle.sm_list.specs.Listing.{trees_at}
+use Rattle.sm_theory.specs.TermsOfFormulas.{with_formulas}
+use Rattle.sm_list.specs.Branches.{terms_of}
+use Rattle.sm_terms.specs.Listing.{trees_at}
 use Rattle.sm_list.specs.Parts.{all_numbered, assertions_in}
 use Rattle.sm_list.specs.Shared.{AreShared, with_those_before}
 use Rattle.sm_list.proofs.OwnLemmas.{facts_grown, facts_within_grown}

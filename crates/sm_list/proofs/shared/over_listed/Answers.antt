@@ -2,7 +2,7 @@
 use Rattle.std.proofs.Common.{◌++◌, List, [], sym, ap, ◌∙◌, subst}
 use Rattle.sm_term.specs.Terms.{Tree}
 use Rattle.sm_term.specs.Tables.{trees_in, sorts_in}
-use Rattle.sm_list.specs.Listing.{trees_at}
+use Rattle.sm_terms.specs.Listing.{trees_at}
 use Rattle.sm_list.specs.Own.{AreBuilt, ArePlaced}
 use Rattle.sm_list.specs.Parts.{all_numbered, assertions_in}
 use Rattle.sm_list.proofs.SharedLemmas.{all_moved, all_behind}

@@ -4,7 +4,7 @@ use Rattle.sm_term.specs.Terms.{Tree}
 use Rattle.sm_term.specs.Heads.{arguments_of}
 use Rattle.sm_term.specs.Tables.{trees_in, tree_at}
 use Rattle.sm_term.specs.TableLaws.{with_tree}
-use Rattle.sm_list.specs.Listing.{AllAmong}
+use Rattle.sm_terms.specs.Listing.{AllAmong}
 use Rattle.sm_list.proofs.SharedLemmas.{next_number}
 use Rattle.sm_list.proofs.shared.put_rest.Goals as goal
 

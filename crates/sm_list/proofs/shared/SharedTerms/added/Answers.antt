@@ -3,8 +3,8 @@ use Rattle.std.proofs.Common.{◌≡◌, ◌++◌, List, [], sym, ap, ◌∙◌,
 use Rattle.sm_term.specs.Terms.{Tree}
 use Rattle.sm_term.specs.Formulas.{numbered, assertion_in}
 use Rattle.sm_term.specs.Tables.{trees_in, sorts_in}
-use Rattle.sm_list.specs.Branches.{with_formula}
-use Rattle.sm_list.specs.Listing.{trees_at}
+use Rattle.sm_theory.specs.TermsOfFormulas.{with_formula}
+use Rattle.sm_terms.specs.Listing.{trees_at}
 use Rattle.sm_list.specs.Own.{AreBuilt, ArePlaced}
 use Rattle.sm_list.specs.Shared.{with_those_before}
 use Rattle.sm_list.proofs.BuiltLemmas.{FormulaAmong}

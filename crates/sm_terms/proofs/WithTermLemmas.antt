@@ -8,9 +8,8 @@ use Rattle.sm_term.specs.Assertions.{Assertion, Yes, No, Eq, Ne, Le, Lt, And, Or
 use Rattle.sm_term.specs.SameTerms.{same_tree}
 use Rattle.sm_term.specs.Heads.{arguments_of, terms_given}
 use Rattle.sm_term.proofs.SameTermsLemmas.{same_tree_is}
-use Rattle.sm_pairs.specs.Pairs.{is_among}
-use Rattle.sm_list.specs.Branches.{put, with_term, with_arguments, with_formula, with_formulas}
-use Rattle.sm_list.specs.Listing.{AllAmong, IsClosed}
+use Rattle.sm_theory.specs.TermsOfFormulas.{put, with_term, with_arguments, with_formula, with_formulas, is_among}
+use Rattle.sm_terms.specs.Listing.{AllAmong, IsClosed}
 
 -- each of a list of terms has something
 abbrev pub AllOf : (Tree → Type 0) → List Tree → Type 0

@@ -1,9 +1,9 @@
 -- The number is listed, and so its tree.
 use Rattle.std.proofs.Common.{ℕ, List, sym, subst}
 use Rattle.sm_term.specs.Tables.{trees_in}
-use Rattle.sm_list.specs.Listing.{Leads}
-use Rattle.sm_list.proofs.ListingLemmas.{put_leads}
-use Rattle.sm_list.proofs.listing.put.Goals as goal
+use Rattle.sm_terms.specs.Listing.{Leads}
+use Rattle.sm_terms.proofs.ListingLemmas.{put_leads}
+use Rattle.sm_terms.proofs.listing.put.Goals as goal
 
 pub returns : goal.returns
 returns c = λ steps terms leads.

@@ -5,9 +5,9 @@ ghost use Rattle.sm_term.specs.Terms.{Tree};
 ghost use Rattle.sm_term.specs.Tables.{trees_in, sorts_in, tree_at};
 ghost use Rattle.sm_term.specs.Formulas.{numbered, assertion_in, IsFormulaWithin};
 ghost use Rattle.sm_euf.specs.Arguments.{argument_numbers};
-ghost use Rattle.sm_list.specs.Branches.{with_term, with_formula};
-ghost use Rattle.sm_list.specs.Listing.{trees_at, AreBelow, IsClosed, IsStepWithin, Leads};
-ghost use Rattle.sm_list.specs.Listing.{visits, cost_of_step, cost_of_steps};
+ghost use Rattle.sm_theory.specs.TermsOfFormulas.{with_term, with_formula};
+ghost use Rattle.sm_terms.specs.Listing.{trees_at, AreBelow, IsClosed, IsStepWithin, Leads};
+ghost use Rattle.sm_terms.specs.Listing.{visits, cost_of_step, cost_of_steps};
 
 use indexmap::IndexSet;
 use sm_term::{Formula, Term, TermId, TermTable};
@@ -139,8 +139,8 @@ fn push_visits(steps: &mut Vec<Step>, terms: &[TermId]) -> Result<(), AllocError
     Ok(())
 }
 
-// Lists the terms of a formula.
-pub(crate) fn list_formula(
+/// Lists the terms of a formula behind others, each after its arguments and once.
+pub fn list_formula(
     alloc: Global,
     table: &TermTable,
     listed: &mut IndexSet<u64>,

@@ -6,10 +6,9 @@ use Rattle.sm_term.specs.Terms.{Tree, Lit, Start, Havoc, Slot, Cell, Read, Write
 use Rattle.sm_term.specs.Terms.{Neg, Add, Sub, Mul, Fun, Arguments, Over, Given}
 use Rattle.sm_term.specs.Tables.{tree_at}
 use Rattle.sm_term.specs.Heads.{arguments_of}
-use Rattle.sm_pairs.specs.Pairs.{is_among}
-use Rattle.sm_list.specs.declared.listing.Step.{Step}
-use Rattle.sm_list.specs.declared.listing.Step.TheVariants.{Visit, Put}
-use Rattle.sm_list.specs.Branches.{put, with_term}
+use Rattle.sm_theory.specs.TermsOfFormulas.{put, with_term, is_among}
+use Rattle.sm_terms.specs.declared.listing.Step.{Step}
+use Rattle.sm_terms.specs.declared.listing.Step.TheVariants.{Visit, Put}
 
 -- the trees with these numbers
 abbrev pub trees_at : List Tree → List ℕ → List Tree

@@ -5,11 +5,11 @@ use Rattle.sm_term.specs.Tables.{trees_in, sorts_in, codes_in}
 use Rattle.sm_term.specs.Heads.{arguments_of}
 use Rattle.sm_euf.specs.Arguments.{argument_numbers}
 use Rattle.sm_euf.proofs.ArgumentsLemmas.{arguments_are, parts_before}
-use Rattle.sm_list.specs.declared.listing.Step.{Step}
-use Rattle.sm_list.specs.declared.listing.Step.TheVariants.{Visit, Put}
-use Rattle.sm_list.specs.Listing.{Leads, visits, cost_of_step, cost_of_steps}
-use Rattle.sm_list.proofs.ListingLemmas.{skip_leads, skip_less, open_leads, open_less}
-use Rattle.sm_list.proofs.listing.visit.Goals as goal
+use Rattle.sm_terms.specs.declared.listing.Step.{Step}
+use Rattle.sm_terms.specs.declared.listing.Step.TheVariants.{Visit, Put}
+use Rattle.sm_terms.specs.Listing.{Leads, visits, cost_of_step, cost_of_steps}
+use Rattle.sm_terms.proofs.ListingLemmas.{skip_leads, skip_less, open_leads, open_less}
+use Rattle.sm_terms.proofs.listing.visit.Goals as goal
 
 pub returns-then-contains-clause-leads : goal.returns-then-contains-clause-leads
 returns-then-contains-clause-leads c = λ terms leads.

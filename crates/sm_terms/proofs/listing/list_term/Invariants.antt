@@ -1,8 +1,8 @@
 -- The steps that are left make the terms that are wanted.
 use Rattle.sm_term.specs.Tables.{trees_in, tree_at}
-use Rattle.sm_list.specs.Branches.{with_term}
-use Rattle.sm_list.specs.Listing.{trees_at, Leads, cost_of_steps}
-use Rattle.sm_list.proofs.listing.list_term.Given as goal
+use Rattle.sm_theory.specs.TermsOfFormulas.{with_term}
+use Rattle.sm_terms.specs.Listing.{trees_at, Leads, cost_of_steps}
+use Rattle.sm_terms.proofs.listing.list_term.Given as goal
 
 abbrev pub invariant-loop-step : goal.invariant-loop-step
 invariant-loop-step l =

@@ -12,14 +12,13 @@ use Rattle.sm_term.specs.SameTerms.{same_tree}
 use Rattle.sm_term.specs.Heads.{arguments_of, terms_given}
 use Rattle.sm_term.proofs.TreesLemmas.{tree_at-more}
 use Rattle.sm_theory.proofs.SidesLemmas.{numbers_tell}
-use Rattle.sm_pairs.specs.Pairs.{is_among}
+use Rattle.sm_theory.specs.TermsOfFormulas.{put, with_term, is_among}
 use Rattle.sm_euf.specs.Arguments.{trees_of}
-use Rattle.sm_list.specs.declared.listing.Step.{Step}
-use Rattle.sm_list.specs.declared.listing.Step.TheVariants.{Visit, Put}
-use Rattle.sm_list.specs.Branches.{put, with_term}
-use Rattle.sm_list.specs.Listing.{trees_at, AreBelow, AllAmong, IsClosed, after, after_all, IsReady, AreReady, AreStepsWithin, Leads}
-use Rattle.sm_list.specs.Listing.{visits, cost_of, cost_of_arguments, cost_of_step, cost_of_steps}
-use Rattle.sm_list.proofs.WithTermLemmas.{with_terms, with_term_is, among_with_terms, closed_put, same_with_term, put_there, put_new}
+use Rattle.sm_terms.specs.declared.listing.Step.{Step}
+use Rattle.sm_terms.specs.declared.listing.Step.TheVariants.{Visit, Put}
+use Rattle.sm_terms.specs.Listing.{trees_at, AreBelow, AllAmong, IsClosed, after, after_all, IsReady, AreReady, AreStepsWithin, Leads}
+use Rattle.sm_terms.specs.Listing.{visits, cost_of, cost_of_arguments, cost_of_step, cost_of_steps}
+use Rattle.sm_terms.proofs.WithTermLemmas.{with_terms, with_term_is, among_with_terms, closed_put, same_with_term, put_there, put_new}
 
 -- steps behind others are taken first
 pub after-append : (trees : List Tree) (ss rs : List Step) (seen : List Tree) →

@@ -1,0 +1,19 @@
+-- The terms of the formulas that are left go behind those that are listed.
+use Rattle.std.proofs.Common.{◌≡◌, length, drop}
+use Rattle.sm_term.specs.Tables.{trees_in, sorts_in}
+use Rattle.sm_theory.specs.TermsOfFormulas.{all_terms, with_formulas}
+use Rattle.sm_terms.specs.Listing.{trees_at, AreBelow, IsClosed}
+use Rattle.sm_exact.specs.Placing.{formulas_of}
+use Rattle.sm_exact.proofs.branch_terms.terms_of.Given as goal
+
+abbrev pub invariant-loop-fact : goal.invariant-loop-fact
+invariant-loop-fact l =
+    let trees = trees_in l.table in
+    let sorts = sorts_in l.table in
+    let facts = l.branch.list.items in
+    record {
+      listed : AreBelow (length trees) l.terms.keys;
+      closed : IsClosed (trees_at trees l.terms.keys);
+      rest : with_formulas (formulas_of sorts trees (drop l.fact-index l.fact-items)) (trees_at trees l.terms.keys)
+          ≡ all_terms (formulas_of sorts trees facts);
+    }

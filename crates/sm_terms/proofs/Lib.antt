@@ -1,0 +1,2 @@
+pub mod WithTermLemmas
+pub mod ListingLemmas
