@@ -1,5 +1,5 @@
 -- Accepted of `verify` stands exactly where a task was read, and then a proof that passes for it.
-use Rattle.std.proofs.Common.{◌≡◌, ◌≢◌, ◌≤◌, ◌⊎◌, inl, inr, ℕ, List, [], ◌∷◌, length, Result, Ok, Err, IfOk, IfErr, refl, sym, ap, subst, ◌∙◌}
+use Rattle.std.proofs.Common.{◌≡◌, ◌≤◌, ◌⊎◌, inl, inr, ℕ, List, [], ◌∷◌, length, Result, Ok, Err, IfOk, IfErr, refl, sym, ap, subst, ◌∙◌}
 use Rattle.sm_check.specs.Files.{Judged, file_answer}
 use Rattle.sm_check.specs.FilesRead.{AnswersRead}
 use Rattle.sm_check.specs.declared.verifying.CheckError.{CheckError}
@@ -21,7 +21,7 @@ use Rattle.sm_answers.specs.Views.{SaysChecked}
 use Rattle.sm_answers.specs.declared.exit.Exit.{Exit}
 use Rattle.sm_answers.specs.declared.status.Reply.{Reply}
 use Rattle.sm_answers.specs.declared.status.Status.{Status}
-use Rattle.sm_answers.specs.declared.status.Status.TheVariants.{Accepted, ReadFault}
+use Rattle.sm_answers.specs.declared.status.Status.TheVariants.{Accepted}
 use Rattle.sm_answers.proofs.Answering.{result_by, stops_by}
 use Rattle.sm_answers.proofs.Statuses.{without_task}
 use Rattle.sm_answers.proofs.ReadsUnique.{HasPasses, same_passes, unended, ended_first, ended_alone}
@@ -65,7 +65,7 @@ none_verified name proof before now file b n stop once =
     stops_by (GivesNoTask file b n) (VerifiesRead name proof before now)
     (λ status text none. record {
       only = λ e. absurd ((without_task file b n status text none).not_accepted e);
-      all = λ no_fault t between task p. absurd (once_unproved name proof before between now t once task p);
+      all = λ t between task p. absurd (once_unproved name proof before between now t once task p);
     }) stop
 
 -- a proof that was read after a task is one that was read after the same task another way
@@ -100,8 +100,8 @@ pub verified_read : (name proof : List ℕ) (before between now : List Read) (t 
 verified_read name proof before between now t reads r ok stop =
     result_by (PassesRead t proof between now) (VerifiesRead name proof before now)
     (λ status text a. record {
-      only = λ e. (t, between, reads, a.only e, a.free e);
-      all = λ no_fault u other task p. a.all no_fault (same_proof name proof before between other now t u reads a.once task p);
+      only = λ e. (t, between, reads, a.exactly.0 e, a.free e);
+      all = λ u other task p. a.exactly.1 (same_proof name proof before between other now t u reads a.once task p);
     }) r ok stop
 
 -- the bytes of one pass, and those of one to its end
@@ -123,14 +123,15 @@ read_passes t name before now r a p =
     ∙ fitting_passes t p.bytes p.fits p.passes
 
 proof_accepted : (t : Parts) (name : List ℕ) (before now : List Read) (r : Result Checked CheckError) (status : Status) (text : List ℕ) →
-    AnswersRead name before now proof_limit (subject_of t) r → SaysChecked r status text → status ≢ ReadFault →
-    ReadsProof t name before now → status ≡ Accepted
-proof_accepted t name before now (Ok c) status text a says no_fault p =
+    AnswersRead name before now proof_limit (subject_of t) r → SaysChecked r status text → ReadsProof t name before now → status ≡ Accepted
+proof_accepted t name before now (Ok c) status text a says p =
     says.ended ∙ ap answer_status (sym a.tells ∙ read_passes t name before now (Ok c) a p)
-proof_accepted t name before now (Err check.TooLong) status text a says no_fault p =
+proof_accepted t name before now (Err check.TooLong) status text a says p =
     says.ended ∙ ap answer_status (sym a.tells ∙ read_passes t name before now (Err check.TooLong) a p)
-proof_accepted t name before now (Err check.ReadFault) status text a says no_fault p = absurd (no_fault says.ended)
-proof_accepted t name before now (Err check.Memory) status text a says no_fault p = absurd says
+proof_accepted t name before now (Err check.ReadFault) status text a says p =
+    absurd (none_is_some p.bytes []
+    (same_passes before now [] (p.bytes ∷ []) (unended name before now a.bytes (a.part refl)) (ended_alone name before now p.bytes p.read)))
+proof_accepted t name before now (Err check.Memory) status text a says p = absurd says
 
 -- only where it passes is the answer Accepted
 accepted_pass : (r : Result Checked CheckError) (status : Status) (text : List ℕ) → SaysChecked r status text → status ≡ Accepted →
@@ -155,7 +156,9 @@ pub passed_read : (t : Parts) (name : List ℕ) (before now : List Read) (r : Re
     SaysChecked r status text → PassesRead t name before now status text
 passed_read t name before now r status text a free says = record {
   once = (a.bytes, a.read);
-  only = λ e. pass_read t name before now r a (accepted_pass r status text says e);
-  all = λ no_fault p. proof_accepted t name before now r status text a says no_fault p;
+  exactly = (
+    λ e. pass_read t name before now r a (accepted_pass r status text says e),
+    λ p. proof_accepted t name before now r status text a says p,
+  );
   free = λ e. free (accepted_pass r status text says e);
 }

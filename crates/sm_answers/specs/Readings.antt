@@ -1,6 +1,6 @@
 -- What the reads of a task, an input and a proof gave, of told files and of others, and what the
 -- answer of `verify` says of them. Public clauses cite it.
-use Rattle.std.specs.Prelude.{◌≡◌, ◌≢◌, ◌≤◌, ◌⊎◌, ℕ, List, length}
+use Rattle.std.specs.Prelude.{◌≡◌, ◌≤◌, ◌↔◌, ◌⊎◌, ℕ, List, length}
 use Rattle.sm_eval.specs.declared.store.Store.{Store}
 use Rattle.sm_io.specs.Reads.{Read, ReadsOn, ReadsWhole}
 use Rattle.sm_proof.specs.Verdicts.{Passes}
@@ -11,7 +11,7 @@ use Rattle.sm_syntax.specs.text.Spells.{Spells}
 use Rattle.sm_answers.specs.File.{file_limit}
 use Rattle.sm_answers.specs.Verify.{proof_limit}
 use Rattle.sm_answers.specs.declared.status.Status.{Status}
-use Rattle.sm_answers.specs.declared.status.Status.TheVariants.{Accepted, ReadFault}
+use Rattle.sm_answers.specs.declared.status.Status.TheVariants.{Accepted}
 
 -- a file alone was read, in one pass, to its end or not
 abbrev pub ReadsOnce : List ℕ → List Read → List Read → Type 0
@@ -39,21 +39,19 @@ pub record ReadsProof (t : Parts) (name : List ℕ) (before now : List Read) : T
   pub fits : length bytes ≤ proof_limit
   pub passes : Passes t bytes
 
--- the answer to a proof's file, which was read in one pass: but for a fault to read, Accepted
--- exactly where it is a proof, and only for a task that is free of conflicts
+-- the answer to a proof's file, which was read in one pass: Accepted exactly where it is a proof,
+-- and only for a task that is free of conflicts
 pub record PassesRead (t : Parts) (proof : List ℕ) (before now : List Read) (status : Status)
     (text : List ℕ) : Type 0 where
   pub once : ReadsOnce proof before now
-  pub only : status ≡ Accepted → ReadsProof t proof before now
-  pub all : status ≢ ReadFault → ReadsProof t proof before now → status ≡ Accepted
+  pub exactly : (status ≡ Accepted) ↔ ReadsProof t proof before now
   pub free : status ≡ Accepted → ConflictFree (task_of t)
 
--- and that of `verify`: but for such a fault, Accepted exactly where a task was read, and then a
--- proof for it
+-- and that of `verify`: Accepted exactly where a task was read, and then a proof for it
 pub record VerifiesRead (task proof : List ℕ) (before now : List Read) (status : Status)
     (text : List ℕ) : Type 0 where
   pub only : status ≡ Accepted →
       (t : Parts) × (between : List Read) × ReadsTask task before between t
       × ReadsProof t proof between now × ConflictFree (task_of t)
-  pub all : status ≢ ReadFault → (t : Parts) (between : List Read) →
-      ReadsTask task before between t → ReadsProof t proof between now → status ≡ Accepted
+  pub all : (t : Parts) (between : List Read) → ReadsTask task before between t →
+      ReadsProof t proof between now → status ≡ Accepted

@@ -1,18 +1,16 @@
 -- Lines that are set aside: one more, or all of them taken.
-use Rattle.std.proofs.Common.{◌≡◌, ◌+◌, ℕ, List, [], ◌∷◌, ◌++◌, length, take, drop, Result, Ok, Err, sym, ap, ◌∙◌}
+use Rattle.std.proofs.Common.{◌≡◌, ◌+◌, ℕ, Bool, List, [], ◌∷◌, ◌++◌, length, take, drop, Result, Ok, Err, sym, ap, ◌∙◌}
 use Rattle.std.proofs.Common.{subst, arith, append_assoc, append-nil}
 use Rattle.std.proofs.lemmas.List.{length-append}
 use Rattle.std.specs.Result.{OnOk, IfErr}
 use Rattle.sm_syntax.specs.text.Sorts.{Sorts}
 use Rattle.sm_term.specs.Terms.{Tree}
-use Rattle.sm_proof.specs.declared.word.Word.{Word}
-use Rattle.sm_proof.specs.Lines.{ProofLine}
 use Rattle.sm_proof.specs.Passing.{Pending}
-use Rattle.sm_proof.specs.Verdicts.{Subject, Standing, Reached, next_standing, reached}
+use Rattle.sm_proof.specs.Verdicts.{Subject, Standing, Reached, reached, reads_exact}
 use Rattle.sm_check.specs.declared.fault.Stopped.{Stopped}
 use Rattle.sm_check.specs.declared.raw_lines.RawLines.{RawLines}
 use Rattle.sm_check.specs.declared.taken_lines.TakenLines.{TakenLines}
-use Rattle.sm_check.specs.Aside.{ComesTo, StopsAt, certificates_of, joined, progress_at, with_line}
+use Rattle.sm_check.specs.Aside.{ComesTo, StopsAt, certificates_of, joined, progress_at, standing_after, with_line}
 use Rattle.sm_check.specs.Checkers.{IsAt}
 use Rattle.sm_check.specs.Closing.{CloseFirst}
 use Rattle.sm_check.specs.LineEnds.{ended_in}
@@ -62,27 +60,28 @@ comes_cut lines n cs front begun s r is t = record {
 }
 
 -- those in front close what is pending first
-close_cut : (sorts : Sorts) (terms : List Tree) (pending : List Pending) (n : ℕ) (cs given front : List RawLines) →
-    given ≡ cs → front ≡ take n cs → CloseFirst sorts terms pending (take n (certificates_of given)) →
-    CloseFirst sorts terms pending (certificates_of front)
-close_cut sorts terms pending n cs given front same is close =
-    subst (CloseFirst sorts terms pending)
+close_cut : (exact : Bool) (sorts : Sorts) (terms : List Tree) (pending : List Pending) (n : ℕ) (cs given front : List RawLines) →
+    given ≡ cs → front ≡ take n cs → CloseFirst exact sorts terms pending (take n (certificates_of given)) →
+    CloseFirst exact sorts terms pending (certificates_of front)
+close_cut exact sorts terms pending n cs given front same is close =
+    subst (CloseFirst exact sorts terms pending)
     (take_certificates n given ∙ ap (λ (x : List RawLines). certificates_of (take n x)) same ∙ ap certificates_of (sym is)) close
 
 -- the certificates in front were skipped
 pub skipped_comes : (was now : TakenLines) (n : ℕ) (cs given front behind : List RawLines) (begun : List (List ℕ)) (s : Subject)
     (r : Reached) → given ≡ cs → front ≡ take n cs → behind ≡ drop n cs →
     ((at : Standing) → IsAt was.checker s (Ok at) →
-    CloseFirst s.sorts (progress_at s at).terms (progress_at s at).pending (take n (certificates_of given))) →
+    CloseFirst (reads_exact at) s.sorts (progress_at s at).terms (progress_at s at).pending (take n (certificates_of given))) →
     ((more : List (List ℕ)) (t : ComesTo was (joined (certificates_of front) ++ more) s r) →
-    CloseFirst s.sorts (progress_at s t.at).terms (progress_at s t.at).pending (certificates_of front) → ComesTo now more s r) →
+    CloseFirst (reads_exact t.at) s.sorts (progress_at s t.at).terms (progress_at s t.at).pending (certificates_of front) →
+    ComesTo now more s r) →
     ComesTo was (joined (certificates_of cs) ++ begun) s r → ComesTo now (joined (certificates_of behind) ++ begun) s r
 unfolding comes_cut
 skipped_comes was now n cs given front behind begun s r same first last closed skips t =
     let p = progress_at s t.at in
     subst (λ (x : List RawLines). ComesTo now (joined (certificates_of x) ++ begun) s r) (sym last)
     (skips (joined (certificates_of (drop n cs)) ++ begun) (comes_cut was n cs front begun s r first t)
-    (close_cut s.sorts p.terms p.pending n cs given front same first (closed t.at t.stands.is_at)))
+    (close_cut (reads_exact t.at) s.sorts p.terms p.pending n cs given front same first (closed t.at t.stands.is_at)))
 
 -- as many lines
 pub cut_count : (n : ℕ) (cs : List RawLines) (begun : List (List ℕ)) →
@@ -107,15 +106,15 @@ emptied_comes (Ok u) now aside s r none comes = subst (λ (x : List (List ℕ)).
 
 -- a line was taken behind all that was set aside
 pub behind_taken : {U : Type 0} (x : Result U Stopped) (was now : TakenLines) (aside : List (List ℕ)) (s : Subject) (r : Reached)
-    (line : Result ProofLine Word) → aside ≡ [] → (t : ComesTo was [] s r) → OnOk x (now.number ≡ was.number + 1) →
-    OnOk x (Takes now s (next_standing s t.at line)) → OnOk x (ComesTo now aside s (with_line s line r))
+    (line : List ℕ) → aside ≡ [] → (t : ComesTo was [] s r) → OnOk x (now.number ≡ was.number + 1) →
+    OnOk x (Takes now s (standing_after s t.at line)) → OnOk x (ComesTo now aside s (with_line s line r))
 behind_taken (Err e) was now aside s r line none t counted takes = tt
 behind_taken (Ok u) was now aside s r line none t counted takes =
     subst (λ (x : List (List ℕ)). ComesTo now x s (with_line s line r)) (sym none) (line_taken was now s r line t counted takes)
 
 -- or refused
-pub behind_refused : {U : Type 0} (x : Result U Stopped) (was : TakenLines) (s : Subject) (r : Reached) (line : Result ProofLine Word)
-    (t : ComesTo was [] s r) → IfErr x (RefusesAt was.number (next_standing s t.at line)) → IfErr x (StopsAt (with_line s line r))
+pub behind_refused : {U : Type 0} (x : Result U Stopped) (was : TakenLines) (s : Subject) (r : Reached) (line : List ℕ)
+    (t : ComesTo was [] s r) → IfErr x (RefusesAt was.number (standing_after s t.at line)) → IfErr x (StopsAt (with_line s line r))
 behind_refused (Ok u) was s r line t refused = tt
 behind_refused (Err e) was s r line t refused = line_refused was s r line t e refused
 

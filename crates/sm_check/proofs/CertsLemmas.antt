@@ -1,5 +1,5 @@
 -- Lines at a branch, by the ways in which it goes on.
-use Rattle.std.proofs.Common.{◌≡◌, ℕ, ◌≤◌, Bool, true, false, ◌&&◌, if◌then◌else◌, Option, Some, None, Result, Ok, Err, List, [], ◌∷◌, ◌++◌, length, take, reverse}
+use Rattle.std.proofs.Common.{◌≡◌, ℕ, ◌≤◌, Bool, true, false, if◌then◌else◌, Option, Some, None, Result, Ok, Err, List, [], ◌∷◌, ◌++◌, length, take, reverse}
 use Rattle.std.proofs.Common.{slice_get, refl, sym, ap, ◌∙◌, subst, arith}
 use Rattle.std.proofs.Math.Seq.{take-append_seam}
 use Rattle.std.proofs.lemmas.List.{length-append}
@@ -19,10 +19,9 @@ use Rattle.sm_theory.specs.Facts.{BranchFact}
 use Rattle.sm_theory.specs.Laws.{EachWay}
 use Rattle.sm_theory.specs.Lines.{Sides, followed, formula_at, contrary_at, equation_at}
 use Rattle.sm_theory.specs.Equality.{says_equal}
-use Rattle.sm_theory.specs.Arithmetic.{is_numeric}
-use Rattle.sm_theory.specs.SortedFacts.{AreFactsSorted, IsFactSorted}
+use Rattle.sm_theory.specs.SortedFacts.{AreFactsSorted}
 use Rattle.sm_theory.specs.Ways.{Ways, ways_with, either_part, both_parts, ordered, adding, closing_if, cannot_hold, splitting}
-use Rattle.sm_theory.specs.Views.{FactStands, AllStand, line_in}
+use Rattle.sm_theory.specs.Views.{AllStand, line_in}
 use Rattle.sm_cert.specs.Ways.{GoesOn, is_closed, SplitsInto}
 use Rattle.sm_cert.proofs.WaysLemmas.{stand_append}
 use Rattle.sm_cert.proofs.CertificateSound.{sorted_append}
@@ -36,13 +35,12 @@ use Rattle.sm_proof.specs.Passing as plain
 use Rattle.sm_proof.specs.Passing.{Pending, is_split, branches_before}
 use Rattle.std.specs.declared.rc.Rc.{Rc}
 use Rattle.std.specs.declared.alloc.Global.{Global}
-use Rattle.sm_check.specs.declared.fault.LineFault.{LineFault}
 use Rattle.sm_check.specs.declared.pending.Due.{Due}
 use Rattle.sm_check.specs.declared.pending.Due.TheVariants as due
 use Rattle.sm_check.specs.declared.pending.Waiting.{Waiting}
 use Rattle.sm_check.specs.declared.pending.Waiting.TheVariants as waits
 use Rattle.sm_check.specs.LineKinds.{is_closing}
-use Rattle.sm_check.specs.Pending.{AllWait, WaitingStands, PendingStands}
+use Rattle.sm_check.specs.Pending.{AllWait, PendingStands}
 use Rattle.sm_check.specs.Tells.{Tells}
 use Rattle.sm_check.proofs.PendingLemmas.{wait_moves, wait_looser, last_first, take_whole}
 
@@ -131,6 +129,7 @@ module _ (sorts : Sorts) (trees : List Tree) (facts : List BranchFact) (added : 
   split_ways (line.Lin n) e = absurd cc
   split_ways (line.Elim m n t) e = absurd cc
   split_ways (line.Tight n) e = absurd cc
+  split_ways (line.Exact n) e = absurd cc
   split_ways (line.Close n) e = absurd cc
   split_ways (line.Clash m n) e = absurd cc
 
@@ -151,6 +150,7 @@ module _ (sorts : Sorts) (trees : List Tree) (facts : List BranchFact) (added : 
   closing_ways (line.Lin n) e = absurd cc
   closing_ways (line.Elim m n t) e = absurd cc
   closing_ways (line.Tight n) e = absurd cc
+  closing_ways (line.Exact n) e = absurd cc
   closing_ways (line.Close n) e = close_none (slice_get facts n)
   closing_ways (line.Clash m n) e = clash_none (equation_at facts m) (contrary_at facts n)
 
@@ -172,6 +172,7 @@ module _ (sorts : Sorts) (trees : List Tree) (facts : List BranchFact) (added : 
   adding_ways (line.Lin n) e f = adding_one added
   adding_ways (line.Elim m n t) e f = adding_one added
   adding_ways (line.Tight n) e f = adding_one added
+  adding_ways (line.Exact n) e f = adding_one added
   adding_ways (line.Close n) e f = absurd cc
   adding_ways (line.Clash m n) e f = absurd cc
 

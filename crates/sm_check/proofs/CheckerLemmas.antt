@@ -1,13 +1,14 @@
 -- Where the proof of a checker stands, and how it goes on.
-use Rattle.std.proofs.Common.{◌≡◌, ◌⊎◌, inl, inr, Bool, true, false, if◌then◌else◌, Option, Some, None, Result, Ok, Err, refl, sym, ap, ◌∙◌, subst}
+use Rattle.std.proofs.Common.{◌≡◌, inl, inr, Bool, true, false, if◌then◌else◌, Some, None, Result, Ok, Err, refl, sym, ap, ◌∙◌, subst}
 use Rattle.sm_syntax.specs.text.Sorts.{Sorts}
 use Rattle.sm_term.specs.Tables.{sorts_in}
 use Rattle.sm_proof.specs.declared.word.Word.{Word}
-use Rattle.sm_proof.specs.declared.word.Word.TheVariants.{BadVersion}
+use Rattle.sm_proof.specs.declared.word.Word.TheVariants.{BadLine, BadVersion}
 use Rattle.sm_proof.specs.Lines.{ProofLine}
-use Rattle.sm_proof.specs.Named.{and_then}
+use Rattle.sm_proof.specs.Named.{tested_or, and_then}
 use Rattle.sm_proof.specs.Passing.{Progress, start_progress, taken}
-use Rattle.sm_proof.specs.Verdicts.{Subject, Standing, Unopened, Underway, none_waits, passes_version, opens_if, next_standing}
+use Rattle.sm_proof.specs.Verdicts.{Subject, Standing, Unopened, Underway, none_waits, passes_version, opens_if, next_standing, reads_exact}
+use Rattle.sm_proof.specs.Versions.{has_exact, may_stand}
 use Rattle.sm_check.specs.declared.checker.Checker.{Checker}
 use Rattle.sm_check.specs.declared.checker.State.{State}
 use Rattle.sm_check.specs.declared.checker.State.TheVariants.{Done, More}
@@ -22,13 +23,15 @@ use Rattle.sm_check.proofs.NodeTaken.{tells_on}
 use Rattle.sm_check.proofs.NodesLemmas.{tells_word}
 
 -- what a checker that goes on is, in parts
-pub parts_at : (c : Checker) (s : Subject) (at : Standing) → IsAt c s (Ok at) → (c.stopped ≡ None) × IsAbout c s × StandsAt c s at
+pub parts_at : (c : Checker) (s : Subject) (at : Standing) → IsAt c s (Ok at) →
+    (c.stopped ≡ None) × IsAbout c s × StandsAt c s at × (c.exact ≡ reads_exact at)
 unfolding IsAt
 parts_at c s at is = is
 
-pub at_parts : (c : Checker) (s : Subject) (at : Standing) → c.stopped ≡ None → IsAbout c s → StandsAt c s at → IsAt c s (Ok at)
+pub at_parts : (c : Checker) (s : Subject) (at : Standing) → c.stopped ≡ None → IsAbout c s → StandsAt c s at → c.exact ≡ reads_exact at →
+    IsAt c s (Ok at)
 unfolding IsAt
-at_parts c s at goes about stands = (goes, about, stands)
+at_parts c s at goes about stands exact = (goes, about, stands, exact)
 
 -- and what one is that stopped
 pub stopped_is : (c : Checker) (s : Subject) (e : LineFault) → IsAt c s (Err e) → c.stopped ≡ Some e
@@ -42,25 +45,25 @@ is_stopped c s e is = is
 -- the proof that stands there
 pub walks_at : (c : Checker) (s : Subject) (at : Standing) → IsAt c s (Ok at) → Walks c.walk (progress_at s at)
 walks_at c s Unopened is = (parts_at c s Unopened is).2.1
-walks_at c s (Underway p) is = (parts_at c s (Underway p) is).2.1
+walks_at c s (Underway exact p) is = (parts_at c s (Underway exact p) is).2.1
 
 -- whether it is done
 module _ (c : Checker) (s : Subject) where
   pub done_told : (at : Standing) → IsAt c s (Ok at) → c.opened ≡ true → (done : Bool) →
       ((p : Progress) → Walks c.walk p → done ≡ none_waits p.pending) → done ≡ true → Done ≡ state_of at
   done_told Unopened is taken done told ends = let shut = (parts_at c s Unopened is).2.0 in absurd cc
-  done_told (Underway p) is taken done told ends =
-      sym (ap (λ (b : Bool). if b then Done else More) (sym (told p (parts_at c s (Underway p) is).2.1) ∙ ends))
+  done_told (Underway exact p) is taken done told ends =
+      sym (ap (λ (b : Bool). if b then Done else More) (sym (told p (parts_at c s (Underway exact p) is).2.1) ∙ ends))
 
   pub more_told : (at : Standing) → IsAt c s (Ok at) → c.opened ≡ true → (done : Bool) →
       ((p : Progress) → Walks c.walk p → done ≡ none_waits p.pending) → done ≡ false → More ≡ state_of at
   more_told Unopened is taken done told lasts = refl
-  more_told (Underway p) is taken done told lasts =
-      sym (ap (λ (b : Bool). if b then Done else More) (sym (told p (parts_at c s (Underway p) is).2.1) ∙ lasts))
+  more_told (Underway exact p) is taken done told lasts =
+      sym (ap (λ (b : Bool). if b then Done else More) (sym (told p (parts_at c s (Underway exact p) is).2.1) ∙ lasts))
 
   pub unopened_told : (at : Standing) → IsAt c s (Ok at) → c.opened ≡ false → More ≡ state_of at
   unopened_told Unopened is shut = refl
-  unopened_told (Underway p) is shut = let taken = (parts_at c s (Underway p) is).2.0 in absurd cc
+  unopened_told (Underway exact p) is shut = let taken = (parts_at c s (Underway exact p) is).2.0 in absurd cc
 
 -- a line of a checker that goes on
 module _ (c d : Checker) (s : Subject) (l : ProofLine) (goes : c.stopped ≡ None → d.stopped ≡ None) (assumes : d.assumes ≡ c.assumes) where
@@ -68,48 +71,63 @@ module _ (c d : Checker) (s : Subject) (l : ProofLine) (goes : c.stopped ≡ Non
   Next after r = Tells {S = Unit {0}} {T = Standing} (λ x at. IsAt d s (Ok at)) r after
 
   pub line_taken : (at : Standing) (r : Result (Unit {0}) LineFault) → IsAt c s (Ok at) → c.opened ≡ true → d.opened ≡ true →
-      sorts_in d.walk.table ≡ sorts_in c.walk.table →
+      d.exact ≡ c.exact → may_stand c.exact l ≡ true → sorts_in d.walk.table ≡ sorts_in c.walk.table →
       ((p : Progress) → Walks c.walk p →
       Tells {S = Unit {0}} {T = Progress} (λ x q. Walks d.walk q) r (taken (sorts_in c.walk.table) p l)) →
       Next (next_standing s at (Ok l)) r
-  line_taken Unopened r is began still sorts told = let shut = (parts_at c s Unopened is).2.0 in absurd cc
-  line_taken (Underway p) r is began still sorts told =
-      let parts = parts_at c s (Underway p) is in
+  line_taken Unopened r is began still same stands sorts told = let shut = (parts_at c s Unopened is).2.0 in absurd cc
+  line_taken (Underway exact p) r is began still same stands sorts told =
+      let parts = parts_at c s (Underway exact p) is in
       let about : IsAbout d s = record {
         sorts = sorts ∙ parts.1.sorts;
         assumes = assumes ∙ parts.1.assumes;
       } in
-      by r
+      subst (λ (b : Bool). Next (tested_or b BadLine (and_then (taken s.sorts p l) (λ (q : Progress). Ok (Underway exact q)))) r)
+      (sym stands ∙ ap (λ (b : Bool). may_stand b l) parts.3)
+      (by r
       (subst (λ (f : Sorts). Tells {S = Unit {0}} {T = Progress} (λ x q. Walks d.walk q) r (taken f p l)) parts.1.sorts (told p parts.2.1))
-      (λ (q : Progress) (walks : Walks d.walk q). at_parts d s (Underway q) (goes parts.0) about (still, walks))
+      (λ (q : Progress) (walks : Walks d.walk q). at_parts d s (Underway exact q) (goes parts.0) about (still, walks) (same ∙ parts.3)))
     where
       by : (r : Result (Unit {0}) LineFault) → Tells {S = Unit {0}} {T = Progress} (λ x q. Walks d.walk q) r (taken s.sorts p l) →
-          ((q : Progress) → Walks d.walk q → IsAt d s (Ok (Underway q))) → Next (next_standing s (Underway p) (Ok l)) r
+          ((q : Progress) → Walks d.walk q → IsAt d s (Ok (Underway exact q))) →
+          Next (and_then (taken s.sorts p l) (λ (q : Progress). Ok (Underway exact q))) r
       by (Ok u) h more =
-          tells_then {S = Unit {0}} {T = Progress} {U = Unit {0}} {V = Standing} (λ x q. Walks d.walk q) (λ x at. IsAt d s (Ok at)) u u (taken s.sorts p l) Underway
-          more h
+          tells_then {S = Unit {0}} {T = Progress} {U = Unit {0}} {V = Standing} (λ x q. Walks d.walk q) (λ x at. IsAt d s (Ok at)) u u (taken s.sorts p l)
+          (Underway exact) more h
       by (Err e) h more =
           tells_on {S = Unit {0}} {T = Progress} {U = Unit {0}} {V = Standing} (λ x q. Walks d.walk q) (λ x at. IsAt d s (Ok at)) e (taken s.sorts p l)
-          (λ (q : Progress). Ok (Underway q)) h
+          (λ (q : Progress). Ok (Underway exact q)) h
 
-  pub version_taken : (at : Standing) → IsAt c s (Ok at) → c.opened ≡ false → d.opened ≡ true → d.walk ≡ c.walk →
+  pub version_taken : (at : Standing) → IsAt c s (Ok at) → c.opened ≡ false → d.opened ≡ true → d.exact ≡ has_exact l → d.walk ≡ c.walk →
       passes_version s l ≡ true → Next (next_standing s at (Ok l)) (Ok tt)
-  version_taken Unopened is shut still walk passes =
+  version_taken Unopened is shut still exact walk passes =
       let parts = parts_at c s Unopened is in
       let about : IsAbout d s = record {
         sorts = ap (λ (w : WalkValue). sorts_in w.table) walk ∙ parts.1.sorts;
         assumes = assumes ∙ parts.1.assumes;
       } in
-      subst (λ (b : Bool). Next (opens_if b s) (Ok tt)) (sym passes)
-      (at_parts d s (Underway (start_progress s.start)) (goes parts.0) about (still, subst (λ (w : WalkValue). Walks w (start_progress s.start)) (sym walk) parts.2.1))
-  version_taken (Underway p) is shut still walk passes = let taken = (parts_at c s (Underway p) is).2.0 in absurd cc
+      subst (λ (b : Bool). Next (opens_if b (has_exact l) s) (Ok tt)) (sym passes)
+      (at_parts d s (Underway (has_exact l) (start_progress s.start)) (goes parts.0) about
+      (still, subst (λ (w : WalkValue). Walks w (start_progress s.start)) (sym walk) parts.2.1) exact)
+  version_taken (Underway exact p) is shut still has walk passes =
+      let taken = (parts_at c s (Underway exact p) is).2.0 in absurd cc
+
+-- a line that may not stand here
+pub line_barred : (P : Unit {0} → Standing → Type 0) (c : Checker) (s : Subject) (l : ProofLine) (at : Standing) → IsAt c s (Ok at) →
+    c.opened ≡ true → may_stand c.exact l ≡ false → Tells P (Err (Wrong BadLine)) (next_standing s at (Ok l))
+line_barred P c s l Unopened is began stands = let shut = (parts_at c s Unopened is).2.0 in absurd cc
+line_barred P c s l (Underway exact p) is began stands =
+    let next : Bool → Result Standing Word =
+    λ b. tested_or b BadLine (and_then (taken s.sorts p l) (λ (q : Progress). Ok (Underway exact q))) in
+    tells_word P BadLine (next (may_stand exact l))
+    (ap next (ap (λ (b : Bool). may_stand b l) (sym (parts_at c s (Underway exact p) is).3) ∙ stands))
 
 -- the first line is another one
 pub version_refused : (P : Unit {0} → Standing → Type 0) (c : Checker) (s : Subject) (l : ProofLine) (at : Standing) → IsAt c s (Ok at) →
     c.opened ≡ false → passes_version s l ≡ false → Tells P (Err (Wrong BadVersion)) (next_standing s at (Ok l))
 version_refused P c s l Unopened is shut fails =
-    tells_word P BadVersion (opens_if (passes_version s l) s) (ap (λ (b : Bool). opens_if b s) fails)
-version_refused P c s l (Underway p) is shut fails = let began = (parts_at c s (Underway p) is).2.0 in absurd cc
+    tells_word P BadVersion (opens_if (passes_version s l) (has_exact l) s) (ap (λ (b : Bool). opens_if b (has_exact l) s) fails)
+version_refused P c s l (Underway exact p) is shut fails = let began = (parts_at c s (Underway exact p) is).2.0 in absurd cc
 
 -- the answer to a line
 pub goes_told : (c d : Checker) (s : Subject) (r : Result Standing Word) (state : State) →

@@ -10,12 +10,13 @@ use Rattle.sm_theory.specs.Lines.{CertificateLine}
 use Rattle.sm_theory.specs.Ways.{Ways, ways}
 use Rattle.sm_plan.specs.Limits.{is_shallow}
 use Rattle.sm_proof.specs.declared.word.Word.{Word}
-use Rattle.sm_proof.specs.declared.word.Word.TheVariants.{BadNumber, Deep, First}
+use Rattle.sm_proof.specs.declared.word.Word.TheVariants.{BadLine, BadNumber, Deep, First}
 use Rattle.sm_proof.specs.Lines.{ProofLine, NumberedLine, Cert}
 use Rattle.sm_proof.specs.Named.{found_or, tested_or, and_then, named_line, line_head}
 use Rattle.sm_proof.specs.Passing.{Pending, Due, Branch, Progress, branches_before, taken_at}
-use Rattle.sm_proof.specs.Reading.{read}
 use Rattle.sm_proof.specs.Verdicts.{Subject, Standing, Underway, reached, reached_after, next_standing}
+use Rattle.sm_proof.proofs.ExactLines.{stands_there}
+use Rattle.sm_check.specs.Aside.{standing_after}
 use Rattle.sm_check.specs.CertsTaken.{splits_above, pending_after}
 use Rattle.sm_check.specs.Closing.{LeadsTo, Closes}
 use Rattle.sm_check.proofs.CertTaken.{goes, cert_after_is}
@@ -75,14 +76,14 @@ pending_after-framed sorts terms stores held own splits rest more l after = name
     named (Some c) e = tested (is_shallow (splits_above l splits)) (ways sorts own c) (First (line_head l)) (splits_above l splits) e
 
 -- lines close the same branches with other stores
-pub closes_restored : (sorts : Sorts) (terms : List Tree) (held : Copy → SymbolicStore) (ps : List Pending) (lines : List (List ℕ)) →
-    Closes sorts terms ps lines → Closes sorts terms (map (restored held) ps) lines
-closes_restored sorts terms held ps [] closes = ap (map (restored held)) closes
-closes_restored sorts terms held ps (line ∷ lines) closes =
-    (map (restored held) closes.0, leads ps closes.0 closes.1, closes_restored sorts terms held closes.0 lines closes.2)
+pub closes_restored : (exact : Bool) (sorts : Sorts) (terms : List Tree) (held : Copy → SymbolicStore) (ps : List Pending)
+    (lines : List (List ℕ)) → Closes exact sorts terms ps lines → Closes exact sorts terms (map (restored held) ps) lines
+closes_restored exact sorts terms held ps [] closes = ap (map (restored held)) closes
+closes_restored exact sorts terms held ps (line ∷ lines) closes =
+    (map (restored held) closes.0, leads ps closes.0 closes.1, closes_restored exact sorts terms held closes.0 lines closes.2)
   where
-    leads : (ps after : List Pending) → LeadsTo sorts terms ps line after →
-        LeadsTo sorts terms (map (restored held) ps) line (map (restored held) after)
+    leads : (ps after : List Pending) → LeadsTo exact sorts terms ps line after →
+        LeadsTo exact sorts terms (map (restored held) ps) line (map (restored held) after)
     leads [] after h = absurd h
     leads (Due st above ∷ rest) after h = absurd h
     leads (Branch stores own splits ∷ rest) after h = (
@@ -95,33 +96,34 @@ closes_restored sorts terms held ps (line ∷ lines) closes =
     )
 
 -- a line that leads on where its branch is pending first
-step_taken : (s : Subject) (p : Progress) (held : Copy → SymbolicStore) (ps after rest : List Pending) (line : List ℕ) →
-    p.pending ≡ map (restored held) ps ++ rest → LeadsTo s.sorts p.terms ps line after →
-    next_standing s (Underway p) (read line) ≡ Ok (Underway (record p { pending = map (restored held) after ++ rest }))
-step_taken s p held [] after rest line is h = absurd h
-step_taken s p held (Due st above ∷ ps) after rest line is h = absurd h
-step_taken s p held (Branch stores own splits ∷ ps) after rest line is h =
-    let next : Result Progress Word → Result Standing Word = λ x. and_then x (λ (q : Progress). Ok (Underway q)) in
+step_taken : (s : Subject) (exact : Bool) (p : Progress) (held : Copy → SymbolicStore) (ps after rest : List Pending) (line : List ℕ) →
+    p.pending ≡ map (restored held) ps ++ rest → LeadsTo exact s.sorts p.terms ps line after →
+    standing_after s (Underway exact p) line ≡ Ok (Underway exact (record p { pending = map (restored held) after ++ rest }))
+step_taken s exact p held [] after rest line is h = absurd h
+step_taken s exact p held (Due st above ∷ ps) after rest line is h = absurd h
+step_taken s exact p held (Branch stores own splits ∷ ps) after rest line is h =
+    let next : Result Progress Word → Result Standing Word = λ x. and_then x (λ (q : Progress). Ok (Underway exact q)) in
     let framed = pending_after-framed s.sorts p.terms stores held own splits ps rest h.0 after h.2 in
-    ap (λ (x : Result ProofLine Word). next_standing s (Underway p) x) h.1
+    ap (λ (x : Result ProofLine Word). next_standing s (Underway exact p) x) h.1
+    ∙ ap (λ (b : Bool). tested_or b BadLine (next (taken_at s.sorts p p.pending (Cert h.0)))) (stands_there exact line (Cert h.0) h.1).1
     ∙ ap (λ (l : List Pending). next (taken_at s.sorts p l (Cert h.0))) is
     ∙ ap next (cert_after_is s.sorts p held own splits (map (restored held) ps ++ rest) h.0)
     ∙ ap (λ (x : Result (List Pending) Word). next (and_then x (goes p))) framed
 
 -- lines that close what is pending first
-pub closes_along : (s : Subject) (n : ℕ) (p : Progress) (held : Copy → SymbolicStore) (ps rest : List Pending) (lines more : List (List ℕ)) →
-    p.pending ≡ map (restored held) ps ++ rest → Closes s.sorts p.terms ps lines →
-    reached s n (Underway p) (lines ++ more)
-    ≡ reached s (n + length lines) (Underway (record p { pending = rest })) more
-closes_along s n p held ps rest [] more is closes =
+pub closes_along : (s : Subject) (n : ℕ) (exact : Bool) (p : Progress) (held : Copy → SymbolicStore) (ps rest : List Pending)
+    (lines more : List (List ℕ)) → p.pending ≡ map (restored held) ps ++ rest → Closes exact s.sorts p.terms ps lines →
+    reached s n (Underway exact p) (lines ++ more)
+    ≡ reached s (n + length lines) (Underway exact (record p { pending = rest })) more
+closes_along s n exact p held ps rest [] more is closes =
     let same : n ≡ n + 0 = omega arith in
-    ap (λ (l : List Pending). reached s n (Underway (record p { pending = l })) more)
+    ap (λ (l : List Pending). reached s n (Underway exact (record p { pending = l })) more)
     (is ∙ ap (λ (l : List Pending). map (restored held) l ++ rest) closes)
-    ∙ ap (λ (k : ℕ). reached s k (Underway (record p { pending = rest })) more) same
-closes_along s n p held ps rest (line ∷ lines) more is closes =
+    ∙ ap (λ (k : ℕ). reached s k (Underway exact (record p { pending = rest })) more) same
+closes_along s n exact p held ps rest (line ∷ lines) more is closes =
     let q : Progress = record p { pending = map (restored held) closes.0 ++ rest } in
     let same : suc n + length lines ≡ n + suc (length lines) = omega arith in
     ap (λ (x : Result Standing Word). reached_after n x (λ (after : Standing). reached s (suc n) after (lines ++ more)))
-    (step_taken s p held ps closes.0 rest line is closes.1)
-    ∙ closes_along s (suc n) q held closes.0 rest lines more refl closes.2
-    ∙ ap (λ (k : ℕ). reached s k (Underway (record p { pending = rest })) more) same
+    (step_taken s exact p held ps closes.0 rest line is closes.1)
+    ∙ closes_along s (suc n) exact q held closes.0 rest lines more refl closes.2
+    ∙ ap (λ (k : ℕ). reached s k (Underway exact (record p { pending = rest })) more) same

@@ -1,10 +1,10 @@
 -- Lines that make formulas, as rows.
-use Rattle.std.proofs.Common.{◌≡◌, ℕ, zero, suc, ◌<◌, ◌+◌, min, max, Bool, Option, Some, None, Result, Ok, Err, slice_get, List, [], ◌∷◌, length}
+use Rattle.std.proofs.Common.{◌≡◌, ℕ, zero, suc, ◌+◌, min, max, Bool, Option, Some, None, Result, Ok, Err, slice_get, List, [], ◌∷◌, length}
 use Rattle.std.proofs.Common.{refl, sym, ap, ◌∙◌, subst, arith}
 use Rattle.std.proofs.lemmas.Option.{same_Some}
 use Rattle.sm_term.specs.declared.term.TermId.{TermId}
 use Rattle.sm_term.specs.Terms.{Tree}
-use Rattle.sm_term.specs.Assertions.{Assertion, And, Or}
+use Rattle.sm_term.specs.Assertions.{Assertion}
 use Rattle.sm_term.specs.Tables.{tree_at}
 use Rattle.sm_theory.specs.Lines.{followed}
 use Rattle.sm_proof.specs.declared.word.Word.{Word}

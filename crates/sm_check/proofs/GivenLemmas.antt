@@ -4,7 +4,7 @@ use Rattle.std.proofs.Common.{refl, sym, ap, ◌∙◌, subst, arith, length-tak
 use Rattle.std.proofs.lemmas.List.{length-append, take_all, take-take}
 use Rattle.sm_io.specs.Files.{ReadsFrom}
 use Rattle.sm_io.specs.Reads.{Read, ReadsOn, ReadsWhole}
-use Rattle.sm_io.proofs.ReadLemmas.{reads_none, reads_more}
+use Rattle.sm_io.proofs.ReadLemmas.{reads_none}
 use Rattle.sm_proof.specs.Verdicts.{Subject}
 use Rattle.sm_check.specs.Files.{file_answer, TellsAnswer}
 use Rattle.sm_check.specs.FilesRead.{AnswersRead}
@@ -14,7 +14,7 @@ use Rattle.sm_check.specs.declared.fault.Stopped.TheVariants as stopped
 use Rattle.sm_check.specs.declared.verifying.Checked.{Checked}
 use Rattle.sm_check.specs.declared.verifying.Checked.TheVariants.{Pass}
 use Rattle.sm_check.specs.declared.verifying.CheckError.{CheckError}
-use Rattle.sm_check.specs.declared.verifying.CheckError.TheVariants.{Memory}
+use Rattle.sm_check.specs.declared.verifying.CheckError.TheVariants.{Memory, ReadFault}
 
 -- what stands behind the bytes read before
 drop_read : (read more : List ℕ) → drop (length read) (read ++ more) ≡ more
@@ -63,25 +63,31 @@ pub none_given : (name : List ℕ) (reads : List Read) (limit : ℕ) (s : Subjec
     AnswersRead name reads reads limit s r
 none_given name reads limit s r is =
     subst (λ (x : Result Checked CheckError). AnswersRead name reads reads limit s x) (sym is)
-    (record { bytes = []; read = inl (reads_none name reads); whole = λ passes. absurd (cc); tells = tt })
+    (record {
+      bytes = [];
+      read = inl (reads_none name reads);
+      whole = λ passes. absurd (cc);
+      part = λ _. reads_none name reads;
+      tells = tt;
+    })
 
 -- a pass that isn't at its end
 pub part_given : (name : List ℕ) (before now : List Read) (limit : ℕ) (s : Subject) (r : Result Checked CheckError) (bytes : List ℕ)
     → ReadsOn name before now bytes → (r ≡ Ok Pass → ⊥) → TellsAnswer r (file_answer limit s bytes)
     → AnswersRead name before now limit s r
 part_given name before now limit s r bytes on none tells =
-    record { bytes = bytes; read = inl on; whole = λ is. absurd (none is); tells = tells }
+    record { bytes = bytes; read = inl on; whole = λ is. absurd (none is); part = λ _. on; tells = tells }
 
 -- one that is, by a read that gave nothing
 pub whole_given : (name : List ℕ) (before between now : List Read) (limit : ℕ) (s : Subject) (r : Result Checked CheckError)
     (bytes piece : List ℕ) (place count : ℕ) → ReadsOn name before between bytes → length bytes ≡ place → count ≡ 0
-    → now ≡ between ++ (name, place, take count piece) ∷ [] → TellsAnswer r (file_answer limit s bytes)
+    → now ≡ between ++ (name, place, take count piece) ∷ [] → (r ≡ Err ReadFault → ⊥) → TellsAnswer r (file_answer limit s bytes)
     → AnswersRead name before now limit s r
-whole_given name before between now limit s r bytes piece place count on at none is tells =
+whole_given name before between now limit s r bytes piece place count on at none is no_fault tells =
     let whole : ReadsWhole name before now bytes = record {
       between = between;
       on = on;
       end = is ∙ ap (λ (n : ℕ). between ++ (name, place, take n piece) ∷ []) none
           ∙ ap (λ (p : ℕ). between ++ (name, p, []) ∷ []) (sym at);
     } in
-    record { bytes = bytes; read = inr whole; whole = λ _. whole; tells = tells }
+    record { bytes = bytes; read = inr whole; whole = λ _. whole; part = λ fails. absurd (no_fault fails); tells = tells }

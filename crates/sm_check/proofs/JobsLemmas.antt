@@ -24,7 +24,7 @@ use Rattle.sm_proof.specs.declared.word.Word.{Word}
 use Rattle.sm_proof.specs.Lines.{NumberedLine, Cert}
 use Rattle.sm_proof.specs.Passing as plain
 use Rattle.sm_proof.specs.Passing.{Pending}
-use Rattle.sm_proof.specs.Reading.{read}
+use Rattle.sm_proof.specs.Versions.{read_with}
 use Rattle.sm_check.specs.declared.openings.Opening.{Opening}
 use Rattle.sm_check.specs.declared.pending.Due.{Due}
 use Rattle.sm_check.specs.declared.pending.Due.TheVariants as due
@@ -43,29 +43,29 @@ use Rattle.sm_cert.proofs.CertificateSound.{sorted_append}
 use Rattle.sm_cert.proofs.WaysLemmas.{stand_append}
 
 -- the first certificates pass
-pub first_close : (sorts : Sorts) (trees terms : List Tree) (path : List Fact) (facts : List BranchFact) → AllStand sorts trees path facts →
-    AreFactsSorted sorts facts → (n : ℕ) (os : List Opening) (cs : List RawLines) (ps : List Pending) →
+pub first_close : (exact : Bool) (sorts : Sorts) (trees terms : List Tree) (path : List Fact) (facts : List BranchFact) →
+    AllStand sorts trees path facts → AreFactsSorted sorts facts → (n : ℕ) (os : List Opening) (cs : List RawLines) (ps : List Pending) →
     OpenFirst sorts trees facts os ps → n ≤ length os → n ≤ length cs →
     ((k : ℕ) (o : Opening) (c : RawLines) → k < n → slice_get os k ≡ Some o → slice_get cs k ≡ Some c →
-    Passes sorts trees terms path o (ended_in c.bytes.items)) →
-    CloseFirst sorts terms ps (take n (certificates_of cs))
-first_close sorts trees terms path facts all sorted zero os cs ps opens enough there passes = tt
-first_close sorts trees terms path facts all sorted (suc n) [] cs ps opens enough there passes = absurd (omega arith)
-first_close sorts trees terms path facts all sorted (suc n) (o ∷ os) [] ps opens enough there passes = absurd (omega arith)
-first_close sorts trees terms path facts all sorted (suc n) (o ∷ os) (c ∷ cs) [] opens enough there passes = absurd opens
-first_close sorts trees terms path facts all sorted (suc n) (o ∷ os) (c ∷ cs) (p ∷ ps) opens enough there passes = (
+    Passes exact sorts trees terms path o (ended_in c.bytes.items)) →
+    CloseFirst exact sorts terms ps (take n (certificates_of cs))
+first_close exact sorts trees terms path facts all sorted zero os cs ps opens enough there passes = tt
+first_close exact sorts trees terms path facts all sorted (suc n) [] cs ps opens enough there passes = absurd (omega arith)
+first_close exact sorts trees terms path facts all sorted (suc n) (o ∷ os) [] ps opens enough there passes = absurd (omega arith)
+first_close exact sorts trees terms path facts all sorted (suc n) (o ∷ os) (c ∷ cs) [] opens enough there passes = absurd opens
+first_close exact sorts trees terms path facts all sorted (suc n) (o ∷ os) (c ∷ cs) (p ∷ ps) opens enough there passes = (
   passes 0 o c (omega arith) refl refl facts p all sorted opens.0,
-  first_close sorts trees terms path facts all sorted n os cs ps opens.1 (omega arith) (omega arith)
+  first_close exact sorts trees terms path facts all sorted n os cs ps opens.1 (omega arith) (omega arith)
       (λ (k : ℕ) (d : Opening) (b : RawLines) (below : k < n) (at : slice_get os k ≡ Some d) (is : slice_get cs k ≡ Some b).
       passes (suc k) d b (omega arith) at is),
 )
 
 -- lines that close a branch with some stores close it with others
-pub closes_with : (sorts : Sorts) (terms : List Tree) (stores held : Copy → SymbolicStore) (own : List BranchFact) (splits : ℕ)
-    (lines : List (List ℕ)) → Closes sorts terms (plain.Branch stores own splits ∷ []) lines →
-    Closes sorts terms (plain.Branch held own splits ∷ []) lines
-closes_with sorts terms stores held own splits lines closes =
-    closes_restored sorts terms held (plain.Branch stores own splits ∷ []) lines closes
+pub closes_with : (exact : Bool) (sorts : Sorts) (terms : List Tree) (stores held : Copy → SymbolicStore) (own : List BranchFact)
+    (splits : ℕ) (lines : List (List ℕ)) → Closes exact sorts terms (plain.Branch stores own splits ∷ []) lines →
+    Closes exact sorts terms (plain.Branch held own splits ∷ []) lines
+closes_with exact sorts terms stores held own splits lines closes =
+    closes_restored exact sorts terms held (plain.Branch stores own splits ∷ []) lines closes
 
 -- where a branch is due it is pending first, with the facts of the path
 pub record DueFirst (sorts : Sorts) (trees : List Tree) (path : List Fact) (stores : PerCopy SymStore) (splits : ℕ)
@@ -209,36 +209,36 @@ waiting_opens sorts trees facts (plain.Branch held own over) shared f copy store
     )
 
 -- a branch that goes on with a line of a certificate
-pub went_on : (sorts : Sorts) (trees terms : List Tree) (path path' : List Fact) (stores : PerCopy SymStore) (splits : ℕ)
+pub went_on : (exact : Bool) (sorts : Sorts) (trees terms : List Tree) (path path' : List Fact) (stores : PerCopy SymStore) (splits : ℕ)
     (waiting waiting' : List Waiting) (ps : List Pending) (l : NumberedLine) (line : List ℕ) (d : Option Due)
-    (f : DueFirst sorts trees path stores splits waiting ps) → read line ≡ Ok (Cert l) →
+    (f : DueFirst sorts trees path stores splits waiting ps) → read_with exact line ≡ Ok (Cert l) →
     Tells {S = Option Due} {T = List Pending} (λ d qs. PendingStands sorts trees path' d waiting' qs) (Ok d)
     (pending_after sorts terms (stores_in trees stores) f.own splits f.rest l) →
-    (qs : List Pending) × LeadsTo sorts terms ps line qs × PendingStands sorts trees path' d waiting' qs
-went_on sorts trees terms path path' stores splits waiting waiting' ps l line d f is tells =
+    (qs : List Pending) × LeadsTo exact sorts terms ps line qs × PendingStands sorts trees path' d waiting' qs
+went_on exact sorts trees terms path path' stores splits waiting waiting' ps l line d f is tells =
     by (pending_after sorts terms (stores_in trees stores) f.own splits f.rest l) refl tells
   where
     by : (r : Result (List Pending) Word) → pending_after sorts terms (stores_in trees stores) f.own splits f.rest l ≡ r →
         Tells {S = Option Due} {T = List Pending} (λ d qs. PendingStands sorts trees path' d waiting' qs) (Ok d) r →
-        (qs : List Pending) × LeadsTo sorts terms ps line qs × PendingStands sorts trees path' d waiting' qs
-    by (Ok qs) e told = (qs, subst (λ (xs : List Pending). LeadsTo sorts terms xs line qs) (sym f.is) (l, is, e), told)
+        (qs : List Pending) × LeadsTo exact sorts terms ps line qs × PendingStands sorts trees path' d waiting' qs
+    by (Ok qs) e told = (qs, subst (λ (xs : List Pending). LeadsTo exact sorts terms xs line qs) (sym f.is) (l, is, e), told)
     by (Err w) e told = absurd told
 
 -- where lines so far led, and that the others, if they close this, close the branch with all
-pub record Leads (sorts : Sorts) (trees terms : List Tree) (path : List Fact) (d : Option Due) (waiting : List Waiting)
+pub record Leads (exact : Bool) (sorts : Sorts) (trees terms : List Tree) (path : List Fact) (d : Option Due) (waiting : List Waiting)
     (own : List BranchFact) (splits : ℕ) (left all : List (List ℕ)) : Type 0 where
   pub stores : Copy → SymbolicStore
   pub pending : List Pending
   pub stands : PendingStands sorts trees path d waiting pending
-  pub closes : Closes sorts terms pending left → Closes sorts terms (plain.Branch stores own splits ∷ []) all
+  pub closes : Closes exact sorts terms pending left → Closes exact sorts terms (plain.Branch stores own splits ∷ []) all
 
 -- one line more
-pub leads_on : (sorts : Sorts) (trees terms : List Tree) (path path' : List Fact) (d d' : Option Due) (waiting waiting' : List Waiting)
-    (own : List BranchFact) (splits : ℕ) (line : List ℕ) (left all : List (List ℕ))
-    (h : Leads sorts trees terms path d waiting own splits (line ∷ left) all) →
-    ((qs : List Pending) × LeadsTo sorts terms h.pending line qs × PendingStands sorts trees path' d' waiting' qs) →
-    Leads sorts trees terms path' d' waiting' own splits left all
-leads_on sorts trees terms path path' d d' waiting waiting' own splits line left all h next = record {
+pub leads_on : (exact : Bool) (sorts : Sorts) (trees terms : List Tree) (path path' : List Fact) (d d' : Option Due)
+    (waiting waiting' : List Waiting) (own : List BranchFact) (splits : ℕ) (line : List ℕ) (left all : List (List ℕ))
+    (h : Leads exact sorts trees terms path d waiting own splits (line ∷ left) all) →
+    ((qs : List Pending) × LeadsTo exact sorts terms h.pending line qs × PendingStands sorts trees path' d' waiting' qs) →
+    Leads exact sorts trees terms path' d' waiting' own splits left all
+leads_on exact sorts trees terms path path' d d' waiting waiting' own splits line left all h next = record {
   stores = h.stores;
   pending = next.0;
   stands = next.2;
@@ -246,11 +246,11 @@ leads_on sorts trees terms path path' d d' waiting waiting' own splits line left
 }
 
 -- nothing is due behind the last line
-pub leads_home : (sorts : Sorts) (trees terms : List Tree) (path : List Fact) (d : Option Due) (waiting : List Waiting)
+pub leads_home : (exact : Bool) (sorts : Sorts) (trees terms : List Tree) (path : List Fact) (d : Option Due) (waiting : List Waiting)
     (own : List BranchFact) (splits : ℕ) (all : List (List ℕ)) (held : Copy → SymbolicStore) → d ≡ None →
-    Leads sorts trees terms path d waiting own splits [] all → Closes sorts terms (plain.Branch held own splits ∷ []) all
-leads_home sorts trees terms path d waiting own splits all held none h =
-    closes_with sorts terms h.stores held own splits all
+    Leads exact sorts trees terms path d waiting own splits [] all → Closes exact sorts terms (plain.Branch held own splits ∷ []) all
+leads_home exact sorts trees terms path d waiting own splits all held none h =
+    closes_with exact sorts terms h.stores held own splits all
     (h.closes (none_pending sorts trees path d waiting h.pending none h.stands))
 
 -- terms that are there, by their places
@@ -289,11 +289,11 @@ alone_stands sorts trees path facts own o held splits stores sorted opens stands
 )
 
 -- no line is taken yet
-pub leads_first : (sorts : Sorts) (trees terms : List Tree) (path : List Fact) (d : Option Due) (waiting : List Waiting)
+pub leads_first : (exact : Bool) (sorts : Sorts) (trees terms : List Tree) (path : List Fact) (d : Option Due) (waiting : List Waiting)
     (own : List BranchFact) (splits : ℕ) (all : List (List ℕ)) →
     ((stores : Copy → SymbolicStore) × PendingStands sorts trees path d waiting (plain.Branch stores own splits ∷ [])) →
-    Leads sorts trees terms path d waiting own splits all all
-leads_first sorts trees terms path d waiting own splits all h = record {
+    Leads exact sorts trees terms path d waiting own splits all all
+leads_first exact sorts trees terms path d waiting own splits all h = record {
   stores = h.0;
   pending = plain.Branch h.0 own splits ∷ [];
   stands = h.1;
@@ -301,14 +301,14 @@ leads_first sorts trees terms path d waiting own splits all h = record {
 }
 
 -- all lines are taken, and nothing is due
-pub closed_home : (sorts : Sorts) (trees terms : List Tree) (path : List Fact) (d : Option Due) (waiting : List Waiting)
+pub closed_home : (exact : Bool) (sorts : Sorts) (trees terms : List Tree) (path : List Fact) (d : Option Due) (waiting : List Waiting)
     (facts : List BranchFact) (o : Opening) (p : Pending) (all : List (List ℕ)) → d ≡ None → OpensAs sorts trees facts o p →
     ((own : List BranchFact) (held : Copy → SymbolicStore) (splits : ℕ) → OpensAs sorts trees facts o (plain.Branch held own splits) →
-    Leads sorts trees terms path d waiting own splits [] all) →
-    Closes sorts terms (p ∷ []) all
-closed_home sorts trees terms path d waiting facts o (plain.Due st above) all none opens leads = absurd opens
-closed_home sorts trees terms path d waiting facts o (plain.Branch held own splits) all none opens leads =
-    leads_home sorts trees terms path d waiting own splits all held none (leads own held splits opens)
+    Leads exact sorts trees terms path d waiting own splits [] all) →
+    Closes exact sorts terms (p ∷ []) all
+closed_home exact sorts trees terms path d waiting facts o (plain.Due st above) all none opens leads = absurd opens
+closed_home exact sorts trees terms path d waiting facts o (plain.Branch held own splits) all none opens leads =
+    leads_home exact sorts trees terms path d waiting own splits all held none (leads own held splits opens)
 
 -- the last of what waits is the first
 pub last_waits : (ws : List Waiting) (n : ℕ) (d : Waiting) → 0 < n → n ≤ length ws →
@@ -374,22 +374,22 @@ opens_more sorts trees facts os all o ws n w ps some fits at opens is u =
     (subst (λ (xs : List Waiting). OpensUpTo sorts trees facts os xs ps) last u))
 
 -- what jobs answer of their certificates
-abbrev pub Answered : Sorts → List Tree → List Tree → List Fact → List Opening → List RawLines → ℕ → List Bool → Type 0
-Answered sorts trees terms path os cs count results =
+abbrev pub Answered : (exact : Bool) → Sorts → List Tree → List Tree → List Fact → List Opening → List RawLines → ℕ → List Bool → Type 0
+Answered exact sorts trees terms path os cs count results =
     StandInOrder
     (λ (k : ℕ) (out : Bool).
     (o : Opening) (c : RawLines) → slice_get os k ≡ Some o → slice_get cs k ≡ Some c → out ≡ true →
-    Passes sorts trees terms path o (ended_in c.bytes.items)) 0 count results
+    Passes exact sorts trees terms path o (ended_in c.bytes.items)) 0 count results
 
 -- the certificates whose jobs answer true before the first that doesn't close the first branches
-pub answered_close : (sorts : Sorts) (trees terms : List Tree) (path : List Fact) (facts : List BranchFact) →
+pub answered_close : (exact : Bool) (sorts : Sorts) (trees terms : List Tree) (path : List Fact) (facts : List BranchFact) →
     AllStand sorts trees path facts → AreFactsSorted sorts facts → (os : List Opening) (cs : List RawLines) (ps : List Pending)
     (count n : ℕ) (results : List Bool) →
-    OpenFirst sorts trees facts os ps → count ≤ length os → count ≤ length cs → Answered sorts trees terms path os cs count results →
+    OpenFirst sorts trees facts os ps → count ≤ length os → count ≤ length cs → Answered exact sorts trees terms path os cs count results →
     n ≤ length results → ((k : ℕ) (d : Bool) → k < n → slice_index_or results k d ≡ true) →
-    CloseFirst sorts terms ps (take n (certificates_of cs))
-answered_close sorts trees terms path facts all sorted os cs ps count n results opens enough there answers few lead =
-    first_close sorts trees terms path facts all sorted n os cs ps opens (omega (arith, answers.all)) (omega (arith, answers.all))
+    CloseFirst exact sorts terms ps (take n (certificates_of cs))
+answered_close exact sorts trees terms path facts all sorted os cs ps count n results opens enough there answers few lead =
+    first_close exact sorts trees terms path facts all sorted n os cs ps opens (omega (arith, answers.all)) (omega (arith, answers.all))
     (λ (k : ℕ) (o : Opening) (c : RawLines) (less : k < n) (at : slice_get os k ≡ Some o) (is : slice_get cs k ≡ Some c).
     let place : k ≡ 0 + k = sym (zero-add k) in
     answers.each k true (omega (arith, answers.all)) o c (subst (λ (i : ℕ). slice_get os i ≡ Some o) place at)

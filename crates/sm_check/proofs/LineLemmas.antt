@@ -5,8 +5,10 @@ use Rattle.std.proofs.lemmas.Bool.Decides.{nat_tests}
 use Rattle.sm_proof.specs.declared.word.Word.{Word}
 use Rattle.sm_proof.specs.declared.word.Word.TheVariants.{BadLine}
 use Rattle.sm_proof.specs.Reading.{read}
-use Rattle.sm_proof.specs.Verdicts.{Subject, Standing, Unopened, Reached, Refused, Before, reached, reached_after, next_standing}
+use Rattle.sm_proof.specs.Versions.{begins_exact}
+use Rattle.sm_proof.specs.Verdicts.{Subject, Standing, Unopened, Reached, Refused, Before, reached, reached_after}
 use Rattle.sm_proof.specs.Verdicts.{FileLines, lines_in, in_first_line}
+use Rattle.sm_check.specs.Aside.{IsNoLine, standing_after}
 use Rattle.sm_check.specs.LineEnds.{HasNoEnd}
 use Rattle.sm_check.specs.Pieces.{reach}
 
@@ -101,7 +103,7 @@ pub reached_refused : (s : Subject) (n : ℕ) (at : Standing) (lines more : List
     reached s n at lines ≡ Refused k w → reached s n at (lines ++ more) ≡ Refused k w
 reached_refused s n at [] more k w e = absurd (cc)
 reached_refused s n at (l ∷ ls) more k w e =
-    after_refused n k w (next_standing s at (read l))
+    after_refused n k w (standing_after s at l)
     (λ (a : Standing). reached s (suc n) a ls) (λ (a : Standing). reached s (suc n) a (ls ++ more))
     (λ (a : Standing). reached_refused s (suc n) a ls more k w) e
 
@@ -124,7 +126,16 @@ reach_refused s bytes more k w e =
     ap (reached s 1 Unopened) tail.1 ∙ reached_refused s 1 Unopened (lines_in bytes).ended tail.0 k w e
 
 -- a line has at most 4,096 bytes
-pub long_lines_are_bad : (bytes : List ℕ) → 4096 < length bytes → read bytes ≡ Err BadLine
+long_lines_are_bad : (bytes : List ℕ) → 4096 < length bytes → read bytes ≡ Err BadLine
 unfolding read
 long_lines_are_bad bytes long =
     let over_long : nat_le (length bytes) 4096 ≡ false = grind (arith, nat_tests) in rw over_long refl
+
+-- in files of each version
+pub long_line_is_none : (bytes : List ℕ) → 4096 < length bytes → IsNoLine bytes BadLine
+long_line_is_none bytes long true = long_lines_are_bad bytes long
+long_line_is_none bytes long false = by (begins_exact bytes)
+  where
+    by : (b : Bool) → (if b then Err BadLine else read bytes) ≡ Err BadLine
+    by true = refl
+    by false = long_lines_are_bad bytes long

@@ -8,10 +8,12 @@ use Rattle.std.proofs.lemmas.List.{take_more, get_or-take, take_rest, take-appen
 use Rattle.std.proofs.Math.Seq.{take-add}
 use Rattle.memchr.specs.Find.{IsFirstByte, is_byte}
 use Rattle.sm_proof.specs.declared.word.Word.{Word}
+use Rattle.sm_proof.specs.declared.word.Word.TheVariants.{BadLine}
 use Rattle.sm_proof.specs.Lines.{ProofLine}
-use Rattle.sm_proof.specs.Named.{and_then}
+use Rattle.sm_proof.specs.Named.{tested_or, and_then}
 use Rattle.sm_proof.specs.Passing.{Progress, taken}
 use Rattle.sm_proof.specs.Verdicts.{Subject, Standing, Unopened, Underway, Before, next_standing, opens_if, passes_version}
+use Rattle.sm_proof.specs.Versions.{has_exact, may_stand}
 use Rattle.sm_check.specs.declared.checker.Checker.{Checker}
 use Rattle.sm_check.specs.declared.fault.LineFault.{LineFault}
 use Rattle.sm_check.specs.declared.fault.LineFault.TheVariants as fault
@@ -29,20 +31,22 @@ abbrev pub opens_of : Result Standing Word → Bool
 opens_of (Err w) = false
 opens_of (Ok at) = is_unopened at
 
-opens_if-false : (test : Bool) (s : Subject) → opens_of (opens_if test s) ≡ false
-opens_if-false true s = refl
-opens_if-false false s = refl
+opens_if-false : (test exact : Bool) (s : Subject) → opens_of (opens_if test exact s) ≡ false
+opens_if-false true exact s = refl
+opens_if-false false exact s = refl
 
-underway : (x : Result Progress Word) → opens_of (and_then x (λ (q : Progress). Ok (Underway q))) ≡ false
-underway (Err w) = refl
-underway (Ok q) = refl
+underway : (stands exact : Bool) (x : Result Progress Word) →
+    opens_of (tested_or stands BadLine (and_then x (λ (q : Progress). Ok (Underway exact q)))) ≡ false
+underway false exact x = refl
+underway true exact (Err w) = refl
+underway true exact (Ok q) = refl
 
 -- no line does
 pub next-opens : (s : Subject) (at : Standing) (line : Result ProofLine Word) → opens_of (next_standing s at line) ≡ false
 next-opens s Unopened (Err w) = refl
-next-opens s Unopened (Ok line) = opens_if-false (passes_version s line) s
-next-opens s (Underway p) (Err w) = refl
-next-opens s (Underway p) (Ok line) = underway (taken s.sorts p line)
+next-opens s Unopened (Ok line) = opens_if-false (passes_version s line) (has_exact line) s
+next-opens s (Underway exact p) (Err w) = refl
+next-opens s (Underway exact p) (Ok line) = underway (may_stand exact line) exact (taken s.sorts p line)
 
 -- a line that the checker took
 pub goes_on : (s : Subject) (x : Result Standing Word) (lines : TakenLines) → opens_of x ≡ false → 1 < lines.number →

@@ -1,46 +1,42 @@
 -- The lines of a piece: read behind what was read before, with lines that are set aside.
 use Rattle.std.proofs.Common.{◌≡◌, true, ℕ, List, [], ◌∷◌, ◌++◌, Result, Ok, Err, ap, subst, sym, refl, ◌∙◌}
 use Rattle.std.specs.Result.{OnOk, IfErr}
-use Rattle.sm_proof.specs.declared.word.Word.{Word}
 use Rattle.sm_proof.specs.declared.word.Word.TheVariants.{BadLine}
-use Rattle.sm_proof.specs.Lines.{ProofLine}
-use Rattle.sm_proof.specs.Reading.{read}
 use Rattle.sm_proof.specs.Verdicts.{Subject, Unopened, FileLines, lines_in, reached}
 use Rattle.sm_check.specs.declared.fault.Stopped.{Stopped}
 use Rattle.sm_check.specs.declared.taken_lines.TakenLines.{TakenLines}
 use Rattle.sm_check.specs.declared.unfinished.Unfinished.{Unfinished}
-use Rattle.sm_check.specs.Aside.{AreRead, ComesTo, StopsAt, with_line}
+use Rattle.sm_check.specs.Aside.{AreRead, ComesTo, StopsAt, IsNoLine, with_line}
 use Rattle.sm_check.specs.LineEnds.{HasNoEnd, ended_in}
 use Rattle.sm_check.specs.Pieces.{AreTaken, IsKept, StopsIn, reach}
 use Rattle.sm_check.proofs.AsideLemmas.{line_not_read, line_read, reached-lines, read_taken, taken_read, with_lines}
 use Rattle.sm_check.proofs.EndedLines.{lines_in-behind}
-use Rattle.sm_check.proofs.LineLemmas.{lines_in-rest, long_lines_are_bad, reach-rest}
+use Rattle.sm_check.proofs.LineLemmas.{lines_in-rest, long_line_is_none, reach-rest}
 use Rattle.sm_check.proofs.PieceLemmas.{keeps_long}
 
 -- where a call was good, the line was read
 pub line_read_by : {U : Type 0} (x : Result U Stopped) (lines : TakenLines) (aside : List (List ℕ)) (v : Unfinished) (s : Subject)
     (bytes front line : List ℕ) → HasNoEnd front → line ≡ (lines_in bytes).rest ++ front →
-    OnOk x (ComesTo lines aside s (with_line s (read line) (reach s bytes))) → IsKept v [] →
+    OnOk x (ComesTo lines aside s (with_line s line (reach s bytes))) → IsKept v [] →
     OnOk x (AreRead lines aside v s (bytes ++ (front ++ 10 ∷ [])))
 line_read_by (Err e) lines aside v s bytes front line h same comes kept = tt
 line_read_by (Ok u) lines aside v s bytes front line h same comes kept = line_read lines aside v s bytes front line h same comes kept
 
 -- where it wasn't, lines stop there
 pub line_not_read_by : {U : Type 0} (x : Result U Stopped) (s : Subject) (bytes front line : List ℕ) → HasNoEnd front →
-    line ≡ (lines_in bytes).rest ++ front → IfErr x (StopsAt (with_line s (read line) (reach s bytes))) →
+    line ≡ (lines_in bytes).rest ++ front → IfErr x (StopsAt (with_line s line (reach s bytes))) →
     IfErr x (StopsIn s (bytes ++ (front ++ 10 ∷ [])))
 line_not_read_by (Ok u) s bytes front line h same stops = tt
 line_not_read_by (Err e) s bytes front line h same stops = line_not_read s bytes front line e h same stops
 
 -- a line that is too long can't be read
 pub long_line_not_read : (v : Unfinished) (s : Subject) (bytes front : List ℕ) (e : Stopped) → HasNoEnd front → v.is_too_long ≡ true →
-    IsKept v ((lines_in bytes).rest ++ front) → StopsAt (with_line s (Err BadLine) (reach s bytes)) e →
-    StopsIn s (bytes ++ (front ++ 10 ∷ [])) e
+    IsKept v ((lines_in bytes).rest ++ front) →
+    ((line : List ℕ) → IsNoLine line BadLine → StopsAt (with_line s line (reach s bytes)) e) → StopsIn s (bytes ++ (front ++ 10 ∷ [])) e
 long_line_not_read v s bytes front e h long kept stops =
     let line = (lines_in bytes).rest ++ front in
-    let bad : read line ≡ Err BadLine = long_lines_are_bad line (keeps_long v.is_too_long v.bytes.items line long kept) in
     line_not_read s bytes front line e h refl
-    (subst (λ (x : Result ProofLine Word). StopsAt (with_line s x (reach s bytes)) e) (sym bad) stops)
+    (stops line (long_line_is_none line (keeps_long v.is_too_long v.bytes.items line long kept)))
 
 -- bytes without an end are kept
 pub rest_is_read : (lines : TakenLines) (aside : List (List ℕ)) (u v : Unfinished) (s : Subject) (bytes more : List ℕ) →

@@ -1,5 +1,5 @@
 -- A task that a text spells stands as it is declared, and its declared names are numbered from 0 on.
-use Rattle.std.proofs.Common.{◌≡◌, ℕ, Bool, Option, Some, None, unwrap_or, List, [], ◌∷◌, ◌++◌, length, refl, sym, ap, ◌∙◌}
+use Rattle.std.proofs.Common.{◌≡◌, ℕ, Bool, Option, Some, None, unwrap_or, List, [], ◌∷◌, ◌++◌, length, refl, ap, ◌∙◌}
 use Rattle.std.specs.List.{AllByRecursion}
 use Rattle.std.specs.Option.{option_or}
 use Rattle.sm_syntax.proofs.EachUse.{well_sorted_is_all}

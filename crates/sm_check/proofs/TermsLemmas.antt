@@ -1,11 +1,9 @@
 -- Terms that lines make.
 use Rattle.std.proofs.Common.{◌≡◌, ℕ, ◌+◌, Bool, true, false, ◌&&◌, nat_lt, drop, Option, Some, None, Result, Ok, Err, slice_get, get_or, List, [], ◌∷◌, zero, suc, length, ◌<◌, ◌≤◌, arith, refl, sym, ap, ◌∙◌, subst}
-use Rattle.std.proofs.lemmas.Option.{slice_get_within}
-use Rattle.sm_syntax.specs.declared.tree.Name.{Name}
 use Rattle.sm_term.specs.declared.term.TermId.{TermId}
 use Rattle.sm_term.specs.Terms.{Tree}
 use Rattle.sm_term.specs.Terms.{Start}
-use Rattle.sm_term.specs.Tables.{tree_at, AreBefore}
+use Rattle.sm_term.specs.Tables.{tree_at}
 use Rattle.sm_term.specs.declared.symbolic.SymStore.{SymStore}
 use Rattle.sm_term.specs.SymStores.{store_in, tree_or_start, IsStoreWithin}
 use Rattle.sm_term.proofs.TermsLemmas.{part_before}
@@ -18,7 +16,7 @@ use Rattle.sm_check.specs.declared.fault.LineFault.{LineFault}
 use Rattle.sm_check.specs.declared.fault.LineFault.TheVariants.{Wrong}
 use Rattle.sm_check.specs.LineKinds.{Misses}
 use Rattle.sm_check.specs.Walks.{terms_in}
-use Rattle.sm_check.specs.TermsMade.{with_two, IsTerm}
+use Rattle.sm_check.specs.TermsMade.{IsTerm}
 use Rattle.sm_check.proofs.FormRowsLemmas.{named_there, named_missing, found_there, found_missing}
 
 -- a term that a line made

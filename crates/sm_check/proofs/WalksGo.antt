@@ -1,5 +1,5 @@
 -- How a proof on its way goes on with a line.
-use Rattle.std.proofs.Common.{◌≡◌, ℕ, zero, suc, ◌+◌, ◌<◌, ◌≤◌, ◌⊎◌, inl, inr, Option, Some, None, Result, Ok, Err, slice_get, List, [], ◌∷◌, ◌++◌, length, map, reverse}
+use Rattle.std.proofs.Common.{◌≡◌, ℕ, zero, suc, ◌+◌, ◌<◌, ◌⊎◌, inl, inr, Option, Some, None, Result, Ok, Err, slice_get, List, [], ◌∷◌, ◌++◌, length, reverse}
 use Rattle.std.proofs.Common.{refl, sym, ap, ◌∙◌, subst, arith}
 use Rattle.std.specs.Prelude.{pos}
 use Rattle.sm_theory.specs.Lines.{followed}
@@ -18,7 +18,7 @@ use Rattle.sm_proof.specs.declared.line.FormLine.{FormLine}
 use Rattle.sm_proof.specs.declared.line.FormLine.TheVariants as form
 use Rattle.sm_proof.specs.declared.line.TermLine.{TermLine}
 use Rattle.sm_proof.specs.declared.word.Word.{Word}
-use Rattle.sm_proof.specs.Lines.{ProofLine, Term, Form}
+use Rattle.sm_proof.specs.Lines.{Term, Form}
 use Rattle.sm_proof.specs.Named.{and_then}
 use Rattle.sm_proof.specs.Passing.{Pending, Progress, form_made, term_made, taken, taken_at}
 use Rattle.sm_check.specs.declared.fault.LineFault.{LineFault}

@@ -1,10 +1,10 @@
 -- Private: lines that are set aside.
-use Rattle.std.specs.Prelude.{◌≡◌, ℕ, suc, List, [], ◌∷◌, ◌++◌, map, Result}
+use Rattle.std.specs.Prelude.{◌≡◌, ℕ, suc, Bool, List, [], ◌∷◌, ◌++◌, map, Result, Err}
 use Rattle.sm_proof.specs.declared.word.Word.{Word}
-use Rattle.sm_proof.specs.Lines.{ProofLine}
 use Rattle.sm_proof.specs.Passing.{Progress, start_progress}
 use Rattle.sm_proof.specs.Verdicts.{Subject, Standing, Unopened, Underway, Reached, Refused, Before}
-use Rattle.sm_proof.specs.Verdicts.{reached, reached_after, next_standing, lines_in}
+use Rattle.sm_proof.specs.Verdicts.{reached, reached_after, next_standing, reads_exact, lines_in}
+use Rattle.sm_proof.specs.Versions.{read_with}
 use Rattle.sm_check.specs.declared.aside.Aside.{Aside}
 use Rattle.sm_check.specs.declared.fault.Stopped.{Stopped}
 use Rattle.sm_check.specs.declared.fault.Stopped.TheVariants.{Wrong, Memory}
@@ -34,13 +34,21 @@ HoldsNone aside = (aside.whole.items ≡ []) × (aside.begun.bytes.items ≡ [])
 -- the proof that stands here, before its version line the one that begins
 abbrev pub progress_at : Subject → Standing → Progress
 progress_at s Unopened = start_progress s.start
-progress_at s (Underway p) = p
+progress_at s (Underway exact p) = p
 
--- how far lines come with one more, as it was read
-abbrev pub with_line : Subject → Result ProofLine Word → Reached → Reached
-with_line s read (Refused n w) = Refused n w
-with_line s read (Before n at) =
-    reached_after n (next_standing s at read) (λ (after : Standing). Before (suc n) after)
+-- where a proof stands after a line, by its bytes, or the word by which it is refused
+abbrev pub standing_after : Subject → Standing → List ℕ → Result Standing Word
+standing_after s at line = next_standing s at (read_with (reads_exact at) line)
+
+-- how far lines come with one more
+abbrev pub with_line : Subject → List ℕ → Reached → Reached
+with_line s line (Refused n w) = Refused n w
+with_line s line (Before n at) =
+    reached_after n (standing_after s at line) (λ (after : Standing). Before (suc n) after)
+
+-- bytes can't be read, for this word, whether lines `exact` may stand or not
+abbrev pub IsNoLine : List ℕ → Word → Type 0
+IsNoLine line word = (exact : Bool) → read_with exact line ≡ Err word
 
 -- lines came this far: some were taken, and some are set aside behind them
 pub record ComesTo (lines : TakenLines) (aside : List (List ℕ)) (s : Subject) (r : Reached)

@@ -1,11 +1,11 @@
 -- Cited by public clauses: where the proof of a checker stands.
-use Rattle.std.specs.Prelude.{◌≡◌, ◌⊎◌, Bool, true, false, if◌then◌else◌}
+use Rattle.std.specs.Prelude.{◌≡◌, ◌⊎◌, true, false, if◌then◌else◌}
 use Rattle.std.specs.Prelude.{Some, None, Result, Ok, Err}
 use Rattle.sm_term.specs.Tables.{sorts_in}
 use Rattle.sm_proof.specs.Passing.{start_progress}
 use Rattle.sm_check.specs.Walks.{Walks}
 use Rattle.sm_proof.specs.declared.word.Word.{Word}
-use Rattle.sm_proof.specs.Verdicts.{Subject, Standing, Unopened, Underway, is_done}
+use Rattle.sm_proof.specs.Verdicts.{Subject, Standing, Unopened, Underway, is_done, reads_exact}
 use Rattle.sm_check.specs.declared.checker.Checker.{Checker}
 use Rattle.sm_check.specs.declared.checker.State.{State}
 use Rattle.sm_check.specs.declared.checker.State.TheVariants.{Done, More}
@@ -20,11 +20,13 @@ pub record IsAbout (c : Checker) (s : Subject) : Type 0 where
 -- a checker that goes on stands where a proof does; before the version line that is at its start
 abbrev pub StandsAt : Checker → Subject → Standing → Type 0
 StandsAt c s Unopened = (c.opened ≡ false) × Walks c.walk (start_progress s.start)
-StandsAt c s (Underway p) = (c.opened ≡ true) × Walks c.walk p
+StandsAt c s (Underway exact p) = (c.opened ≡ true) × Walks c.walk p
 
--- a checker's proof is about a subject, and stands here, or stopped with this fault
+-- a checker's proof is about a subject and stands here, and it reads lines `exact` where they are
+-- read here; or it stopped with this fault
 unfoldable pub IsAt : Checker → Subject → Result Standing LineFault → Type 0
-IsAt c s (Ok at) = (c.stopped ≡ None) × IsAbout c s × StandsAt c s at
+IsAt c s (Ok at) =
+    (c.stopped ≡ None) × IsAbout c s × StandsAt c s at × (c.exact ≡ reads_exact at)
 IsAt c s (Err e) = c.stopped ≡ Some e
 
 -- whether a proof that stands here is done

@@ -1,5 +1,5 @@
 -- Private: certificates that close branches, each branch alone.
-use Rattle.std.specs.Prelude.{◌≡◌, ℕ, Ok, Option, Some, None, List, [], ◌∷◌, ◌++◌, take}
+use Rattle.std.specs.Prelude.{◌≡◌, ℕ, Bool, Ok, Option, Some, None, List, [], ◌∷◌, ◌++◌, take}
 use Rattle.sm_syntax.specs.text.Sorts.{Sorts}
 use Rattle.sm_term.specs.Terms.{Tree}
 use Rattle.sm_theory.specs.declared.fact.Fact.{Fact}
@@ -9,7 +9,7 @@ use Rattle.sm_theory.specs.Views.{FactStands, AllStand}
 use Rattle.sm_proof.specs.Lines.{NumberedLine, Cert}
 use Rattle.sm_proof.specs.Passing as plain
 use Rattle.sm_proof.specs.Passing.{Pending, Branch}
-use Rattle.sm_proof.specs.Reading.{read}
+use Rattle.sm_proof.specs.Versions.{read_with}
 use Rattle.sm_check.specs.declared.openings.Opening.{Opening}
 use Rattle.sm_check.specs.declared.pending.Due.{Due}
 use Rattle.sm_check.specs.declared.pending.Due.TheVariants as due
@@ -17,27 +17,30 @@ use Rattle.sm_check.specs.declared.pending.Waiting.{Waiting}
 use Rattle.sm_check.specs.declared.pending.Waiting.TheVariants as waits
 use Rattle.sm_check.specs.CertsTaken.{pending_after}
 
--- a line of a certificate, by its bytes, leads from what is pending to this
-abbrev pub LeadsTo : Sorts → List Tree → List Pending → List ℕ → List Pending → Type 0
-LeadsTo sorts terms [] line after = ⊥
-LeadsTo sorts terms (plain.Due st above ∷ rest) line after = ⊥
-LeadsTo sorts terms (Branch held own splits ∷ rest) line after =
-    (l : NumberedLine) × (read line ≡ Ok (Cert l))
+-- a line of a certificate, by its bytes, leads from what is pending to this, where lines `exact`
+-- may stand or may not
+abbrev pub LeadsTo :
+    (exact : Bool) → Sorts → List Tree → List Pending → List ℕ → List Pending → Type 0
+LeadsTo exact sorts terms [] line after = ⊥
+LeadsTo exact sorts terms (plain.Due st above ∷ rest) line after = ⊥
+LeadsTo exact sorts terms (Branch held own splits ∷ rest) line after =
+    (l : NumberedLine) × (read_with exact line ≡ Ok (Cert l))
     × (pending_after sorts terms held own splits rest l ≡ Ok after)
 
 -- lines of a certificate close all that is pending, exactly at their end
-abbrev pub Closes : Sorts → List Tree → List Pending → List (List ℕ) → Type 0
-Closes sorts terms pending [] = pending ≡ []
-Closes sorts terms pending (line ∷ lines) =
-    (after : List Pending) × LeadsTo sorts terms pending line after
-    × Closes sorts terms after lines
+abbrev pub Closes : (exact : Bool) → Sorts → List Tree → List Pending → List (List ℕ) → Type 0
+Closes exact sorts terms pending [] = pending ≡ []
+Closes exact sorts terms pending (line ∷ lines) =
+    (after : List Pending) × LeadsTo exact sorts terms pending line after
+    × Closes exact sorts terms after lines
 
 -- certificates close the first branches that are pending, one each
-abbrev pub CloseFirst : Sorts → List Tree → List Pending → List (List (List ℕ)) → Type 0
-CloseFirst sorts terms pending [] = Unit {0}
-CloseFirst sorts terms [] (lines ∷ more) = ⊥
-CloseFirst sorts terms (p ∷ rest) (lines ∷ more) =
-    Closes sorts terms (p ∷ []) lines × CloseFirst sorts terms rest more
+abbrev pub CloseFirst :
+    (exact : Bool) → Sorts → List Tree → List Pending → List (List (List ℕ)) → Type 0
+CloseFirst exact sorts terms pending [] = Unit {0}
+CloseFirst exact sorts terms [] (lines ∷ more) = ⊥
+CloseFirst exact sorts terms (p ∷ rest) (lines ∷ more) =
+    Closes exact sorts terms (p ∷ []) lines × CloseFirst exact sorts terms rest more
 
 -- a branch under no split is due
 abbrev pub IsGoalDue : Option Due → Type 0
@@ -73,7 +76,8 @@ OpenFirst sorts trees facts (o ∷ os) (p ∷ rest) =
 
 -- lines close each branch that an opening of a path stands for
 abbrev pub Passes :
-    Sorts → List Tree → List Tree → List Fact → Opening → List (List ℕ) → Type 0
-Passes sorts trees terms path o lines =
+    (exact : Bool) → Sorts → List Tree → List Tree → List Fact → Opening → List (List ℕ) → Type 0
+Passes exact sorts trees terms path o lines =
     (facts : List BranchFact) (p : Pending) → AllStand sorts trees path facts →
-    AreFactsSorted sorts facts → OpensAs sorts trees facts o p → Closes sorts terms (p ∷ []) lines
+    AreFactsSorted sorts facts → OpensAs sorts trees facts o p →
+    Closes exact sorts terms (p ∷ []) lines

@@ -1,5 +1,5 @@
 -- Private: the formulas of a proof as rows, of which each names earlier ones by their numbers.
-use Rattle.std.specs.Prelude.{◌≡◌, ℕ, ◌<◌, min, length, slice_get, Option, Some, None, List, Bool}
+use Rattle.std.specs.Prelude.{◌≡◌, ℕ, ◌<◌, min, length, slice_get, Option, Some, List, Bool}
 use Rattle.std.specs.Prelude.{Result, Ok, Err}
 use Rattle.sm_syntax.specs.declared.tree.Sort.TheVariants.{Num}
 use Rattle.sm_syntax.specs.text.Sorts.{Sorts}

@@ -7,7 +7,8 @@ use Rattle.sm_proof.specs.Named.{naming_term}
 use Rattle.sm_check.specs.declared.fault.LineFault.{LineFault}
 use Rattle.sm_check.specs.declared.fault.LineFault.TheVariants.{Wrong, Memory}
 use Rattle.sm_proof.specs.Lines.{NumberedLine, Both, Either, Cases, Order, Refl, Sym, Trans, Subst}
-use Rattle.sm_proof.specs.Lines.{Cong, Same, Apart, Hit, Miss, Lin, Elim, Tight, Close, Clash}
+use Rattle.sm_proof.specs.Lines.{Cong, Same, Apart, Hit, Miss, Lin, Elim, Tight, Exact, Close}
+use Rattle.sm_proof.specs.Lines.{Clash}
 
 -- whether a line closes a branch
 abbrev pub is_closing : NumberedLine → Bool
@@ -27,6 +28,7 @@ is_closing (Miss t u n) = false
 is_closing (Lin n) = false
 is_closing (Elim m n t) = false
 is_closing (Tight n) = false
+is_closing (Exact n) = false
 is_closing (Close n) = true
 is_closing (Clash m n) = true
 

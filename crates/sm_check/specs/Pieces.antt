@@ -17,7 +17,7 @@ reach s bytes = reached s 1 Unopened (ended_in bytes)
 -- whether a proof stands before its version line
 abbrev pub is_unopened : Standing → Bool
 is_unopened Unopened = true
-is_unopened (Underway p) = false
+is_unopened (Underway exact p) = false
 
 -- so many lines were taken, and left the proof here
 pub record StandsAt (lines : TakenLines) (s : Subject) (at : Standing) : Type 0 where

@@ -1,5 +1,5 @@
 // A certificate that is taken for its branch alone.
-ghost use Rattle.std.specs.Prelude.{◌≡◌, ◌∷◌, [], ℕ, List, length, true, Ok, IfOk};
+ghost use Rattle.std.specs.Prelude.{◌≡◌, ◌∷◌, [], ℕ, Bool, List, length, true, Ok, IfOk};
 ghost use Rattle.sm_syntax.specs.claim.ConflictFree.{Copy};
 ghost use Rattle.sm_syntax.specs.text.Sorts.{Sorts};
 ghost use Rattle.sm_term.specs.Symbolic.{SymbolicStore};
@@ -11,7 +11,7 @@ ghost use Rattle.sm_proof.specs.Passing as plain;
 ghost use Rattle.sm_term.specs.Tables.{trees_in, sorts_in, AreBefore};
 ghost use Rattle.sm_proof.specs.Lines.{line_of};
 ghost use Rattle.sm_proof.specs.Passing.{Pending};
-ghost use Rattle.sm_proof.specs.Reading.{read};
+ghost use Rattle.sm_proof.specs.Versions.{read_with};
 ghost use Rattle.sm_check.specs.Closing.{LeadsTo, OpensAs, Passes};
 ghost use Rattle.sm_check.specs.LineEnds.{ended_in};
 ghost use Rattle.sm_check.specs.Pending.{PendingStands};
@@ -22,7 +22,7 @@ use crate::fault::LineFault;
 use crate::openings::{Opening, opened};
 use crate::pending::{Due, Waiting};
 use crate::raw_lines::first_line;
-use sm_proof::{Line, LineError, line_from};
+use sm_proof::{Line, LineError, line_with};
 use sm_syntax::PerCopy;
 use sm_term::{SymStore, TermId, TermTable};
 use sm_theory::Branch;
@@ -37,8 +37,8 @@ struct Alone<'a> {
     waiting: Vec<Waiting<'a>>,
 }
 
-/// Whether ended lines are read and close the branch of an opening, all of it, exactly at their
-/// end. An answer of false says nothing.
+/// Whether ended lines are read, where lines `exact` may stand or may not, and close the branch of
+/// an opening, all of it, exactly at their end. An answer of false says nothing.
 pub(crate) fn closes(
     alloc: Global,
     table: &TermTable,
@@ -46,16 +46,17 @@ pub(crate) fn closes(
     path: &Branch,
     opening: &Opening,
     bytes: &[u8],
+    exact: bool,
 ) -> Result<bool, AllocError>
     requires { AreBefore (length (trees_in table.now)) terms.now }
     ensures { let trees = trees_in table.now in IfOk result (λ closes. closes ≡ true →
-        Passes (sorts_in table.now) trees (terms_in trees terms.now) path.now.list.items opening.now
-        (ended_in bytes.now)) }
+        Passes exact (sorts_in table.now) trees (terms_in trees terms.now) path.now.list.items
+        opening.now (ended_in bytes.now)) }
 {
     let mut branch = lone_branch(alloc, path, opening)?;
     let mut left = bytes;
     while let Some((line, behind)) = first_line(left) {
-        if !goes_on(alloc, table, terms, &mut branch, line)? {
+        if !goes_on(alloc, table, terms, &mut branch, line, exact)? {
             return Ok(false);
         }
         left = behind;
@@ -111,16 +112,17 @@ fn goes_on(
     terms: &[TermId],
     branch: &mut Alone<'_>,
     line: &[u8],
+    exact: bool,
 ) -> Result<bool, AllocError>
     requires { AreBefore (length (trees_in table.now)) terms.now }
     ensures { let sorts = sorts_in table.now in let trees = trees_in table.now in
         (ps : List Pending) → PendingStands sorts trees branch.old.path.list.items branch.old.due
         branch.old.waiting.items ps → IfOk result (λ goes. goes ≡ true → (qs : List Pending)
-        × LeadsTo sorts (terms_in trees terms.now) ps line.now qs
+        × LeadsTo exact sorts (terms_in trees terms.now) ps line.now qs
         × PendingStands sorts trees branch.new.path.list.items branch.new.due
         branch.new.waiting.items qs) }
 {
-    match line_from(alloc, line) {
+    match line_with(alloc, line, exact) {
         Ok(line) => goes_on_by(alloc, table, terms, branch, &line),
         Err(LineError::Memory) => Err(AllocError),
         Err(_) => Ok(false),
@@ -137,10 +139,10 @@ fn goes_on_by(
 ) -> Result<bool, AllocError>
     requires { AreBefore (length (trees_in table.now)) terms.now }
     ensures { let sorts = sorts_in table.now in let trees = trees_in table.now in
-        (bytes : List ℕ) → read bytes ≡ Ok (line_of line.now) →
+        (exact : Bool) (bytes : List ℕ) → read_with exact bytes ≡ Ok (line_of line.now) →
         (ps : List Pending) → PendingStands sorts trees branch.old.path.list.items branch.old.due
         branch.old.waiting.items ps → IfOk result (λ goes. goes ≡ true → (qs : List Pending)
-        × LeadsTo sorts (terms_in trees terms.now) ps bytes qs
+        × LeadsTo exact sorts (terms_in trees terms.now) ps bytes qs
         × PendingStands sorts trees branch.new.path.list.items branch.new.due
         branch.new.waiting.items qs) }
 {

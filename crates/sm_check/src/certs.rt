@@ -24,6 +24,7 @@ use crate::fault::LineFault;
 use crate::pending::{Due, Waiting};
 use sm_cert::{add_line, closes, parts};
 use sm_euf::Euf;
+use sm_exact::With;
 use sm_lia::Lia;
 use sm_proof::{Head, Word};
 use sm_rows::Rows;
@@ -179,7 +180,7 @@ fn add<'a>(
     if add_line(
         alloc,
         &Euf::new(),
-        &Lia::new(),
+        &With::new(Lia::new()),
         &Rows::new(),
         table,
         path,

@@ -1,11 +1,11 @@
 // A proof on its way.
-ghost use Rattle.std.specs.Prelude.{◌≡◌, ◌≤◌, ◌∷◌, List, Ok, Err, IfOk, IfErr, length, take};
+ghost use Rattle.std.specs.Prelude.{◌≡◌, ◌≤◌, ◌∷◌, Bool, List, Ok, Err, IfOk, IfErr, length, take};
 ghost use Rattle.sm_proof.specs.FieldRanges.{IsWithinFields};
 ghost use Rattle.sm_proof.specs.Lines.{line_of};
 ghost use Rattle.sm_proof.specs.Passing.{Pending, Progress};
 ghost use Rattle.sm_proof.specs.Verdicts.{Subject, Standing, Unopened, Underway, subject_of};
-ghost use Rattle.sm_proof.specs.Verdicts.{next_standing};
-ghost use Rattle.sm_proof.specs.Verdicts.{passes_version};
+ghost use Rattle.sm_proof.specs.Verdicts.{next_standing, passes_version, reads_exact};
+ghost use Rattle.sm_proof.specs.Versions.{has_exact};
 ghost use Rattle.sm_task.specs.Filling.{AreFilled};
 ghost use Rattle.sm_text.specs.Tasks.{parts_of};
 ghost use Rattle.sm_check.specs.Checkable.{IsCheckable};
@@ -22,7 +22,7 @@ use crate::raw_lines::RawLines;
 use crate::start::start;
 use crate::walk::Walk;
 use sm_par::Gate;
-use sm_proof::{Line, Word};
+use sm_proof::{Line, Word, may_stand};
 use sm_syntax::{Block, PerCopy};
 use sm_task::Task;
 use std::alloc::{AllocError, Global};
@@ -45,6 +45,8 @@ pub struct Checker<'a> {
     assumes: bool,
     /// The version line is taken.
     opened: bool,
+    /// Lines `exact` are read: before the version line, and where the version has them.
+    exact: bool,
     stopped: Option<LineFault>,
 }
 
@@ -65,6 +67,7 @@ impl<'a> Checker<'a> {
             walk: start(alloc, task, programs)?,
             assumes: task.assumed.is_some(),
             opened: false,
+            exact: true,
             stopped: None,
         })
     }
@@ -91,6 +94,14 @@ impl<'a> Checker<'a> {
         }
     }
 
+    /// Whether lines `exact` are read.
+    pub(crate) fn reads_exact(&self) -> bool
+        ensures { (s : Subject) (at : Standing) → IsAt self.now s (Ok at) →
+            result ≡ reads_exact at }
+    {
+        self.exact
+    }
+
     /// How many goals of one node are due, up to 64.
     pub(crate) fn goals_due(&self) -> usize
         ensures { result ≤ 64 }
@@ -106,18 +117,20 @@ impl<'a> Checker<'a> {
     ) -> Result<usize, AllocError>
         ensures few { IfOk result (λ n. n ≤ length certificates.now) }
         ensures closed { (s : Subject) (at : Standing) → IsAt self.now s (Ok at) →
-            let p = progress_at s at in IfOk result (λ n. CloseFirst s.sorts p.terms p.pending
+            let p = progress_at s at in IfOk result (λ n.
+            CloseFirst (reads_exact at) s.sorts p.terms p.pending
             (take n (certificates_of certificates.now))) }
     {
-        closed_first(crew, self.alloc, &self.walk, certificates)
+        closed_first(crew, self.alloc, &self.walk, certificates, self.exact)
     }
 
     /// Skips the branch that is due, which lines close that aren't taken. After an error nothing is
     /// known of the proof.
     pub(crate) fn skip_branch(&mut self) -> Result<State, AllocError>
-        ensures { (s : Subject) (p : Progress) (first : Pending) (rest : List Pending) →
-            IsAt self.old s (Ok (Underway p)) → p.pending ≡ first ∷ rest → IfOk result
-            (GoesOn s (Ok (Underway (record p { pending = rest }))) self.new) }
+        ensures { (s : Subject) (exact : Bool) (p : Progress) (first : Pending)
+            (rest : List Pending) →
+            IsAt self.old s (Ok (Underway exact p)) → p.pending ≡ first ∷ rest → IfOk result
+            (GoesOn s (Ok (Underway exact (record p { pending = rest }))) self.new) }
     {
         make_due(self.alloc, &mut self.walk)?;
         Ok(self.state())
@@ -132,9 +145,15 @@ impl<'a> Checker<'a> {
         ensures stopped { self.new.stopped ≡ self.old.stopped }
     {
         if self.opened {
+            if !may_stand(line, self.exact) {
+                return Err(LineFault::Wrong {
+                    word: Word::BadLine,
+                });
+            }
             self.walk.take(self.alloc, line)
         } else if passes_version(line, self.assumes) {
             self.opened = true;
+            self.exact = has_exact(line);
             Ok(())
         } else {
             Err(LineFault::Wrong {
@@ -160,7 +179,17 @@ fn passes_version(line: &Line, assumes: bool) -> bool
     ensures { (s : Subject) → s.assumes ≡ assumes → result ≡ passes_version s (line_of line.now) }
 {
     match line {
-        Line::Header { version } => *version == 2 || *version == 1 && !assumes,
+        Line::Header { version } => *version == 3 || *version == 2 || *version == 1 && !assumes,
+        _ => false,
+    }
+}
+
+// Whether the version that a line tells has lines `exact`.
+fn has_exact(line: &Line) -> bool
+    ensures { result ≡ has_exact (line_of line.now) }
+{
+    match line {
+        Line::Header { version } => *version == 3,
         _ => false,
     }
 }

@@ -33,7 +33,7 @@ impl Guess {
                 _ => Guess::Closes,
             },
             b'e' => match second {
-                b'l' => Guess::Adds,
+                b'l' | b'x' => Guess::Adds,
                 b'i' => Guess::Splits,
                 _ => Guess::Other,
             },

@@ -32,16 +32,17 @@ pub(crate) struct Crew<'c, R: Threads + Sync, G: Gate> {
 }
 
 /// How many certificates close the branches that are due, the first the first, and so on. They are
-/// read and run as jobs, each for its branch alone.
+/// read and run as jobs, each for its branch alone, where lines `exact` may stand or may not.
 pub(crate) fn closed_first<R: Threads + Sync, G: Gate>(
     crew: &Crew<'_, R, G>,
     alloc: Global,
     walk: &Walk<'_>,
     certificates: &[RawLines],
+    exact: bool,
 ) -> Result<usize, AllocError>
     ensures few { IfOk result (λ n. n ≤ length certificates.now) }
     ensures closed { (p : Progress) → Walks walk.now p → IfOk result (λ n.
-        CloseFirst (sorts_in walk.now.table) p.terms p.pending
+        CloseFirst exact (sorts_in walk.now.table) p.terms p.pending
         (take n (certificates_of certificates.now))) }
 {
     if certificates.is_empty() {
@@ -55,6 +56,7 @@ pub(crate) fn closed_first<R: Threads + Sync, G: Gate>(
         path: &walk.path,
         openings: &openings,
         certificates,
+        exact,
         count,
     };
     let closed = run_jobs(
@@ -90,6 +92,8 @@ struct Certificates<'c> {
     path: &'c Branch,
     openings: &'c [Opening],
     certificates: &'c [RawLines],
+    // Lines `exact` may stand in them.
+    exact: bool,
     count: usize,
     ghost before: { (k : ℕ) (t : TermId) → slice_get terms.now k ≡ Some t →
         t.0 < length (trees_in table.now) },
@@ -105,7 +109,8 @@ impl Job for Certificates<'_> {
     ghost stands_for = { λ job index out. let trees = trees_in job.table.now in
         (o : Opening) (c : RawLines) →
         slice_get job.openings.now index ≡ Some o → slice_get job.certificates.now index ≡ Some c →
-        out ≡ true → Passes (sorts_in job.table.now) trees (terms_in trees job.terms.now)
+        out ≡ true →
+        Passes job.exact (sorts_in job.table.now) trees (terms_in trees job.terms.now)
         job.path.now.list.items o (ended_in c.bytes.items) };
 
     fn run(&self, alloc: Global, index: u64) -> Result<bool, AllocError> {
@@ -117,6 +122,7 @@ impl Job for Certificates<'_> {
             self.path,
             &self.openings[place],
             &self.certificates[place].bytes,
+            self.exact,
         )
     }
 }

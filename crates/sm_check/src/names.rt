@@ -103,6 +103,7 @@ pub(crate) fn named_line(
             fact(count, *n)?;
             Ok(CertLine::Tight(*n))
         }
+        CertLine::Exact(n) => Ok(CertLine::Exact(*n)),
         CertLine::Close(n) => {
             fact(count, *n)?;
             Ok(CertLine::Close(*n))
@@ -258,6 +259,7 @@ pub(crate) fn head_of(line: &CertLine) -> Head
         CertLine::Lin(_) => Head::Lin,
         CertLine::Elim(_, _, _) => Head::Elim,
         CertLine::Tight(_) => Head::Tight,
+        CertLine::Exact(_) => Head::Exact,
         CertLine::Close(_) => Head::Close,
         CertLine::Clash(_, _) => Head::Clash,
     }

@@ -3,10 +3,10 @@ ghost use Rattle.std.specs.Prelude.{◌≡◌, ◌+◌, ◌^◌, ◌<◌, ◌++�
 ghost use Rattle.std.specs.Prelude.{Ok, Err, OnOk, IfErr};
 ghost use Rattle.sm_proof.specs.FieldRanges.{IsWithinFields};
 ghost use Rattle.sm_proof.specs.Lines.{line_of};
-ghost use Rattle.sm_proof.specs.Reading.{read};
 ghost use Rattle.sm_proof.specs.Verdicts.{Subject, Standing, Unopened, Reached, next_standing};
-ghost use Rattle.sm_check.specs.Aside.{ComesTo, StopsAt, certificates_of};
-ghost use Rattle.sm_check.specs.Aside.{joined, lines_aside, progress_at, with_line};
+ghost use Rattle.sm_proof.specs.Verdicts.{reads_exact};
+ghost use Rattle.sm_check.specs.Aside.{ComesTo, StopsAt, IsNoLine, certificates_of};
+ghost use Rattle.sm_check.specs.Aside.{joined, lines_aside, progress_at, standing_after, with_line};
 ghost use Rattle.sm_check.specs.Checkers.{IsAt};
 ghost use Rattle.sm_check.specs.Closing.{CloseFirst};
 ghost use Rattle.sm_check.specs.LineEnds.{HasNoEnd, ended_in};
@@ -21,7 +21,7 @@ use crate::guess::Guess;
 use crate::jobs::Crew;
 use crate::raw_lines::{RawLines, first_line};
 use sm_par::Gate;
-use sm_proof::{Line, LineError, Word, line_from};
+use sm_proof::{Line, LineError, Word, line_with};
 use std::alloc::Global;
 use std::thread::Threads;
 
@@ -66,9 +66,9 @@ impl<'a> TakenLines<'a> {
             ≡ self.old.number + length (lines_aside aside.old) + 1) }
         ensures ok { (s : Subject) (r : Reached) → ComesTo self.old (lines_aside aside.old) s r →
             OnOk result
-            (ComesTo self.new (lines_aside aside.new) s (with_line s (read line.now) r)) }
+            (ComesTo self.new (lines_aside aside.new) s (with_line s line.now r)) }
         ensures err { (s : Subject) (r : Reached) → ComesTo self.old (lines_aside aside.old) s r →
-            IfErr result (StopsAt (with_line s (read line.now) r)) }
+            IfErr result (StopsAt (with_line s line.now r)) }
     {
         let guess = guessed(crew.workers, line);
         if !self.may_wait(alloc, aside, guess) {
@@ -91,8 +91,9 @@ impl<'a> TakenLines<'a> {
         word: Word,
     ) -> Stopped
         requires room { self.old.number + length (lines_aside aside.old) < 2 ^ 64 }
-        ensures { (s : Subject) (r : Reached) → ComesTo self.old (lines_aside aside.old) s r →
-            StopsAt (with_line s (Err word) r) result }
+        ensures { (s : Subject) (r : Reached) (line : List ℕ) → IsNoLine line word →
+            ComesTo self.old (lines_aside aside.old) s r →
+            StopsAt (with_line s line r) result }
     {
         match self.take_aside(crew, alloc, aside) {
             Ok(()) => self.unread(word),
@@ -148,7 +149,8 @@ impl<'a> TakenLines<'a> {
         ensures ok { (s : Subject) (r : Reached) (more : List (List ℕ)) →
             let cs = certificates_of certificates.now in
             (t : ComesTo self.old (joined cs ++ more) s r) → let p = progress_at s t.at in
-            CloseFirst s.sorts p.terms p.pending cs → OnOk result (ComesTo self.new more s r) }
+            CloseFirst (reads_exact t.at) s.sorts p.terms p.pending cs →
+            OnOk result (ComesTo self.new more s r) }
         ensures err { IfErr result (λ e. e ≡ Memory) }
     {
         for lines in certificates {
@@ -201,11 +203,11 @@ impl<'a> TakenLines<'a> {
         requires { self.old.number + 1 < 2 ^ 64 }
         ensures number { OnOk result (self.new.number ≡ self.old.number + 1) }
         ensures ok { (s : Subject) (at : Standing) → StandsAt self.old s at →
-            OnOk result (Takes self.new s (next_standing s at (read line.now))) }
+            OnOk result (Takes self.new s (standing_after s at line.now)) }
         ensures err { (s : Subject) (at : Standing) → StandsAt self.old s at →
-            IfErr result (RefusesAt self.old.number (next_standing s at (read line.now))) }
+            IfErr result (RefusesAt self.old.number (standing_after s at line.now)) }
     {
-        match line_from(alloc, line) {
+        match line_with(alloc, line, self.checker.reads_exact()) {
             Ok(line) => self.check_line(&line),
             Err(LineError::BadLine) => Err(self.unread(Word::BadLine)),
             Err(LineError::BadNumber) => Err(self.unread(Word::BadNumber)),

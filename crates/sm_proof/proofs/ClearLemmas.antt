@@ -84,6 +84,7 @@ head_clear head.Miss = refl
 head_clear head.Lin = refl
 head_clear head.Elim = refl
 head_clear head.Tight = refl
+head_clear head.Exact = refl
 head_clear head.Close = refl
 head_clear head.Clash = refl
 

@@ -63,6 +63,7 @@ head_found head.Miss = refl
 head_found head.Lin = refl
 head_found head.Elim = refl
 head_found head.Tight = refl
+head_found head.Exact = refl
 head_found head.Close = refl
 head_found head.Clash = refl
 
@@ -120,5 +121,6 @@ head_no_version head.Miss = refl
 head_no_version head.Lin = refl
 head_no_version head.Elim = refl
 head_no_version head.Tight = refl
+head_no_version head.Exact = refl
 head_no_version head.Close = refl
 head_no_version head.Clash = refl

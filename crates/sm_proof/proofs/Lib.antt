@@ -6,6 +6,7 @@ pub mod CertLinesKept
 pub mod PassSound
 pub mod PrefixesFail
 pub mod CasesLemmas
+pub mod TextCases
 pub mod DecimalLemmas
 pub mod NumberLemmas
 pub mod SplitLemmas
@@ -14,6 +15,7 @@ pub mod ClearLemmas
 pub mod FieldLemmas
 pub mod KindLemmas
 pub mod ReadIsSpelled
+pub mod ExactLines
 pub mod ReadRefuses
 pub mod SpellingReadsBack
 pub mod WordLemmas

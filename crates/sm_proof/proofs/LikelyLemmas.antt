@@ -63,6 +63,7 @@ head_likely head.Miss = refl
 head_likely head.Lin = refl
 head_likely head.Elim = refl
 head_likely head.Tight = refl
+head_likely head.Exact = refl
 head_likely head.Close = refl
 head_likely head.Clash = refl
 

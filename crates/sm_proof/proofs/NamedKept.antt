@@ -18,7 +18,7 @@ use Rattle.sm_plan.specs.SortedStates.{IsNodeSorted}
 use Rattle.sm_proof.specs.declared.line.NodeLine.{NodeLine}
 use Rattle.sm_proof.specs.declared.line.NodeLine.TheVariants as node
 use Rattle.sm_proof.specs.Lines.{NumberedLine, Both, Either, Cases, Order, Refl, Sym, Trans, Subst}
-use Rattle.sm_proof.specs.Lines.{Cong, Same, Apart, Hit, Miss, Lin, Elim, Tight, Close, Clash}
+use Rattle.sm_proof.specs.Lines.{Cong, Same, Apart, Hit, Miss, Lin, Elim, Tight, Exact, Close, Clash}
 use Rattle.sm_proof.specs.Named.{are_there, naming_facts, naming_term, named_line, named_node}
 use Rattle.sm_proof.proofs.ProgressLemmas.{Each, IsFormFine, each_at}
 
@@ -97,6 +97,7 @@ named_line_fine P trees count (Lin n) l all e = of_facts P count (n ∷ []) (cer
 named_line_fine P trees count (Elim m n t) l all e =
     of_one P trees count t (m ∷ n ∷ []) (λ (a : Tree). cert.Elim m n a) l all e (λ (a : Tree) (h : P a). h)
 named_line_fine P trees count (Tight n) l all e = of_facts P count (n ∷ []) (cert.Tight n) l e tt
+named_line_fine P trees count (Exact n) l all e = subst (EachNamed P) (same_Some (cert.Exact n) l e) tt
 named_line_fine P trees count (Close n) l all e = of_facts P count (n ∷ []) (cert.Close n) l e tt
 named_line_fine P trees count (Clash m n) l all e = of_facts P count (m ∷ n ∷ []) (cert.Clash m n) l e tt
 

@@ -19,10 +19,12 @@ use Rattle.sm_proof.specs.Passing.{Pending, Due, Branch, Progress, start_progres
 use Rattle.sm_proof.specs.Verdicts.{Subject, subject_of, passes_version, Standing, Unopened, Underway, opens_if, next_standing}
 use Rattle.sm_proof.specs.Verdicts.{Reached, Refused, Before, reached_after, reached, lines_in, Pass, Rejected, none_waits}
 use Rattle.sm_proof.specs.Verdicts.{verdict_at_end}
+use Rattle.sm_proof.specs.Named.{and_then}
 use Rattle.sm_proof.specs.Reading.{read}
+use Rattle.sm_proof.specs.Versions.{has_exact, may_stand, read_with}
 use Rattle.sm_proof.specs.Laws.{PassIsFree}
 use Rattle.sm_proof.proofs.ProgressLemmas.{Each, IsTreeFine, IsFormFine, IsPendingFine, IsFine, IsShown, GoesOn}
-use Rattle.sm_proof.proofs.ProgressLemmas.{each_append, made_from, same_end}
+use Rattle.sm_proof.proofs.ProgressLemmas.{each_append, tested_from, made_from, same_end}
 use Rattle.sm_proof.proofs.TermLinesKept.{term_made_fine, form_made_fine}
 use Rattle.sm_proof.proofs.NodesKept.{node_goes}
 use Rattle.sm_proof.proofs.CertLinesKept.{line_goes}
@@ -78,22 +80,24 @@ taken_goes sorts p (Branch stores facts splits ∷ rest) (Node line) q is fine e
 taken_goes sorts p (Branch stores facts splits ∷ rest) (Cert line) q is fine e = line_goes sorts p stores facts splits rest line q is fine e
 
 -- what was read, on a proof on its way, leads to another
-pub underway_from : (s : Subject) (p : Progress) (read : Result ProofLine Word) (after : Standing) →
-    next_standing s (Underway p) read ≡ Ok after →
-    (line : ProofLine) × (q : Progress) × (taken s.sorts p line ≡ Ok q) × (Underway q ≡ after)
-underway_from s p (Err w) after e = absurd cc
-underway_from s p (Ok line) after e =
-    let a = made_from (taken s.sorts p line) (λ (q : Progress). Ok (Underway q)) after e in
-    (line, a.0, a.1, same_end (Underway a.0) after a.2)
+pub underway_from : (s : Subject) (exact : Bool) (p : Progress) (read : Result ProofLine Word) (after : Standing) →
+    next_standing s (Underway exact p) read ≡ Ok after →
+    (line : ProofLine) × (q : Progress) × (taken s.sorts p line ≡ Ok q) × (Underway exact q ≡ after)
+underway_from s exact p (Err w) after e = absurd cc
+underway_from s exact p (Ok line) after e =
+    let end : Progress → Result Standing Word = λ (q : Progress). Ok (Underway exact q) in
+    let b = tested_from (may_stand exact line) word.BadLine (and_then (taken s.sorts p line) end) after e in
+    let a = made_from (taken s.sorts p line) end after b.1 in
+    (line, a.0, a.1, same_end (Underway exact a.0) after a.2)
 
 -- and where it is the first line, to the start
 opened_from : (s : Subject) (read : Result ProofLine Word) (after : Standing) → next_standing s Unopened read ≡ Ok after →
-    Underway (start_progress s.start) ≡ after
+    (exact : Bool) × (Underway exact (start_progress s.start) ≡ after)
 opened_from s (Err w) after e = absurd cc
-opened_from s (Ok line) after e = of (passes_version s line) e
+opened_from s (Ok line) after e = (has_exact line, of (passes_version s line) e)
   where
-    of : (test : Bool) → opens_if test s ≡ Ok after → Underway (start_progress s.start) ≡ after
-    of true h = same_end (Underway (start_progress s.start)) after h
+    of : (test : Bool) → opens_if test (has_exact line) s ≡ Ok after → Underway (has_exact line) (start_progress s.start) ≡ after
+    of true h = same_end (Underway (has_exact line) (start_progress s.start)) after h
     of false h = absurd cc
 
 -- lines that aren't refused: the first was taken, and the others from there
@@ -109,35 +113,37 @@ none_pending [] e = tt
 none_pending (due ∷ rest) e = absurd cc
 
 -- where lines end a proof, all that was pending before them is shown
-lines_show : (s : Subject) (lines : List (List ℕ)) (n : ℕ) (p : Progress) (m : ℕ) (q : Progress) → IsFine s.sorts p →
-    reached s n (Underway p) lines ≡ Before m (Underway q) → none_waits q.pending ≡ true →
+lines_show : (s : Subject) (lines : List (List ℕ)) (n : ℕ) (exact : Bool) (p : Progress) (m : ℕ) (last : Bool) (q : Progress) →
+    IsFine s.sorts p → reached s n (Underway exact p) lines ≡ Before m (Underway last q) → none_waits q.pending ≡ true →
     Each IsShown p.pending
-lines_show s [] n p m q fine e done =
+lines_show s [] n exact p m last q fine e done =
     let same : p ≡ q = cc in subst (λ (r : Progress). Each IsShown r.pending) (sym same) (none_pending q.pending done)
-lines_show s (bytes ∷ lines) n p m q fine e done =
+lines_show s (bytes ∷ lines) n exact p m last q fine e done =
     let later = λ (after : Standing). reached s (suc n) after lines in
-    let a = reached_from n (next_standing s (Underway p) (read bytes)) later m (Underway q) e in
-    let b = underway_from s p (read bytes) a.0 a.1 in
+    let a = reached_from n (next_standing s (Underway exact p) (read_with exact bytes)) later m (Underway last q) e in
+    let b = underway_from s exact p (read_with exact bytes) a.0 a.1 in
     let goes = taken_goes s.sorts p p.pending b.0 b.1 refl fine b.2 in
-    goes.shown (lines_show s lines (suc n) b.1 m q goes.fine
-    (subst (λ (after : Standing). reached s (suc n) after lines ≡ Before m (Underway q)) (sym b.3) a.2) done)
+    goes.shown (lines_show s lines (suc n) exact b.1 m last q goes.fine
+    (subst (λ (after : Standing). reached s (suc n) after lines ≡ Before m (Underway last q)) (sym b.3) a.2) done)
 
 -- a whole file: its first line opens the proof
-file_shows : (s : Subject) (lines : List (List ℕ)) (m : ℕ) (q : Progress) → IsFine s.sorts (start_progress s.start) →
-    reached s 1 Unopened lines ≡ Before m (Underway q) → none_waits q.pending ≡ true →
+file_shows : (s : Subject) (lines : List (List ℕ)) (m : ℕ) (last : Bool) (q : Progress) → IsFine s.sorts (start_progress s.start) →
+    reached s 1 Unopened lines ≡ Before m (Underway last q) → none_waits q.pending ≡ true →
     IsSound s.start
-file_shows s [] m q fine e done = absurd cc
-file_shows s (bytes ∷ lines) m q fine e done =
-    let a = reached_from 1 (next_standing s Unopened (read bytes)) (λ (after : Standing). reached s 2 after lines) m (Underway q) e in
-    (lines_show s lines 2 (start_progress s.start) m q fine
-    (subst (λ (after : Standing). reached s 2 after lines ≡ Before m (Underway q)) (sym (opened_from s (read bytes) a.0 a.1)) a.2) done).0
+file_shows s [] m last q fine e done = absurd cc
+file_shows s (bytes ∷ lines) m last q fine e done =
+    let later = λ (after : Standing). reached s 2 after lines in
+    let a = reached_from 1 (next_standing s Unopened (read bytes)) later m (Underway last q) e in
+    let b = opened_from s (read bytes) a.0 a.1 in
+    (lines_show s lines 2 b.0 (start_progress s.start) m last q fine
+    (subst (λ (after : Standing). reached s 2 after lines ≡ Before m (Underway last q)) (sym b.1) a.2) done).0
 
 -- a file passes: its lines were taken to the end, nothing is pending, and no bytes are left
 pub pass_from : (r : Reached) (rest : List ℕ) → verdict_at_end r rest ≡ Pass →
-    (n : ℕ) × (p : Progress) × (r ≡ Before n (Underway p)) × (none_waits p.pending ≡ true) × (rest ≡ [])
+    (n : ℕ) × (exact : Bool) × (p : Progress) × (r ≡ Before n (Underway exact p)) × (none_waits p.pending ≡ true) × (rest ≡ [])
 pass_from (Refused n w) rest e = absurd cc
 pass_from (Before n Unopened) [] e = absurd cc
-pass_from (Before n (Underway p)) [] e = (n, p, refl, of (none_waits p.pending) e, refl)
+pass_from (Before n (Underway exact p)) [] e = (n, exact, p, refl, of (none_waits p.pending) e, refl)
   where
     of : (done : Bool) → (if done then Pass else Rejected n word.Truncated) ≡ Pass → done ≡ true
     of true h = refl
@@ -155,4 +161,4 @@ pass_free t bytes sorted pass =
     let lines = lines_in bytes in
     let a = pass_from (reached s 1 Unopened lines.ended) lines.rest pass in
     start_conflict_free (task_of t)
-    (file_shows s lines.ended a.0 a.1 (start_fine (sort_of t.declared) (task_of t) sorted) a.2 a.3)
+    (file_shows s lines.ended a.0 a.1 a.2 (start_fine (sort_of t.declared) (task_of t) sorted) a.3 a.4)

@@ -5,9 +5,9 @@ use Rattle.std.proofs.Common.{refl, ap, sym, subst, ◌∙◌}
 use Rattle.sm_proof.specs.declared.word.Word.{Word}
 use Rattle.sm_proof.specs.Lines.{ProofLine, Header, Term, Form, Node, Cert}
 use Rattle.sm_proof.specs.Passing.{Pending, Progress, taken_at}
-use Rattle.sm_proof.specs.Verdicts.{Subject, subject_of, Standing, Unopened, Underway, next_standing, Before, reached_after}
+use Rattle.sm_proof.specs.Verdicts.{Subject, subject_of, Standing, Unopened, Underway, next_standing, reads_exact, Before, reached_after}
 use Rattle.sm_proof.specs.Verdicts.{reached, FileLines, in_first_line, lines_in, Pass, none_waits, verdict_at_end}
-use Rattle.sm_proof.specs.Reading.{read}
+use Rattle.sm_proof.specs.Versions.{read_with}
 use Rattle.sm_proof.specs.Laws.{PrefixesFail}
 use Rattle.sm_proof.proofs.PassSound.{underway_from, reached_from, pass_from}
 
@@ -22,13 +22,13 @@ none_taken s p [] (Cert line) q done e = cc
 none_taken s p (due ∷ rest) line q done e = absurd cc
 
 -- so a proof that is done goes on over no line
-done_ends : (s : Subject) (p : Progress) (lines : List (List ℕ)) (n m : ℕ) (q : Progress) → none_waits p.pending ≡ true →
-    reached s n (Underway p) lines ≡ Before m (Underway q) → lines ≡ []
-done_ends s p [] n m q done e = refl
-done_ends s p (bytes ∷ lines) n m q done e =
+done_ends : (s : Subject) (exact : Bool) (p : Progress) (lines : List (List ℕ)) (n m : ℕ) (end : Standing) → none_waits p.pending ≡ true →
+    reached s n (Underway exact p) lines ≡ Before m end → lines ≡ []
+done_ends s exact p [] n m end done e = refl
+done_ends s exact p (bytes ∷ lines) n m end done e =
     let later = λ (after : Standing). reached s (suc n) after lines in
-    let a = reached_from n (next_standing s (Underway p) (read bytes)) later m (Underway q) e in
-    let b = underway_from s p (read bytes) a.0 a.1 in
+    let a = reached_from n (next_standing s (Underway exact p) (read_with exact bytes)) later m end e in
+    let b = underway_from s exact p (read_with exact bytes) a.0 a.1 in
     absurd (none_taken s p p.pending b.0 b.1 done b.2)
 
 -- lines behind lines go on from where those came to
@@ -40,7 +40,8 @@ reached_behind s [] others n standing m end e =
     let place : standing ≡ end = cc in
     rw (number, place) refl
 reached_behind s (bytes ∷ lines) others n standing m end e =
-    let a = reached_from n (next_standing s standing (read bytes)) (λ (after : Standing). reached s (suc n) after lines) m end e in
+    let first = next_standing s standing (read_with (reads_exact standing) bytes) in
+    let a = reached_from n first (λ (after : Standing). reached s (suc n) after lines) m end e in
     ap (λ (r : Result Standing Word). reached_after n r (λ (after : Standing). reached s (suc n) after (lines ++ others))) a.1
     ∙ reached_behind s lines others (suc n) a.0 m end a.2
 
@@ -106,9 +107,9 @@ prefixes_fail t front more some whole pass =
     let first = lines_in front in
     let later = lines_in more in
     let a = pass_from (reached s 1 Unopened first.ended) first.rest pass in
-    let split = lines_behind front more a.4 in
+    let split = lines_behind front more a.5 in
     let b =
     pass_from (reached s 1 Unopened (first.ended ++ later.ended)) later.rest
     (subst (λ (f : FileLines). verdict_at_end (reached s 1 Unopened f.ended) f.rest ≡ Pass) split whole) in
-    let from = sym (reached_behind s first.ended later.ended 1 Unopened a.0 (Underway a.1) a.2) ∙ b.2 in
-    some (no_lines more (done_ends s a.1 later.ended a.0 b.0 b.1 a.3 from) b.4)
+    let from = sym (reached_behind s first.ended later.ended 1 Unopened a.0 (Underway a.1 a.2) a.3) ∙ b.3 in
+    some (no_lines more (done_ends s a.1 a.2 later.ended a.0 b.0 (Underway b.1 b.2) a.4 from) b.5)

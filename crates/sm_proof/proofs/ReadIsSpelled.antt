@@ -239,6 +239,9 @@ rest_is head.Elim words l is =
 rest_is head.Tight words l is =
     taking_back (any ∷ []) (λ n. Cert (line.Tight n)) words l (λ ws m. IsTextOf (head_word head.Tight ∷ ws) m) is
     (λ n hn. (refl, (below n hn, tt), tt))
+rest_is head.Exact words l is =
+    taking_back (any ∷ []) (λ n. Cert (line.Exact n)) words l (λ ws m. IsTextOf (head_word head.Exact ∷ ws) m) is
+    (λ n hn. (refl, (below n hn, tt), tt))
 rest_is head.Close words l is =
     taking_back (any ∷ []) (λ n. Cert (line.Close n)) words l (λ ws m. IsTextOf (head_word head.Close ∷ ws) m) is
     (λ n hn. (refl, (below n hn, tt), tt))
@@ -283,13 +286,15 @@ words_are (word ∷ words) l is = by (bytes_eq version_word word) refl is
     by true e h = subst (λ (w : List ℕ). IsTextOf (w ∷ words) l) ((bytes_eq-Decides version_word word).0 e) (version_is words l h)
     by false e h = headed (head_of word) refl h
 
-pub read_spelled : ReadIsSpelled
-unfolding read spelled
-read_spelled bytes l is = by (nat_le (length bytes) 4096) is
+-- what is read is the line of the bytes' words
+pub read_text : (bytes : List ℕ) (l : ProofLine) → read bytes ≡ Ok l → IsTextOf (words_of bytes) l
+unfolding read
+read_text bytes l is = by (nat_le (length bytes) 4096) is
   where
-    by : (b : Bool) → tested_or b BadLine (read_words (words_of bytes)) ≡ Ok l
-        → (bytes ≡ spaced (line_words l)) × IsWithinFields l × HasKnownVersion l
+    by : (b : Bool) → tested_or b BadLine (read_words (words_of bytes)) ≡ Ok l → IsTextOf (words_of bytes) l
     by false h = cc
-    by true h =
-        let t = words_are (words_of bytes) l h in
-        (sym (spaced_words bytes) ∙ ap spaced t.0, t.1, t.2)
+    by true h = words_are (words_of bytes) l h
+
+pub read_spelled : ReadIsSpelled
+unfolding spelled
+read_spelled bytes l is = let t = read_text bytes l is in (sym (spaced_words bytes) ∙ ap spaced t.0, t.1, t.2)

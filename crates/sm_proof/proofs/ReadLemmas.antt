@@ -5,7 +5,8 @@ use Rattle.std.proofs.Common.{List, [], ◌∷◌, ◌++◌, length, take, refl,
 use Rattle.std.proofs.lemmas.Bool.Decides.{nat_tests}
 use mathlib.Core.List.{append-nil}
 use Rattle.std.specs.List.{prefix_len}
-use Rattle.std.specs.Prelude.{Result, IfOk, IfErr}
+use Rattle.std.specs.Prelude.{Result, IfOk, IfErr, codes}
+use Rattle.std.specs.Str.{bytes_eq}
 use Rattle.sm_theory.specs.Lines.{followed}
 use Rattle.sm_proof.specs.declared.error.Fault.{Fault}
 use Rattle.sm_proof.specs.declared.error.Fault.TheVariants as fault
@@ -24,6 +25,7 @@ use Rattle.sm_proof.specs.Lines.{ProofLine, Cert}
 use Rattle.sm_proof.specs.Named.{found_or, tested_or}
 use Rattle.sm_proof.specs.Numbers.{words_of, number_in, numbers_in}
 use Rattle.sm_proof.specs.Reading.{first_line, read, read_cong, read_rest, read_version, read_words}
+use Rattle.sm_proof.specs.Versions.{are_exact, begins_exact}
 use Rattle.sm_proof.proofs.ReadIsSpelled.{read_spelled}
 use Rattle.sm_proof.proofs.SplitLemmas.{some_words}
 use Rattle.sm_proof.proofs.TakingLemmas.{unequal}
@@ -58,6 +60,13 @@ words_headed words word more o is other same =
     (unequal version_word word other)
     ∙ ap (λ (p : Option Head). found_or p BadLine (λ (h : Head). read_rest h more)) (sym same)
 
+-- bytes begin with the word of lines `exact` where their first word is that
+pub begins_is : (bytes word : List ℕ) (more : List (List ℕ)) (b : Bool) → words_of bytes ≡ word ∷ more
+    → (b ≡ true → word ≡ codes "exact") → (b ≡ false → word ≢ codes "exact") → b ≡ begins_exact bytes
+unfolding begins_exact
+begins_is bytes word more true is same other = sym (ap are_exact is ∙ ap (bytes_eq (codes "exact")) (same refl))
+begins_is bytes word more false is same other = sym (ap are_exact is ∙ unequal (codes "exact") word (other refl))
+
 -- a line of a certificate is what is left
 pub cert_left : (h : Head) → h ≢ head.T → h ≢ head.P → h ≢ head.Cong → is_node_head h ≡ false → is_cert_head h ≡ true
 cert_left head.T t p c n = absurd (t refl)
@@ -85,6 +94,7 @@ cert_left head.Miss t p c n = refl
 cert_left head.Lin t p c n = refl
 cert_left head.Elim t p c n = refl
 cert_left head.Tight t p c n = refl
+cert_left head.Exact t p c n = refl
 cert_left head.Close t p c n = refl
 cert_left head.Clash t p c n = refl
 

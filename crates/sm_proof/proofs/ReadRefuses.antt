@@ -109,6 +109,7 @@ rest_refuses head.Miss words = taking_refuses (any ∷ any ∷ any ∷ []) (λ t
 rest_refuses head.Lin words = taking_refuses (any ∷ []) (λ n. Cert (line.Lin n)) words
 rest_refuses head.Elim words = taking_refuses (any ∷ any ∷ any ∷ []) (λ m n t. Cert (line.Elim m n t)) words
 rest_refuses head.Tight words = taking_refuses (any ∷ []) (λ n. Cert (line.Tight n)) words
+rest_refuses head.Exact words = taking_refuses (any ∷ []) (λ n. Cert (line.Exact n)) words
 rest_refuses head.Close words = taking_refuses (any ∷ []) (λ n. Cert (line.Close n)) words
 rest_refuses head.Clash words = taking_refuses (any ∷ any ∷ []) (λ m n. Cert (line.Clash m n)) words
 

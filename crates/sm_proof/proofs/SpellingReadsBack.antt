@@ -337,6 +337,9 @@ cert_back (line.Elim m n t) h =
 cert_back (line.Tight n) h =
     rest_read head.Tight (map decimal (n ∷ []))
     ∙ taking_spelled (any ∷ []) (λ n. Cert (line.Tight n)) (n ∷ []) (Cert (line.Tight n)) (upto n h.0, h.0, refl)
+cert_back (line.Exact n) h =
+    rest_read head.Exact (map decimal (n ∷ []))
+    ∙ taking_spelled (any ∷ []) (λ n. Cert (line.Exact n)) (n ∷ []) (Cert (line.Exact n)) (upto n h.0, h.0, refl)
 cert_back (line.Close n) h =
     rest_read head.Close (map decimal (n ∷ []))
     ∙ taking_spelled (any ∷ []) (λ n. Cert (line.Close n)) (n ∷ []) (Cert (line.Close n)) (upto n h.0, h.0, refl)

@@ -7,7 +7,8 @@ use Rattle.sm_proof.specs.declared.line.NodeLine.TheVariants as node
 use Rattle.sm_proof.specs.declared.line.TermLine.{TermLine}
 use Rattle.sm_proof.specs.declared.line.TermLine.TheVariants as term
 use Rattle.sm_proof.specs.Lines.{NumberedLine, Both, Either, Cases, Order, Refl, Sym, Trans, Subst}
-use Rattle.sm_proof.specs.Lines.{Cong, Same, Apart, Hit, Miss, Lin, Elim, Tight, Close, Clash}
+use Rattle.sm_proof.specs.Lines.{Cong, Same, Apart, Hit, Miss, Lin, Elim, Tight, Exact}
+use Rattle.sm_proof.specs.Lines.{Close, Clash}
 use Rattle.sm_proof.specs.Lines.{ProofLine, Header, Term, Form, Node, Cert}
 
 -- a number that isn't told otherwise is below 2 to the 64
@@ -83,6 +84,7 @@ numbers_of (Miss t u n) = t ∷ u ∷ n ∷ []
 numbers_of (Lin n) = n ∷ []
 numbers_of (Elim m n t) = m ∷ n ∷ t ∷ []
 numbers_of (Tight n) = n ∷ []
+numbers_of (Exact n) = n ∷ []
 numbers_of (Close n) = n ∷ []
 numbers_of (Clash m n) = m ∷ n ∷ []
 

@@ -43,6 +43,7 @@ head_word head.Miss = codes "miss"
 head_word head.Lin = codes "lin"
 head_word head.Elim = codes "elim"
 head_word head.Tight = codes "tight"
+head_word head.Exact = codes "exact"
 head_word head.Close = codes "close"
 head_word head.Clash = codes "clash"
 
@@ -79,7 +80,7 @@ heads =
     head.T ∷ head.P ∷ head.Step ∷ head.Abs ∷ head.Fork ∷ head.Loop ∷ head.Block ∷ head.Dead
     ∷ head.End ∷ head.Both ∷ head.Either ∷ head.Cases ∷ head.Order ∷ head.Refl ∷ head.Sym
     ∷ head.Trans ∷ head.Subst ∷ head.Cong ∷ head.Same ∷ head.Apart ∷ head.Hit ∷ head.Miss
-    ∷ head.Lin ∷ head.Elim ∷ head.Tight ∷ head.Close ∷ head.Clash ∷ []
+    ∷ head.Lin ∷ head.Elim ∷ head.Tight ∷ head.Exact ∷ head.Close ∷ head.Clash ∷ []
 
 -- the kind with a first word
 unfoldable pub head_of : List ℕ → Option Head

@@ -7,6 +7,7 @@ pub mod Named
 pub mod Fields
 pub mod Passing
 pub mod Reading
+pub mod Versions
 pub mod Behind
 pub mod Likely
 pub mod SpellingLaws

@@ -44,9 +44,10 @@ head_of_five first third =
     if first == 97 then Some head.Apart else
     (if first == 98 then Some head.Block else
     (if first == 99 then Some (head_of_c third) else
+    (if first == 101 then Some head.Exact else
     (if first == 111 then Some head.Order else
     (if first == 115 then Some head.Subst else
-    Some (if third == 97 then head.Trans else head.Tight)))))
+    Some (if third == 97 then head.Trans else head.Tight))))))
 
 -- all first words
 unfoldable pub likely_head : List ℕ → Option Head

@@ -21,7 +21,10 @@ pub data NumberedLine : Type 0 where
   Miss : ℕ → ℕ → ℕ → NumberedLine
   Lin : ℕ → NumberedLine
   Elim : ℕ → ℕ → ℕ → NumberedLine
-  Tight Close : ℕ → NumberedLine
+  Tight : ℕ → NumberedLine
+  -- a number of steps
+  Exact : ℕ → NumberedLine
+  Close : ℕ → NumberedLine
   Clash : ℕ → ℕ → NumberedLine
 
 -- a line of a proof file
@@ -54,6 +57,7 @@ numbered_line (cert.Miss t u n) = Miss t.0 u.0 n
 numbered_line (cert.Lin n) = Lin n
 numbered_line (cert.Elim m n t) = Elim m n t.0
 numbered_line (cert.Tight n) = Tight n
+numbered_line (cert.Exact n) = Exact n
 numbered_line (cert.Close n) = Close n
 numbered_line (cert.Clash m n) = Clash m n
 

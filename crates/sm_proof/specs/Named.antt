@@ -15,7 +15,8 @@ use Rattle.sm_proof.specs.declared.word.Head.{Head}
 use Rattle.sm_proof.specs.declared.word.Head.TheVariants as head
 use Rattle.sm_proof.specs.declared.word.Word.{Word}
 use Rattle.sm_proof.specs.Lines.{NumberedLine, Both, Either, Cases, Order, Refl, Sym, Trans, Subst}
-use Rattle.sm_proof.specs.Lines.{Cong, Same, Apart, Hit, Miss, Lin, Elim, Tight, Close, Clash}
+use Rattle.sm_proof.specs.Lines.{Cong, Same, Apart, Hit, Miss, Lin, Elim, Tight, Exact}
+use Rattle.sm_proof.specs.Lines.{Close, Clash}
 
 -- goes on with what is there, and otherwise says a word
 abbrev pub found_or : {S T : Type 0} → Option S → Word → (S → Result T Word) → Result T Word
@@ -72,6 +73,7 @@ named_line trees count (Lin n) = naming_facts count (n ∷ []) (cert.Lin n)
 named_line trees count (Elim m n t) =
     naming_term trees t (λ (a : Tree). naming_facts count (m ∷ n ∷ []) (cert.Elim m n a))
 named_line trees count (Tight n) = naming_facts count (n ∷ []) (cert.Tight n)
+named_line trees count (Exact n) = Some (cert.Exact n)
 named_line trees count (Close n) = naming_facts count (n ∷ []) (cert.Close n)
 named_line trees count (Clash m n) = naming_facts count (m ∷ n ∷ []) (cert.Clash m n)
 
@@ -117,5 +119,6 @@ line_head (Miss t u n) = head.Miss
 line_head (Lin n) = head.Lin
 line_head (Elim m n t) = head.Elim
 line_head (Tight n) = head.Tight
+line_head (Exact n) = head.Exact
 line_head (Close n) = head.Close
 line_head (Clash m n) = head.Clash

@@ -92,6 +92,7 @@ is_split (line.Miss t u n) = false
 is_split (line.Lin n) = false
 is_split (line.Elim m n t) = false
 is_split (line.Tight n) = false
+is_split (line.Exact n) = false
 is_split (line.Close n) = false
 is_split (line.Clash m n) = false
 

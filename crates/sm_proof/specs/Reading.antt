@@ -101,6 +101,7 @@ read_rest head.Miss = taking (any ∷ any ∷ any ∷ []) (λ t u n. Cert (line.
 read_rest head.Lin = taking (any ∷ []) (λ n. Cert (line.Lin n))
 read_rest head.Elim = taking (any ∷ any ∷ any ∷ []) (λ m n t. Cert (line.Elim m n t))
 read_rest head.Tight = taking (any ∷ []) (λ n. Cert (line.Tight n))
+read_rest head.Exact = taking (any ∷ []) (λ n. Cert (line.Exact n))
 read_rest head.Close = taking (any ∷ []) (λ n. Cert (line.Close n))
 read_rest head.Clash = taking (any ∷ any ∷ []) (λ m n. Cert (line.Clash m n))
 

@@ -6,6 +6,7 @@ use Rattle.sm_proof.specs.FieldRanges.{IsWithinFields}
 use Rattle.sm_proof.specs.Lines.{ProofLine}
 use Rattle.sm_proof.specs.Reading.{read}
 use Rattle.sm_proof.specs.Spelling.{spelled, HasKnownVersion}
+use Rattle.sm_proof.specs.Versions.{is_exact, begins_exact}
 
 -- the text of a line that can be read is read as that line
 abbrev pub SpelledReadsBack : Type 0
@@ -23,3 +24,8 @@ ReadIsSpelled =
 abbrev pub ReadRefuses : Type 0
 ReadRefuses =
     (bytes : List ℕ) (word : Word) → read bytes ≡ Err word → (word ≡ BadLine) ⊎ (word ≡ BadNumber)
+
+-- bytes that are read as a line begin with the word of lines `exact` where it is one
+abbrev pub ExactBegins : Type 0
+ExactBegins =
+    (bytes : List ℕ) (line : ProofLine) → read bytes ≡ Ok line → begins_exact bytes ≡ is_exact line

@@ -5,11 +5,11 @@ use Rattle.sm_syntax.specs.text.Parts.{Parts, sort_of, task_of}
 use Rattle.sm_syntax.specs.text.Sorts.{Sorts}
 use Rattle.sm_plan.specs.States.{State, start_state}
 use Rattle.sm_proof.specs.declared.word.Word.{Word}
-use Rattle.sm_proof.specs.declared.word.Word.TheVariants.{Truncated, BadVersion}
+use Rattle.sm_proof.specs.declared.word.Word.TheVariants.{Truncated, BadVersion, BadLine}
 use Rattle.sm_proof.specs.Lines.{ProofLine, Header, Term, Form, Node, Cert}
-use Rattle.sm_proof.specs.Named.{and_then}
+use Rattle.sm_proof.specs.Named.{tested_or, and_then}
 use Rattle.sm_proof.specs.Passing.{Pending, Progress, start_progress, taken}
-use Rattle.sm_proof.specs.Reading.{read}
+use Rattle.sm_proof.specs.Versions.{has_exact, may_stand, read_with}
 
 -- what a proof is about: the sorts of the declared names, whether the task assumes something, and
 -- the state that it starts from
@@ -26,31 +26,40 @@ subject_of t = record {
   start = start_state (task_of t);
 }
 
--- whether files of a version count: version 2 always, version 1 where nothing is assumed
+-- whether files of a version count: versions 2 and 3 always, version 1 where nothing is assumed
 abbrev pub passes_version : Subject → ProofLine → Bool
-passes_version s (Header version) = (version == 2) || ((version == 1) && not s.assumes)
+passes_version s (Header version) =
+    (version == 3) || ((version == 2) || ((version == 1) && not s.assumes))
 passes_version s (Term line) = false
 passes_version s (Form line) = false
 passes_version s (Node line) = false
 passes_version s (Cert line) = false
 
--- where a proof stands: before its version line, or on its way
+-- where a proof stands: before its version line, or on its way, where lines `exact` may stand or
+-- may not
 pub data Standing : Type 0 where
   Unopened : Standing
-  Underway : Progress → Standing
+  Underway : (exact : Bool) → Progress → Standing
 
 -- the start, where a test passes
-abbrev pub opens_if : Bool → Subject → Result Standing Word
-opens_if test s = if test then Ok (Underway (start_progress s.start)) else Err BadVersion
+abbrev pub opens_if : Bool → (exact : Bool) → Subject → Result Standing Word
+opens_if test exact s =
+    if test then Ok (Underway exact (start_progress s.start)) else Err BadVersion
 
 -- where a proof stands after a line that was read, or the word by which the line is refused
 abbrev pub next_standing : Subject → Standing → Result ProofLine Word → Result Standing Word
 next_standing s Unopened (Err w) = Err BadVersion
-next_standing s Unopened (Ok line) = opens_if (passes_version s line) s
-next_standing s (Underway p) read =
+next_standing s Unopened (Ok line) = opens_if (passes_version s line) (has_exact line) s
+next_standing s (Underway exact p) read =
     and_then read
     (λ (line : ProofLine).
-    and_then (taken s.sorts p line) (λ (q : Progress). Ok (Underway q)))
+    tested_or (may_stand exact line) BadLine
+    (and_then (taken s.sorts p line) (λ (q : Progress). Ok (Underway exact q))))
+
+-- whether lines `exact` are read where a proof stands: before its version line all lines are
+abbrev pub reads_exact : Standing → Bool
+reads_exact Unopened = true
+reads_exact (Underway exact p) = exact
 
 -- how far lines come: to the first that is refused, with its number and the word; or to where the
 -- proof stands before the line with this number
@@ -67,7 +76,7 @@ reached_after n (Ok standing) next = next standing
 abbrev pub reached : Subject → ℕ → Standing → List (List ℕ) → Reached
 reached s n standing [] = Before n standing
 reached s n standing (bytes ∷ lines) =
-    reached_after n (next_standing s standing (read bytes))
+    reached_after n (next_standing s standing (read_with (reads_exact standing) bytes))
     (λ (after : Standing). reached s (suc n) after lines)
 
 -- the lines of a file that have an end, and the bytes after the last end
@@ -101,7 +110,7 @@ none_waits (due ∷ rest) = false
 -- whether a proof is done: nothing is pending
 abbrev pub is_done : Standing → Bool
 is_done Unopened = false
-is_done (Underway p) = none_waits p.pending
+is_done (Underway exact p) = none_waits p.pending
 
 -- the verdict where all lines that have an end were taken: bytes without an end, and a line that is
 -- missing, are Truncated

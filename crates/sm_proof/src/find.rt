@@ -111,6 +111,7 @@ fn head_of_five(first: u8, third: u8) -> Option<Head>
         b'a' => Some(Head::Apart),
         b'b' => Some(Head::Block),
         b'c' => Some(head_of_c(third)),
+        b'e' => Some(Head::Exact),
         b'o' => Some(Head::Order),
         b's' => Some(Head::Subst),
         _ => Some(if third == b'a' {

@@ -232,6 +232,7 @@ pub(crate) fn cert_line(head: Head, rest: &[u8]) -> Result<CertLine, Fault>
             Ok(CertLine::Elim(m, n, TermId(t)))
         }
         Head::Tight => Ok(CertLine::Tight(one_number(rest)?)),
+        Head::Exact => Ok(CertLine::Exact(one_number(rest)?)),
         Head::Close => Ok(CertLine::Close(one_number(rest)?)),
         _ => {
             let (m, n) = two_numbers(rest)?;

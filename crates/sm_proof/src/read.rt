@@ -8,6 +8,7 @@ ghost use Rattle.sm_proof.specs.Fields.{any};
 ghost use Rattle.sm_proof.specs.Lines.{line_of};
 ghost use Rattle.sm_proof.specs.Numbers.{numbers_in, words_of};
 ghost use Rattle.sm_proof.specs.Reading.{first_line, read, read_cong, read_rest, read_words};
+ghost use Rattle.sm_proof.specs.Versions.{begins_exact, read_with};
 ghost use Rattle.sm_proof.specs.declared.word.Word.TheVariants.{BadLine, BadNumber};
 
 use crate::error::{Fault, LineError};
@@ -59,6 +60,33 @@ pub fn line_from(alloc: Global, bytes: &[u8]) -> Result<Line, LineError>
         return Err(LineError::BadLine);
     }
     line_by_words(alloc, bytes)
+}
+
+/// The line that bytes without a line feed spell, where lines `exact` may stand or may not.
+pub fn line_with(alloc: Global, bytes: &[u8], exact: bool) -> Result<Line, LineError>
+    ensures ok { IfOk result (λ l. read_with exact bytes.now ≡ Ok (line_of l)) }
+    ensures within { IfOk result (λ l. IsWithinFields (line_of l)) }
+    ensures bad_line { IsErrOf result LineError.BadLine →
+        read_with exact bytes.now ≡ Err BadLine }
+    ensures bad_number { IsErrOf result LineError.BadNumber →
+        read_with exact bytes.now ≡ Err BadNumber }
+    ensures ended { IsErrOf result LineError.Truncated → ⊥ }
+{
+    if exact {
+        return line_from(alloc, bytes);
+    }
+    if begins_exact(bytes) {
+        return Err(LineError::BadLine);
+    }
+    line_from(alloc, bytes)
+}
+
+// Whether bytes begin with the word of lines `exact`.
+fn begins_exact(bytes: &[u8]) -> bool
+    ensures { result ≡ begins_exact bytes.now }
+{
+    let (word, _) = split_word(bytes);
+    word == b"exact".as_slice()
 }
 
 // The line that the words of bytes spell, however many bytes these are.

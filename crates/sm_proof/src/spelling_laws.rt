@@ -1,5 +1,6 @@
 // How lines are spelled and read, as contracts.
-ghost use Rattle.sm_proof.specs.SpellingLaws.{ReadIsSpelled, ReadRefuses, SpelledReadsBack};
+ghost use Rattle.sm_proof.specs.SpellingLaws.{ExactBegins, ReadIsSpelled, ReadRefuses};
+ghost use Rattle.sm_proof.specs.SpellingLaws.{SpelledReadsBack};
 
 /// The text of a line within its fields is read as that line.
 #[tactic(auto, using(crate::proofs::SpellingReadsBack::spelled_back))]
@@ -16,4 +17,10 @@ pub fn read_is_spelled()
 #[tactic(auto, using(crate::proofs::ReadRefuses::refused))]
 pub fn read_refuses()
     ensures { ReadRefuses }
+{}
+
+/// Bytes that are read as a line begin with the word of lines `exact` where it is one.
+#[tactic(auto, using(crate::proofs::ExactLines::exact_read))]
+pub fn exact_begins()
+    ensures { ExactBegins }
 {}

@@ -30,6 +30,7 @@ pub enum Head {
     Lin,
     Elim,
     Tight,
+    Exact,
     Close,
     Clash,
 }
@@ -65,6 +66,7 @@ impl Head {
             Head::Lin => "lin",
             Head::Elim => "elim",
             Head::Tight => "tight",
+            Head::Exact => "exact",
             Head::Close => "close",
             Head::Clash => "clash",
         }

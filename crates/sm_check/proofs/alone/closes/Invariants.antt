@@ -18,7 +18,7 @@ invariant-loop-line l =
     (facts own : List BranchFact) (held : Copy → SymbolicStore) (splits : ℕ) →
     AllStand (sorts_in l.table) (trees_in l.table) l.path.list.items facts → AreFactsSorted (sorts_in l.table) facts →
     OpensAs (sorts_in l.table) (trees_in l.table) facts l.opening (plain.Branch held own splits) →
-    Leads (sorts_in l.table) (trees_in l.table) (terms_in (trees_in l.table) l.terms) l.branch.path.list.items l.branch.due
+    Leads l.exact (sorts_in l.table) (trees_in l.table) (terms_in (trees_in l.table) l.terms) l.branch.path.list.items l.branch.due
     l.branch.waiting.items own splits (ended_in l.left) (ended_in l.bytes)
 
 abbrev pub decreases-loop-line : goal.decreases-loop-line

@@ -10,7 +10,6 @@ use Rattle.sm_proof.specs.declared.word.Word.TheVariants.{BadNumber}
 use Rattle.sm_proof.specs.Lines.{numbered_line}
 use Rattle.sm_proof.specs.Named.{found_or, named_line}
 use Rattle.sm_proof.specs.Passing.{Pending, Progress, after_line}
-use Rattle.sm_check.specs.declared.fault.LineFault.{LineFault}
 use Rattle.sm_check.specs.declared.pending.Due.{Due}
 use Rattle.sm_check.specs.CertsTaken.{pending_after, WalksIn}
 use Rattle.sm_check.specs.Pending.{PendingStands}

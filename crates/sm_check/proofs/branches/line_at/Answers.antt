@@ -1,5 +1,5 @@
 -- The line is named, tested, and taken.
-use Rattle.std.proofs.Common.{◌≡◌, ℕ, Option, Some, Result, Ok, Err, List, length, reverse, sym, ap, ◌∙◌, subst}
+use Rattle.std.proofs.Common.{◌≡◌, ℕ, Option, Some, Result, Ok, List, length, sym, ap, ◌∙◌, subst}
 use Rattle.std.proofs.lemmas.Result.{err_from_is_err_and}
 use Rattle.sm_term.specs.Tables.{trees_in, sorts_in}
 use Rattle.sm_theory.specs.Facts.{BranchFact}
@@ -16,7 +16,6 @@ use Rattle.sm_check.specs.declared.pending.Due.{Due}
 use Rattle.sm_check.specs.CertsTaken.{pending_after}
 use Rattle.sm_check.specs.LineKinds.{Misses}
 use Rattle.sm_check.specs.Pending.{PendingStands}
-use Rattle.sm_check.specs.Tells.{Tells}
 use Rattle.sm_check.specs.Walks.{terms_in}
 use Rattle.sm_check.proofs.CertTaken.{misses_told, cert_deep, cert_tried}
 use Rattle.sm_check.proofs.NodesLemmas.{tells_word}

@@ -2,9 +2,8 @@
 use Rattle.std.proofs.Common.{◌≡◌, Some, List, sym, subst, ap, ◌∙◌}
 use Rattle.sm_term.specs.Tables.{sorts_in}
 use Rattle.sm_proof.specs.Lines.{Cert, numbered_line}
-use Rattle.sm_proof.specs.Passing.{Pending, Progress, taken, taken_at}
+use Rattle.sm_proof.specs.Passing.{Pending, taken, taken_at}
 use Rattle.sm_check.specs.declared.pending.Due.TheVariants as due
-use Rattle.sm_check.specs.Tells.{Tells}
 use Rattle.sm_check.specs.Walks.{WalkValue, Walks}
 use Rattle.sm_check.proofs.CertTaken.{at_branch}
 use Rattle.sm_check.proofs.TellsLemmas.{tells_along}

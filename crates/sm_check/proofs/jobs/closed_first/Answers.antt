@@ -34,17 +34,19 @@ returns-clause-closed g c = λ p walks.
     let os = c.in_ok-openings.openings.items in
     let n = c.min-count.result in
     let rs = c.in_ok-closed.closed.items in
-    let inside : Answered (sorts_in i.table) (trees_in i.table) (terms_in (trees_in i.table) i.terms.items) i.path.list.items os cs n rs =
+    let exact = c.args.exact in
+    let inside : Answered exact (sorts_in i.table) (trees_in i.table) (terms_in (trees_in i.table) i.terms.items) i.path.list.items os cs n
+    rs =
     subst
     (λ (xs : List Opening).
-    Answered (sorts_in i.table) (trees_in i.table) (terms_in (trees_in i.table) i.terms.items) i.path.list.items xs cs n rs)
+    Answered exact (sorts_in i.table) (trees_in i.table) (terms_in (trees_in i.table) i.terms.items) i.path.list.items xs cs n rs)
     c.deref-2.ensures.value
     (subst
     (λ (ts : List TermId).
-    Answered (sorts_in i.table) (trees_in i.table) (terms_in (trees_in i.table) ts) i.path.list.items c.deref-2.result.now cs n rs)
+    Answered exact (sorts_in i.table) (trees_in i.table) (terms_in (trees_in i.table) ts) i.path.list.items c.deref-2.result.now cs n rs)
     c.deref.ensures.value c.in_ok-closed.ensures) in
-    let answers : Answered (sorts_in v.table) (trees_in v.table) (terms_in (trees_in v.table) v.terms) v.path os cs n rs =
-    subst (λ (x : WalkValue). Answered (sorts_in x.table) (trees_in x.table) (terms_in (trees_in x.table) x.terms) x.path os cs n rs)
+    let answers : Answered exact (sorts_in v.table) (trees_in v.table) (terms_in (trees_in v.table) v.terms) v.path os cs n rs =
+    subst (λ (x : WalkValue). Answered exact (sorts_in x.table) (trees_in x.table) (terms_in (trees_in x.table) x.terms) x.path os cs n rs)
     c.walk.view_is inside in
     let few : c.leading.result ≤ length rs =
     subst (λ (xs : List Bool). c.leading.result ≤ length xs) c.deref-3.ensures.value c.leading.ensures.few in
@@ -53,6 +55,6 @@ returns-clause-closed g c = λ p walks.
     c.leading.ensures.all in
     let enough : n ≤ length os = omega (arith, c.min-count.ensures, c.len.ensures, c.in_ok-openings.openings.ok.0) in
     let there : n ≤ length cs = omega (arith, c.min-count.ensures) in
-    subst (λ (ts : List Tree). CloseFirst (sorts_in v.table) ts p.pending (take c.leading.result (certificates_of cs))) walks.terms
-    (answered_close (sorts_in v.table) (trees_in v.table) (terms_in (trees_in v.table) v.terms) v.path h.facts h.stand h.sorted os cs
+    subst (λ (ts : List Tree). CloseFirst exact (sorts_in v.table) ts p.pending (take c.leading.result (certificates_of cs))) walks.terms
+    (answered_close exact (sorts_in v.table) (trees_in v.table) (terms_in (trees_in v.table) v.terms) v.path h.facts h.stand h.sorted os cs
     p.pending n c.leading.result rs (c.in_ok-openings.ensures p walks) enough there answers few lead)

@@ -1,5 +1,5 @@
 -- One opening more.
-use Rattle.std.proofs.Common.{◌≡◌, ◌∷◌, [], ◌++◌, List, Option, None, IfSome, length, ◌-◌, refl, ap, ◌∙◌, subst, arith}
+use Rattle.std.proofs.Common.{◌≡◌, ◌∷◌, [], ◌++◌, List, Option, None, IfSome, length, refl, ap, ◌∙◌, subst, arith}
 use Rattle.sm_term.specs.Tables.{trees_in, sorts_in}
 use Rattle.sm_proof.specs.Passing.{Pending}
 use Rattle.sm_check.specs.declared.openings.Opening.{Opening}

@@ -25,7 +25,7 @@ returns-then-is_empty-clause-err g c = λ s bytes t.
 pub returns-then-unfinished-clause-err : goal.returns-then-unfinished-clause-err
 returns-then-unfinished-clause-err g c = λ s bytes t.
     long_line_not_read c.add.new.self s bytes c.args.front.now c.refuse.result c.requires.no_end c.if-unfinished.true
-    (c.in_ok-add.ensures (lines_in bytes).rest t.kept) (c.refuse.ensures s (reach s bytes) t.comes)
+    (c.in_ok-add.ensures (lines_in bytes).rest t.kept) (λ line none. c.refuse.ensures s (reach s bytes) line none t.comes)
 
 pub returns-in_err-take-clause-err : goal.returns-in_err-take-clause-err
 returns-in_err-take-clause-err g c = λ s bytes t.

@@ -1,7 +1,7 @@
 -- A state waits, and its facts stand.
-use Rattle.std.proofs.Common.{◌≡◌, ℕ, Option, Some, List, [], ◌∷◌, length, reverse, refl, sym, ap, ◌∙◌, subst}
+use Rattle.std.proofs.Common.{◌≡◌, Option, Some, List, [], ◌∷◌, length, reverse, refl, sym, ap, ◌∙◌, subst}
 use Rattle.std.proofs.Math.Path.{fun_ext}
-use Rattle.sm_syntax.specs.claim.ConflictFree.{Copy, program_of}
+use Rattle.sm_syntax.specs.claim.ConflictFree.{Copy}
 use Rattle.sm_syntax.specs.claim.Syntax.{Condition, Code}
 use Rattle.sm_syntax.specs.text.Parts.{sort_of, sorted_outputs, task_of}
 use Rattle.sm_syntax.specs.text.Sorts.{Sorts}

@@ -93,7 +93,7 @@ returns-then-count-eq0-clause-read g c = λ s start.
     let so_far = c.loop-count.invariant.read in
     whole_given c.args.name.now (g.H.Shelf.given c.args.shelf.now) (g.H.Shelf.given c.loop-count.shelf)
     (g.H.Shelf.given c.read_at.new.self) c.args.limit s c.answer_at_end.result so_far.0 c.read_at.new.buf c.loop-count.place
-    c.in-Ok.count so_far.4 so_far.3 c.if-count-eq0.true c.in-Ok.ensures.gives
+    c.in-Ok.count so_far.4 so_far.3 c.if-count-eq0.true c.in-Ok.ensures.gives c.answer_at_end.ensures.no_fault
     (end_told c.args.limit s so_far.0 c.answer_at_end.result
     (let within = c.loop-count.invariant.within in omega (arith, so_far.3))
     (c.answer_at_end.ensures.answer s so_far.0 (so_far.2 s start)))

@@ -1,7 +1,7 @@
 -- The certificate that is begun goes on by the run.
-use Rattle.std.proofs.Common.{◌++◌, ℕ, List, take, ap, sym, ◌∙◌, append-nil, append_assoc}
+use Rattle.std.proofs.Common.{◌++◌, ℕ, List, take, ap, sym, ◌∙◌, append_assoc}
 use Rattle.sm_check.specs.declared.raw_lines.RawLines.{RawLines}
-use Rattle.sm_check.specs.Aside.{certificates_of, joined, lines_aside}
+use Rattle.sm_check.specs.Aside.{certificates_of, joined}
 use Rattle.sm_check.specs.LineEnds.{ended_in}
 use Rattle.sm_check.proofs.aside.Aside.push_run.Goals as goal
 

@@ -1,5 +1,5 @@
 -- A stopped checker answers its fault again; another one takes the line.
-use Rattle.std.proofs.Common.{◌≡◌, Ok, Err, Some, refl, sym, ap, ◌∙◌}
+use Rattle.std.proofs.Common.{Ok, Err, refl, sym, ap, ◌∙◌}
 use Rattle.std.proofs.lemmas.Option.{same_Some}
 use Rattle.sm_proof.specs.Lines.{line_of}
 use Rattle.sm_proof.specs.Verdicts.{Standing, next_standing}

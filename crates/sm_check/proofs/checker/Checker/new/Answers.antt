@@ -11,4 +11,4 @@ returns c =
     at_parts _ (subject_of (parts_of c.args.task.now)) Unopened refl (record {
       sorts = c.in_ok-start.ensures.sorts;
       assumes = c.is_some.ensures ∙ sym (some_mapped c.args.task.now.assumed);
-    }) (refl, c.in_ok-start.ensures.walks)
+    }) (refl, c.in_ok-start.ensures.walks) refl

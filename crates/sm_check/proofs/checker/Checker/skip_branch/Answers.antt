@@ -9,10 +9,10 @@ use Rattle.sm_check.proofs.checker.Checker.skip_branch.Goals as goal
 
 pub returns : goal.returns
 unfolding IsAt
-returns c = λ s p first rest at is.
+returns c = λ s exact p first rest at is.
     let made = c.in_ok-make_due.ensures in
     let q : Progress = record p { pending = rest } in
-    let on : IsAt _ s (Ok (Underway q)) = (
+    let on : IsAt _ s (Ok (Underway exact q)) = (
       at.0,
       record { sorts = ap (λ (t : TableValue). sorts_in t) made.table ∙ at.1.sorts; assumes = at.1.assumes },
       (
@@ -20,5 +20,6 @@ returns c = λ s p first rest at is.
         walk_skipped c.args.self.now.walk c.make_due.new.walk p first rest at.2.1 is made.table made.nodes made.terms made.forms
             made.pending,
       ),
+      at.3,
     ) in
-    (on, c.state.ensures s (Underway q) on)
+    (on, c.state.ensures s (Underway exact q) on)

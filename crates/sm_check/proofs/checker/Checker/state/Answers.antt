@@ -1,9 +1,4 @@
 -- A proof is done where its version line is taken and nothing is pending.
-use Rattle.std.proofs.Common.{◌≡◌, Bool, true, false, if◌then◌else◌, Ok, refl, sym, ap, ◌∙◌}
-use Rattle.sm_proof.specs.Verdicts.{Subject, Standing, Unopened, Underway}
-use Rattle.sm_check.specs.declared.checker.State.{State}
-use Rattle.sm_check.specs.declared.checker.State.TheVariants.{Done, More}
-use Rattle.sm_check.specs.Checkers.{IsAt, state_of}
 use Rattle.sm_check.proofs.CheckerLemmas.{done_told, more_told, unopened_told}
 use Rattle.sm_check.proofs.checker.Checker.state.Goals as goal
 use Rattle.sm_check.proofs.checker.Checker.state.Goals.{else-self-via-then-self+else-is_done, else-self-via-else-self}

@@ -20,7 +20,7 @@ returns c =
     let trees = trees_in s.table.now in
     let passes : Opening → List ℕ → Type 0 =
     λ (o : Opening) (bytes : List ℕ).
-    Passes (sorts_in s.table.now) trees (terms_in trees s.terms.now) s.path.now.list.items o (ended_in bytes) in
+    Passes s.exact (sorts_in s.table.now) trees (terms_in trees s.terms.now) s.path.now.list.items o (ended_in bytes) in
     IfOk-weaker c.closes.result _ _
     (λ (out : Bool) h (o : Opening) (lines : RawLines) (at : slice_get s.openings.now c.args.index ≡ Some o)
     (is : slice_get s.certificates.now c.args.index ≡ Some lines) (closes : out ≡ true).

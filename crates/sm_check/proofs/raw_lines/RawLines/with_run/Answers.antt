@@ -1,5 +1,5 @@
 -- The lines, and those behind them.
-use Rattle.std.proofs.Common.{◌++◌, ℕ, List, length, ap, ◌∙◌, arith}
+use Rattle.std.proofs.Common.{ℕ, List, length, ap, ◌∙◌, arith}
 use Rattle.std.proofs.lemmas.List.{length-append}
 use Rattle.sm_proof.specs.Verdicts.{FileLines, lines_in}
 use Rattle.sm_check.specs.LineEnds.{ended_in}

@@ -1,5 +1,5 @@
 -- One line more.
-use Rattle.std.proofs.Common.{◌+◌, ◌++◌, ◌∷◌, ℕ, List, length, ap, subst, refl, arith}
+use Rattle.std.proofs.Common.{◌++◌, ◌∷◌, ℕ, List, length, ap, subst, refl, arith}
 use Rattle.sm_check.specs.Aside.{ComesTo, StopsAt}
 use Rattle.sm_check.specs.LineEnds.{ended_in}
 use Rattle.sm_check.proofs.AsideLemmas.{next_taken, next_refused}

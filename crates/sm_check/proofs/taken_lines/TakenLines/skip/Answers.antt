@@ -27,7 +27,7 @@ loop-lines-preserved c = record {
       (next_skips c.loop-lines.self s r more c.args.certificates.now c.loop-lines.lines-index c.lines-item.result c.loop-lines-test.true
       c.lines-item.is (c.loop-lines.invariant.skips s r more t close))
       (ap (λ (n : ℕ). c.loop-lines.self.number + n) c.lines-item.result.counted)
-      (λ p first rest at is. c.in_ok-self.ensures s p first rest at is);
+      (λ exact p first rest at is. c.in_ok-self.ensures s exact p first rest at is);
 }
 
 pub returns-clause-number : goal.returns-clause-number

@@ -1,6 +1,6 @@
 -- The certificates so far are skipped.
 use Rattle.std.proofs.Common.{◌≡◌, ◌+◌, ◌++◌, ℕ, List, length, drop}
-use Rattle.sm_proof.specs.Verdicts.{Subject, Reached}
+use Rattle.sm_proof.specs.Verdicts.{Subject, Reached, reads_exact}
 use Rattle.sm_check.specs.Aside.{ComesTo, certificates_of, joined, progress_at}
 use Rattle.sm_check.specs.Closing.{CloseFirst}
 use Rattle.sm_check.proofs.AsideLemmas.{Skips}
@@ -14,6 +14,6 @@ invariant-loop-lines l = record {
   skips :
       (s : Subject) (r : Reached) (more : List (List ℕ))
       (t : ComesTo l.initial.self (joined (certificates_of l.certificates) ++ more) s r) →
-      CloseFirst s.sorts (progress_at s t.at).terms (progress_at s t.at).pending (certificates_of l.certificates) →
+      CloseFirst (reads_exact t.at) s.sorts (progress_at s t.at).terms (progress_at s t.at).pending (certificates_of l.certificates) →
       Skips l.self s r more (certificates_of (drop l.lines-index l.certificates));
 }

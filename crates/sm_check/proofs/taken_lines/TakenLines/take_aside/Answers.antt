@@ -1,5 +1,5 @@
 -- Where something is set aside, the certificates that were run are skipped, then the others are taken, then the one that is begun.
-use Rattle.std.proofs.Common.{◌≡◌, ◌+◌, ◌-◌, ◌++◌, ◌∙◌, ℕ, List, [], length, take, drop, subst, sym, ap, arith}
+use Rattle.std.proofs.Common.{◌≡◌, ◌-◌, ◌++◌, ◌∙◌, ℕ, List, [], length, take, drop, subst, sym, ap, arith}
 use Rattle.std.proofs.lemmas.List.{take_rest}
 use Rattle.sm_check.specs.declared.raw_lines.RawLines.{RawLines}
 use Rattle.sm_check.specs.Aside.{ComesTo, StopsAt, certificates_of, joined}

@@ -1,5 +1,5 @@
 -- A line of a certificate is taken as one.
-use Rattle.std.proofs.Common.{◌≡◌, sym, ap}
+use Rattle.std.proofs.Common.{ap}
 use Rattle.sm_term.specs.Tables.{sorts_in}
 use Rattle.sm_proof.specs.declared.line.Line.{Line}
 use Rattle.sm_proof.specs.Lines.{line_of}
