@@ -4,8 +4,8 @@ use Rattle.sm_term.specs.TableLaws.{Widens}
 use Rattle.sm_term.specs.Tables.{TableValue, trees_in}
 use Rattle.sm_theory.specs.declared.line.CertLine.{CertLine}
 use Rattle.sm_theory.specs.declared.line.CertLine.TheVariants as cert
-use Rattle.sm_theory.specs.Lines.{Both, Either, Cases, Order, Refl, Sym, Trans, Subst}
-use Rattle.sm_theory.specs.Lines.{Cong, Same, Apart, Hit, Miss, Lin, Elim, Tight, Close, Clash}
+use Rattle.sm_theory.specs.Lines.{Cases, Refl}
+use Rattle.sm_theory.specs.Lines.{Cong, Same, Apart, Hit, Miss, Elim}
 use Rattle.sm_theory.specs.Views.{line_in, IsLineWithin}
 use Rattle.sm_cert.specs.declared.tree.CertEnd.{CertEnd, CertEnd-F, roll-CertEnd, map-CertEnd, fold-roll-CertEnd}
 use Rattle.sm_cert.specs.declared.tree.CertEnd.TheOpen as layer
@@ -34,6 +34,7 @@ module _ (v w : TableValue) (wider : Widens v w) where
   line_stays (cert.Lin n) h = refl
   line_stays (cert.Elim m n t) h = λ i. Elim m n (tree_stays v w wider t.0 h i)
   line_stays (cert.Tight n) h = refl
+  line_stays (cert.Exact n) h = refl
   line_stays (cert.Close n) h = refl
   line_stays (cert.Clash m n) h = refl
 
@@ -61,6 +62,7 @@ module _ (v w : TableValue) (wider : Widens v w) where
   line_wider (cert.Lin n) h = tt
   line_wider (cert.Elim k n t) h = let m = longer v w wider in omega (arith, h, m)
   line_wider (cert.Tight n) h = tt
+  line_wider (cert.Exact n) h = tt
   line_wider (cert.Close n) h = tt
   line_wider (cert.Clash k n) h = tt
 

@@ -1,6 +1,7 @@
 -- A line that may stand on a branch names facts that are there, and splits it in two where it splits by its kind.
-use Rattle.std.proofs.Common.{◌≡◌, ◌⊎◌, inl, inr, ℕ, zero, suc, ◌<◌, nat_lt, Bool, true, false, ◌&&◌, if◌then◌else◌, slice_get, length}
-use Rattle.std.proofs.Common.{Option, Some, None, List, [], ◌∷◌, refl, ap, ◌∙◌, arith, lt-ltb}
+use Rattle.std.proofs.Common.{◌≡◌, ◌⊎◌, inl, inr, ℕ, zero, suc, ◌<◌, ◌^◌, nat_lt, nat_le, Bool, true, false, ◌&&◌, if◌then◌else◌}
+use Rattle.std.proofs.Common.{slice_get, length, Option, Some, None, List, [], ◌∷◌, refl, ap, ◌∙◌, arith, lt-ltb}
+use Rattle.std.proofs.lemmas.Bool.{leb-true}
 use Rattle.sm_syntax.specs.declared.tree.Sort.TheVariants.{Num}
 use Rattle.sm_syntax.specs.text.Sorts.{Sorts}
 use Rattle.sm_num.specs.Forms.{Linear}
@@ -13,13 +14,14 @@ use Rattle.sm_theory.specs.Arithmetic.{is_numeric, form_of_comparison, cancelled
 use Rattle.sm_theory.specs.Elements.{Written, written_in, read_in}
 use Rattle.sm_theory.specs.Equality.{or_other, formula_if, says_equal, say_equal, is_inhabited_list, turned_equation, turned_contrary, chained}
 use Rattle.sm_theory.specs.Equality.{substituted}
+use Rattle.sm_theory.specs.ExactLine.{forms_of_branch, exact_adds}
 use Rattle.sm_theory.specs.Facts.{BranchFact}
 use Rattle.sm_theory.specs.Lines.{CertificateLine, Both, Either, Cases, Order, Refl, Sym, Trans, Subst, Cong, Same, Apart, Hit, Miss, Lin}
-use Rattle.sm_theory.specs.Lines.{Elim, Tight, Close, Clash, followed, formula_in, form_in, formula_at, form_at, Sides, equal_sides}
+use Rattle.sm_theory.specs.Lines.{Elim, Tight, Exact, Close, Clash, followed, formula_in, form_in, formula_at, form_at, Sides, equal_sides}
 use Rattle.sm_theory.specs.Lines.{unequal_sides, equation_at, contrary_at}
+use Rattle.sm_theory.specs.Named.{facts_named}
 use Rattle.sm_theory.specs.Ways.{Ways, adding, splitting, closing_if, both_parts, either_part, ordered, adds, ways}
 use Rattle.sm_proof.specs.Named.{are_there}
-use Rattle.sm_write.specs.Writable.{facts_named}
 
 -- what is in a list stands below its length
 pub get_below : {T : Type 0} (xs : List T) (n : ℕ) (x : T) → slice_get xs n ≡ Some x → n < length xs
@@ -185,6 +187,7 @@ facts_there sorts facts (Tight n) to e =
     let a = adding_from (adds sorts facts (Tight n)) to e in
     let b = followed_from (form_at facts n) _ a.0 (added_first (followed (form_at facts n) _) a.0 a.1) in
     one_there facts n (form_there facts n b.0 b.1)
+facts_there sorts facts (Exact n) to e = refl
 facts_there sorts facts (Close n) to e =
     let a = followed_from (slice_get facts n) _ to e in
     one_there facts n (fact_there facts n a.0 a.1)
@@ -193,6 +196,21 @@ facts_there sorts facts (Clash m n) to e =
     let a = followed_from (equation_at facts m) next to e in
     two_there facts m n (equation_there facts m a.0 a.1)
     (unequal_there facts n a.0.left a.0.right (closing_from (says_equal (contrary_at facts n) a.0.left a.0.right) to a.2))
+
+-- the number of a line `exact` is short, if a line is one
+abbrev pub AreStepsShort : CertificateLine → Type 0
+AreStepsShort (Exact n) = n < 2 ^ 63
+AreStepsShort line = Unit {0}
+
+-- so it is where the line leaves ways, as it is at most 1,000,000 then
+pub steps_short : (sorts : Sorts) (facts : List BranchFact) (line : CertificateLine) (to : List (List BranchFact)) →
+    ways sorts facts line ≡ Some to → AreStepsShort line
+steps_short sorts facts (Exact n) to e =
+    let a = adding_from (adds sorts facts (Exact n)) to e in
+    let b = followed_from (forms_of_branch facts) _ a.0 (added_first (exact_adds facts n) a.0 a.1) in
+    let few = both_from (nat_le n 1000000) _ (formula_from _ form.No a.0 b.2) in
+    omega (arith, leb-true n 1000000 few.0)
+steps_short sorts facts line to e = tt
 
 -- whether a line splits a branch, by its kind alone
 abbrev pub line_splits : CertificateLine → Bool
@@ -212,6 +230,7 @@ line_splits (Miss t u n) = false
 line_splits (Lin n) = false
 line_splits (Elim m n t) = false
 line_splits (Tight n) = false
+line_splits (Exact n) = false
 line_splits (Close n) = false
 line_splits (Clash m n) = false
 
@@ -263,6 +282,7 @@ split_two sorts facts (Miss t u n) to s e = absurd cc
 split_two sorts facts (Lin n) to s e = absurd cc
 split_two sorts facts (Elim m n t) to s e = absurd cc
 split_two sorts facts (Tight n) to s e = absurd cc
+split_two sorts facts (Exact n) to s e = absurd cc
 split_two sorts facts (Close n) to s e = absurd cc
 split_two sorts facts (Clash m n) to s e = absurd cc
 

@@ -28,6 +28,7 @@ first_within count (cert.Miss t u n) h = h.0
 first_within count (cert.Lin n) h = tt
 first_within count (cert.Elim m n t) h = h
 first_within count (cert.Tight n) h = tt
+first_within count (cert.Exact n) h = tt
 first_within count (cert.Close n) h = tt
 first_within count (cert.Clash m n) h = tt
 
@@ -48,6 +49,7 @@ second_within count (cert.Miss t u n) h = h.1
 second_within count (cert.Lin n) h = tt
 second_within count (cert.Elim m n t) h = tt
 second_within count (cert.Tight n) h = tt
+second_within count (cert.Exact n) h = tt
 second_within count (cert.Close n) h = tt
 second_within count (cert.Clash m n) h = tt
 
@@ -70,6 +72,7 @@ first_each P trees (cert.Miss t u n) h = h.0
 first_each P trees (cert.Lin n) h = tt
 first_each P trees (cert.Elim m n t) h = h
 first_each P trees (cert.Tight n) h = tt
+first_each P trees (cert.Exact n) h = tt
 first_each P trees (cert.Close n) h = tt
 first_each P trees (cert.Clash m n) h = tt
 
@@ -91,6 +94,7 @@ second_each P trees (cert.Miss t u n) h = h.1
 second_each P trees (cert.Lin n) h = tt
 second_each P trees (cert.Elim m n t) h = tt
 second_each P trees (cert.Tight n) h = tt
+second_each P trees (cert.Exact n) h = tt
 second_each P trees (cert.Close n) h = tt
 second_each P trees (cert.Clash m n) h = tt
 
@@ -113,6 +117,7 @@ line_named names (cert.Miss t u n) h g = (h, g)
 line_named names (cert.Lin n) h g = tt
 line_named names (cert.Elim m n t) h g = h
 line_named names (cert.Tight n) h g = tt
+line_named names (cert.Exact n) h g = tt
 line_named names (cert.Close n) h g = tt
 line_named names (cert.Clash m n) h g = tt
 

@@ -22,8 +22,8 @@ use Rattle.sm_write.proofs.WriterSteps.{stands_line}
 pub node_stands : (s : Subject) (trees : List Tree) (v w : WriterValue) (p : Progress) (st : State) (above : ℕ) (rest : List Pending)
     (line : NodeLine) (node : plan.Node) (q : Opened) → Stands s trees v p → p.pending ≡ Due st above ∷ rest → IsNodeLineWithin line →
     named_node p.forms line ≡ Some node → is_shallow (above_opened node above) ≡ true → opened_by p.nodes st node ≡ Some q →
-    w.text ≡ v.text ++ line_text (Node line) → w.names ≡ v.names → w.terms ≡ v.terms → w.forms ≡ v.forms → suc p.nodes ≡ w.nodes →
-    Stands s trees w (after_opening p st (above_opened node above) rest q)
-node_stands s trees v w p st above rest line node q at is within named few opens text names terms forms nodes =
+    w.text ≡ v.text ++ line_text (Node line) → w.exact ≡ v.exact → w.names ≡ v.names → w.terms ≡ v.terms → w.forms ≡ v.forms →
+    suc p.nodes ≡ w.nodes → Stands s trees w (after_opening p st (above_opened node above) rest q)
+node_stands s trees v w p st above rest line node q at is within named few opens text exact names terms forms nodes =
     stands_line s trees v w p (after_opening p st (above_opened node above) rest q) (Node line) at (node_readable line within)
-    (node_step s.sorts p st above rest line node q is named few opens) text names terms forms refl refl nodes
+    (node_step s.sorts p st above rest line node q is named few opens) text exact names terms forms refl refl nodes

@@ -84,6 +84,7 @@ named_more P Q more (cert.Miss t u n) b = (more t b.0, more u b.1)
 named_more P Q more (cert.Lin n) b = tt
 named_more P Q more (cert.Elim m n t) b = more t b
 named_more P Q more (cert.Tight n) b = tt
+named_more P Q more (cert.Exact n) b = tt
 named_more P Q more (cert.Close n) b = tt
 named_more P Q more (cert.Clash m n) b = tt
 

@@ -26,7 +26,8 @@ use Rattle.sm_proof.specs.Lines as line
 use Rattle.sm_proof.specs.Named.{line_head}
 use Rattle.sm_proof.specs.Spelling.{spaced, spelled, line_words, HasKnownVersion}
 use Rattle.sm_proof.proofs.NumberLemmas.{literal_fits}
-use Rattle.sm_write.specs.Texts.{IsReadable, version_where}
+use Rattle.sm_write.specs.Texts.{IsReadable}
+use Rattle.sm_write.specs.Versions.{version_where}
 use Rattle.sm_write.specs.Writable.{AreShortNumbers}
 
 -- whether bytes have a line feed
@@ -95,6 +96,7 @@ head_fine head.Miss = (refl, omega arith)
 head_fine head.Lin = (refl, omega arith)
 head_fine head.Elim = (refl, omega arith)
 head_fine head.Tight = (refl, omega arith)
+head_fine head.Exact = (refl, omega arith)
 head_fine head.Close = (refl, omega arith)
 head_fine head.Clash = (refl, omega arith)
 
@@ -353,6 +355,7 @@ known_readable n low high =
     let known : HasKnownVersion (Header n) = (low, high) in
     record { within = within; version = known; short = short_by_count (Header n) within known (omega arith) }
 
-pub header_readable : (assumes : Bool) → IsReadable (Header (version_where assumes))
-header_readable true = known_readable 2 (omega arith) (omega arith)
-header_readable false = known_readable 1 (omega arith) (omega arith)
+pub header_readable : (exact assumes : Bool) → IsReadable (Header (version_where exact assumes))
+header_readable true assumes = known_readable 3 (omega arith) (omega arith)
+header_readable false true = known_readable 2 (omega arith) (omega arith)
+header_readable false false = known_readable 1 (omega arith) (omega arith)

@@ -1,4 +1,4 @@
--- A plan that is writable is underway where its task's start waits, and nothing but the version line is written.
+-- A plan that is writable is underway where its task's start waits, and nothing is written.
 use Rattle.std.proofs.Common.{◌≡◌, ℕ, ◌<◌, ◌^◌, nat_le, Bool, true, false, if◌then◌else◌, Some, None, List, [], ◌∷◌, ◌++◌}
 use Rattle.std.proofs.Common.{length, map, refl, sym, ap, ◌∙◌, subst, arith}
 use Rattle.sm_syntax.specs.claim.ConflictFree.{Copy, copy_of}

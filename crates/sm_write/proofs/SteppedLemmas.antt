@@ -26,20 +26,22 @@ use Rattle.sm_write.specs.Written.{Names, written}
 use Rattle.sm_write.proofs.CertSteps.{next_good, closed_good, split_good, next_taken, closed_taken, split_taken}
 use Rattle.sm_write.proofs.WalkedLemmas.{kept_none, kept_twice, seen_kept}
 use Rattle.sm_write.proofs.WriterSteps.{stands_line}
+use Rattle.sm_write.proofs.FactsThere.{AreStepsShort, steps_short}
 use Rattle.sm_write.proofs.WrittenLines.{written_readable}
 
 -- a line that was taken, with what is pending then
 line_stands : (s : Subject) (v : TableValue) (old new : WriterValue) (p : Progress) (l : CertLine) (pending : List Pending) →
-    (w : Wrote s v old new p l) → IsShortLine (line_in (trees_in v) l) →
+    (w : Wrote s v old new p l) → IsShortLine (line_in (trees_in v) l) → AreStepsShort (line_in (trees_in v) l) →
     taken s.sorts w.extends.after (Cert (written w.mid.names l)) ≡ Ok (record w.extends.after { pending = pending }) →
     Stepped s (trees_in v) old new p pending
-line_stands s v old new p l pending w short goes =
+line_stands s v old new p l pending w short few goes =
     let e = w.extends in
     record {
       after = record e.after { pending = pending };
       stands =
           stands_line s (trees_in v) w.mid new e.after (record e.after { pending = pending }) (Cert (written w.mid.names l)) e.stands
-          (written_readable (trees_in v) w.mid.names e.after.terms e.stands.names l w.named short) goes w.text w.names w.terms w.forms refl refl
+          (written_readable (trees_in v) w.mid.names e.after.terms e.stands.names l w.named short few) goes w.text w.exact
+          w.names w.terms w.forms refl refl
           (e.stands.nodes ∙ sym w.nodes);
       is = refl;
       nodes = e.adds.nodes;
@@ -54,6 +56,7 @@ pub next_stands : (s : Subject) (v : TableValue) (old new : WriterValue) (p : Pr
 next_stands s v old new p l stores facts way splits rest w due goes few short =
     let e = w.extends in
     line_stands s v old new p l (Branch stores (facts ++ way) splits ∷ rest) w short
+    (steps_short s.sorts facts (line_in (trees_in v) l) (way ∷ []) goes)
     (next_taken s.sorts (trees_in v) w.mid.names e.after stores facts splits rest l way e.stands.names w.named (e.adds.pending ∙ due) goes few)
 
 -- none
@@ -63,7 +66,7 @@ pub closed_stands : (s : Subject) (v : TableValue) (old new : WriterValue) (p : 
     Stepped s (trees_in v) old new p rest
 closed_stands s v old new p l stores facts splits rest w due goes few short =
     let e = w.extends in
-    line_stands s v old new p l rest w short
+    line_stands s v old new p l rest w short (steps_short s.sorts facts (line_in (trees_in v) l) [] goes)
     (closed_taken s.sorts (trees_in v) w.mid.names e.after stores facts splits rest l e.stands.names w.named (e.adds.pending ∙ due) goes few)
 
 -- two
@@ -76,8 +79,12 @@ pub split_stands : (s : Subject) (v : TableValue) (old new : WriterValue) (p : P
 split_stands s v old new p l stores facts way other splits rest w due goes few short =
     let e = w.extends in
     let t = split_taken s.sorts (trees_in v) w.mid.names e.after stores facts splits rest l way other e.stands.names w.named
-    (e.adds.pending ∙ due) goes few in
-    (t.0, t.1, line_stands s v old new p l (Branch stores (facts ++ way) t.0 ∷ Branch stores (facts ++ other) t.0 ∷ rest) w short t.2)
+    (e.adds.pending ∙ due) goes few in (
+      t.0,
+      t.1,
+      line_stands s v old new p l (Branch stores (facts ++ way) t.0 ∷ Branch stores (facts ++ other) t.0 ∷ rest) w short
+          (steps_short s.sorts facts (line_in (trees_in v) l) (way ∷ other ∷ []) goes) t.2,
+    )
 
 -- where something is due still, the writer can name as before
 pub set_stepped : (s : Subject) (v : TableValue) (old new : WriterValue) (seen : List State) (p : Progress) (due : Pending)

@@ -1,20 +1,24 @@
--- A text of lines that are read back passes where they lead to the end of the proof.
+-- A text of lines that are read back passes behind the line of its version, where they lead to the end of the proof.
 use Rattle.std.proofs.Common.{◌≡◌, ℕ, suc, ◌==◌, Bool, true, false, not, ◌&&◌, ◌||◌, if◌then◌else◌}
 use Rattle.std.proofs.Common.{Result, Ok, Err, List, [], ◌∷◌, ◌++◌, map, refl, ap, sym, subst, ◌∙◌}
+use Rattle.std.specs.List.{list_any}
 use Rattle.std.proofs.lemmas.List.{append_assoc}
 use Rattle.sm_syntax.specs.text.Sorts.{Sorts}
 use Rattle.sm_syntax.specs.text.Parts.{Parts}
 use Rattle.sm_proof.specs.declared.word.Word.{Word}
-use Rattle.sm_proof.specs.declared.word.Word.TheVariants.{Truncated}
+use Rattle.sm_proof.specs.declared.word.Word.TheVariants.{Truncated, BadLine}
 use Rattle.sm_proof.specs.Lines.{ProofLine, Header}
-use Rattle.sm_proof.specs.Named.{and_then}
+use Rattle.sm_proof.specs.Named.{and_then, tested_or}
 use Rattle.sm_proof.specs.Passing.{Pending, Progress, start_progress, taken}
 use Rattle.sm_proof.specs.Spelling.{spelled}
-use Rattle.sm_proof.specs.SpellingLaws.{SpelledReadsBack}
+use Rattle.sm_proof.specs.SpellingLaws.{SpelledReadsBack, ExactBegins}
 use Rattle.sm_proof.specs.Verdicts.{Subject, subject_of, passes_version, Standing, Underway, opens_if, Reached, Before, reached_after}
 use Rattle.sm_proof.specs.Verdicts.{FileLines, in_first_line, lines_in, Pass, Rejected, none_waits, verdict, verdict_at_end, Passes}
+use Rattle.sm_proof.specs.Versions.{has_exact, is_exact, may_stand, begins_exact}
 use Rattle.sm_proof.specs.Cases.{reached_on, verdict_on, AreRead, FilesAreLines}
-use Rattle.sm_write.specs.Texts.{bytes_of, IsReadable, AreReadable, advanced, version_where, version_of, Leads}
+use Rattle.sm_write.specs.Bytes.{line_text}
+use Rattle.sm_write.specs.Texts.{bytes_of, IsReadable, AreReadable, advanced, Leads}
+use Rattle.sm_write.specs.Versions.{has_exact_line, version_where, HasVersion}
 use Rattle.sm_write.proofs.SpellingLemmas.{has_feed, is_one_line, header_readable}
 
 -- the lines of bytes behind a line without a line feed
@@ -48,64 +52,127 @@ are_read : SpelledReadsBack → (lines : List ProofLine) → AreReadable lines �
 are_read back [] are = tt
 are_read back (line ∷ lines) are = (back line are.0.within are.0.version are.0.short, are_read back lines are.1)
 
--- lines that a proof comes by reach where it comes
-reach_advanced : (s : Subject) (n : ℕ) (p q : Progress) (lines : List ProofLine) → advanced s.sorts p lines ≡ Ok q →
-    (m : ℕ) × (reached_on s n (Underway p) lines ≡ Before m (Underway q))
-reach_advanced s n p q [] e = (n, ap (λ (r : Progress). Before n (Underway r)) cc)
-reach_advanced s n p q (line ∷ lines) e =
-    by (taken s.sorts p line) refl e
-    (λ (o : Progress) (h : advanced s.sorts o lines ≡ Ok q). reach_advanced s (suc n) o q lines h)
+-- they begin with the word of lines `exact` where they are such lines
+begin_exact : SpelledReadsBack → ExactBegins → (lines : List ProofLine) → AreReadable lines →
+    list_any begins_exact (map spelled lines) ≡ list_any is_exact lines
+begin_exact back begins [] are = refl
+begin_exact back begins (line ∷ lines) are =
+    let one = begins (spelled line) line (back line are.0.within are.0.version are.0.short) in
+    let more = begin_exact back begins lines are.1 in
+    λ i. one i || more i
+
+-- lines that may stand in a file that has lines `exact`, or has none
+abbrev AllMayStand : Bool → List ProofLine → Type 0
+AllMayStand exact [] = Unit {0}
+AllMayStand exact (line ∷ lines) = (may_stand exact line ≡ true) × AllMayStand exact lines
+
+-- so they may where it is told whether they have any
+may_all_stand : (exact : Bool) (lines : List ProofLine) → exact ≡ list_any is_exact lines → AllMayStand exact lines
+may_all_stand true lines e = all lines
   where
+    all : (lines : List ProofLine) → AllMayStand true lines
+    all [] = tt
+    all (line ∷ lines) = (refl, all lines)
+may_all_stand false lines e = all lines (sym e)
+  where
+    none : (b c : Bool) → (b || c) ≡ false → (not b ≡ true) × (c ≡ false)
+    none true c e = absurd cc
+    none false c e = (refl, e)
+
+    all : (lines : List ProofLine) → list_any is_exact lines ≡ false → AllMayStand false lines
+    all [] e = tt
+    all (line ∷ lines) e = let both = none (is_exact line) (list_any is_exact lines) e in (both.0, all lines both.1)
+
+-- lines that a proof comes by, and that may stand, reach where it comes
+reach_advanced : (s : Subject) (exact : Bool) (n : ℕ) (p q : Progress) (lines : List ProofLine) → AllMayStand exact lines →
+    advanced s.sorts p lines ≡ Ok q → (m : ℕ) × (reached_on s n (Underway exact p) lines ≡ Before m (Underway exact q))
+reach_advanced s exact n p q [] stand e = (n, ap (λ (r : Progress). Before n (Underway exact r)) cc)
+reach_advanced s exact n p q (line ∷ lines) stand e =
+    by (taken s.sorts p line) refl e
+    (λ (o : Progress) (h : advanced s.sorts o lines ≡ Ok q). reach_advanced s exact (suc n) o q lines stand.1 h)
+  where
+    after : Result Standing Word → Reached
+    after r = reached_after n r (λ (standing : Standing). reached_on s (suc n) standing lines)
+
     by : (r : Result Progress Word) → taken s.sorts p line ≡ r →
         and_then r (λ (o : Progress). advanced s.sorts o lines) ≡ Ok q →
-        ((o : Progress) → advanced s.sorts o lines ≡ Ok q → (m : ℕ) × (reached_on s (suc n) (Underway o) lines ≡ Before m (Underway q))) →
-        (m : ℕ) × (reached_on s n (Underway p) (line ∷ lines) ≡ Before m (Underway q))
+        ((o : Progress) → advanced s.sorts o lines ≡ Ok q →
+        (m : ℕ) × (reached_on s (suc n) (Underway exact o) lines ≡ Before m (Underway exact q))) →
+        (m : ℕ) × (reached_on s n (Underway exact p) (line ∷ lines) ≡ Before m (Underway exact q))
     by (Err w) is h go = absurd cc
     by (Ok o) is h go =
         let later = go o h in (
           later.0,
           ap
-              (λ (r : Result Progress Word). reached_after n (and_then r (λ (t : Progress). Ok (Underway t)))
-              (λ (after : Standing). reached_on s (suc n) after lines)) is
-              ∙ later.1,
+              (λ (b : Bool). after
+              (tested_or b BadLine (and_then (taken s.sorts p line) (λ (t : Progress). Ok (Underway exact t))))) stand.0
+              ∙ (ap (λ (r : Result Progress Word). after (and_then r (λ (t : Progress). Ok (Underway exact t)))) is
+              ∙ later.1),
         )
 
 -- the version of a file on a subject counts
-version_counts : (s : Subject) → passes_version s (Header (version_of s)) ≡ true
-version_counts s = by s.assumes
+version_counts : (s : Subject) (exact : Bool) → passes_version s (Header (version_where exact s.assumes)) ≡ true
+version_counts s exact = by exact s.assumes
   where
-    by : (assumes : Bool) →
-        ((version_where assumes == 2) || ((version_where assumes == 1) && not assumes)) ≡ true
-    by true = refl
-    by false = refl
+    by : (exact assumes : Bool) →
+        let version = version_where exact assumes in
+        ((version == 3) || ((version == 2) || ((version == 1) && not assumes))) ≡ true
+    by true assumes = refl
+    by false true = refl
+    by false false = refl
 
--- a file whose lines come to where nothing is pending passes
-pub leads_pass : SpelledReadsBack → FilesAreLines → (t : Parts) (text : List ℕ) (p : Progress) → Leads (subject_of t) text p →
-    p.pending ≡ [] → Passes t text
-leads_pass back same t text p lead done =
+-- and tells whether lines `exact` may stand
+version_tells : (exact assumes : Bool) → has_exact (Header (version_where exact assumes)) ≡ exact
+version_tells true assumes = refl
+version_tells false true = refl
+version_tells false false = refl
+
+-- a text behind the line of its version, where it leads to where nothing is pending
+pub record IsFile (t : Parts) (text : List ℕ) : Type 0 where
+  pub passes : Passes t text
+  pub version : HasVersion t text
+
+-- it passes, and begins with that line
+pub leads_pass : SpelledReadsBack → FilesAreLines → ExactBegins → (t : Parts) (text : List ℕ) (exact : Bool) (p : Progress) →
+    Leads (subject_of t) text exact p → p.pending ≡ [] → (file : List ℕ) →
+    file ≡ line_text (Header (version_where exact (subject_of t).assumes)) ++ text → IsFile t file
+leads_pass back same begins t text exact p lead done file is =
     let s = subject_of t in
-    let first = Header (version_of s) in
+    let first = Header (version_where exact s.assumes) in
     let lines = first ∷ lead.lines in
-    let are : AreReadable lines = (header_readable s.assumes, lead.readable) in
+    let are : AreReadable lines = (header_readable exact s.assumes, lead.readable) in
     let split = lines_spelled lines are in
-    let reached = reach_advanced s 2 (start_progress s.start) p lead.lines lead.comes in
+    let reached = reach_advanced s exact 2 (start_progress s.start) p lead.lines (may_all_stand exact lead.lines lead.told) lead.comes in
     let all : verdict s (bytes_of lines) ≡ verdict_on s lines =
     same s (bytes_of lines) lines
     (subst (λ (f : FileLines). AreRead f.ended lines) (sym split) (are_read back lines are))
     (ap (λ (f : FileLines). f.rest) split) in
-    let opened : verdict_on s lines ≡ verdict_at_end (reached_on s 2 (Underway (start_progress s.start)) lead.lines) [] =
-    ap
-    (λ (b : Bool). verdict_at_end (reached_after 1 (opens_if b s) (λ (after : Standing). reached_on s 2 after lead.lines)) [])
-    (version_counts s) in
-    ap (verdict s) lead.spells
-    ∙ (all
-    ∙ (opened
-    ∙ (ap (λ (r : Reached). verdict_at_end r []) reached.1
-    ∙ ap (λ (ps : List Pending). if none_waits ps then Pass else Rejected reached.0 Truncated) done)))
+    let next : Bool → Bool → Reached =
+    λ (counts tells : Bool). reached_after 1 (opens_if counts tells s) (λ (after : Standing). reached_on s 2 after lead.lines) in
+    let opened : verdict_on s lines ≡ verdict_at_end (reached_on s 2 (Underway exact (start_progress s.start)) lead.lines) [] =
+    λ i. verdict_at_end (next (version_counts s exact i) (version_tells exact s.assumes i)) [] in
+    let begun : file ≡ spelled first ++ 10 ∷ text = is ∙ append_assoc (spelled first) (10 ∷ []) text in
+    let spells : file ≡ bytes_of lines = begun ∙ ap (λ (b : List ℕ). spelled first ++ 10 ∷ b) lead.spells in
+    let told : has_exact_line file ≡ exact =
+    ap has_exact_line spells
+    ∙ (ap (λ (f : FileLines). list_any begins_exact f.ended) split
+    ∙ (begin_exact back begins lines are ∙ sym lead.told)) in
+    record {
+      passes =
+          ap (verdict s) spells
+          ∙ (all
+          ∙ (opened
+          ∙ (ap (λ (r : Reached). verdict_at_end r []) reached.1
+          ∙ ap (λ (ps : List Pending). if none_waits ps then Pass else Rejected reached.0 Truncated) done)));
+      version = (
+        text,
+        begun ∙ ap (λ (b : Bool). spelled (Header (version_where b s.assumes)) ++ 10 ∷ text) (sym told),
+      );
+    }
 
--- the start leads to the start
-pub leads_start : (s : Subject) → Leads s (bytes_of (Header (version_of s) ∷ [])) (start_progress s.start)
-leads_start s = record { lines = []; spells = refl; readable = tt; comes = refl }
+-- no lines lead to the start
+pub leads_start : (s : Subject) → Leads s [] false (start_progress s.start)
+leads_start s = record { lines = []; spells = refl; told = refl; readable = tt; comes = refl }
 
 -- the bytes of lines and one more
 bytes_more : (lines : List ProofLine) (line : ProofLine) → bytes_of (lines ++ line ∷ []) ≡ bytes_of lines ++ (spelled line ++ 10 ∷ [])
@@ -113,6 +180,17 @@ bytes_more [] line = refl
 bytes_more (first ∷ lines) line =
     ap (λ (b : List ℕ). spelled first ++ 10 ∷ b) (bytes_more lines line)
     ∙ sym (append_assoc (spelled first) (10 ∷ bytes_of lines) (spelled line ++ 10 ∷ []))
+
+any_more : (lines : List ProofLine) (line : ProofLine) → list_any is_exact (lines ++ line ∷ []) ≡ (is_exact line || list_any is_exact lines)
+any_more [] line = refl
+any_more (first ∷ lines) line =
+    ap (λ (b : Bool). is_exact first || b) (any_more lines line)
+    ∙ by (is_exact first) (is_exact line)
+  where
+    by : (b c : Bool) → (b || (c || list_any is_exact lines)) ≡ (c || (b || list_any is_exact lines))
+    by true true = refl
+    by true false = refl
+    by false c = refl
 
 readable_more : (lines : List ProofLine) (line : ProofLine) → AreReadable lines → IsReadable line → AreReadable (lines ++ line ∷ [])
 readable_more [] line are is = (is, tt)
@@ -136,13 +214,15 @@ advanced_more sorts p q r (first ∷ lines) line e h =
         ∙ go t g
 
 -- one line more leads on
-pub leads_on : (s : Subject) (text : List ℕ) (p q : Progress) (line : ProofLine) → Leads s text p → IsReadable line →
-    taken s.sorts p line ≡ Ok q → Leads s (text ++ (spelled line ++ 10 ∷ [])) q
-leads_on s text p q line lead is e = record {
+pub leads_on : (s : Subject) (text more : List ℕ) (exact now : Bool) (p q : Progress) (line : ProofLine) → Leads s text exact p →
+    IsReadable line → taken s.sorts p line ≡ Ok q → more ≡ text ++ line_text line → now ≡ (is_exact line || exact) → Leads s more now q
+leads_on s text more exact now p q line lead is e grown told = record {
   lines = lead.lines ++ line ∷ [];
   spells =
-      ap (λ (b : List ℕ). b ++ (spelled line ++ 10 ∷ [])) lead.spells
-      ∙ sym (bytes_more (Header (version_of s) ∷ lead.lines) line);
+      grown
+      ∙ (ap (λ (b : List ℕ). b ++ (spelled line ++ 10 ∷ [])) lead.spells
+      ∙ sym (bytes_more lead.lines line));
+  told = told ∙ (ap (λ (b : Bool). is_exact line || b) lead.told ∙ sym (any_more lead.lines line));
   readable = readable_more lead.lines line lead.readable is;
   comes = advanced_more s.sorts (start_progress s.start) p q lead.lines line lead.comes e;
 }

@@ -1,5 +1,5 @@
 -- A plan is underway after a node, and done where nothing waits.
-use Rattle.std.proofs.Common.{◌≡◌, ℕ, ◌+◌, true, Some, List, [], ◌∷◌, ◌++◌, drop, length, map, sym, ap, ◌∙◌, subst, arith}
+use Rattle.std.proofs.Common.{◌≡◌, ℕ, true, Some, List, [], ◌∷◌, ◌++◌, drop, length, map, sym, ap, ◌∙◌, subst, arith}
 use Rattle.std.specs.Prelude.{Vec}
 use Rattle.std.specs.declared.alloc.Global.{Global}
 use Rattle.std.proofs.lemmas.List.{drop_all, map-append, length-map}
@@ -181,7 +181,7 @@ goals_done s w mid new o xs count certs left g many leaves =
 
 -- where nothing waits, all lines are there
 pub underway_whole : (s : Subject) (v : TableValue) (w : WriterValue) (certs : List CertTree) → IsUnderway s v w [] certs →
-    IsWhole s w.text
+    IsWhole s w
 underway_whole s v w certs u = record { last = u.progress; leads = u.at.stands.leads; done = by u.waits u.pending u.stand }
   where
     by : (ys : List Waits) → u.progress.pending ≡ map due_for ys → AllStandFor v ys [] → u.progress.pending ≡ []

@@ -1,5 +1,5 @@
 -- Where a writer stands after one line more.
-use Rattle.std.proofs.Common.{◌≡◌, ◌≢◌, ℕ, zero, suc, ◌<◌, ◌^◌, true, false, nat_eq, Some, slice_get, Ok}
+use Rattle.std.proofs.Common.{◌≡◌, ◌≢◌, ℕ, zero, suc, ◌<◌, ◌^◌, true, false, ◌||◌, nat_eq, Some, slice_get, Ok}
 use Rattle.std.proofs.Common.{List, [], ◌∷◌, ◌++◌, length, refl, ap, sym, subst, ◌∙◌, arith, length-append}
 use Rattle.std.specs.Map.{update}
 use Rattle.std.proofs.lemmas.Map.{update_here, update_apart}
@@ -16,8 +16,9 @@ use Rattle.sm_proof.specs.FieldRanges.{IsTermLineWithin, IsFormLineWithin}
 use Rattle.sm_proof.specs.Lines.{ProofLine, Term, Form}
 use Rattle.sm_proof.specs.Passing.{Pending, Progress, term_made, form_made, taken}
 use Rattle.sm_proof.specs.Verdicts.{Subject}
+use Rattle.sm_proof.specs.Versions.{is_exact}
 use Rattle.sm_write.specs.Bytes.{line_text}
-use Rattle.sm_write.specs.Texts.{IsReadable, Leads}
+use Rattle.sm_write.specs.Texts.{IsReadable}
 use Rattle.sm_write.specs.Writers.{WriterValue, Stands, Adds}
 use Rattle.sm_write.specs.Written.{Names, AreNames}
 use Rattle.sm_write.proofs.SpellingLemmas.{term_readable, form_readable}
@@ -66,16 +67,16 @@ names_more trees names more terms t n are inside last few gains = record {
 -- a line that makes a term of the table
 pub stands_term : (s : Subject) (trees : List Tree) (v w : WriterValue) (p : Progress) (due : Pending) (rest : List Pending)
     (line : TermLine) (t : ℕ) (n : TermId) → Stands s trees v p → p.pending ≡ due ∷ rest → t < length trees → IsTermLineWithin line →
-    term_made s.sorts p.terms due line ≡ Ok (tree_at trees t) → w.text ≡ v.text ++ line_text (Term line) → n.0 ≡ v.terms →
-    suc v.terms < 2 ^ 63 → ((q : ℕ) → w.names q ≡ update nat_eq v.names t (Some n) q) → w.terms ≡ suc v.terms → w.forms ≡ v.forms →
-    w.nodes ≡ v.nodes → Stands s trees w (record p { terms = p.terms ++ tree_at trees t ∷ [] })
-stands_term s trees v w p due rest line t n at is inside within made text last few gains terms forms nodes =
+    term_made s.sorts p.terms due line ≡ Ok (tree_at trees t) → w.text ≡ v.text ++ line_text (Term line) → w.exact ≡ v.exact →
+    n.0 ≡ v.terms → suc v.terms < 2 ^ 63 → ((q : ℕ) → w.names q ≡ update nat_eq v.names t (Some n) q) → w.terms ≡ suc v.terms →
+    w.forms ≡ v.forms → w.nodes ≡ v.nodes → Stands s trees w (record p { terms = p.terms ++ tree_at trees t ∷ [] })
+stands_term s trees v w p due rest line t n at is inside within made text exact last few gains terms forms nodes =
     let q : Progress = record p { terms = p.terms ++ tree_at trees t ∷ [] } in
     let count = at.terms in
     record {
       leads =
-          subst (λ (b : List ℕ). Leads s b q) (sym text)
-          (leads_on s v.text p q (Term line) at.leads (term_readable line within) (term_step s.sorts p due rest line (tree_at trees t) is made));
+          leads_on s v.text w.text v.exact w.exact p q (Term line) at.leads (term_readable line within)
+          (term_step s.sorts p due rest line (tree_at trees t) is made) text exact;
       names = names_more trees v.names w.names p.terms t n at.names inside (last ∙ sym count) (omega (arith, count, few)) gains;
       terms = omega (arith, length-append p.terms (tree_at trees t ∷ []), count, terms);
       forms = at.forms ∙ sym forms;
@@ -85,15 +86,15 @@ stands_term s trees v w p due rest line t n at is inside within made text last f
 -- one that makes a formula
 pub stands_form : (s : Subject) (trees : List Tree) (v w : WriterValue) (p : Progress) (due : Pending) (rest : List Pending)
     (line : FormLine) (f : Assertion) → Stands s trees v p → p.pending ≡ due ∷ rest → IsFormLineWithin line →
-    form_made s.sorts p.terms p.forms line ≡ Ok f → w.text ≡ v.text ++ line_text (Form line) → w.names ≡ v.names → w.terms ≡ v.terms →
-    w.forms ≡ suc v.forms → w.nodes ≡ v.nodes → Stands s trees w (record p { forms = p.forms ++ f ∷ [] })
-stands_form s trees v w p due rest line f at is within made text names terms forms nodes =
+    form_made s.sorts p.terms p.forms line ≡ Ok f → w.text ≡ v.text ++ line_text (Form line) → w.exact ≡ v.exact → w.names ≡ v.names →
+    w.terms ≡ v.terms → w.forms ≡ suc v.forms → w.nodes ≡ v.nodes → Stands s trees w (record p { forms = p.forms ++ f ∷ [] })
+stands_form s trees v w p due rest line f at is within made text exact names terms forms nodes =
     let q : Progress = record p { forms = p.forms ++ f ∷ [] } in
     let count = at.forms in
     record {
       leads =
-          subst (λ (b : List ℕ). Leads s b q) (sym text)
-          (leads_on s v.text p q (Form line) at.leads (form_readable line within) (form_step s.sorts p due rest line f is made));
+          leads_on s v.text w.text v.exact w.exact p q (Form line) at.leads (form_readable line within)
+          (form_step s.sorts p due rest line f is made) text exact;
       names = subst (λ (o : Names). AreNames trees o p.terms) (sym names) at.names;
       terms = at.terms ∙ sym terms;
       forms = omega (arith, length-append p.forms (f ∷ []), count, forms);
@@ -102,10 +103,11 @@ stands_form s trees v w p due rest line f at is within made text names terms for
 
 -- a line after which terms and formulas are the same
 pub stands_line : (s : Subject) (trees : List Tree) (v w : WriterValue) (p q : Progress) (line : ProofLine) → Stands s trees v p →
-    IsReadable line → taken s.sorts p line ≡ Ok q → w.text ≡ v.text ++ line_text line → w.names ≡ v.names → w.terms ≡ v.terms →
-    w.forms ≡ v.forms → q.terms ≡ p.terms → q.forms ≡ p.forms → q.nodes ≡ w.nodes → Stands s trees w q
-stands_line s trees v w p q line at readable goes text names terms forms same_terms same_forms nodes = record {
-  leads = subst (λ (b : List ℕ). Leads s b q) (sym text) (leads_on s v.text p q line at.leads readable goes);
+    IsReadable line → taken s.sorts p line ≡ Ok q → w.text ≡ v.text ++ line_text line → w.exact ≡ (is_exact line || v.exact) →
+    w.names ≡ v.names → w.terms ≡ v.terms → w.forms ≡ v.forms → q.terms ≡ p.terms → q.forms ≡ p.forms → q.nodes ≡ w.nodes →
+    Stands s trees w q
+stands_line s trees v w p q line at readable goes text exact names terms forms same_terms same_forms nodes = record {
+  leads = leads_on s v.text w.text v.exact w.exact p q line at.leads readable goes text exact;
   names =
       subst (λ (o : Names). AreNames trees o q.terms) (sym names)
       (subst (AreNames trees v.names) (sym same_terms) at.names);

@@ -22,6 +22,7 @@ first_term (cert.Miss t u n) = Some t
 first_term (cert.Lin n) = None
 first_term (cert.Elim m n t) = Some t
 first_term (cert.Tight n) = None
+first_term (cert.Exact n) = None
 first_term (cert.Close n) = None
 first_term (cert.Clash m n) = None
 
@@ -43,5 +44,6 @@ second_term (cert.Miss t u n) = Some u
 second_term (cert.Lin n) = None
 second_term (cert.Elim m n t) = None
 second_term (cert.Tight n) = None
+second_term (cert.Exact n) = None
 second_term (cert.Close n) = None
 second_term (cert.Clash m n) = None

@@ -1,5 +1,5 @@
 -- Private: lines of certificates that a writer wrote, and what is pending then.
-use Rattle.std.specs.Prelude.{◌≡◌, ◌≤◌, ◌+◌, ℕ, None, List, ◌∷◌, ◌++◌}
+use Rattle.std.specs.Prelude.{◌≡◌, ◌≤◌, ◌+◌, ℕ, ◌||◌, None, List, ◌∷◌, ◌++◌}
 use Rattle.sm_syntax.specs.claim.ConflictFree.{Copy}
 use Rattle.sm_syntax.specs.text.Sorts.{Sorts}
 use Rattle.sm_term.specs.Symbolic.{SymbolicStore}
@@ -15,6 +15,7 @@ use Rattle.sm_plan.specs.States.{State}
 use Rattle.sm_proof.specs.Lines.{Cert}
 use Rattle.sm_proof.specs.Passing.{Pending, Branch, Progress}
 use Rattle.sm_proof.specs.Verdicts.{Subject}
+use Rattle.sm_proof.specs.Versions.{is_exact_step}
 use Rattle.sm_write.specs.Bytes.{line_text}
 use Rattle.sm_write.specs.Seen.{IsBuilt, Seen}
 use Rattle.sm_write.specs.Walked.{KeepsNames, Extends, IsSet}
@@ -30,6 +31,7 @@ pub record Wrote (s : Subject) (v : TableValue) (old new : WriterValue) (p : Pro
     pub extends : Extends s (trees_in v) old mid p
     pub named : IsLineNamed mid.names l
     pub text : new.text ≡ mid.text ++ line_text (Cert (written mid.names l))
+    pub exact : new.exact ≡ (is_exact_step (written mid.names l) || mid.exact)
     pub names : new.names ≡ mid.names
     pub terms : new.terms ≡ mid.terms
     pub forms : new.forms ≡ mid.forms

@@ -1,14 +1,16 @@
--- Private: texts of lines, and how far a text leads that begins with a version line.
-use Rattle.std.specs.Prelude.{◌≡◌, ℕ, ◌≤◌, Bool, if◌then◌else◌}
+-- Private: texts of lines, and how far a text leads that stands behind a version line.
+use Rattle.std.specs.Prelude.{◌≡◌, ℕ, ◌≤◌, Bool}
 use Rattle.std.specs.Prelude.{Result, Ok, List, [], ◌∷◌, ◌++◌, length}
+use Rattle.std.specs.List.{list_any}
 use Rattle.sm_syntax.specs.text.Sorts.{Sorts}
 use Rattle.sm_proof.specs.declared.word.Word.{Word}
 use Rattle.sm_proof.specs.FieldRanges.{IsWithinFields}
-use Rattle.sm_proof.specs.Lines.{ProofLine, Header}
+use Rattle.sm_proof.specs.Lines.{ProofLine}
 use Rattle.sm_proof.specs.Named.{and_then}
 use Rattle.sm_proof.specs.Passing.{Progress, start_progress, taken}
 use Rattle.sm_proof.specs.Spelling.{spelled, HasKnownVersion}
 use Rattle.sm_proof.specs.Verdicts.{Subject}
+use Rattle.sm_proof.specs.Versions.{is_exact}
 
 -- the bytes of lines, each with its line feed
 abbrev pub bytes_of : List ProofLine → List ℕ
@@ -32,17 +34,10 @@ advanced sorts p [] = Ok p
 advanced sorts p (line ∷ lines) =
     and_then (taken sorts p line) (λ (q : Progress). advanced sorts q lines)
 
--- the version of a file: 2 where the task assumes something, else 1
-abbrev pub version_where : Bool → ℕ
-version_where assumes = if assumes then 2 else 1
-
--- that of a file on a subject
-abbrev pub version_of : Subject → ℕ
-version_of s = version_where s.assumes
-
--- a text is that of the version line and of lines by which a proof comes here
-pub record Leads (s : Subject) (text : List ℕ) (p : Progress) : Type 0 where
+-- a text is that of lines by which a proof comes here, and it is told whether one is a line `exact`
+pub record Leads (s : Subject) (text : List ℕ) (exact : Bool) (p : Progress) : Type 0 where
   pub lines : List ProofLine
-  pub spells : text ≡ bytes_of (Header (version_of s) ∷ lines)
+  pub spells : text ≡ bytes_of lines
+  pub told : exact ≡ list_any is_exact lines
   pub readable : AreReadable lines
   pub comes : advanced s.sorts (start_progress s.start) lines ≡ Ok p

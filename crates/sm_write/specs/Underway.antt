@@ -82,16 +82,16 @@ pub record OpeningWritten (old new : TableValue) (before after : WriterValue) (x
       ≡ node_in (sorts_in old) (trees_in old) row
   pub writes : WritesNode old before after x.state.stores row
 
--- a writer that wrote the version line alone
+-- a writer that wrote nothing
 pub record IsFresh (s : Subject) (x : WriterValue) : Type 0 where
-  pub leads : Leads s x.text (start_progress s.start)
+  pub leads : Leads s x.text x.exact (start_progress s.start)
   pub names : (t : ℕ) → x.names t ≡ None
   pub terms : x.terms ≡ 0
   pub forms : x.forms ≡ 0
   pub nodes : x.nodes ≡ 0
 
--- a text by which a proof comes to its end
-pub record IsWhole (s : Subject) (text : List ℕ) : Type 0 where
+-- a writer that wrote lines by which a proof comes to its end
+pub record IsWhole (s : Subject) (w : WriterValue) : Type 0 where
   pub last : Progress
-  pub leads : Leads s text last
+  pub leads : Leads s w.text w.exact last
   pub done : last.pending ≡ []

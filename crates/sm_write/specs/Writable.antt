@@ -6,8 +6,8 @@ use Rattle.sm_syntax.specs.text.Sorts.{Sorts}
 use Rattle.sm_term.specs.Terms.{Tree}
 use Rattle.sm_term.specs.Assertions.{Assertion, negate}
 use Rattle.sm_theory.specs.Facts.{BranchFact, Formal, as_facts}
-use Rattle.sm_theory.specs.Lines.{CertificateLine, Both, Either, Cases, Order, Refl, Sym, Trans}
-use Rattle.sm_theory.specs.Lines.{Subst, Cong, Same, Apart, Hit, Miss, Lin, Elim, Tight, Close, Clash}
+use Rattle.sm_theory.specs.Lines.{CertificateLine}
+use Rattle.sm_theory.specs.Named.{facts_named}
 use Rattle.sm_cert.specs.Certificates.{Certificate, Next, Closed, Split, Closes}
 use Rattle.sm_cert.specs.NamedTerms.{EachTerm}
 use Rattle.sm_plan.specs.Nodes.{Node, Step, Abs, Fork, Loop, Block, Dead, Ends, Unfit}
@@ -68,33 +68,13 @@ AreKeptNameable sorts states n (node ∷ nodes) =
     EachKept (Nameable sorts (states_until states n)) node
     × AreKeptNameable sorts states (suc n) nodes
 
--- the facts that a line names
-abbrev pub facts_named : CertificateLine → List ℕ
-facts_named (Both n) = n ∷ []
-facts_named (Either n) = n ∷ []
-facts_named (Cases t u) = []
-facts_named (Order n) = n ∷ []
-facts_named (Refl t) = []
-facts_named (Sym n) = n ∷ []
-facts_named (Trans m n) = m ∷ n ∷ []
-facts_named (Subst m n) = m ∷ n ∷ []
-facts_named (Cong t u ns) = ns
-facts_named (Same t u) = []
-facts_named (Apart t u) = []
-facts_named (Hit t n) = n ∷ []
-facts_named (Miss t u n) = n ∷ []
-facts_named (Lin n) = n ∷ []
-facts_named (Elim m n t) = m ∷ n ∷ []
-facts_named (Tight n) = n ∷ []
-facts_named (Close n) = n ∷ []
-facts_named (Clash m n) = m ∷ n ∷ []
-
 -- numbers of at most 19 digits
 abbrev pub AreShortNumbers : List ℕ → Type 0
 AreShortNumbers [] = Unit {0}
 AreShortNumbers (n ∷ ns) = (n < 2 ^ 63) × AreShortNumbers ns
 
--- a line with few facts of short numbers, whose text is no longer than a line may be
+-- a line with few facts of short numbers: its text is no longer than a line may be, where it is a
+-- line of a certificate that closes its branch
 abbrev pub IsShortLine : CertificateLine → Type 0
 IsShortLine line = (length (facts_named line) ≤ 200) × AreShortNumbers (facts_named line)
 

@@ -1,5 +1,5 @@
 -- Private: how far a writer came.
-use Rattle.std.specs.Prelude.{◌≡◌, ℕ, ◌<◌, List, ◌∷◌, ◌++◌, length}
+use Rattle.std.specs.Prelude.{◌≡◌, ℕ, ◌<◌, Bool, List, ◌∷◌, ◌++◌, length}
 use Rattle.sm_term.specs.Assertions.{Assertion}
 use Rattle.sm_term.specs.Tables.{tree_at}
 use Rattle.sm_term.specs.Terms.{Tree}
@@ -10,9 +10,11 @@ use Rattle.sm_write.specs.Seen.{IsAtom, Seen}
 use Rattle.sm_write.specs.Texts.{Leads}
 use Rattle.sm_write.specs.Written.{Names, AreNames, IsNamed}
 
--- a text, the numbers that terms have in it, and how many terms, formulas and nodes it has
+-- a text, whether it has lines `exact`, the numbers that terms have in it, and how many terms,
+-- formulas and nodes it has
 pub record WriterValue : Type 0 where
   pub text : List ℕ
+  pub exact : Bool
   pub names : Names
   pub terms : ℕ
   pub forms : ℕ
@@ -20,7 +22,7 @@ pub record WriterValue : Type 0 where
 
 -- what was written leads to a proof on its way, in which terms have these numbers
 pub record Stands (s : Subject) (trees : List Tree) (w : WriterValue) (p : Progress) : Type 0 where
-  pub leads : Leads s w.text p
+  pub leads : Leads s w.text w.exact p
   pub names : AreNames trees w.names p.terms
   pub terms : length p.terms ≡ w.terms
   pub forms : length p.forms ≡ w.forms

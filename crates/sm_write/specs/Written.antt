@@ -6,7 +6,8 @@ use Rattle.sm_term.specs.Terms.{Tree}
 use Rattle.sm_theory.specs.declared.line.CertLine.{CertLine}
 use Rattle.sm_theory.specs.declared.line.CertLine.TheVariants as cert
 use Rattle.sm_proof.specs.Lines.{NumberedLine, Both, Either, Cases, Order, Refl, Sym, Trans, Subst}
-use Rattle.sm_proof.specs.Lines.{Cong, Same, Apart, Hit, Miss, Lin, Elim, Tight, Close, Clash}
+use Rattle.sm_proof.specs.Lines.{Cong, Same, Apart, Hit, Miss, Lin, Elim, Tight, Exact}
+use Rattle.sm_proof.specs.Lines.{Close, Clash}
 
 -- the numbers of terms in a file, by their numbers in a table
 abbrev pub Names : Type 0
@@ -49,6 +50,7 @@ written names (cert.Miss t u n) = Miss (file_number names t) (file_number names 
 written names (cert.Lin n) = Lin n
 written names (cert.Elim m n t) = Elim m n (file_number names t)
 written names (cert.Tight n) = Tight n
+written names (cert.Exact n) = Exact n
 written names (cert.Close n) = Close n
 written names (cert.Clash m n) = Clash m n
 
@@ -70,5 +72,6 @@ IsLineNamed names (cert.Miss t u n) = IsNamed names t × IsNamed names u
 IsLineNamed names (cert.Lin n) = Unit {0}
 IsLineNamed names (cert.Elim m n t) = IsNamed names t
 IsLineNamed names (cert.Tight n) = Unit {0}
+IsLineNamed names (cert.Exact n) = Unit {0}
 IsLineNamed names (cert.Close n) = Unit {0}
 IsLineNamed names (cert.Clash m n) = Unit {0}

@@ -2,7 +2,8 @@
 ghost use Rattle.std.specs.Prelude.{◌≡◌, ◌∷◌, ◌++◌, nat_eq, OnOk};
 ghost use Rattle.std.specs.HashMap.{get};
 ghost use Rattle.sm_proof.specs.HeadWords.{head_word};
-ghost use Rattle.sm_proof.specs.Lines.{Cert};
+ghost use Rattle.sm_proof.specs.Lines.{Cert, numbered_line};
+ghost use Rattle.sm_proof.specs.Versions.{is_exact_step};
 ghost use Rattle.sm_write.specs.Bytes.{line_text, one_word};
 ghost use Rattle.sm_write.specs.LineTerms.{first_term, second_term};
 ghost use Rattle.sm_write.specs.Written.{file_number, written};
@@ -35,6 +36,7 @@ pub(crate) fn first_term(line: &CertLine) -> Option<TermId>
         CertLine::Lin(_) => None,
         CertLine::Elim(_, _, t) => Some(*t),
         CertLine::Tight(_) => None,
+        CertLine::Exact(_) => None,
         CertLine::Close(_) => None,
         CertLine::Clash(_, _) => None,
     }
@@ -61,8 +63,19 @@ pub(crate) fn second_term(line: &CertLine) -> Option<TermId>
         CertLine::Lin(_) => None,
         CertLine::Elim(_, _, _) => None,
         CertLine::Tight(_) => None,
+        CertLine::Exact(_) => None,
         CertLine::Close(_) => None,
         CertLine::Clash(_, _) => None,
+    }
+}
+
+// Whether a line is a line `exact`.
+pub(crate) fn is_exact(line: &CertLine) -> bool
+    ensures { result ≡ is_exact_step (numbered_line line.now) }
+{
+    match line {
+        CertLine::Exact(_) => true,
+        _ => false,
     }
 }
 
@@ -139,6 +152,7 @@ pub(crate) fn put_cert(
             put_head(text, Head::Elim, &[*m, *n, a])
         }
         CertLine::Tight(n) => put_head(text, Head::Tight, &[*n]),
+        CertLine::Exact(n) => put_head(text, Head::Exact, &[*n]),
         CertLine::Close(n) => put_head(text, Head::Close, &[*n]),
         CertLine::Clash(m, n) => put_head(text, Head::Clash, &[*m, *n]),
     }

@@ -1,7 +1,8 @@
 //! Proof files, written from plans with certificates.
 //!
 //! - `write_proof` gives a text that passes, wherever the plan with its certificates is writable. It
-//!   begins with the line of version 2 where the task assumes something, and else of version 1.
+//!   begins with the line of version 3 where a line is a line `exact`, of version 2 where none is and
+//!   the task assumes something, and else of version 1.
 //! - Where a plan is writable, each of its nodes can be written, one after the other: what its kept
 //!   formula and its certificates name is built of what stood in the stores of states up to it.
 //! - `naming` gives terms numbers in the file, parts first. `forms` writes formulas, and `trees` a

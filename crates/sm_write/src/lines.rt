@@ -13,7 +13,7 @@ ghost use Rattle.sm_write.specs.Values.{value_of};
 ghost use Rattle.sm_write.specs.Walked.{Extends, IsSet};
 ghost use Rattle.sm_write.specs.Written.{IsLineNamed, IsNamed};
 
-use crate::certs::{first_term, put_cert, second_term};
+use crate::certs::{first_term, is_exact, put_cert, second_term};
 use crate::naming::name_term;
 use crate::writer::Writer;
 use sm_term::{TermId, TermTable};
@@ -74,5 +74,6 @@ pub(crate) fn write_line(
 {
     name_line(alloc, w, table, line)?;
     put_cert(&mut w.text, &w.names, line)?;
+    w.exact = is_exact(line) || w.exact;
     Ok(())
 }

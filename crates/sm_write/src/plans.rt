@@ -117,7 +117,7 @@ pub(crate) fn write_nodes(
     requires trees { AreTreesWithin (length (trees_in table.old)) certs.now }
     ensures written { (s : Subject) →
         IsUnderway s table.old (value_of w.old) (first.entry ∷ []) certs.now →
-        OnOk result (IsWhole s w.new.text.items) }
+        OnOk result (IsWhole s (value_of w.new)) }
     ensures widens { Widens table.old table.new }
 {
     let mut waiting = Vec::new(alloc);

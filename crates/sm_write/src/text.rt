@@ -3,7 +3,7 @@ ghost use Rattle.std.specs.Prelude.{◌≡◌, ◌∷◌, ◌++◌, [], OnOk, de
 ghost use Rattle.sm_proof.specs.HeadWords.{form_word, head_word, term_word};
 ghost use Rattle.sm_proof.specs.Lines.{Form, Header, Node, Term};
 ghost use Rattle.sm_write.specs.Bytes.{line_text, numbers_text, one_word, two_words};
-ghost use Rattle.sm_write.specs.Texts.{version_where};
+ghost use Rattle.sm_write.specs.Versions.{version_where};
 
 use itoa::Buffer;
 use sm_proof::{FormKind, FormLine, Head, NodeLine, TermKind, TermLine};
@@ -166,18 +166,29 @@ pub(crate) fn put_node(text: &mut Vec<u8>, line: NodeLine) -> Result<(), AllocEr
     }
 }
 
-// The version of a file for a task that assumes something, or for one that doesn't.
-fn version_where(assumes: bool) -> u64
-    ensures { result ≡ version_where assumes }
+// The version of a file that has lines `exact` or none, for a task that assumes something or nothing.
+fn version_where(has_exact: bool, assumes: bool) -> u64
+    ensures { result ≡ version_where has_exact assumes }
 {
-    if assumes { 2 } else { 1 }
+    if has_exact {
+        3
+    } else if assumes {
+        2
+    } else {
+        1
+    }
 }
 
-/// The version line of a file for a task that assumes something, or for one that doesn't.
-pub(crate) fn put_version(text: &mut Vec<u8>, assumes: bool) -> Result<(), AllocError>
+/// The version line of a file that has lines `exact` or none, for a task that assumes something or
+/// nothing.
+pub(crate) fn put_version(
+    text: &mut Vec<u8>,
+    has_exact: bool,
+    assumes: bool,
+) -> Result<(), AllocError>
     ensures { OnOk result (text.new.items
-        ≡ text.old.items ++ line_text (Header (version_where assumes))) }
+        ≡ text.old.items ++ line_text (Header (version_where has_exact assumes))) }
 {
-    let version = version_where(assumes);
+    let version = version_where(has_exact, assumes);
     put_line(text, "safemerge-proof", &[version])
 }

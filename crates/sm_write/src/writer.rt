@@ -17,11 +17,12 @@ use sm_term::TermId;
 use std::alloc::AllocError;
 use std::collections::HashMap;
 
-// A text, the number in it of each term that has one, the terms by these numbers, and how many
-// formulas and nodes it has.
+// The text behind the version line, whether it has lines `exact`, the number in it of each term that
+// has one, the terms by these numbers, and how many formulas and nodes it has.
 #[derive(Debug, Drop)]
 pub(crate) struct Writer {
     pub(crate) text: Vec<u8>,
+    pub(crate) exact: bool,
     pub(crate) names: HashMap<u64, TermId>,
     pub(crate) order: Vec<TermId>,
     pub(crate) forms: u64,

@@ -1,5 +1,5 @@
 // Proof files.
-ghost use Rattle.std.specs.Prelude.{◌≡◌, length, map, IfOk, OnErr};
+ghost use Rattle.std.specs.Prelude.{◌≡◌, ◌++◌, length, map, IfOk, OnErr};
 ghost use Rattle.sm_syntax.specs.text.Parts.{sort_of, task_of};
 ghost use Rattle.sm_syntax.specs.trees.Programs.{declared_of};
 ghost use Rattle.sm_term.specs.Tables.{trees_in, sorts_in};
@@ -7,14 +7,16 @@ ghost use Rattle.sm_term.specs.TableLaws.{Widens};
 ghost use Rattle.sm_cert.specs.Views.{certificate_in};
 ghost use Rattle.sm_plan.specs.SortedStates.{IsTaskSorted};
 ghost use Rattle.sm_plan.specs.Starts.{AreNumbered};
+ghost use Rattle.sm_proof.specs.Lines.{Header};
 ghost use Rattle.sm_proof.specs.Verdicts.{Subject, Passes};
 ghost use Rattle.sm_text.specs.Tasks.{parts_of};
 ghost use Rattle.sm_expand.specs.NumberedPlans.{IsPlanReady};
 ghost use Rattle.sm_expand.specs.Views.{numbered_plan, plan_in};
+ghost use Rattle.sm_write.specs.Bytes.{line_text};
 ghost use Rattle.sm_write.specs.TreesWithin.{AreTreesWithin};
 ghost use Rattle.sm_write.specs.Underway.{IsFresh};
 ghost use Rattle.sm_write.specs.Values.{value_of};
-ghost use Rattle.sm_write.specs.Versions.{HasVersion};
+ghost use Rattle.sm_write.specs.Versions.{HasVersion, version_where};
 ghost use Rattle.sm_write.specs.Writable.{IsWritable};
 
 use crate::plans::{Waiting, write_nodes};
@@ -28,19 +30,29 @@ use sm_term::TermTable;
 use std::alloc::{AllocError, Global};
 use std::collections::HashMap;
 
-// A writer that wrote the version line alone.
-fn fresh_writer(alloc: Global, assumes: bool) -> Result<Writer, AllocError>
-    ensures { (s : Subject) → s.assumes ≡ assumes → IfOk result (λ w. IsFresh s (value_of w)) }
+// A writer that wrote nothing.
+fn fresh_writer(alloc: Global) -> Writer
+    ensures { (s : Subject) → IsFresh s (value_of result) }
 {
-    let mut text = Vec::new(alloc);
-    put_version(&mut text, assumes)?;
-    Ok(Writer {
-        text,
+    Writer {
+        text: Vec::new(alloc),
+        exact: false,
         names: HashMap::new(alloc),
         order: Vec::new(alloc),
         forms: 0,
         nodes: 0,
-    })
+    }
+}
+
+// The file of what was written, behind the version line, which is known once all lines are.
+fn finished(alloc: Global, w: &Writer, assumes: bool) -> Result<Vec<u8>, AllocError>
+    ensures { IfOk result (λ text. text.items
+        ≡ line_text (Header (version_where w.now.exact assumes)) ++ w.now.text.items) }
+{
+    let mut text = Vec::new(alloc);
+    put_version(&mut text, w.exact, assumes)?;
+    text.extend_from_slice(w.text.as_slice())?;
+    Ok(text)
 }
 
 /// The proof file of a plan for a task, over a table of the task's declarations, with a certificate
@@ -106,11 +118,11 @@ fn written_proof(
         task.assumed.as_ref(),
         &programs,
     )?;
-    let mut w = fresh_writer(alloc, task.assumed.is_some())?;
+    let mut w = fresh_writer(alloc);
     let first = Waiting {
         state,
         cursor: start_of(plan),
     };
     write_nodes(alloc, &mut w, table, first, trees)?;
-    Ok(w.text)
+    finished(alloc, &w, task.assumed.is_some())
 }

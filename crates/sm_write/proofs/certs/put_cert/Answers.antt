@@ -84,6 +84,15 @@ returns-in-Tight c =
     (subst (λ (b : List ℕ). OnOk c.put_head-in-Tight.result (new ≡ old ++ b))
     (one_word_line (Cert (written names (v.Tight c.in-Tight.n))) (head_word head.Tight) (c.in-Tight.n ∷ []) refl) c.put_head-in-Tight.ensures)
 
+pub returns-in-Exact : goal.returns-in-Exact
+returns-in-Exact c =
+    let names = get nat_eq c.args.names.now in
+    let old = c.args.text.now.items in
+    let new = c.put_head-in-Exact.new.text.items in
+    subst (λ (l : CertLine). OnOk c.put_head-in-Exact.result (new ≡ old ++ line_text (Cert (written names l)))) (sym c.in-Exact.is)
+    (subst (λ (b : List ℕ). OnOk c.put_head-in-Exact.result (new ≡ old ++ b))
+    (one_word_line (Cert (written names (v.Exact c.in-Exact.n))) (head_word head.Exact) (c.in-Exact.n ∷ []) refl) c.put_head-in-Exact.ensures)
+
 pub returns-in-Close : goal.returns-in-Close
 returns-in-Close c =
     let names = get nat_eq c.args.names.now in

@@ -7,4 +7,4 @@ use Rattle.sm_write.proofs.forms.add_form.Goals as goal
 pub returns-clause-stands : goal.returns-clause-stands
 returns-clause-stands c s trees p due rest f at is within made =
     stands_form s trees (value_of c.args.w.now) _ p due rest c.args.line f at is within made c.in_ok-put_form.ensures refl refl
-    c.in_ok-next.ensures refl
+    refl c.in_ok-next.ensures refl

@@ -7,4 +7,4 @@ use Rattle.sm_write.proofs.nodes.add_node.Goals as goal
 pub returns-clause-stands : goal.returns-clause-stands
 returns-clause-stands c s trees p st above rest it q at is within named few opens =
     node_stands s trees (value_of c.args.w.now) _ p st above rest c.args.line it q at is within named few opens
-    c.in_ok-put_node.ensures refl refl refl (ap suc at.nodes ∙ sym c.in_ok-next.ensures)
+    c.in_ok-put_node.ensures refl refl refl refl (ap suc at.nodes ∙ sym c.in_ok-next.ensures)

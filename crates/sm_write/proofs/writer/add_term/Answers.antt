@@ -18,4 +18,4 @@ returns-clause-stands c s trees p due rest at is inside within made =
     λ (q : ℕ). c.in_ok-insert.ensures.updates.0 q
     ∙ ap (λ (m : ℕ). update nat_eq (get nat_eq c.args.w.now.names) c.args.t.0 (Some (record { 0 = m })) q) count in
     stands_term s trees (value_of c.args.w.now) _ p due rest c.args.line c.args.t.0 (record { 0 = length order }) at is inside within made
-    c.in_ok-put_term.ensures refl few names more refl refl
+    c.in_ok-put_term.ensures refl refl few names more refl refl

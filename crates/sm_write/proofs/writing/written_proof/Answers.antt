@@ -1,11 +1,14 @@
--- The start of the task waits first, and in the end nothing.
-use Rattle.std.proofs.Common.{◌≡◌, [], ◌∷◌, sym, ◌∙◌, subst}
+-- The start of the task waits first, and in the end nothing; then the version line is put before what was written.
+use Rattle.std.proofs.Common.{◌≡◌, Bool, [], ◌∷◌, ◌++◌, sym, ap, ◌∙◌, subst, IfOk}
+use Rattle.std.proofs.lemmas.Result.{IfOk-weaker}
 use Rattle.sm_term.specs.Tables.{trees_in, sorts_in}
 use Rattle.sm_plan.specs.States.{start_state}
 use Rattle.sm_plan.specs.Views.{forms_in, state_in}
 use Rattle.sm_plan.proofs.TablesWiden.{widens_twice}
+use Rattle.sm_proof.specs.Lines.{Header}
 use Rattle.sm_proof.specs.Verdicts.{subject_of}
 use Rattle.sm_proof.proofs.CasesLemmas.{files_are_lines}
+use Rattle.sm_proof.proofs.ExactLines.{exact_read}
 use Rattle.sm_proof.proofs.SpellingReadsBack.{spelled_back}
 use Rattle.sm_syntax.specs.text.Parts.{task_of}
 use Rattle.sm_text.specs.Tasks.{parts_of}
@@ -13,12 +16,13 @@ use Rattle.sm_expand.specs.NumberedPlans.{IsPlanReady}
 use Rattle.sm_expand.specs.Views.{numbered_plan}
 use Rattle.sm_expand.proofs.PlansWiden.{plan_ready}
 use Rattle.sm_write.specs.declared.plans.Waiting.{Waiting}
-use Rattle.sm_write.specs.Texts.{bytes_of}
+use Rattle.sm_write.specs.Bytes.{line_text}
 use Rattle.sm_write.specs.Underway.{IsUnderway}
 use Rattle.sm_write.specs.Values.{value_of}
+use Rattle.sm_write.specs.Versions.{version_where}
 use Rattle.sm_write.proofs.StartsUnderway.{starts_underway}
 use Rattle.sm_write.proofs.TaskStarts.{start_is, some_mapped}
-use Rattle.sm_write.proofs.TextLemmas.{leads_pass}
+use Rattle.sm_write.proofs.TextLemmas.{IsFile, leads_pass}
 use Rattle.sm_write.proofs.TreesStay.{trees_wider}
 use Rattle.sm_write.proofs.writing.written_proof.Goals as goal
 
@@ -49,14 +53,22 @@ returns c =
     let first : Waiting = record { state = c.in_ok-state.state; cursor = c.start_of.result } in
     let start : state_in (sorts_in w) (trees_in w) facts c.in_ok-state.state ≡ start_state (task_of t) =
     start_is task c.in_ok-programs.programs c.as_ref.result _ c.in_ok-programs.ensures c.as_ref.ensures.value c.in_ok-state.ensures.start in
-    let fresh = c.in_ok-w.ensures s (some_mapped task.assumed ∙ sym c.is_some.ensures) in
-    let underway : IsUnderway s w (value_of c.in_ok-w.w) (first ∷ []) c.args.trees.now =
-    starts_underway t v w c.in_ok-state.ensures.widens (value_of c.in_ok-w.w) first facts (numbered_plan c.args.plan.now) c.args.trees.now
-    c.requires.declared c.requires.sorted start c.start_of.ensures c.requires.plan c.requires.trees c.requires.writable fresh in
+    let fresh = c.fresh_writer-w.ensures s in
+    let underway : IsUnderway s w (value_of c.fresh_writer-w.result) (first ∷ []) c.args.trees.now =
+    starts_underway t v w c.in_ok-state.ensures.widens (value_of c.fresh_writer-w.result) first facts (numbered_plan c.args.plan.now)
+    c.args.trees.now c.requires.declared c.requires.sorted start c.start_of.ensures c.requires.plan c.requires.trees
+    c.requires.writable fresh in
     let whole = c.in_ok-write_nodes.ensures.written s underway in
+    let done = value_of c.write_nodes.new.w in
+    let assumes : c.is_some.result ≡ s.assumes = c.is_some.ensures ∙ sym (some_mapped task.assumed) in
+    let file : IfOk c.finished.result (λ text. IsFile t text.items) =
+    IfOk-weaker c.finished.result _ _
+    (λ text is.
+    leads_pass spelled_back files_are_lines exact_read t done.text done.exact whole.last whole.leads whole.done text.items
+    (is ∙ ap (λ (b : Bool). line_text (Header (version_where done.exact b)) ++ done.text) assumes)) c.finished.ensures in
     record {
-      passes = leads_pass spelled_back files_are_lines t c.write_nodes.new.w.text.items whole.last whole.leads whole.done;
-      version = (bytes_of whole.leads.lines, whole.leads.spells);
+      passes = IfOk-weaker c.finished.result _ _ (λ text is. is.passes) file;
+      version = IfOk-weaker c.finished.result _ _ (λ text is. is.version) file;
       widens = widens_twice v w c.write_nodes.new.table c.in_ok-state.ensures.widens c.in_ok-write_nodes.ensures.widens;
     }
 
