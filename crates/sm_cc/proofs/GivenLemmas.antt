@@ -21,7 +21,7 @@ use Rattle.sm_cc.specs.Explained.{StandAt}
 use Rattle.sm_cc.specs.Explaining.{known_fact, IsOfTerms}
 use Rattle.sm_cc.specs.Views.{ClassesValue, setting_of, assertion_given, numbers_of, IsTermOf, HaveOneSort, IsOfTwoTerms}
 use Rattle.sm_cc.specs.Assumed.{placed_for, numbers_where}
-use Rattle.sm_pairs.specs.Pairs.{is_among}
+use Rattle.sm_theory.specs.TermsOfFormulas.{is_among}
 use Rattle.sm_cc.proofs.InsideLemmas.{AreInside}
 use Rattle.sm_pairs.proofs.AmongLemmas.{one_thing}
 use Rattle.sm_cc.proofs.StandingLemmas.{among_there}

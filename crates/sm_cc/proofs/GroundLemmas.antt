@@ -32,7 +32,7 @@ use Rattle.sm_cc.specs.declared.positions.Positions.{Positions}
 use Rattle.sm_cc.specs.declared.row.Row.{Row}
 use Rattle.sm_cc.specs.declared.row.Shape.{Shape}
 use Rattle.sm_cc.specs.declared.row.Element.{Element}
-use Rattle.sm_pairs.specs.Pairs.{is_among}
+use Rattle.sm_theory.specs.TermsOfFormulas.{is_among}
 use Rattle.sm_cc.specs.Standing.{place_of, element_of, RowsStand}
 use Rattle.sm_pairs.specs.Longer.{IsLonger}
 use Rattle.sm_cc.specs.Numbered.{head_of, IsHeadAt, IsShapeAt, heads_met, parts_met}

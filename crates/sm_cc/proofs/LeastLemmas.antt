@@ -7,7 +7,8 @@ use Rattle.std.proofs.Math.Path.{fun_ext}
 use Rattle.sm_term.specs.Terms.{Tree}
 use Rattle.sm_term.specs.SameTerms.{same_tree}
 use Rattle.sm_term.proofs.SameTermsLemmas.{same_tree_is}
-use Rattle.sm_pairs.specs.Pairs.{Pairs, is_among}
+use Rattle.sm_theory.specs.TermsOfFormulas.{is_among}
+use Rattle.sm_pairs.specs.Pairs.{Pairs}
 use Rattle.sm_cc.specs.Classes.{Setting, are_apart, brings, AreClosed, Same, Apart}
 use Rattle.sm_cc.specs.Rounds.{pairs_of, is_listed, follows, are_equal}
 use Rattle.sm_cc.specs.Laws.{ClassesAreLeast}

@@ -17,7 +17,7 @@ use Rattle.sm_theory.specs.Equality.{says_equal}
 use Rattle.sm_theory.specs.Arithmetic.{compared_forms}
 use Rattle.sm_cc.specs.declared.row.Row.{Row}
 use Rattle.sm_cc.specs.Classes.{Setting, given_unequal, differ, if_there}
-use Rattle.sm_pairs.specs.Pairs.{is_among}
+use Rattle.sm_theory.specs.TermsOfFormulas.{is_among}
 use Rattle.sm_cc.specs.Rows.{Board, is_listed, rows_pass, shapes_pass, places_differ}
 use Rattle.sm_cc.specs.Standing.{place_of, RowsStand, with_places, places_given, board_for}
 use Rattle.sm_pairs.proofs.AmongLemmas.{one_thing}

@@ -17,7 +17,8 @@ use Rattle.sm_theory.specs.Elements.{Written, written_in, read_in}
 use Rattle.sm_theory.specs.Arithmetic.{compared_forms}
 use Rattle.sm_cc.specs.declared.row.Row.{Row}
 use Rattle.sm_cc.specs.declared.row.Element.{Element}
-use Rattle.sm_pairs.specs.Pairs.{Pairs, is_among}
+use Rattle.sm_theory.specs.TermsOfFormulas.{is_among}
+use Rattle.sm_pairs.specs.Pairs.{Pairs}
 use Rattle.sm_cc.specs.Classes.{Setting, given_equal, differ, are_apart, equal_lists, if_there, reads_written}
 use Rattle.sm_cc.specs.Classes.{brings, AreClosed, Same, Apart}
 use Rattle.sm_cc.specs.Rows.{PlacePairs, Board, is_listed, rows_pass, one_head, shapes_pass, places_differ, places_apart, equal_places}

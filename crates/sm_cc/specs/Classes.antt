@@ -13,7 +13,8 @@ use Rattle.sm_theory.specs.Lines.{equal_sides, unequal_sides}
 use Rattle.sm_theory.specs.Equality.{says_equal}
 use Rattle.sm_theory.specs.Elements.{Written, written_in, read_in}
 use Rattle.sm_theory.specs.Arithmetic.{compared_forms}
-use Rattle.sm_pairs.specs.Pairs.{Pairs, is_among}
+use Rattle.sm_theory.specs.TermsOfFormulas.{is_among}
+use Rattle.sm_pairs.specs.Pairs.{Pairs}
 
 -- what classes are made of: the terms, and the equations and contraries that are given
 pub record Setting : Type 0 where

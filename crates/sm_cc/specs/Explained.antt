@@ -33,19 +33,20 @@ Explain sorts numbers given start lines goal =
 abbrev pub IsListed : List TermId → TermId → Type 0
 IsListed terms t = (n : ℕ) × (slice_get terms n ≡ Some t)
 
--- the terms that a line names are in a list
+-- a line adds an equation or its contrary, and the terms that it names are in a list
 abbrev pub IsLineOf : List TermId → CertLine → Type 0
-IsLineOf terms (line.Cases t u) = IsListed terms t × IsListed terms u
 IsLineOf terms (line.Refl t) = IsListed terms t
+IsLineOf terms (line.Sym n) = Unit {0}
+IsLineOf terms (line.Trans m n) = Unit {0}
+IsLineOf terms (line.Subst m n) = Unit {0}
 IsLineOf terms (line.Cong t u ns) = IsListed terms t × IsListed terms u
 IsLineOf terms (line.Same t u) = IsListed terms t × IsListed terms u
 IsLineOf terms (line.Apart t u) = IsListed terms t × IsListed terms u
 IsLineOf terms (line.Hit t n) = IsListed terms t
 IsLineOf terms (line.Miss t u n) = IsListed terms t × IsListed terms u
-IsLineOf terms (line.Elim m n t) = IsListed terms t
-IsLineOf terms other = Unit {0}
+IsLineOf terms other = ⊥
 
--- so are those that lines name
+-- the same of lines
 abbrev pub AreLinesOf : List TermId → List CertLine → Type 0
 AreLinesOf terms [] = Unit {0}
 AreLinesOf terms (l ∷ ls) = IsLineOf terms l × AreLinesOf terms ls

@@ -8,7 +8,7 @@ use Rattle.sm_term.specs.Sorted.{tree_sort}
 use Rattle.sm_term.specs.Tables.{TableValue, trees_in, sorts_in, tree_at}
 use Rattle.sm_cc.specs.declared.classes.GivenFact.{GivenFact}
 use Rattle.sm_cc.specs.Classes.{Setting}
-use Rattle.sm_pairs.specs.Pairs.{is_among}
+use Rattle.sm_theory.specs.TermsOfFormulas.{is_among}
 
 -- the trees of terms of a table
 abbrev pub trees_of : List Tree → List TermId → List Tree

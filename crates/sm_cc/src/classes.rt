@@ -279,8 +279,8 @@ impl<'a> Classes<'a> {
     }
 
     /// Lines that explain why two terms of a class are equal. On each branch of `start` facts that
-    /// has the given ones under their numbers they add facts, the last of which is the equation. The
-    /// terms that they name are in the list.
+    /// has the given ones under their numbers they add facts, the last of which is the equation. Each
+    /// adds an equation or its contrary, and the terms that it names are in the list.
     pub fn explain(
         &self,
         alloc: Global,

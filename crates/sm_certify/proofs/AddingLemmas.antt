@@ -7,7 +7,7 @@ use Rattle.sm_term.specs.Terms.{Tree}
 use Rattle.sm_theory.specs.declared.line.CertLine.{CertLine}
 use Rattle.sm_theory.specs.Facts.{BranchFact}
 use Rattle.sm_theory.specs.Lines.{CertificateLine, Both, Either, Cases, Order, Refl, Sym, Trans, followed}
-use Rattle.sm_theory.specs.Lines.{Subst, Cong, Same, Apart, Hit, Miss, Lin, Elim, Tight, Close, Clash}
+use Rattle.sm_theory.specs.Lines.{Subst, Cong, Same, Apart, Hit, Miss, Lin, Elim, Tight, Exact, Close, Clash}
 use Rattle.sm_theory.specs.Ways.{adds, Ways, ways_with, goes_on_with, adding}
 use Rattle.sm_theory.specs.Views.{line_in}
 use Rattle.sm_cc.specs.Explained.{added_by}
@@ -55,6 +55,7 @@ module _ (sorts : Sorts) where
   way_of facts (Lin n) k e = ap adding e
   way_of facts (Elim m n t) k e = ap adding e
   way_of facts (Tight n) k e = ap adding e
+  way_of facts (Exact n) k e = ap adding e
 
   -- what the first line of some adds, and what the others add then
   pub added_first : (facts : List BranchFact) (line : CertificateLine) (lines : List CertificateLine) (more : List BranchFact) →

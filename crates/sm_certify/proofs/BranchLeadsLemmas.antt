@@ -14,7 +14,7 @@ use Rattle.sm_theory.specs.declared.line.CertLine.{CertLine}
 use Rattle.sm_theory.specs.declared.line.CertLine.TheVariants as line
 use Rattle.sm_theory.specs.Views.{line_in}
 use Rattle.sm_cc.specs.Explained.{Explain}
-use Rattle.sm_cc.specs.Views.{setting_of, equation_of, numbers_of}
+use Rattle.sm_cc.specs.Views.{ClassesValue, setting_of, equation_of, numbers_of}
 use Rattle.sm_theory.specs.Facts.{as_facts}
 use Rattle.sm_theory.specs.Lines.{Close}
 use Rattle.sm_cert.specs.Certificates.{Closed}
@@ -29,7 +29,7 @@ use Rattle.sm_judge.specs.Holding.{Seen}
 use Rattle.sm_list.specs.Parts.{all_numbered, AreFormulasWithin}
 use Rattle.sm_judge.specs.Refutations.{IsSource}
 use Rattle.sm_judge.specs.Places.{HavePlaces}
-use Rattle.sm_certify.specs.Refuting.{AreWritten, Leads, AddsEquation}
+use Rattle.sm_certify.specs.Refuting.{AreWritten, Leads, AddsEquation, AddsSource}
 use Rattle.sm_certify.proofs.EquationLemmas.{written_equation, branch_stand}
 use Rattle.sm_certify.proofs.LeadsLemmas.{leads_next, leads_skip, leads_sum, leads_skip_sum, leads_closed, leads_places}
 use Rattle.sm_certify.proofs.SourcesLemmas.{fact_makes}
@@ -155,3 +155,13 @@ module _ (table : TableValue) (fs : List Formula) (mark : ℕ → Bool) where
             moved (λ (l : List CertLine) (k : List ℕ). AreWritten b mark l k (made ++ f ∷ [])) (lines ++ ls) numbers more ns m moves
             (written_equation table terms fs whole.below (one_place trees apart) placed mark lines numbers made v t u f ls m n from.0 from.1
             from.2 from.4 adds.named explain number refl)
+
+    -- the form of a source is made
+    pub source_step : (v : ClassesValue) → IsWhole trees v.terms → v ≡ classes_by table v.terms fs → (lines more : List CertLine)
+        (numbers ns : List ℕ) (s : Source) (ss : List Source) (es : List ElimLine) (bad : ℕ) → Leads b mark lines numbers (s ∷ ss) es bad →
+        AddsSource v (length fs) s lines more numbers ns → Leads b mark more ns ss es bad
+    source_step v whole classes lines more numbers ns (source.Fact n) ss es bad d adds =
+        fact_step lines more numbers ns n ss es bad d adds
+    source_step v whole classes lines more numbers ns (source.Class t u) ss es bad d adds =
+        class_step v.terms whole lines adds.0 more numbers ns t u adds.1 ss es bad d
+        (subst (λ (w : ClassesValue). AddsEquation w (length fs) t u lines adds.0 adds.1) classes adds.2) (adds.3, adds.4)

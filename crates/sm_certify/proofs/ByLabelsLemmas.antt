@@ -14,7 +14,7 @@ use Rattle.sm_cc.specs.Rounds.{are_equal}
 use Rattle.sm_cc.specs.Views.{setting_of}
 use Rattle.sm_certify.specs.Given.{IsWhole, classes_by, branch_of}
 use Rattle.sm_judge.specs.Holding.{is_refuted, is_closed}
-use Rattle.sm_list.specs.Listing.{trees_at, numbers_of}
+use Rattle.sm_terms.specs.Listing.{trees_at, numbers_of}
 use Rattle.sm_judge.proofs.ClosingLemmas.{fact_at, some_refuted}
 use Rattle.sm_certify.proofs.GivenLemmas.{equal_seen}
 use Rattle.sm_cc.proofs.LeastLemmas.{equal_is_same}

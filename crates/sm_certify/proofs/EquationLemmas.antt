@@ -27,8 +27,8 @@ use Rattle.sm_cc.proofs.StepsLemmas.{first_behind}
 use Rattle.sm_cert.specs.Views.{AreLinesWithin}
 use Rattle.sm_certify.specs.Given.{given_from, classes_by, branch_of}
 use Rattle.sm_judge.specs.Holding.{Seen}
-use Rattle.sm_list.specs.Listing as listing
-use Rattle.sm_list.specs.Listing.{AreBelow}
+use Rattle.sm_terms.specs.Listing as listing
+use Rattle.sm_terms.specs.Listing.{AreBelow}
 use Rattle.sm_list.specs.Parts.{all_numbered, assertions_in}
 use Rattle.sm_judge.specs.Places.{HavePlaces}
 use Rattle.sm_certify.specs.Refuting.{AreWritten}
@@ -38,7 +38,7 @@ use Rattle.sm_certify.proofs.SourcesLemmas.{equation_makes}
 use Rattle.sm_certify.proofs.WrittenLemmas.{so_far, count_so_far, written_more, written_lin}
 
 -- terms of a list are terms of the table
-listed_below : (count : ℕ) (terms : List TermId) (t : TermId) → AreBelow count (listing.numbers_of terms) → IsListed terms t → t.0 < count
+pub listed_below : (count : ℕ) (terms : List TermId) (t : TermId) → AreBelow count (listing.numbers_of terms) → IsListed terms t → t.0 < count
 listed_below count [] t below at = let none = at.1 in absurd cc
 listed_below count (s ∷ terms) t below at =
     by (λ (n : ℕ) (e : slice_get terms n ≡ Some t). listed_below count terms t below.1 (n, e)) at.0 at.1
@@ -52,7 +52,7 @@ line_below : (count : ℕ) (terms : List TermId) → AreBelow count (listing.num
     IsLineWithin count l
 line_below count terms below (line.Both n) of = tt
 line_below count terms below (line.Either n) of = tt
-line_below count terms below (line.Cases t u) of = (listed_below count terms t below of.0, listed_below count terms u below of.1)
+line_below count terms below (line.Cases t u) of = absurd of
 line_below count terms below (line.Order n) of = tt
 line_below count terms below (line.Refl t) of = listed_below count terms t below of
 line_below count terms below (line.Sym n) of = tt
@@ -64,8 +64,9 @@ line_below count terms below (line.Apart t u) of = (listed_below count terms t b
 line_below count terms below (line.Hit t n) of = listed_below count terms t below of
 line_below count terms below (line.Miss t u n) of = (listed_below count terms t below of.0, listed_below count terms u below of.1)
 line_below count terms below (line.Lin n) of = tt
-line_below count terms below (line.Elim m n t) of = listed_below count terms t below of
+line_below count terms below (line.Elim m n t) of = absurd of
 line_below count terms below (line.Tight n) of = tt
+line_below count terms below (line.Exact n) of = tt
 line_below count terms below (line.Close n) of = tt
 line_below count terms below (line.Clash m n) of = tt
 
@@ -79,7 +80,7 @@ abbrev pub StandFrom : ℕ → List BranchFact → List Assertion → Type 0
 StandFrom n facts all = (k : ℕ) (a : Assertion) → slice_get all k ≡ Some a → slice_get facts (n + k) ≡ Some (Formal a)
 
 -- the given facts stand under their numbers
-given_stand : (table : TableValue) (fs : List Formula) (n : ℕ) (facts : List BranchFact) →
+pub given_stand : (table : TableValue) (fs : List Formula) (n : ℕ) (facts : List BranchFact) →
     StandFrom n facts (assertions_in (sorts_in table) (trees_in table) (all_numbered fs)) →
     StandAt facts (map (λ (g : GivenFact). g.number) (given_from n fs)) (map (assertion_given table) (given_from n fs))
 given_stand table [] n facts at = tt
@@ -120,7 +121,7 @@ module _ (table : TableValue) (terms : List TermId) (fs : List Formula)
       slice_get-longer (as_facts b.facts) (as_facts b.facts ++ more) (more, refl) k (Formal a)
       (slice_get-map Formal b.facts k ∙ ap (option_map Formal) e)
 
-  stand_first : (more : List BranchFact) → StandFrom 0 (as_facts b.facts ++ more) b.facts
+  pub stand_first : (more : List BranchFact) → StandFrom 0 (as_facts b.facts ++ more) b.facts
   stand_first more k a e =
       let here : 0 + k ≡ k = omega arith in ap (slice_get (as_facts b.facts ++ more)) here ∙ branch_stand more k a e
 

@@ -18,13 +18,14 @@ use Rattle.sm_term.proofs.SameTermsLemmas.{same_tree_is}
 use Rattle.sm_theory.specs.Lines.{equal_sides, unequal_sides}
 use Rattle.sm_theory.specs.Equality.{says_equal}
 use Rattle.sm_cc.specs.declared.classes.GivenFact.{GivenFact}
-use Rattle.sm_pairs.specs.Pairs.{Pairs, is_among}
+use Rattle.sm_theory.specs.TermsOfFormulas.{is_among}
+use Rattle.sm_pairs.specs.Pairs.{Pairs}
 use Rattle.sm_cc.specs.Classes.{Setting, are_apart}
 use Rattle.sm_cc.specs.Rounds.{are_equal}
 use Rattle.sm_cc.specs.Views.{ClassesValue, setting_of, trees_of, assertion_given, equation_under, contrary_under}
 use Rattle.sm_cc.specs.Views.{IsTermOf, IsOfTwoTerms, AreOfTwoTerms}
 use Rattle.sm_certify.specs.Given.{IsWhole, given_from, classes_by, branch_of}
-use Rattle.sm_list.specs.Listing.{trees_at, numbers_of, AreBelow}
+use Rattle.sm_terms.specs.Listing.{trees_at, numbers_of, AreBelow}
 use Rattle.sm_list.specs.Parts.{all_numbered, assertions_in, AreFormulasWithin}
 use Rattle.sm_judge.specs.Seeing.{seen_in}
 use Rattle.sm_cc.proofs.BringsLemmas.{GivesMore}

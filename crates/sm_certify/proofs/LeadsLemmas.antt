@@ -71,7 +71,7 @@ module _ (b : Seen) (mark : ℕ → Bool) where
   }
 
   -- a source can be used
-  usable : (s : Source) (f : Linear ℕ) → IsSource b s f → IsUsable b s
+  pub usable : (s : Source) (f : Linear ℕ) → IsSource b s f → IsUsable b s
   usable (source.Class t u) f from = (from.0, from.1, from.3)
   usable (source.Fact n) f from = tt
 

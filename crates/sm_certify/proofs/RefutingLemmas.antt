@@ -16,7 +16,7 @@ use Rattle.sm_theory.specs.declared.line.CertLine.{CertLine}
 use Rattle.sm_theory.specs.declared.line.CertLine.TheVariants as line
 use Rattle.sm_theory.specs.Facts.{BranchFact, Formal}
 use Rattle.sm_theory.specs.Lines.{CertificateLine, Both, Either, Cases, Order, Refl, Sym, Trans, Subst, Cong, Same, Apart, Hit, Miss}
-use Rattle.sm_theory.specs.Lines.{Lin, Elim, Tight, Close, Clash, followed, formula_in, equal_sides, unequal_sides, equation_at, contrary_at}
+use Rattle.sm_theory.specs.Lines.{Lin, Elim, Tight, Exact, Close, Clash, followed, formula_in, equal_sides, unequal_sides, equation_at, contrary_at}
 use Rattle.sm_theory.specs.Lines.{Sides}
 use Rattle.sm_theory.specs.Equality.{says_equal, formula_if, or_other}
 use Rattle.sm_theory.specs.Arithmetic.{compared_forms}
@@ -28,7 +28,7 @@ use Rattle.sm_cc.specs.Explained.{added_by, IsLineOf, AreLinesOf}
 use Rattle.sm_pairs.proofs.AmongLemmas.{one_thing}
 use Rattle.sm_cc.proofs.StandingLemmas.{both}
 use Rattle.sm_certify.specs.Refutes.{Refutes}
-use Rattle.sm_list.specs.Listing.{numbers_of, AreBelow}
+use Rattle.sm_terms.specs.Listing.{numbers_of, AreBelow}
 
 -- a line that adds a fact goes on in one way
 pub one_way : (sorts : Sorts) (facts : List BranchFact) (l : CertificateLine) (k : BranchFact) → adds sorts facts l ≡ Some k →
@@ -49,6 +49,7 @@ one_way sorts facts (Miss t u n) k e = ap adding e
 one_way sorts facts (Lin n) k e = ap adding e
 one_way sorts facts (Elim m n t) k e = ap adding e
 one_way sorts facts (Tight n) k e = ap adding e
+one_way sorts facts (Exact n) k e = ap adding e
 one_way sorts facts (Close n) k e = absurd cc
 one_way sorts facts (Clash m n) k e = absurd cc
 
@@ -141,7 +142,7 @@ module _ (count : ℕ) (terms : List TermId) (below : AreBelow count (numbers_of
   line_within : (l : CertLine) → IsLineOf terms l → IsLineWithin count l
   line_within (line.Both n) h = tt
   line_within (line.Either n) h = tt
-  line_within (line.Cases t u) h = (listed_below count terms below t h.0.0 h.0.1, listed_below count terms below u h.1.0 h.1.1)
+  line_within (line.Cases t u) h = absurd h
   line_within (line.Order n) h = tt
   line_within (line.Refl t) h = listed_below count terms below t h.0 h.1
   line_within (line.Sym n) h = tt
@@ -153,8 +154,9 @@ module _ (count : ℕ) (terms : List TermId) (below : AreBelow count (numbers_of
   line_within (line.Hit t n) h = listed_below count terms below t h.0 h.1
   line_within (line.Miss t u n) h = (listed_below count terms below t h.0.0 h.0.1, listed_below count terms below u h.1.0 h.1.1)
   line_within (line.Lin n) h = tt
-  line_within (line.Elim m n t) h = listed_below count terms below t h.0 h.1
+  line_within (line.Elim m n t) h = absurd h
   line_within (line.Tight n) h = tt
+  line_within (line.Exact n) h = tt
   line_within (line.Close n) h = tt
   line_within (line.Clash m n) h = tt
 

@@ -8,7 +8,7 @@ use Rattle.sm_term.specs.Tables.{TableValue, trees_in, sorts_in}
 use Rattle.sm_cc.specs.declared.classes.GivenFact.{GivenFact}
 use Rattle.sm_cc.specs.Views.{ClassesValue, equation_under, contrary_under}
 use Rattle.sm_judge.specs.Holding.{Seen}
-use Rattle.sm_list.specs.Listing.{trees_at, numbers_of, AreBelow}
+use Rattle.sm_terms.specs.Listing.{trees_at, numbers_of, AreBelow}
 use Rattle.sm_list.specs.Parts.{all_numbered, assertions_in}
 use Rattle.sm_syntax.specs.text.Sorts.{Sorts}
 use Rattle.sm_term.specs.Assertions.{Assertion}

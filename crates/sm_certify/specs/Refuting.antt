@@ -7,6 +7,7 @@ use Rattle.sm_term.specs.Terms.{Tree}
 use Rattle.sm_term.specs.declared.term.TermId.{TermId}
 use Rattle.sm_term.specs.Tables.{trees_in, sorts_in, tree_at}
 use Rattle.sm_theory.specs.declared.line.CertLine.{CertLine}
+use Rattle.sm_theory.specs.declared.line.CertLine.TheVariants as line
 use Rattle.sm_theory.specs.Facts.{BranchFact, Sum, as_facts}
 use Rattle.sm_theory.specs.Standing.{IsKeptFor}
 use Rattle.sm_theory.specs.Views.{line_in}
@@ -102,3 +103,13 @@ pub record AddsEquation (v : ClassesValue) (count : ℕ) (t u : TermId) (before 
       Explain (sorts_in v.table) (numbers_of v) (setting_of v).given (count + length before)
       (map (line_in (trees_in v.table)) lines) (equation_of v.table t u)
   pub number : n ≡ (count + length after) - 1
+
+-- the lines of a source go behind others, the last of which is that of its form, and the number of
+-- the form behind other numbers
+abbrev pub AddsSource :
+    ClassesValue → ℕ → Source → List CertLine → List CertLine → List ℕ → List ℕ → Type 0
+AddsSource v count (source.Fact n) before after numbers more =
+    (after ≡ before ++ line.Lin n ∷ []) × (more ≡ numbers ++ (count + length before) ∷ [])
+AddsSource v count (source.Class t u) before after numbers more =
+    (between : List CertLine) × (n : ℕ) × AddsEquation v count t u before between n
+    × (after ≡ between ++ line.Lin n ∷ []) × (more ≡ numbers ++ (count + length between) ∷ [])

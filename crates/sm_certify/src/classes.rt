@@ -9,7 +9,7 @@ ghost use Rattle.sm_cc.specs.Rounds.{are_equal};
 ghost use Rattle.sm_cc.specs.Views.{ClassesValue, setting_of};
 ghost use Rattle.sm_judge.specs.AllForms.{AreAllForms};
 ghost use Rattle.sm_certify.specs.Given.{IsWhole, given_from, classes_by, branch_of};
-ghost use Rattle.sm_list.specs.Listing.{numbers_of};
+ghost use Rattle.sm_terms.specs.Listing.{numbers_of};
 ghost use Rattle.sm_list.specs.Parts.{all_numbered, assertions_in, AreFormulasWithin};
 ghost use Rattle.sm_judge.specs.Seeing.{seen_in};
 

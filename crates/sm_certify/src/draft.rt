@@ -8,12 +8,14 @@ ghost use Rattle.sm_cc.specs.Classes.{Same};
 ghost use Rattle.sm_cc.specs.Views.{setting_of};
 ghost use Rattle.sm_cert.specs.Certificates.{Closed};
 ghost use Rattle.sm_cert.specs.Views.{lines_before, certificate_in, lines_of};
-ghost use Rattle.sm_certify.specs.Refuting.{AddsEquation, mark_at};
+ghost use Rattle.sm_certify.specs.Given.{IsWhole, classes_by, branch_of};
+ghost use Rattle.sm_certify.specs.Refuting.{IsUsable, AddsEquation, AddsSource, mark_at};
 
 use crate::marks::FormMarks;
 use sm_cc::Classes;
 use sm_cert::{CertEnd, CertLines, CertTree};
-use sm_term::TermId;
+use sm_judge::Source;
+use sm_term::{Formula, TermId, TermTable};
 use sm_theory::CertLine;
 use std::alloc::{AllocError, Global};
 
@@ -25,7 +27,7 @@ pub(crate) struct Draft {
 }
 
 // The number of the fact that the next line adds, behind `count` facts.
-fn next_number(count: u64, lines: &[CertLine]) -> u64
+pub(crate) fn next_number(count: u64, lines: &[CertLine]) -> u64
     requires { count < 2 ^ 62 }
     ensures { result ≡ count + length lines.now }
 {
@@ -80,6 +82,38 @@ pub(crate) fn add_equation<'a>(
     lines.append(&mut more)?;
     let end = next_number(count, lines);
     Ok(end.saturating_sub(1))
+}
+
+// Adds the lines of a source: what explains its equation, and the line of its form.
+pub(crate) fn add_lines_of<'a>(
+    alloc: Global,
+    classes: &Classes<'a>,
+    table: &TermTable,
+    facts: &[Formula],
+    source: Source,
+    draft: &mut Draft,
+) -> Result<(), AllocError>
+    requires whole { IsWhole (trees_in table.now) classes.now.terms }
+    requires classes { classes.now ≡ classes_by table.now classes.now.terms facts.now }
+    requires few { length facts.now < 2 ^ 62 }
+    requires usable { IsUsable (branch_of table.now facts.now) source }
+    ensures { OnOk result (AddsSource classes.now (length facts.now) source
+        draft.old.lines.items draft.new.lines.items
+        draft.old.numbers.items draft.new.numbers.items) }
+{
+    let _table = table;
+    let count = facts.len() as u64;
+    match source {
+        Source::Fact(n) => {
+            add_form(draft, CertLine::Lin(n), count)?;
+            Ok(())
+        }
+        Source::Class(t, u) => {
+            let n = add_equation(alloc, classes, &mut draft.lines, t, u, count)?;
+            add_form(draft, CertLine::Lin(n), count)?;
+            Ok(())
+        }
+    }
 }
 
 // Whether the next form is marked.

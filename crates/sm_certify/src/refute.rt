@@ -16,7 +16,7 @@ ghost use Rattle.sm_judge.specs.Refutations.{IsRefutation};
 ghost use Rattle.sm_judge.specs.Places.{HavePlaces};
 ghost use Rattle.sm_certify.specs.Refuting.{IsUsable, Leads, mark_at};
 
-use crate::draft::{Draft, add_equation, add_form, closed_tree, is_next_marked, number_at, skip};
+use crate::draft::{Draft, add_form, add_lines_of, closed_tree, is_next_marked, number_at, skip};
 use crate::marks::{FormMarks, marks_of};
 use sm_cc::Classes;
 use sm_cert::CertTree;
@@ -116,23 +116,12 @@ fn add_source<'a>(
         OnOk result (Leads (branch_of table.now facts.now) (mark_at marks.now.list.items)
         draft.new.lines.items draft.new.numbers.items rest elims bad) }
 {
-    let _table = table;
     if !is_next_marked(marks, draft) {
         skip(draft)?;
         return Ok(());
     }
-    let count = facts.len() as u64;
-    match source {
-        Source::Fact(n) => {
-            add_form(draft, CertLine::Lin(n), count)?;
-            Ok(())
-        }
-        Source::Class(t, u) => {
-            let n = add_equation(alloc, classes, &mut draft.lines, t, u, count)?;
-            add_form(draft, CertLine::Lin(n), count)?;
-            Ok(())
-        }
-    }
+    add_lines_of(alloc, classes, table, facts, source, draft)?;
+    Ok(())
 }
 
 // Adds the lines of all sums that are marked.

@@ -23,21 +23,24 @@ use Rattle.sm_solve.specs.declared.shut.Shut.{Shut}
 use Rattle.sm_judge.specs.AllForms.{AreAllForms}
 use Rattle.sm_solve.specs.AtGoal.{IsAtGoal, HasRoom, facts_without}
 use Rattle.sm_certify.specs.Bases.{IsFrom}
-use Rattle.sm_list.specs.Branches.{with_parts, with_formula, with_formulas, depth_of}
+use Rattle.sm_theory.specs.TermsOfFormulas.{with_formula, with_formulas}
+use Rattle.sm_list.specs.Branches.{with_parts, depth_of, terms_of}
 use Rattle.sm_certify.specs.Given.{classes_by, given_from}
-use Rattle.sm_list.specs.Listing.{trees_at, numbers_of, AreBelow, IsClosed}
+use Rattle.sm_terms.specs.Listing.{trees_at, numbers_of, AreBelow, IsClosed}
 use Rattle.sm_list.specs.Parts.{all_numbered, assertions_in, AreFormulasWithin}
 use Rattle.sm_list.specs.Renumbered.{AreTermsOf}
 use Rattle.sm_list.specs.Shared.{AreShared, with_those_before}
+use Rattle.sm_solve.specs.Naming.{AreNamed}
 use Rattle.sm_solve.specs.Sharing.{IsNode, room_for_goal}
 use Rattle.sm_solve.specs.Shut.{IsShut}
 use Rattle.sm_solve.proofs.GroundingLemmas.{as_many}
 use Rattle.sm_judge.proofs.LinearsLemmas.{first_forms}
+use Rattle.sm_solve.proofs.NamingLemmas.{named_root}
 use Rattle.sm_solve.proofs.NodeLemmas.{terms_there, added_behind, given_still, given_first, replaced_is, replaced_last, replaced_within}
 use Rattle.sm_solve.proofs.NodeLemmas.{always_there, put_back, cut_back}
 use Rattle.sm_list.proofs.OwnLemmas.{facts_grown, facts_within_grown}
 use Rattle.sm_list.proofs.PartsLemmas.{queue_from}
-use Rattle.sm_list.proofs.WithTermLemmas.{closed_with_formulas, closed_none}
+use Rattle.sm_terms.proofs.WithTermLemmas.{closed_with_formulas, closed_none}
 use Rattle.sm_solve.proofs.SortedLemmas.{sorted-append, sorted_with}
 
 -- a place at which something stands
@@ -394,6 +397,14 @@ goal_sorted table given form n at =
     sorted_last : (sorts : Sorts) (fs : List Assertion) (f : Assertion) → AreFormsSorted sorts fs → IsFormSorted sorts f →
         AreFormsSorted sorts (fs ++ f ∷ [])
     sorted_last sorts fs f h k = sorted-append sorts fs (f ∷ []) h (k, tt)
+
+-- its terms are those of its facts with the contrary
+pub goal_named : (table : TableValue) (given : List Assertion) (form : Assertion) (n : Node) → IsAtGoal table given form n →
+    AreNamed (trees_in n.terms.own) (assertions_in (sorts_in n.terms.own) (trees_in n.terms.own) (all_numbered n.facts.items))
+goal_named table given form n at =
+    let all = ap (λ (s : Sorts). assertions_in s (trees_in n.terms.own) (all_numbered n.facts.items)) at.shared.sorts ∙ at.facts in
+    named_root (trees_in n.terms.own) (assertions_in (sorts_in n.terms.own) (trees_in n.terms.own) (all_numbered n.facts.items))
+    (at.shared.own ∙ at.terms ∙ ap terms_of (sym all))
 
 -- there is room for a goal among the facts
 pub room_below : (table : TableValue) (given : List Assertion) (n : Node) → IsNode table given n → n.place < length n.facts.items

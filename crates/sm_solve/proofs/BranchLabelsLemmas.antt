@@ -12,7 +12,7 @@ use Rattle.sm_cc.specs.Rounds.{are_equal}
 use Rattle.sm_cc.specs.Views.{ClassesValue, setting_of}
 use Rattle.sm_certify.specs.Given.{IsWhole, classes_by}
 use Rattle.sm_judge.specs.Labelled.{AreLabels}
-use Rattle.sm_list.specs.Listing.{trees_at, numbers_of}
+use Rattle.sm_terms.specs.Listing.{trees_at, numbers_of}
 use Rattle.sm_pairs.proofs.AmongLemmas.{one_test}
 use Rattle.sm_cc.proofs.LeastLemmas.{equal_is_same}
 

@@ -3,9 +3,12 @@ pub mod AtomsLemmas
 pub mod BasesLemmas
 pub mod BranchLabelsLemmas
 pub mod ClosedLemmas
+pub mod DecidingLemmas
 pub mod GroundingLemmas
 pub mod LeadingLemmas
+pub mod NamingLemmas
 pub mod NodeLemmas
+pub mod ReadingLemmas
 pub mod ReplacedLemmas
 pub mod ShutLemmas
 pub mod SolvingLemmas

@@ -13,20 +13,20 @@ use Rattle.sm_term.specs.Heads.{arguments_of}
 use Rattle.sm_term.specs.Assertions.{Assertion, Yes, No, Eq, Ne, Le, Lt, And, Or}
 use Rattle.sm_term.specs.Formulas.{numbered, assertion_in, IsFormulaWithin}
 use Rattle.sm_cc.specs.declared.classes.GivenFact.{GivenFact}
-use Rattle.sm_pairs.specs.Pairs.{is_among}
+use Rattle.sm_theory.specs.TermsOfFormulas.{put, with_term, with_formula, with_formulas, is_among}
 use Rattle.sm_cc.specs.Ground.{AreAllGiven}
 use Rattle.sm_list.specs.Branches.{greatest_of, writes_on, parts_of, parts_of_all, depth_of, taken_apart, with_parts}
-use Rattle.sm_list.specs.Branches.{put, put_if, read_before, with_term, with_formula, with_formulas, with_reads, with_all_reads, terms_of}
+use Rattle.sm_list.specs.Branches.{put_if, read_before, with_reads, with_all_reads, terms_of}
 use Rattle.sm_certify.specs.Given.{given_from}
-use Rattle.sm_list.specs.Listing.{IsClosed}
+use Rattle.sm_terms.specs.Listing.{IsClosed}
 use Rattle.sm_list.specs.Parts.{all_numbered, assertions_in, AreFormulasWithin}
 use Rattle.sm_list.specs.Shared.{with_those_before}
 use Rattle.sm_solve.specs.Sharing.{room_for_goal}
 use Rattle.sm_list.proofs.BuiltLemmas.{FormulaAmong, FormulasAmong, formulas_among}
 use Rattle.sm_certify.proofs.GivenLemmas.{given_from-cons}
 use Rattle.sm_list.proofs.PartsLemmas.{flat_parts, shallow_below, with_parts-next, queue_from, queue_last}
-use Rattle.sm_list.proofs.WithTermLemmas.{AllOf, by_arguments, with_terms, with_term_is, put_there, put_new, same_with_term}
-use Rattle.sm_list.proofs.WithTermLemmas.{closed_none, closed_with_formulas}
+use Rattle.sm_terms.proofs.WithTermLemmas.{AllOf, by_arguments, with_terms, with_term_is, put_there, put_new, same_with_term}
+use Rattle.sm_terms.proofs.WithTermLemmas.{closed_none, closed_with_formulas}
 
 -- what is no conjunction has no parts
 no_parts : (n : Assertion) → depth_of n ≡ 0 → parts_of n ≡ []
@@ -159,7 +159,7 @@ all_parts_among : (seen : List Tree) (fs : List Assertion) → FormulasAmong see
 all_parts_among seen [] h = tt
 all_parts_among seen (f ∷ fs) h = among_both seen (parts_of f) (parts_of_all fs) (parts_among seen f h.0) (all_parts_among seen fs h.1)
 
-apart_among : (k : ℕ) (seen : List Tree) (fs : List Assertion) → FormulasAmong seen fs → FormulasAmong seen (taken_apart k fs)
+pub apart_among : (k : ℕ) (seen : List Tree) (fs : List Assertion) → FormulasAmong seen fs → FormulasAmong seen (taken_apart k fs)
 apart_among zero seen fs h = h
 apart_among (suc k) seen fs h =
     among_both seen fs (taken_apart k (parts_of_all fs)) h (apart_among k seen (parts_of_all fs) (all_parts_among seen fs h))
@@ -187,7 +187,7 @@ pub same_formulas : (fs : List Assertion) (seen : List Tree) → IsClosed seen �
 same_formulas [] seen closed h = refl
 same_formulas (f ∷ fs) seen closed h = ap (with_formulas fs) (same_formula f seen closed h.0) ∙ same_formulas fs seen closed h.1
 
-formulas-append : (fs gs : List Assertion) (seen : List Tree) → with_formulas (fs ++ gs) seen ≡ with_formulas gs (with_formulas fs seen)
+pub formulas-append : (fs gs : List Assertion) (seen : List Tree) → with_formulas (fs ++ gs) seen ≡ with_formulas gs (with_formulas fs seen)
 formulas-append [] gs seen = refl
 formulas-append (f ∷ fs) gs seen = formulas-append fs gs (with_formula f seen)
 

@@ -1,6 +1,7 @@
 -- A fact that says nothing is of no use to a certificate: what closes the branch closes each other
 -- branch on which another fact stands in its place.
 use Rattle.std.proofs.Common.{◌≡◌, ◌≢◌, ◌⊎◌, ℕ, zero, suc, ◌+◌, Bool, true, false, ◌&&◌, nat_eq, slice_get, Option, Some, None}
+use Rattle.std.specs.Prelude.{IsFalse}
 use Rattle.std.proofs.Common.{List, [], ◌∷◌, ◌++◌, length, inl, inr, refl, ap, sym, ◌∙◌, subst, arith, eq-eqb}
 use Rattle.std.proofs.lemmas.List.{length-append}
 use Rattle.std.proofs.lemmas.Bool.{and_parts, and_from, eqb-true}
@@ -14,6 +15,7 @@ use Rattle.sm_term.specs.Sorted.{tree_sort}
 use Rattle.sm_term.specs.SameTerms.{same_tree}
 use Rattle.sm_term.specs.Heads.{arguments_of, same_head}
 use Rattle.sm_theory.specs.Facts.{BranchFact, Formal, Sum, as_facts}
+use Rattle.sm_theory.specs.Named.{reads_all}
 use Rattle.sm_theory.specs.Lines.{CertificateLine, Both, Either, Cases, Order, Refl, Sym, Trans}
 use Rattle.sm_theory.specs.Lines.{Subst, Cong, Same, Apart, Hit, Miss, Lin, Elim, Tight, Close, Clash}
 use Rattle.sm_theory.specs.Lines.{followed, Sides, formula_in, form_in, equal_sides, unequal_sides, form_at, equation_at, contrary_at}
@@ -26,6 +28,7 @@ use Rattle.sm_theory.proofs.FactsLemmas.{Gives, followed_gives, gives_itself}
 use Rattle.sm_theory.proofs.EqualityLemmas.{says_moves, formula_if_moves}
 use Rattle.sm_cert.specs.declared.tree.CertTree.{CertTree}
 use Rattle.sm_cert.specs.Certificates.{Certificate, Next, Closed, Split, lines_in, in_one_way, in_no_way, in_two_ways, first_bad}
+use Rattle.sm_cert.specs.MovedTrees.{NamesWhatItReads}
 use Rattle.sm_cert.specs.Views.{certificate_in}
 use Rattle.sm_certify.specs.Refutes.{Refutes}
 use Rattle.sm_solve.specs.Walking.{ClosesIn}
@@ -111,27 +114,27 @@ reading t f g later =
     (λ (r : Tree × Tree). followed_gives (written_in r.0) (written_in r.0) (λ (w : Written). f w r.1) (λ (w : Written). g w r.1)
     (gives_itself (written_in r.0)) (λ (w : Written). later w r.1))
 
--- what theories add they add on the other branch
-adds_there : (sorts : Sorts) (facts others : List BranchFact) (line : CertificateLine) → Replaces facts others →
+-- what theories add of a line that doesn't read all facts they add on the other branch
+adds_there : (sorts : Sorts) (facts others : List BranchFact) (line : CertificateLine) → IsFalse (reads_all line) → Replaces facts others →
     Gives (adds sorts facts line) (adds sorts others line)
-adds_there sorts facts others (Refl t) same k h = h
-adds_there sorts facts others (Sym n) same k h =
+adds_there sorts facts others (Refl t) few same k h = h
+adds_there sorts facts others (Sym n) few same k h =
     at_number (λ (o : Option BranchFact). or_other (turned o) None) facts others n same refl refl k h
-adds_there sorts facts others (Trans i j) same k h =
+adds_there sorts facts others (Trans i j) few same k h =
     first_alone (equality_adds sorts facts (Trans i j)) (equality_adds sorts others (Trans i j))
     (followed_gives (equation_at facts i) (equation_at others i) (λ (s : Sides). followed (equation_at facts j) (chained s))
     (λ (s : Sides). followed (equation_at others j) (chained s)) (equations facts others i same)
     (λ (s : Sides). followed_gives (equation_at facts j) (equation_at others j) (chained s) (chained s) (equations facts others j same)
     (λ (r : Sides). gives_itself (chained s r))))
     k h
-adds_there sorts facts others (Subst i j) same k h =
+adds_there sorts facts others (Subst i j) few same k h =
     first_alone (equality_adds sorts facts (Subst i j)) (equality_adds sorts others (Subst i j))
     (followed_gives (contrary_at facts i) (contrary_at others i) (λ (s : Sides). followed (equation_at facts j) (substituted s))
     (λ (s : Sides). followed (equation_at others j) (substituted s)) (contraries facts others i same)
     (λ (s : Sides). followed_gives (equation_at facts j) (equation_at others j) (substituted s) (substituted s)
     (equations facts others j same) (λ (r : Sides). gives_itself (substituted s r))))
     k h
-adds_there sorts facts others (Cong t u ns) same k h =
+adds_there sorts facts others (Cong t u ns) few same k h =
     let here = say_equal facts ns (arguments_of t) (arguments_of u) in
     let there = say_equal others ns (arguments_of t) (arguments_of u) in
     first_alone (equality_adds sorts facts (Cong t u ns)) (equality_adds sorts others (Cong t u ns))
@@ -140,29 +143,29 @@ adds_there sorts facts others (Cong t u ns) same k h =
     (third_passes (is_inhabited_list ns) (same_head t u) here there
     (say_there facts others ns (arguments_of t) (arguments_of u) same)))
     k h
-adds_there sorts facts others (Same t u) same k h = h
-adds_there sorts facts others (Apart t u) same k h = h
-adds_there sorts facts others (Lin n) same k h =
+adds_there sorts facts others (Same t u) few same k h = h
+adds_there sorts facts others (Apart t u) few same k h = h
+adds_there sorts facts others (Lin n) few same k h =
     at_number (λ (o : Option BranchFact). or_other (followed (followed o formula_in) form_of_comparison) None) facts others n same refl refl
     k h
-adds_there sorts facts others (Elim i j t) same k h =
+adds_there sorts facts others (Elim i j t) few same k h =
     first_alone (arithmetic_adds sorts facts (Elim i j t)) (arithmetic_adds sorts others (Elim i j t))
     (followed_gives (form_at facts i) (form_at others i) (λ (f : Linear Tree). followed (form_at facts j) (cancelled t f))
     (λ (f : Linear Tree). followed (form_at others j) (cancelled t f)) (forms facts others i same)
     (λ (f : Linear Tree). followed_gives (form_at facts j) (form_at others j) (cancelled t f) (cancelled t f) (forms facts others j same)
     (λ (g : Linear Tree). gives_itself (cancelled t f g))))
     k h
-adds_there sorts facts others (Tight n) same k h =
+adds_there sorts facts others (Tight n) few same k h =
     at_number (λ (o : Option BranchFact).
     or_other (followed (followed o form_in) (λ (f : Linear Tree). Some (Sum (tightened f)))) None) facts others n same refl refl k h
-adds_there sorts facts others (Hit t n) same k h =
+adds_there sorts facts others (Hit t n) few same k h =
     reading t (λ (w : Written) (j : Tree). formula_if (says_equal (equation_at facts n) w.index j) (Eq Num t w.element))
     (λ (w : Written) (j : Tree). formula_if (says_equal (equation_at others n) w.index j) (Eq Num t w.element))
     (λ (w : Written) (j : Tree).
     formula_if_moves (says_equal (equation_at facts n) w.index j) (says_equal (equation_at others n) w.index j) (Eq Num t w.element)
     (says_moves (equation_at facts n) (equation_at others n) w.index j (equations facts others n same)))
     k h
-adds_there sorts facts others (Miss t u n) same k h =
+adds_there sorts facts others (Miss t u n) few same k h =
     reading t
     (λ (w : Written) (j : Tree).
     formula_if (says_equal (contrary_at facts n) w.index j && same_tree u (Read w.before j)) (Eq Num t u))
@@ -174,7 +177,7 @@ adds_there sorts facts others (Miss t u n) same k h =
     (first_passes (says_equal (contrary_at facts n) w.index j) (says_equal (contrary_at others n) w.index j) (same_tree u (Read w.before j))
     (says_moves (contrary_at facts n) (contrary_at others n) w.index j (contraries facts others n same))))
     k h
-adds_there sorts facts others line same k h = absurd cc
+adds_there sorts facts others line few same k h = absurd cc
 
 -- what is added
 adding_there : (o p : Option BranchFact) → Gives o p → Gives (adding o) (adding p)
@@ -260,20 +263,20 @@ parts_none None p e = (refl, e)
 parts_none (Some n) p e = absurd cc
 
 -- a certificate without a bad line has none there
-first_there : (sorts : Sorts) (facts others : List BranchFact) (n : ℕ) (c : Certificate) → Replaces facts others →
+first_there : (sorts : Sorts) (facts others : List BranchFact) (n : ℕ) (c : Certificate) → NamesWhatItReads c → Replaces facts others →
     first_bad (adds sorts) sorts facts n c ≡ None → first_bad (adds sorts) sorts others n c ≡ None
-first_there sorts facts others n (Next line c) same e =
+first_there sorts facts others n (Next line c) named same e =
     one_there (ways_with sorts facts (adds sorts facts line) line) (ways_with sorts others (adds sorts others line) line) n
     (λ (way : List BranchFact). first_bad (adds sorts) sorts (facts ++ way) (suc n) c)
     (λ (way : List BranchFact). first_bad (adds sorts) sorts (others ++ way) (suc n) c)
-    (ways_there sorts facts others (adds sorts facts line) (adds sorts others line) line same (adds_there sorts facts others line same))
+    (ways_there sorts facts others (adds sorts facts line) (adds sorts others line) line same (adds_there sorts facts others line named.0 same))
     (λ (way : List BranchFact) (h : first_bad (adds sorts) sorts (facts ++ way) (suc n) c ≡ None).
-    first_there sorts (facts ++ way) (others ++ way) (suc n) c (replaces_more facts others way same) h)
+    first_there sorts (facts ++ way) (others ++ way) (suc n) c named.1 (replaces_more facts others way same) h)
     e
-first_there sorts facts others n (Closed line) same e =
+first_there sorts facts others n (Closed line) named same e =
     none_there (ways_with sorts facts (adds sorts facts line) line) (ways_with sorts others (adds sorts others line) line) n
-    (ways_there sorts facts others (adds sorts facts line) (adds sorts others line) line same (adds_there sorts facts others line same)) e
-first_there sorts facts others n (Split line c d) same e =
+    (ways_there sorts facts others (adds sorts facts line) (adds sorts others line) line same (adds_there sorts facts others line named same)) e
+first_there sorts facts others n (Split line c d) named same e =
     let first = λ (way : List BranchFact). first_bad (adds sorts) sorts (facts ++ way) (suc n) c in
     let second = λ (way : List BranchFact). first_bad (adds sorts) sorts (facts ++ way) (suc n + lines_in c) d in
     let first_other = λ (way : List BranchFact). first_bad (adds sorts) sorts (others ++ way) (suc n) c in
@@ -281,12 +284,12 @@ first_there sorts facts others n (Split line c d) same e =
     two_there (ways_with sorts facts (adds sorts facts line) line) (ways_with sorts others (adds sorts others line) line) n
     (λ (way other : List BranchFact). or_other (first way) (second other))
     (λ (way other : List BranchFact). or_other (first_other way) (second_other other))
-    (ways_there sorts facts others (adds sorts facts line) (adds sorts others line) line same (adds_there sorts facts others line same))
+    (ways_there sorts facts others (adds sorts facts line) (adds sorts others line) line same (adds_there sorts facts others line named.0 same))
     (λ (way other : List BranchFact) (h : or_other (first way) (second other) ≡ None).
     let parts = parts_none (first way) (second other) h in
     both_none (first_other way) (second_other other)
-    (first_there sorts (facts ++ way) (others ++ way) (suc n) c (replaces_more facts others way same) parts.0)
-    (first_there sorts (facts ++ other) (others ++ other) (suc n + lines_in c) d (replaces_more facts others other same) parts.1))
+    (first_there sorts (facts ++ way) (others ++ way) (suc n) c named.1 (replaces_more facts others way same) parts.0)
+    (first_there sorts (facts ++ other) (others ++ other) (suc n + lines_in c) d named.2 (replaces_more facts others other same) parts.1))
     e
 
 -- a number is another or it isn't
@@ -301,9 +304,9 @@ same_number m n = of (nat_eq m n) refl
 pub closes_replaced : (sorts : Sorts) (facts others : List BranchFact) (place : ℕ) → length others ≡ length facts →
     slice_get facts place ≡ Some (Formal Yes) →
     ((k : ℕ) (f : BranchFact) → (k ≢ place) → slice_get facts k ≡ Some f → slice_get others k ≡ Some f) →
-    (c : Certificate) → Refutes sorts facts c → Refutes sorts others c
-closes_replaced sorts facts others place many nothing stand c closes n =
-    first_there sorts facts others n c (record { many = many; stand = λ (k : ℕ). of k (same_number k place) }) (closes n)
+    (c : Certificate) → NamesWhatItReads c → Refutes sorts facts c → Refutes sorts others c
+closes_replaced sorts facts others place many nothing stand c named closes n =
+    first_there sorts facts others n c named (record { many = many; stand = λ (k : ℕ). of k (same_number k place) }) (closes n)
   where
     of : (k : ℕ) → (k ≡ place) ⊎ (k ≢ place) → MayGive (slice_get facts k) (slice_get others k)
     of k (inl e) = inl (ap (λ (i : ℕ). slice_get facts i) e ∙ nothing)
@@ -325,10 +328,11 @@ last_replaced given f = record { many = many given; stand = stand given }
 
 -- the same of what the program has
 pub closes_in_replaced : (sorts : Sorts) (trees : List Tree) (given : List Assertion) (f : Assertion) (room : ℕ) (tree : CertTree) →
-    ClosesIn sorts trees (given ++ Yes ∷ []) room tree → ClosesIn sorts trees (given ++ f ∷ []) room tree
-closes_in_replaced sorts trees given f room tree closes = record {
+    NamesWhatItReads (certificate_in trees tree) → ClosesIn sorts trees (given ++ Yes ∷ []) room tree →
+    ClosesIn sorts trees (given ++ f ∷ []) room tree
+closes_in_replaced sorts trees given f room tree named closes = record {
   refutes = λ (n : ℕ).
-      first_there sorts (as_facts (given ++ Yes ∷ [])) (as_facts (given ++ f ∷ [])) n (certificate_in trees tree) (last_replaced given f)
+      first_there sorts (as_facts (given ++ Yes ∷ [])) (as_facts (given ++ f ∷ [])) n (certificate_in trees tree) named (last_replaced given f)
       (closes.refutes n);
   within = closes.within;
   splits = closes.splits;

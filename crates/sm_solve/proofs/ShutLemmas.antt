@@ -18,6 +18,7 @@ use Rattle.sm_term.specs.Terms.{Tree}
 use Rattle.sm_theory.specs.Facts.{as_facts}
 use Rattle.sm_cert.specs.declared.tree.CertTree.{CertTree}
 use Rattle.sm_cert.specs.Certificates.{Certificate, splits_above}
+use Rattle.sm_cert.specs.MovedTrees.{NamesWhatItReads}
 use Rattle.sm_cert.specs.Views.{certificate_in, lines_of, AreLinesWithin}
 use Rattle.sm_cc.specs.Ground.{IsLedBy}
 use Rattle.sm_cc.specs.Views.{ClassesValue}
@@ -26,28 +27,33 @@ use Rattle.sm_solve.specs.declared.node.Node.{Node}
 use Rattle.sm_judge.specs.AllForms.{AreAllForms}
 use Rattle.sm_solve.specs.AtGoal.{IsAtGoal}
 use Rattle.sm_certify.specs.Bases.{IsFrom}
-use Rattle.sm_list.specs.Branches.{with_parts, with_formulas}
+use Rattle.sm_theory.specs.TermsOfFormulas.{with_formulas}
+use Rattle.sm_list.specs.Branches.{with_parts, terms_of}
 use Rattle.sm_certify.specs.Refutes.{Refutes}
 use Rattle.sm_certify.specs.Given.{classes_by}
 use Rattle.sm_judge.specs.Holding.{Seen, is_closed, split_of}
 use Rattle.sm_certify.specs.Given.{seen_by}
-use Rattle.sm_list.specs.Listing.{numbers_of}
+use Rattle.sm_terms.specs.Listing.{numbers_of}
 use Rattle.sm_list.specs.Parts.{all_numbered, assertions_in, AreFormulasWithin}
 use Rattle.sm_list.specs.Renumbered.{AreTermsOf}
 use Rattle.sm_list.specs.Shared.{AreShared}
+use Rattle.sm_solve.specs.Naming.{AreNamed}
 use Rattle.sm_solve.specs.Sharing.{IsNode, room_for_goal}
 use Rattle.sm_solve.specs.Shut.{IsShut, IsBelow}
 use Rattle.sm_solve.specs.Walking.{ClosesIn}
 use Rattle.sm_judge.specs.Forms.{Walked, Closes, by_forms, forms_of}
-use Rattle.sm_solve.specs.Walk.{by_classes, by_parts, walk_from}
+use Rattle.sm_solve.specs.declared.reach.Reach.{Reach}
+use Rattle.sm_solve.specs.Walk.{by_classes, by_no_split, by_parts, walk_from}
 use Rattle.sm_solve.proofs.AtGoalLemmas.{own_grows, counted_longer, count_of}
 use Rattle.sm_solve.proofs.AtomsLemmas.{more_atoms}
 use Rattle.sm_solve.proofs.ClosedLemmas.{closed_more, parts_among}
 use Rattle.sm_judge.proofs.CountedLemmas.{counted_on}
 use Rattle.sm_certify.proofs.GivenLemmas.{all_whole}
-use Rattle.sm_list.proofs.ListingLemmas.{below_grown, same_grown}
+use Rattle.sm_terms.proofs.ListingLemmas.{below_grown, same_grown}
+use Rattle.sm_solve.proofs.NamingLemmas.{named_root}
 use Rattle.sm_solve.proofs.ReplacedLemmas.{closes_in_replaced}
 use Rattle.sm_solve.proofs.SortedLemmas.{sorted-append, sorted_with}
+use Rattle.sm_solve.proofs.WalkingLemmas.{closed_told, open_told}
 
 -- the classes of a node are those of its facts
 pub node_led : (table : TableValue) (given : List Assertion) (n : Node) → IsNode table given n →
@@ -80,6 +86,14 @@ node_sorted table given n is =
     let all = sorted_with (sorts_in table) (given ++ Yes ∷ []) (sorted-append (sorts_in table) given (Yes ∷ []) is.sorted (tt, tt)) in
     subst (λ (s : Sorts). AreFormsSorted s (assertions_in s (trees_in n.terms.own) (all_numbered n.facts.items))) (sym is.shared.sorts)
     (subst (AreFormsSorted (sorts_in table)) (sym is.facts) all)
+
+-- its terms are those of its facts
+pub node_named : (table : TableValue) (given : List Assertion) (n : Node) → IsNode table given n →
+    AreNamed (trees_in n.terms.own) (assertions_in (sorts_in n.terms.own) (trees_in n.terms.own) (all_numbered n.facts.items))
+node_named table given n is =
+    let all = ap (λ (s : Sorts). assertions_in s (trees_in n.terms.own) (all_numbered n.facts.items)) is.shared.sorts ∙ is.facts in
+    named_root (trees_in n.terms.own) (assertions_in (sorts_in n.terms.own) (trees_in n.terms.own) (all_numbered n.facts.items))
+    (is.shared.own ∙ sym is.unread ∙ ap terms_of (sym all))
 
 -- what is found of the facts of a node is noted
 pub node_shut : (table : TableValue) (given : List Assertion) (n m : Node) → m.terms ≡ n.terms → m.forms ≡ n.forms → m.facts ≡ n.facts →
@@ -140,31 +154,29 @@ goal_below table given form n at sorts same = record {
 }
 
 -- where the visit of a branch closes it, so does the walk
-pub visit_walks : (sorts : Sorts) (terms : List Tree) (steps n : ℕ) (facts : List Assertion) → 1 ≤ steps →
-    by_classes (walk_from sorts terms steps 1000) steps (seen_by sorts terms facts) 1 ≡ Closes n →
-    walk_from sorts terms steps 1001 0 facts ≡ Closes n
-visit_walks sorts terms steps n facts some visit =
-    counted_on steps 0 (by_classes (walk_from sorts terms steps 1000) steps (seen_by sorts terms facts)) (omega (arith, some)) ∙ visit
+pub visit_walks : (sorts : Sorts) (terms : List Tree) (reach : Reach) (n : ℕ) (facts : List Assertion) → 1 ≤ reach.steps →
+    by_classes (walk_from sorts terms reach 1000) reach (seen_by sorts terms facts) 1 ≡ Closes n →
+    walk_from sorts terms reach 1001 0 facts ≡ Closes n
+visit_walks sorts terms reach n facts some visit =
+    counted_on reach.steps 0 (by_classes (walk_from sorts terms reach 1000) reach (seen_by sorts terms facts)) (omega (arith, some)) ∙ visit
 
 -- a branch that is closed by its classes closes at once
-pub closed_walks : (go : ℕ → List Assertion → Walked) (steps : ℕ) (b : Seen) → is_closed b ≡ true → by_classes go steps b 1 ≡ Closes 1
-closed_walks go steps b closed =
-    ap (λ (c : Bool). if c then Closes 1 else by_forms steps 1 (length b.terms) (forms_of b) (by_parts go b.facts (split_of b))) closed
+pub closed_walks : (go : ℕ → List Assertion → Walked) (reach : Reach) (b : Seen) → is_closed b ≡ true → by_classes go reach b 1 ≡ Closes 1
+closed_walks go reach b closed = closed_told go reach 1 b (sym closed)
 
 -- a branch whose forms come to a contradiction closes with its count
-pub sums_walk : (go : ℕ → List Assertion → Walked) (steps n : ℕ) (b : Seen) → is_closed b ≡ false →
-    ((next : ℕ → Walked) → by_forms steps 1 (length b.terms) (forms_of b) next ≡ Closes n) → by_classes go steps b 1 ≡ Closes n
-sums_walk go steps n b not_closed sums =
-    ap (λ (c : Bool). if c then Closes 1 else by_forms steps 1 (length b.terms) (forms_of b) (by_parts go b.facts (split_of b))) not_closed
-    ∙ sums (by_parts go b.facts (split_of b))
+pub sums_walk : (go : ℕ → List Assertion → Walked) (reach : Reach) (n : ℕ) (b : Seen) → is_closed b ≡ false →
+    ((next : ℕ → Walked) → by_forms reach.steps 1 (length b.terms) (forms_of b) next ≡ Closes n) → by_classes go reach b 1 ≡ Closes n
+sums_walk go reach n b not_closed sums =
+    open_told go reach 1 b (sym not_closed) ∙ sums (by_parts go (by_no_split reach b) b.facts (split_of b))
 
 -- a branch whose forms come to a contradiction closes, by its classes or with its count
-pub closes_either : (go : ℕ → List Assertion → Walked) (steps count : ℕ) (b : Seen) →
-    ((next : ℕ → Walked) → by_forms steps 1 (length b.terms) (forms_of b) next ≡ Closes count) →
-    (n : ℕ) × (by_classes go steps b 1 ≡ Closes n)
-closes_either go steps count b sums =
-    ⊎_elim (λ (e : is_closed b ≡ true). (1, closed_walks go steps b e))
-    (λ (e : is_closed b ≡ false). (count, sums_walk go steps count b e sums))
+pub closes_either : (go : ℕ → List Assertion → Walked) (reach : Reach) (count : ℕ) (b : Seen) →
+    ((next : ℕ → Walked) → by_forms reach.steps 1 (length b.terms) (forms_of b) next ≡ Closes count) →
+    (n : ℕ) × (by_classes go reach b 1 ≡ Closes n)
+closes_either go reach count b sums =
+    ⊎_elim (λ (e : is_closed b ≡ true). (1, closed_walks go reach b e))
+    (λ (e : is_closed b ≡ false). (count, sums_walk go reach count b e sums))
     (cases_Bool (is_closed b))
 
 -- a contradiction of forms is met over more terms, too
@@ -220,10 +232,11 @@ shut_by_forms steps count atoms o fs is sums =
 
 -- a certificate of facts closes the branch that has another in the place of what always holds, over more terms
 pub closes_on : (sorts : Sorts) (first trees : List Tree) (given : List Assertion) (f : Assertion) (old new : CertTree) →
-    ClosesIn sorts first (given ++ Yes ∷ []) 1 old → certificate_in trees new ≡ certificate_in first old →
+    ClosesIn sorts first (given ++ Yes ∷ []) 1 old → NamesWhatItReads (certificate_in first old) →
+    certificate_in trees new ≡ certificate_in first old →
     AreLinesWithin (length trees) (lines_of new) → ClosesIn sorts trees (given ++ f ∷ []) 1001 new
-closes_on sorts first trees given f old new closes same within =
-    let is = closes_in_replaced sorts first given f 1 old closes in
+closes_on sorts first trees given f old new closes named same within =
+    let is = closes_in_replaced sorts first given f 1 old named closes in
     let few = is.splits in
     let splits = ap splits_above same in
     record {

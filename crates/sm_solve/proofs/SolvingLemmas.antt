@@ -23,6 +23,7 @@ use Rattle.sm_solve.specs.Answers.{Certifies}
 use Rattle.sm_list.specs.Branches.{with_parts, terms_of}
 use Rattle.sm_certify.specs.Refutes.{Refutes}
 use Rattle.sm_list.specs.Parts.{all_numbered, assertions_in, AreFormulasWithin}
+use Rattle.sm_solve.specs.declared.reach.Reach.{Reach}
 use Rattle.sm_solve.specs.Walk.{walk_from}
 use Rattle.sm_solve.specs.Walking.{ClosesIn, Shows}
 use Rattle.sm_list.proofs.PartsLemmas.{within-append}
@@ -71,13 +72,13 @@ given_sorted sorts facts goal h k =
     sorted_with sorts (facts ++ negate goal ∷ []) (sorted-append sorts facts (negate goal ∷ []) h (sorted_contrary sorts goal k, tt))
 
 -- the walk over the terms of the facts alone
-pub walk_own : (sorts own : Sorts) (trees : List Tree) (steps : ℕ) (facts all given : List Assertion) → own ≡ sorts → trees ≡ terms_of all →
-    facts ≡ all → all ≡ given → walk_from own trees steps 1001 0 facts ≡ walk_from sorts (terms_of given) steps 1001 0 given
-walk_own sorts own trees steps facts all given same terms are is =
-    ap (λ (s : Sorts). walk_from s trees steps 1001 0 facts) same
-    ∙ ap (λ (ts : List Tree). walk_from sorts ts steps 1001 0 facts) terms
-    ∙ ap (walk_from sorts (terms_of all) steps 1001 0) are
-    ∙ ap (λ (fs : List Assertion). walk_from sorts (terms_of fs) steps 1001 0 fs) is
+pub walk_own : (sorts own : Sorts) (trees : List Tree) (reach : Reach) (facts all given : List Assertion) → own ≡ sorts → trees ≡ terms_of all →
+    facts ≡ all → all ≡ given → walk_from own trees reach 1001 0 facts ≡ walk_from sorts (terms_of given) reach 1001 0 given
+walk_own sorts own trees reach facts all given same terms are is =
+    ap (λ (s : Sorts). walk_from s trees reach 1001 0 facts) same
+    ∙ ap (λ (ts : List Tree). walk_from sorts ts reach 1001 0 facts) terms
+    ∙ ap (walk_from sorts (terms_of all) reach 1001 0) are
+    ∙ ap (λ (fs : List Assertion). walk_from sorts (terms_of fs) reach 1001 0 fs) is
 
 -- a certificate under other numbers
 pub renumbered_closes : (sorts : Sorts) (trees others : List Tree) (facts : List Assertion) (room : ℕ) (tree other : CertTree) →

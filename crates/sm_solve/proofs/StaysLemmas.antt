@@ -11,12 +11,12 @@ use Rattle.sm_term.specs.Terms.{Tree}
 use Rattle.sm_term.proofs.FormsLemmas.{assertion-more}
 use Rattle.sm_solve.specs.declared.node.Node.{Node}
 use Rattle.sm_list.specs.declared.shared.SharedTerms.{SharedTerms}
-use Rattle.sm_list.specs.Branches.{with_formulas}
+use Rattle.sm_theory.specs.TermsOfFormulas.{with_formulas}
 use Rattle.sm_list.specs.Parts.{all_numbered, assertions_in, AreFormulasWithin}
 use Rattle.sm_list.specs.Shared.{AreShared}
 use Rattle.sm_solve.specs.Sharing.{IsNode, room_for_goal}
 use Rattle.sm_solve.specs.Shut.{IsShut}
-use Rattle.sm_list.proofs.ListingLemmas.{below_grown, same_grown}
+use Rattle.sm_terms.proofs.ListingLemmas.{below_grown, same_grown}
 use Rattle.sm_list.proofs.OwnLemmas.{facts_grown}
 use Rattle.sm_list.proofs.SharedLemmas.{placed_grown}
 

@@ -1,5 +1,5 @@
 -- The walk from a branch, by its visits and its parts.
-use Rattle.std.proofs.Common.{◌≡◌, ℕ, zero, suc, ◌+◌, ◌-◌, ◌<◌, max, Bool, true, false, if◌then◌else◌, Option, Some}
+use Rattle.std.proofs.Common.{◌≡◌, ℕ, zero, suc, ◌+◌, ◌-◌, ◌<◌, max, Bool, true, false, if◌then◌else◌, Option, Some, None}
 use Rattle.std.proofs.Common.{List, [], ◌∷◌, ◌++◌, length, take, drop, refl, sym, ap, subst, ◌∙◌, arith}
 use Rattle.std.proofs.lemmas.Bool.{lt-ltb}
 use Rattle.std.proofs.lemmas.List.{length-map, drop-map}
@@ -24,11 +24,12 @@ use Rattle.sm_judge.specs.Holding.{Seen, Split, is_closed, split_of}
 use Rattle.sm_certify.specs.Given.{seen_by}
 use Rattle.sm_solve.specs.Leading.{both_lines, led_by}
 use Rattle.sm_list.specs.Parts.{all_numbered, assertions_in}
-use Rattle.sm_judge.specs.Forms.{Walked, Closes, TooFar, counted, by_forms, forms_of}
-use Rattle.sm_solve.specs.Walk.{by_classes, by_parts}
+use Rattle.sm_judge.specs.Forms.{Walked, Closes, Opens, TooFar, counted, by_forms, forms_of}
+use Rattle.sm_solve.specs.declared.reach.Reach.{Reach}
+use Rattle.sm_solve.specs.Walk.{by_classes, by_decision, by_no_split, by_parts}
 use Rattle.sm_solve.specs.Walk.{walk_from}
 use Rattle.sm_judge.specs.Splits.{split_told}
-use Rattle.sm_solve.specs.Walking.{ClosesIn}
+use Rattle.sm_solve.specs.Walking.{ClosesIn, by_split}
 use Rattle.sm_solve.proofs.LeadingLemmas.{both_refutes, split_refutes, led_splits}
 
 -- a step is counted where one is left
@@ -36,16 +37,17 @@ counted_next : (steps count : ℕ) (next : ℕ → Walked) → count < steps →
 counted_next steps count next h = ap (λ (b : Bool). if b then next (suc count) else TooFar) (lt-ltb count steps h)
 
 -- the branch is visited
-pub walk_next : (sorts : Sorts) (trees : List Tree) (steps room count : ℕ) (facts : List Assertion) → (room ≡ 0 → ⊥) → count < steps →
-    walk_from sorts trees steps room count facts
-    ≡ by_classes (walk_from sorts trees steps (room - 1)) steps (seen_by sorts trees facts) (count + 1)
-walk_next sorts trees steps zero count facts some less = absurd (some refl)
-walk_next sorts trees steps (suc room) count facts some less =
+pub walk_next : (sorts : Sorts) (trees : List Tree) (reach : Reach) (room count : ℕ) (facts : List Assertion) → (room ≡ 0 → ⊥) →
+    count < reach.steps →
+    walk_from sorts trees reach room count facts
+    ≡ by_classes (walk_from sorts trees reach (room - 1)) reach (seen_by sorts trees facts) (count + 1)
+walk_next sorts trees reach zero count facts some less = absurd (some refl)
+walk_next sorts trees reach (suc room) count facts some less =
     let back : room ≡ suc room - 1 = omega arith in
     let more : suc count ≡ count + 1 = omega arith in
-    counted_next steps count (by_classes (walk_from sorts trees steps room) steps (seen_by sorts trees facts)) less
-    ∙ ap (λ (n : ℕ). by_classes (walk_from sorts trees steps n) steps (seen_by sorts trees facts) (suc count)) back
-    ∙ ap (by_classes (walk_from sorts trees steps (suc room - 1)) steps (seen_by sorts trees facts)) more
+    counted_next reach.steps count (by_classes (walk_from sorts trees reach room) reach (seen_by sorts trees facts)) less
+    ∙ ap (λ (n : ℕ). by_classes (walk_from sorts trees reach n) reach (seen_by sorts trees facts) (suc count)) back
+    ∙ ap (by_classes (walk_from sorts trees reach (suc room - 1)) reach (seen_by sorts trees facts)) more
 
 -- of formulas the first
 drop_first : {X : Type 0} (n : ℕ) (xs ys : List X) → n ≡ length xs → drop n (xs ++ ys) ≡ ys
@@ -108,26 +110,56 @@ split_closes sorts trees room facts p q line first second whole splits is within
     }
 
 -- a branch that is closed at once
-pub closed_told : (go : ℕ → List Assertion → Walked) (steps count : ℕ) (b : Seen) → true ≡ is_closed b →
-    by_classes go steps b count ≡ Closes count
-closed_told go steps count b h =
-    ap (λ (v : Bool). if v then Closes count else by_forms steps count (length b.terms) (forms_of b) (by_parts go b.facts (split_of b)))
+pub closed_told : (go : ℕ → List Assertion → Walked) (reach : Reach) (count : ℕ) (b : Seen) → true ≡ is_closed b →
+    by_classes go reach b count ≡ Closes count
+closed_told go reach count b h =
+    ap (λ (v : Bool). if v then Closes count else by_forms reach.steps count (length b.terms) (forms_of b)
+    (by_parts go (by_no_split reach b) b.facts (split_of b)))
     (sym h)
 
 -- any other
-pub open_told : (go : ℕ → List Assertion → Walked) (steps count : ℕ) (b : Seen) → false ≡ is_closed b →
-    by_classes go steps b count ≡ by_forms steps count (length b.terms) (forms_of b) (by_parts go b.facts (split_of b))
-open_told go steps count b h =
-    ap (λ (v : Bool). if v then Closes count else by_forms steps count (length b.terms) (forms_of b) (by_parts go b.facts (split_of b)))
+pub open_told : (go : ℕ → List Assertion → Walked) (reach : Reach) (count : ℕ) (b : Seen) → false ≡ is_closed b →
+    by_classes go reach b count
+    ≡ by_forms reach.steps count (length b.terms) (forms_of b) (by_parts go (by_no_split reach b) b.facts (split_of b))
+open_told go reach count b h =
+    ap (λ (v : Bool). if v then Closes count else by_forms reach.steps count (length b.terms) (forms_of b)
+    (by_parts go (by_no_split reach b) b.facts (split_of b)))
     (sym h)
 
 -- the split of a branch, where it is told
-pub split_is : (go : ℕ → List Assertion → Walked) (all : List Assertion) (count : ℕ) (sorts : Sorts) (trees : List Tree) (s b : Seen)
-    (o : Option BranchSplit) (split : BranchSplit) → s ≡ b → o ≡ Some split → split_told sorts trees o ≡ split_of s →
-    by_parts go all (split_of b) count ≡ by_parts go all (split_told sorts trees (Some split)) count
-split_is go all count sorts trees s b o split seen is told =
-    ap (λ (p : Option Split). by_parts go all p count)
+pub split_is : (go : ℕ → List Assertion → Walked) (alone : ℕ → Walked) (all : List Assertion) (count : ℕ) (sorts : Sorts)
+    (trees : List Tree) (s b : Seen) (o : Option BranchSplit) (split : BranchSplit) → s ≡ b → o ≡ Some split →
+    split_told sorts trees o ≡ split_of s →
+    by_parts go alone all (split_of b) count ≡ by_split go all (split_told sorts trees (Some split)) count
+split_is go alone all count sorts trees s b o split seen is told =
+    ap (λ (p : Option Split). by_parts go alone all p count)
     (sym (ap (split_told sorts trees) (sym is) ∙ told ∙ ap split_of seen))
+
+-- that there is none
+no_split : (go : ℕ → List Assertion → Walked) (alone : ℕ → Walked) (all : List Assertion) (count : ℕ) (sorts : Sorts)
+    (trees : List Tree) (s b : Seen) (o : Option BranchSplit) → s ≡ b → o ≡ None → split_told sorts trees o ≡ split_of s →
+    by_parts go alone all (split_of b) count ≡ alone count
+no_split go alone all count sorts trees s b o seen is told =
+    ap (λ (p : Option Split). by_parts go alone all p count)
+    (sym (ap (split_told sorts trees) (sym is) ∙ told ∙ ap split_of seen))
+
+module _ (go : ℕ → List Assertion → Walked) (reach : Reach) (all : List Assertion) (count : ℕ) (sorts : Sorts) (trees : List Tree) (s : Seen)
+    (o : Option BranchSplit) (seen : s ≡ seen_by sorts trees all) (is : o ≡ None) (told : split_told sorts trees o ≡ split_of s) where
+  abbrev here : Seen
+  here = seen_by sorts trees all
+
+  -- then the branch stays open where its forms aren't decided
+  pub open_alone : reach.exact ≡ false → by_parts go (by_no_split reach here) all (split_of here) count ≡ Opens all
+  open_alone h =
+      no_split go (by_no_split reach here) all count sorts trees s here o seen is told
+      ∙ ap (λ (v : Bool). if v then by_decision reach.steps count all (forms_of here) else Opens all) h
+
+  -- or else is what their decision comes to
+  pub decided_alone : reach.exact ≡ true →
+      by_parts go (by_no_split reach here) all (split_of here) count ≡ by_decision reach.steps count all (forms_of here)
+  decided_alone h =
+      no_split go (by_no_split reach here) all count sorts trees s here o seen is told
+      ∙ ap (λ (v : Bool). if v then by_decision reach.steps count all (forms_of here) else Opens all) h
 
 -- as many formulas
 pub as_many : (sorts : Sorts) (trees : List Tree) (fs : List Formula) → length (assertions_in sorts trees (all_numbered fs)) ≡ length fs

@@ -11,9 +11,10 @@ use Rattle.sm_term.specs.Tables.{TableValue, trees_in, sorts_in, codes_in}
 use Rattle.sm_solve.specs.declared.node.Node.{Node}
 use Rattle.sm_judge.specs.AllForms.{AreAllForms}
 use Rattle.sm_certify.specs.Bases.{IsFrom}
-use Rattle.sm_list.specs.Branches.{depth_of, with_parts, with_formulas, terms_of}
+use Rattle.sm_theory.specs.TermsOfFormulas.{with_formulas}
+use Rattle.sm_list.specs.Branches.{depth_of, with_parts, terms_of}
 use Rattle.sm_certify.specs.Given.{IsWhole, classes_by}
-use Rattle.sm_list.specs.Listing.{numbers_of}
+use Rattle.sm_terms.specs.Listing.{numbers_of}
 use Rattle.sm_list.specs.Parts.{all_numbered, assertions_in, AreFormulasWithin}
 use Rattle.sm_list.specs.Shared.{AreShared}
 use Rattle.sm_solve.specs.Sharing.{room_for_goal}

@@ -1,7 +1,9 @@
 pub mod Answers
 pub mod AtGoal
+pub mod Deciding
 pub mod GoalEnds
 pub mod Leading
+pub mod Naming
 pub mod Sharing
 pub mod Shut
 pub mod Walk

@@ -5,6 +5,8 @@ use Rattle.sm_syntax.specs.text.Sorts.{Sorts}
 use Rattle.sm_num.specs.Combining.{Fits}
 use Rattle.sm_term.specs.Terms.{Tree}
 use Rattle.sm_term.specs.Assertions.{Assertion, Yes}
+use Rattle.sm_cert.specs.MovedTrees.{NamesWhatItReads}
+use Rattle.sm_cert.specs.Views.{certificate_in}
 use Rattle.sm_pairs.specs.Longer.{IsLonger}
 use Rattle.sm_solve.specs.declared.shut.Shut.{Shut}
 use Rattle.sm_solve.specs.declared.shut.ShutBy.{ShutBy}
@@ -12,7 +14,7 @@ use Rattle.sm_solve.specs.declared.shut.ShutBy.TheVariants as shut
 use Rattle.sm_list.specs.Branches.{with_parts}
 use Rattle.sm_judge.specs.Holding.{Seen, is_closed}
 use Rattle.sm_certify.specs.Given.{seen_by}
-use Rattle.sm_list.specs.Listing.{numbers_of}
+use Rattle.sm_terms.specs.Listing.{numbers_of}
 use Rattle.sm_judge.specs.Forms.{Walked, Closes, by_forms, forms_of}
 use Rattle.sm_solve.specs.Walking.{ClosesIn}
 
@@ -25,7 +27,7 @@ IsShutBy steps b (shut.Forms count forms) =
     by_forms steps 1 (length b.terms) (Fits forms.items) next ≡ Closes count)
 
 -- facts can't hold together: the visit of the branch of them and all their parts closes it, and so
--- does a certificate, which names these terms alone
+-- does a certificate, which names these terms alone and reads only the facts that it names
 pub record IsShut (sorts : Sorts) (terms : List Tree) (facts : List Assertion) (s : Shut)
     : Type 0 where
   pub some : 1 ≤ s.steps
@@ -33,6 +35,7 @@ pub record IsShut (sorts : Sorts) (terms : List Tree) (facts : List Assertion) (
   pub many : s.facts ≡ length (with_parts facts)
   pub counted : numbers_of s.terms.list.items ≡ range_with_len 0 (length terms)
   pub closes : ClosesIn sorts terms facts 1 s.tree
+  pub named : NamesWhatItReads (certificate_in terms s.tree)
 
 -- each fact of a branch is one of another, but for what always holds
 abbrev pub AreFactsStill : List Assertion → List Assertion → Type 0

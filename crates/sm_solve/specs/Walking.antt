@@ -1,5 +1,5 @@
 -- Private: what a visit of a branch comes to, and the walk from there on.
-use Rattle.std.specs.Prelude.{◌≡◌, ℕ, ◌<◌, ◌≤◌, Some, List, length}
+use Rattle.std.specs.Prelude.{◌≡◌, ℕ, ◌<◌, ◌≤◌, Option, Some, List, length}
 use Rattle.sm_syntax.specs.text.Sorts.{Sorts}
 use Rattle.sm_term.specs.Terms.{Tree}
 use Rattle.sm_term.specs.Assertions.{Assertion}
@@ -15,8 +15,10 @@ use Rattle.sm_solve.specs.declared.solving.Answer.{Answer}
 use Rattle.sm_solve.specs.declared.solving.Answer.TheVariants as answer
 use Rattle.sm_certify.specs.Refutes.{Refutes}
 use Rattle.sm_list.specs.Parts.{all_numbered, assertions_in, AreFormulasWithin}
+use Rattle.sm_judge.specs.Holding.{Split}
 use Rattle.sm_judge.specs.Splits.{split_told, IsToldWithin, SplitsBranch}
 use Rattle.sm_judge.specs.Forms.{Walked, Closes, Opens, TooFar, GoesOut}
+use Rattle.sm_solve.specs.Naming.{NameNoMore}
 use Rattle.sm_solve.specs.Walk.{by_parts}
 
 -- a certificate of the program closes a branch, with fewer splits above a line than there is room
@@ -26,22 +28,29 @@ pub record ClosesIn (sorts : Sorts) (trees : List Tree) (facts : List Assertion)
   pub within : AreLinesWithin (length trees) (lines_of tree)
   pub splits : splits_above (certificate_in trees tree) < room
 
+-- the walk of a branch that is split: without a split it would stay open
+abbrev pub by_split :
+    (ℕ → List Assertion → Walked) → List Assertion → Option Split → ℕ → Walked
+by_split go facts = by_parts go (λ (n : ℕ). Opens facts) facts
+
 -- what a visit tells of the walk from its branch, where it is said how the walk goes on
 abbrev pub TellsVisit :
     Sorts → List Tree → List Assertion → (ℕ → List Assertion → Walked) → Visit → Walked → Type 0
 TellsVisit sorts trees facts go (visit.Closed count tree) w = w ≡ Closes count
 TellsVisit sorts trees facts go visit.Open w = w ≡ Opens facts
 TellsVisit sorts trees facts go (visit.Split count split) w =
-    w ≡ by_parts go facts (split_told sorts trees (Some split)) count
+    w ≡ by_split go facts (split_told sorts trees (Some split)) count
 TellsVisit sorts trees facts go visit.Steps w = w ≡ TooFar
 TellsVisit sorts trees facts go (visit.Coefficient op y z) w = w ≡ GoesOut op y z
 
--- what comes with a visit: a certificate that closes the branch, or a split with its line
+-- what comes with a visit: a certificate that closes the branch, or a split with its line, whose parts
+-- name no more terms
 abbrev pub ShowsVisit : Sorts → List Tree → List Assertion → Visit → Type 0
 ShowsVisit sorts trees facts (visit.Closed count tree) = ClosesIn sorts trees facts 1 tree
 ShowsVisit sorts trees facts visit.Open = Unit {0}
 ShowsVisit sorts trees facts (visit.Split count split) =
     IsToldWithin (length trees) (Some split) × SplitsBranch sorts trees facts (Some split)
+    × NameNoMore sorts trees facts split
 ShowsVisit sorts trees facts visit.Steps = Unit {0}
 ShowsVisit sorts trees facts (visit.Coefficient op y z) = Unit {0}
 

@@ -11,12 +11,14 @@ ghost use Rattle.sm_judge.specs.AllForms.{AreAllForms};
 ghost use Rattle.sm_certify.specs.Bases.{IsFrom};
 ghost use Rattle.sm_list.specs.Branches.{with_parts};
 ghost use Rattle.sm_certify.specs.Given.{IsWhole, classes_by};
-ghost use Rattle.sm_list.specs.Listing.{numbers_of};
+ghost use Rattle.sm_terms.specs.Listing.{numbers_of};
 ghost use Rattle.sm_list.specs.Parts.{all_numbered, assertions_in, AreFormulasWithin};
+ghost use Rattle.sm_solve.specs.Naming.{AreNamed};
 ghost use Rattle.sm_solve.specs.Walk.{walk_from};
 ghost use Rattle.sm_solve.specs.Walking.{TellsEnd, ShowsEnd};
 
 use crate::ending::{WalkEnd, led_end};
+use crate::reach::Reach;
 use crate::visiting::{Visit, visit_branch};
 use crate::walking::{walk_from, walk_on};
 use sm_certify::{Base, all_terms, base_of};
@@ -33,7 +35,7 @@ pub(crate) fn walk_over(
     table: &TermTable,
     forms: &[LinForm],
     facts: &mut Vec<Formula>,
-    steps: u64,
+    reach: Reach,
 ) -> Result<WalkEnd, AllocError>
     requires forms { AreAllForms (trees_in table.now) forms.now }
     requires within { let count = length (trees_in table.now) in
@@ -44,9 +46,11 @@ pub(crate) fn walk_over(
         × ((ids : List TermId) →
         numbers_of ids ≡ range_with_len 0 (length (trees_in table.now)) →
         IsLedBy v (classes_by table.now ids facts.old.items)) }
+    requires named { let sorts = sorts_in table.now in let trees = trees_in table.now in
+        AreNamed trees (assertions_in sorts trees (all_numbered facts.old.items)) }
     ensures tells { let sorts = sorts_in table.now in let trees = trees_in table.now in
         let all = assertions_in sorts trees (all_numbered facts.old.items) in
-        IfOk result (λ e. TellsEnd sorts trees e (walk_from sorts trees steps 1001 0 all)) }
+        IfOk result (λ e. TellsEnd sorts trees e (walk_from sorts trees reach 1001 0 all)) }
     ensures shows { let sorts = sorts_in table.now in let trees = trees_in table.now in
         (given : List Assertion) →
         assertions_in sorts trees (all_numbered facts.old.items) ≡ with_parts given →
@@ -55,7 +59,7 @@ pub(crate) fn walk_over(
     ensures stays { (v : ClassesValue) → IsFrom v base.old → IsFrom v base.new }
 {
     let terms = all_terms(alloc, table)?;
-    let end = walk_from(alloc, base, table, forms, &terms, steps, 1001, 0, facts)?;
+    let end = walk_from(alloc, base, table, forms, &terms, reach, 1001, 0, facts)?;
     let led = led_end(alloc, facts.as_slice(), 0, end)?;
     Ok(led)
 }
@@ -67,22 +71,24 @@ pub(crate) fn walk_alone(
     table: &TermTable,
     forms: &[LinForm],
     facts: &mut Vec<Formula>,
-    steps: u64,
+    reach: Reach,
 ) -> Result<WalkEnd, AllocError>
     requires forms { AreAllForms (trees_in table.now) forms.now }
     requires within { let count = length (trees_in table.now) in
         AreFormulasWithin count (all_numbered facts.old.items) }
     requires sorted { AreFormsSorted (sorts_in table.now)
         (assertions_in (sorts_in table.now) (trees_in table.now) (all_numbered facts.old.items)) }
+    requires named { let sorts = sorts_in table.now in let trees = trees_in table.now in
+        AreNamed trees (assertions_in sorts trees (all_numbered facts.old.items)) }
     ensures tells { let sorts = sorts_in table.now in let trees = trees_in table.now in
         let all = assertions_in sorts trees (all_numbered facts.old.items) in
-        IfOk result (λ e. TellsEnd sorts trees e (walk_from sorts trees steps 1001 0 all)) }
+        IfOk result (λ e. TellsEnd sorts trees e (walk_from sorts trees reach 1001 0 all)) }
     ensures shows { let sorts = sorts_in table.now in let trees = trees_in table.now in
         (given : List Assertion) →
         assertions_in sorts trees (all_numbered facts.old.items) ≡ with_parts given →
         IfOk result (ShowsEnd sorts trees given 1001) }
 {
-    if steps == 0 {
+    if reach.steps == 0 {
         return Ok(WalkEnd::Steps);
     }
     let terms = all_terms(alloc, table)?;
@@ -94,12 +100,12 @@ pub(crate) fn walk_alone(
         forms,
         &terms,
         facts.as_slice(),
-        steps,
+        reach,
         1,
     )?;
     let mut base = base_after(alloc, table, forms, &terms, facts.as_slice(), &visit)?;
     let end = walk_on(
-        alloc, &mut base, table, forms, &terms, steps, 1000, facts, visit,
+        alloc, &mut base, table, forms, &terms, reach, 1000, facts, visit,
     )?;
     let led = led_end(alloc, facts.as_slice(), 0, end)?;
     Ok(led)

@@ -1,5 +1,5 @@
-// What a node is made of: its facts with room for a goal, how many terms they name, their classes.
-ghost use Rattle.std.specs.Prelude.{◌≡◌, ℕ, List, [], length, IfOk, IfSome};
+// What a node is made of: its facts with room for a goal, and their classes.
+ghost use Rattle.std.specs.Prelude.{◌≡◌, ℕ, List, length, IfOk, IfSome};
 ghost use Rattle.std.specs.List.{range_with_len};
 ghost use Rattle.sm_syntax.specs.text.Sorts.{Sorts};
 ghost use Rattle.sm_term.specs.declared.term.TermId.{TermId};
@@ -8,17 +8,15 @@ ghost use Rattle.sm_term.specs.Tables.{trees_in, sorts_in};
 ghost use Rattle.sm_term.specs.Terms.{Tree};
 ghost use Rattle.sm_cc.specs.Ground.{IsGround};
 ghost use Rattle.sm_judge.specs.AllForms.{AreAllForms};
-ghost use Rattle.sm_list.specs.Branches.{with_formulas};
 ghost use Rattle.sm_certify.specs.Given.{IsWhole, classes_by};
-ghost use Rattle.sm_list.specs.Listing.{numbers_of};
+ghost use Rattle.sm_terms.specs.Listing.{numbers_of};
 ghost use Rattle.sm_list.specs.Parts.{all_numbered, assertions_in, AreFormulasWithin};
 ghost use Rattle.sm_solve.specs.Sharing.{room_for_goal};
 
 use crate::branching::copy_facts;
-use indexmap::IndexSet;
 use sm_cc::{Ground, Grounded};
 use sm_certify::{all_terms, given_facts};
-use sm_list::{add_parts, list_formulas};
+use sm_list::add_parts;
 use sm_num::LinForm;
 use sm_term::{Formula, TermTable};
 use std::alloc::{AllocError, Global};
@@ -36,22 +34,6 @@ pub(crate) fn with_room(alloc: Global, facts: &[Formula]) -> Result<Vec<Formula>
     all.push(Formula::Yes)?;
     add_parts(alloc, &mut all, 0)?;
     Ok(all)
-}
-
-// How many terms formulas name, with their arguments.
-pub(crate) fn count_named(
-    alloc: Global,
-    table: &TermTable,
-    facts: &[Formula],
-) -> Result<usize, AllocError>
-    requires { AreFormulasWithin (length (trees_in table.now)) (all_numbered facts.now) }
-    ensures { let all = assertions_in (sorts_in table.now) (trees_in table.now)
-        (all_numbered facts.now) in
-        IfOk result (λ n. n ≡ length (with_formulas all [])) }
-{
-    let mut listed = IndexSet::new(alloc);
-    list_formulas(alloc, table, &mut listed, facts)?;
-    Ok(listed.len())
 }
 
 // The classes of all terms of a table, by the equations and contraries among facts and the forms of

@@ -6,6 +6,8 @@
 //!   a branch; an operation leaves the range of linear forms. Want of memory alone is free.
 //! - A branch is closed by its classes or by its linear forms, or else is split: `sm_judge` tells which,
 //!   and `sm_certify` gives the certificate.
+//! - Where it is asked to, it decides the forms of a branch that nothing splits exactly: without a
+//!   solution in whole numbers the branch is closed, by an exact line (`sm_exact`).
 //! - The walk goes over a table of the branch's own terms, where the number of each is its place in
 //!   their list; certificates and formulas get the numbers of the caller's table at the end
 //!   (`sm_list`).
@@ -20,10 +22,13 @@
 #![tactic(auto)]
 
 mod branching;
+mod deciding;
 mod ending;
 mod first;
 mod grounding;
 mod node;
+mod reach;
+mod reading;
 mod sharing;
 mod shut;
 mod solving;
@@ -31,5 +36,6 @@ mod visiting;
 mod walking;
 
 pub use node::Node;
+pub use reach::Reach;
 pub use sharing::solve_at;
 pub use solving::{Answer, Leaf, solve};

@@ -10,7 +10,8 @@ ghost use Rattle.sm_term.specs.Terms.{Tree};
 ghost use Rattle.sm_term.specs.TableLaws.{Grows};
 ghost use Rattle.sm_solve.specs.Answers.{Tells, Certifies, terms_walked, NamesOnly};
 ghost use Rattle.sm_solve.specs.AtGoal.{IsAtGoal, HasRoom};
-ghost use Rattle.sm_list.specs.Branches.{depth_of, with_parts, with_formulas, terms_of};
+ghost use Rattle.sm_theory.specs.TermsOfFormulas.{with_formulas};
+ghost use Rattle.sm_list.specs.Branches.{depth_of, with_parts, terms_of};
 ghost use Rattle.sm_list.specs.Parts.{all_numbered, assertions_in, AreFormulasWithin};
 ghost use Rattle.sm_solve.specs.Sharing.{IsNode, room_for_goal};
 ghost use Rattle.sm_solve.specs.GoalEnds.{TellsGoal, ShowsGoal};
@@ -20,11 +21,12 @@ ghost use Rattle.sm_solve.specs.Walking.{ClosesIn, TellsEnd, ShowsEnd};
 
 use crate::ending::WalkEnd;
 use crate::first::walk_over;
-use crate::grounding::{count_named, ground_of, with_room};
+use crate::grounding::{ground_of, with_room};
+use crate::reach::Reach;
 use crate::shut::{GoalEnd, Shut, renumbered_goal_end, shut_of, shut_tree};
 use crate::solving::Answer;
 use sm_cert::CertTree;
-use sm_certify::Base;
+use sm_certify::{Base, count_named};
 use sm_judge::{add_linear_forms, linear_forms};
 use sm_list::{SharedTerms, add_parts, numbered_terms, shared_facts};
 use sm_num::LinForm;
@@ -147,7 +149,7 @@ impl Node {
         alloc: Global,
         table: &mut TermTable,
         target: &Formula,
-        steps: u64,
+        reach: Reach,
     ) -> Result<Option<Answer>, AllocError>
         requires within { IsFormulaWithin (length (trees_in table.old)) (numbered target.now) }
         requires sorted { IsFormSorted (sorts_in table.old)
@@ -157,7 +159,7 @@ impl Node {
             let goal = assertion_in sorts (trees_in table.old) (numbered target.now) in
             (given : List Assertion) → IsNode table.old given self.old →
             IfOk result (λ o. IfSome o (λ a.
-            Tells sorts (trees_in table.new) a (walk sorts steps given goal))) }
+            Tells sorts (trees_in table.new) a (walk sorts reach given goal))) }
         ensures certifies { let sorts = sorts_in table.old in
             let goal = assertion_in sorts (trees_in table.old) (numbered target.now) in
             (given : List Assertion) → IsNode table.old given self.old →
@@ -179,7 +181,7 @@ impl Node {
         let count = self.facts.len();
         let len = self.terms.own.len();
         self.open_goal(alloc, table, &contrary)?;
-        let end = self.end_of_goal(alloc, steps)?;
+        let end = self.end_of_goal(alloc, reach)?;
         let numbers = numbered_terms(alloc, self.terms.listed.as_slice())?;
         let answer = renumbered_goal_end(alloc, end, &numbers)?;
         self.close_goal(count, len);
@@ -235,14 +237,14 @@ impl Node {
     }
 
     // How the walk of the facts and the contrary of a goal ends.
-    fn end_of_goal(&mut self, alloc: Global, steps: u64) -> Result<GoalEnd, AllocError>
+    fn end_of_goal(&mut self, alloc: Global, reach: Reach) -> Result<GoalEnd, AllocError>
         requires { (table : TableValue) × (given : List Assertion) × (contrary : Assertion)
             × IsAtGoal table given contrary self.old }
         ensures tells { (table : TableValue) (given : List Assertion) (contrary : Assertion) →
             IsAtGoal table given contrary self.old →
             let all = with_parts (given ++ contrary ∷ []) in
             IfOk result (λ e. TellsGoal (sorts_in table) (trees_in self.new.terms.own) e
-            (walk_from (sorts_in table) (terms_of all) steps 1001 0 all)) }
+            (walk_from (sorts_in table) (terms_of all) reach 1001 0 all)) }
         ensures shows { (table : TableValue) (given : List Assertion) (contrary : Assertion) →
             IsAtGoal table given contrary self.old →
             IfOk result (ShowsGoal (sorts_in table) (trees_in self.new.terms.own)
@@ -251,10 +253,10 @@ impl Node {
             IsAtGoal table given contrary self.old →
             OnOk result (IsAtGoal table given contrary self.new) }
     {
-        match self.shut_goal(alloc, steps)? {
+        match self.shut_goal(alloc, reach)? {
             Some(tree) => Ok(GoalEnd::Shut(tree)),
             None => {
-                let end = self.walk_goal(alloc, steps)?;
+                let end = self.walk_goal(alloc, reach)?;
                 Ok(GoalEnd::Walked(end))
             }
         }
@@ -262,14 +264,14 @@ impl Node {
 
     // A certificate where the facts alone can't hold together, and that is told of them with the
     // contrary, too: then the walk closes.
-    fn shut_goal(&mut self, alloc: Global, steps: u64) -> Result<Option<CertTree>, AllocError>
+    fn shut_goal(&mut self, alloc: Global, reach: Reach) -> Result<Option<CertTree>, AllocError>
         requires { (table : TableValue) × (given : List Assertion) × (contrary : Assertion)
             × IsAtGoal table given contrary self.old }
         ensures tells { (table : TableValue) (given : List Assertion) (contrary : Assertion) →
             IsAtGoal table given contrary self.old →
             let all = with_parts (given ++ contrary ∷ []) in
             IfOk result (λ o. IfSome o (λ t. (n : ℕ)
-            × (walk_from (sorts_in table) (terms_of all) steps 1001 0 all ≡ Closes n))) }
+            × (walk_from (sorts_in table) (terms_of all) reach 1001 0 all ≡ Closes n))) }
         ensures shows { (table : TableValue) (given : List Assertion) (contrary : Assertion) →
             IsAtGoal table given contrary self.old →
             IfOk result (λ o. IfSome o (ClosesIn (sorts_in table) (trees_in self.new.terms.own)
@@ -287,21 +289,21 @@ impl Node {
                 &self.forms,
                 &self.facts,
                 self.place,
-                steps,
+                reach,
             ),
             None => Ok(None),
         }
     }
 
     // The walk of the facts and the contrary of a goal.
-    fn walk_goal(&mut self, alloc: Global, steps: u64) -> Result<WalkEnd, AllocError>
+    fn walk_goal(&mut self, alloc: Global, reach: Reach) -> Result<WalkEnd, AllocError>
         requires { (table : TableValue) × (given : List Assertion) × (contrary : Assertion)
             × IsAtGoal table given contrary self.old }
         ensures tells { (table : TableValue) (given : List Assertion) (contrary : Assertion) →
             IsAtGoal table given contrary self.old →
             let all = with_parts (given ++ contrary ∷ []) in
             IfOk result (λ e. TellsEnd (sorts_in table) (trees_in self.new.terms.own) e
-            (walk_from (sorts_in table) (terms_of all) steps 1001 0 all)) }
+            (walk_from (sorts_in table) (terms_of all) reach 1001 0 all)) }
         ensures shows { (table : TableValue) (given : List Assertion) (contrary : Assertion) →
             IsAtGoal table given contrary self.old →
             IfOk result (ShowsEnd (sorts_in table) (trees_in self.new.terms.own)
@@ -316,7 +318,7 @@ impl Node {
             &self.terms.own,
             &self.forms,
             &mut self.facts,
-            steps,
+            reach,
         )
     }
 

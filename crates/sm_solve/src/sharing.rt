@@ -10,6 +10,7 @@ ghost use Rattle.sm_solve.specs.Sharing.{IsNode};
 ghost use Rattle.sm_solve.specs.Walk.{walk};
 
 use crate::node::Node;
+use crate::reach::Reach;
 use crate::solving::{Answer, solve};
 use sm_term::{Formula, TermTable};
 use std::alloc::{AllocError, Global};
@@ -22,7 +23,7 @@ pub fn solve_at(
     node: &mut Option<Node>,
     facts: &[Formula],
     target: &Formula,
-    steps: u64,
+    reach: Reach,
 ) -> Result<Answer, AllocError>
     requires facts { AreFormulasWithin (length (trees_in table.old)) (all_numbered facts.now) }
     requires target { IsFormulaWithin (length (trees_in table.old)) (numbered target.now) }
@@ -36,7 +37,7 @@ pub fn solve_at(
     ensures answer { let sorts = sorts_in table.old in let trees = trees_in table.old in
         let given = assertions_in sorts trees (all_numbered facts.now) in
         let goal = assertion_in sorts trees (numbered target.now) in
-        IfOk result (λ a. Tells sorts (trees_in table.new) a (walk sorts steps given goal)) }
+        IfOk result (λ a. Tells sorts (trees_in table.new) a (walk sorts reach given goal)) }
     ensures certifies { let sorts = sorts_in table.old in let trees = trees_in table.old in
         let given = assertions_in sorts trees (all_numbered facts.now) in
         let goal = assertion_in sorts trees (numbered target.now) in
@@ -52,7 +53,7 @@ pub fn solve_at(
     ensures err { OnErr result (trees_in table.new ≡ trees_in table.old) }
 {
     let len = table.len();
-    match answered_at(alloc, table, node, facts, target, steps) {
+    match answered_at(alloc, table, node, facts, target, reach) {
         Ok(answer) => Ok(answer),
         Err(e) => {
             table.cut(len);
@@ -68,7 +69,7 @@ fn answered_at(
     node: &mut Option<Node>,
     facts: &[Formula],
     target: &Formula,
-    steps: u64,
+    reach: Reach,
 ) -> Result<Answer, AllocError>
     requires facts { AreFormulasWithin (length (trees_in table.old)) (all_numbered facts.now) }
     requires target { IsFormulaWithin (length (trees_in table.old)) (numbered target.now) }
@@ -82,7 +83,7 @@ fn answered_at(
     ensures answer { let sorts = sorts_in table.old in let trees = trees_in table.old in
         let given = assertions_in sorts trees (all_numbered facts.now) in
         let goal = assertion_in sorts trees (numbered target.now) in
-        IfOk result (λ a. Tells sorts (trees_in table.new) a (walk sorts steps given goal)) }
+        IfOk result (λ a. Tells sorts (trees_in table.new) a (walk sorts reach given goal)) }
     ensures certifies { let sorts = sorts_in table.old in let trees = trees_in table.old in
         let given = assertions_in sorts trees (all_numbered facts.now) in
         let goal = assertion_in sorts trees (numbered target.now) in
@@ -97,8 +98,8 @@ fn answered_at(
     ensures grows { Grows table.old table.new }
 {
     match node {
-        Some(n) => solve_shared(alloc, table, n, facts, target, steps),
-        None => solve(alloc, table, facts, target, steps),
+        Some(n) => solve_shared(alloc, table, n, facts, target, reach),
+        None => solve(alloc, table, facts, target, reach.steps, reach.exact),
     }
 }
 
@@ -109,7 +110,7 @@ fn solve_shared(
     node: &mut Node,
     facts: &[Formula],
     target: &Formula,
-    steps: u64,
+    reach: Reach,
 ) -> Result<Answer, AllocError>
     requires facts { AreFormulasWithin (length (trees_in table.old)) (all_numbered facts.now) }
     requires target { IsFormulaWithin (length (trees_in table.old)) (numbered target.now) }
@@ -122,7 +123,7 @@ fn solve_shared(
     ensures answer { let sorts = sorts_in table.old in let trees = trees_in table.old in
         let given = assertions_in sorts trees (all_numbered facts.now) in
         let goal = assertion_in sorts trees (numbered target.now) in
-        IfOk result (λ a. Tells sorts (trees_in table.new) a (walk sorts steps given goal)) }
+        IfOk result (λ a. Tells sorts (trees_in table.new) a (walk sorts reach given goal)) }
     ensures certifies { let sorts = sorts_in table.old in let trees = trees_in table.old in
         let given = assertions_in sorts trees (all_numbered facts.now) in
         let goal = assertion_in sorts trees (numbered target.now) in
@@ -136,10 +137,10 @@ fn solve_shared(
         IfOk result (λ a. IsNode table.new given node.new) }
     ensures grows { Grows table.old table.new }
 {
-    match node.solve(alloc, table, target, steps)? {
+    match node.solve(alloc, table, target, reach)? {
         Some(answer) => Ok(answer),
         None => {
-            let answer = solve(alloc, table, facts, target, steps)?;
+            let answer = solve(alloc, table, facts, target, reach.steps, reach.exact)?;
             node.stays(table);
             Ok(answer)
         }

@@ -21,11 +21,15 @@ ghost use Rattle.sm_judge.specs.AllForms.{AreAllForms};
 ghost use Rattle.sm_certify.specs.Bases.{IsFrom};
 ghost use Rattle.sm_list.specs.Branches.{with_parts};
 ghost use Rattle.sm_certify.specs.Given.{IsWhole, given_from, classes_by, branch_of};
-ghost use Rattle.sm_list.specs.Listing.{numbers_of};
+ghost use Rattle.sm_terms.specs.Listing.{numbers_of};
 ghost use Rattle.sm_list.specs.Parts.{all_numbered, assertions_in, AreFormulasWithin};
 ghost use Rattle.sm_judge.specs.Labelled.{AreLabels};
 ghost use Rattle.sm_judge.specs.Seeing.{seen_in};
 ghost use Rattle.sm_list.specs.Renumbered.{AreTermsOf};
+ghost use Rattle.sm_cert.specs.MovedTrees.{NamesWhatItReads};
+ghost use Rattle.sm_cert.specs.Views.{certificate_in};
+ghost use Rattle.sm_solve.specs.declared.reach.Reach.{Reach};
+ghost use Rattle.sm_solve.specs.Naming.{AreNamed};
 ghost use Rattle.sm_solve.specs.Shut.{IsShut, IsShutBy, IsBelow};
 ghost use Rattle.sm_solve.specs.GoalEnds.{TellsGoal, ShowsGoal};
 ghost use Rattle.sm_solve.specs.Answers.{Tells, NamesOnly};
@@ -34,6 +38,8 @@ ghost use Rattle.sm_solve.specs.Walk.{walk_from, by_classes};
 ghost use Rattle.sm_solve.specs.Walking.{ClosesIn, ShowsVisit, ShowsEnd, Shows};
 
 use crate::ending::{WalkEnd, led_end};
+use crate::reach::Reach;
+use crate::reading::names_what_it_reads;
 use crate::solving::{Answer, renumbered_end};
 use crate::visiting::{Visit, are_few, visit_classes};
 use sm_cc::{Classes, Grounded};
@@ -86,6 +92,8 @@ pub(crate) fn shut_of(
         × ((ids : List TermId) →
         numbers_of ids ≡ range_with_len 0 (length (trees_in table.now)) →
         IsLedBy v (classes_by table.now ids facts.now)) }
+    requires named { let sorts = sorts_in table.now in let trees = trees_in table.now in
+        AreNamed trees (assertions_in sorts trees (all_numbered facts.now)) }
     ensures shut { let sorts = sorts_in table.now in let trees = trees_in table.now in
         (given : List Assertion) →
         assertions_in sorts trees (all_numbered facts.now) ≡ with_parts given →
@@ -127,20 +135,34 @@ fn found(
     requires few { length facts.now < 2 ^ 62 }
     requires led { (v : ClassesValue) × IsFrom v base.old
         × IsLedBy v (classes_by table.now terms.now.list.items facts.now) }
+    requires named { let sorts = sorts_in table.now in let trees = trees_in table.now in
+        AreNamed trees (assertions_in sorts trees (all_numbered facts.now)) }
     ensures by { IfOk result (λ o. IfSome o (λ p.
         IsShutBy steps (branch_of table.now facts.now) p.0)) }
     ensures closes { let sorts = sorts_in table.now in let trees = trees_in table.now in
         (given : List Assertion) →
         assertions_in sorts trees (all_numbered facts.now) ≡ with_parts given →
         IfOk result (λ o. IfSome o (λ p. ClosesIn sorts trees given 1 p.1)) }
+    ensures named { let trees = trees_in table.now in
+        IfOk result (λ o. IfSome o (λ p. NamesWhatItReads (certificate_in trees p.1))) }
     ensures stays { (v : ClassesValue) → IsFrom v base.old → IsFrom v base.new }
 {
     let classes = base.classes(alloc, table, forms, terms, facts)?;
     match why_shut(alloc, &classes, table, forms, facts, steps)? {
         Some(by) => {
-            let visit = visit_classes(alloc, &classes, table, forms, terms, facts, steps, 1)?;
+            let reach = Reach {
+                steps,
+                exact: false,
+            };
+            let visit = visit_classes(alloc, &classes, table, forms, terms, facts, reach, 1)?;
             match visited_tree(alloc, facts, visit)? {
-                Some(tree) => Ok(Some((by, tree))),
+                Some(tree) => {
+                    if names_what_it_reads(&tree) {
+                        Ok(Some((by, tree)))
+                    } else {
+                        Ok(None)
+                    }
+                }
                 None => Ok(None),
             }
         }
@@ -262,7 +284,7 @@ pub(crate) fn shut_tree(
     forms: &[LinForm],
     facts: &[Formula],
     place: usize,
-    steps: u64,
+    reach: Reach,
 ) -> Result<Option<CertTree>, AllocError>
     requires forms { AreAllForms (trees_in table.now) forms.now }
     requires within { AreFormulasWithin (length (trees_in table.now)) (all_numbered facts.now) }
@@ -279,14 +301,14 @@ pub(crate) fn shut_tree(
         let all = assertions_in sorts trees (all_numbered facts.now) in
         (first : List Tree) (given : List Assertion) → IsShut sorts first given shut.now →
         IsBelow first trees (with_parts given) all → IfOk result (λ o. IfSome o (λ t.
-        (n : ℕ) × (walk_from sorts trees steps 1001 0 all ≡ Closes n))) }
+        (n : ℕ) × (walk_from sorts trees reach 1001 0 all ≡ Closes n))) }
     ensures shows { let sorts = sorts_in table.now in let trees = trees_in table.now in
         (first : List Tree) (given : List Assertion) (f : Assertion) →
         IsShut sorts first (given ++ Yes ∷ []) shut.now → IsLonger first trees →
         IfOk result (λ o. IfSome o (ClosesIn sorts trees (given ++ f ∷ []) 1001)) }
     ensures stays { (v : ClassesValue) → IsFrom v base.old → IsFrom v base.new }
 {
-    if shut.steps != steps {
+    if shut.steps != reach.steps {
         return Ok(None);
     }
     if !is_still_shut(alloc, shut, base, table, forms, facts, place)? {
@@ -319,10 +341,11 @@ fn is_still_shut(
         IsLedBy v (classes_by table.now ids facts.now)) }
     ensures closes { let sorts = sorts_in table.now in let trees = trees_in table.now in
         let all = assertions_in sorts trees (all_numbered facts.now) in
-        (first : List Tree) (given : List Assertion) (go : ℕ → List Assertion → Walked) →
+        (first : List Tree) (given : List Assertion) (reach : Reach)
+        (go : ℕ → List Assertion → Walked) → reach.steps ≡ shut.now.steps →
         IsShut sorts first given shut.now → IsBelow first trees (with_parts given) all →
         IfOk result (λ b. b ≡ true → (n : ℕ) ×
-        (by_classes go shut.now.steps (branch_of table.now facts.now) 1 ≡ Closes n)) }
+        (by_classes go reach (branch_of table.now facts.now) 1 ≡ Closes n)) }
     ensures stays { (v : ClassesValue) → IsFrom v base.old → IsFrom v base.new }
 {
     match &shut.by {
@@ -359,11 +382,11 @@ fn is_shut_by_forms(
         × ((ids : List TermId) →
         numbers_of ids ≡ range_with_len 0 (length (trees_in table.now)) →
         IsLedBy v (classes_by table.now ids facts.now)) }
-    ensures closes { (steps count : ℕ) (go : ℕ → List Assertion → Walked) →
+    ensures closes { (reach : Reach) (count : ℕ) (go : ℕ → List Assertion → Walked) →
         ((next : ℕ → Walked) →
-        by_forms steps 1 (length (trees_in table.now)) (Fits known.now) next ≡ Closes count) →
+        by_forms reach.steps 1 (length (trees_in table.now)) (Fits known.now) next ≡ Closes count) →
         IfOk result (λ b. b ≡ true → (n : ℕ) ×
-        (by_classes go steps (branch_of table.now facts.now) 1 ≡ Closes n)) }
+        (by_classes go reach (branch_of table.now facts.now) 1 ≡ Closes n)) }
     ensures stays { (v : ClassesValue) → IsFrom v base.old → IsFrom v base.new }
 {
     match base {
@@ -394,11 +417,11 @@ fn is_shut_over(
         × ((ids : List TermId) →
         numbers_of ids ≡ range_with_len 0 (length (trees_in table.now)) →
         IsLedBy v (classes_by table.now ids facts.now)) }
-    ensures closes { (steps count : ℕ) (go : ℕ → List Assertion → Walked) →
+    ensures closes { (reach : Reach) (count : ℕ) (go : ℕ → List Assertion → Walked) →
         ((next : ℕ → Walked) →
-        by_forms steps 1 (length (trees_in table.now)) (Fits known.now) next ≡ Closes count) →
+        by_forms reach.steps 1 (length (trees_in table.now)) (Fits known.now) next ≡ Closes count) →
         IfOk result (λ b. b ≡ true → (n : ℕ) ×
-        (by_classes go steps (branch_of table.now facts.now) 1 ≡ Closes n)) }
+        (by_classes go reach (branch_of table.now facts.now) 1 ≡ Closes n)) }
     ensures stays { (v : ClassesValue) → IsGround v grounded.old.ground grounded.old.numbering →
         IsGround v grounded.new.ground grounded.new.numbering }
 {

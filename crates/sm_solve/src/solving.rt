@@ -12,12 +12,14 @@ ghost use Rattle.sm_list.specs.Branches.{with_parts};
 ghost use Rattle.sm_list.specs.Parts.{all_numbered, assertions_in, AreFormulasWithin};
 ghost use Rattle.sm_list.specs.Renumbered.{AreTermsOf};
 ghost use Rattle.sm_judge.specs.Forms.{Walked};
+ghost use Rattle.sm_solve.specs.Naming.{AreNamed};
 ghost use Rattle.sm_solve.specs.Walk.{walk, walk_from};
 ghost use Rattle.sm_solve.specs.Walking.{TellsEnd, ShowsEnd, Shows};
 
 use crate::branching::copy_facts;
 use crate::ending::WalkEnd;
 use crate::first::walk_alone;
+use crate::reach::Reach;
 use sm_cert::CertTree;
 use sm_judge::linear_forms;
 use sm_list::{add_parts, own_branch, renumbered, renumbered_tree};
@@ -45,6 +47,7 @@ pub enum Answer {
 }
 
 /// Walks over the branches of the facts and the contrary of the target, and tells the first event.
+/// With `exact` the forms of a branch that would stay open are decided exactly.
 /// A certificate closes the branch of the facts and, last of them, the contrary. New terms go last
 /// in the table; after want of memory it is as it was.
 pub fn solve(
@@ -53,6 +56,7 @@ pub fn solve(
     facts: &[Formula],
     target: &Formula,
     steps: u64,
+    exact: bool,
 ) -> Result<Answer, AllocError>
     requires facts { AreFormulasWithin (length (trees_in table.old)) (all_numbered facts.now) }
     requires target { IsFormulaWithin (length (trees_in table.old)) (numbered target.now) }
@@ -63,7 +67,8 @@ pub fn solve(
     ensures answer { let sorts = sorts_in table.old in let trees = trees_in table.old in
         let given = assertions_in sorts trees (all_numbered facts.now) in
         let goal = assertion_in sorts trees (numbered target.now) in
-        IfOk result (λ a. Tells sorts (trees_in table.new) a (walk sorts steps given goal)) }
+        IfOk result (λ a. Tells sorts (trees_in table.new) a (walk sorts
+        (record { steps = steps; exact = exact }) given goal)) }
     ensures certifies { let sorts = sorts_in table.old in let trees = trees_in table.old in
         let given = assertions_in sorts trees (all_numbered facts.now) in
         let goal = assertion_in sorts trees (numbered target.now) in
@@ -79,7 +84,7 @@ pub fn solve(
     ensures err { OnErr result (trees_in table.new ≡ trees_in table.old) }
 {
     let len = table.len();
-    match answered(alloc, table, facts, target, steps) {
+    match answered(alloc, table, facts, target, Reach { steps, exact }) {
         Ok(answer) => Ok(answer),
         Err(e) => {
             table.cut(len);
@@ -94,7 +99,7 @@ fn answered(
     table: &mut TermTable,
     facts: &[Formula],
     target: &Formula,
-    steps: u64,
+    reach: Reach,
 ) -> Result<Answer, AllocError>
     requires facts { AreFormulasWithin (length (trees_in table.old)) (all_numbered facts.now) }
     requires target { IsFormulaWithin (length (trees_in table.old)) (numbered target.now) }
@@ -105,7 +110,7 @@ fn answered(
     ensures answer { let sorts = sorts_in table.old in let trees = trees_in table.old in
         let given = assertions_in sorts trees (all_numbered facts.now) in
         let goal = assertion_in sorts trees (numbered target.now) in
-        IfOk result (λ a. Tells sorts (trees_in table.new) a (walk sorts steps given goal)) }
+        IfOk result (λ a. Tells sorts (trees_in table.new) a (walk sorts reach given goal)) }
     ensures certifies { let sorts = sorts_in table.old in let trees = trees_in table.old in
         let given = assertions_in sorts trees (all_numbered facts.now) in
         let goal = assertion_in sorts trees (numbered target.now) in
@@ -118,7 +123,7 @@ fn answered(
 {
     let all = given_facts(alloc, facts, target)?;
     let mut own = own_branch(alloc, table, &all)?;
-    let end = walk_all(alloc, &own.table, steps, &mut own.facts)?;
+    let end = walk_all(alloc, &own.table, reach, &mut own.facts)?;
     let answer = renumbered_end(alloc, end, &own.numbers)?;
     Ok(answer)
 }
@@ -149,23 +154,25 @@ fn given_facts(
 fn walk_all(
     alloc: Global,
     table: &TermTable,
-    steps: u64,
+    reach: Reach,
     facts: &mut Vec<Formula>,
 ) -> Result<WalkEnd, AllocError>
     requires within { let count = length (trees_in table.now) in
         AreFormulasWithin count (all_numbered facts.old.items) }
     requires sorted { AreFormsSorted (sorts_in table.now)
         (assertions_in (sorts_in table.now) (trees_in table.now) (all_numbered facts.old.items)) }
+    requires named { let sorts = sorts_in table.now in let trees = trees_in table.now in
+        AreNamed trees (assertions_in sorts trees (all_numbered facts.old.items)) }
     ensures tells { let sorts = sorts_in table.now in let trees = trees_in table.now in
         let all = assertions_in sorts trees (all_numbered facts.old.items) in
-        IfOk result (λ e. TellsEnd sorts trees e (walk_from sorts trees steps 1001 0 all)) }
+        IfOk result (λ e. TellsEnd sorts trees e (walk_from sorts trees reach 1001 0 all)) }
     ensures shows { let sorts = sorts_in table.now in let trees = trees_in table.now in
         (given : List Assertion) →
         assertions_in sorts trees (all_numbered facts.old.items) ≡ with_parts given →
         IfOk result (ShowsEnd sorts trees given 1001) }
 {
     let forms = linear_forms(alloc, table)?;
-    walk_alone(alloc, table, &forms, facts, steps)
+    walk_alone(alloc, table, &forms, facts, reach)
 }
 
 // The end of a walk as an answer, under the numbers that its terms have in another table.

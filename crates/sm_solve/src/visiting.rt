@@ -17,12 +17,15 @@ ghost use Rattle.sm_list.specs.Parts.{all_numbered, assertions_in, AreFormulasWi
 ghost use Rattle.sm_judge.specs.Refutations.{IsRefutation};
 ghost use Rattle.sm_judge.specs.Seeing.{seen_in};
 ghost use Rattle.sm_judge.specs.Forms.{Walked, by_forms, forms_of};
-ghost use Rattle.sm_solve.specs.Walk.{by_classes, by_parts};
+ghost use Rattle.sm_solve.specs.Naming.{AreNamed};
+ghost use Rattle.sm_solve.specs.Walk.{by_classes, by_no_split, by_parts};
 ghost use Rattle.sm_solve.specs.Walking.{TellsVisit, ShowsVisit, IsVisitCounted};
 
+use crate::deciding::{Decision, decide_forms};
+use crate::reach::Reach;
 use sm_cc::Classes;
 use sm_cert::CertTree;
-use sm_certify::{Base, closing_tree, refutation_tree};
+use sm_certify::{Base, closing_tree, exact_tree, refutation_tree};
 use sm_judge::{BranchSplit, ByForms, by_forms, closed_by, split_of};
 use sm_num::{LinForm, Op};
 use sm_term::{Formula, TermTable, Terms};
@@ -43,7 +46,7 @@ pub(crate) enum Visit {
     Coefficient { op: Op, a: i128, b: i128 },
 }
 
-// Visits the branch of these facts, after `count` steps of `steps` with that of the visit. Its
+// Visits the branch of these facts, after `count` of the steps with that of the visit. Its
 // terms are those of the table, and the forms those of the terms; its classes begin with the base.
 pub(crate) fn visit_branch(
     alloc: Global,
@@ -52,7 +55,7 @@ pub(crate) fn visit_branch(
     forms: &[LinForm],
     terms: &Terms,
     facts: &[Formula],
-    steps: u64,
+    reach: Reach,
     count: u64,
 ) -> Result<Visit, AllocError>
     requires forms { AreAllForms (trees_in table.now) forms.now }
@@ -60,21 +63,23 @@ pub(crate) fn visit_branch(
     requires within { AreFormulasWithin (length (trees_in table.now)) (all_numbered facts.now) }
     requires sorted { AreFormsSorted (sorts_in table.now)
         (assertions_in (sorts_in table.now) (trees_in table.now) (all_numbered facts.now)) }
-    requires counted { count ≤ steps }
+    requires counted { count ≤ reach.steps }
     requires led { (v : ClassesValue) × IsFrom v base.old
         × IsLedBy v (classes_by table.now terms.now.list.items facts.now) }
+    requires named { let sorts = sorts_in table.now in let trees = trees_in table.now in
+        AreNamed trees (assertions_in sorts trees (all_numbered facts.now)) }
     ensures tells { let sorts = sorts_in table.now in let trees = trees_in table.now in
         let all = assertions_in sorts trees (all_numbered facts.now) in
         (go : ℕ → List Assertion → Walked) → IfOk result (λ v. TellsVisit sorts trees all go v
-        (by_classes go steps (branch_of table.now facts.now) count)) }
+        (by_classes go reach (branch_of table.now facts.now) count)) }
     ensures shows { let sorts = sorts_in table.now in let trees = trees_in table.now in
         let all = assertions_in sorts trees (all_numbered facts.now) in
         IfOk result (ShowsVisit sorts trees all) }
-    ensures counted { IfOk result (IsVisitCounted steps) }
+    ensures counted { IfOk result (IsVisitCounted reach.steps) }
     ensures stays { (v : ClassesValue) → IsFrom v base.old → IsFrom v base.new }
 {
     let classes = base.classes(alloc, table, forms, terms, facts)?;
-    visit_classes(alloc, &classes, table, forms, terms, facts, steps, count)
+    visit_classes(alloc, &classes, table, forms, terms, facts, reach, count)
 }
 
 // The same by the classes of the branch.
@@ -85,7 +90,7 @@ pub(crate) fn visit_classes<'a>(
     forms: &[LinForm],
     terms: &Terms,
     facts: &[Formula],
-    steps: u64,
+    reach: Reach,
     count: u64,
 ) -> Result<Visit, AllocError>
     requires forms { AreAllForms (trees_in table.now) forms.now }
@@ -98,15 +103,17 @@ pub(crate) fn visit_classes<'a>(
     requires within { AreFormulasWithin (length (trees_in table.now)) (all_numbered facts.now) }
     requires sorted { AreFormsSorted (sorts_in table.now)
         (assertions_in (sorts_in table.now) (trees_in table.now) (all_numbered facts.now)) }
-    requires counted { count ≤ steps }
+    requires counted { count ≤ reach.steps }
+    requires named { let sorts = sorts_in table.now in let trees = trees_in table.now in
+        AreNamed trees (assertions_in sorts trees (all_numbered facts.now)) }
     ensures tells { let sorts = sorts_in table.now in let trees = trees_in table.now in
         let all = assertions_in sorts trees (all_numbered facts.now) in
         (go : ℕ → List Assertion → Walked) → IfOk result (λ v. TellsVisit sorts trees all go v
-        (by_classes go steps (branch_of table.now facts.now) count)) }
+        (by_classes go reach (branch_of table.now facts.now) count)) }
     ensures shows { let sorts = sorts_in table.now in let trees = trees_in table.now in
         let all = assertions_in sorts trees (all_numbered facts.now) in
         IfOk result (ShowsVisit sorts trees all) }
-    ensures counted { IfOk result (IsVisitCounted steps) }
+    ensures counted { IfOk result (IsVisitCounted reach.steps) }
 {
     if !are_few(facts) {
         return Err(AllocError);
@@ -118,7 +125,7 @@ pub(crate) fn visit_classes<'a>(
             Ok(Visit::Closed { count, tree })
         }
         None => visit_forms(
-            alloc, classes, &labels, table, forms, terms, facts, steps, count,
+            alloc, classes, &labels, table, forms, terms, facts, reach, count,
         ),
     }
 }
@@ -139,7 +146,7 @@ fn visit_forms<'a>(
     forms: &[LinForm],
     terms: &Terms,
     facts: &[Formula],
-    steps: u64,
+    reach: Reach,
     count: u64,
 ) -> Result<Visit, AllocError>
     requires forms { AreAllForms (trees_in table.now) forms.now }
@@ -155,18 +162,30 @@ fn visit_forms<'a>(
     requires sorted { AreFormsSorted (sorts_in table.now)
         (assertions_in (sorts_in table.now) (trees_in table.now) (all_numbered facts.now)) }
     requires few { length facts.now < 2 ^ 62 }
-    requires counted { count ≤ steps }
+    requires counted { count ≤ reach.steps }
+    requires named { let sorts = sorts_in table.now in let trees = trees_in table.now in
+        AreNamed trees (assertions_in sorts trees (all_numbered facts.now)) }
     ensures tells { let sorts = sorts_in table.now in let trees = trees_in table.now in
         let all = assertions_in sorts trees (all_numbered facts.now) in
         let b = branch_of table.now facts.now in
         (go : ℕ → List Assertion → Walked) → IfOk result (λ v. TellsVisit sorts trees all go v
-        (by_forms steps count (length trees) (forms_of b) (by_parts go all (split_of b)))) }
+        (by_forms reach.steps count (length trees) (forms_of b)
+        (by_parts go (by_no_split reach b) all (split_of b)))) }
     ensures shows { let sorts = sorts_in table.now in let trees = trees_in table.now in
         let all = assertions_in sorts trees (all_numbered facts.now) in
         IfOk result (ShowsVisit sorts trees all) }
-    ensures counted { IfOk result (IsVisitCounted steps) }
+    ensures counted { IfOk result (IsVisitCounted reach.steps) }
 {
-    match by_forms(alloc, classes, labels, table, forms, facts, steps, count)? {
+    match by_forms(
+        alloc,
+        classes,
+        labels,
+        table,
+        forms,
+        facts,
+        reach.steps,
+        count,
+    )? {
         ByForms::Contradiction {
             count: at,
             refutation,
@@ -174,38 +193,71 @@ fn visit_forms<'a>(
             let tree = refutation_tree(alloc, classes, table, terms, facts, &refutation)?;
             Ok(Visit::Closed { count: at, tree })
         }
-        ByForms::GoesOn { count: at } => visit_split(alloc, classes, table, facts, at),
+        ByForms::GoesOn { count: at } => visit_split(
+            alloc, classes, table, forms, terms, facts, reach, at,
+        ),
         ByForms::Steps => Ok(Visit::Steps),
         ByForms::Coefficient { op, a, b } => Ok(Visit::Coefficient { op, a, b }),
     }
 }
 
-// Splits a branch that its forms don't close.
+// Splits a branch that its forms don't close, or decides its forms exactly.
 fn visit_split<'a>(
     alloc: Global,
     classes: &Classes<'a>,
     table: &TermTable,
+    forms: &[LinForm],
+    terms: &Terms,
     facts: &[Formula],
+    reach: Reach,
     count: u64,
 ) -> Result<Visit, AllocError>
-    requires table { trees_in classes.now.table ≡ trees_in table.now }
+    requires forms { AreAllForms (trees_in table.now) forms.now }
+    requires whole { IsWhole (trees_in table.now) terms.now.list.items }
+    requires classes { classes.now ≡ classes_by table.now terms.now.list.items facts.now }
     requires seen { seen_in (sorts_in table.now) (trees_in table.now) (trees_in table.now) facts.now
         (are_equal (setting_of classes.now))
         (are_apart (setting_of classes.now) (are_equal (setting_of classes.now)))
         ≡ branch_of table.now facts.now }
     requires within { AreFormulasWithin (length (trees_in table.now)) (all_numbered facts.now) }
+    requires sorted { AreFormsSorted (sorts_in table.now)
+        (assertions_in (sorts_in table.now) (trees_in table.now) (all_numbered facts.now)) }
+    requires few { length facts.now < 2 ^ 62 }
+    requires counted { count ≤ reach.steps }
+    requires named { let sorts = sorts_in table.now in let trees = trees_in table.now in
+        AreNamed trees (assertions_in sorts trees (all_numbered facts.now)) }
     ensures tells { let sorts = sorts_in table.now in let trees = trees_in table.now in
         let all = assertions_in sorts trees (all_numbered facts.now) in
         let b = branch_of table.now facts.now in
         (go : ℕ → List Assertion → Walked) → IfOk result (λ v. TellsVisit sorts trees all go v
-        (by_parts go all (split_of b) count)) }
+        (by_parts go (by_no_split reach b) all (split_of b) count)) }
     ensures shows { let sorts = sorts_in table.now in let trees = trees_in table.now in
         let all = assertions_in sorts trees (all_numbered facts.now) in
         IfOk result (ShowsVisit sorts trees all) }
-    ensures counted { (steps : ℕ) → count ≤ steps → IfOk result (IsVisitCounted steps) }
+    ensures counted { IfOk result (IsVisitCounted reach.steps) }
 {
     match split_of(alloc, classes, table, facts)? {
         Some(split) => Ok(Visit::Split { count, split }),
-        None => Ok(Visit::Open),
+        None => {
+            if !reach.exact {
+                return Ok(Visit::Open);
+            }
+            let left = (reach.steps - count).min(1_000_000);
+            match decide_forms(alloc, classes, table, forms, facts, left)? {
+                Decision::Refuted {
+                    count: more,
+                    sources,
+                } => {
+                    let tree = exact_tree(alloc, classes, table, terms, facts, &sources, more)?;
+                    Ok(Visit::Closed {
+                        count: count + more,
+                        tree,
+                    })
+                }
+                Decision::Solution => Ok(Visit::Open),
+                Decision::Steps => Ok(Visit::Steps),
+                Decision::Coefficient { op, a, b } => Ok(Visit::Coefficient { op, a, b }),
+            }
+        }
     }
 }

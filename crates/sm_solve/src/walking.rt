@@ -12,12 +12,14 @@ ghost use Rattle.sm_certify.specs.Given.{IsWhole, classes_by};
 ghost use Rattle.sm_list.specs.Parts.{all_numbered, assertions_in, AreFormulasWithin};
 ghost use Rattle.sm_judge.specs.Splits.{split_told, IsToldWithin, SplitsBranch};
 ghost use Rattle.sm_judge.specs.Forms.{Walked};
-ghost use Rattle.sm_solve.specs.Walk.{walk_from, by_parts};
-ghost use Rattle.sm_solve.specs.Walking.{TellsVisit, ShowsVisit, IsVisitCounted};
+ghost use Rattle.sm_solve.specs.Naming.{AreNamed, NamesNoMore, NameNoMore};
+ghost use Rattle.sm_solve.specs.Walk.{walk_from};
+ghost use Rattle.sm_solve.specs.Walking.{by_split, TellsVisit, ShowsVisit, IsVisitCounted};
 ghost use Rattle.sm_solve.specs.Walking.{TellsEnd, ShowsEnd, IsEndCounted};
 
 use crate::branching::copy_facts;
 use crate::ending::{WalkEnd, led_end, split_end};
+use crate::reach::Reach;
 use crate::solving::Leaf;
 use crate::visiting::{Visit, visit_branch};
 use sm_certify::Base;
@@ -27,7 +29,7 @@ use sm_num::LinForm;
 use sm_term::{Formula, TermTable, Terms};
 use std::alloc::{AllocError, Global};
 
-// Walks from the branch of these facts, after `count` steps of `steps`. So many more splits may
+// Walks from the branch of these facts, after `count` of the steps. So many more splits may
 // stand above a branch as there is room for. The forms are those of all terms of the table, and the
 // classes of each branch begin with the base.
 #[cycle(walk)]
@@ -37,7 +39,7 @@ pub(crate) fn walk_from(
     table: &TermTable,
     forms: &[LinForm],
     terms: &Terms,
-    steps: u64,
+    reach: Reach,
     room: u64,
     count: u64,
     facts: &mut Vec<Formula>,
@@ -48,20 +50,22 @@ pub(crate) fn walk_from(
         AreFormulasWithin count (all_numbered facts.old.items) }
     requires sorted { AreFormsSorted (sorts_in table.now)
         (assertions_in (sorts_in table.now) (trees_in table.now) (all_numbered facts.old.items)) }
-    requires counted { count ≤ steps }
+    requires counted { count ≤ reach.steps }
     requires led { (v : ClassesValue) × IsFrom v base.old
         × IsLedBy v (classes_by table.now terms.now.list.items facts.old.items) }
+    requires named { let sorts = sorts_in table.now in let trees = trees_in table.now in
+        AreNamed trees (assertions_in sorts trees (all_numbered facts.old.items)) }
     ensures tells { let sorts = sorts_in table.now in let trees = trees_in table.now in
         let all = assertions_in sorts trees (all_numbered facts.old.items) in
-        IfOk result (λ e. TellsEnd sorts trees e (walk_from sorts trees steps room count all)) }
+        IfOk result (λ e. TellsEnd sorts trees e (walk_from sorts trees reach room count all)) }
     ensures shows { let sorts = sorts_in table.now in let trees = trees_in table.now in
         let all = assertions_in sorts trees (all_numbered facts.old.items) in
         IfOk result (ShowsEnd sorts trees all room) }
-    ensures counted { IfOk result (IsEndCounted steps) }
+    ensures counted { IfOk result (IsEndCounted reach.steps) }
     ensures kept { OnOk result (facts.new.items ≡ facts.old.items) }
     ensures stays { (v : ClassesValue) → IsFrom v base.old → IsFrom v base.new }
 {
-    if room == 0 || count == steps {
+    if room == 0 || count == reach.steps {
         return Ok(WalkEnd::Steps);
     }
     let visit = visit_branch(
@@ -71,7 +75,7 @@ pub(crate) fn walk_from(
         forms,
         terms,
         facts.as_slice(),
-        steps,
+        reach,
         count + 1,
     )?;
     walk_on(
@@ -80,7 +84,7 @@ pub(crate) fn walk_from(
         table,
         forms,
         terms,
-        steps,
+        reach,
         room - 1,
         facts,
         visit,
@@ -95,7 +99,7 @@ pub(crate) fn walk_on(
     table: &TermTable,
     forms: &[LinForm],
     terms: &Terms,
-    steps: u64,
+    reach: Reach,
     room: u64,
     facts: &mut Vec<Formula>,
     visit: Visit,
@@ -108,17 +112,19 @@ pub(crate) fn walk_on(
         (assertions_in (sorts_in table.now) (trees_in table.now) (all_numbered facts.old.items)) }
     requires shows { let sorts = sorts_in table.now in let trees = trees_in table.now in
         ShowsVisit sorts trees (assertions_in sorts trees (all_numbered facts.old.items)) visit }
-    requires counted { IsVisitCounted steps visit }
+    requires counted { IsVisitCounted reach.steps visit }
     requires led { (v : ClassesValue) × IsFrom v base.old
         × IsLedBy v (classes_by table.now terms.now.list.items facts.old.items) }
+    requires named { let sorts = sorts_in table.now in let trees = trees_in table.now in
+        AreNamed trees (assertions_in sorts trees (all_numbered facts.old.items)) }
     ensures tells { let sorts = sorts_in table.now in let trees = trees_in table.now in
         let all = assertions_in sorts trees (all_numbered facts.old.items) in
-        (w : Walked) → TellsVisit sorts trees all (walk_from sorts trees steps room) visit w →
+        (w : Walked) → TellsVisit sorts trees all (walk_from sorts trees reach room) visit w →
         IfOk result (λ e. TellsEnd sorts trees e w) }
     ensures shows { let sorts = sorts_in table.now in let trees = trees_in table.now in
         let all = assertions_in sorts trees (all_numbered facts.old.items) in
         IfOk result (ShowsEnd sorts trees all (room + 1)) }
-    ensures counted { IfOk result (IsEndCounted steps) }
+    ensures counted { IfOk result (IsEndCounted reach.steps) }
     ensures kept { OnOk result (facts.new.items ≡ facts.old.items) }
     ensures stays { (v : ClassesValue) → IsFrom v base.old → IsFrom v base.new }
 {
@@ -132,7 +138,7 @@ pub(crate) fn walk_on(
         }
         Visit::Split { count: at, split } => {
             walk_parts(
-                alloc, base, table, forms, terms, steps, room, at, facts, split,
+                alloc, base, table, forms, terms, reach, room, at, facts, split,
             )
         }
         Visit::Steps => Ok(WalkEnd::Steps),
@@ -148,7 +154,7 @@ fn walk_parts(
     table: &TermTable,
     forms: &[LinForm],
     terms: &Terms,
-    steps: u64,
+    reach: Reach,
     room: u64,
     count: u64,
     facts: &mut Vec<Formula>,
@@ -160,22 +166,26 @@ fn walk_parts(
         AreFormulasWithin count (all_numbered facts.old.items) }
     requires sorted { AreFormsSorted (sorts_in table.now)
         (assertions_in (sorts_in table.now) (trees_in table.now) (all_numbered facts.old.items)) }
-    requires counted { count ≤ steps }
+    requires counted { count ≤ reach.steps }
     requires led { (v : ClassesValue) × IsFrom v base.old
         × IsLedBy v (classes_by table.now terms.now.list.items facts.old.items) }
     requires split { IsToldWithin (length (trees_in table.now)) (Some split) }
     requires line { let sorts = sorts_in table.now in let trees = trees_in table.now in
         SplitsBranch sorts trees (assertions_in sorts trees (all_numbered facts.old.items))
         (Some split) }
+    requires named { let sorts = sorts_in table.now in let trees = trees_in table.now in
+        AreNamed trees (assertions_in sorts trees (all_numbered facts.old.items)) }
+    requires names { let sorts = sorts_in table.now in let trees = trees_in table.now in
+        NameNoMore sorts trees (assertions_in sorts trees (all_numbered facts.old.items)) split }
     ensures tells { let sorts = sorts_in table.now in let trees = trees_in table.now in
         let all = assertions_in sorts trees (all_numbered facts.old.items) in
         IfOk result (λ e. TellsEnd sorts trees e
-        (by_parts (walk_from sorts trees steps room) all
+        (by_split (walk_from sorts trees reach room) all
         (split_told sorts trees (Some split)) count)) }
     ensures shows { let sorts = sorts_in table.now in let trees = trees_in table.now in
         let all = assertions_in sorts trees (all_numbered facts.old.items) in
         IfOk result (ShowsEnd sorts trees all (room + 1)) }
-    ensures counted { IfOk result (IsEndCounted steps) }
+    ensures counted { IfOk result (IsEndCounted reach.steps) }
     ensures kept { OnOk result (facts.new.items ≡ facts.old.items) }
     ensures stays { (v : ClassesValue) → IsFrom v base.old → IsFrom v base.new }
 {
@@ -187,7 +197,7 @@ fn walk_parts(
         table,
         forms,
         terms,
-        steps,
+        reach,
         room,
         count,
         facts,
@@ -200,7 +210,7 @@ fn walk_parts(
                 table,
                 forms,
                 terms,
-                steps,
+                reach,
                 room,
                 at,
                 facts,
@@ -223,7 +233,7 @@ fn walk_part(
     table: &TermTable,
     forms: &[LinForm],
     terms: &Terms,
-    steps: u64,
+    reach: Reach,
     room: u64,
     count: u64,
     facts: &mut Vec<Formula>,
@@ -235,28 +245,33 @@ fn walk_part(
         AreFormulasWithin count (all_numbered facts.old.items) }
     requires sorted { AreFormsSorted (sorts_in table.now)
         (assertions_in (sorts_in table.now) (trees_in table.now) (all_numbered facts.old.items)) }
-    requires counted { count ≤ steps }
+    requires counted { count ≤ reach.steps }
     requires led { (v : ClassesValue) × IsFrom v base.old
         × IsLedBy v (classes_by table.now terms.now.list.items facts.old.items) }
     requires formula { IsFormulaWithin (length (trees_in table.now)) (numbered f) }
     requires formula_sorted { IsFormSorted (sorts_in table.now)
         (assertion_in (sorts_in table.now) (trees_in table.now) (numbered f)) }
+    requires named { let sorts = sorts_in table.now in let trees = trees_in table.now in
+        AreNamed trees (assertions_in sorts trees (all_numbered facts.old.items)) }
+    requires names { let sorts = sorts_in table.now in let trees = trees_in table.now in
+        NamesNoMore (assertions_in sorts trees (all_numbered facts.old.items))
+        (assertion_in sorts trees (numbered f)) }
     ensures tells { let sorts = sorts_in table.now in let trees = trees_in table.now in
         let all = assertions_in sorts trees (all_numbered facts.old.items) in
         let last = assertion_in sorts trees (numbered f) in
         IfOk result (λ e. TellsEnd sorts trees e
-        (walk_from sorts trees steps room count (all ++ with_parts (last ∷ [])))) }
+        (walk_from sorts trees reach room count (all ++ with_parts (last ∷ [])))) }
     ensures shows { let sorts = sorts_in table.now in let trees = trees_in table.now in
         let all = assertions_in sorts trees (all_numbered facts.old.items) in
         let last = assertion_in sorts trees (numbered f) in
         IfOk result (ShowsEnd sorts trees (all ++ last ∷ []) room) }
-    ensures counted { IfOk result (IsEndCounted steps) }
+    ensures counted { IfOk result (IsEndCounted reach.steps) }
     ensures kept { OnOk result (facts.new.items ≡ facts.old.items) }
     ensures stays { (v : ClassesValue) → IsFrom v base.old → IsFrom v base.new }
 {
     let from = facts.len();
     add_with_parts(alloc, facts, f)?;
-    let end = walk_from(alloc, base, table, forms, terms, steps, room, count, facts)?;
+    let end = walk_from(alloc, base, table, forms, terms, reach, room, count, facts)?;
     let led = led_end(alloc, facts.as_slice(), from, end)?;
     facts.truncate(from);
     Ok(led)

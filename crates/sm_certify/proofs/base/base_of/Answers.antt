@@ -4,7 +4,6 @@ use Rattle.sm_term.specs.Tables.{trees_in}
 use Rattle.sm_cc.specs.declared.classes.GivenFact.{GivenFact}
 use Rattle.sm_cc.specs.declared.ground.Grounded.{Grounded}
 use Rattle.sm_cc.specs.Ground.{IsGround}
-use Rattle.sm_certify.specs.Given.{given_from}
 use Rattle.sm_certify.proofs.GivenLemmas.{whole_before, given_of_terms}
 use Rattle.sm_certify.proofs.base.base_of.Goals as goal
 

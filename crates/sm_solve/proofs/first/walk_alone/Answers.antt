@@ -40,14 +40,14 @@ returns-clause-tells c =
     let sorts = sorts_in table in
     let trees = trees_in table in
     let all = assertions_in sorts trees (all_numbered c.args.facts.now.items) in
-    let go = walk_from sorts trees c.args.steps 1000 in
+    let go = walk_from sorts trees c.args.reach 1000 in
     let some : 1001 ≡ 0 → ⊥ = λ e. omega (arith, e) in
-    let less : 0 < c.args.steps = omega arith in
-    let next = walk_next sorts trees c.args.steps 1001 0 all some less in
+    let less : 0 < c.args.reach.steps = omega arith in
+    let next = walk_next sorts trees c.args.reach 1001 0 all some less in
     let told = subst (λ (fs : List Formula). TellsVisit sorts trees (assertions_in sorts trees (all_numbered fs)) go c.in_ok-visit.visit
-    (by_classes go c.args.steps (branch_of table fs) 1)) c.as_slice.ensures.value (c.in_ok-visit.ensures.tells go) in
-    c.in_ok-led.ensures.tells sorts trees (walk_from sorts trees c.args.steps 1001 0 all)
-    (c.in_ok-end.ensures.tells (walk_from sorts trees c.args.steps 1001 0 all)
+    (by_classes go c.args.reach (branch_of table fs) 1)) c.as_slice.ensures.value (c.in_ok-visit.ensures.tells go) in
+    c.in_ok-led.ensures.tells sorts trees (walk_from sorts trees c.args.reach 1001 0 all)
+    (c.in_ok-end.ensures.tells (walk_from sorts trees c.args.reach 1001 0 all)
     (subst (λ (w : Walked). TellsVisit sorts trees all go c.in_ok-visit.visit w) (sym next) told))
 
 pub returns-clause-shows : goal.returns-clause-shows

@@ -8,8 +8,9 @@ use Rattle.sm_term.specs.Tables.{trees_in, sorts_in}
 use Rattle.sm_cc.specs.Ground.{IsLedBy}
 use Rattle.sm_certify.specs.Given.{classes_by}
 use Rattle.sm_list.specs.Parts.{all_numbered, assertions_in}
+use Rattle.sm_solve.specs.Naming.{AreNamed}
 use Rattle.sm_solve.specs.Sharing.{room_for_goal}
-use Rattle.sm_solve.proofs.ShutLemmas.{node_led, node_sorted, node_shut}
+use Rattle.sm_solve.proofs.ShutLemmas.{node_led, node_named, node_sorted, node_shut}
 use Rattle.sm_solve.proofs.node.with_shut.Goals as goal
 
 pub shut_of-requires-clause-sorted : goal.shut_of-requires-clause-sorted
@@ -26,6 +27,12 @@ shut_of-requires-clause-led c =
       l.1,
       λ ids counted. subst (λ (fs : List Formula). IsLedBy l.0 (classes_by own ids fs)) (sym c.deref-2.ensures.value) (l.2 ids counted),
     )
+
+pub shut_of-requires-clause-named : goal.shut_of-requires-clause-named
+shut_of-requires-clause-named c =
+    let own = c.args.node.terms.own in
+    subst (λ (fs : List Formula). AreNamed (trees_in own) (assertions_in (sorts_in own) (trees_in own) (all_numbered fs)))
+    (sym c.deref-2.ensures.value) (node_named c.requires.0 c.requires.1 c.args.node c.requires.2)
 
 pub returns : goal.returns
 returns c = λ table given is.

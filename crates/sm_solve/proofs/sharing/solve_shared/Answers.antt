@@ -38,7 +38,7 @@ returns-in_ok-answer-in-None-clause-answer c =
     moved_back c.args.table.now c.solve.new.table c.in_ok-answer.ensures.grows (all_numbered c.args.facts.now) c.requires.facts
     (numbered c.args.target.now) c.requires.target
     (λ (s : Sorts) (given : List Assertion) (goal : Assertion).
-    Tells s (trees_in c.solve-in-None.new.table) c.in_ok-answer-in-None.answer (walk s c.args.steps given goal))
+    Tells s (trees_in c.solve-in-None.new.table) c.in_ok-answer-in-None.answer (walk s c.args.reach given goal))
     c.in_ok-answer-in-None.ensures.answer
 
 pub returns-in_ok-answer-in-None-clause-certifies : goal.returns-in_ok-answer-in-None-clause-certifies

@@ -5,8 +5,8 @@ use Rattle.sm_cert.specs.declared.tree.CertTree.{CertTree}
 use Rattle.sm_solve.specs.Walking.{ShowsVisit, ClosesIn}
 use Rattle.sm_solve.proofs.shut.found.Goals as goal
 
-pub returns-in-Some-2-clause-closes : goal.returns-in-Some-2-clause-closes
-returns-in-Some-2-clause-closes c = λ given is.
+pub returns-then-names_what_it_reads-clause-closes : goal.returns-then-names_what_it_reads-clause-closes
+returns-then-names_what_it_reads-clause-closes c = λ given is.
     let sorts = sorts_in c.args.table.now in
     let trees = trees_in c.args.table.now in
     let shows = subst (λ (fs : List Assertion). ShowsVisit sorts trees fs c.in_ok-visit-in-Some.visit) is c.in_ok-visit-in-Some.ensures.shows in

@@ -32,7 +32,7 @@ behind-requires-clause-before c =
     whole_before (trees_in c.args.table.now) c.in_ok-terms.terms.list.items c.in_ok-terms.ensures.whole
 
 pub returns-then-is_refuted_by-clause-closes : goal.returns-then-is_refuted_by-clause-closes
-returns-then-is_refuted_by-clause-closes c = λ steps count go sums same.
+returns-then-is_refuted_by-clause-closes c = λ reach count go sums same.
     let table = c.args.table.now in
     let facts = c.args.facts.now in
     let ids = c.in_ok-terms.terms.list.items in
@@ -44,7 +44,7 @@ returns-then-is_refuted_by-clause-closes c = λ steps count go sums same.
     let equal = c.in_ok-behind.ensures.equal led.0 given led.1 two (led.3 ids c.in_ok-terms.ensures.counted) in
     let labels = subst (AreEqualByLabels w) (sym c.deref-2.ensures.value) equal in (
       1,
-      closed_walks go steps (branch_of table facts)
+      closed_walks go reach (branch_of table facts)
           (c.is_refuted_by.ensures table ids whole c.requires.within labels c.if-is_refuted_by.true),
     )
 
@@ -61,7 +61,7 @@ are_forms-requires-clause-counted c =
     ap length c.deref-3.ensures.value ∙ equal.count ∙ count_of ids (length (trees_in table)) c.in_ok-terms.ensures.counted
 
 pub returns-clause-closes : goal.returns-clause-closes
-returns-clause-closes c = λ steps count go sums.
+returns-clause-closes c = λ reach count go sums.
     let table = c.args.table.now in
     let facts = c.args.facts.now in
     let ids = c.in_ok-terms.terms.list.items in
@@ -84,7 +84,7 @@ returns-clause-closes c = λ steps count go sums.
     let s : Seen = seen_in (sorts_in table) trees trees facts equal (are_apart (setting_of w) equal) in
     let b = branch_of table facts in
     IfOk-weaker c.are_forms.result (λ r. r ≡ true → forms_of s ≡ Fits c.args.known.now)
-    (λ r. r ≡ true → (n : ℕ) × (by_classes go steps b 1 ≡ Closes n))
-    (λ r are same. closes_either go steps count b
-    (λ next. ap (λ (o : Outcome (List (Linear ℕ))). by_forms steps 1 (length trees) o next) (ap forms_of (sym seen) ∙ are same) ∙ sums next))
+    (λ r. r ≡ true → (n : ℕ) × (by_classes go reach b 1 ≡ Closes n))
+    (λ r are same. closes_either go reach count b
+    (λ next. ap (λ (o : Outcome (List (Linear ℕ))). by_forms reach.steps 1 (length trees) o next) (ap forms_of (sym seen) ∙ are same) ∙ sums next))
     (c.are_forms.ensures equal (are_apart (setting_of w) equal) labels)

@@ -1,5 +1,5 @@
 -- The walk closes at its first visit, and the certificate of the facts serves.
-use Rattle.std.proofs.Common.{◌≡◌, ℕ, List, sym, subst}
+use Rattle.std.proofs.Common.{◌≡◌, ℕ, List, sym, subst, arith}
 use Rattle.sm_term.specs.declared.term.TermId.{TermId}
 use Rattle.sm_term.specs.Tables.{trees_in, sorts_in}
 use Rattle.sm_list.specs.Parts.{all_numbered, assertions_in}
@@ -15,12 +15,12 @@ returns-clause-tells c = λ first given is below.
     let sorts = sorts_in table in
     let trees = trees_in table in
     let all = assertions_in sorts trees (all_numbered c.args.facts.now) in
-    let steps = c.args.shut.now.steps in
-    let told = c.in_ok-is_still_shut.ensures.closes first given (walk_from sorts trees steps 1000) is below c.if-not-branch.false in (
-      told.0,
-      subst (λ (s : ℕ). walk_from sorts trees s 1001 0 all ≡ Closes told.0) c.if-shut-steps.false
-          (visit_walks sorts trees steps told.0 all is.some told.1),
-    )
+    let reach = c.args.reach in
+    let same : reach.steps ≡ c.args.shut.now.steps = sym c.if-shut-reach.false in
+    let told = c.in_ok-is_still_shut.ensures.closes first given reach (walk_from sorts trees reach 1000) same is below
+    c.if-not-branch.false in
+    let some = is.some in
+    (told.0, visit_walks sorts trees reach told.0 all (omega (arith, same, some)) told.1)
 
 pub returns-clause-shows : goal.returns-clause-shows
 returns-clause-shows c = λ first given f is longer.
@@ -30,5 +30,5 @@ returns-clause-shows c = λ first given f is longer.
     let terms = subst (λ (ids : List TermId). AreTermsOf trees ids first) (sym c.deref.ensures.value)
     (first_terms first trees shut.terms.list.items longer is.counted) in
     let made = c.in_ok-tree in
-    closes_on sorts first trees given f shut.tree made.tree is.closes (made.ensures.same first trees terms is.closes.within)
+    closes_on sorts first trees given f shut.tree made.tree is.closes is.named (made.ensures.same first trees terms is.closes.within)
     (made.ensures.within first trees terms is.closes.within)

@@ -12,6 +12,7 @@ use Rattle.sm_list.specs.Branches.{with_parts, terms_of}
 use Rattle.sm_list.specs.Parts.{all_numbered, assertions_in, AreFormulasWithin}
 use Rattle.sm_solve.specs.Walk.{walk_from}
 use Rattle.sm_solve.specs.Walking.{Shows}
+use Rattle.sm_solve.proofs.NamingLemmas.{named_root}
 use Rattle.sm_solve.proofs.SolvingLemmas.{given_sorted, walk_own, shows_certify}
 use Rattle.sm_solve.proofs.solving.answered.Goals as goal
 
@@ -34,6 +35,12 @@ walk_all-requires-clause-sorted c =
     subst (AreFormsSorted (sorts_in c.in_ok-own.own.table)) (sym (c.in_ok-own.ensures.facts ∙ are))
     (subst (λ (s : Sorts). AreFormsSorted s all) (sym c.in_ok-own.ensures.sorts) sorted)
 
+pub walk_all-requires-clause-named : goal.walk_all-requires-clause-named
+walk_all-requires-clause-named c =
+    let own = c.in_ok-own.own in
+    named_root (trees_in own.table) (assertions_in (sorts_in own.table) (trees_in own.table) (all_numbered own.facts.items))
+    (c.in_ok-own.ensures.terms ∙ ap terms_of (sym c.in_ok-own.ensures.facts))
+
 pub returns-clause-answer : goal.returns-clause-answer
 returns-clause-answer c =
     let sorts = sorts_in c.args.table.now in
@@ -45,11 +52,11 @@ returns-clause-answer c =
     let facts = assertions_in (sorts_in own.table) (trees_in own.table) (all_numbered own.facts.items) in
     let are = ap (λ (fs : List Formula). assertions_in sorts trees (all_numbered fs)) c.deref.ensures.value
     ∙ c.in_ok-all.ensures.facts sorts trees in
-    let w = walk_from (sorts_in own.table) (trees_in own.table) c.args.steps 1001 0 facts in
+    let w = walk_from (sorts_in own.table) (trees_in own.table) c.args.reach 1001 0 facts in
     let told = c.in_ok-answer.ensures.tells (sorts_in own.table) (trees_in own.table) others w c.in_ok-own.ensures.numbers
     c.in_ok-end.ensures.tells in
     subst (Tells sorts others c.in_ok-answer.answer)
-    (walk_own sorts (sorts_in own.table) (trees_in own.table) c.args.steps facts
+    (walk_own sorts (sorts_in own.table) (trees_in own.table) c.args.reach facts
     (assertions_in sorts trees (all_numbered c.deref.result.now)) (with_parts (given ++ negate target ∷ [])) c.in_ok-own.ensures.sorts
     c.in_ok-own.ensures.terms c.in_ok-own.ensures.facts are)
     (subst (λ (s : Sorts). Tells s others c.in_ok-answer.answer w) c.in_ok-own.ensures.sorts told)

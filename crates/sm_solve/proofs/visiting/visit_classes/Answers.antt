@@ -40,7 +40,7 @@ returns-in-Some-clause-tells c = λ go.
     let b = branch_of table c.args.facts.now in
     let closed : true ≡ is_closed b =
     ap (λ (o : Option Closing). is_some o) (sym c.in-Some.is) ∙ c.in_ok-why.ensures.closed ∙ ap is_closed c.requires.seen in
-    closed_told go c.args.steps c.args.count b closed
+    closed_told go c.args.reach c.args.count b closed
 
 pub returns-clause-tells : goal.returns-clause-tells
 returns-clause-tells c = λ go.
@@ -52,4 +52,4 @@ returns-clause-tells c = λ go.
     let open_still : false ≡ is_closed b =
     ap (λ (o : Option Closing). is_some o) (sym c.in-None.is) ∙ c.in_ok-why.ensures.closed ∙ ap is_closed c.requires.seen in
     subst (λ (w : Walked). IfOk c.visit_forms.result (λ v. TellsVisit sorts trees all go v w))
-    (sym (open_told go c.args.steps c.args.count b open_still)) (c.visit_forms.ensures.tells go)
+    (sym (open_told go c.args.reach c.args.count b open_still)) (c.visit_forms.ensures.tells go)

@@ -10,7 +10,7 @@ use Rattle.sm_list.specs.Parts.{all_numbered, assertions_in}
 use Rattle.sm_judge.specs.Refutations.{TellsForms}
 use Rattle.sm_judge.specs.Seeing.{seen_in}
 use Rattle.sm_judge.specs.Forms.{Walked, by_forms, forms_of}
-use Rattle.sm_solve.specs.Walk.{by_parts}
+use Rattle.sm_solve.specs.Walk.{by_no_split, by_parts}
 use Rattle.sm_solve.specs.Walking.{TellsVisit}
 use Rattle.sm_solve.proofs.visiting.visit_forms.Goals as goal
 
@@ -24,8 +24,8 @@ returns-in-GoesOn-clause-tells c = λ go.
     let b = branch_of table facts in
     let equal = are_equal (setting_of c.args.classes.now) in
     let s : Seen = seen_in sorts trees trees facts equal (are_apart (setting_of c.args.classes.now) equal) in
-    let next : ℕ → Walked = by_parts go all (split_of b) in
-    let came : Seen → Walked = λ (v : Seen). by_forms c.args.steps c.args.count (length trees) (forms_of v) next in
+    let next : ℕ → Walked = by_parts go (by_no_split c.args.reach b) all (split_of b) in
+    let came : Seen → Walked = λ (v : Seen). by_forms c.args.reach.steps c.args.count (length trees) (forms_of v) next in
     let told : came s ≡ next c.in-GoesOn.at =
     subst (λ (r : ByForms). TellsForms r (came s) next) c.in-GoesOn.is (c.in_ok-at.ensures.forms next) in
     let whole : came b ≡ next c.in-GoesOn.at = subst (λ (v : Seen). came v ≡ next c.in-GoesOn.at) c.requires.seen told in

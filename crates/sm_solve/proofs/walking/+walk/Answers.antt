@@ -12,9 +12,11 @@ use Rattle.sm_certify.specs.Given.{branch_of}
 use Rattle.sm_list.specs.Parts.{all_numbered, assertions_in, AreFormulasWithin}
 use Rattle.sm_judge.specs.Splits.{split_told}
 use Rattle.sm_judge.specs.Forms.{Walked}
-use Rattle.sm_solve.specs.Walk.{walk_from, by_classes, by_parts}
-use Rattle.sm_solve.specs.Walking.{TellsVisit, ShowsVisit, IsVisitCounted, TellsEnd, ShowsEnd, IsEndCounted}
+use Rattle.sm_solve.specs.Naming.{AreNamed, NamesNoMore}
+use Rattle.sm_solve.specs.Walk.{walk_from, by_classes}
+use Rattle.sm_solve.specs.Walking.{by_split, TellsVisit, ShowsVisit, IsVisitCounted, TellsEnd, ShowsEnd, IsEndCounted}
 use Rattle.sm_solve.proofs.BasesLemmas.{led_same, led_longer}
+use Rattle.sm_solve.proofs.NamingLemmas.{named_more}
 use Rattle.sm_solve.proofs.SortedLemmas.{sorted_more, told_sorted}
 use Rattle.sm_solve.proofs.WalkingLemmas.{walk_next, as_many, cut_back}
 use Rattle.sm_solve.proofs.walking.+walk.Goals as goal
@@ -50,7 +52,7 @@ walk_from-walk_on-requires t c =
                 shows,
                 (
                   c.in_ok-visit.ensures.counted,
-                  (led.0, still, led.2),
+                  ((led.0, still, led.2), c.requires.named),
                 ),
               ),
             ),
@@ -65,12 +67,12 @@ walk_from-returns-clause-tells t c =
     let sorts = sorts_in table in
     let trees = trees_in table in
     let all = assertions_in sorts trees (all_numbered c.args.facts.now.items) in
-    let go = walk_from sorts trees c.args.steps (c.args.room - 1) in
-    let less : c.args.count < c.args.steps = omega arith in
-    let next = walk_next sorts trees c.args.steps c.args.room c.args.count all c.if-room-eq0.false less in
+    let go = walk_from sorts trees c.args.reach (c.args.room - 1) in
+    let less : c.args.count < c.args.reach.steps = omega arith in
+    let next = walk_next sorts trees c.args.reach c.args.room c.args.count all c.if-room-eq0.false less in
     let told = subst (λ (fs : List Formula). TellsVisit sorts trees (assertions_in sorts trees (all_numbered fs)) go c.in_ok-visit.visit
-    (by_classes go c.args.steps (branch_of table fs) (c.args.count + 1))) c.as_slice.ensures.value (c.in_ok-visit.ensures.tells go) in
-    c.walk_on.ensures.tells (walk_from sorts trees c.args.steps c.args.room c.args.count all)
+    (by_classes go c.args.reach (branch_of table fs) (c.args.count + 1))) c.as_slice.ensures.value (c.in_ok-visit.ensures.tells go) in
+    c.walk_on.ensures.tells (walk_from sorts trees c.args.reach c.args.room c.args.count all)
     (subst (λ (w : Walked). TellsVisit sorts trees all go c.in_ok-visit.visit w) (sym next) told)
 
 pub walk_from-returns-clause-shows : goal.walk_from-returns-clause-shows
@@ -91,17 +93,17 @@ walk_on-walk_parts-requires t c =
     let all = assertions_in sorts trees (all_numbered c.args.facts.now.items) in
     let whole : 4 * c.args.room + 3 ≡ t = c.decreases in
     let less : 4 * c.args.room + 2 < t = omega arith in
-    let counted = subst (IsVisitCounted c.args.steps) c.in-Split.is c.requires.counted in
+    let counted = subst (IsVisitCounted c.args.reach.steps) c.in-Split.is c.requires.counted in
     let shows = subst (ShowsVisit sorts trees all) c.in-Split.is c.requires.shows in
-    (less, (c.requires.forms, (c.requires.whole, (c.requires.within, (c.requires.sorted, (counted, (c.requires.led, (shows.0, shows.1))))))))
+    (less, (c.requires.forms, (c.requires.whole, (c.requires.within, (c.requires.sorted, (counted, (c.requires.led, (shows.0, (shows.1, (c.requires.named, shows.2))))))))))
 
 pub walk_on-returns-in-Split-clause-tells : goal.walk_on-returns-in-Split-clause-tells
 walk_on-returns-in-Split-clause-tells t c = λ w told.
     let sorts = sorts_in c.args.table.now in
     let trees = trees_in c.args.table.now in
     let all = assertions_in sorts trees (all_numbered c.args.facts.now.items) in
-    let go = walk_from sorts trees c.args.steps c.args.room in
-    let is : w ≡ by_parts go all (split_told sorts trees (Some c.in-Split.split)) c.in-Split.at =
+    let go = walk_from sorts trees c.args.reach c.args.room in
+    let is : w ≡ by_split go all (split_told sorts trees (Some c.in-Split.split)) c.in-Split.at =
     subst (λ (v : Visit). TellsVisit sorts trees all go v w) c.in-Split.is told in
     subst (λ (v : Walked). IfOk c.walk_parts.result (λ e. TellsEnd sorts trees e v)) (sym is) c.walk_parts.ensures.tells
 
@@ -119,7 +121,9 @@ walk_part-walk_from-requires t c =
     let led = c.requires.led in
     let more = led_longer led.0 table c.args.terms.now.list.items c.args.facts.now.items c.add_with_parts.new.facts.items
     c.in_ok-add_with_parts.ensures.longer led.2 in
-    (less, (c.requires.forms, (c.requires.whole, (within, (sorted, (c.requires.counted, (led.0, led.1, more)))))))
+    let named = subst (AreNamed trees) (sym (c.in_ok-add_with_parts.ensures.added sorts trees))
+    (named_more trees all (assertion_in sorts trees (numbered c.args.f)) c.requires.named c.requires.names) in
+    (less, (c.requires.forms, (c.requires.whole, (within, (sorted, (c.requires.counted, ((led.0, led.1, more), named)))))))
 
 pub walk_part-led_end-requires : goal.walk_part-led_end-requires
 walk_part-led_end-requires t c =
@@ -170,7 +174,7 @@ walk_parts-walk_part-requires t c =
                 c.requires.counted,
                 (
                   c.requires.led,
-                  (c.requires.split.1.0, sorted.0),
+                  (c.requires.split.1.0, (sorted.0, (c.requires.named, c.requires.names.0))),
                 ),
               ),
             ),
@@ -190,7 +194,10 @@ walk_parts-walk_part-requires-in-Closed t c =
     let back = sym c.in_ok-at.ensures.kept in
     let within = subst (λ (fs : List Formula). AreFormulasWithin (length trees) (all_numbered fs)) back c.requires.within in
     let still = subst (λ (fs : List Formula). AreFormsSorted sorts (assertions_in sorts trees (all_numbered fs))) back c.requires.sorted in
-    let counted = subst (IsEndCounted c.args.steps) c.in-Closed.is c.in_ok-at.ensures.counted in
+    let named = subst (λ (fs : List Formula). AreNamed trees (assertions_in sorts trees (all_numbered fs))) back c.requires.named in
+    let names = subst (λ (fs : List Formula). NamesNoMore (assertions_in sorts trees (all_numbered fs))
+    (assertion_in sorts trees (numbered c.args.split.second))) back c.requires.names.1 in
+    let counted = subst (IsEndCounted c.args.reach.steps) c.in-Closed.is c.in_ok-at.ensures.counted in
     let led = c.requires.led in
     let same = led_same led.0 c.args.table.now c.args.terms.now.list.items c.args.facts.now.items c.walk_part.new.facts.items
     c.in_ok-at.ensures.kept led.2 in (
@@ -207,7 +214,7 @@ walk_parts-walk_part-requires-in-Closed t c =
                 counted,
                 (
                   (led.0, c.in_ok-at.ensures.stays led.0 led.1, same),
-                  (c.requires.split.1.1, sorted.1),
+                  (c.requires.split.1.1, (sorted.1, (named, names))),
                 ),
               ),
             ),

@@ -2,7 +2,7 @@
 use Rattle.std.proofs.Common.{ℕ, List, [], refl, take, slice_set, arith, ap, ◌∙◌, sym}
 use Rattle.sm_term.specs.declared.formula.Formula.{Formula}
 use Rattle.sm_term.specs.declared.formula.Formula.TheVariants as tree
-use Rattle.sm_list.specs.Branches.{with_formulas}
+use Rattle.sm_theory.specs.TermsOfFormulas.{with_formulas}
 use Rattle.sm_solve.specs.Sharing.{room_for_goal}
 use Rattle.sm_solve.proofs.AtGoalLemmas.{closed, first_fits, first_closed, place_left}
 use Rattle.sm_solve.proofs.node.Node.close_goal.Goals as goal

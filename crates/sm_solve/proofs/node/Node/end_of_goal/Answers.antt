@@ -12,7 +12,7 @@ pub returns-in-Some-clause-tells : goal.returns-in-Some-clause-tells
 returns-in-Some-clause-tells c = λ table given contrary at.
     let sorts = sorts_in table in
     let all = with_parts (given ++ contrary ∷ []) in
-    let w = walk_from sorts (terms_of all) c.args.steps 1001 0 all in
+    let w = walk_from sorts (terms_of all) c.args.reach 1001 0 all in
     subst (λ (o : Option CertTree). IfSome o (λ t. (n : ℕ) × (w ≡ Closes n))) c.in-Some.is
     (c.in_ok-tree.ensures.tells table given contrary at)
 

@@ -11,9 +11,9 @@ use Rattle.sm_cc.specs.Ground.{IsGround}
 use Rattle.sm_certify.specs.declared.base.Base.TheVariants as base
 use Rattle.sm_judge.specs.AllForms.{AreAllForms}
 use Rattle.sm_certify.specs.Bases.{IsFrom}
-use Rattle.sm_list.specs.Branches.{with_formulas}
+use Rattle.sm_theory.specs.TermsOfFormulas.{with_formulas}
 use Rattle.sm_certify.specs.Given.{IsWhole, classes_by}
-use Rattle.sm_list.specs.Listing.{numbers_of}
+use Rattle.sm_terms.specs.Listing.{numbers_of}
 use Rattle.sm_list.specs.Parts.{all_numbered, assertions_in, AreFormulasWithin}
 use Rattle.sm_solve.proofs.GroundingLemmas.{room_sorted, as_many, node_of}
 use Rattle.sm_solve.proofs.node.Node.grounded.Goals as goal

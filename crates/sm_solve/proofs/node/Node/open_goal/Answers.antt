@@ -4,7 +4,7 @@ use Rattle.sm_term.specs.Formulas.{numbered, assertion_in}
 use Rattle.sm_term.specs.Tables.{trees_in, sorts_in}
 use Rattle.sm_term.specs.Terms.{Tree}
 use Rattle.sm_judge.specs.AllForms.{AreAllForms}
-use Rattle.sm_list.specs.Branches.{with_formulas}
+use Rattle.sm_theory.specs.TermsOfFormulas.{with_formulas}
 use Rattle.sm_solve.specs.Sharing.{room_for_goal}
 use Rattle.sm_solve.proofs.AtGoalLemmas.{opened, opened_last, room_below, flat_there}
 use Rattle.sm_solve.proofs.NodeLemmas.{added_behind}

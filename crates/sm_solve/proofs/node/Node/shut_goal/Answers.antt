@@ -10,7 +10,8 @@ use Rattle.sm_term.specs.Tables.{trees_in, sorts_in}
 use Rattle.sm_term.specs.Terms.{Tree}
 use Rattle.sm_cc.specs.Ground.{IsLedBy}
 use Rattle.sm_solve.specs.declared.shut.Shut.{Shut}
-use Rattle.sm_list.specs.Branches.{with_parts, with_formulas, terms_of}
+use Rattle.sm_theory.specs.TermsOfFormulas.{with_formulas}
+use Rattle.sm_list.specs.Branches.{with_parts, terms_of}
 use Rattle.sm_certify.specs.Given.{given_from, classes_by}
 use Rattle.sm_list.specs.Parts.{all_numbered, assertions_in, AreFormulasWithin}
 use Rattle.sm_solve.specs.Sharing.{room_for_goal}
@@ -90,7 +91,7 @@ returns-in-Some-clause-tells c = λ table given contrary at.
     let shut_here = subst (λ (s : Sorts). IsShut s first whole c.in-Some.shut) (sym at.shared.sorts) shut in
     let below = subst (λ (fs : List Formula). IsBelow first trees (with_parts whole) (assertions_in sorts trees (all_numbered fs)))
     (sym value) (goal_below table given contrary c.args.self.now at sorts at.shared.sorts) in
-    let by : Sorts → List Tree → List Assertion → Walked = λ s ts fs. walk_from s ts c.args.steps 1001 0 fs in
+    let by : Sorts → List Tree → List Assertion → Walked = λ s ts fs. walk_from s ts c.args.reach 1001 0 fs in
     let walked : by sorts trees facts ≡ by (sorts_in table) (terms_of all) all =
     ap (λ (s : Sorts). by s trees facts) at.shared.sorts
     ∙ ap (λ (ts : List Tree). by (sorts_in table) ts facts) (at.shared.own ∙ at.terms)

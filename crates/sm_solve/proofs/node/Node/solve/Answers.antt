@@ -61,11 +61,11 @@ returns-clause-answer c = λ given is.
     let ids = c.in_ok-numbers.numbers.list.items in
     let terms = terms_of_goal table given form _ now ids (c.in_ok-numbers.ensures ∙ c.as_slice.ensures.keys) in
     let told = c.in_ok-answer.ensures.tells (sorts_in table) (trees_in c.end_of_goal.new.self.terms.own) (trees_in table)
-    (walk_from (sorts_in table) (terms_of all) c.args.steps 1001 0 all) terms (c.in_ok-end.ensures.tells table given form at) in
+    (walk_from (sorts_in table) (terms_of all) c.args.reach 1001 0 all) terms (c.in_ok-end.ensures.tells table given form at) in
     let same = c.in_ok-open_goal.ensures.grows.sorts in
     subst (λ (f : Assertion). let fs = with_parts (given ++ f ∷ []) in
-    Tells sorts (trees_in table) c.in_ok-answer.answer (walk_from sorts (terms_of fs) c.args.steps 1001 0 fs)) against
-    (subst (λ (s : Sorts). Tells s (trees_in table) c.in_ok-answer.answer (walk_from s (terms_of all) c.args.steps 1001 0 all)) same told)
+    Tells sorts (trees_in table) c.in_ok-answer.answer (walk_from sorts (terms_of fs) c.args.reach 1001 0 fs)) against
+    (subst (λ (s : Sorts). Tells s (trees_in table) c.in_ok-answer.answer (walk_from s (terms_of all) c.args.reach 1001 0 all)) same told)
 
 pub returns-clause-certifies : goal.returns-clause-certifies
 returns-clause-certifies c = λ given is.

@@ -10,7 +10,7 @@ use Rattle.sm_list.specs.Parts.{all_numbered, assertions_in}
 use Rattle.sm_judge.specs.Forms.{Walked}
 use Rattle.sm_solve.specs.Walk.{walk_from}
 use Rattle.sm_solve.specs.Walking.{TellsEnd, ShowsEnd}
-use Rattle.sm_solve.proofs.AtGoalLemmas.{led, goal_sorted, renumbered_goal}
+use Rattle.sm_solve.proofs.AtGoalLemmas.{led, goal_sorted, goal_named, renumbered_goal}
 use Rattle.sm_solve.proofs.node.Node.walk_goal.Goals as goal
 
 pub walk_over-requires-clause-within : goal.walk_over-requires-clause-within
@@ -22,6 +22,9 @@ walk_over-requires-clause-sorted c = goal_sorted c.requires.0 c.requires.1 c.req
 pub walk_over-requires-clause-led : goal.walk_over-requires-clause-led
 walk_over-requires-clause-led c = led c.requires.0 c.requires.1 c.requires.2 c.args.self.now c.requires.3
 
+pub walk_over-requires-clause-named : goal.walk_over-requires-clause-named
+walk_over-requires-clause-named c = goal_named c.requires.0 c.requires.1 c.requires.2 c.args.self.now c.requires.3
+
 pub returns-clause-tells : goal.returns-clause-tells
 returns-clause-tells c = λ table given contrary at.
     let own = c.args.self.now.terms.own in
@@ -29,7 +32,7 @@ returns-clause-tells c = λ table given contrary at.
     let facts = assertions_in (sorts_in own) (trees_in own) (all_numbered c.args.self.now.facts.items) in
     let same : facts ≡ all =
     ap (λ (s : Sorts). assertions_in s (trees_in own) (all_numbered c.args.self.now.facts.items)) at.shared.sorts ∙ at.facts in
-    let by : Sorts → List Tree → List Assertion → Walked = λ s ts fs. walk_from s ts c.args.steps 1001 0 fs in
+    let by : Sorts → List Tree → List Assertion → Walked = λ s ts fs. walk_from s ts c.args.reach 1001 0 fs in
     let walked : by (sorts_in own) (trees_in own) facts ≡ by (sorts_in table) (terms_of all) all =
     ap (λ (s : Sorts). by s (trees_in own) facts) at.shared.sorts
     ∙ ap (λ (ts : List Tree). by (sorts_in table) ts facts) (at.shared.own ∙ at.terms)

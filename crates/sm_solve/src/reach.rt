@@ -1,0 +1,9 @@
+// How far a walk goes.
+
+/// How far a walk goes: its most steps, and whether the forms of a branch that nothing splits are
+/// decided exactly, where it would stay open without.
+#[derive(Clone, Copy, Debug)]
+pub struct Reach {
+    pub steps: u64,
+    pub exact: bool,
+}
