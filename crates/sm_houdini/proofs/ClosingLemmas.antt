@@ -30,6 +30,7 @@ use Rattle.sm_list.specs.Parts.{all_numbered, assertions_in, AreFormulasWithin}
 use Rattle.sm_solve.specs.Sharing.{IsNode}
 use Rattle.sm_judge.specs.Forms.{Walked}
 use Rattle.sm_solve.specs.Walk.{walk}
+use Rattle.sm_solve.specs.declared.reach.Reach.{Reach}
 use Rattle.sm_houdini.specs.declared.marks.Marked.{Marked}
 use Rattle.sm_houdini.specs.Closing.{closing, closes_at, stays_at, owner_in}
 use Rattle.sm_houdini.specs.Marks.{all_marked, still_marked, rows}
@@ -55,12 +56,12 @@ forms_sorted sorts trees [] r = tt
 forms_sorted sorts trees (f ∷ fs) r = (r.0.1, forms_sorted sorts trees fs r.1)
 
 -- an answer tells whether a goal closes
-pub closed_tells : (sorts : Sorts) (trees ts : List Tree) (steps : ℕ) (fs : List Formula) (g : Assertion) (a : Answer) (b : Bool) →
-    Tells sorts ts a (walk sorts steps (assertions_in sorts trees (all_numbered fs)) g) →
-    ((w : Walked) → Tells sorts ts a w → is_closing w ≡ b) → b ≡ closing sorts steps (forms_in sorts trees fs) g
-closed_tells sorts trees ts steps fs g a b h by =
-    sym (by (walk sorts steps (assertions_in sorts trees (all_numbered fs)) g) h)
-    ∙ ap (λ (fs : List Assertion). closing sorts steps fs g) (forms_same sorts trees fs)
+pub closed_tells : (sorts : Sorts) (trees ts : List Tree) (reach : Reach) (fs : List Formula) (g : Assertion) (a : Answer) (b : Bool) →
+    Tells sorts ts a (walk sorts reach (assertions_in sorts trees (all_numbered fs)) g) →
+    ((w : Walked) → Tells sorts ts a w → is_closing w ≡ b) → b ≡ closing sorts reach (forms_in sorts trees fs) g
+closed_tells sorts trees ts reach fs g a b h by =
+    sym (by (walk sorts reach (assertions_in sorts trees (all_numbered fs)) g) h)
+    ∙ ap (λ (fs : List Assertion). closing sorts reach fs g) (forms_same sorts trees fs)
 
 -- the goal at a place
 goal_at : (sorts : Sorts) (trees : List Tree) (fs : List Formula) (i : ℕ) (o : Option Formula) → slice_get fs i ≡ o →
@@ -69,18 +70,18 @@ goal_at sorts trees [] i o e = ap (option_map (λ (f : Formula). assertion_in so
 goal_at sorts trees (f ∷ fs) zero o e = ap (option_map (λ (f : Formula). assertion_in sorts trees (numbered f))) e
 goal_at sorts trees (f ∷ fs) (suc i) o e = goal_at sorts trees fs i o e
 
-pub some_stays : (sorts : Sorts) (trees : List Tree) (steps : ℕ) (d : Due) (i : ℕ) (f : Formula) (b : Bool) →
+pub some_stays : (sorts : Sorts) (trees : List Tree) (reach : Reach) (d : Due) (i : ℕ) (f : Formula) (b : Bool) →
     slice_get d.targets.list.items i ≡ Some f →
-    b ≡ closing sorts steps (forms_in sorts trees d.facts.list.items) (assertion_in sorts trees (numbered f)) →
-    b ≡ closes_at sorts steps (due_in sorts trees d) i
-some_stays sorts trees steps d i f b e h =
-    h ∙ ap (closes_if (closing sorts steps (forms_in sorts trees d.facts.list.items)))
+    b ≡ closing sorts reach (forms_in sorts trees d.facts.list.items) (assertion_in sorts trees (numbered f)) →
+    b ≡ closes_at sorts reach (due_in sorts trees d) i
+some_stays sorts trees reach d i f b e h =
+    h ∙ ap (closes_if (closing sorts reach (forms_in sorts trees d.facts.list.items)))
     (sym (goal_at sorts trees d.targets.list.items i (Some f) e))
 
-pub none_stays : (sorts : Sorts) (trees : List Tree) (steps : ℕ) (d : Due) (i : ℕ) →
-    slice_get d.targets.list.items i ≡ None → true ≡ closes_at sorts steps (due_in sorts trees d) i
-none_stays sorts trees steps d i e =
-    ap (closes_if (closing sorts steps (forms_in sorts trees d.facts.list.items)))
+pub none_stays : (sorts : Sorts) (trees : List Tree) (reach : Reach) (d : Due) (i : ℕ) →
+    slice_get d.targets.list.items i ≡ None → true ≡ closes_at sorts reach (due_in sorts trees d) i
+none_stays sorts trees reach d i e =
+    ap (closes_if (closing sorts reach (forms_in sorts trees d.facts.list.items)))
     (sym (goal_at sorts trees d.targets.list.items i None e))
 
 -- what a node asks, over a wider table
@@ -92,13 +93,13 @@ due_stays v w wider d known asks =
     let goals = widened.forms_stay v w wider d.targets.list.items asks in
     λ k. record { node = d.node; facts = facts k; goals = goals k; is_final = d.last }
 
-pub closes_stays : (v w : TableValue) (wider : Widens v w) (steps : ℕ) (d : Due) (i : ℕ) →
+pub closes_stays : (v w : TableValue) (wider : Widens v w) (reach : Reach) (d : Due) (i : ℕ) →
     AreFormsReady (sorts_in v) (trees_in v) d.facts.list.items → AreFormsReady (sorts_in v) (trees_in v) d.targets.list.items →
-    closes_at (sorts_in w) steps (due_in (sorts_in w) (trees_in w) d) i
-    ≡ closes_at (sorts_in v) steps (due_in (sorts_in v) (trees_in v) d) i
-closes_stays v w wider steps d i known asks =
+    closes_at (sorts_in w) reach (due_in (sorts_in w) (trees_in w) d) i
+    ≡ closes_at (sorts_in v) reach (due_in (sorts_in v) (trees_in v) d) i
+closes_stays v w wider reach d i known asks =
     let due = due_stays v w wider d known asks in
-    λ k. closes_at (wider.sorts k) steps (due k) i
+    λ k. closes_at (wider.sorts k) reach (due k) i
 
 -- one more mark of a site
 pub still_put : (passes : ℕ → Bool) (first : ℕ) (new old ms : List Marked) (i : ℕ) (d : Marked) (b : Bool) →
@@ -175,17 +176,17 @@ none_judged passes stays choice h = go 0 choice (λ (r i : ℕ) (l : 0 ≤ r) (m
         λ k. first k ∷ more k
 
 -- marks after one more goal, over a table that widened
-pub judged_step : (v w : TableValue) → Widens v w → (steps : ℕ) (due : Due) →
+pub judged_step : (v w : TableValue) → Widens v w → (reach : Reach) (due : Due) →
     AreFormsReady (sorts_in v) (trees_in v) due.facts.list.items → AreFormsReady (sorts_in v) (trees_in v) due.targets.list.items →
     (first : ℕ) (new old ms : List Marked) (i : ℕ) (d : Marked) (at : ℕ) (b : Bool) →
     new ≡ old ++ record { number = (get_or ms i d).number; holds = b } ∷ [] →
-    b ≡ ((get_or ms i d).holds && closes_at (sorts_in w) steps (due_in (sorts_in w) (trees_in w) due) at) → at ≡ first + i → i < length ms →
-    old ≡ still_marked (closes_at (sorts_in v) steps (due_in (sorts_in v) (trees_in v) due)) first (take i ms) →
-    new ≡ still_marked (closes_at (sorts_in v) steps (due_in (sorts_in v) (trees_in v) due)) first (take (i + 1) ms)
-judged_step v w wider steps due known asks first new old ms i d at b is holds place h before =
-    let passes = closes_at (sorts_in v) steps (due_in (sorts_in v) (trees_in v) due) in
+    b ≡ ((get_or ms i d).holds && closes_at (sorts_in w) reach (due_in (sorts_in w) (trees_in w) due) at) → at ≡ first + i → i < length ms →
+    old ≡ still_marked (closes_at (sorts_in v) reach (due_in (sorts_in v) (trees_in v) due)) first (take i ms) →
+    new ≡ still_marked (closes_at (sorts_in v) reach (due_in (sorts_in v) (trees_in v) due)) first (take (i + 1) ms)
+judged_step v w wider reach due known asks first new old ms i d at b is holds place h before =
+    let passes = closes_at (sorts_in v) reach (due_in (sorts_in v) (trees_in v) due) in
     let same : b ≡ ((get_or ms i d).holds && passes (first + i)) =
-    holds ∙ ap (λ (x : Bool). (get_or ms i d).holds && x) (closes_stays v w wider steps due at known asks)
+    holds ∙ ap (λ (x : Bool). (get_or ms i d).holds && x) (closes_stays v w wider reach due at known asks)
     ∙ ap (λ (j : ℕ). (get_or ms i d).holds && passes j) place in
     still_put passes first new old ms i d b is same h before
 
@@ -195,16 +196,16 @@ ok_map (Ok x) P Q f h = f x h
 ok_map (Err e) P Q f h = h
 
 -- marks that were judged over a wider table
-pub judged_over : (v w : TableValue) → Widens v w → (steps : ℕ) (due : Due) →
+pub judged_over : (v w : TableValue) → Widens v w → (reach : Reach) (due : Due) →
     AreFormsReady (sorts_in v) (trees_in v) due.facts.list.items → AreFormsReady (sorts_in v) (trees_in v) due.targets.list.items →
     (first : ℕ) (ms : List Marked) (r : Result (Vec Marked Global) AllocError) →
-    IfOk r (λ x. x.items ≡ still_marked (closes_at (sorts_in w) steps (due_in (sorts_in w) (trees_in w) due)) first ms) →
-    IfOk r (λ x. x.items ≡ still_marked (closes_at (sorts_in v) steps (due_in (sorts_in v) (trees_in v) due)) first ms)
-judged_over v w wider steps due known asks first ms r h =
+    IfOk r (λ x. x.items ≡ still_marked (closes_at (sorts_in w) reach (due_in (sorts_in w) (trees_in w) due)) first ms) →
+    IfOk r (λ x. x.items ≡ still_marked (closes_at (sorts_in v) reach (due_in (sorts_in v) (trees_in v) due)) first ms)
+judged_over v w wider reach due known asks first ms r h =
     let same = due_stays v w wider due known asks in
-    ok_map r (λ (x : Vec Marked Global). x.items ≡ still_marked (closes_at (sorts_in w) steps (due_in (sorts_in w) (trees_in w) due)) first ms)
-    (λ (x : Vec Marked Global). x.items ≡ still_marked (closes_at (sorts_in v) steps (due_in (sorts_in v) (trees_in v) due)) first ms)
-    (λ x is. is ∙ (λ k. still_marked (closes_at (wider.sorts k) steps (same k)) first ms)) h
+    ok_map r (λ (x : Vec Marked Global). x.items ≡ still_marked (closes_at (sorts_in w) reach (due_in (sorts_in w) (trees_in w) due)) first ms)
+    (λ (x : Vec Marked Global). x.items ≡ still_marked (closes_at (sorts_in v) reach (due_in (sorts_in v) (trees_in v) due)) first ms)
+    (λ x is. is ∙ (λ k. still_marked (closes_at (wider.sorts k) reach (same k)) first ms)) h
 
 -- a node of facts, over a table that has got more terms
 pub node_over : (v w : TableValue) → Grows v w → (fs : List Formula) → AreFormsReady (sorts_in v) (trees_in v) fs →
@@ -225,17 +226,17 @@ pub rows_length : {X : Type 0} (vs : List (Vec X Global)) → length (rows vs) �
 rows_length [] = refl
 rows_length (v ∷ vs) = ap suc (rows_length vs)
 
-pub past_judged : (sorts : Sorts) (steps : ℕ) (passes : ℕ → ℕ → Bool) (owners : List (Option ℕ)) (d : plain.Due) (site : ℕ)
+pub past_judged : (sorts : Sorts) (reach : Reach) (passes : ℕ → ℕ → Bool) (owners : List (Option ℕ)) (d : plain.Due) (site : ℕ)
     (choice : Choice) (vs : List (Vec Marked Global)) → owner_in owners d ≡ Some site → length vs ≤ site →
     rows vs ≡ all_marked passes 0 choice →
-    rows vs ≡ all_marked (λ (s i : ℕ). passes s i && stays_at sorts steps (owner_in owners) d s i) 0 choice
-past_judged sorts steps passes owners d site choice vs owned h e =
+    rows vs ≡ all_marked (λ (s i : ℕ). passes s i && stays_at sorts reach (owner_in owners) d s i) 0 choice
+past_judged sorts reach passes owners d site choice vs owned h e =
     let count : length vs ≡ length choice = sym (rows_length vs) ∙ ap (λ (l : List (List Marked)). length l) e ∙ marked_length passes 0 choice in
-    e ∙ none_judged passes (stays_at sorts steps (owner_in owners) d) choice
+    e ∙ none_judged passes (stays_at sorts reach (owner_in owners) d) choice
     (λ (r i : ℕ) (l : r < length choice).
     let past : suc r ≤ site = omega (arith, count, h, l) in
-    ap (λ (o : Option ℕ). not (is_site o r) || closes_at sorts steps d i) owned
-    ∙ ap (λ (b : Bool). not b || closes_at sorts steps d i) (before_site r site past))
+    ap (λ (o : Option ℕ). not (is_site o r) || closes_at sorts reach d i) owned
+    ∙ ap (λ (b : Bool). not b || closes_at sorts reach d i) (before_site r site past))
   where
     before_site : (r site : ℕ) → suc r ≤ site → (site == r) ≡ false
     before_site r site l = by (site == r) refl
@@ -244,24 +245,24 @@ past_judged sorts steps passes owners d site choice vs owned h e =
         by true f = let same : site ≡ r = eqb-true site r f in absurd (let no : suc r ≤ r = omega (arith, l, same) in omega (arith, no))
         by false f = f
 
-pub there_judged : (sorts : Sorts) (steps : ℕ) (passes : ℕ → ℕ → Bool) (owners : List (Option ℕ)) (d : plain.Due) (site : ℕ)
+pub there_judged : (sorts : Sorts) (reach : Reach) (passes : ℕ → ℕ → Bool) (owners : List (Option ℕ)) (d : plain.Due) (site : ℕ)
     (choice : Choice) (vs : List (Vec Marked Global)) (x row : Vec Marked Global) (ms : List Marked) → owner_in owners d ≡ Some site →
-    site < length vs → x ≡ get_or vs site x → ms ≡ x.items → row.items ≡ still_marked (closes_at sorts steps d) 0 ms →
+    site < length vs → x ≡ get_or vs site x → ms ≡ x.items → row.items ≡ still_marked (closes_at sorts reach d) 0 ms →
     rows vs ≡ all_marked passes 0 choice →
-    rows (set vs site row) ≡ all_marked (λ (s i : ℕ). passes s i && stays_at sorts steps (owner_in owners) d s i) 0 choice
-there_judged sorts steps passes owners d site choice vs x row ms owned h found same judged e =
+    rows (set vs site row) ≡ all_marked (λ (s i : ℕ). passes s i && stays_at sorts reach (owner_in owners) d s i) 0 choice
+there_judged sorts reach passes owners d site choice vs x row ms owned h found same judged e =
     let items = λ (v : Vec Marked Global). v.items in
     let count : length vs ≡ length choice = sym (rows_length vs) ∙ ap (λ (l : List (List Marked)). length l) e ∙ marked_length passes 0 choice in
     let inside : site < length choice = omega (arith, count, h) in
     let old : ms ≡ get_or (all_marked passes 0 choice) site [] =
     same ∙ ap items found ∙ sym (get_or-map items vs site x [] h) ∙ ap (λ (l : List (List Marked)). get_or l site []) e in
     map-set items vs site row ∙ ap (λ (l : List (List Marked)). set l site row.items) e
-    ∙ site_judged passes (closes_at sorts steps d) site 0 choice row.items inside
-    (judged ∙ ap (still_marked (closes_at sorts steps d) 0) old)
+    ∙ site_judged passes (closes_at sorts reach d) site 0 choice row.items inside
+    (judged ∙ ap (still_marked (closes_at sorts reach d) 0) old)
     ∙ all_same _ _ 0 choice (λ (r i : ℕ) (l : 0 ≤ r).
     let zero : 0 + site ≡ site = omega arith in
-    ap (λ (n : ℕ). passes r i && (not (n == r) || closes_at sorts steps d i)) zero
-    ∙ ap (λ (o : Option ℕ). passes r i && (not (is_site o r) || closes_at sorts steps d i)) (sym owned))
+    ap (λ (n : ℕ). passes r i && (not (n == r) || closes_at sorts reach d i)) zero
+    ∙ ap (λ (o : Option ℕ). passes r i && (not (is_site o r) || closes_at sorts reach d i)) (sym owned))
 
 -- a formula that is found among others that are ready
 pub ready_found : (sorts : Sorts) (trees : List Tree) (fs : List Formula) (i : ℕ) (f : Formula) → slice_get fs i ≡ Some f →

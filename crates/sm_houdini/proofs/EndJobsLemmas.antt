@@ -29,10 +29,11 @@ use Rattle.sm_plan.specs.Views.{forms_in}
 use Rattle.sm_expand.specs.declared.due.Due as program
 use Rattle.sm_expand.specs.Views.{due_in}
 use Rattle.sm_replay.specs.declared.verdict.Verdict.{Verdict}
-use Rattle.sm_list.specs.Listing.{trees_at, numbers_of, AreBelow}
+use Rattle.sm_terms.specs.Listing.{trees_at, numbers_of, AreBelow}
 use Rattle.sm_list.specs.Renumbered.{AreTermsOf}
 use Rattle.sm_judge.specs.Forms.{Walked}
 use Rattle.sm_solve.specs.Walk.{walk}
+use Rattle.sm_solve.specs.declared.reach.Reach.{Reach}
 use Rattle.sm_write.specs.TreesWithin.{AreTreesWithin}
 use Rattle.sm_write.specs.Writable.{AreShort}
 use Rattle.sm_houdini.specs.Certified.{AreCertified}
@@ -223,14 +224,14 @@ one_more k size = let next = suc-mul k size in let same : (k + 1) * size ≡ suc
     omega (arith, next, same)
 
 -- one run more closes
-pub run_left : (sorts : Sorts) (trees : List Tree) (steps : ℕ) (d : program.Due) (asks : List Formula) (k size : ℕ) →
-    RunCloses (walk sorts steps) (due_in sorts trees d) (k * size) (forms_in sorts trees (goals_from size (k * size) asks)) →
+pub run_left : (sorts : Sorts) (trees : List Tree) (reach : Reach) (d : program.Due) (asks : List Formula) (k size : ℕ) →
+    RunCloses (walk sorts reach) (due_in sorts trees d) (k * size) (forms_in sorts trees (goals_from size (k * size) asks)) →
     (later : Outcome (ℕ × Verdict)) →
-    goals_outcome (walk sorts steps (due_in sorts trees d).facts) d.node (k * size) (drop (k * size) (forms_in sorts trees asks)) later
-    ≡ goals_outcome (walk sorts steps (due_in sorts trees d).facts) d.node ((k + 1) * size) (drop ((k + 1) * size)
+    goals_outcome (walk sorts reach (due_in sorts trees d).facts) d.node (k * size) (drop (k * size) (forms_in sorts trees asks)) later
+    ≡ goals_outcome (walk sorts reach (due_in sorts trees d).facts) d.node ((k + 1) * size) (drop ((k + 1) * size)
     (forms_in sorts trees asks)) later
-run_left sorts trees steps d asks k size closes later =
-    let W = walk sorts steps (due_in sorts trees d).facts in
+run_left sorts trees reach d asks k size closes later =
+    let W = walk sorts reach (due_in sorts trees d).facts in
     let all = forms_in sorts trees asks in
     let first = k * size in
     let rest = drop size (drop first all) in
@@ -243,13 +244,13 @@ run_left sorts trees steps d asks k size closes later =
     ∙ ap (λ (n : ℕ). goals_outcome W d.node n (drop n all) later) past
 
 -- or stops the search
-run_stops : (sorts : Sorts) (trees : List Tree) (steps : ℕ) (d : program.Due) (asks : List Formula) (k size : ℕ) (s : Stop) →
-    RunStops (walk sorts steps) (due_in sorts trees d) (k * size) (forms_in sorts trees (goals_from size (k * size) asks)) s →
+run_stops : (sorts : Sorts) (trees : List Tree) (reach : Reach) (d : program.Due) (asks : List Formula) (k size : ℕ) (s : Stop) →
+    RunStops (walk sorts reach) (due_in sorts trees d) (k * size) (forms_in sorts trees (goals_from size (k * size) asks)) s →
     (later : Outcome (ℕ × Verdict)) →
-    goals_outcome (walk sorts steps (due_in sorts trees d).facts) d.node (k * size) (drop (k * size)
+    goals_outcome (walk sorts reach (due_in sorts trees d).facts) d.node (k * size) (drop (k * size)
     (forms_in sorts trees asks)) later ≡ stop_in s
-run_stops sorts trees steps d asks k size s stops later =
-    let W = walk sorts steps (due_in sorts trees d).facts in
+run_stops sorts trees reach d asks k size s stops later =
+    let W = walk sorts reach (due_in sorts trees d).facts in
     let all = forms_in sorts trees asks in
     let first = k * size in
     let rest = goals_outcome W d.node (first + size) (drop size (drop first all)) later in
@@ -277,45 +278,45 @@ closed_at : {C : Type 0} (S : Stop → Type 0) (o : Option Stop) → is_some o �
 closed_at S None is h = h
 closed_at S (Some s) is h = different is
 
-run_at : (v : TableValue) (steps : ℕ) (d : program.Due) (asks : List Formula) (runs : List RunEnd)
-    (ends : AreRunEnds v steps d asks runs) (i : ℕ)
+run_at : (v : TableValue) (reach : Reach) (d : program.Due) (asks : List Formula) (runs : List RunEnd)
+    (ends : AreRunEnds v reach d asks runs) (i : ℕ)
     (run : RunEnd) → i < length runs → run ≡ get_or runs i run →
-    IsRunEnd v steps d (i * ends.size) (goals_from ends.size (i * ends.size) asks) run
-run_at v steps d asks runs ends i run h is =
-    subst (IsRunEnd v steps d (i * ends.size) (goals_from ends.size (i * ends.size) asks)) (sym is) (ends.each i run h)
+    IsRunEnd v reach d (i * ends.size) (goals_from ends.size (i * ends.size) asks) run
+run_at v reach d asks runs ends i run h is =
+    subst (IsRunEnd v reach d (i * ends.size) (goals_from ends.size (i * ends.size) asks)) (sym is) (ends.each i run h)
 
-stops_by : (C : Type 0) (sorts : Sorts) (trees : List Tree) (w : TableValue) (steps : ℕ) (d : program.Due) (asks : List Formula)
+stops_by : (C : Type 0) (sorts : Sorts) (trees : List Tree) (w : TableValue) (reach : Reach) (d : program.Due) (asks : List Formula)
     (i size : ℕ) →
     ((later : Outcome (ℕ × Verdict)) →
-    goals_outcome (walk sorts steps (due_in sorts trees d).facts) d.node 0 (forms_in sorts trees asks) later
-    ≡ goals_outcome (walk sorts steps (due_in sorts trees d).facts) d.node (i * size) (drop (i * size) (forms_in sorts trees asks)) later) →
+    goals_outcome (walk sorts reach (due_in sorts trees d).facts) d.node 0 (forms_in sorts trees asks) later
+    ≡ goals_outcome (walk sorts reach (due_in sorts trees d).facts) d.node (i * size) (drop (i * size) (forms_in sorts trees asks)) later) →
     (goals : List (List Assertion × Assertion)) (new : List CertTree) (o : Option Stop) → is_some o ≡ true →
-    MatchOption o C (RunStops (walk sorts steps) (due_in sorts trees d) (i * size) (forms_in sorts trees (goals_from size
+    MatchOption o C (RunStops (walk sorts reach) (due_in sorts trees d) (i * size) (forms_in sorts trees (goals_from size
     (i * size) asks))) →
     MatchOption o
-    (RunCloses (walk sorts steps) (due_in sorts trees d) 0 (forms_in sorts trees asks)
+    (RunCloses (walk sorts reach) (due_in sorts trees d) 0 (forms_in sorts trees asks)
     × AreCollected w (goals ++ goals_with (due_in sorts trees d).facts (forms_in sorts trees asks)) new)
-    (RunStops (walk sorts steps) (due_in sorts trees d) 0 (forms_in sorts trees asks))
-stops_by C sorts trees w steps d asks i size closes goals new None none stops = different (sym none)
-stops_by C sorts trees w steps d asks i size closes goals new (Some s) some stops =
-    λ (later : Outcome (ℕ × Verdict)). closes later ∙ run_stops sorts trees steps d asks i size s stops later
+    (RunStops (walk sorts reach) (due_in sorts trees d) 0 (forms_in sorts trees asks))
+stops_by C sorts trees w reach d asks i size closes goals new None none stops = different (sym none)
+stops_by C sorts trees w reach d asks i size closes goals new (Some s) some stops =
+    λ (later : Outcome (ℕ × Verdict)). closes later ∙ run_stops sorts trees reach d asks i size s stops later
 
-pub runs_stop : (v w : TableValue) (steps : ℕ) (d : program.Due) (asks : List Formula) (runs : List RunEnd)
-    (ends : AreRunEnds v steps d asks runs) (i : ℕ)
+pub runs_stop : (v w : TableValue) (reach : Reach) (d : program.Due) (asks : List Formula) (runs : List RunEnd)
+    (ends : AreRunEnds v reach d asks runs) (i : ℕ)
     (run : RunEnd) → i < length runs → run ≡ get_or runs i run →
     ((later : Outcome (ℕ × Verdict)) →
-    goals_outcome (walk (sorts_in v) steps (due_in (sorts_in v) (trees_in v) d).facts) d.node 0 (forms_in (sorts_in v)
+    goals_outcome (walk (sorts_in v) reach (due_in (sorts_in v) (trees_in v) d).facts) d.node 0 (forms_in (sorts_in v)
     (trees_in v) asks) later
-    ≡ goals_outcome (walk (sorts_in v) steps (due_in (sorts_in v) (trees_in v) d).facts) d.node (i * ends.size)
+    ≡ goals_outcome (walk (sorts_in v) reach (due_in (sorts_in v) (trees_in v) d).facts) d.node (i * ends.size)
     (drop (i * ends.size) (forms_in (sorts_in v) (trees_in v) asks)) later) →
     is_some run.stop ≡ true → (goals : List (List Assertion × Assertion)) (new : List CertTree) →
     MatchOption run.stop
-    (RunCloses (walk (sorts_in v) steps) (due_in (sorts_in v) (trees_in v) d) 0 (forms_in (sorts_in v) (trees_in v) asks)
+    (RunCloses (walk (sorts_in v) reach) (due_in (sorts_in v) (trees_in v) d) 0 (forms_in (sorts_in v) (trees_in v) asks)
     × AreCollected w (goals ++ goals_with (due_in (sorts_in v) (trees_in v) d).facts (forms_in (sorts_in v) (trees_in v) asks)) new)
-    (RunStops (walk (sorts_in v) steps) (due_in (sorts_in v) (trees_in v) d) 0 (forms_in (sorts_in v) (trees_in v) asks))
-runs_stop v w steps d asks runs ends i run h is closes some goals new =
-    stops_by _ (sorts_in v) (trees_in v) w steps d asks i ends.size closes goals new run.stop some
-    (run_at v steps d asks runs ends i run h is).ends
+    (RunStops (walk (sorts_in v) reach) (due_in (sorts_in v) (trees_in v) d) 0 (forms_in (sorts_in v) (trees_in v) asks))
+runs_stop v w reach d asks runs ends i run h is closes some goals new =
+    stops_by _ (sorts_in v) (trees_in v) w reach d asks i ends.size closes goals new run.stop some
+    (run_at v reach d asks runs ends i run h is).ends
 
 -- the first terms of a table are those that it had
 pub first_stays : (v w : TableValue) → Widens v w → (from : ℕ) → from ≡ length (trees_in v) → take from (trees_in w) ≡ trees_in v
@@ -347,8 +348,8 @@ rows_sound v w wider from within runs i run same sound =
 
 -- one run more, whose goals all close
 pub runs_more : (v u w : TableValue) → Widens v u → (from : ℕ) → from ≡ length (trees_in v) →
-    (steps : ℕ) (d : program.Due) (asks : List Formula)
-    (runs : List RunEnd) (ends : AreRunEnds v steps d asks runs) (i : ℕ) (run : RunEnd) → i < length runs → run ≡ get_or runs i run →
+    (reach : Reach) (d : program.Due) (asks : List Formula)
+    (runs : List RunEnd) (ends : AreRunEnds v reach d asks runs) (i : ℕ) (run : RunEnd) → i < length runs → run ≡ get_or runs i run →
     is_some run.stop ≡ false → (goals : List (List Assertion × Assertion)) (old new : List CertTree) →
     ((copy : TableValue) (before more : List (List Assertion × Assertion)) → sorts_in copy ≡ sorts_in u →
     trees_in copy ≡ take from (trees_in u) ++ row_trees (take from (trees_in u)) run.rows →
@@ -357,8 +358,8 @@ pub runs_more : (v u w : TableValue) → Widens v u → (from : ℕ) → from �
     (trees_in v) asks))) old →
     AreCollected w (goals ++ goals_with (due_in (sorts_in v) (trees_in v) d).facts (take ((i + 1) * ends.size) (forms_in (sorts_in v)
     (trees_in v) asks))) new
-runs_more v u w wider from is steps d asks runs ends i run h same none goals old new take_run before =
-    let e = run_at v steps d asks runs ends i run h same in
+runs_more v u w wider from is reach d asks runs ends i run h same none goals old new take_run before =
+    let e = run_at v reach d asks runs ends i run h same in
     let both = closed_at _ run.stop none e.ends in
     let due = due_in (sorts_in v) (trees_in v) d in
     let first = sym (first_stays v u wider from is) in
@@ -370,25 +371,25 @@ runs_more v u w wider from is steps d asks runs ends i run h same none goals old
     (goals_with due.facts (forms_in (sorts_in v) (trees_in v) (goals_from ends.size (i * ends.size) asks))) (e.sorts
     ∙ sym wider.sorts) behind before both.1)
 
-pub runs_left : (v : TableValue) (steps : ℕ) (d : program.Due) (asks : List Formula) (runs : List RunEnd)
-    (ends : AreRunEnds v steps d asks runs) (i : ℕ)
+pub runs_left : (v : TableValue) (reach : Reach) (d : program.Due) (asks : List Formula) (runs : List RunEnd)
+    (ends : AreRunEnds v reach d asks runs) (i : ℕ)
     (run : RunEnd) → i < length runs → run ≡ get_or runs i run → is_some run.stop ≡ false → (later : Outcome (ℕ × Verdict)) →
-    goals_outcome (walk (sorts_in v) steps (due_in (sorts_in v) (trees_in v) d).facts) d.node (i * ends.size)
+    goals_outcome (walk (sorts_in v) reach (due_in (sorts_in v) (trees_in v) d).facts) d.node (i * ends.size)
     (drop (i * ends.size) (forms_in (sorts_in v) (trees_in v) asks)) later
-    ≡ goals_outcome (walk (sorts_in v) steps (due_in (sorts_in v) (trees_in v) d).facts) d.node ((i + 1) * ends.size)
+    ≡ goals_outcome (walk (sorts_in v) reach (due_in (sorts_in v) (trees_in v) d).facts) d.node ((i + 1) * ends.size)
     (drop ((i + 1) * ends.size) (forms_in (sorts_in v) (trees_in v) asks)) later
-runs_left v steps d asks runs ends i run h same none later =
-    let both = closed_at _ run.stop none (run_at v steps d asks runs ends i run h same).ends in
-    run_left (sorts_in v) (trees_in v) steps d asks i ends.size both.0 later
+runs_left v reach d asks runs ends i run h same none later =
+    let both = closed_at _ run.stop none (run_at v reach d asks runs ends i run h same).ends in
+    run_left (sorts_in v) (trees_in v) reach d asks i ends.size both.0 later
 
 -- no run yet
-pub runs_none : (v : TableValue) (steps size : ℕ) (d : program.Due) (asks : List Formula) (later : Outcome (ℕ × Verdict)) →
-    goals_outcome (walk (sorts_in v) steps (due_in (sorts_in v) (trees_in v) d).facts) d.node 0 (forms_in (sorts_in v)
+pub runs_none : (v : TableValue) (reach : Reach) (size : ℕ) (d : program.Due) (asks : List Formula) (later : Outcome (ℕ × Verdict)) →
+    goals_outcome (walk (sorts_in v) reach (due_in (sorts_in v) (trees_in v) d).facts) d.node 0 (forms_in (sorts_in v)
     (trees_in v) asks) later
-    ≡ goals_outcome (walk (sorts_in v) steps (due_in (sorts_in v) (trees_in v) d).facts) d.node (0 * size)
+    ≡ goals_outcome (walk (sorts_in v) reach (due_in (sorts_in v) (trees_in v) d).facts) d.node (0 * size)
     (drop (0 * size) (forms_in (sorts_in v) (trees_in v) asks)) later
-runs_none v steps size d asks later =
-    ap (λ (n : ℕ). goals_outcome (walk (sorts_in v) steps (due_in (sorts_in v) (trees_in v) d).facts) d.node n
+runs_none v reach size d asks later =
+    ap (λ (n : ℕ). goals_outcome (walk (sorts_in v) reach (due_in (sorts_in v) (trees_in v) d).facts) d.node n
     (drop n (forms_in (sorts_in v) (trees_in v) asks)) later) (sym (zero-mul size))
 
 pub collected_none : (v : TableValue) (facts : List Assertion) (size : ℕ) (asks : List Assertion) (goals : List
@@ -399,25 +400,25 @@ collected_none v facts size asks goals trees c =
     (sym (append-nil goals) ∙ ap (λ (n : ℕ). goals ++ goals_with facts (take n asks)) (sym (zero-mul size))) c
 
 -- all runs
-pub runs_done : (v w : TableValue) (steps : ℕ) (d : program.Due) (asks : List Formula) (runs : List RunEnd)
-    (ends : AreRunEnds v steps d asks runs) (i : ℕ) →
+pub runs_done : (v w : TableValue) (reach : Reach) (d : program.Due) (asks : List Formula) (runs : List RunEnd)
+    (ends : AreRunEnds v reach d asks runs) (i : ℕ) →
     length runs ≤ i → (goals : List (List Assertion × Assertion)) (new : List CertTree) →
     AreCollected w (goals ++ goals_with (due_in (sorts_in v) (trees_in v) d).facts (take (i * ends.size) (forms_in (sorts_in v)
     (trees_in v) asks))) new →
     ((later : Outcome (ℕ × Verdict)) →
-    goals_outcome (walk (sorts_in v) steps (due_in (sorts_in v) (trees_in v) d).facts) d.node 0 (forms_in (sorts_in v)
+    goals_outcome (walk (sorts_in v) reach (due_in (sorts_in v) (trees_in v) d).facts) d.node 0 (forms_in (sorts_in v)
     (trees_in v) asks) later
-    ≡ goals_outcome (walk (sorts_in v) steps (due_in (sorts_in v) (trees_in v) d).facts) d.node (i * ends.size)
+    ≡ goals_outcome (walk (sorts_in v) reach (due_in (sorts_in v) (trees_in v) d).facts) d.node (i * ends.size)
     (drop (i * ends.size) (forms_in (sorts_in v) (trees_in v) asks)) later) →
-    RunCloses (walk (sorts_in v) steps) (due_in (sorts_in v) (trees_in v) d) 0 (forms_in (sorts_in v) (trees_in v) asks)
+    RunCloses (walk (sorts_in v) reach) (due_in (sorts_in v) (trees_in v) d) 0 (forms_in (sorts_in v) (trees_in v) asks)
     × AreCollected w (goals ++ goals_with (due_in (sorts_in v) (trees_in v) d).facts (forms_in (sorts_in v) (trees_in v) asks)) new
-runs_done v w steps d asks runs ends i over goals new collected closes =
-    let W = walk (sorts_in v) steps (due_in (sorts_in v) (trees_in v) d).facts in
+runs_done v w reach d asks runs ends i over goals new collected closes =
+    let W = walk (sorts_in v) reach (due_in (sorts_in v) (trees_in v) d).facts in
     let all = forms_in (sorts_in v) (trees_in v) asks in
     let count = forms_count (sorts_in v) (trees_in v) asks in
     let more : length runs * ends.size ≤ i * ends.size = mul-le-mul_right ends.size over in
-    let reach = ends.reach in
-    let past : length all ≤ i * ends.size = omega (arith, count, more, reach) in (
+    let covers = ends.covers in
+    let past : length all ≤ i * ends.size = omega (arith, count, more, covers) in (
       (λ (later : Outcome (ℕ × Verdict)).
           closes later ∙ ap (λ (l : List Assertion). goals_outcome W d.node (i * ends.size) l later) (drop_all (i * ends.size) all past)),
       subst (λ (l : List Assertion). AreCollected w (goals ++ goals_with (due_in (sorts_in v) (trees_in v) d).facts l) new)
@@ -426,7 +427,7 @@ runs_done v w steps d asks runs ends i over goals new collected closes =
 
 -- what the jobs tell, each of its run
 pub plan_told : (v : PlanEndsValue) → 0 < v.each → v.count ≡ length v.dues * v.each → (runs : List RunEnd) →
-    StandInOrder (TellsEnd v) 0 v.count runs → ArePlanEnds v.table v.steps v.dues v.each runs
+    StandInOrder (TellsEnd v) 0 v.count runs → ArePlanEnds v.table v.reach v.dues v.each runs
 plan_told v some all runs tell = record {
   count = tell.all ∙ all;
   at = λ (i k : ℕ) (due : program.Due) (e : RunEnd) (h : i < length v.dues) (l : k < v.each).
@@ -439,16 +440,16 @@ plan_told v some all runs tell = record {
       let inside : place < v.count = omega (arith, all, more, one, l) in
       let node : dealt n (place / v.each) ≡ i = ap (dealt n) (div-mul-add at v.each k l) ∙ dealt_placed n i h in
       let told = subst (λ (j : ℕ). TellsEnd v j (get_or runs place e)) (zero-add place) (tell.each place e inside) in
-      subst (λ (j : ℕ). IsPartEnd v.table v.steps (get_or v.dues i due) v.each j (get_or runs place e)) (mod-mul-add at v.each k l)
-      (subst (λ (j : ℕ). IsPartEnd v.table v.steps (get_or v.dues j due) v.each (place % v.each) (get_or runs place e))
+      subst (λ (j : ℕ). IsPartEnd v.table v.reach (get_or v.dues i due) v.each j (get_or runs place e)) (mod-mul-add at v.each k l)
+      (subst (λ (j : ℕ). IsPartEnd v.table v.reach (get_or v.dues j due) v.each (place % v.each) (get_or runs place e))
       node (told due));
 }
 
 -- the runs of one node
-pub node_ends : (v : TableValue) (steps : ℕ) (dues : List program.Due) (each : ℕ) (runs : List RunEnd) → 0 < each →
-    ArePlanEnds v steps dues each runs → (i : ℕ) (due : program.Due) → i < length dues → due ≡ get_or dues i due → (part : List RunEnd) →
-    part ≡ take each (drop (placed (length dues) i * each) runs) → AreRunEnds v steps due due.targets.list.items part
-node_ends v steps dues each runs some ends i due h is part part_is =
+pub node_ends : (v : TableValue) (reach : Reach) (dues : List program.Due) (each : ℕ) (runs : List RunEnd) → 0 < each →
+    ArePlanEnds v reach dues each runs → (i : ℕ) (due : program.Due) → i < length dues → due ≡ get_or dues i due → (part : List RunEnd) →
+    part ≡ take each (drop (placed (length dues) i * each) runs) → AreRunEnds v reach due due.targets.list.items part
+node_ends v reach dues each runs some ends i due h is part part_is =
     let goals = due.targets.list.items in
     let size = size_of (length goals) each in
     let at = placed (length dues) i in
@@ -463,36 +464,36 @@ node_ends v steps dues each runs some ends i due h is part part_is =
     let turned : size * each ≡ length part * size = mul_comm size each ∙ ap (λ (n : ℕ). n * size) (sym long) in
     record {
       size = size;
-      reach = omega (arith, ceil, turned);
+      covers = omega (arith, ceil, turned);
       each = λ (k : ℕ) (e : RunEnd) (l : k < length part).
           let inside : k < each = omega (arith, l, long) in
           let place : get_or part k e ≡ get_or runs (at * each + k) e =
           ap (λ (p : List RunEnd). get_or p k e) part_is ∙ get_or-take each (drop (at * each) runs) k e inside
           ∙ get_or-drop (at * each) runs k e in
           let told = ends.at i k due e h inside in
-          subst (IsRunEnd v steps due (k * size) (goals_from size (k * size) goals)) (sym place)
-          (subst (λ (d : program.Due). IsPartEnd v steps d each k (get_or runs (at * each + k) e)) (sym is) told);
+          subst (IsRunEnd v reach due (k * size) (goals_from size (k * size) goals)) (sym place)
+          (subst (λ (d : program.Due). IsPartEnd v reach d each k (get_or runs (at * each + k) e)) (sym is) told);
     }
 
 -- the end of a run over a table with the same terms
-abbrev EndsOver : (sorts : Sorts) (trees : List Tree) (w : TableValue) (steps first : ℕ) (d : program.Due) (part : List Formula) →
+abbrev EndsOver : (sorts : Sorts) (trees : List Tree) (w : TableValue) (reach : Reach) (first : ℕ) (d : program.Due) (part : List Formula) →
     RunEnd → Type 0
-EndsOver sorts trees w steps first d part e =
+EndsOver sorts trees w reach first d part e =
     MatchOption e.stop
-    (RunCloses (walk sorts steps) (due_in sorts trees d) first (forms_in sorts trees part)
+    (RunCloses (walk sorts reach) (due_in sorts trees d) first (forms_in sorts trees part)
     × AreCollected w (goals_with (due_in sorts trees d).facts (forms_in sorts trees part)) e.trees.items)
-    (RunStops (walk sorts steps) (due_in sorts trees d) first (forms_in sorts trees part))
+    (RunStops (walk sorts reach) (due_in sorts trees d) first (forms_in sorts trees part))
 
 pub run_ended : (v t w : TableValue) → sorts_in t ≡ sorts_in v → trees_in t ≡ trees_in v → Widens t w →
-    (steps first from : ℕ) (due : program.Due) (part : List Formula) (e : RunEnd) → from ≡ length (trees_in t) →
+    (reach : Reach) (first from : ℕ) (due : program.Due) (part : List Formula) (e : RunEnd) → from ≡ length (trees_in t) →
     row_trees (take from (trees_in w)) e.rows ≡ drop from (trees_in w) → AreRowsSound (sorts_in w) (take from (trees_in w)) e.rows →
     MatchOption e.stop
-    (RunCloses (walk (sorts_in t) steps) (due_in (sorts_in t) (trees_in t) due) first (forms_in (sorts_in t) (trees_in t) part)
+    (RunCloses (walk (sorts_in t) reach) (due_in (sorts_in t) (trees_in t) due) first (forms_in (sorts_in t) (trees_in t) part)
     × AreCollected w ([] ++ goals_with (due_in (sorts_in t) (trees_in t) due).facts (forms_in (sorts_in t)
     (trees_in t) part)) e.trees.items)
-    (RunStops (walk (sorts_in t) steps) (due_in (sorts_in t) (trees_in t) due) first (forms_in (sorts_in t) (trees_in t) part)) →
-    IsRunEnd v steps due first part e
-run_ended v t w sorts trees wider steps first from due part e all behind sound ends =
+    (RunStops (walk (sorts_in t) reach) (due_in (sorts_in t) (trees_in t) due) first (forms_in (sorts_in t) (trees_in t) part)) →
+    IsRunEnd v reach due first part e
+run_ended v t w sorts trees wider reach first from due part e all behind sound ends =
     let front : take from (trees_in w) ≡ trees_in v = first_stays t w wider from all ∙ trees in
     record {
       sound = subst (λ (s : Sorts). AreRowsSound s (trees_in v) e.rows) (wider.sorts ∙ sorts)
@@ -501,22 +502,23 @@ run_ended v t w sorts trees wider steps first from due part e all behind sound e
       sorts = wider.sorts ∙ sorts;
       trees = sym (take-append-drop from (trees_in w)) ∙ ap (λ (l : List Tree). take from (trees_in w) ++ l) (sym behind)
           ∙ ap (λ (l : List Tree). l ++ row_trees l e.rows) front;
-      ends = subst (λ (s : Sorts). EndsOver s (trees_in v) w steps first due part e) sorts
-          (subst (λ (l : List Tree). EndsOver (sorts_in t) l w steps first due part e) trees ends);
+      ends = subst (λ (s : Sorts). EndsOver s (trees_in v) w reach first due part e) sorts
+          (subst (λ (l : List Tree). EndsOver (sorts_in t) l w reach first due part e) trees ends);
     }
 
 -- a run as a part of the goals
-pub part_ended : (v : TableValue) (steps : ℕ) (due : program.Due) (each number size first : ℕ) (goals part : List Formula) (e : RunEnd) →
+pub part_ended : (v : TableValue) (reach : Reach) (due : program.Due) (each number size first : ℕ) (goals part : List Formula)
+    (e : RunEnd) →
     goals ≡ due.targets.list.items → size ≡ size_of (length goals) each → first ≡ number * size → part ≡ take size (drop first goals) →
-    IsRunEnd v steps due first part e → IsPartEnd v steps due each number e
-part_ended v steps due each number size first goals part e same sized place is end =
+    IsRunEnd v reach due first part e → IsPartEnd v reach due each number e
+part_ended v reach due each number size first goals part e same sized place is end =
     let all = due.targets.list.items in
     let big : size ≡ size_of (length all) each = sized ∙ ap (λ (l : List Formula). size_of (length l) each) same in
     let from : first ≡ number * size_of (length all) each = place ∙ ap (λ (n : ℕ). number * n) big in
     let run : part ≡ goals_from (size_of (length all) each) (number * size_of (length all) each) all =
     is ∙ (λ k. take (big k) (drop (from k) (same k))) in
-    subst (λ (n : ℕ). IsRunEnd v steps due n (goals_from (size_of (length all) each) (number * size_of (length all) each) all) e) from
-    (subst (λ (p : List Formula). IsRunEnd v steps due first p e) run end)
+    subst (λ (n : ℕ). IsRunEnd v reach due n (goals_from (size_of (length all) each) (number * size_of (length all) each) all) e) from
+    (subst (λ (p : List Formula). IsRunEnd v reach due first p e) run end)
 
 -- the numbers that come of an adoption
 pub numbers_adopted : (v w : TableValue) → Widens v w → (from : ℕ) → from ≤ length (trees_in v) →
@@ -531,27 +533,27 @@ numbers_adopted v w wider from behind made ids others same r stored =
     (is ∙ ap (λ (l : List TermId). range_with_len 0 from ++ numbers_of l) same))
 
 -- the rows of each run are sound, over a wider table
-pub runs_sound : (v w : TableValue) → Widens v w → (from : ℕ) → from ≡ length (trees_in v) → (steps : ℕ) (d : program.Due)
-    (asks : List Formula) (runs : List RunEnd) → AreRunEnds v steps d asks runs → (k : ℕ) (run : RunEnd) → k < length runs →
+pub runs_sound : (v w : TableValue) → Widens v w → (from : ℕ) → from ≡ length (trees_in v) → (reach : Reach) (d : program.Due)
+    (asks : List Formula) (runs : List RunEnd) → AreRunEnds v reach d asks runs → (k : ℕ) (run : RunEnd) → k < length runs →
     AreRowsSound (sorts_in w) (take from (trees_in w)) (get_or runs k run).rows
-runs_sound v w wider from is steps d asks runs ends k run h =
+runs_sound v w wider from is reach d asks runs ends k run h =
     subst (λ (s : Sorts). AreRowsSound s (take from (trees_in w)) (get_or runs k run).rows) (sym wider.sorts)
     (subst (λ (l : List Tree). AreRowsSound (sorts_in v) l (get_or runs k run).rows) (sym (first_stays v w wider from is))
     (ends.each k run h).sound)
 
 -- all goals that a node asks are those of the list
-pub due_whole : (v w : TableValue) (steps : ℕ) (d : program.Due) (asks : List Formula) → asks ≡ d.targets.list.items →
+pub due_whole : (v w : TableValue) (reach : Reach) (d : program.Due) (asks : List Formula) → asks ≡ d.targets.list.items →
     (goals : List (List Assertion × Assertion)) (new : List CertTree) (o : Option Stop) →
     MatchOption o
-    (RunCloses (walk (sorts_in v) steps) (due_in (sorts_in v) (trees_in v) d) 0 (forms_in (sorts_in v) (trees_in v) asks)
+    (RunCloses (walk (sorts_in v) reach) (due_in (sorts_in v) (trees_in v) d) 0 (forms_in (sorts_in v) (trees_in v) asks)
     × AreCollected w (goals ++ goals_with (due_in (sorts_in v) (trees_in v) d).facts (forms_in (sorts_in v) (trees_in v) asks)) new)
-    (RunStops (walk (sorts_in v) steps) (due_in (sorts_in v) (trees_in v) d) 0 (forms_in (sorts_in v) (trees_in v) asks)) →
+    (RunStops (walk (sorts_in v) reach) (due_in (sorts_in v) (trees_in v) d) 0 (forms_in (sorts_in v) (trees_in v) asks)) →
     MatchOption o
-    (GoalsClose (walk (sorts_in v) steps) (due_in (sorts_in v) (trees_in v) d)
+    (GoalsClose (walk (sorts_in v) reach) (due_in (sorts_in v) (trees_in v) d)
     × AreCollected w (goals ++ goals_with (due_in (sorts_in v) (trees_in v) d).facts (due_in (sorts_in v) (trees_in v) d).goals) new)
-    (GoalsStop (walk (sorts_in v) steps) (due_in (sorts_in v) (trees_in v) d))
-due_whole v w steps d asks same goals new o h =
-    subst (λ (fs : List Formula). Ended (sorts_in v) steps d.node 0 (forms_in (sorts_in v) (trees_in v) d.facts.list.items)
+    (GoalsStop (walk (sorts_in v) reach) (due_in (sorts_in v) (trees_in v) d))
+due_whole v w reach d asks same goals new o h =
+    subst (λ (fs : List Formula). Ended (sorts_in v) reach d.node 0 (forms_in (sorts_in v) (trees_in v) d.facts.list.items)
     (forms_in (sorts_in v) (trees_in v) fs) w goals new o) same h
 
 pub goals_ready : (v : TableValue) (asks given : List Formula) → given ≡ asks → AreFormsReady (sorts_in v) (trees_in v) asks →

@@ -29,6 +29,7 @@ use Rattle.sm_list.specs.Parts.{all_numbered, assertions_in}
 use Rattle.sm_solve.specs.Walk.{walk}
 use Rattle.sm_replay.specs.declared.verdict.Verdict.{Verdict}
 use Rattle.sm_solve.specs.Answers.{terms_walked}
+use Rattle.sm_solve.specs.declared.reach.Reach.{Reach}
 use Rattle.sm_list.specs.Branches.{IsOneOf}
 use Rattle.sm_judge.specs.Forms.{Walked}
 use Rattle.sm_write.specs.TreesWithin.{AreTreesWithin}
@@ -120,10 +121,10 @@ longer {X} {Y} F xs i x h e =
     ∙ ap (λ (l : List Y). l ++ F x ∷ []) (sym (take-map F i xs))
 
 -- a goal that closes, with its certificate behind the others
-pub goal_ends : (v w : TableValue) → Widens v w → (steps node at : ℕ) (facts : List Formula) (goal : Formula)
+pub goal_ends : (v w : TableValue) → Widens v w → (reach : Reach) (node at : ℕ) (facts : List Formula) (goal : Formula)
     (a : Answer) (tree : CertTree) (given : List Formula) → given ≡ facts → AreFormsReady (sorts_in v) (trees_in v) facts →
     Tells (sorts_in v) (trees_in w) a
-    (walk (sorts_in v) steps (assertions_in (sorts_in v) (trees_in v) (all_numbered given)) (assertion_in (sorts_in v) (trees_in v)
+    (walk (sorts_in v) reach (assertions_in (sorts_in v) (trees_in v) (all_numbered given)) (assertion_in (sorts_in v) (trees_in v)
     (numbered goal))) →
     Certifies (sorts_in v) (trees_in w) (assertions_in (sorts_in v) (trees_in v) (all_numbered given))
     (assertion_in (sorts_in v) (trees_in v) (numbered goal)) a →
@@ -132,17 +133,17 @@ pub goal_ends : (v w : TableValue) → Widens v w → (steps node at : ℕ) (fac
     (trees_in w) a →
     a ≡ answers.Closed tree → IsShort (certificate_in (trees_in w) tree) →
     (goals : List (List Assertion × Assertion)) (old new : List CertTree) → new ≡ old ++ tree ∷ [] → AreCollected v goals old →
-    GoalCloses node at (walk (sorts_in v) steps (forms_in (sorts_in v) (trees_in v) facts) (assertion_in (sorts_in v) (trees_in v)
+    GoalCloses node at (walk (sorts_in v) reach (forms_in (sorts_in v) (trees_in v) facts) (assertion_in (sorts_in v) (trees_in v)
     (numbered goal)))
     × AreCollected w (goals ++ (forms_in (sorts_in v) (trees_in v) facts, assertion_in (sorts_in v) (trees_in v) (numbered goal)) ∷ []) new
-goal_ends v w wider steps node at facts goal a tree given same ready tells certifies names closed short goals old new is before =
+goal_ends v w wider reach node at facts goal a tree given same ready tells certifies names closed short goals old new is before =
     let sorts = sorts_in v in let ts = trees_in v in
     let fs = forms_in sorts ts facts in
     let g = assertion_in sorts ts (numbered goal) in
     let as_forms : assertions_in sorts ts (all_numbered given) ≡ fs = ap (λ (l : List Formula). assertions_in sorts ts
     (all_numbered l)) same ∙ forms_same sorts ts facts in
-    let told = subst (λ (b : Answer). Tells sorts (trees_in w) b (walk sorts steps fs g)) closed
-    (subst (λ (l : List Assertion). Tells sorts (trees_in w) a (walk sorts steps l g)) as_forms tells) in
+    let told = subst (λ (b : Answer). Tells sorts (trees_in w) b (walk sorts reach fs g)) closed
+    (subst (λ (l : List Assertion). Tells sorts (trees_in w) a (walk sorts reach l g)) as_forms tells) in
     let shows = subst (λ (b : Answer). Certifies sorts (trees_in w) fs g b) closed
     (subst (λ (l : List Assertion). Certifies sorts (trees_in w) l g a) as_forms certifies) in
     let named = subst (λ (b : Answer). NamesOnly (terms_walked fs g) (trees_in w) b) closed
@@ -152,21 +153,21 @@ goal_ends v w wider steps node at facts goal a tree given same ready tells certi
     )
 
 -- a goal that stops the search
-pub goal_stopped : (v w : TableValue) (steps node at : ℕ) (facts : List Formula) (goal : Formula) (a : Answer) (s : Stop)
+pub goal_stopped : (v w : TableValue) (reach : Reach) (node at : ℕ) (facts : List Formula) (goal : Formula) (a : Answer) (s : Stop)
     (given : List Formula) → given ≡ facts →
     Tells (sorts_in v) (trees_in w) a
-    (walk (sorts_in v) steps (assertions_in (sorts_in v) (trees_in v) (all_numbered given)) (assertion_in (sorts_in v) (trees_in v)
+    (walk (sorts_in v) reach (assertions_in (sorts_in v) (trees_in v) (all_numbered given)) (assertion_in (sorts_in v) (trees_in v)
     (numbered goal))) →
     ((sorts : Sorts) (trees : List Tree) (x : Walked) → Tells sorts trees a x → GoalStops node at x s) →
-    GoalStops node at (walk (sorts_in v) steps (forms_in (sorts_in v) (trees_in v) facts) (assertion_in (sorts_in v) (trees_in v)
+    GoalStops node at (walk (sorts_in v) reach (forms_in (sorts_in v) (trees_in v) facts) (assertion_in (sorts_in v) (trees_in v)
     (numbered goal))) s
-goal_stopped v w steps node at facts goal a s given same tells stops =
+goal_stopped v w reach node at facts goal a s given same tells stops =
     let sorts = sorts_in v in let ts = trees_in v in
     let g = assertion_in sorts ts (numbered goal) in
     let as_forms : assertions_in sorts ts (all_numbered given) ≡ forms_in sorts ts facts =
     ap (λ (l : List Formula). assertions_in sorts ts (all_numbered l)) same ∙ forms_same sorts ts facts in
-    stops sorts (trees_in w) (walk sorts steps (forms_in sorts ts facts) g)
-    (subst (λ (l : List Assertion). Tells sorts (trees_in w) a (walk sorts steps l g)) as_forms tells)
+    stops sorts (trees_in w) (walk sorts reach (forms_in sorts ts facts) g)
+    (subst (λ (l : List Assertion). Tells sorts (trees_in w) a (walk sorts reach l g)) as_forms tells)
 
 -- a goal of what a node asks, over a wider table
 goal_stays : (v u : TableValue) → Widens v u → (fs : List Formula) (i : ℕ) (f : Formula) → AreFormsReady (sorts_in v) (trees_in v) fs →
@@ -176,19 +177,19 @@ goal_stays v u wider fs i f ready h e = widened.assertion_stays v u wider (numbe
     (trees_in v) fs i f ready h e).0
 
 -- the goals so far and one more, which closes
-pub goal_next : (v u w : TableValue) → Widens v u → (steps first i at : ℕ) (d : program.Due) (asks : List Formula) (f : Formula) →
+pub goal_next : (v u w : TableValue) → Widens v u → (reach : Reach) (first i at : ℕ) (d : program.Due) (asks : List Formula) (f : Formula) →
     AreFormsReady (sorts_in v) (trees_in v) d.facts.list.items → AreFormsReady (sorts_in v) (trees_in v) asks →
     i < length asks → f ≡ get_or asks i f → at ≡ first + i →
     (goals : List (List Assertion × Assertion)) (new : List CertTree) →
-    (GoalCloses d.node at (walk (sorts_in u) steps (forms_in (sorts_in u) (trees_in u) d.facts.list.items) (assertion_in (sorts_in u)
+    (GoalCloses d.node at (walk (sorts_in u) reach (forms_in (sorts_in u) (trees_in u) d.facts.list.items) (assertion_in (sorts_in u)
     (trees_in u) (numbered f)))
     × AreCollected w ((goals ++ goals_with (due_in (sorts_in v) (trees_in v) d).facts (take i (forms_in (sorts_in v) (trees_in v) asks)))
     ++ (forms_in (sorts_in u) (trees_in u) d.facts.list.items, assertion_in (sorts_in u) (trees_in u) (numbered f)) ∷ []) new) →
-    GoalCloses d.node (first + i) (walk (sorts_in v) steps (forms_in (sorts_in v) (trees_in v) d.facts.list.items) (assertion_in
+    GoalCloses d.node (first + i) (walk (sorts_in v) reach (forms_in (sorts_in v) (trees_in v) d.facts.list.items) (assertion_in
     (sorts_in v) (trees_in v) (numbered f)))
     × AreCollected w (goals ++ goals_with (due_in (sorts_in v) (trees_in v) d).facts (take (i + 1) (forms_in (sorts_in v)
     (trees_in v) asks))) new
-goal_next v u w wider steps first i at d asks f known ready h e same goals new both =
+goal_next v u w wider reach first i at d asks f known ready h e same goals new both =
     let facts = widened.forms_stay v u wider d.facts.list.items known in
     let goal = goal_stays v u wider asks i f ready h e in
     let fs = forms_in (sorts_in v) (trees_in v) d.facts.list.items in
@@ -206,19 +207,19 @@ goal_next v u w wider steps first i at d asks f known ready h e same goals new b
     ∙ ap (λ (l : List (List Assertion × Assertion)). goals ++ l)
     (sym (map-append (λ (x : Assertion). (fs, x)) (take i gs) (g ∷ [])) ∙ ap (goals_with fs) (sym front)) in (
       (λ (later : Outcome (ℕ × Verdict)).
-          sym (λ k. goal_outcome d.node (same k) (walk (wider.sorts k) steps (facts k) (goal k)) later) ∙ both.0 later),
+          sym (λ k. goal_outcome d.node (same k) (walk (wider.sorts k) reach (facts k) (goal k)) later) ∙ both.0 later),
       subst (λ (l : List (List Assertion × Assertion)). AreCollected w l new) moved both.1,
     )
 
-pub goal_left : (sorts : Sorts) (trees : List Tree) (steps first i : ℕ) (d : program.Due) (asks : List Formula) (f : Formula) →
+pub goal_left : (sorts : Sorts) (trees : List Tree) (reach : Reach) (first i : ℕ) (d : program.Due) (asks : List Formula) (f : Formula) →
     i < length asks → f ≡ get_or asks i f →
-    GoalCloses d.node (first + i) (walk sorts steps (forms_in sorts trees d.facts.list.items) (assertion_in sorts trees (numbered f))) →
+    GoalCloses d.node (first + i) (walk sorts reach (forms_in sorts trees d.facts.list.items) (assertion_in sorts trees (numbered f))) →
     (later : Outcome (ℕ × Verdict)) →
-    goals_outcome (walk sorts steps (due_in sorts trees d).facts) d.node (first + i) (drop i (forms_in sorts trees asks)) later
-    ≡ goals_outcome (walk sorts steps (due_in sorts trees d).facts) d.node (first + (i + 1)) (drop (i + 1)
+    goals_outcome (walk sorts reach (due_in sorts trees d).facts) d.node (first + i) (drop i (forms_in sorts trees asks)) later
+    ≡ goals_outcome (walk sorts reach (due_in sorts trees d).facts) d.node (first + (i + 1)) (drop (i + 1)
     (forms_in sorts trees asks)) later
-goal_left sorts trees steps first i d asks f h e closes later =
-    let W = walk sorts steps (due_in sorts trees d).facts in
+goal_left sorts trees reach first i d asks f h e closes later =
+    let W = walk sorts reach (due_in sorts trees d).facts in
     let gs = forms_in sorts trees asks in
     let more : suc (first + i) ≡ first + (i + 1) = omega arith in
     ap (λ (l : List Assertion). goals_outcome W d.node (first + i) l later)
@@ -227,89 +228,92 @@ goal_left sorts trees steps first i d asks f h e closes later =
     ∙ ap (λ (n : ℕ). goals_outcome W d.node n (drop (i + 1) gs) later) more
 
 -- or stops the search
-pub goal_stops : (v u : TableValue) → Widens v u → (steps first i at : ℕ) (d : program.Due) (asks : List Formula) (f : Formula) (s : Stop) →
+pub goal_stops : (v u : TableValue) → Widens v u → (reach : Reach) (first i at : ℕ) (d : program.Due) (asks : List Formula)
+    (f : Formula) (s : Stop) →
     AreFormsReady (sorts_in v) (trees_in v) d.facts.list.items → AreFormsReady (sorts_in v) (trees_in v) asks →
     i < length asks → f ≡ get_or asks i f → at ≡ first + i →
-    GoalStops d.node at (walk (sorts_in u) steps (forms_in (sorts_in u) (trees_in u) d.facts.list.items) (assertion_in (sorts_in u)
+    GoalStops d.node at (walk (sorts_in u) reach (forms_in (sorts_in u) (trees_in u) d.facts.list.items) (assertion_in (sorts_in u)
     (trees_in u) (numbered f))) s →
     (later : Outcome (ℕ × Verdict)) →
-    goals_outcome (walk (sorts_in v) steps (due_in (sorts_in v) (trees_in v) d).facts) d.node (first + i) (drop i (forms_in
+    goals_outcome (walk (sorts_in v) reach (due_in (sorts_in v) (trees_in v) d).facts) d.node (first + i) (drop i (forms_in
     (sorts_in v) (trees_in v) asks)) later
     ≡ stop_in s
-goal_stops v u wider steps first i at d asks f s known ready h e same stops later =
+goal_stops v u wider reach first i at d asks f s known ready h e same stops later =
     let facts = widened.forms_stay v u wider d.facts.list.items known in
     let goal = goal_stays v u wider asks i f ready h e in
-    let W = walk (sorts_in v) steps (due_in (sorts_in v) (trees_in v) d).facts in
+    let W = walk (sorts_in v) reach (due_in (sorts_in v) (trees_in v) d).facts in
     let gs = forms_in (sorts_in v) (trees_in v) asks in
     let next = goals_outcome W d.node (suc (first + i)) (drop (i + 1) gs) later in
     ap (λ (l : List Assertion). goals_outcome W d.node (first + i) l later)
     (further (λ (x : Formula). assertion_in (sorts_in v) (trees_in v) (numbered x)) asks i f h e)
-    ∙ sym (λ k. goal_outcome d.node (same k) (walk (wider.sorts k) steps (facts k) (goal k)) next) ∙ stops next
+    ∙ sym (λ k. goal_outcome d.node (same k) (walk (wider.sorts k) reach (facts k) (goal k)) next) ∙ stops next
 
 -- by what the goal came to
 pub different : {A : Type 0} → true ≡ false → A
 different e = absurd cc
 
-pub goal_passed : (v u w : TableValue) → Widens v u → (steps first i at : ℕ) (d : program.Due) (asks : List Formula) (f : Formula) →
+pub goal_passed : (v u w : TableValue) → Widens v u → (reach : Reach) (first i at : ℕ) (d : program.Due) (asks : List Formula)
+    (f : Formula) →
     AreFormsReady (sorts_in v) (trees_in v) d.facts.list.items → AreFormsReady (sorts_in v) (trees_in v) asks →
     i < length asks → f ≡ get_or asks i f → at ≡ first + i →
     (goals : List (List Assertion × Assertion)) (new : List CertTree) (o : Option Stop) → is_some o ≡ false →
     MatchOption o
-    (GoalCloses d.node at (walk (sorts_in u) steps (forms_in (sorts_in u) (trees_in u) d.facts.list.items) (assertion_in (sorts_in u)
+    (GoalCloses d.node at (walk (sorts_in u) reach (forms_in (sorts_in u) (trees_in u) d.facts.list.items) (assertion_in (sorts_in u)
     (trees_in u) (numbered f)))
     × AreCollected w ((goals ++ goals_with (due_in (sorts_in v) (trees_in v) d).facts (take i (forms_in (sorts_in v) (trees_in v) asks)))
     ++ (forms_in (sorts_in u) (trees_in u) d.facts.list.items, assertion_in (sorts_in u) (trees_in u) (numbered f)) ∷ []) new)
-    (GoalStops d.node at (walk (sorts_in u) steps (forms_in (sorts_in u) (trees_in u) d.facts.list.items) (assertion_in (sorts_in u)
+    (GoalStops d.node at (walk (sorts_in u) reach (forms_in (sorts_in u) (trees_in u) d.facts.list.items) (assertion_in (sorts_in u)
     (trees_in u) (numbered f)))) →
-    GoalCloses d.node (first + i) (walk (sorts_in v) steps (forms_in (sorts_in v) (trees_in v) d.facts.list.items) (assertion_in
+    GoalCloses d.node (first + i) (walk (sorts_in v) reach (forms_in (sorts_in v) (trees_in v) d.facts.list.items) (assertion_in
     (sorts_in v) (trees_in v) (numbered f)))
     × AreCollected w (goals ++ goals_with (due_in (sorts_in v) (trees_in v) d).facts (take (i + 1) (forms_in (sorts_in v)
     (trees_in v) asks))) new
-goal_passed v u w wider steps first i at d asks f known ready h e same goals new None is both =
-    goal_next v u w wider steps first i at d asks f known ready h e same goals new both
-goal_passed v u w wider steps first i at d asks f known ready h e same goals new (Some s) is both = different is
+goal_passed v u w wider reach first i at d asks f known ready h e same goals new None is both =
+    goal_next v u w wider reach first i at d asks f known ready h e same goals new both
+goal_passed v u w wider reach first i at d asks f known ready h e same goals new (Some s) is both = different is
 
-pub goal_ended : (v u w : TableValue) → Widens v u → (steps first i at : ℕ) (d : program.Due) (asks : List Formula) (f : Formula) →
+pub goal_ended : (v u w : TableValue) → Widens v u → (reach : Reach) (first i at : ℕ) (d : program.Due) (asks : List Formula)
+    (f : Formula) →
     AreFormsReady (sorts_in v) (trees_in v) d.facts.list.items → AreFormsReady (sorts_in v) (trees_in v) asks →
     i < length asks → f ≡ get_or asks i f → at ≡ first + i →
     (before goals : List (List Assertion × Assertion)) (new : List CertTree) →
     ((later : Outcome (ℕ × Verdict)) →
-    goals_outcome (walk (sorts_in v) steps (due_in (sorts_in v) (trees_in v) d).facts) d.node first (forms_in (sorts_in v)
+    goals_outcome (walk (sorts_in v) reach (due_in (sorts_in v) (trees_in v) d).facts) d.node first (forms_in (sorts_in v)
     (trees_in v) asks) later
-    ≡ goals_outcome (walk (sorts_in v) steps (due_in (sorts_in v) (trees_in v) d).facts) d.node (first + i)
+    ≡ goals_outcome (walk (sorts_in v) reach (due_in (sorts_in v) (trees_in v) d).facts) d.node (first + i)
     (drop i (forms_in (sorts_in v) (trees_in v) asks)) later) →
     (o : Option Stop) → is_some o ≡ true →
     MatchOption o
-    (GoalCloses d.node at (walk (sorts_in u) steps (forms_in (sorts_in u) (trees_in u) d.facts.list.items) (assertion_in (sorts_in u)
+    (GoalCloses d.node at (walk (sorts_in u) reach (forms_in (sorts_in u) (trees_in u) d.facts.list.items) (assertion_in (sorts_in u)
     (trees_in u) (numbered f)))
     × AreCollected w (before ++ (
       forms_in (sorts_in u) (trees_in u) d.facts.list.items,
       assertion_in (sorts_in u) (trees_in u)
           (numbered f),
     ) ∷ []) new)
-    (GoalStops d.node at (walk (sorts_in u) steps (forms_in (sorts_in u) (trees_in u) d.facts.list.items) (assertion_in (sorts_in u)
+    (GoalStops d.node at (walk (sorts_in u) reach (forms_in (sorts_in u) (trees_in u) d.facts.list.items) (assertion_in (sorts_in u)
     (trees_in u) (numbered f)))) →
     MatchOption o
-    (RunCloses (walk (sorts_in v) steps) (due_in (sorts_in v) (trees_in v) d) first (forms_in (sorts_in v) (trees_in v) asks)
+    (RunCloses (walk (sorts_in v) reach) (due_in (sorts_in v) (trees_in v) d) first (forms_in (sorts_in v) (trees_in v) asks)
     × AreCollected w (goals ++ goals_with (due_in (sorts_in v) (trees_in v) d).facts (forms_in (sorts_in v) (trees_in v) asks)) new)
-    (RunStops (walk (sorts_in v) steps) (due_in (sorts_in v) (trees_in v) d) first (forms_in (sorts_in v) (trees_in v) asks))
-goal_ended v u w wider steps first i at d asks f known ready h e same before goals new closes None is both = different (sym is)
-goal_ended v u w wider steps first i at d asks f known ready h e same before goals new closes (Some s) is stops =
-    λ (later : Outcome (ℕ × Verdict)). closes later ∙ goal_stops v u wider steps first i at d asks f s known ready h e same stops later
+    (RunStops (walk (sorts_in v) reach) (due_in (sorts_in v) (trees_in v) d) first (forms_in (sorts_in v) (trees_in v) asks))
+goal_ended v u w wider reach first i at d asks f known ready h e same before goals new closes None is both = different (sym is)
+goal_ended v u w wider reach first i at d asks f known ready h e same before goals new closes (Some s) is stops =
+    λ (later : Outcome (ℕ × Verdict)). closes later ∙ goal_stops v u wider reach first i at d asks f s known ready h e same stops later
 
 -- all goals of the run
-pub goals_done : (v w : TableValue) (steps first i : ℕ) (d : program.Due) (asks : List Formula) → length asks ≤ i →
+pub goals_done : (v w : TableValue) (reach : Reach) (first i : ℕ) (d : program.Due) (asks : List Formula) → length asks ≤ i →
     (goals : List (List Assertion × Assertion)) (new : List CertTree) →
     AreCollected w (goals ++ goals_with (due_in (sorts_in v) (trees_in v) d).facts (take i (forms_in (sorts_in v) (trees_in v) asks))) new →
     ((later : Outcome (ℕ × Verdict)) →
-    goals_outcome (walk (sorts_in v) steps (due_in (sorts_in v) (trees_in v) d).facts) d.node first (forms_in (sorts_in v)
+    goals_outcome (walk (sorts_in v) reach (due_in (sorts_in v) (trees_in v) d).facts) d.node first (forms_in (sorts_in v)
     (trees_in v) asks) later
-    ≡ goals_outcome (walk (sorts_in v) steps (due_in (sorts_in v) (trees_in v) d).facts) d.node (first + i)
+    ≡ goals_outcome (walk (sorts_in v) reach (due_in (sorts_in v) (trees_in v) d).facts) d.node (first + i)
     (drop i (forms_in (sorts_in v) (trees_in v) asks)) later) →
-    RunCloses (walk (sorts_in v) steps) (due_in (sorts_in v) (trees_in v) d) first (forms_in (sorts_in v) (trees_in v) asks)
+    RunCloses (walk (sorts_in v) reach) (due_in (sorts_in v) (trees_in v) d) first (forms_in (sorts_in v) (trees_in v) asks)
     × AreCollected w (goals ++ goals_with (due_in (sorts_in v) (trees_in v) d).facts (forms_in (sorts_in v) (trees_in v) asks)) new
-goals_done v w steps first i d asks h goals new collected closes =
-    let W = walk (sorts_in v) steps (due_in (sorts_in v) (trees_in v) d).facts in
+goals_done v w reach first i d asks h goals new collected closes =
+    let W = walk (sorts_in v) reach (due_in (sorts_in v) (trees_in v) d).facts in
     let gs = forms_in (sorts_in v) (trees_in v) asks in
     let count = forms_count (sorts_in v) (trees_in v) asks in
     let past : length gs ≤ i = omega (arith, count, h) in (
@@ -370,13 +374,13 @@ passed_due : (b : Bool) (x later : Outcome (ℕ × Verdict)) → x ≡ later →
 passed_due true x later e = e
 passed_due false x later e = refl
 
-pub due_left : (v u : TableValue) → Widens v u → (steps i : ℕ) (ds : List program.Due) (d : program.Due) →
+pub due_left : (v u : TableValue) → Widens v u → (reach : Reach) (i : ℕ) (ds : List program.Due) (d : program.Due) →
     AreDuesReady (sorts_in v) (trees_in v) ds → i < length ds → d ≡ get_or ds i d →
-    GoalsClose (walk (sorts_in u) steps) (due_in (sorts_in u) (trees_in u) d) →
-    (let whole : Outcome (ℕ × Verdict) = final_outcome (walk (sorts_in v) steps) (drop i (dues_in (sorts_in v) (trees_in v) ds)) in whole)
-    ≡ final_outcome (walk (sorts_in v) steps) (drop (i + 1) (dues_in (sorts_in v) (trees_in v) ds))
-due_left v u wider steps i ds d ready h e closes =
-    let W = walk (sorts_in v) steps in
+    GoalsClose (walk (sorts_in u) reach) (due_in (sorts_in u) (trees_in u) d) →
+    (let whole : Outcome (ℕ × Verdict) = final_outcome (walk (sorts_in v) reach) (drop i (dues_in (sorts_in v) (trees_in v) ds)) in whole)
+    ≡ final_outcome (walk (sorts_in v) reach) (drop (i + 1) (dues_in (sorts_in v) (trees_in v) ds))
+due_left v u wider reach i ds d ready h e closes =
+    let W = walk (sorts_in v) reach in
     let due = due_in (sorts_in v) (trees_in v) d in
     let parts = facts_at (sorts_in v) (trees_in v) ds i d ready h e in
     let same = due_stays v u wider d parts.0 parts.1 in
@@ -384,7 +388,7 @@ due_left v u wider steps i ds d ready h e closes =
     let later = final_outcome W rest in
     ap (final_outcome W) (further (due_in (sorts_in v) (trees_in v)) ds i d h e)
     ∙ passed_due due.is_final (goals_outcome (W due.facts) due.node 0 due.goals later) later
-    (sym (λ k. goals_outcome (walk (wider.sorts k) steps (same k).facts) (same k).node 0 (same k).goals later) ∙ closes later)
+    (sym (λ k. goals_outcome (walk (wider.sorts k) reach (same k).facts) (same k).node 0 (same k).goals later) ∙ closes later)
 
 pub due_asked : (v u w : TableValue) → Widens v u → (i : ℕ) (ds : List program.Due) (d : program.Due) (new : List CertTree) →
     AreDuesReady (sorts_in v) (trees_in v) ds → i < length ds → d ≡ get_or ds i d →
@@ -400,13 +404,13 @@ due_asked v u w wider i ds d new ready h e collected =
     ((λ k. asked before ++ goals_with (same k).facts (same k).goals)
     ∙ sym (asked_more before due) ∙ ap asked (sym (longer (due_in (sorts_in v) (trees_in v)) ds i d h e))) collected
 
-pub due_stops : (v u : TableValue) → Widens v u → (steps i : ℕ) (ds : List program.Due) (d : program.Due) (s : Stop) →
+pub due_stops : (v u : TableValue) → Widens v u → (reach : Reach) (i : ℕ) (ds : List program.Due) (d : program.Due) (s : Stop) →
     AreDuesReady (sorts_in v) (trees_in v) ds → i < length ds → d ≡ get_or ds i d →
-    AreInsideClosed (walk (sorts_in v) steps) (dues_in (sorts_in v) (trees_in v) ds) →
-    GoalsStop (walk (sorts_in u) steps) (due_in (sorts_in u) (trees_in u) d) s →
-    final_outcome (walk (sorts_in v) steps) (drop i (dues_in (sorts_in v) (trees_in v) ds)) ≡ stop_in s
-due_stops v u wider steps i ds d s ready h e all stops =
-    let W = walk (sorts_in v) steps in
+    AreInsideClosed (walk (sorts_in v) reach) (dues_in (sorts_in v) (trees_in v) ds) →
+    GoalsStop (walk (sorts_in u) reach) (due_in (sorts_in u) (trees_in u) d) s →
+    final_outcome (walk (sorts_in v) reach) (drop i (dues_in (sorts_in v) (trees_in v) ds)) ≡ stop_in s
+due_stops v u wider reach i ds d s ready h e all stops =
+    let W = walk (sorts_in v) reach in
     let due = due_in (sorts_in v) (trees_in v) d in
     let parts = facts_at (sorts_in v) (trees_in v) ds i d ready h e in
     let same = due_stays v u wider d parts.0 parts.1 in
@@ -414,90 +418,90 @@ due_stops v u wider steps i ds d s ready h e all stops =
     let split = further (due_in (sorts_in v) (trees_in v)) ds i d h e in
     let here : GoalsStop W due s =
     λ (later : Outcome (ℕ × Verdict)).
-    sym (λ k. goals_outcome (walk (wider.sorts k) steps (same k).facts) (same k).node 0 (same k).goals later) ∙ stops later in
+    sym (λ k. goals_outcome (walk (wider.sorts k) reach (same k).facts) (same k).node 0 (same k).goals later) ∙ stops later in
     let final = stops_final W due s (inside_at W (dues_in (sorts_in v) (trees_in v) ds) rest i due all split) here in
     ap (final_outcome W) split
     ∙ ap (λ (b : Bool). if b then goals_outcome (W due.facts) due.node 0 due.goals (final_outcome W rest) else final_outcome W rest) final
     ∙ here (final_outcome W rest)
 
 -- by what the node's goals came to
-pub due_passed : (v u w : TableValue) → Widens v u → (steps i : ℕ) (ds : List program.Due) (d : program.Due) →
+pub due_passed : (v u w : TableValue) → Widens v u → (reach : Reach) (i : ℕ) (ds : List program.Due) (d : program.Due) →
     AreDuesReady (sorts_in v) (trees_in v) ds → i < length ds → d ≡ get_or ds i d → (new : List CertTree) (o : Option Stop) →
     is_some o ≡ false →
     MatchOption o
-    (GoalsClose (walk (sorts_in u) steps) (due_in (sorts_in u) (trees_in u) d)
+    (GoalsClose (walk (sorts_in u) reach) (due_in (sorts_in u) (trees_in u) d)
     × AreCollected w (asked (take i (dues_in (sorts_in v) (trees_in v) ds))
     ++ goals_with (due_in (sorts_in u) (trees_in u) d).facts (due_in (sorts_in u) (trees_in u) d).goals) new)
-    (GoalsStop (walk (sorts_in u) steps) (due_in (sorts_in u) (trees_in u) d)) →
+    (GoalsStop (walk (sorts_in u) reach) (due_in (sorts_in u) (trees_in u) d)) →
     AreCollected w (asked (take (i + 1) (dues_in (sorts_in v) (trees_in v) ds))) new
-    × (let whole : Outcome (ℕ × Verdict) = final_outcome (walk (sorts_in v) steps) (drop i (dues_in (sorts_in v) (trees_in v) ds)) in
-    whole ≡ final_outcome (walk (sorts_in v) steps) (drop (i + 1) (dues_in (sorts_in v) (trees_in v) ds)))
-due_passed v u w wider steps i ds d ready h e new None is both =
-    (due_asked v u w wider i ds d new ready h e both.1, due_left v u wider steps i ds d ready h e both.0)
-due_passed v u w wider steps i ds d ready h e new (Some s) is both = different is
+    × (let whole : Outcome (ℕ × Verdict) = final_outcome (walk (sorts_in v) reach) (drop i (dues_in (sorts_in v) (trees_in v) ds)) in
+    whole ≡ final_outcome (walk (sorts_in v) reach) (drop (i + 1) (dues_in (sorts_in v) (trees_in v) ds)))
+due_passed v u w wider reach i ds d ready h e new None is both =
+    (due_asked v u w wider i ds d new ready h e both.1, due_left v u wider reach i ds d ready h e both.0)
+due_passed v u w wider reach i ds d ready h e new (Some s) is both = different is
 
-pub due_ended : (v u w : TableValue) → Widens v u → (steps i : ℕ) (ds : List program.Due) (d : program.Due) →
+pub due_ended : (v u w : TableValue) → Widens v u → (reach : Reach) (i : ℕ) (ds : List program.Due) (d : program.Due) →
     AreDuesReady (sorts_in v) (trees_in v) ds → i < length ds → d ≡ get_or ds i d →
-    AreInsideClosed (walk (sorts_in v) steps) (dues_in (sorts_in v) (trees_in v) ds) →
+    AreInsideClosed (walk (sorts_in v) reach) (dues_in (sorts_in v) (trees_in v) ds) →
     (before : List (List Assertion × Assertion)) (new : List CertTree) →
-    (let whole : Outcome (ℕ × Verdict) = final_outcome (walk (sorts_in v) steps) (dues_in (sorts_in v) (trees_in v) ds) in
-    whole ≡ final_outcome (walk (sorts_in v) steps) (drop i (dues_in (sorts_in v) (trees_in v) ds))) →
+    (let whole : Outcome (ℕ × Verdict) = final_outcome (walk (sorts_in v) reach) (dues_in (sorts_in v) (trees_in v) ds) in
+    whole ≡ final_outcome (walk (sorts_in v) reach) (drop i (dues_in (sorts_in v) (trees_in v) ds))) →
     (o : Option Stop) → is_some o ≡ true →
     MatchOption o
-    (GoalsClose (walk (sorts_in u) steps) (due_in (sorts_in u) (trees_in u) d)
+    (GoalsClose (walk (sorts_in u) reach) (due_in (sorts_in u) (trees_in u) d)
     × AreCollected w (before ++ goals_with (due_in (sorts_in u) (trees_in u) d).facts (due_in (sorts_in u) (trees_in u) d).goals) new)
-    (GoalsStop (walk (sorts_in u) steps) (due_in (sorts_in u) (trees_in u) d)) →
+    (GoalsStop (walk (sorts_in u) reach) (due_in (sorts_in u) (trees_in u) d)) →
     MatchOption o
-    (FinalCloses (walk (sorts_in v) steps) (dues_in (sorts_in v) (trees_in v) ds)
+    (FinalCloses (walk (sorts_in v) reach) (dues_in (sorts_in v) (trees_in v) ds)
     × AreCollected w (asked (dues_in (sorts_in v) (trees_in v) ds)) new)
-    (FinalStops (walk (sorts_in v) steps) (dues_in (sorts_in v) (trees_in v) ds))
-due_ended v u w wider steps i ds d ready h e inside before new closes None is both = different (sym is)
-due_ended v u w wider steps i ds d ready h e inside before new closes (Some s) is stops =
-    closes ∙ due_stops v u wider steps i ds d s ready h e inside stops
+    (FinalStops (walk (sorts_in v) reach) (dues_in (sorts_in v) (trees_in v) ds))
+due_ended v u w wider reach i ds d ready h e inside before new closes None is both = different (sym is)
+due_ended v u w wider reach i ds d ready h e inside before new closes (Some s) is stops =
+    closes ∙ due_stops v u wider reach i ds d s ready h e inside stops
 
 -- all of them
-pub dues_done : (v w : TableValue) (steps i : ℕ) (ds : List program.Due) → length ds ≤ i → (new : List CertTree) →
+pub dues_done : (v w : TableValue) (reach : Reach) (i : ℕ) (ds : List program.Due) → length ds ≤ i → (new : List CertTree) →
     AreCollected w (asked (take i (dues_in (sorts_in v) (trees_in v) ds))) new →
-    (let whole : Outcome (ℕ × Verdict) = final_outcome (walk (sorts_in v) steps) (dues_in (sorts_in v) (trees_in v) ds) in whole)
-    ≡ final_outcome (walk (sorts_in v) steps) (drop i (dues_in (sorts_in v) (trees_in v) ds)) →
-    FinalCloses (walk (sorts_in v) steps) (dues_in (sorts_in v) (trees_in v) ds)
+    (let whole : Outcome (ℕ × Verdict) = final_outcome (walk (sorts_in v) reach) (dues_in (sorts_in v) (trees_in v) ds) in whole)
+    ≡ final_outcome (walk (sorts_in v) reach) (drop i (dues_in (sorts_in v) (trees_in v) ds)) →
+    FinalCloses (walk (sorts_in v) reach) (dues_in (sorts_in v) (trees_in v) ds)
     × AreCollected w (asked (dues_in (sorts_in v) (trees_in v) ds)) new
-dues_done v w steps i ds h new collected closes =
+dues_done v w reach i ds h new collected closes =
     let all = dues_in (sorts_in v) (trees_in v) ds in
     let count = map_count (due_in (sorts_in v) (trees_in v)) ds in
     let past : length all ≤ i = omega (arith, count, h) in (
-      closes ∙ ap (final_outcome (walk (sorts_in v) steps)) (drop_all i all past),
+      closes ∙ ap (final_outcome (walk (sorts_in v) reach)) (drop_all i all past),
       subst (λ (l : List Due). AreCollected w (asked l) new) (take_all i all past) collected,
     )
 
 -- the end of a run of goals, over a wider table
-abbrev pub Ended : (sorts : Sorts) (steps node first : ℕ) (facts run : List Assertion) → TableValue →
+abbrev pub Ended : (sorts : Sorts) (reach : Reach) (node first : ℕ) (facts run : List Assertion) → TableValue →
     List (List Assertion × Assertion) → List CertTree →
     Option Stop → Type 0
-Ended sorts steps node first facts run x goals new o =
+Ended sorts reach node first facts run x goals new o =
     MatchOption o
-    (((later : Outcome (ℕ × Verdict)) → goals_outcome (walk sorts steps facts) node first run later ≡ later)
+    (((later : Outcome (ℕ × Verdict)) → goals_outcome (walk sorts reach facts) node first run later ≡ later)
     × AreCollected x (goals ++ goals_with facts run) new)
-    (λ (s : Stop). (later : Outcome (ℕ × Verdict)) → goals_outcome (walk sorts steps facts) node first run later ≡ stop_in s)
+    (λ (s : Stop). (later : Outcome (ℕ × Verdict)) → goals_outcome (walk sorts reach facts) node first run later ≡ stop_in s)
 
-pub run_over : (v w x : TableValue) → Widens v w → (steps first : ℕ) (d : program.Due) (asks : List Formula) →
+pub run_over : (v w x : TableValue) → Widens v w → (reach : Reach) (first : ℕ) (d : program.Due) (asks : List Formula) →
     AreFormsReady (sorts_in v) (trees_in v) d.facts.list.items → AreFormsReady (sorts_in v) (trees_in v) asks →
     (goals : List (List Assertion × Assertion)) (old new : List CertTree) (r : Result (Option Stop) AllocError) →
     (AreCollected w goals old → IfOk r (λ o. MatchOption o
-    (RunCloses (walk (sorts_in w) steps) (due_in (sorts_in w) (trees_in w) d) first (forms_in (sorts_in w) (trees_in w) asks)
+    (RunCloses (walk (sorts_in w) reach) (due_in (sorts_in w) (trees_in w) d) first (forms_in (sorts_in w) (trees_in w) asks)
     × AreCollected x (goals ++ goals_with (due_in (sorts_in w) (trees_in w) d).facts (forms_in (sorts_in w) (trees_in w) asks)) new)
-    (RunStops (walk (sorts_in w) steps) (due_in (sorts_in w) (trees_in w) d) first (forms_in (sorts_in w) (trees_in w) asks)))) →
+    (RunStops (walk (sorts_in w) reach) (due_in (sorts_in w) (trees_in w) d) first (forms_in (sorts_in w) (trees_in w) asks)))) →
     AreCollected v goals old → IfOk r (λ o. MatchOption o
-    (RunCloses (walk (sorts_in v) steps) (due_in (sorts_in v) (trees_in v) d) first (forms_in (sorts_in v) (trees_in v) asks)
+    (RunCloses (walk (sorts_in v) reach) (due_in (sorts_in v) (trees_in v) d) first (forms_in (sorts_in v) (trees_in v) asks)
     × AreCollected x (goals ++ goals_with (due_in (sorts_in v) (trees_in v) d).facts (forms_in (sorts_in v) (trees_in v) asks)) new)
-    (RunStops (walk (sorts_in v) steps) (due_in (sorts_in v) (trees_in v) d) first (forms_in (sorts_in v) (trees_in v) asks)))
-run_over v w x wider steps first d asks known ready goals old new r h before =
+    (RunStops (walk (sorts_in v) reach) (due_in (sorts_in v) (trees_in v) d) first (forms_in (sorts_in v) (trees_in v) asks)))
+run_over v w x wider reach first d asks known ready goals old new r h before =
     let facts = widened.forms_stay v w wider d.facts.list.items known in
     let run = widened.forms_stay v w wider asks ready in
     let fs = forms_in (sorts_in v) (trees_in v) d.facts.list.items in
     let gs = forms_in (sorts_in v) (trees_in v) asks in
-    subst (λ (s : Sorts). IfOk r (Ended s steps d.node first fs gs x goals new)) wider.sorts
-    (subst (λ (l : List Assertion). IfOk r (Ended (sorts_in w) steps d.node first l gs x goals new)) facts
+    subst (λ (s : Sorts). IfOk r (Ended s reach d.node first fs gs x goals new)) wider.sorts
+    (subst (λ (l : List Assertion). IfOk r (Ended (sorts_in w) reach d.node first l gs x goals new)) facts
     (subst (λ (l : List Assertion).
-    IfOk r (Ended (sorts_in w) steps d.node first (forms_in (sorts_in w) (trees_in w) d.facts.list.items) l x goals new)) run
+    IfOk r (Ended (sorts_in w) reach d.node first (forms_in (sorts_in w) (trees_in w) d.facts.list.items) l x goals new)) run
     (h (collected_stays v w wider goals old before))))

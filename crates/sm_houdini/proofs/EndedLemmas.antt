@@ -23,6 +23,7 @@ use Rattle.sm_replay.specs.declared.verdict.Verdict.{Verdict}
 use Rattle.sm_judge.specs.Forms as walked
 use Rattle.sm_judge.specs.Forms.{Walked}
 use Rattle.sm_solve.specs.Walk.{walk}
+use Rattle.sm_solve.specs.declared.reach.Reach.{Reach}
 use Rattle.sm_write.specs.Writable.{IsWritable}
 use Rattle.sm_houdini.specs.declared.ending.Stop.{Stop}
 use Rattle.sm_houdini.specs.Certified.{asked, AreCertified}
@@ -48,44 +49,44 @@ goals_closed by node i [] later h = refl
 goals_closed by node i (g ∷ gs) later h =
     walk_closed node i (by g) (goals_outcome by node (suc i) gs later) h.0 ∙ goals_closed by node (suc i) gs later h.1
 
-all_closed : (sorts : Sorts) (steps : ℕ) (ds : List Due) → Each (ClosesInside (closing sorts steps)) ds →
-    AreInsideClosed (walk sorts steps) ds
-all_closed sorts steps [] h = tt
-all_closed sorts steps (d ∷ ds) h = (
-  λ (e : d.is_final ≡ false) (later : Outcome (ℕ × Verdict)). goals_closed (walk sorts steps d.facts) d.node 0 d.goals later (h.0 e),
-  all_closed sorts steps ds h.1,
+all_closed : (sorts : Sorts) (reach : Reach) (ds : List Due) → Each (ClosesInside (closing sorts reach)) ds →
+    AreInsideClosed (walk sorts reach) ds
+all_closed sorts reach [] h = tt
+all_closed sorts reach (d ∷ ds) h = (
+  λ (e : d.is_final ≡ false) (later : Outcome (ℕ × Verdict)). goals_closed (walk sorts reach d.facts) d.node 0 d.goals later (h.0 e),
+  all_closed sorts reach ds h.1,
 )
 
-module _ (t : Parts) (steps : ℕ) where
+module _ (t : Parts) (reach : Reach) where
   pub inside_closed : (sorts : Sorts) (ds : List Due) → sorts ≡ sort_of t.declared →
-      obligations (task_of t) (plan_of t (kept (closing (sort_of t.declared) steps) t)) ≡ Ok ds → AreInsideClosed (walk sorts steps) ds
+      obligations (task_of t) (plan_of t (kept (closing (sort_of t.declared) reach) t)) ≡ Ok ds → AreInsideClosed (walk sorts reach) ds
   inside_closed sorts ds same e =
-      subst (λ (s : Sorts). AreInsideClosed (walk s steps) ds) (sym same)
-      (all_closed (sort_of t.declared) steps ds (inside_close (closing (sort_of t.declared) steps) t ds e))
+      subst (λ (s : Sorts). AreInsideClosed (walk s reach) ds) (sym same)
+      (all_closed (sort_of t.declared) reach ds (inside_close (closing (sort_of t.declared) reach) t ds e))
 
   decides : (sorts : Sorts) (ds : List Due) → sorts ≡ sort_of t.declared → is_small t ≡ true →
-      obligations (task_of t) (plan_of t (kept (closing (sort_of t.declared) steps) t)) ≡ Ok ds →
-      plan_decides t steps ≡ final_outcome (walk sorts steps) ds
+      obligations (task_of t) (plan_of t (kept (closing (sort_of t.declared) reach) t)) ≡ Ok ds →
+      plan_decides t reach ≡ final_outcome (walk sorts reach) ds
   decides sorts ds same small e =
-      let W = walk (sort_of t.declared) steps in
+      let W = walk (sort_of t.declared) reach in
       ap (λ (b : Bool). if b then final_outcome W (kept_dues W t) else TooMany) small
       ∙ ap (λ (r : Result (List Due) Fault). final_outcome W (dues_in r)) e
-      ∙ ap (λ (s : Sorts). final_outcome (walk s steps) ds) (sym same)
+      ∙ ap (λ (s : Sorts). final_outcome (walk s reach) ds) (sym same)
 
   pub ended_stops : (sorts : Sorts) (ds : List Due) (s : Stop) → sorts ≡ sort_of t.declared → is_small t ≡ true →
-      obligations (task_of t) (plan_of t (kept (closing (sort_of t.declared) steps) t)) ≡ Ok ds → FinalStops (walk sorts steps) ds s →
-      TellsStop t steps s
+      obligations (task_of t) (plan_of t (kept (closing (sort_of t.declared) reach) t)) ≡ Ok ds → FinalStops (walk sorts reach) ds s →
+      TellsStop t reach s
   ended_stops sorts ds s same small e stops = sym (decides sorts ds same small e ∙ stops)
 
   pub ended_accepts : (v x : TableValue) → Widens v x → (plan : Plan) (trees : CertTrees) (sorts : Sorts) (ds : List Due) →
       sorts_in v ≡ sort_of t.declared → sorts ≡ sort_of t.declared → AreNumbered t.declared →
       IsTaskSorted (sort_of t.declared) (task_of t) → is_small t ≡ true →
       IsPlanReady (sorts_in v) (trees_in v) (numbered_plan plan) →
-      plan_in (sorts_in v) (trees_in v) plan ≡ plan_of t (kept (closing (sort_of t.declared) steps) t) →
-      obligations (task_of t) (plan_of t (kept (closing (sort_of t.declared) steps) t)) ≡ Ok ds →
-      FinalCloses (walk sorts steps) ds → AreCollected x (asked ds) trees.list.items → Accepts t steps x plan trees
+      plan_in (sorts_in v) (trees_in v) plan ≡ plan_of t (kept (closing (sort_of t.declared) reach) t) →
+      obligations (task_of t) (plan_of t (kept (closing (sort_of t.declared) reach) t)) ≡ Ok ds →
+      FinalCloses (walk sorts reach) ds → AreCollected x (asked ds) trees.list.items → Accepts t reach x plan trees
   ended_accepts v x wider plan trees sorts ds declared same numbered sorted small ready made e closes collected =
-      let choice = kept (closing (sort_of t.declared) steps) t in
+      let choice = kept (closing (sort_of t.declared) reach) t in
       let over : sorts_in x ≡ sort_of t.declared = wider.sorts ∙ declared in
       let cs = map (certificate_in (trees_in x)) trees.list.items in
       let certified : AreCertified (sort_of t.declared) (asked ds) cs =
@@ -119,8 +120,8 @@ pub no_fault : {A : Type 0} (r : Result (List Due) Fault) (ds : List Due) (w : F
 no_fault r ds w asks fails = let no = sym asks ∙ fails in absurd cc
 
 -- a plan that isn't small decides that there are too many
-pub too_many : (t : Parts) (steps : ℕ) → is_small t ≡ false →
-    (let many : Outcome (ℕ × Verdict) = TooMany in many) ≡ plan_decides t steps
-too_many t steps large =
-    let W = walk (sort_of t.declared) steps in
+pub too_many : (t : Parts) (reach : Reach) → is_small t ≡ false →
+    (let many : Outcome (ℕ × Verdict) = TooMany in many) ≡ plan_decides t reach
+too_many t reach large =
+    let W = walk (sort_of t.declared) reach in
     sym (ap (λ (b : Bool). if b then final_outcome W (kept_dues W t) else TooMany) large)

@@ -10,6 +10,7 @@ use Rattle.sm_expand.specs.declared.due.Due.{Due}
 use Rattle.sm_expand.specs.Views.{due_in, dues_in, AreDuesReady}
 use Rattle.sm_sketch.specs.Choices.{Choice}
 use Rattle.sm_sketch.specs.ChoiceViews.{choice_in}
+use Rattle.sm_solve.specs.declared.reach.Reach.{Reach}
 use Rattle.sm_houdini.specs.declared.marks.Marked.{Marked}
 use Rattle.sm_houdini.specs.declared.marks.Marks.{Marks}
 use Rattle.sm_houdini.specs.Closing.{closing, closes_at, owner_in}
@@ -22,10 +23,10 @@ use Rattle.sm_houdini.proofs.MarkedLemmas.{all_same}
 use Rattle.sm_houdini.proofs.NodeLemmas.{jobs_mean, below_again, shared_and_dealt}
 
 -- what is known over a table is known over one with the same terms
-pub known_over : (v w : TableValue) → sorts_in w ≡ sorts_in v → trees_in w ≡ trees_in v → (steps : ℕ) (ds : List Due)
-    (flags : List Bool) → AreKnown v steps ds flags → AreKnown w steps ds flags
-known_over v w sorts trees steps ds flags known k i d h flag =
-    (λ j. closes_at (sorts j) steps (due_in (sorts j) (trees j) (get_or ds k d)) i) ∙ known k i d h flag
+pub known_over : (v w : TableValue) → sorts_in w ≡ sorts_in v → trees_in w ≡ trees_in v → (reach : Reach) (ds : List Due)
+    (flags : List Bool) → AreKnown v reach ds flags → AreKnown w reach ds flags
+known_over v w sorts trees reach ds flags known k i d h flag =
+    (λ j. closes_at (sorts j) reach (due_in (sorts j) (trees j) (get_or ds k d)) i) ∙ known k i d h flag
 
 pub ready_over : (v w : TableValue) → sorts_in w ≡ sorts_in v → trees_in w ≡ trees_in v → (ds : List Due) →
     AreDuesReady (sorts_in v) (trees_in v) ds → AreDuesReady (sorts_in w) (trees_in w) ds
@@ -37,11 +38,11 @@ ready_over v w sorts trees ds ready =
 pub share_tells : (v x : RoundGoalsValue) → v ≡ x → (w : TableValue) (share : ℕ) (m : Marks) → sorts_in w ≡ sorts_in v.table →
     trees_in w ≡ trees_in v.table →
     rows m.sites.items ≡ all_marked (λ (s i : ℕ). in_share v.shares share i && holds_but (is_left_out v.numbers v.shares None)
-    (closing (sorts_in w) v.steps) (owner_in v.owners) 0 (dues_in (sorts_in w) (trees_in w) v.dues) s i) 0 (choice_in v.choice) →
+    (closing (sorts_in w) v.reach) (owner_in v.owners) 0 (dues_in (sorts_in w) (trees_in w) v.dues) s i) 0 (choice_in v.choice) →
     TellsShare x share m
 share_tells v x same w share m sorts trees told =
     subst (λ (y : RoundGoalsValue). TellsShare y share m) same
-    (told ∙ (λ j. all_marked (λ (s i : ℕ). in_share v.shares share i && holds_but (is_left_out v.numbers v.shares None) (closing (sorts j) v.steps)
+    (told ∙ (λ j. all_marked (λ (s i : ℕ). in_share v.shares share i && holds_but (is_left_out v.numbers v.shares None) (closing (sorts j) v.reach)
     (owner_in v.owners) 0 (dues_in (sorts j) (trees j) v.dues) s i) 0 (choice_in v.choice)))
 
 -- the marks of each share
@@ -60,12 +61,12 @@ pub nodes_tell : (v x : NodeGoalsValue) → v ≡ x → (w : TableValue) (job : 
     sorts_in w ≡ sorts_in v.table → trees_in w ≡ trees_in v.table → rows start.sites.items ≡ rows v.marks.sites.items →
     ((passes : ℕ → ℕ → Bool) (choice : Choice) → rows start.sites.items ≡ all_marked passes 0 choice →
     rows m.sites.items ≡ all_marked (λ (s i : ℕ). passes s i && holds_but (is_left_out v.numbers v.jobs (Some job))
-    (closing (sorts_in w) v.steps) (owner_in v.owners) 0 (dues_in (sorts_in w) (trees_in w) v.dues) s i) 0 choice) → TellsNodes x job m
+    (closing (sorts_in w) v.reach) (owner_in v.owners) 0 (dues_in (sorts_in w) (trees_in w) v.dues) s i) 0 choice) → TellsNodes x job m
 nodes_tell v x same w job start m sorts trees copied told =
     subst (λ (y : NodeGoalsValue). TellsNodes y job m) same
     (λ passes choice e.
     told passes choice (copied ∙ e)
-    ∙ (λ j. all_marked (λ (s i : ℕ). passes s i && holds_but (is_left_out v.numbers v.jobs (Some job)) (closing (sorts j) v.steps)
+    ∙ (λ j. all_marked (λ (s i : ℕ). passes s i && holds_but (is_left_out v.numbers v.jobs (Some job)) (closing (sorts j) v.reach)
     (owner_in v.owners) 0 (dues_in (sorts j) (trees j) v.dues) s i) 0 choice))
 
 -- the marks after each job
@@ -81,9 +82,9 @@ jobs_told v parts told passes choice e k d h =
 pub jobs_tell : (v : NodeGoalsValue) (passes : ℕ → ℕ → Bool) (choice : Choice) (count : ℕ) → count ≡ v.jobs → (new : List (List Marked)) →
     new ≡ all_marked (λ (s i : ℕ). passes s i && all_below (λ (k : ℕ). passes s i && holds_in_job v (Some k) s i) count) 0 choice →
     new ≡ all_marked (λ (s i : ℕ). passes s i && holds_but (λ (n : ℕ). not (is_left_out v.numbers v.jobs None n))
-    (closing (sorts_in v.table) v.steps) (owner_in v.owners) 0 (dues_in (sorts_in v.table) (trees_in v.table) v.dues) s i) 0 choice
+    (closing (sorts_in v.table) v.reach) (owner_in v.owners) 0 (dues_in (sorts_in v.table) (trees_in v.table) v.dues) s i) 0 choice
 jobs_tell v passes choice count all new made =
-    let closes = closing (sorts_in v.table) v.steps in
+    let closes = closing (sorts_in v.table) v.reach in
     let owner = owner_in v.owners in
     let ds = dues_in (sorts_in v.table) (trees_in v.table) v.dues in
     made
@@ -97,13 +98,13 @@ jobs_tell v passes choice count all new made =
 -- the marks after the nodes that jobs share and those that are dealt
 pub round_tells : (v : RoundGoalsValue) (r : Result Marks AllocError) →
     IfOk r (λ (ms : Marks). rows ms.sites.items ≡ all_marked (λ (s i : ℕ). holds_at_shared v s i
-    && holds_but (λ (n : ℕ). not (is_left_out v.numbers v.shares None n)) (closing (sorts_in v.table) v.steps) (owner_in v.owners) 0
+    && holds_but (λ (n : ℕ). not (is_left_out v.numbers v.shares None n)) (closing (sorts_in v.table) v.reach) (owner_in v.owners) 0
     (dues_in (sorts_in v.table) (trees_in v.table) v.dues) s i) 0 (choice_in v.choice)) →
-    IfOk r (λ (ms : Marks). rows ms.sites.items ≡ all_marked (holds_at (closing (sorts_in v.table) v.steps) (owner_in v.owners)
+    IfOk r (λ (ms : Marks). rows ms.sites.items ≡ all_marked (holds_at (closing (sorts_in v.table) v.reach) (owner_in v.owners)
     (dues_in (sorts_in v.table) (trees_in v.table) v.dues)) 0 (choice_in v.choice))
 round_tells v (Err e) h = h
 round_tells v (Ok ms) h =
-    let closes = closing (sorts_in v.table) v.steps in
+    let closes = closing (sorts_in v.table) v.reach in
     let owner = owner_in v.owners in
     let ds = dues_in (sorts_in v.table) (trees_in v.table) v.dues in
     let out = is_left_out v.numbers v.shares None in

@@ -21,6 +21,7 @@ use Rattle.sm_expand.specs.Views.{due_in, dues_in, AreDuesReady}
 use Rattle.sm_expand.proofs.PlansWiden.{dues_stay, dues_ready}
 use Rattle.sm_sketch.specs.Choices.{Choice}
 use Rattle.sm_list.specs.Parts.{all_numbered}
+use Rattle.sm_solve.specs.declared.reach.Reach.{Reach}
 use Rattle.sm_houdini.specs.declared.asked.Asked.{Asked}
 use Rattle.sm_houdini.specs.declared.marks.Marked.{Marked}
 use Rattle.sm_houdini.specs.Closing.{closing, closes_at, stays_at, owner_in}
@@ -47,29 +48,29 @@ has_passes p r (ns ∷ c) (suc s) i e =
     let same : suc r + s ≡ r + suc s = omega arith in sym (ap (λ (k : ℕ). p k i) same) ∙ has_passes p (suc r) c s i e
 
 -- what a round asked, where its marks are those of the templates whose goals all close
-pub round_asked : (v : TableValue) (steps : ℕ) (owners : List (Option ℕ)) (a : Asked) (choice : Choice) →
+pub round_asked : (v : TableValue) (reach : Reach) (owners : List (Option ℕ)) (a : Asked) (choice : Choice) →
     AreDuesReady (sorts_in v) (trees_in v) a.dues.items →
-    rows a.marks.sites.items ≡ all_marked (holds_at (closing (sorts_in v) steps) (owner_in owners)
-    (dues_in (sorts_in v) (trees_in v) a.dues.items)) 0 choice → IsAsked v steps owners a
-round_asked v steps owners a choice ready e = record {
+    rows a.marks.sites.items ≡ all_marked (holds_at (closing (sorts_in v) reach) (owner_in owners)
+    (dues_in (sorts_in v) (trees_in v) a.dues.items)) 0 choice → IsAsked v reach owners a
+round_asked v reach owners a choice ready e = record {
   ready = ready;
   closed = λ s i there.
-      let passes = holds_at (closing (sorts_in v) steps) (owner_in owners) (dues_in (sorts_in v) (trees_in v) a.dues.items) in
+      let passes = holds_at (closing (sorts_in v) reach) (owner_in owners) (dues_in (sorts_in v) (trees_in v) a.dues.items) in
       let none : 0 + s ≡ s = omega arith in
       sym (ap (λ (k : ℕ). passes k i) none)
       ∙ has_passes passes 0 choice s i (sym (ap (λ (rs : List (List Marked)). has_mark rs s i) e) ∙ there);
 }
 
 -- so it is over a wider table
-pub asked_stays : (v w : TableValue) → Widens v w → (steps : ℕ) (owners : List (Option ℕ)) (o : Option Asked) →
-    IsAskedBefore v steps owners o → IsAskedBefore w steps owners o
-asked_stays v w wider steps owners None h = h
-asked_stays v w wider steps owners (Some a) h =
+pub asked_stays : (v w : TableValue) → Widens v w → (reach : Reach) (owners : List (Option ℕ)) (o : Option Asked) →
+    IsAskedBefore v reach owners o → IsAskedBefore w reach owners o
+asked_stays v w wider reach owners None h = h
+asked_stays v w wider reach owners (Some a) h =
     let same = dues_stay v w wider a.dues.items h.ready in
     record {
       ready = dues_ready v w wider a.dues.items h.ready;
       closed = λ s i there.
-          (λ k. holds_at (closing (wider.sorts k) steps) (owner_in owners) (same k) s i) ∙ h.closed s i there;
+          (λ k. holds_at (closing (wider.sorts k) reach) (owner_in owners) (same k) s i) ∙ h.closed s i there;
     }
 
 -- what one of the nodes asked closes where its owner is a site with the mark
@@ -82,12 +83,12 @@ all_at {X} p (x ∷ xs) (suc k) d e h =
 itself : (n : ℕ) → (n == n) ≡ true
 itself n = grind (arith, nat_tests)
 
-owned_closes : (sorts : Sorts) (steps : ℕ) (owner : plain.Due → Option ℕ) (d : plain.Due) (s i : ℕ) → owner d ≡ Some s →
-    (not (is_site (owner d) s) || closes_if (closing sorts steps d.facts) (slice_get d.goals i)) ≡ true →
-    closes_at sorts steps d i ≡ true
-owned_closes sorts steps owner d s i owned e =
+owned_closes : (sorts : Sorts) (reach : Reach) (owner : plain.Due → Option ℕ) (d : plain.Due) (s i : ℕ) → owner d ≡ Some s →
+    (not (is_site (owner d) s) || closes_if (closing sorts reach d.facts) (slice_get d.goals i)) ≡ true →
+    closes_at sorts reach d i ≡ true
+owned_closes sorts reach owner d s i owned e =
     let here : is_site (owner d) s ≡ true = ap (λ (o : Option ℕ). is_site o s) owned ∙ itself s in
-    sym (ap (λ (b : Bool). not b || closes_at sorts steps d i) here) ∙ e
+    sym (ap (λ (b : Bool). not b || closes_at sorts reach d i) here) ∙ e
 
 get_dues : (sorts : Sorts) (trees : List Tree) (ds : List Due) (k : ℕ) (d : Due) (x : plain.Due) → k < length ds →
     get_or (dues_in sorts trees ds) k x ≡ due_in sorts trees (get_or ds k d)
@@ -123,11 +124,11 @@ mark_row (v ∷ vs) zero i m e = ap (λ (o : Option (Vec Marked Global)). is_the
 mark_row (v ∷ vs) (suc s) i m e = mark_row vs s i m e
 
 -- a goal that a round asked of a node closes, where the mark of its template stayed
-pub asked_closes : (v : TableValue) (steps : ℕ) (owners : List (Option ℕ)) (a : Asked) (k : ℕ) (old : Due) (site : ℕ)
-    (m : Vec Marked Global) → IsAsked v steps owners a → slice_get a.dues.items k ≡ Some old →
+pub asked_closes : (v : TableValue) (reach : Reach) (owners : List (Option ℕ)) (a : Asked) (k : ℕ) (old : Due) (site : ℕ)
+    (m : Vec Marked Global) → IsAsked v reach owners a → slice_get a.dues.items k ≡ Some old →
     owner_in owners (due_in (sorts_in v) (trees_in v) old) ≡ Some site → slice_get a.marks.sites.items site ≡ Some m →
-    (j : ℕ) → is_there (slice_get m.items j) ≡ true → closes_at (sorts_in v) steps (due_in (sorts_in v) (trees_in v) old) j ≡ true
-asked_closes v steps owners a k old site m asked there owned row j marked =
+    (j : ℕ) → is_there (slice_get m.items j) ≡ true → closes_at (sorts_in v) reach (due_in (sorts_in v) (trees_in v) old) j ≡ true
+asked_closes v reach owners a k old site m asked there owned row j marked =
     let sorts = sorts_in v in
     let trees = trees_in v in
     let found = found_at a.dues.items k old there in
@@ -138,8 +139,8 @@ asked_closes v steps owners a k old site m asked there owned row j marked =
     let same : get_or (dues_in sorts trees a.dues.items) k x ≡ x =
     get_dues sorts trees a.dues.items k old x less ∙ ap (due_in sorts trees) found.1 in
     let all = asked.closed site j (mark_row a.marks.sites.items site j m row ∙ marked) in
-    let p = λ (d : plain.Due). not (is_site (owner_in owners d) site) || closes_if (closing sorts steps d.facts) (slice_get d.goals j) in
-    owned_closes sorts steps (owner_in owners) x site j owned
+    let p = λ (d : plain.Due). not (is_site (owner_in owners d) site) || closes_if (closing sorts reach d.facts) (slice_get d.goals j) in
+    owned_closes sorts reach (owner_in owners) x site j owned
     (sym (ap p same) ∙ all_at p (dues_in sorts trees a.dues.items) k x all inside)
 
 -- the goals of a node that are known to close take no mark away
@@ -151,14 +152,14 @@ and_held : (a b : Bool) → b ≡ true → a ≡ (a && b)
 and_held true b e = sym e
 and_held false b e = refl
 
-pub known_judged : (sorts : Sorts) (steps : ℕ) (passes : ℕ → ℕ → Bool) (owners : List (Option ℕ)) (d : plain.Due)
-    (choice : Choice) (rs : List (List Marked)) → ((i : ℕ) → closes_at sorts steps d i ≡ true) → rs ≡ all_marked passes 0 choice →
-    rs ≡ all_marked (λ (s i : ℕ). passes s i && stays_at sorts steps (owner_in owners) d s i) 0 choice
-known_judged sorts steps passes owners d choice rs known e =
-    e ∙ all_same passes (λ (s i : ℕ). passes s i && stays_at sorts steps (owner_in owners) d s i) 0 choice
+pub known_judged : (sorts : Sorts) (reach : Reach) (passes : ℕ → ℕ → Bool) (owners : List (Option ℕ)) (d : plain.Due)
+    (choice : Choice) (rs : List (List Marked)) → ((i : ℕ) → closes_at sorts reach d i ≡ true) → rs ≡ all_marked passes 0 choice →
+    rs ≡ all_marked (λ (s i : ℕ). passes s i && stays_at sorts reach (owner_in owners) d s i) 0 choice
+known_judged sorts reach passes owners d choice rs known e =
+    e ∙ all_same passes (λ (s i : ℕ). passes s i && stays_at sorts reach (owner_in owners) d s i) 0 choice
     (λ (s i : ℕ) (l : 0 ≤ s).
-    and_held (passes s i) (stays_at sorts steps (owner_in owners) d s i)
-    (or_true (not (is_site (owner_in owners d) s)) (closes_at sorts steps d i) (known i)))
+    and_held (passes s i) (stays_at sorts reach (owner_in owners) d s i)
+    (or_true (not (is_site (owner_in owners d) s)) (closes_at sorts reach d i) (known i)))
 
 -- goals that are the same over the same facts
 forms_are : (sorts : Sorts) (trees : List Tree) (fs : List Formula) →
@@ -179,28 +180,28 @@ get_back {X} f (y ∷ xs) zero p x e h = sym (ap (λ (o : Option X). closes_if p
 get_back {X} f (y ∷ xs) (suc i) p x e h = get_back f xs i p x e h
 
 -- a node asks again what it asked before, of the same facts
-pub asked_again : (sorts : Sorts) (trees : List Tree) (steps : ℕ) (new old : Due) (marks : List Marked) →
+pub asked_again : (sorts : Sorts) (trees : List Tree) (reach : Reach) (new old : Due) (marks : List Marked) →
     all_numbered new.facts.list.items ≡ all_numbered old.facts.list.items →
     ((closes : NumberedFormula → Bool) →
     ((j : ℕ) (g : NumberedFormula) → is_there (slice_get marks j) ≡ true → slice_get (all_numbered old.targets.list.items) j ≡ Some g →
     closes g ≡ true) →
     (i : ℕ) (g : NumberedFormula) → slice_get (all_numbered new.targets.list.items) i ≡ Some g → closes g ≡ true) →
-    ((j : ℕ) → is_there (slice_get marks j) ≡ true → closes_at sorts steps (due_in sorts trees old) j ≡ true) →
-    (i : ℕ) → closes_at sorts steps (due_in sorts trees new) i ≡ true
-asked_again sorts trees steps new old marks facts among before i =
+    ((j : ℕ) → is_there (slice_get marks j) ≡ true → closes_at sorts reach (due_in sorts trees old) j ≡ true) →
+    (i : ℕ) → closes_at sorts reach (due_in sorts trees new) i ≡ true
+asked_again sorts trees reach new old marks facts among before i =
     let given = forms_in sorts trees new.facts.list.items in
     let same : given ≡ forms_in sorts trees old.facts.list.items =
     forms_are sorts trees new.facts.list.items ∙ ap (map (assertion_in sorts trees)) facts ∙ sym (forms_are sorts trees old.facts.list.items) in
-    let closes = λ (g : NumberedFormula). closing sorts steps given (assertion_in sorts trees g) in
-    ap (λ (gs : List Assertion). closes_if (closing sorts steps given) (slice_get gs i)) (forms_are sorts trees new.targets.list.items)
-    ∙ get_map (assertion_in sorts trees) (all_numbered new.targets.list.items) i (closing sorts steps given)
+    let closes = λ (g : NumberedFormula). closing sorts reach given (assertion_in sorts trees g) in
+    ap (λ (gs : List Assertion). closes_if (closing sorts reach given) (slice_get gs i)) (forms_are sorts trees new.targets.list.items)
+    ∙ get_map (assertion_in sorts trees) (all_numbered new.targets.list.items) i (closing sorts reach given)
     (λ (g : NumberedFormula) (there : slice_get (all_numbered new.targets.list.items) i ≡ Some g).
     among closes
     (λ (j : ℕ) (h : NumberedFormula) (marked : is_there (slice_get marks j) ≡ true)
     (at : slice_get (all_numbered old.targets.list.items) j ≡ Some h).
-    get_back (assertion_in sorts trees) (all_numbered old.targets.list.items) j (closing sorts steps given) h at
-    (sym (ap (λ (gs : List Assertion). closes_if (closing sorts steps given) (slice_get gs j)) (forms_are sorts trees old.targets.list.items))
-    ∙ ap (λ (fs : List Assertion). closes_if (closing sorts steps fs) (slice_get (forms_in sorts trees old.targets.list.items) j)) same
+    get_back (assertion_in sorts trees) (all_numbered old.targets.list.items) j (closing sorts reach given) h at
+    (sym (ap (λ (gs : List Assertion). closes_if (closing sorts reach given) (slice_get gs j)) (forms_are sorts trees old.targets.list.items))
+    ∙ ap (λ (fs : List Assertion). closes_if (closing sorts reach fs) (slice_get (forms_in sorts trees old.targets.list.items) j)) same
     ∙ before j marked))
     i g there)
 
@@ -244,11 +245,11 @@ flag_of : Option Bool → Bool
 flag_of None = false
 flag_of (Some b) = b
 
-pub flags_put : (v : TableValue) (steps : ℕ) (ds : List Due) (new old : List Bool) (at : ℕ) (b : Bool) (d : Due) →
+pub flags_put : (v : TableValue) (reach : Reach) (ds : List Due) (new old : List Bool) (at : ℕ) (b : Bool) (d : Due) →
     new ≡ old ++ b ∷ [] → length old ≡ at → d ≡ get_or ds at d →
-    (b ≡ true → (i : ℕ) → closes_at (sorts_in v) steps (due_in (sorts_in v) (trees_in v) d) i ≡ true) →
-    AreKnown v steps ds old → AreKnown v steps ds new
-flags_put v steps ds new old at b d is count here known before k i x h flag =
+    (b ≡ true → (i : ℕ) → closes_at (sorts_in v) reach (due_in (sorts_in v) (trees_in v) d) i ≡ true) →
+    AreKnown v reach ds old → AreKnown v reach ds new
+flags_put v reach ds new old at b d is count here known before k i x h flag =
     by (flag_at old k b (sym (ap (λ (l : List Bool). is_flagged l k) is) ∙ flag))
   where
     flag_at : (l : List Bool) (k : ℕ) (b : Bool) → is_flagged (l ++ b ∷ []) k ≡ true →
@@ -264,16 +265,16 @@ flags_put v steps ds new old at b d is count here known before k i x h flag =
         more (inr p) = inr (ap suc p.0, p.1)
 
     by : (is_flagged old k ≡ true) ⊎ ((k ≡ length old) × (b ≡ true)) →
-        closes_at (sorts_in v) steps (due_in (sorts_in v) (trees_in v) (get_or ds k x)) i ≡ true
+        closes_at (sorts_in v) reach (due_in (sorts_in v) (trees_in v) (get_or ds k x)) i ≡ true
     by (inl f) = before k i x h f
     by (inr p) =
         let place : at ≡ k = sym count ∙ sym p.0 in
         let same : get_or ds k x ≡ d = get_any ds k x d h ∙ ap (λ (n : ℕ). get_or ds n d) (sym place) ∙ sym here in
-        ap (λ (y : Due). closes_at (sorts_in v) steps (due_in (sorts_in v) (trees_in v) y) i) same ∙ known p.1 i
+        ap (λ (y : Due). closes_at (sorts_in v) reach (due_in (sorts_in v) (trees_in v) y) i) same ∙ known p.1 i
 
 -- what a round asked, where it is left for the next
-pub left_asked : (v : TableValue) (steps : ℕ) (owners : List (Option ℕ)) (a : Asked) (o : Option Asked) →
-    IfSome o (λ b. b.dues ≡ a.dues) → IfSome o (λ b. b.marks ≡ a.marks) → IsAsked v steps owners a → IsAskedBefore v steps owners o
-left_asked v steps owners a None dues marks h = tt
-left_asked v steps owners a (Some b) dues marks h =
-    let same : a ≡ b = λ k. record { dues = sym dues k; marks = sym marks k } in subst (IsAsked v steps owners) same h
+pub left_asked : (v : TableValue) (reach : Reach) (owners : List (Option ℕ)) (a : Asked) (o : Option Asked) →
+    IfSome o (λ b. b.dues ≡ a.dues) → IfSome o (λ b. b.marks ≡ a.marks) → IsAsked v reach owners a → IsAskedBefore v reach owners o
+left_asked v reach owners a None dues marks h = tt
+left_asked v reach owners a (Some b) dues marks h =
+    let same : a ≡ b = λ k. record { dues = sym dues k; marks = sym marks k } in subst (IsAsked v reach owners) same h

@@ -18,13 +18,13 @@ different : {T : Type 0} → true ≡ false → T
 different e = absurd cc
 
 pub outcomes_same : FirstViolationIsOne → OutcomeIsOne
-outcomes_same one t steps turns o p (inl h) (inl g) = h.1 ∙ sym g.1
-outcomes_same one t steps turns o p (inl h) (inr g) = different (sym h.0 ∙ g.0)
-outcomes_same one t steps turns o p (inr h) (inl g) = different (sym g.0 ∙ h.0)
-outcomes_same one t steps turns o p (inr h) (inr g) =
+outcomes_same one t reach turns o p (inl h) (inl g) = h.1 ∙ sym g.1
+outcomes_same one t reach turns o p (inl h) (inr g) = different (sym h.0 ∙ g.0)
+outcomes_same one t reach turns o p (inr h) (inl g) = different (sym g.0 ∙ h.0)
+outcomes_same one t reach turns o p (inr h) (inr g) =
     let same = one (task_of t) (sort_of t.declared) turns h.1.0 g.1.0 h.1.1 g.1.1 in
     h.1.2
-    ∙ (ap (λ (found : Option (ℕ × Verdict)). or_conflict found (plan_outcome (walks.walk (sort_of t.declared) steps) t)) same ∙ sym g.1.2)
+    ∙ (ap (λ (found : Option (ℕ × Verdict)). or_conflict found (plan_outcome (walks.walk (sort_of t.declared) reach) t)) same ∙ sym g.1.2)
 
 -- it is no conflict
 abbrev IsNoConflict : {V : Type 0} → Outcome V → Type 0
@@ -74,14 +74,14 @@ conflict_in v (Coefficient node goal op y z) = v
 conflict_in v TooMany = v
 
 pub conflict_least : ConflictIsLeast
-conflict_least t steps turns found (inl h) = absurd (subst IsNoConflict (sym h.1) tt)
-conflict_least t steps turns found (inr h) = by h.1.0 h.1.1 h.1.2
+conflict_least t reach turns found (inl h) = absurd (subst IsNoConflict (sym h.1) tt)
+conflict_least t reach turns found (inr h) = by h.1.0 h.1.1 h.1.2
   where
     by : (o : Option (ℕ × Verdict)) → IsFirstViolation (task_of t) (sort_of t.declared) turns o →
-        (Conflict found ≡ or_conflict o (plan_outcome (walks.walk (sort_of t.declared) steps) t)) →
+        (Conflict found ≡ or_conflict o (plan_outcome (walks.walk (sort_of t.declared) reach) t)) →
         IsLeast (task_of t) (sort_of t.declared) turns found.0 found.1
     by None first e =
-        absurd (subst IsNoConflict (sym e) (plan_no (ℕ × Verdict) (walks.walk (sort_of t.declared) steps) t))
+        absurd (subst IsNoConflict (sym e) (plan_no (ℕ × Verdict) (walks.walk (sort_of t.declared) reach) t))
     by (Some v) first e =
         let same : v ≡ found = ap (conflict_in v) (sym e) in
         subst (λ (f : ℕ × Verdict). IsLeast (task_of t) (sort_of t.declared) turns f.0 f.1) same first

@@ -17,6 +17,7 @@ use Rattle.sm_expand.specs.Views.{due_in, dues_in, AreDuesReady}
 use Rattle.sm_sketch.specs.Choices.{Choice}
 use Rattle.sm_sketch.proofs.SketchesWiden.{sketch_stays, sketch_ready}
 use Rattle.sm_product.specs.Products.{sketch_of}
+use Rattle.sm_solve.specs.declared.reach.Reach.{Reach}
 use Rattle.sm_houdini.specs.declared.marks.Marked.{Marked}
 use Rattle.sm_houdini.specs.declared.product.Product.{Product}
 use Rattle.sm_houdini.specs.Closing.{closing, stays_at, owner_in, Knows}
@@ -88,39 +89,39 @@ and_grouped : (a b c d : Bool) → d ≡ (b && c) → ((a && b) && c) ≡ (a && 
 and_grouped true b c d e = sym e
 and_grouped false b c d e = refl
 
-pub round_step : (v w : TableValue) → Widens v w → (steps : ℕ) (owner : plain.Due → Option ℕ) (out : ℕ → Bool) (ds : List Due) (i : ℕ)
+pub round_step : (v w : TableValue) → Widens v w → (reach : Reach) (owner : plain.Due → Option ℕ) (out : ℕ → Bool) (ds : List Due) (i : ℕ)
     (d : Due) (b : Bool) (passes : ℕ → ℕ → Bool) (choice : Choice) (new : List (List Marked)) →
     AreDuesReady (sorts_in v) (trees_in v) ds → i < length ds → d ≡ get_or ds i d → b ≡ out i →
     new ≡ all_marked (λ (s j : ℕ).
-    (passes s j && holds_but out (closing (sorts_in v) steps) owner (i + 1) (drop (i + 1) (dues_in (sorts_in v) (trees_in v) ds)) s j)
-    && (b || stays_at (sorts_in w) steps owner (due_in (sorts_in w) (trees_in w) d) s j)) 0 choice →
+    (passes s j && holds_but out (closing (sorts_in v) reach) owner (i + 1) (drop (i + 1) (dues_in (sorts_in v) (trees_in v) ds)) s j)
+    && (b || stays_at (sorts_in w) reach owner (due_in (sorts_in w) (trees_in w) d) s j)) 0 choice →
     new ≡ all_marked (λ (s j : ℕ). passes s j
-    && holds_but out (closing (sorts_in v) steps) owner i (drop i (dues_in (sorts_in v) (trees_in v) ds)) s j) 0 choice
-round_step v w wider steps owner out ds i d b passes choice new ready h e left judged =
+    && holds_but out (closing (sorts_in v) reach) owner i (drop i (dues_in (sorts_in v) (trees_in v) ds)) s j) 0 choice
+round_step v w wider reach owner out ds i d b passes choice new ready h e left judged =
     let parts = facts_at (sorts_in v) (trees_in v) ds i d ready h e in
     let due = due_stays v w wider d parts.0 parts.1 in
     let behind = drop (i + 1) (dues_in (sorts_in v) (trees_in v) ds) in
-    let closes = closing (sorts_in v) steps in
+    let closes = closing (sorts_in v) reach in
     let here = due_in (sorts_in v) (trees_in v) d in
     judged
     ∙ (λ k. all_marked (λ (s j : ℕ). (passes s j && holds_but out closes owner (add-one i k) behind s j)
-    && (left k || stays_at (wider.sorts k) steps owner (due k) s j)) 0 choice)
+    && (left k || stays_at (wider.sorts k) reach owner (due k) s j)) 0 choice)
     ∙ all_same _ (λ (s j : ℕ). passes s j && holds_but out closes owner i (here ∷ behind) s j) 0 choice
     (λ (s j : ℕ) (l : 0 ≤ s).
-    and_grouped (passes s j) (holds_but out closes owner (suc i) behind s j) (out i || stays_at (sorts_in v) steps owner here s j)
+    and_grouped (passes s j) (holds_but out closes owner (suc i) behind s j) (out i || stays_at (sorts_in v) reach owner here s j)
     (holds_but out closes owner i (here ∷ behind) s j) (holds_more out closes owner i behind here s j))
     ∙ ap (λ (es : List plain.Due). all_marked (λ (s j : ℕ). passes s j && holds_but out closes owner i es s j) 0 choice)
     (sym (dues_left (sorts_in v) (trees_in v) ds i d h e))
 
 -- the next round
-pub round_is : (t : Parts) (sorts : Sorts) (steps : ℕ) (os : List (Option ℕ)) (ds : List plain.Due) (choice c : Choice)
+pub round_is : (t : Parts) (sorts : Sorts) (reach : Reach) (os : List (Option ℕ)) (ds : List plain.Due) (choice c : Choice)
     (rows : List (List Marked)) → sorts ≡ sort_of t.declared → os ≡ owners None 0 (sketch_of t) → ds ≡ dues_of t choice →
-    rows ≡ all_marked (holds_at (closing sorts steps) (owner_in os) ds) 0 choice → c ≡ map numbers_of rows →
-    c ≡ next_round (closing (sort_of t.declared) steps) t choice
-round_is t sorts steps os ds choice c rows same owned asked made is =
+    rows ≡ all_marked (holds_at (closing sorts reach) (owner_in os) ds) 0 choice → c ≡ map numbers_of rows →
+    c ≡ next_round (closing (sort_of t.declared) reach) t choice
+round_is t sorts reach os ds choice c rows same owned asked made is =
     is ∙ ap (map numbers_of) made
-    ∙ (λ k. map numbers_of (all_marked (holds_at (closing (same k) steps) (owner_in (owned k)) (asked k)) 0 choice))
-    ∙ sites_same (holds_at (closing (sort_of t.declared) steps) (owner_in (owners None 0 (sketch_of t))) (dues_of t choice)) 0 choice
+    ∙ (λ k. map numbers_of (all_marked (holds_at (closing (same k) reach) (owner_in (owned k)) (asked k)) 0 choice))
+    ∙ sites_same (holds_at (closing (sort_of t.declared) reach) (owner_in (owners None 0 (sketch_of t))) (dues_of t choice)) 0 choice
 
 -- rounds that are left
 pub settles_now : (next : Choice → Choice) (n : ℕ) (choice : Choice) → 0 < n → same_choice (next choice) choice ≡ true →

@@ -1,5 +1,5 @@
--- What the jobs read may be read by several threads at once.
-use denote.Param.Send.{IsSync, sendable}
+-- What the jobs read may be read by several threads at once, and what they give may go to another one.
+use denote.Param.Send.{IsSend, IsSync, sendable}
 use Rattle.std.proofs.Crossing.{crosses}
 use Rattle.std.proofs.MapsCrossing as maps
 use Rattle.std.proofs.alloc.Global.TheSendSync as heap
@@ -13,10 +13,16 @@ use Rattle.sm_syntax.proofs.tree.Expr.TheLaws.TheKnot as expr
 use Rattle.sm_syntax.proofs.tree.Name.TheSendSync as name
 use Rattle.sm_syntax.proofs.tree.Sort.TheSendSync as sort
 use Rattle.sm_syntax.proofs.tree.Stmt.TheLaws.TheKnot as stmt
+use Rattle.sm_syntax.specs.contracts.tree.Block as Block
 use Rattle.sm_term.proofs.formula.Formula.TheLaws.TheKnot as formula
 use Rattle.sm_term.proofs.term.Term.TheSendSync as term
 use Rattle.sm_term.specs.contracts.table.TermTable as TermTable
+use Rattle.sm_term.specs.contracts.term.Term as Term
+use Rattle.sm_cert.proofs.tree.CertEnd.TheLaws.TheKnot as certificate
+use Rattle.sm_cert.specs.contracts.tree.CertTree as CertTree
 use Rattle.sm_expand.specs.contracts.due.Due as Due
+use Rattle.sm_houdini.specs.contracts.end_jobs.RunEnd as RunEnd
+use Rattle.sm_houdini.specs.contracts.ending.Stop as Stop
 
 -- what a node asks
 pub due_sync : IsSync Due.the_row
@@ -32,3 +38,22 @@ ruleset tables = (set.the_sync, hasher.the_sync, builder.the_sync, heap.the_sync
 -- a table of terms
 pub table_sync : IsSync TermTable.the_row
 table_sync = search (tables, parts, bodies, sendable, crosses) depth 40 fits 3000
+
+-- the terms of a table, and the bodies of its summaries
+term_send : IsSend Term.the_row
+term_send = search (sendable, crosses) depth 40 fits 3000
+
+block_send : IsSend Block.the_row
+block_send = search (bodies, sendable, crosses) depth 40 fits 3000
+
+-- certificates
+tree_send : IsSend CertTree.the_row
+tree_send = search (certificate.crosses, sendable, crosses) depth 40 fits 3000
+
+-- why a goal has no certificate
+stop_send : IsSend Stop.the_row
+stop_send = search (sendable, crosses) depth 40 fits 3000
+
+-- what a run of goals comes to
+pub run_end_send : IsSend RunEnd.the_row
+run_end_send = search (term_send, block_send, tree_send, stop_send, sendable, crosses) depth 40 fits 3000

@@ -37,7 +37,8 @@ use Rattle.sm_write.specs.Nameable.{EachInStates, IsClosed, Nameable}
 use Rattle.sm_write.specs.PlainPlans.{NoTerm}
 use Rattle.sm_write.specs.PlanStates.{plan_states}
 use Rattle.sm_write.specs.Seen.{IsBuilt, IsAtom}
-use Rattle.sm_write.specs.Writable.{Goal, all_goals, states_until, AreShown, facts_named, IsShort, AreShort}
+use Rattle.sm_theory.specs.Named.{facts_named}
+use Rattle.sm_write.specs.Writable.{Goal, all_goals, states_until, AreShown, IsShort, AreShort}
 use Rattle.sm_write.proofs.BuiltTerms.{built_more, sides_more}
 use Rattle.sm_write.proofs.ReadyPlans.{term_more}
 use Rattle.sm_houdini.specs.Certified.{NamesShort, AllNameShort}
@@ -152,6 +153,7 @@ module _ (sorts : Sorts) (most : ℕ) (small : most ≤ 200) where
   line_few facts (cert.Lin n) ways e lean = omega arith
   line_few facts (cert.Elim m n t) ways e lean = omega arith
   line_few facts (cert.Tight n) ways e lean = omega arith
+  line_few facts (cert.Exact n) ways e lean = omega arith
   line_few facts (cert.Close n) ways e lean = omega arith
   line_few facts (cert.Clash m n) ways e lean = omega arith
 

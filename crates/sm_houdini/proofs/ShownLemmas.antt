@@ -14,6 +14,7 @@ use Rattle.sm_term.specs.Symbolic.{SymbolicStore}
 use Rattle.sm_theory.specs.Facts.{BranchFact, Formal, as_facts}
 use Rattle.sm_theory.specs.Moved.{StandAmong}
 use Rattle.sm_cert.specs.Laws.{ClosesMoved}
+use Rattle.sm_cert.proofs.CertificateMoves.{moved_names}
 use Rattle.sm_cert.specs.MovedTrees.{moved_certificate, moved_past}
 use Rattle.sm_plan.specs.Plans.{Due, Fault, obligations}
 use Rattle.sm_moves.proofs.SetsLemmas.{Each}
@@ -92,7 +93,8 @@ certificate_moves moves sorts facts others goal among h =
     among_append facts others (negate goal ∷ []) (negate goal ∷ []) among (among_itself (negate goal ∷ [])) in
     let move = move_to fs gs both in (
       moved_certificate (moved_past move (length (as_facts fs)) (length (as_facts gs))) h.0,
-      moves sorts move (as_facts fs) (as_facts gs) h.0 (stand_among fs gs both) h.1,
+      moves sorts move (as_facts fs) (as_facts gs) h.0 (stand_among fs gs both) h.2 h.1,
+      moved_names (moved_past move (length (as_facts fs)) (length (as_facts gs))) h.0 h.2,
     )
 
 -- of two choices the second has all templates of the first, and by a relation what a site asks under the first is below what it asks under

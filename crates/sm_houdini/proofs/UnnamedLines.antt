@@ -35,6 +35,7 @@ module _ (count : ℕ) (trees : List Tree) where
   line_within (cert.Lin n) h = tt
   line_within (cert.Elim m n t) h = absurd h
   line_within (cert.Tight n) h = tt
+  line_within (cert.Exact n) h = tt
   line_within (cert.Close n) h = tt
   line_within (cert.Clash m n) h = tt
 

@@ -12,8 +12,9 @@ use Rattle.sm_term.proofs.SameTermsLemmas.{same_tree_is}
 use Rattle.sm_plan.proofs.SortedTerms.{forms_append, negate_sorted}
 use Rattle.sm_moves.proofs.SetsLemmas.{Each, each_append}
 use Rattle.sm_solve.specs.Answers.{terms_walked}
-use Rattle.sm_list.specs.Branches.{greatest_of, depth_of, parts_of, parts_of_all, taken_apart, with_parts, put, with_term, with_arguments}
-use Rattle.sm_list.specs.Branches.{with_formula, with_formulas, read_before, put_if, with_reads, with_all_reads, writes_on, terms_of}
+use Rattle.sm_theory.specs.TermsOfFormulas.{put, with_term, with_arguments, with_formula, with_formulas}
+use Rattle.sm_list.specs.Branches.{greatest_of, depth_of, parts_of, parts_of_all, taken_apart, with_parts}
+use Rattle.sm_list.specs.Branches.{read_before, put_if, with_reads, with_all_reads, writes_on, terms_of}
 use Rattle.sm_list.specs.Branches.{IsOneOf}
 use Rattle.sm_write.specs.BranchTerms.{HasTerms, IsTermOf}
 use Rattle.sm_write.specs.Nameable.{EachOf, EachSide, AllSides, PassesTest}

@@ -5,11 +5,13 @@ use Rattle.sm_syntax.specs.text.Sorts.{Sorts}
 use Rattle.sm_term.specs.Assertions.{Assertion, negate}
 use Rattle.sm_theory.specs.Facts.{as_facts}
 use Rattle.sm_cert.specs.Certificates.{Certificate, Next, Closed, Split, Closes}
+use Rattle.sm_cert.specs.MovedTrees.{NamesWhatItReads}
 use Rattle.sm_cert.specs.NamedTerms.{EachTerm}
 use Rattle.sm_plan.specs.Plans.{Due}
 use Rattle.sm_solve.specs.Answers.{terms_walked}
 use Rattle.sm_list.specs.Branches.{IsOneOf}
-use Rattle.sm_write.specs.Writable.{facts_named, AreShortNumbers}
+use Rattle.sm_theory.specs.Named.{facts_named}
+use Rattle.sm_write.specs.Writable.{AreShortNumbers}
 
 -- each goal of obligations, in order, with the facts over which it is asked
 abbrev pub asked : List Due → List (List Assertion × Assertion)
@@ -22,11 +24,11 @@ IsCertified sorts facts goal c =
     Closes sorts (as_facts (facts ++ negate goal ∷ [])) c
     × EachTerm (IsOneOf (terms_walked facts goal)) c
 
--- a goal over facts has a certificate that checks: one that closes the branch of the facts and the
--- goal's contrary
+-- a goal over facts has a certificate that checks, without an exact line: one that closes the branch of
+-- the facts and the goal's contrary
 abbrev pub HasCertificate : Sorts → List Assertion → Assertion → Type 0
 HasCertificate sorts facts goal =
-    (c : Certificate) × Closes sorts (as_facts (facts ++ negate goal ∷ [])) c
+    (c : Certificate) × Closes sorts (as_facts (facts ++ negate goal ∷ [])) c × NamesWhatItReads c
 
 -- each goal has a certificate that shows it, in order
 abbrev pub AreCertified : Sorts → List (List Assertion × Assertion) → List Certificate → Type 0

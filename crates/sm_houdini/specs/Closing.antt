@@ -14,22 +14,23 @@ use Rattle.sm_plan.specs.Starts.{AreNumbered}
 use Rattle.sm_sketch.specs.SketchViews.{sketch_in, IsSketchReady}
 use Rattle.sm_product.specs.Products.{sketch_of}
 use Rattle.sm_solve.specs.Walk.{walk}
+use Rattle.sm_solve.specs.declared.reach.Reach.{Reach}
 use Rattle.sm_houdini.specs.declared.product.Product.{Product}
 use Rattle.sm_houdini.specs.Outcomes.{is_closing}
 use Rattle.sm_houdini.specs.Owners.{owners}
 use Rattle.sm_houdini.specs.Rounds.{is_site, closes_if}
 
 -- whether a goal closes over facts
-abbrev pub closing : Sorts → ℕ → List Assertion → Assertion → Bool
-closing sorts steps facts goal = is_closing (walk sorts steps facts goal)
+abbrev pub closing : Sorts → Reach → List Assertion → Assertion → Bool
+closing sorts reach facts goal = is_closing (walk sorts reach facts goal)
 
 -- whether the i-th goal of what a node asks closes, where there is one
-abbrev pub closes_at : Sorts → ℕ → Due → ℕ → Bool
-closes_at sorts steps d i = closes_if (closing sorts steps d.facts) (slice_get d.goals i)
+abbrev pub closes_at : Sorts → Reach → Due → ℕ → Bool
+closes_at sorts reach d i = closes_if (closing sorts reach d.facts) (slice_get d.goals i)
 
 -- whether the i-th template of a site is still there after what a node asks
-abbrev pub stays_at : Sorts → ℕ → (Due → Option ℕ) → Due → ℕ → ℕ → Bool
-stays_at sorts steps owner d s i = not (is_site (owner d) s) || closes_at sorts steps d i
+abbrev pub stays_at : Sorts → Reach → (Due → Option ℕ) → Due → ℕ → ℕ → Bool
+stays_at sorts reach owner d s i = not (is_site (owner d) s) || closes_at sorts reach d i
 
 -- the owner of what a node asks, by a list of owners
 abbrev pub owner_in : List (Option ℕ) → Due → Option ℕ

@@ -10,6 +10,7 @@ use Rattle.sm_expand.specs.Views.{dues_in}
 use Rattle.sm_replay.specs.declared.verdict.Verdict.{Verdict}
 use Rattle.sm_judge.specs.Forms.{Walked}
 use Rattle.sm_solve.specs.Walk.{walk}
+use Rattle.sm_solve.specs.declared.reach.Reach.{Reach}
 use Rattle.sm_write.specs.TreesWithin.{AreTreesWithin}
 use Rattle.sm_write.specs.Writable.{AreShort}
 use Rattle.sm_houdini.specs.declared.ending.Stop.{Stop}
@@ -77,5 +78,5 @@ AreInsideClosed walk (d ∷ ds) =
     (d.is_final ≡ false → GoalsClose walk d) × AreInsideClosed walk ds
 
 -- so it is of what nodes of the program ask, over a table
-pub record IsInsideClosed (v : TableValue) (steps : ℕ) (ds : List program.Due) : Type 0 where
-  pub closes : AreInsideClosed (walk (sorts_in v) steps) (dues_in (sorts_in v) (trees_in v) ds)
+pub record IsInsideClosed (v : TableValue) (reach : Reach) (ds : List program.Due) : Type 0 where
+  pub closes : AreInsideClosed (walk (sorts_in v) reach) (dues_in (sorts_in v) (trees_in v) ds)

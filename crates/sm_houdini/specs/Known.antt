@@ -4,34 +4,36 @@ use Rattle.std.specs.Prelude.{slice_get, slice_index_or, unwrap_or}
 use Rattle.sm_term.specs.Tables.{TableValue, trees_in, sorts_in}
 use Rattle.sm_expand.specs.declared.due.Due.{Due}
 use Rattle.sm_expand.specs.Views.{due_in, dues_in, AreDuesReady}
+use Rattle.sm_solve.specs.declared.reach.Reach.{Reach}
 use Rattle.sm_houdini.specs.declared.asked.Asked.{Asked}
 use Rattle.sm_houdini.specs.Closing.{closing, closes_at, owner_in}
 use Rattle.sm_houdini.specs.Marks.{has_mark, rows}
 use Rattle.sm_houdini.specs.Rounds.{holds_at}
 
 -- what a round asked over a table: where the mark of a template stayed, all its goals close
-pub record IsAsked (v : TableValue) (steps : ℕ) (owners : List (Option ℕ)) (a : Asked) : Type 0 where
+pub record IsAsked (v : TableValue) (reach : Reach) (owners : List (Option ℕ)) (a : Asked) :
+    Type 0 where
   pub ready : AreDuesReady (sorts_in v) (trees_in v) a.dues.items
   pub closed :
       (s i : ℕ) →
       has_mark (rows a.marks.sites.items) s i ≡ true →
       (let asked = dues_in (sorts_in v) (trees_in v) a.dues.items in
-      holds_at (closing (sorts_in v) steps) (owner_in owners) asked s i ≡ true)
+      holds_at (closing (sorts_in v) reach) (owner_in owners) asked s i ≡ true)
 
 -- the same of the round before, where there was one
-abbrev pub IsAskedBefore : TableValue → ℕ → List (Option ℕ) → Option Asked → Type 0
-IsAskedBefore v steps owners before = IfSome before (IsAsked v steps owners)
+abbrev pub IsAskedBefore : TableValue → Reach → List (Option ℕ) → Option Asked → Type 0
+IsAskedBefore v reach owners before = IfSome before (IsAsked v reach owners)
 
 -- whether a flag is there
 abbrev pub is_flagged : List Bool → ℕ → Bool
 is_flagged flags k = unwrap_or (slice_get flags k) false
 
 -- where the flag of a node is there, all goals that it asks close
-abbrev pub AreKnown : TableValue → ℕ → List Due → List Bool → Type 0
-AreKnown v steps ds flags =
+abbrev pub AreKnown : TableValue → Reach → List Due → List Bool → Type 0
+AreKnown v reach ds flags =
     (k i : ℕ) →
     (d : Due) →
     k < length ds →
     is_flagged flags k ≡ true →
     (let asks = due_in (sorts_in v) (trees_in v) (slice_index_or ds k d) in
-    closes_at (sorts_in v) steps asks i ≡ true)
+    closes_at (sorts_in v) reach asks i ≡ true)

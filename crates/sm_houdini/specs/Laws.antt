@@ -16,6 +16,7 @@ use Rattle.sm_product.specs.Sizes.{is_small}
 use Rattle.sm_replay.specs.declared.verdict.Verdict.{Verdict}
 use Rattle.sm_replay.specs.Trials.{IsLeast}
 use Rattle.sm_judge.specs.Forms.{Walked}
+use Rattle.sm_solve.specs.declared.reach.Reach.{Reach}
 use Rattle.sm_write.specs.Writable.{AreShort, IsWritable}
 use Rattle.sm_houdini.specs.Certified.{asked, AreCertified, AllNameShort}
 use Rattle.sm_houdini.specs.Obligations.{AsksChosen, Obligation, StandIn, HasTemplates, HasAll}
@@ -139,9 +140,10 @@ AskedUnderFewer =
     (s n : ℕ) → is_in (chosen_at choice s) n ≡ true →
     (o : Obligation t larger s n) → IsAskedUnder t choice larger s n o
 
--- where each template of a choice is shown under it, each is shown in every round that has them all
--- as well, and is dropped there only where the walk of one of its obligations doesn't close: it stays
--- open, takes too many steps or leaves the range
+-- where each template of a choice is shown under it without exact lines, each is so in every round
+-- that has them all as well, and is dropped there only where the walk of one of its obligations
+-- doesn't close: it stays open, takes too many steps or leaves the range. An exact line decides all
+-- forms of its branch, so it may fail where there are more facts
 abbrev pub ShownInRounds : Type 0
 ShownInRounds =
     (walk : List Assertion → Assertion → Walked) (t : Parts) (choice : Choice) (ds : List Due)
@@ -166,12 +168,12 @@ KeptExpands =
 -- a search comes to one outcome
 abbrev pub OutcomeIsOne : Type 0
 OutcomeIsOne =
-    (t : Parts) (steps turns : ℕ) (o p : Outcome (ℕ × Verdict)) →
-    IsOutcome t steps turns o → IsOutcome t steps turns p → o ≡ p
+    (t : Parts) (reach : Reach) (turns : ℕ) (o p : Outcome (ℕ × Verdict)) →
+    IsOutcome t reach turns o → IsOutcome t reach turns p → o ≡ p
 
 -- a conflict is that of the least trial that violates
 abbrev pub ConflictIsLeast : Type 0
 ConflictIsLeast =
-    (t : Parts) (steps turns : ℕ) (found : ℕ × Verdict) →
-    IsOutcome t steps turns (Conflict found) →
+    (t : Parts) (reach : Reach) (turns : ℕ) (found : ℕ × Verdict) →
+    IsOutcome t reach turns (Conflict found) →
     IsLeast (task_of t) (sort_of t.declared) turns found.0 found.1

@@ -7,6 +7,7 @@ use Rattle.sm_plan.specs.Plans as plain
 use Rattle.sm_expand.specs.declared.due.Due.{Due}
 use Rattle.sm_expand.specs.Views.{dues_in}
 use Rattle.sm_sketch.specs.Choices.{Choice}
+use Rattle.sm_solve.specs.declared.reach.Reach.{Reach}
 use Rattle.sm_houdini.specs.declared.marks.Marks.{Marks}
 use Rattle.sm_houdini.specs.Closing.{closing, owner_in}
 use Rattle.sm_houdini.specs.Marks.{all_marked, rows}
@@ -38,8 +39,8 @@ all_below passes zero = true
 all_below passes (suc n) = all_below passes n && passes n
 
 -- a table, what nodes ask over it, flags of what is known to close, the numbers of the jobs that nodes
--- are dealt to, the nodes' owners, marks of templates, the most steps of a walk, and how many jobs
--- there are
+-- are dealt to, the nodes' owners, marks of templates, how far a walk goes, and how many jobs there
+-- are
 pub record NodeGoalsValue : Type 0 where
   pub table : TableValue
   pub dues : List Due
@@ -47,14 +48,14 @@ pub record NodeGoalsValue : Type 0 where
   pub numbers : List ℕ
   pub owners : List (Option ℕ)
   pub marks : Marks
-  pub steps : ℕ
+  pub reach : Reach
   pub jobs : ℕ
 
 -- whether each obligation of a template closes at the nodes of a job, or at those that jobs share
 abbrev pub holds_in_job : NodeGoalsValue → Option ℕ → ℕ → ℕ → Bool
 holds_in_job v job s i =
     let asked = dues_in (sorts_in v.table) (trees_in v.table) v.dues in
-    holds_but (is_left_out v.numbers v.jobs job) (closing (sorts_in v.table) v.steps)
+    holds_but (is_left_out v.numbers v.jobs job) (closing (sorts_in v.table) v.reach)
     (owner_in v.owners) 0 asked s i
 
 -- marks that stay after what the nodes of a job ask

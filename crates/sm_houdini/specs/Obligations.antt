@@ -48,7 +48,7 @@ abbrev pub HasAll : Choice → Choice → Type 0
 HasAll choice other =
     (s n : ℕ) → is_in (chosen_at other s) n ≡ true → is_in (chosen_at choice s) n ≡ true
 
--- each obligation of a template under a choice has a certificate that checks
+-- each obligation of a template under a choice has a certificate that checks, without an exact line
 abbrev pub IsShownUnder : Parts → Choice → ℕ → ℕ → Type 0
 IsShownUnder t choice s n =
     (o : Obligation t choice s n) → HasCertificate (sort_of t.declared) o.due.facts o.goal

@@ -11,6 +11,7 @@ use Rattle.sm_sided.specs.OneSided.{is_one_sided}
 use Rattle.sm_replay.specs.declared.verdict.Verdict.{Verdict}
 use Rattle.sm_replay.specs.Trials.{IsFirstViolation}
 use Rattle.sm_solve.specs.Walk as walks
+use Rattle.sm_solve.specs.declared.reach.Reach.{Reach}
 use Rattle.sm_judge.specs.Forms.{Walked, Closes, Opens, TooFar, GoesOut}
 use Rattle.sm_houdini.specs.Rounds.{dues_of, kept}
 
@@ -68,14 +69,14 @@ abbrev pub or_conflict : {V : Type 0} → Option V → Outcome V → Outcome V
 or_conflict None other = other
 or_conflict (Some v) other = Conflict v
 
--- a search comes to this, with so many steps for each walk and so many turns for each run: a
--- one-sided task is accepted, the first violation is a conflict, and otherwise the plan decides
-abbrev pub IsOutcome : Parts → ℕ → ℕ → Outcome (ℕ × Verdict) → Type 0
-IsOutcome t steps turns o =
+-- a search comes to this, where each walk goes so far and each run has so many turns: a one-sided
+-- task is accepted, the first violation is a conflict, and otherwise the plan decides
+abbrev pub IsOutcome : Parts → Reach → ℕ → Outcome (ℕ × Verdict) → Type 0
+IsOutcome t reach turns o =
     let program = program_of (task_of t) in
     let sorts = sort_of t.declared in
     ((is_one_sided program ≡ true) × (o ≡ Accepted))
     ⊎ ((is_one_sided program ≡ false)
     × ((found : Option (ℕ × Verdict))
     × IsFirstViolation (task_of t) sorts turns found
-    × (o ≡ or_conflict found (plan_outcome (walks.walk sorts steps) t))))
+    × (o ≡ or_conflict found (plan_outcome (walks.walk sorts reach) t))))

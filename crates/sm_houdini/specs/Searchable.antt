@@ -8,6 +8,7 @@ use Rattle.sm_sided.specs.declared.whole.CertTrees.{CertTrees}
 use Rattle.sm_replay.specs.declared.verdict.Verdict.{Verdict}
 use Rattle.sm_product.specs.Laws.{HaveNoHole}
 use Rattle.sm_solve.specs.Walk.{walk}
+use Rattle.sm_solve.specs.declared.reach.Reach.{Reach}
 use Rattle.sm_houdini.specs.declared.ending.Stop.{Stop}
 use Rattle.sm_houdini.specs.declared.outcome.Outcome as program
 use Rattle.sm_houdini.specs.Collected.{stop_in}
@@ -20,19 +21,19 @@ abbrev pub IsSearchable : Parts → Type 0
 IsSearchable t = HaveNoHole t
 
 -- what the plan of a task decides
-abbrev pub plan_decides : Parts → ℕ → Outcome (ℕ × Verdict)
-plan_decides t steps = plan_outcome (walk (sort_of t.declared) steps) t
+abbrev pub plan_decides : Parts → Reach → Outcome (ℕ × Verdict)
+plan_decides t reach = plan_outcome (walk (sort_of t.declared) reach) t
 
 -- an outcome is what the plan of a task decides
-abbrev pub TellsPlan : Parts → ℕ → program.Outcome → Type 0
-TellsPlan t steps o = outcome_in o ≡ plan_decides t steps
+abbrev pub TellsPlan : Parts → Reach → program.Outcome → Type 0
+TellsPlan t reach o = outcome_in o ≡ plan_decides t reach
 
 -- so it is of a search that stops
-abbrev pub TellsStop : Parts → ℕ → Stop → Type 0
-TellsStop t steps s = stop_in s ≡ plan_decides t steps
+abbrev pub TellsStop : Parts → Reach → Stop → Type 0
+TellsStop t reach s = stop_in s ≡ plan_decides t reach
 
 -- a plan over a table with certificates, by which a task is accepted
-pub record Accepts (t : Parts) (steps : ℕ) (v : TableValue) (p : Plan) (trees : CertTrees) :
+pub record Accepts (t : Parts) (reach : Reach) (v : TableValue) (p : Plan) (trees : CertTrees) :
     Type 0 where
-  pub tells : (let accepted : Outcome (ℕ × Verdict) = Accepted in accepted) ≡ plan_decides t steps
+  pub tells : (let accepted : Outcome (ℕ × Verdict) = Accepted in accepted) ≡ plan_decides t reach
   pub whole : IsWhole t (record { table = v; plan = p; trees = trees })

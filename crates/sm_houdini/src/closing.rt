@@ -18,7 +18,7 @@ ghost use Rattle.sm_houdini.specs.Outcomes.{is_closing};
 use crate::marks::Marked;
 use sm_expand::Due;
 use sm_plan::Formulas;
-use sm_solve::{Answer, Node, solve_at};
+use sm_solve::{Answer, Node, Reach, solve_at};
 use sm_term::{Formula, TermTable};
 use std::alloc::{AllocError, Global};
 
@@ -61,19 +61,19 @@ fn closes(
     node: &mut Option<Node>,
     facts: &Formulas,
     goal: &Formula,
-    steps: u64,
+    reach: Reach,
 ) -> Result<bool, AllocError>
     requires facts { AreFormsReady (sorts_in table.old) (trees_in table.old)
         facts.now.list.items }
     requires goal { IsFormReady (sorts_in table.old) (trees_in table.old) goal.now }
     requires node { IsNodeOf table.old facts.now.list.items node.old }
     ensures closes { let sorts = sorts_in table.old in let trees = trees_in table.old in
-        IfOk result (λ b. b ≡ closing sorts steps (forms_in sorts trees facts.now.list.items)
+        IfOk result (λ b. b ≡ closing sorts reach (forms_in sorts trees facts.now.list.items)
         (assertion_in sorts trees (numbered goal.now))) }
     ensures node { IfOk result (λ b. IsNodeOf table.new facts.now.list.items node.new) }
     ensures widens { Widens table.old table.new }
 {
-    let answer = solve_at(alloc, table, node, &facts.list, goal, steps)?;
+    let answer = solve_at(alloc, table, node, &facts.list, goal, reach)?;
     Ok(is_closed(&answer))
 }
 
@@ -85,7 +85,7 @@ fn stays(
     due: &Due,
     at: u64,
     holds: bool,
-    steps: u64,
+    reach: Reach,
 ) -> Result<bool, AllocError>
     requires facts { AreFormsReady (sorts_in table.old) (trees_in table.old)
         due.now.facts.list.items }
@@ -94,7 +94,7 @@ fn stays(
     requires node { IsNodeOf table.old due.now.facts.list.items node.old }
     ensures stays { let sorts = sorts_in table.old in let trees = trees_in table.old in
         IfOk result (λ b.
-        b ≡ (holds && closes_at sorts steps (due_in sorts trees due.now) at)) }
+        b ≡ (holds && closes_at sorts reach (due_in sorts trees due.now) at)) }
     ensures node { IfOk result (λ b. IsNodeOf table.new due.now.facts.list.items node.new) }
     ensures widens { Widens table.old table.new }
 {
@@ -102,7 +102,7 @@ fn stays(
         return Ok(false);
     }
     match due.targets.list.get(at as usize) {
-        Some(goal) => closes(alloc, table, node, &due.facts, goal, steps),
+        Some(goal) => closes(alloc, table, node, &due.facts, goal, reach),
         None => Ok(true),
     }
 }
@@ -127,7 +127,7 @@ pub(crate) fn judged(
     table: &mut TermTable,
     due: &Due,
     marks: &[Marked],
-    steps: u64,
+    reach: Reach,
 ) -> Result<Vec<Marked>, AllocError>
     requires facts { AreFormsReady (sorts_in table.old) (trees_in table.old)
         due.now.facts.list.items }
@@ -135,11 +135,11 @@ pub(crate) fn judged(
         due.now.targets.list.items }
     ensures judged { let sorts = sorts_in table.old in let trees = trees_in table.old in
         IfOk result (λ ms. ms.items
-        ≡ still_marked (closes_at sorts steps (due_in sorts trees due.now)) 0 marks.now) }
+        ≡ still_marked (closes_at sorts reach (due_in sorts trees due.now)) 0 marks.now) }
     ensures widens { Widens table.old table.new }
 {
-    let mut node = node_of(alloc, table, &due.facts, are_several(marks), steps)?;
-    judged_at(alloc, table, &mut node, due, marks, steps)
+    let mut node = node_of(alloc, table, &due.facts, are_several(marks), reach.steps)?;
+    judged_at(alloc, table, &mut node, due, marks, reach)
 }
 
 // The same by a node of the facts, where there is one.
@@ -149,7 +149,7 @@ fn judged_at(
     node: &mut Option<Node>,
     due: &Due,
     marks: &[Marked],
-    steps: u64,
+    reach: Reach,
 ) -> Result<Vec<Marked>, AllocError>
     requires facts { AreFormsReady (sorts_in table.old) (trees_in table.old)
         due.now.facts.list.items }
@@ -158,13 +158,13 @@ fn judged_at(
     requires node { IsNodeOf table.old due.now.facts.list.items node.old }
     ensures judged { let sorts = sorts_in table.old in let trees = trees_in table.old in
         IfOk result (λ ms. ms.items
-        ≡ still_marked (closes_at sorts steps (due_in sorts trees due.now)) 0 marks.now) }
+        ≡ still_marked (closes_at sorts reach (due_in sorts trees due.now)) 0 marks.now) }
     ensures widens { Widens table.old table.new }
 {
     let mut list = Vec::new(alloc);
     for mark in marks {
         let at = list.as_slice().len() as u64;
-        let holds = stays(alloc, table, node, due, at, mark.holds, steps)?;
+        let holds = stays(alloc, table, node, due, at, mark.holds, reach)?;
         list.push(Marked {
             number: mark.number,
             holds,

@@ -34,6 +34,7 @@ use sm_par::Gate;
 use sm_product::{is_small, obligations_of, sketch_of};
 use sm_sided::CertTrees;
 use sm_sketch::{ProductError, Sketch, TemplateChoice, plan_with};
+use sm_solve::Reach;
 use sm_syntax::{Block, PerCopy};
 use sm_term::TermTable;
 use sm_text::Task;
@@ -76,22 +77,22 @@ fn ended<R: Threads + Sync, G: Gate>(
     task: &Task,
     product: &Product,
     choice: &TemplateChoice,
-    steps: u64,
+    reach: Reach,
 ) -> Result<Result<(Plan, CertTrees), Stop>, AllocError>
     requires knows { Knows table.old task.now product.now }
     requires searchable { IsSearchable (parts_of task.now) }
     requires small { sizes.is_small (parts_of task.now) ≡ true }
     requires kept { choice_in choice.now
-        ≡ kept (closing (sort_of (declared_of task.now.shared.decls)) steps) (parts_of task.now) }
+        ≡ kept (closing (sort_of (declared_of task.now.shared.decls)) reach) (parts_of task.now) }
     ensures ends { IfOk result (λ r. MatchResult r
-        (λ p. Accepts (parts_of task.now) steps table.new p.0 p.1)
-        (TellsStop (parts_of task.now) steps)) }
+        (λ p. Accepts (parts_of task.now) reach table.new p.0 p.1)
+        (TellsStop (parts_of task.now) reach)) }
     ensures widens { Widens table.old table.new }
 {
     let plan = plan_with(alloc, &product.sketch, choice)?;
     let dues = all_asked(alloc, table, task, product, &plan)?;
     let mut list = Vec::new(alloc);
-    match end_all(crew, alloc, table, &dues.list, &mut list, steps)? {
+    match end_all(crew, alloc, table, &dues.list, &mut list, reach)? {
         Some(stop) => Ok(Err(stop)),
         None => Ok(Ok((plan, CertTrees { list }))),
     }
@@ -105,18 +106,18 @@ fn decided<R: Threads + Sync, G: Gate>(
     task: &Task,
     product: &Product,
     choice: &TemplateChoice,
-    steps: u64,
+    reach: Reach,
 ) -> Result<Outcome, AllocError>
     requires knows { Knows table task.now product.now }
     requires searchable { IsSearchable (parts_of task.now) }
     requires small { sizes.is_small (parts_of task.now) ≡ true }
     requires kept { choice_in choice.now
-        ≡ kept (closing (sort_of (declared_of task.now.shared.decls)) steps) (parts_of task.now) }
-    ensures tells { IfOk result (TellsPlan (parts_of task.now) steps) }
+        ≡ kept (closing (sort_of (declared_of task.now.shared.decls)) reach) (parts_of task.now) }
+    ensures tells { IfOk result (TellsPlan (parts_of task.now) reach) }
     ensures proof { IfOk result (IsProof (parts_of task.now)) }
 {
     let mut table = table;
-    match ended(crew, alloc, &mut table, task, product, choice, steps)? {
+    match ended(crew, alloc, &mut table, task, product, choice, reach)? {
         Ok((plan, trees)) => Ok(Outcome::Accepted(Proof { table, plan, trees })),
         Err(stop) => Ok(stopped(stop)),
     }
@@ -130,11 +131,11 @@ fn kept_if_small<R: Threads + Sync, G: Gate>(
     task: &Task,
     product: &Product,
     full: TemplateChoice,
-    steps: u64,
+    reach: Reach,
 ) -> Result<Option<TemplateChoice>, AllocError>
     requires knows { Knows table.old task.now product.now }
     requires full { choice_in full ≡ full_choice (parts_of task.now) }
-    ensures kept { let closes = closing (sort_of (declared_of task.now.shared.decls)) steps in
+    ensures kept { let closes = closing (sort_of (declared_of task.now.shared.decls)) reach in
         IfOk result (λ r. MatchOption r
         (sizes.is_small (parts_of task.now) ≡ false)
         (λ c. (sizes.is_small (parts_of task.now) ≡ true)
@@ -151,7 +152,7 @@ fn kept_if_small<R: Threads + Sync, G: Gate>(
     )? {
         return Ok(None);
     }
-    Ok(Some(settled(crew, alloc, table, task, product, full, steps)?))
+    Ok(Some(settled(crew, alloc, table, task, product, full, reach)?))
 }
 
 // What the plan of a sketch decides.
@@ -162,7 +163,7 @@ fn decided_by<R: Threads + Sync, G: Gate>(
     task: &Task,
     programs: PerCopy<Block>,
     sketch: Sketch,
-    steps: u64,
+    reach: Reach,
 ) -> Result<Outcome, AllocError>
     requires searchable { IsSearchable (parts_of task.now) }
     requires declared { sorts_in table ≡ sort_of (declared_of task.now.shared.decls) }
@@ -173,7 +174,7 @@ fn decided_by<R: Threads + Sync, G: Gate>(
     requires sketch { sketch_in (sorts_in table) (trees_in table) sketch
         ≡ products.sketch_of (parts_of task.now) }
     requires ready { IsSketchReady (sorts_in table) (trees_in table) sketch }
-    ensures tells { IfOk result (TellsPlan (parts_of task.now) steps) }
+    ensures tells { IfOk result (TellsPlan (parts_of task.now) reach) }
     ensures proof { IfOk result (IsProof (parts_of task.now)) }
 {
     let mut table = table;
@@ -183,8 +184,8 @@ fn decided_by<R: Threads + Sync, G: Gate>(
         sketch,
         owners,
     };
-    match kept_if_small(crew, alloc, &mut table, task, &product, full, steps)? {
-        Some(kept) => decided(crew, alloc, table, task, &product, &kept, steps),
+    match kept_if_small(crew, alloc, &mut table, task, &product, full, reach)? {
+        Some(kept) => decided(crew, alloc, table, task, &product, &kept, reach),
         None => Ok(Outcome::TooMany),
     }
 }
@@ -195,19 +196,19 @@ pub(crate) fn by_plan<R: Threads + Sync, G: Gate>(
     alloc: Global,
     task: &Task,
     programs: PerCopy<Block>,
-    steps: u64,
+    reach: Reach,
 ) -> Result<Outcome, AllocError>
     requires searchable { IsSearchable (parts_of task.now) }
     requires sorted { IsTaskSorted (sort_of (declared_of task.now.shared.decls))
         (task_of (parts_of task.now)) }
     requires numbered { AreNumbered (declared_of task.now.shared.decls) }
     requires filled { AreFilled (parts_of task.now) programs }
-    ensures tells { IfOk result (TellsPlan (parts_of task.now) steps) }
+    ensures tells { IfOk result (TellsPlan (parts_of task.now) reach) }
     ensures proof { IfOk result (IsProof (parts_of task.now)) }
 {
     let mut table = TermTable::new(alloc, &task.shared.decls)?;
     match sketch_of(alloc, &mut table, task) {
-        Ok(sketch) => decided_by(crew, alloc, table, task, programs, sketch, steps),
+        Ok(sketch) => decided_by(crew, alloc, table, task, programs, sketch, reach),
         Err(ProductError::TooMany) => Ok(Outcome::TooMany),
         Err(ProductError::Memory) => Err(AllocError),
     }

@@ -13,9 +13,10 @@ ghost use Rattle.sm_plan.specs.ReadyStates.{AreFormsReady};
 ghost use Rattle.sm_plan.specs.Views.{forms_in};
 ghost use Rattle.sm_expand.specs.declared.due.Due.{Due};
 ghost use Rattle.sm_expand.specs.Views.{due_in, dues_in, AreDuesReady};
-ghost use Rattle.sm_list.specs.Listing.{numbers_of};
+ghost use Rattle.sm_terms.specs.Listing.{numbers_of};
 ghost use Rattle.sm_list.specs.Renumbered.{AreTermsOf};
 ghost use Rattle.sm_solve.specs.Walk.{walk};
+ghost use Rattle.sm_solve.specs.declared.reach.Reach.{Reach};
 ghost use Rattle.sm_write.specs.TreesWithin.{AreTreesWithin};
 ghost use Rattle.sm_houdini.specs.declared.end_jobs.RunEnd.{RunEnd};
 ghost use Rattle.sm_houdini.specs.Certified.{asked};
@@ -30,6 +31,7 @@ use sm_cert::CertTree;
 use sm_expand::Due;
 use sm_list::renumbered_tree;
 use sm_par::{Gate, Job, Phase, run_jobs};
+use sm_solve::Reach;
 use sm_term::{Formula, TermId, TermRows, TermTable};
 use std::alloc::{AllocError, Global};
 use std::marker::Model;
@@ -43,21 +45,21 @@ pub(crate) fn end_by_jobs<R: Threads + Sync, G: Gate>(
     table: &mut TermTable,
     dues: &[Due],
     trees: &mut Vec<CertTree>,
-    steps: u64,
+    reach: Reach,
 ) -> Result<Option<Stop>, AllocError>
     requires ready { AreDuesReady (sorts_in table.old) (trees_in table.old) dues.now }
-    requires inside { IsInsideClosed table.old steps dues.now }
+    requires inside { IsInsideClosed table.old reach dues.now }
     ensures ends { let sorts = sorts_in table.old in let ts = trees_in table.old in
         let ds = dues_in sorts ts dues.now in
         AreCollected table.old [] trees.old.items → IfOk result (λ o. MatchOption o
-        (FinalCloses (walk sorts steps) ds
+        (FinalCloses (walk sorts reach) ds
         × AreCollected table.new (asked ds) trees.new.items)
-        (FinalStops (walk sorts steps) ds)) }
+        (FinalStops (walk sorts reach) ds)) }
     ensures widens { Widens table.old table.new }
 {
     let each = runs_each(dues.len(), crew.workers as usize);
-    let ends = run_ends(crew, alloc, table, dues, each, steps)?;
-    joined_all(alloc, table, dues, each, &ends, trees, steps)
+    let ends = run_ends(crew, alloc, table, dues, each, reach)?;
+    joined_all(alloc, table, dues, each, &ends, trees, reach)
 }
 
 // How many runs the goals of each node have, so that there is a run for each worker.
@@ -88,11 +90,11 @@ fn run_ends<R: Threads + Sync, G: Gate>(
     table: &TermTable,
     dues: &[Due],
     each: usize,
-    steps: u64,
+    reach: Reach,
 ) -> Result<Vec<RunEnd>, AllocError>
     requires ready { AreDuesReady (sorts_in table.now) (trees_in table.now) dues.now }
     requires some { 0 < each }
-    ensures { IfOk result (λ ends. ArePlanEnds table.now steps dues.now each ends.items) }
+    ensures { IfOk result (λ ends. ArePlanEnds table.now reach dues.now each ends.items) }
 {
     // So many runs fit no memory.
     let Some(count) = dues.len().checked_mul(each) else {
@@ -102,7 +104,7 @@ fn run_ends<R: Threads + Sync, G: Gate>(
         table,
         dues,
         each,
-        steps,
+        reach,
         count,
     };
     run_jobs(
@@ -125,18 +127,18 @@ fn joined_all(
     each: usize,
     ends: &[RunEnd],
     trees: &mut Vec<CertTree>,
-    steps: u64,
+    reach: Reach,
 ) -> Result<Option<Stop>, AllocError>
     requires ready { AreDuesReady (sorts_in table.old) (trees_in table.old) dues.now }
-    requires inside { IsInsideClosed table.old steps dues.now }
+    requires inside { IsInsideClosed table.old reach dues.now }
     requires some { 0 < each }
-    requires made { ArePlanEnds table.old steps dues.now each ends.now }
+    requires made { ArePlanEnds table.old reach dues.now each ends.now }
     ensures ends { let sorts = sorts_in table.old in let ts = trees_in table.old in
         let ds = dues_in sorts ts dues.now in
         AreCollected table.old [] trees.old.items → IfOk result (λ o. MatchOption o
-        (FinalCloses (walk sorts steps) ds
+        (FinalCloses (walk sorts reach) ds
         × AreCollected table.new (asked ds) trees.new.items)
-        (FinalStops (walk sorts steps) ds)) }
+        (FinalStops (walk sorts reach) ds)) }
     ensures widens { Widens table.old table.new }
 {
     let from = table.len();
@@ -165,13 +167,13 @@ fn joined(
         (slice_index_or runs.now k run).rows }
     ensures ends { (v : TableValue) → Widens v table.old → from ≡ length (trees_in v) →
         let sorts = sorts_in v in let ts = trees_in v in
-        (steps : ℕ) (due : Due) (asks : List Formula) (goals : List (List Assertion × Assertion)) →
-        AreRunEnds v steps due asks runs.now →
+        (reach : Reach) (due : Due) (asks : List Formula)
+        (goals : List (List Assertion × Assertion)) → AreRunEnds v reach due asks runs.now →
         AreCollected table.old goals trees.old.items → IfOk result (λ o. MatchOption o
-        (RunCloses (walk sorts steps) (due_in sorts ts due) 0 (forms_in sorts ts asks)
+        (RunCloses (walk sorts reach) (due_in sorts ts due) 0 (forms_in sorts ts asks)
         × AreCollected table.new
         (goals ++ goals_with (due_in sorts ts due).facts (forms_in sorts ts asks)) trees.new.items)
-        (RunStops (walk sorts steps) (due_in sorts ts due) 0 (forms_in sorts ts asks))) }
+        (RunStops (walk sorts reach) (due_in sorts ts due) 0 (forms_in sorts ts asks))) }
     ensures widens { Widens table.old table.new }
 {
     for run in runs {
@@ -278,7 +280,7 @@ struct PlanEnds<'a> {
     table: &'a TermTable,
     dues: &'a [Due],
     each: usize,
-    steps: u64,
+    reach: Reach,
     count: usize,
 }
 
@@ -300,7 +302,7 @@ impl<'a> Model for PlanEnds<'a> {
       table = g.table.now;
       dues = g.dues.now;
       each = g.each;
-      steps = g.steps;
+      reach = g.reach;
       count = g.count;
     } };
 
@@ -324,7 +326,7 @@ impl Job for PlanEnds<'_> {
             due,
             at % self.each,
             self.each,
-            self.steps,
+            self.reach,
         )
     }
 }
@@ -336,14 +338,14 @@ fn run_end(
     due: &Due,
     number: usize,
     each: usize,
-    steps: u64,
+    reach: Reach,
 ) -> Result<RunEnd, AllocError>
     requires facts { AreFormsReady (sorts_in table.now) (trees_in table.now)
         due.now.facts.list.items }
     requires goals { AreFormsReady (sorts_in table.now) (trees_in table.now)
         due.now.targets.list.items }
     requires some { 0 < each }
-    ensures { IfOk result (IsPartEnd table.now steps due.now each number) }
+    ensures { IfOk result (IsPartEnd table.now reach due.now each number) }
 {
     let goals = due.targets.list.as_slice();
     let size = size_of(goals.len(), each);
@@ -355,7 +357,7 @@ fn run_end(
     let mut table = table.copy(alloc)?;
     let from = table.len();
     let mut trees = Vec::new(alloc);
-    let stop = end_run(alloc, &mut table, due, first as u64, run, &mut trees, steps)?;
+    let stop = end_run(alloc, &mut table, due, first as u64, run, &mut trees, reach)?;
     let rows = table.tail(alloc, from)?;
     Ok(RunEnd { rows, trees, stop })
 }

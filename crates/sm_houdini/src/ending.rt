@@ -34,7 +34,7 @@ use sm_expand::Due;
 use sm_num::Op;
 use sm_par::Gate;
 use sm_plan::Formulas;
-use sm_solve::{Answer, Node, solve_at};
+use sm_solve::{Answer, Node, Reach, solve_at};
 use sm_term::{Formula, TermTable};
 use std::alloc::{AllocError, Global};
 use std::thread::Threads;
@@ -126,7 +126,7 @@ fn end_goal(
     node: u64,
     at: u64,
     trees: &mut Vec<CertTree>,
-    steps: u64,
+    reach: Reach,
 ) -> Result<Option<Stop>, AllocError>
     requires facts { AreFormsReady (sorts_in table.old) (trees_in table.old)
         facts.now.list.items }
@@ -137,13 +137,13 @@ fn end_goal(
         let asks = assertion_in sorts ts (numbered goal.now) in
         (goals : List (List Assertion × Assertion)) →
         AreCollected table.old goals trees.old.items → IfOk result (λ o. MatchOption o
-        (GoalCloses node at (walk sorts steps given asks)
+        (GoalCloses node at (walk sorts reach given asks)
         × AreCollected table.new (goals ++ (given, asks) ∷ []) trees.new.items)
-        (GoalStops node at (walk sorts steps given asks))) }
+        (GoalStops node at (walk sorts reach given asks))) }
     ensures shared { IfOk result (λ o. IsNodeOf table.new facts.now.list.items shared.new) }
     ensures widens { Widens table.old table.new }
 {
-    let answer = solve_at(alloc, table, shared, &facts.list, goal, steps)?;
+    let answer = solve_at(alloc, table, shared, &facts.list, goal, reach)?;
     match certificate(answer, node, at) {
         Ok(tree) => {
             put(trees, tree)?;
@@ -163,7 +163,7 @@ pub(crate) fn end_run(
     first: u64,
     run: &[Formula],
     trees: &mut Vec<CertTree>,
-    steps: u64,
+    reach: Reach,
 ) -> Result<Option<Stop>, AllocError>
     requires facts { AreFormsReady (sorts_in table.old) (trees_in table.old)
         due.now.facts.list.items }
@@ -173,14 +173,14 @@ pub(crate) fn end_run(
         let d = due_in sorts ts due.now in let asks = forms_in sorts ts run.now in
         (goals : List (List Assertion × Assertion)) →
         AreCollected table.old goals trees.old.items → IfOk result (λ o. MatchOption o
-        (RunCloses (walk sorts steps) d first asks
+        (RunCloses (walk sorts reach) d first asks
         × AreCollected table.new (goals ++ goals_with d.facts asks) trees.new.items)
-        (RunStops (walk sorts steps) d first asks)) }
+        (RunStops (walk sorts reach) d first asks)) }
     ensures widens { Widens table.old table.new }
 {
     let several = due.targets.list.len() > 1;
-    let mut shared = node_of(alloc, table, &due.facts, several, steps)?;
-    end_run_at(alloc, table, &mut shared, due, first, run, trees, steps)
+    let mut shared = node_of(alloc, table, &due.facts, several, reach.steps)?;
+    end_run_at(alloc, table, &mut shared, due, first, run, trees, reach)
 }
 
 // The same by a node of the facts, where there is one.
@@ -192,7 +192,7 @@ fn end_run_at(
     first: u64,
     run: &[Formula],
     trees: &mut Vec<CertTree>,
-    steps: u64,
+    reach: Reach,
 ) -> Result<Option<Stop>, AllocError>
     requires facts { AreFormsReady (sorts_in table.old) (trees_in table.old)
         due.now.facts.list.items }
@@ -203,16 +203,16 @@ fn end_run_at(
         let d = due_in sorts ts due.now in let asks = forms_in sorts ts run.now in
         (goals : List (List Assertion × Assertion)) →
         AreCollected table.old goals trees.old.items → IfOk result (λ o. MatchOption o
-        (RunCloses (walk sorts steps) d first asks
+        (RunCloses (walk sorts reach) d first asks
         × AreCollected table.new (goals ++ goals_with d.facts asks) trees.new.items)
-        (RunStops (walk sorts steps) d first asks)) }
+        (RunStops (walk sorts reach) d first asks)) }
     ensures widens { Widens table.old table.new }
 {
     let mut at = first;
     for goal in run {
         let facts = &due.facts;
         let end = end_goal(
-            alloc, table, shared, facts, goal, due.node, at, trees, steps,
+            alloc, table, shared, facts, goal, due.node, at, trees, reach,
         )?;
         if end.is_some() {
             return Ok(end);
@@ -230,22 +230,22 @@ pub(crate) fn end_all<R: Threads + Sync, G: Gate>(
     table: &mut TermTable,
     dues: &[Due],
     trees: &mut Vec<CertTree>,
-    steps: u64,
+    reach: Reach,
 ) -> Result<Option<Stop>, AllocError>
     requires ready { AreDuesReady (sorts_in table.old) (trees_in table.old) dues.now }
-    requires inside { IsInsideClosed table.old steps dues.now }
+    requires inside { IsInsideClosed table.old reach dues.now }
     ensures ends { let sorts = sorts_in table.old in let ts = trees_in table.old in
         let ds = dues_in sorts ts dues.now in
         AreCollected table.old [] trees.old.items → IfOk result (λ o. MatchOption o
-        (FinalCloses (walk sorts steps) ds
+        (FinalCloses (walk sorts reach) ds
         × AreCollected table.new (asked ds) trees.new.items)
-        (FinalStops (walk sorts steps) ds)) }
+        (FinalStops (walk sorts reach) ds)) }
     ensures widens { Widens table.old table.new }
 {
     if crew.workers == 1 {
-        end_in_turn(alloc, table, dues, trees, steps)
+        end_in_turn(alloc, table, dues, trees, reach)
     } else {
-        end_by_jobs(crew, alloc, table, dues, trees, steps)
+        end_by_jobs(crew, alloc, table, dues, trees, reach)
     }
 }
 
@@ -255,21 +255,21 @@ fn end_in_turn(
     table: &mut TermTable,
     dues: &[Due],
     trees: &mut Vec<CertTree>,
-    steps: u64,
+    reach: Reach,
 ) -> Result<Option<Stop>, AllocError>
     requires ready { AreDuesReady (sorts_in table.old) (trees_in table.old) dues.now }
-    requires inside { IsInsideClosed table.old steps dues.now }
+    requires inside { IsInsideClosed table.old reach dues.now }
     ensures ends { let sorts = sorts_in table.old in let ts = trees_in table.old in
         let ds = dues_in sorts ts dues.now in
         AreCollected table.old [] trees.old.items → IfOk result (λ o. MatchOption o
-        (FinalCloses (walk sorts steps) ds
+        (FinalCloses (walk sorts reach) ds
         × AreCollected table.new (asked ds) trees.new.items)
-        (FinalStops (walk sorts steps) ds)) }
+        (FinalStops (walk sorts reach) ds)) }
     ensures widens { Widens table.old table.new }
 {
     for due in dues {
         let goals = due.targets.list.as_slice();
-        let end = end_run(alloc, table, due, 0, goals, trees, steps)?;
+        let end = end_run(alloc, table, due, 0, goals, trees, reach)?;
         if end.is_some() {
             return Ok(end);
         }

@@ -16,6 +16,7 @@ use crate::node_jobs::{job_numbers, marks_by_nodes};
 use sm_expand::Due;
 use sm_par::{Gate, Job, Phase, run_jobs};
 use sm_sketch::TemplateChoice;
+use sm_solve::Reach;
 use sm_term::TermTable;
 use std::alloc::{AllocError, Global};
 use std::marker::Model;
@@ -66,12 +67,12 @@ pub(crate) fn marks_after<R: Threads + Sync, G: Gate>(
     known: &[bool],
     owners: &[Option<u64>],
     choice: &TemplateChoice,
-    steps: u64,
+    reach: Reach,
 ) -> Result<Marks, AllocError>
     requires ready { AreDuesReady (sorts_in table.old) (trees_in table.old) dues.now }
-    requires known { AreKnown table.old steps dues.now known.now }
+    requires known { AreKnown table.old reach dues.now known.now }
     ensures marks { let sorts = sorts_in table.old in let trees = trees_in table.old in
-        IfOk result (λ ms. rows ms.sites.items ≡ all_marked (holds_at (closing sorts steps)
+        IfOk result (λ ms. rows ms.sites.items ≡ all_marked (holds_at (closing sorts reach)
         (owner_in owners.now) (dues_in sorts trees dues.now)) 0 (choice_in choice.now)) }
     ensures widens { Widens table.old table.new }
 {
@@ -88,13 +89,13 @@ pub(crate) fn marks_after<R: Threads + Sync, G: Gate>(
             None,
             owners,
             &mut marks,
-            steps,
+            reach,
         )?;
         return Ok(marks);
     }
     let shares = shares_of(crew.workers, most);
     marks_by_jobs(
-        crew, alloc, table, dues, known, owners, choice, steps, shares,
+        crew, alloc, table, dues, known, owners, choice, reach, shares,
     )
 }
 
@@ -110,15 +111,15 @@ fn marks_by_jobs<R: Threads + Sync, G: Gate>(
     known: &[bool],
     owners: &[Option<u64>],
     choice: &TemplateChoice,
-    steps: u64,
+    reach: Reach,
     shares: u64,
 ) -> Result<Marks, AllocError>
     requires ready { AreDuesReady (sorts_in table.now) (trees_in table.now) dues.now }
-    requires known { AreKnown table.now steps dues.now known.now }
+    requires known { AreKnown table.now reach dues.now known.now }
     requires some { 0 < shares }
     requires few { shares ≤ 64 }
     ensures { let sorts = sorts_in table.now in let trees = trees_in table.now in
-        IfOk result (λ ms. rows ms.sites.items ≡ all_marked (holds_at (closing sorts steps)
+        IfOk result (λ ms. rows ms.sites.items ≡ all_marked (holds_at (closing sorts reach)
         (owner_in owners.now) (dues_in sorts trees dues.now)) 0 (choice_in choice.now)) }
 {
     let dealt = job_numbers(alloc, owners, dues, shares)?;
@@ -130,7 +131,7 @@ fn marks_by_jobs<R: Threads + Sync, G: Gate>(
         numbers,
         owners,
         choice,
-        steps,
+        reach,
         shares,
     };
     let parts = run_jobs(
@@ -144,7 +145,7 @@ fn marks_by_jobs<R: Threads + Sync, G: Gate>(
     )?;
     let marks = all_shares(alloc, &parts, choice)?;
     marks_by_nodes(
-        crew, alloc, table, dues, known, numbers, owners, &marks, steps, shares,
+        crew, alloc, table, dues, known, numbers, owners, &marks, reach, shares,
     )
 }
 
@@ -177,7 +178,7 @@ struct RoundGoals<'a> {
     numbers: &'a [u64],
     owners: &'a [Option<u64>],
     choice: &'a TemplateChoice,
-    steps: u64,
+    reach: Reach,
     shares: u64,
 }
 
@@ -203,12 +204,12 @@ impl<'a> Model for RoundGoals<'a> {
       numbers = g.numbers.now;
       owners = g.owners.now;
       choice = g.choice.now;
-      steps = g.steps;
+      reach = g.reach;
       shares = g.shares;
     } };
 
     ghost invariant = { λ g. AreDuesReady (sorts_in g.table.now) (trees_in g.table.now) g.dues.now
-        × AreKnown g.table.now g.steps g.dues.now g.known.now × (0 < g.shares) };
+        × AreKnown g.table.now g.reach g.dues.now g.known.now × (0 < g.shares) };
 }
 
 impl Job for RoundGoals<'_> {
@@ -231,7 +232,7 @@ impl Job for RoundGoals<'_> {
             None,
             self.owners,
             &mut marks,
-            self.steps,
+            self.reach,
         )?;
         Ok(marks)
     }

@@ -16,6 +16,7 @@ use crate::marks::Marks;
 use crate::node_jobs::is_left_out;
 use crate::owners::owner;
 use sm_expand::Due;
+use sm_solve::Reach;
 use sm_term::TermTable;
 use std::alloc::{AllocError, Global};
 
@@ -28,20 +29,20 @@ fn judge(
     is_known: bool,
     owners: &[Option<u64>],
     marks: &mut Marks,
-    steps: u64,
+    reach: Reach,
 ) -> Result<(), AllocError>
     requires facts { AreFormsReady (sorts_in table.old) (trees_in table.old)
         due.now.facts.list.items }
     requires goals { AreFormsReady (sorts_in table.old) (trees_in table.old)
         due.now.targets.list.items }
     requires known { is_known ≡ true → (i : ℕ) →
-        closes_at (sorts_in table.old) steps
+        closes_at (sorts_in table.old) reach
         (due_in (sorts_in table.old) (trees_in table.old) due.now) i ≡ true }
     ensures judged { let sorts = sorts_in table.old in let trees = trees_in table.old in
         (passes : ℕ → ℕ → Bool) (choice : Choice) →
         rows marks.old.sites.items ≡ all_marked passes 0 choice →
         OnOk result (rows marks.new.sites.items ≡ all_marked (λ s i. passes s i
-        && stays_at sorts steps (owner_in owners.now) (due_in sorts trees due.now) s i) 0 choice) }
+        && stays_at sorts reach (owner_in owners.now) (due_in sorts trees due.now) s i) 0 choice) }
     ensures widens { Widens table.old table.new }
 {
     if is_known {
@@ -54,7 +55,7 @@ fn judge(
     if site >= marks.sites.as_slice().len() {
         return Ok(());
     }
-    let list = judged(alloc, table, due, &marks.sites[site], steps)?;
+    let list = judged(alloc, table, due, &marks.sites[site], reach)?;
     marks.sites[site] = list;
     Ok(())
 }
@@ -68,26 +69,26 @@ fn judge_unless(
     is_known: bool,
     owners: &[Option<u64>],
     marks: &mut Marks,
-    steps: u64,
+    reach: Reach,
 ) -> Result<(), AllocError>
     requires facts { AreFormsReady (sorts_in table.old) (trees_in table.old)
         due.now.facts.list.items }
     requires goals { AreFormsReady (sorts_in table.old) (trees_in table.old)
         due.now.targets.list.items }
     requires known { is_known ≡ true → (i : ℕ) →
-        closes_at (sorts_in table.old) steps
+        closes_at (sorts_in table.old) reach
         (due_in (sorts_in table.old) (trees_in table.old) due.now) i ≡ true }
     ensures judged { let sorts = sorts_in table.old in let trees = trees_in table.old in
         (passes : ℕ → ℕ → Bool) (choice : Choice) →
         rows marks.old.sites.items ≡ all_marked passes 0 choice →
         OnOk result (rows marks.new.sites.items ≡ all_marked (λ s i. passes s i && (is_left
-        || stays_at sorts steps (owner_in owners.now) (due_in sorts trees due.now) s i)) 0 choice) }
+        || stays_at sorts reach (owner_in owners.now) (due_in sorts trees due.now) s i)) 0 choice) }
     ensures widens { Widens table.old table.new }
 {
     if is_left {
         return Ok(());
     }
-    judge(alloc, table, due, is_known, owners, marks, steps)
+    judge(alloc, table, due, is_known, owners, marks, reach)
 }
 
 /// Takes marks away from the templates one of whose goals doesn't close, at the nodes that are dealt
@@ -104,15 +105,15 @@ pub(crate) fn judge_all(
     job: Option<u64>,
     owners: &[Option<u64>],
     marks: &mut Marks,
-    steps: u64,
+    reach: Reach,
 ) -> Result<(), AllocError>
     requires ready { AreDuesReady (sorts_in table.old) (trees_in table.old) dues.now }
-    requires known { AreKnown table.old steps dues.now known.now }
+    requires known { AreKnown table.old reach dues.now known.now }
     ensures judged { let sorts = sorts_in table.old in let trees = trees_in table.old in
         (passes : ℕ → ℕ → Bool) (choice : Choice) →
         rows marks.old.sites.items ≡ all_marked passes 0 choice →
         OnOk result (rows marks.new.sites.items ≡ all_marked (λ s i. passes s i
-        && holds_but (is_left_out numbers.now jobs job) (closing sorts steps) (owner_in owners.now) 0
+        && holds_but (is_left_out numbers.now jobs job) (closing sorts reach) (owner_in owners.now) 0
         (dues_in sorts trees dues.now) s i) 0 choice) }
     ensures widens { Widens table.old table.new }
 {
@@ -129,7 +130,7 @@ pub(crate) fn judge_all(
             is_known,
             owners,
             marks,
-            steps,
+            reach,
         )?;
     }
     Ok(())

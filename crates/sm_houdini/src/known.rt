@@ -5,6 +5,7 @@ ghost use Rattle.sm_term.specs.Formulas.{NumberedFormula};
 ghost use Rattle.sm_term.specs.Tables.{TableValue, trees_in, sorts_in};
 ghost use Rattle.sm_expand.specs.Views.{due_in};
 ghost use Rattle.sm_list.specs.Parts.{all_numbered};
+ghost use Rattle.sm_solve.specs.declared.reach.Reach.{Reach};
 ghost use Rattle.sm_houdini.specs.Closing.{closes_at};
 ghost use Rattle.sm_houdini.specs.Known.{IsAsked, IsAskedBefore, AreKnown, is_flagged};
 ghost use Rattle.sm_houdini.specs.Marks.{is_there};
@@ -77,11 +78,11 @@ fn are_among(list: &[Formula], others: &[Formula], marks: &[Marked]) -> bool
 
 // Whether a node asks what it asked before, of the same facts, and all of that is marked.
 fn is_asked_again(due: &Due, before: &Due, marks: &[Marked]) -> bool
-    ensures { (v : TableValue) (steps : ℕ) →
+    ensures { (v : TableValue) (reach : Reach) →
         ((j : ℕ) → is_there (slice_get marks.now j) ≡ true →
-        closes_at (sorts_in v) steps (due_in (sorts_in v) (trees_in v) before.now) j ≡ true) →
+        closes_at (sorts_in v) reach (due_in (sorts_in v) (trees_in v) before.now) j ≡ true) →
         result ≡ true → (i : ℕ) →
-        closes_at (sorts_in v) steps (due_in (sorts_in v) (trees_in v) due.now) i ≡ true }
+        closes_at (sorts_in v) reach (due_in (sorts_in v) (trees_in v) due.now) i ≡ true }
 {
     if !are_same(&due.facts.list, &before.facts.list) {
         return false;
@@ -91,9 +92,9 @@ fn is_asked_again(due: &Due, before: &Due, marks: &[Marked]) -> bool
 
 // Whether all goals of what a node asks are known to close from the round before.
 fn is_known(due: &Due, at: usize, before: &Asked, owners: &[Option<u64>]) -> bool
-    ensures { (v : TableValue) (steps : ℕ) → IsAsked v steps owners.now before.now →
+    ensures { (v : TableValue) (reach : Reach) → IsAsked v reach owners.now before.now →
         result ≡ true → (i : ℕ) →
-        closes_at (sorts_in v) steps (due_in (sorts_in v) (trees_in v) due.now) i ≡ true }
+        closes_at (sorts_in v) reach (due_in (sorts_in v) (trees_in v) due.now) i ≡ true }
 {
     let old = match before.dues.get(at) {
         Some(old) => old,
@@ -119,8 +120,8 @@ fn flags_of(
     owners: &[Option<u64>],
     dues: &[Due],
 ) -> Result<Vec<bool>, AllocError>
-    ensures { (v : TableValue) (steps : ℕ) → IsAsked v steps owners.now before.now →
-        IfOk result (λ flags. AreKnown v steps dues.now flags.items) }
+    ensures { (v : TableValue) (reach : Reach) → IsAsked v reach owners.now before.now →
+        IfOk result (λ flags. AreKnown v reach dues.now flags.items) }
 {
     let mut flags = Vec::new(alloc);
     for at in 0..dues.len() {
@@ -137,8 +138,8 @@ pub(crate) fn known_dues(
     owners: &[Option<u64>],
     dues: &[Due],
 ) -> Result<Vec<bool>, AllocError>
-    ensures { (v : TableValue) (steps : ℕ) → IsAskedBefore v steps owners.now before.now →
-        IfOk result (λ flags. AreKnown v steps dues.now flags.items) }
+    ensures { (v : TableValue) (reach : Reach) → IsAskedBefore v reach owners.now before.now →
+        IfOk result (λ flags. AreKnown v reach dues.now flags.items) }
 {
     match before {
         Some(before) => flags_of(alloc, before, owners, dues),

@@ -34,8 +34,9 @@ pub fn asked_under_fewer()
     ensures { AskedUnderFewer }
 {}
 
-/// Where each template of a choice is shown under it, each is shown in every round that has them all
-/// as well, and dropped there only where the walk of one of its obligations doesn't close.
+/// Where each template of a choice is shown under it by certificates without exact lines, each is
+/// shown so in every round that has them all as well, and dropped there only where the walk of one
+/// of its obligations doesn't close.
 pub fn shown_in_rounds()
     ensures { ShownInRounds }
 {}

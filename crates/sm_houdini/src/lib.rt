@@ -7,15 +7,16 @@
 //!   template that isn't kept was refuted in a round: one of its obligations didn't close. The plan
 //!   of what is kept has obligations wherever that of all templates is small.
 //! - Under more templates each node asks the same goals of those that were there, over more facts. So
-//!   templates that are shown together stay shown in each round that has them all, and one is dropped
-//!   there only where the walk of one of its obligations doesn't close.
+//!   templates that are shown together, by certificates without exact lines, stay shown in each round
+//!   that has them all, and one is dropped there only where the walk of one of its obligations
+//!   doesn't close.
 //! - A search comes to one outcome, and a conflict is that of the least trial that violates.
 //! - The plan of a choice can be written as a proof file with certificates of all that it asks, none
 //!   of whose lines is too long where no number is and there are at most 200 names.
 //! - `search` gives what a search comes to, for tasks of any size in whose fillings no hole stands.
 //!   Where it accepts there are a plan and certificates that can be written, and `proof_text` gives
-//!   a proof file of them that passes. It is of version 2 where the task assumes something, and else
-//!   of version 1.
+//!   a proof file of them that passes. It is of version 3 where it has lines `exact`, of version 2
+//!   where it has none and the task assumes something, and else of version 1.
 //!
 //! Read `specs/Rounds.antt` first, then `specs/Outcomes.antt`, `specs/Obligations.antt` and
 //! `specs/Laws.antt`.

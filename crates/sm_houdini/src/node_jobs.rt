@@ -16,6 +16,7 @@ use crate::marks::{Join, Marks, copied, joined_marks};
 use crate::owners::owner;
 use sm_expand::Due;
 use sm_par::{Gate, Job, Phase, run_jobs};
+use sm_solve::Reach;
 use sm_term::TermTable;
 use std::alloc::{AllocError, Global};
 use std::marker::Model;
@@ -32,16 +33,16 @@ pub(crate) fn marks_by_nodes<R: Threads + Sync, G: Gate>(
     numbers: &[u64],
     owners: &[Option<u64>],
     marks: &Marks,
-    steps: u64,
+    reach: Reach,
     jobs: u64,
 ) -> Result<Marks, AllocError>
     requires ready { AreDuesReady (sorts_in table.now) (trees_in table.now) dues.now }
-    requires known { AreKnown table.now steps dues.now known.now }
+    requires known { AreKnown table.now reach dues.now known.now }
     ensures { let sorts = sorts_in table.now in let trees = trees_in table.now in
         (passes : ℕ → ℕ → Bool) (choice : Choice) →
         rows marks.now.sites.items ≡ all_marked passes 0 choice → IfOk result (λ ms.
         rows ms.sites.items ≡ all_marked (λ s i. passes s i
-        && holds_but (λ n. not (is_left_out numbers.now jobs None n)) (closing sorts steps)
+        && holds_but (λ n. not (is_left_out numbers.now jobs None n)) (closing sorts reach)
         (owner_in owners.now) 0 (dues_in sorts trees dues.now) s i) 0 choice) }
 {
     let job = NodeGoals {
@@ -51,7 +52,7 @@ pub(crate) fn marks_by_nodes<R: Threads + Sync, G: Gate>(
         numbers,
         owners,
         marks,
-        steps,
+        reach,
         jobs,
     };
     let parts = run_jobs(
@@ -174,7 +175,7 @@ struct NodeGoals<'a> {
     numbers: &'a [u64],
     owners: &'a [Option<u64>],
     marks: &'a Marks,
-    steps: u64,
+    reach: Reach,
     jobs: u64,
 }
 
@@ -199,12 +200,12 @@ impl<'a> Model for NodeGoals<'a> {
       numbers = g.numbers.now;
       owners = g.owners.now;
       marks = g.marks.now;
-      steps = g.steps;
+      reach = g.reach;
       jobs = g.jobs;
     } };
 
     ghost invariant = { λ g. AreDuesReady (sorts_in g.table.now) (trees_in g.table.now) g.dues.now
-        × AreKnown g.table.now g.steps g.dues.now g.known.now };
+        × AreKnown g.table.now g.reach g.dues.now g.known.now };
 }
 
 impl Job for NodeGoals<'_> {
@@ -227,7 +228,7 @@ impl Job for NodeGoals<'_> {
             Some(index),
             self.owners,
             &mut marks,
-            self.steps,
+            self.reach,
         )?;
         Ok(marks)
     }

@@ -18,6 +18,7 @@ use crate::marks::kept_choice;
 use crate::product::Product;
 use sm_par::Gate;
 use sm_sketch::TemplateChoice;
+use sm_solve::Reach;
 use sm_term::TermTable;
 use sm_text::Task;
 use std::alloc::{AllocError, Global};
@@ -33,21 +34,21 @@ fn next_round<R: Threads + Sync, G: Gate>(
     product: &Product,
     choice: &TemplateChoice,
     before: &mut Option<Asked>,
-    steps: u64,
+    reach: Reach,
 ) -> Result<TemplateChoice, AllocError>
     requires knows { Knows table.old task.now product.now }
-    requires before { IsAskedBefore table.old steps product.now.owners.items before.old }
-    ensures next { let closes = closing (sort_of (declared_of task.now.shared.decls)) steps in
+    requires before { IsAskedBefore table.old reach product.now.owners.items before.old }
+    ensures next { let closes = closing (sort_of (declared_of task.now.shared.decls)) reach in
         IfOk result (λ c. choice_in c
         ≡ plain.next_round closes (parts_of task.now) (choice_in choice.now)) }
     ensures before { OnOk result (
-        IsAskedBefore table.new steps product.now.owners.items before.new) }
+        IsAskedBefore table.new reach product.now.owners.items before.new) }
     ensures widens { Widens table.old table.new }
 {
     let dues = dues_of(alloc, table, task, product, choice)?.list;
     let owners = product.owners.as_slice();
     let known = known_dues(alloc, before, owners, &dues)?;
-    let marks = marks_after(crew, alloc, table, &dues, &known, owners, choice, steps)?;
+    let marks = marks_after(crew, alloc, table, &dues, &known, owners, choice, reach)?;
     let next = kept_choice(alloc, &marks)?;
     *before = for_next(dues, marks);
     Ok(next)
@@ -61,10 +62,10 @@ pub(crate) fn settled<R: Threads + Sync, G: Gate>(
     task: &Task,
     product: &Product,
     full: TemplateChoice,
-    steps: u64,
+    reach: Reach,
 ) -> Result<TemplateChoice, AllocError>
     requires knows { Knows table.old task.now product.now }
-    ensures settled { let closes = closing (sort_of (declared_of task.now.shared.decls)) steps in
+    ensures settled { let closes = closing (sort_of (declared_of task.now.shared.decls)) reach in
         let next = plain.next_round closes (parts_of task.now) in
         IfOk result (λ c. choice_in c
         ≡ plain.settled next (plain.total (choice_in full)) (choice_in full)) }
@@ -82,7 +83,7 @@ pub(crate) fn settled<R: Threads + Sync, G: Gate>(
             product,
             &choice,
             &mut before,
-            steps,
+            reach,
         )?;
         // A round only drops templates.
         if total(&next)? == total(&choice)? {

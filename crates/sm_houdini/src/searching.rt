@@ -11,6 +11,7 @@ ghost use Rattle.sm_plan.specs.SortedStates.{IsTaskSorted};
 ghost use Rattle.sm_plan.specs.Starts.{AreNumbered};
 ghost use Rattle.sm_sided.specs.OneSided.{IsOneSided};
 ghost use Rattle.sm_replay.specs.Sorted.{sort_fault};
+ghost use Rattle.sm_solve.specs.declared.reach.Reach.{Reach};
 ghost use Rattle.sm_houdini.specs.Outcomes.{IsOutcome};
 ghost use Rattle.sm_houdini.specs.Searchable.{IsSearchable};
 ghost use Rattle.sm_houdini.specs.Views.{outcome_in, IsProof, IsWhole};
@@ -21,6 +22,7 @@ use crate::outcome::{Outcome, Proof};
 use sm_par::Gate;
 use sm_replay::first_violation;
 use sm_sided::{one_sided, whole_plan};
+use sm_solve::Reach;
 use sm_syntax::{Block, PerCopy};
 use sm_task::fill_all;
 use sm_term::TermTable;
@@ -51,9 +53,10 @@ fn whole_proof(alloc: Global, task: &Task, programs: &PerCopy<Block>) -> Result<
     Ok(Proof { table, plan, trees })
 }
 
-/// What the search for a proof of a task comes to, with at most `steps` steps in each walk. A task
-/// in which only one side was changed is accepted. Of any other one the trials are run, as jobs for
-/// 1 to 64 workers, in which a loop takes at most `turns` turns: the first that violates it is a
+/// What the search for a proof of a task comes to, with at most `steps` steps in each walk. Where it
+/// is to be `exact`, a walk decides the forms of a branch that nothing splits exactly, too. A task in
+/// which only one side was changed is accepted. Of any other one the trials are run, as jobs for 1
+/// to 64 workers, in which a loop takes at most `turns` turns: the first that violates it is a
 /// conflict. Otherwise its plan decides, under the templates that are kept. With more than one
 /// worker shares of the templates and of the nodes are jobs too, in each round, and so are the goals
 /// of each node of the plan that is kept.
@@ -65,6 +68,7 @@ pub fn search<R: Threads + Sync, G: Gate>(
     steps: u64,
     turns: u64,
     workers: u32,
+    exact: bool,
 ) -> Result<Outcome, AllocError>
     requires runs { sort_fault (parts_of task.now) ≡ None }
     requires searchable { IsSearchable (parts_of task.now) }
@@ -72,7 +76,8 @@ pub fn search<R: Threads + Sync, G: Gate>(
     requires numbered { AreNumbered (declared_of task.now.shared.decls) }
     requires some { 0 < workers }
     requires most { workers ≤ 64 }
-    ensures outcome { IfOk result (λ o. IsOutcome (parts_of task.now) steps turns (outcome_in o)) }
+    ensures outcome { let reach : Reach = record { steps = steps; exact = exact } in
+        IfOk result (λ o. IsOutcome (parts_of task.now) reach turns (outcome_in o)) }
 
     // An outcome that accepts comes with a plan and certificates that can be written.
     ensures proof { IfOk result (IsProof (parts_of task.now)) }
@@ -85,7 +90,7 @@ pub fn search<R: Threads + Sync, G: Gate>(
         Some((trial, verdict)) => Ok(Outcome::Conflict { trial, verdict }),
         None => {
             let crew = Crew { rt, gate, workers };
-            by_plan(&crew, alloc, task, programs, steps)
+            by_plan(&crew, alloc, task, programs, Reach { steps, exact })
         }
     }
 }

@@ -71,6 +71,7 @@ fn is_short_line(line: &CertLine) -> bool
         CertLine::Lin(n) => is_one(*n),
         CertLine::Elim(m, n, _) => are_two(*m, *n),
         CertLine::Tight(n) => is_one(*n),
+        CertLine::Exact(_) => true,
         CertLine::Close(n) => is_one(*n),
         CertLine::Clash(m, n) => are_two(*m, *n),
     }

@@ -34,10 +34,10 @@ pub returns-clause-closes : goal.returns-clause-closes
 returns-clause-closes c =
     let sorts = sorts_in c.args.table.now in let trees = trees_in c.args.table.now in
     let g = assertion_in sorts trees (numbered c.args.goal.now) in
-    c.is_closed.ensures sorts (trees_in c.solve_at.new.table) (walk sorts c.args.steps (assertions_in sorts trees (all_numbered c.deref.result.now)) g)
+    c.is_closed.ensures sorts (trees_in c.solve_at.new.table) (walk sorts c.args.reach (assertions_in sorts trees (all_numbered c.deref.result.now)) g)
     c.in_ok-answer.ensures.answer
-    ∙ ap (λ (fs : List Formula). closing sorts c.args.steps (assertions_in sorts trees (all_numbered fs)) g) c.deref.ensures.value
-    ∙ ap (λ (fs : List Assertion). closing sorts c.args.steps fs g) (forms_same sorts trees c.args.facts.now.list.items)
+    ∙ ap (λ (fs : List Formula). closing sorts c.args.reach (assertions_in sorts trees (all_numbered fs)) g) c.deref.ensures.value
+    ∙ ap (λ (fs : List Assertion). closing sorts c.args.reach fs g) (forms_same sorts trees c.args.facts.now.list.items)
 
 pub returns-clause-node : goal.returns-clause-node
 returns-clause-node c =

@@ -13,7 +13,7 @@ judged_at-requires-clause-goals c =
 
 pub returns-clause-judged : goal.returns-clause-judged
 returns-clause-judged c =
-    judged_over c.args.table.now c.node_of.new.table c.in_ok-node.ensures.widens c.args.steps c.args.due.now c.requires.facts
+    judged_over c.args.table.now c.node_of.new.table c.in_ok-node.ensures.widens c.args.reach c.args.due.now c.requires.facts
     c.requires.goals 0 c.args.marks.now c.judged_at.result c.judged_at.ensures.judged
 
 pub returns-clause-widens : goal.returns-clause-widens

@@ -22,7 +22,7 @@ loop-mark-preserved c =
     record {
       count = ap length c.in_ok-push.ensures.items ∙ length-append c.loop-mark.list.items _ ∙ ap (λ n. n + 1) inv.count;
       marks =
-          judged_step c.args.table.now c.loop-mark.table inv.widens c.args.steps c.args.due.now c.requires.facts c.requires.goals
+          judged_step c.args.table.now c.loop-mark.table inv.widens c.args.reach c.args.due.now c.requires.facts c.requires.goals
           0 c.push.new.self.items c.loop-mark.list.items c.args.marks.now c.loop-mark.mark-index _ _ c.in_ok-holds.holds
           c.in_ok-push.ensures.items c.in_ok-holds.ensures.stays (ap length c.as_slice.ensures.value ∙ inv.count ∙ sym (zero-add c.loop-mark.mark-index))
           c.loop-mark-test.true inv.marks;

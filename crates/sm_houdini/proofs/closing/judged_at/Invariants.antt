@@ -12,7 +12,7 @@ abbrev pub invariant-loop-mark : goal.invariant-loop-mark
 invariant-loop-mark l = record {
   count : length l.list.items ≡ l.mark-index;
   marks : l.list.items
-      ≡ still_marked (closes_at (sorts_in l.initial.table) l.steps (due_in (sorts_in l.initial.table) (trees_in l.initial.table) l.due)) 0
+      ≡ still_marked (closes_at (sorts_in l.initial.table) l.reach (due_in (sorts_in l.initial.table) (trees_in l.initial.table) l.due)) 0
       (take l.mark-index l.marks);
   widens : Widens l.initial.table l.table;
   node : IsNodeOf l.table l.due.facts.list.items l.node;

@@ -26,17 +26,17 @@ returns-in-Some-clause-stays c =
     ∙ slice_get-get_or c.deref.result.now c.args.at f c.in-Some.ensures.lookup.3.0
     ∙ ap (λ (g : Formula). Some g) (sym (c.in-Some.ensures.lookup.3.1 f)) in
     ok_map c.closes.result
-    (λ (b : Bool). b ≡ closing sorts c.args.steps (forms_in sorts trees due.facts.list.items) (assertion_in sorts trees (numbered f)))
-    (λ (b : Bool). b ≡ (c.args.holds && closes_at sorts c.args.steps (due_in sorts trees due) c.args.at))
-    (λ (b : Bool) (h : b ≡ closing sorts c.args.steps (forms_in sorts trees due.facts.list.items) (assertion_in sorts trees (numbered f))).
-    some_stays sorts trees c.args.steps due c.args.at f b found h
-    ∙ ap (λ (x : Bool). x && closes_at sorts c.args.steps (due_in sorts trees due) c.args.at) (sym c.if-not-holds.false))
+    (λ (b : Bool). b ≡ closing sorts c.args.reach (forms_in sorts trees due.facts.list.items) (assertion_in sorts trees (numbered f)))
+    (λ (b : Bool). b ≡ (c.args.holds && closes_at sorts c.args.reach (due_in sorts trees due) c.args.at))
+    (λ (b : Bool) (h : b ≡ closing sorts c.args.reach (forms_in sorts trees due.facts.list.items) (assertion_in sorts trees (numbered f))).
+    some_stays sorts trees c.args.reach due c.args.at f b found h
+    ∙ ap (λ (x : Bool). x && closes_at sorts c.args.reach (due_in sorts trees due) c.args.at) (sym c.if-not-holds.false))
     c.closes.ensures.closes
 
 pub returns-in-None-clause-stays : goal.returns-in-None-clause-stays
 returns-in-None-clause-stays c =
     let sorts = sorts_in c.args.table.now in let trees = trees_in c.args.table.now in let due = c.args.due.now in
-    none_stays sorts trees c.args.steps due c.args.at
+    none_stays sorts trees c.args.reach due c.args.at
     (ap (λ (fs : List Formula). slice_get fs c.args.at) (sym c.deref.ensures.value)
     ∙ slice_get_past c.deref.result.now c.args.at c.in-None.ensures.lookup.3)
-    ∙ ap (λ (x : Bool). x && closes_at sorts c.args.steps (due_in sorts trees due) c.args.at) (sym c.if-not-holds.false)
+    ∙ ap (λ (x : Bool). x && closes_at sorts c.args.reach (due_in sorts trees due) c.args.at) (sym c.if-not-holds.false)

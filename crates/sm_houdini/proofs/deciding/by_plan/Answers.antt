@@ -13,5 +13,5 @@ sketch_of-requires-clause-no_hole g c = c.requires.searchable
 pub returns-in-Err-TooMany-clause-tells : goal.returns-in-Err-TooMany-clause-tells
 returns-in-Err-TooMany-clause-tells g c =
     let t = parts_of c.args.task.now in
-    too_many t c.args.steps
+    too_many t c.args.reach
     (large_task t (subst (λ (e : ProductError). TellsSketch e (sketch_of t)) c.in-Err-TooMany.field-0-is c.in-Err-TooMany.ensures.err))

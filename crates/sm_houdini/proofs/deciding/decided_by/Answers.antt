@@ -29,6 +29,6 @@ decided-requires-clause-knows g c κs within =
 pub decided-requires-clause-kept : goal.decided-requires-clause-kept
 decided-requires-clause-kept g c κs within =
     let t = parts_of c.args.task.now in
-    let closes = closing (sort_of (declared_of c.args.task.now.shared.decls)) c.args.steps in
+    let closes = closing (sort_of (declared_of c.args.task.now.shared.decls)) c.args.reach in
     (MatchOption-at_some (is_small t ≡ false) (λ (k : TemplateChoice). (is_small t ≡ true) × (choice_in k ≡ kept closes t)) c.in-Some.kept
     c.in-Some.is c.in_ok-kept.ensures.kept).1

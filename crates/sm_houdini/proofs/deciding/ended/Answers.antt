@@ -23,7 +23,7 @@ all_asked-requires-clause-expands g c =
     let k = c.requires.knows in
     let t = parts_of c.args.task.now in
     let made = c.in_ok-plan.ensures.made (sorts_in v) (trees_in v) k.ready ∙ (λ i. plan_with (kept_by (c.requires.kept i)) 0 (k.sketch i)) in
-    let all = kept_expands (closing (sort_of t.declared) c.args.steps) t c.requires.searchable c.requires.small in
+    let all = kept_expands (closing (sort_of t.declared) c.args.reach) t c.requires.searchable c.requires.small in
     (all.0, ap (obligations (task_of t)) made ∙ all.1)
 
 pub end_all-requires-clause-ready : goal.end_all-requires-clause-ready
@@ -39,9 +39,9 @@ end_all-requires-clause-inside g c κs within =
     let t = parts_of c.args.task.now in
     let made = c.in_ok-plan.ensures.made (sorts_in v) (trees_in v) k.ready ∙ (λ i. plan_with (kept_by (c.requires.kept i)) 0 (k.sketch i)) in
     record {
-      closes = subst (λ (ds : List program.Due). AreInsideClosed (walk (sorts_in w) c.args.steps) (dues_in (sorts_in w) (trees_in w) ds))
+      closes = subst (λ (ds : List program.Due). AreInsideClosed (walk (sorts_in w) c.args.reach) (dues_in (sorts_in w) (trees_in w) ds))
           (sym c.deref.ensures.value)
-          (inside_closed t c.args.steps (sorts_in w) (dues_in (sorts_in w) (trees_in w) c.in_ok-dues.dues.list.items)
+          (inside_closed t c.args.reach (sorts_in w) (dues_in (sorts_in w) (trees_in w) c.in_ok-dues.dues.list.items)
           (c.in_ok-dues.ensures.widens.sorts ∙ k.declared) (ap (obligations (task_of t)) (sym made) ∙ c.in_ok-dues.ensures.dues));
     }
 
@@ -53,9 +53,9 @@ returns-in-Some-clause-ends g c =
     let t = parts_of c.args.task.now in
     let made = c.in_ok-plan.ensures.made (sorts_in v) (trees_in v) k.ready ∙ (λ i. plan_with (kept_by (c.requires.kept i)) 0 (k.sketch i)) in
     let ds = dues_in (sorts_in w) (trees_in w) c.deref.result.now in
-    let by = walk (sorts_in w) c.args.steps in
+    let by = walk (sorts_in w) c.args.reach in
     let closed = FinalCloses by ds × AreCollected c.end_all.new.table (asked ds) c.end_all.new.trees.items in
-    ended_stops t c.args.steps (sorts_in w) (dues_in (sorts_in w) (trees_in w) c.deref.result.now) c.in-Some.stop
+    ended_stops t c.args.reach (sorts_in w) (dues_in (sorts_in w) (trees_in w) c.deref.result.now) c.in-Some.stop
     (c.in_ok-dues.ensures.widens.sorts ∙ k.declared) c.requires.small
     (ap (obligations (task_of t)) (sym made) ∙ c.in_ok-dues.ensures.dues
     ∙ ap (λ (ds : List program.Due). Ok (dues_in (sorts_in w) (trees_in w) ds)) (sym c.deref.ensures.value))
@@ -70,10 +70,10 @@ returns-in-None-clause-ends g c =
     let t = parts_of c.args.task.now in
     let made = c.in_ok-plan.ensures.made (sorts_in v) (trees_in v) k.ready ∙ (λ i. plan_with (kept_by (c.requires.kept i)) 0 (k.sketch i)) in
     let ds = dues_in (sorts_in w) (trees_in w) c.deref.result.now in
-    let by = walk (sorts_in w) c.args.steps in
+    let by = walk (sorts_in w) c.args.reach in
     let closed = FinalCloses by ds × AreCollected c.end_all.new.table (asked ds) c.end_all.new.trees.items in
     let end = final_close closed by ds c.in_ok-stop.field-0 c.in-None.is (c.in_ok-stop.ensures.ends (subst (AreCollected w []) (sym c.new-list.ensures.items) (none_collected w))) in
-    ended_accepts t c.args.steps v x (widens_twice v w x c.in_ok-dues.ensures.widens c.in_ok-stop.ensures.widens) c.in_ok-plan.plan _ (sorts_in w)
+    ended_accepts t c.args.reach v x (widens_twice v w x c.in_ok-dues.ensures.widens c.in_ok-stop.ensures.widens) c.in_ok-plan.plan _ (sorts_in w)
     (dues_in (sorts_in w) (trees_in w) c.deref.result.now) k.declared (c.in_ok-dues.ensures.widens.sorts ∙ k.declared) k.numbered k.sorted
     c.requires.small (c.in_ok-plan.ensures.ready (sorts_in v) (trees_in v) k.ready) made
     (ap (obligations (task_of t)) (sym made) ∙ c.in_ok-dues.ensures.dues

@@ -9,6 +9,7 @@ use Rattle.sm_expand.specs.declared.due.Due.{Due}
 use Rattle.sm_expand.specs.Views.{due_in}
 use Rattle.sm_replay.specs.declared.verdict.Verdict.{Verdict}
 use Rattle.sm_solve.specs.Walk.{walk}
+use Rattle.sm_solve.specs.declared.reach.Reach.{Reach}
 use Rattle.sm_houdini.specs.Collected.{AreCollected, goals_with}
 use Rattle.sm_houdini.specs.EndJobs.{AreRunEnds}
 use Rattle.sm_houdini.specs.Outcomes.{Outcome, goals_outcome}
@@ -16,16 +17,16 @@ use Rattle.sm_houdini.proofs.end_jobs.joined.Given as goal
 
 abbrev pub invariant-loop-run : goal.invariant-loop-run
 invariant-loop-run l = record {
-  collected : (v : TableValue) → Widens v l.initial.table → l.from ≡ length (trees_in v) → (steps : ℕ) (due : Due) (asks : List Formula)
-      (goals : List (List Assertion × Assertion)) (ends : AreRunEnds v steps due asks l.runs) →
+  collected : (v : TableValue) → Widens v l.initial.table → l.from ≡ length (trees_in v) → (reach : Reach) (due : Due) (asks : List Formula)
+      (goals : List (List Assertion × Assertion)) (ends : AreRunEnds v reach due asks l.runs) →
       AreCollected l.initial.table goals l.initial.trees.items →
       AreCollected l.table (goals ++ goals_with (due_in (sorts_in v) (trees_in v) due).facts (take (l.run-index * ends.size)
       (forms_in (sorts_in v) (trees_in v) asks))) l.trees.items;
-  closes : (v : TableValue) (steps : ℕ) (due : Due) (asks : List Formula) (ends : AreRunEnds v steps due asks l.runs)
+  closes : (v : TableValue) (reach : Reach) (due : Due) (asks : List Formula) (ends : AreRunEnds v reach due asks l.runs)
       (later : Outcome (ℕ × Verdict)) →
-      goals_outcome (walk (sorts_in v) steps (due_in (sorts_in v) (trees_in v) due).facts) due.node 0
+      goals_outcome (walk (sorts_in v) reach (due_in (sorts_in v) (trees_in v) due).facts) due.node 0
       (forms_in (sorts_in v) (trees_in v) asks) later
-      ≡ goals_outcome (walk (sorts_in v) steps (due_in (sorts_in v) (trees_in v) due).facts) due.node (l.run-index * ends.size)
+      ≡ goals_outcome (walk (sorts_in v) reach (due_in (sorts_in v) (trees_in v) due).facts) due.node (l.run-index * ends.size)
       (drop (l.run-index * ends.size) (forms_in (sorts_in v) (trees_in v) asks)) later;
   widens : Widens l.initial.table l.table;
 }

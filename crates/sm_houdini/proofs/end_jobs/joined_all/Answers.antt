@@ -24,9 +24,9 @@ joined-requires-clause-sound c =
     let v = c.args.table.now in
     let at = c.loop-at.at in
     let d = at_place c.args.dues.now at c.loop-at-test.true in
-    let ends = node_ends v c.args.steps c.args.dues.now c.args.each c.args.ends.now c.requires.some c.requires.made at d c.loop-at-test.true
+    let ends = node_ends v c.args.reach c.args.dues.now c.args.each c.args.ends.now c.requires.some c.requires.made at d c.loop-at-test.true
     (at_place_is c.args.dues.now at c.loop-at-test.true) _ (slice_is c.placed.result (placed (length c.args.dues.now) at) c.args.each c.args.ends.now c.placed.ensures.place) in
-    runs_sound v c.loop-at.table c.loop-at.invariant.widens c.len-from.result c.len-from.ensures.len c.args.steps d d.targets.list.items _ ends
+    runs_sound v c.loop-at.table c.loop-at.invariant.widens c.len-from.result c.len-from.ensures.len c.args.reach d d.targets.list.items _ ends
 
 pub returns-then-is_some-clause-ends : goal.returns-then-is_some-clause-ends
 returns-then-is_some-clause-ends c = λ before.
@@ -35,13 +35,13 @@ returns-then-is_some-clause-ends c = λ before.
     let at = c.loop-at.at in
     let d = at_place c.args.dues.now at c.loop-at-test.true in
     let is = at_place_is c.args.dues.now at c.loop-at-test.true in
-    let ends = node_ends v c.args.steps c.args.dues.now c.args.each c.args.ends.now c.requires.some c.requires.made at d c.loop-at-test.true
+    let ends = node_ends v c.args.reach c.args.dues.now c.args.each c.args.ends.now c.requires.some c.requires.made at d c.loop-at-test.true
     is _ (slice_is c.placed.result (placed (length c.args.dues.now) at) c.args.each c.args.ends.now c.placed.ensures.place) in
     let ds = dues_in (sorts_in v) (trees_in v) c.args.dues.now in
-    due_ended v v c.joined.new.table (widens_same v) c.args.steps at c.args.dues.now d c.requires.ready c.loop-at-test.true is
+    due_ended v v c.joined.new.table (widens_same v) c.args.reach at c.args.dues.now d c.requires.ready c.loop-at-test.true is
     c.requires.inside.closes (asked (take at ds)) c.joined.new.trees.items (inv.closes before) c.in_ok-end.end
     (sym c.is_some.ensures ∙ c.if-is_some.true)
-    (c.in_ok-end.ensures.ends v inv.widens c.len-from.ensures.len c.args.steps d d.targets.list.items (asked (take at ds)) ends
+    (c.in_ok-end.ensures.ends v inv.widens c.len-from.ensures.len c.args.reach d d.targets.list.items (asked (take at ds)) ends
     (inv.collected before))
 
 pub loop-at-preserved : goal.loop-at-preserved
@@ -51,13 +51,13 @@ loop-at-preserved c =
     let at = c.loop-at.at in
     let d = at_place c.args.dues.now at c.loop-at-test.true in
     let is = at_place_is c.args.dues.now at c.loop-at-test.true in
-    let ends = node_ends v c.args.steps c.args.dues.now c.args.each c.args.ends.now c.requires.some c.requires.made at d c.loop-at-test.true
+    let ends = node_ends v c.args.reach c.args.dues.now c.args.each c.args.ends.now c.requires.some c.requires.made at d c.loop-at-test.true
     is _ (slice_is c.placed.result (placed (length c.args.dues.now) at) c.args.each c.args.ends.now c.placed.ensures.place) in
     let ds = dues_in (sorts_in v) (trees_in v) c.args.dues.now in
     let passed = λ (before : AreCollected v [] c.args.trees.now.items).
-    due_passed v v c.joined.new.table (widens_same v) c.args.steps at c.args.dues.now d c.requires.ready c.loop-at-test.true is
+    due_passed v v c.joined.new.table (widens_same v) c.args.reach at c.args.dues.now d c.requires.ready c.loop-at-test.true is
     c.joined.new.trees.items c.in_ok-end.end (sym c.is_some.ensures ∙ c.if-is_some.false)
-    (c.in_ok-end.ensures.ends v inv.widens c.len-from.ensures.len c.args.steps d d.targets.list.items (asked (take at ds)) ends
+    (c.in_ok-end.ensures.ends v inv.widens c.len-from.ensures.len c.args.reach d d.targets.list.items (asked (take at ds)) ends
     (inv.collected before)) in
     record {
       collected = λ before. (passed before).0;

@@ -18,7 +18,7 @@ invariant-loop-at l =
       collected : AreCollected l.initial.table [] l.initial.trees.items →
           AreCollected l.table (asked (take l.at ds)) l.trees.items;
       closes : AreCollected l.initial.table [] l.initial.trees.items →
-          (let whole : Outcome (ℕ × Verdict) = final_outcome (walk sorts l.steps) ds in
-          whole ≡ final_outcome (walk sorts l.steps) (drop l.at ds));
+          (let whole : Outcome (ℕ × Verdict) = final_outcome (walk sorts l.fn.reach) ds in
+          whole ≡ final_outcome (walk sorts l.fn.reach) (drop l.at ds));
       widens : Widens l.initial.table l.table;
     }

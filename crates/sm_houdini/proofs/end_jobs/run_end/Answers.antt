@@ -23,10 +23,10 @@ tail-requires c =
 pub returns : goal.returns
 returns c =
     let t = c.in_ok-table.table in
-    part_ended c.args.table.now c.args.steps c.args.due.now c.args.each c.args.number c.size_of-size.result c.in-Some.first
+    part_ended c.args.table.now c.args.reach c.args.due.now c.args.each c.args.number c.size_of-size.result c.in-Some.first
     c.as_slice-goals.result.now c.part-run.result.now _ c.as_slice-goals.ensures.value c.size_of-size.ensures c.in-Some.ensures.1
     c.part-run.ensures.part
     (run_ended c.args.table.now t c.end_run.new.table c.in_ok-table.ensures.sorts c.in_ok-table.ensures.trees c.in_ok-stop.ensures.widens
-    c.args.steps c.in-Some.first c.len-from.result c.args.due.now c.part-run.result.now _ c.len-from.ensures.len
+    c.args.reach c.in-Some.first c.len-from.result c.args.due.now c.part-run.result.now _ c.len-from.ensures.len
     c.in_ok-rows.ensures.trees c.in_ok-rows.ensures.sound
     (c.in_ok-stop.ensures.ends [] (subst (AreCollected t []) (sym c.new-trees.ensures.items) (none_collected t))))

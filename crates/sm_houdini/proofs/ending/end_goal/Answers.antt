@@ -40,7 +40,7 @@ returns-in-Err-clause-shared c =
 
 pub returns-in_ok-put-in-Ok-clause-ends : goal.returns-in_ok-put-in-Ok-clause-ends
 returns-in_ok-put-in-Ok-clause-ends c = λ goals before.
-    goal_ends c.args.table.now c.solve_at.new.table (widens_grown c.args.table.now c.solve_at.new.table c.in_ok-answer.ensures.grows) c.args.steps
+    goal_ends c.args.table.now c.solve_at.new.table (widens_grown c.args.table.now c.solve_at.new.table c.in_ok-answer.ensures.grows) c.args.reach
     c.args.node c.args.at c.args.facts.now.list.items c.args.goal.now c.in_ok-answer.answer c.in-Ok.tree c.deref.result.now
     c.deref.ensures.value c.requires.facts c.in_ok-answer.ensures.answer c.in_ok-answer.ensures.certifies c.in_ok-answer.ensures.names
     c.in-Ok.ensures (c.in_ok-put-in-Ok.ensures.short (trees_in c.solve_at.new.table)) goals c.args.trees.now.items c.put.new.trees.items
@@ -48,5 +48,5 @@ returns-in_ok-put-in-Ok-clause-ends c = λ goals before.
 
 pub returns-in-Err-clause-ends : goal.returns-in-Err-clause-ends
 returns-in-Err-clause-ends c = λ goals before.
-    goal_stopped c.args.table.now c.solve_at.new.table c.args.steps c.args.node c.args.at c.args.facts.now.list.items c.args.goal.now
+    goal_stopped c.args.table.now c.solve_at.new.table c.args.reach c.args.node c.args.at c.args.facts.now.list.items c.args.goal.now
     c.in_ok-answer.answer c.in-Err.stop c.deref.result.now c.deref.ensures.value c.in_ok-answer.ensures.answer c.in-Err.ensures

@@ -31,10 +31,10 @@ returns-then-is_some-clause-widens c =
 pub returns-then-is_some-clause-ends : goal.returns-then-is_some-clause-ends
 returns-then-is_some-clause-ends c = λ before.
     let inv = c.loop-due.invariant in
-    due_ended c.args.table.now c.loop-due.table c.end_run.new.table inv.widens c.args.steps c.loop-due.due-index c.args.dues.now
+    due_ended c.args.table.now c.loop-due.table c.end_run.new.table inv.widens c.args.reach c.loop-due.due-index c.args.dues.now
     c.due-item.result c.requires.ready c.loop-due-test.true c.due-item.is c.requires.inside.closes _ c.end_run.new.trees.items (inv.closes before)
     c.in_ok-end.end (sym c.is_some.ensures ∙ c.if-is_some.true)
-    (due_whole c.loop-due.table c.end_run.new.table c.args.steps c.due-item.result c.as_slice-goals.result.now c.as_slice-goals.ensures.value
+    (due_whole c.loop-due.table c.end_run.new.table c.args.reach c.due-item.result c.as_slice-goals.result.now c.as_slice-goals.ensures.value
     _ c.end_run.new.trees.items c.in_ok-end.end (c.in_ok-end.ensures.ends _ (inv.collected before)))
 
 pub loop-due-preserved : goal.loop-due-preserved
@@ -43,9 +43,9 @@ loop-due-preserved c =
     let v = c.args.table.now in
     let none = sym c.is_some.ensures ∙ c.if-is_some.false in
     let passed = λ (before : AreCollected v [] c.args.trees.now.items).
-    due_passed v c.loop-due.table c.end_run.new.table inv.widens c.args.steps c.loop-due.due-index c.args.dues.now c.due-item.result
+    due_passed v c.loop-due.table c.end_run.new.table inv.widens c.args.reach c.loop-due.due-index c.args.dues.now c.due-item.result
     c.requires.ready c.loop-due-test.true c.due-item.is c.end_run.new.trees.items c.in_ok-end.end none
-    (due_whole c.loop-due.table c.end_run.new.table c.args.steps c.due-item.result c.as_slice-goals.result.now c.as_slice-goals.ensures.value
+    (due_whole c.loop-due.table c.end_run.new.table c.args.reach c.due-item.result c.as_slice-goals.result.now c.as_slice-goals.ensures.value
     _ c.end_run.new.trees.items c.in_ok-end.end (c.in_ok-end.ensures.ends _ (inv.collected before))) in
     record {
       collected = λ before. (passed before).0;

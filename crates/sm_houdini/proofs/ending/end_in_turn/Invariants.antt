@@ -18,7 +18,7 @@ invariant-loop-due l =
       collected : AreCollected l.initial.table [] l.initial.trees.items →
           AreCollected l.table (asked (take l.due-index ds)) l.trees.items;
       closes : AreCollected l.initial.table [] l.initial.trees.items →
-          (let whole : Outcome (ℕ × Verdict) = final_outcome (walk sorts l.steps) ds in
-          whole ≡ final_outcome (walk sorts l.steps) (drop l.due-index ds));
+          (let whole : Outcome (ℕ × Verdict) = final_outcome (walk sorts l.reach) ds in
+          whole ≡ final_outcome (walk sorts l.reach) (drop l.due-index ds));
       widens : Widens l.initial.table l.table;
     }

@@ -13,7 +13,7 @@ end_run_at-requires-clause-goals c =
 
 pub returns-clause-ends : goal.returns-clause-ends
 returns-clause-ends c = λ goals before.
-    run_over c.args.table.now c.node_of.new.table c.end_run_at.new.table c.in_ok-shared.ensures.widens c.args.steps c.args.first
+    run_over c.args.table.now c.node_of.new.table c.end_run_at.new.table c.in_ok-shared.ensures.widens c.args.reach c.args.first
     c.args.due.now c.args.run.now c.requires.facts c.requires.goals goals c.args.trees.now.items c.end_run_at.new.trees.items
     c.end_run_at.result (c.end_run_at.ensures.ends goals) before
 

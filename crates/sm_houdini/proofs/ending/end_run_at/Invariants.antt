@@ -23,8 +23,8 @@ invariant-loop-goal l =
           AreCollected l.table (goals ++ goals_with d.facts (take l.goal-index asks)) l.trees.items;
       closes : (goals : List (List Assertion × Assertion)) → AreCollected l.initial.table goals l.initial.trees.items →
           (later : Outcome (ℕ × Verdict)) →
-          goals_outcome (walk sorts l.steps d.facts) d.node l.first asks later
-          ≡ goals_outcome (walk sorts l.steps d.facts) d.node (l.first + l.goal-index) (drop l.goal-index asks) later;
+          goals_outcome (walk sorts l.reach d.facts) d.node l.first asks later
+          ≡ goals_outcome (walk sorts l.reach d.facts) d.node (l.first + l.goal-index) (drop l.goal-index asks) later;
       widens : Widens l.initial.table l.table;
       shared : IsNodeOf l.table l.due.facts.list.items l.shared;
     }

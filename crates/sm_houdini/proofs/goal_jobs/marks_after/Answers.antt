@@ -13,7 +13,7 @@ use Rattle.sm_houdini.proofs.goal_jobs.marks_after.Goals as goal
 pub returns-then-crew-eq1-clause-marks : goal.returns-then-crew-eq1-clause-marks
 returns-then-crew-eq1-clause-marks g c =
     let a = c.args in
-    let closes = closing (sorts_in a.table.now) a.steps in
+    let closes = closing (sorts_in a.table.now) a.reach in
     let owner = owner_in a.owners.now in
     let ds = dues_in (sorts_in a.table.now) (trees_in a.table.now) a.dues.now in
     let choice = choice_in a.choice.now in

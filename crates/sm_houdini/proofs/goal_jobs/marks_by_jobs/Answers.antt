@@ -24,7 +24,7 @@ returns g c =
       numbers = c.as_slice-numbers.result.now;
       owners = a.owners.now;
       choice = a.choice.now;
-      steps = a.steps;
+      reach = a.reach;
       shares = a.shares;
     } in
     let passes = holds_at_shared v in

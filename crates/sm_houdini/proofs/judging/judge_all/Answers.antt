@@ -20,9 +20,9 @@ loop-left-init c =
       marks = λ passes choice e.
           let out = is_left_out c.args.numbers.now c.args.jobs c.args.job in
           let n = length c.args.dues.now in
-          e ∙ none_asked out (closing (sorts_in v) c.args.steps) (owner_in c.args.owners.now) n passes choice
+          e ∙ none_asked out (closing (sorts_in v) c.args.reach) (owner_in c.args.owners.now) n passes choice
           ∙ ap (λ (xs : List Due). all_marked (λ (s i : ℕ). passes s i
-          && holds_but out (closing (sorts_in v) c.args.steps) (owner_in c.args.owners.now) n xs s i) 0 choice) (sym none);
+          && holds_but out (closing (sorts_in v) c.args.reach) (owner_in c.args.owners.now) n xs s i) 0 choice) (sym none);
       fits = omega arith;
       widens = widens_same v;
     }
@@ -56,8 +56,8 @@ judge_unless-requires-clause-known c =
     let inside : at < length c.args.dues.now = omega (arith, some, fits) in
     let parts = facts_at (sorts_in v) (trees_in v) c.args.dues.now at d c.requires.ready inside c.index-dues-left.is in
     λ is_known i.
-    closes_stays v w c.loop-left.invariant.widens c.args.steps d i parts.0 parts.1
-    ∙ ap (λ x. closes_at (sorts_in v) c.args.steps (due_in (sorts_in v) (trees_in v) x) i) c.index-dues-left.is
+    closes_stays v w c.loop-left.invariant.widens c.args.reach d i parts.0 parts.1
+    ∙ ap (λ x. closes_at (sorts_in v) c.args.reach (due_in (sorts_in v) (trees_in v) x) i) c.index-dues-left.is
     ∙ c.requires.known at i d inside (sym c.is_flagged-is_known.ensures ∙ is_known)
 
 pub returns-in_err-judge_unless-clause-widens : goal.returns-in_err-judge_unless-clause-widens
@@ -72,7 +72,7 @@ loop-left-preserved c =
     let fits = c.loop-left.invariant.fits in
     let here : c.loop-left.left ≡ at + 1 = omega (arith, some) in
     let ds = dues_in (sorts_in v) (trees_in v) c.args.dues.now in
-    let closes = closing (sorts_in v) c.args.steps in
+    let closes = closing (sorts_in v) c.args.reach in
     let owner = owner_in c.args.owners.now in
     let out = is_left_out c.args.numbers.now c.args.jobs c.args.job in
     record {
@@ -80,7 +80,7 @@ loop-left-preserved c =
           let left = λ (k : ℕ) (s i : ℕ). passes s i && holds_but out closes owner k (drop k ds) s i in
           let marks = subst (λ (k : ℕ). rows c.loop-left.marks.sites.items ≡ all_marked (left k) 0 choice) here
           (c.loop-left.invariant.marks passes choice e) in
-          round_step v c.loop-left.table c.loop-left.invariant.widens c.args.steps owner out c.args.dues.now at c.index-dues-left.result
+          round_step v c.loop-left.table c.loop-left.invariant.widens c.args.reach owner out c.args.dues.now at c.index-dues-left.result
           c.is_left_out-is_left.result passes choice (rows c.judge_unless.new.marks.sites.items) c.requires.ready
           (omega (arith, some, fits)) c.index-dues-left.is c.is_left_out-is_left.ensures
           (c.in_ok-judge_unless.ensures.judged (left (at + 1)) choice marks);
@@ -97,5 +97,5 @@ returns-clause-judged c = λ passes choice e.
     (λ (k : ℕ).
     rows c.loop-left.marks.sites.items
     ≡ all_marked (λ (s i : ℕ). passes s i
-    && holds_but (is_left_out c.args.numbers.now c.args.jobs c.args.job) (closing (sorts_in v) c.args.steps) (owner_in c.args.owners.now) k (drop k ds) s i) 0 choice)
+    && holds_but (is_left_out c.args.numbers.now c.args.jobs c.args.job) (closing (sorts_in v) c.args.reach) (owner_in c.args.owners.now) k (drop k ds) s i) 0 choice)
     none (c.loop-left.invariant.marks passes choice e)

@@ -13,7 +13,7 @@ abbrev pub invariant-loop-left : goal.invariant-loop-left
 invariant-loop-left l = record {
   marks : (passes : ℕ → ℕ → Bool) (choice : Choice) → rows l.initial.marks.sites.items ≡ all_marked passes 0 choice →
       rows l.marks.sites.items
-      ≡ all_marked (λ s i. passes s i && holds_but (is_left_out l.numbers l.jobs l.job) (closing (sorts_in l.initial.table) l.steps)
+      ≡ all_marked (λ s i. passes s i && holds_but (is_left_out l.numbers l.jobs l.job) (closing (sorts_in l.initial.table) l.reach)
       (owner_in l.owners) l.left (drop l.left (dues_in (sorts_in l.initial.table) (trees_in l.initial.table) l.dues)) s i) 0 choice;
   fits : l.left ≤ length l.dues;
   widens : Widens l.initial.table l.table;

@@ -6,8 +6,8 @@ use Rattle.sm_houdini.proofs.KnownLemmas.{asked_again}
 use Rattle.sm_houdini.proofs.known.is_asked_again.Goals as goal
 
 pub returns : goal.returns
-returns c = λ v steps before is i.
-    asked_again (sorts_in v) (trees_in v) steps c.args.due.now c.args.before.now c.args.marks.now
+returns c = λ v reach before is i.
+    asked_again (sorts_in v) (trees_in v) reach c.args.due.now c.args.before.now c.args.marks.now
     (sym (ap all_numbered c.deref.ensures.value) ∙ c.are_same.ensures c.if-not-are_same.false ∙ ap all_numbered c.deref-2.ensures.value)
     (λ closes all k g e.
     c.are_among.ensures closes

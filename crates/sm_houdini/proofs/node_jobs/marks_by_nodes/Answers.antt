@@ -24,7 +24,7 @@ returns g c = λ passes choice e.
       numbers = a.numbers.now;
       owners = a.owners.now;
       marks = a.marks.now;
-      steps = a.steps;
+      reach = a.reach;
       jobs = a.jobs;
     } in
     let told = λ (k s i : ℕ). passes s i && holds_in_job v (Some k) s i in

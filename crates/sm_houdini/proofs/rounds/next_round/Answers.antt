@@ -18,12 +18,12 @@ pub marks_after-requires-clause-known : goal.marks_after-requires-clause-known
 marks_after-requires-clause-known g c κs within =
     let v = c.args.table.now in
     let w = c.dues_of.new.table in
-    let steps = c.args.steps in
-    let before = asked_stays v w c.in_ok-dues.ensures.widens steps c.args.product.now.owners.items c.args.before.now c.requires.before in
-    let known = c.in_ok-known.ensures w steps
-    (subst (λ (os : List (Option ℕ)). IsAskedBefore w steps os c.args.before.now) (sym c.as_slice-owners.ensures.value) before) in
-    subst (λ (ds : List Due). AreKnown w steps ds c.deref-3.result.now) (c.deref.ensures.value ∙ sym c.deref-2.ensures.value)
-    (subst (λ (fs : List Bool). AreKnown w steps c.deref.result.now fs) (sym c.deref-3.ensures.value) known)
+    let reach = c.args.reach in
+    let before = asked_stays v w c.in_ok-dues.ensures.widens reach c.args.product.now.owners.items c.args.before.now c.requires.before in
+    let known = c.in_ok-known.ensures w reach
+    (subst (λ (os : List (Option ℕ)). IsAskedBefore w reach os c.args.before.now) (sym c.as_slice-owners.ensures.value) before) in
+    subst (λ (ds : List Due). AreKnown w reach ds c.deref-3.result.now) (c.deref.ensures.value ∙ sym c.deref-2.ensures.value)
+    (subst (λ (fs : List Bool). AreKnown w reach c.deref.result.now fs) (sym c.deref-3.ensures.value) known)
 
 pub returns-in_err-marks-clause-widens : goal.returns-in_err-marks-clause-widens
 returns-in_err-marks-clause-widens g c =
@@ -37,7 +37,7 @@ pub returns-clause-next : goal.returns-clause-next
 returns-clause-next g c =
     let w = c.dues_of.new.table in
     let t = parts_of c.args.task.now in
-    round_is t (sorts_in w) c.args.steps c.as_slice-owners.result.now (dues_in (sorts_in w) (trees_in w) c.deref-2.result.now)
+    round_is t (sorts_in w) c.args.reach c.as_slice-owners.result.now (dues_in (sorts_in w) (trees_in w) c.deref-2.result.now)
     (choice_in c.args.choice.now) (choice_in c.in_ok-next.next) (rows c.in_ok-marks.marks.sites.items)
     (c.in_ok-dues.ensures.widens.sorts ∙ c.requires.knows.declared) (c.as_slice-owners.ensures.value ∙ c.requires.knows.owned)
     (ap (dues_in (sorts_in w) (trees_in w)) c.deref-2.ensures.value ∙ c.in_ok-dues.ensures.dues) c.in_ok-marks.ensures.marks
@@ -47,14 +47,14 @@ pub returns-clause-before : goal.returns-clause-before
 returns-clause-before g c =
     let w = c.dues_of.new.table in
     let u = c.marks_after.new.table in
-    let steps = c.args.steps in
+    let reach = c.args.reach in
     let owners = c.args.product.now.owners.items in
     let asked : Asked = record { dues = c.in_ok-dues.field-0.list; marks = c.in_ok-marks.marks } in
-    left_asked u steps owners asked c.for_next.result c.for_next.ensures.dues c.for_next.ensures.marks
-    (asked_stays w u c.in_ok-marks.ensures.widens steps owners (Some asked)
-    (round_asked w steps owners asked (choice_in c.args.choice.now) c.in_ok-dues.ensures.ready
+    left_asked u reach owners asked c.for_next.result c.for_next.ensures.dues c.for_next.ensures.marks
+    (asked_stays w u c.in_ok-marks.ensures.widens reach owners (Some asked)
+    (round_asked w reach owners asked (choice_in c.args.choice.now) c.in_ok-dues.ensures.ready
     (c.in_ok-marks.ensures.marks
-    ∙ (λ k. all_marked (holds_at (closing (sorts_in w) steps) (owner_in (c.as_slice-owners.ensures.value k))
+    ∙ (λ k. all_marked (holds_at (closing (sorts_in w) reach) (owner_in (c.as_slice-owners.ensures.value k))
     (dues_in (sorts_in w) (trees_in w) (c.deref-2.ensures.value k))) 0 (choice_in c.args.choice.now)))))
 
 pub returns-clause-widens : goal.returns-clause-widens

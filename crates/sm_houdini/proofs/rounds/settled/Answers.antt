@@ -15,7 +15,7 @@ next_round-requires-clause-knows g c = λ κs within.
 
 pub returns-then-branch-clause-settled : goal.returns-then-branch-clause-settled
 returns-then-branch-clause-settled g c =
-    let closes = closing (sort_of (declared_of c.args.task.now.shared.decls)) c.args.steps in
+    let closes = closing (sort_of (declared_of c.args.task.now.shared.decls)) c.args.reach in
     sym (now_settled closes (parts_of c.args.task.now) c.in_ok-rounds.rounds c.loop.counter c.in_ok-total.field-0 c.in_ok-total-2.field-0
     (choice_in c.loop.choice) (choice_in c.in_ok-next.next) c.loop-test.true c.in_ok-next.ensures.next c.in_ok-total.ensures
     c.in_ok-total-2.ensures c.if-branch.true)
@@ -23,7 +23,7 @@ returns-then-branch-clause-settled g c =
 
 pub loop-preserved : goal.loop-preserved
 loop-preserved g c =
-    let closes = closing (sort_of (declared_of c.args.task.now.shared.decls)) c.args.steps in
+    let closes = closing (sort_of (declared_of c.args.task.now.shared.decls)) c.args.reach in
     record {
       settles =
           sym (later_settled closes (parts_of c.args.task.now) c.in_ok-rounds.rounds c.loop.counter c.in_ok-total.field-0

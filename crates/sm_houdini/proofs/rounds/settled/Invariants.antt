@@ -13,10 +13,10 @@ use Rattle.sm_houdini.proofs.rounds.settled.Given as goal
 abbrev pub invariant-loop : goal.invariant-loop
 invariant-loop g l = record {
   settles :
-      settled (next_round (closing (sort_of (declared_of l.task.shared.decls)) l.steps) (parts_of l.task)) (l.rounds - l.counter)
+      settled (next_round (closing (sort_of (declared_of l.task.shared.decls)) l.reach) (parts_of l.task)) (l.rounds - l.counter)
       (choice_in l.choice)
-      ≡ settled (next_round (closing (sort_of (declared_of l.task.shared.decls)) l.steps) (parts_of l.task))
+      ≡ settled (next_round (closing (sort_of (declared_of l.task.shared.decls)) l.reach) (parts_of l.task))
       (total (choice_in l.initial.choice)) (choice_in l.initial.choice);
-  before : IsAskedBefore l.table l.steps l.product.owners.items l.before;
+  before : IsAskedBefore l.table l.reach l.product.owners.items l.before;
   widens : Widens l.initial.table l.table;
 }

@@ -38,15 +38,15 @@ pub returns : goal.returns
 returns c =
     let i = c.self.inside in
     let v : PlanEndsValue =
-    record { table = i.table.now; dues = i.dues.now; each = i.each; steps = i.steps; count = i.count } in
+    record { table = i.table.now; dues = i.dues.now; each = i.each; reach = i.reach; count = i.count } in
     let node = c.dealt.result in
     ok_map c.run_end.result
-    (IsPartEnd v.table v.steps (get_or v.dues node c.index-self-dealt.result) v.each (c.args.index % v.each))
+    (IsPartEnd v.table v.reach (get_or v.dues node c.index-self-dealt.result) v.each (c.args.index % v.each))
     (TellsEnd c.args.self.now c.args.index)
     (λ e told.
     subst (λ (y : PlanEndsValue). TellsEnd y c.args.index e) c.self.view_is
     (λ due.
-    subst (λ (n : ℕ). IsPartEnd v.table v.steps (get_or v.dues n due) v.each (c.args.index % v.each) e) c.dealt.ensures.node
-    (subst (λ (d : Due). IsPartEnd v.table v.steps d v.each (c.args.index % v.each) e)
+    subst (λ (n : ℕ). IsPartEnd v.table v.reach (get_or v.dues n due) v.each (c.args.index % v.each) e) c.dealt.ensures.node
+    (subst (λ (d : Due). IsPartEnd v.table v.reach d v.each (c.args.index % v.each) e)
     (get_any v.dues node c.index-self-dealt.result due c.dealt.ensures.inside) told)))
     c.run_end.ensures

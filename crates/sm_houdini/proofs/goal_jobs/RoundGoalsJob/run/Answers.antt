@@ -8,7 +8,7 @@ use Rattle.sm_houdini.proofs.goal_jobs.RoundGoalsJob.run.Goals as goal
 pub judge_all-requires-clause-known : goal.judge_all-requires-clause-known
 judge_all-requires-clause-known c =
     let i = c.self.inside in
-    known_over i.table.now c.in_ok-table.table c.in_ok-table.ensures.sorts c.in_ok-table.ensures.trees i.steps i.dues.now i.known.now
+    known_over i.table.now c.in_ok-table.table c.in_ok-table.ensures.sorts c.in_ok-table.ensures.trees i.reach i.dues.now i.known.now
     c.self.invariant.1
 
 pub returns : goal.returns
@@ -22,7 +22,7 @@ returns c =
       numbers = i.numbers.now;
       owners = i.owners.now;
       choice = i.choice.now;
-      steps = i.steps;
+      reach = i.reach;
       shares = i.shares;
     } in
     share_tells v c.args.self.now c.self.view_is c.in_ok-table.table c.args.index c.judge_all.new.marks c.in_ok-table.ensures.sorts

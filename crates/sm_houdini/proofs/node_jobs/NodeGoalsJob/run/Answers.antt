@@ -6,7 +6,7 @@ use Rattle.sm_houdini.proofs.node_jobs.NodeGoalsJob.run.Goals as goal
 pub judge_all-requires-clause-known : goal.judge_all-requires-clause-known
 judge_all-requires-clause-known c =
     let i = c.self.inside in
-    known_over i.table.now c.in_ok-table.table c.in_ok-table.ensures.sorts c.in_ok-table.ensures.trees i.steps i.dues.now i.known.now
+    known_over i.table.now c.in_ok-table.table c.in_ok-table.ensures.sorts c.in_ok-table.ensures.trees i.reach i.dues.now i.known.now
     c.self.invariant.1
 
 pub returns : goal.returns
@@ -20,7 +20,7 @@ returns c =
       numbers = i.numbers.now;
       owners = i.owners.now;
       marks = i.marks.now;
-      steps = i.steps;
+      reach = i.reach;
       jobs = i.jobs;
     } in
     nodes_tell v c.args.self.now c.self.view_is c.in_ok-table.table c.args.index c.in_ok-marks.marks
