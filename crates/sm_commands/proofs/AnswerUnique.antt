@@ -20,7 +20,7 @@ use Rattle.sm_houdini.specs.Outcomes as outcome
 use Rattle.sm_houdini.specs.Outcomes.{Outcome}
 use Rattle.sm_syntax.specs.claim.ConflictFree.{A, B}
 use Rattle.sm_commands.proofs.SpelledLemmas.{outcome_one}
-use Rattle.sm_commands.specs.Check.{AnswersCheck, IsInputText, IsNote, SaysNoted, SaysOutcome, ShowsTrial}
+use Rattle.sm_commands.specs.Check.{reach_of, AnswersCheck, IsInputText, IsNote, SaysNoted, SaysOutcome, ShowsTrial}
 use Rattle.sm_commands.specs.ProofFile.{FailsToWrite}
 use Rattle.sm_commands.specs.Laws.{AreTold, AskAlike, OneAnswer, with_workers}
 use Rattle.sm_answers.specs.Lines.{goal_line, input_line, op_word, summary_line, too_many_line, trial_line}
@@ -79,7 +79,7 @@ outcome_same t outcome.TooMany s u l m a b = noted_same t Unknown too_many_line 
 check_same : (t : Parts) (effort : Effort) (s u : Status) (l m : List ℕ) → AnswersCheck t effort s l → AnswersCheck t effort u m
     → Same s l u m
 check_same t effort s u l m a b =
-    let one : a.outcome ≡ b.outcome = outcome_one t effort.steps effort.turns a.outcome b.outcome a.found b.found in
+    let one : a.outcome ≡ b.outcome = outcome_one t (reach_of effort) effort.turns a.outcome b.outcome a.found b.found in
     outcome_same t b.outcome s u l m (subst (λ (o : Outcome (ℕ × Verdict)). SaysOutcome t o s l) one a.says) b.says
 
 -- an answer that isn't a fault to write
@@ -170,18 +170,18 @@ request_same (Some ask) words files b n c m s u l k told no_fault nor_later whol
 
 -- what is answered to a task doesn't depend on them
 fewer_check : (t : Parts) (effort : Effort) (workers : ℕ) (s : Status) (l : List ℕ) →
-    let hired : Effort = record { steps = effort.steps; turns = effort.turns; workers = workers } in
+    let hired : Effort = record effort { workers = workers } in
     AnswersCheck t hired s l → AnswersCheck t effort s l
 fewer_check t effort workers s l a = record { outcome = a.outcome; found = a.found; says = a.says }
 
 fewer_written : (t : Parts) (effort : Effort) (workers : ℕ) (s : Status) (l : List ℕ) →
-    let hired : Effort = record { steps = effort.steps; turns = effort.turns; workers = workers } in
+    let hired : Effort = record effort { workers = workers } in
     AnswersCheck t hired s l ⊎ FailsToWrite t hired s l → AnswersCheck t effort s l ⊎ FailsToWrite t effort s l
 fewer_written t effort workers s l (inl a) = inl (fewer_check t effort workers s l a)
 fewer_written t effort workers s l (inr f) = inr (record { found = f.found; says = f.says })
 
 fewer_checks : (file : Known) (effort : Effort) (workers b n : ℕ) (s : Status) (l : List ℕ) →
-    let hired : Effort = record { steps = effort.steps; turns = effort.turns; workers = workers } in
+    let hired : Effort = record effort { workers = workers } in
     Checks file hired b n s l → Checks file effort b n s l
 fewer_checks file effort workers b n s l (inl f) = inl f
 fewer_checks file effort workers b n s l (inr g) =

@@ -6,6 +6,7 @@ use Rattle.sm_replay.specs.Verdicts.{cell_of, Judges}
 use Rattle.sm_replay.specs.declared.error.ReplayError.{ReplayError}
 use Rattle.sm_replay.specs.declared.verdict.Verdict.{Verdict}
 use Rattle.sm_replay.specs.declared.verdict.Verdict.TheVariants as verdict
+use Rattle.sm_solve.specs.declared.reach.Reach.{Reach}
 use Rattle.sm_syntax.specs.text.Parts.{Parts, sort_of, task_of}
 use Rattle.sm_eval.specs.StoredValues.{meaning}
 use Rattle.sm_eval.specs.declared.store.Store as code
@@ -20,7 +21,7 @@ use Rattle.sm_houdini.specs.Outcomes.{Outcome, IsOutcome}
 use Rattle.sm_houdini.proofs.OutcomeLemmas.{conflict_least}
 use Rattle.sm_commands.specs.Top.{Files, IsAnswerTo, AnswersCommand, Checks, Prints, Replays}
 use Rattle.sm_answers.specs.Verify.{Verifies, AnswersProof}
-use Rattle.sm_commands.specs.Check.{AnswersCheck, IsInputText, SaysOutcome}
+use Rattle.sm_commands.specs.Check.{reach_of, AnswersCheck, IsInputText, SaysOutcome}
 use Rattle.sm_answers.specs.Lines.{input_line, trial_line}
 use Rattle.sm_commands.specs.ProofFile.{FailsToWrite}
 use Rattle.sm_answers.specs.File.{GivesTask}
@@ -55,28 +56,28 @@ pub record IsShown (t : Parts) (turns : ℕ) (text : List ℕ) : Type 0 where
   pub shown : IsInputText t (trial (sort_of t.declared) number) input
   pub printed : text ≡ front ++ input_line input
 
-outcome_conflict : (t : Parts) (steps turns : ℕ) (o : Outcome (ℕ × Verdict)) (status : Status) (text : List ℕ)
-    → IsOutcome t steps turns o → SaysOutcome t o status text → status ≡ Conflict → IsShown t turns text
-outcome_conflict t steps turns outcome.Accepted status text is h e = let s = h.1.2.ended in cc
-outcome_conflict t steps turns (outcome.Conflict (j, verdict.Holds)) status text is h e = absurd h
-outcome_conflict t steps turns (outcome.Conflict (j, verdict.Unmet)) status text is h e = absurd h
-outcome_conflict t steps turns (outcome.Conflict (j, verdict.Violates x i clause)) status text is h e = record {
+outcome_conflict : (t : Parts) (reach : Reach) (turns : ℕ) (o : Outcome (ℕ × Verdict)) (status : Status) (text : List ℕ)
+    → IsOutcome t reach turns o → SaysOutcome t o status text → status ≡ Conflict → IsShown t turns text
+outcome_conflict t reach turns outcome.Accepted status text is h e = let s = h.1.2.ended in cc
+outcome_conflict t reach turns (outcome.Conflict (j, verdict.Holds)) status text is h e = absurd h
+outcome_conflict t reach turns (outcome.Conflict (j, verdict.Unmet)) status text is h e = absurd h
+outcome_conflict t reach turns (outcome.Conflict (j, verdict.Violates x i clause)) status text is h e = record {
   number = j;
-  violates = (conflict_least t steps turns (j, verdict.Violates x i clause) is).violates;
+  violates = (conflict_least t reach turns (j, verdict.Violates x i clause) is).violates;
   front = trial_line t.names j x i clause;
   input = h.0;
   shown = h.1;
   printed = h.2.printed;
 }
-outcome_conflict t steps turns (outcome.Open node goal) status text is h e = let s = h.2.ended in cc
-outcome_conflict t steps turns (outcome.Steps node goal) status text is h e = let s = h.2.ended in cc
-outcome_conflict t steps turns (outcome.Coefficient node goal op y z) status text is h e = let s = h.2.ended in cc
-outcome_conflict t steps turns outcome.TooMany status text is h e = let s = h.2.ended in cc
+outcome_conflict t reach turns (outcome.Open node goal) status text is h e = let s = h.2.ended in cc
+outcome_conflict t reach turns (outcome.Steps node goal) status text is h e = let s = h.2.ended in cc
+outcome_conflict t reach turns (outcome.Coefficient node goal op y z) status text is h e = let s = h.2.ended in cc
+outcome_conflict t reach turns outcome.TooMany status text is h e = let s = h.2.ended in cc
 
 pub checked_conflict : (t : Parts) (effort : Effort) (status : Status) (text : List ℕ)
     → AnswersCheck t effort status text ⊎ FailsToWrite t effort status text → status ≡ Conflict → IsShown t effort.turns text
 checked_conflict t effort status text (inl a) e =
-    outcome_conflict t effort.steps effort.turns a.outcome status text a.found a.says e
+    outcome_conflict t (reach_of effort) effort.turns a.outcome status text a.found a.says e
 checked_conflict t effort status text (inr a) e = let s = a.says.ended in cc
 
 -- such a task isn't free of conflicts

@@ -12,7 +12,7 @@ use Rattle.sm_syntax.specs.text.Spells.{Spells}
 use Rattle.sm_text.proofs.Complete.Tasks as text
 use Rattle.sm_write.specs.Versions.{HasVersion}
 use Rattle.sm_commands.proofs.SpelledLemmas.{outcome_one}
-use Rattle.sm_commands.specs.Check.{AnswersCheck, SaysOutcome}
+use Rattle.sm_commands.specs.Check.{reach_of, AnswersCheck, SaysOutcome}
 use Rattle.sm_answers.specs.Exit.{ExitsWith}
 use Rattle.sm_answers.specs.File.{file_limit, GivesNoTask, GivesTask}
 use Rattle.sm_commands.specs.ProofFile.{FailsToWrite, HoldsFront, HoldsProof, IsTaskIn, LeavesCut, LeavesFront, LeavesProof, LeftBy}
@@ -185,7 +185,7 @@ accepted_status t s line h = h.1.2.ended
 
 pub kept_whole : (bytes : List ℕ) (effort : Effort) (b n before now : ℕ) (s : Status) (line : List ℕ) (old new : Known) (t : Parts)
     → (¬ Rose before now) → (¬ Rose b n) → HasCause before now (s ≡ WriteFault) → length bytes ≤ file_limit → Spells bytes t
-    → IsOutcome t effort.steps effort.turns outcome.Accepted → Checks (holds bytes) effort b n s line
+    → IsOutcome t (reach_of effort) effort.turns outcome.Accepted → Checks (holds bytes) effort b n s line
     → LeavesProof (holds bytes) s old new → HoldsProof t old new
 kept_whole bytes effort b n before now s line old new t no_write no_read cause fits spells accepted (inl f) left =
     absurd (none_refused bytes t b n s line no_read fits spells f)
@@ -202,8 +202,8 @@ kept_whole bytes effort b n before now s line old new t no_write no_read cause f
     go : AnswersCheck c.task effort s line ⊎ FailsToWrite c.task effort s line → HoldsProof t old new
     go (inl a) =
         let one : a.outcome ≡ outcome.Accepted =
-        outcome_one t effort.steps effort.turns a.outcome outcome.Accepted
-        (subst (λ (u : Parts). IsOutcome u effort.steps effort.turns a.outcome) same a.found) accepted in
+        outcome_one t (reach_of effort) effort.turns a.outcome outcome.Accepted
+        (subst (λ (u : Parts). IsOutcome u (reach_of effort) effort.turns a.outcome) same a.found) accepted in
         whole (accepted_status c.task s line (subst (λ (o : Outcome (ℕ × Verdict)). SaysOutcome c.task o s line) one a.says))
     go (inr a) = absurd (no_write (cause.rose a.says.ended))
 
@@ -217,7 +217,7 @@ written_answers t effort s u l m P Q a e (inl h) =
     (subst (λ (x : List ℕ). AnswersCheck t effort s x) (sym h.0.printed) a))
 written_answers t effort s u l m P Q a e (inr h) = inr (record {
   found =
-      subst (λ (o : Outcome (ℕ × Verdict)). IsOutcome t effort.steps effort.turns o) (outcome_accepted t a.outcome s l a.says e).0 a.found;
+      subst (λ (o : Outcome (ℕ × Verdict)). IsOutcome t (reach_of effort) effort.turns o) (outcome_accepted t a.outcome s l a.says e).0 a.found;
   says = h.0;
 })
 

@@ -1,5 +1,5 @@
 -- What Accepted and Conflict say of the bytes that were read.
-use Rattle.std.proofs.Common.{◌≡◌, ◌≢◌, inl, inr, ℕ, List, Some, Result, IfOk, IfErr, sym, subst, ◌∙◌}
+use Rattle.std.proofs.Common.{◌≡◌, inl, inr, ℕ, List, Some, Result, IfOk, IfErr, sym, subst, ◌∙◌}
 use Rattle.std.specs.Prelude.{◌↔◌}
 use Rattle.sm_eval.specs.StoredValues.{meaning}
 use Rattle.sm_eval.specs.declared.store.Store as code
@@ -21,7 +21,7 @@ use Rattle.sm_words.specs.declared.effort.Effort.{Effort}
 use Rattle.sm_answers.specs.declared.exit.Exit.{Exit}
 use Rattle.sm_answers.specs.declared.status.Reply.{Reply}
 use Rattle.sm_answers.specs.declared.status.Status.{Status}
-use Rattle.sm_answers.specs.declared.status.Status.TheVariants.{Accepted, Conflict, ReadFault}
+use Rattle.sm_answers.specs.declared.status.Status.TheVariants.{Accepted, Conflict}
 use Rattle.sm_commands.proofs.Answering.{accepted_is_free}
 use Rattle.sm_answers.proofs.Answering.{result_by, stops_by}
 use Rattle.sm_commands.proofs.ConflictSound.{checked_conflict, judged_violates, no_input_no_conflict, print_no_conflict, shown_conflict}
@@ -99,8 +99,8 @@ accepts_read words before now status text a e ask asks = accepted_by ask before 
 
 -- and exactly where a task was read, and then a proof for it
 proved_by : (task proof : List ℕ) (before now : List Read) (status : Status) (text : List ℕ) →
-    VerifiesRead task proof before now status text → status ≢ ReadFault → (status ≡ Accepted) ↔ ReadsProved task proof before now
-proved_by task proof before now status text a no_fault = (
+    VerifiesRead task proof before now status text → (status ≡ Accepted) ↔ ReadsProved task proof before now
+proved_by task proof before now status text a = (
   λ e.
       let v = a.only e in (
         v.2.bytes,
@@ -111,15 +111,15 @@ proved_by task proof before now status text a no_fault = (
         record { parts = v.0; spells = v.2.spells; passes = v.3.passes; short = v.2.short; fits = v.3.fits },
       ),
   λ r.
-      a.all no_fault r.5.parts r.2 (record { bytes = r.0; read = r.3; short = r.5.short; spells = r.5.spells })
+      a.all r.5.parts r.2 (record { bytes = r.0; read = r.3; short = r.5.short; spells = r.5.spells })
       (record { bytes = r.1; read = r.4; fits = r.5.fits; passes = r.5.passes }),
 )
 
 pub proves_read : (words : Words) (before now : List Read) (status : Status) (text : List ℕ) →
-    AnswersByReads (asked words) before now status text → status ≢ ReadFault → (task proof : List ℕ) (workers : ℕ) →
+    AnswersByReads (asked words) before now status text → (task proof : List ℕ) (workers : ℕ) →
     asked words ≡ Some (verify task proof workers) → (status ≡ Accepted) ↔ ReadsProved task proof before now
-proves_read words before now status text a no_fault task proof workers asks =
-    proved_by task proof before now status text (rw asks at a) no_fault
+proves_read words before now status text a task proof workers asks =
+    proved_by task proof before now status text (rw asks at a)
 
 -- Conflict by what was read
 conflict_by : (ask : Asked) (files : Files) (b n : ℕ) (before now : List Read) (status : Status) (text : List ℕ) →

@@ -16,6 +16,7 @@ use Rattle.sm_replay.specs.InputText.{AreNamed}
 use Rattle.sm_replay.specs.Sorted.{sort_fault}
 use Rattle.sm_replay.specs.Trials.{IsLeast}
 use Rattle.sm_replay.specs.declared.verdict.Verdict.{Verdict}
+use Rattle.sm_solve.specs.declared.reach.Reach.{Reach}
 use Rattle.sm_syntax.specs.text.Conditions.{first_refusal}
 use Rattle.sm_syntax.specs.text.Parts.{Parts, sort_of, task_of}
 use Rattle.sm_text.specs.printing.Named.{HasText}
@@ -46,14 +47,14 @@ pub outcome_one : OutcomeIsOne
 outcome_one = outcomes_same first_violation_one
 
 -- a conflict that a search comes to is that of the least trial that violates, for some turns
-pub least_trial : (t : Parts) (steps turns number : ℕ) (v : Verdict) → IsOutcome t steps turns (outcome.Conflict (number, v))
+pub least_trial : (t : Parts) (reach : Reach) (turns number : ℕ) (v : Verdict) → IsOutcome t reach turns (outcome.Conflict (number, v))
     → (n : ℕ) × IsLeast (task_of t) (sort_of t.declared) n number v
-least_trial t steps turns number v is = (turns, conflict_least t steps turns (number, v) is)
+least_trial t reach turns number v is = (turns, conflict_least t reach turns (number, v) is)
 
 -- what the search of the program comes to, where it is known
-pub outcome_so : (t : Parts) (steps turns : ℕ) (o p : Outcome) → o ≡ p → IsOutcome t steps turns (outcome_in o)
-    → IsOutcome t steps turns (outcome_in p)
-outcome_so t steps turns o p same is = subst (λ (q : Outcome). IsOutcome t steps turns (outcome_in q)) same is
+pub outcome_so : (t : Parts) (reach : Reach) (turns : ℕ) (o p : Outcome) → o ≡ p → IsOutcome t reach turns (outcome_in o)
+    → IsOutcome t reach turns (outcome_in p)
+outcome_so t reach turns o p same is = subst (λ (q : Outcome). IsOutcome t reach turns (outcome_in q)) same is
 
 -- a line that is the one that is to be printed
 pub noted_by : (t : Parts) (wanted status : Status) (line same text : List ℕ) → same ≡ line → SaysNoted t wanted same status text

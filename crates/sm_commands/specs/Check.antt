@@ -12,6 +12,7 @@ use Rattle.sm_replay.specs.Trials.{trial, SomeTrialMeets}
 use Rattle.sm_replay.specs.InputText.{AreWritten}
 use Rattle.sm_replay.specs.declared.verdict.Verdict.{Verdict}
 use Rattle.sm_replay.specs.declared.verdict.Verdict.TheVariants as verdict
+use Rattle.sm_solve.specs.declared.reach.Reach.{Reach}
 use Rattle.sm_syntax.specs.claim.ConflictFree.{ConflictFree}
 use Rattle.sm_syntax.specs.claim.Stores.{Store}
 use Rattle.sm_syntax.specs.text.Parts.{Parts, sort_of, task_of}
@@ -65,8 +66,12 @@ SaysOutcome t (outcome.Coefficient node goal op y z) status text =
     (op_word op ∷ signed_decimal y ∷ signed_decimal z ∷ [])) status text
 SaysOutcome t outcome.TooMany status text = SaysNoted t Unknown too_many_line status text
 
+-- how far each walk of a search goes
+abbrev pub reach_of : Effort → Reach
+reach_of effort = record { steps = effort.steps; exact = effort.exact }
+
 -- what is answered to a task
 pub record AnswersCheck (t : Parts) (effort : Effort) (status : Status) (text : List ℕ) : Type 0 where
   pub outcome : Outcome (ℕ × Verdict)
-  pub found : IsOutcome t effort.steps effort.turns outcome
+  pub found : IsOutcome t (reach_of effort) effort.turns outcome
   pub says : SaysOutcome t outcome status text

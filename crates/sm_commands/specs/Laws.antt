@@ -14,12 +14,12 @@ AreTold files = (name : List ℕ) → files name ≢ untold
 -- what is asked for, with another number of workers
 abbrev pub with_workers : ℕ → Asked → Asked
 with_workers workers (check task proof effort) =
-    check task proof (record { steps = effort.steps; turns = effort.turns; workers = workers })
+    check task proof (record effort { workers = workers })
 with_workers workers (verify task proof others) = verify task proof workers
 with_workers workers (replay task input turns) = replay task input turns
 with_workers workers (print task) = print task
 with_workers workers (gen seed size effort) =
-    gen seed size (record { steps = effort.steps; turns = effort.turns; workers = workers })
+    gen seed size (record effort { workers = workers })
 
 -- the words are the same, or they ask for the same with another number of workers
 abbrev pub AskAlike : Words → Words → Type 0

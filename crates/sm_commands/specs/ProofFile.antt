@@ -7,13 +7,14 @@ use Rattle.sm_proof.specs.Verdicts.{Passes}
 use Rattle.sm_syntax.specs.text.Parts.{Parts}
 use Rattle.sm_syntax.specs.text.Spells.{Spells}
 use Rattle.sm_write.specs.Versions.{HasVersion}
+use Rattle.sm_commands.specs.Check.{reach_of}
 use Rattle.sm_answers.specs.Status.{Says}
 use Rattle.sm_words.specs.declared.effort.Effort.{Effort}
 use Rattle.sm_answers.specs.declared.status.Status.{Status}
 use Rattle.sm_answers.specs.declared.status.Status.TheVariants.{Accepted, WriteFault}
 
--- the file was emptied, and has the bytes of a proof that passes for the task, of version 2 exactly
--- where that assumes something
+-- the file was emptied, and has the bytes of a proof that passes for the task: of version 3 exactly
+-- where it has a line `exact`, else of version 2 exactly where the task assumes something
 pub record HoldsProof (t : Parts) (before now : Known) : Type 0 where
   pub proof : List ℕ
   pub passes : Passes t proof
@@ -47,7 +48,7 @@ IsTaskIn file t = WhereHeld file (λ (bytes : List ℕ). Spells bytes t)
 
 -- the task that the file gives is accepted, but its proof couldn't be written whole
 pub record FailsToWrite (t : Parts) (effort : Effort) (status : Status) (text : List ℕ) : Type 0 where
-  pub found : IsOutcome t effort.steps effort.turns outcome.Accepted
+  pub found : IsOutcome t (reach_of effort) effort.turns outcome.Accepted
   pub says : Says WriteFault (codes "WriteFault\n") status text
 
 -- what is left in the file of a proof that couldn't be written whole: what it had, or nothing, or for

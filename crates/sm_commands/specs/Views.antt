@@ -10,8 +10,9 @@ use Rattle.sm_answers.specs.declared.status.Reply.{Reply}
 use Rattle.sm_answers.specs.declared.status.Status.{Status}
 use Rattle.sm_answers.specs.declared.status.Status.TheVariants.{Accepted, WriteFault}
 
--- a proof comes with the answer exactly where the task is accepted. It passes for the task, and is of
--- version 2 exactly where that assumes something
+-- a proof comes with the answer exactly where the task is accepted. It passes for the task, and is
+-- of version 3 exactly where it has a line `exact`, else of version 2 exactly where the task assumes
+-- something
 abbrev pub ComesWith : Parts → Status → Option (List ℕ) → Type 0
 ComesWith t status proof =
     MatchOption proof (status ≢ Accepted)

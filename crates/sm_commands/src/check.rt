@@ -32,8 +32,8 @@ pub struct Decided {
     pub proof: Option<Vec<u8>>,
 }
 
-/// The answer to a task that some text spells: what its search comes to. Jobs are for 1 to 64
-/// workers.
+/// The answer to a task that some text spells: what its search comes to, as far as its effort goes.
+/// Jobs are for 1 to 64 workers.
 pub fn check<R: Threads + Sync, G: Gate>(
     rt: &R,
     alloc: Global,
@@ -56,6 +56,7 @@ pub fn check<R: Threads + Sync, G: Gate>(
         effort.steps,
         effort.turns,
         effort.workers,
+        effort.exact,
     )?;
     match outcome {
         Outcome::Accepted(proof) => {

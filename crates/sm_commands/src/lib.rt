@@ -3,12 +3,13 @@
 //! - `safemerge` does all that the program does, over any shelf and any sink. `check` answers what
 //!   the search of a task comes to: `Accepted` for a task that is free of conflicts alone, whose
 //!   proof it writes to a file; `Conflict` for one that isn't, with the first trial that shows it;
-//!   or `Unknown` with the first goal that stays open. `verify` prints `Accepted` exactly where the
-//!   bytes of a proof's file pass for the task, which is then free of conflicts, and else the number
-//!   of the first bad line and the word for what is wrong with it. `replay` judges one input
-//!   exactly, `print` puts the canonical text of a task, and `gen` makes a task and answers it.
-//!   Words that no command takes, bytes that are no task or no input, and faults are answered
-//!   exactly where they are met.
+//!   or `Unknown` with the first goal that stays open. With `--exact` the search decides a branch
+//!   that nothing splits over whole numbers. `verify` prints `Accepted` exactly where the bytes of
+//!   a proof's file pass for the task, which is then free of conflicts, and else the number of the
+//!   first bad line and the word for what is wrong with it. `replay` judges one input exactly,
+//!   `print` puts the canonical text of a task, and `gen` makes a task and answers it. Words that
+//!   no command takes, bytes that are no task or no input, and faults are answered exactly where
+//!   they are met.
 //! - `one_answer` is the law that two answers to told files, without a fault, are equal where the
 //!   words are the same, or ask for the same with another number of workers.
 //! - `Status::number` is the number with which the program ends.

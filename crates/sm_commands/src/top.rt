@@ -22,7 +22,7 @@ ghost use Rattle.sm_commands.specs.Readings.{AnswersByReads, ChecksRead, Replays
 ghost use Rattle.sm_commands.specs.Top.{IsAnswerTo, AnswersCommand, Checks, Prints, Replays};
 ghost use Rattle.sm_commands.specs.Top.{IsPrinted, PutsPart, RejectsProof, LeavesBy, LeavesFiles};
 ghost use Rattle.sm_commands.specs.Top.{LeavesPart, LeavesPartBy, WritesElsewhere};
-ghost use Rattle.sm_commands.specs.Check.{AnswersCheck};
+ghost use Rattle.sm_commands.specs.Check.{reach_of, AnswersCheck};
 ghost use Rattle.sm_answers.specs.File.{file_limit};
 ghost use Rattle.sm_commands.specs.ProofFile.{FailsToWrite, HoldsProof, IsTaskIn, LeavesCut};
 ghost use Rattle.sm_commands.specs.ProofFile.{LeavesFront, LeavesProof, LeftBy, LeftCut};
@@ -85,8 +85,7 @@ pub fn safemerge<R: Threads + Sync, G: Gate, H: Shelf, K: Sink>(
     ensures accepted_read { result ≡ Status.Accepted → (ask : Asked) →
         asked (map string_bytes words.now) ≡ Some ask →
         AcceptsRead ask (H.given shelf.old) (H.given shelf.new) }
-    ensures verified_read { IsPrinted result → result ≢ Status.ReadFault →
-        (task proof : List ℕ) (workers : ℕ) →
+    ensures verified_read { IsPrinted result → (task proof : List ℕ) (workers : ℕ) →
         asked (map string_bytes words.now) ≡ Some (verify task proof workers) →
         (result ≡ Status.Accepted)
         ↔ ReadsProved task proof (H.given shelf.old) (H.given shelf.new) }
@@ -130,8 +129,9 @@ pub fn safemerge<R: Threads + Sync, G: Gate, H: Shelf, K: Sink>(
         (task proof : List ℕ) (effort : Effort) →
         asked (map string_bytes words.now) ≡ Some (check task proof effort) →
         H.file shelf.new proof ≡ H.file shelf.old proof }
-    // Where `check` accepts, the proof's file has a proof that passes for the task, of version 2
-    // exactly where that assumes something.
+    // Where `check` accepts, the proof's file has a proof that passes for the task: of version 3
+    // exactly where it has a line `exact`, else of version 2 exactly where the task assumes
+    // something.
     ensures proved { result ≡ Status.Accepted → (task proof : List ℕ) (effort : Effort) →
         asked (map string_bytes words.now) ≡ Some (check task proof effort) →
         (t : Parts) × IsTaskIn (H.file shelf.old task) t
@@ -151,7 +151,7 @@ pub fn safemerge<R: Threads + Sync, G: Gate, H: Shelf, K: Sink>(
         (task proof bytes : List ℕ) (effort : Effort) (t : Parts) →
         asked (map string_bytes words.now) ≡ Some (check task proof effort) →
         H.file shelf.old task ≡ holds bytes → length bytes ≤ file_limit → Spells bytes t →
-        IsOutcome t effort.steps effort.turns outcome.Accepted →
+        IsOutcome t (reach_of effort) effort.turns outcome.Accepted →
         HoldsProof t (H.file shelf.old proof) (H.file shelf.new proof) }
 
     // A fault to write has its cause, and so has each rise of the count.

@@ -12,9 +12,6 @@ use Rattle.sm_words.specs.declared.command.Verb.TheVariants.{Check, Verify, Repl
 use Rattle.sm_words.specs.declared.words.WordsError.{WordsError}
 use Rattle.sm_words.specs.declared.words.WordsError.TheVariants.{Usage}
 
-same_effort : {a b c a' b' c' : Option Text} → a ≡ a' → b ≡ b' → c ≡ c' → effort_by a b c ≡ effort_by a' b' c'
-same_effort p q r = rw (p, q, r) refl
-
 same_check : {a b a' b' : Option Text} {e e' : Option Effort} → a ≡ a' → b ≡ b' → e ≡ e' → check_by a b e ≡ check_by a' b' e'
 same_check p q r = rw (p, q, r) refl
 
@@ -37,15 +34,16 @@ pub record Asks (verb : Verb) (words : Words) (r : Result Request WordsError) : 
 
 -- how much a search may do, by texts that are those of the arguments
 given_effort : (verb : Verb) (words : Words) (f : Text → Option Text) → ((id : Text) → f id ≡ argument_text verb id words)
-    → effort_by (f (codes "steps")) (f (codes "turns")) (f (codes "workers")) ≡ effort_in verb words
-given_effort verb words f texts = same_effort (texts (codes "steps")) (texts (codes "turns")) (texts (codes "workers"))
+    → effort_by f ≡ effort_in verb words
+given_effort verb words f texts =
+    rw (texts (codes "steps"), texts (codes "turns"), texts (codes "workers"), texts (codes "exact")) refl
 
 pub asks_check : (verb : Verb) (words : Words) (f : Text → Option Text) (r : Result Request WordsError) → verb ≡ Check
     → word_faults verb words ≡ [] → ((id : Text) → f id ≡ argument_text verb id words) →
     IfOk r (λ (q : Request). check_by (f (codes "TASK")) (f (codes "PROOF"))
-    (effort_by (f (codes "steps")) (f (codes "turns")) (f (codes "workers"))) ≡ Some (asked_in q))
+    (effort_by f) ≡ Some (asked_in q))
     → (IsErrOf r Usage → (f (codes "TASK") ≡ f (codes "PROOF"))
-    ⊎ (effort_by (f (codes "steps")) (f (codes "turns")) (f (codes "workers")) ≡ None)) → Asks verb words r
+    ⊎ (effort_by f ≡ None)) → Asks verb words r
 asks_check Check words f (Ok q) is free texts ok bad = record {
   ok = (free, sym (same_check (texts (codes "TASK")) (texts (codes "PROOF")) (given_effort Check words f texts)) ∙ ok);
   usage = λ u. cc;
@@ -65,9 +63,9 @@ asks_check Gen words f r is free texts ok bad = cc
 pub asks_gen : (verb : Verb) (words : Words) (f : Text → Option Text) (r : Result Request WordsError) → verb ≡ Gen
     → word_faults verb words ≡ [] → ((id : Text) → f id ≡ argument_text verb id words) →
     IfOk r (λ (q : Request). gen_by (f (codes "SEED")) (f (codes "SIZE"))
-    (effort_by (f (codes "steps")) (f (codes "turns")) (f (codes "workers"))) ≡ Some (asked_in q))
+    (effort_by f) ≡ Some (asked_in q))
     → (IsErrOf r Usage → (seed_by (f (codes "SEED")) ≡ None) ⊎ ((size_by (f (codes "SIZE")) ≡ None)
-    ⊎ (effort_by (f (codes "steps")) (f (codes "turns")) (f (codes "workers")) ≡ None))) → Asks verb words r
+    ⊎ (effort_by f ≡ None))) → Asks verb words r
 asks_gen Gen words f (Ok q) is free texts ok bad = record {
   ok = (free, sym (same_gen (texts (codes "SEED")) (texts (codes "SIZE")) (given_effort Gen words f texts)) ∙ ok);
   usage = λ u. cc;

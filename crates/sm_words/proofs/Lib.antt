@@ -2,3 +2,4 @@ pub mod Given
 pub mod Digits
 pub mod Asking
 pub mod Usage
+pub mod ExactExamples

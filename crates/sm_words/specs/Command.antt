@@ -2,7 +2,7 @@
 use Rattle.std.specs.Prelude.{true, Some, codes}
 use Rattle.clap.specs.Simple.{App, new_app, new_rule, with_rule}
 use Rattle.clap.specs.Walk.{Rule, Text}
-use Rattle.clap.specs.declared.builder.action.ArgAction.TheVariants.{Set}
+use Rattle.clap.specs.declared.builder.action.ArgAction.TheVariants.{Set, SetTrue}
 use Rattle.sm_words.specs.declared.command.Verb.{Verb}
 use Rattle.sm_words.specs.declared.command.Verb.TheVariants.{Check, Verify, Replay, Print, Gen}
 
@@ -14,17 +14,22 @@ required_word id = record (new_rule id) { required = true; action = Some Set }
 abbrev pub option_word : Text → Rule
 option_word id = record (new_rule id) { long = Some id; action = Some Set }
 
+-- an option without a value
+abbrev pub flag_word : Text → Rule
+flag_word id = record (new_rule id) { long = Some id; action = Some SetTrue }
+
 -- two words that have to be there, and the options of a search
 abbrev pub search_command : Text → Text → Text → App
 search_command word first second =
-    with_rule (with_rule (with_rule (with_rule (with_rule (new_app word)
+    with_rule (with_rule (with_rule (with_rule (with_rule (with_rule (new_app word)
     (required_word first))
     (required_word second))
     (option_word (codes "steps")))
     (option_word (codes "turns")))
-    (option_word (codes "workers"))
+    (option_word (codes "workers")))
+    (flag_word (codes "exact"))
 
--- check TASK PROOF [--steps N] [--turns N] [--workers N]
+-- check TASK PROOF [--steps N] [--turns N] [--workers N] [--exact]
 unfoldable pub check_command : App
 check_command = search_command (codes "check") (codes "TASK") (codes "PROOF")
 
@@ -49,7 +54,7 @@ replay_command =
 unfoldable pub print_command : App
 print_command = with_rule (new_app (codes "print")) (required_word (codes "TASK"))
 
--- gen SEED SIZE [--steps N] [--turns N] [--workers N]
+-- gen SEED SIZE [--steps N] [--turns N] [--workers N] [--exact]
 unfoldable pub gen_command : App
 gen_command = search_command (codes "gen") (codes "SEED") (codes "SIZE")
 

@@ -1,7 +1,9 @@
--- Numbers among the words: one to ten digits, with a value in a range. Public clauses cite it.
-use Rattle.std.specs.Prelude.{◌≡◌, ◌⊎◌, ◌&&◌, ℕ, Bool, nat_le, length, Option, Some, None}
-use Rattle.std.specs.Prelude.{if◌then◌else◌, option_and_then, option_map}
-use Rattle.std.specs.Str.{all_ascii_digits}
+-- Numbers among the words: one to ten digits, with a value in a range; and flags. Public clauses
+-- cite it.
+use Rattle.std.specs.Prelude.{◌≡◌, ◌⊎◌, ◌&&◌, ℕ, Bool, false, nat_le, length, Option, Some, None}
+use Rattle.std.specs.Prelude.{codes, if◌then◌else◌, option_and_then, option_map}
+use Rattle.std.specs.Option.{option_map_or}
+use Rattle.std.specs.Str.{all_ascii_digits, bytes_eq}
 use Rattle.std.specs.Str.Parse.{digits_value}
 use Rattle.clap.specs.Walk.{Text}
 use Rattle.sm_words.specs.declared.effort.Effort.{Effort}
@@ -45,10 +47,19 @@ seed_by = option_and_then (spelled_number 0 2147483647)
 abbrev pub size_by : Option Text → Option ℕ
 size_by = option_and_then (spelled_number 1 190)
 
--- how much a search may do, by the texts of its options
-abbrev pub effort_by : Option Text → Option Text → Option Text → Option Effort
-effort_by steps turns workers =
+-- whether a flag is given: `clap` has the text "true" for it then, and else "false"
+abbrev pub is_given : Option Text → Bool
+is_given text = option_map_or (λ (t : Text). bytes_eq t (codes "true")) text false
+
+-- how much a search may do, by the text of each option
+abbrev pub effort_by : (Text → Option Text) → Option Effort
+effort_by given =
     option_and_then (λ (s : ℕ).
-    option_and_then (λ (n : ℕ).
-    option_map (λ (w : ℕ). record { steps = s; turns = n; workers = w }) (workers_by workers))
-    (turns_by turns)) (steps_by steps)
+    option_and_then (λ (t : ℕ).
+    option_map (λ (w : ℕ). record {
+      steps = s;
+      turns = t;
+      workers = w;
+      exact = is_given (given (codes "exact"));
+    }) (workers_by (given (codes "workers"))))
+    (turns_by (given (codes "turns")))) (steps_by (given (codes "steps")))

@@ -36,9 +36,7 @@ argument_text verb id words = first_of id (matches_of (command_of verb) words)
 
 -- how much a search may do, by the words of a command
 abbrev pub effort_in : Verb → Words → Option Effort
-effort_in verb words =
-    effort_by (argument_text verb (codes "steps") words)
-    (argument_text verb (codes "turns") words) (argument_text verb (codes "workers") words)
+effort_in verb words = effort_by (λ (id : Text). argument_text verb id words)
 
 -- a number among the words of a command isn't one, or isn't in its range; or the file of the proof
 -- that is to be written is that of the task

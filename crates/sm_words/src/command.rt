@@ -1,8 +1,9 @@
 // What `clap` knows of the commands.
 ghost use Rattle.std.specs.Prelude.{◌≡◌, false, codes, IfOk};
 ghost use Rattle.clap.specs.Words.{app_of, rule_of, with_rule};
-ghost use Rattle.sm_words.specs.Command.{check_command, command_of, gen_command, option_word};
-ghost use Rattle.sm_words.specs.Command.{print_command, replay_command, required_word};
+ghost use Rattle.sm_words.specs.Command.{check_command, command_of, flag_word, gen_command};
+ghost use Rattle.sm_words.specs.Command.{option_word, print_command, replay_command};
+ghost use Rattle.sm_words.specs.Command.{required_word};
 ghost use Rattle.sm_words.specs.Command.{search_command, verify_command};
 
 use clap::{Arg, ArgAction, Command};
@@ -47,6 +48,14 @@ fn option_word<'a>(alloc: Global, id: &'a str) -> Arg<'a>
     Arg::new(alloc, id).long(id).action(ArgAction::Set)
 }
 
+// An option without a value.
+fn flag_word<'a>(alloc: Global, id: &'a str) -> Arg<'a>
+    ensures rule { rule_of result ≡ flag_word id.entry.now }
+    ensures local { result.global ≡ false }
+{
+    Arg::new(alloc, id).long(id).action(ArgAction::SetTrue)
+}
+
 #[tactic(auto, unfolding(crate::specs::Command::check_command))]
 fn check_command<'a>(alloc: Global) -> Result<Command<'a>, AllocError>
     ensures { IfOk result (λ c. app_of c ≡ check_command) }
@@ -80,14 +89,15 @@ fn search_command<'a>(
 // The command with the options of a search.
 fn with_effort<'a>(alloc: Global, command: Command<'a>) -> Result<Command<'a>, AllocError>
     ensures { IfOk result (λ c. app_of c ≡
-        with_rule (with_rule (with_rule (app_of command.entry)
+        with_rule (with_rule (with_rule (with_rule (app_of command.entry)
         (option_word (codes "steps"))) (option_word (codes "turns")))
-        (option_word (codes "workers"))) }
+        (option_word (codes "workers"))) (flag_word (codes "exact"))) }
 {
     command
         .arg(option_word(alloc, "steps"))?
         .arg(option_word(alloc, "turns"))?
-        .arg(option_word(alloc, "workers"))
+        .arg(option_word(alloc, "workers"))?
+        .arg(flag_word(alloc, "exact"))
 }
 
 #[tactic(auto, unfolding(crate::specs::Command::verify_command))]

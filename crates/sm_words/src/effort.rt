@@ -9,4 +9,6 @@ pub struct Effort {
     pub turns: u64,
     /// From 1 to 64.
     pub workers: u32,
+    /// Whether a branch that nothing splits is decided exactly, over whole numbers.
+    pub exact: bool,
 }

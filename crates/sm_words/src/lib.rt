@@ -7,7 +7,7 @@
 //!
 //! It opens no file: these are named as the words name them. Read `specs/Words.antt` first, then
 //! `specs/Numbers.antt`, `specs/Command.antt` and `specs/Lines.antt`; `specs/Views.antt` says what
-//! a request stands for.
+//! a request stands for. `proofs/ExactExamples.antt` has a flag worked on words that are written out.
 #![tactic(auto)]
 
 mod command;

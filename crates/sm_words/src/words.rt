@@ -3,8 +3,8 @@ ghost use Rattle.std.specs.Prelude.{◌≡◌, ◌≢◌, ◌<◌, ◌≤◌, �
 ghost use Rattle.std.specs.Prelude.{codes, option_map, ℕ, List, IfOk, IfErr, IsErrOf};
 ghost use Rattle.std.specs.String.{string_bytes};
 ghost use Rattle.clap.specs.Words.{first_value, found_of, kind_of};
-ghost use Rattle.sm_words.specs.Numbers.{effort_by, seed_by, size_by, steps_by, turns_by};
-ghost use Rattle.sm_words.specs.Numbers.{workers_by, HasBadNumber};
+ghost use Rattle.sm_words.specs.Numbers.{effort_by, is_given, seed_by, size_by, steps_by};
+ghost use Rattle.sm_words.specs.Numbers.{turns_by, workers_by, HasBadNumber};
 ghost use Rattle.sm_words.specs.Views.{asked_in, HasWorkers, IsWithin};
 ghost use Rattle.sm_words.specs.Words.{asked, asked_by, check_by, verify_by, replay_by, print_by};
 ghost use Rattle.sm_words.specs.Words.{gen_by, argument_text, usage_line, verb_of, word_faults};
@@ -139,13 +139,11 @@ fn check_request<'a>(matches: &ArgMatches<'a>) -> Result<Request<'a>, WordsError
     requires task { is_some (first_value (found_of matches.now) (codes "TASK")) ≡ true }
     requires proof { is_some (first_value (found_of matches.now) (codes "PROOF")) ≡ true }
     ensures ok { let given = first_value (found_of matches.now) in IfOk result (λ r.
-        check_by (given (codes "TASK")) (given (codes "PROOF"))
-        (effort_by (given (codes "steps")) (given (codes "turns")) (given (codes "workers")))
+        check_by (given (codes "TASK")) (given (codes "PROOF")) (effort_by given)
         ≡ Some (asked_in r)) }
     ensures usage { let given = first_value (found_of matches.now) in
         IsErrOf result WordsError.Usage → (given (codes "TASK") ≡ given (codes "PROOF"))
-        ⊎ (effort_by (given (codes "steps")) (given (codes "turns")) (given (codes "workers"))
-        ≡ None) }
+        ⊎ (effort_by given ≡ None) }
     ensures within { IfOk result IsWithin }
 {
     let effort = effort_in(matches)?;
@@ -163,14 +161,12 @@ fn check_request<'a>(matches: &ArgMatches<'a>) -> Result<Request<'a>, WordsError
 
 fn gen_request<'a>(matches: &ArgMatches<'a>) -> Result<Request<'a>, WordsError>
     ensures ok { let given = first_value (found_of matches.now) in IfOk result (λ r.
-        gen_by (given (codes "SEED")) (given (codes "SIZE"))
-        (effort_by (given (codes "steps")) (given (codes "turns")) (given (codes "workers")))
+        gen_by (given (codes "SEED")) (given (codes "SIZE")) (effort_by given)
         ≡ Some (asked_in r)) }
     ensures usage { let given = first_value (found_of matches.now) in
         IsErrOf result WordsError.Usage → (seed_by (given (codes "SEED")) ≡ None)
         ⊎ ((size_by (given (codes "SIZE")) ≡ None)
-        ⊎ (effort_by (given (codes "steps")) (given (codes "turns")) (given (codes "workers"))
-        ≡ None)) }
+        ⊎ (effort_by given ≡ None)) }
     ensures within { IfOk result IsWithin }
 {
     let seed = seed_by(matches.get_str("SEED"))?;
@@ -181,22 +177,21 @@ fn gen_request<'a>(matches: &ArgMatches<'a>) -> Result<Request<'a>, WordsError>
 
 // How much a search may do.
 fn effort_in(matches: &ArgMatches<'_>) -> Result<Effort, WordsError>
-    ensures ok { let given = first_value (found_of matches.now) in IfOk result (λ e.
-        effort_by (given (codes "steps")) (given (codes "turns")) (given (codes "workers"))
-        ≡ Some e) }
+    ensures ok { let given = first_value (found_of matches.now) in
+        IfOk result (λ e. effort_by given ≡ Some e) }
     ensures usage { let given = first_value (found_of matches.now) in
-        IfErr result (λ _.
-        effort_by (given (codes "steps")) (given (codes "turns")) (given (codes "workers"))
-        ≡ None) }
+        IfErr result (λ _. effort_by given ≡ None) }
     ensures workers { IfOk result HasWorkers }
 {
     let steps = steps_by(matches.get_str("steps"))?;
     let turns = turns_by(matches.get_str("turns"))?;
     let workers = workers_by(matches.get_str("workers"))?;
+    let exact = is_given(matches.get_str("exact"));
     Ok(Effort {
         steps,
         turns,
         workers,
+        exact,
     })
 }
 
@@ -343,5 +338,15 @@ fn workers_by(text: Option<&str>) -> Result<u32, WordsError>
     match number_or(1, 1, 64, text) {
         Some(workers) => Ok(workers as u32),
         None => Err(WordsError::Usage),
+    }
+}
+
+// Whether a flag is given, by the text that `clap` has for it.
+fn is_given(text: Option<&str>) -> bool
+    ensures { result ≡ is_given (option_map (λ t. t.now) text.entry) }
+{
+    match text {
+        Some(text) => text == "true",
+        None => false,
     }
 }

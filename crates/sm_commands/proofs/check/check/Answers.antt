@@ -9,6 +9,7 @@ use Rattle.sm_proof.proofs.PassSound.{pass_free}
 use Rattle.sm_answers.specs.Lines.{goal_line, op_word, too_many_line}
 use Rattle.sm_answers.specs.declared.status.Status.TheVariants.{Unknown}
 use Rattle.sm_commands.proofs.SpelledLemmas.{is_spelled, least_trial, noted_by, outcome_so}
+use Rattle.sm_commands.specs.Check.{reach_of}
 use Rattle.sm_commands.proofs.check.check.Goals as goal
 
 pub search-requires-clause-runs : goal.search-requires-clause-runs
@@ -33,15 +34,15 @@ unknown-requires-in-TooMany g c = (is_spelled (parts_of c.args.task.now) c.requi
 
 pub conflict-requires-clause-least : goal.conflict-requires-clause-least
 conflict-requires-clause-least g c =
-    least_trial (parts_of c.args.task.now) c.args.effort.steps c.args.effort.turns c.in-Conflict.trial c.in-Conflict.verdict
-    (outcome_so (parts_of c.args.task.now) c.args.effort.steps c.args.effort.turns c.in_ok-outcome.outcome
+    least_trial (parts_of c.args.task.now) (reach_of c.args.effort) c.args.effort.turns c.in-Conflict.trial c.in-Conflict.verdict
+    (outcome_so (parts_of c.args.task.now) (reach_of c.args.effort) c.args.effort.turns c.in_ok-outcome.outcome
     (outcome.Conflict c.in-Conflict.trial c.in-Conflict.verdict) c.in-Conflict.is c.in_ok-outcome.ensures.outcome)
 
 pub returns-in_ok-reply-in-Conflict-clause-answers : goal.returns-in_ok-reply-in-Conflict-clause-answers
 returns-in_ok-reply-in-Conflict-clause-answers g c = record {
   outcome = plain.Conflict (c.in-Conflict.trial, c.in-Conflict.verdict);
   found =
-      outcome_so (parts_of c.args.task.now) c.args.effort.steps c.args.effort.turns c.in_ok-outcome.outcome
+      outcome_so (parts_of c.args.task.now) (reach_of c.args.effort) c.args.effort.turns c.in_ok-outcome.outcome
       (outcome.Conflict c.in-Conflict.trial c.in-Conflict.verdict) c.in-Conflict.is c.in_ok-outcome.ensures.outcome;
   says = c.in_ok-reply-in-Conflict.ensures;
 }
@@ -50,7 +51,7 @@ pub returns-in_ok-reply-in-TooMany-clause-answers : goal.returns-in_ok-reply-in-
 returns-in_ok-reply-in-TooMany-clause-answers g c = record {
   outcome = plain.TooMany;
   found =
-      outcome_so (parts_of c.args.task.now) c.args.effort.steps c.args.effort.turns c.in_ok-outcome.outcome outcome.TooMany
+      outcome_so (parts_of c.args.task.now) (reach_of c.args.effort) c.args.effort.turns c.in_ok-outcome.outcome outcome.TooMany
       c.in-TooMany.is c.in_ok-outcome.ensures.outcome;
   says =
       noted_by (parts_of c.args.task.now) Unknown c.in_ok-reply-in-TooMany.reply.status too_many_line c.in_ok-text-in-TooMany.text.items
@@ -79,7 +80,7 @@ pub returns-in_ok-reply-in-Accepted-clause-answers : goal.returns-in_ok-reply-in
 returns-in_ok-reply-in-Accepted-clause-answers g c = record {
   outcome = plain.Accepted;
   found =
-      outcome_so (parts_of c.args.task.now) c.args.effort.steps c.args.effort.turns c.in_ok-outcome.outcome
+      outcome_so (parts_of c.args.task.now) (reach_of c.args.effort) c.args.effort.turns c.in_ok-outcome.outcome
       (outcome.Accepted c.in-Accepted.proof) c.in-Accepted.is c.in_ok-outcome.ensures.outcome;
   says = (
     pass_free (parts_of c.args.task.now) c.in_ok-text-in-Accepted.text.items
@@ -92,7 +93,7 @@ pub returns-in_ok-reply-in-Open-clause-answers : goal.returns-in_ok-reply-in-Ope
 returns-in_ok-reply-in-Open-clause-answers g c = record {
   outcome = plain.Open c.in-Open.node c.in-Open.goal;
   found =
-      outcome_so (parts_of c.args.task.now) c.args.effort.steps c.args.effort.turns c.in_ok-outcome.outcome
+      outcome_so (parts_of c.args.task.now) (reach_of c.args.effort) c.args.effort.turns c.in_ok-outcome.outcome
       (outcome.Open c.in-Open.node c.in-Open.goal) c.in-Open.is c.in_ok-outcome.ensures.outcome;
   says =
       noted_by (parts_of c.args.task.now) Unknown c.in_ok-reply-in-Open.reply.status
@@ -104,7 +105,7 @@ pub returns-in_ok-reply-in-Steps-clause-answers : goal.returns-in_ok-reply-in-St
 returns-in_ok-reply-in-Steps-clause-answers g c = record {
   outcome = plain.Steps c.in-Steps.node c.in-Steps.goal;
   found =
-      outcome_so (parts_of c.args.task.now) c.args.effort.steps c.args.effort.turns c.in_ok-outcome.outcome
+      outcome_so (parts_of c.args.task.now) (reach_of c.args.effort) c.args.effort.turns c.in_ok-outcome.outcome
       (outcome.Steps c.in-Steps.node c.in-Steps.goal) c.in-Steps.is c.in_ok-outcome.ensures.outcome;
   says =
       noted_by (parts_of c.args.task.now) Unknown c.in_ok-reply-in-Steps.reply.status
@@ -120,7 +121,7 @@ returns-in_ok-reply-in-Coefficient-clause-answers g c =
     record {
       outcome = plain.Coefficient f.node f.goal f.op f.a f.b;
       found =
-          outcome_so (parts_of c.args.task.now) c.args.effort.steps c.args.effort.turns c.in_ok-outcome.outcome
+          outcome_so (parts_of c.args.task.now) (reach_of c.args.effort) c.args.effort.turns c.in_ok-outcome.outcome
           (outcome.Coefficient f.node f.goal f.op f.a f.b) f.is c.in_ok-outcome.ensures.outcome;
       says =
           noted_by (parts_of c.args.task.now) Unknown c.in_ok-reply-in-Coefficient.reply.status

@@ -1,4 +1,5 @@
-use Rattle.std.proofs.Common.{ℕ, List, subst, sym}
+use Rattle.std.proofs.Common.{ℕ, List, Some, IfOk, subst, sym}
+use Rattle.sm_commands.specs.Readings.{AnswersByReads}
 use Rattle.sm_commands.specs.Top.{LeavesFiles, LeavesPart}
 use Rattle.sm_answers.specs.Verify.{Verifies}
 use Rattle.sm_commands.specs.Views.{EndsWith}
@@ -29,3 +30,11 @@ returns-in-Check-clause-left g c =
     (sym c.in-Check.is)
     (check_leaves c.in-Check.task.now c.in-Check.proof.now c.in-Check.effort before now c.check_in.result c.check_in.ensures.others
     c.check_in.ensures.left)
+
+pub returns-in-Check-clause-read : goal.returns-in-Check-clause-read
+returns-in-Check-clause-read g c =
+    let before = g.H.Shelf.given c.args.shelf.now in
+    let now = g.H.Shelf.given c.check_in.new.shelf in
+    subst
+    (λ (q : Request). IfOk c.check_in.result (λ r. AnswersByReads (Some (asked_in q)) before now r.status r.text.items))
+    (sym c.in-Check.is) c.check_in.ensures.read
