@@ -5,7 +5,8 @@ ghost use Rattle.lines.specs.Scenes.{Continues};
 use crate::refusal::Refusal;
 use crate::scene::Scene;
 use crate::term::put_term;
-use std::alloc::Global;
+use sm_term::Terms;
+use std::alloc::{AllocError, Global};
 
 /// The numbers that the table gives to the terms that a copy of it got, while the table itself got
 /// others.
@@ -13,14 +14,28 @@ pub fn adopt_answer(alloc: Global, scene: &mut Scene, text: &str) -> Result<Stri
     let Some((theirs, ours)) = text.split_once('/') else {
         return Err(Refusal::Bad);
     };
-    let from = scene.table.len();
     let mut other = scene.copied(alloc)?;
     put_terms(alloc, &mut other, theirs)?;
-    put_terms(alloc, scene, ours)?;
-    let rows = other.table.tail(alloc, from)?;
+    let numbers = adopted(alloc, scene, &other, ours)?;
+    Ok(numbers_text(alloc, &numbers)?)
+}
+
+// The numbers that a table gives to the terms behind those that a copy of it began with, once it has
+// got the terms of a text.
+fn adopted(alloc: Global, scene: &mut Scene, copy: &Scene, text: &str) -> Result<Terms, Refusal>
+    requires { Continues scene.old.table copy.now.table }
+{
+    let from = scene.table.len();
+    put_terms(alloc, scene, text)?;
+    let rows = copy.table.tail(alloc, from)?;
     let ids = scene.table.adopt(alloc, &rows, from)?;
+    Ok(ids)
+}
+
+// Numbers of terms as words.
+fn numbers_text(alloc: Global, numbers: &Terms) -> Result<String, AllocError> {
     let mut text = String::from_str(alloc, "adopted")?;
-    for id in &ids.list {
+    for id in &numbers.list {
         text.push_str(&format!(in alloc; " {}", id.0)?)?;
     }
     Ok(text)

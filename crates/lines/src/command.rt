@@ -72,7 +72,8 @@ fn group_answer(alloc: Global, scene: &mut Scene, words: &[&str]) -> Result<Stri
         "cond" => condition_answer(alloc, scene, &words[1..]),
         "fact" => fact_answer(alloc, scene, &words[1..]),
         "line" => line_answer(alloc, scene, &words[1..]),
-        "solve" if words.len() > 1 => solve_answer(alloc, scene, words[1], &words[2..]),
+        "solve" if words.len() > 1 => solve_answer(alloc, scene, words[1], &words[2..], false),
+        "exactly" if words.len() > 1 => solve_answer(alloc, scene, words[1], &words[2..], true),
         _ => sized_answer(alloc, scene, words),
     }
 }

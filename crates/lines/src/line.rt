@@ -9,6 +9,7 @@ use crate::refusal::Refusal;
 use crate::scene::Scene;
 use crate::word::{natural, term_id};
 use sm_euf::Euf;
+use sm_exact::With;
 use sm_lia::Lia;
 use sm_rows::Rows;
 use sm_theory::{CertLine, Fact, FactNumbers, Theory};
@@ -42,10 +43,19 @@ fn added(
     if let Some(fact) = Rows::new().check_line(alloc, &scene.table, &scene.branch, line)? {
         return Ok(Some(("rows", fact)));
     }
-    if let Some(fact) = Lia::new().check_line(alloc, &scene.table, &scene.branch, line)? {
-        return Ok(Some(("lia", fact)));
+    let arithmetic = With::new(Lia::new());
+    match arithmetic.check_line(alloc, &scene.table, &scene.branch, line)? {
+        Some(fact) => Ok(Some((name_of_arithmetic(line), fact))),
+        None => Ok(None),
     }
-    Ok(None)
+}
+
+// The name of the part of arithmetic that a line belongs to.
+fn name_of_arithmetic(line: &CertLine) -> &'static str {
+    match line {
+        CertLine::Exact(_) => "exact",
+        _ => "lia",
+    }
 }
 
 /// Whether the terms that a line names are in the table.
@@ -63,7 +73,7 @@ pub fn is_line_within(scene: &Scene, line: &CertLine) -> bool
         CertLine::Miss(t, u, _) => scene.has(*t) && scene.has(*u),
         CertLine::Both(_) | CertLine::Either(_) | CertLine::Order(_) => true,
         CertLine::Sym(_) | CertLine::Trans(_, _) | CertLine::Subst(_, _) => true,
-        CertLine::Lin(_) | CertLine::Tight(_) => true,
+        CertLine::Lin(_) | CertLine::Tight(_) | CertLine::Exact(_) => true,
         CertLine::Close(_) | CertLine::Clash(_, _) => true,
     }
 }
@@ -82,6 +92,7 @@ pub fn read_line(alloc: Global, words: &[&str]) -> Result<CertLine, Refusal> {
         ["lin", n] => Ok(CertLine::Lin(natural(n)?)),
         ["elim", m, n, t] => Ok(CertLine::Elim(natural(m)?, natural(n)?, term_id(t)?)),
         ["tight", n] => Ok(CertLine::Tight(natural(n)?)),
+        ["exact", n] => Ok(CertLine::Exact(natural(n)?)),
         _ => read_other_line(alloc, words),
     }
 }

@@ -33,6 +33,7 @@
 //!   many steps: `closed` with the first words of the lines of the certificate, which is checked, or
 //!   with their number where they are more than 20; `open` with the facts of the first branch that
 //!   stays open; `steps` where they don't suffice; `beyond` where an operation leaves the range.
+//!   `exactly 100 eq 0 1` decides exactly what would stay open.
 //! - `form`, `elim`, `tight`, `combine`, `cancels` and `contradiction` are calls on linear forms. A
 //!   form is `le -2*0 3*1 1`: what it says of its sum, its parts, each a coefficient and an atom,
 //!   and its constant. `beyond` stands where an operation leaves the range, with its operands.

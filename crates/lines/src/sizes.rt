@@ -12,19 +12,28 @@ use std::collections::VecDeque;
 
 /// What a command says that makes something of a size.
 pub fn sized_answer(alloc: Global, scene: &mut Scene, words: &[&str]) -> Result<String, Refusal> {
-    let tree = match *words {
-        ["intern", n] => {
-            intern_many(scene, natural(n)?)?;
-            return Ok(format!(in alloc; "{}", scene.table.len())?);
-        }
-        ["chain", n] => chain(alloc, scene, natural(n)?)?,
-        ["sums", n] => sums(alloc, scene, natural(n)?)?,
-        ["balanced", n] => balanced(alloc, natural(n)?)?,
-        ["left", n] => left(alloc, natural(n)?)?,
-        ["right", n] => right(alloc, natural(n)?)?,
-        _ => return Err(Refusal::Bad),
+    let [kind, size] = *words else {
+        return Err(Refusal::Bad);
     };
+    let n = natural(size)?;
+    if kind == "intern" {
+        intern_many(scene, n)?;
+        return Ok(format!(in alloc; "{}", scene.table.len())?);
+    }
+    let tree = tree_of_size(alloc, scene, kind, n)?;
     verdict(alloc, scene, &tree)
+}
+
+// The certificate of a kind, of a size.
+fn tree_of_size(alloc: Global, scene: &mut Scene, kind: &str, n: u64) -> Result<CertTree, Refusal> {
+    match kind {
+        "chain" => chain(alloc, scene, n),
+        "sums" => sums(alloc, scene, n),
+        "balanced" => Ok(balanced(alloc, n)?),
+        "left" => Ok(left(alloc, n)?),
+        "right" => Ok(right(alloc, n)?),
+        _ => Err(Refusal::Bad),
+    }
 }
 
 // Puts so many sums into the table, each of the one before it and of the first term.

@@ -19,13 +19,14 @@ use sm_term::{Formula, TermId, copy_formula, negate};
 use sm_theory::{CertLine, Fact};
 use std::alloc::{AllocError, Global};
 
-/// What the walk comes to in so many steps, from the facts of the branch to the formula of words. The
-/// certificate of a closed one is checked.
+/// What the walk comes to in so many steps, from the facts of the branch to the formula of words;
+/// branches that would stay open may be decided exactly. The certificate of a closed one is checked.
 pub fn solve_answer(
     alloc: Global,
     scene: &mut Scene,
     steps: &str,
     words: &[&str],
+    exact: bool,
 ) -> Result<String, Refusal> {
     let target = read_formula(alloc, scene, words)?;
     let steps = natural(steps)?;
@@ -33,7 +34,7 @@ pub fn solve_answer(
     if !fits(scene, &target) {
         return Err(Refusal::Bad);
     }
-    match solve(alloc, &mut scene.table, &facts, &target, steps)? {
+    match solve(alloc, &mut scene.table, &facts, &target, steps, exact)? {
         Answer::Closed(tree) => closed_words(alloc, scene, &target, &tree),
         Answer::Open { leaf } => Ok(leaf_words(alloc, &leaf.list)?),
         Answer::Steps => Ok(String::from_str(alloc, "steps")?),
@@ -191,6 +192,7 @@ fn kind_of(line: &CertLine) -> &'static str {
         CertLine::Lin(_) => "lin",
         CertLine::Elim(_, _, _) => "elim",
         CertLine::Tight(_) => "tight",
+        CertLine::Exact(_) => "exact",
         CertLine::Close(_) => "close",
         CertLine::Clash(_, _) => "clash",
     }

@@ -9,6 +9,7 @@ use crate::refusal::Refusal;
 use crate::scene::Scene;
 use sm_cert::{CertEnd, CertFault, CertLines, CertTree, check_tree};
 use sm_euf::Euf;
+use sm_exact::With;
 use sm_lia::Lia;
 use sm_rows::Rows;
 use sm_theory::CertLine;
@@ -25,8 +26,16 @@ pub fn verdict(alloc: Global, scene: &Scene, tree: &CertTree) -> Result<String, 
     if !is_tree_within(scene, tree) {
         return Err(Refusal::Bad);
     }
-    let (euf, lia, rows) = (Euf::new(), Lia::new(), Rows::new());
-    match check_tree(alloc, &euf, &lia, &rows, &scene.table, &scene.branch, tree) {
+    let (euf, arithmetic, rows) = (Euf::new(), With::new(Lia::new()), Rows::new());
+    match check_tree(
+        alloc,
+        &euf,
+        &arithmetic,
+        &rows,
+        &scene.table,
+        &scene.branch,
+        tree,
+    ) {
         Ok(()) => Ok(String::from_str(alloc, "closed")?),
         Err(CertFault::Wrong { line }) => Ok(format!(in alloc; "wrong {line}")?),
         Err(CertFault::Deep) => Ok(String::from_str(alloc, "deep")?),
