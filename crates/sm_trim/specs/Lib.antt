@@ -1,0 +1,4 @@
+pub mod Used
+pub mod Pruned
+pub mod Laws
+pub mod Named
