@@ -7,7 +7,10 @@ SOURCES := $(shell find crates -path '*/out' -prune -o -type f -print) crates.tx
 CRATES := $(shell tac crates.txt | awk -F '[: ]+' 'BEGIN { needed["safemerge"] } \
   $$1 != "" && $$1 in needed { print $$1; for (i = 2; i <= NF; i++) needed[$$i] }' | tac)
 
-.PHONY: all look demo test install uninstall clean
+# The program that the tests of contrib/ ask.
+SAFEMERGE ?= bin/safemerge
+
+.PHONY: all look demo test contrib-test install uninstall clean
 
 all: bin/safemerge
 
@@ -52,6 +55,11 @@ demo: all
 test:
 	.ci/run
 
+# The tests of contrib/, for which git and python3 are needed. Those that ask the program are skipped, and counted,
+# where it isn't there.
+contrib-test:
+	@cd contrib && SAFEMERGE="$(if $(findstring /,$(SAFEMERGE)),$(abspath $(SAFEMERGE)),$(SAFEMERGE))" python3 -m tests
+
 install: all
 	install -d "$(DESTDIR)$(PREFIX)/bin"
 	install -m 755 bin/safemerge "$(DESTDIR)$(PREFIX)/bin/safemerge"
@@ -62,4 +70,4 @@ uninstall:
 	rm -f "$(DESTDIR)$(PREFIX)/bin/safemerge" "$(DESTDIR)$(PREFIX)/share/man/man1/safemerge.1"
 
 clean:
-	rm -rf bin crates/*/out examples/*/found.proof
+	rm -rf bin crates/*/out examples/*/found.proof contrib/frontend/__pycache__ contrib/frontend/*/__pycache__ contrib/tests/__pycache__

@@ -1,0 +1,27 @@
+# Completion of safemerge in bash: commands, the options of each, and files.
+# Source it, or put it as `safemerge` into ~/.local/share/bash-completion/completions.
+_safemerge() {
+  local word=${COMP_WORDS[COMP_CWORD]} before=${COMP_WORDS[COMP_CWORD - 1]}
+  local command=${COMP_WORDS[1]} options=
+  COMPREPLY=()
+  if [ "$COMP_CWORD" -eq 1 ]; then
+    mapfile -t COMPREPLY < <(compgen -W "check verify replay print gen" -- "$word")
+    return
+  fi
+  case $command in
+    check | gen) options="--steps --turns --workers" ;;
+    replay) options="--turns --workers" ;;
+    verify) options="--workers" ;;
+  esac
+  case $before in
+    --steps | --turns | --workers) return ;;
+  esac
+  case $command,$word in
+    *,-*) mapfile -t COMPREPLY < <(compgen -W "$options" -- "$word") ;;
+    check,* | verify,* | replay,* | print,*)
+      compopt -o filenames 2>/dev/null
+      mapfile -t COMPREPLY < <(compgen -f -- "$word")
+      ;;
+  esac
+}
+complete -F _safemerge safemerge

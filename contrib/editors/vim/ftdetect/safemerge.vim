@@ -1,0 +1,1 @@
+autocmd BufRead,BufNewFile *.task,*.prog set filetype=safemerge

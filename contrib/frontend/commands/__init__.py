@@ -1,0 +1,1 @@
+"""The commands, each a function from its words to its exit status."""
