@@ -11,8 +11,8 @@ use sm_syntax::{Block, Fillings, Stmt};
 use std::alloc::{AllocError, Global};
 use std::collections::HashSet;
 
-// The hole statements of a block.
-pub(crate) fn holes_of(alloc: Global, b: &Block) -> Result<Vec<u32>, AllocError>
+/// The numbers of the hole statements of a block, in the order of the text.
+pub fn holes_of(alloc: Global, b: &Block) -> Result<Vec<u32>, AllocError>
     ensures { IfOk result (λ v. v.items ≡ holes_of (code_of b.now)) }
 {
     let mut holes = Vec::new(alloc);
