@@ -5,11 +5,12 @@ _safemerge() {
   local command=${COMP_WORDS[1]} options=
   COMPREPLY=()
   if [ "$COMP_CWORD" -eq 1 ]; then
-    mapfile -t COMPREPLY < <(compgen -W "check verify replay print gen" -- "$word")
+    mapfile -t COMPREPLY < <(compgen -W "check verify replay print gen suggest" -- "$word")
     return
   fi
   case $command in
-    check | gen) options="--steps --turns --workers" ;;
+    check) options="--steps --turns --workers --exact --deeper" ;;
+    gen | suggest) options="--steps --turns --workers --exact" ;;
     replay) options="--turns --workers" ;;
     verify) options="--workers" ;;
   esac
@@ -18,7 +19,7 @@ _safemerge() {
   esac
   case $command,$word in
     *,-*) mapfile -t COMPREPLY < <(compgen -W "$options" -- "$word") ;;
-    check,* | verify,* | replay,* | print,*)
+    check,* | verify,* | replay,* | print,* | suggest,*)
       compopt -o filenames 2>/dev/null
       mapfile -t COMPREPLY < <(compgen -f -- "$word")
       ;;

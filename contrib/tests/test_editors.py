@@ -28,14 +28,19 @@ class Completion(Folder):
     def test_words_are_completed(self) -> None:
         self.write("one.task", "")
         cases = [
-            (("safemerge", ""), ["check", "verify", "replay", "print", "gen"]),
+            (("safemerge", ""), ["check", "verify", "replay", "print", "gen", "suggest"]),
             (("safemerge", "ch"), ["check"]),
-            (("safemerge", "check", "--"), ["--steps", "--turns", "--workers"]),
+            (("safemerge", "check", "--"),
+             ["--steps", "--turns", "--workers", "--exact", "--deeper"]),
+            (("safemerge", "suggest", "--"), ["--steps", "--turns", "--workers", "--exact"]),
+            (("safemerge", "gen", "--"), ["--steps", "--turns", "--workers", "--exact"]),
             (("safemerge", "replay", "--"), ["--turns", "--workers"]),
             (("safemerge", "verify", "--"), ["--workers"]),
             (("safemerge", "print", "--"), []),
             (("safemerge", "check", "--steps", ""), []),
             (("safemerge", "print", "o"), ["one.task"]),
+            (("safemerge", "suggest", "o"), ["one.task"]),
+            (("safemerge", "check", "--exact", "o"), ["one.task"]),
             (("safemerge", "gen", ""), []),
         ]
         for words, expected in cases:
