@@ -190,10 +190,12 @@ def verdict_of(asked: Asked) -> Verdict:
 
 def accepted(asked: Asked, rest: List[str]) -> Verdict:
     """Accepted; but where no start is seen that meets the assumption, a person has to look."""
-    if rest and not any(cells is not None for _, cells in tried(asked)):
-        return Verdict(Answer.UNKNOWN, "Accepted, but %s" % rest[0],
-                       ["perhaps no start meets it, and then any merge is accepted"])
-    return Verdict(Answer.ACCEPTED, "Accepted")
+    if not rest:
+        return Verdict(Answer.ACCEPTED, "Accepted")
+    if any(cells is not None for _, cells in tried(asked)):
+        return Verdict(Answer.ACCEPTED, "Accepted", ["%s; a drawn input does" % rest[0]])
+    return Verdict(Answer.UNKNOWN, "Accepted, but %s" % rest[0],
+                   ["perhaps no start meets it, and then any merge is accepted"])
 
 
 def tried(asked: Asked) -> Iterator[Tuple[Store, Optional[List[Cell]]]]:

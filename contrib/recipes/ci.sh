@@ -1,26 +1,28 @@
 #!/bin/sh
-# A job for CI: asks of each merge between a commit and the present one, and keeps what is printed,
-# with the tasks and the proofs, in a folder that the job hands on. Its last line names the worst
-# status, which is its own: 0 goes on, 1 fails, 2 and more go to a person.
+# A job for CI: asks of each merge between a commit and the present one, and keeps every line that
+# is printed, with the tasks and the proofs, in a folder that the job hands on. Its status is the
+# worst of all: 0 goes on, 1 fails, 2 and more go to a person.
 #
 # ci.sh FROM [FOLDER]
 set -u
+PATH=$(cd "$(dirname "$0")/.." && pwd):$PATH
 from=$1
 folder=${2:-safemerge}
 worst=0
-mkdir -p "$folder"
+merges=$(git rev-list --reverse --merges "$from..HEAD") || exit 4
+mkdir -p "$folder" || exit 4
+: >"$folder/answers.txt" || exit 4
 
-for merge in $(git rev-list --reverse --merges "$from..HEAD"); do
-  echo "merge $merge"
-  git-safemerge --keep "$folder/$merge" "$merge" >"$folder/answer"
+for merge in $merges; do
+  echo "merge $merge" >"$folder/answer"
+  git-safemerge --keep "$folder/$merge" "$merge" >>"$folder/answer" 2>&1
   status=$?
-  cat "$folder/answer"
-  case $status in
-    0) ;;
-    1) worst=1 ;;
-    *) [ "$worst" = 1 ] || worst=$status ;;
+  tee -a "$folder/answers.txt" <"$folder/answer"
+  case $worst,$status in
+    1,*) ;;
+    *,1) worst=1 ;;
+    *) [ "$status" -le "$worst" ] || worst=$status ;;
   esac
-done >"$folder/answers.txt"
+done
 rm -f "$folder/answer"
-cat "$folder/answers.txt"
 exit "$worst"

@@ -1,24 +1,32 @@
 #!/bin/sh
-# Goes through tasks that are made already, and keeps all lines of each answer. The proof is
-# written under another name first, into a folder of its own: no name of a task can be one of a
-# proof, and where the disk is full an older proof stays.
+# Goes through tasks that are made already, and keeps all lines of each answer. A proof is written
+# under a name of its own first, into a folder of its own: so no name of a task is one of a proof,
+# and where the disk is full an older proof stays.
 #
 # queue.sh PROOFS TASK..
 set -u
 proofs=$1
 shift
-mkdir -p "$proofs"
+mkdir -p "$proofs" || exit
+
+# Where all is 0 at the start the base, A and B end, and the candidate takes too many turns.
+runs_on() {
+  ends=$(printf '{}' | timeout 60 safemerge replay --turns 1000 "$1" /dev/stdin)
+  [ "$ends" = "OutOfTurns M" ]
+}
 
 for task in "$@"; do
-  proof=$proofs/$(basename "$task").proof
-  answer=$(timeout 60 safemerge check --turns 1000 "$task" "$proof.new")
+  name=$proofs/$(printf '%s' "$task" | tr / +)
+  new=$name.$$
+  answer=$(timeout 60 safemerge check --turns 100 "$task" "$new")
   status=$?
-  printf '%s\n' "$answer" >"$proofs/$(basename "$task").answer"
-  case $status,$(printf '%s\n' "$answer" | wc -l) in
-    0,1) mv "$proof.new" "$proof"; echo "$task: merge" ;;
-    0,*) echo "$task: ask a person: $answer" ;;
+  printf '%s\n' "$answer" >"$name.answer"
+  case $status,$answer in
+    0,Accepted)
+      if runs_on "$task"; then echo "$task: ask a person: accepted, but it may never end"
+      else mv "$new" "$name.proof" && echo "$task: merge"; fi ;;
     1,*) echo "$task: reject: $answer" ;;
     *) echo "$task: ask a person: status $status $answer" ;;
   esac
-  rm -f "$proof.new"
+  rm -f "$new"
 done

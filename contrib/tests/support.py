@@ -17,6 +17,16 @@ FIXED = {
     "GIT_CONFIG_GLOBAL": os.devnull, "GIT_CONFIG_NOSYSTEM": "1", "GIT_TERMINAL_PROMPT": "0",
 }
 
+STAND_IN = """#!/bin/sh
+[ "$1" = print ] && exec cat "$2"
+[ "$1" = replay ] && echo '%s' && exit 2
+for word; do :; done
+proof='%s'
+[ -z "$proof" ] || printf '%%s' "$proof" >"$word" || exit
+cat "${0%%/*}/answer"
+exit %d
+"""
+
 needs_program = unittest.skipUnless(SAFEMERGE, LACKING)
 
 
@@ -69,6 +79,16 @@ class Folder(unittest.TestCase):
 
     def call(self, *words: str, **changes: str) -> Tuple[int, str]:
         return called(list(words), self.folder, **changes)
+
+    def stand_in(self, status: int, answer: str, proof: str = "",
+                 replayed: str = "Unmet") -> Dict[str, str]:
+        """What puts another program in the place of `safemerge`. It prints a task as it stands, and
+        to each `check` it gives this answer, with this text in the file PROOF if there is one."""
+        name = self.write("stand-in/safemerge", STAND_IN % (replayed, proof, status))
+        self.write("stand-in/answer", answer)
+        os.chmod(name, 0o755)
+        path = os.pathsep.join((os.path.dirname(name), CONTRIB, os.environ["PATH"]))
+        return {"PATH": path, "SAFEMERGE": name}
 
 
 class Repository(Folder):

@@ -68,7 +68,8 @@ class Driver(Driven):
     def test_an_assumption_that_a_drawn_input_meets_is_taken(self) -> None:
         status, printed = self.merged(merges.RARE)
         self.assertEqual(status, 0, printed)
-        self.assertIn("p.prog: Accepted\n", printed)
+        self.assertIn("p.prog: Accepted\nno trial meets the assumption; a drawn input does\n",
+                      printed)
 
     def test_the_driver_works_with_a_rebase_and_a_pick(self) -> None:
         self.sides(*({"p.prog": text} for text in merges.CONFLICT))
