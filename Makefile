@@ -10,7 +10,9 @@ CRATES := $(shell tac crates.txt | awk -F '[: ]+' 'BEGIN { needed["safemerge"] }
 # The program that the tests of contrib/ ask.
 SAFEMERGE ?= bin/safemerge
 
-.PHONY: all look demo test contrib-test install uninstall clean
+MAN := $(DESTDIR)$(PREFIX)/share/man
+
+.PHONY: all look demo test contrib-test install install-man uninstall clean
 
 all: bin/safemerge
 
@@ -60,14 +62,18 @@ test:
 contrib-test:
 	@cd contrib && SAFEMERGE="$(if $(findstring /,$(SAFEMERGE)),$(abspath $(SAFEMERGE)),$(SAFEMERGE))" python3 -m tests
 
-install: all
+install: all install-man
 	install -d "$(DESTDIR)$(PREFIX)/bin"
 	install -m 755 bin/safemerge "$(DESTDIR)$(PREFIX)/bin/safemerge"
-	install -d "$(DESTDIR)$(PREFIX)/share/man/man1"
-	install -m 644 docs/safemerge.1 "$(DESTDIR)$(PREFIX)/share/man/man1/safemerge.1"
+
+# The manual pages alone, for which nothing is proved.
+install-man:
+	install -d "$(MAN)/man1" "$(MAN)/man5"
+	install -m 644 docs/safemerge.1 "$(MAN)/man1/safemerge.1"
+	install -m 644 docs/safemerge-task.5 "$(MAN)/man5/safemerge-task.5"
 
 uninstall:
-	rm -f "$(DESTDIR)$(PREFIX)/bin/safemerge" "$(DESTDIR)$(PREFIX)/share/man/man1/safemerge.1"
+	rm -f "$(DESTDIR)$(PREFIX)/bin/safemerge" "$(MAN)/man1/safemerge.1" "$(MAN)/man5/safemerge-task.5"
 
 clean:
 	rm -rf bin crates/*/out examples/*/found.proof contrib/frontend/__pycache__ contrib/frontend/*/__pycache__ contrib/tests/__pycache__
