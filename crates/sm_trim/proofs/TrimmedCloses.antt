@@ -196,20 +196,24 @@ split_trims sorts facts at line way other p q count goes first second = of (need
         let one = λ (w : List BranchFact). first_bad (adds sorts) sorts (others ++ w) (suc m) (closed_up after (suc to) p) in
         let two = λ (w : List BranchFact). first_bad (adds sorts) sorts (others ++ w) (suc m + lines_in (closed_up after (suc to) p))
         (closed_up after (suc to) q) in
-        in_two (ways sorts others (moved_line (new_number moved) line)) m (λ (w v : List BranchFact). or_other (one w) (two v)) way other same
+        in_two (ways sorts others (moved_line (new_number moved) line)) m (λ (w v : List BranchFact). or_other (one w) (two v)) way other
+        same
         (both_none (one way) (two other)
         (first (others ++ way) (suc to) after (suc m) (past way long.0 others to there) lengths
         (line_stays whole (needs p) moved at to 1 facts others way count there long.0 short
-        (λ (n : ℕ) (g : needs p n ≡ true). by_second (names_fact at line n) (needs p n || needs q n) (by_first (needs p n) (needs q n) g)) serves))
+        (λ (n : ℕ) (g : needs p n ≡ true). by_second (names_fact at line n) (needs p n || needs q n) (by_first (needs p n) (needs q n) g))
+        serves))
         (second (others ++ other) (suc to) after (suc m + lines_in (closed_up after (suc to) p)) (past other long.1 others to there) lengths
         (line_stays whole (needs q) moved at to 1 facts others other count there long.1 short
-        (λ (n : ℕ) (g : needs q n ≡ true). by_second (names_fact at line n) (needs p n || needs q n) (by_second (needs p n) (needs q n) g)) serves)))
+        (λ (n : ℕ) (g : needs q n ≡ true). by_second (names_fact at line n) (needs p n || needs q n) (by_second (needs p n) (needs q n) g))
+        serves)))
       where
         both_none : (o p : Option ℕ) → o ≡ None → p ≡ None → or_other o p ≡ None
         both_none None p e f = f
         both_none (Some n) p e f = absurd cc
 
-        past : (w : List BranchFact) → length w ≡ 1 → (others : List BranchFact) (to : ℕ) → to ≡ length others → suc to ≡ length (others ++ w)
+        past : (w : List BranchFact) → length w ≡ 1 → (others : List BranchFact) (to : ℕ) → to ≡ length others →
+            suc to ≡ length (others ++ w)
         past w one others to there = let l = length-append others w in omega arith
 
 -- no line of two parts is bad
@@ -233,7 +237,8 @@ trims sorts facts at n (Closed line) count e = λ others to moved m there short 
 trims sorts facts at n (Split line c d) count e =
     let w = two_ways (ways sorts facts line) n
     (λ (way other : List BranchFact).
-    or_other (first_bad (adds sorts) sorts (facts ++ way) (suc n) c) (first_bad (adds sorts) sorts (facts ++ other) (suc n + lines_in c) d)) e in
+    or_other (first_bad (adds sorts) sorts (facts ++ way) (suc n) c) (first_bad (adds sorts) sorts (facts ++ other) (suc n + lines_in c)
+    d)) e in
     let parts = parts_none (first_bad (adds sorts) sorts (facts ++ w.0) (suc n) c)
     (first_bad (adds sorts) sorts (facts ++ w.1) (suc n + lines_in c) d) w.3 in
     let long = both_long sorts facts line w.0 w.1 w.2 in
@@ -256,7 +261,8 @@ few_splits at moved to (Next line c) =
     next goes stays = of (some_pass (facts_added line) at (needs (pruned (at + facts_added line) c)))
       where
         of : (b : Bool) →
-            splits_above (closed_up moved to (if b then LeftNext at line (pruned (at + facts_added line) c) else pruned (at + facts_added line) c))
+            splits_above (closed_up moved to (if b then LeftNext at line (pruned (at + facts_added line) c) else pruned
+            (at + facts_added line) c))
             ≤ splits_above c
         of true = stays
         of false = goes

@@ -56,7 +56,8 @@ Smaller at c p =
     (to : ℕ) (moved : List ℕ) → length moved ≤ at → to ≤ at → NumbersFall moved → IsSmaller c (closed_up moved to p)
 
 -- terms of a line that stays
-line_terms : (move : ℕ → ℕ) (line : CertificateLine) (t : Tree) → Contains (terms_named (moved_line move line)) t → Contains (terms_named line) t
+line_terms : (move : ℕ → ℕ) (line : CertificateLine) (t : Tree) → Contains (terms_named (moved_line move line)) t →
+    Contains (terms_named line) t
 line_terms move line t h = subst (λ (ts : List Tree). Contains ts t) (moved_alike move line).terms h
 
 -- those of two lists are in two longer ones
@@ -95,7 +96,8 @@ next_smaller at line c p later to moved short before fall = of (some_pass k at (
     of true = record {
       lines = let l = stays.lines in omega arith;
       terms = λ (t : Tree).
-          both_terms (terms_named (moved_line (new_number moved) line)) (terms_in (closed_up after (to + k) p)) (terms_named line) (terms_in c) t
+          both_terms (terms_named (moved_line (new_number moved) line)) (terms_in (closed_up after (to + k) p)) (terms_named line)
+          (terms_in c) t
           (line_terms (new_number moved) line t) (stays.terms t);
       few = λ (most bound : ℕ) (all : EachNamesFew most bound (Next line c)).
           (few_moved (new_number moved) fall most bound line all.0, stays.few most bound all.1);
@@ -127,7 +129,8 @@ split_smaller at line c d p q first second to moved short before fall = of (need
     of false b = record {
       lines = let l = one.lines in omega arith;
       terms = λ (t : Tree) (h : Contains (terms_in (closed_up moved to p)) t).
-          Contains-append_right (terms_named line) (terms_in c ++ terms_in d) t (Contains-append_left (terms_in c) (terms_in d) t (one.terms t h));
+          Contains-append_right (terms_named line) (terms_in c ++ terms_in d) t
+          (Contains-append_left (terms_in c) (terms_in d) t (one.terms t h));
       few = λ (most bound : ℕ) (all : EachNamesFew most bound (Split line c d)). one.few most bound all.1;
     }
     of true false = record {

@@ -1,5 +1,6 @@
 -- Each line of what is left is used.
-use Rattle.std.proofs.Common.{◌≡◌, ◌⊎◌, ◌<◌, ◌≤◌, ◌+◌, ℕ, suc, Bool, true, false, ◌&&◌, ◌||◌, if◌then◌else◌, IsTrue, List, [], length, inl, inr}
+use Rattle.std.proofs.Common.{◌≡◌, ◌⊎◌, ◌<◌, ◌≤◌, ◌+◌, ℕ, suc, Bool, true, false, ◌&&◌, ◌||◌, if◌then◌else◌, IsTrue, List, [], length, inl}
+use Rattle.std.proofs.Common.{inr}
 use Rattle.std.proofs.Common.{refl, ap, sym, ◌∙◌, subst, arith}
 use Rattle.sm_theory.specs.Lines.{CertificateLine}
 use Rattle.sm_theory.specs.Named.{facts_added}
@@ -96,7 +97,8 @@ next_uses at line p later = of (some_pass (facts_added line) at (needs p)) refl
             (ap (is_used (to + k) rest) (sym (number_there moved at to k one.0 short one.1)) ∙ u.named (at + one.0) here one.2)
 
         named_there : (n : ℕ) → n < at → new_number moved n < to → (names_fact at line n ≡ true) ⊎ (needs p n ≡ true) →
-            ((some_pass k to (is_used (to + k) rest) && names_fact to new (new_number moved n)) || is_used (to + k) rest (new_number moved n))
+            ((some_pass k to (is_used (to + k) rest) && names_fact to new (new_number moved n)) || is_used (to + k) rest
+            (new_number moved n))
             ≡ true
         named_there n less small (inl g) =
             by_first (some_pass k to (is_used (to + k) rest) && names_fact to new (new_number moved n))
@@ -128,7 +130,8 @@ part_uses at p part h to moved short there =
         by_place (Past g) = absurd (let l = less in omega arith)
 
 -- a split, or a part in its place
-split_uses : (at : ℕ) (line : CertificateLine) (p q : Pruned) → UsesAll (suc at) p → UsesAll (suc at) q → UsesAll at (with_split at line p q)
+split_uses : (at : ℕ) (line : CertificateLine) (p q : Pruned) → UsesAll (suc at) p → UsesAll (suc at) q →
+    UsesAll at (with_split at line p q)
 split_uses at line p q first second = of (needs p at) (needs q at) refl refl
   where
     of : (a b : Bool) → needs p at ≡ a → needs q at ≡ b → UsesAll at (if a then (if b then LeftSplit at line p q else q) else p)
@@ -224,4 +227,5 @@ uses_all at (Split line c d) = split_uses at line (pruned (suc at) c) (pruned (s
 -- each line of a trimmed certificate is used
 pub trimmed_is_used : (at : ℕ) (c : Certificate) → IsUsed at (closed_up [] at (pruned at c))
 trimmed_is_used at c =
-    (uses_all at c at [] (let none : 0 ≤ at = omega arith in none) (λ (n : ℕ) (less : n < at) (need : needs (pruned at c) n ≡ true). less)).used
+    (uses_all at c at [] (let none : 0 ≤ at = omega arith in none) (λ (n : ℕ) (less : n < at) (need : needs (pruned at c) n ≡ true).
+    less)).used

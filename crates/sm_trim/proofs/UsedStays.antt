@@ -2,7 +2,8 @@
 use Rattle.std.proofs.Common.{◌≡◌, ◌⊎◌, ◌≤◌, ◌+◌, ℕ, suc, Bool, true, false, ◌&&◌, ◌||◌, if◌then◌else◌, List, [], ◌∷◌, map, length}
 use Rattle.std.proofs.Common.{inl, inr, refl, ap, sym, ◌∙◌, arith}
 use Rattle.std.proofs.lemmas.Bool.{and_parts}
-use Rattle.sm_theory.specs.Lines.{CertificateLine, Both, Either, Cases, Order, Refl, Sym, Trans, Subst, Cong, Same, Apart, Hit, Miss, Lin, Elim}
+use Rattle.sm_theory.specs.Lines.{CertificateLine, Both, Either, Cases, Order, Refl, Sym, Trans, Subst, Cong, Same, Apart, Hit, Miss, Lin}
+use Rattle.sm_theory.specs.Lines.{Elim}
 use Rattle.sm_theory.specs.Lines.{Tight, Exact, Close, Clash}
 use Rattle.sm_theory.specs.Named.{facts_added}
 use Rattle.sm_theory.specs.Moved.{moved_line}
@@ -112,7 +113,8 @@ split_stays at line c d p q first second one two = of (needs p at) (needs q at) 
             by_first (names_fact at line n) (needs p n || needs q n)
             (and_parts (is_used (suc at) c at && is_used (suc at) d at) (names_fact at line n) u).1
         named n (inr u) =
-            by_second (names_fact at line n) (needs p n || needs q n) (parts (either_passes (is_used (suc at) c n) (is_used (suc at) d n) u))
+            by_second (names_fact at line n) (needs p n || needs q n) (parts
+            (either_passes (is_used (suc at) c n) (is_used (suc at) d n) u))
           where
             parts : (is_used (suc at) c n ≡ true) ⊎ (is_used (suc at) d n ≡ true) → (needs p n || needs q n) ≡ true
             parts (inl v) = by_first (needs p n) (needs q n) (first.needed n v)

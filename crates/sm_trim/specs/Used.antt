@@ -25,8 +25,9 @@ is_used at (Split line c d) n =
     let second = is_used (suc at) d in
     ((first at && second at) && names_fact at line n) || (first n || second n)
 
--- each line is used: one that closes is; one that adds facts is where a used line after it names one
--- of them; one that splits is where in either part a used line names the fact that it adds there
+-- each line is used: one that closes is; one that adds facts is where a used line after it names
+-- one of them; one that splits is where in either part a used line names the fact that it adds
+-- there
 abbrev pub IsUsed : ℕ → Certificate → Type 0
 IsUsed at (Next line c) =
     IsTrue (some_pass (facts_added line) at (is_used (at + facts_added line) c))

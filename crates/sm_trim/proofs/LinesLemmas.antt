@@ -1,0 +1,110 @@
+-- Lines one after another, the facts after them, and new numbers.
+use Rattle.std.proofs.Common.{◌≡◌, ◌<◌, ◌≤◌, ◌+◌, ◌-◌, ℕ, zero, suc, max, List, [], ◌∷◌, ◌++◌, map, length, get_or, take, drop, refl, ap}
+use Rattle.std.proofs.Common.{sym}
+use Rattle.std.proofs.Common.{◌∙◌, arith, append_assoc}
+use Rattle.std.specs.List.{range_with_len}
+use Rattle.std.proofs.lemmas.List.{length-take, take-append-le, append-nil}
+use Rattle.sm_term.specs.Terms.{Tree}
+use Rattle.sm_theory.specs.declared.line.CertLine.{CertLine}
+use Rattle.sm_theory.specs.Lines.{CertificateLine}
+use Rattle.sm_theory.specs.Named.{facts_added}
+use Rattle.sm_theory.specs.Moved.{moved_line}
+use Rattle.sm_theory.specs.Views.{line_in}
+use Rattle.sm_trim.specs.Pruned.{new_number, numbered_on}
+use Rattle.sm_trim.specs.Views.{facts_past}
+use Rattle.sm_trim.proofs.UsedStays.{same_line}
+
+-- one number more
+range_more : (a k : ℕ) → range_with_len a (suc k) ≡ range_with_len a k ++ ((a + k) ∷ [])
+range_more a zero = ap (λ (n : ℕ). n ∷ []) (let none : a ≡ a + 0 = omega arith in none)
+range_more a (suc k) =
+    ap (λ (ns : List ℕ). a ∷ ns)
+    (range_more (a + 1) k ∙ ap (λ (n : ℕ). range_with_len (a + 1) k ++ (n ∷ [])) (let same : (a + 1) + k ≡ a + suc k = omega arith in same))
+
+-- a number is put behind those so far
+pub pushed : (old now : List ℕ) (from n : ℕ) → from ≤ n → now ≡ old ++ range_with_len from (n - from) →
+    now ++ (n ∷ []) ≡ old ++ range_with_len from ((n + 1) - from)
+pushed old now from n less e =
+    let more : (n + 1) - from ≡ suc (n - from) = omega arith in
+    let here : from + (n - from) ≡ n = omega arith in
+    ap (λ (ns : List ℕ). ns ++ (n ∷ [])) e ∙ append_assoc old (range_with_len from (n - from)) (n ∷ [])
+    ∙ ap (λ (ns : List ℕ). old ++ ns)
+    (ap (λ (m : ℕ). range_with_len from (n - from) ++ (m ∷ [])) (sym here) ∙ sym (range_more from (n - from))
+    ∙ ap (range_with_len from) (sym more))
+
+-- no number yet
+pub none_pushed : (old : List ℕ) (from : ℕ) → old ≡ old ++ range_with_len from (from - from)
+none_pushed old from =
+    sym (append-nil old) ∙ ap (λ (k : ℕ). old ++ range_with_len from k) (let none : 0 ≡ from - from = omega arith in none)
+
+-- all numbers
+pub all_pushed : (old now : List ℕ) (from end n : ℕ) → from ≤ n → n ≤ max from end → end ≤ n → now ≡ old ++ range_with_len from (n - from) →
+    now ≡ old ++ range_with_len from (end - from)
+all_pushed old now from end n a b d e =
+    e ∙ ap (λ (k : ℕ). old ++ range_with_len from k) (let same : n - from ≡ end - from = omega arith in same)
+
+-- the elements from one on are the element and those after it
+pub here_on : {X : Type 0} (xs : List X) (i : ℕ) (x : X) → i < length xs → x ≡ get_or xs i x → drop i xs ≡ x ∷ drop (i + 1) xs
+here_on [] i x less e = absurd (let none = less in omega arith)
+here_on (y ∷ xs) zero x less e =
+    ap (λ (z : _). z ∷ xs) (sym e) ∙ ap (λ (k : ℕ). x ∷ drop k (y ∷ xs)) (let one : 1 ≡ 0 + 1 = omega arith in one)
+here_on (y ∷ xs) (suc i) x less e =
+    here_on xs i x (let there : i < length xs = omega arith in there) e
+    ∙ ap (λ (k : ℕ). x ∷ drop k (y ∷ xs)) (let one : suc (i + 1) ≡ suc i + 1 = omega arith in one)
+
+-- the elements up to one, and the element
+pub up_to : {X : Type 0} (xs : List X) (i : ℕ) (x : X) → i < length xs → x ≡ get_or xs i x → take (i + 1) xs ≡ take i xs ++ (x ∷ [])
+up_to [] i x less e = absurd (let none = less in omega arith)
+up_to (y ∷ xs) zero x less e =
+    ap (λ (k : ℕ). take k (y ∷ xs)) (let one : 0 + 1 ≡ 1 = omega arith in one) ∙ ap (λ (z : _). z ∷ []) (sym e)
+up_to (y ∷ xs) (suc i) x less e =
+    ap (λ (k : ℕ). take k (y ∷ xs)) (let one : suc i + 1 ≡ suc (i + 1) = omega arith in one)
+    ∙ ap (λ (zs : _). y ∷ zs) (up_to xs i x (let there : i < length xs = omega arith in there) e)
+
+-- a step over a line
+pub past_more : (trees : List Tree) (at past next : ℕ) (ls : List CertLine) (i : ℕ) (l : CertLine) → i < length ls → l ≡ get_or ls i l →
+    facts_past trees at ls ≡ facts_past trees past (drop i ls) → next ≡ past + facts_added (line_in trees l) →
+    facts_past trees at ls ≡ facts_past trees next (drop (i + 1) ls)
+past_more trees at past next ls i l less is e count =
+    e ∙ ap (facts_past trees past) (here_on ls i l less is)
+    ∙ ap (λ (n : ℕ). facts_past trees n (drop (i + 1) ls)) (sym count)
+
+-- the facts after lines and one more
+pub past_pushed : (trees : List Tree) (at : ℕ) (ls : List CertLine) (l : CertLine) →
+    facts_past trees at (ls ++ (l ∷ [])) ≡ facts_past trees at ls + facts_added (line_in trees l)
+past_pushed trees at [] l = refl
+past_pushed trees at (k ∷ ls) l = past_pushed trees (at + facts_added (line_in trees k)) ls l
+
+-- one number more of a list
+pub map_pushed : (f : ℕ → ℕ) (ns ms : List ℕ) (i n m : ℕ) → i < length ns → n ≡ get_or ns i n → m ≡ f n → ms ≡ map f (take i ns) →
+    ms ++ (m ∷ []) ≡ map f (take (i + 1) ns)
+map_pushed f ns ms i n m less is here e =
+    ap (λ (ks : List ℕ). ks ++ (m ∷ [])) e ∙ ap (λ (k : ℕ). map f (take i ns) ++ (k ∷ [])) here
+    ∙ sym (map_more (take i ns) n) ∙ ap (map f) (sym (up_to ns i n less is))
+  where
+    map_more : (ks : List ℕ) (k : ℕ) → map f (ks ++ (k ∷ [])) ≡ map f ks ++ (f k ∷ [])
+    map_more [] k = refl
+    map_more (j ∷ ks) k = ap (λ (rest : List ℕ). f j ∷ rest) (map_more ks k)
+
+-- a line moved by no numbers
+pub copied : (line : CertificateLine) → moved_line (new_number []) line ≡ line
+copied line = same_line (new_number []) (λ (n : ℕ). refl) line
+
+-- what a list begins with stays where more is put behind
+pub begins_more : (old now more : List ℕ) → take (length old) now ≡ old → take (length old) (now ++ more) ≡ old
+begins_more old now more e =
+    let l = length-take (length old) now in
+    let m : length (take (length old) now) ≡ length old = ap length e in
+    let within : length old ≤ length now = omega arith in
+    take-append-le (length old) now more within ∙ e
+
+-- also where numbers go on
+pub begins_on : (old now : List ℕ) (at to k : ℕ) → take (length old) now ≡ old → take (length old) (numbered_on now at to k) ≡ old
+begins_on old now at to k e =
+    begins_more old (now ++ range_with_len (length now) (at - length now)) (range_with_len to k)
+    (begins_more old now (range_with_len (length now) (at - length now)) e)
+
+-- and then the list alone
+pub begins_all : (old : List ℕ) → take (length old) old ≡ old
+begins_all [] = refl
+begins_all (n ∷ ns) = ap (λ (ms : List ℕ). n ∷ ms) (begins_all ns)

@@ -1,0 +1,41 @@
+-- Marks of facts, set and taken off.
+use Rattle.std.proofs.Common.{◌≡◌, ◌<◌, ◌≤◌, ◌+◌, ◌-◌, ℕ, suc, Bool, ◌||◌, List, length, ap, sym, ◌∙◌, subst, arith}
+use Rattle.sm_trim.specs.Used.{some_pass}
+use Rattle.sm_trim.specs.Views.{AreMarks, MarksMore}
+
+-- where facts that are named are marked too, the marks are those of what needs these as well
+pub marks_more : (at : ℕ) (named needed : ℕ → Bool) (xs ys : List Bool) → AreMarks at needed xs → MarksMore named xs ys →
+    AreMarks at (λ (n : ℕ). named n || needed n) ys
+marks_more at named needed xs ys marks more = (
+  more.0 ∙ marks.0,
+  λ (n : ℕ) (less : n < at).
+      more.1 n (let within : n < length xs = let l = marks.0 in omega arith in within) ∙ ap (λ (b : Bool). named n || b) (marks.1 n less),
+)
+
+-- after some marks are taken off: whether one was set, and those that are left
+abbrev pub AreTaken : ℕ → ℕ → (ℕ → Bool) → Bool → List Bool → Type 0
+AreTaken k at needed one marks = (one ≡ some_pass k at needed) × AreMarks at needed marks
+
+-- one mark more is taken off
+pub taken_more : (count left at : ℕ) (needed : ℕ → Bool) (one b : Bool) (xs ys : List Bool) → 0 < left → left ≤ count →
+    AreTaken (count - left) (at + left) needed one xs →
+    ((a : ℕ) (f : ℕ → Bool) → AreMarks (suc a) f xs → (b ≡ f a) × AreMarks a f ys) →
+    AreTaken (count - (left - 1)) (at + (left - 1)) needed (b || one) ys
+taken_more count left at needed one b xs ys some within taken take =
+    let m = at + (left - 1) in
+    let here : at + left ≡ suc m = omega arith in
+    let more : count - (left - 1) ≡ suc (count - left) = omega arith in
+    let last = take m needed (subst (λ (n : ℕ). AreMarks n needed xs) here taken.1) in (
+      ap (λ (x : Bool). x || one) last.0
+          ∙ ap (λ (x : Bool). needed m || x) (taken.0 ∙ ap (λ (n : ℕ). some_pass (count - left) n needed) here)
+          ∙ ap (λ (k : ℕ). some_pass k m needed) (sym more),
+      last.1,
+    )
+
+-- all are taken off
+pub all_taken : (count left at : ℕ) (needed : ℕ → Bool) (one : Bool) (xs : List Bool) → left ≤ 0 →
+    AreTaken (count - left) (at + left) needed one xs → AreTaken count at needed one xs
+all_taken count left at needed one xs none taken =
+    let a : count - left ≡ count = omega arith in
+    let b : at + left ≡ at = omega arith in
+    subst (λ (k : ℕ). AreTaken k at needed one xs) a (subst (λ (n : ℕ). AreTaken (count - left) n needed one xs) b taken)

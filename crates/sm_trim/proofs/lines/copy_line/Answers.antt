@@ -1,0 +1,13 @@
+use Rattle.std.proofs.Common.{◌≡◌, ◌∙◌, []}
+use Rattle.std.proofs.lemmas.Result.{IfOk-weaker}
+use Rattle.sm_theory.specs.Moved.{moved_line}
+use Rattle.sm_theory.specs.Views.{line_in}
+use Rattle.sm_trim.specs.Pruned.{new_number}
+use Rattle.sm_trim.proofs.LinesLemmas.{copied}
+use Rattle.sm_trim.proofs.lines.copy_line.Goals as goal
+
+pub returns : goal.returns
+returns c = λ trees.
+    IfOk-weaker c.moved_line.result (λ l. line_in trees l ≡ moved_line (new_number []) (line_in trees c.args.line.now))
+    (λ l. line_in trees l ≡ line_in trees c.args.line.now)
+    (λ l same. same ∙ copied (line_in trees c.args.line.now)) (c.moved_line.ensures trees)

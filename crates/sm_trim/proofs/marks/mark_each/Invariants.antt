@@ -1,0 +1,9 @@
+-- The facts so far are marked.
+use Rattle.std.proofs.Common.{nat_eq, take}
+use Rattle.std.specs.List.{list_any}
+use Rattle.sm_trim.specs.Views.{MarksMore}
+use Rattle.sm_trim.proofs.marks.mark_each.Given as goal
+
+abbrev pub invariant-loop-fact : goal.invariant-loop-fact
+invariant-loop-fact l =
+    MarksMore (λ n. list_any (nat_eq n) (take l.fact-index l.facts)) l.fn.marks.items l.marks.items

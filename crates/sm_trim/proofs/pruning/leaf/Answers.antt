@@ -1,0 +1,9 @@
+use Rattle.std.proofs.Common.{refl}
+use Rattle.sm_theory.specs.Views.{line_in}
+use Rattle.sm_trim.proofs.TreesLemmas.{leaf_leaves}
+use Rattle.sm_trim.proofs.pruning.leaf.Goals as goal
+
+pub returns : goal.returns
+returns c = λ trees.
+    leaf_leaves trees c.args.at _ (record { before = c.args.at; line = c.in_ok-line.line }) (line_in trees c.args.line.now)
+    c.in_ok-marks.marks.items c.new.ensures.items refl refl (c.in_ok-line.ensures trees) c.in_ok-marks.ensures (c.mark_line.ensures trees)
