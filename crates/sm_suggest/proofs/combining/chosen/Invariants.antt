@@ -1,0 +1,13 @@
+-- The fillings so far, and then those of the holes that are left, are all.
+use Rattle.std.proofs.Common.{◌≡◌, ◌++◌, map, drop}
+use Rattle.sm_syntax.specs.trees.Copies.{copy_named}
+use Rattle.sm_text.specs.Tasks.{lists_of}
+use Rattle.sm_suggest.specs.Combinations.{chosen}
+use Rattle.sm_suggest.proofs.CombinedLemmas.{entry}
+use Rattle.sm_suggest.proofs.combining.chosen.Given as goal
+
+abbrev pub invariant-loop-i : goal.invariant-loop-i
+invariant-loop-i l =
+    map entry l.list.items
+    ++ chosen (lists_of l.lists) (drop l.i l.holes) (map copy_named (drop l.i l.copies))
+    ≡ chosen (lists_of l.lists) l.holes (map copy_named l.copies)

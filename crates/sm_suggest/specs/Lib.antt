@@ -1,0 +1,5 @@
+pub mod Combinations
+pub mod Fit
+pub mod First
+pub mod Errors
+pub mod Laws
