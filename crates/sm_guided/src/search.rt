@@ -1,0 +1,203 @@
+// What the search has made and seen so far.
+use crate::halt::Halt;
+use crate::places::Outline;
+use crate::records::{Note, Record, Sign};
+use crate::setting::{Picked, Setting};
+use indexmap::IndexSet;
+use sm_syntax::{CopyName, PerCopy};
+use std::alloc::{AllocError, AllocFailed, Global};
+
+// How many inputs may be made beyond the stated trials.
+const MOST_MADE: u64 = 1_024;
+
+// How many steps all runs together may take.
+const SEARCH_STEPS: u64 = 200_000_000;
+
+/// A place of a copy's program and a sign: what a run is looked for to show.
+#[derive(Clone, Copy, Debug, PartialEq, Eq)]
+pub struct Target {
+    pub copy: CopyName,
+    pub place: usize,
+    pub sign: Sign,
+}
+
+/// The inputs so far, and what their runs showed.
+#[derive(Drop)]
+pub struct Search {
+    inputs: IndexSet<Vec<i128>>,
+    made: u64,
+    left: u64,
+    // Those of the last input that was run.
+    notes: PerCopy<Vec<Option<Note>>>,
+    records: PerCopy<Vec<Record>>,
+}
+
+impl Search {
+    /// No inputs.
+    pub fn new(alloc: Global, setting: &Setting<'_>) -> Result<Search, AllocError> {
+        Ok(Search {
+            inputs: IndexSet::new(alloc),
+            made: 0,
+            left: SEARCH_STEPS,
+            notes: no_notes(alloc),
+            records: no_records(alloc, &setting.outlines)?,
+        })
+    }
+
+    /// The input at a place among all, which is picked, and before which so many were made.
+    pub fn picked(
+        &self,
+        alloc: Global,
+        made: u64,
+        input: usize,
+    ) -> Result<Option<Picked>, AllocError> {
+        match self.inputs.get_index(input) {
+            None => Ok(None),
+            Some(numbers) => Ok(Some(Picked {
+                made,
+                numbers: numbers.to_vec(alloc)?,
+            })),
+        }
+    }
+
+    /// Puts an input among all: its place there, and whether it is new.
+    pub fn insert(&mut self, numbers: Vec<i128>) -> Result<(usize, bool), AllocFailed<Vec<i128>>> {
+        self.inputs.insert_full(numbers)
+    }
+
+    /// Counts a new input beyond the stated trials. The answer is how many were made before it.
+    pub fn count(&mut self) -> Result<u64, Halt> {
+        let made = self.made;
+        if MOST_MADE <= made {
+            return Err(Halt::Spent);
+        }
+        self.made = made + 1;
+        Ok(made)
+    }
+
+    /// The numbers of the input at a place among all.
+    pub fn numbers(&self, input: usize) -> Option<&[i128]> {
+        match self.inputs.get_index(input) {
+            None => None,
+            Some(numbers) => Some(numbers.as_slice()),
+        }
+    }
+
+    /// Whether no run so far visited the target's place with a difference of its sign.
+    pub fn is_open(&self, target: Target) -> bool {
+        !self.record(target).signs.has(target.sign)
+    }
+
+    /// What all runs so far show of the target's place.
+    pub fn record(&self, target: Target) -> Record {
+        let records = self.records.get(target.copy);
+        if target.place < records.len() {
+            return records[target.place];
+        }
+        Record::new()
+    }
+
+    /// The difference of the last run at the target's place.
+    pub fn noted(&self, target: Target) -> Option<i128> {
+        difference_in(self.notes.get(target.copy), target.place)
+    }
+
+    /// How many steps may still be taken.
+    pub fn left(&self) -> u64 {
+        self.left
+    }
+
+    /// Takes steps.
+    pub fn spend(&mut self, steps: u64) -> Result<(), Halt> {
+        match self.left.checked_sub(steps) {
+            None => {
+                self.left = 0;
+                Err(Halt::Spent)
+            }
+            Some(left) => {
+                self.left = left;
+                Ok(())
+            }
+        }
+    }
+
+    /// Forgets the notes of the last input that was run.
+    pub fn forget(&mut self, alloc: Global) {
+        self.notes = no_notes(alloc);
+    }
+
+    /// Keeps what a copy's run from the input at a place among all showed.
+    pub fn keep(&mut self, copy: CopyName, notes: Vec<Option<Note>>, input: usize) {
+        match copy {
+            CopyName::O => {
+                add_notes(&mut self.records.base, &notes, input);
+                self.notes.base = notes;
+            }
+            CopyName::A => {
+                add_notes(&mut self.records.variant_a, &notes, input);
+                self.notes.variant_a = notes;
+            }
+            CopyName::B => {
+                add_notes(&mut self.records.variant_b, &notes, input);
+                self.notes.variant_b = notes;
+            }
+            CopyName::M => {
+                add_notes(&mut self.records.candidate, &notes, input);
+                self.notes.candidate = notes;
+            }
+        }
+    }
+}
+
+// The notes where nothing was run.
+fn no_notes(alloc: Global) -> PerCopy<Vec<Option<Note>>> {
+    PerCopy {
+        base: Vec::new(alloc),
+        variant_a: Vec::new(alloc),
+        variant_b: Vec::new(alloc),
+        candidate: Vec::new(alloc),
+    }
+}
+
+// The records of places that no run visited.
+fn no_records(
+    alloc: Global,
+    outlines: &PerCopy<Outline>,
+) -> Result<PerCopy<Vec<Record>>, AllocError> {
+    Ok(PerCopy {
+        base: new_records(alloc, outlines.base.places())?,
+        variant_a: new_records(alloc, outlines.variant_a.places())?,
+        variant_b: new_records(alloc, outlines.variant_b.places())?,
+        candidate: new_records(alloc, outlines.candidate.places())?,
+    })
+}
+
+// The records of so many places that no run visited.
+fn new_records(alloc: Global, places: usize) -> Result<Vec<Record>, AllocError> {
+    let mut records = Vec::new(alloc);
+    for _ in 0..places {
+        records.push(Record::new())?;
+    }
+    Ok(records)
+}
+
+// Adds the notes of a run from the input at a place among all.
+fn add_notes(records: &mut Vec<Record>, notes: &[Option<Note>], input: usize) {
+    for place in 0..notes.len() {
+        if place < records.len() {
+            if let Some(note) = notes[place] {
+                records[place] = records[place].with(note, input);
+            }
+        }
+    }
+}
+
+/// The difference that is noted for a place.
+pub fn difference_in(notes: &[Option<Note>], place: usize) -> Option<i128> {
+    if place < notes.len() {
+        if let Some(note) = notes[place] {
+            return Some(note.difference);
+        }
+    }
+    None
+}
