@@ -36,7 +36,7 @@ of_conflict = record { of_command = record { not_usage = λ e. cc; not_memory = 
 pub of_unknown : WritesNothing Unknown
 of_unknown = record { of_command = record { not_usage = λ e. cc; not_memory = λ e. cc; not_sink = λ e. cc }; not_write = λ e. cc }
 
-of_refused : WritesNothing Refused
+pub of_refused : WritesNothing Refused
 of_refused = record { of_command = record { not_usage = λ e. cc; not_memory = λ e. cc; not_sink = λ e. cc }; not_write = λ e. cc }
 
 of_fault : WritesNothing ReadFault

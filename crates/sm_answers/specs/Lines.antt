@@ -1,10 +1,10 @@
 -- The lines that are printed, as bytes. Public clauses cite it.
 use Rattle.std.specs.Prelude.{ℕ, ℤ, zero, suc, Option, Some, None, Result, Ok, Err, List, [], ◌∷◌}
-use Rattle.std.specs.Prelude.{◌++◌, unwrap_or, slice_get, codes, decimal}
+use Rattle.std.specs.Prelude.{◌++◌, unwrap_or, slice_get, codes, decimal, map}
 use Rattle.std.specs.Fmt.{signed_decimal}
 use Rattle.sm_num.specs.declared.op.Op.{Op}
 use Rattle.sm_num.specs.declared.op.Op.TheVariants.{Add, Sub, Mul}
-use Rattle.sm_syntax.specs.claim.ConflictFree.{copy_of}
+use Rattle.sm_syntax.specs.claim.ConflictFree.{Copy, copy_of}
 use Rattle.sm_syntax.specs.declared.tree.Name.{Name}
 use Rattle.sm_syntax.specs.trees.Copies.{letter_of}
 use Rattle.sm_task.specs.declared.error.TaskError.{TaskError}
@@ -77,11 +77,23 @@ abbrev pub cell_text : List (List ℕ) → Name → Option ℤ → List ℕ
 cell_text names x None = name_text names x.0
 cell_text names x (Some i) = name_text names x.0 ++ codes "[" ++ signed_decimal i ++ codes "]"
 
--- the line on a trial that violates, by its number, and where
+-- the line on an input that violates, by its number among those that are made, and where
 abbrev pub trial_line : List (List ℕ) → ℕ → Name → Option ℤ → ℕ → List ℕ
 trial_line names j x i clause =
     line_of (codes "Conflict") (codes "trial" ∷ decimal j
     ∷ codes "cell" ∷ cell_text names x i ∷ codes "clause" ∷ decimal clause ∷ [])
+
+-- the line on the copies whose fillings are suggested, that of the first hole first
+abbrev pub suggestion_line : List Copy → List ℕ
+suggestion_line copies = line_of (codes "Suggest") (map letter_of copies)
+
+-- the line on a task that no combination is suggested of
+abbrev pub none_line : List ℕ
+none_line = line_of (codes "None") []
+
+-- the line on holes that are too many for a suggestion
+abbrev pub many_holes_line : ℕ → List ℕ
+many_holes_line count = line_of (codes "Refused") (codes "TooManyHoles" ∷ decimal count ∷ [])
 
 -- the line with an input's text
 abbrev pub input_line : List ℕ → List ℕ

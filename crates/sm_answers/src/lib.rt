@@ -28,7 +28,8 @@ mod verifying;
 pub use exit::Exit;
 pub use file::{input_in, task_in};
 pub use lines::{
-    coefficient_line, goal_line, put_input_line, summary_line, too_many_line, trial_line,
+    coefficient_line, goal_line, many_holes_line, none_line, put_input_line, suggestion_line,
+    summary_line, too_many_line, trial_line,
 };
 pub use proof_file::write_file;
 pub use replaying::replay;

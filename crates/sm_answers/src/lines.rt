@@ -1,14 +1,15 @@
 // The lines that are printed.
-ghost use Rattle.std.specs.Prelude.{◌≡◌, ◌≢◌, [], ◌∷◌, ◌++◌, Err, codes, decimal, IfOk, OnOk};
+ghost use Rattle.std.specs.Prelude.{◌≡◌, ◌≢◌, [], ◌∷◌, ◌++◌, Err, codes, decimal, map, IfOk, OnOk};
 ghost use Rattle.std.specs.Fmt.{signed_decimal};
 ghost use Rattle.std.specs.String.{string_bytes};
 ghost use Rattle.sm_syntax.specs.claim.ConflictFree.{copy_of};
-ghost use Rattle.sm_syntax.specs.trees.Copies.{letter_of};
+ghost use Rattle.sm_syntax.specs.trees.Copies.{copy_named, letter_of};
 ghost use Rattle.sm_words.specs.Lines.{line_of};
 ghost use Rattle.sm_answers.specs.Lines.{name_text, list_word, line_at_hole, line_at_place};
 ghost use Rattle.sm_answers.specs.Lines.{refusal_line, cell_text, goal_line, input_line};
 ghost use Rattle.sm_answers.specs.Lines.{summary_line, too_many_line, trial_line, op_word};
 ghost use Rattle.sm_answers.specs.Lines.{verdict_line, line_at_name, input_refusal_line};
+ghost use Rattle.sm_answers.specs.Lines.{many_holes_line, none_line, suggestion_line};
 
 use itoa::Buffer;
 use sm_num::Op;
@@ -196,11 +197,11 @@ fn cell_text(
     Ok(text)
 }
 
-/// The line on a trial that violates, and where.
+/// The line on an input that violates, by its number among those that are made, and where.
 pub fn trial_line(
     alloc: Global,
     names: &NameTable,
-    trial: u8,
+    trial: u64,
     name: Name,
     index: Option<i128>,
     clause: u8,
@@ -222,6 +223,34 @@ pub fn trial_line(
             part.format(clause),
         ],
     )
+}
+
+/// The line on the copies whose fillings are suggested, that of the first hole first.
+pub fn suggestion_line(alloc: Global, copies: &[CopyName]) -> Result<Vec<u8>, AllocError>
+    ensures { IfOk result (λ text. text.items ≡ suggestion_line (map copy_named copies.now)) }
+{
+    let mut text = Vec::from_slice(alloc, b"Suggest")?;
+    for copy in copies {
+        text.push(b' ')?;
+        text.extend_from_slice(copy.letter().as_bytes())?;
+    }
+    text.push(b'\n')?;
+    Ok(text)
+}
+
+/// The line on a task that no combination is suggested of.
+pub fn none_line(alloc: Global) -> Result<Vec<u8>, AllocError>
+    ensures { IfOk result (λ text. text.items ≡ none_line) }
+{
+    line(alloc, "None", &[])
+}
+
+/// The line on holes that are too many for a suggestion.
+pub fn many_holes_line(alloc: Global, count: u64) -> Result<Vec<u8>, AllocError>
+    ensures { IfOk result (λ text. text.items ≡ many_holes_line count) }
+{
+    let mut buffer = Buffer::new();
+    line(alloc, "Refused", &["TooManyHoles", buffer.format(count)])
 }
 
 /// Puts the line with an input's text after a text.

@@ -1,5 +1,6 @@
 -- Two answers to the same words and told files, each without a fault, are equal.
-use Rattle.std.proofs.Common.{◌≡◌, ◌≢◌, ◌⊎◌, ◌∷◌, ◌++◌, inl, inr, ℕ, List, [], Option, Some, None, codes, refl, sym, ap, subst, ◌∙◌}
+use Rattle.std.proofs.Common.{◌≡◌, ◌≢◌, ◌<◌, ◌∷◌, ◌++◌, inl, inr, ℕ, Bool, true, false, List, [], Option, Some, None, codes, refl, sym, ap, subst, ◌∙◌}
+use Rattle.std.proofs.Common.{arith}
 use Rattle.serde_json.specs.Data.{Members, object}
 use Rattle.serde_json.specs.Written.{compact_text}
 use Rattle.sm_io.specs.Causes.{Rose}
@@ -11,8 +12,6 @@ use Rattle.sm_replay.specs.InputText.{AreWritten}
 use Rattle.sm_replay.proofs.InputUnique.{written_one}
 use Rattle.sm_syntax.specs.text.Parts.{Parts, sort_of}
 use Rattle.sm_syntax.specs.claim.Stores.{Store}
-use Rattle.sm_text.specs.printing.Canonical.{task_pieces}
-use Rattle.sm_text.specs.printing.Pieces.{pieces_text}
 use Rattle.std.specs.Fmt.{signed_decimal}
 use Rattle.sm_gen.specs.Drawing.{edits, edit_count}
 use Rattle.sm_gen.specs.Generating.{generated}
@@ -21,12 +20,16 @@ use Rattle.sm_houdini.specs.Outcomes.{Outcome}
 use Rattle.sm_syntax.specs.claim.ConflictFree.{A, B}
 use Rattle.sm_commands.proofs.SpelledLemmas.{outcome_one}
 use Rattle.sm_commands.specs.Check.{reach_of, AnswersCheck, IsInputText, IsNote, SaysNoted, SaysOutcome, ShowsTrial}
-use Rattle.sm_commands.specs.ProofFile.{FailsToWrite}
-use Rattle.sm_commands.specs.Laws.{AreTold, AskAlike, OneAnswer, with_workers}
-use Rattle.sm_answers.specs.Lines.{goal_line, input_line, op_word, summary_line, too_many_line, trial_line}
+use Rattle.sm_commands.specs.Deeper.{AnswersTask}
+use Rattle.sm_commands.specs.Suggest.{is_accepted, AnswersSuggest, Decides, SaysSuggestion, Suggests}
+use Rattle.sm_suggest.specs.Combinations.{choices, combination, hole_count}
+use Rattle.sm_suggest.specs.First.{IsFirst}
+use Rattle.sm_syntax.specs.declared.copies.CopyName.{CopyName}
+use Rattle.sm_commands.specs.Laws.{AreTold, AskAlike, IsPlain, OneAnswer, with_workers}
+use Rattle.sm_answers.specs.Lines.{goal_line, input_line, op_word, suggestion_line, summary_line, too_many_line, trial_line}
 use Rattle.sm_answers.specs.Replay.{ReplaysInput}
-use Rattle.sm_commands.specs.Top.{Files, AnswersCommand, AnswersRequest, Checks, Generates, IsAnswerTo, Prints, Replays}
-use Rattle.sm_words.specs.Words.{Words, Asked, check, verify, replay, print, gen, asked}
+use Rattle.sm_commands.specs.Top.{canonical_text, Files, AnswersCommand, AnswersRequest, Checks, Generates, IsAnswerTo, Prints, Replays}
+use Rattle.sm_words.specs.Words.{Words, Asked, check, verify, replay, print, suggest, gen, about, asked}
 use Rattle.sm_words.specs.declared.effort.Effort.{Effort}
 use Rattle.sm_answers.specs.declared.status.Status.{Status}
 use Rattle.sm_answers.specs.declared.status.Status.TheVariants.{Accepted, Unknown, WriteFault}
@@ -82,24 +85,25 @@ check_same t effort s u l m a b =
     let one : a.outcome ≡ b.outcome = outcome_one t (reach_of effort) effort.turns a.outcome b.outcome a.found b.found in
     outcome_same t b.outcome s u l m (subst (λ (o : Outcome (ℕ × Verdict)). SaysOutcome t o s l) one a.says) b.says
 
--- an answer that isn't a fault to write
-no_write : (t : Parts) (effort : Effort) (s : Status) (l : List ℕ) → s ≢ WriteFault
-    → AnswersCheck t effort s l ⊎ FailsToWrite t effort s l → AnswersCheck t effort s l
-no_write t effort s l no_fault (inl a) = a
-no_write t effort s l no_fault (inr a) = absurd (no_fault a.says.ended)
+-- an answer that isn't a fault to write, where no inputs beyond the trials are asked for
+no_write : (t : Parts) (effort : Effort) (s : Status) (l : List ℕ) → effort.deeper ≡ false → s ≢ WriteFault
+    → AnswersTask t effort s l → AnswersCheck t effort s l
+no_write t effort s l plain no_fault (inl (inl a)) = a
+no_write t effort s l plain no_fault (inl (inr a)) = let asked = a.asked in cc
+no_write t effort s l plain no_fault (inr a) = absurd (no_fault a.says.ended)
 
-checks_same : (file : Known) (effort : Effort) (b n c m : ℕ) (s u : Status) (t v : List ℕ) → file ≢ untold → (¬ Rose b n)
+checks_same : (file : Known) (effort : Effort) (b n c m : ℕ) (s u : Status) (t v : List ℕ) → effort.deeper ≡ false → file ≢ untold → (¬ Rose b n)
     → (¬ Rose c m) → s ≢ WriteFault → u ≢ WriteFault → Checks file effort b n s t → Checks file effort c m u v → Same s t u v
-checks_same file effort b n c m s u t v told no_fault nor_later whole also (inl f) (inl g) =
+checks_same file effort b n c m s u t v plain told no_fault nor_later whole also (inl f) (inl g) =
     refused_same file b n c m s u t v told no_fault nor_later f g
-checks_same file effort b n c m s u t v told no_fault nor_later whole also (inl f) (inr g) =
+checks_same file effort b n c m s u t v plain told no_fault nor_later whole also (inl f) (inr g) =
     absurd (task_or_none file c m b n g.task s t told no_fault g.gives f)
-checks_same file effort b n c m s u t v told no_fault nor_later whole also (inr f) (inl g) =
+checks_same file effort b n c m s u t v plain told no_fault nor_later whole also (inr f) (inl g) =
     absurd (task_or_none file b n c m f.task u v told nor_later f.gives g)
-checks_same file effort b n c m s u t v told no_fault nor_later whole also (inr f) (inr g) =
+checks_same file effort b n c m s u t v plain told no_fault nor_later whole also (inr f) (inr g) =
     check_same g.task effort s u t v
     (subst (λ (p : Parts). AnswersCheck p effort s t) (task_same file b n c m f.task g.task told f.gives g.gives)
-    (no_write f.task effort s t whole f.answers)) (no_write g.task effort u v also g.answers)
+    (no_write f.task effort s t plain whole f.answers)) (no_write g.task effort u v plain also g.answers)
 
 gen_same : (seed size : ℕ) (effort : Effort) (b n c m : ℕ) (s u : Status) (t v : List ℕ) → Generates seed size effort b n s t
     → Generates seed size effort c m u v → Same s t u v
@@ -112,18 +116,70 @@ gen_same seed size effort b n c m s u t v f g =
           ∙ sym g.answers.printed,
     )
 
+-- ---- suggest
+
+-- a decision is one
+decided_same : (t : Parts) (effort : Effort) (p q : Bool) → Decides t effort p → Decides t effort q → p ≡ q
+decided_same t effort p q a b =
+    a.is ∙ ap is_accepted (outcome_one t (reach_of effort) effort.turns a.outcome b.outcome a.found b.found) ∙ sym b.is
+
+-- of two first combinations neither is before the other
+not_before : (t : Parts) (effort : Effort) (j k : ℕ) → IsFirst (λ (u : Parts) (answer : Bool). Decides u effort answer) t j
+    → IsFirst (λ (u : Parts) (answer : Bool). Decides u effort answer) t k → ¬ (j < k)
+not_before t effort j k a b before =
+    let same : true ≡ false = decided_same (combination t j) effort true false a.accepted (b.others_refused j before) in cc
+
+first_same : (t : Parts) (effort : Effort) (j k : ℕ) → IsFirst (λ (u : Parts) (answer : Bool). Decides u effort answer) t j
+    → IsFirst (λ (u : Parts) (answer : Bool). Decides u effort answer) t k → j ≡ k
+first_same t effort j k a b =
+    let nor = not_before t effort j k a b in
+    let later = not_before t effort k j b a in
+    omega (arith, nor, later)
+
+found_same : (t : Parts) (effort : Effort) (f g : Option ℕ) (s u : Status) (l m : List ℕ) → SaysSuggestion t effort f s l
+    → SaysSuggestion t effort g u m → Same s l u m
+found_same t effort None None s u l m a b = says_same refl refl a.1 b.1
+found_same t effort None (Some k) s u l m a b =
+    let same : true ≡ false =
+    decided_same (combination t k) effort true false b.0.accepted (a.0 k b.0.is_one) in cc
+found_same t effort (Some j) None s u l m a b =
+    let same : true ≡ false =
+    decided_same (combination t j) effort true false a.0.accepted (b.0 j a.0.is_one) in cc
+found_same t effort (Some j) (Some k) s u l m a b =
+    says_same refl (ap (λ (n : ℕ). suggestion_line (choices (hole_count t) n)) (first_same t effort j k a.0 b.0)) a.1 b.1
+
+suggestion_same : (t : Parts) (effort : Effort) (s u : Status) (l m : List ℕ) → AnswersSuggest t effort s l → AnswersSuggest t effort u m
+    → Same s l u m
+suggestion_same t effort s u l m (inl a) (inl b) = says_same refl refl a.1 b.1
+suggestion_same t effort s u l m (inl a) (inr b) = let many = a.0 in let few = b.0 in absurd (omega (arith, many, few))
+suggestion_same t effort s u l m (inr a) (inl b) = let few = a.0 in let many = b.0 in absurd (omega (arith, many, few))
+suggestion_same t effort s u l m (inr a) (inr b) = found_same t effort a.1 b.1 s u l m a.2 b.2
+
+suggests_same : (file : Known) (effort : Effort) (b n c m : ℕ) (s u : Status) (t v : List ℕ) → file ≢ untold → (¬ Rose b n)
+    → (¬ Rose c m) → Suggests file effort b n s t → Suggests file effort c m u v → Same s t u v
+suggests_same file effort b n c m s u t v told no_fault nor_later (inl f) (inl g) =
+    refused_same file b n c m s u t v told no_fault nor_later f g
+suggests_same file effort b n c m s u t v told no_fault nor_later (inl f) (inr g) =
+    absurd (task_or_none file c m b n g.task s t told no_fault g.gives f)
+suggests_same file effort b n c m s u t v told no_fault nor_later (inr f) (inl g) =
+    absurd (task_or_none file b n c m f.task u v told nor_later f.gives g)
+suggests_same file effort b n c m s u t v told no_fault nor_later (inr f) (inr g) =
+    suggestion_same g.task effort s u t v
+    (subst (λ (p : Parts). AnswersSuggest p effort s t) (task_same file b n c m f.task g.task told f.gives g.gives) f.answers)
+    g.answers
+
 -- ---- print
 
-prints_same : (file : Known) (b n c m : ℕ) (s u : Status) (t v : List ℕ) → file ≢ untold → (¬ Rose b n) → (¬ Rose c m)
-    → Prints file b n s t → Prints file c m u v → Same s t u v
-prints_same file b n c m s u t v told no_fault nor_later (inl f) (inl g) = refused_same file b n c m s u t v told no_fault nor_later f g
-prints_same file b n c m s u t v told no_fault nor_later (inl f) (inr g) =
+prints_same : (file : Known) (copy : Option CopyName) (b n c m : ℕ) (s u : Status) (t v : List ℕ) → file ≢ untold → (¬ Rose b n)
+    → (¬ Rose c m) → Prints file copy b n s t → Prints file copy c m u v → Same s t u v
+prints_same file copy b n c m s u t v told no_fault nor_later (inl f) (inl g) =
+    refused_same file b n c m s u t v told no_fault nor_later f g
+prints_same file copy b n c m s u t v told no_fault nor_later (inl f) (inr g) =
     absurd (task_or_none file c m b n g.task s t told no_fault g.gives f)
-prints_same file b n c m s u t v told no_fault nor_later (inr f) (inl g) =
+prints_same file copy b n c m s u t v told no_fault nor_later (inr f) (inl g) =
     absurd (task_or_none file b n c m f.task u v told nor_later f.gives g)
-prints_same file b n c m s u t v told no_fault nor_later (inr f) (inr g) =
-    says_same refl (ap (λ (p : Parts). pieces_text p.names (task_pieces p)) (task_same file b n c m f.task g.task told f.gives g.gives))
-    f.says
+prints_same file copy b n c m s u t v told no_fault nor_later (inr f) (inr g) =
+    says_same refl (ap (λ (p : Parts). canonical_text p copy) (task_same file b n c m f.task g.task told f.gives g.gives)) f.says
     g.says
 
 -- ---- replay
@@ -146,25 +202,29 @@ replays_same file input turns b n c m s u l k told given no_fault nor_later (inr
 
 -- ---- words
 
-command_same : (ask : Asked) (files : Files) (b n c m : ℕ) (s u : Status) (l k : List ℕ) → AreTold files → (¬ Rose b n) → (¬ Rose c m)
+command_same : (ask : Asked) (files : Files) (b n c m : ℕ) (s u : Status) (l k : List ℕ) → IsPlain ask → AreTold files → (¬ Rose b n) → (¬ Rose c m)
     → s ≢ WriteFault → u ≢ WriteFault → AnswersCommand ask files b n s l → AnswersCommand ask files c m u k → Same s l u k
-command_same (check task proof effort) files b n c m s u l k told no_fault nor_later whole also x y =
-    checks_same (files task) effort b n c m s u l k (told task) no_fault nor_later whole also x y
-command_same (verify task proof workers) files b n c m s u l k told no_fault nor_later whole also x y =
+command_same (check task proof effort) files b n c m s u l k plain told no_fault nor_later whole also x y =
+    checks_same (files task) effort b n c m s u l k plain (told task) no_fault nor_later whole also x y
+command_same (verify task proof workers) files b n c m s u l k plain told no_fault nor_later whole also x y =
     verifies_same (files task) (files proof) b n c m s u l k (told task) (told proof) no_fault nor_later x y
-command_same (replay task input turns) files b n c m s u l k told no_fault nor_later whole also x y =
+command_same (replay task input turns) files b n c m s u l k plain told no_fault nor_later whole also x y =
     replays_same (files task) (files input) turns b n c m s u l k (told task) (told input) no_fault nor_later x y
-command_same (print task) files b n c m s u l k told no_fault nor_later whole also x y =
-    prints_same (files task) b n c m s u l k (told task) no_fault nor_later x y
-command_same (gen seed size effort) files b n c m s u l k told no_fault nor_later whole also x y =
+command_same (print task copy) files b n c m s u l k plain told no_fault nor_later whole also x y =
+    prints_same (files task) copy b n c m s u l k (told task) no_fault nor_later x y
+command_same (suggest task effort) files b n c m s u l k plain told no_fault nor_later whole also x y =
+    suggests_same (files task) effort b n c m s u l k (told task) no_fault nor_later x y
+command_same (gen seed size effort) files b n c m s u l k plain told no_fault nor_later whole also x y =
     gen_same seed size effort b n c m s u l k x y
+command_same (about what) files b n c m s u l k plain told no_fault nor_later whole also x y = says_same refl refl x.says y.says
 
-request_same : (ask : Option Asked) (words : Words) (files : Files) (b n c m : ℕ) (s u : Status) (l k : List ℕ) → AreTold files
+request_same : (ask : Option Asked) (words : Words) (files : Files) (b n c m : ℕ) (s u : Status) (l k : List ℕ)
+    → ((given : Asked) → ask ≡ Some given → IsPlain given) → AreTold files
     → (¬ Rose b n) → (¬ Rose c m) → s ≢ WriteFault → u ≢ WriteFault → AnswersRequest ask words files b n s l
     → AnswersRequest ask words files c m u k → Same s l u k
-request_same None words files b n c m s u l k told no_fault nor_later whole also x y = says_same refl refl x.says y.says
-request_same (Some ask) words files b n c m s u l k told no_fault nor_later whole also x y =
-    command_same ask files b n c m s u l k told no_fault nor_later whole also x y
+request_same None words files b n c m s u l k plain told no_fault nor_later whole also x y = says_same refl refl x.says y.says
+request_same (Some ask) words files b n c m s u l k plain told no_fault nor_later whole also x y =
+    command_same ask files b n c m s u l k (plain ask refl) told no_fault nor_later whole also x y
 
 -- ---- workers
 
@@ -176,8 +236,20 @@ fewer_check t effort workers s l a = record { outcome = a.outcome; found = a.fou
 
 fewer_written : (t : Parts) (effort : Effort) (workers : ℕ) (s : Status) (l : List ℕ) →
     let hired : Effort = record effort { workers = workers } in
-    AnswersCheck t hired s l ⊎ FailsToWrite t hired s l → AnswersCheck t effort s l ⊎ FailsToWrite t effort s l
-fewer_written t effort workers s l (inl a) = inl (fewer_check t effort workers s l a)
+    AnswersTask t hired s l → AnswersTask t effort s l
+fewer_written t effort workers s l (inl (inl a)) = inl (inl (fewer_check t effort workers s l a))
+fewer_written t effort workers s l (inl (inr a)) =
+    inl (inr (record {
+      asked = a.asked;
+      line = a.line;
+      undecided = fewer_check t effort workers Unknown a.line a.undecided;
+      number = a.number;
+      beyond = a.beyond;
+      store = a.store;
+      violates = a.violates;
+      verdict = a.verdict;
+      shows = a.shows;
+    }))
 fewer_written t effort workers s l (inr f) = inr (record { found = f.found; says = f.says })
 
 fewer_checks : (file : Known) (effort : Effort) (workers b n : ℕ) (s : Status) (l : List ℕ) →
@@ -187,13 +259,48 @@ fewer_checks file effort workers b n s l (inl f) = inl f
 fewer_checks file effort workers b n s l (inr g) =
     inr (record { task = g.task; gives = g.gives; answers = fewer_written g.task effort workers s l g.answers })
 
+-- nor what is suggested
+fewer_decides : (t : Parts) (effort : Effort) (workers : ℕ) (answer : Bool) →
+    let hired : Effort = record effort { workers = workers } in
+    Decides t hired answer → Decides t effort answer
+fewer_decides t effort workers answer d = record { outcome = d.outcome; found = d.found; is = d.is; free = d.free }
+
+fewer_found : (t : Parts) (effort : Effort) (workers : ℕ) (found : Option ℕ) (s : Status) (l : List ℕ) →
+    let hired : Effort = record effort { workers = workers } in
+    SaysSuggestion t hired found s l → SaysSuggestion t effort found s l
+fewer_found t effort workers None s l a =
+    ((λ k lt. fewer_decides (combination t k) effort workers false (a.0 k lt)), a.1)
+fewer_found t effort workers (Some k) s l a = (
+  record {
+    is_one = a.0.is_one;
+    accepted = fewer_decides (combination t k) effort workers true a.0.accepted;
+    others_refused = λ j lt. fewer_decides (combination t j) effort workers false (a.0.others_refused j lt);
+  },
+  a.1,
+)
+
+fewer_suggestion : (t : Parts) (effort : Effort) (workers : ℕ) (s : Status) (l : List ℕ) →
+    let hired : Effort = record effort { workers = workers } in
+    AnswersSuggest t hired s l → AnswersSuggest t effort s l
+fewer_suggestion t effort workers s l (inl a) = inl a
+fewer_suggestion t effort workers s l (inr a) = inr (a.0, a.1, fewer_found t effort workers a.1 s l a.2)
+
+fewer_suggests : (file : Known) (effort : Effort) (workers b n : ℕ) (s : Status) (l : List ℕ) →
+    let hired : Effort = record effort { workers = workers } in
+    Suggests file hired b n s l → Suggests file effort b n s l
+fewer_suggests file effort workers b n s l (inl f) = inl f
+fewer_suggests file effort workers b n s l (inr g) =
+    inr (record { task = g.task; gives = g.gives; answers = fewer_suggestion g.task effort workers s l g.answers })
+
 -- nor what is answered to what is asked for
 fewer_workers : (ask : Asked) (workers : ℕ) (files : Files) (b n : ℕ) (s : Status) (l : List ℕ)
     → AnswersCommand (with_workers workers ask) files b n s l → AnswersCommand ask files b n s l
 fewer_workers (check task proof effort) workers files b n s l x = fewer_checks (files task) effort workers b n s l x
 fewer_workers (verify task proof others) workers files b n s l x = x
 fewer_workers (replay task input turns) workers files b n s l x = x
-fewer_workers (print task) workers files b n s l x = x
+fewer_workers (print task copy) workers files b n s l x = x
+fewer_workers (suggest task effort) workers files b n s l x = fewer_suggests (files task) effort workers b n s l x
+fewer_workers (about what) workers files b n s l x = x
 fewer_workers (gen seed size effort) workers files b n s l x =
     record {
       quiet = x.quiet;
@@ -216,6 +323,6 @@ alike_answers words others files b n s l (inr alike) x =
     (fewer_workers alike.0 alike.1 files b n s l given)
 
 pub answer_one : OneAnswer
-answer_one words others files before now earlier later status other line text alike told no_fault whole x nor_later also y =
-    request_same (asked words) words files before now earlier later status other line text told no_fault nor_later whole also x
+answer_one words others files before now earlier later status other line text plain alike told no_fault whole x nor_later also y =
+    request_same (asked words) words files before now earlier later status other line text plain told no_fault nor_later whole also x
     (alike_answers words others files earlier later other text alike y)

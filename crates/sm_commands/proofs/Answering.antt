@@ -1,5 +1,5 @@
 -- What answers say: where Usage is one, and what Accepted promises.
-use Rattle.std.proofs.Common.{◌≡◌, ◌≢◌, ◌⊎◌, inl, inr, ℕ, List, Option, Some, None, Result, IfOk, IfErr, refl, sym, subst, ◌∙◌}
+use Rattle.std.proofs.Common.{◌≡◌, ◌≢◌, inl, inr, ℕ, List, Option, Some, None, Result, IfOk, IfErr, refl, sym, subst, ◌∙◌}
 use Rattle.sm_io.specs.Files.{Known, WhereHeld}
 use Rattle.sm_proof.specs.declared.word.Word.{Word}
 use Rattle.sm_houdini.specs.Outcomes as outcome
@@ -12,13 +12,14 @@ use Rattle.sm_syntax.specs.text.Spells.{Spells}
 use Rattle.sm_commands.specs.Headline.{merge_file, IsSafeMerge}
 use Rattle.sm_commands.specs.Top.{Files, IsAnswerTo, AnswersCommand, AnswersRequest, AsksToVerify, Checks, Replays}
 use Rattle.sm_answers.specs.Verify.{Verifies, rejected_line, AnswersProof}
-use Rattle.sm_commands.specs.Check.{AnswersCheck, SaysOutcome}
-use Rattle.sm_commands.specs.ProofFile.{FailsToWrite}
+use Rattle.sm_commands.specs.Check.{SaysOutcome}
+use Rattle.sm_commands.specs.Deeper.{AnswersTask}
+use Rattle.sm_eval.specs.StoredValues.{meaning}
 use Rattle.sm_answers.specs.File.{GivesTask}
 use Rattle.sm_answers.specs.Status.{Says}
 use Rattle.sm_answers.specs.Replay.{ReplaysInput}
 use Rattle.sm_answers.specs.Exit.{ExitsWith}
-use Rattle.sm_words.specs.Words.{Words, Asked, check, verify, replay, print, gen, asked, usage_line, IsUsage}
+use Rattle.sm_words.specs.Words.{Words, Asked, check, verify, replay, print, suggest, gen, about, asked, usage_line, IsUsage}
 use Rattle.sm_words.specs.declared.effort.Effort.{Effort}
 use Rattle.sm_answers.specs.declared.exit.Exit.{Exit}
 use Rattle.sm_answers.specs.declared.status.Reply.{Reply}
@@ -26,7 +27,8 @@ use Rattle.sm_answers.specs.declared.status.Status.{Status}
 use Rattle.sm_answers.specs.declared.status.Status.TheVariants.{Accepted, Refused, Usage, ReadFault, Memory, SinkFault}
 use Rattle.sm_words.proofs.Usage.{usage_asks_nothing}
 use Rattle.sm_answers.proofs.Statuses.{IsOfCommand, IsToCommand, without_task, verify_to_command}
-use Rattle.sm_commands.proofs.Statuses.{check_to_command, gen_to_command, print_to_command, replay_to_command}
+use Rattle.sm_commands.proofs.Statuses.{about_to_command, check_to_command, gen_to_command, print_to_command, replay_to_command}
+use Rattle.sm_commands.proofs.Statuses.{shown_status, suggest_to_command}
 use Rattle.sm_answers.proofs.Answering.{accepted_passes, fault_not_accepted, result_by}
 
 -- only what a search accepts is accepted, and is free of conflicts
@@ -43,8 +45,10 @@ outcome_accepted t outcome.TooMany status text h e = let is = h.2.ended in cc
 
 -- an accepted task is free of conflicts
 pub accepted_is_free : (t : Parts) (effort : Effort) (status : Status) (text : List ℕ)
-    → AnswersCheck t effort status text ⊎ FailsToWrite t effort status text → status ≡ Accepted → ConflictFree (task_of t)
-accepted_is_free t effort status text (inl a) e = (outcome_accepted t a.outcome status text a.says e).1
+    → AnswersTask t effort status text → status ≡ Accepted → ConflictFree (task_of t)
+accepted_is_free t effort status text (inl (inl a)) e = (outcome_accepted t a.outcome status text a.says e).1
+accepted_is_free t effort status text (inl (inr a)) e =
+    let is = shown_status t a.number (meaning a.store) a.verdict status text a.shows in cc
 accepted_is_free t effort status text (inr a) e = let is = a.says.ended in cc
 
 -- the file that is asked of is one
@@ -93,8 +97,10 @@ asked_accepts (verify file proof workers) files before now status text a e task 
     subst (λ (f : List ℕ). WhereHeld (files f) IsSafeMerge) (same_file file task is)
     (verify_accepts (files file) (files proof) before now status text a e)
 asked_accepts (replay file input turns) files before now status text a e task is = absurd (no_file task is)
-asked_accepts (print file) files before now status text a e task is = absurd (no_file task is)
+asked_accepts (print file copy) files before now status text a e task is = absurd (no_file task is)
+asked_accepts (suggest file effort) files before now status text a e task is = absurd (no_file task is)
 asked_accepts (gen seed size effort) files before now status text a e task is = absurd (no_file task is)
+asked_accepts (about what) files before now status text a e task is = absurd (no_file task is)
 
 pub accepts : (words : Words) (files : Files) (before now : ℕ) (status : Status) (text : List ℕ)
     → IsAnswerTo words files before now status text → status ≡ Accepted →
@@ -146,8 +152,10 @@ sound words files before now status text answers = go (asked words) refl answers
         (λ n w says. other (record { to_verify = (task, proof, workers, e); number = n; word = w; says = says })))
     by (replay task input turns) e a =
         plain (replay task input turns) e (replay_to_command (files task) (files input) turns before now status text a)
-    by (print task) e a = plain (print task) e (print_to_command (files task) before now status text a)
+    by (print task copy) e a = plain (print task copy) e (print_to_command (files task) copy before now status text a)
+    by (suggest task effort) e a = plain (suggest task effort) e (suggest_to_command (files task) effort before now status text a)
     by (gen seed size effort) e a = plain (gen seed size effort) e (gen_to_command seed size effort before now status text a)
+    by (about what) e a = plain (about what) e (about_to_command what before now status text a)
 
     go : (ask : Option Asked) → asked words ≡ ask → AnswersRequest ask words files before now status text → IsSound words before now status text
     go None e a =

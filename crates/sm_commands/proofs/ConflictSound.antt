@@ -1,5 +1,5 @@
 -- What Conflict says: the task isn't free of conflicts, and the input that is printed or was given shows it.
-use Rattle.std.proofs.Common.{◌≡◌, ◌≢◌, ◌⊎◌, inl, inr, ℕ, ◌++◌, List, Option, Some, None, Result, Ok, Err, sym, subst, ◌∙◌}
+use Rattle.std.proofs.Common.{◌≡◌, ◌≢◌, inl, inr, ℕ, ◌++◌, List, Option, Some, None, Result, Ok, Err, sym, subst, ◌∙◌}
 use Rattle.sm_io.specs.Files.{Known, WhereHeld}
 use Rattle.sm_replay.specs.Trials.{trial}
 use Rattle.sm_replay.specs.Verdicts.{cell_of, Judges}
@@ -21,12 +21,14 @@ use Rattle.sm_houdini.specs.Outcomes.{Outcome, IsOutcome}
 use Rattle.sm_houdini.proofs.OutcomeLemmas.{conflict_least}
 use Rattle.sm_commands.specs.Top.{Files, IsAnswerTo, AnswersCommand, Checks, Prints, Replays}
 use Rattle.sm_answers.specs.Verify.{Verifies, AnswersProof}
-use Rattle.sm_commands.specs.Check.{reach_of, AnswersCheck, IsInputText, SaysOutcome}
+use Rattle.sm_commands.specs.Check.{reach_of, IsInputText, SaysOutcome, ShowsFrom}
 use Rattle.sm_answers.specs.Lines.{input_line, trial_line}
-use Rattle.sm_commands.specs.ProofFile.{FailsToWrite}
+use Rattle.sm_commands.specs.Deeper.{AnswersTask}
+use Rattle.sm_commands.specs.Suggest.{AnswersSuggest, SaysSuggestion, Suggests}
+use Rattle.sm_syntax.specs.declared.copies.CopyName.{CopyName}
 use Rattle.sm_answers.specs.File.{GivesTask}
 use Rattle.sm_answers.specs.Replay.{verdict_status, GivesInput, GivesNoInput, ReplaysInput}
-use Rattle.sm_words.specs.Words.{Words, Asked, check, verify, replay, print, gen, asked, task_file}
+use Rattle.sm_words.specs.Words.{Words, Asked, check, verify, replay, print, suggest, gen, about, asked, task_file}
 use Rattle.sm_words.specs.declared.effort.Effort.{Effort}
 use Rattle.sm_answers.specs.declared.status.Status.{Status}
 use Rattle.sm_answers.specs.declared.status.Status.TheVariants.{Conflict}
@@ -47,42 +49,49 @@ proof_no_conflict : (t : Parts) (file : Known) (before now : ℕ) (status : Stat
 proof_no_conflict t file before now status text (inl f) e = let is = f.says.ended in cc
 proof_no_conflict t file before now status text (inr c) e = answered_no_conflict c.answer (sym c.says.ended ∙ e)
 
--- what an answer by a search with the status Conflict says: a trial that violates, with its input
+-- what an answer to a task with the status Conflict says: a store from which it is violated, with its input
 pub record IsShown (t : Parts) (turns : ℕ) (text : List ℕ) : Type 0 where
-  pub number : ℕ
-  pub violates : Violates (task_of t) (trial (sort_of t.declared) number) turns
+  pub store : Store
+  pub violates : Violates (task_of t) store turns
   pub front : List ℕ
   pub input : List ℕ
-  pub shown : IsInputText t (trial (sort_of t.declared) number) input
+  pub shown : IsInputText t store input
   pub printed : text ≡ front ++ input_line input
 
-outcome_conflict : (t : Parts) (reach : Reach) (turns : ℕ) (o : Outcome (ℕ × Verdict)) (status : Status) (text : List ℕ)
-    → IsOutcome t reach turns o → SaysOutcome t o status text → status ≡ Conflict → IsShown t turns text
-outcome_conflict t reach turns outcome.Accepted status text is h e = let s = h.1.2.ended in cc
-outcome_conflict t reach turns (outcome.Conflict (j, verdict.Holds)) status text is h e = absurd h
-outcome_conflict t reach turns (outcome.Conflict (j, verdict.Unmet)) status text is h e = absurd h
-outcome_conflict t reach turns (outcome.Conflict (j, verdict.Violates x i clause)) status text is h e = record {
-  number = j;
-  violates = (conflict_least t reach turns (j, verdict.Violates x i clause) is).violates;
+shown_from : (t : Parts) (turns j : ℕ) (s : Store) (v : Verdict) (status : Status) (text : List ℕ) → Violates (task_of t) s turns
+    → ShowsFrom t j s v status text → IsShown t turns text
+shown_from t turns j s verdict.Holds status text violates h = absurd h
+shown_from t turns j s verdict.Unmet status text violates h = absurd h
+shown_from t turns j s (verdict.Violates x i clause) status text violates h = record {
+  store = s;
+  violates = violates;
   front = trial_line t.names j x i clause;
   input = h.0;
   shown = h.1;
   printed = h.2.printed;
 }
+
+outcome_conflict : (t : Parts) (reach : Reach) (turns : ℕ) (o : Outcome (ℕ × Verdict)) (status : Status) (text : List ℕ)
+    → IsOutcome t reach turns o → SaysOutcome t o status text → status ≡ Conflict → IsShown t turns text
+outcome_conflict t reach turns outcome.Accepted status text is h e = let s = h.1.2.ended in cc
+outcome_conflict t reach turns (outcome.Conflict f) status text is h e =
+    shown_from t turns f.0 (trial (sort_of t.declared) f.0) f.1 status text (conflict_least t reach turns f is).violates h
 outcome_conflict t reach turns (outcome.Open node goal) status text is h e = let s = h.2.ended in cc
 outcome_conflict t reach turns (outcome.Steps node goal) status text is h e = let s = h.2.ended in cc
 outcome_conflict t reach turns (outcome.Coefficient node goal op y z) status text is h e = let s = h.2.ended in cc
 outcome_conflict t reach turns outcome.TooMany status text is h e = let s = h.2.ended in cc
 
 pub checked_conflict : (t : Parts) (effort : Effort) (status : Status) (text : List ℕ)
-    → AnswersCheck t effort status text ⊎ FailsToWrite t effort status text → status ≡ Conflict → IsShown t effort.turns text
-checked_conflict t effort status text (inl a) e =
+    → AnswersTask t effort status text → status ≡ Conflict → IsShown t effort.turns text
+checked_conflict t effort status text (inl (inl a)) e =
     outcome_conflict t (reach_of effort) effort.turns a.outcome status text a.found a.says e
+checked_conflict t effort status text (inl (inr a)) e =
+    shown_from t effort.turns a.number (meaning a.store) a.verdict status text a.violates a.shows
 checked_conflict t effort status text (inr a) e = let s = a.says.ended in cc
 
 -- such a task isn't free of conflicts
 pub shown_conflict : (t : Parts) (turns : ℕ) (text : List ℕ) → IsShown t turns text → ¬ ConflictFree (task_of t)
-shown_conflict t turns text s = violation_conflicts (task_of t) (trial (sort_of t.declared) s.number) turns s.violates
+shown_conflict t turns text s = violation_conflicts (task_of t) s.store turns s.violates
 
 -- a verdict that is a conflict is that of a store from which the task is violated
 pub judged_violates : (t : Parts) (s : Store) (turns : ℕ) (r : Result Verdict ReplayError) → Judges (task_of t) s turns r
@@ -144,10 +153,25 @@ replay_conflicts file input turns before now status text (inl f) e = absurd ((wi
 replay_conflicts file input turns before now status text (inr c) e =
     unsafe_where file before c.between c.task c.gives (replayed_conflict c.task input turns c.between now status text c.answers e)
 
-pub print_no_conflict : (file : Known) (before now : ℕ) (status : Status) (text : List ℕ) → Prints file before now status text
+pub print_no_conflict : (file : Known) (copy : Option CopyName) (before now : ℕ) (status : Status) (text : List ℕ)
+    → Prints file copy before now status text → status ≢ Conflict
+print_no_conflict file copy before now status text (inl f) e = (without_task file before now status text f).not_conflict e
+print_no_conflict file copy before now status text (inr c) e = let is = c.says.ended in cc
+
+-- nothing that is suggested is a conflict
+pub suggested_no_conflict : (t : Parts) (effort : Effort) (status : Status) (text : List ℕ) → AnswersSuggest t effort status text
     → status ≢ Conflict
-print_no_conflict file before now status text (inl f) e = (without_task file before now status text f).not_conflict e
-print_no_conflict file before now status text (inr c) e = let is = c.says.ended in cc
+suggested_no_conflict t effort status text (inl h) e = let is = h.1.ended in cc
+suggested_no_conflict t effort status text (inr h) e = go h.1 h.2
+  where
+    go : (found : Option ℕ) → SaysSuggestion t effort found status text → ⊥
+    go None s = let is = s.1.ended in cc
+    go (Some k) s = let is = s.1.ended in cc
+
+pub suggest_no_conflict : (file : Known) (effort : Effort) (before now : ℕ) (status : Status) (text : List ℕ)
+    → Suggests file effort before now status text → status ≢ Conflict
+suggest_no_conflict file effort before now status text (inl f) e = (without_task file before now status text f).not_conflict e
+suggest_no_conflict file effort before now status text (inr c) e = suggested_no_conflict c.task effort status text c.answers e
 
 asked_conflicts : (ask : Asked) (files : Files) (before now : ℕ) (status : Status) (text : List ℕ)
     → AnswersCommand ask files before now status text → status ≡ Conflict → (task : List ℕ) → task_file ask ≡ Some task
@@ -160,9 +184,12 @@ asked_conflicts (verify file proof workers) files before now status text a e tas
 asked_conflicts (replay file input turns) files before now status text a e task is =
     subst (λ (f : List ℕ). WhereHeld (files f) IsUnsafeMerge) (same_file file task is)
     (replay_conflicts (files file) (files input) turns before now status text a e)
-asked_conflicts (print file) files before now status text a e task is =
-    absurd (print_no_conflict (files file) before now status text a e)
+asked_conflicts (print file copy) files before now status text a e task is =
+    absurd (print_no_conflict (files file) copy before now status text a e)
+asked_conflicts (suggest file effort) files before now status text a e task is =
+    absurd (suggest_no_conflict (files file) effort before now status text a e)
 asked_conflicts (gen seed size effort) files before now status text a e task is = absurd (no_file task is)
+asked_conflicts (about what) files before now status text a e task is = absurd (no_file task is)
 
 pub conflicts : (words : Words) (files : Files) (before now : ℕ) (status : Status) (text : List ℕ)
     → IsAnswerTo words files before now status text → status ≡ Conflict → (ask : Asked) (task : List ℕ) → asked words ≡ Some ask
@@ -188,7 +215,7 @@ checked_shows file effort before now status text (inr c) e =
       s.front,
       s.input,
       s.printed,
-      violated_from file before now c.task c.gives (trial (sort_of c.task.declared) s.number) s.input effort.turns s.shown s.violates,
+      violated_from file before now c.task c.gives s.store s.input effort.turns s.shown s.violates,
     )
 
 pub shows : (words : Words) (files : Files) (before now : ℕ) (status : Status) (text : List ℕ)

@@ -1,5 +1,5 @@
 -- No command writes over what it reads.
-use Rattle.std.proofs.Common.{◌≡◌, ◌≢◌, ℕ, true, false, if◌then◌else◌, Bool, true≢false, sym, subst, ◌∙◌, List, [], ◌∷◌, Option, Some, None}
+use Rattle.std.proofs.Common.{◌≡◌, ℕ, true, false, if◌then◌else◌, Bool, true≢false, sym, subst, ◌∙◌, List, [], ◌∷◌, Option, Some, None}
 use Rattle.std.proofs.Common.{codes, refl, option_map}
 use Rattle.std.specs.Prelude.{option_and_then}
 use Rattle.std.specs.Str.{bytes_eq}
@@ -7,11 +7,12 @@ use Rattle.std.proofs.lemmas.Slice.Eq.{bytes_eq-Decides}
 use Rattle.clap.specs.Walk.{Text}
 use Rattle.sm_commands.specs.Top.{WritesElsewhere}
 use Rattle.sm_words.specs.declared.effort.Effort.{Effort}
-use Rattle.sm_words.specs.Numbers.{seed_by, size_by, turns_by, workers_by}
-use Rattle.sm_words.specs.Words.{Words, Asked, check, verify, replay, print, gen, word_faults, asked, asked_by, asked_where, check_by}
+use Rattle.sm_syntax.specs.declared.copies.CopyName.{CopyName}
+use Rattle.sm_words.specs.Numbers.{copy_by, seed_by, size_by, turns_by, workers_by}
+use Rattle.sm_words.specs.Words.{Words, Asked, check, verify, replay, print, suggest, gen, about, word_faults, asked, asked_by, asked_where, check_by}
 use Rattle.sm_words.specs.Words.{argument_text, effort_in, verb_of, unless}
 use Rattle.sm_words.specs.declared.command.Verb.{Verb}
-use Rattle.sm_words.specs.declared.command.Verb.TheVariants.{Check, Verify, Replay, Print, Gen}
+use Rattle.sm_words.specs.declared.command.Verb.TheVariants.{Check, Verify, Replay, Print, Suggest, Gen, About}
 
 same_ask : (p q : Asked) → Some p ≡ Some q → p ≡ q
 same_ask p q e = cc
@@ -60,11 +61,22 @@ other_elsewhere Replay words ask e =
     replay_elsewhere (Some t) (Some i) None workers ask e = absurd (no_ask ask e)
     replay_elsewhere (Some t) (Some i) (Some n) None ask e = absurd (no_ask ask e)
     replay_elsewhere (Some t) (Some i) (Some n) (Some w) ask e = subst WritesElsewhere (same_ask (replay t i n) ask e) tt
-other_elsewhere Print words ask e = print_elsewhere (argument_text Print (codes "TASK") words) ask e
+other_elsewhere Print words ask e =
+    print_elsewhere (argument_text Print (codes "TASK") words) (copy_by (argument_text Print (codes "copy") words)) ask e
   where
-    print_elsewhere : (task : Option Text) (ask : Asked) → option_map (λ (t : Text). print t) task ≡ Some ask → WritesElsewhere ask
-    print_elsewhere None ask e = absurd (no_ask ask e)
-    print_elsewhere (Some t) ask e = subst WritesElsewhere (same_ask (print t) ask e) tt
+    print_elsewhere : (task : Option Text) (copy : Option (Option CopyName)) (ask : Asked)
+        → option_and_then (λ (t : Text). option_map (λ (c : Option CopyName). print t c) copy) task ≡ Some ask → WritesElsewhere ask
+    print_elsewhere None copy ask e = absurd (no_ask ask e)
+    print_elsewhere (Some t) None ask e = absurd (no_ask ask e)
+    print_elsewhere (Some t) (Some c) ask e = subst WritesElsewhere (same_ask (print t c) ask e) tt
+other_elsewhere Suggest words ask e = suggest_elsewhere (argument_text Suggest (codes "TASK") words) (effort_in Suggest words) ask e
+  where
+    suggest_elsewhere : (task : Option Text) (effort : Option Effort) (ask : Asked)
+        → option_and_then (λ (t : Text). option_map (λ (e : Effort). suggest t e) effort) task ≡ Some ask → WritesElsewhere ask
+    suggest_elsewhere None effort ask e = absurd (no_ask ask e)
+    suggest_elsewhere (Some t) None ask e = absurd (no_ask ask e)
+    suggest_elsewhere (Some t) (Some f) ask e = subst WritesElsewhere (same_ask (suggest t f) ask e) tt
+other_elsewhere (About what) words ask e = subst WritesElsewhere (same_ask (about what) ask e) tt
 other_elsewhere Gen words ask e =
     gen_elsewhere (seed_by (argument_text Gen (codes "SEED") words)) (size_by (argument_text Gen (codes "SIZE") words))
     (effort_in Gen words) ask e

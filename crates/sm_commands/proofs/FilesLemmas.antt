@@ -13,22 +13,25 @@ use Rattle.sm_text.proofs.Complete.Tasks as text
 use Rattle.sm_write.specs.Versions.{HasVersion}
 use Rattle.sm_commands.proofs.SpelledLemmas.{outcome_one}
 use Rattle.sm_commands.specs.Check.{reach_of, AnswersCheck, SaysOutcome}
+use Rattle.sm_commands.specs.Deeper.{AnswersDeeper, AnswersTask}
 use Rattle.sm_answers.specs.Exit.{ExitsWith}
 use Rattle.sm_answers.specs.File.{file_limit, GivesNoTask, GivesTask}
-use Rattle.sm_commands.specs.ProofFile.{FailsToWrite, HoldsFront, HoldsProof, IsTaskIn, LeavesCut, LeavesFront, LeavesProof, LeftBy}
+use Rattle.sm_commands.specs.ProofFile.{HoldsFront, HoldsProof, IsTaskIn, LeavesCut, LeavesFront, LeavesProof, LeftBy}
 use Rattle.sm_commands.specs.ProofFile.{LeftCut}
 use Rattle.sm_answers.specs.ProofFile.{IsBegun}
 use Rattle.sm_answers.specs.Status.{Says}
 use Rattle.sm_commands.specs.Top.{Files, Checks, LeavesBy, LeavesFiles, LeavesPart, LeavesPartBy}
 use Rattle.sm_commands.specs.Views.{CountsWrites, EndsWith}
-use Rattle.sm_words.specs.Words.{Asked, check, verify, replay, print, gen}
+use Rattle.sm_words.specs.Words.{Asked, check, verify, replay, print, suggest, gen, about}
 use Rattle.sm_words.specs.declared.effort.Effort.{Effort}
 use Rattle.sm_answers.specs.declared.exit.Exit.{Exit}
 use Rattle.sm_answers.specs.declared.exit.Exit.TheVariants as stopped
 use Rattle.sm_answers.specs.declared.status.Reply.{Reply}
 use Rattle.sm_answers.specs.declared.status.Status.{Status}
-use Rattle.sm_answers.specs.declared.status.Status.TheVariants.{Accepted, WriteFault}
+use Rattle.sm_answers.specs.declared.status.Status.TheVariants.{Accepted, Unknown, WriteFault}
 use Rattle.sm_commands.proofs.Answering.{outcome_accepted}
+use Rattle.sm_commands.proofs.Statuses.{shown_status}
+use Rattle.sm_eval.specs.StoredValues.{meaning}
 use Rattle.sm_answers.proofs.Statuses.{without_task}
 
 -- ---- results of commands
@@ -138,8 +141,10 @@ same_by (Some (check task proof effort)) before now s h name never =
     h.0 name (λ e. never task effort (ap (λ (p : List ℕ). Some (check task p effort)) (sym e)))
 same_by (Some (verify task proof workers)) before now s h name never = h name
 same_by (Some (replay task input turns)) before now s h name never = h name
-same_by (Some (print task)) before now s h name never = h name
+same_by (Some (print task copy)) before now s h name never = h name
+same_by (Some (suggest task effort)) before now s h name never = h name
 same_by (Some (gen seed size effort)) before now s h name never = h name
+same_by (Some (about what)) before now s h name never = h name
 
 pub same_part : (o : Option Asked) (before now : Files) → LeavesPartBy o before now → (name : List ℕ)
     → ((task : List ℕ) (effort : Effort) → o ≢ Some (check task name effort)) → now name ≡ before name
@@ -148,8 +153,10 @@ same_part (Some (check task proof effort)) before now h name never =
     h.0 name (λ e. never task effort (ap (λ (p : List ℕ). Some (check task p effort)) (sym e)))
 same_part (Some (verify task proof workers)) before now h name never = h name
 same_part (Some (replay task input turns)) before now h name never = h name
-same_part (Some (print task)) before now h name never = h name
+same_part (Some (print task copy)) before now h name never = h name
+same_part (Some (suggest task effort)) before now h name never = h name
 same_part (Some (gen seed size effort)) before now h name never = h name
+same_part (Some (about what)) before now h name never = h name
 
 -- what is left in the file of the proof that `check` is asked for
 pub left_by : (o : Option Asked) (before now : Files) (s : Status) (task proof : List ℕ) (effort : Effort)
@@ -199,42 +206,49 @@ kept_whole bytes effort b n before now s line old new t no_write no_read cause f
         let w = leaves_whole (holds bytes) s old new e left in
         subst (λ (u : Parts). HoldsProof u old new) (one_spelled bytes w.0 t (w.1 bytes refl) spells) w.2
 
-    go : AnswersCheck c.task effort s line ⊎ FailsToWrite c.task effort s line → HoldsProof t old new
-    go (inl a) =
+    -- the answer to it is Accepted
+    decided : (u : Status) (text : List ℕ) → AnswersCheck c.task effort u text → u ≡ Accepted
+    decided u text a =
         let one : a.outcome ≡ outcome.Accepted =
         outcome_one t (reach_of effort) effort.turns a.outcome outcome.Accepted
-        (subst (λ (u : Parts). IsOutcome u (reach_of effort) effort.turns a.outcome) same a.found) accepted in
-        whole (accepted_status c.task s line (subst (λ (o : Outcome (ℕ × Verdict)). SaysOutcome c.task o s line) one a.says))
+        (subst (λ (p : Parts). IsOutcome p (reach_of effort) effort.turns a.outcome) same a.found) accepted in
+        accepted_status c.task u text (subst (λ (o : Outcome (ℕ × Verdict)). SaysOutcome c.task o u text) one a.says)
+
+    go : AnswersTask c.task effort s line → HoldsProof t old new
+    go (inl (inl a)) = whole (decided s line a)
+    go (inl (inr a)) = let unknown = decided Unknown a.line a.undecided in cc
     go (inr a) = absurd (no_write (cause.rose a.says.ended))
 
 -- ---- `check` of a task
 
 -- the answer to a task that is accepted, once its proof was to be written
-pub written_answers : (t : Parts) (effort : Effort) (s u : Status) (l m : List ℕ) (P Q : Type 0) → AnswersCheck t effort s l → s ≡ Accepted
-    → (Says s l u m × P) ⊎ (Says WriteFault (codes "WriteFault\n") u m × Q) → AnswersCheck t effort u m ⊎ FailsToWrite t effort u m
+pub written_answers : (t : Parts) (effort : Effort) (s u : Status) (l m : List ℕ) (P Q : Type 0) → AnswersDeeper t effort s l → s ≡ Accepted
+    → (Says s l u m × P) ⊎ (Says WriteFault (codes "WriteFault\n") u m × Q) → AnswersTask t effort u m
 written_answers t effort s u l m P Q a e (inl h) =
-    inl (subst (λ (x : Status). AnswersCheck t effort x m) (sym h.0.ended)
-    (subst (λ (x : List ℕ). AnswersCheck t effort s x) (sym h.0.printed) a))
-written_answers t effort s u l m P Q a e (inr h) = inr (record {
+    inl (subst (λ (x : Status). AnswersDeeper t effort x m) (sym h.0.ended)
+    (subst (λ (x : List ℕ). AnswersDeeper t effort s x) (sym h.0.printed) a))
+written_answers t effort s u l m P Q (inl a) e (inr h) = inr (record {
   found =
       subst (λ (o : Outcome (ℕ × Verdict)). IsOutcome t (reach_of effort) effort.turns o) (outcome_accepted t a.outcome s l a.says e).0 a.found;
   says = h.0;
 })
+written_answers t effort s u l m P Q (inr a) e (inr h) =
+    let is = shown_status t a.number (meaning a.store) a.verdict s l a.shows in cc
 
 pub written_cut : (t : Parts) (old new : Known) (proof : List ℕ) → Passes t proof → HasVersion t proof → IsBegun proof old new
     → LeftCut t old new
-written_cut t old new proof passes version (inl e) = inl e
-written_cut t old new proof passes version (inr (inl e)) = inr (inl e)
-written_cut t old new proof passes version (inr (inr h)) =
-    inr (inr (record { proof = proof; passes = passes; version = version; count = h.0; part = h.1; holds = h.2 }))
+written_cut t old new proof passes dated (inl e) = inl e
+written_cut t old new proof passes dated (inr (inl e)) = inr (inl e)
+written_cut t old new proof passes dated (inr (inr h)) =
+    inr (inr (record { proof = proof; passes = passes; version = dated; count = h.0; part = h.1; holds = h.2 }))
 
 pub written_left : (t : Parts) (s u : Status) (l m : List ℕ) (old new : Known) (proof : List ℕ) → s ≡ Accepted → Passes t proof
     → HasVersion t proof
     → (Says s l u m × (new ≡ longer (emptied old) proof)) ⊎ (Says WriteFault (codes "WriteFault\n") u m × IsBegun proof old new)
     → LeftBy t u old new
-written_left t s u l m old new proof e passes version (inl h) =
-    inl (h.0.ended ∙ e, record { proof = proof; passes = passes; version = version; holds = h.1 })
-written_left t s u l m old new proof e passes version (inr h) = inr (inl (h.0.ended, written_cut t old new proof passes version h.1))
+written_left t s u l m old new proof e passes dated (inl h) =
+    inl (h.0.ended ∙ e, record { proof = proof; passes = passes; version = dated; holds = h.1 })
+written_left t s u l m old new proof e passes dated (inr h) = inr (inl (h.0.ended, written_cut t old new proof passes dated h.1))
 
 -- ---- what `check` leaves
 

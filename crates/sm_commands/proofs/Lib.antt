@@ -1,9 +1,11 @@
 pub mod Elsewhere
 pub mod Statuses
 pub mod Answering
+pub mod SuggestedSafe
 pub mod ConflictSound
 pub mod Verified
 pub mod AnswerUnique
 pub mod FilesLemmas
 pub mod SpelledLemmas
 pub mod ReadingsLemmas
+pub mod PrintedLemmas

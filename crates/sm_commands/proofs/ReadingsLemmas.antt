@@ -11,12 +11,13 @@ use Rattle.sm_syntax.specs.claim.Stores.{Store}
 use Rattle.sm_syntax.specs.text.Parts.{Parts, task_of}
 use Rattle.sm_answers.specs.Exit.{ExitsWith}
 use Rattle.sm_answers.specs.File.{GivesNoTask}
-use Rattle.sm_commands.specs.HeadlineRead.{AcceptsRead, ConflictsRead, ReadsProved, ShowsReadInput}
-use Rattle.sm_commands.specs.Readings.{AnswersByReads, ChecksRead, ReplaysRead, RunsRead}
+use Rattle.sm_commands.specs.HeadlineRead.{AcceptsRead, ConflictsRead, ReadsProved, ShowsReadInput, SuggestsRead}
+use Rattle.sm_commands.proofs.SuggestedSafe.{accepted_suggestion}
+use Rattle.sm_commands.specs.Readings.{AnswersByReads, ChecksRead, ProposesRead, ReplaysRead, RunsRead}
 use Rattle.sm_answers.specs.Readings.{ReadsInput, ReadsTask, VerifiesRead}
 use Rattle.sm_answers.specs.Replay.{AnswersReplay, GivesNoInput}
 use Rattle.sm_commands.specs.Top.{AnswersCommand, Files, IsAnswerTo}
-use Rattle.sm_words.specs.Words.{Words, Asked, check as to_check, verify, replay, print, gen, asked}
+use Rattle.sm_words.specs.Words.{Words, Asked, check as to_check, verify, replay, print, suggest, gen, about, asked}
 use Rattle.sm_words.specs.declared.effort.Effort.{Effort}
 use Rattle.sm_answers.specs.declared.exit.Exit.{Exit}
 use Rattle.sm_answers.specs.declared.status.Reply.{Reply}
@@ -25,7 +26,7 @@ use Rattle.sm_answers.specs.declared.status.Status.TheVariants.{Accepted, Confli
 use Rattle.sm_commands.proofs.Answering.{accepted_is_free}
 use Rattle.sm_answers.proofs.Answering.{result_by, stops_by}
 use Rattle.sm_commands.proofs.ConflictSound.{checked_conflict, judged_violates, no_input_no_conflict, print_no_conflict, shown_conflict}
-use Rattle.sm_commands.proofs.ConflictSound.{verify_no_conflict}
+use Rattle.sm_commands.proofs.ConflictSound.{suggest_no_conflict, verify_no_conflict}
 use Rattle.sm_answers.proofs.Statuses.{without_task}
 
 -- a task that was read, after what was read is written otherwise
@@ -38,6 +39,13 @@ pub none_checked : (name : List ℕ) (effort : Effort) (before now : List Read) 
     ExitsWith (GivesNoTask file b n) stop → ExitsWith (ChecksRead name effort before now) stop
 none_checked name effort before now file b n stop =
     stops_by (GivesNoTask file b n) (ChecksRead name effort before now)
+    (λ status text none.
+    let is = without_task file b n status text none in inl ((λ e. is.not_accepted e), (λ e. is.not_conflict e))) stop
+
+pub none_proposed : (name : List ℕ) (effort : Effort) (before now : List Read) (file : Known) (b n : ℕ) (stop : Exit) →
+    ExitsWith (GivesNoTask file b n) stop → ExitsWith (ProposesRead name effort before now) stop
+none_proposed name effort before now file b n stop =
+    stops_by (GivesNoTask file b n) (ProposesRead name effort before now)
     (λ status text none.
     let is = without_task file b n status text none in inl ((λ e. is.not_accepted e), (λ e. is.not_conflict e))) stop
 
@@ -89,8 +97,10 @@ accepted_by (verify task proof workers) before now status text a e =
       ),
     )
 accepted_by (replay task input turns) before now status text a e = tt
-accepted_by (print task) before now status text a e = tt
+accepted_by (print task copy) before now status text a e = tt
+accepted_by (suggest task effort) before now status text a e = tt
 accepted_by (gen seed size effort) before now status text a e = tt
+accepted_by (about what) before now status text a e = tt
 
 pub accepts_read : (words : Words) (before now : List Read) (status : Status) (text : List ℕ) →
     AnswersByReads (asked words) before now status text → status ≡ Accepted → (ask : Asked) → asked words ≡ Some ask →
@@ -142,7 +152,11 @@ conflict_by (replay task input turns) files b n before now status text answers a
         (v.0, v.2.spells, (v.3.store, v.3.input.gives, v.3.violates)),
       ),
     )
-conflict_by (print task) files b n before now status text answers a e = print_no_conflict (files task) b n status text answers e
+conflict_by (print task copy) files b n before now status text answers a e =
+    print_no_conflict (files task) copy b n status text answers e
+conflict_by (suggest task effort) files b n before now status text answers a e =
+    suggest_no_conflict (files task) effort b n status text answers e
+conflict_by (about what) files b n before now status text answers a e = let is = answers.says.ended in cc
 conflict_by (gen seed size effort) files b n before now status text answers a e = tt
 
 pub conflicts_read : (words : Words) (files : Files) (b n : ℕ) (before now : List Read) (status : Status) (text : List ℕ) →
@@ -176,3 +190,16 @@ pub shows_read : (words : Words) (before now : List Read) (status : Status) (tex
     asked words ≡ Some (to_check task proof effort) → ShowsReadInput task before now effort.turns text
 shows_read words before now status text a e task proof effort asks =
     shown_by task effort before now status text (rw asks at a) e
+
+-- and the combination that `suggest` puts
+suggested_by : (task : List ℕ) (effort : Effort) (before now : List Read) (status : Status) (text : List ℕ) →
+    ProposesRead task effort before now status text → status ≡ Accepted → SuggestsRead task before now text
+suggested_by task effort before now status text (inl none) e = absurd (none.0 e)
+suggested_by task effort before now status text (inr c) e =
+    (c.1.bytes, c.1.read, accepted_suggestion c.0 effort status text c.1.bytes c.1.spells c.2 e)
+
+pub suggests_read : (words : Words) (before now : List Read) (status : Status) (text : List ℕ) →
+    AnswersByReads (asked words) before now status text → status ≡ Accepted → (task : List ℕ) (effort : Effort) →
+    asked words ≡ Some (suggest task effort) → SuggestsRead task before now text
+suggests_read words before now status text a e task effort asks =
+    suggested_by task effort before now status text (rw asks at a) e

@@ -1,5 +1,5 @@
 -- Which statuses the answers to what a command asks for have.
-use Rattle.std.proofs.Common.{◌≡◌, ◌≢◌, ◌⊎◌, inl, inr, ℕ, List, sym, subst, ◌∙◌}
+use Rattle.std.proofs.Common.{◌≡◌, ◌≢◌, inl, inr, ℕ, List, Option, Some, None, sym, subst, ◌∙◌}
 use Rattle.sm_io.specs.Files.{Known}
 use Rattle.sm_replay.specs.declared.verdict.Verdict.{Verdict}
 use Rattle.sm_replay.specs.declared.verdict.Verdict.TheVariants as verdict
@@ -7,13 +7,17 @@ use Rattle.sm_syntax.specs.text.Parts.{Parts}
 use Rattle.sm_gen.specs.Generating.{generated}
 use Rattle.sm_houdini.specs.Outcomes as outcome
 use Rattle.sm_houdini.specs.Outcomes.{Outcome}
-use Rattle.sm_commands.specs.Top.{Checks, Generates, Prints, Replays}
-use Rattle.sm_commands.specs.Check.{AnswersCheck, SaysOutcome}
-use Rattle.sm_commands.specs.ProofFile.{FailsToWrite}
+use Rattle.sm_commands.specs.Top.{Checks, Generates, Prints, Replays, Tells}
+use Rattle.sm_commands.specs.Check.{AnswersCheck, SaysOutcome, ShowsFrom}
+use Rattle.sm_commands.specs.Deeper.{AnswersTask}
+use Rattle.sm_commands.specs.Suggest.{AnswersSuggest, SaysSuggestion, Suggests}
+use Rattle.sm_syntax.specs.declared.copies.CopyName.{CopyName}
+use Rattle.sm_syntax.specs.claim.Stores.{Store}
+use Rattle.sm_words.specs.declared.about.About.{About}
 use Rattle.sm_words.specs.declared.effort.Effort.{Effort}
 use Rattle.sm_answers.specs.declared.status.Status.{Status}
-use Rattle.sm_answers.specs.declared.status.Status.TheVariants.{Accepted, Conflict, Unknown, ReadFault, WriteFault}
-use Rattle.sm_answers.proofs.Statuses.{IsOfCommand, WritesNothing, of_accepted, of_conflict, of_unknown, same_as, IsToCommand, without_task}
+use Rattle.sm_answers.specs.declared.status.Status.TheVariants.{Accepted, Conflict, Unknown, Refused, ReadFault, WriteFault}
+use Rattle.sm_answers.proofs.Statuses.{IsOfCommand, WritesNothing, of_accepted, of_conflict, of_refused, of_unknown, same_as, IsToCommand, without_task}
 use Rattle.sm_answers.proofs.Statuses.{store_to_command}
 
 of_write : IsOfCommand WriteFault
@@ -30,6 +34,13 @@ outcome_status t (outcome.Open node goal) status text h = same_as status Unknown
 outcome_status t (outcome.Steps node goal) status text h = same_as status Unknown h.2.ended of_unknown
 outcome_status t (outcome.Coefficient node goal op y z) status text h = same_as status Unknown h.2.ended of_unknown
 outcome_status t outcome.TooMany status text h = same_as status Unknown h.2.ended of_unknown
+
+-- an input that is shown is a conflict
+pub shown_status : (t : Parts) (j : ℕ) (s : Store) (v : Verdict) (status : Status) (text : List ℕ) → ShowsFrom t j s v status text
+    → status ≡ Conflict
+shown_status t j s verdict.Holds status text h = absurd h
+shown_status t j s verdict.Unmet status text h = absurd h
+shown_status t j s (verdict.Violates x i clause) status text h = h.2.ended
 
 -- an answer by a search writes nothing
 pub checked_status : (t : Parts) (effort : Effort) (status : Status) (text : List ℕ) → AnswersCheck t effort status text
@@ -48,8 +59,10 @@ check_to_command file effort before now status text (inl f) =
     record { of_command = to.of_command.of_command; quiet = to.quiet }
 check_to_command file effort before now status text (inr c) = record { of_command = go c.answers; quiet = λ h. c.gives.read.quiet }
   where
-    go : AnswersCheck c.task effort status text ⊎ FailsToWrite c.task effort status text → IsOfCommand status
-    go (inl a) = (checked_status c.task effort status text a).of_command
+    go : AnswersTask c.task effort status text → IsOfCommand status
+    go (inl (inl a)) = (checked_status c.task effort status text a).of_command
+    go (inl (inr a)) =
+        (same_as status Conflict (shown_status c.task a.number _ a.verdict status text a.shows) of_conflict).of_command
     go (inr a) = subst IsOfCommand (sym a.says.ended) of_write
 
 pub gen_to_command : (seed size : ℕ) (effort : Effort) (before now : ℕ) (status : Status) (text : List ℕ)
@@ -59,10 +72,10 @@ gen_to_command seed size effort before now status text g = record {
   quiet = λ h. g.quiet;
 }
 
-pub print_to_command : (file : Known) (before now : ℕ) (status : Status) (text : List ℕ) → Prints file before now status text
-    → IsToCommand before now status
-print_to_command file before now status text (inl f) = (without_task file before now status text f).to_command
-print_to_command file before now status text (inr c) =
+pub print_to_command : (file : Known) (copy : Option CopyName) (before now : ℕ) (status : Status) (text : List ℕ)
+    → Prints file copy before now status text → IsToCommand before now status
+print_to_command file copy before now status text (inl f) = (without_task file before now status text f).to_command
+print_to_command file copy before now status text (inr c) =
     record { of_command = same_as status Accepted c.says.ended of_accepted; quiet = λ h. c.gives.read.quiet }
 
 pub replay_to_command : (file input : Known) (turns before now : ℕ) (status : Status) (text : List ℕ)
@@ -71,3 +84,24 @@ replay_to_command file input turns before now status text (inl f) = (without_tas
 replay_to_command file input turns before now status text (inr c) =
     let to = store_to_command c.task input turns c.between now status text c.answers in
     record { of_command = to.of_command; quiet = λ h. to.quiet h ∙ c.gives.read.quiet }
+
+-- the status of what is suggested
+suggested_status : (t : Parts) (effort : Effort) (status : Status) (text : List ℕ) → AnswersSuggest t effort status text
+    → WritesNothing status
+suggested_status t effort status text (inl h) = same_as status Refused h.1.ended of_refused
+suggested_status t effort status text (inr h) = go h.1 h.2
+  where
+    go : (found : Option ℕ) → SaysSuggestion t effort found status text → WritesNothing status
+    go None s = same_as status Unknown s.1.ended of_unknown
+    go (Some k) s = same_as status Accepted s.1.ended of_accepted
+
+pub suggest_to_command : (file : Known) (effort : Effort) (before now : ℕ) (status : Status) (text : List ℕ)
+    → Suggests file effort before now status text → IsToCommand before now status
+suggest_to_command file effort before now status text (inl f) = (without_task file before now status text f).to_command
+suggest_to_command file effort before now status text (inr c) =
+    record { of_command = suggested_status c.task effort status text c.answers; quiet = λ h. c.gives.read.quiet }
+
+pub about_to_command : (what : About) (before now : ℕ) (status : Status) (text : List ℕ) → Tells what before now status text
+    → IsToCommand before now status
+about_to_command what before now status text a =
+    record { of_command = same_as status Accepted a.says.ended of_accepted; quiet = λ h. a.quiet }

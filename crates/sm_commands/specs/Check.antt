@@ -32,13 +32,18 @@ pub record IsInputText (t : Parts) (s : Store) (text : List ℕ) : Type 0 where
   pub compact : text ≡ compact_text (object members)
   pub written : AreWritten t.names (sort_of t.declared) s members
 
+-- the input with a number, from a store, is named, with the cell and clause at which it violates,
+-- and its text
+abbrev pub ShowsFrom : Parts → ℕ → Store → Verdict → Status → List ℕ → Type 0
+ShowsFrom t j s verdict.Holds status text = ⊥
+ShowsFrom t j s verdict.Unmet status text = ⊥
+ShowsFrom t j s (verdict.Violates name index clause) status text = (input : List ℕ)
+    × IsInputText t s input
+    × Says Conflict (trial_line t.names j name index clause ++ input_line input) status text
+
 -- the trial is named, with the first cell and clause at which it violates, and its input
 abbrev pub ShowsTrial : Parts → ℕ → Verdict → Status → List ℕ → Type 0
-ShowsTrial t j verdict.Holds status text = ⊥
-ShowsTrial t j verdict.Unmet status text = ⊥
-ShowsTrial t j (verdict.Violates name index clause) status text = (input : List ℕ)
-    × IsInputText t (trial (sort_of t.declared) j) input
-    × Says Conflict (trial_line t.names j name index clause ++ input_line input) status text
+ShowsTrial t j v status text = ShowsFrom t j (trial (sort_of t.declared) j) v status text
 
 -- the note after an answer: a line exactly where no trial meets the assumption
 abbrev pub IsNote : Parts → List ℕ → Type 0

@@ -1,11 +1,12 @@
 -- What Accepted and Conflict say of the bytes that were read: on every shelf, whether it tells what
--- its files hold or not. The public clauses `accepted_read`, `verified_read`, `conflict_read` and
--- `shown_read` of `safemerge` cite it.
+-- its files hold or not. The public clauses `accepted_read`, `verified_read`, `conflict_read`,
+-- `shown_read` and `suggested_read` of `safemerge` cite it.
 use Rattle.std.specs.Prelude.{◌≡◌, ◌++◌, ℕ, List}
 use Rattle.sm_io.specs.Reads.{Read, ReadsWhole}
 use Rattle.sm_commands.specs.Headline.{IsProved, IsSafeMerge, IsUnsafeMerge, IsViolatedFrom}
 use Rattle.sm_answers.specs.Lines.{input_line}
-use Rattle.sm_words.specs.Words.{Asked, check, verify, replay, print, gen}
+use Rattle.sm_commands.specs.Suggest.{IsSafeSuggestion}
+use Rattle.sm_words.specs.Words.{Asked, check, verify, replay, print, suggest, gen, about}
 
 -- the one file was read, in one pass to its end, and no other; of its bytes this holds
 abbrev pub ReadsOne : List ℕ → List Read → List Read → (List ℕ → Type 0) → Type 0
@@ -25,23 +26,27 @@ AcceptsRead (verify task proof workers) before now =
     ReadsTwo task proof before now (λ (bytes lines : List ℕ).
     IsSafeMerge bytes × IsProved bytes lines)
 AcceptsRead (replay task input turns) before now = Unit {0}
-AcceptsRead (print task) before now = Unit {0}
+AcceptsRead (print task copy) before now = Unit {0}
+AcceptsRead (suggest task effort) before now = Unit {0}
 AcceptsRead (gen seed size effort) before now = Unit {0}
+AcceptsRead (about what) before now = Unit {0}
 
 -- Accepted of `verify`, and nothing else: the task was read, and then a proof that passes for it
 abbrev pub ReadsProved : List ℕ → List ℕ → List Read → List Read → Type 0
 ReadsProved task proof before now = ReadsTwo task proof before now IsProved
 
 -- Conflict of `check`: what was read spells a task that isn't free of conflicts. Of `replay`: and
--- then an input was read that shows one. `verify` and `print` don't answer it
+-- then an input was read that shows one. `gen` may answer it of a task that it makes, and no other
 abbrev pub ConflictsRead : Asked → List Read → List Read → Type 0
 ConflictsRead (check task proof effort) before now = ReadsOne task before now IsUnsafeMerge
 ConflictsRead (verify task proof workers) before now = ⊥
 ConflictsRead (replay task input turns) before now =
     ReadsTwo task input before now (λ (bytes given : List ℕ).
     IsUnsafeMerge bytes × IsViolatedFrom given turns bytes)
-ConflictsRead (print task) before now = ⊥
+ConflictsRead (print task copy) before now = ⊥
+ConflictsRead (suggest task effort) before now = ⊥
 ConflictsRead (gen seed size effort) before now = Unit {0}
+ConflictsRead (about what) before now = ⊥
 
 -- Conflict of `check`: the text ends with the line of an input that shows a conflict of the task
 -- that was read
@@ -50,3 +55,8 @@ ShowsReadInput task before now turns text =
     ReadsOne task before now (λ (bytes : List ℕ).
     (front input : List ℕ) × (text ≡ front ++ input_line input)
     × IsViolatedFrom input turns bytes)
+
+-- Accepted of `suggest`: the text is the line of a combination with which the task that was read is
+-- free of conflicts
+abbrev pub SuggestsRead : List ℕ → List Read → List Read → List ℕ → Type 0
+SuggestsRead task before now text = ReadsOne task before now (IsSafeSuggestion text)

@@ -1,9 +1,10 @@
 -- Laws of answers. Public clauses cite it.
-use Rattle.std.specs.Prelude.{◌≡◌, ◌≢◌, ◌⊎◌, ℕ, List, Some}
+use Rattle.std.specs.Prelude.{◌≡◌, ◌≢◌, ◌⊎◌, ℕ, false, List, Some}
 use Rattle.sm_io.specs.Causes.{Rose}
 use Rattle.sm_io.specs.Files.{untold}
 use Rattle.sm_commands.specs.Top.{Files, IsAnswerTo}
-use Rattle.sm_words.specs.Words.{Words, Asked, check, verify, replay, print, gen, asked}
+use Rattle.sm_words.specs.Words.{Words, Asked, check, verify, replay, print, suggest, gen, about}
+use Rattle.sm_words.specs.Words.{asked}
 use Rattle.sm_answers.specs.declared.status.Status.{Status}
 use Rattle.sm_answers.specs.declared.status.Status.TheVariants.{WriteFault}
 
@@ -17,9 +18,26 @@ with_workers workers (check task proof effort) =
     check task proof (record effort { workers = workers })
 with_workers workers (verify task proof others) = verify task proof workers
 with_workers workers (replay task input turns) = replay task input turns
-with_workers workers (print task) = print task
+with_workers workers (print task copy) = print task copy
+with_workers workers (suggest task effort) =
+    suggest task (record effort { workers = workers })
 with_workers workers (gen seed size effort) =
     gen seed size (record effort { workers = workers })
+with_workers workers (about what) = about what
+
+-- no inputs beyond the trials are asked for
+abbrev pub IsPlain : Asked → Type 0
+IsPlain (check task proof effort) = effort.deeper ≡ false
+IsPlain (verify task proof workers) = Unit {0}
+IsPlain (replay task input turns) = Unit {0}
+IsPlain (print task copy) = Unit {0}
+IsPlain (suggest task effort) = Unit {0}
+IsPlain (gen seed size effort) = Unit {0}
+IsPlain (about what) = Unit {0}
+
+-- the words don't ask for them
+abbrev pub AskPlainly : Words → Type 0
+AskPlainly words = (ask : Asked) → asked words ≡ Some ask → IsPlain ask
 
 -- the words are the same, or they ask for the same with another number of workers
 abbrev pub AskAlike : Words → Words → Type 0
@@ -28,11 +46,12 @@ AskAlike words others =
     × (asked words ≡ Some ask) × (asked others ≡ Some (with_workers workers ask)))
 
 -- two answers to words that ask alike and told files, each without a fault to read or to write, are
--- equal: a number of workers changes no byte
+-- equal, where no inputs beyond the trials are asked for: a number of workers changes no byte
 abbrev pub OneAnswer : Type 0
 OneAnswer =
     (words others : Words) (files : Files) (before now earlier later : ℕ)
-    (status other : Status) (text line : List ℕ) → AskAlike words others → AreTold files
+    (status other : Status) (text line : List ℕ) → AskPlainly words → AskAlike words others
+    → AreTold files
     → (¬ Rose before now) → status ≢ WriteFault → IsAnswerTo words files before now status text
     → (¬ Rose earlier later) → other ≢ WriteFault → IsAnswerTo others files earlier later other line
     → (status ≡ other) × (text ≡ line)

@@ -5,5 +5,7 @@ pub mod Top
 pub mod Laws
 pub mod Check
 pub mod Gen
+pub mod Suggest
+pub mod Deeper
 pub mod ProofFile
 pub mod Views

@@ -6,9 +6,9 @@ use Rattle.sm_eval.specs.declared.store.Store.{Store}
 use Rattle.sm_io.specs.Reads.{Read}
 use Rattle.sm_replay.specs.Violations.{Violates}
 use Rattle.sm_syntax.specs.text.Parts.{Parts, task_of}
-use Rattle.sm_commands.specs.Check.{AnswersCheck}
-use Rattle.sm_commands.specs.ProofFile.{FailsToWrite}
-use Rattle.sm_words.specs.Words.{Asked, check, verify, replay, print, gen}
+use Rattle.sm_commands.specs.Deeper.{AnswersTask}
+use Rattle.sm_commands.specs.Suggest.{AnswersSuggest}
+use Rattle.sm_words.specs.Words.{Asked, check, verify, replay, print, suggest, gen, about}
 use Rattle.sm_words.specs.declared.effort.Effort.{Effort}
 use Rattle.sm_answers.specs.declared.status.Status.{Status}
 use Rattle.sm_answers.specs.declared.status.Status.TheVariants.{Accepted, Conflict}
@@ -25,8 +25,7 @@ pub record ReadsViolation (t : Parts) (name : List ℕ) (turns : ℕ) (before no
 abbrev pub ChecksRead : List ℕ → Effort → List Read → List Read → Status → List ℕ → Type 0
 ChecksRead task effort before now status text =
     ((status ≢ Accepted) × (status ≢ Conflict))
-    ⊎ ((t : Parts) × ReadsTask task before now t
-    × (AnswersCheck t effort status text ⊎ FailsToWrite t effort status text))
+    ⊎ ((t : Parts) × ReadsTask task before now t × AnswersTask t effort status text)
 
 -- the answer to an input's file is Conflict only where an input was read that shows one
 abbrev pub RunsRead : Parts → List ℕ → ℕ → List Read → List Read → Status → List ℕ → Type 0
@@ -39,6 +38,12 @@ ReplaysRead task input turns before now status text = status ≡ Conflict →
     (t : Parts) × (between : List Read) × ReadsTask task before between t
     × ReadsViolation t input turns between now
 
+-- the answer of `suggest`: neither Accepted nor Conflict, or that to the task that was read
+abbrev pub ProposesRead : List ℕ → Effort → List Read → List Read → Status → List ℕ → Type 0
+ProposesRead task effort before now status text =
+    ((status ≢ Accepted) × (status ≢ Conflict))
+    ⊎ ((t : Parts) × ReadsTask task before now t × AnswersSuggest t effort status text)
+
 -- the answer to what is asked for, or to words that ask for nothing
 abbrev pub AnswersByReads : Option Asked → List Read → List Read → Status → List ℕ → Type 0
 AnswersByReads (Some (check task proof effort)) before now status text =
@@ -47,6 +52,9 @@ AnswersByReads (Some (verify task proof workers)) before now status text =
     VerifiesRead task proof before now status text
 AnswersByReads (Some (replay task input turns)) before now status text =
     ReplaysRead task input turns before now status text
-AnswersByReads (Some (print task)) before now status text = Unit {0}
+AnswersByReads (Some (print task copy)) before now status text = Unit {0}
+AnswersByReads (Some (suggest task effort)) before now status text =
+    ProposesRead task effort before now status text
 AnswersByReads (Some (gen seed size effort)) before now status text = Unit {0}
+AnswersByReads (Some (about what)) before now status text = Unit {0}
 AnswersByReads None before now status text = Unit {0}

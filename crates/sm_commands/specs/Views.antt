@@ -2,13 +2,20 @@
 use Rattle.std.specs.Prelude.{◌≡◌, ◌≢◌, ℕ, List, Option, MatchOption, Result, Ok, Err}
 use Rattle.sm_io.specs.Causes.{HasCause}
 use Rattle.sm_proof.specs.Verdicts.{Passes}
+use Rattle.sm_replay.specs.declared.verdict.Verdict.{Verdict}
+use Rattle.sm_replay.specs.declared.verdict.Verdict.TheVariants.{Violates}
 use Rattle.sm_syntax.specs.text.Parts.{Parts}
 use Rattle.sm_write.specs.Versions.{HasVersion}
+use Rattle.sm_commands.specs.declared.check.Place.{Place}
 use Rattle.sm_answers.specs.declared.exit.Exit.{Exit}
 use Rattle.sm_answers.specs.declared.exit.Exit.TheVariants.{Answer, Memory}
 use Rattle.sm_answers.specs.declared.status.Reply.{Reply}
 use Rattle.sm_answers.specs.declared.status.Status.{Status}
 use Rattle.sm_answers.specs.declared.status.Status.TheVariants.{Accepted, WriteFault}
+
+-- the verdict that an input violates at a place
+abbrev pub verdict_at : Place → Verdict
+verdict_at at = Violates at.name at.index at.clause
 
 -- a proof comes with the answer exactly where the task is accepted. It passes for the task, and is
 -- of version 3 exactly where it has a line `exact`, else of version 2 exactly where the task assumes

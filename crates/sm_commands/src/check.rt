@@ -1,21 +1,22 @@
 // What `check` answers to a task.
 ghost use Rattle.std.specs.Prelude.{◌≡◌, ◌<◌, ◌≤◌, ◌++◌, List, ℕ, None, IfOk, option_map, codes};
 ghost use Rattle.sm_check.specs.Checkable.{IsCheckable};
+ghost use Rattle.sm_eval.specs.StoredValues.{meaning, sorts_of};
 ghost use Rattle.sm_replay.specs.Sorted.{sort_fault};
-ghost use Rattle.sm_replay.specs.Trials.{IsLeast, trial};
+ghost use Rattle.sm_replay.specs.Trials.{IsLeast};
 ghost use Rattle.sm_replay.specs.InputText.{AreNamed};
 ghost use Rattle.sm_syntax.specs.text.Parts.{sort_of, task_of};
+ghost use Rattle.sm_syntax.specs.trees.Programs.{declared_of};
 ghost use Rattle.sm_task.specs.Tasks.{parts_of};
 ghost use Rattle.sm_text.specs.printing.Named.{HasText};
-ghost use Rattle.sm_commands.specs.Check.{AnswersCheck, IsInputText, IsNote, SaysNoted, ShowsTrial};
-ghost use Rattle.sm_answers.specs.Lines.{input_line, trial_line};
-ghost use Rattle.sm_answers.specs.Status.{Says};
-ghost use Rattle.sm_commands.specs.Views.{ComesWith};
+ghost use Rattle.sm_commands.specs.Check.{AnswersCheck, IsNote, SaysNoted, ShowsFrom, ShowsTrial};
+ghost use Rattle.sm_commands.specs.Views.{ComesWith, verdict_at};
 ghost use Rattle.sm_words.specs.Views.{HasWorkers};
 
 use sm_answers::{
     Reply, Status, coefficient_line, goal_line, put_input_line, too_many_line, trial_line,
 };
+use sm_eval::Store;
 use sm_houdini::{Outcome, proof_text, search};
 use sm_par::Gate;
 use sm_replay::{Verdict, some_trial_meets, trial, write_input};
@@ -30,6 +31,14 @@ use std::thread::Threads;
 pub struct Decided {
     pub reply: Reply,
     pub proof: Option<Vec<u8>>,
+}
+
+/// Where an input violates: an output, the index where it is an array, and the clause.
+#[derive(Clone, Copy, Debug, PartialEq, Eq)]
+pub struct Place {
+    pub name: Name,
+    pub index: Option<i128>,
+    pub clause: u8,
 }
 
 /// The answer to a task that some text spells: what its search comes to, as far as its effort goes.
@@ -113,30 +122,48 @@ fn conflict(alloc: Global, task: &Task, number: u8, verdict: Verdict) -> Result<
             name,
             index,
             clause,
-        } => shown(alloc, task, number, name, index, clause),
+        } => shown(
+            alloc,
+            task,
+            number,
+            Place {
+                name,
+                index,
+                clause,
+            },
+        ),
         Verdict::Holds | Verdict::Unmet => unreachable!(),
     }
 }
 
-// The same, where the trial violates.
-fn shown(
+// The answer that a trial violates at a place.
+fn shown(alloc: Global, task: &Task, number: u8, at: Place) -> Result<Reply, AllocError>
+    requires { let t = parts_of task.now in AreNamed t.names (sort_of t.declared) }
+    ensures { IfOk result (λ r.
+        ShowsTrial (parts_of task.now) number (verdict_at at) r.status r.text.items) }
+{
+    let input = trial(alloc, task, number)?;
+    violation(alloc, task, number as u64, &input, at)
+}
+
+/// The answer that an input violates: its number among those that are made, the place, and its
+/// text.
+pub fn violation(
     alloc: Global,
     task: &Task,
-    number: u8,
-    name: Name,
-    index: Option<i128>,
-    clause: u8,
+    number: u64,
+    input: &Store,
+    at: Place,
 ) -> Result<Reply, AllocError>
-    requires { let t = parts_of task.now in AreNamed t.names (sort_of t.declared) }
-    ensures { let t = parts_of task.now in IfOk result (λ r. (input : List ℕ)
-        × IsInputText t (trial (sort_of t.declared) number) input
-        × Says Status.Conflict (trial_line t.names number name index clause ++ input_line input)
+    requires named { let t = parts_of task.now in AreNamed t.names (sort_of t.declared) }
+    requires declared { sorts_of input.now ≡ sort_of (declared_of task.now.shared.decls) }
+    ensures { IfOk result (λ r.
+        ShowsFrom (parts_of task.now) number (meaning input.now) (verdict_at at)
         r.status r.text.items) }
 {
     let names = &task.shared.names;
-    let input = trial(alloc, task, number)?;
-    let shown = write_input(alloc, &task.shared.decls, names, &input)?;
-    let mut text = trial_line(alloc, names, number, name, index, clause)?;
+    let shown = write_input(alloc, &task.shared.decls, names, input)?;
+    let mut text = trial_line(alloc, names, number, at.name, at.index, at.clause)?;
     put_input_line(&mut text, &shown)?;
     Ok(Reply {
         status: Status::Conflict,

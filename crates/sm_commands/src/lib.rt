@@ -4,27 +4,33 @@
 //!   the search of a task comes to: `Accepted` for a task that is free of conflicts alone, whose
 //!   proof it writes to a file; `Conflict` for one that isn't, with the first trial that shows it;
 //!   or `Unknown` with the first goal that stays open. With `--exact` the search decides a branch
-//!   that nothing splits over whole numbers. `verify` prints `Accepted` exactly where the bytes of
+//!   that nothing splits over whole numbers, and with `--deeper` inputs beyond the trials are run
+//!   where it decides nothing. `verify` prints `Accepted` exactly where the bytes of
 //!   a proof's file pass for the task, which is then free of conflicts, and else the number of the
 //!   first bad line and the word for what is wrong with it. `replay` judges one input exactly,
-//!   `print` puts the canonical text of a task, and `gen` makes a task and answers it. Words that
-//!   no command takes, bytes that are no task or no input, and faults are answered exactly where
-//!   they are met.
+//!   `print` puts the canonical text of a task, or of the program of a copy, `suggest` the first
+//!   combination of the given fillings that the search accepts, and `gen` makes a task and answers
+//!   it. `help` and `version` say what the program takes and is. Words that no command takes, bytes
+//!   that are no task or no input, and faults are answered exactly where they are met.
 //! - `one_answer` is the law that two answers to told files, without a fault, are equal where the
-//!   words are the same, or ask for the same with another number of workers.
+//!   words are the same, or ask for the same with another number of workers, and `--deeper` isn't
+//!   among them.
 //! - `Status::number` is the number with which the program ends.
 //!
 //! The claim is `ConflictFree` of the crate `sm_syntax`. Read `specs/Headline.antt` first: what
 //! Accepted and Conflict say of files that are told; and then `specs/HeadlineRead.antt`: what they
 //! say of the bytes that were read, on every shelf. `specs/Top.antt` says what is answered, with
-//! `specs/Check.antt` and `specs/Gen.antt`, and `specs/File.antt`, `specs/Verify.antt` and
+//! `specs/Check.antt`, `specs/Deeper.antt`, `specs/Suggest.antt` and `specs/Gen.antt`, and `specs/File.antt`, `specs/Verify.antt` and
 //! `specs/Replay.antt` of the crate `sm_answers`; `specs/ProofFile.antt` what `check` writes, and
 //! `specs/Words.antt` of `sm_words` what the words ask for.
 #![tactic(auto)]
 
 mod check;
+mod deeper;
 mod laws;
 mod making;
+mod printing;
+mod suggesting;
 mod top;
 
 pub use laws::one_answer;

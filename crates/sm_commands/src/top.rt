@@ -11,20 +11,22 @@ ghost use Rattle.sm_replay.specs.Sorted.{sort_fault};
 ghost use Rattle.sm_syntax.specs.text.Parts.{Parts};
 ghost use Rattle.sm_syntax.specs.text.Spells.{Spells};
 ghost use Rattle.sm_task.specs.Tasks.{parts_of};
-ghost use Rattle.sm_text.specs.printing.Canonical.{task_pieces};
 ghost use Rattle.sm_text.specs.printing.Named.{HasText};
-ghost use Rattle.sm_text.specs.printing.Pieces.{pieces_text};
 ghost use Rattle.sm_commands.specs.Headline.{merge_file, IsProved, IsSafeMerge, IsUnsafeMerge};
 ghost use Rattle.sm_commands.specs.Headline.{IsShownByInput, ShowsInput};
 ghost use Rattle.sm_commands.specs.HeadlineRead.{AcceptsRead, ConflictsRead, ReadsProved};
 ghost use Rattle.sm_commands.specs.HeadlineRead.{ShowsReadInput};
-ghost use Rattle.sm_commands.specs.Readings.{AnswersByReads, ChecksRead, ReplaysRead, RunsRead};
+ghost use Rattle.sm_commands.specs.HeadlineRead.{SuggestsRead};
+ghost use Rattle.sm_commands.specs.Readings.{AnswersByReads, ChecksRead, ProposesRead, ReplaysRead};
+ghost use Rattle.sm_commands.specs.Readings.{RunsRead};
+ghost use Rattle.sm_commands.specs.Suggest.{IsSafeSuggestion, Suggests};
+ghost use Rattle.sm_commands.specs.Deeper.{AnswersTask};
 ghost use Rattle.sm_commands.specs.Top.{IsAnswerTo, AnswersCommand, Checks, Prints, Replays};
 ghost use Rattle.sm_commands.specs.Top.{IsPrinted, PutsPart, RejectsProof, LeavesBy, LeavesFiles};
 ghost use Rattle.sm_commands.specs.Top.{LeavesPart, LeavesPartBy, WritesElsewhere};
-ghost use Rattle.sm_commands.specs.Check.{reach_of, AnswersCheck};
+ghost use Rattle.sm_commands.specs.Check.{reach_of};
 ghost use Rattle.sm_answers.specs.File.{file_limit};
-ghost use Rattle.sm_commands.specs.ProofFile.{FailsToWrite, HoldsProof, IsTaskIn, LeavesCut};
+ghost use Rattle.sm_commands.specs.ProofFile.{HoldsProof, IsTaskIn, LeavesCut};
 ghost use Rattle.sm_commands.specs.ProofFile.{LeavesFront, LeavesProof, LeftBy, LeftCut};
 ghost use Rattle.sm_answers.specs.ProofFile.{IsBegun};
 ghost use Rattle.sm_answers.specs.Status.{Says};
@@ -32,16 +34,22 @@ ghost use Rattle.sm_answers.specs.Replay.{ReplaysInput};
 ghost use Rattle.sm_words.specs.Views.{asked_in, HasWorkers, IsWithin};
 ghost use Rattle.sm_commands.specs.Views.{CountsWrites, EndsWith};
 ghost use Rattle.sm_answers.specs.Exit.{ExitsWith};
-ghost use Rattle.sm_words.specs.Words.{Asked, asked, check, verify, replay, task_file, usage_line};
+ghost use Rattle.sm_words.specs.About.{about_text};
+ghost use Rattle.sm_words.specs.Words.{Asked, asked, check, verify, replay, suggest, task_file};
+ghost use Rattle.sm_words.specs.Words.{usage_line};
 ghost use Rattle.sm_words.specs.Words.{IsUsage};
 
-use crate::check::{Decided, check};
+use crate::check::Decided;
+use crate::deeper::check_deeper;
 use crate::making::gen_answer;
+use crate::printing::print;
+use crate::suggesting::suggest_answer;
 use sm_answers::{Exit, Reply, Status, input_in, replay, task_in, verify_in, write_file};
 use sm_io::{IoError, Shelf, Sink, put_all};
 use sm_par::Gate;
-use sm_task::{Task, print_task};
-use sm_words::{Effort, Request, WordsError, line, read_words, usage_line};
+use sm_syntax::CopyName;
+use sm_task::Task;
+use sm_words::{About, Effort, Request, WordsError, about_text, line, read_words, usage_line};
 use std::alloc::{AllocError, Global};
 use std::thread::Threads;
 
@@ -79,6 +87,12 @@ pub fn safemerge<R: Threads + Sync, G: Gate, H: Shelf, K: Sink>(
     ensures replayed { result ≡ Status.Conflict → (task input : List ℕ) (turns : ℕ) →
         asked (map string_bytes words.now) ≡ Some (replay task input turns) →
         IsShownByInput (H.file shelf.old task) (H.file shelf.old input) turns }
+    // What `suggest` prints with Accepted is a combination of the fillings with which the task is
+    // free of conflicts.
+    ensures suggested { result ≡ Status.Accepted → (task : List ℕ) (effort : Effort) →
+        asked (map string_bytes words.now) ≡ Some (suggest task effort) → (text : List ℕ)
+        × WhereHeld (H.file shelf.old task) (IsSafeSuggestion text)
+        × Adds (K.taken out.old) (K.taken out.new) text }
 
     // All this stands of the bytes that were read as well, on every shelf: each file was read once,
     // in one pass to its end, and nothing else was read.
@@ -95,6 +109,10 @@ pub fn safemerge<R: Threads + Sync, G: Gate, H: Shelf, K: Sink>(
     ensures shown_read { result ≡ Status.Conflict → (task proof : List ℕ) (effort : Effort) →
         asked (map string_bytes words.now) ≡ Some (check task proof effort) → (text : List ℕ)
         × ShowsReadInput task (H.given shelf.old) (H.given shelf.new) effort.turns text
+        × Adds (K.taken out.old) (K.taken out.new) text }
+    ensures suggested_read { result ≡ Status.Accepted → (task : List ℕ) (effort : Effort) →
+        asked (map string_bytes words.now) ≡ Some (suggest task effort) → (text : List ℕ)
+        × SuggestsRead task (H.given shelf.old) (H.given shelf.new) text
         × Adds (K.taken out.old) (K.taken out.new) text }
 
     // What is printed is the answer, whole.
@@ -274,10 +292,12 @@ fn answer_to<R: Threads + Sync, G: Gate, H: Shelf>(
             workers,
         } => verify_in(rt, alloc, gate, shelf, task, proof, workers),
         Request::Replay { task, input, turns } => replay_in(alloc, shelf, task, input, turns),
-        Request::Print { task } => print_in(alloc, shelf, task),
+        Request::Print { task, copy } => print_in(alloc, shelf, task, copy),
+        Request::Suggest { task, effort } => suggest_in(rt, alloc, gate, shelf, task, effort),
         Request::Gen { seed, size, effort } => {
             Ok(gen_answer(rt, alloc, gate, seed, size, effort)?)
         }
+        Request::About(what) => Ok(tell(alloc, what)?),
     }
 }
 
@@ -326,8 +346,8 @@ fn check_task<R: Threads + Sync, G: Gate, H: Shelf>(
 ) -> Result<Reply, AllocError>
     requires spelled { HasText (parts_of task.now) }
     requires workers { HasWorkers effort }
-    ensures answers { let t = parts_of task.now in IfOk result (λ r.
-        AnswersCheck t effort r.status r.text.items ⊎ FailsToWrite t effort r.status r.text.items) }
+    ensures answers { IfOk result (λ r.
+        AnswersTask (parts_of task.now) effort r.status r.text.items) }
     ensures left { IfOk result (λ r. LeftBy (parts_of task.now) r.status
         (H.file shelf.old proof.now) (H.file shelf.new proof.now)) }
     ensures front { OnErr result (LeftCut (parts_of task.now)
@@ -340,7 +360,7 @@ fn check_task<R: Threads + Sync, G: Gate, H: Shelf>(
     ensures reads { H.read_faults shelf.new ≡ H.read_faults shelf.old }
     ensures keeps { H.given shelf.new ≡ H.given shelf.old }
 {
-    let Decided { reply, proof: text } = check(rt, alloc, gate, task, effort)?;
+    let Decided { reply, proof: text } = check_deeper(rt, alloc, gate, task, effort)?;
     match text {
         Some(text) => write_proof(alloc, shelf, reply, proof, &text),
         None => Ok(reply),
@@ -430,25 +450,53 @@ fn replay_task<H: Shelf>(
 }
 
 // The answer of `print` to a task's file.
-fn print_in<H: Shelf>(alloc: Global, shelf: &mut H, name: &str) -> Result<Reply, Exit>
-    ensures ok { IfOk result (λ r. Prints (H.file shelf.old name.now)
+fn print_in<H: Shelf>(
+    alloc: Global,
+    shelf: &mut H,
+    name: &str,
+    copy: Option<CopyName>,
+) -> Result<Reply, Exit>
+    ensures ok { IfOk result (λ r. Prints (H.file shelf.old name.now) copy
         (H.read_faults shelf.old) (H.read_faults shelf.new) r.status r.text.items) }
-    ensures exit { IfErr result (ExitsWith (Prints (H.file shelf.old name.now)
+    ensures exit { IfErr result (ExitsWith (Prints (H.file shelf.old name.now) copy
         (H.read_faults shelf.old) (H.read_faults shelf.new))) }
     ensures same { (other : List ℕ) → H.file shelf.new other ≡ H.file shelf.old other }
     ensures writes { H.write_faults shelf.new ≡ H.write_faults shelf.old }
 {
     let task = task_in(alloc, shelf, name)?;
-    Ok(print(alloc, &task)?)
+    Ok(print(alloc, &task, copy)?)
 }
 
-// The canonical text of a task, as an answer.
-fn print(alloc: Global, task: &Task) -> Result<Reply, AllocError>
-    requires { HasText (parts_of task.now) }
-    ensures { let t = parts_of task.now in let text = pieces_text t.names (task_pieces t) in
-        IfOk result (λ r. Says Status.Accepted text r.status r.text.items) }
+// The answer of `suggest` to a task's file.
+fn suggest_in<R: Threads + Sync, G: Gate, H: Shelf>(
+    rt: &R,
+    alloc: Global,
+    gate: &G,
+    shelf: &mut H,
+    name: &str,
+    effort: Effort,
+) -> Result<Reply, Exit>
+    requires { HasWorkers effort }
+    ensures ok { IfOk result (λ r. Suggests (H.file shelf.old name.now) effort
+        (H.read_faults shelf.old) (H.read_faults shelf.new) r.status r.text.items) }
+    ensures exit { IfErr result (ExitsWith (Suggests (H.file shelf.old name.now) effort
+        (H.read_faults shelf.old) (H.read_faults shelf.new))) }
+    ensures read { IfOk result (λ r. ProposesRead name.now effort
+        (H.given shelf.old) (H.given shelf.new) r.status r.text.items) }
+    ensures exit_read { IfErr result (ExitsWith (ProposesRead name.now effort
+        (H.given shelf.old) (H.given shelf.new))) }
+    ensures same { (other : List ℕ) → H.file shelf.new other ≡ H.file shelf.old other }
+    ensures writes { H.write_faults shelf.new ≡ H.write_faults shelf.old }
 {
-    let text = print_task(alloc, task)?;
+    let task = task_in(alloc, shelf, name)?;
+    Ok(suggest_answer(rt, alloc, gate, &task, effort)?)
+}
+
+// What the program says of itself, as an answer.
+fn tell(alloc: Global, what: About) -> Result<Reply, AllocError>
+    ensures { IfOk result (λ r. Says Status.Accepted (about_text what) r.status r.text.items) }
+{
+    let text = about_text(alloc, what)?;
     Ok(Reply {
         status: Status::Accepted,
         text,

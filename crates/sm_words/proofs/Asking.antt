@@ -1,14 +1,14 @@
 -- What a command asks for, by the texts that its matches give.
 use Rattle.std.proofs.Common.{◌≡◌, ◌∙◌, ◌⊎◌, inl, inr, [], Option, Some, None, Result, Ok, Err, IfOk, IsErrOf, codes, refl, sym, ap}
 use Rattle.clap.specs.Walk.{Text}
-use Rattle.sm_words.specs.Numbers.{effort_by, seed_by, size_by, workers_by, HasBadNumber}
+use Rattle.sm_words.specs.Numbers.{copy_by, effort_by, seed_by, size_by, workers_by, HasBadNumber}
 use Rattle.sm_words.specs.Views.{asked_in}
-use Rattle.sm_words.specs.Words.{Words, asked_by, check_by, verify_by, replay_by, print_by, gen_by, word_faults, argument_text, effort_in}
+use Rattle.sm_words.specs.Words.{Words, asked_by, check_by, verify_by, replay_by, print_by, suggest_by, gen_by, word_faults, argument_text, effort_in}
 use Rattle.sm_words.specs.Words.{IsRefused}
 use Rattle.sm_words.specs.declared.effort.Effort.{Effort}
 use Rattle.sm_words.specs.declared.words.Request.{Request}
 use Rattle.sm_words.specs.declared.command.Verb.{Verb}
-use Rattle.sm_words.specs.declared.command.Verb.TheVariants.{Check, Verify, Replay, Print, Gen}
+use Rattle.sm_words.specs.declared.command.Verb.TheVariants.{Check, Verify, Replay, Print, Suggest, Gen, About}
 use Rattle.sm_words.specs.declared.words.WordsError.{WordsError}
 use Rattle.sm_words.specs.declared.words.WordsError.TheVariants.{Usage}
 
@@ -36,7 +36,7 @@ pub record Asks (verb : Verb) (words : Words) (r : Result Request WordsError) : 
 given_effort : (verb : Verb) (words : Words) (f : Text → Option Text) → ((id : Text) → f id ≡ argument_text verb id words)
     → effort_by f ≡ effort_in verb words
 given_effort verb words f texts =
-    rw (texts (codes "steps"), texts (codes "turns"), texts (codes "workers"), texts (codes "exact")) refl
+    rw (texts (codes "steps"), texts (codes "turns"), texts (codes "workers"), texts (codes "exact"), texts (codes "deeper")) refl
 
 pub asks_check : (verb : Verb) (words : Words) (f : Text → Option Text) (r : Result Request WordsError) → verb ≡ Check
     → word_faults verb words ≡ [] → ((id : Text) → f id ≡ argument_text verb id words) →
@@ -59,6 +59,8 @@ asks_check Verify words f r is free texts ok bad = cc
 asks_check Replay words f r is free texts ok bad = cc
 asks_check Print words f r is free texts ok bad = cc
 asks_check Gen words f r is free texts ok bad = cc
+asks_check Suggest words f r is free texts ok bad = cc
+asks_check (About what) words f r is free texts ok bad = cc
 
 pub asks_gen : (verb : Verb) (words : Words) (f : Text → Option Text) (r : Result Request WordsError) → verb ≡ Gen
     → word_faults verb words ≡ [] → ((id : Text) → f id ≡ argument_text verb id words) →
@@ -84,6 +86,8 @@ asks_gen Check words f r is free texts ok bad = cc
 asks_gen Verify words f r is free texts ok bad = cc
 asks_gen Replay words f r is free texts ok bad = cc
 asks_gen Print words f r is free texts ok bad = cc
+asks_gen Suggest words f r is free texts ok bad = cc
+asks_gen (About what) words f r is free texts ok bad = cc
 
 pub asks_verify : (verb : Verb) (words : Words) (f : Text → Option Text) (r : Result Request WordsError) → verb ≡ Verify
     → word_faults verb words ≡ [] → ((id : Text) → f id ≡ argument_text verb id words) →
@@ -101,6 +105,8 @@ asks_verify Check words f r is free texts ok bad = cc
 asks_verify Gen words f r is free texts ok bad = cc
 asks_verify Replay words f r is free texts ok bad = cc
 asks_verify Print words f r is free texts ok bad = cc
+asks_verify Suggest words f r is free texts ok bad = cc
+asks_verify (About what) words f r is free texts ok bad = cc
 
 pub asks_replay : (verb : Verb) (words : Words) (f : Text → Option Text) (r : Result Request WordsError) → verb ≡ Replay
     → word_faults verb words ≡ [] → ((id : Text) → f id ≡ argument_text verb id words) →
@@ -118,12 +124,49 @@ asks_replay Check words f r is free texts ok bad = cc
 asks_replay Gen words f r is free texts ok bad = cc
 asks_replay Verify words f r is free texts ok bad = cc
 asks_replay Print words f r is free texts ok bad = cc
+asks_replay Suggest words f r is free texts ok bad = cc
+asks_replay (About what) words f r is free texts ok bad = cc
 
-pub asks_print : (verb : Verb) (words : Words) (f : Text → Option Text) (q : Request) → verb ≡ Print → word_faults verb words ≡ []
-    → ((id : Text) → f id ≡ argument_text verb id words) →
-    print_by (f (codes "TASK")) ≡ Some (asked_in q) → (word_faults verb words ≡ []) × (asked_by verb words ≡ Some (asked_in q))
-asks_print Print words f q is free texts ok = (free, sym (ap print_by (texts (codes "TASK"))) ∙ ok)
-asks_print Check words f q is free texts ok = cc
-asks_print Gen words f q is free texts ok = cc
-asks_print Verify words f q is free texts ok = cc
-asks_print Replay words f q is free texts ok = cc
+same_print : {a b a' b' : Option Text} → a ≡ a' → b ≡ b' → print_by a b ≡ print_by a' b'
+same_print p q = rw (p, q) refl
+
+same_suggest : {a a' : Option Text} {e e' : Option Effort} → a ≡ a' → e ≡ e' → suggest_by a e ≡ suggest_by a' e'
+same_suggest p q = rw (p, q) refl
+
+pub asks_print : (verb : Verb) (words : Words) (f : Text → Option Text) (r : Result Request WordsError) → verb ≡ Print
+    → word_faults verb words ≡ [] → ((id : Text) → f id ≡ argument_text verb id words) →
+    IfOk r (λ (q : Request). print_by (f (codes "TASK")) (f (codes "copy")) ≡ Some (asked_in q))
+    → (IsErrOf r Usage → copy_by (f (codes "copy")) ≡ None) → Asks verb words r
+asks_print Print words f (Ok q) is free texts ok bad = record {
+  ok = (free, sym (same_print (texts (codes "TASK")) (texts (codes "copy"))) ∙ ok);
+  usage = λ u. cc;
+}
+asks_print Print words f (Err e) is free texts ok bad = record {
+  ok = tt;
+  usage = λ u. inr (sym (ap copy_by (texts (codes "copy"))) ∙ bad u);
+}
+asks_print Check words f r is free texts ok bad = cc
+asks_print Gen words f r is free texts ok bad = cc
+asks_print Verify words f r is free texts ok bad = cc
+asks_print Replay words f r is free texts ok bad = cc
+asks_print Suggest words f r is free texts ok bad = cc
+asks_print (About what) words f r is free texts ok bad = cc
+
+pub asks_suggest : (verb : Verb) (words : Words) (f : Text → Option Text) (r : Result Request WordsError) → verb ≡ Suggest
+    → word_faults verb words ≡ [] → ((id : Text) → f id ≡ argument_text verb id words) →
+    IfOk r (λ (q : Request). suggest_by (f (codes "TASK")) (effort_by f) ≡ Some (asked_in q))
+    → (IsErrOf r Usage → effort_by f ≡ None) → Asks verb words r
+asks_suggest Suggest words f (Ok q) is free texts ok bad = record {
+  ok = (free, sym (same_suggest (texts (codes "TASK")) (given_effort Suggest words f texts)) ∙ ok);
+  usage = λ u. cc;
+}
+asks_suggest Suggest words f (Err e) is free texts ok bad = record {
+  ok = tt;
+  usage = λ u. inr (sym (given_effort Suggest words f texts) ∙ bad u);
+}
+asks_suggest Check words f r is free texts ok bad = cc
+asks_suggest Gen words f r is free texts ok bad = cc
+asks_suggest Verify words f r is free texts ok bad = cc
+asks_suggest Replay words f r is free texts ok bad = cc
+asks_suggest Print words f r is free texts ok bad = cc
+asks_suggest (About what) words f r is free texts ok bad = cc

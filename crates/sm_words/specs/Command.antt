@@ -3,8 +3,12 @@ use Rattle.std.specs.Prelude.{true, Some, codes}
 use Rattle.clap.specs.Simple.{App, new_app, new_rule, with_rule}
 use Rattle.clap.specs.Walk.{Rule, Text}
 use Rattle.clap.specs.declared.builder.action.ArgAction.TheVariants.{Set, SetTrue}
+use Rattle.sm_words.specs.declared.about.About.{About}
+use Rattle.sm_words.specs.declared.about.About.TheVariants.{Help, Version}
 use Rattle.sm_words.specs.declared.command.Verb.{Verb}
-use Rattle.sm_words.specs.declared.command.Verb.TheVariants.{Check, Verify, Replay, Print, Gen}
+use Rattle.sm_words.specs.declared.command.Verb.TheVariants.{Check, Verify, Replay, Print, Suggest}
+use Rattle.sm_words.specs.declared.command.Verb.TheVariants.{Gen}
+use Rattle.sm_words.specs.declared.command.Verb.TheVariants as verb
 
 -- a word that has to be there
 abbrev pub required_word : Text → Rule
@@ -18,20 +22,25 @@ option_word id = record (new_rule id) { long = Some id; action = Some Set }
 abbrev pub flag_word : Text → Rule
 flag_word id = record (new_rule id) { long = Some id; action = Some SetTrue }
 
--- two words that have to be there, and the options of a search
-abbrev pub search_command : Text → Text → Text → App
-search_command word first second =
-    with_rule (with_rule (with_rule (with_rule (with_rule (with_rule (new_app word)
-    (required_word first))
-    (required_word second))
+-- a command with the options of a search
+abbrev pub with_effort : App → App
+with_effort command =
+    with_rule (with_rule (with_rule (with_rule command
     (option_word (codes "steps")))
     (option_word (codes "turns")))
     (option_word (codes "workers")))
     (flag_word (codes "exact"))
 
--- check TASK PROOF [--steps N] [--turns N] [--workers N] [--exact]
+-- two words that have to be there, and the options of a search
+abbrev pub search_command : Text → Text → Text → App
+search_command word first second =
+    with_effort (with_rule (with_rule (new_app word) (required_word first)) (required_word second))
+
+-- check TASK PROOF [--steps N] [--turns N] [--workers N] [--exact] [--deeper]
 unfoldable pub check_command : App
-check_command = search_command (codes "check") (codes "TASK") (codes "PROOF")
+check_command =
+    with_rule (search_command (codes "check") (codes "TASK") (codes "PROOF"))
+    (flag_word (codes "deeper"))
 
 -- verify TASK PROOF [--workers N]
 unfoldable pub verify_command : App
@@ -50,13 +59,25 @@ replay_command =
     (option_word (codes "turns")))
     (option_word (codes "workers"))
 
--- print TASK
+-- print TASK [--copy COPY]
 unfoldable pub print_command : App
-print_command = with_rule (new_app (codes "print")) (required_word (codes "TASK"))
+print_command =
+    with_rule (with_rule (new_app (codes "print"))
+    (required_word (codes "TASK")))
+    (option_word (codes "copy"))
+
+-- suggest TASK [--steps N] [--turns N] [--workers N] [--exact]
+unfoldable pub suggest_command : App
+suggest_command = with_effort (with_rule (new_app (codes "suggest")) (required_word (codes "TASK")))
 
 -- gen SEED SIZE [--steps N] [--turns N] [--workers N] [--exact]
 unfoldable pub gen_command : App
 gen_command = search_command (codes "gen") (codes "SEED") (codes "SIZE")
+
+-- help, or version
+unfoldable pub about_command : About → App
+about_command Help = new_app (codes "help")
+about_command Version = new_app (codes "version")
 
 -- what `clap` knows of a command
 abbrev pub command_of : Verb → App
@@ -64,4 +85,6 @@ command_of Check = check_command
 command_of Verify = verify_command
 command_of Replay = replay_command
 command_of Print = print_command
+command_of Suggest = suggest_command
 command_of Gen = gen_command
+command_of (verb.About what) = about_command what

@@ -1,11 +1,13 @@
--- Numbers among the words: one to ten digits, with a value in a range; and flags. Public clauses
--- cite it.
+-- Numbers among the words: one to ten digits, with a value in a range; flags; and names of copies.
+-- Public clauses cite it.
 use Rattle.std.specs.Prelude.{◌≡◌, ◌⊎◌, ◌&&◌, ℕ, Bool, false, nat_le, length, Option, Some, None}
 use Rattle.std.specs.Prelude.{codes, if◌then◌else◌, option_and_then, option_map}
 use Rattle.std.specs.Option.{option_map_or}
 use Rattle.std.specs.Str.{all_ascii_digits, bytes_eq}
 use Rattle.std.specs.Str.Parse.{digits_value}
 use Rattle.clap.specs.Walk.{Text}
+use Rattle.sm_syntax.specs.declared.copies.CopyName.{CopyName}
+use Rattle.sm_syntax.specs.declared.copies.CopyName.TheVariants.{O, A, B, M}
 use Rattle.sm_words.specs.declared.effort.Effort.{Effort}
 
 -- whether a text is one to ten digits
@@ -61,5 +63,19 @@ effort_by given =
       turns = t;
       workers = w;
       exact = is_given (given (codes "exact"));
+      deeper = is_given (given (codes "deeper"));
     }) (workers_by (given (codes "workers"))))
     (turns_by (given (codes "turns")))) (steps_by (given (codes "steps")))
+
+-- the copy that a word names
+abbrev pub copy_of_word : Text → Option CopyName
+copy_of_word word =
+    if bytes_eq word (codes "base") then Some O else
+    (if bytes_eq word (codes "a") then Some A else
+    (if bytes_eq word (codes "b") then Some B else
+    (if bytes_eq word (codes "candidate") then Some M else None)))
+
+-- the copy that an option names: where the option isn't there, no copy
+abbrev pub copy_by : Option Text → Option (Option CopyName)
+copy_by None = Some None
+copy_by (Some word) = option_map (λ (c : CopyName). Some c) (copy_of_word word)

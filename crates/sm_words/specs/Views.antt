@@ -1,17 +1,20 @@
 -- What requests stand for. Public clauses cite it.
 use Rattle.std.specs.Prelude.{◌<◌, ◌≤◌}
-use Rattle.sm_words.specs.Words.{Asked, check, verify, replay, print, gen}
+use Rattle.sm_words.specs.Words.{Asked, check, verify, replay, print, suggest, gen, about}
 use Rattle.sm_words.specs.declared.effort.Effort.{Effort}
 use Rattle.sm_words.specs.declared.words.Request.{Request}
-use Rattle.sm_words.specs.declared.words.Request.TheVariants.{Check, Verify, Replay, Print, Gen}
+use Rattle.sm_words.specs.declared.words.Request.TheVariants.{Check, Verify, Replay, Print}
+use Rattle.sm_words.specs.declared.words.Request.TheVariants.{Suggest, Gen, About}
 
 -- what a request asks for
 abbrev pub asked_in : Request → Asked
 asked_in (Check task proof effort) = check task.now proof.now effort
 asked_in (Verify task proof workers) = verify task.now proof.now workers
 asked_in (Replay task input turns) = replay task.now input.now turns
-asked_in (Print task) = print task.now
+asked_in (Print task copy) = print task.now copy
+asked_in (Suggest task effort) = suggest task.now effort
 asked_in (Gen seed size effort) = gen seed size effort
+asked_in (About what) = about what
 
 -- one to 64 workers
 abbrev pub HasWorkers : Effort → Type 0
@@ -22,5 +25,7 @@ abbrev pub IsWithin : Request → Type 0
 IsWithin (Check task proof effort) = HasWorkers effort
 IsWithin (Verify task proof workers) = (0 < workers) × (workers ≤ 64)
 IsWithin (Replay task input turns) = Unit {0}
-IsWithin (Print task) = Unit {0}
+IsWithin (Print task copy) = Unit {0}
+IsWithin (Suggest task effort) = HasWorkers effort
 IsWithin (Gen seed size effort) = (1 ≤ size) × (size ≤ 190) × HasWorkers effort
+IsWithin (About what) = Unit {0}

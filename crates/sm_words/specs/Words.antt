@@ -9,9 +9,15 @@ use Rattle.clap.specs.Simple.{matches_of}
 use Rattle.clap.specs.Walk.{Text, first_of}
 use Rattle.sm_words.specs.Command.{command_of}
 use Rattle.sm_words.specs.Numbers.{turns_by, workers_by, HasBadNumber, effort_by, seed_by, size_by}
+use Rattle.sm_words.specs.Numbers.{copy_by}
+use Rattle.sm_words.specs.declared.about.About.{About}
+use Rattle.sm_words.specs.declared.about.About.TheVariants.{Help, Version}
 use Rattle.sm_words.specs.declared.command.Verb.{Verb}
 use Rattle.sm_words.specs.declared.effort.Effort.{Effort}
-use Rattle.sm_words.specs.declared.command.Verb.TheVariants.{Check, Verify, Replay, Print, Gen}
+use Rattle.sm_words.specs.declared.command.Verb.TheVariants.{Check, Verify, Replay, Print, Suggest}
+use Rattle.sm_words.specs.declared.command.Verb.TheVariants.{Gen}
+use Rattle.sm_words.specs.declared.command.Verb.TheVariants as verb
+use Rattle.sm_syntax.specs.declared.copies.CopyName.{CopyName}
 
 -- the words that the program was given
 abbrev pub Words : Type 0
@@ -24,7 +30,10 @@ verb_of word =
     (if bytes_eq word (codes "verify") then Some Verify else
     (if bytes_eq word (codes "replay") then Some Replay else
     (if bytes_eq word (codes "print") then Some Print else
-    (if bytes_eq word (codes "gen") then Some Gen else None))))
+    (if bytes_eq word (codes "suggest") then Some Suggest else
+    (if bytes_eq word (codes "gen") then Some Gen else
+    (if bytes_eq word (codes "help") then Some (verb.About Help) else
+    (if bytes_eq word (codes "version") then Some (verb.About Version) else None)))))))
 
 -- what `clap` finds wrong with the words of a command: nothing where the command takes them
 unfoldable pub word_faults : Verb → Words → Kinds
@@ -38,8 +47,8 @@ argument_text verb id words = first_of id (matches_of (command_of verb) words)
 abbrev pub effort_in : Verb → Words → Option Effort
 effort_in verb words = effort_by (λ (id : Text). argument_text verb id words)
 
--- a number among the words of a command isn't one, or isn't in its range; or the file of the proof
--- that is to be written is that of the task
+-- a number among the words of a command isn't one, or isn't in its range; or a copy's name is none;
+-- or the file of the proof that is to be written is that of the task
 abbrev pub HasBadOption : Verb → Words → Type 0
 HasBadOption Check words =
     (argument_text Check (codes "TASK") words ≡ argument_text Check (codes "PROOF") words)
@@ -48,12 +57,14 @@ HasBadOption Verify words = workers_by (argument_text Verify (codes "workers") w
 HasBadOption Replay words =
     HasBadNumber (argument_text Replay (codes "turns") words)
     (argument_text Replay (codes "workers") words)
-HasBadOption Print words = ⊥
+HasBadOption Print words = copy_by (argument_text Print (codes "copy") words) ≡ None
+HasBadOption Suggest words = effort_in Suggest words ≡ None
 HasBadOption Gen words =
     (seed_by (argument_text Gen (codes "SEED") words) ≡ None)
     ⊎ ((size_by (argument_text Gen (codes "SIZE") words) ≡ None) ⊎ (effort_in Gen words ≡ None))
+HasBadOption (verb.About what) words = ⊥
 
--- the words are none of the command's: `clap` refuses them, or a number isn't one
+-- the words are none of the command's: `clap` refuses them, or an option is bad
 abbrev pub IsRefused : Option Verb → Words → Type 0
 IsRefused None words = Unit {0}
 IsRefused (Some verb) words = (word_faults verb words ≢ []) ⊎ HasBadOption verb words
@@ -71,18 +82,24 @@ pub data Asked : Type 0 where
   verify : List ℕ → List ℕ → ℕ → Asked
   -- what a task's programs do from an input's file
   replay : List ℕ → List ℕ → ℕ → Asked
-  -- the canonical text of a task's file
-  print : List ℕ → Asked
+  -- the canonical text of a task's file, or of the program of one of its copies
+  print : List ℕ → Option CopyName → Asked
+  -- the first combination of the fillings in a task's file that the decision accepts
+  suggest : List ℕ → Effort → Asked
   -- the decision on the task that a seed and a size make
   gen : ℕ → ℕ → Effort → Asked
+  -- what the program says of itself
+  about : About → Asked
 
 -- the file of the task
 abbrev pub task_file : Asked → Option Text
 task_file (check task proof effort) = Some task
 task_file (verify task proof workers) = Some task
 task_file (replay task input turns) = Some task
-task_file (print task) = Some task
+task_file (print task copy) = Some task
+task_file (suggest task effort) = Some task
 task_file (gen seed size effort) = None
+task_file (about what) = None
 
 -- what `check` asks for, by the texts of its arguments
 abbrev pub check_by : Option Text → Option Text → Option Effort → Option Asked
@@ -107,8 +124,15 @@ replay_by task input turns workers =
     option_map (λ (w : ℕ). replay t i n) (workers_by workers)) (turns_by turns)) input) task
 
 -- what `print` asks for
-abbrev pub print_by : Option Text → Option Asked
-print_by task = option_map (λ (t : Text). print t) task
+abbrev pub print_by : Option Text → Option Text → Option Asked
+print_by task copy =
+    option_and_then (λ (t : Text).
+    option_map (λ (c : Option CopyName). print t c) (copy_by copy)) task
+
+-- what `suggest` asks for
+abbrev pub suggest_by : Option Text → Option Effort → Option Asked
+suggest_by task effort =
+    option_and_then (λ (t : Text). option_map (λ (e : Effort). suggest t e) effort) task
 
 -- what `gen` asks for
 abbrev pub gen_by : Option Text → Option Text → Option Effort → Option Asked
@@ -129,10 +153,14 @@ asked_by Replay words =
     replay_by (argument_text Replay (codes "TASK") words)
     (argument_text Replay (codes "INPUT") words)
     (argument_text Replay (codes "turns") words) (argument_text Replay (codes "workers") words)
-asked_by Print words = print_by (argument_text Print (codes "TASK") words)
+asked_by Print words =
+    print_by (argument_text Print (codes "TASK") words) (argument_text Print (codes "copy") words)
+asked_by Suggest words =
+    suggest_by (argument_text Suggest (codes "TASK") words) (effort_in Suggest words)
 asked_by Gen words =
     gen_by (argument_text Gen (codes "SEED") words) (argument_text Gen (codes "SIZE") words)
     (effort_in Gen words)
+asked_by (verb.About what) words = Some (about what)
 
 -- the value where there is no fault
 abbrev pub unless : {X Y : Type 0} → List X → Option Y → Option Y
@@ -148,8 +176,10 @@ HasRequired Verify given =
 HasRequired Replay given =
     (is_some (given (codes "TASK")) ≡ true) × (is_some (given (codes "INPUT")) ≡ true)
 HasRequired Print given = is_some (given (codes "TASK")) ≡ true
+HasRequired Suggest given = is_some (given (codes "TASK")) ≡ true
 HasRequired Gen given =
     (is_some (given (codes "SEED")) ≡ true) × (is_some (given (codes "SIZE")) ≡ true)
+HasRequired (verb.About what) given = Unit {0}
 
 -- what the words ask for, where the command takes them
 abbrev pub asked_where : Option Verb → Words → Option Asked
@@ -168,7 +198,10 @@ usage_line_of (Some Check) = codes "Usage check\n"
 usage_line_of (Some Verify) = codes "Usage verify\n"
 usage_line_of (Some Replay) = codes "Usage replay\n"
 usage_line_of (Some Print) = codes "Usage print\n"
+usage_line_of (Some Suggest) = codes "Usage suggest\n"
 usage_line_of (Some Gen) = codes "Usage gen\n"
+usage_line_of (Some (verb.About Help)) = codes "Usage help\n"
+usage_line_of (Some (verb.About Version)) = codes "Usage version\n"
 
 -- the line on words that no command takes, by the first of them
 abbrev pub usage_line : Words → List ℕ

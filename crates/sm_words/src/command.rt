@@ -1,11 +1,12 @@
 // What `clap` knows of the commands.
-ghost use Rattle.std.specs.Prelude.{◌≡◌, false, codes, IfOk};
-ghost use Rattle.clap.specs.Words.{app_of, rule_of, with_rule};
-ghost use Rattle.sm_words.specs.Command.{check_command, command_of, flag_word, gen_command};
-ghost use Rattle.sm_words.specs.Command.{option_word, print_command, replay_command};
-ghost use Rattle.sm_words.specs.Command.{required_word};
-ghost use Rattle.sm_words.specs.Command.{search_command, verify_command};
+ghost use Rattle.std.specs.Prelude.{◌≡◌, false, IfOk};
+ghost use Rattle.clap.specs.Words.{app_of, rule_of};
+ghost use Rattle.sm_words.specs.Command.{about_command, check_command, command_of, flag_word};
+ghost use Rattle.sm_words.specs.Command.{gen_command, option_word, print_command, replay_command};
+ghost use Rattle.sm_words.specs.Command.{required_word, search_command, suggest_command};
+ghost use Rattle.sm_words.specs.Command.{verify_command, with_effort};
 
+use crate::about::About;
 use clap::{Arg, ArgAction, Command};
 use std::alloc::{AllocError, Global};
 
@@ -16,7 +17,9 @@ pub enum Verb {
     Verify,
     Replay,
     Print,
+    Suggest,
     Gen,
+    About(About),
 }
 
 /// What `clap` knows of a command.
@@ -28,7 +31,9 @@ pub fn command_of<'a>(alloc: Global, verb: Verb) -> Result<Command<'a>, AllocErr
         Verb::Verify => verify_command(alloc),
         Verb::Replay => replay_command(alloc),
         Verb::Print => print_command(alloc),
+        Verb::Suggest => suggest_command(alloc),
         Verb::Gen => gen_command(alloc),
+        Verb::About(about) => Ok(about_command(alloc, about)),
     }
 }
 
@@ -60,7 +65,7 @@ fn flag_word<'a>(alloc: Global, id: &'a str) -> Arg<'a>
 fn check_command<'a>(alloc: Global) -> Result<Command<'a>, AllocError>
     ensures { IfOk result (λ c. app_of c ≡ check_command) }
 {
-    search_command(alloc, "check", "TASK", "PROOF")
+    search_command(alloc, "check", "TASK", "PROOF")?.arg(flag_word(alloc, "deeper"))
 }
 
 #[tactic(auto, unfolding(crate::specs::Command::gen_command))]
@@ -88,10 +93,7 @@ fn search_command<'a>(
 
 // The command with the options of a search.
 fn with_effort<'a>(alloc: Global, command: Command<'a>) -> Result<Command<'a>, AllocError>
-    ensures { IfOk result (λ c. app_of c ≡
-        with_rule (with_rule (with_rule (with_rule (app_of command.entry)
-        (option_word (codes "steps"))) (option_word (codes "turns")))
-        (option_word (codes "workers"))) (flag_word (codes "exact"))) }
+    ensures { IfOk result (λ c. app_of c ≡ with_effort (app_of command.entry)) }
 {
     command
         .arg(option_word(alloc, "steps"))?
@@ -125,5 +127,26 @@ fn replay_command<'a>(alloc: Global) -> Result<Command<'a>, AllocError>
 fn print_command<'a>(alloc: Global) -> Result<Command<'a>, AllocError>
     ensures { IfOk result (λ c. app_of c ≡ print_command) }
 {
-    Command::new(alloc, "print").arg(required_word(alloc, "TASK"))
+    Command::new(alloc, "print")
+        .arg(required_word(alloc, "TASK"))?
+        .arg(option_word(alloc, "copy"))
+}
+
+#[tactic(auto, unfolding(crate::specs::Command::suggest_command))]
+fn suggest_command<'a>(alloc: Global) -> Result<Command<'a>, AllocError>
+    ensures { IfOk result (λ c. app_of c ≡ suggest_command) }
+{
+    let command = Command::new(alloc, "suggest").arg(required_word(alloc, "TASK"))?;
+    with_effort(alloc, command)
+}
+
+// A command that takes no words.
+#[tactic(auto, unfolding(crate::specs::Command::about_command))]
+fn about_command<'a>(alloc: Global, about: About) -> Command<'a>
+    ensures { app_of result ≡ about_command about }
+{
+    match about {
+        About::Help => Command::new(alloc, "help"),
+        About::Version => Command::new(alloc, "version"),
+    }
 }

@@ -11,4 +11,6 @@ pub struct Effort {
     pub workers: u32,
     /// Whether a branch that nothing splits is decided exactly, over whole numbers.
     pub exact: bool,
+    /// Whether inputs beyond the trials are run where the search decides nothing.
+    pub deeper: bool,
 }

@@ -3,20 +3,23 @@ ghost use Rattle.std.specs.Prelude.{◌≡◌, ◌≢◌, ◌<◌, ◌≤◌, �
 ghost use Rattle.std.specs.Prelude.{codes, option_map, ℕ, List, IfOk, IfErr, IsErrOf};
 ghost use Rattle.std.specs.String.{string_bytes};
 ghost use Rattle.clap.specs.Words.{first_value, found_of, kind_of};
-ghost use Rattle.sm_words.specs.Numbers.{effort_by, is_given, seed_by, size_by, steps_by};
+ghost use Rattle.sm_words.specs.Numbers.{copy_by, copy_of_word, effort_by, is_given, seed_by};
+ghost use Rattle.sm_words.specs.Numbers.{size_by, steps_by};
 ghost use Rattle.sm_words.specs.Numbers.{turns_by, workers_by, HasBadNumber};
 ghost use Rattle.sm_words.specs.Views.{asked_in, HasWorkers, IsWithin};
 ghost use Rattle.sm_words.specs.Words.{asked, asked_by, check_by, verify_by, replay_by, print_by};
-ghost use Rattle.sm_words.specs.Words.{gen_by, argument_text, usage_line, verb_of, word_faults};
+ghost use Rattle.sm_words.specs.Words.{suggest_by, gen_by, argument_text, usage_line, verb_of, word_faults};
 ghost use Rattle.sm_words.specs.Words.{HasRequired, IsRefused, IsUsage};
 ghost use Rattle.sm_words.specs.declared.words.WordsError.TheVariants.{Memory};
 
+use crate::about::About;
 use crate::command::{Verb, command_of};
 use crate::effort::Effort;
 use crate::lines::line;
 use crate::numbers::{number_or, spelled};
 use clap::error::ErrorKind;
 use clap::{ArgMatches, Error};
+use sm_syntax::CopyName;
 use std::alloc::{AllocError, Global};
 use thiserror::Error as ErrorText;
 
@@ -41,9 +44,15 @@ pub enum Request<'a> {
         input: &'a str,
         turns: u64,
     },
-    /// The canonical text of a task.
+    /// The canonical text of a task, or of the program of one of its copies.
     Print {
         task: &'a str,
+        copy: Option<CopyName>,
+    },
+    /// The first combination of a task's fillings that the decision accepts.
+    Suggest {
+        task: &'a str,
+        effort: Effort,
     },
     /// The decision on the task that a seed and a size make.
     Gen {
@@ -51,6 +60,8 @@ pub enum Request<'a> {
         size: u16,
         effort: Effort,
     },
+    /// What the program says of itself.
+    About(About),
 }
 
 /// Why words ask for nothing.
@@ -95,7 +106,10 @@ pub fn usage_line(alloc: Global, words: &[String]) -> Result<Vec<u8>, AllocError
             Some(Verb::Verify) => line(alloc, "Usage", &["verify"]),
             Some(Verb::Replay) => line(alloc, "Usage", &["replay"]),
             Some(Verb::Print) => line(alloc, "Usage", &["print"]),
+            Some(Verb::Suggest) => line(alloc, "Usage", &["suggest"]),
             Some(Verb::Gen) => line(alloc, "Usage", &["gen"]),
+            Some(Verb::About(About::Help)) => line(alloc, "Usage", &["help"]),
+            Some(Verb::About(About::Version)) => line(alloc, "Usage", &["version"]),
             None => line(alloc, "Usage", &[]),
         },
         [] => line(alloc, "Usage", &[]),
@@ -111,7 +125,10 @@ fn verb_of(word: &str) -> Option<Verb>
         "verify" => Some(Verb::Verify),
         "replay" => Some(Verb::Replay),
         "print" => Some(Verb::Print),
+        "suggest" => Some(Verb::Suggest),
         "gen" => Some(Verb::Gen),
+        "help" => Some(Verb::About(About::Help)),
+        "version" => Some(Verb::About(About::Version)),
         _ => None,
     }
 }
@@ -130,8 +147,10 @@ fn request_by<'a>(alloc: Global, verb: Verb, words: &'a [String]) -> Result<Requ
         Verb::Check => check_request(&matches),
         Verb::Verify => verify_request(&matches),
         Verb::Replay => replay_request(&matches),
-        Verb::Print => Ok(print_request(&matches)),
+        Verb::Print => print_request(&matches),
+        Verb::Suggest => suggest_request(&matches),
         Verb::Gen => gen_request(&matches),
+        Verb::About(about) => Ok(Request::About(about)),
     }
 }
 
@@ -187,11 +206,13 @@ fn effort_in(matches: &ArgMatches<'_>) -> Result<Effort, WordsError>
     let turns = turns_by(matches.get_str("turns"))?;
     let workers = workers_by(matches.get_str("workers"))?;
     let exact = is_given(matches.get_str("exact"));
+    let deeper = is_given(matches.get_str("deeper"));
     Ok(Effort {
         steps,
         turns,
         workers,
         exact,
+        deeper,
     })
 }
 
@@ -233,15 +254,34 @@ fn replay_request<'a>(matches: &ArgMatches<'a>) -> Result<Request<'a>, WordsErro
     })
 }
 
-fn print_request<'a>(matches: &ArgMatches<'a>) -> Request<'a>
+fn print_request<'a>(matches: &ArgMatches<'a>) -> Result<Request<'a>, WordsError>
     requires { is_some (first_value (found_of matches.now) (codes "TASK")) ≡ true }
-    ensures ok { print_by (first_value (found_of matches.now) (codes "TASK"))
-        ≡ Some (asked_in result) }
-    ensures within { IsWithin result }
+    ensures ok { let given = first_value (found_of matches.now) in IfOk result (λ r.
+        print_by (given (codes "TASK")) (given (codes "copy")) ≡ Some (asked_in r)) }
+    ensures usage { let given = first_value (found_of matches.now) in
+        IsErrOf result WordsError.Usage → copy_by (given (codes "copy")) ≡ None }
+    ensures within { IfOk result IsWithin }
 {
-    Request::Print {
+    let copy = copy_by(matches.get_str("copy"))?;
+    Ok(Request::Print {
         task: text_in(matches, "TASK"),
-    }
+        copy,
+    })
+}
+
+fn suggest_request<'a>(matches: &ArgMatches<'a>) -> Result<Request<'a>, WordsError>
+    requires { is_some (first_value (found_of matches.now) (codes "TASK")) ≡ true }
+    ensures ok { let given = first_value (found_of matches.now) in IfOk result (λ r.
+        suggest_by (given (codes "TASK")) (effort_by given) ≡ Some (asked_in r)) }
+    ensures usage { let given = first_value (found_of matches.now) in
+        IsErrOf result WordsError.Usage → effort_by given ≡ None }
+    ensures within { IfOk result IsWithin }
+{
+    let effort = effort_in(matches)?;
+    Ok(Request::Suggest {
+        task: text_in(matches, "TASK"),
+        effort,
+    })
 }
 
 // The matches of a command on words that it takes.
@@ -348,5 +388,32 @@ fn is_given(text: Option<&str>) -> bool
     match text {
         Some(text) => text == "true",
         None => false,
+    }
+}
+
+// The copy whose program is printed, where the option names one.
+fn copy_by(text: Option<&str>) -> Result<Option<CopyName>, WordsError>
+    ensures ok { IfOk result (λ c. copy_by (option_map (λ t. t.now) text.entry) ≡ Some c) }
+    ensures usage { IfErr result (λ _. copy_by (option_map (λ t. t.now) text.entry) ≡ None) }
+{
+    match text {
+        Some(text) => match copy_of_word(text) {
+            Some(copy) => Ok(Some(copy)),
+            None => Err(WordsError::Usage),
+        },
+        None => Ok(None),
+    }
+}
+
+// The copy that a word names.
+fn copy_of_word(word: &str) -> Option<CopyName>
+    ensures { result ≡ copy_of_word word.now }
+{
+    match word {
+        "base" => Some(CopyName::O),
+        "a" => Some(CopyName::A),
+        "b" => Some(CopyName::B),
+        "candidate" => Some(CopyName::M),
+        _ => None,
     }
 }

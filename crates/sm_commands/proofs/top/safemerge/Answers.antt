@@ -7,7 +7,8 @@ use Rattle.sm_words.specs.Words.{Asked, asked}
 use Rattle.sm_commands.proofs.Answering.{accepts, sound}
 use Rattle.sm_commands.proofs.FilesLemmas.{kept_whole, leaves_cut, leaves_front, left_by}
 use Rattle.sm_commands.proofs.ConflictSound.{conflicts, shows, replays_shown}
-use Rattle.sm_commands.proofs.ReadingsLemmas.{accepts_read, conflicts_read, proves_read, shows_read}
+use Rattle.sm_commands.proofs.ReadingsLemmas.{accepts_read, conflicts_read, proves_read, shows_read, suggests_read}
+use Rattle.sm_commands.proofs.SuggestedSafe.{suggests_safe}
 use Rattle.sm_commands.proofs.Verified.{verifies_exactly}
 use Rattle.sm_commands.proofs.top.safemerge.Goals as goal
 
@@ -141,5 +142,22 @@ returns-in-Ok-clause-shown_read g c = λ e task proof effort asks. (
   c.in-Some.reply.text.items,
   shows_read (map string_bytes c.args.words.now) (g.H.Shelf.given c.args.shelf.now) (g.H.Shelf.given c.reply_to.new.shelf)
       c.in-Some.reply.status c.in-Some.reply.text.items c.in-Some.ensures.read e task proof effort asks,
+  search rules,
+)
+
+pub returns-in-Ok-clause-suggested : goal.returns-in-Ok-clause-suggested
+returns-in-Ok-clause-suggested g c = λ e task effort asks. (
+  c.in-Some.reply.text.items,
+  suggests_safe (map string_bytes c.args.words.now) (g.H.Shelf.file c.args.shelf.now) (g.H.Shelf.read_faults c.args.shelf.now)
+      (g.H.Shelf.read_faults c.reply_to.new.shelf) c.in-Some.reply.status c.in-Some.reply.text.items c.in-Some.ensures.answers e task
+      effort asks,
+  search rules,
+)
+
+pub returns-in-Ok-clause-suggested_read : goal.returns-in-Ok-clause-suggested_read
+returns-in-Ok-clause-suggested_read g c = λ e task effort asks. (
+  c.in-Some.reply.text.items,
+  suggests_read (map string_bytes c.args.words.now) (g.H.Shelf.given c.args.shelf.now) (g.H.Shelf.given c.reply_to.new.shelf)
+      c.in-Some.reply.status c.in-Some.reply.text.items c.in-Some.ensures.read e task effort asks,
   search rules,
 )

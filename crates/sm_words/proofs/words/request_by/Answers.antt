@@ -1,7 +1,7 @@
 use Rattle.std.proofs.Common.{map}
 use Rattle.std.specs.String.{string_bytes}
 use Rattle.clap.specs.Matches.{first_value, found_of}
-use Rattle.sm_words.proofs.Asking.{asks_check, asks_gen, asks_verify, asks_replay, asks_print}
+use Rattle.sm_words.proofs.Asking.{asks_check, asks_gen, asks_verify, asks_replay, asks_print, asks_suggest}
 use Rattle.sm_words.proofs.words.request_by.Goals as goal
 
 pub returns-in-Check-clause-ok : goal.returns-in-Check-clause-ok
@@ -42,18 +42,36 @@ returns-in-Replay-clause-usage c =
 
 pub returns-in-Print-clause-ok : goal.returns-in-Print-clause-ok
 returns-in-Print-clause-ok c =
-    asks_print c.args.verb (map string_bytes c.args.words.now)
+    (asks_print c.args.verb (map string_bytes c.args.words.now)
     (first_value (found_of c.in_ok-matches.matches)) c.print_request.result c.in-Print.is c.in_ok-matches.ensures.taken
-    c.in_ok-matches.ensures.texts c.print_request.ensures.ok
+    c.in_ok-matches.ensures.texts c.print_request.ensures.ok c.print_request.ensures.usage).ok
 
-pub returns-clause-ok : goal.returns-clause-ok
-returns-clause-ok c =
+pub returns-in-Print-clause-usage : goal.returns-in-Print-clause-usage
+returns-in-Print-clause-usage c =
+    (asks_print c.args.verb (map string_bytes c.args.words.now)
+    (first_value (found_of c.in_ok-matches.matches)) c.print_request.result c.in-Print.is c.in_ok-matches.ensures.taken
+    c.in_ok-matches.ensures.texts c.print_request.ensures.ok c.print_request.ensures.usage).usage
+
+pub returns-in-Suggest-clause-ok : goal.returns-in-Suggest-clause-ok
+returns-in-Suggest-clause-ok c =
+    (asks_suggest c.args.verb (map string_bytes c.args.words.now)
+    (first_value (found_of c.in_ok-matches.matches)) c.suggest_request.result c.in-Suggest.is c.in_ok-matches.ensures.taken
+    c.in_ok-matches.ensures.texts c.suggest_request.ensures.ok c.suggest_request.ensures.usage).ok
+
+pub returns-in-Suggest-clause-usage : goal.returns-in-Suggest-clause-usage
+returns-in-Suggest-clause-usage c =
+    (asks_suggest c.args.verb (map string_bytes c.args.words.now)
+    (first_value (found_of c.in_ok-matches.matches)) c.suggest_request.result c.in-Suggest.is c.in_ok-matches.ensures.taken
+    c.in_ok-matches.ensures.texts c.suggest_request.ensures.ok c.suggest_request.ensures.usage).usage
+
+pub returns-in-Gen-clause-ok : goal.returns-in-Gen-clause-ok
+returns-in-Gen-clause-ok c =
     (asks_gen c.args.verb (map string_bytes c.args.words.now)
     (first_value (found_of c.in_ok-matches.matches)) c.gen_request.result c.in-Gen.is c.in_ok-matches.ensures.taken
     c.in_ok-matches.ensures.texts c.gen_request.ensures.ok c.gen_request.ensures.usage).ok
 
-pub returns-clause-usage : goal.returns-clause-usage
-returns-clause-usage c =
+pub returns-in-Gen-clause-usage : goal.returns-in-Gen-clause-usage
+returns-in-Gen-clause-usage c =
     (asks_gen c.args.verb (map string_bytes c.args.words.now)
     (first_value (found_of c.in_ok-matches.matches)) c.gen_request.result c.in-Gen.is c.in_ok-matches.ensures.taken
     c.in_ok-matches.ensures.texts c.gen_request.ensures.ok c.gen_request.ensures.usage).usage

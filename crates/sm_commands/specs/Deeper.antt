@@ -1,0 +1,35 @@
+-- What `check --deeper` answers where the search decides nothing. Public clauses cite it.
+use Rattle.std.specs.Prelude.{◌≡◌, ◌⊎◌, ◌≤◌, ℕ, true, List}
+use Rattle.sm_eval.specs.StoredValues.{meaning}
+use Rattle.sm_eval.specs.declared.store.Store as code
+use Rattle.sm_replay.specs.Violations.{Violates}
+use Rattle.sm_replay.specs.declared.verdict.Verdict.{Verdict}
+use Rattle.sm_syntax.specs.text.Parts.{Parts, task_of}
+use Rattle.sm_words.specs.declared.effort.Effort.{Effort}
+use Rattle.sm_answers.specs.declared.status.Status.{Status}
+use Rattle.sm_answers.specs.declared.status.Status.TheVariants.{Unknown}
+use Rattle.sm_commands.specs.Check.{AnswersCheck, ShowsFrom}
+use Rattle.sm_commands.specs.ProofFile.{FailsToWrite}
+
+-- it was asked for, the search decides nothing, and an input beyond the trials, from which the task
+-- is violated, is shown
+pub record ShowsBeyond (t : Parts) (effort : Effort) (status : Status) (text : List ℕ) : Type 0 where
+  pub asked : effort.deeper ≡ true
+  pub line : List ℕ
+  pub undecided : AnswersCheck t effort Unknown line
+  pub number : ℕ
+  pub beyond : 256 ≤ number
+  pub store : code.Store
+  pub violates : Violates (task_of t) (meaning store) effort.turns
+  pub verdict : Verdict
+  pub shows : ShowsFrom t number (meaning store) verdict status text
+
+-- what is answered to a task: what its search comes to, or an input that shows a conflict
+abbrev pub AnswersDeeper : Parts → Effort → Status → List ℕ → Type 0
+AnswersDeeper t effort status text =
+    AnswersCheck t effort status text ⊎ ShowsBeyond t effort status text
+
+-- and this may be a proof that couldn't be written whole
+abbrev pub AnswersTask : Parts → Effort → Status → List ℕ → Type 0
+AnswersTask t effort status text =
+    AnswersDeeper t effort status text ⊎ FailsToWrite t effort status text

@@ -1,0 +1,75 @@
+// What `check --deeper` answers to a task.
+ghost use Rattle.std.specs.Prelude.{◌≡◌, true, IfOk, IfSome, option_map};
+ghost use Rattle.sm_guided.specs.Beyond as guided;
+ghost use Rattle.sm_replay.specs.Sorted.{sort_fault};
+ghost use Rattle.sm_replay.specs.InputText.{AreNamed};
+ghost use Rattle.sm_syntax.specs.text.Parts.{sort_of};
+ghost use Rattle.sm_task.specs.Tasks.{parts_of};
+ghost use Rattle.sm_text.specs.printing.Named.{HasText};
+ghost use Rattle.sm_commands.specs.Check.{AnswersCheck};
+ghost use Rattle.sm_commands.specs.Deeper.{AnswersDeeper, ShowsBeyond};
+ghost use Rattle.sm_commands.specs.Views.{ComesWith};
+ghost use Rattle.sm_answers.specs.declared.status.Status.TheVariants.{Unknown};
+ghost use Rattle.sm_words.specs.Views.{HasWorkers};
+
+use crate::check::{Decided, Place, check, violation};
+use sm_answers::{Reply, Status};
+use sm_guided::violation_beyond;
+use sm_par::Gate;
+use sm_task::Task;
+use sm_words::Effort;
+use std::alloc::{AllocError, Global};
+use std::thread::Threads;
+
+/// The answer to a task that some text spells. Where its search decides nothing and the effort says
+/// so, inputs beyond the trials are run; the first that violates is the answer. Where none does, the
+/// answer stays. Jobs are for 1 to 64 workers.
+pub fn check_deeper<R: Threads + Sync, G: Gate>(
+    rt: &R,
+    alloc: Global,
+    gate: &G,
+    task: &Task,
+    effort: Effort,
+) -> Result<Decided, AllocError>
+    requires spelled { HasText (parts_of task.now) }
+    requires workers { HasWorkers effort }
+    ensures answers { IfOk result (λ d.
+        AnswersDeeper (parts_of task.now) effort d.reply.status d.reply.text.items) }
+    ensures proof { IfOk result (λ d. ComesWith (parts_of task.now) d.reply.status
+        (option_map (λ v. v.items) d.proof)) }
+{
+    let decided = check(rt, alloc, gate, task, effort)?;
+    if effort.deeper && decided.reply.status == Status::Unknown {
+        if let Some(reply) = beyond(alloc, task, effort, &decided.reply)? {
+            return Ok(Decided { reply, proof: None });
+        }
+    }
+    Ok(decided)
+}
+
+// The answer that an input beyond the trials violates, where one is found.
+fn beyond(
+    alloc: Global,
+    task: &Task,
+    effort: Effort,
+    undecided: &Reply,
+) -> Result<Option<Reply>, AllocError>
+    requires runs { sort_fault (parts_of task.now) ≡ None }
+    requires named { let t = parts_of task.now in AreNamed t.names (sort_of t.declared) }
+    requires asked { effort.deeper ≡ true }
+    requires undecided { AnswersCheck (parts_of task.now) effort Unknown undecided.now.text.items }
+    ensures { IfOk result (λ found. IfSome found (λ r.
+        ShowsBeyond (parts_of task.now) effort r.status r.text.items)) }
+{
+    match violation_beyond(alloc, task, effort.turns)? {
+        Some(shown) => {
+            let at = Place {
+                name: shown.name,
+                index: shown.index,
+                clause: shown.clause,
+            };
+            Ok(Some(violation(alloc, task, shown.number, &shown.input, at)?))
+        }
+        None => Ok(None),
+    }
+}
