@@ -1,21 +1,27 @@
-# Completion of safemerge in bash: commands, the options of each, and files.
+# Completion of safemerge in bash: commands, the options of each with their words, and files.
 # Source it, or put it as `safemerge` into ~/.local/share/bash-completion/completions.
 _safemerge() {
   local word=${COMP_WORDS[COMP_CWORD]} before=${COMP_WORDS[COMP_CWORD - 1]}
   local command=${COMP_WORDS[1]} options=
+  local commands="check verify replay print suggest gen help version"
   COMPREPLY=()
   if [ "$COMP_CWORD" -eq 1 ]; then
-    mapfile -t COMPREPLY < <(compgen -W "check verify replay print gen suggest" -- "$word")
+    mapfile -t COMPREPLY < <(compgen -W "$commands" -- "$word")
     return
   fi
   case $command in
     check) options="--steps --turns --workers --exact --deeper" ;;
-    gen | suggest) options="--steps --turns --workers --exact" ;;
+    suggest | gen) options="--steps --turns --workers --exact" ;;
     replay) options="--turns --workers" ;;
     verify) options="--workers" ;;
+    print) options="--copy" ;;
   esac
   case $before in
     --steps | --turns | --workers) return ;;
+    --copy)
+      mapfile -t COMPREPLY < <(compgen -W "base a b candidate" -- "$word")
+      return
+      ;;
   esac
   case $command,$word in
     *,-*) mapfile -t COMPREPLY < <(compgen -W "$options" -- "$word") ;;

@@ -7,12 +7,12 @@ from dataclasses import dataclass, field
 from typing import Iterator, List, NamedTuple, Optional, Sequence, Tuple
 
 from . import inputs, showing
-from .making import Fault, checked_text
+from .making import Fault, checked_text, copy_texts
 from .printing import task_text
 from .reading import read_program, read_task, text_of
 from .running import Cell, Machines, Store
 from .tokens import Refusal
-from .trees import Program, Task
+from .trees import COPIES, Program, Task
 
 DRAWN_TURNS = 2_000
 SHOWN_TURNS = 1_000_000
@@ -134,7 +134,9 @@ def judged(versions: Sequence[Version], folder: str, settings: Settings) -> Judg
         programs = [version.program() for version in versions]
         text = checked_text(programs)
         task = read_task(text)
-        verdict = verdict_of(asked_of(task, folder, settings))
+        asked = asked_of(task, folder, settings)
+        confirm_copies(asked, programs)
+        verdict = verdict_of(asked)
     except Unanswered as why:
         verdict = not_asked(str(why))
     except Refusal as refusal:
@@ -158,14 +160,27 @@ def asked_of(task: Task, folder: str, settings: Settings) -> Asked:
     return asked
 
 
+def printed_of(asked: Asked, *options: str) -> bytes:
+    """What `print` prints of the task."""
+    status, printed = called(asked.settings, ["print", asked.path("task"), *options])
+    if status != 0:
+        words = " ".join(["safemerge print", *options])
+        first = printed.decode("utf-8", "replace").strip()
+        raise Unanswered("%s: status %d %s" % (words, status, first))
+    return printed
+
+
 def confirm_text(asked: Asked, text: str) -> None:
     """Asks the program for the task's canonical text, which has to be just what was written."""
-    status, printed = called(asked.settings, ["print", asked.path("task")])
-    if status != 0:
-        first = printed.decode("utf-8", "replace").strip()
-        raise Unanswered("safemerge print: status %d %s" % (status, first))
-    if printed != text.encode("ascii"):
+    if printed_of(asked) != text.encode("ascii"):
         raise Fault("the program reads another task than was written")
+
+
+def confirm_copies(asked: Asked, programs: Sequence[Program]) -> None:
+    """Asks the program for the four filled programs, each of which has to be that of its file."""
+    for copy, name, text in zip(COPIES, asked.settings.names, copy_texts(programs)):
+        if printed_of(asked, "--copy", copy) != text.encode("ascii"):
+            raise Fault("the program reads another copy of %s than the file has" % name)
 
 
 def verdict_of(asked: Asked) -> Verdict:

@@ -1,10 +1,11 @@
 """From four programs to a task."""
-from typing import Sequence
+from dataclasses import replace
+from typing import List, Sequence
 
 from . import trees
 from .aligning import shared_and_fillings
 from .joining import joined_front
-from .printing import task_text
+from .printing import program_text, task_text
 from .reading import read_task
 from .tokens import Refusal
 from .trees import Program, Task
@@ -30,6 +31,13 @@ def checked_text(programs: Sequence[Program]) -> str:
         raise Refusal("the task has more than 1,048,576 bytes")
     check_text(text, programs)
     return text
+
+
+def copy_texts(programs: Sequence[Program]) -> List[str]:
+    """What `safemerge print --copy` has to print of the task of four programs: the statements of
+    each, behind the declarations and outputs of all. An assumption stands in no program."""
+    front = replace(joined_front([program.front for program in programs]), assumed=None)
+    return [program_text(Program(front, program.body)) for program in programs]
 
 
 def check_text(text: str, programs: Sequence[Program]) -> None:

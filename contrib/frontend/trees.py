@@ -4,6 +4,7 @@ from typing import Dict, Iterator, List, Optional, Set, Tuple, Union
 
 SECTIONS = ("base", "variant_a", "variant_b", "candidate")
 LETTERS = ("base", "A", "B", "candidate")
+COPIES = ("base", "a", "b", "candidate")
 
 MOST_NAMES = 200
 MOST_NODES = 20_000

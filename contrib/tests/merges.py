@@ -22,6 +22,9 @@ def merge(base: str, ours: str, theirs: str, front: str = FRONT) -> Merge:
 # A raises the limit, and B doubles something else.
 ACCEPTED = merge("limit = 100;", "limit = 200;", "large = size + size;")
 
+# What git makes of it.
+MERGED = ACCEPTED.ours + "large = size + size;\n"
+
 # B reads the limit; from any start its value is another than B's.
 CONFLICT = merge("limit = 100;", "limit = 200;", "large = limit;")
 

@@ -2,6 +2,7 @@
 import os
 import shutil
 import subprocess
+import sys
 import tempfile
 import unittest
 from typing import Dict, List, Tuple
@@ -18,6 +19,7 @@ FIXED = {
 }
 
 STAND_IN = """#!/bin/sh
+[ "$1 $3" = "print --copy" ] && exec '%s' '%s' "$2" "$4" '%s'
 [ "$1" = print ] && exec cat "$2"
 [ "$1" = replay ] && echo '%s' && exit 2
 for word; do :; done
@@ -80,11 +82,14 @@ class Folder(unittest.TestCase):
     def call(self, *words: str, **changes: str) -> Tuple[int, str]:
         return called(list(words), self.folder, **changes)
 
-    def stand_in(self, status: int, answer: str, proof: str = "",
-                 replayed: str = "Unmet") -> Dict[str, str]:
+    def stand_in(self, status: int, answer: str, proof: str = "", replayed: str = "Unmet",
+                 lies: str = "") -> Dict[str, str]:
         """What puts another program in the place of `safemerge`. It prints a task as it stands, and
-        to each `check` it gives this answer, with this text in the file PROOF if there is one."""
-        name = self.write("stand-in/safemerge", STAND_IN % (replayed, proof, status))
+        to each `check` it gives this answer, with this text in the file PROOF if there is one. In
+        place of the filled program of a copy about which it lies it prints another."""
+        printer = os.path.join(CONTRIB, "tests", "copies.py")
+        name = self.write("stand-in/safemerge", STAND_IN % (
+            sys.executable, printer, lies, replayed, proof, status))
         self.write("stand-in/answer", answer)
         os.chmod(name, 0o755)
         path = os.pathsep.join((os.path.dirname(name), CONTRIB, os.environ["PATH"]))

@@ -82,6 +82,13 @@ class Unasked(Asked):
         self.assertEqual(self.ask("HEAD"), (
             2, "a.prog: Unknown: not asked\nno such file in merge\n"))
 
+    def test_a_program_that_reads_another_copy_is_not_believed(self) -> None:
+        self.merged(a_prog=merges.ACCEPTED)
+        lying = self.stand_in(0, "Accepted\n", "a proof", lies="candidate")
+        self.assertEqual(self.call(script("git-safemerge"), "HEAD", **lying), (
+            2, "a.prog: Unknown: not asked\na fault of this tool: the program reads another copy of"
+            " merge than the file has\n"))
+
     def test_what_is_no_merge_is_a_fault_of_the_call(self) -> None:
         self.commit({"a": "1"})
         self.assertEqual(self.ask("HEAD"), (

@@ -1,6 +1,10 @@
 """The merge driver, in repositories of git."""
 import os
 
+from frontend.making import copy_texts
+from frontend.reading import read_program
+from frontend.trees import COPIES
+
 from . import merges
 from .support import Repository, needs_program
 
@@ -136,7 +140,12 @@ class Unasked(Driven):
         self.refused(printed)
 
     def test_no_answer_in_time(self) -> None:
-        slow = self.write("slow", "#!/bin/sh\ncase $1 in print) cat \"$2\";; *) sleep 9;; esac\n")
+        four = [read_program(text) for text in (*merges.ACCEPTED, merges.MERGED)]
+        for copy, text in zip(COPIES, copy_texts(four)):
+            self.write(copy, text)
+        slow = self.write("slow", (
+            "#!/bin/sh\ncase $1$3 in\n  print) cat \"$2\" ;;\n  print--copy) cat '%s'/$4 ;;\n"
+            "  *) sleep 9 ;;\nesac\n" % self.folder))
         os.chmod(slow, 0o755)
         self.git("config", "safemerge.seconds", "1")
         self.git("config", "safemerge.draws", "10")
@@ -150,6 +159,14 @@ class Unasked(Driven):
         status, printed = self.merged(merges.ACCEPTED, SAFEMERGE=other)
         self.assertEqual(status, 1)
         self.assertIn("the program reads another task than was written", printed)
+
+    def test_a_program_that_reads_another_copy_is_not_believed(self) -> None:
+        status, printed = self.merged(
+            merges.ACCEPTED, **self.stand_in(0, "Accepted\n", "a proof", lies="b"))
+        self.assertEqual(status, 1)
+        self.assertIn("Unknown: not asked\na fault of this tool: the program reads another copy of"
+                      " theirs than the file has\n", printed)
+        self.refused(printed)
 
     def test_one_side_alone_is_not_asked(self) -> None:
         self.sides({"p.prog": merges.ACCEPTED.base}, {"other": "1"},

@@ -8,7 +8,7 @@ from typing import List
 
 from frontend.reading import RESERVED
 
-from .support import CONTRIB, Folder, example, script
+from .support import CONTRIB, SAFEMERGE, Folder, example, needs_program, script
 
 
 def text_of(name: str) -> str:
@@ -28,15 +28,22 @@ class Completion(Folder):
     def test_words_are_completed(self) -> None:
         self.write("one.task", "")
         cases = [
-            (("safemerge", ""), ["check", "verify", "replay", "print", "gen", "suggest"]),
+            (("safemerge", ""),
+             ["check", "verify", "replay", "print", "suggest", "gen", "help", "version"]),
             (("safemerge", "ch"), ["check"]),
+            (("safemerge", "ver"), ["verify", "version"]),
             (("safemerge", "check", "--"),
              ["--steps", "--turns", "--workers", "--exact", "--deeper"]),
             (("safemerge", "suggest", "--"), ["--steps", "--turns", "--workers", "--exact"]),
             (("safemerge", "gen", "--"), ["--steps", "--turns", "--workers", "--exact"]),
             (("safemerge", "replay", "--"), ["--turns", "--workers"]),
             (("safemerge", "verify", "--"), ["--workers"]),
-            (("safemerge", "print", "--"), []),
+            (("safemerge", "print", "--"), ["--copy"]),
+            (("safemerge", "print", "one.task", "--copy", ""), ["base", "a", "b", "candidate"]),
+            (("safemerge", "print", "--copy", "b"), ["base", "b"]),
+            (("safemerge", "print", "--copy", "b", "o"), ["one.task"]),
+            (("safemerge", "help", ""), []),
+            (("safemerge", "version", "--"), []),
             (("safemerge", "check", "--steps", ""), []),
             (("safemerge", "print", "o"), ["one.task"]),
             (("safemerge", "suggest", "o"), ["one.task"]),
@@ -45,6 +52,15 @@ class Completion(Folder):
         ]
         for words, expected in cases:
             self.assertEqual(self.completed(*words), expected, words)
+
+    @needs_program
+    def test_the_words_are_those_of_help(self) -> None:
+        lines = self.call(str(SAFEMERGE), "help")[1].splitlines()
+        commands = [line.split()[1] for line in lines]
+        self.assertEqual(self.completed("safemerge", ""), commands)
+        for command, line in zip(commands, lines):
+            self.assertEqual(self.completed("safemerge", command, "--"),
+                             re.findall(r"--\w+", line), command)
 
 
 class Grammar(unittest.TestCase):

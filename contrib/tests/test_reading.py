@@ -6,7 +6,9 @@ import unittest
 from frontend.printing import program_text, task_text
 from frontend.reading import read_program, read_task, text_of
 from frontend.tokens import Refusal
+from frontend.trees import COPIES
 
+from .copies import text_of_copy
 from .drawing import quadruples
 from .support import EXAMPLES, SAFEMERGE, Folder, called, needs_program
 
@@ -92,6 +94,14 @@ class Canonical(Folder):
             with self.subTest(path), open(path, encoding="utf-8") as file:
                 printed = called([str(SAFEMERGE), "print", path])
                 self.assertEqual((0, task_text(read_task(file.read()))), printed)
+
+    def test_filled_programs_are_printed_as_the_program_does(self) -> None:
+        for name in ("loop_edits_proved/trades.task", "right_under_an_assumption/transfer.task"):
+            path = os.path.join(EXAMPLES, name)
+            for copy in COPIES:
+                with self.subTest(name, copy=copy):
+                    printed = called([str(SAFEMERGE), "print", path, "--copy", copy])
+                    self.assertEqual((0, text_of_copy(path, copy, "")), printed)
 
     def test_what_is_refused_is_refused_by_the_program(self) -> None:
         task = "var x; output x; shared { %s } base { } variant_a { } variant_b { } candidate { }"
