@@ -18,7 +18,7 @@ runs_on() {
 for task in "$@"; do
   name=$proofs/$(printf '%s' "$task" | tr / +)
   new=$name.$$
-  answer=$(timeout 60 safemerge check --turns 100 "$task" "$new")
+  answer=$(timeout 60 safemerge check --deeper --turns 100 "$task" "$new")
   status=$?
   printf '%s\n' "$answer" >"$name.answer"
   case $status,$answer in

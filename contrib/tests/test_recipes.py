@@ -242,16 +242,19 @@ class Queue(Folder):
                    " variant_a { ?1 { x = 2; } } variant_b { ?1 { x = 1; } }"
                    " candidate { ?1 { while (true) { } } }")
         for task in ("loop_edits_proved/trades.task", "loop_edit_lost/prices.task",
-                     "unknown_and_what_to_do/seats.task"):
+                     "unknown_and_what_to_do/seats.task",
+                     "guard_that_no_trial_enters/parcels.task"):
             self.write(os.path.basename(task), example(task))
         lines = self.queue("trades.task", "prices.task", "seats.task", "vacuous.task",
-                           "endless.task")
+                           "endless.task", "parcels.task")
         self.assertEqual(lines[0], "trades.task: merge")
         self.assertTrue(lines[1].startswith("prices.task: reject: Conflict trial"))
         self.assertTrue(lines[2].startswith('input {"'))
         self.assertEqual(lines[3], "seats.task: ask a person: status 2 Unknown Open 9 0")
-        self.assertEqual(lines[4:], ["vacuous.task: ask a person: status 0 Accepted",
-                                     "no trial meets the assumption",
-                                     "endless.task: ask a person: accepted, but it may never end"])
+        self.assertEqual(lines[4:7], ["vacuous.task: ask a person: status 0 Accepted",
+                                      "no trial meets the assumption",
+                                      "endless.task: ask a person: accepted, but it may never end"])
+        self.assertRegex(lines[7], r"^parcels\.task: reject: Conflict trial \d+ cell large ")
+        self.assertIn('"size":"101"', lines[8])
         self.assertEqual(sorted(name for name in os.listdir(self.path("proofs"))
                                 if not name.endswith(".answer")), ["trades.task.proof"])
