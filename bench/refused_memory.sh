@@ -41,6 +41,17 @@ candidate { ?1 { out[i] = a[i] + 1; } ?2 { log[i] = c[i] + i; } }
 TASK
 echo '{"n":3,"a":{"0":1,"1":2,"2":3}}' > "$place/input"
 
+# One that the search leaves open, and that an input beyond the trials shows to be wrong.
+cat > "$place/open" <<TASK
+var size, limit, large;
+output large;
+shared { ?1; ?2; }
+base { ?1 { limit = 100; } ?2 { large = 0; } }
+variant_a { ?1 { limit = 200; } ?2 { large = 0; } }
+variant_b { ?1 { limit = 100; } ?2 { if (size > limit) { large = 1; } else { large = 0; } } }
+candidate { ?1 { limit = 200; } ?2 { if (size > limit) { large = 1; } else { large = 0; } } }
+TASK
+
 # Runs the program with the words, and request $1 refused.
 refusing() {
   number=$1
@@ -129,4 +140,9 @@ row replay replay "$place/task" "$place/input"
 row gen gen 1 3
 row check check "$place/task" "$place/found"
 row 'check, 3 workers' check "$place/task" "$place/found" --workers 3
+row 'check --deeper' check "$place/open" "$place/found" --deeper
+row suggest suggest "$place/task" --steps 1000
+row 'print --copy' print "$place/task" --copy candidate
+row help help
+row version version
 exit $failed
