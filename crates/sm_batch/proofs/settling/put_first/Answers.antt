@@ -1,0 +1,12 @@
+use Rattle.std.proofs.Common.{ap, ◌∙◌, ℕ, Vec, Global}
+use Rattle.std.specs.Str.{bytes_eq}
+use Rattle.lru.specs.LruCache.{LruCache}
+use Rattle.sm_batch.specs.declared.batch.Kept.{Kept}
+use Rattle.sm_batch.specs.Views.{entries_of, entry_of}
+use Rattle.sm_batch.proofs.MapLemmas.{images-promoted}
+use Rattle.sm_batch.proofs.settling.put_first.Goals as goal
+
+pub returns-clause-entries : goal.returns-clause-entries
+returns-clause-entries c =
+    ap (λ (v : LruCache (Vec ℕ Global) Kept). entries_of v.entries) c.promote.ensures.entries
+    ∙ images-promoted (λ (v : Vec ℕ Global). v.items) entry_of (bytes_eq c.args.key.now.items) c.args.cache.now.entries

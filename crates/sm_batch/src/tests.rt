@@ -1,0 +1,142 @@
+// What no clause says: which hits spare answers, and that calls succeed.
+ghost use Rattle.std.specs.Prelude.{◌≡◌, ◌&&◌, true, All, IfOk};
+ghost use Rattle.std.proofs.Common.{sym, ◌∙◌};
+ghost use Rattle.sm_text.specs.printing.Named.{HasText};
+ghost use Rattle.sm_text.specs.Tasks.{parts_of};
+ghost use Rattle.sm_batch.specs.Echo.{echoes, echoed_is_free};
+ghost use Rattle.sm_batch.specs.Keys.{key_of};
+
+use crate::batch::Batch;
+use crate::worker::{Answered, Worker};
+use sm_par::Open;
+use sm_syntax::{Block, same_block};
+use sm_task::{Task, TaskError, parse_task, print_task};
+use std::alloc::{AllocError, Global};
+use std::sync::atomic::{AtomicU64, Ordering};
+use std::test::Fail;
+use std::thread::Threads;
+
+const EMPTY: &str =
+    "var x; output x; shared { } base { } variant_a { } variant_b { } candidate { }";
+
+const OTHER: &str =
+    "var x; output x; shared { x = 1; } base { } variant_a { } variant_b { } candidate { }";
+
+// Replies to a task with its canonical text. Where it is eager it accepts the tasks of an empty
+// program, with any certificate. It counts its answers.
+#[derive(Drop)]
+struct Echo {
+    eager: bool,
+    answers: AtomicU64,
+}
+
+impl Echo {
+    fn new(eager: bool) -> Echo {
+        Echo {
+            eager,
+            answers: AtomicU64::new(0),
+        }
+    }
+
+    fn accepts(&self, alloc: Global, task: &Task) -> bool
+        ensures { result ≡ echoes self.now.eager (parts_of task.now) }
+    {
+        let empty = Block {
+            list: Vec::new(alloc),
+        };
+        self.eager && same_block(&task.shared.body, &empty)
+    }
+}
+
+impl Worker for Echo {
+    ghost replies = { λ _ t reply. reply ≡ key_of t };
+
+    ghost accepts = { λ w t. echoes w.eager t ≡ true };
+
+    ghost takes = { λ w t _. echoes w.eager t };
+
+    fn answer(&self, alloc: Global, task: &Task) -> Result<Answered, AllocError> {
+        self.answers.fetch_add(1, Ordering::SeqCst);
+        let reply = print_task(alloc, task)?;
+        if self.accepts(alloc, task) {
+            return Ok(Answered {
+                reply,
+                cert: Some(Vec::new(alloc)),
+            });
+        }
+        Ok(Answered { reply, cert: None })
+    }
+
+    fn recheck(&self, alloc: Global, task: &Task, _cert: &[u8]) -> Result<bool, AllocError> {
+        Ok(self.accepts(alloc, task))
+    }
+
+    ghost one_reply = { λ w t a b first second. first ∙ sym second };
+
+    ghost is_free = { λ w t c taken. echoed_is_free w.eager t taken };
+}
+
+// The task of a text.
+fn task_of(alloc: Global, text: &str) -> Result<Task, TaskError>
+    ensures { IfOk result (λ t. HasText (parts_of t)) }
+{
+    if text.len() > 4096 {
+        return Err(TaskError::Memory);
+    }
+    parse_task(alloc, text.as_bytes())
+}
+
+// The empty task and the other.
+fn both_tasks(alloc: Global) -> Result<Vec<Task>, Fail>
+    ensures { IfOk result (λ ts. All (λ t. HasText (parts_of t)) ts.items) }
+{
+    let mut tasks = Vec::new(alloc);
+    tasks.push(task_of(alloc, EMPTY)?)?;
+    tasks.push(task_of(alloc, OTHER)?)?;
+    Ok(tasks)
+}
+
+// The empty task, the other and the empty one again, in groups of one. Answers how many hits and
+// how many answers there were.
+fn hits_and_answers<R: Threads + Sync>(
+    rt: &R,
+    alloc: Global,
+    eager: bool,
+) -> Result<(u64, u64), Fail> {
+    let mut batch = Batch::new(alloc, Echo::new(eager), 2)?;
+    for text in [EMPTY, OTHER, EMPTY] {
+        let tasks = vec![in alloc; task_of(alloc, text)?]?;
+        let _ = batch.group(rt, alloc, &Open, &tasks, 1)?;
+    }
+    let answers = batch.worker.answers.load(Ordering::SeqCst);
+    Ok((batch.hits(), answers))
+}
+
+#[test]
+fn a_hit_spares_an_answer(rt: HostRuntime) -> Result<(), Fail> {
+    assert!(rt; hits_and_answers(&rt, rt.alloc(), true)? == (1, 2));
+    Ok(())
+}
+
+#[test]
+fn a_certificate_that_is_not_taken_is_no_hit(rt: HostRuntime) -> Result<(), Fail> {
+    assert!(rt; hits_and_answers(&rt, rt.alloc(), false)? == (0, 3));
+    Ok(())
+}
+
+#[test]
+fn replies_stand_in_the_order_of_the_tasks(rt: HostRuntime) -> Result<(), Fail> {
+    let alloc = rt.alloc();
+    let mut batch = Batch::new(alloc, Echo::new(true), 1)?;
+    let tasks = both_tasks(alloc)?;
+    let first = batch.group(&rt, alloc, &Open, &tasks, 2)?;
+    let again = batch.group(&rt, alloc, &Open, &tasks, 64)?;
+    assert!(rt; first.len() == 2);
+    assert!(rt; first == again);
+    // The text of the empty task is the shorter one.
+    if let [one, two] = first.as_slice() {
+        assert!(rt; one.len() < two.len());
+    }
+    assert!(rt; batch.hits() == 1);
+    Ok(())
+}
