@@ -1,12 +1,13 @@
 #!/usr/bin/env python3
 """Random small merges, put to `check`, `verify` and `replay`, and judged by an interpreter.
 
-random_tasks.py PROGRAM FOLDER [COUNT [SEED]]
+random_tasks.py PROGRAM FOLDER [COUNT [SEED [OPTION ..]]]
 
 The tasks are drawn by task_drawing.py, and task_trees.py has the interpreter. Each `Accepted` has
 a proof that `verify` accepts, and holds from 2,000 inputs; of 5 of them `replay` has to say what
-the interpreter says. Each `Conflict` is the first of the 256 trials that violates, and `replay` of
-the printed input shows the same. No other answer leaves a file. Of each `Unknown Open` it is
+the interpreter says. Each `Conflict` is the first of the 256 trials that violates, or with the
+OPTION --deeper of `check` an input beyond them where none does, and `replay` of the printed input
+shows the same. No other answer leaves a file. Of each `Unknown Open` it is
 counted what its edits have to do with, and whether it holds from all inputs that were tried.
 
 FOLDER gets the tasks with wrong answers, and those of each `Unknown Open` that holds.
@@ -36,8 +37,8 @@ def limited():
 class Asked:
     """The program's answers to one task in a folder, and what is wrong with them."""
 
-    def __init__(self, program, place, task):
-        self.program, self.task = program, task
+    def __init__(self, program, options, place, task):
+        self.program, self.options, self.task = program, options, task
         self.file, self.proof = os.path.join(place, "task"), os.path.join(place, "found")
         with open(self.file, "w", encoding="utf-8") as out:
             out.write(task.text())
@@ -56,7 +57,7 @@ class Asked:
             self.faults.append(fault)
 
     def check(self):
-        status, lines = self.call(["check", self.file, self.proof, "--turns", str(TURNS)])
+        status, lines = self.call(["check", self.file, self.proof, "--turns", str(TURNS)] + self.options)
         if status == -signal.SIGXCPU:
             return LATE, []
         first = (lines or [""])[0].split()
@@ -89,7 +90,9 @@ class Asked:
         found, text = " ".join(["Conflict"] + words[3:]), lines[1][len("input "):]
         self.want(self.replay(text) == [found], "a conflict that replay doesn't confirm")
         self.want(self.task.verdict(store_of(text)) == found, "a conflict that isn't one")
-        self.want(first_trial(self.task) == int(words[2]), "another trial is the first")
+        first, number = first_trial(self.task), int(words[2])
+        beyond = first is None and number >= 256 and "--deeper" in self.options
+        self.want(first == number or beyond, "another trial is the first")
 
     def accepted(self, stores):
         answer = self.call(["verify", self.file, self.proof])
@@ -199,7 +202,7 @@ def main():
     counts = Counts(folder)
     with tempfile.TemporaryDirectory() as place:
         for number in range(count):
-            asked = Asked(program, place, made(draw))
+            asked = Asked(program, sys.argv[5:], place, made(draw))
             put(asked, counts, number, met(asked.task, stores, draw.randrange(len(stores))))
             counts.fault(number, asked)
             if number % 500 == 499:

@@ -5,10 +5,13 @@
 # undecided ones are counted by what their edits have to do with. KEEP names a folder for the
 # undecided tasks that hold, and for those with wrong answers. Run it at the top, after make.
 #
-# bench/random_tasks.sh [PROGRAM [COUNT [SEED]]]
+# bench/random_tasks.sh [PROGRAM [COUNT [SEED [OPTION ..]]]], with options of `check`
 set -eu
 program=${1:-bin/safemerge}
 place=$(mktemp -d)
 trap 'rm -rf "$place"' EXIT
 
-python3 -B "$(dirname "$0")/random_tasks.py" "$program" "${KEEP:-$place}" "${2:-5000}" "${3:-1}"
+count=${2:-5000}
+seed=${3:-1}
+[ $# -le 3 ] && shift $# || shift 3
+python3 -B "$(dirname "$0")/random_tasks.py" "$program" "${KEEP:-$place}" "$count" "$seed" "$@"
