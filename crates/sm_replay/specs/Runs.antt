@@ -1,4 +1,4 @@
--- The four programs and their ends as the program keeps them. No public clause cites it.
+-- The four programs and their ends as the program keeps them. Public clauses cite it.
 use Rattle.std.specs.Prelude.{◌≡◌, ◌⊎◌, ℕ, Option, Some, None, List}
 use Rattle.sm_syntax.specs.declared.copies.PerCopy.{PerCopy}
 use Rattle.sm_syntax.specs.declared.tree.Block.{Block}

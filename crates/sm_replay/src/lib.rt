@@ -6,6 +6,8 @@
 //! - `judge` runs the four programs, with their holes filled, from one store: they end and keep the
 //!   condition, or the first cell and part in which it fails, or what kept them from an end. It
 //!   says that the store violates the condition exactly where it does.
+//! - `ends_of` gives the ends of the four programs alone, or why the first copy without one has
+//!   none.
 //! - `first_violation` is the least trial that violates, for every number of workers.
 //!   `some_trial_meets` says whether the assumption excludes them all.
 //! - `violations_conflict` is the law that a violation is a conflict, and `valid_tasks_run` that a
@@ -40,6 +42,7 @@ pub use laws::{
     first_violation_is_one, least_trial_is_one, reading_is_one, spelled_names_are_found,
     valid_tasks_run, verdict_is_one, violations_conflict, written_text_is_one,
 };
+pub use runs::ends_of;
 pub use trial_jobs::{first_violation, some_trial_meets};
 pub use trials::trial;
 pub use verdict::Verdict;

@@ -1,0 +1,11 @@
+-- The line of the place so far.
+use Rattle.std.proofs.Common.{◌≤◌}
+use Rattle.sm_explain.specs.Places.{StartsLine, HasNoFeed}
+use Rattle.sm_explain.proofs.places.line_start.Given as goal
+
+abbrev pub invariant-loop-k : goal.invariant-loop-k
+invariant-loop-k l = record {
+  inside : l.start ≤ l.k;
+  starts : StartsLine l.text l.start;
+  one_line : HasNoFeed l.text l.start l.k;
+}

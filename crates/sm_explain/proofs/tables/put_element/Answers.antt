@@ -1,0 +1,13 @@
+use Rattle.std.proofs.Common.{◌≡◌, ◌++◌, ℤ, to_z, of_z, ap, ◌∙◌, rules}
+use Rattle.std.specs.Int.{w128}
+use Rattle.sm_syntax.specs.claim.Keeps.{Element}
+use Rattle.sm_replay.specs.Runs.{end_in}
+use Rattle.sm_explain.specs.Rows.{cell_rows}
+use Rattle.sm_explain.proofs.tables.put_element.Goals as goal
+
+pub returns : goal.returns
+returns c =
+    let i = c.args.i.now in
+    let same : to_z w128 (of_z w128 i) ≡ i = search rules in
+    c.in_ok-put_rows.ensures
+    ∙ ap (λ (z : ℤ). c.args.out.now.items ++ cell_rows c.args.names.now (end_in c.args.ends.now) (Element c.args.a.0 z)) same

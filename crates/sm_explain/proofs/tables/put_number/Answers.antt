@@ -1,0 +1,8 @@
+use Rattle.std.proofs.Common.{refl}
+use Rattle.sm_syntax.specs.claim.Keeps.{Scalar}
+use Rattle.sm_replay.specs.Runs.{end_in}
+use Rattle.sm_explain.specs.Rows.{cell_rows}
+use Rattle.sm_explain.proofs.tables.put_number.Goals as goal
+
+pub returns : goal.returns
+returns c = (cell_rows c.args.names.now (end_in c.args.ends.now) (Scalar c.args.x.0), refl, c.in_ok-put_rows.ensures)
