@@ -248,6 +248,7 @@ fewer_written t effort workers s l (inl (inr a)) =
       store = a.store;
       violates = a.violates;
       verdict = a.verdict;
+      judged = a.judged;
       shows = a.shows;
     }))
 fewer_written t effort workers s l (inr f) = inr (record { found = f.found; says = f.says })

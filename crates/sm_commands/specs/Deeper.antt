@@ -1,7 +1,8 @@
 -- What `check --deeper` answers where the search decides nothing. Public clauses cite it.
-use Rattle.std.specs.Prelude.{◌≡◌, ◌⊎◌, ◌≤◌, ℕ, true, List}
+use Rattle.std.specs.Prelude.{◌≡◌, ◌⊎◌, ◌≤◌, ℕ, true, List, Ok}
 use Rattle.sm_eval.specs.StoredValues.{meaning}
 use Rattle.sm_eval.specs.declared.store.Store as code
+use Rattle.sm_replay.specs.Verdicts.{Judges}
 use Rattle.sm_replay.specs.Violations.{Violates}
 use Rattle.sm_replay.specs.declared.verdict.Verdict.{Verdict}
 use Rattle.sm_syntax.specs.text.Parts.{Parts, task_of}
@@ -12,7 +13,7 @@ use Rattle.sm_commands.specs.Check.{AnswersCheck, ShowsFrom}
 use Rattle.sm_commands.specs.ProofFile.{FailsToWrite}
 
 -- it was asked for, the search decides nothing, and an input beyond the trials, from which the task
--- is violated, is shown
+-- is violated, is shown with what a run of the four programs from it says
 pub record ShowsBeyond (t : Parts) (effort : Effort) (status : Status) (text : List ℕ) : Type 0 where
   pub asked : effort.deeper ≡ true
   pub line : List ℕ
@@ -22,6 +23,7 @@ pub record ShowsBeyond (t : Parts) (effort : Effort) (status : Status) (text : L
   pub store : code.Store
   pub violates : Violates (task_of t) (meaning store) effort.turns
   pub verdict : Verdict
+  pub judged : Judges (task_of t) (meaning store) effort.turns (Ok verdict)
   pub shows : ShowsFrom t number (meaning store) verdict status text
 
 -- what is answered to a task: what its search comes to, or an input that shows a conflict

@@ -19,5 +19,6 @@ returns-in_ok-violation-in-Some c =
       store = c.in-Some.shown.input;
       violates = found.violates;
       verdict = Violates c.in-Some.shown.name c.in-Some.shown.index c.in-Some.shown.clause;
+      judged = found.judged;
       shows = c.in_ok-violation-in-Some.ensures;
     }
