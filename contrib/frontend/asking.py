@@ -187,7 +187,7 @@ def verdict_of(asked: Asked) -> Verdict:
     """The answer of `check`, with what can be said about it."""
     try:
         turns = str(asked.settings.turns)
-        status, lines = asked.call("check", "--turns", turns, asked.path("task"),
+        status, lines = asked.call("check", "--deeper", "--turns", turns, asked.path("task"),
                                    asked.path("proof"))
     except Unanswered as why:
         return searched(asked, "Unknown: %s" % why, [])
