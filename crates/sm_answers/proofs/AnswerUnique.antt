@@ -20,7 +20,7 @@ use Rattle.sm_task.proofs.RefusalUnique.{one_refusal}
 use Rattle.sm_text.proofs.Complete.Tasks as text
 use Rattle.sm_answers.specs.File.{file_limit, FailsToRead, GivesNoBytes, GivesNoTask, GivesTask, IsNoTask, IsRead, IsTooLong}
 use Rattle.sm_answers.specs.Lines.{input_refusal_line, refusal_line, verdict_line}
-use Rattle.sm_answers.specs.Replay.{verdict_status, AnswersReplay, GivesInput, GivesNoInput, IsNoInput, ReplaysInput}
+use Rattle.sm_answers.specs.Replay.{verdict_status, AnswersReplay, GivesInput, GivesNoInput, IsNoInput, Replays, ReplaysInput}
 use Rattle.sm_answers.specs.Status.{Says}
 use Rattle.sm_answers.specs.Verify.{Verifies, answer_line, answer_status, proof_limit, AnswersProof}
 use Rattle.sm_answers.specs.declared.status.Status.{Status}
@@ -34,7 +34,7 @@ pub says_same : {p q : Status} {l m : List ℕ} {s u : Status} {t v : List ℕ} 
 says_same same alike a b = (a.ended ∙ same ∙ sym b.ended, a.printed ∙ alike ∙ sym b.printed)
 
 -- a file has one list of bytes
-read_same : (file : Known) (b n c m : ℕ) (xs ys : List ℕ) → file ≢ untold → IsRead file b n xs → IsRead file c m ys → xs ≡ ys
+pub read_same : (file : Known) (b n c m : ℕ) (xs ys : List ℕ) → file ≢ untold → IsRead file b n xs → IsRead file c m ys → xs ≡ ys
 read_same untold b n c m xs ys told r q = absurd (told refl)
 read_same absent b n c m xs ys told r q = absurd (r.there refl)
 read_same (holds h) b n c m xs ys told r q = sym (r.held h refl) ∙ q.held h refl
@@ -57,13 +57,13 @@ not_there file b n s t no_fault f = go f.cause
     go (inr gone) = gone
 
 -- a file doesn't both give bytes and none
-bytes_or_none : (kind : List ℕ) (file : Known) (b n c m : ℕ) (xs : List ℕ) (s : Status) (t : List ℕ) → file ≢ untold → (¬ Rose c m)
+pub bytes_or_none : (kind : List ℕ) (file : Known) (b n c m : ℕ) (xs : List ℕ) (s : Status) (t : List ℕ) → file ≢ untold → (¬ Rose c m)
     → IsRead file b n xs → GivesNoBytes kind file c m s t → ⊥
 bytes_or_none kind file b n c m xs s t told no_fault r (inl f) = r.there (not_there file c m s t no_fault f)
 bytes_or_none kind file b n c m xs s t told no_fault r (inr f) = read_within file kind b n c m xs s t told r f
 
 -- and one answer says that it gives none
-no_bytes_same : (kind : List ℕ) (file : Known) (b n c m : ℕ) (s u : Status) (t v : List ℕ) → (¬ Rose b n) → (¬ Rose c m)
+pub no_bytes_same : (kind : List ℕ) (file : Known) (b n c m : ℕ) (s u : Status) (t v : List ℕ) → (¬ Rose b n) → (¬ Rose c m)
     → GivesNoBytes kind file b n s t → GivesNoBytes kind file c m u v → Same s t u v
 no_bytes_same kind file b n c m s u t v no_fault nor_later (inl f) (inl g) = says_same refl refl f.says g.says
 no_bytes_same kind file b n c m s u t v no_fault nor_later (inl f) (inr g) = absurd (g.there (not_there file b n s t no_fault f))
@@ -71,7 +71,7 @@ no_bytes_same kind file b n c m s u t v no_fault nor_later (inr f) (inl g) = abs
 no_bytes_same kind file b n c m s u t v no_fault nor_later (inr f) (inr g) = says_same refl refl f.says g.says
 
 -- bytes are refused in one way
-no_task_same : (xs : List ℕ) (s u : Status) (t v : List ℕ) → IsNoTask xs s t → IsNoTask xs u v → Same s t u v
+pub no_task_same : (xs : List ℕ) (s u : Status) (t v : List ℕ) → IsNoTask xs s t → IsNoTask xs u v → Same s t u v
 no_task_same xs s u t v f g =
     says_same refl (ap (refusal_line (names_of xs)) (one_refusal xs f.error g.error f.first g.first)) f.says g.says
 
@@ -111,7 +111,7 @@ err_same : (e f : InputError) → refused_for e ≡ refused_for f → e ≡ f
 err_same e f p = cc
 
 -- bytes give one store, or are refused in one way
-store_same : (t : Parts) (xs : List ℕ) (s u : code.Store) → IsInput t.names (sort_of t.declared) xs s
+pub store_same : (t : Parts) (xs : List ℕ) (s u : code.Store) → IsInput t.names (sort_of t.declared) xs s
     → IsInput t.names (sort_of t.declared) xs u → meaning s ≡ meaning u
 store_same t xs s u a b = (reading_one t.names (sort_of t.declared) xs (Ok s) (Ok u) (λ e. cc) (λ e. cc) a b).0
 
@@ -128,7 +128,7 @@ no_input_same t xs s u l m f g =
     says_same refl (ap (input_refusal_line t.names) same) f.says g.says
 
 -- a file gives no input in one way
-refused_input_same : (t : Parts) (file : Known) (b n c m : ℕ) (s u : Status) (l k : List ℕ) → file ≢ untold → (¬ Rose b n)
+pub refused_input_same : (t : Parts) (file : Known) (b n c m : ℕ) (s u : Status) (l k : List ℕ) → file ≢ untold → (¬ Rose b n)
     → (¬ Rose c m) → GivesNoInput t file b n s l → GivesNoInput t file c m u k → Same s l u k
 refused_input_same t file b n c m s u l k told no_fault nor_later (inl f) (inl g) =
     no_bytes_same (codes "input") file b n c m s u l k no_fault nor_later f g
@@ -141,7 +141,7 @@ refused_input_same t file b n c m s u l k told no_fault nor_later (inr f) (inr g
     (subst (λ (xs : List ℕ). IsNoInput t xs s l) (read_same file b n c m f.bytes g.bytes told f.read g.read) f.refuses) g.refuses
 
 -- a file doesn't both give an input and none
-input_or_none : (t : Parts) (file : Known) (b n c m : ℕ) (store : code.Store) (s : Status) (l : List ℕ) → file ≢ untold → (¬ Rose c m)
+pub input_or_none : (t : Parts) (file : Known) (b n c m : ℕ) (store : code.Store) (s : Status) (l : List ℕ) → file ≢ untold → (¬ Rose c m)
     → GivesInput t file b n store → GivesNoInput t file c m s l → ⊥
 input_or_none t file b n c m store s l told no_fault g (inl f) =
     bytes_or_none (codes "input") file b n c m g.bytes s l told no_fault g.read f
@@ -151,7 +151,7 @@ input_or_none t file b n c m store s l told no_fault g (inr f) =
     (read_same file b n c m g.bytes f.bytes told g.read f.read) g.gives) f.refuses.refused
 
 -- a verdict is answered in one way
-verdict_same : (t : Parts) (store : Store) (turns : ℕ) (s u : Status) (l m : List ℕ) → AnswersReplay t store turns s l
+pub verdict_same : (t : Parts) (store : Store) (turns : ℕ) (s u : Status) (l m : List ℕ) → AnswersReplay t store turns s l
     → AnswersReplay t store turns u m → Same s l u m
 verdict_same t store turns s u l m a b =
     let same : a.verdict ≡ b.verdict = verdict_one (task_of t) store turns a.verdict b.verdict a.known b.known a.judged b.judged in
@@ -201,4 +201,18 @@ verifies_same file proof b n c m s u l k told given no_fault nor_later (inr f) (
     proof_same g.task proof f.between n g.between m s u l k given
     (subst (λ (z : ℕ). ¬ Rose z n) (sym f.gives.read.quiet) no_fault) (subst (λ (z : ℕ). ¬ Rose z m) (sym g.gives.read.quiet) nor_later)
     (subst (λ (p : Parts). AnswersProof p proof f.between n s l)
+    (task_same file b f.between c g.between f.task g.task told f.gives g.gives) f.answers) g.answers
+
+pub replays_same : (file input : Known) (turns b n c m : ℕ) (s u : Status) (l k : List ℕ) → file ≢ untold → input ≢ untold → (¬ Rose b n)
+    → (¬ Rose c m) → Replays file input turns b n s l → Replays file input turns c m u k → Same s l u k
+replays_same file input turns b n c m s u l k told given no_fault nor_later (inl f) (inl g) =
+    refused_same file b n c m s u l k told no_fault nor_later f g
+replays_same file input turns b n c m s u l k told given no_fault nor_later (inl f) (inr g) =
+    absurd (task_or_none file c g.between b n g.task s l told no_fault g.gives f)
+replays_same file input turns b n c m s u l k told given no_fault nor_later (inr f) (inl g) =
+    absurd (task_or_none file b f.between c m f.task u k told nor_later f.gives g)
+replays_same file input turns b n c m s u l k told given no_fault nor_later (inr f) (inr g) =
+    input_same g.task input turns f.between n g.between m s u l k given
+    (subst (λ (z : ℕ). ¬ Rose z n) (sym f.gives.read.quiet) no_fault) (subst (λ (z : ℕ). ¬ Rose z m) (sym g.gives.read.quiet) nor_later)
+    (subst (λ (p : Parts). ReplaysInput p input turns f.between n s l)
     (task_same file b f.between c g.between f.task g.task told f.gives g.gives) f.answers) g.answers

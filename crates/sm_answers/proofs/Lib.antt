@@ -4,3 +4,4 @@ pub mod Verified
 pub mod AnswerUnique
 pub mod ReadsUnique
 pub mod ReadingsLemmas
+pub mod Replayed

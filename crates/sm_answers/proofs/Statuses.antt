@@ -10,7 +10,7 @@ use Rattle.sm_replay.specs.declared.verdict.Verdict.TheVariants as verdict
 use Rattle.sm_syntax.specs.text.Parts.{Parts}
 use Rattle.sm_answers.specs.Verify.{Verifies, answer_line, answer_status, rejected_line, AnswersProof}
 use Rattle.sm_answers.specs.File.{GivesNoTask}
-use Rattle.sm_answers.specs.Replay.{verdict_status, GivesNoInput, ReplaysInput}
+use Rattle.sm_answers.specs.Replay.{verdict_status, GivesNoInput, Replays, ReplaysInput}
 use Rattle.sm_answers.specs.Status.{Says}
 use Rattle.sm_answers.specs.declared.status.Status.{Status}
 use Rattle.sm_answers.specs.declared.status.Status.TheVariants.{Accepted, Conflict, Unknown, Refused, Usage, ReadFault, Memory, SinkFault}
@@ -111,6 +111,13 @@ store_to_command t file turns before now status text (inr c) = record {
   of_command = same_as status (verdict_status c.answers.verdict) c.answers.says.ended (judged_status c.answers.verdict);
   quiet = λ h. c.gives.read.quiet;
 }
+
+pub replay_to_command : (file input : Known) (turns before now : ℕ) (status : Status) (text : List ℕ)
+    → Replays file input turns before now status text → IsToCommand before now status
+replay_to_command file input turns before now status text (inl f) = (without_task file before now status text f).to_command
+replay_to_command file input turns before now status text (inr c) =
+    let to = store_to_command c.task input turns c.between now status text c.answers in
+    record { of_command = to.of_command; quiet = λ h. to.quiet h ∙ c.gives.read.quiet }
 
 answered_status : (a : FileAnswer) → WritesNothing (answer_status a)
 answered_status (Judged proof.Pass) = of_accepted

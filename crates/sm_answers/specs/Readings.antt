@@ -1,17 +1,19 @@
 -- What the reads of a task, an input and a proof gave, of told files and of others, and what the
--- answer of `verify` says of them. Public clauses cite it.
+-- answers of `verify` and of `replay` say of them. Public clauses cite it.
 use Rattle.std.specs.Prelude.{◌≡◌, ◌≤◌, ◌↔◌, ◌⊎◌, ℕ, List, length}
+use Rattle.sm_eval.specs.StoredValues.{meaning}
 use Rattle.sm_eval.specs.declared.store.Store.{Store}
 use Rattle.sm_io.specs.Reads.{Read, ReadsOn, ReadsWhole}
 use Rattle.sm_proof.specs.Verdicts.{Passes}
 use Rattle.sm_replay.specs.Input.{IsInput}
+use Rattle.sm_replay.specs.Violations.{Violates}
 use Rattle.sm_syntax.specs.claim.ConflictFree.{ConflictFree}
 use Rattle.sm_syntax.specs.text.Parts.{Parts, sort_of, task_of}
 use Rattle.sm_syntax.specs.text.Spells.{Spells}
 use Rattle.sm_answers.specs.File.{file_limit}
 use Rattle.sm_answers.specs.Verify.{proof_limit}
 use Rattle.sm_answers.specs.declared.status.Status.{Status}
-use Rattle.sm_answers.specs.declared.status.Status.TheVariants.{Accepted}
+use Rattle.sm_answers.specs.declared.status.Status.TheVariants.{Accepted, Conflict}
 
 -- a file alone was read, in one pass, to its end or not
 abbrev pub ReadsOnce : List ℕ → List Read → List Read → Type 0
@@ -55,3 +57,22 @@ pub record VerifiesRead (task proof : List ℕ) (before now : List Read) (status
       × ReadsProof t proof between now × ConflictFree (task_of t)
   pub all : (t : Parts) (between : List Read) → ReadsTask task before between t →
       ReadsProof t proof between now → status ≡ Accepted
+
+-- a file alone was read, in one pass to its end, and its bytes give an input from which the task is
+-- violated
+pub record ReadsViolation (t : Parts) (name : List ℕ) (turns : ℕ) (before now : List Read)
+    : Type 0 where
+  pub store : Store
+  pub input : ReadsInput t name before now store
+  pub violates : Violates (task_of t) (meaning store) turns
+
+-- the answer to an input's file is Conflict only where an input was read that shows one
+abbrev pub RunsRead : Parts → List ℕ → ℕ → List Read → List Read → Status → List ℕ → Type 0
+RunsRead t input turns before now status text =
+    status ≡ Conflict → ReadsViolation t input turns before now
+
+-- and that of `replay` only where a task was read, and then such an input of it
+abbrev pub ReplaysRead : List ℕ → List ℕ → ℕ → List Read → List Read → Status → List ℕ → Type 0
+ReplaysRead task input turns before now status text = status ≡ Conflict →
+    (t : Parts) × (between : List Read) × ReadsTask task before between t
+    × ReadsViolation t input turns between now

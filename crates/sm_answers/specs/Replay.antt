@@ -15,7 +15,7 @@ use Rattle.sm_replay.specs.declared.verdict.Verdict.TheVariants as verdict
 use Rattle.sm_syntax.specs.text.Parts.{Parts, sort_of, task_of}
 use Rattle.sm_syntax.specs.claim.Stores.{Store}
 use Rattle.sm_answers.specs.Lines.{input_refusal_line, verdict_line}
-use Rattle.sm_answers.specs.File.{IsRead, GivesNoBytes}
+use Rattle.sm_answers.specs.File.{IsRead, GivesNoBytes, GivesNoTask, GivesTask}
 use Rattle.sm_answers.specs.Status.{Says}
 use Rattle.sm_answers.specs.declared.status.Status.{Status}
 use Rattle.sm_answers.specs.declared.status.Status.TheVariants.{Accepted, Conflict, Unknown}
@@ -74,3 +74,16 @@ abbrev pub ReplaysInput : Parts → Known → ℕ → ℕ → ℕ → Status →
 ReplaysInput t file turns before now status text =
     GivesNoInput t file before now status text
     ⊎ ReplaysStore t file turns before now status text
+
+-- the file gives a task, and then comes the input's
+pub record ReplaysTask (file input : Known) (turns before now : ℕ) (status : Status) (text : List ℕ)
+    : Type 0 where
+  pub task : Parts
+  pub between : ℕ
+  pub gives : GivesTask file before between task
+  pub answers : ReplaysInput task input turns between now status text
+
+-- what is answered to `replay`
+abbrev pub Replays : Known → Known → ℕ → ℕ → ℕ → Status → List ℕ → Type 0
+Replays file input turns before now status text =
+    GivesNoTask file before now status text ⊎ ReplaysTask file input turns before now status text

@@ -17,7 +17,7 @@ ghost use Rattle.sm_answers.specs.Readings.{ReadsInput, ReadsOnce, ReadsTask};
 ghost use Rattle.sm_io.specs.Reads.{ReadsOn, ReadsWhole};
 
 use crate::exit::Exit;
-use crate::lines::{input_refusal_line, refusal_line};
+use crate::refusals::{input_refusal_line, refusal_line};
 use crate::status::{Reply, Status};
 use sm_eval::Store;
 use sm_io::{ReadError, Shelf, read_all};

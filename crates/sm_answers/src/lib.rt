@@ -1,13 +1,15 @@
 //! The answers that need no search: to files that are read, of `verify` and of `replay`; and the
 //! lines of all.
 //!
-//! - `task_in` reads the task that a file's bytes spell, and `input_in` an input of it, each in one
-//!   pass. Where there is none they stop with the answer: `ReadFault`, `TooLong`, or what is
-//!   refused first. What is read holds of told files, and on every shelf of the bytes that were read.
+//! - `task_in` reads the task that a file's bytes spell, `input_in` an input of it, and `bytes_in`
+//!   the bytes alone, each in one pass. Where there is none they stop with the answer: `ReadFault`,
+//!   `TooLong`, or what is refused first. What is read holds of told files, and on every shelf of the
+//!   bytes that were read.
 //! - `verify_in` answers `Accepted` exactly where the bytes of a proof's file pass for the task,
 //!   which is then free of conflicts, and else the number of the first bad line and the word for
 //!   what is wrong with it.
-//! - `replay` answers the verdict on one input exactly, or what stops the programs.
+//! - `replay_in` answers the verdict on the input in a file exactly, or what stops the programs, and
+//!   `replay` that on a store.
 //! - `write_file` gives a file these bytes. After an error it is as it was, or empty, or has some
 //!   of the first of them.
 //! - `Status::number` is the number with which the program ends.
@@ -21,17 +23,19 @@ mod exit;
 mod file;
 mod lines;
 mod proof_file;
+mod refusals;
 mod replaying;
 mod status;
 mod verifying;
 
 pub use exit::Exit;
-pub use file::{input_in, task_in};
+pub use file::{bytes_in, input_in, task_in};
 pub use lines::{
     coefficient_line, goal_line, many_holes_line, none_line, put_input_line, suggestion_line,
     summary_line, too_many_line, trial_line,
 };
 pub use proof_file::write_file;
-pub use replaying::replay;
+pub use refusals::refusal_line;
+pub use replaying::{replay, replay_in};
 pub use status::{Reply, Status};
 pub use verifying::verify_in;

@@ -27,13 +27,14 @@ use Rattle.sm_suggest.specs.First.{IsFirst}
 use Rattle.sm_syntax.specs.declared.copies.CopyName.{CopyName}
 use Rattle.sm_commands.specs.Laws.{AreTold, AskAlike, IsPlain, OneAnswer, with_workers}
 use Rattle.sm_answers.specs.Lines.{goal_line, input_line, op_word, suggestion_line, summary_line, too_many_line, trial_line}
-use Rattle.sm_answers.specs.Replay.{ReplaysInput}
-use Rattle.sm_commands.specs.Top.{canonical_text, Files, AnswersCommand, AnswersRequest, Checks, Generates, IsAnswerTo, Prints, Replays}
-use Rattle.sm_words.specs.Words.{Words, Asked, check, verify, replay, print, suggest, gen, about, asked}
+use Rattle.sm_commands.specs.Top.{Files, AnswersCommand, AnswersRequest, Checks, Generates, IsAnswerTo}
+use Rattle.sm_display.specs.Print.{canonical_text, Prints}
+use Rattle.sm_display.proofs.ExplainUnique.{explains_same}
+use Rattle.sm_words.specs.Words.{Words, Asked, check, verify, replay, print, suggest, gen, explain, about, asked}
 use Rattle.sm_words.specs.declared.effort.Effort.{Effort}
 use Rattle.sm_answers.specs.declared.status.Status.{Status}
 use Rattle.sm_answers.specs.declared.status.Status.TheVariants.{Accepted, Unknown, WriteFault}
-use Rattle.sm_answers.proofs.AnswerUnique.{Same, says_same, refused_same, task_or_none, task_same, input_same, verifies_same}
+use Rattle.sm_answers.proofs.AnswerUnique.{Same, says_same, refused_same, task_or_none, task_same, replays_same, verifies_same}
 
 -- ---- files
 
@@ -182,22 +183,6 @@ prints_same file copy b n c m s u t v told no_fault nor_later (inr f) (inr g) =
     says_same refl (ap (λ (p : Parts). canonical_text p copy) (task_same file b n c m f.task g.task told f.gives g.gives)) f.says
     g.says
 
--- ---- replay
-
-replays_same : (file input : Known) (turns b n c m : ℕ) (s u : Status) (l k : List ℕ) → file ≢ untold → input ≢ untold → (¬ Rose b n)
-    → (¬ Rose c m) → Replays file input turns b n s l → Replays file input turns c m u k → Same s l u k
-replays_same file input turns b n c m s u l k told given no_fault nor_later (inl f) (inl g) =
-    refused_same file b n c m s u l k told no_fault nor_later f g
-replays_same file input turns b n c m s u l k told given no_fault nor_later (inl f) (inr g) =
-    absurd (task_or_none file c g.between b n g.task s l told no_fault g.gives f)
-replays_same file input turns b n c m s u l k told given no_fault nor_later (inr f) (inl g) =
-    absurd (task_or_none file b f.between c m f.task u k told nor_later f.gives g)
-replays_same file input turns b n c m s u l k told given no_fault nor_later (inr f) (inr g) =
-    input_same g.task input turns f.between n g.between m s u l k given
-    (subst (λ (z : ℕ). ¬ Rose z n) (sym f.gives.read.quiet) no_fault) (subst (λ (z : ℕ). ¬ Rose z m) (sym g.gives.read.quiet) nor_later)
-    (subst (λ (p : Parts). ReplaysInput p input turns f.between n s l)
-    (task_same file b f.between c g.between f.task g.task told f.gives g.gives) f.answers) g.answers
-
 -- ---- verify
 
 -- ---- words
@@ -216,6 +201,8 @@ command_same (suggest task effort) files b n c m s u l k plain told no_fault nor
     suggests_same (files task) effort b n c m s u l k (told task) no_fault nor_later x y
 command_same (gen seed size effort) files b n c m s u l k plain told no_fault nor_later whole also x y =
     gen_same seed size effort b n c m s u l k x y
+command_same (explain task input turns) files b n c m s u l k plain told no_fault nor_later whole also x y =
+    explains_same files task input turns b n c m s u l k told no_fault nor_later x y
 command_same (about what) files b n c m s u l k plain told no_fault nor_later whole also x y = says_same refl refl x.says y.says
 
 request_same : (ask : Option Asked) (words : Words) (files : Files) (b n c m : ℕ) (s u : Status) (l k : List ℕ)
@@ -301,6 +288,7 @@ fewer_workers (verify task proof others) workers files b n s l x = x
 fewer_workers (replay task input turns) workers files b n s l x = x
 fewer_workers (print task copy) workers files b n s l x = x
 fewer_workers (suggest task effort) workers files b n s l x = fewer_suggests (files task) effort workers b n s l x
+fewer_workers (explain task input turns) workers files b n s l x = x
 fewer_workers (about what) workers files b n s l x = x
 fewer_workers (gen seed size effort) workers files b n s l x =
     record {

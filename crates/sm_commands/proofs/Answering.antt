@@ -1,5 +1,5 @@
 -- What answers say: where Usage is one, and what Accepted promises.
-use Rattle.std.proofs.Common.{◌≡◌, ◌≢◌, inl, inr, ℕ, List, Option, Some, None, Result, IfOk, IfErr, refl, sym, subst, ◌∙◌}
+use Rattle.std.proofs.Common.{◌≡◌, ◌≢◌, inl, inr, ℕ, List, Option, Some, None, refl, sym, subst, ◌∙◌}
 use Rattle.sm_io.specs.Files.{Known, WhereHeld}
 use Rattle.sm_proof.specs.declared.word.Word.{Word}
 use Rattle.sm_houdini.specs.Outcomes as outcome
@@ -10,26 +10,22 @@ use Rattle.sm_syntax.specs.claim.ConflictFree.{ConflictFree}
 use Rattle.sm_syntax.specs.text.Parts.{Parts, task_of}
 use Rattle.sm_syntax.specs.text.Spells.{Spells}
 use Rattle.sm_commands.specs.Headline.{merge_file, IsSafeMerge}
-use Rattle.sm_commands.specs.Top.{Files, IsAnswerTo, AnswersCommand, AnswersRequest, AsksToVerify, Checks, Replays}
+use Rattle.sm_commands.specs.Top.{Files, IsAnswerTo, AnswersCommand, AnswersRequest, AsksToVerify, Checks}
 use Rattle.sm_answers.specs.Verify.{Verifies, rejected_line, AnswersProof}
 use Rattle.sm_commands.specs.Check.{SaysOutcome}
 use Rattle.sm_commands.specs.Deeper.{AnswersTask}
 use Rattle.sm_eval.specs.StoredValues.{meaning}
-use Rattle.sm_answers.specs.File.{GivesTask}
 use Rattle.sm_answers.specs.Status.{Says}
-use Rattle.sm_answers.specs.Replay.{ReplaysInput}
-use Rattle.sm_answers.specs.Exit.{ExitsWith}
-use Rattle.sm_words.specs.Words.{Words, Asked, check, verify, replay, print, suggest, gen, about, asked, usage_line, IsUsage}
+use Rattle.sm_words.specs.Words.{Words, Asked, check, verify, replay, print, suggest, gen, explain, about, asked, usage_line, IsUsage}
 use Rattle.sm_words.specs.declared.effort.Effort.{Effort}
-use Rattle.sm_answers.specs.declared.exit.Exit.{Exit}
-use Rattle.sm_answers.specs.declared.status.Reply.{Reply}
 use Rattle.sm_answers.specs.declared.status.Status.{Status}
 use Rattle.sm_answers.specs.declared.status.Status.TheVariants.{Accepted, Refused, Usage, ReadFault, Memory, SinkFault}
 use Rattle.sm_words.proofs.Usage.{usage_asks_nothing}
-use Rattle.sm_answers.proofs.Statuses.{IsOfCommand, IsToCommand, without_task, verify_to_command}
-use Rattle.sm_commands.proofs.Statuses.{about_to_command, check_to_command, gen_to_command, print_to_command, replay_to_command}
+use Rattle.sm_answers.proofs.Statuses.{IsOfCommand, IsToCommand, without_task, replay_to_command, verify_to_command}
+use Rattle.sm_display.proofs.Begins.{explain_to_command}
+use Rattle.sm_commands.proofs.Statuses.{about_to_command, check_to_command, gen_to_command, print_to_command}
 use Rattle.sm_commands.proofs.Statuses.{shown_status, suggest_to_command}
-use Rattle.sm_answers.proofs.Answering.{accepted_passes, fault_not_accepted, result_by}
+use Rattle.sm_answers.proofs.Answering.{accepted_passes, fault_not_accepted}
 
 -- only what a search accepts is accepted, and is free of conflicts
 pub outcome_accepted : (t : Parts) (o : Outcome (ℕ × Verdict)) (status : Status) (text : List ℕ) → SaysOutcome t o status text
@@ -100,6 +96,7 @@ asked_accepts (replay file input turns) files before now status text a e task is
 asked_accepts (print file copy) files before now status text a e task is = absurd (no_file task is)
 asked_accepts (suggest file effort) files before now status text a e task is = absurd (no_file task is)
 asked_accepts (gen seed size effort) files before now status text a e task is = absurd (no_file task is)
+asked_accepts (explain file input turns) files before now status text a e task is = absurd (no_file task is)
 asked_accepts (about what) files before now status text a e task is = absurd (no_file task is)
 
 pub accepts : (words : Words) (files : Files) (before now : ℕ) (status : Status) (text : List ℕ)
@@ -155,6 +152,8 @@ sound words files before now status text answers = go (asked words) refl answers
     by (print task copy) e a = plain (print task copy) e (print_to_command (files task) copy before now status text a)
     by (suggest task effort) e a = plain (suggest task effort) e (suggest_to_command (files task) effort before now status text a)
     by (gen seed size effort) e a = plain (gen seed size effort) e (gen_to_command seed size effort before now status text a)
+    by (explain task input turns) e a =
+        plain (explain task input turns) e (explain_to_command files task input turns before now status text a)
     by (about what) e a = plain (about what) e (about_to_command what before now status text a)
 
     go : (ask : Option Asked) → asked words ≡ ask → AnswersRequest ask words files before now status text → IsSound words before now status text
@@ -180,19 +179,3 @@ pub answers_usage : (words : Words) (files : Files) (before now : ℕ) → IsUsa
     → Says Usage (usage_line words) status text → IsAnswerTo words files before now status text
 answers_usage words files before now refused quiet status text says =
     rw (usage_asks_nothing words refused) (record { refused = refused; quiet = quiet; says = says })
-
--- a task that the first file gives, with what is answered to it and the other file
-replays_task : (file input other : Known) (turns before between now : ℕ) (t : Parts) → GivesTask file before between t → other ≡ input
-    → (status : Status) (text : List ℕ) → ReplaysInput t other turns between now status text
-    → Replays file input turns before now status text
-replays_task file input other turns before between now t gives same status text a =
-    inr (record { task = t; between = between; gives = gives; answers = rw (← same) a })
-
-pub replayed_by : (file input other : Known) (turns before between now : ℕ) (t : Parts) → GivesTask file before between t
-    → other ≡ input → (r : Result Reply Exit) → IfOk r (λ (p : Reply). ReplaysInput t other turns between now p.status p.text.items)
-    → IfErr r (ExitsWith (ReplaysInput t other turns between now)) →
-    IfOk r (λ (p : Reply). Replays file input turns before now p.status p.text.items) × IfErr r
-    (ExitsWith (Replays file input turns before now))
-replayed_by file input other turns before between now t gives same r ok stop =
-    result_by (ReplaysInput t other turns between now) (Replays file input turns before now)
-    (replays_task file input other turns before between now t gives same) r ok stop

@@ -1,9 +1,7 @@
 -- What Conflict says: the task isn't free of conflicts, and the input that is printed or was given shows it.
-use Rattle.std.proofs.Common.{◌≡◌, ◌≢◌, inl, inr, ℕ, ◌++◌, List, Option, Some, None, Result, Ok, Err, sym, subst, ◌∙◌}
+use Rattle.std.proofs.Common.{◌≡◌, ◌≢◌, inl, inr, ℕ, ◌++◌, List, Option, Some, None, sym, subst, ◌∙◌}
 use Rattle.sm_io.specs.Files.{Known, WhereHeld}
 use Rattle.sm_replay.specs.Trials.{trial}
-use Rattle.sm_replay.specs.Verdicts.{cell_of, Judges}
-use Rattle.sm_replay.specs.declared.error.ReplayError.{ReplayError}
 use Rattle.sm_replay.specs.declared.verdict.Verdict.{Verdict}
 use Rattle.sm_replay.specs.declared.verdict.Verdict.TheVariants as verdict
 use Rattle.sm_solve.specs.declared.reach.Reach.{Reach}
@@ -19,7 +17,10 @@ use Rattle.sm_commands.specs.Headline.{IsUnsafeMerge, IsViolatedFrom, ShowsInput
 use Rattle.sm_houdini.specs.Outcomes as outcome
 use Rattle.sm_houdini.specs.Outcomes.{Outcome, IsOutcome}
 use Rattle.sm_houdini.proofs.OutcomeLemmas.{conflict_least}
-use Rattle.sm_commands.specs.Top.{Files, IsAnswerTo, AnswersCommand, Checks, Prints, Replays}
+use Rattle.sm_commands.specs.Top.{Files, IsAnswerTo, AnswersCommand, Checks}
+use Rattle.sm_display.specs.Explain.{Explains, ExplainsFile}
+use Rattle.sm_display.specs.Print.{Prints}
+use Rattle.sm_display.proofs.Begins.{begins_refused, begins_replayed}
 use Rattle.sm_answers.specs.Verify.{Verifies, AnswersProof}
 use Rattle.sm_commands.specs.Check.{reach_of, IsInputText, SaysOutcome, ShowsFrom}
 use Rattle.sm_answers.specs.Lines.{input_line, trial_line}
@@ -27,21 +28,14 @@ use Rattle.sm_commands.specs.Deeper.{AnswersTask}
 use Rattle.sm_commands.specs.Suggest.{AnswersSuggest, SaysSuggestion, Suggests}
 use Rattle.sm_syntax.specs.declared.copies.CopyName.{CopyName}
 use Rattle.sm_answers.specs.File.{GivesTask}
-use Rattle.sm_answers.specs.Replay.{verdict_status, GivesInput, GivesNoInput, ReplaysInput}
-use Rattle.sm_words.specs.Words.{Words, Asked, check, verify, replay, print, suggest, gen, about, asked, task_file}
+use Rattle.sm_answers.specs.Replay.{GivesInput, Replays, ReplaysInput}
+use Rattle.sm_words.specs.Words.{Words, Asked, check, verify, replay, print, suggest, gen, explain, about, asked, task_file}
 use Rattle.sm_words.specs.declared.effort.Effort.{Effort}
 use Rattle.sm_answers.specs.declared.status.Status.{Status}
 use Rattle.sm_answers.specs.declared.status.Status.TheVariants.{Conflict}
 use Rattle.sm_replay.proofs.ViolationsSound.{violation_conflicts}
-use Rattle.sm_replay.proofs.VerdictSound.{breaks_violates}
+use Rattle.sm_answers.proofs.Replayed.{judged_violates, no_input_no_conflict}
 use Rattle.sm_answers.proofs.Statuses.{answered_no_conflict, without_task}
-
--- an input that is refused shows no conflict
-pub no_input_no_conflict : (t : Parts) (file : Known) (before now : ℕ) (status : Status) (text : List ℕ)
-    → GivesNoInput t file before now status text → status ≢ Conflict
-no_input_no_conflict t file before now status text (inl (inl f)) e = let is = f.says.ended in cc
-no_input_no_conflict t file before now status text (inl (inr f)) e = let is = f.says.ended in cc
-no_input_no_conflict t file before now status text (inr f) e = let is = f.refuses.says.ended in cc
 
 -- no proof file shows a conflict
 proof_no_conflict : (t : Parts) (file : Known) (before now : ℕ) (status : Status) (text : List ℕ)
@@ -92,14 +86,6 @@ checked_conflict t effort status text (inr a) e = let s = a.says.ended in cc
 -- such a task isn't free of conflicts
 pub shown_conflict : (t : Parts) (turns : ℕ) (text : List ℕ) → IsShown t turns text → ¬ ConflictFree (task_of t)
 shown_conflict t turns text s = violation_conflicts (task_of t) s.store turns s.violates
-
--- a verdict that is a conflict is that of a store from which the task is violated
-pub judged_violates : (t : Parts) (s : Store) (turns : ℕ) (r : Result Verdict ReplayError) → Judges (task_of t) s turns r
-    → verdict_status r ≡ Conflict → Violates (task_of t) s turns
-judged_violates t s turns (Ok verdict.Holds) j e = cc
-judged_violates t s turns (Ok verdict.Unmet) j e = cc
-judged_violates t s turns (Ok (verdict.Violates x i part)) j e = breaks_violates (task_of t) s turns (cell_of x.0 i) part j
-judged_violates t s turns (Err x) j e = cc
 
 -- Conflict of `replay` comes where the input's file gives a store from which the task is violated
 record IsReplayed (t : Parts) (file : Known) (turns between now : ℕ) : Type 0 where
@@ -153,6 +139,23 @@ replay_conflicts file input turns before now status text (inl f) e = absurd ((wi
 replay_conflicts file input turns before now status text (inr c) e =
     unsafe_where file before c.between c.task c.gives (replayed_conflict c.task input turns c.between now status text c.answers e)
 
+-- without an input `explain` answers none
+pub explain_no_conflict : (file : Known) (before now : ℕ) (status : Status) (text : List ℕ)
+    → ExplainsFile file before now status text → status ≢ Conflict
+explain_no_conflict file before now status text (inl f) e =
+    let b = begins_refused file before now status text f in
+    (without_task file before now status b.0 b.2).not_conflict e
+explain_no_conflict file before now status text (inr c) e = let is = c.says.ended in cc
+
+-- and with one it begins as `replay`
+explain_conflicts : (files : Files) (file : List ℕ) (input : Option (List ℕ)) (turns before now : ℕ) (status : Status) (text : List ℕ)
+    → Explains files file input turns before now status text → status ≡ Conflict → WhereHeld (files file) IsUnsafeMerge
+explain_conflicts files file None turns before now status text a e =
+    absurd (explain_no_conflict (files file) before now status text a e)
+explain_conflicts files file (Some input) turns before now status text a e =
+    let b = begins_replayed (files file) (files input) turns before now status text a in
+    replay_conflicts (files file) (files input) turns before now status b.0 b.2 e
+
 pub print_no_conflict : (file : Known) (copy : Option CopyName) (before now : ℕ) (status : Status) (text : List ℕ)
     → Prints file copy before now status text → status ≢ Conflict
 print_no_conflict file copy before now status text (inl f) e = (without_task file before now status text f).not_conflict e
@@ -189,6 +192,9 @@ asked_conflicts (print file copy) files before now status text a e task is =
 asked_conflicts (suggest file effort) files before now status text a e task is =
     absurd (suggest_no_conflict (files file) effort before now status text a e)
 asked_conflicts (gen seed size effort) files before now status text a e task is = absurd (no_file task is)
+asked_conflicts (explain file input turns) files before now status text a e task is =
+    subst (λ (f : List ℕ). WhereHeld (files f) IsUnsafeMerge) (same_file file task is)
+    (explain_conflicts files file input turns before now status text a e)
 asked_conflicts (about what) files before now status text a e task is = absurd (no_file task is)
 
 pub conflicts : (words : Words) (files : Files) (before now : ℕ) (status : Status) (text : List ℕ)
@@ -245,3 +251,11 @@ pub replays_shown : (words : Words) (files : Files) (before now : ℕ) (status :
     → asked words ≡ Some (replay task input turns) → IsShownByInput (files task) (files input) turns
 replays_shown words files before now status text answers e task input turns asks =
     replayed_shows (files task) (files input) turns before now status text (rw asks at answers) e
+
+-- and so is that of `explain`
+pub explains_shown : (words : Words) (files : Files) (before now : ℕ) (status : Status) (text : List ℕ)
+    → IsAnswerTo words files before now status text → status ≡ Conflict → (task input : List ℕ) (turns : ℕ)
+    → asked words ≡ Some (explain task (Some input) turns) → IsShownByInput (files task) (files input) turns
+explains_shown words files before now status text answers e task input turns asks =
+    let b = begins_replayed (files task) (files input) turns before now status text (rw asks at answers) in
+    replayed_shows (files task) (files input) turns before now status b.0 b.2 e

@@ -9,10 +9,10 @@ use Rattle.sm_commands.specs.Top.{WritesElsewhere}
 use Rattle.sm_words.specs.declared.effort.Effort.{Effort}
 use Rattle.sm_syntax.specs.declared.copies.CopyName.{CopyName}
 use Rattle.sm_words.specs.Numbers.{copy_by, seed_by, size_by, turns_by, workers_by}
-use Rattle.sm_words.specs.Words.{Words, Asked, check, verify, replay, print, suggest, gen, about, word_faults, asked, asked_by, asked_where, check_by}
+use Rattle.sm_words.specs.Words.{Words, Asked, check, verify, replay, print, suggest, gen, explain, about, word_faults, asked, asked_by, asked_where, check_by}
 use Rattle.sm_words.specs.Words.{argument_text, effort_in, verb_of, unless}
 use Rattle.sm_words.specs.declared.command.Verb.{Verb}
-use Rattle.sm_words.specs.declared.command.Verb.TheVariants.{Check, Verify, Replay, Print, Suggest, Gen, About}
+use Rattle.sm_words.specs.declared.command.Verb.TheVariants.{Check, Verify, Replay, Print, Suggest, Gen, Explain, About}
 
 same_ask : (p q : Asked) → Some p ≡ Some q → p ≡ q
 same_ask p q e = cc
@@ -76,6 +76,15 @@ other_elsewhere Suggest words ask e = suggest_elsewhere (argument_text Suggest (
     suggest_elsewhere None effort ask e = absurd (no_ask ask e)
     suggest_elsewhere (Some t) None ask e = absurd (no_ask ask e)
     suggest_elsewhere (Some t) (Some f) ask e = subst WritesElsewhere (same_ask (suggest t f) ask e) tt
+other_elsewhere Explain words ask e =
+    explain_elsewhere (argument_text Explain (codes "TASK") words) (argument_text Explain (codes "INPUT") words)
+    (turns_by (argument_text Explain (codes "turns") words)) ask e
+  where
+    explain_elsewhere : (task input : Option Text) (turns : Option ℕ) (ask : Asked)
+        → option_and_then (λ (t : Text). option_map (λ (n : ℕ). explain t input n) turns) task ≡ Some ask → WritesElsewhere ask
+    explain_elsewhere None input turns ask e = absurd (no_ask ask e)
+    explain_elsewhere (Some t) input None ask e = absurd (no_ask ask e)
+    explain_elsewhere (Some t) input (Some n) ask e = subst WritesElsewhere (same_ask (explain t input n) ask e) tt
 other_elsewhere (About what) words ask e = subst WritesElsewhere (same_ask (about what) ask e) tt
 other_elsewhere Gen words ask e =
     gen_elsewhere (seed_by (argument_text Gen (codes "SEED") words)) (size_by (argument_text Gen (codes "SIZE") words))

@@ -8,4 +8,3 @@ pub mod AnswerUnique
 pub mod FilesLemmas
 pub mod SpelledLemmas
 pub mod ReadingsLemmas
-pub mod PrintedLemmas

@@ -1,8 +1,7 @@
 -- What Accepted and Conflict say of the bytes that were read.
-use Rattle.std.proofs.Common.{◌≡◌, inl, inr, ℕ, List, Some, Result, IfOk, IfErr, sym, subst, ◌∙◌}
+use Rattle.std.proofs.Common.{◌≡◌, inl, inr, ℕ, List, Some, None, sym, subst}
 use Rattle.std.specs.Prelude.{◌↔◌}
 use Rattle.sm_eval.specs.StoredValues.{meaning}
-use Rattle.sm_eval.specs.declared.store.Store as code
 use Rattle.sm_io.specs.Files.{Known}
 use Rattle.sm_io.specs.Reads.{Read}
 use Rattle.sm_replay.specs.Violations.{Violates}
@@ -11,21 +10,20 @@ use Rattle.sm_syntax.specs.claim.Stores.{Store}
 use Rattle.sm_syntax.specs.text.Parts.{Parts, task_of}
 use Rattle.sm_answers.specs.Exit.{ExitsWith}
 use Rattle.sm_answers.specs.File.{GivesNoTask}
-use Rattle.sm_commands.specs.HeadlineRead.{AcceptsRead, ConflictsRead, ReadsProved, ShowsReadInput, SuggestsRead}
+use Rattle.sm_commands.specs.Headline.{IsUnsafeMerge, IsViolatedFrom}
+use Rattle.sm_commands.specs.HeadlineRead.{AcceptsRead, ConflictsRead, ReadsProved, ReadsTwo, ShowsReadInput, SuggestsRead}
 use Rattle.sm_commands.proofs.SuggestedSafe.{accepted_suggestion}
-use Rattle.sm_commands.specs.Readings.{AnswersByReads, ChecksRead, ProposesRead, ReplaysRead, RunsRead}
-use Rattle.sm_answers.specs.Readings.{ReadsInput, ReadsTask, VerifiesRead}
-use Rattle.sm_answers.specs.Replay.{AnswersReplay, GivesNoInput}
+use Rattle.sm_commands.specs.Readings.{AnswersByReads, ChecksRead, ProposesRead}
+use Rattle.sm_answers.specs.Readings.{ReadsTask, ReplaysRead, VerifiesRead}
 use Rattle.sm_commands.specs.Top.{AnswersCommand, Files, IsAnswerTo}
-use Rattle.sm_words.specs.Words.{Words, Asked, check as to_check, verify, replay, print, suggest, gen, about, asked}
+use Rattle.sm_words.specs.Words.{Words, Asked, check as to_check, verify, replay, print, suggest, gen, explain, about, asked}
 use Rattle.sm_words.specs.declared.effort.Effort.{Effort}
 use Rattle.sm_answers.specs.declared.exit.Exit.{Exit}
-use Rattle.sm_answers.specs.declared.status.Reply.{Reply}
 use Rattle.sm_answers.specs.declared.status.Status.{Status}
 use Rattle.sm_answers.specs.declared.status.Status.TheVariants.{Accepted, Conflict}
 use Rattle.sm_commands.proofs.Answering.{accepted_is_free}
-use Rattle.sm_answers.proofs.Answering.{result_by, stops_by}
-use Rattle.sm_commands.proofs.ConflictSound.{checked_conflict, judged_violates, no_input_no_conflict, print_no_conflict, shown_conflict}
+use Rattle.sm_answers.proofs.Answering.{stops_by}
+use Rattle.sm_commands.proofs.ConflictSound.{checked_conflict, explain_no_conflict, print_no_conflict, shown_conflict}
 use Rattle.sm_commands.proofs.ConflictSound.{suggest_no_conflict, verify_no_conflict}
 use Rattle.sm_answers.proofs.Statuses.{without_task}
 
@@ -49,35 +47,6 @@ none_proposed name effort before now file b n stop =
     (λ status text none.
     let is = without_task file b n status text none in inl ((λ e. is.not_accepted e), (λ e. is.not_conflict e))) stop
 
-pub none_replayed : (name input : List ℕ) (turns : ℕ) (before now : List Read) (file : Known) (b n : ℕ) (stop : Exit) →
-    ExitsWith (GivesNoTask file b n) stop → ExitsWith (ReplaysRead name input turns before now) stop
-none_replayed name input turns before now file b n stop =
-    stops_by (GivesNoTask file b n) (ReplaysRead name input turns before now)
-    (λ status text none e. absurd ((without_task file b n status text none).not_conflict e)) stop
-
--- no input was
-pub none_run : (t : Parts) (name : List ℕ) (turns : ℕ) (before now : List Read) (file : Known) (b n : ℕ) (stop : Exit) →
-    ExitsWith (GivesNoInput t file b n) stop → ExitsWith (RunsRead t name turns before now) stop
-none_run t name turns before now file b n stop =
-    stops_by (GivesNoInput t file b n) (RunsRead t name turns before now)
-    (λ status text none e. absurd (no_input_no_conflict t file b n status text none e)) stop
-
--- a task that was read, and then an input's file
-pub replayed_read : (name input : List ℕ) (turns : ℕ) (before between now : List Read) (t : Parts) → ReadsTask name before between t →
-    (r : Result Reply Exit) → IfOk r (λ (p : Reply). RunsRead t input turns between now p.status p.text.items) →
-    IfErr r (ExitsWith (RunsRead t input turns between now)) →
-    IfOk r (λ (p : Reply). ReplaysRead name input turns before now p.status p.text.items) × IfErr r
-    (ExitsWith (ReplaysRead name input turns before now))
-replayed_read name input turns before between now t reads r ok stop =
-    result_by (RunsRead t input turns between now) (ReplaysRead name input turns before now)
-    (λ status text runs e. (t, between, reads, runs e)) r ok stop
-
--- an input that was read, and what the programs do from it
-pub run_read : (t : Parts) (name : List ℕ) (turns : ℕ) (before now : List Read) (s : code.Store) (status : Status) (text : List ℕ) →
-    ReadsInput t name before now s → AnswersReplay t (meaning s) turns status text → RunsRead t name turns before now status text
-run_read t name turns before now s status text reads a e =
-    record { store = s; input = reads; violates = judged_violates t (meaning s) turns a.verdict a.judged (sym a.says.ended ∙ e) }
-
 -- Accepted by what was read
 accepted_by : (ask : Asked) (before now : List Read) (status : Status) (text : List ℕ) → AnswersByReads (Some ask) before now status text →
     status ≡ Accepted → AcceptsRead ask before now
@@ -100,6 +69,7 @@ accepted_by (replay task input turns) before now status text a e = tt
 accepted_by (print task copy) before now status text a e = tt
 accepted_by (suggest task effort) before now status text a e = tt
 accepted_by (gen seed size effort) before now status text a e = tt
+accepted_by (explain task input turns) before now status text a e = tt
 accepted_by (about what) before now status text a e = tt
 
 pub accepts_read : (words : Words) (before now : List Read) (status : Status) (text : List ℕ) →
@@ -132,15 +102,10 @@ proves_read words before now status text a task proof workers asks =
     proved_by task proof before now status text (rw asks at a)
 
 -- Conflict by what was read
-conflict_by : (ask : Asked) (files : Files) (b n : ℕ) (before now : List Read) (status : Status) (text : List ℕ) →
-    AnswersCommand ask files b n status text → AnswersByReads (Some ask) before now status text → status ≡ Conflict →
-    ConflictsRead ask before now
-conflict_by (to_check task proof effort) files b n before now status text answers (inl none) e = absurd (none.1 e)
-conflict_by (to_check task proof effort) files b n before now status text answers (inr c) e =
-    (c.1.bytes, c.1.read, (c.0, c.1.spells, shown_conflict c.0 effort.turns text (checked_conflict c.0 effort status text c.2 e)))
-conflict_by (verify task proof workers) files b n before now status text answers a e =
-    verify_no_conflict (files task) (files proof) b n status text answers e
-conflict_by (replay task input turns) files b n before now status text answers a e =
+replayed_by_reads : (task input : List ℕ) (turns : ℕ) (before now : List Read) (status : Status) (text : List ℕ) →
+    ReplaysRead task input turns before now status text → status ≡ Conflict →
+    ReadsTwo task input before now (λ (bytes given : List ℕ). IsUnsafeMerge bytes × IsViolatedFrom given turns bytes)
+replayed_by_reads task input turns before now status text a e =
     let v = a e in (
       v.2.bytes,
       v.3.input.bytes,
@@ -152,10 +117,25 @@ conflict_by (replay task input turns) files b n before now status text answers a
         (v.0, v.2.spells, (v.3.store, v.3.input.gives, v.3.violates)),
       ),
     )
+
+conflict_by : (ask : Asked) (files : Files) (b n : ℕ) (before now : List Read) (status : Status) (text : List ℕ) →
+    AnswersCommand ask files b n status text → AnswersByReads (Some ask) before now status text → status ≡ Conflict →
+    ConflictsRead ask before now
+conflict_by (to_check task proof effort) files b n before now status text answers (inl none) e = absurd (none.1 e)
+conflict_by (to_check task proof effort) files b n before now status text answers (inr c) e =
+    (c.1.bytes, c.1.read, (c.0, c.1.spells, shown_conflict c.0 effort.turns text (checked_conflict c.0 effort status text c.2 e)))
+conflict_by (verify task proof workers) files b n before now status text answers a e =
+    verify_no_conflict (files task) (files proof) b n status text answers e
+conflict_by (replay task input turns) files b n before now status text answers a e =
+    replayed_by_reads task input turns before now status text a e
 conflict_by (print task copy) files b n before now status text answers a e =
     print_no_conflict (files task) copy b n status text answers e
 conflict_by (suggest task effort) files b n before now status text answers a e =
     suggest_no_conflict (files task) effort b n status text answers e
+conflict_by (explain task None turns) files b n before now status text answers a e =
+    explain_no_conflict (files task) b n status text answers e
+conflict_by (explain task (Some input) turns) files b n before now status text answers a e =
+    replayed_by_reads task input turns before now status text a e
 conflict_by (about what) files b n before now status text answers a e = let is = answers.says.ended in cc
 conflict_by (gen seed size effort) files b n before now status text answers a e = tt
 

@@ -1,5 +1,5 @@
 -- Which statuses the answers to what a command asks for have.
-use Rattle.std.proofs.Common.{◌≡◌, ◌≢◌, inl, inr, ℕ, List, Option, Some, None, sym, subst, ◌∙◌}
+use Rattle.std.proofs.Common.{◌≡◌, ◌≢◌, inl, inr, ℕ, List, Option, Some, None, sym, subst}
 use Rattle.sm_io.specs.Files.{Known}
 use Rattle.sm_replay.specs.declared.verdict.Verdict.{Verdict}
 use Rattle.sm_replay.specs.declared.verdict.Verdict.TheVariants as verdict
@@ -7,7 +7,7 @@ use Rattle.sm_syntax.specs.text.Parts.{Parts}
 use Rattle.sm_gen.specs.Generating.{generated}
 use Rattle.sm_houdini.specs.Outcomes as outcome
 use Rattle.sm_houdini.specs.Outcomes.{Outcome}
-use Rattle.sm_commands.specs.Top.{Checks, Generates, Prints, Replays, Tells}
+use Rattle.sm_commands.specs.Top.{Checks, Generates, Tells}
 use Rattle.sm_commands.specs.Check.{AnswersCheck, SaysOutcome, ShowsFrom}
 use Rattle.sm_commands.specs.Deeper.{AnswersTask}
 use Rattle.sm_commands.specs.Suggest.{AnswersSuggest, SaysSuggestion, Suggests}
@@ -18,7 +18,7 @@ use Rattle.sm_words.specs.declared.effort.Effort.{Effort}
 use Rattle.sm_answers.specs.declared.status.Status.{Status}
 use Rattle.sm_answers.specs.declared.status.Status.TheVariants.{Accepted, Conflict, Unknown, Refused, ReadFault, WriteFault}
 use Rattle.sm_answers.proofs.Statuses.{IsOfCommand, WritesNothing, of_accepted, of_conflict, of_refused, of_unknown, same_as, IsToCommand, without_task}
-use Rattle.sm_answers.proofs.Statuses.{store_to_command}
+use Rattle.sm_display.specs.Print.{Prints}
 
 of_write : IsOfCommand WriteFault
 of_write = record { not_usage = λ e. cc; not_memory = λ e. cc; not_sink = λ e. cc }
@@ -77,13 +77,6 @@ pub print_to_command : (file : Known) (copy : Option CopyName) (before now : ℕ
 print_to_command file copy before now status text (inl f) = (without_task file before now status text f).to_command
 print_to_command file copy before now status text (inr c) =
     record { of_command = same_as status Accepted c.says.ended of_accepted; quiet = λ h. c.gives.read.quiet }
-
-pub replay_to_command : (file input : Known) (turns before now : ℕ) (status : Status) (text : List ℕ)
-    → Replays file input turns before now status text → IsToCommand before now status
-replay_to_command file input turns before now status text (inl f) = (without_task file before now status text f).to_command
-replay_to_command file input turns before now status text (inr c) =
-    let to = store_to_command c.task input turns c.between now status text c.answers in
-    record { of_command = to.of_command; quiet = λ h. to.quiet h ∙ c.gives.read.quiet }
 
 -- the status of what is suggested
 suggested_status : (t : Parts) (effort : Effort) (status : Status) (text : List ℕ) → AnswersSuggest t effort status text

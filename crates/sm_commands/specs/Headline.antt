@@ -1,5 +1,6 @@
 -- What Accepted and Conflict say of the files, where the shelf tells their bytes. The public
--- clauses `accepted`, `verified`, `conflict`, `shown` and `replayed` of `safemerge` cite it.
+-- clauses `accepted`, `verified`, `conflict`, `shown`, `replayed` and `explained` of `safemerge` cite
+-- it.
 use Rattle.std.specs.Prelude.{◌≡◌, ◌≤◌, ◌++◌, ℕ, Option, Some, None, List, length}
 use Rattle.sm_syntax.specs.claim.ConflictFree.{ConflictFree}
 use Rattle.sm_syntax.specs.text.Parts.{Parts, sort_of, task_of}
@@ -13,7 +14,7 @@ use Rattle.sm_proof.specs.Verdicts.{Passes}
 use Rattle.sm_answers.specs.File.{file_limit}
 use Rattle.sm_answers.specs.Lines.{input_line}
 use Rattle.sm_answers.specs.Verify.{proof_limit}
-use Rattle.sm_words.specs.Words.{Asked, check, verify, replay, print, suggest, gen, about}
+use Rattle.sm_words.specs.Words.{Asked, check, verify, replay, print, suggest, gen, explain, about}
 
 -- the file of the task, where it is asked whether its merge is free of conflicts
 abbrev pub merge_file : Asked → Option (List ℕ)
@@ -23,6 +24,7 @@ merge_file (replay task input turns) = None
 merge_file (print task copy) = None
 merge_file (suggest task effort) = None
 merge_file (gen seed size effort) = None
+merge_file (explain task input turns) = None
 merge_file (about what) = None
 
 -- Accepted of `check` and of `verify`: the bytes spell a task that is free of conflicts
@@ -53,7 +55,7 @@ abbrev pub ShowsInput : Known → ℕ → List ℕ → Type 0
 ShowsInput task turns text = (front input : List ℕ) × (text ≡ front ++ input_line input)
     × WhereHeld task (IsViolatedFrom input turns)
 
--- Conflict of `replay`: the input in the file shows a conflict of the task
+-- Conflict of `replay` and of `explain`: the input in the file shows a conflict of the task
 abbrev pub IsShownByInput : Known → Known → ℕ → Type 0
 IsShownByInput task input turns = WhereHeld input (λ (bytes : List ℕ).
     WhereHeld task (IsViolatedFrom bytes turns))

@@ -1,12 +1,12 @@
 -- What Accepted and Conflict say of the bytes that were read: on every shelf, whether it tells what
 -- its files hold or not. The public clauses `accepted_read`, `verified_read`, `conflict_read`,
 -- `shown_read` and `suggested_read` of `safemerge` cite it.
-use Rattle.std.specs.Prelude.{◌≡◌, ◌++◌, ℕ, List}
+use Rattle.std.specs.Prelude.{◌≡◌, ◌++◌, ℕ, List, Some, None}
 use Rattle.sm_io.specs.Reads.{Read, ReadsWhole}
 use Rattle.sm_commands.specs.Headline.{IsProved, IsSafeMerge, IsUnsafeMerge, IsViolatedFrom}
 use Rattle.sm_answers.specs.Lines.{input_line}
 use Rattle.sm_commands.specs.Suggest.{IsSafeSuggestion}
-use Rattle.sm_words.specs.Words.{Asked, check, verify, replay, print, suggest, gen, about}
+use Rattle.sm_words.specs.Words.{Asked, check, verify, replay, print, suggest, gen, explain, about}
 
 -- the one file was read, in one pass to its end, and no other; of its bytes this holds
 abbrev pub ReadsOne : List ℕ → List Read → List Read → (List ℕ → Type 0) → Type 0
@@ -29,14 +29,16 @@ AcceptsRead (replay task input turns) before now = Unit {0}
 AcceptsRead (print task copy) before now = Unit {0}
 AcceptsRead (suggest task effort) before now = Unit {0}
 AcceptsRead (gen seed size effort) before now = Unit {0}
+AcceptsRead (explain task input turns) before now = Unit {0}
 AcceptsRead (about what) before now = Unit {0}
 
 -- Accepted of `verify`, and nothing else: the task was read, and then a proof that passes for it
 abbrev pub ReadsProved : List ℕ → List ℕ → List Read → List Read → Type 0
 ReadsProved task proof before now = ReadsTwo task proof before now IsProved
 
--- Conflict of `check`: what was read spells a task that isn't free of conflicts. Of `replay`: and
--- then an input was read that shows one. `gen` may answer it of a task that it makes, and no other
+-- Conflict of `check`: what was read spells a task that isn't free of conflicts. Of `replay`, and of
+-- `explain` with an input: and then an input was read that shows one. `gen` may answer it of a task
+-- that it makes, and no other
 abbrev pub ConflictsRead : Asked → List Read → List Read → Type 0
 ConflictsRead (check task proof effort) before now = ReadsOne task before now IsUnsafeMerge
 ConflictsRead (verify task proof workers) before now = ⊥
@@ -46,6 +48,10 @@ ConflictsRead (replay task input turns) before now =
 ConflictsRead (print task copy) before now = ⊥
 ConflictsRead (suggest task effort) before now = ⊥
 ConflictsRead (gen seed size effort) before now = Unit {0}
+ConflictsRead (explain task None turns) before now = ⊥
+ConflictsRead (explain task (Some input) turns) before now =
+    ReadsTwo task input before now (λ (bytes given : List ℕ).
+    IsUnsafeMerge bytes × IsViolatedFrom given turns bytes)
 ConflictsRead (about what) before now = ⊥
 
 -- Conflict of `check`: the text ends with the line of an input that shows a conflict of the task

@@ -3,7 +3,7 @@ use Rattle.std.specs.Prelude.{◌≡◌, ◌≢◌, ◌⊎◌, ℕ, false, List,
 use Rattle.sm_io.specs.Causes.{Rose}
 use Rattle.sm_io.specs.Files.{untold}
 use Rattle.sm_commands.specs.Top.{Files, IsAnswerTo}
-use Rattle.sm_words.specs.Words.{Words, Asked, check, verify, replay, print, suggest, gen, about}
+use Rattle.sm_words.specs.Words.{Words, Asked, check, verify, replay, print, suggest, gen, explain, about}
 use Rattle.sm_words.specs.Words.{asked}
 use Rattle.sm_answers.specs.declared.status.Status.{Status}
 use Rattle.sm_answers.specs.declared.status.Status.TheVariants.{WriteFault}
@@ -23,6 +23,7 @@ with_workers workers (suggest task effort) =
     suggest task (record effort { workers = workers })
 with_workers workers (gen seed size effort) =
     gen seed size (record effort { workers = workers })
+with_workers workers (explain task input turns) = explain task input turns
 with_workers workers (about what) = about what
 
 -- no inputs beyond the trials are asked for
@@ -33,6 +34,7 @@ IsPlain (replay task input turns) = Unit {0}
 IsPlain (print task copy) = Unit {0}
 IsPlain (suggest task effort) = Unit {0}
 IsPlain (gen seed size effort) = Unit {0}
+IsPlain (explain task input turns) = Unit {0}
 IsPlain (about what) = Unit {0}
 
 -- the words don't ask for them

@@ -1,42 +1,22 @@
 -- What is answered by what the reads of a command gave, of told files and of others. Only private
 -- clauses cite it; `HeadlineRead` says what follows of Accepted and Conflict.
-use Rattle.std.specs.Prelude.{◌≡◌, ◌≢◌, ◌⊎◌, ℕ, List, Option, Some, None}
-use Rattle.sm_eval.specs.StoredValues.{meaning}
-use Rattle.sm_eval.specs.declared.store.Store.{Store}
+use Rattle.std.specs.Prelude.{◌≢◌, ◌⊎◌, ℕ, List, Option, Some, None}
 use Rattle.sm_io.specs.Reads.{Read}
-use Rattle.sm_replay.specs.Violations.{Violates}
-use Rattle.sm_syntax.specs.text.Parts.{Parts, task_of}
+use Rattle.sm_syntax.specs.text.Parts.{Parts}
 use Rattle.sm_commands.specs.Deeper.{AnswersTask}
 use Rattle.sm_commands.specs.Suggest.{AnswersSuggest}
-use Rattle.sm_words.specs.Words.{Asked, check, verify, replay, print, suggest, gen, about}
+use Rattle.sm_words.specs.Words.{Asked, check, verify, replay, print, suggest, gen, explain, about}
 use Rattle.sm_words.specs.declared.effort.Effort.{Effort}
 use Rattle.sm_answers.specs.declared.status.Status.{Status}
 use Rattle.sm_answers.specs.declared.status.Status.TheVariants.{Accepted, Conflict}
-use Rattle.sm_answers.specs.Readings.{ReadsTask, ReadsInput, VerifiesRead}
-
--- so was one that gives an input from which the task is violated
-pub record ReadsViolation (t : Parts) (name : List ℕ) (turns : ℕ) (before now : List Read)
-    : Type 0 where
-  pub store : Store
-  pub input : ReadsInput t name before now store
-  pub violates : Violates (task_of t) (meaning store) turns
+use Rattle.sm_answers.specs.Readings.{ReadsTask, ReplaysRead, VerifiesRead}
+use Rattle.sm_display.specs.Readings.{ExplainsRead}
 
 -- the answer of `check`: neither Accepted nor Conflict, or that to the task that was read
 abbrev pub ChecksRead : List ℕ → Effort → List Read → List Read → Status → List ℕ → Type 0
 ChecksRead task effort before now status text =
     ((status ≢ Accepted) × (status ≢ Conflict))
     ⊎ ((t : Parts) × ReadsTask task before now t × AnswersTask t effort status text)
-
--- the answer to an input's file is Conflict only where an input was read that shows one
-abbrev pub RunsRead : Parts → List ℕ → ℕ → List Read → List Read → Status → List ℕ → Type 0
-RunsRead t input turns before now status text =
-    status ≡ Conflict → ReadsViolation t input turns before now
-
--- and that of `replay` only where a task was read, and then such an input of it
-abbrev pub ReplaysRead : List ℕ → List ℕ → ℕ → List Read → List Read → Status → List ℕ → Type 0
-ReplaysRead task input turns before now status text = status ≡ Conflict →
-    (t : Parts) × (between : List Read) × ReadsTask task before between t
-    × ReadsViolation t input turns between now
 
 -- the answer of `suggest`: neither Accepted nor Conflict, or that to the task that was read
 abbrev pub ProposesRead : List ℕ → Effort → List Read → List Read → Status → List ℕ → Type 0
@@ -56,5 +36,7 @@ AnswersByReads (Some (print task copy)) before now status text = Unit {0}
 AnswersByReads (Some (suggest task effort)) before now status text =
     ProposesRead task effort before now status text
 AnswersByReads (Some (gen seed size effort)) before now status text = Unit {0}
+AnswersByReads (Some (explain task input turns)) before now status text =
+    ExplainsRead task input turns before now status text
 AnswersByReads (Some (about what)) before now status text = Unit {0}
 AnswersByReads None before now status text = Unit {0}

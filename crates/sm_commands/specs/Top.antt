@@ -6,22 +6,19 @@ use Rattle.sm_io.specs.Files.{Known}
 use Rattle.sm_io.specs.Sinks.{Adds}
 use Rattle.sm_proof.specs.declared.word.Word.{Word}
 use Rattle.sm_syntax.specs.text.Parts.{Parts}
-use Rattle.sm_syntax.specs.claim.ConflictFree.{program_of}
-use Rattle.sm_syntax.specs.declared.copies.CopyName.{CopyName}
-use Rattle.sm_syntax.specs.text.Parts.{task_of}
-use Rattle.sm_syntax.specs.trees.Copies.{copy_named}
-use Rattle.sm_text.specs.printing.Canonical.{program_pieces, task_pieces}
-use Rattle.sm_text.specs.printing.Pieces.{pieces_text}
 use Rattle.sm_answers.specs.File.{GivesTask, GivesNoTask}
 use Rattle.sm_commands.specs.Gen.{AnswersGen}
 use Rattle.sm_commands.specs.Deeper.{AnswersTask}
 use Rattle.sm_commands.specs.ProofFile.{LeavesFront, LeavesProof}
 use Rattle.sm_commands.specs.Suggest.{Suggests}
-use Rattle.sm_answers.specs.Replay.{ReplaysInput}
+use Rattle.sm_answers.specs.Replay.{Replays}
 use Rattle.sm_answers.specs.Status.{Says}
 use Rattle.sm_answers.specs.Verify.{rejected_line, Verifies}
+use Rattle.sm_display.specs.Explain.{Explains}
+use Rattle.sm_display.specs.Print.{Prints}
 use Rattle.sm_words.specs.About.{about_text}
-use Rattle.sm_words.specs.Words.{Words, Asked, check, verify, replay, print, suggest, gen, about}
+use Rattle.sm_words.specs.Words.{Words, Asked, check, verify, replay, print, suggest, gen}
+use Rattle.sm_words.specs.Words.{explain, about}
 use Rattle.sm_words.specs.Words.{asked, usage_line, IsUsage}
 use Rattle.sm_words.specs.declared.about.About.{About}
 use Rattle.sm_words.specs.declared.effort.Effort.{Effort}
@@ -62,43 +59,10 @@ pub record Generates (seed size : ℕ) (effort : Effort) (before now : ℕ) (sta
   pub quiet : now ≡ before
   pub answers : AnswersGen seed size effort status text
 
--- the canonical text of a task; or, where a copy is named, of the program of that copy, with its
--- holes filled
-abbrev pub canonical_text : Parts → Option CopyName → List ℕ
-canonical_text t None = pieces_text t.names (task_pieces t)
-canonical_text t (Some copy) =
-    let filled = program_of (task_of t) (copy_named copy) in
-    pieces_text t.names (program_pieces t.declared t.outputs filled)
-
--- the file gives a task, and its canonical text, or that of a copy's program, is printed
-pub record PrintsTask (file : Known) (copy : Option CopyName) (before now : ℕ) (status : Status)
-    (text : List ℕ) : Type 0 where
-  pub task : Parts
-  pub gives : GivesTask file before now task
-  pub says : Says Accepted (canonical_text task copy) status text
-
--- what is answered to `print`
-abbrev pub Prints : Known → Option CopyName → ℕ → ℕ → Status → List ℕ → Type 0
-Prints file copy before now status text =
-    GivesNoTask file before now status text ⊎ PrintsTask file copy before now status text
-
 -- what the program says of itself
 pub record Tells (what : About) (before now : ℕ) (status : Status) (text : List ℕ) : Type 0 where
   pub quiet : now ≡ before
   pub says : Says Accepted (about_text what) status text
-
--- the file gives a task, and then comes the input's
-pub record ReplaysTask (file input : Known) (turns before now : ℕ) (status : Status) (text : List ℕ)
-    : Type 0 where
-  pub task : Parts
-  pub between : ℕ
-  pub gives : GivesTask file before between task
-  pub answers : ReplaysInput task input turns between now status text
-
--- what is answered to `replay`
-abbrev pub Replays : Known → Known → ℕ → ℕ → ℕ → Status → List ℕ → Type 0
-Replays file input turns before now status text =
-    GivesNoTask file before now status text ⊎ ReplaysTask file input turns before now status text
 
 -- what is answered to what is asked for
 abbrev pub AnswersCommand : Asked → Files → ℕ → ℕ → Status → List ℕ → Type 0
@@ -114,6 +78,8 @@ AnswersCommand (suggest task effort) files before now status text =
     Suggests (files task) effort before now status text
 AnswersCommand (gen seed size effort) files before now status text =
     Generates seed size effort before now status text
+AnswersCommand (explain task input turns) files before now status text =
+    Explains files task input turns before now status text
 AnswersCommand (about what) files before now status text = Tells what before now status text
 
 -- what is left in the files by the answer to what is asked for: `check` alone writes, and to the
@@ -127,6 +93,7 @@ LeavesFiles (replay task input turns) before status now = IsUnchanged before now
 LeavesFiles (print task copy) before status now = IsUnchanged before now
 LeavesFiles (suggest task effort) before status now = IsUnchanged before now
 LeavesFiles (gen seed size effort) before status now = IsUnchanged before now
+LeavesFiles (explain task input turns) before status now = IsUnchanged before now
 LeavesFiles (about what) before status now = IsUnchanged before now
 
 -- what may be left in the files where memory is wanting
@@ -139,6 +106,7 @@ LeavesPart (replay task input turns) before now = IsUnchanged before now
 LeavesPart (print task copy) before now = IsUnchanged before now
 LeavesPart (suggest task effort) before now = IsUnchanged before now
 LeavesPart (gen seed size effort) before now = IsUnchanged before now
+LeavesPart (explain task input turns) before now = IsUnchanged before now
 LeavesPart (about what) before now = IsUnchanged before now
 
 -- what is answered to words that ask for this, or for nothing
@@ -170,6 +138,7 @@ WritesElsewhere (replay task input turns) = Unit {0}
 WritesElsewhere (print task copy) = Unit {0}
 WritesElsewhere (suggest task effort) = Unit {0}
 WritesElsewhere (gen seed size effort) = Unit {0}
+WritesElsewhere (explain task input turns) = Unit {0}
 WritesElsewhere (about what) = Unit {0}
 
 -- the words ask for `verify`

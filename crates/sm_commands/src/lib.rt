@@ -10,8 +10,9 @@
 //!   first bad line and the word for what is wrong with it. `replay` judges one input exactly,
 //!   `print` puts the canonical text of a task, or of the program of a copy, `suggest` the first
 //!   combination of the given fillings that the search accepts, and `gen` makes a task and answers
-//!   it. `help` and `version` say what the program takes and is. Words that no command takes, bytes
-//!   that are no task or no input, and faults are answered exactly where they are met.
+//!   it. `explain` says for a person why a task is refused, what its programs are, or what they do
+//!   from an input. `help` and `version` say what the program takes and is. Words that no command
+//!   takes, bytes that are no task or no input, and faults are answered exactly where they are met.
 //! - `one_answer` is the law that two answers to told files, without a fault, are equal where the
 //!   words are the same, or ask for the same with another number of workers, and `--deeper` isn't
 //!   among them.
@@ -20,17 +21,19 @@
 //! The claim is `ConflictFree` of the crate `sm_syntax`. Read `specs/Headline.antt` first: what
 //! Accepted and Conflict say of files that are told; and then `specs/HeadlineRead.antt`: what they
 //! say of the bytes that were read, on every shelf. `specs/Top.antt` says what is answered, with
-//! `specs/Check.antt`, `specs/Deeper.antt`, `specs/Suggest.antt` and `specs/Gen.antt`, and `specs/File.antt`, `specs/Verify.antt` and
-//! `specs/Replay.antt` of the crate `sm_answers`; `specs/ProofFile.antt` what `check` writes, and
-//! `specs/Words.antt` of `sm_words` what the words ask for.
+//! `specs/Check.antt`, `specs/Deeper.antt`, `specs/Suggest.antt` and `specs/Gen.antt`,
+//! `specs/File.antt`, `specs/Verify.antt` and `specs/Replay.antt` of the crate `sm_answers`, and
+//! `specs/Print.antt` and `specs/Explain.antt` of `sm_display`; `specs/ProofFile.antt` what `check`
+//! writes, and `specs/Words.antt` of `sm_words` what the words ask for.
 #![tactic(auto)]
 
 mod check;
+mod checking;
 mod deeper;
 mod laws;
 mod making;
-mod printing;
 mod suggesting;
+mod telling;
 mod top;
 
 pub use laws::one_answer;

@@ -1,18 +1,21 @@
-// What `suggest` answers to a task.
-ghost use Rattle.std.specs.Prelude.{◌≡◌, false, IfNone, IfOk, IfSome};
+// What `suggest` answers to a task's file.
+ghost use Rattle.std.specs.Prelude.{◌≡◌, false, ℕ, List, IfNone, IfOk, IfErr, IfSome};
 ghost use Rattle.sm_houdini.specs.Views.{outcome_in};
 ghost use Rattle.sm_houdini.specs.declared.outcome.Outcome.TheVariants as accepts;
 ghost use Rattle.sm_suggest.specs.Combinations.{choices, hole_count};
 ghost use Rattle.sm_suggest.specs.Fit.{IsFit};
 ghost use Rattle.sm_task.specs.Tasks.{parts_of};
 ghost use Rattle.sm_text.specs.printing.Named.{HasText};
+ghost use Rattle.sm_answers.specs.Exit.{ExitsWith};
 ghost use Rattle.sm_answers.specs.Lines.{many_holes_line, none_line, suggestion_line};
 ghost use Rattle.sm_answers.specs.Status.{Says};
-ghost use Rattle.sm_commands.specs.Suggest.{is_accepted, AnswersSuggest, Decides};
+ghost use Rattle.sm_commands.specs.Readings.{ProposesRead};
+ghost use Rattle.sm_commands.specs.Suggest.{is_accepted, AnswersSuggest, Decides, Suggests};
 ghost use Rattle.sm_words.specs.Views.{HasWorkers};
 
-use sm_answers::{Reply, Status, many_holes_line, none_line, suggestion_line};
+use sm_answers::{Exit, Reply, Status, many_holes_line, none_line, suggestion_line, task_in};
 use sm_houdini::{Outcome, Proof, proof_text, search};
+use sm_io::Shelf;
 use sm_par::Gate;
 use sm_suggest::{SuggestError, choices, suggest};
 use sm_task::{Task, holes_of};
@@ -20,9 +23,34 @@ use sm_words::Effort;
 use std::alloc::{AllocError, Global};
 use std::thread::Threads;
 
-/// The answer to a task that some text spells: the first combination of its fillings that its search
-/// accepts, as far as the effort goes. Jobs are for 1 to 64 workers.
-pub fn suggest_answer<R: Threads + Sync, G: Gate>(
+/// The answer of `suggest` to a task's file.
+pub fn suggest_in<R: Threads + Sync, G: Gate, H: Shelf>(
+    rt: &R,
+    alloc: Global,
+    gate: &G,
+    shelf: &mut H,
+    name: &str,
+    effort: Effort,
+) -> Result<Reply, Exit>
+    requires { HasWorkers effort }
+    ensures ok { IfOk result (λ r. Suggests (H.file shelf.old name.now) effort
+        (H.read_faults shelf.old) (H.read_faults shelf.new) r.status r.text.items) }
+    ensures exit { IfErr result (ExitsWith (Suggests (H.file shelf.old name.now) effort
+        (H.read_faults shelf.old) (H.read_faults shelf.new))) }
+    ensures read { IfOk result (λ r. ProposesRead name.now effort
+        (H.given shelf.old) (H.given shelf.new) r.status r.text.items) }
+    ensures exit_read { IfErr result (ExitsWith (ProposesRead name.now effort
+        (H.given shelf.old) (H.given shelf.new))) }
+    ensures same { (other : List ℕ) → H.file shelf.new other ≡ H.file shelf.old other }
+    ensures writes { H.write_faults shelf.new ≡ H.write_faults shelf.old }
+{
+    let task = task_in(alloc, shelf, name)?;
+    Ok(suggest_answer(rt, alloc, gate, &task, effort)?)
+}
+
+// The answer to a task that some text spells: the first combination of its fillings that its search
+// accepts, as far as the effort goes. Jobs are for 1 to 64 workers.
+fn suggest_answer<R: Threads + Sync, G: Gate>(
     rt: &R,
     alloc: Global,
     gate: &G,

@@ -1,56 +1,43 @@
 // The top call: words, files and standard output.
 ghost use Rattle.std.specs.Prelude.{◌≡◌, ◌≢◌, ◌⊎◌, ◌↔◌, ◌<◌, ◌≤◌, ℕ, List, None, Some, length, map};
-ghost use Rattle.std.specs.Prelude.{codes, take, IfOk, IfErr, IfSome, OnErr, MatchOption};
+ghost use Rattle.std.specs.Prelude.{take, IfOk, IfErr, IfSome, MatchOption};
 ghost use Rattle.std.specs.String.{string_bytes};
 ghost use Rattle.sm_houdini.specs.Outcomes as outcome;
 ghost use Rattle.sm_houdini.specs.Outcomes.{IsOutcome};
 ghost use Rattle.sm_io.specs.Causes.{HasCause, Rose};
-ghost use Rattle.sm_io.specs.Files.{WhereHeld, emptied, holds, longer};
+ghost use Rattle.sm_io.specs.Files.{WhereHeld, holds};
 ghost use Rattle.sm_io.specs.Sinks.{Adds};
-ghost use Rattle.sm_replay.specs.Sorted.{sort_fault};
 ghost use Rattle.sm_syntax.specs.text.Parts.{Parts};
 ghost use Rattle.sm_syntax.specs.text.Spells.{Spells};
-ghost use Rattle.sm_task.specs.Tasks.{parts_of};
-ghost use Rattle.sm_text.specs.printing.Named.{HasText};
+ghost use Rattle.sm_answers.specs.Exit.{ExitsWith};
+ghost use Rattle.sm_answers.specs.File.{file_limit};
+ghost use Rattle.sm_words.specs.Views.{asked_in, IsWithin};
+ghost use Rattle.sm_words.specs.Words.{Asked, asked, check, verify, replay, suggest, explain};
+ghost use Rattle.sm_words.specs.Words.{task_file, IsUsage};
+ghost use Rattle.sm_words.specs.declared.effort.Effort.{Effort};
+ghost use Rattle.sm_commands.specs.Check.{reach_of};
 ghost use Rattle.sm_commands.specs.Headline.{merge_file, IsProved, IsSafeMerge, IsUnsafeMerge};
 ghost use Rattle.sm_commands.specs.Headline.{IsShownByInput, ShowsInput};
 ghost use Rattle.sm_commands.specs.HeadlineRead.{AcceptsRead, ConflictsRead, ReadsProved};
-ghost use Rattle.sm_commands.specs.HeadlineRead.{ShowsReadInput};
-ghost use Rattle.sm_commands.specs.HeadlineRead.{SuggestsRead};
-ghost use Rattle.sm_commands.specs.Readings.{AnswersByReads, ChecksRead, ProposesRead, ReplaysRead};
-ghost use Rattle.sm_commands.specs.Readings.{RunsRead};
-ghost use Rattle.sm_commands.specs.Suggest.{IsSafeSuggestion, Suggests};
-ghost use Rattle.sm_commands.specs.Deeper.{AnswersTask};
-ghost use Rattle.sm_commands.specs.Top.{IsAnswerTo, AnswersCommand, Checks, Prints, Replays};
+ghost use Rattle.sm_commands.specs.HeadlineRead.{ShowsReadInput, SuggestsRead};
+ghost use Rattle.sm_commands.specs.ProofFile.{HoldsProof, IsTaskIn, LeavesCut, LeavesFront};
+ghost use Rattle.sm_commands.specs.Readings.{AnswersByReads};
+ghost use Rattle.sm_commands.specs.Suggest.{IsSafeSuggestion};
+ghost use Rattle.sm_commands.specs.Top.{IsAnswerTo, AnswersCommand};
 ghost use Rattle.sm_commands.specs.Top.{IsPrinted, PutsPart, RejectsProof, LeavesBy, LeavesFiles};
 ghost use Rattle.sm_commands.specs.Top.{LeavesPart, LeavesPartBy, WritesElsewhere};
-ghost use Rattle.sm_commands.specs.Check.{reach_of};
-ghost use Rattle.sm_answers.specs.File.{file_limit};
-ghost use Rattle.sm_commands.specs.ProofFile.{HoldsProof, IsTaskIn, LeavesCut};
-ghost use Rattle.sm_commands.specs.ProofFile.{LeavesFront, LeavesProof, LeftBy, LeftCut};
-ghost use Rattle.sm_answers.specs.ProofFile.{IsBegun};
-ghost use Rattle.sm_answers.specs.Status.{Says};
-ghost use Rattle.sm_answers.specs.Replay.{ReplaysInput};
-ghost use Rattle.sm_words.specs.Views.{asked_in, HasWorkers, IsWithin};
 ghost use Rattle.sm_commands.specs.Views.{CountsWrites, EndsWith};
-ghost use Rattle.sm_answers.specs.Exit.{ExitsWith};
-ghost use Rattle.sm_words.specs.About.{about_text};
-ghost use Rattle.sm_words.specs.Words.{Asked, asked, check, verify, replay, suggest, task_file};
-ghost use Rattle.sm_words.specs.Words.{usage_line};
-ghost use Rattle.sm_words.specs.Words.{IsUsage};
 
-use crate::check::Decided;
-use crate::deeper::check_deeper;
+use crate::checking::check_in;
 use crate::making::gen_answer;
-use crate::printing::print;
-use crate::suggesting::suggest_answer;
-use sm_answers::{Exit, Reply, Status, input_in, replay, task_in, verify_in, write_file};
+use crate::suggesting::suggest_in;
+use crate::telling::{tell, usage};
+use sm_answers::{Exit, Reply, Status, replay_in, verify_in};
+use sm_display::{explain_in, print_in};
 use sm_io::{IoError, Shelf, Sink, put_all};
 use sm_par::Gate;
-use sm_syntax::CopyName;
-use sm_task::Task;
-use sm_words::{About, Effort, Request, WordsError, about_text, line, read_words, usage_line};
-use std::alloc::{AllocError, Global};
+use sm_words::{Request, WordsError, read_words};
+use std::alloc::Global;
 use std::thread::Threads;
 
 /// What the program does with its words, which come without its name. It reads from `shelf` and
@@ -74,7 +61,7 @@ pub fn safemerge<R: Threads + Sync, G: Gate, H: Shelf, K: Sink>(
         asked (map string_bytes words.now) ≡ Some (verify task proof workers) →
         WhereHeld (H.file shelf.old task) (λ bytes. WhereHeld (H.file shelf.old proof) (λ lines.
         (result ≡ Status.Accepted) ↔ IsProved bytes lines)) }
-    // Where `check` or `replay` answers Conflict, they spell a task that isn't.
+    // Where `check`, `replay` or `explain` answers Conflict, they spell a task that isn't.
     ensures conflict { result ≡ Status.Conflict → (ask : Asked) (task : List ℕ) →
         asked (map string_bytes words.now) ≡ Some ask → task_file ask ≡ Some task →
         WhereHeld (H.file shelf.old task) IsUnsafeMerge }
@@ -86,6 +73,10 @@ pub fn safemerge<R: Threads + Sync, G: Gate, H: Shelf, K: Sink>(
     // That of `replay` is shown by its input.
     ensures replayed { result ≡ Status.Conflict → (task input : List ℕ) (turns : ℕ) →
         asked (map string_bytes words.now) ≡ Some (replay task input turns) →
+        IsShownByInput (H.file shelf.old task) (H.file shelf.old input) turns }
+    // So is that of `explain`.
+    ensures explained { result ≡ Status.Conflict → (task input : List ℕ) (turns : ℕ) →
+        asked (map string_bytes words.now) ≡ Some (explain task (Some input) turns) →
         IsShownByInput (H.file shelf.old task) (H.file shelf.old input) turns }
     // What `suggest` prints with Accepted is a combination of the fillings with which the task is
     // free of conflicts.
@@ -245,18 +236,6 @@ fn answer<R: Threads + Sync, G: Gate, H: Shelf>(
     }
 }
 
-// The answer to words that no command takes.
-fn usage(alloc: Global, words: &[String]) -> Result<Reply, AllocError>
-    ensures { let text = usage_line (map string_bytes words.now) in
-        IfOk result (λ r. Says Status.Usage text r.status r.text.items) }
-{
-    let text = usage_line(alloc, words)?;
-    Ok(Reply {
-        status: Status::Usage,
-        text,
-    })
-}
-
 // The answer to what the words ask for.
 fn answer_to<R: Threads + Sync, G: Gate, H: Shelf>(
     rt: &R,
@@ -297,208 +276,7 @@ fn answer_to<R: Threads + Sync, G: Gate, H: Shelf>(
         Request::Gen { seed, size, effort } => {
             Ok(gen_answer(rt, alloc, gate, seed, size, effort)?)
         }
+        Request::Explain { task, input, turns } => explain_in(alloc, shelf, task, input, turns),
         Request::About(what) => Ok(tell(alloc, what)?),
     }
-}
-
-// The answer of `check` to a task's file and a proof's, which is written where the task is accepted.
-fn check_in<R: Threads + Sync, G: Gate, H: Shelf>(
-    rt: &R,
-    alloc: Global,
-    gate: &G,
-    shelf: &mut H,
-    name: &str,
-    proof: &str,
-    effort: Effort,
-) -> Result<Reply, Exit>
-    requires workers { HasWorkers effort }
-    requires other { name.now ≢ proof.now }
-    ensures ok { IfOk result (λ r. Checks (H.file shelf.old name.now) effort
-        (H.read_faults shelf.old) (H.read_faults shelf.new) r.status r.text.items) }
-    ensures exit { IfErr result (ExitsWith (Checks (H.file shelf.old name.now) effort
-        (H.read_faults shelf.old) (H.read_faults shelf.new))) }
-    ensures read { IfOk result (λ r. ChecksRead name.now effort
-        (H.given shelf.old) (H.given shelf.new) r.status r.text.items) }
-    ensures exit_read { IfErr result (ExitsWith (ChecksRead name.now effort
-        (H.given shelf.old) (H.given shelf.new))) }
-    ensures left { EndsWith
-        (λ status. LeavesProof (H.file shelf.old name.now) status (H.file shelf.old proof.now)
-        (H.file shelf.new proof.now))
-        (LeavesFront (H.file shelf.old name.now) (H.file shelf.old proof.now)
-        (H.file shelf.new proof.now)) result }
-    ensures others { (other : List ℕ) → other ≢ proof.now →
-        H.file shelf.new other ≡ H.file shelf.old other }
-    ensures writes { CountsWrites (H.write_faults shelf.old) (H.write_faults shelf.new) result }
-{
-    let task = task_in(alloc, shelf, name)?;
-    Ok(check_task(rt, alloc, gate, shelf, &task, proof, effort)?)
-}
-
-// The answer of `check` to a task, and its proof in a file where it is accepted.
-fn check_task<R: Threads + Sync, G: Gate, H: Shelf>(
-    rt: &R,
-    alloc: Global,
-    gate: &G,
-    shelf: &mut H,
-    task: &Task,
-    proof: &str,
-    effort: Effort,
-) -> Result<Reply, AllocError>
-    requires spelled { HasText (parts_of task.now) }
-    requires workers { HasWorkers effort }
-    ensures answers { IfOk result (λ r.
-        AnswersTask (parts_of task.now) effort r.status r.text.items) }
-    ensures left { IfOk result (λ r. LeftBy (parts_of task.now) r.status
-        (H.file shelf.old proof.now) (H.file shelf.new proof.now)) }
-    ensures front { OnErr result (LeftCut (parts_of task.now)
-        (H.file shelf.old proof.now) (H.file shelf.new proof.now)) }
-    ensures others { (other : List ℕ) → other ≢ proof.now →
-        H.file shelf.new other ≡ H.file shelf.old other }
-    ensures writes { IfOk result (λ r. HasCause (H.write_faults shelf.old)
-        (H.write_faults shelf.new) (r.status ≡ Status.WriteFault)) }
-    ensures quiet { OnErr result (H.write_faults shelf.new ≡ H.write_faults shelf.old) }
-    ensures reads { H.read_faults shelf.new ≡ H.read_faults shelf.old }
-    ensures keeps { H.given shelf.new ≡ H.given shelf.old }
-{
-    let Decided { reply, proof: text } = check_deeper(rt, alloc, gate, task, effort)?;
-    match text {
-        Some(text) => write_proof(alloc, shelf, reply, proof, &text),
-        None => Ok(reply),
-    }
-}
-
-// The answer to a task that is accepted, once its proof was to be written.
-fn write_proof<H: Shelf>(
-    alloc: Global,
-    shelf: &mut H,
-    reply: Reply,
-    name: &str,
-    text: &[u8],
-) -> Result<Reply, AllocError>
-    ensures answers { IfOk result (λ r.
-        (Says reply.status reply.text.items r.status r.text.items
-        × (H.file shelf.new name.now ≡ longer (emptied (H.file shelf.old name.now)) text.now))
-        ⊎ (Says Status.WriteFault (codes "WriteFault\n") r.status r.text.items
-        × IsBegun text.now (H.file shelf.old name.now) (H.file shelf.new name.now))) }
-    ensures begun { OnErr result
-        (IsBegun text.now (H.file shelf.old name.now) (H.file shelf.new name.now)) }
-    ensures others { (other : List ℕ) → other ≢ name.now →
-        H.file shelf.new other ≡ H.file shelf.old other }
-    ensures writes { reply.status ≢ Status.WriteFault → IfOk result (λ r.
-        HasCause (H.write_faults shelf.old) (H.write_faults shelf.new)
-        (r.status ≡ Status.WriteFault)) }
-    ensures quiet { OnErr result (H.write_faults shelf.new ≡ H.write_faults shelf.old) }
-    ensures reads { H.read_faults shelf.new ≡ H.read_faults shelf.old }
-    ensures keeps { H.given shelf.new ≡ H.given shelf.old }
-{
-    let failed = line(alloc, "WriteFault", &[])?;
-    match write_file(shelf, name, text) {
-        Ok(()) => Ok(reply),
-        Err(IoError::Fault) => Ok(Reply {
-            status: Status::WriteFault,
-            text: failed,
-        }),
-        Err(IoError::Memory) => Err(AllocError),
-    }
-}
-
-// The answer of `replay` to a task's file and an input's.
-fn replay_in<H: Shelf>(
-    alloc: Global,
-    shelf: &mut H,
-    name: &str,
-    input: &str,
-    turns: u64,
-) -> Result<Reply, Exit>
-    ensures ok { IfOk result (λ r. Replays (H.file shelf.old name.now) (H.file shelf.old input.now)
-        turns (H.read_faults shelf.old) (H.read_faults shelf.new) r.status r.text.items) }
-    ensures exit { IfErr result (ExitsWith (Replays (H.file shelf.old name.now)
-        (H.file shelf.old input.now) turns (H.read_faults shelf.old) (H.read_faults shelf.new))) }
-    ensures read { IfOk result (λ r. ReplaysRead name.now input.now turns
-        (H.given shelf.old) (H.given shelf.new) r.status r.text.items) }
-    ensures exit_read { IfErr result (ExitsWith (ReplaysRead name.now input.now turns
-        (H.given shelf.old) (H.given shelf.new))) }
-    ensures same { (other : List ℕ) → H.file shelf.new other ≡ H.file shelf.old other }
-    ensures writes { H.write_faults shelf.new ≡ H.write_faults shelf.old }
-{
-    let task = task_in(alloc, shelf, name)?;
-    replay_task(alloc, shelf, &task, input, turns)
-}
-
-// The answer of `replay` to a task and an input's file.
-fn replay_task<H: Shelf>(
-    alloc: Global,
-    shelf: &mut H,
-    task: &Task,
-    input: &str,
-    turns: u64,
-) -> Result<Reply, Exit>
-    requires { sort_fault (parts_of task.now) ≡ None }
-    ensures ok { IfOk result (λ r. ReplaysInput (parts_of task.now) (H.file shelf.old input.now)
-        turns (H.read_faults shelf.old) (H.read_faults shelf.new) r.status r.text.items) }
-    ensures exit { IfErr result (ExitsWith (ReplaysInput (parts_of task.now)
-        (H.file shelf.old input.now) turns (H.read_faults shelf.old) (H.read_faults shelf.new))) }
-    ensures read { IfOk result (λ r. RunsRead (parts_of task.now) input.now turns
-        (H.given shelf.old) (H.given shelf.new) r.status r.text.items) }
-    ensures exit_read { IfErr result (ExitsWith (RunsRead (parts_of task.now) input.now turns
-        (H.given shelf.old) (H.given shelf.new))) }
-    ensures same { (other : List ℕ) → H.file shelf.new other ≡ H.file shelf.old other }
-    ensures writes { H.write_faults shelf.new ≡ H.write_faults shelf.old }
-{
-    let store = input_in(alloc, shelf, input, task)?;
-    Ok(replay(alloc, task, &store, turns)?)
-}
-
-// The answer of `print` to a task's file.
-fn print_in<H: Shelf>(
-    alloc: Global,
-    shelf: &mut H,
-    name: &str,
-    copy: Option<CopyName>,
-) -> Result<Reply, Exit>
-    ensures ok { IfOk result (λ r. Prints (H.file shelf.old name.now) copy
-        (H.read_faults shelf.old) (H.read_faults shelf.new) r.status r.text.items) }
-    ensures exit { IfErr result (ExitsWith (Prints (H.file shelf.old name.now) copy
-        (H.read_faults shelf.old) (H.read_faults shelf.new))) }
-    ensures same { (other : List ℕ) → H.file shelf.new other ≡ H.file shelf.old other }
-    ensures writes { H.write_faults shelf.new ≡ H.write_faults shelf.old }
-{
-    let task = task_in(alloc, shelf, name)?;
-    Ok(print(alloc, &task, copy)?)
-}
-
-// The answer of `suggest` to a task's file.
-fn suggest_in<R: Threads + Sync, G: Gate, H: Shelf>(
-    rt: &R,
-    alloc: Global,
-    gate: &G,
-    shelf: &mut H,
-    name: &str,
-    effort: Effort,
-) -> Result<Reply, Exit>
-    requires { HasWorkers effort }
-    ensures ok { IfOk result (λ r. Suggests (H.file shelf.old name.now) effort
-        (H.read_faults shelf.old) (H.read_faults shelf.new) r.status r.text.items) }
-    ensures exit { IfErr result (ExitsWith (Suggests (H.file shelf.old name.now) effort
-        (H.read_faults shelf.old) (H.read_faults shelf.new))) }
-    ensures read { IfOk result (λ r. ProposesRead name.now effort
-        (H.given shelf.old) (H.given shelf.new) r.status r.text.items) }
-    ensures exit_read { IfErr result (ExitsWith (ProposesRead name.now effort
-        (H.given shelf.old) (H.given shelf.new))) }
-    ensures same { (other : List ℕ) → H.file shelf.new other ≡ H.file shelf.old other }
-    ensures writes { H.write_faults shelf.new ≡ H.write_faults shelf.old }
-{
-    let task = task_in(alloc, shelf, name)?;
-    Ok(suggest_answer(rt, alloc, gate, &task, effort)?)
-}
-
-// What the program says of itself, as an answer.
-fn tell(alloc: Global, what: About) -> Result<Reply, AllocError>
-    ensures { IfOk result (λ r. Says Status.Accepted (about_text what) r.status r.text.items) }
-{
-    let text = about_text(alloc, what)?;
-    Ok(Reply {
-        status: Status::Accepted,
-        text,
-    })
 }

@@ -1,14 +1,14 @@
 -- What a command asks for, by the texts that its matches give.
 use Rattle.std.proofs.Common.{◌≡◌, ◌∙◌, ◌⊎◌, inl, inr, [], Option, Some, None, Result, Ok, Err, IfOk, IsErrOf, codes, refl, sym, ap}
 use Rattle.clap.specs.Walk.{Text}
-use Rattle.sm_words.specs.Numbers.{copy_by, effort_by, seed_by, size_by, workers_by, HasBadNumber}
+use Rattle.sm_words.specs.Numbers.{copy_by, effort_by, seed_by, size_by, turns_by, workers_by, HasBadNumber}
 use Rattle.sm_words.specs.Views.{asked_in}
-use Rattle.sm_words.specs.Words.{Words, asked_by, check_by, verify_by, replay_by, print_by, suggest_by, gen_by, word_faults, argument_text, effort_in}
+use Rattle.sm_words.specs.Words.{Words, asked_by, check_by, verify_by, replay_by, print_by, suggest_by, gen_by, explain_by, word_faults, argument_text, effort_in}
 use Rattle.sm_words.specs.Words.{IsRefused}
 use Rattle.sm_words.specs.declared.effort.Effort.{Effort}
 use Rattle.sm_words.specs.declared.words.Request.{Request}
 use Rattle.sm_words.specs.declared.command.Verb.{Verb}
-use Rattle.sm_words.specs.declared.command.Verb.TheVariants.{Check, Verify, Replay, Print, Suggest, Gen, About}
+use Rattle.sm_words.specs.declared.command.Verb.TheVariants.{Check, Verify, Replay, Print, Suggest, Gen, Explain, About}
 use Rattle.sm_words.specs.declared.words.WordsError.{WordsError}
 use Rattle.sm_words.specs.declared.words.WordsError.TheVariants.{Usage}
 
@@ -60,6 +60,7 @@ asks_check Replay words f r is free texts ok bad = cc
 asks_check Print words f r is free texts ok bad = cc
 asks_check Gen words f r is free texts ok bad = cc
 asks_check Suggest words f r is free texts ok bad = cc
+asks_check Explain words f r is free texts ok bad = cc
 asks_check (About what) words f r is free texts ok bad = cc
 
 pub asks_gen : (verb : Verb) (words : Words) (f : Text → Option Text) (r : Result Request WordsError) → verb ≡ Gen
@@ -87,6 +88,7 @@ asks_gen Verify words f r is free texts ok bad = cc
 asks_gen Replay words f r is free texts ok bad = cc
 asks_gen Print words f r is free texts ok bad = cc
 asks_gen Suggest words f r is free texts ok bad = cc
+asks_gen Explain words f r is free texts ok bad = cc
 asks_gen (About what) words f r is free texts ok bad = cc
 
 pub asks_verify : (verb : Verb) (words : Words) (f : Text → Option Text) (r : Result Request WordsError) → verb ≡ Verify
@@ -106,6 +108,7 @@ asks_verify Gen words f r is free texts ok bad = cc
 asks_verify Replay words f r is free texts ok bad = cc
 asks_verify Print words f r is free texts ok bad = cc
 asks_verify Suggest words f r is free texts ok bad = cc
+asks_verify Explain words f r is free texts ok bad = cc
 asks_verify (About what) words f r is free texts ok bad = cc
 
 pub asks_replay : (verb : Verb) (words : Words) (f : Text → Option Text) (r : Result Request WordsError) → verb ≡ Replay
@@ -125,6 +128,7 @@ asks_replay Gen words f r is free texts ok bad = cc
 asks_replay Verify words f r is free texts ok bad = cc
 asks_replay Print words f r is free texts ok bad = cc
 asks_replay Suggest words f r is free texts ok bad = cc
+asks_replay Explain words f r is free texts ok bad = cc
 asks_replay (About what) words f r is free texts ok bad = cc
 
 same_print : {a b a' b' : Option Text} → a ≡ a' → b ≡ b' → print_by a b ≡ print_by a' b'
@@ -150,6 +154,7 @@ asks_print Gen words f r is free texts ok bad = cc
 asks_print Verify words f r is free texts ok bad = cc
 asks_print Replay words f r is free texts ok bad = cc
 asks_print Suggest words f r is free texts ok bad = cc
+asks_print Explain words f r is free texts ok bad = cc
 asks_print (About what) words f r is free texts ok bad = cc
 
 pub asks_suggest : (verb : Verb) (words : Words) (f : Text → Option Text) (r : Result Request WordsError) → verb ≡ Suggest
@@ -169,4 +174,28 @@ asks_suggest Gen words f r is free texts ok bad = cc
 asks_suggest Verify words f r is free texts ok bad = cc
 asks_suggest Replay words f r is free texts ok bad = cc
 asks_suggest Print words f r is free texts ok bad = cc
+asks_suggest Explain words f r is free texts ok bad = cc
 asks_suggest (About what) words f r is free texts ok bad = cc
+
+same_explain : {a b c a' b' c' : Option Text} → a ≡ a' → b ≡ b' → c ≡ c' → explain_by a b c ≡ explain_by a' b' c'
+same_explain p q r = rw (p, q, r) refl
+
+pub asks_explain : (verb : Verb) (words : Words) (f : Text → Option Text) (r : Result Request WordsError) → verb ≡ Explain
+    → word_faults verb words ≡ [] → ((id : Text) → f id ≡ argument_text verb id words) →
+    IfOk r (λ (q : Request). explain_by (f (codes "TASK")) (f (codes "INPUT")) (f (codes "turns")) ≡ Some (asked_in q))
+    → (IsErrOf r Usage → turns_by (f (codes "turns")) ≡ None) → Asks verb words r
+asks_explain Explain words f (Ok q) is free texts ok bad = record {
+  ok = (free, sym (same_explain (texts (codes "TASK")) (texts (codes "INPUT")) (texts (codes "turns"))) ∙ ok);
+  usage = λ u. cc;
+}
+asks_explain Explain words f (Err e) is free texts ok bad = record {
+  ok = tt;
+  usage = λ u. inr (sym (ap turns_by (texts (codes "turns"))) ∙ bad u);
+}
+asks_explain Check words f r is free texts ok bad = cc
+asks_explain Verify words f r is free texts ok bad = cc
+asks_explain Replay words f r is free texts ok bad = cc
+asks_explain Print words f r is free texts ok bad = cc
+asks_explain Suggest words f r is free texts ok bad = cc
+asks_explain Gen words f r is free texts ok bad = cc
+asks_explain (About what) words f r is free texts ok bad = cc

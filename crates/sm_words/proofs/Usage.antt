@@ -8,9 +8,10 @@ use Rattle.clap.specs.Walk.{Text}
 use Rattle.sm_words.specs.declared.effort.Effort.{Effort}
 use Rattle.sm_words.specs.Numbers.{copy_by, seed_by, size_by, turns_by, workers_by, HasBadNumber}
 use Rattle.sm_words.specs.Words.{Words, Asked, check, replay, gen, asked, asked_by, asked_where, check_by, verify_by, replay_by, print_by, suggest_by, gen_by}
+use Rattle.sm_words.specs.Words.{explain_by}
 use Rattle.sm_words.specs.Words.{argument_text, effort_in, verb_of, unless, HasBadOption, IsRefused, IsUsage}
 use Rattle.sm_words.specs.declared.command.Verb.{Verb}
-use Rattle.sm_words.specs.declared.command.Verb.TheVariants.{Check, Verify, Replay, Print, Suggest, Gen, About}
+use Rattle.sm_words.specs.declared.command.Verb.TheVariants.{Check, Verify, Replay, Print, Suggest, Gen, Explain, About}
 
 -- a file isn't another of the same name
 one_file : (file : Text) (other : Option Asked) → (if bytes_eq file file then None else other) ≡ None
@@ -60,6 +61,10 @@ no_suggest : (task : Option Text) (effort : Option Effort) → effort ≡ None �
 no_suggest None effort e = refl
 no_suggest (Some file) effort e = rw e refl
 
+no_explain : (task input turns : Option Text) → turns_by turns ≡ None → explain_by task input turns ≡ None
+no_explain None input turns e = refl
+no_explain (Some file) input turns e = rw e refl
+
 none_asked : (verb : Verb) (words : Words) → HasBadOption verb words → asked_by verb words ≡ None
 none_asked Check words h =
     no_check (argument_text Check (codes "TASK") words) (argument_text Check (codes "PROOF") words) (effort_in Check words) h
@@ -71,6 +76,9 @@ none_asked Replay words h =
     (argument_text Replay (codes "turns") words) (argument_text Replay (codes "workers") words) h
 none_asked Print words h = no_print (argument_text Print (codes "TASK") words) (argument_text Print (codes "copy") words) h
 none_asked Suggest words h = no_suggest (argument_text Suggest (codes "TASK") words) (effort_in Suggest words) h
+none_asked Explain words h =
+    no_explain (argument_text Explain (codes "TASK") words) (argument_text Explain (codes "INPUT") words)
+    (argument_text Explain (codes "turns") words) h
 none_asked (About what) words h = absurd h
 none_asked Gen words h =
     no_gen (argument_text Gen (codes "SEED") words) (argument_text Gen (codes "SIZE") words) (effort_in Gen words) h

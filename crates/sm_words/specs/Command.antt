@@ -7,12 +7,16 @@ use Rattle.sm_words.specs.declared.about.About.{About}
 use Rattle.sm_words.specs.declared.about.About.TheVariants.{Help, Version}
 use Rattle.sm_words.specs.declared.command.Verb.{Verb}
 use Rattle.sm_words.specs.declared.command.Verb.TheVariants.{Check, Verify, Replay, Print, Suggest}
-use Rattle.sm_words.specs.declared.command.Verb.TheVariants.{Gen}
+use Rattle.sm_words.specs.declared.command.Verb.TheVariants.{Gen, Explain}
 use Rattle.sm_words.specs.declared.command.Verb.TheVariants as verb
 
 -- a word that has to be there
 abbrev pub required_word : Text → Rule
 required_word id = record (new_rule id) { required = true; action = Some Set }
+
+-- a word that may be there
+abbrev pub optional_word : Text → Rule
+optional_word id = record (new_rule id) { action = Some Set }
 
 -- an option with a value
 abbrev pub option_word : Text → Rule
@@ -74,6 +78,14 @@ suggest_command = with_effort (with_rule (new_app (codes "suggest")) (required_w
 unfoldable pub gen_command : App
 gen_command = search_command (codes "gen") (codes "SEED") (codes "SIZE")
 
+-- explain TASK [INPUT] [--turns N]
+unfoldable pub explain_command : App
+explain_command =
+    with_rule (with_rule (with_rule (new_app (codes "explain"))
+    (required_word (codes "TASK")))
+    (optional_word (codes "INPUT")))
+    (option_word (codes "turns"))
+
 -- help, or version
 unfoldable pub about_command : About → App
 about_command Help = new_app (codes "help")
@@ -87,4 +99,5 @@ command_of Replay = replay_command
 command_of Print = print_command
 command_of Suggest = suggest_command
 command_of Gen = gen_command
+command_of Explain = explain_command
 command_of (verb.About what) = about_command what

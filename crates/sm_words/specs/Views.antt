@@ -1,10 +1,11 @@
 -- What requests stand for. Public clauses cite it.
-use Rattle.std.specs.Prelude.{◌<◌, ◌≤◌}
-use Rattle.sm_words.specs.Words.{Asked, check, verify, replay, print, suggest, gen, about}
+use Rattle.std.specs.Prelude.{◌<◌, ◌≤◌, ℕ, List, option_map}
+use Rattle.std.specs.Borrow.{Bor}
+use Rattle.sm_words.specs.Words.{Asked, check, verify, replay, print, suggest, gen, explain, about}
 use Rattle.sm_words.specs.declared.effort.Effort.{Effort}
 use Rattle.sm_words.specs.declared.words.Request.{Request}
 use Rattle.sm_words.specs.declared.words.Request.TheVariants.{Check, Verify, Replay, Print}
-use Rattle.sm_words.specs.declared.words.Request.TheVariants.{Suggest, Gen, About}
+use Rattle.sm_words.specs.declared.words.Request.TheVariants.{Suggest, Gen, Explain, About}
 
 -- what a request asks for
 abbrev pub asked_in : Request → Asked
@@ -14,6 +15,8 @@ asked_in (Replay task input turns) = replay task.now input.now turns
 asked_in (Print task copy) = print task.now copy
 asked_in (Suggest task effort) = suggest task.now effort
 asked_in (Gen seed size effort) = gen seed size effort
+asked_in (Explain task input turns) =
+    explain task.now (option_map (λ (i : Bor (List ℕ)). i.now) input) turns
 asked_in (About what) = about what
 
 -- one to 64 workers
@@ -28,4 +31,5 @@ IsWithin (Replay task input turns) = Unit {0}
 IsWithin (Print task copy) = Unit {0}
 IsWithin (Suggest task effort) = HasWorkers effort
 IsWithin (Gen seed size effort) = (1 ≤ size) × (size ≤ 190) × HasWorkers effort
+IsWithin (Explain task input turns) = Unit {0}
 IsWithin (About what) = Unit {0}

@@ -15,7 +15,7 @@ use Rattle.sm_words.specs.declared.about.About.TheVariants.{Help, Version}
 use Rattle.sm_words.specs.declared.command.Verb.{Verb}
 use Rattle.sm_words.specs.declared.effort.Effort.{Effort}
 use Rattle.sm_words.specs.declared.command.Verb.TheVariants.{Check, Verify, Replay, Print, Suggest}
-use Rattle.sm_words.specs.declared.command.Verb.TheVariants.{Gen}
+use Rattle.sm_words.specs.declared.command.Verb.TheVariants.{Gen, Explain}
 use Rattle.sm_words.specs.declared.command.Verb.TheVariants as verb
 use Rattle.sm_syntax.specs.declared.copies.CopyName.{CopyName}
 
@@ -32,8 +32,9 @@ verb_of word =
     (if bytes_eq word (codes "print") then Some Print else
     (if bytes_eq word (codes "suggest") then Some Suggest else
     (if bytes_eq word (codes "gen") then Some Gen else
+    (if bytes_eq word (codes "explain") then Some Explain else
     (if bytes_eq word (codes "help") then Some (verb.About Help) else
-    (if bytes_eq word (codes "version") then Some (verb.About Version) else None)))))))
+    (if bytes_eq word (codes "version") then Some (verb.About Version) else None))))))))
 
 -- what `clap` finds wrong with the words of a command: nothing where the command takes them
 unfoldable pub word_faults : Verb → Words → Kinds
@@ -62,6 +63,7 @@ HasBadOption Suggest words = effort_in Suggest words ≡ None
 HasBadOption Gen words =
     (seed_by (argument_text Gen (codes "SEED") words) ≡ None)
     ⊎ ((size_by (argument_text Gen (codes "SIZE") words) ≡ None) ⊎ (effort_in Gen words ≡ None))
+HasBadOption Explain words = turns_by (argument_text Explain (codes "turns") words) ≡ None
 HasBadOption (verb.About what) words = ⊥
 
 -- the words are none of the command's: `clap` refuses them, or an option is bad
@@ -88,6 +90,9 @@ pub data Asked : Type 0 where
   suggest : List ℕ → Effort → Asked
   -- the decision on the task that a seed and a size make
   gen : ℕ → ℕ → Effort → Asked
+  -- why a task's file is refused or what its programs are; where an input's file is named, what they
+  -- do from it, and where their ends differ
+  explain : List ℕ → Option (List ℕ) → ℕ → Asked
   -- what the program says of itself
   about : About → Asked
 
@@ -99,6 +104,7 @@ task_file (replay task input turns) = Some task
 task_file (print task copy) = Some task
 task_file (suggest task effort) = Some task
 task_file (gen seed size effort) = None
+task_file (explain task input turns) = Some task
 task_file (about what) = None
 
 -- what `check` asks for, by the texts of its arguments
@@ -141,6 +147,12 @@ gen_by seed size effort =
     option_and_then (λ (n : ℕ).
     option_map (λ (e : Effort). gen s n e) effort) (size_by size)) (seed_by seed)
 
+-- what `explain` asks for; without an input its turns change nothing
+abbrev pub explain_by : Option Text → Option Text → Option Text → Option Asked
+explain_by task input turns =
+    option_and_then (λ (t : Text).
+    option_map (λ (n : ℕ). explain t input n) (turns_by turns)) task
+
 -- what a command asks for by its words
 abbrev pub asked_by : Verb → Words → Option Asked
 asked_by Check words =
@@ -160,6 +172,9 @@ asked_by Suggest words =
 asked_by Gen words =
     gen_by (argument_text Gen (codes "SEED") words) (argument_text Gen (codes "SIZE") words)
     (effort_in Gen words)
+asked_by Explain words =
+    explain_by (argument_text Explain (codes "TASK") words)
+    (argument_text Explain (codes "INPUT") words) (argument_text Explain (codes "turns") words)
 asked_by (verb.About what) words = Some (about what)
 
 -- the value where there is no fault
@@ -179,6 +194,7 @@ HasRequired Print given = is_some (given (codes "TASK")) ≡ true
 HasRequired Suggest given = is_some (given (codes "TASK")) ≡ true
 HasRequired Gen given =
     (is_some (given (codes "SEED")) ≡ true) × (is_some (given (codes "SIZE")) ≡ true)
+HasRequired Explain given = is_some (given (codes "TASK")) ≡ true
 HasRequired (verb.About what) given = Unit {0}
 
 -- what the words ask for, where the command takes them
@@ -200,6 +216,7 @@ usage_line_of (Some Replay) = codes "Usage replay\n"
 usage_line_of (Some Print) = codes "Usage print\n"
 usage_line_of (Some Suggest) = codes "Usage suggest\n"
 usage_line_of (Some Gen) = codes "Usage gen\n"
+usage_line_of (Some Explain) = codes "Usage explain\n"
 usage_line_of (Some (verb.About Help)) = codes "Usage help\n"
 usage_line_of (Some (verb.About Version)) = codes "Usage version\n"
 

@@ -2,6 +2,7 @@
 ghost use Rattle.std.specs.Prelude.{◌≡◌, false, IfOk};
 ghost use Rattle.clap.specs.Words.{app_of, rule_of};
 ghost use Rattle.sm_words.specs.Command.{about_command, check_command, command_of, flag_word};
+ghost use Rattle.sm_words.specs.Command.{explain_command, optional_word};
 ghost use Rattle.sm_words.specs.Command.{gen_command, option_word, print_command, replay_command};
 ghost use Rattle.sm_words.specs.Command.{required_word, search_command, suggest_command};
 ghost use Rattle.sm_words.specs.Command.{verify_command, with_effort};
@@ -19,6 +20,7 @@ pub enum Verb {
     Print,
     Suggest,
     Gen,
+    Explain,
     About(About),
 }
 
@@ -33,6 +35,7 @@ pub fn command_of<'a>(alloc: Global, verb: Verb) -> Result<Command<'a>, AllocErr
         Verb::Print => print_command(alloc),
         Verb::Suggest => suggest_command(alloc),
         Verb::Gen => gen_command(alloc),
+        Verb::Explain => explain_command(alloc),
         Verb::About(about) => Ok(about_command(alloc, about)),
     }
 }
@@ -43,6 +46,14 @@ fn required_word<'a>(alloc: Global, id: &'a str) -> Arg<'a>
     ensures local { result.global ≡ false }
 {
     Arg::new(alloc, id).required(true).action(ArgAction::Set)
+}
+
+// A word that may be there.
+fn optional_word<'a>(alloc: Global, id: &'a str) -> Arg<'a>
+    ensures rule { rule_of result ≡ optional_word id.entry.now }
+    ensures local { result.global ≡ false }
+{
+    Arg::new(alloc, id).action(ArgAction::Set)
 }
 
 // An option with a value.
@@ -138,6 +149,16 @@ fn suggest_command<'a>(alloc: Global) -> Result<Command<'a>, AllocError>
 {
     let command = Command::new(alloc, "suggest").arg(required_word(alloc, "TASK"))?;
     with_effort(alloc, command)
+}
+
+#[tactic(auto, unfolding(crate::specs::Command::explain_command))]
+fn explain_command<'a>(alloc: Global) -> Result<Command<'a>, AllocError>
+    ensures { IfOk result (λ c. app_of c ≡ explain_command) }
+{
+    Command::new(alloc, "explain")
+        .arg(required_word(alloc, "TASK"))?
+        .arg(optional_word(alloc, "INPUT"))?
+        .arg(option_word(alloc, "turns"))
 }
 
 // A command that takes no words.

@@ -16,6 +16,8 @@ mod command;
 mod effort;
 mod lines;
 mod numbers;
+mod options;
+mod requests;
 mod words;
 
 pub use about::{About, about_text};

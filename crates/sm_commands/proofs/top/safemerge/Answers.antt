@@ -6,7 +6,7 @@ use Rattle.sm_commands.specs.Top.{AnswersRequest, Checks}
 use Rattle.sm_words.specs.Words.{Asked, asked}
 use Rattle.sm_commands.proofs.Answering.{accepts, sound}
 use Rattle.sm_commands.proofs.FilesLemmas.{kept_whole, leaves_cut, leaves_front, left_by}
-use Rattle.sm_commands.proofs.ConflictSound.{conflicts, shows, replays_shown}
+use Rattle.sm_commands.proofs.ConflictSound.{conflicts, explains_shown, shows, replays_shown}
 use Rattle.sm_commands.proofs.ReadingsLemmas.{accepts_read, conflicts_read, proves_read, shows_read, suggests_read}
 use Rattle.sm_commands.proofs.SuggestedSafe.{suggests_safe}
 use Rattle.sm_commands.proofs.Verified.{verifies_exactly}
@@ -75,6 +75,11 @@ returns-in-Ok-clause-shown g c = λ e task turns workers asks. (
 pub returns-in-Ok-clause-replayed : goal.returns-in-Ok-clause-replayed
 returns-in-Ok-clause-replayed g c =
     replays_shown (map string_bytes c.args.words.now) (g.H.Shelf.file c.args.shelf.now) (g.H.Shelf.read_faults c.args.shelf.now)
+    (g.H.Shelf.read_faults c.reply_to.new.shelf) c.in-Some.reply.status c.in-Some.reply.text.items c.in-Some.ensures.answers
+
+pub returns-in-Ok-clause-explained : goal.returns-in-Ok-clause-explained
+returns-in-Ok-clause-explained g c =
+    explains_shown (map string_bytes c.args.words.now) (g.H.Shelf.file c.args.shelf.now) (g.H.Shelf.read_faults c.args.shelf.now)
     (g.H.Shelf.read_faults c.reply_to.new.shelf) c.in-Some.reply.status c.in-Some.reply.text.items c.in-Some.ensures.answers
 
 pub returns-in-Ok-clause-front : goal.returns-in-Ok-clause-front

@@ -1,7 +1,7 @@
 use Rattle.std.proofs.Common.{map}
 use Rattle.std.specs.String.{string_bytes}
 use Rattle.clap.specs.Matches.{first_value, found_of}
-use Rattle.sm_words.proofs.Asking.{asks_check, asks_gen, asks_verify, asks_replay, asks_print, asks_suggest}
+use Rattle.sm_words.proofs.Asking.{asks_check, asks_gen, asks_verify, asks_replay, asks_print, asks_suggest, asks_explain}
 use Rattle.sm_words.proofs.words.request_by.Goals as goal
 
 pub returns-in-Check-clause-ok : goal.returns-in-Check-clause-ok
@@ -75,3 +75,15 @@ returns-in-Gen-clause-usage c =
     (asks_gen c.args.verb (map string_bytes c.args.words.now)
     (first_value (found_of c.in_ok-matches.matches)) c.gen_request.result c.in-Gen.is c.in_ok-matches.ensures.taken
     c.in_ok-matches.ensures.texts c.gen_request.ensures.ok c.gen_request.ensures.usage).usage
+
+pub returns-in-Explain-clause-ok : goal.returns-in-Explain-clause-ok
+returns-in-Explain-clause-ok c =
+    (asks_explain c.args.verb (map string_bytes c.args.words.now)
+    (first_value (found_of c.in_ok-matches.matches)) c.explain_request.result c.in-Explain.is c.in_ok-matches.ensures.taken
+    c.in_ok-matches.ensures.texts c.explain_request.ensures.ok c.explain_request.ensures.usage).ok
+
+pub returns-in-Explain-clause-usage : goal.returns-in-Explain-clause-usage
+returns-in-Explain-clause-usage c =
+    (asks_explain c.args.verb (map string_bytes c.args.words.now)
+    (first_value (found_of c.in_ok-matches.matches)) c.explain_request.result c.in-Explain.is c.in_ok-matches.ensures.taken
+    c.in_ok-matches.ensures.texts c.explain_request.ensures.ok c.explain_request.ensures.usage).usage

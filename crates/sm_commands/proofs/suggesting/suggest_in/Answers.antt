@@ -1,6 +1,6 @@
 use Rattle.std.proofs.Common.{rules}
 use Rattle.sm_commands.proofs.ReadingsLemmas.{none_proposed}
-use Rattle.sm_commands.proofs.top.suggest_in.Goals as goal
+use Rattle.sm_commands.proofs.suggesting.suggest_in.Goals as goal
 
 pub returns-in_err-task-clause-exit_read : goal.returns-in_err-task-clause-exit_read
 returns-in_err-task-clause-exit_read g c =

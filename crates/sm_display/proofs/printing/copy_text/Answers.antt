@@ -5,8 +5,8 @@ use Rattle.sm_syntax.specs.trees.Copies.{copy_named}
 use Rattle.sm_syntax.specs.trees.Views.{code_of}
 use Rattle.sm_task.specs.Tasks.{parts_of}
 use Rattle.sm_text.specs.Tasks.{program_parts}
-use Rattle.sm_commands.proofs.PrintedLemmas.{by_number, filled_named, named_alike, printed_alike}
-use Rattle.sm_commands.proofs.printing.copy_text.Goals as goal
+use Rattle.sm_display.proofs.PrintedLemmas.{by_number, filled_named, named_alike, printed_alike}
+use Rattle.sm_display.proofs.printing.copy_text.Goals as goal
 
 pub print_program-requires : goal.print_program-requires
 print_program-requires c =

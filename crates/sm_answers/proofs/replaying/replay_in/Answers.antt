@@ -1,8 +1,7 @@
 use Rattle.std.proofs.Common.{rules}
 use Rattle.sm_task.specs.Tasks.{parts_of}
-use Rattle.sm_commands.proofs.Answering.{replayed_by}
-use Rattle.sm_commands.proofs.ReadingsLemmas.{none_replayed, replayed_read}
-use Rattle.sm_commands.proofs.top.replay_in.Goals as goal
+use Rattle.sm_answers.proofs.Replayed.{none_replayed, replayed_by, replayed_read}
+use Rattle.sm_answers.proofs.replaying.replay_in.Goals as goal
 
 pub returns-clause-ok : goal.returns-clause-ok
 returns-clause-ok g c =

@@ -2,7 +2,7 @@ use Rattle.std.proofs.Common.{inr, rules}
 use Rattle.sm_task.specs.Tasks.{parts_of}
 use Rattle.sm_commands.proofs.FilesLemmas.{cut_in, left_in, task_told}
 use Rattle.sm_commands.proofs.ReadingsLemmas.{none_checked, read_still}
-use Rattle.sm_commands.proofs.top.check_in.Goals as goal
+use Rattle.sm_commands.proofs.checking.check_in.Goals as goal
 
 pub returns-clause-left : goal.returns-clause-left
 returns-clause-left g c =

@@ -1,0 +1,126 @@
+// What `check` answers to a task's file, and what it leaves in the proof's.
+ghost use Rattle.std.specs.Prelude.{◌≡◌, ◌≢◌, ◌⊎◌, ℕ, List, codes, IfOk, IfErr, OnErr};
+ghost use Rattle.sm_io.specs.Causes.{HasCause};
+ghost use Rattle.sm_io.specs.Files.{emptied, longer};
+ghost use Rattle.sm_task.specs.Tasks.{parts_of};
+ghost use Rattle.sm_text.specs.printing.Named.{HasText};
+ghost use Rattle.sm_answers.specs.Exit.{ExitsWith};
+ghost use Rattle.sm_answers.specs.ProofFile.{IsBegun};
+ghost use Rattle.sm_answers.specs.Status.{Says};
+ghost use Rattle.sm_commands.specs.Deeper.{AnswersTask};
+ghost use Rattle.sm_commands.specs.ProofFile.{LeavesFront, LeavesProof, LeftBy, LeftCut};
+ghost use Rattle.sm_commands.specs.Readings.{ChecksRead};
+ghost use Rattle.sm_commands.specs.Top.{Checks};
+ghost use Rattle.sm_commands.specs.Views.{CountsWrites, EndsWith};
+ghost use Rattle.sm_words.specs.Views.{HasWorkers};
+
+use crate::check::Decided;
+use crate::deeper::check_deeper;
+use sm_answers::{Exit, Reply, Status, task_in, write_file};
+use sm_io::{IoError, Shelf};
+use sm_par::Gate;
+use sm_task::Task;
+use sm_words::{Effort, line};
+use std::alloc::{AllocError, Global};
+use std::thread::Threads;
+
+/// The answer of `check` to a task's file and a proof's, which is written where the task is accepted.
+pub fn check_in<R: Threads + Sync, G: Gate, H: Shelf>(
+    rt: &R,
+    alloc: Global,
+    gate: &G,
+    shelf: &mut H,
+    name: &str,
+    proof: &str,
+    effort: Effort,
+) -> Result<Reply, Exit>
+    requires workers { HasWorkers effort }
+    requires other { name.now ≢ proof.now }
+    ensures ok { IfOk result (λ r. Checks (H.file shelf.old name.now) effort
+        (H.read_faults shelf.old) (H.read_faults shelf.new) r.status r.text.items) }
+    ensures exit { IfErr result (ExitsWith (Checks (H.file shelf.old name.now) effort
+        (H.read_faults shelf.old) (H.read_faults shelf.new))) }
+    ensures read { IfOk result (λ r. ChecksRead name.now effort
+        (H.given shelf.old) (H.given shelf.new) r.status r.text.items) }
+    ensures exit_read { IfErr result (ExitsWith (ChecksRead name.now effort
+        (H.given shelf.old) (H.given shelf.new))) }
+    ensures left { EndsWith
+        (λ status. LeavesProof (H.file shelf.old name.now) status (H.file shelf.old proof.now)
+        (H.file shelf.new proof.now))
+        (LeavesFront (H.file shelf.old name.now) (H.file shelf.old proof.now)
+        (H.file shelf.new proof.now)) result }
+    ensures others { (other : List ℕ) → other ≢ proof.now →
+        H.file shelf.new other ≡ H.file shelf.old other }
+    ensures writes { CountsWrites (H.write_faults shelf.old) (H.write_faults shelf.new) result }
+{
+    let task = task_in(alloc, shelf, name)?;
+    Ok(check_task(rt, alloc, gate, shelf, &task, proof, effort)?)
+}
+
+// The answer of `check` to a task, and its proof in a file where it is accepted.
+fn check_task<R: Threads + Sync, G: Gate, H: Shelf>(
+    rt: &R,
+    alloc: Global,
+    gate: &G,
+    shelf: &mut H,
+    task: &Task,
+    proof: &str,
+    effort: Effort,
+) -> Result<Reply, AllocError>
+    requires spelled { HasText (parts_of task.now) }
+    requires workers { HasWorkers effort }
+    ensures answers { IfOk result (λ r.
+        AnswersTask (parts_of task.now) effort r.status r.text.items) }
+    ensures left { IfOk result (λ r. LeftBy (parts_of task.now) r.status
+        (H.file shelf.old proof.now) (H.file shelf.new proof.now)) }
+    ensures front { OnErr result (LeftCut (parts_of task.now)
+        (H.file shelf.old proof.now) (H.file shelf.new proof.now)) }
+    ensures others { (other : List ℕ) → other ≢ proof.now →
+        H.file shelf.new other ≡ H.file shelf.old other }
+    ensures writes { IfOk result (λ r. HasCause (H.write_faults shelf.old)
+        (H.write_faults shelf.new) (r.status ≡ Status.WriteFault)) }
+    ensures quiet { OnErr result (H.write_faults shelf.new ≡ H.write_faults shelf.old) }
+    ensures reads { H.read_faults shelf.new ≡ H.read_faults shelf.old }
+    ensures keeps { H.given shelf.new ≡ H.given shelf.old }
+{
+    let Decided { reply, proof: text } = check_deeper(rt, alloc, gate, task, effort)?;
+    match text {
+        Some(text) => write_proof(alloc, shelf, reply, proof, &text),
+        None => Ok(reply),
+    }
+}
+
+// The answer to a task that is accepted, once its proof was to be written.
+fn write_proof<H: Shelf>(
+    alloc: Global,
+    shelf: &mut H,
+    reply: Reply,
+    name: &str,
+    text: &[u8],
+) -> Result<Reply, AllocError>
+    ensures answers { IfOk result (λ r.
+        (Says reply.status reply.text.items r.status r.text.items
+        × (H.file shelf.new name.now ≡ longer (emptied (H.file shelf.old name.now)) text.now))
+        ⊎ (Says Status.WriteFault (codes "WriteFault\n") r.status r.text.items
+        × IsBegun text.now (H.file shelf.old name.now) (H.file shelf.new name.now))) }
+    ensures begun { OnErr result
+        (IsBegun text.now (H.file shelf.old name.now) (H.file shelf.new name.now)) }
+    ensures others { (other : List ℕ) → other ≢ name.now →
+        H.file shelf.new other ≡ H.file shelf.old other }
+    ensures writes { reply.status ≢ Status.WriteFault → IfOk result (λ r.
+        HasCause (H.write_faults shelf.old) (H.write_faults shelf.new)
+        (r.status ≡ Status.WriteFault)) }
+    ensures quiet { OnErr result (H.write_faults shelf.new ≡ H.write_faults shelf.old) }
+    ensures reads { H.read_faults shelf.new ≡ H.read_faults shelf.old }
+    ensures keeps { H.given shelf.new ≡ H.given shelf.old }
+{
+    let failed = line(alloc, "WriteFault", &[])?;
+    match write_file(shelf, name, text) {
+        Ok(()) => Ok(reply),
+        Err(IoError::Fault) => Ok(Reply {
+            status: Status::WriteFault,
+            text: failed,
+        }),
+        Err(IoError::Memory) => Err(AllocError),
+    }
+}
