@@ -143,6 +143,8 @@ row 'check, 3 workers' check "$place/task" "$place/found" --workers 3
 row 'check --deeper' check "$place/open" "$place/found" --deeper
 row suggest suggest "$place/task" --steps 1000
 row 'print --copy' print "$place/task" --copy candidate
+row explain explain "$place/task"
+row 'explain, an input' explain "$place/task" "$place/input"
 row help help
 row version version
 exit $failed

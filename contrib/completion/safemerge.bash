@@ -3,7 +3,7 @@
 _safemerge() {
   local word=${COMP_WORDS[COMP_CWORD]} before=${COMP_WORDS[COMP_CWORD - 1]}
   local command=${COMP_WORDS[1]} options=
-  local commands="check verify replay print suggest gen help version"
+  local commands="check verify replay print suggest gen explain help version"
   COMPREPLY=()
   if [ "$COMP_CWORD" -eq 1 ]; then
     mapfile -t COMPREPLY < <(compgen -W "$commands" -- "$word")
@@ -15,6 +15,7 @@ _safemerge() {
     replay) options="--turns --workers" ;;
     verify) options="--workers" ;;
     print) options="--copy" ;;
+    explain) options="--turns" ;;
   esac
   case $before in
     --steps | --turns | --workers) return ;;
@@ -25,7 +26,7 @@ _safemerge() {
   esac
   case $command,$word in
     *,-*) mapfile -t COMPREPLY < <(compgen -W "$options" -- "$word") ;;
-    check,* | verify,* | replay,* | print,* | suggest,*)
+    check,* | verify,* | replay,* | print,* | suggest,* | explain,*)
       compopt -o filenames 2>/dev/null
       mapfile -t COMPREPLY < <(compgen -f -- "$word")
       ;;

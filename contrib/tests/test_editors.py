@@ -29,7 +29,8 @@ class Completion(Folder):
         self.write("one.task", "")
         cases = [
             (("safemerge", ""),
-             ["check", "verify", "replay", "print", "suggest", "gen", "help", "version"]),
+             ["check", "verify", "replay", "print", "suggest", "gen", "explain", "help",
+              "version"]),
             (("safemerge", "ch"), ["check"]),
             (("safemerge", "ver"), ["verify", "version"]),
             (("safemerge", "check", "--"),
@@ -39,6 +40,8 @@ class Completion(Folder):
             (("safemerge", "replay", "--"), ["--turns", "--workers"]),
             (("safemerge", "verify", "--"), ["--workers"]),
             (("safemerge", "print", "--"), ["--copy"]),
+            (("safemerge", "explain", "--"), ["--turns"]),
+            (("safemerge", "explain", "o"), ["one.task"]),
             (("safemerge", "print", "one.task", "--copy", ""), ["base", "a", "b", "candidate"]),
             (("safemerge", "print", "--copy", "b"), ["base", "b"]),
             (("safemerge", "print", "--copy", "b", "o"), ["one.task"]),
