@@ -29,6 +29,11 @@ cat "${0%%/*}/answer"
 exit %d
 """
 
+UNDECIDED = """#!/bin/sh
+[ "$1" = check ] && echo 'Unknown Open 9 0' && exit 2
+exec '%s' "$@"
+"""
+
 needs_program = unittest.skipUnless(SAFEMERGE, LACKING)
 
 
@@ -91,6 +96,14 @@ class Folder(unittest.TestCase):
         name = self.write("stand-in/safemerge", STAND_IN % (
             sys.executable, printer, lies, replayed, proof, status))
         self.write("stand-in/answer", answer)
+        os.chmod(name, 0o755)
+        path = os.pathsep.join((os.path.dirname(name), CONTRIB, os.environ["PATH"]))
+        return {"PATH": path, "SAFEMERGE": name}
+
+    def undecided(self) -> Dict[str, str]:
+        """What puts a program in the place of `safemerge` that decides nothing by `check`, and
+        answers all else as `safemerge` does."""
+        name = self.write("undecided/safemerge", UNDECIDED % SAFEMERGE)
         os.chmod(name, 0o755)
         path = os.pathsep.join((os.path.dirname(name), CONTRIB, os.environ["PATH"]))
         return {"PATH": path, "SAFEMERGE": name}

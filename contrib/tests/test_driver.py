@@ -43,9 +43,15 @@ class Driver(Driven):
             "large: the change of theirs is lost: base has 0, theirs 100, and merge 200\n", printed)
         self.refused(printed)
 
-    def test_a_conflict_that_no_trial_shows_is_found_by_drawn_inputs(self) -> None:
-        self.git("config", "safemerge.unknown", "0")
+    def test_a_conflict_that_no_trial_shows_is_found_beyond_them(self) -> None:
         status, printed = self.merged(merges.DRAWN)
+        self.assertEqual(status, 1)
+        self.assertRegex(printed, r"p\.prog: Conflict trial \d+ cell large clause 2\nstart: size = ")
+        self.refused(printed)
+
+    def test_a_conflict_that_check_does_not_show_is_found_by_drawn_inputs(self) -> None:
+        self.git("config", "safemerge.unknown", "0")
+        status, printed = self.merged(merges.DRAWN, **self.undecided())
         self.assertEqual(status, 1)
         self.assertRegex(printed, r"p\.prog: Conflict cell large clause \d\nstart: size = 200, ")
         self.refused(printed)
