@@ -29,8 +29,8 @@ class Completion(Folder):
         self.write("one.task", "")
         cases = [
             (("safemerge", ""),
-             ["check", "verify", "replay", "print", "suggest", "gen", "explain", "help",
-              "version"]),
+             ["check", "verify", "replay", "print", "suggest", "gen", "explain", "batch",
+              "help", "version"]),
             (("safemerge", "ch"), ["check"]),
             (("safemerge", "ver"), ["verify", "version"]),
             (("safemerge", "check", "--"),
@@ -41,6 +41,8 @@ class Completion(Folder):
             (("safemerge", "verify", "--"), ["--workers"]),
             (("safemerge", "print", "--"), ["--copy"]),
             (("safemerge", "explain", "--"), ["--turns"]),
+            (("safemerge", "batch", "--"),
+             ["--cache", "--steps", "--turns", "--workers", "--exact"]),
             (("safemerge", "explain", "o"), ["one.task"]),
             (("safemerge", "print", "one.task", "--copy", ""), ["base", "a", "b", "candidate"]),
             (("safemerge", "print", "--copy", "b"), ["base", "b"]),

@@ -1,4 +1,5 @@
 // Commands.
+use crate::checking::proof_answer;
 use crate::files::file_answer;
 use crate::plans::sites_answer;
 use crate::texts::{
@@ -24,6 +25,7 @@ pub fn answer<R: Files + AllocGlobal>(
         "fill" => fill_answer(alloc, text),
         "sites" => sites_answer(alloc, text),
         "line" => line_answer(alloc, text),
+        "proof" => proof_answer(alloc, text),
         _ => file_answer(rt, shelf, word, text),
     }
 }

@@ -11,7 +11,8 @@
 //!   names of a text.
 //! - `fill 1 TEXT` prints the statements of a copy of a task. `sites TEXT` prints how many sites a
 //!   task has, and how many templates the first has.
-//! - `line TEXT` reads the first line of a proof, where a slash stands for each line feed.
+//! - `line TEXT` reads the first line of a proof, where a slash stands for each line feed. `proof
+//!   LINES|TASK` prints the verdict on the lines of a proof for a task.
 //! - `start`, `append`, `read` and `whole` are calls on real files: `read NAME 7 4` prints how many
 //!   of 4 bytes at place 7 were read, and what a piece holds then that held dashes before. `write`,
 //!   `rename` and `remove` are those of the system. `pipe 8 TEXT` reads a pipe in pieces of 8.
@@ -19,6 +20,7 @@
 //!   while there was another thread.
 #![tactic(auto)]
 
+mod checking;
 mod command;
 mod files;
 mod jobs;

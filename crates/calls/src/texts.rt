@@ -6,7 +6,7 @@ ghost use Rattle.sm_text.specs.parsing.Fragments.{IsNamedProgram};
 ghost use Rattle.sm_text.specs.parsing.Prefix.{AreTokensOf};
 ghost use Rattle.sm_text.specs.printing.Named.{IsTestedIn, IsUsedIn};
 
-use crate::word::{bytes_of, copy_of, natural, two};
+use crate::word::{bytes_of, copy_of, natural, two, with_line_feeds};
 use anyhow::Result;
 use sm_proof::read_line;
 use sm_syntax::{Block, Cond, Name, NameTable, Program, depth, nodes, well_formed};
@@ -122,10 +122,7 @@ fn filled(alloc: Global, task: &Task, copy: u8) -> Result<String>
 
 /// The first line of a proof, and its size.
 pub fn line_answer(alloc: Global, text: &str) -> Result<String> {
-    let mut bytes = Vec::new(alloc);
-    for byte in text.as_bytes() {
-        bytes.push(if *byte == b'/' { b'\n' } else { *byte })?;
-    }
+    let bytes = with_line_feeds(alloc, text)?;
     let (line, size) = read_line(alloc, &bytes)?;
     Ok(format!(in alloc; "{line:?} {size}")?)
 }

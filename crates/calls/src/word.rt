@@ -2,6 +2,7 @@
 ghost use Rattle.std.specs.Prelude.{◌<◌, ◌^◌, IfOk, length};
 
 use anyhow::{Context, Result, bail};
+use std::alloc::Global;
 
 /// The first word of a text, and what stands behind the space after it.
 pub fn two(text: &str) -> Result<(&str, &str)> {
@@ -33,6 +34,15 @@ pub fn bytes_of(text: &str) -> Result<&[u8]>
     let bytes = text.as_bytes();
     if bytes.len() >= 1 << 32 {
         bail!("bad");
+    }
+    Ok(bytes)
+}
+
+/// The bytes of a text, with a line feed for each slash.
+pub fn with_line_feeds(alloc: Global, text: &str) -> Result<Vec<u8>> {
+    let mut bytes = Vec::new(alloc);
+    for byte in text.as_bytes() {
+        bytes.push(if *byte == b'/' { b'\n' } else { *byte })?;
     }
     Ok(bytes)
 }

@@ -24,6 +24,7 @@ impl Meeting {
             Some("trials") => Some(Phase::Trial),
             Some("obligations") => Some(Phase::Obligation),
             Some("certificates") => Some(Phase::Certificate),
+            Some("answers") => Some(Phase::Answer),
             Some(_) => bail!("no phase"),
         };
         Ok(Meeting {

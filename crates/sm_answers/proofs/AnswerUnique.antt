@@ -49,7 +49,7 @@ read_within (holds h) kind b n c m xs s t told r q =
     omega (arith, over, r.within)
 
 -- without a fault, only a file that isn't there can't be read
-not_there : (file : Known) (b n : ℕ) (s : Status) (t : List ℕ) → (¬ Rose b n) → FailsToRead file b n s t → file ≡ absent
+pub not_there : (file : Known) (b n : ℕ) (s : Status) (t : List ℕ) → (¬ Rose b n) → FailsToRead file b n s t → file ≡ absent
 not_there file b n s t no_fault f = go f.cause
   where
     go : Rose b n ⊎ (file ≡ absent) → file ≡ absent

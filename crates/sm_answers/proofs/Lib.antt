@@ -4,4 +4,6 @@ pub mod Verified
 pub mod AnswerUnique
 pub mod ReadsUnique
 pub mod ReadingsLemmas
+pub mod ListsLemmas
+pub mod ListUnique
 pub mod Replayed

@@ -39,7 +39,7 @@ of_unknown = record { of_command = record { not_usage = λ e. cc; not_memory = �
 pub of_refused : WritesNothing Refused
 of_refused = record { of_command = record { not_usage = λ e. cc; not_memory = λ e. cc; not_sink = λ e. cc }; not_write = λ e. cc }
 
-of_fault : WritesNothing ReadFault
+pub of_fault : WritesNothing ReadFault
 of_fault = record { of_command = record { not_usage = λ e. cc; not_memory = λ e. cc; not_sink = λ e. cc }; not_write = λ e. cc }
 
 -- nor with what is equal to one

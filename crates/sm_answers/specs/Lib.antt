@@ -1,6 +1,8 @@
 pub mod Verify
 pub mod Replay
 pub mod File
+pub mod Lists
+pub mod Listed
 pub mod Readings
 pub mod ProofFile
 pub mod Lines

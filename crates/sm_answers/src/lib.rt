@@ -5,6 +5,7 @@
 //!   the bytes alone, each in one pass. Where there is none they stop with the answer: `ReadFault`,
 //!   `TooLong`, or what is refused first. What is read holds of told files, and on every shelf of the
 //!   bytes that were read.
+//! - `list_in` reads the names in a list of files, and stops with the number of its first bad line.
 //! - `verify_in` answers `Accepted` exactly where the bytes of a proof's file pass for the task,
 //!   which is then free of conflicts, and else the number of the first bad line and the word for
 //!   what is wrong with it.
@@ -15,13 +16,14 @@
 //! - `Status::number` is the number with which the program ends.
 //!
 //! Read `specs/Verify.antt` first, then `specs/File.antt`, `specs/Replay.antt`,
-//! `specs/Readings.antt` and `specs/ProofFile.antt`; `specs/Lines.antt` has the lines, and
-//! `specs/Exit.antt` what a command says that ends early.
+//! `specs/Lists.antt`, `specs/Readings.antt` and `specs/ProofFile.antt`; `specs/Lines.antt` has the
+//! lines, and `specs/Exit.antt` what a command says that ends early.
 #![tactic(auto)]
 
 mod exit;
 mod file;
 mod lines;
+mod listing;
 mod proof_file;
 mod refusals;
 mod replaying;
@@ -34,6 +36,7 @@ pub use lines::{
     coefficient_line, goal_line, many_holes_line, none_line, put_input_line, suggestion_line,
     summary_line, too_many_line, trial_line,
 };
+pub use listing::{list_in, put_numbered};
 pub use proof_file::write_file;
 pub use refusals::refusal_line;
 pub use replaying::{replay, replay_in};

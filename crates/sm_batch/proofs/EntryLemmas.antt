@@ -1,6 +1,6 @@
 -- What is kept stays the accepting reply to the task of its key.
-use Rattle.std.proofs.Common.{◌≡◌, ℕ, ◌-◌, ◌<◌, arith, Bool, true, false, ◌⊎◌, Option, Some, None, List, [], ◌∷◌, map, Contains, take, refl, sym, ap, subst, ◌∙◌, inl, inr}
-use Rattle.std.specs.Map.{lookup, lookup_entry, remove_entry}
+use Rattle.std.proofs.Common.{◌≡◌, ℕ, ◌<◌, arith, Bool, true, ◌⊎◌, Some, List, [], Contains, sym, subst, ◌∙◌, inl, inr}
+use Rattle.std.specs.Map.{lookup, remove_entry}
 use Rattle.std.specs.Str.{bytes_eq}
 use Rattle.std.proofs.lemmas.Slice.Eq.{bytes_eq-Decides}
 use Rattle.lru.specs.LruCache.{lru_cache, promoted, put_entries}
@@ -9,9 +9,7 @@ use Rattle.sm_syntax.specs.text.Parts.{Parts}
 use Rattle.sm_syntax.specs.text.Spells.{Spells}
 use Rattle.sm_text.proofs.Complete.Tasks.{one_parse}
 use Rattle.sm_text.proofs.RoundTrip.Tasks.{reads_back}
-use Rattle.sm_text.specs.printing.Canonical.{task_pieces}
 use Rattle.sm_text.specs.printing.Named.{HasText}
-use Rattle.sm_text.specs.printing.Pieces.{pieces_text}
 use Rattle.sm_batch.specs.Entries.{Entry, Entries, IsAccepted, AreAccepted}
 use Rattle.sm_batch.specs.Keys.{key_of, is_key_of}
 

@@ -1,5 +1,5 @@
 -- What a look-up finds in a cache.
-use Rattle.std.proofs.Common.{◌≡◌, ℕ, Bool, true, false, Option, Some, None, List, refl, sym, ap, ◌∙◌, Vec, Global}
+use Rattle.std.proofs.Common.{◌≡◌, ℕ, Bool, true, false, Option, Some, None, IsSome, List, refl, sym, ap, ◌∙◌, Vec, Global}
 use Rattle.std.specs.Option.{option_map, option_map_or}
 use Rattle.std.specs.Map.{lookup}
 use Rattle.std.specs.Str.{bytes_eq}
@@ -32,3 +32,22 @@ module _ (cached : List (Vec ℕ Global × Kept)) (t : Parts) (key : List ℕ) (
           ≡ option_map_or (λ (k : Kept). takes t k.cert.items) p false
       by None = refl
       by (Some k) = refl
+
+-- where a key isn't found, entries have nothing under it
+pub none_found : (cached : List (Vec ℕ Global × Kept)) (key : List ℕ) → (IsSome (lookup (λ (v : Vec ℕ Global). bytes_eq key v.items) cached) → ⊥)
+    → lookup (bytes_eq key) (entries_of cached) ≡ None
+none_found cached key none =
+    lookup-images (λ (v : Vec ℕ Global). v.items) entry_of (bytes_eq key) cached ∙ by (lookup (λ (v : Vec ℕ Global). bytes_eq key v.items) cached) none
+  where
+    by : (o : Option Kept) → (IsSome o → ⊥) → option_map entry_of o ≡ None
+    by None never = refl
+    by (Some k) never = absurd (never refl)
+
+-- what is none isn't some
+pub none_not_some : {T P : Type 0} (o : Option T) → o ≡ None → IsSome o → P
+none_not_some None none some = absurd (cc)
+none_not_some (Some x) none some = absurd (cc)
+
+-- what failed isn't well
+pub not_well : {P : Type 0} → false ≡ true → P
+not_well never = absurd (cc)

@@ -1,20 +1,20 @@
 -- What the steps of a group do to what is kept is what the tasks ask.
-use Rattle.std.proofs.Common.{◌≡◌, ℕ, ◌+◌, zero, suc, Bool, true, false, not, if◌then◌else◌, ◌⊎◌, Option, Some, None, IfSome, List, [], ◌∷◌, map, All, refl, sym, ap, subst, ◌∙◌, inl, inr, cond, ◌<◌, ◌≤◌, length, get_or, drop, drop_of_length-le}
-use Rattle.std.specs.List.{AllZip, count_by, filter}
-use Rattle.std.specs.Map.{remove_entry}
+use Rattle.std.proofs.Common.{◌≡◌, ℕ, ◌+◌, Bool, true, false, not, if◌then◌else◌, Option, Some, None, IfSome, IsSome, List, [], ◌∷◌, map, All, refl, sym, ap, subst, ◌∙◌, inl, inr, cond, ◌<◌, ◌≤◌, length, get_or, drop, drop_of_length-le}
+use Rattle.std.specs.List.{AllZip, count_by}
+use Rattle.std.specs.Map.{lookup, remove_entry}
 use Rattle.std.specs.Str.{bytes_eq}
 use Rattle.std.proofs.lemmas.List.Elements.{All-head, All-tail}
 use Rattle.std.proofs.lemmas.List.{drop_more}
 use Rattle.std.proofs.lemmas.List.Sums.{sum_by-cons}
-use Rattle.lru.specs.LruCache.{lru_cache, promoted, put_entries}
+use Rattle.lru.specs.LruCache.{promoted}
 use Rattle.sm_syntax.specs.text.Parts.{Parts}
 use Rattle.sm_text.specs.declared.task.Task.{Task}
 use Rattle.sm_text.specs.printing.Named.{HasText}
 use Rattle.sm_text.specs.Tasks.{parts_of}
 use Rattle.sm_batch.specs.declared.batch.Kept.{Kept}
 use Rattle.sm_batch.specs.declared.telling.Step.{Step}
-use Rattle.sm_batch.specs.Entries.{Entry, Entries, IsAccepted, AreAccepted}
-use Rattle.sm_batch.specs.Groups.{is_hit, wanted, looked_up, IsKept, ArePut, Settles}
+use Rattle.sm_batch.specs.Entries.{Entries, IsAccepted, AreAccepted}
+use Rattle.sm_batch.specs.Groups.{is_hit, wanted, looked_up, IsKept, IsLeftOut, ArePut, Settles}
 use Rattle.sm_batch.specs.Keys.{key_of, is_key_of}
 use Rattle.sm_batch.specs.Steps.{IsStep, after_look, after_looks, with_kept, IsPutOrNot, ArePutOrNot, AreSafe}
 use Rattle.sm_batch.specs.Views.{entry_of}
@@ -61,6 +61,14 @@ module _ (Replies : Parts → List ℕ → Type 0) (Accepts : Parts → Type 0) 
   abbrev Puts : ℕ → List Parts → Entries → Entries → Type 0
   Puts capacity ts after before = ArePut (IsKept Replies Accepts takes) capacity ts before after
 
+  -- what is left out of steps is left out of their tasks
+  left_out : (t : Task) (s : Step) (before : Entries) → Does t s → s.hit ≡ false
+      → (IsSome s.fresh → lookup (bytes_eq s.key.items) before ≡ None)
+      → IsLeftOut (IsKept Replies Accepts takes) (parts_of t) before
+  unfolding is_key_of
+  left_out t s before does hit left entry kept =
+      ap (λ k. lookup (bytes_eq k) before) (sym does.key) ∙ left (does.some hit kept.accepted.0)
+
   -- a hit puts nothing
   pub puts_are : (capacity : ℕ) (ts : List Task) (ss : List Step) (before after : Entries) → AllZip Does ts ss
       → ArePutOrNot capacity ss before after
@@ -81,12 +89,13 @@ module _ (Replies : Parts → List ℕ → Type 0) (Accepts : Parts → Type 0) 
           → Puts capacity (wanted takes start (map parts_of ts)) after between
           → Puts capacity (cond (not b) (parts_of t ∷ wanted takes start (map parts_of ts)) (wanted takes start (map parts_of ts))) after before
       by true hit (inl put) rest = let none = does.0.none hit in let some = put.1 in cc
-      by true hit (inr same) rest = subst (Puts capacity (wanted takes start (map parts_of ts)) after) same rest
+      by true hit (inr left) rest = subst (Puts capacity (wanted takes start (map parts_of ts)) after) left.0 rest
       by false hit (inl put) rest =
           let is : between ≡ with_kept capacity (key_of (parts_of t)) (entry_of put.0) before =
           put.2 ∙ ap (λ key. with_kept capacity key (entry_of put.0) before) does.0.key in
           inl (entry_of put.0, kept put.0 put.1, subst (Puts capacity (wanted takes start (map parts_of ts)) after) is rest)
-      by false hit (inr same) rest = inr (subst (Puts capacity (wanted takes start (map parts_of ts)) after) same rest)
+      by false hit (inr left) rest =
+          inr (left_out t s before does.0 hit left.1, subst (Puts capacity (wanted takes start (map parts_of ts)) after) left.0 rest)
 
   -- what is kept stays the accepting reply
   accepted_look : (s : Step) (entries : Entries) → Accepted entries → Accepted (after_look s entries)
@@ -114,7 +123,7 @@ module _ (Replies : Parts → List ℕ → Type 0) (Accepts : Parts → Type 0) 
       by (inl put) =
           subst Accepted (sym put.2)
           (accepted-put Replies Accepts before capacity s.key.items (entry_of put.0) kept (own put.0 put.1))
-      by (inr same) = subst Accepted (sym same) kept
+      by (inr left) = subst Accepted (sym left.0) kept
 
   -- what the steps of spelled tasks have may be put
   pub steps_safe : (ts : List Task) (ss : List Step) → AllZip Does ts ss → All (λ (t : Task). HasText (parts_of t)) ts

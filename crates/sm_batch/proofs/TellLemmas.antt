@@ -1,5 +1,5 @@
 -- What was looked up and what was answered give each task its reply.
-use Rattle.std.proofs.Common.{◌≡◌, ◌↔◌, ℕ, ◌+◌, ◌<◌, zero, suc, Bool, true, false, if◌then◌else◌, Option, Some, None, IfSome, IsSome, is_some, MatchOption, List, [], ◌∷◌, ◌++◌, map, length, All, slice_get, slice_index_or, refl, sym, ap, subst, ◌∙◌, Vec, Global, arith, append_assoc, append-nil, get_or, drop}
+use Rattle.std.proofs.Common.{◌≡◌, ℕ, ◌+◌, ◌<◌, suc, Bool, true, false, if◌then◌else◌, Option, Some, None, IfSome, IsSome, is_some, MatchOption, List, [], ◌∷◌, ◌++◌, map, length, All, slice_get, slice_index_or, refl, sym, ap, subst, ◌∙◌, Vec, Global, arith, append_assoc, append-nil, get_or, drop}
 use Rattle.std.specs.List.{AllZip}
 use Rattle.std.specs.Option.{option_map_or}
 use Rattle.std.specs.Map.{lookup}
@@ -14,10 +14,11 @@ use Rattle.sm_batch.specs.declared.batch.Kept.{Kept}
 use Rattle.sm_batch.specs.declared.looking.Looked.{Looked}
 use Rattle.sm_batch.specs.declared.telling.Step.{Step}
 use Rattle.sm_batch.specs.declared.worker.Answered.{Answered}
+use Rattle.sm_batch.specs.Answers.{IsAnswer}
 use Rattle.sm_batch.specs.Entries.{Entry, Entries, IsAccepted}
 use Rattle.sm_batch.specs.Groups.{is_hit, IsKept}
 use Rattle.sm_batch.specs.Keys.{key_of, is_key_of}
-use Rattle.sm_batch.specs.Steps.{IsLookedUp, IsAnswer, IsReply, IsStep, IsKeptOf, IsStepOfHit, IsStepOfAnswer, IsTold, AreTold, missed, misses}
+use Rattle.sm_batch.specs.Steps.{IsLookedUp, IsReply, IsStep, IsKeptOf, IsStepOfHit, IsStepOfAnswer, IsTold, AreTold, missed, misses}
 use Rattle.sm_batch.specs.Views.{entry_of}
 
 -- each task that was no hit is one of the tasks
@@ -113,7 +114,7 @@ told_end looked answers replies steps ls left none same so_far =
     (subst (λ (x : List Step). AreTold looked answers (replies ++ []) x) (append-nil steps) end)
 
 module _ (Replies : Parts → List ℕ → Type 0) (Accepts : Parts → Type 0) (takes : Parts → List ℕ → Bool)
-    (free : (t : Parts) (c : List ℕ) → takes t c ≡ true → ConflictFree (task_of t)) (entries : Entries) where
+    (free : (t : Parts) (c : List ℕ) → HasText t → takes t c ≡ true → ConflictFree (task_of t)) (entries : Entries) where
   abbrev Looks : Task → Looked → Type 0
   Looks = IsLookedUp Replies Accepts takes entries
 
@@ -127,21 +128,21 @@ module _ (Replies : Parts → List ℕ → Type 0) (Accepts : Parts → Type 0) 
   Does = IsStep Replies Accepts takes entries
 
   -- a hit is free of conflicts
-  hit_free : (t : Parts) → is_hit takes entries t ≡ true → ConflictFree (task_of t)
+  hit_free : (t : Parts) → HasText t → is_hit takes entries t ≡ true → ConflictFree (task_of t)
   unfolding is_hit
-  hit_free t hit = by (lookup (is_key_of t) entries) hit
+  hit_free t text hit = by (lookup (is_key_of t) entries) hit
     where
       by : (o : Option Entry) → option_map_or (λ (entry : Entry). takes t entry.cert) o false ≡ true → ConflictFree (task_of t)
       by None never = cc
-      by (Some entry) taken = free t entry.cert taken
+      by (Some entry) taken = free t entry.cert text taken
 
   -- a task that was accepted is free of conflicts
-  answer_free : (t : Task) (a : Answered) → Answers t a → Accepts (parts_of t) → ConflictFree (task_of (parts_of t))
-  answer_free t a is accepted = by a.cert (is.accepts.1 accepted) is.taken
+  answer_free : (t : Task) (a : Answered) → Answers t a → HasText (parts_of t) → Accepts (parts_of t) → ConflictFree (task_of (parts_of t))
+  answer_free t a is text accepted = by a.cert (is.accepts.1 accepted) is.taken
     where
       by : (o : Option (Vec ℕ Global)) → IsSome o → IfSome o (λ c. takes (parts_of t) c.items ≡ true) → ConflictFree (task_of (parts_of t))
       by None some taken = cc
-      by (Some c) some taken = free (parts_of t) c.items taken
+      by (Some c) some taken = free (parts_of t) c.items text taken
 
   -- what is kept of an answer may be kept
   answer_kept : (t : Task) (a : Answered) → Answers t a → (o : Option Kept) → MatchOption o (a.cert ≡ None) (IsKeptOf a)
@@ -154,6 +155,12 @@ module _ (Replies : Parts → List ℕ → Type 0) (Accepts : Parts → Type 0) 
         ∙ subst (λ o. IfSome o (λ (c : Vec ℕ Global). takes (parts_of t) c.items ≡ true)) kept.some is.taken;
   }
 
+  -- of an accepting answer something may be
+  answer_fresh : (t : Task) (a : Answered) → Answers t a → (o : Option Kept) → MatchOption o (a.cert ≡ None) (IsKeptOf a)
+      → Accepts (parts_of t) → IsSome o
+  answer_fresh t a is None none accepted = let some = is.accepts.1 accepted in cc
+  answer_fresh t a is (Some k) kept accepted = refl
+
   -- a hit: its reply and its step
   hit_told : (t : Task) (l : Looked) (kept reply : Vec ℕ Global) (s : Step) → l.key.items ≡ key_of (parts_of t)
       → true ≡ is_hit takes entries (parts_of t) → IsAccepted Replies Accepts (parts_of t) kept.items
@@ -161,17 +168,18 @@ module _ (Replies : Parts → List ℕ → Type 0) (Accepts : Parts → Type 0) 
   hit_told t l kept reply s key hit accepted step = (
     record {
       is = subst (Replies (parts_of t)) (sym step.reply) accepted.1;
-      free = λ _. hit_free (parts_of t) (sym hit);
+      free = λ text _. hit_free (parts_of t) text (sym hit);
     },
     record {
       key = step.key ∙ key;
       hit = step.hit ∙ hit;
       kept = rw step.none tt;
       none = λ _. step.none;
+      some = λ no accepted. let yes = step.hit in cc;
     },
   )
 
-  -- an answer: the same
+  -- an answer: its reply and its step
   answer_told : (t : Task) (l : Looked) (a : Answered) (reply : Vec ℕ Global) (s : Step) → l.key.items ≡ key_of (parts_of t)
       → false ≡ is_hit takes entries (parts_of t) → Answers t a
       → IsStepOfAnswer l a reply s → Reply t reply × Does t s
@@ -185,6 +193,7 @@ module _ (Replies : Parts → List ℕ → Type 0) (Accepts : Parts → Type 0) 
       hit = step.hit ∙ hit;
       kept = answer_kept t a is s.fresh step.fresh;
       none = λ yes. let no = step.hit in cc;
+      some = λ no accepted. answer_fresh t a is s.fresh step.fresh accepted;
     },
   )
 
@@ -238,11 +247,23 @@ zip_of_places R (x ∷ xs) (y ∷ ys) same each =
 
 -- no task with the accepting reply has a conflict
 pub all_free : (Replies : Parts → List ℕ → Type 0) (Accepts : Parts → Type 0) (takes : Parts → List ℕ → Bool) (ts : List Task)
-    (replies : List (Vec ℕ Global)) → AllZip (IsReply Replies Accepts takes) ts replies
+    (replies : List (Vec ℕ Global)) → All (λ (t : Task). HasText (parts_of t)) ts → AllZip (IsReply Replies Accepts takes) ts replies
     → All (λ (t : Parts). Accepts t → ConflictFree (task_of t)) (map parts_of ts)
-all_free Replies Accepts takes [] [] all = All-nil (λ (t : Parts). Accepts t → ConflictFree (task_of t))
-all_free Replies Accepts takes [] (r ∷ rs) all = absurd all
-all_free Replies Accepts takes (t ∷ ts) [] all = absurd all
-all_free Replies Accepts takes (t ∷ ts) (r ∷ rs) all =
-    All-cons (λ (t : Parts). Accepts t → ConflictFree (task_of t)) (parts_of t) (map parts_of ts) all.0.free
-    (all_free Replies Accepts takes ts rs all.1)
+all_free Replies Accepts takes [] [] texts all = All-nil (λ (t : Parts). Accepts t → ConflictFree (task_of t))
+all_free Replies Accepts takes [] (r ∷ rs) texts all = absurd all
+all_free Replies Accepts takes (t ∷ ts) [] texts all = absurd all
+all_free Replies Accepts takes (t ∷ ts) (r ∷ rs) texts all =
+    All-cons (λ (t : Parts). Accepts t → ConflictFree (task_of t)) (parts_of t) (map parts_of ts)
+    (all.0.free (All-head (λ (t : Task). HasText (parts_of t)) t ts texts))
+    (all_free Replies Accepts takes ts rs (All-tail (λ (t : Task). HasText (parts_of t)) t ts texts) all.1)
+
+-- what may be answered to tasks is answered to them
+pub answers_told : (May Is : Task → Answered → Type 0) → ((t : Task) (a : Answered) → HasText (parts_of t) → May t a → Is t a)
+    → (ts : List Task) (answers : List Answered) → All (λ (t : Task). HasText (parts_of t)) ts → AllZip May ts answers → AllZip Is ts answers
+answers_told May Is told [] [] texts all = tt
+answers_told May Is told [] (a ∷ more) texts all = absurd all
+answers_told May Is told (t ∷ ts) [] texts all = absurd all
+answers_told May Is told (t ∷ ts) (a ∷ more) texts all = (
+  told t a (All-head (λ (t : Task). HasText (parts_of t)) t ts texts) all.0,
+  answers_told May Is told ts more (All-tail (λ (t : Task). HasText (parts_of t)) t ts texts) all.1,
+)

@@ -1,13 +1,17 @@
--- The worker of the tests. It replies to a task with its canonical text, and where it is eager it
+-- The worker of the tests. The reply to a task is its canonical text, and where it is eager it
 -- accepts the tasks of an empty program, with any certificate. No public clause cites it.
-use Rattle.std.specs.Prelude.{◌≡◌, ℕ, Bool, true, false, ◌&&◌, Option, Some, List}
+use Rattle.std.specs.Prelude.{◌≡◌, Bool, true, false, ◌&&◌, Some}
 use Rattle.std.proofs.Common.{refl, sym, ap, subst, inl}
 use Rattle.sm_syntax.specs.claim.ConflictFree.{Copy, O, A, B, M, ConflictFree}
 use Rattle.sm_syntax.specs.claim.Fill.{fill}
-use Rattle.sm_syntax.specs.claim.Keeps.{Keeps, content}
+use Rattle.sm_syntax.specs.claim.Keeps.{content}
 use Rattle.sm_syntax.specs.claim.Meaning.{run}
 use Rattle.sm_syntax.specs.claim.Syntax.{Code, End, Skip, Assign, Write, If, While, Hole}
 use Rattle.sm_syntax.specs.text.Parts.{Parts, task_of}
+use Rattle.sm_text.specs.declared.task.Task.{Task}
+use Rattle.sm_batch.specs.Answers.{IsAnswer}
+use Rattle.sm_batch.specs.Keys.{key_of}
+use Rattle.sm_batch.specs.declared.worker.Answered.{Answered}
 
 -- whether code is empty
 abbrev pub is_end : Code → Bool
@@ -32,6 +36,11 @@ end_is (Hole h k) empty = cc
 -- whether an eager worker, or one that isn't, accepts a task
 abbrev pub echoes : Bool → Parts → Bool
 echoes eager t = eager && is_end t.shared
+
+-- an answer to a task is that of an echo
+abbrev pub IsEcho : Bool → Task → Answered → Type 0
+IsEcho eager =
+    IsAnswer (λ t reply. reply ≡ key_of t) (λ t. echoes eager t ≡ true) (λ t cert. echoes eager t)
 
 -- a task of an empty program is free of conflicts: all four copies end where they start
 empty_is_free : (t : Parts) → is_end t.shared ≡ true → ConflictFree (task_of t)

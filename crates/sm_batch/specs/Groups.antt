@@ -1,7 +1,8 @@
 -- What a group of tasks does to what is kept. Public clauses cite it.
 -- A worker is three meanings here: its replies, which tasks it accepts, and which certificates it
 -- takes for a task.
-use Rattle.std.specs.Prelude.{◌≡◌, ℕ, Bool, true, false, not, ◌⊎◌, if◌then◌else◌, List, [], ◌∷◌, filter, count_by}
+use Rattle.std.specs.Prelude.{◌≡◌, ℕ, Bool, true, false, not, ◌⊎◌, None, if◌then◌else◌}
+use Rattle.std.specs.Prelude.{List, [], ◌∷◌, filter}
 use Rattle.std.specs.Option.{option_map_or}
 use Rattle.std.specs.Map.{lookup, remove_entry}
 use Rattle.std.specs.Str.{bytes_eq}
@@ -27,14 +28,20 @@ looked_up hit (t ∷ ts) entries =
     looked_up hit ts
     (if hit t then promoted (is_key_of t) entries else remove_entry (is_key_of t) entries)
 
+module _ (IsKept : Parts → Entry → Type 0) where
+  -- nothing is put for a task: there is nothing that may be kept for it, or memory is wanting, which
+  -- it never is where something is kept under the task's key already
+  abbrev pub IsLeftOut : Parts → Entries → Type 0
+  IsLeftOut t before = (entry : Entry) → IsKept t entry → lookup (is_key_of t) before ≡ None
+
 module _ (IsKept : Parts → Entry → Type 0) (capacity : ℕ) where
-  -- the entries after an entry for each of the tasks was put in order, or left out
+  -- the entries after what may be kept for each of the tasks was put in order, or left out
   abbrev pub ArePut : List Parts → Entries → Entries → Type 0
   ArePut [] before after = before ≡ after
   ArePut (t ∷ ts) before after =
       ((entry : Entry) × IsKept t entry
       × ArePut ts (put_entries bytes_eq (lru_cache before capacity) (key_of t) entry) after)
-      ⊎ ArePut ts before after
+      ⊎ (IsLeftOut IsKept t before × ArePut ts before after)
 
 module _ (Replies : Parts → List ℕ → Type 0) (Accepts : Parts → Type 0)
     (takes : Parts → List ℕ → Bool) where

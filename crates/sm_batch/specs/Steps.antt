@@ -1,6 +1,7 @@
 -- What is known of a task on its way through a group. No public clause cites it.
-use Rattle.std.specs.Prelude.{◌≡◌, ◌↔◌, ℕ, Bool, true, ◌⊎◌, if◌then◌else◌, Option, Some, None, IfSome, IsSome, is_some, MatchOption, List, [], ◌∷◌, Vec, false, ◌+◌}
-use Rattle.std.specs.Map.{remove_entry}
+use Rattle.std.specs.Prelude.{◌≡◌, ℕ, ◌+◌, Bool, true, false, ◌⊎◌, if◌then◌else◌, Some, None}
+use Rattle.std.specs.Prelude.{IfSome, IsSome, is_some, MatchOption, List, [], ◌∷◌, Vec}
+use Rattle.std.specs.Map.{lookup, remove_entry}
 use Rattle.std.specs.Str.{bytes_eq}
 use Rattle.std.specs.declared.alloc.Global.{Global}
 use Rattle.lru.specs.LruCache.{lru_cache, promoted, put_entries}
@@ -26,23 +27,19 @@ module _ (Replies : Parts → List ℕ → Type 0) (Accepts : Parts → Type 0)
     pub hit : is_some l.reply ≡ is_hit takes entries (parts_of t)
     pub reply : IfSome l.reply (λ r. IsAccepted Replies Accepts (parts_of t) r.items)
 
-  -- a worker's answer to a task
-  pub record IsAnswer (t : Task) (a : Answered) : Type 0 where
-    pub reply : Replies (parts_of t) a.reply.items
-    pub accepts : IsSome a.cert ↔ Accepts (parts_of t)
-    pub taken : IfSome a.cert (λ c. takes (parts_of t) c.items ≡ true)
-
   -- a task's reply; and where it's the accepting one, the task is free of conflicts
   pub record IsReply (t : Task) (reply : Vec ℕ Global) : Type 0 where
     pub is : Replies (parts_of t) reply.items
-    pub free : Accepts (parts_of t) → ConflictFree (task_of (parts_of t))
+    pub free : HasText (parts_of t) → Accepts (parts_of t) → ConflictFree (task_of (parts_of t))
 
-  -- what is to be done to the entries for a task: a hit has nothing that is to be put
+  -- what is to be done to the entries for a task: a hit has nothing that is to be put, and each
+  -- other task that is accepted has something
   pub record IsStep (entries : Entries) (t : Task) (s : Step) : Type 0 where
     pub key : s.key.items ≡ key_of (parts_of t)
     pub hit : s.hit ≡ is_hit takes entries (parts_of t)
     pub kept : IfSome s.fresh (λ k. IsKept Replies Accepts takes (parts_of t) (entry_of k))
     pub none : s.hit ≡ true → s.fresh ≡ None
+    pub some : s.hit ≡ false → Accepts (parts_of t) → IsSome s.fresh
 
 -- those that were no hits, of tasks that were looked up
 abbrev pub missed : List Task → List Looked → List Task
@@ -118,13 +115,15 @@ module _ (capacity : ℕ) where
   abbrev pub with_kept : List ℕ → Entry → Entries → Entries
   with_kept key entry entries = put_entries bytes_eq (lru_cache entries capacity) key entry
 
-  -- what a step has was put, or left out
+  -- what a step has was put, or it found no memory and was left out, which never happens where
+  -- something is kept under its key already
   abbrev pub IsPutOrNot : Step → Entries → Entries → Type 0
   IsPutOrNot s before after =
       ((k : Kept) × (s.fresh ≡ Some k) × (after ≡ with_kept s.key.items (entry_of k) before))
-      ⊎ (after ≡ before)
+      ⊎ ((after ≡ before)
+      × (IsSome s.fresh → lookup (bytes_eq s.key.items) before ≡ None))
 
-  -- the same of all steps, in order
+  -- what all steps have, in order, each was put, or left out
   abbrev pub ArePutOrNot : List Step → Entries → Entries → Type 0
   ArePutOrNot [] before after = before ≡ after
   ArePutOrNot (s ∷ ss) before after =

@@ -6,6 +6,7 @@ ghost use Rattle.sm_syntax.specs.claim.ConflictFree.{ConflictFree};
 ghost use Rattle.sm_syntax.specs.text.Parts.{task_of};
 ghost use Rattle.sm_text.specs.printing.Named.{HasText};
 ghost use Rattle.sm_text.specs.Tasks.{parts_of};
+ghost use Rattle.sm_batch.specs.Answers.{MayAnswer, AnswersForWorker};
 ghost use Rattle.sm_batch.specs.Groups.{is_hit, Settles};
 ghost use Rattle.sm_batch.specs.Steps.{IsReply, IsStep, AreSafe, after_looks, ArePutOrNot};
 
@@ -13,7 +14,7 @@ use crate::answering::{answer_all, missed};
 use crate::batch::Batch;
 use crate::settling::{look_all, put_all};
 use crate::telling::{Step, hits_in, tell};
-use crate::worker::{Worker, taken_is_free};
+use crate::worker::{Answered, Worker, taken_is_free};
 use sm_par::Gate;
 use sm_task::Task;
 use std::alloc::{AllocError, Global};
@@ -21,15 +22,21 @@ use std::thread::Threads;
 
 impl<W: Worker> Batch<W> {
     /// The replies to tasks, each the worker's own. A task that is a hit has the reply that is
-    /// kept; the others are answered as jobs, for 1 to 64 workers. What is kept changes last.
-    pub fn group<R: Threads + Sync, G: Gate>(
+    /// kept; to the others the answers come from a closure, by 1 to 64 workers. What is kept
+    /// changes last.
+    pub fn group<R: Threads + Sync, G: Gate, A: Fn(&Task) -> Result<Answered, AllocError> + Sync>(
         &mut self,
         rt: &R,
         alloc: Global,
         gate: &G,
+        answer: &A,
         tasks: &[Task],
         workers: u32,
     ) -> Result<Vec<Vec<u8>>, AllocError>
+        requires able { (t : _) → HasText (parts_of t.now) → A.pre answer.now t }
+        requires told { let w = self.old.worker in
+            AnswersForWorker (W.replies w) (W.accepts w) (W.takes w)
+            (MayAnswer A.Fn answer.now) }
         requires spelled { All (λ t. HasText (parts_of t)) tasks.now }
         requires some { 0 < workers }
         requires most { workers ≤ 64 }
@@ -52,20 +59,29 @@ impl<W: Worker> Batch<W> {
         // Where memory is wanting, nothing changes.
         ensures same { OnErr result (self.new ≡ self.old) }
     {
-        let (replies, steps) = self.replies_and_steps(rt, alloc, gate, tasks, workers)?;
+        let (replies, steps) = self.replies_and_steps(rt, alloc, gate, answer, tasks, workers)?;
         self.settle(steps);
         Ok(replies)
     }
 
     // The reply to each task, and what is to be done for it. Nothing changes yet.
-    fn replies_and_steps<R: Threads + Sync, G: Gate>(
+    fn replies_and_steps<
+        R: Threads + Sync,
+        G: Gate,
+        A: Fn(&Task) -> Result<Answered, AllocError> + Sync,
+    >(
         &self,
         rt: &R,
         alloc: Global,
         gate: &G,
+        answer: &A,
         tasks: &[Task],
         workers: u32,
     ) -> Result<(Vec<Vec<u8>>, Vec<Step>), AllocError>
+        requires able { (t : _) → HasText (parts_of t.now) → A.pre answer.now t }
+        requires told { let w = self.now.worker in
+            AnswersForWorker (W.replies w) (W.accepts w) (W.takes w)
+            (MayAnswer A.Fn answer.now) }
         requires spelled { All (λ t. HasText (parts_of t)) tasks.now }
         requires some { 0 < workers }
         requires most { workers ≤ 64 }
@@ -79,7 +95,7 @@ impl<W: Worker> Batch<W> {
         taken_is_free(&self.worker);
         let looked = self.look_all_up(alloc, tasks)?;
         let wanted = missed(alloc, tasks, &looked)?;
-        let answers = answer_all(rt, alloc, gate, &self.worker, &wanted, workers)?;
+        let answers = answer_all(rt, alloc, gate, answer, &wanted, workers)?;
         let told = tell(alloc, looked, answers)?;
         Ok(told)
     }

@@ -1,19 +1,22 @@
 //! Many tasks, group by group, each with the reply that it has alone.
 //!
-//! - A `Worker` has one reply to each task. Where that is the accepting one, it gives a certificate
-//!   too, and it can check one again. A task for which it takes a certificate is free of conflicts.
-//! - `Batch::group` replies to each task of a group as the worker does, for every number of workers
-//!   and however much is kept. A task with the accepting reply is free of conflicts.
+//! - A `Worker` says which one reply a task has and when that is the accepting one, and it checks
+//!   certificates. A task for which it takes a certificate is free of conflicts.
+//! - `Batch::group` gives each task of a group the worker's reply, for every number of workers and
+//!   however much is kept. A task with the accepting reply is free of conflicts. Answers come from
+//!   a closure that gives the worker's reply and, exactly where that is the accepting one, a
+//!   certificate that the worker takes.
 //! - Accepting replies are kept under the canonical text of their tasks, as many as the batch has
 //!   room for, those used last. What is kept stands for a task only after the worker has taken the
-//!   certificate that is kept with it; else it is dropped, and the worker answers.
+//!   certificate that is kept with it; else it is dropped, and the closure answers.
 //! - Where memory is wanting, a group changes nothing. What finds no room in memory to be kept is
-//!   left out.
+//!   left out, but never where something is kept under its key already.
 //!
 //! That a hit spares an answer is tested, and not proved. Equal tasks in one group that are no hits
 //! are each answered.
 //!
-//! Read `specs/Keys.antt` first, then `specs/Entries.antt` and `specs/Groups.antt`.
+//! Read `specs/Keys.antt` first, then `specs/Answers.antt`, `specs/Entries.antt` and
+//! `specs/Groups.antt`.
 #![tactic(auto)]
 
 mod answering;

@@ -1,6 +1,6 @@
 // Changes what is kept. Nothing fails here.
-ghost use Rattle.std.specs.Prelude.{◌≡◌, ◌⊎◌};
-ghost use Rattle.std.specs.Map.{remove_entry};
+ghost use Rattle.std.specs.Prelude.{◌≡◌, ◌⊎◌, None};
+ghost use Rattle.std.specs.Map.{lookup, remove_entry};
 ghost use Rattle.std.specs.Str.{bytes_eq};
 ghost use Rattle.lru.specs.LruCache.{promoted};
 ghost use Rattle.sm_batch.specs.Steps.{after_look, after_looks, with_kept, IsPutOrNot, ArePutOrNot};
@@ -21,7 +21,7 @@ pub(crate) fn look_all(cache: &mut LruCache<Vec<u8>, Kept>, steps: &[Step])
     }
 }
 
-// The same of one step.
+// Looks one step's key up.
 fn look(cache: &mut LruCache<Vec<u8>, Kept>, step: &Step)
     ensures entries { entries_of cache.new.entries
         ≡ after_look step.now (entries_of cache.old.entries) }
@@ -63,7 +63,7 @@ pub(crate) fn put_all(cache: &mut LruCache<Vec<u8>, Kept>, steps: Vec<Step>)
     }
 }
 
-// The same of one step.
+// Puts what one step has.
 fn put(cache: &mut LruCache<Vec<u8>, Kept>, step: Step)
     ensures entries { IsPutOrNot cache.old.cap step
         (entries_of cache.old.entries) (entries_of cache.new.entries) }
@@ -76,11 +76,13 @@ fn put(cache: &mut LruCache<Vec<u8>, Kept>, step: Step)
     }
 }
 
-// Puts something under a key, where there is memory.
+// Puts something under a key, or leaves it out where memory is wanting. Under a key that has
+// something no memory is wanted.
 fn put_entry(cache: &mut LruCache<Vec<u8>, Kept>, key: Vec<u8>, kept: Kept)
     ensures entries { let before = entries_of cache.old.entries in
         (entries_of cache.new.entries ≡ with_kept cache.old.cap key.items (entry_of kept) before)
-        ⊎ (entries_of cache.new.entries ≡ before) }
+        ⊎ ((entries_of cache.new.entries ≡ before)
+        × (lookup (bytes_eq key.items) before ≡ None)) }
     ensures capacity { cache.new.cap ≡ cache.old.cap }
 {
     match cache.put(key, kept) {

@@ -38,7 +38,7 @@ pub(crate) fn tell(
     Ok((replies, steps))
 }
 
-// The same of one task: one that was no hit has the next answer.
+// The reply to one task, and what is to be done for it. One that was no hit has the next answer.
 fn tell_one(
     alloc: Global,
     one: Looked,

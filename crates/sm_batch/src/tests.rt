@@ -1,9 +1,9 @@
 // What no clause says: which hits spare answers, and that calls succeed.
-ghost use Rattle.std.specs.Prelude.{◌≡◌, ◌&&◌, true, All, IfOk};
+ghost use Rattle.std.specs.Prelude.{◌≡◌, ◌≤◌, ◌<◌, ◌&&◌, true, All, IfOk};
 ghost use Rattle.std.proofs.Common.{sym, ◌∙◌};
 ghost use Rattle.sm_text.specs.printing.Named.{HasText};
 ghost use Rattle.sm_text.specs.Tasks.{parts_of};
-ghost use Rattle.sm_batch.specs.Echo.{echoes, echoed_is_free};
+ghost use Rattle.sm_batch.specs.Echo.{echoes, echoed_is_free, IsEcho};
 ghost use Rattle.sm_batch.specs.Keys.{key_of};
 
 use crate::batch::Batch;
@@ -22,30 +22,11 @@ const EMPTY: &str =
 const OTHER: &str =
     "var x; output x; shared { x = 1; } base { } variant_a { } variant_b { } candidate { }";
 
-// Replies to a task with its canonical text. Where it is eager it accepts the tasks of an empty
-// program, with any certificate. It counts its answers.
+// The reply to a task is its canonical text. Where it is eager it accepts the tasks of an empty
+// program, with any certificate.
 #[derive(Drop)]
 struct Echo {
     eager: bool,
-    answers: AtomicU64,
-}
-
-impl Echo {
-    fn new(eager: bool) -> Echo {
-        Echo {
-            eager,
-            answers: AtomicU64::new(0),
-        }
-    }
-
-    fn accepts(&self, alloc: Global, task: &Task) -> bool
-        ensures { result ≡ echoes self.now.eager (parts_of task.now) }
-    {
-        let empty = Block {
-            list: Vec::new(alloc),
-        };
-        self.eager && same_block(&task.shared.body, &empty)
-    }
 }
 
 impl Worker for Echo {
@@ -55,25 +36,62 @@ impl Worker for Echo {
 
     ghost takes = { λ w t _. echoes w.eager t };
 
-    fn answer(&self, alloc: Global, task: &Task) -> Result<Answered, AllocError> {
-        self.answers.fetch_add(1, Ordering::SeqCst);
-        let reply = print_task(alloc, task)?;
-        if self.accepts(alloc, task) {
-            return Ok(Answered {
-                reply,
-                cert: Some(Vec::new(alloc)),
-            });
-        }
-        Ok(Answered { reply, cert: None })
-    }
-
     fn recheck(&self, alloc: Global, task: &Task, _cert: &[u8]) -> Result<bool, AllocError> {
-        Ok(self.accepts(alloc, task))
+        Ok(accepts(alloc, self.eager, task))
     }
 
     ghost one_reply = { λ w t a b first second. first ∙ sym second };
 
-    ghost is_free = { λ w t c taken. echoed_is_free w.eager t taken };
+    ghost is_free = { λ w t c text taken. echoed_is_free w.eager t taken };
+}
+
+// Whether an eager echo, or one that isn't, accepts a task.
+fn accepts(alloc: Global, eager: bool, task: &Task) -> bool
+    ensures { result ≡ echoes eager (parts_of task.now) }
+{
+    let empty = Block {
+        list: Vec::new(alloc),
+    };
+    eager && same_block(&task.shared.body, &empty)
+}
+
+// The answer of an echo.
+fn echoed(alloc: Global, eager: bool, task: &Task) -> Result<Answered, AllocError>
+    requires { HasText (parts_of task.now) }
+    ensures { IfOk result (IsEcho eager task.now) }
+{
+    let reply = print_task(alloc, task)?;
+    if accepts(alloc, eager, task) {
+        return Ok(Answered {
+            reply,
+            cert: Some(Vec::new(alloc)),
+        });
+    }
+    Ok(Answered { reply, cert: None })
+}
+
+// The replies to a group. The answers are counted.
+fn replies_to<R: Threads + Sync>(
+    rt: &R,
+    alloc: Global,
+    batch: &mut Batch<Echo>,
+    tasks: &[Task],
+    workers: u32,
+    answers: &AtomicU64,
+) -> Result<Vec<Vec<u8>>, AllocError>
+    requires spelled { All (λ t. HasText (parts_of t)) tasks.now }
+    requires some { 0 < workers }
+    requires most { workers ≤ 64 }
+{
+    let eager = batch.worker.eager;
+    let answer = move |task: &Task| -> Result<Answered, AllocError>
+        requires { HasText (parts_of task.now) }
+        ensures { IfOk result (IsEcho eager task.now) }
+    {
+        answers.fetch_add(1, Ordering::SeqCst);
+        echoed(alloc, eager, task)
+    };
+    batch.group(rt, alloc, &Open, &answer, tasks, workers)
 }
 
 // The task of a text.
@@ -103,13 +121,13 @@ fn hits_and_answers<R: Threads + Sync>(
     alloc: Global,
     eager: bool,
 ) -> Result<(u64, u64), Fail> {
-    let mut batch = Batch::new(alloc, Echo::new(eager), 2)?;
+    let mut batch = Batch::new(alloc, Echo { eager }, 2)?;
+    let answers = AtomicU64::new(0);
     for text in [EMPTY, OTHER, EMPTY] {
         let tasks = vec![in alloc; task_of(alloc, text)?]?;
-        let _ = batch.group(rt, alloc, &Open, &tasks, 1)?;
+        let _ = replies_to(rt, alloc, &mut batch, &tasks, 1, &answers)?;
     }
-    let answers = batch.worker.answers.load(Ordering::SeqCst);
-    Ok((batch.hits(), answers))
+    Ok((batch.hits(), answers.load(Ordering::SeqCst)))
 }
 
 #[test]
@@ -127,10 +145,11 @@ fn a_certificate_that_is_not_taken_is_no_hit(rt: HostRuntime) -> Result<(), Fail
 #[test]
 fn replies_stand_in_the_order_of_the_tasks(rt: HostRuntime) -> Result<(), Fail> {
     let alloc = rt.alloc();
-    let mut batch = Batch::new(alloc, Echo::new(true), 1)?;
+    let mut batch = Batch::new(alloc, Echo { eager: true }, 1)?;
+    let answers = AtomicU64::new(0);
     let tasks = both_tasks(alloc)?;
-    let first = batch.group(&rt, alloc, &Open, &tasks, 2)?;
-    let again = batch.group(&rt, alloc, &Open, &tasks, 64)?;
+    let first = replies_to(&rt, alloc, &mut batch, &tasks, 2, &answers)?;
+    let again = replies_to(&rt, alloc, &mut batch, &tasks, 64, &answers)?;
     assert!(rt; first.len() == 2);
     assert!(rt; first == again);
     // The text of the empty task is the shorter one.

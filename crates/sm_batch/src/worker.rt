@@ -1,5 +1,5 @@
-// Who answers tasks.
-ghost use Rattle.std.specs.Prelude.{◌≡◌, ◌↔◌, ℕ, Bool, true, List, IfOk, IfSome, IsSome};
+// What is answered to tasks.
+ghost use Rattle.std.specs.Prelude.{◌≡◌, ℕ, Bool, true, List, IfOk};
 ghost use Rattle.sm_syntax.specs.claim.ConflictFree.{ConflictFree};
 ghost use Rattle.sm_syntax.specs.text.Parts.{Parts, task_of};
 ghost use Rattle.sm_text.specs.printing.Named.{HasText};
@@ -15,8 +15,9 @@ pub struct Answered {
     pub cert: Option<Vec<u8>>,
 }
 
-/// Answers tasks that some text spells, and checks certificates for them.
-pub trait Worker: Sync {
+/// Says what is replied to tasks that some text spells, and checks certificates for them. The
+/// answers come from a closure: one may start threads, which a method of a trait may not.
+pub trait Worker {
     // Which reply a task has.
     ghost replies: { Self → Parts → List ℕ → Type 0 };
 
@@ -25,14 +26,6 @@ pub trait Worker: Sync {
 
     // Which certificates it takes for a task.
     ghost takes: { Self → Parts → List ℕ → Bool };
-
-    /// The reply to a task, with a certificate exactly where it is the accepting one.
-    fn answer(&self, alloc: Global, task: &Task) -> Result<Answered, AllocError>
-        requires { HasText (parts_of task.now) }
-        ensures reply { IfOk result (λ a. replies self.now (parts_of task.now) a.reply.items) }
-        ensures accepts { IfOk result (λ a. IsSome a.cert ↔ accepts self.now (parts_of task.now)) }
-        ensures taken { let t = parts_of task.now in
-            IfOk result (λ a. IfSome a.cert (λ c. takes self.now t c.items ≡ true)) };
 
     /// Whether a certificate is taken for a task.
     fn recheck(&self, alloc: Global, task: &Task, cert: &[u8]) -> Result<bool, AllocError>
@@ -43,12 +36,13 @@ pub trait Worker: Sync {
     ghost one_reply: { (w : Self) (t : Parts) (a b : List ℕ) →
         replies w t a → replies w t b → a ≡ b };
 
-    // A task for which a certificate is taken is free of conflicts.
+    // A task that some text spells, and for which a certificate is taken, is free of conflicts.
     ghost is_free: { (w : Self) (t : Parts) (c : List ℕ) →
-        takes w t c ≡ true → ConflictFree (task_of t) };
+        HasText t → takes w t c ≡ true → ConflictFree (task_of t) };
 }
 
-/// A task for which a worker takes a certificate is free of conflicts.
+/// A task that some text spells, and for which a worker takes a certificate, is free of conflicts.
 pub fn taken_is_free<W: Worker>(worker: &W)
-    ensures { (t : Parts) (c : List ℕ) → W.takes worker.now t c ≡ true → ConflictFree (task_of t) }
+    ensures { (t : Parts) (c : List ℕ) → HasText t → W.takes worker.now t c ≡ true →
+        ConflictFree (task_of t) }
 {}

@@ -220,15 +220,6 @@ taken_read lines u s bytes t = record {
   kept = t.kept;
 }
 
-pub read_taken : (lines : TakenLines) (u : Unfinished) (s : Subject) (bytes : List ℕ) → AreRead lines [] u s bytes →
-    AreTaken lines u s bytes
-read_taken lines u s bytes t = record {
-  at = t.comes.at;
-  stands = t.comes.stands;
-  reached = t.comes.is;
-  kept = t.kept;
-}
-
 -- the lines behind a place
 pub drop_whole : {X : Type 0} (xs : List X) (i : ℕ) → length xs ≤ i → drop i xs ≡ []
 drop_whole [] zero h = refl

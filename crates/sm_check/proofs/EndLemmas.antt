@@ -12,9 +12,8 @@ use Rattle.sm_proof.specs.Verdicts.{lines_in, reached}
 use Rattle.sm_proof.specs.Verdicts as proof
 use Rattle.sm_check.specs.declared.checker.State.TheVariants.{Done, More}
 use Rattle.sm_check.specs.declared.taken_lines.TakenLines.{TakenLines}
-use Rattle.sm_check.specs.declared.unfinished.Unfinished.{Unfinished}
 use Rattle.sm_check.specs.Files.{Judged, file_answer, cut_answer}
-use Rattle.sm_check.specs.Pieces.{reach, AreTaken}
+use Rattle.sm_check.specs.Pieces.{reach, AreEndedTaken}
 use Rattle.sm_check.proofs.LineLemmas.{reach_refused}
 
 -- the verdict by how far the bytes come
@@ -74,32 +73,32 @@ rest_is_bad n at [] h = absurd (h refl)
 rest_is_bad n at (b ∷ bs) h = refl
 
 -- the verdict once all bytes are taken
-at_last : (lines : TakenLines) (u : Unfinished) (s : Subject) (bytes : List ℕ) (t : AreTaken lines u s bytes) →
+at_last : (lines : TakenLines) (s : Subject) (bytes : List ℕ) (t : AreEndedTaken lines s bytes) →
     verdict s bytes ≡ verdict_at_end (Before lines.number t.at) (lines_in bytes).rest
-at_last lines u s bytes t =
+at_last lines s bytes t =
     verdict-reach s bytes ∙ ap (λ (r : Reached). verdict_at_end r (lines_in bytes).rest) t.reached
 
 -- a proof that is done
-pub done_passes : (lines : TakenLines) (u : Unfinished) (s : Subject) (bytes : List ℕ) → AreTaken lines u s bytes →
+pub done_passes : (lines : TakenLines) (s : Subject) (bytes : List ℕ) → AreEndedTaken lines s bytes →
     (lines_in bytes).rest ≡ [] → lines.state ≡ Done → verdict s bytes ≡ proof.Pass
-done_passes lines u s bytes t none state =
-    at_last lines u s bytes t ∙ ap (verdict_at_end (Before lines.number t.at)) none
+done_passes lines s bytes t none state =
+    at_last lines s bytes t ∙ ap (verdict_at_end (Before lines.number t.at)) none
     ∙ ap (λ (x : Bool). if x then proof.Pass else proof.Rejected lines.number Truncated)
     (done_by (is_done t.at) (sym state ∙ t.stands.state))
 
 -- one that isn't
-pub undone_is_bad : (lines : TakenLines) (u : Unfinished) (s : Subject) (bytes : List ℕ) → AreTaken lines u s bytes →
+pub undone_is_bad : (lines : TakenLines) (s : Subject) (bytes : List ℕ) → AreEndedTaken lines s bytes →
     (lines_in bytes).rest ≡ [] → lines.state ≡ More → verdict s bytes ≡ proof.Rejected lines.number Truncated
-undone_is_bad lines u s bytes t none state =
-    at_last lines u s bytes t ∙ ap (verdict_at_end (Before lines.number t.at)) none
+undone_is_bad lines s bytes t none state =
+    at_last lines s bytes t ∙ ap (verdict_at_end (Before lines.number t.at)) none
     ∙ ap (λ (x : Bool). if x then proof.Pass else proof.Rejected lines.number Truncated)
     (more_by (is_done t.at) (sym state ∙ t.stands.state))
 
 -- a line without an end
-pub unended_is_bad : (lines : TakenLines) (u : Unfinished) (s : Subject) (bytes : List ℕ) → AreTaken lines u s bytes →
+pub unended_is_bad : (lines : TakenLines) (s : Subject) (bytes : List ℕ) → AreEndedTaken lines s bytes →
     ((lines_in bytes).rest ≡ [] → ⊥) → verdict s bytes ≡ proof.Rejected lines.number Truncated
-unended_is_bad lines u s bytes t some =
-    at_last lines u s bytes t ∙ rest_is_bad lines.number t.at (lines_in bytes).rest some
+unended_is_bad lines s bytes t some =
+    at_last lines s bytes t ∙ rest_is_bad lines.number t.at (lines_in bytes).rest some
 
 -- bytes that one more read gave, of which so many are taken
 pub taken_more : (bytes piece read : List ℕ) (place count taken : ℕ) → ReadsFrom bytes place count piece → taken ≤ count →

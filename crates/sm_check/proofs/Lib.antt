@@ -22,6 +22,7 @@ pub mod ReadLemmas
 pub mod SkipLemmas
 pub mod SharedLemmas
 pub mod EndLemmas
+pub mod MemoryLemmas
 pub mod AnswerLemmas
 pub mod GivenLemmas
 pub mod CheckerLemmas

@@ -9,7 +9,7 @@ use Rattle.sm_check.specs.declared.unfinished.Unfinished.{Unfinished}
 use Rattle.sm_check.specs.Aside.{AreRead, ComesTo, StopsAt, IsNoLine, with_line}
 use Rattle.sm_check.specs.LineEnds.{HasNoEnd, ended_in}
 use Rattle.sm_check.specs.Pieces.{AreTaken, IsKept, StopsIn, reach}
-use Rattle.sm_check.proofs.AsideLemmas.{line_not_read, line_read, reached-lines, read_taken, taken_read, with_lines}
+use Rattle.sm_check.proofs.AsideLemmas.{line_not_read, line_read, reached-lines, taken_read, with_lines}
 use Rattle.sm_check.proofs.EndedLines.{lines_in-behind}
 use Rattle.sm_check.proofs.LineLemmas.{lines_in-rest, long_line_is_none, reach-rest}
 use Rattle.sm_check.proofs.PieceLemmas.{keeps_long}
@@ -76,8 +76,3 @@ run_is_read lines aside now u s bytes run none ended is t = record {
 pub none_read : (lines : TakenLines) (aside : List (List ℕ)) (u : Unfinished) (s : Subject) (bytes : List ℕ) → aside ≡ [] →
     AreTaken lines u s bytes → AreRead lines aside u s bytes
 none_read lines aside u s bytes none t = subst (λ (x : List (List ℕ)). AreRead lines x u s bytes) (sym none) (taken_read lines u s bytes t)
-
--- all that was set aside was taken
-pub all_taken : (was now : TakenLines) (aside : List (List ℕ)) (u : Unfinished) (s : Subject) (bytes : List ℕ) →
-    AreRead was aside u s bytes → ComesTo now [] s (reach s bytes) → AreTaken now u s bytes
-all_taken was now aside u s bytes t comes = read_taken now u s bytes (record { comes = comes; kept = t.kept })

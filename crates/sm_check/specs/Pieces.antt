@@ -41,6 +41,12 @@ RefusesAt n (Err w) (Wrong line word) = (line ≡ n) × (word ≡ w)
 abbrev pub IsKept : Unfinished → List ℕ → Type 0
 IsKept unfinished bytes = Keeps unfinished.is_too_long unfinished.bytes.items bytes
 
+-- the ended lines of bytes of a file were taken
+pub record AreEndedTaken (lines : TakenLines) (s : Subject) (bytes : List ℕ) : Type 0 where
+  pub at : Standing
+  pub stands : StandsAt lines s at
+  pub reached : reach s bytes ≡ Before lines.number at
+
 -- bytes of a file were taken: their ended lines were, and what is behind the last end is kept
 pub record AreTaken (lines : TakenLines) (unfinished : Unfinished) (s : Subject) (bytes : List ℕ)
     : Type 0 where

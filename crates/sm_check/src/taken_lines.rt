@@ -128,6 +128,25 @@ impl<'a> TakenLines<'a> {
         Ok(())
     }
 
+    /// Takes the ended lines of bytes in turn.
+    pub(crate) fn check_all(&mut self, alloc: Global, bytes: &[u8]) -> Result<(), Stopped>
+        requires { self.old.number + length (ended_in bytes.now) < 2 ^ 64 }
+        ensures number { OnOk result
+            (self.new.number ≡ self.old.number + length (ended_in bytes.now)) }
+        ensures ok { (s : Subject) (r : Reached) (more : List (List ℕ)) →
+            ComesTo self.old (ended_in bytes.now ++ more) s r →
+            OnOk result (ComesTo self.new more s r) }
+        ensures err { (s : Subject) (r : Reached) (more : List (List ℕ)) →
+            ComesTo self.old (ended_in bytes.now ++ more) s r → IfErr result (StopsAt r) }
+    {
+        let mut left = bytes;
+        while let Some((line, behind)) = first_line(left) {
+            self.check(alloc, line)?;
+            left = behind;
+        }
+        Ok(())
+    }
+
     // Whether a line may be set aside. The first one begins the certificate that is due.
     fn may_wait(&self, alloc: Global, aside: &mut Aside, guess: Guess) -> bool
         ensures { lines_aside aside.new ≡ lines_aside aside.old }
@@ -175,25 +194,6 @@ impl<'a> TakenLines<'a> {
     {
         for lines in certificates {
             self.check_all(alloc, &lines.bytes)?;
-        }
-        Ok(())
-    }
-
-    // Takes ended lines in turn.
-    fn check_all(&mut self, alloc: Global, bytes: &[u8]) -> Result<(), Stopped>
-        requires { self.old.number + length (ended_in bytes.now) < 2 ^ 64 }
-        ensures number { OnOk result
-            (self.new.number ≡ self.old.number + length (ended_in bytes.now)) }
-        ensures ok { (s : Subject) (r : Reached) (more : List (List ℕ)) →
-            ComesTo self.old (ended_in bytes.now ++ more) s r →
-            OnOk result (ComesTo self.new more s r) }
-        ensures err { (s : Subject) (r : Reached) (more : List (List ℕ)) →
-            ComesTo self.old (ended_in bytes.now ++ more) s r → IfErr result (StopsAt r) }
-    {
-        let mut left = bytes;
-        while let Some((line, behind)) = first_line(left) {
-            self.check(alloc, line)?;
-            left = behind;
         }
         Ok(())
     }

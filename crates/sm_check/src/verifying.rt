@@ -18,7 +18,8 @@ ghost use Rattle.sm_check.specs.Stops.{stopped_answer};
 ghost use Rattle.sm_check.specs.declared.verifying.CheckError.TheVariants.{Memory as no_memory};
 
 use crate::aside::Aside;
-use crate::checker::{Checker, State};
+use crate::checker::Checker;
+use crate::ending::at_end;
 use crate::fault::Stopped;
 use crate::jobs::Crew;
 use crate::pieces::take_piece;
@@ -265,7 +266,7 @@ fn answer_at_end<R: Threads + Sync, G: Gate>(
     ensures no_fault { result ≢ Err CheckError.ReadFault }
 {
     match lines.take_aside(crew, alloc, aside) {
-        Ok(()) => Ok(at_end(lines, unfinished)),
+        Ok(()) => Ok(at_end(lines, unfinished.is_empty())),
         Err(stopped) => answer_to(stopped),
     }
 }
@@ -277,29 +278,5 @@ fn answer_to(stopped: Stopped) -> Result<Checked, CheckError>
     match stopped {
         Stopped::Wrong { line, word } => Ok(Checked::Rejected { line, word }),
         Stopped::Memory => Err(CheckError::Memory),
-    }
-}
-
-// The verdict where a file ends.
-fn at_end(lines: &TakenLines, unfinished: &Unfinished) -> Checked
-    ensures { (s : Subject) (bytes : List ℕ) → AreTaken lines.now unfinished.now s bytes →
-        verdict s bytes ≡ verdict_of result }
-{
-    if !unfinished.is_empty() {
-        return missing(lines);
-    }
-    match lines.state {
-        State::Done => Checked::Pass,
-        State::More => missing(lines),
-    }
-}
-
-// The next line is missing, or has no end.
-fn missing(lines: &TakenLines) -> Checked
-    ensures { result ≡ Checked.Rejected lines.now.number Word.Truncated }
-{
-    Checked::Rejected {
-        line: lines.number,
-        word: Word::Truncated,
     }
 }

@@ -25,12 +25,13 @@ use Rattle.sm_commands.specs.Suggest.{is_accepted, AnswersSuggest, Decides, Says
 use Rattle.sm_suggest.specs.Combinations.{choices, combination, hole_count}
 use Rattle.sm_suggest.specs.First.{IsFirst}
 use Rattle.sm_syntax.specs.declared.copies.CopyName.{CopyName}
-use Rattle.sm_commands.specs.Laws.{AreTold, AskAlike, IsPlain, OneAnswer, with_workers}
+use Rattle.sm_commands.specs.Laws.{AreTold, AskAlike, IsPlain, OneAnswer, with_cache, with_workers}
 use Rattle.sm_answers.specs.Lines.{goal_line, input_line, op_word, suggestion_line, summary_line, too_many_line, trial_line}
 use Rattle.sm_commands.specs.Top.{Files, AnswersCommand, AnswersRequest, Checks, Generates, IsAnswerTo}
 use Rattle.sm_display.specs.Print.{canonical_text, Prints}
 use Rattle.sm_display.proofs.ExplainUnique.{explains_same}
-use Rattle.sm_words.specs.Words.{Words, Asked, check, verify, replay, print, suggest, gen, explain, about, asked}
+use Rattle.sm_commands.proofs.BatchUnique.{batches_same, fewer_batches}
+use Rattle.sm_words.specs.Words.{Words, Asked, check, verify, replay, print, suggest, gen, explain, batch, about, asked}
 use Rattle.sm_words.specs.declared.effort.Effort.{Effort}
 use Rattle.sm_answers.specs.declared.status.Status.{Status}
 use Rattle.sm_answers.specs.declared.status.Status.TheVariants.{Accepted, Unknown, WriteFault}
@@ -80,7 +81,7 @@ outcome_same t (outcome.Coefficient node goal op y z) s u l m a b =
     noted_same t Unknown (goal_line (codes "Coefficient") node goal (op_word op ∷ signed_decimal y ∷ signed_decimal z ∷ [])) s u l m a b
 outcome_same t outcome.TooMany s u l m a b = noted_same t Unknown too_many_line s u l m a b
 
-check_same : (t : Parts) (effort : Effort) (s u : Status) (l m : List ℕ) → AnswersCheck t effort s l → AnswersCheck t effort u m
+pub check_same : (t : Parts) (effort : Effort) (s u : Status) (l m : List ℕ) → AnswersCheck t effort s l → AnswersCheck t effort u m
     → Same s l u m
 check_same t effort s u l m a b =
     let one : a.outcome ≡ b.outcome = outcome_one t (reach_of effort) effort.turns a.outcome b.outcome a.found b.found in
@@ -203,6 +204,8 @@ command_same (gen seed size effort) files b n c m s u l k plain told no_fault no
     gen_same seed size effort b n c m s u l k x y
 command_same (explain task input turns) files b n c m s u l k plain told no_fault nor_later whole also x y =
     explains_same files task input turns b n c m s u l k told no_fault nor_later x y
+command_same (batch list cache effort) files b n c m s u l k plain told no_fault nor_later whole also x y =
+    batches_same check_same files list effort b n c m s u l k told no_fault nor_later x y
 command_same (about what) files b n c m s u l k plain told no_fault nor_later whole also x y = says_same refl refl x.says y.says
 
 request_same : (ask : Option Asked) (words : Words) (files : Files) (b n c m : ℕ) (s u : Status) (l k : List ℕ)
@@ -289,6 +292,7 @@ fewer_workers (replay task input turns) workers files b n s l x = x
 fewer_workers (print task copy) workers files b n s l x = x
 fewer_workers (suggest task effort) workers files b n s l x = fewer_suggests (files task) effort workers b n s l x
 fewer_workers (explain task input turns) workers files b n s l x = x
+fewer_workers (batch list cache effort) workers files b n s l x = fewer_batches files list effort workers b n s l x
 fewer_workers (about what) workers files b n s l x = x
 fewer_workers (gen seed size effort) workers files b n s l x =
     record {
@@ -301,15 +305,28 @@ fewer_workers (gen seed size effort) workers files b n s l x =
           };
     }
 
+-- nor does it depend on how many answers are kept
+any_cache : (ask : Asked) (cache : ℕ) (files : Files) (b n : ℕ) (s : Status) (l : List ℕ)
+    → AnswersCommand (with_cache cache ask) files b n s l → AnswersCommand ask files b n s l
+any_cache (check task proof effort) cache files b n s l x = x
+any_cache (verify task proof workers) cache files b n s l x = x
+any_cache (replay task input turns) cache files b n s l x = x
+any_cache (print task copy) cache files b n s l x = x
+any_cache (suggest task effort) cache files b n s l x = x
+any_cache (gen seed size effort) cache files b n s l x = x
+any_cache (explain task input turns) cache files b n s l x = x
+any_cache (batch list others effort) cache files b n s l x = x
+any_cache (about what) cache files b n s l x = x
+
 -- an answer to words is one to those that ask alike
 alike_answers : (words others : Words) (files : Files) (b n : ℕ) (s : Status) (l : List ℕ) → AskAlike words others
     → IsAnswerTo others files b n s l → IsAnswerTo words files b n s l
 alike_answers words others files b n s l (inl same) x = subst (λ (ws : Words). IsAnswerTo ws files b n s l) same x
 alike_answers words others files b n s l (inr alike) x =
-    let given : AnswersCommand (with_workers alike.1 alike.0) files b n s l =
-    subst (λ (a : Option Asked). AnswersRequest a others files b n s l) alike.3 x in
-    subst (λ (a : Option Asked). AnswersRequest a words files b n s l) (sym alike.2)
-    (fewer_workers alike.0 alike.1 files b n s l given)
+    let given : AnswersCommand (with_cache alike.2 (with_workers alike.1 alike.0)) files b n s l =
+    subst (λ (a : Option Asked). AnswersRequest a others files b n s l) alike.4 x in
+    subst (λ (a : Option Asked). AnswersRequest a words files b n s l) (sym alike.3)
+    (fewer_workers alike.0 alike.1 files b n s l (any_cache (with_workers alike.1 alike.0) alike.2 files b n s l given))
 
 pub answer_one : OneAnswer
 answer_one words others files before now earlier later status other line text plain alike told no_fault whole x nor_later also y =

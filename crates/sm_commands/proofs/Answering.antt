@@ -16,13 +16,14 @@ use Rattle.sm_commands.specs.Check.{SaysOutcome}
 use Rattle.sm_commands.specs.Deeper.{AnswersTask}
 use Rattle.sm_eval.specs.StoredValues.{meaning}
 use Rattle.sm_answers.specs.Status.{Says}
-use Rattle.sm_words.specs.Words.{Words, Asked, check, verify, replay, print, suggest, gen, explain, about, asked, usage_line, IsUsage}
+use Rattle.sm_words.specs.Words.{Words, Asked, check, verify, replay, print, suggest, gen, explain, batch, about, asked, usage_line, IsUsage}
 use Rattle.sm_words.specs.declared.effort.Effort.{Effort}
 use Rattle.sm_answers.specs.declared.status.Status.{Status}
 use Rattle.sm_answers.specs.declared.status.Status.TheVariants.{Accepted, Refused, Usage, ReadFault, Memory, SinkFault}
 use Rattle.sm_words.proofs.Usage.{usage_asks_nothing}
 use Rattle.sm_answers.proofs.Statuses.{IsOfCommand, IsToCommand, without_task, replay_to_command, verify_to_command}
 use Rattle.sm_display.proofs.Begins.{explain_to_command}
+use Rattle.sm_commands.proofs.BatchStatuses.{batch_to_command}
 use Rattle.sm_commands.proofs.Statuses.{about_to_command, check_to_command, gen_to_command, print_to_command}
 use Rattle.sm_commands.proofs.Statuses.{shown_status, suggest_to_command}
 use Rattle.sm_answers.proofs.Answering.{accepted_passes, fault_not_accepted}
@@ -97,6 +98,7 @@ asked_accepts (print file copy) files before now status text a e task is = absur
 asked_accepts (suggest file effort) files before now status text a e task is = absurd (no_file task is)
 asked_accepts (gen seed size effort) files before now status text a e task is = absurd (no_file task is)
 asked_accepts (explain file input turns) files before now status text a e task is = absurd (no_file task is)
+asked_accepts (batch list cache effort) files before now status text a e task is = absurd (no_file task is)
 asked_accepts (about what) files before now status text a e task is = absurd (no_file task is)
 
 pub accepts : (words : Words) (files : Files) (before now : ℕ) (status : Status) (text : List ℕ)
@@ -154,6 +156,8 @@ sound words files before now status text answers = go (asked words) refl answers
     by (gen seed size effort) e a = plain (gen seed size effort) e (gen_to_command seed size effort before now status text a)
     by (explain task input turns) e a =
         plain (explain task input turns) e (explain_to_command files task input turns before now status text a)
+    by (batch list cache effort) e a =
+        plain (batch list cache effort) e (batch_to_command files list effort before now status text a)
     by (about what) e a = plain (about what) e (about_to_command what before now status text a)
 
     go : (ask : Option Asked) → asked words ≡ ask → AnswersRequest ask words files before now status text → IsSound words before now status text

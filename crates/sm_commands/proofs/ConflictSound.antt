@@ -29,7 +29,7 @@ use Rattle.sm_commands.specs.Suggest.{AnswersSuggest, SaysSuggestion, Suggests}
 use Rattle.sm_syntax.specs.declared.copies.CopyName.{CopyName}
 use Rattle.sm_answers.specs.File.{GivesTask}
 use Rattle.sm_answers.specs.Replay.{GivesInput, Replays, ReplaysInput}
-use Rattle.sm_words.specs.Words.{Words, Asked, check, verify, replay, print, suggest, gen, explain, about, asked, task_file}
+use Rattle.sm_words.specs.Words.{Words, Asked, check, verify, replay, print, suggest, gen, explain, batch, about, asked, task_file}
 use Rattle.sm_words.specs.declared.effort.Effort.{Effort}
 use Rattle.sm_answers.specs.declared.status.Status.{Status}
 use Rattle.sm_answers.specs.declared.status.Status.TheVariants.{Conflict}
@@ -195,6 +195,7 @@ asked_conflicts (gen seed size effort) files before now status text a e task is 
 asked_conflicts (explain file input turns) files before now status text a e task is =
     subst (λ (f : List ℕ). WhereHeld (files f) IsUnsafeMerge) (same_file file task is)
     (explain_conflicts files file input turns before now status text a e)
+asked_conflicts (batch list cache effort) files before now status text a e task is = absurd (no_file task is)
 asked_conflicts (about what) files before now status text a e task is = absurd (no_file task is)
 
 pub conflicts : (words : Words) (files : Files) (before now : ℕ) (status : Status) (text : List ℕ)

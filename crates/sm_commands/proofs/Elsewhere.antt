@@ -8,11 +8,11 @@ use Rattle.clap.specs.Walk.{Text}
 use Rattle.sm_commands.specs.Top.{WritesElsewhere}
 use Rattle.sm_words.specs.declared.effort.Effort.{Effort}
 use Rattle.sm_syntax.specs.declared.copies.CopyName.{CopyName}
-use Rattle.sm_words.specs.Numbers.{copy_by, seed_by, size_by, turns_by, workers_by}
-use Rattle.sm_words.specs.Words.{Words, Asked, check, verify, replay, print, suggest, gen, explain, about, word_faults, asked, asked_by, asked_where, check_by}
+use Rattle.sm_words.specs.Numbers.{cache_by, copy_by, seed_by, size_by, turns_by, workers_by}
+use Rattle.sm_words.specs.Words.{Words, Asked, check, verify, replay, print, suggest, gen, explain, batch, about, word_faults, asked, asked_by, asked_where, check_by}
 use Rattle.sm_words.specs.Words.{argument_text, effort_in, verb_of, unless}
 use Rattle.sm_words.specs.declared.command.Verb.{Verb}
-use Rattle.sm_words.specs.declared.command.Verb.TheVariants.{Check, Verify, Replay, Print, Suggest, Gen, Explain, About}
+use Rattle.sm_words.specs.declared.command.Verb.TheVariants.{Check, Verify, Replay, Print, Suggest, Gen, Explain, Batch, About}
 
 same_ask : (p q : Asked) → Some p ≡ Some q → p ≡ q
 same_ask p q e = cc
@@ -85,6 +85,17 @@ other_elsewhere Explain words ask e =
     explain_elsewhere None input turns ask e = absurd (no_ask ask e)
     explain_elsewhere (Some t) input None ask e = absurd (no_ask ask e)
     explain_elsewhere (Some t) input (Some n) ask e = subst WritesElsewhere (same_ask (explain t input n) ask e) tt
+other_elsewhere Batch words ask e =
+    batch_elsewhere (argument_text Batch (codes "LIST") words) (cache_by (argument_text Batch (codes "cache") words))
+    (effort_in Batch words) ask e
+  where
+    batch_elsewhere : (list : Option Text) (cache : Option ℕ) (effort : Option Effort) (ask : Asked)
+        → option_and_then (λ (l : Text). option_and_then (λ (n : ℕ). option_map (λ (e : Effort). batch l n e) effort) cache) list
+        ≡ Some ask → WritesElsewhere ask
+    batch_elsewhere None cache effort ask e = absurd (no_ask ask e)
+    batch_elsewhere (Some l) None effort ask e = absurd (no_ask ask e)
+    batch_elsewhere (Some l) (Some n) None ask e = absurd (no_ask ask e)
+    batch_elsewhere (Some l) (Some n) (Some f) ask e = subst WritesElsewhere (same_ask (batch l n f) ask e) tt
 other_elsewhere (About what) words ask e = subst WritesElsewhere (same_ask (about what) ask e) tt
 other_elsewhere Gen words ask e =
     gen_elsewhere (seed_by (argument_text Gen (codes "SEED") words)) (size_by (argument_text Gen (codes "SIZE") words))

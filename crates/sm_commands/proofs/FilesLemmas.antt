@@ -22,7 +22,7 @@ use Rattle.sm_answers.specs.ProofFile.{IsBegun}
 use Rattle.sm_answers.specs.Status.{Says}
 use Rattle.sm_commands.specs.Top.{Files, Checks, LeavesBy, LeavesFiles, LeavesPart, LeavesPartBy}
 use Rattle.sm_commands.specs.Views.{CountsWrites, EndsWith}
-use Rattle.sm_words.specs.Words.{Asked, check, verify, replay, print, suggest, gen, explain, about}
+use Rattle.sm_words.specs.Words.{Asked, check, verify, replay, print, suggest, gen, explain, batch, about}
 use Rattle.sm_words.specs.declared.effort.Effort.{Effort}
 use Rattle.sm_answers.specs.declared.exit.Exit.{Exit}
 use Rattle.sm_answers.specs.declared.exit.Exit.TheVariants as stopped
@@ -145,6 +145,7 @@ same_by (Some (print task copy)) before now s h name never = h name
 same_by (Some (suggest task effort)) before now s h name never = h name
 same_by (Some (gen seed size effort)) before now s h name never = h name
 same_by (Some (explain task input turns)) before now s h name never = h name
+same_by (Some (batch list cache effort)) before now s h name never = h name
 same_by (Some (about what)) before now s h name never = h name
 
 pub same_part : (o : Option Asked) (before now : Files) → LeavesPartBy o before now → (name : List ℕ)
@@ -158,6 +159,7 @@ same_part (Some (print task copy)) before now h name never = h name
 same_part (Some (suggest task effort)) before now h name never = h name
 same_part (Some (gen seed size effort)) before now h name never = h name
 same_part (Some (explain task input turns)) before now h name never = h name
+same_part (Some (batch list cache effort)) before now h name never = h name
 same_part (Some (about what)) before now h name never = h name
 
 -- what is left in the file of the proof that `check` is asked for

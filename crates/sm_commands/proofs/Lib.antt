@@ -1,5 +1,7 @@
 pub mod Elsewhere
 pub mod Statuses
+pub mod BatchStatuses
+pub mod BatchUnique
 pub mod Answering
 pub mod SuggestedSafe
 pub mod ConflictSound
@@ -8,3 +10,8 @@ pub mod AnswerUnique
 pub mod FilesLemmas
 pub mod SpelledLemmas
 pub mod ReadingsLemmas
+pub mod BatchTold
+pub mod BatchGiven
+pub mod BatchText
+pub mod BatchSafe
+pub mod BatchAnswers

@@ -11,12 +11,13 @@ use Rattle.sm_syntax.specs.text.Parts.{Parts, task_of}
 use Rattle.sm_answers.specs.Exit.{ExitsWith}
 use Rattle.sm_answers.specs.File.{GivesNoTask}
 use Rattle.sm_commands.specs.Headline.{IsUnsafeMerge, IsViolatedFrom}
+use Rattle.sm_commands.specs.HeadlineBatch.{AcceptsSafeRead}
 use Rattle.sm_commands.specs.HeadlineRead.{AcceptsRead, ConflictsRead, ReadsProved, ReadsTwo, ShowsReadInput, SuggestsRead}
 use Rattle.sm_commands.proofs.SuggestedSafe.{accepted_suggestion}
 use Rattle.sm_commands.specs.Readings.{AnswersByReads, ChecksRead, ProposesRead}
 use Rattle.sm_answers.specs.Readings.{ReadsTask, ReplaysRead, VerifiesRead}
 use Rattle.sm_commands.specs.Top.{AnswersCommand, Files, IsAnswerTo}
-use Rattle.sm_words.specs.Words.{Words, Asked, check as to_check, verify, replay, print, suggest, gen, explain, about, asked}
+use Rattle.sm_words.specs.Words.{Words, Asked, check as to_check, verify, replay, print, suggest, gen, explain, batch, about, asked}
 use Rattle.sm_words.specs.declared.effort.Effort.{Effort}
 use Rattle.sm_answers.specs.declared.exit.Exit.{Exit}
 use Rattle.sm_answers.specs.declared.status.Status.{Status}
@@ -70,6 +71,7 @@ accepted_by (print task copy) before now status text a e = tt
 accepted_by (suggest task effort) before now status text a e = tt
 accepted_by (gen seed size effort) before now status text a e = tt
 accepted_by (explain task input turns) before now status text a e = tt
+accepted_by (batch list cache effort) before now status text a e = tt
 accepted_by (about what) before now status text a e = tt
 
 pub accepts_read : (words : Words) (before now : List Read) (status : Status) (text : List ℕ) →
@@ -136,6 +138,7 @@ conflict_by (explain task None turns) files b n before now status text answers a
     explain_no_conflict (files task) b n status text answers e
 conflict_by (explain task (Some input) turns) files b n before now status text answers a e =
     replayed_by_reads task input turns before now status text a e
+conflict_by (batch list cache effort) files b n before now status text answers a e = tt
 conflict_by (about what) files b n before now status text answers a e = let is = answers.says.ended in cc
 conflict_by (gen seed size effort) files b n before now status text answers a e = tt
 
@@ -183,3 +186,9 @@ pub suggests_read : (words : Words) (before now : List Read) (status : Status) (
     asked words ≡ Some (suggest task effort) → SuggestsRead task before now text
 suggests_read words before now status text a e task effort asks =
     suggested_by task effort before now status text (rw asks at a) e
+
+-- and the files whose lines of `batch` are Accepted
+pub batches_read : (words : Words) (before now : List Read) (status : Status) (text : List ℕ) →
+    AnswersByReads (asked words) before now status text → (list : List ℕ) (cache : ℕ) (effort : Effort) →
+    asked words ≡ Some (batch list cache effort) → AcceptsSafeRead list before now text
+batches_read words before now status text a list cache effort asks = rw asks at a

@@ -14,7 +14,7 @@ use Rattle.sm_proof.specs.Verdicts.{Passes}
 use Rattle.sm_answers.specs.File.{file_limit}
 use Rattle.sm_answers.specs.Lines.{input_line}
 use Rattle.sm_answers.specs.Verify.{proof_limit}
-use Rattle.sm_words.specs.Words.{Asked, check, verify, replay, print, suggest, gen, explain, about}
+use Rattle.sm_words.specs.Words.{Asked, check, verify, replay, print, suggest, gen, explain, batch, about}
 
 -- the file of the task, where it is asked whether its merge is free of conflicts
 abbrev pub merge_file : Asked → Option (List ℕ)
@@ -25,6 +25,7 @@ merge_file (print task copy) = None
 merge_file (suggest task effort) = None
 merge_file (gen seed size effort) = None
 merge_file (explain task input turns) = None
+merge_file (batch list cache effort) = None
 merge_file (about what) = None
 
 -- Accepted of `check` and of `verify`: the bytes spell a task that is free of conflicts

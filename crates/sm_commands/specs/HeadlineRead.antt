@@ -6,7 +6,7 @@ use Rattle.sm_io.specs.Reads.{Read, ReadsWhole}
 use Rattle.sm_commands.specs.Headline.{IsProved, IsSafeMerge, IsUnsafeMerge, IsViolatedFrom}
 use Rattle.sm_answers.specs.Lines.{input_line}
 use Rattle.sm_commands.specs.Suggest.{IsSafeSuggestion}
-use Rattle.sm_words.specs.Words.{Asked, check, verify, replay, print, suggest, gen, explain, about}
+use Rattle.sm_words.specs.Words.{Asked, check, verify, replay, print, suggest, gen, explain, batch, about}
 
 -- the one file was read, in one pass to its end, and no other; of its bytes this holds
 abbrev pub ReadsOne : List ℕ → List Read → List Read → (List ℕ → Type 0) → Type 0
@@ -30,6 +30,7 @@ AcceptsRead (print task copy) before now = Unit {0}
 AcceptsRead (suggest task effort) before now = Unit {0}
 AcceptsRead (gen seed size effort) before now = Unit {0}
 AcceptsRead (explain task input turns) before now = Unit {0}
+AcceptsRead (batch list cache effort) before now = Unit {0}
 AcceptsRead (about what) before now = Unit {0}
 
 -- Accepted of `verify`, and nothing else: the task was read, and then a proof that passes for it
@@ -52,6 +53,7 @@ ConflictsRead (explain task None turns) before now = ⊥
 ConflictsRead (explain task (Some input) turns) before now =
     ReadsTwo task input before now (λ (bytes given : List ℕ).
     IsUnsafeMerge bytes × IsViolatedFrom given turns bytes)
+ConflictsRead (batch list cache effort) before now = Unit {0}
 ConflictsRead (about what) before now = ⊥
 
 -- Conflict of `check`: the text ends with the line of an input that shows a conflict of the task

@@ -3,7 +3,7 @@ use Rattle.std.specs.Prelude.{◌≡◌, ◌≢◌, ◌⊎◌, ℕ, false, List,
 use Rattle.sm_io.specs.Causes.{Rose}
 use Rattle.sm_io.specs.Files.{untold}
 use Rattle.sm_commands.specs.Top.{Files, IsAnswerTo}
-use Rattle.sm_words.specs.Words.{Words, Asked, check, verify, replay, print, suggest, gen, explain, about}
+use Rattle.sm_words.specs.Words.{Words, Asked, check, verify, replay, print, suggest, gen, explain, batch, about}
 use Rattle.sm_words.specs.Words.{asked}
 use Rattle.sm_answers.specs.declared.status.Status.{Status}
 use Rattle.sm_answers.specs.declared.status.Status.TheVariants.{WriteFault}
@@ -24,7 +24,21 @@ with_workers workers (suggest task effort) =
 with_workers workers (gen seed size effort) =
     gen seed size (record effort { workers = workers })
 with_workers workers (explain task input turns) = explain task input turns
+with_workers workers (batch list cache effort) =
+    batch list cache (record effort { workers = workers })
 with_workers workers (about what) = about what
+
+-- what is asked for, where the accepting answers of another number of tasks are kept
+abbrev pub with_cache : ℕ → Asked → Asked
+with_cache cache (check task proof effort) = check task proof effort
+with_cache cache (verify task proof workers) = verify task proof workers
+with_cache cache (replay task input turns) = replay task input turns
+with_cache cache (print task copy) = print task copy
+with_cache cache (suggest task effort) = suggest task effort
+with_cache cache (gen seed size effort) = gen seed size effort
+with_cache cache (explain task input turns) = explain task input turns
+with_cache cache (batch list others effort) = batch list cache effort
+with_cache cache (about what) = about what
 
 -- no inputs beyond the trials are asked for
 abbrev pub IsPlain : Asked → Type 0
@@ -35,20 +49,23 @@ IsPlain (print task copy) = Unit {0}
 IsPlain (suggest task effort) = Unit {0}
 IsPlain (gen seed size effort) = Unit {0}
 IsPlain (explain task input turns) = Unit {0}
+IsPlain (batch list cache effort) = Unit {0}
 IsPlain (about what) = Unit {0}
 
 -- the words don't ask for them
 abbrev pub AskPlainly : Words → Type 0
 AskPlainly words = (ask : Asked) → asked words ≡ Some ask → IsPlain ask
 
--- the words are the same, or they ask for the same with another number of workers
+-- the words are the same, or they ask for the same with another number of workers, or of tasks whose
+-- answers are kept
 abbrev pub AskAlike : Words → Words → Type 0
 AskAlike words others =
-    (others ≡ words) ⊎ ((ask : Asked) × (workers : ℕ)
-    × (asked words ≡ Some ask) × (asked others ≡ Some (with_workers workers ask)))
+    (others ≡ words) ⊎ ((ask : Asked) × (workers cache : ℕ) × (asked words ≡ Some ask)
+    × (asked others ≡ Some (with_cache cache (with_workers workers ask))))
 
 -- two answers to words that ask alike and told files, each without a fault to read or to write, are
--- equal, where no inputs beyond the trials are asked for: a number of workers changes no byte
+-- equal, where no inputs beyond the trials are asked for: a number of workers, or of tasks whose answers
+-- are kept, changes no byte
 abbrev pub OneAnswer : Type 0
 OneAnswer =
     (words others : Words) (files : Files) (before now earlier later : ℕ)

@@ -8,4 +8,8 @@ pub mod Gen
 pub mod Suggest
 pub mod Deeper
 pub mod ProofFile
+pub mod Batch
+pub mod HeadlineBatch
+pub mod Taken
+pub mod BatchSteps
 pub mod Views

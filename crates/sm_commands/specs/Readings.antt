@@ -4,8 +4,9 @@ use Rattle.std.specs.Prelude.{◌≢◌, ◌⊎◌, ℕ, List, Option, Some, Non
 use Rattle.sm_io.specs.Reads.{Read}
 use Rattle.sm_syntax.specs.text.Parts.{Parts}
 use Rattle.sm_commands.specs.Deeper.{AnswersTask}
+use Rattle.sm_commands.specs.HeadlineBatch.{AcceptsSafeRead}
 use Rattle.sm_commands.specs.Suggest.{AnswersSuggest}
-use Rattle.sm_words.specs.Words.{Asked, check, verify, replay, print, suggest, gen, explain, about}
+use Rattle.sm_words.specs.Words.{Asked, check, verify, replay, print, suggest, gen, explain, batch, about}
 use Rattle.sm_words.specs.declared.effort.Effort.{Effort}
 use Rattle.sm_answers.specs.declared.status.Status.{Status}
 use Rattle.sm_answers.specs.declared.status.Status.TheVariants.{Accepted, Conflict}
@@ -38,5 +39,7 @@ AnswersByReads (Some (suggest task effort)) before now status text =
 AnswersByReads (Some (gen seed size effort)) before now status text = Unit {0}
 AnswersByReads (Some (explain task input turns)) before now status text =
     ExplainsRead task input turns before now status text
+AnswersByReads (Some (batch list cache effort)) before now status text =
+    AcceptsSafeRead list before now text
 AnswersByReads (Some (about what)) before now status text = Unit {0}
 AnswersByReads None before now status text = Unit {0}

@@ -7,6 +7,7 @@ use Rattle.sm_io.specs.Sinks.{Adds}
 use Rattle.sm_proof.specs.declared.word.Word.{Word}
 use Rattle.sm_syntax.specs.text.Parts.{Parts}
 use Rattle.sm_answers.specs.File.{GivesTask, GivesNoTask}
+use Rattle.sm_commands.specs.Batch.{Batches}
 use Rattle.sm_commands.specs.Gen.{AnswersGen}
 use Rattle.sm_commands.specs.Deeper.{AnswersTask}
 use Rattle.sm_commands.specs.ProofFile.{LeavesFront, LeavesProof}
@@ -18,7 +19,7 @@ use Rattle.sm_display.specs.Explain.{Explains}
 use Rattle.sm_display.specs.Print.{Prints}
 use Rattle.sm_words.specs.About.{about_text}
 use Rattle.sm_words.specs.Words.{Words, Asked, check, verify, replay, print, suggest, gen}
-use Rattle.sm_words.specs.Words.{explain, about}
+use Rattle.sm_words.specs.Words.{explain, batch, about}
 use Rattle.sm_words.specs.Words.{asked, usage_line, IsUsage}
 use Rattle.sm_words.specs.declared.about.About.{About}
 use Rattle.sm_words.specs.declared.effort.Effort.{Effort}
@@ -80,6 +81,8 @@ AnswersCommand (gen seed size effort) files before now status text =
     Generates seed size effort before now status text
 AnswersCommand (explain task input turns) files before now status text =
     Explains files task input turns before now status text
+AnswersCommand (batch list cache effort) files before now status text =
+    Batches files list effort before now status text
 AnswersCommand (about what) files before now status text = Tells what before now status text
 
 -- what is left in the files by the answer to what is asked for: `check` alone writes, and to the
@@ -94,6 +97,7 @@ LeavesFiles (print task copy) before status now = IsUnchanged before now
 LeavesFiles (suggest task effort) before status now = IsUnchanged before now
 LeavesFiles (gen seed size effort) before status now = IsUnchanged before now
 LeavesFiles (explain task input turns) before status now = IsUnchanged before now
+LeavesFiles (batch list cache effort) before status now = IsUnchanged before now
 LeavesFiles (about what) before status now = IsUnchanged before now
 
 -- what may be left in the files where memory is wanting
@@ -107,6 +111,7 @@ LeavesPart (print task copy) before now = IsUnchanged before now
 LeavesPart (suggest task effort) before now = IsUnchanged before now
 LeavesPart (gen seed size effort) before now = IsUnchanged before now
 LeavesPart (explain task input turns) before now = IsUnchanged before now
+LeavesPart (batch list cache effort) before now = IsUnchanged before now
 LeavesPart (about what) before now = IsUnchanged before now
 
 -- what is answered to words that ask for this, or for nothing
@@ -139,6 +144,7 @@ WritesElsewhere (print task copy) = Unit {0}
 WritesElsewhere (suggest task effort) = Unit {0}
 WritesElsewhere (gen seed size effort) = Unit {0}
 WritesElsewhere (explain task input turns) = Unit {0}
+WritesElsewhere (batch list cache effort) = Unit {0}
 WritesElsewhere (about what) = Unit {0}
 
 -- the words ask for `verify`

@@ -13,11 +13,12 @@ ghost use Rattle.sm_answers.specs.Exit.{ExitsWith};
 ghost use Rattle.sm_answers.specs.File.{file_limit};
 ghost use Rattle.sm_words.specs.Views.{asked_in, IsWithin};
 ghost use Rattle.sm_words.specs.Words.{Asked, asked, check, verify, replay, suggest, explain};
-ghost use Rattle.sm_words.specs.Words.{task_file, IsUsage};
+ghost use Rattle.sm_words.specs.Words.{batch, task_file, IsUsage};
 ghost use Rattle.sm_words.specs.declared.effort.Effort.{Effort};
 ghost use Rattle.sm_commands.specs.Check.{reach_of};
 ghost use Rattle.sm_commands.specs.Headline.{merge_file, IsProved, IsSafeMerge, IsUnsafeMerge};
 ghost use Rattle.sm_commands.specs.Headline.{IsShownByInput, ShowsInput};
+ghost use Rattle.sm_commands.specs.HeadlineBatch.{AcceptsSafe, AcceptsSafeRead};
 ghost use Rattle.sm_commands.specs.HeadlineRead.{AcceptsRead, ConflictsRead, ReadsProved};
 ghost use Rattle.sm_commands.specs.HeadlineRead.{ShowsReadInput, SuggestsRead};
 ghost use Rattle.sm_commands.specs.ProofFile.{HoldsProof, IsTaskIn, LeavesCut, LeavesFront};
@@ -28,6 +29,7 @@ ghost use Rattle.sm_commands.specs.Top.{IsPrinted, PutsPart, RejectsProof, Leave
 ghost use Rattle.sm_commands.specs.Top.{LeavesPart, LeavesPartBy, WritesElsewhere};
 ghost use Rattle.sm_commands.specs.Views.{CountsWrites, EndsWith};
 
+use crate::batching::batch_in;
 use crate::checking::check_in;
 use crate::making::gen_answer;
 use crate::suggesting::suggest_in;
@@ -84,6 +86,11 @@ pub fn safemerge<R: Threads + Sync, G: Gate, H: Shelf, K: Sink>(
         asked (map string_bytes words.now) ≡ Some (suggest task effort) → (text : List ℕ)
         × WhereHeld (H.file shelf.old task) (IsSafeSuggestion text)
         × Adds (K.taken out.old) (K.taken out.new) text }
+    // Where `batch` prints `I Accepted`, the file with the I-th name of its list spells a task that is
+    // free of conflicts.
+    ensures batched { IsPrinted result → (list : List ℕ) (cache : ℕ) (effort : Effort) →
+        asked (map string_bytes words.now) ≡ Some (batch list cache effort) → (text : List ℕ)
+        × AcceptsSafe (H.file shelf.old) list text × Adds (K.taken out.old) (K.taken out.new) text }
 
     // All this stands of the bytes that were read as well, on every shelf: each file was read once,
     // in one pass to its end, and nothing else was read.
@@ -104,6 +111,11 @@ pub fn safemerge<R: Threads + Sync, G: Gate, H: Shelf, K: Sink>(
     ensures suggested_read { result ≡ Status.Accepted → (task : List ℕ) (effort : Effort) →
         asked (map string_bytes words.now) ≡ Some (suggest task effort) → (text : List ℕ)
         × SuggestsRead task (H.given shelf.old) (H.given shelf.new) text
+        × Adds (K.taken out.old) (K.taken out.new) text }
+    // Of `batch`: the list was read so first, and the file with its I-th name later.
+    ensures batched_read { IsPrinted result → (list : List ℕ) (cache : ℕ) (effort : Effort) →
+        asked (map string_bytes words.now) ≡ Some (batch list cache effort) → (text : List ℕ)
+        × AcceptsSafeRead list (H.given shelf.old) (H.given shelf.new) text
         × Adds (K.taken out.old) (K.taken out.new) text }
 
     // What is printed is the answer, whole.
@@ -277,6 +289,11 @@ fn answer_to<R: Threads + Sync, G: Gate, H: Shelf>(
             Ok(gen_answer(rt, alloc, gate, seed, size, effort)?)
         }
         Request::Explain { task, input, turns } => explain_in(alloc, shelf, task, input, turns),
+        Request::Batch {
+            list,
+            cache,
+            effort,
+        } => batch_in(rt, alloc, gate, shelf, list, cache, effort),
         Request::About(what) => Ok(tell(alloc, what)?),
     }
 }

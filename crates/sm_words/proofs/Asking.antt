@@ -1,14 +1,14 @@
 -- What a command asks for, by the texts that its matches give.
 use Rattle.std.proofs.Common.{◌≡◌, ◌∙◌, ◌⊎◌, inl, inr, [], Option, Some, None, Result, Ok, Err, IfOk, IsErrOf, codes, refl, sym, ap}
 use Rattle.clap.specs.Walk.{Text}
-use Rattle.sm_words.specs.Numbers.{copy_by, effort_by, seed_by, size_by, turns_by, workers_by, HasBadNumber}
+use Rattle.sm_words.specs.Numbers.{cache_by, copy_by, effort_by, seed_by, size_by, turns_by, workers_by, HasBadNumber}
 use Rattle.sm_words.specs.Views.{asked_in}
-use Rattle.sm_words.specs.Words.{Words, asked_by, check_by, verify_by, replay_by, print_by, suggest_by, gen_by, explain_by, word_faults, argument_text, effort_in}
+use Rattle.sm_words.specs.Words.{Words, asked_by, check_by, verify_by, replay_by, print_by, suggest_by, gen_by, explain_by, batch_by, word_faults, argument_text, effort_in}
 use Rattle.sm_words.specs.Words.{IsRefused}
 use Rattle.sm_words.specs.declared.effort.Effort.{Effort}
 use Rattle.sm_words.specs.declared.words.Request.{Request}
 use Rattle.sm_words.specs.declared.command.Verb.{Verb}
-use Rattle.sm_words.specs.declared.command.Verb.TheVariants.{Check, Verify, Replay, Print, Suggest, Gen, Explain, About}
+use Rattle.sm_words.specs.declared.command.Verb.TheVariants.{Check, Verify, Replay, Print, Suggest, Gen, Explain, Batch, About}
 use Rattle.sm_words.specs.declared.words.WordsError.{WordsError}
 use Rattle.sm_words.specs.declared.words.WordsError.TheVariants.{Usage}
 
@@ -61,6 +61,7 @@ asks_check Print words f r is free texts ok bad = cc
 asks_check Gen words f r is free texts ok bad = cc
 asks_check Suggest words f r is free texts ok bad = cc
 asks_check Explain words f r is free texts ok bad = cc
+asks_check Batch words f r is free texts ok bad = cc
 asks_check (About what) words f r is free texts ok bad = cc
 
 pub asks_gen : (verb : Verb) (words : Words) (f : Text → Option Text) (r : Result Request WordsError) → verb ≡ Gen
@@ -89,6 +90,7 @@ asks_gen Replay words f r is free texts ok bad = cc
 asks_gen Print words f r is free texts ok bad = cc
 asks_gen Suggest words f r is free texts ok bad = cc
 asks_gen Explain words f r is free texts ok bad = cc
+asks_gen Batch words f r is free texts ok bad = cc
 asks_gen (About what) words f r is free texts ok bad = cc
 
 pub asks_verify : (verb : Verb) (words : Words) (f : Text → Option Text) (r : Result Request WordsError) → verb ≡ Verify
@@ -109,6 +111,7 @@ asks_verify Replay words f r is free texts ok bad = cc
 asks_verify Print words f r is free texts ok bad = cc
 asks_verify Suggest words f r is free texts ok bad = cc
 asks_verify Explain words f r is free texts ok bad = cc
+asks_verify Batch words f r is free texts ok bad = cc
 asks_verify (About what) words f r is free texts ok bad = cc
 
 pub asks_replay : (verb : Verb) (words : Words) (f : Text → Option Text) (r : Result Request WordsError) → verb ≡ Replay
@@ -129,6 +132,7 @@ asks_replay Verify words f r is free texts ok bad = cc
 asks_replay Print words f r is free texts ok bad = cc
 asks_replay Suggest words f r is free texts ok bad = cc
 asks_replay Explain words f r is free texts ok bad = cc
+asks_replay Batch words f r is free texts ok bad = cc
 asks_replay (About what) words f r is free texts ok bad = cc
 
 same_print : {a b a' b' : Option Text} → a ≡ a' → b ≡ b' → print_by a b ≡ print_by a' b'
@@ -155,6 +159,7 @@ asks_print Verify words f r is free texts ok bad = cc
 asks_print Replay words f r is free texts ok bad = cc
 asks_print Suggest words f r is free texts ok bad = cc
 asks_print Explain words f r is free texts ok bad = cc
+asks_print Batch words f r is free texts ok bad = cc
 asks_print (About what) words f r is free texts ok bad = cc
 
 pub asks_suggest : (verb : Verb) (words : Words) (f : Text → Option Text) (r : Result Request WordsError) → verb ≡ Suggest
@@ -175,6 +180,7 @@ asks_suggest Verify words f r is free texts ok bad = cc
 asks_suggest Replay words f r is free texts ok bad = cc
 asks_suggest Print words f r is free texts ok bad = cc
 asks_suggest Explain words f r is free texts ok bad = cc
+asks_suggest Batch words f r is free texts ok bad = cc
 asks_suggest (About what) words f r is free texts ok bad = cc
 
 same_explain : {a b c a' b' c' : Option Text} → a ≡ a' → b ≡ b' → c ≡ c' → explain_by a b c ≡ explain_by a' b' c'
@@ -198,4 +204,32 @@ asks_explain Replay words f r is free texts ok bad = cc
 asks_explain Print words f r is free texts ok bad = cc
 asks_explain Suggest words f r is free texts ok bad = cc
 asks_explain Gen words f r is free texts ok bad = cc
+asks_explain Batch words f r is free texts ok bad = cc
 asks_explain (About what) words f r is free texts ok bad = cc
+
+same_batch : {a b a' b' : Option Text} {e e' : Option Effort} → a ≡ a' → b ≡ b' → e ≡ e' → batch_by a b e ≡ batch_by a' b' e'
+same_batch p q r = rw (p, q, r) refl
+
+pub asks_batch : (verb : Verb) (words : Words) (f : Text → Option Text) (r : Result Request WordsError) → verb ≡ Batch
+    → word_faults verb words ≡ [] → ((id : Text) → f id ≡ argument_text verb id words) →
+    IfOk r (λ (q : Request). batch_by (f (codes "LIST")) (f (codes "cache")) (effort_by f) ≡ Some (asked_in q))
+    → (IsErrOf r Usage → (cache_by (f (codes "cache")) ≡ None) ⊎ (effort_by f ≡ None)) → Asks verb words r
+asks_batch Batch words f (Ok q) is free texts ok bad = record {
+  ok = (free, sym (same_batch (texts (codes "LIST")) (texts (codes "cache")) (given_effort Batch words f texts)) ∙ ok);
+  usage = λ u. cc;
+}
+asks_batch Batch words f (Err e) is free texts ok bad = record {
+  ok = tt;
+  usage = λ u. inr (elim (bad u) [
+    | inl none ↦ inl (sym (ap cache_by (texts (codes "cache"))) ∙ none)
+    | inr none ↦ inr (sym (given_effort Batch words f texts) ∙ none)
+  ]);
+}
+asks_batch Check words f r is free texts ok bad = cc
+asks_batch Verify words f r is free texts ok bad = cc
+asks_batch Replay words f r is free texts ok bad = cc
+asks_batch Print words f r is free texts ok bad = cc
+asks_batch Suggest words f r is free texts ok bad = cc
+asks_batch Gen words f r is free texts ok bad = cc
+asks_batch Explain words f r is free texts ok bad = cc
+asks_batch (About what) words f r is free texts ok bad = cc

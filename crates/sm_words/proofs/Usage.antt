@@ -6,12 +6,12 @@ use Rattle.std.specs.Str.{bytes_eq}
 use Rattle.std.proofs.lemmas.Slice.Eq.{bytes_eq-Decides}
 use Rattle.clap.specs.Walk.{Text}
 use Rattle.sm_words.specs.declared.effort.Effort.{Effort}
-use Rattle.sm_words.specs.Numbers.{copy_by, seed_by, size_by, turns_by, workers_by, HasBadNumber}
-use Rattle.sm_words.specs.Words.{Words, Asked, check, replay, gen, asked, asked_by, asked_where, check_by, verify_by, replay_by, print_by, suggest_by, gen_by}
-use Rattle.sm_words.specs.Words.{explain_by}
+use Rattle.sm_words.specs.Numbers.{cache_by, copy_by, seed_by, size_by, turns_by, workers_by, HasBadNumber}
+use Rattle.sm_words.specs.Words.{Words, Asked, check, replay, gen, batch, asked, asked_by, asked_where, check_by, verify_by, replay_by, print_by, suggest_by, gen_by}
+use Rattle.sm_words.specs.Words.{batch_by, explain_by}
 use Rattle.sm_words.specs.Words.{argument_text, effort_in, verb_of, unless, HasBadOption, IsRefused, IsUsage}
 use Rattle.sm_words.specs.declared.command.Verb.{Verb}
-use Rattle.sm_words.specs.declared.command.Verb.TheVariants.{Check, Verify, Replay, Print, Suggest, Gen, Explain, About}
+use Rattle.sm_words.specs.declared.command.Verb.TheVariants.{Check, Verify, Replay, Print, Suggest, Gen, Explain, Batch, About}
 
 -- a file isn't another of the same name
 one_file : (file : Text) (other : Option Asked) → (if bytes_eq file file then None else other) ≡ None
@@ -65,6 +65,14 @@ no_explain : (task input turns : Option Text) → turns_by turns ≡ None → ex
 no_explain None input turns e = refl
 no_explain (Some file) input turns e = rw e refl
 
+no_batch : (list cache : Option Text) (effort : Option Effort) → (cache_by cache ≡ None) ⊎ (effort ≡ None)
+    → batch_by list cache effort ≡ None
+no_batch None cache effort h = refl
+no_batch (Some file) cache effort (inl e) = rw e refl
+no_batch (Some file) cache effort (inr e) =
+    rw e (elim (cache_by cache) as
+    (λ o. option_and_then (λ (n : ℕ). option_map (λ (f : Effort). batch file n f) None) o ≡ None) [ None ↦ refl | Some n ↦ refl ])
+
 none_asked : (verb : Verb) (words : Words) → HasBadOption verb words → asked_by verb words ≡ None
 none_asked Check words h =
     no_check (argument_text Check (codes "TASK") words) (argument_text Check (codes "PROOF") words) (effort_in Check words) h
@@ -79,6 +87,8 @@ none_asked Suggest words h = no_suggest (argument_text Suggest (codes "TASK") wo
 none_asked Explain words h =
     no_explain (argument_text Explain (codes "TASK") words) (argument_text Explain (codes "INPUT") words)
     (argument_text Explain (codes "turns") words) h
+none_asked Batch words h =
+    no_batch (argument_text Batch (codes "LIST") words) (argument_text Batch (codes "cache") words) (effort_in Batch words) h
 none_asked (About what) words h = absurd h
 none_asked Gen words h =
     no_gen (argument_text Gen (codes "SEED") words) (argument_text Gen (codes "SIZE") words) (effort_in Gen words) h

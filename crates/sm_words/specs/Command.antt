@@ -7,7 +7,7 @@ use Rattle.sm_words.specs.declared.about.About.{About}
 use Rattle.sm_words.specs.declared.about.About.TheVariants.{Help, Version}
 use Rattle.sm_words.specs.declared.command.Verb.{Verb}
 use Rattle.sm_words.specs.declared.command.Verb.TheVariants.{Check, Verify, Replay, Print, Suggest}
-use Rattle.sm_words.specs.declared.command.Verb.TheVariants.{Gen, Explain}
+use Rattle.sm_words.specs.declared.command.Verb.TheVariants.{Gen, Explain, Batch}
 use Rattle.sm_words.specs.declared.command.Verb.TheVariants as verb
 
 -- a word that has to be there
@@ -86,6 +86,13 @@ explain_command =
     (optional_word (codes "INPUT")))
     (option_word (codes "turns"))
 
+-- batch LIST [--cache N] [--steps N] [--turns N] [--workers N] [--exact]
+unfoldable pub batch_command : App
+batch_command =
+    with_effort (with_rule (with_rule (new_app (codes "batch"))
+    (required_word (codes "LIST")))
+    (option_word (codes "cache")))
+
 -- help, or version
 unfoldable pub about_command : About → App
 about_command Help = new_app (codes "help")
@@ -100,4 +107,5 @@ command_of Print = print_command
 command_of Suggest = suggest_command
 command_of Gen = gen_command
 command_of Explain = explain_command
+command_of Batch = batch_command
 command_of (verb.About what) = about_command what

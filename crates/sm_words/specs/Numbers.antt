@@ -37,6 +37,10 @@ turns_by = number_or 10000 1 1000000
 abbrev pub workers_by : Option Text → Option ℕ
 workers_by = number_or 1 1 64
 
+-- of how many tasks the accepting answers are kept
+abbrev pub cache_by : Option Text → Option ℕ
+cache_by = number_or 64 1 1000
+
 -- one of the numbers isn't one, or isn't in its range
 abbrev pub HasBadNumber : Option Text → Option Text → Type 0
 HasBadNumber turns workers = (turns_by turns ≡ None) ⊎ (workers_by workers ≡ None)

@@ -9,13 +9,13 @@ use Rattle.clap.specs.Simple.{matches_of}
 use Rattle.clap.specs.Walk.{Text, first_of}
 use Rattle.sm_words.specs.Command.{command_of}
 use Rattle.sm_words.specs.Numbers.{turns_by, workers_by, HasBadNumber, effort_by, seed_by, size_by}
-use Rattle.sm_words.specs.Numbers.{copy_by}
+use Rattle.sm_words.specs.Numbers.{cache_by, copy_by}
 use Rattle.sm_words.specs.declared.about.About.{About}
 use Rattle.sm_words.specs.declared.about.About.TheVariants.{Help, Version}
 use Rattle.sm_words.specs.declared.command.Verb.{Verb}
 use Rattle.sm_words.specs.declared.effort.Effort.{Effort}
 use Rattle.sm_words.specs.declared.command.Verb.TheVariants.{Check, Verify, Replay, Print, Suggest}
-use Rattle.sm_words.specs.declared.command.Verb.TheVariants.{Gen, Explain}
+use Rattle.sm_words.specs.declared.command.Verb.TheVariants.{Gen, Explain, Batch}
 use Rattle.sm_words.specs.declared.command.Verb.TheVariants as verb
 use Rattle.sm_syntax.specs.declared.copies.CopyName.{CopyName}
 
@@ -33,8 +33,9 @@ verb_of word =
     (if bytes_eq word (codes "suggest") then Some Suggest else
     (if bytes_eq word (codes "gen") then Some Gen else
     (if bytes_eq word (codes "explain") then Some Explain else
+    (if bytes_eq word (codes "batch") then Some Batch else
     (if bytes_eq word (codes "help") then Some (verb.About Help) else
-    (if bytes_eq word (codes "version") then Some (verb.About Version) else None))))))))
+    (if bytes_eq word (codes "version") then Some (verb.About Version) else None)))))))))
 
 -- what `clap` finds wrong with the words of a command: nothing where the command takes them
 unfoldable pub word_faults : Verb → Words → Kinds
@@ -64,6 +65,8 @@ HasBadOption Gen words =
     (seed_by (argument_text Gen (codes "SEED") words) ≡ None)
     ⊎ ((size_by (argument_text Gen (codes "SIZE") words) ≡ None) ⊎ (effort_in Gen words ≡ None))
 HasBadOption Explain words = turns_by (argument_text Explain (codes "turns") words) ≡ None
+HasBadOption Batch words =
+    (cache_by (argument_text Batch (codes "cache") words) ≡ None) ⊎ (effort_in Batch words ≡ None)
 HasBadOption (verb.About what) words = ⊥
 
 -- the words are none of the command's: `clap` refuses them, or an option is bad
@@ -93,6 +96,9 @@ pub data Asked : Type 0 where
   -- why a task's file is refused or what its programs are; where an input's file is named, what they
   -- do from it, and where their ends differ
   explain : List ℕ → Option (List ℕ) → ℕ → Asked
+  -- the decision on each task's file that a list's file names, where the accepting answers of so many
+  -- tasks are kept
+  batch : List ℕ → ℕ → Effort → Asked
   -- what the program says of itself
   about : About → Asked
 
@@ -105,6 +111,7 @@ task_file (print task copy) = Some task
 task_file (suggest task effort) = Some task
 task_file (gen seed size effort) = None
 task_file (explain task input turns) = Some task
+task_file (batch list cache effort) = None
 task_file (about what) = None
 
 -- what `check` asks for, by the texts of its arguments
@@ -153,6 +160,13 @@ explain_by task input turns =
     option_and_then (λ (t : Text).
     option_map (λ (n : ℕ). explain t input n) (turns_by turns)) task
 
+-- what `batch` asks for
+abbrev pub batch_by : Option Text → Option Text → Option Effort → Option Asked
+batch_by list cache effort =
+    option_and_then (λ (l : Text).
+    option_and_then (λ (n : ℕ).
+    option_map (λ (e : Effort). batch l n e) effort) (cache_by cache)) list
+
 -- what a command asks for by its words
 abbrev pub asked_by : Verb → Words → Option Asked
 asked_by Check words =
@@ -175,6 +189,9 @@ asked_by Gen words =
 asked_by Explain words =
     explain_by (argument_text Explain (codes "TASK") words)
     (argument_text Explain (codes "INPUT") words) (argument_text Explain (codes "turns") words)
+asked_by Batch words =
+    batch_by (argument_text Batch (codes "LIST") words)
+    (argument_text Batch (codes "cache") words) (effort_in Batch words)
 asked_by (verb.About what) words = Some (about what)
 
 -- the value where there is no fault
@@ -195,6 +212,7 @@ HasRequired Suggest given = is_some (given (codes "TASK")) ≡ true
 HasRequired Gen given =
     (is_some (given (codes "SEED")) ≡ true) × (is_some (given (codes "SIZE")) ≡ true)
 HasRequired Explain given = is_some (given (codes "TASK")) ≡ true
+HasRequired Batch given = is_some (given (codes "LIST")) ≡ true
 HasRequired (verb.About what) given = Unit {0}
 
 -- what the words ask for, where the command takes them
@@ -217,6 +235,7 @@ usage_line_of (Some Print) = codes "Usage print\n"
 usage_line_of (Some Suggest) = codes "Usage suggest\n"
 usage_line_of (Some Gen) = codes "Usage gen\n"
 usage_line_of (Some Explain) = codes "Usage explain\n"
+usage_line_of (Some Batch) = codes "Usage batch\n"
 usage_line_of (Some (verb.About Help)) = codes "Usage help\n"
 usage_line_of (Some (verb.About Version)) = codes "Usage version\n"
 

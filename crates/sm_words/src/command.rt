@@ -2,7 +2,7 @@
 ghost use Rattle.std.specs.Prelude.{◌≡◌, false, IfOk};
 ghost use Rattle.clap.specs.Words.{app_of, rule_of};
 ghost use Rattle.sm_words.specs.Command.{about_command, check_command, command_of, flag_word};
-ghost use Rattle.sm_words.specs.Command.{explain_command, optional_word};
+ghost use Rattle.sm_words.specs.Command.{batch_command, explain_command, optional_word};
 ghost use Rattle.sm_words.specs.Command.{gen_command, option_word, print_command, replay_command};
 ghost use Rattle.sm_words.specs.Command.{required_word, search_command, suggest_command};
 ghost use Rattle.sm_words.specs.Command.{verify_command, with_effort};
@@ -21,6 +21,7 @@ pub enum Verb {
     Suggest,
     Gen,
     Explain,
+    Batch,
     About(About),
 }
 
@@ -36,6 +37,7 @@ pub fn command_of<'a>(alloc: Global, verb: Verb) -> Result<Command<'a>, AllocErr
         Verb::Suggest => suggest_command(alloc),
         Verb::Gen => gen_command(alloc),
         Verb::Explain => explain_command(alloc),
+        Verb::Batch => batch_command(alloc),
         Verb::About(about) => Ok(about_command(alloc, about)),
     }
 }
@@ -159,6 +161,16 @@ fn explain_command<'a>(alloc: Global) -> Result<Command<'a>, AllocError>
         .arg(required_word(alloc, "TASK"))?
         .arg(optional_word(alloc, "INPUT"))?
         .arg(option_word(alloc, "turns"))
+}
+
+#[tactic(auto, unfolding(crate::specs::Command::batch_command))]
+fn batch_command<'a>(alloc: Global) -> Result<Command<'a>, AllocError>
+    ensures { IfOk result (λ c. app_of c ≡ batch_command) }
+{
+    let command = Command::new(alloc, "batch")
+        .arg(required_word(alloc, "LIST"))?
+        .arg(option_word(alloc, "cache"))?;
+    with_effort(alloc, command)
 }
 
 // A command that takes no words.

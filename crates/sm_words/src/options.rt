@@ -2,7 +2,7 @@
 ghost use Rattle.std.specs.Prelude.{◌≡◌, ◌<◌, ◌≤◌, Some, None, option_map, IfOk, IfErr};
 ghost use Rattle.clap.specs.Words.{first_value, found_of};
 ghost use Rattle.sm_words.specs.Numbers.{copy_by, copy_of_word, effort_by, is_given, seed_by};
-ghost use Rattle.sm_words.specs.Numbers.{size_by, steps_by, turns_by, workers_by};
+ghost use Rattle.sm_words.specs.Numbers.{cache_by, size_by, steps_by, turns_by, workers_by};
 ghost use Rattle.sm_words.specs.Views.{HasWorkers};
 
 use crate::effort::Effort;
@@ -97,6 +97,18 @@ fn is_given(text: Option<&str>) -> bool
     match text {
         Some(text) => text == "true",
         None => false,
+    }
+}
+
+/// Of how many tasks the accepting answers are kept.
+pub fn cache_by(text: Option<&str>) -> Result<u32, WordsError>
+    ensures ok { IfOk result (λ n. cache_by (option_map (λ t. t.now) text.entry) ≡ Some n) }
+    ensures range { IfOk result (λ n. (0 < n) × (n ≤ 1000)) }
+    ensures usage { IfErr result (λ _. cache_by (option_map (λ t. t.now) text.entry) ≡ None) }
+{
+    match number_or(64, 1, 1000, text) {
+        Some(most) => Ok(most as u32),
+        None => Err(WordsError::Usage),
     }
 }
 

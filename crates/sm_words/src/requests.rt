@@ -1,13 +1,13 @@
 // What each command asks for, by the texts that its words give.
 ghost use Rattle.std.specs.Prelude.{◌≡◌, ◌⊎◌, true, Some, None, is_some, codes, IfOk, IsErrOf};
 ghost use Rattle.clap.specs.Words.{first_value, found_of};
-ghost use Rattle.sm_words.specs.Numbers.{copy_by, effort_by, seed_by, size_by, turns_by};
-ghost use Rattle.sm_words.specs.Numbers.{workers_by, HasBadNumber};
+ghost use Rattle.sm_words.specs.Numbers.{cache_by, copy_by, effort_by, seed_by, size_by};
+ghost use Rattle.sm_words.specs.Numbers.{turns_by, workers_by, HasBadNumber};
 ghost use Rattle.sm_words.specs.Views.{asked_in, IsWithin};
 ghost use Rattle.sm_words.specs.Words.{check_by, verify_by, replay_by, print_by, suggest_by, gen_by};
-ghost use Rattle.sm_words.specs.Words.{explain_by};
+ghost use Rattle.sm_words.specs.Words.{batch_by, explain_by};
 
-use crate::options::{copy_by, effort_in, seed_by, size_by, turns_by, workers_by};
+use crate::options::{cache_by, copy_by, effort_in, seed_by, size_by, turns_by, workers_by};
 use crate::words::{Request, WordsError};
 use clap::ArgMatches;
 
@@ -140,6 +140,26 @@ pub fn explain_request<'a>(matches: &ArgMatches<'a>) -> Result<Request<'a>, Word
         task: text_in(matches, "TASK"),
         input: matches.get_str("INPUT"),
         turns,
+    })
+}
+
+/// What `batch` asks for.
+pub fn batch_request<'a>(matches: &ArgMatches<'a>) -> Result<Request<'a>, WordsError>
+    requires { is_some (first_value (found_of matches.now) (codes "LIST")) ≡ true }
+    ensures ok { let given = first_value (found_of matches.now) in IfOk result (λ r.
+        batch_by (given (codes "LIST")) (given (codes "cache")) (effort_by given)
+        ≡ Some (asked_in r)) }
+    ensures usage { let given = first_value (found_of matches.now) in
+        IsErrOf result WordsError.Usage →
+        (cache_by (given (codes "cache")) ≡ None) ⊎ (effort_by given ≡ None) }
+    ensures within { IfOk result IsWithin }
+{
+    let cache = cache_by(matches.get_str("cache"))?;
+    let effort = effort_in(matches)?;
+    Ok(Request::Batch {
+        list: text_in(matches, "LIST"),
+        cache,
+        effort,
     })
 }
 

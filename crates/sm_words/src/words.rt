@@ -12,8 +12,8 @@ use crate::command::{Verb, command_of};
 use crate::effort::Effort;
 use crate::lines::line;
 use crate::requests::{
-    check_request, explain_request, gen_request, print_request, replay_request, suggest_request,
-    verify_request,
+    batch_request, check_request, explain_request, gen_request, print_request, replay_request,
+    suggest_request, verify_request,
 };
 use clap::error::ErrorKind;
 use clap::{ArgMatches, Error};
@@ -64,6 +64,13 @@ pub enum Request<'a> {
         input: Option<&'a str>,
         turns: u64,
     },
+    /// The decision on each task that a list names, where what is accepted of up to `cache` tasks is
+    /// kept.
+    Batch {
+        list: &'a str,
+        cache: u32,
+        effort: Effort,
+    },
     /// What the program says of itself.
     About(About),
 }
@@ -113,6 +120,7 @@ pub fn usage_line(alloc: Global, words: &[String]) -> Result<Vec<u8>, AllocError
             Some(Verb::Suggest) => line(alloc, "Usage", &["suggest"]),
             Some(Verb::Gen) => line(alloc, "Usage", &["gen"]),
             Some(Verb::Explain) => line(alloc, "Usage", &["explain"]),
+            Some(Verb::Batch) => line(alloc, "Usage", &["batch"]),
             Some(Verb::About(About::Help)) => line(alloc, "Usage", &["help"]),
             Some(Verb::About(About::Version)) => line(alloc, "Usage", &["version"]),
             None => line(alloc, "Usage", &[]),
@@ -133,6 +141,7 @@ fn verb_of(word: &str) -> Option<Verb>
         "suggest" => Some(Verb::Suggest),
         "gen" => Some(Verb::Gen),
         "explain" => Some(Verb::Explain),
+        "batch" => Some(Verb::Batch),
         "help" => Some(Verb::About(About::Help)),
         "version" => Some(Verb::About(About::Version)),
         _ => None,
@@ -157,6 +166,7 @@ fn request_by<'a>(alloc: Global, verb: Verb, words: &'a [String]) -> Result<Requ
         Verb::Suggest => suggest_request(&matches),
         Verb::Gen => gen_request(&matches),
         Verb::Explain => explain_request(&matches),
+        Verb::Batch => batch_request(&matches),
         Verb::About(about) => Ok(Request::About(about)),
     }
 }

@@ -1,8 +1,9 @@
-use Rattle.sm_batch.proofs.JobLemmas.{all_stand}
+use Rattle.std.proofs.Common.{rules}
+use Rattle.sm_batch.specs.Answers.{MayAnswer}
+use Rattle.sm_batch.proofs.JobLemmas.{all_answered}
 use Rattle.sm_batch.proofs.answering.answer_all.Goals as goal
 
 pub returns : goal.returns
 returns g c =
-    let w = c.args.worker.now in
-    all_stand (g.W.Worker.replies w) (g.W.Worker.accepts w) (g.W.Worker.takes w) c.args.tasks.now c.in_ok-answers.answers.items c.requires.spelled
-    c.in_ok-answers.ensures
+    all_answered _ (MayAnswer g.A.Fn c.args.answer.now) c.args.tasks.now _ c.run_calls.result (search rules)
+    (λ i a below given. search (rules, given)) c.run_calls.ensures

@@ -1,8 +1,9 @@
-use Rattle.std.proofs.Common.{ap, ◌∙◌, inl, ℕ, ◌-◌, Vec, Global}
+use Rattle.std.proofs.Common.{ap, ◌∙◌, inl, inr, ℕ, ◌-◌, Vec, Global}
 use Rattle.std.specs.Str.{bytes_eq}
 use Rattle.lru.specs.LruCache.{LruCache}
 use Rattle.sm_batch.specs.declared.batch.Kept.{Kept}
 use Rattle.sm_batch.specs.Views.{entries_of, entry_of}
+use Rattle.sm_batch.proofs.LookupLemmas.{none_found, not_well}
 use Rattle.sm_batch.proofs.MapLemmas.{images-put}
 use Rattle.sm_batch.proofs.settling.put_entry.Goals as goal
 
@@ -12,3 +13,10 @@ returns-in-Ok-clause-entries c =
     (ap (λ (v : LruCache (Vec ℕ Global) Kept). entries_of v.entries) c.in-Ok.ensures.entries
     ∙ images-put (λ (v : Vec ℕ Global). v.items) entry_of (bytes_eq c.args.key.items) c.args.cache.now.entries c.args.key c.args.kept
     (c.args.cache.now.cap - 1))
+
+pub returns-clause-entries : goal.returns-clause-entries
+returns-clause-entries c =
+    inr (
+      ap (λ (v : LruCache (Vec ℕ Global) Kept). entries_of v.entries) c.in-Err.ensures.err,
+      none_found c.args.cache.now.entries c.args.key.items (λ some. not_well (c.in-Err.ensures.succeeds some)),
+    )

@@ -1,20 +1,18 @@
 use Rattle.std.proofs.Common.{Result, ap, subst, sym}
-use Rattle.sm_proof.specs.Verdicts.{verdict}
+use Rattle.sm_proof.specs.Verdicts.{lines_in, verdict}
 use Rattle.sm_check.specs.declared.verifying.Checked.{Checked}
 use Rattle.sm_check.specs.declared.verifying.CheckError.{CheckError}
-use Rattle.sm_check.specs.Aside.{lines_aside}
 use Rattle.sm_check.specs.Files.{Judged, TellsAnswer}
 use Rattle.sm_check.specs.Pieces.{reach}
 use Rattle.sm_check.proofs.AnswerLemmas.{stopped_verdict}
-use Rattle.sm_check.proofs.ReadLemmas.{all_taken}
+use Rattle.sm_check.proofs.MemoryLemmas.{none_left}
 use Rattle.sm_check.proofs.verifying.answer_at_end.Goals as goal
 
 pub returns-in-Ok-clause-answer : goal.returns-in-Ok-clause-answer
 returns-in-Ok-clause-answer g c = λ s bytes t.
     ap Judged
-    (c.at_end.ensures s bytes
-    (all_taken c.args.lines.now c.take_aside.new.self (lines_aside c.args.aside.now) c.args.unfinished.now s bytes t
-    (c.in-Ok.ensures.ok s (reach s bytes) t.comes)))
+    (c.at_end.ensures s bytes (none_left c.take_aside.new.self s bytes (c.in-Ok.ensures.ok s (reach s bytes) t.comes))
+    (c.is_empty.ensures (lines_in bytes).rest t.kept))
 
 pub returns-in-Err-clause-answer : goal.returns-in-Err-clause-answer
 returns-in-Err-clause-answer g c = λ s bytes t.

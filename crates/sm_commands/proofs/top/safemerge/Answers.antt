@@ -5,9 +5,10 @@ use Rattle.sm_commands.specs.ProofFile.{LeavesProof}
 use Rattle.sm_commands.specs.Top.{AnswersRequest, Checks}
 use Rattle.sm_words.specs.Words.{Asked, asked}
 use Rattle.sm_commands.proofs.Answering.{accepts, sound}
+use Rattle.sm_commands.proofs.BatchSafe.{batches_safe}
 use Rattle.sm_commands.proofs.FilesLemmas.{kept_whole, leaves_cut, leaves_front, left_by}
 use Rattle.sm_commands.proofs.ConflictSound.{conflicts, explains_shown, shows, replays_shown}
-use Rattle.sm_commands.proofs.ReadingsLemmas.{accepts_read, conflicts_read, proves_read, shows_read, suggests_read}
+use Rattle.sm_commands.proofs.ReadingsLemmas.{accepts_read, batches_read, conflicts_read, proves_read, shows_read, suggests_read}
 use Rattle.sm_commands.proofs.SuggestedSafe.{suggests_safe}
 use Rattle.sm_commands.proofs.Verified.{verifies_exactly}
 use Rattle.sm_commands.proofs.top.safemerge.Goals as goal
@@ -164,5 +165,22 @@ returns-in-Ok-clause-suggested_read g c = λ e task effort asks. (
   c.in-Some.reply.text.items,
   suggests_read (map string_bytes c.args.words.now) (g.H.Shelf.given c.args.shelf.now) (g.H.Shelf.given c.reply_to.new.shelf)
       c.in-Some.reply.status c.in-Some.reply.text.items c.in-Some.ensures.read e task effort asks,
+  search rules,
+)
+
+pub returns-in-Ok-clause-batched : goal.returns-in-Ok-clause-batched
+returns-in-Ok-clause-batched g c = λ _ list cache effort asks. (
+  c.in-Some.reply.text.items,
+  batches_safe (map string_bytes c.args.words.now) (g.H.Shelf.file c.args.shelf.now) (g.H.Shelf.read_faults c.args.shelf.now)
+      (g.H.Shelf.read_faults c.reply_to.new.shelf) c.in-Some.reply.status c.in-Some.reply.text.items c.in-Some.ensures.answers list cache
+      effort asks,
+  search rules,
+)
+
+pub returns-in-Ok-clause-batched_read : goal.returns-in-Ok-clause-batched_read
+returns-in-Ok-clause-batched_read g c = λ _ list cache effort asks. (
+  c.in-Some.reply.text.items,
+  batches_read (map string_bytes c.args.words.now) (g.H.Shelf.given c.args.shelf.now) (g.H.Shelf.given c.reply_to.new.shelf)
+      c.in-Some.reply.status c.in-Some.reply.text.items c.in-Some.ensures.read list cache effort asks,
   search rules,
 )

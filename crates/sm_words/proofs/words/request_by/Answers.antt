@@ -1,7 +1,7 @@
 use Rattle.std.proofs.Common.{map}
 use Rattle.std.specs.String.{string_bytes}
 use Rattle.clap.specs.Matches.{first_value, found_of}
-use Rattle.sm_words.proofs.Asking.{asks_check, asks_gen, asks_verify, asks_replay, asks_print, asks_suggest, asks_explain}
+use Rattle.sm_words.proofs.Asking.{asks_check, asks_gen, asks_verify, asks_replay, asks_print, asks_suggest, asks_explain, asks_batch}
 use Rattle.sm_words.proofs.words.request_by.Goals as goal
 
 pub returns-in-Check-clause-ok : goal.returns-in-Check-clause-ok
@@ -87,3 +87,15 @@ returns-in-Explain-clause-usage c =
     (asks_explain c.args.verb (map string_bytes c.args.words.now)
     (first_value (found_of c.in_ok-matches.matches)) c.explain_request.result c.in-Explain.is c.in_ok-matches.ensures.taken
     c.in_ok-matches.ensures.texts c.explain_request.ensures.ok c.explain_request.ensures.usage).usage
+
+pub returns-in-Batch-clause-ok : goal.returns-in-Batch-clause-ok
+returns-in-Batch-clause-ok c =
+    (asks_batch c.args.verb (map string_bytes c.args.words.now)
+    (first_value (found_of c.in_ok-matches.matches)) c.batch_request.result c.in-Batch.is c.in_ok-matches.ensures.taken
+    c.in_ok-matches.ensures.texts c.batch_request.ensures.ok c.batch_request.ensures.usage).ok
+
+pub returns-in-Batch-clause-usage : goal.returns-in-Batch-clause-usage
+returns-in-Batch-clause-usage c =
+    (asks_batch c.args.verb (map string_bytes c.args.words.now)
+    (first_value (found_of c.in_ok-matches.matches)) c.batch_request.result c.in-Batch.is c.in_ok-matches.ensures.taken
+    c.in_ok-matches.ensures.texts c.batch_request.ensures.ok c.batch_request.ensures.usage).usage

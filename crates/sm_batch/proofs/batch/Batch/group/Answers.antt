@@ -1,5 +1,4 @@
 use Rattle.std.proofs.Common.{◌∙◌, ◌+◌, ◌-◌, ◌^◌, ℕ, min, ap, Vec, Global}
-use Rattle.sm_text.specs.declared.task.Task.{Task}
 use Rattle.sm_text.specs.Tasks.{parts_of}
 use Rattle.sm_batch.specs.Steps.{IsReply}
 use Rattle.sm_batch.proofs.SettleLemmas.{steps_safe, settled, hits_counted}
@@ -7,8 +6,8 @@ use Rattle.sm_batch.proofs.TellLemmas.{all_free}
 use Rattle.sm_batch.proofs.ZipLemmas.{zip_map}
 use Rattle.sm_batch.proofs.batch.Batch.group.Goals as goal
 
-pub settle-requires-after_bounds : goal.settle-requires-after_bounds
-settle-requires-after_bounds g c κs within =
+pub settle-requires : goal.settle-requires
+settle-requires g c =
     let b = c.args.self.now in
     let w = b.worker in
     steps_safe (g.W.Worker.replies w) (g.W.Worker.accepts w) (g.W.Worker.takes w) b.entries c.args.tasks.now c.in_ok-replies.steps.items
@@ -25,7 +24,7 @@ returns-clause-free g c =
     let b = c.args.self.now in
     let w = b.worker in
     all_free (g.W.Worker.replies w) (g.W.Worker.accepts w) (g.W.Worker.takes w) c.args.tasks.now
-    c.in_ok-replies.replies.items c.in_ok-replies.ensures.replies
+    c.in_ok-replies.replies.items c.requires.spelled c.in_ok-replies.ensures.replies
 
 pub returns-clause-entries : goal.returns-clause-entries
 returns-clause-entries g c =

@@ -6,8 +6,8 @@ use Rattle.sm_batch.specs.Steps.{IsLookedUp}
 use Rattle.sm_batch.proofs.ZipLemmas.{zip_more}
 use Rattle.sm_batch.proofs.batch.Batch.look_all_up.Goals as goal
 
-pub look_up-requires-after_bounds : goal.look_up-requires-after_bounds
-look_up-requires-after_bounds g c κs within =
+pub look_up-requires : goal.look_up-requires
+look_up-requires g c =
     subst (λ (t : Task). HasText (parts_of t)) (sym c.task-item.is) (c.requires c.loop-task.task-index c.task-item.result c.loop-task-test.true)
 
 pub loop-task-preserved : goal.loop-task-preserved

@@ -1,10 +1,9 @@
-use Rattle.std.proofs.Common.{rules, ◌≡◌}
 use Rattle.sm_batch.specs.Keys.{key_of}
 use Rattle.sm_batch.proofs.batch.Batch.look_up.Goals as goal
 
 pub kept_reply-requires-clause-key : goal.kept_reply-requires-clause-key
 unfolding key_of
-kept_reply-requires-clause-key g c κs within = c.in_ok-key.ensures.text
+kept_reply-requires-clause-key g c = c.in_ok-key.ensures.text
 
 pub returns : goal.returns
 unfolding key_of

@@ -5,9 +5,10 @@ use Rattle.sm_syntax.specs.text.Parts.{Parts, task_of}
 use Rattle.sm_text.specs.declared.task.Task.{Task}
 use Rattle.sm_text.specs.printing.Named.{HasText}
 use Rattle.sm_text.specs.Tasks.{parts_of}
-use Rattle.sm_batch.specs.Steps.{IsLookedUp, IsAnswer, missed, misses}
+use Rattle.sm_batch.specs.Answers.{IsAnswer, MayAnswer}
+use Rattle.sm_batch.specs.Steps.{IsLookedUp, missed}
 use Rattle.sm_batch.proofs.JobLemmas.{all_unmap}
-use Rattle.sm_batch.proofs.TellLemmas.{missed_all, missed_length, all_told}
+use Rattle.sm_batch.proofs.TellLemmas.{missed_all, missed_length, all_told, answers_told}
 use Rattle.sm_batch.proofs.ZipLemmas.{zip_length}
 use Rattle.sm_batch.proofs.batch.Batch.replies_and_steps.Goals as goal
 
@@ -37,13 +38,8 @@ tell-requires g c =
     c.in_ok-looked.ensures in
     let asked : map now c.deref-2.result.now ≡ missed tasks looked =
     ap (map now) c.deref-2.ensures.value ∙ c.in_ok-wanted.ensures ∙ ap (missed tasks) c.deref.ensures.value in
-    let given =
-    subst
-    (λ v. AllZip (IsAnswer (g.W.Worker.replies v.worker) (g.W.Worker.accepts v.worker) (g.W.Worker.takes v.worker))
-    (map now c.deref-2.result.now) c.in_ok-answers.answers.items) c.self.view_is c.in_ok-answers.ensures in
     sym (missed_length tasks looked long) ∙ sym (ap length asked)
-    ∙ zip_length (IsAnswer (g.W.Worker.replies w) (g.W.Worker.accepts w) (g.W.Worker.takes w)) (map now c.deref-2.result.now)
-    c.in_ok-answers.answers.items given
+    ∙ zip_length (MayAnswer g.A.Fn c.args.answer.now) (map now c.deref-2.result.now) c.in_ok-answers.answers.items c.in_ok-answers.ensures
 
 pub returns-clause-replies : goal.returns-clause-replies
 returns-clause-replies g c =
@@ -54,15 +50,13 @@ returns-clause-replies g c =
     let now = λ (b : Bor Task). b.now in
     let asked : map now c.deref-2.result.now ≡ missed tasks looked =
     ap (map now) c.deref-2.ensures.value ∙ c.in_ok-wanted.ensures ∙ ap (missed tasks) c.deref.ensures.value in
-    let given =
-    subst
-    (λ v. AllZip (IsAnswer (g.W.Worker.replies v.worker) (g.W.Worker.accepts v.worker) (g.W.Worker.takes v.worker))
-    (map now c.deref-2.result.now) c.in_ok-answers.answers.items) c.self.view_is c.in_ok-answers.ensures in
     let free =
-    subst (λ v. (t : Parts) (l : List ℕ) → g.W.Worker.takes v.worker t l ≡ true → ConflictFree (task_of t)) c.self.view_is
+    subst (λ v. (t : Parts) (l : List ℕ) → HasText t → g.W.Worker.takes v.worker t l ≡ true → ConflictFree (task_of t)) c.self.view_is
     c.taken_is_free.ensures in
+    let texts = missed_all (λ (t : Task). HasText (parts_of t)) tasks looked c.requires.spelled in
     let answered =
-    subst (λ (l : List Task). AllZip (IsAnswer (g.W.Worker.replies w) (g.W.Worker.accepts w) (g.W.Worker.takes w)) l answers) asked given in
+    answers_told (MayAnswer g.A.Fn c.args.answer.now) (IsAnswer (g.W.Worker.replies w) (g.W.Worker.accepts w) (g.W.Worker.takes w)) c.requires.told
+    (missed tasks looked) answers texts (subst (λ (l : List Task). AllZip (MayAnswer g.A.Fn c.args.answer.now) l answers) asked c.in_ok-answers.ensures) in
     (all_told (g.W.Worker.replies w) (g.W.Worker.accepts w) (g.W.Worker.takes w) free c.args.self.now.entries tasks
     looked answers c.in_ok-told.told.0.items c.in_ok-told.told.1.items c.in_ok-looked.ensures answered c.in_ok-told.ensures).0
 
@@ -75,14 +69,12 @@ returns-clause-steps g c =
     let now = λ (b : Bor Task). b.now in
     let asked : map now c.deref-2.result.now ≡ missed tasks looked =
     ap (map now) c.deref-2.ensures.value ∙ c.in_ok-wanted.ensures ∙ ap (missed tasks) c.deref.ensures.value in
-    let given =
-    subst
-    (λ v. AllZip (IsAnswer (g.W.Worker.replies v.worker) (g.W.Worker.accepts v.worker) (g.W.Worker.takes v.worker))
-    (map now c.deref-2.result.now) c.in_ok-answers.answers.items) c.self.view_is c.in_ok-answers.ensures in
     let free =
-    subst (λ v. (t : Parts) (l : List ℕ) → g.W.Worker.takes v.worker t l ≡ true → ConflictFree (task_of t)) c.self.view_is
+    subst (λ v. (t : Parts) (l : List ℕ) → HasText t → g.W.Worker.takes v.worker t l ≡ true → ConflictFree (task_of t)) c.self.view_is
     c.taken_is_free.ensures in
+    let texts = missed_all (λ (t : Task). HasText (parts_of t)) tasks looked c.requires.spelled in
     let answered =
-    subst (λ (l : List Task). AllZip (IsAnswer (g.W.Worker.replies w) (g.W.Worker.accepts w) (g.W.Worker.takes w)) l answers) asked given in
+    answers_told (MayAnswer g.A.Fn c.args.answer.now) (IsAnswer (g.W.Worker.replies w) (g.W.Worker.accepts w) (g.W.Worker.takes w)) c.requires.told
+    (missed tasks looked) answers texts (subst (λ (l : List Task). AllZip (MayAnswer g.A.Fn c.args.answer.now) l answers) asked c.in_ok-answers.ensures) in
     (all_told (g.W.Worker.replies w) (g.W.Worker.accepts w) (g.W.Worker.takes w) free c.args.self.now.entries tasks
     looked answers c.in_ok-told.told.0.items c.in_ok-told.told.1.items c.in_ok-looked.ensures answered c.in_ok-told.ensures).1

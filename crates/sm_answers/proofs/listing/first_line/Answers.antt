@@ -1,0 +1,26 @@
+-- The first line ends at the first line end.
+use Rattle.std.proofs.Common.{◌+◌, ℕ, List, take, length, length-drop, refl, sym, ap, ◌∙◌, arith}
+use Rattle.std.proofs.lemmas.List.{take_rest}
+use Rattle.sm_check.proofs.LineLemmas.{lines_in-plain}
+use Rattle.sm_proof.specs.Verdicts.{lines_in}
+use Rattle.sm_answers.specs.Listed.{line_before}
+use Rattle.sm_answers.proofs.ListsLemmas.{first_by}
+use Rattle.sm_answers.proofs.listing.first_line.Goals as goal
+
+pub returns-in-Some-clause-some : goal.returns-in-Some-clause-some
+returns-in-Some-clause-some c =
+    let bytes = c.args.bytes.now in
+    let n = c.in-Some.end in
+    let found = c.in-Some.ensures.some in
+    first_by bytes n found.1 found.2
+    ∙ ap (λ (x : List ℕ). line_before (take n bytes) (lines_in x)) (sym (take_rest bytes (n + 1)))
+
+pub returns-in-Some-clause-less : goal.returns-in-Some-clause-less
+returns-in-Some-clause-less c =
+    let bytes = c.args.bytes.now in
+    let n = c.in-Some.end in
+    let long = ap (λ (x : List ℕ). length x) (take_rest bytes (n + 1)) in
+    omega (arith, c.in-Some.ensures.some.0, long, length-drop (n + 1) bytes)
+
+pub returns-in-None-clause-none : goal.returns-in-None-clause-none
+returns-in-None-clause-none c = lines_in-plain c.args.bytes.now (c.in-None.ensures.none refl)

@@ -1,0 +1,40 @@
+-- What a line `I Accepted` of `batch` says: of files that are told, and of the bytes that were read.
+-- The public clauses `batched` and `batched_read` of `safemerge` cite it.
+use Rattle.std.specs.Prelude.{◌≡◌, ◌<◌, ◌++◌, ℕ, suc, Some, List, slice_get, codes, decimal}
+use Rattle.std.specs.Prelude.{Contains}
+use Rattle.sm_io.specs.Files.{Known, WhereHeld}
+use Rattle.sm_io.specs.Reads.{Read, ReadsWhole}
+use Rattle.sm_proof.specs.Verdicts.{lines_in}
+use Rattle.sm_answers.specs.Lists.{names_in}
+use Rattle.sm_commands.specs.Headline.{IsSafeMerge}
+use Rattle.sm_commands.specs.HeadlineRead.{ReadsOne}
+
+-- the text has the line `I Accepted` for the name at place k of the list, where I is k + 1
+abbrev pub HasAccepted : ℕ → List ℕ → Type 0
+HasAccepted k text = Contains (lines_in text).ended (decimal (suc k) ++ codes " Accepted")
+
+-- for each such line, the list's name at that place is of a file whose bytes spell a task that is
+-- free of conflicts
+abbrev pub AcceptsSafe : (List ℕ → Known) → List ℕ → List ℕ → Type 0
+AcceptsSafe files list text =
+    (k : ℕ) → k < 1000 → HasAccepted k text → WhereHeld (files list) (λ (bytes : List ℕ).
+    (name : List ℕ) × (slice_get (names_in bytes) k ≡ Some name)
+    × WhereHeld (files name) IsSafeMerge)
+
+-- the later reads go on from these
+abbrev pub GoesOn : List Read → List Read → Type 0
+GoesOn before now = (more : List Read) × (now ≡ before ++ more)
+
+-- meanwhile the file was read, in one pass to its end; of its bytes this holds
+abbrev pub ReadsAmong : List ℕ → List Read → List Read → (List ℕ → Type 0) → Type 0
+ReadsAmong name before now P =
+    (first last : List Read) × GoesOn before first × ReadsOne name first last P × GoesOn last now
+
+-- for each such line, the list was read, and then among others the file with its name at that place,
+-- whose bytes spell a task that is free of conflicts
+abbrev pub AcceptsSafeRead : List ℕ → List Read → List Read → List ℕ → Type 0
+AcceptsSafeRead list before now text =
+    (k : ℕ) → k < 1000 → HasAccepted k text →
+    (bytes : List ℕ) × (between : List Read) × ReadsWhole list before between bytes
+    × (name : List ℕ) × (slice_get (names_in bytes) k ≡ Some name)
+    × ReadsAmong name between now IsSafeMerge
