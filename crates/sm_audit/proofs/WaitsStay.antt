@@ -1,0 +1,52 @@
+-- What is known of terms, and what waits, stays while a table widens.
+use Rattle.std.proofs.Common.{◌≡◌, ℕ, ◌<◌, Option, Some, List, [], ◌∷◌, length, sym, subst, ◌∙◌, arith}
+use Rattle.sm_syntax.specs.text.Sorts.{Sorts}
+use Rattle.sm_term.specs.Tables.{TableValue, trees_in, sorts_in, tree_at}
+use Rattle.sm_term.specs.TableLaws.{Widens}
+use Rattle.sm_plan.specs.States.{State}
+use Rattle.sm_plan.proofs.TablesWiden.{longer, tree_stays, state_stays, state_ready}
+use Rattle.sm_expand.specs.Cursors.{numbered_at}
+use Rattle.sm_expand.proofs.PlansWiden.{plan_stays, plan_ready}
+use Rattle.sm_write.specs.Nameable.{Nameable}
+use Rattle.sm_write.specs.Writable.{states_until}
+use Rattle.sm_audit.specs.declared.noting.Waiting.{Waiting}
+use Rattle.sm_audit.specs.Since.{entry_of, IsNamedFrom, AreSince}
+use Rattle.sm_audit.specs.Walks.{Waits, StandsFor, AllStandFor, IsWaitingReady, AreWaitingReady}
+
+module _ (v w : TableValue) (wider : Widens v w) where
+  -- entries
+  pub since_stays : (states : List State) (since : List (Option ℕ)) → AreSince (sorts_in v) states (trees_in v) since →
+      AreSince (sorts_in w) states (trees_in w) since
+  since_stays states since all n node e =
+      let h = all n node e in
+      let long = longer v w wider in
+      let inside : n < length (trees_in w) = omega (arith, long, h.0) in (
+        inside,
+        subst (λ (f : Sorts). Nameable f (states_until states node) (tree_at (trees_in w) n)) (sym wider.sorts)
+            (subst (Nameable (sorts_in v) (states_until states node)) (sym (tree_stays v w wider n h.0)) h.1),
+      )
+
+  -- what waits
+  one_stays : (y : Waits) (x : Waiting) → IsWaitingReady v x → StandsFor v y x → StandsFor w y x
+  one_stays y x ready stand = record {
+    facts = stand.facts;
+    state = stand.state ∙ sym (state_stays v w wider stand.facts x.state ready.state);
+    plan = stand.plan ∙ sym (plan_stays v w wider (numbered_at x.cursor) ready.plan);
+  }
+
+  pub all_stay : (ys : List Waits) (xs : List Waiting) → AreWaitingReady v xs → AllStandFor v ys xs → AllStandFor w ys xs
+  all_stay [] [] ready stand = tt
+  all_stay [] (x ∷ xs) ready stand = absurd stand
+  all_stay (y ∷ ys) [] ready stand = absurd stand
+  all_stay (y ∷ ys) (x ∷ xs) ready stand = (one_stays y x ready.0 stand.0, all_stay ys xs ready.1 stand.1)
+
+  -- and can be gone on from
+  one_ready : (x : Waiting) → IsWaitingReady v x → IsWaitingReady w x
+  one_ready x ready = record {
+    state = state_ready v w wider x.state ready.state;
+    plan = plan_ready v w wider (numbered_at x.cursor) ready.plan;
+  }
+
+  pub all_ready : (xs : List Waiting) → AreWaitingReady v xs → AreWaitingReady w xs
+  all_ready [] ready = tt
+  all_ready (x ∷ xs) ready = (one_ready x ready.0, all_ready xs ready.1)

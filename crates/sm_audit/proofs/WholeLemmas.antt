@@ -1,0 +1,40 @@
+-- What was found of a plan and its certificates makes it writable.
+use Rattle.std.proofs.Common.{◌≡◌, ℕ, Option, Ok, List, map, subst}
+use Rattle.sm_syntax.specs.text.Parts.{Parts, sort_of, task_of}
+use Rattle.sm_syntax.specs.text.Sorts.{Sorts}
+use Rattle.sm_term.specs.Terms.{Tree}
+use Rattle.sm_cert.specs.declared.tree.CertTree.{CertTree}
+use Rattle.sm_cert.specs.Views.{certificate_in}
+use Rattle.sm_plan.specs.declared.node.NodeRow.{NodeRow}
+use Rattle.sm_plan.specs.Nodes.{Node}
+use Rattle.sm_plan.specs.Plans.{Due, Plan, nodes_of, obligations}
+use Rattle.sm_plan.specs.States.{State, start_state}
+use Rattle.sm_plan.specs.Views.{node_in}
+use Rattle.sm_write.specs.PlanStates.{plan_states}
+use Rattle.sm_write.specs.Writable.{AreKeptNameable, AreShown, IsWritable, all_goals}
+use Rattle.sm_audit.specs.Fit.{AreGoalsFit}
+use Rattle.sm_audit.specs.Known.{AreRowsKnown}
+use Rattle.sm_audit.specs.Since.{AreSince}
+use Rattle.sm_audit.proofs.FitLemmas.{goals_shown, goals_short}
+use Rattle.sm_audit.proofs.KnownLemmas.{rows_named}
+
+pub found_writable : (t : Parts) (sorts : Sorts) (trees : List Tree) (p : Plan) (rows : List NodeRow) (since : List (Option ℕ))
+    (dues : List Due) (certs : List CertTree) → sorts ≡ sort_of t.declared → obligations (task_of t) p ≡ Ok dues →
+    map (node_in sorts trees) rows ≡ nodes_of p →
+    AreSince sorts (plan_states 0 (start_state (task_of t)) p) trees since → AreRowsKnown since 0 rows →
+    AreGoalsFit sorts (plan_states 0 (start_state (task_of t)) p) trees (all_goals dues) certs →
+    IsWritable t p (map (certificate_in trees) certs)
+found_writable t sorts trees p rows since dues certs declared asks met all known fit =
+    let states = plan_states 0 (start_state (task_of t)) p in
+    let cs = map (certificate_in trees) certs in
+    record {
+      dues = dues;
+      expands = asks;
+      kept =
+          subst (λ (f : Sorts). AreKeptNameable f states 0 (nodes_of p)) declared
+          (subst (AreKeptNameable sorts states 0) met (rows_named since sorts states trees all 0 rows known));
+      shown =
+          subst (λ (f : Sorts). AreShown f states (all_goals dues) cs) declared
+          (goals_shown sorts states trees (all_goals dues) certs fit);
+      short = goals_short sorts states trees (all_goals dues) certs fit;
+    }

@@ -1,0 +1,19 @@
+-- A line that fits, before others that do.
+use Rattle.std.proofs.Common.{sym, subst}
+use Rattle.std.proofs.lemmas.Bool.{OnTrue_at}
+use Rattle.std.proofs.lemmas.List.{drop_all}
+use Rattle.sm_audit.specs.Known.{AreLinesFit, IsLineFit}
+use Rattle.sm_audit.proofs.KnownLemmas.{line_before}
+use Rattle.sm_audit.proofs.checking.are_lines_fit.Goals as goal
+
+pub loop-line-preserved : goal.loop-line-preserved
+loop-line-preserved c = λ rest.
+    c.loop-line.invariant
+    (line_before c.args.since.now c.args.node c.args.lines.now c.loop-line.line-index c.line-item.result c.loop-line-test.true
+    (subst (IsLineFit c.args.since.now c.args.node) c.line-item.is (OnTrue_at c.if-not-is_line_fit.false c.is_line_fit.ensures)) rest)
+
+pub returns : goal.returns
+returns c =
+    c.loop-line.invariant
+    (subst (AreLinesFit c.args.since.now c.args.node)
+    (sym (drop_all c.loop-line.line-index c.args.lines.now c.loop-line-test.false)) tt)

@@ -1,0 +1,7 @@
+-- The lines from here on decide.
+use Rattle.std.proofs.Common.{drop}
+use Rattle.sm_audit.specs.Known.{AreLinesFit}
+use Rattle.sm_audit.proofs.checking.are_lines_fit.Given as goal
+
+abbrev pub invariant-loop-line : goal.invariant-loop-line
+invariant-loop-line l = AreLinesFit l.since l.node (drop l.line-index l.lines) → AreLinesFit l.since l.node l.lines

@@ -1,0 +1,7 @@
+-- The nodes from here on decide.
+use Rattle.std.proofs.Common.{drop}
+use Rattle.sm_audit.specs.Known.{AreRowsKnown}
+use Rattle.sm_audit.proofs.kept.are_rows_known.Given as goal
+
+abbrev pub invariant-loop-n : goal.invariant-loop-n
+invariant-loop-n l = AreRowsKnown l.since l.n (drop l.n l.rows) → AreRowsKnown l.since 0 l.rows

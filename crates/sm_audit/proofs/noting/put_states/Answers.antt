@@ -1,0 +1,25 @@
+-- One more state waits.
+use Rattle.std.proofs.Common.{[], reverse, refl, sym, append-nil}
+use Rattle.sm_audit.proofs.OpenedLemmas.{state_put, fewer_left}
+use Rattle.sm_audit.proofs.noting.put_states.Goals as goal
+
+pub loop-next-init : goal.loop-next-init
+loop-next-init c = record {
+  put = ([], [], sym (append-nil _), sym (append-nil _), refl, refl);
+  same = c.requires;
+}
+
+pub loop-next-preserved-in-Some-pop-2 : goal.loop-next-preserved-in-Some-pop-2
+loop-next-preserved-in-Some-pop-2 c =
+    let i = c.loop-next in
+    let next = c.in-Some.next in
+    let cursor = c.in-Some-pop.cursor in
+    record {
+      put =
+          state_put c.args.states.items i.left.items c.pop.new.self.items next c.args.cursors.items i.places.items
+          c.pop-in-Some.new.self.items cursor i.waiting.items c.push.new.self.items (reverse c.args.waiting.now.items)
+          c.in-Some.ensures.items c.in-Some-pop.ensures.items c.in_ok-push.ensures.items i.invariant.put;
+      same =
+          fewer_left i.left.items c.pop.new.self.items next i.places.items c.pop-in-Some.new.self.items cursor c.in-Some.ensures.items
+          c.in-Some-pop.ensures.items i.invariant.same;
+    }

@@ -1,0 +1,19 @@
+-- The states that are done wait, the first of them the last.
+use Rattle.std.proofs.Common.{◌≡◌, ◌++◌, List, length, reverse}
+use Rattle.sm_plan.specs.declared.opening.Successor.{Successor}
+use Rattle.sm_expand.specs.declared.cursor.Cursor.{Cursor}
+use Rattle.sm_audit.specs.Walks.{waits_with}
+use Rattle.sm_audit.proofs.noting.put_states.Given as goal
+
+abbrev pub invariant-loop-next : goal.invariant-loop-next
+invariant-loop-next l = record {
+  put :
+      (ds : List Successor) × (cs : List Cursor) × (l.initial.left.items ≡ l.left.items
+      ++ ds) × (l.initial.places.items ≡ l.places.items ++ cs)
+      × (length ds ≡ length cs)
+      × (reverse l.waiting.items ≡ waits_with ds cs ++ reverse l.initial.waiting.items);
+  same : length l.left.items ≡ length l.places.items;
+}
+
+abbrev pub decreases-loop-next : goal.decreases-loop-next
+decreases-loop-next l = length l.left.items

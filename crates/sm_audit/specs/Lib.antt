@@ -1,0 +1,5 @@
+pub mod Since
+pub mod Known
+pub mod Fit
+pub mod Walks
+pub mod ShortFacts
