@@ -34,7 +34,7 @@ pub fn answer(alloc: Global, scene: &mut Scene, line: &str) -> Result<String, Re
     }
 }
 
-// The same of a command with no forms.
+// What is printed for a command that takes no forms.
 fn command_answer(alloc: Global, scene: &mut Scene, words: &[&str]) -> Result<String, Refusal> {
     match *words {
         ["len"] => Ok(format!(in alloc; "{}", scene.table.len())?),
@@ -57,7 +57,7 @@ fn command_answer(alloc: Global, scene: &mut Scene, words: &[&str]) -> Result<St
     }
 }
 
-// The same of a command whose first word says what the others are.
+// What is printed for a command whose first word says what the others are.
 fn group_answer(alloc: Global, scene: &mut Scene, words: &[&str]) -> Result<String, Refusal> {
     if words.is_empty() {
         return Err(Refusal::Bad);

@@ -97,7 +97,7 @@ pub fn read_line(alloc: Global, words: &[&str]) -> Result<CertLine, Refusal> {
     }
 }
 
-// The same of congruence, and of the lines that are of no theory.
+// The line of words, where it is congruence or of no theory.
 fn read_other_line(alloc: Global, words: &[&str]) -> Result<CertLine, Refusal> {
     match *words {
         ["both", n] => Ok(CertLine::Both(natural(n)?)),

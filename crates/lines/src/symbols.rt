@@ -192,7 +192,7 @@ fn is_expression_sorted(scene: &Scene, e: &Expr) -> bool
     }
 }
 
-// The same of a condition.
+// Whether each name of a condition stands as it is declared.
 fn is_condition_sorted(scene: &Scene, c: &Cond) -> bool
     ensures { let sorts = sorts_in scene.now.table in
         OnTrue result (IsWellSortedCondition sorts (condition_of c.now)) }

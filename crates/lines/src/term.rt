@@ -49,7 +49,7 @@ fn read_term(words: &[&str]) -> Result<Term, Refusal> {
     }
 }
 
-// The same of a term with parts.
+// The term of words that has parts.
 fn read_operation(words: &[&str]) -> Result<Term, Refusal> {
     match *words {
         ["read", a, i] => Ok(Term::Read(term_id(a)?, term_id(i)?)),

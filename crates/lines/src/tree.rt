@@ -65,7 +65,7 @@ fn is_tree_within(scene: &Scene, tree: &CertTree) -> bool
     }
 }
 
-// The same of lines one under another.
+// Whether the terms that lines name are in the table, one line under another.
 fn are_lines_within(scene: &Scene, lines: &[CertLine]) -> bool
     ensures { OnTrue result (AreLinesWithin (length (trees_in scene.now.table)) lines.now) }
 {

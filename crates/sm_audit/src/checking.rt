@@ -62,7 +62,7 @@ fn is_line_fit(since: &[Option<u64>], node: u64, line: &CertLine) -> bool
     is_line_known(since, node, line)
 }
 
-// The same of lines.
+// Whether each of several lines is, and is short.
 fn are_lines_fit(since: &[Option<u64>], node: u64, lines: &[CertLine]) -> bool
     ensures { OnTrue result (AreLinesFit since.now node lines.now) }
 {
@@ -74,7 +74,7 @@ fn are_lines_fit(since: &[Option<u64>], node: u64, lines: &[CertLine]) -> bool
     true
 }
 
-// The same of all lines of a certificate.
+// Whether each line of a certificate is, and is short.
 fn is_tree_fit(since: &[Option<u64>], node: u64, tree: &CertTree) -> bool
     ensures { OnTrue result (IsTreeFit since.now node tree.now) }
 {

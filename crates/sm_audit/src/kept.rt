@@ -23,7 +23,7 @@ fn is_form_known(since: &[Option<u64>], node: u64, f: &Formula) -> bool
     }
 }
 
-// The same of the formula that a node keeps, if it keeps one.
+// Whether each term of the formula that a node keeps, if it keeps one, can be named there.
 fn is_row_known(since: &[Option<u64>], node: u64, row: &NodeRow<'_>) -> bool
     ensures { OnTrue result (IsRowKnown since.now node row.now) }
 {
@@ -38,7 +38,7 @@ fn is_row_known(since: &[Option<u64>], node: u64, row: &NodeRow<'_>) -> bool
     }
 }
 
-/// The same of the nodes of a plan, each at its own place.
+/// Whether the nodes of a plan keep such formulas, each at its own place.
 pub(crate) fn are_rows_known(since: &[Option<u64>], rows: &[NodeRow<'_>]) -> bool
     ensures { OnTrue result (AreRowsKnown since.now 0 rows.now) }
 {

@@ -41,7 +41,7 @@ fn note_term(since: &mut Vec<Option<u64>>, t: TermId, node: u64)
     }
 }
 
-// The same of terms.
+// Makes a node the entry of each of several terms that has none.
 fn note_terms(since: &mut Vec<Option<u64>>, terms: &[TermId], node: u64)
     ensures { (sorts : Sorts) (states : List State) (trees : List Tree) →
         AreSince sorts states trees since.old.items →
@@ -53,7 +53,7 @@ fn note_terms(since: &mut Vec<Option<u64>>, terms: &[TermId], node: u64)
     }
 }
 
-// The same of what stands in stores.
+// Makes a node the entry of what stands in stores and has none.
 fn note_stores(since: &mut Vec<Option<u64>>, stores: &PerCopy<SymStore>, node: u64)
     ensures { (sorts : Sorts) (states : List State) (trees : List Tree) →
         AreSince sorts states trees since.old.items →

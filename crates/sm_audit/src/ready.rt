@@ -76,10 +76,10 @@ fn is_form_ready(table: &TermTable, f: &Formula) -> bool
     }
 }
 
-/// Whether each formula that a plan keeps is so, and no more than `allowed` branching nodes stand
+/// Whether the terms of each formula that a plan keeps are in a table, with their sorts, and no more than `allowed` branching nodes stand
 /// above a node. It goes no deeper than that.
 #[cycle(ready)]
-pub(crate) fn is_plan_ready(table: &TermTable, plan: &Plan, allowed: u64) -> bool
+pub fn is_plan_ready(table: &TermTable, plan: &Plan, allowed: u64) -> bool
     ensures { OnTrue result
         (IsPlanReady (sorts_in table.now) (trees_in table.now) (numbered_plan plan.now)) }
 {
@@ -132,7 +132,7 @@ pub(crate) fn is_plan_ready(table: &TermTable, plan: &Plan, allowed: u64) -> boo
     }
 }
 
-// The same of each of several plans.
+// Whether each of several plans is ready.
 #[cycle(ready)]
 fn are_plans_ready(table: &TermTable, plans: &[Plan], allowed: u64) -> bool
     ensures { OnTrue result (ArePlansReady (sorts_in table.now) (trees_in table.now)

@@ -92,7 +92,7 @@ pub(crate) fn pair_cause(c: &Closure, i: u64, j: u64) -> Option<Cause>
     two_rows_cause(c, &c.rows[i as usize], &c.rows[j as usize], i, j)
 }
 
-// The same of two rows.
+// Why the places of two rows are equal, if they are.
 fn two_rows_cause(c: &Closure, r: &Row, s: &Row, i: u64, j: u64) -> Option<Cause>
     ensures { let equal = are_together c.now.roots.items in
         MatchOption result (rows_pair equal r.now s.now ≡ false)

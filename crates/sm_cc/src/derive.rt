@@ -63,7 +63,7 @@ fn moved(c: &mut Closure, e: Contrary, i: u64) -> Result<Contrary, AllocError>
     substituted(c, e, f)
 }
 
-// The same, and turns it.
+// Puts into a contrary a place of the class of its left side, and turns it.
 fn moved_over(c: &mut Closure, e: Contrary, i: u64) -> Result<Contrary, AllocError>
     requires sound { IsSound c.old }
     requires noted { IsContrary c.old e }

@@ -12,7 +12,7 @@ use crate::log::{Entry, Equation, Given, Known, Rule, Why};
 use crate::row::Row;
 use std::alloc::{AllocError, Global};
 
-// The same row.
+// A copy of a row.
 fn copy_row(alloc: Global, old: &Row) -> Result<Row, AllocError>
     ensures { IfOk result (λ r. IsCopy old.now r) }
 {
@@ -25,7 +25,7 @@ fn copy_row(alloc: Global, old: &Row) -> Result<Row, AllocError>
     })
 }
 
-// The same rows.
+// A copy of rows.
 fn copy_rows(alloc: Global, old: &[Row]) -> Result<Vec<Row>, AllocError>
     ensures count { IfOk result (λ rs. length rs.items ≡ length old.now) }
     ensures kept { IfOk result (λ rs. AreKept old.now rs.items) }
@@ -38,7 +38,7 @@ fn copy_rows(alloc: Global, old: &[Row]) -> Result<Vec<Row>, AllocError>
     Ok(rows)
 }
 
-// The same rule.
+// A copy of a rule.
 fn copy_rule(alloc: Global, old: &Rule) -> Result<Rule, AllocError>
     ensures { IfOk result (λ r. IsSameRule old.now r) }
 {
@@ -58,7 +58,7 @@ fn copy_rule(alloc: Global, old: &Rule) -> Result<Rule, AllocError>
     }
 }
 
-// The same reason.
+// A copy of a reason.
 fn copy_why(alloc: Global, old: &Why) -> Result<Why, AllocError>
     ensures { IfOk result (λ w. IsSameWhy old.now w) }
 {
@@ -71,7 +71,7 @@ fn copy_why(alloc: Global, old: &Why) -> Result<Why, AllocError>
     }
 }
 
-// The same entry.
+// A copy of an entry.
 fn copy_entry(alloc: Global, old: &Entry) -> Result<Entry, AllocError>
     ensures { IfOk result (λ e. IsEntryCopy old.now e) }
 {
@@ -82,7 +82,7 @@ fn copy_entry(alloc: Global, old: &Entry) -> Result<Entry, AllocError>
     })
 }
 
-// The same entries.
+// A copy of entries.
 fn copy_entries(alloc: Global, old: &[Entry]) -> Result<Vec<Entry>, AllocError>
     ensures count { IfOk result (λ es. length es.items ≡ length old.now) }
     ensures kept { IfOk result (λ es. AreEntriesKept old.now es.items) }
@@ -95,7 +95,7 @@ fn copy_entries(alloc: Global, old: &[Entry]) -> Result<Vec<Entry>, AllocError>
     Ok(entries)
 }
 
-/// The same roots.
+/// A copy of roots.
 pub(crate) fn copy_roots(alloc: Global, old: &[Equation]) -> Result<Vec<Equation>, AllocError>
     ensures { IfOk result (λ rs. rs.items ≡ old.now) }
 {

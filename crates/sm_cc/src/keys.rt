@@ -87,7 +87,7 @@ pub(crate) fn label_of(c: &Closure, place: u64) -> Option<u64>
     label_in(&c.roots, place)
 }
 
-/// The same, by the equations of places and their labels.
+/// The label of a place, where it is there, by the equations of places and their labels.
 pub(crate) fn label_in(roots: &[Equation], place: u64) -> Option<u64>
     ensures { result ≡ label_at (slice_get roots.now place) }
 {

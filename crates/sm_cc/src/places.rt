@@ -114,7 +114,7 @@ impl PlaceClasses {
         Ok(())
     }
 
-    /// The same, of two places that aren't equal.
+    /// Assumes of two places that they aren't equal.
     pub(crate) fn assume_apart(
         &mut self,
         alloc: Global,

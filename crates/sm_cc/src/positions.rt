@@ -147,7 +147,7 @@ impl Positions {
         }
     }
 
-    // The same of the array and the index that are read.
+    // What is read there, of the array and the index that are read.
     fn written(&self, table: &TermTable, a: TermId, i: TermId) -> Option<Element>
         requires array { a.0 < length (trees_in table.now) }
         requires index { i.0 < length (trees_in table.now) }
@@ -183,7 +183,7 @@ fn lengthened(
     Ok(list)
 }
 
-// The same elements with their places.
+// A copy of elements with their places.
 fn copy_reads(reads: &HashMap<(u64, u64), u64>) -> Result<HashMap<(u64, u64), u64>, AllocError>
     ensures { IfOk result (λ m. (q : ℕ × ℕ) →
         get same_pair m q ≡ get same_pair reads.now q) }

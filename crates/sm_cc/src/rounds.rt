@@ -47,7 +47,7 @@ fn relate(alloc: Global, c: &mut Closure, i: u64, j: u64) -> Result<(), AllocErr
     }
 }
 
-// The same, if both places are there.
+// Two places come into one class, if a rule says so and both are there.
 fn relate_there(alloc: Global, c: &mut Closure, i: u64, j: u64) -> Result<(), AllocError>
     requires sound { IsSound c.old }
     ensures { OnOk result (Tries (IsSettledThere i j) c.old c.new) }
@@ -59,7 +59,7 @@ fn relate_there(alloc: Global, c: &mut Closure, i: u64, j: u64) -> Result<(), Al
     Ok(())
 }
 
-// The same for the places that were given to be equal.
+// The places that were given to be equal come into one class, if a rule says so.
 fn relate_given(alloc: Global, c: &mut Closure) -> Result<(), AllocError>
     requires { IsSound c.old }
     ensures { OnOk result (Tries AreGivenSettled c.old c.new) }
@@ -71,7 +71,8 @@ fn relate_given(alloc: Global, c: &mut Closure) -> Result<(), AllocError>
     Ok(())
 }
 
-// The same for an element that is read, what was written and what stood there before.
+// An element that is read, what was written and what stood there before come into one class, if a
+// rule says so.
 fn relate_element(alloc: Global, c: &mut Closure, i: u64) -> Result<(), AllocError>
     requires sound { IsSound c.old }
     requires there { i < length c.old.rows.items }
@@ -83,7 +84,7 @@ fn relate_element(alloc: Global, c: &mut Closure, i: u64) -> Result<(), AllocErr
     }
 }
 
-// The same for a place, what was written and what stood there before.
+// A place, what was written and what stood there before come into one class, if a rule says so.
 fn relate_read(alloc: Global, c: &mut Closure, e: Element, i: u64) -> Result<(), AllocError>
     requires sound { IsSound c.old }
     ensures { OnOk result (Tries (IsReadSettled e i) c.old c.new) }
@@ -92,7 +93,7 @@ fn relate_read(alloc: Global, c: &mut Closure, e: Element, i: u64) -> Result<(),
     relate_there(alloc, c, i, e.before)
 }
 
-// The same for all elements that are read.
+// All elements that are read come into the classes that rules say.
 fn relate_elements(alloc: Global, c: &mut Closure) -> Result<(), AllocError>
     requires { IsSound c.old }
     ensures { OnOk result (Tries AreElementsSettled c.old c.new) }
@@ -119,7 +120,7 @@ fn relate_rows(alloc: Global, c: &mut Closure, i: u64, j: u64) -> Result<(), All
     }
 }
 
-// The same, if both places are there.
+// Two places that are there come into one class, if their forms or their arguments are equal.
 pub(crate) fn relate_rows_there(
     alloc: Global,
     c: &mut Closure,

@@ -39,7 +39,8 @@ pub(crate) fn rows(
     Ok(rows)
 }
 
-/// The same, with what the heads and the forms of the terms are numbered by.
+/// A row for each term of a list, in order, with what the heads and the forms of the terms are
+/// numbered by.
 pub(crate) fn numbered_rows(
     alloc: Global,
     table: &TermTable,

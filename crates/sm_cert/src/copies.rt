@@ -9,7 +9,7 @@ use sm_term::copy_formula;
 use sm_theory::{Branch, Fact};
 use std::alloc::{AllocError, Global};
 
-// The same facts.
+// A copy of a branch.
 pub(crate) fn copy_branch(alloc: Global, branch: &Branch) -> Result<Branch, AllocError>
     ensures { (sorts : Sorts) (trees : List Tree) (facts : List BranchFact) →
         AllStand sorts trees branch.now.list.items facts →
@@ -22,7 +22,7 @@ pub(crate) fn copy_branch(alloc: Global, branch: &Branch) -> Result<Branch, Allo
     Ok(Branch { list })
 }
 
-// The same fact.
+// A copy of a fact.
 fn copy_fact(alloc: Global, fact: &Fact) -> Result<Fact, AllocError>
     ensures { (sorts : Sorts) (trees : List Tree) (as_facts : BranchFact) →
         FactStands sorts trees fact.now as_facts →

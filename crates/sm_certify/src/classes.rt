@@ -59,7 +59,7 @@ pub(crate) fn classes_of<'a>(
     Ok(classes)
 }
 
-// The same classes, which begin with those of others.
+// The classes of the facts, which begin with those of others.
 pub(crate) fn classes_over<'a>(
     alloc: Global,
     ground: &Ground,

@@ -34,7 +34,7 @@ pub(crate) fn next_number(count: u64, lines: &[CertLine]) -> u64
     count + lines.len() as u64
 }
 
-// The same, if lines behind it can have numbers too.
+// The number of the fact that the next line adds, if lines behind it can have numbers too.
 fn early_number(count: u64, lines: &[CertLine]) -> Result<u64, AllocError>
     requires { count < 2 ^ 62 }
     ensures number { IfOk result (λ n. n ≡ count + length lines.now) }

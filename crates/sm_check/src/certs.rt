@@ -70,7 +70,7 @@ pub(crate) fn after_line<'a>(
     }
 }
 
-// The same of a line that splits the branch: the second part waits.
+// What is due after a line that splits the branch: the second part waits.
 fn split<'a>(
     alloc: Global,
     table: &TermTable,
@@ -117,7 +117,7 @@ fn split<'a>(
     }
 }
 
-// The same of a line that closes the branch: what waits first is due.
+// What is due after a line that closes the branch: what waits first.
 fn close<'a>(
     alloc: Global,
     table: &TermTable,
@@ -151,7 +151,7 @@ fn close<'a>(
     }
 }
 
-// The same of a line that adds facts.
+// What is due after a line that adds facts.
 fn add<'a>(
     alloc: Global,
     table: &TermTable,

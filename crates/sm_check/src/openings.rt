@@ -139,7 +139,7 @@ pub(crate) fn opened(alloc: Global, path: &Branch, opening: &Opening) -> Result<
     Ok(Branch { list })
 }
 
-// The same facts.
+// A copy of facts.
 fn copy_facts(alloc: Global, facts: &[Fact]) -> Result<Vec<Fact>, AllocError>
     ensures { (sorts : Sorts) (trees : List Tree) (ks : List BranchFact) →
         AllStand sorts trees facts.now ks →
@@ -152,7 +152,7 @@ fn copy_facts(alloc: Global, facts: &[Fact]) -> Result<Vec<Fact>, AllocError>
     Ok(list)
 }
 
-// The same fact.
+// A copy of a fact.
 fn copy_fact(alloc: Global, fact: &Fact) -> Result<Fact, AllocError>
     ensures { (sorts : Sorts) (trees : List Tree) (k : BranchFact) →
         FactStands sorts trees fact.now k → IfOk result (λ f. FactStands sorts trees f k) }

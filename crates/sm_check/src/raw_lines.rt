@@ -35,7 +35,7 @@ impl RawLines {
         self.bytes.is_empty()
     }
 
-    /// The same lines, and one behind them.
+    /// These lines, and one behind them.
     pub(crate) fn with_line(self, line: &[u8]) -> Result<RawLines, AllocError>
         requires { HasNoEnd line.now }
         ensures { IfOk result (λ lines.
@@ -48,7 +48,7 @@ impl RawLines {
         Ok(RawLines { bytes, count })
     }
 
-    /// The same lines, and so many behind them.
+    /// These lines, and so many behind them.
     pub(crate) fn with_run(self, run: &[u8], more: u64) -> Result<RawLines, AllocError>
         requires ended { (lines_in run.now).rest ≡ [] }
         requires counted { more ≡ length (ended_in run.now) }

@@ -207,7 +207,7 @@ fn present(table: &mut TermTable, due: &Due<'_>, copy: u8, name: Name) -> Result
     }
 }
 
-// The same by the stores.
+// The present term of a copy's name by the stores.
 fn of_stores(
     table: &mut TermTable,
     stores: &PerCopy<SymStore>,
@@ -224,7 +224,7 @@ fn of_stores(
     in_store(table, stores.get(CopyName::of_number(copy)), name)
 }
 
-// The same by one store.
+// The present term of a name by one store.
 fn in_store(table: &mut TermTable, store: &SymStore, name: Name) -> Result<TermId, LineFault>
     requires declared { IsDeclaredIn (sorts_in table.old) name.0 }
     requires within { IsStoreWithin (length (trees_in table.old)) store.now }

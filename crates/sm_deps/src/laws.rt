@@ -14,7 +14,7 @@ pub fn inputs_decide()
     ensures { InputsDecide }
 {}
 
-/// The same by sort, of well-sorted code.
+/// Well-sorted code does so from stores that agree by sort.
 #[tactic(auto, using(crate::proofs::InputsSound::inputs_alike_by_sort))]
 pub fn inputs_decide_by_sort()
     ensures { InputsDecideBySort }

@@ -67,7 +67,7 @@ impl Cells {
         }
     }
 
-    /// The same cells.
+    /// A copy of the cells.
     pub fn copy(&self, alloc: Global) -> Result<Cells, AllocError>
         ensures { IfOk result (λ c. c ≡ self.now) }
     {

@@ -85,7 +85,7 @@ impl Deque {
         Ok(())
     }
 
-    /// The same pairs.
+    /// A copy of the pairs.
     pub fn copy(&self, alloc: Global) -> Result<Deque, AllocError>
         ensures { IfOk result (λ d. d ≡ self.now) }
     {

@@ -103,7 +103,7 @@ pub(crate) fn by_bounds(
     by_parts(alloc, steps, s, forms, count, t, None)
 }
 
-// The same; the list is kept where there may be splinters.
+// Decides by the bounds of a variable. The list is kept where there may be splinters.
 fn by_parts(
     alloc: Global,
     steps: u64,

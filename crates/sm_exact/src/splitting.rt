@@ -52,7 +52,7 @@ fn deal(out: &mut Sides, f: LinForm, t: u64) -> Result<(), AllocError>
     Ok(())
 }
 
-// The same forms.
+// A copy of forms.
 pub(crate) fn copy_all(alloc: Global, forms: &[LinForm]) -> Result<Vec<LinForm>, AllocError>
     ensures { IfOk result (λ v. v.items ≡ forms.now) }
 {

@@ -47,7 +47,7 @@ pub(crate) fn is_deep(plan: &Plan, allowed: u64) -> bool
     }
 }
 
-// The same of one of several plans.
+// Whether one of several plans is so deep.
 #[cycle(depth)]
 fn are_deep(plans: &[Plan], allowed: u64) -> bool
     ensures { (sorts : Sorts) (trees : List Tree) → result ≡ nat_lt allowed

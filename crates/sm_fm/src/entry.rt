@@ -33,7 +33,7 @@ pub(crate) fn enter(
     }
 }
 
-// The same with the list of the atom with which the form begins.
+// Puts a form where it goes, with the list of the atom with which it begins.
 fn list_and_store(
     places: &mut Vec<u64>,
     forms: &mut Vec<LinForm>,

@@ -75,6 +75,11 @@ impl Search {
         Ok(made)
     }
 
+    /// How many inputs there are.
+    pub fn len(&self) -> usize {
+        self.inputs.len()
+    }
+
     /// The numbers of the input at a place among all.
     pub fn numbers(&self, input: usize) -> Option<&[i128]> {
         match self.inputs.get_index(input) {

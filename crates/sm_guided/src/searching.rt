@@ -36,6 +36,17 @@ pub fn pick(
     }
 }
 
+/// The search, as far as it goes.
+pub fn searched(alloc: Global, setting: &Setting<'_>) -> Result<Search, AllocError> {
+    let mut search = Search::new(alloc, setting)?;
+    match try_all(alloc, setting, &mut search) {
+        Ok(()) => Ok(search),
+        Err(Halt::Spent) => Ok(search),
+        Err(Halt::Broken { .. }) => Ok(search),
+        Err(Halt::Memory) => Err(AllocError),
+    }
+}
+
 // Runs the stated trials, then small inputs, then those that are led to where no run has gone.
 fn try_all(alloc: Global, setting: &Setting<'_>, search: &mut Search) -> Result<(), Halt> {
     try_stated(alloc, setting, search)?;

@@ -1,9 +1,11 @@
 // What is searched.
 ghost use Rattle.std.specs.Prelude.{◌≡◌, None, IfOk, IfSome, option_map};
-ghost use Rattle.sm_eval.specs.StoredValues.{sorts_of};
+ghost use Rattle.std.specs.Bool.{OnTrue};
+ghost use Rattle.sm_eval.specs.StoredValues.{meaning, sorts_of};
 ghost use Rattle.sm_replay.specs.Judging.{IsWellSortedAssumption};
 ghost use Rattle.sm_replay.specs.Runs.{AreSorted};
 ghost use Rattle.sm_replay.specs.Sorted.{sort_fault};
+ghost use Rattle.sm_replay.specs.Violations.{IsMet};
 ghost use Rattle.sm_syntax.specs.text.Parts.{sort_of};
 ghost use Rattle.sm_syntax.specs.trees.Programs.{declared_of};
 ghost use Rattle.sm_syntax.specs.trees.Views.{condition_of};
@@ -56,6 +58,7 @@ impl<'a> Setting<'a> {
     ) -> Result<Setting<'a>, AllocError>
         requires runs { sort_fault (parts_of task.now) ≡ None }
         requires sorted { AreSorted (declared_of task.now.shared.decls) programs.now }
+        ensures { IfOk result (λ s. s.task.now ≡ task.now) }
     {
         let cells = input_cells(alloc, &task.shared.decls)?;
         let outlines = outlines_of(alloc, programs)?;
@@ -72,8 +75,10 @@ impl<'a> Setting<'a> {
 
     /// The store of an input, where it meets the assumption.
     pub fn start(&self, alloc: Global, numbers: &[i128]) -> Result<Option<Store>, AllocError>
-        ensures { let sorts = sort_of (declared_of self.now.task.now.shared.decls) in
+        ensures sorts { let sorts = sort_of (declared_of self.now.task.now.shared.decls) in
             IfOk result (λ start. IfSome start (λ s. sorts_of s ≡ sorts)) }
+        ensures met { let assumed = option_map condition_of self.now.task.now.assumed in
+            IfOk result (λ start. IfSome start (λ s. IsMet assumed (meaning s))) }
     {
         let s = store_of(alloc, &self.task.shared.decls, &self.cells, numbers)?;
         if self.admits(&s) {
@@ -85,6 +90,8 @@ impl<'a> Setting<'a> {
     // Whether a store meets the assumption.
     fn admits(&self, s: &Store) -> bool
         requires { sorts_of s.now ≡ sort_of (declared_of self.now.task.now.shared.decls) }
+        ensures { let assumed = option_map condition_of self.now.task.now.assumed in
+            OnTrue result (IsMet assumed (meaning s.now)) }
     {
         is_met(&self.task.assumed, s)
     }
@@ -93,6 +100,7 @@ impl<'a> Setting<'a> {
 // Whether an assumption is computed from a store, and is true.
 fn is_met(assumed: &Option<Cond>, s: &Store) -> bool
     requires { IsWellSortedAssumption (sorts_of s.now) (option_map condition_of assumed.now) }
+    ensures { OnTrue result (IsMet (option_map condition_of assumed.now) (meaning s.now)) }
 {
     match assumed {
         None => true,

@@ -1,4 +1,4 @@
--- Private: nodes that the goals of the same facts share.
+-- Cited by public clauses: nodes that the goals of one list of facts share.
 use Rattle.std.specs.Prelude.{List, Option, IfSome}
 use Rattle.sm_term.specs.declared.formula.Formula.{Formula}
 use Rattle.sm_term.specs.Tables.{TableValue, trees_in, sorts_in}

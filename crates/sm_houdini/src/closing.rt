@@ -35,8 +35,9 @@ fn is_closed(answer: &Answer) -> bool
     }
 }
 
-// The node of these facts, where goals are to share it.
-pub(crate) fn node_of(
+/// The node of these facts, where goals are to share it: none where they aren't, and none where it
+/// takes more than `steps` to make. The table only widens.
+pub fn node_of(
     alloc: Global,
     table: &mut TermTable,
     facts: &Formulas,
@@ -142,7 +143,7 @@ pub(crate) fn judged(
     judged_at(alloc, table, &mut node, due, marks, reach)
 }
 
-// The same by a node of the facts, where there is one.
+// The marks of a site after what a node asks, by a node of the facts, where there is one.
 fn judged_at(
     alloc: Global,
     table: &mut TermTable,

@@ -153,8 +153,8 @@ fn end_goal(
     }
 }
 
-// The same of a run of the goals of what a node asks, which begins at a place, up to the first for
-// which there is none. Where the node asks several they share the classes of its facts, though the
+// Puts the certificates of a run of goals behind others. A run is of what one node asks, and begins
+// at a place; it goes up to the first goal for which there is none. Where the node asks several they share the classes of its facts, though the
 // run has one alone: so each has the same certificate, whatever the runs.
 pub(crate) fn end_run(
     alloc: Global,
@@ -183,7 +183,7 @@ pub(crate) fn end_run(
     end_run_at(alloc, table, &mut shared, due, first, run, trees, reach)
 }
 
-// The same by a node of the facts, where there is one.
+// Puts the certificates of a run behind others, by a node of the facts, where there is one.
 fn end_run_at(
     alloc: Global,
     table: &mut TermTable,
@@ -249,7 +249,7 @@ pub(crate) fn end_all<R: Threads + Sync, G: Gate>(
     }
 }
 
-// The same node by node, over the one table.
+// Puts the certificates of all goals behind one another, node by node, over the one table.
 fn end_in_turn(
     alloc: Global,
     table: &mut TermTable,

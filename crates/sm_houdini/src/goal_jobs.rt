@@ -99,7 +99,7 @@ pub(crate) fn marks_after<R: Threads + Sync, G: Gate>(
     )
 }
 
-// The same by so many jobs, twice. First each job has a share of the templates, at the first node
+// The marks after a round, by so many jobs, twice. First each job has a share of the templates, at the first node
 // and the last that a site asks: the last is the turn that all copies take, where most goals are
 // asked and most templates fall. Then the other nodes are dealt to the jobs, for what is left of all
 // templates: there it costs as much to make a node as to ask its goals.

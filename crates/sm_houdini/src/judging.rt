@@ -60,7 +60,7 @@ fn judge(
     Ok(())
 }
 
-// The same, but of a node that is left out nothing is done.
+// Judges what a node asks, but of a node that is left out nothing is done.
 fn judge_unless(
     alloc: Global,
     table: &mut TermTable,

@@ -28,8 +28,8 @@ pub(crate) fn is_flagged(flags: &[bool], at: usize) -> bool
     }
 }
 
-// Whether two lists have the same formulas, in order.
-fn are_same(list: &[Formula], others: &[Formula]) -> bool
+/// Whether two lists have equal formulas, in order.
+pub fn are_same(list: &[Formula], others: &[Formula]) -> bool
     ensures { result ≡ true → all_numbered list.now ≡ all_numbered others.now }
 {
     if list.len() != others.len() {

@@ -141,7 +141,7 @@ pub(crate) fn joined_marks(
     Ok(Marks { sites })
 }
 
-/// The same marks.
+/// A copy of marks.
 pub(crate) fn copied(alloc: Global, marks: &Marks) -> Result<Marks, AllocError>
     ensures { IfOk result (λ ms. rows ms.sites.items ≡ rows marks.now.sites.items) }
 {

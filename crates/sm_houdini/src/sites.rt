@@ -69,7 +69,7 @@ fn add_sketch(
     add_end(alloc, sites, &sketch.last, target)
 }
 
-// The same of an end.
+// Adds the sites of an end.
 #[cycle(sites)]
 fn add_end(
     alloc: Global,
@@ -115,7 +115,7 @@ fn add_end(
     }
 }
 
-// The same of sketches, one after the other.
+// Adds the sites of sketches, one after the other.
 #[cycle(sites)]
 fn add_all(
     alloc: Global,

@@ -171,7 +171,7 @@ pub(crate) fn order_split(
     }
 }
 
-// The same of two terms that aren't equal.
+// The split of two terms that aren't equal.
 fn orders(
     table: &TermTable,
     facts: &KeyedFacts<'_>,
@@ -227,7 +227,7 @@ pub(crate) fn index_split<S: Sees>(
     }
 }
 
-// The same of an array and the index at which it is read.
+// The split of an array and the index at which it is read.
 fn split_under<S: Sees>(
     sees: &S,
     table: &TermTable,

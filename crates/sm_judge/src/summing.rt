@@ -47,7 +47,7 @@ pub(crate) fn eliminate(
     }
 }
 
-// The same of forms that can hold.
+// What forms that can hold come to after so many steps.
 fn sum_up(
     alloc: Global,
     forms: Forms,

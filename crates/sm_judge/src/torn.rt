@@ -77,7 +77,7 @@ fn partner_of(
     partner(table, forms, before, t, &forms[t.0 as usize])
 }
 
-// The same of a number with this form.
+// The partner of a number with this form.
 fn partner(
     table: &TermTable,
     forms: &[LinForm],

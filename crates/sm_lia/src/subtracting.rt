@@ -132,7 +132,7 @@ fn difference(
     combine(alloc, &f, 1, &g, -1, kind)
 }
 
-// The same, which is at most 0, and 1 more.
+// The form of a number less another, which is at most 0, and 1 more.
 fn strict_difference(
     alloc: Global,
     table: &TermTable,

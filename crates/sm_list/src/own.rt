@@ -59,7 +59,7 @@ pub fn own_branch(
     }
 }
 
-// The same, but an error leaves the terms that were made.
+// The branch over its own terms. An error leaves the terms that were made.
 fn listed_branch(
     alloc: Global,
     table: &mut TermTable,

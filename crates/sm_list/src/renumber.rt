@@ -116,7 +116,7 @@ pub fn renumbered(alloc: Global, f: &Formula, numbers: &[TermId]) -> Result<Form
     Ok(g)
 }
 
-// The same, by numbers alone.
+// A formula under other numbers, by numbers alone.
 #[cycle(renumber_form)]
 pub(crate) fn renumbered_formula(
     alloc: Global,

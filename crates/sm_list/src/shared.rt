@@ -69,7 +69,7 @@ pub fn shared_facts(
     }
 }
 
-// The same, but an error leaves the terms that were made.
+// The facts over the terms that goals share. An error leaves the terms that were made.
 fn listed_facts(
     alloc: Global,
     table: &mut TermTable,
@@ -211,7 +211,7 @@ impl SharedTerms {
         }
     }
 
-    // The same, but an error leaves the terms that were made.
+    // Adds a goal's terms. An error leaves those that were made.
     fn added(
         &mut self,
         alloc: Global,

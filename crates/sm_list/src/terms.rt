@@ -40,7 +40,7 @@ pub(crate) fn terms_of_formulas(
     }
 }
 
-// The same, but an error leaves the terms that were made.
+// The terms of formulas. An error leaves the terms that were made.
 fn listed_terms(
     alloc: Global,
     table: &mut TermTable,

@@ -18,7 +18,7 @@ use sm_plan::Rest;
 use sm_syntax::{Block, CopyName, PerCopy, Stmt};
 use std::alloc::{AllocError, Global};
 
-/// The same code.
+/// A copy of what is left of each program.
 pub fn copy_rests<'a>(
     alloc: Global,
     rests: &PerCopy<Rest<'a>>,
@@ -111,7 +111,7 @@ fn enter<'a>(rest: &mut Rest<'a>, is_first: bool) -> Result<(), AllocError>
     Ok(())
 }
 
-// The same, where the copy is in a set.
+// Goes on by a block of the if that comes next, where the copy is in a set.
 fn enter_in<'a>(
     rest: &mut Rest<'a>,
     set: u8,

@@ -190,7 +190,7 @@ pub fn inside<'a>(pieces: &PerCopy<&'a [Stmt]>) -> TwoEach<'a>
     }
 }
 
-/// The same statements.
+/// These statements once more.
 pub fn copied<'a>(pieces: &PerCopy<&'a [Stmt]>) -> PerCopy<&'a [Stmt]>
     ensures { (c : Copy) → piece_of result c ≡ piece_of pieces.now c }
 {
@@ -223,7 +223,7 @@ fn rest_of<'a>(alloc: Global, list: &'a [Stmt]) -> Result<Rest<'a>, AllocError>
     Ok(Rest { frames })
 }
 
-// The same where a copy is in a set, and else nothing.
+// Statements of a copy as what is left of a program, where the copy is in a set, and else nothing.
 fn rest_in<'a>(
     alloc: Global,
     list: &'a [Stmt],

@@ -85,7 +85,7 @@ impl LinForm {
         self.kind
     }
 
-    /// The same form.
+    /// A copy of the form.
     pub fn copy(&self, alloc: Global) -> Result<LinForm, AllocError>
         ensures { IfOk result (λ f. f ≡ self.now) }
     {

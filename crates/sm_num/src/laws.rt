@@ -13,7 +13,8 @@ pub fn order_does_not_matter()
     ensures { OrderDoesNotMatter }
 {}
 
-/// The same where an atom cancels.
+/// By ascending atoms and in the order of the parts one sum is computed, or none, where an atom
+/// cancels.
 #[tactic(auto, using(crate::proofs::OrderLemmas::eliminated_alike))]
 pub fn order_does_not_matter_to_elim()
     ensures { OrderDoesNotMatterToElim }
@@ -25,7 +26,7 @@ pub fn numbering_does_not_matter()
     ensures { NumberingDoesNotMatter }
 {}
 
-/// The same where an atom cancels.
+/// Atoms may be numbered anew before forms are added, or after, where an atom cancels.
 #[tactic(auto, using(crate::proofs::RenamingLemmas::elimination_renamed))]
 pub fn numbering_does_not_matter_to_elim()
     ensures { NumberingDoesNotMatterToElim }

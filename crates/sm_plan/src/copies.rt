@@ -10,7 +10,7 @@ use sm_syntax::PerCopy;
 use sm_term::SymStore;
 use std::alloc::{AllocError, Global};
 
-// The same rests.
+// A copy of what is left of each program.
 pub(crate) fn copy_rests<'a>(
     alloc: Global,
     rests: &PerCopy<Rest<'a>>,
@@ -26,7 +26,7 @@ pub(crate) fn copy_rests<'a>(
     })
 }
 
-// The same stores.
+// A copy of stores.
 pub(crate) fn copy_stores(
     alloc: Global,
     stores: &PerCopy<SymStore>,
@@ -42,7 +42,7 @@ pub(crate) fn copy_stores(
     })
 }
 
-// The same store.
+// A copy of a store.
 pub(crate) fn copy_store(alloc: Global, store: &SymStore) -> Result<SymStore, AllocError>
     ensures { IfOk result (λ s. s.list.items ≡ store.now.list.items) }
 {
@@ -50,7 +50,7 @@ pub(crate) fn copy_store(alloc: Global, store: &SymStore) -> Result<SymStore, Al
     Ok(SymStore { list })
 }
 
-// The same state.
+// A copy of a state.
 pub(crate) fn copy_state<'a>(
     alloc: Global,
     state: &SymState<'a>,

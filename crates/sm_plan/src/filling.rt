@@ -219,7 +219,7 @@ pub(crate) fn filled_term(
     }
 }
 
-// The same of a term that isn't known yet.
+// The filled term of a term that isn't known yet.
 fn walked(
     alloc: Global,
     table: &mut TermTable,

@@ -40,7 +40,7 @@ fn nodes_left(f: &Formula, depth: u64, nodes: u64) -> Option<u64>
     }
 }
 
-// The same of two formulas.
+// How many nodes are left after two formulas.
 #[cycle(count)]
 fn both_left(p: &Formula, q: &Formula, depth: u64, nodes: u64) -> Option<u64>
     ensures { let first = numbered p.now in let second = numbered q.now in MatchOption result

@@ -40,7 +40,7 @@ impl<'a> Rest<'a> {
         Ok(rest)
     }
 
-    /// The same statements.
+    /// A copy of what is left.
     pub fn copy(&self, alloc: Global) -> Result<Rest<'a>, AllocError>
         ensures { IfOk result (λ r. rest_code r ≡ rest_code self.now) }
     {

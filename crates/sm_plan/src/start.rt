@@ -85,7 +85,7 @@ fn whole<'a>(alloc: Global, programs: &'a PerCopy<Block>) -> Result<PerCopy<Rest
     })
 }
 
-// The same store for each copy.
+// One store for each copy.
 fn four(alloc: Global, store: SymStore) -> Result<PerCopy<SymStore>, AllocError>
     ensures { (c : Copy) → IfOk result (λ p. (of_copy p c).list.items ≡ store.list.items) }
 {

@@ -140,7 +140,7 @@ fn pass_loop(rest: &mut Rest<'_>, set: u8, copy: CopyName)
     }
 }
 
-// The same of each copy.
+// Leaves what comes after the loop of each copy of a set.
 fn pass_loops(rests: &mut PerCopy<Rest<'_>>, set: u8)
     ensures { (c : Copy) → rest_code (of_copy rests.new c)
         ≡ (if sets.has (set_of set) c then rest_after 1 (rest_code (of_copy rests.old c))

@@ -232,7 +232,7 @@ unequal_loops_sketch = refl
 unequal_loops_nodes : size (plan_of unequal_loops (full_choice unequal_loops)) ≡ 53
 unequal_loops_nodes = refl
 
--- The same loop in all, but A and the candidate take a step before it: after these steps the loops are summarized,
+-- One loop in all, but A and the candidate take a step before it: after these steps the loops are summarized,
 -- and there is no site.
 abbrev equal_loops : Parts
 equal_loops = record {

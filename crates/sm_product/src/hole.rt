@@ -67,7 +67,7 @@ fn filling_in<'a>(
     }
 }
 
-// The same of each copy.
+// The filling of a hole in each copy of a set, for the others a block that has no statement.
 fn fillings_in<'a>(
     lists: &'a PerCopy<Fillings>,
     hole: u32,

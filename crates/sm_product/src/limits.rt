@@ -105,7 +105,7 @@ pub fn is_small(
     }
 }
 
-// The same, but an error leaves the terms that were made.
+// Whether the plan is small. An error leaves the terms that were made.
 fn is_within_limits(
     alloc: Global,
     table: &mut TermTable,

@@ -61,7 +61,7 @@ pub(crate) fn side_by_side(
     draw(alloc, table, site, set, code, next, Room::whole())
 }
 
-// The same, within some room.
+// Draws the mini-product, within some room.
 #[cycle(mini)]
 fn draw(
     alloc: Global,

@@ -74,7 +74,7 @@ pub fn plan_of(
     }
 }
 
-// The same, but an error leaves the terms that were made.
+// The plan of a choice. An error leaves the terms that were made.
 fn made_plan(
     alloc: Global,
     table: &mut TermTable,
@@ -152,7 +152,7 @@ pub fn templates(
     }
 }
 
-// The same, but an error leaves the terms that were made.
+// The templates of each site. An error leaves the terms that were made.
 fn found_templates(
     alloc: Global,
     table: &mut TermTable,

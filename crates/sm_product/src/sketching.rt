@@ -57,7 +57,7 @@ pub fn sketch_of(alloc: Global, table: &mut TermTable, task: &Task) -> Result<Sk
     }
 }
 
-// The same, but an error leaves the terms that were made.
+// The sketch of a task. An error leaves the terms that were made.
 fn drawn_sketch(alloc: Global, table: &mut TermTable, task: &Task) -> Result<Sketch, ProductError>
     requires declared { sorts_in table.old ≡ sort_of (declared_of task.now.shared.decls) }
     requires numbered { AreNumbered (declared_of task.now.shared.decls) }

@@ -74,7 +74,7 @@ fn read_of_write(table: &TermTable, t: TermId) -> Option<ReadOfWrite>
     }
 }
 
-// The same of the array and the index that are read.
+// What is read there, of the array and the index that are read.
 fn written(table: &TermTable, a: TermId, i: TermId) -> Option<ReadOfWrite>
     requires left { a.0 < length (trees_in table.now) }
     requires right { i.0 < length (trees_in table.now) }

@@ -167,7 +167,7 @@ fn clash_tree(alloc: Global, n: u64) -> Result<CertTree, AllocError>
     Ok(closed_by(lines, CertLine::Clash(n + 3, n + 4)))
 }
 
-// The same where equation m is turned round before.
+// The certificate of that, where equation m is turned round before.
 fn turned_tree(alloc: Global, n: u64, m: u64) -> Result<CertTree, AllocError>
     requires { n < 2 ^ 62 }
     ensures { (trees : List Tree) → IfOk result (λ c. certificate_in trees c ≡ by_turned n m) }
@@ -285,7 +285,7 @@ pub fn whole_plan(
     }
 }
 
-// The same, but an error leaves the terms that were made.
+// The plan and the certificates. An error leaves the terms that were made.
 fn made_whole_plan(
     alloc: Global,
     table: &mut TermTable,

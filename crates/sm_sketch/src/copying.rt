@@ -9,7 +9,7 @@ use crate::sketch::{Sketch, SketchEnd, Sketches};
 use sm_expand::{Simple, Simples};
 use std::alloc::{AllocError, Global};
 
-/// The same sketch, with the same templates.
+/// A copy of a sketch, with its templates.
 pub fn copy_sketch(alloc: Global, sketch: &Sketch) -> Result<Sketch, AllocError>
     ensures drawn { (sorts : Sorts) (trees : List Tree) → IfOk result (λ s.
         sketch_in sorts trees s ≡ sketch_in sorts trees sketch.now) }
@@ -19,7 +19,7 @@ pub fn copy_sketch(alloc: Global, sketch: &Sketch) -> Result<Sketch, AllocError>
     copied(alloc, sketch)
 }
 
-// The same, over numbers of terms.
+// A copy of a sketch, over numbers of terms.
 #[cycle(copied)]
 fn copied(alloc: Global, sketch: &Sketch) -> Result<Sketch, AllocError>
     ensures numbered { IfOk result (λ s. numbered_sketch s ≡ numbered_sketch sketch.now) }
@@ -35,7 +35,7 @@ fn copied(alloc: Global, sketch: &Sketch) -> Result<Sketch, AllocError>
     })
 }
 
-// The same end.
+// A copy of an end.
 #[cycle(copied)]
 fn copied_end(alloc: Global, last: &SketchEnd) -> Result<SketchEnd, AllocError>
     ensures { IfOk result (λ e. numbered_end e ≡ numbered_end last.now) }
@@ -99,7 +99,7 @@ fn boxed_copy(alloc: Global, sketch: &Sketch) -> Result<Box<Sketch>, AllocError>
     Ok(Box::new(alloc, copied(alloc, sketch)?)?)
 }
 
-// The same sketches.
+// A copy of sketches.
 #[cycle(copied)]
 fn copied_sketches(alloc: Global, sketches: &Sketches) -> Result<Sketches, AllocError>
     ensures { IfOk result (λ ps. numbered_sketches ps ≡ numbered_sketches sketches.now) }
@@ -111,8 +111,8 @@ fn copied_sketches(alloc: Global, sketches: &Sketches) -> Result<Sketches, Alloc
     Ok(Sketches { list })
 }
 
-// The same simple nodes.
-pub(crate) fn copied_simples(alloc: Global, simples: &Simples) -> Result<Simples, AllocError>
+/// A copy of simple nodes.
+pub fn copied_simples(alloc: Global, simples: &Simples) -> Result<Simples, AllocError>
     ensures { IfOk result (λ ss. ss.list.items ≡ simples.now.list.items) }
 {
     let mut list = Vec::new(alloc);
@@ -122,7 +122,7 @@ pub(crate) fn copied_simples(alloc: Global, simples: &Simples) -> Result<Simples
     Ok(Simples { list })
 }
 
-// The same simple node.
+// A copy of a simple node.
 fn copied_simple(simple: &Simple) -> Simple
     ensures { result ≡ simple.now }
 {

@@ -22,7 +22,7 @@ mod planning;
 mod sketch;
 
 pub use choices::{all_numbers, all_templates};
-pub use copying::copy_sketch;
+pub use copying::{copied_simples, copy_sketch};
 pub use drawing::{apart, each_step, each_summary, ends, forking, looped, step};
 pub use error::ProductError;
 pub use kept::TemplateChoice;

@@ -61,7 +61,7 @@ fn put_sites(list: &mut Vec<Rc<Formulas>>, sketch: &Sketch) -> Result<(), AllocE
     }
 }
 
-// The same of sketches.
+// Puts the templates of each site of sketches behind others.
 #[cycle(put_sites)]
 fn put_all(list: &mut Vec<Rc<Formulas>>, sketches: &Sketches) -> Result<(), AllocError>
     ensures { OnOk result (shared_forms list.new.items

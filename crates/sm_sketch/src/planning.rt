@@ -64,7 +64,7 @@ fn planned(
     Ok(Plan { straight, last })
 }
 
-// The same of an end.
+// The plan's end of a sketch's end.
 #[cycle(planned)]
 fn planned_end(
     alloc: Global,
@@ -206,7 +206,7 @@ fn next_kept(
     }
 }
 
-// The same simple nodes, the last one first.
+// A copy of simple nodes, the last one first.
 fn turned_round(alloc: Global, simples: &Simples) -> Result<Simples, AllocError>
     ensures { IfOk result (λ ss. ss.list.items ≡ reverse simples.now.list.items) }
 {

@@ -15,7 +15,7 @@ use sm_term::{Formula, copy_formula};
 use sm_theory::CertLine;
 use std::alloc::{AllocError, Global};
 
-// The same formulas.
+// A copy of formulas.
 pub(crate) fn copy_facts(alloc: Global, facts: &[Formula]) -> Result<Vec<Formula>, AllocError>
     ensures { IfOk result (λ v. all_numbered v.items ≡ all_numbered facts.now) }
 {

@@ -64,7 +64,8 @@ pub(crate) fn walk_over(
     Ok(led)
 }
 
-/// The same with no base. Where the first branch is split, the branches below it begin with its
+/// Walks from facts alone, with no base. Where the first branch is split, the branches below it
+/// begin with its
 /// classes.
 pub(crate) fn walk_alone(
     alloc: Global,

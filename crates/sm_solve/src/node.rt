@@ -83,7 +83,7 @@ impl Node {
         }
     }
 
-    // The same, but the terms that were made stay in the table.
+    // The node of facts. The terms that were made stay in the table.
     fn made(
         alloc: Global,
         table: &mut TermTable,
@@ -107,7 +107,7 @@ impl Node {
         }
     }
 
-    // The same, but whether the facts can't hold together isn't looked for.
+    // The node of facts, without a look at whether they can't hold together.
     fn grounded(
         alloc: Global,
         table: &mut TermTable,

@@ -62,7 +62,7 @@ pub fn solve_at(
     }
 }
 
-// The same, but an error leaves the terms that were made.
+// The answer at a node, if there is one. An error leaves the terms that were made.
 fn answered_at(
     alloc: Global,
     table: &mut TermTable,
@@ -103,7 +103,7 @@ fn answered_at(
     }
 }
 
-// The same by a node.
+// The answer by a node.
 fn solve_shared(
     alloc: Global,
     table: &mut TermTable,

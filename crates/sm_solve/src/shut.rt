@@ -360,7 +360,7 @@ fn is_still_shut(
     }
 }
 
-// The same where forms of the facts come to a contradiction.
+// Whether forms of the facts that come to a contradiction close it.
 fn is_shut_by_forms(
     alloc: Global,
     base: &mut Base,
@@ -395,7 +395,7 @@ fn is_shut_by_forms(
     }
 }
 
-// The same by what one look tells of the terms behind those of the facts.
+// Whether what one look tells of the terms behind those of the facts closes it.
 fn is_shut_over(
     alloc: Global,
     grounded: &mut Grounded,

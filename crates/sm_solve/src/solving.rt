@@ -93,7 +93,7 @@ pub fn solve(
     }
 }
 
-// The same, but an error leaves the terms that were made.
+// The answer to facts and a goal. An error leaves the terms that were made.
 fn answered(
     alloc: Global,
     table: &mut TermTable,

@@ -82,7 +82,7 @@ pub(crate) fn visit_branch(
     visit_classes(alloc, &classes, table, forms, terms, facts, reach, count)
 }
 
-// The same by the classes of the branch.
+// Visits a branch by its classes.
 pub(crate) fn visit_classes<'a>(
     alloc: Global,
     classes: &Classes<'a>,

@@ -36,7 +36,8 @@ pub fn well_formed(alloc: Global, p: &Program) -> Result<(), SyntaxError>
     well_formed_block(alloc, &p.decls, &p.outputs, &p.body)
 }
 
-/// The same of a program by its parts.
+/// Whether a program, given by its parts, is well formed: each name of its body as it is declared,
+/// within the limits.
 #[tactic(auto, using(crate::proofs::Uses::conditions), unfolding(crate::specs::text::Conditions::program_fault))]
 pub fn well_formed_block(
     alloc: Global,

@@ -24,3 +24,4 @@ mod written;
 pub use site::{SiteContext, site_of};
 pub use site_templates::{block_templates, loop_templates};
 pub use template_laws::templates_stand_once;
+pub use written::{bodies_write, names_written};

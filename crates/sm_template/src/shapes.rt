@@ -136,7 +136,7 @@ fn put_above(
     Ok(())
 }
 
-// The same of each two copies.
+// One of the literals is above what each two copies differ by.
 fn put_all_above(list: &mut Vec<Shape>, literals: &[i128]) -> Result<(), AllocError>
     ensures { OnOk result
         (list.new.items ≡ list.old.items ++ flat_map (above_any literals.now) named_pairs) }

@@ -112,7 +112,7 @@ pub fn block_templates(
     }
 }
 
-// The same, but an error leaves the terms that were made.
+// The templates of a block. An error leaves the terms that were made.
 fn templates_of_block(
     alloc: Global,
     table: &mut TermTable,
@@ -167,7 +167,7 @@ pub fn loop_templates(
     }
 }
 
-// The same, but an error leaves the terms that were made.
+// The templates of loops. An error leaves the terms that were made.
 fn templates_of_loops(
     alloc: Global,
     table: &mut TermTable,

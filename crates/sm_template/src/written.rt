@@ -62,8 +62,8 @@ fn body_writes(
     Ok(Outputs { list })
 }
 
-// The same of each copy.
-pub(crate) fn bodies_write(
+/// The names that each copy's loop writes in its body, none where the copy is not of the set.
+pub fn bodies_write(
     alloc: Global,
     set: u8,
     code: &PerCopy<Rest<'_>>,
@@ -121,8 +121,8 @@ fn declared_in(alloc: Global, decls: &Decls, set: &BTreeSet<u32>) -> Result<Decl
     Ok(Decls { list })
 }
 
-// The declared names that some copy's code writes, in order of declaration.
-pub(crate) fn names_written(
+/// The declared names that some copy's code writes, in order of declaration.
+pub fn names_written(
     alloc: Global,
     decls: &Decls,
     written: &PerCopy<Outputs>,

@@ -46,7 +46,7 @@ impl TermTable {
         }
     }
 
-    // The same, but that rows may be there after an error.
+    // The terms of rows from others' tables. Rows may be there after an error.
     fn adopted(&mut self, alloc: Global, rows: &TermRows, from: u64) -> Result<Terms, AllocError>
         requires behind { from ≤ length (trees_in self.old) }
         requires sound { let first = take from (trees_in self.old) in

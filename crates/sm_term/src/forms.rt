@@ -45,7 +45,7 @@ pub fn form_of(
     }
 }
 
-// The same, but an error leaves the terms that were made.
+// The formula of a condition. An error leaves the terms that were made.
 #[cycle(forms)]
 fn made_form(
     alloc: Global,

@@ -19,7 +19,7 @@ pub enum Formula {
     Or(Box<Formula>, Box<Formula>),
 }
 
-/// The same formula.
+/// A copy of a formula.
 #[cycle(copy_form)]
 pub fn copy_formula(alloc: Global, f: &Formula) -> Result<Formula, AllocError>
     ensures { IfOk result (λ c. numbered c ≡ numbered f.now) }

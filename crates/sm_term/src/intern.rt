@@ -61,7 +61,7 @@ impl TermTable {
         Ok(self.add(t)?)
     }
 
-    // The same of a term that fits.
+    // The number of a term that fits, the old one if it is there.
     pub(crate) fn add(&mut self, t: Term) -> Result<TermId, AllocError>
         requires within { let n = length (trees_in self.old) in
             IsTermWithin (sorts_in self.old) (length (codes_in self.old)) n t }

@@ -87,7 +87,7 @@ fn here(part: TermId, from: u64, answers: &[TermId]) -> TermId
     }
 }
 
-// The same of each part of a list.
+// The number here of each part of a list.
 fn all_here(
     alloc: Global,
     parts: &[TermId],

@@ -40,7 +40,7 @@ pub fn term_of(table: &mut TermTable, e: &Expr, s: &SymStore) -> Result<TermId, 
     }
 }
 
-// The same, but an error leaves the terms that were made.
+// The term of an expression. An error leaves the terms that were made.
 #[cycle(terms)]
 fn made_term(table: &mut TermTable, e: &Expr, s: &SymStore) -> Result<TermId, AllocError>
     requires expression { IsWellSortedExpression (sorts_in table.old) (expression_of e.now) }

@@ -103,7 +103,7 @@ pub(crate) fn name_term(
     }
 }
 
-// The same of a term that has no number.
+// Gives a number to a term that has none, with the lines that this takes.
 fn walked(alloc: Global, w: &mut Writer, table: &TermTable, t: TermId) -> Result<(), AllocError>
     requires inside { t.0 < length (trees_in table.now) }
     requires open { get nat_eq w.old.names t.0 ≡ None }

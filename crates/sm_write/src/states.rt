@@ -65,7 +65,7 @@ fn name_open(
     Ok(())
 }
 
-// The same of any term.
+// Gives a number to any term.
 fn name_one(
     w: &mut Writer,
     table: &TermTable,
@@ -83,7 +83,7 @@ fn name_one(
     }
 }
 
-// The same of the terms of a copy's first names.
+// Gives numbers to the terms of a copy's first names.
 fn name_held(
     w: &mut Writer,
     table: &TermTable,
@@ -100,7 +100,7 @@ fn name_held(
     Ok(())
 }
 
-// The same of a copy's store.
+// Gives numbers to the terms of a copy's store.
 fn name_store(
     w: &mut Writer,
     table: &TermTable,

@@ -89,7 +89,7 @@ pub fn write_proof(
     }
 }
 
-// The same, but an error leaves the terms that were made.
+// Writes the proof. An error leaves the terms that were made.
 fn written_proof(
     alloc: Global,
     table: &mut TermTable,

@@ -1,4 +1,4 @@
--- The same of a choice by the first symbol, and of a group between two signs.
+-- What a choice by the first symbol reads is spelled by it, and what a group between two signs reads by the group.
 use Rattle.std.proofs.Common.{◌≡◌, ℕ, refl, sym, ap, ◌∙◌, subst, Bool, true, false, Option, Some, None, Result, Ok, Err, List, [], ◌∷◌}
 use Rattle.std.proofs.Common.{◌++◌, map}
 use Rattle.std.specs.Prelude.{nat_le, if◌then◌else◌}

@@ -1,4 +1,4 @@
--- The same is given of the terms and of their places.
+-- What is given of the terms is given of their places.
 use Rattle.std.proofs.Common.{List, sym, subst}
 use Rattle.sm_cc.specs.declared.classes.GivenFact.{GivenFact}
 use Rattle.sm_cc.specs.Assumed.{AreClasses}
