@@ -20,7 +20,7 @@ use Rattle.sm_houdini.specs.Outcomes.{Outcome}
 use Rattle.sm_syntax.specs.claim.ConflictFree.{A, B}
 use Rattle.sm_commands.proofs.SpelledLemmas.{outcome_one}
 use Rattle.sm_commands.specs.Check.{reach_of, AnswersCheck, IsInputText, IsNote, SaysNoted, SaysOutcome, ShowsTrial}
-use Rattle.sm_commands.specs.Deeper.{AnswersTask}
+use Rattle.sm_commands.specs.Deeper.{AnswersDeeper, AnswersTask}
 use Rattle.sm_commands.specs.Suggest.{is_accepted, AnswersSuggest, Decides, SaysSuggestion, Suggests}
 use Rattle.sm_suggest.specs.Combinations.{choices, combination, hole_count}
 use Rattle.sm_suggest.specs.First.{IsFirst}
@@ -91,7 +91,8 @@ check_same t effort s u l m a b =
 no_write : (t : Parts) (effort : Effort) (s : Status) (l : List ℕ) → effort.deeper ≡ false → s ≢ WriteFault
     → AnswersTask t effort s l → AnswersCheck t effort s l
 no_write t effort s l plain no_fault (inl (inl a)) = a
-no_write t effort s l plain no_fault (inl (inr a)) = let asked = a.asked in cc
+no_write t effort s l plain no_fault (inl (inr (inl a))) = let asked = a.asked in cc
+no_write t effort s l plain no_fault (inl (inr (inr a))) = let asked = a.asked in cc
 no_write t effort s l plain no_fault (inr a) = absurd (no_fault a.says.ended)
 
 checks_same : (file : Known) (effort : Effort) (b n c m : ℕ) (s u : Status) (t v : List ℕ) → effort.deeper ≡ false → file ≢ untold → (¬ Rose b n)
@@ -224,12 +225,12 @@ fewer_check : (t : Parts) (effort : Effort) (workers : ℕ) (s : Status) (l : Li
     AnswersCheck t hired s l → AnswersCheck t effort s l
 fewer_check t effort workers s l a = record { outcome = a.outcome; found = a.found; says = a.says }
 
-fewer_written : (t : Parts) (effort : Effort) (workers : ℕ) (s : Status) (l : List ℕ) →
+fewer_deeper : (t : Parts) (effort : Effort) (workers : ℕ) (s : Status) (l : List ℕ) →
     let hired : Effort = record effort { workers = workers } in
-    AnswersTask t hired s l → AnswersTask t effort s l
-fewer_written t effort workers s l (inl (inl a)) = inl (inl (fewer_check t effort workers s l a))
-fewer_written t effort workers s l (inl (inr a)) =
-    inl (inr (record {
+    AnswersDeeper t hired s l → AnswersDeeper t effort s l
+fewer_deeper t effort workers s l (inl a) = inl (fewer_check t effort workers s l a)
+fewer_deeper t effort workers s l (inr (inl a)) =
+    inr (inl (record {
       asked = a.asked;
       line = a.line;
       undecided = fewer_check t effort workers Unknown a.line a.undecided;
@@ -241,7 +242,21 @@ fewer_written t effort workers s l (inl (inr a)) =
       judged = a.judged;
       shows = a.shows;
     }))
-fewer_written t effort workers s l (inr f) = inr (record { found = f.found; says = f.says })
+fewer_deeper t effort workers s l (inr (inr a)) =
+    inr (inr (record {
+      asked = a.asked;
+      line = a.line;
+      undecided = fewer_check t effort workers Unknown a.line a.undecided;
+      free = a.free;
+      says = a.says;
+    }))
+
+fewer_written : (t : Parts) (effort : Effort) (workers : ℕ) (s : Status) (l : List ℕ) →
+    let hired : Effort = record effort { workers = workers } in
+    AnswersTask t hired s l → AnswersTask t effort s l
+fewer_written t effort workers s l (inl a) = inl (fewer_deeper t effort workers s l a)
+fewer_written t effort workers s l (inr f) =
+    inr (record { line = f.line; accepted = fewer_deeper t effort workers Accepted f.line f.accepted; says = f.says })
 
 fewer_checks : (file : Known) (effort : Effort) (workers b n : ℕ) (s : Status) (l : List ℕ) →
     let hired : Effort = record effort { workers = workers } in

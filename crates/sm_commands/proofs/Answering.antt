@@ -44,8 +44,9 @@ outcome_accepted t outcome.TooMany status text h e = let is = h.2.ended in cc
 pub accepted_is_free : (t : Parts) (effort : Effort) (status : Status) (text : List ℕ)
     → AnswersTask t effort status text → status ≡ Accepted → ConflictFree (task_of t)
 accepted_is_free t effort status text (inl (inl a)) e = (outcome_accepted t a.outcome status text a.says e).1
-accepted_is_free t effort status text (inl (inr a)) e =
+accepted_is_free t effort status text (inl (inr (inl a))) e =
     let is = shown_status t a.number (meaning a.store) a.verdict status text a.shows in cc
+accepted_is_free t effort status text (inl (inr (inr a))) e = a.free
 accepted_is_free t effort status text (inr a) e = let is = a.says.ended in cc
 
 -- the file that is asked of is one

@@ -79,8 +79,9 @@ pub checked_conflict : (t : Parts) (effort : Effort) (status : Status) (text : L
     → AnswersTask t effort status text → status ≡ Conflict → IsShown t effort.turns text
 checked_conflict t effort status text (inl (inl a)) e =
     outcome_conflict t (reach_of effort) effort.turns a.outcome status text a.found a.says e
-checked_conflict t effort status text (inl (inr a)) e =
+checked_conflict t effort status text (inl (inr (inl a))) e =
     shown_from t effort.turns a.number (meaning a.store) a.verdict status text a.violates a.shows
+checked_conflict t effort status text (inl (inr (inr a))) e = let s = a.says.2.ended in cc
 checked_conflict t effort status text (inr a) e = let s = a.says.ended in cc
 
 -- such a task isn't free of conflicts

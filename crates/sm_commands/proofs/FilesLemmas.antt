@@ -220,7 +220,8 @@ kept_whole bytes effort b n before now s line old new t no_write no_read cause f
 
     go : AnswersTask c.task effort s line → HoldsProof t old new
     go (inl (inl a)) = whole (decided s line a)
-    go (inl (inr a)) = let unknown = decided Unknown a.line a.undecided in cc
+    go (inl (inr (inl a))) = let unknown = decided Unknown a.line a.undecided in cc
+    go (inl (inr (inr a))) = let unknown = decided Unknown a.line a.undecided in cc
     go (inr a) = absurd (no_write (cause.rose a.says.ended))
 
 -- ---- `check` of a task
@@ -231,13 +232,8 @@ pub written_answers : (t : Parts) (effort : Effort) (s u : Status) (l m : List �
 written_answers t effort s u l m P Q a e (inl h) =
     inl (subst (λ (x : Status). AnswersDeeper t effort x m) (sym h.0.ended)
     (subst (λ (x : List ℕ). AnswersDeeper t effort s x) (sym h.0.printed) a))
-written_answers t effort s u l m P Q (inl a) e (inr h) = inr (record {
-  found =
-      subst (λ (o : Outcome (ℕ × Verdict)). IsOutcome t (reach_of effort) effort.turns o) (outcome_accepted t a.outcome s l a.says e).0 a.found;
-  says = h.0;
-})
-written_answers t effort s u l m P Q (inr a) e (inr h) =
-    let is = shown_status t a.number (meaning a.store) a.verdict s l a.shows in cc
+written_answers t effort s u l m P Q a e (inr h) =
+    inr (record { line = l; accepted = subst (λ (x : Status). AnswersDeeper t effort x l) e a; says = h.0 })
 
 pub written_cut : (t : Parts) (old new : Known) (proof : List ℕ) → Passes t proof → HasVersion t proof → IsBegun proof old new
     → LeftCut t old new

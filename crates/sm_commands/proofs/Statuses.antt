@@ -61,8 +61,9 @@ check_to_command file effort before now status text (inr c) = record { of_comman
   where
     go : AnswersTask c.task effort status text → IsOfCommand status
     go (inl (inl a)) = (checked_status c.task effort status text a).of_command
-    go (inl (inr a)) =
+    go (inl (inr (inl a))) =
         (same_as status Conflict (shown_status c.task a.number _ a.verdict status text a.shows) of_conflict).of_command
+    go (inl (inr (inr a))) = (same_as status Accepted a.says.2.ended of_accepted).of_command
     go (inr a) = subst IsOfCommand (sym a.says.ended) of_write
 
 pub gen_to_command : (seed size : ℕ) (effort : Effort) (before now : ℕ) (status : Status) (text : List ℕ)

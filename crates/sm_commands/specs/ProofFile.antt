@@ -1,15 +1,10 @@
 -- What `check` does with the file of a proof. Public clauses cite it.
-use Rattle.std.specs.Prelude.{◌≡◌, ◌≢◌, ◌⊎◌, ◌<◌, ℕ, List, codes, length, take}
+use Rattle.std.specs.Prelude.{◌≡◌, ◌≢◌, ◌⊎◌, ◌<◌, ℕ, List, length, take}
 use Rattle.sm_io.specs.Files.{Known, WhereHeld, emptied, longer}
-use Rattle.sm_houdini.specs.Outcomes as outcome
-use Rattle.sm_houdini.specs.Outcomes.{IsOutcome}
 use Rattle.sm_proof.specs.Verdicts.{Passes}
 use Rattle.sm_syntax.specs.text.Parts.{Parts}
 use Rattle.sm_syntax.specs.text.Spells.{Spells}
 use Rattle.sm_write.specs.Versions.{HasVersion}
-use Rattle.sm_commands.specs.Check.{reach_of}
-use Rattle.sm_answers.specs.Status.{Says}
-use Rattle.sm_words.specs.declared.effort.Effort.{Effort}
 use Rattle.sm_answers.specs.declared.status.Status.{Status}
 use Rattle.sm_answers.specs.declared.status.Status.TheVariants.{Accepted, WriteFault}
 
@@ -45,11 +40,6 @@ LeftBy t status before now =
 -- the task is the one that the file's bytes spell, where the shelf tells them
 abbrev pub IsTaskIn : Known → Parts → Type 0
 IsTaskIn file t = WhereHeld file (λ (bytes : List ℕ). Spells bytes t)
-
--- the task that the file gives is accepted, but its proof couldn't be written whole
-pub record FailsToWrite (t : Parts) (effort : Effort) (status : Status) (text : List ℕ) : Type 0 where
-  pub found : IsOutcome t (reach_of effort) effort.turns outcome.Accepted
-  pub says : Says WriteFault (codes "WriteFault\n") status text
 
 -- what is left in the file of a proof that couldn't be written whole: what it had, or nothing, or for
 -- the task of a file a proper front of a proof

@@ -171,8 +171,8 @@ pub fn violation(
     })
 }
 
-// The answer that the task is accepted.
-fn accepted(alloc: Global, task: &Task) -> Result<Reply, AllocError>
+/// The answer that the task is accepted.
+pub fn accepted(alloc: Global, task: &Task) -> Result<Reply, AllocError>
     requires { sort_fault (parts_of task.now) ≡ None }
     ensures { IfOk result (λ r. SaysNoted (parts_of task.now) Status.Accepted (codes "Accepted\n")
         r.status r.text.items) }

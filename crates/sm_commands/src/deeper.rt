@@ -7,22 +7,26 @@ ghost use Rattle.sm_syntax.specs.text.Parts.{sort_of};
 ghost use Rattle.sm_task.specs.Tasks.{parts_of};
 ghost use Rattle.sm_text.specs.printing.Named.{HasText};
 ghost use Rattle.sm_commands.specs.Check.{AnswersCheck};
-ghost use Rattle.sm_commands.specs.Deeper.{AnswersDeeper, ShowsBeyond};
+ghost use Rattle.sm_commands.specs.Deeper.{AnswersDeeper, GoesBeyond, ShowsBeyond};
 ghost use Rattle.sm_commands.specs.Views.{ComesWith};
 ghost use Rattle.sm_answers.specs.declared.status.Status.TheVariants.{Unknown};
 ghost use Rattle.sm_words.specs.Views.{HasWorkers};
 
-use crate::check::{Decided, Place, check, violation};
+use crate::check::{Decided, Place, accepted, check, violation};
 use sm_answers::{Reply, Status};
-use sm_guided::violation_beyond;
+use sm_deeper::search_deeper;
+use sm_guided::{all_tried, violation_beyond};
+use sm_houdini::proof_text;
 use sm_par::Gate;
+use sm_solve::Reach;
 use sm_task::Task;
 use sm_words::Effort;
 use std::alloc::{AllocError, Global};
 use std::thread::Threads;
 
 /// The answer to a task that some text spells. Where its search decides nothing and the effort says
-/// so, inputs beyond the trials are run; the first that violates is the answer. Where none does, the
+/// so, inputs beyond the trials are run; the first that violates is the answer. Where none does, a
+/// proof is looked for along their runs, and where one is found, the task is accepted by it. Else the
 /// answer stays. Jobs are for 1 to 64 workers.
 pub fn check_deeper<R: Threads + Sync, G: Gate>(
     rt: &R,
@@ -40,15 +44,37 @@ pub fn check_deeper<R: Threads + Sync, G: Gate>(
 {
     let decided = check(rt, alloc, gate, task, effort)?;
     if effort.deeper && decided.reply.status == Status::Unknown {
-        if let Some(reply) = beyond(alloc, task, effort, &decided.reply)? {
-            return Ok(Decided { reply, proof: None });
+        if let Some(more) = beyond(alloc, task, effort, &decided.reply)? {
+            return Ok(more);
         }
     }
     Ok(decided)
 }
 
-// The answer that an input beyond the trials violates, where one is found.
+// What is answered where the search decides nothing: an input that violates, or else a proof. None
+// where neither is found.
 fn beyond(
+    alloc: Global,
+    task: &Task,
+    effort: Effort,
+    undecided: &Reply,
+) -> Result<Option<Decided>, AllocError>
+    requires spelled { HasText (parts_of task.now) }
+    requires asked { effort.deeper ≡ true }
+    requires undecided { AnswersCheck (parts_of task.now) effort Unknown undecided.now.text.items }
+    ensures answers { IfOk result (λ found. IfSome found (λ d.
+        GoesBeyond (parts_of task.now) effort d.reply.status d.reply.text.items)) }
+    ensures proof { IfOk result (λ found. IfSome found (λ d. ComesWith (parts_of task.now)
+        d.reply.status (option_map (λ v. v.items) d.proof))) }
+{
+    if let Some(reply) = shown_beyond(alloc, task, effort, undecided)? {
+        return Ok(Some(Decided { reply, proof: None }));
+    }
+    proved_beyond(alloc, task, effort, undecided)
+}
+
+// The answer that an input beyond the trials violates, where one is found.
+fn shown_beyond(
     alloc: Global,
     task: &Task,
     effort: Effort,
@@ -69,6 +95,39 @@ fn beyond(
                 clause: shown.clause,
             };
             Ok(Some(violation(alloc, task, shown.number, &shown.input, at)?))
+        }
+        None => Ok(None),
+    }
+}
+
+// The answer that the task is accepted, with a proof that is found along runs, where one is.
+fn proved_beyond(
+    alloc: Global,
+    task: &Task,
+    effort: Effort,
+    undecided: &Reply,
+) -> Result<Option<Decided>, AllocError>
+    requires spelled { HasText (parts_of task.now) }
+    requires asked { effort.deeper ≡ true }
+    requires undecided { AnswersCheck (parts_of task.now) effort Unknown undecided.now.text.items }
+    ensures answers { IfOk result (λ found. IfSome found (λ d.
+        GoesBeyond (parts_of task.now) effort d.reply.status d.reply.text.items)) }
+    ensures proof { IfOk result (λ found. IfSome found (λ d. ComesWith (parts_of task.now)
+        d.reply.status (option_map (λ v. v.items) d.proof))) }
+{
+    let inputs = all_tried(alloc, task, effort.turns)?;
+    let reach = Reach {
+        steps: effort.steps,
+        exact: effort.exact,
+    };
+    match search_deeper(alloc, task, &inputs, reach)? {
+        Some(proof) => {
+            let text = proof_text(alloc, task, proof)?;
+            let reply = accepted(alloc, task)?;
+            Ok(Some(Decided {
+                reply,
+                proof: Some(text),
+            }))
         }
         None => Ok(None),
     }

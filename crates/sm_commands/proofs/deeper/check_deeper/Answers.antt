@@ -1,21 +1,12 @@
-use Rattle.std.proofs.Common.{Option, IfSome, subst}
-use Rattle.sm_eval.specs.StoredValues.{meaning}
+-- What is found beyond the search is an answer.
+use Rattle.std.proofs.Common.{Option, IfSome, inr, subst}
 use Rattle.sm_task.specs.Tasks.{parts_of}
-use Rattle.sm_answers.specs.declared.status.Reply.{Reply}
-use Rattle.sm_commands.proofs.SpelledLemmas.{is_spelled}
-use Rattle.sm_commands.proofs.Statuses.{shown_status}
-use Rattle.sm_commands.specs.Deeper.{ShowsBeyond}
+use Rattle.sm_commands.specs.Deeper.{GoesBeyond}
+use Rattle.sm_commands.specs.declared.check.Decided.{Decided}
 use Rattle.sm_commands.proofs.deeper.check_deeper.Goals as goal
 
-pub beyond-requires-clause-runs : goal.beyond-requires-clause-runs
-beyond-requires-clause-runs g c = (is_spelled (parts_of c.args.task.now) c.requires.spelled).runs
-
-pub beyond-requires-clause-named : goal.beyond-requires-clause-named
-beyond-requires-clause-named g c = (is_spelled (parts_of c.args.task.now) c.requires.spelled).named
-
-pub returns-in-Some-clause-proof : goal.returns-in-Some-clause-proof
-returns-in-Some-clause-proof g c = λ accepted.
+pub returns-in-Some-clause-answers : goal.returns-in-Some-clause-answers
+returns-in-Some-clause-answers g c =
     let t = parts_of c.args.task.now in
-    let by : ShowsBeyond t c.args.effort c.in-Some.reply.status c.in-Some.reply.text.items =
-    subst (λ (o : Option Reply). IfSome o (λ r. ShowsBeyond t c.args.effort r.status r.text.items)) c.in-Some.is c.in_ok-reply.ensures in
-    let is = shown_status t by.number (meaning by.store) by.verdict c.in-Some.reply.status c.in-Some.reply.text.items by.shows in cc
+    inr (subst (λ (o : Option Decided). IfSome o (λ d. GoesBeyond t c.args.effort d.reply.status d.reply.text.items)) c.in-Some.is
+    c.in_ok-more.ensures.answers)

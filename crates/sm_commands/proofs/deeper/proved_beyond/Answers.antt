@@ -1,0 +1,41 @@
+-- The proof passes, so the task is free of conflicts.
+use Rattle.std.proofs.Common.{Option, IfSome, inr, subst}
+use Rattle.sm_houdini.specs.Views.{IsWhole}
+use Rattle.sm_houdini.specs.declared.outcome.Proof.{Proof}
+use Rattle.sm_proof.proofs.PassSound.{pass_free}
+use Rattle.sm_task.specs.Tasks.{parts_of}
+use Rattle.sm_commands.proofs.SpelledLemmas.{is_spelled}
+use Rattle.sm_commands.proofs.deeper.proved_beyond.Goals as goal
+
+pub all_tried-requires : goal.all_tried-requires
+all_tried-requires c = (is_spelled (parts_of c.args.task.now) c.requires.spelled).runs
+
+pub search_deeper-requires-clause-sorted : goal.search_deeper-requires-clause-sorted
+search_deeper-requires-clause-sorted c = (is_spelled (parts_of c.args.task.now) c.requires.spelled).sorted
+
+pub search_deeper-requires-clause-numbered : goal.search_deeper-requires-clause-numbered
+search_deeper-requires-clause-numbered c = (is_spelled (parts_of c.args.task.now) c.requires.spelled).numbered
+
+pub proof_text-requires-clause-sorted : goal.proof_text-requires-clause-sorted
+proof_text-requires-clause-sorted c = (is_spelled (parts_of c.args.task.now) c.requires.spelled).sorted
+
+pub proof_text-requires-clause-numbered : goal.proof_text-requires-clause-numbered
+proof_text-requires-clause-numbered c = (is_spelled (parts_of c.args.task.now) c.requires.spelled).numbered
+
+pub proof_text-requires-clause-proof : goal.proof_text-requires-clause-proof
+proof_text-requires-clause-proof c =
+    subst (λ (o : Option Proof). IfSome o (IsWhole (parts_of c.args.task.now))) c.in-Some.is c.in_ok-search_deeper.ensures
+
+pub accepted-requires : goal.accepted-requires
+accepted-requires c = (is_spelled (parts_of c.args.task.now) c.requires.spelled).runs
+
+pub returns-in_ok-reply-in-Some-clause-answers : goal.returns-in_ok-reply-in-Some-clause-answers
+returns-in_ok-reply-in-Some-clause-answers c =
+    let t = parts_of c.args.task.now in
+    inr (record {
+      asked = c.requires.asked;
+      line = c.args.undecided.now.text.items;
+      undecided = c.requires.undecided;
+      free = pass_free t c.in_ok-text-in-Some.text.items (is_spelled t c.requires.spelled).sorted c.in_ok-text-in-Some.ensures.passes;
+      says = c.in_ok-reply-in-Some.ensures;
+    })
