@@ -5,7 +5,7 @@
 //!   proof it writes to a file; `Conflict` for one that isn't, with the first trial that shows it;
 //!   or `Unknown` with the first goal that stays open. With `--exact` the search decides a branch
 //!   that nothing splits over whole numbers, and with `--deeper` inputs beyond the trials are run
-//!   where it decides nothing. `verify` prints `Accepted` exactly where the bytes of
+//!   where it decides nothing, and a proof is looked for along their runs. `verify` prints `Accepted` exactly where the bytes of
 //!   a proof's file pass for the task, which is then free of conflicts, and else the number of the
 //!   first bad line and the word for what is wrong with it. `replay` judges one input exactly,
 //!   `print` puts the canonical text of a task, or of the program of a copy, `suggest` the first
