@@ -1,0 +1,2 @@
+pub mod ReadyPlans
+pub mod SortedBlocks

@@ -1,0 +1,33 @@
+-- Each branching node leaves room for one less below it.
+use Rattle.std.proofs.Common.{◌+◌, ◌*◌, List, map}
+use Rattle.sm_syntax.specs.text.Sorts.{Sorts}
+use Rattle.sm_term.specs.Terms.{Tree}
+use Rattle.sm_expand.specs.NumberedPlans.{Over, plans_before, ArePlansReady}
+use Rattle.sm_expand.specs.Views.{numbered_plan}
+use Rattle.sm_drawing.proofs.trees.+draw.Given as goal
+
+abbrev pub decreases-draw_works : goal.decreases-draw_works
+decreases-draw_works l = 6 * l.room + 2
+
+abbrev pub decreases-draw_last : goal.decreases-draw_last
+decreases-draw_last l = 6 * l.room + 1
+
+abbrev pub decreases-draw_fork : goal.decreases-draw_fork
+decreases-draw_fork l = 6 * l.room
+
+abbrev pub decreases-draw_loops : goal.decreases-draw_loops
+decreases-draw_loops l = 6 * l.room
+
+abbrev pub decreases-draw_turns : goal.decreases-draw_turns
+decreases-draw_turns l = 6 * l.room + 5
+
+abbrev pub decreases-draw_turn : goal.decreases-draw_turn
+decreases-draw_turn l = 6 * l.room + 4
+
+abbrev pub decreases-draw_branch : goal.decreases-draw_branch
+decreases-draw_branch l = 6 * l.room + 3
+
+-- each turn so far is ready over each table
+abbrev pub invariant-draw_turns-loop-mask : goal.invariant-draw_turns-loop-mask
+invariant-draw_turns-loop-mask l =
+    (sorts : Sorts) (trees : List Tree) → ArePlansReady sorts trees (plans_before (map numbered_plan l.turns.items) Over)
