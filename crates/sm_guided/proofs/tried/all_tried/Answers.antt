@@ -4,4 +4,4 @@ use Rattle.sm_task.specs.Tasks.{parts_of}
 use Rattle.sm_guided.proofs.tried.all_tried.Goals as goal
 
 pub new-requires-clause-sorted : goal.new-requires-clause-sorted
-new-requires-clause-sorted c = filled_sorted (parts_of c.args.task.now) c.in_ok-programs.programs c.requires c.in_ok-programs.ensures
+new-requires-clause-sorted c = filled_sorted (parts_of c.args.task.now) c.in_ok-programs.programs c.requires.runs c.in_ok-programs.ensures
