@@ -6,7 +6,7 @@ use Rattle.sm_commands.specs.Top.{AnswersRequest, Checks}
 use Rattle.sm_words.specs.Words.{Asked, asked}
 use Rattle.sm_commands.proofs.Answering.{accepts, sound}
 use Rattle.sm_commands.proofs.BatchSafe.{batches_safe}
-use Rattle.sm_commands.proofs.FilesLemmas.{kept_whole, leaves_cut, leaves_front, left_by}
+use Rattle.sm_commands.proofs.FilesLemmas.{kept_whole, leaves_cut, leaves_front, left_by, same_by}
 use Rattle.sm_commands.proofs.ConflictSound.{conflicts, explains_shown, shows, replays_shown}
 use Rattle.sm_commands.proofs.ReadingsLemmas.{accepts_read, batches_read, conflicts_read, proves_read, shows_read, suggests_read}
 use Rattle.sm_commands.proofs.SuggestedSafe.{suggests_safe}
@@ -184,3 +184,13 @@ returns-in-Ok-clause-batched_read g c = λ _ list cache effort asks. (
       c.in-Some.reply.status c.in-Some.reply.text.items c.in-Some.ensures.read list cache effort asks,
   search rules,
 )
+
+pub returns-in-Err-Fault-clause-same : goal.returns-in-Err-Fault-clause-same
+returns-in-Err-Fault-clause-same g c = λ name never.
+    same_by (asked (map string_bytes c.args.words.now)) (g.H.Shelf.file c.args.shelf.now) (g.H.Shelf.file c.reply_to.new.shelf)
+    c.in-Some.reply.status c.in-Some.ensures.left name never
+
+pub returns-clause-same : goal.returns-clause-same
+returns-clause-same g c = λ name never.
+    same_by (asked (map string_bytes c.args.words.now)) (g.H.Shelf.file c.args.shelf.now) (g.H.Shelf.file c.reply_to.new.shelf)
+    c.in-Some.reply.status c.in-Some.ensures.left name never
