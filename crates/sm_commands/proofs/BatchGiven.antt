@@ -10,7 +10,7 @@ use Rattle.std.proofs.lemmas.List.Elements.{All-push}
 use Rattle.sm_io.specs.Files.{Known}
 use Rattle.sm_io.specs.Reads.{Read, reads_on, ReadsWhole}
 use Rattle.sm_syntax.specs.claim.ConflictFree.{ConflictFree}
-use Rattle.sm_syntax.specs.text.Parts.{Parts, task_of}
+use Rattle.sm_syntax.specs.text.Parts.{task_of}
 use Rattle.sm_syntax.specs.text.Spells.{Spells}
 use Rattle.sm_text.specs.declared.task.Task.{Task}
 use Rattle.sm_text.specs.printing.Named.{HasText}
@@ -19,18 +19,17 @@ use Rattle.sm_answers.specs.File.{FailsToRead, GivesTask, GivesNoTask}
 use Rattle.sm_answers.specs.Readings.{ReadsOnce, ReadsTask}
 use Rattle.sm_answers.proofs.Statuses.{without_task}
 use Rattle.sm_commands.specs.Batch.{Line, IsLineOf, first_line}
-use Rattle.sm_commands.specs.BatchSteps.{line_in, lines_of, told, told_status, IsTheReply, RepliesTo, IsGiven, IsNone, AreGiven, GivesNext}
+use Rattle.sm_commands.specs.BatchSteps.{told, told_status, IsTheReply, RepliesTo, IsGiven, IsNone, AreGiven, GivesNext}
 use Rattle.sm_commands.specs.BatchSteps.{IsLineRead, AreLinesRead}
 use Rattle.sm_commands.specs.Check.{AnswersCheck}
 use Rattle.sm_commands.specs.Headline.{IsSafeMerge}
 use Rattle.sm_commands.specs.HeadlineBatch.{GoesOn, ReadsAmong}
-use Rattle.sm_commands.specs.HeadlineRead.{ReadsOne}
 use Rattle.sm_commands.proofs.Answering.{outcome_accepted}
 use Rattle.sm_commands.proofs.BatchTold.{check_told}
 use Rattle.sm_words.specs.declared.effort.Effort.{Effort}
 use Rattle.sm_answers.specs.declared.status.Reply.{Reply}
 use Rattle.sm_answers.specs.declared.status.Status.{Status}
-use Rattle.sm_answers.specs.declared.status.Status.TheVariants.{Accepted, ReadFault}
+use Rattle.sm_answers.specs.declared.status.Status.TheVariants.{ReadFault}
 
 -- ---- reads
 

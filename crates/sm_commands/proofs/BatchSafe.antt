@@ -1,7 +1,7 @@
 -- What a line `I Accepted` of a batch says: of told files, and of the bytes that were read.
-use Rattle.std.proofs.Common.{◌≡◌, ◌≢◌, ◌<◌, ◌≤◌, ◌⊎◌, suc, get_or, inl, inr, ℕ, List, [], ◌∷◌, Some, Option, length, map, codes, slice_get, refl, sym, ap, subst, ◌∙◌, arith}
+use Rattle.std.proofs.Common.{◌≡◌, ◌≢◌, ◌<◌, ◌⊎◌, suc, get_or, inl, inr, ℕ, List, [], ◌∷◌, Some, length, codes, slice_get, refl, sym, ap, subst, ◌∙◌, arith}
 use Rattle.std.specs.List.{AllZip}
-use Rattle.sm_io.specs.Files.{Known, WhereHeld, holds}
+use Rattle.sm_io.specs.Files.{Known, WhereHeld}
 use Rattle.sm_io.specs.Reads.{Read}
 use Rattle.sm_check.specs.LineEnds.{HasNoEnd}
 use Rattle.sm_syntax.specs.text.Spells.{Spells}
@@ -10,20 +10,20 @@ use Rattle.sm_task.specs.declared.error.TaskError.{TaskError}
 use Rattle.sm_task.specs.declared.error.TaskError.TheVariants as no_task
 use Rattle.sm_answers.specs.File.{GivesNoTask}
 use Rattle.sm_answers.specs.Lines.{refusal_line}
-use Rattle.sm_answers.specs.Lists.{names_in, GivesList, GivesNoList, IsList, ReadsList}
+use Rattle.sm_answers.specs.Lists.{names_in, GivesList, GivesNoList, ReadsList}
 use Rattle.sm_answers.proofs.ListUnique.{bad_number, few_names}
 use Rattle.sm_commands.specs.Batch.{Line, AnswersFile, IsLineOf, first_line, numbered, FailsToReadOne, AnswersAll, Batches}
 use Rattle.sm_commands.specs.BatchSteps.{texts, told_status, IsLineRead, AreLinesRead}
 use Rattle.sm_commands.specs.Headline.{IsSafeMerge}
-use Rattle.sm_commands.specs.HeadlineBatch.{AcceptsSafe, AcceptsSafeRead, GoesOn, HasAccepted, ReadsAmong}
+use Rattle.sm_commands.specs.HeadlineBatch.{AcceptsSafe, AcceptsSafeRead, HasAccepted}
 use Rattle.sm_commands.specs.Top.{Files, IsAnswerTo}
 use Rattle.sm_commands.proofs.Answering.{outcome_accepted}
-use Rattle.sm_commands.proofs.BatchText.{AreWhole, StandsAccepted, accepted_name, bad_not_accepted, no_accepted, no_end_by, no_end_first}
+use Rattle.sm_commands.proofs.BatchText.{AreWhole, accepted_name, bad_not_accepted, no_accepted, no_end_by, no_end_first}
 use Rattle.sm_commands.proofs.BatchTold.{check_told}
 use Rattle.sm_words.specs.Words.{Words, asked, batch}
 use Rattle.sm_words.specs.declared.effort.Effort.{Effort}
 use Rattle.sm_answers.specs.declared.status.Status.{Status}
-use Rattle.sm_answers.specs.declared.status.Status.TheVariants.{Accepted, Refused, ReadFault}
+use Rattle.sm_answers.specs.declared.status.Status.TheVariants.{Accepted, ReadFault}
 
 -- ---- answers without lines
 

@@ -1,5 +1,5 @@
 -- Which statuses `batch` has, and what its answers say of the count of faults.
-use Rattle.std.proofs.Common.{◌≡◌, ◌≢◌, ◌⊎◌, inl, inr, ℕ, Bool, true, false, if◌then◌else◌, List, map, sym, subst, ◌∙◌}
+use Rattle.std.proofs.Common.{◌⊎◌, inl, inr, ℕ, Bool, true, false, if◌then◌else◌, List, map, ◌∙◌}
 use Rattle.sm_io.specs.Files.{Known}
 use Rattle.sm_answers.specs.Lists.{GivesNoList}
 use Rattle.sm_answers.proofs.Statuses.{IsToCommand, WritesNothing, of_accepted, of_conflict, of_fault, of_refused, of_unknown, same_as}

@@ -1,6 +1,6 @@
 -- The lines of a batch's text, by their numbers.
-use Rattle.std.proofs.Common.{◌≡◌, ◌<◌, ◌≤◌, ◌+◌, ◌^◌, ◌==◌, ◌⊎◌, inl, inr, ℕ, zero, suc, Bool, true, false, if◌then◌else◌, List, [], ◌∷◌, ◌++◌}
-use Rattle.std.proofs.Common.{Option, Some, None, length, map, slice_get, get_or, codes, decimal, refl, sym, ap, subst, ◌∙◌, append_assoc, append-nil, arith}
+use Rattle.std.proofs.Common.{◌≡◌, ◌<◌, ◌≤◌, ◌+◌, ◌^◌, ◌==◌, ℕ, zero, suc, Bool, true, false, if◌then◌else◌, List, [], ◌∷◌, ◌++◌}
+use Rattle.std.proofs.Common.{Some, length, slice_get, get_or, codes, decimal, refl, sym, ap, subst, ◌∙◌, append_assoc, append-nil, arith}
 use Rattle.std.specs.List.{AllZip}
 use Rattle.std.specs.Prelude.{Contains}
 use Rattle.std.specs.Str.Parse.{AllDigits}
@@ -10,8 +10,8 @@ use Rattle.std.proofs.lemmas.Str.Parse.{digit_from_value}
 use Rattle.sm_check.specs.LineEnds.{HasNoEnd}
 use Rattle.sm_check.proofs.LineLemmas.{lines_in-line}
 use Rattle.sm_proof.specs.Verdicts.{FileLines, lines_in}
-use Rattle.sm_words.specs.Lines.{line_of, spaced}
-use Rattle.sm_answers.specs.Lists.{bad_list_line, numbered_line}
+use Rattle.sm_words.specs.Lines.{spaced}
+use Rattle.sm_answers.specs.Lists.{bad_list_line}
 use Rattle.sm_answers.proofs.ListsLemmas.{line_first}
 use Rattle.sm_commands.specs.Batch.{Line, first_line, numbered}
 use Rattle.sm_commands.specs.BatchSteps.{texts}

@@ -1,5 +1,5 @@
 -- The first line of an answer tells its status, and whether the search accepts.
-use Rattle.std.proofs.Common.{◌≡◌, ◌≢◌, ◌∷◌, ◌++◌, inl, inr, ℕ, true, List, [], Option, Some, None, codes, map, option_map, refl, sym, ap, subst, ◌∙◌}
+use Rattle.std.proofs.Common.{◌≡◌, ◌∷◌, ◌++◌, ℕ, true, List, [], Option, Some, None, codes, option_map, refl, sym, ap, subst, ◌∙◌}
 use Rattle.std.proofs.Common.{Vec, Global}
 use Rattle.std.specs.Prelude.{◌↔◌, IfSome, IsSome}
 use Rattle.std.specs.Fmt.{signed_decimal}
@@ -13,7 +13,7 @@ use Rattle.sm_replay.specs.Trials.{trial}
 use Rattle.sm_replay.specs.declared.verdict.Verdict as judged
 use Rattle.sm_replay.specs.declared.verdict.Verdict.TheVariants.{Holds, Unmet, Violates}
 use Rattle.sm_syntax.specs.claim.Stores.{Store}
-use Rattle.sm_syntax.specs.text.Parts.{Parts, sort_of, task_of}
+use Rattle.sm_syntax.specs.text.Parts.{Parts, sort_of}
 use Rattle.sm_answers.specs.Lines.{goal_line, op_word, too_many_line}
 use Rattle.sm_commands.specs.Batch.{first_line}
 use Rattle.sm_commands.specs.BatchSteps.{alone, told_status, IsTheReply, RepliesTo, IsAcceptedBy, IsAnswered}
@@ -25,7 +25,7 @@ use Rattle.sm_commands.proofs.AnswerUnique.{check_same}
 use Rattle.sm_commands.proofs.SpelledLemmas.{outcome_one}
 use Rattle.sm_words.specs.declared.effort.Effort.{Effort}
 use Rattle.sm_answers.specs.declared.status.Status.{Status}
-use Rattle.sm_answers.specs.declared.status.Status.TheVariants.{Accepted, Conflict, Unknown}
+use Rattle.sm_answers.specs.declared.status.Status.TheVariants.{Accepted, Unknown}
 
 -- ---- the status
 

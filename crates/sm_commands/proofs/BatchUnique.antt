@@ -5,15 +5,12 @@ use Rattle.std.specs.Prelude.{Contains}
 use Rattle.sm_io.specs.Causes.{Rose}
 use Rattle.sm_io.specs.Files.{Known, untold, absent}
 use Rattle.sm_syntax.specs.text.Parts.{Parts}
-use Rattle.sm_answers.specs.File.{GivesTask, GivesNoTask}
-use Rattle.sm_answers.specs.Lists.{GivesList}
 use Rattle.sm_answers.proofs.AnswerUnique.{Same, says_same, refused_same, task_or_none, task_same, not_there}
 use Rattle.sm_answers.proofs.ListUnique.{list_same, list_or_none, no_list_same}
-use Rattle.sm_commands.specs.Batch.{Line, AnswersFile, IsLineOf, first_line, numbered, status_of_all, FailsToReadOne, AnswersAll, AnswersList, Batches}
+use Rattle.sm_commands.specs.Batch.{Line, AnswersFile, IsLineOf, first_line, numbered, status_of_all, FailsToReadOne, AnswersAll, Batches}
 use Rattle.sm_commands.specs.Check.{AnswersCheck}
 use Rattle.sm_words.specs.declared.effort.Effort.{Effort}
 use Rattle.sm_answers.specs.declared.status.Status.{Status}
-use Rattle.sm_answers.specs.declared.status.Status.TheVariants.{ReadFault}
 
 same_pair : (l m : Line) → l.0 ≡ m.0 → l.1 ≡ m.1 → l ≡ m
 same_pair (s, t) (u, v) p q = rw (p, q) refl

@@ -1,7 +1,7 @@
 -- What `batch` answers to a list of files, each of a task: for each name in order a line with its
 -- number and the first line of what `check` answers to its file. Public clauses cite it.
 use Rattle.std.specs.Prelude.{◌≡◌, ◌≢◌, ◌⊎◌, ◌++◌, ◌==◌, ℕ, suc, Bool, if◌then◌else◌, List, [], ◌∷◌}
-use Rattle.std.specs.Prelude.{codes, map, Contains}
+use Rattle.std.specs.Prelude.{map, Contains}
 use Rattle.std.specs.List.{AllZip, list_any}
 use Rattle.sm_io.specs.Files.{Known}
 use Rattle.sm_syntax.specs.text.Parts.{Parts}

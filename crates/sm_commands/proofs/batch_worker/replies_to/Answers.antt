@@ -1,4 +1,4 @@
-use Rattle.std.proofs.Common.{IfOk, List, ℕ, Vec, Global, map, rules, subst}
+use Rattle.std.proofs.Common.{IfOk, ℕ, Vec, Global, map, rules, subst}
 use Rattle.std.specs.List.{AllZip}
 use Rattle.sm_text.specs.declared.task.Task.{Task}
 use Rattle.sm_task.specs.Tasks.{parts_of}
