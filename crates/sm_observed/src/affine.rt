@@ -131,8 +131,8 @@ fn put_clauses_of(
     Ok(())
 }
 
-// Puts the equalities of the visits at which a guard holds, or doesn't, behind others, but for those
-// that are known to hold at all visits.
+// Puts the equalities of the visits at which a guard holds, or doesn't, behind others, but for
+// those that are known to hold at all visits.
 fn put_under(
     alloc: Global,
     table: &mut TermTable,

@@ -16,8 +16,8 @@ pub(crate) struct CopyCell {
     pub(crate) name: Name,
 }
 
-/// What runs show at a site: the visits, the indices at which formulas about cells are tried at each
-/// of them, and the terms that the copies have there for their numbers as they enter.
+/// What runs show at a site: the visits, the indices at which formulas about cells are tried at
+/// each of them, and the terms that the copies have there for their numbers as they enter.
 #[derive(Drop)]
 pub(crate) struct Scene<'s> {
     pub(crate) inputs: &'s [Store],

@@ -10,8 +10,8 @@ pub struct Entry {
     pub stores: PerCopy<Store>,
 }
 
-/// The stores before a turn of the loops of a site, or after the last one. The entry is named by its
-/// place.
+/// The stores before a turn of the loops of a site, or after the last one. The entry is named by
+/// its place.
 #[derive(Debug, Drop)]
 pub struct Visit {
     pub entry: usize,
