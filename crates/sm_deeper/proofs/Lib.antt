@@ -1,0 +1,2 @@
+pub mod WaitsLemmas
+pub mod Widening

@@ -1,0 +1,16 @@
+use Rattle.sm_term.specs.Tables.{trees_in, sorts_in}
+use Rattle.sm_plan.proofs.TablesWiden.{widens_twice, widens_same, forms_ready}
+use Rattle.sm_houdini.proofs.RoundSteps.{facts_at}
+use Rattle.sm_deeper.proofs.ends.all_trees.Goals as goal
+
+pub put_trees-requires-clause-facts : goal.put_trees-requires-clause-facts
+put_trees-requires-clause-facts c =
+    let v = c.args.table.now in
+    forms_ready v c.loop-due.table c.loop-due.invariant c.due-item.result.facts.list.items
+    (facts_at (sorts_in v) (trees_in v) c.args.dues.now c.loop-due.due-index c.due-item.result c.requires c.loop-due-test.true c.due-item.is).0
+
+pub put_trees-requires-clause-goals : goal.put_trees-requires-clause-goals
+put_trees-requires-clause-goals c =
+    let v = c.args.table.now in
+    forms_ready v c.loop-due.table c.loop-due.invariant c.due-item.result.targets.list.items
+    (facts_at (sorts_in v) (trees_in v) c.args.dues.now c.loop-due.due-index c.due-item.result c.requires c.loop-due-test.true c.due-item.is).1

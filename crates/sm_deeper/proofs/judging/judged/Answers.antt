@@ -1,0 +1,16 @@
+-- Over the table before the node was made.
+use Rattle.sm_plan.proofs.TablesWiden.{forms_ready}
+use Rattle.sm_deeper.proofs.Widening.{widens_then}
+use Rattle.sm_deeper.proofs.judging.judged.Goals as goal
+
+pub judged_at-requires-clause-facts : goal.judged_at-requires-clause-facts
+judged_at-requires-clause-facts c =
+    forms_ready c.args.table.now c.shared_node.new.table c.in_ok-node.ensures.widens c.args.due.now.facts.list.items c.requires.facts
+
+pub judged_at-requires-clause-goals : goal.judged_at-requires-clause-goals
+judged_at-requires-clause-goals c =
+    forms_ready c.args.table.now c.shared_node.new.table c.in_ok-node.ensures.widens c.args.due.now.targets.list.items c.requires.goals
+
+pub returns : goal.returns
+returns c =
+    widens_then c.args.table.now c.shared_node.new.table c.judged_at.new.table c.judged_at.result c.in_ok-node.ensures.widens c.judged_at.ensures

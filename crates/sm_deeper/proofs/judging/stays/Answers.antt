@@ -1,0 +1,15 @@
+-- The goal at a place is ready.
+use Rattle.std.proofs.Common.{Some, List, slice_get, sym, ap, ◌∙◌}
+use Rattle.std.proofs.lemmas.Option.{slice_get-get_or}
+use Rattle.sm_term.specs.declared.formula.Formula.{Formula}
+use Rattle.sm_term.specs.Tables.{trees_in, sorts_in}
+use Rattle.sm_houdini.proofs.ClosingLemmas.{ready_found}
+use Rattle.sm_deeper.proofs.judging.stays.Goals as goal
+
+pub proved-requires-clause-goal : goal.proved-requires-clause-goal
+proved-requires-clause-goal c =
+    ready_found (sorts_in c.args.table.now) (trees_in c.args.table.now) c.args.due.now.targets.list.items c.args.at c.in-Some.goal.now
+    (ap (λ (fs : List Formula). slice_get fs c.args.at) (sym c.deref.ensures.value)
+    ∙ slice_get-get_or c.deref.result.now c.args.at c.in-Some.goal.now c.in-Some.ensures.lookup.3.0
+    ∙ ap (λ (f : Formula). Some f) (sym (c.in-Some.ensures.lookup.3.1 c.in-Some.goal.now)))
+    c.requires.goals

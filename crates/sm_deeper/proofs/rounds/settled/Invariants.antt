@@ -1,0 +1,6 @@
+-- The table is of the task's declarations.
+use Rattle.sm_deeper.specs.Subjects.{IsTableOf}
+use Rattle.sm_deeper.proofs.rounds.settled.Given as goal
+
+abbrev pub invariant-loop : goal.invariant-loop
+invariant-loop l = IsTableOf l.subject.task.now l.table

@@ -1,0 +1,173 @@
+// One drawing of a task, with its repairs.
+ghost use Rattle.std.specs.Prelude.{IfOk, IfSome};
+ghost use Rattle.sm_text.specs.Tasks.{parts_of};
+ghost use Rattle.sm_houdini.specs.Views.{IsWhole};
+ghost use Rattle.sm_deeper.specs.Subjects.{IsSubject, IsTableOf};
+
+use crate::candidates::{Seen, candidates_of};
+use crate::effort::Effort;
+use crate::ends::{Ended, end_of};
+use crate::owners::owners_of;
+use crate::rounds::{Asked, Product, settled};
+use crate::subject::Subject;
+use sm_audit::is_writable;
+use sm_drawing::{DeadEnd, Drawing, DrawingError, Style, draw};
+use sm_houdini::Proof;
+use sm_sided::CertTrees;
+use sm_term::TermTable;
+use std::alloc::{AllocError, Global};
+
+/// How a plan is drawn, and whether candidates under guards are looked for.
+#[derive(Clone, Copy, Debug)]
+pub(crate) struct Manner {
+    pub(crate) is_second: bool,
+    pub(crate) with_guards: bool,
+}
+
+/// How often a drawing is repaired.
+const REPAIRS: u32 = 8;
+
+/// The work of a drawing.
+const DRAWING: usize = 500_000;
+
+// A drawing of a task in a style, none where it is too large.
+fn drawing_in(
+    alloc: Global,
+    subject: &Subject<'_>,
+    style: Style,
+    open: &[Vec<u8>],
+) -> Result<Option<Drawing>, AllocError> {
+    let task = subject.task;
+    match draw(alloc, task, subject.programs, subject.inputs, style, open) {
+        Ok(drawing) => Ok(Some(drawing)),
+        Err(DrawingError::TooMany) => Ok(None),
+        Err(DrawingError::Memory) => Err(AllocError),
+    }
+}
+
+/// The drawing of a task, the coarser one where the other is too large, none where both are.
+pub(crate) fn drawing_of(
+    alloc: Global,
+    subject: &Subject<'_>,
+    is_second: bool,
+    open: &[Vec<u8>],
+) -> Result<Option<Drawing>, AllocError> {
+    let fine = Style {
+        is_second,
+        is_coarse: false,
+    };
+    if let Some(drawing) = drawing_in(alloc, subject, fine, open)? {
+        return Ok(Some(drawing));
+    }
+    let coarse = Style {
+        is_second,
+        is_coarse: true,
+    };
+    drawing_in(alloc, subject, coarse, open)
+}
+
+// Puts the paths of dead ends at some nodes behind others.
+fn put_paths(
+    alloc: Global,
+    open: &mut Vec<Vec<u8>>,
+    dead: &[DeadEnd],
+    nodes: &[u64],
+) -> Result<(), AllocError> {
+    for end in dead {
+        if nodes.contains(&end.node) {
+            let path = end.path.as_slice().to_vec(alloc)?;
+            open.push(path)?;
+        }
+    }
+    Ok(())
+}
+
+// A proof that was found, where it can be written.
+fn audited(alloc: Global, subject: &Subject<'_>, proof: Proof) -> Result<Option<Proof>, AllocError>
+    requires subject { IsSubject subject.now }
+    requires declared { IsTableOf subject.now.task.now proof.table }
+    ensures { IfOk result (λ o. IfSome o (IsWhole (parts_of subject.now.task.now))) }
+{
+    let Proof { table, plan, trees } = proof;
+    let mut table = table;
+    if is_writable(alloc, &mut table, subject.task, &plan, &trees.list)? {
+        return Ok(Some(Proof { table, plan, trees }));
+    }
+    Ok(None)
+}
+
+// A proof by a drawing, where it gives one. Where only dead ends stay open, their paths are put
+// behind others.
+fn proof_by(
+    alloc: Global,
+    subject: &Subject<'_>,
+    drawing: &Drawing,
+    with_guards: bool,
+    open: &mut Vec<Vec<u8>>,
+    effort: &mut Effort,
+) -> Result<Option<Proof>, AllocError>
+    requires { IsSubject subject.now }
+    ensures { IfOk result (λ o. IfSome o (IsWhole (parts_of subject.now.task.now))) }
+{
+    let mut table = TermTable::new(alloc, &subject.task.shared.decls)?;
+    let seen = Seen {
+        drawing,
+        with_guards,
+    };
+    let candidates = candidates_of(alloc, &mut table, subject, &seen, effort)?;
+    let owners = owners_of(alloc, &drawing.plan)?;
+    let product = Product {
+        plan: &drawing.plan,
+        owners: &owners,
+    };
+    let Some(asked) = settled(alloc, &mut table, subject, &product, candidates, effort)? else {
+        return Ok(None);
+    };
+    let Asked { plan, dues } = asked;
+    let end = end_of(alloc, &mut table, &dues, &owners, effort)?;
+    match end {
+        Ended::Closed(list) => {
+            let trees = CertTrees { list };
+            audited(alloc, subject, Proof { table, plan, trees })
+        }
+        Ended::Dead(nodes) => {
+            put_paths(alloc, open, &drawing.dead, &nodes)?;
+            Ok(None)
+        }
+        Ended::Open => Ok(None),
+    }
+}
+
+/// A proof of a task by a plan that is drawn in a manner, which is repaired where dead ends stay
+/// open, where one is found. The first drawing is given.
+pub(crate) fn attempt(
+    alloc: Global,
+    subject: &Subject<'_>,
+    first: &Drawing,
+    manner: Manner,
+    effort: &mut Effort,
+) -> Result<Option<Proof>, AllocError>
+    requires { IsSubject subject.now }
+    ensures { IfOk result (λ o. IfSome o (IsWhole (parts_of subject.now.task.now))) }
+{
+    let mut open = Vec::new(alloc);
+    let with_guards = manner.with_guards;
+    if let Some(proof) = proof_by(alloc, subject, first, with_guards, &mut open, effort)? {
+        return Ok(Some(proof));
+    }
+    for _ in 0..REPAIRS {
+        let known = open.len();
+        if known == 0 || effort.work.is_spent() {
+            return Ok(None);
+        }
+        effort.work.spend(DRAWING);
+        let Some(drawing) = drawing_of(alloc, subject, manner.is_second, &open)? else {
+            return Ok(None);
+        };
+        let proof = proof_by(alloc, subject, &drawing, with_guards, &mut open, effort)?;
+        if proof.is_some() || open.len() == known {
+            return Ok(proof);
+        }
+    }
+    Ok(None)
+}

@@ -1,0 +1,132 @@
+// Rounds: candidates are dropped until each goal of those that are left closes.
+ghost use Rattle.std.specs.Prelude.{IfOk, OnOk, IfSome};
+ghost use Rattle.sm_term.specs.Tables.{trees_in, sorts_in};
+ghost use Rattle.sm_term.specs.TableLaws.{Widens};
+ghost use Rattle.sm_expand.specs.Views.{AreDuesReady};
+ghost use Rattle.sm_deeper.specs.Subjects.{IsSubject, IsTableOf};
+
+use crate::candidates::MOST_BRANCHES;
+use crate::effort::Effort;
+use crate::facts::facts_in;
+use crate::judging::{Round, judge_all};
+use crate::kept::{Candidates, plan_keeping};
+use crate::marks::{all_left, all_marked, are_all_there, total};
+use crate::owners::Owners;
+use crate::subject::Subject;
+use sm_audit::is_plan_ready;
+use sm_expand::{Due, Obligations, Plan, PlanFault};
+use sm_product::obligations_of;
+use sm_term::TermTable;
+use std::alloc::{AllocError, Global};
+
+/// How many facts the nodes of a plan have together at most.
+const MOST_FACTS: usize = 1_000_000;
+
+/// A plan of a task without kept formulas, and who asks what its nodes ask.
+#[derive(Drop)]
+pub(crate) struct Product<'p> {
+    pub(crate) plan: &'p Plan,
+    pub(crate) owners: &'p Owners,
+}
+
+/// A plan that keeps candidates, with its obligations.
+#[derive(Drop)]
+pub(crate) struct Asked {
+    pub(crate) plan: Plan,
+    pub(crate) dues: Vec<Due>,
+}
+
+// The plan that keeps candidates with its obligations, none where it has none.
+fn asked_by(
+    alloc: Global,
+    table: &mut TermTable,
+    subject: &Subject<'_>,
+    product: &Product<'_>,
+    candidates: &Candidates,
+) -> Result<Option<Asked>, AllocError>
+    requires subject { IsSubject subject.now }
+    requires declared { IsTableOf subject.now.task.now table.old }
+    ensures ready { IfOk result (λ o. IfSome o (λ a.
+        AreDuesReady (sorts_in table.new) (trees_in table.new) a.dues.items)) }
+    ensures widens { Widens table.old table.new }
+{
+    let mut site = 0;
+    let plan = plan_keeping(alloc, product.plan, candidates, &mut site)?;
+    if !is_plan_ready(table, &plan, MOST_BRANCHES) {
+        return Ok(None);
+    }
+    match obligations_of(alloc, table, subject.task, subject.programs, &plan) {
+        Ok(Obligations { list }) => Ok(Some(Asked { plan, dues: list })),
+        Err(PlanFault::Wrong { .. }) => Ok(None),
+        Err(PlanFault::Deep) => Ok(None),
+        Err(PlanFault::Memory) => Err(AllocError),
+    }
+}
+
+// Takes the work of expanding a plan that keeps candidates: each of its nodes has the stores of its
+// state, and facts. Whether it may be done.
+fn may_ask(
+    subject: &Subject<'_>,
+    product: &Product<'_>,
+    candidates: &Candidates,
+    effort: &mut Effort,
+) -> bool {
+    let mut site = 0;
+    let facts = facts_in(product.plan, candidates, 0, &mut site);
+    let nodes = product.owners.list.len();
+    let names = subject.task.shared.decls.list.len();
+    let parts = nodes.saturating_mul(names).saturating_add(facts);
+    effort.work.spend(nodes);
+    effort.work.spend(parts / 16);
+    facts <= MOST_FACTS && !effort.work.is_spent()
+}
+
+// What a round asked.
+fn dues_of(asked: Asked) -> Vec<Due> {
+    asked.dues
+}
+
+/// Drops candidates until each goal of those that are left closes: the plan that keeps them, with
+/// its obligations. None where the plan has none, or the work that is left doesn't suffice.
+pub(crate) fn settled(
+    alloc: Global,
+    table: &mut TermTable,
+    subject: &Subject<'_>,
+    product: &Product<'_>,
+    candidates: Candidates,
+    effort: &mut Effort,
+) -> Result<Option<Asked>, AllocError>
+    requires subject { IsSubject subject.now }
+    requires declared { IsTableOf subject.now.task.now table.old }
+    ensures ready { IfOk result (λ o. IfSome o (λ a.
+        AreDuesReady (sorts_in table.new) (trees_in table.new) a.dues.items)) }
+    ensures declared { OnOk result (IsTableOf subject.now.task.now table.new) }
+{
+    let most = total(&candidates);
+    let mut candidates = candidates;
+    let mut before = Vec::new(alloc);
+    for _ in 0..=most {
+        if !may_ask(subject, product, &candidates, effort) {
+            return Ok(None);
+        }
+        let Some(asked) = asked_by(alloc, table, subject, product, &candidates)? else {
+            return Ok(None);
+        };
+        let round = Round {
+            dues: &asked.dues,
+            before: &before,
+            owners: product.owners,
+        };
+        let mut marks = all_marked(alloc, &candidates)?;
+        judge_all(alloc, table, &round, &mut marks, effort)?;
+        if effort.work.is_spent() {
+            return Ok(None);
+        }
+        if are_all_there(&marks) {
+            return Ok(Some(asked));
+        }
+        candidates = all_left(alloc, candidates, &marks)?;
+        before = dues_of(asked);
+    }
+    Ok(None)
+}
