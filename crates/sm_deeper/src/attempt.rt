@@ -1,5 +1,7 @@
 // One drawing of a task, with its repairs.
-ghost use Rattle.std.specs.Prelude.{IfOk, IfSome};
+ghost use Rattle.std.specs.Prelude.{IfOk, OnOk, IfSome};
+ghost use Rattle.sm_term.specs.Tables.{trees_in, sorts_in};
+ghost use Rattle.sm_expand.specs.Views.{AreDuesReady};
 ghost use Rattle.sm_text.specs.Tasks.{parts_of};
 ghost use Rattle.sm_houdini.specs.Views.{IsWhole};
 ghost use Rattle.sm_deeper.specs.Subjects.{IsSubject, IsTableOf};
@@ -7,11 +9,12 @@ ghost use Rattle.sm_deeper.specs.Subjects.{IsSubject, IsTableOf};
 use crate::candidates::{Seen, candidates_of};
 use crate::effort::Effort;
 use crate::ends::{Ended, end_of};
-use crate::owners::owners_of;
+use crate::owners::{Owners, owners_of};
 use crate::rounds::{Asked, Product, settled};
 use crate::subject::Subject;
 use sm_audit::is_writable;
 use sm_drawing::{DeadEnd, Drawing, DrawingError, Style, draw};
+use sm_expand::Plan;
 use sm_houdini::Proof;
 use sm_sided::CertTrees;
 use sm_term::TermTable;
@@ -66,6 +69,16 @@ pub(crate) fn drawing_of(
     drawing_in(alloc, subject, coarse, open)
 }
 
+// Whether a node is among some.
+fn is_among(nodes: &[u64], node: u64) -> bool {
+    for other in nodes {
+        if *other == node {
+            return true;
+        }
+    }
+    false
+}
+
 // Puts the paths of dead ends at some nodes behind others.
 fn put_paths(
     alloc: Global,
@@ -74,7 +87,7 @@ fn put_paths(
     nodes: &[u64],
 ) -> Result<(), AllocError> {
     for end in dead {
-        if nodes.contains(&end.node) {
+        if is_among(nodes, end.node) {
             let path = end.path.as_slice().to_vec(alloc)?;
             open.push(path)?;
         }
@@ -90,10 +103,102 @@ fn audited(alloc: Global, subject: &Subject<'_>, proof: Proof) -> Result<Option<
 {
     let Proof { table, plan, trees } = proof;
     let mut table = table;
-    if is_writable(alloc, &mut table, subject.task, &plan, &trees.list)? {
+    let is_whole = is_writable(alloc, &mut table, subject.task, &plan, &trees.list)?;
+    if is_whole {
         return Ok(Some(Proof { table, plan, trees }));
     }
     Ok(None)
+}
+
+// The plan of a drawing that keeps what proves, with its obligations, where there is one.
+fn settled_by(
+    alloc: Global,
+    table: &mut TermTable,
+    subject: &Subject<'_>,
+    drawing: &Drawing,
+    owners: &Owners,
+    with_guards: bool,
+    effort: &mut Effort,
+) -> Result<Option<Asked>, AllocError>
+    requires subject { IsSubject subject.now }
+    requires declared { IsTableOf subject.now.task.now table.old }
+    ensures ready { IfOk result (λ o. IfSome o (λ a.
+        AreDuesReady (sorts_in table.new) (trees_in table.new) a.dues.items)) }
+    ensures declared { OnOk result (IsTableOf subject.now.task.now table.new) }
+{
+    let seen = Seen {
+        drawing,
+        with_guards,
+    };
+    let candidates = candidates_of(alloc, table, subject, &seen, effort)?;
+    let product = Product {
+        plan: &drawing.plan,
+        owners,
+    };
+    settled(alloc, table, subject, &product, candidates, effort)
+}
+
+// A plan that keeps what proves, and what its obligations come to.
+#[derive(Drop)]
+struct Tried {
+    plan: Plan,
+    end: Ended,
+}
+
+// The plan of what was asked.
+fn plan_of(asked: Asked) -> Plan {
+    asked.plan
+}
+
+// What the plan of a drawing comes to, with what it keeps, where it has obligations.
+fn tried_by(
+    alloc: Global,
+    table: &mut TermTable,
+    subject: &Subject<'_>,
+    drawing: &Drawing,
+    with_guards: bool,
+    effort: &mut Effort,
+) -> Result<Option<Tried>, AllocError>
+    requires subject { IsSubject subject.now }
+    requires declared { IsTableOf subject.now.task.now table.old }
+    ensures { OnOk result (IsTableOf subject.now.task.now table.new) }
+{
+    let owners = owners_of(alloc, &drawing.plan)?;
+    let found = settled_by(alloc, table, subject, drawing, &owners, with_guards, effort)?;
+    let Some(asked) = found else {
+        return Ok(None);
+    };
+    let end = end_of(alloc, table, &asked.dues, &owners, effort)?;
+    let plan = plan_of(asked);
+    Ok(Some(Tried { plan, end }))
+}
+
+// The proof that a plan came to, where it came to one. Where only dead ends stay open, their paths
+// are put behind others.
+fn concluded(
+    alloc: Global,
+    subject: &Subject<'_>,
+    table: TermTable,
+    tried: Tried,
+    dead: &[DeadEnd],
+    open: &mut Vec<Vec<u8>>,
+) -> Result<Option<Proof>, AllocError>
+    requires subject { IsSubject subject.now }
+    requires declared { IsTableOf subject.now.task.now table }
+    ensures { IfOk result (λ o. IfSome o (IsWhole (parts_of subject.now.task.now))) }
+{
+    let Tried { plan, end } = tried;
+    match end {
+        Ended::Closed(list) => {
+            let trees = CertTrees { list };
+            audited(alloc, subject, Proof { table, plan, trees })
+        }
+        Ended::Dead(nodes) => {
+            put_paths(alloc, open, dead, &nodes)?;
+            Ok(None)
+        }
+        Ended::Open => Ok(None),
+    }
 }
 
 // A proof by a drawing, where it gives one. Where only dead ends stay open, their paths are put
@@ -110,31 +215,9 @@ fn proof_by(
     ensures { IfOk result (λ o. IfSome o (IsWhole (parts_of subject.now.task.now))) }
 {
     let mut table = TermTable::new(alloc, &subject.task.shared.decls)?;
-    let seen = Seen {
-        drawing,
-        with_guards,
-    };
-    let candidates = candidates_of(alloc, &mut table, subject, &seen, effort)?;
-    let owners = owners_of(alloc, &drawing.plan)?;
-    let product = Product {
-        plan: &drawing.plan,
-        owners: &owners,
-    };
-    let Some(asked) = settled(alloc, &mut table, subject, &product, candidates, effort)? else {
-        return Ok(None);
-    };
-    let Asked { plan, dues } = asked;
-    let end = end_of(alloc, &mut table, &dues, &owners, effort)?;
-    match end {
-        Ended::Closed(list) => {
-            let trees = CertTrees { list };
-            audited(alloc, subject, Proof { table, plan, trees })
-        }
-        Ended::Dead(nodes) => {
-            put_paths(alloc, open, &drawing.dead, &nodes)?;
-            Ok(None)
-        }
-        Ended::Open => Ok(None),
+    match tried_by(alloc, &mut table, subject, drawing, with_guards, effort)? {
+        Some(tried) => concluded(alloc, subject, table, tried, &drawing.dead, open),
+        None => Ok(None),
     }
 }
 

@@ -8,7 +8,7 @@ use Rattle.sm_commands.proofs.SpelledLemmas.{is_spelled}
 use Rattle.sm_commands.proofs.deeper.proved_beyond.Goals as goal
 
 pub all_tried-requires : goal.all_tried-requires
-all_tried-requires c = (is_spelled (parts_of c.args.task.now) c.requires.spelled).runs
+all_tried-requires c = record { runs = (is_spelled (parts_of c.args.task.now) c.requires.spelled).runs }
 
 pub search_deeper-requires-clause-sorted : goal.search_deeper-requires-clause-sorted
 search_deeper-requires-clause-sorted c = (is_spelled (parts_of c.args.task.now) c.requires.spelled).sorted
@@ -24,13 +24,13 @@ proof_text-requires-clause-numbered c = (is_spelled (parts_of c.args.task.now) c
 
 pub proof_text-requires-clause-proof : goal.proof_text-requires-clause-proof
 proof_text-requires-clause-proof c =
-    subst (λ (o : Option Proof). IfSome o (IsWhole (parts_of c.args.task.now))) c.in-Some.is c.in_ok-search_deeper.ensures
+    subst (λ (o : Option Proof). IfSome o (IsWhole (parts_of c.args.task.now))) c.in-Some.is c.in_ok-proof.ensures
 
 pub accepted-requires : goal.accepted-requires
 accepted-requires c = (is_spelled (parts_of c.args.task.now) c.requires.spelled).runs
 
-pub returns-in_ok-reply-in-Some-clause-answers : goal.returns-in_ok-reply-in-Some-clause-answers
-returns-in_ok-reply-in-Some-clause-answers c =
+pub returns-in-Some-clause-answers : goal.returns-in-Some-clause-answers
+returns-in-Some-clause-answers c =
     let t = parts_of c.args.task.now in
     inr (record {
       asked = c.requires.asked;

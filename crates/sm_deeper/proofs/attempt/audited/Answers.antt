@@ -9,13 +9,13 @@ use Rattle.sm_write.specs.TreesWithin.{AreTreesWithin}
 use Rattle.sm_write.specs.Writable.{IsWritable}
 use Rattle.sm_deeper.proofs.attempt.audited.Goals as goal
 
-pub returns-then-is_writable : goal.returns-then-is_writable
-returns-then-is_writable c =
+pub returns-then-is_whole : goal.returns-then-is_whole
+returns-then-is_whole c =
     let w = c.is_writable.new.table in
     let trees = trees_in w in
     let t = parts_of c.args.subject.now.task.now in
-    let tells = c.in_ok-is_writable.ensures in
-    let good = c.if-is_writable.true in
+    let tells = c.in_ok-is_whole.ensures in
+    let good = c.if-is_whole.true in
     record {
       declared = tells.widens.sorts ∙ c.requires.declared;
       ready = tells.plan good;

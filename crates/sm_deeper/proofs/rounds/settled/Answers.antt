@@ -1,18 +1,22 @@
 -- What is asked stays ready while it is judged.
-use Rattle.std.proofs.Common.{sym, subst, ◌∙◌}
+use Rattle.std.proofs.Common.{Option, IfSome, sym, subst, ◌∙◌}
 use Rattle.sm_term.specs.Tables.{trees_in, sorts_in}
 use Rattle.sm_expand.specs.Views.{AreDuesReady}
 use Rattle.sm_expand.proofs.PlansWiden.{dues_ready}
+use Rattle.sm_deeper.specs.declared.rounds.Asked.{Asked}
 use Rattle.sm_deeper.proofs.rounds.settled.Goals as goal
 
 pub judge_all-requires : goal.judge_all-requires
 judge_all-requires c =
     let w = c.asked_by.new.table in
-    subst (AreDuesReady (sorts_in w) (trees_in w)) (sym c.deref.ensures.value) c.in_ok-asked.ensures.ready
+    subst (AreDuesReady (sorts_in w) (trees_in w)) (sym c.deref.ensures.value)
+    (subst (λ (o : Option Asked). IfSome o (λ a. AreDuesReady (sorts_in w) (trees_in w) a.dues.items)) c.in-Some.is c.in_ok-asked.ensures.ready)
 
 pub returns-then-are_all_there-clause-ready : goal.returns-then-are_all_there-clause-ready
 returns-then-are_all_there-clause-ready c =
-    dues_ready c.asked_by.new.table c.judge_all.new.table c.in_ok-judge_all.ensures c.in-Some-asked.asked.dues.items c.in_ok-asked.ensures.ready
+    let w = c.asked_by.new.table in
+    dues_ready w c.judge_all.new.table c.in_ok-judge_all.ensures c.in-Some.asked.dues.items
+    (subst (λ (o : Option Asked). IfSome o (λ a. AreDuesReady (sorts_in w) (trees_in w) a.dues.items)) c.in-Some.is c.in_ok-asked.ensures.ready)
 
 pub returns-then-are_all_there-clause-declared : goal.returns-then-are_all_there-clause-declared
 returns-then-are_all_there-clause-declared c =
