@@ -29,9 +29,6 @@ use Rattle.sm_answers.specs.declared.exit.Exit.TheVariants as stopped
 use Rattle.sm_answers.specs.declared.status.Reply.{Reply}
 use Rattle.sm_answers.specs.declared.status.Status.{Status}
 use Rattle.sm_answers.specs.declared.status.Status.TheVariants.{Accepted, Unknown, WriteFault}
-use Rattle.sm_commands.proofs.Answering.{outcome_accepted}
-use Rattle.sm_commands.proofs.Statuses.{shown_status}
-use Rattle.sm_eval.specs.StoredValues.{meaning}
 use Rattle.sm_answers.proofs.Statuses.{without_task}
 
 -- ---- results of commands
