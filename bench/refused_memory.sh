@@ -52,6 +52,18 @@ variant_b { ?1 { limit = 100; } ?2 { if (size > limit) { large = 1; } else { lar
 candidate { ?1 { limit = 200; } ?2 { if (size > limit) { large = 1; } else { large = 0; } } }
 TASK
 
+# One that the search leaves open, and that is accepted by a proof along runs.
+cat > "$place/turned" <<TASK
+var load, extra;
+output extra;
+shared { ?1; }
+base { ?1 { extra = 0; } }
+variant_a { ?1 { if (9 < load) { extra = load - 9; } else { extra = 0; } } }
+variant_b { ?1 { if (load > 9) { extra = load - 9; } else { extra = 0; } } }
+candidate { ?1 { if (load > 9) { extra = load - 9; } else { extra = 0; } } }
+TASK
+printf '%s\n' "$place/turned" "$place/fees.task" > "$place/list"
+
 # Runs the program with the words, and request $1 refused.
 refusing() {
   number=$1
@@ -124,7 +136,7 @@ row() {
 
 show() {
   awk -v name="$1" -v requests="$(cat "$place/count")" '{ count[$1]++ } END {
-    printf "%-18s %9d %6d %8d %8d %8d %8d %6d\n", name, requests, NR, count["answered"],
+    printf "%-22s %9d %6d %8d %8d %8d %8d %6d\n", name, requests, NR, count["answered"],
       count["nothing"], count["printed"], count["written"], count["wrong"]
     exit count["wrong"] > 0
   }' "$place/results" || failed=1
@@ -133,7 +145,7 @@ show() {
 echo 'safemerge-proof 1, of an earlier run' > "$place/older"
 cp "$here/../examples/proof_by_hand/fees.task" "$here/../examples/proof_by_hand/fees.proof" "$place"
 failed=0
-printf '%-18s %9s %6s %8s %8s %8s %8s %6s\n' \
+printf '%-22s %9s %6s %8s %8s %8s %8s %6s\n' \
   command requests runs answered nothing printed written wrong
 row verify verify "$place/fees.task" "$place/fees.proof"
 row replay replay "$place/task" "$place/input"
@@ -141,6 +153,8 @@ row gen gen 1 3
 row check check "$place/task" "$place/found"
 row 'check, 3 workers' check "$place/task" "$place/found" --workers 3
 row 'check --deeper' check "$place/open" "$place/found" --deeper
+row 'check --deeper, proof' check "$place/turned" "$place/found" --deeper
+row batch batch "$place/list" --steps 1000
 row suggest suggest "$place/task" --steps 1000
 row 'print --copy' print "$place/task" --copy candidate
 row explain explain "$place/task"
