@@ -1,0 +1,4 @@
+pub mod FinalGoals
+pub mod TrialsCounted
+pub mod HolesFound
+pub mod LinesMade
