@@ -10,7 +10,7 @@ _safemerge() {
     return
   fi
   case $command in
-    check) options="--steps --turns --workers --exact --deeper" ;;
+    check) options="--steps --turns --workers --exact --deeper --why" ;;
     suggest | gen) options="--steps --turns --workers --exact" ;;
     replay) options="--turns --workers" ;;
     verify) options="--workers" ;;

@@ -34,7 +34,7 @@ class Completion(Folder):
             (("safemerge", "ch"), ["check"]),
             (("safemerge", "ver"), ["verify", "version"]),
             (("safemerge", "check", "--"),
-             ["--steps", "--turns", "--workers", "--exact", "--deeper"]),
+             ["--steps", "--turns", "--workers", "--exact", "--deeper", "--why"]),
             (("safemerge", "suggest", "--"), ["--steps", "--turns", "--workers", "--exact"]),
             (("safemerge", "gen", "--"), ["--steps", "--turns", "--workers", "--exact"]),
             (("safemerge", "replay", "--"), ["--turns", "--workers"]),

@@ -81,6 +81,32 @@ pub fn task_in<H: Shelf>(alloc: Global, shelf: &mut H, name: &str) -> Result<Tas
     task_from(alloc, &bytes)
 }
 
+/// A task, and the text that spells it.
+#[derive(Drop)]
+pub struct Spelled {
+    pub text: Vec<u8>,
+    pub task: Task,
+}
+
+/// The task that a file's bytes spell, with these bytes.
+pub fn spelled_in<H: Shelf>(alloc: Global, shelf: &mut H, name: &str) -> Result<Spelled, Exit>
+    ensures ok { IfOk result (λ s. GivesTask (H.file shelf.old name.now)
+        (H.read_faults shelf.old) (H.read_faults shelf.new) (parts_of s.task)) }
+    ensures read { IfOk result (λ s.
+        ReadsTask name.now (H.given shelf.old) (H.given shelf.new) (parts_of s.task)) }
+    ensures spells { IfOk result (λ s. Spells s.text.items (parts_of s.task)) }
+    ensures short { IfOk result (λ s. length s.text.items < 2 ^ 32) }
+    ensures printable { IfOk result (λ s. HasText (parts_of s.task)) }
+    ensures exit { IfErr result (ExitsWith (GivesNoTask (H.file shelf.old name.now)
+        (H.read_faults shelf.old) (H.read_faults shelf.new))) }
+    ensures same { (other : List ℕ) → H.file shelf.new other ≡ H.file shelf.old other }
+    ensures writes { H.write_faults shelf.new ≡ H.write_faults shelf.old }
+{
+    let text = bytes_in(alloc, shelf, name, "task")?;
+    let task = task_from(alloc, &text)?;
+    Ok(Spelled { text, task })
+}
+
 /// The task that bytes spell, of which there are fewer than 2^32.
 #[tactic(auto, using(sm_replay::proofs::RunnableTasks::spelled_runs))]
 pub fn task_from(alloc: Global, bytes: &[u8]) -> Result<Task, Exit>

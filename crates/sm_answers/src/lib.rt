@@ -1,8 +1,8 @@
 //! The answers that need no search: to files that are read, of `verify` and of `replay`; and the
 //! lines of all.
 //!
-//! - `task_in` reads the task that a file's bytes spell, `input_in` an input of it, and `bytes_in`
-//!   the bytes alone, each in one pass. Where there is none they stop with the answer: `ReadFault`,
+//! - `task_in` reads the task that a file's bytes spell, `spelled_in` that task with the bytes,
+//!   `input_in` an input of it, and `bytes_in` the bytes alone, each in one pass. Where there is none they stop with the answer: `ReadFault`,
 //!   `TooLong`, or what is refused first. What is read holds of told files, and on every shelf of the
 //!   bytes that were read.
 //! - `list_in` reads the names in a list of files, and stops with the number of its first bad line.
@@ -31,7 +31,7 @@ mod status;
 mod verifying;
 
 pub use exit::Exit;
-pub use file::{bytes_in, input_in, task_in};
+pub use file::{Spelled, bytes_in, input_in, spelled_in, task_in};
 pub use lines::{
     coefficient_line, goal_line, many_holes_line, none_line, put_input_line, suggestion_line,
     summary_line, too_many_line, trial_line,

@@ -20,7 +20,8 @@ use Rattle.sm_houdini.specs.Outcomes.{Outcome}
 use Rattle.sm_syntax.specs.claim.ConflictFree.{A, B}
 use Rattle.sm_commands.proofs.SpelledLemmas.{outcome_one}
 use Rattle.sm_commands.specs.Check.{reach_of, AnswersCheck, IsInputText, IsNote, SaysNoted, SaysOutcome, ShowsTrial}
-use Rattle.sm_commands.specs.Deeper.{AnswersDeeper, AnswersTask}
+use Rattle.sm_commands.specs.Deeper.{AnswersDeeper}
+use Rattle.sm_commands.specs.Why.{AnswersTask, SaysWhy}
 use Rattle.sm_commands.specs.Suggest.{is_accepted, AnswersSuggest, Decides, SaysSuggestion, Suggests}
 use Rattle.sm_suggest.specs.Combinations.{choices, combination, hole_count}
 use Rattle.sm_suggest.specs.First.{IsFirst}
@@ -34,7 +35,8 @@ use Rattle.sm_commands.proofs.BatchUnique.{batches_same, fewer_batches}
 use Rattle.sm_words.specs.Words.{Words, Asked, check, verify, replay, print, suggest, gen, explain, batch, about, asked}
 use Rattle.sm_words.specs.declared.effort.Effort.{Effort}
 use Rattle.sm_answers.specs.declared.status.Status.{Status}
-use Rattle.sm_answers.specs.declared.status.Status.TheVariants.{Accepted, Unknown, WriteFault}
+use Rattle.sm_answers.specs.declared.status.Status.TheVariants.{Accepted, Conflict, Unknown, Refused, Usage, ReadFault, Memory}
+use Rattle.sm_answers.specs.declared.status.Status.TheVariants.{WriteFault, SinkFault}
 use Rattle.sm_answers.proofs.AnswerUnique.{Same, says_same, refused_same, task_or_none, task_same, replays_same, verifies_same}
 
 -- ---- files
@@ -87,15 +89,16 @@ check_same t effort s u l m a b =
     let one : a.outcome ≡ b.outcome = outcome_one t (reach_of effort) effort.turns a.outcome b.outcome a.found b.found in
     outcome_same t b.outcome s u l m (subst (λ (o : Outcome (ℕ × Verdict)). SaysOutcome t o s l) one a.says) b.says
 
--- an answer that isn't a fault to write, where no inputs beyond the trials are asked for
-no_write : (t : Parts) (effort : Effort) (s : Status) (l : List ℕ) → effort.deeper ≡ false → s ≢ WriteFault
+-- an answer that isn't a fault to write, where neither inputs beyond the trials nor words behind an answer are asked for
+no_write : (t : Parts) (effort : Effort) (s : Status) (l : List ℕ) → (effort.deeper ≡ false) × (effort.why ≡ false) → s ≢ WriteFault
     → AnswersTask t effort s l → AnswersCheck t effort s l
-no_write t effort s l plain no_fault (inl (inl a)) = a
-no_write t effort s l plain no_fault (inl (inr (inl a))) = let asked = a.asked in cc
-no_write t effort s l plain no_fault (inl (inr (inr a))) = let asked = a.asked in cc
+no_write t effort s l plain no_fault (inl (inl (why, inl a))) = a
+no_write t effort s l plain no_fault (inl (inl (why, inr (inl a)))) = absurd (let both : true ≡ false = sym a.asked ∙ plain.0 in cc)
+no_write t effort s l plain no_fault (inl (inl (why, inr (inr a)))) = absurd (let both : true ≡ false = sym a.asked ∙ plain.0 in cc)
+no_write t effort s l plain no_fault (inl (inr w)) = absurd (let both : true ≡ false = sym w.asked ∙ plain.1 in cc)
 no_write t effort s l plain no_fault (inr a) = absurd (no_fault a.says.ended)
 
-checks_same : (file : Known) (effort : Effort) (b n c m : ℕ) (s u : Status) (t v : List ℕ) → effort.deeper ≡ false → file ≢ untold → (¬ Rose b n)
+checks_same : (file : Known) (effort : Effort) (b n c m : ℕ) (s u : Status) (t v : List ℕ) → (effort.deeper ≡ false) × (effort.why ≡ false) → file ≢ untold → (¬ Rose b n)
     → (¬ Rose c m) → s ≢ WriteFault → u ≢ WriteFault → Checks file effort b n s t → Checks file effort c m u v → Same s t u v
 checks_same file effort b n c m s u t v plain told no_fault nor_later whole also (inl f) (inl g) =
     refused_same file b n c m s u t v told no_fault nor_later f g
@@ -251,10 +254,46 @@ fewer_deeper t effort workers s l (inr (inr a)) =
       says = a.says;
     }))
 
+-- nor do the words behind it
+fewer_why : (t : Parts) (effort : Effort) (workers : ℕ) (s : Status) (l more : List ℕ) →
+    let hired : Effort = record effort { workers = workers } in
+    SaysWhy t hired s l more → SaysWhy t effort s l more
+fewer_why t effort workers Accepted l more h = h
+fewer_why t effort workers Conflict l more h =
+    record { number = h.number; store = h.store; verdict = h.verdict; shows = h.shows; ends = h.ends }
+fewer_why t effort workers Unknown l more h = record {
+  outcome = h.outcome;
+  found = h.found;
+  stop = h.stop;
+  stopped = h.stopped;
+  bytes = h.bytes;
+  spells = h.spells;
+  reason = h.reason;
+  says = h.says;
+  trials = h.trials;
+  counts = h.counts;
+  printed = h.printed;
+}
+fewer_why t effort workers Refused l more h = absurd h
+fewer_why t effort workers Usage l more h = absurd h
+fewer_why t effort workers ReadFault l more h = absurd h
+fewer_why t effort workers Memory l more h = absurd h
+fewer_why t effort workers WriteFault l more h = absurd h
+fewer_why t effort workers SinkFault l more h = absurd h
+
 fewer_written : (t : Parts) (effort : Effort) (workers : ℕ) (s : Status) (l : List ℕ) →
     let hired : Effort = record effort { workers = workers } in
     AnswersTask t hired s l → AnswersTask t effort s l
-fewer_written t effort workers s l (inl a) = inl (fewer_deeper t effort workers s l a)
+fewer_written t effort workers s l (inl (inl a)) = inl (inl (a.0, fewer_deeper t effort workers s l a.1))
+fewer_written t effort workers s l (inl (inr w)) =
+    inl (inr (record {
+      asked = w.asked;
+      line = w.line;
+      answers = fewer_deeper t effort workers s w.line w.answers;
+      more = w.more;
+      says = fewer_why t effort workers s w.line w.more w.says;
+      printed = w.printed;
+    }))
 fewer_written t effort workers s l (inr f) =
     inr (record { line = f.line; accepted = fewer_deeper t effort workers Accepted f.line f.accepted; says = f.says })
 

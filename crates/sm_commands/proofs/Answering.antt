@@ -13,7 +13,8 @@ use Rattle.sm_commands.specs.Headline.{merge_file, IsSafeMerge}
 use Rattle.sm_commands.specs.Top.{Files, IsAnswerTo, AnswersCommand, AnswersRequest, AsksToVerify, Checks}
 use Rattle.sm_answers.specs.Verify.{Verifies, rejected_line, AnswersProof}
 use Rattle.sm_commands.specs.Check.{SaysOutcome}
-use Rattle.sm_commands.specs.Deeper.{AnswersTask}
+use Rattle.sm_commands.specs.Deeper.{AnswersDeeper}
+use Rattle.sm_commands.specs.Why.{AnswersTask}
 use Rattle.sm_eval.specs.StoredValues.{meaning}
 use Rattle.sm_answers.specs.Status.{Says}
 use Rattle.sm_words.specs.Words.{Words, Asked, check, verify, replay, print, suggest, gen, explain, batch, about, asked, usage_line, IsUsage}
@@ -40,13 +41,19 @@ outcome_accepted t (outcome.Steps node goal) status text h e = let is = h.2.ende
 outcome_accepted t (outcome.Coefficient node goal op y z) status text h e = let is = h.2.ended in cc
 outcome_accepted t outcome.TooMany status text h e = let is = h.2.ended in cc
 
+-- what is accepted beyond the search is free of conflicts, too
+pub deeper_free : (t : Parts) (effort : Effort) (status : Status) (text : List ℕ) → AnswersDeeper t effort status text
+    → status ≡ Accepted → ConflictFree (task_of t)
+deeper_free t effort status text (inl a) e = (outcome_accepted t a.outcome status text a.says e).1
+deeper_free t effort status text (inr (inl a)) e =
+    let is = shown_status t a.number (meaning a.store) a.verdict status text a.shows in cc
+deeper_free t effort status text (inr (inr a)) e = a.free
+
 -- an accepted task is free of conflicts
 pub accepted_is_free : (t : Parts) (effort : Effort) (status : Status) (text : List ℕ)
     → AnswersTask t effort status text → status ≡ Accepted → ConflictFree (task_of t)
-accepted_is_free t effort status text (inl (inl a)) e = (outcome_accepted t a.outcome status text a.says e).1
-accepted_is_free t effort status text (inl (inr (inl a))) e =
-    let is = shown_status t a.number (meaning a.store) a.verdict status text a.shows in cc
-accepted_is_free t effort status text (inl (inr (inr a))) e = a.free
+accepted_is_free t effort status text (inl (inl a)) e = deeper_free t effort status text a.1 e
+accepted_is_free t effort status text (inl (inr w)) e = deeper_free t effort status w.line w.answers e
 accepted_is_free t effort status text (inr a) e = let is = a.says.ended in cc
 
 -- the file that is asked of is one

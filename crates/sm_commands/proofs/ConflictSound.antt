@@ -1,5 +1,6 @@
 -- What Conflict says: the task isn't free of conflicts, and the input that is printed or was given shows it.
-use Rattle.std.proofs.Common.{◌≡◌, ◌≢◌, inl, inr, ℕ, ◌++◌, List, Option, Some, None, sym, subst, ◌∙◌}
+use Rattle.std.proofs.Common.{◌≡◌, ◌≢◌, inl, inr, ℕ, true, false, ◌++◌, List, [], Option, Some, None, refl, ap, sym, subst, ◌∙◌}
+use Rattle.std.proofs.lemmas.List.{append-nil, append_assoc}
 use Rattle.sm_io.specs.Files.{Known, WhereHeld}
 use Rattle.sm_replay.specs.Trials.{trial}
 use Rattle.sm_replay.specs.declared.verdict.Verdict.{Verdict}
@@ -13,7 +14,7 @@ use Rattle.sm_syntax.specs.claim.ConflictFree.{ConflictFree}
 use Rattle.sm_syntax.specs.claim.Stores.{Store}
 use Rattle.sm_syntax.specs.text.Spells.{Spells}
 use Rattle.sm_replay.specs.Violations.{Violates}
-use Rattle.sm_commands.specs.Headline.{IsUnsafeMerge, IsViolatedFrom, ShowsInput, IsShownByInput}
+use Rattle.sm_commands.specs.Headline.{EndsWithInput, IsUnsafeMerge, IsViolatedFrom, ShowsInput, IsShownByInput}
 use Rattle.sm_houdini.specs.Outcomes as outcome
 use Rattle.sm_houdini.specs.Outcomes.{Outcome, IsOutcome}
 use Rattle.sm_houdini.proofs.OutcomeLemmas.{conflict_least}
@@ -24,7 +25,8 @@ use Rattle.sm_display.proofs.Begins.{begins_refused, begins_replayed}
 use Rattle.sm_answers.specs.Verify.{Verifies, AnswersProof}
 use Rattle.sm_commands.specs.Check.{reach_of, IsInputText, SaysOutcome, ShowsFrom}
 use Rattle.sm_answers.specs.Lines.{input_line, trial_line}
-use Rattle.sm_commands.specs.Deeper.{AnswersTask}
+use Rattle.sm_commands.specs.Deeper.{AnswersDeeper}
+use Rattle.sm_commands.specs.Why.{AnswersTask}
 use Rattle.sm_commands.specs.Suggest.{AnswersSuggest, SaysSuggestion, Suggests}
 use Rattle.sm_syntax.specs.declared.copies.CopyName.{CopyName}
 use Rattle.sm_answers.specs.File.{GivesTask}
@@ -43,8 +45,8 @@ proof_no_conflict : (t : Parts) (file : Known) (before now : ℕ) (status : Stat
 proof_no_conflict t file before now status text (inl f) e = let is = f.says.ended in cc
 proof_no_conflict t file before now status text (inr c) e = answered_no_conflict c.answer (sym c.says.ended ∙ e)
 
--- what an answer to a task with the status Conflict says: a store from which it is violated, with its input
-pub record IsShown (t : Parts) (turns : ℕ) (text : List ℕ) : Type 0 where
+-- what a line with the status Conflict says: a store from which the task is violated, with its input
+record IsLine (t : Parts) (turns : ℕ) (text : List ℕ) : Type 0 where
   pub store : Store
   pub violates : Violates (task_of t) store turns
   pub front : List ℕ
@@ -52,8 +54,32 @@ pub record IsShown (t : Parts) (turns : ℕ) (text : List ℕ) : Type 0 where
   pub shown : IsInputText t store input
   pub printed : text ≡ front ++ input_line input
 
+-- what an answer to a task with the status Conflict says
+pub record IsShown (t : Parts) (effort : Effort) (text : List ℕ) : Type 0 where
+  pub store : Store
+  pub violates : Violates (task_of t) store effort.turns
+  pub input : List ℕ
+  pub shown : IsInputText t store input
+  pub printed : EndsWithInput effort input text
+
+-- with more behind it, where that is asked for
+shown_with : (t : Parts) (effort : Effort) (line more text : List ℕ) → (effort.why ≡ false → more ≡ []) → text ≡ line ++ more
+    → IsLine t effort.turns line → IsShown t effort text
+shown_with t effort line more text asked printed l = record {
+  store = l.store;
+  violates = l.violates;
+  input = l.input;
+  shown = l.shown;
+  printed = (
+    l.front,
+    more,
+    printed ∙ ap (λ (xs : List ℕ). xs ++ more) l.printed ∙ append_assoc l.front (input_line l.input) more,
+    asked,
+  );
+}
+
 shown_from : (t : Parts) (turns j : ℕ) (s : Store) (v : Verdict) (status : Status) (text : List ℕ) → Violates (task_of t) s turns
-    → ShowsFrom t j s v status text → IsShown t turns text
+    → ShowsFrom t j s v status text → IsLine t turns text
 shown_from t turns j s verdict.Holds status text violates h = absurd h
 shown_from t turns j s verdict.Unmet status text violates h = absurd h
 shown_from t turns j s (verdict.Violates x i clause) status text violates h = record {
@@ -66,7 +92,7 @@ shown_from t turns j s (verdict.Violates x i clause) status text violates h = re
 }
 
 outcome_conflict : (t : Parts) (reach : Reach) (turns : ℕ) (o : Outcome (ℕ × Verdict)) (status : Status) (text : List ℕ)
-    → IsOutcome t reach turns o → SaysOutcome t o status text → status ≡ Conflict → IsShown t turns text
+    → IsOutcome t reach turns o → SaysOutcome t o status text → status ≡ Conflict → IsLine t turns text
 outcome_conflict t reach turns outcome.Accepted status text is h e = let s = h.1.2.ended in cc
 outcome_conflict t reach turns (outcome.Conflict f) status text is h e =
     shown_from t turns f.0 (trial (sort_of t.declared) f.0) f.1 status text (conflict_least t reach turns f is).violates h
@@ -75,18 +101,28 @@ outcome_conflict t reach turns (outcome.Steps node goal) status text is h e = le
 outcome_conflict t reach turns (outcome.Coefficient node goal op y z) status text is h e = let s = h.2.ended in cc
 outcome_conflict t reach turns outcome.TooMany status text is h e = let s = h.2.ended in cc
 
-pub checked_conflict : (t : Parts) (effort : Effort) (status : Status) (text : List ℕ)
-    → AnswersTask t effort status text → status ≡ Conflict → IsShown t effort.turns text
-checked_conflict t effort status text (inl (inl a)) e =
+deeper_conflict : (t : Parts) (effort : Effort) (status : Status) (text : List ℕ)
+    → AnswersDeeper t effort status text → status ≡ Conflict → IsLine t effort.turns text
+deeper_conflict t effort status text (inl a) e =
     outcome_conflict t (reach_of effort) effort.turns a.outcome status text a.found a.says e
-checked_conflict t effort status text (inl (inr (inl a))) e =
+deeper_conflict t effort status text (inr (inl a)) e =
     shown_from t effort.turns a.number (meaning a.store) a.verdict status text a.violates a.shows
-checked_conflict t effort status text (inl (inr (inr a))) e = let s = a.says.2.ended in cc
+deeper_conflict t effort status text (inr (inr a)) e = let s = a.says.2.ended in cc
+
+pub checked_conflict : (t : Parts) (effort : Effort) (status : Status) (text : List ℕ)
+    → AnswersTask t effort status text → status ≡ Conflict → IsShown t effort text
+checked_conflict t effort status text (inl (inl a)) e =
+    shown_with t effort text [] text (λ (plain : effort.why ≡ false). refl) (sym (append-nil text))
+    (deeper_conflict t effort status text a.1 e)
+checked_conflict t effort status text (inl (inr w)) e =
+    shown_with t effort w.line w.more text
+    (λ (plain : effort.why ≡ false). absurd (let both : true ≡ false = sym w.asked ∙ plain in cc)) w.printed
+    (deeper_conflict t effort status w.line w.answers e)
 checked_conflict t effort status text (inr a) e = let s = a.says.ended in cc
 
 -- such a task isn't free of conflicts
-pub shown_conflict : (t : Parts) (turns : ℕ) (text : List ℕ) → IsShown t turns text → ¬ ConflictFree (task_of t)
-shown_conflict t turns text s = violation_conflicts (task_of t) s.store turns s.violates
+pub shown_conflict : (t : Parts) (effort : Effort) (text : List ℕ) → IsShown t effort text → ¬ ConflictFree (task_of t)
+shown_conflict t effort text s = violation_conflicts (task_of t) s.store effort.turns s.violates
 
 -- Conflict of `replay` comes where the input's file gives a store from which the task is violated
 record IsReplayed (t : Parts) (file : Known) (turns between now : ℕ) : Type 0 where
@@ -127,7 +163,7 @@ check_conflicts : (file : Known) (effort : Effort) (before now : ℕ) (status : 
 check_conflicts file effort before now status text (inl f) e = absurd ((without_task file before now status text f).not_conflict e)
 check_conflicts file effort before now status text (inr c) e =
     unsafe_where file before now c.task c.gives
-    (shown_conflict c.task effort.turns text (checked_conflict c.task effort status text c.answers e))
+    (shown_conflict c.task effort text (checked_conflict c.task effort status text c.answers e))
 
 pub verify_no_conflict : (file proof : Known) (before now : ℕ) (status : Status) (text : List ℕ)
     → Verifies file proof before now status text → status ≢ Conflict
@@ -216,11 +252,10 @@ violated_from file before now t gives s input turns shown violates bytes told = 
 
 -- Conflict of `check` shows an input
 checked_shows : (file : Known) (effort : Effort) (before now : ℕ) (status : Status) (text : List ℕ)
-    → Checks file effort before now status text → status ≡ Conflict → ShowsInput file effort.turns text
+    → Checks file effort before now status text → status ≡ Conflict → ShowsInput file effort text
 checked_shows file effort before now status text (inl f) e = absurd ((without_task file before now status text f).not_conflict e)
 checked_shows file effort before now status text (inr c) e =
     let s = checked_conflict c.task effort status text c.answers e in (
-      s.front,
       s.input,
       s.printed,
       violated_from file before now c.task c.gives s.store s.input effort.turns s.shown s.violates,
@@ -228,7 +263,7 @@ checked_shows file effort before now status text (inr c) e =
 
 pub shows : (words : Words) (files : Files) (before now : ℕ) (status : Status) (text : List ℕ)
     → IsAnswerTo words files before now status text → status ≡ Conflict → (task proof : List ℕ) (effort : Effort)
-    → asked words ≡ Some (check task proof effort) → ShowsInput (files task) effort.turns text
+    → asked words ≡ Some (check task proof effort) → ShowsInput (files task) effort text
 shows words files before now status text answers e task proof effort asks =
     checked_shows (files task) effort before now status text (rw asks at answers) e
 

@@ -13,7 +13,8 @@ use Rattle.sm_text.proofs.Complete.Tasks as text
 use Rattle.sm_write.specs.Versions.{HasVersion}
 use Rattle.sm_commands.proofs.SpelledLemmas.{outcome_one}
 use Rattle.sm_commands.specs.Check.{reach_of, AnswersCheck, SaysOutcome}
-use Rattle.sm_commands.specs.Deeper.{AnswersDeeper, AnswersTask}
+use Rattle.sm_commands.specs.Deeper.{AnswersDeeper, FailsToWrite}
+use Rattle.sm_commands.specs.Why.{AnswersTask, AnswersWhy}
 use Rattle.sm_answers.specs.Exit.{ExitsWith}
 use Rattle.sm_answers.specs.File.{file_limit, GivesNoTask, GivesTask}
 use Rattle.sm_commands.specs.ProofFile.{HoldsFront, HoldsProof, IsTaskIn, LeavesCut, LeavesFront, LeavesProof, LeftBy}
@@ -215,22 +216,33 @@ kept_whole bytes effort b n before now s line old new t no_write no_read cause f
         (subst (λ (p : Parts). IsOutcome p (reach_of effort) effort.turns a.outcome) same a.found) accepted in
         accepted_status c.task u text (subst (λ (o : Outcome (ℕ × Verdict)). SaysOutcome c.task o u text) one a.says)
 
+    deeper : (text : List ℕ) → AnswersDeeper c.task effort s text → HoldsProof t old new
+    deeper text (inl a) = whole (decided s text a)
+    deeper text (inr (inl a)) = let unknown = decided Unknown a.line a.undecided in cc
+    deeper text (inr (inr a)) = let unknown = decided Unknown a.line a.undecided in cc
+
     go : AnswersTask c.task effort s line → HoldsProof t old new
-    go (inl (inl a)) = whole (decided s line a)
-    go (inl (inr (inl a))) = let unknown = decided Unknown a.line a.undecided in cc
-    go (inl (inr (inr a))) = let unknown = decided Unknown a.line a.undecided in cc
+    go (inl (inl a)) = deeper line a.1
+    go (inl (inr w)) = deeper w.line w.answers
     go (inr a) = absurd (no_write (cause.rose a.says.ended))
 
 -- ---- `check` of a task
 
+-- an accepted task whose proof couldn't be written: words behind the answer aren't printed
+unwritten : (t : Parts) (effort : Effort) (s u : Status) (l m : List ℕ) → AnswersWhy t effort s l → s ≡ Accepted
+    → Says WriteFault (codes "WriteFault\n") u m → FailsToWrite t effort u m
+unwritten t effort s u l m (inl a) e says =
+    record { line = l; accepted = subst (λ (x : Status). AnswersDeeper t effort x l) e a.1; says = says }
+unwritten t effort s u l m (inr w) e says =
+    record { line = w.line; accepted = subst (λ (x : Status). AnswersDeeper t effort x w.line) e w.answers; says = says }
+
 -- the answer to a task that is accepted, once its proof was to be written
-pub written_answers : (t : Parts) (effort : Effort) (s u : Status) (l m : List ℕ) (P Q : Type 0) → AnswersDeeper t effort s l → s ≡ Accepted
+pub written_answers : (t : Parts) (effort : Effort) (s u : Status) (l m : List ℕ) (P Q : Type 0) → AnswersWhy t effort s l → s ≡ Accepted
     → (Says s l u m × P) ⊎ (Says WriteFault (codes "WriteFault\n") u m × Q) → AnswersTask t effort u m
 written_answers t effort s u l m P Q a e (inl h) =
-    inl (subst (λ (x : Status). AnswersDeeper t effort x m) (sym h.0.ended)
-    (subst (λ (x : List ℕ). AnswersDeeper t effort s x) (sym h.0.printed) a))
-written_answers t effort s u l m P Q a e (inr h) =
-    inr (record { line = l; accepted = subst (λ (x : Status). AnswersDeeper t effort x l) e a; says = h.0 })
+    inl (subst (λ (x : Status). AnswersWhy t effort x m) (sym h.0.ended)
+    (subst (λ (x : List ℕ). AnswersWhy t effort s x) (sym h.0.printed) a))
+written_answers t effort s u l m P Q a e (inr h) = inr (unwritten t effort s u l m a e h.0)
 
 pub written_cut : (t : Parts) (old new : Known) (proof : List ℕ) → Passes t proof → HasVersion t proof → IsBegun proof old new
     → LeftCut t old new

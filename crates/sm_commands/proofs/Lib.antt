@@ -10,6 +10,7 @@ pub mod AnswerUnique
 pub mod FilesLemmas
 pub mod SpelledLemmas
 pub mod ReadingsLemmas
+pub mod WhySaid
 pub mod BatchTold
 pub mod BatchGiven
 pub mod BatchText

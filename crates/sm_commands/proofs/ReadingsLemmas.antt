@@ -125,7 +125,7 @@ conflict_by : (ask : Asked) (files : Files) (b n : ℕ) (before now : List Read)
     ConflictsRead ask before now
 conflict_by (to_check task proof effort) files b n before now status text answers (inl none) e = absurd (none.1 e)
 conflict_by (to_check task proof effort) files b n before now status text answers (inr c) e =
-    (c.1.bytes, c.1.read, (c.0, c.1.spells, shown_conflict c.0 effort.turns text (checked_conflict c.0 effort status text c.2 e)))
+    (c.1.bytes, c.1.read, (c.0, c.1.spells, shown_conflict c.0 effort text (checked_conflict c.0 effort status text c.2 e)))
 conflict_by (verify task proof workers) files b n before now status text answers a e =
     verify_no_conflict (files task) (files proof) b n status text answers e
 conflict_by (replay task input turns) files b n before now status text answers a e =
@@ -150,14 +150,13 @@ conflicts_read words files b n before now status text answers a e ask asks =
 
 -- and the input that `check` shows
 shown_by : (task : List ℕ) (effort : Effort) (before now : List Read) (status : Status) (text : List ℕ) →
-    ChecksRead task effort before now status text → status ≡ Conflict → ShowsReadInput task before now effort.turns text
+    ChecksRead task effort before now status text → status ≡ Conflict → ShowsReadInput task before now effort text
 shown_by task effort before now status text (inl none) e = absurd (none.1 e)
 shown_by task effort before now status text (inr c) e =
     let s = checked_conflict c.0 effort status text c.2 e in (
       c.1.bytes,
       c.1.read,
       (
-        s.front,
         s.input,
         s.printed,
         (
@@ -170,7 +169,7 @@ shown_by task effort before now status text (inr c) e =
 
 pub shows_read : (words : Words) (before now : List Read) (status : Status) (text : List ℕ) →
     AnswersByReads (asked words) before now status text → status ≡ Conflict → (task proof : List ℕ) (effort : Effort) →
-    asked words ≡ Some (to_check task proof effort) → ShowsReadInput task before now effort.turns text
+    asked words ≡ Some (to_check task proof effort) → ShowsReadInput task before now effort text
 shows_read words before now status text a e task proof effort asks =
     shown_by task effort before now status text (rw asks at a) e
 

@@ -9,7 +9,8 @@ use Rattle.sm_houdini.specs.Outcomes as outcome
 use Rattle.sm_houdini.specs.Outcomes.{Outcome}
 use Rattle.sm_commands.specs.Top.{Checks, Generates, Tells}
 use Rattle.sm_commands.specs.Check.{AnswersCheck, SaysOutcome, ShowsFrom}
-use Rattle.sm_commands.specs.Deeper.{AnswersTask}
+use Rattle.sm_commands.specs.Deeper.{AnswersDeeper}
+use Rattle.sm_commands.specs.Why.{AnswersTask}
 use Rattle.sm_commands.specs.Suggest.{AnswersSuggest, SaysSuggestion, Suggests}
 use Rattle.sm_syntax.specs.declared.copies.CopyName.{CopyName}
 use Rattle.sm_syntax.specs.claim.Stores.{Store}
@@ -47,6 +48,14 @@ pub checked_status : (t : Parts) (effort : Effort) (status : Status) (text : Lis
     → WritesNothing status
 checked_status t effort status text a = outcome_status t a.outcome status text a.says
 
+-- nor does one beyond the search
+pub deeper_status : (t : Parts) (effort : Effort) (status : Status) (text : List ℕ) → AnswersDeeper t effort status text
+    → IsOfCommand status
+deeper_status t effort status text (inl a) = (checked_status t effort status text a).of_command
+deeper_status t effort status text (inr (inl a)) =
+    (same_as status Conflict (shown_status t a.number _ a.verdict status text a.shows) of_conflict).of_command
+deeper_status t effort status text (inr (inr a)) = (same_as status Accepted a.says.2.ended of_accepted).of_command
+
 -- what every answer to `check` says of its status
 pub record IsToCheck (before now : ℕ) (status : Status) : Type 0 where
   pub of_command : IsOfCommand status
@@ -60,10 +69,8 @@ check_to_command file effort before now status text (inl f) =
 check_to_command file effort before now status text (inr c) = record { of_command = go c.answers; quiet = λ h. c.gives.read.quiet }
   where
     go : AnswersTask c.task effort status text → IsOfCommand status
-    go (inl (inl a)) = (checked_status c.task effort status text a).of_command
-    go (inl (inr (inl a))) =
-        (same_as status Conflict (shown_status c.task a.number _ a.verdict status text a.shows) of_conflict).of_command
-    go (inl (inr (inr a))) = (same_as status Accepted a.says.2.ended of_accepted).of_command
+    go (inl (inl a)) = deeper_status c.task effort status text a.1
+    go (inl (inr w)) = deeper_status c.task effort status w.line w.answers
     go (inr a) = subst IsOfCommand (sym a.says.ended) of_write
 
 pub gen_to_command : (seed size : ℕ) (effort : Effort) (before now : ℕ) (status : Status) (text : List ℕ)

@@ -51,8 +51,3 @@ pub record FailsToWrite (t : Parts) (effort : Effort) (status : Status) (text : 
   pub line : List ℕ
   pub accepted : AnswersDeeper t effort Accepted line
   pub says : Says WriteFault (codes "WriteFault\n") status text
-
--- what is answered to a task, where its proof may be one that couldn't be written whole
-abbrev pub AnswersTask : Parts → Effort → Status → List ℕ → Type 0
-AnswersTask t effort status text =
-    AnswersDeeper t effort status text ⊎ FailsToWrite t effort status text

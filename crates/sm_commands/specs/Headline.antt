@@ -1,7 +1,7 @@
 -- What Accepted and Conflict say of the files, where the shelf tells their bytes. The public
 -- clauses `accepted`, `verified`, `conflict`, `shown`, `replayed` and `explained` of `safemerge` cite
 -- it.
-use Rattle.std.specs.Prelude.{◌≡◌, ◌≤◌, ◌++◌, ℕ, Option, Some, None, List, length}
+use Rattle.std.specs.Prelude.{◌≡◌, ◌≤◌, ◌++◌, ℕ, false, Option, Some, None, List, [], length}
 use Rattle.sm_syntax.specs.claim.ConflictFree.{ConflictFree}
 use Rattle.sm_syntax.specs.text.Parts.{Parts, sort_of, task_of}
 use Rattle.sm_syntax.specs.text.Spells.{Spells}
@@ -15,6 +15,7 @@ use Rattle.sm_answers.specs.File.{file_limit}
 use Rattle.sm_answers.specs.Lines.{input_line}
 use Rattle.sm_answers.specs.Verify.{proof_limit}
 use Rattle.sm_words.specs.Words.{Asked, check, verify, replay, print, suggest, gen, explain, batch, about}
+use Rattle.sm_words.specs.declared.effort.Effort.{Effort}
 
 -- the file of the task, where it is asked whether its merge is free of conflicts
 abbrev pub merge_file : Asked → Option (List ℕ)
@@ -51,10 +52,16 @@ IsViolatedFrom input turns bytes = (t : Parts) × Spells bytes t
     × ((s : Store) × IsInput t.names (sort_of t.declared) input s
     × Violates (task_of t) (meaning s) turns)
 
--- Conflict of `check`: the text ends with the line of an input that shows a conflict of the task
-abbrev pub ShowsInput : Known → ℕ → List ℕ → Type 0
-ShowsInput task turns text = (front input : List ℕ) × (text ≡ front ++ input_line input)
-    × WhereHeld task (IsViolatedFrom input turns)
+-- the text ends with the line of an input, or with `--why` has it
+abbrev pub EndsWithInput : Effort → List ℕ → List ℕ → Type 0
+EndsWithInput effort input text = (front rest : List ℕ)
+    × (text ≡ front ++ (input_line input ++ rest)) × (effort.why ≡ false → rest ≡ [])
+
+-- Conflict of `check`: the text has the line of an input that shows a conflict of the task, and ends
+-- with it without `--why`
+abbrev pub ShowsInput : Known → Effort → List ℕ → Type 0
+ShowsInput task effort text = (input : List ℕ) × EndsWithInput effort input text
+    × WhereHeld task (IsViolatedFrom input effort.turns)
 
 -- Conflict of `replay` and of `explain`: the input in the file shows a conflict of the task
 abbrev pub IsShownByInput : Known → Known → ℕ → Type 0

@@ -1,12 +1,13 @@
 -- What Accepted and Conflict say of the bytes that were read: on every shelf, whether it tells what
 -- its files hold or not. The public clauses `accepted_read`, `verified_read`, `conflict_read`,
 -- `shown_read` and `suggested_read` of `safemerge` cite it.
-use Rattle.std.specs.Prelude.{◌≡◌, ◌++◌, ℕ, List, Some, None}
+use Rattle.std.specs.Prelude.{List, Some, None}
 use Rattle.sm_io.specs.Reads.{Read, ReadsWhole}
-use Rattle.sm_commands.specs.Headline.{IsProved, IsSafeMerge, IsUnsafeMerge, IsViolatedFrom}
-use Rattle.sm_answers.specs.Lines.{input_line}
+use Rattle.sm_commands.specs.Headline.{EndsWithInput, IsProved, IsSafeMerge, IsUnsafeMerge}
+use Rattle.sm_commands.specs.Headline.{IsViolatedFrom}
 use Rattle.sm_commands.specs.Suggest.{IsSafeSuggestion}
 use Rattle.sm_words.specs.Words.{Asked, check, verify, replay, print, suggest, gen, explain, batch, about}
+use Rattle.sm_words.specs.declared.effort.Effort.{Effort}
 
 -- the one file was read, in one pass to its end, and no other; of its bytes this holds
 abbrev pub ReadsOne : List ℕ → List Read → List Read → (List ℕ → Type 0) → Type 0
@@ -56,13 +57,13 @@ ConflictsRead (explain task (Some input) turns) before now =
 ConflictsRead (batch list cache effort) before now = Unit {0}
 ConflictsRead (about what) before now = ⊥
 
--- Conflict of `check`: the text ends with the line of an input that shows a conflict of the task
--- that was read
-abbrev pub ShowsReadInput : List ℕ → List Read → List Read → ℕ → List ℕ → Type 0
-ShowsReadInput task before now turns text =
+-- Conflict of `check`: the text has the line of an input that shows a conflict of the task that was
+-- read, and ends with it without `--why`
+abbrev pub ShowsReadInput : List ℕ → List Read → List Read → Effort → List ℕ → Type 0
+ShowsReadInput task before now effort text =
     ReadsOne task before now (λ (bytes : List ℕ).
-    (front input : List ℕ) × (text ≡ front ++ input_line input)
-    × IsViolatedFrom input turns bytes)
+    (input : List ℕ) × EndsWithInput effort input text
+    × IsViolatedFrom input effort.turns bytes)
 
 -- Accepted of `suggest`: the text is the line of a combination with which the task that was read is
 -- free of conflicts

@@ -40,9 +40,9 @@ with_cache cache (explain task input turns) = explain task input turns
 with_cache cache (batch list others effort) = batch list cache effort
 with_cache cache (about what) = about what
 
--- no inputs beyond the trials are asked for
+-- neither inputs beyond the trials nor words behind an answer are asked for
 abbrev pub IsPlain : Asked → Type 0
-IsPlain (check task proof effort) = effort.deeper ≡ false
+IsPlain (check task proof effort) = (effort.deeper ≡ false) × (effort.why ≡ false)
 IsPlain (verify task proof workers) = Unit {0}
 IsPlain (replay task input turns) = Unit {0}
 IsPlain (print task copy) = Unit {0}
@@ -64,8 +64,8 @@ AskAlike words others =
     × (asked others ≡ Some (with_cache cache (with_workers workers ask))))
 
 -- two answers to words that ask alike and told files, each without a fault to read or to write, are
--- equal, where no inputs beyond the trials are asked for: a number of workers, or of tasks whose answers
--- are kept, changes no byte
+-- equal, where neither inputs beyond the trials nor words behind an answer are asked for: a number of
+-- workers, or of tasks whose answers are kept, changes no byte
 abbrev pub OneAnswer : Type 0
 OneAnswer =
     (words others : Words) (files : Files) (before now earlier later : ℕ)

@@ -7,6 +7,8 @@ pub mod Check
 pub mod Gen
 pub mod Suggest
 pub mod Deeper
+pub mod Why
+pub mod Grounds
 pub mod ProofFile
 pub mod Batch
 pub mod HeadlineBatch

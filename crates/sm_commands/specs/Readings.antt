@@ -3,7 +3,7 @@
 use Rattle.std.specs.Prelude.{◌≢◌, ◌⊎◌, ℕ, List, Option, Some, None}
 use Rattle.sm_io.specs.Reads.{Read}
 use Rattle.sm_syntax.specs.text.Parts.{Parts}
-use Rattle.sm_commands.specs.Deeper.{AnswersTask}
+use Rattle.sm_commands.specs.Why.{AnswersTask}
 use Rattle.sm_commands.specs.HeadlineBatch.{AcceptsSafeRead}
 use Rattle.sm_commands.specs.Suggest.{AnswersSuggest}
 use Rattle.sm_words.specs.Words.{Asked, check, verify, replay, print, suggest, gen, explain, batch, about}

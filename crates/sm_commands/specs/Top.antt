@@ -9,7 +9,7 @@ use Rattle.sm_syntax.specs.text.Parts.{Parts}
 use Rattle.sm_answers.specs.File.{GivesTask, GivesNoTask}
 use Rattle.sm_commands.specs.Batch.{Batches}
 use Rattle.sm_commands.specs.Gen.{AnswersGen}
-use Rattle.sm_commands.specs.Deeper.{AnswersTask}
+use Rattle.sm_commands.specs.Why.{AnswersTask}
 use Rattle.sm_commands.specs.ProofFile.{LeavesFront, LeavesProof}
 use Rattle.sm_commands.specs.Suggest.{Suggests}
 use Rattle.sm_answers.specs.Replay.{Replays}

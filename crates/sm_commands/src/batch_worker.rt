@@ -87,7 +87,12 @@ fn answered<R: Threads + Sync, G: Gate>(
     requires { HasText (parts_of task.now) }
     ensures { IfOk result (IsAnswered effort (parts_of task.now)) }
 {
-    let Decided { reply, proof } = check(rt, alloc, gate, task, alone(effort))?;
+    let decided = check(rt, alloc, gate, task, alone(effort))?;
+    let Decided {
+        reply,
+        proof,
+        ground: _,
+    } = decided;
     Ok(Answered {
         reply: Vec::from_slice(alloc, first_line(&reply.text))?,
         cert: proof,

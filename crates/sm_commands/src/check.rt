@@ -10,9 +10,11 @@ ghost use Rattle.sm_syntax.specs.trees.Programs.{declared_of};
 ghost use Rattle.sm_task.specs.Tasks.{parts_of};
 ghost use Rattle.sm_text.specs.printing.Named.{HasText};
 ghost use Rattle.sm_commands.specs.Check.{AnswersCheck, IsNote, SaysNoted, ShowsFrom, ShowsTrial};
+ghost use Rattle.sm_commands.specs.Grounds.{IsShownBy, RestsOn};
 ghost use Rattle.sm_commands.specs.Views.{ComesWith, verdict_at};
 ghost use Rattle.sm_words.specs.Views.{HasWorkers};
 
+use crate::ground::{Ground, at_goal};
 use sm_answers::{
     Reply, Status, coefficient_line, goal_line, put_input_line, too_many_line, trial_line,
 };
@@ -22,15 +24,17 @@ use sm_par::Gate;
 use sm_replay::{Verdict, some_trial_meets, trial, write_input};
 use sm_syntax::Name;
 use sm_task::Task;
+use sm_why::{Manner, Stop};
 use sm_words::{Effort, line};
 use std::alloc::{AllocError, Global};
 use std::thread::Threads;
 
-/// The answer to a task, with the proof where it is accepted.
+/// The answer to a task, with the proof where it is accepted, and what it rests on.
 #[derive(Drop)]
 pub struct Decided {
     pub reply: Reply,
     pub proof: Option<Vec<u8>>,
+    pub ground: Ground,
 }
 
 /// Where an input violates: an output, the index where it is an array, and the clause.
@@ -56,6 +60,8 @@ pub fn check<R: Threads + Sync, G: Gate>(
         AnswersCheck (parts_of task.now) effort d.reply.status d.reply.text.items) }
     ensures proof { IfOk result (λ d. ComesWith (parts_of task.now) d.reply.status
         (option_map (λ v. v.items) d.proof)) }
+    ensures ground { IfOk result (λ d.
+        RestsOn (parts_of task.now) effort d.reply.status d.reply.text.items d.ground) }
 {
     let outcome = search(
         rt,
@@ -74,21 +80,30 @@ pub fn check<R: Threads + Sync, G: Gate>(
             Ok(Decided {
                 reply,
                 proof: Some(text),
+                ground: Ground::Proved,
             })
         }
         Outcome::Conflict { trial, verdict } => {
-            let reply = conflict(alloc, task, trial, verdict)?;
-            Ok(Decided { reply, proof: None })
+            let decided = conflict(alloc, task, trial, verdict)?;
+            Ok(decided)
         }
         Outcome::Open { node, goal } => {
             let text = goal_line(alloc, "Open", node, goal)?;
             let reply = unknown(alloc, task, text)?;
-            Ok(Decided { reply, proof: None })
+            Ok(Decided {
+                reply,
+                proof: None,
+                ground: at_goal(Manner::Open, goal),
+            })
         }
         Outcome::Steps { node, goal } => {
             let text = goal_line(alloc, "Steps", node, goal)?;
             let reply = unknown(alloc, task, text)?;
-            Ok(Decided { reply, proof: None })
+            Ok(Decided {
+                reply,
+                proof: None,
+                ground: at_goal(Manner::Steps, goal),
+            })
         }
         Outcome::Coefficient {
             node,
@@ -99,23 +114,34 @@ pub fn check<R: Threads + Sync, G: Gate>(
         } => {
             let text = coefficient_line(alloc, node, goal, op, a, b)?;
             let reply = unknown(alloc, task, text)?;
-            Ok(Decided { reply, proof: None })
+            Ok(Decided {
+                reply,
+                proof: None,
+                ground: at_goal(Manner::Coefficient, goal),
+            })
         }
         Outcome::TooMany => {
             let text = too_many_line(alloc)?;
             let reply = unknown(alloc, task, text)?;
-            Ok(Decided { reply, proof: None })
+            Ok(Decided {
+                reply,
+                proof: None,
+                ground: Ground::Stopped(Stop::TooMany),
+            })
         }
     }
 }
 
 // The answer that a trial violates.
-fn conflict(alloc: Global, task: &Task, number: u8, verdict: Verdict) -> Result<Reply, AllocError>
+fn conflict(alloc: Global, task: &Task, number: u8, verdict: Verdict) -> Result<Decided, AllocError>
     requires named { let t = parts_of task.now in AreNamed t.names (sort_of t.declared) }
     requires least { (turns : ℕ) × (let t = parts_of task.now in
         IsLeast (task_of t) (sort_of t.declared) turns number verdict) }
-    ensures { IfOk result (λ r.
-        ShowsTrial (parts_of task.now) number verdict r.status r.text.items) }
+    ensures shows { IfOk result (λ d.
+        ShowsTrial (parts_of task.now) number verdict d.reply.status d.reply.text.items) }
+    ensures none { IfOk result (λ d. d.proof ≡ None) }
+    ensures ground { IfOk result (λ d.
+        IsShownBy (parts_of task.now) d.reply.status d.reply.text.items d.ground) }
 {
     match verdict {
         Verdict::Violates {
@@ -137,18 +163,45 @@ fn conflict(alloc: Global, task: &Task, number: u8, verdict: Verdict) -> Result<
 }
 
 // The answer that a trial violates at a place.
-fn shown(alloc: Global, task: &Task, number: u8, at: Place) -> Result<Reply, AllocError>
+fn shown(alloc: Global, task: &Task, number: u8, at: Place) -> Result<Decided, AllocError>
     requires { let t = parts_of task.now in AreNamed t.names (sort_of t.declared) }
-    ensures { IfOk result (λ r.
-        ShowsTrial (parts_of task.now) number (verdict_at at) r.status r.text.items) }
+    ensures shows { IfOk result (λ d.
+        ShowsTrial (parts_of task.now) number (verdict_at at) d.reply.status d.reply.text.items) }
+    ensures none { IfOk result (λ d. d.proof ≡ None) }
+    ensures ground { IfOk result (λ d.
+        IsShownBy (parts_of task.now) d.reply.status d.reply.text.items d.ground) }
 {
     let input = trial(alloc, task, number)?;
-    violation(alloc, task, number as u64, &input, at)
+    violated(alloc, task, number as u64, input, at)
 }
 
-/// The answer that an input violates: its number among those that are made, the place, and its
-/// text.
-pub fn violation(
+/// The answer that an input violates, which rests on the input.
+pub fn violated(
+    alloc: Global,
+    task: &Task,
+    number: u64,
+    input: Store,
+    at: Place,
+) -> Result<Decided, AllocError>
+    requires named { let t = parts_of task.now in AreNamed t.names (sort_of t.declared) }
+    requires declared { sorts_of input ≡ sort_of (declared_of task.now.shared.decls) }
+    ensures shows { IfOk result (λ d.
+        ShowsFrom (parts_of task.now) number (meaning input) (verdict_at at)
+        d.reply.status d.reply.text.items) }
+    ensures none { IfOk result (λ d. d.proof ≡ None) }
+    ensures ground { IfOk result (λ d.
+        IsShownBy (parts_of task.now) d.reply.status d.reply.text.items d.ground) }
+{
+    let reply = violation(alloc, task, number, &input, at)?;
+    Ok(Decided {
+        reply,
+        proof: None,
+        ground: Ground::Input(input),
+    })
+}
+
+// The answer that an input violates: its number among those that are made, the place, and its text.
+fn violation(
     alloc: Global,
     task: &Task,
     number: u64,

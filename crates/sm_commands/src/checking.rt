@@ -1,13 +1,15 @@
 // What `check` answers to a task's file, and what it leaves in the proof's.
-ghost use Rattle.std.specs.Prelude.{◌≡◌, ◌≢◌, ◌⊎◌, ℕ, List, codes, IfOk, IfErr, OnErr};
+ghost use Rattle.std.specs.Prelude.{◌≡◌, ◌≢◌, ◌⊎◌, ◌^◌, ◌<◌, ℕ, List, codes, length, IfOk, IfErr};
+ghost use Rattle.std.specs.Prelude.{OnErr};
 ghost use Rattle.sm_io.specs.Causes.{HasCause};
 ghost use Rattle.sm_io.specs.Files.{emptied, longer};
+ghost use Rattle.sm_syntax.specs.text.Spells.{Spells};
 ghost use Rattle.sm_task.specs.Tasks.{parts_of};
 ghost use Rattle.sm_text.specs.printing.Named.{HasText};
 ghost use Rattle.sm_answers.specs.Exit.{ExitsWith};
 ghost use Rattle.sm_answers.specs.ProofFile.{IsBegun};
 ghost use Rattle.sm_answers.specs.Status.{Says};
-ghost use Rattle.sm_commands.specs.Deeper.{AnswersTask};
+ghost use Rattle.sm_commands.specs.Why.{AnswersTask};
 ghost use Rattle.sm_commands.specs.ProofFile.{LeavesFront, LeavesProof, LeftBy, LeftCut};
 ghost use Rattle.sm_commands.specs.Readings.{ChecksRead};
 ghost use Rattle.sm_commands.specs.Top.{Checks};
@@ -15,11 +17,10 @@ ghost use Rattle.sm_commands.specs.Views.{CountsWrites, EndsWith};
 ghost use Rattle.sm_words.specs.Views.{HasWorkers};
 
 use crate::check::Decided;
-use crate::deeper::check_deeper;
-use sm_answers::{Exit, Reply, Status, task_in, write_file};
+use crate::why::check_why;
+use sm_answers::{Exit, Reply, Spelled, Status, spelled_in, write_file};
 use sm_io::{IoError, Shelf};
 use sm_par::Gate;
-use sm_task::Task;
 use sm_words::{Effort, line};
 use std::alloc::{AllocError, Global};
 use std::thread::Threads;
@@ -53,8 +54,8 @@ pub fn check_in<R: Threads + Sync, G: Gate, H: Shelf>(
         H.file shelf.new other ≡ H.file shelf.old other }
     ensures writes { CountsWrites (H.write_faults shelf.old) (H.write_faults shelf.new) result }
 {
-    let task = task_in(alloc, shelf, name)?;
-    Ok(check_task(rt, alloc, gate, shelf, &task, proof, effort)?)
+    let read = spelled_in(alloc, shelf, name)?;
+    Ok(check_task(rt, alloc, gate, shelf, &read, proof, effort)?)
 }
 
 // The answer of `check` to a task, and its proof in a file where it is accepted.
@@ -63,17 +64,19 @@ fn check_task<R: Threads + Sync, G: Gate, H: Shelf>(
     alloc: Global,
     gate: &G,
     shelf: &mut H,
-    task: &Task,
+    read: &Spelled,
     proof: &str,
     effort: Effort,
 ) -> Result<Reply, AllocError>
-    requires spelled { HasText (parts_of task.now) }
+    requires spelled { HasText (parts_of read.now.task) }
+    requires spells { Spells read.now.text.items (parts_of read.now.task) }
+    requires short { length read.now.text.items < 2 ^ 32 }
     requires workers { HasWorkers effort }
     ensures answers { IfOk result (λ r.
-        AnswersTask (parts_of task.now) effort r.status r.text.items) }
-    ensures left { IfOk result (λ r. LeftBy (parts_of task.now) r.status
+        AnswersTask (parts_of read.now.task) effort r.status r.text.items) }
+    ensures left { IfOk result (λ r. LeftBy (parts_of read.now.task) r.status
         (H.file shelf.old proof.now) (H.file shelf.new proof.now)) }
-    ensures front { OnErr result (LeftCut (parts_of task.now)
+    ensures front { OnErr result (LeftCut (parts_of read.now.task)
         (H.file shelf.old proof.now) (H.file shelf.new proof.now)) }
     ensures others { (other : List ℕ) → other ≢ proof.now →
         H.file shelf.new other ≡ H.file shelf.old other }
@@ -83,7 +86,12 @@ fn check_task<R: Threads + Sync, G: Gate, H: Shelf>(
     ensures reads { H.read_faults shelf.new ≡ H.read_faults shelf.old }
     ensures keeps { H.given shelf.new ≡ H.given shelf.old }
 {
-    let Decided { reply, proof: text } = check_deeper(rt, alloc, gate, task, effort)?;
+    let decided = check_why(rt, alloc, gate, read, effort)?;
+    let Decided {
+        reply,
+        proof: text,
+        ground: _,
+    } = decided;
     match text {
         Some(text) => write_proof(alloc, shelf, reply, proof, &text),
         None => Ok(reply),

@@ -1,5 +1,5 @@
 // What `check --deeper` answers to a task.
-ghost use Rattle.std.specs.Prelude.{◌≡◌, true, IfOk, IfSome, option_map};
+ghost use Rattle.std.specs.Prelude.{◌≡◌, true, None, IfOk, IfSome, option_map};
 ghost use Rattle.sm_guided.specs.Beyond as guided;
 ghost use Rattle.sm_replay.specs.Sorted.{sort_fault};
 ghost use Rattle.sm_replay.specs.InputText.{AreNamed};
@@ -8,11 +8,13 @@ ghost use Rattle.sm_task.specs.Tasks.{parts_of};
 ghost use Rattle.sm_text.specs.printing.Named.{HasText};
 ghost use Rattle.sm_commands.specs.Check.{AnswersCheck};
 ghost use Rattle.sm_commands.specs.Deeper.{AnswersDeeper, GoesBeyond, ShowsBeyond};
+ghost use Rattle.sm_commands.specs.Grounds.{IsShownBy, RestsOn};
 ghost use Rattle.sm_commands.specs.Views.{ComesWith};
 ghost use Rattle.sm_answers.specs.declared.status.Status.TheVariants.{Unknown};
 ghost use Rattle.sm_words.specs.Views.{HasWorkers};
 
-use crate::check::{Decided, Place, accepted, check, violation};
+use crate::check::{Decided, Place, accepted, check, violated};
+use crate::ground::Ground;
 use sm_answers::{Reply, Status};
 use sm_deeper::search_deeper;
 use sm_guided::{all_tried, violation_beyond};
@@ -41,6 +43,8 @@ pub fn check_deeper<R: Threads + Sync, G: Gate>(
         AnswersDeeper (parts_of task.now) effort d.reply.status d.reply.text.items) }
     ensures proof { IfOk result (λ d. ComesWith (parts_of task.now) d.reply.status
         (option_map (λ v. v.items) d.proof)) }
+    ensures ground { IfOk result (λ d.
+        RestsOn (parts_of task.now) effort d.reply.status d.reply.text.items d.ground) }
 {
     let decided = check(rt, alloc, gate, task, effort)?;
     if effort.deeper && decided.reply.status == Status::Unknown {
@@ -66,9 +70,11 @@ fn beyond(
         GoesBeyond (parts_of task.now) effort d.reply.status d.reply.text.items)) }
     ensures proof { IfOk result (λ found. IfSome found (λ d. ComesWith (parts_of task.now)
         d.reply.status (option_map (λ v. v.items) d.proof))) }
+    ensures ground { IfOk result (λ found. IfSome found (λ d.
+        RestsOn (parts_of task.now) effort d.reply.status d.reply.text.items d.ground)) }
 {
-    if let Some(reply) = shown_beyond(alloc, task, effort, undecided)? {
-        return Ok(Some(Decided { reply, proof: None }));
+    if let Some(shown) = shown_beyond(alloc, task, effort, undecided)? {
+        return Ok(Some(shown));
     }
     proved_beyond(alloc, task, effort, undecided)
 }
@@ -79,13 +85,16 @@ fn shown_beyond(
     task: &Task,
     effort: Effort,
     undecided: &Reply,
-) -> Result<Option<Reply>, AllocError>
+) -> Result<Option<Decided>, AllocError>
     requires runs { sort_fault (parts_of task.now) ≡ None }
     requires named { let t = parts_of task.now in AreNamed t.names (sort_of t.declared) }
     requires asked { effort.deeper ≡ true }
     requires undecided { AnswersCheck (parts_of task.now) effort Unknown undecided.now.text.items }
-    ensures { IfOk result (λ found. IfSome found (λ r.
-        ShowsBeyond (parts_of task.now) effort r.status r.text.items)) }
+    ensures shows { IfOk result (λ found. IfSome found (λ d.
+        ShowsBeyond (parts_of task.now) effort d.reply.status d.reply.text.items)) }
+    ensures none { IfOk result (λ found. IfSome found (λ d. d.proof ≡ None)) }
+    ensures ground { IfOk result (λ found. IfSome found (λ d.
+        IsShownBy (parts_of task.now) d.reply.status d.reply.text.items d.ground)) }
 {
     match violation_beyond(alloc, task, effort.turns)? {
         Some(shown) => {
@@ -94,7 +103,7 @@ fn shown_beyond(
                 index: shown.index,
                 clause: shown.clause,
             };
-            Ok(Some(violation(alloc, task, shown.number, &shown.input, at)?))
+            Ok(Some(violated(alloc, task, shown.number, shown.input, at)?))
         }
         None => Ok(None),
     }
@@ -114,6 +123,8 @@ fn proved_beyond(
         GoesBeyond (parts_of task.now) effort d.reply.status d.reply.text.items)) }
     ensures proof { IfOk result (λ found. IfSome found (λ d. ComesWith (parts_of task.now)
         d.reply.status (option_map (λ v. v.items) d.proof))) }
+    ensures ground { IfOk result (λ found. IfSome found (λ d.
+        RestsOn (parts_of task.now) effort d.reply.status d.reply.text.items d.ground)) }
 {
     let inputs = all_tried(alloc, task, effort.turns)?;
     let reach = Reach {
@@ -127,6 +138,7 @@ fn proved_beyond(
             Ok(Some(Decided {
                 reply,
                 proof: Some(text),
+                ground: Ground::Proved,
             }))
         }
         None => Ok(None),

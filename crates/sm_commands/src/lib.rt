@@ -5,7 +5,8 @@
 //!   proof it writes to a file; `Conflict` for one that isn't, with the first trial that shows it;
 //!   or `Unknown` with the first goal that stays open. With `--exact` the search decides a branch
 //!   that nothing splits over whole numbers, and with `--deeper` inputs beyond the trials are run
-//!   where it decides nothing, and a proof is looked for along their runs. `verify` prints `Accepted` exactly where the bytes of
+//!   where it decides nothing, and a proof is looked for along their runs; with `--why` words stand
+//!   behind the answer, which say why. `verify` prints `Accepted` exactly where the bytes of
 //!   a proof's file pass for the task, which is then free of conflicts, and else the number of the
 //!   first bad line and the word for what is wrong with it. `replay` judges one input exactly,
 //!   `print` puts the canonical text of a task, or of the program of a copy, `suggest` the first
@@ -16,14 +17,14 @@
 //!   takes, bytes that are no task or no input, and faults are answered exactly where they are met.
 //! - `one_answer` is the law that two answers to told files, without a fault, are equal where the
 //!   words are the same, or ask for the same with another number of workers or another `--cache`,
-//!   and `--deeper` isn't among them.
+//!   and neither `--deeper` nor `--why` is among them.
 //! - `Status::number` is the number with which the program ends.
 //!
 //! The claim is `ConflictFree` of the crate `sm_syntax`. Read `specs/Headline.antt` first: what
 //! Accepted and Conflict say of files that are told; and then `specs/HeadlineRead.antt`: what they
 //! say of the bytes that were read, on every shelf. `specs/HeadlineBatch.antt` has what a line
 //! `Accepted` of `batch` says of both. `specs/Top.antt` says what is answered, with
-//! `specs/Check.antt`, `specs/Deeper.antt`, `specs/Suggest.antt`, `specs/Batch.antt` and
+//! `specs/Check.antt`, `specs/Deeper.antt`, `specs/Why.antt`, `specs/Suggest.antt`, `specs/Batch.antt` and
 //! `specs/Gen.antt`,
 //! `specs/File.antt`, `specs/Verify.antt` and `specs/Replay.antt` of the crate `sm_answers`, and
 //! `specs/Print.antt` and `specs/Explain.antt` of `sm_display`; `specs/ProofFile.antt` what `check`
@@ -37,11 +38,13 @@ mod check;
 mod checking;
 mod deeper;
 mod gathering;
+mod ground;
 mod laws;
 mod making;
 mod suggesting;
 mod telling;
 mod top;
+mod why;
 
 pub use laws::one_answer;
 pub use sm_answers::Status;

@@ -70,7 +70,7 @@ pub fn safemerge<R: Threads + Sync, G: Gate, H: Shelf, K: Sink>(
     // That of `check` prints an input that shows it.
     ensures shown { result ≡ Status.Conflict → (task proof : List ℕ) (effort : Effort) →
         asked (map string_bytes words.now) ≡ Some (check task proof effort) →
-        (text : List ℕ) × ShowsInput (H.file shelf.old task) effort.turns text
+        (text : List ℕ) × ShowsInput (H.file shelf.old task) effort text
         × Adds (K.taken out.old) (K.taken out.new) text }
     // That of `replay` is shown by its input.
     ensures replayed { result ≡ Status.Conflict → (task input : List ℕ) (turns : ℕ) →
@@ -106,7 +106,7 @@ pub fn safemerge<R: Threads + Sync, G: Gate, H: Shelf, K: Sink>(
         ConflictsRead ask (H.given shelf.old) (H.given shelf.new) }
     ensures shown_read { result ≡ Status.Conflict → (task proof : List ℕ) (effort : Effort) →
         asked (map string_bytes words.now) ≡ Some (check task proof effort) → (text : List ℕ)
-        × ShowsReadInput task (H.given shelf.old) (H.given shelf.new) effort.turns text
+        × ShowsReadInput task (H.given shelf.old) (H.given shelf.new) effort text
         × Adds (K.taken out.old) (K.taken out.new) text }
     ensures suggested_read { result ≡ Status.Accepted → (task : List ℕ) (effort : Effort) →
         asked (map string_bytes words.now) ≡ Some (suggest task effort) → (text : List ℕ)

@@ -6,6 +6,7 @@
 //!   the four programs with their holes filled, each behind a line that names its copy. Of an
 //!   input's file, too, it answers the line of `replay`, and behind it the start and where the ends
 //!   of the four programs differ.
+//! - `shown_ends` is what it shows of those ends alone.
 //! - `begins_as_refused` and `begins_as_replayed` are the laws that an answer of `explain` has the
 //!   status of the other commands, and begins with their line.
 //!
@@ -21,3 +22,4 @@ mod showing;
 pub use explaining::explain_in;
 pub use laws::{begins_as_refused, begins_as_replayed};
 pub use printing::print_in;
+pub use showing::shown_ends;

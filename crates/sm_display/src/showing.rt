@@ -72,9 +72,14 @@ fn ends_by(
     }
 }
 
-// The table of four ends behind its line. The programs end where there is a verdict on their ends,
-// so only want of memory is met.
-fn shown_ends(alloc: Global, task: &Task, input: &Store, turns: u64) -> Result<Vec<u8>, AllocError>
+/// The table of a task's four ends from a store of its declarations, behind its line. The programs
+/// end where there is a verdict on their ends, so only want of memory is met.
+pub fn shown_ends(
+    alloc: Global,
+    task: &Task,
+    input: &Store,
+    turns: u64,
+) -> Result<Vec<u8>, AllocError>
     requires runs { sort_fault (parts_of task.now) ≡ None }
     requires declared { sorts_of input.now ≡ sort_of (declared_of task.now.shared.decls) }
     ensures { IfOk result (λ text.

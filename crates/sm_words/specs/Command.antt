@@ -40,11 +40,11 @@ abbrev pub search_command : Text → Text → Text → App
 search_command word first second =
     with_effort (with_rule (with_rule (new_app word) (required_word first)) (required_word second))
 
--- check TASK PROOF [--steps N] [--turns N] [--workers N] [--exact] [--deeper]
+-- check TASK PROOF [--steps N] [--turns N] [--workers N] [--exact] [--deeper] [--why]
 unfoldable pub check_command : App
 check_command =
-    with_rule (search_command (codes "check") (codes "TASK") (codes "PROOF"))
-    (flag_word (codes "deeper"))
+    let command = search_command (codes "check") (codes "TASK") (codes "PROOF") in
+    with_rule (with_rule command (flag_word (codes "deeper"))) (flag_word (codes "why"))
 
 -- verify TASK PROOF [--workers N]
 unfoldable pub verify_command : App

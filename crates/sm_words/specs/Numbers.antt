@@ -68,6 +68,7 @@ effort_by given =
       workers = w;
       exact = is_given (given (codes "exact"));
       deeper = is_given (given (codes "deeper"));
+      why = is_given (given (codes "why"));
     }) (workers_by (given (codes "workers"))))
     (turns_by (given (codes "turns")))) (steps_by (given (codes "steps")))
 

@@ -78,7 +78,9 @@ fn flag_word<'a>(alloc: Global, id: &'a str) -> Arg<'a>
 fn check_command<'a>(alloc: Global) -> Result<Command<'a>, AllocError>
     ensures { IfOk result (λ c. app_of c ≡ check_command) }
 {
-    search_command(alloc, "check", "TASK", "PROOF")?.arg(flag_word(alloc, "deeper"))
+    search_command(alloc, "check", "TASK", "PROOF")?
+        .arg(flag_word(alloc, "deeper"))?
+        .arg(flag_word(alloc, "why"))
 }
 
 #[tactic(auto, unfolding(crate::specs::Command::gen_command))]

@@ -13,4 +13,6 @@ pub struct Effort {
     pub exact: bool,
     /// Whether inputs beyond the trials are run where the search decides nothing.
     pub deeper: bool,
+    /// Whether words stand behind an answer, which say why.
+    pub why: bool,
 }

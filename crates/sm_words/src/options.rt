@@ -24,12 +24,14 @@ pub fn effort_in(matches: &ArgMatches<'_>) -> Result<Effort, WordsError>
     let workers = workers_by(matches.get_str("workers"))?;
     let exact = is_given(matches.get_str("exact"));
     let deeper = is_given(matches.get_str("deeper"));
+    let why = is_given(matches.get_str("why"));
     Ok(Effort {
         steps,
         turns,
         workers,
         exact,
         deeper,
+        why,
     })
 }
 

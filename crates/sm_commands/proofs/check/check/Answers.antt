@@ -38,13 +38,13 @@ conflict-requires-clause-least g c =
     (outcome_so (parts_of c.args.task.now) (reach_of c.args.effort) c.args.effort.turns c.in_ok-outcome.outcome
     (outcome.Conflict c.in-Conflict.trial c.in-Conflict.verdict) c.in-Conflict.is c.in_ok-outcome.ensures.outcome)
 
-pub returns-in_ok-reply-in-Conflict-clause-answers : goal.returns-in_ok-reply-in-Conflict-clause-answers
-returns-in_ok-reply-in-Conflict-clause-answers g c = record {
+pub returns-in_ok-decided-in-Conflict-clause-answers : goal.returns-in_ok-decided-in-Conflict-clause-answers
+returns-in_ok-decided-in-Conflict-clause-answers g c = record {
   outcome = plain.Conflict (c.in-Conflict.trial, c.in-Conflict.verdict);
   found =
       outcome_so (parts_of c.args.task.now) (reach_of c.args.effort) c.args.effort.turns c.in_ok-outcome.outcome
       (outcome.Conflict c.in-Conflict.trial c.in-Conflict.verdict) c.in-Conflict.is c.in_ok-outcome.ensures.outcome;
-  says = c.in_ok-reply-in-Conflict.ensures;
+  says = c.in_ok-decided-in-Conflict.ensures.shows;
 }
 
 pub returns-in_ok-reply-in-TooMany-clause-answers : goal.returns-in_ok-reply-in-TooMany-clause-answers
