@@ -2,9 +2,9 @@
 //! lines of all.
 //!
 //! - `task_in` reads the task that a file's bytes spell, `spelled_in` that task with the bytes,
-//!   `input_in` an input of it, and `bytes_in` the bytes alone, each in one pass. Where there is none they stop with the answer: `ReadFault`,
-//!   `TooLong`, or what is refused first. What is read holds of told files, and on every shelf of the
-//!   bytes that were read.
+//!   `input_in` an input of it, and `bytes_in` the bytes alone, each in one pass. Where there is none
+//!   they stop with the answer: `ReadFault`, `TooLong`, or what is refused first. What is read holds
+//!   of told files, and on every shelf of the bytes that were read.
 //! - `list_in` reads the names in a list of files, and stops with the number of its first bad line.
 //! - `verify_in` answers `Accepted` exactly where the bytes of a proof's file pass for the task,
 //!   which is then free of conflicts, and else the number of the first bad line and the word for

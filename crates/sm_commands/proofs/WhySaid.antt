@@ -1,5 +1,5 @@
 -- What stands behind an answer, by what it rests on.
-use Rattle.std.proofs.Common.{◌≡◌, ◌++◌, ℕ, List, inl, inr, false, true, sym, subst, Option, option_map}
+use Rattle.std.proofs.Common.{◌≡◌, ◌++◌, ◌∙◌, ℕ, List, inl, inr, false, true, sym, subst, Option, None, option_map, Vec, Global}
 use Rattle.sm_eval.specs.StoredValues.{meaning}
 use Rattle.sm_eval.specs.declared.store.Store as code
 use Rattle.sm_display.specs.Shown.{ShowsEnds}
@@ -16,6 +16,7 @@ use Rattle.sm_commands.specs.Deeper.{AnswersDeeper}
 use Rattle.sm_commands.specs.Grounds.{IsShownBy, RestsOn, ComesToStop}
 use Rattle.sm_commands.specs.Views.{ComesWith}
 use Rattle.sm_commands.specs.Why.{AnswersWhy, SaysWhy}
+use Rattle.sm_commands.specs.declared.ground.Ground.{Ground}
 use Rattle.sm_commands.specs.declared.ground.Ground.TheVariants.{Proved, Input, Stopped}
 
 -- behind an Accepted
@@ -73,3 +74,17 @@ explained t effort status shown line more text asked same answers says printed =
 pub plain_answer : (t : Parts) (effort : Effort) (status : Status) (text : List ℕ) → effort.why ≡ false → AnswersDeeper t effort status text
     → AnswersWhy t effort status text
 plain_answer t effort status text plain answers = inl (plain, answers)
+
+-- what is shown by an input rests on it
+pub shown_rests : (t : Parts) (effort : Effort) (status : Status) (text : List ℕ) (g : Ground) → IsShownBy t status text g
+    → RestsOn t effort status text g
+shown_rests t effort status text Proved h = absurd h
+shown_rests t effort status text (Input store) h = h
+shown_rests t effort status text (Stopped stop) h = absurd h
+
+-- no proof comes with a conflict
+pub shown_comes : (t : Parts) (status : Status) (o : Option (Vec ℕ Global)) → o ≡ None → status ≡ Conflict
+    → ComesWith t status (option_map (λ (v : Vec ℕ Global). v.items) o)
+shown_comes t status o none is =
+    subst (λ (x : Option (Vec ℕ Global)). ComesWith t status (option_map (λ (v : Vec ℕ Global). v.items) x)) (sym none)
+    (λ (accepted : status ≡ Accepted). absurd (let both : Conflict ≡ Accepted = sym is ∙ accepted in cc))

@@ -24,8 +24,8 @@
 //! Accepted and Conflict say of files that are told; and then `specs/HeadlineRead.antt`: what they
 //! say of the bytes that were read, on every shelf. `specs/HeadlineBatch.antt` has what a line
 //! `Accepted` of `batch` says of both. `specs/Top.antt` says what is answered, with
-//! `specs/Check.antt`, `specs/Deeper.antt`, `specs/Why.antt`, `specs/Suggest.antt`, `specs/Batch.antt` and
-//! `specs/Gen.antt`,
+//! `specs/Check.antt`, `specs/Deeper.antt`, `specs/Why.antt`, `specs/Suggest.antt`,
+//! `specs/Batch.antt` and `specs/Gen.antt`,
 //! `specs/File.antt`, `specs/Verify.antt` and `specs/Replay.antt` of the crate `sm_answers`, and
 //! `specs/Print.antt` and `specs/Explain.antt` of `sm_display`; `specs/ProofFile.antt` what `check`
 //! writes, and `specs/Words.antt` of `sm_words` what the words ask for.

@@ -62,8 +62,14 @@ fn words_behind(
         decided.now.reply.status decided.now.reply.text.items more.items) }
 {
     match &decided.ground {
-        Ground::Proved => trials_line(alloc, &read.task, effort.turns),
-        Ground::Input(input) => shown_ends(alloc, &read.task, input, effort.turns),
+        Ground::Proved => {
+            let more = trials_line(alloc, &read.task, effort.turns)?;
+            Ok(more)
+        }
+        Ground::Input(input) => {
+            let more = shown_ends(alloc, &read.task, input, effort.turns)?;
+            Ok(more)
+        }
         Ground::Stopped(stop) => {
             let mut more = reason_line(alloc, &read.task, &read.text, *stop)?;
             let trials = trials_line(alloc, &read.task, effort.turns)?;

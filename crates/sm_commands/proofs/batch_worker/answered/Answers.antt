@@ -9,9 +9,9 @@ use Rattle.sm_commands.proofs.batch_worker.answered.Goals as goal
 pub returns : goal.returns
 returns g c =
     let t = parts_of c.args.task.now in
-    let d = c.in_ok-reply.field-0 in
+    let d = c.in_ok-decided.decided in
     let first : c.in_ok-from_slice.field-0.items ≡ first_line d.reply.text.items = search rules in
     is_answered t c.args.effort d.reply.status d.reply.text.items (record { reply = c.in_ok-from_slice.field-0; cert = d.proof })
     (alone_check t c.args.effort d.reply.status d.reply.text.items
-    (subst (λ (e : Effort). AnswersCheck t e d.reply.status d.reply.text.items) c.alone.ensures c.in_ok-reply.ensures.answers))
-    c.in_ok-reply.ensures.proof first
+    (subst (λ (e : Effort). AnswersCheck t e d.reply.status d.reply.text.items) c.alone.ensures c.in_ok-decided.ensures.answers))
+    c.in_ok-decided.ensures.proof first

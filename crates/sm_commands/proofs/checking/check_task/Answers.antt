@@ -12,7 +12,7 @@ use Rattle.sm_answers.specs.declared.status.Reply.{Reply}
 use Rattle.sm_answers.specs.declared.status.Status.{Status}
 use Rattle.sm_answers.specs.declared.status.Status.TheVariants.{Accepted, WriteFault}
 use Rattle.sm_commands.proofs.FilesLemmas.{written_answers}
-use Rattle.sm_commands.specs.Deeper.{AnswersDeeper, AnswersTask}
+use Rattle.sm_commands.specs.Why.{AnswersTask, AnswersWhy}
 use Rattle.sm_commands.specs.Views.{ComesWith}
 use Rattle.sm_words.specs.declared.effort.Effort.{Effort}
 use Rattle.sm_commands.proofs.checking.check_task.Goals as goal
@@ -25,7 +25,7 @@ proved_accepted t s o text is comes =
 
 -- the answer to an accepted task, once its proof was to be written
 written : (t : Parts) (effort : Effort) (reply : Reply) (P Q : Type 0) (r : Result Reply AllocError)
-    → AnswersDeeper t effort reply.status reply.text.items → reply.status ≡ Accepted
+    → AnswersWhy t effort reply.status reply.text.items → reply.status ≡ Accepted
     → IfOk r (λ (u : Reply). (Says reply.status reply.text.items u.status u.text.items × P)
     ⊎ (Says WriteFault (codes "WriteFault\n") u.status u.text.items × Q))
     → IfOk r (λ (u : Reply). AnswersTask t effort u.status u.text.items)
@@ -34,16 +34,16 @@ written t effort reply P Q (Ok u) a e h =
 written t effort reply P Q (Err error) a e h = tt
 
 pub returns-in-None-clause-answers : goal.returns-in-None-clause-answers
-returns-in-None-clause-answers g c = inl c.in_ok-reply.ensures.answers
+returns-in-None-clause-answers g c = inl c.in_ok-decided.ensures.answers
 
 pub returns-in-Some-clause-answers : goal.returns-in-Some-clause-answers
 returns-in-Some-clause-answers g c =
-    let t = parts_of c.args.task.now in
-    let d = c.in_ok-reply.field-0 in
+    let t = parts_of c.args.read.now.task in
+    let d = c.in_ok-decided.decided in
     written t c.args.effort d.reply
     (g.H.Shelf.file c.write_proof.new.shelf c.args.proof.now
     ≡ longer (emptied (g.H.Shelf.file c.args.shelf.now c.args.proof.now)) c.deref.result.now)
     (IsBegun c.deref.result.now (g.H.Shelf.file c.args.shelf.now c.args.proof.now)
     (g.H.Shelf.file c.write_proof.new.shelf c.args.proof.now))
-    c.write_proof.result c.in_ok-reply.ensures.answers
-    (proved_accepted t d.reply.status d.proof c.in-Some.text c.in-Some.is c.in_ok-reply.ensures.proof) c.write_proof.ensures.answers
+    c.write_proof.result c.in_ok-decided.ensures.answers
+    (proved_accepted t d.reply.status d.proof c.in-Some.text c.in-Some.is c.in_ok-decided.ensures.proof) c.write_proof.ensures.answers

@@ -2,6 +2,7 @@
 use Rattle.std.proofs.Common.{Option, IfSome, inr, subst}
 use Rattle.sm_task.specs.Tasks.{parts_of}
 use Rattle.sm_commands.specs.Deeper.{GoesBeyond}
+use Rattle.sm_commands.specs.Grounds.{RestsOn}
 use Rattle.sm_commands.specs.declared.check.Decided.{Decided}
 use Rattle.sm_commands.proofs.deeper.check_deeper.Goals as goal
 
@@ -10,3 +11,9 @@ returns-in-Some-clause-answers g c =
     let t = parts_of c.args.task.now in
     inr (subst (λ (o : Option Decided). IfSome o (λ d. GoesBeyond t c.args.effort d.reply.status d.reply.text.items)) c.in-Some.is
     c.in_ok-more.ensures.answers)
+
+pub returns-in-Some-clause-ground : goal.returns-in-Some-clause-ground
+returns-in-Some-clause-ground g c =
+    let t = parts_of c.args.task.now in
+    subst (λ (o : Option Decided). IfSome o (λ d. RestsOn t c.args.effort d.reply.status d.reply.text.items d.ground)) c.in-Some.is
+    c.in_ok-more.ensures.ground

@@ -5,8 +5,8 @@ use Rattle.sm_replay.specs.declared.verdict.Verdict.TheVariants.{Violates}
 use Rattle.sm_task.specs.Tasks.{parts_of}
 use Rattle.sm_commands.proofs.deeper.shown_beyond.Goals as goal
 
-pub returns-in_ok-violation-in-Some : goal.returns-in_ok-violation-in-Some
-returns-in_ok-violation-in-Some c =
+pub returns-in_ok-violated-in-Some-clause-shows : goal.returns-in_ok-violated-in-Some-clause-shows
+returns-in_ok-violated-in-Some-clause-shows c =
     let t = parts_of c.args.task.now in
     let found : guided.ShowsBeyond t c.args.effort.turns c.in-Some.shown =
     subst (λ (o : Option Shown). IfSome o (guided.ShowsBeyond t c.args.effort.turns)) c.in-Some.is c.in_ok-shown.ensures in
@@ -20,5 +20,5 @@ returns-in_ok-violation-in-Some c =
       violates = found.violates;
       verdict = Violates c.in-Some.shown.name c.in-Some.shown.index c.in-Some.shown.clause;
       judged = found.judged;
-      shows = c.in_ok-violation-in-Some.ensures;
+      shows = c.in_ok-violated-in-Some.ensures.shows;
     }
