@@ -1,7 +1,7 @@
 use Rattle.sm_houdini.specs.Outcomes as plain
 use Rattle.sm_houdini.specs.declared.outcome.Outcome.TheVariants as outcome
 use Rattle.sm_task.specs.Tasks.{parts_of}
-use Rattle.std.proofs.Common.{◌≡◌, ◌∙◌, ◌∷◌, [], ℤ, ap, codes, of_z, rules, to_z}
+use Rattle.std.proofs.Common.{◌≡◌, ◌∙◌, ◌∷◌, [], ℤ, ap, codes, of_z, refl, rules, to_z}
 use Rattle.std.specs.Fmt.{signed_decimal}
 use Rattle.std.specs.Int.{w128}
 use Rattle.sm_houdini.proofs.ShortLines.{valid_searchable}
@@ -9,7 +9,11 @@ use Rattle.sm_proof.proofs.PassSound.{pass_free}
 use Rattle.sm_answers.specs.Lines.{goal_line, op_word, too_many_line}
 use Rattle.sm_answers.specs.declared.status.Status.TheVariants.{Unknown}
 use Rattle.sm_commands.proofs.SpelledLemmas.{is_spelled, least_trial, noted_by, outcome_so}
+use Rattle.sm_commands.proofs.WhySaid.{shown_comes, shown_is, shown_rests, stopped_rests}
 use Rattle.sm_commands.specs.Check.{reach_of}
+use Rattle.sm_commands.specs.declared.ground.Ground.TheVariants.{Stopped}
+use Rattle.sm_why.specs.declared.stop.Manner.TheVariants as manner
+use Rattle.sm_why.specs.declared.stop.Stop.TheVariants.{Goal, TooMany}
 use Rattle.sm_commands.proofs.check.check.Goals as goal
 
 pub search-requires-clause-runs : goal.search-requires-clause-runs
@@ -136,3 +140,60 @@ returns-in_ok-reply-in-Coefficient-clause-answers g c =
           second))
           c.in_ok-reply-in-Coefficient.ensures;
     }
+
+pub returns-in_ok-decided-in-Conflict-clause-proof : goal.returns-in_ok-decided-in-Conflict-clause-proof
+returns-in_ok-decided-in-Conflict-clause-proof g c =
+    let t = parts_of c.args.task.now in
+    let d = c.in_ok-decided-in-Conflict.decided in
+    shown_comes t d.reply.status d.proof c.in_ok-decided-in-Conflict.ensures.none
+    (shown_is t d.reply.status d.reply.text.items d.ground c.in_ok-decided-in-Conflict.ensures.ground)
+
+pub returns-in_ok-decided-in-Conflict-clause-ground : goal.returns-in_ok-decided-in-Conflict-clause-ground
+returns-in_ok-decided-in-Conflict-clause-ground g c =
+    let d = c.in_ok-decided-in-Conflict.decided in
+    shown_rests (parts_of c.args.task.now) c.args.effort d.reply.status d.reply.text.items d.ground
+    c.in_ok-decided-in-Conflict.ensures.ground
+
+pub returns-in_ok-reply-in-Accepted-clause-ground : goal.returns-in_ok-reply-in-Accepted-clause-ground
+returns-in_ok-reply-in-Accepted-clause-ground g c = c.in_ok-reply-in-Accepted.ensures.2.ended
+
+pub returns-in_ok-reply-in-Open-clause-ground : goal.returns-in_ok-reply-in-Open-clause-ground
+returns-in_ok-reply-in-Open-clause-ground g c =
+    let t = parts_of c.args.task.now in
+    let r = c.in_ok-reply-in-Open.reply in
+    stopped_rests t c.args.effort r.status r.text.items c.at_goal-in-Open.result (Goal manner.Open c.in-Open.goal)
+    (plain.Open c.in-Open.node c.in-Open.goal) c.at_goal-in-Open.ensures c.in_ok-reply-in-Open.ensures.2.ended
+    (outcome_so t (reach_of c.args.effort) c.args.effort.turns c.in_ok-outcome.outcome (outcome.Open c.in-Open.node c.in-Open.goal)
+    c.in-Open.is c.in_ok-outcome.ensures.outcome)
+    refl
+
+pub returns-in_ok-reply-in-Steps-clause-ground : goal.returns-in_ok-reply-in-Steps-clause-ground
+returns-in_ok-reply-in-Steps-clause-ground g c =
+    let t = parts_of c.args.task.now in
+    let r = c.in_ok-reply-in-Steps.reply in
+    stopped_rests t c.args.effort r.status r.text.items c.at_goal-in-Steps.result (Goal manner.Steps c.in-Steps.goal)
+    (plain.Steps c.in-Steps.node c.in-Steps.goal) c.at_goal-in-Steps.ensures c.in_ok-reply-in-Steps.ensures.2.ended
+    (outcome_so t (reach_of c.args.effort) c.args.effort.turns c.in_ok-outcome.outcome (outcome.Steps c.in-Steps.node c.in-Steps.goal)
+    c.in-Steps.is c.in_ok-outcome.ensures.outcome)
+    refl
+
+pub returns-in_ok-reply-in-TooMany-clause-ground : goal.returns-in_ok-reply-in-TooMany-clause-ground
+returns-in_ok-reply-in-TooMany-clause-ground g c =
+    let t = parts_of c.args.task.now in
+    let r = c.in_ok-reply-in-TooMany.reply in
+    stopped_rests t c.args.effort r.status r.text.items (Stopped TooMany) TooMany plain.TooMany refl
+    c.in_ok-reply-in-TooMany.ensures.2.ended
+    (outcome_so t (reach_of c.args.effort) c.args.effort.turns c.in_ok-outcome.outcome outcome.TooMany c.in-TooMany.is
+    c.in_ok-outcome.ensures.outcome)
+    refl
+
+pub returns-in_ok-reply-in-Coefficient-clause-ground : goal.returns-in_ok-reply-in-Coefficient-clause-ground
+returns-in_ok-reply-in-Coefficient-clause-ground g c =
+    let t = parts_of c.args.task.now in
+    let r = c.in_ok-reply-in-Coefficient.reply in
+    let f = c.in-Coefficient in
+    stopped_rests t c.args.effort r.status r.text.items c.at_goal-in-Coefficient.result (Goal manner.Coefficient f.goal)
+    (plain.Coefficient f.node f.goal f.op f.a f.b) c.at_goal-in-Coefficient.ensures c.in_ok-reply-in-Coefficient.ensures.2.ended
+    (outcome_so t (reach_of c.args.effort) c.args.effort.turns c.in_ok-outcome.outcome (outcome.Coefficient f.node f.goal f.op f.a f.b) f.is
+    c.in_ok-outcome.ensures.outcome)
+    refl

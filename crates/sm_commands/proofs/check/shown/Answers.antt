@@ -5,9 +5,9 @@ use Rattle.sm_commands.specs.Check.{ShowsFrom}
 use Rattle.sm_commands.specs.Views.{verdict_at}
 use Rattle.sm_commands.proofs.check.shown.Goals as goal
 
-pub returns : goal.returns
-returns c =
+pub returns-clause-shows : goal.returns-clause-shows
+returns-clause-shows c =
     subst
-    (λ (s : Store). IfOk c.violation.result (λ r. ShowsFrom (parts_of c.args.task.now) c.args.number s (verdict_at c.args.at) r.status
-    r.text.items))
-    c.in_ok-input.ensures.value c.violation.ensures
+    (λ (s : Store). IfOk c.violated.result (λ d. ShowsFrom (parts_of c.args.task.now) c.args.number s (verdict_at c.args.at) d.reply.status
+    d.reply.text.items))
+    c.in_ok-input.ensures.value c.violated.ensures.shows

@@ -1,0 +1,48 @@
+-- What is said behind an answer is what its ground gives.
+use Rattle.std.proofs.Common.{refl, subst}
+use Rattle.sm_task.specs.Tasks.{parts_of}
+use Rattle.sm_commands.proofs.SpelledLemmas.{is_spelled}
+use Rattle.sm_commands.proofs.WhySaid.{proved_says, shown_says, stopped_says}
+use Rattle.sm_commands.specs.Grounds.{RestsOn}
+use Rattle.sm_commands.specs.declared.ground.Ground.{Ground}
+use Rattle.sm_commands.proofs.why.words_behind.Goals as goal
+
+pub trials_line-requires-in-Proved : goal.trials_line-requires-in-Proved
+trials_line-requires-in-Proved c = (is_spelled (parts_of c.args.read.now.task) c.requires.spelled).runs
+
+pub trials_line-requires-in-Stopped : goal.trials_line-requires-in-Stopped
+trials_line-requires-in-Stopped c = (is_spelled (parts_of c.args.read.now.task) c.requires.spelled).runs
+
+pub shown_ends-requires-clause-runs : goal.shown_ends-requires-clause-runs
+shown_ends-requires-clause-runs c = (is_spelled (parts_of c.args.read.now.task) c.requires.spelled).runs
+
+pub shown_ends-requires-clause-declared : goal.shown_ends-requires-clause-declared
+shown_ends-requires-clause-declared c =
+    let t = parts_of c.args.read.now.task in
+    let r = c.args.decided.now.reply in
+    (subst (λ (g : Ground). RestsOn t c.args.effort r.status r.text.items g) c.in-Input.is c.requires.ground).1
+
+pub returns-in_ok-more-in-Proved : goal.returns-in_ok-more-in-Proved
+returns-in_ok-more-in-Proved c =
+    let t = parts_of c.args.read.now.task in
+    let r = c.args.decided.now.reply in
+    proved_says t c.args.effort r.status r.text.items c.in_ok-more-in-Proved.more.items
+    (subst (λ (g : Ground). RestsOn t c.args.effort r.status r.text.items g) c.in-Proved.is c.requires.ground)
+    c.in_ok-more-in-Proved.ensures
+
+pub returns-in_ok-more-in-Input : goal.returns-in_ok-more-in-Input
+returns-in_ok-more-in-Input c =
+    let t = parts_of c.args.read.now.task in
+    let r = c.args.decided.now.reply in
+    shown_says t c.args.effort r.status r.text.items c.in_ok-more-in-Input.more.items c.in-Input.input
+    (subst (λ (g : Ground). RestsOn t c.args.effort r.status r.text.items g) c.in-Input.is c.requires.ground)
+    c.in_ok-more-in-Input.ensures
+
+pub returns-in_ok-trials-in-Stopped : goal.returns-in_ok-trials-in-Stopped
+returns-in_ok-trials-in-Stopped c =
+    let t = parts_of c.args.read.now.task in
+    let r = c.args.decided.now.reply in
+    stopped_says t c.args.effort r.status r.text.items c.in_ok-more-in-Stopped.more.items c.in_ok-trials-in-Stopped.trials.items
+    c.in_ok-extend_from_slice-in-Stopped.new.more.items c.args.read.now.text.items c.in-Stopped.stop
+    (subst (λ (g : Ground). RestsOn t c.args.effort r.status r.text.items g) c.in-Stopped.is c.requires.ground)
+    c.requires.spells c.in_ok-more-in-Stopped.ensures c.in_ok-trials-in-Stopped.ensures refl
