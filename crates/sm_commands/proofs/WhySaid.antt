@@ -29,7 +29,7 @@ proved_says t effort status line more e h = subst (λ (s : Status). SaysWhy t ef
 -- behind a Conflict
 pub shown_says : (t : Parts) (effort : Effort) (status : Status) (line more : List ℕ) (store : code.Store)
     → IsShownBy t status line (Input store) → ShowsEnds t (meaning store) effort.turns more → SaysWhy t effort status line more
-shown_says t effort status line more store (e, sorts, number, v, shows) h =
+shown_says t effort status line more store (e, sorts, (number, v, shows)) h =
     subst (λ (s : Status). SaysWhy t effort s line more) (sym e)
     (record {
       number = number;

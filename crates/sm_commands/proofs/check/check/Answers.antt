@@ -161,8 +161,8 @@ pub returns-in_ok-reply-in-Open-clause-ground : goal.returns-in_ok-reply-in-Open
 returns-in_ok-reply-in-Open-clause-ground g c =
     let t = parts_of c.args.task.now in
     let r = c.in_ok-reply-in-Open.reply in
-    stopped_rests t c.args.effort r.status r.text.items c.at_goal-in-Open.result (Goal manner.Open c.in-Open.goal)
-    (plain.Open c.in-Open.node c.in-Open.goal) c.at_goal-in-Open.ensures c.in_ok-reply-in-Open.ensures.2.ended
+    stopped_rests t c.args.effort r.status r.text.items c.at_goal.result (Goal manner.Open c.in-Open.goal)
+    (plain.Open c.in-Open.node c.in-Open.goal) c.at_goal.ensures c.in_ok-reply-in-Open.ensures.2.ended
     (outcome_so t (reach_of c.args.effort) c.args.effort.turns c.in_ok-outcome.outcome (outcome.Open c.in-Open.node c.in-Open.goal)
     c.in-Open.is c.in_ok-outcome.ensures.outcome)
     refl

@@ -12,7 +12,5 @@ returns-clause-ground c =
       shown_status (parts_of c.args.task.now) c.args.number (meaning c.args.input) (verdict_at c.args.at) r.status r.text.items
           c.in_ok-reply.ensures,
       c.requires.declared,
-      c.args.number,
-      verdict_at c.args.at,
-      c.in_ok-reply.ensures,
+      (c.args.number, verdict_at c.args.at, c.in_ok-reply.ensures),
     )

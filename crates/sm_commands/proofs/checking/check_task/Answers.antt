@@ -33,8 +33,8 @@ written t effort reply P Q (Ok u) a e h =
     written_answers t effort reply.status u.status reply.text.items u.text.items P Q a e h
 written t effort reply P Q (Err error) a e h = tt
 
-pub returns-in-None-clause-answers : goal.returns-in-None-clause-answers
-returns-in-None-clause-answers g c = inl c.in_ok-decided.ensures.answers
+pub returns-clause-answers : goal.returns-clause-answers
+returns-clause-answers g c = inl c.in_ok-decided.ensures.answers
 
 pub returns-in-Some-clause-answers : goal.returns-in-Some-clause-answers
 returns-in-Some-clause-answers g c =

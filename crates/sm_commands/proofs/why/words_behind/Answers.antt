@@ -1,5 +1,5 @@
 -- What is said behind an answer is what its ground gives.
-use Rattle.std.proofs.Common.{refl, subst}
+use Rattle.std.proofs.Common.{◌≡◌, ◌++◌, rules, subst}
 use Rattle.sm_task.specs.Tasks.{parts_of}
 use Rattle.sm_commands.proofs.SpelledLemmas.{is_spelled}
 use Rattle.sm_commands.proofs.WhySaid.{proved_says, shown_says, stopped_says}
@@ -7,8 +7,8 @@ use Rattle.sm_commands.specs.Grounds.{RestsOn}
 use Rattle.sm_commands.specs.declared.ground.Ground.{Ground}
 use Rattle.sm_commands.proofs.why.words_behind.Goals as goal
 
-pub trials_line-requires-in-Proved : goal.trials_line-requires-in-Proved
-trials_line-requires-in-Proved c = (is_spelled (parts_of c.args.read.now.task) c.requires.spelled).runs
+pub trials_line-requires : goal.trials_line-requires
+trials_line-requires c = (is_spelled (parts_of c.args.read.now.task) c.requires.spelled).runs
 
 pub trials_line-requires-in-Stopped : goal.trials_line-requires-in-Stopped
 trials_line-requires-in-Stopped c = (is_spelled (parts_of c.args.read.now.task) c.requires.spelled).runs
@@ -38,11 +38,14 @@ returns-in_ok-more-in-Input c =
     (subst (λ (g : Ground). RestsOn t c.args.effort r.status r.text.items g) c.in-Input.is c.requires.ground)
     c.in_ok-more-in-Input.ensures
 
-pub returns-in_ok-trials-in-Stopped : goal.returns-in_ok-trials-in-Stopped
-returns-in_ok-trials-in-Stopped c =
+pub returns-in_ok-extend_from_slice-in-Stopped : goal.returns-in_ok-extend_from_slice-in-Stopped
+returns-in_ok-extend_from_slice-in-Stopped c =
     let t = parts_of c.args.read.now.task in
     let r = c.args.decided.now.reply in
-    stopped_says t c.args.effort r.status r.text.items c.in_ok-more-in-Stopped.more.items c.in_ok-trials-in-Stopped.trials.items
-    c.in_ok-extend_from_slice-in-Stopped.new.more.items c.args.read.now.text.items c.in-Stopped.stop
+    let reason = c.in_ok-more-in-Stopped.more.items in
+    let trials = c.in_ok-trials-in-Stopped.trials.items in
+    let more = c.extend_from_slice.new.self.items in
+    let printed : more ≡ reason ++ trials = search rules in
+    stopped_says t c.args.effort r.status r.text.items reason trials more c.args.read.now.text.items c.in-Stopped.stop
     (subst (λ (g : Ground). RestsOn t c.args.effort r.status r.text.items g) c.in-Stopped.is c.requires.ground)
-    c.requires.spells c.in_ok-more-in-Stopped.ensures c.in_ok-trials-in-Stopped.ensures refl
+    c.requires.spells c.in_ok-more-in-Stopped.ensures c.in_ok-trials-in-Stopped.ensures printed
