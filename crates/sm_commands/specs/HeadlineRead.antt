@@ -1,7 +1,7 @@
 -- What Accepted and Conflict say of the bytes that were read: on every shelf, whether it tells what
 -- its files hold or not. The public clauses `accepted_read`, `verified_read`, `conflict_read`,
 -- `shown_read` and `suggested_read` of `safemerge` cite it.
-use Rattle.std.specs.Prelude.{List, Some, None}
+use Rattle.std.specs.Prelude.{ℕ, List, Some, None}
 use Rattle.sm_io.specs.Reads.{Read, ReadsWhole}
 use Rattle.sm_commands.specs.Headline.{EndsWithInput, IsProved, IsSafeMerge, IsUnsafeMerge}
 use Rattle.sm_commands.specs.Headline.{IsViolatedFrom}

@@ -1,9 +1,10 @@
 -- What is said behind an answer is what its ground gives.
-use Rattle.std.proofs.Common.{◌≡◌, ◌++◌, rules, subst}
+use Rattle.std.proofs.Common.{◌≡◌, ◌++◌, ℕ, List, rules, subst}
 use Rattle.sm_task.specs.Tasks.{parts_of}
 use Rattle.sm_commands.proofs.SpelledLemmas.{is_spelled}
 use Rattle.sm_commands.proofs.WhySaid.{proved_says, shown_says, stopped_says}
 use Rattle.sm_commands.specs.Grounds.{RestsOn}
+use Rattle.sm_why.specs.Reasons.{IsReason}
 use Rattle.sm_commands.specs.declared.ground.Ground.{Ground}
 use Rattle.sm_commands.proofs.why.words_behind.Goals as goal
 
@@ -46,6 +47,8 @@ returns-in_ok-extend_from_slice-in-Stopped c =
     let trials = c.in_ok-trials-in-Stopped.trials.items in
     let more = c.extend_from_slice.new.self.items in
     let printed : more ≡ reason ++ trials = search rules in
+    let same : c.deref.result.now ≡ c.args.read.now.text.items = search rules in
     stopped_says t c.args.effort r.status r.text.items reason trials more c.args.read.now.text.items c.in-Stopped.stop
     (subst (λ (g : Ground). RestsOn t c.args.effort r.status r.text.items g) c.in-Stopped.is c.requires.ground)
-    c.requires.spells c.in_ok-more-in-Stopped.ensures c.in_ok-trials-in-Stopped.ensures printed
+    c.requires.spells (subst (λ (x : List ℕ). IsReason x t c.in-Stopped.stop reason) same c.in_ok-more-in-Stopped.ensures)
+    c.in_ok-trials-in-Stopped.ensures printed
