@@ -1,4 +1,5 @@
-use Rattle.std.proofs.Common.{ℕ, List, Some, IfOk, subst, sym}
+use Rattle.std.proofs.Common.{ℕ, List, Some, IfErr, IfOk, subst, sym}
+use Rattle.sm_answers.specs.Exit.{ExitsWith}
 use Rattle.sm_commands.specs.Readings.{AnswersByReads}
 use Rattle.sm_commands.specs.Top.{LeavesFiles, LeavesPart}
 use Rattle.sm_answers.specs.Verify.{Verifies}
@@ -38,3 +39,10 @@ returns-in-Check-clause-read g c =
     subst
     (λ (q : Request). IfOk c.check_in.result (λ r. AnswersByReads (Some (asked_in q)) before now r.status r.text.items))
     (sym c.in-Check.is) c.check_in.ensures.read
+
+pub returns-in-Check-clause-exit_read : goal.returns-in-Check-clause-exit_read
+returns-in-Check-clause-exit_read g c =
+    let before = g.H.Shelf.given c.args.shelf.now in
+    let now = g.H.Shelf.given c.check_in.new.shelf in
+    subst (λ (q : Request). IfErr c.check_in.result (ExitsWith (AnswersByReads (Some (asked_in q)) before now))) (sym c.in-Check.is)
+    c.check_in.ensures.exit_read
