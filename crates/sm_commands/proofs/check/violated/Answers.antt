@@ -7,8 +7,7 @@ use Rattle.sm_commands.proofs.check.violated.Goals as goal
 
 pub returns-clause-ground : goal.returns-clause-ground
 returns-clause-ground c =
-    let r = c.in_ok-reply.reply in
-    (
+    let r = c.in_ok-reply.reply in (
       shown_status (parts_of c.args.task.now) c.args.number (meaning c.args.input) (verdict_at c.args.at) r.status r.text.items
           c.in_ok-reply.ensures,
       c.requires.declared,
