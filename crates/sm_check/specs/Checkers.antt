@@ -1,6 +1,7 @@
 -- Cited by public clauses: where the proof of a checker stands.
 use Rattle.std.specs.Prelude.{◌≡◌, ◌⊎◌, true, false, if◌then◌else◌}
 use Rattle.std.specs.Prelude.{Some, None, Result, Ok, Err}
+use Rattle.sm_syntax.specs.text.Sorts.{Sorts}
 use Rattle.sm_term.specs.Tables.{sorts_in}
 use Rattle.sm_proof.specs.Passing.{start_progress}
 use Rattle.sm_check.specs.Walks.{Walks}
@@ -16,6 +17,10 @@ use Rattle.sm_check.specs.declared.fault.LineFault.TheVariants.{Wrong, Memory}
 pub record IsAbout (c : Checker) (s : Subject) : Type 0 where
   pub sorts : sorts_in c.walk.table ≡ s.sorts
   pub assumes : c.assumes ≡ s.assumes
+
+-- the sorts of the names that a checker's terms are over
+abbrev pub sorts_known : Checker → Sorts
+sorts_known c = sorts_in c.walk.table
 
 -- a checker that goes on stands where a proof does; before the version line that is at its start
 abbrev pub StandsAt : Checker → Subject → Standing → Type 0

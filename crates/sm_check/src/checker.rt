@@ -6,11 +6,12 @@ ghost use Rattle.sm_proof.specs.Passing.{Pending, Progress};
 ghost use Rattle.sm_proof.specs.Verdicts.{Subject, Standing, Unopened, Underway, subject_of};
 ghost use Rattle.sm_proof.specs.Verdicts.{next_standing, passes_version, reads_exact};
 ghost use Rattle.sm_proof.specs.Versions.{has_exact};
+ghost use Rattle.sm_term.specs.Tables.{sorts_in};
 ghost use Rattle.sm_task.specs.Filling.{AreFilled};
 ghost use Rattle.sm_text.specs.Tasks.{parts_of};
 ghost use Rattle.sm_check.specs.Checkable.{IsCheckable};
 ghost use Rattle.sm_check.specs.Aside.{certificates_of, progress_at};
-ghost use Rattle.sm_check.specs.Checkers.{IsAt, GoesOn, Stops, state_of};
+ghost use Rattle.sm_check.specs.Checkers.{IsAt, GoesOn, Stops, sorts_known, state_of};
 ghost use Rattle.sm_check.specs.Closing.{CloseFirst};
 ghost use Rattle.sm_check.specs.Tells.{Tells};
 
@@ -22,9 +23,11 @@ use crate::raw_lines::RawLines;
 use crate::start::start;
 use crate::walk::Walk;
 use sm_par::Gate;
-use sm_proof::{Line, Word, may_stand};
+use sm_proof::{Line, NodeLine, Word, may_stand};
 use sm_syntax::{Block, PerCopy};
 use sm_task::Task;
+use sm_term::{Formula, TermTable};
+use sm_theory::CertLine;
 use std::alloc::{AllocError, Global};
 use std::thread::Threads;
 
@@ -81,6 +84,7 @@ impl<'a> Checker<'a> {
             IfErr result (Stops s (next_standing s at (Ok (line_of line.now))) self.new) }
         ensures stopped { (s : Subject) (e : LineFault) → IsAt self.old s (Err e) →
             (result ≡ Err e) × IsAt self.new s (Err e) }
+        ensures sorts { sorts_known self.new ≡ sorts_known self.old }
     {
         if let Some(fault) = self.stopped {
             return Err(fault);
@@ -92,6 +96,28 @@ impl<'a> Checker<'a> {
                 Err(fault)
             }
         }
+    }
+
+    /// A line of a certificate over the terms that were made, at the branch that is due.
+    pub fn named(&self, line: &CertLine) -> Result<CertLine, LineFault> {
+        self.walk.named(self.alloc, line)
+    }
+
+    /// The formula that a node keeps, over the terms that were made, Yes where it keeps none.
+    pub fn kept(&self, line: &NodeLine) -> Result<Formula, LineFault> {
+        self.walk.kept(self.alloc, line)
+    }
+
+    /// How many facts the branch has that is due.
+    pub fn facts(&self) -> u64 {
+        self.walk.facts()
+    }
+
+    /// The terms that were made.
+    pub fn into_table(self) -> TermTable
+        ensures { sorts_in result ≡ sorts_known self.entry }
+    {
+        self.walk.into_table()
     }
 
     /// Whether lines `exact` are read.
@@ -143,6 +169,7 @@ impl<'a> Checker<'a> {
             Tells (λ _ after. IsAt self.new s (Ok after)) result
             (next_standing s at (Ok (line_of line.now))) }
         ensures stopped { self.new.stopped ≡ self.old.stopped }
+        ensures sorts { sorts_known self.new ≡ sorts_known self.old }
     {
         if self.opened {
             if !may_stand(line, self.exact) {

@@ -29,6 +29,7 @@ mod raw_lines;
 mod runs;
 mod start;
 mod taken_lines;
+mod telling;
 mod terms;
 mod unfinished;
 mod verifying;

@@ -76,7 +76,7 @@ fn above_it(line: &NodeLine, above: u64) -> Option<u64>
 }
 
 // Whether the formula that a line keeps is there.
-fn is_there(rows: &[FormRow], line: &NodeLine) -> bool
+pub(crate) fn is_there(rows: &[FormRow], line: &NodeLine) -> bool
     ensures { MatchBool result (IsThere (length rows.now) (keep_of line.now))
         ((forms : List Assertion) → length rows.now ≡ length forms →
         named_node forms line.now ≡ None) }

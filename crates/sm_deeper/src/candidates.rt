@@ -95,7 +95,8 @@ fn take_next<'a, 'p>(
     requires subject { IsSubject subject.now }
     requires declared { IsTableOf subject.now.task.now table.old }
     requires waiting { AreWaitingReady table.old walk.old.waiting.items }
-    ensures waiting { IfOk result (λ b. b ≡ true → AreWaitingReady table.new walk.new.waiting.items) }
+    ensures waiting { IfOk result (λ b. b ≡ true →
+        AreWaitingReady table.new walk.new.waiting.items) }
     ensures widens { OnOk result (Widens table.old table.new) }
 {
     let Some(next) = walk.waiting.pop() else {
@@ -154,8 +155,8 @@ fn start_walk<'t, 'd>(
     })
 }
 
-/// The candidates of all sites of a plan, in the order of its nodes, as far as the plan goes with the
-/// task.
+/// The candidates of all sites of a plan, in the order of its nodes, as far as the plan goes with
+/// the task.
 pub(crate) fn candidates_of(
     alloc: Global,
     table: &mut TermTable,

@@ -75,8 +75,8 @@ pub(crate) enum Ended {
     Open,
 }
 
-// Puts a node that no site asks behind others, where a goal of it has no certificate. Whether that can
-// be repaired: a final goal can't.
+// Puts a node that no site asks behind others, where a goal of it has no certificate. Whether that
+// can be repaired: a final goal can't.
 fn put_open(
     alloc: Global,
     table: &mut TermTable,

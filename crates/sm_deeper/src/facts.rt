@@ -11,7 +11,8 @@ fn count_at(candidates: &Candidates, site: usize) -> usize {
 }
 
 /// About how many facts the nodes of a plan have together, where its loops keep candidates and so
-/// many facts are known at its first node. Sites are numbered from one on, which is moved past them.
+/// many facts are known at its first node. Sites are numbered from one on, which is moved past
+/// them.
 #[cycle(facts)]
 pub(crate) fn facts_in(
     plan: &Plan,

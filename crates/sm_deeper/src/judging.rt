@@ -105,8 +105,8 @@ fn judged_at(
     Ok(list)
 }
 
-// Takes marks away from the candidates of a site whose goals at a node don't close. The node asks at
-// a place of a round.
+// Takes marks away from the candidates of a site whose goals at a node don't close. The node asks
+// at a place of a round.
 fn judge(
     alloc: Global,
     table: &mut TermTable,

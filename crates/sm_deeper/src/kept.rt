@@ -48,8 +48,8 @@ fn kept_formula(
     }
 }
 
-/// A plan in which each loop keeps the candidates of its site. Sites are numbered from one on, which
-/// is moved past them.
+/// A plan in which each loop keeps the candidates of its site. Sites are numbered from one on,
+/// which is moved past them.
 #[cycle(kept)]
 pub(crate) fn plan_keeping(
     alloc: Global,

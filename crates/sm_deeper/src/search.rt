@@ -24,8 +24,8 @@ use std::alloc::{AllocError, Global};
 /// The most steps of a walk.
 const MOST_STEPS: u64 = 10_000;
 
-/// How much all of a search may do: facts over which goals are asked, and visits at which candidates
-/// are tried.
+/// How much all of a search may do: facts over which goals are asked, and visits at which
+/// candidates are tried.
 const MOST_WORK: u64 = 10_000_000;
 
 // Two drawings of a task; the second one only where it differs.
@@ -128,10 +128,10 @@ fn found(
     proved_by_both(alloc, subject, &drawings, true, effort)
 }
 
-/// A proof of a task by a plan that is drawn along the runs from some inputs, where one is found: it
-/// can be written, whatever the inputs are. More is found where they meet the assumption. Two
-/// drawings are tried, and then both with candidates under guards. A walk takes 10,000 steps at most.
-/// Where all work is done that a search may do, nothing is found.
+/// A proof of a task by a plan that is drawn along the runs from some inputs, where one is found:
+/// it can be written, whatever the inputs are. More is found where they meet the assumption. Two
+/// drawings are tried, and then both with candidates under guards. A walk takes 10,000 steps at
+/// most. Where all work is done that a search may do, nothing is found.
 pub fn search_deeper(
     alloc: Global,
     task: &Task,

@@ -2,7 +2,7 @@
 //!
 //! - `trim_tree` trims a certificate: what it gives closes each branch of so many facts that the
 //!   given one closes, and each line of it is used. It has no more lines, names no other terms, and
-//!   names no more facts in a line and none by a greater number. No command trims yet.
+//!   names no more facts in a line and none by a greater number.
 //! - A certificate of which each line is used is left as it is, so to trim twice is to trim once.
 //!
 //! It goes from the leaves to the root. A line that nothing left under it needs is left out, and of

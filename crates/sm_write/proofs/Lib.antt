@@ -1,6 +1,7 @@
 pub mod ExampleLemmas
 pub mod SpellingLemmas
 pub mod TextLemmas
+pub mod RereadingLemmas
 pub mod BuiltTerms
 pub mod BuiltStates
 pub mod SeenLemmas

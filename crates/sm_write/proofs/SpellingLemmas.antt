@@ -26,7 +26,7 @@ use Rattle.sm_proof.specs.Lines as line
 use Rattle.sm_proof.specs.Named.{line_head}
 use Rattle.sm_proof.specs.Spelling.{spaced, spelled, line_words, HasKnownVersion}
 use Rattle.sm_proof.proofs.NumberLemmas.{literal_fits}
-use Rattle.sm_write.specs.Texts.{IsReadable}
+use Rattle.sm_prune.specs.Texts.{IsReadable}
 use Rattle.sm_write.specs.Versions.{version_where}
 use Rattle.sm_write.specs.Writable.{AreShortNumbers}
 

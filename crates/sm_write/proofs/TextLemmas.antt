@@ -17,7 +17,7 @@ use Rattle.sm_proof.specs.Verdicts.{FileLines, in_first_line, lines_in, Pass, Re
 use Rattle.sm_proof.specs.Versions.{has_exact, is_exact, may_stand, begins_exact}
 use Rattle.sm_proof.specs.Cases.{reached_on, verdict_on, AreRead, FilesAreLines}
 use Rattle.sm_write.specs.Bytes.{line_text}
-use Rattle.sm_write.specs.Texts.{bytes_of, IsReadable, AreReadable, advanced, Leads}
+use Rattle.sm_prune.specs.Texts.{bytes_of, IsReadable, AreReadable, advanced, Leads}
 use Rattle.sm_write.specs.Versions.{has_exact_line, version_where, HasVersion}
 use Rattle.sm_write.proofs.SpellingLemmas.{has_feed, is_one_line, header_readable}
 
@@ -128,14 +128,16 @@ version_tells false true = refl
 version_tells false false = refl
 
 -- a text behind the line of its version, where it leads to where nothing is pending
-pub record IsFile (t : Parts) (text : List ℕ) : Type 0 where
+pub record IsFile (t : Parts) (lines : List ProofLine) (text : List ℕ) : Type 0 where
   pub passes : Passes t text
   pub version : HasVersion t text
+  pub first : ℕ
+  pub read : AreRead (lines_in text).ended (Header first ∷ lines)
 
 -- it passes, and begins with that line
 pub leads_pass : SpelledReadsBack → FilesAreLines → ExactBegins → (t : Parts) (text : List ℕ) (exact : Bool) (p : Progress) →
-    Leads (subject_of t) text exact p → p.pending ≡ [] → (file : List ℕ) →
-    file ≡ line_text (Header (version_where exact (subject_of t).assumes)) ++ text → IsFile t file
+    (lead : Leads (subject_of t) text exact p) → p.pending ≡ [] → (file : List ℕ) →
+    file ≡ line_text (Header (version_where exact (subject_of t).assumes)) ++ text → IsFile t lead.lines file
 leads_pass back same begins t text exact p lead done file is =
     let s = subject_of t in
     let first = Header (version_where exact s.assumes) in
@@ -168,6 +170,9 @@ leads_pass back same begins t text exact p lead done file is =
         text,
         begun ∙ ap (λ (b : Bool). spelled (Header (version_where b s.assumes)) ++ 10 ∷ text) (sym told),
       );
+      first = version_where exact s.assumes;
+      read = subst (λ (b : List ℕ). AreRead (lines_in b).ended lines) (sym spells)
+          (subst (λ (f : FileLines). AreRead f.ended lines) (sym split) (are_read back lines are));
     }
 
 -- no lines lead to the start

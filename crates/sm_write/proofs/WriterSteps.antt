@@ -18,7 +18,7 @@ use Rattle.sm_proof.specs.Passing.{Pending, Progress, term_made, form_made, take
 use Rattle.sm_proof.specs.Verdicts.{Subject}
 use Rattle.sm_proof.specs.Versions.{is_exact}
 use Rattle.sm_write.specs.Bytes.{line_text}
-use Rattle.sm_write.specs.Texts.{IsReadable}
+use Rattle.sm_prune.specs.Texts.{IsReadable}
 use Rattle.sm_write.specs.Writers.{WriterValue, Stands, Adds}
 use Rattle.sm_write.specs.Written.{Names, AreNames}
 use Rattle.sm_write.proofs.SpellingLemmas.{term_readable, form_readable}

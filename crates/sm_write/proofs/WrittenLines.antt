@@ -15,7 +15,7 @@ use Rattle.sm_proof.specs.Lines.{Cert, numbered_line}
 use Rattle.sm_proof.specs.Named.{are_there, naming_facts, naming_term, named_line}
 use Rattle.sm_proof.specs.Passing.{is_split}
 use Rattle.sm_proof.specs.Versions.{is_exact_step}
-use Rattle.sm_write.specs.Texts.{IsReadable}
+use Rattle.sm_prune.specs.Texts.{IsReadable}
 use Rattle.sm_write.specs.Writable.{AreShortNumbers, IsShortLine}
 use Rattle.sm_write.specs.Written.{Names, AreNames, number_or, file_number, IsNamed, written, IsLineNamed}
 use Rattle.sm_write.proofs.FactsThere.{get_below, line_splits, AreStepsShort}

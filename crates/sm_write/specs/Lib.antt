@@ -4,9 +4,9 @@ pub mod Writable
 pub mod Example
 pub mod Seen
 pub mod Ready
-pub mod Texts
 pub mod Written
 pub mod Writers
+pub mod Lean
 pub mod Values
 pub mod Naming
 pub mod Walked

@@ -21,7 +21,7 @@ use Rattle.sm_expand.specs.Walks.{size_of}
 use Rattle.sm_write.specs.declared.plans.Waiting.{Waiting}
 use Rattle.sm_write.specs.GoalsWritten.{IsAt}
 use Rattle.sm_write.specs.NodesWritten.{WritesNode}
-use Rattle.sm_write.specs.Texts.{Leads}
+use Rattle.sm_prune.specs.Texts.{Leads}
 use Rattle.sm_write.specs.Waiting.{Waits, due_for, AreWaiting}
 use Rattle.sm_write.specs.Writers.{WriterValue}
 

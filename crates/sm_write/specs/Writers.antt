@@ -7,7 +7,7 @@ use Rattle.sm_plan.specs.States.{State}
 use Rattle.sm_proof.specs.Passing.{Pending, Progress}
 use Rattle.sm_proof.specs.Verdicts.{Subject}
 use Rattle.sm_write.specs.Seen.{IsAtom, Seen}
-use Rattle.sm_write.specs.Texts.{Leads}
+use Rattle.sm_prune.specs.Texts.{Leads}
 use Rattle.sm_write.specs.Written.{Names, AreNames, IsNamed}
 
 -- a text, whether it has lines `exact`, the numbers that terms have in it, and how many terms,

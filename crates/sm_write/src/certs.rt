@@ -89,8 +89,8 @@ pub(crate) fn file_number(names: &HashMap<u64, TermId>, t: TermId) -> u64
     }
 }
 
-// A line `cong`.
-fn put_cong(text: &mut Vec<u8>, t: u64, u: u64, facts: &[u64]) -> Result<(), AllocError>
+/// A line `cong`.
+pub(crate) fn put_cong(text: &mut Vec<u8>, t: u64, u: u64, facts: &[u64]) -> Result<(), AllocError>
     ensures { OnOk result (text.new.items
         ≡ text.old.items ++ one_word (head_word Head.Cong) (t ∷ u ∷ facts.now)) }
 {

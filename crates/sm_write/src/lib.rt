@@ -7,7 +7,8 @@
 //!   formula and its certificates name is built of what stood in the stores of states up to it.
 //! - `naming` gives terms numbers in the file, parts first. `forms` writes formulas, and `trees` a
 //!   certificate for the branch that is due, each behind the lines of its terms. `plans` walks over
-//!   the nodes, with a stack of the states that wait for theirs.
+//!   the nodes, with a stack of the states that wait for theirs. `rereading` reads the lines back and
+//!   leaves out what no line names.
 //!
 //! Read `specs/Nameable.antt` first, then `specs/PlanStates.antt`, `specs/Writable.antt` and
 //! `specs/Example.antt`, which `write_proof` cites with `specs/TreesWithin.antt` and
@@ -24,6 +25,8 @@ mod lines;
 mod naming;
 mod nodes;
 mod plans;
+mod rereading;
+mod spelling;
 mod states;
 mod text;
 mod trees;

@@ -10,6 +10,7 @@ ghost use Rattle.sm_plan.specs.Starts.{AreNumbered};
 ghost use Rattle.sm_proof.specs.Lines.{Header};
 ghost use Rattle.sm_proof.specs.Verdicts.{Subject, Passes};
 ghost use Rattle.sm_text.specs.Tasks.{parts_of};
+ghost use Rattle.sm_prune.specs.UsedLines.{HasNamedLines};
 ghost use Rattle.sm_expand.specs.NumberedPlans.{IsPlanReady};
 ghost use Rattle.sm_expand.specs.Views.{numbered_plan, plan_in};
 ghost use Rattle.sm_write.specs.Bytes.{line_text};
@@ -20,6 +21,7 @@ ghost use Rattle.sm_write.specs.Versions.{HasVersion, version_where};
 ghost use Rattle.sm_write.specs.Writable.{IsWritable};
 
 use crate::plans::{Waiting, write_nodes};
+use crate::rereading::lean_text;
 use crate::text::put_version;
 use crate::writer::Writer;
 use sm_cert::CertTree;
@@ -44,14 +46,19 @@ fn fresh_writer(alloc: Global) -> Writer
     }
 }
 
-// The file of what was written, behind the version line, which is known once all lines are.
-fn finished(alloc: Global, w: &Writer, assumes: bool) -> Result<Vec<u8>, AllocError>
+// The file of lines, behind the version line, which is known once all lines are.
+fn finished(
+    alloc: Global,
+    lines: &[u8],
+    exact: bool,
+    assumes: bool,
+) -> Result<Vec<u8>, AllocError>
     ensures { IfOk result (λ text. text.items
-        ≡ line_text (Header (version_where w.now.exact assumes)) ++ w.now.text.items) }
+        ≡ line_text (Header (version_where exact assumes)) ++ lines.now) }
 {
     let mut text = Vec::new(alloc);
-    put_version(&mut text, w.exact, assumes)?;
-    text.extend_from_slice(w.text.as_slice())?;
+    put_version(&mut text, exact, assumes)?;
+    text.extend_from_slice(lines)?;
     Ok(text)
 }
 
@@ -74,6 +81,9 @@ pub fn write_proof(
         (plan_in (sorts_in table.old) terms plan.now) (map (certificate_in terms) trees.now) }
     ensures passes { IfOk result (λ text. Passes (parts_of task.now) text.items) }
     ensures version { IfOk result (λ text. HasVersion (parts_of task.now) text.items) }
+
+    // Each line that makes a term or a formula is named by a later one.
+    ensures named { IfOk result (λ text. HasNamedLines text.items) }
 
     // Each term keeps its number.
     ensures widens { Widens table.old table.new }
@@ -106,6 +116,7 @@ fn written_proof(
         (plan_in (sorts_in table.old) terms plan.now) (map (certificate_in terms) trees.now) }
     ensures passes { IfOk result (λ text. Passes (parts_of task.now) text.items) }
     ensures version { IfOk result (λ text. HasVersion (parts_of task.now) text.items) }
+    ensures named { IfOk result (λ text. HasNamedLines text.items) }
     ensures widens { Widens table.old table.new }
 {
     let programs = fill_all(alloc, task)?;
@@ -124,5 +135,6 @@ fn written_proof(
         cursor: start_of(plan),
     };
     write_nodes(alloc, &mut w, table, first, trees)?;
-    finished(alloc, &w, task.assumed.is_some())
+    let lean = lean_text(alloc, w.text.as_slice())?;
+    finished(alloc, lean.as_slice(), w.exact, task.assumed.is_some())
 }

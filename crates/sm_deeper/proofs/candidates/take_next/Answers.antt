@@ -1,6 +1,5 @@
 -- What waited first, over the tables that widen.
 use Rattle.std.proofs.Common.{subst}
-use Rattle.sm_plan.proofs.TablesWiden.{widens_twice}
 use Rattle.sm_deeper.specs.Waits.{AreWaitingReady}
 use Rattle.sm_deeper.proofs.WaitsLemmas.{one_stays, all_stay, without_last}
 use Rattle.sm_deeper.proofs.candidates.take_next.Goals as goal

@@ -1,5 +1,5 @@
 use Rattle.sm_term.specs.Tables.{trees_in, sorts_in}
-use Rattle.sm_plan.proofs.TablesWiden.{widens_twice, widens_same, forms_ready}
+use Rattle.sm_plan.proofs.TablesWiden.{forms_ready}
 use Rattle.sm_houdini.proofs.RoundSteps.{facts_at}
 use Rattle.sm_deeper.proofs.ends.all_trees.Goals as goal
 

@@ -1,5 +1,4 @@
 -- What is asked stays ready while it is looked for what stays open.
-use Rattle.sm_plan.proofs.TablesWiden.{widens_twice}
 use Rattle.sm_expand.proofs.PlansWiden.{dues_ready}
 use Rattle.sm_deeper.proofs.ends.end_of.Goals as goal
 

@@ -1,6 +1,6 @@
 use Rattle.std.proofs.Common.{◌-◌, subst, arith}
 use Rattle.sm_plan.specs.ReadyStates.{AreFormsReady}
-use Rattle.sm_plan.proofs.TablesWiden.{widens_twice, widens_same, forms_ready}
+use Rattle.sm_plan.proofs.TablesWiden.{widens_twice, forms_ready}
 use Rattle.sm_term.specs.Tables.{trees_in, sorts_in}
 use Rattle.sm_expand.specs.declared.due.Due.{Due}
 use Rattle.sm_houdini.proofs.RoundSteps.{facts_at}

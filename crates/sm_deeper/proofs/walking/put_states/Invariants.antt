@@ -1,5 +1,5 @@
 -- What waits so far is ready, and so are the states and places that are left.
-use Rattle.std.proofs.Common.{List, length}
+use Rattle.std.proofs.Common.{length}
 use Rattle.sm_term.specs.Tables.{TableValue, trees_in, sorts_in}
 use Rattle.sm_plan.specs.ReadyStates.{AreSuccessorsReady}
 use Rattle.sm_deeper.specs.Waits.{ArePlacesReady, AreWaitingReady}

@@ -7,7 +7,7 @@ use Rattle.sm_write.proofs.writing.finished.Goals as goal
 
 pub returns : goal.returns
 returns c =
-    let first = line_text (Header (version_where c.args.w.now.exact c.args.assumes)) in
+    let first = line_text (Header (version_where c.args.exact c.args.assumes)) in
     c.in_ok-extend_from_slice.ensures.items
-    ∙ (λ i. c.in_ok-put_version.ensures i ++ c.as_slice.ensures.value i)
-    ∙ ap (λ (t : List ℕ). (t ++ first) ++ c.args.w.now.text.items) c.new-text.ensures.items
+    ∙ (λ i. c.in_ok-put_version.ensures i ++ c.args.lines.now)
+    ∙ ap (λ (t : List ℕ). (t ++ first) ++ c.args.lines.now) c.new-text.ensures.items

@@ -2,7 +2,7 @@
 use Rattle.std.proofs.Common.{ℕ, nat_eq, List, false, length, refl, sym, ap, subst}
 use Rattle.std.specs.Map.{lookup}
 use Rattle.sm_proof.specs.Passing.{start_progress}
-use Rattle.sm_write.specs.Texts.{Leads}
+use Rattle.sm_prune.specs.Texts.{Leads}
 use Rattle.sm_write.proofs.TextLemmas.{leads_start}
 use Rattle.sm_write.proofs.writing.fresh_writer.Goals as goal
 

@@ -1,5 +1,5 @@
 -- The start of the task waits first, and in the end nothing; then the version line is put before what was written.
-use Rattle.std.proofs.Common.{◌≡◌, Bool, [], ◌∷◌, ◌++◌, sym, ap, ◌∙◌, subst, IfOk}
+use Rattle.std.proofs.Common.{◌≡◌, ℕ, Bool, List, [], ◌∷◌, ◌++◌, sym, ap, ◌∙◌, subst, IfOk}
 use Rattle.std.proofs.lemmas.Result.{IfOk-weaker}
 use Rattle.sm_term.specs.Tables.{trees_in, sorts_in}
 use Rattle.sm_plan.specs.States.{start_state}
@@ -15,6 +15,7 @@ use Rattle.sm_text.specs.Tasks.{parts_of}
 use Rattle.sm_expand.specs.NumberedPlans.{IsPlanReady}
 use Rattle.sm_expand.specs.Views.{numbered_plan}
 use Rattle.sm_expand.proofs.PlansWiden.{plan_ready}
+use Rattle.sm_prune.specs.Texts.{Leads}
 use Rattle.sm_write.specs.declared.plans.Waiting.{Waiting}
 use Rattle.sm_write.specs.Bytes.{line_text}
 use Rattle.sm_write.specs.Underway.{IsUnderway}
@@ -61,14 +62,22 @@ returns c =
     let whole = c.in_ok-write_nodes.ensures.written s underway in
     let done = value_of c.write_nodes.new.w in
     let assumes : c.is_some.result ≡ s.assumes = c.is_some.ensures ∙ sym (some_mapped task.assumed) in
-    let file : IfOk c.finished.result (λ text. IsFile t text.items) =
+    let lean =
+    c.in_ok-lean.ensures s done.exact whole.last
+    (subst (λ (b : List ℕ). Leads s b done.exact whole.last) (sym c.as_slice.ensures.value) whole.leads) in
+    let text = c.in_ok-lean.lean.items in
+    let file : IfOk c.finished.result (λ bytes. IsFile t lean.leads.lines bytes.items) =
     IfOk-weaker c.finished.result _ _
-    (λ text is.
-    leads_pass spelled_back files_are_lines exact_read t done.text done.exact whole.last whole.leads whole.done text.items
-    (is ∙ ap (λ (b : Bool). line_text (Header (version_where done.exact b)) ++ done.text) assumes)) c.finished.ensures in
+    (λ bytes is.
+    leads_pass spelled_back files_are_lines exact_read t text done.exact lean.after lean.leads (lean.same ∙ whole.done) bytes.items
+    (is
+    ∙ (ap (λ (b : Bool). line_text (Header (version_where done.exact b)) ++ c.as_slice-2.result.now) assumes
+    ∙ ap (λ (b : List ℕ). line_text (Header (version_where done.exact s.assumes)) ++ b) c.as_slice-2.ensures.value)))
+    c.finished.ensures in
     record {
-      passes = IfOk-weaker c.finished.result _ _ (λ text is. is.passes) file;
-      version = IfOk-weaker c.finished.result _ _ (λ text is. is.version) file;
+      passes = IfOk-weaker c.finished.result _ _ (λ bytes is. is.passes) file;
+      version = IfOk-weaker c.finished.result _ _ (λ bytes is. is.version) file;
+      named = IfOk-weaker c.finished.result _ _ (λ bytes is. (Header is.first ∷ lean.leads.lines, is.read, lean.named)) file;
       widens = widens_twice v w c.write_nodes.new.table c.in_ok-state.ensures.widens c.in_ok-write_nodes.ensures.widens;
     }
 
@@ -76,3 +85,8 @@ pub returns-in_err-write_nodes-clause-widens : goal.returns-in_err-write_nodes-c
 returns-in_err-write_nodes-clause-widens c =
     widens_twice c.args.table.now c.start_state.new.table c.write_nodes.new.table c.in_ok-state.ensures.widens
     c.in_err-write_nodes.ensures.widens
+
+pub returns-in_err-lean-clause-widens : goal.returns-in_err-lean-clause-widens
+returns-in_err-lean-clause-widens c =
+    widens_twice c.args.table.now c.start_state.new.table c.write_nodes.new.table c.in_ok-state.ensures.widens
+    c.in_ok-write_nodes.ensures.widens

@@ -1,4 +1,4 @@
--- Private: texts of lines, and how far a text leads that stands behind a version line.
+-- Cited by public clauses: texts of lines, and how far a text leads that stands behind a version line.
 use Rattle.std.specs.Prelude.{◌≡◌, ℕ, ◌≤◌, Bool}
 use Rattle.std.specs.Prelude.{Result, Ok, List, [], ◌∷◌, ◌++◌, length}
 use Rattle.std.specs.List.{list_any}

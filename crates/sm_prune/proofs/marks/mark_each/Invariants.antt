@@ -1,0 +1,9 @@
+-- The numbers so far are marked.
+use Rattle.std.proofs.Common.{nat_eq, take}
+use Rattle.std.specs.List.{list_any}
+use Rattle.sm_prune.specs.Marks.{MarksMore}
+use Rattle.sm_prune.proofs.marks.mark_each.Given as goal
+
+abbrev pub invariant-loop-number : goal.invariant-loop-number
+invariant-loop-number l =
+    MarksMore (λ n. list_any (nat_eq n) (take l.number-index l.numbers)) l.fn.marks.items l.marks.items
