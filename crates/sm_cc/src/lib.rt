@@ -51,12 +51,14 @@ mod marks;
 mod merge;
 mod places;
 mod positions;
+mod quiet;
 mod regrounding;
 mod rounds;
 mod row;
 mod rows;
 mod seen;
 mod shapes;
+mod told;
 mod witness;
 
 pub use behind::Behind;

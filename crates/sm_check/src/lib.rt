@@ -21,6 +21,7 @@ mod kept;
 mod laws;
 mod names;
 mod nodes;
+mod of_facts;
 mod opened;
 mod openings;
 mod pending;

@@ -1,7 +1,6 @@
 // Terms that lines make.
 ghost use Rattle.std.specs.Prelude.{◌≡◌, ◌<◌, ◌≤◌, ◌^◌, length, List, Ok, Err, Result, Some, slice_get};
 ghost use Rattle.std.specs.Prelude.{IfOk, IfErr};
-ghost use Rattle.sm_syntax.specs.text.Sorts.{Sorts};
 ghost use Rattle.sm_syntax.specs.claim.ConflictFree.{copy_of};
 ghost use Rattle.sm_term.specs.Terms.{Tree};
 ghost use Rattle.sm_term.specs.Fitting.{term_fits};
@@ -11,9 +10,7 @@ ghost use Rattle.sm_term.specs.Tables.{trees_in, sorts_in, codes_in, tree_in, tr
 ghost use Rattle.sm_term.specs.Tables.{AreBefore, IsTermWithin};
 ghost use Rattle.sm_term.specs.TableLaws.{Grows};
 ghost use Rattle.sm_theory.specs.Facts.{BranchFact};
-ghost use Rattle.sm_theory.specs.Lines.{followed, formula_in};
-ghost use Rattle.sm_theory.specs.Sides.{OptionStands};
-ghost use Rattle.sm_theory.specs.Views.{AllStand, FactStands};
+ghost use Rattle.sm_theory.specs.Views.{AllStand};
 ghost use Rattle.sm_plan.specs.ReadyStates.{AreStoresReady};
 ghost use Rattle.sm_term.specs.Heads.{arguments_of};
 ghost use Rattle.sm_plan.specs.Views.{stores_in};
@@ -22,22 +19,23 @@ ghost use Rattle.sm_proof.specs.declared.word.Word.{Word};
 ghost use Rattle.sm_proof.specs.declared.word.Word.TheVariants.{First, BadNumber};
 ghost use Rattle.sm_proof.specs.FieldRanges.{IsTermLineWithin};
 ghost use Rattle.sm_proof.specs.Named.{tested_or, found_or};
-ghost use Rattle.sm_proof.specs.Passing.{Pending, term_made, with_tree, compared};
-ghost use Rattle.sm_proof.specs.Passing.{present_term, term_of_fact};
+ghost use Rattle.sm_proof.specs.Passing.{Pending, term_made, with_tree};
+ghost use Rattle.sm_proof.specs.Passing.{present_term};
 ghost use Rattle.sm_check.specs.declared.fault.LineFault.TheVariants.{Wrong};
 ghost use Rattle.sm_check.specs.Tells.{Tells};
-ghost use Rattle.sm_check.specs.TermsMade.{IsTerm, ArePairOf, with_two};
+ghost use Rattle.sm_check.specs.TermsMade.{IsTerm, with_two};
 ghost use Rattle.sm_check.specs.Pending.{DueStands, IsDueReady};
 ghost use Rattle.sm_check.specs.Walks.{terms_in, AreNumbered};
 
 use crate::fault::LineFault;
 use crate::forms::term_at;
+use crate::of_facts::of_fact;
 use crate::pending::Due;
 use sm_euf::argument_of;
 use sm_proof::{Head, TermLine, Word};
 use sm_syntax::{CopyName, Name, PerCopy};
-use sm_term::{Formula, SymStore, Term, TermError, TermId, TermTable};
-use sm_theory::{Branch, Fact, fact_at};
+use sm_term::{SymStore, Term, TermError, TermId, TermTable};
+use sm_theory::Branch;
 
 // The term that a line makes, where something is due.
 pub(crate) fn made_term(
@@ -252,61 +250,5 @@ fn argument(table: &TermTable, t: TermId, place: u64) -> Result<TermId, LineFaul
         None => Err(LineFault::Wrong {
             word: Word::First(Head::T),
         }),
-    }
-}
-
-// A term of a fact of the branch that is due.
-fn of_fact(
-    table: &TermTable,
-    due: &Due<'_>,
-    path: &Branch,
-    fact: u64,
-    side: u8,
-) -> Result<TermId, LineFault>
-    ensures tells { let sorts = sorts_in table.now in let trees = trees_in table.now in
-        (facts : List BranchFact) (first : Pending) →
-        AllStand sorts trees path.now.list.items facts → DueStands sorts trees facts due.now first →
-        Tells (IsTerm trees) result (term_of_fact first fact side) }
-    ensures within { IfOk result (λ t. t.0 < length (trees_in table.now)) }
-{
-    if let Due::State { .. } = due {
-        return Err(LineFault::Wrong { word: Word::Order });
-    }
-    let known = match fact_at(path, fact) {
-        Some(known) => known,
-        None => {
-            return Err(LineFault::Wrong {
-                word: Word::BadNumber,
-            });
-        }
-    };
-    match compared(known) {
-        Some((t, u)) => {
-            let chosen = if side == 0 { t } else { u };
-            // The terms of facts are those of the table.
-            if chosen.0 < table.len() {
-                Ok(chosen)
-            } else {
-                Err(LineFault::Memory)
-            }
-        }
-        None => Err(LineFault::Wrong {
-            word: Word::First(Head::T),
-        }),
-    }
-}
-
-// The terms that a fact compares.
-fn compared(fact: &Fact) -> Option<(TermId, TermId)>
-    ensures { (sorts : Sorts) (trees : List Tree) (known : BranchFact) →
-        FactStands sorts trees fact.now known →
-        OptionStands (ArePairOf trees) result (followed (formula_in known) compared) }
-{
-    match fact {
-        Fact::Form(Formula::Eq(t, u)) => Some((*t, *u)),
-        Fact::Form(Formula::Ne(t, u)) => Some((*t, *u)),
-        Fact::Form(Formula::Le(t, u)) => Some((*t, *u)),
-        Fact::Form(Formula::Lt(t, u)) => Some((*t, *u)),
-        _ => None,
     }
 }

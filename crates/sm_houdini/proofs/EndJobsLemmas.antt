@@ -42,7 +42,7 @@ use Rattle.sm_houdini.specs.Dealing.{dealt, placed}
 use Rattle.sm_houdini.specs.EndJobs.{PlanEndsValue, IsRunEnd, AreRunEnds, ArePlanEnds, IsPartEnd, TellsEnd, goals_from, size_of}
 use Rattle.sm_houdini.specs.Outcomes.{Outcome, goal_outcome, goals_outcome}
 use Rattle.sm_houdini.specs.declared.ending.Stop.{Stop}
-use Rattle.sm_houdini.specs.declared.end_jobs.RunEnd.{RunEnd}
+use Rattle.sm_houdini.specs.declared.run_ends.RunEnd.{RunEnd}
 use Rattle.sm_houdini.proofs.ClosingLemmas.{ok_map}
 use Rattle.sm_houdini.proofs.DealtNodes.{placed_inside, dealt_placed}
 use Rattle.sm_houdini.proofs.EndLemmas.{collected_stays, within_append, short_append, forms_count, different, Ended}

@@ -21,7 +21,7 @@ use Rattle.sm_term.specs.contracts.term.Term as Term
 use Rattle.sm_cert.proofs.tree.CertEnd.TheLaws.TheKnot as certificate
 use Rattle.sm_cert.specs.contracts.tree.CertTree as CertTree
 use Rattle.sm_expand.specs.contracts.due.Due as Due
-use Rattle.sm_houdini.specs.contracts.end_jobs.RunEnd as RunEnd
+use Rattle.sm_houdini.specs.contracts.run_ends.RunEnd as RunEnd
 use Rattle.sm_houdini.specs.contracts.ending.Stop as Stop
 
 -- what a node asks

@@ -9,7 +9,7 @@ use Rattle.sm_expand.specs.declared.due.Due.{Due}
 use Rattle.sm_expand.specs.Views.{due_in}
 use Rattle.sm_solve.specs.Walk.{walk}
 use Rattle.sm_solve.specs.declared.reach.Reach.{Reach}
-use Rattle.sm_houdini.specs.declared.end_jobs.RunEnd.{RunEnd}
+use Rattle.sm_houdini.specs.declared.run_ends.RunEnd.{RunEnd}
 use Rattle.sm_houdini.specs.Collected.{AreCollected, goals_with, RunStops, RunCloses}
 use Rattle.sm_houdini.specs.Dealing.{dealt, placed}
 

@@ -1,6 +1,6 @@
 // Goals whose certificates are made by jobs.
-ghost use Rattle.std.specs.Prelude.{◌≡◌, ◌≤◌, ◌<◌, ◌+◌, ◌^◌, ◌++◌, ℕ, List, [], length, map};
-ghost use Rattle.std.specs.Prelude.{take, drop, IfOk, OnOk, MatchOption, slice_index_or};
+ghost use Rattle.std.specs.Prelude.{◌≡◌, ◌≤◌, ◌<◌, ◌+◌, ◌++◌, ℕ, List, [], length, map};
+ghost use Rattle.std.specs.Prelude.{take, IfOk, OnOk, MatchOption, slice_index_or};
 ghost use Rattle.std.specs.List.{range_with_len};
 ghost use Rattle.sm_term.specs.Assertions.{Assertion};
 ghost use Rattle.sm_term.specs.declared.formula.Formula.{Formula};
@@ -9,7 +9,6 @@ ghost use Rattle.sm_term.specs.TableLaws.{Widens};
 ghost use Rattle.sm_term.specs.Tails.{row_trees, AreRowsSound};
 ghost use Rattle.sm_term.specs.Terms.{Tree};
 ghost use Rattle.sm_cert.specs.Views.{certificate_in};
-ghost use Rattle.sm_plan.specs.ReadyStates.{AreFormsReady};
 ghost use Rattle.sm_plan.specs.Views.{forms_in};
 ghost use Rattle.sm_expand.specs.declared.due.Due.{Due};
 ghost use Rattle.sm_expand.specs.Views.{due_in, dues_in, AreDuesReady};
@@ -18,23 +17,23 @@ ghost use Rattle.sm_list.specs.Renumbered.{AreTermsOf};
 ghost use Rattle.sm_solve.specs.Walk.{walk};
 ghost use Rattle.sm_solve.specs.declared.reach.Reach.{Reach};
 ghost use Rattle.sm_write.specs.TreesWithin.{AreTreesWithin};
-ghost use Rattle.sm_houdini.specs.declared.end_jobs.RunEnd.{RunEnd};
+ghost use Rattle.sm_houdini.specs.declared.run_ends.RunEnd.{RunEnd};
 ghost use Rattle.sm_houdini.specs.Certified.{asked};
 ghost use Rattle.sm_houdini.specs.Collected.{AreCollected, goals_with, IsInsideClosed};
 ghost use Rattle.sm_houdini.specs.Collected.{RunStops, RunCloses, FinalStops, FinalCloses};
-ghost use Rattle.sm_houdini.specs.EndJobs.{AreRunEnds, ArePlanEnds, IsPartEnd, TellsEnd, size_of};
+ghost use Rattle.sm_houdini.specs.EndJobs.{AreRunEnds, ArePlanEnds, size_of};
 
-use crate::dealing::{dealt, placed};
-use crate::ending::{Stop, end_run};
+use crate::dealing::placed;
+use crate::ending::Stop;
 use crate::goal_jobs::Crew;
+use crate::run_ends::{PlanEnds, RunEnd};
 use sm_cert::CertTree;
 use sm_expand::Due;
 use sm_list::renumbered_tree;
-use sm_par::{Gate, Job, Phase, run_jobs};
+use sm_par::{Gate, Phase, run_jobs};
 use sm_solve::Reach;
 use sm_term::{Formula, TermId, TermRows, TermTable};
 use std::alloc::{AllocError, Global};
-use std::marker::Model;
 use std::thread::Threads;
 
 /// Puts the certificates of all goals behind others, or tells the first goal for which there is
@@ -75,8 +74,8 @@ fn runs_each(nodes: usize, workers: usize) -> usize
     }
 }
 
-// How many goals a run has, where there are so many runs of them.
-fn size_of(goals: usize, runs: usize) -> usize
+/// How many goals a run has, where there are so many runs of them.
+pub(crate) fn size_of(goals: usize, runs: usize) -> usize
     requires { 0 < runs }
     ensures { result ≡ size_of goals runs }
 {
@@ -262,116 +261,4 @@ fn renumbered_trees(
         list.push(other)?;
     }
     Ok(list)
-}
-
-// What a run of goals comes to over a copy of a table: the copy's new terms, the certificates of
-// the goals up to the first for which there is none, and why there is none for that one.
-#[derive(Drop)]
-pub(crate) struct RunEnd {
-    rows: TermRows,
-    trees: Vec<CertTree>,
-    stop: Option<Stop>,
-}
-
-// The goals that nodes ask, so many runs of each; the last may be shorter. A job has one run, and
-// the runs of a node stand together at its place.
-#[derive(Drop)]
-struct PlanEnds<'a> {
-    table: &'a TermTable,
-    dues: &'a [Due],
-    each: usize,
-    reach: Reach,
-    count: usize,
-}
-
-impl<'a> Model for PlanEnds<'a> {
-    ghost use Rattle.sm_houdini.specs.EndJobs.{PlanEndsValue};
-    ghost use Rattle.sm_term.specs.Tables.{trees_in, sorts_in};
-    ghost use Rattle.sm_expand.specs.Views.{AreDuesReady};
-    ghost use Rattle.std.specs.Prelude.{◌<◌, ◌≡◌, ◌*◌, length};
-
-    ghost Value = { PlanEndsValue };
-
-    ghost use Rattle.sm_syntax.specs.contracts.tree.Block as block;
-    ghost use Rattle.sm_term.specs.contracts.formula.Formula as formula;
-    ghost use Rattle.std.specs.Coded.{codes};
-
-    ghost coded = { Prim.hlevel (codes, block.the_row.coded, formula.the_row.coded) };
-
-    ghost view = { λ g. record {
-      table = g.table.now;
-      dues = g.dues.now;
-      each = g.each;
-      reach = g.reach;
-      count = g.count;
-    } };
-
-    ghost invariant = { λ g. AreDuesReady (sorts_in g.table.now) (trees_in g.table.now) g.dues.now
-        × (0 < g.each) × (g.count ≡ length g.dues.now * g.each) };
-}
-
-impl Job for PlanEnds<'_> {
-    type Out = RunEnd;
-
-    ghost indices = { λ job. job.count };
-
-    ghost stands_for = { TellsEnd };
-
-    fn run(&self, alloc: Global, index: u64) -> Result<RunEnd, AllocError> {
-        let at = index as usize;
-        let due = &self.dues[dealt(self.dues.len(), at / self.each)];
-        run_end(
-            alloc,
-            self.table,
-            due,
-            at % self.each,
-            self.each,
-            self.reach,
-        )
-    }
-}
-
-// What a run of the goals of a node comes to, over a copy of a table.
-fn run_end(
-    alloc: Global,
-    table: &TermTable,
-    due: &Due,
-    number: usize,
-    each: usize,
-    reach: Reach,
-) -> Result<RunEnd, AllocError>
-    requires facts { AreFormsReady (sorts_in table.now) (trees_in table.now)
-        due.now.facts.list.items }
-    requires goals { AreFormsReady (sorts_in table.now) (trees_in table.now)
-        due.now.targets.list.items }
-    requires some { 0 < each }
-    ensures { IfOk result (IsPartEnd table.now reach due.now each number) }
-{
-    let goals = due.targets.list.as_slice();
-    let size = size_of(goals.len(), each);
-    // So many goals fit no memory.
-    let Some(first) = number.checked_mul(size) else {
-        return Err(AllocError);
-    };
-    let run = part(goals, first, size);
-    let mut table = table.copy(alloc)?;
-    let from = table.len();
-    let mut trees = Vec::new(alloc);
-    let stop = end_run(alloc, &mut table, due, first as u64, run, &mut trees, reach)?;
-    let rows = table.tail(alloc, from)?;
-    Ok(RunEnd { rows, trees, stop })
-}
-
-// So many goals from a place on, as far as there are some.
-fn part(goals: &[Formula], first: usize, size: usize) -> &[Formula]
-    ensures part { result.now ≡ take size (drop first goals.now) }
-    ensures places { first + length result.now < 2 ^ 64 }
-{
-    if first >= goals.len() {
-        return &[];
-    }
-    if goals.len() - first < size {
-        return &goals[first..];
-    }
-    &goals[first..first + size]
 }

@@ -40,6 +40,7 @@ mod outcome;
 mod owners;
 mod product;
 mod rounds;
+mod run_ends;
 mod searching;
 mod short;
 mod sites;

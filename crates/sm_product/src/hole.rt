@@ -27,7 +27,7 @@ ghost use Rattle.sm_product.specs.ProductContexts.{IsContextReady};
 ghost use Rattle.sm_product.specs.MiniProducts as beside;
 ghost use Rattle.sm_product.specs.Products as plain;
 
-use crate::mini::side_by_side;
+use crate::beside::side_by_side;
 use crate::product::ProductContext;
 use sm_moves::{filling_at, has, least};
 use sm_plan::Rest;

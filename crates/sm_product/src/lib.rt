@@ -17,6 +17,7 @@
 #![tactic(auto)]
 
 mod asking;
+mod beside;
 mod counting;
 mod hole;
 mod laws;

@@ -2,13 +2,12 @@
 ghost use Rattle.std.specs.Prelude.{◌≡◌, ◌==◌, ◌≤◌, bit_and, false, [], ◌∷◌, ◌++◌, map};
 ghost use Rattle.std.specs.Prelude.{IfOk, IfErr, OnOk, if◌then◌else◌};
 ghost use Rattle.sm_syntax.specs.claim.ConflictFree.{Copy};
-ghost use Rattle.sm_syntax.specs.claim.Syntax.{End};
 ghost use Rattle.sm_syntax.specs.text.Parts.{Parts};
 ghost use Rattle.sm_syntax.specs.text.Sorts.{IsWellSorted};
 ghost use Rattle.sm_syntax.specs.trees.Copies.{copy_named};
 ghost use Rattle.sm_term.specs.Tables.{trees_in, sorts_in};
 ghost use Rattle.sm_term.specs.TableLaws.{Widens};
-ghost use Rattle.sm_plan.specs.Copies.{has, subsets};
+ghost use Rattle.sm_plan.specs.Copies.{subsets};
 ghost use Rattle.sm_plan.specs.Masks.{set_of};
 ghost use Rattle.sm_moves.specs.CodeShapes.{has_hole};
 ghost use Rattle.sm_moves.specs.Moves as moves;
@@ -16,13 +15,13 @@ ghost use Rattle.sm_moves.specs.MovesWithin.{IsMoveWithin};
 ghost use Rattle.sm_moves.specs.Rests.{codes_in};
 ghost use Rattle.sm_moves.specs.ProgramMoves.{move_in};
 ghost use Rattle.sm_template.specs.Sites.{IsSiteOf, IsSiteReady};
-ghost use Rattle.sm_sketch.specs.Errors.{TellsSketch};
 ghost use Rattle.sm_sketch.specs.SketchViews.{sketch_in, IsSketchReady, AreSketchesReady};
 ghost use Rattle.sm_product.specs.MiniProducts as spec;
 ghost use Rattle.sm_product.specs.Paths.{is_straight, IsFilled};
 ghost use Rattle.sm_product.specs.LoopTurns.{turn_of, HaveLoops};
 ghost use Rattle.sm_product.specs.Rooms.{IsRoom, TellsBeyond, TellAllBeyond, IsTaken};
 
+use crate::beside::side_by_side;
 use crate::paths::{follow, pass, put_all_before};
 use crate::rooms::Room;
 use sm_moves::{Move, bodies, copy_rests, fork};
@@ -33,37 +32,9 @@ use sm_template::{SiteContext, loop_templates};
 use sm_term::TermTable;
 use std::alloc::Global;
 
-/// The mini-product of the code of a set's copies, and what follows.
-pub(crate) fn side_by_side(
-    alloc: Global,
-    table: &mut TermTable,
-    site: &SiteContext<'_>,
-    set: u8,
-    code: PerCopy<Rest<'_>>,
-    next: Sketch,
-) -> Result<Sketch, ProductError>
-    requires set { set ≤ 15 }
-    requires site { IsSiteReady (sorts_in table.old) site.now }
-    requires sorted { (c : Copy) → IsWellSorted (sorts_in table.old) (codes_in code c) }
-    requires no_hole { (c : Copy) → has_hole (codes_in code c) ≡ false }
-    requires outside { (c : Copy) → has (set_of set) c ≡ false → codes_in code c ≡ End }
-    requires next { IsSketchReady (sorts_in table.old) (trees_in table.old) next }
-    ensures drawn { let after = sketch_in (sorts_in table.old) (trees_in table.old) next in
-        (t : Parts) → IsSiteOf t site.now → IfOk result (λ s.
-        sketch_in (sorts_in table.new) (trees_in table.new) s
-        ≡ spec.side_by_side t (set_of set) (codes_in code.entry) after) }
-    ensures err { let after = sketch_in (sorts_in table.old) (trees_in table.old) next in
-        (t : Parts) → IsSiteOf t site.now → IfErr result (λ e.
-        TellsSketch e (spec.side_by_side t (set_of set) (codes_in code.entry) after)) }
-    ensures ready { IfOk result (IsSketchReady (sorts_in table.new) (trees_in table.new)) }
-    ensures widens { Widens table.old table.new }
-{
-    draw(alloc, table, site, set, code, next, Room::whole())
-}
-
-// Draws the mini-product, within some room.
+/// Draws the mini-product, within some room.
 #[cycle(mini)]
-fn draw(
+pub(crate) fn draw(
     alloc: Global,
     table: &mut TermTable,
     site: &SiteContext<'_>,

@@ -8,6 +8,7 @@
 //! Read `specs/OneSided.antt` first, then `specs/WholePlan.antt` and `specs/WholeCertificates.antt`.
 #![tactic(auto)]
 
+mod part_trees;
 mod sided;
 mod whole;
 

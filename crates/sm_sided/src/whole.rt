@@ -1,5 +1,5 @@
 // The plan of one-sided programs, with its certificates.
-ghost use Rattle.std.specs.Prelude.{◌≡◌, ◌+◌, ◌<◌, ◌≤◌, ◌^◌, ◌++◌, List, [], ◌∷◌, map, length};
+ghost use Rattle.std.specs.Prelude.{◌≡◌, ◌+◌, ◌<◌, ◌^◌, ◌++◌, List, map, length};
 ghost use Rattle.std.specs.Prelude.{option_map, true, Ok, IfOk, IfSome, OnOk, OnErr};
 ghost use Rattle.std.specs.List.{AllByRecursion};
 ghost use Rattle.sm_syntax.specs.claim.ConflictFree.{Copy, Task};
@@ -11,10 +11,7 @@ ghost use Rattle.sm_syntax.specs.trees.Views.{condition_of, code_of};
 ghost use Rattle.sm_term.specs.Tables.{trees_in, sorts_in};
 ghost use Rattle.sm_term.specs.TableLaws.{Widens};
 ghost use Rattle.sm_term.specs.Terms.{Tree};
-ghost use Rattle.sm_theory.specs.Lines.{Both, Close};
-ghost use Rattle.sm_theory.specs.Views.{line_in};
-ghost use Rattle.sm_cert.specs.Certificates.{Next, Closed};
-ghost use Rattle.sm_cert.specs.Views.{certificate_in, lines_before};
+ghost use Rattle.sm_cert.specs.Views.{certificate_in};
 ghost use Rattle.sm_plan.specs.Plans as plain;
 ghost use Rattle.sm_plan.specs.Plans.{obligations, nodes_of};
 ghost use Rattle.sm_plan.specs.SortedStates.{AreOutputsDeclared};
@@ -22,18 +19,18 @@ ghost use Rattle.sm_plan.specs.Starts.{AreNumbered};
 ghost use Rattle.sm_expand.specs.NumberedPlans.{IsPlanReady};
 ghost use Rattle.sm_expand.specs.Tasks.{HasParts};
 ghost use Rattle.sm_expand.specs.Views.{numbered_plan, plan_in, dues_in};
-ghost use Rattle.sm_sided.specs.OneSided.{IsOnly, IsOneSided};
-ghost use Rattle.sm_sided.specs.WholeCertificates.{by_clash, by_turned, certificates_of};
+ghost use Rattle.sm_sided.specs.OneSided.{IsOneSided};
+ghost use Rattle.sm_sided.specs.WholeCertificates.{certificates_of};
 ghost use Rattle.sm_sided.specs.WholeCertificates.{whole_certificates, AreWhole, NamesNoTerm};
 ghost use Rattle.sm_sided.specs.WholeNodes.{summary_nodes};
 ghost use Rattle.sm_sided.specs.WholePlan.{whole_plan, facts_before, IsShown, KeepsNone};
 
+use crate::part_trees::{clash_tree, part_tree, turned_tree};
 use crate::sided::{Change, only_change};
-use sm_cert::{CertEnd, CertLines, CertTree};
+use sm_cert::CertTree;
 use sm_expand::{Due, Last, Plan, Simple, Simples, expand};
 use sm_syntax::{Block, Cond, Decls, Outputs, PerCopy};
 use sm_term::TermTable;
-use sm_theory::CertLine;
 use std::alloc::{AllocError, Global};
 
 /// The certificates of goals, in order.
@@ -131,52 +128,6 @@ fn count_facts(
         return Err(AllocError);
     }
     Ok(count)
-}
-
-// Lines, and one that closes the branch.
-fn closed_by(list: Vec<CertLine>, line: CertLine) -> CertTree
-    ensures { (trees : List Tree) → certificate_in trees result
-        ≡ lines_before trees list.items (Closed (line_in trees line)) }
-{
-    CertTree {
-        lines: CertLines { list },
-        last: CertEnd::Close(line),
-    }
-}
-
-// Of the parts of a conjunction, which stands behind n facts, one can't be.
-fn part_tree(alloc: Global, n: u64, part: u64) -> Result<CertTree, AllocError>
-    requires few { n < 2 ^ 62 }
-    requires part { part ≤ 2 }
-    ensures { (trees : List Tree) →
-        IfOk result (λ c. certificate_in trees c ≡ Next (Both n) (Closed (Close (n + part)))) }
-{
-    let mut lines = Vec::new(alloc);
-    lines.push(CertLine::Both(n))?;
-    Ok(closed_by(lines, CertLine::Close(n + part)))
-}
-
-// Of the three parts of one two are contrary.
-fn clash_tree(alloc: Global, n: u64) -> Result<CertTree, AllocError>
-    requires { n < 2 ^ 62 }
-    ensures { (trees : List Tree) → IfOk result (λ c. certificate_in trees c ≡ by_clash n) }
-{
-    let mut lines = Vec::new(alloc);
-    lines.push(CertLine::Both(n))?;
-    lines.push(CertLine::Both(n + 2))?;
-    Ok(closed_by(lines, CertLine::Clash(n + 3, n + 4)))
-}
-
-// The certificate of that, where equation m is turned round before.
-fn turned_tree(alloc: Global, n: u64, m: u64) -> Result<CertTree, AllocError>
-    requires { n < 2 ^ 62 }
-    ensures { (trees : List Tree) → IfOk result (λ c. certificate_in trees c ≡ by_turned n m) }
-{
-    let mut lines = Vec::new(alloc);
-    lines.push(CertLine::Both(n))?;
-    lines.push(CertLine::Both(n + 2))?;
-    lines.push(CertLine::Sym(m))?;
-    Ok(closed_by(lines, CertLine::Clash(n + 5, n + 4)))
 }
 
 // The certificates of the three goals of an output.

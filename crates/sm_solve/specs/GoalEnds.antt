@@ -3,8 +3,8 @@ use Rattle.std.specs.Prelude.{◌≡◌, ℕ, List}
 use Rattle.sm_syntax.specs.text.Sorts.{Sorts}
 use Rattle.sm_term.specs.Assertions.{Assertion}
 use Rattle.sm_term.specs.Terms.{Tree}
-use Rattle.sm_solve.specs.declared.shut.GoalEnd.{GoalEnd}
-use Rattle.sm_solve.specs.declared.shut.GoalEnd.TheVariants as goal
+use Rattle.sm_solve.specs.declared.goal_end.GoalEnd.{GoalEnd}
+use Rattle.sm_solve.specs.declared.goal_end.GoalEnd.TheVariants as goal
 use Rattle.sm_judge.specs.Forms.{Walked, Closes}
 use Rattle.sm_solve.specs.Walking.{ClosesIn, TellsEnd, ShowsEnd}
 

@@ -25,13 +25,17 @@ mod branching;
 mod deciding;
 mod ending;
 mod first;
+mod goal_end;
+mod goals;
 mod grounding;
 mod node;
 mod reach;
 mod reading;
+mod same_forms;
 mod sharing;
 mod shut;
 mod solving;
+mod still_shut;
 mod visiting;
 mod walking;
 

@@ -1,6 +1,6 @@
 // The goals of a node, which share the terms and the classes of its facts.
-ghost use Rattle.std.specs.Prelude.{◌≡◌, ℕ, true, false, List, [], ◌∷◌, ◌++◌, length};
-ghost use Rattle.std.specs.Prelude.{IfOk, OnOk, OnErr, IfSome, IfNone};
+ghost use Rattle.std.specs.Prelude.{◌≡◌, true, false, List, length};
+ghost use Rattle.std.specs.Prelude.{IfOk, OnErr, IfSome, IfNone};
 ghost use Rattle.sm_syntax.specs.text.Sorts.{Sorts};
 ghost use Rattle.sm_term.specs.Assertions.{Assertion};
 ghost use Rattle.sm_term.specs.Formulas.{numbered, assertion_in, IsFormulaWithin};
@@ -9,26 +9,19 @@ ghost use Rattle.sm_term.specs.Tables.{TableValue, trees_in, sorts_in};
 ghost use Rattle.sm_term.specs.Terms.{Tree};
 ghost use Rattle.sm_term.specs.TableLaws.{Grows};
 ghost use Rattle.sm_solve.specs.Answers.{Tells, Certifies, terms_walked, NamesOnly};
-ghost use Rattle.sm_solve.specs.AtGoal.{IsAtGoal, HasRoom};
-ghost use Rattle.sm_theory.specs.TermsOfFormulas.{with_formulas};
-ghost use Rattle.sm_list.specs.Branches.{depth_of, with_parts, terms_of};
+ghost use Rattle.sm_list.specs.Branches.{depth_of};
 ghost use Rattle.sm_list.specs.Parts.{all_numbered, assertions_in, AreFormulasWithin};
-ghost use Rattle.sm_solve.specs.Sharing.{IsNode, room_for_goal};
-ghost use Rattle.sm_solve.specs.GoalEnds.{TellsGoal, ShowsGoal};
-ghost use Rattle.sm_judge.specs.Forms.{Closes};
-ghost use Rattle.sm_solve.specs.Walk.{walk, walk_from};
-ghost use Rattle.sm_solve.specs.Walking.{ClosesIn, TellsEnd, ShowsEnd};
+ghost use Rattle.sm_solve.specs.Sharing.{IsNode};
+ghost use Rattle.sm_solve.specs.Walk.{walk};
 
-use crate::ending::WalkEnd;
-use crate::first::walk_over;
+use crate::goal_end::renumbered_goal_end;
 use crate::grounding::{ground_of, with_room};
 use crate::reach::Reach;
-use crate::shut::{GoalEnd, Shut, renumbered_goal_end, shut_of, shut_tree};
+use crate::shut::{Shut, shut_of};
 use crate::solving::Answer;
-use sm_cert::CertTree;
 use sm_certify::{Base, count_named};
-use sm_judge::{add_linear_forms, linear_forms};
-use sm_list::{SharedTerms, add_parts, numbered_terms, shared_facts};
+use sm_judge::linear_forms;
+use sm_list::{SharedTerms, numbered_terms, shared_facts};
 use sm_num::LinForm;
 use sm_term::{Formula, TermTable, negate};
 use std::alloc::{AllocError, Global};
@@ -196,147 +189,6 @@ impl Node {
         // No term is there twice.
         table.len();
     }
-
-    // Whether the contrary of a goal can stand in its place with no fact at another: it has no
-    // parts, or none of a fact stand behind that place.
-    fn has_room(&self, contrary: &Formula) -> bool
-        requires { (table : TableValue) × (given : List Assertion) × IsNode table given self.now }
-        ensures { result ≡ true → (sorts : Sorts) (trees : List Tree) →
-            HasRoom self.now (assertion_in sorts trees (numbered contrary.now)) }
-    {
-        !is_conjunction(contrary) || self.place + 1 == self.facts.len()
-    }
-
-    // Puts the contrary of a goal in its place with its parts behind the facts, and its terms behind
-    // those of the facts.
-    fn open_goal(
-        &mut self,
-        alloc: Global,
-        table: &mut TermTable,
-        contrary: &Formula,
-    ) -> Result<(), AllocError>
-        requires within { IsFormulaWithin (length (trees_in table.old)) (numbered contrary.now) }
-        requires sorted { IsFormSorted (sorts_in table.old)
-            (assertion_in (sorts_in table.old) (trees_in table.old) (numbered contrary.now)) }
-        requires room { HasRoom self.old
-            (assertion_in (sorts_in table.old) (trees_in table.old) (numbered contrary.now)) }
-        requires node { (given : List Assertion) × IsNode table.old given self.old }
-        ensures goal { let form = assertion_in (sorts_in table.old) (trees_in table.old)
-            (numbered contrary.now) in
-            (given : List Assertion) → IsNode table.old given self.old →
-            OnOk result (IsAtGoal table.new given form self.new) }
-        ensures grows { Grows table.old table.new }
-    {
-        let fact = self.terms.add(alloc, table, contrary)?;
-        add_linear_forms(alloc, &self.terms.own, &mut self.forms)?;
-        self.facts[self.place] = fact;
-        if self.place + 1 == self.facts.len() {
-            add_parts(alloc, &mut self.facts, self.place)?;
-        }
-        Ok(())
-    }
-
-    // How the walk of the facts and the contrary of a goal ends.
-    fn end_of_goal(&mut self, alloc: Global, reach: Reach) -> Result<GoalEnd, AllocError>
-        requires { (table : TableValue) × (given : List Assertion) × (contrary : Assertion)
-            × IsAtGoal table given contrary self.old }
-        ensures tells { (table : TableValue) (given : List Assertion) (contrary : Assertion) →
-            IsAtGoal table given contrary self.old →
-            let all = with_parts (given ++ contrary ∷ []) in
-            IfOk result (λ e. TellsGoal (sorts_in table) (trees_in self.new.terms.own) e
-            (walk_from (sorts_in table) (terms_of all) reach 1001 0 all)) }
-        ensures shows { (table : TableValue) (given : List Assertion) (contrary : Assertion) →
-            IsAtGoal table given contrary self.old →
-            IfOk result (ShowsGoal (sorts_in table) (trees_in self.new.terms.own)
-            (given ++ contrary ∷ []) 1001) }
-        ensures stays { (table : TableValue) (given : List Assertion) (contrary : Assertion) →
-            IsAtGoal table given contrary self.old →
-            OnOk result (IsAtGoal table given contrary self.new) }
-    {
-        match self.shut_goal(alloc, reach)? {
-            Some(tree) => Ok(GoalEnd::Shut(tree)),
-            None => {
-                let end = self.walk_goal(alloc, reach)?;
-                Ok(GoalEnd::Walked(end))
-            }
-        }
-    }
-
-    // A certificate where the facts alone can't hold together, and that is told of them with the
-    // contrary, too: then the walk closes.
-    fn shut_goal(&mut self, alloc: Global, reach: Reach) -> Result<Option<CertTree>, AllocError>
-        requires { (table : TableValue) × (given : List Assertion) × (contrary : Assertion)
-            × IsAtGoal table given contrary self.old }
-        ensures tells { (table : TableValue) (given : List Assertion) (contrary : Assertion) →
-            IsAtGoal table given contrary self.old →
-            let all = with_parts (given ++ contrary ∷ []) in
-            IfOk result (λ o. IfSome o (λ t. (n : ℕ)
-            × (walk_from (sorts_in table) (terms_of all) reach 1001 0 all ≡ Closes n))) }
-        ensures shows { (table : TableValue) (given : List Assertion) (contrary : Assertion) →
-            IsAtGoal table given contrary self.old →
-            IfOk result (λ o. IfSome o (ClosesIn (sorts_in table) (trees_in self.new.terms.own)
-            (given ++ contrary ∷ []) 1001)) }
-        ensures stays { (table : TableValue) (given : List Assertion) (contrary : Assertion) →
-            IsAtGoal table given contrary self.old →
-            OnOk result (IsAtGoal table given contrary self.new) }
-    {
-        match &self.shut {
-            Some(shut) => shut_tree(
-                alloc,
-                shut,
-                &mut self.base,
-                &self.terms.own,
-                &self.forms,
-                &self.facts,
-                self.place,
-                reach,
-            ),
-            None => Ok(None),
-        }
-    }
-
-    // The walk of the facts and the contrary of a goal.
-    fn walk_goal(&mut self, alloc: Global, reach: Reach) -> Result<WalkEnd, AllocError>
-        requires { (table : TableValue) × (given : List Assertion) × (contrary : Assertion)
-            × IsAtGoal table given contrary self.old }
-        ensures tells { (table : TableValue) (given : List Assertion) (contrary : Assertion) →
-            IsAtGoal table given contrary self.old →
-            let all = with_parts (given ++ contrary ∷ []) in
-            IfOk result (λ e. TellsEnd (sorts_in table) (trees_in self.new.terms.own) e
-            (walk_from (sorts_in table) (terms_of all) reach 1001 0 all)) }
-        ensures shows { (table : TableValue) (given : List Assertion) (contrary : Assertion) →
-            IsAtGoal table given contrary self.old →
-            IfOk result (ShowsEnd (sorts_in table) (trees_in self.new.terms.own)
-            (given ++ contrary ∷ []) 1001) }
-        ensures stays { (table : TableValue) (given : List Assertion) (contrary : Assertion) →
-            IsAtGoal table given contrary self.old →
-            OnOk result (IsAtGoal table given contrary self.new) }
-    {
-        walk_over(
-            alloc,
-            &mut self.base,
-            &self.terms.own,
-            &self.forms,
-            &mut self.facts,
-            reach,
-        )
-    }
-
-    // Takes the contrary of a goal out of its place and its parts from behind the facts, and its
-    // terms from behind those of the facts.
-    fn close_goal(&mut self, count: usize, len: u64)
-        requires { (table : TableValue) × (given : List Assertion) × (contrary : Assertion)
-            × IsAtGoal table given contrary self.old × (length (room_for_goal given) ≡ count)
-            × (length (with_formulas (room_for_goal given) []) ≡ len) }
-        ensures { (table : TableValue) (given : List Assertion) (contrary : Assertion) →
-            IsAtGoal table given contrary self.old → length (room_for_goal given) ≡ count →
-            length (with_formulas (room_for_goal given) []) ≡ len → IsNode table given self.new }
-    {
-        self.facts.truncate(count);
-        self.facts[self.place] = Formula::Yes;
-        self.terms.cut(len);
-        self.forms.truncate(len as usize);
-    }
 }
 
 // The node with whether its facts can't hold together, as the visit of their branch finds within so
@@ -359,8 +211,8 @@ fn with_shut(alloc: Global, node: Node, steps: u64) -> Result<Node, AllocError>
     Ok(node)
 }
 
-// Whether a formula is a conjunction.
-fn is_conjunction(f: &Formula) -> bool
+/// Whether a formula is a conjunction.
+pub(crate) fn is_conjunction(f: &Formula) -> bool
     ensures { result ≡ false → (sorts : Sorts) (trees : List Tree) →
         depth_of (assertion_in sorts trees (numbered f.now)) ≡ 0 }
 {

@@ -3,7 +3,7 @@ use Rattle.std.proofs.Common.{◌≡◌, ℕ, ◌+◌, ◌-◌, ◌*◌, List, [
 use Rattle.sm_term.specs.Tables.{trees_in, sorts_in}
 use Rattle.sm_plan.proofs.TablesWiden.{widens_same, widens_twice}
 use Rattle.sm_expand.specs.Views.{dues_in}
-use Rattle.sm_houdini.specs.declared.end_jobs.RunEnd.{RunEnd}
+use Rattle.sm_houdini.specs.declared.run_ends.RunEnd.{RunEnd}
 use Rattle.sm_houdini.specs.Certified.{asked}
 use Rattle.sm_houdini.specs.Collected.{AreCollected}
 use Rattle.sm_houdini.specs.Dealing.{placed}

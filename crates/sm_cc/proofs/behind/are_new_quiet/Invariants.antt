@@ -1,8 +1,0 @@
--- The first elements are quiet.
-use Rattle.std.proofs.Common.{◌≡◌, ◌<◌, ℕ, slice_get, Some}
-use Rattle.sm_cc.specs.declared.row.Row.{Row}
-use Rattle.sm_cc.specs.Looked.{IsQuietBehind}
-use Rattle.sm_cc.proofs.behind.are_new_quiet.Given as goal
-
-abbrev pub invariant-loop-r : goal.invariant-loop-r
-invariant-loop-r l = (i : ℕ) (r : Row) → i < l.r-index → slice_get l.more i ≡ Some r → IsQuietBehind l.c l.roots l.apart r.element

@@ -1,8 +1,0 @@
--- The first elements are quiet.
-use Rattle.std.proofs.Common.{◌≡◌, ◌<◌, ℕ, slice_get, Some}
-use Rattle.sm_cc.specs.declared.row.Row.{Row}
-use Rattle.sm_cc.specs.Looked.{IsQuiet}
-use Rattle.sm_cc.proofs.behind.are_old_quiet.Given as goal
-
-abbrev pub invariant-loop-i : goal.invariant-loop-i
-invariant-loop-i l = (i : ℕ) (r : Row) → i < l.i → slice_get l.c.rows.items i ≡ Some r → IsQuiet l.c l.roots l.apart i r.element

@@ -1,9 +1,0 @@
--- The labels of the first terms.
-use Rattle.std.proofs.Common.{◌≡◌, map, take}
-use Rattle.sm_term.specs.declared.term.TermId.{TermId}
-use Rattle.sm_cc.specs.LabelsAt.{label_at}
-use Rattle.sm_cc.specs.Positions.{place_at}
-use Rattle.sm_cc.proofs.classes.labels_of.Given as goal
-
-abbrev pub invariant-loop-t : goal.invariant-loop-t
-invariant-loop-t l = l.list.items ≡ map (λ (t : TermId). label_at l.labels (place_at l.positions t.0)) (take l.t-index l.terms)

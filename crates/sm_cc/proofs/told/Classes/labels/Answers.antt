@@ -1,0 +1,25 @@
+-- By the labels of places.
+use Rattle.std.proofs.Common.{◌≡◌, ℕ, List, length, map, ap, sym, subst, ◌∙◌}
+use Rattle.std.proofs.lemmas.Result.{IfOk-weaker}
+use Rattle.sm_term.specs.declared.term.TermId.{TermId}
+use Rattle.sm_term.specs.Tables.{trees_in, AreBefore}
+use Rattle.sm_cc.specs.Labels.{AreTermLabels}
+use Rattle.sm_cc.specs.LabelsAt.{label_at}
+use Rattle.sm_cc.specs.Positions.{place_at}
+use Rattle.sm_cc.specs.Views.{ClassesValue}
+use Rattle.sm_cc.proofs.LabelsLemmas.{term_labels_tell}
+use Rattle.sm_cc.proofs.told.Classes.labels.Goals as goal
+
+pub returns : goal.returns
+returns c =
+    let inside = c.self.inside in
+    let v : ClassesValue = record { table = inside.table.now; terms = inside.terms.now; given = inside.given.items } in
+    let labels = c.in_ok-labels.labels.items in
+    let all = λ (ls : List ℕ). map (λ (t : TermId). label_at ls (place_at inside.positions t.0)) inside.terms.now in
+    let before = subst (λ (w : ClassesValue). AreBefore (length (trees_in w.table)) w.terms) (sym c.self.view_is) c.requires in
+    IfOk-weaker c.labels_of.result (λ l. l.items ≡ all c.deref.result.now) (λ l. AreTermLabels c.args.self.now l.items)
+    (λ l is.
+    subst (λ (w : ClassesValue). AreTermLabels w l.items) c.self.view_is
+    (term_labels_tell v inside.positions inside.places c.self.invariant before labels l.items c.in_ok-labels.ensures
+    (is ∙ ap all c.deref.ensures.value)))
+    c.labels_of.ensures

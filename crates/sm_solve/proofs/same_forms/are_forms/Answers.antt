@@ -1,0 +1,14 @@
+use Rattle.std.proofs.Common.{sym, ap, ◌∙◌, subst}
+use Rattle.sm_num.specs.Combining.{Fits}
+use Rattle.sm_term.specs.Tables.{trees_in, sorts_in}
+use Rattle.sm_judge.specs.Refutations.{GivesForms}
+use Rattle.sm_judge.specs.Seeing.{seen_in}
+use Rattle.sm_judge.specs.Forms.{forms_of}
+use Rattle.sm_solve.proofs.same_forms.are_forms.Goals as goal
+
+pub returns-in-Ok : goal.returns-in-Ok
+returns-in-Ok c = λ equal apart labels same.
+    let trees = trees_in c.args.table.now in
+    let b = seen_in (sorts_in c.args.table.now) trees trees c.args.facts.now equal apart in
+    let told = subst (GivesForms b (forms_of b)) c.in-Ok.is (c.forms_by_labels.ensures equal apart labels) in
+    told.0 ∙ ap Fits (sym c.deref.ensures.value ∙ c.are_same.ensures same)

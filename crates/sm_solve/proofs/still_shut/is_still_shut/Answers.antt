@@ -1,0 +1,35 @@
+use Rattle.std.proofs.Common.{ℕ, List, length, ap, sym, subst, ◌∙◌}
+use Rattle.sm_num.specs.Combining.{Fits}
+use Rattle.sm_num.specs.Forms.{Linear}
+use Rattle.sm_term.specs.Tables.{trees_in, sorts_in}
+use Rattle.sm_list.specs.Branches.{with_parts}
+use Rattle.sm_certify.specs.Given.{branch_of}
+use Rattle.sm_certify.specs.Given.{seen_by}
+use Rattle.sm_list.specs.Parts.{all_numbered, assertions_in}
+use Rattle.sm_solve.specs.Shut.{IsShutBy}
+use Rattle.sm_judge.specs.Forms.{by_forms}
+use Rattle.sm_solve.proofs.ShutLemmas.{closed_walks, closed_below, sums_later}
+use Rattle.sm_solve.proofs.still_shut.is_still_shut.Goals as goal
+
+pub returns-in-Classes-clause-closes : goal.returns-in-Classes-clause-closes
+returns-in-Classes-clause-closes c = λ first given reach go same is below shut.
+    let table = c.args.table.now in
+    let all = assertions_in (sorts_in table) (trees_in table) (all_numbered c.args.facts.now) in
+    let steps = c.args.shut.now.steps in
+    let closed = subst (IsShutBy steps (seen_by (sorts_in table) first (with_parts given))) c.in-Classes.is is.by in (
+      1,
+      closed_walks go reach (branch_of table c.args.facts.now)
+          (closed_below (sorts_in table) first (trees_in table) (with_parts given) all below closed),
+    )
+
+pub returns-in-Forms-clause-closes : goal.returns-in-Forms-clause-closes
+returns-in-Forms-clause-closes c = λ first given reach go same is below.
+    let table = c.args.table.now in
+    let trees = trees_in table in
+    let count = c.in-Forms._count in
+    let known = c.in-Forms.known.items in
+    let by = subst (λ (n : ℕ). IsShutBy n (seen_by (sorts_in table) first (with_parts given)) c.args.shut.now.by) (sym same) is.by in
+    let told = subst (IsShutBy reach.steps (seen_by (sorts_in table) first (with_parts given))) c.in-Forms.is by in
+    let sums = sums_later reach.steps count first trees (Fits known) below.longer told.1 in
+    c.is_shut_by_forms.ensures.closes reach count go
+    (λ next. ap (λ (fs : List (Linear ℕ)). by_forms reach.steps 1 (length trees) (Fits fs) next) c.deref.ensures.value ∙ sums next)
