@@ -47,12 +47,7 @@ fn fresh_writer(alloc: Global) -> Writer
 }
 
 // The file of lines, behind the version line, which is known once all lines are.
-fn finished(
-    alloc: Global,
-    lines: &[u8],
-    exact: bool,
-    assumes: bool,
-) -> Result<Vec<u8>, AllocError>
+fn finished(alloc: Global, lines: &[u8], exact: bool, assumes: bool) -> Result<Vec<u8>, AllocError>
     ensures { IfOk result (λ text. text.items
         ≡ line_text (Header (version_where exact assumes)) ++ lines.now) }
 {

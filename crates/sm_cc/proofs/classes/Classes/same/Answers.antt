@@ -1,10 +1,10 @@
 -- By the places.
 use Rattle.std.proofs.Common.{◌↔◌, ◌<◌, IsTrue, length, sym, subst}
 use Rattle.sm_term.specs.Tables.{trees_in, tree_at}
-use Rattle.sm_cc.specs.Classes.{Apart}
+use Rattle.sm_cc.specs.Classes.{Same}
 use Rattle.sm_cc.specs.Views.{ClassesValue, setting_of}
-use Rattle.sm_cc.proofs.ClassesLemmas.{apart_of_their_places}
-use Rattle.sm_cc.proofs.told.Classes.apart.Goals as goal
+use Rattle.sm_cc.proofs.ClassesLemmas.{same_of_places}
+use Rattle.sm_cc.proofs.classes.Classes.same.Goals as goal
 
 pub returns : goal.returns
 returns c =
@@ -14,9 +14,8 @@ returns c =
     let u = c.args.u in
     let left = subst (λ (w : ClassesValue). t.0 < length (trees_in w.table)) (sym c.self.view_is) c.requires.left in
     let right = subst (λ (w : ClassesValue). u.0 < length (trees_in w.table)) (sym c.self.view_is) c.requires.right in
-    let told = apart_of_their_places v inside.positions inside.places c.self.invariant t u left right c.apart.result c.place.result
-    c.place-2.result
-    c.place.ensures c.place-2.ensures c.apart.ensures in
-    subst (λ (w : ClassesValue). IsTrue c.apart.result ↔ Apart (setting_of w) (tree_at (trees_in w.table) t.0)
+    let told = same_of_places v inside.positions inside.places c.self.invariant t u left right c.same.result c.place.result c.place-2.result
+    c.place.ensures c.place-2.ensures c.same.ensures in
+    subst (λ (w : ClassesValue). IsTrue c.same.result ↔ Same (setting_of w) (tree_at (trees_in w.table) t.0)
     (tree_at (trees_in w.table) u.0))
     c.self.view_is told

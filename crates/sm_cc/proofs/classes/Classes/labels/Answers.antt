@@ -8,7 +8,7 @@ use Rattle.sm_cc.specs.LabelsAt.{label_at}
 use Rattle.sm_cc.specs.Positions.{place_at}
 use Rattle.sm_cc.specs.Views.{ClassesValue}
 use Rattle.sm_cc.proofs.LabelsLemmas.{term_labels_tell}
-use Rattle.sm_cc.proofs.told.Classes.labels.Goals as goal
+use Rattle.sm_cc.proofs.classes.Classes.labels.Goals as goal
 
 pub returns : goal.returns
 returns c =

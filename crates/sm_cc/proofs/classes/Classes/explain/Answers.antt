@@ -7,7 +7,7 @@ use Rattle.sm_cc.specs.Explained.{Explain, AreLinesOf}
 use Rattle.sm_cc.specs.Explaining.{AreStepsIn, step_line}
 use Rattle.sm_cc.specs.Views.{ClassesValue, setting_of, trees_of, numbers_of, equation_of}
 use Rattle.sm_cc.proofs.LinesLemmas.{places_of_same, steps_in, lines_explain}
-use Rattle.sm_cc.proofs.told.Classes.explain.Goals as goal
+use Rattle.sm_cc.proofs.classes.Classes.explain.Goals as goal
 
 pub explain-requires-clause-same : goal.explain-requires-clause-same
 explain-requires-clause-same c =
