@@ -154,6 +154,8 @@ row check check "$place/task" "$place/found"
 row 'check, 3 workers' check "$place/task" "$place/found" --workers 3
 row 'check --deeper' check "$place/open" "$place/found" --deeper
 row 'check --deeper, proof' check "$place/turned" "$place/found" --deeper
+row 'check --why' check "$place/open" "$place/found" --why
+row 'check --why, table' check "$place/open" "$place/found" --deeper --why
 row batch batch "$place/list" --steps 1000
 row suggest suggest "$place/task" --steps 1000
 row 'print --copy' print "$place/task" --copy candidate

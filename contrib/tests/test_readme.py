@@ -44,7 +44,7 @@ class TopPage(unittest.TestCase):
         kept = [(example(name + "/command").strip(), example(name + "/output"))
                 for name in os.listdir(EXAMPLES) if not name.startswith(".")]
         found = sessions("README.md")
-        self.assertEqual(len(found), 8)
+        self.assertEqual(len(found), 9)
         for commands, printed in found:
             words = re.sub(r"^cd \S+(\n| && )", "", commands)
             self.assertTrue(any(words in command and printed in output

@@ -1,12 +1,12 @@
 -- A told file is one list, or is refused as one in one way, without a fault.
-use Rattle.std.proofs.Common.{◌≡◌, ◌≢◌, ◌≤◌, ◌+◌, ◌⊎◌, inl, inr, ℕ, suc, Bool, true, false, if◌then◌else◌, Option, Some, None, List, [], ◌∷◌, length, codes, refl, sym, ap, subst, ◌∙◌, arith}
+use Rattle.std.proofs.Common.{◌≡◌, ◌≢◌, ◌≤◌, ◌+◌, inl, inr, ℕ, suc, Bool, true, false, if◌then◌else◌, Option, Some, None, List, [], ◌∷◌, length, codes, refl, sym, ap, ◌∙◌, arith}
 use Rattle.std.proofs.Common.{◌&&◌, nat_le}
 use Rattle.std.proofs.lemmas.Bool.{leb-true}
 use Rattle.std.specs.Str.{is_utf8}
 use Rattle.sm_io.specs.Causes.{Rose}
 use Rattle.sm_io.specs.Files.{Known, untold}
 use Rattle.sm_proof.specs.Verdicts.{lines_in}
-use Rattle.sm_answers.specs.Lists.{bad_line, bad_line_after, bad_list_line, is_name, is_short, names_in, GivesList, GivesNoList, IsList, IsNoList}
+use Rattle.sm_answers.specs.Lists.{bad_line, bad_line_after, bad_list_line, is_name, is_short, names_in, GivesList, GivesNoList, IsList}
 use Rattle.sm_answers.specs.declared.status.Status.{Status}
 use Rattle.sm_answers.proofs.AnswerUnique.{Same, says_same, read_same, no_bytes_same, bytes_or_none}
 

@@ -89,7 +89,7 @@ check_same t effort s u l m a b =
     let one : a.outcome ≡ b.outcome = outcome_one t (reach_of effort) effort.turns a.outcome b.outcome a.found b.found in
     outcome_same t b.outcome s u l m (subst (λ (o : Outcome (ℕ × Verdict)). SaysOutcome t o s l) one a.says) b.says
 
--- an answer that isn't a fault to write, where neither inputs beyond the trials nor words behind an answer are asked for
+-- an answer that isn't a fault to write, where neither `--deeper` nor `--why` is asked for
 no_write : (t : Parts) (effort : Effort) (s : Status) (l : List ℕ) → (effort.deeper ≡ false) × (effort.why ≡ false) → s ≢ WriteFault
     → AnswersTask t effort s l → AnswersCheck t effort s l
 no_write t effort s l plain no_fault (inl (inl (why, inl a))) = a

@@ -15,7 +15,7 @@ use Rattle.sm_answers.specs.declared.status.Status.{Status}
 use Rattle.sm_answers.specs.declared.status.Status.TheVariants.{Accepted, Conflict, Unknown}
 use Rattle.sm_commands.specs.Check.{reach_of, ShowsFrom}
 use Rattle.sm_commands.specs.Deeper.{AnswersDeeper}
-use Rattle.sm_commands.specs.Grounds.{IsShownBy, RestsOn, ComesToStop}
+use Rattle.sm_commands.specs.Grounds.{IsShownBy, RestsOn}
 use Rattle.sm_commands.specs.Views.{ComesWith}
 use Rattle.sm_commands.specs.Why.{stop_in, AnswersWhy, SaysWhy}
 use Rattle.sm_commands.specs.declared.ground.Ground.{Ground}

@@ -40,7 +40,7 @@ with_cache cache (explain task input turns) = explain task input turns
 with_cache cache (batch list others effort) = batch list cache effort
 with_cache cache (about what) = about what
 
--- neither inputs beyond the trials nor words behind an answer are asked for
+-- nothing beyond the stated search is asked for: neither `--deeper` nor `--why`
 abbrev pub IsPlain : Asked → Type 0
 IsPlain (check task proof effort) = (effort.deeper ≡ false) × (effort.why ≡ false)
 IsPlain (verify task proof workers) = Unit {0}
@@ -52,7 +52,7 @@ IsPlain (explain task input turns) = Unit {0}
 IsPlain (batch list cache effort) = Unit {0}
 IsPlain (about what) = Unit {0}
 
--- the words don't ask for them
+-- the words ask for nothing beyond the stated search
 abbrev pub AskPlainly : Words → Type 0
 AskPlainly words = (ask : Asked) → asked words ≡ Some ask → IsPlain ask
 
@@ -64,8 +64,8 @@ AskAlike words others =
     × (asked others ≡ Some (with_cache cache (with_workers workers ask))))
 
 -- two answers to words that ask alike and told files, each without a fault to read or to write, are
--- equal, where neither inputs beyond the trials nor words behind an answer are asked for: a number of
--- workers, or of tasks whose answers are kept, changes no byte
+-- equal, where the words ask for nothing beyond the stated search, neither `--deeper` nor `--why`: a
+-- number of workers, or of tasks whose answers are kept, changes no byte
 abbrev pub OneAnswer : Type 0
 OneAnswer =
     (words others : Words) (files : Files) (before now earlier later : ℕ)
