@@ -1,4 +1,4 @@
-"""What was tried as a user and as an operator prints what docs/trust.md says."""
+"""What was tried as a user and as an operator prints what docs/trust.md says of it."""
 import os
 import re
 from typing import List, Tuple
