@@ -25,7 +25,7 @@ none_is_some f e = cc
 
 -- ---- a text that is read
 
-pub read_complete : (text : List ℕ) (t : Parts) → IsInGrammar text t → IsComplete text
+read_complete : (text : List ℕ) (t : Parts) → IsInGrammar text t → IsComplete text
 read_complete text t p = record {
   tokens = p.tokens;
   whole = record { spelled = map plain (symbols_of text); grammar = (t, p.grammar); all = unmarked-plain (symbols_of text) };
@@ -35,15 +35,21 @@ read_complete text t p = record {
 whole_viable : (ts : List Symbol) → IsWhole AreTasks ts → IsViable AreTasks ts
 whole_viable ts w = record { spelled = w.spelled; grammar = w.grammar; more = []; begins = w.all ∙ sym (append-nil ts) }
 
-pub read_begun : (text : List ℕ) (t : Parts) → IsInGrammar text t → IsBegun text
+read_begun : (text : List ℕ) (t : Parts) → IsInGrammar text t → IsBegun text
 read_begun text t p =
     let c = read_complete text t p in
     record { tokens = c.tokens; viable = whole_viable (symbols_of text) c.whole }
 
+pub begun_decides : (text : List ℕ) (t : Parts) → IsInGrammar text t → Decides true (IsBegun text)
+begun_decides text t p = (λ same. read_begun text t p, λ begun. refl)
+
+pub complete_decides : (text : List ℕ) (t : Parts) → IsInGrammar text t → Decides true (IsComplete text)
+complete_decides text t p = (λ same. read_complete text t p, λ complete. refl)
+
 -- ---- a text that is refused
 
 -- a text with a lexical fault has no tokens to its end
-pub no_tokens : (text : List ℕ) (f : LexFault) → (lexed text).1 ≡ Some f → (lexed text).1 ≡ None → ⊥
+no_tokens : (text : List ℕ) (f : LexFault) → (lexed text).1 ≡ Some f → (lexed text).1 ≡ None → ⊥
 no_tokens text f is none = none_is_some f (sym none ∙ is)
 
 -- each token stands before the end
