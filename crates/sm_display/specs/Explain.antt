@@ -15,8 +15,8 @@ use Rattle.sm_answers.specs.declared.status.Status.TheVariants.{Accepted}
 use Rattle.sm_display.specs.Shown.{misfit_of, offset_of, programs_text, start_heading}
 use Rattle.sm_display.specs.Shown.{ShowsOffset, ShowsRun, ShowsTokens}
 
--- the bytes are no task: the line says why, and the place at which they are refused is shown, with what
--- could stand there
+-- the bytes are no task: the line says why, and the place at which they are refused is shown, with
+-- what could stand there
 pub record ShowsNoTask (bytes : List ℕ) (status : Status) (text : List ℕ) : Type 0 where
   pub line : List ℕ
   pub refuses : IsNoTask bytes status line

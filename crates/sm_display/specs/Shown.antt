@@ -45,7 +45,7 @@ abbrev pub ShowsOffset : List ℕ → Option ℕ → List ℕ → Type 0
 ShowsOffset bytes None lines = lines ≡ []
 ShowsOffset bytes (Some offset) lines = IsShown bytes offset lines
 
--- the offset at which nothing stands that could stand there; none where a token could that nests too
+-- the offset at which nothing stands that could stand there; none where what stands there nests too
 -- deep, or where the cause is a condition
 abbrev pub misfit_of : TaskError → Option ℕ
 misfit_of (BadByte place) = Some place
@@ -64,8 +64,8 @@ misfit_of TooDeep = None
 misfit_of TooMany = None
 misfit_of Memory = None
 
--- the line of what could stand at an offset of a text, behind what stands before it; none where there
--- is no offset
+-- the line of what could stand at an offset of a text, behind what stands before it; none where
+-- there is no offset
 abbrev pub ShowsTokens : List ℕ → Option ℕ → List ℕ → Type 0
 ShowsTokens bytes None line = line ≡ []
 ShowsTokens bytes (Some offset) line = IsFollowLine (take offset bytes) line
