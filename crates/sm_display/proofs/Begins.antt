@@ -14,7 +14,7 @@ pub begins_refused : BeginsAsRefused
 begins_refused file before now status text (inl none) = (text, [], inl none, sym (append-nil text))
 begins_refused file before now status text (inr r) = (
   r.refuses.line,
-  r.refuses.place,
+  r.refuses.place ++ r.refuses.tokens,
   inr (record { bytes = r.bytes; read = r.read; refuses = r.refuses.refuses }),
   r.refuses.printed,
 )

@@ -1,5 +1,5 @@
 -- Two answers of `explain` to the same told files, each without a fault, are equal.
-use Rattle.std.proofs.Common.{◌≡◌, ◌≢◌, ◌++◌, inl, inr, ℕ, List, Option, Some, None, Result, Ok, Err, codes, refl, sym, ap, subst, ◌∙◌}
+use Rattle.std.proofs.Common.{◌≡◌, ◌≢◌, ◌++◌, inl, inr, ℕ, List, Option, Some, None, Result, Ok, Err, codes, take, refl, sym, ap, subst, ◌∙◌}
 use Rattle.sm_eval.specs.StoredValues.{meaning}
 use Rattle.sm_io.specs.Causes.{Rose}
 use Rattle.sm_io.specs.Files.{Known, untold}
@@ -14,12 +14,14 @@ use Rattle.sm_task.specs.declared.error.TaskError.{TaskError}
 use Rattle.sm_task.proofs.RefusalUnique.{one_refusal}
 use Rattle.sm_explain.specs.Places.{place_text}
 use Rattle.sm_explain.proofs.PlacesSound.{place_one}
+use Rattle.sm_follow.proofs.Lines.{follow_line_one}
 use Rattle.sm_answers.specs.File.{GivesTask}
 use Rattle.sm_answers.specs.declared.status.Status.{Status}
 use Rattle.sm_answers.proofs.AnswerUnique.{Same, says_same, bytes_or_none, input_or_none, no_bytes_same, no_task_same, read_same}
 use Rattle.sm_answers.proofs.AnswerUnique.{refused_input_same, store_same, task_or_none, task_same, verdict_same}
 use Rattle.sm_display.specs.Explain.{Explains, ExplainsInput, ExplainsNoTask, ExplainsReplay, ExplainsRun, ShowsNoTask}
-use Rattle.sm_display.specs.Shown.{ends_text, offset_of, programs_text, start_heading, ShowsEnds, ShowsOffset, ShowsRun}
+use Rattle.sm_display.specs.Shown.{ends_text, misfit_of, offset_of, programs_text, start_heading}
+use Rattle.sm_display.specs.Shown.{ShowsEnds, ShowsOffset, ShowsRun, ShowsTokens}
 use Rattle.sm_display.proofs.Begins.{begins_refused}
 use Rattle.sm_display.proofs.CellsUnique.{start_one, table_one}
 
@@ -29,6 +31,10 @@ offset_same : (xs : List ℕ) (offset : Option ℕ) (l m : List ℕ) → ShowsOf
 offset_same xs None l m p q = p ∙ sym q
 offset_same xs (Some k) l m p q = p.is ∙ ap (place_text xs k) (place_one xs k p.place q.place p.stands q.stands) ∙ sym q.is
 
+tokens_same : (xs : List ℕ) (offset : Option ℕ) (l m : List ℕ) → ShowsTokens xs offset l → ShowsTokens xs offset m → l ≡ m
+tokens_same xs None l m p q = p ∙ sym q
+tokens_same xs (Some k) l m p q = follow_line_one (take k xs) l m p q
+
 shown_same : (xs : List ℕ) (s u : Status) (t v : List ℕ) → ShowsNoTask xs s t → ShowsNoTask xs u v → Same s t u v
 shown_same xs s u t v f g =
     let line = no_task_same xs s u f.line g.line f.refuses g.refuses in
@@ -36,9 +42,13 @@ shown_same xs s u t v f g =
     one_refusal xs f.refuses.error g.refuses.error f.refuses.first g.refuses.first in
     let place : f.place ≡ g.place =
     offset_same xs (offset_of g.refuses.error) f.place g.place
-    (subst (λ (e : TaskError). ShowsOffset xs (offset_of e) f.place) error f.shows) g.shows in (
+    (subst (λ (e : TaskError). ShowsOffset xs (offset_of e) f.place) error f.shows) g.shows in
+    let tokens : f.tokens ≡ g.tokens =
+    tokens_same xs (misfit_of g.refuses.error) f.tokens g.tokens
+    (subst (λ (e : TaskError). ShowsTokens xs (misfit_of e) f.tokens) error f.could) g.could in (
       line.0,
-      f.printed ∙ ap (λ (x : List ℕ). x ++ f.place) line.1 ∙ ap (λ (x : List ℕ). g.line ++ x) place ∙ sym g.printed,
+      f.printed ∙ ap (λ (x : List ℕ). x ++ (f.place ++ f.tokens)) line.1 ∙ ap (λ (x : List ℕ). g.line ++ (x ++ f.tokens)) place
+          ∙ ap (λ (x : List ℕ). g.line ++ (g.place ++ x)) tokens ∙ sym g.printed,
     )
 
 none_same : (file : Known) (b n c m : ℕ) (s u : Status) (t v : List ℕ) → file ≢ untold → (¬ Rose b n) → (¬ Rose c m)

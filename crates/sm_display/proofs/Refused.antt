@@ -1,5 +1,5 @@
 -- Bytes that are no task: the offset at which they are refused lies in the text, and the answer to them.
-use Rattle.std.proofs.Common.{◌≡◌, ◌≢◌, ◌≤◌, ◌+◌, ◌-◌, ◌++◌, inl, inr, ℕ, zero, suc, List, [], ◌∷◌, Option, Some, None, length, refl, sym, ap, subst, ◌∙◌, arith}
+use Rattle.std.proofs.Common.{◌≡◌, ◌≢◌, ◌≤◌, ◌+◌, ◌-◌, ◌++◌, inl, inr, ℕ, zero, suc, List, [], ◌∷◌, Option, Some, None, length, take, refl, sym, ap, subst, ◌∙◌, append_assoc, arith}
 use Rattle.sm_syntax.specs.declared.symbol.Symbol.{Symbol}
 use Rattle.sm_syntax.specs.declared.token.LexFault.{LexFault}
 use Rattle.sm_syntax.specs.declared.token.Token.{Token}
@@ -9,16 +9,17 @@ use Rattle.sm_syntax.specs.text.Symbols.{names_of}
 use Rattle.sm_syntax.specs.text.Tokens.{by_front, front_of, lexed, lexed_after, lexed_from, Front, Gap, Piece, Fault, Lexed}
 use Rattle.sm_text.specs.declared.error.TextError.{TextError}
 use Rattle.sm_text.specs.declared.error.TextError.TheVariants as text
-use Rattle.sm_text.specs.parsing.Places.{AreTasks, IsFault, Stands, at_end, at_token}
+use Rattle.sm_text.specs.parsing.Places.{AreTasks, IsFault, IsFirstFault, Stands, at_end, at_token}
 use Rattle.sm_text.specs.parsing.Places.Sources.{whole_text}
 use Rattle.sm_task.specs.Errors.{error_of, from_text, IsRefusedWith}
 use Rattle.sm_task.specs.declared.error.TaskError.{TaskError}
 use Rattle.sm_task.specs.declared.error.TaskError.TheVariants as no_task
 use Rattle.sm_task.proofs.RefusalUnique.{task_or_refusal}
+use Rattle.sm_follow.specs.Following.{EndsAtFault}
 use Rattle.sm_answers.specs.Lines.{refusal_line}
 use Rattle.sm_answers.specs.declared.status.Status.TheVariants.{Refused}
 use Rattle.sm_display.specs.Explain.{ShowsNoTask}
-use Rattle.sm_display.specs.Shown.{offset_of, ShowsOffset}
+use Rattle.sm_display.specs.Shown.{misfit_of, offset_of, ShowsOffset, ShowsTokens}
 
 -- ---- places lie in the text
 
@@ -105,12 +106,61 @@ offset_within bytes e k (inl fault) is =
 offset_within bytes e k (inr condition) is =
     absurd (none_some k (sym (no_offset condition.0) ∙ sym (ap offset_of condition.2) ∙ is))
 
+-- ---- what stands before
+
+-- where nothing stands that could, the text before goes up to the first fault
+misfit_front : (bytes : List ℕ) (x : TextError) (k : ℕ) → IsFirstFault AreTasks (whole_text bytes) x → misfit_of (from_text x) ≡ Some k
+    → EndsAtFault (take k bytes)
+misfit_front bytes (text.BadByte place) k first is =
+    record { bytes = bytes; error = text.BadByte place; first = first; front = ap (λ (n : ℕ). take n bytes) (sym (some_one place k is)) }
+misfit_front bytes (text.WideNumber place) k first is =
+    record { bytes = bytes; error = text.WideNumber place; first = first; front = ap (λ (n : ℕ). take n bytes) (sym (some_one place k is)) }
+misfit_front bytes (text.BadToken place) k first is =
+    record { bytes = bytes; error = text.BadToken place; first = first; front = ap (λ (n : ℕ). take n bytes) (sym (some_one place k is)) }
+misfit_front bytes (text.Expected place) k first is =
+    record { bytes = bytes; error = text.Expected place; first = first; front = ap (λ (n : ℕ). take n bytes) (sym (some_one place k is)) }
+misfit_front bytes (text.Nested place) k first is = absurd (none_some k is)
+misfit_front bytes text.Memory k first is = absurd (none_some k is)
+
+-- a condition has no such place
+no_misfit : (r : Refusal) → misfit_of (error_of r) ≡ None
+no_misfit (refusal.DoubleHole section hole) = refl
+no_misfit (refusal.HoleInFilling section hole) = refl
+no_misfit (refusal.UnknownHole section hole) = refl
+no_misfit (refusal.MissingFilling section hole) = refl
+no_misfit (refusal.DoubleName x) = refl
+no_misfit (refusal.UnknownName x) = refl
+no_misfit (refusal.WrongSort x) = refl
+no_misfit refusal.TooMany = refl
+no_misfit refusal.TooDeep = refl
+
+pub front_at_fault : (bytes : List ℕ) (e : TaskError) (k : ℕ) → IsRefusedWith bytes e → misfit_of e ≡ Some k → EndsAtFault (take k bytes)
+front_at_fault bytes e k (inl fault) is = misfit_front bytes fault.0 k fault.1 (sym (ap misfit_of fault.2) ∙ is)
+front_at_fault bytes e k (inr condition) is =
+    absurd (none_some k (sym (no_misfit condition.0) ∙ sym (ap misfit_of condition.2) ∙ is))
+
+misfit_text : (x : TextError) (k : ℕ) → misfit_of (from_text x) ≡ Some k → offset_of (from_text x) ≡ Some k
+misfit_text (text.BadByte place) k is = is
+misfit_text (text.WideNumber place) k is = is
+misfit_text (text.BadToken place) k is = is
+misfit_text (text.Expected place) k is = is
+misfit_text (text.Nested place) k is = absurd (none_some k is)
+misfit_text text.Memory k is = is
+
+pub misfit_within : (bytes : List ℕ) (e : TaskError) (k : ℕ) → IsRefusedWith bytes e → misfit_of e ≡ Some k → k ≤ length bytes
+misfit_within bytes e k (inl fault) is =
+    offset_within bytes e k (inl fault)
+    (ap offset_of fault.2 ∙ misfit_text fault.0 k (sym (ap misfit_of fault.2) ∙ is))
+misfit_within bytes e k (inr condition) is =
+    absurd (none_some k (sym (no_misfit condition.0) ∙ sym (ap misfit_of condition.2) ∙ is))
+
 -- ---- the answer
 
-pub shows_no_task : (bytes : List ℕ) (e : TaskError) (names : List (List ℕ)) (line place text : List ℕ) → e ≢ no_task.Memory
-    → IsRefusedWith bytes e → names ≡ names_of bytes → line ≡ refusal_line names e → ShowsOffset bytes (offset_of e) place
-    → text ≡ line ++ place → ShowsNoTask bytes Refused text
-shows_no_task bytes e names line place text some first same is shown printed = record {
+pub shows_no_task : (bytes : List ℕ) (e : TaskError) (names : List (List ℕ)) (line place tokens with_place text : List ℕ)
+    → e ≢ no_task.Memory → IsRefusedWith bytes e → names ≡ names_of bytes → line ≡ refusal_line names e
+    → ShowsOffset bytes (offset_of e) place → ShowsTokens bytes (misfit_of e) tokens → with_place ≡ line ++ place
+    → text ≡ with_place ++ tokens → ShowsNoTask bytes Refused text
+shows_no_task bytes e names line place tokens with_place text some first same is shown could one two = record {
   line = line;
   refuses = record {
     error = e;
@@ -121,5 +171,7 @@ shows_no_task bytes e names line place text some first same is shown printed = r
   };
   place = place;
   shows = shown;
-  printed = printed;
+  tokens = tokens;
+  could = could;
+  printed = two ∙ ap (λ (x : List ℕ). x ++ tokens) one ∙ append_assoc line place tokens;
 }

@@ -12,15 +12,19 @@ use Rattle.sm_answers.specs.Replay.{AnswersReplay, GivesInput, GivesNoInput}
 use Rattle.sm_answers.specs.Status.{Says}
 use Rattle.sm_answers.specs.declared.status.Status.{Status}
 use Rattle.sm_answers.specs.declared.status.Status.TheVariants.{Accepted}
-use Rattle.sm_display.specs.Shown.{offset_of, programs_text, start_heading, ShowsOffset, ShowsRun}
+use Rattle.sm_display.specs.Shown.{misfit_of, offset_of, programs_text, start_heading}
+use Rattle.sm_display.specs.Shown.{ShowsOffset, ShowsRun, ShowsTokens}
 
--- the bytes are no task: the line says why, and the place at which they are refused is shown
+-- the bytes are no task: the line says why, and the place at which they are refused is shown, with
+-- what could stand there
 pub record ShowsNoTask (bytes : List ℕ) (status : Status) (text : List ℕ) : Type 0 where
   pub line : List ℕ
   pub refuses : IsNoTask bytes status line
   pub place : List ℕ
   pub shows : ShowsOffset bytes (offset_of refuses.error) place
-  pub printed : text ≡ line ++ place
+  pub tokens : List ℕ
+  pub could : ShowsTokens bytes (misfit_of refuses.error) tokens
+  pub printed : text ≡ line ++ (place ++ tokens)
 
 -- the file was read, and its bytes are no task
 pub record ExplainsRefusal (file : Known) (before now : ℕ) (status : Status) (text : List ℕ)

@@ -1,7 +1,7 @@
--- What a person reads behind the line of an answer: where a text is refused, the programs of a task,
--- and what they do from an input. Public clauses cite it.
+-- What a person reads behind the line of an answer: where a text is refused and what could stand
+-- there, the programs of a task, and what they do from an input. Public clauses cite it.
 use Rattle.std.specs.Prelude.{◌≡◌, ℕ, Option, Some, None, Result, Ok, Err, List, [], ◌∷◌, ◌++◌}
-use Rattle.std.specs.Prelude.{codes}
+use Rattle.std.specs.Prelude.{codes, take}
 use Rattle.sm_replay.specs.declared.error.ReplayError.{ReplayError}
 use Rattle.sm_replay.specs.declared.verdict.Verdict.{Verdict}
 use Rattle.sm_replay.specs.declared.verdict.Verdict.TheVariants.{Holds, Unmet, Violates}
@@ -18,6 +18,7 @@ use Rattle.sm_task.specs.declared.error.TaskError.TheVariants.{WrongSort, Double
 use Rattle.sm_task.specs.declared.error.TaskError.TheVariants.{TooMany, Memory}
 use Rattle.sm_explain.specs.Places.{IsShown}
 use Rattle.sm_explain.specs.Tables.{IsTable}
+use Rattle.sm_follow.specs.Following.{IsFollowLine}
 use Rattle.sm_display.specs.Print.{canonical_text}
 
 -- the offset at which a text is refused; none where the cause is a condition, which names a hole or
@@ -43,6 +44,31 @@ offset_of Memory = None
 abbrev pub ShowsOffset : List ℕ → Option ℕ → List ℕ → Type 0
 ShowsOffset bytes None lines = lines ≡ []
 ShowsOffset bytes (Some offset) lines = IsShown bytes offset lines
+
+-- the offset at which nothing stands that could stand there; none where what stands there nests too
+-- deep, or where the cause is a condition
+abbrev pub misfit_of : TaskError → Option ℕ
+misfit_of (BadByte place) = Some place
+misfit_of (WideNumber place) = Some place
+misfit_of (BadToken place) = Some place
+misfit_of (Expected place) = Some place
+misfit_of (Nested place) = None
+misfit_of (MissingFilling list hole) = None
+misfit_of (UnknownHole list hole) = None
+misfit_of (DoubleHole list hole) = None
+misfit_of (HoleInFilling list hole) = None
+misfit_of (UnknownName x) = None
+misfit_of (WrongSort x) = None
+misfit_of (DoubleName x) = None
+misfit_of TooDeep = None
+misfit_of TooMany = None
+misfit_of Memory = None
+
+-- the line of what could stand at an offset of a text, behind what stands before it; none where
+-- there is no offset
+abbrev pub ShowsTokens : List ℕ → Option ℕ → List ℕ → Type 0
+ShowsTokens bytes None line = line ≡ []
+ShowsTokens bytes (Some offset) line = IsFollowLine (take offset bytes) line
 
 -- the line before the program of a copy: a comment, which no canonical text has
 abbrev pub copy_heading : CopyName → List ℕ

@@ -1,0 +1,10 @@
+use Rattle.std.proofs.Common.{◌≡◌, ◌∙◌, ℕ, Option, Some, IfOk, subst, sym}
+use Rattle.sm_display.specs.Shown.{misfit_of, ShowsTokens}
+use Rattle.sm_display.proofs.Refused.{front_at_fault, misfit_within}
+use Rattle.sm_display.proofs.refusing.tokens_line.Goals as goal
+
+pub returns-in-Some : goal.returns-in-Some
+returns-in-Some c =
+    let is : misfit_of c.args.error ≡ Some c.in-Some.offset = sym c.misfit_of.ensures ∙ c.in-Some.is in
+    subst (λ (o : Option ℕ). IfOk c.follow_line.result (λ line. ShowsTokens c.args.bytes.now o line.items)) (sym is)
+    c.follow_line.ensures

@@ -1,0 +1,4 @@
+pub mod Kinds
+pub mod Following
+pub mod Views
+pub mod Laws

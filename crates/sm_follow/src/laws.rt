@@ -1,0 +1,7 @@
+// Laws of what could stand behind a text, as contracts.
+ghost use Rattle.sm_follow.specs.Laws.{OneFollowLine};
+
+/// A text has one line of what could stand behind it.
+pub fn one_follow_line()
+    ensures { OneFollowLine }
+{}
