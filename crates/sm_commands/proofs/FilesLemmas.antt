@@ -22,8 +22,9 @@ use Rattle.sm_commands.specs.ProofFile.{LeftCut}
 use Rattle.sm_answers.specs.ProofFile.{IsBegun}
 use Rattle.sm_answers.specs.Status.{Says}
 use Rattle.sm_commands.specs.Top.{Files, Checks, LeavesBy, LeavesFiles, LeavesPart, LeavesPartBy}
+use Rattle.sm_commands.specs.Trim.{LeavesTrimmed}
 use Rattle.sm_commands.specs.Views.{CountsWrites, EndsWith}
-use Rattle.sm_words.specs.Words.{Asked, check, verify, replay, print, suggest, gen, explain, batch, about}
+use Rattle.sm_words.specs.Words.{Asked, check, verify, replay, print, suggest, gen, explain, batch, trim, about}
 use Rattle.sm_words.specs.declared.effort.Effort.{Effort}
 use Rattle.sm_answers.specs.declared.exit.Exit.{Exit}
 use Rattle.sm_answers.specs.declared.exit.Exit.TheVariants as stopped
@@ -131,34 +132,40 @@ leaves_same file s old new never nor (inr (t, is, inr (inr h))) = h.1
 same_ask : (p q : Asked) → Some p ≡ Some q → p ≡ q
 same_ask p q e = cc
 
--- no other file than that of the proof of `check` changes
+-- no other file than that of the proof that `check` or `trim` makes changes
 pub same_by : (o : Option Asked) (before now : Files) (s : Status) → LeavesBy o before s now → (name : List ℕ)
-    → ((task : List ℕ) (effort : Effort) → o ≢ Some (check task name effort)) → now name ≡ before name
-same_by None before now s h name never = h name
-same_by (Some (check task proof effort)) before now s h name never =
+    → ((task : List ℕ) (effort : Effort) → o ≢ Some (check task name effort))
+    → ((task proof : List ℕ) → o ≢ Some (trim task proof name)) → now name ≡ before name
+same_by None before now s h name never nor = h name
+same_by (Some (check task proof effort)) before now s h name never nor =
     h.0 name (λ e. never task effort (ap (λ (p : List ℕ). Some (check task p effort)) (sym e)))
-same_by (Some (verify task proof workers)) before now s h name never = h name
-same_by (Some (replay task input turns)) before now s h name never = h name
-same_by (Some (print task copy)) before now s h name never = h name
-same_by (Some (suggest task effort)) before now s h name never = h name
-same_by (Some (gen seed size effort)) before now s h name never = h name
-same_by (Some (explain task input turns)) before now s h name never = h name
-same_by (Some (batch list cache effort)) before now s h name never = h name
-same_by (Some (about what)) before now s h name never = h name
+same_by (Some (verify task proof workers)) before now s h name never nor = h name
+same_by (Some (replay task input turns)) before now s h name never nor = h name
+same_by (Some (print task copy)) before now s h name never nor = h name
+same_by (Some (suggest task effort)) before now s h name never nor = h name
+same_by (Some (gen seed size effort)) before now s h name never nor = h name
+same_by (Some (explain task input turns)) before now s h name never nor = h name
+same_by (Some (batch list cache effort)) before now s h name never nor = h name
+same_by (Some (trim task proof out)) before now s h name never nor =
+    h.0 name (λ e. nor task proof (ap (λ (p : List ℕ). Some (trim task proof p)) (sym e)))
+same_by (Some (about what)) before now s h name never nor = h name
 
 pub same_part : (o : Option Asked) (before now : Files) → LeavesPartBy o before now → (name : List ℕ)
-    → ((task : List ℕ) (effort : Effort) → o ≢ Some (check task name effort)) → now name ≡ before name
-same_part None before now h name never = h name
-same_part (Some (check task proof effort)) before now h name never =
+    → ((task : List ℕ) (effort : Effort) → o ≢ Some (check task name effort))
+    → ((task proof : List ℕ) → o ≢ Some (trim task proof name)) → now name ≡ before name
+same_part None before now h name never nor = h name
+same_part (Some (check task proof effort)) before now h name never nor =
     h.0 name (λ e. never task effort (ap (λ (p : List ℕ). Some (check task p effort)) (sym e)))
-same_part (Some (verify task proof workers)) before now h name never = h name
-same_part (Some (replay task input turns)) before now h name never = h name
-same_part (Some (print task copy)) before now h name never = h name
-same_part (Some (suggest task effort)) before now h name never = h name
-same_part (Some (gen seed size effort)) before now h name never = h name
-same_part (Some (explain task input turns)) before now h name never = h name
-same_part (Some (batch list cache effort)) before now h name never = h name
-same_part (Some (about what)) before now h name never = h name
+same_part (Some (verify task proof workers)) before now h name never nor = h name
+same_part (Some (replay task input turns)) before now h name never nor = h name
+same_part (Some (print task copy)) before now h name never nor = h name
+same_part (Some (suggest task effort)) before now h name never nor = h name
+same_part (Some (gen seed size effort)) before now h name never nor = h name
+same_part (Some (explain task input turns)) before now h name never nor = h name
+same_part (Some (batch list cache effort)) before now h name never nor = h name
+same_part (Some (trim task proof out)) before now h name never nor =
+    h.0 name (λ e. nor task proof (ap (λ (p : List ℕ). Some (trim task proof p)) (sym e)))
+same_part (Some (about what)) before now h name never nor = h name
 
 -- what is left in the file of the proof that `check` is asked for
 pub left_by : (o : Option Asked) (before now : Files) (s : Status) (task proof : List ℕ) (effort : Effort)
@@ -270,3 +277,23 @@ check_leaves task proof effort before now r others =
     ends_by (λ (s : Status). LeavesProof (before task) s (before proof) (now proof))
     (λ (s : Status). LeavesFiles (check task proof effort) before s now) (LeavesFront (before task) (before proof) (now proof))
     (LeavesPart (check task proof effort) before now) (λ s left. (others, left)) (λ left. (others, left)) r
+
+-- ---- what `trim` leaves
+
+-- what is left in the file that `trim` writes
+pub trim_left_by : (o : Option Asked) (before now : Files) (s : Status) (task proof out : List ℕ) → LeavesBy o before s now →
+    o ≡ Some (trim task proof out) → LeavesTrimmed (before task) s (before out) (now out)
+trim_left_by o before now s task proof out h is = (subst (λ (p : Option Asked). LeavesBy p before s now) is h).1
+
+pub trim_part_by : (o : Option Asked) (before now : Files) (task proof out : List ℕ) → LeavesPartBy o before now →
+    o ≡ Some (trim task proof out) → LeavesFront (before task) (before out) (now out)
+trim_part_by o before now task proof out h is = (subst (λ (p : Option Asked). LeavesPartBy p before now) is h).1
+
+pub trim_leaves : (task proof out : List ℕ) (before now : Files) (r : Result Reply Exit) →
+    ((other : List ℕ) → other ≢ out → now other ≡ before other) →
+    EndsWith (λ (s : Status). LeavesTrimmed (before task) s (before out) (now out)) (LeavesFront (before task) (before out) (now out)) r →
+    EndsWith (λ (s : Status). LeavesFiles (trim task proof out) before s now) (LeavesPart (trim task proof out) before now) r
+trim_leaves task proof out before now r others =
+    ends_by (λ (s : Status). LeavesTrimmed (before task) s (before out) (now out))
+    (λ (s : Status). LeavesFiles (trim task proof out) before s now) (LeavesFront (before task) (before out) (now out))
+    (LeavesPart (trim task proof out) before now) (λ s left. (others, left)) (λ left. (others, left)) r

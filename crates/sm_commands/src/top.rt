@@ -13,7 +13,7 @@ ghost use Rattle.sm_answers.specs.Exit.{ExitsWith};
 ghost use Rattle.sm_answers.specs.File.{file_limit};
 ghost use Rattle.sm_words.specs.Views.{asked_in, IsWithin};
 ghost use Rattle.sm_words.specs.Words.{Asked, asked, check, verify, replay, suggest, explain};
-ghost use Rattle.sm_words.specs.Words.{batch, task_file, IsUsage};
+ghost use Rattle.sm_words.specs.Words.{batch, task_file, trim, IsUsage};
 ghost use Rattle.sm_words.specs.declared.effort.Effort.{Effort};
 ghost use Rattle.sm_commands.specs.Check.{reach_of};
 ghost use Rattle.sm_commands.specs.Headline.{merge_file, IsProved, IsSafeMerge, IsUnsafeMerge};
@@ -24,8 +24,10 @@ ghost use Rattle.sm_commands.specs.HeadlineRead.{ShowsReadInput, SuggestsRead};
 ghost use Rattle.sm_commands.specs.ProofFile.{HoldsProof, IsTaskIn, LeavesCut, LeavesFront};
 ghost use Rattle.sm_commands.specs.Readings.{AnswersByReads};
 ghost use Rattle.sm_commands.specs.Suggest.{IsSafeSuggestion};
+ghost use Rattle.sm_commands.specs.Trim.{HoldsTrimmed};
 ghost use Rattle.sm_commands.specs.Top.{IsAnswerTo, AnswersCommand};
-ghost use Rattle.sm_commands.specs.Top.{IsPrinted, PutsPart, RejectsProof, LeavesBy, LeavesFiles};
+ghost use Rattle.sm_commands.specs.Top.{IsPrinted, PutsPart, RejectsProof, LeavesBy};
+ghost use Rattle.sm_commands.specs.Top.{LeavesFiles};
 ghost use Rattle.sm_commands.specs.Top.{LeavesPart, LeavesPartBy, WritesElsewhere};
 ghost use Rattle.sm_commands.specs.Views.{CountsWrites, EndsWith};
 
@@ -34,6 +36,7 @@ use crate::checking::check_in;
 use crate::making::gen_answer;
 use crate::suggesting::suggest_in;
 use crate::telling::{tell, usage};
+use crate::trimming::trim_in;
 use sm_answers::{Exit, Reply, Status, replay_in, verify_in};
 use sm_display::{explain_in, print_in};
 use sm_io::{IoError, Shelf, Sink, put_all};
@@ -53,7 +56,7 @@ pub fn safemerge<R: Threads + Sync, G: Gate, H: Shelf, K: Sink>(
     shelf: &mut H,
     out: &mut K,
 ) -> Status
-    // Where `check` or `verify` accepts, the file's bytes spell a task that is free of conflicts.
+    // Where `check`, `verify` or `trim` accepts, the file's bytes spell a task that is free of conflicts.
     ensures accepted { result ≡ Status.Accepted → (ask : Asked) (task : List ℕ) →
         asked (map string_bytes words.now) ≡ Some ask → merge_file ask ≡ Some task →
         WhereHeld (H.file shelf.old task) IsSafeMerge }
@@ -141,10 +144,13 @@ pub fn safemerge<R: Threads + Sync, G: Gate, H: Shelf, K: Sink>(
         (H.read_faults shelf.old) (H.read_faults shelf.new))
         (K.taken out.old) (K.taken out.new) }
 
-    // No file changes, but that of the proof of `check`, where it accepts or can't write it whole.
+    // No file changes, but that of the proof that `check` or `trim` makes, where it accepts or can't
+    // write it whole.
     ensures same { (name : List ℕ) →
         ((task : List ℕ) (effort : Effort) →
         asked (map string_bytes words.now) ≢ Some (check task name effort)) →
+        ((task proof : List ℕ) →
+        asked (map string_bytes words.now) ≢ Some (trim task proof name)) →
         H.file shelf.new name ≡ H.file shelf.old name }
     ensures untouched { IsPrinted result → result ≢ Status.Accepted → result ≢ Status.WriteFault →
         (task proof : List ℕ) (effort : Effort) →
@@ -174,6 +180,23 @@ pub fn safemerge<R: Threads + Sync, G: Gate, H: Shelf, K: Sink>(
         H.file shelf.old task ≡ holds bytes → length bytes ≤ file_limit → Spells bytes t →
         IsOutcome t (reach_of effort) effort.turns outcome.Accepted →
         HoldsProof t (H.file shelf.old proof) (H.file shelf.new proof) }
+
+    // All that is said of the file of the proof of `check` stands of that which `trim` makes.
+    ensures untrimmed { IsPrinted result → result ≢ Status.Accepted → result ≢ Status.WriteFault →
+        (task proof out : List ℕ) →
+        asked (map string_bytes words.now) ≡ Some (trim task proof out) →
+        H.file shelf.new out ≡ H.file shelf.old out }
+    ensures trimmed { result ≡ Status.Accepted → (task proof out : List ℕ) →
+        asked (map string_bytes words.now) ≡ Some (trim task proof out) →
+        (t : Parts) × IsTaskIn (H.file shelf.old task) t
+        × HoldsProof t (H.file shelf.old out) (H.file shelf.new out)
+        × HoldsTrimmed (H.file shelf.old out) (H.file shelf.new out) }
+    ensures trimmed_front { (task proof out : List ℕ) →
+        asked (map string_bytes words.now) ≡ Some (trim task proof out) →
+        LeavesFront (H.file shelf.old task) (H.file shelf.old out) (H.file shelf.new out) }
+    ensures trimmed_part { result ≡ Status.WriteFault → (task proof out : List ℕ) →
+        asked (map string_bytes words.now) ≡ Some (trim task proof out) →
+        LeavesCut (H.file shelf.old task) (H.file shelf.old out) (H.file shelf.new out) }
 
     // A fault to write has its cause, and so has each rise of the count.
     ensures written { result ≡ Status.WriteFault →
@@ -294,6 +317,7 @@ fn answer_to<R: Threads + Sync, G: Gate, H: Shelf>(
             cache,
             effort,
         } => batch_in(rt, alloc, gate, shelf, list, cache, effort),
+        Request::Trim { task, proof, out } => trim_in(alloc, shelf, task, proof, out),
         Request::About(what) => Ok(tell(alloc, what)?),
     }
 }
