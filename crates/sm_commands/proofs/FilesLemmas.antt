@@ -22,7 +22,6 @@ use Rattle.sm_commands.specs.ProofFile.{LeftCut}
 use Rattle.sm_answers.specs.ProofFile.{IsBegun}
 use Rattle.sm_answers.specs.Status.{Says}
 use Rattle.sm_commands.specs.Top.{Files, Checks, LeavesBy, LeavesFiles, LeavesPart, LeavesPartBy}
-use Rattle.sm_commands.specs.Trim.{LeavesTrimmed}
 use Rattle.sm_commands.specs.Views.{CountsWrites, EndsWith}
 use Rattle.sm_words.specs.Words.{Asked, check, verify, replay, print, suggest, gen, explain, batch, trim, about}
 use Rattle.sm_words.specs.declared.effort.Effort.{Effort}
@@ -277,23 +276,3 @@ check_leaves task proof effort before now r others =
     ends_by (λ (s : Status). LeavesProof (before task) s (before proof) (now proof))
     (λ (s : Status). LeavesFiles (check task proof effort) before s now) (LeavesFront (before task) (before proof) (now proof))
     (LeavesPart (check task proof effort) before now) (λ s left. (others, left)) (λ left. (others, left)) r
-
--- ---- what `trim` leaves
-
--- what is left in the file that `trim` writes
-pub trim_left_by : (o : Option Asked) (before now : Files) (s : Status) (task proof out : List ℕ) → LeavesBy o before s now →
-    o ≡ Some (trim task proof out) → LeavesTrimmed (before task) s (before out) (now out)
-trim_left_by o before now s task proof out h is = (subst (λ (p : Option Asked). LeavesBy p before s now) is h).1
-
-pub trim_part_by : (o : Option Asked) (before now : Files) (task proof out : List ℕ) → LeavesPartBy o before now →
-    o ≡ Some (trim task proof out) → LeavesFront (before task) (before out) (now out)
-trim_part_by o before now task proof out h is = (subst (λ (p : Option Asked). LeavesPartBy p before now) is h).1
-
-pub trim_leaves : (task proof out : List ℕ) (before now : Files) (r : Result Reply Exit) →
-    ((other : List ℕ) → other ≢ out → now other ≡ before other) →
-    EndsWith (λ (s : Status). LeavesTrimmed (before task) s (before out) (now out)) (LeavesFront (before task) (before out) (now out)) r →
-    EndsWith (λ (s : Status). LeavesFiles (trim task proof out) before s now) (LeavesPart (trim task proof out) before now) r
-trim_leaves task proof out before now r others =
-    ends_by (λ (s : Status). LeavesTrimmed (before task) s (before out) (now out))
-    (λ (s : Status). LeavesFiles (trim task proof out) before s now) (LeavesFront (before task) (before out) (now out))
-    (LeavesPart (trim task proof out) before now) (λ s left. (others, left)) (λ left. (others, left)) r

@@ -9,6 +9,7 @@ pub mod Verified
 pub mod AnswerUnique
 pub mod FilesLemmas
 pub mod Trimmed
+pub mod TrimmedFiles
 pub mod LinesCounted
 pub mod SpelledLemmas
 pub mod ReadingsLemmas

@@ -46,16 +46,16 @@ answer_to_trim t bytes before now status text (inr (pass, inr (inr h))) quiet =
 
 proof_to_trim : (t : Parts) (file : Known) (before now : ℕ) (status : Status) (text : List ℕ) → TrimsProof t file before now status text →
     IsToTrim before now status
-proof_to_trim t file before now status text (inl f) =
+proof_to_trim t file before now status text (inl (inl f)) =
     let is = f.says.ended in
     record {
       of_command = subst IsOfCommand (sym is) (of_status ReadFault (λ e. cc) (λ e. cc) (λ e. cc));
       not_conflict = λ e. cc;
       quiet = λ h. absurd (h is);
     }
-proof_to_trim t file before now status text (inr (inl h)) =
+proof_to_trim t file before now status text (inl (inr h)) =
     ended status Refused h.says.ended (of_status Refused (λ e. cc) (λ e. cc) (λ e. cc)) (λ e. cc) before now h.quiet
-proof_to_trim t file before now status text (inr (inr h)) = answer_to_trim t h.bytes before now status text h.answers h.read.quiet
+proof_to_trim t file before now status text (inr h) = answer_to_trim t h.bytes before now status text h.answers h.read.quiet
 
 pub trim_to_command : (file proof : Known) (before now : ℕ) (status : Status) (text : List ℕ) → Trims file proof before now status text →
     IsToTrim before now status
@@ -73,9 +73,9 @@ trim_to_command file proof before now status text (inr c) =
 -- a proof that is trimmed passes, so its task is free of conflicts
 trim_free : (t : Parts) (source : List ℕ) → Spells source t → (file : Known) (before now : ℕ) (status : Status) (text : List ℕ) →
     TrimsProof t file before now status text → status ≡ Accepted → ConflictFree (task_of t)
-trim_free t source spells file before now status text (inl f) e = absurd (fault_not_accepted status f.says.ended e)
-trim_free t source spells file before now status text (inr (inl h)) e = let is = h.says.ended in cc
-trim_free t source spells file before now status text (inr (inr h)) e = of h.answers
+trim_free t source spells file before now status text (inl (inl f)) e = absurd (fault_not_accepted status f.says.ended e)
+trim_free t source spells file before now status text (inl (inr h)) e = let is = h.says.ended in cc
+trim_free t source spells file before now status text (inr h) e = of h.answers
   where
     of : AnswersTrim t h.bytes status text → ConflictFree (task_of t)
     of (inl r) = let is = r.says.ended in cc

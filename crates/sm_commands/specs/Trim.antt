@@ -6,13 +6,14 @@ use Rattle.sm_proof.specs.Verdicts.{Pass, Rejected, Passes, lines_in, subject_of
 use Rattle.sm_proof.specs.declared.word.Word.{Word}
 use Rattle.sm_prune.specs.UsedLines.{HasNamedLines}
 use Rattle.sm_syntax.specs.text.Parts.{Parts}
+use Rattle.sm_write.specs.Versions.{HasVersion}
 use Rattle.sm_answers.specs.File.{FailsToRead, GivesNoTask, GivesTask}
 use Rattle.sm_answers.specs.Readings.{ReadsTask}
 use Rattle.sm_answers.specs.Status.{Says}
 use Rattle.sm_answers.specs.Verify.{rejected_line}
 use Rattle.sm_answers.specs.declared.status.Status.{Status}
 use Rattle.sm_answers.specs.declared.status.Status.TheVariants.{Accepted, Unknown, Refused, WriteFault}
-use Rattle.sm_commands.specs.ProofFile.{LeavesProof}
+use Rattle.sm_commands.specs.ProofFile.{IsTaskIn, LeftCut}
 use Rattle.sm_words.specs.Lines.{line_of}
 
 -- the greatest number of bytes of a proof that is trimmed
@@ -45,6 +46,11 @@ pub record IsProofTooLong (file : Known) (before now : ℕ) (status : Status) (t
   pub quiet : now ≡ before
   pub over : WhereHeld file (λ (held : List ℕ). trim_limit < length held)
   pub says : Says Refused (line_of (codes "TooLong") (codes "proof" ∷ [])) status text
+
+-- the proof's file gives no bytes, and the answer says why
+abbrev pub GivesNoProof : Known → ℕ → ℕ → Status → List ℕ → Type 0
+GivesNoProof file before now status text =
+    FailsToRead file before now status text ⊎ IsProofTooLong file before now status text
 
 -- its bytes are no proof that passes: the number of the first bad line, and the word for it
 pub record RejectsBytes (t : Parts) (bytes : List ℕ) (status : Status) (text : List ℕ) : Type 0 where
@@ -84,8 +90,7 @@ pub record TrimsRead (t : Parts) (file : Known) (before now : ℕ) (status : Sta
 -- what is answered to a task and a proof's file
 abbrev pub TrimsProof : Parts → Known → ℕ → ℕ → Status → List ℕ → Type 0
 TrimsProof t file before now status text =
-    FailsToRead file before now status text
-    ⊎ (IsProofTooLong file before now status text ⊎ TrimsRead t file before now status text)
+    GivesNoProof file before now status text ⊎ TrimsRead t file before now status text
 
 -- the file gives a task, and then comes the proof's
 pub record TrimsTask (file proof : Known) (before now : ℕ) (status : Status) (text : List ℕ)
@@ -100,18 +105,27 @@ abbrev pub Trims : Known → Known → ℕ → ℕ → Status → List ℕ → T
 Trims file proof before now status text =
     GivesNoTask file before now status text ⊎ TrimsTask file proof before now status text
 
--- the file was emptied, and has bytes of which each line that makes a term or a formula is named by a
--- later one
-pub record HoldsTrimmed (before now : Known) : Type 0 where
+-- the file was emptied, and has the bytes of a proof as `check` leaves one for the task, each line of
+-- which that makes a term or a formula is named by a later one
+pub record HoldsTrimmed (t : Parts) (before now : Known) : Type 0 where
   pub proof : List ℕ
+  pub passes : Passes t proof
+  pub version : HasVersion t proof
   pub named : HasNamedLines proof
   pub holds : now ≡ longer (emptied before) proof
 
--- what is left in the file by the answer to the task of a file: what `check` leaves there, and where it
--- is accepted such bytes
+-- what is left in the file by the answer to the task: such a proof where it is accepted, at most a
+-- front of a proof where that couldn't be written, and otherwise what it had
+abbrev pub LeftTrimmed : Parts → Status → Known → Known → Type 0
+LeftTrimmed t status before now =
+    ((status ≡ Accepted) × HoldsTrimmed t before now)
+    ⊎ (((status ≡ WriteFault) × LeftCut t before now) ⊎ ((status ≢ Accepted) × (now ≡ before)))
+
+-- what is left there by the answer to the task of a file
 abbrev pub LeavesTrimmed : Known → Status → Known → Known → Type 0
 LeavesTrimmed task status before now =
-    LeavesProof task status before now × (status ≡ Accepted → HoldsTrimmed before now)
+    ((status ≢ Accepted) × (now ≡ before))
+    ⊎ ((t : Parts) × IsTaskIn task t × LeftTrimmed t status before now)
 
 -- the answer of `trim` by what was read: Accepted only where a task was read, and then a proof that
 -- passes for it

@@ -189,14 +189,20 @@ pub fn safemerge<R: Threads + Sync, G: Gate, H: Shelf, K: Sink>(
     ensures trimmed { result ≡ Status.Accepted → (task proof out : List ℕ) →
         asked (map string_bytes words.now) ≡ Some (trim task proof out) →
         (t : Parts) × IsTaskIn (H.file shelf.old task) t
-        × HoldsProof t (H.file shelf.old out) (H.file shelf.new out)
-        × HoldsTrimmed (H.file shelf.old out) (H.file shelf.new out) }
+        × HoldsTrimmed t (H.file shelf.old out) (H.file shelf.new out) }
     ensures trimmed_front { (task proof out : List ℕ) →
         asked (map string_bytes words.now) ≡ Some (trim task proof out) →
         LeavesFront (H.file shelf.old task) (H.file shelf.old out) (H.file shelf.new out) }
     ensures trimmed_part { result ≡ Status.WriteFault → (task proof out : List ℕ) →
         asked (map string_bytes words.now) ≡ Some (trim task proof out) →
         LeavesCut (H.file shelf.old task) (H.file shelf.old out) (H.file shelf.new out) }
+    ensures trimmed_kept { result ≡ Status.SinkFault →
+        (¬ Rose (H.write_faults shelf.old) (H.write_faults shelf.new)) →
+        (task proof out : List ℕ) →
+        asked (map string_bytes words.now) ≡ Some (trim task proof out) →
+        (H.file shelf.new out ≡ H.file shelf.old out)
+        ⊎ ((t : Parts) × IsTaskIn (H.file shelf.old task) t
+        × HoldsTrimmed t (H.file shelf.old out) (H.file shelf.new out)) }
 
     // A fault to write has its cause, and so has each rise of the count.
     ensures written { result ≡ Status.WriteFault →

@@ -1,5 +1,5 @@
 // What `trim` answers to a task's file and a proof's, and what it leaves in another.
-ghost use Rattle.std.specs.Prelude.{◌≡◌, ◌≢◌, ◌⊎◌, ◌==◌, ℕ, List, IfOk, IfErr, IfSome, OnErr};
+ghost use Rattle.std.specs.Prelude.{◌≡◌, ◌≢◌, ◌==◌, ℕ, List, IfOk, IfErr, IfSome, OnErr};
 ghost use Rattle.std.specs.Prelude.{count_by};
 ghost use Rattle.sm_io.specs.Causes.{HasCause};
 ghost use Rattle.sm_io.specs.Reads.{ReadsWhole};
@@ -8,11 +8,10 @@ ghost use Rattle.sm_prune.specs.UsedLines.{HasNamedLines};
 ghost use Rattle.sm_task.specs.Tasks.{parts_of};
 ghost use Rattle.sm_write.specs.Versions.{HasVersion};
 ghost use Rattle.sm_answers.specs.Exit.{ExitsWith};
-ghost use Rattle.sm_answers.specs.File.{FailsToRead};
 ghost use Rattle.sm_check.specs.Checkable.{IsCheckable};
-ghost use Rattle.sm_commands.specs.ProofFile.{LeavesFront, LeftBy, LeftCut};
-ghost use Rattle.sm_commands.specs.Trim.{AnswersPassing, AnswersTrim, IsProofRead, IsProofTooLong};
-ghost use Rattle.sm_commands.specs.Trim.{line_count, trimmed_line, HoldsTrimmed, LeavesTrimmed};
+ghost use Rattle.sm_commands.specs.ProofFile.{LeavesFront, LeftCut};
+ghost use Rattle.sm_commands.specs.Trim.{AnswersPassing, AnswersTrim, GivesNoProof, IsProofRead};
+ghost use Rattle.sm_commands.specs.Trim.{line_count, trimmed_line, LeavesTrimmed, LeftTrimmed};
 ghost use Rattle.sm_commands.specs.Trim.{Trims, TrimsByReads};
 ghost use Rattle.sm_commands.specs.Views.{CountsWrites, EndsWith};
 
@@ -70,11 +69,8 @@ fn proof_in<H: Shelf>(alloc: Global, shelf: &mut H, name: &str) -> Result<Vec<u8
         (H.read_faults shelf.old) (H.read_faults shelf.new) bytes.items) }
     ensures whole { IfOk result (λ bytes.
         ReadsWhole name.now (H.given shelf.old) (H.given shelf.new) bytes.items) }
-    ensures exit { IfErr result (ExitsWith (λ status text.
-        FailsToRead (H.file shelf.old name.now) (H.read_faults shelf.old)
-        (H.read_faults shelf.new) status text
-        ⊎ IsProofTooLong (H.file shelf.old name.now) (H.read_faults shelf.old)
-        (H.read_faults shelf.new) status text)) }
+    ensures exit { IfErr result (ExitsWith (GivesNoProof (H.file shelf.old name.now)
+        (H.read_faults shelf.old) (H.read_faults shelf.new))) }
     ensures same { (other : List ℕ) → H.file shelf.new other ≡ H.file shelf.old other }
     ensures writes { H.write_faults shelf.new ≡ H.write_faults shelf.old }
 {
@@ -103,10 +99,8 @@ fn trim_bytes<H: Shelf>(
     requires { IsCheckable (parts_of task.now) }
     ensures answers { IfOk result (λ r.
         AnswersTrim (parts_of task.now) bytes.now r.status r.text.items) }
-    ensures left { IfOk result (λ r. LeftBy (parts_of task.now) r.status
+    ensures left { IfOk result (λ r. LeftTrimmed (parts_of task.now) r.status
         (H.file shelf.old out.now) (H.file shelf.new out.now)) }
-    ensures trimmed { IfOk result (λ r. r.status ≡ Status.Accepted →
-        HoldsTrimmed (H.file shelf.old out.now) (H.file shelf.new out.now)) }
     ensures front { OnErr result (LeftCut (parts_of task.now)
         (H.file shelf.old out.now) (H.file shelf.new out.now)) }
     ensures others { (other : List ℕ) → other ≢ out.now →
@@ -137,10 +131,8 @@ fn put_lean<H: Shelf>(
     requires { IsCheckable (parts_of task.now) }
     ensures answers { IfOk result (λ r.
         AnswersPassing (parts_of task.now) bytes.now r.status r.text.items) }
-    ensures left { IfOk result (λ r. LeftBy (parts_of task.now) r.status
+    ensures left { IfOk result (λ r. LeftTrimmed (parts_of task.now) r.status
         (H.file shelf.old out.now) (H.file shelf.new out.now)) }
-    ensures trimmed { IfOk result (λ r. r.status ≡ Status.Accepted →
-        HoldsTrimmed (H.file shelf.old out.now) (H.file shelf.new out.now)) }
     ensures front { OnErr result (LeftCut (parts_of task.now)
         (H.file shelf.old out.now) (H.file shelf.new out.now)) }
     ensures others { (other : List ℕ) → other ≢ out.now →

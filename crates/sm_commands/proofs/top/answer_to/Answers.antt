@@ -7,7 +7,8 @@ use Rattle.sm_commands.specs.Views.{EndsWith}
 use Rattle.sm_words.specs.Views.{asked_in}
 use Rattle.sm_answers.specs.declared.status.Status.{Status}
 use Rattle.sm_words.specs.declared.words.Request.{Request}
-use Rattle.sm_commands.proofs.FilesLemmas.{check_leaves, counts_none, trim_leaves}
+use Rattle.sm_commands.proofs.FilesLemmas.{check_leaves, counts_none}
+use Rattle.sm_commands.proofs.TrimmedFiles.{trim_leaves}
 use Rattle.sm_answers.proofs.Statuses.{verify_to_command}
 use Rattle.sm_commands.proofs.top.answer_to.Goals as goal
 
