@@ -10,6 +10,7 @@ pub mod AnswerUnique
 pub mod FilesLemmas
 pub mod Trimmed
 pub mod TrimmedFiles
+pub mod TrimmedRead
 pub mod LinesCounted
 pub mod SpelledLemmas
 pub mod ReadingsLemmas
