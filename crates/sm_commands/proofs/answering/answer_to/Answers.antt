@@ -65,3 +65,10 @@ returns-in-Trim-clause-read g c =
     subst
     (λ (q : Request). IfOk c.trim_in.result (λ r. AnswersByReads (Some (asked_in q)) before now r.status r.text.items))
     (sym c.in-Trim.is) c.trim_in.ensures.read
+
+pub returns-in-Trim-clause-exit_read : goal.returns-in-Trim-clause-exit_read
+returns-in-Trim-clause-exit_read g c =
+    let before = g.H.Shelf.given c.args.shelf.now in
+    let now = g.H.Shelf.given c.trim_in.new.shelf in
+    subst (λ (q : Request). IfErr c.trim_in.result (ExitsWith (AnswersByReads (Some (asked_in q)) before now))) (sym c.in-Trim.is)
+    c.trim_in.ensures.exit_read
