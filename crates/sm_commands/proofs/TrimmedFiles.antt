@@ -15,7 +15,7 @@ use Rattle.sm_answers.specs.declared.status.Reply.{Reply}
 use Rattle.sm_answers.specs.declared.status.Status.{Status}
 use Rattle.sm_answers.specs.declared.status.Status.TheVariants.{Accepted, WriteFault}
 use Rattle.sm_commands.proofs.FilesLemmas.{ends_by, leaves_cut, leaves_front, leaves_same, written_cut}
-use Rattle.sm_commands.specs.ProofFile.{HoldsProof, IsTaskIn, LeavesCut, LeavesFront, LeavesProof, LeftBy}
+use Rattle.sm_commands.specs.ProofFile.{HoldsProof, IsTaskIn, LeavesCut, LeavesFront, LeavesProof, LeftBy, LeftCut}
 use Rattle.sm_commands.specs.Top.{Files, LeavesBy, LeavesFiles, LeavesPart, LeavesPartBy}
 use Rattle.sm_commands.specs.Trim.{AnswersPassing, AnswersTrim, HoldsTrimmed, LeavesTrimmed, LeftTrimmed, line_count, trimmed_line}
 use Rattle.sm_commands.specs.Views.{EndsWith}
@@ -56,6 +56,27 @@ pub put_left : (t : Parts) (s u : Status) (l m : List ℕ) (old new : Known) (le
 put_left t s u l m old new lean e passes dated named (inl h) =
     inl (h.0.ended ∙ e, record { proof = lean; passes = passes; version = dated; named = named; holds = h.1 })
 put_left t s u l m old new lean e passes dated named (inr h) = inr (inl (h.0.ended, written_cut t old new lean passes dated h.1))
+
+pub put_answered : (t : Parts) (bytes lean : List ℕ) (s : Status) (l : List ℕ) (P Q : Type 0) (r : Result Reply AllocError) →
+    Passes t lean → HasNamedLines lean → s ≡ Accepted → l ≡ trimmed_line (line_count bytes) (line_count lean) →
+    IfOk r (λ (u : Reply). (Says s l u.status u.text.items × P) ⊎ (Says WriteFault (codes "WriteFault\n") u.status u.text.items × Q)) →
+    IfOk r (λ (u : Reply). AnswersPassing t bytes u.status u.text.items)
+put_answered t bytes lean s l P Q (Ok u) passes named e is h =
+    put_answers t bytes lean s u.status l u.text.items P Q passes named e is h
+put_answered t bytes lean s l P Q (Err error) passes named e is h = tt
+
+pub put_leaves : (t : Parts) (s : Status) (l : List ℕ) (old new : Known) (lean : List ℕ) (r : Result Reply AllocError) → s ≡ Accepted →
+    Passes t lean → HasVersion t lean → HasNamedLines lean →
+    IfOk r (λ (u : Reply). (Says s l u.status u.text.items × (new ≡ longer (emptied old) lean))
+    ⊎ (Says WriteFault (codes "WriteFault\n") u.status u.text.items × IsBegun lean old new)) →
+    IfOk r (λ (u : Reply). LeftTrimmed t u.status old new)
+put_leaves t s l old new lean (Ok u) e passes dated named h = put_left t s u.status l u.text.items old new lean e passes dated named h
+put_leaves t s l old new lean (Err error) e passes dated named h = tt
+
+pub put_cut : (t : Parts) (old new : Known) (lean : List ℕ) (r : Result Reply AllocError) → Passes t lean → HasVersion t lean →
+    OnErr r (IsBegun lean old new) → OnErr r (LeftCut t old new)
+put_cut t old new lean (Ok u) passes dated h = tt
+put_cut t old new lean (Err error) passes dated h = written_cut t old new lean passes dated h
 
 -- ---- one task
 
