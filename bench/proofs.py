@@ -10,6 +10,7 @@
   nested     SIZE loops in each other (at most 60) under one abs
   shared     a term that is SIZE times the sum of itself (at most 120), under lin and in a kept formula
   branches   64 goals, the certificate of each with SIZE lines (at most 4096)
+  under      SIZE facts that nobody names, and under them 128 chains of 900 splits, each of which is used
 
 All but `long` pass."""
 import os
@@ -178,7 +179,36 @@ def branches(size):
     return task, proof()
 
 
-KINDS = {it.__name__: it for it in (lines, forks, loops, tree, steps, long, nested, shared, branches)}
+def under(size):
+    def chain(fact, unequal):
+        for _ in range(900):
+            yield 'cases 0 0'
+            yield 'clash %d %d' % (fact, unequal)
+            unequal = fact
+            fact += 1
+        yield 'close %d' % unequal
+
+    def below(depth, fact):
+        if depth == 0:
+            yield from chain(fact, 1)
+        else:
+            yield 'cases 0 0'
+            yield from below(depth - 1, fact + 1)
+            yield from below(depth - 1, fact + 1)
+
+    def proof():
+        yield 'end'
+        yield 't start 0'
+        yield 'both 0'
+        for _ in range(size):
+            yield 'refl 0'
+        yield from below(7, size + 3)
+        yield from list(goals(0))[2:]
+    return 'var x; output x; shared { } ' + NOTHING, proof()
+
+
+KINDS = {it.__name__: it for it in
+         (lines, forks, loops, tree, steps, long, nested, shared, branches, under)}
 
 
 def main():

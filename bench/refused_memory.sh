@@ -1,9 +1,10 @@
 #!/bin/sh
 # Runs commands under an allocator that refuses one request for memory, each request in turn: where
 # there are more than 2,500, the first and the last 250 and 2,500 of all, evenly. Every second
-# `check` finds an older file at PROOF. A run has to give the answer that comes without a refusal;
-# or status 6 with nothing printed or a front of that answer, and PROOF as it was or a front of the
-# proof. Ends with status 1 if one doesn't. Run it at the top, after make.
+# `check` finds an older file at PROOF, and every second `trim` at OUT. A run has to give the answer
+# that comes without a refusal; or status 6 with nothing printed or a front of that answer, and the
+# file as it was or a front of the proof. Ends with status 1 if one doesn't. Run it at the top, after
+# make.
 #
 # Shows of each command how many requests it makes, how many runs were made, and of these how many
 # gave the answer; how many ended with status 6 and printed nothing, or printed a front, or wrote a
@@ -89,7 +90,7 @@ front() {
   cmp -s -n "$(wc -c < "$1")" "$1" "$2"
 }
 
-# What a run came to, whose status is $1 and that had PROOF as $2, a file or nothing: a word.
+# What a run came to, whose status is $1 and that had the proof's file as $2, or nothing: a word.
 result() {
   if [ "$1" = "$wanted" ]; then
     cmp -s "$place/printed" "$place/answer" || { echo wrong; return; }
@@ -156,6 +157,7 @@ row 'check --deeper' check "$place/open" "$place/found" --deeper
 row 'check --deeper, proof' check "$place/turned" "$place/found" --deeper
 row 'check --why' check "$place/open" "$place/found" --why
 row 'check --why, table' check "$place/open" "$place/found" --deeper --why
+row trim trim "$place/fees.task" "$place/fees.proof" "$place/found"
 row batch batch "$place/list" --steps 1000
 row suggest suggest "$place/task" --steps 1000
 row 'print --copy' print "$place/task" --copy candidate

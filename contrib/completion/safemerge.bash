@@ -3,7 +3,7 @@
 _safemerge() {
   local word=${COMP_WORDS[COMP_CWORD]} before=${COMP_WORDS[COMP_CWORD - 1]}
   local command=${COMP_WORDS[1]} options=
-  local commands="check verify replay print suggest gen explain batch help version"
+  local commands="check verify replay print suggest gen explain batch trim help version"
   COMPREPLY=()
   if [ "$COMP_CWORD" -eq 1 ]; then
     mapfile -t COMPREPLY < <(compgen -W "$commands" -- "$word")
@@ -27,7 +27,7 @@ _safemerge() {
   esac
   case $command,$word in
     *,-*) mapfile -t COMPREPLY < <(compgen -W "$options" -- "$word") ;;
-    check,* | verify,* | replay,* | print,* | suggest,* | explain,* | batch,*)
+    check,* | verify,* | replay,* | print,* | suggest,* | explain,* | batch,* | trim,*)
       compopt -o filenames 2>/dev/null
       mapfile -t COMPREPLY < <(compgen -f -- "$word")
       ;;

@@ -30,7 +30,7 @@ class Completion(Folder):
         cases = [
             (("safemerge", ""),
              ["check", "verify", "replay", "print", "suggest", "gen", "explain", "batch",
-              "help", "version"]),
+              "trim", "help", "version"]),
             (("safemerge", "ch"), ["check"]),
             (("safemerge", "ver"), ["verify", "version"]),
             (("safemerge", "check", "--"),
@@ -43,7 +43,9 @@ class Completion(Folder):
             (("safemerge", "explain", "--"), ["--turns"]),
             (("safemerge", "batch", "--"),
              ["--cache", "--steps", "--turns", "--workers", "--exact"]),
+            (("safemerge", "trim", "--"), []),
             (("safemerge", "explain", "o"), ["one.task"]),
+            (("safemerge", "trim", "one.task", "o"), ["one.task"]),
             (("safemerge", "print", "one.task", "--copy", ""), ["base", "a", "b", "candidate"]),
             (("safemerge", "print", "--copy", "b"), ["base", "b"]),
             (("safemerge", "print", "--copy", "b", "o"), ["one.task"]),

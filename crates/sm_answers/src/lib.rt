@@ -41,4 +41,4 @@ pub use proof_file::write_file;
 pub use refusals::refusal_line;
 pub use replaying::{replay, replay_in};
 pub use status::{Reply, Status};
-pub use verifying::verify_in;
+pub use verifying::{rejected_line, verify_in};

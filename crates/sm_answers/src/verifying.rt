@@ -103,8 +103,8 @@ fn proof_reply(alloc: Global, checked: Result<Checked, CheckError>) -> Result<Re
     }
 }
 
-// The line on a bad line of a proof.
-fn rejected_line(alloc: Global, number: u64, word: Word) -> Result<Vec<u8>, AllocError>
+/// The line on a bad line of a proof.
+pub fn rejected_line(alloc: Global, number: u64, word: Word) -> Result<Vec<u8>, AllocError>
     ensures { IfOk result (λ text. text.items ≡ rejected_line number word) }
 {
     let mut buffer = Buffer::new();

@@ -32,7 +32,7 @@ use Rattle.sm_commands.specs.Top.{Files, AnswersCommand, AnswersRequest, Checks,
 use Rattle.sm_display.specs.Print.{canonical_text, Prints}
 use Rattle.sm_display.proofs.ExplainUnique.{explains_same}
 use Rattle.sm_commands.proofs.BatchUnique.{batches_same, fewer_batches}
-use Rattle.sm_words.specs.Words.{Words, Asked, check, verify, replay, print, suggest, gen, explain, batch, about, asked}
+use Rattle.sm_words.specs.Words.{Words, Asked, check, verify, replay, print, suggest, gen, explain, batch, trim, about, asked}
 use Rattle.sm_words.specs.declared.effort.Effort.{Effort}
 use Rattle.sm_answers.specs.declared.status.Status.{Status}
 use Rattle.sm_answers.specs.declared.status.Status.TheVariants.{Accepted, Conflict, Unknown, Refused, Usage, ReadFault, Memory}
@@ -210,6 +210,7 @@ command_same (explain task input turns) files b n c m s u l k plain told no_faul
     explains_same files task input turns b n c m s u l k told no_fault nor_later x y
 command_same (batch list cache effort) files b n c m s u l k plain told no_fault nor_later whole also x y =
     batches_same check_same files list effort b n c m s u l k told no_fault nor_later x y
+command_same (trim task proof out) files b n c m s u l k plain told no_fault nor_later whole also x y = absurd plain
 command_same (about what) files b n c m s u l k plain told no_fault nor_later whole also x y = says_same refl refl x.says y.says
 
 request_same : (ask : Option Asked) (words : Words) (files : Files) (b n c m : ℕ) (s u : Status) (l k : List ℕ)
@@ -347,6 +348,7 @@ fewer_workers (print task copy) workers files b n s l x = x
 fewer_workers (suggest task effort) workers files b n s l x = fewer_suggests (files task) effort workers b n s l x
 fewer_workers (explain task input turns) workers files b n s l x = x
 fewer_workers (batch list cache effort) workers files b n s l x = fewer_batches files list effort workers b n s l x
+fewer_workers (trim task proof out) workers files b n s l x = x
 fewer_workers (about what) workers files b n s l x = x
 fewer_workers (gen seed size effort) workers files b n s l x =
     record {
@@ -370,6 +372,7 @@ any_cache (suggest task effort) cache files b n s l x = x
 any_cache (gen seed size effort) cache files b n s l x = x
 any_cache (explain task input turns) cache files b n s l x = x
 any_cache (batch list others effort) cache files b n s l x = x
+any_cache (trim task proof out) cache files b n s l x = x
 any_cache (about what) cache files b n s l x = x
 
 -- an answer to words is one to those that ask alike

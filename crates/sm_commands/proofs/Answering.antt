@@ -17,7 +17,7 @@ use Rattle.sm_commands.specs.Deeper.{AnswersDeeper}
 use Rattle.sm_commands.specs.Why.{AnswersTask}
 use Rattle.sm_eval.specs.StoredValues.{meaning}
 use Rattle.sm_answers.specs.Status.{Says}
-use Rattle.sm_words.specs.Words.{Words, Asked, check, verify, replay, print, suggest, gen, explain, batch, about, asked, usage_line, IsUsage}
+use Rattle.sm_words.specs.Words.{Words, Asked, check, verify, replay, print, suggest, gen, explain, batch, trim, about, asked, usage_line, IsUsage}
 use Rattle.sm_words.specs.declared.effort.Effort.{Effort}
 use Rattle.sm_answers.specs.declared.status.Status.{Status}
 use Rattle.sm_answers.specs.declared.status.Status.TheVariants.{Accepted, Refused, Usage, ReadFault, Memory, SinkFault}
@@ -27,6 +27,7 @@ use Rattle.sm_display.proofs.Begins.{explain_to_command}
 use Rattle.sm_commands.proofs.BatchStatuses.{batch_to_command}
 use Rattle.sm_commands.proofs.Statuses.{about_to_command, check_to_command, gen_to_command, print_to_command}
 use Rattle.sm_commands.proofs.Statuses.{shown_status, suggest_to_command}
+use Rattle.sm_commands.proofs.Trimmed.{trim_accepts, trim_to_command}
 use Rattle.sm_answers.proofs.Answering.{accepted_passes, fault_not_accepted}
 
 -- only what a search accepts is accepted, and is free of conflicts
@@ -107,6 +108,9 @@ asked_accepts (suggest file effort) files before now status text a e task is = a
 asked_accepts (gen seed size effort) files before now status text a e task is = absurd (no_file task is)
 asked_accepts (explain file input turns) files before now status text a e task is = absurd (no_file task is)
 asked_accepts (batch list cache effort) files before now status text a e task is = absurd (no_file task is)
+asked_accepts (trim file proof out) files before now status text a e task is =
+    subst (λ (f : List ℕ). WhereHeld (files f) IsSafeMerge) (same_file file task is)
+    (trim_accepts (files file) (files proof) before now status text a e)
 asked_accepts (about what) files before now status text a e task is = absurd (no_file task is)
 
 pub accepts : (words : Words) (files : Files) (before now : ℕ) (status : Status) (text : List ℕ)
@@ -166,6 +170,9 @@ sound words files before now status text answers = go (asked words) refl answers
         plain (explain task input turns) e (explain_to_command files task input turns before now status text a)
     by (batch list cache effort) e a =
         plain (batch list cache effort) e (batch_to_command files list effort before now status text a)
+    by (trim task proof out) e a =
+        let to = trim_to_command (files task) (files proof) before now status text a in
+        taken (trim task proof out) e to.of_command (λ h other. to.quiet h)
     by (about what) e a = plain (about what) e (about_to_command what before now status text a)
 
     go : (ask : Option Asked) → asked words ≡ ask → AnswersRequest ask words files before now status text → IsSound words before now status text

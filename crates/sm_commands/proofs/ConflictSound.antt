@@ -31,11 +31,12 @@ use Rattle.sm_commands.specs.Suggest.{AnswersSuggest, SaysSuggestion, Suggests}
 use Rattle.sm_syntax.specs.declared.copies.CopyName.{CopyName}
 use Rattle.sm_answers.specs.File.{GivesTask}
 use Rattle.sm_answers.specs.Replay.{GivesInput, Replays, ReplaysInput}
-use Rattle.sm_words.specs.Words.{Words, Asked, check, verify, replay, print, suggest, gen, explain, batch, about, asked, task_file}
+use Rattle.sm_words.specs.Words.{Words, Asked, check, verify, replay, print, suggest, gen, explain, batch, trim, about, asked, task_file}
 use Rattle.sm_words.specs.declared.effort.Effort.{Effort}
 use Rattle.sm_answers.specs.declared.status.Status.{Status}
 use Rattle.sm_answers.specs.declared.status.Status.TheVariants.{Conflict}
 use Rattle.sm_replay.proofs.ViolationsSound.{violation_conflicts}
+use Rattle.sm_commands.proofs.Trimmed.{trim_to_command}
 use Rattle.sm_answers.proofs.Replayed.{judged_violates, no_input_no_conflict}
 use Rattle.sm_answers.proofs.Statuses.{answered_no_conflict, without_task}
 
@@ -233,6 +234,8 @@ asked_conflicts (explain file input turns) files before now status text a e task
     subst (λ (f : List ℕ). WhereHeld (files f) IsUnsafeMerge) (same_file file task is)
     (explain_conflicts files file input turns before now status text a e)
 asked_conflicts (batch list cache effort) files before now status text a e task is = absurd (no_file task is)
+asked_conflicts (trim file proof out) files before now status text a e task is =
+    absurd ((trim_to_command (files file) (files proof) before now status text a).not_conflict e)
 asked_conflicts (about what) files before now status text a e task is = absurd (no_file task is)
 
 pub conflicts : (words : Words) (files : Files) (before now : ℕ) (status : Status) (text : List ℕ)

@@ -9,10 +9,10 @@ use Rattle.sm_commands.specs.Top.{WritesElsewhere}
 use Rattle.sm_words.specs.declared.effort.Effort.{Effort}
 use Rattle.sm_syntax.specs.declared.copies.CopyName.{CopyName}
 use Rattle.sm_words.specs.Numbers.{cache_by, copy_by, seed_by, size_by, turns_by, workers_by}
-use Rattle.sm_words.specs.Words.{Words, Asked, check, verify, replay, print, suggest, gen, explain, batch, about, word_faults, asked, asked_by, asked_where, check_by}
+use Rattle.sm_words.specs.Words.{Words, Asked, check, verify, replay, print, suggest, gen, explain, batch, trim, about, word_faults, asked, asked_by, asked_where, check_by, trim_by}
 use Rattle.sm_words.specs.Words.{argument_text, effort_in, verb_of, unless}
 use Rattle.sm_words.specs.declared.command.Verb.{Verb}
-use Rattle.sm_words.specs.declared.command.Verb.TheVariants.{Check, Verify, Replay, Print, Suggest, Gen, Explain, Batch, About}
+use Rattle.sm_words.specs.declared.command.Verb.TheVariants.{Check, Verify, Replay, Print, Suggest, Gen, Explain, Batch, Trim, About}
 
 same_ask : (p q : Asked) → Some p ≡ Some q → p ≡ q
 same_ask p q e = cc
@@ -34,6 +34,23 @@ check_elsewhere (Some file) (Some given) effort ask e = go (bytes_eq file given)
     go false is (Some f) e =
         subst WritesElsewhere (same_ask (check file given f) ask e)
         (λ same. true≢false (sym ((bytes_eq-Decides file given).1 same) ∙ is))
+
+-- nor is the file that `trim` writes that of the task or of the proof
+trim_elsewhere : (task proof out : Option Text) (ask : Asked) → trim_by task proof out ≡ Some ask → WritesElsewhere ask
+trim_elsewhere None proof out ask e = absurd (no_ask ask e)
+trim_elsewhere (Some file) None out ask e = absurd (no_ask ask e)
+trim_elsewhere (Some file) (Some given) None ask e = absurd (no_ask ask e)
+trim_elsewhere (Some file) (Some given) (Some o) ask e = go (bytes_eq file o) (bytes_eq given o) refl refl e
+  where
+    go : (b c : Bool) → bytes_eq file o ≡ b → bytes_eq given o ≡ c
+        → (if b then None else (if c then None else Some (trim file given o))) ≡ Some ask → WritesElsewhere ask
+    go true c is same e = absurd (no_ask ask e)
+    go false true is same e = absurd (no_ask ask e)
+    go false false is same e =
+        subst WritesElsewhere (same_ask (trim file given o) ask e) (
+          λ h. true≢false (sym ((bytes_eq-Decides file o).1 h) ∙ is),
+          λ h. true≢false (sym ((bytes_eq-Decides given o).1 h) ∙ same),
+        )
 
 other_elsewhere : (verb : Verb) (words : Words) (ask : Asked) → asked_by verb words ≡ Some ask → WritesElsewhere ask
 other_elsewhere Check words ask e =
@@ -96,6 +113,9 @@ other_elsewhere Batch words ask e =
     batch_elsewhere (Some l) None effort ask e = absurd (no_ask ask e)
     batch_elsewhere (Some l) (Some n) None ask e = absurd (no_ask ask e)
     batch_elsewhere (Some l) (Some n) (Some f) ask e = subst WritesElsewhere (same_ask (batch l n f) ask e) tt
+other_elsewhere Trim words ask e =
+    trim_elsewhere (argument_text Trim (codes "TASK") words) (argument_text Trim (codes "PROOF") words)
+    (argument_text Trim (codes "OUT") words) ask e
 other_elsewhere (About what) words ask e = subst WritesElsewhere (same_ask (about what) ask e) tt
 other_elsewhere Gen words ask e =
     gen_elsewhere (seed_by (argument_text Gen (codes "SEED") words)) (size_by (argument_text Gen (codes "SIZE") words))

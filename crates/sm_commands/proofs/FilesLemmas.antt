@@ -23,7 +23,7 @@ use Rattle.sm_answers.specs.ProofFile.{IsBegun}
 use Rattle.sm_answers.specs.Status.{Says}
 use Rattle.sm_commands.specs.Top.{Files, Checks, LeavesBy, LeavesFiles, LeavesPart, LeavesPartBy}
 use Rattle.sm_commands.specs.Views.{CountsWrites, EndsWith}
-use Rattle.sm_words.specs.Words.{Asked, check, verify, replay, print, suggest, gen, explain, batch, about}
+use Rattle.sm_words.specs.Words.{Asked, check, verify, replay, print, suggest, gen, explain, batch, trim, about}
 use Rattle.sm_words.specs.declared.effort.Effort.{Effort}
 use Rattle.sm_answers.specs.declared.exit.Exit.{Exit}
 use Rattle.sm_answers.specs.declared.exit.Exit.TheVariants as stopped
@@ -131,34 +131,40 @@ leaves_same file s old new never nor (inr (t, is, inr (inr h))) = h.1
 same_ask : (p q : Asked) → Some p ≡ Some q → p ≡ q
 same_ask p q e = cc
 
--- no other file than that of the proof of `check` changes
+-- no other file than that of the proof that `check` or `trim` makes changes
 pub same_by : (o : Option Asked) (before now : Files) (s : Status) → LeavesBy o before s now → (name : List ℕ)
-    → ((task : List ℕ) (effort : Effort) → o ≢ Some (check task name effort)) → now name ≡ before name
-same_by None before now s h name never = h name
-same_by (Some (check task proof effort)) before now s h name never =
+    → ((task : List ℕ) (effort : Effort) → o ≢ Some (check task name effort))
+    → ((task proof : List ℕ) → o ≢ Some (trim task proof name)) → now name ≡ before name
+same_by None before now s h name never nor = h name
+same_by (Some (check task proof effort)) before now s h name never nor =
     h.0 name (λ e. never task effort (ap (λ (p : List ℕ). Some (check task p effort)) (sym e)))
-same_by (Some (verify task proof workers)) before now s h name never = h name
-same_by (Some (replay task input turns)) before now s h name never = h name
-same_by (Some (print task copy)) before now s h name never = h name
-same_by (Some (suggest task effort)) before now s h name never = h name
-same_by (Some (gen seed size effort)) before now s h name never = h name
-same_by (Some (explain task input turns)) before now s h name never = h name
-same_by (Some (batch list cache effort)) before now s h name never = h name
-same_by (Some (about what)) before now s h name never = h name
+same_by (Some (verify task proof workers)) before now s h name never nor = h name
+same_by (Some (replay task input turns)) before now s h name never nor = h name
+same_by (Some (print task copy)) before now s h name never nor = h name
+same_by (Some (suggest task effort)) before now s h name never nor = h name
+same_by (Some (gen seed size effort)) before now s h name never nor = h name
+same_by (Some (explain task input turns)) before now s h name never nor = h name
+same_by (Some (batch list cache effort)) before now s h name never nor = h name
+same_by (Some (trim task proof out)) before now s h name never nor =
+    h.0 name (λ e. nor task proof (ap (λ (p : List ℕ). Some (trim task proof p)) (sym e)))
+same_by (Some (about what)) before now s h name never nor = h name
 
 pub same_part : (o : Option Asked) (before now : Files) → LeavesPartBy o before now → (name : List ℕ)
-    → ((task : List ℕ) (effort : Effort) → o ≢ Some (check task name effort)) → now name ≡ before name
-same_part None before now h name never = h name
-same_part (Some (check task proof effort)) before now h name never =
+    → ((task : List ℕ) (effort : Effort) → o ≢ Some (check task name effort))
+    → ((task proof : List ℕ) → o ≢ Some (trim task proof name)) → now name ≡ before name
+same_part None before now h name never nor = h name
+same_part (Some (check task proof effort)) before now h name never nor =
     h.0 name (λ e. never task effort (ap (λ (p : List ℕ). Some (check task p effort)) (sym e)))
-same_part (Some (verify task proof workers)) before now h name never = h name
-same_part (Some (replay task input turns)) before now h name never = h name
-same_part (Some (print task copy)) before now h name never = h name
-same_part (Some (suggest task effort)) before now h name never = h name
-same_part (Some (gen seed size effort)) before now h name never = h name
-same_part (Some (explain task input turns)) before now h name never = h name
-same_part (Some (batch list cache effort)) before now h name never = h name
-same_part (Some (about what)) before now h name never = h name
+same_part (Some (verify task proof workers)) before now h name never nor = h name
+same_part (Some (replay task input turns)) before now h name never nor = h name
+same_part (Some (print task copy)) before now h name never nor = h name
+same_part (Some (suggest task effort)) before now h name never nor = h name
+same_part (Some (gen seed size effort)) before now h name never nor = h name
+same_part (Some (explain task input turns)) before now h name never nor = h name
+same_part (Some (batch list cache effort)) before now h name never nor = h name
+same_part (Some (trim task proof out)) before now h name never nor =
+    h.0 name (λ e. nor task proof (ap (λ (p : List ℕ). Some (trim task proof p)) (sym e)))
+same_part (Some (about what)) before now h name never nor = h name
 
 -- what is left in the file of the proof that `check` is asked for
 pub left_by : (o : Option Asked) (before now : Files) (s : Status) (task proof : List ℕ) (effort : Effort)

@@ -8,6 +8,10 @@ pub mod ConflictSound
 pub mod Verified
 pub mod AnswerUnique
 pub mod FilesLemmas
+pub mod Trimmed
+pub mod TrimmedFiles
+pub mod TrimmedRead
+pub mod LinesCounted
 pub mod SpelledLemmas
 pub mod ReadingsLemmas
 pub mod WhySaid

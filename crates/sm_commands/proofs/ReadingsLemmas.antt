@@ -17,7 +17,7 @@ use Rattle.sm_commands.proofs.SuggestedSafe.{accepted_suggestion}
 use Rattle.sm_commands.specs.Readings.{AnswersByReads, ChecksRead, ProposesRead}
 use Rattle.sm_answers.specs.Readings.{ReadsTask, ReplaysRead, VerifiesRead}
 use Rattle.sm_commands.specs.Top.{AnswersCommand, Files, IsAnswerTo}
-use Rattle.sm_words.specs.Words.{Words, Asked, check as to_check, verify, replay, print, suggest, gen, explain, batch, about, asked}
+use Rattle.sm_words.specs.Words.{Words, Asked, check as to_check, verify, replay, print, suggest, gen, explain, batch, trim, about, asked}
 use Rattle.sm_words.specs.declared.effort.Effort.{Effort}
 use Rattle.sm_answers.specs.declared.exit.Exit.{Exit}
 use Rattle.sm_answers.specs.declared.status.Status.{Status}
@@ -26,6 +26,7 @@ use Rattle.sm_commands.proofs.Answering.{accepted_is_free}
 use Rattle.sm_answers.proofs.Answering.{stops_by}
 use Rattle.sm_commands.proofs.ConflictSound.{checked_conflict, explain_no_conflict, print_no_conflict, shown_conflict}
 use Rattle.sm_commands.proofs.ConflictSound.{suggest_no_conflict, verify_no_conflict}
+use Rattle.sm_commands.proofs.Trimmed.{trim_to_command, trims_read}
 use Rattle.sm_answers.proofs.Statuses.{without_task}
 
 -- a task that was read, after what was read is written otherwise
@@ -72,6 +73,7 @@ accepted_by (suggest task effort) before now status text a e = tt
 accepted_by (gen seed size effort) before now status text a e = tt
 accepted_by (explain task input turns) before now status text a e = tt
 accepted_by (batch list cache effort) before now status text a e = tt
+accepted_by (trim task proof out) before now status text a e = trims_read task proof before now status text a e
 accepted_by (about what) before now status text a e = tt
 
 pub accepts_read : (words : Words) (before now : List Read) (status : Status) (text : List ℕ) →
@@ -139,6 +141,8 @@ conflict_by (explain task None turns) files b n before now status text answers a
 conflict_by (explain task (Some input) turns) files b n before now status text answers a e =
     replayed_by_reads task input turns before now status text a e
 conflict_by (batch list cache effort) files b n before now status text answers a e = tt
+conflict_by (trim task proof out) files b n before now status text answers a e =
+    (trim_to_command (files task) (files proof) b n status text answers).not_conflict e
 conflict_by (about what) files b n before now status text answers a e = let is = answers.says.ended in cc
 conflict_by (gen seed size effort) files b n before now status text answers a e = tt
 

@@ -14,7 +14,8 @@ use Rattle.sm_proof.specs.Verdicts.{Passes}
 use Rattle.sm_answers.specs.File.{file_limit}
 use Rattle.sm_answers.specs.Lines.{input_line}
 use Rattle.sm_answers.specs.Verify.{proof_limit}
-use Rattle.sm_words.specs.Words.{Asked, check, verify, replay, print, suggest, gen, explain, batch, about}
+use Rattle.sm_words.specs.Words.{Asked, check, verify, replay, print, suggest, gen, explain, batch}
+use Rattle.sm_words.specs.Words.{trim, about}
 use Rattle.sm_words.specs.declared.effort.Effort.{Effort}
 
 -- the file of the task, where it is asked whether its merge is free of conflicts
@@ -27,9 +28,10 @@ merge_file (suggest task effort) = None
 merge_file (gen seed size effort) = None
 merge_file (explain task input turns) = None
 merge_file (batch list cache effort) = None
+merge_file (trim task proof out) = Some task
 merge_file (about what) = None
 
--- Accepted of `check` and of `verify`: the bytes spell a task that is free of conflicts
+-- Accepted of `check`, `verify` and `trim`: the bytes spell a task that is free of conflicts
 abbrev pub IsSafeMerge : List ℕ → Type 0
 IsSafeMerge bytes = (t : Parts) × Spells bytes t × ConflictFree (task_of t)
 

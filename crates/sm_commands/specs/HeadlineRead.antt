@@ -6,7 +6,8 @@ use Rattle.sm_io.specs.Reads.{Read, ReadsWhole}
 use Rattle.sm_commands.specs.Headline.{EndsWithInput, IsProved, IsSafeMerge, IsUnsafeMerge}
 use Rattle.sm_commands.specs.Headline.{IsViolatedFrom}
 use Rattle.sm_commands.specs.Suggest.{IsSafeSuggestion}
-use Rattle.sm_words.specs.Words.{Asked, check, verify, replay, print, suggest, gen, explain, batch, about}
+use Rattle.sm_words.specs.Words.{Asked, check, verify, replay, print, suggest, gen, explain, batch}
+use Rattle.sm_words.specs.Words.{trim, about}
 use Rattle.sm_words.specs.declared.effort.Effort.{Effort}
 
 -- the one file was read, in one pass to its end, and no other; of its bytes this holds
@@ -19,8 +20,8 @@ ReadsTwo name other before now P = (bytes others : List ℕ) × (between : List 
     × ReadsWhole name before between bytes × ReadsWhole other between now others
     × P bytes others
 
--- Accepted of `check`: what was read spells a task that is free of conflicts. Of `verify`: and then
--- a proof was read that passes for it
+-- Accepted of `check`: what was read spells a task that is free of conflicts. Of `verify` and `trim`:
+-- and then a proof was read that passes for it
 abbrev pub AcceptsRead : Asked → List Read → List Read → Type 0
 AcceptsRead (check task proof effort) before now = ReadsOne task before now IsSafeMerge
 AcceptsRead (verify task proof workers) before now =
@@ -32,6 +33,9 @@ AcceptsRead (suggest task effort) before now = Unit {0}
 AcceptsRead (gen seed size effort) before now = Unit {0}
 AcceptsRead (explain task input turns) before now = Unit {0}
 AcceptsRead (batch list cache effort) before now = Unit {0}
+AcceptsRead (trim task proof out) before now =
+    ReadsTwo task proof before now (λ (bytes lines : List ℕ).
+    IsSafeMerge bytes × IsProved bytes lines)
 AcceptsRead (about what) before now = Unit {0}
 
 -- Accepted of `verify`, and nothing else: the task was read, and then a proof that passes for it
@@ -55,6 +59,7 @@ ConflictsRead (explain task (Some input) turns) before now =
     ReadsTwo task input before now (λ (bytes given : List ℕ).
     IsUnsafeMerge bytes × IsViolatedFrom given turns bytes)
 ConflictsRead (batch list cache effort) before now = Unit {0}
+ConflictsRead (trim task proof out) before now = ⊥
 ConflictsRead (about what) before now = ⊥
 
 -- Conflict of `check`: the text has the line of an input that shows a conflict of the task that was

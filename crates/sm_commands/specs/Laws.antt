@@ -3,7 +3,8 @@ use Rattle.std.specs.Prelude.{◌≡◌, ◌≢◌, ◌⊎◌, ℕ, false, List,
 use Rattle.sm_io.specs.Causes.{Rose}
 use Rattle.sm_io.specs.Files.{untold}
 use Rattle.sm_commands.specs.Top.{Files, IsAnswerTo}
-use Rattle.sm_words.specs.Words.{Words, Asked, check, verify, replay, print, suggest, gen, explain, batch, about}
+use Rattle.sm_words.specs.Words.{Words, Asked, check, verify, replay, print, suggest, gen, explain, batch}
+use Rattle.sm_words.specs.Words.{trim, about}
 use Rattle.sm_words.specs.Words.{asked}
 use Rattle.sm_answers.specs.declared.status.Status.{Status}
 use Rattle.sm_answers.specs.declared.status.Status.TheVariants.{WriteFault}
@@ -26,6 +27,7 @@ with_workers workers (gen seed size effort) =
 with_workers workers (explain task input turns) = explain task input turns
 with_workers workers (batch list cache effort) =
     batch list cache (record effort { workers = workers })
+with_workers workers (trim task proof out) = trim task proof out
 with_workers workers (about what) = about what
 
 -- what is asked for, where the accepting answers of another number of tasks are kept
@@ -38,9 +40,11 @@ with_cache cache (suggest task effort) = suggest task effort
 with_cache cache (gen seed size effort) = gen seed size effort
 with_cache cache (explain task input turns) = explain task input turns
 with_cache cache (batch list others effort) = batch list cache effort
+with_cache cache (trim task proof out) = trim task proof out
 with_cache cache (about what) = about what
 
--- nothing beyond the stated search is asked for: neither `--deeper` nor `--why`
+-- nothing beyond the stated search is asked for: neither `--deeper` nor `--why`; nor is `trim`, whose
+-- second count of lines is free
 abbrev pub IsPlain : Asked → Type 0
 IsPlain (check task proof effort) = (effort.deeper ≡ false) × (effort.why ≡ false)
 IsPlain (verify task proof workers) = Unit {0}
@@ -50,6 +54,7 @@ IsPlain (suggest task effort) = Unit {0}
 IsPlain (gen seed size effort) = Unit {0}
 IsPlain (explain task input turns) = Unit {0}
 IsPlain (batch list cache effort) = Unit {0}
+IsPlain (trim task proof out) = ⊥
 IsPlain (about what) = Unit {0}
 
 -- the words ask for nothing beyond the stated search
@@ -64,8 +69,8 @@ AskAlike words others =
     × (asked others ≡ Some (with_cache cache (with_workers workers ask))))
 
 -- two answers to words that ask alike and told files, each without a fault to read or to write, are
--- equal, where the words ask for nothing beyond the stated search, neither `--deeper` nor `--why`: a
--- number of workers, or of tasks whose answers are kept, changes no byte
+-- equal, where the words ask for nothing beyond the stated search, neither `--deeper` nor `--why`, and
+-- not for `trim`: a number of workers, or of tasks whose answers are kept, changes no byte
 abbrev pub OneAnswer : Type 0
 OneAnswer =
     (words others : Words) (files : Files) (before now earlier later : ℕ)

@@ -1,6 +1,7 @@
 pub mod Headline
 pub mod HeadlineRead
 pub mod Readings
+pub mod Trim
 pub mod Top
 pub mod Laws
 pub mod Check

@@ -1,5 +1,5 @@
--- What `check` does with the file of a proof. Public clauses cite it.
-use Rattle.std.specs.Prelude.{◌≡◌, ◌≢◌, ◌⊎◌, ◌<◌, ℕ, List, length, take}
+-- What `check` and `trim` do with the file of a proof. Public clauses cite it.
+use Rattle.std.specs.Prelude.{◌≡◌, ◌≢◌, ◌⊎◌, ◌<◌, ℕ, List, codes, length, take}
 use Rattle.sm_io.specs.Files.{Known, WhereHeld, emptied, longer}
 use Rattle.sm_proof.specs.Verdicts.{Passes}
 use Rattle.sm_syntax.specs.text.Parts.{Parts}

@@ -6,7 +6,9 @@ use Rattle.sm_syntax.specs.text.Parts.{Parts}
 use Rattle.sm_commands.specs.Why.{AnswersTask}
 use Rattle.sm_commands.specs.HeadlineBatch.{AcceptsSafeRead}
 use Rattle.sm_commands.specs.Suggest.{AnswersSuggest}
-use Rattle.sm_words.specs.Words.{Asked, check, verify, replay, print, suggest, gen, explain, batch, about}
+use Rattle.sm_commands.specs.Trim.{TrimsByReads}
+use Rattle.sm_words.specs.Words.{Asked, check, verify, replay, print, suggest, gen, explain, batch}
+use Rattle.sm_words.specs.Words.{trim, about}
 use Rattle.sm_words.specs.declared.effort.Effort.{Effort}
 use Rattle.sm_answers.specs.declared.status.Status.{Status}
 use Rattle.sm_answers.specs.declared.status.Status.TheVariants.{Accepted, Conflict}
@@ -41,5 +43,7 @@ AnswersByReads (Some (explain task input turns)) before now status text =
     ExplainsRead task input turns before now status text
 AnswersByReads (Some (batch list cache effort)) before now status text =
     AcceptsSafeRead list before now text
+AnswersByReads (Some (trim task proof out)) before now status text =
+    TrimsByReads task proof before now status text
 AnswersByReads (Some (about what)) before now status text = Unit {0}
 AnswersByReads None before now status text = Unit {0}

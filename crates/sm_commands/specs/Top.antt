@@ -12,6 +12,7 @@ use Rattle.sm_commands.specs.Gen.{AnswersGen}
 use Rattle.sm_commands.specs.Why.{AnswersTask}
 use Rattle.sm_commands.specs.ProofFile.{LeavesFront, LeavesProof}
 use Rattle.sm_commands.specs.Suggest.{Suggests}
+use Rattle.sm_commands.specs.Trim.{LeavesTrimmed, Trims}
 use Rattle.sm_answers.specs.Replay.{Replays}
 use Rattle.sm_answers.specs.Status.{Says}
 use Rattle.sm_answers.specs.Verify.{rejected_line, Verifies}
@@ -19,7 +20,7 @@ use Rattle.sm_display.specs.Explain.{Explains}
 use Rattle.sm_display.specs.Print.{Prints}
 use Rattle.sm_words.specs.About.{about_text}
 use Rattle.sm_words.specs.Words.{Words, Asked, check, verify, replay, print, suggest, gen}
-use Rattle.sm_words.specs.Words.{explain, batch, about}
+use Rattle.sm_words.specs.Words.{explain, batch, trim, about}
 use Rattle.sm_words.specs.Words.{asked, usage_line, IsUsage}
 use Rattle.sm_words.specs.declared.about.About.{About}
 use Rattle.sm_words.specs.declared.effort.Effort.{Effort}
@@ -83,10 +84,12 @@ AnswersCommand (explain task input turns) files before now status text =
     Explains files task input turns before now status text
 AnswersCommand (batch list cache effort) files before now status text =
     Batches files list effort before now status text
+AnswersCommand (trim task proof out) files before now status text =
+    Trims (files task) (files proof) before now status text
 AnswersCommand (about what) files before now status text = Tells what before now status text
 
--- what is left in the files by the answer to what is asked for: `check` alone writes, and to the
--- file of its proof alone
+-- what is left in the files by the answer to what is asked for: `check` and `trim` alone write, and to
+-- the file of the proof that they make alone
 abbrev pub LeavesFiles : Asked → Files → Status → Files → Type 0
 LeavesFiles (check task proof effort) before status now =
     ((other : List ℕ) → other ≢ proof → now other ≡ before other)
@@ -98,6 +101,9 @@ LeavesFiles (suggest task effort) before status now = IsUnchanged before now
 LeavesFiles (gen seed size effort) before status now = IsUnchanged before now
 LeavesFiles (explain task input turns) before status now = IsUnchanged before now
 LeavesFiles (batch list cache effort) before status now = IsUnchanged before now
+LeavesFiles (trim task proof out) before status now =
+    ((other : List ℕ) → other ≢ out → now other ≡ before other)
+    × LeavesTrimmed (before task) status (before out) (now out)
 LeavesFiles (about what) before status now = IsUnchanged before now
 
 -- what may be left in the files where memory is wanting
@@ -112,6 +118,9 @@ LeavesPart (suggest task effort) before now = IsUnchanged before now
 LeavesPart (gen seed size effort) before now = IsUnchanged before now
 LeavesPart (explain task input turns) before now = IsUnchanged before now
 LeavesPart (batch list cache effort) before now = IsUnchanged before now
+LeavesPart (trim task proof out) before now =
+    ((other : List ℕ) → other ≢ out → now other ≡ before other)
+    × LeavesFront (before task) (before out) (now out)
 LeavesPart (about what) before now = IsUnchanged before now
 
 -- what is answered to words that ask for this, or for nothing
@@ -135,7 +144,7 @@ abbrev pub LeavesPartBy : Option Asked → Files → Files → Type 0
 LeavesPartBy None before now = IsUnchanged before now
 LeavesPartBy (Some ask) before now = LeavesPart ask before now
 
--- the file of the proof that is to be written isn't that of the task
+-- the file of the proof that is to be written isn't that of the task, nor of the proof that is given
 abbrev pub WritesElsewhere : Asked → Type 0
 WritesElsewhere (check task proof effort) = task ≢ proof
 WritesElsewhere (verify task proof workers) = Unit {0}
@@ -145,6 +154,7 @@ WritesElsewhere (suggest task effort) = Unit {0}
 WritesElsewhere (gen seed size effort) = Unit {0}
 WritesElsewhere (explain task input turns) = Unit {0}
 WritesElsewhere (batch list cache effort) = Unit {0}
+WritesElsewhere (trim task proof out) = (task ≢ out) × (proof ≢ out)
 WritesElsewhere (about what) = Unit {0}
 
 -- the words ask for `verify`

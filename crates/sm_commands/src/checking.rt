@@ -98,8 +98,8 @@ fn check_task<R: Threads + Sync, G: Gate, H: Shelf>(
     }
 }
 
-// The answer to a task that is accepted, once its proof was to be written.
-fn write_proof<H: Shelf>(
+/// The answer to a task that is accepted, once its proof was to be written.
+pub(crate) fn write_proof<H: Shelf>(
     alloc: Global,
     shelf: &mut H,
     reply: Reply,

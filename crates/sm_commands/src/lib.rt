@@ -13,11 +13,12 @@
 //!   combination of the given fillings that the search accepts, and `gen` makes a task and answers
 //!   it. `explain` says for a person why a task is refused, what its programs are, or what they do
 //!   from an input. `batch` answers the files that a list names, a line each, as `check` does.
-//!   `help` and `version` say what the program takes and is. Words that no command
-//!   takes, bytes that are no task or no input, and faults are answered exactly where they are met.
+//!   `trim` writes a proof that passes to another file, without the lines that nobody uses. `help` and
+//!   `version` say what the program takes and is. Words that no command takes, bytes that are no task
+//!   or no input, and faults are answered exactly where they are met.
 //! - `one_answer` is the law that two answers to told files, without a fault, are equal where the
 //!   words are the same, or ask for the same with another number of workers or another `--cache`,
-//!   and neither `--deeper` nor `--why` is among them.
+//!   where they ask for `check` without `--deeper` and `--why`, or for another command but `trim`.
 //! - `Status::number` is the number with which the program ends.
 //!
 //! The claim is `ConflictFree` of the crate `sm_syntax`. Read `specs/Headline.antt` first: what
@@ -25,12 +26,13 @@
 //! say of the bytes that were read, on every shelf. `specs/HeadlineBatch.antt` has what a line
 //! `Accepted` of `batch` says of both. `specs/Top.antt` says what is answered, with
 //! `specs/Check.antt`, `specs/Deeper.antt`, `specs/Why.antt`, `specs/Suggest.antt`,
-//! `specs/Batch.antt` and `specs/Gen.antt`,
-//! `specs/File.antt`, `specs/Verify.antt` and `specs/Replay.antt` of the crate `sm_answers`, and
-//! `specs/Print.antt` and `specs/Explain.antt` of `sm_display`; `specs/ProofFile.antt` what `check`
-//! writes, and `specs/Words.antt` of `sm_words` what the words ask for.
+//! `specs/Batch.antt`, `specs/Trim.antt` and `specs/Gen.antt`, `specs/File.antt`,
+//! `specs/Verify.antt` and `specs/Replay.antt` of the crate `sm_answers`, and `specs/Print.antt` and
+//! `specs/Explain.antt` of `sm_display`; `specs/ProofFile.antt` what `check` writes, and
+//! `specs/Words.antt` of `sm_words` what the words ask for.
 #![tactic(auto)]
 
+mod answering;
 mod batch_lines;
 mod batch_worker;
 mod batching;
@@ -44,6 +46,7 @@ mod making;
 mod suggesting;
 mod telling;
 mod top;
+mod trimming;
 mod why;
 
 pub use laws::one_answer;

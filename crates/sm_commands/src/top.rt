@@ -1,6 +1,5 @@
 // The top call: words, files and standard output.
-ghost use Rattle.std.specs.Prelude.{◌≡◌, ◌≢◌, ◌⊎◌, ◌↔◌, ◌<◌, ◌≤◌, ℕ, List, None, Some, length, map};
-ghost use Rattle.std.specs.Prelude.{take, IfOk, IfErr, IfSome, MatchOption};
+ghost use Rattle.std.specs.Prelude.{◌≡◌, ◌≢◌, ◌⊎◌, ◌↔◌, ◌≤◌, ℕ, List, Some, length, map};
 ghost use Rattle.std.specs.String.{string_bytes};
 ghost use Rattle.sm_houdini.specs.Outcomes as outcome;
 ghost use Rattle.sm_houdini.specs.Outcomes.{IsOutcome};
@@ -9,11 +8,9 @@ ghost use Rattle.sm_io.specs.Files.{WhereHeld, holds};
 ghost use Rattle.sm_io.specs.Sinks.{Adds};
 ghost use Rattle.sm_syntax.specs.text.Parts.{Parts};
 ghost use Rattle.sm_syntax.specs.text.Spells.{Spells};
-ghost use Rattle.sm_answers.specs.Exit.{ExitsWith};
 ghost use Rattle.sm_answers.specs.File.{file_limit};
-ghost use Rattle.sm_words.specs.Views.{asked_in, IsWithin};
 ghost use Rattle.sm_words.specs.Words.{Asked, asked, check, verify, replay, suggest, explain};
-ghost use Rattle.sm_words.specs.Words.{batch, task_file, IsUsage};
+ghost use Rattle.sm_words.specs.Words.{batch, task_file, trim, IsUsage};
 ghost use Rattle.sm_words.specs.declared.effort.Effort.{Effort};
 ghost use Rattle.sm_commands.specs.Check.{reach_of};
 ghost use Rattle.sm_commands.specs.Headline.{merge_file, IsProved, IsSafeMerge, IsUnsafeMerge};
@@ -22,23 +19,14 @@ ghost use Rattle.sm_commands.specs.HeadlineBatch.{AcceptsSafe, AcceptsSafeRead};
 ghost use Rattle.sm_commands.specs.HeadlineRead.{AcceptsRead, ConflictsRead, ReadsProved};
 ghost use Rattle.sm_commands.specs.HeadlineRead.{ShowsReadInput, SuggestsRead};
 ghost use Rattle.sm_commands.specs.ProofFile.{HoldsProof, IsTaskIn, LeavesCut, LeavesFront};
-ghost use Rattle.sm_commands.specs.Readings.{AnswersByReads};
 ghost use Rattle.sm_commands.specs.Suggest.{IsSafeSuggestion};
-ghost use Rattle.sm_commands.specs.Top.{IsAnswerTo, AnswersCommand};
-ghost use Rattle.sm_commands.specs.Top.{IsPrinted, PutsPart, RejectsProof, LeavesBy, LeavesFiles};
-ghost use Rattle.sm_commands.specs.Top.{LeavesPart, LeavesPartBy, WritesElsewhere};
-ghost use Rattle.sm_commands.specs.Views.{CountsWrites, EndsWith};
+ghost use Rattle.sm_commands.specs.Trim.{HoldsTrimmed};
+ghost use Rattle.sm_commands.specs.Top.{IsAnswerTo, IsPrinted, PutsPart, RejectsProof};
 
-use crate::batching::batch_in;
-use crate::checking::check_in;
-use crate::making::gen_answer;
-use crate::suggesting::suggest_in;
-use crate::telling::{tell, usage};
-use sm_answers::{Exit, Reply, Status, replay_in, verify_in};
-use sm_display::{explain_in, print_in};
+use crate::answering::reply_to;
+use sm_answers::Status;
 use sm_io::{IoError, Shelf, Sink, put_all};
 use sm_par::Gate;
-use sm_words::{Request, WordsError, read_words};
 use std::alloc::Global;
 use std::thread::Threads;
 
@@ -53,7 +41,7 @@ pub fn safemerge<R: Threads + Sync, G: Gate, H: Shelf, K: Sink>(
     shelf: &mut H,
     out: &mut K,
 ) -> Status
-    // Where `check` or `verify` accepts, the file's bytes spell a task that is free of conflicts.
+    // Where `check`, `verify` or `trim` accepts, the file's bytes spell a task that is free of conflicts.
     ensures accepted { result ≡ Status.Accepted → (ask : Asked) (task : List ℕ) →
         asked (map string_bytes words.now) ≡ Some ask → merge_file ask ≡ Some task →
         WhereHeld (H.file shelf.old task) IsSafeMerge }
@@ -141,10 +129,13 @@ pub fn safemerge<R: Threads + Sync, G: Gate, H: Shelf, K: Sink>(
         (H.read_faults shelf.old) (H.read_faults shelf.new))
         (K.taken out.old) (K.taken out.new) }
 
-    // No file changes, but that of the proof of `check`, where it accepts or can't write it whole.
+    // No file changes, but that of the proof that `check` or `trim` makes, where it accepts or can't
+    // write it whole.
     ensures same { (name : List ℕ) →
         ((task : List ℕ) (effort : Effort) →
         asked (map string_bytes words.now) ≢ Some (check task name effort)) →
+        ((task proof : List ℕ) →
+        asked (map string_bytes words.now) ≢ Some (trim task proof name)) →
         H.file shelf.new name ≡ H.file shelf.old name }
     ensures untouched { IsPrinted result → result ≢ Status.Accepted → result ≢ Status.WriteFault →
         (task proof : List ℕ) (effort : Effort) →
@@ -175,6 +166,29 @@ pub fn safemerge<R: Threads + Sync, G: Gate, H: Shelf, K: Sink>(
         IsOutcome t (reach_of effort) effort.turns outcome.Accepted →
         HoldsProof t (H.file shelf.old proof) (H.file shelf.new proof) }
 
+    // All that is said of the file of the proof of `check` stands of that which `trim` makes.
+    ensures untrimmed { IsPrinted result → result ≢ Status.Accepted → result ≢ Status.WriteFault →
+        (task proof out : List ℕ) →
+        asked (map string_bytes words.now) ≡ Some (trim task proof out) →
+        H.file shelf.new out ≡ H.file shelf.old out }
+    ensures trimmed { result ≡ Status.Accepted → (task proof out : List ℕ) →
+        asked (map string_bytes words.now) ≡ Some (trim task proof out) →
+        (t : Parts) × IsTaskIn (H.file shelf.old task) t
+        × HoldsTrimmed t (H.file shelf.old out) (H.file shelf.new out) }
+    ensures trimmed_front { (task proof out : List ℕ) →
+        asked (map string_bytes words.now) ≡ Some (trim task proof out) →
+        LeavesFront (H.file shelf.old task) (H.file shelf.old out) (H.file shelf.new out) }
+    ensures trimmed_part { result ≡ Status.WriteFault → (task proof out : List ℕ) →
+        asked (map string_bytes words.now) ≡ Some (trim task proof out) →
+        LeavesCut (H.file shelf.old task) (H.file shelf.old out) (H.file shelf.new out) }
+    ensures trimmed_kept { result ≡ Status.SinkFault →
+        (¬ Rose (H.write_faults shelf.old) (H.write_faults shelf.new)) →
+        (task proof out : List ℕ) →
+        asked (map string_bytes words.now) ≡ Some (trim task proof out) →
+        (H.file shelf.new out ≡ H.file shelf.old out)
+        ⊎ ((t : Parts) × IsTaskIn (H.file shelf.old task) t
+        × HoldsTrimmed t (H.file shelf.old out) (H.file shelf.new out)) }
+
     // A fault to write has its cause, and so has each rise of the count.
     ensures written { result ≡ Status.WriteFault →
         Rose (H.write_faults shelf.old) (H.write_faults shelf.new) }
@@ -188,112 +202,5 @@ pub fn safemerge<R: Threads + Sync, G: Gate, H: Shelf, K: Sink>(
         Ok(()) => reply.status,
         Err(IoError::Fault) => Status::SinkFault,
         Err(IoError::Memory) => Status::Memory,
-    }
-}
-
-// The answer to the words; none for want of memory.
-fn reply_to<R: Threads + Sync, G: Gate, H: Shelf>(
-    rt: &R,
-    alloc: Global,
-    gate: &G,
-    words: &[String],
-    shelf: &mut H,
-) -> Option<Reply>
-    ensures answers { IfSome result (λ r. IsAnswerTo (map string_bytes words.now) (H.file shelf.old)
-        (H.read_faults shelf.old) (H.read_faults shelf.new) r.status r.text.items) }
-    ensures read { IfSome result (λ r. AnswersByReads (asked (map string_bytes words.now))
-        (H.given shelf.old) (H.given shelf.new) r.status r.text.items) }
-    ensures left { MatchOption result
-        (LeavesPartBy (asked (map string_bytes words.now)) (H.file shelf.old) (H.file shelf.new))
-        (λ r. LeavesBy (asked (map string_bytes words.now)) (H.file shelf.old) r.status
-        (H.file shelf.new)) }
-    ensures writes { MatchOption result (H.write_faults shelf.new ≡ H.write_faults shelf.old)
-        (λ r. HasCause (H.write_faults shelf.old) (H.write_faults shelf.new)
-        (r.status ≡ Status.WriteFault)) }
-{
-    match answer(rt, alloc, gate, words, shelf) {
-        Ok(reply) => Some(reply),
-        Err(Exit::Answer(reply)) => Some(reply),
-        Err(Exit::Memory) => None,
-    }
-}
-
-// The answer to the words, as what the commands come to or where they stop.
-fn answer<R: Threads + Sync, G: Gate, H: Shelf>(
-    rt: &R,
-    alloc: Global,
-    gate: &G,
-    words: &[String],
-    shelf: &mut H,
-) -> Result<Reply, Exit>
-    ensures ok { IfOk result (λ r. IsAnswerTo (map string_bytes words.now) (H.file shelf.old)
-        (H.read_faults shelf.old) (H.read_faults shelf.new) r.status r.text.items) }
-    ensures exit { IfErr result (ExitsWith (IsAnswerTo (map string_bytes words.now)
-        (H.file shelf.old) (H.read_faults shelf.old) (H.read_faults shelf.new))) }
-    ensures read { IfOk result (λ r. AnswersByReads (asked (map string_bytes words.now))
-        (H.given shelf.old) (H.given shelf.new) r.status r.text.items) }
-    ensures exit_read { IfErr result (ExitsWith (AnswersByReads (asked (map string_bytes words.now))
-        (H.given shelf.old) (H.given shelf.new))) }
-    ensures left { EndsWith
-        (λ status. LeavesBy (asked (map string_bytes words.now)) (H.file shelf.old) status
-        (H.file shelf.new))
-        (LeavesPartBy (asked (map string_bytes words.now)) (H.file shelf.old) (H.file shelf.new))
-        result }
-    ensures writes { CountsWrites (H.write_faults shelf.old) (H.write_faults shelf.new) result }
-{
-    match read_words(alloc, words) {
-        Ok(request) => answer_to(rt, alloc, gate, request, shelf),
-        Err(WordsError::Usage) => Ok(usage(alloc, words)?),
-        Err(WordsError::Memory) => Err(Exit::Memory),
-    }
-}
-
-// The answer to what the words ask for.
-fn answer_to<R: Threads + Sync, G: Gate, H: Shelf>(
-    rt: &R,
-    alloc: Global,
-    gate: &G,
-    request: Request<'_>,
-    shelf: &mut H,
-) -> Result<Reply, Exit>
-    requires within { IsWithin request }
-    requires other { WritesElsewhere (asked_in request) }
-    ensures ok { IfOk result (λ r. AnswersCommand (asked_in request.entry) (H.file shelf.old)
-        (H.read_faults shelf.old) (H.read_faults shelf.new) r.status r.text.items) }
-    ensures exit { IfErr result (ExitsWith (AnswersCommand (asked_in request.entry)
-        (H.file shelf.old) (H.read_faults shelf.old) (H.read_faults shelf.new))) }
-    ensures read { IfOk result (λ r. AnswersByReads (Some (asked_in request.entry))
-        (H.given shelf.old) (H.given shelf.new) r.status r.text.items) }
-    ensures exit_read { IfErr result (ExitsWith (AnswersByReads (Some (asked_in request.entry))
-        (H.given shelf.old) (H.given shelf.new))) }
-    ensures left { EndsWith
-        (λ status. LeavesFiles (asked_in request.entry) (H.file shelf.old) status (H.file shelf.new))
-        (LeavesPart (asked_in request.entry) (H.file shelf.old) (H.file shelf.new)) result }
-    ensures writes { CountsWrites (H.write_faults shelf.old) (H.write_faults shelf.new) result }
-{
-    match request {
-        Request::Check {
-            task,
-            proof,
-            effort,
-        } => check_in(rt, alloc, gate, shelf, task, proof, effort),
-        Request::Verify {
-            task,
-            proof,
-            workers,
-        } => verify_in(rt, alloc, gate, shelf, task, proof, workers),
-        Request::Replay { task, input, turns } => replay_in(alloc, shelf, task, input, turns),
-        Request::Print { task, copy } => print_in(alloc, shelf, task, copy),
-        Request::Suggest { task, effort } => suggest_in(rt, alloc, gate, shelf, task, effort),
-        Request::Gen { seed, size, effort } => {
-            Ok(gen_answer(rt, alloc, gate, seed, size, effort)?)
-        }
-        Request::Explain { task, input, turns } => explain_in(alloc, shelf, task, input, turns),
-        Request::Batch {
-            list,
-            cache,
-            effort,
-        } => batch_in(rt, alloc, gate, shelf, list, cache, effort),
-        Request::About(what) => Ok(tell(alloc, what)?),
     }
 }

@@ -3,12 +3,12 @@ use Rattle.std.proofs.Common.{◌≡◌, ◌∙◌, ◌⊎◌, inl, inr, [], Opt
 use Rattle.clap.specs.Walk.{Text}
 use Rattle.sm_words.specs.Numbers.{cache_by, copy_by, effort_by, seed_by, size_by, turns_by, workers_by, HasBadNumber}
 use Rattle.sm_words.specs.Views.{asked_in}
-use Rattle.sm_words.specs.Words.{Words, asked_by, check_by, verify_by, replay_by, print_by, suggest_by, gen_by, explain_by, batch_by, word_faults, argument_text, effort_in}
+use Rattle.sm_words.specs.Words.{Words, asked_by, check_by, verify_by, replay_by, print_by, suggest_by, gen_by, explain_by, batch_by, trim_by, word_faults, argument_text, effort_in}
 use Rattle.sm_words.specs.Words.{IsRefused}
 use Rattle.sm_words.specs.declared.effort.Effort.{Effort}
 use Rattle.sm_words.specs.declared.words.Request.{Request}
 use Rattle.sm_words.specs.declared.command.Verb.{Verb}
-use Rattle.sm_words.specs.declared.command.Verb.TheVariants.{Check, Verify, Replay, Print, Suggest, Gen, Explain, Batch, About}
+use Rattle.sm_words.specs.declared.command.Verb.TheVariants.{Check, Verify, Replay, Print, Suggest, Gen, Explain, Batch, Trim, About}
 use Rattle.sm_words.specs.declared.words.WordsError.{WordsError}
 use Rattle.sm_words.specs.declared.words.WordsError.TheVariants.{Usage}
 
@@ -63,6 +63,7 @@ asks_check Gen words f r is free texts ok bad = cc
 asks_check Suggest words f r is free texts ok bad = cc
 asks_check Explain words f r is free texts ok bad = cc
 asks_check Batch words f r is free texts ok bad = cc
+asks_check Trim words f r is free texts ok bad = cc
 asks_check (About what) words f r is free texts ok bad = cc
 
 pub asks_gen : (verb : Verb) (words : Words) (f : Text → Option Text) (r : Result Request WordsError) → verb ≡ Gen
@@ -92,6 +93,7 @@ asks_gen Print words f r is free texts ok bad = cc
 asks_gen Suggest words f r is free texts ok bad = cc
 asks_gen Explain words f r is free texts ok bad = cc
 asks_gen Batch words f r is free texts ok bad = cc
+asks_gen Trim words f r is free texts ok bad = cc
 asks_gen (About what) words f r is free texts ok bad = cc
 
 pub asks_verify : (verb : Verb) (words : Words) (f : Text → Option Text) (r : Result Request WordsError) → verb ≡ Verify
@@ -113,6 +115,7 @@ asks_verify Print words f r is free texts ok bad = cc
 asks_verify Suggest words f r is free texts ok bad = cc
 asks_verify Explain words f r is free texts ok bad = cc
 asks_verify Batch words f r is free texts ok bad = cc
+asks_verify Trim words f r is free texts ok bad = cc
 asks_verify (About what) words f r is free texts ok bad = cc
 
 pub asks_replay : (verb : Verb) (words : Words) (f : Text → Option Text) (r : Result Request WordsError) → verb ≡ Replay
@@ -134,6 +137,7 @@ asks_replay Print words f r is free texts ok bad = cc
 asks_replay Suggest words f r is free texts ok bad = cc
 asks_replay Explain words f r is free texts ok bad = cc
 asks_replay Batch words f r is free texts ok bad = cc
+asks_replay Trim words f r is free texts ok bad = cc
 asks_replay (About what) words f r is free texts ok bad = cc
 
 same_print : {a b a' b' : Option Text} → a ≡ a' → b ≡ b' → print_by a b ≡ print_by a' b'
@@ -161,6 +165,7 @@ asks_print Replay words f r is free texts ok bad = cc
 asks_print Suggest words f r is free texts ok bad = cc
 asks_print Explain words f r is free texts ok bad = cc
 asks_print Batch words f r is free texts ok bad = cc
+asks_print Trim words f r is free texts ok bad = cc
 asks_print (About what) words f r is free texts ok bad = cc
 
 pub asks_suggest : (verb : Verb) (words : Words) (f : Text → Option Text) (r : Result Request WordsError) → verb ≡ Suggest
@@ -182,6 +187,7 @@ asks_suggest Replay words f r is free texts ok bad = cc
 asks_suggest Print words f r is free texts ok bad = cc
 asks_suggest Explain words f r is free texts ok bad = cc
 asks_suggest Batch words f r is free texts ok bad = cc
+asks_suggest Trim words f r is free texts ok bad = cc
 asks_suggest (About what) words f r is free texts ok bad = cc
 
 same_explain : {a b c a' b' c' : Option Text} → a ≡ a' → b ≡ b' → c ≡ c' → explain_by a b c ≡ explain_by a' b' c'
@@ -206,6 +212,7 @@ asks_explain Print words f r is free texts ok bad = cc
 asks_explain Suggest words f r is free texts ok bad = cc
 asks_explain Gen words f r is free texts ok bad = cc
 asks_explain Batch words f r is free texts ok bad = cc
+asks_explain Trim words f r is free texts ok bad = cc
 asks_explain (About what) words f r is free texts ok bad = cc
 
 same_batch : {a b a' b' : Option Text} {e e' : Option Effort} → a ≡ a' → b ≡ b' → e ≡ e' → batch_by a b e ≡ batch_by a' b' e'
@@ -233,4 +240,33 @@ asks_batch Print words f r is free texts ok bad = cc
 asks_batch Suggest words f r is free texts ok bad = cc
 asks_batch Gen words f r is free texts ok bad = cc
 asks_batch Explain words f r is free texts ok bad = cc
+asks_batch Trim words f r is free texts ok bad = cc
 asks_batch (About what) words f r is free texts ok bad = cc
+
+same_trim : {a b c a' b' c' : Option Text} → a ≡ a' → b ≡ b' → c ≡ c' → trim_by a b c ≡ trim_by a' b' c'
+same_trim p q r = rw (p, q, r) refl
+
+pub asks_trim : (verb : Verb) (words : Words) (f : Text → Option Text) (r : Result Request WordsError) → verb ≡ Trim
+    → word_faults verb words ≡ [] → ((id : Text) → f id ≡ argument_text verb id words) →
+    IfOk r (λ (q : Request). trim_by (f (codes "TASK")) (f (codes "PROOF")) (f (codes "OUT")) ≡ Some (asked_in q))
+    → (IsErrOf r Usage → (f (codes "TASK") ≡ f (codes "OUT")) ⊎ (f (codes "PROOF") ≡ f (codes "OUT"))) → Asks verb words r
+asks_trim Trim words f (Ok q) is free texts ok bad = record {
+  ok = (free, sym (same_trim (texts (codes "TASK")) (texts (codes "PROOF")) (texts (codes "OUT"))) ∙ ok);
+  usage = λ u. cc;
+}
+asks_trim Trim words f (Err e) is free texts ok bad = record {
+  ok = tt;
+  usage = λ u. inr (elim (bad u) [
+    | inl same ↦ inl (sym (texts (codes "TASK")) ∙ same ∙ texts (codes "OUT"))
+    | inr same ↦ inr (sym (texts (codes "PROOF")) ∙ same ∙ texts (codes "OUT"))
+  ]);
+}
+asks_trim Check words f r is free texts ok bad = cc
+asks_trim Verify words f r is free texts ok bad = cc
+asks_trim Replay words f r is free texts ok bad = cc
+asks_trim Print words f r is free texts ok bad = cc
+asks_trim Suggest words f r is free texts ok bad = cc
+asks_trim Gen words f r is free texts ok bad = cc
+asks_trim Explain words f r is free texts ok bad = cc
+asks_trim Batch words f r is free texts ok bad = cc
+asks_trim (About what) words f r is free texts ok bad = cc

@@ -25,11 +25,11 @@ use Rattle.clap.proofs.SimpleLemmas.{is_false, is_nil, plain_fields}
 use Rattle.clap.proofs.TakesLemmas.{each_rule}
 use Rattle.clap.proofs.WalkLemmas.{both, first_value-rows}
 use Rattle.clap.specs.declared.parser.matches.Found.{Found}
-use Rattle.sm_words.specs.Command.{about_command, batch_command, check_command, command_of, explain_command, gen_command, print_command, replay_command, required_word, suggest_command, verify_command}
+use Rattle.sm_words.specs.Command.{about_command, batch_command, check_command, command_of, explain_command, gen_command, print_command, replay_command, required_word, suggest_command, trim_command, verify_command}
 use Rattle.sm_words.specs.Words.{Words, HasRequired, word_faults, argument_text}
 use Rattle.sm_words.specs.declared.command.Verb.{Verb}
 use Rattle.sm_words.specs.declared.about.About.TheVariants.{Help, Version}
-use Rattle.sm_words.specs.declared.command.Verb.TheVariants.{Check, Verify, Replay, Print, Suggest, Gen, Explain, Batch, About}
+use Rattle.sm_words.specs.declared.command.Verb.TheVariants.{Check, Verify, Replay, Print, Suggest, Gen, Explain, Batch, Trim, About}
 
 is_none : {X : Type 0} (o : Option X) → not (is_some o) ≡ true → o ≡ None
 is_none None e = refl
@@ -135,7 +135,7 @@ is_given c m verb words same parsed rows required = record {
 
 has_required : (c : Command) (m : ArgMatches) (verb : Verb) → app_of c ≡ command_of verb → IsParsedFrom c m
     → HasRequired verb (first_value (found_of m))
-unfolding check_command verify_command replay_command print_command suggest_command gen_command explain_command batch_command
+unfolding check_command verify_command replay_command print_command suggest_command gen_command explain_command batch_command trim_command
 has_required c m Check same parsed =
     (given c m check_command 0 (codes "TASK") same parsed refl refl, given c m check_command 1 (codes "PROOF") same parsed refl refl)
 has_required c m Verify same parsed =
@@ -146,13 +146,18 @@ has_required c m Print same parsed = given c m print_command 0 (codes "TASK") sa
 has_required c m Suggest same parsed = given c m suggest_command 0 (codes "TASK") same parsed refl refl
 has_required c m Explain same parsed = given c m explain_command 0 (codes "TASK") same parsed refl refl
 has_required c m Batch same parsed = given c m batch_command 0 (codes "LIST") same parsed refl refl
+has_required c m Trim same parsed = (
+  given c m trim_command 0 (codes "TASK") same parsed refl refl,
+  given c m trim_command 1 (codes "PROOF") same parsed refl refl,
+  given c m trim_command 2 (codes "OUT") same parsed refl refl,
+)
 has_required c m (About what) same parsed = tt
 has_required c m Gen same parsed =
     (given c m gen_command 0 (codes "SEED") same parsed refl refl, given c m gen_command 1 (codes "SIZE") same parsed refl refl)
 
 -- each command is one of which `clap` says all
 is_free : (verb : Verb) → is_simple_and_free (command_of verb) ≡ true
-unfolding check_command verify_command replay_command print_command suggest_command gen_command explain_command batch_command about_command clap_on_literals
+unfolding check_command verify_command replay_command print_command suggest_command gen_command explain_command batch_command trim_command about_command clap_on_literals
 is_free Check = refl
 is_free Verify = refl
 is_free Replay = refl
@@ -161,6 +166,7 @@ is_free Suggest = refl
 is_free Gen = refl
 is_free Explain = refl
 is_free Batch = refl
+is_free Trim = refl
 is_free (About Help) = refl
 is_free (About Version) = refl
 

@@ -8,10 +8,10 @@ use Rattle.clap.specs.Walk.{Text}
 use Rattle.sm_words.specs.declared.effort.Effort.{Effort}
 use Rattle.sm_words.specs.Numbers.{cache_by, copy_by, seed_by, size_by, turns_by, workers_by, HasBadNumber}
 use Rattle.sm_words.specs.Words.{Words, Asked, check, replay, gen, batch, asked, asked_by, asked_where, check_by, verify_by, replay_by, print_by, suggest_by, gen_by}
-use Rattle.sm_words.specs.Words.{batch_by, explain_by}
+use Rattle.sm_words.specs.Words.{batch_by, explain_by, trim_by, trim}
 use Rattle.sm_words.specs.Words.{argument_text, effort_in, verb_of, unless, HasBadOption, IsRefused, IsUsage}
 use Rattle.sm_words.specs.declared.command.Verb.{Verb}
-use Rattle.sm_words.specs.declared.command.Verb.TheVariants.{Check, Verify, Replay, Print, Suggest, Gen, Explain, Batch, About}
+use Rattle.sm_words.specs.declared.command.Verb.TheVariants.{Check, Verify, Replay, Print, Suggest, Gen, Explain, Batch, Trim, About}
 
 -- a file isn't another of the same name
 one_file : (file : Text) (other : Option Asked) → (if bytes_eq file file then None else other) ≡ None
@@ -73,6 +73,19 @@ no_batch (Some file) cache effort (inr e) =
     rw e (elim (cache_by cache) as
     (λ o. option_and_then (λ (n : ℕ). option_map (λ (f : Effort). batch file n f) None) o ≡ None) [ None ↦ refl | Some n ↦ refl ])
 
+-- a trimmed proof that would be written over the task or the proof asks for nothing
+no_trim : (task proof out : Option Text) → (task ≡ out) ⊎ (proof ≡ out) → trim_by task proof out ≡ None
+no_trim None proof out h = refl
+no_trim (Some file) None out h = refl
+no_trim (Some file) (Some given) None h = refl
+no_trim (Some file) (Some given) (Some o) (inl e) =
+    let same : file ≡ o = cc in
+    rw same (one_file o (if bytes_eq given o then None else Some (trim o given o)))
+no_trim (Some file) (Some given) (Some o) (inr e) =
+    let same : given ≡ o = cc in
+    rw (same, one_file o (Some (trim file o o)))
+    (elim (bytes_eq file o) as (λ b. (if b then None else None) ≡ None) [ true ↦ refl | false ↦ refl ])
+
 none_asked : (verb : Verb) (words : Words) → HasBadOption verb words → asked_by verb words ≡ None
 none_asked Check words h =
     no_check (argument_text Check (codes "TASK") words) (argument_text Check (codes "PROOF") words) (effort_in Check words) h
@@ -89,6 +102,8 @@ none_asked Explain words h =
     (argument_text Explain (codes "turns") words) h
 none_asked Batch words h =
     no_batch (argument_text Batch (codes "LIST") words) (argument_text Batch (codes "cache") words) (effort_in Batch words) h
+none_asked Trim words h =
+    no_trim (argument_text Trim (codes "TASK") words) (argument_text Trim (codes "PROOF") words) (argument_text Trim (codes "OUT") words) h
 none_asked (About what) words h = absurd h
 none_asked Gen words h =
     no_gen (argument_text Gen (codes "SEED") words) (argument_text Gen (codes "SIZE") words) (effort_in Gen words) h

@@ -14,6 +14,7 @@ about_text Help =
     ++ codes "safemerge gen SEED SIZE [--steps N] [--turns N] [--workers N] [--exact]\n"
     ++ codes "safemerge explain TASK [INPUT] [--turns N]\n"
     ++ codes "safemerge batch LIST [--cache N] [--steps N] [--turns N] [--workers N] [--exact]\n"
+    ++ codes "safemerge trim TASK PROOF OUT\n"
     ++ codes "safemerge help\n"
     ++ codes "safemerge version\n"
 about_text Version = codes "safemerge 0.1.0\n"

@@ -7,7 +7,7 @@ use Rattle.sm_words.specs.declared.about.About.{About}
 use Rattle.sm_words.specs.declared.about.About.TheVariants.{Help, Version}
 use Rattle.sm_words.specs.declared.command.Verb.{Verb}
 use Rattle.sm_words.specs.declared.command.Verb.TheVariants.{Check, Verify, Replay, Print, Suggest}
-use Rattle.sm_words.specs.declared.command.Verb.TheVariants.{Gen, Explain, Batch}
+use Rattle.sm_words.specs.declared.command.Verb.TheVariants.{Gen, Explain, Batch, Trim}
 use Rattle.sm_words.specs.declared.command.Verb.TheVariants as verb
 
 -- a word that has to be there
@@ -93,6 +93,14 @@ batch_command =
     (required_word (codes "LIST")))
     (option_word (codes "cache")))
 
+-- trim TASK PROOF OUT
+unfoldable pub trim_command : App
+trim_command =
+    with_rule (with_rule (with_rule (new_app (codes "trim"))
+    (required_word (codes "TASK")))
+    (required_word (codes "PROOF")))
+    (required_word (codes "OUT"))
+
 -- help, or version
 unfoldable pub about_command : About → App
 about_command Help = new_app (codes "help")
@@ -108,4 +116,5 @@ command_of Suggest = suggest_command
 command_of Gen = gen_command
 command_of Explain = explain_command
 command_of Batch = batch_command
+command_of Trim = trim_command
 command_of (verb.About what) = about_command what

@@ -1,11 +1,12 @@
 -- What requests stand for. Public clauses cite it.
 use Rattle.std.specs.Prelude.{◌<◌, ◌≤◌, ℕ, List, option_map}
 use Rattle.std.specs.Borrow.{Bor}
-use Rattle.sm_words.specs.Words.{Asked, check, verify, replay, print, suggest, gen, explain, batch, about}
+use Rattle.sm_words.specs.Words.{Asked, check, verify, replay, print, suggest, gen, explain, batch}
+use Rattle.sm_words.specs.Words.{trim, about}
 use Rattle.sm_words.specs.declared.effort.Effort.{Effort}
 use Rattle.sm_words.specs.declared.words.Request.{Request}
 use Rattle.sm_words.specs.declared.words.Request.TheVariants.{Check, Verify, Replay, Print}
-use Rattle.sm_words.specs.declared.words.Request.TheVariants.{Suggest, Gen, Explain, Batch}
+use Rattle.sm_words.specs.declared.words.Request.TheVariants.{Suggest, Gen, Explain, Batch, Trim}
 use Rattle.sm_words.specs.declared.words.Request.TheVariants.{About}
 
 -- what a request asks for
@@ -19,6 +20,7 @@ asked_in (Gen seed size effort) = gen seed size effort
 asked_in (Explain task input turns) =
     explain task.now (option_map (λ (i : Bor (List ℕ)). i.now) input) turns
 asked_in (Batch list cache effort) = batch list.now cache effort
+asked_in (Trim task proof out) = trim task.now proof.now out.now
 asked_in (About what) = about what
 
 -- one to 64 workers
@@ -36,4 +38,5 @@ IsWithin (Suggest task effort) = HasWorkers effort
 IsWithin (Gen seed size effort) = (1 ≤ size) × (size ≤ 190) × HasWorkers effort
 IsWithin (Explain task input turns) = Unit {0}
 IsWithin (Batch list cache effort) = (0 < cache) × (cache ≤ 1000) × HasWorkers effort
+IsWithin (Trim task proof out) = Unit {0}
 IsWithin (About what) = Unit {0}

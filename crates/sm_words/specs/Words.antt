@@ -15,7 +15,7 @@ use Rattle.sm_words.specs.declared.about.About.TheVariants.{Help, Version}
 use Rattle.sm_words.specs.declared.command.Verb.{Verb}
 use Rattle.sm_words.specs.declared.effort.Effort.{Effort}
 use Rattle.sm_words.specs.declared.command.Verb.TheVariants.{Check, Verify, Replay, Print, Suggest}
-use Rattle.sm_words.specs.declared.command.Verb.TheVariants.{Gen, Explain, Batch}
+use Rattle.sm_words.specs.declared.command.Verb.TheVariants.{Gen, Explain, Batch, Trim}
 use Rattle.sm_words.specs.declared.command.Verb.TheVariants as verb
 use Rattle.sm_syntax.specs.declared.copies.CopyName.{CopyName}
 
@@ -34,8 +34,9 @@ verb_of word =
     (if bytes_eq word (codes "gen") then Some Gen else
     (if bytes_eq word (codes "explain") then Some Explain else
     (if bytes_eq word (codes "batch") then Some Batch else
+    (if bytes_eq word (codes "trim") then Some Trim else
     (if bytes_eq word (codes "help") then Some (verb.About Help) else
-    (if bytes_eq word (codes "version") then Some (verb.About Version) else None)))))))))
+    (if bytes_eq word (codes "version") then Some (verb.About Version) else None))))))))))
 
 -- what `clap` finds wrong with the words of a command: nothing where the command takes them
 unfoldable pub word_faults : Verb → Words → Kinds
@@ -50,7 +51,7 @@ abbrev pub effort_in : Verb → Words → Option Effort
 effort_in verb words = effort_by (λ (id : Text). argument_text verb id words)
 
 -- a number among the words of a command isn't one, or isn't in its range; or a copy's name is none;
--- or the file of the proof that is to be written is that of the task
+-- or the file of the proof that is to be written is that of the task, or of the proof that is given
 abbrev pub HasBadOption : Verb → Words → Type 0
 HasBadOption Check words =
     (argument_text Check (codes "TASK") words ≡ argument_text Check (codes "PROOF") words)
@@ -67,6 +68,9 @@ HasBadOption Gen words =
 HasBadOption Explain words = turns_by (argument_text Explain (codes "turns") words) ≡ None
 HasBadOption Batch words =
     (cache_by (argument_text Batch (codes "cache") words) ≡ None) ⊎ (effort_in Batch words ≡ None)
+HasBadOption Trim words =
+    (argument_text Trim (codes "TASK") words ≡ argument_text Trim (codes "OUT") words)
+    ⊎ (argument_text Trim (codes "PROOF") words ≡ argument_text Trim (codes "OUT") words)
 HasBadOption (verb.About what) words = ⊥
 
 -- the words are none of the command's: `clap` refuses them, or an option is bad
@@ -99,6 +103,8 @@ pub data Asked : Type 0 where
   -- the decision on each task's file that a list's file names, where the accepting answers of so many
   -- tasks are kept
   batch : List ℕ → ℕ → Effort → Asked
+  -- the proof in a file for a task's file, without lines that nobody uses, in another file
+  trim : List ℕ → List ℕ → List ℕ → Asked
   -- what the program says of itself
   about : About → Asked
 
@@ -112,6 +118,7 @@ task_file (suggest task effort) = Some task
 task_file (gen seed size effort) = None
 task_file (explain task input turns) = Some task
 task_file (batch list cache effort) = None
+task_file (trim task proof out) = Some task
 task_file (about what) = None
 
 -- what `check` asks for, by the texts of its arguments
@@ -167,6 +174,14 @@ batch_by list cache effort =
     option_and_then (λ (n : ℕ).
     option_map (λ (e : Effort). batch l n e) effort) (cache_by cache)) list
 
+-- what `trim` asks for
+abbrev pub trim_by : Option Text → Option Text → Option Text → Option Asked
+trim_by task proof out =
+    option_and_then (λ (t : Text).
+    option_and_then (λ (p : Text).
+    option_and_then (λ (o : Text).
+    if bytes_eq t o then None else (if bytes_eq p o then None else Some (trim t p o))) out) proof) task
+
 -- what a command asks for by its words
 abbrev pub asked_by : Verb → Words → Option Asked
 asked_by Check words =
@@ -192,6 +207,9 @@ asked_by Explain words =
 asked_by Batch words =
     batch_by (argument_text Batch (codes "LIST") words)
     (argument_text Batch (codes "cache") words) (effort_in Batch words)
+asked_by Trim words =
+    trim_by (argument_text Trim (codes "TASK") words)
+    (argument_text Trim (codes "PROOF") words) (argument_text Trim (codes "OUT") words)
 asked_by (verb.About what) words = Some (about what)
 
 -- the value where there is no fault
@@ -213,6 +231,9 @@ HasRequired Gen given =
     (is_some (given (codes "SEED")) ≡ true) × (is_some (given (codes "SIZE")) ≡ true)
 HasRequired Explain given = is_some (given (codes "TASK")) ≡ true
 HasRequired Batch given = is_some (given (codes "LIST")) ≡ true
+HasRequired Trim given =
+    (is_some (given (codes "TASK")) ≡ true) × (is_some (given (codes "PROOF")) ≡ true)
+    × (is_some (given (codes "OUT")) ≡ true)
 HasRequired (verb.About what) given = Unit {0}
 
 -- what the words ask for, where the command takes them
@@ -236,6 +257,7 @@ usage_line_of (Some Suggest) = codes "Usage suggest\n"
 usage_line_of (Some Gen) = codes "Usage gen\n"
 usage_line_of (Some Explain) = codes "Usage explain\n"
 usage_line_of (Some Batch) = codes "Usage batch\n"
+usage_line_of (Some Trim) = codes "Usage trim\n"
 usage_line_of (Some (verb.About Help)) = codes "Usage help\n"
 usage_line_of (Some (verb.About Version)) = codes "Usage version\n"
 

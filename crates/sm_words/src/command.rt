@@ -4,7 +4,7 @@ ghost use Rattle.clap.specs.Words.{app_of, rule_of};
 ghost use Rattle.sm_words.specs.Command.{about_command, check_command, command_of, flag_word};
 ghost use Rattle.sm_words.specs.Command.{batch_command, explain_command, optional_word};
 ghost use Rattle.sm_words.specs.Command.{gen_command, option_word, print_command, replay_command};
-ghost use Rattle.sm_words.specs.Command.{required_word, search_command, suggest_command};
+ghost use Rattle.sm_words.specs.Command.{required_word, search_command, suggest_command, trim_command};
 ghost use Rattle.sm_words.specs.Command.{verify_command, with_effort};
 
 use crate::about::About;
@@ -22,6 +22,7 @@ pub enum Verb {
     Gen,
     Explain,
     Batch,
+    Trim,
     About(About),
 }
 
@@ -38,6 +39,7 @@ pub fn command_of<'a>(alloc: Global, verb: Verb) -> Result<Command<'a>, AllocErr
         Verb::Gen => gen_command(alloc),
         Verb::Explain => explain_command(alloc),
         Verb::Batch => batch_command(alloc),
+        Verb::Trim => trim_command(alloc),
         Verb::About(about) => Ok(about_command(alloc, about)),
     }
 }
@@ -173,6 +175,16 @@ fn batch_command<'a>(alloc: Global) -> Result<Command<'a>, AllocError>
         .arg(required_word(alloc, "LIST"))?
         .arg(option_word(alloc, "cache"))?;
     with_effort(alloc, command)
+}
+
+#[tactic(auto, unfolding(crate::specs::Command::trim_command))]
+fn trim_command<'a>(alloc: Global) -> Result<Command<'a>, AllocError>
+    ensures { IfOk result (λ c. app_of c ≡ trim_command) }
+{
+    Command::new(alloc, "trim")
+        .arg(required_word(alloc, "TASK"))?
+        .arg(required_word(alloc, "PROOF"))?
+        .arg(required_word(alloc, "OUT"))
 }
 
 // A command that takes no words.

@@ -5,7 +5,7 @@ ghost use Rattle.sm_words.specs.Numbers.{cache_by, copy_by, effort_by, seed_by, 
 ghost use Rattle.sm_words.specs.Numbers.{turns_by, workers_by, HasBadNumber};
 ghost use Rattle.sm_words.specs.Views.{asked_in, IsWithin};
 ghost use Rattle.sm_words.specs.Words.{check_by, verify_by, replay_by, print_by, suggest_by, gen_by};
-ghost use Rattle.sm_words.specs.Words.{batch_by, explain_by};
+ghost use Rattle.sm_words.specs.Words.{batch_by, explain_by, trim_by};
 
 use crate::options::{cache_by, copy_by, effort_in, seed_by, size_by, turns_by, workers_by};
 use crate::words::{Request, WordsError};
@@ -161,6 +161,31 @@ pub fn batch_request<'a>(matches: &ArgMatches<'a>) -> Result<Request<'a>, WordsE
         cache,
         effort,
     })
+}
+
+/// What `trim` asks for.
+pub fn trim_request<'a>(matches: &ArgMatches<'a>) -> Result<Request<'a>, WordsError>
+    requires task { is_some (first_value (found_of matches.now) (codes "TASK")) ≡ true }
+    requires proof { is_some (first_value (found_of matches.now) (codes "PROOF")) ≡ true }
+    requires out { is_some (first_value (found_of matches.now) (codes "OUT")) ≡ true }
+    ensures ok { let given = first_value (found_of matches.now) in IfOk result (λ r.
+        trim_by (given (codes "TASK")) (given (codes "PROOF")) (given (codes "OUT"))
+        ≡ Some (asked_in r)) }
+    ensures usage { let given = first_value (found_of matches.now) in
+        IsErrOf result WordsError.Usage → (given (codes "TASK") ≡ given (codes "OUT"))
+        ⊎ (given (codes "PROOF") ≡ given (codes "OUT")) }
+    ensures within { IfOk result IsWithin }
+{
+    let task = text_in(matches, "TASK");
+    let proof = text_in(matches, "PROOF");
+    let out = text_in(matches, "OUT");
+    if task == out {
+        return Err(WordsError::Usage);
+    }
+    if proof == out {
+        return Err(WordsError::Usage);
+    }
+    Ok(Request::Trim { task, proof, out })
 }
 
 // The text of a word that has to be there.

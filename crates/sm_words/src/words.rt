@@ -13,7 +13,7 @@ use crate::effort::Effort;
 use crate::lines::line;
 use crate::requests::{
     batch_request, check_request, explain_request, gen_request, print_request, replay_request,
-    suggest_request, verify_request,
+    suggest_request, trim_request, verify_request,
 };
 use clap::error::ErrorKind;
 use clap::{ArgMatches, Error};
@@ -71,6 +71,12 @@ pub enum Request<'a> {
         cache: u32,
         effort: Effort,
     },
+    /// The proof in a file without lines that nobody uses, which is written to another file.
+    Trim {
+        task: &'a str,
+        proof: &'a str,
+        out: &'a str,
+    },
     /// What the program says of itself.
     About(About),
 }
@@ -121,6 +127,7 @@ pub fn usage_line(alloc: Global, words: &[String]) -> Result<Vec<u8>, AllocError
             Some(Verb::Gen) => line(alloc, "Usage", &["gen"]),
             Some(Verb::Explain) => line(alloc, "Usage", &["explain"]),
             Some(Verb::Batch) => line(alloc, "Usage", &["batch"]),
+            Some(Verb::Trim) => line(alloc, "Usage", &["trim"]),
             Some(Verb::About(About::Help)) => line(alloc, "Usage", &["help"]),
             Some(Verb::About(About::Version)) => line(alloc, "Usage", &["version"]),
             None => line(alloc, "Usage", &[]),
@@ -142,6 +149,7 @@ fn verb_of(word: &str) -> Option<Verb>
         "gen" => Some(Verb::Gen),
         "explain" => Some(Verb::Explain),
         "batch" => Some(Verb::Batch),
+        "trim" => Some(Verb::Trim),
         "help" => Some(Verb::About(About::Help)),
         "version" => Some(Verb::About(About::Version)),
         _ => None,
@@ -167,6 +175,7 @@ fn request_by<'a>(alloc: Global, verb: Verb, words: &'a [String]) -> Result<Requ
         Verb::Gen => gen_request(&matches),
         Verb::Explain => explain_request(&matches),
         Verb::Batch => batch_request(&matches),
+        Verb::Trim => trim_request(&matches),
         Verb::About(about) => Ok(Request::About(about)),
     }
 }

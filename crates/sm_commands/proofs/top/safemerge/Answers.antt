@@ -10,6 +10,7 @@ use Rattle.sm_commands.proofs.FilesLemmas.{kept_whole, leaves_cut, leaves_front,
 use Rattle.sm_commands.proofs.ConflictSound.{conflicts, explains_shown, shows, replays_shown}
 use Rattle.sm_commands.proofs.ReadingsLemmas.{accepts_read, batches_read, conflicts_read, proves_read, shows_read, suggests_read}
 use Rattle.sm_commands.proofs.SuggestedSafe.{suggests_safe}
+use Rattle.sm_commands.proofs.TrimmedFiles.{trim_cut_by, trim_front_by, trim_left_by, trim_same_by, trimmed_kept, trimmed_whole}
 use Rattle.sm_commands.proofs.Verified.{verifies_exactly}
 use Rattle.sm_commands.proofs.top.safemerge.Goals as goal
 
@@ -186,11 +187,51 @@ returns-in-Ok-clause-batched_read g c = λ _ list cache effort asks. (
 )
 
 pub returns-in-Err-Fault-clause-same : goal.returns-in-Err-Fault-clause-same
-returns-in-Err-Fault-clause-same g c = λ name never.
+returns-in-Err-Fault-clause-same g c = λ name never nor.
     same_by (asked (map string_bytes c.args.words.now)) (g.H.Shelf.file c.args.shelf.now) (g.H.Shelf.file c.reply_to.new.shelf)
-    c.in-Some.reply.status c.in-Some.ensures.left name never
+    c.in-Some.reply.status c.in-Some.ensures.left name never nor
 
 pub returns-clause-same : goal.returns-clause-same
-returns-clause-same g c = λ name never.
+returns-clause-same g c = λ name never nor.
     same_by (asked (map string_bytes c.args.words.now)) (g.H.Shelf.file c.args.shelf.now) (g.H.Shelf.file c.reply_to.new.shelf)
-    c.in-Some.reply.status c.in-Some.ensures.left name never
+    c.in-Some.reply.status c.in-Some.ensures.left name never nor
+
+pub returns-in-Ok-clause-trimmed_front : goal.returns-in-Ok-clause-trimmed_front
+returns-in-Ok-clause-trimmed_front g c = λ task proof out is.
+    trim_front_by (asked (map string_bytes c.args.words.now)) (g.H.Shelf.file c.args.shelf.now) (g.H.Shelf.file c.reply_to.new.shelf)
+    c.in-Some.reply.status task proof out c.in-Some.ensures.left is
+
+pub returns-in-Err-Fault-clause-trimmed_front : goal.returns-in-Err-Fault-clause-trimmed_front
+returns-in-Err-Fault-clause-trimmed_front g c = λ task proof out is.
+    trim_front_by (asked (map string_bytes c.args.words.now)) (g.H.Shelf.file c.args.shelf.now) (g.H.Shelf.file c.reply_to.new.shelf)
+    c.in-Some.reply.status task proof out c.in-Some.ensures.left is
+
+pub returns-clause-trimmed_front : goal.returns-clause-trimmed_front
+returns-clause-trimmed_front g c = λ task proof out is.
+    trim_front_by (asked (map string_bytes c.args.words.now)) (g.H.Shelf.file c.args.shelf.now) (g.H.Shelf.file c.reply_to.new.shelf)
+    c.in-Some.reply.status task proof out c.in-Some.ensures.left is
+
+pub returns-in-Ok-clause-trimmed_part : goal.returns-in-Ok-clause-trimmed_part
+returns-in-Ok-clause-trimmed_part g c = λ failed task proof out is.
+    trim_cut_by (asked (map string_bytes c.args.words.now)) (g.H.Shelf.file c.args.shelf.now) (g.H.Shelf.file c.reply_to.new.shelf)
+    c.in-Some.reply.status task proof out failed c.in-Some.ensures.left is
+
+pub returns-in-Ok-clause-untrimmed : goal.returns-in-Ok-clause-untrimmed
+returns-in-Ok-clause-untrimmed g c = λ _ never nor task proof out is.
+    trim_same_by (asked (map string_bytes c.args.words.now)) (g.H.Shelf.file c.args.shelf.now) (g.H.Shelf.file c.reply_to.new.shelf)
+    c.in-Some.reply.status task proof out never nor c.in-Some.ensures.left is
+
+pub returns-in-Ok-clause-trimmed : goal.returns-in-Ok-clause-trimmed
+returns-in-Ok-clause-trimmed g c = λ e task proof out is.
+    trimmed_whole (g.H.Shelf.file c.args.shelf.now task) c.in-Some.reply.status (g.H.Shelf.file c.args.shelf.now out)
+    (g.H.Shelf.file c.reply_to.new.shelf out) e
+    (trim_left_by (asked (map string_bytes c.args.words.now)) (g.H.Shelf.file c.args.shelf.now) (g.H.Shelf.file c.reply_to.new.shelf)
+    c.in-Some.reply.status task proof out c.in-Some.ensures.left is)
+
+pub returns-in-Err-Fault-clause-trimmed_kept : goal.returns-in-Err-Fault-clause-trimmed_kept
+returns-in-Err-Fault-clause-trimmed_kept g c = λ _ no_write task proof out is.
+    trimmed_kept (g.H.Shelf.file c.args.shelf.now task) (g.H.Shelf.write_faults c.args.shelf.now)
+    (g.H.Shelf.write_faults c.reply_to.new.shelf) c.in-Some.reply.status (g.H.Shelf.file c.args.shelf.now out)
+    (g.H.Shelf.file c.reply_to.new.shelf out) no_write c.in-Some.ensures.writes
+    (trim_left_by (asked (map string_bytes c.args.words.now)) (g.H.Shelf.file c.args.shelf.now) (g.H.Shelf.file c.reply_to.new.shelf)
+    c.in-Some.reply.status task proof out c.in-Some.ensures.left is)

@@ -1,7 +1,7 @@
 use Rattle.std.proofs.Common.{map}
 use Rattle.std.specs.String.{string_bytes}
 use Rattle.clap.specs.Matches.{first_value, found_of}
-use Rattle.sm_words.proofs.Asking.{asks_check, asks_gen, asks_verify, asks_replay, asks_print, asks_suggest, asks_explain, asks_batch}
+use Rattle.sm_words.proofs.Asking.{asks_check, asks_gen, asks_verify, asks_replay, asks_print, asks_suggest, asks_explain, asks_batch, asks_trim}
 use Rattle.sm_words.proofs.words.request_by.Goals as goal
 
 pub returns-in-Check-clause-ok : goal.returns-in-Check-clause-ok
@@ -99,3 +99,15 @@ returns-in-Batch-clause-usage c =
     (asks_batch c.args.verb (map string_bytes c.args.words.now)
     (first_value (found_of c.in_ok-matches.matches)) c.batch_request.result c.in-Batch.is c.in_ok-matches.ensures.taken
     c.in_ok-matches.ensures.texts c.batch_request.ensures.ok c.batch_request.ensures.usage).usage
+
+pub returns-in-Trim-clause-ok : goal.returns-in-Trim-clause-ok
+returns-in-Trim-clause-ok c =
+    (asks_trim c.args.verb (map string_bytes c.args.words.now)
+    (first_value (found_of c.in_ok-matches.matches)) c.trim_request.result c.in-Trim.is c.in_ok-matches.ensures.taken
+    c.in_ok-matches.ensures.texts c.trim_request.ensures.ok c.trim_request.ensures.usage).ok
+
+pub returns-in-Trim-clause-usage : goal.returns-in-Trim-clause-usage
+returns-in-Trim-clause-usage c =
+    (asks_trim c.args.verb (map string_bytes c.args.words.now)
+    (first_value (found_of c.in_ok-matches.matches)) c.trim_request.result c.in-Trim.is c.in_ok-matches.ensures.taken
+    c.in_ok-matches.ensures.texts c.trim_request.ensures.ok c.trim_request.ensures.usage).usage

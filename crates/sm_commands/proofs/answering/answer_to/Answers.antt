@@ -8,8 +8,9 @@ use Rattle.sm_words.specs.Views.{asked_in}
 use Rattle.sm_answers.specs.declared.status.Status.{Status}
 use Rattle.sm_words.specs.declared.words.Request.{Request}
 use Rattle.sm_commands.proofs.FilesLemmas.{check_leaves, counts_none}
+use Rattle.sm_commands.proofs.TrimmedFiles.{trim_leaves}
 use Rattle.sm_answers.proofs.Statuses.{verify_to_command}
-use Rattle.sm_commands.proofs.top.answer_to.Goals as goal
+use Rattle.sm_commands.proofs.answering.answer_to.Goals as goal
 
 pub returns-in-Verify-clause-writes : goal.returns-in-Verify-clause-writes
 returns-in-Verify-clause-writes g c =
@@ -46,3 +47,28 @@ returns-in-Check-clause-exit_read g c =
     let now = g.H.Shelf.given c.check_in.new.shelf in
     subst (λ (q : Request). IfErr c.check_in.result (ExitsWith (AnswersByReads (Some (asked_in q)) before now))) (sym c.in-Check.is)
     c.check_in.ensures.exit_read
+
+pub returns-in-Trim-clause-left : goal.returns-in-Trim-clause-left
+returns-in-Trim-clause-left g c =
+    let before = g.H.Shelf.file c.args.shelf.now in
+    let now = g.H.Shelf.file c.trim_in.new.shelf in
+    subst (λ (q : Request). EndsWith (λ (s : Status). LeavesFiles (asked_in q) before s now) (LeavesPart (asked_in q) before now)
+    c.trim_in.result)
+    (sym c.in-Trim.is)
+    (trim_leaves c.in-Trim.task.now c.in-Trim.proof.now c.in-Trim.out.now before now c.trim_in.result c.trim_in.ensures.others
+    c.trim_in.ensures.left)
+
+pub returns-in-Trim-clause-read : goal.returns-in-Trim-clause-read
+returns-in-Trim-clause-read g c =
+    let before = g.H.Shelf.given c.args.shelf.now in
+    let now = g.H.Shelf.given c.trim_in.new.shelf in
+    subst
+    (λ (q : Request). IfOk c.trim_in.result (λ r. AnswersByReads (Some (asked_in q)) before now r.status r.text.items))
+    (sym c.in-Trim.is) c.trim_in.ensures.read
+
+pub returns-in-Trim-clause-exit_read : goal.returns-in-Trim-clause-exit_read
+returns-in-Trim-clause-exit_read g c =
+    let before = g.H.Shelf.given c.args.shelf.now in
+    let now = g.H.Shelf.given c.trim_in.new.shelf in
+    subst (λ (q : Request). IfErr c.trim_in.result (ExitsWith (AnswersByReads (Some (asked_in q)) before now))) (sym c.in-Trim.is)
+    c.trim_in.ensures.exit_read

@@ -1,0 +1,146 @@
+-- What `trim` leaves in the files.
+use Rattle.std.proofs.Common.{◌≡◌, ◌≢◌, ◌⊎◌, inl, inr, ℕ, List, length, Option, Some, Result, Ok, Err, IfOk, IfErr, OnErr, codes}
+use Rattle.std.proofs.Common.{sym, ap, subst, ◌∙◌}
+use Rattle.std.specs.declared.alloc.AllocError.{AllocError}
+use Rattle.sm_io.specs.Causes.{HasCause, Rose}
+use Rattle.sm_io.specs.Files.{Known, emptied, longer}
+use Rattle.sm_proof.specs.Verdicts.{Pass, Passes, subject_of, verdict}
+use Rattle.sm_prune.specs.UsedLines.{HasNamedLines}
+use Rattle.sm_syntax.specs.text.Parts.{Parts}
+use Rattle.sm_write.specs.Versions.{HasVersion}
+use Rattle.sm_answers.specs.ProofFile.{IsBegun}
+use Rattle.sm_answers.specs.Status.{Says}
+use Rattle.sm_answers.specs.declared.exit.Exit.{Exit}
+use Rattle.sm_answers.specs.declared.status.Reply.{Reply}
+use Rattle.sm_answers.specs.declared.status.Status.{Status}
+use Rattle.sm_answers.specs.declared.status.Status.TheVariants.{Accepted, WriteFault}
+use Rattle.sm_commands.proofs.FilesLemmas.{ends_by, leaves_cut, leaves_front, leaves_same, written_cut}
+use Rattle.sm_commands.specs.ProofFile.{HoldsProof, IsTaskIn, LeavesCut, LeavesFront, LeavesProof, LeftBy, LeftCut}
+use Rattle.sm_commands.specs.Top.{Files, LeavesBy, LeavesFiles, LeavesPart, LeavesPartBy}
+use Rattle.sm_commands.specs.Trim.{AnswersPassing, AnswersTrim, HoldsTrimmed, LeavesTrimmed, LeftTrimmed, line_count, trimmed_line}
+use Rattle.sm_commands.specs.Views.{EndsWith}
+use Rattle.sm_words.specs.Words.{Asked, trim}
+
+-- ---- a trimmed proof is one that `check` might leave
+
+pub trimmed_proof : (t : Parts) (before now : Known) → HoldsTrimmed t before now → HoldsProof t before now
+trimmed_proof t before now h = record { proof = h.proof; passes = h.passes; version = h.version; holds = h.holds }
+
+left_proof : (t : Parts) (s : Status) (before now : Known) → LeftTrimmed t s before now → LeftBy t s before now
+left_proof t s before now (inl h) = inl (h.0, trimmed_proof t before now h.1)
+left_proof t s before now (inr h) = inr h
+
+pub leaves_proof : (file : Known) (s : Status) (before now : Known) → LeavesTrimmed file s before now → LeavesProof file s before now
+leaves_proof file s before now (inl h) = inl h
+leaves_proof file s before now (inr h) = inr (h.0, h.1, left_proof h.0 s before now h.2)
+
+-- ---- what is written
+
+-- the answer to a proof that passes, once the trimmed one was to be written
+pub put_answers : (t : Parts) (bytes lean : List ℕ) (s u : Status) (l m : List ℕ) (P Q : Type 0) → Passes t lean → HasNamedLines lean →
+    s ≡ Accepted → l ≡ trimmed_line (line_count bytes) (line_count lean) →
+    (Says s l u m × P) ⊎ (Says WriteFault (codes "WriteFault\n") u m × Q) → AnswersPassing t bytes u m
+put_answers t bytes lean s u l m P Q passes named e is (inl h) =
+    inl (record {
+      lean = lean;
+      passes = passes;
+      named = named;
+      says = record { ended = h.0.ended ∙ e; printed = h.0.printed ∙ is };
+    })
+put_answers t bytes lean s u l m P Q passes named e is (inr h) = inr (inr h.0)
+
+pub put_left : (t : Parts) (s u : Status) (l m : List ℕ) (old new : Known) (lean : List ℕ) → s ≡ Accepted → Passes t lean →
+    HasVersion t lean → HasNamedLines lean →
+    (Says s l u m × (new ≡ longer (emptied old) lean)) ⊎ (Says WriteFault (codes "WriteFault\n") u m × IsBegun lean old new) →
+    LeftTrimmed t u old new
+put_left t s u l m old new lean e passes dated named (inl h) =
+    inl (h.0.ended ∙ e, record { proof = lean; passes = passes; version = dated; named = named; holds = h.1 })
+put_left t s u l m old new lean e passes dated named (inr h) = inr (inl (h.0.ended, written_cut t old new lean passes dated h.1))
+
+pub put_answered : (t : Parts) (bytes lean : List ℕ) (s : Status) (l : List ℕ) (P Q : Type 0) (r : Result Reply AllocError) →
+    Passes t lean → HasNamedLines lean → s ≡ Accepted → l ≡ trimmed_line (line_count bytes) (line_count lean) →
+    IfOk r (λ (u : Reply). (Says s l u.status u.text.items × P) ⊎ (Says WriteFault (codes "WriteFault\n") u.status u.text.items × Q)) →
+    IfOk r (λ (u : Reply). AnswersPassing t bytes u.status u.text.items)
+put_answered t bytes lean s l P Q (Ok u) passes named e is h =
+    put_answers t bytes lean s u.status l u.text.items P Q passes named e is h
+put_answered t bytes lean s l P Q (Err error) passes named e is h = tt
+
+pub put_leaves : (t : Parts) (s : Status) (l : List ℕ) (old new : Known) (lean : List ℕ) (r : Result Reply AllocError) → s ≡ Accepted →
+    Passes t lean → HasVersion t lean → HasNamedLines lean →
+    IfOk r (λ (u : Reply). (Says s l u.status u.text.items × (new ≡ longer (emptied old) lean))
+    ⊎ (Says WriteFault (codes "WriteFault\n") u.status u.text.items × IsBegun lean old new)) →
+    IfOk r (λ (u : Reply). LeftTrimmed t u.status old new)
+put_leaves t s l old new lean (Ok u) e passes dated named h = put_left t s u.status l u.text.items old new lean e passes dated named h
+put_leaves t s l old new lean (Err error) e passes dated named h = tt
+
+pub put_cut : (t : Parts) (old new : Known) (lean : List ℕ) (r : Result Reply AllocError) → Passes t lean → HasVersion t lean →
+    OnErr r (IsBegun lean old new) → OnErr r (LeftCut t old new)
+put_cut t old new lean (Ok u) passes dated h = tt
+put_cut t old new lean (Err error) passes dated h = written_cut t old new lean passes dated h
+
+-- ---- one task
+
+-- what is left by the answer to the task of a file
+pub trimmed_in : (file old mid new : Known) (t : Parts) (s : Status) → IsTaskIn file t → mid ≡ old → LeftTrimmed t s mid new →
+    LeavesTrimmed file s old new
+trimmed_in file old mid new t s is same left = inr (t, is, subst (λ (k : Known). LeftTrimmed t s k new) same left)
+
+-- where the output fails and nothing kept the proof from being written, it is as it was or has it
+pub trimmed_kept : (file : Known) (before now : ℕ) (s : Status) (old new : Known) → (¬ Rose before now) →
+    HasCause before now (s ≡ WriteFault) → LeavesTrimmed file s old new →
+    (new ≡ old) ⊎ ((t : Parts) × IsTaskIn file t × HoldsTrimmed t old new)
+trimmed_kept file before now s old new quiet cause (inl h) = inl h.1
+trimmed_kept file before now s old new quiet cause (inr (t, is, inl h)) = inr (t, is, h.1)
+trimmed_kept file before now s old new quiet cause (inr (t, is, inr (inl h))) = absurd (quiet (cause.rose h.0))
+trimmed_kept file before now s old new quiet cause (inr (t, is, inr (inr h))) = inl h.1
+
+not_both : (s : Status) → s ≡ WriteFault → s ≡ Accepted → ⊥
+not_both s e f = cc
+
+-- where it is accepted, the trimmed proof is there
+pub trimmed_whole : (file : Known) (s : Status) (old new : Known) → s ≡ Accepted → LeavesTrimmed file s old new →
+    (t : Parts) × IsTaskIn file t × HoldsTrimmed t old new
+trimmed_whole file s old new e (inl h) = absurd (h.0 e)
+trimmed_whole file s old new e (inr (t, is, inl h)) = (t, is, h.1)
+trimmed_whole file s old new e (inr (t, is, inr (inl h))) = absurd (not_both s h.0 e)
+trimmed_whole file s old new e (inr (t, is, inr (inr h))) = absurd (h.0 e)
+
+-- ---- the files of words
+
+-- what is left in the file that `trim` writes
+pub trim_left_by : (o : Option Asked) (before now : Files) (s : Status) (task proof out : List ℕ) → LeavesBy o before s now →
+    o ≡ Some (trim task proof out) → LeavesTrimmed (before task) s (before out) (now out)
+trim_left_by o before now s task proof out h is = (subst (λ (p : Option Asked). LeavesBy p before s now) is h).1
+
+pub trim_part_by : (o : Option Asked) (before now : Files) (task proof out : List ℕ) → LeavesPartBy o before now →
+    o ≡ Some (trim task proof out) → LeavesFront (before task) (before out) (now out)
+trim_part_by o before now task proof out h is = (subst (λ (p : Option Asked). LeavesPartBy p before now) is h).1
+
+pub trim_front_by : (o : Option Asked) (before now : Files) (s : Status) (task proof out : List ℕ) → LeavesBy o before s now →
+    o ≡ Some (trim task proof out) → LeavesFront (before task) (before out) (now out)
+trim_front_by o before now s task proof out h is =
+    leaves_front (before task) s (before out) (now out)
+    (leaves_proof (before task) s (before out) (now out) (trim_left_by o before now s task proof out h is))
+
+pub trim_cut_by : (o : Option Asked) (before now : Files) (s : Status) (task proof out : List ℕ) → s ≡ WriteFault →
+    LeavesBy o before s now → o ≡ Some (trim task proof out) → LeavesCut (before task) (before out) (now out)
+trim_cut_by o before now s task proof out e h is =
+    leaves_cut (before task) s (before out) (now out) e
+    (leaves_proof (before task) s (before out) (now out) (trim_left_by o before now s task proof out h is))
+
+pub trim_same_by : (o : Option Asked) (before now : Files) (s : Status) (task proof out : List ℕ) → s ≢ Accepted → s ≢ WriteFault →
+    LeavesBy o before s now → o ≡ Some (trim task proof out) → now out ≡ before out
+trim_same_by o before now s task proof out never nor h is =
+    leaves_same (before task) s (before out) (now out) never nor
+    (leaves_proof (before task) s (before out) (now out) (trim_left_by o before now s task proof out h is))
+
+-- ---- what `trim` leaves
+
+pub trim_leaves : (task proof out : List ℕ) (before now : Files) (r : Result Reply Exit) →
+    ((other : List ℕ) → other ≢ out → now other ≡ before other) →
+    EndsWith (λ (s : Status). LeavesTrimmed (before task) s (before out) (now out)) (LeavesFront (before task) (before out) (now out)) r →
+    EndsWith (λ (s : Status). LeavesFiles (trim task proof out) before s now) (LeavesPart (trim task proof out) before now) r
+trim_leaves task proof out before now r others =
+    ends_by (λ (s : Status). LeavesTrimmed (before task) s (before out) (now out))
+    (λ (s : Status). LeavesFiles (trim task proof out) before s now) (LeavesFront (before task) (before out) (now out))
+    (LeavesPart (trim task proof out) before now) (λ s left. (others, left)) (λ left. (others, left)) r
