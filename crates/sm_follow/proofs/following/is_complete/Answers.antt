@@ -12,6 +12,6 @@ pub returns : goal.returns
 returns c =
     let Tells : Result Bool AllocError → Type 0 = λ r. IfOk r (λ tells. Decides tells (IsComplete c.args.text.now)) in
     elim c.match-read_task.branch [
-      in-Ok w ↦ subst Tells (sym w.result-is) (complete_decides c.args.text.now (parts_of w.in-Ok.field-0) w.in-Ok.ensures.ok)
-    | in-Err w ↦ subst Tells (sym w.result-is) w.falls_short.ensures
+      | in-Ok w ↦ subst Tells (sym w.result-is) (complete_decides c.args.text.now (parts_of w.in-Ok.field-0) w.in-Ok.ensures.ok)
+      | in-Err w ↦ subst Tells (sym w.result-is) w.falls_short.ensures
     ]
