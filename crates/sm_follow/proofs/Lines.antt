@@ -33,7 +33,7 @@ one_put text k old first new stands one two = (
   codes " " ++ (shown k ++ []),
   could k [] [] stands none,
   two ∙ ap (λ (l : List ℕ). l ++ shown k) one ∙ append_assoc old (codes " ") (shown k)
-  ∙ ap (λ (l : List ℕ). old ++ (codes " " ++ l)) (sym (append-nil (shown k))),
+      ∙ ap (λ (l : List ℕ). old ++ (codes " " ++ l)) (sym (append-nil (shown k))),
 )
 
 pub none_put : (text : List ℕ) (k : Kind) (old : List ℕ) → (CouldStand text k → ⊥) →

@@ -49,12 +49,7 @@ fn those(alloc: Global, text: &[u8], kinds: &[Kind]) -> Result<Vec<u8>, AllocErr
 }
 
 // Puts a kind at the end of those that are shown, if it could stand behind a text.
-fn put_one(
-    alloc: Global,
-    out: &mut Vec<u8>,
-    text: &[u8],
-    kind: Kind,
-) -> Result<(), AllocError>
+fn put_one(alloc: Global, out: &mut Vec<u8>, text: &[u8], kind: Kind) -> Result<(), AllocError>
     requires few { length text.now < 2 ^ 31 }
     requires front { EndsAtFault text.now }
     ensures { OnOk result
