@@ -1,5 +1,5 @@
 -- Words that no command takes ask for nothing.
-use Rattle.std.proofs.Common.{◌≡◌, ◌≢◌, ◌⊎◌, inl, inr, ℕ, true, false, if◌then◌else◌, List, [], ◌∷◌, Option, Some, None, codes, refl}
+use Rattle.std.proofs.Common.{◌≡◌, ◌≢◌, ◌⊎◌, inl, inr, ℕ, Bool, true, false, if◌then◌else◌, List, [], ◌∷◌, Option, Some, None, codes, refl}
 use Rattle.std.proofs.Common.{option_map}
 use Rattle.std.specs.Prelude.{option_and_then}
 use Rattle.std.specs.Str.{bytes_eq}
@@ -73,6 +73,11 @@ no_batch (Some file) cache effort (inr e) =
     rw e (elim (cache_by cache) as
     (λ o. option_and_then (λ (n : ℕ). option_map (λ (f : Effort). batch file n f) None) o ≡ None) [ None ↦ refl | Some n ↦ refl ])
 
+-- nothing is asked for, whichever is chosen
+none_either : (b : Bool) → (let none : Option Asked = None in (if b then none else none) ≡ none)
+none_either true = refl
+none_either false = refl
+
 -- a trimmed proof that would be written over the task or the proof asks for nothing
 no_trim : (task proof out : Option Text) → (task ≡ out) ⊎ (proof ≡ out) → trim_by task proof out ≡ None
 no_trim None proof out h = refl
@@ -84,7 +89,7 @@ no_trim (Some file) (Some given) (Some o) (inl e) =
 no_trim (Some file) (Some given) (Some o) (inr e) =
     let same : given ≡ o = cc in
     rw (same, one_file o (Some (trim file o o)))
-    (elim (bytes_eq file o) as (λ b. (if b then None else None) ≡ None) [ true ↦ refl | false ↦ refl ])
+    (none_either (bytes_eq file o))
 
 none_asked : (verb : Verb) (words : Words) → HasBadOption verb words → asked_by verb words ≡ None
 none_asked Check words h =
