@@ -1,9 +1,10 @@
-use Rattle.std.proofs.Common.{rules, ◌∙◌}
+use Rattle.std.proofs.Common.{rules, ◌∙◌, ℕ, List, subst}
 use Rattle.sm_task.specs.Tasks.{parts_of}
 use Rattle.sm_commands.proofs.FilesLemmas.{cut_in, task_told}
 use Rattle.sm_commands.proofs.TrimmedFiles.{trimmed_in}
 use Rattle.sm_commands.proofs.TrimmedRead.{no_proof_counts, no_proof_left, no_proof_trimmed, none_left, none_trimmed}
 use Rattle.sm_commands.proofs.TrimmedRead.{trims_by_reads, trims_no_proof, trims_read_proof}
+use Rattle.sm_commands.specs.Trim.{AnswersTrim}
 use Rattle.sm_commands.proofs.trimming.trim_in.Goals as goal
 
 pub returns-clause-ok : goal.returns-clause-ok
@@ -14,7 +15,8 @@ returns-clause-ok g c =
     (g.H.Shelf.read_faults c.task_in.new.shelf) (g.H.Shelf.read_faults c.proof_in.new.shelf)
     (g.H.Shelf.read_faults c.trim_bytes.new.shelf) (parts_of c.in_ok-task.task) c.in_ok-bytes.bytes.items r.status r.text.items
     c.in_ok-task.ensures.ok (c.in_ok-task.ensures.same c.args.proof.now) c.in_ok-bytes.ensures.ok c.in_ok-trim_bytes.ensures.reads
-    c.in_ok-trim_bytes.ensures.answers
+    (subst (λ (b : List ℕ). AnswersTrim (parts_of c.in_ok-task.task) b r.status r.text.items) c.deref.ensures.value
+    c.in_ok-trim_bytes.ensures.answers)
 
 pub returns-clause-read : goal.returns-clause-read
 returns-clause-read g c =
@@ -22,7 +24,9 @@ returns-clause-read g c =
     trims_by_reads c.args.name.now c.args.proof.now (g.H.Shelf.given c.args.shelf.now) (g.H.Shelf.given c.task_in.new.shelf)
     (g.H.Shelf.given c.proof_in.new.shelf) (g.H.Shelf.given c.trim_bytes.new.shelf) (parts_of c.in_ok-task.task)
     c.in_ok-bytes.bytes.items r.status r.text.items c.in_ok-task.ensures.read c.in_ok-bytes.ensures.whole
-    c.in_ok-trim_bytes.ensures.keeps c.in_ok-bytes.ensures.ok.within c.in_ok-trim_bytes.ensures.answers
+    c.in_ok-trim_bytes.ensures.keeps c.in_ok-bytes.ensures.ok.within
+    (subst (λ (b : List ℕ). AnswersTrim (parts_of c.in_ok-task.task) b r.status r.text.items) c.deref.ensures.value
+    c.in_ok-trim_bytes.ensures.answers)
 
 pub returns-clause-left : goal.returns-clause-left
 returns-clause-left g c =
