@@ -32,7 +32,6 @@
 //! `specs/Words.antt` of `sm_words` what the words ask for.
 #![tactic(auto)]
 
-mod answering;
 mod batch_lines;
 mod batch_worker;
 mod batching;
@@ -43,6 +42,7 @@ mod gathering;
 mod ground;
 mod laws;
 mod making;
+mod replying;
 mod suggesting;
 mod telling;
 mod top;

@@ -23,7 +23,7 @@ ghost use Rattle.sm_commands.specs.Suggest.{IsSafeSuggestion};
 ghost use Rattle.sm_commands.specs.Trim.{HoldsTrimmed};
 ghost use Rattle.sm_commands.specs.Top.{IsAnswerTo, IsPrinted, PutsPart, RejectsProof};
 
-use crate::answering::reply_to;
+use crate::replying::reply_to;
 use sm_answers::Status;
 use sm_io::{IoError, Shelf, Sink, put_all};
 use sm_par::Gate;

@@ -10,7 +10,7 @@ use Rattle.sm_words.specs.declared.words.Request.{Request}
 use Rattle.sm_commands.proofs.FilesLemmas.{check_leaves, counts_none}
 use Rattle.sm_commands.proofs.TrimmedFiles.{trim_leaves}
 use Rattle.sm_answers.proofs.Statuses.{verify_to_command}
-use Rattle.sm_commands.proofs.answering.answer_to.Goals as goal
+use Rattle.sm_commands.proofs.replying.answer_to.Goals as goal
 
 pub returns-in-Verify-clause-writes : goal.returns-in-Verify-clause-writes
 returns-in-Verify-clause-writes g c =
