@@ -1,7 +1,13 @@
 use Rattle.std.proofs.Common.{◌≡◌, ◌∙◌, ℕ, Option, Some, IfOk, subst, sym}
+use Rattle.std.proofs.lemmas.List.{length-take-le}
 use Rattle.sm_display.specs.Shown.{misfit_of, ShowsTokens}
 use Rattle.sm_display.proofs.Refused.{front_at_fault, misfit_within}
 use Rattle.sm_display.proofs.refusing.tokens_line.Goals as goal
+
+pub slice_bounds-follow_line-end : goal.slice_bounds-follow_line-end
+slice_bounds-follow_line-end c =
+    sym (length-take-le c.in-Some.offset c.args.bytes.now
+    (misfit_within c.args.bytes.now c.args.error c.in-Some.offset c.requires.first (sym c.misfit_of.ensures ∙ c.in-Some.is)))
 
 pub returns-in-Some : goal.returns-in-Some
 returns-in-Some c =
