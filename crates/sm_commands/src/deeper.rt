@@ -17,7 +17,8 @@ use crate::check::{Decided, Place, accepted, check, violated};
 use crate::ground::Ground;
 use sm_answers::{Reply, Status};
 use sm_deeper::search_deeper;
-use sm_guided::{all_tried, violation_beyond};
+use sm_eval::Store;
+use sm_guided::{Shown, Tried, try_inputs};
 use sm_houdini::proof_text;
 use sm_par::Gate;
 use sm_solve::Reach;
@@ -48,7 +49,7 @@ pub fn check_deeper<R: Threads + Sync, G: Gate>(
 {
     let decided = check(rt, alloc, gate, task, effort)?;
     if effort.deeper && decided.reply.status == Status::Unknown {
-        if let Some(more) = beyond(alloc, task, effort, &decided.reply)? {
+        if let Some(more) = beyond(rt, alloc, gate, task, effort, &decided.reply)? {
             return Ok(more);
         }
     }
@@ -57,13 +58,16 @@ pub fn check_deeper<R: Threads + Sync, G: Gate>(
 
 // What is answered where the search decides nothing: an input that violates, or else a proof. None
 // where neither is found.
-fn beyond(
+fn beyond<R: Threads + Sync, G: Gate>(
+    rt: &R,
     alloc: Global,
+    gate: &G,
     task: &Task,
     effort: Effort,
     undecided: &Reply,
 ) -> Result<Option<Decided>, AllocError>
     requires spelled { HasText (parts_of task.now) }
+    requires workers { HasWorkers effort }
     requires asked { effort.deeper ≡ true }
     requires undecided { AnswersCheck (parts_of task.now) effort Unknown undecided.now.text.items }
     ensures answers { IfOk result (λ found. IfSome found (λ d.
@@ -73,50 +77,57 @@ fn beyond(
     ensures ground { IfOk result (λ found. IfSome found (λ d.
         RestsOn (parts_of task.now) effort d.reply.status d.reply.text.items d.ground)) }
 {
-    if let Some(shown) = shown_beyond(alloc, task, effort, undecided)? {
-        return Ok(Some(shown));
+    let Tried { shown, inputs } = try_inputs(rt, alloc, gate, task, effort.turns, effort.workers)?;
+    match shown {
+        Some(shown) => {
+            let decided = shown_beyond(alloc, task, effort, undecided, shown)?;
+            Ok(Some(decided))
+        }
+        None => proved_beyond(rt, alloc, gate, task, &inputs, effort, undecided),
     }
-    proved_beyond(alloc, task, effort, undecided)
 }
 
-// The answer that an input beyond the trials violates, where one is found.
+// The answer that an input beyond the trials violates.
 fn shown_beyond(
     alloc: Global,
     task: &Task,
     effort: Effort,
     undecided: &Reply,
-) -> Result<Option<Decided>, AllocError>
+    shown: Shown,
+) -> Result<Decided, AllocError>
     requires runs { sort_fault (parts_of task.now) ≡ None }
     requires named { let t = parts_of task.now in AreNamed t.names (sort_of t.declared) }
     requires asked { effort.deeper ≡ true }
     requires undecided { AnswersCheck (parts_of task.now) effort Unknown undecided.now.text.items }
-    ensures shows { IfOk result (λ found. IfSome found (λ d.
-        ShowsBeyond (parts_of task.now) effort d.reply.status d.reply.text.items)) }
-    ensures none { IfOk result (λ found. IfSome found (λ d. d.proof ≡ None)) }
-    ensures ground { IfOk result (λ found. IfSome found (λ d.
-        IsShownBy (parts_of task.now) d.reply.status d.reply.text.items d.ground)) }
+    requires shown { guided.ShowsBeyond (parts_of task.now) effort.turns shown }
+    ensures shows { IfOk result (λ d.
+        ShowsBeyond (parts_of task.now) effort d.reply.status d.reply.text.items) }
+    ensures none { IfOk result (λ d. d.proof ≡ None) }
+    ensures ground { IfOk result (λ d.
+        IsShownBy (parts_of task.now) d.reply.status d.reply.text.items d.ground) }
 {
-    match violation_beyond(alloc, task, effort.turns)? {
-        Some(shown) => {
-            let at = Place {
-                name: shown.name,
-                index: shown.index,
-                clause: shown.clause,
-            };
-            Ok(Some(violated(alloc, task, shown.number, shown.input, at)?))
-        }
-        None => Ok(None),
-    }
+    let at = Place {
+        name: shown.name,
+        index: shown.index,
+        clause: shown.clause,
+    };
+    let decided = violated(alloc, task, shown.number, shown.input, at)?;
+    Ok(decided)
 }
 
-// The answer that the task is accepted, with a proof that is found along runs, where one is.
-fn proved_beyond(
+// The answer that the task is accepted, with a proof that is found along the runs from inputs, where
+// one is.
+fn proved_beyond<R: Threads + Sync, G: Gate>(
+    rt: &R,
     alloc: Global,
+    gate: &G,
     task: &Task,
+    inputs: &[Store],
     effort: Effort,
     undecided: &Reply,
 ) -> Result<Option<Decided>, AllocError>
     requires spelled { HasText (parts_of task.now) }
+    requires workers { HasWorkers effort }
     requires asked { effort.deeper ≡ true }
     requires undecided { AnswersCheck (parts_of task.now) effort Unknown undecided.now.text.items }
     ensures answers { IfOk result (λ found. IfSome found (λ d.
@@ -126,12 +137,11 @@ fn proved_beyond(
     ensures ground { IfOk result (λ found. IfSome found (λ d.
         RestsOn (parts_of task.now) effort d.reply.status d.reply.text.items d.ground)) }
 {
-    let inputs = all_tried(alloc, task, effort.turns)?;
     let reach = Reach {
         steps: effort.steps,
         exact: effort.exact,
     };
-    match search_deeper(alloc, task, &inputs, reach)? {
+    match search_deeper(rt, alloc, gate, task, inputs, reach, effort.workers)? {
         Some(proof) => {
             let text = proof_text(alloc, task, proof)?;
             let reply = accepted(alloc, task)?;

@@ -1,2 +1,4 @@
+pub mod Crossing
+pub mod RowsLemmas
 pub mod WaitsLemmas
 pub mod Widening

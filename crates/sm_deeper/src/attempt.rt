@@ -7,6 +7,7 @@ ghost use Rattle.sm_houdini.specs.Views.{IsWhole};
 ghost use Rattle.sm_deeper.specs.Subjects.{IsSubject, IsTableOf};
 
 use crate::candidates::{Seen, candidates_of};
+use crate::crew::Crew;
 use crate::effort::Effort;
 use crate::ends::{Ended, end_of};
 use crate::owners::{Owners, owners_of};
@@ -16,9 +17,11 @@ use sm_audit::is_writable;
 use sm_drawing::{DeadEnd, Drawing, DrawingError, Style, draw};
 use sm_expand::Plan;
 use sm_houdini::Proof;
+use sm_par::Gate;
 use sm_sided::CertTrees;
 use sm_term::TermTable;
 use std::alloc::{AllocError, Global};
+use std::thread::Threads;
 
 /// How a plan is drawn, and whether candidates under guards are looked for.
 #[derive(Clone, Copy, Debug)]
@@ -111,13 +114,13 @@ fn audited(alloc: Global, subject: &Subject<'_>, proof: Proof) -> Result<Option<
 }
 
 // The plan of a drawing that keeps what proves, with its obligations, where there is one.
-fn settled_by(
+fn settled_by<R: Threads + Sync, G: Gate>(
+    crew: &Crew<'_, R, G>,
     alloc: Global,
     table: &mut TermTable,
     subject: &Subject<'_>,
-    drawing: &Drawing,
+    seen: &Seen<'_>,
     owners: &Owners,
-    with_guards: bool,
     effort: &mut Effort,
 ) -> Result<Option<Asked>, AllocError>
     requires subject { IsSubject subject.now }
@@ -126,16 +129,12 @@ fn settled_by(
         AreDuesReady (sorts_in table.new) (trees_in table.new) a.dues.items)) }
     ensures declared { OnOk result (IsTableOf subject.now.task.now table.new) }
 {
-    let seen = Seen {
-        drawing,
-        with_guards,
-    };
-    let candidates = candidates_of(alloc, table, subject, &seen, effort)?;
+    let candidates = candidates_of(alloc, table, subject, seen, effort)?;
     let product = Product {
-        plan: &drawing.plan,
+        plan: &seen.drawing.plan,
         owners,
     };
-    settled(alloc, table, subject, &product, candidates, effort)
+    settled(crew, alloc, table, subject, &product, candidates, effort)
 }
 
 // A plan that keeps what proves, and what its obligations come to.
@@ -151,7 +150,8 @@ fn plan_of(asked: Asked) -> Plan {
 }
 
 // What the plan of a drawing comes to, with what it keeps, where it has obligations.
-fn tried_by(
+fn tried_by<R: Threads + Sync, G: Gate>(
+    crew: &Crew<'_, R, G>,
     alloc: Global,
     table: &mut TermTable,
     subject: &Subject<'_>,
@@ -164,11 +164,15 @@ fn tried_by(
     ensures { OnOk result (IsTableOf subject.now.task.now table.new) }
 {
     let owners = owners_of(alloc, &drawing.plan)?;
-    let found = settled_by(alloc, table, subject, drawing, &owners, with_guards, effort)?;
+    let seen = Seen {
+        drawing,
+        with_guards,
+    };
+    let found = settled_by(crew, alloc, table, subject, &seen, &owners, effort)?;
     let Some(asked) = found else {
         return Ok(None);
     };
-    let end = end_of(alloc, table, &asked.dues, &owners, effort)?;
+    let end = end_of(crew, alloc, table, &asked.dues, &owners, effort)?;
     let plan = plan_of(asked);
     Ok(Some(Tried { plan, end }))
 }
@@ -203,7 +207,8 @@ fn concluded(
 
 // A proof by a drawing, where it gives one. Where only dead ends stay open, their paths are put
 // behind others.
-fn proof_by(
+fn proof_by<R: Threads + Sync, G: Gate>(
+    crew: &Crew<'_, R, G>,
     alloc: Global,
     subject: &Subject<'_>,
     drawing: &Drawing,
@@ -215,7 +220,15 @@ fn proof_by(
     ensures { IfOk result (λ o. IfSome o (IsWhole (parts_of subject.now.task.now))) }
 {
     let mut table = TermTable::new(alloc, &subject.task.shared.decls)?;
-    match tried_by(alloc, &mut table, subject, drawing, with_guards, effort)? {
+    match tried_by(
+        crew,
+        alloc,
+        &mut table,
+        subject,
+        drawing,
+        with_guards,
+        effort,
+    )? {
         Some(tried) => concluded(alloc, subject, table, tried, &drawing.dead, open),
         None => Ok(None),
     }
@@ -223,7 +236,8 @@ fn proof_by(
 
 /// A proof of a task by a plan that is drawn in a manner, which is repaired where dead ends stay
 /// open, where one is found. The first drawing is given.
-pub(crate) fn attempt(
+pub(crate) fn attempt<R: Threads + Sync, G: Gate>(
+    crew: &Crew<'_, R, G>,
     alloc: Global,
     subject: &Subject<'_>,
     first: &Drawing,
@@ -235,7 +249,7 @@ pub(crate) fn attempt(
 {
     let mut open = Vec::new(alloc);
     let with_guards = manner.with_guards;
-    if let Some(proof) = proof_by(alloc, subject, first, with_guards, &mut open, effort)? {
+    if let Some(proof) = proof_by(crew, alloc, subject, first, with_guards, &mut open, effort)? {
         return Ok(Some(proof));
     }
     for _ in 0..REPAIRS {
@@ -247,7 +261,15 @@ pub(crate) fn attempt(
         let Some(drawing) = drawing_of(alloc, subject, manner.is_second, &open)? else {
             return Ok(None);
         };
-        let proof = proof_by(alloc, subject, &drawing, with_guards, &mut open, effort)?;
+        let proof = proof_by(
+            crew,
+            alloc,
+            subject,
+            &drawing,
+            with_guards,
+            &mut open,
+            effort,
+        )?;
         if proof.is_some() || open.len() == known {
             return Ok(proof);
         }

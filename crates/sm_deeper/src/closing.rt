@@ -8,15 +8,21 @@ ghost use Rattle.sm_houdini.specs.Nodes.{IsNodeOf};
 use crate::effort::Effort;
 use sm_cert::CertTree;
 use sm_houdini::node_of;
+use sm_observed::Work;
 use sm_plan::Formulas;
-use sm_solve::{Answer, Node, solve_at};
+use sm_solve::{Answer, Node, Reach, solve_at};
 use sm_term::{Formula, TermTable};
 use std::alloc::{AllocError, Global};
 
 // The work of making a node, for each of its facts.
 const NODE: usize = 8;
 
-/// The node of these facts, where goals are to share it. It is dearer than a walk from it.
+/// Takes the work of making the node of these facts. It is dearer than a walk from it.
+pub(crate) fn pay_node(work: &mut Work, facts: &Formulas) {
+    work.spend(facts.list.len().saturating_mul(NODE));
+}
+
+/// The node of these facts, where goals are to share it.
 pub(crate) fn shared_node(
     alloc: Global,
     table: &mut TermTable,
@@ -29,34 +35,48 @@ pub(crate) fn shared_node(
     ensures widens { Widens table.old table.new }
 {
     if is_shared {
-        effort.work.spend(facts.list.len().saturating_mul(NODE));
+        pay_node(&mut effort.work, facts);
     }
     node_of(alloc, table, facts, is_shared, effort.reach.steps)
 }
 
-// The certificate of an answer, where it has one. A walk whose steps don't suffice is dear, so that
-// it takes more of the work.
-fn certificate(answer: Answer, effort: &mut Effort) -> Option<CertTree> {
+/// What the walk of a goal comes to.
+#[derive(Clone, Copy, Debug, PartialEq, Eq)]
+pub(crate) enum WalkEnd {
+    Closed,
+    /// A branch stays open, or a coefficient leaves the range.
+    Open,
+    /// The steps don't suffice.
+    Steps,
+}
+
+// What a walk came to, with the certificate where it closes.
+fn end_of_walk(answer: Answer) -> (WalkEnd, Option<CertTree>) {
     match answer {
-        Answer::Closed(tree) => Some(tree),
-        Answer::Open { .. } => None,
-        Answer::Steps => {
-            effort.work.spend(effort.reach.steps as usize);
-            None
-        }
-        Answer::Coefficient { .. } => None,
+        Answer::Closed(tree) => (WalkEnd::Closed, Some(tree)),
+        Answer::Open { .. } => (WalkEnd::Open, None),
+        Answer::Steps => (WalkEnd::Steps, None),
+        Answer::Coefficient { .. } => (WalkEnd::Open, None),
     }
 }
 
-/// The certificate of a goal over facts, where it closes.
-pub(crate) fn proved(
+/// Takes the work of a walk over facts. One whose steps don't suffice is dear, so that it takes more.
+pub(crate) fn pay_walk(work: &mut Work, facts: &Formulas, end: WalkEnd, reach: Reach) {
+    work.spend(facts.list.len());
+    if end == WalkEnd::Steps {
+        work.spend(reach.steps as usize);
+    }
+}
+
+/// What the walk of a goal over facts comes to, with the certificate where it closes.
+pub(crate) fn walked(
     alloc: Global,
     table: &mut TermTable,
     node: &mut Option<Node>,
     facts: &Formulas,
     goal: &Formula,
-    effort: &mut Effort,
-) -> Result<Option<CertTree>, AllocError>
+    reach: Reach,
+) -> Result<(WalkEnd, Option<CertTree>), AllocError>
     requires facts { AreFormsReady (sorts_in table.old) (trees_in table.old)
         facts.now.list.items }
     requires goal { IsFormReady (sorts_in table.old) (trees_in table.old) goal.now }
@@ -64,7 +84,6 @@ pub(crate) fn proved(
     ensures node { OnOk result (IsNodeOf table.new facts.now.list.items node.new) }
     ensures widens { OnOk result (Widens table.old table.new) }
 {
-    effort.work.spend(facts.list.len());
-    let answer = solve_at(alloc, table, node, &facts.list, goal, effort.reach)?;
-    Ok(certificate(answer, effort))
+    let answer = solve_at(alloc, table, node, &facts.list, goal, reach)?;
+    Ok(end_of_walk(answer))
 }

@@ -6,18 +6,22 @@ ghost use Rattle.sm_plan.specs.ReadyStates.{AreFormsReady};
 ghost use Rattle.sm_expand.specs.Views.{AreDuesReady};
 ghost use Rattle.sm_houdini.specs.Nodes.{IsNodeOf};
 
-use crate::closing::{proved, shared_node};
+use crate::closing::{pay_walk, shared_node, walked};
+use crate::crew::Crew;
 use crate::effort::Effort;
+use crate::end_jobs::end_ahead;
 use crate::owners::{Owners, owner};
 use sm_cert::CertTree;
 use sm_expand::Due;
+use sm_par::Gate;
 use sm_plan::Formulas;
 use sm_solve::Node;
 use sm_term::{Formula, TermTable};
 use std::alloc::{AllocError, Global};
+use std::thread::Threads;
 
 // Puts the certificates of the goals of a node behind others. Whether each goal has one.
-fn put_trees(
+pub(crate) fn put_trees(
     alloc: Global,
     table: &mut TermTable,
     due: &Due,
@@ -56,12 +60,82 @@ fn put_trees_at(
         if effort.work.is_spent() {
             return Ok(false);
         }
-        let Some(tree) = proved(alloc, table, node, facts, goal, effort)? else {
+        let (end, tree) = walked(alloc, table, node, facts, goal, effort.reach)?;
+        pay_walk(&mut effort.work, facts, end, effort.reach);
+        let Some(tree) = tree else {
             return Ok(false);
         };
         trees.push(tree)?;
     }
     Ok(true)
+}
+
+/// What the goals of a node come to: certificates up to the first goal that has none, whether each
+/// has one, and the work that is still to be taken for it.
+#[derive(Debug, Drop)]
+pub(crate) struct NodeEnd {
+    pub(crate) trees: Vec<CertTree>,
+    pub(crate) is_closed: bool,
+    pub(crate) work: u64,
+}
+
+// What the goals of a node come to, of which nothing is known.
+fn new_end(
+    alloc: Global,
+    table: &mut TermTable,
+    due: &Due,
+    effort: &mut Effort,
+) -> Result<NodeEnd, AllocError>
+    requires facts { AreFormsReady (sorts_in table.old) (trees_in table.old)
+        due.now.facts.list.items }
+    requires goals { AreFormsReady (sorts_in table.old) (trees_in table.old)
+        due.now.targets.list.items }
+    ensures { OnOk result (Widens table.old table.new) }
+{
+    let mut trees = Vec::new(alloc);
+    let is_closed = put_trees(alloc, table, due, &mut trees, effort)?;
+    Ok(NodeEnd {
+        trees,
+        is_closed,
+        work: 0,
+    })
+}
+
+// Takes the work of what is known that the goals of a node come to. Whether there was so much: the
+// goals are walked anew where there wasn't.
+fn is_paid(end: &mut NodeEnd, effort: &mut Effort) -> bool {
+    if end.work >= effort.work.left {
+        return false;
+    }
+    effort.work.left -= end.work;
+    end.work = 0;
+    true
+}
+
+// Whether each goal of a node has a certificate, by what is known at its place; that is known there
+// from now on.
+fn is_ended(
+    alloc: Global,
+    table: &mut TermTable,
+    due: &Due,
+    known: &mut Option<NodeEnd>,
+    effort: &mut Effort,
+) -> Result<bool, AllocError>
+    requires facts { AreFormsReady (sorts_in table.old) (trees_in table.old)
+        due.now.facts.list.items }
+    requires goals { AreFormsReady (sorts_in table.old) (trees_in table.old)
+        due.now.targets.list.items }
+    ensures { OnOk result (Widens table.old table.new) }
+{
+    if let Some(end) = known {
+        if is_paid(end, effort) {
+            return Ok(end.is_closed);
+        }
+    }
+    let end = new_end(alloc, table, due, effort)?;
+    let is_closed = end.is_closed;
+    *known = Some(end);
+    Ok(is_closed)
 }
 
 /// What the obligations of a plan come to.
@@ -81,7 +155,7 @@ fn put_open(
     alloc: Global,
     table: &mut TermTable,
     due: &Due,
-    owners: &Owners,
+    known: &mut Option<NodeEnd>,
     open: &mut Vec<u64>,
     effort: &mut Effort,
 ) -> Result<bool, AllocError>
@@ -91,11 +165,7 @@ fn put_open(
         due.now.targets.list.items }
     ensures { OnOk result (Widens table.old table.new) }
 {
-    if owner(owners, due.node).is_some() {
-        return Ok(true);
-    }
-    let mut trees = Vec::new(alloc);
-    if put_trees(alloc, table, due, &mut trees, effort)? {
+    if is_ended(alloc, table, due, known, effort)? {
         return Ok(true);
     }
     if due.last || effort.work.is_spent() {
@@ -111,41 +181,88 @@ fn open_ends(
     table: &mut TermTable,
     dues: &[Due],
     owners: &Owners,
+    ends: &mut Vec<Option<NodeEnd>>,
     effort: &mut Effort,
 ) -> Result<Option<Vec<u64>>, AllocError>
     requires { AreDuesReady (sorts_in table.old) (trees_in table.old) dues.now }
     ensures { OnOk result (Widens table.old table.new) }
 {
     let mut open = Vec::new(alloc);
-    for due in dues {
-        if !put_open(alloc, table, due, owners, &mut open, effort)? {
+    for at in 0..dues.len() {
+        let due = &dues[at];
+        if at >= ends.len() || owner(owners, due.node).is_some() {
+            continue;
+        }
+        if !put_open(alloc, table, due, &mut ends[at], &mut open, effort)? {
             return Ok(None);
         }
     }
     Ok(Some(open))
 }
 
-// The certificates of all goals, where each has one.
-fn all_trees(
+// Whether each goal has a certificate.
+fn are_ended(
     alloc: Global,
     table: &mut TermTable,
     dues: &[Due],
+    ends: &mut Vec<Option<NodeEnd>>,
     effort: &mut Effort,
-) -> Result<Option<Vec<CertTree>>, AllocError>
+) -> Result<bool, AllocError>
     requires { AreDuesReady (sorts_in table.old) (trees_in table.old) dues.now }
     ensures { OnOk result (Widens table.old table.new) }
 {
-    let mut trees = Vec::new(alloc);
-    for due in dues {
-        if !put_trees(alloc, table, due, &mut trees, effort)? {
-            return Ok(None);
+    for at in 0..dues.len() {
+        if at >= ends.len() {
+            return Ok(false);
+        }
+        if !is_ended(alloc, table, &dues[at], &mut ends[at], effort)? {
+            return Ok(false);
         }
     }
-    Ok(Some(trees))
+    Ok(true)
 }
 
-/// What the obligations of a plan come to. Those that no site asks come first.
-pub(crate) fn end_of(
+// The certificates of all goals, in order.
+fn all_trees(alloc: Global, ends: Vec<Option<NodeEnd>>) -> Result<Vec<CertTree>, AllocError> {
+    let mut trees = Vec::new(alloc);
+    for end in ends {
+        if let Some(end) = end {
+            let mut more = end.trees;
+            trees.append(&mut more)?;
+        }
+    }
+    Ok(trees)
+}
+
+// The places of what nodes ask that sites ask, or that none does.
+fn places_of(
+    alloc: Global,
+    dues: &[Due],
+    owners: &Owners,
+    is_owned: bool,
+) -> Result<Vec<usize>, AllocError> {
+    let mut places = Vec::new(alloc);
+    for at in 0..dues.len() {
+        if owner(owners, dues[at].node).is_some() == is_owned {
+            places.push(at)?;
+        }
+    }
+    Ok(places)
+}
+
+// That nothing is known of what nodes ask, so many of them.
+fn no_ends(alloc: Global, count: usize) -> Result<Vec<Option<NodeEnd>>, AllocError> {
+    let mut ends = Vec::new(alloc);
+    for _ in 0..count {
+        ends.push(None)?;
+    }
+    Ok(ends)
+}
+
+/// What the obligations of a plan come to. Those that no site asks come first. Jobs make certificates
+/// ahead where there are several workers.
+pub(crate) fn end_of<R: Threads + Sync, G: Gate>(
+    crew: &Crew<'_, R, G>,
     alloc: Global,
     table: &mut TermTable,
     dues: &[Due],
@@ -155,14 +272,19 @@ pub(crate) fn end_of(
     requires { AreDuesReady (sorts_in table.old) (trees_in table.old) dues.now }
     ensures { OnOk result (Widens table.old table.new) }
 {
-    let Some(open) = open_ends(alloc, table, dues, owners, effort)? else {
+    let mut ends = no_ends(alloc, dues.len())?;
+    let places = places_of(alloc, dues, owners, false)?;
+    end_ahead(crew, alloc, table, dues, &places, &mut ends, effort)?;
+    let Some(open) = open_ends(alloc, table, dues, owners, &mut ends, effort)? else {
         return Ok(Ended::Open);
     };
     if !open.is_empty() {
         return Ok(Ended::Dead(open));
     }
-    match all_trees(alloc, table, dues, effort)? {
-        Some(trees) => Ok(Ended::Closed(trees)),
-        None => Ok(Ended::Open),
+    let places = places_of(alloc, dues, owners, true)?;
+    end_ahead(crew, alloc, table, dues, &places, &mut ends, effort)?;
+    if are_ended(alloc, table, dues, &mut ends, effort)? {
+        return Ok(Ended::Closed(all_trees(alloc, ends)?));
     }
+    Ok(Ended::Open)
 }

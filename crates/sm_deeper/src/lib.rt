@@ -10,13 +10,17 @@
 //!
 //! `search` tries drawings; `attempt` is one, with its repairs: `candidates` walks over its plan
 //! for the candidates of each loop, `rounds` drops those that don't prove, and `ends` gives
-//! certificates. What runs show at a loop is read off by `sm_observed`, and `sm_drawing` draws.
+//! certificates. Walks are jobs (`ahead`, `end_jobs`): what is found doesn't depend on the number of
+//! workers. What runs show at a loop is read off by `sm_observed`, and `sm_drawing` draws.
 #![tactic(auto)]
 
+mod ahead;
 mod attempt;
 mod candidates;
 mod closing;
+mod crew;
 mod effort;
+mod end_jobs;
 mod ends;
 mod facts;
 mod judging;
@@ -27,7 +31,9 @@ mod owners;
 mod rounds;
 mod same;
 mod search;
+mod shares;
 mod subject;
+mod told;
 mod walking;
 
 pub use search::search_deeper;

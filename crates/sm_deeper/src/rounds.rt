@@ -5,7 +5,9 @@ ghost use Rattle.sm_term.specs.TableLaws.{Widens};
 ghost use Rattle.sm_expand.specs.Views.{AreDuesReady};
 ghost use Rattle.sm_deeper.specs.Subjects.{IsSubject, IsTableOf};
 
+use crate::ahead::told_ahead;
 use crate::candidates::MOST_BRANCHES;
+use crate::crew::Crew;
 use crate::effort::Effort;
 use crate::facts::facts_in;
 use crate::judging::{Round, judge_all};
@@ -15,9 +17,11 @@ use crate::owners::Owners;
 use crate::subject::Subject;
 use sm_audit::is_plan_ready;
 use sm_expand::{Due, Obligations, Plan, PlanFault};
+use sm_par::Gate;
 use sm_product::obligations_of;
 use sm_term::TermTable;
 use std::alloc::{AllocError, Global};
+use std::thread::Threads;
 
 /// How many facts the nodes of a plan have together at most.
 const MOST_FACTS: usize = 1_000_000;
@@ -88,7 +92,8 @@ fn dues_of(asked: Asked) -> Vec<Due> {
 
 /// Drops candidates until each goal of those that are left closes: the plan that keeps them, with
 /// its obligations. None where the plan has none, or the work that is left doesn't suffice.
-pub(crate) fn settled(
+pub(crate) fn settled<R: Threads + Sync, G: Gate>(
+    crew: &Crew<'_, R, G>,
     alloc: Global,
     table: &mut TermTable,
     subject: &Subject<'_>,
@@ -118,7 +123,8 @@ pub(crate) fn settled(
             owners: product.owners,
         };
         let mut marks = all_marked(alloc, &candidates)?;
-        judge_all(alloc, table, &round, &mut marks, effort)?;
+        let told = told_ahead(crew, alloc, table, &round, effort)?;
+        judge_all(alloc, table, &round, &told, &mut marks, effort)?;
         if effort.work.is_spent() {
             return Ok(None);
         }

@@ -1,5 +1,5 @@
 // The deeper search.
-ghost use Rattle.std.specs.Prelude.{IfOk, IfSome};
+ghost use Rattle.std.specs.Prelude.{◌<◌, ◌≤◌, IfOk, IfSome};
 ghost use Rattle.sm_syntax.specs.text.Parts.{sort_of, task_of};
 ghost use Rattle.sm_syntax.specs.trees.Programs.{declared_of};
 ghost use Rattle.sm_text.specs.Tasks.{parts_of};
@@ -9,6 +9,7 @@ ghost use Rattle.sm_houdini.specs.Views.{IsWhole};
 ghost use Rattle.sm_deeper.specs.Subjects.{IsSubject};
 
 use crate::attempt::{Manner, attempt, drawing_of};
+use crate::crew::Crew;
 use crate::effort::Effort;
 use crate::same::are_same_plans;
 use crate::subject::Subject;
@@ -16,10 +17,12 @@ use sm_drawing::Drawing;
 use sm_eval::Store;
 use sm_houdini::Proof;
 use sm_observed::Work;
+use sm_par::Gate;
 use sm_solve::Reach;
 use sm_task::fill_all;
 use sm_text::Task;
 use std::alloc::{AllocError, Global};
+use std::thread::Threads;
 
 /// The most steps of a walk.
 const MOST_STEPS: u64 = 10_000;
@@ -68,7 +71,8 @@ fn has_visits(drawing: &Drawing) -> bool {
 
 // A proof by a drawing, where it is there. Candidates under guards are looked for where some loop
 // is visited.
-fn proved_by(
+fn proved_by<R: Threads + Sync, G: Gate>(
+    crew: &Crew<'_, R, G>,
     alloc: Global,
     subject: &Subject<'_>,
     drawing: &Option<Drawing>,
@@ -84,11 +88,12 @@ fn proved_by(
     if manner.with_guards && !has_visits(drawing) {
         return Ok(None);
     }
-    attempt(alloc, subject, drawing, manner, effort)
+    attempt(crew, alloc, subject, drawing, manner, effort)
 }
 
 // A proof by both drawings, with or without candidates under guards.
-fn proved_by_both(
+fn proved_by_both<R: Threads + Sync, G: Gate>(
+    crew: &Crew<'_, R, G>,
     alloc: Global,
     subject: &Subject<'_>,
     drawings: &Drawings,
@@ -102,18 +107,19 @@ fn proved_by_both(
         is_second: false,
         with_guards,
     };
-    if let Some(proof) = proved_by(alloc, subject, &drawings.first, manner, effort)? {
+    if let Some(proof) = proved_by(crew, alloc, subject, &drawings.first, manner, effort)? {
         return Ok(Some(proof));
     }
     let manner = Manner {
         is_second: true,
         with_guards,
     };
-    proved_by(alloc, subject, &drawings.second, manner, effort)
+    proved_by(crew, alloc, subject, &drawings.second, manner, effort)
 }
 
 // A proof by both drawings, first without candidates under guards, then with them.
-fn found(
+fn found<R: Threads + Sync, G: Gate>(
+    crew: &Crew<'_, R, G>,
     alloc: Global,
     subject: &Subject<'_>,
     effort: &mut Effort,
@@ -122,26 +128,33 @@ fn found(
     ensures { IfOk result (λ o. IfSome o (IsWhole (parts_of subject.now.task.now))) }
 {
     let drawings = drawings_of(alloc, subject)?;
-    if let Some(proof) = proved_by_both(alloc, subject, &drawings, false, effort)? {
+    if let Some(proof) = proved_by_both(crew, alloc, subject, &drawings, false, effort)? {
         return Ok(Some(proof));
     }
-    proved_by_both(alloc, subject, &drawings, true, effort)
+    proved_by_both(crew, alloc, subject, &drawings, true, effort)
 }
 
 /// A proof of a task by a plan that is drawn along the runs from some inputs, where one is found:
 /// it can be written, whatever the inputs are. More is found where they meet the assumption. Two
 /// drawings are tried, and then both with candidates under guards. A walk takes 10,000 steps at
-/// most. Where all work is done that a search may do, nothing is found.
-pub fn search_deeper(
+/// most. Where all work is done that a search may do, nothing is found. Walks are jobs for 1 to 64
+/// workers, whose number changes nothing that is found.
+pub fn search_deeper<R: Threads + Sync, G: Gate>(
+    rt: &R,
     alloc: Global,
+    gate: &G,
     task: &Task,
     inputs: &[Store],
     reach: Reach,
+    workers: u32,
 ) -> Result<Option<Proof>, AllocError>
     requires sorted { let t = parts_of task.now in IsTaskSorted (sort_of t.declared) (task_of t) }
     requires numbered { AreNumbered (declared_of task.now.shared.decls) }
+    requires some { 0 < workers }
+    requires most { workers ≤ 64 }
     ensures { IfOk result (λ o. IfSome o (IsWhole (parts_of task.now))) }
 {
+    let crew = Crew { rt, gate, workers };
     let programs = fill_all(alloc, task)?;
     let subject = Subject {
         task,
@@ -155,5 +168,5 @@ pub fn search_deeper(
         },
         work: Work { left: MOST_WORK },
     };
-    found(alloc, &subject, &mut effort)
+    found(&crew, alloc, &subject, &mut effort)
 }

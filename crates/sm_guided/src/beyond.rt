@@ -1,4 +1,4 @@
-// The violation that is found.
+// A violation that is found.
 ghost use Rattle.std.specs.Prelude.{◌≡◌, None, IfOk, IfSome};
 ghost use Rattle.sm_eval.specs.StoredValues.{sorts_of};
 ghost use Rattle.sm_guided.specs.Beyond.{ShowsBeyond};
@@ -9,13 +9,12 @@ ghost use Rattle.sm_task.specs.Filling.{AreFilled};
 ghost use Rattle.sm_task.specs.Tasks.{parts_of};
 
 use crate::inputs::{input_cells, store_of};
-use crate::searching::pick;
 use crate::setting::Picked;
 use crate::small::STATED;
 use sm_eval::Store;
 use sm_replay::{ReplayError, Verdict, judge};
 use sm_syntax::{Block, Name, PerCopy};
-use sm_task::{Task, fill_all};
+use sm_task::Task;
 use std::alloc::{AllocError, Global};
 
 /// An input that shows a conflict of a task, beyond those that are tried on every task.
@@ -31,23 +30,8 @@ pub struct Shown {
     pub clause: u8,
 }
 
-/// An input that violates the condition, where the search comes to one. Where it doesn't, nothing
-/// follows. Each loop takes at most this many turns each time it is met, and in the search at most
-/// 500.
-pub fn violation_beyond(alloc: Global, task: &Task, turns: u64) -> Result<Option<Shown>, AllocError>
-    requires runs { sort_fault (parts_of task.now) ≡ None }
-    ensures { IfOk result (λ found. IfSome found (ShowsBeyond (parts_of task.now) turns)) }
-{
-    let programs = fill_all(alloc, task)?;
-    let picked = pick(alloc, task, &programs, turns)?;
-    match picked {
-        None => Ok(None),
-        Some(picked) => judge_picked(alloc, task, &programs, &picked, turns),
-    }
-}
-
-// The input that was picked, where it is judged to violate the condition.
-fn judge_picked(
+/// The input that was picked, where it is judged to violate the condition.
+pub fn judged(
     alloc: Global,
     task: &Task,
     programs: &PerCopy<Block>,

@@ -1,32 +1,39 @@
-// Inputs that are led to where no run has gone, by Newton's method on the guards.
-use crate::coordinates::{Coordinate, coordinates, moved};
+// Inputs that are led to where no run has gone.
+use crate::coordinates::{Coordinate, coordinates};
+use crate::crew::Crew;
 use crate::halt::Halt;
-use crate::records::{Sign, Visit, is_nearer};
-use crate::running::{add_input, difference_at};
+use crate::leading::{Course, MOST_TRIALS, Way, no_way, way_along};
+use crate::records::{Sign, Visit};
 use crate::search::{Search, Target};
 use crate::setting::Setting;
+use crate::trials::{add_trial, wave_size};
+use sm_par::{Gate, Phase, run_calls};
 use sm_syntax::CopyName;
 use std::alloc::{AllocError, Global};
+use std::thread::Threads;
 
 // How often all places are gone through.
 const ROUNDS: u32 = 3;
 
-// How often an input is led on along one coordinate.
-const MOVES: u32 = 3;
-
 /// Leads inputs to each sign of each place that no run has shown, copy by copy.
-pub fn try_guided(alloc: Global, setting: &Setting<'_>, search: &mut Search) -> Result<(), Halt> {
+pub fn try_guided<R: Threads + Sync, G: Gate>(
+    crew: &Crew<'_, R, G>,
+    alloc: Global,
+    setting: &Setting<'_>,
+    search: &mut Search,
+) -> Result<(), Halt> {
     let along = coordinates(alloc, &setting.cells)?;
     for _ in 0..ROUNDS {
         for copy in [CopyName::O, CopyName::A, CopyName::B, CopyName::M] {
-            try_copy(alloc, setting, search, &along, copy)?;
+            try_copy(crew, alloc, setting, search, &along, copy)?;
         }
     }
     Ok(())
 }
 
 // Leads inputs to the places of a copy's program.
-fn try_copy(
+fn try_copy<R: Threads + Sync, G: Gate>(
+    crew: &Crew<'_, R, G>,
     alloc: Global,
     setting: &Setting<'_>,
     search: &mut Search,
@@ -36,14 +43,15 @@ fn try_copy(
     for place in 0..setting.outlines.get(copy).places() {
         for sign in [Sign::Zero, Sign::Below, Sign::Above] {
             let target = Target { copy, place, sign };
-            try_target(alloc, setting, search, along, target)?;
+            try_target(crew, alloc, setting, search, along, target)?;
         }
     }
     Ok(())
 }
 
 // Leads inputs to a target, where it is open, from the two runs that are nearest to it.
-fn try_target(
+fn try_target<R: Threads + Sync, G: Gate>(
+    crew: &Crew<'_, R, G>,
     alloc: Global,
     setting: &Setting<'_>,
     search: &mut Search,
@@ -52,187 +60,114 @@ fn try_target(
 ) -> Result<(), Halt> {
     let record = search.record(target);
     if let Some(from) = record.nearest {
-        lead_from(alloc, setting, search, along, target, from)?;
+        let lead = Lead { target, from };
+        lead_from(crew, alloc, setting, search, along, lead)?;
     }
     if let Some(from) = record.second {
-        lead_from(alloc, setting, search, along, target, from)?;
+        let lead = Lead { target, from };
+        lead_from(crew, alloc, setting, search, along, lead)?;
     }
     Ok(())
 }
 
-// Leads an input to a target along each coordinate, while it is open.
-fn lead_from(
+// A target, and the run from which inputs are led there.
+#[derive(Clone, Copy, Debug)]
+struct Lead {
+    target: Target,
+    from: Visit,
+}
+
+// Leads an input to a target along each coordinate, while it is open. Some coordinates are gone
+// along ahead, as jobs: what is done along one doesn't depend on the others, and is dropped where
+// one before it reached the target.
+fn lead_from<R: Threads + Sync, G: Gate>(
+    crew: &Crew<'_, R, G>,
     alloc: Global,
     setting: &Setting<'_>,
     search: &mut Search,
     along: &[Coordinate],
-    target: Target,
-    from: Visit,
+    lead: Lead,
 ) -> Result<(), Halt> {
-    for coordinate in along {
-        if search.is_open(target) {
-            lead_along(alloc, setting, search, *coordinate, target, from)?;
+    let size = wave_size(crew, setting, MOST_TRIALS);
+    for start in 0..along.len() {
+        if start.checked_rem(size) == Some(0) && search.is_open(lead.target) {
+            let part = part_from(along, start, size);
+            let ways = ways_along(crew, alloc, setting, search, part, lead)?;
+            take_ways(setting, search, lead.target, ways)?;
         }
     }
     Ok(())
 }
 
-// Leads an input to a target along a coordinate, as long as it comes nearer.
-fn lead_along(
-    alloc: Global,
-    setting: &Setting<'_>,
-    search: &mut Search,
-    along: Coordinate,
-    target: Target,
-    from: Visit,
-) -> Result<(), Halt> {
-    let mut from = from;
-    for _ in 0..MOVES {
-        match next_visit(alloc, setting, search, along, target, from)? {
-            None => return Ok(()),
-            Some(next) => from = next,
-        }
+// So many coordinates from a place on, as far as there are some.
+fn part_from(along: &[Coordinate], start: usize, size: usize) -> &[Coordinate] {
+    if start >= along.len() {
+        return &[];
     }
-    Ok(())
+    if along.len() - start < size {
+        return &along[start..];
+    }
+    &along[start..start + size]
 }
 
-// A run that is nearer to a target than another, one step of Newton's method from there. None where
-// there is none, or the target is reached.
-fn next_visit(
+// What is done along some coordinates, by jobs of the phase Trial, in their order.
+fn ways_along<R: Threads + Sync, G: Gate>(
+    crew: &Crew<'_, R, G>,
     alloc: Global,
     setting: &Setting<'_>,
-    search: &mut Search,
-    along: Coordinate,
-    target: Target,
-    from: Visit,
-) -> Result<Option<Visit>, Halt> {
-    if let Some(raised) = visit(alloc, setting, search, along, target, from, 1)? {
-        if search.is_open(target) {
-            if let Some(step) = step_to(target.sign, from.difference, raised.difference) {
-                return follow(alloc, setting, search, along, target, from, step);
-            }
-        }
-    }
-    Ok(None)
-}
-
-// The run that is nearer to a target after a step, where it is still open.
-fn follow(
-    alloc: Global,
-    setting: &Setting<'_>,
-    search: &mut Search,
-    along: Coordinate,
-    target: Target,
-    from: Visit,
-    step: Step,
-) -> Result<Option<Visit>, Halt> {
-    let mut best = from;
-    if let Some(first) = visit_anew(alloc, setting, search, along, target, from, step.whole)? {
-        best = nearer_of(target.sign, best, first);
-    }
-    if let Some(by) = step.next {
-        if search.is_open(target) {
-            if let Some(second) = visit_anew(alloc, setting, search, along, target, from, by)? {
-                best = nearer_of(target.sign, best, second);
-            }
-        }
-    }
-    if search.is_open(target) && best != from {
-        return Ok(Some(best));
-    }
-    Ok(None)
-}
-
-// The run after a step, but for those that were made already.
-fn visit_anew(
-    alloc: Global,
-    setting: &Setting<'_>,
-    search: &mut Search,
-    along: Coordinate,
-    target: Target,
-    from: Visit,
-    by: i128,
-) -> Result<Option<Visit>, Halt> {
-    if by == 0 || by == 1 {
-        return Ok(None);
-    }
-    visit(alloc, setting, search, along, target, from, by)
-}
-
-// The run from an input that is raised by a number along a coordinate, where it visits the target's
-// place.
-fn visit(
-    alloc: Global,
-    setting: &Setting<'_>,
-    search: &mut Search,
-    along: Coordinate,
-    target: Target,
-    from: Visit,
-    by: i128,
-) -> Result<Option<Visit>, Halt> {
-    match raised(alloc, search, along, from, by)? {
-        None => Ok(None),
-        Some(numbers) => {
-            let made = add_input(alloc, setting, search, numbers)?;
-            match difference_at(alloc, setting, search, target, made)? {
-                None => Ok(None),
-                Some(difference) => Ok(Some(Visit {
-                    input: made.input,
-                    difference,
-                })),
-            }
-        }
-    }
-}
-
-// The numbers of a run's input, raised by a number along a coordinate.
-fn raised(
-    alloc: Global,
     search: &Search,
-    along: Coordinate,
-    from: Visit,
-    by: i128,
-) -> Result<Option<Vec<i128>>, AllocError> {
-    match search.numbers(from.input) {
-        None => Ok(None),
-        Some(numbers) => moved(alloc, numbers, along, by),
-    }
+    part: &[Coordinate],
+    lead: Lead,
+) -> Result<Vec<Way>, AllocError> {
+    let call = move |at: u64| -> Result<Way, AllocError> {
+        way_at(alloc, setting, search, part, lead, at)
+    };
+    let count = part.len() as u64;
+    run_calls(
+        crew.rt,
+        alloc,
+        crew.gate,
+        Phase::Trial,
+        &call,
+        count,
+        crew.workers,
+    )
 }
 
-// The run that is nearer to a sign, the first where both are as near.
-fn nearer_of(sign: Sign, first: Visit, second: Visit) -> Visit {
-    let of_first = first.difference.saturating_sub(sign.number());
-    if is_nearer(second.difference.saturating_sub(sign.number()), of_first) {
-        return second;
+// Makes the inputs of ways, one after the other, while the target is open.
+fn take_ways(
+    setting: &Setting<'_>,
+    search: &mut Search,
+    target: Target,
+    ways: Vec<Way>,
+) -> Result<(), Halt> {
+    for way in ways {
+        if search.is_open(target) {
+            for trial in way.trials {
+                add_trial(setting, search, target, trial)?;
+            }
+        }
     }
-    first
+    Ok(())
 }
 
-// How far an input is to be raised: so much, and where that isn't exact, perhaps one more.
-#[derive(Clone, Copy, Debug, PartialEq, Eq)]
-struct Step {
-    whole: i128,
-    next: Option<i128>,
-}
-
-// The step to a sign from a difference, where raising by 1 gives another one.
-fn step_to(sign: Sign, difference: i128, raised: i128) -> Option<Step> {
-    let slope = raised.checked_sub(difference)?;
-    let way = sign.number().checked_sub(difference)?;
-    if slope < 0 {
-        return divided(way.checked_neg()?, slope.checked_neg()?);
+// What is done along one of some coordinates.
+fn way_at(
+    alloc: Global,
+    setting: &Setting<'_>,
+    search: &Search,
+    part: &[Coordinate],
+    lead: Lead,
+    at: u64,
+) -> Result<Way, AllocError> {
+    match part.get(at as usize) {
+        Some(along) => {
+            let course = Course {
+                along: *along,
+                target: lead.target,
+            };
+            way_along(alloc, setting, search, course, lead.from)
+        }
+        None => Ok(no_way(alloc)),
     }
-    divided(way, slope)
-}
-
-// A way divided by a slope that isn't negative, rounded down.
-fn divided(way: i128, slope: i128) -> Option<Step> {
-    let whole = way.checked_div_euclid(slope)?;
-    if way.checked_rem_euclid(slope)? == 0 {
-        return Some(Step { whole, next: None });
-    }
-    Some(Step {
-        whole,
-        next: whole.checked_add(1),
-    })
 }

@@ -1,11 +1,12 @@
 //! A violation of a task, beyond the inputs that are tried on every task.
 //!
-//! - `violation_beyond` goes through further inputs. They are made of small numbers first, and then
-//!   led to where no run has gone, by watching the guards. Where it answers an input, this input
-//!   violates the condition, and its verdict is the one that is given.
-//! - `all_tried` gives the inputs that are tried, as far as they meet the assumption.
+//! - `try_inputs` goes through further inputs. They are made of small numbers first, and then led to
+//!   where no run has gone, by watching the guards. Where it answers an input that violates the
+//!   condition, its verdict is the one that is given; else it gives the inputs that were tried, as
+//!   far as they meet the assumption.
+//! - Runs are jobs, and what they come to doesn't depend on the number of workers.
 //!
-//! It says nothing where it answers none: it goes through 1,024 inputs at most, with runs of a
+//! Nothing follows where no input violates: it goes through 1,024 inputs at most, with runs of a
 //! bounded number of steps, and leaves what it can't compute.
 //!
 //! Read `specs/Beyond.antt`: what is looked for stands there, and nothing of how it is found; then
@@ -14,10 +15,12 @@
 
 mod beyond;
 mod coordinates;
+mod crew;
 mod ends;
 mod guiding;
 mod halt;
 mod inputs;
+mod leading;
 mod observing;
 mod places;
 mod records;
@@ -26,7 +29,8 @@ mod search;
 mod searching;
 mod setting;
 mod small;
+mod trials;
 mod tried;
 
-pub use beyond::{Shown, violation_beyond};
-pub use tried::all_tried;
+pub use beyond::Shown;
+pub use tried::{Tried, try_inputs};

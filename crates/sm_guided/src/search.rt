@@ -2,6 +2,7 @@
 use crate::halt::Halt;
 use crate::places::Outline;
 use crate::records::{Note, Record, Sign};
+use crate::running::Runs;
 use crate::setting::{Picked, Setting};
 use indexmap::IndexSet;
 use sm_syntax::{CopyName, PerCopy};
@@ -27,8 +28,6 @@ pub struct Search {
     inputs: IndexSet<Vec<i128>>,
     made: u64,
     left: u64,
-    // Those of the last input that was run.
-    notes: PerCopy<Vec<Option<Note>>>,
     records: PerCopy<Vec<Record>>,
 }
 
@@ -39,7 +38,6 @@ impl Search {
             inputs: IndexSet::new(alloc),
             made: 0,
             left: SEARCH_STEPS,
-            notes: no_notes(alloc),
             records: no_records(alloc, &setting.outlines)?,
         })
     }
@@ -75,6 +73,11 @@ impl Search {
         Ok(made)
     }
 
+    /// Whether an input is among all.
+    pub fn has(&self, numbers: &Vec<i128>) -> bool {
+        self.inputs.contains(numbers)
+    }
+
     /// How many inputs there are.
     pub fn len(&self) -> usize {
         self.inputs.len()
@@ -102,16 +105,6 @@ impl Search {
         Record::new()
     }
 
-    /// The difference of the last run at the target's place.
-    pub fn noted(&self, target: Target) -> Option<i128> {
-        difference_in(self.notes.get(target.copy), target.place)
-    }
-
-    /// How many steps may still be taken.
-    pub fn left(&self) -> u64 {
-        self.left
-    }
-
     /// Takes steps.
     pub fn spend(&mut self, steps: u64) -> Result<(), Halt> {
         match self.left.checked_sub(steps) {
@@ -126,41 +119,19 @@ impl Search {
         }
     }
 
-    /// Forgets the notes of the last input that was run.
-    pub fn forget(&mut self, alloc: Global) {
-        self.notes = no_notes(alloc);
-    }
-
-    /// Keeps what a copy's run from the input at a place among all showed.
-    pub fn keep(&mut self, copy: CopyName, notes: Vec<Option<Note>>, input: usize) {
-        match copy {
-            CopyName::O => {
-                add_notes(&mut self.records.base, &notes, input);
-                self.notes.base = notes;
-            }
-            CopyName::A => {
-                add_notes(&mut self.records.variant_a, &notes, input);
-                self.notes.variant_a = notes;
-            }
-            CopyName::B => {
-                add_notes(&mut self.records.variant_b, &notes, input);
-                self.notes.variant_b = notes;
-            }
-            CopyName::M => {
-                add_notes(&mut self.records.candidate, &notes, input);
-                self.notes.candidate = notes;
-            }
-        }
-    }
-}
-
-// The notes where nothing was run.
-fn no_notes(alloc: Global) -> PerCopy<Vec<Option<Note>>> {
-    PerCopy {
-        base: Vec::new(alloc),
-        variant_a: Vec::new(alloc),
-        variant_b: Vec::new(alloc),
-        candidate: Vec::new(alloc),
+    /// Takes the steps of the runs from the input at a place among all, and what they show. Whether
+    /// their ends break the condition.
+    pub fn take(&mut self, setting: &Setting<'_>, runs: Runs, input: usize) -> Result<bool, Halt> {
+        self.spend(setting.steps)?;
+        self.spend(runs.steps.base)?;
+        self.spend(runs.steps.variant_a)?;
+        self.spend(runs.steps.variant_b)?;
+        self.spend(runs.steps.candidate)?;
+        add_notes(&mut self.records.base, &runs.notes.base, input);
+        add_notes(&mut self.records.variant_a, &runs.notes.variant_a, input);
+        add_notes(&mut self.records.variant_b, &runs.notes.variant_b, input);
+        add_notes(&mut self.records.candidate, &runs.notes.candidate, input);
+        Ok(runs.breaks)
     }
 }
 
@@ -195,6 +166,16 @@ fn add_notes(records: &mut Vec<Record>, notes: &[Option<Note>], input: usize) {
             }
         }
     }
+}
+
+/// Whether notes have the sign of a target at its place.
+pub fn show_sign(notes: &[Option<Note>], target: Target) -> bool {
+    if target.place < notes.len() {
+        if let Some(note) = notes[target.place] {
+            return note.signs.has(target.sign);
+        }
+    }
+    false
 }
 
 /// The difference that is noted for a place.

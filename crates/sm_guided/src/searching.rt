@@ -1,73 +1,61 @@
 // The search for an input whose ends break the condition.
-ghost use Rattle.std.specs.Prelude.{◌≡◌, None};
-ghost use Rattle.sm_replay.specs.Runs.{AreSorted};
-ghost use Rattle.sm_replay.specs.Sorted.{sort_fault};
-ghost use Rattle.sm_syntax.specs.trees.Programs.{declared_of};
-ghost use Rattle.sm_task.specs.Tasks.{parts_of};
-
+use crate::crew::Crew;
 use crate::guiding::try_guided;
 use crate::halt::Halt;
-use crate::running::{add_input, add_stated};
 use crate::search::Search;
-use crate::setting::{Picked, Setting};
+use crate::setting::Setting;
 use crate::small::{FIRST_SMALL, LAST_SMALL, STATED, small_input, stated_input};
-use sm_syntax::{Block, PerCopy};
-use sm_task::Task;
-use std::alloc::{AllocError, Global};
+use crate::trials::{add_wave, wave_size};
+use sm_par::Gate;
+use std::alloc::Global;
+use std::thread::Threads;
 
-/// The first input beyond the stated trials from which all four programs end and the ends break the
-/// condition, where the search comes to one.
-pub fn pick(
+/// Runs the stated trials, then small inputs, then those that are led to where no run has gone.
+pub fn try_all<R: Threads + Sync, G: Gate>(
+    crew: &Crew<'_, R, G>,
     alloc: Global,
-    task: &Task,
-    programs: &PerCopy<Block>,
-    turns: u64,
-) -> Result<Option<Picked>, AllocError>
-    requires runs { sort_fault (parts_of task.now) ≡ None }
-    requires sorted { AreSorted (declared_of task.now.shared.decls) programs.now }
-{
-    let setting = Setting::new(alloc, task, programs, turns)?;
-    let mut search = Search::new(alloc, &setting)?;
-    match try_all(alloc, &setting, &mut search) {
-        Ok(()) => Ok(None),
-        Err(Halt::Spent) => Ok(None),
-        Err(Halt::Memory) => Err(AllocError),
-        Err(Halt::Broken { made, input }) => search.picked(alloc, made, input),
-    }
-}
-
-/// The search, as far as it goes.
-pub fn searched(alloc: Global, setting: &Setting<'_>) -> Result<Search, AllocError> {
-    let mut search = Search::new(alloc, setting)?;
-    match try_all(alloc, setting, &mut search) {
-        Ok(()) => Ok(search),
-        Err(Halt::Spent) => Ok(search),
-        Err(Halt::Broken { .. }) => Ok(search),
-        Err(Halt::Memory) => Err(AllocError),
-    }
-}
-
-// Runs the stated trials, then small inputs, then those that are led to where no run has gone.
-fn try_all(alloc: Global, setting: &Setting<'_>, search: &mut Search) -> Result<(), Halt> {
-    try_stated(alloc, setting, search)?;
-    try_small(alloc, setting, search)?;
-    try_guided(alloc, setting, search)
+    setting: &Setting<'_>,
+    search: &mut Search,
+) -> Result<(), Halt> {
+    try_stated(crew, alloc, setting, search)?;
+    try_small(crew, alloc, setting, search)?;
+    try_guided(crew, alloc, setting, search)
 }
 
 // Runs the stated trials, for what they show of the guards.
-fn try_stated(alloc: Global, setting: &Setting<'_>, search: &mut Search) -> Result<(), Halt> {
+fn try_stated<R: Threads + Sync, G: Gate>(
+    crew: &Crew<'_, R, G>,
+    alloc: Global,
+    setting: &Setting<'_>,
+    search: &mut Search,
+) -> Result<(), Halt> {
+    let size = wave_size(crew, setting, 1);
+    let mut wave = Vec::new(alloc);
     for j in 0..STATED {
-        let numbers = stated_input(alloc, &setting.cells, j)?;
-        add_stated(alloc, setting, search, numbers)?;
+        wave.push(stated_input(alloc, &setting.cells, j)?)?;
+        if wave.len() >= size {
+            add_wave(crew, alloc, setting, search, wave, true)?;
+            wave = Vec::new(alloc);
+        }
     }
-    Ok(())
+    add_wave(crew, alloc, setting, search, wave, true)
 }
 
 // Runs small inputs.
-fn try_small(alloc: Global, setting: &Setting<'_>, search: &mut Search) -> Result<(), Halt> {
+fn try_small<R: Threads + Sync, G: Gate>(
+    crew: &Crew<'_, R, G>,
+    alloc: Global,
+    setting: &Setting<'_>,
+    search: &mut Search,
+) -> Result<(), Halt> {
+    let size = wave_size(crew, setting, 1);
+    let mut wave = Vec::new(alloc);
     for j in FIRST_SMALL..LAST_SMALL + 1 {
-        let numbers = small_input(alloc, &setting.cells, j)?;
-        let _made = add_input(alloc, setting, search, numbers)?;
+        wave.push(small_input(alloc, &setting.cells, j)?)?;
+        if wave.len() >= size {
+            add_wave(crew, alloc, setting, search, wave, false)?;
+            wave = Vec::new(alloc);
+        }
     }
-    Ok(())
+    add_wave(crew, alloc, setting, search, wave, false)
 }

@@ -73,6 +73,14 @@ impl<'a> Setting<'a> {
         })
     }
 
+    /// How many places the four programs have.
+    pub fn places(&self) -> usize {
+        let first = self.outlines.base.places();
+        let more = first.saturating_add(self.outlines.variant_a.places());
+        let most = more.saturating_add(self.outlines.variant_b.places());
+        most.saturating_add(self.outlines.candidate.places())
+    }
+
     /// The store of an input, where it meets the assumption.
     pub fn start(&self, alloc: Global, numbers: &[i128]) -> Result<Option<Store>, AllocError>
         ensures sorts { let sorts = sort_of (declared_of self.now.task.now.shared.decls) in

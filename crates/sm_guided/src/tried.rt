@@ -1,15 +1,31 @@
-// The inputs that are tried.
-ghost use Rattle.std.specs.Prelude.{◌≡◌, None, All, IfOk, OnOk};
+// The inputs that are tried, and the violation that is found.
+ghost use Rattle.std.specs.Prelude.{◌≡◌, ◌<◌, ◌≤◌, None, All, IfOk, IfSome, OnOk};
+ghost use Rattle.sm_guided.specs.Beyond.{ShowsBeyond};
 ghost use Rattle.sm_guided.specs.Inputs.{IsInput};
 ghost use Rattle.sm_replay.specs.Sorted.{sort_fault};
 ghost use Rattle.sm_task.specs.Tasks.{parts_of};
 
+use crate::beyond::{Shown, judged};
+use crate::crew::Crew;
+use crate::halt::Halt;
 use crate::search::Search;
-use crate::searching::searched;
+use crate::searching::try_all;
 use crate::setting::Setting;
 use sm_eval::Store;
+use sm_par::Gate;
 use sm_task::{Task, fill_all};
 use std::alloc::{AllocError, Global};
+use std::thread::Threads;
+
+/// What trying inputs comes to.
+#[derive(Drop)]
+pub struct Tried {
+    /// An input that violates the condition, where the search comes to one.
+    pub shown: Option<Shown>,
+    /// Where it doesn't, the inputs that were tried, the stated trials among them, as far as they
+    /// meet the assumption.
+    pub inputs: Vec<Store>,
+}
 
 // Puts the store of the input at a place among all behind others, where it meets the assumption.
 fn put_input(
@@ -31,19 +47,62 @@ fn put_input(
     Ok(())
 }
 
-/// The inputs that are tried in the search for a violation, the stated trials among them, as far as
-/// they meet the assumption: where it comes to one, those up to it. Each loop takes at most this many
-/// turns each time it is met, and at most 500.
-pub fn all_tried(alloc: Global, task: &Task, turns: u64) -> Result<Vec<Store>, AllocError>
-    requires runs { sort_fault (parts_of task.now) ≡ None }
-    ensures { IfOk result (λ list. All (IsInput (parts_of task.now)) list.items) }
+// The inputs of a search, as far as they meet the assumption.
+fn inputs_of(
+    alloc: Global,
+    setting: &Setting<'_>,
+    search: &Search,
+) -> Result<Vec<Store>, AllocError>
+    ensures { IfOk result (λ list. All (IsInput (parts_of setting.now.task.now)) list.items) }
 {
-    let programs = fill_all(alloc, task)?;
-    let setting = Setting::new(alloc, task, &programs, turns)?;
-    let search = searched(alloc, &setting)?;
     let mut list = Vec::new(alloc);
     for input in 0..search.len() {
-        put_input(alloc, &setting, &search, input, &mut list)?;
+        put_input(alloc, setting, search, input, &mut list)?;
     }
     Ok(list)
+}
+
+/// Tries inputs beyond the stated trials, until one violates the condition. Where none does, nothing
+/// follows. Each loop takes at most this many turns each time it is met, and in the search at most
+/// 500. Runs are jobs of the phase Trial, for 1 to 64 workers, whose number changes nothing that is
+/// found.
+pub fn try_inputs<R: Threads + Sync, G: Gate>(
+    rt: &R,
+    alloc: Global,
+    gate: &G,
+    task: &Task,
+    turns: u64,
+    workers: u32,
+) -> Result<Tried, AllocError>
+    requires runs { sort_fault (parts_of task.now) ≡ None }
+    requires some { 0 < workers }
+    requires most { workers ≤ 64 }
+    ensures shown { IfOk result (λ tried.
+        IfSome tried.shown (ShowsBeyond (parts_of task.now) turns)) }
+    ensures inputs { IfOk result (λ tried.
+        All (IsInput (parts_of task.now)) tried.inputs.items) }
+{
+    let crew = Crew { rt, gate, workers };
+    let programs = fill_all(alloc, task)?;
+    let setting = Setting::new(alloc, task, &programs, turns)?;
+    let mut search = Search::new(alloc, &setting)?;
+    let picked = match try_all(&crew, alloc, &setting, &mut search) {
+        Ok(()) => None,
+        Err(Halt::Spent) => None,
+        Err(Halt::Memory) => return Err(AllocError),
+        Err(Halt::Broken { made, input }) => search.picked(alloc, made, input)?,
+    };
+    if let Some(picked) = picked {
+        if let Some(shown) = judged(alloc, task, &programs, &picked, turns)? {
+            return Ok(Tried {
+                shown: Some(shown),
+                inputs: Vec::new(alloc),
+            });
+        }
+    }
+    let inputs = inputs_of(alloc, &setting, &search)?;
+    Ok(Tried {
+        shown: None,
+        inputs,
+    })
 }

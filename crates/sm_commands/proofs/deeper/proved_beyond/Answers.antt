@@ -7,30 +7,27 @@ use Rattle.sm_task.specs.Tasks.{parts_of}
 use Rattle.sm_commands.proofs.SpelledLemmas.{is_spelled}
 use Rattle.sm_commands.proofs.deeper.proved_beyond.Goals as goal
 
-pub all_tried-requires : goal.all_tried-requires
-all_tried-requires c = record { runs = (is_spelled (parts_of c.args.task.now) c.requires.spelled).runs }
-
 pub search_deeper-requires-clause-sorted : goal.search_deeper-requires-clause-sorted
-search_deeper-requires-clause-sorted c = (is_spelled (parts_of c.args.task.now) c.requires.spelled).sorted
+search_deeper-requires-clause-sorted g c κs within = (is_spelled (parts_of c.args.task.now) c.requires.spelled).sorted
 
 pub search_deeper-requires-clause-numbered : goal.search_deeper-requires-clause-numbered
-search_deeper-requires-clause-numbered c = (is_spelled (parts_of c.args.task.now) c.requires.spelled).numbered
+search_deeper-requires-clause-numbered g c κs within = (is_spelled (parts_of c.args.task.now) c.requires.spelled).numbered
 
 pub proof_text-requires-clause-sorted : goal.proof_text-requires-clause-sorted
-proof_text-requires-clause-sorted c = (is_spelled (parts_of c.args.task.now) c.requires.spelled).sorted
+proof_text-requires-clause-sorted g c = (is_spelled (parts_of c.args.task.now) c.requires.spelled).sorted
 
 pub proof_text-requires-clause-numbered : goal.proof_text-requires-clause-numbered
-proof_text-requires-clause-numbered c = (is_spelled (parts_of c.args.task.now) c.requires.spelled).numbered
+proof_text-requires-clause-numbered g c = (is_spelled (parts_of c.args.task.now) c.requires.spelled).numbered
 
 pub proof_text-requires-clause-proof : goal.proof_text-requires-clause-proof
-proof_text-requires-clause-proof c =
+proof_text-requires-clause-proof g c =
     subst (λ (o : Option Proof). IfSome o (IsWhole (parts_of c.args.task.now))) c.in-Some.is c.in_ok-proof.ensures
 
 pub accepted-requires : goal.accepted-requires
-accepted-requires c = (is_spelled (parts_of c.args.task.now) c.requires.spelled).runs
+accepted-requires g c = (is_spelled (parts_of c.args.task.now) c.requires.spelled).runs
 
-pub returns-in-Some-clause-answers : goal.returns-in-Some-clause-answers
-returns-in-Some-clause-answers c =
+pub returns-in_ok-reply-in-Some-clause-answers : goal.returns-in_ok-reply-in-Some-clause-answers
+returns-in_ok-reply-in-Some-clause-answers g c =
     let t = parts_of c.args.task.now in
     inr (record {
       asked = c.requires.asked;

@@ -5,11 +5,11 @@ use Rattle.sm_expand.specs.Views.{AreDuesReady}
 use Rattle.sm_deeper.specs.declared.rounds.Asked.{Asked}
 use Rattle.sm_deeper.proofs.attempt.tried_by.Goals as goal
 
-pub end_of-requires : goal.end_of-requires
-end_of-requires c =
+pub end_of-requires-after_bounds : goal.end_of-requires-after_bounds
+end_of-requires-after_bounds g c κs within =
     let w = c.settled_by.new.table in
     subst (AreDuesReady (sorts_in w) (trees_in w)) (sym c.deref.ensures.value)
     (subst (λ (o : Option Asked). IfSome o (λ a. AreDuesReady (sorts_in w) (trees_in w) a.dues.items)) c.in-Some.is c.in_ok-found.ensures.ready)
 
 pub returns : goal.returns
-returns c = c.in_ok-end.ensures.sorts ∙ c.in_ok-found.ensures.declared
+returns g c = c.in_ok-end.ensures.sorts ∙ c.in_ok-found.ensures.declared

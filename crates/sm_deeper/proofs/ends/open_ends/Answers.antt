@@ -6,11 +6,15 @@ use Rattle.sm_deeper.proofs.ends.open_ends.Goals as goal
 pub put_open-requires-clause-facts : goal.put_open-requires-clause-facts
 put_open-requires-clause-facts c =
     let v = c.args.table.now in
-    forms_ready v c.loop-due.table c.loop-due.invariant c.due-item.result.facts.list.items
-    (facts_at (sorts_in v) (trees_in v) c.args.dues.now c.loop-due.due-index c.due-item.result c.requires c.loop-due-test.true c.due-item.is).0
+    let w = c.loop-at.table in
+    let due = c.index-dues-at.result in
+    forms_ready v w c.loop-at.invariant due.facts.list.items
+    (facts_at (sorts_in v) (trees_in v) c.args.dues.now c.loop-at.at due c.requires c.loop-at-test.true c.index-dues-at.is).0
 
 pub put_open-requires-clause-goals : goal.put_open-requires-clause-goals
 put_open-requires-clause-goals c =
     let v = c.args.table.now in
-    forms_ready v c.loop-due.table c.loop-due.invariant c.due-item.result.targets.list.items
-    (facts_at (sorts_in v) (trees_in v) c.args.dues.now c.loop-due.due-index c.due-item.result c.requires c.loop-due-test.true c.due-item.is).1
+    let w = c.loop-at.table in
+    let due = c.index-dues-at.result in
+    forms_ready v w c.loop-at.invariant due.targets.list.items
+    (facts_at (sorts_in v) (trees_in v) c.args.dues.now c.loop-at.at due c.requires c.loop-at-test.true c.index-dues-at.is).1

@@ -3,12 +3,12 @@ use Rattle.sm_plan.proofs.TablesWiden.{forms_ready, form_ready}
 use Rattle.sm_houdini.proofs.EndLemmas.{form_at}
 use Rattle.sm_deeper.proofs.ends.put_trees_at.Goals as goal
 
-pub proved-requires-clause-facts : goal.proved-requires-clause-facts
-proved-requires-clause-facts c =
+pub walked-requires-clause-facts : goal.walked-requires-clause-facts
+walked-requires-clause-facts c =
     forms_ready c.args.table.now c.loop-goal.table c.loop-goal.invariant.widens c.args.facts.now.list.items c.requires.facts
 
-pub proved-requires-clause-goal : goal.proved-requires-clause-goal
-proved-requires-clause-goal c =
+pub walked-requires-clause-goal : goal.walked-requires-clause-goal
+walked-requires-clause-goal c =
     let v = c.args.table.now in
     let f = c.goal-item.result in
     let i = c.loop-goal.goal-index in

@@ -3,4 +3,4 @@ use Rattle.sm_deeper.specs.Subjects.{IsTableOf}
 use Rattle.sm_deeper.proofs.rounds.settled.Given as goal
 
 abbrev pub invariant-loop : goal.invariant-loop
-invariant-loop l = IsTableOf l.subject.task.now l.table
+invariant-loop g l = IsTableOf l.subject.task.now l.table

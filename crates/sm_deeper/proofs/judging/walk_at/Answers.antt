@@ -4,10 +4,10 @@ use Rattle.std.proofs.lemmas.Option.{slice_get-get_or}
 use Rattle.sm_term.specs.declared.formula.Formula.{Formula}
 use Rattle.sm_term.specs.Tables.{trees_in, sorts_in}
 use Rattle.sm_houdini.proofs.ClosingLemmas.{ready_found}
-use Rattle.sm_deeper.proofs.judging.stays.Goals as goal
+use Rattle.sm_deeper.proofs.judging.walk_at.Goals as goal
 
-pub proved-requires-clause-goal : goal.proved-requires-clause-goal
-proved-requires-clause-goal c =
+pub walked-requires-clause-goal : goal.walked-requires-clause-goal
+walked-requires-clause-goal c =
     ready_found (sorts_in c.args.table.now) (trees_in c.args.table.now) c.args.due.now.targets.list.items c.args.at c.in-Some.goal.now
     (ap (λ (fs : List Formula). slice_get fs c.args.at) (sym c.deref.ensures.value)
     ∙ slice_get-get_or c.deref.result.now c.args.at c.in-Some.goal.now c.in-Some.ensures.lookup.3.0

@@ -7,7 +7,7 @@ use Rattle.sm_term.specs.Tables.{trees_in, sorts_in}
 use Rattle.sm_list.specs.Parts.{all_numbered, assertions_in, AreFormulasWithin}
 use Rattle.sm_solve.specs.Sharing.{IsNode}
 use Rattle.sm_houdini.proofs.ClosingLemmas.{forms_within, forms_sorted, node_over}
-use Rattle.sm_deeper.proofs.closing.proved.Goals as goal
+use Rattle.sm_deeper.proofs.closing.walked.Goals as goal
 
 pub solve_at-requires-clause-facts : goal.solve_at-requires-clause-facts
 solve_at-requires-clause-facts c =

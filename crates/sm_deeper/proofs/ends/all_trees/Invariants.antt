@@ -1,6 +1,0 @@
--- The table has no fewer terms.
-use Rattle.sm_term.specs.TableLaws.{Widens}
-use Rattle.sm_deeper.proofs.ends.all_trees.Given as goal
-
-abbrev pub invariant-loop-due : goal.invariant-loop-due
-invariant-loop-due l = Widens l.initial.table l.table
