@@ -16,7 +16,7 @@ pub struct Batch<W: Worker> {
 }
 
 /// The accepting reply to a task, and a certificate.
-#[derive(Debug, Drop)]
+#[derive(Drop)]
 pub(crate) struct Kept {
     pub(crate) reply: Vec<u8>,
     pub(crate) cert: Vec<u8>,

@@ -14,7 +14,7 @@ use sm_task::{Task, print_task};
 use std::alloc::{AllocError, Global};
 
 /// A task's key and, where it is a hit, the reply that is kept under it.
-#[derive(Debug, Drop)]
+#[derive(Drop)]
 pub(crate) struct Looked {
     pub(crate) key: Vec<u8>,
     pub(crate) reply: Option<Vec<u8>>,

@@ -11,7 +11,7 @@ use std::alloc::{AllocError, Global};
 use std::vec::IntoIter;
 
 /// What is to be done for a task: whether it was a hit, and what is to be kept under its key.
-#[derive(Debug, Drop)]
+#[derive(Drop)]
 pub(crate) struct Step {
     pub(crate) key: Vec<u8>,
     pub(crate) hit: bool,

@@ -9,7 +9,7 @@ use sm_task::Task;
 use std::alloc::{AllocError, Global};
 
 /// A reply to a task and, where it is the accepting one, a certificate.
-#[derive(Debug, Drop)]
+#[derive(Drop)]
 pub struct Answered {
     pub reply: Vec<u8>,
     pub cert: Option<Vec<u8>>,

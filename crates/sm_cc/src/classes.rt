@@ -19,7 +19,7 @@ use std::alloc::{AllocError, Global};
 use std::marker::Model;
 
 /// A fact that is given: that two terms are equal, or that they aren't.
-#[derive(Clone, Copy, Debug)]
+#[derive(Clone, Copy)]
 pub struct GivenFact {
     pub number: u64,
     pub are_equal: bool,

@@ -11,7 +11,7 @@ use sm_term::{BodyId, Term, TermId, Terms};
 use std::alloc::{AllocError, Global};
 
 /// The heads that were met, each once. A head is a term over no arguments.
-#[derive(Debug, Drop)]
+#[derive(Drop)]
 pub(crate) struct Heads {
     list: IndexSet<Term>,
 }

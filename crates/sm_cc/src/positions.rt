@@ -17,7 +17,7 @@ use std::alloc::{AllocError, Global};
 use std::collections::HashMap;
 
 /// The first places of the terms of a list, by their numbers.
-#[derive(Debug, Drop)]
+#[derive(Drop)]
 pub(crate) struct Positions {
     // by the number of the term; a number past the end has none
     places: Vec<Option<u64>>,

@@ -2,14 +2,14 @@
 // isn't there has the length of the list for its place.
 
 /// The linear form of a number: equal numbers stand for equal parts.
-#[derive(Clone, Copy, Debug)]
+#[derive(Clone, Copy)]
 pub(crate) struct Shape {
     pub(crate) parts: u64,
     pub(crate) constant: i128,
 }
 
 /// An element that is read from an array after one was written.
-#[derive(Clone, Copy, Debug)]
+#[derive(Clone, Copy)]
 pub(crate) struct Element {
     /// Where the element was written.
     pub(crate) index: u64,
@@ -22,7 +22,7 @@ pub(crate) struct Element {
 }
 
 /// A term.
-#[derive(Debug, Drop)]
+#[derive(Drop)]
 pub(crate) struct Row {
     /// Equal numbers stand for equal heads. A term without a head has none.
     pub(crate) head: Option<u64>,

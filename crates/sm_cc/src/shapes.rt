@@ -13,7 +13,7 @@ use sm_term::{TermId, TermTable};
 use std::alloc::{AllocError, Global};
 
 /// The parts of the forms that were met, each list once.
-#[derive(Debug, Drop)]
+#[derive(Drop)]
 pub(crate) struct Shapes {
     parts: IndexSet<Vec<(u64, i128)>>,
 }

@@ -2,14 +2,14 @@
 use sm_theory::CertLine;
 
 /// Lines that stand one under another.
-#[derive(Debug, Drop)]
+#[derive(Drop)]
 pub struct CertLines {
     pub list: Vec<CertLine>,
 }
 
 /// A certificate: lines that each add facts to the branch, and how it ends.
 #[cycle(certificate)]
-#[derive(Debug, Drop)]
+#[derive(Drop)]
 pub struct CertTree {
     pub lines: CertLines,
     pub last: CertEnd,
@@ -17,7 +17,7 @@ pub struct CertTree {
 
 /// How a branch ends: a line closes it, or splits it in two, each with a certificate of its own.
 #[cycle(certificate)]
-#[derive(Debug, Drop)]
+#[derive(Drop)]
 pub enum CertEnd {
     Close(CertLine),
     Split(CertLine, Box<CertTree>, Box<CertTree>),

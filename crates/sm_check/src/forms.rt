@@ -16,7 +16,7 @@ use sm_term::{TermId, TermTable};
 
 /// A formula by the numbers that its line names, where terms are numbers of the table. How many
 /// formulas it has, and how deep it is, is counted to just behind the limits of kept formulas.
-#[derive(Clone, Copy, Debug)]
+#[derive(Clone, Copy)]
 pub(crate) struct FormRow {
     pub(crate) made: FormLine,
     pub(crate) nodes: u64,

@@ -7,7 +7,7 @@ use std::rc::Rc;
 
 /// What is due: a state that waits for its node, or a branch that waits to be closed. Its facts are
 /// those of the path.
-#[derive(Debug, Drop)]
+#[derive(Drop)]
 pub(crate) enum Due<'a> {
     State {
         state: SymState<'a>,
@@ -20,7 +20,7 @@ pub(crate) enum Due<'a> {
 }
 
 /// What comes later. Its facts are the first `shared` of the path, and its own few behind them.
-#[derive(Debug, Drop)]
+#[derive(Drop)]
 pub(crate) enum Waiting<'a> {
     State {
         shared: usize,

@@ -24,7 +24,7 @@ use std::alloc::{AllocError, Global};
 use std::thread::Threads;
 
 /// How a plan is drawn, and whether candidates under guards are looked for.
-#[derive(Clone, Copy, Debug)]
+#[derive(Clone, Copy)]
 pub(crate) struct Manner {
     pub(crate) is_second: bool,
     pub(crate) with_guards: bool,

@@ -72,7 +72,7 @@ fn put_trees_at(
 
 /// What the goals of a node come to: certificates up to the first goal that has none, whether each
 /// has one, and the work that is still to be taken for it.
-#[derive(Debug, Drop)]
+#[derive(Drop)]
 pub(crate) struct NodeEnd {
     pub(crate) trees: Vec<CertTree>,
     pub(crate) is_closed: bool,
@@ -139,7 +139,7 @@ fn is_ended(
 }
 
 /// What the obligations of a plan come to.
-#[derive(Debug, Drop)]
+#[derive(Drop)]
 pub(crate) enum Ended {
     /// Each goal has a certificate, in order.
     Closed(Vec<CertTree>),

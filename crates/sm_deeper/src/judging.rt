@@ -71,7 +71,7 @@ pub(crate) fn walk_at(
 }
 
 // What is asked of a candidate at a node.
-#[derive(Clone, Copy, Debug)]
+#[derive(Clone, Copy)]
 enum Question {
     // Nothing: it was dropped.
     Nothing,

@@ -6,7 +6,7 @@ use sm_term::{Formula, copy_formula};
 use std::alloc::{AllocError, Global};
 
 /// The candidates of each site that are still there.
-#[derive(Debug, Drop)]
+#[derive(Drop)]
 pub(crate) struct Candidates {
     pub(crate) sites: Vec<Formulas>,
 }

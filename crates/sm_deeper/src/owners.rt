@@ -4,7 +4,7 @@ use std::alloc::{AllocError, Global};
 
 /// For each node of a plan the site whose formulas it asks, none where it asks the final target or
 /// is a dead end.
-#[derive(Debug, Drop)]
+#[derive(Drop)]
 pub(crate) struct Owners {
     pub(crate) list: Vec<Option<usize>>,
     pub(crate) sites: usize,

@@ -5,7 +5,7 @@ use std::alloc::{AllocError, Global};
 
 /// Goals of one node that a job walks: of so many in turn the one from a place on, but for those that
 /// are refuted at the leading node.
-#[derive(Clone, Copy, Debug)]
+#[derive(Clone, Copy)]
 pub(crate) struct Share {
     pub(crate) job: u64,
     pub(crate) place: usize,

@@ -4,7 +4,7 @@ use sm_expand::Due;
 use std::alloc::{AllocError, Global};
 
 /// What the walk of a goal comes to, which is asked at a place of a round.
-#[derive(Clone, Copy, Debug)]
+#[derive(Clone, Copy)]
 pub(crate) struct Found {
     pub(crate) place: usize,
     pub(crate) at: usize,

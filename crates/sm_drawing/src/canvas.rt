@@ -19,14 +19,14 @@ const MOST_NODES: u64 = 4_000;
 
 /// How a plan is drawn: with late summaries of loops or not, and with summaries of ifs that all
 /// copies come to at once, or without.
-#[derive(Clone, Copy, Debug, PartialEq, Eq)]
+#[derive(Clone, Copy, PartialEq, Eq)]
 pub struct Style {
     pub is_second: bool,
     pub is_coarse: bool,
 }
 
 /// A dead end of a plan: its number among the plan's nodes, and the branches that lead to it.
-#[derive(Debug, Drop)]
+#[derive(Drop)]
 pub struct DeadEnd {
     pub node: u64,
     pub path: Vec<u8>,

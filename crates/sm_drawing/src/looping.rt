@@ -23,7 +23,7 @@ const MASKS: u32 = 16;
 
 /// What runs show of the loops of a set: the visits, the moments before each turn, by the mask of
 /// the copies that take it, and the moments behind the loops.
-#[derive(Debug, Drop)]
+#[derive(Drop)]
 pub(crate) struct Turned {
     pub(crate) visits: Visits,
     pub(crate) turns: Vec<Moments>,
@@ -158,7 +158,7 @@ fn put_turn(
 }
 
 // What a turn comes to: the runs go on, are behind the loops, or are left.
-#[derive(Clone, Copy, Debug, PartialEq, Eq)]
+#[derive(Clone, Copy, PartialEq, Eq)]
 enum Taken {
     On,
     Out,

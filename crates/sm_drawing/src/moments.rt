@@ -7,14 +7,14 @@ use sm_syntax::{Cond, CopyName, PerCopy, Stmt};
 use std::alloc::{AllocError, Global};
 
 /// The four stores that the runs from an input have at a node. The input is named by its place.
-#[derive(Debug, Drop)]
+#[derive(Drop)]
 pub(crate) struct Moment {
     pub(crate) input: usize,
     pub(crate) stores: PerCopy<Store>,
 }
 
 /// The moments of the runs that come to a node.
-#[derive(Debug, Drop)]
+#[derive(Drop)]
 pub(crate) struct Moments {
     pub(crate) list: Vec<Moment>,
 }
@@ -105,7 +105,7 @@ fn put_after(
 }
 
 /// Moments that are parted by a condition.
-#[derive(Debug, Drop)]
+#[derive(Drop)]
 pub(crate) struct Parted {
     pub(crate) one: Moments,
     pub(crate) other: Moments,

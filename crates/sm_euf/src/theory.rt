@@ -16,7 +16,7 @@ use sm_theory::{Branch, CertLine, Fact, Theory};
 use std::alloc::{AllocError, Global};
 
 /// The theory of equality. It answers the lines refl, sym, trans, subst and cong.
-#[derive(Clone, Copy, Debug)]
+#[derive(Clone, Copy)]
 pub struct Euf;
 
 impl Euf {

@@ -2,13 +2,13 @@
 use sm_num::Op;
 
 /// The values of variables, by ascending variable.
-#[derive(Debug, Drop)]
+#[derive(Drop)]
 pub struct Pairs {
     pub list: Vec<(u64, i128)>,
 }
 
 /// What a decision comes to.
-#[derive(Debug, Drop)]
+#[derive(Drop)]
 pub enum ExactAnswer {
     /// No whole numbers satisfy the forms; so many forms were computed.
     Refuted { count: u64 },

@@ -22,7 +22,7 @@ use sm_num::{LinForm, NumError};
 use std::alloc::{AllocError, Global};
 
 // What comes of a turn.
-#[derive(Debug, Drop)]
+#[derive(Drop)]
 enum Turned {
     // The next list, or why there is none.
     Next { s: u64, entry: Entry },

@@ -11,7 +11,7 @@ use sm_num::{LinForm, NumError, Op, is_contradiction, tighten};
 use std::alloc::{AllocError, Global};
 
 // A list that is entered, or why it wasn't.
-#[derive(Debug, Drop)]
+#[derive(Drop)]
 pub(crate) enum Entry {
     // The list, with the count.
     List { forms: Vec<LinForm>, count: u64 },

@@ -4,14 +4,14 @@ ghost use Rattle.std.specs.Prelude.{◌+◌, ◌≤◌, ◌^◌};
 use sm_num::LinForm;
 
 // From which side forms bound a variable.
-#[derive(Clone, Copy, Debug)]
+#[derive(Clone, Copy)]
 pub(crate) enum Side {
     Below,
     Above,
 }
 
 // What waits for the answer of the list at hand.
-#[derive(Debug, Drop)]
+#[derive(Drop)]
 pub(crate) enum Frame {
     // The variable gets its value by an equation.
     Equation {
@@ -36,7 +36,7 @@ pub(crate) enum Frame {
 }
 
 // The splinters that are left.
-#[derive(Debug, Drop)]
+#[derive(Drop)]
 pub(crate) struct Tried {
     pub(crate) s: u64,
     pub(crate) t: u64,

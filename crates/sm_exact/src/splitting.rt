@@ -8,7 +8,7 @@ use sm_num::LinForm;
 use std::alloc::{AllocError, Global};
 
 // The forms without a variable, and its lower and upper bounds.
-#[derive(Debug, Drop)]
+#[derive(Drop)]
 pub(crate) struct Sides {
     pub(crate) others: Vec<LinForm>,
     pub(crate) lower: Vec<LinForm>,

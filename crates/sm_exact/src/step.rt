@@ -10,7 +10,7 @@ use sm_num::LinForm;
 use std::alloc::{AllocError, Global};
 
 // A rule: what it makes of the list, and what waits for the answer.
-#[derive(Debug, Drop)]
+#[derive(Drop)]
 pub(crate) struct Step {
     pub(crate) frame: Frame,
     pub(crate) s: u64,

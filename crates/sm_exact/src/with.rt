@@ -14,7 +14,7 @@ use sm_theory::{Branch, CertLine, Fact, Theory};
 use std::alloc::{AllocError, Global};
 
 /// A theory with the exact line, which goes to the exact decision; all others go to the theory.
-#[derive(Debug, Drop)]
+#[derive(Drop)]
 pub struct With<L> {
     pub inner: L,
 }

@@ -19,7 +19,7 @@ use sm_syntax::{CopyName, PerCopy};
 use std::alloc::{AllocError, Global};
 
 /// A place in a plan: the simple nodes that are left, and the last node.
-#[derive(Debug, Drop)]
+#[derive(Drop)]
 pub struct Cursor<'p> {
     pub(crate) straight: &'p [Simple],
     pub(crate) last: &'p Last,

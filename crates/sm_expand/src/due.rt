@@ -13,7 +13,7 @@ use std::alloc::{AllocError, Global};
 
 /// The goals of a node, in order, over the facts that they share. `last` says that they are goals
 /// of the final target.
-#[derive(Debug, Drop)]
+#[derive(Drop)]
 pub struct Due {
     pub node: u64,
     pub facts: Formulas,
@@ -22,7 +22,7 @@ pub struct Due {
 }
 
 /// What a plan asks, in the order of its nodes.
-#[derive(Debug, Drop)]
+#[derive(Drop)]
 pub struct Obligations {
     pub list: Vec<Due>,
 }

@@ -2,7 +2,7 @@
 use sm_term::Formula;
 
 /// A node after which one state follows.
-#[derive(Debug, Drop)]
+#[derive(Drop)]
 pub enum Simple {
     /// One statement of a copy is done.
     Step { copy: u8 },
@@ -11,14 +11,14 @@ pub enum Simple {
 }
 
 /// Such nodes, one under another.
-#[derive(Debug, Drop)]
+#[derive(Drop)]
 pub struct Simples {
     pub list: Vec<Simple>,
 }
 
 /// A plan: nodes one under another, and how it ends.
 #[cycle(plan)]
-#[derive(Debug, Drop)]
+#[derive(Drop)]
 pub struct Plan {
     pub straight: Simples,
     pub last: Last,
@@ -27,7 +27,7 @@ pub struct Plan {
 /// The last node of a plan, with a plan for each state that follows it. A copy is 0 for the base, 1
 /// and 2 for the variants and 3 for the candidate.
 #[cycle(plan)]
-#[derive(Debug, Drop)]
+#[derive(Drop)]
 pub enum Last {
     /// A copy goes on by either branch.
     Fork {
@@ -61,7 +61,7 @@ pub enum Last {
 
 /// Plans, one after the other.
 #[cycle(plan)]
-#[derive(Debug, Drop)]
+#[derive(Drop)]
 pub struct Plans {
     pub list: Vec<Plan>,
 }

@@ -14,7 +14,7 @@ use std::rc::Rc;
 
 // A state that waits for its node. Its facts are the first `shared` ones of the path, and then its
 // own.
-#[derive(Debug, Drop)]
+#[derive(Drop)]
 pub(crate) struct Waiting<'a, 'p> {
     pub(crate) shared: usize,
     pub(crate) kept: Rc<Formulas>,
@@ -25,7 +25,7 @@ pub(crate) struct Waiting<'a, 'p> {
 
 // What is asked so far, by the first nodes, and the states that wait, the first one last. The path
 // has the facts of the state that was taken last.
-#[derive(Debug, Drop)]
+#[derive(Drop)]
 pub(crate) struct Walk<'a, 'p> {
     pub(crate) nodes: u64,
     pub(crate) dues: Vec<Due>,

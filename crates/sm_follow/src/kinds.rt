@@ -6,7 +6,7 @@ ghost use Rattle.sm_follow.specs.Kinds.{sample, shown};
 use sm_syntax::Mark;
 
 /// What may stand at a place of a text.
-#[derive(Clone, Copy, Debug, PartialEq, Eq)]
+#[derive(Clone, Copy, PartialEq, Eq)]
 pub enum Kind {
     /// A reserved word or a sign.
     Mark(Mark),

@@ -8,7 +8,7 @@ use sm_syntax::CopyName;
 use std::alloc::{AllocError, Global};
 
 /// Who edits a hole.
-#[derive(Clone, Copy, Debug, PartialEq, Eq)]
+#[derive(Clone, Copy, PartialEq, Eq)]
 pub enum Editor {
     Nobody,
     VariantA,
@@ -40,7 +40,7 @@ impl Editor {
 }
 
 /// The edit of a hole: what it adds, and who has it.
-#[derive(Clone, Copy, Debug)]
+#[derive(Clone, Copy)]
 pub struct Edit {
     pub hole: u16,
     pub added: u8,

@@ -18,7 +18,7 @@ use sm_text::Task;
 use std::alloc::{AllocError, Global};
 
 /// A task that was made up, and how many holes each variant edits.
-#[derive(Debug, Drop)]
+#[derive(Drop)]
 pub struct Generated {
     pub task: Task,
     pub a: u64,

@@ -71,7 +71,7 @@ fn try_target<R: Threads + Sync, G: Gate>(
 }
 
 // A target, and the run from which inputs are led there.
-#[derive(Clone, Copy, Debug)]
+#[derive(Clone, Copy)]
 struct Lead {
     target: Target,
     from: Visit,

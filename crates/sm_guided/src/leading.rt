@@ -35,7 +35,7 @@ struct At {
 }
 
 /// Along what an input is led, and to what.
-#[derive(Clone, Copy, Debug)]
+#[derive(Clone, Copy)]
 pub struct Course {
     pub along: Coordinate,
     pub target: Target,
@@ -180,7 +180,7 @@ fn nearer_than(sign: Sign, than: i128, at: Option<At>) -> Option<At> {
 }
 
 // How far an input is to be raised: so much, and where that isn't exact, perhaps one more.
-#[derive(Clone, Copy, Debug, PartialEq, Eq)]
+#[derive(Clone, Copy, PartialEq, Eq)]
 struct Step {
     whole: i128,
     next: Option<i128>,

@@ -22,7 +22,7 @@ pub const RUN_STEPS: u64 = 100_000;
 const CELLS_A_STEP: usize = 16;
 
 /// What is known and noted while a program is run.
-#[derive(Debug, Drop)]
+#[derive(Drop)]
 pub struct Watch<'a> {
     outline: &'a Outline,
     turns: u64,
@@ -188,7 +188,7 @@ fn write(a: Name, i: &Expr, e: &Expr, s: &mut Store, watch: &mut Watch<'_>) -> R
 }
 
 // Whether a condition holds, and the place behind it.
-#[derive(Clone, Copy, Debug, PartialEq, Eq)]
+#[derive(Clone, Copy, PartialEq, Eq)]
 struct Guard {
     holds: bool,
     behind: usize,

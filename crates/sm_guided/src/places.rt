@@ -4,7 +4,7 @@ use std::alloc::{AllocError, Global};
 
 /// What is known of a statement before it is run. Statements are numbered in the order of the text,
 /// and so are places: a place is a comparison in a guard of an `if` or a loop.
-#[derive(Clone, Copy, Debug, PartialEq, Eq)]
+#[derive(Clone, Copy, PartialEq, Eq)]
 pub struct Line {
     /// How many steps it takes to compute its expressions, or its guard.
     pub steps: u64,
@@ -19,7 +19,7 @@ pub struct Line {
 }
 
 /// The statements of a program.
-#[derive(Debug, Drop)]
+#[derive(Drop)]
 pub struct Outline {
     lines: Vec<Line>,
     places: usize,

@@ -25,7 +25,7 @@ const MOST_TURNS: u64 = 500;
 const CELL_STEPS: u64 = 4;
 
 /// An input that was picked, and how many were made before it beyond the stated trials.
-#[derive(Debug, Drop)]
+#[derive(Drop)]
 pub struct Picked {
     pub made: u64,
     pub numbers: Vec<i128>,

@@ -40,7 +40,7 @@ use std::alloc::{AllocError, Global};
 use std::thread::Threads;
 
 // Why a goal has no certificate.
-#[derive(Clone, Copy, Debug)]
+#[derive(Clone, Copy)]
 pub(crate) enum Stop {
     Open {
         node: u64,

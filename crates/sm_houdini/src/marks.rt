@@ -8,14 +8,14 @@ use sm_sketch::TemplateChoice;
 use std::alloc::{AllocError, Global};
 
 // The number of a template, and whether all its goals so far close.
-#[derive(Clone, Copy, Debug)]
+#[derive(Clone, Copy)]
 pub(crate) struct Marked {
     pub(crate) number: u64,
     pub(crate) holds: bool,
 }
 
 // Templates with their marks, site by site.
-#[derive(Debug, Drop)]
+#[derive(Drop)]
 pub(crate) struct Marks {
     pub(crate) sites: Vec<Vec<Marked>>,
 }
@@ -71,7 +71,7 @@ pub(crate) fn share_marks(
 }
 
 // How two marks become one.
-#[derive(Clone, Copy, Debug)]
+#[derive(Clone, Copy)]
 pub(crate) enum Join {
     // It is there where one of the two is.
     Either,

@@ -6,7 +6,7 @@ use sm_sided::CertTrees;
 use sm_term::TermTable;
 
 /// A plan of a task, over a table of terms, with a certificate for each goal that it asks.
-#[derive(Debug, Drop)]
+#[derive(Drop)]
 pub struct Proof {
     pub table: TermTable,
     pub plan: Plan,
@@ -14,7 +14,7 @@ pub struct Proof {
 }
 
 /// What the search for a proof of a task comes to. Nodes and goals of the plan are numbered.
-#[derive(Debug, Drop)]
+#[derive(Drop)]
 pub enum Outcome {
     /// The plan is shown by its certificates.
     Accepted(Proof),

@@ -21,7 +21,7 @@ use sm_theory::CertLine;
 use std::alloc::{AllocError, Global};
 
 /// Why a branch is closed at once.
-#[derive(Clone, Copy, Debug)]
+#[derive(Clone, Copy)]
 pub enum Closing {
     /// The fact at a place can't hold by the classes.
     Refuted(u64),
@@ -80,7 +80,7 @@ fn refuted<S: Sees>(sees: &S, table: &TermTable, facts: &[Formula]) -> Option<Cl
 
 /// By what a branch is split: the line of a certificate that splits it, and the formula that each
 /// part gets.
-#[derive(Debug, Drop)]
+#[derive(Drop)]
 pub struct BranchSplit {
     pub line: CertLine,
     pub first: Formula,

@@ -17,7 +17,7 @@ use sm_term::{Formula, TermId, TermTable};
 use std::alloc::{AllocError, Global};
 
 /// A sum of two forms, by their places, without an atom.
-#[derive(Clone, Copy, Debug)]
+#[derive(Clone, Copy)]
 pub struct ElimLine {
     pub f: u64,
     pub g: u64,
@@ -26,7 +26,7 @@ pub struct ElimLine {
 
 /// How forms come to a contradiction: where each comes from, sums, each of which goes behind them,
 /// and the place of the form that can't hold.
-#[derive(Debug, Drop)]
+#[derive(Drop)]
 pub struct Refutation {
     pub sources: Vec<Source>,
     pub elims: Vec<ElimLine>,
@@ -34,7 +34,7 @@ pub struct Refutation {
 }
 
 /// What the forms of a branch come to.
-#[derive(Debug, Drop)]
+#[derive(Drop)]
 pub enum ByForms {
     /// A contradiction, with the count of steps so far.
     Contradiction { count: u64, refutation: Refutation },

@@ -20,7 +20,7 @@ use sm_term::{Formula, TermId, TermTable};
 use std::alloc::Global;
 
 /// Where a form comes from.
-#[derive(Clone, Copy, Debug)]
+#[derive(Clone, Copy)]
 pub enum Source {
     /// Two numbers of one class are equal.
     Class(TermId, TermId),
@@ -29,7 +29,7 @@ pub enum Source {
 }
 
 /// Forms, each with its source.
-#[derive(Debug, Drop)]
+#[derive(Drop)]
 pub struct SourcedForms {
     pub forms: Forms,
     pub sources: Vec<Source>,

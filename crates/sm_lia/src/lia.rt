@@ -16,7 +16,7 @@ use sm_theory::{Branch, CertLine, Fact, Theory};
 use std::alloc::{AllocError, Global};
 
 /// The theory of linear arithmetic: its lines are `same`, `apart`, `lin`, `elim` and `tight`.
-#[derive(Debug, Drop)]
+#[derive(Drop)]
 pub struct Lia;
 
 impl Lia {

@@ -19,7 +19,7 @@ use std::alloc::{AllocError, Global};
 
 /// Facts over a table of the terms of their branch alone, where each term has its place in the list
 /// as its number, and the numbers that these have in another table.
-#[derive(Debug, Drop)]
+#[derive(Drop)]
 pub struct OwnBranch {
     pub table: TermTable,
     pub numbers: Terms,

@@ -12,7 +12,7 @@ use sm_theory::CertLine;
 use std::alloc::AllocError;
 
 // A node with the formula that it keeps, Yes where it keeps none.
-#[derive(Debug, Drop)]
+#[derive(Drop)]
 pub(crate) struct FlatNode {
     pub(crate) line: NodeLine,
     pub(crate) keep: Formula,
@@ -20,7 +20,7 @@ pub(crate) struct FlatNode {
 
 // The nodes and the lines of certificates so far, by terms of the table; how many facts stand before
 // each certificate; and how many branches of the last are open.
-#[derive(Debug, Drop)]
+#[derive(Drop)]
 pub(crate) struct Gathered {
     pub(crate) nodes: Vec<FlatNode>,
     pub(crate) certs: Vec<CertLine>,

@@ -32,7 +32,7 @@ pub struct Loaded {
 }
 
 // Why lines aren't gathered.
-#[derive(Clone, Copy, Debug, PartialEq, Eq)]
+#[derive(Clone, Copy, PartialEq, Eq)]
 enum Fault {
     Wrong,
     Memory,

@@ -4,7 +4,7 @@ use sm_syntax::PerCopy;
 
 /// The stores with which the runs from an input came to the loops of a site. The input is named by
 /// its place.
-#[derive(Debug, Drop)]
+#[derive(Drop)]
 pub struct Entry {
     pub input: usize,
     pub stores: PerCopy<Store>,
@@ -12,7 +12,7 @@ pub struct Entry {
 
 /// The stores before a turn of the loops of a site, or after the last one. The entry is named by
 /// its place.
-#[derive(Debug, Drop)]
+#[derive(Drop)]
 pub struct Visit {
     pub entry: usize,
     pub stores: PerCopy<Store>,
@@ -20,7 +20,7 @@ pub struct Visit {
 
 /// What runs show at the loops of a site. Where it is reached by a way that no run takes, it has
 /// none.
-#[derive(Debug, Drop)]
+#[derive(Drop)]
 pub struct Visits {
     pub entries: Vec<Entry>,
     pub list: Vec<Visit>,

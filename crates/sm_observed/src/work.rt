@@ -3,7 +3,7 @@ ghost use Rattle.std.specs.Prelude.{◌≡◌, ◌≤◌, nat_eq};
 
 /// How much work is left to all of a search: a bound on the time that it takes. A unit is about a
 /// formula at a visit.
-#[derive(Clone, Copy, Debug)]
+#[derive(Clone, Copy)]
 pub struct Work {
     pub left: u64,
 }

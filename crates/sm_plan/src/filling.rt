@@ -20,7 +20,7 @@ use std::collections::HashMap;
 
 // A term with its slots replaced: one that is there, or a new one, or a part of the term that isn't
 // known yet.
-#[derive(Debug, Drop)]
+#[derive(Drop)]
 pub(crate) enum Filling {
     There(TermId),
     Made(Term),
@@ -28,14 +28,14 @@ pub(crate) enum Filling {
 }
 
 // The number of a term with its slots replaced, or a part of the term that isn't known yet.
-#[derive(Debug, Drop)]
+#[derive(Drop)]
 pub(crate) enum Found {
     Number(TermId),
     Part(u64),
 }
 
 // The numbers of parts, or the first that isn't known yet.
-#[derive(Debug, Drop)]
+#[derive(Drop)]
 pub(crate) enum Parts {
     Known(Terms),
     Unknown(u64),

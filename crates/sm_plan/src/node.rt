@@ -3,7 +3,7 @@ use sm_syntax::{CopyName, PerCopy};
 use sm_term::Formula;
 
 /// A node, which lends the formula that it keeps.
-#[derive(Debug, Drop)]
+#[derive(Drop)]
 pub enum NodeRow<'f> {
     Step {
         copy: CopyName,

@@ -23,7 +23,7 @@ use std::rc::Rc;
 
 /// A state that follows a node, with the facts that it has behind those of the state before: first
 /// the ones that it shares with others, and then its own.
-#[derive(Debug, Drop)]
+#[derive(Drop)]
 pub struct Successor<'a> {
     pub kept: Rc<Formulas>,
     pub more: Formulas,
@@ -32,7 +32,7 @@ pub struct Successor<'a> {
 
 /// The goals that a node asks over the facts of its state, with the stores of that state, and the
 /// states that follow, in order.
-#[derive(Debug, Drop)]
+#[derive(Drop)]
 pub struct Opened<'a> {
     pub goals: Formulas,
     pub stores: PerCopy<SymStore>,

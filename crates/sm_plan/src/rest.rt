@@ -16,7 +16,7 @@ use std::alloc::{AllocError, Global};
 
 /// What is left of a copy's program, as statements of its blocks. What comes next stands at the
 /// front of the last slice.
-#[derive(Debug, Drop)]
+#[derive(Drop)]
 pub struct Rest<'a> {
     pub frames: Vec<&'a [Stmt]>,
 }

@@ -5,14 +5,14 @@ use sm_term::{Formula, SymStore};
 use std::rc::Rc;
 
 /// Formulas, in order.
-#[derive(Debug, Drop)]
+#[derive(Drop)]
 pub struct Formulas {
     pub list: Vec<Formula>,
 }
 
 /// A state but for its facts: what is left of each copy, its store in symbols, the target, and
 /// whether that is the final one. The target is shared with other states.
-#[derive(Debug, Drop)]
+#[derive(Drop)]
 pub struct SymState<'a> {
     pub rests: PerCopy<Rest<'a>>,
     pub stores: PerCopy<SymStore>,

@@ -27,7 +27,7 @@ use std::rc::Rc;
 
 // What the head of loops has: stores with new values, the kept facts, and a guard for each copy of
 // the set.
-#[derive(Debug, Drop)]
+#[derive(Drop)]
 pub(crate) struct Head {
     pub stores: PerCopy<SymStore>,
     pub kept: Rc<Formulas>,

@@ -23,7 +23,7 @@ pub enum LineError {
 }
 
 /// Why words are no line.
-#[derive(Clone, Copy, Debug, PartialEq, Eq)]
+#[derive(Clone, Copy, PartialEq, Eq)]
 pub(crate) enum Fault {
     Line,
     Number,

@@ -8,7 +8,7 @@ use sm_proof::Line;
 use std::alloc::AllocError;
 
 // The new number of each term and each formula so far, and how many are left of them.
-#[derive(Debug, Drop)]
+#[derive(Drop)]
 pub(crate) struct Numbers {
     pub(crate) terms: Vec<u64>,
     pub(crate) forms: Vec<u64>,

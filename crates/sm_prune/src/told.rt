@@ -11,7 +11,7 @@ use sm_proof::Line;
 use std::alloc::{AllocError, Global};
 
 // A line, and whether it is left.
-#[derive(Debug, Drop)]
+#[derive(Drop)]
 pub(crate) struct Told {
     pub(crate) line: Line,
     pub(crate) left: bool,

@@ -14,7 +14,7 @@ use sm_theory::{Branch, CertLine, Fact, Theory};
 use std::alloc::{AllocError, Global};
 
 /// The theory of arrays. It answers the lines hit and miss.
-#[derive(Clone, Copy, Debug)]
+#[derive(Clone, Copy)]
 pub struct Rows;
 
 impl Rows {

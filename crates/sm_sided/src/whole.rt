@@ -34,7 +34,7 @@ use sm_term::TermTable;
 use std::alloc::{AllocError, Global};
 
 /// The certificates of goals, in order.
-#[derive(Debug, Drop)]
+#[derive(Drop)]
 pub struct CertTrees {
     pub list: Vec<CertTree>,
 }

@@ -13,7 +13,7 @@ use sm_term::{Formula, copy_formula};
 use std::alloc::{AllocError, Global};
 
 /// A choice of templates: the numbers of those that are chosen, site by site.
-#[derive(Debug, Drop)]
+#[derive(Drop)]
 pub struct TemplateChoice {
     pub sites: Vec<Vec<u64>>,
 }

@@ -25,7 +25,7 @@ use sm_term::{Formula, TermTable};
 use std::alloc::{AllocError, Global};
 
 // What the exact decision of the forms of a branch comes to.
-#[derive(Debug, Drop)]
+#[derive(Drop)]
 pub(crate) enum Decision {
     // They have no solution, which takes so many steps to find; each form has its source.
     Refuted { count: u64, sources: Vec<Source> },

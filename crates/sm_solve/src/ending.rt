@@ -20,7 +20,7 @@ use sm_theory::CertLine;
 use std::alloc::{AllocError, Global};
 
 // How the walk from a branch ends.
-#[derive(Debug, Drop)]
+#[derive(Drop)]
 pub(crate) enum WalkEnd {
     // Each branch is closed, with the count of steps so far; the certificate shows it.
     Closed { count: u64, tree: CertTree },

@@ -28,13 +28,13 @@ use sm_term::{Formula, TermId, TermTable, Terms, negate};
 use std::alloc::{AllocError, Global};
 
 /// The facts of a branch that stays open.
-#[derive(Debug, Drop)]
+#[derive(Drop)]
 pub struct Leaf {
     pub list: Vec<Formula>,
 }
 
 /// What the walk of an obligation comes to.
-#[derive(Debug, Drop)]
+#[derive(Drop)]
 pub enum Answer {
     /// Each branch is closed; the certificate shows it.
     Closed(CertTree),

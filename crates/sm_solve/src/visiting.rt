@@ -32,7 +32,7 @@ use sm_term::{Formula, TermTable, Terms};
 use std::alloc::{AllocError, Global};
 
 // What the visit of a branch comes to.
-#[derive(Debug, Drop)]
+#[derive(Drop)]
 pub(crate) enum Visit {
     // It is closed, with the count of steps so far.
     Closed { count: u64, tree: CertTree },

@@ -9,7 +9,7 @@ use sm_syntax::{CopyName, Sort};
 use std::alloc::{AllocError, Global};
 
 // A side of an equation about a name.
-#[derive(Clone, Copy, Debug)]
+#[derive(Clone, Copy)]
 pub(crate) enum Side {
     // A copy's value.
     Slot(CopyName),
@@ -20,7 +20,7 @@ pub(crate) enum Side {
 }
 
 // A kind of template of a name.
-#[derive(Clone, Copy, Debug)]
+#[derive(Clone, Copy)]
 pub(crate) enum Shape {
     // Two values are equal.
     Equal(Side, Side),

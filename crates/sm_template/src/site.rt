@@ -13,7 +13,7 @@ use sm_syntax::{Decls, Fillings, PerCopy};
 use std::alloc::{AllocError, Global};
 
 /// A task's declarations, and the first literals of its fillings.
-#[derive(Debug, Drop)]
+#[derive(Drop)]
 pub struct SiteContext<'a> {
     pub decls: &'a Decls,
     pub literals: Vec<i128>,

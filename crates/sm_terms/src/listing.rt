@@ -14,7 +14,7 @@ use sm_term::{Formula, Term, TermId, TermTable};
 use std::alloc::{AllocError, Global};
 
 // A step of the walk through terms.
-#[derive(Clone, Copy, Debug)]
+#[derive(Clone, Copy)]
 enum Step {
     // the term is listed after its arguments
     Visit(u64),

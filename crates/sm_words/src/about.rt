@@ -5,7 +5,7 @@ ghost use Rattle.sm_words.specs.About.{about_text};
 use std::alloc::{AllocError, Global};
 
 /// What the program says of itself.
-#[derive(Clone, Copy, Debug, PartialEq, Eq)]
+#[derive(Clone, Copy, PartialEq, Eq)]
 pub enum About {
     /// The words that each command takes.
     Help,

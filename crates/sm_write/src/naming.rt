@@ -18,7 +18,7 @@ use std::alloc::{AllocError, Global};
 use std::collections::HashMap;
 
 // The line that makes a term, or a part of the term that has no number yet.
-#[derive(Debug, Drop)]
+#[derive(Drop)]
 pub(crate) enum Step {
     Line(TermLine),
     Part(u64),

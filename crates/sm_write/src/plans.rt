@@ -19,7 +19,7 @@ use std::alloc::{AllocError, Global};
 
 // A state that waits for its node, with the place of that node in the plan. Its facts aren't kept:
 // no line names them.
-#[derive(Debug, Drop)]
+#[derive(Drop)]
 pub(crate) struct Waiting<'a, 'p> {
     pub(crate) state: SymState<'a>,
     pub(crate) cursor: Cursor<'p>,

@@ -19,7 +19,7 @@ use std::collections::HashMap;
 
 // The text behind the version line, whether it has lines `exact`, the number in it of each term that
 // has one, the terms by these numbers, and how many formulas and nodes it has.
-#[derive(Debug, Drop)]
+#[derive(Drop)]
 pub(crate) struct Writer {
     pub(crate) text: Vec<u8>,
     pub(crate) exact: bool,
