@@ -18,11 +18,12 @@ ghost use Rattle.sm_plan.specs.Views.{rest_code, forms_in, state_in, successor_i
 
 use crate::kept::{conjuncts, is_kept};
 use crate::opening::{Opened, Successor};
+use crate::parts::two_of;
 use crate::renew::renewed_stores;
 use crate::rest::Rest;
 use crate::slots::at_stores;
 use crate::state::{Formulas, SymState};
-use crate::successors::{no_formulas, no_stores};
+use crate::successors::{followed, no_formulas};
 use sm_syntax::PerCopy;
 use sm_term::{Formula, TermTable};
 use std::alloc::{AllocError, Global};
@@ -136,20 +137,16 @@ fn block_states<'a>(
     ensures asking { IfOk result (λ o.
         (sorts : Sorts) (trees : List Tree) → AreStoresReady sorts trees o.stores) }
 {
-    let mut states = Vec::new(alloc);
-    states.push(Successor {
+    let first = Successor {
         kept: nothing,
         more: no_formulas(alloc),
         state: inner,
-    })?;
-    states.push(Successor {
+    };
+    let second = Successor {
         kept,
         more: no_formulas(alloc),
         state: after,
-    })?;
-    Ok(Opened {
-        goals: no_formulas(alloc),
-        stores: no_stores(alloc),
-        states,
-    })
+    };
+    let states = two_of(alloc, first, second)?;
+    Ok(followed(alloc, states))
 }

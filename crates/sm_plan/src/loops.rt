@@ -1,9 +1,12 @@
 // What the loops of a set of copies open.
 ghost use Rattle.std.specs.Prelude.{◌≡◌, ◌&&◌, ◌||◌, not, nat_le, List, if◌then◌else◌, IfOk};
+ghost use Rattle.std.specs.Prelude.{OnOk, IfSome, Some, None, option_map, length};
 ghost use Rattle.sm_syntax.specs.claim.ConflictFree.{Copy};
 ghost use Rattle.sm_syntax.specs.text.Sorts.{Sorts, IsWellSorted};
 ghost use Rattle.sm_syntax.specs.trees.Copies.{copy_named, of_copy};
-ghost use Rattle.sm_term.specs.Formulas.{numbered, assertion_in};
+ghost use Rattle.sm_term.specs.Formulas.{numbered, assertion_in, IsFormulaWithin};
+ghost use Rattle.sm_term.specs.Symbolic.{form_of};
+ghost use Rattle.sm_term.specs.SymStores.{store_in};
 ghost use Rattle.sm_term.specs.Tables.{trees_in, sorts_in};
 ghost use Rattle.sm_term.specs.TableLaws.{Grows, Widens};
 ghost use Rattle.sm_term.specs.Terms.{Tree};
@@ -15,8 +18,8 @@ ghost use Rattle.sm_plan.specs.Masks.{set_of};
 ghost use Rattle.sm_plan.specs.Nodes as plan;
 ghost use Rattle.sm_plan.specs.Openings.{IsOpening};
 ghost use Rattle.sm_plan.specs.ReadyStates.{IsFormReady, AreFormsReady, IsStateReady};
-ghost use Rattle.sm_plan.specs.ReadyStates.{AreStoresReady};
-ghost use Rattle.sm_plan.specs.Statements.{is_loop};
+ghost use Rattle.sm_plan.specs.ReadyStates.{IsStoreReady, AreStoresReady};
+ghost use Rattle.sm_plan.specs.Statements.{is_loop, loop_guard};
 ghost use Rattle.sm_plan.specs.Views.{rest_code, stores_in, state_in};
 
 use crate::heads::{bodies, guard, has};
@@ -64,6 +67,89 @@ fn may_loop(rests: &PerCopy<Rest<'_>>, set: u8, keep: &Formula) -> bool
     set <= 15 && (is_inhabited(set) && (have_loops && is_kept(keep)))
 }
 
+// Puts the formula of the guard of a copy's loop in its place, where the copy is in a set.
+fn put_guard(
+    alloc: Global,
+    table: &mut TermTable,
+    rest: &Rest<'_>,
+    store: &SymStore,
+    set: u8,
+    copy: CopyName,
+    place: &mut Option<Formula>,
+) -> Result<(), AllocError>
+    requires rest { IsWellSorted (sorts_in table.old) (rest_code rest.now) }
+    requires ready { IsStoreReady (sorts_in table.old) (trees_in table.old) store.now }
+    ensures made { let s = store_in (trees_in table.old) store.now in
+        let f = form_of (loop_guard (rest_code rest.now)) s in OnOk result (
+        option_map (λ g. assertion_in (sorts_in table.new) (trees_in table.new) (numbered g))
+        place.new ≡ (if sets.has (set_of set) (copy_named copy) then Some f else None)) }
+    ensures within { OnOk result
+        (IfSome place.new (λ g. IsFormulaWithin (length (trees_in table.new)) (numbered g))) }
+    ensures grows { Grows table.old table.new }
+{
+    *place = guard(alloc, table, rest, store, set, copy)?;
+    Ok(())
+}
+
+// Puts the formulas of the guards of a set's copies in their places.
+fn put_guards(
+    alloc: Global,
+    table: &mut TermTable,
+    rests: &PerCopy<Rest<'_>>,
+    stores: &PerCopy<SymStore>,
+    set: u8,
+    all: &mut PerCopy<Option<Formula>>,
+) -> Result<(), AllocError>
+    requires rests { (c : Copy) →
+        IsWellSorted (sorts_in table.old) (rest_code (of_copy rests.now c)) }
+    requires stores { AreStoresReady (sorts_in table.old) (trees_in table.old) stores.now }
+    ensures made { let at = stores_in (trees_in table.old) stores.now in
+        (c : Copy) → OnOk result (
+        heads.guard_forms (sorts_in table.new) (trees_in table.new) all.new c
+        ≡ heads.guards_at (set_of set) (λ d. rest_code (of_copy rests.now d)) at c) }
+    ensures ready { OnOk result
+        (heads.AreGuardsReady (sorts_in table.new) (trees_in table.new) all.new) }
+    ensures grows { Grows table.old table.new }
+{
+    put_guard(
+        alloc,
+        table,
+        &rests.base,
+        &stores.base,
+        set,
+        CopyName::O,
+        &mut all.base,
+    )?;
+    put_guard(
+        alloc,
+        table,
+        &rests.variant_a,
+        &stores.variant_a,
+        set,
+        CopyName::A,
+        &mut all.variant_a,
+    )?;
+    put_guard(
+        alloc,
+        table,
+        &rests.variant_b,
+        &stores.variant_b,
+        set,
+        CopyName::B,
+        &mut all.variant_b,
+    )?;
+    put_guard(
+        alloc,
+        table,
+        &rests.candidate,
+        &stores.candidate,
+        set,
+        CopyName::M,
+        &mut all.candidate,
+    )?;
+    Ok(())
+}
+
 // The formulas of the guards of a set's copies.
 fn guards(
     alloc: Global,
@@ -82,37 +168,14 @@ fn guards(
     ensures ready { IfOk result (heads.AreGuardsReady (sorts_in table.new) (trees_in table.new)) }
     ensures grows { Grows table.old table.new }
 {
-    let o = guard(alloc, table, &rests.base, &stores.base, set, CopyName::O)?;
-    let a = guard(
-        alloc,
-        table,
-        &rests.variant_a,
-        &stores.variant_a,
-        set,
-        CopyName::A,
-    )?;
-    let b = guard(
-        alloc,
-        table,
-        &rests.variant_b,
-        &stores.variant_b,
-        set,
-        CopyName::B,
-    )?;
-    let m = guard(
-        alloc,
-        table,
-        &rests.candidate,
-        &stores.candidate,
-        set,
-        CopyName::M,
-    )?;
-    Ok(PerCopy {
-        base: o,
-        variant_a: a,
-        variant_b: b,
-        candidate: m,
-    })
+    let mut all = PerCopy {
+        base: None,
+        variant_a: None,
+        variant_b: None,
+        candidate: None,
+    };
+    put_guards(alloc, table, rests, stores, set, &mut all)?;
+    Ok(all)
 }
 
 // What the head of the loops of a set has.
@@ -134,8 +197,8 @@ fn head_of(
     let done = bodies(alloc, &state.rests, set)?;
     let stores = renewed_stores(alloc, table, number, &done, &state.stores)?;
     let kept = at_stores(alloc, table, &stores, &parts.list)?;
-    let guards = guards(alloc, table, &state.rests, &stores, set)?;
     let kept = Rc::new(alloc, kept)?;
+    let guards = guards(alloc, table, &state.rests, &stores, set)?;
     Ok(Head {
         stores,
         kept,

@@ -74,11 +74,11 @@ pub(crate) fn open_fork<'a>(
     };
     let fact = form_of(alloc, table, guard, state.stores.get(copy))?;
     let contrary = negate(alloc, &fact)?;
+    let facts = one_formula(alloc, fact)?;
+    let other_facts = one_formula(alloc, contrary)?;
     let mut other = copy_state(alloc, &state)?;
     enter(alloc, &mut state.rests, copy, first)?;
     enter(alloc, &mut other.rests, copy, second)?;
-    let facts = one_formula(alloc, fact)?;
-    let other_facts = one_formula(alloc, contrary)?;
     let opened = follows_two(alloc, state, facts, other, other_facts)?;
     Ok(Some(opened))
 }

@@ -1,9 +1,10 @@
-// What one copy has.
-ghost use Rattle.std.specs.Prelude.{◌≡◌};
+// What one copy has, and lists of one and of two.
+ghost use Rattle.std.specs.Prelude.{◌≡◌, ◌∷◌, [], IfOk};
 ghost use Rattle.sm_syntax.specs.trees.Copies.{copy_named, of_copy};
 ghost use Rattle.sm_plan.specs.Copies.{with_copy};
 
 use sm_syntax::{CopyName, PerCopy};
+use std::alloc::{AllocError, Global};
 use std::mem::swap;
 
 // Exchanges what a copy has.
@@ -17,4 +18,23 @@ pub(crate) fn exchange<T>(all: &mut PerCopy<T>, copy: CopyName, one: &mut T)
         CopyName::B => swap(&mut all.variant_b, one),
         CopyName::M => swap(&mut all.candidate, one),
     }
+}
+
+// A list of one.
+pub(crate) fn one_of<T: Drop>(alloc: Global, first: T) -> Result<Vec<T>, AllocError>
+    ensures items { IfOk result (λ v. v.items ≡ first ∷ []) }
+{
+    let mut list = Vec::new(alloc);
+    list.push(first)?;
+    Ok(list)
+}
+
+// A list of two.
+pub(crate) fn two_of<T: Drop>(alloc: Global, first: T, second: T) -> Result<Vec<T>, AllocError>
+    ensures items { IfOk result (λ v. v.items ≡ first ∷ second ∷ []) }
+{
+    let mut list = Vec::new(alloc);
+    list.push(first)?;
+    list.push(second)?;
+    Ok(list)
 }

@@ -16,7 +16,7 @@ ghost use Rattle.sm_plan.specs.ReadyStates.{AreStoresReady, AreStoresFull};
 ghost use Rattle.sm_plan.specs.Successors.{renewed};
 ghost use Rattle.sm_plan.specs.Views.{rest_code, stores_in};
 
-use crate::copies::copy_store;
+use crate::copies::copy_stores;
 use crate::rest::Rest;
 use crate::steps::{made, put};
 use sm_syntax::{CopyName, Name, PerCopy};
@@ -54,29 +54,80 @@ fn renew(
     Ok(())
 }
 
-// A copy's store in which each name that code assigns has a new value of a node.
-fn renewed_store(
+// Gives each name that code assigns its new value of a node, in a copy's store.
+fn renew_written(
     alloc: Global,
     table: &mut TermTable,
     number: u64,
     copy: CopyName,
     done: &Rest<'_>,
-    store: &SymStore,
-) -> Result<SymStore, AllocError>
+    store: &mut SymStore,
+) -> Result<(), AllocError>
     requires done { IsWellSorted (sorts_in table.old) (rest_code done.now) }
-    requires ready { IsStoreReady (sorts_in table.old) (trees_in table.old) store.now }
-    requires full { IsStoreFull (sorts_in table.old) store.now }
-    ensures made { let old = store_in (trees_in table.old) store.now in
+    requires ready { IsStoreReady (sorts_in table.old) (trees_in table.old) store.old }
+    requires full { IsStoreFull (sorts_in table.old) store.old }
+    ensures made { let old = store_in (trees_in table.old) store.old in
         let new = with_new number (copy_named copy) (assigns (rest_code done.now)) old in
-        IfOk result (λ s. store_in (trees_in table.new) s ≡ new) }
-    ensures ready { IfOk result (λ s. IsStoreReady (sorts_in table.new) (trees_in table.new) s) }
-    ensures full { IfOk result (λ s. IsStoreFull (sorts_in table.new) s) }
+        OnOk result (store_in (trees_in table.new) store.new ≡ new) }
+    ensures ready { OnOk result (IsStoreReady (sorts_in table.new) (trees_in table.new) store.new) }
+    ensures full { OnOk result (IsStoreFull (sorts_in table.new) store.new) }
     ensures grows { Grows table.old table.new }
 {
     let names = done.writes(alloc)?;
-    let mut store = copy_store(alloc, store)?;
-    renew(table, number, copy, &names.list, &mut store)?;
-    Ok(store)
+    renew(table, number, copy, &names.list, store)?;
+    Ok(())
+}
+
+// Gives each name that a copy's code assigns its new value of a node, in the stores of all copies.
+fn renew_all(
+    alloc: Global,
+    table: &mut TermTable,
+    number: u64,
+    done: &PerCopy<Rest<'_>>,
+    stores: &mut PerCopy<SymStore>,
+) -> Result<(), AllocError>
+    requires done { (c : Copy) →
+        IsWellSorted (sorts_in table.old) (rest_code (of_copy done.now c)) }
+    requires ready { AreStoresReady (sorts_in table.old) (trees_in table.old) stores.old }
+    requires full { AreStoresFull (sorts_in table.old) stores.old }
+    ensures made { let old = stores_in (trees_in table.old) stores.old in
+        let new = renewed number (λ c. rest_code (of_copy done.now c)) old in
+        OnOk result (stores_in (trees_in table.new) stores.new ≡ new) }
+    ensures ready { OnOk result
+        (AreStoresReady (sorts_in table.new) (trees_in table.new) stores.new) }
+    ensures full { OnOk result (AreStoresFull (sorts_in table.new) stores.new) }
+    ensures grows { Grows table.old table.new }
+{
+    let o = CopyName::O;
+    renew_written(alloc, table, number, o, &done.base, &mut stores.base)?;
+    let a = CopyName::A;
+    renew_written(
+        alloc,
+        table,
+        number,
+        a,
+        &done.variant_a,
+        &mut stores.variant_a,
+    )?;
+    let b = CopyName::B;
+    renew_written(
+        alloc,
+        table,
+        number,
+        b,
+        &done.variant_b,
+        &mut stores.variant_b,
+    )?;
+    let m = CopyName::M;
+    renew_written(
+        alloc,
+        table,
+        number,
+        m,
+        &done.candidate,
+        &mut stores.candidate,
+    )?;
+    Ok(())
 }
 
 /// The stores in which each name that a copy's code assigns has a new value of a node.
@@ -98,18 +149,7 @@ pub(crate) fn renewed_stores(
     ensures full { IfOk result (λ s. AreStoresFull (sorts_in table.new) s) }
     ensures grows { Grows table.old table.new }
 {
-    let o = CopyName::O;
-    let base = renewed_store(alloc, table, number, o, &done.base, &stores.base)?;
-    let a = CopyName::A;
-    let variant_a = renewed_store(alloc, table, number, a, &done.variant_a, &stores.variant_a)?;
-    let b = CopyName::B;
-    let variant_b = renewed_store(alloc, table, number, b, &done.variant_b, &stores.variant_b)?;
-    let m = CopyName::M;
-    let candidate = renewed_store(alloc, table, number, m, &done.candidate, &stores.candidate)?;
-    Ok(PerCopy {
-        base,
-        variant_a,
-        variant_b,
-        candidate,
-    })
+    let mut all = copy_stores(alloc, stores)?;
+    renew_all(alloc, table, number, done, &mut all)?;
+    Ok(all)
 }

@@ -1,5 +1,5 @@
 // The start of a proof.
-ghost use Rattle.std.specs.Prelude.{◌≡◌, ℕ, ◌<◌, map, length, option_map, IfOk, IfSome, OnErr};
+ghost use Rattle.std.specs.Prelude.{◌≡◌, ℕ, ◌<◌, true, map, length, option_map, IfOk, IfSome, OnErr};
 ghost use Rattle.std.specs.List.{range_with_len};
 ghost use Rattle.sm_syntax.specs.claim.ConflictFree.{Copy};
 ghost use Rattle.sm_syntax.specs.text.Parts.{sort_of, sorted_outputs};
@@ -97,6 +97,31 @@ fn four(alloc: Global, store: SymStore) -> Result<PerCopy<SymStore>, AllocError>
     })
 }
 
+// The state of whole programs with one store and the last target.
+fn first_state<'a>(
+    alloc: Global,
+    programs: &'a PerCopy<Block>,
+    store: SymStore,
+    goals: Formulas,
+) -> Result<SymState<'a>, AllocError>
+    ensures rests { (c : Copy) → IfOk result (λ s.
+        rest_code (of_copy s.rests c) ≡ code_of (of_copy programs.now c)) }
+    ensures stores { (c : Copy) →
+        IfOk result (λ s. (of_copy s.stores c).list.items ≡ store.list.items) }
+    ensures target { IfOk result (λ s. s.target.value.list.items ≡ goals.list.items) }
+    ensures is_final { IfOk result (λ s. s.is_final ≡ true) }
+{
+    let rests = whole(alloc, programs)?;
+    let stores = four(alloc, store)?;
+    let target = Rc::new(alloc, goals)?;
+    Ok(SymState {
+        rests,
+        stores,
+        target,
+        is_final: true,
+    })
+}
+
 /// The start of the programs of a task over a table of its declarations, and the facts of its
 /// assumption. After want of memory the table has the terms that it had.
 #[tactic(auto, using(crate::proofs::TablesWiden::widens_cut, crate::proofs::TablesWiden::cut_back))]
@@ -171,11 +196,6 @@ fn made_state<'a>(
     let store = start_store(alloc, table, decls)?;
     let facts = start_facts(alloc, table, assumed, &store)?;
     let goals = target(alloc, table, outputs)?;
-    let state = SymState {
-        rests: whole(alloc, programs)?,
-        stores: four(alloc, store)?,
-        target: Rc::new(alloc, goals)?,
-        is_final: true,
-    };
+    let state = first_state(alloc, programs, store, goals)?;
     Ok((state, facts))
 }

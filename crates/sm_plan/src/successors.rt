@@ -8,6 +8,7 @@ ghost use Rattle.sm_plan.specs.ReadyStates.{IsSuccessorReady, AreStoresReady};
 ghost use Rattle.sm_plan.specs.Views.{forms_in, state_in, successor_in};
 
 use crate::opening::{Opened, Successor};
+use crate::parts::{one_of, two_of};
 use crate::state::{Formulas, SymState};
 use sm_syntax::PerCopy;
 use sm_term::{Formula, SymStore};
@@ -71,6 +72,20 @@ pub(crate) fn successor<'a>(
     Ok(Successor { kept, more, state })
 }
 
+// What states follow where nothing is asked.
+pub(crate) fn followed<'a>(alloc: Global, states: Vec<Successor<'a>>) -> Opened<'a>
+    ensures states { result.states.items ≡ states.entry.items }
+    ensures goals { result.goals.list.items ≡ [] }
+    ensures asking { (sorts : Sorts) (trees : List Tree) →
+        AreStoresReady sorts trees result.stores }
+{
+    Opened {
+        goals: no_formulas(alloc),
+        stores: no_stores(alloc),
+        states,
+    }
+}
+
 // What one state follows.
 pub(crate) fn follows_one<'a>(
     alloc: Global,
@@ -88,13 +103,9 @@ pub(crate) fn follows_one<'a>(
     ensures asking { IfOk result (λ o.
         (sorts : Sorts) (trees : List Tree) → AreStoresReady sorts trees o.stores) }
 {
-    let mut states = Vec::new(alloc);
-    states.push(successor(alloc, state, more)?)?;
-    Ok(Opened {
-        goals: no_formulas(alloc),
-        stores: no_stores(alloc),
-        states,
-    })
+    let one = successor(alloc, state, more)?;
+    let states = one_of(alloc, one)?;
+    Ok(followed(alloc, states))
 }
 
 // What two states follow.
@@ -121,12 +132,8 @@ pub(crate) fn follows_two<'a>(
     ensures asking { IfOk result (λ o.
         (sorts : Sorts) (trees : List Tree) → AreStoresReady sorts trees o.stores) }
 {
-    let mut states = Vec::new(alloc);
-    states.push(successor(alloc, state, more)?)?;
-    states.push(successor(alloc, other, other_more)?)?;
-    Ok(Opened {
-        goals: no_formulas(alloc),
-        stores: no_stores(alloc),
-        states,
-    })
+    let one = successor(alloc, state, more)?;
+    let two = successor(alloc, other, other_more)?;
+    let states = two_of(alloc, one, two)?;
+    Ok(followed(alloc, states))
 }

@@ -54,11 +54,11 @@ fn turn<'a>(
         AreFormsReady sorts trees target.now.value.list.items →
         IfOk result (IsSuccessorReady sorts trees) }
 {
+    let kept = head.kept.clone()?;
+    let target = target.clone()?;
+    let more = turned_guards(alloc, &head.guards, turning)?;
     let rests = bodies(alloc, rests, turning)?;
     let stores = copy_stores(alloc, &head.stores)?;
-    let kept = head.kept.clone()?;
-    let more = turned_guards(alloc, &head.guards, turning)?;
-    let target = target.clone()?;
     Ok(Successor {
         kept,
         more,

@@ -46,9 +46,7 @@ returns-in_err-kept-2-clause-widens c =
     let u = c.args.table.now in
     let v = c.renewed_stores.new.table in
     let w = c.at_stores.new.table in
-    let x = c.guards.new.table in
-    widens_twice u w x (widens_twice u v w (widens_grown u v c.renewed_stores.ensures.grows) c.at_stores.ensures.widens)
-    (widens_grown w x c.guards.ensures.grows)
+    widens_twice u v w (widens_grown u v c.renewed_stores.ensures.grows) c.at_stores.ensures.widens
 
 pub returns-clause-widens : goal.returns-clause-widens
 returns-clause-widens c =

@@ -9,6 +9,7 @@ use Rattle.sm_syntax.specs.text.Sorts.{Sorts, IsWellSorted}
 use Rattle.sm_syntax.specs.trees.Copies.{of_copy}
 use Rattle.sm_syntax.specs.trees.Programs.{declared_of, outputs_of}
 use Rattle.sm_term.specs.declared.symbolic.SymStore.{SymStore}
+use Rattle.sm_plan.specs.declared.state.SymState.{SymState}
 use Rattle.sm_term.specs.Assertions.{Assertion}
 use Rattle.sm_term.specs.Sorted.{IsStoreSorted, IsDeclaredIn}
 use Rattle.sm_term.specs.Tables.{trees_in, sorts_in}
@@ -45,8 +46,8 @@ target-requires c =
     ) in
     subst (λ (f : Sorts). AreOutputsDeclared f (with_sorts f (outputs_of c.args.outputs.now))) (sym e2) c.requires.outputs
 
-pub returns-in_err-new-clause-widens : goal.returns-in_err-new-clause-widens
-returns-in_err-new-clause-widens c =
+pub returns-in_err-state-clause-widens : goal.returns-in_err-state-clause-widens
+returns-in_err-state-clause-widens c =
     let v0 = c.args.table.now in
     let v1 = c.start_store.new.table in
     let v2 = c.start_facts.new.table in
@@ -88,21 +89,21 @@ returns-clause-start c =
     let w13 = widens_grown v1 v3 g13 in
     let w23 = widens_grown v2 v3 c.target.ensures.grows in
     let names = outputs_of c.args.outputs.now in
-    let goals_at : c.in_ok-new.field-0.value ≡ c.in_ok-goals.goals = c.in_ok-new.ensures.ok in
+    let state : SymState = c.in_ok-state.state in
     let goals : List (ℕ × Sort) → List Assertion = flat_map (λ (o : ℕ × Sort). keeps_goals (place o)) in
-    let rest = fun_ext (λ (d : Copy). c.in_ok-whole.ensures d) in
+    let rest = fun_ext c.in_ok-state.ensures.rests in
     let one_store = store_stays v1 v3 w13 store c.in_ok-store.ensures.within ∙ c.in_ok-store.ensures.store in
-    let stores = fun_ext (λ (d : Copy). ap (listed (trees_in v3)) (c.in_ok-four.ensures d) ∙ one_store) in
+    let stores = fun_ext (λ (d : Copy). ap (listed (trees_in v3)) (c.in_ok-state.ensures.stores d) ∙ one_store) in
     let facts = forms_stay v2 v3 w23 c.in_ok-facts.facts.list.items c.in_ok-facts.ensures.ready ∙ c.in_ok-facts.ensures.made in
-    let target : forms_in (sorts_in v3) (trees_in v3) c.in_ok-new.field-0.value.list.items ≡ goals (sorted_outputs declared names) =
-    ap (λ g. forms_in (sorts_in v3) (trees_in v3) g.list.items) goals_at ∙ c.in_ok-goals.ensures.made
+    let target : forms_in (sorts_in v3) (trees_in v3) state.target.value.list.items ≡ goals (sorted_outputs declared names) =
+    ap (forms_in (sorts_in v3) (trees_in v3)) c.in_ok-state.ensures.target ∙ c.in_ok-goals.ensures.made
     ∙ ap (λ (f : Sorts). goals (with_sorts f names)) e2 in
     λ i. record {
       rest = rest i;
       stores = stores i;
       facts = facts i;
       target = target i;
-      is_final = true;
+      is_final = c.in_ok-state.ensures.is_final i;
     }
 
 pub returns-clause-ready : goal.returns-clause-ready
@@ -125,16 +126,16 @@ returns-clause-ready c =
     let w13 = widens_grown v1 v3 g13 in
     let w23 = widens_grown v2 v3 c.target.ensures.grows in
     let names = outputs_of c.args.outputs.now in
-    let goals_at : c.in_ok-new.field-0.value ≡ c.in_ok-goals.goals = c.in_ok-new.ensures.ok in
+    let state : SymState = c.in_ok-state.state in
     let s3 : IsStoreReady (sorts_in v3) (trees_in v3) store = store_ready v1 v3 w13 store store_ready_1 in
     record {
       rests = λ (d : Copy).
-          subst (λ (f : Sorts). IsWellSorted f (rest_code (of_copy c.in_ok-whole.field-0 d))) (c.requires.declared ∙ sym e3)
-          (subst (IsWellSorted (sorts_in v0)) (sym (c.in_ok-whole.ensures d)) (c.requires.programs d));
-      stores = λ (d : Copy). subst (AreListed (sorts_in v3) (trees_in v3)) (sym (c.in_ok-four.ensures d)) s3;
-      target = subst (λ g. AreFormsReady (sorts_in v3) (trees_in v3) g.list.items) (sym goals_at) c.in_ok-goals.ensures.ready;
+          subst (λ (f : Sorts). IsWellSorted f (rest_code (of_copy state.rests d))) (c.requires.declared ∙ sym e3)
+          (subst (IsWellSorted (sorts_in v0)) (sym (c.in_ok-state.ensures.rests d)) (c.requires.programs d));
+      stores = λ (d : Copy). subst (AreListed (sorts_in v3) (trees_in v3)) (sym (c.in_ok-state.ensures.stores d)) s3;
+      target = subst (AreFormsReady (sorts_in v3) (trees_in v3)) (sym c.in_ok-state.ensures.target) c.in_ok-goals.ensures.ready;
       full = λ (d : Copy) (x : ℕ) (h : IsDeclaredIn (sorts_in v3) x).
           let below = declared_below declared c.requires.numbered x (ap (λ (f : Sorts). is_some (f x)) (sym e3) ∙ h) in
-          let long = ap length (c.in_ok-four.ensures d) ∙ c.in_ok-store.ensures.len in
+          let long = ap length (c.in_ok-state.ensures.stores d) ∙ c.in_ok-store.ensures.len in
           omega (arith, below, long);
     }

@@ -1,9 +1,11 @@
 -- The one state is ready.
-use Rattle.std.proofs.Common.{[], ◌∷◌, ◌++◌, sym, ap, subst, ◌∙◌}
+use Rattle.std.proofs.Common.{◌≡◌, [], ◌∷◌, sym, subst, ◌∙◌}
+use Rattle.sm_plan.specs.declared.opening.Successor.{Successor}
 use Rattle.sm_plan.specs.ReadyStates.{AreSuccessorsReady}
 use Rattle.sm_plan.proofs.successors.follows_one.Goals as goal
 
 pub returns-clause-ready : goal.returns-clause-ready
 returns-clause-ready c = λ sorts trees h g.
-    let items = c.in_ok-push.ensures.items ∙ ap (λ l. l ++ c.in_ok-successor.field-0 ∷ []) c.new-states.ensures.items in
-    subst (AreSuccessorsReady sorts trees) (sym items) (c.in_ok-successor.ensures.ready sorts trees h g, tt)
+    let one : Successor = c.in_ok-one.one in
+    let items : c.followed.result.states.items ≡ one ∷ [] = c.followed.ensures.states ∙ c.in_ok-states.ensures.items in
+    subst (AreSuccessorsReady sorts trees) (sym items) (c.in_ok-one.ensures.ready sorts trees h g, tt)

@@ -12,8 +12,8 @@ use Rattle.sm_term.specs.SymStores.{store_in}
 use Rattle.sm_term.specs.Tables.{trees_in, sorts_in}
 use Rattle.sm_plan.specs.Heads.{with_new}
 use Rattle.sm_plan.specs.Views.{rest_code}
-use Rattle.sm_plan.proofs.RenewedStores.{store_alike, new_same, new_sorted}
-use Rattle.sm_plan.proofs.renew.renewed_store.Goals as goal
+use Rattle.sm_plan.proofs.RenewedStores.{new_same, new_sorted}
+use Rattle.sm_plan.proofs.renew.renew_written.Goals as goal
 
 pub renew-requires-clause-declared : goal.renew-requires-clause-declared
 renew-requires-clause-declared c = λ (x : ℕ) h.
@@ -27,9 +27,7 @@ returns-clause-made c =
     let k = c.args.number in
     let copy = copy_named c.args.copy in
     c.in_ok-renew.ensures.made
-    ∙ ap (λ (l : List Name). with_new k copy (is_in (names_in_list l)) (store_in (trees_in v) c.in_ok-store.store)) c.deref.ensures.value
-    ∙ ap (with_new k copy (is_in (names_in_list c.in_ok-names.names.list.items)))
-    (store_alike (trees_in v) c.in_ok-store.store c.args.store.now c.in_ok-store.ensures)
+    ∙ ap (λ (l : List Name). with_new k copy (is_in (names_in_list l)) (store_in (trees_in v) c.args.store.now)) c.deref.ensures.value
     ∙ new_same k copy (is_in (names_in_list c.in_ok-names.names.list.items)) (assigns (rest_code c.args.done.now))
     (store_in (trees_in v) c.args.store.now)
     c.in_ok-names.ensures.names
@@ -40,9 +38,7 @@ returns-clause-ready c =
     let k = c.args.number in
     let copy = copy_named c.args.copy in
     let made = c.in_ok-renew.ensures.made
-    ∙ ap (λ (l : List Name). with_new k copy (is_in (names_in_list l)) (store_in (trees_in v) c.in_ok-store.store)) c.deref.ensures.value
-    ∙ ap (with_new k copy (is_in (names_in_list c.in_ok-names.names.list.items)))
-    (store_alike (trees_in v) c.in_ok-store.store c.args.store.now c.in_ok-store.ensures)
+    ∙ ap (λ (l : List Name). with_new k copy (is_in (names_in_list l)) (store_in (trees_in v) c.args.store.now)) c.deref.ensures.value
     ∙ new_same k copy (is_in (names_in_list c.in_ok-names.names.list.items)) (assigns (rest_code c.args.done.now))
     (store_in (trees_in v) c.args.store.now)
     c.in_ok-names.ensures.names in (
@@ -59,5 +55,5 @@ pub returns-clause-full : goal.returns-clause-full
 returns-clause-full c = λ (x : ℕ) (h : IsDeclaredIn (sorts_in c.renew.new.table) x).
     let inside = c.requires.full x (subst (λ (sorts : Sorts). IsDeclaredIn sorts x) c.renew.ensures.grows.sorts h) in
     let long : length c.renew.new.store.list.items ≡ length c.args.store.now.list.items =
-    c.renew.ensures.len ∙ ap length c.in_ok-store.ensures in
+    c.renew.ensures.len in
     omega arith
