@@ -18,6 +18,7 @@ use Rattle.sm_trim.specs.declared.left.LeftEnd.TheOpen as layer
 use Rattle.sm_trim.specs.declared.left.LeftEnd.TheVariants as ends
 use Rattle.sm_trim.specs.declared.left.LeftEnd.TheVariants.{rolls-Close, rolls-Split}
 use Rattle.sm_trim.specs.declared.left.Needing.{Needing}
+use Rattle.sm_trim.specs.declared.marks.Marks.{Marks}
 use Rattle.sm_trim.specs.Used.{names_fact, some_pass}
 use Rattle.sm_trim.specs.Pruned.{Pruned, LeftNext, LeftClosed, LeftSplit, needs, with_line, with_split, pruned, new_number, numbered_on}
 use Rattle.sm_trim.specs.Pruned.{closed_up}
@@ -71,18 +72,18 @@ lines_pushed trees [] l c = refl
 lines_pushed trees (k ∷ ls) l c = ap (Next (line_in trees k)) (lines_pushed trees ls l c)
 
 -- the marks of a leaf
-pub leaf_leaves : (trees : List Tree) (at : ℕ) (r : Needing) (l : LeftLine) (line : CertificateLine) (xs : List Bool) →
+pub leaf_leaves : (trees : List Tree) (at : ℕ) (r : Needing) (l : LeftLine) (line : CertificateLine) (m : Marks) →
     r.tree.lines.list.items ≡ [] → r.tree.last ≡ ends.Close l → l.before ≡ at → line_in trees l.line ≡ line →
-    AreMarks at (λ (n : ℕ). false) xs → MarksMore (names_fact (length xs) line) xs r.marks.items → Leaves trees at (LeftClosed at line) r
-leaf_leaves trees at r l line xs items last before same none more = record {
+    AreMarks at (λ (n : ℕ). false) m → MarksMore (names_fact m.facts line) m r.marks → Leaves trees at (LeftClosed at line) r
+leaf_leaves trees at r l line m items last before same none more = record {
   tree = left_closed trees r.tree l last
       ∙ ap (λ (ls : List LeftLine). left_before trees ls (LeftClosed l.before (line_in trees l.line))) items
       ∙ ap (λ (n : ℕ). LeftClosed n (line_in trees l.line)) before ∙ ap (LeftClosed at) same;
   marks =
-      let m = marks_more at (names_fact (length xs) line) (λ (n : ℕ). false) xs r.marks.items none more in (
-        m.0,
+      let k = marks_more at (names_fact m.facts line) (λ (n : ℕ). false) m r.marks none more in (
+        k.0,
         λ (n : ℕ) (less : n < at).
-            m.1 n less ∙ or_false (names_fact (length xs) line n) ∙ ap (λ (k : ℕ). names_fact k line n) none.0,
+            k.1 n less ∙ or_false (names_fact m.facts line n) ∙ ap (λ (k : ℕ). names_fact k line n) none.0,
       );
 }
   where
@@ -100,13 +101,13 @@ line_out trees at line p r e left = of (some_pass (facts_added line) at (needs p
     of false h = left
     of true h = absurd cc
 
-pub line_in_place : (trees : List Tree) (at : ℕ) (line : CertificateLine) (p : Pruned) (t : LeftTree) (l : LeftLine) (xs : List Bool)
+pub line_in_place : (trees : List Tree) (at : ℕ) (line : CertificateLine) (p : Pruned) (t : LeftTree) (l : LeftLine) (m : Marks)
     (r : Needing) →
-    true ≡ some_pass (facts_added line) at (needs p) → pruned_in trees t ≡ p → AreMarks at (needs p) xs →
-    MarksMore (names_fact (length xs) line) xs r.marks.items → r.tree.lines.list.items ≡ t.lines.list.items ++ (l ∷ []) →
+    true ≡ some_pass (facts_added line) at (needs p) → pruned_in trees t ≡ p → AreMarks at (needs p) m →
+    MarksMore (names_fact m.facts line) m r.marks → r.tree.lines.list.items ≡ t.lines.list.items ++ (l ∷ []) →
     r.tree.last ≡ t.last →
-    l.before ≡ length xs → line_in trees l.line ≡ line → Leaves trees at (with_line at line p) r
-line_in_place trees at line p t l xs r e tree marks more items last before same = of (some_pass (facts_added line) at (needs p)) e
+    l.before ≡ m.facts → line_in trees l.line ≡ line → Leaves trees at (with_line at line p) r
+line_in_place trees at line p t l m r e tree marks more items last before same = of (some_pass (facts_added line) at (needs p)) e
   where
     of : (b : Bool) → true ≡ b → Leaves trees at (if b then LeftNext at line p else p) r
     of false h = absurd cc
@@ -114,10 +115,10 @@ line_in_place trees at line p t l xs r e tree marks more items last before same 
       tree = tree_pushed trees t r.tree l line items last same
           ∙ ap (λ (n : ℕ). LeftNext n line (pruned_in trees t)) (before ∙ marks.0) ∙ ap (LeftNext at line) tree;
       marks =
-          let m = marks_more at (names_fact (length xs) line) (needs p) xs r.marks.items marks more in (
-            m.0,
+          let k = marks_more at (names_fact m.facts line) (needs p) m r.marks marks more in (
+            k.0,
             λ (n : ℕ) (less : n < at).
-                m.1 n less ∙ ap (λ (k : ℕ). names_fact k line n || needs p n) marks.0,
+                k.1 n less ∙ ap (λ (k : ℕ). names_fact k line n || needs p n) marks.0,
           );
     }
 
@@ -139,20 +140,20 @@ second_in_place trees at line p q r e f left = of (needs p at) (needs q at) e f
     of true true h g = absurd cc
     of false b h g = absurd cc
 
-pub both_in_place : (trees : List Tree) (at : ℕ) (line : CertificateLine) (p q : Pruned) (r : Needing) (xs : List Bool) →
+pub both_in_place : (trees : List Tree) (at : ℕ) (line : CertificateLine) (p q : Pruned) (r : Needing) (m : Marks) →
     true ≡ needs p at →
-    true ≡ needs q at → pruned_in trees r.tree ≡ LeftSplit at line p q → AreMarks at (λ (n : ℕ). needs p n || needs q n) xs →
-    MarksMore (names_fact (length xs) line) xs r.marks.items → Leaves trees at (with_split at line p q) r
-both_in_place trees at line p q r xs e f tree marks more = of (needs p at) (needs q at) e f
+    true ≡ needs q at → pruned_in trees r.tree ≡ LeftSplit at line p q → AreMarks at (λ (n : ℕ). needs p n || needs q n) m →
+    MarksMore (names_fact m.facts line) m r.marks → Leaves trees at (with_split at line p q) r
+both_in_place trees at line p q r m e f tree marks more = of (needs p at) (needs q at) e f
   where
     of : (a b : Bool) → true ≡ a → true ≡ b → Leaves trees at (if a then (if b then LeftSplit at line p q else q) else p) r
     of true true h g = record {
       tree = tree;
       marks =
-          let m = marks_more at (names_fact (length xs) line) (λ (n : ℕ). needs p n || needs q n) xs r.marks.items marks more in (
-            m.0,
+          let k = marks_more at (names_fact m.facts line) (λ (n : ℕ). needs p n || needs q n) m r.marks marks more in (
+            k.0,
             λ (n : ℕ) (less : n < at).
-                m.1 n less ∙ ap (λ (k : ℕ). names_fact k line n || (needs p n || needs q n)) marks.0,
+                k.1 n less ∙ ap (λ (k : ℕ). names_fact k line n || (needs p n || needs q n)) marks.0,
           );
     }
     of true false h g = absurd cc

@@ -1,5 +1,6 @@
 -- Private: what is left of a certificate, as the program has it, and marks of facts.
-use Rattle.std.specs.Prelude.{◌≡◌, ℕ, ◌+◌, ◌<◌, Bool, false, ◌||◌, List, [], ◌∷◌, length, get_or}
+use Rattle.std.specs.Prelude.{◌≡◌, ℕ, ◌+◌, ◌<◌, Bool, ◌||◌, nat_eq, nat_lt, List, [], ◌∷◌}
+use Rattle.std.specs.List.{list_any}
 use Rattle.sm_term.specs.Terms.{Tree}
 use Rattle.sm_theory.specs.declared.line.CertLine.{CertLine}
 use Rattle.sm_theory.specs.Views.{line_in}
@@ -9,6 +10,7 @@ use Rattle.sm_trim.specs.declared.left.LeftTree.{LeftTree, LeftTree-F, fold-Left
 use Rattle.sm_trim.specs.declared.left.LeftEnd.{LeftEnd-F}
 use Rattle.sm_trim.specs.declared.left.LeftEnd.TheOpen as layer
 use Rattle.sm_trim.specs.declared.left.Needing.{Needing}
+use Rattle.sm_trim.specs.declared.marks.Marks.{Marks}
 use Rattle.sm_trim.specs.Pruned.{Pruned, LeftNext, LeftClosed, LeftSplit, needs}
 
 -- lines that are left, from the last to the first, before what is left
@@ -34,18 +36,21 @@ abbrev pub facts_past : List Tree → ℕ → List CertLine → ℕ
 facts_past trees at [] = at
 facts_past trees at (l ∷ ls) = facts_past trees (at + facts_added (line_in trees l)) ls
 
--- there is a mark for each of the first `at` facts, and it tells whether the fact is needed
-abbrev pub AreMarks : ℕ → (ℕ → Bool) → List Bool → Type 0
-AreMarks at needed marks =
-    (length marks ≡ at) × ((n : ℕ) → n < at → get_or marks n false ≡ needed n)
+-- whether a fact is marked
+abbrev pub is_marked : Marks → ℕ → Bool
+is_marked m n = nat_lt n m.all || list_any (nat_eq n) m.named.keys
+
+-- there are so many facts, and the marks tell which of them are needed
+abbrev pub AreMarks : ℕ → (ℕ → Bool) → Marks → Type 0
+AreMarks at needed m = (m.facts ≡ at) × ((n : ℕ) → n < at → is_marked m n ≡ needed n)
 
 -- the facts that are named are marked too
-abbrev pub MarksMore : (ℕ → Bool) → List Bool → List Bool → Type 0
+abbrev pub MarksMore : (ℕ → Bool) → Marks → Marks → Type 0
 MarksMore named before after =
-    (length after ≡ length before)
-    × ((n : ℕ) → n < length before → get_or after n false ≡ (named n || get_or before n false))
+    (after.facts ≡ before.facts)
+    × ((n : ℕ) → n < before.facts → is_marked after n ≡ (named n || is_marked before n))
 
 -- a tree is what is left, and marks tell which of the first `at` facts that needs
 pub record Leaves (trees : List Tree) (at : ℕ) (p : Pruned) (r : Needing) : Type 0 where
   pub tree : pruned_in trees r.tree ≡ p
-  pub marks : AreMarks at (needs p) r.marks.items
+  pub marks : AreMarks at (needs p) r.marks

@@ -1,4 +1,5 @@
 // What trimming leaves of a certificate.
+use crate::marks::Marks;
 use sm_theory::CertLine;
 
 // A line that is left, with the number of facts that stood before it. It names facts by the numbers
@@ -31,10 +32,9 @@ pub(crate) enum LeftEnd {
     Split(LeftLine, Box<LeftTree>, Box<LeftTree>),
 }
 
-// What is left of a certificate, with a mark for each fact before it, which tells whether a line
-// that is left names the fact.
+// What is left of a certificate, with marks of the facts before it that a line which is left names.
 #[derive(Drop)]
 pub(crate) struct Needing {
     pub tree: LeftTree,
-    pub marks: Vec<bool>,
+    pub marks: Marks,
 }

@@ -1,95 +1,114 @@
 // Marks of facts: which are named.
-ghost use Rattle.std.specs.Prelude.{◌≡◌, ℕ, suc, ◌+◌, ◌||◌, Bool, false, nat_eq, nat_lt};
-ghost use Rattle.std.specs.Prelude.{List, length, IfOk};
+ghost use Rattle.std.specs.Prelude.{◌≡◌, ℕ, suc, ◌+◌, ◌||◌, Bool, false, nat_eq, nat_lt, List, OnOk, IfOk};
 ghost use Rattle.std.specs.List.{list_any};
 ghost use Rattle.sm_term.specs.Terms.{Tree};
 ghost use Rattle.sm_theory.specs.Views.{line_in};
 ghost use Rattle.sm_trim.specs.Used.{names_fact, some_pass};
-ghost use Rattle.sm_trim.specs.Views.{AreMarks, MarksMore};
+ghost use Rattle.sm_trim.specs.Views.{is_marked, AreMarks, MarksMore};
 
+use indexmap::IndexSet;
 use sm_theory::CertLine;
 use std::alloc::{AllocError, Global};
 
+// Which of the facts before a line are marked. It takes memory by what is marked, and not by the
+// facts, and so the marks of many branches under many facts can be had at once.
+#[derive(Drop)]
+pub(crate) struct Marks {
+    // How many facts there are.
+    pub facts: u64,
+    // Each of them below this is marked.
+    pub all: u64,
+    // So are these. Some may be none of the facts, since these were taken off.
+    pub named: IndexSet<u64>,
+}
+
 // A mark for each of so many facts, none of which is named.
-pub(crate) fn no_marks(alloc: Global, count: u64) -> Result<Vec<bool>, AllocError>
-    ensures { IfOk result (λ marks. AreMarks count (λ n. false) marks.items) }
+pub(crate) fn no_marks(alloc: Global, count: u64) -> Marks
+    ensures { AreMarks count (λ n. false) result }
 {
-    vec![in alloc; false; count as usize]
+    Marks {
+        facts: count,
+        all: 0,
+        named: IndexSet::new(alloc),
+    }
 }
 
 // Marks the facts that a line names, which stands after all of these.
-pub(crate) fn mark_line(marks: &mut Vec<bool>, line: &CertLine)
-    ensures { (trees : List Tree) →
-        MarksMore (names_fact (length marks.old.items) (line_in trees line.now))
-        marks.old.items marks.new.items }
+pub(crate) fn mark_line(marks: &mut Marks, line: &CertLine) -> Result<(), AllocError>
+    ensures { (trees : List Tree) → OnOk result
+        (MarksMore (names_fact marks.old.facts (line_in trees line.now)) marks.old marks.new) }
 {
     match line {
         CertLine::Both(n) => mark_each(marks, &[*n]),
         CertLine::Either(n) => mark_each(marks, &[*n]),
-        CertLine::Cases(_, _) => {}
+        CertLine::Cases(_, _) => Ok(()),
         CertLine::Order(n) => mark_each(marks, &[*n]),
-        CertLine::Refl(_) => {}
+        CertLine::Refl(_) => Ok(()),
         CertLine::Sym(n) => mark_each(marks, &[*n]),
         CertLine::Trans(m, n) => mark_each(marks, &[*m, *n]),
         CertLine::Subst(m, n) => mark_each(marks, &[*m, *n]),
         CertLine::Cong(_, _, ns) => mark_each(marks, &ns.list),
-        CertLine::Same(_, _) => {}
-        CertLine::Apart(_, _) => {}
+        CertLine::Same(_, _) => Ok(()),
+        CertLine::Apart(_, _) => Ok(()),
         CertLine::Hit(_, n) => mark_each(marks, &[*n]),
         CertLine::Miss(_, _, n) => mark_each(marks, &[*n]),
         CertLine::Lin(n) => mark_each(marks, &[*n]),
         CertLine::Elim(m, n, _) => mark_each(marks, &[*m, *n]),
         CertLine::Tight(n) => mark_each(marks, &[*n]),
-        CertLine::Exact(_) => mark_all(marks),
+        CertLine::Exact(_) => {
+            mark_below(marks, marks.facts);
+            Ok(())
+        }
         CertLine::Close(n) => mark_each(marks, &[*n]),
         CertLine::Clash(m, n) => mark_each(marks, &[*m, *n]),
     }
 }
 
-// Marks the facts with these numbers, as far as they are there.
-fn mark_each(marks: &mut Vec<bool>, facts: &[u64])
-    ensures { MarksMore (λ n. list_any (nat_eq n) facts.now) marks.old.items marks.new.items }
+// Marks the facts with these numbers.
+fn mark_each(marks: &mut Marks, facts: &[u64]) -> Result<(), AllocError>
+    ensures { OnOk result
+        (MarksMore (λ n. list_any (nat_eq n) facts.now) marks.old marks.new) }
 {
     for fact in facts {
-        mark(marks, *fact);
+        mark(marks, *fact)?;
     }
+    Ok(())
 }
 
-// Marks one fact, if it is there.
-fn mark(marks: &mut Vec<bool>, fact: u64)
-    ensures { MarksMore (λ n. nat_eq n fact) marks.old.items marks.new.items }
+// Marks one fact.
+fn mark(marks: &mut Marks, fact: u64) -> Result<(), AllocError>
+    ensures { OnOk result (MarksMore (λ n. nat_eq n fact) marks.old marks.new) }
 {
-    let place = fact as usize;
-    if place < marks.len() {
-        marks[place] = true;
-    }
+    marks.named.insert(fact)?;
+    Ok(())
 }
 
-// Marks all facts.
-fn mark_all(marks: &mut Vec<bool>)
-    ensures { MarksMore (λ n. nat_lt n (length marks.old.items)) marks.old.items marks.new.items }
+// Marks all facts below one.
+fn mark_below(marks: &mut Marks, end: u64)
+    ensures { MarksMore (λ n. nat_lt n end) marks.old marks.new }
 {
-    let count = marks.len();
-    for place in 0..count {
-        marks[place] = true;
+    if marks.all < end {
+        marks.all = end;
     }
 }
 
 // Takes off the last mark, and tells whether it was set.
-pub(crate) fn take_mark(marks: &mut Vec<bool>) -> bool
-    ensures { (at : ℕ) (needed : ℕ → Bool) → AreMarks (suc at) needed marks.old.items →
-        (result ≡ needed at) × AreMarks at needed marks.new.items }
+pub(crate) fn take_mark(marks: &mut Marks) -> bool
+    ensures { (at : ℕ) (needed : ℕ → Bool) → AreMarks (suc at) needed marks.old →
+        (result ≡ needed at) × AreMarks at needed marks.new }
 {
-    match marks.pop() {
-        Some(mark) => mark,
-        None => false,
+    if marks.facts == 0 {
+        return false;
     }
+    let last = marks.facts - 1;
+    marks.facts = last;
+    last < marks.all || marks.named.contains(&last)
 }
 
 // Takes off the last marks, and tells whether one was set.
-pub(crate) fn take_marks(marks: &mut Vec<bool>, count: u64) -> bool
-    ensures { (at : ℕ) (needed : ℕ → Bool) → AreMarks (at + count) needed marks.old.items →
-        (result ≡ some_pass count at needed) × AreMarks at needed marks.new.items }
+pub(crate) fn take_marks(marks: &mut Marks, count: u64) -> bool
+    ensures { (at : ℕ) (needed : ℕ → Bool) → AreMarks (at + count) needed marks.old →
+        (result ≡ some_pass count at needed) × AreMarks at needed marks.new }
 {
     let mut one = false;
     let mut left = count;
@@ -102,15 +121,27 @@ pub(crate) fn take_marks(marks: &mut Vec<bool>, count: u64) -> bool
     one
 }
 
-// Marks what is marked among as many others.
-pub(crate) fn join(marks: &mut Vec<bool>, others: &[bool])
-    ensures { (at : ℕ) (needed other : ℕ → Bool) → AreMarks at needed marks.old.items →
-        AreMarks at other others.now →
-        AreMarks at (λ n. needed n || other n) marks.new.items }
+// Marks what is marked among as many others. The fewer go to the more, so that none moves often.
+pub(crate) fn join(one: Marks, two: Marks) -> Result<Marks, AllocError>
+    ensures { (at : ℕ) (needed other : ℕ → Bool) → AreMarks at needed one → AreMarks at other two →
+        IfOk result (AreMarks at (λ n. needed n || other n)) }
 {
-    for place in 0..others.len() {
-        if others[place] && place < marks.len() {
-            marks[place] = true;
-        }
+    if one.named.len() < two.named.len() {
+        let mut marks = two;
+        mark_all(&mut marks, &one)?;
+        Ok(marks)
+    } else {
+        let mut marks = one;
+        mark_all(&mut marks, &two)?;
+        Ok(marks)
     }
+}
+
+// Marks what is marked among others.
+fn mark_all(marks: &mut Marks, others: &Marks) -> Result<(), AllocError>
+    ensures { OnOk result (MarksMore (is_marked others.now) marks.old marks.new) }
+{
+    mark_each(marks, others.named.as_slice())?;
+    mark_below(marks, others.all);
+    Ok(())
 }

@@ -41,8 +41,8 @@ fn leaf(alloc: Global, line: &CertLine, at: u64) -> Result<Needing, AllocError>
     ensures { (trees : List Tree) →
         IfOk result (Leaves trees at (LeftClosed at (line_in trees line.now))) }
 {
-    let mut marks = no_marks(alloc, at)?;
-    mark_line(&mut marks, line);
+    let mut marks = no_marks(alloc, at);
+    mark_line(&mut marks, line)?;
     let line = copy_line(alloc, line)?;
     let last = LeftEnd::Close(LeftLine { before: at, line });
     let lines = LeftLines {
@@ -72,15 +72,12 @@ fn split(
     if !take_mark(&mut two.marks) {
         return Ok(two);
     }
-    join(&mut one.marks, &two.marks);
-    mark_line(&mut one.marks, line);
+    let mut marks = join(one.marks, two.marks)?;
+    mark_line(&mut marks, line)?;
     let line = copy_line(alloc, line)?;
     let left = LeftLine { before: at, line };
     let tree = split_tree(alloc, left, one.tree, two.tree)?;
-    Ok(Needing {
-        tree,
-        marks: one.marks,
-    })
+    Ok(Needing { tree, marks })
 }
 
 // Puts a line before what is left, if that needs one of the facts that it adds.
@@ -90,8 +87,8 @@ fn prune_line(alloc: Global, line: &CertLine, below: &mut Needing) -> Result<(),
         OnOk result (Leaves trees at (with_line at (line_in trees line.now) p) below.new) }
 {
     if take_marks(&mut below.marks, facts_added(line)) {
-        mark_line(&mut below.marks, line);
-        let before = below.marks.len() as u64;
+        mark_line(&mut below.marks, line)?;
+        let before = below.marks.facts;
         let line = copy_line(alloc, line)?;
         below.tree.lines.list.push(LeftLine { before, line })?;
     }

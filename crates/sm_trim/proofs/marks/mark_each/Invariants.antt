@@ -6,4 +6,4 @@ use Rattle.sm_trim.proofs.marks.mark_each.Given as goal
 
 abbrev pub invariant-loop-fact : goal.invariant-loop-fact
 invariant-loop-fact l =
-    MarksMore (λ n. list_any (nat_eq n) (take l.fact-index l.facts)) l.fn.marks.items l.marks.items
+    MarksMore (λ n. list_any (nat_eq n) (take l.fact-index l.facts)) l.fn.marks l.marks

@@ -11,9 +11,9 @@ loop-left-preserved-then-take_mark c =
     record {
       within = omega arith;
       taken = λ at needed marks.
-          subst (λ (b : Bool). AreTaken (count - (left - 1)) (at + (left - 1)) needed (b || one) c.take_mark.new.marks.items)
+          subst (λ (b : Bool). AreTaken (count - (left - 1)) (at + (left - 1)) needed (b || one) c.take_mark.new.marks)
           c.if-take_mark.true
-          (taken_more count left at needed one c.take_mark.result c.loop-left.marks.items c.take_mark.new.marks.items c.loop-left-test.true
+          (taken_more count left at needed one c.take_mark.result c.loop-left.marks c.take_mark.new.marks c.loop-left-test.true
           within (c.loop-left.invariant.taken at needed marks) c.take_mark.ensures);
     }
 
@@ -26,13 +26,13 @@ loop-left-preserved c =
     record {
       within = omega arith;
       taken = λ at needed marks.
-          subst (λ (b : Bool). AreTaken (count - (left - 1)) (at + (left - 1)) needed (b || one) c.take_mark.new.marks.items)
+          subst (λ (b : Bool). AreTaken (count - (left - 1)) (at + (left - 1)) needed (b || one) c.take_mark.new.marks)
           c.if-take_mark.false
-          (taken_more count left at needed one c.take_mark.result c.loop-left.marks.items c.take_mark.new.marks.items c.loop-left-test.true
+          (taken_more count left at needed one c.take_mark.result c.loop-left.marks c.take_mark.new.marks c.loop-left-test.true
           within (c.loop-left.invariant.taken at needed marks) c.take_mark.ensures);
     }
 
 pub returns : goal.returns
 returns c = λ at needed marks.
-    all_taken c.args.count c.loop-left.left at needed c.loop-left.one c.loop-left.marks.items c.loop-left-test.false
+    all_taken c.args.count c.loop-left.left at needed c.loop-left.one c.loop-left.marks c.loop-left-test.false
     (c.loop-left.invariant.taken at needed marks)

@@ -6,4 +6,4 @@ use Rattle.sm_trim.proofs.pruning.leaf.Goals as goal
 pub returns : goal.returns
 returns c = λ trees.
     leaf_leaves trees c.args.at _ (record { before = c.args.at; line = c.in_ok-line.line }) (line_in trees c.args.line.now)
-    c.in_ok-marks.marks.items c.new.ensures.items refl refl (c.in_ok-line.ensures trees) c.in_ok-marks.ensures (c.mark_line.ensures trees)
+    c.no_marks-marks.result c.new.ensures.items refl refl (c.in_ok-line.ensures trees) c.no_marks-marks.ensures (c.in_ok-mark_line.ensures trees)

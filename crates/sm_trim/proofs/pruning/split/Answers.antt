@@ -1,8 +1,8 @@
-use Rattle.std.proofs.Common.{◌∙◌, sym, ap, subst}
+use Rattle.std.proofs.Common.{◌∙◌, sym, ap}
 use Rattle.sm_theory.specs.Lines.{CertificateLine}
 use Rattle.sm_theory.specs.Views.{line_in}
 use Rattle.sm_trim.specs.Pruned.{Pruned, LeftSplit, needs}
-use Rattle.sm_trim.specs.Views.{pruned_in, AreMarks}
+use Rattle.sm_trim.specs.Views.{pruned_in}
 use Rattle.sm_trim.proofs.TreesLemmas.{first_in_place, second_in_place, both_in_place}
 use Rattle.sm_trim.proofs.pruning.split.Goals as goal
 
@@ -24,12 +24,11 @@ returns c = λ trees p q first second.
     let t = c.take_mark.ensures c.args.at (needs p) first.marks in
     let u = c.take_mark-2.ensures c.args.at (needs q) second.marks in
     let line = line_in trees c.args.line.now in
-    both_in_place trees c.args.at line p q _ c.join.new.marks.items (sym c.if-not-take_mark.false ∙ t.0)
+    both_in_place trees c.args.at line p q _ c.in_ok-marks.marks (sym c.if-not-take_mark.false ∙ t.0)
     (sym c.if-not-take_mark-2.false ∙ u.0)
     (c.in_ok-tree.ensures trees
     ∙ ap (λ (l : CertificateLine). LeftSplit c.args.at l (pruned_in trees c.args.first.tree) (pruned_in trees c.args.second.tree))
     (c.in_ok-line.ensures trees)
     ∙ ap (λ (one : Pruned). LeftSplit c.args.at line one (pruned_in trees c.args.second.tree)) first.tree
     ∙ ap (LeftSplit c.args.at line p) second.tree)
-    (c.join.ensures c.args.at (needs p) (needs q) t.1
-    (subst (AreMarks c.args.at (needs q)) (sym c.deref.ensures.value) u.1)) (c.mark_line.ensures trees)
+    (c.in_ok-marks.ensures c.args.at (needs p) (needs q) t.1 u.1) (c.in_ok-mark_line.ensures trees)
