@@ -10,8 +10,8 @@ _safemerge() {
     return
   fi
   case $command in
-    check) options="--steps --turns --workers --exact --deeper --why" ;;
-    suggest | gen) options="--steps --turns --workers --exact" ;;
+    check) options="--steps --turns --workers --exact --seconds --deeper --why" ;;
+    suggest | gen) options="--steps --turns --workers --exact --seconds" ;;
     replay) options="--turns --workers" ;;
     verify) options="--workers" ;;
     print) options="--copy" ;;
@@ -19,7 +19,7 @@ _safemerge() {
     batch) options="--cache --steps --turns --workers --exact" ;;
   esac
   case $before in
-    --cache | --steps | --turns | --workers) return ;;
+    --cache | --steps | --turns | --workers | --seconds) return ;;
     --copy)
       mapfile -t COMPREPLY < <(compgen -W "base a b candidate" -- "$word")
       return

@@ -10,6 +10,7 @@
 //! - `alike` names those of which is printed, with each other choice, whether they hold what they
 //!   hold with the first.
 //! - `meet` is `trials`, `obligations` or `certificates`, and asks whether two of these ran at once.
+//! - `seconds` is how many of them were over when the program began, and it takes none.
 //!
 //! A word and a file's content is a part or an array of parts. A part is a text, `{"times": n,
 //! "text": ".."}`, `{"hex": ".."}` for bytes that are no text, or `{"each": [..]}`, of which one

@@ -8,16 +8,18 @@ use std::sync::atomic::{AtomicBool, AtomicU64, Ordering};
 // How often a job that came first asks whether another came.
 const TURNS: u64 = 1_000_000_000;
 
-/// Notes whether two jobs of one phase were ever inside at once; of no phase, nothing.
+/// Notes whether two jobs of one phase were ever inside at once; of no phase, nothing. Its time stands
+/// still.
 #[derive(Drop)]
 pub struct Meeting {
     phase: Option<Phase>,
+    seconds: u64,
     entered: AtomicU64,
     met: AtomicBool,
 }
 
 impl Meeting {
-    /// For the phase that a case names.
+    /// For the phase and the seconds that a case names.
     pub fn of(case: &Value) -> Result<Meeting> {
         let phase = match case.get("meet").and_then(Value::as_str) {
             None => None,
@@ -29,6 +31,7 @@ impl Meeting {
         };
         Ok(Meeting {
             phase,
+            seconds: case.get("seconds").and_then(Value::as_u64).unwrap_or(0),
             entered: AtomicU64::new(0),
             met: AtomicBool::new(false),
         })
@@ -55,5 +58,9 @@ impl Gate for Meeting {
                 return;
             }
         }
+    }
+
+    fn seconds(&self) -> u64 {
+        self.seconds
     }
 }

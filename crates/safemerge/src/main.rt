@@ -1,10 +1,12 @@
-//! The program SafeMerge: it hands its words, the real files and the real output to `safemerge` of the crate
-//! `sm_commands`, and ends with the status that this answers.
+//! The program SafeMerge: it hands its words, the real files, the real output and a clock to `safemerge`
+//! of the crate `sm_commands`, and ends with the status that this answers.
 #![tactic(auto)]
 
+mod watch;
+
+use crate::watch::Watch;
 use sm_commands::{Status, safemerge};
 use sm_io::{FileShelf, OutSink};
-use sm_par::Open;
 use std::alloc::Global;
 use std::process::ExitCode;
 use std::rt::Env;
@@ -14,6 +16,7 @@ use std::{env, io};
 const NO_WORDS: u8 = 9;
 
 fn main(rt: HostRuntime) -> ExitCode {
+    let gate = Watch::new(&rt);
     let words = match own_words(&rt) {
         Ok(words) => words,
         Err(error) if error.kind() == io::ErrorKind::OutOfMemory => {
@@ -23,7 +26,7 @@ fn main(rt: HostRuntime) -> ExitCode {
     };
     let mut shelf = FileShelf::new(&rt);
     let mut out = OutSink::new(&rt);
-    ExitCode::from(safemerge(&rt, rt.alloc(), &Open, &words, &mut shelf, &mut out).number())
+    ExitCode::from(safemerge(&rt, rt.alloc(), &gate, &words, &mut shelf, &mut out).number())
 }
 
 // The words that the program was given, without its name.

@@ -6,7 +6,7 @@ use sm_expand::PlanFault;
 use std::alloc::{AllocError, AllocFailed};
 
 /// Why a plan with certificates isn't found to be writable.
-#[derive(Clone, Copy, PartialEq, Eq)]
+#[derive(Clone, Copy)]
 pub(crate) enum Refusal {
     /// Something of it doesn't fit.
     Unfit,

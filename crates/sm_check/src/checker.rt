@@ -32,7 +32,7 @@ use std::alloc::{AllocError, Global};
 use std::thread::Threads;
 
 /// Whether a proof is done.
-#[derive(Clone, Copy, Debug, PartialEq, Eq)]
+#[derive(Clone, Copy, Debug)]
 pub enum State {
     /// Nothing is pending.
     Done,

@@ -34,7 +34,7 @@ impl<T: Drop> From<AllocFailed<T>> for LineFault {
 }
 
 /// Why lines aren't taken further.
-#[derive(Clone, Copy, PartialEq, Eq)]
+#[derive(Clone, Copy)]
 pub(crate) enum Stopped {
     /// A line is bad, the first of the file that is.
     Wrong { line: u64, word: Word },

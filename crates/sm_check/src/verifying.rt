@@ -39,7 +39,7 @@ const LONGEST: u64 = 268435456;
 const PIECE: usize = 65536;
 
 /// The verdict on a proof file.
-#[derive(Clone, Copy, Debug, PartialEq, Eq)]
+#[derive(Clone, Copy, Debug)]
 pub enum Checked {
     Pass,
     /// The first bad line, from 1, and what is wrong with it.
@@ -47,7 +47,7 @@ pub enum Checked {
 }
 
 /// Why there is no verdict.
-#[derive(Clone, Copy, Debug, PartialEq, Eq)]
+#[derive(Clone, Copy, Debug)]
 pub enum CheckError {
     ReadFault,
     TooLong,

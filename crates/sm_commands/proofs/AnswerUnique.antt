@@ -21,6 +21,8 @@ use Rattle.sm_syntax.specs.claim.ConflictFree.{A, B}
 use Rattle.sm_commands.proofs.SpelledLemmas.{outcome_one}
 use Rattle.sm_commands.specs.Check.{reach_of, AnswersCheck, IsInputText, IsNote, SaysNoted, SaysOutcome, ShowsTrial}
 use Rattle.sm_commands.specs.Deeper.{AnswersDeeper}
+use Rattle.sm_commands.specs.Gen.{AnswersGenInTime}
+use Rattle.sm_commands.specs.Seconds.{RunsOut}
 use Rattle.sm_commands.specs.Why.{AnswersTask, SaysWhy}
 use Rattle.sm_commands.specs.Suggest.{is_accepted, AnswersSuggest, Decides, SaysSuggestion, Suggests}
 use Rattle.sm_suggest.specs.Combinations.{choices, combination, hole_count}
@@ -89,16 +91,21 @@ check_same t effort s u l m a b =
     let one : a.outcome ≡ b.outcome = outcome_one t (reach_of effort) effort.turns a.outcome b.outcome a.found b.found in
     outcome_same t b.outcome s u l m (subst (λ (o : Outcome (ℕ × Verdict)). SaysOutcome t o s l) one a.says) b.says
 
+-- without a limit no time is over
+no_limit : (effort : Effort) (s : Status) (l : List ℕ) → effort.seconds ≡ None → RunsOut effort s l → ⊥
+no_limit effort s l none r = let both : Some r.seconds ≡ None = sym r.given ∙ none in cc
+
 -- an answer that isn't a fault to write, where neither `--deeper` nor `--why` is asked for
-no_write : (t : Parts) (effort : Effort) (s : Status) (l : List ℕ) → (effort.deeper ≡ false) × (effort.why ≡ false) → s ≢ WriteFault
+no_write : (t : Parts) (effort : Effort) (s : Status) (l : List ℕ) → (effort.deeper ≡ false) × (effort.why ≡ false) × (effort.seconds ≡ None) → s ≢ WriteFault
     → AnswersTask t effort s l → AnswersCheck t effort s l
-no_write t effort s l plain no_fault (inl (inl (why, inl a))) = a
-no_write t effort s l plain no_fault (inl (inl (why, inr (inl a)))) = absurd (let both : true ≡ false = sym a.asked ∙ plain.0 in cc)
-no_write t effort s l plain no_fault (inl (inl (why, inr (inr a)))) = absurd (let both : true ≡ false = sym a.asked ∙ plain.0 in cc)
-no_write t effort s l plain no_fault (inl (inr w)) = absurd (let both : true ≡ false = sym w.asked ∙ plain.1 in cc)
+no_write t effort s l plain no_fault (inl (inl (inl (why, inl a)))) = a
+no_write t effort s l plain no_fault (inl (inl (inl (why, inr (inl a))))) = absurd (let both : true ≡ false = sym a.asked ∙ plain.0 in cc)
+no_write t effort s l plain no_fault (inl (inl (inl (why, inr (inr a))))) = absurd (let both : true ≡ false = sym a.asked ∙ plain.0 in cc)
+no_write t effort s l plain no_fault (inl (inl (inr w))) = absurd (let both : true ≡ false = sym w.asked ∙ plain.1 in cc)
+no_write t effort s l plain no_fault (inl (inr r)) = absurd (no_limit effort s l plain.2 r)
 no_write t effort s l plain no_fault (inr a) = absurd (no_fault a.says.ended)
 
-checks_same : (file : Known) (effort : Effort) (b n c m : ℕ) (s u : Status) (t v : List ℕ) → (effort.deeper ≡ false) × (effort.why ≡ false) → file ≢ untold → (¬ Rose b n)
+checks_same : (file : Known) (effort : Effort) (b n c m : ℕ) (s u : Status) (t v : List ℕ) → (effort.deeper ≡ false) × (effort.why ≡ false) × (effort.seconds ≡ None) → file ≢ untold → (¬ Rose b n)
     → (¬ Rose c m) → s ≢ WriteFault → u ≢ WriteFault → Checks file effort b n s t → Checks file effort c m u v → Same s t u v
 checks_same file effort b n c m s u t v plain told no_fault nor_later whole also (inl f) (inl g) =
     refused_same file b n c m s u t v told no_fault nor_later f g
@@ -111,16 +118,20 @@ checks_same file effort b n c m s u t v plain told no_fault nor_later whole also
     (subst (λ (p : Parts). AnswersCheck p effort s t) (task_same file b n c m f.task g.task told f.gives g.gives)
     (no_write f.task effort s t plain whole f.answers)) (no_write g.task effort u v plain also g.answers)
 
-gen_same : (seed size : ℕ) (effort : Effort) (b n c m : ℕ) (s u : Status) (t v : List ℕ) → Generates seed size effort b n s t
+gen_same : (seed size : ℕ) (effort : Effort) (b n c m : ℕ) (s u : Status) (t v : List ℕ) → effort.seconds ≡ None → Generates seed size effort b n s t
     → Generates seed size effort c m u v → Same s t u v
-gen_same seed size effort b n c m s u t v f g =
-    let same = check_same (generated seed size) effort s u f.answers.answer g.answers.answer f.answers.answers g.answers.answers in
-    let drawn = edits seed size in (
-      same.0,
-      f.answers.printed
-          ∙ ap (λ (answer : List ℕ). summary_line seed size (edit_count A drawn) (edit_count B drawn) ++ answer) same.1
-          ∙ sym g.answers.printed,
-    )
+gen_same seed size effort b n c m s u t v plain f g = go f.answers g.answers
+  where
+    go : AnswersGenInTime seed size effort s t → AnswersGenInTime seed size effort u v → Same s t u v
+    go (inl x) (inl y) =
+        let same = check_same (generated seed size) effort s u x.answer y.answer x.answers y.answers in
+        let drawn = edits seed size in (
+          same.0,
+          x.printed ∙ ap (λ (answer : List ℕ). summary_line seed size (edit_count A drawn) (edit_count B drawn) ++ answer) same.1
+              ∙ sym y.printed,
+        )
+    go (inl x) (inr r) = absurd (no_limit effort u v plain r)
+    go (inr r) y = absurd (no_limit effort s t plain r)
 
 -- ---- suggest
 
@@ -154,23 +165,26 @@ found_same t effort (Some j) None s u l m a b =
 found_same t effort (Some j) (Some k) s u l m a b =
     says_same refl (ap (λ (n : ℕ). suggestion_line (choices (hole_count t) n)) (first_same t effort j k a.0 b.0)) a.1 b.1
 
-suggestion_same : (t : Parts) (effort : Effort) (s u : Status) (l m : List ℕ) → AnswersSuggest t effort s l → AnswersSuggest t effort u m
+suggestion_same : (t : Parts) (effort : Effort) (s u : Status) (l m : List ℕ) → effort.seconds ≡ None → AnswersSuggest t effort s l → AnswersSuggest t effort u m
     → Same s l u m
-suggestion_same t effort s u l m (inl a) (inl b) = says_same refl refl a.1 b.1
-suggestion_same t effort s u l m (inl a) (inr b) = let many = a.0 in let few = b.0 in absurd (omega (arith, many, few))
-suggestion_same t effort s u l m (inr a) (inl b) = let few = a.0 in let many = b.0 in absurd (omega (arith, many, few))
-suggestion_same t effort s u l m (inr a) (inr b) = found_same t effort a.1 b.1 s u l m a.2 b.2
+suggestion_same t effort s u l m plain (inl a) (inl b) = says_same refl refl a.1 b.1
+suggestion_same t effort s u l m plain (inl a) (inr (inl b)) = let many = a.0 in let few = b.0 in absurd (omega (arith, many, few))
+suggestion_same t effort s u l m plain (inr (inl a)) (inl b) = let few = a.0 in let many = b.0 in absurd (omega (arith, many, few))
+suggestion_same t effort s u l m plain (inr (inl a)) (inr (inl b)) = found_same t effort a.1 b.1 s u l m a.2 b.2
+suggestion_same t effort s u l m plain (inr (inr r)) b = absurd (no_limit effort s l plain r)
+suggestion_same t effort s u l m plain (inl a) (inr (inr r)) = absurd (no_limit effort u m plain r)
+suggestion_same t effort s u l m plain (inr (inl a)) (inr (inr r)) = absurd (no_limit effort u m plain r)
 
-suggests_same : (file : Known) (effort : Effort) (b n c m : ℕ) (s u : Status) (t v : List ℕ) → file ≢ untold → (¬ Rose b n)
+suggests_same : (file : Known) (effort : Effort) (b n c m : ℕ) (s u : Status) (t v : List ℕ) → effort.seconds ≡ None → file ≢ untold → (¬ Rose b n)
     → (¬ Rose c m) → Suggests file effort b n s t → Suggests file effort c m u v → Same s t u v
-suggests_same file effort b n c m s u t v told no_fault nor_later (inl f) (inl g) =
+suggests_same file effort b n c m s u t v plain told no_fault nor_later (inl f) (inl g) =
     refused_same file b n c m s u t v told no_fault nor_later f g
-suggests_same file effort b n c m s u t v told no_fault nor_later (inl f) (inr g) =
+suggests_same file effort b n c m s u t v plain told no_fault nor_later (inl f) (inr g) =
     absurd (task_or_none file c m b n g.task s t told no_fault g.gives f)
-suggests_same file effort b n c m s u t v told no_fault nor_later (inr f) (inl g) =
+suggests_same file effort b n c m s u t v plain told no_fault nor_later (inr f) (inl g) =
     absurd (task_or_none file b n c m f.task u v told nor_later f.gives g)
-suggests_same file effort b n c m s u t v told no_fault nor_later (inr f) (inr g) =
-    suggestion_same g.task effort s u t v
+suggests_same file effort b n c m s u t v plain told no_fault nor_later (inr f) (inr g) =
+    suggestion_same g.task effort s u t v plain
     (subst (λ (p : Parts). AnswersSuggest p effort s t) (task_same file b n c m f.task g.task told f.gives g.gives) f.answers)
     g.answers
 
@@ -203,9 +217,9 @@ command_same (replay task input turns) files b n c m s u l k plain told no_fault
 command_same (print task copy) files b n c m s u l k plain told no_fault nor_later whole also x y =
     prints_same (files task) copy b n c m s u l k (told task) no_fault nor_later x y
 command_same (suggest task effort) files b n c m s u l k plain told no_fault nor_later whole also x y =
-    suggests_same (files task) effort b n c m s u l k (told task) no_fault nor_later x y
+    suggests_same (files task) effort b n c m s u l k plain (told task) no_fault nor_later x y
 command_same (gen seed size effort) files b n c m s u l k plain told no_fault nor_later whole also x y =
-    gen_same seed size effort b n c m s u l k x y
+    gen_same seed size effort b n c m s u l k plain x y
 command_same (explain task input turns) files b n c m s u l k plain told no_fault nor_later whole also x y =
     explains_same files task input turns b n c m s u l k told no_fault nor_later x y
 command_same (batch list cache effort) files b n c m s u l k plain told no_fault nor_later whole also x y =
@@ -282,19 +296,26 @@ fewer_why t effort workers Memory l more h = absurd h
 fewer_why t effort workers WriteFault l more h = absurd h
 fewer_why t effort workers SinkFault l more h = absurd h
 
+-- nor that the time is over
+fewer_over : (effort : Effort) (workers : ℕ) (s : Status) (l : List ℕ) →
+    let hired : Effort = record effort { workers = workers } in
+    RunsOut hired s l → RunsOut effort s l
+fewer_over effort workers s l r = record { seconds = r.seconds; given = r.given; says = r.says }
+
 fewer_written : (t : Parts) (effort : Effort) (workers : ℕ) (s : Status) (l : List ℕ) →
     let hired : Effort = record effort { workers = workers } in
     AnswersTask t hired s l → AnswersTask t effort s l
-fewer_written t effort workers s l (inl (inl a)) = inl (inl (a.0, fewer_deeper t effort workers s l a.1))
-fewer_written t effort workers s l (inl (inr w)) =
-    inl (inr (record {
+fewer_written t effort workers s l (inl (inr r)) = inl (inr (fewer_over effort workers s l r))
+fewer_written t effort workers s l (inl (inl (inl a))) = inl (inl (inl (a.0, fewer_deeper t effort workers s l a.1)))
+fewer_written t effort workers s l (inl (inl (inr w))) =
+    inl (inl (inr (record {
       asked = w.asked;
       line = w.line;
       answers = fewer_deeper t effort workers s w.line w.answers;
       more = w.more;
       says = fewer_why t effort workers s w.line w.more w.says;
       printed = w.printed;
-    }))
+    })))
 fewer_written t effort workers s l (inr f) =
     inr (record { line = f.line; accepted = fewer_deeper t effort workers Accepted f.line f.accepted; says = f.says })
 
@@ -329,7 +350,8 @@ fewer_suggestion : (t : Parts) (effort : Effort) (workers : ℕ) (s : Status) (l
     let hired : Effort = record effort { workers = workers } in
     AnswersSuggest t hired s l → AnswersSuggest t effort s l
 fewer_suggestion t effort workers s l (inl a) = inl a
-fewer_suggestion t effort workers s l (inr a) = inr (a.0, a.1, fewer_found t effort workers a.1 s l a.2)
+fewer_suggestion t effort workers s l (inr (inl a)) = inr (inl (a.0, a.1, fewer_found t effort workers a.1 s l a.2))
+fewer_suggestion t effort workers s l (inr (inr r)) = inr (inr (fewer_over effort workers s l r))
 
 fewer_suggests : (file : Known) (effort : Effort) (workers b n : ℕ) (s : Status) (l : List ℕ) →
     let hired : Effort = record effort { workers = workers } in
@@ -337,6 +359,17 @@ fewer_suggests : (file : Known) (effort : Effort) (workers b n : ℕ) (s : Statu
 fewer_suggests file effort workers b n s l (inl f) = inl f
 fewer_suggests file effort workers b n s l (inr g) =
     inr (record { task = g.task; gives = g.gives; answers = fewer_suggestion g.task effort workers s l g.answers })
+
+-- nor what is answered to a task that is made
+fewer_gen : (seed size : ℕ) (effort : Effort) (workers : ℕ) (s : Status) (l : List ℕ) →
+    let hired : Effort = record effort { workers = workers } in
+    AnswersGenInTime seed size hired s l → AnswersGenInTime seed size effort s l
+fewer_gen seed size effort workers s l (inl a) = inl (record {
+  answer = a.answer;
+  answers = fewer_check (generated seed size) effort workers s a.answer a.answers;
+  printed = a.printed;
+})
+fewer_gen seed size effort workers s l (inr r) = inr (fewer_over effort workers s l r)
 
 -- nor what is answered to what is asked for
 fewer_workers : (ask : Asked) (workers : ℕ) (files : Files) (b n : ℕ) (s : Status) (l : List ℕ)
@@ -353,12 +386,7 @@ fewer_workers (about what) workers files b n s l x = x
 fewer_workers (gen seed size effort) workers files b n s l x =
     record {
       quiet = x.quiet;
-      answers =
-          record {
-            answer = x.answers.answer;
-            answers = fewer_check (generated seed size) effort workers s x.answers.answer x.answers.answers;
-            printed = x.answers.printed;
-          };
+      answers = fewer_gen seed size effort workers s l x.answers;
     }
 
 -- nor does it depend on how many answers are kept

@@ -53,8 +53,9 @@ deeper_free t effort status text (inr (inr a)) e = a.free
 -- an accepted task is free of conflicts
 pub accepted_is_free : (t : Parts) (effort : Effort) (status : Status) (text : List ℕ)
     → AnswersTask t effort status text → status ≡ Accepted → ConflictFree (task_of t)
-accepted_is_free t effort status text (inl (inl a)) e = deeper_free t effort status text a.1 e
-accepted_is_free t effort status text (inl (inr w)) e = deeper_free t effort status w.line w.answers e
+accepted_is_free t effort status text (inl (inr r)) e = let is = r.says.ended in cc
+accepted_is_free t effort status text (inl (inl (inl a))) e = deeper_free t effort status text a.1 e
+accepted_is_free t effort status text (inl (inl (inr w))) e = deeper_free t effort status w.line w.answers e
 accepted_is_free t effort status text (inr a) e = let is = a.says.ended in cc
 
 -- the file that is asked of is one

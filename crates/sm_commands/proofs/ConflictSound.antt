@@ -112,10 +112,11 @@ deeper_conflict t effort status text (inr (inr a)) e = let s = a.says.2.ended in
 
 pub checked_conflict : (t : Parts) (effort : Effort) (status : Status) (text : List ℕ)
     → AnswersTask t effort status text → status ≡ Conflict → IsShown t effort text
-checked_conflict t effort status text (inl (inl a)) e =
+checked_conflict t effort status text (inl (inr r)) e = let s = r.says.ended in cc
+checked_conflict t effort status text (inl (inl (inl a))) e =
     shown_with t effort text [] text (λ (plain : effort.why ≡ false). refl) (sym (append-nil text))
     (deeper_conflict t effort status text a.1 e)
-checked_conflict t effort status text (inl (inr w)) e =
+checked_conflict t effort status text (inl (inl (inr w))) e =
     shown_with t effort w.line w.more text
     (λ (plain : effort.why ≡ false). absurd (let both : true ≡ false = sym w.asked ∙ plain in cc)) w.printed
     (deeper_conflict t effort status w.line w.answers e)
@@ -203,7 +204,8 @@ print_no_conflict file copy before now status text (inr c) e = let is = c.says.e
 pub suggested_no_conflict : (t : Parts) (effort : Effort) (status : Status) (text : List ℕ) → AnswersSuggest t effort status text
     → status ≢ Conflict
 suggested_no_conflict t effort status text (inl h) e = let is = h.1.ended in cc
-suggested_no_conflict t effort status text (inr h) e = go h.1 h.2
+suggested_no_conflict t effort status text (inr (inr r)) e = let is = r.says.ended in cc
+suggested_no_conflict t effort status text (inr (inl h)) e = go h.1 h.2
   where
     go : (found : Option ℕ) → SaysSuggestion t effort found status text → ⊥
     go None s = let is = s.1.ended in cc

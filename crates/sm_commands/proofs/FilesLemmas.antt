@@ -14,7 +14,7 @@ use Rattle.sm_write.specs.Versions.{HasVersion}
 use Rattle.sm_commands.proofs.SpelledLemmas.{outcome_one}
 use Rattle.sm_commands.specs.Check.{reach_of, AnswersCheck, SaysOutcome}
 use Rattle.sm_commands.specs.Deeper.{AnswersDeeper, FailsToWrite}
-use Rattle.sm_commands.specs.Why.{AnswersTask, AnswersWhy}
+use Rattle.sm_commands.specs.Why.{AnswersInTime, AnswersTask, AnswersWhy}
 use Rattle.sm_answers.specs.Exit.{ExitsWith}
 use Rattle.sm_answers.specs.File.{file_limit, GivesNoTask, GivesTask}
 use Rattle.sm_commands.specs.ProofFile.{HoldsFront, HoldsProof, IsTaskIn, LeavesCut, LeavesFront, LeavesProof, LeftBy}
@@ -199,12 +199,12 @@ accepted_status : (t : Parts) (s : Status) (line : List ℕ) → SaysOutcome t o
 accepted_status t s line h = h.1.2.ended
 
 pub kept_whole : (bytes : List ℕ) (effort : Effort) (b n before now : ℕ) (s : Status) (line : List ℕ) (old new : Known) (t : Parts)
-    → (¬ Rose before now) → (¬ Rose b n) → HasCause before now (s ≡ WriteFault) → length bytes ≤ file_limit → Spells bytes t
+    → effort.seconds ≡ None → (¬ Rose before now) → (¬ Rose b n) → HasCause before now (s ≡ WriteFault) → length bytes ≤ file_limit → Spells bytes t
     → IsOutcome t (reach_of effort) effort.turns outcome.Accepted → Checks (holds bytes) effort b n s line
     → LeavesProof (holds bytes) s old new → HoldsProof t old new
-kept_whole bytes effort b n before now s line old new t no_write no_read cause fits spells accepted (inl f) left =
+kept_whole bytes effort b n before now s line old new t no_limit no_write no_read cause fits spells accepted (inl f) left =
     absurd (none_refused bytes t b n s line no_read fits spells f)
-kept_whole bytes effort b n before now s line old new t no_write no_read cause fits spells accepted (inr c) left = go c.answers
+kept_whole bytes effort b n before now s line old new t no_limit no_write no_read cause fits spells accepted (inr c) left = go c.answers
   where
     same : c.task ≡ t
     same = one_spelled bytes c.task t (task_told (holds bytes) b n c.task c.gives bytes refl) spells
@@ -228,8 +228,9 @@ kept_whole bytes effort b n before now s line old new t no_write no_read cause f
     deeper text (inr (inr a)) = let unknown = decided Unknown a.line a.undecided in cc
 
     go : AnswersTask c.task effort s line → HoldsProof t old new
-    go (inl (inl a)) = deeper line a.1
-    go (inl (inr w)) = deeper w.line w.answers
+    go (inl (inl (inl a))) = deeper line a.1
+    go (inl (inl (inr w))) = deeper w.line w.answers
+    go (inl (inr r)) = absurd (let both : Some r.seconds ≡ None = sym r.given ∙ no_limit in cc)
     go (inr a) = absurd (no_write (cause.rose a.says.ended))
 
 -- ---- `check` of a task
@@ -243,12 +244,13 @@ unwritten t effort s u l m (inr w) e says =
     record { line = w.line; accepted = subst (λ (x : Status). AnswersDeeper t effort x w.line) e w.answers; says = says }
 
 -- the answer to a task that is accepted, once its proof was to be written
-pub written_answers : (t : Parts) (effort : Effort) (s u : Status) (l m : List ℕ) (P Q : Type 0) → AnswersWhy t effort s l → s ≡ Accepted
+pub written_answers : (t : Parts) (effort : Effort) (s u : Status) (l m : List ℕ) (P Q : Type 0) → AnswersInTime t effort s l → s ≡ Accepted
     → (Says s l u m × P) ⊎ (Says WriteFault (codes "WriteFault\n") u m × Q) → AnswersTask t effort u m
-written_answers t effort s u l m P Q a e (inl h) =
-    inl (subst (λ (x : Status). AnswersWhy t effort x m) (sym h.0.ended)
-    (subst (λ (x : List ℕ). AnswersWhy t effort s x) (sym h.0.printed) a))
-written_answers t effort s u l m P Q a e (inr h) = inr (unwritten t effort s u l m a e h.0)
+written_answers t effort s u l m P Q (inl a) e (inl h) =
+    inl (inl (subst (λ (x : Status). AnswersWhy t effort x m) (sym h.0.ended)
+    (subst (λ (x : List ℕ). AnswersWhy t effort s x) (sym h.0.printed) a)))
+written_answers t effort s u l m P Q (inl a) e (inr h) = inr (unwritten t effort s u l m a e h.0)
+written_answers t effort s u l m P Q (inr r) e h = absurd (let both : Unknown ≡ Accepted = sym r.says.ended ∙ e in cc)
 
 pub written_cut : (t : Parts) (old new : Known) (proof : List ℕ) → Passes t proof → HasVersion t proof → IsBegun proof old new
     → LeftCut t old new

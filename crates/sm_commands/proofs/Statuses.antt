@@ -10,6 +10,8 @@ use Rattle.sm_houdini.specs.Outcomes.{Outcome}
 use Rattle.sm_commands.specs.Top.{Checks, Generates, Tells}
 use Rattle.sm_commands.specs.Check.{AnswersCheck, SaysOutcome, ShowsFrom}
 use Rattle.sm_commands.specs.Deeper.{AnswersDeeper}
+use Rattle.sm_commands.specs.Gen.{AnswersGenInTime}
+use Rattle.sm_commands.specs.Seconds.{RunsOut}
 use Rattle.sm_commands.specs.Why.{AnswersTask}
 use Rattle.sm_commands.specs.Suggest.{AnswersSuggest, SaysSuggestion, Suggests}
 use Rattle.sm_syntax.specs.declared.copies.CopyName.{CopyName}
@@ -56,6 +58,10 @@ deeper_status t effort status text (inr (inl a)) =
     (same_as status Conflict (shown_status t a.number _ a.verdict status text a.shows) of_conflict).of_command
 deeper_status t effort status text (inr (inr a)) = (same_as status Accepted a.says.2.ended of_accepted).of_command
 
+-- nor does it write that the time is over
+pub over_status : (effort : Effort) (status : Status) (text : List ℕ) → RunsOut effort status text → WritesNothing status
+over_status effort status text r = same_as status Unknown r.says.ended of_unknown
+
 -- what every answer to `check` says of its status
 pub record IsToCheck (before now : ℕ) (status : Status) : Type 0 where
   pub of_command : IsOfCommand status
@@ -69,16 +75,18 @@ check_to_command file effort before now status text (inl f) =
 check_to_command file effort before now status text (inr c) = record { of_command = go c.answers; quiet = λ h. c.gives.read.quiet }
   where
     go : AnswersTask c.task effort status text → IsOfCommand status
-    go (inl (inl a)) = deeper_status c.task effort status text a.1
-    go (inl (inr w)) = deeper_status c.task effort status w.line w.answers
+    go (inl (inl (inl a))) = deeper_status c.task effort status text a.1
+    go (inl (inl (inr w))) = deeper_status c.task effort status w.line w.answers
+    go (inl (inr r)) = (over_status effort status text r).of_command
     go (inr a) = subst IsOfCommand (sym a.says.ended) of_write
 
 pub gen_to_command : (seed size : ℕ) (effort : Effort) (before now : ℕ) (status : Status) (text : List ℕ)
     → Generates seed size effort before now status text → IsToCommand before now status
-gen_to_command seed size effort before now status text g = record {
-  of_command = checked_status (generated seed size) effort status g.answers.answer g.answers.answers;
-  quiet = λ h. g.quiet;
-}
+gen_to_command seed size effort before now status text g = record { of_command = go g.answers; quiet = λ h. g.quiet }
+  where
+    go : AnswersGenInTime seed size effort status text → WritesNothing status
+    go (inl a) = checked_status (generated seed size) effort status a.answer a.answers
+    go (inr r) = over_status effort status text r
 
 pub print_to_command : (file : Known) (copy : Option CopyName) (before now : ℕ) (status : Status) (text : List ℕ)
     → Prints file copy before now status text → IsToCommand before now status
@@ -90,7 +98,8 @@ print_to_command file copy before now status text (inr c) =
 suggested_status : (t : Parts) (effort : Effort) (status : Status) (text : List ℕ) → AnswersSuggest t effort status text
     → WritesNothing status
 suggested_status t effort status text (inl h) = same_as status Refused h.1.ended of_refused
-suggested_status t effort status text (inr h) = go h.1 h.2
+suggested_status t effort status text (inr (inr r)) = over_status effort status text r
+suggested_status t effort status text (inr (inl h)) = go h.1 h.2
   where
     go : (found : Option ℕ) → SaysSuggestion t effort found status text → WritesNothing status
     go None s = same_as status Unknown s.1.ended of_unknown

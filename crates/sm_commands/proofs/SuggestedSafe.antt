@@ -23,7 +23,8 @@ use Rattle.sm_answers.proofs.Statuses.{without_task}
 pub accepted_suggestion : (t : Parts) (effort : Effort) (status : Status) (text bytes : List ℕ) → Spells bytes t
     → AnswersSuggest t effort status text → status ≡ Accepted → IsSafeSuggestion text bytes
 accepted_suggestion t effort status text bytes spells (inl h) e = let is = h.1.ended in cc
-accepted_suggestion t effort status text bytes spells (inr h) e = go h.1 h.2
+accepted_suggestion t effort status text bytes spells (inr (inr r)) e = let is = r.says.ended in cc
+accepted_suggestion t effort status text bytes spells (inr (inl h)) e = go h.1 h.2
   where
     go : (found : Option ℕ) → SaysSuggestion t effort found status text → IsSafeSuggestion text bytes
     go None s = let is = s.1.ended in cc
@@ -78,12 +79,12 @@ pub some_answered : (t : Parts) (effort : Effort) (k : ℕ) (r : Result Reply Al
     → IsFirst (λ (u : Parts) (answer : Bool). Decides u effort answer) t k
     → IfOk r (λ p. Says Accepted (suggestion_line (choices (hole_count t) k)) p.status p.text.items)
     → IfOk r (λ p. AnswersSuggest t effort p.status p.text.items)
-some_answered t effort k (Ok p) few first says = inr (few, Some k, (first, says))
+some_answered t effort k (Ok p) few first says = inr (inl (few, Some k, (first, says)))
 some_answered t effort k (Err e) few first says = tt
 
 -- and of which none is
 pub none_answered : (t : Parts) (effort : Effort) (r : Result Reply AllocError) → hole_count t ≤ 8
     → AllRefused (λ (u : Parts) (answer : Bool). Decides u effort answer) t
     → IfOk r (λ p. Says Unknown none_line p.status p.text.items) → IfOk r (λ p. AnswersSuggest t effort p.status p.text.items)
-none_answered t effort (Ok p) few all says = inr (few, None, (all, says))
+none_answered t effort (Ok p) few all says = inr (inl (few, None, (all, says)))
 none_answered t effort (Err e) few all says = tt

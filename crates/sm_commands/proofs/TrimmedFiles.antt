@@ -16,8 +16,8 @@ use Rattle.sm_answers.specs.declared.status.Status.{Status}
 use Rattle.sm_answers.specs.declared.status.Status.TheVariants.{Accepted, WriteFault}
 use Rattle.sm_commands.proofs.FilesLemmas.{ends_by, leaves_cut, leaves_front, leaves_same, written_cut}
 use Rattle.sm_commands.specs.ProofFile.{HoldsProof, IsTaskIn, LeavesCut, LeavesFront, LeavesProof, LeftBy, LeftCut}
-use Rattle.sm_commands.specs.Top.{Files, LeavesBy, LeavesFiles, LeavesPart, LeavesPartBy}
-use Rattle.sm_commands.specs.Trim.{AnswersPassing, AnswersTrim, HoldsTrimmed, LeavesTrimmed, LeftTrimmed, line_count, trimmed_line}
+use Rattle.sm_commands.specs.Top.{Files, LeavesBy, LeavesFiles, LeavesPart, LeavesPartBy, TellsBy}
+use Rattle.sm_commands.specs.Trim.{HoldsTrimmed, LeavesTrimmed, LeftTrimmed, TellsOfTask, TellsTrimmed, line_count, trimmed_line}
 use Rattle.sm_commands.specs.Views.{EndsWith}
 use Rattle.sm_words.specs.Words.{Asked, trim}
 
@@ -36,47 +36,20 @@ leaves_proof file s before now (inr h) = inr (h.0, h.1, left_proof h.0 s before 
 
 -- ---- what is written
 
--- the answer to a proof that passes, once the trimmed one was to be written
-pub put_answers : (t : Parts) (bytes lean : List ℕ) (s u : Status) (l m : List ℕ) (P Q : Type 0) → Passes t lean → HasNamedLines lean →
-    s ≡ Accepted → l ≡ trimmed_line (line_count bytes) (line_count lean) →
-    (Says s l u m × P) ⊎ (Says WriteFault (codes "WriteFault\n") u m × Q) → AnswersPassing t bytes u m
-put_answers t bytes lean s u l m P Q passes named e is (inl h) =
-    inl (record {
-      lean = lean;
-      passes = passes;
-      named = named;
-      says = record { ended = h.0.ended ∙ e; printed = h.0.printed ∙ is };
-    })
-put_answers t bytes lean s u l m P Q passes named e is (inr h) = inr (inr h.0)
-
-pub put_left : (t : Parts) (s u : Status) (l m : List ℕ) (old new : Known) (lean : List ℕ) → s ≡ Accepted → Passes t lean →
-    HasVersion t lean → HasNamedLines lean →
-    (Says s l u m × (new ≡ longer (emptied old) lean)) ⊎ (Says WriteFault (codes "WriteFault\n") u m × IsBegun lean old new) →
-    LeftTrimmed t u old new
-put_left t s u l m old new lean e passes dated named (inl h) =
-    inl (h.0.ended ∙ e, record { proof = lean; passes = passes; version = dated; named = named; holds = h.1 })
-put_left t s u l m old new lean e passes dated named (inr h) = inr (inl (h.0.ended, written_cut t old new lean passes dated h.1))
-
-pub put_answered : (t : Parts) (bytes lean : List ℕ) (s : Status) (l : List ℕ) (P Q : Type 0) (r : Result Reply AllocError) →
-    Passes t lean → HasNamedLines lean → s ≡ Accepted → l ≡ trimmed_line (line_count bytes) (line_count lean) →
-    IfOk r (λ (u : Reply). (Says s l u.status u.text.items × P) ⊎ (Says WriteFault (codes "WriteFault\n") u.status u.text.items × Q)) →
-    IfOk r (λ (u : Reply). AnswersPassing t bytes u.status u.text.items)
-put_answered t bytes lean s l P Q (Ok u) passes named e is h =
-    put_answers t bytes lean s u.status l u.text.items P Q passes named e is h
-put_answered t bytes lean s l P Q (Err error) passes named e is h = tt
-
-pub put_leaves : (t : Parts) (s : Status) (l : List ℕ) (old new : Known) (lean : List ℕ) (r : Result Reply AllocError) → s ≡ Accepted →
-    Passes t lean → HasVersion t lean → HasNamedLines lean →
+-- once the trimmed proof was to be written, the answer tells how many lines it has
+pub put_told : (t : Parts) (bytes lean : List ℕ) (s : Status) (l : List ℕ) (old new : Known) (Q : Type 0) (r : Result Reply AllocError) →
+    Passes t lean → HasVersion t lean → HasNamedLines lean → l ≡ trimmed_line (line_count bytes) (line_count lean) →
     IfOk r (λ (u : Reply). (Says s l u.status u.text.items × (new ≡ longer (emptied old) lean))
-    ⊎ (Says WriteFault (codes "WriteFault\n") u.status u.text.items × IsBegun lean old new)) →
-    IfOk r (λ (u : Reply). LeftTrimmed t u.status old new)
-put_leaves t s l old new lean (Ok u) e passes dated named h = put_left t s u.status l u.text.items old new lean e passes dated named h
-put_leaves t s l old new lean (Err error) e passes dated named h = tt
-
-pub put_cut : (t : Parts) (old new : Known) (lean : List ℕ) (r : Result Reply AllocError) → Passes t lean → HasVersion t lean →
-    OnErr r (IsBegun lean old new) → OnErr r (LeftCut t old new)
-put_cut t old new lean (Ok u) passes dated h = tt
-put_cut t old new lean (Err error) passes dated h = written_cut t old new lean passes dated h
+    ⊎ (Says WriteFault (codes "WriteFault\n") u.status u.text.items × Q)) →
+    IfOk r (λ (u : Reply). u.status ≡ Accepted → TellsTrimmed t u.text.items old new)
+put_told t bytes lean s l old new Q (Ok u) passes dated named is (inl h) = λ e. record {
+  held = record { proof = lean; passes = passes; version = dated; named = named; holds = h.1 };
+  lines = line_count bytes;
+  told = h.0.printed ∙ is;
+}
+put_told t bytes lean s l old new Q (Ok u) passes dated named is (inr h) =
+    λ e. absurd (let both : WriteFault ≡ Accepted = sym h.0.ended ∙ e in cc)
+put_told t bytes lean s l old new Q (Err error) passes dated named is h = tt
 
 -- ---- one task
 
@@ -94,18 +67,21 @@ trimmed_kept file before now s old new quiet cause (inr (t, is, inl h)) = inr (t
 trimmed_kept file before now s old new quiet cause (inr (t, is, inr (inl h))) = absurd (quiet (cause.rose h.0))
 trimmed_kept file before now s old new quiet cause (inr (t, is, inr (inr h))) = inl h.1
 
-not_both : (s : Status) → s ≡ WriteFault → s ≡ Accepted → ⊥
-not_both s e f = cc
+-- what the answer tells of the file that is written, for the task of a file
+pub told_in : (file old mid new : Known) (t : Parts) (s : Status) (text : List ℕ) → IsTaskIn file t → mid ≡ old →
+    (s ≡ Accepted → TellsTrimmed t text mid new) → TellsOfTask file s text old new
+told_in file old mid new t s text is same tells = λ e. (t, is, subst (λ (k : Known). TellsTrimmed t text k new) same (tells e))
 
--- where it is accepted, the trimmed proof is there
-pub trimmed_whole : (file : Known) (s : Status) (old new : Known) → s ≡ Accepted → LeavesTrimmed file s old new →
-    (t : Parts) × IsTaskIn file t × HoldsTrimmed t old new
-trimmed_whole file s old new e (inl h) = absurd (h.0 e)
-trimmed_whole file s old new e (inr (t, is, inl h)) = (t, is, h.1)
-trimmed_whole file s old new e (inr (t, is, inr (inl h))) = absurd (not_both s h.0 e)
-trimmed_whole file s old new e (inr (t, is, inr (inr h))) = absurd (h.0 e)
+-- of another status nothing is told
+pub none_told : (file : Known) (s : Status) (text : List ℕ) (old new : Known) → s ≢ Accepted → TellsOfTask file s text old new
+none_told file s text old new never = λ e. absurd (never e)
 
 -- ---- the files of words
+
+-- what is told of the file that `trim` writes
+pub trim_tells_by : (o : Option Asked) (before now : Files) (s : Status) (text task proof out : List ℕ) → TellsBy o before s text now →
+    o ≡ Some (trim task proof out) → TellsOfTask (before task) s text (before out) (now out)
+trim_tells_by o before now s text task proof out h is = subst (λ (p : Option Asked). TellsBy p before s text now) is h
 
 -- what is left in the file that `trim` writes
 pub trim_left_by : (o : Option Asked) (before now : Files) (s : Status) (task proof out : List ℕ) → LeavesBy o before s now →

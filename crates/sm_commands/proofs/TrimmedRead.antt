@@ -17,9 +17,10 @@ use Rattle.sm_answers.specs.declared.status.Status.TheVariants.{Accepted, WriteF
 use Rattle.sm_answers.proofs.Answering.{stops_by}
 use Rattle.sm_answers.proofs.Statuses.{without_task}
 use Rattle.sm_commands.proofs.FilesLemmas.{still}
+use Rattle.sm_commands.proofs.TrimmedFiles.{none_told}
 use Rattle.sm_commands.specs.ProofFile.{LeavesFront}
 use Rattle.sm_commands.specs.Trim.{AnswersPassing, AnswersTrim, GivesNoProof, IsProofRead, LeavesTrimmed, Trims, TrimsByReads}
-use Rattle.sm_commands.specs.Trim.{trim_limit}
+use Rattle.sm_commands.specs.Trim.{TellsOfTask, trim_limit}
 use Rattle.sm_commands.specs.Views.{CountsWrites, EndsWith}
 
 -- ---- a proof's file that gives no bytes
@@ -96,6 +97,22 @@ pub no_proof_trimmed : (name proof : List ℕ) (before now : List Read) (file : 
 no_proof_trimmed name proof before now file b n =
     stops_by (GivesNoProof file b n) (TrimsByReads name proof before now)
     (λ s text none e. absurd (no_proof_accepts file b n s text none e))
+
+-- ---- what is told
+
+-- where no proof was given, nothing of the file that is written
+pub no_proof_told : (task file : Known) (b n : ℕ) (old new : Known) (stop : Exit) → ExitsWith (GivesNoProof file b n) stop →
+    ExitsWith (λ (s : Status) (text : List ℕ). TellsOfTask task s text old new) stop
+no_proof_told task file b n old new =
+    stops_by (GivesNoProof file b n) (λ (s : Status) (text : List ℕ). TellsOfTask task s text old new)
+    (λ s text none. none_told task s text old new (no_proof_accepts file b n s text none))
+
+-- where no task was given, neither
+pub none_told_of : (task file : Known) (b n : ℕ) (old new : Known) (stop : Exit) → ExitsWith (GivesNoTask file b n) stop →
+    ExitsWith (λ (s : Status) (text : List ℕ). TellsOfTask task s text old new) stop
+none_told_of task file b n old new =
+    stops_by (GivesNoTask file b n) (λ (s : Status) (text : List ℕ). TellsOfTask task s text old new)
+    (λ s text none. none_told task s text old new (without_task file b n s text none).not_accepted)
 
 -- ---- what is left
 

@@ -1,5 +1,5 @@
 -- Laws of answers. Public clauses cite it.
-use Rattle.std.specs.Prelude.{◌≡◌, ◌≢◌, ◌⊎◌, ℕ, false, List, Some}
+use Rattle.std.specs.Prelude.{◌≡◌, ◌≢◌, ◌⊎◌, ℕ, false, List, Some, None}
 use Rattle.sm_io.specs.Causes.{Rose}
 use Rattle.sm_io.specs.Files.{untold}
 use Rattle.sm_commands.specs.Top.{Files, IsAnswerTo}
@@ -43,15 +43,16 @@ with_cache cache (batch list others effort) = batch list cache effort
 with_cache cache (trim task proof out) = trim task proof out
 with_cache cache (about what) = about what
 
--- nothing beyond the stated search is asked for: neither `--deeper` nor `--why`; nor is `trim`, whose
--- second count of lines is free
+-- nothing beyond the stated search is asked for: neither `--deeper` nor `--why`, nor a limit of time;
+-- nor is `trim`, whose second count of lines is free
 abbrev pub IsPlain : Asked → Type 0
-IsPlain (check task proof effort) = (effort.deeper ≡ false) × (effort.why ≡ false)
+IsPlain (check task proof effort) =
+    (effort.deeper ≡ false) × (effort.why ≡ false) × (effort.seconds ≡ None)
 IsPlain (verify task proof workers) = Unit {0}
 IsPlain (replay task input turns) = Unit {0}
 IsPlain (print task copy) = Unit {0}
-IsPlain (suggest task effort) = Unit {0}
-IsPlain (gen seed size effort) = Unit {0}
+IsPlain (suggest task effort) = effort.seconds ≡ None
+IsPlain (gen seed size effort) = effort.seconds ≡ None
 IsPlain (explain task input turns) = Unit {0}
 IsPlain (batch list cache effort) = Unit {0}
 IsPlain (trim task proof out) = ⊥
@@ -69,8 +70,9 @@ AskAlike words others =
     × (asked others ≡ Some (with_cache cache (with_workers workers ask))))
 
 -- two answers to words that ask alike and told files, each without a fault to read or to write, are
--- equal, where the words ask for nothing beyond the stated search, neither `--deeper` nor `--why`, and
--- not for `trim`: a number of workers, or of tasks whose answers are kept, changes no byte
+-- equal, where the words ask for nothing beyond the stated search, neither `--deeper`, `--why` nor
+-- `--seconds`, and not for `trim`: a number of workers, or of tasks whose answers are kept, changes
+-- no byte
 abbrev pub OneAnswer : Type 0
 OneAnswer =
     (words others : Words) (files : Files) (before now earlier later : ℕ)

@@ -6,6 +6,7 @@ pub mod Top
 pub mod Laws
 pub mod Check
 pub mod Gen
+pub mod Seconds
 pub mod Suggest
 pub mod Deeper
 pub mod Why

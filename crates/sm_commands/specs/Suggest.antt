@@ -17,6 +17,7 @@ use Rattle.sm_words.specs.declared.effort.Effort.{Effort}
 use Rattle.sm_answers.specs.declared.status.Status.{Status}
 use Rattle.sm_answers.specs.declared.status.Status.TheVariants.{Accepted, Refused, Unknown}
 use Rattle.sm_commands.specs.Check.{reach_of}
+use Rattle.sm_commands.specs.Seconds.{RunsOut}
 
 -- whether a search accepts, by what it comes to
 abbrev pub is_accepted : Outcome (ℕ × Verdict) → Bool
@@ -43,11 +44,12 @@ SaysSuggestion t effort None status text =
     AllRefused (λ (u : Parts) (answer : Bool). Decides u effort answer) t
     × Says Unknown none_line status text
 
--- what is answered to a task: more than 8 holes are refused
+-- what is answered to a task: more than 8 holes are refused, and the time for it may be over
 abbrev pub AnswersSuggest : Parts → Effort → Status → List ℕ → Type 0
 AnswersSuggest t effort status text =
     ((8 < hole_count t) × Says Refused (many_holes_line (hole_count t)) status text)
-    ⊎ ((hole_count t ≤ 8) × (found : Option ℕ) × SaysSuggestion t effort found status text)
+    ⊎ (((hole_count t ≤ 8) × (found : Option ℕ) × SaysSuggestion t effort found status text)
+    ⊎ RunsOut effort status text)
 
 -- the file gives a task, to which `suggest` answers
 pub record SuggestsTask (file : Known) (effort : Effort) (before now : ℕ) (status : Status)

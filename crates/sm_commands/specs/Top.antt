@@ -8,11 +8,11 @@ use Rattle.sm_proof.specs.declared.word.Word.{Word}
 use Rattle.sm_syntax.specs.text.Parts.{Parts}
 use Rattle.sm_answers.specs.File.{GivesTask, GivesNoTask}
 use Rattle.sm_commands.specs.Batch.{Batches}
-use Rattle.sm_commands.specs.Gen.{AnswersGen}
+use Rattle.sm_commands.specs.Gen.{AnswersGenInTime}
 use Rattle.sm_commands.specs.Why.{AnswersTask}
 use Rattle.sm_commands.specs.ProofFile.{LeavesFront, LeavesProof}
 use Rattle.sm_commands.specs.Suggest.{Suggests}
-use Rattle.sm_commands.specs.Trim.{LeavesTrimmed, Trims}
+use Rattle.sm_commands.specs.Trim.{LeavesTrimmed, TellsOfTask, Trims}
 use Rattle.sm_answers.specs.Replay.{Replays}
 use Rattle.sm_answers.specs.Status.{Says}
 use Rattle.sm_answers.specs.Verify.{rejected_line, Verifies}
@@ -59,7 +59,7 @@ Checks file effort before now status text =
 pub record Generates (seed size : ℕ) (effort : Effort) (before now : ℕ) (status : Status)
     (text : List ℕ) : Type 0 where
   pub quiet : now ≡ before
-  pub answers : AnswersGen seed size effort status text
+  pub answers : AnswersGenInTime seed size effort status text
 
 -- what the program says of itself
 pub record Tells (what : About) (before now : ℕ) (status : Status) (text : List ℕ) : Type 0 where
@@ -106,6 +106,20 @@ LeavesFiles (trim task proof out) before status now =
     × LeavesTrimmed (before task) status (before out) (now out)
 LeavesFiles (about what) before status now = IsUnchanged before now
 
+-- what the text of an answer tells of the file that is written: that of `trim`, how many lines it has
+abbrev pub TellsFiles : Asked → Files → Status → List ℕ → Files → Type 0
+TellsFiles (check task proof effort) before status text now = Unit {0}
+TellsFiles (verify task proof workers) before status text now = Unit {0}
+TellsFiles (replay task input turns) before status text now = Unit {0}
+TellsFiles (print task copy) before status text now = Unit {0}
+TellsFiles (suggest task effort) before status text now = Unit {0}
+TellsFiles (gen seed size effort) before status text now = Unit {0}
+TellsFiles (explain task input turns) before status text now = Unit {0}
+TellsFiles (batch list cache effort) before status text now = Unit {0}
+TellsFiles (trim task proof out) before status text now =
+    TellsOfTask (before task) status text (before out) (now out)
+TellsFiles (about what) before status text now = Unit {0}
+
 -- what may be left in the files where memory is wanting
 abbrev pub LeavesPart : Asked → Files → Files → Type 0
 LeavesPart (check task proof effort) before now =
@@ -138,6 +152,11 @@ IsAnswerTo words files before now status text =
 abbrev pub LeavesBy : Option Asked → Files → Status → Files → Type 0
 LeavesBy None before status now = IsUnchanged before now
 LeavesBy (Some ask) before status now = LeavesFiles ask before status now
+
+-- what the text of an answer to words tells of it
+abbrev pub TellsBy : Option Asked → Files → Status → List ℕ → Files → Type 0
+TellsBy None before status text now = Unit {0}
+TellsBy (Some ask) before status text now = TellsFiles ask before status text now
 
 -- the same where memory is wanting
 abbrev pub LeavesPartBy : Option Asked → Files → Files → Type 0

@@ -114,6 +114,17 @@ pub record HoldsTrimmed (t : Parts) (before now : Known) : Type 0 where
   pub named : HasNamedLines proof
   pub holds : now ≡ longer (emptied before) proof
 
+-- the file holds such a proof, and the text tells how many lines that has
+pub record TellsTrimmed (t : Parts) (text : List ℕ) (before now : Known) : Type 0 where
+  pub held : HoldsTrimmed t before now
+  pub lines : ℕ
+  pub told : text ≡ trimmed_line lines (line_count held.proof)
+
+-- what Accepted says of the file that is written, for the task of a file
+abbrev pub TellsOfTask : Known → Status → List ℕ → Known → Known → Type 0
+TellsOfTask task status text before now =
+    status ≡ Accepted → (t : Parts) × IsTaskIn task t × TellsTrimmed t text before now
+
 -- what is left in the file by the answer to the task: such a proof where it is accepted, at most a
 -- front of a proof where that couldn't be written, and otherwise what it had
 abbrev pub LeftTrimmed : Parts → Status → Known → Known → Type 0

@@ -20,6 +20,7 @@ use Rattle.sm_answers.specs.declared.status.Status.TheVariants.{WriteFault, Sink
 use Rattle.sm_display.specs.Shown.{ShowsEnds}
 use Rattle.sm_commands.specs.Check.{reach_of, ShowsFrom}
 use Rattle.sm_commands.specs.Deeper.{AnswersDeeper, FailsToWrite}
+use Rattle.sm_commands.specs.Seconds.{RunsOut}
 
 -- what a search that decides nothing stopped at
 abbrev pub stop_in : Outcome (ℕ × Verdict) → Option Stop
@@ -80,7 +81,11 @@ abbrev pub AnswersWhy : Parts → Effort → Status → List ℕ → Type 0
 AnswersWhy t effort status text =
     ((effort.why ≡ false) × AnswersDeeper t effort status text) ⊎ Explained t effort status text
 
+-- or it is that the time for it is over
+abbrev pub AnswersInTime : Parts → Effort → Status → List ℕ → Type 0
+AnswersInTime t effort status text = AnswersWhy t effort status text ⊎ RunsOut effort status text
+
 -- and this may be a proof that couldn't be written whole
 abbrev pub AnswersTask : Parts → Effort → Status → List ℕ → Type 0
 AnswersTask t effort status text =
-    AnswersWhy t effort status text ⊎ FailsToWrite t effort status text
+    AnswersInTime t effort status text ⊎ FailsToWrite t effort status text

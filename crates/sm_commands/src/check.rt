@@ -38,7 +38,7 @@ pub struct Decided {
 }
 
 /// Where an input violates: an output, the index where it is an array, and the clause.
-#[derive(Clone, Copy, PartialEq, Eq)]
+#[derive(Clone, Copy)]
 pub struct Place {
     pub name: Name,
     pub index: Option<i128>,

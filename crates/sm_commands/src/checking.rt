@@ -1,6 +1,6 @@
 // What `check` answers to a task's file, and what it leaves in the proof's.
 ghost use Rattle.std.specs.Prelude.{◌≡◌, ◌≢◌, ◌⊎◌, ◌^◌, ◌<◌, ℕ, List, codes, length, IfOk, IfErr};
-ghost use Rattle.std.specs.Prelude.{OnErr};
+ghost use Rattle.std.specs.Prelude.{OnErr, option_map};
 ghost use Rattle.sm_io.specs.Causes.{HasCause};
 ghost use Rattle.sm_io.specs.Files.{emptied, longer};
 ghost use Rattle.sm_syntax.specs.text.Spells.{Spells};
@@ -9,14 +9,15 @@ ghost use Rattle.sm_text.specs.printing.Named.{HasText};
 ghost use Rattle.sm_answers.specs.Exit.{ExitsWith};
 ghost use Rattle.sm_answers.specs.ProofFile.{IsBegun};
 ghost use Rattle.sm_answers.specs.Status.{Says};
-ghost use Rattle.sm_commands.specs.Why.{AnswersTask};
+ghost use Rattle.sm_commands.specs.Why.{AnswersInTime, AnswersTask};
 ghost use Rattle.sm_commands.specs.ProofFile.{LeavesFront, LeavesProof, LeftBy, LeftCut};
 ghost use Rattle.sm_commands.specs.Readings.{ChecksRead};
 ghost use Rattle.sm_commands.specs.Top.{Checks};
-ghost use Rattle.sm_commands.specs.Views.{CountsWrites, EndsWith};
+ghost use Rattle.sm_commands.specs.Views.{ComesWith, CountsWrites, EndsWith};
 ghost use Rattle.sm_words.specs.Views.{HasWorkers};
 
 use crate::check::Decided;
+use crate::limit::{Limited, time_over};
 use crate::why::check_why;
 use sm_answers::{Exit, Reply, Spelled, Status, spelled_in, write_file};
 use sm_io::{IoError, Shelf};
@@ -24,6 +25,13 @@ use sm_par::Gate;
 use sm_words::{Effort, line};
 use std::alloc::{AllocError, Global};
 use std::thread::Threads;
+
+// The answer to a task, or that the time for it is over; with the proof where it is accepted.
+#[derive(Drop)]
+struct InTime {
+    reply: Reply,
+    proof: Option<Vec<u8>>,
+}
 
 /// The answer of `check` to a task's file and a proof's, which is written where the task is accepted.
 pub fn check_in<R: Threads + Sync, G: Gate, H: Shelf>(
@@ -86,15 +94,41 @@ fn check_task<R: Threads + Sync, G: Gate, H: Shelf>(
     ensures reads { H.read_faults shelf.new ≡ H.read_faults shelf.old }
     ensures keeps { H.given shelf.new ≡ H.given shelf.old }
 {
-    let decided = check_why(rt, alloc, gate, read, effort)?;
-    let Decided {
-        reply,
-        proof: text,
-        ground: _,
-    } = decided;
+    let decided = check_in_time(rt, alloc, gate, read, effort)?;
+    let InTime { reply, proof: text } = decided;
     match text {
         Some(text) => write_proof(alloc, shelf, reply, proof, &text),
         None => Ok(reply),
+    }
+}
+
+// The answer to a task, with the proof where it is accepted; or that the time for it is over.
+fn check_in_time<R: Threads + Sync, G: Gate>(
+    rt: &R,
+    alloc: Global,
+    gate: &G,
+    read: &Spelled,
+    effort: Effort,
+) -> Result<InTime, AllocError>
+    requires spelled { HasText (parts_of read.now.task) }
+    requires spells { Spells read.now.text.items (parts_of read.now.task) }
+    requires short { length read.now.text.items < 2 ^ 32 }
+    requires workers { HasWorkers effort }
+    ensures answers { IfOk result (λ d.
+        AnswersInTime (parts_of read.now.task) effort d.reply.status d.reply.text.items) }
+    ensures proof { IfOk result (λ d. ComesWith (parts_of read.now.task) d.reply.status
+        (option_map (λ v. v.items) d.proof)) }
+{
+    let limited = Limited {
+        gate,
+        seconds: effort.seconds,
+    };
+    match check_why(rt, alloc, &limited, read, effort) {
+        Ok(Decided { reply, proof, .. }) => Ok(InTime { reply, proof }),
+        Err(_) => {
+            let reply = time_over(alloc, gate, effort)?;
+            Ok(InTime { reply, proof: None })
+        }
     }
 }
 

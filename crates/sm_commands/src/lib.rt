@@ -6,7 +6,7 @@
 //!   or `Unknown` with the first goal that stays open. With `--exact` the search decides a branch
 //!   that nothing splits over whole numbers, and with `--deeper` inputs beyond the trials are run
 //!   where it decides nothing, and a proof is looked for along their runs; with `--why` words stand
-//!   behind the answer, which say why. `verify` prints `Accepted` exactly where the bytes of
+//!   behind the answer, which say why; with `--seconds` it may be that the time is over. `verify` prints `Accepted` exactly where the bytes of
 //!   a proof's file pass for the task, which is then free of conflicts, and else the number of the
 //!   first bad line and the word for what is wrong with it. `replay` judges one input exactly,
 //!   `print` puts the canonical text of a task, or of the program of a copy, `suggest` the first
@@ -18,7 +18,8 @@
 //!   or no input, and faults are answered exactly where they are met.
 //! - `one_answer` is the law that two answers to told files, without a fault, are equal where the
 //!   words are the same, or ask for the same with another number of workers or another `--cache`,
-//!   where they ask for `check` without `--deeper` and `--why`, or for another command but `trim`.
+//!   where they ask for `check` without `--deeper` and `--why`, or for another command but `trim`, and
+//!   without `--seconds`.
 //! - `Status::number` is the number with which the program ends.
 //!
 //! The claim is `ConflictFree` of the crate `sm_syntax`. Read `specs/Headline.antt` first: what
@@ -26,7 +27,7 @@
 //! say of the bytes that were read, on every shelf. `specs/HeadlineBatch.antt` has what a line
 //! `Accepted` of `batch` says of both. `specs/Top.antt` says what is answered, with
 //! `specs/Check.antt`, `specs/Deeper.antt`, `specs/Why.antt`, `specs/Suggest.antt`,
-//! `specs/Batch.antt`, `specs/Trim.antt` and `specs/Gen.antt`, `specs/File.antt`,
+//! `specs/Batch.antt`, `specs/Seconds.antt`, `specs/Trim.antt` and `specs/Gen.antt`, `specs/File.antt`,
 //! `specs/Verify.antt` and `specs/Replay.antt` of the crate `sm_answers`, and `specs/Print.antt` and
 //! `specs/Explain.antt` of `sm_display`; `specs/ProofFile.antt` what `check` writes, and
 //! `specs/Words.antt` of `sm_words` what the words ask for.
@@ -41,6 +42,7 @@ mod deeper;
 mod gathering;
 mod ground;
 mod laws;
+mod limit;
 mod making;
 mod replying;
 mod suggesting;

@@ -7,12 +7,13 @@ ghost use Rattle.sm_words.specs.Views.{asked_in, IsWithin};
 ghost use Rattle.sm_words.specs.Words.{asked};
 ghost use Rattle.sm_commands.specs.Readings.{AnswersByReads};
 ghost use Rattle.sm_commands.specs.Top.{IsAnswerTo, AnswersCommand, LeavesBy, LeavesFiles};
-ghost use Rattle.sm_commands.specs.Top.{LeavesPart, LeavesPartBy, WritesElsewhere};
+ghost use Rattle.sm_commands.specs.Top.{LeavesPart, LeavesPartBy, TellsBy, TellsFiles};
+ghost use Rattle.sm_commands.specs.Top.{WritesElsewhere};
 ghost use Rattle.sm_commands.specs.Views.{CountsWrites, EndsWith};
 
 use crate::batching::batch_in;
 use crate::checking::check_in;
-use crate::making::gen_answer;
+use crate::making::gen_in_time;
 use crate::suggesting::suggest_in;
 use crate::telling::{tell, usage};
 use crate::trimming::trim_in;
@@ -43,6 +44,8 @@ pub fn reply_to<R: Threads + Sync, G: Gate, H: Shelf>(
     ensures writes { MatchOption result (H.write_faults shelf.new ≡ H.write_faults shelf.old)
         (λ r. HasCause (H.write_faults shelf.old) (H.write_faults shelf.new)
         (r.status ≡ Status.WriteFault)) }
+    ensures tells { IfSome result (λ r. TellsBy (asked (map string_bytes words.now))
+        (H.file shelf.old) r.status r.text.items (H.file shelf.new)) }
 {
     match answer(rt, alloc, gate, words, shelf) {
         Ok(reply) => Some(reply),
@@ -73,6 +76,11 @@ fn answer<R: Threads + Sync, G: Gate, H: Shelf>(
         (LeavesPartBy (asked (map string_bytes words.now)) (H.file shelf.old) (H.file shelf.new))
         result }
     ensures writes { CountsWrites (H.write_faults shelf.old) (H.write_faults shelf.new) result }
+    ensures tells { IfOk result (λ r. TellsBy (asked (map string_bytes words.now))
+        (H.file shelf.old) r.status r.text.items (H.file shelf.new)) }
+    ensures exit_tells { IfErr result (ExitsWith (λ status text.
+        TellsBy (asked (map string_bytes words.now)) (H.file shelf.old) status text
+        (H.file shelf.new))) }
 {
     match read_words(alloc, words) {
         Ok(request) => answer_to(rt, alloc, gate, request, shelf),
@@ -103,6 +111,11 @@ fn answer_to<R: Threads + Sync, G: Gate, H: Shelf>(
         (λ status. LeavesFiles (asked_in request.entry) (H.file shelf.old) status (H.file shelf.new))
         (LeavesPart (asked_in request.entry) (H.file shelf.old) (H.file shelf.new)) result }
     ensures writes { CountsWrites (H.write_faults shelf.old) (H.write_faults shelf.new) result }
+    ensures tells { IfOk result (λ r. TellsFiles (asked_in request.entry)
+        (H.file shelf.old) r.status r.text.items (H.file shelf.new)) }
+    ensures exit_tells { IfErr result (ExitsWith (λ status text.
+        TellsFiles (asked_in request.entry) (H.file shelf.old) status text
+        (H.file shelf.new))) }
 {
     match request {
         Request::Check {
@@ -119,7 +132,7 @@ fn answer_to<R: Threads + Sync, G: Gate, H: Shelf>(
         Request::Print { task, copy } => print_in(alloc, shelf, task, copy),
         Request::Suggest { task, effort } => suggest_in(rt, alloc, gate, shelf, task, effort),
         Request::Gen { seed, size, effort } => {
-            Ok(gen_answer(rt, alloc, gate, seed, size, effort)?)
+            Ok(gen_in_time(rt, alloc, gate, seed, size, effort)?)
         }
         Request::Explain { task, input, turns } => explain_in(alloc, shelf, task, input, turns),
         Request::Batch {

@@ -13,6 +13,7 @@ ghost use Rattle.sm_commands.specs.Readings.{ProposesRead};
 ghost use Rattle.sm_commands.specs.Suggest.{is_accepted, AnswersSuggest, Decides, Suggests};
 ghost use Rattle.sm_words.specs.Views.{HasWorkers};
 
+use crate::limit::{Limited, time_over};
 use sm_answers::{Exit, Reply, Status, many_holes_line, none_line, suggestion_line, task_in};
 use sm_houdini::{Outcome, Proof, proof_text, search};
 use sm_io::Shelf;
@@ -45,7 +46,33 @@ pub fn suggest_in<R: Threads + Sync, G: Gate, H: Shelf>(
     ensures writes { H.write_faults shelf.new ≡ H.write_faults shelf.old }
 {
     let task = task_in(alloc, shelf, name)?;
-    Ok(suggest_answer(rt, alloc, gate, &task, effort)?)
+    Ok(suggest_in_time(rt, alloc, gate, &task, effort)?)
+}
+
+// The answer to a task that some text spells, or that the time for it is over.
+fn suggest_in_time<R: Threads + Sync, G: Gate>(
+    rt: &R,
+    alloc: Global,
+    gate: &G,
+    task: &Task,
+    effort: Effort,
+) -> Result<Reply, AllocError>
+    requires spelled { HasText (parts_of task.now) }
+    requires workers { HasWorkers effort }
+    ensures { IfOk result (λ r.
+        AnswersSuggest (parts_of task.now) effort r.status r.text.items) }
+{
+    let limited = Limited {
+        gate,
+        seconds: effort.seconds,
+    };
+    match suggest_answer(rt, alloc, &limited, task, effort) {
+        Ok(reply) => Ok(reply),
+        Err(_) => {
+            let reply = time_over(alloc, gate, effort)?;
+            Ok(reply)
+        }
+    }
 }
 
 // The answer to a task that some text spells: the first combination of its fillings that its search

@@ -1,5 +1,5 @@
 // The top call: words, files and standard output.
-ghost use Rattle.std.specs.Prelude.{◌≡◌, ◌≢◌, ◌⊎◌, ◌↔◌, ◌≤◌, ℕ, List, Some, length, map};
+ghost use Rattle.std.specs.Prelude.{◌≡◌, ◌≢◌, ◌⊎◌, ◌↔◌, ◌≤◌, ℕ, List, Some, None, length, map};
 ghost use Rattle.std.specs.String.{string_bytes};
 ghost use Rattle.sm_houdini.specs.Outcomes as outcome;
 ghost use Rattle.sm_houdini.specs.Outcomes.{IsOutcome};
@@ -20,7 +20,7 @@ ghost use Rattle.sm_commands.specs.HeadlineRead.{AcceptsRead, ConflictsRead, Rea
 ghost use Rattle.sm_commands.specs.HeadlineRead.{ShowsReadInput, SuggestsRead};
 ghost use Rattle.sm_commands.specs.ProofFile.{HoldsProof, IsTaskIn, LeavesCut, LeavesFront};
 ghost use Rattle.sm_commands.specs.Suggest.{IsSafeSuggestion};
-ghost use Rattle.sm_commands.specs.Trim.{HoldsTrimmed};
+ghost use Rattle.sm_commands.specs.Trim.{HoldsTrimmed, TellsTrimmed};
 ghost use Rattle.sm_commands.specs.Top.{IsAnswerTo, IsPrinted, PutsPart, RejectsProof};
 
 use crate::replying::reply_to;
@@ -156,13 +156,14 @@ pub fn safemerge<R: Threads + Sync, G: Gate, H: Shelf, K: Sink>(
     ensures unfinished { result ≡ Status.WriteFault → (task proof : List ℕ) (effort : Effort) →
         asked (map string_bytes words.now) ≡ Some (check task proof effort) →
         LeavesCut (H.file shelf.old task) (H.file shelf.old proof) (H.file shelf.new proof) }
-    // Where the output fails and no count of the shelf rose, the proof of an accepted task is there.
+    // Where the output fails and no count of the shelf rose, the proof of an accepted task is there, if
+    // the search has no limit of time.
     ensures kept { result ≡ Status.SinkFault →
         (¬ Rose (H.write_faults shelf.old) (H.write_faults shelf.new)) →
         (¬ Rose (H.read_faults shelf.old) (H.read_faults shelf.new)) →
         (task proof bytes : List ℕ) (effort : Effort) (t : Parts) →
         asked (map string_bytes words.now) ≡ Some (check task proof effort) →
-        H.file shelf.old task ≡ holds bytes → length bytes ≤ file_limit → Spells bytes t →
+        effort.seconds ≡ None → H.file shelf.old task ≡ holds bytes → length bytes ≤ file_limit → Spells bytes t →
         IsOutcome t (reach_of effort) effort.turns outcome.Accepted →
         HoldsProof t (H.file shelf.old proof) (H.file shelf.new proof) }
 
@@ -171,10 +172,12 @@ pub fn safemerge<R: Threads + Sync, G: Gate, H: Shelf, K: Sink>(
         (task proof out : List ℕ) →
         asked (map string_bytes words.now) ≡ Some (trim task proof out) →
         H.file shelf.new out ≡ H.file shelf.old out }
-    ensures trimmed { result ≡ Status.Accepted → (task proof out : List ℕ) →
-        asked (map string_bytes words.now) ≡ Some (trim task proof out) →
-        (t : Parts) × IsTaskIn (H.file shelf.old task) t
-        × HoldsTrimmed t (H.file shelf.old out) (H.file shelf.new out) }
+    // What `trim` prints with Trimmed tells how many lines the file has then.
+    ensures trimmed { result ≡ Status.Accepted → (task proof into : List ℕ) →
+        asked (map string_bytes words.now) ≡ Some (trim task proof into) → (text : List ℕ)
+        × (t : Parts) × IsTaskIn (H.file shelf.old task) t
+        × TellsTrimmed t text (H.file shelf.old into) (H.file shelf.new into)
+        × Adds (K.taken out.old) (K.taken out.new) text }
     ensures trimmed_front { (task proof out : List ℕ) →
         asked (map string_bytes words.now) ≡ Some (trim task proof out) →
         LeavesFront (H.file shelf.old task) (H.file shelf.old out) (H.file shelf.new out) }

@@ -12,7 +12,7 @@ ghost use Rattle.sm_check.specs.Checkable.{IsCheckable};
 ghost use Rattle.sm_commands.specs.ProofFile.{LeavesFront, LeftCut};
 ghost use Rattle.sm_commands.specs.Trim.{AnswersPassing, AnswersTrim, GivesNoProof, IsProofRead};
 ghost use Rattle.sm_commands.specs.Trim.{line_count, trimmed_line, LeavesTrimmed, LeftTrimmed};
-ghost use Rattle.sm_commands.specs.Trim.{Trims, TrimsByReads};
+ghost use Rattle.sm_commands.specs.Trim.{TellsOfTask, TellsTrimmed, Trims, TrimsByReads};
 ghost use Rattle.sm_commands.specs.Views.{CountsWrites, EndsWith};
 
 use crate::checking::write_proof;
@@ -57,6 +57,11 @@ pub fn trim_in<H: Shelf>(
     ensures others { (other : List ℕ) → other ≢ out.now →
         H.file shelf.new other ≡ H.file shelf.old other }
     ensures writes { CountsWrites (H.write_faults shelf.old) (H.write_faults shelf.new) result }
+    ensures tells { IfOk result (λ r. TellsOfTask (H.file shelf.old name.now) r.status r.text.items
+        (H.file shelf.old out.now) (H.file shelf.new out.now)) }
+    ensures exit_tells { IfErr result (ExitsWith (λ status text. TellsOfTask
+        (H.file shelf.old name.now) status text
+        (H.file shelf.old out.now) (H.file shelf.new out.now))) }
 {
     let task = task_in(alloc, shelf, name)?;
     let bytes = proof_in(alloc, shelf, proof)?;
@@ -101,6 +106,9 @@ fn trim_bytes<H: Shelf>(
         AnswersTrim (parts_of task.now) bytes.now r.status r.text.items) }
     ensures left { IfOk result (λ r. LeftTrimmed (parts_of task.now) r.status
         (H.file shelf.old out.now) (H.file shelf.new out.now)) }
+    ensures tells { IfOk result (λ r. r.status ≡ Status.Accepted →
+        TellsTrimmed (parts_of task.now) r.text.items
+        (H.file shelf.old out.now) (H.file shelf.new out.now)) }
     ensures front { OnErr result (LeftCut (parts_of task.now)
         (H.file shelf.old out.now) (H.file shelf.new out.now)) }
     ensures others { (other : List ℕ) → other ≢ out.now →
@@ -132,6 +140,9 @@ fn put_lean<H: Shelf>(
     ensures answers { IfOk result (λ r.
         AnswersPassing (parts_of task.now) bytes.now r.status r.text.items) }
     ensures left { IfOk result (λ r. LeftTrimmed (parts_of task.now) r.status
+        (H.file shelf.old out.now) (H.file shelf.new out.now)) }
+    ensures tells { IfOk result (λ r. r.status ≡ Status.Accepted →
+        TellsTrimmed (parts_of task.now) r.text.items
         (H.file shelf.old out.now) (H.file shelf.new out.now)) }
     ensures front { OnErr result (LeftCut (parts_of task.now)
         (H.file shelf.old out.now) (H.file shelf.new out.now)) }

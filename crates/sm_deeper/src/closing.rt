@@ -41,7 +41,7 @@ pub(crate) fn shared_node(
 }
 
 /// What the walk of a goal comes to.
-#[derive(Clone, Copy, PartialEq, Eq)]
+#[derive(Clone, Copy)]
 pub(crate) enum WalkEnd {
     Closed,
     /// A branch stays open, or a coefficient leaves the range.

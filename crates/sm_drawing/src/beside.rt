@@ -14,7 +14,7 @@ use sm_text::Task;
 use std::alloc::{AllocError, Global};
 
 // What the copies of a set do next with what is left of a hole's fillings.
-#[derive(Clone, Copy, PartialEq, Eq)]
+#[derive(Clone, Copy)]
 enum BesideMove {
     Done,
     Step(CopyName),

@@ -19,7 +19,7 @@ const MOST_NODES: u64 = 4_000;
 
 /// How a plan is drawn: with late summaries of loops or not, and with summaries of ifs that all
 /// copies come to at once, or without.
-#[derive(Clone, Copy, PartialEq, Eq)]
+#[derive(Clone, Copy)]
 pub struct Style {
     pub is_second: bool,
     pub is_coarse: bool,

@@ -158,7 +158,7 @@ fn put_turn(
 }
 
 // What a turn comes to: the runs go on, are behind the loops, or are left.
-#[derive(Clone, Copy, PartialEq, Eq)]
+#[derive(Clone, Copy)]
 enum Taken {
     On,
     Out,

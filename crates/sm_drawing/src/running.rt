@@ -11,7 +11,7 @@ use sm_syntax::{Block, Cond, Expr, Name, Stmt};
 use std::alloc::AllocError;
 
 /// Why a run is left before its end.
-#[derive(Clone, Copy, PartialEq, Eq)]
+#[derive(Clone, Copy)]
 pub(crate) enum Leave {
     /// An operation leaves 128 bits, a loop takes too many turns, the runs take too many steps, or
     /// a name has no value.
@@ -36,7 +36,7 @@ impl From<EvalError> for Leave {
 }
 
 /// How many turns a loop may take each time it is met, and how many steps may still be taken.
-#[derive(Clone, Copy, PartialEq, Eq)]
+#[derive(Clone, Copy)]
 pub(crate) struct Bound {
     pub(crate) turns: u64,
     pub(crate) steps: u64,

@@ -10,7 +10,7 @@ use sm_text::Task;
 use std::alloc::{AllocError, Global};
 
 /// How a copy does its first statement.
-#[derive(Clone, Copy, PartialEq, Eq)]
+#[derive(Clone, Copy)]
 pub(crate) enum Way {
     Statement,
     Summary,

@@ -3,7 +3,7 @@ use crate::inputs::{ELEMENTS, InputCell};
 use std::alloc::{AllocError, Global};
 
 /// Cells of inputs that move together: one cell, or all of an array.
-#[derive(Clone, Copy, PartialEq, Eq)]
+#[derive(Clone, Copy)]
 pub struct Coordinate {
     first: usize,
     count: usize,

@@ -3,7 +3,7 @@ use sm_eval::EvalError;
 use std::alloc::{AllocError, AllocFailed};
 
 /// Why a watched run is left before its end.
-#[derive(Clone, Copy, PartialEq, Eq)]
+#[derive(Clone, Copy)]
 pub enum Leave {
     /// An operation leaves 128 bits, a loop takes too many turns, or the run too many steps.
     Event,
@@ -27,7 +27,7 @@ impl From<EvalError> for Leave {
 }
 
 /// Why the search ends before all is tried.
-#[derive(Clone, Copy, PartialEq, Eq)]
+#[derive(Clone, Copy)]
 pub enum Halt {
     /// From the input at a place among all the ends break the condition. So many were made before
     /// it, beyond the stated trials.

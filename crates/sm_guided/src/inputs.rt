@@ -12,7 +12,7 @@ use std::alloc::{AllocError, Global};
 pub const ELEMENTS: u8 = 8;
 
 /// A cell that has a number in each input: a number variable, or an element of an array.
-#[derive(Clone, Copy, PartialEq, Eq)]
+#[derive(Clone, Copy)]
 pub struct InputCell {
     pub name: Name,
     pub index: Option<u8>,

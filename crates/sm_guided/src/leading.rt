@@ -180,7 +180,7 @@ fn nearer_than(sign: Sign, than: i128, at: Option<At>) -> Option<At> {
 }
 
 // How far an input is to be raised: so much, and where that isn't exact, perhaps one more.
-#[derive(Clone, Copy, PartialEq, Eq)]
+#[derive(Clone, Copy)]
 struct Step {
     whole: i128,
     next: Option<i128>,

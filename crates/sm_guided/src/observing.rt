@@ -188,7 +188,7 @@ fn write(a: Name, i: &Expr, e: &Expr, s: &mut Store, watch: &mut Watch<'_>) -> R
 }
 
 // Whether a condition holds, and the place behind it.
-#[derive(Clone, Copy, PartialEq, Eq)]
+#[derive(Clone, Copy)]
 struct Guard {
     holds: bool,
     behind: usize,

@@ -4,7 +4,7 @@ use std::alloc::{AllocError, Global};
 
 /// What is known of a statement before it is run. Statements are numbered in the order of the text,
 /// and so are places: a place is a comparison in a guard of an `if` or a loop.
-#[derive(Clone, Copy, PartialEq, Eq)]
+#[derive(Clone, Copy)]
 pub struct Line {
     /// How many steps it takes to compute its expressions, or its guard.
     pub steps: u64,

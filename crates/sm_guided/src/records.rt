@@ -1,7 +1,7 @@
 // What runs show of a place: the differences with which they visit it.
 
 /// A sign of a difference, in the order in which they are looked for.
-#[derive(Clone, Copy, PartialEq, Eq)]
+#[derive(Clone, Copy)]
 pub enum Sign {
     Zero,
     Below,
@@ -20,7 +20,7 @@ impl Sign {
 }
 
 /// A set of signs.
-#[derive(Clone, Copy, PartialEq, Eq)]
+#[derive(Clone, Copy)]
 pub struct Signs {
     zero: bool,
     below: bool,
@@ -66,7 +66,7 @@ impl Signs {
 }
 
 /// What one run shows of a place that it visits.
-#[derive(Clone, Copy, PartialEq, Eq)]
+#[derive(Clone, Copy)]
 pub struct Note {
     /// The difference of the least size, at the first visit with that size.
     pub difference: i128,
@@ -97,14 +97,14 @@ impl Note {
 }
 
 /// A run that visits a place: the place of its input among all, and the difference of its note.
-#[derive(Clone, Copy, PartialEq, Eq)]
+#[derive(Clone, Copy)]
 pub struct Visit {
     pub input: usize,
     pub difference: i128,
 }
 
 /// What all runs so far show of a place.
-#[derive(Clone, Copy, PartialEq, Eq)]
+#[derive(Clone, Copy)]
 pub struct Record {
     /// The signs of the differences at all visits.
     pub signs: Signs,

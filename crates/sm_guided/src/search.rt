@@ -15,7 +15,7 @@ const MOST_MADE: u64 = 1_024;
 const SEARCH_STEPS: u64 = 200_000_000;
 
 /// A place of a copy's program and a sign: what a run is looked for to show.
-#[derive(Clone, Copy, PartialEq, Eq)]
+#[derive(Clone, Copy)]
 pub struct Target {
     pub copy: CopyName,
     pub place: usize,

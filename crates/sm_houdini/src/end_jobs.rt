@@ -25,7 +25,7 @@ ghost use Rattle.sm_houdini.specs.EndJobs.{AreRunEnds, ArePlanEnds, size_of};
 
 use crate::dealing::placed;
 use crate::ending::Stop;
-use crate::goal_jobs::Crew;
+use crate::goal_jobs::{Crew, parts_of};
 use crate::run_ends::{PlanEnds, RunEnd};
 use sm_cert::CertTree;
 use sm_expand::Due;
@@ -56,19 +56,19 @@ pub(crate) fn end_by_jobs<R: Threads + Sync, G: Gate>(
         (FinalStops (walk sorts reach) ds)) }
     ensures widens { Widens table.old table.new }
 {
-    let each = runs_each(dues.len(), crew.workers as usize);
+    let each = runs_each(dues.len(), parts_of(crew) as usize);
     let ends = run_ends(crew, alloc, table, dues, each, reach)?;
     joined_all(alloc, table, dues, each, &ends, trees, reach)
 }
 
-// How many runs the goals of each node have, so that there is a run for each worker.
-fn runs_each(nodes: usize, workers: usize) -> usize
+// How many runs the goals of each node have, so that there is one for each part of the work.
+fn runs_each(nodes: usize, parts: usize) -> usize
     ensures { 0 < result }
 {
-    if nodes == 0 || workers < nodes {
+    if nodes == 0 || parts < nodes {
         return 1;
     }
-    match (workers / nodes).checked_add(1) {
+    match (parts / nodes).checked_add(1) {
         Some(runs) => runs,
         None => 1,
     }

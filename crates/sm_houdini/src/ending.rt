@@ -26,7 +26,7 @@ ghost use Rattle.sm_houdini.specs.Views.{outcome_in, IsProof};
 
 use crate::closing::node_of;
 use crate::end_jobs::end_by_jobs;
-use crate::goal_jobs::Crew;
+use crate::goal_jobs::{Crew, parts_of};
 use crate::outcome::Outcome;
 use crate::short::is_short;
 use sm_cert::CertTree;
@@ -242,7 +242,7 @@ pub(crate) fn end_all<R: Threads + Sync, G: Gate>(
         (FinalStops (walk sorts reach) ds)) }
     ensures widens { Widens table.old table.new }
 {
-    if crew.workers == 1 {
+    if parts_of(crew) == 1 {
         end_in_turn(alloc, table, dues, trees, reach)
     } else {
         end_by_jobs(crew, alloc, table, dues, trees, reach)

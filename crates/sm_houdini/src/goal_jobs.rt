@@ -32,6 +32,19 @@ pub(crate) struct Crew<'c, R: Threads + Sync, G: Gate> {
     pub(crate) ghost most: { workers ≤ 64 },
 }
 
+/// In how many parts work is cut: one for each worker, and more where the gate may be shut between
+/// them.
+pub(crate) fn parts_of<R: Threads + Sync, G: Gate>(crew: &Crew<'_, R, G>) -> u32
+    ensures some { 0 < result }
+    ensures most { result ≤ 64 }
+{
+    if crew.gate.may_shut() {
+        64
+    } else {
+        crew.workers
+    }
+}
+
 // The most templates that a site of a choice has.
 fn most_at_site(choice: &TemplateChoice) -> usize {
     let mut most = 0;
@@ -44,21 +57,21 @@ fn most_at_site(choice: &TemplateChoice) -> usize {
     most
 }
 
-// How many shares the templates have: no more than workers, nor than there are at one site.
-fn shares_of(workers: u32, most: usize) -> u64
-    requires workers { 0 < workers }
+// How many shares the templates have: no more than parts, nor than there are at one site.
+fn shares_of(parts: u32, most: usize) -> u64
+    requires parts { 0 < parts }
     requires most { 0 < most }
     ensures some { 0 < result }
-    ensures few { result ≤ workers }
+    ensures few { result ≤ parts }
 {
-    let workers = workers as u64;
+    let parts = parts as u64;
     let most = most as u64;
-    if most < workers { most } else { workers }
+    if most < parts { most } else { parts }
 }
 
 /// Marks at the templates of a choice all of whose goals close. One worker walks all goals in turn,
-/// over the one table; several have a share of each site's templates, as jobs of the phase
-/// Obligation, each over a copy of it.
+/// over the one table, unless the gate may be shut; several have a share of each site's templates,
+/// as jobs of the phase Obligation, each over a copy of it.
 pub(crate) fn marks_after<R: Threads + Sync, G: Gate>(
     crew: &Crew<'_, R, G>,
     alloc: Global,
@@ -77,7 +90,8 @@ pub(crate) fn marks_after<R: Threads + Sync, G: Gate>(
     ensures widens { Widens table.old table.new }
 {
     let most = most_at_site(choice);
-    if crew.workers == 1 || most < 2 {
+    let parts = parts_of(crew);
+    if parts == 1 || most < 2 {
         let mut marks = share_marks(alloc, choice, 0, 1)?;
         judge_all(
             alloc,
@@ -93,7 +107,7 @@ pub(crate) fn marks_after<R: Threads + Sync, G: Gate>(
         )?;
         return Ok(marks);
     }
-    let shares = shares_of(crew.workers, most);
+    let shares = shares_of(parts, most);
     marks_by_jobs(
         crew, alloc, table, dues, known, owners, choice, reach, shares,
     )

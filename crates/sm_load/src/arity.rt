@@ -2,7 +2,7 @@
 use sm_theory::CertLine;
 
 // In how many ways a branch goes on after a line.
-#[derive(Clone, Copy, PartialEq, Eq)]
+#[derive(Clone, Copy)]
 pub(crate) enum Ways {
     None,
     One,

@@ -32,7 +32,7 @@ pub struct Loaded {
 }
 
 // Why lines aren't gathered.
-#[derive(Clone, Copy, PartialEq, Eq)]
+#[derive(Clone, Copy)]
 enum Fault {
     Wrong,
     Memory,

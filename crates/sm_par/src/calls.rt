@@ -41,7 +41,7 @@ pub fn run_calls<
     run_part(rt, alloc, gate, phase, call, all, workers)
 }
 
-// Makes one call.
+// Makes one call, unless the gate is shut.
 fn run_one<G: Gate, T, F: Fn(u64) -> Result<T, AllocError>>(
     gate: &G,
     phase: Phase,
@@ -51,6 +51,9 @@ fn run_one<G: Gate, T, F: Fn(u64) -> Result<T, AllocError>>(
     requires { F.pre call.now index }
     ensures { IfOk result (MayGive F.Fn call.now index) }
 {
+    if gate.is_shut() {
+        return Err(AllocError);
+    }
     gate.enter(phase);
     call(index)
 }

@@ -6,7 +6,7 @@ ghost use Rattle.sm_product.specs.Rooms.{IsRoom};
 use sm_sketch::ProductError;
 
 // How many nodes a part of a sketch may have, and how many branching ones one under another.
-#[derive(Clone, Copy, PartialEq, Eq)]
+#[derive(Clone, Copy)]
 pub(crate) struct Room {
     pub nodes: u64,
     pub branches: u64,

@@ -23,7 +23,7 @@ pub enum LineError {
 }
 
 /// Why words are no line.
-#[derive(Clone, Copy, PartialEq, Eq)]
+#[derive(Clone, Copy)]
 pub(crate) enum Fault {
     Line,
     Number,

@@ -3,7 +3,7 @@ ghost use Rattle.std.specs.Prelude.{◌≡◌};
 ghost use Rattle.sm_proof.specs.HeadWords.{form_word, term_word};
 
 /// The kind of a line `t`, by its second word.
-#[derive(Clone, Copy, Debug, PartialEq, Eq)]
+#[derive(Clone, Copy, Debug)]
 pub enum TermKind {
     Lit,
     Start,
@@ -44,7 +44,7 @@ impl TermKind {
 }
 
 /// The kind of a line `p`, by its second word.
-#[derive(Clone, Copy, Debug, PartialEq, Eq)]
+#[derive(Clone, Copy, Debug)]
 pub enum FormKind {
     Yes,
     No,

@@ -3,7 +3,7 @@ use sm_theory::CertLine;
 
 /// A line `t`, which makes a term. A term is named by the number of its line among those of terms,
 /// a fact by its number on the branch, a name by its number.
-#[derive(Clone, Copy, Debug, PartialEq, Eq)]
+#[derive(Clone, Copy, Debug)]
 pub enum TermLine {
     Lit(i128),
     /// The start value of a name.
@@ -28,7 +28,7 @@ pub enum TermLine {
 
 /// A line `p`, which makes a formula. A formula is named by the number of its line among those of
 /// formulas.
-#[derive(Clone, Copy, Debug, PartialEq, Eq)]
+#[derive(Clone, Copy, Debug)]
 pub enum FormLine {
     Yes,
     No,
@@ -41,7 +41,7 @@ pub enum FormLine {
 }
 
 /// A line that is a node of the plan.
-#[derive(Clone, Copy, Debug, PartialEq, Eq)]
+#[derive(Clone, Copy, Debug)]
 pub enum NodeLine {
     Step {
         copy: u8,

@@ -3,7 +3,7 @@ ghost use Rattle.std.specs.Prelude.{◌≡◌};
 ghost use Rattle.sm_proof.specs.HeadWords.{head_word, word_text};
 
 /// The kind of a line, by the word that it begins with.
-#[derive(Clone, Copy, PartialEq, Eq)]
+#[derive(Clone, Copy, Debug, PartialEq, Eq)]
 pub enum Head {
     T,
     P,
@@ -74,7 +74,7 @@ impl Head {
 }
 
 /// What is wrong with the first bad line of a proof file.
-#[derive(Clone, Copy, PartialEq, Eq)]
+#[derive(Clone, Copy, Debug, PartialEq, Eq)]
 pub enum Word {
     /// The line has no end, or isn't there though the proof isn't done.
     Truncated,

@@ -8,7 +8,7 @@ ghost use Rattle.sm_sided.specs.OneSided.{IsOnly, IsOneSided, is_one_sided};
 use sm_syntax::{Block, PerCopy, same_block};
 
 /// A change of the base that the candidate has, where there is no other.
-#[derive(Clone, Copy, PartialEq, Eq)]
+#[derive(Clone, Copy)]
 pub enum Change {
     /// A was changed, and B is the base.
     OfA,

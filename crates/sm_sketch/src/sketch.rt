@@ -4,7 +4,7 @@ use sm_plan::Formulas;
 use std::rc::Rc;
 
 /// How many nodes a sketch has, and how many branching ones one under another, at most.
-#[derive(Clone, Copy, PartialEq, Eq)]
+#[derive(Clone, Copy)]
 pub struct Extent {
     pub nodes: u64,
     pub branches: u64,

@@ -1,7 +1,7 @@
 // What a search that decides nothing stopped at.
 
 /// How a goal isn't shown.
-#[derive(Clone, Copy, PartialEq, Eq)]
+#[derive(Clone, Copy)]
 pub enum Manner {
     /// A branch of its walk stays open.
     Open,
@@ -12,7 +12,7 @@ pub enum Manner {
 }
 
 /// What a search stopped at.
-#[derive(Clone, Copy, PartialEq, Eq)]
+#[derive(Clone, Copy)]
 pub enum Stop {
     /// A final goal, by its number among those of its node.
     Goal { manner: Manner, goal: u64 },

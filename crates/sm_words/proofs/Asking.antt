@@ -36,7 +36,7 @@ pub record Asks (verb : Verb) (words : Words) (r : Result Request WordsError) : 
 given_effort : (verb : Verb) (words : Words) (f : Text → Option Text) → ((id : Text) → f id ≡ argument_text verb id words)
     → effort_by f ≡ effort_in verb words
 given_effort verb words f texts =
-    rw (texts (codes "steps"), texts (codes "turns"), texts (codes "workers"), texts (codes "exact"), texts (codes "deeper"), texts (codes "why"))
+    rw (texts (codes "steps"), texts (codes "turns"), texts (codes "workers"), texts (codes "seconds"), texts (codes "exact"), texts (codes "deeper"), texts (codes "why"))
     refl
 
 pub asks_check : (verb : Verb) (words : Words) (f : Text → Option Text) (r : Result Request WordsError) → verb ≡ Check

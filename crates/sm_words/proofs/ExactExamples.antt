@@ -7,7 +7,7 @@ use Rattle.sm_words.specs.declared.effort.Effort.{Effort}
 
 -- the effort without an option, but for the flag
 abbrev usual : Bool → Effort
-usual exact = record { steps = 100000; turns = 10000; workers = 1; exact = exact; deeper = false; why = false }
+usual exact = record { steps = 100000; turns = 10000; workers = 1; seconds = None; exact = exact; deeper = false; why = false }
 
 abbrev task_and_proof : Bool → Option Asked
 task_and_proof exact = Some (check (codes "t") (codes "p") (usual exact))

@@ -35,12 +35,16 @@ with_effort command =
     (option_word (codes "workers")))
     (flag_word (codes "exact"))
 
--- two words that have to be there, and the options of a search
+-- and with a limit of time
+abbrev pub with_limit : App → App
+with_limit command = with_rule (with_effort command) (option_word (codes "seconds"))
+
+-- two words that have to be there, the options of a search and a limit of time
 abbrev pub search_command : Text → Text → Text → App
 search_command word first second =
-    with_effort (with_rule (with_rule (new_app word) (required_word first)) (required_word second))
+    with_limit (with_rule (with_rule (new_app word) (required_word first)) (required_word second))
 
--- check TASK PROOF [--steps N] [--turns N] [--workers N] [--exact] [--deeper] [--why]
+-- check TASK PROOF [--steps N] [--turns N] [--workers N] [--exact] [--seconds N] [--deeper] [--why]
 unfoldable pub check_command : App
 check_command =
     let command = search_command (codes "check") (codes "TASK") (codes "PROOF") in
@@ -70,11 +74,11 @@ print_command =
     (required_word (codes "TASK")))
     (option_word (codes "copy"))
 
--- suggest TASK [--steps N] [--turns N] [--workers N] [--exact]
+-- suggest TASK [--steps N] [--turns N] [--workers N] [--exact] [--seconds N]
 unfoldable pub suggest_command : App
-suggest_command = with_effort (with_rule (new_app (codes "suggest")) (required_word (codes "TASK")))
+suggest_command = with_limit (with_rule (new_app (codes "suggest")) (required_word (codes "TASK")))
 
--- gen SEED SIZE [--steps N] [--turns N] [--workers N] [--exact]
+-- gen SEED SIZE [--steps N] [--turns N] [--workers N] [--exact] [--seconds N]
 unfoldable pub gen_command : App
 gen_command = search_command (codes "gen") (codes "SEED") (codes "SIZE")
 

@@ -37,6 +37,11 @@ turns_by = number_or 10000 1 1000000
 abbrev pub workers_by : Option Text → Option ℕ
 workers_by = number_or 1 1 64
 
+-- after how many seconds a search stops: where the option isn't there, after none
+abbrev pub seconds_by : Option Text → Option (Option ℕ)
+seconds_by None = Some None
+seconds_by (Some text) = option_map (λ (n : ℕ). Some n) (spelled_number 1 1000000 text)
+
 -- of how many tasks the accepting answers are kept
 abbrev pub cache_by : Option Text → Option ℕ
 cache_by = number_or 64 1 1000
@@ -62,14 +67,17 @@ abbrev pub effort_by : (Text → Option Text) → Option Effort
 effort_by given =
     option_and_then (λ (s : ℕ).
     option_and_then (λ (t : ℕ).
-    option_map (λ (w : ℕ). record {
+    option_and_then (λ (w : ℕ).
+    option_map (λ (limit : Option ℕ). record {
       steps = s;
       turns = t;
       workers = w;
+      seconds = limit;
       exact = is_given (given (codes "exact"));
       deeper = is_given (given (codes "deeper"));
       why = is_given (given (codes "why"));
-    }) (workers_by (given (codes "workers"))))
+    }) (seconds_by (given (codes "seconds"))))
+    (workers_by (given (codes "workers"))))
     (turns_by (given (codes "turns")))) (steps_by (given (codes "steps")))
 
 -- the copy that a word names

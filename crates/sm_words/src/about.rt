@@ -19,7 +19,7 @@ pub fn about_text(alloc: Global, about: About) -> Result<Vec<u8>, AllocError>
 {
     let text = match about {
         About::Help => {
-            "safemerge check TASK PROOF [--steps N] [--turns N] [--workers N] [--exact] [--deeper] [--why]\nsafemerge verify TASK PROOF [--workers N]\nsafemerge replay TASK INPUT [--turns N] [--workers N]\nsafemerge print TASK [--copy base|a|b|candidate]\nsafemerge suggest TASK [--steps N] [--turns N] [--workers N] [--exact]\nsafemerge gen SEED SIZE [--steps N] [--turns N] [--workers N] [--exact]\nsafemerge explain TASK [INPUT] [--turns N]\nsafemerge batch LIST [--cache N] [--steps N] [--turns N] [--workers N] [--exact]\nsafemerge trim TASK PROOF OUT\nsafemerge help\nsafemerge version\n"
+            "safemerge check TASK PROOF [--steps N] [--turns N] [--workers N] [--exact] [--seconds N] [--deeper] [--why]\nsafemerge verify TASK PROOF [--workers N]\nsafemerge replay TASK INPUT [--turns N] [--workers N]\nsafemerge print TASK [--copy base|a|b|candidate]\nsafemerge suggest TASK [--steps N] [--turns N] [--workers N] [--exact] [--seconds N]\nsafemerge gen SEED SIZE [--steps N] [--turns N] [--workers N] [--exact] [--seconds N]\nsafemerge explain TASK [INPUT] [--turns N]\nsafemerge batch LIST [--cache N] [--steps N] [--turns N] [--workers N] [--exact]\nsafemerge trim TASK PROOF OUT\nsafemerge help\nsafemerge version\n"
         }
         About::Version => "safemerge 0.1.0\n",
     };

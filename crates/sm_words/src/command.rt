@@ -5,7 +5,7 @@ ghost use Rattle.sm_words.specs.Command.{about_command, check_command, command_o
 ghost use Rattle.sm_words.specs.Command.{batch_command, explain_command, optional_word};
 ghost use Rattle.sm_words.specs.Command.{gen_command, option_word, print_command, replay_command};
 ghost use Rattle.sm_words.specs.Command.{required_word, search_command, suggest_command, trim_command};
-ghost use Rattle.sm_words.specs.Command.{verify_command, with_effort};
+ghost use Rattle.sm_words.specs.Command.{verify_command, with_effort, with_limit};
 
 use crate::about::About;
 use clap::{Arg, ArgAction, Command};
@@ -92,7 +92,7 @@ fn gen_command<'a>(alloc: Global) -> Result<Command<'a>, AllocError>
     search_command(alloc, "gen", "SEED", "SIZE")
 }
 
-// A command with two words that have to be there, and with the options of a search.
+// A command with two words that have to be there, with the options of a search and a limit of time.
 fn search_command<'a>(
     alloc: Global,
     word: &'a str,
@@ -105,7 +105,7 @@ fn search_command<'a>(
     let command = Command::new(alloc, word)
         .arg(required_word(alloc, first))?
         .arg(required_word(alloc, second))?;
-    with_effort(alloc, command)
+    with_limit(alloc, command)
 }
 
 // The command with the options of a search.
@@ -117,6 +117,13 @@ fn with_effort<'a>(alloc: Global, command: Command<'a>) -> Result<Command<'a>, A
         .arg(option_word(alloc, "turns"))?
         .arg(option_word(alloc, "workers"))?
         .arg(flag_word(alloc, "exact"))
+}
+
+// The command with the options of a search, and with a limit of time.
+fn with_limit<'a>(alloc: Global, command: Command<'a>) -> Result<Command<'a>, AllocError>
+    ensures { IfOk result (λ c. app_of c ≡ with_limit (app_of command.entry)) }
+{
+    with_effort(alloc, command)?.arg(option_word(alloc, "seconds"))
 }
 
 #[tactic(auto, unfolding(crate::specs::Command::verify_command))]
@@ -154,7 +161,7 @@ fn suggest_command<'a>(alloc: Global) -> Result<Command<'a>, AllocError>
     ensures { IfOk result (λ c. app_of c ≡ suggest_command) }
 {
     let command = Command::new(alloc, "suggest").arg(required_word(alloc, "TASK"))?;
-    with_effort(alloc, command)
+    with_limit(alloc, command)
 }
 
 #[tactic(auto, unfolding(crate::specs::Command::explain_command))]

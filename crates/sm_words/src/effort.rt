@@ -9,6 +9,8 @@ pub struct Effort {
     pub turns: u64,
     /// From 1 to 64.
     pub workers: u32,
+    /// After how many seconds no further job runs, if any: the answer is then that the time is over.
+    pub seconds: Option<u32>,
     /// Whether a branch that nothing splits is decided exactly, over whole numbers.
     pub exact: bool,
     /// Whether inputs beyond the trials are run where the search decides nothing.

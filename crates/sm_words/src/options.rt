@@ -2,7 +2,7 @@
 ghost use Rattle.std.specs.Prelude.{◌≡◌, ◌<◌, ◌≤◌, Some, None, option_map, IfOk, IfErr};
 ghost use Rattle.clap.specs.Words.{first_value, found_of};
 ghost use Rattle.sm_words.specs.Numbers.{copy_by, copy_of_word, effort_by, is_given, seed_by};
-ghost use Rattle.sm_words.specs.Numbers.{cache_by, size_by, steps_by, turns_by, workers_by};
+ghost use Rattle.sm_words.specs.Numbers.{cache_by, seconds_by, size_by, steps_by, turns_by, workers_by};
 ghost use Rattle.sm_words.specs.Views.{HasWorkers};
 
 use crate::effort::Effort;
@@ -22,6 +22,7 @@ pub fn effort_in(matches: &ArgMatches<'_>) -> Result<Effort, WordsError>
     let steps = steps_by(matches.get_str("steps"))?;
     let turns = turns_by(matches.get_str("turns"))?;
     let workers = workers_by(matches.get_str("workers"))?;
+    let seconds = seconds_by(matches.get_str("seconds"))?;
     let exact = is_given(matches.get_str("exact"));
     let deeper = is_given(matches.get_str("deeper"));
     let why = is_given(matches.get_str("why"));
@@ -29,6 +30,7 @@ pub fn effort_in(matches: &ArgMatches<'_>) -> Result<Effort, WordsError>
         steps,
         turns,
         workers,
+        seconds,
         exact,
         deeper,
         why,
@@ -89,6 +91,20 @@ pub fn workers_by(text: Option<&str>) -> Result<u32, WordsError>
     match number_or(1, 1, 64, text) {
         Some(workers) => Ok(workers as u32),
         None => Err(WordsError::Usage),
+    }
+}
+
+// After how many seconds a search stops.
+fn seconds_by(text: Option<&str>) -> Result<Option<u32>, WordsError>
+    ensures ok { IfOk result (λ n. seconds_by (option_map (λ t. t.now) text.entry) ≡ Some n) }
+    ensures usage { IfErr result (λ _. seconds_by (option_map (λ t. t.now) text.entry) ≡ None) }
+{
+    match text {
+        Some(text) => match spelled(1, 1000000, Some(text)) {
+            Some(seconds) => Ok(Some(seconds as u32)),
+            None => Err(WordsError::Usage),
+        },
+        None => Ok(None),
     }
 }
 

@@ -12,7 +12,7 @@ use Rattle.sm_answers.specs.declared.status.Reply.{Reply}
 use Rattle.sm_answers.specs.declared.status.Status.{Status}
 use Rattle.sm_answers.specs.declared.status.Status.TheVariants.{Accepted, WriteFault}
 use Rattle.sm_commands.proofs.FilesLemmas.{written_answers}
-use Rattle.sm_commands.specs.Why.{AnswersTask, AnswersWhy}
+use Rattle.sm_commands.specs.Why.{AnswersInTime, AnswersTask}
 use Rattle.sm_commands.specs.Views.{ComesWith}
 use Rattle.sm_words.specs.declared.effort.Effort.{Effort}
 use Rattle.sm_commands.proofs.checking.check_task.Goals as goal
@@ -25,7 +25,7 @@ proved_accepted t s o text is comes =
 
 -- the answer to an accepted task, once its proof was to be written
 written : (t : Parts) (effort : Effort) (reply : Reply) (P Q : Type 0) (r : Result Reply AllocError)
-    → AnswersWhy t effort reply.status reply.text.items → reply.status ≡ Accepted
+    → AnswersInTime t effort reply.status reply.text.items → reply.status ≡ Accepted
     → IfOk r (λ (u : Reply). (Says reply.status reply.text.items u.status u.text.items × P)
     ⊎ (Says WriteFault (codes "WriteFault\n") u.status u.text.items × Q))
     → IfOk r (λ (u : Reply). AnswersTask t effort u.status u.text.items)
@@ -33,8 +33,8 @@ written t effort reply P Q (Ok u) a e h =
     written_answers t effort reply.status u.status reply.text.items u.text.items P Q a e h
 written t effort reply P Q (Err error) a e h = tt
 
-pub returns-clause-answers : goal.returns-clause-answers
-returns-clause-answers g c = inl c.in_ok-decided.ensures.answers
+pub returns-in-None-clause-answers : goal.returns-in-None-clause-answers
+returns-in-None-clause-answers g c = inl c.in_ok-decided.ensures.answers
 
 pub returns-in-Some-clause-answers : goal.returns-in-Some-clause-answers
 returns-in-Some-clause-answers g c =

@@ -48,6 +48,21 @@ returns-in-Check-clause-exit_read g c =
     subst (λ (q : Request). IfErr c.check_in.result (ExitsWith (AnswersByReads (Some (asked_in q)) before now))) (sym c.in-Check.is)
     c.check_in.ensures.exit_read
 
+pub returns-in-Suggest-clause-read : goal.returns-in-Suggest-clause-read
+returns-in-Suggest-clause-read g c =
+    let before = g.H.Shelf.given c.args.shelf.now in
+    let now = g.H.Shelf.given c.suggest_in.new.shelf in
+    subst
+    (λ (q : Request). IfOk c.suggest_in.result (λ r. AnswersByReads (Some (asked_in q)) before now r.status r.text.items))
+    (sym c.in-Suggest.is) c.suggest_in.ensures.read
+
+pub returns-in-Suggest-clause-exit_read : goal.returns-in-Suggest-clause-exit_read
+returns-in-Suggest-clause-exit_read g c =
+    let before = g.H.Shelf.given c.args.shelf.now in
+    let now = g.H.Shelf.given c.suggest_in.new.shelf in
+    subst (λ (q : Request). IfErr c.suggest_in.result (ExitsWith (AnswersByReads (Some (asked_in q)) before now))) (sym c.in-Suggest.is)
+    c.suggest_in.ensures.exit_read
+
 pub returns-in-Trim-clause-left : goal.returns-in-Trim-clause-left
 returns-in-Trim-clause-left g c =
     let before = g.H.Shelf.file c.args.shelf.now in

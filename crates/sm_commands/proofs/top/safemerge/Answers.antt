@@ -10,7 +10,7 @@ use Rattle.sm_commands.proofs.FilesLemmas.{kept_whole, leaves_cut, leaves_front,
 use Rattle.sm_commands.proofs.ConflictSound.{conflicts, explains_shown, shows, replays_shown}
 use Rattle.sm_commands.proofs.ReadingsLemmas.{accepts_read, batches_read, conflicts_read, proves_read, shows_read, suggests_read}
 use Rattle.sm_commands.proofs.SuggestedSafe.{suggests_safe}
-use Rattle.sm_commands.proofs.TrimmedFiles.{trim_cut_by, trim_front_by, trim_left_by, trim_same_by, trimmed_kept, trimmed_whole}
+use Rattle.sm_commands.proofs.TrimmedFiles.{trim_cut_by, trim_front_by, trim_left_by, trim_same_by, trim_tells_by, trimmed_kept}
 use Rattle.sm_commands.proofs.Verified.{verifies_exactly}
 use Rattle.sm_commands.proofs.top.safemerge.Goals as goal
 
@@ -106,7 +106,7 @@ returns-clause-front g c = λ task proof effort is.
     c.in-Some.reply.status task proof effort c.in-Some.ensures.left is)
 
 pub returns-in-Err-Fault-clause-kept : goal.returns-in-Err-Fault-clause-kept
-returns-in-Err-Fault-clause-kept g c = λ _ no_write no_read task proof bytes effort t is held fits spells accepted.
+returns-in-Err-Fault-clause-kept g c = λ _ no_write no_read task proof bytes effort t is none held fits spells accepted.
     let words = map string_bytes c.args.words.now in
     let files = g.H.Shelf.file c.args.shelf.now in
     let left = g.H.Shelf.file c.reply_to.new.shelf in
@@ -115,7 +115,7 @@ returns-in-Err-Fault-clause-kept g c = λ _ no_write no_read task proof bytes ef
     let s = c.in-Some.reply.status in
     let line = c.in-Some.reply.text.items in
     kept_whole bytes effort b n (g.H.Shelf.write_faults c.args.shelf.now) (g.H.Shelf.write_faults c.reply_to.new.shelf) s line
-    (files proof) (left proof) t no_write no_read c.in-Some.ensures.writes fits spells accepted
+    (files proof) (left proof) t none no_write no_read c.in-Some.ensures.writes fits spells accepted
     (subst (λ (k : Known). Checks k effort b n s line) held
     (subst (λ (o : Option Asked). AnswersRequest o words files b n s line) is c.in-Some.ensures.answers))
     (subst (λ (k : Known). LeavesProof k s (files proof) (left proof)) held
@@ -223,10 +223,10 @@ returns-in-Ok-clause-untrimmed g c = λ _ never nor task proof out is.
 
 pub returns-in-Ok-clause-trimmed : goal.returns-in-Ok-clause-trimmed
 returns-in-Ok-clause-trimmed g c = λ e task proof out is.
-    trimmed_whole (g.H.Shelf.file c.args.shelf.now task) c.in-Some.reply.status (g.H.Shelf.file c.args.shelf.now out)
-    (g.H.Shelf.file c.reply_to.new.shelf out) e
-    (trim_left_by (asked (map string_bytes c.args.words.now)) (g.H.Shelf.file c.args.shelf.now) (g.H.Shelf.file c.reply_to.new.shelf)
-    c.in-Some.reply.status task proof out c.in-Some.ensures.left is)
+    let told =
+    trim_tells_by (asked (map string_bytes c.args.words.now)) (g.H.Shelf.file c.args.shelf.now) (g.H.Shelf.file c.reply_to.new.shelf)
+    c.in-Some.reply.status c.in-Some.reply.text.items task proof out c.in-Some.ensures.tells is e in
+    (c.in-Some.reply.text.items, told.0, told.1, told.2, search rules)
 
 pub returns-in-Err-Fault-clause-trimmed_kept : goal.returns-in-Err-Fault-clause-trimmed_kept
 returns-in-Err-Fault-clause-trimmed_kept g c = λ _ no_write task proof out is.

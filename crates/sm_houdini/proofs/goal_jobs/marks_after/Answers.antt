@@ -10,8 +10,8 @@ use Rattle.sm_houdini.proofs.NodeLemmas.{none_out}
 use Rattle.sm_houdini.proofs.ShareLemmas.{one_of_one}
 use Rattle.sm_houdini.proofs.goal_jobs.marks_after.Goals as goal
 
-pub returns-then-crew-eq1-clause-marks : goal.returns-then-crew-eq1-clause-marks
-returns-then-crew-eq1-clause-marks g c =
+pub returns-then-parts-eq1-clause-marks : goal.returns-then-parts-eq1-clause-marks
+returns-then-parts-eq1-clause-marks g c =
     let a = c.args in
     let closes = closing (sorts_in a.table.now) a.reach in
     let owner = owner_in a.owners.now in
