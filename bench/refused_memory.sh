@@ -157,6 +157,7 @@ row 'check --deeper' check "$place/open" "$place/found" --deeper
 row 'check --deeper, proof' check "$place/turned" "$place/found" --deeper
 row 'check --why' check "$place/open" "$place/found" --why
 row 'check --why, table' check "$place/open" "$place/found" --deeper --why
+row 'check --seconds' check "$place/task" "$place/found" --seconds 1000
 row trim trim "$place/fees.task" "$place/fees.proof" "$place/found"
 row batch batch "$place/list" --steps 1000
 row suggest suggest "$place/task" --steps 1000
