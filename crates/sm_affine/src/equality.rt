@@ -7,14 +7,14 @@ ghost use Rattle.sm_affine.specs.Equalities.{GivesColumn};
 use std::alloc::{AllocError, Global};
 
 /// The number in a column, times a coefficient.
-#[derive(Clone, Copy, Debug, PartialEq, Eq)]
+#[derive(Clone, Copy, PartialEq, Eq)]
 pub struct Part {
     pub column: usize,
     pub coefficient: i128,
 }
 
 /// An equality among columns: it says that the sum of its parts and its constant is 0.
-#[derive(Debug, Drop)]
+#[derive(Drop)]
 pub struct Equality {
     pub parts: Vec<Part>,
     pub constant: i128,

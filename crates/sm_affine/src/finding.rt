@@ -14,7 +14,7 @@ const MOST_PARTS: usize = 6;
 const MOST_LOWER: i128 = 1_000_000_000_000;
 
 // A column of a span, times a fraction.
-#[derive(Clone, Copy, Debug)]
+#[derive(Clone, Copy)]
 struct Share {
     pivot: usize,
     fraction: Fraction,

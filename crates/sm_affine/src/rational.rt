@@ -2,7 +2,7 @@
 use crate::field::PRIME;
 
 /// A fraction. The lower number is above 0.
-#[derive(Clone, Copy, Debug)]
+#[derive(Clone, Copy)]
 pub(crate) struct Fraction {
     pub(crate) upper: i128,
     pub(crate) lower: i128,
@@ -15,7 +15,7 @@ const MOST_UPPER: i128 = 1_000_000;
 const MOST_LOWER: i128 = 10_000;
 
 // Two steps of Euclid's algorithm: remainders, and what the number is multiplied by for each.
-#[derive(Clone, Copy, Debug)]
+#[derive(Clone, Copy)]
 struct Remainders {
     last: i128,
     next: i128,

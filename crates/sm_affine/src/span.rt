@@ -4,7 +4,7 @@ use std::alloc::{AllocError, Global};
 
 /// A row of a span. It has 1 at its pivot, which is the first column at which it has no 0. Each
 /// other row of the span has 0 there.
-#[derive(Debug, Drop)]
+#[derive(Drop)]
 pub(crate) struct SpanRow {
     pub(crate) pivot: usize,
     pub(crate) numbers: Vec<u64>,

@@ -6,7 +6,7 @@ ghost use Rattle.sm_plan.specs.ReadyStates.{AreFormsReady};
 ghost use Rattle.sm_expand.specs.Views.{AreDuesReady};
 ghost use Rattle.sm_houdini.specs.Nodes.{IsNodeOf};
 
-use crate::closing::{WalkEnd, pay_node, pay_walk};
+use crate::closing::{WalkEnd, boxed_node, pay_node, pay_walk};
 use crate::crew::Crew;
 use crate::effort::Effort;
 use crate::judging::{Round, walk_at};
@@ -15,7 +15,6 @@ use crate::shares::{
 };
 use crate::told::{Found, is_refuted, nothing_told, tell_all};
 use sm_expand::Due;
-use sm_houdini::node_of;
 use sm_observed::Work;
 use sm_par::{Gate, Phase, run_calls};
 use sm_solve::{Node, Reach};
@@ -100,7 +99,7 @@ fn ends_of(
     if is_shared {
         pay_node(work, &due.facts);
     }
-    let mut node = node_of(alloc, table, &due.facts, is_shared, reach.steps)?;
+    let mut node = boxed_node(alloc, table, &due.facts, is_shared, reach.steps)?;
     ends_at(alloc, table, &mut node, due, places, reach, work)
 }
 

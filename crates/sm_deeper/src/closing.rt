@@ -22,22 +22,21 @@ pub(crate) fn pay_node(work: &mut Work, facts: &Formulas) {
     work.spend(facts.list.len().saturating_mul(NODE));
 }
 
-/// The node of these facts, where goals are to share it.
-pub(crate) fn shared_node(
+/// The node of these facts, where goals are to share it. It has many parts, and is kept apart from
+/// what holds it.
+pub(crate) fn boxed_node(
     alloc: Global,
     table: &mut TermTable,
     facts: &Formulas,
     is_shared: bool,
-    effort: &mut Effort,
-) -> Result<Option<Node>, AllocError>
+    steps: u64,
+) -> Result<Box<Option<Node>>, AllocError>
     requires { AreFormsReady (sorts_in table.old) (trees_in table.old) facts.now.list.items }
-    ensures node { IfOk result (IsNodeOf table.new facts.now.list.items) }
+    ensures node { IfOk result (λ node. IsNodeOf table.new facts.now.list.items node.value) }
     ensures widens { Widens table.old table.new }
 {
-    if is_shared {
-        pay_node(&mut effort.work, facts);
-    }
-    node_of(alloc, table, facts, is_shared, effort.reach.steps)
+    let node = node_of(alloc, table, facts, is_shared, steps)?;
+    Ok(Box::new(alloc, node)?)
 }
 
 /// What the walk of a goal comes to.

@@ -6,7 +6,7 @@ ghost use Rattle.sm_plan.specs.ReadyStates.{AreFormsReady};
 ghost use Rattle.sm_expand.specs.Views.{AreDuesReady};
 ghost use Rattle.sm_houdini.specs.Nodes.{IsNodeOf};
 
-use crate::closing::{pay_walk, shared_node, walked};
+use crate::closing::{boxed_node, pay_node, pay_walk, walked};
 use crate::crew::Crew;
 use crate::effort::Effort;
 use crate::end_jobs::end_ahead;
@@ -35,7 +35,11 @@ pub(crate) fn put_trees(
     ensures { OnOk result (Widens table.old table.new) }
 {
     let goals = due.targets.list.as_slice();
-    let mut node = shared_node(alloc, table, &due.facts, goals.len() > 1, effort)?;
+    let is_shared = goals.len() > 1;
+    if is_shared {
+        pay_node(&mut effort.work, &due.facts);
+    }
+    let mut node = boxed_node(alloc, table, &due.facts, is_shared, effort.reach.steps)?;
     put_trees_at(alloc, table, &mut node, &due.facts, goals, trees, effort)
 }
 

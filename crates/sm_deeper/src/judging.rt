@@ -6,12 +6,12 @@ ghost use Rattle.sm_plan.specs.ReadyStates.{AreFormsReady};
 ghost use Rattle.sm_expand.specs.Views.{AreDuesReady};
 ghost use Rattle.sm_houdini.specs.Nodes.{IsNodeOf};
 
-use crate::closing::{WalkEnd, pay_node, pay_walk, walked};
+use crate::closing::{WalkEnd, boxed_node, pay_node, pay_walk, walked};
 use crate::effort::Effort;
 use crate::marks::are_several;
 use crate::owners::{Owners, owner};
 use sm_expand::Due;
-use sm_houdini::{are_same, node_of};
+use sm_houdini::are_same;
 use sm_solve::{Node, Reach};
 use sm_term::TermTable;
 use std::alloc::{AllocError, Global};
@@ -154,7 +154,7 @@ fn judged(
         pay_node(&mut effort.work, &due.facts);
     }
     let is_made = is_shared && asks_walk(marks, told);
-    let mut node = node_of(alloc, table, &due.facts, is_made, effort.reach.steps)?;
+    let mut node = boxed_node(alloc, table, &due.facts, is_made, effort.reach.steps)?;
     judged_at(alloc, table, &mut node, due, marks, told, effort)
 }
 

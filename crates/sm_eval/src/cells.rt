@@ -9,7 +9,7 @@ use std::alloc::{AllocError, Global};
 use std::marker::Model;
 
 /// The cells of an array that don't have 0.
-#[derive(Debug, Drop)]
+#[derive(Drop)]
 pub struct Cells {
     pairs: Deque,
 }

@@ -8,7 +8,7 @@ use std::marker::Model;
 
 /// A list of pairs. A pair that is inserted moves those before it or those after it, whichever
 /// are fewer.
-#[derive(Debug, Drop)]
+#[derive(Drop)]
 pub struct Deque {
     // The pairs stand from `front` on. What stands before is room for more, never more than there
     // were pairs at one time.

@@ -15,7 +15,7 @@ use sm_syntax::{Decls, Name, Sort};
 use std::alloc::{AllocError, Global};
 
 /// The value of each declared name.
-#[derive(Debug, Drop)]
+#[derive(Drop)]
 pub struct Store {
     // By the number of the name.
     stored: Vec<StoredValue>,

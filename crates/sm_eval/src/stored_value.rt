@@ -8,7 +8,7 @@ use sm_syntax::Sort;
 use std::alloc::{AllocError, Global};
 
 /// What a store has for a name: nothing where it isn't declared.
-#[derive(Debug, Drop)]
+#[derive(Drop)]
 pub enum StoredValue {
     Absent,
     Number(i128),

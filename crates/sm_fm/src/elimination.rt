@@ -11,7 +11,7 @@ use std::alloc::{AllocError, Global};
 use std::marker::Model;
 
 /// An elimination: atoms are taken out of linear forms, one after the other.
-#[derive(Debug, Drop)]
+#[derive(Drop)]
 pub struct Elimination {
     state: State,
 }

@@ -2,7 +2,7 @@
 use sm_num::LinForm;
 
 /// A list of linear forms.
-#[derive(Debug, Drop)]
+#[derive(Drop)]
 pub struct Forms {
     pub list: Vec<LinForm>,
 }

@@ -6,7 +6,7 @@ use std::alloc::Global;
 use std::marker::Model;
 
 // The pairs that are left of some places with others.
-#[derive(Debug, Drop)]
+#[derive(Drop)]
 pub(crate) struct Pairs {
     firsts: Vec<u64>,
     seconds: Vec<u64>,

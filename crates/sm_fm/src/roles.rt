@@ -12,7 +12,7 @@ use sm_num::{Kind, LinForm};
 use std::alloc::{AllocError, Global};
 
 // The role that a form plays where an atom is taken out.
-#[derive(Clone, Copy, Debug)]
+#[derive(Clone, Copy)]
 pub(crate) enum Role {
     // Its coefficient is below 0.
     Below,

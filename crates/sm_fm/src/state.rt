@@ -24,7 +24,7 @@ use std::alloc::{AllocError, Global};
 use std::collections::HashSet;
 
 // The state of an elimination.
-#[derive(Debug, Drop)]
+#[derive(Drop)]
 pub(crate) struct State {
     // The terms of the atoms.
     pub(crate) atoms: Terms,

@@ -3,7 +3,7 @@ use sm_term::TermId;
 
 /// What a step gives. `f` and `g` are places in the list of the given forms, which the kept sums
 /// follow.
-#[derive(Clone, Copy, Debug, PartialEq, Eq)]
+#[derive(Clone, Copy)]
 pub enum ElimStep {
     /// The sum of the forms `f` and `g` without the atom, whether it is kept, and whether it is a
     /// contradiction.

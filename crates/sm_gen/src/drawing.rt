@@ -8,7 +8,7 @@ use sm_syntax::CopyName;
 use std::alloc::{AllocError, Global};
 
 /// Who edits a hole.
-#[derive(Clone, Copy, PartialEq, Eq)]
+#[derive(Clone, Copy)]
 pub enum Editor {
     Nobody,
     VariantA,

@@ -19,7 +19,7 @@ use sm_theory::{Fact, lin_of};
 use std::alloc::{AllocError, Global};
 
 // How the linear forms of two terms compare.
-#[derive(Clone, Copy, PartialEq, Eq)]
+#[derive(Clone, Copy)]
 pub(crate) enum Comparison {
     Equal,
     // The constants alone differ.

@@ -17,7 +17,7 @@ use sm_plan::Rest;
 use sm_syntax::{CopyName, PerCopy, Stmt, same_block, same_cond, same_expr};
 
 /// What the copies of a set do next.
-#[derive(Clone, Copy, PartialEq, Eq)]
+#[derive(Clone, Copy)]
 pub enum Move {
     /// Nothing is left.
     Done,
@@ -32,7 +32,7 @@ pub enum Move {
 }
 
 /// How code may begin: with any statement, with skip or an assignment, with an if, with a loop.
-#[derive(Clone, Copy, PartialEq, Eq)]
+#[derive(Clone, Copy)]
 pub enum Front {
     Any,
     Simple,

@@ -14,7 +14,7 @@ use std::marker::Model;
 
 /// A linear form: it says that the sum of its parts and its constant is at most 0, or that it is 0.
 /// Its atoms ascend, no coefficient is 0, and all numbers lie from -(2^127 - 1) to 2^127 - 1.
-#[derive(Debug, Drop)]
+#[derive(Drop)]
 pub struct LinForm {
     // first, so that a form takes 48 bytes and not 64
     pub(crate) constant: i128,

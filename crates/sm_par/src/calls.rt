@@ -8,7 +8,7 @@ use std::alloc::{AllocError, Global};
 use std::thread::{Threads, join};
 
 // Some numbers: `count` of them, from `start` on.
-#[derive(Clone, Copy, Debug)]
+#[derive(Clone, Copy)]
 struct Part {
     start: u64,
     count: u64,
@@ -16,7 +16,8 @@ struct Part {
 
 /// Calls a closure with the numbers from 0 on, `count` of them, with at most `workers` threads, the
 /// caller's own among them. The gate is entered with the phase directly before each call. With one
-/// worker no thread is made.
+/// worker no thread is made. `AllocError` where a call gives it, where memory runs out, or
+/// where the gate is shut.
 pub fn run_calls<
     R: Threads + Sync,
     G: Gate,

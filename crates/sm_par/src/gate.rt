@@ -1,7 +1,7 @@
 // The gate that each job enters before it runs.
 
 /// What a job is for.
-#[derive(Clone, Copy, Debug, PartialEq, Eq)]
+#[derive(Clone, Copy, Debug)]
 pub enum Phase {
     Trial,
     Obligation,
@@ -33,7 +33,7 @@ pub trait Gate: Sync {
 }
 
 /// A gate that does nothing.
-#[derive(Clone, Copy, Debug)]
+#[derive(Clone, Copy)]
 pub struct Open;
 
 impl Gate for Open {

@@ -25,7 +25,8 @@ pub trait Job: Sync {
 
 /// Runs the jobs with numbers from 0 on, `count` of them, with at most `workers` threads, the
 /// caller's own among them. Each job enters the gate with the phase directly before it runs. With
-/// one worker no thread is made.
+/// one worker no thread is made. `AllocError` where a job gives it, where memory runs out, or
+/// where the gate is shut.
 pub fn run_jobs<R: Threads + Sync, G: Gate, J: Job>(
     rt: &R,
     alloc: Global,

@@ -2,7 +2,7 @@
 use sm_syntax::Name;
 
 /// What the runs from one start store show.
-#[derive(Clone, Copy, PartialEq, Eq)]
+#[derive(Clone, Copy)]
 pub enum Verdict {
     /// The four programs end, and the condition holds at each cell of an output.
     Holds,

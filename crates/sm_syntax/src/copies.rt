@@ -4,7 +4,7 @@ ghost use Rattle.sm_syntax.specs.claim.ConflictFree.{copy_of};
 ghost use Rattle.sm_syntax.specs.trees.Copies.{copy_named, letter_of, number_of, of_copy};
 
 /// The four programs of a task: the base O, the variants A and B, and the candidate M.
-#[derive(Clone, Copy, Debug, PartialEq, Eq)]
+#[derive(Clone, Copy, PartialEq, Eq)]
 pub enum CopyName {
     O,
     A,
@@ -52,7 +52,7 @@ impl CopyName {
 }
 
 /// One of something for each copy.
-#[derive(Debug, Drop)]
+#[derive(Drop)]
 pub struct PerCopy<T> {
     pub base: T,
     pub variant_a: T,

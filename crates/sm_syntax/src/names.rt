@@ -11,7 +11,7 @@ use std::alloc::{AllocError, Global};
 use std::marker::Model;
 
 /// The texts of names without repeats. A name's number is its place in the table.
-#[derive(Debug, Drop)]
+#[derive(Drop)]
 pub struct NameTable {
     texts: IndexSet<String>,
 }

@@ -3,32 +3,32 @@ use crate::names::NameTable;
 use crate::tree::{Block, Name, Sort};
 
 /// The declared names with their sorts, in the order of the text.
-#[derive(Debug, Drop)]
+#[derive(Drop)]
 pub struct Decls {
     pub list: Vec<(Name, Sort)>,
 }
 
 /// The output names, in the order of the text.
-#[derive(Debug, Drop)]
+#[derive(Drop)]
 pub struct Outputs {
     pub list: Vec<Name>,
 }
 
 /// The statements that stand for a hole.
-#[derive(Debug, Drop)]
+#[derive(Drop)]
 pub struct Filling {
     pub hole: u32,
     pub block: Block,
 }
 
 /// The fillings of one copy, in the order of the text.
-#[derive(Debug, Drop)]
+#[derive(Drop)]
 pub struct Fillings {
     pub list: Vec<Filling>,
 }
 
 /// A program: the texts of its names, its declarations, its outputs and its statements.
-#[derive(Debug, Drop)]
+#[derive(Drop)]
 pub struct Program {
     pub names: NameTable,
     pub decls: Decls,

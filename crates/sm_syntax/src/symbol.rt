@@ -2,7 +2,7 @@
 use crate::tree::Name;
 
 /// A reserved word or a sign.
-#[derive(Clone, Copy, Debug, PartialEq, Eq)]
+#[derive(Clone, Copy, PartialEq, Eq)]
 pub enum Mark {
     Var,
     Array,
@@ -44,7 +44,7 @@ pub enum Mark {
 }
 
 /// A reserved word or a sign, a number by its value, or a name by its number.
-#[derive(Clone, Copy, Debug, PartialEq, Eq)]
+#[derive(Clone, Copy, PartialEq, Eq)]
 pub enum Symbol {
     Mark(Mark),
     Number(i128),

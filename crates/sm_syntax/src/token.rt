@@ -1,7 +1,7 @@
 // The tokens of a text. A place is a byte's offset in the text, from 0.
 
 /// What a token is.
-#[derive(Clone, Copy, Debug, PartialEq, Eq)]
+#[derive(Clone, Copy)]
 pub enum TokenKind {
     Word,
     Number,
@@ -9,7 +9,7 @@ pub enum TokenKind {
 }
 
 /// A token: `size` bytes of the text, from `place` on.
-#[derive(Clone, Copy, Debug, PartialEq, Eq)]
+#[derive(Clone, Copy)]
 pub struct Token {
     pub kind: TokenKind,
     pub place: u64,
@@ -17,7 +17,7 @@ pub struct Token {
 }
 
 /// Why no token stands at a place.
-#[derive(Clone, Copy, Debug, PartialEq, Eq)]
+#[derive(Clone, Copy)]
 pub enum LexKind {
     /// A byte that is no white space and begins no token.
     BadByte,
@@ -28,7 +28,7 @@ pub enum LexKind {
 }
 
 /// The first place at which no token stands, and why.
-#[derive(Clone, Copy, Debug, PartialEq, Eq)]
+#[derive(Clone, Copy)]
 pub struct LexFault {
     pub kind: LexKind,
     pub place: u64,

@@ -24,7 +24,7 @@ pub enum Expr {
 }
 
 /// A comparison.
-#[derive(Clone, Copy, Debug, PartialEq, Eq)]
+#[derive(Clone, Copy, Debug)]
 pub enum Cmp {
     Eq,
     Ne,

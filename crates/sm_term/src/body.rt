@@ -7,7 +7,7 @@ use sm_syntax::{Block, copy_block, nodes};
 use std::alloc::{AllocError, Global};
 
 // A body with its size, which is what is hashed of it.
-#[derive(Debug, Drop)]
+#[derive(Drop)]
 pub(crate) struct Body {
     pub(crate) nodes: u64,
     pub(crate) block: Block,

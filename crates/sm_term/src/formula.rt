@@ -7,7 +7,7 @@ use crate::term::TermId;
 use std::alloc::{AllocError, Global};
 
 /// A formula over terms, which are numbers in a table.
-#[derive(Debug, Drop)]
+#[derive(Drop)]
 pub enum Formula {
     Yes,
     No,

@@ -14,7 +14,7 @@ use sm_syntax::{Expr, Name};
 use std::alloc::AllocError;
 
 /// A term for each of the first names. A name that has none here has its start value.
-#[derive(Debug, Drop)]
+#[derive(Drop)]
 pub struct SymStore {
     pub list: Vec<TermId>,
 }

@@ -18,7 +18,7 @@ use std::collections::HashMap;
 use std::marker::Model;
 
 /// Terms without repeats, which know the sorts of names. A term's number is its place.
-#[derive(Debug, Drop)]
+#[derive(Drop)]
 pub struct TermTable {
     pub(crate) decls: Decls,
     pub(crate) sorts: HashMap<u32, Sort>,

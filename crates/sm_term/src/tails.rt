@@ -13,7 +13,7 @@ use sm_syntax::{Block, copy_block};
 use std::alloc::{AllocError, Global};
 
 /// Terms that stand behind the first terms of a table, with all bodies of the table.
-#[derive(Debug, Drop)]
+#[derive(Drop)]
 pub struct TermRows {
     pub(crate) blocks: Vec<Block>,
     pub(crate) list: Vec<Term>,

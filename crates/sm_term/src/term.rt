@@ -20,13 +20,13 @@ pub struct TermId(pub u64);
 pub struct BodyId(pub u64);
 
 /// A list of terms.
-#[derive(Debug, Drop)]
+#[derive(Drop)]
 pub struct Terms {
     pub list: Vec<TermId>,
 }
 
 /// A term, whose parts and body are numbers in one table.
-#[derive(Debug, Drop)]
+#[derive(Drop)]
 pub enum Term {
     Lit(i128),
     /// The start value of a name, one for all copies.
@@ -60,7 +60,7 @@ pub enum Term {
 }
 
 // All that a term holds but its lists, in one form for all kinds of terms.
-#[derive(Clone, Copy, Debug)]
+#[derive(Clone, Copy)]
 struct Numbers {
     kind: u8,
     value: i128,

@@ -103,7 +103,7 @@ fn product(alloc: Global, n: u64, f: &LinForm, g: &LinForm) -> Result<LinForm, A
 }
 
 // The form of a term, or a part of it whose form isn't there yet.
-#[derive(Debug, Drop)]
+#[derive(Drop)]
 pub(crate) enum Found {
     Form(LinForm),
     Part(u64),

@@ -5,7 +5,7 @@ ghost use Rattle.sm_words.specs.About.{about_text};
 use std::alloc::{AllocError, Global};
 
 /// What the program says of itself.
-#[derive(Clone, Copy, PartialEq, Eq)]
+#[derive(Clone, Copy)]
 pub enum About {
     /// The words that each command takes.
     Help,

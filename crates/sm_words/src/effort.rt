@@ -1,7 +1,7 @@
 // How much a search may do.
 
 /// How much a search may do, and by how many workers its jobs are run.
-#[derive(Clone, Copy, PartialEq, Eq)]
+#[derive(Clone, Copy)]
 pub struct Effort {
     /// The most steps of one walk.
     pub steps: u64,

@@ -22,7 +22,7 @@ use std::alloc::{AllocError, Global};
 use thiserror::Error as ErrorText;
 
 /// What the words ask for. Files are named as the words name them.
-#[derive(Clone, Copy, PartialEq, Eq)]
+#[derive(Clone, Copy)]
 pub enum Request<'a> {
     /// The decision on a task, whose proof is written to a file.
     Check {

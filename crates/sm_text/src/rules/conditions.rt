@@ -13,7 +13,7 @@ use sm_syntax::{Cmp, Cond, Mark, Symbol};
 use std::alloc::{AllocError, Global};
 
 /// A chain of operators between two conditions each.
-#[derive(Clone, Copy, Debug, PartialEq, Eq)]
+#[derive(Clone, Copy)]
 pub(crate) enum CondChain {
     Conjunction,
     Disjunction,

@@ -15,7 +15,7 @@ use std::alloc::{AllocError, Global};
 pub(crate) const CHAIN_LIMIT: u64 = 63;
 
 /// An operator between two expressions.
-#[derive(Clone, Copy, Debug, PartialEq, Eq)]
+#[derive(Clone, Copy)]
 pub(crate) enum Operator {
     Plus,
     Minus,
@@ -23,7 +23,7 @@ pub(crate) enum Operator {
 }
 
 /// A chain of operators between two expressions each.
-#[derive(Clone, Copy, Debug, PartialEq, Eq)]
+#[derive(Clone, Copy)]
 pub(crate) enum ExprChain {
     Product,
     Sum,

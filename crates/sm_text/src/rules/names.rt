@@ -17,7 +17,7 @@ use std::alloc::{AllocError, Global};
 pub(crate) const GROUP_LIMIT: u64 = 64;
 
 /// A declaration: a sort and the names.
-#[derive(Debug, Drop)]
+#[derive(Drop)]
 pub(crate) struct Declared {
     pub sort: Sort,
     pub names: Vec<Name>,

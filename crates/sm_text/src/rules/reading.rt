@@ -7,21 +7,21 @@ use sm_syntax::{Mark, Symbol};
 use std::alloc::{AllocError, AllocFailed};
 
 /// Why a rule doesn't go on.
-#[derive(Clone, Copy, Debug, PartialEq, Eq)]
+#[derive(Clone, Copy)]
 pub(crate) enum FaultKind {
     Expected,
     Nested,
 }
 
 /// Where a rule doesn't go on: how many symbols are left there.
-#[derive(Clone, Copy, Debug, PartialEq, Eq)]
+#[derive(Clone, Copy)]
 pub(crate) struct Fault {
     pub kind: FaultKind,
     pub left: usize,
 }
 
 /// Why nothing was read.
-#[derive(Clone, Copy, Debug, PartialEq, Eq)]
+#[derive(Clone, Copy)]
 pub(crate) enum ReadError {
     Fault(Fault),
     Memory,

@@ -5,12 +5,12 @@ use Rattle.sm_deeper.proofs.ahead.ends_of.Goals as goal
 
 pub ends_at-requires-clause-facts : goal.ends_at-requires-clause-facts
 ends_at-requires-clause-facts c =
-    forms_ready c.args.table.now c.node_of.new.table c.in_ok-node.ensures.widens c.args.due.now.facts.list.items c.requires.facts
+    forms_ready c.args.table.now c.boxed_node.new.table c.in_ok-node.ensures.widens c.args.due.now.facts.list.items c.requires.facts
 
 pub ends_at-requires-clause-goals : goal.ends_at-requires-clause-goals
 ends_at-requires-clause-goals c =
-    forms_ready c.args.table.now c.node_of.new.table c.in_ok-node.ensures.widens c.args.due.now.targets.list.items c.requires.goals
+    forms_ready c.args.table.now c.boxed_node.new.table c.in_ok-node.ensures.widens c.args.due.now.targets.list.items c.requires.goals
 
 pub returns : goal.returns
 returns c =
-    widens_then c.args.table.now c.node_of.new.table c.ends_at.new.table c.ends_at.result c.in_ok-node.ensures.widens c.ends_at.ensures
+    widens_then c.args.table.now c.boxed_node.new.table c.ends_at.new.table c.ends_at.result c.in_ok-node.ensures.widens c.ends_at.ensures

@@ -5,12 +5,12 @@ use Rattle.sm_deeper.proofs.judging.judged.Goals as goal
 
 pub judged_at-requires-clause-facts : goal.judged_at-requires-clause-facts
 judged_at-requires-clause-facts c =
-    forms_ready c.args.table.now c.node_of.new.table c.in_ok-node.ensures.widens c.args.due.now.facts.list.items c.requires.facts
+    forms_ready c.args.table.now c.boxed_node.new.table c.in_ok-node.ensures.widens c.args.due.now.facts.list.items c.requires.facts
 
 pub judged_at-requires-clause-goals : goal.judged_at-requires-clause-goals
 judged_at-requires-clause-goals c =
-    forms_ready c.args.table.now c.node_of.new.table c.in_ok-node.ensures.widens c.args.due.now.targets.list.items c.requires.goals
+    forms_ready c.args.table.now c.boxed_node.new.table c.in_ok-node.ensures.widens c.args.due.now.targets.list.items c.requires.goals
 
 pub returns : goal.returns
 returns c =
-    widens_then c.args.table.now c.node_of.new.table c.judged_at.new.table c.judged_at.result c.in_ok-node.ensures.widens c.judged_at.ensures
+    widens_then c.args.table.now c.boxed_node.new.table c.judged_at.new.table c.judged_at.result c.in_ok-node.ensures.widens c.judged_at.ensures
