@@ -1,4 +1,3 @@
 pub mod Crossing
 pub mod RowsLemmas
-pub mod WaitsLemmas
 pub mod Widening

@@ -11,7 +11,7 @@ use Rattle.sm_term.specs.Tables.{TableValue, trees_in, sorts_in}
 use Rattle.sm_term.specs.TableLaws.{Widens}
 use Rattle.sm_term.specs.Tails.{AreRowsSound}
 use Rattle.sm_term.specs.Terms.{Tree}
-use Rattle.sm_houdini.proofs.EndJobsLemmas.{front_stays}
+use Rattle.sm_goals.proofs.TablesLemmas.{front_stays}
 use Rattle.sm_deeper.specs.declared.end_jobs.JobEnd.{JobEnd}
 
 -- the new rows of a copy are sound behind the terms of the table

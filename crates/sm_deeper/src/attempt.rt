@@ -3,20 +3,19 @@ ghost use Rattle.std.specs.Prelude.{IfOk, OnOk, IfSome};
 ghost use Rattle.sm_term.specs.Tables.{trees_in, sorts_in};
 ghost use Rattle.sm_expand.specs.Views.{AreDuesReady};
 ghost use Rattle.sm_text.specs.Tasks.{parts_of};
-ghost use Rattle.sm_houdini.specs.Views.{IsWhole};
-ghost use Rattle.sm_deeper.specs.Subjects.{IsSubject, IsTableOf};
+ghost use Rattle.sm_goals.specs.Whole.{IsWhole};
+ghost use Rattle.sm_candidates.specs.Subjects.{IsSubject, IsTableOf};
 
-use crate::candidates::{Seen, candidates_of};
 use crate::crew::Crew;
 use crate::effort::Effort;
 use crate::ends::{Ended, end_of};
 use crate::owners::{Owners, owners_of};
 use crate::rounds::{Asked, Product, settled};
-use crate::subject::Subject;
 use sm_audit::is_writable;
+use sm_candidates::{Seen, Subject, candidates_of};
 use sm_drawing::{DeadEnd, Drawing, DrawingError, Style, draw};
 use sm_expand::Plan;
-use sm_houdini::Proof;
+use sm_goals::Proof;
 use sm_par::Gate;
 use sm_sided::CertTrees;
 use sm_term::TermTable;
@@ -129,7 +128,7 @@ fn settled_by<R: Threads + Sync, G: Gate>(
         AreDuesReady (sorts_in table.new) (trees_in table.new) a.dues.items)) }
     ensures declared { OnOk result (IsTableOf subject.now.task.now table.new) }
 {
-    let candidates = candidates_of(alloc, table, subject, seen, effort)?;
+    let candidates = candidates_of(alloc, table, subject, seen, &mut effort.work)?;
     let product = Product {
         plan: &seen.drawing.plan,
         owners,

@@ -3,11 +3,11 @@ ghost use Rattle.std.specs.Prelude.{IfOk, OnOk};
 ghost use Rattle.sm_term.specs.Tables.{trees_in, sorts_in};
 ghost use Rattle.sm_term.specs.TableLaws.{Widens};
 ghost use Rattle.sm_plan.specs.ReadyStates.{IsFormReady, AreFormsReady};
-ghost use Rattle.sm_houdini.specs.Nodes.{IsNodeOf};
+ghost use Rattle.sm_goals.specs.Nodes.{IsNodeOf};
 
 use crate::effort::Effort;
 use sm_cert::CertTree;
-use sm_houdini::node_of;
+use sm_goals::node_of;
 use sm_observed::Work;
 use sm_plan::Formulas;
 use sm_solve::{Answer, Node, Reach, solve_at};

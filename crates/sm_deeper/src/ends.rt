@@ -4,7 +4,7 @@ ghost use Rattle.sm_term.specs.Tables.{trees_in, sorts_in};
 ghost use Rattle.sm_term.specs.TableLaws.{Widens};
 ghost use Rattle.sm_plan.specs.ReadyStates.{AreFormsReady};
 ghost use Rattle.sm_expand.specs.Views.{AreDuesReady};
-ghost use Rattle.sm_houdini.specs.Nodes.{IsNodeOf};
+ghost use Rattle.sm_goals.specs.Nodes.{IsNodeOf};
 
 use crate::closing::{boxed_node, pay_node, pay_walk, walked};
 use crate::crew::Crew;

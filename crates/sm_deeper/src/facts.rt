@@ -1,5 +1,5 @@
 // How many facts the nodes of a plan have.
-use crate::kept::Candidates;
+use sm_candidates::Candidates;
 use sm_expand::{Last, Plan, Plans};
 
 // How many candidates a site has.

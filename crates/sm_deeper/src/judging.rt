@@ -4,14 +4,14 @@ ghost use Rattle.sm_term.specs.Tables.{trees_in, sorts_in};
 ghost use Rattle.sm_term.specs.TableLaws.{Widens};
 ghost use Rattle.sm_plan.specs.ReadyStates.{AreFormsReady};
 ghost use Rattle.sm_expand.specs.Views.{AreDuesReady};
-ghost use Rattle.sm_houdini.specs.Nodes.{IsNodeOf};
+ghost use Rattle.sm_goals.specs.Nodes.{IsNodeOf};
 
 use crate::closing::{WalkEnd, boxed_node, pay_node, pay_walk, walked};
 use crate::effort::Effort;
 use crate::marks::are_several;
 use crate::owners::{Owners, owner};
 use sm_expand::Due;
-use sm_houdini::are_same;
+use sm_goals::are_same;
 use sm_solve::{Node, Reach};
 use sm_term::TermTable;
 use std::alloc::{AllocError, Global};

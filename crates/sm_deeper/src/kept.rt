@@ -1,15 +1,9 @@
 // The plan of a choice of candidates.
+use sm_candidates::Candidates;
 use sm_expand::{Last, Plan, Plans};
-use sm_plan::Formulas;
 use sm_sketch::copied_simples;
 use sm_term::{Formula, copy_formula};
 use std::alloc::{AllocError, Global};
-
-/// The candidates of each site that are still there.
-#[derive(Drop)]
-pub(crate) struct Candidates {
-    pub(crate) sites: Vec<Formulas>,
-}
 
 // The conjunction of formulas, by halves.
 #[cycle(conjunction)]

@@ -8,7 +8,7 @@
 //!   none, nothing follows.
 //! - A search ends in time: the work of all drawings, walks and trials of candidates is bounded.
 //!
-//! `search` tries drawings; `attempt` is one, with its repairs: `candidates` walks over its plan
+//! `search` tries drawings; `attempt` is one, with its repairs: `sm_candidates` walks over its plan
 //! for the candidates of each loop, `rounds` drops those that don't prove, and `ends` gives
 //! certificates. Walks are jobs (`ahead`, `end_jobs`): what is found doesn't depend on the number of
 //! workers. What runs show at a loop is read off by `sm_observed`, and `sm_drawing` draws.
@@ -16,7 +16,6 @@
 
 mod ahead;
 mod attempt;
-mod candidates;
 mod closing;
 mod crew;
 mod effort;
@@ -25,15 +24,12 @@ mod ends;
 mod facts;
 mod judging;
 mod kept;
-mod loops;
 mod marks;
 mod owners;
 mod rounds;
 mod same;
 mod search;
 mod shares;
-mod subject;
 mod told;
-mod walking;
 
 pub use search::search_deeper;

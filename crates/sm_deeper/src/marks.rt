@@ -1,5 +1,5 @@
 // Marks at candidates: each is there as long as its goals close.
-use crate::kept::Candidates;
+use sm_candidates::Candidates;
 use sm_plan::Formulas;
 use std::alloc::{AllocError, Global};
 

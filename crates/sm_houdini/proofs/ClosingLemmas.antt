@@ -2,58 +2,38 @@
 use Rattle.std.proofs.Common.{◌≡◌, ℕ, zero, suc, ◌+◌, ◌<◌, ◌≤◌, ◌==◌, Bool, true, false, not, ◌&&◌, ◌||◌, Option, Some, None}
 use Rattle.std.proofs.Common.{List, [], ◌∷◌, ◌++◌, length, take, get_or, slice_get, option_map, refl, sym, ap, ◌∙◌, subst, arith}
 use Rattle.std.proofs.lemmas.Bool.{eq-eqb, eqb-true}
-use Rattle.std.proofs.lemmas.Option.{same_Some}
 use Rattle.std.proofs.lemmas.List.{length-take-le, take_more, map-set, get_or-map}
 use Rattle.std.proofs.Math.ListN.{set}
-use Rattle.std.specs.Prelude.{Vec, Result, Ok, Err, IfOk, IfSome}
+use Rattle.std.specs.Prelude.{Vec, Result, Ok, Err, IfOk}
 use Rattle.std.specs.declared.alloc.AllocError.{AllocError}
 use Rattle.std.specs.declared.alloc.Global.{Global}
 use Rattle.sm_syntax.specs.text.Sorts.{Sorts}
 use Rattle.sm_term.specs.declared.formula.Formula.{Formula}
 use Rattle.sm_term.specs.Assertions.{Assertion}
 use Rattle.sm_term.specs.Formulas.{numbered, assertion_in}
-use Rattle.sm_term.specs.Sorted.{AreFormsSorted}
 use Rattle.sm_term.specs.Tables.{TableValue, trees_in, sorts_in}
-use Rattle.sm_term.specs.TableLaws.{Grows, Widens}
+use Rattle.sm_term.specs.TableLaws.{Widens}
 use Rattle.sm_term.specs.Terms.{Tree}
 use Rattle.sm_plan.specs.Plans as plain
-use Rattle.sm_plan.specs.ReadyStates.{IsFormReady, AreFormsReady}
+use Rattle.sm_plan.specs.ReadyStates.{AreFormsReady}
 use Rattle.sm_plan.specs.Views.{forms_in}
 use Rattle.sm_plan.proofs.TablesWiden as widened
 use Rattle.sm_expand.specs.declared.due.Due.{Due}
 use Rattle.sm_expand.specs.Views.{due_in}
 use Rattle.sm_sketch.specs.Choices.{Choice}
-use Rattle.sm_solve.specs.declared.node.Node.{Node}
 use Rattle.sm_solve.specs.declared.solving.Answer.{Answer}
 use Rattle.sm_solve.specs.Answers.{Tells}
-use Rattle.sm_list.specs.Parts.{all_numbered, assertions_in, AreFormulasWithin}
-use Rattle.sm_solve.specs.Sharing.{IsNode}
+use Rattle.sm_list.specs.Parts.{all_numbered, assertions_in}
 use Rattle.sm_judge.specs.Forms.{Walked}
 use Rattle.sm_solve.specs.Walk.{walk}
 use Rattle.sm_solve.specs.declared.reach.Reach.{Reach}
 use Rattle.sm_houdini.specs.declared.marks.Marked.{Marked}
 use Rattle.sm_houdini.specs.Closing.{closing, closes_at, stays_at, owner_in}
 use Rattle.sm_houdini.specs.Marks.{all_marked, still_marked, rows}
-use Rattle.sm_houdini.specs.Nodes.{IsNodeOf}
+use Rattle.sm_goals.proofs.FormsLemmas.{forms_same}
 use Rattle.sm_houdini.specs.Outcomes.{is_closing}
 use Rattle.sm_houdini.specs.Rounds.{is_site, closes_if}
 use Rattle.sm_houdini.proofs.MarkedLemmas.{still_more, still_both, marked_same, all_same}
-
--- formulas that are ready, as `solve` asks for them
-pub forms_within : (sorts : Sorts) (trees : List Tree) (fs : List Formula) → AreFormsReady sorts trees fs →
-    AreFormulasWithin (length trees) (all_numbered fs)
-forms_within sorts trees [] r = tt
-forms_within sorts trees (f ∷ fs) r = (r.0.0, forms_within sorts trees fs r.1)
-
-pub forms_same : (sorts : Sorts) (trees : List Tree) (fs : List Formula) →
-    assertions_in sorts trees (all_numbered fs) ≡ forms_in sorts trees fs
-forms_same sorts trees [] = refl
-forms_same sorts trees (f ∷ fs) = ap (λ (fs : List Assertion). assertion_in sorts trees (numbered f) ∷ fs) (forms_same sorts trees fs)
-
-pub forms_sorted : (sorts : Sorts) (trees : List Tree) (fs : List Formula) → AreFormsReady sorts trees fs →
-    AreFormsSorted sorts (assertions_in sorts trees (all_numbered fs))
-forms_sorted sorts trees [] r = tt
-forms_sorted sorts trees (f ∷ fs) r = (r.0.1, forms_sorted sorts trees fs r.1)
 
 -- an answer tells whether a goal closes
 pub closed_tells : (sorts : Sorts) (trees ts : List Tree) (reach : Reach) (fs : List Formula) (g : Assertion) (a : Answer) (b : Bool) →
@@ -207,16 +187,6 @@ judged_over v w wider reach due known asks first ms r h =
     (λ (x : Vec Marked Global). x.items ≡ still_marked (closes_at (sorts_in v) reach (due_in (sorts_in v) (trees_in v) due)) first ms)
     (λ x is. is ∙ (λ k. still_marked (closes_at (wider.sorts k) reach (same k)) first ms)) h
 
--- a node of facts, over a table that has got more terms
-pub node_over : (v w : TableValue) → Grows v w → (fs : List Formula) → AreFormsReady (sorts_in v) (trees_in v) fs →
-    (given : List Formula) → given ≡ fs → (node : Option Node) →
-    IfSome node (IsNode w (assertions_in (sorts_in v) (trees_in v) (all_numbered given))) → IsNodeOf w fs node
-node_over v w grows fs ready given are node h =
-    let same : assertions_in (sorts_in v) (trees_in v) (all_numbered given) ≡ assertions_in (sorts_in w) (trees_in w) (all_numbered fs) =
-    ap (λ (gs : List Formula). assertions_in (sorts_in v) (trees_in v) (all_numbered gs)) are ∙ forms_same (sorts_in v) (trees_in v) fs
-    ∙ sym (widened.forms_stay v w (widened.widens_grown v w grows) fs ready) ∙ sym (forms_same (sorts_in w) (trees_in w) fs) in
-    subst (λ (gs : List Assertion). IfSome node (IsNode w gs)) same h
-
 -- sites and their marks
 pub marked_length : (passes : ℕ → ℕ → Bool) (s : ℕ) (choice : Choice) → length (all_marked passes s choice) ≡ length choice
 marked_length passes s [] = refl
@@ -263,10 +233,3 @@ there_judged sorts reach passes owners d site choice vs x row ms owned h found s
     let zero : 0 + site ≡ site = omega arith in
     ap (λ (n : ℕ). passes r i && (not (n == r) || closes_at sorts reach d i)) zero
     ∙ ap (λ (o : Option ℕ). passes r i && (not (is_site o r) || closes_at sorts reach d i)) (sym owned))
-
--- a formula that is found among others that are ready
-pub ready_found : (sorts : Sorts) (trees : List Tree) (fs : List Formula) (i : ℕ) (f : Formula) → slice_get fs i ≡ Some f →
-    AreFormsReady sorts trees fs → IsFormReady sorts trees f
-ready_found sorts trees [] i f e r = absurd cc
-ready_found sorts trees (x ∷ fs) zero f e r = subst (IsFormReady sorts trees) (same_Some x f e) r.0
-ready_found sorts trees (x ∷ fs) (suc i) f e r = ready_found sorts trees fs i f e r.1

@@ -36,6 +36,7 @@ use Rattle.sm_solve.specs.Walk.{walk}
 use Rattle.sm_solve.specs.declared.reach.Reach.{Reach}
 use Rattle.sm_write.specs.TreesWithin.{AreTreesWithin}
 use Rattle.sm_write.specs.Writable.{AreShort}
+use Rattle.sm_goals.proofs.TablesLemmas.{front_stays}
 use Rattle.sm_houdini.specs.Certified.{AreCertified}
 use Rattle.sm_houdini.specs.Collected.{AreCollected, goals_with, stop_in, RunStops, RunCloses, GoalsStop, GoalsClose}
 use Rattle.sm_houdini.specs.Dealing.{dealt, placed}
@@ -322,22 +323,6 @@ runs_stop v w reach d asks runs ends i run h is closes some goals new =
 pub first_stays : (v w : TableValue) → Widens v w → (from : ℕ) → from ≡ length (trees_in v) → take from (trees_in w) ≡ trees_in v
 first_stays v w wider from is = ap (take from) wider.trees.1 ∙ take_at (trees_in v) wider.trees.0 from (sym is)
 
-pub first_within : (v w : TableValue) → Widens v w → (from : ℕ) → from ≡ length (trees_in v) → from ≤ length (trees_in w)
-first_within v w wider from is =
-    let long : length (trees_in w) ≡ length (trees_in v) + length wider.trees.0 = ap length wider.trees.1
-    ∙ length-append (trees_in v) wider.trees.0 in
-    omega (arith, long, is)
-
--- the first terms of a table stay, as many as there are
-pub front_stays : (v w : TableValue) → Widens v w → (from : ℕ) → from ≤ length (trees_in v) → take from (trees_in w) ≡ take from (trees_in v)
-front_stays v w wider from within = ap (take from) wider.trees.1 ∙ take-append-le from (trees_in v) wider.trees.0 within
-
-pub front_within : (v w : TableValue) → Widens v w → (from : ℕ) → from ≤ length (trees_in v) → from ≤ length (trees_in w)
-front_within v w wider from within =
-    let long : length (trees_in w) ≡ length (trees_in v) + length wider.trees.0 = ap length wider.trees.1
-    ∙ length-append (trees_in v) wider.trees.0 in
-    omega (arith, long, within)
-
 pub rows_sound : (v w : TableValue) → Widens v w → (from : ℕ) → from ≤ length (trees_in v) → (runs : List RunEnd) (i : ℕ) (run : RunEnd) →
     run ≡ get_or runs i run → AreRowsSound (sorts_in v) (take from (trees_in v)) (get_or runs i run).rows →
     AreRowsSound (sorts_in w) (take from (trees_in w)) run.rows
@@ -555,10 +540,6 @@ pub due_whole : (v w : TableValue) (reach : Reach) (d : program.Due) (asks : Lis
 due_whole v w reach d asks same goals new o h =
     subst (λ (fs : List Formula). Ended (sorts_in v) reach d.node 0 (forms_in (sorts_in v) (trees_in v) d.facts.list.items)
     (forms_in (sorts_in v) (trees_in v) fs) w goals new o) same h
-
-pub goals_ready : (v : TableValue) (asks given : List Formula) → given ≡ asks → AreFormsReady (sorts_in v) (trees_in v) asks →
-    AreFormsReady (sorts_in v) (trees_in v) given
-goals_ready v asks given same = subst (AreFormsReady (sorts_in v) (trees_in v)) (sym same)
 
 -- the goals of a run are in the table, as all are
 run_ready : (sorts : Sorts) (trees : List Tree) (size first : ℕ) (asks : List Formula) → AreFormsReady sorts trees asks →

@@ -17,7 +17,7 @@ use Rattle.sm_cert.specs.Certificates.{Certificate, Closes}
 use Rattle.sm_cert.specs.NamedTerms.{EachTerm}
 use Rattle.sm_cert.specs.Views.{certificate_in, lines_of, AreLinesWithin}
 use Rattle.sm_plan.specs.Plans.{Due}
-use Rattle.sm_plan.specs.ReadyStates.{IsFormReady, AreFormsReady}
+use Rattle.sm_plan.specs.ReadyStates.{AreFormsReady}
 use Rattle.sm_plan.specs.Views.{forms_in}
 use Rattle.sm_plan.proofs.TablesWiden as widened
 use Rattle.sm_expand.specs.declared.due.Due as program
@@ -42,8 +42,10 @@ use Rattle.sm_houdini.specs.Outcomes.{Outcome, Accepted, Conflict, Open, Steps}
 use Rattle.sm_houdini.specs.Outcomes.{Coefficient, TooMany, goal_outcome, goals_outcome, final_outcome}
 use Rattle.sm_houdini.specs.declared.ending.Stop.{Stop}
 use Rattle.sm_houdini.proofs.LoopLemmas.{taken}
-use Rattle.sm_houdini.proofs.ClosingLemmas.{forms_same, due_stays}
-use Rattle.sm_houdini.proofs.RoundSteps.{facts_at}
+use Rattle.sm_goals.proofs.FormsLemmas.{forms_same}
+use Rattle.sm_houdini.proofs.ClosingLemmas.{due_stays}
+use Rattle.sm_goals.proofs.NodesLemmas.{facts_at}
+use Rattle.sm_goals.proofs.FormsLemmas.{form_at}
 use Rattle.sm_houdini.proofs.SimpleWritable.{certified_append}
 
 pub within_append : (n : ℕ) (xs ys : List CertTree) → AreTreesWithin n xs → AreTreesWithin n ys → AreTreesWithin n (xs ++ ys)
@@ -97,15 +99,6 @@ map_count F (x ∷ xs) = ap suc (map_count F xs)
 
 pub forms_count : (sorts : Sorts) (trees : List Tree) (fs : List Formula) → length (forms_in sorts trees fs) ≡ length fs
 forms_count sorts trees fs = map_count (λ (f : Formula). assertion_in sorts trees (numbered f)) fs
-
-pub form_at : (sorts : Sorts) (trees : List Tree) (fs : List Formula) (i : ℕ) (f : Formula) → AreFormsReady sorts trees fs →
-    i < length fs → f ≡ get_or fs i f → IsFormReady sorts trees f
-form_at sorts trees fs i f ready h e = subst (IsFormReady sorts trees) (sym e) (go fs i ready h)
-  where
-    go : (fs : List Formula) (i : ℕ) → AreFormsReady sorts trees fs → i < length fs → IsFormReady sorts trees (get_or fs i f)
-    go [] i r l = absurd (let no : i < 0 = l in omega arith)
-    go (x ∷ xs) zero r l = r.0
-    go (x ∷ xs) (suc i) r l = let fewer : i < length xs = omega (arith, l) in go xs i r.1 fewer
 
 -- lists over a table, one item further
 pub further : {X Y : Type 0} (F : X → Y) (xs : List X) (i : ℕ) (x : X) → i < length xs → x ≡ get_or xs i x →

@@ -2,12 +2,10 @@
 use Rattle.std.proofs.Common.{◌≡◌, ◌<◌, ◌≤◌, ℕ, Bool, not, ◌&&◌, Some, None, Ok, Err, List, length, get_or, zero-add, sym, ap, ◌∙◌, subst}
 use Rattle.std.specs.Prelude.{Result, IfOk}
 use Rattle.std.specs.declared.alloc.AllocError.{AllocError}
-use Rattle.sm_syntax.specs.text.Sorts.{Sorts}
 use Rattle.sm_par.specs.Results.{StandInOrder}
 use Rattle.sm_term.specs.Tables.{TableValue, trees_in, sorts_in}
-use Rattle.sm_term.specs.Terms.{Tree}
 use Rattle.sm_expand.specs.declared.due.Due.{Due}
-use Rattle.sm_expand.specs.Views.{due_in, dues_in, AreDuesReady}
+use Rattle.sm_expand.specs.Views.{due_in, dues_in}
 use Rattle.sm_sketch.specs.Choices.{Choice}
 use Rattle.sm_sketch.specs.ChoiceViews.{choice_in}
 use Rattle.sm_solve.specs.declared.reach.Reach.{Reach}
@@ -27,12 +25,6 @@ pub known_over : (v w : TableValue) → sorts_in w ≡ sorts_in v → trees_in w
     (flags : List Bool) → AreKnown v reach ds flags → AreKnown w reach ds flags
 known_over v w sorts trees reach ds flags known k i d h flag =
     (λ j. closes_at (sorts j) reach (due_in (sorts j) (trees j) (get_or ds k d)) i) ∙ known k i d h flag
-
-pub ready_over : (v w : TableValue) → sorts_in w ≡ sorts_in v → trees_in w ≡ trees_in v → (ds : List Due) →
-    AreDuesReady (sorts_in v) (trees_in v) ds → AreDuesReady (sorts_in w) (trees_in w) ds
-ready_over v w sorts trees ds ready =
-    subst (λ (s : Sorts). AreDuesReady s (trees_in w) ds) (sym sorts)
-    (subst (λ (t : List Tree). AreDuesReady (sorts_in v) t ds) (sym trees) ready)
 
 -- the marks of a share over a table with the same terms
 pub share_tells : (v x : RoundGoalsValue) → v ≡ x → (w : TableValue) (share : ℕ) (m : Marks) → sorts_in w ≡ sorts_in v.table →

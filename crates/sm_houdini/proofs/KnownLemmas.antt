@@ -1,10 +1,10 @@
 -- What a round tells of the goals that the next one asks.
 use Rattle.std.proofs.Common.{◌≡◌, ℕ, zero, suc, ◌+◌, ◌==◌, ◌<◌, ◌≤◌, Bool, true, false, not, ◌&&◌, ◌||◌, Option, Some, None, ◌⊎◌, inl, inr}
-use Rattle.std.proofs.Common.{option_map, List, [], ◌∷◌, ◌++◌, map, take, length, get_or, slice_get, refl, sym, ap, ◌∙◌, subst, arith}
+use Rattle.std.proofs.Common.{option_map, List, [], ◌∷◌, ◌++◌, map, length, get_or, slice_get, refl, sym, ap, ◌∙◌, subst, arith}
 use Rattle.std.specs.List.{list_all}
 use Rattle.std.specs.Prelude.{Vec, IfSome}
 use Rattle.std.specs.declared.alloc.Global.{Global}
-use Rattle.std.proofs.lemmas.List.{get_or-map, length-map}
+use Rattle.std.proofs.lemmas.List.{length-map}
 use Rattle.std.proofs.lemmas.Bool.{and_parts}
 use Rattle.std.proofs.lemmas.Bool.Decides.{nat_tests}
 use Rattle.sm_syntax.specs.text.Sorts.{Sorts}
@@ -28,7 +28,7 @@ use Rattle.sm_houdini.specs.Closing.{closing, closes_at, stays_at, owner_in}
 use Rattle.sm_houdini.specs.Known.{IsAsked, IsAskedBefore, AreKnown, is_flagged}
 use Rattle.sm_houdini.specs.Marks.{marked, all_marked, is_there, has_mark, rows}
 use Rattle.sm_houdini.specs.Rounds.{is_site, closes_if, holds_at}
-use Rattle.sm_houdini.proofs.LoopLemmas.{taken, get_any}
+use Rattle.sm_houdini.proofs.LoopLemmas.{get_any}
 use Rattle.sm_houdini.proofs.MarkedLemmas.{all_same}
 
 -- a mark that is there passes
@@ -204,20 +204,6 @@ asked_again sorts trees reach new old marks facts among before i =
     ∙ ap (λ (fs : List Assertion). closes_if (closing sorts reach fs) (slice_get (forms_in sorts trees old.targets.list.items) j)) same
     ∙ before j marked))
     i g there)
-
--- formulas that are the same up to a place, and one more
-pub same_put : (xs ys : List Formula) (n : ℕ) (x y : Formula) → n < length xs → n < length ys → x ≡ get_or xs n x → y ≡ get_or ys n y →
-    numbered x ≡ numbered y → take n (all_numbered xs) ≡ take n (all_numbered ys) →
-    take (n + 1) (all_numbered xs) ≡ take (n + 1) (all_numbered ys)
-same_put xs ys n x y h k here there same before =
-    one_more xs n x h here ∙ (λ j. before j ++ same j ∷ []) ∙ sym (one_more ys n y k there)
-  where
-    one_more : (xs : List Formula) (n : ℕ) (x : Formula) → n < length xs → x ≡ get_or xs n x →
-        take (n + 1) (all_numbered xs) ≡ take n (all_numbered xs) ++ numbered x ∷ []
-    one_more xs n x h here =
-        let count = length-map xs numbered in
-        let inside : n < length (all_numbered xs) = omega (arith, h, count) in
-        taken (all_numbered xs) n (numbered x) inside (ap numbered here ∙ sym (get_or-map numbered xs n x (numbered x) h))
 
 -- the formula that is found next
 pub found_next : (list others : List Formula) (found at : ℕ) (closes : NumberedFormula → Bool) (marks : List Marked) →

@@ -1,6 +1,6 @@
 -- Rounds: marks after what the nodes ask, what is next, and what settles.
 use Rattle.std.proofs.Common.{◌≡◌, ℕ, zero, suc, ◌+◌, ◌<◌, ◌≤◌, Bool, true, false, not, ◌&&◌, ◌||◌, if◌then◌else◌, Option, None}
-use Rattle.std.proofs.Common.{List, [], ◌∷◌, map, length, drop, get_or, slice_get, add-one, refl, sym, ap, ◌∙◌, subst, arith}
+use Rattle.std.proofs.Common.{List, [], ◌∷◌, map, length, drop, get_or, slice_get, add-one, refl, sym, ap, ◌∙◌, arith}
 use Rattle.std.proofs.Math.Seq.{drop-cons}
 use Rattle.std.proofs.lemmas.List.{drop-map}
 use Rattle.sm_syntax.specs.text.Parts.{Parts, sort_of}
@@ -11,13 +11,13 @@ use Rattle.sm_term.specs.TableLaws.{Widens}
 use Rattle.sm_term.specs.Terms.{Tree}
 use Rattle.sm_text.specs.declared.task.Task.{Task}
 use Rattle.sm_plan.specs.Plans as plain
-use Rattle.sm_plan.specs.ReadyStates.{AreFormsReady}
 use Rattle.sm_expand.specs.declared.due.Due.{Due}
 use Rattle.sm_expand.specs.Views.{due_in, dues_in, AreDuesReady}
 use Rattle.sm_sketch.specs.Choices.{Choice}
 use Rattle.sm_sketch.proofs.SketchesWiden.{sketch_stays, sketch_ready}
 use Rattle.sm_product.specs.Products.{sketch_of}
 use Rattle.sm_solve.specs.declared.reach.Reach.{Reach}
+use Rattle.sm_goals.proofs.NodesLemmas.{facts_at}
 use Rattle.sm_houdini.specs.declared.marks.Marked.{Marked}
 use Rattle.sm_houdini.specs.declared.product.Product.{Product}
 use Rattle.sm_houdini.specs.Closing.{closing, stays_at, owner_in, Knows}
@@ -56,17 +56,6 @@ holds_more : (out : ℕ → Bool) (closes : List Assertion → Assertion → Boo
 holds_more out closes owner n ds d s i =
     and_turned (out n || (not (is_site (owner d) s) || closes_if (closes d.facts) (slice_get d.goals i)))
     (holds_but out closes owner (suc n) ds s i)
-
-pub facts_at : (sorts : Sorts) (trees : List Tree) (ds : List Due) (i : ℕ) (d : Due) → AreDuesReady sorts trees ds → i < length ds →
-    d ≡ get_or ds i d → AreFormsReady sorts trees d.facts.list.items × AreFormsReady sorts trees d.targets.list.items
-facts_at sorts trees ds i d ready h e =
-    subst (λ (x : Due). AreFormsReady sorts trees x.facts.list.items × AreFormsReady sorts trees x.targets.list.items) (sym e) (go ds i ready h)
-  where
-    go : (ds : List Due) (i : ℕ) → AreDuesReady sorts trees ds → i < length ds →
-        (let x = get_or ds i d in AreFormsReady sorts trees x.facts.list.items × AreFormsReady sorts trees x.targets.list.items)
-    go [] i r l = absurd (let no : i < 0 = l in omega arith)
-    go (x ∷ xs) zero r l = (r.0, r.1)
-    go (x ∷ xs) (suc i) r l = let fewer : i < length xs = omega (arith, l) in go xs i r.2 fewer
 
 -- the dues from a place on are the one there and those behind it
 pub dues_left : (sorts : Sorts) (trees : List Tree) (ds : List Due) (i : ℕ) (d : Due) → i < length ds → d ≡ get_or ds i d →

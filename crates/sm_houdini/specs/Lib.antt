@@ -7,7 +7,6 @@ pub mod Laws
 pub mod Views
 pub mod Marks
 pub mod Closing
-pub mod Nodes
 pub mod Known
 pub mod NodeJobs
 pub mod GoalJobs

@@ -13,7 +13,8 @@ use Rattle.sm_houdini.specs.declared.ending.Stop.{Stop}
 use Rattle.sm_houdini.specs.declared.outcome.Outcome as program
 use Rattle.sm_houdini.specs.Collected.{stop_in}
 use Rattle.sm_houdini.specs.Outcomes.{Outcome, Accepted, plan_outcome}
-use Rattle.sm_houdini.specs.Views.{outcome_in, IsWhole}
+use Rattle.sm_goals.specs.Whole.{IsWhole}
+use Rattle.sm_houdini.specs.Views.{outcome_in}
 
 -- what a search asks of a task, beside sorts and numbers: no filling has a hole. It may have any
 -- number of nodes

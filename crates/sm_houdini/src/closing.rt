@@ -12,11 +12,12 @@ ghost use Rattle.sm_solve.specs.Answers.{Tells};
 ghost use Rattle.sm_judge.specs.Forms.{Walked};
 ghost use Rattle.sm_houdini.specs.Closing.{closing, closes_at};
 ghost use Rattle.sm_houdini.specs.Marks.{still_marked};
-ghost use Rattle.sm_houdini.specs.Nodes.{IsNodeOf};
+ghost use Rattle.sm_goals.specs.Nodes.{IsNodeOf};
 ghost use Rattle.sm_houdini.specs.Outcomes.{is_closing};
 
 use crate::marks::Marked;
 use sm_expand::Due;
+use sm_goals::node_of;
 use sm_plan::Formulas;
 use sm_solve::{Answer, Node, Reach, solve_at};
 use sm_term::{Formula, TermTable};
@@ -33,26 +34,6 @@ fn is_closed(answer: &Answer) -> bool
         Answer::Steps => false,
         Answer::Coefficient { .. } => false,
     }
-}
-
-/// The node of these facts, where goals are to share it: none where they aren't, and none where it
-/// takes more than `steps` to make. The table only widens.
-pub fn node_of(
-    alloc: Global,
-    table: &mut TermTable,
-    facts: &Formulas,
-    is_shared: bool,
-    steps: u64,
-) -> Result<Option<Node>, AllocError>
-    requires { AreFormsReady (sorts_in table.old) (trees_in table.old) facts.now.list.items }
-    ensures node { IfOk result (IsNodeOf table.new facts.now.list.items) }
-    ensures widens { Widens table.old table.new }
-{
-    if !is_shared {
-        return Ok(None);
-    }
-    let node = Node::of(alloc, table, &facts.list, steps)?;
-    Ok(node)
 }
 
 // Whether a goal closes over facts.

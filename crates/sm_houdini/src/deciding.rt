@@ -25,11 +25,12 @@ ghost use Rattle.sm_houdini.specs.Views.{IsProof};
 
 use crate::ending::{Stop, end_all, stopped};
 use crate::goal_jobs::Crew;
-use crate::outcome::{Outcome, Proof};
+use crate::outcome::Outcome;
 use crate::product::Product;
 use crate::rounds::settled;
 use crate::sites::{Sites, sites_of};
 use sm_expand::{Obligations, Plan, PlanFault};
+use sm_goals::Proof;
 use sm_par::Gate;
 use sm_product::{is_small, obligations_of, sketch_of};
 use sm_sided::CertTrees;

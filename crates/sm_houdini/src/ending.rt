@@ -21,16 +21,16 @@ ghost use Rattle.sm_houdini.specs.Certified.{asked};
 ghost use Rattle.sm_houdini.specs.Collected.{AreCollected, goals_with, stop_in, GoalStops};
 ghost use Rattle.sm_houdini.specs.Collected.{GoalCloses, RunStops, RunCloses, FinalStops};
 ghost use Rattle.sm_houdini.specs.Collected.{FinalCloses, IsInsideClosed};
-ghost use Rattle.sm_houdini.specs.Nodes.{IsNodeOf};
+ghost use Rattle.sm_goals.specs.Nodes.{IsNodeOf};
 ghost use Rattle.sm_houdini.specs.Views.{outcome_in, IsProof};
 
-use crate::closing::node_of;
 use crate::end_jobs::end_by_jobs;
 use crate::goal_jobs::{Crew, parts_of};
 use crate::outcome::Outcome;
 use crate::short::is_short;
 use sm_cert::CertTree;
 use sm_expand::Due;
+use sm_goals::node_of;
 use sm_num::Op;
 use sm_par::Gate;
 use sm_plan::Formulas;

@@ -14,7 +14,8 @@ use crate::asked::Asked;
 use crate::marks::{Marked, is_marked};
 use crate::owners::owner;
 use sm_expand::Due;
-use sm_judge::is_same_formula;
+use sm_goals::are_same;
+use sm_pairs::is_same_formula;
 use sm_term::Formula;
 use std::alloc::{AllocError, Global};
 
@@ -26,21 +27,6 @@ pub(crate) fn is_flagged(flags: &[bool], at: usize) -> bool
         Some(flag) => *flag,
         None => false,
     }
-}
-
-/// Whether two lists have equal formulas, in order.
-pub fn are_same(list: &[Formula], others: &[Formula]) -> bool
-    ensures { result ≡ true → all_numbered list.now ≡ all_numbered others.now }
-{
-    if list.len() != others.len() {
-        return false;
-    }
-    for n in 0..list.len() {
-        if !is_same_formula(&list[n], &others[n]) {
-            return false;
-        }
-    }
-    true
 }
 
 // Whether the formula at a place of a list is the one at a place of others, and that is marked.

@@ -46,13 +46,11 @@ mod short;
 mod sites;
 mod writing;
 
-pub use closing::node_of;
-pub use known::are_same;
 pub use laws::{
     asked_under_fewer, certified_are_short, conflict_is_least, dropped_are_refuted,
     final_has_no_owner, kept_has_obligations, kept_is_inductive, outcome_is_one,
     search_is_writable, shown_in_rounds, sites_ask_chosen, valid_is_searchable,
 };
-pub use outcome::{Outcome, Proof};
+pub use outcome::Outcome;
 pub use searching::search;
 pub use writing::proof_text;

@@ -1,17 +1,7 @@
 // What a search comes to.
-use sm_expand::Plan;
+use sm_goals::Proof;
 use sm_num::Op;
 use sm_replay::Verdict;
-use sm_sided::CertTrees;
-use sm_term::TermTable;
-
-/// A plan of a task, over a table of terms, with a certificate for each goal that it asks.
-#[derive(Drop)]
-pub struct Proof {
-    pub table: TermTable,
-    pub plan: Plan,
-    pub trees: CertTrees,
-}
 
 /// What the search for a proof of a task comes to. Nodes and goals of the plan are numbered.
 #[derive(Drop)]

@@ -14,11 +14,13 @@ ghost use Rattle.sm_replay.specs.Sorted.{sort_fault};
 ghost use Rattle.sm_solve.specs.declared.reach.Reach.{Reach};
 ghost use Rattle.sm_houdini.specs.Outcomes.{IsOutcome};
 ghost use Rattle.sm_houdini.specs.Searchable.{IsSearchable};
-ghost use Rattle.sm_houdini.specs.Views.{outcome_in, IsProof, IsWhole};
+ghost use Rattle.sm_goals.specs.Whole.{IsWhole};
+ghost use Rattle.sm_houdini.specs.Views.{outcome_in, IsProof};
 
 use crate::deciding::by_plan;
 use crate::goal_jobs::Crew;
-use crate::outcome::{Outcome, Proof};
+use crate::outcome::Outcome;
+use sm_goals::Proof;
 use sm_par::Gate;
 use sm_replay::first_violation;
 use sm_sided::{one_sided, whole_plan};

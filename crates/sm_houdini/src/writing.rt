@@ -7,9 +7,9 @@ ghost use Rattle.sm_plan.specs.SortedStates.{IsTaskSorted};
 ghost use Rattle.sm_plan.specs.Starts.{AreNumbered};
 ghost use Rattle.sm_proof.specs.Verdicts.{Passes};
 ghost use Rattle.sm_write.specs.Versions.{HasVersion};
-ghost use Rattle.sm_houdini.specs.Views.{IsWhole};
+ghost use Rattle.sm_goals.specs.Whole.{IsWhole};
 
-use crate::outcome::Proof;
+use sm_goals::Proof;
 use sm_text::Task;
 use sm_write::write_proof;
 use std::alloc::{AllocError, Global};

@@ -9,7 +9,7 @@ use Rattle.sm_term.specs.declared.formula.Formula.{Formula}
 use Rattle.sm_term.specs.Formulas.{NumberedFormula, Yes, No, Eq, Ne, Le, Lt, And, Or, numbered}
 use Rattle.sm_judge.specs.Keyed.{mixed, key_of, HasKeys, AreKeyed}
 use Rattle.sm_list.specs.Parts.{all_numbered, numbered_at}
-use Rattle.sm_judge.specs.Seeing.{same_numbered}
+use Rattle.sm_pairs.specs.SameFormulas.{same_numbered}
 use Rattle.sm_judge.proofs.TornLemmas.{none_passes}
 
 -- the same numbers have one key

@@ -12,7 +12,7 @@ use Rattle.sm_term.proofs.SameTermsLemmas.{same_tree_is, same_sort_is}
 use Rattle.sm_theory.proofs.SidesLemmas.{numbers_tell}
 use Rattle.sm_judge.specs.Holding.{same_formula}
 use Rattle.sm_list.specs.Parts.{assertions_in, AreFormulasWithin}
-use Rattle.sm_judge.specs.Seeing.{same_numbered}
+use Rattle.sm_pairs.specs.SameFormulas.{same_numbered}
 
 module _ (sorts : Sorts) (trees : List Tree) (apart : AreApart trees) where
   -- two terms

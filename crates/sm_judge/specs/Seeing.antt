@@ -1,5 +1,5 @@
 -- Cited by public clauses: what is seen on a branch of the program, and what it is split by.
-use Rattle.std.specs.Prelude.{ℕ, ◌==◌, Bool, true, false, ◌&&◌, ◌||◌, if◌then◌else◌}
+use Rattle.std.specs.Prelude.{ℕ, Bool, true, false, ◌||◌, if◌then◌else◌}
 use Rattle.std.specs.Prelude.{Option, Some, None, List, [], ◌∷◌}
 use Rattle.sm_syntax.specs.declared.tree.Sort.TheVariants.{Num}
 use Rattle.sm_syntax.specs.text.Sorts.{Sorts}
@@ -23,18 +23,6 @@ seen_in sorts trees terms facts equal apart = record {
   equal = equal;
   apart = apart;
 }
-
--- whether two formulas are the same, by numbers of terms
-abbrev pub same_numbered : NumberedFormula → NumberedFormula → Bool
-same_numbered Yes Yes = true
-same_numbered No No = true
-same_numbered (Eq t u) (Eq v w) = (t == v) && (u == w)
-same_numbered (Ne t u) (Ne v w) = (t == v) && (u == w)
-same_numbered (Le t u) (Le v w) = (t == v) && (u == w)
-same_numbered (Lt t u) (Lt v w) = (t == v) && (u == w)
-same_numbered (And p q) (And r s) = same_numbered p r && same_numbered q s
-same_numbered (Or p q) (Or r s) = same_numbered p r && same_numbered q s
-same_numbered f g = false
 
 -- the split that two formulas of the program stand for
 abbrev pub split_in : Sorts → List Tree → Option (Formula × Formula) → Option Split

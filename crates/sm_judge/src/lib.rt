@@ -30,7 +30,6 @@ mod torn;
 pub use closing::{BranchSplit, Closing, closed_by, split_of};
 pub use eliminating::{ByForms, ElimLine, Refutation, by_forms};
 pub use forms::{Source, SourcedForms, forms_by_labels, forms_of};
-pub use keyed::is_same_formula;
 pub use linears::{add_linear_forms, linear_forms};
 pub use term_places::terms_have_places;
 pub use torn::have_same_parts;

@@ -2,7 +2,7 @@
 use crate::scene::Scene;
 use crate::truth::holds_at_all;
 use crate::work::Work;
-use sm_judge::is_same_formula;
+use sm_pairs::is_same_formula;
 use sm_plan::Formulas;
 use sm_term::{Formula, TermTable, copy_formula};
 use std::alloc::{AllocError, Global};

@@ -1,5 +1,5 @@
 -- The copy has the same terms.
-use Rattle.sm_houdini.proofs.GoalJobsLemmas.{ready_over}
+use Rattle.sm_goals.proofs.NodesLemmas.{ready_over}
 use Rattle.sm_deeper.proofs.ahead.found_by.Goals as goal
 
 pub walk_shares-requires : goal.walk_shares-requires

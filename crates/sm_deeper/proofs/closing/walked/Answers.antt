@@ -6,7 +6,8 @@ use Rattle.sm_term.specs.Sorted.{AreFormsSorted}
 use Rattle.sm_term.specs.Tables.{trees_in, sorts_in}
 use Rattle.sm_list.specs.Parts.{all_numbered, assertions_in, AreFormulasWithin}
 use Rattle.sm_solve.specs.Sharing.{IsNode}
-use Rattle.sm_houdini.proofs.ClosingLemmas.{forms_within, forms_sorted, node_over}
+use Rattle.sm_goals.proofs.FormsLemmas.{forms_within, forms_sorted}
+use Rattle.sm_goals.proofs.NodesLemmas.{node_over}
 use Rattle.sm_deeper.proofs.closing.walked.Goals as goal
 
 pub solve_at-requires-clause-facts : goal.solve_at-requires-clause-facts

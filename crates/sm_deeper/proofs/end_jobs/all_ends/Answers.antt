@@ -4,7 +4,7 @@ use Rattle.std.proofs.Common.{rules}
 use Rattle.std.proofs.Crossing.{crosses}
 use Rattle.sm_term.specs.Tables.{trees_in, sorts_in}
 use Rattle.sm_term.specs.Tails.{AreRowsSound}
-use Rattle.sm_houdini.proofs.SharedLemmas.{table_sync, due_sync}
+use Rattle.sm_goals.proofs.SharedLemmas.{table_sync, due_sync}
 use Rattle.sm_deeper.specs.declared.end_jobs.JobEnd.{JobEnd}
 use Rattle.sm_deeper.proofs.Crossing.{job_end_send}
 use Rattle.sm_deeper.proofs.RowsLemmas.{all_hold}

@@ -1,7 +1,6 @@
 -- The copy has the same terms, and then its rows.
-use Rattle.std.proofs.Common.{Ok, Err}
-use Rattle.sm_houdini.proofs.EndJobsLemmas.{first_within}
-use Rattle.sm_houdini.proofs.GoalJobsLemmas.{ready_over}
+use Rattle.sm_goals.proofs.TablesLemmas.{first_within}
+use Rattle.sm_goals.proofs.NodesLemmas.{ready_over}
 use Rattle.sm_deeper.proofs.RowsLemmas.{copy_sound}
 use Rattle.sm_deeper.proofs.end_jobs.job_end.Goals as goal
 

@@ -1,7 +1,6 @@
 -- What is asked stays ready while it is walked.
 use Rattle.sm_plan.proofs.TablesWiden.{widens_twice}
 use Rattle.sm_expand.proofs.PlansWiden.{dues_ready}
-use Rattle.sm_deeper.proofs.Widening.{widens_then}
 use Rattle.sm_deeper.proofs.ends.end_of.Goals as goal
 
 pub open_ends-requires : goal.open_ends-requires

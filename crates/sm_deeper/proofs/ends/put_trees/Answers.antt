@@ -1,6 +1,6 @@
 -- Over the table before the node was made.
 use Rattle.sm_plan.proofs.TablesWiden.{forms_ready}
-use Rattle.sm_houdini.proofs.EndJobsLemmas.{goals_ready}
+use Rattle.sm_goals.proofs.FormsLemmas.{goals_ready}
 use Rattle.sm_deeper.proofs.Widening.{widens_then}
 use Rattle.sm_deeper.proofs.ends.put_trees.Goals as goal
 

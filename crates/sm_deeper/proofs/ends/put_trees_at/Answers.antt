@@ -1,6 +1,6 @@
 use Rattle.sm_term.specs.Tables.{trees_in, sorts_in}
 use Rattle.sm_plan.proofs.TablesWiden.{forms_ready, form_ready}
-use Rattle.sm_houdini.proofs.EndLemmas.{form_at}
+use Rattle.sm_goals.proofs.FormsLemmas.{form_at}
 use Rattle.sm_deeper.proofs.ends.put_trees_at.Goals as goal
 
 pub walked-requires-clause-facts : goal.walked-requires-clause-facts

@@ -1,6 +1,6 @@
 -- The table has no fewer terms, and the node is one over it.
 use Rattle.sm_term.specs.TableLaws.{Widens}
-use Rattle.sm_houdini.specs.Nodes.{IsNodeOf}
+use Rattle.sm_goals.specs.Nodes.{IsNodeOf}
 use Rattle.sm_deeper.proofs.ends.put_trees_at.Given as goal
 
 abbrev pub invariant-loop-goal : goal.invariant-loop-goal

@@ -1,5 +1,5 @@
 -- The table is of the task's declarations.
-use Rattle.sm_deeper.specs.Subjects.{IsTableOf}
+use Rattle.sm_candidates.specs.Subjects.{IsTableOf}
 use Rattle.sm_deeper.proofs.rounds.settled.Given as goal
 
 abbrev pub invariant-loop : goal.invariant-loop

@@ -9,7 +9,8 @@ use Rattle.sm_list.specs.Parts.{all_numbered, assertions_in, AreFormulasWithin}
 use Rattle.sm_solve.specs.Sharing.{IsNode}
 use Rattle.sm_solve.specs.Walk.{walk}
 use Rattle.sm_houdini.specs.Closing.{closing}
-use Rattle.sm_houdini.proofs.ClosingLemmas.{forms_within, forms_same, forms_sorted, node_over}
+use Rattle.sm_goals.proofs.FormsLemmas.{forms_within, forms_same, forms_sorted}
+use Rattle.sm_goals.proofs.NodesLemmas.{node_over}
 use Rattle.sm_houdini.proofs.closing.closes.Goals as goal
 
 pub solve_at-requires-clause-facts : goal.solve_at-requires-clause-facts

@@ -5,7 +5,7 @@ use Rattle.sm_term.specs.TableLaws.{Widens}
 use Rattle.sm_expand.specs.Views.{due_in}
 use Rattle.sm_houdini.specs.Closing.{closes_at}
 use Rattle.sm_houdini.specs.Marks.{still_marked}
-use Rattle.sm_houdini.specs.Nodes.{IsNodeOf}
+use Rattle.sm_goals.specs.Nodes.{IsNodeOf}
 use Rattle.sm_houdini.proofs.closing.judged_at.Given as goal
 
 abbrev pub invariant-loop-mark : goal.invariant-loop-mark

@@ -6,7 +6,8 @@ use Rattle.sm_term.specs.Tables.{trees_in, sorts_in}
 use Rattle.sm_plan.specs.Views.{forms_in}
 use Rattle.sm_expand.specs.Views.{due_in}
 use Rattle.sm_houdini.specs.Closing.{closing, closes_at}
-use Rattle.sm_houdini.proofs.ClosingLemmas.{ready_found, some_stays, none_stays, ok_map}
+use Rattle.sm_goals.proofs.FormsLemmas.{ready_found}
+use Rattle.sm_houdini.proofs.ClosingLemmas.{some_stays, none_stays, ok_map}
 use Rattle.sm_houdini.proofs.closing.stays.Goals as goal
 
 pub closes-requires-clause-goal : goal.closes-requires-clause-goal

@@ -8,7 +8,6 @@ use Rattle.sm_expand.specs.declared.due.Due as program
 use Rattle.sm_expand.specs.Views.{dues_in, AreDuesReady}
 use Rattle.sm_sketch.specs.Choices.{kept_by}
 use Rattle.sm_sketch.specs.Sketches.{plan_with}
-use Rattle.sm_product.proofs.HolesLemmas.{valid_no_hole}
 use Rattle.sm_solve.specs.Walk.{walk}
 use Rattle.sm_houdini.specs.Closing.{closing}
 use Rattle.sm_houdini.specs.Certified.{asked}

@@ -4,7 +4,8 @@ use Rattle.sm_term.specs.Tables.{trees_in, sorts_in}
 use Rattle.sm_plan.specs.Views.{forms_in}
 use Rattle.sm_plan.proofs.TablesWiden.{widens_same, widens_twice}
 use Rattle.sm_expand.specs.Views.{due_in}
-use Rattle.sm_houdini.proofs.EndJobsLemmas.{front_within, rows_sound, runs_none, collected_none, runs_stop, runs_more, runs_left, runs_done}
+use Rattle.sm_goals.proofs.TablesLemmas.{front_within}
+use Rattle.sm_houdini.proofs.EndJobsLemmas.{rows_sound, runs_none, collected_none, runs_stop, runs_more, runs_left, runs_done}
 use Rattle.sm_houdini.proofs.end_jobs.joined.Goals as goal
 
 pub take_run-requires-clause-behind : goal.take_run-requires-clause-behind

@@ -6,7 +6,8 @@ use Rattle.sm_term.specs.Tables.{trees_in, sorts_in}
 use Rattle.sm_plan.proofs.TablesWiden.{widens_grown}
 use Rattle.sm_list.specs.Parts.{all_numbered, assertions_in, AreFormulasWithin}
 use Rattle.sm_solve.specs.Sharing.{IsNode}
-use Rattle.sm_houdini.proofs.ClosingLemmas.{forms_within, forms_sorted, node_over}
+use Rattle.sm_goals.proofs.FormsLemmas.{forms_within, forms_sorted}
+use Rattle.sm_goals.proofs.NodesLemmas.{node_over}
 use Rattle.sm_houdini.proofs.EndLemmas.{goal_ends, goal_stopped}
 use Rattle.sm_houdini.proofs.ending.end_goal.Goals as goal
 

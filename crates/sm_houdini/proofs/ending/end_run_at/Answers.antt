@@ -3,7 +3,8 @@ use Rattle.sm_term.specs.Assertions.{Assertion}
 use Rattle.sm_houdini.specs.Collected.{AreCollected}
 use Rattle.sm_term.specs.Tables.{trees_in, sorts_in}
 use Rattle.sm_plan.proofs.TablesWiden.{widens_twice, forms_ready, form_ready}
-use Rattle.sm_houdini.proofs.EndLemmas.{form_at, goal_passed, goal_ended, goal_left, goals_done}
+use Rattle.sm_goals.proofs.FormsLemmas.{form_at}
+use Rattle.sm_houdini.proofs.EndLemmas.{goal_passed, goal_ended, goal_left, goals_done}
 use Rattle.sm_houdini.proofs.ending.end_run_at.Goals as goal
 
 pub end_goal-requires-clause-facts : goal.end_goal-requires-clause-facts

@@ -9,7 +9,7 @@ use Rattle.sm_replay.specs.declared.verdict.Verdict.{Verdict}
 use Rattle.sm_solve.specs.Walk.{walk}
 use Rattle.sm_houdini.specs.Collected.{AreCollected, goals_with}
 use Rattle.sm_houdini.specs.Outcomes.{Outcome, goals_outcome}
-use Rattle.sm_houdini.specs.Nodes.{IsNodeOf}
+use Rattle.sm_goals.specs.Nodes.{IsNodeOf}
 use Rattle.sm_houdini.proofs.ending.end_run_at.Given as goal
 
 abbrev pub invariant-loop-goal : goal.invariant-loop-goal

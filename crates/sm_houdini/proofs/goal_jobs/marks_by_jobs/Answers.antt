@@ -7,7 +7,7 @@ use Rattle.sm_houdini.specs.declared.marks.Marks.{Marks}
 use Rattle.sm_houdini.specs.GoalJobs.{RoundGoalsValue, holds_at_shared}
 use Rattle.sm_houdini.specs.Marks.{all_marked, in_share, rows}
 use Rattle.sm_houdini.proofs.GoalJobsLemmas.{shares_tell, round_tells}
-use Rattle.sm_houdini.proofs.SharedLemmas.{table_sync, due_sync}
+use Rattle.sm_goals.proofs.SharedLemmas.{table_sync, due_sync}
 use Rattle.sm_houdini.proofs.goal_jobs.marks_by_jobs.Goals as goal
 
 pub run_jobs-requires-sync-J : goal.run_jobs-requires-sync-J

@@ -8,7 +8,8 @@ use Rattle.sm_houdini.specs.Closing.{closing, closes_at, owner_in}
 use Rattle.sm_houdini.specs.Marks.{all_marked, rows}
 use Rattle.sm_houdini.specs.NodeJobs.{holds_but, is_left_out}
 use Rattle.sm_houdini.proofs.ClosingLemmas.{closes_stays}
-use Rattle.sm_houdini.proofs.RoundSteps.{facts_at, none_asked, round_step}
+use Rattle.sm_goals.proofs.NodesLemmas.{facts_at}
+use Rattle.sm_houdini.proofs.RoundSteps.{none_asked, round_step}
 use Rattle.sm_houdini.proofs.judging.judge_all.Goals as goal
 
 pub loop-left-init : goal.loop-left-init

@@ -7,7 +7,7 @@ use Rattle.sm_houdini.specs.Marks.{all_marked, rows}
 use Rattle.sm_houdini.specs.NodeJobs.{NodeGoalsValue, holds_in_job}
 use Rattle.sm_houdini.proofs.ClosingLemmas.{ok_map}
 use Rattle.sm_houdini.proofs.GoalJobsLemmas.{jobs_told, jobs_tell}
-use Rattle.sm_houdini.proofs.SharedLemmas.{table_sync, due_sync}
+use Rattle.sm_goals.proofs.SharedLemmas.{table_sync, due_sync}
 use Rattle.sm_houdini.proofs.node_jobs.marks_by_nodes.Goals as goal
 
 pub run_jobs-requires-sync-J : goal.run_jobs-requires-sync-J

@@ -2,7 +2,8 @@
 use Rattle.std.proofs.Common.{[], sym, subst}
 use Rattle.sm_houdini.specs.Collected.{AreCollected}
 use Rattle.sm_houdini.proofs.EndedLemmas.{none_collected}
-use Rattle.sm_houdini.proofs.EndJobsLemmas.{run_ended, part_ended, goals_part, facts_over, first_within}
+use Rattle.sm_goals.proofs.TablesLemmas.{first_within}
+use Rattle.sm_houdini.proofs.EndJobsLemmas.{run_ended, part_ended, goals_part, facts_over}
 use Rattle.sm_houdini.proofs.run_ends.run_end.Goals as goal
 
 pub end_run-requires-clause-facts : goal.end_run-requires-clause-facts

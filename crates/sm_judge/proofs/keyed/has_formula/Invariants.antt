@@ -3,7 +3,7 @@ use Rattle.std.proofs.Common.{◌≡◌, drop}
 use Rattle.std.specs.List.{list_any}
 use Rattle.sm_term.specs.Formulas.{numbered}
 use Rattle.sm_list.specs.Parts.{all_numbered}
-use Rattle.sm_judge.specs.Seeing.{same_numbered}
+use Rattle.sm_pairs.specs.SameFormulas.{same_numbered}
 use Rattle.sm_judge.proofs.keyed.has_formula.Given as goal
 
 abbrev pub invariant-loop-g : goal.invariant-loop-g

@@ -6,7 +6,7 @@ use Rattle.sm_expand.specs.declared.due.Due.{Due}
 use Rattle.sm_houdini.specs.EndJobs.{PlanEndsValue, IsPartEnd, TellsEnd}
 use Rattle.sm_houdini.proofs.ClosingLemmas.{ok_map}
 use Rattle.sm_houdini.proofs.LoopLemmas.{get_any}
-use Rattle.sm_houdini.proofs.RoundSteps.{facts_at}
+use Rattle.sm_goals.proofs.NodesLemmas.{facts_at}
 use Rattle.sm_houdini.proofs.run_ends.PlanEndsJob.run.Goals as goal
 
 pub dealt-requires : goal.dealt-requires

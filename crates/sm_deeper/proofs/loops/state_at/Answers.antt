@@ -1,7 +1,0 @@
--- What is left of each copy is copied.
-use Rattle.std.proofs.Common.{sym, subst}
-use Rattle.sm_syntax.specs.text.Sorts.{IsWellSorted}
-use Rattle.sm_deeper.proofs.loops.state_at.Goals as goal
-
-pub returns : goal.returns
-returns c = λ sorts sorted copy. subst (IsWellSorted sorts) (sym (c.in_ok-rests.ensures copy)) (sorted copy)

@@ -1,0 +1,4 @@
+pub mod FormsLemmas
+pub mod NodesLemmas
+pub mod TablesLemmas
+pub mod SharedLemmas

@@ -1,0 +1,34 @@
+-- What jobs over a plan read may be read by several threads at once: what a node asks, and tables of terms.
+use denote.Param.Send.{IsSync, sendable}
+use Rattle.std.proofs.Crossing.{crosses}
+use Rattle.std.proofs.MapsCrossing as maps
+use Rattle.std.proofs.alloc.Global.TheSendSync as heap
+use Rattle.std.proofs.hash.BuildHasherDefault.TheSendSync as builder
+use Rattle.std.proofs.hash.FoldHasher.TheSendSync as hasher
+use Rattle.indexmap.proofs.set.IndexSet.TheSendSync as set
+use Rattle.sm_syntax.proofs.program.Decls.TheSendSync as decls
+use Rattle.sm_syntax.proofs.tree.Cmp.TheSendSync as cmp
+use Rattle.sm_syntax.proofs.tree.Cond.TheLaws.TheKnot as cond
+use Rattle.sm_syntax.proofs.tree.Expr.TheLaws.TheKnot as expr
+use Rattle.sm_syntax.proofs.tree.Name.TheSendSync as name
+use Rattle.sm_syntax.proofs.tree.Sort.TheSendSync as sort
+use Rattle.sm_syntax.proofs.tree.Stmt.TheLaws.TheKnot as stmt
+use Rattle.sm_term.proofs.formula.Formula.TheLaws.TheKnot as formula
+use Rattle.sm_term.proofs.term.Term.TheSendSync as term
+use Rattle.sm_term.specs.contracts.table.TermTable as TermTable
+use Rattle.sm_expand.specs.contracts.due.Due as Due
+
+-- what a node asks
+pub due_sync : IsSync Due.the_row
+due_sync = search (sendable, crosses, formula.crosses) depth 40
+
+-- the names of a table and its terms, and the bodies of its summaries
+ruleset parts = (decls.the_field_sync, sort.the_field_sync, cmp.the_field_sync, name.the_field_sync, term.the_field_sync)
+
+ruleset bodies = (stmt.crosses, cond.crosses, expr.crosses)
+
+ruleset tables = (set.the_sync, hasher.the_sync, builder.the_sync, heap.the_sync, maps.crosses)
+
+-- a table of terms
+pub table_sync : IsSync TermTable.the_row
+table_sync = search (tables, parts, bodies, sendable, crosses) depth 40 fits 3000

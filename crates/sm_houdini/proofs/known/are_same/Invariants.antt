@@ -1,7 +1,0 @@
--- The formulas so far are the same.
-use Rattle.std.proofs.Common.{◌≡◌, take}
-use Rattle.sm_list.specs.Parts.{all_numbered}
-use Rattle.sm_houdini.proofs.known.are_same.Given as goal
-
-abbrev pub invariant-loop-n : goal.invariant-loop-n
-invariant-loop-n l = take l.n (all_numbered l.list) ≡ take l.n (all_numbered l.others)
