@@ -4,6 +4,8 @@ pub mod File
 pub mod Lists
 pub mod Listed
 pub mod Readings
+pub mod Merges
+pub mod ReadFiles
 pub mod ProofFile
 pub mod Lines
 pub mod Status

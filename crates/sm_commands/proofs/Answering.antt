@@ -1,46 +1,39 @@
 -- What answers say: where Usage is one, and what Accepted promises.
-use Rattle.std.proofs.Common.{◌≡◌, ◌≢◌, inl, inr, ℕ, List, Option, Some, None, refl, sym, subst, ◌∙◌}
+use Rattle.std.proofs.Common.{◌≡◌, ◌≢◌, inl, inr, ℕ, List, Option, Some, None, refl, sym, subst}
+use Rattle.std.proofs.Common.{◌∙◌}
 use Rattle.sm_io.specs.Files.{Known, WhereHeld}
 use Rattle.sm_proof.specs.declared.word.Word.{Word}
 use Rattle.sm_houdini.specs.Outcomes as outcome
-use Rattle.sm_houdini.specs.Outcomes.{Outcome}
-use Rattle.sm_replay.specs.declared.verdict.Verdict.{Verdict}
 use Rattle.sm_replay.specs.declared.verdict.Verdict.TheVariants as verdict
 use Rattle.sm_syntax.specs.claim.ConflictFree.{ConflictFree}
 use Rattle.sm_syntax.specs.text.Parts.{Parts, task_of}
 use Rattle.sm_syntax.specs.text.Spells.{Spells}
-use Rattle.sm_commands.specs.Headline.{merge_file, IsSafeMerge}
-use Rattle.sm_commands.specs.Top.{Files, IsAnswerTo, AnswersCommand, AnswersRequest, AsksToVerify, Checks}
+use Rattle.sm_commands.specs.Headline.{merge_file}
+use Rattle.sm_answers.specs.Merges.{IsSafeMerge}
+use Rattle.sm_commands.specs.Top.{Files, IsAnswerTo, AnswersCommand, AnswersRequest, AsksToVerify}
+use Rattle.sm_commands.specs.Top.{Checks}
 use Rattle.sm_answers.specs.Verify.{Verifies, rejected_line, AnswersProof}
-use Rattle.sm_commands.specs.Check.{SaysOutcome}
 use Rattle.sm_commands.specs.Deeper.{AnswersDeeper}
 use Rattle.sm_commands.specs.Why.{AnswersTask}
 use Rattle.sm_eval.specs.StoredValues.{meaning}
 use Rattle.sm_answers.specs.Status.{Says}
-use Rattle.sm_words.specs.Words.{Words, Asked, check, verify, replay, print, suggest, gen, explain, batch, trim, about, asked, usage_line, IsUsage}
+use Rattle.sm_words.specs.Words.{Words, Asked, check, verify, replay, print, suggest, gen, explain}
+use Rattle.sm_words.specs.Words.{batch, trim, about, asked, usage_line, IsUsage}
 use Rattle.sm_words.specs.declared.effort.Effort.{Effort}
 use Rattle.sm_answers.specs.declared.status.Status.{Status}
-use Rattle.sm_answers.specs.declared.status.Status.TheVariants.{Accepted, Refused, Usage, ReadFault, Memory, SinkFault}
+use Rattle.sm_answers.specs.declared.status.Status.TheVariants.{Accepted, Refused, Usage, ReadFault}
+use Rattle.sm_answers.specs.declared.status.Status.TheVariants.{Memory, SinkFault}
 use Rattle.sm_words.proofs.Usage.{usage_asks_nothing}
-use Rattle.sm_answers.proofs.Statuses.{IsOfCommand, IsToCommand, without_task, replay_to_command, verify_to_command}
+use Rattle.sm_answers.proofs.Statuses.{IsOfCommand, IsToCommand, without_task, replay_to_command}
+use Rattle.sm_answers.proofs.Statuses.{verify_to_command}
 use Rattle.sm_display.proofs.Begins.{explain_to_command}
-use Rattle.sm_commands.proofs.BatchStatuses.{batch_to_command}
-use Rattle.sm_commands.proofs.Statuses.{about_to_command, check_to_command, gen_to_command, print_to_command}
-use Rattle.sm_commands.proofs.Statuses.{shown_status, suggest_to_command}
-use Rattle.sm_commands.proofs.Trimmed.{trim_accepts, trim_to_command}
+use Rattle.sm_replies.proofs.BatchStatuses.{batch_to_command}
+use Rattle.sm_commands.proofs.Statuses.{about_to_command, check_to_command, gen_to_command}
+use Rattle.sm_commands.proofs.Statuses.{print_to_command}
+use Rattle.sm_replies.proofs.Statuses.{shown_status, suggest_to_command}
+use Rattle.sm_files.proofs.Trimmed.{trim_accepts, trim_to_command}
 use Rattle.sm_answers.proofs.Answering.{accepted_passes, fault_not_accepted}
-
--- only what a search accepts is accepted, and is free of conflicts
-pub outcome_accepted : (t : Parts) (o : Outcome (ℕ × Verdict)) (status : Status) (text : List ℕ) → SaysOutcome t o status text
-    → status ≡ Accepted → (o ≡ outcome.Accepted) × ConflictFree (task_of t)
-outcome_accepted t outcome.Accepted status text h e = (refl, h.0)
-outcome_accepted t (outcome.Conflict (j, verdict.Holds)) status text h e = absurd h
-outcome_accepted t (outcome.Conflict (j, verdict.Unmet)) status text h e = absurd h
-outcome_accepted t (outcome.Conflict (j, verdict.Violates x i clause)) status text h e = let is = h.2.ended in cc
-outcome_accepted t (outcome.Open node goal) status text h e = let is = h.2.ended in cc
-outcome_accepted t (outcome.Steps node goal) status text h e = let is = h.2.ended in cc
-outcome_accepted t (outcome.Coefficient node goal op y z) status text h e = let is = h.2.ended in cc
-outcome_accepted t outcome.TooMany status text h e = let is = h.2.ended in cc
+use Rattle.sm_replies.proofs.Answering.{outcome_accepted}
 
 -- what is accepted beyond the search is free of conflicts, too
 pub deeper_free : (t : Parts) (effort : Effort) (status : Status) (text : List ℕ) → AnswersDeeper t effort status text

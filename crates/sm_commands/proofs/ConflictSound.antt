@@ -1,5 +1,6 @@
 -- What Conflict says: the task isn't free of conflicts, and the input that is printed or was given shows it.
-use Rattle.std.proofs.Common.{◌≡◌, ◌≢◌, inl, inr, ℕ, true, false, ◌++◌, List, [], Option, Some, None, refl, ap, sym, subst, ◌∙◌}
+use Rattle.std.proofs.Common.{◌≡◌, ◌≢◌, inl, inr, ℕ, true, false, ◌++◌, List, [], Option, Some}
+use Rattle.std.proofs.Common.{None, refl, ap, sym, subst, ◌∙◌}
 use Rattle.std.proofs.lemmas.List.{append-nil, append_assoc}
 use Rattle.sm_io.specs.Files.{Known, WhereHeld}
 use Rattle.sm_replay.specs.Trials.{trial}
@@ -14,7 +15,8 @@ use Rattle.sm_syntax.specs.claim.ConflictFree.{ConflictFree}
 use Rattle.sm_syntax.specs.claim.Stores.{Store}
 use Rattle.sm_syntax.specs.text.Spells.{Spells}
 use Rattle.sm_replay.specs.Violations.{Violates}
-use Rattle.sm_commands.specs.Headline.{EndsWithInput, IsUnsafeMerge, IsViolatedFrom, ShowsInput, IsShownByInput}
+use Rattle.sm_commands.specs.Headline.{EndsWithInput, ShowsInput, IsShownByInput}
+use Rattle.sm_answers.specs.Merges.{IsUnsafeMerge, IsViolatedFrom}
 use Rattle.sm_houdini.specs.Outcomes as outcome
 use Rattle.sm_houdini.specs.Outcomes.{Outcome, IsOutcome}
 use Rattle.sm_houdini.proofs.OutcomeLemmas.{conflict_least}
@@ -23,20 +25,21 @@ use Rattle.sm_display.specs.Explain.{Explains, ExplainsFile}
 use Rattle.sm_display.specs.Print.{Prints}
 use Rattle.sm_display.proofs.Begins.{begins_refused, begins_replayed}
 use Rattle.sm_answers.specs.Verify.{Verifies, AnswersProof}
-use Rattle.sm_commands.specs.Check.{reach_of, IsInputText, SaysOutcome, ShowsFrom}
+use Rattle.sm_replies.specs.Check.{reach_of, IsInputText, SaysOutcome, ShowsFrom}
 use Rattle.sm_answers.specs.Lines.{input_line, trial_line}
 use Rattle.sm_commands.specs.Deeper.{AnswersDeeper}
 use Rattle.sm_commands.specs.Why.{AnswersTask}
-use Rattle.sm_commands.specs.Suggest.{AnswersSuggest, SaysSuggestion, Suggests}
+use Rattle.sm_replies.specs.Suggest.{AnswersSuggest, SaysSuggestion, Suggests}
 use Rattle.sm_syntax.specs.declared.copies.CopyName.{CopyName}
 use Rattle.sm_answers.specs.File.{GivesTask}
 use Rattle.sm_answers.specs.Replay.{GivesInput, Replays, ReplaysInput}
-use Rattle.sm_words.specs.Words.{Words, Asked, check, verify, replay, print, suggest, gen, explain, batch, trim, about, asked, task_file}
+use Rattle.sm_words.specs.Words.{Words, Asked, check, verify, replay, print, suggest, gen, explain}
+use Rattle.sm_words.specs.Words.{batch, trim, about, asked, task_file}
 use Rattle.sm_words.specs.declared.effort.Effort.{Effort}
 use Rattle.sm_answers.specs.declared.status.Status.{Status}
 use Rattle.sm_answers.specs.declared.status.Status.TheVariants.{Conflict}
 use Rattle.sm_replay.proofs.ViolationsSound.{violation_conflicts}
-use Rattle.sm_commands.proofs.Trimmed.{trim_to_command}
+use Rattle.sm_files.proofs.Trimmed.{trim_to_command}
 use Rattle.sm_answers.proofs.Replayed.{judged_violates, no_input_no_conflict}
 use Rattle.sm_answers.proofs.Statuses.{answered_no_conflict, without_task}
 

@@ -10,23 +10,28 @@ use Rattle.sm_syntax.specs.claim.Stores.{Store}
 use Rattle.sm_syntax.specs.text.Parts.{Parts, task_of}
 use Rattle.sm_answers.specs.Exit.{ExitsWith}
 use Rattle.sm_answers.specs.File.{GivesNoTask}
-use Rattle.sm_commands.specs.Headline.{IsUnsafeMerge, IsViolatedFrom}
-use Rattle.sm_commands.specs.HeadlineBatch.{AcceptsSafeRead}
-use Rattle.sm_commands.specs.HeadlineRead.{AcceptsRead, ConflictsRead, ReadsProved, ReadsTwo, ShowsReadInput, SuggestsRead}
-use Rattle.sm_commands.proofs.SuggestedSafe.{accepted_suggestion}
-use Rattle.sm_commands.specs.Readings.{AnswersByReads, ChecksRead, ProposesRead}
+use Rattle.sm_answers.specs.Merges.{IsUnsafeMerge, IsViolatedFrom}
+use Rattle.sm_replies.specs.HeadlineBatch.{AcceptsSafeRead}
+use Rattle.sm_commands.specs.HeadlineRead.{AcceptsRead, ConflictsRead, ReadsProved, ShowsReadInput}
+use Rattle.sm_commands.specs.HeadlineRead.{SuggestsRead}
+use Rattle.sm_answers.specs.ReadFiles.{ReadsTwo}
+use Rattle.sm_replies.proofs.SuggestedSafe.{accepted_suggestion}
+use Rattle.sm_commands.specs.Readings.{AnswersByReads, ChecksRead}
+use Rattle.sm_replies.specs.Suggest.{ProposesRead}
 use Rattle.sm_answers.specs.Readings.{ReadsTask, ReplaysRead, VerifiesRead}
 use Rattle.sm_commands.specs.Top.{AnswersCommand, Files, IsAnswerTo}
-use Rattle.sm_words.specs.Words.{Words, Asked, check as to_check, verify, replay, print, suggest, gen, explain, batch, trim, about, asked}
+use Rattle.sm_words.specs.Words.{Words, Asked, check as to_check, verify, replay, print, suggest}
+use Rattle.sm_words.specs.Words.{gen, explain, batch, trim, about, asked}
 use Rattle.sm_words.specs.declared.effort.Effort.{Effort}
 use Rattle.sm_answers.specs.declared.exit.Exit.{Exit}
 use Rattle.sm_answers.specs.declared.status.Status.{Status}
 use Rattle.sm_answers.specs.declared.status.Status.TheVariants.{Accepted, Conflict}
 use Rattle.sm_commands.proofs.Answering.{accepted_is_free}
 use Rattle.sm_answers.proofs.Answering.{stops_by}
-use Rattle.sm_commands.proofs.ConflictSound.{checked_conflict, explain_no_conflict, print_no_conflict, shown_conflict}
-use Rattle.sm_commands.proofs.ConflictSound.{suggest_no_conflict, verify_no_conflict}
-use Rattle.sm_commands.proofs.Trimmed.{trim_to_command, trims_read}
+use Rattle.sm_commands.proofs.ConflictSound.{checked_conflict, explain_no_conflict}
+use Rattle.sm_commands.proofs.ConflictSound.{print_no_conflict, shown_conflict, suggest_no_conflict}
+use Rattle.sm_commands.proofs.ConflictSound.{verify_no_conflict}
+use Rattle.sm_files.proofs.Trimmed.{trim_to_command, trims_read}
 use Rattle.sm_answers.proofs.Statuses.{without_task}
 
 -- a task that was read, after what was read is written otherwise
@@ -39,13 +44,6 @@ pub none_checked : (name : List ℕ) (effort : Effort) (before now : List Read) 
     ExitsWith (GivesNoTask file b n) stop → ExitsWith (ChecksRead name effort before now) stop
 none_checked name effort before now file b n stop =
     stops_by (GivesNoTask file b n) (ChecksRead name effort before now)
-    (λ status text none.
-    let is = without_task file b n status text none in inl ((λ e. is.not_accepted e), (λ e. is.not_conflict e))) stop
-
-pub none_proposed : (name : List ℕ) (effort : Effort) (before now : List Read) (file : Known) (b n : ℕ) (stop : Exit) →
-    ExitsWith (GivesNoTask file b n) stop → ExitsWith (ProposesRead name effort before now) stop
-none_proposed name effort before now file b n stop =
-    stops_by (GivesNoTask file b n) (ProposesRead name effort before now)
     (λ status text none.
     let is = without_task file b n status text none in inl ((λ e. is.not_accepted e), (λ e. is.not_conflict e))) stop
 

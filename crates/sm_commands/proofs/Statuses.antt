@@ -1,5 +1,5 @@
 -- Which statuses the answers to what a command asks for have.
-use Rattle.std.proofs.Common.{◌≡◌, ◌≢◌, inl, inr, ℕ, List, Option, Some, None, sym, subst}
+use Rattle.std.proofs.Common.{◌≡◌, ◌≢◌, inl, inr, ℕ, List, Option, sym, subst}
 use Rattle.sm_io.specs.Files.{Known}
 use Rattle.sm_replay.specs.declared.verdict.Verdict.{Verdict}
 use Rattle.sm_replay.specs.declared.verdict.Verdict.TheVariants as verdict
@@ -8,20 +8,20 @@ use Rattle.sm_gen.specs.Generating.{generated}
 use Rattle.sm_houdini.specs.Outcomes as outcome
 use Rattle.sm_houdini.specs.Outcomes.{Outcome}
 use Rattle.sm_commands.specs.Top.{Checks, Generates, Tells}
-use Rattle.sm_commands.specs.Check.{AnswersCheck, SaysOutcome, ShowsFrom}
+use Rattle.sm_replies.specs.Check.{AnswersCheck, SaysOutcome}
 use Rattle.sm_commands.specs.Deeper.{AnswersDeeper}
-use Rattle.sm_commands.specs.Gen.{AnswersGenInTime}
-use Rattle.sm_commands.specs.Seconds.{RunsOut}
+use Rattle.sm_replies.specs.Gen.{AnswersGenInTime}
 use Rattle.sm_commands.specs.Why.{AnswersTask}
-use Rattle.sm_commands.specs.Suggest.{AnswersSuggest, SaysSuggestion, Suggests}
 use Rattle.sm_syntax.specs.declared.copies.CopyName.{CopyName}
-use Rattle.sm_syntax.specs.claim.Stores.{Store}
 use Rattle.sm_words.specs.declared.about.About.{About}
 use Rattle.sm_words.specs.declared.effort.Effort.{Effort}
 use Rattle.sm_answers.specs.declared.status.Status.{Status}
-use Rattle.sm_answers.specs.declared.status.Status.TheVariants.{Accepted, Conflict, Unknown, Refused, ReadFault, WriteFault}
-use Rattle.sm_answers.proofs.Statuses.{IsOfCommand, WritesNothing, of_accepted, of_conflict, of_refused, of_unknown, same_as, IsToCommand, without_task}
+use Rattle.sm_answers.specs.declared.status.Status.TheVariants.{Accepted, Conflict, Unknown}
+use Rattle.sm_answers.specs.declared.status.Status.TheVariants.{ReadFault, WriteFault}
+use Rattle.sm_answers.proofs.Statuses.{IsOfCommand, WritesNothing, of_accepted, of_conflict}
+use Rattle.sm_answers.proofs.Statuses.{of_unknown, same_as, IsToCommand, without_task}
 use Rattle.sm_display.specs.Print.{Prints}
+use Rattle.sm_replies.proofs.Statuses.{shown_status, over_status}
 
 of_write : IsOfCommand WriteFault
 of_write = record { not_usage = λ e. cc; not_memory = λ e. cc; not_sink = λ e. cc }
@@ -38,13 +38,6 @@ outcome_status t (outcome.Steps node goal) status text h = same_as status Unknow
 outcome_status t (outcome.Coefficient node goal op y z) status text h = same_as status Unknown h.2.ended of_unknown
 outcome_status t outcome.TooMany status text h = same_as status Unknown h.2.ended of_unknown
 
--- an input that is shown is a conflict
-pub shown_status : (t : Parts) (j : ℕ) (s : Store) (v : Verdict) (status : Status) (text : List ℕ) → ShowsFrom t j s v status text
-    → status ≡ Conflict
-shown_status t j s verdict.Holds status text h = absurd h
-shown_status t j s verdict.Unmet status text h = absurd h
-shown_status t j s (verdict.Violates x i clause) status text h = h.2.ended
-
 -- an answer by a search writes nothing
 pub checked_status : (t : Parts) (effort : Effort) (status : Status) (text : List ℕ) → AnswersCheck t effort status text
     → WritesNothing status
@@ -57,10 +50,6 @@ deeper_status t effort status text (inl a) = (checked_status t effort status tex
 deeper_status t effort status text (inr (inl a)) =
     (same_as status Conflict (shown_status t a.number _ a.verdict status text a.shows) of_conflict).of_command
 deeper_status t effort status text (inr (inr a)) = (same_as status Accepted a.says.2.ended of_accepted).of_command
-
--- nor does it write that the time is over
-pub over_status : (effort : Effort) (status : Status) (text : List ℕ) → RunsOut effort status text → WritesNothing status
-over_status effort status text r = same_as status Unknown r.says.ended of_unknown
 
 -- what every answer to `check` says of its status
 pub record IsToCheck (before now : ℕ) (status : Status) : Type 0 where
@@ -93,23 +82,6 @@ pub print_to_command : (file : Known) (copy : Option CopyName) (before now : ℕ
 print_to_command file copy before now status text (inl f) = (without_task file before now status text f).to_command
 print_to_command file copy before now status text (inr c) =
     record { of_command = same_as status Accepted c.says.ended of_accepted; quiet = λ h. c.gives.read.quiet }
-
--- the status of what is suggested
-suggested_status : (t : Parts) (effort : Effort) (status : Status) (text : List ℕ) → AnswersSuggest t effort status text
-    → WritesNothing status
-suggested_status t effort status text (inl h) = same_as status Refused h.1.ended of_refused
-suggested_status t effort status text (inr (inr r)) = over_status effort status text r
-suggested_status t effort status text (inr (inl h)) = go h.1 h.2
-  where
-    go : (found : Option ℕ) → SaysSuggestion t effort found status text → WritesNothing status
-    go None s = same_as status Unknown s.1.ended of_unknown
-    go (Some k) s = same_as status Accepted s.1.ended of_accepted
-
-pub suggest_to_command : (file : Known) (effort : Effort) (before now : ℕ) (status : Status) (text : List ℕ)
-    → Suggests file effort before now status text → IsToCommand before now status
-suggest_to_command file effort before now status text (inl f) = (without_task file before now status text f).to_command
-suggest_to_command file effort before now status text (inr c) =
-    record { of_command = suggested_status c.task effort status text c.answers; quiet = λ h. c.gives.read.quiet }
 
 pub about_to_command : (what : About) (before now : ℕ) (status : Status) (text : List ℕ) → Tells what before now status text
     → IsToCommand before now status

@@ -1,90 +1,16 @@
 -- What Accepted of `suggest` says: the task is free of conflicts with the combination that is put.
-use Rattle.std.proofs.Common.{◌≡◌, ◌≤◌, inl, inr, ℕ, Bool, true, false, List, Option, Some, None, Result, Ok, Err, IfOk, IfNone, IfSome, refl, sym, subst}
-use Rattle.std.specs.Borrow.{Bor}
-use Rattle.std.specs.Fn.{Shared}
-use Rattle.std.specs.declared.alloc.AllocError.{AllocError}
-use Rattle.sm_io.specs.Files.{Known, WhereHeld}
-use Rattle.sm_syntax.specs.text.Parts.{Parts}
-use Rattle.sm_text.specs.declared.task.Task.{Task}
-use Rattle.sm_syntax.specs.text.Spells.{Spells}
-use Rattle.sm_suggest.specs.Combinations.{choices, combination, hole_count}
-use Rattle.sm_suggest.specs.First.{AllRefused, IsFirst, MayAnswer}
-use Rattle.sm_answers.specs.Lines.{none_line, suggestion_line}
-use Rattle.sm_answers.specs.Status.{Says}
-use Rattle.sm_answers.specs.declared.status.Reply.{Reply}
+use Rattle.std.proofs.Common.{◌≡◌, ℕ, List, Some}
+use Rattle.sm_io.specs.Files.{WhereHeld}
 use Rattle.sm_answers.specs.declared.status.Status.{Status}
-use Rattle.sm_answers.specs.declared.status.Status.TheVariants.{Accepted, Unknown}
-use Rattle.sm_commands.specs.Suggest.{AnswersSuggest, Decides, IsSafeSuggestion, SaysSuggestion, Suggests}
+use Rattle.sm_answers.specs.declared.status.Status.TheVariants.{Accepted}
+use Rattle.sm_replies.specs.Suggest.{IsSafeSuggestion}
 use Rattle.sm_commands.specs.Top.{Files, IsAnswerTo}
 use Rattle.sm_words.specs.Words.{Words, asked, suggest}
 use Rattle.sm_words.specs.declared.effort.Effort.{Effort}
-use Rattle.sm_answers.proofs.Statuses.{without_task}
-
-pub accepted_suggestion : (t : Parts) (effort : Effort) (status : Status) (text bytes : List ℕ) → Spells bytes t
-    → AnswersSuggest t effort status text → status ≡ Accepted → IsSafeSuggestion text bytes
-accepted_suggestion t effort status text bytes spells (inl h) e = let is = h.1.ended in cc
-accepted_suggestion t effort status text bytes spells (inr (inr r)) e = let is = r.says.ended in cc
-accepted_suggestion t effort status text bytes spells (inr (inl h)) e = go h.1 h.2
-  where
-    go : (found : Option ℕ) → SaysSuggestion t effort found status text → IsSafeSuggestion text bytes
-    go None s = let is = s.1.ended in cc
-    go (Some k) s = (t, spells, k, s.0.is_one, s.0.accepted.free refl, s.1.printed)
-
-suggested_where : (file : Known) (effort : Effort) (before now : ℕ) (status : Status) (text : List ℕ)
-    → Suggests file effort before now status text → status ≡ Accepted → WhereHeld file (IsSafeSuggestion text)
-suggested_where file effort before now status text (inl f) e bytes told =
-    absurd ((without_task file before now status text f).not_accepted e)
-suggested_where file effort before now status text (inr c) e bytes told =
-    accepted_suggestion c.task effort status text bytes
-    (subst (λ (b : List ℕ). Spells b c.task) (sym (c.gives.read.held bytes told)) c.gives.spells) c.answers e
+use Rattle.sm_replies.proofs.SuggestedSafe.{suggested_where}
 
 pub suggests_safe : (words : Words) (files : Files) (before now : ℕ) (status : Status) (text : List ℕ)
     → IsAnswerTo words files before now status text → status ≡ Accepted → (task : List ℕ) (effort : Effort)
     → asked words ≡ Some (suggest task effort) → WhereHeld (files task) (IsSafeSuggestion text)
 suggests_safe words files before now status text answers e task effort asks =
     suggested_where (files task) effort before now status text (rw asks at answers) e
-
--- what is first by one decision is so by another that says the same
-pub first_by : {P : Parts → Bool → Type 0} (Q : Parts → Bool → Type 0) (t : Parts) (k : ℕ)
-    → ((u : Parts) (b : Bool) → P u b → Q u b) → IsFirst P t k → IsFirst Q t k
-first_by Q t k says first = record {
-  is_one = first.is_one;
-  accepted = says (combination t k) true first.accepted;
-  others_refused = λ j before. says (combination t j) false (first.others_refused j before);
-}
-
--- and so are those that are all refused
-pub all_by : {P : Parts → Bool → Type 0} (Q : Parts → Bool → Type 0) (t : Parts)
-    → ((u : Parts) (b : Bool) → P u b → Q u b) → AllRefused P t → AllRefused Q t
-all_by Q t says all = λ k one. says (combination t k) false (all k one)
-
--- what a closure answers, where it answers one that is first
-pub some_by : {F : Type 0} {calls : Shared F (Bor Task × Unit {0}) (Result Bool AllocError)} {decide : F} (Q : Parts → Bool → Type 0)
-    (t : Parts) (o : Option ℕ) (k : ℕ) → o ≡ Some k → IfSome o (IsFirst (MayAnswer calls decide) t)
-    → ((u : Parts) (b : Bool) → MayAnswer calls decide u b → Q u b) → IsFirst Q t k
-some_by {F} {calls} {decide} Q t o k is given says =
-    first_by {P = MayAnswer calls decide} Q t k says
-    (subst (λ (x : Option ℕ). IfSome x (IsFirst (MayAnswer calls decide) t)) is given)
-
--- and where it refuses all
-pub none_by : {F : Type 0} {calls : Shared F (Bor Task × Unit {0}) (Result Bool AllocError)} {decide : F} (Q : Parts → Bool → Type 0)
-    (t : Parts) (o : Option ℕ) → o ≡ None → IfNone o (AllRefused (MayAnswer calls decide) t)
-    → ((u : Parts) (b : Bool) → MayAnswer calls decide u b → Q u b) → AllRefused Q t
-none_by {F} {calls} {decide} Q t o is given says =
-    all_by {P = MayAnswer calls decide} Q t says
-    (subst (λ (x : Option ℕ). IfNone x (AllRefused (MayAnswer calls decide) t)) is given)
-
--- the reply to a task of which a combination is accepted
-pub some_answered : (t : Parts) (effort : Effort) (k : ℕ) (r : Result Reply AllocError) → hole_count t ≤ 8
-    → IsFirst (λ (u : Parts) (answer : Bool). Decides u effort answer) t k
-    → IfOk r (λ p. Says Accepted (suggestion_line (choices (hole_count t) k)) p.status p.text.items)
-    → IfOk r (λ p. AnswersSuggest t effort p.status p.text.items)
-some_answered t effort k (Ok p) few first says = inr (inl (few, Some k, (first, says)))
-some_answered t effort k (Err e) few first says = tt
-
--- and of which none is
-pub none_answered : (t : Parts) (effort : Effort) (r : Result Reply AllocError) → hole_count t ≤ 8
-    → AllRefused (λ (u : Parts) (answer : Bool). Decides u effort answer) t
-    → IfOk r (λ p. Says Unknown none_line p.status p.text.items) → IfOk r (λ p. AnswersSuggest t effort p.status p.text.items)
-none_answered t effort (Ok p) few all says = inr (inl (few, None, (all, says)))
-none_answered t effort (Err e) few all says = tt

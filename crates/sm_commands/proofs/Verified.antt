@@ -1,5 +1,6 @@
 -- `verify` accepts exactly the proof files that pass for the task that the task's file gives.
-use Rattle.std.proofs.Common.{◌≡◌, ◌≢◌, ◌<◌, ◌≤◌, inl, inr, ℕ, List, length, Some, sym, subst, arith}
+use Rattle.std.proofs.Common.{◌≡◌, ◌≢◌, ◌<◌, ◌≤◌, inl, inr, ℕ, List, length, Some, sym, subst}
+use Rattle.std.proofs.Common.{arith}
 use Rattle.std.specs.Prelude.{◌↔◌}
 use Rattle.sm_io.specs.Files.{Known, holds, WhereHeld}
 use Rattle.sm_proof.specs.Verdicts.{Passes}
@@ -7,7 +8,7 @@ use Rattle.sm_syntax.specs.text.Parts.{Parts}
 use Rattle.sm_syntax.specs.text.Spells.{Spells}
 use Rattle.sm_text.proofs.Complete.Tasks as text
 use Rattle.sm_answers.specs.File.{file_limit, GivesNoTask, GivesTask}
-use Rattle.sm_commands.specs.Headline.{IsProved}
+use Rattle.sm_answers.specs.Merges.{IsProved}
 use Rattle.sm_commands.specs.Top.{Files, IsAnswerTo}
 use Rattle.sm_answers.specs.Verify.{Verifies}
 use Rattle.sm_words.specs.Words.{Words, asked, verify}
@@ -62,5 +63,3 @@ pub verifies_exactly : (words : Words) (files : Files) (before now : ℕ) (statu
     WhereHeld (files proof) (λ (lines : List ℕ). (status ≡ Accepted) ↔ IsProved bytes lines))
 verifies_exactly words files before now status line answers no_fault task proof workers asks bytes told lines given =
     proved_where (files task) (files proof) before now status line bytes lines (rw asks at answers) no_fault told given
-
--- ---- the answer of the checker

@@ -1,10 +1,8 @@
 -- What stands behind an answer, by what it rests on.
-use Rattle.std.proofs.Common.{◌≡◌, ◌++◌, ◌∙◌, ℕ, List, inl, inr, false, true, sym, subst, Option, Some, None, option_map, Vec, Global}
+use Rattle.std.proofs.Common.{◌≡◌, ◌++◌, ℕ, List, inl, inr, false, true, sym, subst}
 use Rattle.sm_eval.specs.StoredValues.{meaning}
 use Rattle.sm_eval.specs.declared.store.Store as code
 use Rattle.sm_display.specs.Shown.{ShowsEnds}
-use Rattle.sm_houdini.specs.Outcomes.{Outcome, IsOutcome}
-use Rattle.sm_replay.specs.declared.verdict.Verdict.{Verdict}
 use Rattle.sm_syntax.specs.text.Parts.{Parts}
 use Rattle.sm_syntax.specs.text.Spells.{Spells}
 use Rattle.sm_words.specs.declared.effort.Effort.{Effort}
@@ -12,14 +10,12 @@ use Rattle.sm_why.specs.Reasons.{IsReason}
 use Rattle.sm_why.specs.Trials.{IsTrialsLine}
 use Rattle.sm_why.specs.declared.stop.Stop.{Stop}
 use Rattle.sm_answers.specs.declared.status.Status.{Status}
-use Rattle.sm_answers.specs.declared.status.Status.TheVariants.{Accepted, Conflict, Unknown}
-use Rattle.sm_commands.specs.Check.{reach_of, ShowsFrom}
+use Rattle.sm_answers.specs.declared.status.Status.TheVariants.{Accepted}
+use Rattle.sm_replies.specs.Check.{ShowsFrom}
 use Rattle.sm_commands.specs.Deeper.{AnswersDeeper}
-use Rattle.sm_commands.specs.Grounds.{IsShownBy, RestsOn}
-use Rattle.sm_commands.specs.Views.{ComesWith}
-use Rattle.sm_commands.specs.Why.{stop_in, AnswersWhy, SaysWhy}
-use Rattle.sm_commands.specs.declared.ground.Ground.{Ground}
-use Rattle.sm_commands.specs.declared.ground.Ground.TheVariants.{Proved, Input, Stopped}
+use Rattle.sm_replies.specs.Grounds.{IsShownBy, RestsOn}
+use Rattle.sm_commands.specs.Why.{AnswersWhy, SaysWhy}
+use Rattle.sm_replies.specs.declared.ground.Ground.TheVariants.{Input, Stopped}
 
 -- behind an Accepted
 pub proved_says : (t : Parts) (effort : Effort) (status : Status) (line more : List ℕ) → status ≡ Accepted
@@ -76,30 +72,3 @@ explained t effort status shown line more text asked same answers says printed =
 pub plain_answer : (t : Parts) (effort : Effort) (status : Status) (text : List ℕ) → effort.why ≡ false → AnswersDeeper t effort status text
     → AnswersWhy t effort status text
 plain_answer t effort status text plain answers = inl (plain, answers)
-
--- what is shown by an input rests on it
-pub shown_rests : (t : Parts) (effort : Effort) (status : Status) (text : List ℕ) (g : Ground) → IsShownBy t status text g
-    → RestsOn t effort status text g
-shown_rests t effort status text Proved h = absurd h
-shown_rests t effort status text (Input store) h = h
-shown_rests t effort status text (Stopped stop) h = absurd h
-
--- no proof comes with a conflict
-pub shown_comes : (t : Parts) (status : Status) (o : Option (Vec ℕ Global)) → o ≡ None → status ≡ Conflict
-    → ComesWith t status (option_map (λ (v : Vec ℕ Global). v.items) o)
-shown_comes t status o none is =
-    subst (λ (x : Option (Vec ℕ Global)). ComesWith t status (option_map (λ (v : Vec ℕ Global). v.items) x)) (sym none)
-    (λ (accepted : status ≡ Accepted). absurd (let both : Conflict ≡ Accepted = sym is ∙ accepted in cc))
-
--- an answer that shows an input is a Conflict
-pub shown_is : (t : Parts) (status : Status) (text : List ℕ) (g : Ground) → IsShownBy t status text g → status ≡ Conflict
-shown_is t status text Proved h = absurd h
-shown_is t status text (Input store) h = h.0
-shown_is t status text (Stopped stop) h = absurd h
-
--- an Unknown rests on what the search stopped at
-pub stopped_rests : (t : Parts) (effort : Effort) (status : Status) (text : List ℕ) (g : Ground) (stop : Stop) (o : Outcome (ℕ × Verdict))
-    → g ≡ Stopped stop → status ≡ Unknown → IsOutcome t (reach_of effort) effort.turns o → stop_in o ≡ Some stop
-    → RestsOn t effort status text g
-stopped_rests t effort status text g stop o is e found stopped =
-    subst (λ (x : Ground). RestsOn t effort status text x) (sym is) (e, record { outcome = o; found = found; stopped = stopped })

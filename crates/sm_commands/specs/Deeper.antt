@@ -11,7 +11,7 @@ use Rattle.sm_words.specs.declared.effort.Effort.{Effort}
 use Rattle.sm_answers.specs.Status.{Says}
 use Rattle.sm_answers.specs.declared.status.Status.{Status}
 use Rattle.sm_answers.specs.declared.status.Status.TheVariants.{Accepted, Unknown, WriteFault}
-use Rattle.sm_commands.specs.Check.{AnswersCheck, SaysNoted, ShowsFrom}
+use Rattle.sm_replies.specs.Check.{AnswersCheck, SaysNoted, ShowsFrom}
 
 -- it was asked for, the search decides nothing, and an input beyond the trials, from which the task
 -- is violated, is shown with what a run of the four programs from it says

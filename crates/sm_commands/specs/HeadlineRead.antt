@@ -2,23 +2,14 @@
 -- its files hold or not. The public clauses `accepted_read`, `verified_read`, `conflict_read`,
 -- `shown_read` and `suggested_read` of `safemerge` cite it.
 use Rattle.std.specs.Prelude.{ℕ, List, Some, None}
-use Rattle.sm_io.specs.Reads.{Read, ReadsWhole}
-use Rattle.sm_commands.specs.Headline.{EndsWithInput, IsProved, IsSafeMerge, IsUnsafeMerge}
-use Rattle.sm_commands.specs.Headline.{IsViolatedFrom}
-use Rattle.sm_commands.specs.Suggest.{IsSafeSuggestion}
+use Rattle.sm_io.specs.Reads.{Read}
+use Rattle.sm_commands.specs.Headline.{EndsWithInput}
+use Rattle.sm_answers.specs.Merges.{IsProved, IsSafeMerge, IsUnsafeMerge, IsViolatedFrom}
+use Rattle.sm_replies.specs.Suggest.{IsSafeSuggestion}
 use Rattle.sm_words.specs.Words.{Asked, check, verify, replay, print, suggest, gen, explain, batch}
 use Rattle.sm_words.specs.Words.{trim, about}
 use Rattle.sm_words.specs.declared.effort.Effort.{Effort}
-
--- the one file was read, in one pass to its end, and no other; of its bytes this holds
-abbrev pub ReadsOne : List ℕ → List Read → List Read → (List ℕ → Type 0) → Type 0
-ReadsOne name before now P = (bytes : List ℕ) × ReadsWhole name before now bytes × P bytes
-
--- the one file was read so, and then the other, and nothing else; of their bytes this holds
-abbrev pub ReadsTwo : List ℕ → List ℕ → List Read → List Read → (List ℕ → List ℕ → Type 0) → Type 0
-ReadsTwo name other before now P = (bytes others : List ℕ) × (between : List Read)
-    × ReadsWhole name before between bytes × ReadsWhole other between now others
-    × P bytes others
+use Rattle.sm_answers.specs.ReadFiles.{ReadsOne, ReadsTwo}
 
 -- Accepted of `check`: what was read spells a task that is free of conflicts. Of `verify` and `trim`:
 -- and then a proof was read that passes for it

@@ -4,9 +4,8 @@ use Rattle.std.specs.Prelude.{◌≢◌, ◌⊎◌, ℕ, List, Option, Some, Non
 use Rattle.sm_io.specs.Reads.{Read}
 use Rattle.sm_syntax.specs.text.Parts.{Parts}
 use Rattle.sm_commands.specs.Why.{AnswersTask}
-use Rattle.sm_commands.specs.HeadlineBatch.{AcceptsSafeRead}
-use Rattle.sm_commands.specs.Suggest.{AnswersSuggest}
-use Rattle.sm_commands.specs.Trim.{TrimsByReads}
+use Rattle.sm_replies.specs.HeadlineBatch.{AcceptsSafeRead}
+use Rattle.sm_files.specs.Trim.{TrimsByReads}
 use Rattle.sm_words.specs.Words.{Asked, check, verify, replay, print, suggest, gen, explain, batch}
 use Rattle.sm_words.specs.Words.{trim, about}
 use Rattle.sm_words.specs.declared.effort.Effort.{Effort}
@@ -14,18 +13,13 @@ use Rattle.sm_answers.specs.declared.status.Status.{Status}
 use Rattle.sm_answers.specs.declared.status.Status.TheVariants.{Accepted, Conflict}
 use Rattle.sm_answers.specs.Readings.{ReadsTask, ReplaysRead, VerifiesRead}
 use Rattle.sm_display.specs.Readings.{ExplainsRead}
+use Rattle.sm_replies.specs.Suggest.{ProposesRead}
 
 -- the answer of `check`: neither Accepted nor Conflict, or that to the task that was read
 abbrev pub ChecksRead : List ℕ → Effort → List Read → List Read → Status → List ℕ → Type 0
 ChecksRead task effort before now status text =
     ((status ≢ Accepted) × (status ≢ Conflict))
     ⊎ ((t : Parts) × ReadsTask task before now t × AnswersTask t effort status text)
-
--- the answer of `suggest`: neither Accepted nor Conflict, or that to the task that was read
-abbrev pub ProposesRead : List ℕ → Effort → List Read → List Read → Status → List ℕ → Type 0
-ProposesRead task effort before now status text =
-    ((status ≢ Accepted) × (status ≢ Conflict))
-    ⊎ ((t : Parts) × ReadsTask task before now t × AnswersSuggest t effort status text)
 
 -- the answer to what is asked for, or to words that ask for nothing
 abbrev pub AnswersByReads : Option Asked → List Read → List Read → Status → List ℕ → Type 0

@@ -7,21 +7,20 @@ use Rattle.sm_io.specs.Sinks.{Adds}
 use Rattle.sm_proof.specs.declared.word.Word.{Word}
 use Rattle.sm_syntax.specs.text.Parts.{Parts}
 use Rattle.sm_answers.specs.File.{GivesTask, GivesNoTask}
-use Rattle.sm_commands.specs.Batch.{Batches}
-use Rattle.sm_commands.specs.Gen.{AnswersGenInTime}
+use Rattle.sm_replies.specs.Batch.{Batches}
+use Rattle.sm_replies.specs.Gen.{AnswersGenInTime}
 use Rattle.sm_commands.specs.Why.{AnswersTask}
-use Rattle.sm_commands.specs.ProofFile.{LeavesFront, LeavesProof}
-use Rattle.sm_commands.specs.Suggest.{Suggests}
-use Rattle.sm_commands.specs.Trim.{LeavesTrimmed, TellsOfTask, Trims}
+use Rattle.sm_files.specs.ProofFile.{LeavesFront, LeavesProof}
+use Rattle.sm_replies.specs.Suggest.{Suggests}
+use Rattle.sm_files.specs.Trim.{LeavesTrimmed, TellsOfTask, Trims}
 use Rattle.sm_answers.specs.Replay.{Replays}
 use Rattle.sm_answers.specs.Status.{Says}
 use Rattle.sm_answers.specs.Verify.{rejected_line, Verifies}
 use Rattle.sm_display.specs.Explain.{Explains}
 use Rattle.sm_display.specs.Print.{Prints}
 use Rattle.sm_words.specs.About.{about_text}
-use Rattle.sm_words.specs.Words.{Words, Asked, check, verify, replay, print, suggest, gen}
-use Rattle.sm_words.specs.Words.{explain, batch, trim, about}
-use Rattle.sm_words.specs.Words.{asked, usage_line, IsUsage}
+use Rattle.sm_words.specs.Words.{Words, Asked, check, verify, replay, print, suggest, gen, explain}
+use Rattle.sm_words.specs.Words.{batch, trim, about, asked, usage_line, IsUsage}
 use Rattle.sm_words.specs.declared.about.About.{About}
 use Rattle.sm_words.specs.declared.effort.Effort.{Effort}
 use Rattle.sm_answers.specs.declared.status.Status.{Status}

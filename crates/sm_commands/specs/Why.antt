@@ -1,6 +1,6 @@
 -- What `check --why` answers: what `check` answers without it, and behind that in words why. Public
 -- clauses cite it.
-use Rattle.std.specs.Prelude.{◌≡◌, ◌⊎◌, ℕ, true, false, Option, Some, None, List, ◌++◌}
+use Rattle.std.specs.Prelude.{◌≡◌, ◌⊎◌, ℕ, true, false, Some, List, ◌++◌}
 use Rattle.sm_houdini.specs.Outcomes as outcome
 use Rattle.sm_houdini.specs.Outcomes.{Outcome, IsOutcome}
 use Rattle.sm_replay.specs.declared.verdict.Verdict.{Verdict}
@@ -10,26 +10,16 @@ use Rattle.sm_syntax.specs.text.Spells.{Spells}
 use Rattle.sm_words.specs.declared.effort.Effort.{Effort}
 use Rattle.sm_why.specs.Reasons.{IsReason}
 use Rattle.sm_why.specs.Trials.{IsTrialsLine}
-use Rattle.sm_why.specs.declared.stop.Manner.TheVariants.{Open, Steps, Coefficient}
 use Rattle.sm_why.specs.declared.stop.Stop.{Stop}
-use Rattle.sm_why.specs.declared.stop.Stop.TheVariants.{Goal, TooMany}
 use Rattle.sm_answers.specs.declared.status.Status.{Status}
 use Rattle.sm_answers.specs.declared.status.Status.TheVariants.{Accepted, Conflict, Unknown}
 use Rattle.sm_answers.specs.declared.status.Status.TheVariants.{Refused, Usage, ReadFault, Memory}
 use Rattle.sm_answers.specs.declared.status.Status.TheVariants.{WriteFault, SinkFault}
 use Rattle.sm_display.specs.Shown.{ShowsEnds}
-use Rattle.sm_commands.specs.Check.{reach_of, ShowsFrom}
+use Rattle.sm_replies.specs.Check.{reach_of, ShowsFrom}
 use Rattle.sm_commands.specs.Deeper.{AnswersDeeper, FailsToWrite}
-use Rattle.sm_commands.specs.Seconds.{RunsOut}
-
--- what a search that decides nothing stopped at
-abbrev pub stop_in : Outcome (ℕ × Verdict) → Option Stop
-stop_in outcome.Accepted = None
-stop_in (outcome.Conflict found) = None
-stop_in (outcome.Open node goal) = Some (Goal Open goal)
-stop_in (outcome.Steps node goal) = Some (Goal Steps goal)
-stop_in (outcome.Coefficient node goal op y z) = Some (Goal Coefficient goal)
-stop_in outcome.TooMany = Some TooMany
+use Rattle.sm_replies.specs.Seconds.{RunsOut}
+use Rattle.sm_replies.specs.Grounds.{stop_in}
 
 -- behind an Unknown: the line on what the search stopped at, by a text of the task, and how many
 -- trials ended

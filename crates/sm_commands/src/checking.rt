@@ -1,28 +1,26 @@
 // What `check` answers to a task's file, and what it leaves in the proof's.
-ghost use Rattle.std.specs.Prelude.{◌≡◌, ◌≢◌, ◌⊎◌, ◌^◌, ◌<◌, ℕ, List, codes, length, IfOk, IfErr};
+ghost use Rattle.std.specs.Prelude.{◌≡◌, ◌≢◌, ◌^◌, ◌<◌, ℕ, List, length, IfOk, IfErr};
 ghost use Rattle.std.specs.Prelude.{OnErr, option_map};
 ghost use Rattle.sm_io.specs.Causes.{HasCause};
-ghost use Rattle.sm_io.specs.Files.{emptied, longer};
 ghost use Rattle.sm_syntax.specs.text.Spells.{Spells};
 ghost use Rattle.sm_task.specs.Tasks.{parts_of};
 ghost use Rattle.sm_text.specs.printing.Named.{HasText};
 ghost use Rattle.sm_answers.specs.Exit.{ExitsWith};
-ghost use Rattle.sm_answers.specs.ProofFile.{IsBegun};
-ghost use Rattle.sm_answers.specs.Status.{Says};
 ghost use Rattle.sm_commands.specs.Why.{AnswersInTime, AnswersTask};
-ghost use Rattle.sm_commands.specs.ProofFile.{LeavesFront, LeavesProof, LeftBy, LeftCut};
+ghost use Rattle.sm_files.specs.ProofFile.{LeavesFront, LeavesProof, LeftBy, LeftCut};
 ghost use Rattle.sm_commands.specs.Readings.{ChecksRead};
 ghost use Rattle.sm_commands.specs.Top.{Checks};
-ghost use Rattle.sm_commands.specs.Views.{ComesWith, CountsWrites, EndsWith};
+ghost use Rattle.sm_replies.specs.Views.{ComesWith};
+ghost use Rattle.sm_files.specs.Views.{CountsWrites, EndsWith};
 ghost use Rattle.sm_words.specs.Views.{HasWorkers};
 
-use crate::check::Decided;
-use crate::limit::{Limited, time_over};
 use crate::why::check_why;
-use sm_answers::{Exit, Reply, Spelled, Status, spelled_in, write_file};
-use sm_io::{IoError, Shelf};
+use sm_answers::{Exit, Reply, Spelled, Status, spelled_in};
+use sm_files::write_proof;
+use sm_io::Shelf;
 use sm_par::Gate;
-use sm_words::{Effort, line};
+use sm_replies::{Decided, Limited, time_over};
+use sm_words::Effort;
 use std::alloc::{AllocError, Global};
 use std::thread::Threads;
 
@@ -129,40 +127,5 @@ fn check_in_time<R: Threads + Sync, G: Gate>(
             let reply = time_over(alloc, gate, effort)?;
             Ok(InTime { reply, proof: None })
         }
-    }
-}
-
-/// The answer to a task that is accepted, once its proof was to be written.
-pub(crate) fn write_proof<H: Shelf>(
-    alloc: Global,
-    shelf: &mut H,
-    reply: Reply,
-    name: &str,
-    text: &[u8],
-) -> Result<Reply, AllocError>
-    ensures answers { IfOk result (λ r.
-        (Says reply.status reply.text.items r.status r.text.items
-        × (H.file shelf.new name.now ≡ longer (emptied (H.file shelf.old name.now)) text.now))
-        ⊎ (Says Status.WriteFault (codes "WriteFault\n") r.status r.text.items
-        × IsBegun text.now (H.file shelf.old name.now) (H.file shelf.new name.now))) }
-    ensures begun { OnErr result
-        (IsBegun text.now (H.file shelf.old name.now) (H.file shelf.new name.now)) }
-    ensures others { (other : List ℕ) → other ≢ name.now →
-        H.file shelf.new other ≡ H.file shelf.old other }
-    ensures writes { reply.status ≢ Status.WriteFault → IfOk result (λ r.
-        HasCause (H.write_faults shelf.old) (H.write_faults shelf.new)
-        (r.status ≡ Status.WriteFault)) }
-    ensures quiet { OnErr result (H.write_faults shelf.new ≡ H.write_faults shelf.old) }
-    ensures reads { H.read_faults shelf.new ≡ H.read_faults shelf.old }
-    ensures keeps { H.given shelf.new ≡ H.given shelf.old }
-{
-    let failed = line(alloc, "WriteFault", &[])?;
-    match write_file(shelf, name, text) {
-        Ok(()) => Ok(reply),
-        Err(IoError::Fault) => Ok(Reply {
-            status: Status::WriteFault,
-            text: failed,
-        }),
-        Err(IoError::Memory) => Err(AllocError),
     }
 }

@@ -22,33 +22,26 @@
 //!   and without `--seconds`.
 //! - `Status::number` is the number with which the program ends.
 //!
-//! The claim is `ConflictFree` of the crate `sm_syntax`. Read `specs/Headline.antt` first: what
-//! Accepted and Conflict say of files that are told; and then `specs/HeadlineRead.antt`: what they
-//! say of the bytes that were read, on every shelf. `specs/HeadlineBatch.antt` has what a line
-//! `Accepted` of `batch` says of both. `specs/Top.antt` says what is answered, with
-//! `specs/Check.antt`, `specs/Deeper.antt`, `specs/Why.antt`, `specs/Suggest.antt`,
-//! `specs/Batch.antt`, `specs/Seconds.antt`, `specs/Trim.antt` and `specs/Gen.antt`, `specs/File.antt`,
-//! `specs/Verify.antt` and `specs/Replay.antt` of the crate `sm_answers`, and `specs/Print.antt` and
-//! `specs/Explain.antt` of `sm_display`; `specs/ProofFile.antt` what `check` writes, and
-//! `specs/Words.antt` of `sm_words` what the words ask for.
+//! The claim is `ConflictFree` of the crate `sm_syntax`. Read `specs/Merges.antt` of the crate
+//! `sm_answers` first: what it is for bytes to spell a task that is free of conflicts; then
+//! `specs/Headline.antt`: what Accepted and Conflict say of files that are told; and then
+//! `specs/HeadlineRead.antt`: what they say of the bytes that were read, on every shelf.
+//! `specs/HeadlineBatch.antt` of `sm_replies` has what a line `Accepted` of `batch` says of both.
+//!
+//! `specs/Top.antt` says what is answered, with `specs/Deeper.antt` and `specs/Why.antt`;
+//! `specs/Check.antt`, `specs/Suggest.antt`, `specs/Batch.antt`, `specs/Seconds.antt` and
+//! `specs/Gen.antt` of `sm_replies`; `specs/Trim.antt` of `sm_files`; `specs/File.antt`,
+//! `specs/Verify.antt` and `specs/Replay.antt` of `sm_answers`; and `specs/Print.antt` and
+//! `specs/Explain.antt` of `sm_display`. `specs/ProofFile.antt` of `sm_files` says what `check`
+//! writes, and `specs/Words.antt` of `sm_words` what the words ask for.
 #![tactic(auto)]
 
-mod batch_lines;
-mod batch_worker;
-mod batching;
-mod check;
 mod checking;
 mod deeper;
-mod gathering;
-mod ground;
 mod laws;
-mod limit;
-mod making;
 mod replying;
-mod suggesting;
 mod telling;
 mod top;
-mod trimming;
 mod why;
 
 pub use laws::one_answer;

@@ -3,17 +3,16 @@ ghost use Rattle.std.specs.Prelude.{◌≡◌, ◌++◌, ◌^◌, ◌<◌, lengt
 ghost use Rattle.sm_syntax.specs.text.Spells.{Spells};
 ghost use Rattle.sm_task.specs.Tasks.{parts_of};
 ghost use Rattle.sm_text.specs.printing.Named.{HasText};
-ghost use Rattle.sm_commands.specs.Grounds.{RestsOn};
-ghost use Rattle.sm_commands.specs.Views.{ComesWith};
+ghost use Rattle.sm_replies.specs.Grounds.{RestsOn};
+ghost use Rattle.sm_replies.specs.Views.{ComesWith};
 ghost use Rattle.sm_commands.specs.Why.{AnswersWhy, SaysWhy};
 ghost use Rattle.sm_words.specs.Views.{HasWorkers};
 
-use crate::check::Decided;
 use crate::deeper::check_deeper;
-use crate::ground::Ground;
 use sm_answers::{Reply, Spelled};
 use sm_display::shown_ends;
 use sm_par::Gate;
+use sm_replies::{Decided, Ground};
 use sm_why::{reason_line, trials_line};
 use sm_words::Effort;
 use std::alloc::{AllocError, Global};

@@ -13,7 +13,7 @@ use Rattle.sm_answers.specs.declared.status.Status.{Status}
 use Rattle.sm_answers.specs.declared.status.Status.TheVariants.{Accepted, WriteFault}
 use Rattle.sm_commands.proofs.FilesLemmas.{written_answers}
 use Rattle.sm_commands.specs.Why.{AnswersInTime, AnswersTask}
-use Rattle.sm_commands.specs.Views.{ComesWith}
+use Rattle.sm_replies.specs.Views.{ComesWith}
 use Rattle.sm_words.specs.declared.effort.Effort.{Effort}
 use Rattle.sm_commands.proofs.checking.check_task.Goals as goal
 

@@ -2,8 +2,8 @@
 use Rattle.std.proofs.Common.{Option, IfSome, inr, subst}
 use Rattle.sm_task.specs.Tasks.{parts_of}
 use Rattle.sm_commands.specs.Deeper.{GoesBeyond}
-use Rattle.sm_commands.specs.Grounds.{RestsOn}
-use Rattle.sm_commands.specs.declared.check.Decided.{Decided}
+use Rattle.sm_replies.specs.Grounds.{RestsOn}
+use Rattle.sm_replies.specs.declared.decided.Decided.{Decided}
 use Rattle.sm_commands.proofs.deeper.check_deeper.Goals as goal
 
 pub returns-in-Some-clause-answers : goal.returns-in-Some-clause-answers

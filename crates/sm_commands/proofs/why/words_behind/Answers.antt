@@ -1,11 +1,11 @@
 -- What is said behind an answer is what its ground gives.
 use Rattle.std.proofs.Common.{◌≡◌, ◌++◌, ℕ, List, rules, subst}
 use Rattle.sm_task.specs.Tasks.{parts_of}
-use Rattle.sm_commands.proofs.SpelledLemmas.{is_spelled}
+use Rattle.sm_replies.proofs.SpelledLemmas.{is_spelled}
 use Rattle.sm_commands.proofs.WhySaid.{proved_says, shown_says, stopped_says}
-use Rattle.sm_commands.specs.Grounds.{RestsOn}
+use Rattle.sm_replies.specs.Grounds.{RestsOn}
 use Rattle.sm_why.specs.Reasons.{IsReason}
-use Rattle.sm_commands.specs.declared.ground.Ground.{Ground}
+use Rattle.sm_replies.specs.declared.ground.Ground.{Ground}
 use Rattle.sm_commands.proofs.why.words_behind.Goals as goal
 
 pub trials_line-requires : goal.trials_line-requires

@@ -1,0 +1,3 @@
+pub mod Trim
+pub mod ProofFile
+pub mod Views

@@ -1,0 +1,42 @@
+-- What stands behind an answer, by what it rests on.
+use Rattle.std.proofs.Common.{◌≡◌, ◌∙◌, ℕ, List, sym, subst, Option, Some, None, option_map, Vec}
+use Rattle.std.proofs.Common.{Global}
+use Rattle.sm_houdini.specs.Outcomes.{Outcome, IsOutcome}
+use Rattle.sm_replay.specs.declared.verdict.Verdict.{Verdict}
+use Rattle.sm_syntax.specs.text.Parts.{Parts}
+use Rattle.sm_words.specs.declared.effort.Effort.{Effort}
+use Rattle.sm_why.specs.declared.stop.Stop.{Stop}
+use Rattle.sm_answers.specs.declared.status.Status.{Status}
+use Rattle.sm_answers.specs.declared.status.Status.TheVariants.{Accepted, Conflict, Unknown}
+use Rattle.sm_replies.specs.Check.{reach_of}
+use Rattle.sm_replies.specs.Grounds.{IsShownBy, RestsOn, stop_in}
+use Rattle.sm_replies.specs.Views.{ComesWith}
+use Rattle.sm_replies.specs.declared.ground.Ground.{Ground}
+use Rattle.sm_replies.specs.declared.ground.Ground.TheVariants.{Proved, Input, Stopped}
+
+-- what is shown by an input rests on it
+pub shown_rests : (t : Parts) (effort : Effort) (status : Status) (text : List ℕ) (g : Ground) → IsShownBy t status text g
+    → RestsOn t effort status text g
+shown_rests t effort status text Proved h = absurd h
+shown_rests t effort status text (Input store) h = h
+shown_rests t effort status text (Stopped stop) h = absurd h
+
+-- no proof comes with a conflict
+pub shown_comes : (t : Parts) (status : Status) (o : Option (Vec ℕ Global)) → o ≡ None → status ≡ Conflict
+    → ComesWith t status (option_map (λ (v : Vec ℕ Global). v.items) o)
+shown_comes t status o none is =
+    subst (λ (x : Option (Vec ℕ Global)). ComesWith t status (option_map (λ (v : Vec ℕ Global). v.items) x)) (sym none)
+    (λ (accepted : status ≡ Accepted). absurd (let both : Conflict ≡ Accepted = sym is ∙ accepted in cc))
+
+-- an answer that shows an input is a Conflict
+pub shown_is : (t : Parts) (status : Status) (text : List ℕ) (g : Ground) → IsShownBy t status text g → status ≡ Conflict
+shown_is t status text Proved h = absurd h
+shown_is t status text (Input store) h = h.0
+shown_is t status text (Stopped stop) h = absurd h
+
+-- an Unknown rests on what the search stopped at
+pub stopped_rests : (t : Parts) (effort : Effort) (status : Status) (text : List ℕ) (g : Ground) (stop : Stop) (o : Outcome (ℕ × Verdict))
+    → g ≡ Stopped stop → status ≡ Unknown → IsOutcome t (reach_of effort) effort.turns o → stop_in o ≡ Some stop
+    → RestsOn t effort status text g
+stopped_rests t effort status text g stop o is e found stopped =
+    subst (λ (x : Ground). RestsOn t effort status text x) (sym is) (e, record { outcome = o; found = found; stopped = stopped })

@@ -1,0 +1,10 @@
+pub mod Check
+pub mod Gen
+pub mod Seconds
+pub mod Suggest
+pub mod Grounds
+pub mod Batch
+pub mod HeadlineBatch
+pub mod Taken
+pub mod BatchSteps
+pub mod Views
