@@ -7,4 +7,4 @@ use Rattle.sm_certify.specs.declared.base.Base.TheVariants as base
 -- a base is the classes of terms by all that is given of them, or nothing
 abbrev pub IsFrom : ClassesValue → Base → Type 0
 IsFrom v base.Nothing = Unit {0}
-IsFrom v (base.Over g) = IsGround v g.ground g.numbering
+IsFrom v (base.Over g) = IsGround v g.value.ground g.value.numbering

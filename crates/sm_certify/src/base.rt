@@ -3,7 +3,7 @@ ghost use Rattle.std.specs.Prelude.{◌≡◌, length, IfOk};
 ghost use Rattle.sm_term.specs.Sorted.{AreFormsSorted};
 ghost use Rattle.sm_term.specs.Tables.{trees_in, sorts_in};
 ghost use Rattle.sm_cc.specs.Classes.{are_apart};
-ghost use Rattle.sm_cc.specs.Ground.{IsLedBy};
+ghost use Rattle.sm_cc.specs.Ground.{IsGround, IsLedBy};
 ghost use Rattle.sm_cc.specs.Rounds.{are_equal};
 ghost use Rattle.sm_cc.specs.Views.{ClassesValue, setting_of};
 ghost use Rattle.sm_judge.specs.AllForms.{AreAllForms};
@@ -25,7 +25,7 @@ pub enum Base {
     /// With nothing.
     Nothing,
     /// With the classes of facts that each branch has.
-    Over(Grounded),
+    Over(Box<Grounded>),
 }
 
 impl Base {
@@ -55,19 +55,52 @@ impl Base {
     {
         match self {
             Base::Nothing => classes_of(alloc, table, forms, terms, facts),
-            Base::Over(g) => {
-                classes_over(
-                    alloc,
-                    &g.ground,
-                    &mut g.numbering,
-                    table,
-                    forms,
-                    terms,
-                    facts,
-                )
-            }
+            Base::Over(g) => classes_within(alloc, g, table, forms, terms, facts),
         }
     }
+}
+
+// The classes of all terms of a table by facts, beginning with those that are found already.
+fn classes_within<'a>(
+    alloc: Global,
+    grounded: &mut Grounded,
+    table: &'a TermTable,
+    forms: &[LinForm],
+    terms: &'a Terms,
+    facts: &[Formula],
+) -> Result<Classes<'a>, AllocError>
+    requires forms { AreAllForms (trees_in table.now) forms.now }
+    requires whole { IsWhole (trees_in table.now) terms.now.list.items }
+    requires within { AreFormulasWithin (length (trees_in table.now)) (all_numbered facts.now) }
+    requires sorted { AreFormsSorted (sorts_in table.now)
+        (assertions_in (sorts_in table.now) (trees_in table.now) (all_numbered facts.now)) }
+    requires led { (v : ClassesValue) × IsGround v grounded.old.ground grounded.old.numbering
+        × IsLedBy v (classes_by table.now terms.now.list.items facts.now) }
+    ensures value { IfOk result (λ c. c ≡ classes_by table.now terms.now.list.items facts.now) }
+    ensures seen { IfOk result (λ c.
+        seen_in (sorts_in table.now) (trees_in table.now) (trees_in table.now) facts.now
+        (are_equal (setting_of c)) (are_apart (setting_of c) (are_equal (setting_of c)))
+        ≡ branch_of table.now facts.now) }
+    ensures stays { (v : ClassesValue) → IsGround v grounded.old.ground grounded.old.numbering →
+        IsGround v grounded.new.ground grounded.new.numbering }
+{
+    classes_over(
+        alloc,
+        &grounded.ground,
+        &mut grounded.numbering,
+        table,
+        forms,
+        terms,
+        facts,
+    )
+}
+
+/// The base of these classes. They have many parts, and are kept apart from what holds the base.
+pub fn boxed_base(alloc: Global, found: Grounded) -> Result<Base, AllocError>
+    ensures { (v : ClassesValue) → IsGround v found.ground found.numbering →
+        IfOk result (IsFrom v) }
+{
+    Ok(Base::Over(Box::new(alloc, found)?))
 }
 
 /// The classes of all terms of a table by facts, for those of the branches that have these facts.
@@ -87,7 +120,7 @@ pub fn base_of(
 {
     let given = given_facts(alloc, facts)?;
     match Ground::of(alloc, table, forms, terms, &given)? {
-        Some(found) => Ok(Base::Over(found)),
+        Some(found) => boxed_base(alloc, found),
         None => Ok(Base::Nothing),
     }
 }

@@ -27,7 +27,7 @@ mod named;
 mod refute;
 mod unequal;
 
-pub use base::{Base, base_of};
+pub use base::{Base, base_of, boxed_base};
 pub use certify::closing_tree;
 pub use classes::{all_terms, given_facts};
 pub use decided::exact_tree;

@@ -5,14 +5,17 @@ ghost use Rattle.sm_syntax.specs.trees.Programs.{declared_of};
 ghost use Rattle.sm_text.specs.Tasks.{parts_of};
 ghost use Rattle.sm_plan.specs.SortedStates.{IsTaskSorted};
 ghost use Rattle.sm_plan.specs.Starts.{AreNumbered};
+ghost use Rattle.sm_sketch.specs.SketchViews.{sketch_in, IsSketchReady};
+ghost use Rattle.sm_term.specs.Tables.{trees_in, sorts_in};
 ghost use Rattle.sm_product.specs.Errors.{TellsTask};
 ghost use Rattle.sm_product.specs.Laws.{HaveNoHole};
 ghost use Rattle.sm_product.specs.ProductPlans.{site_count};
+ghost use Rattle.sm_product.specs.Products as products;
 ghost use Rattle.sm_product.specs.Sizes as sizes;
 
 use crate::limits::is_small;
 use crate::sketching::sketch_of;
-use sm_sketch::{ProductError, all_templates};
+use sm_sketch::{ProductError, Sketch, all_templates};
 use sm_task::fill_all;
 use sm_term::TermTable;
 use sm_text::Task;
@@ -34,9 +37,30 @@ pub fn sites(alloc: Global, task: &Task) -> Result<u64, ProductError>
 {
     let mut table = TermTable::new(alloc, &task.shared.decls)?;
     let sketch = sketch_of(alloc, &mut table, task)?;
+    sites_within(alloc, &mut table, task, &sketch)
+}
+
+// How many sites the sketch of a task has, where the plan of all its templates is within the limits.
+fn sites_within(
+    alloc: Global,
+    table: &mut TermTable,
+    task: &Task,
+    sketch: &Sketch,
+) -> Result<u64, ProductError>
+    requires declared { sorts_in table.old ≡ sort_of (declared_of task.now.shared.decls) }
+    requires numbered { AreNumbered (declared_of task.now.shared.decls) }
+    requires sorted { IsTaskSorted (sort_of (declared_of task.now.shared.decls))
+        (task_of (parts_of task.now)) }
+    requires sketch { sketch_in (sorts_in table.old) (trees_in table.old) sketch.now
+        ≡ products.sketch_of (parts_of task.now) }
+    requires ready { IsSketchReady (sorts_in table.old) (trees_in table.old) sketch.now }
+    ensures ok { IfOk result (λ n. n ≡ site_count (parts_of task.now)) }
+    ensures small { OnOk result (sizes.is_small (parts_of task.now) ≡ true) }
+    ensures err { IfErr result (λ e. TellsTask e (parts_of task.now)) }
+{
     let programs = fill_all(alloc, task)?;
-    let full = all_templates(alloc, &sketch)?;
-    if !is_small(alloc, &mut table, task, &programs, &sketch, &full)? {
+    let full = all_templates(alloc, sketch)?;
+    if !is_small(alloc, table, task, &programs, sketch, &full)? {
         return Err(ProductError::TooMany);
     }
     Ok(full.sites.len() as u64)

@@ -19,7 +19,7 @@ use crate::grounding::{ground_of, with_room};
 use crate::reach::Reach;
 use crate::shut::{Shut, shut_of};
 use crate::solving::Answer;
-use sm_certify::{Base, count_named};
+use sm_certify::{Base, boxed_base, count_named};
 use sm_judge::linear_forms;
 use sm_list::{SharedTerms, numbered_terms, shared_facts};
 use sm_num::LinForm;
@@ -122,14 +122,17 @@ impl Node {
         }
         let forms = linear_forms(alloc, &shared.terms.own)?;
         match ground_of(alloc, &shared.terms.own, &forms, &shared.facts)? {
-            Some(found) => Ok(Some(Node {
-                terms: shared.terms,
-                forms,
-                facts: shared.facts,
-                place: facts.len(),
-                base: Base::Over(found),
-                shut: None,
-            })),
+            Some(found) => {
+                let base = boxed_base(alloc, found)?;
+                Ok(Some(Node {
+                    terms: shared.terms,
+                    forms,
+                    facts: shared.facts,
+                    place: facts.len(),
+                    base,
+                    shut: None,
+                }))
+            }
             None => Ok(None),
         }
     }

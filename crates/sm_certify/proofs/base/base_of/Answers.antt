@@ -4,6 +4,7 @@ use Rattle.sm_term.specs.Tables.{trees_in}
 use Rattle.sm_cc.specs.declared.classes.GivenFact.{GivenFact}
 use Rattle.sm_cc.specs.declared.ground.Grounded.{Grounded}
 use Rattle.sm_cc.specs.Ground.{IsGround}
+use Rattle.sm_certify.specs.Given.{classes_by}
 use Rattle.sm_certify.proofs.GivenLemmas.{whole_before, given_of_terms}
 use Rattle.sm_certify.proofs.base.base_of.Goals as goal
 
@@ -28,8 +29,9 @@ returns-in-Some c =
       terms = c.args.terms.now.list.items;
       given = c.deref.result.now;
     }) g.ground g.numbering)) c.in-Some.is c.in_ok-found.ensures in
-    subst (λ (gs : List GivenFact). IsGround (record {
+    c.boxed_base.ensures (classes_by c.args.table.now c.args.terms.now.list.items c.args.facts.now)
+    (subst (λ (gs : List GivenFact). IsGround (record {
       table = c.args.table.now;
       terms = c.args.terms.now.list.items;
       given = gs;
-    }) c.in-Some.found.ground c.in-Some.found.numbering) (c.deref.ensures.value ∙ c.in_ok-given.ensures) found
+    }) c.in-Some.found.ground c.in-Some.found.numbering) (c.deref.ensures.value ∙ c.in_ok-given.ensures) found)

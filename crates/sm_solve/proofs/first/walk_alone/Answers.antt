@@ -1,38 +1,23 @@
--- The first visit begins with nothing, and the walk goes on from the classes of its facts.
+-- The walk of the first branch is what its visit tells, and what the walk below it comes to.
 use Rattle.std.proofs.Common.{◌≡◌, ◌<◌, [], List, refl, sym, ap, subst, ◌∙◌, arith}
 use Rattle.sm_term.specs.declared.formula.Formula.{Formula}
 use Rattle.sm_term.specs.Assertions.{Assertion}
 use Rattle.sm_term.specs.Sorted.{AreFormsSorted}
 use Rattle.sm_term.specs.Tables.{trees_in, sorts_in}
-use Rattle.sm_certify.specs.Bases.{IsFrom}
-use Rattle.sm_certify.specs.Given.{classes_by, branch_of}
+use Rattle.sm_certify.specs.Given.{branch_of}
 use Rattle.sm_list.specs.Parts.{all_numbered, assertions_in}
 use Rattle.sm_judge.specs.Forms.{Walked}
 use Rattle.sm_solve.specs.Walk.{walk_from, by_classes}
 use Rattle.sm_solve.specs.Walking.{TellsVisit, ShowsVisit, ShowsEnd}
-use Rattle.sm_solve.proofs.BasesLemmas.{led_nothing, led_same, led_alone}
 use Rattle.sm_solve.proofs.WalkingLemmas.{walk_next}
 use Rattle.sm_solve.proofs.first.walk_alone.Goals as goal
 
-pub visit_branch-requires-clause-led : goal.visit_branch-requires-clause-led
-visit_branch-requires-clause-led c = (
-  record { table = c.args.table.now; terms = []; given = [] },
-  tt,
-  led_nothing c.args.table.now c.in_ok-terms.terms.list.items c.as_slice.result.now,
-)
-
-pub walk_on-requires-clause-shows : goal.walk_on-requires-clause-shows
-walk_on-requires-clause-shows c =
+pub walk_below-requires-clause-shows : goal.walk_below-requires-clause-shows
+walk_below-requires-clause-shows c =
     let sorts = sorts_in c.args.table.now in
     let trees = trees_in c.args.table.now in
     subst (λ (fs : List Formula). ShowsVisit sorts trees (assertions_in sorts trees (all_numbered fs)) c.in_ok-visit.visit)
     c.as_slice.ensures.value c.in_ok-visit.ensures.shows
-
-pub walk_on-requires-clause-led : goal.walk_on-requires-clause-led
-walk_on-requires-clause-led c =
-    let ids = c.in_ok-terms.terms.list.items in
-    let v = classes_by c.args.table.now ids c.as_slice-2.result.now in
-    (v, c.in_ok-base.ensures, led_same v c.args.table.now ids c.as_slice-2.result.now c.args.facts.now.items (sym c.as_slice-2.ensures.value) (led_alone v))
 
 pub returns-clause-tells : goal.returns-clause-tells
 returns-clause-tells c =
@@ -54,7 +39,7 @@ pub returns-clause-shows : goal.returns-clause-shows
 returns-clause-shows c = λ given are.
     let sorts = sorts_in c.args.table.now in
     let trees = trees_in c.args.table.now in
-    let now = ap (λ (fs : List Formula). assertions_in sorts trees (all_numbered fs)) (c.as_slice-3.ensures.value ∙ c.in_ok-end.ensures.kept)
+    let now = ap (λ (fs : List Formula). assertions_in sorts trees (all_numbered fs)) (c.as_slice-2.ensures.value ∙ c.in_ok-end.ensures.kept)
     ∙ are in
     let shows = subst (λ (fs : List Assertion). ShowsEnd sorts trees fs 1001 c.in_ok-end.end) are c.in_ok-end.ensures.shows in
     c.in_ok-led.ensures.shows sorts trees 1001 [] given refl now shows

@@ -8,7 +8,6 @@ use Rattle.sm_term.specs.Sorted.{AreFormsSorted}
 use Rattle.sm_term.specs.Tables.{trees_in, sorts_in}
 use Rattle.sm_cc.specs.declared.ground.Grounded.{Grounded}
 use Rattle.sm_cc.specs.Ground.{IsGround}
-use Rattle.sm_certify.specs.declared.base.Base.TheVariants as base
 use Rattle.sm_judge.specs.AllForms.{AreAllForms}
 use Rattle.sm_certify.specs.Bases.{IsFrom}
 use Rattle.sm_theory.specs.TermsOfFormulas.{with_formulas}
@@ -62,7 +61,8 @@ returns-in-Some-clause-node c =
     let found = subst (λ (o : Option Grounded). IfSome o (λ (g : Grounded). (ids : List TermId) × IsWhole (trees_in own) ids
     × (numbers_of ids ≡ range_with_len 0 (length (trees_in own)))
     × IsGround (classes_by own ids c.deref-4.result.now) g.ground g.numbering)) c.in-Some.is c.in_ok-found.ensures in
-    let ground = subst (λ (fs : List Formula). IsFrom (classes_by own found.0 fs) (base.Over c.in-Some.found)) c.deref-4.ensures.value found.3 in
+    let ground = subst (λ (fs : List Formula). IsFrom (classes_by own found.0 fs) c.in_ok-base-in-Some.base) c.deref-4.ensures.value
+    (c.in_ok-base-in-Some.ensures (classes_by own found.0 c.deref-4.result.now) found.3) in
     node_of table c.shared_facts.new.table given first second _ c.in_ok-shared.ensures.grows.sorts one two c.in_ok-shared.ensures.terms
     c.in_ok-forms.ensures many c.in_ok-shared.ensures.facts c.in_ok-shared.ensures.within (as_many sorts trees c.args.facts.now) c.requires.sorted found.0
     found.1 found.2 ground refl
