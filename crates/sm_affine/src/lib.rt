@@ -15,8 +15,6 @@ mod field;
 mod finding;
 mod rational;
 mod span;
-#[cfg(test)]
-mod tests;
 
 pub use equality::{Equality, Part};
 pub use finding::equalities;
