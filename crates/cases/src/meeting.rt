@@ -45,11 +45,22 @@ impl Meeting {
             (Some(_), false) => "no two at once\n",
         }
     }
+
+    // Whether jobs of a phase are watched.
+    fn watches(&self, phase: Phase) -> bool {
+        match (self.phase, phase) {
+            (Some(Phase::Trial), Phase::Trial)
+            | (Some(Phase::Obligation), Phase::Obligation)
+            | (Some(Phase::Certificate), Phase::Certificate)
+            | (Some(Phase::Answer), Phase::Answer) => true,
+            _ => false,
+        }
+    }
 }
 
 impl Gate for Meeting {
     fn enter(&self, phase: Phase) {
-        if self.phase != Some(phase) || self.entered.fetch_add(1, Ordering::SeqCst) != 0 {
+        if !self.watches(phase) || self.entered.fetch_add(1, Ordering::SeqCst) != 0 {
             return;
         }
         'turns: for _ in 0..TURNS {
