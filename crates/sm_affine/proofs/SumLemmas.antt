@@ -1,7 +1,7 @@
 -- The sum of an equality's parts, one after the other.
-use Rattle.std.proofs.Common.{◌≡◌, ℕ, ◌+◌, ◌<◌, ◌≤◌, ℤ, pos, ◌+ℤ◌, ◌*ℤ◌, List, length, get_or, drop, sym, ap, ◌∙◌, arith}
+use Rattle.std.proofs.Common.{◌≡◌, ℕ, ◌+◌, ◌<◌, ℤ, pos, ◌+ℤ◌, ◌*ℤ◌, List, length, get_or, drop, sym, ap, ◌∙◌, arith}
 use Rattle.std.proofs.lemmas.Int.{ints}
-use Rattle.std.proofs.lemmas.List.{at_drop_more, at_drop_all}
+use Rattle.std.proofs.lemmas.List.{at_drop_more}
 use Rattle.sm_num.specs.Forms.{sum_of_parts}
 use Rattle.sm_affine.specs.declared.equality.Part.{Part}
 use Rattle.sm_affine.specs.Equalities.{columns_of}
@@ -29,12 +29,3 @@ sum_more v parts i whole sum next within so_far added =
     let here : sum_of_parts v (columns_of (drop i parts)) ≡ product +ℤ rest =
     at_drop_more (λ (ps : List Part). sum_of_parts v (columns_of ps)) parts i d within in
     so_far ∙ ap (λ (z : ℤ). z +ℤ sum) here ∙ move product rest sum ∙ ap (λ (z : ℤ). rest +ℤ z) (sym added)
-
--- at the end of the parts the sum so far is the whole one
-pub sum_all :
-    (v : ℕ → ℤ) (parts : List Part) (i : ℕ) (whole sum : ℤ) → length parts ≤ i →
-    whole ≡ sum_of_parts v (columns_of (drop i parts)) +ℤ sum → sum ≡ whole
-sum_all v parts i whole sum end so_far =
-    let none : sum_of_parts v (columns_of (drop i parts)) ≡ pos 0 =
-    at_drop_all (λ (ps : List Part). sum_of_parts v (columns_of ps)) parts i end in
-    sym (so_far ∙ ap (λ (z : ℤ). z +ℤ sum) none ∙ nothing_left sum)

@@ -23,7 +23,3 @@ entry_put (o ∷ since) (suc i) node (suc n) first e = of (entry_put since i nod
         (entry_of since n ≡ Some first) ⊎ ((suc n ≡ suc i) × (first ≡ node))
     of (inl h) = inl h
     of (inr h) = inr (ap suc h.0, h.1)
-
--- nothing is put
-pub entry_kept : (since : List (Option ℕ)) (i node : ℕ) → IsPut since since i node
-entry_kept since i node n first e = inl e

@@ -1,5 +1,5 @@
 -- What is kept stays the accepting reply to the task of its key.
-use Rattle.std.proofs.Common.{◌≡◌, ℕ, ◌<◌, arith, Bool, true, ◌⊎◌, Some, List, [], Contains, sym, subst, ◌∙◌, inl, inr}
+use Rattle.std.proofs.Common.{◌≡◌, ℕ, Bool, true, ◌⊎◌, Some, List, Contains, sym, subst, ◌∙◌, inl, inr}
 use Rattle.std.specs.Map.{lookup, remove_entry}
 use Rattle.std.specs.Str.{bytes_eq}
 use Rattle.std.proofs.lemmas.Slice.Eq.{bytes_eq-Decides}
@@ -36,9 +36,6 @@ module _ (Replies : Parts → List ℕ → Type 0) (Accepts : Parts → Type 0) 
   found_accepted entries kept t h entry found =
       let at = Contains-lookup (is_key_of t) entries entry found in
       kept at.0 entry at.1 t h (key_found t at.0 at.2)
-
-  pub none_accepted : AreAccepted Replies Accepts []
-  none_accepted key entry at t h same = absurd (let below : at.0 < 0 = at.1 in omega arith)
 
   pub accepted-promoted : (test : List ℕ → Bool) (entries : Entries) → AreAccepted Replies Accepts entries
       → AreAccepted Replies Accepts (promoted test entries)

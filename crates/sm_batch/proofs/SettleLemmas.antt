@@ -1,10 +1,9 @@
 -- What the steps of a group do to what is kept is what the tasks ask.
-use Rattle.std.proofs.Common.{◌≡◌, ℕ, ◌+◌, Bool, true, false, not, if◌then◌else◌, Option, Some, None, IfSome, IsSome, List, [], ◌∷◌, map, All, refl, sym, ap, subst, ◌∙◌, inl, inr, cond, ◌<◌, ◌≤◌, length, get_or, drop, drop_of_length-le}
+use Rattle.std.proofs.Common.{◌≡◌, ℕ, ◌+◌, Bool, true, false, not, if◌then◌else◌, Option, Some, None, IfSome, IsSome, List, [], ◌∷◌, map, All, refl, sym, ap, subst, ◌∙◌, inl, inr, cond}
 use Rattle.std.specs.List.{AllZip, count_by}
 use Rattle.std.specs.Map.{lookup, remove_entry}
 use Rattle.std.specs.Str.{bytes_eq}
 use Rattle.std.proofs.lemmas.List.Elements.{All-head, All-tail}
-use Rattle.std.proofs.lemmas.List.{drop_more}
 use Rattle.std.proofs.lemmas.List.Sums.{sum_by-cons}
 use Rattle.lru.specs.LruCache.{promoted}
 use Rattle.sm_syntax.specs.text.Parts.{Parts}
@@ -150,14 +149,3 @@ module _ (Replies : Parts → List ℕ → Type 0) (Accepts : Parts → Type 0) 
   settled capacity ts ss after does puts =
       subst (λ e. ArePut (IsKept Replies Accepts takes) capacity (wanted takes start (map parts_of ts)) e after)
       (looks_are ts ss start does) (puts_are capacity ts ss (after_looks ss start) after does puts)
-
--- one more key is looked up
-pub looks_more : (steps : List Step) (i : ℕ) (s : Step) (before after end : Entries) → i < length steps → s ≡ get_or steps i s
-    → after ≡ after_look s before → after_looks (drop i steps) before ≡ end → after_looks (drop (i + 1) steps) after ≡ end
-looks_more steps i s before after end within at is so_far =
-    let front : drop i steps ≡ s ∷ drop (i + 1) steps = drop_more steps i s within ∙ ap (λ x. x ∷ drop (i + 1) steps) (sym at) in
-    ap (after_looks (drop (i + 1) steps)) is ∙ sym (ap (λ l. after_looks l before) front) ∙ so_far
-
--- all are
-pub looks_end : (steps : List Step) (i : ℕ) (now end : Entries) → length steps ≤ i → after_looks (drop i steps) now ≡ end → now ≡ end
-looks_end steps i now end all so_far = sym (ap (λ l. after_looks l now) (drop_of_length-le steps {i = i} all)) ∙ so_far

@@ -58,17 +58,6 @@ missed_hit front ts ls i t l short within task_at look_at hit so_far =
     let rest = missed (drop (i + 1) ts) (drop (i + 1) ls) in
     sym (ap (λ x. front ++ x) (missed_from ts ls i t l short within task_at look_at ∙ ap (λ b. if b then rest else t ∷ rest) hit)) ∙ so_far
 
--- what is no hit is
-pub missed_miss : (front : List Task) (ts : List Task) (ls : List Looked) (i : ℕ) (t : Task) (l : Looked) → i < length ts → i < length ls
-    → t ≡ get_or ts i t → l ≡ get_or ls i l → is_some l.reply ≡ false
-    → front ++ missed (drop i ts) (drop i ls) ≡ missed ts ls
-    → (front ++ t ∷ []) ++ missed (drop (i + 1) ts) (drop (i + 1) ls) ≡ missed ts ls
-missed_miss front ts ls i t l short within task_at look_at no_hit so_far =
-    let rest = missed (drop (i + 1) ts) (drop (i + 1) ls) in
-    append_assoc front (t ∷ []) rest
-    ∙ sym (ap (λ x. front ++ x) (missed_from ts ls i t l short within task_at look_at ∙ ap (λ b. if b then rest else t ∷ rest) no_hit))
-    ∙ so_far
-
 -- as many answers are left as there are no hits left
 pub misses_more : (l : Looked) (ls : List Looked) (before after : List Answered) (told : Vec ℕ Global) (s : Step)
     → IsTold l before after told s → misses (l ∷ ls) ≡ length before → misses ls ≡ length after
@@ -81,14 +70,6 @@ misses_more l ls before after told s one same = by l.reply one same
         → (if is_some o then misses ls else 1 + misses ls) ≡ length before → misses ls ≡ length after
     by None one same = let more = ap length one.1 in omega arith
     by (Some kept) one same = same ∙ ap length one.0
-
--- so one is left where there's one that was no hit
-pub some_answer : (l : Looked) (ls : List Looked) (answers : List Answered) → l.reply ≡ None
-    → misses (l ∷ ls) ≡ length answers → 0 < length answers
-some_answer l ls answers none same =
-    let more : 1 + misses ls ≡ length answers =
-    subst (λ (o : Option (Vec ℕ Global)). (if is_some o then misses ls else 1 + misses ls) ≡ length answers) none same in
-    omega arith
 
 -- one more is told
 pub told_more : (looked : List Looked) (answers : List Answered) (replies : List (Vec ℕ Global)) (steps : List Step)

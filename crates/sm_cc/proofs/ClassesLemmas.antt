@@ -8,7 +8,7 @@ use Rattle.sm_term.specs.declared.term.TermId.{TermId}
 use Rattle.sm_term.specs.Terms.{Tree}
 use Rattle.sm_term.specs.Assertions.{Assertion, Eq, Ne}
 use Rattle.sm_term.specs.Sorted.{tree_sort}
-use Rattle.sm_term.specs.Tables.{TableValue, trees_in, sorts_in, tree_at}
+use Rattle.sm_term.specs.Tables.{trees_in, sorts_in, tree_at}
 use Rattle.sm_theory.specs.Lines.{Sides, equal_sides, unequal_sides}
 use Rattle.sm_cc.specs.declared.classes.GivenFact.{GivenFact}
 use Rattle.sm_cc.specs.declared.row.Row.{Row}
@@ -16,10 +16,10 @@ use Rattle.sm_cc.specs.declared.positions.Positions.{Positions}
 use Rattle.sm_cc.specs.Classes.{Same, Apart}
 use Rattle.sm_cc.specs.Rows.{SamePlaces, ApartPlaces}
 use Rattle.sm_cc.specs.Standing.{place_of, RowsStand, with_places, places_given, board_for}
-use Rattle.sm_cc.specs.Positions.{ArePositions, place_at}
+use Rattle.sm_cc.specs.Positions.{place_at}
 use Rattle.sm_cc.specs.Log.{Placed}
-use Rattle.sm_cc.specs.Exact.{nothing_given, with_equal, with_unequal}
-use Rattle.sm_cc.specs.Views.{ClassesValue, setting_of, assertion_given, IsTermOf, IsOfTwoTerms, with_given, no_terms}
+use Rattle.sm_cc.specs.Exact.{with_equal, with_unequal}
+use Rattle.sm_cc.specs.Views.{ClassesValue, setting_of, assertion_given, IsTermOf, IsOfTwoTerms, with_given}
 use Rattle.sm_cc.specs.Assumed.{numbers_where, placed_for, with_fact, AreClasses}
 use Rattle.sm_cc.proofs.StandingLemmas.{among_there}
 use Rattle.sm_cc.proofs.RowsLemmas.{pushed}
@@ -237,18 +237,4 @@ module _ (v : ClassesValue) (positions : Positions) (places : Placed) (are : Are
           classes_unequal g is fine i j e f after
           (made ∙ ap (λ (b : Bool). if b then with_equal places g.number i j else with_unequal places g.number i j) is)
 
--- no terms are left
-pub no_classes : (table : TableValue) (positions : Positions) → ArePositions (trees_in table) [] positions →
-    AreClasses (no_terms table) positions (nothing_given [])
-no_classes table positions tell = record {
-  positions_tell = tell;
-  rows_stand = record {
-    count = refl;
-    arguments = λ i r t e f. absurd cc;
-    element = λ i r t e f. absurd cc;
-    heads = λ i j r s t u e f g h. absurd cc;
-    shapes = λ i j r s t u test e f g h. absurd cc;
-  };
-  given_of_both = refl;
-  of_two_terms = λ n g e. absurd cc;
 }

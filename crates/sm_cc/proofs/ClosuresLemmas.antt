@@ -9,14 +9,13 @@ use Rattle.std.proofs.lemmas.Bool.{false≢true, eqb-true, and_parts}
 use Rattle.std.proofs.lemmas.List.{take_more, take_all}
 use Rattle.sm_cc.specs.Rows.{PlacePairs, equal_places}
 use Rattle.sm_cc.specs.declared.log.Known.{Known}
-use Rattle.sm_cc.specs.declared.log.Known.TheVariants.{Equal, Unequal}
+use Rattle.sm_cc.specs.declared.log.Known.TheVariants.{Equal}
 use Rattle.sm_cc.specs.declared.log.Entry.{Entry}
 use Rattle.sm_cc.specs.declared.log.Equation.{Equation}
-use Rattle.sm_cc.specs.declared.log.Contrary.{Contrary}
 use Rattle.sm_cc.specs.Classes.{if_there}
 use Rattle.sm_cc.specs.declared.closure.Closure.{Closure}
 use Rattle.sm_cc.specs.Log.{Placed, HasElement, SayEqual, Follows, AllFollow}
-use Rattle.sm_cc.specs.Closures.{IsSound, IsNoted, IsContrary, placed_of, Noted, Grows, Adds, AddsEquation, AddsContrary, are_together}
+use Rattle.sm_cc.specs.Closures.{IsSound, IsNoted, placed_of, Noted, Grows, Adds, AddsEquation, are_together}
 use Rattle.sm_cc.specs.Closures.{arguments_in, arguments_at, argument_at, AddsPremises}
 use Rattle.sm_cc.proofs.LogLemmas.{known_kept, known_last, all_follow_more, say_more, say_one_more, known_within}
 
@@ -103,14 +102,6 @@ equation_on a b c e i j k l one roots two left right = record {
   right = two.right ∙ right;
 }
 
-pub contrary_on : (a b c : Closure) (e : Contrary) (i j k l : ℕ) → Grows a b → b.roots ≡ a.roots → AddsContrary b c e i j → i ≡ k → j ≡ l →
-    AddsContrary a c e k l
-contrary_on a b c e i j k l one roots two left right = record {
-  adds =
-      subst (λ (x : ℕ). Adds a c e.entry (Unequal x l)) left
-      (subst (λ (y : ℕ). Adds a c e.entry (Unequal i y)) right (adds_on a b c e.entry (Unequal i j) one roots two.adds));
-  left = two.left ∙ left;
-  right = two.right ∙ right;
 }
 
 -- the entry that was added says the equation
@@ -118,11 +109,6 @@ pub equation_noted : (a b : Closure) (e : Equation) (i j : ℕ) → AddsEquation
 equation_noted a b e i j h =
     subst (λ (x : ℕ). Noted b.entries.items e.entry (Equal x e.right)) (sym h.left)
     (subst (λ (y : ℕ). Noted b.entries.items e.entry (Equal i y)) (sym h.right) h.adds.noted)
-
-pub contrary_noted : (a b : Closure) (e : Contrary) (i j : ℕ) → AddsContrary a b e i j → IsContrary b e
-contrary_noted a b e i j h =
-    subst (λ (x : ℕ). Noted b.entries.items e.entry (Unequal x e.right)) (sym h.left)
-    (subst (λ (y : ℕ). Noted b.entries.items e.entry (Unequal i y)) (sym h.right) h.adds.noted)
 
 -- places of a class have roots with one label
 pub record Roots (roots : List Equation) (i j : ℕ) : Type 0 where

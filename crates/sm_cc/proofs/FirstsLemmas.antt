@@ -145,18 +145,6 @@ tried_none key c met i sound none = record {
   quiet = λ e. (refl, firsts_none key (are_together c.roots.items) met i none);
 }
 
--- none is tried
-pub firsts_tried_none : (key : Closure → ℕ → Option Keyed) (c : Closure) (met : Keyed → Option ℕ) → IsSound c →
-    ((v : Key) → met v.items ≡ None) → TriesFirsts key 0 c c met
-firsts_tried_none key c met sound empty = record {
-  grows = grows_from c sound;
-  quiet = λ e. (
-    refl,
-    record {
-      stored = λ (k : Key) (j : ℕ) (x : met k.items ≡ Some j). absurd (none-some j (sym (empty k) ∙ x));
-      found = λ (n : ℕ) (k : Keyed) (less : n < 0) x. absurd (omega (arith, less));
-    },
-  );
 }
 
 -- one more is tried

@@ -447,10 +447,6 @@ module _ (n m : ℕ) (old new : PlacePairs) (adds : AddsPlaces n m old new) wher
       (λ (after : n ≤ p).
       let same = adds.own p i (inl after) h in absurd (omega (arith, same, after, within))) (cases_lt p n)
 
-  -- and what was equal is equal
-  pub added_still : (i j : ℕ) → i < n → j < n → old i j ≡ true → new i j ≡ true
-  added_still i j first second h = adds.kept i j first second ∙ h
-
 -- a pair that is given not to be equal says nothing of two places
 abbrev pub SaysNothing : PlacePairs → ℕ → ℕ → ℕ → ℕ → Type 0
 SaysNothing equal p q x y = ((equal x p && equal y q) ≡ false) × ((equal x q && equal y p) ≡ false)

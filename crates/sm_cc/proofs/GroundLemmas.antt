@@ -356,17 +356,6 @@ module _ (old new : ClassesValue) (g : Ground) (n : Numbering) (is : IsGround ol
       let same = count_is in
       omega (arith, long, all, same)
 
-  -- what positions of more terms ask
-  pub led_terms : (trees : List Tree) × (first : List TermId) × ArePositions trees (trees_of trees first) g.positions
-      × AreBefore (length trees) first × IsLonger trees (trees_in new.table) × IsLonger first new.terms × (length first ≡ length rows)
-  led_terms = (
-    trees_in old.table,
-    old.terms,
-    is.classes.positions_tell,
-    is.before,
-    led.table.trees,
-    led.terms,
-    sym count_is,
   )
 
   -- what is given of the places is what is given of the terms

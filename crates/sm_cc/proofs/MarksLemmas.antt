@@ -1,9 +1,8 @@
 -- Marks at what an entry follows from, down to the first entry.
-use Rattle.std.proofs.Common.{◌≡◌, ◌⊎◌, ℕ, zero, suc, ◌+◌, ◌<◌, ◌≤◌, Bool, true, false, Some, List, [], ◌∷◌, ◌++◌, length, slice_get}
+use Rattle.std.proofs.Common.{◌≡◌, ◌⊎◌, ℕ, zero, suc, ◌+◌, ◌<◌, ◌≤◌, Bool, Some, List, [], ◌∷◌, ◌++◌, length, slice_get}
 use Rattle.std.proofs.Common.{take, get_or, refl, sym, ap, subst, ◌∙◌, ⊎_elim, arith}
-use Rattle.std.proofs.lemmas.Bool.{false≢true}
 use Rattle.std.proofs.lemmas.List.{take_more}
-use Rattle.std.proofs.lemmas.Option.{slice_get_within, slice_get_read, same_Some, get_or_from_slice_get}
+use Rattle.std.proofs.lemmas.Option.{slice_get_read, same_Some}
 use Rattle.sm_cc.specs.declared.row.Row.{Row}
 use Rattle.sm_cc.specs.declared.log.Known.{Known}
 use Rattle.sm_cc.specs.declared.log.Known.TheVariants.{Equal, Unequal}
@@ -15,7 +14,7 @@ use Rattle.sm_cc.specs.declared.log.Entry.{Entry}
 use Rattle.sm_cc.specs.declared.closure.Closure.{Closure}
 use Rattle.sm_cc.specs.Log.{Placed, SayEqual, Derives, Follows, Before}
 use Rattle.sm_cc.specs.Closures.{IsSound, placed_of}
-use Rattle.sm_cc.specs.Steps.{IsMarked, AreMarked, AreBelow, Marks, MarksMore, AreClosedFrom, numbers_of, numbers_in}
+use Rattle.sm_cc.specs.Steps.{IsMarked, AreMarked, AreBelow, Marks, AreClosedFrom, numbers_of, numbers_in}
 
 -- each of these is below a number that is above that one
 pub below_more : (m n : ℕ) (ns : List ℕ) → m ≤ n → AreBelow m ns → AreBelow n ns
@@ -43,10 +42,6 @@ marked_more before after (n ∷ ns) kept h = (kept n h.0, marked_more before aft
 pub marked_push : (marks : List Bool) (ns : List ℕ) (n : ℕ) → AreMarked marks ns → IsMarked marks n → AreMarked marks (ns ++ n ∷ [])
 marked_push marks [] n h one = (one, tt)
 marked_push marks (x ∷ ns) n h one = (h.0, marked_push marks ns n h.1 one)
-
--- nothing is marked
-pub marks_none : (marks : List Bool) → Marks marks marks []
-marks_none marks = record { count = refl; kept = λ k h. h; marked = tt; others = λ m b k h. refl }
 
 -- one more of a list is marked
 pub marks_push : (a b c : List Bool) (ns : List ℕ) (k : ℕ) → Marks a b (take k ns) → k < length ns → Marks b c (get_or ns k 0 ∷ []) →
@@ -100,23 +95,6 @@ entry_below c m e sound within read =
     follows_below (placed_of c) c.entries.items m e.why e.known
     (sound.follow m e (slice_get_read c.entries.items (length c.entries.items) m e refl within read))
 
--- from the end on all is closed
-pub closed_end : (entries : List Entry) (marks : List Bool) → AreClosedFrom entries marks (length entries)
-closed_end entries marks k e low here marked = absurd (let h = slice_get_within entries k e here in omega (arith, low, h))
-
--- an entry that isn't marked
-pub closed_unmarked : (entries : List Entry) (marks : List Bool) (m : ℕ) → AreClosedFrom entries marks (m + 1) → get_or marks m false ≡
-    false →
-    AreClosedFrom entries marks m
-closed_unmarked entries marks m closed none k e low here marked =
-    ⊎_elim (λ (more : m + 1 ≤ k). closed k e more here marked)
-    (λ (same : m ≡ k).
-    absurd (false≢true (sym none ∙ get_or_from_slice_get marks m true false (subst (λ (x : ℕ). IsMarked marks x) (sym same) marked))))
-    (above_or_at m k low)
-  where
-    above_or_at : (x y : ℕ) → x ≤ y → (x + 1 ≤ y) ⊎ (x ≡ y)
-    above_or_at x y h = grind arith
-
 -- an entry that is marked
 pub closed_marked : (entries : List Entry) (before after : List Bool) (m : ℕ) (e : Entry) → AreClosedFrom entries before (m + 1) →
     slice_get entries m ≡ Some e → AreBelow m (numbers_in e.why) → Marks before after (numbers_in e.why) → AreClosedFrom entries after m
@@ -131,7 +109,3 @@ closed_marked entries before after m e closed there below marks k x low here mar
   where
     above_or_at : (x y : ℕ) → x ≤ y → (x + 1 ≤ y) ⊎ (x ≡ y)
     above_or_at x y h = grind arith
-
--- marks on marks
-pub marks_on : (a b c : List Bool) → MarksMore a b → MarksMore b c → MarksMore a c
-marks_on a b c one two = record { count = two.count ∙ one.count; kept = λ (k : ℕ) (h : IsMarked a k). two.kept k (one.kept k h) }

@@ -32,12 +32,6 @@ meets_first key equal bound old new i j k meet inside has more first before =
     let other = met_has key equal old new i j k has more first before in
     firsts_more key equal old new i j k has more first (meet i j k.items inside (omega (arith, other.0, inside)) has other.1) before
 
--- no place is met
-pub firsts_begin : (key : ℕ → Option Keyed) (equal : ℕ → ℕ → Bool) (met : Keyed → Option ℕ) → ((v : Key) → met v.items ≡ None) →
-    AreFirsts key equal met 0
-firsts_begin key equal met empty = record {
-  stored = λ (k : Key) (j : ℕ) (x : met k.items ≡ Some j). absurd (none-some j (sym (empty k) ∙ x));
-  found = λ (n : ℕ) (k : Keyed) (less : n < 0) x. absurd (omega (arith, less));
 }
 
 -- what pairs of rows bring, rows bring
@@ -67,12 +61,6 @@ pub over_already : (base met : Keyed → Option ℕ) (key k : Keyed) (place firs
     over_at base met k ≡ first_met (over_at base met k) key k place
 over_already base met key k place first e =
     met_already (over_at base met) key k place first (ap (λ (o : Option ℕ). met_or o (met key)) e)
-
--- a key that was met by the other map, or is met now
-pub over_more : (b o n : Option ℕ) (key k : Keyed) (place : ℕ) → n ≡ first_met o key k place →
-    met_or b n ≡ first_met (met_or b o) key k place
-over_more (Some x) o n key k place e = refl
-over_more None o n key k place e = e
 
 -- first places are so by the same keys in coarser classes
 pub firsts_moved : (key moved : ℕ → Option Keyed) (equal coarser : ℕ → ℕ → Bool) (old new : Keyed → Option ℕ) (bound : ℕ) →

@@ -10,13 +10,8 @@ use Rattle.sm_cc.specs.Rows.{ArePlacesClosed}
 use Rattle.sm_cc.specs.Closures.{IsSound, are_together, board_of}
 use Rattle.sm_cc.specs.Settled.{Tries, AreSettled}
 use Rattle.sm_cc.proofs.CausesLemmas.{get_there}
-use Rattle.sm_cc.proofs.ClosuresLemmas.{grows_from, grows_on, roots_of}
+use Rattle.sm_cc.proofs.ClosuresLemmas.{grows_on, roots_of}
 
--- nothing is tried
-pub tries_none : (P : ℕ → Closure → Type 0) (c : Closure) → IsSound c → Tries (λ (d : Closure). (m : ℕ) → m < 0 → P m d) c c
-tries_none P c sound = record {
-  grows = grows_from c sound;
-  quiet = λ e. (refl, λ (m : ℕ) (h : m < 0). absurd (omega arith));
 }
 
 -- one more is tried

@@ -32,7 +32,7 @@ use Rattle.sm_pairs.specs.Longer.{IsLonger}
 use Rattle.sm_cc.specs.Positions.{place_at, ArePositions}
 use Rattle.sm_cc.specs.RowOf.{HasTree, IsRowOf, IsFurther, AreRowsFrom}
 use Rattle.sm_cc.specs.declared.ground.Numbering.{Numbering}
-use Rattle.sm_pairs.proofs.LongerLemmas.{slice_get-longer, longer_itself, longer_twice}
+use Rattle.sm_pairs.proofs.LongerLemmas.{slice_get-longer, longer_twice}
 
 -- whether two heads hold the same
 same_heads : Option Contents → Option Contents → Bool
@@ -226,13 +226,6 @@ rows_more table terms old new further from rows next each u there made k r t f g
     some_is : (c d : Tree) → Some c ≡ Some d → c ≡ d
     some_is c d e = cc
 
--- what was met goes on
-pub further_itself : (n : Numbering) → IsFurther n n
-further_itself n = record {
-  heads = longer_itself (heads_met n.heads);
-  parts = longer_itself (parts_met n.shapes);
-  heads_apart = λ h. h;
-  parts_apart = λ h. h;
 }
 
 pub further_twice : (l m n : Numbering) → IsFurther l m → IsFurther m n → IsFurther l n

@@ -52,14 +52,6 @@ in_range n k h =
     let long = length-range_with_len 0 n in
     slice_get-get_or (range_with_len 0 n) k 0 (omega (arith, h, long)) ∙ ap Some (get_or-range_with_len 0 n k 0 h ∙ zero-add k)
 
-pub below_range : (n k x : ℕ) → slice_get (range_with_len 0 n) k ≡ Some x → x < n
-below_range n k x e =
-    let long = length-range_with_len 0 n in
-    let inside = slice_get_within (range_with_len 0 n) k x e in
-    let below : k < n = omega (arith, inside, long) in
-    let same = one_thing k x (sym (in_range n k below) ∙ e) in
-    omega arith
-
 -- what stands at the place of a term is the term
 pub place_found : (terms : List Tree) (t v : Tree) → slice_get terms (place_of terms t) ≡ Some v → v ≡ t
 place_found [] t v e = absurd cc

@@ -189,20 +189,6 @@ lines_append : (trees : List Tree) (ls : List CertLine) (l : CertLine) (rest : L
 lines_append trees [] l rest c = refl
 lines_append trees (m ∷ ls) l rest c = ap (Next (line_in trees m)) (lines_append trees ls l rest c)
 
--- no line leads nowhere
-pub arrives_first : (theories : Theories) (sorts : Sorts) (trees : List Tree) (facts : List BranchFact) (m : ℕ) (path : List Fact)
-    (at : ℕ) → AllStand sorts trees path facts → AreFactsSorted sorts facts → at ≡ line_number m →
-    Arrives theories sorts trees facts m [] path at
-arrives_first theories sorts trees facts m path at all fine e =
-    let same : m ≡ m + 0 = omega arith in
-    record {
-      later = facts;
-      stand = all;
-      fine = fine;
-      count = e ∙ ap line_number same;
-      leads = λ (c : Certificate). ap (λ (n : ℕ). first_bad theories sorts facts n c) same;
-    }
-
 -- the number of the next line
 pub counted_more : (at n : ℕ) → at ≡ line_number n → line_number (at + 1) ≡ line_number (suc n)
 counted_more at n e = omega arith

@@ -4,13 +4,10 @@ use Rattle.std.proofs.Common.{take, refl, ap, sym, ◌∙◌, subst}
 use Rattle.std.specs.Prelude.{pos}
 use Rattle.std.proofs.lemmas.Option.{slice_get_within, get_or_from_slice_get}
 use Rattle.std.proofs.lemmas.List.{drop_more}
-use Rattle.sm_syntax.specs.declared.tree.Sort.{Sort}
-use Rattle.sm_syntax.specs.declared.tree.Sort.TheVariants.{Num}
 use Rattle.sm_syntax.specs.text.Sorts.{Sorts}
 use Rattle.sm_term.specs.Terms.{Tree, Lit}
 use Rattle.sm_term.specs.declared.formula.Formula.{Formula}
 use Rattle.sm_term.specs.declared.term.TermId.{TermId}
-use Rattle.sm_term.specs.Sorted.{tree_sort}
 use Rattle.sm_term.specs.Tables.{tree_at}
 use Rattle.sm_term.specs.TableLaws.{AreApart}
 use Rattle.sm_term.specs.Formulas.{NumberedFormula, And, numbered, assertion_in, IsFormulaWithin}
@@ -28,7 +25,7 @@ use Rattle.sm_theory.specs.Equality.{says_equal}
 use Rattle.sm_theory.specs.Standing.{HaveOnePlace}
 use Rattle.sm_theory.specs.Sides.{OptionStands, FormulaStands, SidesStand}
 use Rattle.sm_theory.specs.Views.{line_in, FactStands, AllStand, StandsIf}
-use Rattle.sm_theory.specs.Ways.{ways_with, adding, cannot_hold, closing_if, is_absurd, both_parts, ordered}
+use Rattle.sm_theory.specs.Ways.{ways_with, adding, cannot_hold, closing_if, is_absurd, both_parts}
 use Rattle.sm_theory.proofs.LinearStanding.{contradictory_stands}
 use Rattle.sm_cert.specs.Ways.{GoesOn, is_closed, SplitsInto}
 
@@ -101,12 +98,6 @@ pub adding_goes_on : (sorts : Sorts) (trees : List Tree) (path : List Fact) (f :
 adding_goes_on sorts trees path f facts None all stands = absurd stands
 adding_goes_on sorts trees path f facts (Some k) all stands = stand_append sorts trees path (f ∷ []) facts (k ∷ []) all (stands, tt)
 
--- where none is added, there isn't one way
-pub adding_stops : (sorts : Sorts) (trees : List Tree) (path : List Fact) (facts : List BranchFact) (added : Option BranchFact) →
-    StandsIf sorts trees None added → GoesOn sorts trees false path facts (adding added)
-adding_stops sorts trees path facts None stands = tt
-adding_stops sorts trees path facts (Some k) stands = absurd stands
-
 -- a test closes a branch where it is passed
 pub closing_closes : (b : Bool) → b ≡ is_closed (closing_if b)
 closing_closes true = refl
@@ -117,11 +108,6 @@ pub closing_stops : (sorts : Sorts) (trees : List Tree) (path : List Fact) (fact
     GoesOn sorts trees false path facts (closing_if b)
 closing_stops sorts trees path facts true = tt
 closing_stops sorts trees path facts false = tt
-
-pub close_stops : (sorts : Sorts) (trees : List Tree) (path : List Fact) (facts : List BranchFact) (o : Option BranchFact) →
-    GoesOn sorts trees false path facts (followed {T = List (List BranchFact)} o (λ (k : BranchFact). closing_if (cannot_hold k)))
-close_stops sorts trees path facts None = tt
-close_stops sorts trees path facts (Some k) = closing_stops sorts trees path facts (cannot_hold k)
 
 -- a fact closes the branch where it can't hold
 pub closes_with : (sorts : Sorts) (trees : List Tree) (f : Fact) (o : Option BranchFact) (b : Bool) →
@@ -175,24 +161,6 @@ clash_stops sorts trees path facts (Some s) p = closing_stops sorts trees path f
 pub adding_is_whole : (sorts : Sorts) (trees : List Tree) (added : Option BranchFact) → SplitsInto sorts trees None (adding added)
 adding_is_whole sorts trees None = tt
 adding_is_whole sorts trees (Some k) = tt
-
--- the contrary of an equation of numbers splits the branch
-pub ordered_splits : (sorts : Sorts) (trees : List Tree) (pair : TermId × TermId) (o : Option Sides) →
-    OptionStands (SidesStand sorts trees) (Some pair) o →
-    tree_sort sorts (tree_at trees pair.0.0) ≡ Num →
-    SplitsInto sorts trees (Some (fact.Form (Formula.Lt pair.0 pair.1), fact.Form (Formula.Lt pair.1 pair.0))) (followed o ordered)
-ordered_splits sorts trees pair None stands sort = absurd stands
-ordered_splits sorts trees pair (Some s) stands sort =
-    subst (λ (s : Sides). SplitsInto sorts trees (Some (fact.Form (Formula.Lt pair.0 pair.1), fact.Form (Formula.Lt pair.1 pair.0)))
-    (ordered s)) stands.2
-    (by (tree_sort sorts (tree_at trees pair.0.0)) sort)
-  where
-    by : (r : Sort) → r ≡ Num →
-        SplitsInto sorts trees (Some (fact.Form (Formula.Lt pair.0 pair.1), fact.Form (Formula.Lt pair.1 pair.0)))
-        (ordered (record { sort = r; left = tree_at trees pair.0.0; right = tree_at trees pair.1.0 }))
-    by r e = subst (λ (r : Sort). SplitsInto sorts trees (Some (fact.Form (Formula.Lt pair.0 pair.1), fact.Form (Formula.Lt pair.1 pair.0)))
-        (ordered (record { sort = r; left = tree_at trees pair.0.0; right = tree_at trees pair.1.0 }))) (sym e)
-        ((((stands.0, stands.1), refl), tt), (((stands.1, stands.0), refl), tt))
 
 -- a conjunction splits nothing, nor does a line that only closes branches
 both_is_whole : (sorts : Sorts) (trees : List Tree) (o : Option Assertion) → SplitsInto sorts trees None (followed o both_parts)

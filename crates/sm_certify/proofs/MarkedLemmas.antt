@@ -1,11 +1,9 @@
 -- Marks go from a sum to the forms of which it is made, the last sum first.
-use Rattle.std.proofs.Common.{◌≡◌, ℕ, zero, suc, ◌<◌, ◌≤◌, ◌+◌, ◌-◌, ◌⊎◌, inl, inr, Bool, false, IsTrue, List, [], ◌∷◌, length}
-use Rattle.std.proofs.Common.{drop, get_or, refl, sym, subst, ◌∙◌, arith}
-use Rattle.std.proofs.lemmas.Bool.{cases_eq}
+use Rattle.std.proofs.Common.{◌≡◌, ℕ, zero, suc, ◌<◌, ◌≤◌, ◌+◌, ◌-◌, Bool, IsTrue, List, [], ◌∷◌, length}
+use Rattle.std.proofs.Common.{drop, get_or, sym, subst, ◌∙◌, arith}
 use Rattle.std.proofs.lemmas.List.{drop_more}
-use Rattle.sm_num.proofs.SameAtomLemmas.{not_both}
 use Rattle.sm_judge.specs.declared.eliminating.ElimLine.{ElimLine}
-use Rattle.sm_certify.specs.Refuting.{mark_at, AreMarked, ArePlaces, Marks, MarksSum}
+use Rattle.sm_certify.specs.Refuting.{mark_at, AreMarked, ArePlaces, MarksSum}
 
 -- the form that can't hold is among forms and sums
 pub bad_below : (at : ℕ) (es : List ElimLine) (bad : ℕ) → ArePlaces at es bad → bad < at + length es
@@ -30,30 +28,8 @@ sum_below first es bad left n d places some within count =
     let p = places_at first es bad places (left - 1) d less in
     (omega (arith, p.0, less, count), omega (arith, p.1, less, count))
 
--- a place is marked where it was
-one_kept : (a b : List Bool) (n : ℕ) → Marks a b n → (k : ℕ) → IsTrue (mark_at a k) → IsTrue (mark_at b k)
-one_kept a b n m k h = by (cases_eq k n)
-  where
-    by : (k ≡ n) ⊎ (k ≡ n → ⊥) → IsTrue (mark_at b k)
-    by (inl same) = subst (λ (i : ℕ). IsTrue (mark_at b i)) (sym same) m.here
-    by (inr other) = m.others k other ∙ h
-
--- both forms of a sum are marked
-pub sum_marked : (a b c : List Bool) (at : ℕ) (e : ElimLine) → Marks a b e.f → Marks b c e.g → MarksSum a c at e
-sum_marked a b c at e first second = record {
-  count = second.count ∙ first.count;
-  kept = λ k h. one_kept b c e.g second k (one_kept a b e.f first k h);
-  above = λ k f g. second.others k (λ (s : k ≡ e.g). omega (arith, s, g)) ∙ first.others k (λ (s : k ≡ e.f). omega (arith, s, f));
-  both = λ here. (one_kept b c e.g second e.f first.here, second.here);
 }
 
--- a sum without a mark
-pub sum_unmarked : (a : List Bool) (at : ℕ) (e : ElimLine) → mark_at a at ≡ false → MarksSum a a at e
-sum_unmarked a at e none = record {
-  count = refl;
-  kept = λ k h. h;
-  above = λ k f g. refl;
-  both = λ here. absurd (not_both (mark_at a at) here none);
 }
 
 -- marks at earlier places

@@ -1,14 +1,12 @@
 -- Lines at a branch, by the ways in which it goes on.
-use Rattle.std.proofs.Common.{◌≡◌, ℕ, ◌≤◌, Bool, true, false, if◌then◌else◌, Option, Some, None, Result, Ok, Err, List, [], ◌∷◌, ◌++◌, length, take, reverse}
+use Rattle.std.proofs.Common.{◌≡◌, ℕ, ◌≤◌, Bool, true, false, Option, Some, None, Result, Ok, Err, List, [], ◌∷◌, ◌++◌, length, take, reverse}
 use Rattle.std.proofs.Common.{slice_get, refl, sym, ap, ◌∙◌, subst, arith}
 use Rattle.std.proofs.Math.Seq.{take-append_seam}
 use Rattle.std.proofs.lemmas.List.{length-append}
 use Rattle.sm_syntax.specs.declared.copies.PerCopy.{PerCopy}
 use Rattle.sm_syntax.specs.claim.ConflictFree.{Copy}
-use Rattle.sm_syntax.specs.declared.tree.Sort.TheVariants.{Num}
 use Rattle.sm_syntax.specs.text.Sorts.{Sorts}
 use Rattle.sm_term.specs.Terms.{Tree}
-use Rattle.sm_term.specs.SameTerms.{same_sort}
 use Rattle.sm_term.specs.Assertions.{Assertion, Yes, No, Eq, Ne, Le, Lt, And, Or}
 use Rattle.sm_term.specs.Symbolic.{SymbolicStore}
 use Rattle.sm_term.specs.declared.symbolic.SymStore.{SymStore}
@@ -20,7 +18,7 @@ use Rattle.sm_theory.specs.Laws.{EachWay}
 use Rattle.sm_theory.specs.Lines.{Sides, followed, formula_at, contrary_at, equation_at}
 use Rattle.sm_theory.specs.Equality.{says_equal}
 use Rattle.sm_theory.specs.SortedFacts.{AreFactsSorted}
-use Rattle.sm_theory.specs.Ways.{Ways, ways_with, either_part, both_parts, ordered, adding, closing_if, cannot_hold, splitting}
+use Rattle.sm_theory.specs.Ways.{Ways, ways_with, either_part, both_parts, adding, closing_if, cannot_hold}
 use Rattle.sm_theory.specs.Views.{AllStand, line_in}
 use Rattle.sm_cert.specs.Ways.{GoesOn, is_closed, SplitsInto}
 use Rattle.sm_cert.proofs.WaysLemmas.{stand_append}
@@ -87,14 +85,6 @@ either_two (Some (Lt t u)) = tt
 either_two (Some (And p q)) = tt
 either_two (Some (Or p q)) = tt
 
-if_two : (b : Bool) (p q : Assertion) → AreTwo (if b then splitting p q else None)
-if_two true p q = tt
-if_two false p q = tt
-
-ordered_two : (o : Option Sides) → AreTwo (followed o ordered)
-ordered_two None = tt
-ordered_two (Some s) = if_two (same_sort s.sort Num) (Lt s.left s.right) (Lt s.right s.left)
-
 closing_none : (b : Bool) → IsNoWay (closing_if b)
 closing_none true = tt
 closing_none false = tt
@@ -112,26 +102,6 @@ adding_one None = tt
 adding_one (Some k) = tt
 
 module _ (sorts : Sorts) (trees : List Tree) (facts : List BranchFact) (added : Option BranchFact) where
-  pub split_ways : (l : CertLine) → is_split (numbered_line l) ≡ true → AreTwo (ways_with sorts facts added (line_in trees l))
-  split_ways (line.Both n) e = absurd cc
-  split_ways (line.Either n) e = either_two (formula_at facts n)
-  split_ways (line.Cases t u) e = if_two _ _ _
-  split_ways (line.Order n) e = ordered_two (contrary_at facts n)
-  split_ways (line.Refl t) e = absurd cc
-  split_ways (line.Sym n) e = absurd cc
-  split_ways (line.Trans m n) e = absurd cc
-  split_ways (line.Subst m n) e = absurd cc
-  split_ways (line.Cong t u ns) e = absurd cc
-  split_ways (line.Same t u) e = absurd cc
-  split_ways (line.Apart t u) e = absurd cc
-  split_ways (line.Hit t n) e = absurd cc
-  split_ways (line.Miss t u n) e = absurd cc
-  split_ways (line.Lin n) e = absurd cc
-  split_ways (line.Elim m n t) e = absurd cc
-  split_ways (line.Tight n) e = absurd cc
-  split_ways (line.Exact n) e = absurd cc
-  split_ways (line.Close n) e = absurd cc
-  split_ways (line.Clash m n) e = absurd cc
 
   pub closing_ways : (l : CertLine) → is_closing (numbered_line l) ≡ true → IsNoWay (ways_with sorts facts added (line_in trees l))
   closing_ways (line.Both n) e = absurd cc
@@ -221,14 +191,6 @@ module _ (sorts : Sorts) (trees : List Tree) (path path' : List Fact) (facts : L
   one_stops (Some []) goes one = absurd one
   one_stops (Some (way ∷ [])) goes one = absurd goes
   one_stops (Some (way ∷ other ∷ more)) goes one = absurd one
-
-  -- two ways
-  pub two_stop : (w : Ways) → SplitsInto sorts trees None w → AreTwo w → next_of w ≡ Err (First head)
-  two_stop None goes two = refl
-  two_stop (Some []) goes two = absurd two
-  two_stop (Some (way ∷ [])) goes two = absurd two
-  two_stop (Some (way ∷ other ∷ [])) goes two = absurd goes
-  two_stop (Some (way ∷ other ∷ third ∷ more)) goes two = absurd two
 
   -- the second part waits
   second_waits : (shared : ℕ) (g : Fact) (other : Rc (PerCopy SymStore) Global) (way second : List BranchFact) → shared ≡ length facts →

@@ -45,15 +45,6 @@ module _ (trees : List Tree) (terms : List TermId) (t u : ℕ) (test : Tree → 
   abbrev rest : Tree → Result Assertion Word
   rest a = found_or (slice_get (terms_in trees terms) u) BadNumber (λ (b : Tree). tested_or (test a b) (First head.P) (Ok (makes a b)))
 
-  pub about_there : (a b : TermId) → slice_get terms t ≡ Some a → slice_get terms u ≡ Some b →
-      form_about (terms_in trees terms) t u test makes
-      ≡ tested_or (test (tree_at trees a.0) (tree_at trees b.0)) (First head.P) (Ok (makes (tree_at trees a.0) (tree_at trees b.0)))
-  about_there a b e f =
-      found_there (slice_get (terms_in trees terms) t) BadNumber rest (tree_at trees a.0) (named_there trees terms t a e)
-      ∙ found_there (slice_get (terms_in trees terms) u) BadNumber
-      (λ (c : Tree). tested_or (test (tree_at trees a.0) c) (First head.P) (Ok (makes (tree_at trees a.0) c)))
-      (tree_at trees b.0) (named_there trees terms u b f)
-
   pub about_without_first : slice_get terms t ≡ None → form_about (terms_in trees terms) t u test makes ≡ Err BadNumber
   about_without_first e = found_missing (slice_get (terms_in trees terms) t) BadNumber rest (named_missing trees terms t e)
 

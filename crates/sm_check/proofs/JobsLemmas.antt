@@ -192,22 +192,6 @@ goal_opens sorts trees path (Some (due.Branch stores splits)) waiting ps o h goa
       wait = all.1;
     }
 
--- a goal that waits
-pub waiting_opens : (sorts : Sorts) (trees : List Tree) (facts : List BranchFact) (p : Pending) (shared : ℕ) (f copy : Fact)
-    (stores : Rc (PerCopy SymStore) Global) (splits : ℕ) (o : Opening) → splits ≡ 0 → o.shared ≡ shared → o.denied ≡ Some copy →
-    ((k : BranchFact) → FactStands sorts trees f k → FactStands sorts trees copy k) →
-    WaitingStands sorts trees facts (waits.Branch shared f stores splits) p → OpensAs sorts trees facts o p
-waiting_opens sorts trees facts (plain.Due st over) shared f copy stores splits o none short some same h = absurd h
-waiting_opens sorts trees facts (plain.Branch held own over) shared f copy stores splits o none short some same h =
-    let k = h.0.0 in (
-      sym h.2 ∙ none,
-      (
-        k ∷ [],
-        subst (λ (d : Option Fact). MoreStands sorts trees d (k ∷ [])) (sym some) (k, same k h.0.1, h.0.2, refl),
-        h.0.3 ∙ ap (λ (n : ℕ). take n facts ++ k ∷ []) (sym short),
-      ),
-    )
-
 -- a branch that goes on with a line of a certificate
 pub went_on : (exact : Bool) (sorts : Sorts) (trees terms : List Tree) (path path' : List Fact) (stores : PerCopy SymStore) (splits : ℕ)
     (waiting waiting' : List Waiting) (ps : List Pending) (l : NumberedLine) (line : List ℕ) (d : Option Due)

@@ -1,5 +1,5 @@
 -- What is pending, where the path is cut and grows.
-use Rattle.std.proofs.Common.{◌≡◌, ℕ, zero, suc, ◌+◌, ◌<◌, ◌≤◌, Some, None, List, [], ◌∷◌, ◌++◌, length, take, get_or, reverse}
+use Rattle.std.proofs.Common.{◌≡◌, ℕ, zero, suc, ◌+◌, ◌<◌, ◌≤◌, Some, List, [], ◌∷◌, ◌++◌, length, take, get_or, reverse}
 use Rattle.std.proofs.Common.{refl, sym, ap, ◌∙◌, subst, arith, append_assoc}
 use Rattle.std.proofs.lemmas.List.{reverse-append, take-append-le, length-append}
 use Rattle.sm_syntax.specs.text.Sorts.{Sorts}
@@ -174,14 +174,6 @@ branch_ready sorts trees facts path p shared k d sorted short fine all stands = 
   long = grown_long shared facts (k ∷ []) short;
   first = stands;
 }
-
--- nothing waits
-pub none_due : (sorts : Sorts) (trees : List Tree) (facts : List BranchFact) (path : List Fact) (ws : List Waiting) (rest : List Pending) →
-    AllStand sorts trees path facts → AreFactsSorted sorts facts → ws ≡ [] → AllWait sorts trees facts (length facts) (reverse ws) rest →
-    PendingStands sorts trees path None ws rest
-none_due sorts trees facts path ws [] all sorted is h = record { facts = facts; stand = all; sorted = sorted; all = ap reverse is }
-none_due sorts trees facts path ws (p ∷ ps) all sorted is h =
-    absurd (subst (λ (l : List Waiting). AllWait sorts trees facts (length facts) (reverse l) (p ∷ ps)) is h)
 
 -- what waited first is due
 pub first_due : (sorts : Sorts) (trees : List Tree) (facts : List BranchFact) (path : List Fact) (ws : List Waiting) (w : Waiting)

@@ -1,5 +1,5 @@
 -- Terms that lines make.
-use Rattle.std.proofs.Common.{◌≡◌, ℕ, ◌+◌, Bool, true, false, ◌&&◌, nat_lt, drop, Option, Some, None, Result, Ok, Err, slice_get, get_or, List, [], ◌∷◌, zero, suc, length, ◌<◌, ◌≤◌, arith, refl, sym, ap, ◌∙◌, subst}
+use Rattle.std.proofs.Common.{◌≡◌, ℕ, true, drop, Option, Some, None, Result, Ok, Err, slice_get, get_or, List, [], ◌∷◌, zero, suc, length, ◌<◌, ◌≤◌, arith, refl, sym, ap, ◌∙◌, subst}
 use Rattle.sm_term.specs.declared.term.TermId.{TermId}
 use Rattle.sm_term.specs.Terms.{Tree}
 use Rattle.sm_term.specs.Terms.{Start}
@@ -74,25 +74,6 @@ pub naming_missing : (trees : List Tree) (terms : List TermId) (n : ℕ) (next :
     naming_term (terms_in trees terms) n next ≡ None
 naming_missing trees terms n next e = ap (λ (o : Option Tree). followed o next) (named_missing trees terms n e)
 
--- facts that are there, one after the other
-next_there : (count n : ℕ) (fs : List ℕ) (i : ℕ) → i < length fs → n ≡ get_or fs i n →
-    are_there count (drop i fs) ≡ (nat_lt n count && are_there count (drop (suc i) fs))
-next_there count n [] i h e = absurd (omega arith)
-next_there count n (m ∷ ms) zero h e = ap (λ (k : ℕ). nat_lt k count && are_there count ms) (sym e)
-next_there count n (m ∷ ms) (suc i) h e = let less : i < length ms = omega arith in next_there count n ms i less e
-
-pub there_step : (count n : ℕ) (fs : List ℕ) (i : ℕ) → i < length fs → n ≡ get_or fs i n → nat_lt n count ≡ true →
-    are_there count fs ≡ are_there count (drop i fs) → are_there count fs ≡ are_there count (drop (i + 1) fs)
-there_step count n fs i h e less so =
-    let more : suc i ≡ i + 1 = omega arith in
-    so ∙ next_there count n fs i h e ∙ ap (λ (b : Bool). b && are_there count (drop (suc i) fs)) less
-    ∙ ap (λ (k : ℕ). are_there count (drop k fs)) more
-
-pub there_stop : (count n : ℕ) (fs : List ℕ) (i : ℕ) → i < length fs → n ≡ get_or fs i n → nat_lt n count ≡ false →
-    are_there count fs ≡ are_there count (drop i fs) → are_there count fs ≡ false
-there_stop count n fs i h e less so =
-    so ∙ next_there count n fs i h e ∙ ap (λ (b : Bool). b && are_there count (drop (suc i) fs)) less
-
 pub there_all : (count : ℕ) (fs : List ℕ) (i : ℕ) → length fs ≤ i → are_there count fs ≡ are_there count (drop i fs) → are_there count fs ≡ true
 there_all count fs i h so = so ∙ over fs i h
   where
@@ -105,6 +86,3 @@ there_all count fs i h so = so ∙ over fs i h
 -- something that is named isn't there
 pub misses : {T : Type 0} (e : LineFault) (o : Option T) → e ≡ Wrong BadNumber → o ≡ None → Misses e o
 misses e o is none = subst (λ (x : LineFault). Misses x o) (sym is) (refl, none)
-
-pub misses_along : {T : Type 0} (e : LineFault) (o p : Option T) → o ≡ p → Misses e p → Misses e o
-misses_along e o p is h = subst (Misses e) (sym is) h

@@ -33,7 +33,6 @@ use Rattle.sm_check.specs.declared.pending.Waiting.TheVariants as waits
 use Rattle.sm_check.specs.FormRows.{row_form, RowsStand, IsRowReady, AreRowsReady, HaveOneSort, AreNumeric}
 use Rattle.sm_check.specs.Pending.{IsDueReady, IsReadyIfDue, IsWaitingReady, AreWaitingReady, DueStands, WaitingStands, shared_by, AllWait}
 use Rattle.sm_check.specs.Pending.{AllPending, PendingStands}
-use Rattle.sm_check.specs.Pending.{OnlyWaiting}
 use Rattle.sm_check.specs.Walks.{terms_in, AreNumbered, IsWalkReady}
 
 -- the terms of a formula are in a longer table
@@ -221,13 +220,6 @@ module _ (v w : TableValue) (wider : Widens v w) where
       all = all_pending stands.facts d (reverse waiting) ps first (ready_reversed (sorts_in v) (trees_in v) waiting later) stands.all;
     }
 
-    pub only_stays : (path : List Fact) (waiting : List Waiting) (ps : List Pending) → AreWaitingReady (sorts_in v) (trees_in v) waiting →
-        OnlyWaiting (sorts_in v) (trees_in v) path waiting ps → OnlyWaiting (sorts_in w) (trees_in w) path waiting ps
-    only_stays path waiting ps later only = record {
-      facts = only.facts;
-      stand = path_stays path only.facts only.stand;
-      sorted = facts_stay only.facts only.sorted;
-      all = all_wait only.facts (length only.facts) (reverse waiting) ps (ready_reversed (sorts_in v) (trees_in v) waiting later) only.all;
     }
 
   -- what is due, and what waits, can still be gone on from

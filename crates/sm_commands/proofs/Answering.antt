@@ -18,7 +18,7 @@ use Rattle.sm_commands.specs.Why.{AnswersTask}
 use Rattle.sm_eval.specs.StoredValues.{meaning}
 use Rattle.sm_answers.specs.Status.{Says}
 use Rattle.sm_words.specs.Words.{Words, Asked, check, verify, replay, print, suggest, gen, explain}
-use Rattle.sm_words.specs.Words.{batch, trim, about, asked, usage_line, IsUsage}
+use Rattle.sm_words.specs.Words.{batch, trim, about, asked, IsUsage}
 use Rattle.sm_words.specs.declared.effort.Effort.{Effort}
 use Rattle.sm_answers.specs.declared.status.Status.{Status}
 use Rattle.sm_answers.specs.declared.status.Status.TheVariants.{Accepted, Refused, Usage, ReadFault}
@@ -180,15 +180,3 @@ sound words files before now status text answers = go (asked words) refl answers
           quiet = λ h other. a.quiet;
         }
     go (Some ask) e a = by ask e a
-
--- what is answered to what the words ask for is answered to the words
-pub answers_asked : (words : Words) (files : Files) (before now : ℕ) (ask : Asked) → asked words ≡ Some ask
-    → (status : Status) (text : List ℕ) → AnswersCommand ask files before now status text
-    → IsAnswerTo words files before now status text
-answers_asked words files before now ask e status text a = rw e a
-
--- and so is Usage where no command takes them
-pub answers_usage : (words : Words) (files : Files) (before now : ℕ) → IsUsage words → now ≡ before → (status : Status) (text : List ℕ)
-    → Says Usage (usage_line words) status text → IsAnswerTo words files before now status text
-answers_usage words files before now refused quiet status text says =
-    rw (usage_asks_nothing words refused) (record { refused = refused; quiet = quiet; says = says })

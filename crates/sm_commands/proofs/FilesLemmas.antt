@@ -70,10 +70,6 @@ pub left_by : (o : Option Asked) (before now : Files) (s : Status) (task proof :
 left_by o before now s task proof effort h is =
     (subst (λ (p : Option Asked). LeavesBy p before s now) is h).1
 
-pub part_by : (o : Option Asked) (before now : Files) (task proof : List ℕ) (effort : Effort)
-    → LeavesPartBy o before now → o ≡ Some (check task proof effort) → LeavesFront (before task) (before proof) (now proof)
-part_by o before now task proof effort h is = (subst (λ (p : Option Asked). LeavesPartBy p before now) is h).1
-
 -- ---- an accepted task whose answer could not be printed
 
 -- its status is Accepted

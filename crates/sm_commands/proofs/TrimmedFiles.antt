@@ -6,7 +6,7 @@ use Rattle.sm_answers.specs.declared.status.Status.{Status}
 use Rattle.sm_answers.specs.declared.status.Status.TheVariants.{Accepted, WriteFault}
 use Rattle.sm_files.proofs.FilesLemmas.{ends_by, leaves_cut, leaves_front, leaves_same}
 use Rattle.sm_files.specs.ProofFile.{LeavesCut, LeavesFront}
-use Rattle.sm_commands.specs.Top.{Files, LeavesBy, LeavesFiles, LeavesPart, LeavesPartBy, TellsBy}
+use Rattle.sm_commands.specs.Top.{Files, LeavesBy, LeavesFiles, LeavesPart, TellsBy}
 use Rattle.sm_files.specs.Trim.{LeavesTrimmed, TellsOfTask}
 use Rattle.sm_files.specs.Views.{EndsWith}
 use Rattle.sm_words.specs.Words.{Asked, trim}
@@ -23,10 +23,6 @@ trim_tells_by o before now s text task proof out h is = subst (λ (p : Option As
 pub trim_left_by : (o : Option Asked) (before now : Files) (s : Status) (task proof out : List ℕ) → LeavesBy o before s now →
     o ≡ Some (trim task proof out) → LeavesTrimmed (before task) s (before out) (now out)
 trim_left_by o before now s task proof out h is = (subst (λ (p : Option Asked). LeavesBy p before s now) is h).1
-
-pub trim_part_by : (o : Option Asked) (before now : Files) (task proof out : List ℕ) → LeavesPartBy o before now →
-    o ≡ Some (trim task proof out) → LeavesFront (before task) (before out) (now out)
-trim_part_by o before now task proof out h is = (subst (λ (p : Option Asked). LeavesPartBy p before now) is h).1
 
 pub trim_front_by : (o : Option Asked) (before now : Files) (s : Status) (task proof out : List ℕ) → LeavesBy o before s now →
     o ≡ Some (trim task proof out) → LeavesFront (before task) (before out) (now out)

@@ -86,11 +86,6 @@ counted_both m n one two three first second = record {
 counted_same : (m n : ℕ) (one two : Loops) → m ≡ n → LoopsCounted m one two → LoopsCounted n one two
 counted_same m n one two same h = subst (λ (k : ℕ). LoopsCounted k one two) same h
 
--- nothing is gone over
-pub over_end : (wanted : Test) (loops : Loops) → IsReady loops → GoesOver End wanted wanted loops loops
-over_end wanted loops ready =
-    record { counted = counted_none loops ready; enough = λ x h. h; no_more = λ wider sets below needs within. (below, within) }
-
 -- code is gone over after what follows it
 pub over_append : (c k : Code) (wanted middle found : Test) (one two three : Loops) → GoesOver k wanted middle one two
     → GoesOver c middle found two three →

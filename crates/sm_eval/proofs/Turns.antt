@@ -1,5 +1,5 @@
 -- Events and ends of code in its parts.
-use Rattle.std.proofs.Common.{◌≡◌, ◌-◌, ℕ, zero, suc, Bool, true, Option, Some, None, Ok, Err, refl, ap, arith}
+use Rattle.std.proofs.Common.{◌≡◌, ◌-◌, ℕ, zero, suc, Bool, true, Option, Some, None, Ok, refl, ap, arith}
 use Rattle.sm_syntax.specs.claim.Meaning.{truth_of, turns}
 use Rattle.sm_syntax.specs.claim.Stores.{Store}
 use Rattle.sm_syntax.specs.claim.Syntax.{Condition}
@@ -10,11 +10,6 @@ use Rattle.sm_eval.specs.Events.{condition_event, turns_event, answer}
 pub answered : {T : Type 0} (o : Option EvalError) (v w : T) → Ok v ≡ answer o w → (o ≡ None) × (v ≡ w)
 answered None v w same = (refl, cc)
 answered (Some e) v w same = cc
-
--- an answer that is an error is the event
-pub first_event : {T : Type 0} (o : Option EvalError) (e : EvalError) (w : T) → Err e ≡ answer o w → o ≡ Some e
-first_event None e w same = cc
-first_event (Some f) e w same = cc
 
 -- one turn before the number less one
 one_less : (m : ℕ) → m ≡ suc m - 1

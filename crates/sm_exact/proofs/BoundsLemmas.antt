@@ -21,7 +21,7 @@ use Rattle.sm_num.specs.Combining.{Fits, Leaves, then_with, computed}
 use Rattle.sm_num.specs.Eliminating.{is_negative, floor_of}
 use Rattle.sm_num.proofs.RingLemmas.{sums, one_mul, mul_one}
 use Rattle.sm_omega.specs.Counting.{Done, Passed, Outside, Shallow, go_on, with_result, entered}
-use Rattle.sm_omega.specs.Solving.{at, bounds_below, bounds_above, others, lower_bounds, upper_bounds, lesser, lesser_first}
+use Rattle.sm_omega.specs.Solving.{at, bounds_below, bounds_above, others, lower_bounds, upper_bounds, lesser_first}
 use Rattle.sm_omega.specs.Solving.{least_variable, greatest_of}
 use Rattle.sm_omega.specs.Rules.{Answer, or_refuted, solved, giving, or_else}
 use Rattle.sm_omega.specs.Inequalities.{greatest_bound, least_bound, greatest_at, numbers_to, splinters_at}
@@ -42,12 +42,6 @@ use Rattle.sm_exact.proofs.SplittingLemmas.{filter_twice}
 pub lesser_nothing : (ps : List (ℕ × ℤ)) (other : Option ℕ) → length ps ≡ 0 → lesser_first ps other ≡ other
 lesser_nothing [] other none = refl
 lesser_nothing (p ∷ ps) other none = absurd (omega arith)
-
--- parts with a first one
-pub lesser_some : (ps : List (ℕ × ℤ)) (other : Option ℕ) → 0 < length ps →
-    lesser_first ps other ≡ Some (lesser (get_or ps 0 (0, pos 0)).0 other)
-lesser_some [] other some = absurd (omega arith)
-lesser_some (p ∷ ps) other some = refl
 
 -- the form at a place comes to those behind it
 pub least_turn : (i j : ℕ) (fs : List (Linear ℕ)) (f : Linear ℕ) (ps : List (ℕ × ℤ)) (old new : Option ℕ) → i ≡ suc j →

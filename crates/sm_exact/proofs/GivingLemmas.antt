@@ -1,6 +1,6 @@
 -- Values that frames give: a variable more, and what all frames await.
 use Rattle.std.proofs.Common.{◌≡◌, ◌==◌, ℕ, ℤ, pos, Bool, true, false, if◌then◌else◌, nat_eq, unwrap_or}
-use Rattle.std.proofs.Common.{Option, Some, None, List, [], ◌∷◌, ◌++◌, refl, sym, ap, subst, ◌∙◌}
+use Rattle.std.proofs.Common.{Option, Some, List, [], ◌∷◌, ◌++◌, refl, sym, ap, subst, ◌∙◌}
 use Rattle.std.proofs.Math.Path.{fun_ext}
 use Rattle.std.proofs.lemmas.Bool.{eq-eqb, eqb-true}
 use Rattle.sm_num.specs.declared.error.NumError.{NumError}
@@ -10,7 +10,7 @@ use Rattle.sm_omega.specs.Counting.{Done, with_result}
 use Rattle.sm_omega.specs.Solving.{Values, put}
 use Rattle.sm_omega.specs.Rules.{Answer, giving}
 use Rattle.sm_exact.specs.declared.frame.Frame.{Frame}
-use Rattle.sm_exact.specs.Stack.{Awaits, all_zero}
+use Rattle.sm_exact.specs.Stack.{Awaits}
 use Rattle.sm_exact.specs.Valued.{values_in, Leads, Fails, FailsAll}
 use Rattle.sm_exact.proofs.StackLemmas.{awaits_less, awaits_outside}
 
@@ -43,10 +43,6 @@ gives_value value new found t y z c fits more same =
     ap (λ o. with_result o (λ (x : ℤ). Done c (Some (put t x (values_in found))))) fits
     ∙ ap (λ (x : ℤ). Done c (Some (put t x (values_in found)))) (sym same)
     ∙ ap (λ w. Done c (Some w)) (sym (values_more found new t y more))
-
--- where nothing is found all values are 0
-pub values_none : (found : ℕ → Option ℤ) → ((a : ℕ) → found a ≡ None) → values_in found ≡ all_zero
-values_none found none = fun_ext (λ (a : ℕ). ap (λ o. unwrap_or o (pos 0)) (none a))
 
 -- the last frame made of a solution another
 pub leads_on : (limit c : ℕ) (fs : List Frame) (f : Frame) (v w : Values) (whole : Answer) → Leads f v w →

@@ -1,5 +1,5 @@
 -- The forms over places of a branch are those that the exact line decides.
-use Rattle.std.proofs.Common.{◌≡◌, ◌<◌, ◌++◌, ℕ, zero, suc, nat_le, pos, Bool, true, false, ◌&&◌}
+use Rattle.std.proofs.Common.{◌≡◌, ◌<◌, ◌++◌, ℕ, zero, suc, nat_le, pos, Bool, true, ◌&&◌}
 use Rattle.std.proofs.Common.{Option, Some, None, slice_get, List, [], ◌∷◌, length, refl, sym, ap, subst, ◌∙◌, ⊎_elim}
 use Rattle.std.specs.List.{filter_map}
 use Rattle.std.proofs.lemmas.List.{append-nil}
@@ -27,7 +27,7 @@ use Rattle.sm_theory.proofs.LinearPlaces.{place_of, place_or_not}
 use Rattle.sm_theory.proofs.FormsOfTermsLemmas.{stands_at, one_place}
 use Rattle.sm_theory.proofs.TermsOfFormulasLemmas.{all_terms_places}
 use Rattle.sm_terms.specs.Listing.{trees_at, AreBelow}
-use Rattle.sm_exact.specs.Placing.{formulas_of, IsAt, HavePlaces, IsPlaced, LacksPlace, ArePlacedForms, SomeLacksPlace, FactLacksPlace}
+use Rattle.sm_exact.specs.Placing.{formulas_of, IsAt, HavePlaces, IsPlaced, LacksPlace, ArePlacedForms, SomeLacksPlace}
 
 -- a number at a place is one of the table, and its tree stands there
 tree_there : (trees : List Tree) (numbers : List ℕ) → AreBelow (length trees) numbers → (i k : ℕ) → IsAt numbers i k →
@@ -183,14 +183,6 @@ adds_none facts n e =
     ap (λ (o : Option (List (Linear ℕ))). followed o (λ (fs : List (Linear ℕ)).
     formula_if (nat_le n 1000000 && has_no_solution (exact fs n)) No)) e
 
-pub adds_above : (facts : List BranchFact) (n : ℕ) → nat_le n 1000000 ≡ false → exact_adds facts n ≡ None
-adds_above facts n e = by (forms_of_branch facts)
-  where
-    by : (o : Option (List (Linear ℕ))) →
-        followed o (λ (fs : List (Linear ℕ)). formula_if (nat_le n 1000000 && has_no_solution (exact fs n)) No) ≡ None
-    by None = refl
-    by (Some fs) = ap (λ (b : Bool). formula_if (b && has_no_solution (exact fs n)) No) e
-
 pub adds_decided : (facts : List BranchFact) (n : ℕ) (fs : List (Linear ℕ)) (b : Bool) → nat_le n 1000000 ≡ true →
     forms_of_branch facts ≡ Some fs → has_no_solution (exact fs n) ≡ b → exact_adds facts n ≡ formula_if b No
 adds_decided facts n fs b most e told =
@@ -213,9 +205,3 @@ pub forms_stay : (numbers : List ℕ) (fs : List Fact) (hs : List (Linear ℕ)) 
     ArePlacedForms numbers (fs ++ fact.Form g ∷ []) hs
 forms_stay numbers fs hs g placed =
     subst (ArePlacedForms numbers (fs ++ fact.Form g ∷ [])) (append-nil hs) (forms_append numbers fs hs (fact.Form g) [] placed tt)
-
--- a fact of a branch with an atom that has no place
-pub some_lacks : (numbers : List ℕ) (fs : List Fact) (n : ℕ) (f : Fact) → slice_get fs n ≡ Some f → FactLacksPlace numbers f →
-    SomeLacksPlace numbers fs
-some_lacks numbers fs n (fact.Form g) e lacks = absurd lacks
-some_lacks numbers fs n (fact.Lin g) e lacks = (n, g, e, lacks)

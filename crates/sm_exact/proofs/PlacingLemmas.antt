@@ -67,12 +67,6 @@ combined_constant f g h p q kind e =
 pub combined_kind : (f g h : Linear ℕ) (p q : ℤ) (kind : Kind) → combined f p g q kind ≡ Fits h → h.kind ≡ kind
 combined_kind f g h p q kind e = (formed_from (merged p q f.parts g.parts) (combined_number p f.constant q g.constant) kind h e).2
 
--- no parts over places
-pub none_placed : (numbers : List ℕ) → ArePlaced numbers [] []
-none_placed numbers = record {
-  at = λ (i k : ℕ) (e : IsAt numbers i k). refl;
-  past = λ (i : ℕ) (e : slice_get numbers i ≡ None). refl;
-  other = λ (k : ℕ) (never : HasNoPlace numbers k). refl;
 }
 
 -- one part more

@@ -14,7 +14,7 @@ use Rattle.sm_plan.specs.Views.{forms_in}
 use Rattle.sm_expand.specs.declared.cursor.Cursor.{Cursor}
 use Rattle.sm_expand.specs.declared.due.Due.{Due}
 use Rattle.sm_expand.specs.declared.walk.Waiting.{Waiting}
-use Rattle.sm_expand.specs.Views.{due_in, dues_in, AreDuesReady}
+use Rattle.sm_expand.specs.Views.{AreDuesReady}
 use Rattle.sm_expand.specs.Walks.{waits_with}
 
 module _ (sorts : Sorts) (trees : List Tree) where
@@ -60,11 +60,6 @@ module _ (sorts : Sorts) (trees : List Tree) where
 
   pub forms_front : (n : ℕ) (fs : List Formula) → forms_in sorts trees (take n fs) ≡ take n (forms_in sorts trees fs)
   forms_front n fs = sym (take-map one n fs)
-
-  -- obligations
-  pub due_added : (old new : List Due) (d : Due) → new ≡ old ++ d ∷ [] → dues_in sorts trees new ≡ dues_in sorts trees old
-      ++ due_in sorts trees d ∷ []
-  due_added old new d is = ap (dues_in sorts trees) is ∙ map-append (due_in sorts trees) old (d ∷ [])
 
   pub dues_append : (old : List Due) (d : Due) → AreDuesReady sorts trees old → AreFormsReady sorts trees d.facts.list.items →
       AreFormsReady sorts trees d.targets.list.items → AreDuesReady sorts trees (old ++ d ∷ [])

@@ -2,16 +2,11 @@
 use Rattle.std.proofs.Common.{◌≡◌, ◌==◌, ℕ, Some, None, if◌then◌else◌, List, [], ◌∷◌, ◌++◌, map, sym, ap, ◌∙◌, subst}
 use Rattle.std.specs.declared.alloc.Global.{Global}
 use Rattle.std.specs.Prelude.{Box}
-use Rattle.sm_syntax.specs.claim.ConflictFree.{Copy, O, A, B, M}
-use Rattle.sm_syntax.specs.declared.copies.PerCopy.{PerCopy}
-use Rattle.sm_syntax.specs.declared.tree.Block.{Block}
 use Rattle.sm_syntax.specs.declared.tree.Name.{Name}
 use Rattle.sm_syntax.specs.declared.tree.Sort.{Sort}
 use Rattle.sm_syntax.specs.declared.tree.Sort.TheVariants as sort
 use Rattle.sm_syntax.specs.text.Parts.{sort_of}
-use Rattle.sm_syntax.specs.text.Sorts.{Sorts, IsWellSorted}
-use Rattle.sm_syntax.specs.trees.Copies.{of_copy}
-use Rattle.sm_syntax.specs.trees.Views.{code_of}
+use Rattle.sm_syntax.specs.text.Sorts.{Sorts}
 use Rattle.sm_term.specs.Terms.{Tree}
 use Rattle.sm_expand.specs.declared.plan.Last.TheVariants as last
 use Rattle.sm_expand.specs.declared.plan.Plan.{Plan}
@@ -49,15 +44,6 @@ pub fork_ready : (p : Plan) (copy : ℕ) (one other : Box Plan Global) → p.las
 fork_ready p copy one other e first second sorts trees =
     ready_by_last sorts trees p _ (ap numbered_last e ∙ last_fork copy one other)
     (tt, (first sorts trees, (second sorts trees, tt)))
-
--- what is so of the program of each copy
-pub each_program : (sorts : Sorts) (p : PerCopy Block) → IsWellSorted sorts (code_of p.base) →
-    IsWellSorted sorts (code_of p.variant_a) → IsWellSorted sorts (code_of p.variant_b) →
-    IsWellSorted sorts (code_of p.candidate) → (c : Copy) → IsWellSorted sorts (code_of (of_copy p c))
-each_program sorts p o a b m O = o
-each_program sorts p o a b m A = a
-each_program sorts p o a b m B = b
-each_program sorts p o a b m M = m
 
 -- sorts by one declaration
 pub one_number : (sorts : Sorts) (before items : List (Name × Sort)) (n : Name) →

@@ -1,12 +1,11 @@
 -- Two rising lists of indices merged, index by index.
 use Rattle.std.proofs.Common.{◌≡◌, ◌≢◌, ◌⊎◌, ◌+◌, ◌<◌, ◌≤◌, ℕ, zero, suc, ℤ, Bool, true, false, if◌then◌else◌, Option, Some, None}
-use Rattle.std.proofs.Common.{List, [], ◌∷◌, ◌++◌, length, drop, get_or, refl, sym, ap, subst, ◌∙◌}
+use Rattle.std.proofs.Common.{List, [], ◌∷◌, ◌++◌, length, drop, refl, sym, ap, subst, ◌∙◌}
 use Rattle.std.proofs.Common.{inl, inr, ⊎_elim, arith, drop_of_length-le}
 use Rattle.std.specs.Prelude.{◌<ℤ◌, ◌≤ℤ◌, int_lt, slice_get}
 use Rattle.std.specs.Ordering.{int_eq}
 use Rattle.std.proofs.lemmas.Bool.Decides.{Decides-int_eq, not_from_Decides}
 use Rattle.std.proofs.lemmas.Int.{ints}
-use Rattle.std.proofs.lemmas.List.{drop_more}
 use Rattle.sm_explain.specs.Indices.{IsOf, Rise}
 use Rattle.sm_explain.specs.Merging.{first, lesser, past, AreMerging}
 
@@ -112,16 +111,6 @@ is_past i (u ∷ us) r low = by (int_eq u i) (Decides-int_eq u i).0 (not_from_De
       others = λ (j : ℤ) (h : IsOf (u ∷ us) j). inr h;
     }
 
--- no index is merged yet
-pub none_merged : (left right : List ℤ) → Rise left → Rise right → AreMerging left right left right []
-none_merged left right rl rr = record {
-  rise = tt;
-  left_rise = rl;
-  right_rise = rr;
-  left_above = λ (i j : ℤ) (none : ⊥) (o : IsOf left j). absurd none;
-  right_above = λ (i j : ℤ) (none : ⊥) (o : IsOf right j). absurd none;
-  left_kept = λ (i : ℤ) (o : IsOf left i). inr o;
-  right_kept = λ (i : ℤ) (o : IsOf right i). inr o;
 }
 
 -- what is left stays above what is merged
@@ -245,22 +234,6 @@ pub all_right : (left right : List ℤ) (p q : ℕ) (merged : List ℤ) → AreM
     → IsNext left right p q None → (i : ℤ) → IsOf right i → IsOf merged i
 all_right left right p q merged m is =
     right_merged left right (drop p left) (drop q right) merged m (at_rest left right p q None is)
-
--- the place behind an index
-past_kept : (i u : ℤ) (us : List ℤ) → u ≢ i → past i (u ∷ us) ≡ u ∷ us
-past_kept i u us apart = by (int_eq u i) (Decides-int_eq u i).0
-  where
-    by : (b : Bool) → (b ≡ true → u ≡ i) → (if b then us else u ∷ us) ≡ u ∷ us
-    by true same = absurd (apart (same refl))
-    by false same = refl
-
-pub past_same : (i : ℤ) (xs : List ℤ) (n : ℕ) (d : ℤ) → n < length xs → get_or xs n d ≡ i → drop (n + 1) xs ≡ past i (drop n xs)
-past_same i xs n d here same =
-    sym (past_first i (get_or xs n d) (drop (n + 1) xs) same) ∙ ap (past i) (sym (drop_more xs n d here))
-
-pub past_other : (i : ℤ) (xs : List ℤ) (n : ℕ) (d : ℤ) → n < length xs → get_or xs n d ≢ i → drop n xs ≡ past i (drop n xs)
-past_other i xs n d here apart =
-    drop_more xs n d here ∙ sym (past_kept i (get_or xs n d) (drop (n + 1) xs) apart) ∙ ap (past i) (sym (drop_more xs n d here))
 
 pub past_end : (i : ℤ) (xs : List ℤ) (n : ℕ) → length xs ≤ n → drop n xs ≡ past i (drop n xs)
 past_end i xs n past_all = rw (drop_of_length-le xs past_all) refl

@@ -1,20 +1,8 @@
 -- Where lines start and end.
-use Rattle.std.proofs.Common.{◌≡◌, ◌≢◌, ◌⊎◌, ◌+◌, ◌<◌, ◌≤◌, ℕ, List, length, sym, ap, subst, ◌∙◌, ⊎_elim, arith}
+use Rattle.std.proofs.Common.{◌≡◌, ◌⊎◌, ◌+◌, ◌<◌, ◌≤◌, ℕ, List, length, sym, ap, ◌∙◌, ⊎_elim, arith}
 use Rattle.std.specs.Prelude.{slice_index}
-use Rattle.std.proofs.lemmas.Bool.{cases_eq}
 use Rattle.sm_explain.specs.declared.places.Place.{Place}
 use Rattle.sm_explain.specs.Places.{StartsLine, EndsLine, HasNoFeed, IsPlace}
-
--- one byte more that is no line feed
-pub feed_more : (text : List ℕ) (from n : ℕ) → HasNoFeed text from n → slice_index text n ≢ 10 → HasNoFeed text from (n + 1)
-feed_more text from n before here k low high =
-    ⊎_elim (λ (same : k ≡ n). subst (λ (j : ℕ). slice_index text j ≢ 10) (sym same) here)
-    (λ (other : k ≡ n → ⊥). before k low (omega arith))
-    (cases_eq k n)
-
--- from a line feed on there is none before what follows it
-pub feed_none : (text : List ℕ) (n : ℕ) → HasNoFeed text (n + 1) (n + 1)
-feed_none text n k low high = absurd (omega arith)
 
 -- a line's two parts
 pub feed_both : (text : List ℕ) (from mid to : ℕ) → HasNoFeed text from mid → HasNoFeed text mid to → HasNoFeed text from to

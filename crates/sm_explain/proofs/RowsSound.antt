@@ -22,11 +22,6 @@ put_five old p q r s new a b c d e first second third fourth fifth =
 abbrev pub Same : ℤ → ℤ → Type 0
 Same seen is = seen ≡ is
 
-pub values_same : (o a b m o2 a2 b2 m2 : ℤ) → Same o2 o → Same a2 a → Same b2 b → Same m2 m → values_text o2 a2 b2 m2 ≡ values_text o a b m
-values_same o a b m o2 a2 b2 m2 eo ea eb em =
-    ap (λ (x : ℤ). values_text x a2 b2 m2) eo ∙ ap (λ (x : ℤ). values_text o x b2 m2) ea
-    ∙ ap (λ (x : ℤ). values_text o a x m2) eb ∙ ap (λ (x : ℤ). values_text o a b x) em
-
 pub lost_same : (o v m o2 v2 m2 : ℤ) → Same o2 o → Same v2 v → Same m2 m → loses_change o2 v2 m2 ≡ loses_change o v m
 lost_same o v m o2 v2 m2 eo ev em =
     ap (λ (x : ℤ). loses_change x v2 m2) eo ∙ ap (λ (x : ℤ). loses_change o x m2) ev ∙ ap (λ (x : ℤ). loses_change o v x) em

@@ -1,19 +1,15 @@
 -- What answers leave in the files.
 use Rattle.std.proofs.Common.{◌≡◌, ◌≢◌, ◌≤◌, ◌<◌, ◌⊎◌, inl, inr, ℕ, List, length, Some, Result, Ok}
-use Rattle.std.proofs.Common.{Err, IfOk, IfErr, codes, refl, sym, ap, subst, ◌∙◌, arith}
+use Rattle.std.proofs.Common.{Err, IfOk, IfErr, refl, sym, ap, subst, ◌∙◌, arith}
 use Rattle.sm_io.specs.Causes.{HasCause, Rose}
-use Rattle.sm_io.specs.Files.{Known, absent, holds, emptied, longer}
-use Rattle.sm_proof.specs.Verdicts.{Passes}
+use Rattle.sm_io.specs.Files.{Known, absent, holds, emptied}
 use Rattle.sm_syntax.specs.text.Parts.{Parts}
 use Rattle.sm_syntax.specs.text.Spells.{Spells}
 use Rattle.sm_text.proofs.Complete.Tasks as text
-use Rattle.sm_write.specs.Versions.{HasVersion}
 use Rattle.sm_answers.specs.Exit.{ExitsWith}
 use Rattle.sm_answers.specs.File.{file_limit, GivesNoTask, GivesTask}
 use Rattle.sm_files.specs.ProofFile.{HoldsFront, HoldsProof, IsTaskIn, LeavesCut, LeavesFront}
 use Rattle.sm_files.specs.ProofFile.{LeavesProof, LeftBy, LeftCut}
-use Rattle.sm_answers.specs.ProofFile.{IsBegun}
-use Rattle.sm_answers.specs.Status.{Says}
 use Rattle.sm_files.specs.Views.{CountsWrites, EndsWith}
 use Rattle.sm_words.specs.Words.{Asked}
 use Rattle.sm_answers.specs.declared.exit.Exit.{Exit}
@@ -21,7 +17,6 @@ use Rattle.sm_answers.specs.declared.exit.Exit.TheVariants as stopped
 use Rattle.sm_answers.specs.declared.status.Reply.{Reply}
 use Rattle.sm_answers.specs.declared.status.Status.{Status}
 use Rattle.sm_answers.specs.declared.status.Status.TheVariants.{Accepted, WriteFault}
-use Rattle.sm_answers.proofs.Statuses.{without_task}
 
 -- ---- results of commands
 
@@ -31,12 +26,6 @@ pub ends_by : (Has Gets : Status → Type 0) (Else Or : Type 0) → ((s : Status
 ends_by Has Gets Else Or f g (Ok r) h = f r.status h
 ends_by Has Gets Else Or f g (Err (stopped.Answer r)) h = f r.status h
 ends_by Has Gets Else Or f g (Err stopped.Memory) h = g h
-
--- what always is so is so at the end
-pub ends_always : (Has : Status → Type 0) (Else : Type 0) → ((s : Status) → Has s) → Else → (r : Result Reply Exit) → EndsWith Has Else r
-ends_always Has Else f g (Ok r) = f r.status
-ends_always Has Else f g (Err (stopped.Answer r)) = f r.status
-ends_always Has Else f g (Err stopped.Memory) = g
 
 -- a count that is as it was, where nothing is answered by a fault to write
 pub still : (before now : ℕ) (s : Status) → now ≡ before → s ≢ WriteFault → HasCause before now (s ≡ WriteFault)
@@ -64,22 +53,6 @@ pub cut_in : (file old mid new : Known) (t : Parts) → IsTaskIn file t → mid 
 cut_in file old mid new t is same (inl e) = inl (e ∙ same)
 cut_in file old mid new t is same (inr (inl e)) = inr (inl (e ∙ ap emptied same))
 cut_in file old mid new t is same (inr (inr h)) = inr (inr (t, is, inr (subst (λ (k : Known). HoldsFront t k new) same h)))
-
--- where a file gives no task, nothing is written
-pub stopped_left : (file : Known) (b n : ℕ) (old new : Known) → new ≡ old → (stop : Exit) → ExitsWith (GivesNoTask file b n) stop
-    → (let r : Result Reply Exit = Err stop in EndsWith (λ (s : Status). LeavesProof file s old new) (LeavesFront file old new) r)
-stopped_left file b n old new same (stopped.Answer r) h =
-    inl ((without_task file b n r.status r.text.items h).not_accepted, same)
-stopped_left file b n old new same stopped.Memory h = inl same
-
-pub stopped_counts : (file : Known) (b n before now : ℕ) → now ≡ before → (stop : Exit) → ExitsWith (GivesNoTask file b n) stop
-    → (let r : Result Reply Exit = Err stop in CountsWrites before now r)
-stopped_counts file b n before now same (stopped.Answer r) h =
-    still before now r.status same ((without_task file b n r.status r.text.items h).to_command.of_command.not_write)
-stopped_counts file b n before now same stopped.Memory h = same
-
-pub no_task_no_write : (file : Known) (b n : ℕ) (s : Status) (t : List ℕ) → GivesNoTask file b n s t → s ≢ WriteFault
-no_task_no_write file b n s t h = (without_task file b n s t h).to_command.of_command.not_write
 
 -- ---- one task
 
@@ -141,18 +114,3 @@ pub one_spelled : (bytes : List ℕ) (t u : Parts) → Spells bytes t → Spells
 one_spelled bytes t u a b = text.one_parse bytes t u a.text b.text
 
 -- ---- `check` of a task
-
-pub written_cut : (t : Parts) (old new : Known) (proof : List ℕ) → Passes t proof → HasVersion t proof → IsBegun proof old new
-    → LeftCut t old new
-written_cut t old new proof passes dated (inl e) = inl e
-written_cut t old new proof passes dated (inr (inl e)) = inr (inl e)
-written_cut t old new proof passes dated (inr (inr h)) =
-    inr (inr (record { proof = proof; passes = passes; version = dated; count = h.0; part = h.1; holds = h.2 }))
-
-pub written_left : (t : Parts) (s u : Status) (l m : List ℕ) (old new : Known) (proof : List ℕ) → s ≡ Accepted → Passes t proof
-    → HasVersion t proof
-    → (Says s l u m × (new ≡ longer (emptied old) proof)) ⊎ (Says WriteFault (codes "WriteFault\n") u m × IsBegun proof old new)
-    → LeftBy t u old new
-written_left t s u l m old new proof e passes dated (inl h) =
-    inl (h.0.ended ∙ e, record { proof = proof; passes = passes; version = dated; holds = h.1 })
-written_left t s u l m old new proof e passes dated (inr h) = inr (inl (h.0.ended, written_cut t old new proof passes dated h.1))

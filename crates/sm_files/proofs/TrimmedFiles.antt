@@ -62,11 +62,6 @@ trimmed_kept file before now s old new quiet cause (inr (t, is, inl h)) = inr (t
 trimmed_kept file before now s old new quiet cause (inr (t, is, inr (inl h))) = absurd (quiet (cause.rose h.0))
 trimmed_kept file before now s old new quiet cause (inr (t, is, inr (inr h))) = inl h.1
 
--- what the answer tells of the file that is written, for the task of a file
-pub told_in : (file old mid new : Known) (t : Parts) (s : Status) (text : List ℕ) → IsTaskIn file t → mid ≡ old →
-    (s ≡ Accepted → TellsTrimmed t text mid new) → TellsOfTask file s text old new
-told_in file old mid new t s text is same tells = λ e. (t, is, subst (λ (k : Known). TellsTrimmed t text k new) same (tells e))
-
 -- of another status nothing is told
 pub none_told : (file : Known) (s : Status) (text : List ℕ) (old new : Known) → s ≢ Accepted → TellsOfTask file s text old new
 none_told file s text old new never = λ e. absurd (never e)

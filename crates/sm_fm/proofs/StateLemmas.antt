@@ -1,6 +1,6 @@
 -- What is left of a state as it goes on.
-use Rattle.std.proofs.Common.{◌≡◌, ◌<◌, ◌-◌, ℕ, zero, suc, Bool, true, false, IsTrue}
-use Rattle.std.proofs.Common.{if◌then◌else◌, Some, List, [], ◌∷◌, ◌++◌, map, length, get_or}
+use Rattle.std.proofs.Common.{◌≡◌, ◌<◌, ◌-◌, ℕ, zero, suc, IsTrue}
+use Rattle.std.proofs.Common.{Some, List, [], ◌∷◌, ◌++◌, map, length, get_or}
 use Rattle.std.proofs.Common.{refl, sym, ap, subst, ◌∙◌, arith}
 use Rattle.std.specs.List.{All, slice_get}
 use Rattle.std.proofs.lemmas.List.{length_push}
@@ -8,7 +8,7 @@ use Rattle.std.proofs.lemmas.List.Elements.{All-weaker}
 use Rattle.sm_num.specs.Forms.{Linear}
 use Rattle.sm_num.specs.FormLaws.{same_atom}
 use Rattle.sm_num.specs.Eliminating.{can_cancel}
-use Rattle.sm_fm.specs.Elimination.{Placed, Event, pairs, sums, events}
+use Rattle.sm_fm.specs.Elimination.{Placed, pairs, sums, events}
 use Rattle.sm_fm.specs.Firsts.{standing, beginning}
 use Rattle.sm_fm.specs.Places.{form_at, both_at, place_pairs, AreWithin}
 use Rattle.sm_fm.specs.States.{later_atoms, after_sum, left_of, IsPairOf, Lacks}
@@ -90,21 +90,6 @@ module _ (forms : List (Linear ℕ)) (h : Linear ℕ) where
       (both_stay atoms t ps all)
       ∙ ap (λ (n : ℕ). after_sum forms t more ps (standing more_forms t) n) grown
       ∙ ap (λ (l : List Placed). after_sum forms t more ps l (suc (length forms))) (standing_grows forms h t (told_lacks t h lacks))
-
--- an event list by the answers to its tests
-pub at_contradiction : (c n : Bool) (x y z : List Event) → c ≡ true → (if c then x else if n then y else z) ≡ x
-at_contradiction true n x y z first = refl
-at_contradiction false n x y z first = absurd cc
-
-pub at_new : (c n : Bool) (x y z : List Event) → c ≡ false → n ≡ true → (if c then x else if n then y else z) ≡ y
-at_new false true x y z first second = refl
-at_new false false x y z first second = absurd cc
-at_new true n x y z first second = absurd cc
-
-pub at_old : (c n : Bool) (x y z : List Event) → c ≡ false → n ≡ false → (if c then x else if n then y else z) ≡ z
-at_old false false x y z first second = refl
-at_old false true x y z first second = absurd cc
-at_old true n x y z first second = absurd cc
 
 -- the element at a place
 pub slice_get_is : {A : Type 0} (xs : List A) (n : ℕ) (d : A) → n < length xs → slice_get xs n ≡ Some (get_or xs n d)

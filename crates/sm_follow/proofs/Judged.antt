@@ -97,10 +97,6 @@ pub nested_decides : (text : List ℕ) (place : ℕ) → IsFirstFault AreTasks (
 nested_decides text place first last =
     (λ same. record { tokens = last.tokens; viable = last.last place first.stands }, λ begun. refl)
 
--- and with a lexical fault it doesn't
-pub lexical_decides : (text : List ℕ) (f : LexFault) → (lexed text).1 ≡ Some f → Decides false (IsBegun text)
-lexical_decides text f is = (λ same. absurd (true≢false (sym same)), λ begun. absurd (no_tokens text f is begun.tokens))
-
 expected_short : (text : List ℕ) (place : ℕ) (before : List Symbol) (next : Option Symbol) → Stands (whole_text text) place before next →
     IsUnexpected AreTasks before next → IsWhole AreTasks (symbols_of text) → ⊥
 expected_short text place before next (at_token us vs u cut) x whole =

@@ -1,6 +1,6 @@
 -- A token on a line of its own is cut whole, and what is known of a text that ends with one.
 use Rattle.std.proofs.Common.{◌≡◌, ◌≢◌, ℕ, ◌+◌, ◌<◌, ◌≤◌, ◌^◌, true, false, nat_le, nat_lt, None, List, [], ◌∷◌, ◌++◌, length, append-nil, codes}
-use Rattle.std.proofs.Common.{length-append, refl, sym, ap, subst, ◌∙◌, arith}
+use Rattle.std.proofs.Common.{refl, sym, subst, ◌∙◌, arith}
 use Rattle.std.proofs.lemmas.Bool.Decides.{nat_tests}
 use Rattle.std.specs.List.{list_all}
 use Rattle.std.specs.Str.Parse.{digits_value}
@@ -16,7 +16,6 @@ use Rattle.sm_text.proofs.RoundTrip.PieceTokens.{mark_kind}
 use Rattle.sm_follow.specs.Following.{behind_line, EndsAtFault}
 use Rattle.sm_follow.specs.Kinds.{sample}
 use Rattle.sm_follow.specs.Views.{NestsLast, NestsNowhere}
-use Rattle.sm_follow.specs.declared.kinds.Kind.{Kind}
 use Rattle.sm_follow.specs.declared.kinds.Kind.TheVariants as kind
 use Rattle.sm_follow.proofs.Fronts.{nothing, line, sign_apart}
 use Rattle.sm_follow.proofs.Reached.{front_taken, last_nests, lexed_longer, nowhere}
@@ -113,63 +112,3 @@ name_nests_last text reached = token_nests_last text reached Word (codes "x") (w
 
 pub number_nests_last : (text : List ℕ) → EndsAtFault text → NestsLast (behind_line text (sample kind.Number))
 number_nests_last text reached = token_nests_last text reached Number (codes "1") number_token
-
--- no sample has more than 9 bytes
-mark_short : (m : Mark) → nat_le (length (spelling m)) 9 ≡ true
-mark_short mark.Var = refl
-mark_short mark.Array = refl
-mark_short mark.Output = refl
-mark_short mark.Shared = refl
-mark_short mark.Base = refl
-mark_short mark.VariantA = refl
-mark_short mark.VariantB = refl
-mark_short mark.Candidate = refl
-mark_short mark.Skip = refl
-mark_short mark.If = refl
-mark_short mark.Else = refl
-mark_short mark.While = refl
-mark_short mark.True = refl
-mark_short mark.False = refl
-mark_short mark.Assume = refl
-mark_short mark.OpenRound = refl
-mark_short mark.CloseRound = refl
-mark_short mark.OpenCurly = refl
-mark_short mark.CloseCurly = refl
-mark_short mark.OpenSquare = refl
-mark_short mark.CloseSquare = refl
-mark_short mark.Semicolon = refl
-mark_short mark.Comma = refl
-mark_short mark.Question = refl
-mark_short mark.Becomes = refl
-mark_short mark.Plus = refl
-mark_short mark.Minus = refl
-mark_short mark.Star = refl
-mark_short mark.Bang = refl
-mark_short mark.Less = refl
-mark_short mark.Greater = refl
-mark_short mark.Equal = refl
-mark_short mark.Unequal = refl
-mark_short mark.AtMost = refl
-mark_short mark.AtLeast = refl
-mark_short mark.Both = refl
-mark_short mark.Either = refl
-
-sample_short : (k : Kind) → length (sample k) ≤ 9
-sample_short (kind.Mark m) = within (length (spelling m)) 9 (mark_short m)
-sample_short kind.Name = within (length (codes "x")) 9 refl
-sample_short kind.Number = within (length (codes "1")) 9 refl
-sample_short kind.End = omega arith
-
--- a sample on a line of its own
-pub behind_made : (text first more all w : List ℕ) → first ≡ text ++ 10 ∷ [] → all ≡ first ++ w → all ≡ behind_line text w
-behind_made text first more all w one two = two ∙ ap (λ (l : List ℕ). l ++ w) one ∙ assoc text
-  where
-    assoc : (l : List ℕ) → (l ++ 10 ∷ []) ++ w ≡ l ++ 10 ∷ w
-    assoc [] = refl
-    assoc (b ∷ l) = ap (λ (m : List ℕ). b ∷ m) (assoc l)
-
-pub behind_short : (text : List ℕ) (k : Kind) → length text < 2 ^ 31 → length (behind_line text (sample k)) < 2 ^ 32
-behind_short text k few =
-    let short = sample_short k in
-    let sum : length (text ++ 10 ∷ sample k) ≡ length text + length (10 ∷ sample k) = length-append text (10 ∷ sample k) in
-    omega (arith, short, sum, few)

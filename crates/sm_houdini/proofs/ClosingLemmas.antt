@@ -9,7 +9,6 @@ use Rattle.std.specs.declared.alloc.AllocError.{AllocError}
 use Rattle.std.specs.declared.alloc.Global.{Global}
 use Rattle.sm_syntax.specs.text.Sorts.{Sorts}
 use Rattle.sm_term.specs.declared.formula.Formula.{Formula}
-use Rattle.sm_term.specs.Assertions.{Assertion}
 use Rattle.sm_term.specs.Formulas.{numbered, assertion_in}
 use Rattle.sm_term.specs.Tables.{TableValue, trees_in, sorts_in}
 use Rattle.sm_term.specs.TableLaws.{Widens}
@@ -21,27 +20,12 @@ use Rattle.sm_plan.proofs.TablesWiden as widened
 use Rattle.sm_expand.specs.declared.due.Due.{Due}
 use Rattle.sm_expand.specs.Views.{due_in}
 use Rattle.sm_sketch.specs.Choices.{Choice}
-use Rattle.sm_solve.specs.declared.solving.Answer.{Answer}
-use Rattle.sm_solve.specs.Answers.{Tells}
-use Rattle.sm_list.specs.Parts.{all_numbered, assertions_in}
-use Rattle.sm_judge.specs.Forms.{Walked}
-use Rattle.sm_solve.specs.Walk.{walk}
 use Rattle.sm_solve.specs.declared.reach.Reach.{Reach}
 use Rattle.sm_houdini.specs.declared.marks.Marked.{Marked}
 use Rattle.sm_houdini.specs.Closing.{closing, closes_at, stays_at, owner_in}
 use Rattle.sm_houdini.specs.Marks.{all_marked, still_marked, rows}
-use Rattle.sm_goals.proofs.FormsLemmas.{forms_same}
-use Rattle.sm_houdini.specs.Outcomes.{is_closing}
 use Rattle.sm_houdini.specs.Rounds.{is_site, closes_if}
 use Rattle.sm_houdini.proofs.MarkedLemmas.{still_more, still_both, marked_same, all_same}
-
--- an answer tells whether a goal closes
-pub closed_tells : (sorts : Sorts) (trees ts : List Tree) (reach : Reach) (fs : List Formula) (g : Assertion) (a : Answer) (b : Bool) →
-    Tells sorts ts a (walk sorts reach (assertions_in sorts trees (all_numbered fs)) g) →
-    ((w : Walked) → Tells sorts ts a w → is_closing w ≡ b) → b ≡ closing sorts reach (forms_in sorts trees fs) g
-closed_tells sorts trees ts reach fs g a b h by =
-    sym (by (walk sorts reach (assertions_in sorts trees (all_numbered fs)) g) h)
-    ∙ ap (λ (fs : List Assertion). closing sorts reach fs g) (forms_same sorts trees fs)
 
 -- the goal at a place
 goal_at : (sorts : Sorts) (trees : List Tree) (fs : List Formula) (i : ℕ) (o : Option Formula) → slice_get fs i ≡ o →

@@ -452,21 +452,6 @@ due_ended v u w wider reach i ds d ready h e inside before new closes None is bo
 due_ended v u w wider reach i ds d ready h e inside before new closes (Some s) is stops =
     closes ∙ due_stops v u wider reach i ds d s ready h e inside stops
 
--- all of them
-pub dues_done : (v w : TableValue) (reach : Reach) (i : ℕ) (ds : List program.Due) → length ds ≤ i → (new : List CertTree) →
-    AreCollected w (asked (take i (dues_in (sorts_in v) (trees_in v) ds))) new →
-    (let whole : Outcome (ℕ × Verdict) = final_outcome (walk (sorts_in v) reach) (dues_in (sorts_in v) (trees_in v) ds) in whole)
-    ≡ final_outcome (walk (sorts_in v) reach) (drop i (dues_in (sorts_in v) (trees_in v) ds)) →
-    FinalCloses (walk (sorts_in v) reach) (dues_in (sorts_in v) (trees_in v) ds)
-    × AreCollected w (asked (dues_in (sorts_in v) (trees_in v) ds)) new
-dues_done v w reach i ds h new collected closes =
-    let all = dues_in (sorts_in v) (trees_in v) ds in
-    let count = map_count (due_in (sorts_in v) (trees_in v)) ds in
-    let past : length all ≤ i = omega (arith, count, h) in (
-      closes ∙ ap (final_outcome (walk (sorts_in v) reach)) (drop_all i all past),
-      subst (λ (l : List Due). AreCollected w (asked l) new) (take_all i all past) collected,
-    )
-
 -- the end of a run of goals, over a wider table
 abbrev pub Ended : (sorts : Sorts) (reach : Reach) (node first : ℕ) (facts run : List Assertion) → TableValue →
     List (List Assertion × Assertion) → List CertTree →

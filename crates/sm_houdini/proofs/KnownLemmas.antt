@@ -226,11 +226,6 @@ found_inside list i g e =
     let count = length-map list numbered in
     let inside = (found_at (all_numbered list) i g e).0 in omega (arith, inside, count)
 
--- one more flag
-flag_of : Option Bool → Bool
-flag_of None = false
-flag_of (Some b) = b
-
 pub flags_put : (v : TableValue) (reach : Reach) (ds : List Due) (new old : List Bool) (at : ℕ) (b : Bool) (d : Due) →
     new ≡ old ++ b ∷ [] → length old ≡ at → d ≡ get_or ds at d →
     (b ≡ true → (i : ℕ) → closes_at (sorts_in v) reach (due_in (sorts_in v) (trees_in v) d) i ≡ true) →

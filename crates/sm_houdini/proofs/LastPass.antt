@@ -1,13 +1,11 @@
 -- What the last pass over the obligations of what is kept comes upon.
-use Rattle.std.proofs.Common.{◌≡◌, ℕ, Bool, true, false, Option, Some, None, is_none, Ok, List, [], ◌∷◌, ◌++◌, map, refl, sym, ap, ◌∙◌}
+use Rattle.std.proofs.Common.{◌≡◌, ℕ, Bool, true, false, Option, Some, None, is_none, Ok, List, [], ◌∷◌, refl, sym, ap, ◌∙◌}
 use Rattle.std.proofs.Common.{subst}
-use Rattle.std.proofs.lemmas.List.{append_assoc}
 use Rattle.sm_syntax.specs.text.Parts.{Parts, task_of}
 use Rattle.sm_term.specs.Assertions.{Assertion}
 use Rattle.sm_plan.specs.Plans.{Due, obligations}
 use Rattle.sm_moves.proofs.SetsLemmas.{Each}
 use Rattle.sm_product.specs.ProductPlans.{plan_of}
-use Rattle.sm_houdini.specs.Certified.{asked}
 use Rattle.sm_houdini.specs.Laws.{AllClose, AllOwnedClose, AreFinalUnowned}
 use Rattle.sm_houdini.specs.Owners.{owner_of}
 use Rattle.sm_houdini.specs.Rounds.{dues_in, kept}
@@ -38,10 +36,3 @@ module _ (closes : List Assertion → Assertion → Bool) (t : Parts) where
   inside_close ds e =
       inside ds (owners_final t (kept closes t) ds e)
       (subst (AllOwnedClose closes t) (ap dues_in e) (kept_inductive closes t).1)
-
--- the goals of obligations one after the other
-pub asked_append : (ds es : List Due) → asked (ds ++ es) ≡ asked ds ++ asked es
-asked_append [] es = refl
-asked_append (d ∷ ds) es =
-    let goals = map (λ (g : Assertion). (d.facts, g)) d.goals in
-    ap (λ (rest : List (List Assertion × Assertion)). goals ++ rest) (asked_append ds es) ∙ sym (append_assoc goals (asked ds) (asked es))

@@ -25,7 +25,6 @@ pub mod ClosingLemmas
 pub mod SharedLemmas
 pub mod NodeLemmas
 pub mod GoalJobsLemmas
-pub mod RunLemmas
 pub mod TotalsLemmas
 pub mod RoundSteps
 pub mod KnownLemmas

@@ -27,10 +27,6 @@ total_put n m k xs i x none sum len before next =
     ∙ ap total (map-append (λ (v : Vec ℕ Global). v.items) (take i xs) (x ∷ [])) ∙ more in
     omega (arith, whole, sum, len, before)
 
-same_refl : (ns : List ℕ) → same_numbers ns ns ≡ true
-same_refl [] = refl
-same_refl (n ∷ ns) = ap (λ (b : Bool). b && same_numbers ns ns) (eq-eqb n n refl) ∙ same_refl ns
-
 both_left : (a b : Bool) → (a && b) ≡ true → a ≡ true
 both_left true b e = refl
 both_left false b e = absurd cc

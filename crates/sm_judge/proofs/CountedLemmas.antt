@@ -1,18 +1,16 @@
 -- Each event is counted before it happens.
 use Rattle.std.proofs.Common.{◌≡◌, ℕ, suc, ◌+◌, ◌<◌, nat_lt, Bool, true, false, if◌then◌else◌, List, [], ◌∷◌, ◌++◌, length}
 use Rattle.std.proofs.Common.{Some, slice_get, sym, ap, subst, ◌∙◌, ⊎_elim, add-one, arith}
-use Rattle.std.specs.Prelude.{ℤ}
-use Rattle.std.proofs.lemmas.Bool.{cases_Bool, ltb-true, ltb-false}
-use Rattle.sm_num.specs.declared.op.Op.{Op}
+use Rattle.std.proofs.lemmas.Bool.{cases_Bool, ltb-false}
 use Rattle.sm_num.specs.Forms.{Linear}
-use Rattle.sm_fm.specs.Elimination.{Event, Cancels, GoesBeyond}
+use Rattle.sm_fm.specs.Elimination.{Event, Cancels}
 use Rattle.sm_fm.specs.Taking.{Taking, TakesSum}
 use Rattle.sm_judge.specs.declared.forms.Source.{Source}
 use Rattle.sm_judge.specs.declared.eliminating.ElimLine.{ElimLine}
 use Rattle.sm_judge.specs.Holding.{Seen}
 use Rattle.sm_judge.specs.Refutations.{AreSources, Contradict}
 use Rattle.sm_judge.specs.Summing.{AreSums, AreNumbered}
-use Rattle.sm_judge.specs.Forms.{Walked, Closes, TooFar, GoesOut, counted, eliminated_by}
+use Rattle.sm_judge.specs.Forms.{Walked, Closes, TooFar, counted, eliminated_by}
 use Rattle.sm_judge.proofs.MakingLemmas.{sources_many}
 use Rattle.sm_judge.proofs.SummingLemmas.{sums_more, sums_if, sums_count, sums_contradict, last_at, taken_sum}
 
@@ -24,26 +22,7 @@ counted_on steps count next left =
     (λ (e : nat_lt count steps ≡ false). let wrong = ltb-false count steps e in absurd (omega arith))
     (cases_Bool (nat_lt count steps))
 
--- no step is left
-pub counted_out : (steps count : ℕ) (next : ℕ → Walked) → count ≡ steps → counted steps count next ≡ TooFar
-counted_out steps count next none =
-    ⊎_elim
-    (λ (e : nat_lt count steps ≡ true). let wrong = ltb-true count steps e in absurd (omega arith))
-    (λ (e : nat_lt count steps ≡ false). ap (λ (b : Bool). if b then next (suc count) else TooFar) e)
-    (cases_Bool (nat_lt count steps))
-
 module _ (steps count : ℕ) (left : List Event) (next : ℕ → Walked) where
-  -- nothing is left to happen
-  pub walked_end : left ≡ [] → eliminated_by steps count left next ≡ next count
-  walked_end e = ap (λ (es : List Event). eliminated_by steps count es next) e
-
-  -- something is, and no step is left
-  pub walked_steps : (e : Event) (es : List Event) → left ≡ e ∷ es → count ≡ steps → eliminated_by steps count left next ≡ TooFar
-  walked_steps e es is none = ap (λ (all : List Event). eliminated_by steps count all next) is ∙ by e
-    where
-      by : (e : Event) → eliminated_by steps count (e ∷ es) next ≡ TooFar
-      by (Cancels f g t kept wrong) = counted_out steps count (λ (n : ℕ). if wrong then Closes n else eliminated_by steps n es next) none
-      by (GoesBeyond op y z) = counted_out steps count (λ (n : ℕ). GoesOut op y z) none
 
   -- a sum
   pub walked_sum : (f g t : ℕ) (kept wrong : Bool) (es : List Event) → left ≡ Cancels f g t kept wrong ∷ es → count < steps →
@@ -58,12 +37,6 @@ module _ (steps count : ℕ) (left : List Event) (next : ℕ → Walked) where
   walked_on f g t kept wrong es is more quiet =
       walked_sum f g t kept wrong es is more
       ∙ ap (λ (b : Bool). if b then Closes (count + 1) else eliminated_by steps (count + 1) es next) quiet
-
-  -- an operation that leaves the range
-  pub walked_out : (op : Op) (y z : ℤ) (es : List Event) → left ≡ GoesBeyond op y z ∷ es → count < steps →
-      eliminated_by steps count left next ≡ GoesOut op y z
-  walked_out op y z es is more =
-      ap (λ (all : List Event). eliminated_by steps count all next) is ∙ counted_on steps count (λ (n : ℕ). GoesOut op y z) more
 
 -- sums that are kept are recorded
 pub recorded : (forms : List (Linear ℕ)) (es new_es : List ElimLine) (old new : Taking) (e : ElimLine) (kept wrong : Bool) →

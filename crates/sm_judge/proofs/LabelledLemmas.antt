@@ -31,10 +31,6 @@ noted_below bound n f (Some m) b here before is = before f is
 noted_below bound n f None true here before is = let same : n ≡ f = cc in subst (λ (k : ℕ). k < bound) same here
 noted_below bound n f None false here before is = let wrong : None ≡ Some f = is in absurd cc
 
-or_below : (bound n : ℕ) (o : Option ℕ) → n < bound → ((m : ℕ) → o ≡ Some m → m < bound) → noted_or o n < bound
-or_below bound n (Some m) here before = before m refl
-or_below bound n None here before = here
-
 -- the first place of a label is that of the first term that is equal to one with this label
 same_firsts : (equal : Pairs) (t : Tree) (l n : ℕ) (ls : List ℕ) (us : List Tree) → length ls ≡ length us →
     ((i m : ℕ) (u : Tree) → slice_get ls i ≡ Some m → slice_get us i ≡ Some u → (m == l) ≡ equal u t) →
@@ -73,9 +69,6 @@ module _ (labels : List ℕ) (n next x : ℕ) (is_next : next ≡ suc n) (below 
   -- noted places stay below a bound
   pub below_next : (bound : ℕ) → n < bound → ((m f : ℕ) → old m ≡ Some f → f < bound) → (m f : ℕ) → new m ≡ Some f → f < bound
   below_next bound here all m f is = noted_below bound n f (old m) (x == m) here (all m) (sym (noted m) ∙ is)
-
-  pub here_below : (bound : ℕ) → n < bound → ((m f : ℕ) → old m ≡ Some f → f < bound) → noted_or (old x) n < bound
-  here_below bound here all = or_below bound n (old x) here (all x)
 
   -- the pairs of one term more
   pub pairs_next : (sorts : Sorts) (trees : List Tree) (equal : Pairs) → length labels ≡ length trees → TellClasses trees equal labels →

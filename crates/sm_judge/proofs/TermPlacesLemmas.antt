@@ -62,7 +62,3 @@ module _ (sorts : Sorts) (bodies : ℕ) (codes : List Code) (trees : List Tree) 
       by i h (inl less) = below i less
       by i h (inr more) =
           let e : n ≡ i = omega (arith, h, more) in subst (λ (m : ℕ). HasPlaces trees (place_in trees) (tree_at trees m)) e here
-
--- none yet
-pub places_none : (trees : List Tree) → HavePlacesBelow trees 0
-places_none trees i h = absurd (omega (arith, h))

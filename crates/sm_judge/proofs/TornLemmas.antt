@@ -1,11 +1,11 @@
 -- Pairs of terms that are torn are told by the linear forms of their numbers, and found by chains of places with one label.
-use Rattle.std.proofs.Common.{◌≡◌, ◌↔◌, ◌⊎◌, inl, inr, ⊎_elim, ℕ, ℤ, pos, zero, suc, ◌<◌, ◌≤◌, ◌+◌}
+use Rattle.std.proofs.Common.{◌≡◌, ◌↔◌, ◌⊎◌, inl, inr, ⊎_elim, ℕ, ℤ, pos, zero, suc, ◌<◌, ◌≤◌}
 use Rattle.std.proofs.Common.{Bool, true, false, ◌&&◌, ◌||◌, not, Option, Some, None, IfSome, List, [], ◌∷◌, length, get_or}
-use Rattle.std.proofs.Common.{slice_index, cond, nat_eq, ◌==◌, refl, sym, ap, subst, ◌∙◌, below_more, arith}
+use Rattle.std.proofs.Common.{slice_index, ◌==◌, refl, sym, ap, subst, ◌∙◌, arith}
 use Rattle.std.specs.List.{list_any}
 use Rattle.std.specs.Ordering.{int_eq}
 use Rattle.std.specs.Bool.{Decides}
-use Rattle.std.proofs.lemmas.Bool.{eqb-true, eq-eqb, ne_eqb, cases_eq}
+use Rattle.std.proofs.lemmas.Bool.{eqb-true, eq-eqb}
 use Rattle.std.proofs.lemmas.Bool.Decides.{Decides-eqb, Decides-int_eq}
 use Rattle.std.proofs.lemmas.Option.{slice_get-get_or}
 use Rattle.sm_syntax.specs.text.Sorts.{Sorts}
@@ -170,33 +170,8 @@ below_later m n (Some k) h below = omega (arith, h, below)
 
 -- the last places of labels, with one place more
 module _ (labels : List ℕ) (n : ℕ) where
-  pub last_none : (x : ℕ) → IsLastWith labels x 0 None
-  last_none x = record { below = tt; same = tt; last = λ m k h e. omega arith }
 
-  -- the label here
-  last_here : (x : ℕ) → slice_index labels n ≡ x → IsLastWith labels x (n + 1) (Some n)
-  last_here x is = record { below = omega arith; same = is; last = λ m k h e. omega arith }
-
-  -- another label
-  last_before : (x : ℕ) (o : Option ℕ) → (slice_index labels n ≡ x → ⊥) → IsLastWith labels x n o → IsLastWith labels x (n + 1) o
-  last_before x o other before = record {
-    below = below_later n (n + 1) o (omega arith) before.below;
-    same = before.same;
-    last = λ m k h e.
-        below_more (λ (j : ℕ). behind o ≤ j → slice_index labels j ≡ x → ⊥) n (λ j l k e. before.last j k l e) (λ k e. other e) m h k e;
   }
-
-  pub last_next : (x : ℕ) (old new : Option ℕ) → new ≡ cond (nat_eq (slice_index labels n) x) (Some n) old → IsLastWith labels x n old →
-      IsLastWith labels x (n + 1) new
-  last_next x old new is before =
-      subst (IsLastWith labels x (n + 1)) (sym is)
-      (⊎_elim
-      (λ (e : slice_index labels n ≡ x).
-      subst (λ (b : Bool). IsLastWith labels x (n + 1) (cond b (Some n) old)) (sym (eq-eqb (slice_index labels n) x e)) (last_here x e))
-      (λ (ne : slice_index labels n ≡ x → ⊥).
-      subst (λ (b : Bool). IsLastWith labels x (n + 1) (cond b (Some n) old)) (sym (ne_eqb (slice_index labels n) x ne))
-      (last_before x old ne before))
-      (cases_eq (slice_index labels n) x))
 
 -- the places from one on are searched: none there that has the label of the place n differs from it
 pub record IsSearched (sorts : Sorts) (trees : List Tree) (labels : List ℕ) (n : ℕ) (place : Option ℕ) : Type 0 where
@@ -206,9 +181,6 @@ pub record IsSearched (sorts : Sorts) (trees : List Tree) (labels : List ℕ) (n
       differ sorts (tree_at trees n) (tree_at trees m) ≡ false
 
 module _ (sorts : Sorts) (trees : List Tree) (labels : List ℕ) (n : ℕ) where
-  -- behind the last place with the label
-  pub searched_first : (place : Option ℕ) → IsLastWith labels (slice_index labels n) n place → IsSearched sorts trees labels n place
-  searched_first place last = record { same = last.same; none = λ m k h e. absurd (last.last m k h e) }
 
   -- one place more on the chain
   pub searched_next : (j : ℕ) (place : Option ℕ) → IsSearched sorts trees labels n (Some j) →
@@ -229,10 +201,6 @@ module _ (sorts : Sorts) (trees : List Tree) (labels : List ℕ) (n : ℕ) where
       found m k h e (inl less) = absurd (last.last m k less (e ∙ sym so_far.same))
       found m k h e (inr (inl same)) = subst (λ (x : ℕ). differ sorts (tree_at trees n) (tree_at trees x) ≡ false) same here
       found m k h e (inr (inr more)) = so_far.none m more h e
-
-  -- all places before
-  pub searched_all : IsSearched sorts trees labels n None → IsPartnerIf sorts trees labels n None
-  searched_all so_far = λ m h e. so_far.none m (omega arith) h e
 
 -- what labels tell of terms that are torn
 module _ (sorts : Sorts) (trees : List Tree) (equal : Pairs) (labels : List ℕ) (count : length labels ≡ length trees)

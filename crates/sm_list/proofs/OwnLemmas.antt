@@ -33,10 +33,6 @@ use Rattle.sm_list.proofs.RenumberLemmas.{Stands, FormulaStands, FormulasStand}
 use Rattle.sm_list.proofs.RenumberTermLemmas.{AllStand, renumbered_tree, renumbered_within, renumbered_fits}
 use Rattle.sm_list.proofs.BuiltLemmas.{FormulaAmong, FormulasAmong, built_at}
 
--- a table of no terms has none of them
-pub placed_none : (trees : List Tree) (numbers : List TermId) → ArePlaced trees [] numbers
-placed_none trees numbers = λ n h among. absurd cc
-
 -- terms that are there stand for the same
 placed_stands : (trees own : List Tree) (numbers : List TermId) → ArePlaced trees own numbers → (n : ℕ) → n < length trees →
     is_among own (tree_at trees n) ≡ true → Stands trees own (number_under numbers) n

@@ -235,10 +235,6 @@ line_stands trees others numbers old new are under within =
     belows [] h = tt
     belows (n ∷ ns) h = ((terms_stand trees others numbers are n h.0).there, belows ns h.1)
 
--- no lines, and one more
-pub lines_none : (numbers : List TermId) → AreLinesUnder numbers [] []
-lines_none numbers = λ trees others are within. (refl, tt)
-
 pub within-append : (count : ℕ) (xs ys : List CertLine) → AreLinesWithin count xs → AreLinesWithin count ys →
     AreLinesWithin count (xs ++ ys)
 within-append count [] ys h k = k

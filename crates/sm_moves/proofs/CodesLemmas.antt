@@ -50,16 +50,6 @@ simple_append (If b one other r) k e = absurd cc
 simple_append (While b body r) k e = absurd cc
 simple_append (Hole h r) k e = absurd cc
 
--- so does code that begins with an if
-pub fork_left : (c : Code) → is_fork c ≡ true → is_over c ≡ false
-fork_left End e = absurd cc
-fork_left (Skip r) e = absurd cc
-fork_left (Assign x v r) e = absurd cc
-fork_left (Write a i v r) e = absurd cc
-fork_left (If b one other r) e = refl
-fork_left (While b body r) e = absurd cc
-fork_left (Hole h r) e = absurd cc
-
 pub fork_append : (c k : Code) → is_fork c ≡ true →
     (is_fork (append c k) ≡ true) × (by_first_block (append c k) ≡ append (by_first_block c) k)
     × (by_second_block (append c k) ≡ append (by_second_block c) k)

@@ -4,8 +4,6 @@ use Rattle.sm_syntax.specs.claim.Syntax.{Code}
 use Rattle.sm_syntax.specs.claim.ConflictFree.{Copy, O, A, B, M}
 use Rattle.sm_plan.specs.Copies.{has, with_copy}
 use Rattle.sm_plan.specs.Masks.{bit_of, set_of}
-use Rattle.sm_plan.specs.Statements.{rest_after}
-use Rattle.sm_moves.specs.Moves.{moved_on}
 
 -- what holds of each copy
 pub of_each : (P : Copy → Type 0) → P O → P A → P B → P M → (c : Copy) → P c
@@ -13,25 +11,6 @@ of_each P o a b m O = o
 of_each P o a b m A = a
 of_each P o a b m B = b
 of_each P o a b m M = m
-
--- a set of one copy
-pub passed_one : (c d : Copy) (r : Copy → Code) → moved_on (set_of (bit_of c)) r d ≡ with_copy r c (rest_after 1 (r c)) d
-passed_one O O r = refl
-passed_one O A r = refl
-passed_one O B r = refl
-passed_one O M r = refl
-passed_one A O r = refl
-passed_one A A r = refl
-passed_one A B r = refl
-passed_one A M r = refl
-passed_one B O r = refl
-passed_one B A r = refl
-passed_one B B r = refl
-passed_one B M r = refl
-passed_one M O r = refl
-passed_one M A r = refl
-passed_one M B r = refl
-passed_one M M r = refl
 
 -- the block of a copy, where those of a set of one copy go on by their blocks
 pub forked_at : (c : Copy) (n : ℕ) → n ≡ bit_of c → (old new block : Copy → Code) →

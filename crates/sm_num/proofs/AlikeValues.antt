@@ -1,20 +1,13 @@
 -- Forms that are alike have one value, and being alike goes on.
-use Rattle.std.proofs.Common.{◌≡◌, ℤ, pos, ◌+ℤ◌, ◌*ℤ◌, Bool, true, false, ◌&&◌, ◌||◌, not, if◌then◌else◌, List, [], ◌∷◌, refl, sym, ap, subst, ◌∙◌, ⊎_elim}
+use Rattle.std.proofs.Common.{◌≡◌, ℤ, pos, ◌+ℤ◌, ◌*ℤ◌, Bool, true, false, not, if◌then◌else◌, List, [], ◌∷◌, refl, sym, ap, subst, ◌∙◌, ⊎_elim}
 use Rattle.std.proofs.lemmas.Bool.{cases_Bool}
-use Rattle.std.specs.Ordering.{int_eq}
-use Rattle.sm_num.specs.declared.op.Op.{Op}
-use Rattle.sm_num.specs.declared.kind.Kind.{Kind}
-use Rattle.sm_num.specs.Forms.{Linear, Satisfies, HoldsAt, sum_of_parts, coefficient, parts_without}
+use Rattle.sm_num.specs.Forms.{Linear, sum_of_parts, coefficient, parts_without}
 use Rattle.sm_num.specs.Combining.{Outcome, Fits, Leaves}
-use Rattle.sm_num.specs.Eliminating.{is_equation, signs_alike, can_cancel}
 use Rattle.sm_num.specs.FormLaws.{AreAlike, ComeOutAlike, value_of_form}
 use Rattle.sm_num.proofs.SameAtomLemmas.{IsSound, IsReflexive, AreReduced, same_turned, apart_turned, coefficient_past, coefficient_one, coefficient_filter, apart_zero, reduced_filter}
 use Rattle.sm_num.proofs.FormValues.{sum_without}
 
 module _ {A : Type 0} (same : A → A → Bool) where
-  -- forms that are alike, the other way round and on
-  pub alike_same : (f : Linear A) → AreAlike same f f
-  alike_same f = record { kind = refl; constant = refl; coefficients = λ (t : A). refl }
 
   pub alike_turned : (f g : Linear A) → AreAlike same f g → AreAlike same g f
   alike_turned f g alike =
@@ -44,24 +37,6 @@ module _ {A : Type 0} (same : A → A → Bool) where
       (g : Linear A) × (second ≡ Fits g) × AreAlike same f g
   come_out_fits first (Fits g) f alike e = (g, refl, subst (λ (o : Outcome (Linear A)). ComeOutAlike same o (Fits g)) e alike)
   come_out_fits first (Leaves op y z) f alike e = absurd (subst (λ (o : Outcome (Linear A)). ComeOutAlike same o (Leaves op y z)) e alike)
-
-  -- where one leaves the range, so does the other
-  pub come_out_leaves : (first second : Outcome (Linear A)) (op : Op) (y z : ℤ) → ComeOutAlike same first second → first ≡ Leaves op y z →
-      (other : Op) × (v : ℤ) × (w : ℤ) × (second ≡ Leaves other v w)
-  come_out_leaves first (Fits g) op y z alike e = absurd (subst (λ (o : Outcome (Linear A)). ComeOutAlike same o (Fits g)) e alike)
-  come_out_leaves first (Leaves other v w) op y z alike e = (other, v, w, refl)
-
-  -- an atom can be cancelled between forms where it can between those that they are alike with
-  pub can_cancel_alike : (f f' g g' : Linear A) (t : A) → AreAlike same f f' → AreAlike same g g' →
-      can_cancel same f g t ≡ can_cancel same f' g' t
-  can_cancel_alike f f' g g' t alike like =
-      let test : ℤ → ℤ → Kind → Kind → Bool =
-      λ (a b : ℤ) (k l : Kind). not
-      (int_eq a (pos 0)) && (not (int_eq b (pos 0)) && (is_equation k || (is_equation l || not (signs_alike a b)))) in
-      ap (λ (a : ℤ). test a (coefficient same t g.parts) f.kind g.kind) (alike.coefficients t)
-      ∙ ap (λ (b : ℤ). test (coefficient same t f'.parts) b f.kind g.kind) (like.coefficients t)
-      ∙ ap (λ (k : Kind). test (coefficient same t f'.parts) (coefficient same t g'.parts) k g.kind) alike.kind
-      ∙ ap (λ (l : Kind). test (coefficient same t f'.parts) (coefficient same t g'.parts) f'.kind l) like.kind
 
 module _ {A : Type 0} (v : A → ℤ) (same : A → A → Bool) (sound : IsSound same) (reflexive : IsReflexive same) where
   -- the coefficients of reduced lists tell the sum
@@ -95,8 +70,3 @@ module _ {A : Type 0} (v : A → ℤ) (same : A → A → Bool) (sound : IsSound
   alike_value f g first second alike =
       ap (λ (x : ℤ). x +ℤ f.constant) (alike_sum f.parts g.parts first second alike.coefficients)
       ∙ ap (λ (c : ℤ). sum_of_parts v g.parts +ℤ c) alike.constant
-
-  -- and say the same
-  pub alike_holds : (f g : Linear A) → AreReduced same f.parts → AreReduced same g.parts → AreAlike same f g → HoldsAt v f → HoldsAt v g
-  alike_holds f g first second alike holds =
-      subst (λ (k : Kind). Satisfies k (value_of_form v g)) alike.kind (subst (Satisfies f.kind) (alike_value f g first second alike) holds)

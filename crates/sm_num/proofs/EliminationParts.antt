@@ -1,6 +1,6 @@
 -- What is computed of two forms, its parts and its constant apart, and its multipliers: for the
 -- theory of elimination, where atoms have values over a common denominator.
-use Rattle.std.proofs.Common.{◌≡◌, ℕ, ◌/◌, ◌*◌, ◌<◌, ◌≤◌, ℤ, pos, negsuc, neg_ℤ, nat_abs, ◌+ℤ◌, ◌*ℤ◌, ◌<ℤ◌, Bool, true, false, not, ◌&&◌, ◌||◌, if◌then◌else◌, IsTrue, List, filter, refl, sym, ap, ◌∙◌, ⊎_elim, arith, eq-zero-or-pos, le-div_iff_mul-le, mul-pos}
+use Rattle.std.proofs.Common.{◌≡◌, ℕ, ◌/◌, ◌*◌, ◌<◌, ◌≤◌, ℤ, pos, negsuc, neg_ℤ, nat_abs, ◌+ℤ◌, ◌*ℤ◌, ◌<ℤ◌, Bool, true, false, not, ◌&&◌, ◌||◌, if◌then◌else◌, IsTrue, List, refl, sym, ap, ◌∙◌, ⊎_elim, arith, eq-zero-or-pos, le-div_iff_mul-le, mul-pos}
 use Rattle.std.proofs.lemmas.Bool.{and_parts}
 use Rattle.std.proofs.lemmas.Nat.Gcd.{le_of_dvd}
 use native.Mathlib.Nat.{pos_of_dvd_of_pos}
@@ -9,14 +9,14 @@ use Prim.Native.Nat.{◌∣◌}
 use Rattle.sm_num.specs.declared.kind.Kind.{Kind}
 use Rattle.sm_num.specs.declared.kind.Kind.TheVariants.{Le, Eq}
 use Rattle.sm_num.specs.Forms.{Linear, sum_of_parts, coefficient, without}
-use Rattle.sm_num.specs.Combining.{Outcome, Fits, Leaves, formed, merged, joined_parts, combined_number, combined, combination}
-use Rattle.sm_num.specs.Eliminating.{gcd, is_equation, signs_alike, can_cancel, multipliers, kind_of_sum, floor_of, divisor_of_parts, divided_parts, divided, eliminated, elimination}
+use Rattle.sm_num.specs.Combining.{Outcome, Fits, Leaves, formed, merged, combined_number, combined}
+use Rattle.sm_num.specs.Eliminating.{gcd, is_equation, signs_alike, can_cancel, multipliers, kind_of_sum, floor_of, divisor_of_parts, divided_parts, divided, eliminated}
 use Rattle.sm_num.specs.FormLaws.{same_atom}
 use Rattle.sm_num.proofs.RingLemmas.{sums, one_mul, mul_assoc}
 use Rattle.sm_num.proofs.OutcomeLemmas.{Gives, then_gives, formed_gives, IsSum, combined_number_gives}
-use Rattle.sm_num.proofs.SameAtomLemmas.{IsSound, AreReduced, reduced_filter, zero_test}
+use Rattle.sm_num.proofs.SameAtomLemmas.{zero_test}
 use Rattle.sm_num.proofs.DivisionLemmas.{gcd_is, floor_by_zero, floor_exact, divisor_divides, divided_sum, undivided}
-use Rattle.sm_num.proofs.FormValues.{joined_gives_sum, merged_value}
+use Rattle.sm_num.proofs.FormValues.{merged_value}
 
 -- what holds of a result for each value holds for all of them
 pub gives_all : {S V : Type 0} (P : V → S → Type 0) (outcome : Outcome S) → ((v : V) → Gives (P v) outcome) →
@@ -51,15 +51,6 @@ formed_sums_to {A} f g p q kind parts each =
       constant = one_mul c ∙ second.0;
       of_kind = refl;
     })
-
--- over any atoms, where the first form is reduced
-pub combination_sums_to : {A : Type 0} (same : A → A → Bool) → IsSound same → (f g : Linear A) (p q : ℤ) (kind : Kind) →
-    AreReduced same f.parts →
-    Gives (SumsTo f g p q kind) (combination same f p g q kind)
-combination_sums_to {A} same sound f g p q kind reduced =
-    formed_sums_to f g p q kind
-    (joined_parts same p f.parts q g.parts (filter (λ r. int_eq (coefficient same r.0 f.parts) (pos 0)) g.parts))
-    (λ (v : A → ℤ). joined_gives_sum v same sound p q f.parts g.parts reduced)
 
 -- by ascending atoms
 pub combined_sums_to : (f g : Linear ℕ) (p q : ℤ) (kind : Kind) → Gives (SumsTo f g p q kind) (combined f p g q kind)
@@ -103,20 +94,6 @@ divided_sums_to {A} f g p q kind h sum =
       constant = mul_assoc (pos sum.times) (pos by.0) (divided h).constant ∙ ap (λ (x : ℤ). pos sum.times *ℤ x) by.3 ∙ sum.constant;
       of_kind = sum.of_kind;
     }
-
--- the sum in which an atom cancels, of the forms without it
-pub elimination_sums_to : {A : Type 0} (same : A → A → Bool) → IsSound same → (f g : Linear A) (t : A) → AreReduced same f.parts →
-    let m = multipliers (coefficient same t f.parts) (coefficient same t g.parts) g.kind in
-    Gives (SumsTo (without same t f) (without same t g) m.0 m.1 (kind_of_sum f.kind g.kind)) (elimination same f g t)
-elimination_sums_to same sound f g t reduced =
-    let m = multipliers (coefficient same t f.parts) (coefficient same t g.parts) g.kind in
-    let kind = kind_of_sum f.kind g.kind in
-    let first = without same t f in
-    let second = without same t g in
-    then_gives (SumsTo first second m.0 m.1 kind) (SumsTo first second m.0 m.1 kind) (combination same first m.0 second m.1 kind)
-    (λ h. Fits (divided h))
-    (combination_sums_to same sound first second m.0 m.1 kind (reduced_filter same (λ r. not (same t r.0)) f.parts reduced))
-    (λ h sum. divided_sums_to first second m.0 m.1 kind h sum)
 
 pub eliminated_sums_to : (f g : Linear ℕ) (t : ℕ) →
     let m = multipliers (coefficient same_atom t f.parts) (coefficient same_atom t g.parts) g.kind in

@@ -166,12 +166,6 @@ module _ {A : Type 0} (v : A → ℤ) where
       (λ ps c first second. with_constants p q (sum_of_parts v f.parts) (sum_of_parts v g.parts) f.constant g.constant c (sum_of_parts v ps)
       first second.0)
 
-  -- the value of a combination is the combination of the values
-  pub combination_value : (same : A → A → Bool) → IsSound same → (f g h : Linear A) (p q : ℤ) (kind : Kind) → AreReduced same f.parts →
-      combination same f p g q kind ≡ Fits h → value_of_form v h ≡ (p *ℤ value_of_form v f) +ℤ (q *ℤ value_of_form v g)
-  combination_value same sound f g h p q kind reduced e =
-      gives_fits (HasValue f p g q) (combination same f p g q kind) h (combination_gives_value same sound f g p q kind reduced) e
-
   -- the parts at an atom and the others
   pub sum_without : (same : A → A → Bool) → IsSound same → (t : A) (ps : List (A × ℤ)) →
       sum_of_parts v ps ≡ (coefficient same t ps *ℤ v t) +ℤ sum_of_parts v (parts_without same t ps)

@@ -14,7 +14,7 @@ use Rattle.sm_num.specs.FormLaws.{same_atom}
 use Rattle.sm_num.proofs.OutcomeLemmas.{Gives, gives_fits, then_gives, IsSum, computed_gives, combined_number_gives, product_gives, led_gives, formed_gives, with_part_has}
 use Rattle.sm_num.proofs.SameAtomLemmas.{IsApart, AreReduced, same_atom_sound, each_filter, without_apart, apart_zero, zero_apart}
 use Rattle.sm_num.proofs.DivisionLemmas.{gcd_is, DividesEach, divisor_divides}
-use Rattle.sm_num.proofs.ResultsReduced.{AreAmong, AreInside, IsReduced, floor_fits, ceiling_fits, floor_some, scaled_among, divided_among}
+use Rattle.sm_num.proofs.ResultsReduced.{AreAmong, floor_fits, ceiling_fits, floor_some, scaled_among, divided_among}
 
 -- ascending parts from a number on ascend from a lesser one on
 pub parts_from : (least lower : ℕ) (ps : List (ℕ × ℤ)) → lower ≤ least → AreParts least ps → AreParts lower ps
@@ -216,15 +216,6 @@ parts_apart t least (p ∷ ps) below parts =
 pub parts_reduced : (least : ℕ) (ps : List (ℕ × ℤ)) → AreParts least ps → AreReduced same_atom ps
 parts_reduced least [] parts = tt
 parts_reduced least (p ∷ ps) parts = (parts.2, parts_apart p.0 (suc p.0) ps (omega arith) parts.3, parts_reduced (suc p.0) ps parts.3)
-
-parts_inside : (least : ℕ) (ps : List (ℕ × ℤ)) → AreParts least ps → AreInside ps
-parts_inside least [] parts = tt
-parts_inside least (p ∷ ps) parts = (parts.1, parts_inside (suc p.0) ps parts.3)
-
--- a kept form is reduced
-pub kept_reduced : (f : Linear ℕ) → IsKept f → IsReduced same_atom f
-kept_reduced f kept =
-    record { parts = parts_reduced 0 f.parts kept.parts; numbers = parts_inside 0 f.parts kept.parts; constant = kept.constant }
 
 -- the sum of kept forms is kept
 pub combined_is_kept : (f g h : Linear ℕ) (p q : ℤ) (kind : Kind) → IsKept f → IsKept g → combined f p g q kind ≡ Fits h → IsKept h

@@ -2,20 +2,19 @@
 -- forms are alike with.
 use Rattle.std.proofs.Common.{◌≡◌, ◌⊎◌, ℕ, ℤ, pos, ◌&&◌, Bool, true, false, List, [], ◌∷◌, refl, sym, ap, subst, ◌∙◌, inl, inr, ⊎_elim}
 use Rattle.std.proofs.lemmas.Bool.{cases_Bool}
-use Rattle.sm_num.specs.declared.op.Op.{Op}
 use Rattle.sm_num.specs.declared.kind.Kind.{Kind}
 use Rattle.sm_num.specs.Forms.{Linear, coefficient, renamed_form, IsKept}
 use Rattle.sm_num.specs.Combining.{Outcome, Fits, Leaves, combined, combination}
-use Rattle.sm_num.specs.Eliminating.{can_cancel, eliminated, elimination}
+use Rattle.sm_num.specs.Eliminating.{eliminated, elimination}
 use Rattle.sm_num.specs.Tightening.{has_no_part, fails, tightened, is_contradictory}
 use Rattle.sm_num.specs.FormLaws.{same_atom, AreAlike, ComeOutAlike, renamed_outcome}
 use Rattle.sm_num.proofs.OutcomeLemmas.{Gives, gives_fits}
 use Rattle.sm_num.proofs.SameAtomLemmas.{IsSound, IsReflexive, IsApart, AreReduced, coefficient_past}
 use Rattle.sm_num.proofs.ResultsReduced.{AreAmong, IsReduced, combination_among, elimination_among, combination_reduced, elimination_reduced, tightened_reduced, tightened_among}
 use Rattle.sm_num.proofs.KeptLemmas.{combined_among, eliminated_among, parts_reduced, combined_kept, eliminated_kept, tightened_kept}
-use Rattle.sm_num.proofs.RenamingLemmas.{renamed_parts, Renames, renamed_coefficient, combination_renamed_among, elimination_renamed_among, can_cancel_renamed, tightened_renamed}
+use Rattle.sm_num.proofs.RenamingLemmas.{renamed_parts, Renames, renamed_coefficient, combination_renamed_among, elimination_renamed_among, tightened_renamed}
 use Rattle.sm_num.proofs.AlikeDivided.{tightened_alike, contradictory_alike}
-use Rattle.sm_num.proofs.AlikeValues.{come_out_alike_on, come_out_fits, come_out_leaves, can_cancel_alike}
+use Rattle.sm_num.proofs.AlikeValues.{come_out_alike_on, come_out_fits}
 use Rattle.sm_num.proofs.OrderLemmas.{combined_alike, eliminated_alike, combination_alike, elimination_alike}
 
 module _ {A B : Type 0} (P : A → Type 0) (here : A → A → Bool) (there : B → B → Bool) (rename : A → B) where
@@ -133,13 +132,6 @@ module _ {B : Type 0} (P : ℕ → Type 0) (there : B → B → Bool) (sound : I
       first.reduced.parts (stands_reduced g l second) second.reduced.parts
       first.alike second.alike))
 
-  -- and where it can be cancelled
-  pub can_cancel_over : (f g : Linear ℕ) (k l : Linear B) (t : ℕ) → P t → StandsFor P there rename f k → StandsFor P there rename g l →
-      can_cancel same_atom f g t ≡ can_cancel there k l (rename t)
-  can_cancel_over f g k l t at first second =
-      sym (can_cancel_renamed P same_atom there rename renames f g t at first.among second.among)
-      ∙ can_cancel_alike there (renamed_form rename f) k (renamed_form rename g) l (rename t) first.alike second.alike
-
   -- tight forms
   pub tightened_over : (f : Linear ℕ) (k : Linear B) → StandsFor P there rename f k →
       AreAlike there (renamed_form rename (tightened f)) (tightened k)
@@ -202,18 +194,3 @@ module _ {B : Type 0} (P : ℕ → Type 0) (there : B → B → Bool) (sound : I
         reduced = tightened_reduced there k stands.reduced;
         alike = tightened_over f k stands;
       }
-
-  -- where the one leaves the range, so does the other
-  pub combined_leaves : (f g : Linear ℕ) (k l : Linear B) (p q : ℤ) (kind : Kind) (op : Op) (y z : ℤ) → StandsFor P there rename f k →
-      StandsFor P there rename g l →
-      combined f p g q kind ≡ Leaves op y z → (other : Op) × (v : ℤ) × (w : ℤ) × (combination there k p l q kind ≡ Leaves other v w)
-  combined_leaves f g k l p q kind op y z first second e =
-      come_out_leaves there (renamed_outcome rename (combined f p g q kind)) (combination there k p l q kind) op y z
-      (combined_over f g k l p q kind first second) (ap (renamed_outcome rename) e)
-
-  pub eliminated_leaves : (f g : Linear ℕ) (k l : Linear B) (t : ℕ) (op : Op) (y z : ℤ) → P t → StandsFor P there rename f k →
-      StandsFor P there rename g l →
-      eliminated f g t ≡ Leaves op y z → (other : Op) × (v : ℤ) × (w : ℤ) × (elimination there k l (rename t) ≡ Leaves other v w)
-  eliminated_leaves f g k l t op y z at first second e =
-      come_out_leaves there (renamed_outcome rename (eliminated f g t)) (elimination there k l (rename t)) op y z
-      (eliminated_over f g k l t at first second) (ap (renamed_outcome rename) e)

@@ -1,13 +1,13 @@
 -- Sums of forms over other atoms: computed there, or here and then put over the other atoms, they
 -- are one.
-use Rattle.std.proofs.Common.{◌≡◌, ◌↔◌, ℕ, ◌%◌, ◌==◌, ℤ, pos, nat_abs, ◌+ℤ◌, ◌*ℤ◌, Bool, true, false, not, if◌then◌else◌, List, [], ◌∷◌, map, filter, refl, sym, ap, subst, ◌∙◌}
+use Rattle.std.proofs.Common.{◌≡◌, ℕ, ◌%◌, ◌==◌, ℤ, pos, nat_abs, Bool, true, false, not, if◌then◌else◌, List, [], ◌∷◌, map, filter, refl, ap, ◌∙◌}
 use Rattle.std.specs.Ordering.{int_eq}
 use Rattle.sm_num.specs.declared.op.Op.TheVariants.{Mul}
 use Rattle.sm_num.specs.declared.kind.Kind.{Kind}
 use Rattle.sm_num.specs.declared.kind.Kind.TheVariants.{Le, Eq}
-use Rattle.sm_num.specs.Forms.{Linear, Satisfies, HoldsAt, sum_of_parts, coefficient, without, renamed_form}
+use Rattle.sm_num.specs.Forms.{Linear, coefficient, without, renamed_form}
 use Rattle.sm_num.specs.Combining.{Outcome, Fits, Leaves, then_with, computed, combined_number, with_part, led_by, scaled, formed, met_part, joined_parts, combination}
-use Rattle.sm_num.specs.Eliminating.{gcd, multipliers, kind_of_sum, floor_of, divisor_of_parts, divided_parts, divided, then_divided, can_cancel, elimination}
+use Rattle.sm_num.specs.Eliminating.{gcd, multipliers, kind_of_sum, floor_of, divisor_of_parts, divided_parts, divided, then_divided, elimination}
 use Rattle.sm_num.specs.FormLaws.{IsRenaming, renamed_outcome}
 use Rattle.sm_num.proofs.SameAtomLemmas.{each_filter}
 use Rattle.sm_num.proofs.ResultsReduced.{AreAmong}
@@ -102,19 +102,6 @@ module _ {A B : Type 0} (rename : A → B) where
       by (p ∷ ps) c kind = ap (λ d. tightened_by d (renamed_parts (p ∷ ps)) c kind) (renamed_divisor (p ∷ ps))
           ∙ renamed_tightened_by (divisor_of_parts (p ∷ ps)) (p ∷ ps) c kind
 
--- the value of a form over other atoms
-pub renamed_sum : {A B : Type 0} (rename : A → B) (v : B → ℤ) (ps : List (A × ℤ)) →
-    sum_of_parts v (renamed_parts rename ps) ≡ sum_of_parts (λ (a : A). v (rename a)) ps
-renamed_sum rename v [] = refl
-renamed_sum rename v (p ∷ ps) = ap (λ (x : ℤ). (p.1 *ℤ v (rename p.0)) +ℤ x) (renamed_sum rename v ps)
-
--- what it says
-pub renamed_holds : {A B : Type 0} (rename : A → B) (v : B → ℤ) (f : Linear A) →
-    HoldsAt v (renamed_form rename f) ↔ HoldsAt (λ (a : A). v (rename a)) f
-renamed_holds rename v f =
-    let e = renamed_sum rename v f.parts in
-    (subst (λ (x : ℤ). Satisfies f.kind (x +ℤ f.constant)) e, subst (λ (x : ℤ). Satisfies f.kind (x +ℤ f.constant)) (sym e))
-
 -- where two tests agree at parts among these, the same parts go
 filter_among : {A : Type 0} (P : A → Type 0) (test other : A × ℤ → Bool) → ((r : A × ℤ) → P r.0 → test r ≡ other r) → (ps : List (A × ℤ)) →
     AreAmong P ps → filter test ps ≡ filter other ps
@@ -207,12 +194,6 @@ module _ {A B : Type 0} (P : A → Type 0) (here : A → A → Bool) (there : B 
       (each_filter here (λ r. P r.0) (λ r. not (here t r.0)) f.parts one)
       (each_filter here (λ r. P r.0) (λ r. not (here t r.0)) g.parts other))
       ∙ renamed_then_divided rename (combination here first (multipliers a b g.kind).0 second (multipliers a b g.kind).1 kind)
-
-  -- an atom can be cancelled over there where it can here
-  pub can_cancel_renamed : Renames → (f g : Linear A) (t : A) → P t → AreAmong P f.parts → AreAmong P g.parts →
-      can_cancel there (renamed_form rename f) (renamed_form rename g) (rename t) ≡ can_cancel here f g t
-  can_cancel_renamed renames f g t at first second =
-      rw (renamed_coefficient renames t f.parts at first, renamed_coefficient renames t g.parts at second) refl
 
 -- the same of all atoms
 pub combination_renamed : {A B : Type 0} (here : A → A → Bool) (there : B → B → Bool) (rename : A → B) (f g : Linear A) (p q : ℤ)

@@ -15,7 +15,7 @@ use Rattle.sm_num.specs.Eliminating.{gcd, multipliers, kind_of_sum, floor_of, ce
 use Rattle.sm_num.specs.Tightening.{has_no_part, one_is_zero, tightened_by, tightened}
 use Rattle.sm_num.proofs.RingLemmas.{mul_zero}
 use Rattle.sm_num.proofs.OutcomeLemmas.{Gives, gives_both, then_gives, Each, IsSum, computed_gives, combined_number_gives, led_gives, met_part_gives, formed_gives, with_part_has}
-use Rattle.sm_num.proofs.SameAtomLemmas.{IsSound, IsApart, AreReduced, each_filter, reduced_filter, without_apart, zero_apart, coefficient_filter, other_test, IsReflexive, coefficient_one, coefficient_past, apart_turned}
+use Rattle.sm_num.proofs.SameAtomLemmas.{IsSound, IsApart, AreReduced, each_filter, reduced_filter, zero_apart, coefficient_filter, other_test, IsReflexive, coefficient_one, coefficient_past, apart_turned}
 use Rattle.sm_num.proofs.DivisionLemmas.{gcd_is, floor_exact, floor_by_zero, floor_pos, floor_negsuc, DividesEach, divisor_divides}
 
 -- numbers in the range stay there where they are divided
@@ -236,18 +236,6 @@ module _ {A : Type 0} where
       (each_filter same (λ r. P r.0) (λ r. not (same t r.0)) f.parts first)
       (each_filter same (λ r. P r.0) (λ r. not (same t r.0)) g.parts second))
       (λ (h : Linear A) (among : AreAmong P h.parts). divided_among P (gcd (nat_abs h.constant) (divisor_of_parts h.parts)) h.parts among)
-
-  -- but for the one that cancels
-  pub elimination_apart : (same : A → A → Bool) (f g : Linear A) (t : A) →
-      Gives (λ (h : Linear A). IsApart same t h.parts) (elimination same f g t)
-  elimination_apart same f g t =
-      let m = multipliers (coefficient same t f.parts) (coefficient same t g.parts) g.kind in
-      then_gives (λ (h : Linear A). IsApart same t h.parts) (λ (h : Linear A). IsApart same t h.parts)
-      (combination same (without same t f) m.0 (without same t g) m.1 (kind_of_sum f.kind g.kind)) (λ h. Fits (divided h))
-      (combination_among same (λ (x : A). same t x ≡ false) (without same t f) (without same t g) m.0 m.1 (kind_of_sum f.kind g.kind)
-      (without_apart same t f.parts) (without_apart same t g.parts))
-      (λ (h : Linear A) (apart : IsApart same t h.parts). divided_among (λ (x : A). same t x ≡ false)
-      (gcd (nat_abs h.constant) (divisor_of_parts h.parts)) h.parts apart)
 
   tightened_by_reduced : (same : A → A → Bool) (d : ℕ) (ps : List (A × ℤ)) (c : ℤ) (kind : Kind) → DividesEach d ps → AreReduced same ps →
       AreInside ps → IsTrue (fits_form c) →

@@ -4,7 +4,7 @@ use Rattle.std.proofs.Common.{◌≡◌, ℕ, ℤ, Some, None, refl}
 use Rattle.sm_num.specs.Combining.{Outcome, Fits, Leaves}
 use Rattle.sm_omega.specs.Counting.{Done, Passed, Outside, Shallow, with_result}
 use Rattle.sm_omega.specs.Solving.{Values, put}
-use Rattle.sm_omega.specs.Rules.{Answer, giving, or_else}
+use Rattle.sm_omega.specs.Rules.{Answer, giving}
 use Rattle.sm_omega.proofs.Predicates.{Decides}
 
 -- where there is no solution, nothing can meet the one fact; a solution meets the other
@@ -57,12 +57,3 @@ giving_answers t value Can Meets Could Met (Done c (Some v)) given forth back =
 giving_answers t value Can Meets Could Met Passed given forth back = tt
 giving_answers t value Can Meets Could Met (Outside op y z) given forth back = tt
 giving_answers t value Can Meets Could Met Shallow given forth back = tt
-
--- goes on where there is no solution, knowing that there is none
-pub or_else_answers : (next : ℕ → Answer) (Can Meets Could : Values → Type 0) (answer : Answer) → Answers Can Meets answer →
-    ((n : ℕ) → ((v : Values) → Can v → ⊥) → Answers Could Meets (next n)) → Answers Could Meets (or_else answer next)
-or_else_answers next Can Meets Could (Done c None) given then = then c given
-or_else_answers next Can Meets Could (Done c (Some v)) given then = given
-or_else_answers next Can Meets Could Passed given then = tt
-or_else_answers next Can Meets Could (Outside op y z) given then = tt
-or_else_answers next Can Meets Could Shallow given then = tt

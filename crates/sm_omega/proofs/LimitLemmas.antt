@@ -22,44 +22,12 @@ depths_match limit (suc depth) other zero s fs c =
 depths_match limit (suc depth) other (suc deep) s fs c =
     rule_match limit depth other deep (solved_within other deep) (depths_match limit depth other deep) s fs c
 
--- an answer's count doesn't go down, nor past the limit
-pub count_rises : (limit depth s : ℕ) (fs : List (Linear ℕ)) (c n : ℕ) (x : Option Values) → solved_within limit depth s fs c ≡ Done n x →
-    (c ≤ n) × (c ≤ limit → n ≤ limit)
-count_rises limit depth s fs c n x e =
-    let h =
-    subst (λ a. Matches limit limit (IsDeep limit depth s fs c → ⊥) (left limit fs c < depth) c a (solved_within limit depth s fs c)) e
-    (depths_match limit depth limit depth s fs c) in
-    (h.0, h.1)
-
--- a depth that is enough is not too shallow
-pub deep_enough : (limit depth s : ℕ) (fs : List (Linear ℕ)) (c : ℕ) → AreListed s fs → left limit fs c < depth →
-    solved_within limit depth s fs c ≡ Shallow → ⊥
-deep_enough limit depth s fs c listed less e =
-    subst (λ a. Matches limit limit (IsDeep limit depth s fs c → ⊥) (left limit fs c < depth) c a (solved_within limit depth s fs c)) e
-    (depths_match limit depth limit depth s fs c) (record { listed = listed; less = less })
-
--- an answer comes with each limit that isn't below its count, to each depth that is enough
-pub answer_stays : (limit depth other deep s : ℕ) (fs : List (Linear ℕ)) (c n : ℕ) (x : Option Values) →
-    solved_within limit depth s fs c ≡ Done n x → n ≤ other → left other fs c < deep → solved_within other deep s fs c ≡ Done n x
-answer_stays limit depth other deep s fs c n x e within less =
-    let h = subst (λ a. Matches limit other (IsDeep limit depth s fs c → ⊥) (left other fs c < deep) c a (solved_within other deep s fs c))
-    e (depths_match limit depth other deep s fs c) in
-    h.2 within less
-
 -- decisions with one limit that match are one, where the depth is enough
 same_limit : (limit : ℕ) (S G : Type 0) (c : ℕ) (a b : Answer) → c ≤ limit → G → (S → ⊥) → Matches limit limit S G c a b → b ≡ a
 same_limit limit S G c (Done n x) b within good deep h = h.2 (h.1 within) good
 same_limit limit S G c Passed b within good deep h = h within refl good
 same_limit limit S G c (Outside op y z) b within good deep h = h within refl good
 same_limit limit S G c Shallow b within good deep h = absurd (deep h)
-
--- to each depth that is enough a list comes out alike
-pub depth_does_not_matter : (limit depth deep s : ℕ) (fs : List (Linear ℕ)) (c : ℕ) → AreListed s fs → c ≤ limit →
-    left limit fs c < depth → left limit fs c < deep → solved_within limit deep s fs c ≡ solved_within limit depth s fs c
-depth_does_not_matter limit depth deep s fs c listed within less lesser =
-    same_limit limit (IsDeep limit depth s fs c → ⊥) (left limit fs c < deep) c (solved_within limit depth s fs c)
-    (solved_within limit deep s fs c) within lesser (λ never. never (record { listed = listed; less = less }))
-    (depths_match limit depth limit deep s fs c)
 
 -- a list decided to the depth that is enough for it
 abbrev pub decided : ℕ → Solver

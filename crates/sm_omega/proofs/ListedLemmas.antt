@@ -22,7 +22,7 @@ use Rattle.sm_omega.specs.Equalities.{modular_item}
 use Rattle.sm_omega.specs.Inequalities.{shadow, shadows, standing, splinter}
 use Rattle.sm_omega.specs.Exact.{above_parts, above_all}
 use Rattle.sm_omega.specs.ExactLaws.{AllKept}
-use Rattle.sm_omega.proofs.EachLemmas.{each_append, each_made, each_filter, each_weaker}
+use Rattle.sm_omega.proofs.EachLemmas.{each_append, each_made, each_filter}
 use Rattle.sm_omega.proofs.Predicates.{EachOf, IsGood, IsListed, AreListed, IsGoodItem, AreGoodItems}
 
 -- of the bounds of a variable from below
@@ -52,10 +52,6 @@ good_above s f good = record {
 -- so is a form of a list
 pub listed_above : (s : ℕ) (f : Linear ℕ) → IsListed s f → IsListed (suc s) f
 listed_above s f listed = record { good = good_above s f listed.good; some = listed.some }
-
--- and each form of one
-pub are_listed_above : (s : ℕ) (fs : List (Linear ℕ)) → AreListed s fs → AreListed (suc s) fs
-are_listed_above s fs each = each_weaker (IsListed s) (IsListed (suc s)) (listed_above s) fs each
 
 -- something is so of the list that entered, if there is one
 abbrev pub ListHas : (List (Linear ℕ) → Type 0) → Entered → Type 0

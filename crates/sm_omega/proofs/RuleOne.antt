@@ -2,15 +2,13 @@
 -- of items that are made of forms.
 use Rattle.std.proofs.Common.{◌≡◌, ℕ, false, Some, List, [], ◌∷◌, map, refl}
 use Rattle.sm_num.specs.declared.kind.Kind.TheVariants.{Eq}
-use Rattle.sm_num.specs.Forms.{Linear, HoldsAt}
+use Rattle.sm_num.specs.Forms.{Linear}
 use Rattle.sm_num.specs.Combining.{Outcome, Fits, Leaves}
 use Rattle.sm_num.specs.Tightening.{has_no_part}
 use Rattle.sm_num.proofs.OutcomeLemmas.{Gives}
 use Rattle.sm_omega.specs.Counting.{Item}
-use Rattle.sm_omega.specs.Solving.{Values}
 use Rattle.sm_omega.specs.Equalities.{first_equation}
-use Rattle.sm_omega.specs.ExactLaws.{AllHold}
-use Rattle.sm_omega.proofs.EachLemmas.{each_always, all_each, each_all}
+use Rattle.sm_omega.proofs.EachLemmas.{each_always}
 use Rattle.sm_omega.proofs.FoundLemmas.{found_is, found_all}
 use Rattle.sm_omega.proofs.Predicates.{EachOf}
 
@@ -46,15 +44,3 @@ found P fs e gs eq =
       apart = λ (each : EachOf P fs). let is = found_is P fs e gs each eq in (is.first, is.rest);
       again = found_all P fs e gs eq;
     }
-
--- where all forms of the list hold, it holds and those beside it hold
-pub found_hold : (v : Values) (fs : List (Linear ℕ)) (e : Linear ℕ) (gs : List (Linear ℕ)) → first_equation fs ≡ Some (e, gs) →
-    AllHold v fs → HoldsAt v e × AllHold v gs
-found_hold v fs e gs eq all =
-    let both = (found (HoldsAt v) fs e gs eq).apart (all_each v fs all) in
-    (both.0, each_all v gs both.1)
-
--- and back
-pub found_again : (v : Values) (fs : List (Linear ℕ)) (e : Linear ℕ) (gs : List (Linear ℕ)) → first_equation fs ≡ Some (e, gs) →
-    HoldsAt v e → AllHold v gs → AllHold v fs
-found_again v fs e gs eq here all = each_all v fs ((found (HoldsAt v) fs e gs eq).again here (all_each v gs all))

@@ -61,10 +61,6 @@ splinter_gives v l i =
     says : (s c i z : ℤ) → z ≡ c +ℤ i → (s +ℤ z ≡ pos 0) ↔ ((s +ℤ c) +ℤ i ≡ pos 0)
     says s c i z e = (λ (h : s +ℤ z ≡ pos 0). omega (arith, sums), λ (h : (s +ℤ c) +ℤ i ≡ pos 0). omega (arith, sums))
 
-pub splinter_near : (v : Values) (l h : Linear ℕ) (i : ℕ) → splinter l i ≡ Fits h → HoldsAt v h ↔ (value_of_form v l +ℤ pos i ≡ pos 0)
-splinter_near v l h i e =
-    gives_fits (λ (g : Linear ℕ). HoldsAt v g ↔ (value_of_form v l +ℤ pos i ≡ pos 0)) (splinter l i) h (splinter_gives v l i) e
-
 -- values are on none of the splinters of a lower bound, whose number fits
 pub record IsFar (t : ℕ) (m : ℤ) (v : Values) (l : Linear ℕ) : Type 0 where
   pub count : ℕ

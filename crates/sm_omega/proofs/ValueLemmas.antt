@@ -10,7 +10,7 @@ use Rattle.sm_num.specs.Combining.{Fits, computed}
 use Rattle.sm_num.specs.FormLaws.{same_atom, value_of_form}
 use Rattle.sm_num.proofs.RingLemmas.{sums, zero_mul}
 use Rattle.sm_num.proofs.OutcomeLemmas.{Gives, gives_fits, gives_more, then_gives, computed_gives}
-use Rattle.sm_num.proofs.SameAtomLemmas.{IsApart, same_atom_sound, apart_turned, without_apart, each_more, other_tested}
+use Rattle.sm_num.proofs.SameAtomLemmas.{IsApart, same_atom_sound, apart_turned, without_apart, each_more}
 use Rattle.sm_num.proofs.ResultsReduced.{AreAmong}
 use Rattle.sm_num.proofs.FormValues.{sum_without}
 use Rattle.sm_omega.specs.Solving.{Values, at, has, put, sum_from, rest_of}
@@ -90,14 +90,6 @@ has_none t f e = (Decides-int_eq (at t f) (pos 0)).0 (turned (int_eq (at t f) (p
     turned : (b : Bool) → not b ≡ false → b ≡ true
     turned true e = refl
     turned false e = absurd cc
-
--- and what one has that has it
-pub has_some : (t : ℕ) (f : Linear ℕ) → has t f ≡ true → at t f ≡ pos 0 → ⊥
-has_some t f e = other_tested (at t f) (turned (int_eq (at t f) (pos 0)) e)
-  where
-    turned : (b : Bool) → not b ≡ true → b ≡ false
-    turned true e = absurd cc
-    turned false e = refl
 
 -- a form without the variable has the same value, whatever is put
 pub value_none : (t : ℕ) (z : ℤ) (v : Values) (f : Linear ℕ) → at t f ≡ pos 0 → value_of_form (put t z v) f ≡ value_of_form v f

@@ -1,5 +1,5 @@
 -- Terms whose parts are known with their slots replaced.
-use Rattle.std.proofs.Common.{◌≡◌, ℕ, pos, ◌<◌, true, Option, Some, None, List, [], ◌∷◌, length, map, slice_get, refl, sym, ap, ◌∙◌, subst}
+use Rattle.std.proofs.Common.{◌≡◌, ℕ, ◌<◌, true, Option, Some, None, List, [], ◌∷◌, length, map, slice_get, refl, sym, ap, ◌∙◌, subst}
 use Rattle.std.proofs.Common.{get_or, unwrap_or}
 use Rattle.sm_syntax.specs.declared.tree.Name.{Name}
 use Rattle.sm_syntax.specs.declared.program.Outputs.{Outputs}
@@ -33,7 +33,7 @@ use Rattle.sm_term.proofs.ExpressionLemmas.{tree_got, there, name_stored}
 use Rattle.sm_plan.specs.declared.filling.Filling.{Filling}
 use Rattle.sm_plan.specs.declared.filling.Filling.TheVariants.{There, Made, Part}
 use Rattle.sm_plan.specs.declared.filling.Parts.TheVariants as parts
-use Rattle.sm_plan.specs.Filling.{IsFilled, AreKnown, IsFilling, ArePartsKnown, IsSummary, at_name}
+use Rattle.sm_plan.specs.Filling.{AreKnown, IsFilling, ArePartsKnown, IsSummary, at_name}
 use Rattle.sm_plan.proofs.SortedTerms.{filled_sorted}
 
 -- the row of a table at a place
@@ -57,12 +57,6 @@ stands_as v n t u e tree within fits inside =
 
 module _ (v : TableValue) (s : Copy → SymbolicStore) (known : ℕ → Option TermId) (kept : AreKnown v s known)
     (good : (c : Copy) → IsStoreSorted (sorts_in v) (s c)) (sorted : AreTreesSorted (sorts_in v) (trees_in v)) where
-  -- a term without parts and slots is there
-  pub leaf_filled : (n : TermId) (t : Term) → StandsAs v n.0 t →
-      fill_term s (tree_in (codes_in v) (trees_in v) t) ≡ tree_in (codes_in v) (trees_in v) t → IsFilled v s n.0 n
-  leaf_filled n t at fixed =
-      let filled : fill_term s (tree_at (trees_in v) n.0) ≡ tree_at (trees_in v) n.0 = ap (fill_term s) (sym at.tree) ∙ fixed ∙ at.tree in
-      slice_get-get_or (trees_in v) n.0 (tree.Lit (pos 0)) at.inside ∙ ap (λ (u : Tree). Some u) (sym filled)
 
   -- a slot
   pub slot_filled : (stores : PerCopy SymStore) → s ≡ stores_in (trees_in v) stores →

@@ -1,5 +1,5 @@
 -- What is opened where one state follows, or two.
-use Rattle.std.proofs.Common.{◌≡◌, Option, Some, None, List, [], map, inl, sym, ap, ◌∙◌, subst, append-nil}
+use Rattle.std.proofs.Common.{◌≡◌, Option, Some, List, [], map, inl, sym, ap, ◌∙◌, subst, append-nil}
 use Rattle.sm_syntax.specs.text.Sorts.{Sorts}
 use Rattle.sm_term.specs.declared.formula.Formula.{Formula}
 use Rattle.sm_term.specs.Assertions.{Assertion}
@@ -34,8 +34,3 @@ opening_states v w st want o goals asking ready is = record {
   goals = subst (AreFormsReady (sorts_in w) (trees_in w)) (sym goals) tt;
   asking = asking (sorts_in w) (trees_in w);
 }
-
--- nothing is opened
-pub opening_none : (v w : TableValue) (st : SymState) (want : List Assertion → Option plan.Opened) →
-    ((facts : List Assertion) → None ≡ want facts) → IsOpening v w st want None
-opening_none v w st want is = record { opened = is; stores = tt; ready = tt; goals = tt; asking = tt }

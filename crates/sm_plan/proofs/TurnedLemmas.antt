@@ -1,7 +1,6 @@
 -- Guards that are true or false, as formulas of the program.
 use Rattle.std.proofs.Common.{◌≡◌, ℕ, Bool, true, false, if◌then◌else◌, Option, Some, None, List, [], ◌∷◌, ◌++◌, length, refl, sym, ap, ◌∙◌}
 use Rattle.std.proofs.Common.{subst}
-use Rattle.std.proofs.lemmas.List.{map-append}
 use Rattle.sm_syntax.specs.text.Sorts.{Sorts}
 use Rattle.sm_term.specs.declared.formula.Formula.{Formula}
 use Rattle.sm_term.specs.Assertions.{negate}
@@ -11,13 +10,7 @@ use Rattle.sm_term.specs.Terms.{Tree}
 use Rattle.sm_term.proofs.FormulasLemmas.{contrary_negates}
 use Rattle.sm_term.proofs.FormsLemmas.{contrary_within}
 use Rattle.sm_plan.specs.ReadyStates.{IsFormReady, AreFormsReady}
-use Rattle.sm_plan.specs.Views.{forms_in}
 use Rattle.sm_plan.proofs.SortedTerms.{negate_sorted}
-
--- a formula over the same numbers
-pub same_made : (sorts : Sorts) (trees : List Tree) (f g : Formula) → numbered g ≡ numbered f →
-    assertion_in sorts trees (numbered g) ≡ assertion_in sorts trees (numbered f)
-same_made sorts trees f g e = ap (assertion_in sorts trees) e
 
 pub same_ready : (sorts : Sorts) (trees : List Tree) (f g : Formula) → numbered g ≡ numbered f → IsFormReady sorts trees f →
     IsFormReady sorts trees g
@@ -35,11 +28,6 @@ contrary_ready sorts trees f g e ready = (
   subst (IsFormulaWithin (length trees)) (sym e) (contrary_within (length trees) (numbered f) ready.0),
   subst (IsFormSorted sorts) (sym (contrary_made sorts trees f g e)) (negate_sorted sorts (assertion_in sorts trees (numbered f)) ready.1),
 )
-
--- one formula more
-pub forms_push : (sorts : Sorts) (trees : List Tree) (fs : List Formula) (g : Formula) →
-    forms_in sorts trees (fs ++ g ∷ []) ≡ forms_in sorts trees fs ++ assertion_in sorts trees (numbered g) ∷ []
-forms_push sorts trees fs g = map-append (λ (f : Formula). assertion_in sorts trees (numbered f)) fs (g ∷ [])
 
 pub ready_push : (sorts : Sorts) (trees : List Tree) (fs : List Formula) (g : Formula) → AreFormsReady sorts trees fs →
     IsFormReady sorts trees g → AreFormsReady sorts trees (fs ++ g ∷ [])

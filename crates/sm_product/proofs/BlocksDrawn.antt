@@ -1,51 +1,33 @@
 -- Where walks over blocks, over copies and over sets of copies begin and end.
 use Rattle.std.proofs.Common.{◌≡◌, ◌<◌, ◌+◌, ◌==◌, ℕ, zero, suc, bit_and, Bool, true, false, cond, if◌then◌else◌, List, []}
-use Rattle.std.proofs.Common.{◌∷◌, ◌++◌, map, take, drop}
-use Rattle.std.proofs.Common.{length, refl, sym, ap, ◌∙◌, subst, arith}
+use Rattle.std.proofs.Common.{◌∷◌, ◌++◌, map, drop}
+use Rattle.std.proofs.Common.{refl, sym, ap, ◌∙◌, subst, arith}
 use Rattle.std.specs.List.{filter, range_with_len}
-use Rattle.std.proofs.lemmas.List.{take_all, map-append}
+use Rattle.std.proofs.lemmas.List.{map-append}
 use Rattle.std.proofs.Math.Path.{fun_ext}
 use Rattle.sm_syntax.specs.claim.ConflictFree.{Copy, O, A, B, M, copy_of}
-use Rattle.sm_syntax.specs.claim.Fill.{fill}
 use Rattle.sm_syntax.specs.claim.Syntax.{Code, End}
 use Rattle.sm_syntax.specs.declared.copies.PerCopy.{PerCopy}
 use Rattle.sm_syntax.specs.declared.tree.Block.{Block}
 use Rattle.sm_syntax.specs.declared.tree.Stmt.{Stmt}
 use Rattle.sm_syntax.specs.text.Parts.{Parts}
-use Rattle.sm_syntax.specs.text.Sorts.{Sorts, IsWellSorted}
+use Rattle.sm_syntax.specs.text.Sorts.{Sorts}
 use Rattle.sm_syntax.specs.trees.Views.{code_of}
-use Rattle.sm_syntax.proofs.Blocks.{block_is, sequence-drop-end}
-use Rattle.sm_plan.specs.Copies.{Copies, copies, has, is_inhabited}
+use Rattle.sm_syntax.proofs.Blocks.{block_is}
+use Rattle.sm_plan.specs.Copies.{Copies, copies, has}
 use Rattle.sm_plan.specs.Masks.{set_of}
 use Rattle.sm_plan.specs.Views.{code_before}
 use Rattle.sm_plan.proofs.TurnsMade.{filter_push}
 use Rattle.sm_moves.specs.CopySets.{only_in, with_member}
-use Rattle.sm_moves.specs.FilledCode.{piece_of, AreFilledAs}
+use Rattle.sm_moves.specs.FilledCode.{AreFilledAs}
 use Rattle.sm_sketch.specs.Sketches.{Sketch, forking}
-use Rattle.sm_product.specs.Products.{where_any, forked, product}
+use Rattle.sm_product.specs.Products.{forked, product}
 use denote.Bor.{Bor}
 
 -- filled statements, at the sorts of a wider table
 pub filled_at : (sorts later : Sorts) (t : Parts) (code : Code) (pieces : PerCopy (Bor (List Stmt))) → later ≡ sorts →
     AreFilledAs sorts t code pieces → AreFilledAs later t code pieces
 filled_at sorts later t code pieces e h = subst (λ (s : Sorts). AreFilledAs s t code pieces) (sym e) h
-
--- at first all statements are left, and nothing is drawn
-pub begin_filled : (sorts : Sorts) (t : Parts) (b : Block) (n : ℕ) (pieces left : PerCopy (Bor (List Stmt))) → n ≡ length b.list.items →
-    AreFilledAs sorts t (code_of b) pieces → ((c : Copy) → piece_of left c ≡ piece_of pieces c) →
-    AreFilledAs sorts t (code_before (take n b.list.items) End) left
-begin_filled sorts t b n pieces left all h same =
-    let is : code_of b ≡ code_before (take n b.list.items) End =
-    block_is b ∙ sym (ap (λ (l : List Stmt). code_before l End) (take_all n b.list.items (omega (arith, all)))) in
-    record {
-      filled = λ (c : Copy). same c ∙ h.filled c ∙ ap (fill (t.fillings c)) is;
-      sorted = λ (c : Copy). subst (λ (k : Code). IsWellSorted sorts k) (sym (same c)) (h.sorted c);
-    }
-
-pub begin_drawn : (t : Parts) (set : Copies) (p : Sketch) (b : Block) (n : ℕ) → n ≡ length b.list.items →
-    p ≡ product t (code_before (drop n b.list.items) End) set p
-begin_drawn t set p b n all =
-    sym (ap (λ (k : Code). product t k set p) (sequence-drop-end b.list.items n End (omega (arith, all))))
 
 -- at last all is drawn
 pub end_drawn : (t : Parts) (set : Copies) (p q : Sketch) (b : Block) (i : ℕ) → i ≡ 0 →
@@ -62,13 +44,6 @@ next_copy (suc (suc zero)) h = refl
 next_copy (suc (suc (suc zero))) h = refl
 next_copy (suc (suc (suc (suc n)))) h = absurd (omega (arith, h))
 
-no_copy : (n : ℕ) → n ≡ 4 → drop n copies ≡ []
-no_copy n e = ap (λ (m : ℕ). drop m copies) e
-
-pub forks_end : (inner : Copies → Sketch) (set taken : Copies) (n : ℕ) → n ≡ 4 →
-    inner taken ≡ forked inner (filter (has set) (drop n copies)) taken
-forks_end inner set taken n e = sym (ap (λ (l : List Copy). forked inner (filter (has set) l) taken) (no_copy n e))
-
 pub forks_out : (inner : Copies → Sketch) (set taken : Copies) (n : ℕ) → n < 4 → has set (copy_of n) ≡ false →
     forked inner (filter (has set) (drop (n + 1) copies)) taken ≡ forked inner (filter (has set) (drop n copies)) taken
 forks_out inner set taken n less out =
@@ -84,15 +59,6 @@ forks_in inner set taken n less here =
     let rest = filter (has set) (drop (n + 1) copies) in
     sym (ap (λ (l : List Copy). forked inner (filter (has set) l) taken) (next_copy n less)
     ∙ ap (λ (b : Bool). forked inner (cond b (copy_of n ∷ rest) rest) taken) here)
-
--- what is drawn for a set that has a copy, and for one that has none
-pub any_of_some : (draw : Copies → Sketch → Sketch) (set : Copies) (next : Sketch) → is_inhabited set ≡ true →
-    draw set next ≡ where_any set draw next
-any_of_some draw set next e = sym (ap (λ (b : Bool). if b then draw set next else next) e)
-
-pub any_of_none : (draw : Copies → Sketch → Sketch) (set : Copies) (next : Sketch) → is_inhabited set ≡ false →
-    next ≡ where_any set draw next
-any_of_none draw set next e = sym (ap (λ (b : Bool). if b then draw set next else next) e)
 
 -- rests of the copies of a set
 pub only_these : (set : Copies) (rest code : Copy → Code) → ((c : Copy) → rest c ≡ (if has set c then code c else End)) →

@@ -55,22 +55,6 @@ drawn_by v p (Err e) made ready told = told
 pub drawn_same : (v : TableValue) (p q : plain.Sketch) (r : Result Sketch ProductError) → p ≡ q → IsDrawn v p r → IsDrawn v q r
 drawn_same v p q r e h = subst (λ (x : plain.Sketch). IsDrawn v x r) e h
 
--- and the other way round
-pub drawn_ok : (v : TableValue) (p : plain.Sketch) (r : Result Sketch ProductError) → IsDrawn v p r →
-    IfOk r (λ (s : Sketch). sketch_in (sorts_in v) (trees_in v) s ≡ p)
-drawn_ok v p (Ok s) h = h.0
-drawn_ok v p (Err e) h = tt
-
-pub drawn_ready : (v : TableValue) (p : plain.Sketch) (r : Result Sketch ProductError) → IsDrawn v p r →
-    IfOk r (IsSketchReady (sorts_in v) (trees_in v))
-drawn_ready v p (Ok s) h = h.1
-drawn_ready v p (Err e) h = tt
-
-pub drawn_told : (v : TableValue) (p : plain.Sketch) (r : Result Sketch ProductError) → IsDrawn v p r →
-    IfErr r (λ (e : ProductError). TellsSketch e p)
-drawn_told v p (Ok s) h = tt
-drawn_told v p (Err e) h = h
-
 -- an error that is handed on
 pub drawn_fault : (v : TableValue) (p : plain.Sketch) (r : Result Sketch ProductError) (x : ProductError) →
     IsErrAnd r (λ (e : ProductError). e ≡ x) → TellsSketch x p → IsDrawn v p r

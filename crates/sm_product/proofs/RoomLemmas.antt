@@ -23,10 +23,6 @@ pub no_memory : {T : Type 0} (room : Room) (p : Sketch) (r : Result T ProductErr
     IsErrAnd r (λ (e : ProductError). e ≡ error.Memory) → IfErr r (λ (e : ProductError). TellsBeyond room e p)
 no_memory room p r h = err_is (λ (e : ProductError). TellsBeyond room e p) r error.Memory h tt
 
-pub no_memory_for : {T : Type 0} (room : Room) (ps : List Sketch) (r : Result T ProductError) →
-    IsErrAnd r (λ (e : ProductError). e ≡ error.Memory) → IfErr r (λ (e : ProductError). TellAllBeyond room e ps)
-no_memory_for room ps r h = err_is (λ (e : ProductError). TellAllBeyond room e ps) r error.Memory h tt
-
 -- an error of a part is one of the whole
 pub part_beyond : (r s : Room) (p q : Sketch) (e : ProductError) → (r.nodes < sketch_size p → s.nodes < sketch_size q) →
     (r.branches < sketch_depth p → s.branches < sketch_depth q) → TellsBeyond r e p → TellsBeyond s e q

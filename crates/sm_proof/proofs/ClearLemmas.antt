@@ -2,9 +2,7 @@
 use Rattle.std.proofs.Common.{◌≡◌, ℕ, ℤ, ◌<◌, ◌≤◌, ◌^◌, Bool, true, false, if◌then◌else◌, List, [], ◌∷◌, map}
 use Rattle.std.proofs.Common.{refl, ap, ◌∙◌, arith}
 use Rattle.std.specs.Fmt.{decimal, signed_decimal}
-use Rattle.sm_proof.specs.declared.kind.FormKind.{FormKind}
 use Rattle.sm_proof.specs.declared.kind.FormKind.TheVariants as kind
-use Rattle.sm_proof.specs.declared.kind.TermKind.{TermKind}
 use Rattle.sm_proof.specs.declared.kind.TermKind.TheVariants as kinds
 use Rattle.sm_proof.specs.declared.line.FormLine.TheVariants as form
 use Rattle.sm_proof.specs.declared.line.NodeLine.TheVariants as node
@@ -87,31 +85,6 @@ head_clear head.Tight = refl
 head_clear head.Exact = refl
 head_clear head.Close = refl
 head_clear head.Clash = refl
-
-term_word_clear : (k : TermKind) → is_clear (term_word k) ≡ true
-term_word_clear kinds.Lit = refl
-term_word_clear kinds.Start = refl
-term_word_clear kinds.Cell = refl
-term_word_clear kinds.Slot = refl
-term_word_clear kinds.Cur = refl
-term_word_clear kinds.Of = refl
-term_word_clear kinds.Arg = refl
-term_word_clear kinds.Read = refl
-term_word_clear kinds.Write = refl
-term_word_clear kinds.Neg = refl
-term_word_clear kinds.Add = refl
-term_word_clear kinds.Sub = refl
-term_word_clear kinds.Mul = refl
-
-form_word_clear : (k : FormKind) → is_clear (form_word k) ≡ true
-form_word_clear kind.Yes = refl
-form_word_clear kind.No = refl
-form_word_clear kind.Eq = refl
-form_word_clear kind.Ne = refl
-form_word_clear kind.Le = refl
-form_word_clear kind.Lt = refl
-form_word_clear kind.And = refl
-form_word_clear kind.Or = refl
 
 -- behind a word and the word of a kind
 second_clear : (h : Head) (word : List ℕ) (ns : List ℕ) → is_clear word ≡ true → AreNumbers ns

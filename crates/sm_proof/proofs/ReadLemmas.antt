@@ -16,7 +16,7 @@ use Rattle.sm_proof.specs.declared.word.Head.{Head}
 use Rattle.sm_proof.specs.declared.word.Head.TheVariants as head
 use Rattle.sm_proof.specs.declared.word.Word.{Word}
 use Rattle.sm_proof.specs.declared.word.Word.TheVariants.{BadLine, BadNumber}
-use Rattle.sm_proof.specs.Behind.{behind, fault_error, fault_word, is_cert_head, is_node_head, IsAnswer, IsNextWord, IsNoNumber}
+use Rattle.sm_proof.specs.Behind.{behind, fault_error, fault_word, IsAnswer, IsNextWord, IsNoNumber}
 use Rattle.sm_proof.specs.FieldRanges.{IsWithinFields}
 use Rattle.sm_proof.specs.Fields.{any}
 use Rattle.sm_proof.specs.HeadWords.{head_of, version_word}
@@ -66,37 +66,6 @@ pub begins_is : (bytes word : List ℕ) (more : List (List ℕ)) (b : Bool) → 
 unfolding begins_exact
 begins_is bytes word more true is same other = sym (ap are_exact is ∙ ap (bytes_eq (codes "exact")) (same refl))
 begins_is bytes word more false is same other = sym (ap are_exact is ∙ unequal (codes "exact") word (other refl))
-
--- a line of a certificate is what is left
-pub cert_left : (h : Head) → h ≢ head.T → h ≢ head.P → h ≢ head.Cong → is_node_head h ≡ false → is_cert_head h ≡ true
-cert_left head.T t p c n = absurd (t refl)
-cert_left head.P t p c n = absurd (p refl)
-cert_left head.Step t p c n = cc
-cert_left head.Abs t p c n = cc
-cert_left head.Fork t p c n = cc
-cert_left head.Loop t p c n = cc
-cert_left head.Block t p c n = cc
-cert_left head.Dead t p c n = cc
-cert_left head.End t p c n = cc
-cert_left head.Both t p c n = refl
-cert_left head.Either t p c n = refl
-cert_left head.Cases t p c n = refl
-cert_left head.Order t p c n = refl
-cert_left head.Refl t p c n = refl
-cert_left head.Sym t p c n = refl
-cert_left head.Trans t p c n = refl
-cert_left head.Subst t p c n = refl
-cert_left head.Cong t p c n = absurd (c refl)
-cert_left head.Same t p c n = refl
-cert_left head.Apart t p c n = refl
-cert_left head.Hit t p c n = refl
-cert_left head.Miss t p c n = refl
-cert_left head.Lin t p c n = refl
-cert_left head.Elim t p c n = refl
-cert_left head.Tight t p c n = refl
-cert_left head.Exact t p c n = refl
-cert_left head.Close t p c n = refl
-cert_left head.Clash t p c n = refl
 
 -- the line feed
 first_split : (bytes : List ℕ) → (k : ℕ) → k ≡ prefix_len (λ (b : ℕ). not (b == 10)) bytes

@@ -9,7 +9,6 @@ use Rattle.sm_syntax.specs.claim.Syntax.{Expression, Lit, Var, Read, Neg, Plus, 
 use Rattle.sm_eval.specs.declared.error.EvalError.{EvalError}
 use Rattle.sm_eval.specs.declared.error.EvalError.TheVariants as eval
 use Rattle.sm_eval.specs.Events.{leaves, before, expression_event, condition_event, answer}
-use Rattle.sm_replay.specs.declared.error.ReplayError.TheVariants.{BeyondAssumed}
 use Rattle.sm_replay.specs.Judging.{Tells}
 use Rattle.sm_replay.specs.Violations.{IsMet}
 
@@ -22,20 +21,6 @@ answer_ok (Some e) v w is = cc
 answer_err : {T : Type 0} (o : Option EvalError) (v : T) (e : EvalError) → answer o v ≡ Err e → o ≡ Some e
 answer_err None v e is = cc
 answer_err (Some d) v e is = cc
-
--- the truth of an assumption
-pub told_truth : (b : Condition) (s : Store) (h : Bool) → answer (condition_event b s) (truth_of b s) ≡ Ok h → Tells (Some b) s (Ok h)
-told_truth b s true is =
-    let both = answer_ok (condition_event b s) (truth_of b s) true is in
-    record { no_event = both.0; meets = both.1 }
-told_truth b s false is =
-    let both = answer_ok (condition_event b s) (truth_of b s) false is in
-    record { no_event = both.0; fails = λ (yes : truth_of b s ≡ true). cc }
-
--- its first operation that leaves
-pub told_beyond : (b : Condition) (s : Store) (op : Op) (y z : ℤ) → answer (condition_event b s) (truth_of b s) ≡ Err (eval.Beyond op y z)
-    → Tells (Some b) s (Err (BeyondAssumed op y z))
-told_beyond b s op y z is = answer_err (condition_event b s) (truth_of b s) _ is
 
 -- nothing, or an operation that leaves
 abbrev OnlyBeyond : Option EvalError → Type 0

@@ -1,13 +1,11 @@
 -- The least index at which Keeps fails, found among the cells of four arrays.
-use Rattle.std.proofs.Common.{◌≡◌, ◌⊎◌, ◌+◌, ◌<◌, ◌↔◌, ℕ, suc, ℤ, pos, Bool, true, false, if◌then◌else◌, Option, IsNone, List, [], ◌∷◌}
+use Rattle.std.proofs.Common.{◌≡◌, ◌⊎◌, ◌+◌, ◌<◌, ℕ, suc, ℤ, pos, Bool, true, false, if◌then◌else◌, Option, List, [], ◌∷◌}
 use Rattle.std.proofs.Common.{length, refl, sym, ap, subst, ◌∙◌, inl, inr, ⊎_elim, arith}
-use Rattle.std.specs.Option.{IfSome}
 use Rattle.std.specs.Ordering.{int_eq}
 use Rattle.std.proofs.lemmas.Bool.{cases_eq}
 use Rattle.std.proofs.lemmas.Bool.Decides.{Decides-int_eq}
 use Rattle.sm_syntax.specs.claim.ConflictFree.{Copy, O, A, B, M}
-use Rattle.sm_syntax.specs.trees.FirstBroken.{IsFirstBroken}
-use Rattle.sm_syntax.specs.claim.Keeps.{Keeps, Cell, Element, content}
+use Rattle.sm_syntax.specs.claim.Keeps.{Keeps, Element, content}
 use Rattle.sm_syntax.specs.claim.Stores.{Value, Array, array, Store}
 use Rattle.sm_eval.specs.Cells.{listed, index_at}
 use Rattle.sm_replay.specs.FirstBreak.{IsUpTo}
@@ -89,19 +87,6 @@ least_of_four end a ro ra rb rm ko ka kb km first second third i =
     combine (known_later end O a ro rm ko from_o i) (known_later end A a ra rm ka from_a i) (known_later end B a rb rm kb third i) (km i)
     (λ (zo : at O ≡ pos 0) (za : at A ≡ pos 0) (zb : at B ≡ pos 0) (zm : at M ≡ pos 0).
     inl (all_zero (at O) (at A) (at B) (at M) zo za zb zm))
-
--- the four numbers in a cell
-pub kept_at : (end : Copy → Store) (cell : Cell) (o a b m : ℤ) (r : Option ℕ) → content (end O) cell ≡ o → content (end A) cell ≡ a
-    → content (end B) cell ≡ b → content (end M) cell ≡ m
-    → IsNone r ↔ Keeps o a b m → IsNone r ↔ KeepsAt end cell
-kept_at end cell o a b m r eo ea eb em h = rw (eo, ea, eb, em) h
-
-pub broken_at : (end : Copy → Store) (cell : Cell) (o a b m : ℤ) (r : Option ℕ) → content (end O) cell ≡ o → content (end A) cell ≡ a
-    → content (end B) cell ≡ b → content (end M) cell ≡ m
-    → IfSome r (λ (part : ℕ). IsFirstBroken part o a b m)
-    → IfSome r (λ (part : ℕ).
-    IsFirstBroken part (content (end O) cell) (content (end A) cell) (content (end B) cell) (content (end M) cell))
-broken_at end cell o a b m r eo ea eb em h = rw (eo, ea, eb, em) h
 
 -- one more cell
 pub seen_more : (end : Copy → Store) (a : ℕ) (l : List (ℤ × ℤ)) (p : ℕ) (r new : Option ℤ)

@@ -48,14 +48,6 @@ pub number_kept : (end : Copy → Store) (x : ℕ) → KeepsAt end (Scalar x) �
 number_kept end x k (Scalar y) own = subst (λ (z : ℕ). KeepsAt end (Scalar z)) (sym (ap (λ (v : ℕ × Sort). v.0) own)) k
 number_kept end x k (Element a i) own = let differ : Arr ≡ Num = ap (λ (v : ℕ × Sort). v.1) own in cc
 
--- each element of an array
-pub elements_kept : (end : Copy → Store) (a : ℕ) → ((i : ℤ) → KeepsAt end (Element a i) ⊎ ⊥) → (c : Cell) → variable c ≡ (a, Arr)
-    → KeepsAt end c
-elements_kept end a k (Scalar y) own = let differ : Num ≡ Arr = ap (λ (v : ℕ × Sort). v.1) own in cc
-elements_kept end a k (Element b i) own =
-    subst (λ (z : ℕ). KeepsAt end (Element z i)) (sym (ap (λ (v : ℕ × Sort). v.0) own))
-    (⊎_elim (λ (h : KeepsAt end (Element a i)). h) (λ (none : ⊥). absurd none) (k i))
-
 -- no cell is below a number variable
 none_below : (end : Copy → Store) (x : ℕ) (c : Cell) → IsBelow c (Scalar x) → KeepsAt end c
 none_below end x (Scalar y) below = absurd below

@@ -73,10 +73,6 @@ pub record CellsSoFar (list rest : List (ℤ × ℤ)) (cells : Members) : Type 0
       ⊎ ((get_member key cells ≡ None) × (cell_at (listed rest) (number_of_text key) ≡ cell_at (listed list) (number_of_text key)))
   pub inside : AllByRecursion IsInsideCell rest → AllByRecursion IsInsideCell list
 
--- at the start no key has one
-pub no_cells : (list : List (ℤ × ℤ)) → CellsSoFar list list no_members
-no_cells list = record { ordered = tt; each = λ (key : List ℕ). inr (refl, refl); inside = λ (all : AllByRecursion IsInsideCell list). all }
-
 -- no cell is among none
 zero_cells : (n : Option ℤ) → cell_at (listed []) n ≡ None
 zero_cells None = refl
@@ -204,15 +200,6 @@ IsWritten s o d = IsMemberOf s o d × IsInsideAt s o
 pub record MembersSoFar (names : Texts) (sorts : Sorts) (s : Store) (rest : List (ℕ × Sort)) (members : Members) : Type 0 where
   pub ordered : AreOrdered members
   pub each : (key : List ℕ) → IsWritten s (declared_name names sorts key) (get_member key members) ⊎ IsToCome names sorts rest key
-
--- at the start all names are to come
-pub no_members_yet : (names : Texts) (declared : List (ℕ × Sort)) (s : Store) → MembersSoFar names (sort_of declared) s declared no_members
-no_members_yet names declared s = record { ordered = tt; each = λ (key : List ℕ). by key (declared_name names (sort_of declared) key) refl }
-  where
-    by : (key : List ℕ) (o : Option (ℕ × Sort)) → declared_name names (sort_of declared) key ≡ o
-        → IsWritten s (declared_name names (sort_of declared) key) None ⊎ IsToCome names (sort_of declared) declared key
-    by key None is = inl (subst (λ (o : Option (ℕ × Sort)). IsWritten s o None) (sym is) (refl, tt))
-    by key (Some x) is = inr (x, is, (declared_at names (sort_of declared) key x is).1)
 
 -- at the end they are the members
 all_members : (names : Texts) (sorts : Sorts) (s : Store) (members : Members) → MembersSoFar names sorts s [] members

@@ -15,8 +15,8 @@ use Rattle.std.specs.Map.{keys_of}
 use Rattle.std.specs.Ordering.{nat_cmp, match_ordering}
 use Rattle.std.specs.Str.{bytes_eq}
 use Rattle.std.specs.String.{string_cmp}
-use Rattle.serde_json.specs.Data.{Data, null, boolean, number, string, array, object, Members, no_members}
-use Rattle.serde_json.specs.Find.{as_object, get, get_member}
+use Rattle.serde_json.specs.Data.{Data, number, object, Members, no_members}
+use Rattle.serde_json.specs.Find.{get_member}
 use Rattle.serde_json.specs.View.{view, members_view}
 use Rattle.serde_json.proofs.Views.{Entry, member_here, member_later}
 use Rattle.sm_num.specs.Range.{fits}
@@ -71,30 +71,10 @@ named names sorts key n sort is stored declared =
     ap (λ (o : Option Sort). option_and_then (λ (s : Sort). Some (n, s)) o) declared ∙
     sym (ap (by_place sorts) (place_of names key n is stored))
 
--- the members of an object, and of what is none
-pub object_of : (d : Data) (ms : Members) → Some ms ≡ as_object d → d ≡ object ms
-object_of null ms is = cc
-object_of (boolean b) ms is = cc
-object_of (number n) ms is = cc
-object_of (string s) ms is = cc
-object_of (array ds) ms is = cc
-object_of (object os) ms is = let same : ms ≡ os = cc in ap object (sym same)
-
-pub no_object : (d : Data) (key : List ℕ) → None ≡ as_object d → get key d ≡ None
-no_object null key is = refl
-no_object (boolean b) key is = refl
-no_object (number n) key is = refl
-no_object (string s) key is = refl
-no_object (array ds) key is = refl
-no_object (object ms) key is = cc
-
 -- a choice of nothing
 if_none : {T : Type 0} (b : Bool) (o : Option T) → o ≡ None → (if b then o else None) ≡ None
 if_none true o is = is
 if_none false o is = refl
-
-pub no_elements : (d : Data) (i : ℤ) → None ≡ as_object d → elements d i ≡ None
-no_elements d i is = if_none (fits i) _ (ap (option_map (λ (v : Data). number_or_zero (Some v))) (no_object d (signed_decimal i) is))
 
 -- a key above which all others stand is not among them
 above_all : (key : List ℕ) (rest : List Entry)
@@ -230,12 +210,6 @@ all_listed all list before i z = (
   before.sound i z,
 )
 
--- at the start it is empty
-pub none_listed : (all : List Entry) → ListsBefore all all []
-none_listed all = record {
-  sound = λ (i z : ℤ) (found : Contains [] (i, z)). absurd (omega (arith, found.1));
-  later = λ (i z : ℤ) (is : elements (object (members_view all)) i ≡ Some z). is;
-  whole = λ (i z : ℤ) (is : elements (object (members_view all)) i ≡ Some z). inr is;
 }
 
 -- in another order a list has the same

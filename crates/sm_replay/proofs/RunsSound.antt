@@ -1,5 +1,5 @@
 -- The four ends, or the copy that stops first, as a verdict.
-use Rattle.std.proofs.Common.{◌≡◌, ℕ, Ok, Err, sym, subst, ◌∙◌, ⊎_elim}
+use Rattle.std.proofs.Common.{◌≡◌, ℕ, Ok, Err, sym, subst, ◌∙◌}
 use Rattle.std.proofs.Math.Path.{fun_ext}
 use Rattle.sm_syntax.specs.declared.copies.PerCopy.{PerCopy}
 use Rattle.sm_syntax.specs.declared.tree.Block.{Block}
@@ -11,13 +11,11 @@ use Rattle.sm_eval.specs.declared.error.EvalError.{EvalError}
 use Rattle.sm_eval.specs.declared.error.EvalError.TheVariants as eval
 use Rattle.sm_eval.specs.declared.store.Store as code
 use Rattle.sm_eval.specs.StoredValues.{sorts_of}
-use Rattle.sm_replay.specs.declared.error.ReplayError.{ReplayError}
 use Rattle.sm_replay.specs.declared.error.ReplayError.TheVariants as stop
 use Rattle.sm_replay.specs.declared.verdict.Verdict.{Verdict}
 use Rattle.sm_replay.specs.declared.verdict.Verdict.TheVariants as verdict
-use Rattle.sm_replay.specs.Runs.{code_in, stop_of, HaveSorts, Halts}
+use Rattle.sm_replay.specs.Runs.{code_in, stop_of, HaveSorts}
 use Rattle.sm_replay.specs.FirstBreak.{Finds}
-use Rattle.sm_replay.specs.Judging.{Tells}
 use Rattle.sm_replay.specs.Verdicts.{Stops, Judges}
 use Rattle.sm_replay.specs.Violations.{IsMet, AreEnds}
 
@@ -43,16 +41,3 @@ stopped : (t : Task) (s : Store) (n copy : ℕ) (ev : EvalError) → IsMet t.ass
 stopped t s n copy eval.OutOfTurns met st = (met, st)
 stopped t s n copy (eval.Beyond op a b) met st = (met, st)
 stopped t s n copy eval.Memory met st = tt
-
-pub judged_halt : (t : Task) (s : Store) (n : ℕ) (e : ReplayError) → IsMet t.assumed s → Halts (program_of t) s n e → Judges t s n (Err e)
-judged_halt t s n e met h =
-    ⊎_elim (λ (m : e ≡ stop.Memory). subst (λ (x : ReplayError). Judges t s n (Err x)) (sym m) tt)
-    (λ (g : (copy : ℕ) × (ev : EvalError) × (e ≡ stop_of copy ev) × Stops (program_of t) s n copy ev).
-    subst (λ (x : ReplayError). Judges t s n (Err x)) (sym g.2) (stopped t s n g.0 g.1 met g.3)) h
-
--- an assumption that can't be computed
-pub judged_assumption : (t : Task) (s : Store) (n : ℕ) (e : ReplayError) → Tells t.assumed s (Err e) → Judges t s n (Err e)
-judged_assumption t s n (stop.OutOfTurns copy) told = absurd told
-judged_assumption t s n (stop.Beyond copy op a b) told = absurd told
-judged_assumption t s n (stop.BeyondAssumed op a b) told = told
-judged_assumption t s n stop.Memory told = tt

@@ -71,11 +71,6 @@ all_filled sorts start goal s f undeclared =
     fun_ext (λ (x : ℕ).
     ⊎_elim (λ (e : s x ≡ goal x). e) (λ (e : (s x ≡ start x) × (sort_of [] x ≡ sorts x)). e.0 ∙ undeclared x (sym e.1)) (f.each x))
 
--- at the start each name has 0
-pub none_filled : (declared : List (ℕ × Sort)) (start goal : ℕ → Value) (s : Store) → s ≡ start
-    → Filling (sort_of declared) start goal declared s
-none_filled declared start goal s zero_there = record { each = λ (x : ℕ). inr (ap (λ (t : Store). t x) zero_there, refl) }
-
 -- nothing is given to a name whose value is 0
 pub nothing_given : (v : Value) (x : ℕ) (s : Store) → GivesValue v v x s s
 nothing_given v x s = record {
@@ -83,11 +78,6 @@ nothing_given v x s = record {
   others = λ (y : ℕ) (other : y ≢ x). refl;
 }
 
--- a value that was put
-pub put_gives : (start v : Value) (x : ℕ) (old new : Store) → new ≡ put old x v → GivesValue start v x old new
-put_gives start v x old new is = record {
-  here = λ (h : (old x ≡ start) ⊎ (old x ≡ v)). ap (λ (t : Store). t x) is ∙ put_at old x v;
-  others = λ (y : ℕ) (other : y ≢ x). ap (λ (t : Store). t y) is ∙ put_past old x v y other;
 }
 
 -- what is stored for an array is an array

@@ -93,13 +93,6 @@ pub told : (assumed : Option Condition) (s : Store) (b : Bool) → Tells assumed
 told assumed s true met = (λ (yes : true ≡ true). met, λ (m : IsMet assumed s). refl)
 told assumed s false unmet = (λ (yes : false ≡ true). cc, λ (m : IsMet assumed s). absurd (unmet.fails m.meets))
 
--- one that isn't computed isn't met
-pub told_not : (assumed : Option Condition) (s : Store) (e : ReplayError) → Tells assumed s (Err e) → ¬ IsMet assumed s
-told_not assumed s (stop.OutOfTurns copy) none m = none
-told_not assumed s (stop.Beyond copy op a b) none m = none
-told_not assumed s (stop.BeyondAssumed op a b) is m = let both = sym m.no_event ∙ is in cc
-told_not assumed s stop.Memory none m = none
-
 -- what the answer to a trial shows
 pub shows_trial : (t : Task) (s u : Store) (n : ℕ) (r : Result Verdict ReplayError) (out : Option Verdict) → u ≡ s → Judges t u n r
     → (out ≡ shown_of r) × (r ≡ Err stop.Memory → ⊥) → Shows t s n out

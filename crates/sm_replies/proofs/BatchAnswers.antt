@@ -1,5 +1,5 @@
 -- What is answered to a list by the lines of its files.
-use Rattle.std.proofs.Common.{◌≡◌, ◌++◌, inl, inr, ℕ, List, map, Global, append_assoc, refl, sym}
+use Rattle.std.proofs.Common.{◌≡◌, ◌++◌, inr, ℕ, List, map, Global, append_assoc, refl, sym}
 use Rattle.std.proofs.Common.{ap, subst, ◌∙◌}
 use Rattle.std.proofs.lemmas.List.{map-append}
 use Rattle.std.specs.String.{string_bytes}
@@ -35,18 +35,6 @@ pub in_part : (names done part others : List (List ℕ)) → done ++ (part ++ ot
 in_part names done part others is name has =
     subst (λ (ns : List (List ℕ)). Contains ns name) is
     (Contains-append_right done (part ++ others) name (Contains-append_left part others name has))
-
--- where a file of the list can't be read
-pub batch_fails : (files others : List ℕ → Known) (list : List ℕ) (effort : Effort) (b c n : ℕ) (names : List (List ℕ)) (s : Status)
-    (t : List ℕ) → GivesList (files list) b c names → ((name : List ℕ) → others name ≡ files name)
-    → FailsToReadOne others names c n s t → Batches files list effort b n s t
-batch_fails files others list effort b c n names s t gives same f =
-    inr (record {
-      names = names;
-      between = c;
-      gives = gives;
-      answers = inl (fails_among files others names names c c n s t same refl (λ name has. has) f);
-    })
 
 -- where all can
 pub batch_lines : (files others : List ℕ → Known) (list : List ℕ) (effort : Effort) (b c n : ℕ) (before now : List Read)

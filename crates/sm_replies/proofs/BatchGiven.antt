@@ -8,15 +8,15 @@ use Rattle.std.specs.String.{string_bytes}
 use Rattle.std.specs.List.{AllZip}
 use Rattle.std.proofs.lemmas.List.Elements.{All-push}
 use Rattle.sm_io.specs.Files.{Known}
-use Rattle.sm_io.specs.Reads.{Read, reads_on, ReadsWhole}
+use Rattle.sm_io.specs.Reads.{Read}
 use Rattle.sm_syntax.specs.claim.ConflictFree.{ConflictFree}
 use Rattle.sm_syntax.specs.text.Parts.{task_of}
 use Rattle.sm_syntax.specs.text.Spells.{Spells}
 use Rattle.sm_text.specs.declared.task.Task.{Task}
 use Rattle.sm_text.specs.printing.Named.{HasText}
 use Rattle.sm_text.specs.Tasks.{parts_of}
-use Rattle.sm_answers.specs.File.{FailsToRead, GivesTask, GivesNoTask}
-use Rattle.sm_answers.specs.Readings.{ReadsOnce, ReadsTask}
+use Rattle.sm_answers.specs.File.{GivesTask, GivesNoTask}
+use Rattle.sm_answers.specs.Readings.{ReadsTask}
 use Rattle.sm_answers.proofs.Statuses.{without_task}
 use Rattle.sm_replies.specs.Batch.{Line, IsLineOf, first_line}
 use Rattle.sm_replies.specs.BatchSteps.{told, told_status, IsTheReply, RepliesTo, IsGiven, IsNone}
@@ -40,14 +40,6 @@ stays reads = ([], sym (append-nil reads))
 pub goes_further : (a b c : List Read) → GoesOn a b → GoesOn b c → GoesOn a c
 goes_further a b c p q =
     (p.0 ++ q.0, q.1 ∙ ap (λ (rs : List Read). rs ++ q.0) p.1 ∙ append_assoc a p.0 q.0)
-
-pub whole_goes_on : (name : List ℕ) (before now : List Read) (bytes : List ℕ) → ReadsWhole name before now bytes → GoesOn before now
-whole_goes_on name before now bytes whole =
-    goes_further before whole.between now (reads_on name 0 whole.on.pieces, whole.on.made) (_, whole.end)
-
-pub once_goes_on : (name : List ℕ) (before now : List Read) → ReadsOnce name before now → GoesOn before now
-once_goes_on name before now (bytes, inl on) = (reads_on name 0 on.pieces, on.made)
-once_goes_on name before now (bytes, inr whole) = whole_goes_on name before now bytes whole
 
 -- what was read meanwhile was read in a longer while, and more holds of it
 pub among_by : (name : List ℕ) (before from to now : List Read) (P Q : List ℕ → Type 0) → GoesOn before from → GoesOn to now
@@ -79,13 +71,6 @@ none_by files count now before after name r none able = record {
       ((without_task (files name) count now r.status r.text.items none).to_command.quiet able) none;
   able = able;
 }
-
--- one that couldn't be read
-pub fails_by : (file : Known) (before now : ℕ) (s : Status) (text : List ℕ) → GivesNoTask file before now s text → s ≡ ReadFault
-    → FailsToRead file before now s text
-fails_by file before now s text (inl (inl f)) e = f
-fails_by file before now s text (inl (inr f)) e = let is = f.says.ended in absurd cc
-fails_by file before now s text (inr f) e = let is = f.refuses.says.ended in absurd cc
 
 -- ---- files one after the other
 

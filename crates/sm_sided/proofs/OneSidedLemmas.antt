@@ -72,13 +72,6 @@ pub found_is : (program : Copy → Code) (found : Option Change) →
 found_is program None none = sym (none_fails program none)
 found_is program (Some change) only = sym (only_passes program change only)
 
--- none was found where one of the three is so
-pub some_found : (program : Copy → Code) (found : Option Change) →
-    MatchOption found (IsOneSided program → ⊥) (λ (change : Change). IsOnly program change) →
-    IsOneSided program → found ≡ None → ⊥
-some_found program None none sided e = none sided
-some_found program (Some change) only sided e = absurd cc
-
 -- the test is passed exactly where one of the three is so
 pub one_sided_is : (program : Copy → Code) → IsTrue (is_one_sided program) ↔ IsOneSided program
 one_sided_is program = (sided_gives program, λ (h : IsOneSided program). only_passes program h.0 h.1)

@@ -46,14 +46,6 @@ listed (s ∷ ss) = (one_more s (sequence (map statement_of ss) End)).0 ∙ ap s
 pub block_statements : (b : Block) → own_statements (code_of b) ≡ length b.list.items
 block_statements b = ap own_statements (block_is b) ∙ listed b.list.items
 
--- a block without statements is over
-pub empty_over : (b : Block) → length b.list.items ≡ 0 → is_over (code_of b) ≡ true
-empty_over b e = ap is_over (block_is b) ∙ of b.list.items e
-  where
-    of : (ss : List Stmt) → length ss ≡ 0 → is_over (sequence (map statement_of ss) End) ≡ true
-    of [] e = refl
-    of (s ∷ ss) e = absurd cc
-
 -- one with statements isn't
 pub filled_goes_on : (b : Block) (n : ℕ) → length b.list.items ≡ suc n → is_over (code_of b) ≡ false
 filled_goes_on b n e = ap is_over (block_is b) ∙ of b.list.items e
@@ -131,8 +123,3 @@ node_of b copy count e some =
     ap (λ (n : ℕ). simple.Abs copy n ∷ []) (e ∙ sym (block_statements b))
     ∙ sym (ap (λ (over : Bool). if over then [] else simple.Abs copy (own_statements (code_of b)) ∷ [])
     (filled_goes_on b (count - 1) (omega arith)))
-
--- that of one that has none
-pub no_node_of : (b : Block) (copy : ℕ) → length b.list.items ≡ 0 → [] ≡ summary_nodes copy (code_of b)
-no_node_of b copy none =
-    sym (ap (λ (over : Bool). if over then [] else simple.Abs copy (own_statements (code_of b)) ∷ []) (empty_over b none))

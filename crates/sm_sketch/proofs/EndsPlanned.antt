@@ -25,7 +25,7 @@ use Rattle.sm_expand.specs.declared.plan.Plans.{Plans, roll-Plans, fold-Plans, f
 use Rattle.sm_expand.specs.NumberedPlans as numbers
 use Rattle.sm_expand.specs.NumberedPlans.{NumberedPlan, plan_over, plans_over, plans_before, IsPlanReady, ArePlansReady}
 use Rattle.sm_expand.specs.Views.{last_layer, plan_layer, plans_layer, numbered_plan, numbered_last, plan_in}
-use Rattle.sm_expand.proofs.PlanViews.{plans_are, last_fork, last_loop, last_block}
+use Rattle.sm_expand.proofs.PlanViews.{plans_are, last_loop, last_block}
 use Rattle.sm_sketch.specs.declared.sketch.Sketch.{Sketch}
 use Rattle.sm_sketch.specs.declared.sketch.SketchEnd.{SketchEnd}
 use Rattle.sm_sketch.specs.declared.sketch.SketchEnd.TheVariants as end
@@ -37,7 +37,7 @@ use Rattle.sm_sketch.specs.NumberedSketches.{AreNodesReady, AreBelowReady}
 use Rattle.sm_sketch.specs.Sketches as tree
 use Rattle.sm_sketch.specs.Sketches.{plan_with, plans_with, sites_of, sites_below}
 use Rattle.sm_sketch.specs.SketchViews.{numbered_sketch, numbered_end, numbered_sketches, sketch_in}
-use Rattle.sm_sketch.proofs.SketchEnds.{sketches_are, end_fork, end_loop, end_block}
+use Rattle.sm_sketch.proofs.SketchEnds.{sketches_are, end_loop, end_block}
 
 -- plans over numbers of terms
 abbrev pub plans_of : Plans → List NumberedPlan
@@ -72,32 +72,6 @@ module _ (sorts : Sorts) (trees : List Tree) (keep : ℕ → List Assertion → 
   two_sites a b =
       length-append (sites_of a) (sites_of b ++ [])
       ∙ ap (λ (l : List (List Assertion)). length (sites_of a) + length l) (append-nil (sites_of b))
-
-  -- forks
-  pub fork_planned : (s : SketchEnd) (l : Last) (copy n m : ℕ) (one other : Box Sketch Global) (front back : Box Plan Global) →
-      s ≡ end.Fork copy one other → l ≡ last.Fork copy front back →
-      plan_in sorts trees front.value ≡ plan_with keep n (sketch_in sorts trees one.value) →
-      plan_in sorts trees back.value ≡ plan_with keep m (sketch_in sorts trees other.value) →
-      m ≡ n + length (sites_of (sketch_in sorts trees one.value)) →
-      plan_over sorts trees (numbered_last l) ≡ plan_with keep n (sketch_over sorts trees (numbered_end s))
-  fork_planned s l copy n m one other front back is made first second next =
-      let same : n ≡ n + 0 = omega arith in
-      let later : m ≡ (n + 0) + length (sites_of (sketch_in sorts trees one.value)) = omega arith in
-      ap (λ (x : Last). plan_over sorts trees (numbered_last x)) made ∙ ap (plan_over sorts trees) (last_fork copy front back)
-      ∙ ap (plan.At (numbers.node_over sorts trees (numbers.Fork copy)))
-      (two_planned (n + 0) n m (sketch_in sorts trees one.value) (sketch_in sorts trees other.value) (plan_in sorts trees front.value)
-      (plan_in sorts trees back.value) first second same later)
-      ∙ ap (λ (p : NumberedSketch). plan_with keep n (sketch_over sorts trees p)) (sym (ap numbered_end is ∙ end_fork copy one other))
-
-  pub fork_sites : (s : SketchEnd) (copy n m k : ℕ) (one other : Box Sketch Global) → s ≡ end.Fork copy one other →
-      m ≡ n + length (sites_of (sketch_in sorts trees one.value)) → k ≡ m + length (sites_of (sketch_in sorts trees other.value)) →
-      k ≡ n + length (sites_of (sketch_over sorts trees (numbered_end s)))
-  fork_sites s copy n m k one other is next last =
-      let two = two_sites (sketch_in sorts trees one.value) (sketch_in sorts trees other.value) in
-      let sum : k ≡ n + (length (sites_of (sketch_in sorts trees one.value)) + length (sites_of (sketch_in sorts trees other.value))) =
-      omega arith in
-      sum ∙ ap (λ (x : ℕ). n + x) (sym two)
-      ∙ ap (λ (p : NumberedSketch). n + length (sites_of (sketch_over sorts trees p))) (sym (ap numbered_end is ∙ end_fork copy one other))
 
   -- blocks
   pub block_planned : (s : SketchEnd) (l : Last) (k0 k1 k2 k3 n k m : ℕ) (ts : Rc Formulas Global) (f : Formula)

@@ -64,10 +64,6 @@ pointed_take n fs = sym (take-map (λ (f : Bor Formula). f.now) n fs)
 pointed_drop : (n : ℕ) (fs : List (Bor Formula)) → pointed (drop n fs) ≡ drop n (pointed fs)
 pointed_drop n fs = sym (drop-map (λ (f : Bor Formula). f.now) n fs)
 
-pointed_length : (fs : List (Bor Formula)) → length (pointed fs) ≡ length fs
-pointed_length [] = refl
-pointed_length (f ∷ fs) = ap suc (pointed_length fs)
-
 -- a formula put behind others, where the list has the number
 pub put_some : (before after : List (Bor Formula)) (f : Bor Formula) (fs : List Formula) (k : ℕ) → after ≡ before ++ f ∷ [] →
     k < length fs → f.now ≡ get_or fs k f.now → pointed after ≡ pointed before ++ option_to_list (slice_get fs k)

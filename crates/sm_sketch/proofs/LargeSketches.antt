@@ -17,11 +17,6 @@ larger : (p q : Sketch) → sketch_size p ≤ sketch_size q → sketch_depth p �
 larger p q nodes branches (inl h) = inl (omega (arith, nodes, h))
 larger p q nodes branches (inr h) = inr (omega (arith, branches, h))
 
-tells_larger : (e : ProductError) (p q : Sketch) → sketch_size p ≤ sketch_size q → sketch_depth p ≤ sketch_depth q →
-    TellsSketch e p → TellsSketch e q
-tells_larger error.TooMany p q nodes branches h = larger p q nodes branches h
-tells_larger error.Memory p q nodes branches h = tt
-
 -- an extent that is too large is that of a sketch that is
 pub tells_sketch : (e : ProductError) (n b : ℕ) (p : Sketch) → n ≤ sketch_size p → b ≤ sketch_depth p → TellsExtent e n b → TellsSketch e p
 tells_sketch error.TooMany n b p nodes branches (inl h) = inl (omega (arith, nodes, h))
@@ -36,20 +31,6 @@ pub drawn_depth : (node : Node) (p : Sketch) → is_branching node ≡ false →
 drawn_depth node p flat =
     let none : max (sketch_depth p) 0 ≡ sketch_depth p = omega arith in
     ap (λ (b : Bool). if b then suc (max (sketch_depth p) 0) else max (sketch_depth p) 0) flat ∙ none
-
-depth_below : (b : Bool) (n : ℕ) → n ≤ (if b then suc (max n 0) else max n 0)
-depth_below true n = omega arith
-depth_below false n = omega arith
-
-tells_drawn : (e : ProductError) (node : Node) (p : Sketch) → TellsSketch e p → TellsSketch e (then_draw node p)
-tells_drawn e node p h =
-    let size = drawn_size node p in
-    tells_larger e p (then_draw node p) (omega (arith, size)) (depth_below (is_branching node) (sketch_depth p)) h
-
--- a node where it is wanted
-pub tells_where : (e : ProductError) (b : Bool) (node : Node) (p : Sketch) → TellsSketch e p → TellsSketch e (drawn_where b node p)
-tells_where e true node p h = tells_drawn e node p h
-tells_where e false node p h = h
 
 -- a node for each copy of a set, by the copies
 set_drawn : (o a b m : Bool) (node : Copy → Node) (p : Sketch) →

@@ -1,5 +1,5 @@
 -- What sketches that are drawn of others stand for, and that they tell their size and are ready.
-use Rattle.std.proofs.Common.{◌≡◌, Result, Ok, Err, IfOk, ℕ, suc, ◌+◌, ◌≤◌, max, if◌then◌else◌, Bool, true, false, List, [], ◌∷◌, ◌++◌, map}
+use Rattle.std.proofs.Common.{◌≡◌, Result, Ok, Err, IfOk, ℕ, suc, ◌+◌, ◌≤◌, max, false, List, [], ◌∷◌, ◌++◌, map}
 use Rattle.std.proofs.Common.{refl, sym, ap, ◌∙◌, subst, arith}
 use Rattle.sm_syntax.specs.claim.ConflictFree.{Copy, O, A, B, M}
 use Rattle.sm_syntax.specs.text.Sorts.{Sorts}
@@ -16,17 +16,16 @@ use Rattle.sm_expand.specs.declared.plan.Simple.TheVariants as simple
 use Rattle.sm_expand.specs.NumberedPlans.{of_copy_or, node_over, IsKeepReady, Fork, Ends}
 use Rattle.sm_expand.specs.Views.{simple_node}
 use Rattle.sm_moves.specs.CopySets.{members}
-use Rattle.sm_sketch.specs.declared.drawing.Way.{Way}
 use Rattle.sm_sketch.specs.declared.drawing.Way.TheVariants as way
 use Rattle.sm_sketch.specs.declared.error.ProductError.{ProductError}
 use Rattle.sm_sketch.specs.declared.sketch.Sketch.{Sketch}
 use Rattle.sm_sketch.specs.Errors.{TellsSketch}
-use Rattle.sm_sketch.specs.Extents.{TellsExtent, total_nodes, most_branches, node_by, drawn_where}
+use Rattle.sm_sketch.specs.Extents.{TellsExtent, total_nodes, most_branches, drawn_where}
 use Rattle.sm_sketch.specs.NumberedSketches.{NumberedSite, Plain, LoopSite, NumberedSketch, Draw, Over, More, sketches_before}
 use Rattle.sm_sketch.specs.NumberedSketches.{site_over, sketch_over, sketches_over, IsSiteReady, AreNodesReady, AreBelowReady}
 use Rattle.sm_sketch.specs.Sketches as tree
 use Rattle.sm_sketch.specs.Sketches.{then_draw, each_of, turns_then, looped}
-use Rattle.sm_sketch.specs.SketchSizes.{is_branching_node, sketch_size, sizes_below, sketch_depth, deepest_below}
+use Rattle.sm_sketch.specs.SketchSizes.{sketch_size, sizes_below, sketch_depth, deepest_below}
 use Rattle.sm_sketch.specs.SketchViews.{numbered_sketch, numbered_end, sketch_in, IsSketchReady, AreSketchesReady}
 use Rattle.sm_sketch.proofs.LargeSketches.{drawn_size, drawn_depth, tells_sketch, each_drawn}
 use Rattle.sm_sketch.proofs.SketchEnds.{pushed, bare}
@@ -78,21 +77,6 @@ module _ (sorts : Sorts) (trees : List Tree) where
       (branches ∙ r.branches ∙ sym (drawn_depth node p flat) ∙ ap sketch_depth (sym (put_over s node next is)))
       (simple_ready s, (r.formulas, tt))
 
-  pub put_err : (e : ProductError) (next : Sketch) (node : Node) → is_branching node ≡ false → IsSketchReady sorts trees next →
-      TellsExtent e (next.extent.nodes + 1) next.extent.branches → TellsSketch e (then_draw node (sketch_in sorts trees next))
-  put_err e next node flat r h =
-      let p = sketch_in sorts trees next in
-      let size : sketch_size (then_draw node p) ≡ sketch_size p + 1 = drawn_size node p in
-      let depth : sketch_depth (then_draw node p) ≡ sketch_depth p = drawn_depth node p flat in
-      let nodes : next.extent.nodes ≡ sketch_size p = r.nodes in
-      let branches : next.extent.branches ≡ sketch_depth p = r.branches in
-      tells_sketch e (next.extent.nodes + 1) next.extent.branches (then_draw node p) (omega arith) (omega arith) h
-
-  -- the end of all copies
-  pub ends_drawn : (t : Sketch) → t.straight.list.items ≡ [] → numbered_end t.last ≡ Draw (Plain Ends) Over →
-      sketch_in sorts trees t ≡ tree.ends
-  ends_drawn t none is = ap (sketch_over sorts trees) (bare t (Draw (Plain Ends) Over) none is)
-
   pub ends_ready : (t : Sketch) → t.straight.list.items ≡ [] → numbered_end t.last ≡ Draw (Plain Ends) Over → t.extent.nodes ≡ 1 →
       t.extent.branches ≡ 0 → IsSketchReady sorts trees t
   ends_ready t none is nodes branches =
@@ -101,51 +85,6 @@ module _ (sorts : Sorts) (trees : List Tree) where
   -- a branching node before two sketches
   abbrev two : NumberedSite → Sketch → Sketch → NumberedSketch
   two site p q = Draw site (More (numbered_sketch p) (More (numbered_sketch q) Over))
-
-  abbrev two_over : tree.SketchNode → Sketch → Sketch → tree.Sketch
-  two_over node p q = tree.Draw node (tree.More (sketch_in sorts trees p) (tree.More (sketch_in sorts trees q) tree.Over))
-
-  two_size : (node : tree.SketchNode) (p q : Sketch) →
-      sketch_size (two_over node p q) ≡ sketch_size (sketch_in sorts trees p) + sketch_size (sketch_in sorts trees q) + 1
-  two_size node p q = omega arith
-
-  two_depth : (node : tree.SketchNode) (p q : Sketch) → is_branching_node node ≡ true →
-      sketch_depth (two_over node p q) ≡ max (sketch_depth (sketch_in sorts trees p)) (sketch_depth (sketch_in sorts trees q)) + 1
-  two_depth node p q h =
-      let a = sketch_depth (sketch_in sorts trees p) in
-      let b = sketch_depth (sketch_in sorts trees q) in
-      let e : suc (max a (max b 0)) ≡ max a b + 1 = omega arith in
-      ap (λ (x : Bool). if x then suc (max a (max b 0)) else max a (max b 0)) h ∙ e
-
-  pub two_drawn : (t p q : Sketch) (site : NumberedSite) (node : tree.SketchNode) → t.straight.list.items ≡ [] →
-      numbered_end t.last ≡ two site p q → site_over sorts trees site ≡ node → sketch_in sorts trees t ≡ two_over node p q
-  two_drawn t p q site node none is same =
-      ap (sketch_over sorts trees) (bare t (two site p q) none is) ∙ ap (λ (n : tree.SketchNode). two_over n p q) same
-
-  pub two_ready : (t p q : Sketch) (site : NumberedSite) (node : tree.SketchNode) → t.straight.list.items ≡ [] →
-      numbered_end t.last ≡ two site p q → site_over sorts trees site ≡ node → is_branching_node node ≡ true →
-      IsSiteReady sorts trees site → t.extent.nodes ≡ p.extent.nodes + q.extent.nodes + 1 →
-      t.extent.branches ≡ max p.extent.branches q.extent.branches + 1 → IsSketchReady sorts trees p → IsSketchReady sorts trees q →
-      IsSketchReady sorts trees t
-  two_ready t p q site node none is same branching ready nodes branches first second =
-      ready_as t (two site p q) (bare t (two site p q) none is)
-      (nodes ∙ (λ i. first.nodes i + second.nodes i + 1) ∙ sym (two_size node p q)
-      ∙ ap (λ (n : tree.SketchNode). sketch_size (two_over n p q)) (sym same))
-      (branches ∙ (λ i. max (first.branches i) (second.branches i) + 1) ∙ sym (two_depth node p q branching)
-      ∙ ap (λ (n : tree.SketchNode). sketch_depth (two_over n p q)) (sym same))
-      (ready, (first.formulas, (second.formulas, tt)))
-
-  pub two_err : (e : ProductError) (p q : Sketch) (node : tree.SketchNode) (n b : ℕ) → is_branching_node node ≡ true →
-      n ≤ p.extent.nodes + q.extent.nodes + 1 → b ≤ max p.extent.branches q.extent.branches + 1 → IsSketchReady sorts trees p →
-      IsSketchReady sorts trees q → TellsExtent e n b → TellsSketch e (two_over node p q)
-  two_err e p q node n b branching few flat first second h =
-      let size = two_size node p q in
-      let depth = two_depth node p q branching in
-      let nodes : p.extent.nodes + q.extent.nodes + 1 ≡ sketch_size (two_over node p q) =
-      (λ i. first.nodes i + second.nodes i + 1) ∙ sym size in
-      let branches : max p.extent.branches q.extent.branches + 1 ≡ sketch_depth (two_over node p q) =
-      (λ i. max (first.branches i) (second.branches i) + 1) ∙ sym depth in
-      tells_sketch e n b (two_over node p q) (subst (λ (m : ℕ). n ≤ m) nodes few) (subst (λ (m : ℕ). b ≤ m) branches flat) h
 
   -- turns before what follows
   turns_over : (ss : List Sketch) (q : NumberedSketch) (turn : Copies → tree.Sketch) (vs : List Copies) →
@@ -249,8 +188,3 @@ pub each_ok : (sorts : Sorts) (trees : List Tree) (set : Copies) (node : Copy �
     IfOk done (λ (t : Sketch). sketch_in sorts trees t ≡ each_of node (members set) p)
 each_ok sorts trees set node p q r s four three two (Ok t) one = each_drawn set node p q r s (sketch_in sorts trees t) four three two one
 each_ok sorts trees set node p q r s four three two (Err e) one = tt
-
--- a statement by itself or by its summary doesn't branch
-pub way_flat : (w : Way) (c : Copy) → is_branching (node_by w c) ≡ false
-way_flat way.Statement c = refl
-way_flat way.Summary c = refl

@@ -30,7 +30,6 @@ use Rattle.sm_cert.specs.declared.tree.CertTree.{CertTree}
 use Rattle.sm_cert.specs.Certificates.{Certificate, Next, Closed, Split, lines_in, in_one_way, in_no_way, in_two_ways, first_bad}
 use Rattle.sm_cert.specs.MovedTrees.{NamesWhatItReads}
 use Rattle.sm_cert.specs.Views.{certificate_in}
-use Rattle.sm_certify.specs.Refutes.{Refutes}
 use Rattle.sm_solve.specs.Walking.{ClosesIn}
 
 -- the second has what the first has, or the first says nothing
@@ -299,18 +298,6 @@ same_number m n = of (nat_eq m n) refl
     of : (b : Bool) → nat_eq m n ≡ b → (m ≡ n) ⊎ (m ≢ n)
     of true e = inl (eqb-true m n e)
     of false e = inr (λ (h : m ≡ n). let wrong : true ≡ false = sym (eq-eqb m n h) ∙ e in cc)
-
--- a certificate closes each other branch on which another fact stands in the place of one that says nothing
-pub closes_replaced : (sorts : Sorts) (facts others : List BranchFact) (place : ℕ) → length others ≡ length facts →
-    slice_get facts place ≡ Some (Formal Yes) →
-    ((k : ℕ) (f : BranchFact) → (k ≢ place) → slice_get facts k ≡ Some f → slice_get others k ≡ Some f) →
-    (c : Certificate) → NamesWhatItReads c → Refutes sorts facts c → Refutes sorts others c
-closes_replaced sorts facts others place many nothing stand c named closes n =
-    first_there sorts facts others n c named (record { many = many; stand = λ (k : ℕ). of k (same_number k place) }) (closes n)
-  where
-    of : (k : ℕ) → (k ≡ place) ⊎ (k ≢ place) → MayGive (slice_get facts k) (slice_get others k)
-    of k (inl e) = inl (ap (λ (i : ℕ). slice_get facts i) e ∙ nothing)
-    of k (inr e) = inr (λ (f : BranchFact). stand k f e)
 
 -- a fact in the place of the last, which says nothing
 last_replaced : (given : List Assertion) (f : Assertion) → Replaces (as_facts (given ++ Yes ∷ [])) (as_facts (given ++ f ∷ []))

@@ -24,9 +24,9 @@ use Rattle.sm_judge.specs.Holding.{Seen, Split, is_closed, split_of}
 use Rattle.sm_certify.specs.Given.{seen_by}
 use Rattle.sm_solve.specs.Leading.{both_lines, led_by}
 use Rattle.sm_list.specs.Parts.{all_numbered, assertions_in}
-use Rattle.sm_judge.specs.Forms.{Walked, Closes, Opens, TooFar, counted, by_forms, forms_of}
+use Rattle.sm_judge.specs.Forms.{Walked, Closes, TooFar, counted, by_forms, forms_of}
 use Rattle.sm_solve.specs.declared.reach.Reach.{Reach}
-use Rattle.sm_solve.specs.Walk.{by_classes, by_decision, by_no_split, by_parts}
+use Rattle.sm_solve.specs.Walk.{by_classes, by_no_split, by_parts}
 use Rattle.sm_solve.specs.Walk.{walk_from}
 use Rattle.sm_judge.specs.Splits.{split_told}
 use Rattle.sm_solve.specs.Walking.{ClosesIn, by_split}
@@ -147,19 +147,6 @@ module _ (go : ℕ → List Assertion → Walked) (reach : Reach) (all : List As
     (o : Option BranchSplit) (seen : s ≡ seen_by sorts trees all) (is : o ≡ None) (told : split_told sorts trees o ≡ split_of s) where
   abbrev here : Seen
   here = seen_by sorts trees all
-
-  -- then the branch stays open where its forms aren't decided
-  pub open_alone : reach.exact ≡ false → by_parts go (by_no_split reach here) all (split_of here) count ≡ Opens all
-  open_alone h =
-      no_split go (by_no_split reach here) all count sorts trees s here o seen is told
-      ∙ ap (λ (v : Bool). if v then by_decision reach.steps count all (forms_of here) else Opens all) h
-
-  -- or else is what their decision comes to
-  pub decided_alone : reach.exact ≡ true →
-      by_parts go (by_no_split reach here) all (split_of here) count ≡ by_decision reach.steps count all (forms_of here)
-  decided_alone h =
-      no_split go (by_no_split reach here) all count sorts trees s here o seen is told
-      ∙ ap (λ (v : Bool). if v then by_decision reach.steps count all (forms_of here) else Opens all) h
 
 -- as many formulas
 pub as_many : (sorts : Sorts) (trees : List Tree) (fs : List Formula) → length (assertions_in sorts trees (all_numbered fs)) ≡ length fs

@@ -1,6 +1,6 @@
 -- The first literals, taken one by one, and the literals of statements one after the other.
 use Rattle.std.proofs.Common.{◌≡◌, ℕ, zero, suc, ℤ, pos, int_lt, nat_lt, ◌+◌, ◌<◌, ◌≤◌, Bool, true, false}
-use Rattle.std.proofs.Common.{cond, not, ◌&&◌, ◌||◌, if◌then◌else◌, List, [], ◌∷◌, ◌++◌}
+use Rattle.std.proofs.Common.{cond, not, ◌&&◌, if◌then◌else◌, List, [], ◌∷◌, ◌++◌}
 use Rattle.std.proofs.Common.{length, take, map, drop, get_or, refl, sym, ap, ◌∙◌, arith}
 use Rattle.std.specs.Prelude.{fold}
 use Rattle.std.specs.List.{filter, list_any, flat_map}
@@ -108,10 +108,6 @@ turned y z = by (int_eq y z) (int_eq z y) refl refl
     by false true e f =
         absurd (let one : int_eq y z ≡ true = (Decides-int_eq y z).1 (sym ((Decides-int_eq z y).0 f)) in
         let other : true ≡ false = sym one ∙ e in cc)
-
-pub any_turned : (z : ℤ) (seen : List ℤ) → list_any (λ (y : ℤ). int_eq y z) seen ≡ list_any (int_eq z) seen
-any_turned z [] = refl
-any_turned z (y ∷ seen) = (λ k. turned y z k || any_turned z seen k)
 
 -- a literal above 0 is taken of some
 abbrev taken_of : ℤ → List ℤ → List ℤ

@@ -4,7 +4,6 @@ use Rattle.std.specs.List.{list_any}
 use Rattle.indexmap.specs.IndexSet.{insert_key}
 use Rattle.std.proofs.lemmas.List.{append-nil, append_assoc, map-append, take_more, drop_more, length-take, length-append, get_or-take, get_or_append_left, get_or-append-add}
 use Rattle.std.proofs.Math.Seq.{take-append_seam}
-use Rattle.std.specs.List.{take-map}
 use Rattle.std.proofs.lemmas.Bool.{ltb-true, ltb-false}
 use Rattle.std.proofs.lemmas.Option.{slice_get-get_or, get_or_from_slice_get, slice_get_within}
 use Rattle.sm_syntax.specs.declared.tree.Block.{Block}
@@ -22,9 +21,9 @@ use Rattle.sm_term.specs.Terms as tree
 use Rattle.sm_term.specs.Bodies.{block_of, same_body}
 use Rattle.sm_term.specs.Rows.{parts_in_list}
 use Rattle.sm_term.specs.RowLaws.{contents_of}
-use Rattle.sm_term.specs.Tables.{TableValue, trees_in, sorts_in, codes_in, tree_at, code_at, tree_in, trees_behind, IsTermWithin}
+use Rattle.sm_term.specs.Tables.{TableValue, trees_in, codes_in, tree_at, code_at, tree_in, trees_behind, IsTermWithin}
 use Rattle.sm_term.specs.Fitting.{term_fits}
-use Rattle.sm_term.specs.TableLaws.{AreTermsSound, IsTable, with_tree, with_code, with_trees, with_codes, Widens}
+use Rattle.sm_term.specs.TableLaws.{AreTermsSound, with_tree, with_code, with_trees, with_codes, Widens}
 use Rattle.sm_term.specs.Tails.{trees_numbered}
 use Rattle.sm_term.specs.Moves.{moved_part, moved_body, bodies_in_list, moved_contents, codes_numbered, KeepsRows}
 use Rattle.sm_term.proofs.TreesLemmas.{length-trees}
@@ -78,13 +77,6 @@ first_of : {T : Type 0} (xs ys more : List T) (n : ℕ) → n ≡ length xs → 
 first_of xs ys more n long e = ap (take n) e ∙ ap (λ m. take m (xs ++ more)) long ∙ take-append_seam xs more
 
 module _ (v w : TableValue) (kept : KeepsRows v w) (b t : ℕ) (bodies : b ≡ length v.bodies) (terms : t ≡ length v.terms) where
-  -- what a table kept is a table
-  pub kept_table : IsTable (sorts_in v) (codes_in v) v.terms → IsTable (sorts_in w) (take b (codes_in w)) (take t w.terms)
-  kept_table table =
-      let codes = take-map code_of b w.bodies ∙ ap (map code_of) (first_of v.bodies w.bodies kept.bodies.0 b bodies kept.bodies.1) in
-      let rows = first_of v.terms w.terms kept.terms.0 t terms kept.terms.1 in
-      subst (λ s. IsTable s (take b (codes_in w)) (take t w.terms)) (sym (ap sort_of kept.declared))
-      (subst (λ cs. IsTable (sorts_in v) cs (take t w.terms)) (sym codes) (subst (IsTable (sorts_in v) (codes_in v)) (sym rows) table))
 
   -- and is what it was
   pub kept_is : (r : TableValue) → r.declared ≡ w.declared → r.bodies ≡ take b w.bodies → r.terms ≡ take t w.terms → r ≡ v

@@ -1,6 +1,6 @@
 -- Terms with one head: they have one sort and as many arguments, and differ in these alone.
-use Rattle.std.proofs.Common.{◌≡◌, ℕ, ◌==◌, ◌&&◌, IsTrue, List, [], ◌∷◌, length, refl, ap}
-use Rattle.std.proofs.lemmas.Bool.{eqb-true, eq-eqb, and_parts, and_from}
+use Rattle.std.proofs.Common.{◌≡◌, ℕ, ◌==◌, ◌&&◌, IsTrue, List, [], ◌∷◌, refl, ap}
+use Rattle.std.proofs.lemmas.Bool.{eqb-true, and_parts}
 use Rattle.sm_syntax.specs.text.Sorts.{Sorts}
 use Rattle.sm_syntax.specs.claim.Syntax.{Code}
 use Rattle.sm_term.specs.Terms.{Tree, Read, Write, Neg, Add, Sub, Mul, Fun, Arguments, Over, Given}
@@ -27,23 +27,6 @@ same_head_has_sort sorts (Sub r s) (Sub t u) h = refl
 same_head_has_sort sorts (Mul r s) (Mul t u) h = refl
 same_head_has_sort sorts (Fun c x ts) (Fun d y us) h = ap (sort_named sorts) (same_head_of_summaries c d x y ts us h).1
 same_head_has_sort sorts t u h = absurd cc
-
--- arguments of the same names are as many
-names_are_as_many : (ts us : Arguments) → IsTrue (same_names ts us) → length (terms_given ts) ≡ length (terms_given us)
-names_are_as_many Over Over h = refl
-names_are_as_many (Given x t ts) (Given y u us) h = rw (names_are_as_many ts us (and_parts (x == y) (same_names ts us) h).1) refl
-names_are_as_many ts us h = absurd cc
-
--- terms with one head have as many arguments
-pub same_head_has_length : (t u : Tree) → IsTrue (same_head t u) → length (arguments_of t) ≡ length (arguments_of u)
-same_head_has_length (Read a i) (Read b j) h = refl
-same_head_has_length (Write a i d) (Write b j e) h = refl
-same_head_has_length (Neg t) (Neg u) h = refl
-same_head_has_length (Add r s) (Add t u) h = refl
-same_head_has_length (Sub r s) (Sub t u) h = refl
-same_head_has_length (Mul r s) (Mul t u) h = refl
-same_head_has_length (Fun c x ts) (Fun d y us) h = names_are_as_many ts us (same_head_of_summaries c d x y ts us h).2
-same_head_has_length t u h = absurd cc
 
 -- the first of a list and what follows it, from equal lists
 first_is : (t u : Tree) (ts us : List Tree) → t ∷ ts ≡ u ∷ us → (t ≡ u) × (ts ≡ us)
@@ -72,21 +55,3 @@ same_head_decides (Mul r s) (Mul t u) h same = let p = first_is r t (s ∷ []) (
 same_head_decides (Fun c x ts) (Fun d y us) h same =
     let p = same_head_of_summaries c d x y ts us h in rw (p.0, p.1, names_and_terms ts us p.2 same) refl
 same_head_decides t u h same = absurd cc
-
--- arguments are of their own names
-names_themselves : (ts : Arguments) → IsTrue (same_names ts ts)
-names_themselves Over = refl
-names_themselves (Given x t rest) = and_from (x == x) (same_names rest rest) (eq-eqb x x refl) (names_themselves rest)
-
--- a term with arguments has the head of itself
-pub same_head_itself : (t u : Tree) (us : List Tree) → arguments_of t ≡ u ∷ us → IsTrue (same_head t t)
-same_head_itself (Read a i) u us some = refl
-same_head_itself (Write a i e) u us some = refl
-same_head_itself (Neg t) u us some = refl
-same_head_itself (Add r s) u us some = refl
-same_head_itself (Sub r s) u us some = refl
-same_head_itself (Mul r s) u us some = refl
-same_head_itself (Fun c x ts) u us some =
-    and_from (same_code c c) ((x == x) && same_names ts ts) ((same_code_is c c).1 refl)
-    (and_from (x == x) (same_names ts ts) (eq-eqb x x refl) (names_themselves ts))
-same_head_itself t u us some = absurd cc

@@ -5,7 +5,6 @@ use Rattle.std.proofs.Common.{filter, refl, sym, ap, subst, ◌∙◌, arith}
 use Rattle.sm_syntax.specs.declared.tree.Sort.TheVariants.{Num}
 use Rattle.sm_syntax.specs.text.Sorts.{Sorts}
 use Rattle.sm_num.specs.Range.{fits_form}
-use Rattle.sm_num.specs.declared.kind.Kind.{Kind}
 use Rattle.sm_num.specs.declared.kind.Kind.TheVariants as kind
 use Rattle.sm_num.specs.Forms.{Linear, sum_of_parts}
 use Rattle.sm_num.specs.Combining.{Outcome, Fits, Leaves, combined_number, formed, scaled, combination}
@@ -208,27 +207,6 @@ module _ (m : Structure) where
   -- the form of a term has the value that the term means
   pub linear_value : (t : Tree) → value_of_form (number_meant m) (linear_of t) ≡ number_meant m t
   linear_value t = (linear_has HasValueOf value_steps t).1
-
--- each form of a term says that it is 0
-pub linear_kind : (t : Tree) → (linear_of t).kind ≡ kind.Eq
-linear_kind t = linear_has (λ t f. f.kind ≡ kind.Eq) steps t
-  where
-    formed_kind : (parts : Outcome (List (Tree × ℤ))) (constant : Outcome ℤ) (k : Kind) →
-        Gives (λ (h : Linear Tree). h.kind ≡ k) (formed parts constant k)
-    formed_kind (Fits ps) (Fits c) k = refl
-    formed_kind (Fits ps) (Leaves operation y z) k = tt
-    formed_kind (Leaves operation y z) constant k = tt
-
-    steps : Steps (λ t f. f.kind ≡ kind.Eq)
-    steps = record {
-      literal = λ z fits. refl;
-      atom = λ t. refl;
-      contrary = λ t f same. formed_kind _ _ kind.Eq;
-      sum = λ t u f g left right. formed_kind _ _ kind.Eq;
-      difference = λ t u f g left right. formed_kind _ _ kind.Eq;
-      first = λ t u f g left right none. formed_kind _ _ kind.Eq;
-      second = λ t u f g left right none. formed_kind _ _ kind.Eq;
-    }
 
 -- atoms of the form of a term, where what is so of an operation is so of its parts
 pub record IsInherited (P : Tree → Type 0) : Type 0 where

@@ -1,9 +1,9 @@
 -- Lines one after another, the facts after them, and new numbers.
-use Rattle.std.proofs.Common.{◌≡◌, ◌<◌, ◌≤◌, ◌+◌, ◌-◌, ℕ, zero, suc, max, List, [], ◌∷◌, ◌++◌, map, length, get_or, take, drop, refl, ap}
+use Rattle.std.proofs.Common.{◌≡◌, ◌<◌, ◌≤◌, ◌+◌, ◌-◌, ℕ, zero, suc, List, [], ◌∷◌, ◌++◌, length, get_or, take, drop, refl, ap}
 use Rattle.std.proofs.Common.{sym}
 use Rattle.std.proofs.Common.{◌∙◌, arith, append_assoc}
 use Rattle.std.specs.List.{range_with_len}
-use Rattle.std.proofs.lemmas.List.{length-take, take-append-le, append-nil}
+use Rattle.std.proofs.lemmas.List.{length-take, take-append-le}
 use Rattle.sm_term.specs.Terms.{Tree}
 use Rattle.sm_theory.specs.declared.line.CertLine.{CertLine}
 use Rattle.sm_theory.specs.Lines.{CertificateLine}
@@ -32,17 +32,6 @@ pushed old now from n less e =
     (ap (λ (m : ℕ). range_with_len from (n - from) ++ (m ∷ [])) (sym here) ∙ sym (range_more from (n - from))
     ∙ ap (range_with_len from) (sym more))
 
--- no number yet
-pub none_pushed : (old : List ℕ) (from : ℕ) → old ≡ old ++ range_with_len from (from - from)
-none_pushed old from =
-    sym (append-nil old) ∙ ap (λ (k : ℕ). old ++ range_with_len from k) (let none : 0 ≡ from - from = omega arith in none)
-
--- all numbers
-pub all_pushed : (old now : List ℕ) (from end n : ℕ) → from ≤ n → n ≤ max from end → end ≤ n → now ≡ old ++ range_with_len from (n - from) →
-    now ≡ old ++ range_with_len from (end - from)
-all_pushed old now from end n a b d e =
-    e ∙ ap (λ (k : ℕ). old ++ range_with_len from k) (let same : n - from ≡ end - from = omega arith in same)
-
 -- the elements from one on are the element and those after it
 pub here_on : {X : Type 0} (xs : List X) (i : ℕ) (x : X) → i < length xs → x ≡ get_or xs i x → drop i xs ≡ x ∷ drop (i + 1) xs
 here_on [] i x less e = absurd (let none = less in omega arith)
@@ -61,30 +50,11 @@ up_to (y ∷ xs) (suc i) x less e =
     ap (λ (k : ℕ). take k (y ∷ xs)) (let one : suc i + 1 ≡ suc (i + 1) = omega arith in one)
     ∙ ap (λ (zs : _). y ∷ zs) (up_to xs i x (let there : i < length xs = omega arith in there) e)
 
--- a step over a line
-pub past_more : (trees : List Tree) (at past next : ℕ) (ls : List CertLine) (i : ℕ) (l : CertLine) → i < length ls → l ≡ get_or ls i l →
-    facts_past trees at ls ≡ facts_past trees past (drop i ls) → next ≡ past + facts_added (line_in trees l) →
-    facts_past trees at ls ≡ facts_past trees next (drop (i + 1) ls)
-past_more trees at past next ls i l less is e count =
-    e ∙ ap (facts_past trees past) (here_on ls i l less is)
-    ∙ ap (λ (n : ℕ). facts_past trees n (drop (i + 1) ls)) (sym count)
-
 -- the facts after lines and one more
 pub past_pushed : (trees : List Tree) (at : ℕ) (ls : List CertLine) (l : CertLine) →
     facts_past trees at (ls ++ (l ∷ [])) ≡ facts_past trees at ls + facts_added (line_in trees l)
 past_pushed trees at [] l = refl
 past_pushed trees at (k ∷ ls) l = past_pushed trees (at + facts_added (line_in trees k)) ls l
-
--- one number more of a list
-pub map_pushed : (f : ℕ → ℕ) (ns ms : List ℕ) (i n m : ℕ) → i < length ns → n ≡ get_or ns i n → m ≡ f n → ms ≡ map f (take i ns) →
-    ms ++ (m ∷ []) ≡ map f (take (i + 1) ns)
-map_pushed f ns ms i n m less is here e =
-    ap (λ (ks : List ℕ). ks ++ (m ∷ [])) e ∙ ap (λ (k : ℕ). map f (take i ns) ++ (k ∷ [])) here
-    ∙ sym (map_more (take i ns) n) ∙ ap (map f) (sym (up_to ns i n less is))
-  where
-    map_more : (ks : List ℕ) (k : ℕ) → map f (ks ++ (k ∷ [])) ≡ map f ks ++ (f k ∷ [])
-    map_more [] k = refl
-    map_more (j ∷ ks) k = ap (λ (rest : List ℕ). f j ∷ rest) (map_more ks k)
 
 -- a line moved by no numbers
 pub copied : (line : CertificateLine) → moved_line (new_number []) line ≡ line
@@ -103,8 +73,3 @@ pub begins_on : (old now : List ℕ) (at to k : ℕ) → take (length old) now �
 begins_on old now at to k e =
     begins_more old (now ++ range_with_len (length now) (at - length now)) (range_with_len to k)
     (begins_more old now (range_with_len (length now) (at - length now)) e)
-
--- and then the list alone
-pub begins_all : (old : List ℕ) → take (length old) old ≡ old
-begins_all [] = refl
-begins_all (n ∷ ns) = ap (λ (ms : List ℕ). n ∷ ms) (begins_all ns)

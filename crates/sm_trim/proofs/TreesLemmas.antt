@@ -91,16 +91,6 @@ leaf_leaves trees at r l line m items last before same none more = record {
     or_false true = refl
     or_false false = refl
 
--- a line is left out, or is put before what is left
-pub line_out : (trees : List Tree) (at : ℕ) (line : CertificateLine) (p : Pruned) (r : Needing) →
-    false ≡ some_pass (facts_added line) at (needs p) →
-    Leaves trees at p r → Leaves trees at (with_line at line p) r
-line_out trees at line p r e left = of (some_pass (facts_added line) at (needs p)) e
-  where
-    of : (b : Bool) → false ≡ b → Leaves trees at (if b then LeftNext at line p else p) r
-    of false h = left
-    of true h = absurd cc
-
 pub line_in_place : (trees : List Tree) (at : ℕ) (line : CertificateLine) (p : Pruned) (t : LeftTree) (l : LeftLine) (m : Marks)
     (r : Needing) →
     true ≡ some_pass (facts_added line) at (needs p) → pruned_in trees t ≡ p → AreMarks at (needs p) m →

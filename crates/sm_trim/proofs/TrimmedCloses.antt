@@ -51,13 +51,6 @@ pub record Serves (needed : ℕ → Bool) (move : ℕ → ℕ) (facts others : L
   pub stand : (n : ℕ) → needed n ≡ true → StandsMoved move facts others n
   pub same : ((n : ℕ) → n < length facts → needed n ≡ true) → facts ≡ others
 
--- what needs less is served too
-less_needed : (needed later : ℕ → Bool) (move : ℕ → ℕ) (facts others : List BranchFact) →
-    ((n : ℕ) → later n ≡ true → needed n ≡ true) → Serves needed move facts others → Serves later move facts others
-less_needed needed later move facts others less serves = record {
-  stand = λ (n : ℕ) (h : later n ≡ true). serves.stand n (less n h);
-  same = λ (all : (n : ℕ) → n < length facts → later n ≡ true).
-      serves.same (λ (n : ℕ) (within : n < length facts). less n (all n within));
 }
 
 -- a line that names facts that are needed alone reads the same on the other branch

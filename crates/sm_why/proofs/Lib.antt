@@ -1,4 +1,3 @@
 pub mod FinalGoals
 pub mod TrialsCounted
 pub mod HolesFound
-pub mod LinesMade

@@ -4,42 +4,15 @@ use Rattle.sm_syntax.specs.declared.tree.Sort.TheVariants.{Num, Arr}
 use Rattle.sm_syntax.specs.text.Sorts.{Sorts}
 use Rattle.sm_term.specs.Terms.{Tree, Read, Write}
 use Rattle.sm_term.specs.Assertions.{Assertion, Yes, No, Eq, Ne, Le, Lt, And, Or, negate}
-use Rattle.sm_term.specs.Heads.{arguments_of}
 use Rattle.sm_term.specs.Sorted.{tree_sort}
 use Rattle.sm_plan.specs.States.{State}
 use Rattle.sm_write.specs.BranchTerms.{IsTermOf, StatesAreNameable, BranchesAreNameable}
-use Rattle.sm_write.specs.Nameable.{EachOf, EachSide, AllSides, EachInState, EachInStates, PassesTest, IsClosed, Nameable}
+use Rattle.sm_write.specs.Nameable.{EachSide, AllSides, EachInState, EachInStates, PassesTest, IsClosed, Nameable}
 use Rattle.sm_write.proofs.BuiltTerms.{sides_append, negate_sides, sides_more}
 use Rattle.sm_write.proofs.ReadyPlans.{term_more}
 
 module _ (sorts : Sorts) (states : List State) where
-  -- what is so for each test is so of what can be named
-  each_nameable : (ts : List Tree) → ((test : Tree → Bool) → IsClosed sorts states test → EachOf (PassesTest test) ts) →
-      EachOf (Nameable sorts states) ts
-  each_nameable [] all = tt
-  each_nameable (t ∷ ts) all = (
-    λ (test : Tree → Bool) (closed : IsClosed sorts states test). (all test closed).0,
-    each_nameable ts (λ (test : Tree → Bool) (closed : IsClosed sorts states test). (all test closed).1),
   )
-
-  -- the arguments of a term that can be named
-  pub nameable_arguments : (t : Tree) → Nameable sorts states t → EachOf (Nameable sorts states) (arguments_of t)
-  nameable_arguments t named =
-      each_nameable (arguments_of t)
-      (λ (test : Tree → Bool) (closed : IsClosed sorts states test). closed.arguments t (named test closed))
-
-  -- an element of an array, both of which can be named
-  pub nameable_read : (a j : Tree) → Nameable sorts states a → tree_sort sorts a ≡ Arr → Nameable sorts states j →
-      tree_sort sorts j ≡ Num → Nameable sorts states (Read a j)
-  nameable_read a j first s second r test closed = closed.reads a j (first test closed) s (second test closed) r
-
-  -- what is read of a written array, before the write
-  pub nameable_before : (a i e j : Tree) → Nameable sorts states (Read (Write a i e) j) → tree_sort sorts a ≡ Arr →
-      tree_sort sorts j ≡ Num → Nameable sorts states (Read a j)
-  nameable_before a i e j named s r test closed =
-      let outer = closed.arguments (Read (Write a i e) j) (named test closed) in
-      let inner = closed.arguments (Write a i e) outer.0 in
-      closed.reads a j inner.0 s outer.1.0 r
 
   -- formulas that compare what passes each test
   side_nameable : (f : Assertion) → ((test : Tree → Bool) → IsClosed sorts states test → EachSide (PassesTest test) f) →

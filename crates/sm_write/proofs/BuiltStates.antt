@@ -391,10 +391,6 @@ node_well K solid k st (Unfit rule) q w kept e = absurd cc
 abbrev pub Nothing : Tree → Type 0
 Nothing t = ⊥
 
--- it is solid
-pub nothing_solid : IsSolid Nothing
-nothing_solid = record { plain = λ (t : Tree) (a : IsAtom t) (n : Nothing t). absurd n; parts = λ (t : Tree) (a : IsAtom t) (n : Nothing t). absurd n }
-
 -- the goals of an output
 place_built : (output : ℕ × Sort) (c : Copy) → IsBuilt Nothing (place output c)
 place_built (x, Num) c = tt

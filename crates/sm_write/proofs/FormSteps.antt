@@ -61,13 +61,6 @@ pub both_numbers : (sorts : Sorts) (t u : Tree) → tree_sort sorts t ≡ Num �
 both_numbers sorts t u e f =
     ap (λ (s : Sort). same_sort s Num && same_sort (tree_sort sorts u) Num) e ∙ ap (λ (s : Sort). same_sort s Num) f
 
--- what a line that was added leads to
-abbrev pub AddsForm : WriterValue → WriterValue → FormLine → Type 0
-AddsForm old new l =
-    (s : Subject) (trees : List Tree) (p : Progress) (due : Pending) (rest : List Pending) (f : Assertion) → Stands s trees old p →
-    p.pending ≡ due ∷ rest → IsFormLineWithin l → form_made s.sorts p.terms p.forms l ≡ Ok f →
-    Stands s trees new (record p { forms = p.forms ++ f ∷ [] })
-
 -- a formula more
 pub form_extends : (s : Subject) (trees : List Tree) (old new : WriterValue) (p : Progress) (f : Assertion) →
     Stands s trees new (record p { forms = p.forms ++ f ∷ [] }) → new.names ≡ old.names → Extends s trees old new p

@@ -12,14 +12,9 @@ use Rattle.sm_write.specs.Stepped.{Stepped, Opens, ClosesBranch}
 use Rattle.sm_write.specs.Writable.{denied}
 use Rattle.sm_write.specs.Writers.{WriterValue}
 use Rattle.sm_write.proofs.CertSteps.{closes_good}
-use Rattle.sm_write.proofs.SteppedLemmas.{stepped_none, stepped_twice}
+use Rattle.sm_write.proofs.SteppedLemmas.{stepped_twice}
 use Rattle.sm_write.proofs.WalkedLemmas.{seen_kept}
 
--- all goals are left
-pub goals_none : (v : TableValue) (w : WriterValue) (count : ℕ) (cs : List Certificate) → LeavesGoals v w w count cs 0 cs
-goals_none v w count cs s seen p st goals rest later at due len closed = record {
-  stepped = stepped_none s (trees_in v) w p (map (goal_branch st) goals ++ rest) at.stands due;
-  closed = closed;
 }
 
 -- one fewer

@@ -29,21 +29,6 @@ use Rattle.sm_write.specs.Written.{Names}
 use Rattle.sm_write.proofs.WriterSteps.{adds_none}
 use Rattle.sm_write.proofs.WalkedLemmas.{AddsTerm, kept_gains, extends_none, extends_twice, set_later, gained}
 
--- the test tells atoms
-pub atom_test : (t : Tree) → IsAtom t → is_atom t ≡ true
-atom_test (Lit z) a = absurd a
-atom_test (Start x) a = absurd a
-atom_test (Havoc k c x) a = refl
-atom_test (Slot c x) a = absurd a
-atom_test Cell a = absurd a
-atom_test (Read t i) a = absurd a
-atom_test (Write t i e) a = absurd a
-atom_test (Neg t) a = absurd a
-atom_test (Add t u) a = absurd a
-atom_test (Sub t u) a = absurd a
-atom_test (Mul t u) a = absurd a
-atom_test (Fun c x args) a = refl
-
 pub tested_atom : (t : Tree) → is_atom t ≡ true → IsAtom t
 tested_atom (Lit z) e = absurd cc
 tested_atom (Start x) e = absurd cc
@@ -74,12 +59,6 @@ one_there v w c x t n e s seen p store set shows sorted here = record {
   named = λ (a : IsAtom (tree_at (trees_in v) t.0)). (n, e);
 }
 
--- one that needs none
-pub one_plain : (v : TableValue) (w : WriterValue) (c : Copy) (x : ℕ) (t : TermId) → is_atom (tree_at (trees_in v) t.0) ≡ false →
-    NamesOne v w w c x t
-one_plain v w c x t e s seen p store set shows sorted here = record {
-  extends = extends_none s (trees_in v) w p set.stands;
-  named = λ (a : IsAtom (tree_at (trees_in v) t.0)). let f = atom_test (tree_at (trees_in v) t.0) a in absurd cc;
 }
 
 -- one that is named as it is present
@@ -125,11 +104,6 @@ lt_is m n e = grind (arith, nat_tests)
 past_is : (m n : ℕ) → nat_lt m n ≡ false → n ≤ m
 past_is m n e = grind (arith, nat_tests)
 
--- no name yet
-pub held_none : (v : TableValue) (w : WriterValue) (c : Copy) (terms : List TermId) → NamesHeld v w w c terms 0
-held_none v w c terms s seen p set shows sorted = record {
-  extends = extends_none s (trees_in v) w p set.stands;
-  named = λ (x : ℕ) (h : x < 0) (a : IsAtom (terms_store (trees_in v) terms x)). absurd (omega (arith, h));
 }
 
 -- one name more

@@ -1,28 +1,23 @@
 -- The line of a term makes it, and a part without a number stands before it.
-use Rattle.std.proofs.Common.{◌≡◌, ◌⊎◌, inl, inr, ℕ, ℤ, ◌<◌, ◌^◌, Bool, true, ◌&&◌, if◌then◌else◌, is_some, Option, Some, None}
-use Rattle.std.proofs.Common.{slice_get, length, Result, Ok, Err, List, refl, ap, sym, subst, ◌∙◌, arith}
-use Rattle.sm_syntax.specs.claim.ConflictFree.{copy_of}
+use Rattle.std.proofs.Common.{◌≡◌, ◌⊎◌, inl, inr, ℕ, ◌<◌, ◌^◌, Bool, true, ◌&&◌, if◌then◌else◌, is_some, Option, Some, None}
+use Rattle.std.proofs.Common.{slice_get, length, Result, Ok, Err, List, ap, sym, subst, ◌∙◌, arith}
 use Rattle.sm_syntax.specs.declared.tree.Name.{Name}
 use Rattle.sm_syntax.specs.declared.tree.Sort.TheVariants.{Num, Arr}
 use Rattle.sm_term.specs.declared.term.Term.{Term}
 use Rattle.sm_term.specs.declared.term.Term.TheVariants as row
 use Rattle.sm_term.specs.declared.term.TermId.{TermId}
-use Rattle.sm_term.specs.declared.term.BodyId.{BodyId}
-use Rattle.sm_term.specs.declared.term.Terms.{Terms}
-use Rattle.sm_syntax.specs.declared.program.Outputs.{Outputs}
 use Rattle.sm_term.specs.Fitting.{term_fits, has_sort}
 use Rattle.sm_term.specs.Tables.{TableValue, trees_in, sorts_in, codes_in, tree_at, tree_in, IsTermWithin}
-use Rattle.sm_term.specs.Terms.{Tree, Start, Slot, Read, Write, Neg, Add, Sub, Mul}
+use Rattle.sm_term.specs.Terms.{Tree, Start, Read, Write, Neg, Add}
 use Rattle.sm_plan.specs.States.{State}
 use Rattle.sm_proof.specs.declared.line.TermLine.TheVariants as line
 use Rattle.sm_proof.specs.declared.word.Head.TheVariants as head
 use Rattle.sm_proof.specs.declared.word.Word.{Word}
 use Rattle.sm_proof.specs.declared.word.Word.TheVariants.{BadNumber, First}
-use Rattle.sm_proof.specs.FieldRanges.{IsLiteral}
 use Rattle.sm_proof.specs.Named.{found_or, tested_or}
 use Rattle.sm_proof.specs.Passing.{with_tree}
 use Rattle.sm_write.specs.Naming.{IsLineOf, IsOpenPart}
-use Rattle.sm_write.specs.Seen.{IsBuilt, IsAtom, Seen}
+use Rattle.sm_write.specs.Seen.{IsBuilt, Seen}
 use Rattle.sm_write.specs.Written.{Names, AreNames}
 use Rattle.sm_write.proofs.FactsThere.{get_below}
 
@@ -53,8 +48,6 @@ small trees names terms are t n e =
     omega (arith, below, few)
 
 module _ (v : TableValue) (names : Names) (n : ℕ) where
-  pub lit_line : (z : ℤ) → IsLiteral z → IsRow v n (row.Lit z) → IsLineOf v names n (line.Lit z)
-  lit_line z fits at terms due are other = (fits, ap (λ (t : Tree). Ok t) at.tree)
 
   pub start_line : (x : Name) → x.0 < 2 ^ 64 → IsRow v n (row.Start x) → IsLineOf v names n (line.Start x.0)
   start_line x low at terms due are other = (
@@ -62,20 +55,7 @@ module _ (v : TableValue) (names : Names) (n : ℕ) where
     tested_then (is_some (sorts_in v x.0)) BadNumber (Ok (Start x.0)) at.within ∙ ap (λ (t : Tree). Ok t) at.tree,
   )
 
-  pub slot_line : (c : ℕ) (x : Name) → x.0 < 2 ^ 64 → IsRow v n (row.Slot c x) → IsLineOf v names n (line.Slot c x.0)
-  slot_line c x low at terms due are other = (
-    (omega (arith, at.within.0), low),
-    tested_then (is_some (sorts_in v x.0)) BadNumber (Ok (Slot (copy_of c) x.0)) at.within.1 ∙ ap (λ (t : Tree). Ok t) at.tree,
   )
-
-  pub cell_line : IsRow v n row.Cell → IsLineOf v names n line.Cell
-  cell_line at terms due are other = (tt, ap (λ (t : Tree). Ok t) at.tree)
-
-  pub havoc_line : (k c : ℕ) (x : Name) → IsRow v n (row.Havoc k c x) → IsLineOf v names n line.Cell
-  havoc_line k c x at terms due are other = absurd (other (subst IsAtom at.tree tt))
-
-  pub fun_line : (b : BodyId) (x : Name) (from : Outputs) (args : Terms) → IsRow v n (row.Fun b x from args) → IsLineOf v names n line.Cell
-  fun_line b x from args at terms due are other = absurd (other (subst IsAtom at.tree tt))
 
   pub read_line : (a i b j : TermId) → IsRow v n (row.Read a i) → names a.0 ≡ Some b → names i.0 ≡ Some j →
       IsLineOf v names n (line.Read b.0 j.0)
@@ -125,26 +105,8 @@ module _ (v : TableValue) (names : Names) (n : ℕ) where
         ∙ ap (λ (t : Tree). Ok t) at.tree)),
   )
 
-  pub sub_line : (a i b j : TermId) → IsRow v n (row.Sub a i) → names a.0 ≡ Some b → names i.0 ≡ Some j →
-      IsLineOf v names n (line.Sub b.0 j.0)
-  sub_line a i b j at e f terms due are other = (
-    (small (trees_in v) names terms are a.0 b e, small (trees_in v) names terms are i.0 j f),
-    there_then terms b.0 (tree_at (trees_in v) a.0) _ (are.right a.0 b e).1
-        ∙ (there_then terms j.0 (tree_at (trees_in v) i.0) _ (are.right i.0 j f).1
-        ∙ (tested_then (has_sort (sorts_in v) (trees_in v) a Num && has_sort (sorts_in v) (trees_in v) i Num) (First head.T)
-        (Ok (Sub (tree_at (trees_in v) a.0) (tree_at (trees_in v) i.0))) at.fits
-        ∙ ap (λ (t : Tree). Ok t) at.tree)),
   )
 
-  pub mul_line : (a i b j : TermId) → IsRow v n (row.Mul a i) → names a.0 ≡ Some b → names i.0 ≡ Some j →
-      IsLineOf v names n (line.Mul b.0 j.0)
-  mul_line a i b j at e f terms due are other = (
-    (small (trees_in v) names terms are a.0 b e, small (trees_in v) names terms are i.0 j f),
-    there_then terms b.0 (tree_at (trees_in v) a.0) _ (are.right a.0 b e).1
-        ∙ (there_then terms j.0 (tree_at (trees_in v) i.0) _ (are.right i.0 j f).1
-        ∙ (tested_then (has_sort (sorts_in v) (trees_in v) a Num && has_sort (sorts_in v) (trees_in v) i Num) (First head.T)
-        (Ok (Mul (tree_at (trees_in v) a.0) (tree_at (trees_in v) i.0))) at.fits
-        ∙ ap (λ (t : Tree). Ok t) at.tree)),
   )
 
   -- parts
@@ -158,53 +120,10 @@ module _ (v : TableValue) (names : Names) (n : ℕ) where
         subst (λ (q : ℕ). IsBuilt (Seen seen) (tree_at (trees_in v) q)) (sym same) (built seen b);
   }
 
-  pub read_part : (a i : TermId) (p : ℕ) → IsRow v n (row.Read a i) → (p ≡ a.0) ⊎ (p ≡ i.0) → names p ≡ None → IsOpenPart v names n p
-  read_part a i p at (inl e) none =
-      part_of a p e at.within.0 none
-      (λ (seen : List State) (b : IsBuilt (Seen seen) (tree_at (trees_in v) n)). (subst (IsBuilt (Seen seen)) (sym at.tree) b).0)
-  read_part a i p at (inr e) none =
-      part_of i p e at.within.1 none
-      (λ (seen : List State) (b : IsBuilt (Seen seen) (tree_at (trees_in v) n)). (subst (IsBuilt (Seen seen)) (sym at.tree) b).1)
-
-  pub write_part : (a i d : TermId) (p : ℕ) → IsRow v n (row.Write a i d) → (p ≡ a.0) ⊎ (p ≡ i.0) → names p ≡ None →
-      IsOpenPart v names n p
-  write_part a i d p at (inl e) none =
-      part_of a p e at.within.0 none
-      (λ (seen : List State) (b : IsBuilt (Seen seen) (tree_at (trees_in v) n)). (subst (IsBuilt (Seen seen)) (sym at.tree) b).0)
-  write_part a i d p at (inr e) none =
-      part_of i p e at.within.1 none
-      (λ (seen : List State) (b : IsBuilt (Seen seen) (tree_at (trees_in v) n)). (subst (IsBuilt (Seen seen)) (sym at.tree) b).1)
-
-  pub element_part : (a i d : TermId) → IsRow v n (row.Write a i d) → names d.0 ≡ None → IsOpenPart v names n d.0
-  element_part a i d at none =
-      part_of d d.0 refl at.within.2 none
-      (λ (seen : List State) (b : IsBuilt (Seen seen) (tree_at (trees_in v) n)). (subst (IsBuilt (Seen seen)) (sym at.tree) b).2)
-
-  pub neg_part : (a : TermId) → IsRow v n (row.Neg a) → names a.0 ≡ None → IsOpenPart v names n a.0
-  neg_part a at none =
-      part_of a a.0 refl at.within none
-      (λ (seen : List State) (b : IsBuilt (Seen seen) (tree_at (trees_in v) n)). subst (IsBuilt (Seen seen)) (sym at.tree) b)
-
   pub add_part : (a i : TermId) (p : ℕ) → IsRow v n (row.Add a i) → (p ≡ a.0) ⊎ (p ≡ i.0) → names p ≡ None → IsOpenPart v names n p
   add_part a i p at (inl e) none =
       part_of a p e at.within.0 none
       (λ (seen : List State) (b : IsBuilt (Seen seen) (tree_at (trees_in v) n)). (subst (IsBuilt (Seen seen)) (sym at.tree) b).0)
   add_part a i p at (inr e) none =
-      part_of i p e at.within.1 none
-      (λ (seen : List State) (b : IsBuilt (Seen seen) (tree_at (trees_in v) n)). (subst (IsBuilt (Seen seen)) (sym at.tree) b).1)
-
-  pub sub_part : (a i : TermId) (p : ℕ) → IsRow v n (row.Sub a i) → (p ≡ a.0) ⊎ (p ≡ i.0) → names p ≡ None → IsOpenPart v names n p
-  sub_part a i p at (inl e) none =
-      part_of a p e at.within.0 none
-      (λ (seen : List State) (b : IsBuilt (Seen seen) (tree_at (trees_in v) n)). (subst (IsBuilt (Seen seen)) (sym at.tree) b).0)
-  sub_part a i p at (inr e) none =
-      part_of i p e at.within.1 none
-      (λ (seen : List State) (b : IsBuilt (Seen seen) (tree_at (trees_in v) n)). (subst (IsBuilt (Seen seen)) (sym at.tree) b).1)
-
-  pub mul_part : (a i : TermId) (p : ℕ) → IsRow v n (row.Mul a i) → (p ≡ a.0) ⊎ (p ≡ i.0) → names p ≡ None → IsOpenPart v names n p
-  mul_part a i p at (inl e) none =
-      part_of a p e at.within.0 none
-      (λ (seen : List State) (b : IsBuilt (Seen seen) (tree_at (trees_in v) n)). (subst (IsBuilt (Seen seen)) (sym at.tree) b).0)
-  mul_part a i p at (inr e) none =
       part_of i p e at.within.1 none
       (λ (seen : List State) (b : IsBuilt (Seen seen) (tree_at (trees_in v) n)). (subst (IsBuilt (Seen seen)) (sym at.tree) b).1)

@@ -37,8 +37,7 @@ use Rattle.sm_write.specs.Writable.{EachKept}
 use Rattle.sm_write.specs.Writers.{WriterValue, Stands, AreSeenNamed}
 use Rattle.sm_write.specs.Written.{Names}
 use Rattle.sm_write.proofs.StepLemmas.{after_opening}
-use Rattle.sm_write.proofs.WalkedLemmas.{kept_none, seen_kept}
-use Rattle.sm_write.proofs.WriterSteps.{adds_none}
+use Rattle.sm_write.proofs.WalkedLemmas.{seen_kept}
 
 -- a node's line names it
 pub line_names : (sorts : Sorts) (trees : List Tree) (forms : List Assertion) (r : NodeRow) (n : ℕ) → IsKeptAt sorts trees forms r n →
@@ -75,12 +74,6 @@ row_kept P sorts trees k st (row.Block counts f) q e h = h
 row_kept P sorts trees k st row.Dead q e h = tt
 row_kept P sorts trees k st row.End q e h = tt
 
--- nothing is kept
-pub keep_none : (v : TableValue) (w : WriterValue) (r : NodeRow) (n : ℕ) →
-    ((forms : List Assertion) → IsKeptAt (sorts_in v) (trees_in v) forms r n) → WritesKeep v w w r n
-keep_none v w r n none s seen p set each = record {
-  extends = record { after = p; stands = set.stands; adds = adds_none p; kept = kept_none w.names };
-  there = none p.forms;
 }
 
 -- what a node's line that was added leads to

@@ -1,25 +1,22 @@
 -- A state that was named was seen, and names stay while a table widens.
-use Rattle.std.proofs.Common.{◌≡◌, inl, inr, ℕ, Some, List, [], ◌∷◌, ◌++◌, ap, sym, subst, ◌∙◌, arith}
+use Rattle.std.proofs.Common.{◌≡◌, inl, inr, ℕ, List, [], ◌∷◌, ◌++◌, ap, sym, subst, ◌∙◌}
 use Rattle.sm_syntax.specs.claim.ConflictFree.{Copy, O, A, B, M}
 use Rattle.sm_syntax.specs.declared.copies.PerCopy.{PerCopy}
 use Rattle.sm_term.specs.declared.symbolic.SymStore.{SymStore}
-use Rattle.sm_term.specs.declared.term.TermId.{TermId}
 use Rattle.sm_term.specs.Symbolic.{SymbolicStore}
 use Rattle.sm_term.specs.SymStores.{store_in}
-use Rattle.sm_term.specs.TableLaws.{Widens}
 use Rattle.sm_term.specs.Tables.{TableValue, trees_in}
 use Rattle.sm_term.specs.Terms.{Tree}
 use Rattle.sm_plan.specs.States.{State}
 use Rattle.sm_plan.specs.Views.{stores_in}
 use Rattle.sm_plan.proofs.RenewedStores.{each_copy}
-use Rattle.sm_plan.proofs.TablesWiden.{longer, tree_stays}
 use Rattle.sm_proof.specs.Passing.{Pending, Due, Progress}
 use Rattle.sm_proof.specs.Verdicts.{Subject}
 use Rattle.sm_write.specs.Held.{IsTreeNamed, Shows, NamesStore, NamesState}
 use Rattle.sm_write.specs.Seen.{IsAtom, Seen}
 use Rattle.sm_write.specs.Walked.{Extends}
-use Rattle.sm_write.specs.Writers.{WriterValue, Stands, AreSeenNamed}
-use Rattle.sm_write.specs.Written.{Names, AreNames}
+use Rattle.sm_write.specs.Writers.{WriterValue, AreSeenNamed}
+use Rattle.sm_write.specs.Written.{Names}
 use Rattle.sm_write.proofs.BuiltStates.{With}
 use Rattle.sm_write.proofs.HeldLemmas.{tree_kept}
 use Rattle.sm_write.proofs.SeenLemmas.{seen_back}
@@ -92,30 +89,6 @@ state_named v o a b m last stores first second third fourth s seen p st above re
       };
     }
 
--- names stay while a table widens
-pub names_wider : (v w : TableValue) → Widens v w → (names : Names) (terms : List Tree) → AreNames (trees_in v) names terms →
-    AreNames (trees_in w) names terms
-names_wider v w wider names terms are = record {
-  right = λ (t : ℕ) (n : TermId) (e : names t ≡ Some n).
-      let h = are.right t n e in
-      let long = longer v w wider in
-      (omega (arith, h.0, long), h.1 ∙ ap Some (sym (tree_stays v w wider t h.0)));
-  few = are.few;
 }
 
-pub stands_wider : (s : Subject) (v w : TableValue) → Widens v w → (u : WriterValue) (p : Progress) → Stands s (trees_in v) u p →
-    Stands s (trees_in w) u p
-stands_wider s v w wider u p at = record {
-  leads = at.leads;
-  names = names_wider v w wider u.names p.terms at.names;
-  terms = at.terms;
-  forms = at.forms;
-  nodes = at.nodes;
 }
-
-pub seen_wider : (v w : TableValue) → Widens v w → (names : Names) (seen : List State) → AreSeenNamed (trees_in v) names seen →
-    AreSeenNamed (trees_in w) names seen
-seen_wider v w wider names seen named t atom h =
-    let n = named t atom h in
-    let long = longer v w wider in
-    (n.0, omega (arith, n.1, long), tree_stays v w wider n.0 n.1 ∙ n.2, n.3)

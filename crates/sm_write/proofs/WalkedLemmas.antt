@@ -88,10 +88,6 @@ set_later s v u w seen p set e = record {
   named = seen_kept (trees_in v) u.names w.names seen e.kept set.named;
 }
 
--- the walk begins
-pub walk_starts : (v : TableValue) (w : WriterValue) (t : ℕ) → Walks v w w t [] t
-walk_starts v w t s seen p set built = record { extends = extends_none s (trees_in v) w p set.stands; built = built; others = tt }
-
 -- one more that waits, and one less
 built_end : (v : TableValue) (seen : List State) (ts : List ℕ) (t : ℕ) → AreBuiltAt v seen ts → IsBuilt (Seen seen) (tree_at (trees_in v) t) →
     AreBuiltAt v seen (ts ++ t ∷ [])
