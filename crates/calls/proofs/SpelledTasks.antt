@@ -20,7 +20,7 @@ numbered t has = (spelled_checkable has.0 t has.1).numbered
 pub sorted : (t : Parts) → HasText t → IsTaskSorted (sort_of t.declared) (task_of t)
 sorted t has = (spelled_checkable has.0 t has.1).sorted
 
--- so are they where a table or a store has these sorts
+-- the programs of a task are well sorted where a table or a store has the sorts of the task
 pub sorted_in : (t : Parts) → HasText t → (sorts : Sorts) → sorts ≡ sort_of t.declared → (k : Copy)
     → IsWellSorted sorts (program_of (task_of t) k)
 sorted_in t has sorts same k = runs t sorts (spelled_runs has.0 t has.1) same k

@@ -62,7 +62,7 @@ pub bytes_or_none : (kind : List ℕ) (file : Known) (b n c m : ℕ) (xs : List 
 bytes_or_none kind file b n c m xs s t told no_fault r (inl f) = r.there (not_there file c m s t no_fault f)
 bytes_or_none kind file b n c m xs s t told no_fault r (inr f) = read_within file kind b n c m xs s t told r f
 
--- and one answer says that it gives none
+-- without a fault, two answers that say that a file gives no bytes are equal
 pub no_bytes_same : (kind : List ℕ) (file : Known) (b n c m : ℕ) (s u : Status) (t v : List ℕ) → (¬ Rose b n) → (¬ Rose c m)
     → GivesNoBytes kind file b n s t → GivesNoBytes kind file c m u v → Same s t u v
 no_bytes_same kind file b n c m s u t v no_fault nor_later (inl f) (inl g) = says_same refl refl f.says g.says
@@ -95,7 +95,7 @@ task_or_none file b n c m p s t told no_fault g (inl f) = bytes_or_none (codes "
 task_or_none file b n c m p s t told no_fault g (inr f) =
     f.refuses.spells_none p (subst (λ (xs : List ℕ). Spells xs p) (read_same file b n c m g.bytes f.bytes told g.read f.read) g.spells)
 
--- and one task
+-- a file that is told gives one task
 pub task_same : (file : Known) (b n c m : ℕ) (p q : Parts) → file ≢ untold → GivesTask file b n p → GivesTask file c m q → p ≡ q
 task_same file b n c m p q told g h =
     let spelled : Spells h.bytes p =

@@ -41,7 +41,7 @@ few_names bytes names is =
     let few = few_after 0 (lines_in bytes).ended (lines_in bytes).rest (omega arith) is.good in
     let same = ap (λ (ns : List (List ℕ)). length ns) is.named in omega (arith, few, same)
 
--- and a bad line has a number from 1 to 1,001
+-- a bad line of a list has a number from 1 to 1,001
 bad_after : (n : ℕ) (lines : List (List ℕ)) (rest : List ℕ) (m : ℕ) → n ≤ 1000 → bad_line_after n lines rest ≡ Some m
     → (1 ≤ m) × (m ≤ 1001)
 bad_after n [] [] m few e = absurd cc

@@ -15,7 +15,7 @@ line_first (b ∷ bs) more h =
     ap (λ (t : Bool). with_byte t b (lines_in (bs ++ 10 ∷ more))) h.0
     ∙ ap (λ (all : FileLines). in_first_line b all.ended all.rest) (line_first bs more h.1)
 
--- the same by where the end is
+-- bytes without an end, and then an end, are the first line, by where the end is
 pub first_by : (bytes : List ℕ) (n : ℕ) → HasNoEnd (take n bytes) → take (n + 1) bytes ≡ take n bytes ++ 10 ∷ [] →
     lines_in bytes ≡ line_before (take n bytes) (lines_in (drop (n + 1) bytes))
 first_by bytes n h ends =

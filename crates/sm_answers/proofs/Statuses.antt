@@ -22,7 +22,7 @@ pub record IsOfCommand (status : Status) : Type 0 where
   pub not_memory : status ≢ Memory
   pub not_sink : status ≢ SinkFault
 
--- and but for `check` not with this one either
+-- a command but `check` answers with none of these: Usage, Memory, SinkFault, WriteFault
 pub record WritesNothing (status : Status) : Type 0 where
   pub of_command : IsOfCommand status
   pub not_write : status ≢ WriteFault
@@ -42,7 +42,7 @@ of_refused = record { of_command = record { not_usage = λ e. cc; not_memory = �
 pub of_fault : WritesNothing ReadFault
 of_fault = record { of_command = record { not_usage = λ e. cc; not_memory = λ e. cc; not_sink = λ e. cc }; not_write = λ e. cc }
 
--- nor with what is equal to one
+-- a status that equals one with which a command but `check` answers is such a status
 pub same_as : (status wanted : Status) → status ≡ wanted → WritesNothing wanted → WritesNothing status
 same_as status wanted is of = subst WritesNothing (sym is) of
 
@@ -51,7 +51,7 @@ pub record IsToCommand (before now : ℕ) (status : Status) : Type 0 where
   pub of_command : WritesNothing status
   pub quiet : status ≢ ReadFault → now ≡ before
 
--- and of one to `verify`, which may name a bad line that was found behind a read that failed
+-- what an answer to `verify` says of its status, where a bad line behind a failed read may be named
 pub record IsToVerify (before now : ℕ) (status : Status) (text : List ℕ) : Type 0 where
   pub of_command : WritesNothing status
   pub quiet : status ≢ ReadFault → ((n : ℕ) (word : Word) → Says Refused (rejected_line n word) status text → ⊥) → now ≡ before

@@ -41,7 +41,7 @@ passing_fits t bytes e =
     (reached (subject_of t) 1 Unopened (lines_in (take proof_limit bytes)).ended) e in
     (leb-true (length bytes) proof_limit both.0, both.1)
 
--- and back
+-- bytes that pass within the limit are judged to pass
 pub fitting_passes : (t : Parts) (bytes : List ℕ) → length bytes ≤ proof_limit → Passes t bytes
     → file_answer proof_limit (subject_of t) bytes ≡ Judged Pass
 fitting_passes t bytes fits passes =
@@ -57,7 +57,7 @@ passing_accepted t file before now status line lines (inl f) no_fault told fits 
 passing_accepted t file before now status line lines (inr j) no_fault told fits passes =
     j.says.ended ∙ ap answer_status (sym (j.held lines told) ∙ fitting_passes t lines fits passes)
 
--- and one that is accepted passes
+-- a file that is accepted passes within the limit
 pub accepted_passing : (t : Parts) (file : Known) (before now : ℕ) (status : Status) (line lines : List ℕ)
     → AnswersProof t file before now status line → status ≡ Accepted → file ≡ holds lines
     → (length lines ≤ proof_limit) × Passes t lines

@@ -49,7 +49,7 @@ pub record PassesRead (t : Parts) (proof : List ℕ) (before now : List Read) (s
   pub exactly : (status ≡ Accepted) ↔ ReadsProof t proof before now
   pub free : status ≡ Accepted → ConflictFree (task_of t)
 
--- and that of `verify`: Accepted exactly where a task was read, and then a proof for it
+-- the answer to `verify`: Accepted exactly where a task was read, and then a proof for it
 pub record VerifiesRead (task proof : List ℕ) (before now : List Read) (status : Status)
     (text : List ℕ) : Type 0 where
   pub only : status ≡ Accepted →
@@ -71,7 +71,7 @@ abbrev pub RunsRead : Parts → List ℕ → ℕ → List Read → List Read →
 RunsRead t input turns before now status text =
     status ≡ Conflict → ReadsViolation t input turns before now
 
--- and that of `replay` only where a task was read, and then such an input of it
+-- the answer to `replay` is Conflict only where a task was read, and then an input that shows one
 abbrev pub ReplaysRead : List ℕ → List ℕ → ℕ → List Read → List Read → Status → List ℕ → Type 0
 ReplaysRead task input turns before now status text = status ≡ Conflict →
     (t : Parts) × (between : List Read) × ReadsTask task before between t

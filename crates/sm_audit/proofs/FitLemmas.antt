@@ -76,7 +76,7 @@ module _ (sorts : Sorts) (states : List State) (trees : List Tree) where
   goals_within (g ∷ gs) [] fit = absurd fit
   goals_within (g ∷ gs) (c ∷ cs) fit = (fit.0.within, goals_within gs cs fit.1)
 
-  -- and short
+  -- the certificates of goals that fit are short
   pub goals_short : (gs : List Goal) (cs : List CertTree) → AreGoalsFit sorts states trees gs cs →
       AreShort (map (certificate_in trees) cs)
   goals_short [] [] fit = tt

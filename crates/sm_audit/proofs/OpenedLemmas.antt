@@ -37,7 +37,7 @@ module _ (v : TableValue) where
         opened_stand facts ss cs ps ys xs fewer others stand,
       )
 
-  -- and can be gone on from
+  -- successors with their places in plans, before others, can be gone on from
   pub opened_ready : (ss : List Successor) (cs : List Cursor) (ps : NumberedPlans) (xs : List Waiting) → length ss ≡ length cs →
       map numbered_at cs ≡ list_of ps → AreSuccessorsReady (sorts_in v) (trees_in v) ss → ArePlansReady (sorts_in v) (trees_in v) ps →
       AreWaitingReady v xs → AreWaitingReady v (waits_with ss cs ++ xs)

@@ -40,7 +40,7 @@ module _ (v w : TableValue) (wider : Widens v w) where
   all_stay (y ∷ ys) [] ready stand = absurd stand
   all_stay (y ∷ ys) (x ∷ xs) ready stand = (one_stays y x ready.0 stand.0, all_stay ys xs ready.1 stand.1)
 
-  -- and can be gone on from
+  -- what can be gone on from can be gone on from in a wider table
   one_ready : (x : Waiting) → IsWaitingReady v x → IsWaitingReady w x
   one_ready x ready = record {
     state = state_ready v w wider x.state ready.state;

@@ -31,7 +31,7 @@ IsRowKnown since n (node.Block counts keep) = IsFormKnown since n (numbered keep
 IsRowKnown since n node.Dead = Unit {0}
 IsRowKnown since n node.End = Unit {0}
 
--- the same of nodes, each by its own number, from n on
+-- each term that nodes' kept formulas compare is known, by the nodes' own numbers, from n on
 abbrev pub AreRowsKnown : List (Option ℕ) → ℕ → List NodeRow → Type 0
 AreRowsKnown since n [] = Unit {0}
 AreRowsKnown since n (r ∷ rows) = IsRowKnown since n r × AreRowsKnown since (suc n) rows
@@ -58,12 +58,12 @@ IsLineKnown since k (line.Exact n) = Unit {0}
 IsLineKnown since k (line.Close n) = Unit {0}
 IsLineKnown since k (line.Clash m n) = Unit {0}
 
--- and the line is short
+-- a line is short, and each term that it names is known
 abbrev pub IsLineFit : List (Option ℕ) → ℕ → CertLine → Type 0
 IsLineFit since k l =
     ((trees : List Tree) → IsShortLine (line_in trees l)) × IsLineKnown since k l
 
--- the same of lines
+-- each of some lines is short, and each term that it names is known
 abbrev pub AreLinesFit : List (Option ℕ) → ℕ → List CertLine → Type 0
 AreLinesFit since k [] = Unit {0}
 AreLinesFit since k (l ∷ ls) = IsLineFit since k l × AreLinesFit since k ls

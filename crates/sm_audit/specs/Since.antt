@@ -20,7 +20,7 @@ abbrev pub IsNamedFrom : Sorts → List State → List Tree → ℕ → ℕ → 
 IsNamedFrom sorts states trees node n =
     (n < length trees) × Nameable sorts (states_until states node) (tree_at trees n)
 
--- the same of terms
+-- terms are in a table, and can be named after the states of the nodes up to a number
 abbrev pub AreNamedFrom : Sorts → List State → List Tree → ℕ → List TermId → Type 0
 AreNamedFrom sorts states trees node [] = Unit {0}
 AreNamedFrom sorts states trees node (t ∷ ts) =

@@ -42,7 +42,7 @@ pub record StandsFor (v : TableValue) (w : Waits) (x : Waiting) : Type 0 where
   pub state : w.state ≡ state_in (sorts_in v) (trees_in v) facts x.state
   pub plan : w.plan ≡ plan_over (sorts_in v) (trees_in v) (numbered_at x.cursor)
 
--- the same of each
+-- states of the program with places in their plans stand for those with plans, one by one
 abbrev pub AllStandFor : TableValue → List Waits → List Waiting → Type 0
 AllStandFor v [] [] = Unit {0}
 AllStandFor v [] (x ∷ xs) = ⊥
@@ -54,7 +54,7 @@ pub record IsWaitingReady (v : TableValue) (x : Waiting) : Type 0 where
   pub state : IsStateReady (sorts_in v) (trees_in v) x.state
   pub plan : IsPlanReady (sorts_in v) (trees_in v) (numbered_at x.cursor)
 
--- the same of each
+-- each state that waits can be gone on from
 abbrev pub AreWaitingReady : TableValue → List Waiting → Type 0
 AreWaitingReady v [] = Unit {0}
 AreWaitingReady v (x ∷ xs) = IsWaitingReady v x × AreWaitingReady v xs

@@ -31,7 +31,7 @@ missed_all P (t ∷ ts) (l ∷ ls) all = by (is_some l.reply) (missed_all P ts l
     by true rest = rest
     by false rest = All-cons P t (missed ts ls) (All-head P t ts all) rest
 
--- and there are as many as there were no hits
+-- the tasks that were no hit are as many as the look-ups without a hit
 pub missed_length : (ts : List Task) (ls : List Looked) → length ts ≡ length ls → length (missed ts ls) ≡ misses ls
 missed_length [] [] same = refl
 missed_length [] (l ∷ ls) same = absurd (omega arith)

@@ -58,7 +58,7 @@ empty_is_free t empty n s end meets runs cell at = record {
     same : (c : Copy) → end c ≡ end O
     same c = let one = at_end c in let other = at_end O in cc
 
--- so is each that is accepted
+-- each task that the worker of the tests accepts is free of conflicts
 pub echoed_is_free : (eager : Bool) (t : Parts) → echoes eager t ≡ true → ConflictFree (task_of t)
 echoed_is_free true t empty = empty_is_free t empty
 echoed_is_free false t never = cc

@@ -247,7 +247,7 @@ module _ (g : Ground) (more : List Row) (s : Looked) (looked : AreLooked g more 
         ⊎_elim (λ (within : i < first). old_so i within e (element_before g.closure.rows.items b.rows under.rows i within e has))
         (λ (above : first ≤ i). new_so i above e has) (cases_lt i first))
 
-    -- and tell the classes
+    -- two places have one label exactly where they are in one class
     pub labels_exact : AreLabels b labels
     labels_exact = record {
       count = length-map roots (λ (e : Equation). e.right) ∙ sym long;

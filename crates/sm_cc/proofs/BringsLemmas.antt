@@ -65,7 +65,7 @@ module _ (s r : Setting) (given : GivesMore s r) (few more : Pairs) (below : (t 
   lists_more (t ∷ ts) [] h = absurd cc
   lists_more (t ∷ ts) (u ∷ us) h = and_map (few t u) (more t u) (below t u) (lists_more ts us) h
 
-  -- and bring more
+  -- where more is given and more pairs are equal, the rules bring more
   pub brings_more : (t u : Tree) → brings s few t u ≡ true → brings r more t u ≡ true
   brings_more t u h =
       or_map (given_equal s t u) (given_equal r t u) (given.equal t u)

@@ -108,7 +108,7 @@ module _ (v : ClassesValue) (g : GivenFact) (rows : List Row) where
       (numbers_where (λ (g : GivenFact). not g.are_equal) (v.given ++ g ∷ [])) _
       equal unequal ns ms
 
-  -- the same with one contrary more
+  -- the places of what is given with one contrary more
   placed_unequal : g.are_equal ≡ false → placed_for (with_given v g) rows
       ≡ with_unequal (placed_for v rows) g.number (place_of terms left) (place_of terms right)
   placed_unequal e =
@@ -151,7 +151,7 @@ module _ (v : ClassesValue) (positions : Positions) (places : Placed) (are : Are
       there in
       (λ x. law.1 (all.0 x), λ y. all.1 (law.0 y))
 
-  -- and known apart where these are
+  -- terms are known apart where their places are
   pub apart_of_their_places : (t u : TermId) → t.0 < length (trees_in v.table) → u.0 < length (trees_in v.table) → (r : Bool) (i j : ℕ) →
       i ≡ place_at positions t.0 → j ≡ place_at positions u.0 → (IsTrue r ↔ ApartPlaces places.board i j) →
       IsTrue r ↔ Apart (setting_of v) (tree t) (tree u)
@@ -202,7 +202,7 @@ module _ (v : ClassesValue) (positions : Positions) (places : Placed) (are : Are
         of_two_terms = of_two_more g fine;
       }
 
-  -- the same of a contrary
+  -- one contrary of an equation more is given of both
   pub classes_unequal : (g : GivenFact) → g.are_equal ≡ false → IsOfTwoTerms v g → (i j : ℕ) →
       i ≡ place_at positions g.left.0 → j ≡ place_at positions g.right.0 → (after : Placed) → after ≡ with_unequal places g.number i j →
       AreClasses (with_given v g) positions after
@@ -223,7 +223,7 @@ module _ (v : ClassesValue) (positions : Positions) (places : Placed) (are : Are
         of_two_terms = of_two_more g fine;
       }
 
-  -- so is one fact more
+  -- one fact more, an equation or the contrary of one, is given of both
   pub classes_more : (g : GivenFact) → IsOfTwoTerms v g → (i j : ℕ) →
       i ≡ place_at positions g.left.0 → j ≡ place_at positions g.right.0 → (after : Placed) → after ≡ with_fact places g i j →
       AreClasses (with_given v g) positions after

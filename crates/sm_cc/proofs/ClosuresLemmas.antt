@@ -66,7 +66,7 @@ grows_from c sound = record {
   sound = sound;
 }
 
--- and on and on
+-- a log that grows twice grows from what it was at first
 pub grows_on : (a b c : Closure) → Grows a b → Grows b c → Grows a c
 grows_on a b c one two = record {
   rows = two.rows ∙ one.rows;
@@ -157,7 +157,7 @@ pub root_at : (c : Closure) (i : ℕ) (r : Equation) → IsSound c → i < lengt
 root_at c i r sound within read =
     (sound.rooted i r (slice_get_read c.roots.items (length c.roots.items) i r refl within read)).0
 
--- the same, of a place that has a row
+-- the root that was read at a place that has a row has this place on its left
 pub root_in : (c : Closure) (i : ℕ) (r : Equation) → IsSound c → i < length c.rows.items → r ≡ get_or c.roots.items i r → r.left ≡ i
 root_in c i r sound within read = root_at c i r sound (omega (arith, within, sound.count)) read
 

@@ -219,7 +219,7 @@ draft_entry v entries marks start m d mid after x (By r) k draft here follows ma
     (stated_last v start old s (length (old ++ s ∷ [])) x numbers.number (let l = length-append old (s ∷ []) in omega arith))))
     (pushed ∙ ap (λ l. l.items ++ x ∷ []) numbers.numbers)
 
--- the same of an entry of the log
+-- a marked entry of a log has its number, where the marks are closed
 pub draft_marked : (v : Placed) (entries : List Entry) (marks : List Bool) (start m : ℕ) (d mid after : Draft) (x : ℕ) (e : Entry) →
     IsDraft v entries marks start m d → slice_get entries m ≡ Some e → Follows v (Before entries m) e.why e.known →
     AreClosedFrom entries marks 0 → IsMarked marks m → NumbersEntry start d mid x e.why e.known → after.steps ≡ mid.steps →

@@ -36,7 +36,7 @@ same_part-Decides p q = by (p.0 == q.0) (int_eq p.1 q.1) (Decides-eqb p.0 q.0) (
       λ (both : p ≡ q). e.1 (ap (λ (r : ℕ × ℤ). r.0) both),
     )
 
--- so are keys
+-- two keys are equal where their parts are, one by one
 pub same_key-Decides : (k l : Keyed) → Decides (same_key k l) (k ≡ l)
 same_key-Decides k l = slice_eq-Decides same_part-Decides k l (same_key k l) refl
 
@@ -419,7 +419,7 @@ rows_bring_headed roots k r s x y =
         (eq-eqb g h (ap (λ (z : ℕ × ℤ). z.0) head))
         (labels_equal roots r.arguments.items s.arguments.items ls l (m ∙ ap Some (sym rest)))
 
--- so are places of one head whose arguments have the same labels
+-- places of one head whose arguments have the same labels are equal by a rule
 pub headed_bring : (c : Closure) → KeysBring (headed_at c) c
 headed_bring c i j k e f = by (slice_get c.rows.items i) (slice_get c.rows.items j) e f
   where

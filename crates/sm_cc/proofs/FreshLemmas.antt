@@ -300,7 +300,7 @@ pub element_still : (old new : List Row) → AreKept old new → (i : ℕ) (e : 
 element_still old new kept i e has =
     let s = kept i has.0 has.1 in (s.0, s.1, s.2.element ∙ has.2)
 
--- and the other way round
+-- an element of a row's copy is one of the old row
 pub element_before : (old new : List Row) → AreKept old new → (i : ℕ) → i < length old → (e : Element) → HasElement new i e →
     HasElement old i e
 element_before old new kept i within e has =
@@ -604,7 +604,7 @@ after_old [] ys n x h low = (n, omega arith, h)
 after_old (z ∷ xs) ys zero x h low = absurd (omega arith)
 after_old (z ∷ xs) ys (suc n) x h low = let r = after_old xs ys n x h (omega (arith, low)) in (r.0, omega (arith, r.1), r.2)
 
--- and within it
+-- what stands at a place within a list stands there, too, where more is behind the list
 within_old : {X : Type 0} (xs ys : List X) (n : ℕ) → n < length xs → slice_get (xs ++ ys) n ≡ slice_get xs n
 within_old xs ys n within = let x = get_there xs n within in get_before xs ys n x.0 x.1 ∙ sym x.1
 
@@ -672,7 +672,7 @@ listed_still old new all i j h =
     let y = all x.0 (i, j) x.1 in
     listed_at new y.0 i j y.1
 
--- the same of given pairs
+-- the pairs of given facts that are in another list are among the pairs of that list
 pairs_still : (old new : List Given) → AreAllGiven old new → AreAllGiven (map pair_of old) (map pair_of new)
 pairs_still old new all n p h =
     let x = given_at old n p h in

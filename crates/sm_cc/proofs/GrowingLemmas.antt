@@ -177,7 +177,7 @@ same_derives rows has (Cong ns) Apart k same h = absurd (let p : Apart ≡ Cong 
 same_derives rows has (Cong ns) (Hit n) k same h = absurd (let p : Hit n ≡ Cong ns = same in cc)
 same_derives rows has (Cong ns) (Miss n) k same h = absurd (let p : Miss n ≡ Cong ns = same in cc)
 
--- and so do reasons
+-- a reason and the same one give the same
 same_follows : (v : Placed) (has : ℕ → Known → Type 0) (w y : Why) (k : Known) → IsSameWhy w y → Follows v has w k → Follows v has y k
 same_follows v has (why.Given fact) y k same h = subst (λ (x : Why). Follows v has x k) (sym same) h
 same_follows v has (why.By r) (why.By s) k same h = same_derives v.board.rows has r s k same h
@@ -244,7 +244,7 @@ copied_follow old rows equal unequal copies sound over count kept m f here =
     subst (λ (x : Entry). Follows v (Before copies m) x.why x.known) same
     (subst (λ (k : Known). Follows v (Before copies m) copy.0.why k) (sym copy.2.known) copied)
 
--- and say what labels places have
+-- copies of a log's entries say what labels places have
 pub copied_rooted : (log copies : List Entry) (roots : List Equation) → AreEntriesKept log copies → AllRooted log roots →
     AllRooted copies roots
 copied_rooted log copies roots kept rooted i r h =
@@ -256,7 +256,7 @@ pub own_follow : (rows : List Row) (equal unequal : List Given) (log : List Entr
     AllFollow (placed_with rows equal unequal) log → k < length rows → AllFollow (placed_with rows equal unequal) (log ++ own_entry k ∷ [])
 own_follow rows equal unequal log k all within = all_follow_more (placed_with rows equal unequal) log (own_entry k) all (refl, within)
 
--- and its own root
+-- one more place has its own root, and the other places keep theirs
 pub own_rooted : (log : List Entry) (roots : List Equation) (k : ℕ) (r : Equation) → AllRooted log roots → k ≡ length roots → r.left ≡ k →
     r.right ≡ k → r.entry ≡ length log → AllRooted (log ++ own_entry k ∷ []) (roots ++ r ∷ [])
 own_rooted log roots k r rooted count left right entry i x h =

@@ -79,7 +79,7 @@ module _ (p : Placed) (start : ℕ) (steps : List Step) (follow : StepsFollow p 
       subst (AreInside (length p.board.rows)) said.2 (first_inside bound x.0 less said.0 said.1)) stated)
       s.rule s.known (follow m s e)
 
-  -- so are all steps
+  -- all steps are of places that are there
   pub steps_inside : AreStepsIn (length p.board.rows) steps
   steps_inside m s e = let less : m < suc m = omega arith in first_inside (suc m) m less s e
 
@@ -90,7 +90,7 @@ each_tree P none [] all n = none
 each_tree P none (t ∷ ts) all zero = all 0 (omega arith)
 each_tree P none (t ∷ ts) all (suc n) = each_tree P none ts (λ m h. all (suc m) (omega (arith, h))) n
 
--- and of each term of a list
+-- what is so of the trees by all numbers is so of the tree of each term of a list
 pub each_term : (P : Tree → Type 0) (trees : List Tree) → ((n : ℕ) → P (tree_at trees n)) → (terms : List TermId) →
     (i : ℕ) (t : Tree) → slice_get (trees_of trees terms) i ≡ Some t → P t
 each_term P trees all [] i t e = absurd cc

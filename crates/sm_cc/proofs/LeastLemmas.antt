@@ -150,7 +150,7 @@ module _ (s : Setting) where
   pub equal_is_same : (t u : Tree) → IsTrue (are_equal s t u) ↔ Same s t u
   equal_is_same t u = (λ h. λ f closed. equal_least f closed t u h, λ same. same (are_equal s) equal_closed)
 
-  -- and known apart exactly where they are so by the classes
+  -- terms are known apart by the pairs that are equal exactly where they are by the classes
   pub apart_is_apart : (t u : Tree) → IsTrue (are_apart s (are_equal s) t u) ↔ Apart s t u
   apart_is_apart t u = (
     λ h. λ f closed. apart_more s s (nothing_more s) (are_equal s) f (equal_least f closed) t u h,
@@ -180,7 +180,7 @@ equal_alike s r one other = fun_ext λ (t : Tree). fun_ext λ (u : Tree).
     (λ h. equal_least s (are_equal r) (closed_less s r one (are_equal r) (equal_closed r)) t u h)
     (λ h. equal_least r (are_equal s) (closed_less r s other (are_equal s) (equal_closed s)) t u h)
 
--- and what is known apart by them
+-- where the same is given, the same terms are known apart
 pub apart_alike : (s r : Setting) → GivesMore s r → GivesMore r s → are_apart s (are_equal s) ≡ are_apart r (are_equal r)
 apart_alike s r one other = fun_ext λ (t : Tree). fun_ext λ (u : Tree).
     let same = equal_alike s r one other in

@@ -73,7 +73,7 @@ module _ (v : ClassesValue) (positions : Positions) (places : Placed) (are : Are
       (steps_inside (placed_for v rows) start steps (stated start steps i j ex).follow
       (λ n k d. subst (λ (m : ℕ). AreInside m k) (sym count) (given_inside v rows are.of_two_terms n k d)))
 
-  -- the same of the terms themselves
+  -- the places of steps are below the number of terms
   pub steps_in : (start : ℕ) (steps : List Step) (i j : ℕ) → ExplainPlaces places start steps i j → AreStepsIn (length v.terms) steps
   steps_in start steps i j ex =
       subst (λ (n : ℕ). AreStepsIn n steps) (length-map v.terms (λ (t : TermId). tree t)) (steps_there start steps i j ex)

@@ -93,7 +93,7 @@ derives_more rows has more kept (Hit n) (Unequal i j) h = absurd h
 derives_more rows has more kept (Miss n) (Equal i j) h = (h.0, h.1, h.2, kept n (Unequal h.0.index h.0.other) h.3, h.4)
 derives_more rows has more kept (Miss n) (Unequal i j) h = absurd h
 
--- and what follows follows
+-- what follows by a reason follows where more is known
 pub follows_more : (v : Placed) (has more : ℕ → Known → Type 0) → ((n : ℕ) (k : Known) → has n k → more n k) →
     (w : Why) (k : Known) → Follows v has w k → Follows v more w k
 follows_more v has more kept (Given fact) (Equal i j) h = h

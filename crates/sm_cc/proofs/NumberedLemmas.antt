@@ -77,6 +77,6 @@ same_part-Decides p q = by (p.0 == q.0) (int_eq p.1 q.1) (Decides-eqb p.0 q.0) (
       λ (both : p ≡ q). e.1 (ap (λ (r : ℕ × ℤ). r.0) both),
     )
 
--- so are lists
+-- two lists of parts are equal where their parts are
 pub same_list-Decides : (v w : Parts) → Decides (same_list v w) (parts_of v ≡ parts_of w)
 same_list-Decides v w = slice_eq-Decides same_part-Decides v.items w.items (same_list v w) refl

@@ -112,7 +112,7 @@ places_more trees apart terms before i d h old new kept updates n inside =
     ∙ sym (first_place-push (trees_of trees (take i terms)) (tree_at trees t.0) (tree_at trees n))
     ∙ ap (λ (ts : List Tree). first_place ts (tree_at trees n)) (sym (map_more f terms i d h))
 
--- the same of elements that are read
+-- one step of the walk through a list of terms, for the first places of elements that are read
 pub reads_more : (sorts : Sorts) (codes : List Code) (trees : List Tree) → AreApart trees → (terms : List TermId) →
     AreBefore (length trees) terms →
     (i : ℕ) (d : TermId) → i < length terms → (old new : ℕ × ℕ → Option ℕ) → HasReads trees (trees_of trees (take i terms)) old →

@@ -117,7 +117,7 @@ alike_kept g c kept i less =
     ∙ ap shape_key s.2.shape
     ∙ sym (ap (λ (o : Option Row). followed o (λ (q : Row). shape_key q.shape)) r.1)
 
--- and by their heads with arguments
+-- copies have the keys of their rows by their heads with arguments
 headed_kept : (g c : Closure) → AreKept g.rows.items c.rows.items → AreInside g.rows.items →
     AreLabelsKept (length g.rows.items) g.roots.items c.roots.items → (i : ℕ) → i < length g.rows.items → headed_at c i ≡ headed_at g i
 headed_kept g c kept inside labels i less =
@@ -153,7 +153,7 @@ alike_before g c base met sound over labels firsts empty =
     (firsts_moved (alike_at g.closure) (alike_at c) (are_together old) (are_together new) base (over_at base met) bound
     (alike_kept g.closure c over.kept) (together_kept bound old new labels) (λ (v : Key). over_nothing base met v.items (empty v)) firsts)
 
--- and by their heads with arguments
+-- the places of other classes are tried by their heads with arguments
 pub headed_before : (g : Ground) (c : Closure) (base met : Keyed → Option ℕ) → IsSound c → IsOver g c →
     AreLabelsKept (length g.closure.rows.items) g.closure.roots.items c.roots.items →
     AreFirsts (headed_at g.closure) (are_together g.closure.roots.items) base (length g.closure.rows.items) →

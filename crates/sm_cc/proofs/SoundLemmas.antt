@@ -297,7 +297,7 @@ derives_so b equal closed has so (Miss n) (Equal i j) h =
     (brings_missed b equal i j (pass_at b.rows i j row.0 other.0 (λ r s. missed b equal j r) row.1 other.1 test))
 derives_so b equal closed has so (Miss n) (Unequal i j) h = absurd h
 
--- so is what follows
+-- what follows by a reason is so, where what it takes is
 follows_so : (v : Placed) (equal : PlacePairs) → ArePlacesClosed v.board equal → (has : ℕ → Known → Type 0) →
     ((n : ℕ) (k : Known) → has n k → IsSo v.board equal k) → (w : Why) (k : Known) → Follows v has w k → IsSo v.board equal k
 follows_so v equal closed has so (Given fact) (Equal i j) h =
@@ -324,7 +324,7 @@ entry_at [] n k h = absurd (let p : None ≡ Some k = h in cc)
 entry_at (e ∷ entries) zero k h = (e, refl, same_Some e.known k h)
 entry_at (e ∷ entries) (suc n) k h = entry_at entries n k h
 
--- so is what the first entries say
+-- where entries follow from those before them, what the first ones say is so by closed pairs
 log_so : (v : Placed) (entries : List Entry) (equal : PlacePairs) → ArePlacesClosed v.board equal → AllFollow v entries → (m n : ℕ) →
     n < m → (k : Known) → known_at entries n ≡ Some k → IsSo v.board equal k
 log_so v entries equal closed all zero n low k h = absurd (omega arith)
@@ -336,7 +336,7 @@ log_so v entries equal closed all (suc m) n low k h =
     e.0.known
     (all n e.0 e.1))
 
--- so is what a sound log says
+-- what a sound log says is so by closed pairs
 pub noted_so : (c : Closure) (equal : PlacePairs) → IsSound c → ArePlacesClosed (board_of c) equal → (n : ℕ) (k : Known) →
     known_at c.entries.items n ≡ Some k → IsSo (board_of c) equal k
 noted_so c equal sound closed n k h =

@@ -151,7 +151,7 @@ module _ (sorts : Sorts) (terms : List Tree) (given : List Assertion) (rows : Li
           (λ g. (Decides-eqb (place s.right) (place u)).1 (ap place ((same_tree_is s.right u).0 g))))
           rest h
 
-  -- and the other way round
+  -- what is given of two places is given of the terms at them
   pub said_of_terms : (sides : Assertion → Option Sides) (fs : List Assertion) (i j : ℕ) (t u : Tree) → At i t → At j u →
       is_listed (places_given terms sides fs) i j ≡ true → list_any (λ f. says_equal (sides f) t u) fs ≡ true
   said_of_terms sides [] i j t u e g h = absurd cc

@@ -61,7 +61,7 @@ module _ (sorts : Sorts) (terms : List Tree) (given : List Assertion) (rows : Li
         by (Some v) e None f h = absurd cc
         by (Some v) e (Some w) f h = (v, w, e, f, h)
 
-    -- and two terms that are equal have a pair
+    -- the places of two terms that are equal are a pair
     within_has : (i j : ℕ) (v w : Tree) → At i v → At j w → equal v w ≡ true → within i j ≡ true
     within_has i j v w e f h =
         ap (λ (o : Option Tree). if_there o (λ (t : Tree). if_there (slice_get terms j) (λ (u : Tree). equal t u))) e

@@ -29,7 +29,7 @@ given_between equal list p q i j first second h =
     (and_from (equal g.left i) (equal g.right j) (ap (λ (y : ℕ). equal y i) (eqb-true g.left p both.0) ∙ first)
     (ap (λ (y : ℕ). equal y j) (eqb-true g.right q both.1) ∙ second)))
 
--- the same of one that is listed the other way round
+-- a pair of places of two classes that is listed the other way round is between these
 turned_between : (equal : PlacePairs) (list : List Given) (p q i j : ℕ) → equal p i ≡ true → equal q j ≡ true →
     is_listed (map pair_of list) q p ≡ true → list_any (is_between equal i j) list ≡ true
 turned_between equal list p q i j first second h =

@@ -46,7 +46,7 @@ IsLineOf terms (line.Hit t n) = IsListed terms t
 IsLineOf terms (line.Miss t u n) = IsListed terms t × IsListed terms u
 IsLineOf terms other = ⊥
 
--- the same of lines
+-- each line adds an equation or its contrary, and the terms that it names are in a list
 abbrev pub AreLinesOf : List TermId → List CertLine → Type 0
 AreLinesOf terms [] = Unit {0}
 AreLinesOf terms (l ∷ ls) = IsLineOf terms l × AreLinesOf terms ls

@@ -74,7 +74,7 @@ abbrev pub row_key : List Equation → Row → Option Keyed
 row_key roots r =
     followed r.head (λ (h : ℕ). with_labels ((h, pos 0) ∷ []) (labels_of roots r.arguments.items))
 
--- the same of the row at a place
+-- the key of the row at a place, by its head and the labels of its arguments
 abbrev pub headed_at : Closure → ℕ → Option Keyed
 headed_at c i = followed (slice_get c.rows.items i) (row_key c.roots.items)
 
@@ -105,7 +105,7 @@ pub record TriesFirst
       × (AreFirsts key (are_together before.roots.items) old i →
       AreFirsts key (are_together before.roots.items) new (i + 1))
 
--- the same of all places below a bound, by a key that the classes tell
+-- entries are added, or nothing changes and places below a bound equal the first with their key
 pub record TriesFirsts
     (key : Closure → ℕ → Option Keyed) (bound : ℕ) (before after : Closure)
     (met : Keyed → Option ℕ) : Type 0 where
@@ -124,10 +124,10 @@ AreKeysSettled key c =
     (i j : ℕ) (k : Keyed) → i < length c.rows.items → j < length c.rows.items →
     key c i ≡ Some k → key c j ≡ Some k → IsTrue (are_together c.roots.items i j)
 
--- so are places of one linear form
+-- places of one linear form are in one class
 abbrev pub AreAlikeSettled : Closure → Type 0
 AreAlikeSettled = AreKeysSettled alike_at
 
--- and places of one head whose arguments are equal
+-- places of one head whose arguments are equal are in one class
 abbrev pub AreHeadedSettled : Closure → Type 0
 AreHeadedSettled = AreKeysSettled headed_at

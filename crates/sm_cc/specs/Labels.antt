@@ -13,7 +13,7 @@ pub record AreLabels (b : Board) (labels : List ℕ) : Type 0 where
       (i j l m : ℕ) → slice_get labels i ≡ Some l → slice_get labels j ≡ Some m →
       (l ≡ m) ↔ SamePlaces b i j
 
--- the same of the terms of classes
+-- a label for each term of classes: two terms have one exactly where they are in one class
 pub record AreTermLabels (v : ClassesValue) (labels : List ℕ) : Type 0 where
   pub count : length labels ≡ length v.terms
   pub each :

@@ -27,7 +27,7 @@ abbrev pub next_pairs : Setting → List (Tree × Tree) → List (Tree × Tree)
 next_pairs s pairs =
     filter (λ p. follows s (is_listed pairs) p.0 p.1) (pairs_of s.terms s.terms)
 
--- the same so many times
+-- the pairs that come from pairs in so many rounds
 abbrev pub pairs_after : ℕ → Setting → List (Tree × Tree) → List (Tree × Tree)
 pairs_after zero s pairs = pairs
 pairs_after (suc n) s pairs = pairs_after n s (next_pairs s pairs)

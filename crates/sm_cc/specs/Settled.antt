@@ -15,32 +15,32 @@ IsSettledAt i j c =
     let equal = are_together c.roots.items in
     IsTrue (row_brings (board_of c) equal i j) → IsTrue (equal i j)
 
--- the same, where both places are there
+-- what the rules bring of two places that are there is so
 abbrev pub IsSettledThere : ℕ → ℕ → Closure → Type 0
 IsSettledThere i j c = i < length c.rows.items → j < length c.rows.items → IsSettledAt i j c
 
--- the same of a pair that was given
+-- what the rules bring of the two places of a given pair is so
 abbrev pub IsGivenSettled : ℕ → Closure → Type 0
 IsGivenSettled n c =
     (g : Given) → slice_get c.equal.items n ≡ Some g → IsSettledThere g.left g.right c
 
--- the same of each such pair
+-- what the rules bring of the two places of each given pair is so
 abbrev pub AreGivenSettled : Closure → Type 0
 AreGivenSettled c = (n : ℕ) → n < length c.equal.items → IsGivenSettled n c
 
--- the same of a place, what was written and what stood there before
+-- what the rules bring of a place with what was written, and with what stood before, is so
 abbrev pub IsReadSettled : Element → ℕ → Closure → Type 0
 IsReadSettled e i c = IsSettledThere i e.written c × IsSettledThere i e.before c
 
--- the same of an element that is read
+-- what the rules bring of an element that is read at a place is so
 abbrev pub IsElementSettled : ℕ → Closure → Type 0
 IsElementSettled i c = (e : Element) → HasElement c.rows.items i e → IsReadSettled e i c
 
--- the same of each such element
+-- what the rules bring of each element that is read is so
 abbrev pub AreElementsSettled : Closure → Type 0
 AreElementsSettled c = (i : ℕ) → i < length c.rows.items → IsElementSettled i c
 
--- the same of all these
+-- what the rules bring of given pairs and of elements that are read is so
 abbrev pub AreSinglesSettled : Closure → Type 0
 AreSinglesSettled c = AreGivenSettled c × AreElementsSettled c
 
@@ -57,11 +57,11 @@ ArePairSettled i j c =
     let equal = are_together c.roots.items in
     IsTrue (pair_brings (board_of c) equal i j) → IsTrue (equal i j)
 
--- the same of a place and each one before it
+-- a place is in one class with each before it that is equal to it by forms or by arguments
 abbrev pub ArePairsSettled : ℕ → Closure → Type 0
 ArePairsSettled i c = (j : ℕ) → j < i → ArePairSettled i j c
 
--- the same of each two places
+-- any two places that are equal by their forms or by their arguments are in one class
 abbrev pub AllPairsSettled : Closure → Type 0
 AllPairsSettled c = (i : ℕ) → i < length c.rows.items → ArePairsSettled i c
 

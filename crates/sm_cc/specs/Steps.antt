@@ -73,7 +73,7 @@ AreBelow m (n ∷ ns) = (n < m) × AreBelow m ns
 abbrev pub IsMarked : List Bool → ℕ → Type 0
 IsMarked marks n = slice_get marks n ≡ Some true
 
--- so is each of these
+-- each of these entries is marked
 abbrev pub AreMarked : List Bool → List ℕ → Type 0
 AreMarked marks [] = Unit {0}
 AreMarked marks (n ∷ ns) = IsMarked marks n × AreMarked marks ns

@@ -56,7 +56,7 @@ HaveOneSort table t u =
 abbrev pub IsOfTwoTerms : ClassesValue → GivenFact → Type 0
 IsOfTwoTerms v g = IsTermOf v g.left × IsTermOf v g.right × HaveOneSort v.table g.left g.right
 
--- so is each given fact
+-- each given fact is of two terms of one sort
 pub record AreOfTwoTerms (v : ClassesValue) : Type 0 where
   pub each : (n : ℕ) (g : GivenFact) → slice_get v.given n ≡ Some g → IsOfTwoTerms v g
 

@@ -48,7 +48,7 @@ pub(crate) struct Looked {
     pub(crate) roots: Vec<Equation>,
     // the first of these places that have the keys of forms which the ground's don't have
     alike: Met,
-    // the same of keys of heads with arguments
+    // the first of these places that have keys of heads with arguments which the ground's lack
     headed: Met,
     // whether each of these places has keys of its own
     pub(crate) are_new: bool,

@@ -117,7 +117,7 @@ lines_same move (Next line c) = ap suc (lines_same move c)
 lines_same move (Closed line) = refl
 lines_same move (Split line c d) = let p = lines_same move c in let q = lines_same move d in rw (p, q) refl
 
--- and as many splits above
+-- a moved certificate has as many splits above
 splits_same : (move : ℕ → ℕ) (c : Certificate) → splits_above (moved_certificate move c) ≡ splits_above c
 splits_same move (Next line c) = splits_same move c
 splits_same move (Closed line) = refl

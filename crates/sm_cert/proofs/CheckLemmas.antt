@@ -114,13 +114,13 @@ both_more k n = by (nat_lt (suc k) (suc n)) (nat_lt k n) refl refl
     by true false e f = absurd (let less = ltb-true (suc k) (suc n) e in let more = ltb-false k n f in omega arith)
     by false true e f = absurd (let less = ltb-false (suc k) (suc n) e in let more = ltb-true k n f in omega arith)
 
--- so is a split of which the first side is deep
+-- a split of which the first side is too deep is too deep
 pub first_deep : (allowed a b : ℕ) → (allowed ≡ 0 → ⊥) → nat_lt (allowed - 1) a ≡ true → nat_lt allowed (suc (max a b)) ≡ true
 first_deep allowed a b some h =
     let more : suc (allowed - 1) ≡ allowed = omega arith in
     ap (λ (n : ℕ). nat_lt n (suc (max a b))) (sym more) ∙ both_more (allowed - 1) (max a b) ∙ max_first (allowed - 1) a b h
 
--- or else the second
+-- a split of which the first side isn't too deep is too deep exactly where its second side is
 pub second_deep : (allowed a b : ℕ) → (allowed ≡ 0 → ⊥) → nat_lt (allowed - 1) a ≡ false →
     nat_lt (allowed - 1) b ≡ nat_lt allowed (suc (max a b))
 second_deep allowed a b some h =
@@ -147,7 +147,7 @@ split_depth trees t l c d e =
     ap splits_above (tree_split trees t l c d e)
     ∙ splits_before trees t.lines.list.items (Split (line_in trees l) (certificate_in trees c.value) (certificate_in trees d.value))
 
--- and one that a line closes
+-- how deep a tree is that a line closes: it has no split
 pub closed_depth : (trees : List Tree) (t : CertTree) (l : CertLine) → t.last ≡ ends.Close l → splits_above (certificate_in trees t) ≡ 0
 closed_depth trees t l e = ap splits_above (tree_closed trees t l e) ∙ splits_before trees t.lines.list.items (Closed (line_in trees l))
 

@@ -156,7 +156,7 @@ first_tells fault.Deep None p h = absurd cc
 first_tells fault.Memory None p h = tt
 first_tells e (Some n) p h = h
 
--- or else of the second
+-- a fault of the second side tells, where the first side has none
 pub second_tells : (e : CertFault) (o p : Option ℕ) → o ≡ None → FaultTells e (bad_line p) → FaultTells e (bad_line (or_other o p))
 second_tells e None p none h = h
 second_tells e (Some n) p none h = absurd cc

@@ -103,7 +103,7 @@ pub closing_closes : (b : Bool) → b ≡ is_closed (closing_if b)
 closing_closes true = refl
 closing_closes false = refl
 
--- nor does a line that only closes branches go on in one way
+-- a line that only closes branches doesn't go on in one way
 pub closing_stops : (sorts : Sorts) (trees : List Tree) (path : List Fact) (facts : List BranchFact) (b : Bool) →
     GoesOn sorts trees false path facts (closing_if b)
 closing_stops sorts trees path facts true = tt

@@ -123,7 +123,7 @@ said_first ps qs gs h = λ n g is. let s = h n g is in (s.0, in_first ps qs s.1.
 said_second : (ps qs : List (TermId × TermId)) (gs : List GivenFact) → AreSaid qs gs → AreSaid (ps ++ qs) gs
 said_second ps qs gs h = λ n g is. let s = h n g is in (s.0, in_second ps qs s.1.0 (g.left, g.right) s.1.1)
 
--- the same where the facts have other numbers
+-- what a formula says of terms that aren't equal is said where its facts have other numbers
 said_under : (n m : ℕ) (f : Formula) (ps : List (TermId × TermId)) → AreSaid ps (given_from n (f ∷ [])) → AreSaid ps (given_from m (f ∷ []))
 said_under n m tree.Yes ps h = h
 said_under n m tree.No ps h = h

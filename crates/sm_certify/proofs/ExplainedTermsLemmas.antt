@@ -33,7 +33,7 @@ abbrev pub NamesAmong : List Tree → BranchFact → Type 0
 NamesAmong seen (Formal f) = FormulaAmong seen f
 NamesAmong seen (Sum g) = Unit {0}
 
--- the same of each fact
+-- the terms of each fact that is a formula are among these
 abbrev pub AllNameAmong : List Tree → List BranchFact → Type 0
 AllNameAmong seen [] = Unit {0}
 AllNameAmong seen (k ∷ ks) = NamesAmong seen k × AllNameAmong seen ks
@@ -43,7 +43,7 @@ abbrev pub IsFormulaAmong : List Tree → BranchFact → Type 0
 IsFormulaAmong seen (Formal f) = FormulaAmong seen f
 IsFormulaAmong seen (Sum g) = ⊥
 
--- the same of each fact
+-- each fact is a formula, whose terms are among these
 abbrev pub AreFormulasAmong : List Tree → List BranchFact → Type 0
 AreFormulasAmong seen [] = Unit {0}
 AreFormulasAmong seen (k ∷ ks) = IsFormulaAmong seen k × AreFormulasAmong seen ks
@@ -58,7 +58,7 @@ all_name seen [] h = tt
 all_name seen (Formal f ∷ ks) h = (h.0, all_name seen ks h.1)
 all_name seen (Sum g ∷ ks) h = (tt, all_name seen ks h)
 
--- and back
+-- where each fact is a formula with terms among these, the terms of all formulas are among them
 pub formulas_name : (seen : List Tree) (ks : List BranchFact) → AreFormulasAmong seen ks → FormulasAmong seen (filter_map formula_in ks)
 formulas_name seen [] h = tt
 formulas_name seen (Formal f ∷ ks) h = (h.0, formulas_name seen ks h.1)
@@ -93,7 +93,7 @@ module _ (seen : List Tree) where
   equal_among (And p q) s h e = absurd cc
   equal_among (Or p q) s h e = absurd cc
 
-  -- and of its contrary
+  -- the sides of an equation's contrary
   unequal_among : (f : Assertion) (s : Sides) → FormulaAmong seen f → unequal_sides f ≡ Some s → SidesAmong seen s
   unequal_among Yes s h e = absurd cc
   unequal_among No s h e = absurd cc

@@ -183,7 +183,7 @@ module _ (b : Seen) (mark : ℕ → Bool) where
     pub leads_bad : (bad : ℕ) → Leads b mark lines numbers [] [] bad → bad < length numbers
     leads_bad bad d = let c = (settled lines numbers [] bad d).0 in number_there d.made d.written bad c.0 c.1
 
-    -- and closes the branch
+    -- the form that can't hold closes the branch
     pub leads_closed : HaveOnePlace b.terms → (bad k : ℕ) → Leads b mark lines numbers [] [] bad → slice_get numbers bad ≡ Some k →
         Refutes b.sorts (as_facts b.facts) (lines_before b.terms lines (Closed (Close k)))
     leads_closed distinct bad k d number = λ n.

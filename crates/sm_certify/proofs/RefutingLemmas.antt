@@ -138,7 +138,7 @@ listed_below count (u ∷ terms) h t zero e = subst (λ (v : TermId). v.0 < coun
 listed_below count (u ∷ terms) h t (suc n) e = listed_below count terms h.1 t n e
 
 module _ (count : ℕ) (terms : List TermId) (below : AreBelow count (numbers_of terms)) where
-  -- so are those of a line
+  -- a line of listed terms names only terms of the table
   line_within : (l : CertLine) → IsLineOf terms l → IsLineWithin count l
   line_within (line.Both n) h = tt
   line_within (line.Either n) h = tt
@@ -160,7 +160,7 @@ module _ (count : ℕ) (terms : List TermId) (below : AreBelow count (numbers_of
   line_within (line.Close n) h = tt
   line_within (line.Clash m n) h = tt
 
-  -- and of lines
+  -- lines of listed terms name only terms of the table
   pub lines_within : (ls : List CertLine) → AreLinesOf terms ls → AreLinesWithin count ls
   lines_within [] h = tt
   lines_within (l ∷ ls) h = (line_within l h.0, lines_within ls h.1)

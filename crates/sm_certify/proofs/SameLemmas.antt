@@ -20,7 +20,7 @@ same_on_branch table ts fs whole t u h = λ equal closed.
     let here : are_equal s u t ≡ true = ap (λ (e : Pairs). e u t) (equal_seen table ts fs whole) ∙ h in
     closed.turned u t ((equal_is_same s u t).0 here equal closed)
 
--- the same of classes that are made of the facts
+-- terms that are equal on a branch are of one class, where the classes are made of its facts
 pub same_by_classes : (v : ClassesValue) (table : TableValue) (fs : List Formula) → IsWhole (trees_in table) v.terms →
     v ≡ classes_by table v.terms fs → (t u : TermId) →
     IsTrue ((branch_of table fs).equal (tree_at (trees_in table) u.0) (tree_at (trees_in table) t.0)) →

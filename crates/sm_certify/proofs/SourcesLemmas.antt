@@ -40,7 +40,7 @@ outcome_makes trees (Fits h) (Leaves op y z) f keeps e = absurd keeps
 outcome_makes trees (Leaves op y z) (Fits g) f keeps e = absurd keeps
 outcome_makes trees (Leaves op y z) (Leaves other v w) f keeps e = absurd cc
 
--- the same with 1 more
+-- where one outcome is kept for another, it still is with 1 more on both
 more_stands : (trees : List Tree) (o : Outcome (Linear ℕ)) (p : Outcome (Linear Tree)) → IsOutcomeFor trees o p →
     IsOutcomeFor trees (then_with o one_more) (then_with p one_more)
 more_stands trees (Fits f) (Fits g) keeps = one_more_stands trees f g keeps

@@ -54,7 +54,7 @@ at_mark : (m : Bool) (P : Type 0) → m ≡ true → IfMarked m P → P
 at_mark true P e p = p
 at_mark false P e p = absurd cc
 
--- the same of other facts
+-- what follows from what is so where there is a mark is so where there is a mark
 marked_later : (m : Bool) (P Q : Type 0) → (P → Q) → IfMarked m P → IfMarked m Q
 marked_later true P Q go p = go p
 marked_later false P Q go p = tt

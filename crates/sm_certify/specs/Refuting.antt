@@ -41,7 +41,7 @@ abbrev pub IsFormAt : List Tree → List BranchFact → ℕ → Linear ℕ → T
 IsFormAt trees facts n f =
     (g : Linear Tree) × (slice_get facts n ≡ Some (Sum g)) × IsKeptFor trees f g
 
--- the same of each marked form and its number
+-- each marked form is kept for the form that is the fact with its number
 abbrev pub StandAsForms :
     List Tree → List BranchFact → (ℕ → Bool) → List ℕ → List (Linear ℕ) → Type 0
 StandAsForms trees facts mark [] [] = Unit {0}

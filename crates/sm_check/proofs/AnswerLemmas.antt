@@ -24,14 +24,14 @@ pub stopped_tells : (r : Reached) (e : Stopped) → StopsAt r e → TellsAnswer 
 stopped_tells r (stopped.Wrong line word) stops = ap cut_answer stops
 stopped_tells r stopped.Memory stops = tt
 
--- and the verdict on all bytes
+-- what is answered where lines stop tells the verdict on all bytes
 pub stopped_verdict : (s : Subject) (bytes : List ℕ) (e : Stopped) → StopsAt (reach s bytes) e →
     TellsAnswer (stopped_answer e) (Judged (verdict s bytes))
 stopped_verdict s bytes stopped.Memory stops = tt
 stopped_verdict s bytes (stopped.Wrong line word) stops =
     ap Judged (verdict-reach s bytes ∙ ap (λ (r : Reached). verdict_at_end r (lines_in bytes).rest) stops)
 
--- and the answer to a file of which no more than the limit was read
+-- what is answered where bytes within the limit stop tells the answer to their file
 pub stopped_told : (limit : ℕ) (s : Subject) (bytes : List ℕ) (k : ℕ) (e : Stopped) (r : Result Checked CheckError) →
     r ≡ stopped_answer e → k ≤ limit → StopsIn s (take k bytes) e → TellsAnswer r (file_answer limit s bytes)
 stopped_told limit s bytes k (stopped.Wrong line word) r is low stops =
@@ -65,7 +65,7 @@ fault_told limit s bytes k error (Err TooLong) low err tells = absurd (no_long e
 fault_told limit s bytes k error (Err ReadFault) low err tells = tt
 fault_told limit s bytes k error (Err Memory) low err tells = tt
 
--- the same past the limit, and at the end
+-- what the lines up to the limit tell is told of a longer file, the verdict of one within it
 pub past_told : (limit : ℕ) (s : Subject) (bytes : List ℕ) (r : Result Checked CheckError) → limit < length bytes →
     TellsAnswer r (cut_answer (reach s (take limit bytes))) → TellsAnswer r (file_answer limit s bytes)
 past_told limit s bytes r past tells = subst (TellsAnswer r) (sym (answer_past limit s bytes past)) tells

@@ -76,7 +76,7 @@ line_taken was now s r line t counted takes = by (standing_after s t.at line) re
           ∙ ap (λ (k : ℕ). Before k at) same;
     }
 
--- or refused
+-- a line was refused where no line is set aside
 pub line_refused : (was : TakenLines) (s : Subject) (r : Reached) (line : List ℕ) (t : ComesTo was [] s r) (e : Stopped) →
     RefusesAt was.number (standing_after s t.at line) e → StopsAt (with_line s line r) e
 line_refused was s r line t Memory refused = tt
@@ -113,7 +113,7 @@ next_taken was now s r line more t counted takes = by (standing_after s t.at lin
           ∙ ap (λ (k : ℕ). reached s k at more) same;
     }
 
--- or refused
+-- the first of the lines that are set aside was refused
 pub next_refused : (was : TakenLines) (s : Subject) (r : Reached) (line : List ℕ) (more : List (List ℕ))
     (t : ComesTo was (line ∷ more) s r)
     (e : Stopped) → RefusesAt was.number (standing_after s t.at line) e → StopsAt r e

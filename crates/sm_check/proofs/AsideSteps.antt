@@ -112,13 +112,13 @@ behind_taken (Err e) was now aside s r line none t counted takes = tt
 behind_taken (Ok u) was now aside s r line none t counted takes =
     subst (λ (x : List (List ℕ)). ComesTo now x s (with_line s line r)) (sym none) (line_taken was now s r line t counted takes)
 
--- or refused
+-- a line was refused behind all that was set aside
 pub behind_refused : {U : Type 0} (x : Result U Stopped) (was : TakenLines) (s : Subject) (r : Reached) (line : List ℕ)
     (t : ComesTo was [] s r) → IfErr x (RefusesAt was.number (standing_after s t.at line)) → IfErr x (StopsAt (with_line s line r))
 behind_refused (Ok u) was s r line t refused = tt
 behind_refused (Err e) was s r line t refused = line_refused was s r line t e refused
 
--- the same lines are set aside
+-- lines come as far where equal ones are set aside
 pub same_aside : (lines : TakenLines) (aside now : List (List ℕ)) (s : Subject) (r : Reached) → now ≡ aside → ComesTo lines aside s r →
     ComesTo lines now s r
 same_aside lines aside now s r is t = subst (λ (x : List (List ℕ)). ComesTo lines x s r) (sym is) t

@@ -50,14 +50,14 @@ AreTwo (Some (way ∷ [])) = ⊥
 AreTwo (Some (way ∷ other ∷ [])) = Unit {0}
 AreTwo (Some (way ∷ other ∷ third ∷ rest)) = ⊥
 
--- or one
+-- a line is refused, or there is one way
 abbrev pub IsOne : Ways → Type 0
 IsOne None = Unit {0}
 IsOne (Some []) = ⊥
 IsOne (Some (way ∷ [])) = Unit {0}
 IsOne (Some (way ∷ other ∷ rest)) = ⊥
 
--- or none
+-- a line is refused, or there is no way
 abbrev pub IsNoWay : Ways → Type 0
 IsNoWay None = Unit {0}
 IsNoWay (Some []) = Unit {0}

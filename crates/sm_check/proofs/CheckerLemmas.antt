@@ -33,7 +33,7 @@ pub at_parts : (c : Checker) (s : Subject) (at : Standing) → c.stopped ≡ Non
 unfolding IsAt
 at_parts c s at goes about stands exact = (goes, about, stands, exact)
 
--- and what one is that stopped
+-- a checker that stopped has the fault by which it did
 pub stopped_is : (c : Checker) (s : Subject) (e : LineFault) → IsAt c s (Err e) → c.stopped ≡ Some e
 unfolding IsAt
 stopped_is c s e is = is

@@ -15,7 +15,7 @@ ended-front (b ∷ bs) more h =
     ap (λ (t : Bool). (with_byte t b all).ended) h.0
     ∙ ap (λ (ls : List (List ℕ)). (in_first_line b ls all.rest).ended) (ended-front bs more h.1)
 
--- the same by where the end is
+-- the first line, with its end, by where the end is
 pub ended-first : (bytes : List ℕ) (n : ℕ) → HasNoEnd (take n bytes) → take (n + 1) bytes ≡ take n bytes ++ 10 ∷ [] →
     ended_in bytes ≡ take n bytes ∷ ended_in (drop (n + 1) bytes)
 ended-first bytes n h ends =

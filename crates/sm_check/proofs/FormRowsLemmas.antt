@@ -26,7 +26,7 @@ named_there trees [] n t e = absurd cc
 named_there trees (u ∷ us) zero t e = ap (λ (v : TermId). Some (tree_at trees v.0)) (same_Some u t e)
 named_there trees (u ∷ us) (suc n) t e = named_there trees us n t e
 
--- and one that isn't there
+-- a place at which no line made a term has no tree
 pub named_missing : (trees : List Tree) (terms : List TermId) (n : ℕ) → slice_get terms n ≡ None → slice_get (terms_in trees terms) n ≡ None
 named_missing trees [] n e = refl
 named_missing trees (u ∷ us) zero e = absurd cc

@@ -38,7 +38,7 @@ own_read read piece place count at fits =
 pub own_front : (bytes : List ℕ) (place : ℕ) → length bytes ≡ place → bytes ≡ take place bytes
 own_front bytes place at = sym (take_all place bytes (omega (arith, at)))
 
--- the same with more behind them
+-- bytes are the first of themselves with more behind them, as many as they are
 pub front_of : (bytes more : List ℕ) (place : ℕ) → length bytes ≡ place → bytes ≡ take place (bytes ++ more)
 front_of [] more place at = rw (← at) refl
 front_of (b ∷ bs) more place at = rw (← at) (ap (λ (x : List ℕ). b ∷ x) (front_of bs more (length bs) refl))

@@ -345,7 +345,7 @@ opens_begin sorts trees path d waiting ws n os o ps h goal short none one same a
     (subst (λ (xs : List Waiting). OpensUpTo sorts trees h.facts (o ∷ []) (reverse xs) ps) (sym whole)
     (goal_opens sorts trees path d waiting ps o h goal short none))
 
--- and go on with those of what waits, the last first
+-- the openings go on with those of what waits, the last first
 pub opens_more : (sorts : Sorts) (trees : List Tree) (facts : List BranchFact) (os all : List Opening) (o : Opening) (ws : List Waiting)
     (n : ℕ) (w : Waiting) (ps : List Pending) → 0 < n → n ≤ length ws → w ≡ get_or ws (n - 1) w →
     ((p : Pending) → WaitingStands sorts trees facts w p → OpensAs sorts trees facts o p) → all ≡ os ++ o ∷ [] →

@@ -44,7 +44,7 @@ module _ (sorts : Sorts) (trees : List Tree) (rows : List FormRow) where
   row_made forms n row made a f stand there is form e =
       same_Some a f (sym e ∙ ap (row_form sorts trees forms) (sym is) ∙ (stand.each n row f there form).made)
 
-  -- the same of one with two parts
+  -- the formula of a row that has two parts, by what it makes of theirs
   pub both_made : (forms : List Assertion) (n p q : ℕ) (row : FormRow) (made : FormLine) (makes : Assertion → Assertion → Assertion)
       (a b f : Assertion) → RowsStand sorts trees rows forms → slice_get rows n ≡ Some row → row.made ≡ made → slice_get forms n ≡ Some f →
       row_form sorts trees forms made ≡ joined forms p q makes → p < length rows → q < length rows →

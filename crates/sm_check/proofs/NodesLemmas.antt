@@ -160,6 +160,6 @@ above_told n above over cases =
     ))
     cases
 
--- the same of a fault that is a word
+-- a fault that is a word tells of an answer with this word
 pub tells_fault : {S T : Type 0} (P : S → T → Type 0) (w : Word) (e : LineFault) (r : Result T Word) → e ≡ Wrong w → r ≡ Err w → Tells P (Err e) r
 tells_fault P w e r is told = subst (λ (x : LineFault). Tells P (Err x) r) (sym is) (tells_word P w r told)

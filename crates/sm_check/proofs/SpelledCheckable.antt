@@ -84,7 +84,7 @@ program_free declared outputs c none =
     let rest = neither (first_output_fault (sort_of declared) [] outputs) (first_of_all (names ∷ sizes)) after.1 in
     (rest.0, (neither names (first_of_all sizes) rest.1).0)
 
--- the same of an assumption
+-- an assumption without a fault is sorted
 assumption_sorted : (declared : List (ℕ × Sort)) (assumed : Option Condition) → ill_assumed declared assumed ≡ None
     → IsAssumptionSorted (sort_of declared) assumed
 unfolding ill_assumed

@@ -5,7 +5,7 @@ use Rattle.sm_check.specs.declared.fault.LineFault.{LineFault}
 use Rattle.sm_check.specs.declared.fault.LineFault.TheVariants.{Wrong}
 use Rattle.sm_check.specs.Tells.{Tells}
 
--- the same of an equal answer
+-- what is told of an answer is told of an equal one
 pub tells_along : {S T : Type 0} (P : S → T → Type 0) (s : Result S LineFault) (r q : Result T Word) → q ≡ r → Tells P s r → Tells P s q
 tells_along P s r q e h = subst (Tells P s) (sym e) h
 

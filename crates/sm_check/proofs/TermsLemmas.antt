@@ -40,7 +40,7 @@ got [] n t h e = absurd (omega arith)
 got (u ∷ us) zero t h e = ap (λ (v : TermId). Some v) (sym (e t))
 got (u ∷ us) (suc n) t h e = let less : n < length us = omega arith in got us n t less e
 
--- and one that isn't
+-- an element past the end isn't there
 not_got : (ts : List TermId) (n : ℕ) → length ts ≤ n → slice_get ts n ≡ None
 not_got [] n h = refl
 not_got (u ∷ us) zero h = absurd (omega arith)

@@ -144,7 +144,7 @@ has_first sorts trees path o d ws ps is h =
     by [] a = absurd a
     by (p ∷ rest) a = record { facts = h.facts; due = p; rest = rest; is = refl; stand = h.stand; first = a.0; wait = a.1 }
 
--- the same refusal of a line
+-- where a line is refused, so is what would come of it
 pub fails : {S T U V : Type 0} (P : S → T → Type 0) (Q : V → U → Type 0) (e : LineFault) (r : Result T Word) (next : T → Result U Word) →
     Tells P (Err e) r → Tells Q (Err e) (and_then r next)
 fails P Q Memory r next h = tt

@@ -79,7 +79,7 @@ IsRowReady sorts trees k (Lt t u) = AreNumeric sorts trees t u
 IsRowReady sorts trees k (And p q) = (p < k) × (q < k)
 IsRowReady sorts trees k (Or p q) = (p < k) × (q < k)
 
--- the same of each row
+-- each row names terms of a table, of fitting sorts, or earlier rows
 abbrev pub AreRowsReady : Sorts → List Tree → List FormRow → Type 0
 AreRowsReady sorts trees rows =
     (k : ℕ) (row : FormRow) → slice_get rows k ≡ Some row → IsRowReady sorts trees k row.made

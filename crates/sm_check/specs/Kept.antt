@@ -30,7 +30,7 @@ NamesEarlier k (Lt t u) = Unit {0}
 NamesEarlier k (And p q) = (p < k) × (q < k)
 NamesEarlier k (Or p q) = (p < k) × (q < k)
 
--- the same of each row
+-- each row names earlier ones
 abbrev pub NameEarlier : List FormRow → Type 0
 NameEarlier rows =
     (k : ℕ) (row : FormRow) → slice_get rows k ≡ Some row → NamesEarlier k row.made

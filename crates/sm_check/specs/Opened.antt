@@ -25,7 +25,7 @@ IsDenied shared stores goal (waits.State n kept more state above) = ⊥
 IsDenied shared stores goal (waits.Branch n fact held splits) =
     (n ≡ shared) × SaysContrary goal fact × (held.value ≡ stores) × (splits ≡ 0)
 
--- the same of each goal, in order
+-- for each goal, in order, the branch of its contrary waits, with no split above it
 abbrev pub AreDenied : ℕ → PerCopy SymStore → List Formula → List Waiting → Type 0
 AreDenied shared stores [] [] = Unit {0}
 AreDenied shared stores [] (w ∷ ws) = ⊥

@@ -21,7 +21,7 @@ abbrev pub IsDueReady : Sorts → List Tree → Due → Type 0
 IsDueReady sorts trees (due.State state above) = IsStateReady sorts trees state
 IsDueReady sorts trees (due.Branch stores splits) = AreStoresReady sorts trees stores.value
 
--- the same where something is due
+-- what is due, if anything is, can be gone on from
 abbrev pub IsReadyIfDue : Sorts → List Tree → Option Due → Type 0
 IsReadyIfDue sorts trees None = Unit {0}
 IsReadyIfDue sorts trees (Some d) = IsDueReady sorts trees d
@@ -32,7 +32,7 @@ IsWaitingReady sorts trees (waits.State shared kept more state above) = IsStateR
 IsWaitingReady sorts trees (waits.Branch shared fact stores splits) =
     AreStoresReady sorts trees stores.value
 
--- the same of each
+-- each of what waits can be gone on from
 abbrev pub AreWaitingReady : Sorts → List Tree → List Waiting → Type 0
 AreWaitingReady sorts trees [] = Unit {0}
 AreWaitingReady sorts trees (w ∷ ws) = IsWaitingReady sorts trees w × AreWaitingReady sorts trees ws

@@ -4,7 +4,7 @@ use Rattle.sm_proof.specs.declared.word.Word.{Word}
 use Rattle.sm_check.specs.declared.fault.LineFault.{LineFault}
 use Rattle.sm_check.specs.declared.fault.LineFault.TheVariants.{Wrong, Memory}
 
--- the same good end, as a relation has it, or the same word; want of memory tells nothing
+-- two answers have one good end, as a relation has it, or one word; want of memory tells nothing
 abbrev pub Tells : {S T : Type 0} → (S → T → Type 0) → Result S LineFault → Result T Word → Type 0
 Tells P (Ok s) (Ok t) = P s t
 Tells P (Ok s) (Err w) = ⊥

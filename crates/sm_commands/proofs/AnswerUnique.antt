@@ -146,7 +146,7 @@ fewer_deeper t effort workers s l (inr (inr a)) =
       says = a.says;
     }))
 
--- nor do the words behind it
+-- the words behind an answer don't depend on the workers
 fewer_why : (t : Parts) (effort : Effort) (workers : ℕ) (s : Status) (l more : List ℕ) →
     let hired : Effort = record effort { workers = workers } in
     SaysWhy t hired s l more → SaysWhy t effort s l more
@@ -197,7 +197,7 @@ fewer_checks file effort workers b n s l (inl f) = inl f
 fewer_checks file effort workers b n s l (inr g) =
     inr (record { task = g.task; gives = g.gives; answers = fewer_written g.task effort workers s l g.answers })
 
--- nor what is answered to a task that is made
+-- what is answered to a task that is made doesn't depend on the workers
 fewer_gen : (seed size : ℕ) (effort : Effort) (workers : ℕ) (s : Status) (l : List ℕ) →
     let hired : Effort = record effort { workers = workers } in
     AnswersGenInTime seed size hired s l → AnswersGenInTime seed size effort s l
@@ -208,7 +208,7 @@ fewer_gen seed size effort workers s l (inl a) = inl (record {
 })
 fewer_gen seed size effort workers s l (inr r) = inr (fewer_over effort workers s l r)
 
--- nor what is answered to what is asked for
+-- what is answered to what is asked for doesn't depend on the workers
 fewer_workers : (ask : Asked) (workers : ℕ) (files : Files) (b n : ℕ) (s : Status) (l : List ℕ)
     → AnswersCommand (with_workers workers ask) files b n s l → AnswersCommand ask files b n s l
 fewer_workers (check task proof effort) workers files b n s l x = fewer_checks (files task) effort workers b n s l x
@@ -226,7 +226,7 @@ fewer_workers (gen seed size effort) workers files b n s l x =
       answers = fewer_gen seed size effort workers s l x.answers;
     }
 
--- nor does it depend on how many answers are kept
+-- what is answered to what is asked for doesn't depend on how many answers are kept
 any_cache : (ask : Asked) (cache : ℕ) (files : Files) (b n : ℕ) (s : Status) (l : List ℕ)
     → AnswersCommand (with_cache cache ask) files b n s l → AnswersCommand ask files b n s l
 any_cache (check task proof effort) cache files b n s l x = x

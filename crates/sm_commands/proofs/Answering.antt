@@ -86,7 +86,7 @@ check_accepts file effort before now status text (inr c) e bytes told = (
   accepted_is_free c.task effort status text c.answers e,
 )
 
--- so is each task of which it is asked
+-- Accepted of `check`, `verify` and `trim` is for a task that is free of conflicts
 asked_accepts : (ask : Asked) (files : Files) (before now : ℕ) (status : Status) (text : List ℕ)
     → AnswersCommand ask files before now status text → status ≡ Accepted →
     (task : List ℕ) → merge_file ask ≡ Some task → WhereHeld (files task) IsSafeMerge

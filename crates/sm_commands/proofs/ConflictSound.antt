@@ -189,7 +189,7 @@ explain_no_conflict file before now status text (inl f) e =
     (without_task file before now status b.0 b.2).not_conflict e
 explain_no_conflict file before now status text (inr c) e = let is = c.says.ended in cc
 
--- and with one it begins as `replay`
+-- Conflict of `explain` is for a task that isn't free of conflicts
 explain_conflicts : (files : Files) (file : List ℕ) (input : Option (List ℕ)) (turns before now : ℕ) (status : Status) (text : List ℕ)
     → Explains files file input turns before now status text → status ≡ Conflict → WhereHeld (files file) IsUnsafeMerge
 explain_conflicts files file None turns before now status text a e =
@@ -297,7 +297,7 @@ pub replays_shown : (words : Words) (files : Files) (before now : ℕ) (status :
 replays_shown words files before now status text answers e task input turns asks =
     replayed_shows (files task) (files input) turns before now status text (rw asks at answers) e
 
--- and so is that of `explain`
+-- Conflict of `explain` is shown by the input that it was given
 pub explains_shown : (words : Words) (files : Files) (before now : ℕ) (status : Status) (text : List ℕ)
     → IsAnswerTo words files before now status text → status ≡ Conflict → (task input : List ℕ) (turns : ℕ)
     → asked words ≡ Some (explain task (Some input) turns) → IsShownByInput (files task) (files input) turns

@@ -37,7 +37,7 @@ check_elsewhere (Some file) (Some given) effort ask e = go (bytes_eq file given)
         subst WritesElsewhere (same_ask (check file given f) ask e)
         (λ same. true≢false (sym ((bytes_eq-Decides file given).1 same) ∙ is))
 
--- nor is the file that `trim` writes that of the task or of the proof
+-- the file that `trim` writes isn't that of the task or of the proof
 trim_elsewhere : (task proof out : Option Text) (ask : Asked) → trim_by task proof out ≡ Some ask → WritesElsewhere ask
 trim_elsewhere None proof out ask e = absurd (no_ask ask e)
 trim_elsewhere (Some file) None out ask e = absurd (no_ask ask e)

@@ -79,7 +79,7 @@ pub accepts_read : (words : Words) (before now : List Read) (status : Status) (t
     AcceptsRead ask before now
 accepts_read words before now status text a e ask asks = accepted_by ask before now status text (rw asks at a) e
 
--- and exactly where a task was read, and then a proof for it
+-- Accepted of `verify` comes exactly where a task was read, and then a proof that passes for it
 proved_by : (task proof : List ℕ) (before now : List Read) (status : Status) (text : List ℕ) →
     VerifiesRead task proof before now status text → (status ≡ Accepted) ↔ ReadsProved task proof before now
 proved_by task proof before now status text a = (
@@ -150,7 +150,7 @@ pub conflicts_read : (words : Words) (files : Files) (b n : ℕ) (before now : L
 conflicts_read words files b n before now status text answers a e ask asks =
     conflict_by ask files b n before now status text (rw asks at answers) (rw asks at a) e
 
--- and the input that `check` shows
+-- the input that `check` shows, shows a conflict of the task that was read
 shown_by : (task : List ℕ) (effort : Effort) (before now : List Read) (status : Status) (text : List ℕ) →
     ChecksRead task effort before now status text → status ≡ Conflict → ShowsReadInput task before now effort text
 shown_by task effort before now status text (inl none) e = absurd (none.1 e)
@@ -175,7 +175,7 @@ pub shows_read : (words : Words) (before now : List Read) (status : Status) (tex
 shows_read words before now status text a e task proof effort asks =
     shown_by task effort before now status text (rw asks at a) e
 
--- and the combination that `suggest` puts
+-- with the combination that `suggest` puts, the task that was read is free of conflicts
 suggested_by : (task : List ℕ) (effort : Effort) (before now : List Read) (status : Status) (text : List ℕ) →
     ProposesRead task effort before now status text → status ≡ Accepted → SuggestsRead task before now text
 suggested_by task effort before now status text (inl none) e = absurd (none.0 e)
@@ -188,7 +188,7 @@ pub suggests_read : (words : Words) (before now : List Read) (status : Status) (
 suggests_read words before now status text a e task effort asks =
     suggested_by task effort before now status text (rw asks at a) e
 
--- and the files whose lines of `batch` are Accepted
+-- each file whose line of `batch` is Accepted was read, and its task is free of conflicts
 pub batches_read : (words : Words) (before now : List Read) (status : Status) (text : List ℕ) →
     AnswersByReads (asked words) before now status text → (list : List ℕ) (cache : ℕ) (effort : Effort) →
     asked words ≡ Some (batch list cache effort) → AcceptsSafeRead list before now text

@@ -43,7 +43,7 @@ pub checked_status : (t : Parts) (effort : Effort) (status : Status) (text : Lis
     → WritesNothing status
 checked_status t effort status text a = outcome_status t a.outcome status text a.says
 
--- nor does one beyond the search
+-- an answer of the search or beyond it isn't Usage, Memory or SinkFault
 pub deeper_status : (t : Parts) (effort : Effort) (status : Status) (text : List ℕ) → AnswersDeeper t effort status text
     → IsOfCommand status
 deeper_status t effort status text (inl a) = (checked_status t effort status text a).of_command

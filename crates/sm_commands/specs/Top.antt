@@ -157,7 +157,7 @@ abbrev pub TellsBy : Option Asked → Files → Status → List ℕ → Files �
 TellsBy None before status text now = Unit {0}
 TellsBy (Some ask) before status text now = TellsFiles ask before status text now
 
--- the same where memory is wanting
+-- what words that ask for this, or for nothing, may leave in the files where memory is wanting
 abbrev pub LeavesPartBy : Option Asked → Files → Files → Type 0
 LeavesPartBy None before now = IsUnchanged before now
 LeavesPartBy (Some ask) before now = LeavesPart ask before now

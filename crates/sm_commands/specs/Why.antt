@@ -71,11 +71,11 @@ abbrev pub AnswersWhy : Parts → Effort → Status → List ℕ → Type 0
 AnswersWhy t effort status text =
     ((effort.why ≡ false) × AnswersDeeper t effort status text) ⊎ Explained t effort status text
 
--- or it is that the time for it is over
+-- what is answered to a task, or that the time for it is over
 abbrev pub AnswersInTime : Parts → Effort → Status → List ℕ → Type 0
 AnswersInTime t effort status text = AnswersWhy t effort status text ⊎ RunsOut effort status text
 
--- and this may be a proof that couldn't be written whole
+-- what is answered to a task, or that the time is over, or that its proof couldn't be written whole
 abbrev pub AnswersTask : Parts → Effort → Status → List ℕ → Type 0
 AnswersTask t effort status text =
     AnswersInTime t effort status text ⊎ FailsToWrite t effort status text

@@ -65,7 +65,7 @@ pub fn safemerge<R: Threads + Sync, G: Gate, H: Shelf, K: Sink>(
     ensures replayed { result ≡ Status.Conflict → (task input : List ℕ) (turns : ℕ) →
         asked (map string_bytes words.now) ≡ Some (replay task input turns) →
         IsShownByInput (H.file shelf.old task) (H.file shelf.old input) turns }
-    // So is that of `explain`.
+    // A Conflict of `explain` with an input is shown by that input.
     ensures explained { result ≡ Status.Conflict → (task input : List ℕ) (turns : ℕ) →
         asked (map string_bytes words.now) ≡ Some (explain task (Some input) turns) →
         IsShownByInput (H.file shelf.old task) (H.file shelf.old input) turns }

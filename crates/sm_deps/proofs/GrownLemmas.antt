@@ -66,7 +66,7 @@ lost_here true c m n lacked got more = absurd cc
 lost_here false true m n lacked got more = omega arith
 lost_here false false m n lacked got more = absurd cc
 
--- or later
+-- a count that loses one later
 lost_after : (b c : Bool) (m n : ℕ) → (b ≡ true → c ≡ true) → n < m → (if c then n else suc n) < (if b then m else suc m)
 lost_after true true m n grows more = more
 lost_after true false m n grows more = absurd (let no : false ≡ true = grows refl in cc)
@@ -121,7 +121,7 @@ first_new set more (z ∷ rest) =
 abbrev pub From : List ℕ → (Test → Test) → Test → Type 0
 From list brings set = (more : Test) → Below set more → (x : ℕ) → brings more x ≡ true → (more x ≡ true) ⊎ (is_in list x ≡ true)
 
--- or of two, where the second brings nothing
+-- either of two tests, where the second brings nothing, is the first
 or_same : (b c : Bool) → (c ≡ true → b ≡ true) → (b || c) ≡ b
 or_same true c h = refl
 or_same false true h = absurd (let no : false ≡ true = h refl in cc)

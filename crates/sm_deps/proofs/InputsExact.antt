@@ -61,7 +61,7 @@ mentions_listed (Minus d e) x h =
 mentions_listed (Times d e) x h =
     in_either (names_in d) (names_in e) (mentions d x) (mentions e x) x (mentions_listed d x) (mentions_listed e x) h
 
--- so are those of a condition
+-- the names of a condition are listed
 tests_listed : (b : Condition) (x : ℕ) → tests b x ≡ true → stands (names_tested b) x ≡ true
 tests_listed Yes x h = h
 tests_listed No x h = h

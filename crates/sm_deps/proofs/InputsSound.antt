@@ -49,7 +49,7 @@ then_alike P Q None (Some t) f g now later = absurd now
 then_alike P Q (Some s) None f g now later = absurd now
 then_alike P Q (Some s) (Some t) f g now later = later s t now
 
--- the same branch of two choices
+-- a choice of two branches by equal tests: the ends are alike where those of the branches are
 if_alike : (P : Store → Store → Type 0) (b c : Bool) (o p q r : Option Store) →
     b ≡ c → EndAlike P o p → EndAlike P q r → EndAlike P (if b then o else q) (if c then p else r)
 if_alike P true true o p q r same first second = first
@@ -328,7 +328,7 @@ carries_by_sort sorts (While b c k) good = (
 )
 carries_by_sort sorts (Hole h k) good = carries_by_sort sorts k good
 
--- the same of stores that agree by sort
+-- well-sorted code runs alike from stores that agree by sort on the inputs for a name
 pub inputs_alike_by_sort : (sorts : Sorts) (n : ℕ) (c : Code) (w : ℕ) (s t : Store) → IsWellSorted sorts c →
     ((x : ℕ) → IsTrue (is_in (inputs c w) x) → SameIfSorted (sorts x) (s x) (t x)) →
     EndAlike (λ (u v : Store). SameIfSorted (sorts w) (u w) (v w)) (run n c s) (run n c t)

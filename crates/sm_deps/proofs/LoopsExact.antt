@@ -82,7 +82,7 @@ counted_both m n one two three first second = record {
   kept = omega (arith, first.kept, second.kept);
 }
 
--- the same number of loops
+-- the loops that are passed are counted by any equal number
 counted_same : (m n : ℕ) (one two : Loops) → m ≡ n → LoopsCounted m one two → LoopsCounted n one two
 counted_same m n one two same h = subst (λ (k : ℕ). LoopsCounted k one two) same h
 

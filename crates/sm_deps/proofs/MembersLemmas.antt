@@ -125,7 +125,7 @@ added_two start one both first second whole got parts more =
 pub on_ok : {T E P Q : Type 0} (r : Result T E) → OnOk r P → (P → Q) → OnOk r Q
 on_ok r h f = on_ok_weaker r f h
 
--- the same of a value that is there
+-- what follows from what holds of a value, if it is there, holds of it
 pub if_ok : {T E : Type 0} (r : Result T E) (P Q : T → Type 0) → IfOk r P → ((v : T) → P v → Q v) → IfOk r Q
 if_ok r P Q h f = IfOk-weaker r P Q f h
 

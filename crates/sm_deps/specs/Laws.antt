@@ -39,7 +39,7 @@ InputsDecide =
     ((x : ℕ) → IsTrue (is_in (inputs c w) x) → s x ≡ t x) →
     EndAlike (λ (u v : Store). u w ≡ v w) (run n c s) (run n c t)
 
--- the same of well-sorted code and stores that agree by sort
+-- runs of well-sorted code from stores that agree by sort on the inputs for a name end alike
 abbrev pub InputsDecideBySort : Type 0
 InputsDecideBySort =
     (sorts : Sorts) (n : ℕ) (c : Code) (w : ℕ) (s t : Store) →
@@ -56,7 +56,7 @@ InputsAreDeclared =
     IsTrue (is_in (inputs c w) x) →
     IsTrue (is_some (sorts x))
 
--- so is what it assigns
+-- what well-sorted code assigns is declared
 abbrev pub AssignedAreDeclared : Type 0
 AssignedAreDeclared =
     (sorts : Sorts) (c : Code) (x : ℕ) →

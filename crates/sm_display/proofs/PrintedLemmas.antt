@@ -61,7 +61,7 @@ pub named_alike : (p : ProgramParts) (names : List (List ℕ)) (declared : List 
 named_alike p names declared outputs body a b c d h =
     record { declared = rw (a, b) h.declared; outputs = rw (a, c) h.outputs; body = rw (a, d) h.body }
 
--- and has the same text
+-- a program of equal parts has the same text
 pub printed_alike : (p : ProgramParts) (names : List (List ℕ)) (declared : List (ℕ × Sort)) (outputs : List ℕ) (body : Code) →
     p.names ≡ names → p.declared ≡ declared → p.outputs ≡ outputs → p.body ≡ body →
     pieces_text p.names (program_pieces p.declared p.outputs p.body) ≡ pieces_text names (program_pieces declared outputs body)

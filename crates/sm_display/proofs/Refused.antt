@@ -28,7 +28,7 @@ abbrev TokensWithin : ℕ → List Token → Type 0
 TokensWithin end [] = Unit {0}
 TokensWithin end (t ∷ ts) = (t.place ≤ end) × TokensWithin end ts
 
--- nor does a fault stand there
+-- no fault stands behind an end
 abbrev FaultWithin : ℕ → Option LexFault → Type 0
 FaultWithin end None = Unit {0}
 FaultWithin end (Some f) = f.place ≤ end

@@ -69,7 +69,7 @@ heads_tell sorts codes trees apart m n (row.Sub p q) (row.Sub r s) v w f g = ref
 heads_tell sorts codes trees apart m n (row.Mul p q) (row.Mul r s) v w f g = refl
 heads_tell sorts codes trees apart m n t u v w f g = refl
 
--- the same of trees that are told
+-- terms have one head exactly where the trees that are told to be theirs have
 pub trees_have_one_head : (sorts : Sorts) (codes : List Code) (trees : List Tree) → AreCodesApart codes → (m n : ℕ) (t u : Term) →
     IsTermWithin sorts (length codes) m t → IsTermWithin sorts (length codes) n u →
     term_fits sorts trees t ≡ true → term_fits sorts trees u ≡ true →
@@ -133,7 +133,7 @@ drop_next {X = X} xs i x found = let next : i + 1 ≡ suc i = omega arith in rw 
     by (y ∷ xs) zero found = let same : y ≡ x = cc in ap (λ (z : X). z ∷ xs) same
     by (y ∷ xs) (suc i) found = by xs i found
 
--- and where there is none
+-- nothing is left of a list from a number at which nothing stands
 drop_none : {X : Type 0} (xs : List X) (i : ℕ) → slice_get xs i ≡ None → drop i xs ≡ []
 drop_none [] zero found = refl
 drop_none [] (suc i) found = refl

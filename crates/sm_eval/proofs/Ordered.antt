@@ -159,7 +159,7 @@ module _ (l : List (ℤ × ℤ)) (i : ℤ) (p : ℕ) (gap : IsGapFor l i p) wher
   pub listed_gap : listed l i ≡ pos 0
   listed_gap = listed_absent l i (λ (q : ℕ) (lt : q < length l). none_at_all q (cases_lt q p) lt)
 
-  -- and 0 there changes nothing
+  -- an index that has a gap changes nothing when it gets 0
   pub gap_has_zero : listed l ≡ with_element (listed l) i (pos 0)
   gap_has_zero =
       fun_ext (λ (q : ℤ). zero_there (int_eq q i) (listed l q)

@@ -24,7 +24,7 @@ turns_event-turn b happens body zero s t some no_event holds inner end = absurd 
 turns_event-turn b happens body (suc m) s t some no_event holds inner end =
     rw (no_event, holds, inner, end) (ap (λ (k : ℕ). turns_event b happens body k t) (one_less m))
 
--- and the loop ends as it does after the turn
+-- a loop ends from a turn on as it ends after the turn
 pub turns-turn : (guard : Store → Bool) (body : Store → Option Store) (left : ℕ) (s t : Store) → (left ≡ 0 → ⊥) →
     guard s ≡ true → body s ≡ Some t → turns guard body left s ≡ turns guard body (left - 1) t
 turns-turn guard body zero s t some holds end = absurd (some refl)

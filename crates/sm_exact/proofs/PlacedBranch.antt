@@ -113,7 +113,7 @@ module _ (trees : List Tree) (numbers : List ℕ) (apart : AreApart trees) (belo
       (λ (none : slice_get trees lacks.0 ≡ None). absurd (lacks.2 (keeps.stands.no_other_number lacks.0 none)))
       (place_or_not trees lacks.0)
 
-  -- the same of the forms of a branch
+  -- forms over places are kept for the forms of a branch
   kept_for : (sorts : Sorts) (fs : List Fact) (facts : List BranchFact) (hs : List (Linear ℕ)) → AllStand sorts trees fs facts →
       ArePlacedForms numbers fs hs → AreKeptFor terms hs (filter_map form_in facts)
   kept_for sorts [] [] [] stand placed = tt

@@ -63,7 +63,7 @@ combined_constant f g h p q kind e =
     (gives_fits (IsSum p f.constant q g.constant) (combined_number p f.constant q g.constant) h.constant
     (combined_number_gives p f.constant q g.constant) from.1).0
 
--- and its kind
+-- a sum of forms has the kind that it is made with
 pub combined_kind : (f g h : Linear ℕ) (p q : ℤ) (kind : Kind) → combined f p g q kind ≡ Fits h → h.kind ≡ kind
 combined_kind f g h p q kind e = (formed_from (merged p q f.parts g.parts) (combined_number p f.constant q g.constant) kind h e).2
 

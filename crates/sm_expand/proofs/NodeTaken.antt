@@ -55,7 +55,7 @@ path_long sorts trees path x more fits is =
     let e : length (take x.shared old) ≡ x.shared = length-take-le x.shared old (omega arith) in
     omega arith
 
--- and those that others share
+-- the path of a state begins with that of the others, as far as they share it
 pub path_front : (sorts : Sorts) (trees : List Tree) (path : List Formula) (x : Waiting) (more : List Formula) → x.shared ≤ length path →
     forms_in sorts trees more ≡ facts_of sorts trees path x → (n : ℕ) → n ≤ x.shared →
     take n (forms_in sorts trees more) ≡ take n (forms_in sorts trees path)

@@ -79,7 +79,7 @@ fitting_expands k st n ps q e h =
     ∙ ap (λ (b : Bool). if b then joined (Ok (due k st n q.goals)) (expand_all (Wrong k (rule_of n)) (suc k) q.states ps)
     else Err (Wrong k (rule_of n))) (eq-eqb (count ps) (length q.states) h)
 
--- or not
+-- a node that opens states fails without a plan for each
 pub unfitting_fails : (k : ℕ) (st : State) (n : Node) (ps : plain.Plans) (q : node.Opened) → opened_by k st n ≡ Some q →
     (count ps ≡ length q.states → ⊥) → expand k st (plain.At n ps) ≡ Err (Wrong k (rule_of n))
 unfitting_fails k st n ps q e h =

@@ -25,7 +25,7 @@ straight_ready : (sorts : Sorts) (trees : List Tree) (ss : List Simple) (p : Num
 straight_ready sorts trees [] p ready = ready
 straight_ready sorts trees (s ∷ ss) p ready = (simple_ready sorts trees s, (straight_ready sorts trees ss p ready, tt))
 
--- so is one whose last node is
+-- a plan is ready for a table where that of its last node is
 ready_by_last : (sorts : Sorts) (trees : List Tree) (p : Plan) (q : NumberedPlan) → numbered_last p.last ≡ q →
     IsPlanReady sorts trees q → IsPlanReady sorts trees (numbered_plan p)
 ready_by_last sorts trees p q e ready =

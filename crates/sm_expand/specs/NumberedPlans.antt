@@ -51,7 +51,7 @@ abbrev mutual
   plan_over sorts trees (At node ps) =
       tree.At (node_over sorts trees node) (plans_over sorts trees ps)
 
-  -- the same of plans
+  -- plans over the trees of a table
   pub plans_over : Sorts → List Tree → NumberedPlans → tree.Plans
   plans_over sorts trees Over = tree.Over
   plans_over sorts trees (More p ps) =
@@ -70,11 +70,11 @@ IsKeepReady sorts trees Dead = Unit {0}
 IsKeepReady sorts trees Ends = Unit {0}
 
 abbrev mutual
-  -- the same of each node of a plan
+  -- what each node of a plan keeps is in a table, and each part has the sort that it is used with
   pub IsPlanReady : Sorts → List Tree → NumberedPlan → Type 0
   IsPlanReady sorts trees (At node ps) = IsKeepReady sorts trees node × ArePlansReady sorts trees ps
 
-  -- and of plans
+  -- what each node of plans keeps is in a table, and each part has the sort that it is used with
   pub ArePlansReady : Sorts → List Tree → NumberedPlans → Type 0
   ArePlansReady sorts trees Over = Unit {0}
   ArePlansReady sorts trees (More p ps) = IsPlanReady sorts trees p × ArePlansReady sorts trees ps
@@ -92,7 +92,7 @@ abbrev pub list_of : NumberedPlans → List NumberedPlan
 list_of Over = []
 list_of (More p ps) = p ∷ list_of ps
 
--- and a list of them before others
+-- a list of plans before others
 abbrev pub plans_before : List NumberedPlan → NumberedPlans → NumberedPlans
 plans_before [] qs = qs
 plans_before (p ∷ ps) qs = More p (plans_before ps qs)

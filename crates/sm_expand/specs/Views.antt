@@ -54,7 +54,7 @@ abbrev pub numbered_plan : Plan → NumberedPlan
 numbered_plan =
     fold-Plan NumberedPlan NumberedPlan (List NumberedPlan) last_layer plan_layer plans_layer
 
--- the same of a last node
+-- the plan that a last node of one of the program stands for, over numbers of terms
 abbrev pub numbered_last : Last → NumberedPlan
 numbered_last =
     fold-Last NumberedPlan NumberedPlan (List NumberedPlan) last_layer plan_layer plans_layer

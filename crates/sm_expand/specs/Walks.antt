@@ -63,12 +63,12 @@ pub record IsWaitingReady (sorts : Sorts) (trees : List Tree) (w : Waiting) : Ty
   pub more : AreFormsReady sorts trees w.more.list.items
   pub plan : IsPlanReady sorts trees (numbered_at w.cursor)
 
--- the same of each
+-- each state that waits can be gone on from
 abbrev pub AreWaitingReady : Sorts → List Tree → List Waiting → Type 0
 AreWaitingReady sorts trees [] = Unit {0}
 AreWaitingReady sorts trees (w ∷ ws) = IsWaitingReady sorts trees w × AreWaitingReady sorts trees ws
 
--- and of all that is at hand
+-- all that is at hand is ready: the path, what was asked, and the states that wait, nested
 pub record IsReadyWith (t : TableValue) (path : List Formula) (dues : List Due)
     (ws : List Waiting) : Type 0 where
   pub facts : AreFormsReady (sorts_in t) (trees_in t) path

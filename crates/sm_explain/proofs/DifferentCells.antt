@@ -32,7 +32,7 @@ zeros_agree end cell nought =
 abbrev pub Covers : (Copy → Store) → ℕ → List ℤ → Type 0
 Covers end a indices = (c : Copy) (i : ℤ) → (content (end c) (Element a i) ≡ pos 0) ⊎ IsOf indices i
 
--- so is each index at which the ends differ
+-- a claim holds where it or each of four others holds, and it follows from those four
 four : {P Q R S G : Type 0} → P ⊎ G → Q ⊎ G → R ⊎ G → S ⊎ G → (P → Q → R → S → G) → G
 four {P} {Q} {R} {S} {G} p q r s f =
     ⊎_elim (λ (x : P). ⊎_elim (λ (y : Q). ⊎_elim (λ (z : R). ⊎_elim (λ (w : S). f x y z w) (λ (g : G). g) s) (λ (g : G). g) r)

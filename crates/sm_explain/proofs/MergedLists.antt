@@ -120,7 +120,7 @@ above_more us rest merged i above p k j o h =
     ⊎_elim (λ (old : IsOf merged k). above k j old (p.among j h))
     (λ (e : k ≡ i). subst (λ (z : ℤ). z <ℤ j) (sym e) (p.above j h)) (of_more merged i k o)
 
--- and nothing is lost
+-- nothing is lost where an index is merged
 kept_more : (whole us rest merged : List ℤ) (i : ℤ) → ((k : ℤ) → IsOf whole k → IsOf merged k ⊎ IsOf us k) → IsPast i us rest
     → (k : ℤ) → IsOf whole k → IsOf (merged ++ i ∷ []) k ⊎ IsOf rest k
 kept_more whole us rest merged i kept p k h =

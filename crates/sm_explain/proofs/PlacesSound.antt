@@ -26,7 +26,7 @@ starts_first text s t e starts none within =
     by before is feed late =
         ⊎_elim (λ (inside : s ≤ before). absurd (none before inside (omega arith) feed)) (λ (early : before < s). omega arith) late
 
--- and none ends inside another
+-- no line ends inside another
 ends_last : (text : List ℕ) (s e f : ℕ) → EndsLine text e → HasNoFeed text s f → s ≤ e → f ≤ length text → f ≤ e
 ends_last text s e f ends none within short =
     ⊎_elim (λ (last : e ≡ length text). omega arith) (λ (feed : slice_index text e ≡ 10). by feed (parts f e)) ends

@@ -12,7 +12,7 @@ put_three old p q new a b c first second third =
     third ∙ ap (λ (t : List ℕ). t ++ c) (second ∙ ap (λ (t : List ℕ). t ++ b) first ∙ append_assoc old a b)
     ∙ append_assoc old (a ++ b) c
 
--- and five
+-- five texts behind another
 pub put_five : (old p q r s new a b c d e : List ℕ) → p ≡ old ++ a → q ≡ p ++ b → r ≡ q ++ c → s ≡ r ++ d → new ≡ s ++ e
     → new ≡ old ++ (a ++ b ++ c ++ d ++ e)
 put_five old p q r s new a b c d e first second third fourth fifth =

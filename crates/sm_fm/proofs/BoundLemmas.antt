@@ -15,7 +15,7 @@ pub above_zero : (p : ℤ) → pos 0 <ℤ p → (n : ℕ) × (0 < n) × (p ≡ p
 above_zero (pos n) above = (n, omega (arith, sums), refl)
 above_zero (negsuc n) above = absurd (omega (arith, sums))
 
--- and so is the contrary of one below 0
+-- the contrary of a number below 0 is a natural number above 0
 pub below_zero : (p : ℤ) → p <ℤ pos 0 → (n : ℕ) × (0 < n) × (neg_ℤ p ≡ pos n)
 below_zero (pos n) below = absurd (omega (arith, sums))
 below_zero (negsuc n) below = (suc n, omega arith, refl)
@@ -25,7 +25,7 @@ pub square_is : (b : ℤ) → b *ℤ b ≡ pos (nat_abs b * nat_abs b)
 square_is (pos n) = refl
 square_is (negsuc n) = refl
 
--- and above 0, but for 0
+-- the square of a number's size is above 0, but for 0
 pub square_some : (b : ℤ) → (b ≡ pos 0 → ⊥) → 0 < nat_abs b * nat_abs b
 square_some (pos n) some = ⊎_elim (λ (e : n ≡ 0). absurd (some (ap pos e))) (λ (h : 0 < n). mul-pos h h) (eq-zero-or-pos n)
 square_some (negsuc n) some = let size : 0 < suc n = omega arith in mul-pos size size

@@ -133,7 +133,7 @@ put_listed vs a place v w lt read is =
     (is ∙ ap (λ (l : List ℕ). l ++ place ∷ [])
     (ap (λ (u : Vec ℕ Global). u.items) read ∙ sym (get_or-map (λ (u : Vec ℕ Global). u.items) vs a v [] lt)))
 
--- or it stays as it was
+-- the lists stay where a vector is replaced by one with the same places
 pub put_nothing : (vs : List (Vec ℕ Global)) (a : ℕ) (v w : Vec ℕ Global) → a < length vs → v ≡ get_or vs a v →
     w.items ≡ v.items → lists_in (set vs a w) ≡ lists_in vs
 put_nothing vs a v w lt read is =
@@ -250,7 +250,7 @@ begins_past end f (p ∷ ps) is kept some le = λ t lt.
     ∙ apart t p.0 (λ e. absurd (omega arith))
     ∙ sym (apart t end (λ e. absurd (omega arith)))
 
--- nor does one without parts
+-- a form without parts begins with no atom below a number
 pub begins_nowhere : (end : ℕ) (f : Linear ℕ) (ps : List (ℕ × ℤ)) → ps ≡ f.parts → length ps ≡ 0 → BeginsAt end end f
 begins_nowhere end f ps is none = λ t lt.
     lacks_begins t f (ap (coefficient same_atom t) (sym is ∙ nil_from_length ps none)) ∙ sym (apart t end (λ e. absurd (omega arith)))

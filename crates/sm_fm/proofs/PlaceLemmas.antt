@@ -32,7 +32,7 @@ find_step : (p : ℕ → Placed) (b : Bool) (n : ℕ) (here : Option ℕ) (there
 find_step p true n here there e = refl
 find_step p false n here there e = e
 
--- so is the first
+-- the form at the first chosen place is the first chosen form
 find-map : (p : ℕ → Placed) (test : Placed → Bool) (ns : List ℕ) → find test (map p ns) ≡ option_map p (find (λ n. test (p n)) ns)
 find-map p test [] = refl
 find-map p test (n ∷ ns) = find_step p (test (p n)) n (find (λ k. test (p k)) ns) (find test (map p ns)) (find-map p test ns)
@@ -148,7 +148,7 @@ opposite (negsuc n) b k l below above =
     all_told true (not (int_eq b (pos 0))) k l (not (is_negative b)) refl (and_first (not (int_eq b (pos 0))) (not (is_negative b)) above)
     (and_second (not (int_eq b (pos 0))) (not (is_negative b)) above)
 
--- and so do any in an equation
+-- coefficients that aren't 0 cancel, where the second is one of an equation
 with_equation : (a b k l s : Bool) → a ≡ true → l && b ≡ true → IsTrue (a && (b && (k || (l || s))))
 with_equation true true true true s first second = refl
 with_equation true true false true s first second = refl

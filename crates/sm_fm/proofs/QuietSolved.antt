@@ -91,7 +91,7 @@ placed_apart n (x ∷ xs) f g (inr here) (inl same) e =
     absurd (omega (arith, rest.0))
 placed_apart n (x ∷ xs) f g (inr here) (inr there) e = placed_apart (suc n) xs f g here there e
 
--- and without them
+-- what is so of each form with its place is so of each form without it
 each_placed : (P : Linear ℕ → Type 0) (n : ℕ) (forms : List (Linear ℕ)) → ((f : Placed) → IsIn f (placed_from n forms) → P f.form) →
     EachForm P forms
 each_placed P n [] each = tt

@@ -60,7 +60,7 @@ lacks_told (suc t) h e = λ a below.
     (λ (other : a ≢ t). lacks_told t h (and_first (has_none_before t h) (not (has t h)) e) a (omega arith))
     (cases_eq a t)
 
--- and the other way round
+-- a form that lacks each atom before one has no atom before it
 pub told_lacks : (t : ℕ) (h : Linear ℕ) → Lacks t h → has_none_before t h ≡ true
 told_lacks zero h lacks = refl
 told_lacks (suc t) h lacks =

@@ -75,7 +75,7 @@ module _ (forms : List (Linear ℕ)) (h : Linear ℕ) where
   pub pairs_stay : (atoms t : ℕ) (ps : List (ℕ × ℕ)) → All (IsPairOf forms atoms t) ps → All (IsPairOf more_forms atoms t) ps
   pairs_stay atoms t ps all = All-weaker (IsPairOf forms atoms t) (IsPairOf more_forms atoms t) (pair_stays atoms t) ps all
 
-  -- and are those of the same forms
+  -- pairs are of the same forms where one more form is put behind
   both_stay : (atoms t : ℕ) (ps : List (ℕ × ℕ)) → All (IsPairOf forms atoms t) ps → map (both_at more_forms) ps ≡ map (both_at forms) ps
   both_stay atoms t ps all =
       map-agree (IsPairOf forms atoms t) (both_at more_forms) (both_at forms)

@@ -126,7 +126,7 @@ served_kept t count forms h none d v hold =
     let new : Placed = record { place = count; form = h } in
     hold new (in_second new forms (new ∷ []) (inl refl)) (ap not (zero_test (coefficient same_atom t h.parts) none))
 
--- and one that isn't says nothing, or stands in the list
+-- a sum that can hold and isn't new holds wherever those forms do that lack the atom
 served_left_out : (t : ℕ) (forms : List Placed) (h : Linear ℕ) → coefficient same_atom t h.parts ≡ pos 0 → is_contradictory h ≡ false →
     is_new h forms ≡ false → IsServed t forms h
 served_left_out t forms h none quiet old d v hold =

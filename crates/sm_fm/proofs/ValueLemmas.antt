@@ -24,7 +24,7 @@ use Rattle.sm_fm.specs.Solutions.{HoldsOver}
 abbrev pub value_over : ℕ → (ℕ → ℤ) → Linear ℕ → ℤ
 value_over d v f = sum_of_parts v f.parts +ℤ (f.constant *ℤ pos d)
 
--- and that of the form without an atom
+-- the value over a denominator of a form without an atom
 abbrev pub rest_over : ℕ → (ℕ → ℤ) → ℕ → Linear ℕ → ℤ
 rest_over d v t f = sum_of_parts v (parts_without same_atom t f.parts) +ℤ (f.constant *ℤ pos d)
 

@@ -21,7 +21,7 @@ module _ (test wide : Placed → Bool) (more : (f : Placed) → test f ≡ true 
       by false true is here rest = let wrong = more f here in absurd cc
       by false false is here rest = rest
 
-  -- and found among them
+  -- the first that passes a test is the first of those that pass a wider one
   found_among : (fs : List Placed) → find test (filter wide fs) ≡ find test fs
   found_among [] = refl
   found_among (f ∷ fs) = by (wide f) (test f) refl refl (found_among fs)

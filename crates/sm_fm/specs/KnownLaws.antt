@@ -22,7 +22,7 @@ pair_decides p q =
       λ e. both.1 (ap (λ (r : ℕ × ℤ). r.0) e, ap (λ (r : ℕ × ℤ). r.1) e),
     )
 
--- so are two lists
+-- two lists of parts are equal where their atoms and coefficients are, in order
 pub same_list-Decides : (ps qs : List (ℕ × ℤ)) → Decides (same_list ps qs) (ps ≡ qs)
 same_list-Decides [] [] = (λ h. refl, λ e. refl)
 same_list-Decides [] (q ∷ qs) = (λ h. absurd cc, λ e. absurd cc)
@@ -37,14 +37,14 @@ same_list-Decides (p ∷ ps) (q ∷ qs) =
           all.1 (ap (λ (r : ℕ × ℤ). r.0) first, (ap (λ (r : ℕ × ℤ). r.1) first, others)),
     )
 
--- and two kinds
+-- two kinds are equal where the test of kinds says so
 pub same_kind-Decides : (k l : Kind) → Decides (same_kind k l) (k ≡ l)
 same_kind-Decides Le Le = (λ h. refl, λ e. refl)
 same_kind-Decides Le Eq = (λ h. absurd cc, λ e. absurd cc)
 same_kind-Decides Eq Le = (λ h. absurd cc, λ e. absurd cc)
 same_kind-Decides Eq Eq = (λ h. refl, λ e. refl)
 
--- and two forms
+-- two forms are equal where their parts, constants and kinds are
 pub same_form-Decides : (f g : Linear ℕ) → Decides (same_form f g) (f ≡ g)
 same_form-Decides f g =
     let numbers = Decides-int_eq f.constant g.constant in
@@ -66,7 +66,7 @@ same_known-equiv =
 abbrev hashed_of : Linear ℕ → List (List ℕ)
 hashed_of f = fed.slice (λ p. fed.u64 p.0 ++ fed.i128 p.1) f.parts ++ fed.i128 f.constant
 
--- and the same forms are hashed alike
+-- known forms that are the same are hashed alike
 pub same_known-hashed : (x y : Known) → same_known x y ≡ true → hashed x ≡ hashed y
 unfolding hashed
 same_known-hashed x y h = ap hashed_of ((same_form-Decides x.form y.form).0 h)

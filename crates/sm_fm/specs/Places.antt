@@ -18,7 +18,7 @@ no_form = record { parts = []; constant = pos 0; kind = Le }
 abbrev pub form_at : List (Linear ℕ) → ℕ → Linear ℕ
 form_at forms n = slice_index_or forms n no_form
 
--- the same with its place
+-- the form at a place, with its place
 abbrev pub placed_at : List (Linear ℕ) → ℕ → Placed
 placed_at forms n = record { place = n; form = form_at forms n }
 

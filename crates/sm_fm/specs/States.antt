@@ -36,7 +36,7 @@ left_of forms t more pairs = after_sum forms t more pairs (standing forms t) (le
 abbrev pub events_left : State → List Event
 events_left s = left_of s.forms.items s.atom s.more s.pairs
 
--- the same where a pair that was just taken has this sum
+-- what is left of a state where a pair that was just taken has this sum
 abbrev pub events_of_sum : State → ℕ × ℕ → Outcome (Linear ℕ) → List Event
 events_of_sum s p outcome =
     with_sum s.atom (placed_at s.forms.items p.0) (placed_at s.forms.items p.1) outcome
@@ -48,11 +48,11 @@ abbrev pub taking : State → Taking
 taking s =
     record { atoms = s.atoms.list.items; forms = s.forms.items; left = events_left s }
 
--- the same where nothing is left
+-- the state as it is seen where nothing is left
 abbrev pub stopped : State → Taking
 stopped s = record { atoms = s.atoms.list.items; forms = s.forms.items; left = [] }
 
--- the same where a form was put after the others
+-- the state as it is seen where a form was put after the others
 abbrev pub with_form : State → Linear ℕ → Taking
 with_form s h =
     let n = length s.forms.items in

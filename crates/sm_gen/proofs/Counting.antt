@@ -64,7 +64,7 @@ edit_drawn seed place last first second editor same next after who =
     ap₂ (λ (h n : ℕ). edit_by h (n % 100 + 1) editor) hole one
     ∙ ap (edit_by (1 + place) (drawn seed (2 * (1 + place) - 1) % 100 + 1)) by
 
--- and what is drawn last
+-- the number that is drawn last for the next hole
 pub drawn_twice : (seed place last first second : ℕ) → last ≡ drawn seed (2 * place) → first ≡ drawn_after last →
     second ≡ drawn_after first → second ≡ drawn seed (2 * (place + 1))
 drawn_twice seed place last first second same next after =

@@ -80,7 +80,7 @@ place_of a (suc k) (suc i) n at here few =
     (apart a n (omega (arith, at)) few)
     ∙ ap (λ (j : ℕ). 1 + j) more ∙ e
 
--- and it is among the texts
+-- a name's text is among the texts
 pub stands : (a k i n : ℕ) → a + i ≡ n → i < k → is_among (map name_of (range_with_len a k)) (name_of n) ≡ true
 stands a zero i n at here = absurd (omega (arith, here))
 stands a (suc k) zero n at here =

@@ -171,7 +171,7 @@ known_stay names (s.Name x ∷ ss) h =
     ap (λ (l : List (List ℕ)). names_by names l ss) (with_text-among names (unwrap_or (slice_get names x.0) []) h.0.among)
     ∙ known_stay names ss h.1
 
--- and the declarations add each
+-- declarations of the next names add each name
 declared_add : (n a k : ℕ) (ss : List Symbol) → n < 1000 → a + k ≡ n →
     names_by (names_to n) (names_to a) (content_declared (with_sort Num (range_with_len a k)) ++ ss) ≡ names_by (names_to n) (names_to n) ss
 declared_add n a zero ss few at =

@@ -57,7 +57,7 @@ repeats_not a (suc k) seen new =
 none_seen : (a x : ℕ) → a ≤ x → is_in [] x ≡ false
 none_seen a x from = refl
 
--- nor does one of a list stand outside it
+-- no number of a list stands outside others that have them all
 none_outside : (others list : List ℕ) → ((x : ℕ) → is_in list x ≡ true → is_in others x ≡ true) → first_outside others list ≡ None
 none_outside others [] within = refl
 none_outside others (x ∷ list) within =

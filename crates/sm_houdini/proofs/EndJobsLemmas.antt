@@ -244,7 +244,7 @@ run_left sorts trees reach d asks k size closes later =
     ∙ ap (λ (l : List Assertion). goals_outcome W d.node (first + size) l later) (drop-drop size first all)
     ∙ ap (λ (n : ℕ). goals_outcome W d.node n (drop n all) later) past
 
--- or stops the search
+-- one run more stops the search
 run_stops : (sorts : Sorts) (trees : List Tree) (reach : Reach) (d : program.Due) (asks : List Formula) (k size : ℕ) (s : Stop) →
     RunStops (walk sorts reach) (due_in sorts trees d) (k * size) (forms_in sorts trees (goals_from size (k * size) asks)) s →
     (later : Outcome (ℕ × Verdict)) →

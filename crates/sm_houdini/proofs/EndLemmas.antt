@@ -220,7 +220,7 @@ goal_left sorts trees reach first i d asks f h e closes later =
     ∙ closes (goals_outcome W d.node (suc (first + i)) (drop (i + 1) gs) later)
     ∙ ap (λ (n : ℕ). goals_outcome W d.node n (drop (i + 1) gs) later) more
 
--- or stops the search
+-- a goal that a node asks stops the search where its walk over a wider table does
 pub goal_stops : (v u : TableValue) → Widens v u → (reach : Reach) (first i at : ℕ) (d : program.Due) (asks : List Formula)
     (f : Formula) (s : Stop) →
     AreFormsReady (sorts_in v) (trees_in v) d.facts.list.items → AreFormsReady (sorts_in v) (trees_in v) asks →

@@ -29,7 +29,7 @@ abbrev mutual
   is_lean most (Mul t u) = is_lean most t && is_lean most u
   is_lean most (Fun c x args) = nat_le (length (terms_given args)) most && are_lean most args
 
-  -- the same of arguments
+  -- each summary in arguments has at most so many arguments, inside others too
   pub are_lean : ℕ → Arguments → Bool
   are_lean most Over = true
   are_lean most (Given x t rest) = is_lean most t && are_lean most rest
@@ -91,7 +91,7 @@ module _ (most : ℕ) where
   arguments_lean (Fun c x args) h =
       given_lean args (and_parts (nat_le (length (terms_given args)) most) (are_lean most args) h).1
 
-  -- and there are few
+  -- a lean term has at most as many arguments as its summaries may have, or 3
   pub arguments_few : (n : ℕ) → most ≤ n → 3 ≤ n → (t : Tree) → Lean t → length (arguments_of t) ≤ n
   arguments_few n h g (Lit z) lean = omega (arith, g)
   arguments_few n h g (Start x) lean = omega (arith, g)

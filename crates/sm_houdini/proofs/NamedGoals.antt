@@ -45,7 +45,7 @@ abbrev mutual
   pub AreSimple : Sorts → Plan → Type 0
   AreSimple sorts (At node ps) = IsSimple sorts node × AreAllSimple sorts ps
 
-  -- the same of plans
+  -- what each node of plans keeps is sorted and has no new value and no summary
   pub AreAllSimple : Sorts → Plans → Type 0
   AreAllSimple sorts Over = Unit {0}
   AreAllSimple sorts (More p ps) = AreSimple sorts p × AreAllSimple sorts ps

@@ -21,7 +21,7 @@ use Rattle.sm_houdini.specs.Rounds.{dues_in, dues_of, is_site, closes_if, holds_
 use Rattle.sm_houdini.specs.Rounds.{same_choice, settled, kept}
 use Rattle.sm_houdini.proofs.OwnersLemmas.{owners_ask}
 
--- the same are the same
+-- lists of numbers that the test finds the same are equal
 numbers_same : (ms ns : List ℕ) → same_numbers ms ns ≡ true → ms ≡ ns
 numbers_same [] [] e = refl
 numbers_same [] (n ∷ ns) e = absurd cc

@@ -43,7 +43,7 @@ NamesShort (Next line c) = AreShortNumbers (facts_named line) × NamesShort c
 NamesShort (Closed line) = AreShortNumbers (facts_named line)
 NamesShort (Split line c d) = AreShortNumbers (facts_named line) × NamesShort c × NamesShort d
 
--- the same of certificates
+-- the numbers of facts that each line of some certificates names are short
 abbrev pub AllNameShort : List Certificate → Type 0
 AllNameShort [] = Unit {0}
 AllNameShort (c ∷ cs) = NamesShort c × AllNameShort cs

@@ -44,7 +44,7 @@ GoalStops node goal w s =
 abbrev pub GoalCloses : ℕ → ℕ → Walked → Type 0
 GoalCloses node goal w = (later : Outcome (ℕ × Verdict)) → goal_outcome node goal w later ≡ later
 
--- the same of a run of the goals of what a node asks, which begins at a place
+-- a run of the goals of what a node asks, from a place on, at which a search stops, or goes on
 abbrev pub RunStops : (List Assertion → Assertion → Walked) → Due → ℕ → List Assertion → Stop →
     Type 0
 RunStops walk d first run s =
@@ -56,14 +56,14 @@ RunCloses walk d first run =
     (later : Outcome (ℕ × Verdict)) →
     goals_outcome (walk d.facts) d.node first run later ≡ later
 
--- the same of all its goals
+-- all goals of what a node asks, at which a search stops, or goes on
 abbrev pub GoalsStop : (List Assertion → Assertion → Walked) → Due → Stop → Type 0
 GoalsStop walk d s = RunStops walk d 0 d.goals s
 
 abbrev pub GoalsClose : (List Assertion → Assertion → Walked) → Due → Type 0
 GoalsClose walk d = RunCloses walk d 0 d.goals
 
--- the same of all final goals
+-- all final goals, at which a search stops, or which all close
 abbrev pub FinalStops : (List Assertion → Assertion → Walked) → List Due → Stop → Type 0
 FinalStops walk ds s = final_outcome walk ds ≡ stop_in s
 

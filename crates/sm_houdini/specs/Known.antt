@@ -20,7 +20,7 @@ pub record IsAsked (v : TableValue) (reach : Reach) (owners : List (Option ℕ))
       (let asked = dues_in (sorts_in v) (trees_in v) a.dues.items in
       holds_at (closing (sorts_in v) reach) (owner_in owners) asked s i ≡ true)
 
--- the same of the round before, where there was one
+-- what the round before asked, if there was one: where a mark stayed, all its goals close
 abbrev pub IsAskedBefore : TableValue → Reach → List (Option ℕ) → Option Asked → Type 0
 IsAskedBefore v reach owners before = IfSome before (IsAsked v reach owners)
 

@@ -12,7 +12,7 @@ abbrev pub marked : (ℕ → Bool) → ℕ → List ℕ → List Marked
 marked passes i [] = []
 marked passes i (n ∷ rest) = record { number = n; holds = passes i } ∷ marked passes (suc i) rest
 
--- the same of each site, counted from s on
+-- for each site, counted from s on, its numbers, each marked by whether its place passes
 abbrev pub all_marked : (ℕ → ℕ → Bool) → ℕ → Choice → List (List Marked)
 all_marked passes s [] = []
 all_marked passes s (ns ∷ rest) = marked (passes s) 0 ns ∷ all_marked passes (suc s) rest

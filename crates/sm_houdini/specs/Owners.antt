@@ -17,7 +17,7 @@ abbrev mutual
   owners target s (Draw (BlockSite counts templates) ps) =
       target ∷ owners_below (Some s) target (suc s) ps
 
-  -- the same of sketches, of which the last one goes on to another target than those before
+  -- for each node of sketches, in preorder, its site; the last sketch may go on to another target
   pub owners_below : Option ℕ → Option ℕ → ℕ → Sketches → List (Option ℕ)
   owners_below inner last s Over = []
   owners_below inner last s (More p Over) = owners last s p

@@ -44,7 +44,7 @@ numbers_kept passes i [] = []
 numbers_kept passes i (n ∷ rest) =
     let later = numbers_kept passes (suc i) rest in if passes i then n ∷ later else later
 
--- the same of each site, counted from s on
+-- for each site, counted from s on, the numbers whose places pass
 abbrev pub sites_kept : (ℕ → ℕ → Bool) → ℕ → Choice → Choice
 sites_kept passes s [] = []
 sites_kept passes s (ns ∷ rest) = numbers_kept (passes s) 0 ns ∷ sites_kept passes (suc s) rest

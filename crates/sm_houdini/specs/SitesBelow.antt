@@ -27,7 +27,7 @@ pub record Puts (old new : Sites) (target : Option ℕ) (p : Sketch) : Type 0 wh
   pub nodes : new.owners.items ≡ old.owners.items ++ owners target (length old.full.sites.items) p
   pub choice : rows new.full.sites.items ≡ rows old.full.sites.items ++ all_chosen (sites_of p)
 
--- the same of sketches
+-- the owners and templates of sketches are put behind others
 pub record PutsAll (old new : Sites) (target : Option ℕ) (ps : List Sketch) : Type 0 where
   pub nodes :
       new.owners.items ≡ old.owners.items ++ owners_from target (length old.full.sites.items) ps

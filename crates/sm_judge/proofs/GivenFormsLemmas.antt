@@ -76,7 +76,7 @@ module _ (sorts : Sorts) (trees : List Tree) (facts : List Formula) (equal apart
     pub number : IsTrue (is_numeric sorts (tree_at trees q.0))
     pub same : IsTrue (equal (tree_at trees q.1) (tree_at trees q.0))
 
-  -- the same of several
+  -- several numbers, each with the first term of its class
   abbrev pub AreKnown : List (ℕ × ℕ) → Type 0
   AreKnown [] = Unit {0}
   AreKnown (q ∷ qs) = IsKnown q × AreKnown qs

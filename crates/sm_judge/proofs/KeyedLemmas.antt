@@ -12,7 +12,7 @@ use Rattle.sm_list.specs.Parts.{all_numbered, numbered_at}
 use Rattle.sm_pairs.specs.SameFormulas.{same_numbered}
 use Rattle.sm_judge.proofs.TornLemmas.{none_passes}
 
--- the same numbers have one key
+-- equal numbers have one key
 two : (kind t u v w : ℕ) → ((t == v) && (u == w)) ≡ true → mixed kind t u ≡ mixed kind v w
 two kind t u v w h =
     let same = (Decides-and _ _ (Decides-eqb t v) (Decides-eqb u w)).0 h in
@@ -22,7 +22,7 @@ both : (a b : Bool) → (a && b) ≡ true → (a ≡ true) × (b ≡ true)
 both true b h = (refl, h)
 both false b h = absurd (true≢false (sym h))
 
--- the same formulas have one key
+-- equal formulas have one key
 same_key : (f g : NumberedFormula) → same_numbered f g ≡ true → key_of f ≡ key_of g
 same_key (Eq t u) (Eq v w) h = two 2 t u v w h
 same_key (Ne t u) (Ne v w) h = two 3 t u v w h

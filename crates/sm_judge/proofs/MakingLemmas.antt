@@ -29,7 +29,7 @@ listed (Some f) = f ∷ []
 abbrev pub led_if : Outcome MaybeForm → Outcome FormList → Outcome FormList
 led_if o rest = then_with o (λ (f : MaybeForm). then_with rest (λ (fs : FormList). Fits (listed f ++ fs)))
 
--- the same of several
+-- several forms, where there are such, before others that are made after them
 abbrev pub all_led : List (Outcome MaybeForm) → Outcome FormList → Outcome FormList
 all_led [] rest = rest
 all_led (o ∷ os) rest = led_if o (all_led os rest)
@@ -137,7 +137,7 @@ sources_many b (r ∷ ss) [] all = absurd all
 abbrev pub IsItem : Seen → Item → Type 0
 IsItem b i = (f : Linear ℕ) → i.1 ≡ Fits (Some f) → IsSource b i.0 f
 
--- the same of several
+-- each form that comes of one of several items comes from that item's source
 abbrev pub AreItems : Seen → List Item → Type 0
 AreItems b [] = Unit {0}
 AreItems b (i ∷ items) = IsItem b i × AreItems b items

@@ -18,7 +18,7 @@ known_none number first second s h = by (not number) ∙ ap (λ (b : Bool). if n
     by true = refl
     by false = refl
 
--- or none
+-- a split of numbers is there where neither of two tests is passed
 pub unknown_some : {T : Type 0} (number first second : Bool) (s : Option T) → number ≡ true → first ≡ false → second ≡ false →
     s ≡ (if not number || (first || second) then None else s)
 unknown_some number first second s h k l =

@@ -15,7 +15,7 @@ IsClosing b (why.Torn t u) =
     (t.0 < length b.terms) × (u.0 < length b.terms)
     × IsTrue (are_torn b (tree_at b.terms t.0) (tree_at b.terms u.0))
 
--- the same of a reason or none
+-- a reason, where there is one, is why a branch is closed at once
 abbrev pub IfClosing : Seen → Option Closing → Type 0
 IfClosing b None = Unit {0}
 IfClosing b (Some why) = IsClosing b why

@@ -49,7 +49,7 @@ abbrev pub led : Outcome (Linear ℕ) → Outcome (List (Linear ℕ)) → Outcom
 led form rest =
     then_with form (λ (f : Linear ℕ). then_with rest (λ (fs : List (Linear ℕ)). Fits (f ∷ fs)))
 
--- the same, where a form that is 0 is left out
+-- a form, unless it is 0, before others that are made after it
 abbrev pub led_unless_zero :
     Outcome (Linear ℕ) → Outcome (List (Linear ℕ)) → Outcome (List (Linear ℕ))
 led_unless_zero form rest =

@@ -10,6 +10,6 @@ use Rattle.sm_judge.specs.Forms.{place_in}
 abbrev pub HavePlaces : List Tree → Type 0
 HavePlaces trees = (i : ℕ) → i < length trees → HasPlaces trees (place_in trees) (tree_at trees i)
 
--- the same of the first so many
+-- the first so many terms and the operands of their operations stand at their places
 abbrev pub HavePlacesBelow : List Tree → ℕ → Type 0
 HavePlacesBelow trees n = (i : ℕ) → i < n → HasPlaces trees (place_in trees) (tree_at trees i)

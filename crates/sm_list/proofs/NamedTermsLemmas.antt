@@ -23,7 +23,7 @@ use Rattle.sm_list.specs.Branches.{IsOneOf}
 one_at : (trees : List Tree) (n : ℕ) → n < length trees → IsOneOf trees (tree_at trees n)
 one_at trees n h = there_among trees n (tree_at trees n) (slice_get-get_or trees n _ h)
 
--- so are those that a line names
+-- the terms that a line names are among those of the table
 line_names : (trees : List Tree) (l : CertLine) → IsLineWithin (length trees) l → EachNamed (IsOneOf trees) (line_in trees l)
 line_names trees (line.Both n) h = tt
 line_names trees (line.Either n) h = tt

@@ -46,7 +46,7 @@ abbrev pub HasRead : List Tree → Option Tree → Type 0
 HasRead seen None = Unit {0}
 HasRead seen (Some r) = is_among seen r ≡ true
 
--- the same of each of a list
+-- for each term of a list, what was read before is among terms, where there is such
 abbrev pub AllRead : List Tree → List Tree → Type 0
 AllRead seen ts = AllOf (λ (t : Tree). HasRead seen (read_before t)) ts
 

@@ -36,7 +36,7 @@ module _ (sorts : Sorts) (codes : List Code) (whole trees : List Tree) (part : �
   abbrev pub Moved : Term → Contents
   Moved t = moved_contents part same_body t
 
-  -- the same of its parts
+  -- a term holds, part by part, what another one does under the other numbers
   record IsMoved (t u : Term) : Type 0 where
     numbers : term_numbers u ≡ moved_numbers part same_body t
     names : names_of_term u ≡ names_of_term t
@@ -167,7 +167,7 @@ module _ (sorts : Sorts) (codes : List Code) (whole trees : List Tree) (part : �
       )
       by t u m there w = absurd (let kinds = ap (λ k. k.kind) m.numbers in omega arith)
 
-  -- and it fits alike
+  -- a term under the other numbers fits as the term does
   pub renumbered_fits : (t u : Term) → contents_of u ≡ Moved t → AllStand (argument_numbers t) →
       term_fits sorts trees u ≡ term_fits sorts whole t
   renumbered_fits t u e = by t u (is_moved t u e)

@@ -65,7 +65,7 @@ closed_stands trees others numbers are t u l m first second lines last within =
       names = subst (λ (k : Certificate). EachTerm (IsOneOf trees) k) (sym one) (closed_names trees t l first within);
     }
 
--- or splits
+-- two trees that a line splits stand for one certificate, where their sides do
 pub split_stands : (trees others : List Tree) (numbers : List TermId) → AreTermsOf others numbers trees → (t u : CertTree) (l m : CertLine)
     (c d p q : Box CertTree Global) →
     t.last ≡ ends.Split l c d → u.last ≡ ends.Split m p q → AreLinesUnder numbers t.lines.list.items u.lines.list.items →

@@ -215,7 +215,7 @@ moved v w grows f g within own numbers ids placed among same is =
       within = subst (IsFormulaWithin (length own)) (sym under) (formula_there trees own new f stands);
     }
 
--- the same of facts, whose terms are all that there are
+-- what facts that are moved to the other table are there
 pub record AreMoved (sorts : Sorts) (own : List Tree) (all : List Assertion) (gs : List NumberedFormula) : Type 0 where
   pub same : assertions_in sorts own gs ≡ all
   pub within : AreFormulasWithin (length own) gs

@@ -13,7 +13,7 @@ pub sorts_at_start : (c : Checker) (s : Subject) → IsAt c s (Ok Unopened) → 
 unfolding IsAt
 sorts_at_start c s at = at.1.sorts
 
--- and what is loaded over some names is over those that are the same
+-- what is loaded over some names is over those that are the same
 pub loaded_over : {a b : Sorts} (r : Result (Option Loaded) AllocError) → a ≡ b → IfOk r (λ o. IfSome o (λ (l : Loaded). sorts_in l.table ≡ a)) →
     IfOk r (λ o. IfSome o (λ (l : Loaded). sorts_in l.table ≡ b))
 loaded_over r same over = subst (λ (s : Sorts). IfOk r (λ o. IfSome o (λ (l : Loaded). sorts_in l.table ≡ s))) same over

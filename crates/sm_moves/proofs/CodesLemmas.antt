@@ -61,7 +61,7 @@ fork_append (If b one other r) k e = (refl, sym (append_assoc one r k), sym (app
 fork_append (While b body r) k e = absurd cc
 fork_append (Hole h r) k e = absurd cc
 
--- and a loop
+-- code that begins with a loop has a statement
 pub loop_left : (c : Code) → is_loop c ≡ true → is_over c ≡ false
 loop_left End e = absurd cc
 loop_left (Skip r) e = absurd cc
@@ -164,7 +164,7 @@ fewer_inside (If b one other r) e = omega arith
 fewer_inside (While b body r) e = omega arith
 fewer_inside (Hole n r) e = omega arith
 
--- and in either way of an if
+-- fewer statements are left where an if at the front goes by either block
 pub fewer_ways : (c : Code) → is_fork c ≡ true →
     (statements_in (by_first_block c) < statements_in c) × (statements_in (by_second_block c) < statements_in c)
 fewer_ways End e = absurd cc

@@ -16,7 +16,7 @@ use Rattle.sm_plan.proofs.RestsLemmas.{stands, put_first}
 use Rattle.sm_moves.specs.CodeShapes.{are_same}
 use Rattle.sm_moves.specs.Moves.{is_shared}
 
--- the same code for all that pass a test, one after the other
+-- whether all that pass a test have this code, one after the other
 abbrev agree : (Copy → Bool) → (Copy → Code) → Code → List Copy → Bool
 agree test code first [] = true
 agree test code first (c ∷ cs) = (not (test c) || same_code first (code c)) && agree test code first cs

@@ -36,7 +36,7 @@ hole-append (While b c r) k =
     ap (λ (x : Bool). has_hole c || x) (hole-append r k) ∙ sym (or_assoc (has_hole c) (has_hole r) (has_hole k))
 hole-append (Hole h r) k = refl
 
--- and an if among its own statements likewise
+-- code after code has an if among its own statements where one of the two has
 pub fork-append : (c k : Code) → has_fork (append c k) ≡ (has_fork c || has_fork k)
 fork-append End k = refl
 fork-append (Skip r) k = fork-append r k

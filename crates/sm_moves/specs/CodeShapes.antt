@@ -34,7 +34,7 @@ by_first_block (If b c d k) = append c k
 by_first_block (While b c k) = While b c k
 by_first_block (Hole h k) = Hole h k
 
--- and where it goes by its second
+-- what is left where an if at the front goes by its second block
 abbrev pub by_second_block : Code → Code
 by_second_block End = End
 by_second_block (Skip k) = Skip k

@@ -36,7 +36,7 @@ module _ {A : Type 0} (same : A → A → Bool) where
       (each_divides sound d ps reduced.2 each.1 t))
       (cases_Bool (same t p.0))
 
-  -- and the other way round
+  -- a number that divides each coefficient divides each part
   divides_each : IsSound same → IsReflexive same → (d : ℕ) (ps : List (A × ℤ)) → AreReduced same ps →
       ((t : A) → d ∣ nat_abs (coefficient same t ps)) → DividesEach d ps
   divides_each sound reflexive d [] reduced divides = tt

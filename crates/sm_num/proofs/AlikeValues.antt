@@ -22,7 +22,7 @@ module _ {A : Type 0} (same : A → A → Bool) where
             ∙ second.coefficients t;
       }
 
-  -- the same of results
+  -- a result comes out alike with a third where it does with a second, and this with the third
   pub come_out_alike_on : (first second third : Outcome (Linear A)) → ComeOutAlike same first second → ComeOutAlike same second third →
       ComeOutAlike same first third
   come_out_alike_on (Fits f) (Fits g) (Fits h) one other = alike_on f g h one other

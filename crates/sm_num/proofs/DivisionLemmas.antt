@@ -106,7 +106,7 @@ no_size : (x : ℤ) → nat_abs x ≡ 0 → x ≡ pos 0
 no_size (pos n) none = ap pos none
 no_size (negsuc n) none = absurd (omega arith)
 
--- and so is one that is 0 d times
+-- a number is 0 where d times the number is 0, for a d above 0
 no_factor : (d : ℕ) (x : ℤ) → 0 < d → pos d *ℤ x ≡ pos 0 → x ≡ pos 0
 no_factor d x some h =
     let sizes : d * nat_abs x ≡ 0 = sym (unsigned_abs-mul (pos d) x) ∙ ap nat_abs h in
@@ -143,7 +143,7 @@ module _ {A : Type 0} where
       let is = gcd_is (nat_abs p.1) (divisor_of_parts ps) in
       (dvd_trans d divides is.0, divisor_divides d ps (dvd_trans d divides is.1))
 
-  -- and each number that divides each divides it
+  -- a number that divides each coefficient divides their greatest common divisor
   pub divides_divisor : (d : ℕ) (ps : List (A × ℤ)) → DividesEach d ps → d ∣ divisor_of_parts ps
   divides_divisor d [] each = dvd-zero d
   divides_divisor d (p ∷ ps) each = (gcd_is (nat_abs p.1) (divisor_of_parts ps)).2 d each.0 (divides_divisor d ps each.1)

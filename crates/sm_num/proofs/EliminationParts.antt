@@ -32,7 +32,7 @@ pub record SumsTo {A : Type 0} (f g : Linear A) (p q : ℤ) (kind : Kind) (h : L
   pub constant : pos times *ℤ h.constant ≡ (p *ℤ f.constant) +ℤ (q *ℤ g.constant)
   pub of_kind : h.kind ≡ kind
 
--- so is a sum of forms, once
+-- a form that is made of the sum of the parts is p times f and q times g, once
 formed_sums_to : {A : Type 0} (f g : Linear A) (p q : ℤ) (kind : Kind) (parts : Outcome (List (A × ℤ))) →
     ((v : A → ℤ) → Gives (λ (ps : List (A × ℤ)). sum_of_parts v ps ≡ (p *ℤ sum_of_parts v f.parts) +ℤ (q *ℤ sum_of_parts v g.parts))
     parts) →

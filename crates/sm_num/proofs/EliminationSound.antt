@@ -192,7 +192,7 @@ module _ {A : Type 0} (v : A → ℤ) where
       (cancelled_holds same sound f g k t cancels first second both.0 both.1)))
       e
 
--- the same of any two forms over numbered atoms
+-- where two forms over numbered atoms hold and an atom cancels, their sum holds
 pub eliminated_holds : (f g h : Linear ℕ) (t : ℕ) (v : ℕ → ℤ) → IsTrue (can_cancel same_atom f g t) → HoldsAt v f → HoldsAt v g →
     eliminated f g t ≡ Fits h → HoldsAt v h
 eliminated_holds f g h t v cancels first second e =

@@ -17,12 +17,12 @@ one_more : (p q y z w x r s t : ℤ) → w ≡ (p *ℤ y) +ℤ (q *ℤ z) → t 
     (w *ℤ x) +ℤ t ≡ (p *ℤ ((y *ℤ x) +ℤ r)) +ℤ (q *ℤ ((z *ℤ x) +ℤ s))
 one_more p q y z w x r s t first second = rw (first, second) (simp ring (omega (arith, sums)))
 
--- the same where the second has no such product
+-- one product more in a sum of two, where the second has no such product
 one_first : (p q y w x r s t : ℤ) → w ≡ (p *ℤ y) +ℤ (q *ℤ pos 0) → t ≡ (p *ℤ r) +ℤ (q *ℤ s) →
     (w *ℤ x) +ℤ t ≡ (p *ℤ ((y *ℤ x) +ℤ r)) +ℤ (q *ℤ s)
 one_first p q y w x r s t first second = rw (first, second) (simp ring (omega (arith, sums)))
 
--- and where the first has none
+-- one product more in a sum of two, where the first has no such product
 one_second : (p q z w x r s t : ℤ) → w ≡ (p *ℤ pos 0) +ℤ (q *ℤ z) → t ≡ (p *ℤ r) +ℤ (q *ℤ s) →
     (w *ℤ x) +ℤ t ≡ (p *ℤ r) +ℤ (q *ℤ ((z *ℤ x) +ℤ s))
 one_second p q z w x r s t first second = rw (first, second) (simp ring (omega (arith, sums)))

@@ -103,7 +103,7 @@ pub divisor_of_all_below : (z : ℤ) (ps : List (ℕ × ℤ)) → IsTrue (fits_f
     gcd (nat_abs z) (divisor_of_parts ps) < 2 ^ 127
 divisor_of_all_below z ps fits kept = gcd_below (nat_abs z) (divisor_of_parts ps) (2 ^ 127) (size_below z fits) (divisor_below 0 ps kept)
 
--- and that of some parts isn't 0
+-- the divisor of parts isn't 0 where there is a part
 pub divisor_is_some : (ps : List (ℕ × ℤ)) → AreParts 0 ps → 0 < length ps → 0 < divisor_of_parts ps
 divisor_is_some [] kept some = absurd (omega arith)
 divisor_is_some (p ∷ ps) kept some = gcd_is_some (nat_abs p.1) (divisor_of_parts ps) (size_is_some p.1 kept.2)

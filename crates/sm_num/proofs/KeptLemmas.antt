@@ -174,7 +174,7 @@ eliminated_among P f g t first second =
     (each_filter same_atom (λ r. P r.0) (λ r. not (same_atom t r.0)) g.parts second))
     (λ (h : Linear ℕ) (among : AreAmong P h.parts). divided_among P (gcd (nat_abs h.constant) (divisor_of_parts h.parts)) h.parts among)
 
--- but for the one that cancels
+-- the atom that cancels isn't among the atoms of the sum
 pub eliminated_apart : (f g : Linear ℕ) (t : ℕ) → Gives (λ (h : Linear ℕ). IsApart same_atom t h.parts) (eliminated f g t)
 eliminated_apart f g t =
     let m = multipliers (coefficient same_atom t f.parts) (coefficient same_atom t g.parts) g.kind in
@@ -212,7 +212,7 @@ parts_apart t least [] below parts = tt
 parts_apart t least (p ∷ ps) below parts =
     (ne_eqb t p.0 (λ (e : t ≡ p.0). omega (arith, parts.0)), parts_apart t (suc p.0) ps (omega (arith, parts.0)) parts.3)
 
--- and each atom once
+-- ascending parts have each atom once
 pub parts_reduced : (least : ℕ) (ps : List (ℕ × ℤ)) → AreParts least ps → AreReduced same_atom ps
 parts_reduced least [] parts = tt
 parts_reduced least (p ∷ ps) parts = (parts.2, parts_apart p.0 (suc p.0) ps (omega arith) parts.3, parts_reduced (suc p.0) ps parts.3)
@@ -221,7 +221,7 @@ parts_reduced least (p ∷ ps) parts = (parts.2, parts_apart p.0 (suc p.0) ps (o
 pub combined_is_kept : (f g h : Linear ℕ) (p q : ℤ) (kind : Kind) → IsKept f → IsKept g → combined f p g q kind ≡ Fits h → IsKept h
 combined_is_kept f g h p q kind first second e = gives_fits IsKept (combined f p g q kind) h (combined_kept f g p q kind first second) e
 
--- the same where an atom cancels
+-- where the sum of kept forms in which an atom cancels is computed, it is kept
 pub eliminated_is_kept : (f g h : Linear ℕ) (t : ℕ) → IsKept f → IsKept g → eliminated f g t ≡ Fits h → IsKept h
 eliminated_is_kept f g h t first second e = gives_fits IsKept (eliminated f g t) h (eliminated_kept f g t first second) e
 

@@ -104,7 +104,7 @@ combined_alike f g p q kind first second =
     (combination_comes_out same_atom same_atom_sound same_atom_reflexive p q f.parts g.parts (parts_reduced 0 f.parts first.parts)
     (parts_reduced 0 g.parts second.parts))
 
--- the same where an atom cancels
+-- where an atom cancels, sums by ascending atoms and in the order of the parts come out alike
 pub eliminated_alike : (f g : Linear ℕ) (t : ℕ) → IsKept f → IsKept g →
     ComeOutAlike same_atom (eliminated f g t) (elimination same_atom f g t)
 eliminated_alike f g t first second =
@@ -157,7 +157,7 @@ module _ {A : Type 0} (same : A → A → Bool) (sound : IsSound same) (reflexiv
             ∙ sym (coefficient_filter same sound (λ (x : A). not (same t x)) a g.parts);
       }
 
-  -- the same where an atom cancels
+  -- sums of forms that are alike come out alike where an atom cancels, over any atoms
   pub elimination_alike : (f f' g g' : Linear A) (t : A) → AreReduced same f.parts → AreReduced same f'.parts → AreReduced same g.parts →
       AreReduced same g'.parts →
       AreAlike same f f' → AreAlike same g g' → ComeOutAlike same (elimination same f g t) (elimination same f' g' t)

@@ -48,7 +48,7 @@ computed_gives op y z = by (exact op y z) (fits_form (exact op y z)) refl
 abbrev pub IsSum : ℤ → ℤ → ℤ → ℤ → ℤ → Type 0
 IsSum p y q z w = (w ≡ (p *ℤ y) +ℤ (q *ℤ z)) × IsTrue (fits_form w)
 
--- so is what combined_number computes
+-- what combined_number computes is p times y and q times z, in the range
 pub combined_number_gives : (p y q z : ℤ) → Gives (IsSum p y q z) (combined_number p y q z)
 combined_number_gives p y q z =
     then_gives (λ (a : ℤ). (a ≡ p *ℤ y) × IsTrue (fits_form a)) (IsSum p y q z) (computed Mul p y) _ (computed_gives Mul p y)

@@ -117,7 +117,7 @@ module _ {B : Type 0} (P : ℕ → Type 0) (there : B → B → Bool) (sound : I
       first.reduced.parts (stands_reduced g l second) second.reduced.parts
       first.alike second.alike))
 
-  -- the same where an atom cancels
+  -- where an atom cancels, sums of forms that stand for others come out alike with sums of these
   pub eliminated_over : (f g : Linear ℕ) (k l : Linear B) (t : ℕ) → P t → StandsFor P there rename f k → StandsFor P there rename g l →
       ComeOutAlike there (renamed_outcome rename (eliminated f g t)) (elimination there k l (rename t))
   eliminated_over f g k l t at first second =
@@ -139,7 +139,7 @@ module _ {B : Type 0} (P : ℕ → Type 0) (there : B → B → Bool) (sound : I
       subst (λ (h : Linear B). AreAlike there h (tightened k)) (tightened_renamed rename f)
       (tightened_alike there sound reflexive (renamed_form rename f) k (stands_reduced f k stands) stands.reduced.parts stands.alike)
 
-  -- and contradictions
+  -- a form that stands for another is a contradiction exactly where that is
   pub contradictory_over : (f : Linear ℕ) (k : Linear B) → StandsFor P there rename f k → is_contradictory f ≡ is_contradictory k
   contradictory_over f k stands =
       sym (contradictory_renamed rename f)
@@ -165,7 +165,7 @@ module _ {B : Type 0} (P : ℕ → Type 0) (there : B → B → Bool) (sound : I
         },
       )
 
-  -- the same where an atom cancels
+  -- where an atom cancels, the sum of forms that stand for others stands for the sum of these
   pub eliminated_stands : (f g h : Linear ℕ) (k l : Linear B) (t : ℕ) → P t → StandsFor P there rename f k → StandsFor P there rename g l →
       eliminated f g t ≡ Fits h →
       (m : Linear B) × (elimination there k l (rename t) ≡ Fits m) × StandsFor P there rename h m
@@ -185,7 +185,7 @@ module _ {B : Type 0} (P : ℕ → Type 0) (there : B → B → Bool) (sound : I
         },
       )
 
-  -- and of tight forms
+  -- the tight form of a form that stands for another stands for the tight form of that
   pub tightened_stands : (f : Linear ℕ) (k : Linear B) → StandsFor P there rename f k → StandsFor P there rename (tightened f) (tightened k)
   tightened_stands f k stands =
       record {

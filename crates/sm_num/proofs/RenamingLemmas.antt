@@ -172,7 +172,7 @@ module _ {A B : Type 0} (P : A → Type 0) (here : A → A → Bool) (there : B 
   abbrev cancelled : ℤ → ℤ → Linear B → Linear B → Kind → Kind → Outcome (Linear B)
   cancelled a b f g kind_of_g kind = then_divided (combination there f (multipliers a b kind_of_g).0 g (multipliers a b kind_of_g).1 kind)
 
-  -- and that in which an atom cancels
+  -- the sum of forms over other atoms in which an atom cancels
   pub elimination_renamed_among : Renames → (f g : Linear A) (t : A) → P t → AreAmong P f.parts → AreAmong P g.parts →
       elimination there (renamed_form rename f) (renamed_form rename g) (rename t) ≡ renamed_outcome rename (elimination here f g t)
   elimination_renamed_among renames f g t at one other =
@@ -195,7 +195,7 @@ module _ {A B : Type 0} (P : A → Type 0) (here : A → A → Bool) (there : B 
       (each_filter here (λ r. P r.0) (λ r. not (here t r.0)) g.parts other))
       ∙ renamed_then_divided rename (combination here first (multipliers a b g.kind).0 second (multipliers a b g.kind).1 kind)
 
--- the same of all atoms
+-- the sum of forms over other atoms, by a renaming of all atoms
 pub combination_renamed : {A B : Type 0} (here : A → A → Bool) (there : B → B → Bool) (rename : A → B) (f g : Linear A) (p q : ℤ)
     (kind : Kind) → IsRenaming here there rename →
     combination there (renamed_form rename f) p (renamed_form rename g) q kind ≡ renamed_outcome rename (combination here f p g q kind)

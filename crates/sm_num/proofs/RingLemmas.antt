@@ -18,7 +18,7 @@ pub ruleset sums = (same_out, same_in, lt_out, le_out, below_in, at_most_in, sum
 pub mul_assoc : (a b c : ℤ) → (a *ℤ b) *ℤ c ≡ a *ℤ (b *ℤ c)
 mul_assoc a b c = same_in _ _ (simp (up_product, down_product) (omega arith))
 
--- and their factors change places
+-- the first two factors of a product of three change places
 pub mul_left_comm : (a b c : ℤ) → a *ℤ (b *ℤ c) ≡ b *ℤ (a *ℤ c)
 mul_left_comm a b c = same_in _ _ (simp (up_product, down_product) (omega arith))
 

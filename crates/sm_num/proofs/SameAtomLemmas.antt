@@ -12,7 +12,7 @@ use Rattle.sm_num.proofs.OutcomeLemmas.{Each}
 abbrev pub IsSound : {A : Type 0} → (A → A → Bool) → Type 0
 IsSound {A} same = (a b : A) → IsTrue (same a b) → a ≡ b
 
--- and of an atom and itself
+-- a test is true of an atom and itself
 abbrev pub IsReflexive : {A : Type 0} → (A → A → Bool) → Type 0
 IsReflexive {A} same = (a : A) → IsTrue (same a a)
 
@@ -119,7 +119,7 @@ module _ {A : Type 0} (same : A → A → Bool) where
       by true rest = (each.0, rest)
       by false rest = rest
 
-  -- and reduced parts stay reduced
+  -- reduced parts stay reduced where parts go
   pub reduced_filter : (test : A × ℤ → Bool) (ps : List (A × ℤ)) → AreReduced same ps → AreReduced same (filter test ps)
   reduced_filter test [] reduced = tt
   reduced_filter test (p ∷ ps) reduced = by (test p) (reduced_filter test ps reduced.2)

@@ -71,7 +71,7 @@ abbrev pub combined : Linear ℕ → ℤ → Linear ℕ → ℤ → Kind → Out
 combined f p g q kind =
     formed (merged p q f.parts g.parts) (combined_number p f.constant q g.constant) kind
 
--- the same over any atoms, in the order of their parts
+-- sums of forms over any atoms, in the order of their parts
 --
 -- p times a part, and q times what the other form has of its atom
 abbrev pub met_part : {A : Type 0} → (A → A → Bool) → ℤ → A × ℤ → ℤ → List (A × ℤ) → Outcome ℤ

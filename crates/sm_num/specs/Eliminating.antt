@@ -62,7 +62,7 @@ abbrev pub floor_of : ℤ → ℕ → ℤ
 floor_of (pos n) d = if d == 0 then pos n else pos (n / d)
 floor_of (negsuc n) d = if d == 0 then negsuc n else negsuc (n / d)
 
--- the same, rounded up
+-- the number divided, its quotient rounded up; not divided by 0
 abbrev pub ceiling_of : ℤ → ℕ → ℤ
 ceiling_of z d = neg_ℤ (floor_of (neg_ℤ z) d)
 
@@ -93,7 +93,7 @@ eliminated f g t =
     then_divided
     (combined (without same t f) m.0 (without same t g) m.1 (kind_of_sum f.kind g.kind))
 
--- the same over any atoms
+-- the sum of two forms over any atoms in which one cancels; nothing is computed for that atom
 abbrev pub elimination :
     {A : Type 0} → (A → A → Bool) → Linear A → Linear A → A → Outcome (Linear A)
 elimination same f g t =

@@ -34,7 +34,7 @@ OrderDoesNotMatter =
     (f g : Linear ℕ) (p q : ℤ) (kind : Kind) → IsKept f → IsKept g →
     ComeOutAlike same_atom (combined f p g q kind) (combination same_atom f p g q kind)
 
--- the same where an atom cancels
+-- where an atom cancels, ascending atoms and the order of the parts give one form, or none
 abbrev pub OrderDoesNotMatterToElim : Type 0
 OrderDoesNotMatterToElim =
     (f g : Linear ℕ) (t : ℕ) → IsKept f → IsKept g →
@@ -58,7 +58,7 @@ NumberingDoesNotMatter =
     combination same_atom (renamed_form rename f) p (renamed_form rename g) q kind
     ≡ renamed_outcome rename (combination same_atom f p g q kind)
 
--- the same where an atom cancels
+-- where an atom cancels, the sum over other atoms is the sum over these, over other atoms
 abbrev pub NumberingDoesNotMatterToElim : Type 0
 NumberingDoesNotMatterToElim =
     (rename : ℕ → ℕ) (f g : Linear ℕ) (t : ℕ) → IsRenaming same_atom same_atom rename →
@@ -91,12 +91,12 @@ CombinedIsKept =
     (f g h : Linear ℕ) (p q : ℤ) (kind : Kind) → IsKept f → IsKept g →
     combined f p g q kind ≡ Fits h → IsKept h
 
--- the same where an atom cancels
+-- the sum of kept forms in which an atom cancels is kept
 abbrev pub ElimIsKept : Type 0
 ElimIsKept =
     (f g h : Linear ℕ) (t : ℕ) → IsKept f → IsKept g → eliminated f g t ≡ Fits h → IsKept h
 
--- and of tight forms
+-- a kept form made tight is kept
 abbrev pub TightenIsKept : Type 0
 TightenIsKept = (f : Linear ℕ) → IsKept f → IsKept (tightened f)
 
@@ -106,7 +106,7 @@ ElimTakesAtom =
     (f g h : Linear ℕ) (t : ℕ) → eliminated f g t ≡ Fits h →
     coefficient same_atom t h.parts ≡ pos 0
 
--- and no atom comes that neither form has
+-- the sum in which an atom cancels has no atom that neither form has
 abbrev pub ElimAddsNoAtom : Type 0
 ElimAddsNoAtom =
     (f g h : Linear ℕ) (t a : ℕ) → IsKept f → IsKept g → eliminated f g t ≡ Fits h →

@@ -62,7 +62,7 @@ pub fn combined_is_kept()
     ensures { CombinedIsKept }
 {}
 
-/// So is that in which an atom cancels.
+/// The sum of kept forms in which an atom cancels is kept.
 pub fn elim_is_kept()
     ensures { ElimIsKept }
 {}

@@ -32,7 +32,7 @@ answers_decide Meets Passed given = tt
 answers_decide Meets (Outside op y z) given = tt
 answers_decide Meets Shallow given = tt
 
--- and the other way round
+-- where both facts are one, a right answer is one for them
 pub decides_answers : (Meets : Values → Type 0) (answer : Answer) → Decides Meets answer → Answers Meets Meets answer
 decides_answers Meets (Done c None) given = given
 decides_answers Meets (Done c (Some v)) given = given

@@ -87,7 +87,7 @@ greatest_is t fs v z e =
     (then_gives (λ (zs : List ℤ). zs ≡ map (bound_at t v) fs) Goal (bounds_of t v fs) (λ (zs : List ℤ). Fits (greatest zs))
     (bounds_are t v fs) (λ (zs : List ℤ) (first : zs ≡ map (bound_at t v) fs). ap greatest first)) e
 
--- and the least is the least
+-- the least bound that is computed is the least of the bounds of the forms
 pub least_is : (t : ℕ) (fs : List (Linear ℕ)) (v : Values) (z : ℤ) → least_bound t fs v ≡ Fits z → z ≡ least (map (bound_at t v) fs)
 least_is t fs v z e =
     let Goal : ℤ → Type 0 = λ (x : ℤ). x ≡ least (map (bound_at t v) fs) in
@@ -146,7 +146,7 @@ pub others_hold : (t : ℕ) (v : Values) (fs : List (Linear ℕ)) → AllHold v 
 others_hold t v fs all =
     each_all v (others t fs) (each_filter (λ (f : Linear ℕ). HoldsAt v f) (λ f. not (has t f)) fs (all_each v fs all))
 
--- and still do with another value of it
+-- where the forms without a variable hold, they do with another value of it
 pub others_put : (t : ℕ) (z : ℤ) (v : Values) (fs : List (Linear ℕ)) → AllHold v (others t fs) →
     EachOf (λ (f : Linear ℕ). HoldsAt (put t z v) f) (others t fs)
 others_put t z v fs all =

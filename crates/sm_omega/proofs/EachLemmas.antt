@@ -52,7 +52,7 @@ module _ {A : Type 0} where
   each_append P [] ys first second = second
   each_append P (x ∷ xs) ys first second = (first.0, each_append P xs ys first.1 second)
 
-  -- and the other way round
+  -- a fact of each of two lists together is one of each of the first, and of each of the second
   pub each_front : (P : A → Type 0) (xs ys : List A) → EachOf P (xs ++ ys) → EachOf P xs
   each_front P [] ys each = tt
   each_front P (x ∷ xs) ys each = (each.0, each_front P xs ys each.1)

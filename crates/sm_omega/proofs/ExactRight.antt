@@ -53,7 +53,7 @@ module _ (solve : Solver) (serves : Serves solve) (limit : ℕ) where
       by (Outside op y z) eq = tt
       by Shallow eq = tt
 
-  -- and decides what they say
+  -- the answer to good items decides what they say
   items_decided : (s : ℕ) (items : List Item) (c : ℕ) → AreGoodItems s items →
       Decides (λ (v : Values). ItemsHold v items) (solved limit (solve s) items c)
   items_decided s items c good =

@@ -26,7 +26,7 @@ led_has X f Passed more = tt
 led_has X f (Outside op y z) more = tt
 led_has X f Shallow more = tt
 
--- nor does it matter where the form is left out
+-- what is so of a list is so where one form more enters, kept in front or left out
 entering_has : (X : Type 0) (c : ℕ) (f : Linear ℕ) (rest : Entered) → ListHas (λ fs. X) rest → ListHas (λ fs. X) (entering c f rest)
 entering_has X c f rest more = by (is_contradictory f) (has_no_part f.parts)
   where
@@ -35,7 +35,7 @@ entering_has X c f rest more = by (is_contradictory f) (has_no_part f.parts)
     by false true = more
     by false false = led_has X f rest more
 
--- and so is what is known before
+-- what is so in any case is so of a list together with what is so of it
 also_has : (X Y : Type 0) (rest : Entered) → X → ListHas (λ fs. Y) rest → ListHas (λ fs. X × Y) rest
 also_has X Y (Done c None) first more = tt
 also_has X Y (Done c (Some fs)) first more = (first, more)
@@ -146,6 +146,6 @@ module _ (v : Values) where
       ItemsHold v items ↔ AllHold v fs
   entered_says limit items c n fs e = subst (Says (ItemsHold v items)) e (entered_tells limit items c)
 
-  -- and where a contradiction was met they don't
+  -- where a contradiction was met, the items don't hold
   pub entered_refutes : (limit : ℕ) (items : List Item) (c n : ℕ) → entered limit items c ≡ Done n None → ItemsHold v items → ⊥
   entered_refutes limit items c n e = subst (Says (ItemsHold v items)) e (entered_tells limit items c)

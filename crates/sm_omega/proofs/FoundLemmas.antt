@@ -225,7 +225,7 @@ others_length t (f ∷ fs) = by (not (has t f)) (others_length t fs)
     by true less = omega (arith, less)
     by false less = omega (arith, less)
 
--- and shorter by one, where some form has the variable
+-- the forms without a variable are fewer than all, where some form has it
 pub others_fewer : (t : ℕ) (fs : List (Linear ℕ)) → list_any (has t) fs ≡ true → length (others t fs) < length fs
 others_fewer t [] some = absurd cc
 others_fewer t (f ∷ fs) some = by (has t f) some (λ (more : list_any (has t) fs ≡ true). others_fewer t fs more) (others_length t fs)

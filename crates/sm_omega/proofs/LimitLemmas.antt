@@ -89,7 +89,7 @@ count_is_within fs limit c answer e =
     let h = subst (λ a. Matches limit limit (AllKept fs → ⊥) (Unit {0}) 0 a (exact fs limit)) e (exact_match fs limit limit) in
     h.1 (omega arith)
 
--- and each limit that isn't below the count gives it
+-- each limit that isn't below an answer's count gives this answer
 pub limit_does_not_matter : (fs : List (Linear ℕ)) (limit other c : ℕ) (answer : Option Values) → exact fs limit ≡ Done c answer →
     c ≤ other → exact fs other ≡ Done c answer
 limit_does_not_matter fs limit other c answer e within =

@@ -33,7 +33,7 @@ each_lower P t fs each = each_filter P (bounds_below t) fs each
 pub each_upper : (P : Linear ℕ → Type 0) (t : ℕ) (fs : List (Linear ℕ)) → EachOf P fs → EachOf P (upper_bounds t fs)
 each_upper P t fs each = each_filter P (bounds_above t) fs each
 
--- and the forms without it
+-- what is so of each form of a list is so of each of those without the variable
 pub each_others : (P : Linear ℕ → Type 0) (t : ℕ) (fs : List (Linear ℕ)) → EachOf P fs → EachOf P (others t fs)
 each_others P t fs each = each_filter P (λ f. not (has t f)) fs each
 
@@ -49,7 +49,7 @@ good_above s f good = record {
   below = each_more same_atom (λ r. r.0 < s) (λ r. r.0 < suc s) (λ r less. omega (arith, less)) f.parts good.below;
 }
 
--- so is a form of a list
+-- a form of a list over variables below a number is one over those below the next
 pub listed_above : (s : ℕ) (f : Linear ℕ) → IsListed s f → IsListed (suc s) f
 listed_above s f listed = record { good = good_above s f listed.good; some = listed.some }
 
@@ -119,7 +119,7 @@ combined_good s f p g q kind first second =
     good_of s (combined f p g q kind) (combined_kept f g p q kind first.kept second.kept)
     (combined_among (λ (a : ℕ). a < s) f g p q kind first.below second.below)
 
--- so is one in which a variable cancels
+-- the form in which a variable of two good forms cancels is good
 pub eliminated_good : (s : ℕ) (f g : Linear ℕ) (t : ℕ) → IsGood s f → IsGood s g → Gives (IsGood s) (eliminated f g t)
 eliminated_good s f g t first second =
     good_of s (eliminated f g t) (eliminated_kept f g t first.kept second.kept)
@@ -217,7 +217,7 @@ shadow_good s t l u first second =
     any = gives_more _ (λ (y : ℤ). Unit {0}) (computed Mul (at t u -ℤ pos 1) (neg_ℤ (at t l) -ℤ pos 1))
         (computed_gives Mul (at t u -ℤ pos 1) (neg_ℤ (at t l) -ℤ pos 1)) (λ y number. tt)
 
--- and those of all pairs of bounds are
+-- the forms of the dark shadows of all pairs of bounds are good
 pub shadows_good : (s t : ℕ) (ls us : List (Linear ℕ)) → AreListed s ls → AreListed s us → AreGoodItems s (shadows t ls us)
 shadows_good s t [] us lower upper = tt
 shadows_good s t (l ∷ ls) us lower upper =

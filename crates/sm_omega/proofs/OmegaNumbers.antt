@@ -89,7 +89,7 @@ lower_met (negsuc n) r z e least =
     mul_turned : (y z : ℤ) → neg_ℤ y *ℤ z ≡ neg_ℤ (y *ℤ z)
     mul_turned y z = simp ring (omega (arith, sums))
 
--- and the bound itself is near to what satisfies it
+-- the lower bound, times its coefficient's size, is above the rest by less than this size
 pub lower_near : (a r : ℤ) → is_negative a ≡ true → (neg_ℤ a *ℤ bound_from a r) ≤ℤ (r +ℤ (neg_ℤ a -ℤ pos 1))
 lower_near (pos n) r e = absurd cc
 lower_near (negsuc n) r e = ceiling_near r (suc n) (omega arith)

@@ -30,7 +30,7 @@ forms_in (Stay f ∷ items) = suc (forms_in items)
 forms_in (Enter f ∷ items) = suc (forms_in items)
 forms_in (Count outcome ∷ items) = forms_in items
 
--- and how many are counted
+-- how many items are counted
 abbrev pub counts_in : List Item → ℕ
 counts_in [] = 0
 counts_in (Stay f ∷ items) = counts_in items
@@ -63,7 +63,7 @@ left_weaker limit more most many much Passed fewer less = tt
 left_weaker limit more most many much (Outside op y z) fewer less = tt
 left_weaker limit more most many much Shallow fewer less = tt
 
--- and so is a form that enters, at most
+-- a form that enters leaves at most one more
 entering_left : (limit more most c : ℕ) (f : Linear ℕ) (rest : Entered) → LeavesAtMost limit more most rest →
     LeavesAtMost limit more (suc most) (entering c f rest)
 entering_left limit more most c f rest less = by (is_contradictory f) (has_no_part f.parts)
@@ -128,7 +128,7 @@ pub forms_standing : (fs : List (Linear ℕ)) → forms_in (standing fs) ≡ len
 forms_standing [] = refl
 forms_standing (f ∷ fs) = ap suc (forms_standing fs)
 
--- and so are all that are given
+-- all that are given to enter are forms
 pub forms_given : (fs : List (Linear ℕ)) → forms_in (map Enter fs) ≡ length fs
 forms_given [] = refl
 forms_given (f ∷ fs) = ap suc (forms_given fs)
@@ -155,7 +155,7 @@ modular_most d t (f ∷ fs) = by (has t f) (modular_most d t fs)
     by true less = omega (arith, less)
     by false less = omega (arith, less)
 
--- and one that has the variable is counted
+-- by a modular step at a variable that some form has, a form is counted
 pub modular_fewer : (d : Linear ℕ) (t : ℕ) (fs : List (Linear ℕ)) → list_any (has t) fs ≡ true →
     forms_in (map (modular_item d t) fs) < length fs + counts_in (map (modular_item d t) fs)
 modular_fewer d t [] some = absurd cc
@@ -228,7 +228,7 @@ upper_none t (f ∷ fs) none =
     let both = neither (has t f) (list_any (has t) fs) none in
     ap (λ (b : Bool). if b && not (bounds_below t f) then f ∷ upper_bounds t fs else upper_bounds t fs) both.0 ∙ upper_none t fs both.1
 
--- and a modular step changes none
+-- a modular step at a variable that no form has changes none
 modular_stays : (d : Linear ℕ) (t : ℕ) (fs : List (Linear ℕ)) → list_any (has t) fs ≡ false → map (modular_item d t) fs ≡ standing fs
 modular_stays d t [] none = refl
 modular_stays d t (f ∷ fs) none =
@@ -249,7 +249,7 @@ stuck_variable limit solve fs c t none shallow =
     ∙ ap (λ gs. giving t (greatest_bound t (lower_bounds t fs)) (solve gs c)) (others_all t fs none)
     ∙ ap (giving t (greatest_bound t (lower_bounds t fs))) shallow
 
--- and so does a modular step
+-- a modular step at a variable that no form has comes to the same list
 pub stuck_equation : (limit : ℕ) (solve : Solver) (s : ℕ) (fs : List (Linear ℕ)) (c : ℕ) (e : Linear ℕ) (gs : List (Linear ℕ))
     (part : ℕ × ℤ) → (nat_abs part.1 == 1) ≡ false → list_any (has part.0) fs ≡ false → solve (suc s) fs c ≡ Shallow →
     by_equation limit solve s fs c e gs part ≡ Shallow
@@ -271,7 +271,7 @@ shallow_variable limit (suc depth) s fs c t bounds least none =
     ∙ ap (by_least limit (solved_within limit depth s) fs c) least
     ∙ stuck_variable limit (solved_within limit depth s) fs c t none (shallow_variable limit depth s fs c t bounds least none)
 
--- nor is it for a modular step
+-- no depth is enough for modular steps at a variable that no form has
 pub shallow_equation : (limit depth s : ℕ) (fs : List (Linear ℕ)) (c : ℕ) (e : Linear ℕ) (gs : List (Linear ℕ)) →
     first_equation fs ≡ Some (e, gs) → (nat_abs (least_part e.parts).1 == 1) ≡ false → list_any (has (least_part e.parts).0) fs ≡ false →
     solved_within limit depth s fs c ≡ Shallow

@@ -69,7 +69,7 @@ modular_minus t a s (p ∷ ps) new reduced some = by (p.0 == t) refl (modular_mi
         at_past t p.0 (neg_ℤ (quotient p.1 a)) (modular_parts t a s ps) other
         ∙ rest (λ (none : coefficient same_atom t ps ≡ pos 0). some (coefficient_past same_atom t p ps other ∙ none))
 
--- and 1 at the new one
+-- the parts of the modular step have 1 at the new variable
 modular_one : (t : ℕ) (a : ℤ) (s : ℕ) (ps : List (ℕ × ℤ)) → same_atom s t ≡ false → IsApart same_atom s ps →
     coefficient same_atom s (modular_parts t a s ps) ≡ pos 1
 modular_one t a s [] other apart = at_here s (pos 1) []
@@ -87,7 +87,7 @@ pub at_modular : (t : ℕ) (a : ℤ) (s : ℕ) (e : Linear ℕ) → IsKept e →
 at_modular t a s e kept some below =
     modular_minus t a s e.parts (ne_eqb t s (λ (x : t ≡ s). omega arith)) (parts_reduced 0 e.parts kept.parts) some
 
--- and 1 at the new one
+-- the equation of the modular step has 1 at the new variable
 pub new_modular : (t : ℕ) (a : ℤ) (s : ℕ) (e : Linear ℕ) → AreAmong (λ (x : ℕ). x < s) e.parts → t < s →
     at s (modular t a s e) ≡ pos 1
 new_modular t a s e among below =
@@ -102,7 +102,7 @@ modular_kind f d h k fits =
     gives_fits (SumsTo f d (pos 1) k f.kind) (combined f (pos 1) d k f.kind) h (combined_sums_to f d (pos 1) k f.kind) fits in
     sum.of_kind
 
--- and its value where the equation is 0
+-- what a form becomes by an equation has its value and so many times that of the equation
 modular_value : (f d h : Linear ℕ) (k : ℤ) (w : Values) → combined f (pos 1) d k f.kind ≡ Fits h →
     value_of_form w h ≡ value_of_form w f +ℤ (k *ℤ value_of_form w d)
 modular_value f d h k w fits =
@@ -184,7 +184,7 @@ modular_forth s v fs e gs t a eq listed below all =
     (λ (f : Linear ℕ) (here : HoldsAt w f). modular_step w d t f none here) fs hold in
     (w, items)
 
--- and where these are computed and hold, all forms of the list hold with the value by that equation
+-- where what the modular step makes fits and holds, all forms hold with the value by its equation
 pub modular_back : (s : ℕ) (v : Values) (fs : List (Linear ℕ)) (e : Linear ℕ) (gs : List (Linear ℕ)) (t : ℕ) (a z : ℤ) →
     first_equation fs ≡ Some (e, gs) → AreListed s fs → t < s → (at t e ≡ pos 0 → ⊥) →
     EachOf Fitting (map (modular_item (modular t a s e) t) fs) → ItemsHold v (map (modular_item (modular t a s e) t) fs) →

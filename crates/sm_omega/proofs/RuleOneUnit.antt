@@ -33,7 +33,7 @@ value_from_zero (negsuc n) y one =
     ap (λ (k : ℕ). negsuc k *ℤ y) last ∙ mul-neg_left (pos 1) y ∙ ap neg_ℤ (one_mul y) in
     omega (arith, sums)
 
--- so is the form at what is put
+-- a form is 0 where the value by it is put for a variable whose coefficient has size 1
 pub value_by_zero : (t : ℕ) (e : Linear ℕ) (v : Values) (z : ℤ) → nat_abs (at t e) ≡ 1 → value_by t e v ≡ Fits z →
     value_of_form (put t z v) e ≡ pos 0
 value_by_zero t e v z one fits =
@@ -144,7 +144,7 @@ unit_forth v fs e gs t eq has_it all =
     each_made (HoldsAt v) (ItemHolds v) (eliminated_item e t)
     (λ (f : Linear ℕ) (here : HoldsAt v f). unit_item v e t f is.equation has_it both.0 here) gs both.1
 
--- and where these are computed and hold, all forms of the list hold with the value by the equation
+-- where what loses a variable by the first equation fits and holds, all forms hold with its value
 pub unit_back : (v : Values) (fs : List (Linear ℕ)) (e : Linear ℕ) (gs : List (Linear ℕ)) (t : ℕ) (z : ℤ) →
     first_equation fs ≡ Some (e, gs) → has t e ≡ true → nat_abs (at t e) ≡ 1 → EachOf Fitting (map (eliminated_item e t) gs) →
     ItemsHold v (map (eliminated_item e t) gs) → value_by t e v ≡ Fits z → AllHold (put t z v) fs

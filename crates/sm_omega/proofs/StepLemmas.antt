@@ -156,7 +156,7 @@ module _ (limit depth other deep : ℕ) (solve : Solver) (follows : Follows limi
           (stuck_variable limit (solved_within limit depth s) fs c t none (shallow_variable limit depth s fs c t bounds least none))
           (λ deep_is. let both = least_some s fs t deep_is.listed least in let some = both.1 in absurd cc)
 
-  -- or none
+  -- a rule by the least variable, where there may be none
   least_match : (found : Option ℕ) → first_equation fs ≡ None → least_variable fs ≡ found →
       RuleMatches c (by_least limit (solved_within limit depth s) fs c found) (by_least other (solve s) fs c found)
   least_match None bounds least =

@@ -29,7 +29,7 @@ sum_alike v w [] each = refl
 sum_alike v w (p ∷ ps) each =
     ap (λ (x : ℤ). (p.1 *ℤ x) +ℤ sum_of_parts v ps) each.0 ∙ ap (λ (x : ℤ). (p.1 *ℤ w p.0) +ℤ x) (sum_alike v w ps each.1)
 
--- and one value
+-- values that agree at the variables of a form give it one value
 pub value_alike : (v w : Values) (f : Linear ℕ) → AreAmong (λ (a : ℕ). v a ≡ w a) f.parts → value_of_form v f ≡ value_of_form w f
 value_alike v w f each = ap (λ (x : ℤ). x +ℤ f.constant) (sum_alike v w f.parts each)
 
@@ -45,7 +45,7 @@ apart_alike t z v ps apart =
     each_more same_atom (λ r. same_atom t r.0 ≡ false) (λ r. put t z v r.0 ≡ v r.0)
     (λ (r : ℕ × ℤ) (e : same_atom t r.0 ≡ false). put_other t z v r.0 (apart_turned same_atom same_atom_sound t r.0 e)) ps apart
 
--- nor do those whose variables are below it
+-- parts whose variables are below another one don't see the value of that one
 pub below_alike : (s : ℕ) (z : ℤ) (v : Values) (ps : List (ℕ × ℤ)) → AreAmong (λ (a : ℕ). a < s) ps →
     AreAmong (λ (a : ℕ). put s z v a ≡ v a) ps
 below_alike s z v ps below =
@@ -57,7 +57,7 @@ pub value_below : (s : ℕ) (z : ℤ) (v : Values) (f : Linear ℕ) → AreAmong
     value_of_form (put s z v) f ≡ value_of_form v f
 value_below s z v f below = value_alike (put s z v) v f (below_alike s z v f.parts below)
 
--- and holds with it or without
+-- whether a form holds doesn't depend on a variable that is above all of its own
 pub holds_below : (s : ℕ) (z : ℤ) (v : Values) (f : Linear ℕ) → AreAmong (λ (a : ℕ). a < s) f.parts →
     HoldsAt v f ↔ HoldsAt (put s z v) f
 holds_below s z v f below =
@@ -100,7 +100,7 @@ value_none t z v f none =
     let second = value_split t v f in
     omega (arith, sums)
 
--- and holds with it or without
+-- whether a form without a variable holds doesn't depend on what is put for it
 pub holds_put : (t : ℕ) (z : ℤ) (v : Values) (f : Linear ℕ) → has t f ≡ false → HoldsAt v f ↔ HoldsAt (put t z v) f
 holds_put t z v f e =
     let same = value_none t z v f (has_none t f e) in

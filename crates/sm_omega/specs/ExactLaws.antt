@@ -39,8 +39,8 @@ CountIsWithin =
     (fs : List (Linear ℕ)) (limit c : ℕ) (answer : Option Values) → exact fs limit ≡ Done c answer →
     c ≤ limit
 
--- and each limit that isn't below the count gives it, so the count passes a limit exactly where it
--- is greater
+-- each limit that isn't below an answer's count gives this answer, so the count passes a limit
+-- exactly where it is greater
 abbrev pub LimitDoesNotMatter : Type 0
 LimitDoesNotMatter =
     (fs : List (Linear ℕ)) (limit other c : ℕ) (answer : Option Values) →

@@ -95,13 +95,13 @@ mutual
   filled_below k s all (Mul t u) b = (filled_below k s all t b.0, filled_below k s all u b.1)
   filled_below k s all (Fun c x args) b = given_below k s all args b
 
-  -- the same of arguments
+  -- arguments at stores name no new value of node k or later, where neither they nor the stores do
   pub given_below : (k : ℕ) (s : Copy → SymbolicStore) → ((c : Copy) → IsStoreBelow k (s c)) → (args : Arguments) → AreBelow k args
       → AreBelow k (fill_arguments s args)
   given_below k s all Over b = tt
   given_below k s all (Given x t rest) b = (filled_below k s all t b.0, given_below k s all rest b.1)
 
--- the same of a formula
+-- a formula at stores names no new value of node k or later, where neither it nor the stores do
 pub at_stores_below : (k : ℕ) (s : Copy → SymbolicStore) → ((c : Copy) → IsStoreBelow k (s c)) → (f : Assertion) → IsFormBelow k f
     → IsFormBelow k (at_stores s f)
 at_stores_below k s all Yes b = tt
@@ -113,7 +113,7 @@ at_stores_below k s all (Lt t u) b = (filled_below k s all t b.0, filled_below k
 at_stores_below k s all (And p q) b = (at_stores_below k s all p b.0, at_stores_below k s all q b.1)
 at_stores_below k s all (Or p q) b = (at_stores_below k s all p b.0, at_stores_below k s all q b.1)
 
--- the same of a list
+-- formulas at stores name no new value of node k or later, where neither they nor the stores do
 pub all_at_stores_below : (k : ℕ) (s : Copy → SymbolicStore) → ((c : Copy) → IsStoreBelow k (s c)) → (fs : List Assertion)
     → AreFormsBelow k fs → AreFormsBelow k (all_at_stores s fs)
 all_at_stores_below k s all [] b = tt
@@ -171,7 +171,7 @@ state_later k l st more b = record {
   target = forms_later k l more st.target b.target;
 }
 
--- the same of states
+-- states that name no new value of node k or later name none of node l or later, if k ≤ l
 pub states_later : (k l : ℕ) (states : List State) → k ≤ l → AreStatesBelow k states → AreStatesBelow l states
 states_later k l [] more b = tt
 states_later k l (st ∷ states) more b = (state_later k l st more b.0, states_later k l states more b.1)

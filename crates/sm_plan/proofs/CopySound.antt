@@ -108,7 +108,7 @@ fork_sound st c b first second k is left right m end facts ends =
     (ways (append second k) s p.1 ends))
     (fork_ends m.bound (truth_of b σ) first second k σ (end c) end_here)
 
--- the same, as a node opens it
+-- where both states that a node opens at a branch are sound, its own state is
 pub both_ways_sound : (st : State) (c : Copy) (code : Code) (q : Opened) → st.rest c ≡ code → both_ways st c code ≡ Some q
     → AreSound q.states → IsSound st
 both_ways_sound st c End q is e all = absurd cc

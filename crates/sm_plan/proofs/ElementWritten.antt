@@ -47,7 +47,7 @@ module _ (u v w : TableValue) (first : Grows u v) (second : Grows v w) (s : SymS
   pub element_within : (array.0 < length trees) × (index.0 < length trees) × (value.0 < length trees)
   element_within = (there trees array.0 _ array_got, there trees index.0 _ index_got, there trees value.0 _ value_got)
 
-  -- and have their sorts
+  -- the array of a written element, its index and its value have their sorts
   pub element_fits : (has_sort (sorts_in w) trees array Arr
       && (has_sort (sorts_in w) trees index Num && has_sort (sorts_in w) trees value Num)) ≡ true
   element_fits =

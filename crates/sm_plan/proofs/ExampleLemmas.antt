@@ -21,7 +21,7 @@ example_obligations = refl
 clash : (a m b : ℤ) → a ≡ m → a <ℤ b → b ≤ℤ m → ⊥
 clash a m b same first second = omega (arith, ints)
 
--- the same from the other side
+-- of two equal numbers, the first isn't at least a number that the second is below
 clash_back : (a m b : ℤ) → a ≡ m → b ≤ℤ a → m <ℤ b → ⊥
 clash_back a m b same first second = omega (arith, ints)
 

@@ -61,7 +61,7 @@ module _ (v w : TableValue) (grows : Grows v w) where
         IsFilled w (stores_in (trees_in w) stores) n id
     filled_by n id h e = e ∙ ap (λ (t : Tree). Some t) (sym (fill_more n h))
 
-    -- the same of all that are known
+    -- all numbers that are known stay known where the table grows
     pub known_more : (known : ℕ → Option TermId) → AreKnown v (stores_in (trees_in v) stores) known →
         AreKnown w (stores_in (trees_in w) stores) known
     known_more known kept n id e =

@@ -97,7 +97,7 @@ module _ (f g : ℕ → Option TermId) (k : ℕ) (made : TermId) (gains : (q : �
       ap (λ (o : Option TermId). (if is_some o then 0 else 1) + unknown_below g b) (apart b other)
       ∙ ap (λ (n : ℕ). (if is_some (f b) then 0 else 1) + n) rest
 
-  -- and one fewer in all
+  -- once k is known, one number fewer isn't known below a number above it
   pub unknown_less : (b : ℕ) → k < b → f k ≡ None → unknown_below g b + 1 ≡ unknown_below f b
   unknown_less zero h none = absurd (omega arith)
   unknown_less (suc b) h none =

@@ -33,7 +33,7 @@ last_of (t ∷ u ∷ l) (suc i) s h e =
     let k = code_before (u ∷ l) End in
     ap last_guard ((stands t).1 k) ∙ put_guard (stands t).0 k (not_over u (code_before l End)) ∙ last_of (u ∷ l) i s (omega arith) e
 
--- the same of a block
+-- the last guard of a block's code is that of its last statement
 pub last_of_block : (b : Block) (i : ℕ) (s : Stmt) → i + 1 ≡ length b.list.items → s ≡ get_or b.list.items i s →
     last_guard (code_of b) ≡ last_guard (statement_of s End)
 last_of_block b i s h e = ap last_guard (block_is b) ∙ last_of b.list.items i s h e

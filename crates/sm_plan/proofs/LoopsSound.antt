@@ -44,7 +44,7 @@ at_values m s u fs same h =
     let all : (λ (c : Copy). store_meant m (s c)) ≡ u = fun_ext same in
     subst (λ (v : Copy → Store). AllHold (with_slots m v) fs) all ((all_at_stores_mean m s fs).0 h)
 
--- and back
+-- formulas that hold with the stores' values at the slots hold at the stores
 pub from_values : (m : Structure) (s : Copy → SymbolicStore) (u : Copy → Store) (fs : List Assertion)
     → ((c : Copy) → store_meant m (s c) ≡ u c) →
     AllHold (with_slots m u) fs → AllHold m (all_at_stores s fs)
@@ -78,7 +78,7 @@ kept_later : (m : Structure) (k : ℕ) (u v : Copy → Store) (keep : Assertion)
     → Holds (with_slots (with_havoc m k u) v) keep
 kept_later m k u v keep fresh h = (fresh_means (with_slots m v) k u keep fresh).1 h
 
--- and back
+-- a kept formula that is fresh and holds with other values of node k holds without them
 kept_before : (m : Structure) (k : ℕ) (u v : Copy → Store) (keep : Assertion) → IsFormBelow k keep
     → Holds (with_slots (with_havoc m k u) v) keep → Holds (with_slots m v) keep
 kept_before m k u v keep fresh h = (fresh_means (with_slots m v) k u keep fresh).0 h

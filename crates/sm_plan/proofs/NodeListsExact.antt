@@ -18,7 +18,7 @@ is_few : (n : ℕ) → n ≤ 1000 → is_shallow n ≡ true
 unfolding is_shallow
 is_few n few = grind (arith, nat_tests)
 
--- and back
+-- a number of branching nodes that passes the test is at most 1,000
 few_is : (n : ℕ) → is_shallow n ≡ true → n ≤ 1000
 unfolding is_shallow
 few_is n h = grind (arith, nat_tests)
@@ -28,7 +28,7 @@ counts_above : (b : Bool) (above most : ℕ) → above + (if b then suc most els
 counts_above true above most few = omega (arith, few)
 counts_above false above most few = omega (arith, few)
 
--- and back
+-- branching nodes are few with a node counted among them, where they are with it counted above
 counts_below : (b : Bool) (above most : ℕ) → (if b then suc above else above) + most ≤ 1000 → above + (if b then suc most else most) ≤ 1000
 counts_below true above most few = omega (arith, few)
 counts_below false above most few = omega (arith, few)
@@ -70,7 +70,7 @@ mutual
         plans_prove ps w (suc k) (above_opened node above) q.states parts.1 pending rest room fresh.1 parts.3 both.1 next,
       )
 
-  -- the same of plans
+  -- the nodes of plans take their states off the pending ones
   plans_prove : (ps : Plans) (w : Fault) (k above : ℕ) (sts : List State) (ds : List Due) (pending : List Pending) (rest : List Node)
       → above + most_branches ps ≤ 1000 → AreFresh k ps →
       expand_all w k sts ps ≡ Ok ds → AllDischarged ds → NodesProve (k + sizes ps) pending rest

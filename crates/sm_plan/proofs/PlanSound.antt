@@ -50,7 +50,7 @@ pub discharged_parts : (a b : List Due) → AllDischarged (a ++ b) → AllDischa
 discharged_parts [] b all = (tt, all)
 discharged_parts (d ∷ a) b all = let p = discharged_parts a b all.1 in ((all.0, p.0), p.1)
 
--- the same of obligations that are those of two parts
+-- where obligations that are those of two parts are discharged, both parts are
 pub parts_discharged : (a b ds : List Due) → a ++ b ≡ ds → AllDischarged ds → AllDischarged a × AllDischarged b
 parts_discharged a b ds e all = discharged_parts a b (subst AllDischarged (sym e) all)
 
@@ -76,7 +76,7 @@ mutual
       node_sound k st node q below fresh.0 o.1 (due_valid k st node q.goals (subst AllDischarged here both.0))
       (plans_sound ps w (suc k) q.states parts.1 (node_below k st node q below fresh.0 o.1) fresh.1 parts.3 both.1)
 
-  -- the same of plans
+  -- fresh plans whose obligations are discharged make their states sound
   plans_sound : (ps : Plans) (w : Fault) (k : ℕ) (states : List State) (ds : List Due) → AreStatesBelow k states → AreFresh k ps
       → expand_all w k states ps ≡ Ok ds →
       AllDischarged ds → AreSound states

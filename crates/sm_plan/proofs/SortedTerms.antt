@@ -145,7 +145,7 @@ mutual
       ((p.0, p.1 ∙ b.1, q.0, q.1 ∙ b.3), refl)
   filled_sorted sorts s all (Fun c x args) b = ((b.0, b.1, given_sorted sorts s all args b.2), refl)
 
-  -- the same of arguments
+  -- arguments at stores are sorted, where they and the stores are
   pub given_sorted : (sorts : Sorts) (s : Copy → SymbolicStore) → ((c : Copy) → IsStoreSorted sorts (s c)) → (args : Arguments) →
       AreArgumentsSorted sorts args →
       AreArgumentsSorted sorts (fill_arguments s args)
@@ -173,7 +173,7 @@ at_stores_sorted sorts s all (Lt t u) b = (filled_has sorts s all Num t b.0, fil
 at_stores_sorted sorts s all (And p q) b = (at_stores_sorted sorts s all p b.0, at_stores_sorted sorts s all q b.1)
 at_stores_sorted sorts s all (Or p q) b = (at_stores_sorted sorts s all p b.0, at_stores_sorted sorts s all q b.1)
 
--- the same of a list
+-- formulas at stores are sorted, where they and the stores are
 pub all_at_stores_sorted : (sorts : Sorts) (s : Copy → SymbolicStore) → ((c : Copy) → IsStoreSorted sorts (s c)) → (fs : List Assertion) →
     AreFormsSorted sorts fs →
     AreFormsSorted sorts (all_at_stores s fs)

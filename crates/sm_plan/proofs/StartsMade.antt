@@ -40,7 +40,7 @@ declared_at (e ∷ es) (suc i) d h = by (e.0.0 == (get_or es i d).0.0) (declared
     by true h = refl
     by false h = h
 
--- and one that is declared stands there
+-- a declared name stands at some place in the declarations
 found : (ds : List (ℕ × Sort)) (x : ℕ) → is_some (sort_of ds x) ≡ true →
     (i : ℕ) × (i < length ds) × (get_or (map (λ (d : ℕ × Sort). d.0) ds) i 0 ≡ x)
 found [] x h = absurd cc

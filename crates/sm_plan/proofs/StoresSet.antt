@@ -39,7 +39,7 @@ store_set trees s u x t tree h e got =
         ∙ ap (tree_or_start trees y) (set_same s.list.items x t h) ∙ tree_got trees t.0 tree got
     by y false is = ap (tree_or_start trees y) (set_other s.list.items x y t (eqb-false y x is))
 
--- the same over a table that has grown
+-- over a table that has grown, a store with a written list has the new term for the name
 pub store_written : (v w : TableValue) → Grows v w → (s u : SymStore) (x : ℕ) (t : TermId) (tree : Tree) →
     IsStoreWithin (length (trees_in v)) s → x < length s.list.items
     → u.list.items ≡ slice_set s.list.items x t → slice_get (trees_in w) t.0 ≡ Some tree →
@@ -58,7 +58,7 @@ pub within_set : (trees : List Tree) (s u : SymStore) (x : ℕ) (t : TermId) (tr
 within_set trees s u x t tree e got all = subst (AreBefore (length trees)) (sym e)
     (set_before (length trees) s.list.items x t (there trees t.0 tree got) all)
 
--- the same over a table that has grown
+-- over a table that has grown, a store with a written list has only terms of that table
 pub within_written : (v w : TableValue) → Grows v w → (s u : SymStore) (x : ℕ) (t : TermId) (tree : Tree) →
     IsStoreWithin (length (trees_in v)) s
     → u.list.items ≡ slice_set s.list.items x t → slice_get (trees_in w) t.0 ≡ Some tree → IsStoreWithin (length (trees_in w)) u

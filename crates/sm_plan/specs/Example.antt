@@ -81,7 +81,7 @@ abbrev pub loop_summary : ℕ → Tree
 loop_summary y =
     Fun base_loop y (Given i (Start i) (Given n (Start n) (Given x (Start x) term.Over)))
 
--- the same for i, which doesn't need x
+-- the summary of i after the loop of the base, which doesn't need x
 abbrev pub counted : Tree
 counted =
     Fun base_loop i (Given i (Start i) (Given n (Start n) term.Over))

@@ -25,7 +25,7 @@ use Rattle.sm_plan.specs.declared.filling.Parts.TheVariants as parts
 abbrev pub IsFilled : TableValue → (Copy → SymbolicStore) → ℕ → TermId → Type 0
 IsFilled v s n id = slice_get (trees_in v) id.0 ≡ Some (fill_term s (tree_at (trees_in v) n))
 
--- the same of each number that is known
+-- a number that is known for n has the tree of n with its slots replaced, and n is of the table
 abbrev pub AreKnown : TableValue → (Copy → SymbolicStore) → (ℕ → Option TermId) → Type 0
 AreKnown v s known =
     (n : ℕ) (id : TermId) → known n ≡ Some id → (n < length (trees_in v)) × IsFilled v s n id

@@ -25,7 +25,7 @@ NodeIsSound =
     AreSound q.states →
     IsSound st
 
--- and these states name no new value of a node after this one
+-- the states that a node opens name no new value of a node after it
 abbrev pub NodeStaysBelow : Type 0
 NodeStaysBelow =
     (k : ℕ) (st : State) (node : Node) (q : Opened) →
@@ -34,7 +34,7 @@ NodeStaysBelow =
     opened_by k st node ≡ Some q →
     AreStatesBelow (suc k) q.states
 
--- nor do its goals
+-- the goals of a node name no new value of a node after it
 abbrev pub NodeGoalsBelow : Type 0
 NodeGoalsBelow =
     (k : ℕ) (st : State) (node : Node) (q : Opened) →
@@ -74,7 +74,7 @@ PlanNodesProve =
     AllDischarged ds →
     NodesProve 0 (start_pending t) (nodes_of p)
 
--- and nodes that prove the start of a task are those of such a plan
+-- nodes that prove the start of a task are those of a fresh plan whose obligations hold
 abbrev pub NodesArePlan : Type 0
 NodesArePlan =
     (t : Task) (nodes : List Node) →

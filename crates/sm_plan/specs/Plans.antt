@@ -22,7 +22,7 @@ abbrev mutual
   pub size : Plan → ℕ
   size (At node ps) = suc (sizes ps)
 
-  -- the same of plans
+  -- how many nodes plans have together
   pub sizes : Plans → ℕ
   sizes Over = 0
   sizes (More p ps) = size p + sizes ps
@@ -37,7 +37,7 @@ abbrev mutual
   pub nodes_of : Plan → List Node
   nodes_of (At node ps) = node ∷ all_nodes ps
 
-  -- the same of plans
+  -- the nodes of plans in preorder, one plan after the other
   pub all_nodes : Plans → List Node
   all_nodes Over = []
   all_nodes (More p ps) = nodes_of p ++ all_nodes ps
@@ -47,7 +47,7 @@ abbrev mutual
   pub branches : Plan → ℕ
   branches (At node ps) = if is_branching node then suc (most_branches ps) else most_branches ps
 
-  -- the same of plans
+  -- the most branching nodes on a path of one of some plans, from its first node down
   pub most_branches : Plans → ℕ
   most_branches Over = 0
   most_branches (More p ps) = max (branches p) (most_branches ps)
@@ -57,7 +57,7 @@ abbrev mutual
   pub IsFresh : ℕ → Plan → Type 0
   IsFresh k (At node ps) = IsFreshAt k node × AreFresh (suc k) ps
 
-  -- the same of plans
+  -- each node of some plans, numbered in preorder from k on, is fresh
   pub AreFresh : ℕ → Plans → Type 0
   AreFresh k Over = Unit {0}
   AreFresh k (More p ps) = IsFresh k p × AreFresh (k + size p) ps

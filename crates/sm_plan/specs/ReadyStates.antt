@@ -22,16 +22,16 @@ IsFormReady sorts trees f =
     IsFormulaWithin (length trees) (numbered f)
     × IsFormSorted sorts (assertion_in sorts trees (numbered f))
 
--- the same of formulas
+-- formulas of a table, in which each part has the sort that it is used with
 abbrev pub AreFormsReady : Sorts → List Tree → List Formula → Type 0
 AreFormsReady sorts trees [] = Unit {0}
 AreFormsReady sorts trees (f ∷ fs) = IsFormReady sorts trees f × AreFormsReady sorts trees fs
 
--- the same of a store
+-- a store of terms of a table, in which each declared name has a term of its sort
 abbrev pub IsStoreReady : Sorts → List Tree → SymStore → Type 0
 IsStoreReady sorts trees s = IsStoreWithin (length trees) s × IsStoreSorted sorts (store_in trees s)
 
--- the same of the stores of the copies
+-- each copy's store is of terms of a table, and each declared name has a term of its sort
 abbrev pub AreStoresReady : Sorts → List Tree → PerCopy SymStore → Type 0
 AreStoresReady sorts trees stores = (c : Copy) → IsStoreReady sorts trees (of_copy stores c)
 
@@ -39,24 +39,24 @@ AreStoresReady sorts trees stores = (c : Copy) → IsStoreReady sorts trees (of_
 abbrev pub IsStoreFull : Sorts → SymStore → Type 0
 IsStoreFull sorts s = (x : ℕ) → IsDeclaredIn sorts x → x < length s.list.items
 
--- the same of the stores of the copies
+-- each declared name has its term in the list of each copy's store
 abbrev pub AreStoresFull : Sorts → PerCopy SymStore → Type 0
 AreStoresFull sorts stores = (c : Copy) → IsStoreFull sorts (of_copy stores c)
 
--- the same of a state: what is left of each copy is well sorted, too
+-- what is left of each copy is well sorted, the stores are full, and they and the target are ready
 pub record IsStateReady (sorts : Sorts) (trees : List Tree) (st : SymState) : Type 0 where
   pub rests : (c : Copy) → IsWellSorted sorts (rest_code (of_copy st.rests c))
   pub stores : AreStoresReady sorts trees st.stores
   pub target : AreFormsReady sorts trees st.target.value.list.items
   pub full : AreStoresFull sorts st.stores
 
--- the same of a state that follows, with the facts that come to it
+-- a state that follows is ready, with the facts that come to it
 pub record IsSuccessorReady (sorts : Sorts) (trees : List Tree) (next : Successor) : Type 0 where
   pub state : IsStateReady sorts trees next.state
   pub kept : AreFormsReady sorts trees next.kept.value.list.items
   pub more : AreFormsReady sorts trees next.more.list.items
 
--- the same of each state that follows
+-- each state that follows is ready, with the facts that come to it
 abbrev pub AreSuccessorsReady : Sorts → List Tree → List Successor → Type 0
 AreSuccessorsReady sorts trees [] = Unit {0}
 AreSuccessorsReady sorts trees (next ∷ rest) =

@@ -15,7 +15,7 @@ pub record IsStateSorted (sorts : Sorts) (st : State) : Type 0 where
   pub facts : AreFormsSorted sorts st.facts
   pub target : AreFormsSorted sorts st.target
 
--- the same of each state of a list
+-- each state of a list is well sorted: its code, its stores, its facts and its target
 abbrev pub AreStatesSorted : Sorts → List State → Type 0
 AreStatesSorted sorts [] = Unit {0}
 AreStatesSorted sorts (st ∷ states) = IsStateSorted sorts st × AreStatesSorted sorts states

@@ -18,7 +18,7 @@ IsSound st =
     ((c : Copy) → run m.bound (st.rest c) (store_meant m (st.stores c)) ≡ Some (end c)) →
     AllHold (with_slots m end) st.target
 
--- the same of each state of a list
+-- each state of a list is sound
 abbrev pub AreSound : List State → Type 0
 AreSound [] = Unit {0}
 AreSound (st ∷ states) = IsSound st × AreSound states
@@ -29,7 +29,7 @@ pub record IsStateBelow (k : ℕ) (st : State) : Type 0 where
   pub facts : AreFormsBelow k st.facts
   pub target : AreFormsBelow k st.target
 
--- the same of each state of a list
+-- the states of a list name no new value of node k or of a later one
 abbrev pub AreStatesBelow : ℕ → List State → Type 0
 AreStatesBelow k [] = Unit {0}
 AreStatesBelow k (st ∷ states) = IsStateBelow k st × AreStatesBelow k states

@@ -72,7 +72,7 @@ abbrev mutual
   pub Fits : Sketch → (Copy → Code) → Type 0
   Fits (Draw node ps) r = Opens node r × FitAll ps (rests_after node r)
 
-  -- the same of sketches, each from its own
+  -- each node of sketches may stand where it does, each sketch from its own rest of the copies
   pub FitAll : Sketches → List (Copy → Code) → Type 0
   FitAll Over [] = Unit {0}
   FitAll Over (r ∷ rs) = ⊥
@@ -209,7 +209,7 @@ mutual
       (_, refl)
       (all_expanded ps keep w (suc k) (s + length (site_at node)) o.0.states fit inside.1)))
 
-  -- the same of sketches
+  -- plans of sketches that fit have obligations
   all_expanded : (ps : Sketches) (keep : ℕ → List Assertion → Assertion) (w : Fault) (k s : ℕ) (states : List State) →
       FitAll ps (map rest_of states) → AreKept keep s (sites_below ps) → IsExpanded (expand_all w k states (plans_with keep s ps))
   all_expanded Over keep w k s [] h g = ([], refl)

@@ -25,7 +25,7 @@ pub record IsNoLarger (p whole : Sketch) : Type 0 where
   pub nodes : sketch_size p ≤ sketch_size whole
   pub branches : sketch_depth p ≤ sketch_depth whole
 
--- the same of sketches
+-- a sketch has at most the nodes of some sketches together, and branches no deeper than they do
 record IsBelow (p : Sketch) (ps : Sketches) : Type 0 where
   pub nodes : sketch_size p ≤ sizes_below ps
   pub branches : sketch_depth p ≤ deepest_below ps

@@ -30,7 +30,7 @@ no_number (If b c d k) e =
 no_number (While b c k) e = let p = no_item (holes_of c) (holes_of k) e in rw (no_number c p.0) (no_number k p.1)
 no_number (Hole h k) e = absurd cc
 
--- nor has any filling of a list
+-- no filling of a list without the number of a hole has a hole
 no_filling : (fs : Fillings) → holes_inside fs ≡ [] → (h : ℕ) → has_hole (filling fs h) ≡ false
 no_filling [] e h = refl
 no_filling (f ∷ fs) e h = let p = no_item (holes_of f.1) (holes_inside fs) e in by (f.0 == h) (no_number f.1 p.0) (no_filling fs p.1 h)

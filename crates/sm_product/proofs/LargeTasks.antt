@@ -34,7 +34,7 @@ module _ (keep : ℕ → List Assertion → Assertion) where
   same_branching s (LoopSite set ts) = refl
   same_branching s (BlockSite counts ts) = refl
 
-  -- and branches as deep
+  -- a plan of a sketch branches as deep as the sketch
   mutual
     pub plan_depth : (s : ℕ) (p : Sketch) → branches (plan_with keep s p) ≡ sketch_depth p
     plan_depth s (Draw node ps) =

@@ -31,7 +31,7 @@ abbrev mutual
   pub EachNode : (SketchNode → Type 0) → Sketch → Type 0
   EachNode P (Draw node ps) = P node × EachBelow P ps
 
-  -- the same of sketches
+  -- each node of sketches
   pub EachBelow : (SketchNode → Type 0) → Sketches → Type 0
   EachBelow P Over = Unit {0}
   EachBelow P (More p ps) = EachNode P p × EachBelow P ps

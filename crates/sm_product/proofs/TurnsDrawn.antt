@@ -61,7 +61,7 @@ filter_split p n k =
     ∙ ap (λ (l : List ℕ). l ++ rest) (filter_push p n)
     ∙ append_assoc (filter p (range_with_len 1 n)) (if p (n + 1) then (n + 1) ∷ [] else []) rest
 
--- the same of what is drawn for them
+-- what is drawn for the masks that pass: for those before, for one, and for those behind
 pub drawn_split : (p : ℕ → Bool) (draw : ℕ → Sketch) (n : ℕ) → n < 15 →
     (rest : List Sketch)
     × (map draw (filter p (range_with_len 1 15))

@@ -21,7 +21,7 @@ abbrev pub all_below : List Sketch → Sketches
 all_below [] = Over
 all_below (p ∷ rest) = More p (all_below rest)
 
--- the same of sketches together
+-- an error tells that sketches together have more nodes, or branches deeper, than there is room for
 abbrev pub TellAllBeyond : Room → ProductError → List Sketch → Type 0
 TellAllBeyond room error.TooMany ps =
     (room.nodes < sizes_below (all_below ps)) ⊎ (room.branches < deepest_below (all_below ps))

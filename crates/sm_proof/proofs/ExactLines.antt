@@ -47,7 +47,7 @@ cert_words (line.Exact n) = refl
 cert_words (line.Close n) = refl
 cert_words (line.Clash m n) = refl
 
--- and those of any line
+-- the words of any line begin with the word of lines `exact` exactly where it is one
 words_exact : (l : ProofLine) → are_exact (line_words l) ≡ is_exact l
 words_exact (Header version) = refl
 words_exact (Term t) = refl

@@ -38,7 +38,7 @@ number_back most n word is =
     let same = (bytes_eq-Decides (decimal v) word).0 t.1 in
     (subst (λ (k : ℕ). k ≤ most) t.2 low, sym same ∙ ap decimal t.2)
 
--- and the text of a number spells it
+-- the text of a number spells it
 pub number_spelled : (most n : ℕ) → n ≤ most → n < 10 ^ 64 → number_in most (decimal n) ≡ Some n
 unfolding number_in
 number_spelled most n low small =
@@ -47,7 +47,7 @@ number_spelled most n low small =
     ∙ ap (λ (b : Bool). if b && bytes_eq (decimal n) (decimal n) then Some n else None) (test_from_le n most low)
     ∙ ap (λ (b : Bool). if b then Some n else None) ((bytes_eq-Decides (decimal n) (decimal n)).1 refl)
 
--- the same of many
+-- words that spell numbers are their texts
 more_back : (word : List ℕ) (words : List (List ℕ)) (o : Option ℕ) (p : Option (List ℕ)) (ns : List ℕ)
     → ((n : ℕ) → o ≡ Some n → (n ≤ any) × (word ≡ decimal n)) → ((ms : List ℕ) → p ≡ Some ms → AreNumbers ms × (words ≡ map decimal ms))
     → followed o (λ (n : ℕ). followed p (λ (ms : List ℕ). Some (n ∷ ms))) ≡ Some ns → AreNumbers ns × (word ∷ words ≡ map decimal ns)
@@ -112,7 +112,7 @@ literal_back z word is =
     let same = (bytes_eq-Decides (signed_decimal v) word).0 t.1 in
     (ap fits (sym t.2) ∙ t.0, sym same ∙ ap signed_decimal t.2)
 
--- and the text of one spells it
+-- the text of a literal spells it
 pub literal_spelled : (z : ℤ) → fits z ≡ true → literal_in (signed_decimal z) ≡ Some z
 unfolding literal_in
 literal_spelled z room =

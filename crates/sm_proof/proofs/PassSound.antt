@@ -41,7 +41,7 @@ term_goes sorts p t fine new = record {
   shown = λ (all : Each IsShown p.pending). all;
 }
 
--- nor does one that makes a formula
+-- a line that makes a formula changes nothing that is pending
 form_goes : (sorts : Sorts) (p : Progress) (f : Assertion) → IsFine sorts p → IsFormFine sorts p.nodes f →
     GoesOn sorts p (record p { forms = p.forms ++ f ∷ [] })
 form_goes sorts p f fine new = record {
@@ -90,7 +90,7 @@ underway_from s exact p (Ok line) after e =
     let a = made_from (taken s.sorts p line) end after b.1 in
     (line, a.0, a.1, same_end (Underway exact a.0) after a.2)
 
--- and where it is the first line, to the start
+-- what was read as the first line leads to the start
 opened_from : (s : Subject) (read : Result ProofLine Word) (after : Standing) → next_standing s Unopened read ≡ Ok after →
     (exact : Bool) × (Underway exact (start_progress s.start) ≡ after)
 opened_from s (Err w) after e = absurd cc

@@ -29,11 +29,11 @@ Each P (x ∷ xs) = P x × Each P xs
 abbrev pub IsTreeFine : Sorts → ℕ → Tree → Type 0
 IsTreeFine sorts k t = IsSorted sorts t × IsBelow k t
 
--- so is a formula
+-- a formula is sorted and names no new value of node k or of a later one
 abbrev pub IsFormFine : Sorts → ℕ → Assertion → Type 0
 IsFormFine sorts k f = IsFormSorted sorts f × IsFormBelow k f
 
--- so is what is pending
+-- what is pending is sorted and names no new value of node k or of a later one
 abbrev pub IsPendingFine : Sorts → ℕ → Pending → Type 0
 IsPendingFine sorts k (Due st above) = IsStateSorted sorts st × IsStateBelow k st
 IsPendingFine sorts k (Branch stores facts splits) =
@@ -42,7 +42,7 @@ IsPendingFine sorts k (Branch stores facts splits) =
     × AreFactsSorted sorts facts
     × AreFactsBelow k facts
 
--- and all of a proof, by the number of its nodes
+-- all of a proof is sorted and names no new value but of its nodes
 pub record IsFine (sorts : Sorts) (p : Progress) : Type 0 where
   pub terms : Each (IsTreeFine sorts p.nodes) p.terms
   pub forms : Each (IsFormFine sorts p.nodes) p.forms
@@ -90,7 +90,7 @@ pub tested_from : {T : Type 0} (test : Bool) (w : Word) (r : Result T Word) (t :
 tested_from true w r t e = (refl, e)
 tested_from false w r t e = absurd cc
 
--- and something was made
+-- what goes on to a good end was made
 pub made_from : {S T : Type 0} (r : Result S Word) (next : S → Result T Word) (t : T) → and_then r next ≡ Ok t
     → (s : S) × (r ≡ Ok s) × (next s ≡ Ok t)
 made_from (Err w) next t e = absurd cc
@@ -125,7 +125,7 @@ pub as_facts_sorted : (sorts : Sorts) (fs : List Assertion) → AreFormsSorted s
 as_facts_sorted sorts [] all = tt
 as_facts_sorted sorts (f ∷ fs) all = (all.0, as_facts_sorted sorts fs all.1)
 
--- and below
+-- formulas as facts are below a node where the formulas are
 pub as_facts_below : (k : ℕ) (fs : List Assertion) → AreFormsBelow k fs → AreFactsBelow k (as_facts fs)
 as_facts_below k [] all = tt
 as_facts_below k (f ∷ fs) all = (all.0, as_facts_below k fs all.1)

@@ -9,7 +9,7 @@ abbrev pub is_clear : List ℕ → Bool
 is_clear [] = true
 is_clear (byte ∷ bytes) = if byte == 32 then false else is_clear bytes
 
--- nor in any of many
+-- no space is in any of many words
 abbrev pub are_clear : List (List ℕ) → Bool
 are_clear [] = true
 are_clear (word ∷ words) = if is_clear word then are_clear words else false

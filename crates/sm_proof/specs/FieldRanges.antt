@@ -15,7 +15,7 @@ use Rattle.sm_proof.specs.Lines.{ProofLine, Header, Term, Form, Node, Cert}
 abbrev pub IsNumber : ℕ → Type 0
 IsNumber n = n < 2 ^ 64
 
--- the same of each of a list
+-- each number of a list is below 2 to the 64
 abbrev pub AreNumbers : List ℕ → Type 0
 AreNumbers [] = Unit {0}
 AreNumbers (n ∷ ns) = IsNumber n × AreNumbers ns

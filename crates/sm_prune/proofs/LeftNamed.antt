@@ -70,7 +70,7 @@ node_names move_form (node.Block k0 k1 k2 k3 keep) = refl
 node_names move_form node.Dead = refl
 node_names move_form node.End = refl
 
--- and a line of a certificate is a line `exact` by any numbers
+-- with other numbers a line of a certificate names its terms by these, and is `exact` as before
 cert_names : (move : ℕ → ℕ) (l : NumberedLine) →
     (terms_of_cert (renumbered_cert move l) ≡ map move (terms_of_cert l)) × (is_exact_step (renumbered_cert move l) ≡ is_exact_step l)
 cert_names move (line.Both n) = (refl, refl)

@@ -75,7 +75,7 @@ lower_words [] (n ∷ ns) low all = absurd low
 lower_words (m ∷ ms) [] low all = absurd low
 lower_words (m ∷ ms) (n ∷ ns) low all = (decimal_shorter m n low.0 all.0, lower_words ms ns low.1 all.1)
 
--- so are texts of words
+-- the text of words that are no longer is no longer
 spaced_shorter : (vs ws : List (List ℕ)) → AreShorter vs ws → length (spaced vs) ≤ length (spaced ws)
 unfolding spaced
 spaced_shorter [] [] short = omega arith

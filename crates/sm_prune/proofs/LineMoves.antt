@@ -30,7 +30,7 @@ found_moves {S} move xs ys n w f g t stands e more =
     let found = found_from (slice_get xs n) w f t e in
     ap (λ (o : Option S). found_or o w g) (stands found.0 found.1) ∙ more found.0 found.2
 
--- the same with an end that may be missing
+-- what goes on with an element to an end that is there does so with it in the other list
 follow_moves : {S T : Type 0} (move : ℕ → ℕ) (xs ys : List S) (n : ℕ) (f g : S → Option T) (t : T) → StandsAt move xs ys n →
     followed (slice_get xs n) f ≡ Some t → ((s : S) → f s ≡ Some t → g s ≡ Some t) → followed (slice_get ys (move n)) g ≡ Some t
 follow_moves {S} move xs ys n f g t stands e more =

@@ -19,7 +19,7 @@ terms_after n (Form f) = n
 terms_after n (Node m) = n
 terms_after n (Cert l) = n
 
--- and how many formulas
+-- how many formulas stand before the next line
 abbrev pub forms_after : ℕ → ProofLine → ℕ
 forms_after n (Header version) = n
 forms_after n (Term t) = n

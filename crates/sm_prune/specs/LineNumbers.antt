@@ -40,7 +40,7 @@ terms_of_form (form.Lt t u) = t ∷ u ∷ []
 terms_of_form (form.And p q) = []
 terms_of_form (form.Or p q) = []
 
--- and the formulas that it names
+-- the formulas that a line `p` names
 abbrev pub forms_of_form : FormLine → List ℕ
 forms_of_form form.Yes = []
 forms_of_form form.No = []
@@ -91,7 +91,7 @@ terms_of (Form f) = terms_of_form f
 terms_of (Node n) = []
 terms_of (Cert l) = terms_of_cert l
 
--- and the formulas
+-- the formulas that any line names
 abbrev pub forms_of : ProofLine → List ℕ
 forms_of (Header version) = []
 forms_of (Term t) = []

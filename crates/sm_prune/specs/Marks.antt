@@ -29,7 +29,7 @@ abbrev pub terms_past : ℕ → List ProofLine → ℕ
 terms_past n [] = n
 terms_past n (line ∷ lines) = terms_past (terms_after n line) lines
 
--- and how many formulas
+-- how many formulas stand after lines, before which so many stand
 abbrev pub forms_past : ℕ → List ProofLine → ℕ
 forms_past n [] = n
 forms_past n (line ∷ lines) = forms_past (forms_after n line) lines

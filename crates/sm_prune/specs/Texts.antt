@@ -23,7 +23,7 @@ pub record IsReadable (line : ProofLine) : Type 0 where
   pub version : HasKnownVersion line
   pub short : length (spelled line) ≤ 4096
 
--- the same of each line
+-- lines that are each read back from their texts
 abbrev pub AreReadable : List ProofLine → Type 0
 AreReadable [] = Unit {0}
 AreReadable (line ∷ lines) = IsReadable line × AreReadable lines

@@ -93,7 +93,7 @@ closing_lines zero lines = []
 closing_lines (suc k) [] = []
 closing_lines (suc k) (line ∷ lines) = line ∷ closing_lines (branches_after k line) lines
 
--- and the lines behind these
+-- the lines behind those by which so many branches are closed
 abbrev pub lines_behind : ℕ → List ProofLine → List ProofLine
 lines_behind zero lines = lines
 lines_behind (suc k) [] = []

@@ -69,7 +69,7 @@ known_by end c a l r is seen i =
     ⊎_elim (λ (z : listed l i ≡ pos 0). inl (ap (λ (v : Value). array v i) is ∙ z)) (λ (k : Known end a r i). inr k)
     (known end a l r r seen (λ (j : ℤ) (u : IsUpTo r j). u) i)
 
--- and after more
+-- what is known of each index after a copy's cells is known after more cells
 known_later : (end : Copy → Store) (c : Copy) (a : ℕ) (r new : Option ℤ) → KnownBy end c a r → Later r new → KnownBy end c a new
 known_later end c a r new by later i =
     ⊎_elim (λ (z : content (end c) (Element a i) ≡ pos 0). inl z)

@@ -243,7 +243,7 @@ others_kept : (s : Store) (o : Option (ℕ × Sort)) (key q : List ℕ) (old new
 others_kept s None key q old new w other = ap (get_member q) w
 others_kept s (Some x) key q old new w other = ap (get_member q) w.2 ∙ get_member-put_other q key w.0 old other
 
--- and the order stays
+-- members stay in order where one is written
 order_kept : (s : Store) (o : Option (ℕ × Sort)) (key : List ℕ) (old new : Members) → Writes s o key old new → AreOrdered old
     → AreOrdered new
 order_kept s None key old new w o = subst AreOrdered (sym w) o
@@ -299,7 +299,7 @@ unnamed_turn names sorts s items i d members here past w =
     (unnamed_step names sorts s ((get_or items i d).0.0, (get_or items i d).1) (numbered (drop (suc i) items)) members past
     (subst (λ (l : List (Name × Sort)). MembersSoFar names sorts s (numbered l) members) (drop-cons items i d here) w))
 
--- and where it has one
+-- one turn over declarations, where the name has a text
 pub named_turn : (names : Texts) (sorts : Sorts) (s : Store) (items : List (Name × Sort)) (i : ℕ) (d : Name × Sort) (key : List ℕ)
     (old new : Members) → i < length items
     → slice_get names (get_or items i d).0.0 ≡ Some key → Writes s (declared_name names sorts key) key old new

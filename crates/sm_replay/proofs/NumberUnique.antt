@@ -22,7 +22,7 @@ fits_small : (z : ℤ) → fits z ≡ true → mag z < 2 ^ 127
 fits_small (pos n) h = (Decides-ltb n (2 ^ 127)).0 h
 fits_small (negsuc n) h = (Decides-ltb n (2 ^ 127)).0 h
 
--- and a small one fits
+-- a small number fits
 pub small_fits : (z : ℤ) → mag z < 2 ^ 127 → fits z ≡ true
 small_fits (pos n) h = (Decides-ltb n (2 ^ 127)).1 h
 small_fits (negsuc n) h = (Decides-ltb n (2 ^ 127)).1 h

@@ -33,7 +33,7 @@ each_none f none A = (neither (f A) _ (neither (f O) _ none).1).0
 each_none f none B = (neither (f B) _ (neither (f A) _ (neither (f O) _ none).1).1).0
 each_none f none M = (neither (f M) _ (neither (f B) _ (neither (f A) _ (neither (f O) _ none).1).1).1).0
 
--- and back
+-- where each of the four copies has no fault, there is none
 none_each : (f : Copy → Option Refusal) → ((c : Copy) → f c ≡ None) → first_of_lists f ≡ None
 none_each f none = rw (none O, none A, none B, none M)
 
@@ -48,7 +48,7 @@ program_names declared outputs c none =
     let rest = neither (first_output_fault (sort_of declared) [] outputs) (first_of_all (names ∷ sizes)) after.1 in
     (neither names (first_of_all sizes) rest.1).0
 
--- the same of an assumption
+-- an assumption without a fault has no name that isn't declared as it stands
 assumed_names : (declared : List (ℕ × Sort)) (assumed : Option Condition) → ill_assumed declared assumed ≡ None
     → first_sort_fault (sort_of declared) (names_assumed assumed) ≡ None
 unfolding ill_assumed first_sort_fault

@@ -142,13 +142,13 @@ pub fewer_check : (t : Parts) (effort : Effort) (workers : ℕ) (s : Status) (l 
     AnswersCheck t hired s l → AnswersCheck t effort s l
 fewer_check t effort workers s l a = record { outcome = a.outcome; found = a.found; says = a.says }
 
--- nor that the time is over
+-- that the time is over doesn't depend on the workers
 pub fewer_over : (effort : Effort) (workers : ℕ) (s : Status) (l : List ℕ) →
     let hired : Effort = record effort { workers = workers } in
     RunsOut hired s l → RunsOut effort s l
 fewer_over effort workers s l r = record { seconds = r.seconds; given = r.given; says = r.says }
 
--- nor what is suggested
+-- what is decided and suggested doesn't depend on the workers
 fewer_decides : (t : Parts) (effort : Effort) (workers : ℕ) (answer : Bool) →
     let hired : Effort = record effort { workers = workers } in
     Decides t hired answer → Decides t effort answer

@@ -96,7 +96,7 @@ line_accepted file effort count line h e = go h.answers
     go (inl (none, able)) = absurd (refused_not file count line.0 h.text none able (sym h.first ∙ e))
     go (inr (t, gives, a)) = sym (check_told t effort line.0 h.text a) ∙ ap told_status (sym h.first ∙ e)
 
--- and its file spells a task that is free of conflicts
+-- the file of a line `Accepted` spells a task that is free of conflicts
 line_safe : (file : Known) (effort : Effort) (count : ℕ) (line : Line) → IsLineOf file effort count line
     → line.1 ≡ codes "Accepted" → WhereHeld file IsSafeMerge
 line_safe file effort count line h e bytes told = go h.answers

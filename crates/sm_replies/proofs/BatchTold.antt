@@ -75,7 +75,7 @@ accepted_by t effort s text a e =
     subst (λ (o : Outcome (ℕ × judged.Verdict)). IsOutcome t (reach_of effort) effort.turns o)
     (outcome_accepted t a.outcome s text a.says e).0 a.found
 
--- and all of it
+-- all that the search accepts is accepted
 accepted_all : (t : Parts) (effort : Effort) (s : Status) (text : List ℕ) → AnswersCheck t effort s text → IsAcceptedBy effort t
     → s ≡ Accepted
 accepted_all t effort s text a accepted =

@@ -22,7 +22,7 @@ shown_status t j s verdict.Holds status text h = absurd h
 shown_status t j s verdict.Unmet status text h = absurd h
 shown_status t j s (verdict.Violates x i clause) status text h = h.2.ended
 
--- nor does it write that the time is over
+-- an answer that the time is over writes nothing
 pub over_status : (effort : Effort) (status : Status) (text : List ℕ) → RunsOut effort status text → WritesNothing status
 over_status effort status text r = same_as status Unknown r.says.ended of_unknown
 

@@ -47,7 +47,7 @@ first_by Q t k says first = record {
   others_refused = λ j before. says (combination t j) false (first.others_refused j before);
 }
 
--- and so are those that are all refused
+-- combinations that one decision refuses are all refused by another that says the same
 pub all_by : {P : Parts → Bool → Type 0} (Q : Parts → Bool → Type 0) (t : Parts)
     → ((u : Parts) (b : Bool) → P u b → Q u b) → AllRefused P t → AllRefused Q t
 all_by Q t says all = λ k one. says (combination t k) false (all k one)
@@ -60,7 +60,7 @@ some_by {F} {calls} {decide} Q t o k is given says =
     first_by {P = MayAnswer calls decide} Q t k says
     (subst (λ (x : Option ℕ). IfSome x (IsFirst (MayAnswer calls decide) t)) is given)
 
--- and where it refuses all
+-- what a closure answers, where it refuses all combinations
 pub none_by : {F : Type 0} {calls : Shared F (Bor Task × Unit {0}) (Result Bool AllocError)} {decide : F} (Q : Parts → Bool → Type 0)
     (t : Parts) (o : Option ℕ) → o ≡ None → IfNone o (AllRefused (MayAnswer calls decide) t)
     → ((u : Parts) (b : Bool) → MayAnswer calls decide u b → Q u b) → AllRefused Q t
@@ -76,7 +76,7 @@ pub some_answered : (t : Parts) (effort : Effort) (k : ℕ) (r : Result Reply Al
 some_answered t effort k (Ok p) few first says = inr (inl (few, Some k, (first, says)))
 some_answered t effort k (Err e) few first says = tt
 
--- and of which none is
+-- the reply to a task of which no combination is accepted
 pub none_answered : (t : Parts) (effort : Effort) (r : Result Reply AllocError) → hole_count t ≤ 8
     → AllRefused (λ (u : Parts) (answer : Bool). Decides u effort answer) t
     → IfOk r (λ p. Says Unknown none_line p.status p.text.items) → IfOk r (λ p. AnswersSuggest t effort p.status p.text.items)

@@ -34,7 +34,7 @@ abbrev pub RepliesTo : Effort → Parts → List ℕ → Type 0
 RepliesTo effort t reply = (status : Status) × (text : List ℕ)
     × AnswersCheck t effort status text × (reply ≡ first_line text)
 
--- and there is no other
+-- this is the one reply to a task
 abbrev pub IsTheReply : Effort → Parts → List ℕ → Type 0
 IsTheReply effort t reply =
     RepliesTo effort t reply × ((other : List ℕ) → RepliesTo effort t other → other ≡ reply)

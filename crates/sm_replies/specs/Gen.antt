@@ -17,7 +17,7 @@ pub record AnswersGen (seed size : ℕ) (effort : Effort) (status : Status) (tex
   pub printed : let drawn = edits seed size in
       text ≡ summary_line seed size (edit_count A drawn) (edit_count B drawn) ++ answer
 
--- or it is that the time for it is over
+-- what is answered to a seed and a size, or that the time for it is over
 abbrev pub AnswersGenInTime : ℕ → ℕ → Effort → Status → List ℕ → Type 0
 AnswersGenInTime seed size effort status text =
     AnswersGen seed size effort status text ⊎ RunsOut effort status text

@@ -80,7 +80,7 @@ close_shows theories sorts xs ys m i sort t u names same =
     (named xs ys m (Ne sort t u) names)
     ∙ ap (λ (b : Bool). in_no_way (closing_if b) i) (itself t u same)
 
--- nor can an equation and its contrary
+-- an equation and its contrary can't both be
 clash_shows : (theories : Theories) (sorts : Sorts) (xs ys : List BranchFact) (m n i : ℕ) (one other : Sort) (t u v w : Tree) →
     Names xs ys m (Eq one t u) → Names xs ys n (Ne other v w) → v ≡ t → w ≡ u →
     first_bad theories sorts (xs ++ ys) i (Closed (Clash m n)) ≡ None

@@ -40,7 +40,7 @@ front_all (If b c d k) = ap (If b c d) (front_all k)
 front_all (While b c k) = ap (While b c) (front_all k)
 front_all (Hole h k) = ap (Hole h) (front_all k)
 
--- and none is left behind them
+-- no statement is left behind all of code's own statements
 none_after : (c : Code) → rest_after (own_statements c) c ≡ End
 none_after End = refl
 none_after (Skip k) = none_after k

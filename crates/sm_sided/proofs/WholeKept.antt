@@ -25,7 +25,7 @@ summary_keeps program c p none = of (is_over (program c))
     of true = none
     of false = (tt, subst (AllByRecursion KeepsNone) (sym (append-nil (nodes_of p))) none)
 
--- nor does the whole plan
+-- the whole plan keeps no formula
 pub whole_keeps : (program : Copy → Code) → AllByRecursion KeepsNone (nodes_of (whole_plan program))
 whole_keeps program =
     summary_keeps program O (summary_before program A (summary_before program B (summary_before program M (At node.Ends Over))))

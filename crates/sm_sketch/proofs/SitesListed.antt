@@ -53,7 +53,7 @@ module _ (sorts : Sorts) (trees : List Tree) where
       map (λ (fs : Rc Formulas Global). forms_in sorts trees fs.value.list.items) l ≡ sites_of (sketch_in sorts trees s)
   listed s l e = forms_shared l ∙ ap (map (forms_in sorts trees)) e ∙ over_sites (numbered_sketch s)
 
-  -- and the formulas of each are in the table where those of the sketch are
+  -- where the formulas of two lists are in the table, those of both together are
   lists_append : (xs ys : List (List Formula)) → AreListsReady sorts trees xs → AreListsReady sorts trees ys →
       AreListsReady sorts trees (xs ++ ys)
   lists_append [] ys first second = second

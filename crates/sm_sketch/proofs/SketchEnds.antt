@@ -85,7 +85,7 @@ pub same_list : (ps qs : Sketches) → map numbered_sketch (out-Sketches ps).lis
     numbered_sketches ps ≡ numbered_sketches qs
 same_list ps qs e = sketches_are ps ∙ e ∙ sym (sketches_are qs)
 
--- the same ends, where what the boxes have is told
+-- the ends of sketches, where what their boxes have is told
 pub fork_end : (copy : ℕ) (one other : Box Sketch Global) (p q : Sketch) → one.value ≡ p → other.value ≡ q →
     numbered_end (last.Fork copy one other) ≡ Draw (Plain (Fork copy)) (More (numbered_sketch p) (More (numbered_sketch q) Over))
 fork_end copy one other p q first second =
@@ -115,7 +115,7 @@ pub rolled_are : (l : Vec Sketch Global) → numbered_sketches (roll-Sketches (r
 rolled_are l =
     fold-roll-Sketches NumberedSketch NumberedSketch (List NumberedSketch) end_layer sketch_layer sketches_layer (record { list = l })
 
--- the same block over copies of its templates and sketches
+-- a block over copies of its templates and sketches stands for what the block does
 pub same_block : (s : SketchEnd) (k0 k1 k2 k3 : ℕ) (ts us : Rc Formulas Global) (a b p q : Box Sketch Global) →
     s ≡ last.Block k0 k1 k2 k3 us p q → ts.value ≡ us.value → numbered_sketch a.value ≡ numbered_sketch p.value →
     numbered_sketch b.value ≡ numbered_sketch q.value → numbered_end (last.Block k0 k1 k2 k3 ts a b) ≡ numbered_end s

@@ -39,7 +39,7 @@ abbrev mutual
   sketch_over sorts trees (Draw node ps) =
       tree.Draw (site_over sorts trees node) (sketches_over sorts trees ps)
 
-  -- the same of sketches
+  -- sketches over the trees of a table
   pub sketches_over : Sorts → List Tree → NumberedSketches → tree.Sketches
   sketches_over sorts trees Over = tree.Over
   sketches_over sorts trees (More p ps) =
@@ -53,12 +53,12 @@ IsSiteReady sorts trees (LoopSite set fs) = (set ≤ 15) × AreFormsReady sorts 
 IsSiteReady sorts trees (BlockSite counts fs) = AreFormsReady sorts trees fs
 
 abbrev mutual
-  -- the same of each node of a sketch
+  -- the formulas of each node of a sketch are in a table, and its set has at most four copies
   pub AreNodesReady : Sorts → List Tree → NumberedSketch → Type 0
   AreNodesReady sorts trees (Draw node ps) =
       IsSiteReady sorts trees node × AreBelowReady sorts trees ps
 
-  -- and of sketches
+  -- the formulas of each node of sketches are in a table, and its set has at most four copies
   pub AreBelowReady : Sorts → List Tree → NumberedSketches → Type 0
   AreBelowReady sorts trees Over = Unit {0}
   AreBelowReady sorts trees (More p ps) =

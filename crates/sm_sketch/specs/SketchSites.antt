@@ -21,12 +21,12 @@ abbrev mutual
   pub forms_of : NumberedSketch → List (List Formula)
   forms_of (Draw node ps) = forms_at node ++ forms_below ps
 
-  -- the same of sketches
+  -- the templates of each site of sketches, in preorder
   pub forms_below : NumberedSketches → List (List Formula)
   forms_below Over = []
   forms_below (More p ps) = forms_of p ++ forms_below ps
 
--- the same of a list of sketches
+-- the templates of each site of a list of sketches, in preorder
 abbrev pub forms_of_all : List NumberedSketch → List (List Formula)
 forms_of_all [] = []
 forms_of_all (p ∷ ps) = forms_of p ++ forms_of_all ps

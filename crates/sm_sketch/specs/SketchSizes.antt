@@ -16,7 +16,7 @@ abbrev mutual
   pub sketch_size : Sketch → ℕ
   sketch_size (Draw node ps) = suc (sizes_below ps)
 
-  -- the same of sketches
+  -- how many nodes sketches have together
   pub sizes_below : Sketches → ℕ
   sizes_below Over = 0
   sizes_below (More p ps) = sketch_size p + sizes_below ps
@@ -27,7 +27,7 @@ abbrev mutual
   sketch_depth (Draw node ps) =
       if is_branching_node node then suc (deepest_below ps) else deepest_below ps
 
-  -- the same of sketches
+  -- the most branching nodes on a path of any of these sketches, from its first node down
   pub deepest_below : Sketches → ℕ
   deepest_below Over = 0
   deepest_below (More p ps) = max (sketch_depth p) (deepest_below ps)

@@ -50,13 +50,13 @@ numbered_sketch =
     fold-Sketch NumberedSketch NumberedSketch (List NumberedSketch) end_layer sketch_layer
     sketches_layer
 
--- the same of how one ends
+-- the sketch that an end of one of the program stands for, over numbers of terms
 abbrev pub numbered_end : SketchEnd → NumberedSketch
 numbered_end =
     fold-SketchEnd NumberedSketch NumberedSketch (List NumberedSketch) end_layer sketch_layer
     sketches_layer
 
--- and of sketches
+-- the sketches that those of the program stand for, over numbers of terms
 abbrev pub numbered_sketches : Sketches → List NumberedSketch
 numbered_sketches =
     fold-Sketches NumberedSketch NumberedSketch (List NumberedSketch) end_layer sketch_layer
@@ -73,7 +73,7 @@ pub record IsSketchReady (sorts : Sorts) (trees : List Tree) (s : Sketch) : Type
   pub branches : s.extent.branches ≡ sketch_depth (sketch_in sorts trees s)
   pub formulas : AreNodesReady sorts trees (numbered_sketch s)
 
--- the same of each sketch of a list
+-- each sketch of a list tells its size, and its templates are in a table
 abbrev pub AreSketchesReady : Sorts → List Tree → List Sketch → Type 0
 AreSketchesReady sorts trees [] = Unit {0}
 AreSketchesReady sorts trees (s ∷ rest) =

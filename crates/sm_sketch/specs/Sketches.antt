@@ -65,7 +65,7 @@ abbrev mutual
   pub sites_of : Sketch → List (List Assertion)
   sites_of (Draw node ps) = site_at node ++ sites_below ps
 
-  -- the same of sketches
+  -- the templates of each site of sketches, in preorder
   pub sites_below : Sketches → List (List Assertion)
   sites_below Over = []
   sites_below (More p ps) = sites_of p ++ sites_below ps
@@ -82,7 +82,7 @@ abbrev mutual
   plan_with keep s (Draw node ps) =
       At (node_with keep s node) (plans_with keep (s + length (site_at node)) ps)
 
-  -- the same of sketches
+  -- the plans of sketches, whose sites are numbered from s on
   pub plans_with : (ℕ → List Assertion → Assertion) → ℕ → Sketches → Plans
   plans_with keep s Over = plan.Over
   plans_with keep s (More p ps) =

@@ -218,7 +218,7 @@ parts_there (f ∷ fs) gs among n p e =
     of rest (inl at) = own at.0 at.1 (among 0 f refl)
     of rest (inr at) = rest at.0 at.1
 
--- so are all parts, taken apart as often or more
+-- all parts of formulas are among those of the others, taken apart as often or more
 apart_there : (n m : ℕ) (fs gs : List Assertion) → n ≤ m → AreAmongFacts fs gs → AreAmongFacts (taken_apart n fs) (taken_apart m gs)
 apart_there zero zero fs gs below among = among
 apart_there zero (suc m) fs gs below among = λ i f e. of f (among i f e)

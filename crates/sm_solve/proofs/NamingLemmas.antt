@@ -175,7 +175,7 @@ split_among b named =
     (either_among seen part order (first_among seen (part_split b) b.facts (parts_among b seen b.facts all))
     (first_among seen (order_split b) b.facts (orders_among b seen b.facts all)))
 
--- so is a split that is told
+-- a split that is told names no other terms than those of the branch
 pub split_names : (sorts : Sorts) (trees : List Tree) (facts : List Assertion) (s : Seen) (o : Option BranchSplit) (split : BranchSplit) →
     AreNamed trees facts → s ≡ seen_by sorts trees facts → o ≡ Some split → split_told sorts trees o ≡ split_of s →
     NameNoMore sorts trees facts split

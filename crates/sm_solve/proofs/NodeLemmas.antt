@@ -373,7 +373,7 @@ replaced_is sorts trees given facts f flat are =
     replaced_says sorts trees facts (length given) f
     ∙ ap (λ (fs : List Assertion). slice_set fs (length given) n) are ∙ sym (room_with given n flat)
 
--- the same where its place is the last, and its parts are put behind it
+-- the facts with the contrary of a goal at the last place, and its parts put behind it
 pub replaced_last : (sorts : Sorts) (trees : List Tree) (given : List Assertion) (facts all : List Formula) (f : Formula) →
     assertions_in sorts trees (all_numbered facts) ≡ room_for_goal given → length (room_for_goal given) ≡ length given + 1 →
     assertions_in sorts trees (all_numbered all)
@@ -412,7 +412,7 @@ put_back [] place f g h = absurd cc
 put_back (x ∷ fs) zero f g h = ap (λ (y : Formula). y ∷ fs) (sym (same_Some x g h))
 put_back (x ∷ fs) (suc place) f g h = ap (λ (ys : List Formula). x ∷ ys) (put_back fs place f g h)
 
--- so are the facts where more stands behind them
+-- the facts are put back where one was replaced and more stands behind them
 pub cut_back : (fs more : List Formula) (place : ℕ) (f g : Formula) → slice_get fs place ≡ Some g →
     slice_set (take (length fs) (slice_set fs place f ++ more)) place g ≡ fs
 cut_back fs more place f g there =

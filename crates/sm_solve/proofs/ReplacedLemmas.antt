@@ -65,7 +65,7 @@ at_number : {T : Type 0} (F : Option BranchFact → Option T) (facts others : Li
     F None ≡ None → F (Some (Formal Yes)) ≡ None → Gives (F (slice_get facts n)) (F (slice_get others n))
 at_number F facts others n same none nothing = looked F (slice_get facts n) (slice_get others n) none nothing (same.stand n)
 
--- so are the sides of an equation
+-- the sides of the equation that is fact n are those on the other branch
 equations : (facts others : List BranchFact) (n : ℕ) → Replaces facts others → Gives (equation_at facts n) (equation_at others n)
 equations facts others n same = at_number equation_of facts others n same refl refl
 
@@ -73,7 +73,7 @@ equations facts others n same = at_number equation_of facts others n same refl r
 contraries : (facts others : List BranchFact) (n : ℕ) → Replaces facts others → Gives (contrary_at facts n) (contrary_at others n)
 contraries facts others n same = at_number contrary_of facts others n same refl refl
 
--- and a form
+-- the form that is fact n is that on the other branch
 forms : (facts others : List BranchFact) (n : ℕ) → Replaces facts others → Gives (form_at facts n) (form_at others n)
 forms facts others n same = at_number (λ (o : Option BranchFact). followed o form_in) facts others n same refl refl
 
@@ -313,7 +313,7 @@ last_replaced given f = record { many = many given; stand = stand given }
     stand (g ∷ gs) zero = inr (λ (k : BranchFact) (h : Some (Formal g) ≡ Some k). h)
     stand (g ∷ gs) (suc n) = stand gs n
 
--- the same of what the program has
+-- a program's certificate still closes a branch whose last fact, which says nothing, is replaced
 pub closes_in_replaced : (sorts : Sorts) (trees : List Tree) (given : List Assertion) (f : Assertion) (room : ℕ) (tree : CertTree) →
     NamesWhatItReads (certificate_in trees tree) → ClosesIn sorts trees (given ++ Yes ∷ []) room tree →
     ClosesIn sorts trees (given ++ f ∷ []) room tree

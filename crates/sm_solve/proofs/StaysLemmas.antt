@@ -39,7 +39,7 @@ shared_grown old new terms s grows apart is =
       placed = placed_grown (trees_in old) (trees_in new) terms s.numbers.items s.listed.keys grows.trees apart is.below is.listed is.placed;
     }
 
--- so is a node
+-- a node of a table is still one of a table that has got more
 pub node_grown : (old new : TableValue) (given : List Assertion) (n : Node) → Grows old new → AreApart (trees_in new) →
     IsNode old given n → IsNode new given n
 node_grown old new given n grows apart is = record {

@@ -85,7 +85,7 @@ IsEndCounted steps (ends.Open leaf) = Unit {0}
 IsEndCounted steps ends.Steps = Unit {0}
 IsEndCounted steps (ends.Coefficient op y z) = Unit {0}
 
--- the same of an answer
+-- the certificate that comes with an answer closes the branch
 abbrev pub Shows : Sorts → List Tree → List Assertion → ℕ → Answer → Type 0
 Shows sorts trees facts room (answer.Closed tree) = ClosesIn sorts trees facts room tree
 Shows sorts trees facts room (answer.Open leaf) = Unit {0}

@@ -34,7 +34,7 @@ choices_length (suc holes) k =
     length-append (choices holes (k / 3)) (copy_of_digit (k % 3) ∷ [])
     ∙ (let e : length (choices holes (k / 3)) ≡ holes = choices_length holes (k / 3) in omega arith)
 
--- so are there as many copies as holes
+-- copies that are chosen for holes are as many as the holes
 pub as_many : (copies : List CopyName) (holes k : ℕ) → map copy_named copies ≡ choices holes k → length copies ≡ holes
 as_many copies holes k e = sym (length-map copies copy_named) ∙ ap length e ∙ choices_length holes k
 

@@ -50,7 +50,7 @@ module _ (P : ℕ → Sort → Type 0) where
   joined (While b c k) r first second = (first.0, first.1, joined k r first.2 second)
   joined (Hole h k) r first second = joined k r first second
 
-  -- and back: of the first
+  -- what holds of each name of two pieces of code together holds of each of the first
   front : (c r : Code) → EachUsed P (append c r) → EachUsed P c
   front End r each = tt
   front (Skip k) r each = front k r each
@@ -60,7 +60,7 @@ module _ (P : ℕ → Sort → Type 0) where
   front (While b c k) r each = (each.0, each.1, front k r each.2)
   front (Hole h k) r each = front k r each
 
-  -- and of the second
+  -- what holds of each name of two pieces of code together holds of each of the second
   back : (c r : Code) → EachUsed P (append c r) → EachUsed P r
   back End r each = each
   back (Skip k) r each = back k r each
@@ -110,14 +110,14 @@ not_refused : (sort : Sort) (x : ℕ) → sort_refusal (Some sort) sort x ≡ No
 not_refused Num x = refl
 not_refused Arr x = refl
 
--- nor is any of a list of them
+-- no name of a list is refused, where each stands as it is declared
 none_refused : (sorts : Sorts) (uses : List (ℕ × Sort)) → AllByRecursion (λ (u : ℕ × Sort). IsAsDeclared sorts u.0 u.1) uses
     → first_sort_fault sorts uses ≡ None
 unfolding first_sort_fault
 none_refused sorts [] all = refl
 none_refused sorts (u ∷ uses) all = rw (all.0, not_refused u.1 u.0) (none_refused sorts uses all.1)
 
--- nor is any of well sorted code
+-- no name of well sorted code is refused
 code_free : (sorts : Sorts) (c : Code) → IsWellSorted sorts c → first_sort_fault sorts (names_used c) ≡ None
 code_free sorts c sorted = none_refused sorts (names_used c) ((well_sorted_is_all sorts c).0 sorted)
 

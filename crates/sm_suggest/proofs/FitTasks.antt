@@ -24,7 +24,7 @@ neither : (a b : Option Refusal) → option_or a b ≡ None → (a ≡ None) × 
 neither None b none = (refl, none)
 neither (Some r) b none = cc
 
--- nor does one of any copy
+-- no copy has a refusal, where there is no first one of the copies' lists
 each_none : (f : Copy → Option Refusal) → first_of_lists f ≡ None → (c : Copy) → f c ≡ None
 each_none f none O = (neither (f O) _ none).0
 each_none f none A = (neither (f A) _ (neither (f O) _ none).1).0
@@ -51,7 +51,7 @@ no_number (While b c k) e =
     rw (no_number c both.0) (no_number k both.1)
 no_number (Hole h k) e = absurd cc
 
--- nor has any filling of a list without them
+-- no filling of a list without the numbers of holes has a hole
 no_filling : (fs : Fillings) → holes_inside fs ≡ [] → (h : ℕ) → has_hole (filling fs h) ≡ false
 no_filling [] e h = refl
 no_filling (f ∷ fs) e h =

@@ -27,7 +27,7 @@ layer_is (layer.Hole h) k = refl
 pub statement_layer_is : (s : Stmt) → (l : Stmt-F (Code → Code) Code) × (statement_of s ≡ statement_layer l)
 statement_layer_is s = (_, fold_out-Stmt (Code → Code) Code statement_layer block_layer s)
 
--- the same of a statement
+-- the code of a statement before k is that of the statement alone, and then k
 pub statement_is : (s : Stmt) (k : Code) → statement_of s k ≡ append (statement_of s End) k
 statement_is s k =
     let l = statement_layer_is s in
@@ -90,7 +90,7 @@ layer-first (layer.If b c d) k r = refl
 layer-first (layer.While b c) k r = refl
 layer-first (layer.Hole h) k r = refl
 
--- and goes on with what stands after it
+-- a layer's code goes on with what stands after the layer
 layer-rest : (l : Stmt-F (Code → Code) Code) (k : Code) → rest_of (statement_layer l k) ≡ k
 layer-rest layer.Skip k = refl
 layer-rest (layer.Assign x e) k = refl
@@ -114,7 +114,7 @@ statement-first s k r =
     let l = statement_layer_is s in
     ap (λ (f : Code → Code). first (f k) r) l.1 ∙ layer-first l.0 k r ∙ ap (λ (f : Code → Code). f r) (sym l.1)
 
--- and goes on with what stands after it
+-- the code of a statement goes on with what stands after it
 statement-rest : (s : Stmt) (k : Code) → rest_of (statement_of s k) ≡ k
 statement-rest s k =
     let l = statement_layer_is s in
@@ -131,7 +131,7 @@ pub same_statement : (s t : Stmt) (k r : Code) → statement_of s k ≡ statemen
 same_statement s t k r same =
     fun_ext (λ (m : Code). sym (statement-first s k m) ∙ ap (λ (c : Code). first c m) same ∙ statement-first t r m)
 
--- and so is what follows them
+-- where statements and what follows them are the same code, what follows them is the same
 pub same_rest : (s t : Stmt) (k r : Code) → statement_of s k ≡ statement_of t r → k ≡ r
 same_rest s t k r same = sym (statement-rest s k) ∙ ap rest_of same ∙ statement-rest t r
 

@@ -18,7 +18,7 @@ int_cases x y =
 taken : (base variant candidate : ℤ) → KeepsChange base variant candidate → base ≢ variant → candidate ≡ variant
 taken base variant candidate kept changed = ⊎_elim (λ same. absurd (changed same)) (λ new. new) kept
 
--- and back
+-- a candidate that has the variant's value, if the variant changed it, keeps the change
 keeps_taken : (base variant candidate : ℤ) → (base ≢ variant → candidate ≡ variant) → KeepsChange base variant candidate
 keeps_taken base variant candidate new = ⊎_elim (λ same. inl same) (λ changed. inr (new changed)) (int_cases base variant)
 

@@ -22,7 +22,7 @@ one_more l m i s t is_s is_t here there before same =
     ap (λ (f : Code → Code). map statement_of (take i m) ++ f ∷ []) (same_statement s t End End same) ∙
     sym (next m i t is_t there)
 
--- the same blocks have the same statement at each place
+-- blocks of the same code have the same statement at each place
 pub matching : (a b : Block) (i : ℕ) (s t : Stmt) → s ≡ slice_index_or a.list.items i s → t ≡ slice_index_or b.list.items i t → i < length a.list.items →
     code_of a ≡ code_of b → statement_of s End ≡ statement_of t End
 matching a b i s t is_s is_t here same =
@@ -30,7 +30,7 @@ matching a b i s t is_s is_t here same =
     ap (λ (f : Code → Code). f End) (same_item a.list.items b.list.items i s t (same_parts a b same) here) ∙
     ap (λ (u : Stmt). statement_of u End) (sym is_t)
 
--- the same blocks have as many statements
+-- blocks of the same code have equally many statements
 pub same_length : (a b : Block) → code_of a ≡ code_of b → length a.list.items ≡ length b.list.items
 same_length a b same =
     sym (length-map a.list.items statement_of) ∙ ap length (same_parts a b same) ∙ length-map b.list.items statement_of

@@ -46,7 +46,7 @@ and_turned true false h = refl
 and_turned false true h = refl
 and_turned false false h = refl
 
--- the same formulas are equal
+-- formulas that their test finds the same are equal; two tests are passed where each is
 both : (p q : Bool) → p ≡ true → q ≡ true → (p && q) ≡ true
 both p q h g = and_from p q h g
 

@@ -12,7 +12,7 @@ module _ {T : Type 0} (same : T → T → Bool) where
   IsNew [] x = Unit {0}
   IsNew (y ∷ ys) x = (same x y ≡ false) × IsNew ys x
 
-  -- so is each of some
+  -- each of some things is the same as none of a list
   abbrev pub AreNew : List T → List T → Type 0
   AreNew seen [] = Unit {0}
   AreNew seen (x ∷ xs) = IsNew seen x × AreNew seen xs
@@ -81,7 +81,7 @@ module _ {T : Type 0} (same : T → T → Bool) where
   pub distinct_same : (xs : List T) → HasNoRepeats xs → distinct same xs ≡ xs
   distinct_same xs h = fold_new [] xs (all_nothing xs) h
 
-  -- and what it leaves has none
+  -- what dropping repeats leaves has no repeats
   no_repeats_fold : (seen xs : List T) → HasNoRepeats seen → HasNoRepeats (fold (with_new same) seen xs)
   no_repeats_fold seen [] h = h
   no_repeats_fold seen (x ∷ xs) h = no_repeats_fold (with_new same seen x) xs (by (list_any (same x) seen) refl)
@@ -93,7 +93,7 @@ module _ {T : Type 0} (same : T → T → Bool) where
   pub no_repeats_distinct : (xs : List T) → HasNoRepeats (distinct same xs)
   no_repeats_distinct xs = no_repeats_fold [] xs tt
 
-  -- nor has a part
+  -- the front of a list is new, or without repeats, where the whole list is so
   all_take : (seen xs : List T) (n : ℕ) → AreNew seen xs → AreNew seen (take n xs)
   all_take seen xs zero h = tt
   all_take seen [] (suc n) h = tt

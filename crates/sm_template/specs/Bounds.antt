@@ -16,7 +16,7 @@ use Rattle.sm_template.specs.SameFormulas.{same_formula}
 abbrev pub bound_in : List Tree → ℕ × ℕ → Assertion
 bound_in trees p = Le (tree_at trees p.0) (tree_at trees p.1)
 
--- the same of each pair
+-- the inequality of each pair
 abbrev pub bounds_in : List Tree → List (ℕ × ℕ) → List Assertion
 bounds_in trees ps = map (bound_in trees) ps
 
@@ -26,7 +26,7 @@ IsBoundReady sorts trees p =
     (p.0 < length trees) × (p.1 < length trees)
     × HasSort sorts Num (tree_at trees p.0) × HasSort sorts Num (tree_at trees p.1)
 
--- the same of each pair
+-- both terms of each pair are numbers of a table
 abbrev pub AreBoundsReady : Sorts → List Tree → List (ℕ × ℕ) → Type 0
 AreBoundsReady sorts trees [] = Unit {0}
 AreBoundsReady sorts trees (p ∷ ps) = IsBoundReady sorts trees p × AreBoundsReady sorts trees ps

@@ -13,6 +13,6 @@ is_taken seen z =
 abbrev pub with_literal : List ℤ → ℤ → List ℤ
 with_literal seen z = if is_taken seen z then seen ++ z ∷ [] else seen
 
--- the same of several
+-- the literals with several more, each where it is taken
 abbrev pub with_literals : List ℤ → List ℤ → List ℤ
 with_literals seen zs = fold with_literal seen zs

@@ -21,7 +21,7 @@ literals_in (Plus d e) = literals_in d ++ literals_in e
 literals_in (Minus d e) = literals_in d ++ literals_in e
 literals_in (Times d e) = literals_in d ++ literals_in e
 
--- the same of a condition
+-- the literals of a condition
 abbrev pub literals_tested : Condition → List ℤ
 literals_tested Yes = []
 literals_tested No = []
@@ -30,7 +30,7 @@ literals_tested (Not b) = literals_tested b
 literals_tested (And b c) = literals_tested b ++ literals_tested c
 literals_tested (Or b c) = literals_tested b ++ literals_tested c
 
--- the same of code
+-- the literals of code
 abbrev pub literals_used : Code → List ℤ
 literals_used End = []
 literals_used (Skip k) = literals_used k
@@ -41,7 +41,7 @@ literals_used (If b c d k) =
 literals_used (While b c k) = literals_tested b ++ literals_used c ++ literals_used k
 literals_used (Hole h k) = literals_used k
 
--- the same of a list of fillings
+-- the literals of a list of fillings
 abbrev pub literals_filled : Fillings → List ℤ
 literals_filled fs = flat_map (λ (f : ℕ × Code). literals_used f.1) fs
 

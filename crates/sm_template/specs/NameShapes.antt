@@ -49,7 +49,7 @@ FitsShape sort (shape.Cells a b) = (sort ≡ Arr) × FitsSide sort a × FitsSide
 FitsShape sort (shape.Keeps c) = Unit {0}
 FitsShape sort shape.AddsNothing = Unit {0}
 
--- the same of each kind of a list
+-- each kind of a list is one that a name of this sort may have
 abbrev pub AreShapesFit : Sort → List Shape → Type 0
 AreShapesFit sort [] = Unit {0}
 AreShapesFit sort (s ∷ rest) = FitsShape sort s × AreShapesFit sort rest
@@ -96,7 +96,7 @@ above_any literals p = flat_map (above_by p) literals
 abbrev pub number_shapes : List Shape
 number_shapes = of_pairs shape.Equal ++ of_goals ++ flat_map number_at_start named_copies
 
--- the same of an array
+-- the kinds of templates of an array
 abbrev pub array_shapes : List Shape
 array_shapes =
     of_pairs shape.Equal ++ of_pairs shape.Cells ++ of_goals

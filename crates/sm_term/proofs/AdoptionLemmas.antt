@@ -52,7 +52,7 @@ keeps-not v w e = record {
   terms = ([], ap (λ (t : TableValue). t.terms) e ∙ sym (append-nil v.terms));
 }
 
--- and where it keeps them twice
+-- rows that are kept from one table to a second, and from that to a third, are kept in the third
 pub keeps-twice : (u v w : TableValue) → KeepsRows u v → KeepsRows v w → KeepsRows u w
 keeps-twice u v w first second = record {
   declared = second.declared ∙ first.declared;
@@ -78,7 +78,7 @@ first_of xs ys more n long e = ap (take n) e ∙ ap (λ m. take m (xs ++ more)) 
 
 module _ (v w : TableValue) (kept : KeepsRows v w) (b t : ℕ) (bodies : b ≡ length v.bodies) (terms : t ≡ length v.terms) where
 
-  -- and is what it was
+  -- a table that kept its rows, cut back to as many as it had, is what it was
   pub kept_is : (r : TableValue) → r.declared ≡ w.declared → r.bodies ≡ take b w.bodies → r.terms ≡ take t w.terms → r ≡ v
   kept_is r declared first last =
       let names = declared ∙ kept.declared in

@@ -107,7 +107,7 @@ pub holds_append : (m : Structure) (fs gs : List Assertion) → AllHold m fs →
 holds_append m [] gs first second = second
 holds_append m (f ∷ fs) gs first second = (first.0, holds_append m fs gs first.1 second)
 
--- and apart
+-- where the facts of two lists hold together, those of each list hold
 pub holds_parts : (m : Structure) (fs gs : List Assertion) → AllHold m (fs ++ gs) → AllHold m fs × AllHold m gs
 holds_parts m [] gs all = (tt, all)
 holds_parts m (f ∷ fs) gs all = let rest = holds_parts m fs gs all.1 in ((all.0, rest.0), rest.1)
@@ -133,7 +133,7 @@ pub refuted_here : (m : Structure) (facts : List Assertion) (goal : Assertion) �
 refuted_here m facts goal never hold =
     stable m goal (λ (fails : Holds m goal → ⊥). never (holds_append m facts (negate goal ∷ []) hold ((contrary m goal).1 fails, tt)))
 
--- the same of all structures
+-- where no structure makes the facts and the negated goal hold, the goal holds where the facts do
 pub refuted : (facts : List Assertion) (goal : Assertion) → IsRefuted (facts ++ negate goal ∷ []) → IsValid facts goal
 refuted facts goal never m hold = refuted_here m facts goal (never m) hold
 

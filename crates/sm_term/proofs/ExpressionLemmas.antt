@@ -78,7 +78,7 @@ expression_number sorts f s (Plus d e) w = refl
 expression_number sorts f s (Minus d e) w = refl
 expression_number sorts f s (Times d e) w = refl
 
--- the same in a later table
+-- the term of a well-sorted expression is a number in a later table
 pub number_made : (v w : TableValue) → Grows v w → (s : SymStore) → IsStoreSorted (sorts_in v) (store_in (trees_in v) s) → (e : Expression) → IsWellSortedExpression (sorts_in v) e
     → tree_sort (sorts_in w) (term_of e (store_in (trees_in v) s)) ≡ Num
 number_made v w grows s sorted e well =

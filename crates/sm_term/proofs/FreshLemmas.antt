@@ -27,7 +27,7 @@ mutual
   fresh_meaning m k new (Mul t u) b = rw (fresh_meaning m k new t b.0, fresh_meaning m k new u b.1) refl
   fresh_meaning m k new (Fun c x args) b = ap (λ (g : Store). value_at (run m.bound c g) x) (fresh_given m k new args b)
 
-  -- the same of arguments
+  -- arguments that don't name a node's new values give one store whatever these are
   pub fresh_given : (m : Structure) (k : ℕ) (new : Copy → Store) (args : Arguments) → AreBelow k args
       → store_given (with_havoc m k new) args ≡ store_given m args
   fresh_given m k new Over b = refl
@@ -44,7 +44,7 @@ fresh_means m k new (Lt t u) b = less_at _ _ _ _ (fresh_meaning m k new t b.0) (
 fresh_means m k new (And p q) b = both_at _ _ _ _ (fresh_means m k new p b.0) (fresh_means m k new q b.1)
 fresh_means m k new (Or p q) b = some_at _ _ _ _ (fresh_means m k new p b.0) (fresh_means m k new q b.1)
 
--- the same of a list
+-- formulas that don't name a node's new values say the same whatever these are
 pub fresh_all : (m : Structure) (k : ℕ) (new : Copy → Store) (fs : List Assertion) → AreFormsBelow k fs
     → AllHold (with_havoc m k new) fs ↔ AllHold m fs
 fresh_all m k new [] b = (λ (h : Unit {0}). tt, λ (h : Unit {0}). tt)
@@ -66,12 +66,12 @@ mutual
   tree_later k l more (Mul t u) b = (tree_later k l more t b.0, tree_later k l more u b.1)
   tree_later k l more (Fun c x args) b = given_later k l more args b
 
-  -- the same of arguments
+  -- arguments that are below a bound are below a greater one
   pub given_later : (k l : ℕ) → k ≤ l → (args : Arguments) → AreBelow k args → AreBelow l args
   given_later k l more Over b = tt
   given_later k l more (Given x t rest) b = (tree_later k l more t b.0, given_later k l more rest b.1)
 
--- the same of a formula
+-- a formula that is below a bound is below a greater one
 pub form_later : (k l : ℕ) → k ≤ l → (f : Assertion) → IsFormBelow k f → IsFormBelow l f
 form_later k l more Yes b = tt
 form_later k l more No b = tt
@@ -82,7 +82,7 @@ form_later k l more (Lt t u) b = (tree_later k l more t b.0, tree_later k l more
 form_later k l more (And p q) b = (form_later k l more p b.0, form_later k l more q b.1)
 form_later k l more (Or p q) b = (form_later k l more p b.0, form_later k l more q b.1)
 
--- the same of a list
+-- formulas that are below a bound are below a greater one
 pub forms_later : (k l : ℕ) → k ≤ l → (fs : List Assertion) → AreFormsBelow k fs → AreFormsBelow l fs
 forms_later k l more [] b = tt
 forms_later k l more (f ∷ fs) b = (form_later k l more f b.0, forms_later k l more fs b.1)

@@ -128,7 +128,7 @@ module _ (sorts : Sorts) (codes there : List Code) (trees whole : List Tree) (n 
       )
       by t u m from args w = absurd (let kinds = ap (λ k. k.kind) m in omega arith)
 
-  -- and it fits alike
+  -- the moved row fits exactly where the row does
   pub moved_fits : (t u : Term) → contents_of u ≡ moved_contents part body t → IsTermWithin sorts (length there) n t → term_fits sorts trees u ≡ term_fits sorts whole t
   moved_fits t u e = by t u (ap (λ (h : Contents). h.0) e) (ap (λ (h : Contents). h.1) e) (ap (λ (h : Contents). h.2) e)
     where

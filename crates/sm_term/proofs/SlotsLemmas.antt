@@ -32,7 +32,7 @@ mutual
   filled_means m s (Mul t u) = rw (filled_means m s t, filled_means m s u) refl
   filled_means m s (Fun c x args) = ap (λ (g : Store). value_at (run m.bound c g) x) (filled_given m s args)
 
-  -- the same of arguments
+  -- arguments at stores give the store that they give with the stores' values at the slots
   pub filled_given : (m : Structure) (s : Copy → SymbolicStore) (args : Arguments)
       → store_given m (fill_arguments s args) ≡ store_given (slotted m s) args
   filled_given m s Over = refl
@@ -61,7 +61,7 @@ not_at P Q same = (λ (h : P → ⊥) (q : Q). h (same.1 q), λ (h : Q → ⊥) 
 pub at_most_at : (v w x y : Value) → v ≡ x → w ≡ y → (number v ≤ℤ number w) ↔ (number x ≤ℤ number y)
 at_most_at v w x y first second = rw (first, second) (λ (h : number x ≤ℤ number y). h, λ (h : number x ≤ℤ number y). h)
 
--- the same of less
+-- one number less than another, each with another name
 pub less_at : (v w x y : Value) → v ≡ x → w ≡ y → (number v <ℤ number w) ↔ (number x <ℤ number y)
 less_at v w x y first second = rw (first, second) (λ (h : number x <ℤ number y). h, λ (h : number x <ℤ number y). h)
 
@@ -76,7 +76,7 @@ at_stores_means m s (Lt t u) = less_at _ _ _ _ (filled_means m s t) (filled_mean
 at_stores_means m s (And p q) = both_at _ _ _ _ (at_stores_means m s p) (at_stores_means m s q)
 at_stores_means m s (Or p q) = some_at _ _ _ _ (at_stores_means m s p) (at_stores_means m s q)
 
--- the same of a list of formulas
+-- formulas at stores hold exactly where they hold with the stores' values at the slots
 pub all_at_stores_mean : (m : Structure) (s : Copy → SymbolicStore) (fs : List Assertion)
     → AllHold m (all_at_stores s fs) ↔ AllHold (slotted m s) fs
 all_at_stores_mean m s [] = (λ (h : Unit {0}). tt, λ (h : Unit {0}). tt)

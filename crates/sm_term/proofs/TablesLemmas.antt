@@ -56,7 +56,7 @@ stands sorts codes older (t ∷ ts) s (suc i) h =
     subst (λ l. StandsAt sorts codes l (length older + suc i) (get_or ts i row.Cell)) joined
     (subst (λ n. StandsAt sorts codes (next ++ rest) n (get_or ts i row.Cell)) place (stands sorts codes next ts s.2 i (omega arith)))
 
--- the same from the front
+-- the term at a place in a list of sound terms, over all their trees
 pub row_at : (sorts : Sorts) (codes : List Code) (ts : List Term) → AreTermsSound sorts codes [] ts → (i : ℕ) → i < length ts → StandsAt sorts codes (trees_behind codes [] ts) i (get_or ts i row.Cell)
 row_at sorts codes ts s i h =
     let place : 0 + i ≡ i = omega arith in
@@ -168,7 +168,7 @@ module _ (sorts : Sorts) (codes : List Code) (terms : List Term) (table : IsTabl
             (cases_lt j (length all)))
             (cases_lt i (length all))
 
-  -- the same where the set of terms takes it
+  -- the table stays one where the set of terms takes a term, and has its tree
   module _ (within : IsTermWithin sorts (length codes) (length all) t) (fit : term_fits sorts all t ≡ true) where
     abbrev taken : List Term
     taken = insert_key same_term terms t

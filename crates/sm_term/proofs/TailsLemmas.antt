@@ -27,7 +27,7 @@ drop-trees codes older (t ∷ ts) (suc n) =
     let next = older ++ first ∷ [] in
     ap (λ l. trees_behind codes l (drop n ts)) (behind older first (take n (trees_behind codes next ts))) ∙ drop-trees codes next ts n
 
--- and the last terms are sound behind the first trees
+-- the last terms are sound behind the first trees
 pub sound-drop : (sorts : Sorts) (codes : List Code) (older : List Tree) (ts : List Term) (n : ℕ) → AreTermsSound sorts codes older ts
     → AreTermsSound sorts codes (older ++ take n (trees_behind codes older ts)) (drop n ts)
 sound-drop sorts codes older [] zero s = tt
@@ -49,7 +49,7 @@ trees_alike codes older (t ∷ ts) (u ∷ us) e =
     let same = alike codes older t u here in
     ap (λ x. x ∷ trees_behind codes (older ++ x ∷ []) ts) same ∙ ap (λ l. tree_in codes older u ∷ l) (trees_alike codes (older ++ tree_in codes older u ∷ []) ts us there)
 
--- and are sound together
+-- terms that hold what sound ones hold, in turn, are sound
 pub sound_alike : (sorts : Sorts) (codes : List Code) (older : List Tree) (ts us : List Term) → map contents_of ts ≡ map contents_of us → AreTermsSound sorts codes older ts → AreTermsSound sorts codes older us
 sound_alike sorts codes older [] [] e s = tt
 sound_alike sorts codes older [] (u ∷ us) e s = absurd cc
@@ -76,7 +76,7 @@ tail_trees codes copies same keys n rows held =
     let all = trees_behind codes [] keys in
     ap (λ c. trees_behind c (take n all) rows) same ∙ trees_alike codes (take n all) rows (drop n keys) held ∙ drop-trees codes [] keys n
 
--- and are sound
+-- copies of the last terms, over copies of the bodies, are sound behind the first trees
 pub tail_sound :
     (sorts : Sorts) (codes copies : List Code) → copies ≡ codes → (keys : List Term) (n : ℕ) (rows : List Term) → map contents_of rows ≡ map contents_of (drop n keys)
     → AreTermsSound sorts codes [] keys → AreTermsSound sorts copies (take n (trees_behind codes [] keys)) rows

@@ -64,7 +64,7 @@ tree_in-more sorts bodies codes trees more (row.Sub t u) w = rw (tree_at-more tr
 tree_in-more sorts bodies codes trees more (row.Mul t u) w = rw (tree_at-more trees more t.0 w.0, tree_at-more trees more u.0 w.1) refl
 tree_in-more sorts bodies codes trees more (row.Fun b x from args) w = rw (arguments-more trees more from.list.items args.list.items w.3) refl
 
--- the same of the test of sorts
+-- the test of the sorts of arguments says the same where more trees are put behind
 arguments_fit-more : (sorts : Sorts) (trees more : List Tree) (from : List Name) (args : List TermId) → AreBefore (length trees) args → arguments_fit sorts (trees ++ more) from args ≡ arguments_fit sorts trees from args
 arguments_fit-more sorts trees more [] [] w = refl
 arguments_fit-more sorts trees more [] (t ∷ args) w = refl

@@ -20,12 +20,12 @@ abbrev mutual
   IsBelow k (Mul t u) = IsBelow k t × IsBelow k u
   IsBelow k (Fun c x args) = AreBelow k args
 
-  -- the same of arguments
+  -- the arguments name no new value of node k or of a later one
   pub AreBelow : ℕ → Arguments → Type 0
   AreBelow k Over = Unit {0}
   AreBelow k (Given x t rest) = IsBelow k t × AreBelow k rest
 
--- the same of a formula
+-- the formula names no new value of node k or of a later one
 abbrev pub IsFormBelow : ℕ → Assertion → Type 0
 IsFormBelow k Yes = Unit {0}
 IsFormBelow k No = Unit {0}
@@ -36,7 +36,7 @@ IsFormBelow k (Lt t u) = IsBelow k t × IsBelow k u
 IsFormBelow k (And p q) = IsFormBelow k p × IsFormBelow k q
 IsFormBelow k (Or p q) = IsFormBelow k p × IsFormBelow k q
 
--- the same of each formula of a list
+-- the formulas of a list name no new value of node k or of a later one
 abbrev pub AreFormsBelow : ℕ → List Assertion → Type 0
 AreFormsBelow k [] = Unit {0}
 AreFormsBelow k (f ∷ fs) = IsFormBelow k f × AreFormsBelow k fs

@@ -44,7 +44,7 @@ RefutedIsValid =
     IsRefuted (facts ++ negate goal ∷ []) →
     IsValid facts goal
 
--- the same in one structure
+-- where facts and a negated goal don't hold together in a structure, the goal holds if the facts do
 abbrev pub RefutedHere : Type 0
 RefutedHere =
     (m : Structure) (facts : List Assertion) (goal : Assertion) →

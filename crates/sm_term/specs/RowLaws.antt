@@ -31,7 +31,7 @@ equivalence_by E f decides = record {
 abbrev pub Contents : Type 0
 Contents = Numbers × List ℕ × List ℕ
 
--- the same of one term
+-- what one term holds: its numbers, its names and its parts
 abbrev pub contents_of : Term → Contents
 contents_of t = (term_numbers t, names_of_term t, parts_of_term t)
 

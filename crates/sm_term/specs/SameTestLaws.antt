@@ -37,7 +37,7 @@ says same gives itself t u =
 pub same_number : (n : ℕ) → (n == n) ≡ true
 same_number n = eq-eqb n n refl
 
--- so is a whole number
+-- a whole number is itself
 pub same_whole : (z : ℤ) → int_eq z z ≡ true
 same_whole z = (Decides-int_eq z z).1 refl
 

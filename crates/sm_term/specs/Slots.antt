@@ -22,7 +22,7 @@ abbrev mutual
   fill_term s (Mul t u) = Mul (fill_term s t) (fill_term s u)
   fill_term s (Fun c x args) = Fun c x (fill_arguments s args)
 
-  -- the same of arguments
+  -- arguments with each slot replaced
   pub fill_arguments : (Copy → SymbolicStore) → Arguments → Arguments
   fill_arguments s Over = Over
   fill_arguments s (Given x t rest) = Given x (fill_term s t) (fill_arguments s rest)
@@ -38,6 +38,6 @@ at_stores s (Lt t u) = Lt (fill_term s t) (fill_term s u)
 at_stores s (And p q) = And (at_stores s p) (at_stores s q)
 at_stores s (Or p q) = Or (at_stores s p) (at_stores s q)
 
--- the same of a list
+-- formulas with each slot replaced
 abbrev pub all_at_stores : (Copy → SymbolicStore) → List Assertion → List Assertion
 all_at_stores s fs = map (at_stores s) fs

@@ -82,7 +82,7 @@ IsFormSorted sorts (Lt t u) = HasSort sorts Num t × HasSort sorts Num u
 IsFormSorted sorts (And p q) = IsFormSorted sorts p × IsFormSorted sorts q
 IsFormSorted sorts (Or p q) = IsFormSorted sorts p × IsFormSorted sorts q
 
--- the same of each formula of a list
+-- in each formula of a list, equations have sides of their sort, and inequalities have numbers
 abbrev pub AreFormsSorted : Sorts → List Assertion → Type 0
 AreFormsSorted sorts [] = Unit {0}
 AreFormsSorted sorts (f ∷ fs) = IsFormSorted sorts f × AreFormsSorted sorts fs

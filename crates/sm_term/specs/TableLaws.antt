@@ -48,7 +48,7 @@ pub record IsTable (sorts : Sorts) (codes : List Code) (terms : List Term) : Typ
 abbrev pub with_tree : List Tree → Tree → List Tree
 with_tree trees t = if list_any (same_tree t) trees then trees else trees ++ t ∷ []
 
--- the same of code
+-- the codes with one more, where it isn't among them
 abbrev pub with_code : List Code → Code → List Code
 with_code codes c = if list_any (same_code c) codes then codes else codes ++ c ∷ []
 
@@ -63,7 +63,7 @@ abbrev pub with_trees : List Tree → List Tree → List Tree
 with_trees trees [] = trees
 with_trees trees (t ∷ ts) = with_trees (with_tree trees t) ts
 
--- the same of code
+-- the codes with each of some more, in order, where it isn't among them
 abbrev pub with_codes : List Code → List Code → List Code
 with_codes codes [] = codes
 with_codes codes (c ∷ cs) = with_codes (with_code codes c) cs

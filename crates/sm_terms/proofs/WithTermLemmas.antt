@@ -121,7 +121,7 @@ among_put t seen = by (is_among seen t) refl
         ap (λ (ts : List Tree). is_among ts t) (put_new t seen e)
         ∙ among-right seen (t ∷ []) t (ap (λ (b : Bool). b || false) (same_itself t))
 
--- and so are those before
+-- a term that was there is there after another is put
 pub kept_put : (t : Tree) (seen : List Tree) (u : Tree) → is_among seen u ≡ true → is_among (put t seen) u ≡ true
 kept_put t seen u h = by (is_among seen t) refl
   where
@@ -129,7 +129,7 @@ kept_put t seen u h = by (is_among seen t) refl
     by true e = ap (λ (ts : List Tree). is_among ts u) (put_there t seen e) ∙ h
     by false e = ap (λ (ts : List Tree). is_among ts u) (put_new t seen e) ∙ among-left seen (t ∷ []) u h
 
--- and no other
+-- a term that is there after one is put was there before, or is that one
 pub among_put_cases : (t : Tree) (seen : List Tree) (u : Tree) → is_among (put t seen) u ≡ true → (is_among seen u ≡ true) ⊎ (u ≡ t)
 among_put_cases t seen u h = by (is_among seen t) refl
   where
@@ -137,7 +137,7 @@ among_put_cases t seen u h = by (is_among seen t) refl
     by true e = inl (ap (λ (ts : List Tree). is_among ts u) (sym (put_there t seen e)) ∙ h)
     by false e = among_last seen t u (ap (λ (ts : List Tree). is_among ts u) (sym (put_new t seen e)) ∙ h)
 
--- the same of a term with its arguments
+-- a term that was there is there after another is put with its arguments
 pub kept_with_term : (t : Tree) (seen : List Tree) (u : Tree) → is_among seen u ≡ true → is_among (with_term t seen) u ≡ true
 kept_with_term = by_arguments (λ (t : Tree). (seen : List Tree) (u : Tree) → is_among seen u ≡ true → is_among (with_term t seen) u ≡ true) step
   where

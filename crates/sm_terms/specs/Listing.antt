@@ -47,7 +47,7 @@ abbrev pub IsReady : List Tree → Step → List Tree → Type 0
 IsReady trees (Visit n) seen = Unit {0}
 IsReady trees (Put n) seen = AllAmong seen (arguments_of (tree_at trees n))
 
--- the same of steps, each at its time
+-- where steps put terms, each at its time, the arguments are there
 abbrev pub AreReady : List Tree → List Step → List Tree → Type 0
 AreReady trees [] seen = Unit {0}
 AreReady trees (s ∷ above) seen =
@@ -58,7 +58,7 @@ abbrev pub IsStepWithin : ℕ → Step → Type 0
 IsStepWithin count (Visit n) = n < count
 IsStepWithin count (Put n) = n < count
 
--- the same of steps
+-- steps are for terms of the table
 abbrev pub AreStepsWithin : ℕ → List Step → Type 0
 AreStepsWithin count [] = Unit {0}
 AreStepsWithin count (s ∷ ss) = IsStepWithin count s × AreStepsWithin count ss
@@ -93,17 +93,17 @@ abbrev mutual
   cost_of (Mul t u) = 2 + (cost_of t + (cost_of u + 0))
   cost_of (Fun c x args) = 2 + cost_of_arguments args
 
-  -- the same of arguments
+  -- how many steps visits of arguments make at most
   pub cost_of_arguments : Arguments → ℕ
   cost_of_arguments Over = 0
   cost_of_arguments (Given x t rest) = cost_of t + cost_of_arguments rest
 
--- the same of a step
+-- how many steps come of one step at most
 abbrev pub cost_of_step : List Tree → Step → ℕ
 cost_of_step trees (Visit n) = cost_of (tree_at trees n)
 cost_of_step trees (Put n) = 1
 
--- the same of steps
+-- how many steps come of several steps at most
 abbrev pub cost_of_steps : List Tree → List Step → ℕ
 cost_of_steps trees [] = 0
 cost_of_steps trees (s ∷ ss) = cost_of_step trees s + cost_of_steps trees ss

@@ -87,7 +87,7 @@ next_literal_is_a_number = refl
 wide_product_is_an_atom : linear_of (Mul (natural (2 ^ 126)) (Mul (natural 2) x)) ≡ atom_form (Mul (natural (2 ^ 126)) (Mul (natural 2) x))
 wide_product_is_an_atom = refl
 
--- so is a sum whose constant does
+-- a sum whose constant leaves the range is an atom
 wide_sum_is_an_atom : linear_of (Add (natural (2 ^ 126)) (natural (2 ^ 126))) ≡ atom_form (Add (natural (2 ^ 126)) (natural (2 ^ 126)))
 wide_sum_is_an_atom = refl
 
@@ -99,15 +99,15 @@ same_in_another_order = refl
 same_wants_the_constant : adds [] (Same x (Add x (natural 1))) ≡ None
 same_wants_the_constant = refl
 
--- nor where a coefficient does
+-- x and 2x aren't told to be one number, as a coefficient differs
 same_wants_the_coefficients : adds [] (Same x (Mul (natural 2) x)) ≡ None
 same_wants_the_coefficients = refl
 
--- nor where one has a part more
+-- x and x + y aren't told to be one number, as the second has a part more
 same_wants_each_part : adds [] (Same x (Add x y)) ≡ None
 same_wants_each_part = refl
 
--- nor where the other has
+-- x + y and x aren't told to be one number, as the first has a part more
 same_wants_no_more : adds [] (Same (Add x y) x) ≡ None
 same_wants_no_more = refl
 
@@ -123,7 +123,7 @@ apart_by_the_constant = refl
 apart_wants_another_constant : adds [] (Apart (Add x y) (Add y x)) ≡ None
 apart_wants_another_constant = refl
 
--- nor where the parts aren't
+-- x and y + 1 aren't told apart, as their parts differ
 apart_wants_equal_parts : adds [] (Apart x (Add y (natural 1))) ≡ None
 apart_wants_equal_parts = refl
 
@@ -147,7 +147,7 @@ equation_is_one = refl
 lin_wants_numbers : adds (Formal (Eq Arr a a) ∷ []) (Lin 0) ≡ None
 lin_wants_numbers = refl
 
--- nor has a contrary
+-- the contrary of an equation has no form
 lin_wants_no_contrary : adds (Formal (Ne Num x y) ∷ []) (Lin 0) ≡ None
 lin_wants_no_contrary = refl
 
@@ -163,7 +163,7 @@ lin_wants_a_fact = refl
 lin_wants_a_difference_in_range : adds (Formal (Le (Add x (natural (2 ^ 127 - 1))) (Lit (negsuc 0))) ∷ []) (Lin 0) ≡ None
 lin_wants_a_difference_in_range = refl
 
--- so is the 1 more
+-- a strict inequality is refused where its 1 more leaves the range
 lin_wants_one_more_in_range : adds (Formal (Lt (Add x (natural (2 ^ 127 - 1))) y) ∷ []) (Lin 0) ≡ None
 lin_wants_one_more_in_range = refl
 
@@ -197,7 +197,7 @@ elim_of_an_equation :
 unfolding gcd
 elim_of_an_equation = refl
 
--- the same
+-- of an equation any multiple may be taken where it stands first
 elim_by_an_equation :
     adds (two (form ((x, pos 1) ∷ (y, pos 1) ∷ []) (pos 0) kind.Le) (form ((x, pos 1) ∷ []) (pos 3) kind.Eq)) (Elim 1 0 x)
     ≡ Some (Sum (form ((y, pos 1) ∷ []) (negsuc 2) kind.Le))
@@ -292,11 +292,11 @@ closes_a_wrong_equation = refl
 closes_no_true_bound : ways declared (one (form [] (pos 0) kind.Le)) (Close 0) ≡ None
 closes_no_true_bound = refl
 
--- nor -1 <= 0
+-- -1 <= 0 doesn't close
 closes_no_lesser_bound : ways declared (one (form [] (negsuc 0) kind.Le)) (Close 0) ≡ None
 closes_no_lesser_bound = refl
 
--- nor what has a part
+-- a form with a part doesn't close
 closes_no_form_with_a_part : ways declared (one (form ((x, pos 1) ∷ []) (pos 1) kind.Le)) (Close 0) ≡ None
 closes_no_form_with_a_part = refl
 

@@ -40,7 +40,7 @@ pub atoms_each : (P : Tree → Type 0) (ps : List (Tree × ℤ)) → AreAmong P 
 atoms_each P [] each = tt
 atoms_each P (p ∷ ps) each = (each.0, atoms_each P ps each.1)
 
--- and the other way round
+-- what `EachAtom` says of parts, in the words of `AreAmong`
 pub each_atoms : (P : Tree → Type 0) (ps : List (Tree × ℤ)) → EachAtom P ps → AreAmong P ps
 each_atoms P [] each = tt
 each_atoms P (p ∷ ps) each = (each.0, each_atoms P ps each.1)
@@ -114,7 +114,7 @@ fine_sorted : (sorts : Sorts) (k : BranchFact) → IsFineForm (HasSort sorts Num
 fine_sorted sorts k fine = subst (IsFactSorted sorts) fine.1
     (atoms_each (HasSort sorts Num) fine.0.parts fine.2, reduced_once fine.0.parts fine.3)
 
--- and a sorted fact that is a form is fine
+-- a form that is a sorted fact is fine
 sorted_fine : (sorts : Sorts) (f : Linear Tree) → IsFactSorted sorts (Sum f) → IsFine (HasSort sorts Num) f
 sorted_fine sorts f sorted = (each_atoms (HasSort sorts Num) f.parts sorted.0, once_reduced f.parts sorted.1)
 

@@ -35,7 +35,7 @@ sorted_append sorts (k ∷ ks) ls =
       λ (h : AreFactsSorted sorts (k ∷ ks) × AreFactsSorted sorts ls). (h.0.0, rest.1 (h.0.1, h.1)),
     )
 
--- and below exactly where both are
+-- facts in front of others are below a node exactly where both are
 pub below_append : (node : ℕ) (ks ls : List BranchFact) →
     AreFactsBelow node (ks ++ ls) ↔ (AreFactsBelow node ks × AreFactsBelow node ls)
 below_append node [] ls = (λ (h : AreFactsBelow node ls). (tt, h), λ (h : Unit {0} × AreFactsBelow node ls). h.1)

@@ -42,11 +42,11 @@ b = Start 4
 abbrev after : List Assertion → CertificateLine → Ways
 after fs line = ways declared (as_facts fs) line
 
--- and to a branch with one linear form, which says that a number is at most 0
+-- what a line does to a branch with one linear form, which says that a number is at most 0
 abbrev after_sum : CertificateLine → Ways
 after_sum line = ways declared (Sum (record { parts = (x, pos 1) ∷ []; constant = pos 0; kind = kind.Le }) ∷ []) line
 
--- and to a branch with one constant form
+-- what a line does to a branch with one constant form
 abbrev after_constant : ℕ → Kind → CertificateLine → Ways
 after_constant n k line = ways declared (Sum (record { parts = []; constant = pos n; kind = k }) ∷ []) line
 

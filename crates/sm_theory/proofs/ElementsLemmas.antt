@@ -89,7 +89,7 @@ says_apart sorts m facts n t u all hold h =
 element_there : (f : ℤ → ℤ) (i z j : ℤ) → i ≡ j → with_element f i z j ≡ z
 element_there f i z j same = ap (λ (b : Bool). if b then z else f j) ((Decides-int_eq j i).1 (sym same))
 
--- and at another
+-- an array is as before at an index other than that at which an element was written
 element_elsewhere : (f : ℤ → ℤ) (i z j : ℤ) → (i ≡ j → ⊥) → with_element f i z j ≡ f j
 element_elsewhere f i z j other =
     ap (λ (b : Bool). if b then z else f j)

@@ -46,7 +46,7 @@ pub says_moves : (o p : Option Sides) (t u : Tree) → Gives o p → says_equal 
 says_moves None p t u now h = absurd cc
 says_moves (Some s) p t u now h = subst (λ (q : Option Sides). says_equal q t u ≡ true) (sym (now s refl)) h
 
--- and a formula is added there too
+-- a formula that is added by a test is added by another test that is passed where the first is
 pub formula_if_moves : (test other : Bool) (f : Assertion) → (test ≡ true → other ≡ true) → Gives (formula_if test f) (formula_if other f)
 formula_if_moves true other f passes k h = rw (passes refl) h
 formula_if_moves false other f passes k h = absurd cc

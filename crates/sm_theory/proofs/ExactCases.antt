@@ -68,7 +68,7 @@ refutes : ways declared even_is_odd (Exact 0) ≡ nothing
 unfolding exact gcd
 refutes = refl
 
--- nor does it hurt to allow 1,000,000
+-- a line `exact` may allow 1,000,000 steps
 allows_a_million : ways declared even_is_odd (Exact 1000000) ≡ nothing
 unfolding exact gcd
 allows_a_million = refl
@@ -108,7 +108,7 @@ takes_its_steps : ways declared pughs (Exact 291) ≡ nothing
 unfolding exact gcd pughs
 takes_its_steps = refl
 
--- and not 290
+-- 290 steps are too few for Pugh's example
 wants_all_steps : ways declared pughs (Exact 290) ≡ None
 unfolding exact gcd pughs
 wants_all_steps = refl

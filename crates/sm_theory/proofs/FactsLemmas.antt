@@ -53,7 +53,7 @@ formula_is : (k : BranchFact) (f : Assertion) → formula_in k ≡ Some f → k 
 formula_is (Formal g) f h = let same : g ≡ f = cc in ap Formal same
 formula_is (Sum g) f h = absurd cc
 
--- so is a form
+-- a form that is found is the fact
 form_is : (k : BranchFact) (f : Linear Tree) → form_in k ≡ Some f → k ≡ Sum f
 form_is (Formal g) f h = absurd cc
 form_is (Sum g) f h = let same : g ≡ f = cc in ap Sum same
@@ -63,7 +63,7 @@ equation_is : (f : Assertion) (s : Sides) → equal_sides f ≡ Some s → Forma
 equation_is (Eq sort t u) s h = let same : record { sort = sort; left = t; right = u } ≡ s = cc in ap equation same
 equation_is f s h = absurd cc
 
--- or its contrary
+-- a formula that has unequal sides is the contrary of the equation of these
 contrary_is : (f : Assertion) (s : Sides) → unequal_sides f ≡ Some s → Formal f ≡ contrary s
 contrary_is (Ne sort t u) s h = let same : record { sort = sort; left = t; right = u } ≡ s = cc in ap contrary same
 contrary_is f s h = absurd cc
@@ -109,7 +109,7 @@ formula_moves move facts others n stand =
     followed_gives (slice_get facts n) (slice_get others (move n)) formula_in formula_in stand
     (λ (k : BranchFact). gives_itself (formula_in k))
 
--- so is a form
+-- a form that is found is found on the other branch
 pub form_moves : (move : ℕ → ℕ) (facts others : List BranchFact) (n : ℕ) → StandsMoved move facts others n →
     Gives (form_at facts n) (form_at others (move n))
 form_moves move facts others n stand =
@@ -122,7 +122,7 @@ equation_moves move facts others n stand =
     followed_gives (formula_at facts n) (formula_at others (move n)) equal_sides equal_sides (formula_moves move facts others n stand)
     (λ (f : Assertion). gives_itself (equal_sides f))
 
--- and its contrary
+-- the contrary of an equation that is found is found on the other branch
 pub contrary_moves : (move : ℕ → ℕ) (facts others : List BranchFact) (n : ℕ) → StandsMoved move facts others n →
     Gives (contrary_at facts n) (contrary_at others (move n))
 contrary_moves move facts others n stand =

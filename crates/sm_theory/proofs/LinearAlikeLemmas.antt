@@ -110,7 +110,7 @@ once_reduced (p ∷ ps) once = (once.0, apart ps once.1, once_reduced ps once.2)
       apart ps each.1,
     )
 
--- and the other way round
+-- in parts that are reduced, by the test of terms, each term stands once
 pub reduced_once : (ps : List (Tree × ℤ)) → AreReduced same_tree ps → StandOnce ps
 reduced_once [] reduced = tt
 reduced_once (p ∷ ps) reduced = (reduced.0, apart ps reduced.1, reduced_once ps reduced.2)

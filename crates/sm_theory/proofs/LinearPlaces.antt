@@ -133,7 +133,7 @@ module _ (trees : List Tree) where
               (place_of trees t);
         }
 
-    -- and what is alike stands for it
+    -- a form that is alike with another at the terms stands for it
     pub alike_stands : (f : Linear ℕ) (g : Linear Tree) → AreAmong IsPlace f.parts → AreAlike same_tree (renamed_form term_at f) g →
         StandsFor trees f g
     alike_stands f g places alike =
@@ -209,7 +209,7 @@ module _ (trees : List Tree) (distinct : HaveOnePlace trees) where
       each [] own = tt
       each (p ∷ ps) own = (subst (λ (z : ℤ). IsTrue (fits_form z)) own.0 (term_fits f g keeps p.0), each ps own.1)
 
-  -- and what stands for another is kept for it
+  -- a form that stands for another is kept for it
   pub stands_keeps : (f : Linear ℕ) (g : Linear Tree) → Stands f g → IsKeptFor trees f g
   stands_keeps f g stands =
       record {

@@ -41,7 +41,7 @@ module _ (trees : List Tree) (distinct : HaveOnePlace trees) where
       (over.combined_over (IsPlace trees) same_tree tree_sound tree_reflexive (term_at trees)
       (places_rename trees distinct) f h g i p q k one other)
 
-  -- so are sums in which an atom cancels
+  -- sums of forms in which an atom cancels are kept for sums in which its term cancels
   pub eliminated_stands : (f h : Linear ℕ) (g i : Linear Tree) (n : ℕ) (t : Tree) → StandsAt trees n t → IsKeptFor trees f g →
       IsKeptFor trees h i →
       IsOutcomeFor trees (eliminated f h n) (elimination same_tree g i t)
@@ -63,7 +63,7 @@ module _ (trees : List Tree) (distinct : HaveOnePlace trees) where
       (over.tightened_stands (IsPlace trees) same_tree tree_sound tree_reflexive (term_at trees) (places_rename trees distinct) f g
       (keeps_stands trees distinct f g keeps))
 
-  -- and a contradiction for a contradiction
+  -- a form that is kept for another is a contradiction exactly where that is
   pub contradictory_stands : (f : Linear ℕ) (g : Linear Tree) → IsKeptFor trees f g → is_contradictory f ≡ is_contradictory g
   contradictory_stands f g keeps =
       over.contradictory_over (IsPlace trees) same_tree tree_sound tree_reflexive (term_at trees) (places_rename trees distinct) f g

@@ -253,7 +253,7 @@ sorted_inherited sorts = record {
   of_product = λ t u is. ((is.0.0, is.0.1), (is.0.2, is.0.3));
 }
 
--- and name no later new value than the operation
+-- the parts of an operation on numbers name no later new value than the operation
 pub below_inherited : (node : ℕ) → IsInherited (IsBelow node)
 below_inherited node = record {
   of_contrary = λ t is. is;

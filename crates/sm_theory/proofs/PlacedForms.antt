@@ -190,7 +190,7 @@ AreKeptFor terms [] (g ∷ gs) = ⊥
 AreKeptFor terms (h ∷ hs) [] = ⊥
 AreKeptFor terms (h ∷ hs) (g ∷ gs) = IsKeptFor terms h g × AreKeptFor terms hs gs
 
--- the same of forms
+-- forms that are kept for forms, by the places of the terms, are the forms_by_places forms
 pub all_placed_are : (terms : List Tree) (hs : List (Linear ℕ)) (gs : List (Linear Tree)) → HaveOnePlace terms → AreKeptFor terms hs gs →
     forms_by_places terms gs ≡ Some hs
 all_placed_are terms [] [] distinct keeps = refl
@@ -214,7 +214,7 @@ unplaced_parts (t ∷ ts) n ps u never some =
     (unplaced_parts ts (suc n) (parts_without same_tree t ps) u (λ (i : ℕ) (e : StandsAt ts i u). never (suc i) e)
     (λ (none : coefficient same_tree u (parts_without same_tree t ps) ≡ pos 0). some (sym (without_other t u ps other) ∙ none)))
 
--- nor is a form
+-- a form with a term that has no place has no form by places
 pub unplaced : (terms : List Tree) (g : Linear Tree) (u : Tree) → ((i : ℕ) → StandsAt terms i u → ⊥) →
     (coefficient same_tree u g.parts ≡ pos 0 → ⊥) → form_by_places terms g ≡ None
 unplaced terms g u never some =

@@ -121,7 +121,7 @@ ways_are_sorted_from law sorts facts line to all named h =
     ways_with_sorted sorts facts (adds sorts facts line) line to all named
     (λ (k : BranchFact) (e : adds sorts facts line ≡ Some k). adds_sorted law sorts facts line k all named e) h
 
--- and names new values of earlier nodes alone
+-- what a way adds names new values of earlier nodes alone
 pub ways_are_below_from : AddsWhatIsBelow arithmetic → WaysAreBelow
 ways_are_below_from law sorts node facts line to all named h =
     ways_with_below sorts node facts (adds sorts facts line) line to all named

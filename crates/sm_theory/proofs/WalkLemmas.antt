@@ -97,7 +97,7 @@ module _ (f g : ℕ → Option (Linear ℕ)) (k : ℕ) (made : Linear ℕ) (gain
       ap (λ (o : Option (Linear ℕ)). (if is_some o then 0 else 1) + missing_below g b) (apart b other)
       ∙ ap (λ (n : ℕ). (if is_some (f b) then 0 else 1) + n) rest
 
-  -- and one fewer in all
+  -- one fewer is missing below each greater number, where the form at the number was missing
   pub missing_less : (b : ℕ) → k < b → f k ≡ None → missing_below g b + 1 ≡ missing_below f b
   missing_less zero h none = absurd (omega arith)
   missing_less (suc b) h none =

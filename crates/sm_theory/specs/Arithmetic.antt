@@ -57,7 +57,7 @@ with_constant f c = record { parts = f.parts; constant = c; kind = f.kind }
 abbrev pub difference : Tree → Tree → Kind → Outcome (Linear Tree)
 difference t u k = combination same_tree (linear_of t) (pos 1) (linear_of u) (negsuc 0) k
 
--- the same form, one more
+-- the form with 1 more in its constant
 abbrev pub one_more : {A : Type 0} → Linear A → Outcome (Linear A)
 one_more f =
     then_with (computed op.Add f.constant (pos 1)) (λ (c : ℤ). Fits (with_constant f c))

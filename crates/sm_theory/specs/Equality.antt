@@ -20,7 +20,7 @@ formula_if test f = if test then Some (Formal f) else None
 abbrev pub turned_equation : Sides → Option BranchFact
 turned_equation s = Some (Formal (Eq s.sort s.right s.left))
 
--- the same of a contrary
+-- the other way round: of t ≠ u, u ≠ t
 abbrev pub turned_contrary : Sides → Option BranchFact
 turned_contrary s = Some (Formal (Ne s.sort s.right s.left))
 

@@ -40,7 +40,7 @@ form_by_places terms g =
     followed (parts_by_places terms 0 g.parts)
     (λ ps. where_in_range (record { parts = ps; constant = g.constant; kind = g.kind }))
 
--- the same of forms, in order
+-- forms by the places of their atoms, in order; none where one of them has none
 abbrev pub forms_by_places : List Tree → List (Linear Tree) → Option (List (Linear ℕ))
 forms_by_places terms [] = Some []
 forms_by_places terms (g ∷ gs) =

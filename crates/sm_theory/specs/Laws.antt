@@ -71,7 +71,7 @@ WaysAreSorted =
     AreFactsSorted sorts facts → IsLineSorted sorts line → ways sorts facts line ≡ Some to →
     EachWay (AreFactsSorted sorts) to
 
--- and names no later new value
+-- what a way adds names no new value but of nodes that the facts and the line may name
 abbrev pub WaysAreBelow : Type 0
 WaysAreBelow =
     (sorts : Sorts) (node : ℕ) (facts : List BranchFact) (line : CertificateLine)

@@ -53,7 +53,7 @@ linear_of (Sub t u) =
 linear_of (Mul t u) = product_form (Mul t u) (linear_of t) (linear_of u)
 linear_of (Fun c x args) = atom_form (Fun c x args)
 
--- the same where atoms are told by numbers, in the order of these
+-- the form of a term where atoms are told by numbers, in the order of these
 abbrev pub linear_by : (Tree → ℕ) → Tree → Linear ℕ
 linear_by place (Lit z) = if fits_form z then constant_form z else atom_form (place (Lit z))
 linear_by place (Start x) = atom_form (place (Start x))

@@ -27,7 +27,7 @@ abbrev pub IsFactSorted : Sorts → BranchFact → Type 0
 IsFactSorted sorts (Formal f) = IsFormSorted sorts f
 IsFactSorted sorts (Sum f) = EachAtom (HasSort sorts Num) f.parts × StandOnce f.parts
 
--- the same of each fact
+-- each fact is sorted
 abbrev pub AreFactsSorted : Sorts → List BranchFact → Type 0
 AreFactsSorted sorts [] = Unit {0}
 AreFactsSorted sorts (k ∷ ks) = IsFactSorted sorts k × AreFactsSorted sorts ks
@@ -37,7 +37,7 @@ abbrev pub IsFactBelow : ℕ → BranchFact → Type 0
 IsFactBelow k (Formal f) = IsFormBelow k f
 IsFactBelow k (Sum f) = EachAtom (IsBelow k) f.parts
 
--- the same of each fact
+-- no fact names a new value of node k or of a later one
 abbrev pub AreFactsBelow : ℕ → List BranchFact → Type 0
 AreFactsBelow k [] = Unit {0}
 AreFactsBelow k (f ∷ fs) = IsFactBelow k f × AreFactsBelow k fs

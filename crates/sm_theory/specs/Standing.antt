@@ -63,7 +63,7 @@ CombinedStands =
     HaveOnePlace trees → IsKeptFor trees f g → IsKeptFor trees h i →
     IsOutcomeFor trees (combined f p h q kind) (combination same_tree g p i q kind)
 
--- the same where an atom cancels
+-- sums of forms in which an atom cancels are kept for sums in which its term cancels
 abbrev pub EliminatedStands : Type 0
 EliminatedStands =
     (trees : List Tree) (f h : Linear ℕ) (g i : Linear Tree) (n : ℕ) (t : Tree) →

@@ -30,12 +30,12 @@ abbrev mutual
   with_term (Mul t u) seen = put (Mul t u) (with_term u (with_term t seen))
   with_term (Fun c x args) seen = put (Fun c x args) (with_arguments args seen)
 
-  -- the same of arguments, in order
+  -- arguments behind other terms, in order, each after its own arguments
   pub with_arguments : Arguments → List Tree → List Tree
   with_arguments Over seen = seen
   with_arguments (Given x t rest) seen = with_arguments rest (with_term t seen)
 
--- the same of the terms of a formula
+-- the terms of a formula behind others, each after its arguments
 abbrev pub with_formula : Assertion → List Tree → List Tree
 with_formula Yes seen = seen
 with_formula No seen = seen
@@ -46,7 +46,7 @@ with_formula (Lt t u) seen = with_term u (with_term t seen)
 with_formula (And p q) seen = with_formula q (with_formula p seen)
 with_formula (Or p q) seen = with_formula q (with_formula p seen)
 
--- the same of formulas
+-- the terms of formulas behind others, in order, each after its arguments
 abbrev pub with_formulas : List Assertion → List Tree → List Tree
 with_formulas [] seen = seen
 with_formulas (f ∷ fs) seen = with_formulas fs (with_formula f seen)

@@ -93,7 +93,7 @@ pub fn combined_stands()
     ensures { CombinedStands }
 {}
 
-/// So is a sum in which an atom cancels.
+/// A sum of kept forms in which an atom cancels is kept for that of what they are kept for.
 #[tactic(auto, using(crate::proofs::LinearStanding::eliminated_stands))]
 pub fn eliminated_stands()
     ensures { EliminatedStands }

@@ -38,12 +38,12 @@ pub trait Theory {
     // what is added holds wherever the facts of the branch do
     ghost holds: { (e : Self) → AddsWhatHolds (adds e) };
 
-    // and is sorted where they and the line are
+    // what is added is sorted where the facts of the branch and the line are
     ghost sorted: { (e : Self) → AddsWhatIsSorted (adds e) };
 
-    // and names no new value but of nodes that they and the line may name
+    // what is added names no new value but of nodes that the facts and the line may name
     ghost below: { (e : Self) → AddsWhatIsBelow (adds e) };
 
-    // and is added on each other branch on which the line reads the same
+    // what is added is added on each other branch on which the line reads the same
     ghost anywhere: { (e : Self) → AddsAnywhere (adds e) };
 }

@@ -44,7 +44,7 @@ same_line move same (Clash m n) = ap (λ (i : ℕ). Clash i (move n)) (same m) �
 abbrev pub KeepsNumbers : List ℕ → Type 0
 KeepsNumbers moved = (n : ℕ) → new_number moved n ≡ n
 
--- nor does one behind a line that stays
+-- behind a line that stays no fact gets another number
 keeps_more : (moved : List ℕ) (at k : ℕ) → length moved ≤ at → KeepsNumbers moved → KeepsNumbers (numbered_on moved at at k)
 keeps_more moved at k short keeps n = of (place at k n)
   where

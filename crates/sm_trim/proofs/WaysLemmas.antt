@@ -32,7 +32,7 @@ two_ways (Some (way ∷ [])) n next e = absurd cc
 two_ways (Some (way ∷ other ∷ [])) n next e = (way, other, refl, e)
 two_ways (Some (way ∷ other ∷ third ∷ rest)) n next e = absurd cc
 
--- and the other way round
+-- a line with one way goes on in one way where what follows has no bad line
 pub in_one : (v : Ways) (n : ℕ) (next : List BranchFact → Option ℕ) (way : List BranchFact) → v ≡ Some (way ∷ []) → next way ≡ None →
     in_one_way v n next ≡ None
 in_one v n next way e h = subst (λ (w : Ways). in_one_way w n next ≡ None) (sym e) h

@@ -18,7 +18,7 @@ pub(crate) struct Marks {
     pub facts: u64,
     // Each of them below this is marked.
     pub all: u64,
-    // So are these. Some may be none of the facts, since these were taken off.
+    // Each of these is marked. Some may be none of the facts, since these were taken off.
     pub named: IndexSet<u64>,
 }
 

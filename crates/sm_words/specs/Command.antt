@@ -35,7 +35,7 @@ with_effort command =
     (option_word (codes "workers")))
     (flag_word (codes "exact"))
 
--- and with a limit of time
+-- a command with the options of a search and with a limit of time
 abbrev pub with_limit : App → App
 with_limit command = with_rule (with_effort command) (option_word (codes "seconds"))
 

@@ -29,7 +29,7 @@ abbrev mutual
   IsPlain (Mul t u) = IsPlain t × IsPlain u
   IsPlain (Fun c x args) = ArePlain args
 
-  -- the same of arguments
+  -- arguments have no slot
   pub ArePlain : Arguments → Type 0
   ArePlain Over = Unit {0}
   ArePlain (Given x t rest) = IsPlain t × ArePlain rest
@@ -85,7 +85,7 @@ pub each_more : (P Q : Tree → Type 0) → ((t : Tree) → P t → Q t) → (ts
 each_more P Q more [] b = tt
 each_more P Q more (t ∷ ts) b = (more t b.0, each_more P Q more ts b.1)
 
--- the same of the terms that formulas compare
+-- what follows of each term is so of the terms that a formula compares
 pub side_more : (P Q : Tree → Type 0) → ((t : Tree) → P t → Q t) → (f : Assertion) → EachSide P f → EachSide Q f
 side_more P Q more Yes b = tt
 side_more P Q more No b = tt
@@ -211,7 +211,7 @@ filled_built K plain s all (Mul t u) b = (filled_built K plain s all t b.0, fill
 filled_built K plain s all (Fun c x args) b =
     subst K (ap (λ (ts : Arguments). Fun c x ts) (sym (given_plain s args (plain (Fun c x args) tt b)))) b
 
--- the same of a formula
+-- a formula at stores compares built terms, where terms of the kind have no slots
 pub at_stores_built : (K : Tree → Type 0) → ((t : Tree) → IsAtom t → K t → IsPlain t) → (s : Copy → SymbolicStore) →
     ((c : Copy) → IsStoreBuilt K (s c)) → (f : Assertion) → EachSide (IsBuilt K) f → EachSide (IsBuilt K) (at_stores s f)
 at_stores_built K plain s all Yes b = tt
@@ -223,7 +223,7 @@ at_stores_built K plain s all (Lt t u) b = (filled_built K plain s all t b.0, fi
 at_stores_built K plain s all (And p q) b = (at_stores_built K plain s all p b.0, at_stores_built K plain s all q b.1)
 at_stores_built K plain s all (Or p q) b = (at_stores_built K plain s all p b.0, at_stores_built K plain s all q b.1)
 
--- the same of formulas
+-- formulas at stores compare built terms, where terms of the kind have no slots
 pub all_at_stores_built : (K : Tree → Type 0) → ((t : Tree) → IsAtom t → K t → IsPlain t) → (s : Copy → SymbolicStore) →
     ((c : Copy) → IsStoreBuilt K (s c)) → (fs : List Assertion) → AllSides (IsBuilt K) fs → AllSides (IsBuilt K) (all_at_stores s fs)
 all_at_stores_built K plain s all [] b = tt

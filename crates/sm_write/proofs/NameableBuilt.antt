@@ -61,7 +61,7 @@ any_from {T} test (x ∷ xs) a = of (either_true (test x) (list_any test xs) a) 
 abbrev held_by : List (ℕ × Sort) → State → Tree → Bool
 held_by declared st t = list_any (λ (c : Copy). list_any (λ (d : ℕ × Sort). same_tree t (st.stores c d.0)) declared) copies
 
--- or in one of some states
+-- a term is that of a declared name in one of some states
 abbrev held_in : List (ℕ × Sort) → List State → Tree → Bool
 held_in declared states t = list_any (λ (st : State). held_by declared st t) states
 
@@ -102,7 +102,7 @@ built_passes K known to (Mul t u) b =
     both_true (is_built known t) (is_built known u) (built_passes K known to t b.0) (built_passes K known to u b.1)
 built_passes K known to (Fun c x args) b = to (Fun c x args) tt b
 
--- and by nothing else
+-- what passes the test is built, where all that is known is of the kind
 passes_built : (K : Tree → Type 0) (known : Tree → Bool) → ((t : Tree) → IsTrue (known t) → K t) → (t : Tree) → IsTrue (is_built known t)
     → IsBuilt K t
 passes_built K known from (Lit z) b = tt
@@ -184,7 +184,7 @@ seen_passes declared (st ∷ states) sorted t a (inl h) =
 seen_passes declared (st ∷ states) sorted t a (inr h) =
     right_true (held_by declared st t) (held_in declared states t) (seen_passes declared states sorted.1 t a h)
 
--- and back
+-- a term of a declared name in one of some states was seen
 passes_seen : (declared : List (ℕ × Sort)) (states : List State) (t : Tree) → IsTrue (held_in declared states t) → Seen states t
 passes_seen declared [] t b = absurd cc
 passes_seen declared (st ∷ states) t b =

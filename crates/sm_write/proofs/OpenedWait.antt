@@ -38,7 +38,7 @@ module _ (v : TableValue) where
         opened_stand above facts ss cs ps ys xs fewer others stand,
       )
 
-  -- and can be gone on from
+  -- what a node opens can be gone on from, before others that can
   pub opened_ready : (ss : List Successor) (cs : List Cursor) (ps : NumberedPlans) (xs : List Waiting) → length ss ≡ length cs →
       map numbered_at cs ≡ list_of ps → AreSuccessorsReady (sorts_in v) (trees_in v) ss → ArePlansReady (sorts_in v) (trees_in v) ps →
       AreWaitingReady v xs → AreWaitingReady v (waits_with ss cs ++ xs)

@@ -23,7 +23,7 @@ kept_plain sorts states n (node ∷ nodes) plain = (
   kept_plain sorts states (suc n) nodes plain.1,
 )
 
--- and so can what certificates name
+-- each goal has its certificate, where certificates close the branches of goals and name no term
 shown_plain : (sorts : Sorts) (states : List State) (goals : List Goal) (cs : List Certificate) →
     CloseEach sorts (branches_of goals) cs → ArePlainLines cs → AreShown sorts states goals cs
 shown_plain sorts states [] [] close plain = tt

@@ -156,7 +156,7 @@ record Led (declared : List (ℕ × Sort)) (all : List State) (above k : ℕ) (s
   fine : AreFine (sort_of declared) (seen ++ plan_states k st p)
   counted : length (plan_states k st p) ≡ size p
 
--- the same of plans
+-- plans that are ready, and what is left behind them
 record AllLed (declared : List (ℕ × Sort)) (all : List State) (above k : ℕ) (seen : List State) (states : List State) (ps : Plans)
     (more : List Goal) (nodes : List Node) (cs : List Certificate) : Type 0 where
   left : List Certificate
@@ -231,7 +231,7 @@ mutual
         counted = ap suc (ap (λ (l : List State). length (plans_states (suc k) l ps)) same ∙ rest.counted);
       }
 
-  -- the same of plans
+  -- plans that are writable among others are ready, and the others are left
   plans_led : SortsAreKept → (declared : List (ℕ × Sort)) (all : List State) (ps : Plans) (w : Fault) (above k : ℕ) (seen : List State)
       (states : List State) (ds : List Due) (more : List Goal) (nodes : List Node) (cs : List Certificate) (later : List State) →
       AreFine (sort_of declared) seen → AreStatesSorted (sort_of declared) states → AreWellWith (Seen seen) states → length seen ≡ k →

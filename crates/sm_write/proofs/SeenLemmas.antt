@@ -20,7 +20,7 @@ pub seen_right : (first second : List State) (t : Tree) → Seen second t → Se
 seen_right [] second t h = h
 seen_right (st ∷ first) second t h = inr (seen_right first second t h)
 
--- and back
+-- what was seen among the states of two lists was seen among those of one of them
 seen_parts : (first second : List State) (t : Tree) → Seen (first ++ second) t → Seen first t ⊎ Seen second t
 seen_parts [] second t h = inr h
 seen_parts (st ∷ first) second t (inl h) = inl (inl h)
@@ -85,7 +85,7 @@ solid_held K solid st w = record { plain = plain_of; parts = parts_from }
     parts_from t a (inl k) = each_more (IsBuilt K) (IsBuilt (With K st)) (built_more K (With K st) known) (arguments_of t) (solid.parts t a k)
     parts_from t a (inr h) = subst (λ (u : Tree). EachOf (IsBuilt (With K st)) (arguments_of u)) (sym h.1.1) (w.parts h.0 h.1.0)
 
--- so is a kind of the same atoms
+-- a kind of just the terms of a solid one is solid
 solid_same : (K L : Tree → Type 0) → ((t : Tree) → K t → L t) → ((t : Tree) → L t → K t) → IsSolid K → IsSolid L
 solid_same K L more back solid = record {
   plain = λ (t : Tree) (a : IsAtom t) (l : L t). solid.plain t a (back t l);

@@ -347,7 +347,7 @@ pub cert_readable : (l : NumberedLine) → (are : AreNumbers (numbers_of l)) →
 unfolding shaped headed
 cert_readable l are few = record { within = are; version = tt; short = short_by_count (Cert l) are tt few }
 
--- and the version line
+-- the line of a version from 1 to 3 is read back from its text
 known_readable : (n : ℕ) → 1 ≤ n → n ≤ 3 → IsReadable (Header n)
 unfolding shaped
 known_readable n low high =

@@ -121,7 +121,7 @@ version_counts s exact = by exact s.assumes
     by false true = refl
     by false false = refl
 
--- and tells whether lines `exact` may stand
+-- the version of a file tells whether lines `exact` may stand
 version_tells : (exact assumes : Bool) → has_exact (Header (version_where exact assumes)) ≡ exact
 version_tells true assumes = refl
 version_tells false true = refl

@@ -134,7 +134,7 @@ module _ (s : Subject) (v w : TableValue) (wider : Widens v w) (old mid : Writer
         ready = subst (λ (k : ℕ). AreWaiting s.sorts now k waits ready.mid []) (sym done.nodes) ready.others;
       }
 
-  -- the same from where the plan is underway
+  -- where the plan is underway, the goals of the first node that waits are left once it is written
   pub opening_left : IsUnderway s v old (x ∷ xs) certs → AreGoalsLeft s w mid o xs certs
   opening_left u = by u.waits u.pending u.stand u.ready
     where

@@ -157,7 +157,7 @@ walk_written v old mid new t waiting next line m apart walks none makes adds gai
       others = w.others;
     }
 
--- and goes on at the term that waited last
+-- a walk goes on at the term that waited last
 pub walk_up : (v : TableValue) (old new : WriterValue) (t : ℕ) (waiting before : List ℕ) (next n : ℕ) → Walks v old new t waiting next →
     waiting ≡ before ++ n ∷ [] → Walks v old new t before n
 walk_up v old new t waiting before next n walks is s seen p set built =

@@ -27,7 +27,7 @@ pub number_leads : (trees : List Tree) (names : Names) (terms : List Tree) → A
 number_leads trees names terms are t h =
     ap (λ (o : Option TermId). slice_get terms (number_or o)) h.1 ∙ (are.right t.0 h.0 h.1).1
 
--- and is short
+-- the number of a term in the file is short
 pub number_short : (trees : List Tree) (names : Names) (terms : List Tree) → AreNames trees names terms → (t : TermId) → IsNamed names t →
     file_number names t < 2 ^ 63
 number_short trees names terms are t h =

@@ -26,7 +26,7 @@ pub record HavePair (s : Subject) (v : TableValue) (old new : WriterValue) (p : 
   pub first_low : r.0 < 2 ^ 64
   pub second_low : r.1 < 2 ^ 64
 
--- the same, wherever the terms can be named
+-- two terms get numbers in the file, wherever they can be named
 abbrev pub NamesPair :
     TableValue → WriterValue → WriterValue → TermId → TermId → ℕ × ℕ → Type 0
 NamesPair v old new t u r =
@@ -40,7 +40,7 @@ pub record FormWritten (s : Subject) (v : TableValue) (old new : WriterValue) (p
   pub extends : Extends s (trees_in v) old new p
   pub there : slice_get extends.after.forms n ≡ Some (form_over v f)
 
--- the same, wherever its terms can be named
+-- a sorted formula is written and gets a number, wherever its terms can be named
 abbrev pub WritesForm : TableValue → WriterValue → WriterValue → NumberedFormula → ℕ → Type 0
 WritesForm v old new f n =
     (s : Subject) (seen : List State) (p : Progress) → IsSet s v old seen p →

@@ -58,7 +58,7 @@ pub record OneNamed (s : Subject) (v : TableValue) (old new : WriterValue) (p : 
   pub extends : Extends s (trees_in v) old new p
   pub named : IsAtom (tree_at (trees_in v) t.0) → IsNamed new.names t
 
--- the same, wherever a copy has it at a name
+-- a term gets a number, if it is a new value or a summary, wherever a copy has it at a name
 abbrev pub NamesOne : TableValue → WriterValue → WriterValue → Copy → ℕ → TermId → Type 0
 NamesOne v old new c x t =
     (s : Subject) (seen : List State) (p : Progress) (store : SymbolicStore) →
@@ -72,7 +72,7 @@ pub record HeldNamed (s : Subject) (v : TableValue) (old new : WriterValue) (p :
   pub named :
       (x : ℕ) → x < n → IsAtom (store x) → IsTreeNamed (trees_in v) new.names (store x)
 
--- the same, wherever a copy has these terms
+-- new values and summaries at a store's first names get numbers, wherever a copy has these terms
 abbrev pub NamesHeld :
     TableValue → WriterValue → WriterValue → Copy → List TermId → ℕ → Type 0
 NamesHeld v old new c terms n =
@@ -86,7 +86,7 @@ pub record StoreNamed (s : Subject) (v : TableValue) (old new : WriterValue) (p 
   pub extends : Extends s (trees_in v) old new p
   pub named : (x : ℕ) → IsAtom (store x) → IsTreeNamed (trees_in v) new.names (store x)
 
--- the same, wherever a copy has the store
+-- all new values and summaries of a store get numbers, wherever a copy has the store
 abbrev pub NamesStore : TableValue → WriterValue → WriterValue → Copy → SymbolicStore → Type 0
 NamesStore v old new c store =
     (s : Subject) (seen : List State) (p : Progress) → IsSet s v old seen p → Shows p c store →
@@ -98,7 +98,7 @@ pub record StateNamed (s : Subject) (v : TableValue) (old new : WriterValue) (p 
   pub extends : Extends s (trees_in v) old new p
   pub set : IsSet s v new (seen ++ st ∷ []) extends.after
 
--- the same of each state with these stores
+-- each state with these stores that is due is among those that were seen afterwards
 abbrev pub NamesState :
     TableValue → WriterValue → WriterValue → PerCopy SymStore → Type 0
 NamesState v old new stores =

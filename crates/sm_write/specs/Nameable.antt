@@ -27,7 +27,7 @@ EachSide P (Lt t u) = P t × P u
 EachSide P (And p q) = EachSide P p × EachSide P q
 EachSide P (Or p q) = EachSide P p × EachSide P q
 
--- the same of formulas
+-- something is so of each term that formulas compare
 abbrev pub AllSides : (Tree → Type 0) → List Assertion → Type 0
 AllSides P [] = Unit {0}
 AllSides P (f ∷ fs) = EachSide P f × AllSides P fs
@@ -39,7 +39,7 @@ pub record EachInState (sorts : Sorts) (P : Tree → Type 0) (st : State) : Type
   pub facts : AllSides P st.facts
   pub target : AllSides P st.target
 
--- the same of states
+-- something is so of each term in each state of a list
 abbrev pub EachInStates : Sorts → (Tree → Type 0) → List State → Type 0
 EachInStates sorts P [] = Unit {0}
 EachInStates sorts P (st ∷ states) = EachInState sorts P st × EachInStates sorts P states

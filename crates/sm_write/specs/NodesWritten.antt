@@ -65,7 +65,7 @@ pub record KeepWritten (s : Subject) (v : TableValue) (old new : WriterValue) (p
   pub extends : Extends s (trees_in v) old new p
   pub there : IsKeptAt (sorts_in v) (trees_in v) extends.after.forms r n
 
--- the same, wherever its terms can be named
+-- the formula that a node keeps is written and gets a number, wherever its terms can be named
 abbrev pub WritesKeep : TableValue → WriterValue → WriterValue → NodeRow → ℕ → Type 0
 WritesKeep v old new r n =
     (s : Subject) (seen : List State) (p : Progress) → IsSet s v old seen p →
@@ -81,8 +81,8 @@ pub record NodeWritten (s : Subject) (v : TableValue) (new : WriterValue) (p : P
   pub nodes : after.nodes ≡ suc p.nodes
   pub named : AreSeenNamed (trees_in v) new.names seen
 
--- the same, where a state with these stores is due, the node fits it, and its kept formula is built
--- of what was seen
+-- a node is written, where a state with these stores is due, the node fits it, and its kept
+-- formula is built of what was seen
 abbrev pub WritesNode :
     TableValue → WriterValue → WriterValue → PerCopy SymStore → NodeRow → Type 0
 WritesNode v old new stores r =

@@ -15,7 +15,7 @@ abbrev mutual
   plan_states k st (At node ps) =
       st ∷ plans_states (suc k) (states_opened (opened_by k st node)) ps
 
-  -- the same of plans, each at its state
+  -- the states of the nodes of plans, each plan at its state, of which the first has number k
   pub plans_states : ℕ → List State → Plans → List State
   plans_states k states Over = []
   plans_states k [] (More p ps) = []

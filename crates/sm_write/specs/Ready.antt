@@ -38,7 +38,7 @@ abbrev mutual
       × AreClosed sorts (Seen now) (map (denied st.facts) q.goals) cs mid
       × AreReady sorts now (above_opened node above) (suc k) q.states ps mid left
 
-  -- the same of plans, each at its state
+  -- plans, each at its state, are ready one after the other, the first from node k on
   pub AreReady :
       Sorts → List State → ℕ → ℕ → List State → Plans → List Certificate → List Certificate → Type 0
   AreReady sorts seen above k [] Over cs left = cs ≡ left

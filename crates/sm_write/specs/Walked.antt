@@ -45,7 +45,7 @@ pub record Walked (s : Subject) (v : TableValue) (old new : WriterValue) (seen :
   pub built : IsBuilt (Seen seen) (tree_at (trees_in v) next)
   pub others : AreBuiltAt v seen waiting
 
--- the same, if the writer could name what is built of what was seen
+-- a walk over the parts of a term, if the writer could name what is built of what was seen
 abbrev pub Walks :
     TableValue → WriterValue → WriterValue → ℕ → List ℕ → ℕ → Type 0
 Walks v old new t waiting next =

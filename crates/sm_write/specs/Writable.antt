@@ -84,7 +84,7 @@ IsShort (Next line c) = IsShortLine line × IsShort c
 IsShort (Closed line) = IsShortLine line
 IsShort (Split line c d) = IsShortLine line × IsShort c × IsShort d
 
--- the same of certificates
+-- each line of each certificate has few facts, with short numbers
 abbrev pub AreShort : List Certificate → Type 0
 AreShort [] = Unit {0}
 AreShort (c ∷ cs) = IsShort c × AreShort cs

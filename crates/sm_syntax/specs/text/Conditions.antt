@@ -44,7 +44,7 @@ abbrev pub first_of_all : List (Option Refusal) → Option Refusal
 first_of_all [] = None
 first_of_all (r ∷ rest) = option_or r (first_of_all rest)
 
--- the same question of each copy's list, in the order of the text
+-- the first refusal of the copies' lists, in the order of the text, where there is one
 abbrev pub first_of_lists : (Copy → Option Refusal) → Option Refusal
 first_of_lists of_list = first_of_all (of_list O ∷ of_list A ∷ of_list B ∷ of_list M ∷ [])
 
@@ -137,7 +137,7 @@ expression_depth (Plus d e) = 1 + max (expression_depth d) (expression_depth e)
 expression_depth (Minus d e) = 1 + max (expression_depth d) (expression_depth e)
 expression_depth (Times d e) = 1 + max (expression_depth d) (expression_depth e)
 
--- the same of a condition
+-- the depth of a condition: 1 for a leaf, otherwise 1 more than its deepest part
 abbrev pub condition_depth : Condition → ℕ
 condition_depth Yes = 1
 condition_depth No = 1

@@ -16,10 +16,10 @@ IsAsDeclared sorts x sort = sorts x ≡ Some sort
 abbrev pub IsWellSortedExpression : Sorts → Expression → Type 0
 IsWellSortedExpression sorts = EachName (IsAsDeclared sorts)
 
--- the same of a condition
+-- each name of a condition is declared with the sort that it stands with
 abbrev pub IsWellSortedCondition : Sorts → Condition → Type 0
 IsWellSortedCondition sorts = EachTested (IsAsDeclared sorts)
 
--- the same of code
+-- each name of code is declared with the sort that it stands with
 abbrev pub IsWellSorted : Sorts → Code → Type 0
 IsWellSorted sorts = EachUsed (IsAsDeclared sorts)

@@ -17,7 +17,7 @@ names_in (Plus d e) = names_in d ++ names_in e
 names_in (Minus d e) = names_in d ++ names_in e
 names_in (Times d e) = names_in d ++ names_in e
 
--- the same of a condition
+-- the names of a condition with the sorts with which they stand, in the order of the text
 abbrev pub names_tested : Condition → List (ℕ × Sort)
 names_tested Yes = []
 names_tested No = []
@@ -26,7 +26,7 @@ names_tested (Not b) = names_tested b
 names_tested (And b c) = names_tested b ++ names_tested c
 names_tested (Or b c) = names_tested b ++ names_tested c
 
--- the same of code
+-- the names of code with the sorts with which they stand, in the order of the text
 abbrev pub names_used : Code → List (ℕ × Sort)
 names_used End = []
 names_used (Skip k) = names_used k

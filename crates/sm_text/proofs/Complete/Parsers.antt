@@ -116,7 +116,7 @@ pub grouped-inside : {T : Type 0} (begin close : Mark) (deeper : Option (Parser 
 unfolding grouped
 grouped-inside begin close deeper ts = rw (same_mark begin) refl
 
--- the same where the group's first sign has to stand there
+-- a group whose first sign stands there, as it has to, and what goes on after it
 pub grouped-then : {T U : Type 0} (deeper : Option (Parser T)) (d : ℕ) (begin close : Mark) (ts us : List Marked) (x : T) (z : List Symbol)
     (more : T → Parser U) (a : Result (U × List Symbol) Fault) → Opened deeper d ts x close → more x (unmarked us ++ z) ≡ reach us z a →
     go_on (grouped begin close deeper (s.Mark begin ∷ (unmarked (ts ++ word close ∷ us) ++ z))) more ≡ reach

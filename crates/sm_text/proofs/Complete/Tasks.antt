@@ -297,7 +297,7 @@ read_complete ts t p =
     ∙ whole_read p
     ∙ ap (λ (a : Result (Parts × List Symbol) Fault). r.to_end a) (reach-plain ts [] (Ok (t, [])))
 
--- so is a text that is in the grammar
+-- the symbols of a text that is in the grammar are read as its task
 pub spelled_read : (bytes : List ℕ) (t : Parts) (names : List (List ℕ)) (ts : List Symbol) → IsInGrammar bytes t → names ≡ names_of bytes →
     ts ≡ symbols_of bytes → r.whole names ts ≡ Ok t
 spelled_read bytes t names ts p n e =

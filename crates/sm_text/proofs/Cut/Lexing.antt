@@ -167,7 +167,7 @@ suits x xs f front =
     let P : Front → Type 0 = λ g. Suits (x ∷ xs) g in
     subst P front (IsFront-front_of x xs).suits
 
--- and what it gives
+-- what the front of the bytes that are left gives
 step : (place x : ℕ) (xs : List ℕ) (f : Front) → front_of x (x ∷ xs) ≡ f →
     lexed_from place (x ∷ xs) ≡ by_front f place (λ left. lexed_after left (place + 1) xs)
 step place x xs f front = lexed_from-cons place x xs ∙ ap (λ g. by_front g place (λ left. lexed_after left (place + 1) xs)) front

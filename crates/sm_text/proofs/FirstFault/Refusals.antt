@@ -136,7 +136,7 @@ parser_judges p spells told reads = record {
   reads = λ ts s. let one = reads ts s in ((one.0, []), read_alone p ts (reach ts [] (Ok (one.0, []))) one.1);
 }
 
--- the same where all symbols have to be taken
+-- a parser that has to take all symbols judges by the grammar that it describes and reads
 pub whole_judges : {T : Type 0} (p : Parser T) (spells : Grammar) → Describes p (λ us x. spells us) → Reads p spells →
     Judges (λ ts. r.to_end (p ts)) spells
 whole_judges {T} p spells told reads = record {

@@ -41,7 +41,7 @@ names-take bytes before n ts =
           ∙ grown.1,
     )
 
--- and their symbols are the same, whatever stands after them
+-- the symbols of the first tokens are the same, whatever stands after them
 pub signs-take : (bytes : List ℕ) (before : List (List ℕ)) (n : ℕ) (ts : List Token) →
     take n (token_symbols bytes before ts) ≡ token_symbols bytes before (take n ts)
 signs-take bytes before n ts =

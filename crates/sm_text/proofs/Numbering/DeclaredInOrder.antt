@@ -130,7 +130,7 @@ signs_appear bytes before (t ∷ ts) =
     let F : Symbol → Type 0 = λ u. Appear (length before) (numbers (u ∷ token_symbols bytes now ts)) in
     subst F (sym symbol) (next_symbol t.kind before text (token_symbols bytes now ts) (signs_appear bytes now ts))
 
--- the same of marked symbols
+-- the numbers of the names among marked symbols
 abbrev marked_numbers : List Marked → List ℕ
 marked_numbers [] = []
 marked_numbers ((s.Mark m, b) ∷ ts) = marked_numbers ts

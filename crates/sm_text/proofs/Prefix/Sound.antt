@@ -16,7 +16,7 @@ use Rattle.sm_text.specs.resolving.NameCounts.{names_counted}
 use Rattle.sm_text.proofs.Numbering.Counted.{signs-take, signs-split, cut_names}
 use Rattle.sm_text.proofs.Sound.Parsers.{Takes, Told, Describes}
 
--- the same tokens spell what another grammar says of the same symbols
+-- where symbols that spell x spell y by another grammar, tokens that spell x do as well
 pub respelled : {T U : Type 0} {G : List Marked → T → Type 0} {H : List Marked → U → Type 0} {bytes : List ℕ} {at : ℕ}
     {before : List (List ℕ)} {n : ℕ} {names : List (List ℕ)} {x : T} {y : U} → ((us : List Marked) → G us x → H us y) →
     SpellsFrom G bytes at before n names x → SpellsFrom H bytes at before n names y
@@ -93,7 +93,7 @@ module _ {T : Type 0} (p : Parser T) (G : List Marked → T → Type 0) (bytes :
         grammar = subst G' (sym numbered) (first_read ts x after (n - at) told e (omega (arith, rest, fewer, within)));
       }
 
-  -- so is an answer, with the table cut to the names that its symbols count
+  -- an answer is spelled by the first tokens, with the table cut to the names its symbols count
   pub answered : (at : ℕ) (x : T) (after symbols : List Symbol) (table names : List (List ℕ)) (used n : ℕ) → Describes p G →
       at ≤ length (lexed bytes).0 → symbols ≡ token_symbols bytes before (drop at (lexed bytes).0) → p symbols ≡ Ok (x, after)
       → used ≡ length symbols - length after → n ≡ length (lexed bytes).0 - length after →
@@ -138,7 +138,7 @@ module _ {T : Type 0} (p : Parser T) (G : List Marked → T → Type 0) (bytes :
       let same = answer_same (y, after) (x, it.0) (sym e ∙ it.1) in
       (ap (λ (a : T × List Symbol). a.0) same, ap (λ (a : T × List Symbol). length (lexed bytes).0 - length a.1) same ∙ sym it.2)
 
-  -- and none is refused
+  -- what the first tokens spell isn't refused
   pub read_not_refused : (at n : ℕ) (names : List (List ℕ)) (x : T) (f : Fault) → ReadsAll p G → SpellsFrom G bytes at before n names x →
       p (token_symbols bytes before (drop at (lexed bytes).0)) ≡ Err f → ⊥
   read_not_refused at n names x f reads s e = let it = read_it at n names x reads s in answer_not f (x, it.0) (sym e ∙ it.1)

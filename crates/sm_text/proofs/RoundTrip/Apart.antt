@@ -188,7 +188,7 @@ parts_runs names b c m ends left right =
 comparison_ends : (op : Cmp) → begins (goes_on_mark (comparison op)) (32 ∷ []) ≡ false
 comparison_ends = each_comparison (λ m. begins (goes_on_mark m) (32 ∷ []) ≡ false) refl refl refl refl refl refl
 
--- the same of a condition
+-- a condition's pieces are apart, and so is what follows them where no token goes on with it
 pub condition_runs : (names : List (List ℕ)) (b : Condition) → IsTested names b → RunsBefore names (condition_pieces b)
 condition_runs names Yes good = λ rest apart behind. record { apart = (tt, behind.closed (s.Mark mark.True), apart); safe = refl }
 condition_runs names No good = λ rest apart behind. record { apart = (tt, behind.closed (s.Mark mark.False), apart); safe = refl }

@@ -161,7 +161,7 @@ reads_tested (Not b) = reads_tested b
 reads_tested (And b c) = max (reads_tested b) (reads_tested c)
 reads_tested (Or b c) = max (reads_tested b) (reads_tested c)
 
--- the same of a condition
+-- where d groups are open, a condition's canonical symbols nest nowhere too deep
 pub record FitsTest (d : ℕ) (b : Condition) : Type 0 where
   pub depth : d + condition_depth b ≤ 66
   pub reads : d + reads_tested b ≤ 64

@@ -74,7 +74,7 @@ expression_content (exp.plus {k = k} {ts = ts} {us = us} {e = e} {f = f} left ri
 expression_content (exp.minus {k = k} {ts = ts} {us = us} {e = e} {f = f} left right) =
     both ts (g.joins mark.Minus k ∷ us) (content_of e) (content_of f) (expression_content left) (expression_content right)
 
--- the same of a condition
+-- the names and numbers of a condition
 abbrev pub content_tested : Condition → List Symbol
 content_tested Yes = []
 content_tested No = []
@@ -98,7 +98,7 @@ condition_content (cond.as_disjunction inner) = condition_content inner
 condition_content (cond.either {k = k} {ts = ts} {us = us} {b = b} {c = c} left right) =
     both ts (g.joins mark.Either k ∷ us) (content_tested b) (content_tested c) (condition_content left) (condition_content right)
 
--- the same of code
+-- the names and numbers of code
 abbrev pub content_used : Code → List Symbol
 content_used End = []
 content_used (Skip k) = content_used k

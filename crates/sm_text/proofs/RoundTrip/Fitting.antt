@@ -145,7 +145,7 @@ mutual
       )
   code_fits (stmt.holes h fits more) clean few deep = (fits, code_fits more clean.1.1.1 few (omega (arith, deep)))
 
-  -- and its block
+  -- a block of code that is no deeper than a program may be
   pub block_fits : {d : ℕ} {ts : List Marked} {c : Code} → IsBlock d ts c → IsClean ts → code_depth c + d ≤ 65 → IsPrintable (suc d) c
   block_fits (stmt.block {d = d} {ts = ts} inner) clean deep =
       code_fits inner (clean_left ts (g.word mark.CloseCurly ∷ []) clean.1) (omega (arith, opened d clean.0)) (omega (arith, deep))

@@ -74,7 +74,7 @@ pub condition_has_names : (names : List (List ℕ)) (b : Condition) → HasCondi
 condition_has_names names b h =
     condition_named names b (condition_written names b (all_spelled names (content_tested b) (condition_all names h.0 b h.1)))
 
--- and its canonical text spells it
+-- the canonical text of a condition that some text spells, spells it
 pub condition_back : (names : List (List ℕ)) (b : Condition) → HasConditionText names b → condition_depth b ≤ 64 →
     SpellsCondition names (pieces_text names (condition_pieces b)) b
 condition_back names b h deep =
@@ -92,7 +92,7 @@ condition_back names b h deep =
 block_all : (names : List (List ℕ)) (bytes : List ℕ) (c : Code) → SpellsBlock names bytes c → AllIn names (content_used c)
 block_all names bytes c spells = all_under names bytes (content_used c) spells.text (block_content spells.grammar)
 
--- the same of a block
+-- each name of a block that some text spells has a text
 pub block_has_names : (names : List (List ℕ)) (c : Code) → HasBlockText names c → IsUsedIn (length names) c
 block_has_names names c h = code_named names c (code_written names c (all_spelled names (content_used c) (block_all names h.0 c h.1)))
 
@@ -182,7 +182,7 @@ program_fits (program {ts = ts} {us = us} {vs = vs} p decls outs body) clean dee
     let F : List Marked → Type 0 = λ ms. IsProgram ms p in
     subst F (ap (λ (ms : List Marked). marked d ++ ms) (sym (marked-append x w)) ∙ sym (marked-append d (x ++ w))) it
 
--- and its canonical text spells it
+-- the canonical text of a program that some text spells, spells it
 pub program_back : (p : ProgramParts) → HasProgramText p → code_depth p.body ≤ 64 →
     SpellsProgram (pieces_text p.names (program_pieces p.declared p.outputs p.body)) p
 program_back p h deep =

@@ -78,7 +78,7 @@ symbol_in kind.Word names text good known = by (mark_of_word text) refl known
           among = ap (is_among names) here ∙ known refl;
         }
 
--- and the names that it adds are those of its symbol
+-- the names that a text of a kind adds are those of its symbol
 names_step : (k : TokenKind) (names before : List (List ℕ)) (text : List ℕ) (ss : List Symbol) →
     (is_name k text ≡ true → is_among names text ≡ true) →
     names_by names before (symbol_by k names text ∷ ss) ≡ names_by names (names_with before k text) ss

@@ -83,7 +83,7 @@ spelled_text bytes t spells = task_written t.names t (all_spelled t.names (conte
 pub spelled_named : (t : Parts) → HasText t → IsNamed t
 spelled_named t h = task_named t (spelled_text h.0 t h.1)
 
--- and its canonical text spells it
+-- the canonical text of a task that some text spells, spells it
 pub reads_back : (t : Parts) → HasText t → Spells (pieces_text t.names (task_pieces t)) t
 reads_back t h =
     let ps = task_pieces t in

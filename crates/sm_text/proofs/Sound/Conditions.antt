@@ -74,7 +74,7 @@ comparison_told = choose_by (λ o. r.comparison_if (r.comparison_of o)) (λ ts. 
 abbrev pub IsDisjunction : ℕ → List Marked → Condition → Type 0
 IsDisjunction d us b = IsChain (λ k ts x. IsCondition cond.Disjunction d k ts x) us b
 
--- the same of a conjunction
+-- a conjunction where d groups are open
 abbrev pub IsConjunction : ℕ → List Marked → Condition → Type 0
 IsConjunction d us b = IsChain (λ k ts x. IsCondition cond.Conjunction d k ts x) us b
 

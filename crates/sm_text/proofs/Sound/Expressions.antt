@@ -28,7 +28,7 @@ use Rattle.sm_text.proofs.Sound.Chained.{IsChain, Joins, joins_if, joins_none, c
 abbrev pub IsSum : ℕ → List Marked → Expression → Type 0
 IsSum d us e = IsChain (λ k ts x. IsExpression exp.Sum d k ts x) us e
 
--- the same of a product
+-- a product where d groups are open
 abbrev pub IsProduct : ℕ → List Marked → Expression → Type 0
 IsProduct d us e = IsChain (λ k ts x. IsExpression exp.Product d k ts x) us e
 

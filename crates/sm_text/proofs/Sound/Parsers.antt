@@ -103,7 +103,7 @@ first_again (u ∷ used) us here e = refl
 pub begins-alike : (used us here ts : List Symbol) → ts ≡ used ++ here → first us ≡ first here → first (used ++ us) ≡ first ts
 begins-alike used us here ts split e = first_again used us here e ∙ ap (λ (l : List Symbol). first l) (sym split)
 
--- the same of a parser that answers alike where the same symbol stands first
+-- what is told of a parser is told of one that answers alike where the same symbol stands first
 pub like : {T : Type 0} (p q : Parser T) (P : List Marked → T → Type 0) (ts : List Symbol) (a : Result (T × List Symbol) Fault) →
     ((us : List Symbol) → first us ≡ first ts → q us ≡ p us) → Told p P ts a → Told q P ts a
 like p q P ts (Ok r) same told = record {
@@ -211,7 +211,7 @@ pub bind : {T U : Type 0} {p : Parser T} {P : List Marked → T → Type 0} {nex
 bind {p = p} {P = P} {next = next} {Q = Q} d e =
     record { tells = λ ts. bound p P next Q ts (p ts) (d.tells ts) e; possible = possibly-both p P next Q d.possible (λ x. (e x).possible) }
 
--- the same, where nothing is kept of the first
+-- one parser and then another, where nothing is kept of the first
 pub both : {T U : Type 0} {p : Parser T} {P : List Marked → T → Type 0} {q : Parser U} {Q : List Marked → U → Type 0} → Describes p P →
     Describes q Q → Describes (p >> q) (Both P (λ _. Q))
 both {p = p} {P = P} {q = q} {Q = Q} d e =

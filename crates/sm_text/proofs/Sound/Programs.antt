@@ -86,7 +86,7 @@ program_complete ts t it =
     ∙ ap end (program_read it [])
     ∙ ap end (reach-plain ts [] (Ok (t, [])))
 
--- so is the program that a text spells
+-- the program that a text spells is read to its end
 spelled_read : (bytes : List ℕ) (t : ProgramParts) (names : List (List ℕ)) (ts : List Symbol) → SpellsProgram bytes t →
     names ≡ names_of bytes → ts ≡ symbols_of bytes → p.whole_program names ts ≡ Ok t
 spelled_read bytes t names ts spells n e =

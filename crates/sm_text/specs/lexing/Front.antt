@@ -4,7 +4,7 @@ use Rattle.sm_syntax.specs.text.Tokens as rule
 use Rattle.sm_text.specs.declared.lexing.front.Front.{Front}
 use Rattle.sm_text.specs.declared.lexing.front.Front.TheVariants.{Gap, Piece, Fault}
 
--- the same front
+-- the front in the words of the token rules
 abbrev pub seen : Front → rule.Front
 seen (Gap size) = rule.Gap size
 seen (Piece kind size) = rule.Piece kind size

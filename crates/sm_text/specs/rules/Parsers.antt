@@ -40,7 +40,7 @@ infixl 10 ◌>>=◌
 abbrev pub ◌>>=◌ : {A B : Type 0} → Parser A → (A → Parser B) → Parser B
 (p >>= next) ts = go_on (p ts) next
 
--- the same, where nothing is kept of the first
+-- one parser and then another, where nothing is kept of the first
 infixl 10 ◌>>◌
 abbrev pub ◌>>◌ : {A B : Type 0} → Parser A → Parser B → Parser B
 (p >> q) ts = go_on (p ts) (λ _. q)
@@ -80,7 +80,7 @@ gather_in begins one put (suc n) before ts =
     if begins (first ts) then go_on (one ts) (λ x. gather_in begins one put n (put before x))
     else Ok (before, ts)
 
--- the same with enough items
+-- reads an item as long as one begins, and puts it to what was gathered before
 unfoldable pub gather : {A B : Type 0} → (Option Symbol → Bool) → Parser A → (B → A → B) → B →
     Parser B
 gather begins one put before ts = gather_in begins one put (suc (length ts)) before ts

@@ -126,7 +126,7 @@ abbrev pub by_rest : {T : Type 0} → T → List Symbol → Result T Fault
 by_rest x [] = Ok x
 by_rest x (t ∷ ts) = Err (fault Expected (t ∷ ts))
 
--- the same of an answer
+-- what an answer has read, where no symbol is left
 abbrev pub to_end : {T : Type 0} → Result (T × List Symbol) Fault → Result T Fault
 to_end (Err f) = Err f
 to_end (Ok r) = by_rest r.0 r.1

@@ -18,7 +18,7 @@ returns-then-part-t-clause-value c =
     sym c.loop-part.invariant ∙ ap (coefficient same_atom c.args.t) c.deref-part-items.ensures.value ∙
     ap (λ (f : Linear ℕ). coefficient same_atom c.args.t f.parts) c.self.view_is
 
--- and is in the range
+-- the coefficient of the part that was found is in the range
 pub returns-then-part-t-clause-range : goal.returns-then-part-t-clause-range
 returns-then-part-t-clause-range c =
     let items = c.deref-part-items.result.now in
