@@ -15,12 +15,18 @@ use sm_theory::Branch;
 use std::alloc::{AllocError, Global};
 
 /// The declared names, a table over them, and a branch whose facts are over its terms.
-#[derive(Drop)]
 pub struct Scene {
     pub decls: Decls,
     pub table: TermTable,
     pub branch: Branch,
     ghost declared: { sorts_in table ≡ sort_of (declared_of decls) },
+}
+
+// One call ends a value, and not one for each field: proofs of what has it stay small.
+impl Drop for Scene {
+    fn drop(self) {
+        let Self { decls: _, table: _, branch: _ } = self;
+    }
 }
 
 impl Scene {

@@ -82,10 +82,16 @@ pub fn task_in<H: Shelf>(alloc: Global, shelf: &mut H, name: &str) -> Result<Tas
 }
 
 /// A task, and the text that spells it.
-#[derive(Drop)]
 pub struct Spelled {
     pub text: Vec<u8>,
     pub task: Task,
+}
+
+// One call ends a value, and not one for each field: proofs of what has it stay small.
+impl Drop for Spelled {
+    fn drop(self) {
+        let Self { text: _, task: _ } = self;
+    }
 }
 
 /// The task that a file's bytes spell, with these bytes.

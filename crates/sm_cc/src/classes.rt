@@ -29,13 +29,19 @@ pub struct GivenFact {
 
 /// Classes of terms of a table: which are equal by the rules of equality, arrays and linear forms,
 /// and by what is given. Of a term that isn't in the list nothing is known.
-#[derive(Drop)]
 pub struct Classes<'a> {
     pub(crate) table: &'a TermTable,
     pub(crate) terms: &'a [TermId],
     given: Vec<GivenFact>,
     pub(crate) positions: Positions,
     pub(crate) places: PlaceClasses,
+}
+
+// One call ends a value, and not one for each field: proofs of what has it stay small.
+impl Drop for Classes<'_> {
+    fn drop(self) {
+        let Self { table: _, terms: _, given: _, positions: _, places: _ } = self;
+    }
 }
 
 impl<'a> Model for Classes<'a> {

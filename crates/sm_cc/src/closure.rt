@@ -10,7 +10,6 @@ use crate::row::Row;
 use std::alloc::{AllocError, Global};
 
 /// The classes of places: each place equals the label of its class.
-#[derive(Drop)]
 pub(crate) struct Closure {
     pub(crate) rows: Vec<Row>,
     pub(crate) equal: Vec<Given>,
@@ -19,6 +18,13 @@ pub(crate) struct Closure {
     pub(crate) entries: Vec<Entry>,
     /// For each place the equation of it and its label.
     pub(crate) roots: Vec<Equation>,
+}
+
+// One call ends a value, and not one for each field: proofs of what has it stay small.
+impl Drop for Closure {
+    fn drop(self) {
+        let Self { rows: _, equal: _, unequal: _, entries: _, roots: _ } = self;
+    }
 }
 
 // Adds an entry, which has the next number.

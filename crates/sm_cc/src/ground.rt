@@ -44,10 +44,16 @@ pub struct Numbering {
 }
 
 /// Classes that others begin with, and what their terms are numbered by.
-#[derive(Drop)]
 pub struct Grounded {
     pub ground: Ground,
     pub numbering: Numbering,
+}
+
+// One call ends a value, and not one for each field: proofs of what has it stay small.
+impl Drop for Grounded {
+    fn drop(self) {
+        let Self { ground: _, numbering: _ } = self;
+    }
 }
 
 impl Ground {

@@ -25,9 +25,15 @@ use std::marker::Model;
 use std::mem;
 
 /// Classes of equal places.
-#[derive(Drop)]
 pub(crate) struct PlaceClasses {
     inside: Closure,
+}
+
+// One call ends a value, and not one for each field: proofs of what has it stay small.
+impl Drop for PlaceClasses {
+    fn drop(self) {
+        let Self { inside: _ } = self;
+    }
 }
 
 impl Model for PlaceClasses {

@@ -17,7 +17,6 @@ use std::alloc::{AllocError, Global};
 use std::collections::HashMap;
 
 /// The first places of the terms of a list, by their numbers.
-#[derive(Drop)]
 pub(crate) struct Positions {
     // by the number of the term; a number past the end has none
     places: Vec<Option<u64>>,
@@ -25,6 +24,13 @@ pub(crate) struct Positions {
     reads: HashMap<(u64, u64), u64>,
     // the place of every term that isn't in the list
     count: u64,
+}
+
+// One call ends a value, and not one for each field: proofs of what has it stay small.
+impl Drop for Positions {
+    fn drop(self) {
+        let Self { places: _, reads: _, count: _ } = self;
+    }
 }
 
 impl Positions {

@@ -30,11 +30,17 @@ use std::alloc::{AllocError, Global};
 use std::rc::Rc;
 
 // A branch that is closed alone: nothing of the rest of the proof waits behind it.
-#[derive(Drop)]
 struct Alone<'a> {
     path: Branch,
     due: Option<Due<'a>>,
     waiting: Vec<Waiting<'a>>,
+}
+
+// One call ends a value, and not one for each field: proofs of what has it stay small.
+impl Drop for Alone<'_> {
+    fn drop(self) {
+        let Self { path: _, due: _, waiting: _ } = self;
+    }
 }
 
 /// Whether ended lines are read, where lines `exact` may stand or may not, and close the branch of

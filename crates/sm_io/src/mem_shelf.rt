@@ -13,7 +13,6 @@ use std::collections::BTreeMap;
 
 /// A shelf of files in memory, which tells all that they hold. Calls of `Shelf` are counted from 0,
 /// and those whose numbers were given fail.
-#[derive(Drop)]
 pub struct MemShelf {
     alloc: Global,
     files: BTreeMap<String, Vec<u8>>,
@@ -21,6 +20,13 @@ pub struct MemShelf {
     read_faults: u64,
     write_faults: u64,
     log: ReadLog,
+}
+
+// One call ends a value, and not one for each field: proofs of what has it stay small.
+impl Drop for MemShelf {
+    fn drop(self) {
+        let Self { alloc: _, files: _, calls: _, read_faults: _, write_faults: _, log: _ } = self;
+    }
 }
 
 impl MemShelf {

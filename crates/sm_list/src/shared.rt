@@ -22,7 +22,6 @@ use sm_terms::list_formula;
 use std::alloc::{AllocError, Global};
 
 /// Terms of a table in a table of their own, where the number of each is its place in the list.
-#[derive(Drop)]
 pub struct SharedTerms {
     /// Their own table.
     pub own: TermTable,
@@ -30,6 +29,13 @@ pub struct SharedTerms {
     pub listed: IndexSet<u64>,
     /// For each number of the other table that of their own, where the term is there.
     pub numbers: Vec<TermId>,
+}
+
+// One call ends a value, and not one for each field: proofs of what has it stay small.
+impl Drop for SharedTerms {
+    fn drop(self) {
+        let Self { own: _, listed: _, numbers: _ } = self;
+    }
 }
 
 /// Facts over a table of their terms.

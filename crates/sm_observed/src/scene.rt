@@ -18,12 +18,18 @@ pub(crate) struct CopyCell {
 
 /// What runs show at a site: the visits, the indices at which formulas about cells are tried at
 /// each of them, and the terms that the copies have there for their numbers as they enter.
-#[derive(Drop)]
 pub(crate) struct Scene<'s> {
     pub(crate) inputs: &'s [Store],
     pub(crate) visits: &'s Visits,
     pub(crate) cells: Vec<Vec<i128>>,
     pub(crate) entered: HashMap<u64, CopyCell>,
+}
+
+// One call ends a value, and not one for each field: proofs of what has it stay small.
+impl Drop for Scene<'_> {
+    fn drop(self) {
+        let Self { inputs: _, visits: _, cells: _, entered: _ } = self;
+    }
 }
 
 /// A visit with its entry and the input of its runs.

@@ -52,12 +52,18 @@ impl CopyName {
 }
 
 /// One of something for each copy.
-#[derive(Drop)]
 pub struct PerCopy<T> {
     pub base: T,
     pub variant_a: T,
     pub variant_b: T,
     pub candidate: T,
+}
+
+// One call ends a value, and not one for each field: proofs of what has it stay small.
+impl<T: Drop> Drop for PerCopy<T> {
+    fn drop(self) {
+        let Self { base: _, variant_a: _, variant_b: _, candidate: _ } = self;
+    }
 }
 
 impl<T> PerCopy<T> {

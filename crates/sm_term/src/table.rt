@@ -18,12 +18,18 @@ use std::collections::HashMap;
 use std::marker::Model;
 
 /// Terms without repeats, which know the sorts of names. A term's number is its place.
-#[derive(Drop)]
 pub struct TermTable {
     pub(crate) decls: Decls,
     pub(crate) sorts: HashMap<u32, Sort>,
     pub(crate) bodies: IndexSet<Body>,
     pub(crate) terms: IndexSet<Term>,
+}
+
+// One call ends a value, and not one for each field: proofs of what has it stay small.
+impl Drop for TermTable {
+    fn drop(self) {
+        let Self { decls: _, sorts: _, bodies: _, terms: _ } = self;
+    }
 }
 
 impl Model for TermTable {
