@@ -25,7 +25,11 @@ pub struct Scene {
 // One call ends a value, and not one for each field: proofs of what has it stay small.
 impl Drop for Scene {
     fn drop(self) {
-        let Self { decls: _, table: _, branch: _ } = self;
+        let Self {
+            decls: _,
+            table: _,
+            branch: _,
+        } = self;
     }
 }
 

@@ -7,7 +7,7 @@ use Rattle.std.proofs.lemmas.List.{length-map}
 use Rattle.sm_syntax.specs.claim.ConflictFree.{Copy}
 use Rattle.sm_syntax.specs.trees.Copies.{of_copy}
 use Rattle.sm_term.specs.Assertions.{Assertion}
-use Rattle.sm_term.specs.TableLaws.{AreTreesSorted, Widens}
+use Rattle.sm_term.specs.TableLaws.{AreTreesSorted, ExtendsTable}
 use Rattle.sm_term.specs.Tables.{TableValue, trees_in, sorts_in}
 use Rattle.sm_plan.specs.declared.opening.Opened.{Opened}
 use Rattle.sm_plan.specs.Nodes as plain
@@ -68,7 +68,7 @@ drop_rest [] (suc k) x ys e = absurd cc
 drop_rest (y ∷ xs) zero x ys e = let rest : xs ≡ ys = cc in rest
 drop_rest (y ∷ xs) (suc k) x ys e = drop_rest xs k x ys e
 
-module _ (states : List State) (v w : TableValue) (wider : Widens v w) (k : ℕ) (since after : List (Option ℕ)) (x : Waiting)
+module _ (states : List State) (v w : TableValue) (wider : ExtendsTable v w) (k : ℕ) (since after : List (Option ℕ)) (x : Waiting)
     (xs : List Waiting) (o : Opened × Vec Cursor Global) (good : AreTreesSorted (sorts_in v) (trees_in v))
     (ready : AreWaitingReady v (x ∷ xs)) (opens : OpensAs v w k x.state x.cursor o)
     (noted : AreSince (sorts_in v) states (trees_in v) since →

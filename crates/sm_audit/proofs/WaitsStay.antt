@@ -2,7 +2,7 @@
 use Rattle.std.proofs.Common.{◌≡◌, ℕ, ◌<◌, Option, Some, List, [], ◌∷◌, length, sym, subst, ◌∙◌, arith}
 use Rattle.sm_syntax.specs.text.Sorts.{Sorts}
 use Rattle.sm_term.specs.Tables.{TableValue, trees_in, sorts_in, tree_at}
-use Rattle.sm_term.specs.TableLaws.{Widens}
+use Rattle.sm_term.specs.TableLaws.{ExtendsTable}
 use Rattle.sm_plan.specs.States.{State}
 use Rattle.sm_plan.proofs.TablesWiden.{longer, tree_stays, state_stays, state_ready}
 use Rattle.sm_expand.specs.Cursors.{numbered_at}
@@ -13,7 +13,7 @@ use Rattle.sm_audit.specs.declared.noting.Waiting.{Waiting}
 use Rattle.sm_audit.specs.Since.{entry_of, IsNamedFrom, AreSince}
 use Rattle.sm_audit.specs.Walks.{Waits, StandsFor, AllStandFor, IsWaitingReady, AreWaitingReady}
 
-module _ (v w : TableValue) (wider : Widens v w) where
+module _ (v w : TableValue) (wider : ExtendsTable v w) where
   -- entries
   pub since_stays : (states : List State) (since : List (Option ℕ)) → AreSince (sorts_in v) states (trees_in v) since →
       AreSince (sorts_in w) states (trees_in w) since

@@ -3,7 +3,7 @@ ghost use Rattle.std.specs.Prelude.{◌≡◌, Ok, IfOk};
 ghost use Rattle.sm_syntax.specs.text.Parts.{sort_of, task_of};
 ghost use Rattle.sm_syntax.specs.trees.Programs.{declared_of};
 ghost use Rattle.sm_term.specs.Tables.{trees_in, sorts_in};
-ghost use Rattle.sm_term.specs.TableLaws.{Widens};
+ghost use Rattle.sm_term.specs.TableLaws.{ExtendsTable};
 ghost use Rattle.sm_text.specs.Tasks.{parts_of};
 ghost use Rattle.sm_task.specs.Filling.{AreFilled};
 ghost use Rattle.sm_plan.specs.Plans.{obligations};
@@ -37,7 +37,7 @@ pub(crate) fn dues_of(
         ≡ Ok (dues_in (sorts_in table.new) (trees_in table.new) o.list.items)) }
     ensures ready { IfOk result (λ o.
         AreDuesReady (sorts_in table.new) (trees_in table.new) o.list.items) }
-    ensures widens { Widens table.old table.new }
+    ensures widens { ExtendsTable table.old table.new }
 {
     let shared = &task.shared;
     let assumed = task.assumed.as_ref();

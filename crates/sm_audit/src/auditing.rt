@@ -3,7 +3,7 @@ ghost use Rattle.std.specs.Prelude.{◌≡◌, true, false, length, map, IfOk, O
 ghost use Rattle.sm_syntax.specs.text.Parts.{sort_of, task_of};
 ghost use Rattle.sm_syntax.specs.trees.Programs.{declared_of};
 ghost use Rattle.sm_term.specs.Tables.{trees_in, sorts_in};
-ghost use Rattle.sm_term.specs.TableLaws.{Widens};
+ghost use Rattle.sm_term.specs.TableLaws.{ExtendsTable};
 ghost use Rattle.sm_cert.specs.Views.{certificate_in};
 ghost use Rattle.sm_plan.specs.SortedStates.{IsTaskSorted};
 ghost use Rattle.sm_plan.specs.Starts.{AreNumbered};
@@ -49,7 +49,7 @@ pub fn is_writable(
         (map (certificate_in terms) trees.now)) }
 
     // Each term keeps its number.
-    ensures widens { Widens table.old table.new }
+    ensures widens { ExtendsTable table.old table.new }
     ensures unchanged { IfOk result (λ b. b ≡ false → trees_in table.new ≡ trees_in table.old) }
     ensures err { OnErr result (trees_in table.new ≡ trees_in table.old) }
 {
@@ -91,7 +91,7 @@ fn check_all(
     ensures writable { let terms = trees_in table.new in OnOk result
         (IsWritable (parts_of task.now) (plan_in (sorts_in table.new) terms plan.now)
         (map (certificate_in terms) trees.now)) }
-    ensures widens { Widens table.old table.new }
+    ensures widens { ExtendsTable table.old table.new }
 {
     if !is_plan_ready(table, plan, 1000) {
         return Err(Refusal::Unfit);

@@ -4,7 +4,7 @@ ghost use Rattle.sm_syntax.specs.claim.ConflictFree.{Copy};
 ghost use Rattle.sm_syntax.specs.text.Sorts.{Sorts};
 ghost use Rattle.sm_syntax.specs.trees.Copies.{of_copy};
 ghost use Rattle.sm_term.specs.Tables.{trees_in, sorts_in};
-ghost use Rattle.sm_term.specs.TableLaws.{Widens};
+ghost use Rattle.sm_term.specs.TableLaws.{ExtendsTable};
 ghost use Rattle.sm_term.specs.Terms.{Tree};
 ghost use Rattle.sm_plan.specs.Plans.{nodes_of};
 ghost use Rattle.sm_plan.specs.States.{State};
@@ -113,7 +113,7 @@ fn note_node<'a, 'p>(
     // A node fewer waits.
     ensures fewer { OnOk result (weight (reverse waiting.new.items)
         < weight (next.entry ∷ reverse waiting.old.items)) }
-    ensures widens { Widens table.old table.new }
+    ensures widens { ExtendsTable table.old table.new }
 {
     let row = match row_at(&next.cursor) {
         Some(row) => row,
@@ -144,7 +144,7 @@ pub(crate) fn note_nodes<'p>(
     ensures states { (states : List State) →
         IsUnderway states table.old 0 since.old.items (first.entry ∷ []) → OnOk result
         (AreSince (sorts_in table.new) states (trees_in table.new) since.new.items) }
-    ensures widens { Widens table.old table.new }
+    ensures widens { ExtendsTable table.old table.new }
 {
     let mut rows = Vec::new(alloc);
     let mut waiting = Vec::new(alloc);

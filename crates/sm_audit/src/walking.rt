@@ -4,7 +4,7 @@ ghost use Rattle.sm_syntax.specs.text.Parts.{sort_of, task_of};
 ghost use Rattle.sm_syntax.specs.text.Sorts.{Sorts};
 ghost use Rattle.sm_syntax.specs.trees.Programs.{declared_of};
 ghost use Rattle.sm_term.specs.Tables.{trees_in, sorts_in};
-ghost use Rattle.sm_term.specs.TableLaws.{Widens};
+ghost use Rattle.sm_term.specs.TableLaws.{ExtendsTable};
 ghost use Rattle.sm_term.specs.Terms.{Tree};
 ghost use Rattle.sm_text.specs.Tasks.{parts_of};
 ghost use Rattle.sm_task.specs.Filling.{AreFilled};
@@ -47,7 +47,7 @@ pub(crate) fn walk<'p>(
         IfOk result (λ r. AreSince (sorts_in table.new) states (trees_in table.new) r.0.items) }
     ensures rows { (sorts : Sorts) (trees : List Tree) → IfOk result (λ r.
         map (node_in sorts trees) r.1.items ≡ nodes_of (plan_in sorts trees plan.now)) }
-    ensures widens { Widens table.old table.new }
+    ensures widens { ExtendsTable table.old table.new }
 {
     let shared = &task.shared;
     let assumed = task.assumed.as_ref();

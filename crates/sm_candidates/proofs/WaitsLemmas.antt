@@ -2,7 +2,7 @@
 use Rattle.std.proofs.Common.{◌≡◌, List, [], ◌∷◌, ◌++◌, map, drop, get_or, sym, ap, subst}
 use Rattle.sm_syntax.specs.text.Sorts.{Sorts}
 use Rattle.sm_term.specs.Tables.{TableValue, trees_in, sorts_in}
-use Rattle.sm_term.specs.TableLaws.{Widens}
+use Rattle.sm_term.specs.TableLaws.{ExtendsTable}
 use Rattle.sm_term.specs.Terms.{Tree}
 use Rattle.sm_plan.specs.declared.opening.Successor.{Successor}
 use Rattle.sm_plan.specs.ReadyStates.{IsSuccessorReady, AreSuccessorsReady}
@@ -15,13 +15,13 @@ use Rattle.sm_candidates.specs.declared.walking.Waiting.{Waiting}
 use Rattle.sm_candidates.specs.Waits.{IsPlaceReady, ArePlacesReady, IsWaitingReady, AreWaitingReady}
 
 -- what waits stays ready while the table widens
-pub one_stays : (v w : TableValue) → Widens v w → (x : Waiting) → IsWaitingReady v x → IsWaitingReady w x
+pub one_stays : (v w : TableValue) → ExtendsTable v w → (x : Waiting) → IsWaitingReady v x → IsWaitingReady w x
 one_stays v w wider x r = record {
   state = state_ready v w wider x.state r.state;
   place = plan_ready v w wider (numbered_at x.cursor) r.place;
 }
 
-pub all_stay : (v w : TableValue) → Widens v w → (xs : List Waiting) → AreWaitingReady v xs → AreWaitingReady w xs
+pub all_stay : (v w : TableValue) → ExtendsTable v w → (xs : List Waiting) → AreWaitingReady v xs → AreWaitingReady w xs
 all_stay v w wider [] r = tt
 all_stay v w wider (x ∷ xs) r = (one_stays v w wider x r.0, all_stay v w wider xs r.1)
 

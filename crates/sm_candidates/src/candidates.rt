@@ -1,7 +1,7 @@
 // The candidates of all sites, which are found on a walk over the states of a plan.
 ghost use Rattle.std.specs.Prelude.{◌≡◌, true, IfOk, OnOk};
 ghost use Rattle.sm_term.specs.Tables.{trees_in, sorts_in};
-ghost use Rattle.sm_term.specs.TableLaws.{Widens};
+ghost use Rattle.sm_term.specs.TableLaws.{ExtendsTable};
 ghost use Rattle.sm_plan.specs.ReadyStates.{IsStateReady};
 ghost use Rattle.sm_candidates.specs.Subjects.{IsSubject, IsTableOf};
 ghost use Rattle.sm_candidates.specs.Waits.{AreWaitingReady};
@@ -55,7 +55,7 @@ fn put_site(
     requires subject { IsSubject subject.now }
     requires declared { IsTableOf subject.now.task.now table.old }
     requires state { IsStateReady (sorts_in table.old) (trees_in table.old) next.now.state }
-    ensures { OnOk result (Widens table.old table.new) }
+    ensures { OnOk result (ExtendsTable table.old table.new) }
 {
     let Some(state) = loop_at(alloc, &next.state, &next.cursor)? else {
         return Ok(());
@@ -101,7 +101,7 @@ fn take_next<'a, 'p>(
     requires waiting { AreWaitingReady table.old walk.old.waiting.items }
     ensures waiting { IfOk result (λ b. b ≡ true →
         AreWaitingReady table.new walk.new.waiting.items) }
-    ensures widens { OnOk result (Widens table.old table.new) }
+    ensures widens { OnOk result (ExtendsTable table.old table.new) }
 {
     let Some(next) = walk.waiting.pop() else {
         return Ok(false);
@@ -147,7 +147,7 @@ fn start_walk<'t, 'd>(
     requires subject { IsSubject subject.now }
     requires declared { IsTableOf subject.now.task.now table.old }
     ensures waiting { IfOk result (λ w. AreWaitingReady table.new w.waiting.items) }
-    ensures widens { OnOk result (Widens table.old table.new) }
+    ensures widens { OnOk result (ExtendsTable table.old table.new) }
 {
     let state = start_of_programs(alloc, table, subject)?;
     let waiting = first_waiting(alloc, table, state, &drawing.plan)?;

@@ -1,7 +1,7 @@
 // The walk over the states of a plan.
 ghost use Rattle.std.specs.Prelude.{IfOk, OnOk};
 ghost use Rattle.sm_term.specs.Tables.{TableValue, trees_in, sorts_in};
-ghost use Rattle.sm_term.specs.TableLaws.{Widens};
+ghost use Rattle.sm_term.specs.TableLaws.{ExtendsTable};
 ghost use Rattle.sm_plan.specs.ReadyStates.{IsSuccessorReady, AreSuccessorsReady, IsStateReady};
 ghost use Rattle.sm_candidates.specs.Subjects.{IsSubject, IsTableOf};
 ghost use Rattle.sm_candidates.specs.Waits.{IsPlaceReady, ArePlacesReady, IsWaitingReady};
@@ -29,7 +29,7 @@ pub(crate) fn start_of_programs<'t>(
     requires subject { IsSubject subject.now }
     requires declared { IsTableOf subject.now.task.now table.old }
     ensures ready { IfOk result (IsStateReady (sorts_in table.new) (trees_in table.new)) }
-    ensures widens { Widens table.old table.new }
+    ensures widens { ExtendsTable table.old table.new }
 {
     let shared = &subject.task.shared;
     let assumed = subject.task.assumed.as_ref();
@@ -89,7 +89,7 @@ pub(crate) fn take_node<'a, 'p>(
     requires next { IsWaitingReady table.old next }
     requires waiting { AreWaitingReady table.old waiting.old.items }
     ensures ready { OnOk result (AreWaitingReady table.new waiting.new.items) }
-    ensures widens { Widens table.old table.new }
+    ensures widens { ExtendsTable table.old table.new }
 {
     let (opened, cursors) = open_at(alloc, table, number, next.state, &next.cursor)?;
     put_states(waiting, opened.states, cursors)?;

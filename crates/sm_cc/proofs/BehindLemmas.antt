@@ -12,8 +12,8 @@ use Rattle.sm_cc.specs.declared.row.Element.{Element}
 use Rattle.sm_cc.specs.declared.log.Equation.{Equation}
 use Rattle.sm_cc.specs.declared.log.Known.TheVariants.{Equal}
 use Rattle.sm_cc.specs.declared.closure.Closure.{Closure}
-use Rattle.sm_cc.specs.declared.ground.Ground.{Ground}
-use Rattle.sm_cc.specs.declared.behind.Looked.{Looked}
+use Rattle.sm_cc.specs.declared.ground.BaseClasses.{BaseClasses}
+use Rattle.sm_cc.specs.declared.behind.Scanned.{Scanned}
 use Rattle.sm_cc.specs.Classes.{if_there}
 use Rattle.sm_cc.specs.Rows.{Board, PlacePairs, is_listed, rows_pass, one_head, shapes_pass, places_apart, equal_places}
 use Rattle.sm_cc.specs.Rows.{ArePlacesClosed, SamePlaces}
@@ -22,10 +22,10 @@ use Rattle.sm_cc.specs.Closures.{are_together, board_of}
 use Rattle.sm_cc.specs.Settled.{pair_brings}
 use Rattle.sm_cc.specs.Exact.{IsExact}
 use Rattle.sm_cc.specs.Firsts.{Keyed, label_at, with_labels, row_key, shape_key}
-use Rattle.sm_cc.specs.Ground.{AreBelow, AreInside}
+use Rattle.sm_cc.specs.BaseClasses.{AreBelow, AreInside}
 use Rattle.sm_cc.specs.Labels.{AreLabels}
-use Rattle.sm_cc.specs.Looked.{IsBehind, seen, headed_in, AreNew, AreLooked}
-use Rattle.sm_cc.specs.Looked.{has_labels, are_parted, IsQuiet, IsQuietBehind, AreQuiet}
+use Rattle.sm_cc.specs.Scanned.{IsBehind, seen, headed_in, AreNew, AreLooked}
+use Rattle.sm_cc.specs.Scanned.{has_labels, are_parted, IsQuiet, IsQuietBehind, AreQuiet}
 use Rattle.sm_cc.proofs.FirstsLemmas.{alike_keys, headed_keys}
 use Rattle.sm_cc.proofs.FreshLemmas.{IsUnder, AddsPlaces, brings_hit, brings_listed, element_before, element_below, SayNothing}
 use Rattle.sm_cc.proofs.FreshLemmas.{apart_before, not_apart, IsReadSo, quiet_so, old_read_so, added_are_closed}
@@ -88,7 +88,7 @@ neither : (a b : Bool) → (a || b) ≡ false → (a ≡ false) × (b ≡ false)
 neither false b h = (refl, h)
 neither true b h = absurd (true≢false h)
 
-module _ (g : Ground) (more : List Row) (s : Looked) (looked : AreLooked g more s) (b : Board) (behind : IsBehind g.closure more b) where
+module _ (g : BaseClasses) (more : List Row) (s : Scanned) (looked : AreLooked g more s) (b : Board) (behind : IsBehind g.closure more b) where
   abbrev first : ℕ
   first = length g.closure.rows.items
 

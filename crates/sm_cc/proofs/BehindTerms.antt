@@ -13,22 +13,22 @@ use Rattle.sm_term.specs.TableLaws.{AreApart, AreCodesApart}
 use Rattle.sm_cc.specs.declared.classes.GivenFact.{GivenFact}
 use Rattle.sm_cc.specs.declared.log.Equation.{Equation}
 use Rattle.sm_cc.specs.declared.log.Given.{Given}
-use Rattle.sm_cc.specs.declared.ground.Ground.{Ground}
+use Rattle.sm_cc.specs.declared.ground.BaseClasses.{BaseClasses}
 use Rattle.sm_cc.specs.declared.ground.Numbering.{Numbering}
-use Rattle.sm_cc.specs.declared.behind.Looked.{Looked}
+use Rattle.sm_cc.specs.declared.behind.Scanned.{Scanned}
 use Rattle.sm_cc.specs.declared.positions.Positions.{Positions}
 use Rattle.sm_cc.specs.declared.row.Row.{Row}
 use Rattle.sm_cc.specs.Assumed.{placed_fact, placed_equations, placed_contraries, AreClasses}
-use Rattle.sm_cc.specs.Behind.{AreEqualByLabels, IsGivenBefore, IsContraryOf, AddsOnly}
+use Rattle.sm_cc.specs.AddedTerms.{AreEqualByLabels, IsGivenBefore, IsContraryOf, AddsOnly}
 use Rattle.sm_cc.specs.Classes.{Same}
 use Rattle.sm_cc.specs.Closures.{board_of, pair_of, placed_of}
 use Rattle.sm_cc.specs.Exact.{placed_with}
-use Rattle.sm_cc.specs.Ground.{IsGround, IsLedBy}
+use Rattle.sm_cc.specs.BaseClasses.{IsGround, IsLedBy}
 use Rattle.sm_cc.specs.Growing.{AreGrown}
 use Rattle.sm_cc.specs.Labels.{AreLabels, AreTermLabels}
 use Rattle.sm_cc.specs.LabelsAt.{label_at}
 use Rattle.sm_cc.specs.Log.{Placed}
-use Rattle.sm_cc.specs.Looked.{IsBehind, AreLooked, AreQuiet}
+use Rattle.sm_cc.specs.Scanned.{IsBehind, AreLooked, AreQuiet}
 use Rattle.sm_cc.specs.Positions.{ArePositions, place_at}
 use Rattle.sm_cc.specs.RowOf.{IsFurther, AreRowsFrom}
 use Rattle.sm_cc.specs.Rows.{SamePlaces, is_listed}
@@ -77,7 +77,7 @@ module _ (v : ClassesValue) (positions : Positions) (places : Placed) (are : Are
   }
 
 -- terms behind those of a ground
-module _ (v w : ClassesValue) (g : Ground) (n : Numbering) (is : IsGround v g n) (led : IsLedBy v w) (q : Positions)
+module _ (v w : ClassesValue) (g : BaseClasses) (n : Numbering) (is : IsGround v g n) (led : IsLedBy v w) (q : Positions)
     (told : ArePositions (trees_in w.table) (setting_of w).terms q) (fine : AreOfTwoTerms w) where
   abbrev equal : List Given
   equal = placed_equations q w.given
@@ -178,7 +178,7 @@ module _ (v w : ClassesValue) (g : Ground) (n : Numbering) (is : IsGround v g n)
   module _ (trees_apart : AreApart (trees_in w.table)) (codes : AreCodesApart (codes_in w.table)) (m : Numbering) (further : IsFurther n m)
       (more : List Row) (total : length g.closure.rows.items + length more ≡ length w.terms)
       (from : AreRowsFrom w.table (setting_of w).terms m (length g.closure.rows.items) more)
-      (before : AreBefore (length (trees_in w.table)) w.terms) (s : Looked) (looked : AreLooked g more s)
+      (before : AreBefore (length (trees_in w.table)) w.terms) (s : Scanned) (looked : AreLooked g more s)
       (count : length s.roots.items ≡ length g.closure.rows.items + length more) (labels list : List ℕ)
       (labels_are : labels ≡ map (λ (e : Equation). e.right) s.roots.items)
       (list_is : list ≡ map (λ (t : TermId). label_at labels (place_at q t.0)) w.terms) where

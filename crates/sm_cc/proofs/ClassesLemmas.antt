@@ -236,5 +236,3 @@ module _ (v : ClassesValue) (positions : Positions) (places : Placed) (are : Are
       by false is =
           classes_unequal g is fine i j e f after
           (made ∙ ap (λ (b : Bool). if b then with_equal places g.number i j else with_unequal places g.number i j) is)
-
-}

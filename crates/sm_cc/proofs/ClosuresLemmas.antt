@@ -102,8 +102,6 @@ equation_on a b c e i j k l one roots two left right = record {
   right = two.right ∙ right;
 }
 
-}
-
 -- the entry that was added says the equation
 pub equation_noted : (a b : Closure) (e : Equation) (i j : ℕ) → AddsEquation a b e i j → IsNoted b e
 equation_noted a b e i j h =

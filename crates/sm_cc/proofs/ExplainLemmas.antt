@@ -12,7 +12,7 @@ use Rattle.sm_cc.specs.declared.log.Why.{Why}
 use Rattle.sm_cc.specs.declared.log.Why.TheVariants.{Given, By}
 use Rattle.sm_cc.specs.declared.log.Entry.{Entry}
 use Rattle.sm_cc.specs.declared.log.Step.{Step}
-use Rattle.sm_cc.specs.declared.explain.Draft.{Draft}
+use Rattle.sm_cc.specs.declared.explain.StepsBuilder.{StepsBuilder}
 use Rattle.sm_cc.specs.Log.{Placed, SayEqual, Derives, Follows, known_at, Before}
 use Rattle.sm_cc.specs.Steps.{IsGiven, step_says, IsStated, StepsFollow, ExplainPlaces, IsMarked, AreMarked, numbers_of, numbers_in}
 use Rattle.sm_cc.specs.Steps.{IsNumber, AreNumbers, IsRenumbered, NumbersEntry, IsDraft, AreClosedFrom}
@@ -148,7 +148,7 @@ numbers_more numbers list xs ys k x a within one pushed =
     (numbers_push numbers (take k list) xs (get_or list k 0) x a one))
 
 -- one entry more has its number
-draft_next : (v : Placed) (entries : List Entry) (marks : List Bool) (start m : ℕ) (d after : Draft) (x : ℕ) (k : Known) →
+draft_next : (v : Placed) (entries : List Entry) (marks : List Bool) (start m : ℕ) (d after : StepsBuilder) (x : ℕ) (k : Known) →
     IsDraft v entries marks start m d → known_at entries m ≡ Some k → StepsFollow v start after.steps.items →
     ((y : ℕ) (q : Known) → IsStated v start d.steps.items (length d.steps.items) y q →
     IsStated v start after.steps.items (length after.steps.items) y q) → IsStated v start after.steps.items (length after.steps.items) x k →
@@ -185,18 +185,18 @@ given_stated v start steps has fact (Equal i j) h = inl h.0
 given_stated v start steps has fact (Unequal i j) h = inl h.0
 
 -- a marked entry has its number
-draft_entry : (v : Placed) (entries : List Entry) (marks : List Bool) (start m : ℕ) (d mid after : Draft) (x : ℕ) (w : Why) (k : Known) →
+draft_entry : (v : Placed) (entries : List Entry) (marks : List Bool) (start m : ℕ) (d mid after : StepsBuilder) (x : ℕ) (w : Why) (k : Known) →
     IsDraft v entries marks start m d → known_at entries m ≡ Some k → Follows v (Before entries m) w k → AreMarked marks (numbers_in w) →
     NumbersEntry start d mid x w k → after.steps ≡ mid.steps → after.numbers.items ≡ mid.numbers.items ++ x ∷ [] →
     IsDraft v entries marks start (m + 1) after
 draft_entry v entries marks start m d mid after x (Given fact) k draft here follows marked numbers steps pushed =
-    let same : d.steps.items ≡ after.steps.items = ap (λ s. s.items) (sym (steps ∙ ap (λ (y : Draft). y.steps) numbers.1)) in
+    let same : d.steps.items ≡ after.steps.items = ap (λ s. s.items) (sym (steps ∙ ap (λ (y : StepsBuilder). y.steps) numbers.1)) in
     draft_next v entries marks start m d after x k draft here (subst (StepsFollow v start) same draft.follow)
     (λ (y : ℕ) (q : Known) (h : IsStated v start d.steps.items (length d.steps.items) y q).
     subst (λ (l : List Step). IsStated v start l (length l) y q) same h)
     (subst (λ (y : ℕ). IsStated v start after.steps.items (length after.steps.items) y k) (sym numbers.0)
     (given_stated v start after.steps.items (Before entries m) fact k follows))
-    (pushed ∙ ap (λ (y : Draft). y.numbers.items ++ x ∷ []) numbers.1)
+    (pushed ∙ ap (λ (y : StepsBuilder). y.numbers.items ++ x ∷ []) numbers.1)
 draft_entry v entries marks start m d mid after x (By r) k draft here follows marked numbers steps pushed =
     let old = d.steps.items in
     let s = numbers.step in
@@ -220,7 +220,7 @@ draft_entry v entries marks start m d mid after x (By r) k draft here follows ma
     (pushed ∙ ap (λ l. l.items ++ x ∷ []) numbers.numbers)
 
 -- a marked entry of a log has its number, where the marks are closed
-pub draft_marked : (v : Placed) (entries : List Entry) (marks : List Bool) (start m : ℕ) (d mid after : Draft) (x : ℕ) (e : Entry) →
+pub draft_marked : (v : Placed) (entries : List Entry) (marks : List Bool) (start m : ℕ) (d mid after : StepsBuilder) (x : ℕ) (e : Entry) →
     IsDraft v entries marks start m d → slice_get entries m ≡ Some e → Follows v (Before entries m) e.why e.known →
     AreClosedFrom entries marks 0 → IsMarked marks m → NumbersEntry start d mid x e.why e.known → after.steps ≡ mid.steps →
     after.numbers.items ≡ mid.numbers.items ++ x ∷ [] → IsDraft v entries marks start (m + 1) after

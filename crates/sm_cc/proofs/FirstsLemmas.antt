@@ -145,8 +145,6 @@ tried_none key c met i sound none = record {
   quiet = λ e. (refl, firsts_none key (are_together c.roots.items) met i none);
 }
 
-}
-
 -- one more is tried
 pub firsts_tried_more : (key : Closure → ℕ → Option Keyed) (i : ℕ) (a b c : Closure) (old new : Keyed → Option ℕ) →
     TriesFirsts key i a b old → TriesFirst (key b) i b c old new → TriesFirsts key (i + 1) a c new

@@ -17,7 +17,7 @@ use Rattle.sm_cc.specs.Log.{HasElement}
 use Rattle.sm_cc.specs.Closures.{are_together, pair_of}
 use Rattle.sm_cc.specs.declared.log.Given.{Given}
 use Rattle.sm_cc.specs.Settled.{pair_brings}
-use Rattle.sm_cc.specs.Ground.{AreBelow, IsElementBelow, AreInside, AreAllGiven}
+use Rattle.sm_cc.specs.BaseClasses.{AreBelow, IsElementBelow, AreInside, AreAllGiven}
 use Rattle.sm_cc.specs.Growing.{IsCopy, AreKept}
 use Rattle.sm_cc.proofs.CausesLemmas.{get_there}
 use Rattle.sm_cc.proofs.ClosuresLemmas.{roots_of}

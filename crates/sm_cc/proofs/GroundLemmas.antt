@@ -15,7 +15,7 @@ use Rattle.sm_term.specs.SameTerms.{same_tree}
 use Rattle.sm_term.specs.Heads.{arguments_of}
 use Rattle.sm_term.specs.Fitting.{term_fits}
 use Rattle.sm_term.specs.Tables.{TableValue, trees_in, sorts_in, codes_in, tree_at, tree_in, IsTermWithin, AreBefore}
-use Rattle.sm_term.specs.TableLaws.{Grows, AreApart, AreCodesApart}
+use Rattle.sm_term.specs.TableLaws.{AddsTerms, AreApart, AreCodesApart}
 use Rattle.sm_term.proofs.TreesLemmas.{tree_at-more, tree_in-more, fits-more, within-later}
 use Rattle.sm_theory.specs.LinearTerms.{linear_of}
 use Rattle.sm_theory.specs.Arithmetic.{is_numeric}
@@ -25,7 +25,7 @@ use Rattle.sm_theory.proofs.FormsOfTermsLemmas.{one_place}
 use Rattle.sm_theory.proofs.LinearLater.{stands_later}
 use Rattle.sm_cc.specs.declared.classes.GivenFact.{GivenFact}
 use Rattle.sm_cc.specs.declared.closure.Closure.{Closure}
-use Rattle.sm_cc.specs.declared.ground.Ground.{Ground}
+use Rattle.sm_cc.specs.declared.ground.BaseClasses.{BaseClasses}
 use Rattle.sm_cc.specs.declared.ground.Numbering.{Numbering}
 use Rattle.sm_cc.specs.declared.log.Given.{Given}
 use Rattle.sm_cc.specs.declared.positions.Positions.{Positions}
@@ -38,7 +38,7 @@ use Rattle.sm_pairs.specs.Longer.{IsLonger}
 use Rattle.sm_cc.specs.Numbered.{head_of, IsHeadAt, IsShapeAt, heads_met, parts_met}
 use Rattle.sm_cc.specs.RowOf.{HasTree, IsRowOf, IsFurther, AreRowsFrom}
 use Rattle.sm_cc.specs.Growing.{IsCopy, AreGrown}
-use Rattle.sm_cc.specs.Ground.{AreBelow, IsElementBelow, IsRowBelow, AreInside, AreKeyed, AreNumberedBy, AreAllGiven, IsGround, IsLedBy}
+use Rattle.sm_cc.specs.BaseClasses.{AreBelow, IsElementBelow, IsRowBelow, AreInside, AreKeyed, AreNumberedBy, AreAllGiven, IsGround, IsLedBy}
 use Rattle.sm_cc.specs.Views.{ClassesValue, trees_of, setting_of, AreOfTwoTerms}
 use Rattle.sm_cc.specs.Positions.{ArePositions, place_at}
 use Rattle.sm_cc.specs.Log.{Placed}
@@ -111,7 +111,7 @@ element_longer ts us longer t below = by (read_in t) below
     by (Some r) below = inner r.1 (written_in r.0) below
 
 -- the tree of a term of a table stays where the table grows
-tree_over : (old new : TableValue) → Grows old new → (term : Term) (t : Tree) → HasTree old term t → HasTree new term t
+tree_over : (old new : TableValue) → AddsTerms old new → (term : Term) (t : Tree) → HasTree old term t → HasTree new term t
 tree_over old new grows term t is =
     let bodies = length (codes_in old) in
     let trees = trees_in old in
@@ -138,7 +138,7 @@ tree_over old new grows term t is =
     }
 
 -- a copy of a row is the row of the term where the table and the list of terms are longer
-row_over : (old new : TableValue) → Grows old new → AreApart (trees_in new) → (ts us : List Tree) → IsLonger ts us →
+row_over : (old new : TableValue) → AddsTerms old new → AreApart (trees_in new) → (ts us : List Tree) → IsLonger ts us →
     (heads : List Contents) (parts : List (List (ℕ × ℤ))) (t : Tree) (r s : Row) → IsRowBelow (length ts) r → IsCopy r s →
     IsRowOf old ts heads parts t r → IsRowOf new us heads parts t s
 row_over old new grows apart ts us longer heads parts t r s below copy is = record {
@@ -208,7 +208,7 @@ there (x ∷ xs) zero h = (x, refl)
 there (x ∷ xs) (suc i) h = let less : i < length xs = omega arith in there xs i less
 
 -- copies of rows with those of more terms behind them stand for all terms
-module _ (old new : TableValue) (grows : Grows old new) (apart : AreApart (trees_in new)) (codes : AreCodesApart (codes_in new))
+module _ (old new : TableValue) (grows : AddsTerms old new) (apart : AreApart (trees_in new)) (codes : AreCodesApart (codes_in new))
     (ts us : List Tree) (longer : IsLonger ts us) (n m : Numbering) (further : IsFurther n m) (rows more all : List Row)
     (count : length rows ≡ length ts) (inside : AreInside rows) (numbered : AreNumberedBy old ts rows n)
     (total : length rows + length more ≡ length us) (behind : AreRowsFrom new us m (length rows) more)
@@ -331,7 +331,7 @@ given_same (x ∷ xs) (y ∷ ys) e f =
         ∙ ap (λ (n : ℕ). let made : Given = record { fact = h.fact; left = n; right = g.right } in made) f
         ∙ ap (λ (n : ℕ). let made : Given = record { fact = h.fact; left = h.left; right = n } in made) k
 
-module _ (old new : ClassesValue) (g : Ground) (n : Numbering) (is : IsGround old g n) (led : IsLedBy old new) where
+module _ (old new : ClassesValue) (g : BaseClasses) (n : Numbering) (is : IsGround old g n) (led : IsLedBy old new) where
   abbrev ts : List Tree
   ts = (setting_of old).terms
 
@@ -355,8 +355,6 @@ module _ (old new : ClassesValue) (g : Ground) (n : Numbering) (is : IsGround ol
       let all = ap length led.terms.1 in
       let same = count_is in
       omega (arith, long, all, same)
-
-  )
 
   -- what is given of the places is what is given of the terms
   pub placed : placed_of g.closure
@@ -416,7 +414,7 @@ module _ (old new : ClassesValue) (g : Ground) (n : Numbering) (is : IsGround ol
         classes_made new q told all stand fine equal unequal e f places made
 
 -- classes that others begin with stay such where more is numbered
-pub ground_later : (v : ClassesValue) (g : Ground) (n m : Numbering) → IsFurther n m → IsGround v g n → IsGround v g m
+pub ground_later : (v : ClassesValue) (g : BaseClasses) (n m : Numbering) → IsFurther n m → IsGround v g n → IsGround v g m
 ground_later v g n m further is = record {
   before = is.before;
   classes = is.classes;
@@ -434,7 +432,7 @@ ground_later v g n m further is = record {
 }
 
 -- what is so of the rows and of what is given makes such classes
-pub ground_made : (v : ClassesValue) (g : Ground) (n : Numbering) → AreBefore (length (trees_in v.table)) v.terms → (p : Positions) →
+pub ground_made : (v : ClassesValue) (g : BaseClasses) (n : Numbering) → AreBefore (length (trees_in v.table)) v.terms → (p : Positions) →
     g.positions ≡ p → ArePositions (trees_in v.table) (setting_of v).terms p → (rows : List Row) →
     RowsStand (sorts_in v.table) (setting_of v).terms rows → AreNumberedBy v.table (setting_of v).terms rows n → AreOfTwoTerms v →
     (equal unequal : List Given) → equal ≡ placed_equations p v.given → unequal ≡ placed_contraries p v.given → (c : Closure) →

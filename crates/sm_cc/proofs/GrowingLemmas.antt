@@ -23,7 +23,7 @@ use Rattle.sm_cc.specs.Rows.{rows_pass, shapes_pass, one_head}
 use Rattle.sm_cc.specs.Log.{Placed, HasElement, SayEqual, Derives, Follows, Before, AllFollow, known_at}
 use Rattle.sm_cc.specs.Closures.{IsSound, AllRooted, Noted, GivenHere, pair_of, fact_of, placed_of}
 use Rattle.sm_cc.specs.Exact.{placed_with}
-use Rattle.sm_cc.specs.Ground.{AreAllGiven}
+use Rattle.sm_cc.specs.BaseClasses.{AreAllGiven}
 use Rattle.sm_cc.specs.Growing.{IsCopy, AreKept, AreGrown, IsSameRule, IsSameWhy, AreEntriesKept}
 use Rattle.sm_cc.proofs.CausesLemmas.{get_there, given_here}
 use Rattle.sm_cc.proofs.LogLemmas.{get_kept, get_last, get_cases, known_kept, known_last, known_within, follows_more, all_follow_more}

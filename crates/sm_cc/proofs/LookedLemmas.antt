@@ -10,17 +10,17 @@ use Rattle.sm_cc.specs.declared.row.Row.{Row}
 use Rattle.sm_cc.specs.declared.log.Equation.{Equation}
 use Rattle.sm_cc.specs.declared.log.Known.TheVariants.{Equal}
 use Rattle.sm_cc.specs.declared.closure.Closure.{Closure}
-use Rattle.sm_cc.specs.declared.ground.Ground.{Ground}
-use Rattle.sm_cc.specs.declared.behind.Looked.{Looked}
+use Rattle.sm_cc.specs.declared.ground.BaseClasses.{BaseClasses}
+use Rattle.sm_cc.specs.declared.behind.Scanned.{Scanned}
 use Rattle.sm_cc.specs.Rows.{Board, PlacePairs, rows_pass, one_head, shapes_pass, equal_places}
 use Rattle.sm_cc.specs.Rows.{row_brings, ArePlacesClosed}
 use Rattle.sm_cc.specs.Closures.{IsSound, are_together, board_of}
 use Rattle.sm_cc.specs.Exact.{IsExact}
 use Rattle.sm_cc.specs.Firsts.{Keyed, Key, first_met, AreFirsts, label_at, labels_of, with_labels, row_key, shape_key, alike_at, headed_at, met_at}
-use Rattle.sm_cc.specs.Ground.{AreBelow, AreKeyed}
+use Rattle.sm_cc.specs.BaseClasses.{AreBelow, AreKeyed}
 use Rattle.sm_cc.specs.Regrounding.{over_at}
-use Rattle.sm_cc.specs.Looked.{IsBehind, AreRootsSo, seen, alike_in, headed_in, any_two, HaveOneKey, IsKeyNew, IsMetFor, IsLabelOf, IsLabelFor}
-use Rattle.sm_cc.specs.Looked.{AreNew, AreLooked}
+use Rattle.sm_cc.specs.Scanned.{IsBehind, AreRootsSo, seen, alike_in, headed_in, any_two, HaveOneKey, IsKeyNew, IsMetFor, IsLabelOf, IsLabelFor}
+use Rattle.sm_cc.specs.Scanned.{AreNew, AreLooked}
 use Rattle.sm_cc.proofs.CausesLemmas.{get_there}
 use Rattle.sm_cc.proofs.ClosuresLemmas.{roots_of}
 use Rattle.sm_cc.proofs.FirstsLemmas.{firsts_more, met_has, met_still, shapes_bring, rows_bring_headed}
@@ -212,7 +212,7 @@ roots_so c more sound b equal behind closed i r at =
     let first = closed_before (board_of c) b (under_behind c more b behind) equal closed in
     subst (λ (k : ℕ). equal k r.right ≡ true) root.0 (noted_so c equal sound first r.entry (Equal r.left r.right) root.1)
 
-module _ (g : Ground) (more : List Row) where
+module _ (g : BaseClasses) (more : List Row) where
   abbrev first : ℕ
   first = length g.closure.rows.items
 
@@ -247,7 +247,7 @@ module _ (g : Ground) (more : List Row) where
       new j k less (sym (key_stays roots e i low within) ∙ here) (sym (key_stays roots e j low (omega (arith, less, within))) ∙ there)
 
   -- one more place was looked at
-  module _ (s t : Looked) (k : ℕ) (row : Row) (e : Equation) (a h : ℕ) (before : AreLooked g more s)
+  module _ (s t : Scanned) (k : ℕ) (row : Row) (e : Equation) (a h : ℕ) (before : AreLooked g more s)
       (place : length s.roots.items ≡ first + k) (here : slice_get more k ≡ Some row) (pushed : t.roots.items ≡ s.roots.items ++ e ∷ [])
       (alike_first : AreFirsts (alike_in all) any_two (over_at (met_at g.alike) (met_at t.alike)) (length s.roots.items + 1))
       (alike_met : IsMetFor (alike_in all) (length s.roots.items) a)
@@ -342,7 +342,7 @@ module _ (g : Ground) (more : List Row) where
           }
 
   -- none was looked at
-  module _ (s : Looked) (exact : IsExact g.closure) (keyed : AreKeyed g) (same : s.roots.items ≡ g.closure.roots.items)
+  module _ (s : Scanned) (exact : IsExact g.closure) (keyed : AreKeyed g) (same : s.roots.items ≡ g.closure.roots.items)
       (no_alike : (v : Key) → met_at s.alike v.items ≡ None) (no_headed : (v : Key) → met_at s.headed v.items ≡ None) where
     count_first : length s.roots.items ≡ first
     count_first = ap length same ∙ exact.sound.count

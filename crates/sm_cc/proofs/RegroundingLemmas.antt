@@ -8,7 +8,7 @@ use Rattle.sm_theory.specs.Lines.{followed}
 use Rattle.sm_cc.specs.declared.row.Row.{Row}
 use Rattle.sm_cc.specs.declared.log.Equation.{Equation}
 use Rattle.sm_cc.specs.declared.closure.Closure.{Closure}
-use Rattle.sm_cc.specs.declared.ground.Ground.{Ground}
+use Rattle.sm_cc.specs.declared.ground.BaseClasses.{BaseClasses}
 use Rattle.sm_cc.specs.Classes.{if_there}
 use Rattle.sm_cc.specs.Rows.{is_listed, rows_pass, shapes_pass, one_head, equal_places, places_apart, row_brings}
 use Rattle.sm_cc.specs.Closures.{IsSound, Grows, are_together, board_of}
@@ -16,7 +16,7 @@ use Rattle.sm_cc.specs.Exact.{IsExact}
 use Rattle.sm_cc.specs.Settled.{pair_brings}
 use Rattle.sm_cc.specs.Firsts.{Keyed, Key, first_met, AreFirsts, TriesFirsts, KeysBring, label_at, labels_of, with_labels, row_key}
 use Rattle.sm_cc.specs.Firsts.{shape_key, alike_at, headed_at}
-use Rattle.sm_cc.specs.Ground.{AreBelow, AreInside}
+use Rattle.sm_cc.specs.BaseClasses.{AreBelow, AreInside}
 use Rattle.sm_cc.specs.Growing.{IsCopy, AreKept}
 use Rattle.sm_cc.specs.Regrounding.{met_or, over_at, KeysMeet, MeetsFirst, AreLabelsKept, IsOver}
 use Rattle.sm_cc.proofs.CausesLemmas.{get_there}
@@ -31,8 +31,6 @@ pub meets_first : (key : ℕ → Option Keyed) (equal : ℕ → ℕ → Bool) (b
 meets_first key equal bound old new i j k meet inside has more first before =
     let other = met_has key equal old new i j k has more first before in
     firsts_more key equal old new i j k has more first (meet i j k.items inside (omega (arith, other.0, inside)) has other.1) before
-
-}
 
 -- what pairs of rows bring, rows bring
 row_from_pair : (c : Closure) (i j : ℕ) → pair_brings (board_of c) (are_together c.roots.items) i j ≡ true →
@@ -141,7 +139,7 @@ tried_before : (key : Closure → ℕ → Option Keyed) (c : Closure) (met : Key
 tried_before key c met bound sound firsts = record { grows = grows_from c sound; quiet = λ e. (refl, firsts) }
 
 -- the places of other classes are tried by their forms
-pub alike_before : (g : Ground) (c : Closure) (base met : Keyed → Option ℕ) → IsSound c → IsOver g c →
+pub alike_before : (g : BaseClasses) (c : Closure) (base met : Keyed → Option ℕ) → IsSound c → IsOver g c →
     AreLabelsKept (length g.closure.rows.items) g.closure.roots.items c.roots.items →
     AreFirsts (alike_at g.closure) (are_together g.closure.roots.items) base (length g.closure.rows.items) →
     ((v : Key) → met v.items ≡ None) → TriesFirsts alike_at (length g.closure.rows.items) c c (over_at base met)
@@ -154,7 +152,7 @@ alike_before g c base met sound over labels firsts empty =
     (alike_kept g.closure c over.kept) (together_kept bound old new labels) (λ (v : Key). over_nothing base met v.items (empty v)) firsts)
 
 -- the places of other classes are tried by their heads with arguments
-pub headed_before : (g : Ground) (c : Closure) (base met : Keyed → Option ℕ) → IsSound c → IsOver g c →
+pub headed_before : (g : BaseClasses) (c : Closure) (base met : Keyed → Option ℕ) → IsSound c → IsOver g c →
     AreLabelsKept (length g.closure.rows.items) g.closure.roots.items c.roots.items →
     AreFirsts (headed_at g.closure) (are_together g.closure.roots.items) base (length g.closure.rows.items) →
     ((v : Key) → met v.items ≡ None) → TriesFirsts headed_at (length g.closure.rows.items) c c (over_at base met)
@@ -168,7 +166,7 @@ headed_before g c base met sound over labels firsts empty =
     (λ (v : Key). over_nothing base met v.items (empty v)) firsts)
 
 -- classes still begin with the others as the log grows
-pub over_grown : (g : Ground) (a b : Closure) → IsOver g a → Grows a b → IsOver g b
+pub over_grown : (g : BaseClasses) (a b : Closure) → IsOver g a → Grows a b → IsOver g b
 over_grown g a b over grows = record {
   kept = subst (λ (rows : List Row). AreKept g.closure.rows.items rows) (ap (λ r. r.items) (sym grows.rows)) over.kept;
   keyed = over.keyed;

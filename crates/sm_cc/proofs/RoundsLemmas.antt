@@ -12,8 +12,6 @@ use Rattle.sm_cc.specs.Settled.{Tries, AreSettled}
 use Rattle.sm_cc.proofs.CausesLemmas.{get_there}
 use Rattle.sm_cc.proofs.ClosuresLemmas.{grows_on, roots_of}
 
-}
-
 -- one more is tried
 pub tries_more : (P : ℕ → Closure → Type 0) (k : ℕ) (a b c : Closure) → Tries (λ (d : Closure). (m : ℕ) → m < k → P m d) a b →
     Tries (P k) b c → Tries (λ (d : Closure). (m : ℕ) → m < k + 1 → P m d) a c

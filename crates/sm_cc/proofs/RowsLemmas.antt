@@ -226,8 +226,6 @@ rows_more table terms old new further from rows next each u there made k r t f g
     some_is : (c d : Tree) → Some c ≡ Some d → c ≡ d
     some_is c d e = cc
 
-}
-
 pub further_twice : (l m n : Numbering) → IsFurther l m → IsFurther m n → IsFurther l n
 further_twice l m n p q = record {
   heads = longer_twice (heads_met l.heads) (heads_met m.heads) (heads_met n.heads) p.heads q.heads;

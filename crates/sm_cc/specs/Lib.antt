@@ -1,5 +1,5 @@
 pub mod Assumed
-pub mod Behind
+pub mod AddedTerms
 pub mod Causes
 pub mod Classes
 pub mod Closures
@@ -7,13 +7,13 @@ pub mod Exact
 pub mod Explained
 pub mod Explaining
 pub mod Firsts
-pub mod Ground
+pub mod BaseClasses
 pub mod Growing
 pub mod Labels
 pub mod LabelsAt
 pub mod Laws
 pub mod Log
-pub mod Looked
+pub mod Scanned
 pub mod Merges
 pub mod Numbered
 pub mod Positions

@@ -2,9 +2,9 @@
 use Rattle.std.specs.Prelude.{◌≡◌, ℕ, ◌+◌, ◌<◌, Bool, IsTrue, Option, Some, None, List, slice_get}
 use Rattle.sm_cc.specs.declared.log.Equation.{Equation}
 use Rattle.sm_cc.specs.declared.closure.Closure.{Closure}
-use Rattle.sm_cc.specs.declared.ground.Ground.{Ground}
+use Rattle.sm_cc.specs.declared.ground.BaseClasses.{BaseClasses}
 use Rattle.sm_cc.specs.Firsts.{Keyed, AreFirsts, label_at}
-use Rattle.sm_cc.specs.Ground.{AreInside, AreKeyed}
+use Rattle.sm_cc.specs.BaseClasses.{AreInside, AreKeyed}
 use Rattle.sm_cc.specs.Growing.{AreKept}
 
 -- a place that was met, or else another
@@ -33,7 +33,7 @@ AreLabelsKept bound old new =
     (i : ℕ) → i < bound → label_at (slice_get new i) ≡ label_at (slice_get old i)
 
 -- classes begin with the rows of others, whose first places are known
-pub record IsOver (g : Ground) (c : Closure) : Type 0 where
+pub record IsOver (g : BaseClasses) (c : Closure) : Type 0 where
   pub kept : AreKept g.closure.rows.items c.rows.items
   pub keyed : AreKeyed g
   pub inside : AreInside g.closure.rows.items

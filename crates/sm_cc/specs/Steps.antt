@@ -13,7 +13,7 @@ use Rattle.sm_cc.specs.declared.log.Entry.{Entry}
 use Rattle.sm_cc.specs.declared.log.Step.{Step}
 use Rattle.sm_cc.specs.declared.log.Equation.{Equation}
 use Rattle.sm_cc.specs.declared.closure.Closure.{Closure}
-use Rattle.sm_cc.specs.declared.explain.Draft.{Draft}
+use Rattle.sm_cc.specs.declared.explain.StepsBuilder.{StepsBuilder}
 use Rattle.sm_cc.specs.Log.{Placed, IsGivenAs, Derives, known_at}
 use Rattle.sm_cc.specs.Closures.{placed_of}
 
@@ -121,7 +121,7 @@ IsRenumbered numbers (Miss n) (Miss x) = IsNumber numbers n x
 IsRenumbered numbers rule other = ⊥
 
 -- a step is added, with its number
-pub record AddsStep (start : ℕ) (before after : Draft) (n : ℕ) (from : Rule) (known : Known)
+pub record AddsStep (start : ℕ) (before after : StepsBuilder) (n : ℕ) (from : Rule) (known : Known)
     : Type 0 where
   pub numbers : after.numbers ≡ before.numbers
   pub step : Step
@@ -131,18 +131,18 @@ pub record AddsStep (start : ℕ) (before after : Draft) (n : ℕ) (from : Rule)
   pub number : n ≡ start + length before.steps.items
 
 -- an entry has a number: that of what was given, or of a step that is added
-abbrev pub NumbersEntry : ℕ → Draft → Draft → ℕ → Why → Known → Type 0
+abbrev pub NumbersEntry : ℕ → StepsBuilder → StepsBuilder → ℕ → Why → Known → Type 0
 NumbersEntry start before after n (Given fact) known = (n ≡ fact) × (after ≡ before)
 NumbersEntry start before after n (By rule) known = AddsStep start before after n rule known
 
 -- an entry has a number under which its fact is stated
-abbrev pub HasNumber : Placed → ℕ → Draft → ℕ → Known → Type 0
+abbrev pub HasNumber : Placed → ℕ → StepsBuilder → ℕ → Known → Type 0
 HasNumber v start d n k =
     (x : ℕ) × IsNumber d.numbers.items n x
     × IsStated v start d.steps.items (length d.steps.items) x k
 
 -- the marked ones of the first m entries have numbers
-pub record IsDraft (v : Placed) (entries : List Entry) (marks : List Bool) (start m : ℕ) (d : Draft)
+pub record IsDraft (v : Placed) (entries : List Entry) (marks : List Bool) (start m : ℕ) (d : StepsBuilder)
     : Type 0 where
   pub count : length d.numbers.items ≡ m
   pub follow : StepsFollow v start d.steps.items
@@ -150,7 +150,7 @@ pub record IsDraft (v : Placed) (entries : List Entry) (marks : List Bool) (star
       n < m → IsMarked marks n → known_at entries n ≡ Some k → HasNumber v start d n k
 
 -- the equation of a place and its label has a number
-abbrev pub RootHasNumber : Closure → ℕ → Draft → ℕ → Type 0
+abbrev pub RootHasNumber : Closure → ℕ → StepsBuilder → ℕ → Type 0
 RootHasNumber c start d i =
     (r : Equation) → slice_get c.roots.items i ≡ Some r →
     HasNumber (placed_of c) start d r.entry (Equal r.left r.right)

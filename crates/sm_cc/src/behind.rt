@@ -2,21 +2,21 @@
 ghost use Rattle.std.specs.Prelude.{◌≡◌, ℕ, ◌+◌, ◌<◌, ℤ, true, IsTrue, Option, List};
 ghost use Rattle.std.specs.Prelude.{length, map, IfOk, OnOk};
 ghost use Rattle.sm_term.specs.Tables.{trees_in, AreBefore};
-ghost use Rattle.sm_term.specs.TableLaws.{Grows};
+ghost use Rattle.sm_term.specs.TableLaws.{AddsTerms};
 ghost use Rattle.sm_theory.specs.Standing.{AreLinearForms};
 ghost use Rattle.sm_cc.specs.declared.classes.GivenFact.{GivenFact as Fact};
-ghost use Rattle.sm_cc.specs.Behind.{AreEqualByLabels, AddsOnly};
+ghost use Rattle.sm_cc.specs.AddedTerms.{AreEqualByLabels, AddsOnly};
 ghost use Rattle.sm_cc.specs.Exact.{IsExact};
 ghost use Rattle.sm_cc.specs.Firsts.{AreFirsts, met_at, key_told, shape_key, row_key};
-ghost use Rattle.sm_cc.specs.Ground.{AreBelow, AreInside, AreKeyed, IsGround, IsLedBy};
+ghost use Rattle.sm_cc.specs.BaseClasses.{AreBelow, AreInside, AreKeyed, IsGround, IsLedBy};
 ghost use Rattle.sm_cc.specs.Labels.{AreTermLabels};
-ghost use Rattle.sm_cc.specs.Looked.{any_two, IsMetFor, IsLabelFor, AreLooked};
+ghost use Rattle.sm_cc.specs.Scanned.{any_two, IsMetFor, IsLabelFor, AreLooked};
 ghost use Rattle.sm_pairs.specs.Longer.{IsLonger};
 ghost use Rattle.sm_cc.specs.Positions.{place_at};
 ghost use Rattle.sm_cc.specs.Regrounding.{over_at};
 ghost use Rattle.sm_cc.specs.Views.{ClassesValue, AreOfTwoTerms};
 
-use crate::ground::{Ground, Numbering, are_below};
+use crate::ground::{BaseClasses, Numbering, are_below};
 use crate::growing::copy_roots;
 use crate::keys::{Key, Met, label_in, labelled};
 use crate::log::Equation;
@@ -34,7 +34,7 @@ use std::collections::HashMap;
 
 /// What terms behind those of a ground are equal to, as far as one look at each tells.
 #[derive(Drop)]
-pub struct Behind {
+pub struct AddedTerms {
     /// A label for each term of the list, by its place.
     pub labels: Vec<u64>,
     /// Whether the labels tell the classes exactly: no rule brings anything of the new terms.
@@ -43,7 +43,7 @@ pub struct Behind {
 
 /// Places behind those of a ground that were looked at.
 #[derive(Drop)]
-pub(crate) struct Looked {
+pub(crate) struct Scanned {
     // for each place the equation of it and its label; the entries say nothing
     pub(crate) roots: Vec<Equation>,
     // the first of these places that have the keys of forms which the ground's don't have
@@ -54,7 +54,7 @@ pub(crate) struct Looked {
     pub(crate) are_new: bool,
 }
 
-impl Ground {
+impl BaseClasses {
     /// What terms behind those of the ground are equal to, as far as one look at each tells. The
     /// forms are those of all terms of the table, as `next_lin` of `sm_theory` makes them. The
     /// labels are exact also where the terms of these pairs aren't equal.
@@ -66,12 +66,12 @@ impl Ground {
         forms: &[LinForm],
         terms: &Terms,
         apart: &[(TermId, TermId)],
-    ) -> Result<Behind, AllocError>
+    ) -> Result<AddedTerms, AllocError>
         requires forms { AreLinearForms (trees_in table.now) forms.now }
         requires counted { length forms.now ≡ length (trees_in table.now) }
         requires before { AreBefore (length (trees_in table.now)) terms.now.list.items }
         requires ground { (v : ClassesValue) × IsGround v self.now numbering.old
-            × Grows v.table table.now × IsLonger v.terms terms.now.list.items }
+            × AddsTerms v.table table.now × IsLonger v.terms terms.now.list.items }
         ensures equal { (v : ClassesValue) → (given : List Fact) →
             IsGround v self.now numbering.old →
             let w : ClassesValue =
@@ -104,7 +104,7 @@ impl Ground {
         let is_exact = are_exact(&self.closure, &more, &looked, &pairs);
         let places = right_sides(alloc, &looked.roots)?;
         let labels = labels_of(alloc, &places, &positions, &terms.list)?;
-        Ok(Behind { labels, is_exact })
+        Ok(AddedTerms { labels, is_exact })
     }
 }
 
@@ -200,7 +200,7 @@ fn are_still_new(are_new: bool, place: u64, i: u64, j: u64, arguments: &[u64]) -
 }
 
 // The places of a ground, where none behind them was looked at.
-fn not_looked(alloc: Global, ground: &Ground) -> Result<Looked, AllocError>
+fn not_looked(alloc: Global, ground: &BaseClasses) -> Result<Scanned, AllocError>
     requires exact { IsExact ground.now.closure }
     requires keyed { AreKeyed ground.now }
     requires inside { AreInside ground.now.closure.rows.items }
@@ -209,7 +209,7 @@ fn not_looked(alloc: Global, ground: &Ground) -> Result<Looked, AllocError>
         length s.roots.items ≡ length ground.now.closure.rows.items) }
 {
     let roots = copy_roots(alloc, &ground.closure.roots)?;
-    Ok(Looked {
+    Ok(Scanned {
         roots,
         alike: HashMap::new(alloc),
         headed: HashMap::new(alloc),
@@ -220,10 +220,10 @@ fn not_looked(alloc: Global, ground: &Ground) -> Result<Looked, AllocError>
 // Looks at one more place.
 fn look_at(
     alloc: Global,
-    ground: &Ground,
+    ground: &BaseClasses,
     more: &[Row],
     k: usize,
-    s: &mut Looked,
+    s: &mut Scanned,
 ) -> Result<(), AllocError>
     requires there { k < length more.now }
     requires place { length s.old.roots.items ≡ length ground.now.closure.rows.items + k }
@@ -249,7 +249,7 @@ fn look_at(
 }
 
 // Looks at the places behind those of a ground, in order.
-fn look(alloc: Global, ground: &Ground, more: &[Row]) -> Result<Looked, AllocError>
+fn look(alloc: Global, ground: &BaseClasses, more: &[Row]) -> Result<Scanned, AllocError>
     requires exact { IsExact ground.now.closure }
     requires keyed { AreKeyed ground.now }
     requires inside { AreInside ground.now.closure.rows.items }

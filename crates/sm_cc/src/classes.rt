@@ -3,14 +3,14 @@ ghost use Rattle.std.specs.Prelude.{◌≡◌, ◌<◌, IfOk, OnOk, OnErr};
 ghost use Rattle.std.specs.Prelude.{[], ◌∷◌, ◌++◌, length};
 ghost use Rattle.sm_term.specs.Tables.{trees_in, AreBefore};
 ghost use Rattle.sm_theory.specs.Standing.{AreLinearForms};
-ghost use Rattle.sm_cc.specs.Ground.{IsGround, IsLedBy};
+ghost use Rattle.sm_cc.specs.BaseClasses.{IsGround, IsLedBy};
 ghost use Rattle.sm_cc.specs.Views.{ClassesValue, IsTermOf};
 ghost use Rattle.sm_cc.specs.Views.{HaveOneSort, AreOfTwoTerms, with_given, no_terms};
 ghost use Rattle.sm_cc.specs.Views.{equation_under, contrary_under};
 ghost use Rattle.sm_cc.specs.Assumed.{with_fact};
 
 use crate::facts::{places_of, places_over};
-use crate::ground::{Ground, Numbering};
+use crate::ground::{BaseClasses, Numbering};
 use crate::places::PlaceClasses;
 use crate::positions::Positions;
 use sm_num::LinForm;
@@ -40,7 +40,13 @@ pub struct Classes<'a> {
 // One call ends a value, and not one for each field: proofs of what has it stay small.
 impl Drop for Classes<'_> {
     fn drop(self) {
-        let Self { table: _, terms: _, given: _, positions: _, places: _ } = self;
+        let Self {
+            table: _,
+            terms: _,
+            given: _,
+            positions: _,
+            places: _,
+        } = self;
     }
 }
 
@@ -121,7 +127,7 @@ impl<'a> Classes<'a> {
     /// forms are those of all terms of the table, as `next_lin` of `sm_theory` makes them.
     pub fn over(
         alloc: Global,
-        ground: &Ground,
+        ground: &BaseClasses,
         numbering: &mut Numbering,
         table: &'a TermTable,
         forms: &[LinForm],

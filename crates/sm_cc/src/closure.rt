@@ -23,7 +23,13 @@ pub(crate) struct Closure {
 // One call ends a value, and not one for each field: proofs of what has it stay small.
 impl Drop for Closure {
     fn drop(self) {
-        let Self { rows: _, equal: _, unequal: _, entries: _, roots: _ } = self;
+        let Self {
+            rows: _,
+            equal: _,
+            unequal: _,
+            entries: _,
+            roots: _,
+        } = self;
     }
 }
 

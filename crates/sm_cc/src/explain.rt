@@ -16,7 +16,7 @@ use std::alloc::{AllocError, Global};
 
 /// Steps on their way, and the numbers of the entries that were passed.
 #[derive(Drop)]
-pub(crate) struct Draft {
+pub(crate) struct StepsBuilder {
     pub(crate) steps: Vec<Step>,
     pub(crate) numbers: Vec<u64>,
 }
@@ -66,7 +66,7 @@ fn renumbered_list(alloc: Global, list: &[u64], numbers: &[u64]) -> Result<Vec<u
 // Adds the step of an entry, and gives its number.
 fn add_step(
     alloc: Global,
-    draft: &mut Draft,
+    draft: &mut StepsBuilder,
     rule: &Rule,
     known: Known,
     start: u64,
@@ -82,7 +82,12 @@ fn add_step(
 }
 
 // The number of an entry, with its step if it wasn't given.
-fn number_entry(alloc: Global, draft: &mut Draft, e: &Entry, start: u64) -> Result<u64, AllocError>
+fn number_entry(
+    alloc: Global,
+    draft: &mut StepsBuilder,
+    e: &Entry,
+    start: u64,
+) -> Result<u64, AllocError>
     requires below { AreBelow (length draft.old.numbers.items) (numbers_in e.now.why) }
     requires small { start < 2 ^ 63 }
     ensures { IfOk result (λ n. NumbersEntry start draft.old draft.new n e.now.why e.now.known) }
@@ -100,7 +105,7 @@ fn emit(
     marks: &[bool],
     start: u64,
     m: usize,
-    draft: &mut Draft,
+    draft: &mut StepsBuilder,
 ) -> Result<(), AllocError>
     requires sound { IsSound c.now }
     requires count { length marks.now ≡ length c.now.entries.items }
@@ -121,7 +126,12 @@ fn emit(
 }
 
 // The steps of all marked entries.
-fn emitted(alloc: Global, c: &Closure, marks: &[bool], start: u64) -> Result<Draft, AllocError>
+fn emitted(
+    alloc: Global,
+    c: &Closure,
+    marks: &[bool],
+    start: u64,
+) -> Result<StepsBuilder, AllocError>
     requires sound { IsSound c.now }
     requires count { length marks.now ≡ length c.now.entries.items }
     requires closed { AreClosedFrom c.now.entries.items marks.now 0 }
@@ -129,7 +139,7 @@ fn emitted(alloc: Global, c: &Closure, marks: &[bool], start: u64) -> Result<Dra
     ensures { let entries = c.now.entries.items in
         IfOk result (IsDraft (placed_of c.now) entries marks.now start (length entries)) }
 {
-    let mut draft = Draft {
+    let mut draft = StepsBuilder {
         steps: Vec::new(alloc),
         numbers: Vec::with_capacity(alloc, c.entries.len())?,
     };
@@ -140,7 +150,13 @@ fn emitted(alloc: Global, c: &Closure, marks: &[bool], start: u64) -> Result<Dra
 }
 
 // The steps end with the equation of two places of a class.
-fn finish(c: &Closure, draft: Draft, i: u64, j: u64, start: u64) -> Result<Vec<Step>, AllocError>
+fn finish(
+    c: &Closure,
+    draft: StepsBuilder,
+    i: u64,
+    j: u64,
+    start: u64,
+) -> Result<Vec<Step>, AllocError>
     requires sound { IsSound c.now }
     requires together { IsTrue (are_together c.now.roots.items i j) }
     requires small { start < 2 ^ 63 }
@@ -169,7 +185,7 @@ fn finish(c: &Closure, draft: Draft, i: u64, j: u64, start: u64) -> Result<Vec<S
 // The steps end with the equation of a label and a place.
 fn finish_turned(
     c: &Closure,
-    draft: Draft,
+    draft: StepsBuilder,
     i: u64,
     j: u64,
     start: u64,

@@ -7,10 +7,10 @@ ghost use Rattle.sm_cc.specs.Positions.{ArePositions};
 ghost use Rattle.sm_cc.specs.Assumed.{placed_fact, placed_equations, placed_contraries};
 ghost use Rattle.sm_cc.specs.Assumed.{AreClasses};
 ghost use Rattle.sm_cc.specs.RowOf.{IsFurther};
-ghost use Rattle.sm_cc.specs.Ground.{IsGround, IsLedBy};
+ghost use Rattle.sm_cc.specs.BaseClasses.{IsGround, IsLedBy};
 
 use crate::classes::GivenFact;
-use crate::ground::{Ground, Numbering};
+use crate::ground::{BaseClasses, Numbering};
 use crate::log::Given;
 use crate::places::PlaceClasses;
 use crate::positions::Positions;
@@ -48,7 +48,7 @@ pub(crate) fn places_of(
 /// terms.
 pub(crate) fn places_over(
     alloc: Global,
-    ground: &Ground,
+    ground: &BaseClasses,
     numbering: &mut Numbering,
     table: &TermTable,
     forms: &[LinForm],

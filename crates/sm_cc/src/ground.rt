@@ -4,8 +4,8 @@ ghost use Rattle.sm_term.specs.Tables.{trees_in, AreBefore};
 ghost use Rattle.sm_theory.specs.Standing.{AreLinearForms};
 ghost use Rattle.sm_cc.specs.Closures.{placed_of};
 ghost use Rattle.sm_cc.specs.Exact.{IsExact, placed_with};
-ghost use Rattle.sm_cc.specs.Ground.{IsGround, AreKeyed, AreInside};
-ghost use Rattle.sm_cc.specs.Ground.{AreBelow, IsElementBelow, IsRowBelow};
+ghost use Rattle.sm_cc.specs.BaseClasses.{IsGround, AreKeyed, AreInside};
+ghost use Rattle.sm_cc.specs.BaseClasses.{AreBelow, IsElementBelow, IsRowBelow};
 ghost use Rattle.sm_cc.specs.Views.{AreOfTwoTerms};
 
 use crate::classes::GivenFact;
@@ -27,7 +27,7 @@ use std::alloc::{AllocError, Global};
 /// Classes of terms that others begin with: what is found of them needn't be found again where more
 /// terms stand behind these and more is given.
 #[derive(Drop)]
-pub struct Ground {
+pub struct BaseClasses {
     pub(crate) positions: Positions,
     pub(crate) closure: Closure,
     // the first places that have the keys of forms
@@ -44,19 +44,22 @@ pub struct Numbering {
 }
 
 /// Classes that others begin with, and what their terms are numbered by.
-pub struct Grounded {
-    pub ground: Ground,
+pub struct NumberedBase {
+    pub ground: BaseClasses,
     pub numbering: Numbering,
 }
 
 // One call ends a value, and not one for each field: proofs of what has it stay small.
-impl Drop for Grounded {
+impl Drop for NumberedBase {
     fn drop(self) {
-        let Self { ground: _, numbering: _ } = self;
+        let Self {
+            ground: _,
+            numbering: _,
+        } = self;
     }
 }
 
-impl Ground {
+impl BaseClasses {
     /// The classes of terms by all that is given of them; none where an argument of a term, or an
     /// element before it was written, isn't in the list. The forms are those of all terms of the
     /// table, as `next_lin` of `sm_theory` makes them one after the other.
@@ -66,7 +69,7 @@ impl Ground {
         forms: &[LinForm],
         terms: &Terms,
         given: &[GivenFact],
-    ) -> Result<Option<Grounded>, AllocError>
+    ) -> Result<Option<NumberedBase>, AllocError>
         requires forms { AreLinearForms (trees_in table.now) forms.now }
         requires counted { length forms.now ≡ length (trees_in table.now) }
         requires before { AreBefore (length (trees_in table.now)) terms.now.list.items }
@@ -89,7 +92,7 @@ impl Ground {
             return Ok(None);
         }
         let ground = keyed(alloc, positions, closure)?;
-        Ok(Some(Grounded { ground, numbering }))
+        Ok(Some(NumberedBase { ground, numbering }))
     }
 }
 
@@ -110,7 +113,7 @@ fn settled(
 }
 
 // Classes with the first places that have the keys.
-fn keyed(alloc: Global, positions: Positions, closure: Closure) -> Result<Ground, AllocError>
+fn keyed(alloc: Global, positions: Positions, closure: Closure) -> Result<BaseClasses, AllocError>
     requires { IsExact closure }
     ensures positions { IfOk result (λ g. g.positions ≡ positions) }
     ensures closure { IfOk result (λ g. g.closure ≡ closure) }
@@ -118,7 +121,7 @@ fn keyed(alloc: Global, positions: Positions, closure: Closure) -> Result<Ground
 {
     let alike = alike_places(alloc, &closure)?;
     let headed = headed_places(alloc, &closure)?;
-    Ok(Ground {
+    Ok(BaseClasses {
         positions,
         closure,
         alike,

@@ -3,7 +3,7 @@ ghost use Rattle.std.specs.Prelude.{◌≡◌, ◌≤◌, IfOk, length};
 ghost use Rattle.sm_cc.specs.Log.{AllFollow};
 ghost use Rattle.sm_cc.specs.Closures.{IsSound, AllRooted};
 ghost use Rattle.sm_cc.specs.Exact.{placed_with};
-ghost use Rattle.sm_cc.specs.Ground.{AreAllGiven};
+ghost use Rattle.sm_cc.specs.BaseClasses.{AreAllGiven};
 ghost use Rattle.sm_cc.specs.Growing.{AreGrown, IsCopy, AreKept, IsSameRule, IsSameWhy};
 ghost use Rattle.sm_cc.specs.Growing.{IsEntryCopy, AreEntriesKept};
 

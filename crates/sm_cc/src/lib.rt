@@ -15,10 +15,10 @@
 //! - Of terms that aren't in the list nothing is known. After want of memory no terms are left.
 //! - The linear forms of all terms of the table are handed in, made once by `next_lin` of
 //!   `sm_theory` in a loop. They aren't kept.
-//! - `Ground` is made of terms and what is given of them, once. `Classes::over` has the classes of
+//! - `BaseClasses` is made of terms and what is given of them, once. `Classes::over` has the classes of
 //!   these terms and more behind them, of which more is given: what was found is kept, and only keys
 //!   of what is new are made.
-//! - `Ground::behind` looks once at each term behind those of a ground: terms that get one label
+//! - `BaseClasses::behind` looks once at each term behind those of a ground: terms that get one label
 //!   are in one class, whatever more is given. The labels are exact where each of these terms has a
 //!   form and a head with arguments of its own, and no rule tells anything of an element that is
 //!   read.
@@ -61,7 +61,7 @@ mod shapes;
 mod told;
 mod witness;
 
-pub use behind::Behind;
+pub use behind::AddedTerms;
 pub use classes::{Classes, GivenFact};
-pub use ground::{Ground, Grounded, Numbering};
+pub use ground::{BaseClasses, NumberedBase, Numbering};
 pub use laws::classes_are_least;

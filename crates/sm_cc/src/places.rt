@@ -6,14 +6,14 @@ ghost use Rattle.sm_cc.specs.Log.{Placed};
 ghost use Rattle.sm_cc.specs.Steps.{ExplainPlaces};
 ghost use Rattle.sm_cc.specs.Closures.{IsSound};
 ghost use Rattle.sm_cc.specs.Labels.{AreLabels};
-ghost use Rattle.sm_cc.specs.Ground.{AreAllGiven, AreInside, AreKeyed};
+ghost use Rattle.sm_cc.specs.BaseClasses.{AreAllGiven, AreInside, AreKeyed};
 ghost use Rattle.sm_cc.specs.Growing.{AreGrown};
 ghost use Rattle.sm_cc.specs.Exact.{nothing_given, placed_with, with_equal, with_unequal};
 
 use crate::closure::{Closure, empty, unmerged};
 use crate::compare::together;
 use crate::explain::explanation;
-use crate::ground::Ground;
+use crate::ground::BaseClasses;
 use crate::growing::grown;
 use crate::log::{Equation, Given, Step};
 use crate::regrounding::settle_over;
@@ -76,7 +76,7 @@ impl PlaceClasses {
     /// The classes of places that begin with those of others, by all that is given of them.
     pub(crate) fn over(
         alloc: Global,
-        ground: &Ground,
+        ground: &BaseClasses,
         more: Vec<Row>,
         equal: Vec<Given>,
         unequal: Vec<Given>,

@@ -29,7 +29,11 @@ pub(crate) struct Positions {
 // One call ends a value, and not one for each field: proofs of what has it stay small.
 impl Drop for Positions {
     fn drop(self) {
-        let Self { places: _, reads: _, count: _ } = self;
+        let Self {
+            places: _,
+            reads: _,
+            count: _,
+        } = self;
     }
 }
 

@@ -2,9 +2,9 @@
 ghost use Rattle.std.specs.Prelude.{◌≡◌, ℕ, ◌<◌, true, IsTrue, Option};
 ghost use Rattle.std.specs.Prelude.{slice_get};
 ghost use Rattle.sm_cc.specs.Closures.{are_together};
-ghost use Rattle.sm_cc.specs.Looked.{has_labels, are_parted, IsQuiet, IsQuietBehind, AreQuiet};
+ghost use Rattle.sm_cc.specs.Scanned.{has_labels, are_parted, IsQuiet, IsQuietBehind, AreQuiet};
 
-use crate::behind::Looked;
+use crate::behind::Scanned;
 use crate::closure::Closure;
 use crate::compare::together;
 use crate::ground::are_below;
@@ -107,7 +107,7 @@ fn are_new_quiet(c: &Closure, more: &[Row], roots: &[Equation], apart: &[(u64, u
 
 /// Whether each place behind those of classes has keys of its own, and no rule brings anything more
 /// of any element.
-pub(crate) fn are_exact(c: &Closure, more: &[Row], s: &Looked, apart: &[(u64, u64)]) -> bool
+pub(crate) fn are_exact(c: &Closure, more: &[Row], s: &Scanned, apart: &[(u64, u64)]) -> bool
     ensures { IsTrue result →
         IsTrue s.now.are_new × AreQuiet c.now more.now s.now.roots.items apart.now }
 {

@@ -10,12 +10,12 @@ ghost use Rattle.sm_cc.specs.Firsts.{Key as Told};
 ghost use Rattle.sm_cc.specs.Firsts.{AreFirsts, met_at, first_met, key_told, alike_at, headed_at};
 ghost use Rattle.sm_cc.specs.Firsts.{label_at, KeysBring, TriesFirst};
 ghost use Rattle.sm_cc.specs.Firsts.{AreAlikeSettled, AreHeadedSettled};
-ghost use Rattle.sm_cc.specs.Ground.{AreInside, AreKeyed};
+ghost use Rattle.sm_cc.specs.BaseClasses.{AreInside, AreKeyed};
 ghost use Rattle.sm_cc.specs.Growing.{AreKept};
 ghost use Rattle.sm_cc.specs.Regrounding.{over_at, KeysMeet, MeetsFirst, AreLabelsKept, IsOver};
 
 use crate::closure::Closure;
-use crate::ground::Ground;
+use crate::ground::BaseClasses;
 use crate::keys::{Key, Met, alike_key, first_place, head_key, label_of};
 use crate::rounds::{relate_alike, relate_headed, relate_rows_there, relate_single};
 use std::alloc::{AllocError, Global};
@@ -134,7 +134,11 @@ fn relate_first_over(
 
 // Places of one linear form come into one class, where the first places have the labels that they
 // had: these are together already.
-fn relate_alike_behind(alloc: Global, ground: &Ground, c: &mut Closure) -> Result<(), AllocError>
+fn relate_alike_behind(
+    alloc: Global,
+    ground: &BaseClasses,
+    c: &mut Closure,
+) -> Result<(), AllocError>
     requires sound { IsSound c.old }
     requires over { IsOver ground.now c.old }
     requires labels { AreLabelsKept (length ground.now.closure.rows.items)
@@ -150,7 +154,11 @@ fn relate_alike_behind(alloc: Global, ground: &Ground, c: &mut Closure) -> Resul
 }
 
 // So do places of one head whose arguments are equal.
-fn relate_headed_behind(alloc: Global, ground: &Ground, c: &mut Closure) -> Result<(), AllocError>
+fn relate_headed_behind(
+    alloc: Global,
+    ground: &BaseClasses,
+    c: &mut Closure,
+) -> Result<(), AllocError>
     requires sound { IsSound c.old }
     requires over { IsOver ground.now c.old }
     requires labels { AreLabelsKept (length ground.now.closure.rows.items)
@@ -166,7 +174,7 @@ fn relate_headed_behind(alloc: Global, ground: &Ground, c: &mut Closure) -> Resu
 }
 
 // Places of one linear form come into one class.
-fn relate_alike_over(alloc: Global, ground: &Ground, c: &mut Closure) -> Result<(), AllocError>
+fn relate_alike_over(alloc: Global, ground: &BaseClasses, c: &mut Closure) -> Result<(), AllocError>
     requires sound { IsSound c.old }
     requires over { IsOver ground.now c.old }
     ensures { OnOk result (Tries AreAlikeSettled c.old c.new) }
@@ -178,7 +186,11 @@ fn relate_alike_over(alloc: Global, ground: &Ground, c: &mut Closure) -> Result<
 }
 
 // Places of one head whose arguments are equal come into one class.
-fn relate_headed_over(alloc: Global, ground: &Ground, c: &mut Closure) -> Result<(), AllocError>
+fn relate_headed_over(
+    alloc: Global,
+    ground: &BaseClasses,
+    c: &mut Closure,
+) -> Result<(), AllocError>
     requires sound { IsSound c.old }
     requires over { IsOver ground.now c.old }
     ensures { OnOk result (Tries AreHeadedSettled c.old c.new) }
@@ -190,7 +202,7 @@ fn relate_headed_over(alloc: Global, ground: &Ground, c: &mut Closure) -> Result
 }
 
 // Applies each rule once wherever it can give something new.
-fn round_over(alloc: Global, ground: &Ground, c: &mut Closure) -> Result<(), AllocError>
+fn round_over(alloc: Global, ground: &BaseClasses, c: &mut Closure) -> Result<(), AllocError>
     requires sound { IsSound c.old }
     requires over { IsOver ground.now c.old }
     ensures { OnOk result (Tries AreSettled c.old c.new) }
@@ -202,7 +214,11 @@ fn round_over(alloc: Global, ground: &Ground, c: &mut Closure) -> Result<(), All
 
 /// Places come into one class until no rule brings more. While the first places have the labels
 /// that they had, only the keys of those behind them are made.
-pub(crate) fn settle_over(alloc: Global, ground: &Ground, c: &mut Closure) -> Result<(), AllocError>
+pub(crate) fn settle_over(
+    alloc: Global,
+    ground: &BaseClasses,
+    c: &mut Closure,
+) -> Result<(), AllocError>
     requires sound { IsSound c.old }
     requires kept { AreKept ground.now.closure.rows.items c.old.rows.items }
     requires keyed { AreKeyed ground.now }

@@ -8,7 +8,7 @@ ghost use Rattle.sm_cc.specs.Views.{trees_of};
 ghost use Rattle.sm_cc.specs.Positions.{ArePositions};
 ghost use Rattle.sm_cc.specs.Standing.{RowsStand};
 ghost use Rattle.sm_cc.specs.RowOf.{IsRowOf, IsFurther, AreRowsFrom};
-ghost use Rattle.sm_cc.specs.Ground.{AreNumberedBy};
+ghost use Rattle.sm_cc.specs.BaseClasses.{AreNumberedBy};
 
 use crate::ground::Numbering;
 use crate::heads::Heads;

@@ -28,10 +28,6 @@ sum_below first es bad left n d places some within count =
     let p = places_at first es bad places (left - 1) d less in
     (omega (arith, p.0, less, count), omega (arith, p.1, less, count))
 
-}
-
-}
-
 -- marks at earlier places
 marked_more : (a c : List Bool) (least at : ℕ) (es : List ElimLine) (bad : ℕ) → ((k : ℕ) → IsTrue (mark_at a k) → IsTrue (mark_at c k)) →
     ((k : ℕ) → least ≤ k → mark_at c k ≡ mark_at a k) → least ≤ at → AreMarked (mark_at a) at es bad → AreMarked (mark_at c) at es bad

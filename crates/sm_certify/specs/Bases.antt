@@ -1,5 +1,5 @@
 -- Cited by public clauses: where the classes of the branches of a walk begin.
-use Rattle.sm_cc.specs.Ground.{IsGround}
+use Rattle.sm_cc.specs.BaseClasses.{IsGround}
 use Rattle.sm_cc.specs.Views.{ClassesValue}
 use Rattle.sm_certify.specs.declared.base.Base.{Base}
 use Rattle.sm_certify.specs.declared.base.Base.TheVariants as base

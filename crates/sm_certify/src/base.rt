@@ -3,7 +3,7 @@ ghost use Rattle.std.specs.Prelude.{◌≡◌, length, IfOk};
 ghost use Rattle.sm_term.specs.Sorted.{AreFormsSorted};
 ghost use Rattle.sm_term.specs.Tables.{trees_in, sorts_in};
 ghost use Rattle.sm_cc.specs.Classes.{are_apart};
-ghost use Rattle.sm_cc.specs.Ground.{IsGround, IsLedBy};
+ghost use Rattle.sm_cc.specs.BaseClasses.{IsGround, IsLedBy};
 ghost use Rattle.sm_cc.specs.Rounds.{are_equal};
 ghost use Rattle.sm_cc.specs.Views.{ClassesValue, setting_of};
 ghost use Rattle.sm_judge.specs.AllForms.{AreAllForms};
@@ -13,7 +13,7 @@ ghost use Rattle.sm_list.specs.Parts.{all_numbered, assertions_in, AreFormulasWi
 ghost use Rattle.sm_judge.specs.Seeing.{seen_in};
 
 use crate::classes::{classes_of, classes_over, given_facts};
-use sm_cc::{Classes, Ground, Grounded};
+use sm_cc::{BaseClasses, Classes, NumberedBase};
 use sm_num::LinForm;
 use sm_term::{Formula, TermTable, Terms};
 use std::alloc::{AllocError, Global};
@@ -25,7 +25,7 @@ pub enum Base {
     /// With nothing.
     Nothing,
     /// With the classes of facts that each branch has.
-    Over(Box<Grounded>),
+    Over(Box<NumberedBase>),
 }
 
 impl Base {
@@ -63,7 +63,7 @@ impl Base {
 // The classes of all terms of a table by facts, beginning with those that are found already.
 fn classes_within<'a>(
     alloc: Global,
-    grounded: &mut Grounded,
+    grounded: &mut NumberedBase,
     table: &'a TermTable,
     forms: &[LinForm],
     terms: &'a Terms,
@@ -96,7 +96,7 @@ fn classes_within<'a>(
 }
 
 /// The base of these classes. They have many parts, and are kept apart from what holds the base.
-pub fn boxed_base(alloc: Global, found: Grounded) -> Result<Base, AllocError>
+pub fn boxed_base(alloc: Global, found: NumberedBase) -> Result<Base, AllocError>
     ensures { (v : ClassesValue) → IsGround v found.ground found.numbering →
         IfOk result (IsFrom v) }
 {
@@ -119,7 +119,7 @@ pub fn base_of(
     ensures { IfOk result (IsFrom (classes_by table.now terms.now.list.items facts.now)) }
 {
     let given = given_facts(alloc, facts)?;
-    match Ground::of(alloc, table, forms, terms, &given)? {
+    match BaseClasses::of(alloc, table, forms, terms, &given)? {
         Some(found) => boxed_base(alloc, found),
         None => Ok(Base::Nothing),
     }

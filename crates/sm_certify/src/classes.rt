@@ -4,7 +4,7 @@ ghost use Rattle.std.specs.List.{range_with_len};
 ghost use Rattle.sm_term.specs.Sorted.{AreFormsSorted};
 ghost use Rattle.sm_term.specs.Tables.{trees_in, sorts_in};
 ghost use Rattle.sm_cc.specs.Classes.{are_apart};
-ghost use Rattle.sm_cc.specs.Ground.{IsGround, IsLedBy};
+ghost use Rattle.sm_cc.specs.BaseClasses.{IsGround, IsLedBy};
 ghost use Rattle.sm_cc.specs.Rounds.{are_equal};
 ghost use Rattle.sm_cc.specs.Views.{ClassesValue, setting_of};
 ghost use Rattle.sm_judge.specs.AllForms.{AreAllForms};
@@ -13,7 +13,7 @@ ghost use Rattle.sm_terms.specs.Listing.{numbers_of};
 ghost use Rattle.sm_list.specs.Parts.{all_numbered, assertions_in, AreFormulasWithin};
 ghost use Rattle.sm_judge.specs.Seeing.{seen_in};
 
-use sm_cc::{Classes, GivenFact, Ground, Numbering};
+use sm_cc::{BaseClasses, Classes, GivenFact, Numbering};
 use sm_num::LinForm;
 use sm_pairs::Sees;
 use sm_term::{Formula, TermId, TermTable, Terms};
@@ -62,7 +62,7 @@ pub(crate) fn classes_of<'a>(
 // The classes of the facts, which begin with those of others.
 pub(crate) fn classes_over<'a>(
     alloc: Global,
-    ground: &Ground,
+    ground: &BaseClasses,
     numbering: &mut Numbering,
     table: &'a TermTable,
     forms: &[LinForm],

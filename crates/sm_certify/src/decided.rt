@@ -13,7 +13,7 @@ ghost use Rattle.sm_certify.specs.Deciding.{StandInOrder};
 ghost use Rattle.sm_certify.specs.Given.{IsWhole, classes_by, branch_of};
 ghost use Rattle.sm_certify.specs.Refutes.{Refutes};
 
-use crate::draft::{Draft, add_lines_of, closed_tree, next_number};
+use crate::draft::{CertBuilder, add_lines_of, closed_tree, next_number};
 use crate::named::count_named;
 use sm_cc::Classes;
 use sm_cert::CertTree;
@@ -57,7 +57,7 @@ pub fn exact_tree<'a>(
     table.len();
     terms_have_places(table);
     let lines = naming_lines(alloc, table, facts)?;
-    let mut draft = Draft {
+    let mut draft = CertBuilder {
         lines,
         numbers: Vec::new(alloc),
     };

@@ -21,7 +21,7 @@ use std::alloc::{AllocError, Global};
 
 // Lines, and the number of the fact of each form that they made.
 #[derive(Drop)]
-pub(crate) struct Draft {
+pub(crate) struct CertBuilder {
     pub(crate) lines: Vec<CertLine>,
     pub(crate) numbers: Vec<u64>,
 }
@@ -48,7 +48,11 @@ fn early_number(count: u64, lines: &[CertLine]) -> Result<u64, AllocError>
 }
 
 // Adds a line that makes a form, behind `count` facts.
-pub(crate) fn add_form(draft: &mut Draft, line: CertLine, count: u64) -> Result<(), AllocError>
+pub(crate) fn add_form(
+    draft: &mut CertBuilder,
+    line: CertLine,
+    count: u64,
+) -> Result<(), AllocError>
     requires { count < 2 ^ 62 }
     ensures line { OnOk result (draft.new.lines.items ≡ draft.old.lines.items ++ line ∷ []) }
     ensures number { let number = count + length draft.old.lines.items in
@@ -91,7 +95,7 @@ pub(crate) fn add_lines_of<'a>(
     table: &TermTable,
     facts: &[Formula],
     source: Source,
-    draft: &mut Draft,
+    draft: &mut CertBuilder,
 ) -> Result<(), AllocError>
     requires whole { IsWhole (trees_in table.now) classes.now.terms }
     requires classes { classes.now ≡ classes_by table.now classes.now.terms facts.now }
@@ -117,7 +121,7 @@ pub(crate) fn add_lines_of<'a>(
 }
 
 // Whether the next form is marked.
-pub(crate) fn is_next_marked(marks: &FormMarks, draft: &Draft) -> bool
+pub(crate) fn is_next_marked(marks: &FormMarks, draft: &CertBuilder) -> bool
     ensures { result ≡ mark_at marks.now.list.items (length draft.now.numbers.items) }
 {
     is_marked(&marks.list, draft.numbers.len())
@@ -131,7 +135,7 @@ fn is_marked(marks: &[bool], place: usize) -> bool
 }
 
 // Passes over a form that isn't marked.
-pub(crate) fn skip(draft: &mut Draft) -> Result<(), AllocError>
+pub(crate) fn skip(draft: &mut CertBuilder) -> Result<(), AllocError>
     ensures lines { OnOk result (draft.new.lines.items ≡ draft.old.lines.items) }
     ensures number { OnOk result
         (draft.new.numbers.items ≡ draft.old.numbers.items ++ 0 ∷ []) }
@@ -141,7 +145,7 @@ pub(crate) fn skip(draft: &mut Draft) -> Result<(), AllocError>
 }
 
 // The number of the form at a place.
-pub(crate) fn number_at(draft: &Draft, place: u64) -> u64
+pub(crate) fn number_at(draft: &CertBuilder, place: u64) -> u64
     requires { place < length draft.now.numbers.items }
     ensures { slice_get draft.now.numbers.items place ≡ Some result }
 {

@@ -16,7 +16,9 @@ ghost use Rattle.sm_judge.specs.Refutations.{IsRefutation};
 ghost use Rattle.sm_judge.specs.Places.{HavePlaces};
 ghost use Rattle.sm_certify.specs.Refuting.{IsUsable, Leads, mark_at};
 
-use crate::draft::{Draft, add_form, add_lines_of, closed_tree, is_next_marked, number_at, skip};
+use crate::draft::{
+    CertBuilder, add_form, add_lines_of, closed_tree, is_next_marked, number_at, skip,
+};
 use crate::marks::{FormMarks, marks_of};
 use sm_cc::Classes;
 use sm_cert::CertTree;
@@ -53,7 +55,7 @@ pub fn refutation_tree<'a>(
     table.len();
     terms_have_places(table);
     let marks = marks_of(alloc, refutation)?;
-    let mut draft = Draft {
+    let mut draft = CertBuilder {
         lines: Vec::new(alloc),
         numbers: Vec::new(alloc),
     };
@@ -72,7 +74,7 @@ fn add_sources<'a>(
     facts: &[Formula],
     refutation: &Refutation,
     marks: &FormMarks,
-    draft: &mut Draft,
+    draft: &mut CertBuilder,
 ) -> Result<(), AllocError>
     requires whole { IsWhole (trees_in table.now) classes.now.terms }
     requires classes { classes.now ≡ classes_by table.now classes.now.terms facts.now }
@@ -101,7 +103,7 @@ fn add_source<'a>(
     facts: &[Formula],
     source: Source,
     marks: &FormMarks,
-    draft: &mut Draft,
+    draft: &mut CertBuilder,
 ) -> Result<(), AllocError>
     requires whole { IsWhole (trees_in table.now) classes.now.terms }
     requires classes { classes.now ≡ classes_by table.now classes.now.terms facts.now }
@@ -130,7 +132,7 @@ fn add_sums(
     facts: &[Formula],
     refutation: &Refutation,
     marks: &FormMarks,
-    draft: &mut Draft,
+    draft: &mut CertBuilder,
 ) -> Result<(), AllocError>
     requires few { length facts.now < 2 ^ 62 }
     requires apart { AreApart (trees_in table.now) }
@@ -152,7 +154,7 @@ fn add_sum(
     facts: &[Formula],
     made: ElimLine,
     marks: &FormMarks,
-    draft: &mut Draft,
+    draft: &mut CertBuilder,
 ) -> Result<(), AllocError>
     requires few { length facts.now < 2 ^ 62 }
     requires apart { AreApart (trees_in table.now) }

@@ -102,7 +102,6 @@ adding_one None = tt
 adding_one (Some k) = tt
 
 module _ (sorts : Sorts) (trees : List Tree) (facts : List BranchFact) (added : Option BranchFact) where
-
   pub closing_ways : (l : CertLine) → is_closing (numbered_line l) ≡ true → IsNoWay (ways_with sorts facts added (line_in trees l))
   closing_ways (line.Both n) e = absurd cc
   closing_ways (line.Either n) e = absurd cc

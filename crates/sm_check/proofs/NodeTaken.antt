@@ -9,7 +9,7 @@ use Rattle.sm_term.specs.declared.symbolic.SymStore.{SymStore}
 use Rattle.sm_term.specs.Assertions.{negate}
 use Rattle.sm_term.specs.Formulas.{numbered, assertion_in, IsFormulaWithin}
 use Rattle.sm_term.specs.Tables.{trees_in, sorts_in, AreBefore}
-use Rattle.sm_term.specs.TableLaws.{Widens, AreApart}
+use Rattle.sm_term.specs.TableLaws.{ExtendsTable, AreApart}
 use Rattle.sm_term.specs.Terms.{Tree}
 use Rattle.sm_term.proofs.FormsLemmas.{contrary_within}
 use Rattle.sm_term.proofs.FormulasLemmas.{contrary_negates}
@@ -164,7 +164,7 @@ tells_on P Q (Wrong w) (Ok t) next h = absurd h
 tells_on P Q (Wrong w) (Err v) next h = h
 
 -- the line taken: what it opens is put before what waits, and the first of that is due
-module _ (w x : WalkValue) (held : SymState) (p : Progress) (st : State) (rest : List Pending) (at : WalksAt w held p st rest) (wider : Widens w.table x.table)
+module _ (w x : WalkValue) (held : SymState) (p : Progress) (st : State) (rest : List Pending) (at : WalksAt w held p st rest) (wider : ExtendsTable w.table x.table)
     (apart : AreApart (trees_in x.table)) where
   abbrev sorts : Sorts
   sorts = sorts_in x.table

@@ -11,7 +11,7 @@ use Rattle.sm_term.specs.Formulas as row
 use Rattle.sm_term.specs.Formulas.{NumberedFormula, numbered, assertion_in, IsFormulaWithin}
 use Rattle.sm_term.specs.Sorted.{tree_sort}
 use Rattle.sm_term.specs.Tables.{TableValue, trees_in, sorts_in, tree_at, AreBefore}
-use Rattle.sm_term.specs.TableLaws.{Widens}
+use Rattle.sm_term.specs.TableLaws.{ExtendsTable}
 use Rattle.sm_term.proofs.TreesLemmas.{before-later}
 use Rattle.sm_theory.specs.declared.fact.Fact.{Fact}
 use Rattle.sm_theory.specs.declared.fact.Fact.TheVariants as fact
@@ -59,7 +59,7 @@ module _ (sorts : Sorts) (trees : List Tree) where
       (ready_joined (reverse ws) (x ∷ []) (ready_reversed ws ready.1) (ready.0, tt))
 
 -- from one table to a wider one
-module _ (v w : TableValue) (wider : Widens v w) where
+module _ (v w : TableValue) (wider : ExtendsTable v w) where
   abbrev few : ℕ
   few = length (trees_in v)
 
@@ -218,8 +218,6 @@ module _ (v w : TableValue) (wider : Widens v w) where
       stand = path_stays path stands.facts stands.stand;
       sorted = facts_stay stands.facts stands.sorted;
       all = all_pending stands.facts d (reverse waiting) ps first (ready_reversed (sorts_in v) (trees_in v) waiting later) stands.all;
-    }
-
     }
 
   -- what is due, and what waits, can still be gone on from

@@ -10,7 +10,7 @@ use Rattle.sm_term.specs.declared.term.TermId.{TermId}
 use Rattle.sm_term.specs.Terms.{Tree, Lit}
 use Rattle.sm_term.specs.Assertions.{Assertion}
 use Rattle.sm_term.specs.Tables.{TableValue, trees_in, sorts_in, tree_at, AreBefore}
-use Rattle.sm_term.specs.TableLaws.{Widens, AreApart}
+use Rattle.sm_term.specs.TableLaws.{ExtendsTable, AreApart}
 use Rattle.sm_theory.specs.declared.fact.Fact.{Fact}
 use Rattle.sm_theory.specs.Facts.{BranchFact}
 use Rattle.sm_theory.specs.Views.{AllStand}
@@ -205,7 +205,7 @@ module _ (w : WalkValue) (p : Progress) (d : Due) (is : w.due ≡ Some d) (walks
       (subst (λ (ts : List Tree). Tells (RowStands sorts trees p.forms) (Err e) (form_made sorts ts p.forms line)) walks.terms h))
 
   -- a term is made
-  pub term_goes : (table : TableValue) (terms : List TermId) (id : TermId) (line : TermLine) → Widens w.table table → AreApart (trees_in table) →
+  pub term_goes : (table : TableValue) (terms : List TermId) (id : TermId) (line : TermLine) → ExtendsTable w.table table → AreApart (trees_in table) →
       IsWalkReady w.table w.declared w.terms w.forms w.due w.waiting → terms ≡ w.terms ++ id ∷ [] →
       ((facts : List BranchFact) (first : Pending) → AllStand sorts trees w.path facts → DueStands sorts trees facts d first →
       Tells (IsTerm (trees_in table)) (Ok id) (term_made sorts (terms_in trees w.terms) first line)) →

@@ -39,7 +39,11 @@ struct Alone<'a> {
 // One call ends a value, and not one for each field: proofs of what has it stay small.
 impl Drop for Alone<'_> {
     fn drop(self) {
-        let Self { path: _, due: _, waiting: _ } = self;
+        let Self {
+            path: _,
+            due: _,
+            waiting: _,
+        } = self;
     }
 }
 

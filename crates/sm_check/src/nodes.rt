@@ -2,7 +2,7 @@
 ghost use Rattle.std.specs.Prelude.{◌≡◌, ◌⊎◌, ◌+◌, true, false, None, List, [], length};
 ghost use Rattle.std.specs.Prelude.{IfOk, OnOk, IfSome, MatchBool, MatchOption};
 ghost use Rattle.sm_term.specs.Assertions.{Assertion};
-ghost use Rattle.sm_term.specs.TableLaws.{Widens, AreApart};
+ghost use Rattle.sm_term.specs.TableLaws.{ExtendsTable, AreApart};
 ghost use Rattle.sm_term.specs.Tables.{trees_in, sorts_in};
 ghost use Rattle.sm_plan.specs.Limits.{is_shallow};
 ghost use Rattle.sm_plan.specs.NodeLists.{above_opened};
@@ -109,7 +109,7 @@ fn open_node<'a>(
         ⊎ (stores_in (trees_in table.new) o.0.stores
         ≡ stores_in (trees_in table.old) state.entry.stores)) }
     ensures ready { IfOk result (λ o. IsOpenedReady (sorts_in table.new) (trees_in table.new) o.0) }
-    ensures widens { Widens table.old table.new }
+    ensures widens { ExtendsTable table.old table.new }
     ensures apart { OnOk result (AreApart (trees_in table.new)) }
 {
     if !is_there(rows, line) {

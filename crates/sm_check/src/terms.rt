@@ -8,7 +8,7 @@ ghost use Rattle.sm_term.specs.Sorted.{IsDeclaredIn};
 ghost use Rattle.sm_term.specs.SymStores.{store_in, IsStoreWithin};
 ghost use Rattle.sm_term.specs.Tables.{trees_in, sorts_in, codes_in, tree_in, tree_at};
 ghost use Rattle.sm_term.specs.Tables.{AreBefore, IsTermWithin};
-ghost use Rattle.sm_term.specs.TableLaws.{Grows};
+ghost use Rattle.sm_term.specs.TableLaws.{AddsTerms};
 ghost use Rattle.sm_theory.specs.Facts.{BranchFact};
 ghost use Rattle.sm_theory.specs.Views.{AllStand};
 ghost use Rattle.sm_plan.specs.ReadyStates.{AreStoresReady};
@@ -56,7 +56,7 @@ pub(crate) fn made_term(
         Tells (IsTerm (trees_in table.new)) result
         (term_made sorts (terms_in trees terms.now) first line.now) }
     ensures within { IfOk result (λ t. t.0 < length (trees_in table.new)) }
-    ensures grows { Grows table.old table.new }
+    ensures grows { AddsTerms table.old table.new }
 {
     match line {
         TermLine::Lit(z) => put(table, Term::Lit(*z)),
@@ -125,7 +125,7 @@ fn put(table: &mut TermTable, t: Term) -> Result<TermId, LineFault>
         (tested_or (term_fits (sorts_in table.old) trees t) (First head.T)
         (Ok (tree_in (codes_in table.old) trees t))) }
     ensures within { IfOk result (λ id. id.0 < length (trees_in table.new)) }
-    ensures grows { Grows table.old table.new }
+    ensures grows { AddsTerms table.old table.new }
 {
     match table.intern(t) {
         Ok(id) => Ok(id),
@@ -197,7 +197,7 @@ fn present(table: &mut TermTable, due: &Due<'_>, copy: u8, name: Name) -> Result
         Tells (IsTerm (trees_in table.new)) result
         (Ok (present_term first (copy_of copy) name.0)) }
     ensures within { IfOk result (λ t. t.0 < length (trees_in table.new)) }
-    ensures grows { Grows table.old table.new }
+    ensures grows { AddsTerms table.old table.new }
 {
     match due {
         Due::State { state, .. } => of_stores(table, &state.stores, copy, name),
@@ -217,7 +217,7 @@ fn of_stores(
     ensures tells { Tells (IsTerm (trees_in table.new)) result
         (Ok (stores_in (trees_in table.old) stores.now (copy_of copy) name.0)) }
     ensures within { IfOk result (λ t. t.0 < length (trees_in table.new)) }
-    ensures grows { Grows table.old table.new }
+    ensures grows { AddsTerms table.old table.new }
 {
     in_store(table, stores.get(CopyName::of_number(copy)), name)
 }
@@ -229,7 +229,7 @@ fn in_store(table: &mut TermTable, store: &SymStore, name: Name) -> Result<TermI
     ensures tells { Tells (IsTerm (trees_in table.new)) result
         (Ok (store_in (trees_in table.old) store.now name.0)) }
     ensures within { IfOk result (λ t. t.0 < length (trees_in table.new)) }
-    ensures grows { Grows table.old table.new }
+    ensures grows { AddsTerms table.old table.new }
 {
     match store.list.get(name.0 as usize) {
         Some(t) => Ok(*t),

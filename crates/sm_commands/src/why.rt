@@ -12,7 +12,7 @@ use crate::deeper::check_deeper;
 use sm_answers::{Reply, Spelled};
 use sm_display::shown_ends;
 use sm_par::Gate;
-use sm_replies::{Decided, Ground};
+use sm_replies::{BaseClasses, Decided};
 use sm_why::{reason_line, trials_line};
 use sm_words::Effort;
 use std::alloc::{AllocError, Global};
@@ -61,15 +61,15 @@ fn words_behind(
         decided.now.reply.status decided.now.reply.text.items more.items) }
 {
     match &decided.ground {
-        Ground::Proved => {
+        BaseClasses::Proved => {
             let more = trials_line(alloc, &read.task, effort.turns)?;
             Ok(more)
         }
-        Ground::Input(input) => {
+        BaseClasses::Input(input) => {
             let more = shown_ends(alloc, &read.task, input, effort.turns)?;
             Ok(more)
         }
-        Ground::Stopped(stop) => {
+        BaseClasses::Stopped(stop) => {
             let mut more = reason_line(alloc, &read.task, &read.text, *stop)?;
             let trials = trials_line(alloc, &read.task, effort.turns)?;
             more.extend_from_slice(&trials)?;

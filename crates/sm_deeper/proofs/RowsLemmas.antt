@@ -8,14 +8,14 @@ use Rattle.sm_syntax.specs.text.Sorts.{Sorts}
 use Rattle.sm_par.specs.Results.{StandInOrder}
 use Rattle.sm_term.specs.declared.tails.TermRows.{TermRows}
 use Rattle.sm_term.specs.Tables.{TableValue, trees_in, sorts_in}
-use Rattle.sm_term.specs.TableLaws.{Widens}
+use Rattle.sm_term.specs.TableLaws.{ExtendsTable}
 use Rattle.sm_term.specs.Tails.{AreRowsSound}
 use Rattle.sm_term.specs.Terms.{Tree}
 use Rattle.sm_goals.proofs.TablesLemmas.{front_stays}
 use Rattle.sm_deeper.specs.declared.end_jobs.JobEnd.{JobEnd}
 
 -- the new rows of a copy are sound behind the terms of the table
-pub copy_sound : (v t w : TableValue) → sorts_in t ≡ sorts_in v → trees_in t ≡ trees_in v → Widens t w → (from : ℕ) →
+pub copy_sound : (v t w : TableValue) → sorts_in t ≡ sorts_in v → trees_in t ≡ trees_in v → ExtendsTable t w → (from : ℕ) →
     from ≡ length (trees_in t) → (rows : TermRows) → AreRowsSound (sorts_in w) (take from (trees_in w)) rows →
     AreRowsSound (sorts_in v) (trees_in v) rows
 copy_sound v t w sorts trees wider from is rows sound =
@@ -31,7 +31,7 @@ all_first v from is rows sound =
     subst (λ (l : List Tree). AreRowsSound (sorts_in v) l rows) (sym whole) sound
 
 -- the rows of each job stay sound while the table widens
-pub job_sound : (v w : TableValue) → Widens v w → (from : ℕ) → from ≤ length (trees_in v) → (ends : List JobEnd) (i : ℕ) (e : JobEnd) →
+pub job_sound : (v w : TableValue) → ExtendsTable v w → (from : ℕ) → from ≤ length (trees_in v) → (ends : List JobEnd) (i : ℕ) (e : JobEnd) →
     e ≡ get_or ends i e → AreRowsSound (sorts_in v) (take from (trees_in v)) (get_or ends i e).rows →
     AreRowsSound (sorts_in w) (take from (trees_in w)) e.rows
 job_sound v w wider from within ends i e same sound =

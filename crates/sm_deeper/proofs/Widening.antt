@@ -2,10 +2,10 @@
 use Rattle.std.proofs.Common.{Result, Ok, Err}
 use Rattle.std.specs.Prelude.{OnOk}
 use Rattle.sm_term.specs.Tables.{TableValue}
-use Rattle.sm_term.specs.TableLaws.{Widens}
+use Rattle.sm_term.specs.TableLaws.{ExtendsTable}
 use Rattle.sm_plan.proofs.TablesWiden.{widens_twice}
 
 -- it has widened since before both
-pub widens_then : {T E : Type 0} (u v w : TableValue) (r : Result T E) → Widens u v → OnOk r (Widens v w) → OnOk r (Widens u w)
+pub widens_then : {T E : Type 0} (u v w : TableValue) (r : Result T E) → ExtendsTable u v → OnOk r (ExtendsTable v w) → OnOk r (ExtendsTable u w)
 widens_then u v w (Ok x) first second = widens_twice u v w first second
 widens_then u v w (Err e) first second = tt

@@ -1,7 +1,7 @@
 // Goals of a round that jobs walk ahead of it.
 ghost use Rattle.std.specs.Prelude.{OnOk};
 ghost use Rattle.sm_term.specs.Tables.{trees_in, sorts_in};
-ghost use Rattle.sm_term.specs.TableLaws.{Widens};
+ghost use Rattle.sm_term.specs.TableLaws.{ExtendsTable};
 ghost use Rattle.sm_plan.specs.ReadyStates.{AreFormsReady};
 ghost use Rattle.sm_expand.specs.Views.{AreDuesReady};
 ghost use Rattle.sm_goals.specs.Nodes.{IsNodeOf};
@@ -66,7 +66,7 @@ fn ends_at(
     requires goals { AreFormsReady (sorts_in table.old) (trees_in table.old)
         due.now.targets.list.items }
     requires node { IsNodeOf table.old due.now.facts.list.items node.old }
-    ensures { OnOk result (Widens table.old table.new) }
+    ensures { OnOk result (ExtendsTable table.old table.new) }
 {
     let mut ends = Vec::new(alloc);
     for at in places {
@@ -93,7 +93,7 @@ fn ends_of(
         due.now.facts.list.items }
     requires goals { AreFormsReady (sorts_in table.old) (trees_in table.old)
         due.now.targets.list.items }
-    ensures { OnOk result (Widens table.old table.new) }
+    ensures { OnOk result (ExtendsTable table.old table.new) }
 {
     let is_shared = places.len() > 1;
     if is_shared {
@@ -132,7 +132,7 @@ fn walk_share(
     work: &mut Work,
 ) -> Result<(), AllocError>
     requires { AreDuesReady (sorts_in table.old) (trees_in table.old) wave.now.dues.now }
-    ensures { OnOk result (Widens table.old table.new) }
+    ensures { OnOk result (ExtendsTable table.old table.new) }
 {
     let Some(due) = wave.dues.get(share.place) else {
         return Ok(());
@@ -152,7 +152,7 @@ fn walk_shares(
     work: &mut Work,
 ) -> Result<(), AllocError>
     requires { AreDuesReady (sorts_in table.old) (trees_in table.old) wave.now.dues.now }
-    ensures { OnOk result (Widens table.old table.new) }
+    ensures { OnOk result (ExtendsTable table.old table.new) }
 {
     for share in wave.shares {
         if share.job == job {

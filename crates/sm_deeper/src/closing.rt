@@ -1,7 +1,7 @@
 // Goals that close.
 ghost use Rattle.std.specs.Prelude.{IfOk, OnOk};
 ghost use Rattle.sm_term.specs.Tables.{trees_in, sorts_in};
-ghost use Rattle.sm_term.specs.TableLaws.{Widens};
+ghost use Rattle.sm_term.specs.TableLaws.{ExtendsTable};
 ghost use Rattle.sm_plan.specs.ReadyStates.{IsFormReady, AreFormsReady};
 ghost use Rattle.sm_goals.specs.Nodes.{IsNodeOf};
 
@@ -33,7 +33,7 @@ pub(crate) fn boxed_node(
 ) -> Result<Box<Option<Node>>, AllocError>
     requires { AreFormsReady (sorts_in table.old) (trees_in table.old) facts.now.list.items }
     ensures node { IfOk result (λ node. IsNodeOf table.new facts.now.list.items node.value) }
-    ensures widens { Widens table.old table.new }
+    ensures widens { ExtendsTable table.old table.new }
 {
     let node = node_of(alloc, table, facts, is_shared, steps)?;
     Ok(Box::new(alloc, node)?)
@@ -81,7 +81,7 @@ pub(crate) fn walked(
     requires goal { IsFormReady (sorts_in table.old) (trees_in table.old) goal.now }
     requires node { IsNodeOf table.old facts.now.list.items node.old }
     ensures node { OnOk result (IsNodeOf table.new facts.now.list.items node.new) }
-    ensures widens { OnOk result (Widens table.old table.new) }
+    ensures widens { OnOk result (ExtendsTable table.old table.new) }
 {
     let answer = solve_at(alloc, table, node, &facts.list, goal, reach)?;
     Ok(end_of_walk(answer))

@@ -1,7 +1,7 @@
 // Certificates that jobs make ahead of the end of an attempt.
 ghost use Rattle.std.specs.Prelude.{◌≤◌, ◌<◌, ℕ, length, take, slice_index_or, IfOk, OnOk};
 ghost use Rattle.sm_term.specs.Tables.{trees_in, sorts_in};
-ghost use Rattle.sm_term.specs.TableLaws.{Widens};
+ghost use Rattle.sm_term.specs.TableLaws.{ExtendsTable};
 ghost use Rattle.sm_term.specs.Tails.{AreRowsSound};
 ghost use Rattle.sm_expand.specs.Views.{AreDuesReady};
 ghost use Rattle.sm_deeper.specs.declared.end_jobs.JobEnd.{JobEnd};
@@ -53,7 +53,7 @@ fn put_end(
     effort: &mut Effort,
 ) -> Result<bool, AllocError>
     requires { AreDuesReady (sorts_in table.old) (trees_in table.old) dues.now }
-    ensures { OnOk result (Widens table.old table.new) }
+    ensures { OnOk result (ExtendsTable table.old table.new) }
 {
     let Some(due) = dues.get(place) else {
         return Ok(true);
@@ -84,7 +84,7 @@ fn put_ends(
     effort: &mut Effort,
 ) -> Result<(), AllocError>
     requires { AreDuesReady (sorts_in table.old) (trees_in table.old) ends.now.dues.now }
-    ensures { OnOk result (Widens table.old table.new) }
+    ensures { OnOk result (ExtendsTable table.old table.new) }
 {
     for n in 0..ends.places.len() {
         if n.checked_rem(ends.jobs) == Some(job as usize) {
@@ -149,7 +149,7 @@ fn adopted(
     requires behind { from ≤ length (trees_in table.old) }
     requires sound { let first = take from (trees_in table.old) in
         AreRowsSound (sorts_in table.old) first rows.now }
-    ensures { Widens table.old table.new }
+    ensures { ExtendsTable table.old table.new }
 {
     let new = table.adopt(alloc, rows, from)?;
     let mut list = Vec::new(alloc);
@@ -206,7 +206,7 @@ fn take_all(
     requires sound { (k : ℕ) (e : JobEnd) → k < length ends.now →
         AreRowsSound (sorts_in table.old) (take from (trees_in table.old))
         (slice_index_or ends.now k e).rows }
-    ensures { OnOk result (Widens table.old table.new) }
+    ensures { OnOk result (ExtendsTable table.old table.new) }
 {
     for end in ends {
         let numbers = adopted(alloc, table, from, &end.rows)?;
@@ -228,7 +228,7 @@ pub(crate) fn end_ahead<R: Threads + Sync, G: Gate>(
     effort: &Effort,
 ) -> Result<(), AllocError>
     requires { AreDuesReady (sorts_in table.old) (trees_in table.old) dues.now }
-    ensures { OnOk result (Widens table.old table.new) }
+    ensures { OnOk result (ExtendsTable table.old table.new) }
 {
     if crew.workers == 1 || places.len() < 2 {
         return Ok(());

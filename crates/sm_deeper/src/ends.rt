@@ -1,7 +1,7 @@
 // The end of an attempt: each goal closes, or a dead end or another goal doesn't.
 ghost use Rattle.std.specs.Prelude.{OnOk};
 ghost use Rattle.sm_term.specs.Tables.{trees_in, sorts_in};
-ghost use Rattle.sm_term.specs.TableLaws.{Widens};
+ghost use Rattle.sm_term.specs.TableLaws.{ExtendsTable};
 ghost use Rattle.sm_plan.specs.ReadyStates.{AreFormsReady};
 ghost use Rattle.sm_expand.specs.Views.{AreDuesReady};
 ghost use Rattle.sm_goals.specs.Nodes.{IsNodeOf};
@@ -32,7 +32,7 @@ pub(crate) fn put_trees(
         due.now.facts.list.items }
     requires goals { AreFormsReady (sorts_in table.old) (trees_in table.old)
         due.now.targets.list.items }
-    ensures { OnOk result (Widens table.old table.new) }
+    ensures { OnOk result (ExtendsTable table.old table.new) }
 {
     let goals = due.targets.list.as_slice();
     let is_shared = goals.len() > 1;
@@ -58,7 +58,7 @@ fn put_trees_at(
         facts.now.list.items }
     requires goals { AreFormsReady (sorts_in table.old) (trees_in table.old) goals.now }
     requires node { IsNodeOf table.old facts.now.list.items node.old }
-    ensures { OnOk result (Widens table.old table.new) }
+    ensures { OnOk result (ExtendsTable table.old table.new) }
 {
     for goal in goals {
         if effort.work.is_spent() {
@@ -94,7 +94,7 @@ fn new_end(
         due.now.facts.list.items }
     requires goals { AreFormsReady (sorts_in table.old) (trees_in table.old)
         due.now.targets.list.items }
-    ensures { OnOk result (Widens table.old table.new) }
+    ensures { OnOk result (ExtendsTable table.old table.new) }
 {
     let mut trees = Vec::new(alloc);
     let is_closed = put_trees(alloc, table, due, &mut trees, effort)?;
@@ -129,7 +129,7 @@ fn is_ended(
         due.now.facts.list.items }
     requires goals { AreFormsReady (sorts_in table.old) (trees_in table.old)
         due.now.targets.list.items }
-    ensures { OnOk result (Widens table.old table.new) }
+    ensures { OnOk result (ExtendsTable table.old table.new) }
 {
     if let Some(end) = known {
         if is_paid(end, effort) {
@@ -167,7 +167,7 @@ fn put_open(
         due.now.facts.list.items }
     requires goals { AreFormsReady (sorts_in table.old) (trees_in table.old)
         due.now.targets.list.items }
-    ensures { OnOk result (Widens table.old table.new) }
+    ensures { OnOk result (ExtendsTable table.old table.new) }
 {
     if is_ended(alloc, table, due, known, effort)? {
         return Ok(true);
@@ -189,7 +189,7 @@ fn open_ends(
     effort: &mut Effort,
 ) -> Result<Option<Vec<u64>>, AllocError>
     requires { AreDuesReady (sorts_in table.old) (trees_in table.old) dues.now }
-    ensures { OnOk result (Widens table.old table.new) }
+    ensures { OnOk result (ExtendsTable table.old table.new) }
 {
     let mut open = Vec::new(alloc);
     for at in 0..dues.len() {
@@ -213,7 +213,7 @@ fn are_ended(
     effort: &mut Effort,
 ) -> Result<bool, AllocError>
     requires { AreDuesReady (sorts_in table.old) (trees_in table.old) dues.now }
-    ensures { OnOk result (Widens table.old table.new) }
+    ensures { OnOk result (ExtendsTable table.old table.new) }
 {
     for at in 0..dues.len() {
         if at >= ends.len() {
@@ -274,7 +274,7 @@ pub(crate) fn end_of<R: Threads + Sync, G: Gate>(
     effort: &mut Effort,
 ) -> Result<Ended, AllocError>
     requires { AreDuesReady (sorts_in table.old) (trees_in table.old) dues.now }
-    ensures { OnOk result (Widens table.old table.new) }
+    ensures { OnOk result (ExtendsTable table.old table.new) }
 {
     let mut ends = no_ends(alloc, dues.len())?;
     let places = places_of(alloc, dues, owners, false)?;

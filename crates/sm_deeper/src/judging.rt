@@ -1,7 +1,7 @@
 // Candidates that are judged by what nodes ask of them.
 ghost use Rattle.std.specs.Prelude.{OnOk};
 ghost use Rattle.sm_term.specs.Tables.{trees_in, sorts_in};
-ghost use Rattle.sm_term.specs.TableLaws.{Widens};
+ghost use Rattle.sm_term.specs.TableLaws.{ExtendsTable};
 ghost use Rattle.sm_plan.specs.ReadyStates.{AreFormsReady};
 ghost use Rattle.sm_expand.specs.Views.{AreDuesReady};
 ghost use Rattle.sm_goals.specs.Nodes.{IsNodeOf};
@@ -59,7 +59,7 @@ pub(crate) fn walk_at(
         due.now.targets.list.items }
     requires node { IsNodeOf table.old due.now.facts.list.items node.old }
     ensures node { OnOk result (IsNodeOf table.new due.now.facts.list.items node.new) }
-    ensures widens { OnOk result (Widens table.old table.new) }
+    ensures widens { OnOk result (ExtendsTable table.old table.new) }
 {
     match due.targets.list.get(at) {
         Some(goal) => {
@@ -119,7 +119,7 @@ fn stays(
         due.now.targets.list.items }
     requires node { IsNodeOf table.old due.now.facts.list.items node.old }
     ensures node { OnOk result (IsNodeOf table.new due.now.facts.list.items node.new) }
-    ensures widens { OnOk result (Widens table.old table.new) }
+    ensures widens { OnOk result (ExtendsTable table.old table.new) }
 {
     if effort.work.is_spent() {
         return Ok(false);
@@ -147,7 +147,7 @@ fn judged(
         due.now.facts.list.items }
     requires goals { AreFormsReady (sorts_in table.old) (trees_in table.old)
         due.now.targets.list.items }
-    ensures { OnOk result (Widens table.old table.new) }
+    ensures { OnOk result (ExtendsTable table.old table.new) }
 {
     let is_shared = are_several(marks);
     if is_shared {
@@ -173,7 +173,7 @@ fn judged_at(
     requires goals { AreFormsReady (sorts_in table.old) (trees_in table.old)
         due.now.targets.list.items }
     requires node { IsNodeOf table.old due.now.facts.list.items node.old }
-    ensures { OnOk result (Widens table.old table.new) }
+    ensures { OnOk result (ExtendsTable table.old table.new) }
 {
     let mut list = Vec::new(alloc);
     for at in 0..marks.len() {
@@ -204,7 +204,7 @@ fn judge(
     effort: &mut Effort,
 ) -> Result<(), AllocError>
     requires { AreDuesReady (sorts_in table.old) (trees_in table.old) round.now.dues.now }
-    ensures { OnOk result (Widens table.old table.new) }
+    ensures { OnOk result (ExtendsTable table.old table.new) }
 {
     let Some(due) = round.dues.get(place) else {
         return Ok(());
@@ -233,7 +233,7 @@ pub(crate) fn judge_all(
     effort: &mut Effort,
 ) -> Result<(), AllocError>
     requires { AreDuesReady (sorts_in table.old) (trees_in table.old) round.now.dues.now }
-    ensures { OnOk result (Widens table.old table.new) }
+    ensures { OnOk result (ExtendsTable table.old table.new) }
 {
     let mut left = round.dues.len();
     while left > 0 {

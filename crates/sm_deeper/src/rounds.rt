@@ -1,7 +1,7 @@
 // Rounds: candidates are dropped until each goal of those that are left closes.
 ghost use Rattle.std.specs.Prelude.{IfOk, OnOk, IfSome};
 ghost use Rattle.sm_term.specs.Tables.{trees_in, sorts_in};
-ghost use Rattle.sm_term.specs.TableLaws.{Widens};
+ghost use Rattle.sm_term.specs.TableLaws.{ExtendsTable};
 ghost use Rattle.sm_expand.specs.Views.{AreDuesReady};
 ghost use Rattle.sm_candidates.specs.Subjects.{IsSubject, IsTableOf};
 
@@ -51,7 +51,7 @@ fn asked_by(
     requires declared { IsTableOf subject.now.task.now table.old }
     ensures ready { IfOk result (λ o. IfSome o (λ a.
         AreDuesReady (sorts_in table.new) (trees_in table.new) a.dues.items)) }
-    ensures widens { Widens table.old table.new }
+    ensures widens { ExtendsTable table.old table.new }
 {
     let mut site = 0;
     let plan = plan_keeping(alloc, product.plan, candidates, &mut site)?;

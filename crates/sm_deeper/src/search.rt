@@ -40,7 +40,10 @@ struct Drawings {
 // One call ends a value, and not one for each field: proofs of what has it stay small.
 impl Drop for Drawings {
     fn drop(self) {
-        let Self { first: _, second: _ } = self;
+        let Self {
+            first: _,
+            second: _,
+        } = self;
     }
 }
 

@@ -8,7 +8,7 @@ use crate::shared::next_each;
 use crate::sides::COPIES;
 use crate::works::{ForkWork, LoopCode, LoopWork, Next, Way, Work};
 use sm_moves::{bit, copy_rests, fork, has, is_empty, least, with_member};
-use sm_plan::Rest;
+use sm_plan::Continuation;
 use sm_syntax::{CopyName, PerCopy, Stmt};
 use sm_text::Task;
 use std::alloc::{AllocError, Global};
@@ -97,7 +97,7 @@ fn least_fork(heads: &Heads<'_>, set: u8) -> Option<CopyName> {
 }
 
 // The least number of loops that a copy of a set has left.
-fn fewest_loops(rests: &PerCopy<Rest<'_>>, set: u8) -> usize {
+fn fewest_loops(rests: &PerCopy<Continuation<'_>>, set: u8) -> usize {
     let mut fewest = usize::MAX;
     for copy in COPIES {
         if has(set, copy) {
@@ -108,7 +108,7 @@ fn fewest_loops(rests: &PerCopy<Rest<'_>>, set: u8) -> usize {
 }
 
 // The least copy of a set that has more loops left than another.
-fn least_with_more(rests: &PerCopy<Rest<'_>>, set: u8) -> Option<CopyName> {
+fn least_with_more(rests: &PerCopy<Continuation<'_>>, set: u8) -> Option<CopyName> {
     let fewest = fewest_loops(rests, set);
     for copy in COPIES {
         if has(set, copy) && loops_left(rests.get(copy)) > fewest {
@@ -154,7 +154,7 @@ fn summarized(
 fn beside_move(
     task: &Task,
     style: Style,
-    rests: &PerCopy<Rest<'_>>,
+    rests: &PerCopy<Continuation<'_>>,
     heads: &Heads<'_>,
     hole: u32,
     set: u8,
@@ -177,7 +177,7 @@ fn beside_move(
 
 // What copies do that begin with loops: one that has more of them left than another goes on alone,
 // where this is asked for, or else all run together.
-fn last_move(style: Style, rests: &PerCopy<Rest<'_>>, left: u8) -> BesideMove {
+fn last_move(style: Style, rests: &PerCopy<Continuation<'_>>, left: u8) -> BesideMove {
     if style.is_second {
         if let Some(copy) = least_with_more(rests, left) {
             return BesideMove::Summaries(bit(copy));
@@ -191,7 +191,7 @@ pub(crate) fn next_beside<'a>(
     alloc: Global,
     task: &Task,
     style: Style,
-    rests: &PerCopy<Rest<'a>>,
+    rests: &PerCopy<Continuation<'a>>,
     hole: u32,
     set: u8,
     works: &mut Vec<Work<'a>>,
@@ -218,7 +218,7 @@ pub(crate) fn next_beside<'a>(
 // Puts what is left behind the first statement of each of some copies on the works.
 fn put_behind<'a>(
     alloc: Global,
-    rests: &PerCopy<Rest<'a>>,
+    rests: &PerCopy<Continuation<'a>>,
     hole: u32,
     set: u8,
     some: u8,
@@ -232,7 +232,7 @@ fn put_behind<'a>(
 // The loops of some copies, whose bodies run beside each other.
 fn next_beside_loops<'a>(
     alloc: Global,
-    rests: &PerCopy<Rest<'a>>,
+    rests: &PerCopy<Continuation<'a>>,
     heads: &Heads<'a>,
     hole: u32,
     some: u8,
@@ -248,7 +248,7 @@ fn next_beside_loops<'a>(
 // What is left of the fillings in a branch of a copy's fork.
 fn beside_branch<'a>(
     alloc: Global,
-    rests: &PerCopy<Rest<'a>>,
+    rests: &PerCopy<Continuation<'a>>,
     hole: u32,
     set: u8,
     copy: CopyName,
@@ -263,7 +263,7 @@ fn beside_branch<'a>(
 // The fork of a copy, with what is left of the fillings in either branch.
 fn next_beside_fork<'a>(
     alloc: Global,
-    rests: &PerCopy<Rest<'a>>,
+    rests: &PerCopy<Continuation<'a>>,
     heads: &Heads<'a>,
     hole: u32,
     set: u8,

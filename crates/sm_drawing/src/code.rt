@@ -1,6 +1,6 @@
 // Code that four copies have left, as statements of the filled programs.
 use sm_moves::filling_at;
-use sm_plan::Rest;
+use sm_plan::Continuation;
 use sm_syntax::{Block, Cond, CopyName, Fillings, PerCopy, Stmt, same_block, same_cond};
 use std::alloc::{AllocError, Global};
 
@@ -86,7 +86,7 @@ pub(crate) fn heads_of<'a>(pieces: &PerCopy<&'a [Stmt]>) -> Heads<'a> {
 }
 
 /// The first statement of what each copy has left.
-pub(crate) fn heads_left<'a>(rests: &PerCopy<Rest<'a>>) -> Heads<'a> {
+pub(crate) fn heads_left<'a>(rests: &PerCopy<Continuation<'a>>) -> Heads<'a> {
     PerCopy {
         base: rests.base.first(),
         variant_a: rests.variant_a.first(),
@@ -194,7 +194,7 @@ fn count_loops(list: &[Stmt]) -> usize {
 }
 
 /// How many loops are left among a copy's own statements.
-pub(crate) fn loops_left(rest: &Rest<'_>) -> usize {
+pub(crate) fn loops_left(rest: &Continuation<'_>) -> usize {
     let mut count: usize = 0;
     for frame in &rest.frames {
         count = count.saturating_add(count_loops(*frame));
@@ -205,9 +205,9 @@ pub(crate) fn loops_left(rest: &Rest<'_>) -> usize {
 /// What is left of copies after the first statement of each of a set.
 pub(crate) fn rests_behind<'a>(
     alloc: Global,
-    rests: &PerCopy<Rest<'a>>,
+    rests: &PerCopy<Continuation<'a>>,
     set: u8,
-) -> Result<PerCopy<Rest<'a>>, AllocError> {
+) -> Result<PerCopy<Continuation<'a>>, AllocError> {
     Ok(PerCopy {
         base: rest_behind(alloc, &rests.base, set, CopyName::O)?,
         variant_a: rest_behind(alloc, &rests.variant_a, set, CopyName::A)?,
@@ -219,10 +219,10 @@ pub(crate) fn rests_behind<'a>(
 // What is left of a copy after its first statement, where it is of the set.
 fn rest_behind<'a>(
     alloc: Global,
-    rest: &Rest<'a>,
+    rest: &Continuation<'a>,
     set: u8,
     copy: CopyName,
-) -> Result<Rest<'a>, AllocError> {
+) -> Result<Continuation<'a>, AllocError> {
     let mut behind = rest.copy(alloc)?;
     if sm_moves::has(set, copy) {
         behind.drop_front(1);

@@ -4,7 +4,7 @@ use crate::canvas::Style;
 use crate::code::{FilledCode, Heads, copy_code, copy_heads};
 use crate::shared::{next_each, next_fork, next_shared};
 use sm_moves::{bodies, copy_rests};
-use sm_plan::Rest;
+use sm_plan::Continuation;
 use sm_syntax::{Cond, CopyName, PerCopy, Stmt};
 use sm_text::Task;
 use std::alloc::{AllocError, Global};
@@ -46,7 +46,7 @@ pub(crate) enum Work<'a> {
     },
     /// What is left of the fillings of a hole.
     Beside {
-        rests: PerCopy<Rest<'a>>,
+        rests: PerCopy<Continuation<'a>>,
         hole: u32,
         set: u8,
     },
@@ -56,7 +56,10 @@ pub(crate) enum Work<'a> {
 #[derive(Drop)]
 pub(crate) enum LoopCode<'a> {
     Shared(FilledCode<'a>),
-    Beside { rests: PerCopy<Rest<'a>>, hole: u32 },
+    Beside {
+        rests: PerCopy<Continuation<'a>>,
+        hole: u32,
+    },
 }
 
 /// A fork of a copy, with what either branch begins with.

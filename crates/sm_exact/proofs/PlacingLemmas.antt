@@ -67,8 +67,6 @@ combined_constant f g h p q kind e =
 pub combined_kind : (f g h : Linear ℕ) (p q : ℤ) (kind : Kind) → combined f p g q kind ≡ Fits h → h.kind ≡ kind
 combined_kind f g h p q kind e = (formed_from (merged p q f.parts g.parts) (combined_number p f.constant q g.constant) kind h e).2
 
-}
-
 -- one part more
 module _ (numbers : List ℕ) (p : ℕ × ℤ) (ps qs rs : List (ℕ × ℤ)) (n : ℕ) (once : HavePlaces numbers) (here : IsAt numbers n p.0)
     (sum : (a : ℕ) → coefficient same_atom a rs

@@ -8,7 +8,7 @@ use Rattle.sm_syntax.specs.text.Sorts.{Sorts}
 use Rattle.sm_term.specs.declared.formula.Formula.{Formula}
 use Rattle.sm_term.specs.Assertions.{Assertion}
 use Rattle.sm_term.specs.Tables.{TableValue, trees_in, sorts_in}
-use Rattle.sm_term.specs.TableLaws.{Widens}
+use Rattle.sm_term.specs.TableLaws.{ExtendsTable}
 use Rattle.sm_term.specs.Terms.{Tree}
 use Rattle.sm_plan.specs.declared.opening.Opened.{Opened}
 use Rattle.sm_plan.specs.declared.opening.Successor.{Successor}
@@ -71,7 +71,7 @@ whole : (sorts : Sorts) (trees : List Tree) (fs : List Formula) → take (length
 whole sorts trees fs = let a = forms_long sorts trees fs in let b : length (forms_in sorts trees fs) ≤ length fs =
     omega arith in take_all (length fs) (forms_in sorts trees fs) b
 
-module _ (v w : TableValue) (wider : Widens v w) where
+module _ (v w : TableValue) (wider : ExtendsTable v w) where
   -- what is asked and what waits then is what was to be expanded before
   pub taken : (k : ℕ) (x : Waiting) (path more : List Formula) (dues later : List Due) (ws new : List Waiting)
       (o : Opened × Vec Cursor Global)

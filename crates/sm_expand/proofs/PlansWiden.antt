@@ -6,7 +6,7 @@ use Rattle.sm_term.specs.Assertions.{Assertion}
 use Rattle.sm_term.specs.Formulas.{NumberedFormula, assertion_in, IsFormulaWithin}
 use Rattle.sm_term.specs.Sorted.{IsFormSorted}
 use Rattle.sm_term.specs.Tables.{TableValue, trees_in, sorts_in}
-use Rattle.sm_term.specs.TableLaws.{Widens}
+use Rattle.sm_term.specs.TableLaws.{ExtendsTable}
 use Rattle.sm_plan.specs.Masks.{set_of}
 use Rattle.sm_plan.specs.Nodes as plain
 use Rattle.sm_plan.specs.Plans as tree
@@ -21,7 +21,7 @@ use Rattle.sm_expand.specs.Cursors.{numbered_at}
 use Rattle.sm_expand.specs.Views.{dues_in, AreDuesReady}
 use Rattle.sm_expand.specs.Walks.{facts_of, waits_as, AreNested, IsWaitingReady, AreWaitingReady}
 
-module _ (v w : TableValue) (wider : Widens v w) where
+module _ (v w : TableValue) (wider : ExtendsTable v w) where
   -- kept formulas
   keep_stays : (keep : NumberedFormula) →
       IsFormulaWithin (length (trees_in v)) keep × IsFormSorted (sorts_in v) (assertion_in (sorts_in v) (trees_in v) keep) →

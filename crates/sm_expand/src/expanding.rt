@@ -7,7 +7,7 @@ ghost use Rattle.sm_syntax.specs.trees.Copies.{of_copy};
 ghost use Rattle.sm_syntax.specs.trees.Programs.{declared_of, outputs_of};
 ghost use Rattle.sm_syntax.specs.trees.Views.{condition_of, code_of};
 ghost use Rattle.sm_term.specs.Tables.{TableValue, trees_in, sorts_in};
-ghost use Rattle.sm_term.specs.TableLaws.{Widens};
+ghost use Rattle.sm_term.specs.TableLaws.{ExtendsTable};
 ghost use Rattle.sm_plan.specs.Plans as plain;
 ghost use Rattle.sm_plan.specs.ReadyStates.{IsStateReady, AreFormsReady};
 ghost use Rattle.sm_plan.specs.SortedStates.{AreOutputsDeclared};
@@ -87,7 +87,7 @@ fn expand_at(
         IfErr result (λ e. FaultTells e (plain.expand 0 st (plan_in sorts trees plan.now))) }
     ensures ready { IfOk result (λ o.
         AreDuesReady (sorts_in table.new) (trees_in table.new) o.list.items) }
-    ensures widens { Widens table.old table.new }
+    ensures widens { ExtendsTable table.old table.new }
 {
     let mut walk = start_walk(alloc, state, facts, plan)?;
     while let Some(next) = walk.waiting.pop() {
@@ -135,7 +135,7 @@ pub fn expand(
         AreDuesReady (sorts_in table.new) (trees_in table.new) o.list.items) }
 
     // Each term keeps its number.
-    ensures widens { Widens table.old table.new }
+    ensures widens { ExtendsTable table.old table.new }
     ensures unchanged { OnErr result (trees_in table.new ≡ trees_in table.old) }
 {
     let len = table.len();
@@ -180,7 +180,7 @@ fn expand_whole(
         IfErr result (λ e. FaultTells e (plain.obligations t p)) }
     ensures ready { IfOk result (λ o.
         AreDuesReady (sorts_in table.new) (trees_in table.new) o.list.items) }
-    ensures widens { Widens table.old table.new }
+    ensures widens { ExtendsTable table.old table.new }
 {
     if is_deep(plan, 1000) {
         return Err(PlanFault::Deep);

@@ -6,7 +6,7 @@ ghost use Rattle.sm_term.specs.Assertions.{Assertion};
 ghost use Rattle.sm_term.specs.Terms.{Tree};
 ghost use Rattle.sm_plan.specs.Nodes.{is_end};
 ghost use Rattle.sm_term.specs.Tables.{trees_in, sorts_in};
-ghost use Rattle.sm_term.specs.TableLaws.{Widens};
+ghost use Rattle.sm_term.specs.TableLaws.{ExtendsTable};
 ghost use Rattle.sm_plan.specs.Plans as plain;
 ghost use Rattle.sm_plan.specs.ReadyStates.{IsStateReady};
 ghost use Rattle.sm_plan.specs.Views.{state_in};
@@ -45,7 +45,7 @@ pub fn open_at<'a, 'p>(
         (plan_over sorts trees (numbered_at cursor.now)))) }
 
     // Each term keeps its number.
-    ensures widens { Widens table.old table.new }
+    ensures widens { ExtendsTable table.old table.new }
     ensures unchanged { OnErr result (trees_in table.new ≡ trees_in table.old) }
 {
     let len = table.len();
@@ -73,7 +73,7 @@ fn open_with<'a, 'p>(
         (facts : List Assertion) → IfErr result (λ e. FaultTells e
         (plain.expand number (state_in sorts trees facts state.entry)
         (plan_over sorts trees (numbered_at cursor.now)))) }
-    ensures widens { Widens table.old table.new }
+    ensures widens { ExtendsTable table.old table.new }
 {
     let wrong = PlanFault::Wrong {
         node: number,
@@ -139,7 +139,7 @@ pub(crate) fn take_node<'a, 'p>(
     // A node fewer waits.
     ensures fewer { OnOk result (weight (reverse walk.new.waiting.items)
         < weight (next.entry ∷ reverse walk.old.waiting.items)) }
-    ensures widens { Widens table.old table.new }
+    ensures widens { ExtendsTable table.old table.new }
 {
     enter(
         alloc,

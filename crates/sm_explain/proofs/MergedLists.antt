@@ -111,8 +111,6 @@ is_past i (u ∷ us) r low = by (int_eq u i) (Decides-int_eq u i).0 (not_from_De
       others = λ (j : ℤ) (h : IsOf (u ∷ us) j). inr h;
     }
 
-}
-
 -- what is left stays above what is merged
 above_more : (us rest merged : List ℤ) (i : ℤ) → ((k j : ℤ) → IsOf merged k → IsOf us j → k <ℤ j) → IsPast i us rest
     → (k j : ℤ) → IsOf (merged ++ i ∷ []) k → IsOf rest j → k <ℤ j

@@ -27,7 +27,11 @@ pub struct Generated {
 // One call ends a value, and not one for each field: proofs of what has it stay small.
 impl Drop for Generated {
     fn drop(self) {
-        let Self { task: _, a: _, b: _ } = self;
+        let Self {
+            task: _,
+            a: _,
+            b: _,
+        } = self;
     }
 }
 

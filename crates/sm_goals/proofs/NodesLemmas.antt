@@ -5,7 +5,7 @@ use Rattle.sm_syntax.specs.text.Sorts.{Sorts}
 use Rattle.sm_term.specs.declared.formula.Formula.{Formula}
 use Rattle.sm_term.specs.Assertions.{Assertion}
 use Rattle.sm_term.specs.Tables.{TableValue, trees_in, sorts_in}
-use Rattle.sm_term.specs.TableLaws.{Grows}
+use Rattle.sm_term.specs.TableLaws.{AddsTerms}
 use Rattle.sm_term.specs.Terms.{Tree}
 use Rattle.sm_plan.specs.ReadyStates.{AreFormsReady}
 use Rattle.sm_plan.proofs.TablesWiden as widened
@@ -18,7 +18,7 @@ use Rattle.sm_goals.specs.Nodes.{IsNodeOf}
 use Rattle.sm_goals.proofs.FormsLemmas.{forms_same}
 
 -- a node of facts, over a table that has got more terms
-pub node_over : (v w : TableValue) → Grows v w → (fs : List Formula) → AreFormsReady (sorts_in v) (trees_in v) fs →
+pub node_over : (v w : TableValue) → AddsTerms v w → (fs : List Formula) → AreFormsReady (sorts_in v) (trees_in v) fs →
     (given : List Formula) → given ≡ fs → (node : Option Node) →
     IfSome node (IsNode w (assertions_in (sorts_in v) (trees_in v) (all_numbered given))) → IsNodeOf w fs node
 node_over v w grows fs ready given are node h =

@@ -1,7 +1,7 @@
 // What the nodes of a plan ask: goals over facts.
 ghost use Rattle.std.specs.Prelude.{◌≡◌, true, List, IfOk};
 ghost use Rattle.sm_term.specs.Tables.{trees_in, sorts_in};
-ghost use Rattle.sm_term.specs.TableLaws.{Widens};
+ghost use Rattle.sm_term.specs.TableLaws.{ExtendsTable};
 ghost use Rattle.sm_plan.specs.ReadyStates.{AreFormsReady};
 ghost use Rattle.sm_list.specs.Parts.{all_numbered};
 ghost use Rattle.sm_goals.specs.Nodes.{IsNodeOf};
@@ -23,7 +23,7 @@ pub fn node_of(
 ) -> Result<Option<Node>, AllocError>
     requires { AreFormsReady (sorts_in table.old) (trees_in table.old) facts.now.list.items }
     ensures node { IfOk result (IsNodeOf table.new facts.now.list.items) }
-    ensures widens { Widens table.old table.new }
+    ensures widens { ExtendsTable table.old table.new }
 {
     if !is_shared {
         return Ok(None);

@@ -11,7 +11,7 @@ use Rattle.sm_syntax.specs.text.Sorts.{Sorts}
 use Rattle.sm_term.specs.declared.formula.Formula.{Formula}
 use Rattle.sm_term.specs.Formulas.{numbered, assertion_in}
 use Rattle.sm_term.specs.Tables.{TableValue, trees_in, sorts_in}
-use Rattle.sm_term.specs.TableLaws.{Widens}
+use Rattle.sm_term.specs.TableLaws.{ExtendsTable}
 use Rattle.sm_term.specs.Terms.{Tree}
 use Rattle.sm_plan.specs.Plans as plain
 use Rattle.sm_plan.specs.ReadyStates.{AreFormsReady}
@@ -49,7 +49,7 @@ none_stays sorts trees reach d i e =
     (sym (goal_at sorts trees d.targets.list.items i None e))
 
 -- what a node asks, over a wider table
-pub due_stays : (v w : TableValue) → Widens v w → (d : Due) → AreFormsReady (sorts_in v) (trees_in v) d.facts.list.items →
+pub due_stays : (v w : TableValue) → ExtendsTable v w → (d : Due) → AreFormsReady (sorts_in v) (trees_in v) d.facts.list.items →
     AreFormsReady (sorts_in v) (trees_in v) d.targets.list.items →
     due_in (sorts_in w) (trees_in w) d ≡ due_in (sorts_in v) (trees_in v) d
 due_stays v w wider d known asks =
@@ -57,7 +57,7 @@ due_stays v w wider d known asks =
     let goals = widened.forms_stay v w wider d.targets.list.items asks in
     λ k. record { node = d.node; facts = facts k; goals = goals k; is_final = d.last }
 
-pub closes_stays : (v w : TableValue) (wider : Widens v w) (reach : Reach) (d : Due) (i : ℕ) →
+pub closes_stays : (v w : TableValue) (wider : ExtendsTable v w) (reach : Reach) (d : Due) (i : ℕ) →
     AreFormsReady (sorts_in v) (trees_in v) d.facts.list.items → AreFormsReady (sorts_in v) (trees_in v) d.targets.list.items →
     closes_at (sorts_in w) reach (due_in (sorts_in w) (trees_in w) d) i
     ≡ closes_at (sorts_in v) reach (due_in (sorts_in v) (trees_in v) d) i
@@ -140,7 +140,7 @@ none_judged passes stays choice h = go 0 choice (λ (r i : ℕ) (l : 0 ≤ r) (m
         λ k. first k ∷ more k
 
 -- marks after one more goal, over a table that widened
-pub judged_step : (v w : TableValue) → Widens v w → (reach : Reach) (due : Due) →
+pub judged_step : (v w : TableValue) → ExtendsTable v w → (reach : Reach) (due : Due) →
     AreFormsReady (sorts_in v) (trees_in v) due.facts.list.items → AreFormsReady (sorts_in v) (trees_in v) due.targets.list.items →
     (first : ℕ) (new old ms : List Marked) (i : ℕ) (d : Marked) (at : ℕ) (b : Bool) →
     new ≡ old ++ record { number = (get_or ms i d).number; holds = b } ∷ [] →
@@ -160,7 +160,7 @@ ok_map (Ok x) P Q f h = f x h
 ok_map (Err e) P Q f h = h
 
 -- marks that were judged over a wider table
-pub judged_over : (v w : TableValue) → Widens v w → (reach : Reach) (due : Due) →
+pub judged_over : (v w : TableValue) → ExtendsTable v w → (reach : Reach) (due : Due) →
     AreFormsReady (sorts_in v) (trees_in v) due.facts.list.items → AreFormsReady (sorts_in v) (trees_in v) due.targets.list.items →
     (first : ℕ) (ms : List Marked) (r : Result (Vec Marked Global) AllocError) →
     IfOk r (λ x. x.items ≡ still_marked (closes_at (sorts_in w) reach (due_in (sorts_in w) (trees_in w) due)) first ms) →

@@ -19,7 +19,7 @@ use Rattle.sm_term.specs.declared.term.TermId.{TermId}
 use Rattle.sm_term.specs.Assertions.{Assertion}
 use Rattle.sm_term.specs.Formulas.{numbered, assertion_in}
 use Rattle.sm_term.specs.Tables.{TableValue, trees_in, sorts_in, tree_at}
-use Rattle.sm_term.specs.TableLaws.{Widens}
+use Rattle.sm_term.specs.TableLaws.{ExtendsTable}
 use Rattle.sm_term.specs.Tails.{row_trees, AreRowsSound, trees_numbered}
 use Rattle.sm_term.specs.Terms.{Tree, Lit}
 use Rattle.sm_cert.specs.declared.tree.CertTree.{CertTree}
@@ -116,7 +116,7 @@ numbers_put first new more n from before all made =
     ∙ (λ k. (before ∙ ap (range_with_len 0) all) k ++ numbers_of more)
 
 -- rows that were put into a table, behind its first terms
-pub terms_adopted : (v w : TableValue) → Widens v w → (from : ℕ) → from ≤ length (trees_in v) → (made : List Tree) (ids all : List TermId) →
+pub terms_adopted : (v w : TableValue) → ExtendsTable v w → (from : ℕ) → from ≤ length (trees_in v) → (made : List Tree) (ids all : List TermId) →
     trees_numbered (trees_in w) ids ≡ map Some made → numbers_of all ≡ range_with_len 0 from ++ numbers_of ids →
     AreTermsOf (trees_in w) all (take from (trees_in v) ++ made)
 terms_adopted v w wider from behind made ids all stored is =
@@ -174,7 +174,7 @@ collected_join v goals more xs ys a b =
     }
 
 -- those of a run, over the one table
-pub run_taken : (v w copy : TableValue) → Widens v w → (all : List Tree) (numbers named : List TermId) → named ≡ numbers →
+pub run_taken : (v w copy : TableValue) → ExtendsTable v w → (all : List Tree) (numbers named : List TermId) → named ≡ numbers →
     AreTermsOf (trees_in w) numbers all → sorts_in copy ≡ sorts_in v → trees_in copy ≡ all →
     (goals more : List (List Assertion × Assertion)) (old certs given made new : List CertTree) → given ≡ certs → new ≡ old ++ made →
     ((trees others : List Tree) → AreTermsOf others named trees → AreTreesWithin (length trees) given →
@@ -320,10 +320,10 @@ runs_stop v w reach d asks runs ends i run h is closes some goals new =
     (run_at v reach d asks runs ends i run h is).ends
 
 -- the first terms of a table are those that it had
-pub first_stays : (v w : TableValue) → Widens v w → (from : ℕ) → from ≡ length (trees_in v) → take from (trees_in w) ≡ trees_in v
+pub first_stays : (v w : TableValue) → ExtendsTable v w → (from : ℕ) → from ≡ length (trees_in v) → take from (trees_in w) ≡ trees_in v
 first_stays v w wider from is = ap (take from) wider.trees.1 ∙ take_at (trees_in v) wider.trees.0 from (sym is)
 
-pub rows_sound : (v w : TableValue) → Widens v w → (from : ℕ) → from ≤ length (trees_in v) → (runs : List RunEnd) (i : ℕ) (run : RunEnd) →
+pub rows_sound : (v w : TableValue) → ExtendsTable v w → (from : ℕ) → from ≤ length (trees_in v) → (runs : List RunEnd) (i : ℕ) (run : RunEnd) →
     run ≡ get_or runs i run → AreRowsSound (sorts_in v) (take from (trees_in v)) (get_or runs i run).rows →
     AreRowsSound (sorts_in w) (take from (trees_in w)) run.rows
 rows_sound v w wider from within runs i run same sound =
@@ -332,7 +332,7 @@ rows_sound v w wider from within runs i run same sound =
     (subst (λ (r : RunEnd). AreRowsSound (sorts_in v) (take from (trees_in v)) r.rows) (sym same) sound))
 
 -- one run more, whose goals all close
-pub runs_more : (v u w : TableValue) → Widens v u → (from : ℕ) → from ≡ length (trees_in v) →
+pub runs_more : (v u w : TableValue) → ExtendsTable v u → (from : ℕ) → from ≡ length (trees_in v) →
     (reach : Reach) (d : program.Due) (asks : List Formula)
     (runs : List RunEnd) (ends : AreRunEnds v reach d asks runs) (i : ℕ) (run : RunEnd) → i < length runs → run ≡ get_or runs i run →
     is_some run.stop ≡ false → (goals : List (List Assertion × Assertion)) (old new : List CertTree) →
@@ -469,7 +469,7 @@ EndsOver sorts trees w reach first d part e =
     × AreCollected w (goals_with (due_in sorts trees d).facts (forms_in sorts trees part)) e.trees.items)
     (RunStops (walk sorts reach) (due_in sorts trees d) first (forms_in sorts trees part))
 
-pub run_ended : (v t w : TableValue) → sorts_in t ≡ sorts_in v → trees_in t ≡ trees_in v → Widens t w →
+pub run_ended : (v t w : TableValue) → sorts_in t ≡ sorts_in v → trees_in t ≡ trees_in v → ExtendsTable t w →
     (reach : Reach) (first from : ℕ) (due : program.Due) (part : List Formula) (e : RunEnd) → from ≡ length (trees_in t) →
     row_trees (take from (trees_in w)) e.rows ≡ drop from (trees_in w) → AreRowsSound (sorts_in w) (take from (trees_in w)) e.rows →
     MatchOption e.stop
@@ -506,7 +506,7 @@ part_ended v reach due each number size first goals part e same sized place is e
     (subst (λ (p : List Formula). IsRunEnd v reach due first p e) run end)
 
 -- the numbers that come of an adoption
-pub numbers_adopted : (v w : TableValue) → Widens v w → (from : ℕ) → from ≤ length (trees_in v) →
+pub numbers_adopted : (v w : TableValue) → ExtendsTable v w → (from : ℕ) → from ≤ length (trees_in v) →
     (made : List Tree) (ids others : List TermId) →
     others ≡ ids → (r : Result (Vec TermId Global) AllocError) → trees_numbered (trees_in w) ids ≡ map Some made →
     IfOk r (λ all. numbers_of all.items ≡ range_with_len 0 from ++ numbers_of others) →
@@ -518,7 +518,7 @@ numbers_adopted v w wider from behind made ids others same r stored =
     (is ∙ ap (λ (l : List TermId). range_with_len 0 from ++ numbers_of l) same))
 
 -- the rows of each run are sound, over a wider table
-pub runs_sound : (v w : TableValue) → Widens v w → (from : ℕ) → from ≡ length (trees_in v) → (reach : Reach) (d : program.Due)
+pub runs_sound : (v w : TableValue) → ExtendsTable v w → (from : ℕ) → from ≡ length (trees_in v) → (reach : Reach) (d : program.Due)
     (asks : List Formula) (runs : List RunEnd) → AreRunEnds v reach d asks runs → (k : ℕ) (run : RunEnd) → k < length runs →
     AreRowsSound (sorts_in w) (take from (trees_in w)) (get_or runs k run).rows
 runs_sound v w wider from is reach d asks runs ends k run h =

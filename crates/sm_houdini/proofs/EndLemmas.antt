@@ -9,7 +9,7 @@ use Rattle.sm_term.specs.declared.formula.Formula.{Formula}
 use Rattle.sm_term.specs.Assertions.{Assertion, negate}
 use Rattle.sm_term.specs.Formulas.{numbered, assertion_in}
 use Rattle.sm_term.specs.Tables.{TableValue, trees_in, sorts_in}
-use Rattle.sm_term.specs.TableLaws.{Widens}
+use Rattle.sm_term.specs.TableLaws.{ExtendsTable}
 use Rattle.sm_term.specs.Terms.{Tree}
 use Rattle.sm_theory.specs.Facts.{as_facts}
 use Rattle.sm_cert.specs.declared.tree.CertTree.{CertTree}
@@ -57,7 +57,7 @@ short_append [] es a b = b
 short_append (c ∷ cs) es a b = (a.0, short_append cs es a.1 b)
 
 -- what is collected stays while the table widens
-pub collected_stays : (v w : TableValue) → Widens v w → (goals : List (List Assertion × Assertion)) (trees : List CertTree) →
+pub collected_stays : (v w : TableValue) → ExtendsTable v w → (goals : List (List Assertion × Assertion)) (trees : List CertTree) →
     AreCollected v goals trees → AreCollected w goals trees
 collected_stays v w wider goals trees c =
     let same = sym (trees_stay v w wider trees c.within) in
@@ -69,7 +69,7 @@ collected_stays v w wider goals trees c =
     }
 
 -- one certificate more
-pub collected_more : (v w : TableValue) → Widens v w → (goals : List (List Assertion × Assertion)) (trees new : List CertTree)
+pub collected_more : (v w : TableValue) → ExtendsTable v w → (goals : List (List Assertion × Assertion)) (trees new : List CertTree)
     (facts : List Assertion) (goal : Assertion) (tree : CertTree) → new ≡ trees ++ tree ∷ [] → AreCollected v goals trees →
     AreLinesWithin (length (trees_in w)) (lines_of tree) →
     Closes (sorts_in v) (as_facts (facts ++ negate goal ∷ [])) (certificate_in (trees_in w) tree) →
@@ -114,7 +114,7 @@ longer {X} {Y} F xs i x h e =
     ∙ ap (λ (l : List Y). l ++ F x ∷ []) (sym (take-map F i xs))
 
 -- a goal that closes, with its certificate behind the others
-pub goal_ends : (v w : TableValue) → Widens v w → (reach : Reach) (node at : ℕ) (facts : List Formula) (goal : Formula)
+pub goal_ends : (v w : TableValue) → ExtendsTable v w → (reach : Reach) (node at : ℕ) (facts : List Formula) (goal : Formula)
     (a : Answer) (tree : CertTree) (given : List Formula) → given ≡ facts → AreFormsReady (sorts_in v) (trees_in v) facts →
     Tells (sorts_in v) (trees_in w) a
     (walk (sorts_in v) reach (assertions_in (sorts_in v) (trees_in v) (all_numbered given)) (assertion_in (sorts_in v) (trees_in v)
@@ -163,14 +163,14 @@ goal_stopped v w reach node at facts goal a s given same tells stops =
     (subst (λ (l : List Assertion). Tells sorts (trees_in w) a (walk sorts reach l g)) as_forms tells)
 
 -- a goal of what a node asks, over a wider table
-goal_stays : (v u : TableValue) → Widens v u → (fs : List Formula) (i : ℕ) (f : Formula) → AreFormsReady (sorts_in v) (trees_in v) fs →
+goal_stays : (v u : TableValue) → ExtendsTable v u → (fs : List Formula) (i : ℕ) (f : Formula) → AreFormsReady (sorts_in v) (trees_in v) fs →
     i < length fs → f ≡ get_or fs i f →
     assertion_in (sorts_in u) (trees_in u) (numbered f) ≡ assertion_in (sorts_in v) (trees_in v) (numbered f)
 goal_stays v u wider fs i f ready h e = widened.assertion_stays v u wider (numbered f) (form_at (sorts_in v)
     (trees_in v) fs i f ready h e).0
 
 -- the goals so far and one more, which closes
-pub goal_next : (v u w : TableValue) → Widens v u → (reach : Reach) (first i at : ℕ) (d : program.Due) (asks : List Formula) (f : Formula) →
+pub goal_next : (v u w : TableValue) → ExtendsTable v u → (reach : Reach) (first i at : ℕ) (d : program.Due) (asks : List Formula) (f : Formula) →
     AreFormsReady (sorts_in v) (trees_in v) d.facts.list.items → AreFormsReady (sorts_in v) (trees_in v) asks →
     i < length asks → f ≡ get_or asks i f → at ≡ first + i →
     (goals : List (List Assertion × Assertion)) (new : List CertTree) →
@@ -221,7 +221,7 @@ goal_left sorts trees reach first i d asks f h e closes later =
     ∙ ap (λ (n : ℕ). goals_outcome W d.node n (drop (i + 1) gs) later) more
 
 -- a goal that a node asks stops the search where its walk over a wider table does
-pub goal_stops : (v u : TableValue) → Widens v u → (reach : Reach) (first i at : ℕ) (d : program.Due) (asks : List Formula)
+pub goal_stops : (v u : TableValue) → ExtendsTable v u → (reach : Reach) (first i at : ℕ) (d : program.Due) (asks : List Formula)
     (f : Formula) (s : Stop) →
     AreFormsReady (sorts_in v) (trees_in v) d.facts.list.items → AreFormsReady (sorts_in v) (trees_in v) asks →
     i < length asks → f ≡ get_or asks i f → at ≡ first + i →
@@ -245,7 +245,7 @@ goal_stops v u wider reach first i at d asks f s known ready h e same stops late
 pub different : {A : Type 0} → true ≡ false → A
 different e = absurd cc
 
-pub goal_passed : (v u w : TableValue) → Widens v u → (reach : Reach) (first i at : ℕ) (d : program.Due) (asks : List Formula)
+pub goal_passed : (v u w : TableValue) → ExtendsTable v u → (reach : Reach) (first i at : ℕ) (d : program.Due) (asks : List Formula)
     (f : Formula) →
     AreFormsReady (sorts_in v) (trees_in v) d.facts.list.items → AreFormsReady (sorts_in v) (trees_in v) asks →
     i < length asks → f ≡ get_or asks i f → at ≡ first + i →
@@ -265,7 +265,7 @@ goal_passed v u w wider reach first i at d asks f known ready h e same goals new
     goal_next v u w wider reach first i at d asks f known ready h e same goals new both
 goal_passed v u w wider reach first i at d asks f known ready h e same goals new (Some s) is both = different is
 
-pub goal_ended : (v u w : TableValue) → Widens v u → (reach : Reach) (first i at : ℕ) (d : program.Due) (asks : List Formula)
+pub goal_ended : (v u w : TableValue) → ExtendsTable v u → (reach : Reach) (first i at : ℕ) (d : program.Due) (asks : List Formula)
     (f : Formula) →
     AreFormsReady (sorts_in v) (trees_in v) d.facts.list.items → AreFormsReady (sorts_in v) (trees_in v) asks →
     i < length asks → f ≡ get_or asks i f → at ≡ first + i →
@@ -367,7 +367,7 @@ passed_due : (b : Bool) (x later : Outcome (ℕ × Verdict)) → x ≡ later →
 passed_due true x later e = e
 passed_due false x later e = refl
 
-pub due_left : (v u : TableValue) → Widens v u → (reach : Reach) (i : ℕ) (ds : List program.Due) (d : program.Due) →
+pub due_left : (v u : TableValue) → ExtendsTable v u → (reach : Reach) (i : ℕ) (ds : List program.Due) (d : program.Due) →
     AreDuesReady (sorts_in v) (trees_in v) ds → i < length ds → d ≡ get_or ds i d →
     GoalsClose (walk (sorts_in u) reach) (due_in (sorts_in u) (trees_in u) d) →
     (let whole : Outcome (ℕ × Verdict) = final_outcome (walk (sorts_in v) reach) (drop i (dues_in (sorts_in v) (trees_in v) ds)) in whole)
@@ -383,7 +383,7 @@ due_left v u wider reach i ds d ready h e closes =
     ∙ passed_due due.is_final (goals_outcome (W due.facts) due.node 0 due.goals later) later
     (sym (λ k. goals_outcome (walk (wider.sorts k) reach (same k).facts) (same k).node 0 (same k).goals later) ∙ closes later)
 
-pub due_asked : (v u w : TableValue) → Widens v u → (i : ℕ) (ds : List program.Due) (d : program.Due) (new : List CertTree) →
+pub due_asked : (v u w : TableValue) → ExtendsTable v u → (i : ℕ) (ds : List program.Due) (d : program.Due) (new : List CertTree) →
     AreDuesReady (sorts_in v) (trees_in v) ds → i < length ds → d ≡ get_or ds i d →
     AreCollected w (asked (take i (dues_in (sorts_in v) (trees_in v) ds))
     ++ goals_with (due_in (sorts_in u) (trees_in u) d).facts (due_in (sorts_in u) (trees_in u) d).goals) new →
@@ -397,7 +397,7 @@ due_asked v u w wider i ds d new ready h e collected =
     ((λ k. asked before ++ goals_with (same k).facts (same k).goals)
     ∙ sym (asked_more before due) ∙ ap asked (sym (longer (due_in (sorts_in v) (trees_in v)) ds i d h e))) collected
 
-pub due_stops : (v u : TableValue) → Widens v u → (reach : Reach) (i : ℕ) (ds : List program.Due) (d : program.Due) (s : Stop) →
+pub due_stops : (v u : TableValue) → ExtendsTable v u → (reach : Reach) (i : ℕ) (ds : List program.Due) (d : program.Due) (s : Stop) →
     AreDuesReady (sorts_in v) (trees_in v) ds → i < length ds → d ≡ get_or ds i d →
     AreInsideClosed (walk (sorts_in v) reach) (dues_in (sorts_in v) (trees_in v) ds) →
     GoalsStop (walk (sorts_in u) reach) (due_in (sorts_in u) (trees_in u) d) s →
@@ -418,7 +418,7 @@ due_stops v u wider reach i ds d s ready h e all stops =
     ∙ here (final_outcome W rest)
 
 -- by what the node's goals came to
-pub due_passed : (v u w : TableValue) → Widens v u → (reach : Reach) (i : ℕ) (ds : List program.Due) (d : program.Due) →
+pub due_passed : (v u w : TableValue) → ExtendsTable v u → (reach : Reach) (i : ℕ) (ds : List program.Due) (d : program.Due) →
     AreDuesReady (sorts_in v) (trees_in v) ds → i < length ds → d ≡ get_or ds i d → (new : List CertTree) (o : Option Stop) →
     is_some o ≡ false →
     MatchOption o
@@ -433,7 +433,7 @@ due_passed v u w wider reach i ds d ready h e new None is both =
     (due_asked v u w wider i ds d new ready h e both.1, due_left v u wider reach i ds d ready h e both.0)
 due_passed v u w wider reach i ds d ready h e new (Some s) is both = different is
 
-pub due_ended : (v u w : TableValue) → Widens v u → (reach : Reach) (i : ℕ) (ds : List program.Due) (d : program.Due) →
+pub due_ended : (v u w : TableValue) → ExtendsTable v u → (reach : Reach) (i : ℕ) (ds : List program.Due) (d : program.Due) →
     AreDuesReady (sorts_in v) (trees_in v) ds → i < length ds → d ≡ get_or ds i d →
     AreInsideClosed (walk (sorts_in v) reach) (dues_in (sorts_in v) (trees_in v) ds) →
     (before : List (List Assertion × Assertion)) (new : List CertTree) →
@@ -462,7 +462,7 @@ Ended sorts reach node first facts run x goals new o =
     × AreCollected x (goals ++ goals_with facts run) new)
     (λ (s : Stop). (later : Outcome (ℕ × Verdict)) → goals_outcome (walk sorts reach facts) node first run later ≡ stop_in s)
 
-pub run_over : (v w x : TableValue) → Widens v w → (reach : Reach) (first : ℕ) (d : program.Due) (asks : List Formula) →
+pub run_over : (v w x : TableValue) → ExtendsTable v w → (reach : Reach) (first : ℕ) (d : program.Due) (asks : List Formula) →
     AreFormsReady (sorts_in v) (trees_in v) d.facts.list.items → AreFormsReady (sorts_in v) (trees_in v) asks →
     (goals : List (List Assertion × Assertion)) (old new : List CertTree) (r : Result (Option Stop) AllocError) →
     (AreCollected w goals old → IfOk r (λ o. MatchOption o

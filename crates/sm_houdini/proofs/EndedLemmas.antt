@@ -5,7 +5,7 @@ use Rattle.sm_syntax.specs.text.Parts.{Parts, sort_of, task_of}
 use Rattle.sm_syntax.specs.text.Sorts.{Sorts}
 use Rattle.sm_term.specs.Assertions.{Assertion}
 use Rattle.sm_term.specs.Tables.{TableValue, trees_in, sorts_in}
-use Rattle.sm_term.specs.TableLaws.{Widens}
+use Rattle.sm_term.specs.TableLaws.{ExtendsTable}
 use Rattle.sm_cert.specs.Views.{certificate_in}
 use Rattle.sm_plan.specs.Plans as plain
 use Rattle.sm_plan.specs.Plans.{Due, Fault, obligations}
@@ -78,7 +78,7 @@ module _ (t : Parts) (reach : Reach) where
       TellsStop t reach s
   ended_stops sorts ds s same small e stops = sym (decides sorts ds same small e ∙ stops)
 
-  pub ended_accepts : (v x : TableValue) → Widens v x → (plan : Plan) (trees : CertTrees) (sorts : Sorts) (ds : List Due) →
+  pub ended_accepts : (v x : TableValue) → ExtendsTable v x → (plan : Plan) (trees : CertTrees) (sorts : Sorts) (ds : List Due) →
       sorts_in v ≡ sort_of t.declared → sorts ≡ sort_of t.declared → AreNumbered t.declared →
       IsTaskSorted (sort_of t.declared) (task_of t) → is_small t ≡ true →
       IsPlanReady (sorts_in v) (trees_in v) (numbered_plan plan) →

@@ -11,7 +11,7 @@ use Rattle.sm_syntax.specs.text.Sorts.{Sorts}
 use Rattle.sm_term.specs.Assertions.{Assertion}
 use Rattle.sm_term.specs.Formulas.{NumberedFormula, numbered, assertion_in}
 use Rattle.sm_term.specs.Tables.{TableValue, trees_in, sorts_in}
-use Rattle.sm_term.specs.TableLaws.{Widens}
+use Rattle.sm_term.specs.TableLaws.{ExtendsTable}
 use Rattle.sm_term.specs.Terms.{Tree}
 use Rattle.sm_term.specs.declared.formula.Formula.{Formula}
 use Rattle.sm_plan.specs.Plans as plain
@@ -62,7 +62,7 @@ round_asked v reach owners a choice ready e = record {
 }
 
 -- so it is over a wider table
-pub asked_stays : (v w : TableValue) → Widens v w → (reach : Reach) (owners : List (Option ℕ)) (o : Option Asked) →
+pub asked_stays : (v w : TableValue) → ExtendsTable v w → (reach : Reach) (owners : List (Option ℕ)) (o : Option Asked) →
     IsAskedBefore v reach owners o → IsAskedBefore w reach owners o
 asked_stays v w wider reach owners None h = h
 asked_stays v w wider reach owners (Some a) h =

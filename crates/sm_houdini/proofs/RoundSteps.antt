@@ -7,7 +7,7 @@ use Rattle.sm_syntax.specs.text.Parts.{Parts, sort_of}
 use Rattle.sm_syntax.specs.text.Sorts.{Sorts}
 use Rattle.sm_term.specs.Assertions.{Assertion}
 use Rattle.sm_term.specs.Tables.{TableValue, trees_in, sorts_in}
-use Rattle.sm_term.specs.TableLaws.{Widens}
+use Rattle.sm_term.specs.TableLaws.{ExtendsTable}
 use Rattle.sm_term.specs.Terms.{Tree}
 use Rattle.sm_text.specs.declared.task.Task.{Task}
 use Rattle.sm_plan.specs.Plans as plain
@@ -30,7 +30,7 @@ use Rattle.sm_houdini.proofs.ClosingLemmas.{due_stays}
 use Rattle.sm_houdini.proofs.NodeLemmas.{with_true}
 
 -- what is known of a task stays while the table widens
-pub knows_stays : (v w : TableValue) → Widens v w → (task : Task) (p : Product) → Knows v task p → Knows w task p
+pub knows_stays : (v w : TableValue) → ExtendsTable v w → (task : Task) (p : Product) → Knows v task p → Knows w task p
 knows_stays v w wider task p k = record {
   declared = wider.sorts ∙ k.declared;
   numbered = k.numbered;
@@ -78,7 +78,7 @@ and_grouped : (a b c d : Bool) → d ≡ (b && c) → ((a && b) && c) ≡ (a && 
 and_grouped true b c d e = sym e
 and_grouped false b c d e = refl
 
-pub round_step : (v w : TableValue) → Widens v w → (reach : Reach) (owner : plain.Due → Option ℕ) (out : ℕ → Bool) (ds : List Due) (i : ℕ)
+pub round_step : (v w : TableValue) → ExtendsTable v w → (reach : Reach) (owner : plain.Due → Option ℕ) (out : ℕ → Bool) (ds : List Due) (i : ℕ)
     (d : Due) (b : Bool) (passes : ℕ → ℕ → Bool) (choice : Choice) (new : List (List Marked)) →
     AreDuesReady (sorts_in v) (trees_in v) ds → i < length ds → d ≡ get_or ds i d → b ≡ out i →
     new ≡ all_marked (λ (s j : ℕ).

@@ -3,7 +3,7 @@ ghost use Rattle.std.specs.Prelude.{◌≡◌, ◌&&◌, List, IfOk};
 ghost use Rattle.sm_syntax.specs.text.Sorts.{Sorts};
 ghost use Rattle.sm_term.specs.Formulas.{numbered, assertion_in};
 ghost use Rattle.sm_term.specs.Tables.{trees_in, sorts_in};
-ghost use Rattle.sm_term.specs.TableLaws.{Widens};
+ghost use Rattle.sm_term.specs.TableLaws.{ExtendsTable};
 ghost use Rattle.sm_term.specs.Terms.{Tree};
 ghost use Rattle.sm_plan.specs.ReadyStates.{IsFormReady, AreFormsReady};
 ghost use Rattle.sm_plan.specs.Views.{forms_in};
@@ -53,7 +53,7 @@ fn closes(
         IfOk result (λ b. b ≡ closing sorts reach (forms_in sorts trees facts.now.list.items)
         (assertion_in sorts trees (numbered goal.now))) }
     ensures node { IfOk result (λ b. IsNodeOf table.new facts.now.list.items node.new) }
-    ensures widens { Widens table.old table.new }
+    ensures widens { ExtendsTable table.old table.new }
 {
     let answer = solve_at(alloc, table, node, &facts.list, goal, reach)?;
     Ok(is_closed(&answer))
@@ -78,7 +78,7 @@ fn stays(
         IfOk result (λ b.
         b ≡ (holds && closes_at sorts reach (due_in sorts trees due.now) at)) }
     ensures node { IfOk result (λ b. IsNodeOf table.new due.now.facts.list.items node.new) }
-    ensures widens { Widens table.old table.new }
+    ensures widens { ExtendsTable table.old table.new }
 {
     if !holds {
         return Ok(false);
@@ -118,7 +118,7 @@ pub(crate) fn judged(
     ensures judged { let sorts = sorts_in table.old in let trees = trees_in table.old in
         IfOk result (λ ms. ms.items
         ≡ still_marked (closes_at sorts reach (due_in sorts trees due.now)) 0 marks.now) }
-    ensures widens { Widens table.old table.new }
+    ensures widens { ExtendsTable table.old table.new }
 {
     let mut node = node_of(alloc, table, &due.facts, are_several(marks), reach.steps)?;
     judged_at(alloc, table, &mut node, due, marks, reach)
@@ -141,7 +141,7 @@ fn judged_at(
     ensures judged { let sorts = sorts_in table.old in let trees = trees_in table.old in
         IfOk result (λ ms. ms.items
         ≡ still_marked (closes_at sorts reach (due_in sorts trees due.now)) 0 marks.now) }
-    ensures widens { Widens table.old table.new }
+    ensures widens { ExtendsTable table.old table.new }
 {
     let mut list = Vec::new(alloc);
     for mark in marks {

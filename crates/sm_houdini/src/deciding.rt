@@ -4,7 +4,7 @@ ghost use Rattle.std.specs.Prelude.{MatchResult};
 ghost use Rattle.sm_syntax.specs.text.Parts.{sort_of, task_of};
 ghost use Rattle.sm_syntax.specs.trees.Programs.{declared_of};
 ghost use Rattle.sm_term.specs.Tables.{trees_in, sorts_in};
-ghost use Rattle.sm_term.specs.TableLaws.{Widens};
+ghost use Rattle.sm_term.specs.TableLaws.{ExtendsTable};
 ghost use Rattle.sm_text.specs.Tasks.{parts_of};
 ghost use Rattle.sm_task.specs.Filling.{AreFilled};
 ghost use Rattle.sm_plan.specs.Plans as plans;
@@ -60,7 +60,7 @@ fn all_asked(
         ≡ Ok (dues_in (sorts_in table.new) (trees_in table.new) o.list.items)) }
     ensures ready { IfOk result (λ o.
         AreDuesReady (sorts_in table.new) (trees_in table.new) o.list.items) }
-    ensures widens { Widens table.old table.new }
+    ensures widens { ExtendsTable table.old table.new }
 {
     match obligations_of(alloc, table, task, &product.programs, plan) {
         Ok(dues) => Ok(dues),
@@ -88,7 +88,7 @@ fn ended<R: Threads + Sync, G: Gate>(
     ensures ends { IfOk result (λ r. MatchResult r
         (λ p. Accepts (parts_of task.now) reach table.new p.0 p.1)
         (TellsStop (parts_of task.now) reach)) }
-    ensures widens { Widens table.old table.new }
+    ensures widens { ExtendsTable table.old table.new }
 {
     let plan = plan_with(alloc, &product.sketch, choice)?;
     let dues = all_asked(alloc, table, task, product, &plan)?;
@@ -141,7 +141,7 @@ fn kept_if_small<R: Threads + Sync, G: Gate>(
         (sizes.is_small (parts_of task.now) ≡ false)
         (λ c. (sizes.is_small (parts_of task.now) ≡ true)
         × (choice_in c ≡ kept closes (parts_of task.now)))) }
-    ensures widens { Widens table.old table.new }
+    ensures widens { ExtendsTable table.old table.new }
 {
     if !is_small(
         alloc,

@@ -1,7 +1,7 @@
 // The obligations of a task under a choice.
 ghost use Rattle.std.specs.Prelude.{◌≡◌, IfOk};
 ghost use Rattle.sm_term.specs.Tables.{trees_in, sorts_in};
-ghost use Rattle.sm_term.specs.TableLaws.{Widens};
+ghost use Rattle.sm_term.specs.TableLaws.{ExtendsTable};
 ghost use Rattle.sm_text.specs.Tasks.{parts_of};
 ghost use Rattle.sm_expand.specs.Views.{dues_in, AreDuesReady};
 ghost use Rattle.sm_sketch.specs.ChoiceViews.{choice_in};
@@ -29,7 +29,7 @@ pub(crate) fn dues_of(
         ≡ plain.dues_of (parts_of task.now) (choice_in choice.now)) }
     ensures ready { IfOk result (λ o.
         AreDuesReady (sorts_in table.new) (trees_in table.new) o.list.items) }
-    ensures widens { Widens table.old table.new }
+    ensures widens { ExtendsTable table.old table.new }
 {
     let plan = plan_with(alloc, &product.sketch, choice)?;
     match obligations_of(alloc, table, task, &product.programs, &plan) {

@@ -5,7 +5,7 @@ ghost use Rattle.std.specs.List.{range_with_len};
 ghost use Rattle.sm_term.specs.Assertions.{Assertion};
 ghost use Rattle.sm_term.specs.declared.formula.Formula.{Formula};
 ghost use Rattle.sm_term.specs.Tables.{TableValue, trees_in, sorts_in};
-ghost use Rattle.sm_term.specs.TableLaws.{Widens};
+ghost use Rattle.sm_term.specs.TableLaws.{ExtendsTable};
 ghost use Rattle.sm_term.specs.Tails.{row_trees, AreRowsSound};
 ghost use Rattle.sm_term.specs.Terms.{Tree};
 ghost use Rattle.sm_cert.specs.Views.{certificate_in};
@@ -54,7 +54,7 @@ pub(crate) fn end_by_jobs<R: Threads + Sync, G: Gate>(
         (FinalCloses (walk sorts reach) ds
         × AreCollected table.new (asked ds) trees.new.items)
         (FinalStops (walk sorts reach) ds)) }
-    ensures widens { Widens table.old table.new }
+    ensures widens { ExtendsTable table.old table.new }
 {
     let each = runs_each(dues.len(), parts_of(crew) as usize);
     let ends = run_ends(crew, alloc, table, dues, each, reach)?;
@@ -138,7 +138,7 @@ fn joined_all(
         (FinalCloses (walk sorts reach) ds
         × AreCollected table.new (asked ds) trees.new.items)
         (FinalStops (walk sorts reach) ds)) }
-    ensures widens { Widens table.old table.new }
+    ensures widens { ExtendsTable table.old table.new }
 {
     let from = table.len();
     for at in 0..dues.len() {
@@ -164,7 +164,7 @@ fn joined(
     requires sound { (k : ℕ) (run : RunEnd) → k < length runs.now →
         AreRowsSound (sorts_in table.old) (take from (trees_in table.old))
         (slice_index_or runs.now k run).rows }
-    ensures ends { (v : TableValue) → Widens v table.old → from ≡ length (trees_in v) →
+    ensures ends { (v : TableValue) → ExtendsTable v table.old → from ≡ length (trees_in v) →
         let sorts = sorts_in v in let ts = trees_in v in
         (reach : Reach) (due : Due) (asks : List Formula)
         (goals : List (List Assertion × Assertion)) → AreRunEnds v reach due asks runs.now →
@@ -173,7 +173,7 @@ fn joined(
         × AreCollected table.new
         (goals ++ goals_with (due_in sorts ts due).facts (forms_in sorts ts asks)) trees.new.items)
         (RunStops (walk sorts reach) (due_in sorts ts due) 0 (forms_in sorts ts asks))) }
-    ensures widens { Widens table.old table.new }
+    ensures widens { ExtendsTable table.old table.new }
 {
     for run in runs {
         if run.stop.is_some() {
@@ -203,7 +203,7 @@ fn take_run(
         AreCollected table.old goals trees.old.items →
         AreCollected copy more run.now.trees.items →
         OnOk result (AreCollected table.new (goals ++ more) trees.new.items) }
-    ensures widens { Widens table.old table.new }
+    ensures widens { ExtendsTable table.old table.new }
 {
     let numbers = adopted(alloc, table, from, &run.rows)?;
     let mut renumbered = renumbered_trees(alloc, &run.trees, &numbers)?;
@@ -223,7 +223,7 @@ fn adopted(
         AreRowsSound (sorts_in table.old) first rows.now }
     ensures numbers { let first = take from (trees_in table.old) in IfOk result (λ numbers.
         AreTermsOf (trees_in table.new) numbers.items (first ++ row_trees first rows.now)) }
-    ensures widens { Widens table.old table.new }
+    ensures widens { ExtendsTable table.old table.new }
 {
     let new = table.adopt(alloc, rows, from)?;
     numbers_with(alloc, from, &new.list)

@@ -6,7 +6,7 @@ ghost use Rattle.sm_syntax.specs.text.Sorts.{Sorts};
 ghost use Rattle.sm_term.specs.Assertions.{Assertion};
 ghost use Rattle.sm_term.specs.Formulas.{numbered, assertion_in};
 ghost use Rattle.sm_term.specs.Tables.{trees_in, sorts_in};
-ghost use Rattle.sm_term.specs.TableLaws.{Widens};
+ghost use Rattle.sm_term.specs.TableLaws.{ExtendsTable};
 ghost use Rattle.sm_term.specs.Terms.{Tree};
 ghost use Rattle.sm_cert.specs.Views.{certificate_in};
 ghost use Rattle.sm_plan.specs.ReadyStates.{IsFormReady, AreFormsReady};
@@ -141,7 +141,7 @@ fn end_goal(
         × AreCollected table.new (goals ++ (given, asks) ∷ []) trees.new.items)
         (GoalStops node at (walk sorts reach given asks))) }
     ensures shared { IfOk result (λ o. IsNodeOf table.new facts.now.list.items shared.new) }
-    ensures widens { Widens table.old table.new }
+    ensures widens { ExtendsTable table.old table.new }
 {
     let answer = solve_at(alloc, table, shared, &facts.list, goal, reach)?;
     match certificate(answer, node, at) {
@@ -176,7 +176,7 @@ pub(crate) fn end_run(
         (RunCloses (walk sorts reach) d first asks
         × AreCollected table.new (goals ++ goals_with d.facts asks) trees.new.items)
         (RunStops (walk sorts reach) d first asks)) }
-    ensures widens { Widens table.old table.new }
+    ensures widens { ExtendsTable table.old table.new }
 {
     let several = due.targets.list.len() > 1;
     let mut shared = node_of(alloc, table, &due.facts, several, reach.steps)?;
@@ -206,7 +206,7 @@ fn end_run_at(
         (RunCloses (walk sorts reach) d first asks
         × AreCollected table.new (goals ++ goals_with d.facts asks) trees.new.items)
         (RunStops (walk sorts reach) d first asks)) }
-    ensures widens { Widens table.old table.new }
+    ensures widens { ExtendsTable table.old table.new }
 {
     let mut at = first;
     for goal in run {
@@ -240,7 +240,7 @@ pub(crate) fn end_all<R: Threads + Sync, G: Gate>(
         (FinalCloses (walk sorts reach) ds
         × AreCollected table.new (asked ds) trees.new.items)
         (FinalStops (walk sorts reach) ds)) }
-    ensures widens { Widens table.old table.new }
+    ensures widens { ExtendsTable table.old table.new }
 {
     if parts_of(crew) == 1 {
         end_in_turn(alloc, table, dues, trees, reach)
@@ -265,7 +265,7 @@ fn end_in_turn(
         (FinalCloses (walk sorts reach) ds
         × AreCollected table.new (asked ds) trees.new.items)
         (FinalStops (walk sorts reach) ds)) }
-    ensures widens { Widens table.old table.new }
+    ensures widens { ExtendsTable table.old table.new }
 {
     for due in dues {
         let goals = due.targets.list.as_slice();

@@ -1,7 +1,7 @@
 // A round's goals, run as jobs.
 ghost use Rattle.std.specs.Prelude.{◌≡◌, ◌<◌, ◌≤◌, ◌&&◌, ℕ, Bool, length, slice_index_or, IfOk};
 ghost use Rattle.sm_term.specs.Tables.{trees_in, sorts_in};
-ghost use Rattle.sm_term.specs.TableLaws.{Widens};
+ghost use Rattle.sm_term.specs.TableLaws.{ExtendsTable};
 ghost use Rattle.sm_expand.specs.Views.{dues_in, AreDuesReady};
 ghost use Rattle.sm_sketch.specs.ChoiceViews.{choice_in};
 ghost use Rattle.sm_houdini.specs.Closing.{closing, owner_in};
@@ -87,7 +87,7 @@ pub(crate) fn marks_after<R: Threads + Sync, G: Gate>(
     ensures marks { let sorts = sorts_in table.old in let trees = trees_in table.old in
         IfOk result (λ ms. rows ms.sites.items ≡ all_marked (holds_at (closing sorts reach)
         (owner_in owners.now) (dues_in sorts trees dues.now)) 0 (choice_in choice.now)) }
-    ensures widens { Widens table.old table.new }
+    ensures widens { ExtendsTable table.old table.new }
 {
     let most = most_at_site(choice);
     let parts = parts_of(crew);

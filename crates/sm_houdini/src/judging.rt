@@ -1,7 +1,7 @@
 // Templates that are judged by what nodes ask of them.
 ghost use Rattle.std.specs.Prelude.{◌≡◌, ◌+◌, ◌&&◌, ◌||◌, ℕ, Bool, true, OnOk};
 ghost use Rattle.sm_term.specs.Tables.{trees_in, sorts_in};
-ghost use Rattle.sm_term.specs.TableLaws.{Widens};
+ghost use Rattle.sm_term.specs.TableLaws.{ExtendsTable};
 ghost use Rattle.sm_expand.specs.Views.{due_in, dues_in, AreDuesReady};
 ghost use Rattle.sm_plan.specs.ReadyStates.{AreFormsReady};
 ghost use Rattle.sm_sketch.specs.Choices.{Choice};
@@ -43,7 +43,7 @@ fn judge(
         rows marks.old.sites.items ≡ all_marked passes 0 choice →
         OnOk result (rows marks.new.sites.items ≡ all_marked (λ s i. passes s i
         && stays_at sorts reach (owner_in owners.now) (due_in sorts trees due.now) s i) 0 choice) }
-    ensures widens { Widens table.old table.new }
+    ensures widens { ExtendsTable table.old table.new }
 {
     if is_known {
         return Ok(());
@@ -83,7 +83,7 @@ fn judge_unless(
         rows marks.old.sites.items ≡ all_marked passes 0 choice →
         OnOk result (rows marks.new.sites.items ≡ all_marked (λ s i. passes s i && (is_left
         || stays_at sorts reach (owner_in owners.now) (due_in sorts trees due.now) s i)) 0 choice) }
-    ensures widens { Widens table.old table.new }
+    ensures widens { ExtendsTable table.old table.new }
 {
     if is_left {
         return Ok(());
@@ -115,7 +115,7 @@ pub(crate) fn judge_all(
         OnOk result (rows marks.new.sites.items ≡ all_marked (λ s i. passes s i
         && holds_but (is_left_out numbers.now jobs job) (closing sorts reach) (owner_in owners.now) 0
         (dues_in sorts trees dues.now) s i) 0 choice) }
-    ensures widens { Widens table.old table.new }
+    ensures widens { ExtendsTable table.old table.new }
 {
     let mut left = dues.len();
     while left > 0 {

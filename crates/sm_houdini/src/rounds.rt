@@ -2,7 +2,7 @@
 ghost use Rattle.std.specs.Prelude.{◌≡◌, IfOk, OnOk};
 ghost use Rattle.sm_syntax.specs.text.Parts.{sort_of};
 ghost use Rattle.sm_syntax.specs.trees.Programs.{declared_of};
-ghost use Rattle.sm_term.specs.TableLaws.{Widens};
+ghost use Rattle.sm_term.specs.TableLaws.{ExtendsTable};
 ghost use Rattle.sm_text.specs.Tasks.{parts_of};
 ghost use Rattle.sm_sketch.specs.ChoiceViews.{choice_in};
 ghost use Rattle.sm_houdini.specs.Closing.{closing, Knows};
@@ -43,7 +43,7 @@ fn next_round<R: Threads + Sync, G: Gate>(
         ≡ plain.next_round closes (parts_of task.now) (choice_in choice.now)) }
     ensures before { OnOk result (
         IsAskedBefore table.new reach product.now.owners.items before.new) }
-    ensures widens { Widens table.old table.new }
+    ensures widens { ExtendsTable table.old table.new }
 {
     let dues = dues_of(alloc, table, task, product, choice)?.list;
     let owners = product.owners.as_slice();
@@ -69,7 +69,7 @@ pub(crate) fn settled<R: Threads + Sync, G: Gate>(
         let next = plain.next_round closes (parts_of task.now) in
         IfOk result (λ c. choice_in c
         ≡ plain.settled next (plain.total (choice_in full)) (choice_in full)) }
-    ensures widens { Widens table.old table.new }
+    ensures widens { ExtendsTable table.old table.new }
 {
     let rounds = total(&full)?;
     let mut choice = full;

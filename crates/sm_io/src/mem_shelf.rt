@@ -25,7 +25,14 @@ pub struct MemShelf {
 // One call ends a value, and not one for each field: proofs of what has it stay small.
 impl Drop for MemShelf {
     fn drop(self) {
-        let Self { alloc: _, files: _, calls: _, read_faults: _, write_faults: _, log: _ } = self;
+        let Self {
+            alloc: _,
+            files: _,
+            calls: _,
+            read_faults: _,
+            write_faults: _,
+            log: _,
+        } = self;
     }
 }
 

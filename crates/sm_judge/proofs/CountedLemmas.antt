@@ -23,7 +23,6 @@ counted_on steps count next left =
     (cases_Bool (nat_lt count steps))
 
 module _ (steps count : ℕ) (left : List Event) (next : ℕ → Walked) where
-
   -- a sum
   pub walked_sum : (f g t : ℕ) (kept wrong : Bool) (es : List Event) → left ≡ Cancels f g t kept wrong ∷ es → count < steps →
       eliminated_by steps count left next ≡ (if wrong then Closes (count + 1) else eliminated_by steps (count + 1) es next)

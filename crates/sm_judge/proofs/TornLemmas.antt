@@ -171,8 +171,6 @@ below_later m n (Some k) h below = omega (arith, h, below)
 -- the last places of labels, with one place more
 module _ (labels : List ℕ) (n : ℕ) where
 
-  }
-
 -- the places from one on are searched: none there that has the label of the place n differs from it
 pub record IsSearched (sorts : Sorts) (trees : List Tree) (labels : List ℕ) (n : ℕ) (place : Option ℕ) : Type 0 where
   pub same : IfSome place (λ (m : ℕ). slice_index labels m ≡ slice_index labels n)
@@ -181,7 +179,6 @@ pub record IsSearched (sorts : Sorts) (trees : List Tree) (labels : List ℕ) (n
       differ sorts (tree_at trees n) (tree_at trees m) ≡ false
 
 module _ (sorts : Sorts) (trees : List Tree) (labels : List ℕ) (n : ℕ) where
-
   -- one place more on the chain
   pub searched_next : (j : ℕ) (place : Option ℕ) → IsSearched sorts trees labels n (Some j) →
       differ sorts (tree_at trees n) (tree_at trees j) ≡ false → IsLastWith labels (slice_index labels j) j place →

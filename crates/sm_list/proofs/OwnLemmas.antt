@@ -15,7 +15,7 @@ use Rattle.sm_term.specs.Heads.{arguments_of}
 use Rattle.sm_term.specs.Assertions.{Assertion}
 use Rattle.sm_term.specs.Tables.{TableValue, trees_in, sorts_in, tree_at, tree_in, IsTermWithin, AreBefore}
 use Rattle.sm_term.specs.Fitting.{term_fits}
-use Rattle.sm_term.specs.TableLaws.{AreApart, with_tree, Grows}
+use Rattle.sm_term.specs.TableLaws.{AreApart, with_tree, AddsTerms}
 use Rattle.sm_term.specs.Formulas.{NumberedFormula, Yes, No, Eq, Ne, Le, Lt, And, Or, assertion_in, IsFormulaWithin}
 use Rattle.sm_term.proofs.FormsLemmas.{assertion-more, form_kept}
 use Rattle.sm_term.proofs.TreesLemmas.{tree_at-more}
@@ -193,14 +193,14 @@ formulas_placed sorts trees own numbers placed (f ∷ fs) h k =
     (formula_placed sorts trees own numbers placed f h.0 k.0, formulas_placed sorts trees own numbers placed fs h.1 k.1)
 
 -- facts over a table that has grown
-pub facts_grown : (v w : TableValue) → Grows v w → (fs : List NumberedFormula) → AreFormulasWithin (length (trees_in v)) fs →
+pub facts_grown : (v w : TableValue) → AddsTerms v w → (fs : List NumberedFormula) → AreFormulasWithin (length (trees_in v)) fs →
     assertions_in (sorts_in w) (trees_in w) fs ≡ assertions_in (sorts_in v) (trees_in v) fs
 facts_grown v w grows [] h = refl
 facts_grown v w grows (f ∷ fs) h =
     ap (λ (g : Assertion). g ∷ assertions_in (sorts_in w) (trees_in w) fs) (assertion-more v w grows f h.0)
     ∙ ap (λ (gs : List Assertion). assertion_in (sorts_in v) (trees_in v) f ∷ gs) (facts_grown v w grows fs h.1)
 
-pub facts_within_grown : (v w : TableValue) → Grows v w → (fs : List NumberedFormula) → AreFormulasWithin (length (trees_in v)) fs →
+pub facts_within_grown : (v w : TableValue) → AddsTerms v w → (fs : List NumberedFormula) → AreFormulasWithin (length (trees_in v)) fs →
     AreFormulasWithin (length (trees_in w)) fs
 facts_within_grown v w grows [] h = tt
 facts_within_grown v w grows (f ∷ fs) h = (form_kept v w grows f h.0, facts_within_grown v w grows fs h.1)

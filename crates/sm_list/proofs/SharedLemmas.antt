@@ -14,7 +14,7 @@ use Rattle.sm_term.specs.Heads.{arguments_of}
 use Rattle.sm_term.specs.Assertions.{Assertion, Yes, No, Eq, Ne, Le, Lt, And, Or}
 use Rattle.sm_term.specs.SameTerms.{same_tree}
 use Rattle.sm_term.specs.Tables.{TableValue, trees_in, sorts_in, codes_in, tree_at}
-use Rattle.sm_term.specs.TableLaws.{AreApart, with_tree, Grows}
+use Rattle.sm_term.specs.TableLaws.{AreApart, with_tree, AddsTerms}
 use Rattle.sm_term.specs.Formulas.{NumberedFormula, assertion_in, IsFormulaWithin}
 use Rattle.sm_term.proofs.FormsLemmas.{assertion-more, form_kept}
 use Rattle.sm_term.proofs.SameTermsLemmas.{same_tree_is}
@@ -197,7 +197,7 @@ pub record IsMoved (sorts : Sorts) (own : List Tree) (form : Assertion) (g : Num
   pub same : assertion_in sorts own g ≡ form
   pub within : IsFormulaWithin (length own) g
 
-pub moved : (v w : TableValue) → Grows v w → (f g : NumberedFormula) → IsFormulaWithin (length (trees_in v)) f →
+pub moved : (v w : TableValue) → AddsTerms v w → (f g : NumberedFormula) → IsFormulaWithin (length (trees_in v)) f →
     (own : List Tree) (numbers ids : List TermId) → ArePlaced (trees_in w) own numbers →
     FormulaAmong own (assertion_in (sorts_in v) (trees_in v) f) → ids ≡ numbers → g ≡ formula_under (number_under ids) f →
     IsMoved (sorts_in v) own (assertion_in (sorts_in v) (trees_in v) f) g

@@ -5,7 +5,7 @@ ghost use Rattle.sm_term.specs.Fitting.{term_fits};
 ghost use Rattle.sm_term.specs.Heads.{arguments_of};
 ghost use Rattle.sm_term.specs.Tables.{trees_in, sorts_in, codes_in, tree_at, tree_in};
 ghost use Rattle.sm_term.specs.Tables.{IsTermWithin};
-ghost use Rattle.sm_term.specs.TableLaws.{Grows, with_tree};
+ghost use Rattle.sm_term.specs.TableLaws.{AddsTerms, with_tree};
 ghost use Rattle.sm_list.specs.Branches.{terms_of};
 ghost use Rattle.sm_terms.specs.Listing.{trees_at, numbers_of, AreBelow, AllAmong};
 ghost use Rattle.sm_list.specs.Own.{AreBuilt, ArePlaced};
@@ -46,7 +46,7 @@ pub fn own_branch(
         AreFormulasWithin (length (trees_in b.table)) (all_numbered b.facts.items)) }
     ensures numbers { IfOk result (λ b.
         AreTermsOf (trees_in table.new) b.numbers.list.items (trees_in b.table)) }
-    ensures grows { Grows table.old table.new }
+    ensures grows { AddsTerms table.old table.new }
     ensures err { OnErr result (trees_in table.new ≡ trees_in table.old) }
 {
     let len = table.len();
@@ -78,7 +78,7 @@ fn listed_branch(
         AreFormulasWithin (length (trees_in b.table)) (all_numbered b.facts.items)) }
     ensures numbers { IfOk result (λ b.
         AreTermsOf (trees_in table.new) b.numbers.list.items (trees_in b.table)) }
-    ensures grows { Grows table.old table.new }
+    ensures grows { AddsTerms table.old table.new }
 {
     let terms = terms_of_formulas(alloc, table, facts)?;
     let branch = over_own(alloc, table, facts, terms)?;
@@ -192,7 +192,7 @@ fn put_row(own: &mut TermTable, row: Term) -> Result<TermId, AllocError>
         OnOk result (trees_in own.new ≡ with_tree (trees_in own.old) tree) }
     ensures stored { let tree = tree_in (codes_in own.old) (trees_in own.old) row in
         IfOk result (λ n. slice_get (trees_in own.new) n.0 ≡ Some tree) }
-    ensures grows { Grows own.old own.new }
+    ensures grows { AddsTerms own.old own.new }
 {
     match own.intern(row) {
         Ok(n) => Ok(n),

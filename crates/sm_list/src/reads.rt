@@ -3,7 +3,7 @@ ghost use Rattle.std.specs.Prelude.{◌≡◌, ◌<◌, ◌≤◌, ◌+◌, leng
 ghost use Rattle.std.specs.Prelude.{IfOk, IfSome, OnOk};
 ghost use Rattle.sm_term.specs.Terms.{Read};
 ghost use Rattle.sm_term.specs.Tables.{trees_in, tree_at};
-ghost use Rattle.sm_term.specs.TableLaws.{Grows};
+ghost use Rattle.sm_term.specs.TableLaws.{AddsTerms};
 ghost use Rattle.sm_theory.specs.TermsOfFormulas.{put};
 ghost use Rattle.sm_list.specs.Branches.{greatest_of, writes_on, put_if, read_before};
 ghost use Rattle.sm_list.specs.Branches.{with_reads, with_all_reads};
@@ -25,7 +25,7 @@ pub(crate) fn list_reads(
         let all = with_all_reads (greatest_of (map writes_on seen)) seen in
         OnOk result (trees_at (trees_in table.new) listed.new.keys ≡ all) }
     ensures listed { OnOk result (AreBelow (length (trees_in table.new)) listed.new.keys) }
-    ensures grows { Grows table.old table.new }
+    ensures grows { AddsTerms table.old table.new }
 {
     let mut from = 0;
     while from < listed.len() {
@@ -50,7 +50,7 @@ fn list_round(
         let all = with_reads (drop from seen) seen in
         OnOk result (trees_at (trees_in table.new) listed.new.keys ≡ all) }
     ensures listed { OnOk result (AreBelow (length (trees_in table.new)) listed.new.keys) }
-    ensures grows { Grows table.old table.new }
+    ensures grows { AddsTerms table.old table.new }
 {
     for k in from..end {
         let n = listed[k];
@@ -71,7 +71,7 @@ fn list_read_before(
         let all = put_if (read_before (tree_at trees t.0)) (trees_at trees listed.old.keys) in
         OnOk result (trees_at (trees_in table.new) listed.new.keys ≡ all) }
     ensures listed { OnOk result (AreBelow (length (trees_in table.new)) listed.new.keys) }
-    ensures grows { Grows table.old table.new }
+    ensures grows { AddsTerms table.old table.new }
 {
     match read_before(table, t) {
         Some((a, i)) => list_read(table, listed, a, i),
@@ -123,7 +123,7 @@ fn list_read(
         let all = put read (trees_at trees listed.old.keys) in
         OnOk result (trees_at (trees_in table.new) listed.new.keys ≡ all) }
     ensures listed { OnOk result (AreBelow (length (trees_in table.new)) listed.new.keys) }
-    ensures grows { Grows table.old table.new }
+    ensures grows { AddsTerms table.old table.new }
 {
     let t = read_number(table, a, i)?;
     // No term is there twice.
@@ -139,7 +139,7 @@ fn read_number(table: &mut TermTable, a: TermId, i: TermId) -> Result<TermId, Al
     ensures stored { let trees = trees_in table.old in
         let read = Read (tree_at trees a.0) (tree_at trees i.0) in
         IfOk result (λ t. slice_get (trees_in table.new) t.0 ≡ Some read) }
-    ensures grows { Grows table.old table.new }
+    ensures grows { AddsTerms table.old table.new }
 {
     match table.intern(Term::Read(a, i)) {
         Ok(t) => Ok(t),

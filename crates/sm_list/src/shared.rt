@@ -2,7 +2,7 @@
 ghost use Rattle.std.specs.Prelude.{◌≡◌, ℕ, ◌≤◌, List, [], ◌++◌, length, IfOk, OnOk, OnErr};
 ghost use Rattle.sm_term.specs.Formulas.{numbered, assertion_in, IsFormulaWithin};
 ghost use Rattle.sm_term.specs.Tables.{TableValue, trees_in, sorts_in, codes_in};
-ghost use Rattle.sm_term.specs.TableLaws.{Grows};
+ghost use Rattle.sm_term.specs.TableLaws.{AddsTerms};
 ghost use Rattle.sm_term.specs.Terms.{Tree};
 ghost use Rattle.sm_theory.specs.TermsOfFormulas.{with_formula};
 ghost use Rattle.sm_list.specs.Branches.{terms_of};
@@ -34,7 +34,11 @@ pub struct SharedTerms {
 // One call ends a value, and not one for each field: proofs of what has it stay small.
 impl Drop for SharedTerms {
     fn drop(self) {
-        let Self { own: _, listed: _, numbers: _ } = self;
+        let Self {
+            own: _,
+            listed: _,
+            numbers: _,
+        } = self;
     }
 }
 
@@ -62,7 +66,7 @@ pub fn shared_facts(
         assertions_in sorts (trees_in s.terms.own) (all_numbered s.facts.items) ≡ all) }
     ensures within { IfOk result (λ s.
         AreFormulasWithin (length (trees_in s.terms.own)) (all_numbered s.facts.items)) }
-    ensures grows { Grows table.old table.new }
+    ensures grows { AddsTerms table.old table.new }
     ensures err { OnErr result (trees_in table.new ≡ trees_in table.old) }
 {
     let len = table.len();
@@ -91,7 +95,7 @@ fn listed_facts(
         assertions_in sorts (trees_in s.terms.own) (all_numbered s.facts.items) ≡ all) }
     ensures within { IfOk result (λ s.
         AreFormulasWithin (length (trees_in s.terms.own)) (all_numbered s.facts.items)) }
-    ensures grows { Grows table.old table.new }
+    ensures grows { AddsTerms table.old table.new }
 {
     let mut listed = IndexSet::new(alloc);
     list_formulas(alloc, table, &mut listed, facts)?;
@@ -204,7 +208,7 @@ impl SharedTerms {
             ≡ form) }
         ensures inside { IfOk result (λ g.
             IsFormulaWithin (length (trees_in self.new.own)) (numbered g)) }
-        ensures grows { Grows table.old table.new }
+        ensures grows { AddsTerms table.old table.new }
         ensures err { OnErr result (trees_in table.new ≡ trees_in table.old) }
     {
         let len = table.len();
@@ -237,7 +241,7 @@ impl SharedTerms {
             ≡ form) }
         ensures inside { IfOk result (λ g.
             IsFormulaWithin (length (trees_in self.new.own)) (numbered g)) }
-        ensures grows { Grows table.old table.new }
+        ensures grows { AddsTerms table.old table.new }
     {
         list_formula(alloc, table, &mut self.listed, f)?;
         list_reads(table, &mut self.listed)?;

@@ -1,7 +1,7 @@
 // The terms of formulas.
 ghost use Rattle.std.specs.Prelude.{◌≡◌, ◌<◌, [], length, map, IfOk, OnOk, OnErr};
 ghost use Rattle.sm_term.specs.Tables.{trees_in, sorts_in};
-ghost use Rattle.sm_term.specs.TableLaws.{Grows};
+ghost use Rattle.sm_term.specs.TableLaws.{AddsTerms};
 ghost use Rattle.sm_theory.specs.TermsOfFormulas.{with_formulas};
 ghost use Rattle.sm_list.specs.Branches.{terms_of};
 ghost use Rattle.sm_list.specs.Parts.{all_numbered, assertions_in, AreFormulasWithin};
@@ -27,7 +27,7 @@ pub(crate) fn terms_of_formulas(
         IfOk result (λ ts. trees_at (trees_in table.new) (numbers_of ts.list.items) ≡ all) }
     ensures within { IfOk result (λ ts.
         AreBelow (length (trees_in table.new)) (numbers_of ts.list.items)) }
-    ensures grows { Grows table.old table.new }
+    ensures grows { AddsTerms table.old table.new }
     ensures err { OnErr result (trees_in table.new ≡ trees_in table.old) }
 {
     let len = table.len();
@@ -52,7 +52,7 @@ fn listed_terms(
         IfOk result (λ ts. trees_at (trees_in table.new) (numbers_of ts.list.items) ≡ all) }
     ensures within { IfOk result (λ ts.
         AreBelow (length (trees_in table.new)) (numbers_of ts.list.items)) }
-    ensures grows { Grows table.old table.new }
+    ensures grows { AddsTerms table.old table.new }
 {
     let mut listed = IndexSet::new(alloc);
     list_formulas(alloc, table, &mut listed, facts)?;

@@ -14,15 +14,15 @@ ghost use Rattle.sm_moves.specs.CopySets.{only_in};
 ghost use Rattle.sm_moves.specs.Rests.{codes_in};
 
 use crate::masks::{bit, has};
-use sm_plan::Rest;
+use sm_plan::Continuation;
 use sm_syntax::{Block, CopyName, PerCopy, Stmt};
 use std::alloc::{AllocError, Global};
 
 /// A copy of what is left of each program.
 pub fn copy_rests<'a>(
     alloc: Global,
-    rests: &PerCopy<Rest<'a>>,
-) -> Result<PerCopy<Rest<'a>>, AllocError>
+    rests: &PerCopy<Continuation<'a>>,
+) -> Result<PerCopy<Continuation<'a>>, AllocError>
     ensures { (c : Copy) → IfOk result (λ p. codes_in p c ≡ codes_in rests.now c) }
 {
     Ok(PerCopy {
@@ -34,22 +34,22 @@ pub fn copy_rests<'a>(
 }
 
 // The body of the loop that comes next, nothing where there is none.
-fn body_of<'a>(alloc: Global, rest: &Rest<'a>) -> Result<Rest<'a>, AllocError>
+fn body_of<'a>(alloc: Global, rest: &Continuation<'a>) -> Result<Continuation<'a>, AllocError>
     ensures { IfOk result (λ r. rest_code r ≡ loop_body (rest_code rest.now)) }
 {
     match rest.first_loop() {
-        Some((_, body)) => Rest::of(alloc, body),
-        None => Ok(Rest::empty(alloc)),
+        Some((_, body)) => Continuation::of(alloc, body),
+        None => Ok(Continuation::empty(alloc)),
     }
 }
 
 // The body of a copy's loop, where the copy is in a set, and else nothing.
 fn body_in<'a>(
     alloc: Global,
-    rest: &Rest<'a>,
+    rest: &Continuation<'a>,
     set: u8,
     copy: CopyName,
-) -> Result<Rest<'a>, AllocError>
+) -> Result<Continuation<'a>, AllocError>
     ensures { IfOk result (λ r. rest_code r
         ≡ (if sets.has (set_of set) (copy_named copy) then loop_body (rest_code rest.now)
         else End)) }
@@ -57,16 +57,16 @@ fn body_in<'a>(
     if has(set, copy) {
         body_of(alloc, rest)
     } else {
-        Ok(Rest::empty(alloc))
+        Ok(Continuation::empty(alloc))
     }
 }
 
 /// The bodies of the loops of a set's copies, nothing for the others.
 pub fn bodies<'a>(
     alloc: Global,
-    rests: &PerCopy<Rest<'a>>,
+    rests: &PerCopy<Continuation<'a>>,
     set: u8,
-) -> Result<PerCopy<Rest<'a>>, AllocError>
+) -> Result<PerCopy<Continuation<'a>>, AllocError>
     ensures { (c : Copy) → IfOk result (λ p. codes_in p c
         ≡ only_in (set_of set) (λ d. loop_body (codes_in rests.now d)) c) }
 {
@@ -79,7 +79,7 @@ pub fn bodies<'a>(
 }
 
 // The blocks of the if that comes next.
-fn first_blocks<'a>(rest: &Rest<'a>) -> Option<(&'a Block, &'a Block)>
+fn first_blocks<'a>(rest: &Continuation<'a>) -> Option<(&'a Block, &'a Block)>
     ensures { let code = rest_code rest.now in let left = rest_after 1 code in MatchOption result
         ((by_first_block code ≡ code) × (by_second_block code ≡ code))
         (λ p. (by_first_block code ≡ append (code_of p.0.now) left)
@@ -99,7 +99,7 @@ fn chosen<'a>(is_first: bool, first: &'a Block, second: &'a Block) -> &'a Block
 }
 
 // Goes on by a block of the if that comes next.
-fn enter<'a>(rest: &mut Rest<'a>, is_first: bool) -> Result<(), AllocError>
+fn enter<'a>(rest: &mut Continuation<'a>, is_first: bool) -> Result<(), AllocError>
     ensures { let code = rest_code rest.old in OnOk result (rest_code rest.new
         ≡ (if is_first then by_first_block code else by_second_block code)) }
 {
@@ -113,7 +113,7 @@ fn enter<'a>(rest: &mut Rest<'a>, is_first: bool) -> Result<(), AllocError>
 
 // Goes on by a block of the if that comes next, where the copy is in a set.
 fn enter_in<'a>(
-    rest: &mut Rest<'a>,
+    rest: &mut Continuation<'a>,
     set: u8,
     copy: CopyName,
     is_first: bool,
@@ -130,7 +130,7 @@ fn enter_in<'a>(
 
 /// Goes on by a block of a copy's if.
 pub fn fork<'a>(
-    rests: &mut PerCopy<Rest<'a>>,
+    rests: &mut PerCopy<Continuation<'a>>,
     copy: CopyName,
     is_first: bool,
 ) -> Result<(), AllocError>

@@ -14,7 +14,7 @@ ghost use Rattle.sm_moves.specs.CodeShapes.{own_statements};
 ghost use Rattle.sm_moves.specs.FilledCode.{piece_of, first_inside, second_inside};
 
 use crate::masks;
-use sm_plan::Rest;
+use sm_plan::Continuation;
 use sm_syntax::{Block, CopyName, Fillings, PerCopy, Stmt};
 use std::alloc::{AllocError, Global};
 
@@ -215,12 +215,12 @@ pub fn statements(blocks: &PerCopy<Block>) -> PerCopy<&[Stmt]>
 }
 
 // Statements, as what is left of a program.
-fn rest_of<'a>(alloc: Global, list: &'a [Stmt]) -> Result<Rest<'a>, AllocError>
+fn rest_of<'a>(alloc: Global, list: &'a [Stmt]) -> Result<Continuation<'a>, AllocError>
     ensures { IfOk result (λ r. rest_code r ≡ code_before list.now End) }
 {
     let mut frames = Vec::new(alloc);
     frames.push(list)?;
-    Ok(Rest { frames })
+    Ok(Continuation { frames })
 }
 
 // Statements of a copy as what is left of a program, where the copy is in a set, and else nothing.
@@ -229,14 +229,14 @@ fn rest_in<'a>(
     list: &'a [Stmt],
     set: u8,
     copy: CopyName,
-) -> Result<Rest<'a>, AllocError>
+) -> Result<Continuation<'a>, AllocError>
     ensures { IfOk result (λ r. rest_code r
         ≡ (if has (set_of set) (copy_named copy) then code_before list.now End else End)) }
 {
     if masks::has(set, copy) {
         rest_of(alloc, list)
     } else {
-        Ok(Rest::empty(alloc))
+        Ok(Continuation::empty(alloc))
     }
 }
 
@@ -245,7 +245,7 @@ pub fn rests_in<'a>(
     alloc: Global,
     pieces: &PerCopy<&'a [Stmt]>,
     set: u8,
-) -> Result<PerCopy<Rest<'a>>, AllocError>
+) -> Result<PerCopy<Continuation<'a>>, AllocError>
     ensures { (c : Copy) → IfOk result (λ p. rest_code (of_copy p c)
         ≡ (if has (set_of set) c then piece_of pieces.now c else End)) }
 {

@@ -13,7 +13,7 @@ ghost use Rattle.sm_moves.specs.MovesWithin.{IsMoveWithin};
 ghost use Rattle.sm_moves.specs.ProgramMoves.{begins, those, move_in};
 
 use crate::masks::{has, is_empty, least, mask_of, size};
-use sm_plan::Rest;
+use sm_plan::Continuation;
 use sm_syntax::{CopyName, PerCopy, Stmt, same_block, same_cond, same_expr};
 
 /// What the copies of a set do next.
@@ -41,7 +41,7 @@ pub enum Front {
 }
 
 // Whether a statement comes first that code may begin with so.
-fn starts(rest: &Rest<'_>, front: Front) -> bool
+fn starts(rest: &Continuation<'_>, front: Front) -> bool
     ensures { result ≡ begins front (rest_code rest.now) }
 {
     match front {
@@ -53,7 +53,7 @@ fn starts(rest: &Rest<'_>, front: Front) -> bool
 }
 
 // Whether skip or an assignment comes first.
-fn is_simple(rest: &Rest<'_>) -> bool
+fn is_simple(rest: &Continuation<'_>) -> bool
     ensures { result ≡ begins Front.Simple (rest_code rest.now) }
 {
     match rest.first() {
@@ -65,7 +65,7 @@ fn is_simple(rest: &Rest<'_>) -> bool
 }
 
 // Whether an if comes first.
-fn is_fork(rest: &Rest<'_>) -> bool
+fn is_fork(rest: &Continuation<'_>) -> bool
     ensures { result ≡ begins Front.Fork (rest_code rest.now) }
 {
     match rest.first() {
@@ -75,7 +75,7 @@ fn is_fork(rest: &Rest<'_>) -> bool
 }
 
 // Whether a copy is in a set and its code begins so.
-fn stands(rests: &PerCopy<Rest<'_>>, set: u8, front: Front, copy: CopyName) -> bool
+fn stands(rests: &PerCopy<Continuation<'_>>, set: u8, front: Front, copy: CopyName) -> bool
     ensures { let c = copy_named copy in
         result ≡ (sets.has (set_of set) c && begins front (rest_code (of_copy rests.now c))) }
 {
@@ -83,7 +83,7 @@ fn stands(rests: &PerCopy<Rest<'_>>, set: u8, front: Front, copy: CopyName) -> b
 }
 
 // The copies of a set whose code begins so.
-fn beginning(rests: &PerCopy<Rest<'_>>, set: u8, front: Front) -> u8
+fn beginning(rests: &PerCopy<Continuation<'_>>, set: u8, front: Front) -> u8
     ensures set { set_of result
         ≡ those (set_of set) (begins front) (λ c. rest_code (of_copy rests.now c)) }
     ensures within { result ≤ 15 }
@@ -116,7 +116,7 @@ fn same_stmt(a: &Stmt, b: &Stmt) -> bool
 }
 
 // Whether code begins with a statement.
-fn begins_with(rest: &Rest<'_>, statement: &Stmt) -> bool
+fn begins_with(rest: &Continuation<'_>, statement: &Stmt) -> bool
     ensures { result
         ≡ same_code (statement_of statement.now End) (plain.front 1 (rest_code rest.now)) }
 {
@@ -127,7 +127,7 @@ fn begins_with(rest: &Rest<'_>, statement: &Stmt) -> bool
 }
 
 // Whether a copy's code begins with a statement, where the copy is in a set.
-fn agrees(rests: &PerCopy<Rest<'_>>, set: u8, statement: &Stmt, copy: CopyName) -> bool
+fn agrees(rests: &PerCopy<Continuation<'_>>, set: u8, statement: &Stmt, copy: CopyName) -> bool
     ensures { let c = copy_named copy in
         let front = plain.front 1 (rest_code (of_copy rests.now c)) in
         result ≡ (not (sets.has (set_of set) c)
@@ -137,7 +137,7 @@ fn agrees(rests: &PerCopy<Rest<'_>>, set: u8, statement: &Stmt, copy: CopyName) 
 }
 
 // Whether the code of each copy of a set begins with a statement.
-fn all_agree(rests: &PerCopy<Rest<'_>>, set: u8, statement: &Stmt) -> bool
+fn all_agree(rests: &PerCopy<Continuation<'_>>, set: u8, statement: &Stmt) -> bool
     ensures { result ≡ sets.each (λ c. not (sets.has (set_of set) c)
         || same_code (statement_of statement.now End)
         (plain.front 1 (rest_code (of_copy rests.now c)))) }
@@ -149,7 +149,7 @@ fn all_agree(rests: &PerCopy<Rest<'_>>, set: u8, statement: &Stmt) -> bool
 }
 
 // Whether the copies of a set, of which each has something left, begin with the same statement.
-fn is_shared(rests: &PerCopy<Rest<'_>>, set: u8) -> bool
+fn is_shared(rests: &PerCopy<Continuation<'_>>, set: u8) -> bool
     ensures { result ≡ spec.is_shared (set_of set)
         (λ c. plain.front 1 (rest_code (of_copy rests.now c))) }
 {
@@ -164,7 +164,7 @@ fn is_shared(rests: &PerCopy<Rest<'_>>, set: u8) -> bool
 
 // Whether all that have something left begin with the same statement, which is a loop, is that of
 // two or more, or is that of a copy alone.
-fn are_alike(rests: &PerCopy<Rest<'_>>, set: u8, left: u8) -> bool
+fn are_alike(rests: &PerCopy<Continuation<'_>>, set: u8, left: u8) -> bool
     ensures { result ≡ spec.are_alike (set_of set) (set_of left)
         (λ c. rest_code (of_copy rests.now c)) }
 {
@@ -174,7 +174,7 @@ fn are_alike(rests: &PerCopy<Rest<'_>>, set: u8, left: u8) -> bool
 }
 
 // The move of a set, where some of it have something left.
-fn next_move(rests: &PerCopy<Rest<'_>>, set: u8, left: u8) -> Move
+fn next_move(rests: &PerCopy<Continuation<'_>>, set: u8, left: u8) -> Move
     requires { left ≤ 15 }
     ensures made { move_in result ≡ spec.next_move (set_of set) (set_of left)
         (λ c. rest_code (of_copy rests.now c)) }
@@ -193,7 +193,7 @@ fn next_move(rests: &PerCopy<Rest<'_>>, set: u8, left: u8) -> Move
 }
 
 /// The move of a set.
-pub fn move_of(rests: &PerCopy<Rest<'_>>, set: u8) -> Move
+pub fn move_of(rests: &PerCopy<Continuation<'_>>, set: u8) -> Move
     ensures made { move_in result
         ≡ spec.move_of (set_of set) (λ c. rest_code (of_copy rests.now c)) }
     ensures within { IsMoveWithin result }

@@ -8,7 +8,6 @@ use Rattle.sm_num.proofs.SameAtomLemmas.{IsSound, IsReflexive, AreReduced, same_
 use Rattle.sm_num.proofs.FormValues.{sum_without}
 
 module _ {A : Type 0} (same : A → A → Bool) where
-
   pub alike_turned : (f g : Linear A) → AreAlike same f g → AreAlike same g f
   alike_turned f g alike =
       record { kind = sym alike.kind; constant = sym alike.constant; coefficients = λ (t : A). sym (alike.coefficients t) }

@@ -1,5 +1,5 @@
 // Candidates that are affine equalities, also under a guard.
-ghost use Rattle.sm_term.specs.TableLaws.{Grows};
+ghost use Rattle.sm_term.specs.TableLaws.{AddsTerms};
 
 use crate::columns::Columns;
 use crate::filter::{is_in, put_new};
@@ -72,7 +72,7 @@ fn formulas_at(
     sight: &Sight<'_>,
     places: &[usize],
 ) -> Result<Vec<Formula>, AllocError>
-    ensures { Grows table.old table.new }
+    ensures { AddsTerms table.old table.new }
 {
     let columns = sight.columns;
     let rows = rows_at(alloc, table, sight.scene, columns, places)?;
@@ -90,7 +90,7 @@ pub(crate) fn affine_formulas(
     table: &mut TermTable,
     sight: &Sight<'_>,
 ) -> Result<Vec<Formula>, AllocError>
-    ensures { Grows table.old table.new }
+    ensures { AddsTerms table.old table.new }
 {
     let places = all_places(alloc, sight.scene)?;
     formulas_at(alloc, table, sight, &places)
@@ -142,7 +142,7 @@ fn put_under(
     known: &[Formula],
     list: &mut Vec<Formula>,
 ) -> Result<(), AllocError>
-    ensures { Grows table.old table.new }
+    ensures { AddsTerms table.old table.new }
 {
     let places = places_where(alloc, table, sight.scene, guard, wanted)?;
     if places.len() < FEWEST {
@@ -162,7 +162,7 @@ pub(crate) fn put_guarded(
     known: &[Formula],
     list: &mut Vec<Formula>,
 ) -> Result<(), AllocError>
-    ensures { Grows table.old table.new }
+    ensures { AddsTerms table.old table.new }
 {
     for guard in &guards.whole {
         put_under(alloc, table, sight, guard, true, known, list)?;

@@ -1,5 +1,5 @@
 // Candidates about few values, bounds to the entry, and clauses of guards.
-ghost use Rattle.sm_term.specs.TableLaws.{Grows};
+ghost use Rattle.sm_term.specs.TableLaws.{AddsTerms};
 
 use crate::filter::put_new;
 use crate::guards::Guards;
@@ -93,7 +93,7 @@ fn values_of(
 
 // That a term has a value.
 fn has_value(table: &mut TermTable, t: TermId, z: i128) -> Result<Formula, TermError>
-    ensures { Grows table.old table.new }
+    ensures { AddsTerms table.old table.new }
 {
     let u = literal(table, z)?;
     Ok(Formula::Eq(t, u))
@@ -107,7 +107,7 @@ fn has_values(
     z: i128,
     y: i128,
 ) -> Result<Formula, TermError>
-    ensures { Grows table.old table.new }
+    ensures { AddsTerms table.old table.new }
 {
     let p = has_value(table, t, z)?;
     let q = has_value(table, t, y)?;
@@ -122,7 +122,7 @@ fn values_form(
     t: TermId,
     values: &[i128],
 ) -> Result<Option<Formula>, AllocError>
-    ensures { Grows table.old table.new }
+    ensures { AddsTerms table.old table.new }
 {
     match values {
         [z] => unless_wrong(has_value(table, t, *z)),
@@ -143,7 +143,7 @@ fn put_values(
     t: TermId,
     list: &mut Vec<Formula>,
 ) -> Result<(), AllocError>
-    ensures { Grows table.old table.new }
+    ensures { AddsTerms table.old table.new }
 {
     let Some(values) = values_of(alloc, table, scene, t)? else {
         return Ok(());
@@ -163,7 +163,7 @@ fn put_values_of(
     names: &[Name],
     list: &mut Vec<Formula>,
 ) -> Result<(), AllocError>
-    ensures { Grows table.old table.new }
+    ensures { AddsTerms table.old table.new }
 {
     for x in names {
         if let Some(t) = places.list.get(x.0 as usize) {
@@ -182,7 +182,7 @@ pub(crate) fn put_few_values(
     written: &[Name],
     list: &mut Vec<Formula>,
 ) -> Result<(), AllocError>
-    ensures { Grows table.old table.new }
+    ensures { AddsTerms table.old table.new }
 {
     if scene.visits.list.len() < FEWEST {
         return Ok(());

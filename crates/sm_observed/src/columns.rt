@@ -1,5 +1,5 @@
 // The numbers among which equalities are looked for.
-ghost use Rattle.sm_term.specs.TableLaws.{Grows};
+ghost use Rattle.sm_term.specs.TableLaws.{AddsTerms};
 
 use crate::names::COPIES;
 use crate::reads::put_loop_reads;
@@ -68,7 +68,7 @@ pub(crate) fn columns_of(
     state: &LoopState<'_>,
     written: &[Name],
 ) -> Result<Columns, AllocError>
-    ensures { Grows table.old table.new }
+    ensures { AddsTerms table.old table.new }
 {
     let mut terms = Vec::new(alloc);
     for copy in COPIES {

@@ -1,5 +1,5 @@
 // Expressions and conditions over places, as far as the places are there.
-ghost use Rattle.sm_term.specs.TableLaws.{Grows};
+ghost use Rattle.sm_term.specs.TableLaws.{AddsTerms};
 
 use crate::terms::{Operation, joined, literal, negated, term_for};
 use sm_syntax::{Cmp, Cond, Expr};
@@ -12,7 +12,7 @@ pub(crate) fn term_in(
     places: &SymStore,
     e: &Expr,
 ) -> Result<TermId, TermError>
-    ensures { Grows table.old table.new }
+    ensures { AddsTerms table.old table.new }
 {
     match e {
         Expr::Num(z) => literal(table, *z),
@@ -64,7 +64,7 @@ pub(crate) fn form_in(
     places: &SymStore,
     c: &Cond,
 ) -> Result<Formula, TermError>
-    ensures { Grows table.old table.new }
+    ensures { AddsTerms table.old table.new }
 {
     match c {
         Cond::Yes => Ok(Formula::Yes),
@@ -100,7 +100,7 @@ fn boxed_in(
     places: &SymStore,
     c: &Cond,
 ) -> Result<Box<Formula>, TermError>
-    ensures { Grows table.old table.new }
+    ensures { AddsTerms table.old table.new }
 {
     let f = form_in(alloc, table, places, c)?;
     let boxed = Box::new(alloc, f)?;

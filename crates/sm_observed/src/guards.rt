@@ -1,5 +1,5 @@
 // The guards of loops as formulas over places.
-ghost use Rattle.sm_term.specs.TableLaws.{Grows};
+ghost use Rattle.sm_term.specs.TableLaws.{AddsTerms};
 
 use crate::forms::form_in;
 use crate::names::COPIES;
@@ -25,7 +25,7 @@ fn put_form(
     places: &SymStore,
     c: &Cond,
 ) -> Result<(), AllocError>
-    ensures { Grows table.old table.new }
+    ensures { AddsTerms table.old table.new }
 {
     if let Some(f) = unless_wrong(form_in(alloc, table, places, c))? {
         list.push(f)?;
@@ -41,7 +41,7 @@ fn put_comparisons(
     places: &SymStore,
     c: &Cond,
 ) -> Result<(), AllocError>
-    ensures { Grows table.old table.new }
+    ensures { AddsTerms table.old table.new }
 {
     match c {
         Cond::Yes => Ok(()),
@@ -68,7 +68,7 @@ fn add_guard(
     state: &LoopState<'_>,
     copy: CopyName,
 ) -> Result<(), AllocError>
-    ensures { Grows table.old table.new }
+    ensures { AddsTerms table.old table.new }
 {
     if !has(state.set, copy) {
         return Ok(());
@@ -88,7 +88,7 @@ pub(crate) fn guards_of(
     places: &PerCopy<SymStore>,
     state: &LoopState<'_>,
 ) -> Result<Guards, AllocError>
-    ensures { Grows table.old table.new }
+    ensures { AddsTerms table.old table.new }
 {
     let mut guards = Guards {
         whole: Vec::new(alloc),

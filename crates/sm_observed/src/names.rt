@@ -4,7 +4,7 @@ ghost use Rattle.sm_syntax.specs.text.Parts.{sort_of};
 ghost use Rattle.sm_syntax.specs.trees.Programs.{declared_of};
 ghost use Rattle.sm_term.specs.Sorted.{IsDeclaredIn};
 ghost use Rattle.sm_term.specs.Tables.{sorts_in};
-ghost use Rattle.sm_term.specs.TableLaws.{Grows};
+ghost use Rattle.sm_term.specs.TableLaws.{AddsTerms};
 
 use crate::states::LoopState;
 use sm_syntax::{CopyName, Decls, Name, PerCopy, Sort};
@@ -18,7 +18,7 @@ pub(crate) const COPIES: [CopyName; 4] = [CopyName::O, CopyName::A, CopyName::B,
 // The place of a copy's value of a name.
 fn slot(table: &mut TermTable, copy: CopyName, x: Name) -> Result<TermId, AllocError>
     requires { IsDeclaredIn (sorts_in table.old) x.0 }
-    ensures { Grows table.old table.new }
+    ensures { AddsTerms table.old table.new }
 {
     let term = Term::Slot {
         copy: copy.number(),
@@ -39,7 +39,7 @@ fn places_in(
     copy: CopyName,
 ) -> Result<SymStore, AllocError>
     requires { sorts_in table.old ≡ sort_of (declared_of decls.now) }
-    ensures { Grows table.old table.new }
+    ensures { AddsTerms table.old table.new }
 {
     let mut list = Vec::new(alloc);
     for d in &decls.list {
@@ -55,7 +55,7 @@ pub(crate) fn places_of(
     decls: &Decls,
 ) -> Result<PerCopy<SymStore>, AllocError>
     requires { sorts_in table.old ≡ sort_of (declared_of decls.now) }
-    ensures { Grows table.old table.new }
+    ensures { AddsTerms table.old table.new }
 {
     let base = places_in(alloc, table, decls, CopyName::O)?;
     let variant_a = places_in(alloc, table, decls, CopyName::A)?;

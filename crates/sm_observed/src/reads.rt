@@ -1,5 +1,5 @@
 // The terms that the loops of a site read of arrays.
-ghost use Rattle.sm_term.specs.TableLaws.{Grows};
+ghost use Rattle.sm_term.specs.TableLaws.{AddsTerms};
 
 use crate::columns::put_new;
 use crate::forms::term_in;
@@ -27,7 +27,7 @@ fn put_term(
     places: &SymStore,
     e: &Expr,
 ) -> Result<(), AllocError>
-    ensures { Grows table.old table.new }
+    ensures { AddsTerms table.old table.new }
 {
     match unless_wrong(term_in(table, places, e))? {
         Some(t) => put_new(terms, t),
@@ -42,7 +42,7 @@ fn put_reads(
     places: &SymStore,
     e: &Expr,
 ) -> Result<(), AllocError>
-    ensures { Grows table.old table.new }
+    ensures { AddsTerms table.old table.new }
 {
     match e {
         Expr::Num(_) => Ok(()),
@@ -77,7 +77,7 @@ fn put_guard_reads(
     places: &SymStore,
     c: &Cond,
 ) -> Result<(), AllocError>
-    ensures { Grows table.old table.new }
+    ensures { AddsTerms table.old table.new }
 {
     match c {
         Cond::Yes => Ok(()),
@@ -106,7 +106,7 @@ fn put_block_reads(
     places: &SymStore,
     b: &Block,
 ) -> Result<(), AllocError>
-    ensures { Grows table.old table.new }
+    ensures { AddsTerms table.old table.new }
 {
     for s in &b.list {
         put_statement_reads(table, terms, places, s)?;
@@ -122,7 +122,7 @@ fn put_statement_reads(
     places: &SymStore,
     s: &Stmt,
 ) -> Result<(), AllocError>
-    ensures { Grows table.old table.new }
+    ensures { AddsTerms table.old table.new }
 {
     match s {
         Stmt::Skip => Ok(()),
@@ -152,7 +152,7 @@ pub(crate) fn put_loop_reads(
     state: &LoopState<'_>,
     copy: CopyName,
 ) -> Result<(), AllocError>
-    ensures { Grows table.old table.new }
+    ensures { AddsTerms table.old table.new }
 {
     if !has(state.set, copy) {
         return Ok(());

@@ -28,7 +28,12 @@ pub(crate) struct Scene<'s> {
 // One call ends a value, and not one for each field: proofs of what has it stay small.
 impl Drop for Scene<'_> {
     fn drop(self) {
-        let Self { inputs: _, visits: _, cells: _, entered: _ } = self;
+        let Self {
+            inputs: _,
+            visits: _,
+            cells: _,
+            entered: _,
+        } = self;
     }
 }
 

@@ -3,7 +3,7 @@ ghost use Rattle.std.specs.Prelude.{◌≡◌, OnOk};
 ghost use Rattle.sm_syntax.specs.text.Parts.{sort_of};
 ghost use Rattle.sm_syntax.specs.trees.Programs.{declared_of};
 ghost use Rattle.sm_term.specs.Tables.{sorts_in};
-ghost use Rattle.sm_term.specs.TableLaws.{Grows, Widens};
+ghost use Rattle.sm_term.specs.TableLaws.{AddsTerms, ExtendsTable};
 ghost use Rattle.sm_plan.specs.Starts.{AreNumbered};
 ghost use Rattle.sm_observed.specs.LoopStates.{IsLoopSorted};
 
@@ -45,7 +45,7 @@ fn templates_of(
     requires declared { sorts_in table.old ≡ sort_of (declared_of decls.now) }
     requires numbered { AreNumbered (declared_of decls.now) }
     requires sorted { IsLoopSorted (sorts_in table.old) state.now }
-    ensures { Widens table.old table.new }
+    ensures { ExtendsTable table.old table.new }
 {
     let literals = Vec::new(alloc);
     let site = SiteContext { decls, literals };
@@ -86,7 +86,7 @@ fn put_affine(
     list: &mut Vec<Formula>,
     work: &mut Work,
 ) -> Result<Vec<Formula>, AllocError>
-    ensures { Grows table.old table.new }
+    ensures { AddsTerms table.old table.new }
 {
     work.spend(work_of_looking(sight, list.as_slice(), 1));
     if work.is_spent() {
@@ -107,7 +107,7 @@ fn put_both(
     list: &mut Vec<Formula>,
     work: &mut Work,
 ) -> Result<(), AllocError>
-    ensures { Grows table.old table.new }
+    ensures { AddsTerms table.old table.new }
 {
     let affine = put_affine(alloc, table, sight, list, work)?;
     if !with_guards {
@@ -140,7 +140,7 @@ fn put_seen(
     work: &mut Work,
 ) -> Result<(), AllocError>
     requires { sorts_in table.old ≡ sort_of (declared_of observed.now.decls.now) }
-    ensures { Grows table.old table.new }
+    ensures { AddsTerms table.old table.new }
 {
     let decls = observed.decls;
     let written = numbers_written(alloc, decls, state)?;
@@ -181,7 +181,7 @@ pub fn site_candidates(
     requires declared { sorts_in table.old ≡ sort_of (declared_of observed.now.decls.now) }
     requires numbered { AreNumbered (declared_of observed.now.decls.now) }
     requires sorted { IsLoopSorted (sorts_in table.old) state.now }
-    ensures widens { OnOk result (Widens table.old table.new) }
+    ensures widens { OnOk result (ExtendsTable table.old table.new) }
 {
     let templates = templates_of(alloc, table, observed.decls, state)?;
     let scene = scene_of(

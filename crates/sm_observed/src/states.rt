@@ -1,5 +1,5 @@
 // States at loops of a plan.
-use sm_plan::Rest;
+use sm_plan::Continuation;
 use sm_syntax::PerCopy;
 use sm_term::SymStore;
 
@@ -7,6 +7,6 @@ use sm_term::SymStore;
 #[derive(Drop)]
 pub struct LoopState<'a> {
     pub set: u8,
-    pub rests: PerCopy<Rest<'a>>,
+    pub rests: PerCopy<Continuation<'a>>,
     pub stores: PerCopy<SymStore>,
 }

@@ -1,5 +1,5 @@
 // Equalities as formulas.
-ghost use Rattle.sm_term.specs.TableLaws.{Grows};
+ghost use Rattle.sm_term.specs.TableLaws.{AddsTerms};
 
 use crate::columns::Columns;
 use crate::filter::put_new;
@@ -10,7 +10,7 @@ use std::alloc::{AllocError, Global};
 
 // A term times a number.
 fn product(table: &mut TermTable, coefficient: i128, t: TermId) -> Result<TermId, TermError>
-    ensures { Grows table.old table.new }
+    ensures { AddsTerms table.old table.new }
 {
     if coefficient == 1 {
         return Ok(t);
@@ -21,7 +21,7 @@ fn product(table: &mut TermTable, coefficient: i128, t: TermId) -> Result<TermId
 
 // A sum, which may be empty yet, and a term more.
 fn with_term(table: &mut TermTable, sum: Option<TermId>, t: TermId) -> Result<TermId, TermError>
-    ensures { Grows table.old table.new }
+    ensures { AddsTerms table.old table.new }
 {
     match sum {
         None => Ok(t),
@@ -46,7 +46,7 @@ fn with_part(
     is_left: bool,
     sum: Option<TermId>,
 ) -> Result<Option<TermId>, TermError>
-    ensures { Grows table.old table.new }
+    ensures { AddsTerms table.old table.new }
 {
     let coefficient = on_side(part.coefficient, is_left);
     if coefficient <= 0 {
@@ -68,7 +68,7 @@ fn with_column(
     is_left: bool,
     sum: Option<TermId>,
 ) -> Result<Option<TermId>, TermError>
-    ensures { Grows table.old table.new }
+    ensures { AddsTerms table.old table.new }
 {
     for part in &equality.parts {
         if part.column == column {
@@ -85,7 +85,7 @@ fn with_constant(
     is_left: bool,
     sum: Option<TermId>,
 ) -> Result<TermId, TermError>
-    ensures { Grows table.old table.new }
+    ensures { AddsTerms table.old table.new }
 {
     let number = on_side(constant, is_left);
     if number > 0 {
@@ -106,7 +106,7 @@ fn side(
     equality: &Equality,
     is_left: bool,
 ) -> Result<TermId, TermError>
-    ensures { Grows table.old table.new }
+    ensures { AddsTerms table.old table.new }
 {
     let mut sum = None;
     for column in 0..columns.terms.len() {
@@ -121,7 +121,7 @@ fn formula_of(
     columns: &Columns,
     equality: &Equality,
 ) -> Result<Formula, TermError>
-    ensures { Grows table.old table.new }
+    ensures { AddsTerms table.old table.new }
 {
     let left = side(table, columns, equality, true)?;
     let right = side(table, columns, equality, false)?;
@@ -157,7 +157,7 @@ fn terms_with(
 
 // That a term is the difference of two others.
 fn difference(table: &mut TermTable, t: TermId, x: TermId, y: TermId) -> Result<Formula, TermError>
-    ensures { Grows table.old table.new }
+    ensures { AddsTerms table.old table.new }
 {
     let less = joined(table, Operation::Sub, x, y)?;
     Ok(Formula::Eq(t, less))
@@ -178,7 +178,7 @@ fn shifted(
     y: TermId,
     constant: i128,
 ) -> Result<Formula, TermError>
-    ensures { Grows table.old table.new }
+    ensures { AddsTerms table.old table.new }
 {
     let number = literal(table, constant.saturating_abs())?;
     if constant < 0 {
@@ -190,7 +190,7 @@ fn shifted(
 
 // That a term is the sum of two others.
 fn sum_is(table: &mut TermTable, x: TermId, y: TermId, z: TermId) -> Result<Formula, TermError>
-    ensures { Grows table.old table.new }
+    ensures { AddsTerms table.old table.new }
 {
     let sum = joined(table, Operation::Add, y, z)?;
     Ok(Formula::Eq(x, sum))
@@ -204,7 +204,7 @@ fn put_parted(
     z: TermId,
     list: &mut Vec<Formula>,
 ) -> Result<(), AllocError>
-    ensures { Grows table.old table.new }
+    ensures { AddsTerms table.old table.new }
 {
     put_made(list, sum_is(table, x, y, z))?;
     put_made(list, sum_is(table, x, z, y))?;
@@ -222,7 +222,7 @@ fn put_turned(
     equality: &Equality,
     list: &mut Vec<Formula>,
 ) -> Result<(), AllocError>
-    ensures { Grows table.old table.new }
+    ensures { AddsTerms table.old table.new }
 {
     let left = terms_with(alloc, table, columns, equality, 1)?;
     let right = terms_with(alloc, table, columns, equality, -1)?;
@@ -243,7 +243,7 @@ pub(crate) fn put_equality(
     equality: &Equality,
     list: &mut Vec<Formula>,
 ) -> Result<(), AllocError>
-    ensures { Grows table.old table.new }
+    ensures { AddsTerms table.old table.new }
 {
     put_made(list, formula_of(table, columns, equality))?;
     put_turned(alloc, table, columns, equality, list)

@@ -1,7 +1,7 @@
 // Terms that may not be there, and values that may be of another sort.
 ghost use Rattle.std.specs.Prelude.{IfSome, length};
 ghost use Rattle.sm_term.specs.Tables.{sorts_in, codes_in, IsTermWithin};
-ghost use Rattle.sm_term.specs.TableLaws.{Grows};
+ghost use Rattle.sm_term.specs.TableLaws.{AddsTerms};
 
 use sm_eval::Store;
 use sm_syntax::{Name, Sort};
@@ -29,7 +29,7 @@ pub(crate) fn sort_at(table: &TermTable, t: TermId) -> Option<Sort> {
 
 /// The number of a literal.
 pub(crate) fn literal(table: &mut TermTable, z: i128) -> Result<TermId, TermError>
-    ensures { Grows table.old table.new }
+    ensures { AddsTerms table.old table.new }
 {
     table.intern(Term::Lit(z))
 }
@@ -50,7 +50,7 @@ pub(crate) fn joined(
     t: TermId,
     u: TermId,
 ) -> Result<TermId, TermError>
-    ensures { Grows table.old table.new }
+    ensures { AddsTerms table.old table.new }
 {
     let len = table.len();
     if t.0 >= len || u.0 >= len {
@@ -66,7 +66,7 @@ pub(crate) fn joined(
 
 /// The number of the term with the other sign. That it isn't there counts as a wrong sort.
 pub(crate) fn negated(table: &mut TermTable, t: TermId) -> Result<TermId, TermError>
-    ensures { Grows table.old table.new }
+    ensures { AddsTerms table.old table.new }
 {
     if t.0 >= table.len() {
         return Err(TermError::WrongSort);

@@ -123,16 +123,16 @@ module _ (solve : Solver) (serves : Serves solve) (limit : ℕ) where
       Meets : Values → Type 0
       Meets v = AllHold v fs
 
-      Rest : Values → Type 0
-      Rest v = AllHold v (others t fs)
+      Continuation : Values → Type 0
+      Continuation v = AllHold v (others t fs)
 
       les : NoEquations fs
       les = no_equations s fs eq listed
 
-      rest : Answers Rest Rest (solve s (others t fs) c)
-      rest = decides_answers Rest (solve s (others t fs) c) (serves s (others t fs) c (each_others (IsListed s) t fs listed))
+      rest : Answers Continuation Continuation (solve s (others t fs) c)
+      rest = decides_answers Continuation (solve s (others t fs) c) (serves s (others t fs) c (each_others (IsListed s) t fs listed))
 
-      forth : (v : Values) → Meets v → ((w : Values) → Rest w → ⊥) → ⊥
+      forth : (v : Values) → Meets v → ((w : Values) → Continuation w → ⊥) → ⊥
       forth v all none = none v (others_hold t v fs all)
 
       splinters : (l : Linear ℕ) → IsListed s l → IsRightOf limit (solve s) fs l
@@ -145,11 +145,11 @@ module _ (solve : Solver) (serves : Serves solve) (limit : ℕ) where
           Decides Meets (by_bounds limit (solve s) fs c t ls us)
       by ls [] lower upper =
           answers_decide Meets (giving t (greatest_bound t ls) (solve s (others t fs) c))
-          (giving_answers t (greatest_bound t ls) Rest Rest Meets Meets (solve s (others t fs) c) rest forth
+          (giving_answers t (greatest_bound t ls) Continuation Continuation Meets Meets (solve s (others t fs) c) rest forth
           (λ v z all fits. no_upper t fs v z les upper all (ap (λ (xs : List (Linear ℕ)). greatest_bound t xs v) lower ∙ fits)))
       by [] (u ∷ us) lower upper =
           answers_decide Meets (giving t (least_bound t (u ∷ us)) (solve s (others t fs) c))
-          (giving_answers t (least_bound t (u ∷ us)) Rest Rest Meets Meets (solve s (others t fs) c) rest forth
+          (giving_answers t (least_bound t (u ∷ us)) Continuation Continuation Meets Meets (solve s (others t fs) c) rest forth
           (λ v z all fits. no_lower t fs v z les lower all (ap (λ (xs : List (Linear ℕ)). least_bound t xs v) upper ∙ fits)))
       by (l ∷ ls) (u ∷ us) lower upper =
           let dark = dark_items t fs (l ∷ ls) (u ∷ us) in

@@ -10,7 +10,7 @@ use Rattle.sm_term.specs.Assertions.{Assertion, conj}
 use Rattle.sm_term.specs.Formulas.{numbered, assertion_in}
 use Rattle.sm_term.specs.Slots.{all_at_stores}
 use Rattle.sm_term.specs.Tables.{TableValue, trees_in, sorts_in}
-use Rattle.sm_term.specs.TableLaws.{Grows, Widens}
+use Rattle.sm_term.specs.TableLaws.{AddsTerms, ExtendsTable}
 use Rattle.sm_plan.specs.declared.state.SymState.{SymState}
 use Rattle.sm_plan.specs.ReadyStates.{IsFormReady, AreFormsReady, AreStoresReady, AreStoresFull, IsStateReady}
 use Rattle.sm_plan.specs.Statements.{front, rest_after}
@@ -21,7 +21,7 @@ use Rattle.sm_plan.proofs.TablesWiden.{widens_grown, widens_twice, stores_stay, 
 use Rattle.sm_plan.proofs.TablesWiden.{forms_ready}
 
 -- over the table `u` of the state, the table `v` with new values and the table `w` with the kept formula
-module _ (u v w : TableValue) (first : Grows u v) (second : Widens v w) (k : ℕ) (st inner after : SymState) (counts : Copy → ℕ)
+module _ (u v w : TableValue) (first : AddsTerms u v) (second : ExtendsTable v w) (k : ℕ) (st inner after : SymState) (counts : Copy → ℕ)
     (keep : Formula) (kept : List Formula)
     (fronts : (c : Copy) → rest_code (of_copy inner.rests c) ≡ front (counts c) (rest_code (of_copy st.rests c)))
     (passed : (c : Copy) → rest_code (of_copy after.rests c) ≡ rest_after (counts c) (rest_code (of_copy st.rests c)))
@@ -36,7 +36,7 @@ module _ (u v w : TableValue) (first : Grows u v) (second : Widens v w) (k : ℕ
     ≡ all_at_stores (stores_in (trees_in v) after.stores) (forms_in (sorts_in v) (trees_in v) inner.target.value.list.items))
     (ready : IsStateReady (sorts_in u) (trees_in u) st) (good : IsFormReady (sorts_in u) (trees_in u) keep)
     (new_ready : AreStoresReady (sorts_in v) (trees_in v) after.stores) where
-  wider : Widens u w
+  wider : ExtendsTable u w
   wider = widens_twice u v w (widens_grown u v first) second
 
   keep_first : assertion_in (sorts_in v) (trees_in v) (numbered keep) ≡ assertion_in (sorts_in u) (trees_in u) (numbered keep)

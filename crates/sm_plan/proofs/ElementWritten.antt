@@ -12,19 +12,19 @@ use Rattle.sm_term.specs.Fitting.{has_sort}
 use Rattle.sm_term.specs.Symbolic.{SymbolicStore, term_of}
 use Rattle.sm_term.specs.SymStores.{store_in}
 use Rattle.sm_term.specs.Tables.{TableValue, trees_in, sorts_in, tree_at}
-use Rattle.sm_term.specs.TableLaws.{Grows}
+use Rattle.sm_term.specs.TableLaws.{AddsTerms}
 use Rattle.sm_term.proofs.TablesLemmas.{grows-twice}
 use Rattle.sm_term.proofs.ExpressionLemmas.{store-more, stays_got, tree_got, sort_got, number_made, name_made, there, name_stored}
 use Rattle.sm_plan.specs.ReadyStates.{IsStoreReady}
 
-module _ (u v w : TableValue) (first : Grows u v) (second : Grows v w) (s : SymStore) (ready : IsStoreReady (sorts_in u) (trees_in u) s)
+module _ (u v w : TableValue) (first : AddsTerms u v) (second : AddsTerms v w) (s : SymStore) (ready : IsStoreReady (sorts_in u) (trees_in u) s)
     (a : ℕ) (i e : Expression)
     (name : IsAsDeclared (sorts_in u) a Arr) (place : a < length s.list.items) (i_well : IsWellSortedExpression (sorts_in u) i)
     (e_well : IsWellSortedExpression (sorts_in u) e)
     (array index value : TermId) (array_is : array ≡ get_or s.list.items a array)
     (index_is : slice_get (trees_in v) index.0 ≡ Some (term_of i (store_in (trees_in u) s)))
     (value_is : slice_get (trees_in w) value.0 ≡ Some (term_of e (store_in (trees_in v) s))) where
-  both : Grows u w
+  both : AddsTerms u w
   both = grows-twice u v w first second
 
   abbrev f : SymbolicStore

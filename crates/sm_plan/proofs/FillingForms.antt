@@ -15,7 +15,7 @@ use Rattle.sm_term.specs.Slots.{fill_term, at_stores, all_at_stores}
 use Rattle.sm_term.specs.Sorted.{tree_sort, IsSorted, IsFormSorted, AreFormsSorted}
 use Rattle.sm_term.specs.Symbolic.{SymbolicStore}
 use Rattle.sm_term.specs.Tables.{TableValue, trees_in, sorts_in, tree_at}
-use Rattle.sm_term.specs.TableLaws.{Grows, Widens}
+use Rattle.sm_term.specs.TableLaws.{AddsTerms, ExtendsTable}
 use Rattle.sm_term.specs.Terms.{Tree}
 use Rattle.sm_term.proofs.ExpressionLemmas.{tree_got, there}
 use Rattle.sm_term.proofs.FormsLemmas.{assertion-more, form_kept}
@@ -25,7 +25,7 @@ use Rattle.sm_plan.proofs.FillingGrows.{stores_more}
 use Rattle.sm_plan.proofs.SortedTerms.{filled_sorted}
 
 -- a table that grew is wider
-pub wider : (v w : TableValue) → Grows v w → Widens v w
+pub wider : (v w : TableValue) → AddsTerms v w → ExtendsTable v w
 wider v w grows = record {
   sorts = grows.sorts;
   codes = ([], grows.codes ∙ sym (append-nil _));
@@ -66,7 +66,7 @@ ready_at sorts trees fs i f ready h e = subst (IsFormReady sorts trees) (sym e) 
     of (x ∷ gs) zero good g = good.0
     of (x ∷ gs) (suc j) good g = of gs j good.1 (omega arith)
 
-module _ (v w : TableValue) (grows : Grows v w) where
+module _ (v w : TableValue) (grows : AddsTerms v w) where
   -- a formula that is ready stays so
   pub form_ready : (f : Formula) → IsFormReady (sorts_in v) (trees_in v) f → IsFormReady (sorts_in w) (trees_in w) f
   form_ready f ready = (

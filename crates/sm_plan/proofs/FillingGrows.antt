@@ -10,7 +10,7 @@ use Rattle.sm_term.specs.declared.term.TermId.{TermId}
 use Rattle.sm_term.specs.Slots.{fill_term}
 use Rattle.sm_term.specs.Symbolic.{SymbolicStore}
 use Rattle.sm_term.specs.Tables.{TableValue, trees_in, sorts_in, tree_at}
-use Rattle.sm_term.specs.TableLaws.{Grows}
+use Rattle.sm_term.specs.TableLaws.{AddsTerms}
 use Rattle.sm_term.specs.Terms.{Tree}
 use Rattle.sm_term.proofs.ExpressionLemmas.{stays_got, store-more, within_more, sorted_more}
 use Rattle.sm_term.proofs.TreesLemmas.{tree_at-more}
@@ -18,7 +18,7 @@ use Rattle.sm_plan.specs.Filling.{IsFilled, AreKnown}
 use Rattle.sm_plan.specs.ReadyStates.{AreStoresReady}
 use Rattle.sm_plan.specs.Views.{stores_in}
 
-module _ (v w : TableValue) (grows : Grows v w) where
+module _ (v w : TableValue) (grows : AddsTerms v w) where
   -- there are as many terms or more, each with its tree
   pub longer : length (trees_in v) ≤ length (trees_in w)
   longer = let long = ap length grows.trees.1 ∙ length-append (trees_in v) grows.trees.0 in omega arith

@@ -57,7 +57,6 @@ stands_as v n t u e tree within fits inside =
 
 module _ (v : TableValue) (s : Copy → SymbolicStore) (known : ℕ → Option TermId) (kept : AreKnown v s known)
     (good : (c : Copy) → IsStoreSorted (sorts_in v) (s c)) (sorted : AreTreesSorted (sorts_in v) (trees_in v)) where
-
   -- a slot
   pub slot_filled : (stores : PerCopy SymStore) → s ≡ stores_in (trees_in v) stores →
       ((c : Copy) → IsStoreWithin (length (trees_in v)) (of_copy stores c)) →

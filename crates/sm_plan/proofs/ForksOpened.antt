@@ -12,7 +12,7 @@ use Rattle.sm_term.specs.Symbolic.{SymbolicStore, form_of}
 use Rattle.sm_term.specs.Sorted.{IsFormSorted}
 use Rattle.sm_term.specs.SymStores.{store_in}
 use Rattle.sm_term.specs.Tables.{TableValue, trees_in, sorts_in}
-use Rattle.sm_term.specs.TableLaws.{Widens}
+use Rattle.sm_term.specs.TableLaws.{ExtendsTable}
 use Rattle.sm_term.proofs.FormulasLemmas.{contrary_negates}
 use Rattle.sm_term.proofs.FormsLemmas.{contrary_within}
 use Rattle.sm_plan.specs.declared.state.SymState.{SymState}
@@ -34,7 +34,7 @@ pub record IsBranch (st next : SymState) (c : Copy) (k : Code) : Type 0 where
   pub is_final : next.is_final ≡ st.is_final
 
 -- the formula of a condition over a store of a ready state, and its contrary
-module _ (v w : TableValue) (wider : Widens v w) (s : SymStore) (b : Condition) (f : Formula)
+module _ (v w : TableValue) (wider : ExtendsTable v w) (s : SymStore) (b : Condition) (f : Formula)
     (made : assertion_in (sorts_in w) (trees_in w) (numbered f) ≡ form_of b (store_in (trees_in v) s))
     (within : IsFormulaWithin (length (trees_in w)) (numbered f))
     (sorted : IsFormSorted (sorts_in v) (form_of b (store_in (trees_in v) s))) where
@@ -59,7 +59,7 @@ module _ (v w : TableValue) (wider : Widens v w) (s : SymStore) (b : Condition) 
     )
 
 -- one branch
-module _ (v w : TableValue) (wider : Widens v w) (st next : SymState) (c : Copy) (k : Code) (branch : IsBranch st next c k)
+module _ (v w : TableValue) (wider : ExtendsTable v w) (st next : SymState) (c : Copy) (k : Code) (branch : IsBranch st next c k)
     (ready : IsStateReady (sorts_in v) (trees_in v) st) where
   same_stores : (d : Copy) → numbers_of (of_copy next.stores d)
       ≡ with_copy (λ (e : Copy). numbers_of (of_copy st.stores e)) c (numbers_of (of_copy st.stores c)) d

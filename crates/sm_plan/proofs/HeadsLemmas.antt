@@ -12,7 +12,7 @@ use Rattle.sm_term.specs.Sorted.{IsFormSorted, IsStoreSorted}
 use Rattle.sm_term.specs.Symbolic.{SymbolicStore, form_of}
 use Rattle.sm_term.specs.SymStores.{store_in, IsStoreWithin}
 use Rattle.sm_term.specs.Tables.{TableValue, trees_in, sorts_in}
-use Rattle.sm_term.specs.TableLaws.{Grows}
+use Rattle.sm_term.specs.TableLaws.{AddsTerms}
 use Rattle.sm_term.specs.Terms.{Tree}
 use Rattle.sm_term.proofs.ExpressionLemmas.{store-more}
 use Rattle.sm_term.proofs.FormsLemmas.{assertion-more, form_kept}
@@ -30,7 +30,7 @@ abbrev pub guard_if : Bool → Code → SymbolicStore → Option Assertion
 guard_if b code s = if b then Some (form_of (loop_guard code) s) else None
 
 -- a guard that was made over a table between two others
-pub guard_more : (u v w x : TableValue) → Grows u v → Grows w x → (b : Bool) (code : Code) (s : SymStore) (o : Option Formula) →
+pub guard_more : (u v w x : TableValue) → AddsTerms u v → AddsTerms w x → (b : Bool) (code : Code) (s : SymStore) (o : Option Formula) →
     IsStoreWithin (length (trees_in u)) s →
     IfSome o (λ (f : Formula). IsFormulaWithin (length (trees_in w)) (numbered f)) →
     form_if w o ≡ guard_if b code (store_in (trees_in v) s) →
@@ -44,7 +44,7 @@ guard_more u v w x before after b code s o first within e =
     later (Some f) h = ap (λ (a : Assertion). Some a) (assertion-more w x after (numbered f) h)
 
 -- it is ready
-pub guard_ready : (u w x : TableValue) → Grows u x → Grows w x → (b : Bool) (code : Code) (s : SymbolicStore) (o : Option Formula) →
+pub guard_ready : (u w x : TableValue) → AddsTerms u x → AddsTerms w x → (b : Bool) (code : Code) (s : SymbolicStore) (o : Option Formula) →
     IsWellSorted (sorts_in u) code → IsStoreSorted (sorts_in u) s →
     IfSome o (λ (f : Formula). IsFormulaWithin (length (trees_in w)) (numbered f)) → form_if x o ≡ guard_if b code s →
     IfSome o (IsFormReady (sorts_in x) (trees_in x))

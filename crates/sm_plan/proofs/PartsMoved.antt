@@ -14,7 +14,7 @@ use Rattle.sm_term.specs.Sorted.{IsDeclaredIn, IsStoreSorted}
 use Rattle.sm_term.specs.Terms.{Tree}
 use Rattle.sm_term.specs.declared.term.TermId.{TermId}
 use Rattle.sm_term.specs.Tables.{TableValue, trees_in, sorts_in, AreBefore}
-use Rattle.sm_term.specs.TableLaws.{Widens}
+use Rattle.sm_term.specs.TableLaws.{ExtendsTable}
 use Rattle.sm_plan.specs.declared.state.SymState.{SymState}
 use Rattle.sm_plan.specs.Copies.{with_copy}
 use Rattle.sm_plan.specs.Successors.{moved, with_facts}
@@ -81,7 +81,7 @@ abbrev AreAllListed : Sorts → List TermId → Type 0
 AreAllListed sorts l = (x : ℕ) → IsDeclaredIn sorts x → x < length l
 
 -- another rest and another store of one copy, over a wider table
-module _ (v w : TableValue) (wider : Widens v w) (st next : SymState) (c : Copy) (k : Code) (store : SymStore)
+module _ (v w : TableValue) (wider : ExtendsTable v w) (st next : SymState) (c : Copy) (k : Code) (store : SymStore)
     (rests : (d : Copy) → rest_code (of_copy next.rests d) ≡ with_copy (λ (e : Copy). rest_code (of_copy st.rests e)) c k d)
     (stores : (d : Copy) → numbers_of (of_copy next.stores d)
     ≡ with_copy (λ (e : Copy). numbers_of (of_copy st.stores e)) c (numbers_of store) d)

@@ -19,7 +19,7 @@ use Rattle.sm_term.specs.declared.symbolic.SymStore.{SymStore}
 use Rattle.sm_term.specs.declared.term.TermId.{TermId}
 use Rattle.sm_term.specs.SymStores.{tree_or_start, store_in, IsStoreWithin}
 use Rattle.sm_term.specs.Tables.{TableValue, trees_in, sorts_in}
-use Rattle.sm_term.specs.TableLaws.{Grows}
+use Rattle.sm_term.specs.TableLaws.{AddsTerms}
 use Rattle.sm_term.proofs.ExpressionLemmas.{store-more, within_more, sorted_more}
 use Rattle.sm_plan.specs.ReadyStates.{IsStoreReady, IsStoreFull}
 use Rattle.sm_plan.specs.Heads.{with_new}
@@ -101,7 +101,7 @@ pub store_alike : (trees : List Tree) (s u : SymStore) → s.list.items ≡ u.li
 store_alike trees s u e = fun_ext (λ (x : ℕ). ap (λ (l : List TermId). tree_or_start trees x (slice_get l x)) e)
 
 -- what is asked of code and of a store stays where the table grows
-module _ (v w : TableValue) (grows : Grows v w) where
+module _ (v w : TableValue) (grows : AddsTerms v w) where
   pub well_more : (done : Code) → IsWellSorted (sorts_in v) done → IsWellSorted (sorts_in w) done
   well_more done well = subst (λ (sorts : Sorts). IsWellSorted sorts done) (sym grows.sorts) well
 
@@ -112,7 +112,7 @@ module _ (v w : TableValue) (grows : Grows v w) where
   full_more s full = subst (λ (sorts : Sorts). IsStoreFull sorts s) (sym grows.sorts) full
 
 -- a store that was made over a table between two others
-pub renewed_more : (u v w x : TableValue) → Grows u v → Grows w x → (k : ℕ) (c : Copy) (test : ℕ → Bool) (s made : SymStore) →
+pub renewed_more : (u v w x : TableValue) → AddsTerms u v → AddsTerms w x → (k : ℕ) (c : Copy) (test : ℕ → Bool) (s made : SymStore) →
     IsStoreWithin (length (trees_in u)) s → IsStoreWithin (length (trees_in w)) made →
     store_in (trees_in w) made ≡ with_new k c test (store_in (trees_in v) s) →
     store_in (trees_in x) made ≡ with_new k c test (store_in (trees_in u) s)

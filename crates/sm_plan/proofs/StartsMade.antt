@@ -15,7 +15,7 @@ use Rattle.sm_term.specs.declared.symbolic.SymStore.{SymStore}
 use Rattle.sm_term.specs.Terms.{Tree, Start}
 use Rattle.sm_term.specs.SymStores.{tree_or_start, store_in}
 use Rattle.sm_term.specs.Tables.{TableValue, trees_in, tree_at, AreBefore}
-use Rattle.sm_term.specs.TableLaws.{Widens}
+use Rattle.sm_term.specs.TableLaws.{ExtendsTable}
 use Rattle.sm_plan.specs.Starts.{AreNumbered}
 use Rattle.sm_plan.specs.States.{start_store}
 use Rattle.sm_plan.proofs.TablesWiden.{tree_stays}
@@ -102,7 +102,7 @@ starts trees s ds e numbered = fun_ext (λ (x : ℕ). by x (slice_get s.list.ite
     by x (Some t) h = start_at trees s.list.items (map (λ (d : ℕ × Sort). d.0) (pairs ds)) (e ∙ names_of ds) in_order x t h
 
 -- over a wider table
-pub trees_stay : (v w : TableValue) → Widens v w → (l : List TermId) → AreBefore (length (trees_in v)) l →
+pub trees_stay : (v w : TableValue) → ExtendsTable v w → (l : List TermId) → AreBefore (length (trees_in v)) l →
     trees_of (trees_in w) l ≡ trees_of (trees_in v) l
 trees_stay v w wider [] h = refl
 trees_stay v w wider (t ∷ l) h = λ i. tree_stays v w wider t.0 h.0 i ∷ trees_stay v w wider l h.1 i

@@ -8,8 +8,8 @@ use Rattle.sm_term.specs.Assertions.{Assertion}
 use Rattle.sm_term.specs.Sorted.{IsStoreSorted}
 use Rattle.sm_term.specs.SymStores.{store_in, IsStoreWithin}
 use Rattle.sm_term.specs.Tables.{TableValue, trees_in, sorts_in}
-use Rattle.sm_term.specs.TableLaws.{Grows}
-use Rattle.sm_plan.specs.declared.rest.Rest.{Rest}
+use Rattle.sm_term.specs.TableLaws.{AddsTerms}
+use Rattle.sm_plan.specs.declared.rest.Continuation.{Continuation}
 use Rattle.sm_plan.specs.declared.state.SymState.{SymState}
 use Rattle.sm_plan.specs.Copies.{with_copy}
 use Rattle.sm_plan.specs.Nodes as plan
@@ -22,7 +22,7 @@ use Rattle.sm_plan.proofs.SortedStates.{stepped_sorted}
 use Rattle.sm_plan.proofs.TablesWiden.{widens_grown}
 
 -- the rest and the store of a copy are taken out, and others are put in
-pub record IsExchanged (st next : SymState) (c : Copy) (rest new_rest : Rest) (store new_store : SymStore) : Type 0 where
+pub record IsExchanged (st next : SymState) (c : Copy) (rest new_rest : Continuation) (store new_store : SymStore) : Type 0 where
   pub rest_was : rest ≡ of_copy st.rests c
   pub store_was : store ≡ of_copy st.stores c
   pub rests : (d : Copy) → rest_code (of_copy next.rests d)
@@ -32,13 +32,13 @@ pub record IsExchanged (st next : SymState) (c : Copy) (rest new_rest : Rest) (s
   pub target : next.target.value.list.items ≡ st.target.value.list.items
   pub is_final : next.is_final ≡ st.is_final
 
-module _ (v w : TableValue) (grows : Grows v w) (st next : SymState) (c : Copy) (rest new_rest : Rest) (store new_store : SymStore)
+module _ (v w : TableValue) (grows : AddsTerms v w) (st next : SymState) (c : Copy) (rest new_rest : Continuation) (store new_store : SymStore)
     (ex : IsExchanged st next c rest new_rest store new_store) (ready : IsStateReady (sorts_in v) (trees_in v) st)
     (done : Some (rest_code new_rest, store_in (trees_in w) new_store) ≡ stepped (rest_code rest) (store_in (trees_in v) store))
     (within : IsStoreWithin (length (trees_in w)) new_store) (len : length new_store.list.items ≡ length store.list.items) where
   from : Some (rest_code new_rest, store_in (trees_in w) new_store)
       ≡ stepped (rest_code (of_copy st.rests c)) (store_in (trees_in v) (of_copy st.stores c))
-  from = done ∙ ap (λ (r : Rest). stepped (rest_code r) (store_in (trees_in v) store)) ex.rest_was
+  from = done ∙ ap (λ (r : Continuation). stepped (rest_code r) (store_in (trees_in v) store)) ex.rest_was
       ∙ ap (λ (s : SymStore). stepped (rest_code (of_copy st.rests c)) (store_in (trees_in v) s)) ex.store_was
 
   sorted : IsWellSorted (sorts_in v) (rest_code new_rest) × IsStoreSorted (sorts_in v) (store_in (trees_in w) new_store)

@@ -9,7 +9,7 @@ use Rattle.sm_term.specs.Terms.{Tree}
 use Rattle.sm_term.specs.Symbolic.{with_term}
 use Rattle.sm_term.specs.SymStores.{tree_or_start, store_in, IsStoreWithin}
 use Rattle.sm_term.specs.Tables.{TableValue, trees_in, AreBefore}
-use Rattle.sm_term.specs.TableLaws.{Grows}
+use Rattle.sm_term.specs.TableLaws.{AddsTerms}
 use Rattle.sm_term.proofs.ExpressionLemmas.{tree_got, there, store-more, within_more}
 
 -- what stands in a list after a write
@@ -40,7 +40,7 @@ store_set trees s u x t tree h e got =
     by y false is = ap (tree_or_start trees y) (set_other s.list.items x y t (eqb-false y x is))
 
 -- over a table that has grown, a store with a written list has the new term for the name
-pub store_written : (v w : TableValue) → Grows v w → (s u : SymStore) (x : ℕ) (t : TermId) (tree : Tree) →
+pub store_written : (v w : TableValue) → AddsTerms v w → (s u : SymStore) (x : ℕ) (t : TermId) (tree : Tree) →
     IsStoreWithin (length (trees_in v)) s → x < length s.list.items
     → u.list.items ≡ slice_set s.list.items x t → slice_get (trees_in w) t.0 ≡ Some tree →
     store_in (trees_in w) u ≡ with_term (store_in (trees_in v) s) x tree
@@ -59,7 +59,7 @@ within_set trees s u x t tree e got all = subst (AreBefore (length trees)) (sym 
     (set_before (length trees) s.list.items x t (there trees t.0 tree got) all)
 
 -- over a table that has grown, a store with a written list has only terms of that table
-pub within_written : (v w : TableValue) → Grows v w → (s u : SymStore) (x : ℕ) (t : TermId) (tree : Tree) →
+pub within_written : (v w : TableValue) → AddsTerms v w → (s u : SymStore) (x : ℕ) (t : TermId) (tree : Tree) →
     IsStoreWithin (length (trees_in v)) s
     → u.list.items ≡ slice_set s.list.items x t → slice_get (trees_in w) t.0 ≡ Some tree → IsStoreWithin (length (trees_in w)) u
 within_written v w grows s u x t tree within e got = within_set (trees_in w) s u x t tree e got (within_more v w grows s within)

@@ -14,7 +14,7 @@ use Rattle.sm_term.specs.Symbolic.{SymbolicStore}
 use Rattle.sm_term.specs.Sorted.{IsStoreSorted}
 use Rattle.sm_term.specs.SymStores.{store_in, IsStoreWithin}
 use Rattle.sm_term.specs.Tables.{TableValue, trees_in, sorts_in}
-use Rattle.sm_term.specs.TableLaws.{Grows, Widens}
+use Rattle.sm_term.specs.TableLaws.{AddsTerms, ExtendsTable}
 use Rattle.sm_plan.specs.declared.state.SymState.{SymState}
 use Rattle.sm_plan.specs.Copies.{with_copy}
 use Rattle.sm_plan.specs.Statements.{front, rest_after, last_guard}
@@ -35,7 +35,7 @@ guard_found sorts c None e well = tt
 guard_found sorts c (Some b) e well = last_guard_well sorts c (condition_of b.now) well (sym e)
 
 -- v is the table before, u that of the summaries, and z that with the guard
-module _ (v u : TableValue) (first : Widens v u) (st : SymState) (c : Copy) (n : ℕ) (store : SymStore)
+module _ (v u : TableValue) (first : ExtendsTable v u) (st : SymState) (c : Copy) (n : ℕ) (store : SymStore)
     (ready : IsStateReady (sorts_in v) (trees_in v) st)
     (store_is : store_in (trees_in u) store ≡ summarized (front n (rest_code (of_copy st.rests c)))
     (store_in (trees_in v) (of_copy st.stores c)))
@@ -58,13 +58,13 @@ module _ (v u : TableValue) (first : Widens v u) (st : SymState) (c : Copy) (n :
   summed_full : IsStoreFull (sorts_in v) store
   summed_full x h = let f = ready.full c x h in omega (arith, f, len)
 
-  module _ (z : TableValue) (second : Grows u z) (next : SymState)
+  module _ (z : TableValue) (second : AddsTerms u z) (next : SymState)
       (rests : (d : Copy) → rest_code (of_copy next.rests d)
       ≡ with_copy (λ (e : Copy). rest_code (of_copy st.rests e)) c (rest_after n code) d)
       (stores : (d : Copy) → numbers_of (of_copy next.stores d)
       ≡ with_copy (λ (e : Copy). numbers_of (of_copy st.stores e)) c (numbers_of store) d)
       (target : next.target.value.list.items ≡ st.target.value.list.items) (final : next.is_final ≡ st.is_final) where
-    whole : Widens v z
+    whole : ExtendsTable v z
     whole = widens_twice v u z first (widens_grown u z second)
 
     pub summary_ready : IsStateReady (sorts_in z) (trees_in z) next

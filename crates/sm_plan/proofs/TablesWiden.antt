@@ -20,7 +20,7 @@ use Rattle.sm_term.specs.Sorted.{tree_sort, IsFormSorted, IsStoreSorted}
 use Rattle.sm_term.specs.Formulas.{NumberedFormula, Yes, No, Eq, Ne, Le, Lt, And, Or, numbered, assertion_in, IsFormulaWithin}
 use Rattle.sm_term.specs.SymStores.{tree_or_start, store_in, IsStoreWithin}
 use Rattle.sm_term.specs.Tables.{TableValue, trees_in, sorts_in, codes_in, tree_at}
-use Rattle.sm_term.specs.TableLaws.{Grows, Widens}
+use Rattle.sm_term.specs.TableLaws.{AddsTerms, ExtendsTable}
 use Rattle.sm_term.proofs.TermsLemmas.{part_before}
 use Rattle.sm_term.proofs.TreesLemmas.{tree_at-more, before-later}
 use Rattle.sm_plan.specs.declared.state.SymState.{SymState}
@@ -28,21 +28,21 @@ use Rattle.sm_plan.specs.Views.{rest_code, forms_in, stores_in, state_in}
 use Rattle.sm_plan.specs.ReadyStates.{IsFormReady, AreFormsReady, IsStoreReady, AreStoresReady, AreStoresFull, IsStateReady}
 
 -- a table widens by nothing, by what it grows, and twice
-pub widens_same : (v : TableValue) → Widens v v
+pub widens_same : (v : TableValue) → ExtendsTable v v
 widens_same v = record {
   sorts = refl;
   codes = ([], sym (append-nil _));
   trees = ([], sym (append-nil _));
 }
 
-pub widens_grown : (v w : TableValue) → Grows v w → Widens v w
+pub widens_grown : (v w : TableValue) → AddsTerms v w → ExtendsTable v w
 widens_grown v w g = record {
   sorts = g.sorts;
   codes = ([], g.codes ∙ sym (append-nil _));
   trees = g.trees;
 }
 
-pub widens_twice : (u v w : TableValue) → Widens u v → Widens v w → Widens u w
+pub widens_twice : (u v w : TableValue) → ExtendsTable u v → ExtendsTable v w → ExtendsTable u w
 widens_twice u v w first second = record {
   sorts = second.sorts ∙ first.sorts;
   codes = (
@@ -58,10 +58,10 @@ widens_twice u v w first second = record {
 }
 
 -- a table that widened and was cut back has the trees that it had, and is no narrower
-pub cut_back : (u v w : TableValue) → Widens u v → trees_in w ≡ take (length (trees_in u)) (trees_in v) → trees_in w ≡ trees_in u
+pub cut_back : (u v w : TableValue) → ExtendsTable u v → trees_in w ≡ take (length (trees_in u)) (trees_in v) → trees_in w ≡ trees_in u
 cut_back u v w wider cut = cut ∙ ap (take (length (trees_in u))) wider.trees.1 ∙ take-append_seam (trees_in u) wider.trees.0
 
-pub widens_cut : (u v w : TableValue) → Widens u v → trees_in w ≡ take (length (trees_in u)) (trees_in v) → sorts_in w ≡ sorts_in v → codes_in w ≡ codes_in v → Widens u w
+pub widens_cut : (u v w : TableValue) → ExtendsTable u v → trees_in w ≡ take (length (trees_in u)) (trees_in v) → sorts_in w ≡ sorts_in v → codes_in w ≡ codes_in v → ExtendsTable u w
 widens_cut u v w wider cut sorts codes = record {
   sorts = sorts ∙ wider.sorts;
   codes = (wider.codes.0, codes ∙ wider.codes.1);
@@ -69,7 +69,7 @@ widens_cut u v w wider cut sorts codes = record {
 }
 
 -- from one table to a wider one
-module _ (v w : TableValue) (wider : Widens v w) where
+module _ (v w : TableValue) (wider : ExtendsTable v w) where
   pub longer : length (trees_in v) ≤ length (trees_in w)
   longer = let long = ap length wider.trees.1 ∙ length-append (trees_in v) wider.trees.0 in omega arith
 

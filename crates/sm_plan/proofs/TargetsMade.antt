@@ -16,7 +16,7 @@ use Rattle.sm_term.specs.Formulas.{NumberedFormula, numbered, assertion_in}
 use Rattle.sm_term.specs.Sorted.{sort_named, tree_sort, AreFormsSorted}
 use Rattle.sm_term.specs.Terms.{Tree}
 use Rattle.sm_term.specs.Tables.{TableValue, trees_in, sorts_in, tree_at}
-use Rattle.sm_term.specs.TableLaws.{Widens}
+use Rattle.sm_term.specs.TableLaws.{ExtendsTable}
 use Rattle.sm_plan.specs.ReadyStates.{AreFormsReady}
 use Rattle.sm_plan.specs.SortedStates.{AreOutputsDeclared}
 use Rattle.sm_plan.specs.Starts.{goals_over, with_sorts, AreAllWithin}
@@ -58,12 +58,12 @@ all_append count [] gs p q = q
 all_append count (f ∷ fs) gs p q = (p.0, all_append count fs gs p.1 q)
 
 -- over a wider table
-pub all_stay : (v w : TableValue) → Widens v w → (fs : List NumberedFormula) → AreAllWithin (length (trees_in v)) fs
+pub all_stay : (v w : TableValue) → ExtendsTable v w → (fs : List NumberedFormula) → AreAllWithin (length (trees_in v)) fs
     → map (assertion_in (sorts_in w) (trees_in w)) fs ≡ map (assertion_in (sorts_in v) (trees_in v)) fs
 all_stay v w wider [] h = refl
 all_stay v w wider (f ∷ fs) h = λ i. assertion_stays v w wider f h.0 i ∷ all_stay v w wider fs h.1 i
 
-pub all_within : (v w : TableValue) → Widens v w → (fs : List NumberedFormula) → AreAllWithin (length (trees_in v)) fs →
+pub all_within : (v w : TableValue) → ExtendsTable v w → (fs : List NumberedFormula) → AreAllWithin (length (trees_in v)) fs →
     AreAllWithin (length (trees_in w)) fs
 all_within v w wider [] h = tt
 all_within v w wider (f ∷ fs) h = (within_stays v w wider f h.0, all_within v w wider fs h.1)

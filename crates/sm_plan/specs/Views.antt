@@ -19,7 +19,7 @@ use Rattle.sm_plan.specs.declared.node.NodeRow.{NodeRow}
 use Rattle.sm_plan.specs.declared.node.NodeRow.TheVariants as row
 use Rattle.sm_plan.specs.declared.opening.Opened.{Opened}
 use Rattle.sm_plan.specs.declared.opening.Successor.{Successor}
-use Rattle.sm_plan.specs.declared.rest.Rest.{Rest}
+use Rattle.sm_plan.specs.declared.rest.Continuation.{Continuation}
 use Rattle.sm_plan.specs.declared.state.SymState.{SymState}
 use Rattle.sm_plan.specs.Masks.{set_of}
 use Rattle.sm_plan.specs.Nodes as plan
@@ -36,7 +36,7 @@ frames_before [] k = k
 frames_before (f ∷ fs) k = frames_before fs (code_before f.now k)
 
 -- what is left of a program
-abbrev pub rest_code : Rest → Code
+abbrev pub rest_code : Continuation → Code
 rest_code r = frames_before r.frames.items End
 
 -- the formulas over the trees of a table

@@ -8,7 +8,7 @@ ghost use Rattle.sm_syntax.specs.claim.ConflictFree.{Copy};
 ghost use Rattle.sm_syntax.specs.trees.Copies.{of_copy};
 ghost use Rattle.sm_term.specs.Formulas.{numbered, assertion_in};
 ghost use Rattle.sm_term.specs.Tables.{trees_in, sorts_in};
-ghost use Rattle.sm_term.specs.TableLaws.{Widens};
+ghost use Rattle.sm_term.specs.TableLaws.{ExtendsTable};
 ghost use Rattle.sm_plan.specs.Copies.{each};
 ghost use Rattle.sm_plan.specs.Nodes as plan;
 ghost use Rattle.sm_plan.specs.Openings.{IsOpening};
@@ -20,7 +20,7 @@ use crate::kept::{conjuncts, is_kept};
 use crate::opening::{Opened, Successor};
 use crate::parts::two_of;
 use crate::renew::renewed_stores;
-use crate::rest::Rest;
+use crate::rest::Continuation;
 use crate::slots::at_stores;
 use crate::state::{Formulas, SymState};
 use crate::successors::{followed, no_formulas};
@@ -30,7 +30,7 @@ use std::alloc::{AllocError, Global};
 use std::rc::Rc;
 
 // Whether each copy has so many statements left.
-fn are_long(rests: &PerCopy<Rest<'_>>, counts: &PerCopy<u64>) -> bool
+fn are_long(rests: &PerCopy<Continuation<'_>>, counts: &PerCopy<u64>) -> bool
     ensures { result
         ≡ each (λ c. is_long (of_copy counts.now c) (rest_code (of_copy rests.now c))) }
 {
@@ -44,9 +44,9 @@ fn are_long(rests: &PerCopy<Rest<'_>>, counts: &PerCopy<u64>) -> bool
 // The first statements of each copy.
 fn fronts<'a>(
     alloc: Global,
-    rests: &PerCopy<Rest<'a>>,
+    rests: &PerCopy<Continuation<'a>>,
     counts: &PerCopy<u64>,
-) -> Result<PerCopy<Rest<'a>>, AllocError>
+) -> Result<PerCopy<Continuation<'a>>, AllocError>
     ensures { (c : Copy) → IfOk result (λ p. rest_code (of_copy p c)
         ≡ front (of_copy counts.now c) (rest_code (of_copy rests.now c))) }
 {
@@ -59,7 +59,7 @@ fn fronts<'a>(
 }
 
 // Leaves what comes after them.
-fn pass(rests: &mut PerCopy<Rest<'_>>, counts: &PerCopy<u64>)
+fn pass(rests: &mut PerCopy<Continuation<'_>>, counts: &PerCopy<u64>)
     ensures { (c : Copy) → rest_code (of_copy rests.new c)
         ≡ rest_after (of_copy counts.now c) (rest_code (of_copy rests.old c)) }
 {
@@ -85,7 +85,7 @@ pub(crate) fn open_block<'a>(
         IfOk result (IsOpening table.old table.new state.entry (λ facts.
         plan.opened_by number (state_in sorts trees facts state.entry)
         (plan.Block (of_copy counts.now) (assertion_in sorts trees (numbered keep.now))))) }
-    ensures widens { Widens table.old table.new }
+    ensures widens { ExtendsTable table.old table.new }
 {
     if !are_long(&state.rests, counts) || !is_kept(keep) {
         return Ok(None);

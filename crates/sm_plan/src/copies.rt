@@ -4,7 +4,7 @@ ghost use Rattle.sm_syntax.specs.claim.ConflictFree.{Copy};
 ghost use Rattle.sm_syntax.specs.trees.Copies.{of_copy};
 ghost use Rattle.sm_plan.specs.Views.{rest_code};
 
-use crate::rest::Rest;
+use crate::rest::Continuation;
 use crate::state::SymState;
 use sm_syntax::PerCopy;
 use sm_term::SymStore;
@@ -13,8 +13,8 @@ use std::alloc::{AllocError, Global};
 // A copy of what is left of each program.
 pub(crate) fn copy_rests<'a>(
     alloc: Global,
-    rests: &PerCopy<Rest<'a>>,
-) -> Result<PerCopy<Rest<'a>>, AllocError>
+    rests: &PerCopy<Continuation<'a>>,
+) -> Result<PerCopy<Continuation<'a>>, AllocError>
     ensures { (c : Copy) →
         IfOk result (λ p. rest_code (of_copy p c) ≡ rest_code (of_copy rests.now c)) }
 {

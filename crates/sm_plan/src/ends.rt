@@ -4,7 +4,7 @@ ghost use Rattle.sm_syntax.specs.trees.Copies.{of_copy};
 ghost use Rattle.sm_term.specs.Assertions as formula;
 ghost use Rattle.sm_term.specs.Slots.{all_at_stores};
 ghost use Rattle.sm_term.specs.Tables.{trees_in, sorts_in};
-ghost use Rattle.sm_term.specs.TableLaws.{Widens};
+ghost use Rattle.sm_term.specs.TableLaws.{ExtendsTable};
 ghost use Rattle.sm_plan.specs.Copies.{each};
 ghost use Rattle.sm_plan.specs.Nodes as plan;
 ghost use Rattle.sm_plan.specs.Openings.{IsOpening};
@@ -13,7 +13,7 @@ ghost use Rattle.sm_plan.specs.Statements.{is_over};
 ghost use Rattle.sm_plan.specs.Views.{rest_code, state_in};
 
 use crate::opening::Opened;
-use crate::rest::Rest;
+use crate::rest::Continuation;
 use crate::slots::at_stores;
 use crate::state::SymState;
 use crate::successors::one_formula;
@@ -22,7 +22,7 @@ use sm_term::{Formula, TermTable};
 use std::alloc::{AllocError, Global};
 
 // Whether all copies are at their ends.
-fn all_over(rests: &PerCopy<Rest<'_>>) -> bool
+fn all_over(rests: &PerCopy<Continuation<'_>>) -> bool
     ensures { result ≡ each (λ c. is_over (rest_code (of_copy rests.now c))) }
 {
     rests.base.is_over()
@@ -43,7 +43,7 @@ pub(crate) fn open_end<'a>(
         let st = state_in sorts trees facts state.entry in
         plan.where_true (each (λ c. is_over (st.rest c)))
         (plan.asks (all_at_stores st.stores st.target)))) }
-    ensures widens { Widens table.old table.new }
+    ensures widens { ExtendsTable table.old table.new }
 {
     if !all_over(&state.rests) {
         return Ok(None);

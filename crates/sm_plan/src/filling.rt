@@ -4,7 +4,7 @@ ghost use Rattle.std.specs.Prelude.{IfOk, IfErr};
 ghost use Rattle.std.specs.HashMap.{get};
 ghost use Rattle.sm_term.specs.Slots.{fill_term};
 ghost use Rattle.sm_term.specs.Tables.{trees_in, sorts_in, tree_at};
-ghost use Rattle.sm_term.specs.TableLaws.{Grows};
+ghost use Rattle.sm_term.specs.TableLaws.{AddsTerms};
 ghost use Rattle.sm_syntax.specs.claim.ConflictFree.{copy_of};
 ghost use Rattle.sm_syntax.specs.trees.Copies.{of_copy};
 ghost use Rattle.sm_plan.specs.Filling.{AreKnown, IsFilling, IsFound, ArePartsKnown};
@@ -184,7 +184,7 @@ fn number_of(
         (get nat_eq known.now) }
     ensures number { let s = stores_in (trees_in table.new) stores.now in
         IfOk result (λ f. IsFound table.new s (get nat_eq known.now) t.0 f) }
-    ensures grows { Grows table.old table.new }
+    ensures grows { AddsTerms table.old table.new }
 {
     match filling_of(alloc, table, stores, known, t)? {
         Filling::There(id) => Ok(Found::Number(id)),
@@ -211,7 +211,7 @@ pub(crate) fn filled_term(
         slice_get (trees_in table.new) id.0 ≡ Some (fill_term s (tree_at trees t.0))) }
     ensures known { let s = stores_in (trees_in table.new) stores.now in
         IfOk result (λ _. AreKnown table.new s (get nat_eq known.new)) }
-    ensures grows { Grows table.old table.new }
+    ensures grows { AddsTerms table.old table.new }
 {
     match known.get(&t.0) {
         Some(id) => Ok(*id),
@@ -237,7 +237,7 @@ fn walked(
         slice_get (trees_in table.new) id.0 ≡ Some (fill_term s (tree_at trees t.0))) }
     ensures known { let s = stores_in (trees_in table.new) stores.now in
         IfOk result (λ _. AreKnown table.new s (get nat_eq known.new)) }
-    ensures grows { Grows table.old table.new }
+    ensures grows { AddsTerms table.old table.new }
 {
     // terms that wait for a part, each a part of the one before it
     let mut waiting = Vec::new(alloc);

@@ -10,7 +10,7 @@ ghost use Rattle.sm_term.specs.Formulas.{numbered, assertion_in, IsFormulaWithin
 ghost use Rattle.sm_term.specs.Symbolic as symbolic;
 ghost use Rattle.sm_term.specs.SymStores.{store_in};
 ghost use Rattle.sm_term.specs.Tables.{trees_in, sorts_in};
-ghost use Rattle.sm_term.specs.TableLaws.{Grows};
+ghost use Rattle.sm_term.specs.TableLaws.{AddsTerms};
 ghost use Rattle.sm_term.specs.Terms.{Tree};
 ghost use Rattle.sm_plan.specs.Copies as plain;
 ghost use Rattle.sm_plan.specs.Heads as heads;
@@ -20,7 +20,7 @@ ghost use Rattle.sm_plan.specs.ReadyStates.{IsFormReady, AreFormsReady, IsStoreR
 ghost use Rattle.sm_plan.specs.Statements.{loop_body, loop_guard};
 ghost use Rattle.sm_plan.specs.Views.{rest_code, forms_in};
 
-use crate::rest::Rest;
+use crate::rest::Continuation;
 use crate::state::Formulas;
 use sm_syntax::{CopyName, PerCopy};
 use sm_term::{Formula, SymStore, TermTable, copy_formula, form_of, negate};
@@ -46,22 +46,22 @@ pub(crate) fn has(mask: u8, copy: CopyName) -> bool
 }
 
 // The body of the loop that comes next, nothing where there is none.
-fn body_of<'a>(alloc: Global, rest: &Rest<'a>) -> Result<Rest<'a>, AllocError>
+fn body_of<'a>(alloc: Global, rest: &Continuation<'a>) -> Result<Continuation<'a>, AllocError>
     ensures { IfOk result (λ r. rest_code r ≡ loop_body (rest_code rest.now)) }
 {
     match rest.first_loop() {
-        Some((_, body)) => Rest::of(alloc, body),
-        None => Ok(Rest::empty(alloc)),
+        Some((_, body)) => Continuation::of(alloc, body),
+        None => Ok(Continuation::empty(alloc)),
     }
 }
 
 // The body of a copy's loop where the copy's bit is set, and else nothing.
 fn body_in<'a>(
     alloc: Global,
-    rest: &Rest<'a>,
+    rest: &Continuation<'a>,
     mask: u8,
     copy: CopyName,
-) -> Result<Rest<'a>, AllocError>
+) -> Result<Continuation<'a>, AllocError>
     ensures { IfOk result (λ r. rest_code r
         ≡ (if plain.has (set_of mask) (copy_named copy) then loop_body (rest_code rest.now)
         else End)) }
@@ -69,16 +69,16 @@ fn body_in<'a>(
     if has(mask, copy) {
         body_of(alloc, rest)
     } else {
-        Ok(Rest::empty(alloc))
+        Ok(Continuation::empty(alloc))
     }
 }
 
 /// The body of the loop of each copy whose bit is set, nothing for the others.
 pub(crate) fn bodies<'a>(
     alloc: Global,
-    rests: &PerCopy<Rest<'a>>,
+    rests: &PerCopy<Continuation<'a>>,
     mask: u8,
-) -> Result<PerCopy<Rest<'a>>, AllocError>
+) -> Result<PerCopy<Continuation<'a>>, AllocError>
     ensures { (c : Copy) → IfOk result (λ p. rest_code (of_copy p c)
         ≡ (if plain.has (set_of mask) c then loop_body (rest_code (of_copy rests.now c))
         else End)) }
@@ -95,7 +95,7 @@ pub(crate) fn bodies<'a>(
 pub(crate) fn guard(
     alloc: Global,
     table: &mut TermTable,
-    rest: &Rest<'_>,
+    rest: &Continuation<'_>,
     store: &SymStore,
     mask: u8,
     copy: CopyName,
@@ -108,7 +108,7 @@ pub(crate) fn guard(
         ≡ (if plain.has (set_of mask) (copy_named copy) then Some f else None)) }
     ensures within { IfOk result (λ o.
         IfSome o (λ g. IsFormulaWithin (length (trees_in table.new)) (numbered g))) }
-    ensures grows { Grows table.old table.new }
+    ensures grows { AddsTerms table.old table.new }
 {
     if !has(mask, copy) {
         return Ok(None);

@@ -47,6 +47,6 @@ pub use laws::{
 };
 pub use node::NodeRow;
 pub use opening::{Opened, Successor, open};
-pub use rest::Rest;
+pub use rest::Continuation;
 pub use start::start_state;
 pub use state::{Formulas, SymState};

@@ -8,7 +8,7 @@ ghost use Rattle.sm_term.specs.Formulas.{numbered, assertion_in, IsFormulaWithin
 ghost use Rattle.sm_term.specs.Symbolic.{form_of};
 ghost use Rattle.sm_term.specs.SymStores.{store_in};
 ghost use Rattle.sm_term.specs.Tables.{trees_in, sorts_in};
-ghost use Rattle.sm_term.specs.TableLaws.{Grows, Widens};
+ghost use Rattle.sm_term.specs.TableLaws.{AddsTerms, ExtendsTable};
 ghost use Rattle.sm_term.specs.Terms.{Tree};
 ghost use Rattle.sm_plan.specs.Copies as sets;
 ghost use Rattle.sm_plan.specs.Heads as heads;
@@ -26,7 +26,7 @@ use crate::heads::{bodies, guard, has};
 use crate::kept::{conjuncts, is_kept};
 use crate::opening::Opened;
 use crate::renew::renewed_stores;
-use crate::rest::Rest;
+use crate::rest::Continuation;
 use crate::slots::at_stores;
 use crate::state::{Formulas, SymState};
 use crate::turns::{Head, after_loops, turns};
@@ -36,7 +36,7 @@ use std::alloc::{AllocError, Global};
 use std::rc::Rc;
 
 // Whether a copy is outside of a set, or a loop comes next.
-fn may_turn(rest: &Rest<'_>, set: u8, copy: CopyName) -> bool
+fn may_turn(rest: &Continuation<'_>, set: u8, copy: CopyName) -> bool
     ensures { result
         ≡ (not (sets.has (set_of set) (copy_named copy)) || is_loop (rest_code rest.now)) }
 {
@@ -52,7 +52,7 @@ fn is_inhabited(set: u8) -> bool
 }
 
 // Whether the loops of a set can be run together, with a formula that may be kept.
-fn may_loop(rests: &PerCopy<Rest<'_>>, set: u8, keep: &Formula) -> bool
+fn may_loop(rests: &PerCopy<Continuation<'_>>, set: u8, keep: &Formula) -> bool
     ensures { (sorts : Sorts) (trees : List Tree) → result ≡ (nat_le set 15
         && (sets.is_inhabited (set_of set)
         && (sets.each (λ c. not (sets.has (set_of set) c)
@@ -71,7 +71,7 @@ fn may_loop(rests: &PerCopy<Rest<'_>>, set: u8, keep: &Formula) -> bool
 fn put_guard(
     alloc: Global,
     table: &mut TermTable,
-    rest: &Rest<'_>,
+    rest: &Continuation<'_>,
     store: &SymStore,
     set: u8,
     copy: CopyName,
@@ -85,7 +85,7 @@ fn put_guard(
         place.new ≡ (if sets.has (set_of set) (copy_named copy) then Some f else None)) }
     ensures within { OnOk result
         (IfSome place.new (λ g. IsFormulaWithin (length (trees_in table.new)) (numbered g))) }
-    ensures grows { Grows table.old table.new }
+    ensures grows { AddsTerms table.old table.new }
 {
     *place = guard(alloc, table, rest, store, set, copy)?;
     Ok(())
@@ -95,7 +95,7 @@ fn put_guard(
 fn put_guards(
     alloc: Global,
     table: &mut TermTable,
-    rests: &PerCopy<Rest<'_>>,
+    rests: &PerCopy<Continuation<'_>>,
     stores: &PerCopy<SymStore>,
     set: u8,
     all: &mut PerCopy<Option<Formula>>,
@@ -109,7 +109,7 @@ fn put_guards(
         ≡ heads.guards_at (set_of set) (λ d. rest_code (of_copy rests.now d)) at c) }
     ensures ready { OnOk result
         (heads.AreGuardsReady (sorts_in table.new) (trees_in table.new) all.new) }
-    ensures grows { Grows table.old table.new }
+    ensures grows { AddsTerms table.old table.new }
 {
     put_guard(
         alloc,
@@ -154,7 +154,7 @@ fn put_guards(
 fn guards(
     alloc: Global,
     table: &mut TermTable,
-    rests: &PerCopy<Rest<'_>>,
+    rests: &PerCopy<Continuation<'_>>,
     stores: &PerCopy<SymStore>,
     set: u8,
 ) -> Result<PerCopy<Option<Formula>>, AllocError>
@@ -166,7 +166,7 @@ fn guards(
         heads.guard_forms (sorts_in table.new) (trees_in table.new) g c
         ≡ heads.guards_at (set_of set) (λ d. rest_code (of_copy rests.now d)) at c) }
     ensures ready { IfOk result (heads.AreGuardsReady (sorts_in table.new) (trees_in table.new)) }
-    ensures grows { Grows table.old table.new }
+    ensures grows { AddsTerms table.old table.new }
 {
     let mut all = PerCopy {
         base: None,
@@ -192,7 +192,7 @@ fn head_of(
     ensures made { IfOk result
         (IsHeadOf table.old table.new number state.now (set_of set) parts.now.list.items) }
     ensures ready { IfOk result (IsHeadReady (sorts_in table.new) (trees_in table.new)) }
-    ensures widens { Widens table.old table.new }
+    ensures widens { ExtendsTable table.old table.new }
 {
     let done = bodies(alloc, &state.rests, set)?;
     let stores = renewed_stores(alloc, table, number, &done, &state.stores)?;
@@ -224,7 +224,7 @@ pub(crate) fn open_loop<'a>(
         plan.opened_by number (state_in sorts trees facts state.entry) (if nat_le set 15
         then plan.Loop (set_of set) (assertion_in sorts trees (numbered keep.now))
         else plan.Unfit 4))) }
-    ensures widens { Widens table.old table.new }
+    ensures widens { ExtendsTable table.old table.new }
 {
     if !may_loop(&state.rests, set, keep) {
         return Ok(None);

@@ -6,7 +6,7 @@ ghost use Rattle.sm_syntax.specs.trees.Copies.{copy_named, of_copy};
 ghost use Rattle.sm_syntax.specs.trees.Views.{condition_of, code_of};
 ghost use Rattle.sm_term.specs.Assertions.{Assertion};
 ghost use Rattle.sm_term.specs.Tables.{trees_in, sorts_in};
-ghost use Rattle.sm_term.specs.TableLaws.{Widens};
+ghost use Rattle.sm_term.specs.TableLaws.{ExtendsTable};
 ghost use Rattle.sm_plan.specs.Copies.{with_copy};
 ghost use Rattle.sm_plan.specs.Nodes as plan;
 ghost use Rattle.sm_plan.specs.Openings.{IsOpening};
@@ -19,7 +19,7 @@ ghost use Rattle.sm_plan.specs.Views.{rest_code, state_in};
 use crate::copies::copy_state;
 use crate::opening::Opened;
 use crate::parts::exchange;
-use crate::rest::Rest;
+use crate::rest::Continuation;
 use crate::state::SymState;
 use crate::steps::step;
 use crate::successors::{follows_one, follows_two, no_formulas, no_terms, one_formula};
@@ -39,9 +39,9 @@ pub(crate) fn open_step<'a>(
         IfOk result (IsOpening table.old table.new state.entry (λ facts.
         let st = state_in sorts trees facts state.entry in let c = copy_named copy in
         plan.after_step st c (stepped (st.rest c) (st.stores c)))) }
-    ensures widens { Widens table.old table.new }
+    ensures widens { ExtendsTable table.old table.new }
 {
-    let mut rest = Rest::empty(alloc);
+    let mut rest = Continuation::empty(alloc);
     let mut store = no_terms(alloc);
     exchange(&mut state.rests, copy, &mut rest);
     exchange(&mut state.stores, copy, &mut store);
@@ -67,7 +67,7 @@ pub(crate) fn open_fork<'a>(
         IfOk result (IsOpening table.old table.new state.entry (λ facts.
         let st = state_in sorts trees facts state.entry in let c = copy_named copy in
         plan.both_ways st c (st.rest c))) }
-    ensures widens { Widens table.old table.new }
+    ensures widens { ExtendsTable table.old table.new }
 {
     let Some((guard, first, second)) = first_choice(state.rests.get(copy)) else {
         return Ok(None);
@@ -84,7 +84,7 @@ pub(crate) fn open_fork<'a>(
 }
 
 // The condition and the branches of the choice that comes next.
-fn first_choice<'a>(rest: &Rest<'a>) -> Option<(&'a Cond, &'a Block, &'a Block)>
+fn first_choice<'a>(rest: &Continuation<'a>) -> Option<(&'a Cond, &'a Block, &'a Block)>
     ensures { let code = rest_code rest.now in let left = rest_after 1 code in MatchOption result
         ((st : State) (c : Copy) → plan.both_ways st c code ≡ None)
         (λ p. code ≡ If (condition_of p.0.now) (code_of p.1.now) (code_of p.2.now) left) }
@@ -98,7 +98,7 @@ fn first_choice<'a>(rest: &Rest<'a>) -> Option<(&'a Cond, &'a Block, &'a Block)>
 // Puts a block in the place of a copy's next statement.
 fn enter<'a>(
     alloc: Global,
-    rests: &mut PerCopy<Rest<'a>>,
+    rests: &mut PerCopy<Continuation<'a>>,
     copy: CopyName,
     block: &'a Block,
 ) -> Result<(), AllocError>
@@ -107,7 +107,7 @@ fn enter<'a>(
         (d : Copy) → OnOk result (rest_code (of_copy rests.new d)
         ≡ with_copy (λ e. rest_code (of_copy rests.old e)) c code d) }
 {
-    let mut rest = Rest::empty(alloc);
+    let mut rest = Continuation::empty(alloc);
     exchange(rests, copy, &mut rest);
     rest.drop_front(1);
     rest.put_before(block)?;

@@ -2,7 +2,7 @@
 ghost use Rattle.std.specs.Prelude.{◌≡◌, ◌⊎◌, List, [], option_map, IfOk, IfSome, IfNone};
 ghost use Rattle.std.specs.Prelude.{OnErr};
 ghost use Rattle.sm_term.specs.Tables.{trees_in, sorts_in};
-ghost use Rattle.sm_term.specs.TableLaws.{Widens};
+ghost use Rattle.sm_term.specs.TableLaws.{ExtendsTable};
 ghost use Rattle.sm_term.specs.Assertions.{Assertion};
 ghost use Rattle.sm_plan.specs.Nodes as plan;
 ghost use Rattle.sm_plan.specs.Views.{state_in, node_in, opened_in, stores_in};
@@ -71,7 +71,7 @@ pub fn open<'a>(
         AreStoresReady (sorts_in table.new) (trees_in table.new) p.stores)) }
 
     // Each term keeps its number.
-    ensures widens { Widens table.old table.new }
+    ensures widens { ExtendsTable table.old table.new }
     ensures refused { IfOk result (λ o. IfNone o (trees_in table.new ≡ trees_in table.old)) }
     ensures err { OnErr result (trees_in table.new ≡ trees_in table.old) }
 {
@@ -113,7 +113,7 @@ fn open_node<'a>(
         AreFormsReady (sorts_in table.new) (trees_in table.new) p.goals.list.items)) }
     ensures asking { IfOk result (λ o. IfSome o (λ p.
         AreStoresReady (sorts_in table.new) (trees_in table.new) p.stores)) }
-    ensures widens { Widens table.old table.new }
+    ensures widens { ExtendsTable table.old table.new }
 {
     match node {
         NodeRow::Step { copy } => open_step(alloc, table, state, *copy),

@@ -9,7 +9,7 @@ ghost use Rattle.sm_term.specs.Rows.{names_in_list};
 ghost use Rattle.sm_term.specs.Sorted.{IsDeclaredIn};
 ghost use Rattle.sm_term.specs.SymStores.{store_in, IsStoreWithin};
 ghost use Rattle.sm_term.specs.Tables.{trees_in, sorts_in};
-ghost use Rattle.sm_term.specs.TableLaws.{Grows};
+ghost use Rattle.sm_term.specs.TableLaws.{AddsTerms};
 ghost use Rattle.sm_plan.specs.Heads.{with_new};
 ghost use Rattle.sm_plan.specs.ReadyStates.{IsStoreReady, IsStoreFull};
 ghost use Rattle.sm_plan.specs.ReadyStates.{AreStoresReady, AreStoresFull};
@@ -17,7 +17,7 @@ ghost use Rattle.sm_plan.specs.Successors.{renewed};
 ghost use Rattle.sm_plan.specs.Views.{rest_code, stores_in};
 
 use crate::copies::copy_stores;
-use crate::rest::Rest;
+use crate::rest::Continuation;
 use crate::steps::{made, put};
 use sm_syntax::{CopyName, Name, PerCopy};
 use sm_term::{SymStore, Term, TermTable};
@@ -40,7 +40,7 @@ fn renew(
         OnOk result (store_in (trees_in table.new) store.new ≡ new) }
     ensures within { OnOk result (IsStoreWithin (length (trees_in table.new)) store.new) }
     ensures len { length store.new.list.items ≡ length store.old.list.items }
-    ensures grows { Grows table.old table.new }
+    ensures grows { AddsTerms table.old table.new }
 {
     for name in names {
         let term = Term::Havoc {
@@ -60,7 +60,7 @@ fn renew_written(
     table: &mut TermTable,
     number: u64,
     copy: CopyName,
-    done: &Rest<'_>,
+    done: &Continuation<'_>,
     store: &mut SymStore,
 ) -> Result<(), AllocError>
     requires done { IsWellSorted (sorts_in table.old) (rest_code done.now) }
@@ -71,7 +71,7 @@ fn renew_written(
         OnOk result (store_in (trees_in table.new) store.new ≡ new) }
     ensures ready { OnOk result (IsStoreReady (sorts_in table.new) (trees_in table.new) store.new) }
     ensures full { OnOk result (IsStoreFull (sorts_in table.new) store.new) }
-    ensures grows { Grows table.old table.new }
+    ensures grows { AddsTerms table.old table.new }
 {
     let names = done.writes(alloc)?;
     renew(table, number, copy, &names.list, store)?;
@@ -83,7 +83,7 @@ fn renew_all(
     alloc: Global,
     table: &mut TermTable,
     number: u64,
-    done: &PerCopy<Rest<'_>>,
+    done: &PerCopy<Continuation<'_>>,
     stores: &mut PerCopy<SymStore>,
 ) -> Result<(), AllocError>
     requires done { (c : Copy) →
@@ -96,7 +96,7 @@ fn renew_all(
     ensures ready { OnOk result
         (AreStoresReady (sorts_in table.new) (trees_in table.new) stores.new) }
     ensures full { OnOk result (AreStoresFull (sorts_in table.new) stores.new) }
-    ensures grows { Grows table.old table.new }
+    ensures grows { AddsTerms table.old table.new }
 {
     let o = CopyName::O;
     renew_written(alloc, table, number, o, &done.base, &mut stores.base)?;
@@ -135,7 +135,7 @@ pub(crate) fn renewed_stores(
     alloc: Global,
     table: &mut TermTable,
     number: u64,
-    done: &PerCopy<Rest<'_>>,
+    done: &PerCopy<Continuation<'_>>,
     stores: &PerCopy<SymStore>,
 ) -> Result<PerCopy<SymStore>, AllocError>
     requires done { (c : Copy) →
@@ -147,7 +147,7 @@ pub(crate) fn renewed_stores(
         IfOk result (λ s. stores_in (trees_in table.new) s ≡ new) }
     ensures ready { IfOk result (λ s. AreStoresReady (sorts_in table.new) (trees_in table.new) s) }
     ensures full { IfOk result (λ s. AreStoresFull (sorts_in table.new) s) }
-    ensures grows { Grows table.old table.new }
+    ensures grows { AddsTerms table.old table.new }
 {
     let mut all = copy_stores(alloc, stores)?;
     renew_all(alloc, table, number, done, &mut all)?;

@@ -17,31 +17,31 @@ use std::alloc::{AllocError, Global};
 /// What is left of a copy's program, as statements of its blocks. What comes next stands at the
 /// front of the last slice.
 #[derive(Drop)]
-pub struct Rest<'a> {
+pub struct Continuation<'a> {
     pub frames: Vec<&'a [Stmt]>,
 }
 
-impl<'a> Rest<'a> {
+impl<'a> Continuation<'a> {
     /// Nothing.
-    pub fn empty(alloc: Global) -> Rest<'a>
+    pub fn empty(alloc: Global) -> Continuation<'a>
         ensures { rest_code result ≡ End }
     {
-        Rest {
+        Continuation {
             frames: Vec::new(alloc),
         }
     }
 
     /// A whole block.
-    pub fn of(alloc: Global, block: &'a Block) -> Result<Rest<'a>, AllocError>
+    pub fn of(alloc: Global, block: &'a Block) -> Result<Continuation<'a>, AllocError>
         ensures { IfOk result (λ r. rest_code r ≡ code_of block.now) }
     {
-        let mut rest = Rest::empty(alloc);
+        let mut rest = Continuation::empty(alloc);
         rest.put_before(block)?;
         Ok(rest)
     }
 
     /// A copy of what is left.
-    pub fn copy(&self, alloc: Global) -> Result<Rest<'a>, AllocError>
+    pub fn copy(&self, alloc: Global) -> Result<Continuation<'a>, AllocError>
         ensures { IfOk result (λ r. rest_code r ≡ rest_code self.now) }
     {
         self.above(alloc, 0, &[])
@@ -99,7 +99,7 @@ impl<'a> Rest<'a> {
     }
 
     /// The first `count` statements, or all where fewer are left.
-    pub fn front(&self, alloc: Global, count: u64) -> Result<Rest<'a>, AllocError>
+    pub fn front(&self, alloc: Global, count: u64) -> Result<Continuation<'a>, AllocError>
         ensures { IfOk result (λ r. rest_code r ≡ plain.front count (rest_code self.now)) }
     {
         let mut left = count;
@@ -117,7 +117,12 @@ impl<'a> Rest<'a> {
     }
 
     // The slices from a place on, before the statements of one more.
-    fn above(&self, alloc: Global, place: usize, last: &'a [Stmt]) -> Result<Rest<'a>, AllocError>
+    fn above(
+        &self,
+        alloc: Global,
+        place: usize,
+        last: &'a [Stmt],
+    ) -> Result<Continuation<'a>, AllocError>
         requires { place ≤ length self.now.frames.items }
         ensures { let frames = drop place self.now.frames.items in
             IfOk result (λ r. rest_code r ≡ frames_before frames (code_before last.now End)) }
@@ -127,7 +132,7 @@ impl<'a> Rest<'a> {
         for frame in frames_from(&self.frames, place) {
             frames.push(*frame)?;
         }
-        Ok(Rest { frames })
+        Ok(Continuation { frames })
     }
 
     /// Leaves what comes after the first `count` statements, nothing where fewer are left.

@@ -5,7 +5,7 @@ ghost use Rattle.sm_term.specs.Formulas.{numbered, assertion_in, IsFormulaWithin
 ghost use Rattle.sm_term.specs.Slots as plain;
 ghost use Rattle.sm_term.specs.Slots.{fill_term, all_at_stores};
 ghost use Rattle.sm_term.specs.Tables.{trees_in, sorts_in, tree_at};
-ghost use Rattle.sm_term.specs.TableLaws.{Grows, Widens};
+ghost use Rattle.sm_term.specs.TableLaws.{AddsTerms, ExtendsTable};
 ghost use Rattle.sm_plan.specs.Filling.{AreKnown};
 ghost use Rattle.sm_plan.specs.ReadyStates.{IsFormReady, AreFormsReady, AreStoresReady};
 ghost use Rattle.sm_plan.specs.Views.{forms_in, stores_in};
@@ -39,7 +39,7 @@ fn filled_terms(
         slice_get (trees_in table.new) p.1.0 ≡ Some (fill_term s (tree_at trees u.0))) }
     ensures known { let s = stores_in (trees_in table.new) stores.now in
         IfOk result (λ _. AreKnown table.new s (get nat_eq known.new)) }
-    ensures grows { Grows table.old table.new }
+    ensures grows { AddsTerms table.old table.new }
 {
     let a = filled_term(alloc, table, stores, known, t)?;
     let b = filled_term(alloc, table, stores, known, u)?;
@@ -67,7 +67,7 @@ fn filled_form(
     ensures within { IfOk result (λ g. IsFormulaWithin (length (trees_in table.new)) (numbered g)) }
     ensures known { let s = stores_in (trees_in table.new) stores.now in
         IfOk result (λ _. AreKnown table.new s (get nat_eq known.new)) }
-    ensures grows { Grows table.old table.new }
+    ensures grows { AddsTerms table.old table.new }
 {
     match f {
         Formula::Yes => Ok(Formula::Yes),
@@ -129,7 +129,7 @@ fn filled_parts(
         × IsFormulaWithin count (numbered g.1.value)) }
     ensures known { let s = stores_in (trees_in table.new) stores.now in
         IfOk result (λ _. AreKnown table.new s (get nat_eq known.new)) }
-    ensures grows { Grows table.old table.new }
+    ensures grows { AddsTerms table.old table.new }
 {
     let a = filled_form(alloc, table, stores, known, p)?;
     let b = filled_form(alloc, table, stores, known, q)?;
@@ -154,7 +154,7 @@ pub(crate) fn at_stores(
         ≡ all_at_stores (stores_in trees stores.now) (forms_in sorts trees forms.now)) }
     ensures ready { IfOk result (λ fs.
         AreFormsReady (sorts_in table.new) (trees_in table.new) fs.list.items) }
-    ensures widens { Widens table.old table.new }
+    ensures widens { ExtendsTable table.old table.new }
 {
     let mut known = HashMap::new(alloc);
     let mut list = Vec::new(alloc);

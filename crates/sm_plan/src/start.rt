@@ -9,7 +9,7 @@ ghost use Rattle.sm_syntax.specs.trees.Programs.{declared_of, outputs_of};
 ghost use Rattle.sm_syntax.specs.trees.Views.{condition_of, code_of};
 ghost use Rattle.sm_term.specs.SymStores.{store_in, IsStoreWithin};
 ghost use Rattle.sm_term.specs.Tables.{trees_in, sorts_in};
-ghost use Rattle.sm_term.specs.TableLaws.{Grows, Widens};
+ghost use Rattle.sm_term.specs.TableLaws.{AddsTerms, ExtendsTable};
 ghost use Rattle.sm_plan.specs.ReadyStates.{IsStateReady, AreFormsReady, IsStoreReady};
 ghost use Rattle.sm_plan.specs.SortedStates.{AreOutputsDeclared};
 ghost use Rattle.sm_plan.specs.Starts.{AreNumbered};
@@ -18,7 +18,7 @@ ghost use Rattle.sm_plan.specs.Views.{rest_code, forms_in, state_in};
 
 use crate::copies::copy_store;
 use crate::kept::conjuncts;
-use crate::rest::Rest;
+use crate::rest::Continuation;
 use crate::state::{Formulas, SymState};
 use crate::steps::made;
 use crate::successors::no_formulas;
@@ -35,7 +35,7 @@ fn start_store(alloc: Global, table: &mut TermTable, decls: &Decls) -> Result<Sy
     ensures store { IfOk result (λ s. store_in (trees_in table.new) s ≡ plain.start_store) }
     ensures within { IfOk result (IsStoreWithin (length (trees_in table.new))) }
     ensures len { IfOk result (λ s. length s.list.items ≡ length (declared_of decls.now)) }
-    ensures grows { Grows table.old table.new }
+    ensures grows { AddsTerms table.old table.new }
 {
     let mut list = Vec::new(alloc);
     for d in &decls.list {
@@ -60,7 +60,7 @@ fn start_facts(
         ≡ plain.start_facts (option_map (λ b. condition_of b.now) assumed.entry)) }
     ensures ready { IfOk result (λ fs.
         AreFormsReady (sorts_in table.new) (trees_in table.new) fs.list.items) }
-    ensures grows { Grows table.old table.new }
+    ensures grows { AddsTerms table.old table.new }
 {
     match assumed {
         None => Ok(no_formulas(alloc)),
@@ -73,15 +73,18 @@ fn start_facts(
 }
 
 // The whole programs.
-fn whole<'a>(alloc: Global, programs: &'a PerCopy<Block>) -> Result<PerCopy<Rest<'a>>, AllocError>
+fn whole<'a>(
+    alloc: Global,
+    programs: &'a PerCopy<Block>,
+) -> Result<PerCopy<Continuation<'a>>, AllocError>
     ensures { (c : Copy) →
         IfOk result (λ p. rest_code (of_copy p c) ≡ code_of (of_copy programs.now c)) }
 {
     Ok(PerCopy {
-        base: Rest::of(alloc, &programs.base)?,
-        variant_a: Rest::of(alloc, &programs.variant_a)?,
-        variant_b: Rest::of(alloc, &programs.variant_b)?,
-        candidate: Rest::of(alloc, &programs.candidate)?,
+        base: Continuation::of(alloc, &programs.base)?,
+        variant_a: Continuation::of(alloc, &programs.variant_a)?,
+        variant_b: Continuation::of(alloc, &programs.variant_b)?,
+        candidate: Continuation::of(alloc, &programs.candidate)?,
     })
 }
 
@@ -153,7 +156,7 @@ pub fn start_state<'a>(
         AreFormsReady (sorts_in table.new) (trees_in table.new) p.1.list.items) }
 
     // Each term keeps its number.
-    ensures widens { Widens table.old table.new }
+    ensures widens { ExtendsTable table.old table.new }
     ensures err { OnErr result (trees_in table.new ≡ trees_in table.old) }
 {
     let len = table.len();
@@ -191,7 +194,7 @@ fn made_state<'a>(
     ensures ready { IfOk result (λ p. IsStateReady (sorts_in table.new) (trees_in table.new) p.0) }
     ensures facts { IfOk result (λ p.
         AreFormsReady (sorts_in table.new) (trees_in table.new) p.1.list.items) }
-    ensures widens { Widens table.old table.new }
+    ensures widens { ExtendsTable table.old table.new }
 {
     let store = start_store(alloc, table, decls)?;
     let facts = start_facts(alloc, table, assumed, &store)?;

@@ -1,5 +1,5 @@
 // States of a proof.
-use crate::rest::Rest;
+use crate::rest::Continuation;
 use sm_syntax::PerCopy;
 use sm_term::{Formula, SymStore};
 use std::rc::Rc;
@@ -14,7 +14,7 @@ pub struct Formulas {
 /// whether that is the final one. The target is shared with other states.
 #[derive(Drop)]
 pub struct SymState<'a> {
-    pub rests: PerCopy<Rest<'a>>,
+    pub rests: PerCopy<Continuation<'a>>,
     pub stores: PerCopy<SymStore>,
     pub target: Rc<Formulas>,
     pub is_final: bool,

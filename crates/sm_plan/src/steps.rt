@@ -10,13 +10,13 @@ ghost use Rattle.sm_term.specs.Sorted.{IsDeclaredIn, IsStoreSorted};
 ghost use Rattle.sm_term.specs.Symbolic as symbolic;
 ghost use Rattle.sm_term.specs.SymStores.{store_in, IsStoreWithin};
 ghost use Rattle.sm_term.specs.Tables.{trees_in, sorts_in, codes_in, tree_in, IsTermWithin};
-ghost use Rattle.sm_term.specs.TableLaws.{Grows};
+ghost use Rattle.sm_term.specs.TableLaws.{AddsTerms};
 ghost use Rattle.sm_plan.specs.Openings.{done_if};
 ghost use Rattle.sm_plan.specs.ReadyStates.{IsStoreReady, IsStoreFull};
 ghost use Rattle.sm_plan.specs.Successors.{stepped};
 ghost use Rattle.sm_plan.specs.Views.{rest_code};
 
-use crate::rest::Rest;
+use crate::rest::Continuation;
 use sm_syntax::{Expr, Name, Stmt};
 use sm_term::{SymStore, Term, TermError, TermId, TermTable, term_of};
 use std::alloc::AllocError;
@@ -24,7 +24,7 @@ use std::alloc::AllocError;
 // Does the next statement of a copy, where that is skip or an assignment.
 pub(crate) fn step(
     table: &mut TermTable,
-    rest: &mut Rest<'_>,
+    rest: &mut Continuation<'_>,
     store: &mut SymStore,
 ) -> Result<bool, AllocError>
     requires rest { IsWellSorted (sorts_in table.old) (rest_code rest.old) }
@@ -35,7 +35,7 @@ pub(crate) fn step(
         ≡ stepped (rest_code rest.old) (store_in (trees_in table.old) store.old)) }
     ensures within { OnOk result (IsStoreWithin (length (trees_in table.new)) store.new) }
     ensures len { length store.new.list.items ≡ length store.old.list.items }
-    ensures grows { Grows table.old table.new }
+    ensures grows { AddsTerms table.old table.new }
 {
     let Some(statement) = rest.first() else {
         return Ok(false);
@@ -63,7 +63,7 @@ fn assign(table: &mut TermTable, store: &mut SymStore, x: Name, e: &Expr) -> Res
         OnOk result (store_in (trees_in table.new) store.new ≡ symbolic.with_term old x.0 t) }
     ensures within { OnOk result (IsStoreWithin (length (trees_in table.new)) store.new) }
     ensures len { length store.new.list.items ≡ length store.old.list.items }
-    ensures grows { Grows table.old table.new }
+    ensures grows { AddsTerms table.old table.new }
 {
     let t = term_of(table, e, store)?;
     put(store, x, t);
@@ -90,7 +90,7 @@ fn write(
         OnOk result (store_in (trees_in table.new) store.new ≡ symbolic.with_term old a.0 t) }
     ensures within { OnOk result (IsStoreWithin (length (trees_in table.new)) store.new) }
     ensures len { length store.new.list.items ≡ length store.old.list.items }
-    ensures grows { Grows table.old table.new }
+    ensures grows { AddsTerms table.old table.new }
 {
     let index = term_of(table, i, store)?;
     let value = term_of(table, e, store)?;
@@ -115,7 +115,7 @@ pub(crate) fn made(table: &mut TermTable, t: Term) -> Result<TermId, AllocError>
     requires fits { IsTrue (term_fits (sorts_in table.old) (trees_in table.old) t) }
     ensures stored { let tree = tree_in (codes_in table.old) (trees_in table.old) t in
         IfOk result (λ id. slice_get (trees_in table.new) id.0 ≡ Some tree) }
-    ensures grows { Grows table.old table.new }
+    ensures grows { AddsTerms table.old table.new }
 {
     match table.intern(t) {
         Ok(id) => Ok(id),

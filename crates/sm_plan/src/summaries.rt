@@ -12,7 +12,7 @@ ghost use Rattle.sm_term.specs.Sorted.{IsDeclaredIn};
 ghost use Rattle.sm_term.specs.Symbolic as symbolic;
 ghost use Rattle.sm_term.specs.SymStores.{store_in, IsStoreWithin};
 ghost use Rattle.sm_term.specs.Tables.{trees_in, sorts_in, codes_in};
-ghost use Rattle.sm_term.specs.TableLaws.{Grows, Widens};
+ghost use Rattle.sm_term.specs.TableLaws.{AddsTerms, ExtendsTable};
 ghost use Rattle.sm_term.specs.Terms as tree;
 ghost use Rattle.sm_plan.specs.Copies.{with_copy};
 ghost use Rattle.sm_plan.specs.Nodes as plan;
@@ -25,7 +25,7 @@ ghost use Rattle.sm_plan.specs.Views.{rest_code, forms_in, state_in};
 use crate::copies::copy_store;
 use crate::opening::Opened;
 use crate::parts::exchange;
-use crate::rest::Rest;
+use crate::rest::Continuation;
 use crate::state::{Formulas, SymState};
 use crate::steps::{made, put};
 use crate::successors::{follows_one, no_formulas, no_terms, one_formula};
@@ -63,7 +63,7 @@ fn summary(
     ensures made { let f = store_in (trees_in table.old) store.now in let c = code_of block.now in
         let t = tree.Fun c x.0 (next.present f (plain.inputs c x.0)) in
         IfOk result (λ id. slice_get (trees_in table.new) id.0 ≡ Some t) }
-    ensures grows { Grows table.old table.new }
+    ensures grows { AddsTerms table.old table.new }
 {
     let from = inputs(alloc, block, x)?;
     let args = present(alloc, &from.list, store)?;
@@ -110,7 +110,7 @@ fn summarize(
         IfOk result (λ s. store_in (trees_in table.new) s ≡ next.summarized (code_of block.now) f) }
     ensures within { IfOk result (IsStoreWithin (length (trees_in table.new))) }
     ensures len { IfOk result (λ s. length s.list.items ≡ length store.now.list.items) }
-    ensures widens { Widens table.old table.new }
+    ensures widens { ExtendsTable table.old table.new }
 {
     let mut made = copy_store(alloc, store)?;
     let body = table.body(block)?;
@@ -138,7 +138,7 @@ fn false_guard(
         ≡ next.false_guard b f) }
     ensures ready { IfOk result (λ fs.
         AreFormsReady (sorts_in table.new) (trees_in table.new) fs.list.items) }
-    ensures grows { Grows table.old table.new }
+    ensures grows { AddsTerms table.old table.new }
 {
     match guard {
         Some(b) => false_fact(alloc, table, b, store),
@@ -161,7 +161,7 @@ fn false_fact(
         ≡ contrary ∷ []) }
     ensures ready { IfOk result (λ fs.
         AreFormsReady (sorts_in table.new) (trees_in table.new) fs.list.items) }
-    ensures grows { Grows table.old table.new }
+    ensures grows { AddsTerms table.old table.new }
 {
     let fact = form_of(alloc, table, b, store)?;
     let contrary = negate(alloc, &fact)?;
@@ -170,19 +170,19 @@ fn false_fact(
 }
 
 // Whether a summary may stand for the first `count` statements.
-fn can_pass(rest: &Rest<'_>, count: u64) -> bool
+fn can_pass(rest: &Continuation<'_>, count: u64) -> bool
     ensures { result ≡ (nat_le 1 count && code.is_long count (rest_code rest.now)) }
 {
     1 <= count && rest.is_long(count)
 }
 
 // Takes the first `count` statements of a copy off.
-fn pass(alloc: Global, rests: &mut PerCopy<Rest<'_>>, copy: CopyName, count: u64)
+fn pass(alloc: Global, rests: &mut PerCopy<Continuation<'_>>, copy: CopyName, count: u64)
     ensures { let c = copy_named copy in let rest = rest_code (of_copy rests.old c) in
         (d : Copy) → rest_code (of_copy rests.new d)
         ≡ with_copy (λ e. rest_code (of_copy rests.old e)) c (code.rest_after count rest) d }
 {
-    let mut rest = Rest::empty(alloc);
+    let mut rest = Continuation::empty(alloc);
     exchange(rests, copy, &mut rest);
     rest.drop_front(count);
     exchange(rests, copy, &mut rest);
@@ -204,7 +204,7 @@ pub(crate) fn open_abs<'a>(
         plan.where_true (nat_le 1 count && code.is_long count rest)
         (plan.follows
         (next.summary_state st c (code.front count rest) (code.rest_after count rest) ∷ [])))) }
-    ensures widens { Widens table.old table.new }
+    ensures widens { ExtendsTable table.old table.new }
 {
     if !can_pass(state.rests.get(copy), count) {
         return Ok(None);

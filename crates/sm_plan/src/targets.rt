@@ -9,7 +9,7 @@ ghost use Rattle.sm_term.specs.Formulas.{numbered};
 ghost use Rattle.sm_term.specs.Formulas as over;
 ghost use Rattle.sm_term.specs.Terms as tree;
 ghost use Rattle.sm_term.specs.Tables.{trees_in, sorts_in};
-ghost use Rattle.sm_term.specs.TableLaws.{Grows};
+ghost use Rattle.sm_term.specs.TableLaws.{AddsTerms};
 ghost use Rattle.sm_plan.specs.ReadyStates.{AreFormsReady};
 ghost use Rattle.sm_plan.specs.SortedStates.{AreOutputsDeclared};
 ghost use Rattle.sm_plan.specs.Starts.{goals_over, with_sorts};
@@ -49,7 +49,7 @@ fn place(table: &mut TermTable, copy: CopyName, x: Name, sort: Sort) -> Result<T
     requires { IsAsDeclared (sorts_in table.old) x.0 sort }
     ensures made { let t = state.place (x.0, sort) (copy_named copy) in
         IfOk result (λ id. slice_get (trees_in table.new) id.0 ≡ Some t) }
-    ensures grows { Grows table.old table.new }
+    ensures grows { AddsTerms table.old table.new }
 {
     let slot = Term::Slot {
         copy: copy.number(),
@@ -70,7 +70,7 @@ fn places(table: &mut TermTable, x: Name, sort: Sort) -> Result<PerCopy<TermId>,
     requires { IsAsDeclared (sorts_in table.old) x.0 sort }
     ensures made { (c : Copy) → IfOk result (λ p.
         slice_get (trees_in table.new) (of_copy p c).0 ≡ Some (state.place (x.0, sort) c)) }
-    ensures grows { Grows table.old table.new }
+    ensures grows { AddsTerms table.old table.new }
 {
     let base = place(table, CopyName::O, x, sort)?;
     let variant_a = place(table, CopyName::A, x, sort)?;
@@ -97,7 +97,7 @@ pub(crate) fn target(
         ≡ flat_map (λ o. state.keeps_goals (state.place o)) all) }
     ensures ready { IfOk result (λ fs.
         AreFormsReady (sorts_in table.new) (trees_in table.new) fs.list.items) }
-    ensures grows { Grows table.old table.new }
+    ensures grows { AddsTerms table.old table.new }
 {
     let mut list = Vec::new(alloc);
     for x in &outputs.list {

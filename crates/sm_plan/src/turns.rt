@@ -18,7 +18,7 @@ ghost use Rattle.sm_plan.specs.Views.{rest_code, forms_in, stores_in, successor_
 use crate::copies::copy_stores;
 use crate::heads::{bodies, has, turned_guards};
 use crate::opening::Successor;
-use crate::rest::Rest;
+use crate::rest::Continuation;
 use crate::state::{Formulas, SymState};
 use sm_syntax::{CopyName, PerCopy};
 use sm_term::{Formula, SymStore};
@@ -37,7 +37,7 @@ pub(crate) struct Head {
 // One turn of the loops of some copies.
 fn turn<'a>(
     alloc: Global,
-    rests: &PerCopy<Rest<'a>>,
+    rests: &PerCopy<Continuation<'a>>,
     head: &Head,
     target: &Rc<Formulas>,
     turning: u8,
@@ -74,7 +74,7 @@ fn turn<'a>(
 // Puts a turn behind others where its copies are in a set.
 fn put_turn<'a>(
     alloc: Global,
-    rests: &PerCopy<Rest<'a>>,
+    rests: &PerCopy<Continuation<'a>>,
     head: &Head,
     target: &Rc<Formulas>,
     set: u8,
@@ -105,7 +105,7 @@ fn put_turn<'a>(
 // A turn for each set of copies in a set, by ascending masks.
 pub(crate) fn turns<'a>(
     alloc: Global,
-    rests: &PerCopy<Rest<'a>>,
+    rests: &PerCopy<Continuation<'a>>,
     head: &Head,
     target: &Rc<Formulas>,
     set: u8,
@@ -131,7 +131,7 @@ pub(crate) fn turns<'a>(
 }
 
 // Leaves what comes after a copy's loop, where the copy is in a set.
-fn pass_loop(rest: &mut Rest<'_>, set: u8, copy: CopyName)
+fn pass_loop(rest: &mut Continuation<'_>, set: u8, copy: CopyName)
     ensures { let code = rest_code rest.old in rest_code rest.new
         ≡ (if sets.has (set_of set) (copy_named copy) then rest_after 1 code else code) }
 {
@@ -141,7 +141,7 @@ fn pass_loop(rest: &mut Rest<'_>, set: u8, copy: CopyName)
 }
 
 // Leaves what comes after the loop of each copy of a set.
-fn pass_loops(rests: &mut PerCopy<Rest<'_>>, set: u8)
+fn pass_loops(rests: &mut PerCopy<Continuation<'_>>, set: u8)
     ensures { (c : Copy) → rest_code (of_copy rests.new c)
         ≡ (if sets.has (set_of set) c then rest_after 1 (rest_code (of_copy rests.old c))
         else rest_code (of_copy rests.old c)) }
@@ -155,7 +155,7 @@ fn pass_loops(rests: &mut PerCopy<Rest<'_>>, set: u8)
 // What comes after the loops of a set.
 pub(crate) fn after_loops<'a>(
     alloc: Global,
-    mut rests: PerCopy<Rest<'a>>,
+    mut rests: PerCopy<Continuation<'a>>,
     head: Head,
     target: Rc<Formulas>,
     is_final: bool,

@@ -6,7 +6,7 @@ use Rattle.sm_syntax.specs.text.Parts.{Parts}
 use Rattle.sm_syntax.specs.text.Sorts.{Sorts, IsWellSorted}
 use Rattle.sm_term.specs.Assertions.{Assertion}
 use Rattle.sm_term.specs.Tables.{TableValue, trees_in, sorts_in}
-use Rattle.sm_term.specs.TableLaws.{Widens}
+use Rattle.sm_term.specs.TableLaws.{ExtendsTable}
 use Rattle.sm_plan.specs.Copies.{Copies, with_copy}
 use Rattle.sm_moves.specs.CodeShapes.{by_first_block, by_second_block}
 use Rattle.sm_moves.specs.Moves.{Forks, Loops, moved_on}
@@ -20,7 +20,7 @@ use Rattle.sm_sketch.proofs.SketchesWiden.{sketch_stays}
 use Rattle.sm_product.specs.LoopTurns.{turn_of}
 use Rattle.sm_product.specs.MiniProducts.{drawn, side_by_side}
 
-module _ (v w : TableValue) (wider : Widens v w) where
+module _ (v w : TableValue) (wider : ExtendsTable v w) where
   pub still_drawn : (s : own.Sketch) (p : Sketch) → IsSketchReady (sorts_in v) (trees_in v) s →
       sketch_in (sorts_in v) (trees_in v) s ≡ p → sketch_in (sorts_in w) (trees_in w) s ≡ p
   still_drawn s p ready e = sketch_stays v w wider s ready ∙ e

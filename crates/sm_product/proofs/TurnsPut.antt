@@ -3,7 +3,7 @@ use Rattle.std.proofs.Common.{◌≡◌, ℕ, Bool, true, false, if◌then◌els
 use Rattle.std.proofs.lemmas.List.{map-append}
 use Rattle.sm_syntax.specs.text.Sorts.{Sorts}
 use Rattle.sm_term.specs.Tables.{TableValue, trees_in, sorts_in}
-use Rattle.sm_term.specs.TableLaws.{Widens}
+use Rattle.sm_term.specs.TableLaws.{ExtendsTable}
 use Rattle.sm_term.specs.Terms.{Tree}
 use Rattle.sm_sketch.specs.declared.sketch.Sketch.{Sketch}
 use Rattle.sm_sketch.specs.Sketches as plain
@@ -15,7 +15,7 @@ push_ready : (sorts : Sorts) (trees : List Tree) (ss : List Sketch) (s : Sketch)
 push_ready sorts trees [] s all one = (one, tt)
 push_ready sorts trees (x ∷ ss) s all one = (all.0, push_ready sorts trees ss s all.1 one)
 
-module _ (v w : TableValue) (wider : Widens v w) (old new : List Sketch) (s : Sketch) (pushed : new ≡ old ++ s ∷ [])
+module _ (v w : TableValue) (wider : ExtendsTable v w) (old new : List Sketch) (s : Sketch) (pushed : new ≡ old ++ s ∷ [])
     (ready : AreSketchesReady (sorts_in v) (trees_in v) old) where
   pub put_drawn : (turn : ℕ → plain.Sketch) (mask : ℕ) (b : Bool) → b ≡ true → sketch_in (sorts_in w) (trees_in w) s ≡ turn mask →
       map (sketch_in (sorts_in w) (trees_in w)) new

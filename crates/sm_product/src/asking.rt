@@ -3,7 +3,7 @@ ghost use Rattle.std.specs.Prelude.{◌≡◌, Ok, IfOk, IfErr, OnErr};
 ghost use Rattle.sm_syntax.specs.text.Parts.{sort_of, task_of};
 ghost use Rattle.sm_syntax.specs.trees.Programs.{declared_of};
 ghost use Rattle.sm_term.specs.Tables.{trees_in, sorts_in};
-ghost use Rattle.sm_term.specs.TableLaws.{Widens};
+ghost use Rattle.sm_term.specs.TableLaws.{ExtendsTable};
 ghost use Rattle.sm_text.specs.Tasks.{parts_of};
 ghost use Rattle.sm_task.specs.Filling.{AreFilled};
 ghost use Rattle.sm_plan.specs.Plans.{obligations};
@@ -44,7 +44,7 @@ pub fn obligations_of(
         AreDuesReady (sorts_in table.new) (trees_in table.new) o.list.items) }
 
     // Each term keeps its number.
-    ensures widens { Widens table.old table.new }
+    ensures widens { ExtendsTable table.old table.new }
     ensures unchanged { OnErr result (trees_in table.new ≡ trees_in table.old) }
 {
     let shared = &task.shared;

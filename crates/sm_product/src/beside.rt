@@ -6,7 +6,7 @@ ghost use Rattle.sm_syntax.specs.claim.Syntax.{End};
 ghost use Rattle.sm_syntax.specs.text.Parts.{Parts};
 ghost use Rattle.sm_syntax.specs.text.Sorts.{IsWellSorted};
 ghost use Rattle.sm_term.specs.Tables.{trees_in, sorts_in};
-ghost use Rattle.sm_term.specs.TableLaws.{Widens};
+ghost use Rattle.sm_term.specs.TableLaws.{ExtendsTable};
 ghost use Rattle.sm_plan.specs.Copies.{has};
 ghost use Rattle.sm_plan.specs.Masks.{set_of};
 ghost use Rattle.sm_moves.specs.CodeShapes.{has_hole};
@@ -18,7 +18,7 @@ ghost use Rattle.sm_product.specs.MiniProducts as spec;
 
 use crate::mini::draw;
 use crate::rooms::Room;
-use sm_plan::Rest;
+use sm_plan::Continuation;
 use sm_sketch::{ProductError, Sketch};
 use sm_syntax::PerCopy;
 use sm_template::SiteContext;
@@ -31,7 +31,7 @@ pub(crate) fn side_by_side(
     table: &mut TermTable,
     site: &SiteContext<'_>,
     set: u8,
-    code: PerCopy<Rest<'_>>,
+    code: PerCopy<Continuation<'_>>,
     next: Sketch,
 ) -> Result<Sketch, ProductError>
     requires set { set ≤ 15 }
@@ -48,7 +48,7 @@ pub(crate) fn side_by_side(
         (t : Parts) → IsSiteOf t site.now → IfErr result (λ e.
         TellsSketch e (spec.side_by_side t (set_of set) (codes_in code.entry) after)) }
     ensures ready { IfOk result (IsSketchReady (sorts_in table.new) (trees_in table.new)) }
-    ensures widens { Widens table.old table.new }
+    ensures widens { ExtendsTable table.old table.new }
 {
     draw(alloc, table, site, set, code, next, Room::whole())
 }

@@ -10,7 +10,7 @@ ghost use Rattle.sm_syntax.specs.text.Sorts.{IsWellSorted};
 ghost use Rattle.sm_syntax.specs.trees.Views.{code_of, statement_of};
 ghost use Rattle.sm_term.specs.SameTerms.{same_code};
 ghost use Rattle.sm_term.specs.Tables.{trees_in, sorts_in};
-ghost use Rattle.sm_term.specs.TableLaws.{Widens};
+ghost use Rattle.sm_term.specs.TableLaws.{ExtendsTable};
 ghost use Rattle.sm_text.specs.Tasks.{parts_of};
 ghost use Rattle.sm_plan.specs.Copies as sets;
 ghost use Rattle.sm_plan.specs.Masks.{set_of};
@@ -30,7 +30,7 @@ ghost use Rattle.sm_product.specs.Products as plain;
 use crate::beside::side_by_side;
 use crate::product::ProductContext;
 use sm_moves::{filling_at, has, least};
-use sm_plan::Rest;
+use sm_plan::Continuation;
 use sm_sketch::{ProductError, Sketch, apart, ends};
 use sm_syntax::{Block, CopyName, Fillings, PerCopy, Stmt, same_block};
 use sm_template::block_templates;
@@ -181,15 +181,18 @@ fn counts(blocks: &PerCopy<&Block>) -> PerCopy<u64>
 }
 
 // What is left of each copy before its block.
-fn whole<'a>(alloc: Global, blocks: &PerCopy<&'a Block>) -> Result<PerCopy<Rest<'a>>, AllocError>
+fn whole<'a>(
+    alloc: Global,
+    blocks: &PerCopy<&'a Block>,
+) -> Result<PerCopy<Continuation<'a>>, AllocError>
     ensures { (c : Copy) →
         IfOk result (λ p. rest_code (of_copy p c) ≡ block_codes blocks.now c) }
 {
     Ok(PerCopy {
-        base: Rest::of(alloc, blocks.base)?,
-        variant_a: Rest::of(alloc, blocks.variant_a)?,
-        variant_b: Rest::of(alloc, blocks.variant_b)?,
-        candidate: Rest::of(alloc, blocks.candidate)?,
+        base: Continuation::of(alloc, blocks.base)?,
+        variant_a: Continuation::of(alloc, blocks.variant_a)?,
+        variant_b: Continuation::of(alloc, blocks.variant_b)?,
+        candidate: Continuation::of(alloc, blocks.candidate)?,
     })
 }
 
@@ -215,7 +218,7 @@ fn apart_blocks(
         let templates = formulas.block_templates t code in
         IsDrawn table.new (sketches.apart templates
         (λ (c : Copy). shapes.own_statements (code c)) inner p) result }
-    ensures widens { Widens table.old table.new }
+    ensures widens { ExtendsTable table.old table.new }
 {
     let rests = whole(alloc, blocks)?;
     let inner = side_by_side(alloc, table, &cx.site, set, rests, ends(alloc))?;
@@ -242,7 +245,7 @@ pub(crate) fn product_hole(
         let p = sketch_in (sorts_in table.old) (trees_in table.old) next in
         let code = only_in (set_of set) (λ (c : Copy). filling (t.fillings c) hole) in
         IsDrawn table.new (plain.filled t (set_of set) code p) result }
-    ensures widens { Widens table.old table.new }
+    ensures widens { ExtendsTable table.old table.new }
 {
     let none = Block {
         list: Vec::new(alloc),

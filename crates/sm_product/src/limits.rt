@@ -4,7 +4,7 @@ ghost use Rattle.sm_syntax.specs.text.Parts.{sort_of, task_of};
 ghost use Rattle.sm_syntax.specs.text.Sorts.{Sorts};
 ghost use Rattle.sm_syntax.specs.trees.Programs.{declared_of};
 ghost use Rattle.sm_term.specs.Tables.{trees_in, sorts_in};
-ghost use Rattle.sm_term.specs.TableLaws.{Widens};
+ghost use Rattle.sm_term.specs.TableLaws.{ExtendsTable};
 ghost use Rattle.sm_term.specs.Terms.{Tree};
 ghost use Rattle.sm_text.specs.Tasks.{parts_of};
 ghost use Rattle.sm_task.specs.Filling.{AreFilled};
@@ -92,7 +92,7 @@ pub fn is_small(
     ensures small { IfOk result (λ b. b ≡ plain.is_small (parts_of task.now)) }
 
     // Each term keeps its number.
-    ensures widens { Widens table.old table.new }
+    ensures widens { ExtendsTable table.old table.new }
     ensures err { OnErr result (trees_in table.new ≡ trees_in table.old) }
 {
     let len = table.len();
@@ -126,7 +126,7 @@ fn is_within_limits(
     ensures small { IfOk result (λ b. b ≡ plain.is_small (parts_of task.now)) }
 
     // Each term keeps its number.
-    ensures widens { Widens table.old table.new }
+    ensures widens { ExtendsTable table.old table.new }
 {
     let plan = plan_with(alloc, sketch, full)?;
     match obligations_of(alloc, table, task, programs, &plan) {

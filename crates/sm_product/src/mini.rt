@@ -6,7 +6,7 @@ ghost use Rattle.sm_syntax.specs.text.Parts.{Parts};
 ghost use Rattle.sm_syntax.specs.text.Sorts.{IsWellSorted};
 ghost use Rattle.sm_syntax.specs.trees.Copies.{copy_named};
 ghost use Rattle.sm_term.specs.Tables.{trees_in, sorts_in};
-ghost use Rattle.sm_term.specs.TableLaws.{Widens};
+ghost use Rattle.sm_term.specs.TableLaws.{ExtendsTable};
 ghost use Rattle.sm_plan.specs.Copies.{subsets};
 ghost use Rattle.sm_plan.specs.Masks.{set_of};
 ghost use Rattle.sm_moves.specs.CodeShapes.{has_hole};
@@ -25,7 +25,7 @@ use crate::beside::side_by_side;
 use crate::paths::{follow, pass, put_all_before};
 use crate::rooms::Room;
 use sm_moves::{Move, bodies, copy_rests, fork};
-use sm_plan::Rest;
+use sm_plan::Continuation;
 use sm_sketch::{ProductError, Sketch, copy_sketch, ends, forking, looped};
 use sm_syntax::{CopyName, PerCopy};
 use sm_template::{SiteContext, loop_templates};
@@ -39,7 +39,7 @@ pub(crate) fn draw(
     table: &mut TermTable,
     site: &SiteContext<'_>,
     set: u8,
-    mut rests: PerCopy<Rest<'_>>,
+    mut rests: PerCopy<Continuation<'_>>,
     next: Sketch,
     room: Room,
 ) -> Result<Sketch, ProductError>
@@ -57,7 +57,7 @@ pub(crate) fn draw(
         (t : Parts) → IsSiteOf t site.now → IfErr result (λ e. TellsBeyond room e
         (spec.side_by_side t (set_of set) (codes_in rests.entry) after)) }
     ensures ready { IfOk result (IsSketchReady (sorts_in table.new) (trees_in table.new)) }
-    ensures widens { Widens table.old table.new }
+    ensures widens { ExtendsTable table.old table.new }
 {
     let straight = follow(alloc, &mut rests, set)?;
     let below = draw_last(alloc, table, site, set, rests, next, room, straight.last)?;
@@ -71,7 +71,7 @@ fn draw_last(
     table: &mut TermTable,
     site: &SiteContext<'_>,
     set: u8,
-    rests: PerCopy<Rest<'_>>,
+    rests: PerCopy<Continuation<'_>>,
     next: Sketch,
     room: Room,
     last: Move,
@@ -95,7 +95,7 @@ fn draw_last(
         (spec.drawn t (set_of set) (codes_in rests.entry) after (spec.side_by_side t)
         (move_in last))) }
     ensures ready { IfOk result (IsSketchReady (sorts_in table.new) (trees_in table.new)) }
-    ensures widens { Widens table.old table.new }
+    ensures widens { ExtendsTable table.old table.new }
 {
     match last {
         Move::Fork(copy) => draw_fork(alloc, table, site, set, rests, next, room, copy),
@@ -114,7 +114,7 @@ fn draw_fork(
     table: &mut TermTable,
     site: &SiteContext<'_>,
     set: u8,
-    mut rests: PerCopy<Rest<'_>>,
+    mut rests: PerCopy<Continuation<'_>>,
     next: Sketch,
     room: Room,
     copy: CopyName,
@@ -136,7 +136,7 @@ fn draw_fork(
         (spec.drawn t (set_of set) (codes_in rests.entry) after (spec.side_by_side t)
         (moves.Forks (copy_named copy)))) }
     ensures ready { IfOk result (IsSketchReady (sorts_in table.new) (trees_in table.new)) }
-    ensures widens { Widens table.old table.new }
+    ensures widens { ExtendsTable table.old table.new }
 {
     let below = room.below_node()?;
     let for_one = below.without(next.extent.nodes)?;
@@ -157,7 +157,7 @@ fn draw_loops(
     table: &mut TermTable,
     site: &SiteContext<'_>,
     set: u8,
-    mut rests: PerCopy<Rest<'_>>,
+    mut rests: PerCopy<Continuation<'_>>,
     next: Sketch,
     room: Room,
     left: u8,
@@ -180,7 +180,7 @@ fn draw_loops(
         (spec.drawn t (set_of set) (codes_in rests.entry) after (spec.side_by_side t)
         (moves.Loops (set_of left)))) }
     ensures ready { IfOk result (IsSketchReady (sorts_in table.new) (trees_in table.new)) }
-    ensures widens { Widens table.old table.new }
+    ensures widens { ExtendsTable table.old table.new }
 {
     let mut below = room.below_node()?;
     let templates = loop_templates(alloc, table, site, left, &rests)?;
@@ -197,7 +197,7 @@ fn draw_turns(
     alloc: Global,
     table: &mut TermTable,
     site: &SiteContext<'_>,
-    rests: &PerCopy<Rest<'_>>,
+    rests: &PerCopy<Continuation<'_>>,
     left: u8,
     room: &mut Room,
 ) -> Result<Vec<Sketch>, ProductError>
@@ -217,7 +217,7 @@ fn draw_turns(
     ensures taken { (t : Parts) → IsSiteOf t site.now → OnOk result (IsTaken room.old room.new
         (map (turn_of t (codes_in rests.now)) (subsets (set_of left)))) }
     ensures room { OnOk result (IsRoom room.new) }
-    ensures widens { Widens table.old table.new }
+    ensures widens { ExtendsTable table.old table.new }
 {
     let mut turns = Vec::new(alloc);
     for smaller in 0..15u8 {
@@ -241,7 +241,7 @@ fn draw_turn(
     alloc: Global,
     table: &mut TermTable,
     site: &SiteContext<'_>,
-    rests: &PerCopy<Rest<'_>>,
+    rests: &PerCopy<Continuation<'_>>,
     left: u8,
     turning: u8,
     room: &mut Room,
@@ -269,7 +269,7 @@ fn draw_turn(
         (map (λ m. turn_of t (codes_in rests.now) (set_of m))
         (if bit_and turning left == turning then turning ∷ [] else []))) }
     ensures room { OnOk result (IsRoom room.new) }
-    ensures widens { Widens table.old table.new }
+    ensures widens { ExtendsTable table.old table.new }
 {
     if turning & left == turning {
         let code = bodies(alloc, rests, turning)?;

@@ -21,7 +21,7 @@ ghost use Rattle.sm_product.specs.Paths.{IsFilled};
 ghost use Rattle.sm_product.specs.Paths.{is_straight, after_move, move_before, moves_before};
 
 use sm_moves::{Move, bit, has, move_of};
-use sm_plan::Rest;
+use sm_plan::Continuation;
 use sm_sketch::{ProductError, Sketch, each_summary, step};
 use sm_syntax::{CopyName, PerCopy};
 use std::alloc::{AllocError, Global};
@@ -34,7 +34,7 @@ pub(crate) struct Path {
 }
 
 // Leaves what comes after the next statement, where the copy is in a set.
-fn pass_one(rest: &mut Rest<'_>, set: u8, copy: CopyName)
+fn pass_one(rest: &mut Continuation<'_>, set: u8, copy: CopyName)
     ensures { let code = rest_code rest.old in rest_code rest.new
         ≡ (if sets.has (set_of set) (copy_named copy) then rest_after 1 code else code) }
 {
@@ -44,7 +44,7 @@ fn pass_one(rest: &mut Rest<'_>, set: u8, copy: CopyName)
 }
 
 // Leaves what comes after the next statement of each copy of a set.
-pub(crate) fn pass(rests: &mut PerCopy<Rest<'_>>, set: u8)
+pub(crate) fn pass(rests: &mut PerCopy<Continuation<'_>>, set: u8)
     ensures { (c : Copy) →
         codes_in rests.new c ≡ spec.moved_on (set_of set) (codes_in rests.old) c }
 {
@@ -68,7 +68,7 @@ fn opens_one(m: Move) -> bool
 }
 
 // Leaves what comes after a move.
-fn go_on(rests: &mut PerCopy<Rest<'_>>, m: Move)
+fn go_on(rests: &mut PerCopy<Continuation<'_>>, m: Move)
     ensures { (c : Copy) → codes_in rests.new c ≡ after_move (move_in m) (codes_in rests.old) c }
 {
     match m {
@@ -83,7 +83,7 @@ fn go_on(rests: &mut PerCopy<Rest<'_>>, m: Move)
 // Goes on by the moves of a set up to the first after which not one state follows.
 pub(crate) fn follow(
     alloc: Global,
-    rests: &mut PerCopy<Rest<'_>>,
+    rests: &mut PerCopy<Continuation<'_>>,
     set: u8,
 ) -> Result<Path, AllocError>
     requires { IsFilled (set_of set) (codes_in rests.old) }

@@ -8,7 +8,7 @@ ghost use Rattle.sm_syntax.specs.trees.Copies.{of_copy};
 ghost use Rattle.sm_syntax.specs.trees.Views.{statement_of, code_of};
 ghost use Rattle.sm_term.specs.Assertions.{Assertion};
 ghost use Rattle.sm_term.specs.Tables.{trees_in, sorts_in};
-ghost use Rattle.sm_term.specs.TableLaws.{Widens};
+ghost use Rattle.sm_term.specs.TableLaws.{ExtendsTable};
 ghost use Rattle.sm_text.specs.Tasks.{parts_of};
 ghost use Rattle.sm_plan.specs.Copies as sets;
 ghost use Rattle.sm_plan.specs.Copies.{Copies, subsets};
@@ -75,7 +75,7 @@ pub(crate) fn product_block(
         let code = code_of block.now.shared.now in
         let whole = plain.product (parts_of cx.now.task.now) code (set_of set) p in
         IsDrawn table.new whole result }
-    ensures widens { Widens table.old table.new }
+    ensures widens { ExtendsTable table.old table.new }
 {
     let mut sketch = next;
     let mut left = copied(&block.filled);
@@ -110,7 +110,7 @@ fn product_statement(
         let code = statement_of s.now End in
         let whole = plain.product (parts_of cx.now.task.now) code (set_of set) p in
         IsDrawn table.new whole result }
-    ensures widens { Widens table.old table.new }
+    ensures widens { ExtendsTable table.old table.new }
 {
     match s {
         Stmt::Skip => each_step(next, set),
@@ -168,7 +168,7 @@ fn product_if(
         let is_open = shapes.has_hole c || shapes.has_hole d in
         IsDrawn table.new (plain.product_if t is_open (piece_of pieces.now) (plain.product t c)
         (plain.product t d) (set_of set) p) result }
-    ensures widens { Widens table.old table.new }
+    ensures widens { ExtendsTable table.old table.new }
 {
     if !are_open(blocks.first.shared, blocks.second.shared) {
         return each_summary(next, set);
@@ -204,7 +204,7 @@ fn forked(
         let inner = plain.branched (plain.product t c) (plain.product t d) (set_of set) in
         let list = filter (sets.has (set_of set)) (drop place sets.copies) in
         IsDrawn table.new (plain.forked inner list (set_of taken)) result }
-    ensures widens { Widens table.old table.new }
+    ensures widens { ExtendsTable table.old table.new }
 {
     if place == 4 {
         return branched(alloc, table, cx, blocks, set, taken);
@@ -240,7 +240,7 @@ fn branched(
         let d = code_of blocks.now.second.shared.now in
         let whole = plain.branched (plain.product t c) (plain.product t d) in
         IsDrawn table.new (whole (set_of set) (set_of taken)) result }
-    ensures widens { Widens table.old table.new }
+    ensures widens { ExtendsTable table.old table.new }
 {
     let end = ends(alloc);
     let others = without(set, taken);
@@ -266,7 +266,7 @@ fn drawn_for(
     ensures drawn { let p = sketch_in (sorts_in table.old) (trees_in table.old) next in
         let draw = plain.product (parts_of cx.now.task.now) (code_of block.now.shared.now) in
         IsDrawn table.new (plain.where_any (set_of set) draw p) result }
-    ensures widens { Widens table.old table.new }
+    ensures widens { ExtendsTable table.old table.new }
 {
     if is_empty(set) {
         return Ok(next);
@@ -296,7 +296,7 @@ fn product_while(
         let c = code_of body.now.shared.now in
         IsDrawn table.new (plain.product_while t (shapes.has_hole c) (piece_of pieces.now)
         (plain.product t c) (set_of set) p) result }
-    ensures widens { Widens table.old table.new }
+    ensures widens { ExtendsTable table.old table.new }
 {
     if !has_hole(body.shared) {
         return each_summary(next, set);
@@ -330,7 +330,7 @@ fn turns(
         let turn = λ (v : Copies). plain.product t c v sketches.ends in
         (ts : List Assertion) (next : sketches.Sketch) → IfErr result (λ e.
         TellsSketch e (sketches.looped ts (set_of set) turn next)) }
-    ensures widens { Widens table.old table.new }
+    ensures widens { ExtendsTable table.old table.new }
 {
     let mut turns = Vec::new(alloc);
     for smaller in 0..15u8 {
@@ -365,7 +365,7 @@ fn put_turn(
     ensures err { let t = parts_of cx.now.task.now in let c = code_of body.now.shared.now in
         IfErr result (λ e. (bit_and mask set ≡ mask)
         × TellsSketch e (plain.product t c (set_of mask) sketches.ends)) }
-    ensures widens { Widens table.old table.new }
+    ensures widens { ExtendsTable table.old table.new }
 {
     if mask & set != mask {
         return Ok(());

@@ -5,7 +5,7 @@ ghost use Rattle.sm_syntax.specs.text.Parts.{sort_of, task_of};
 ghost use Rattle.sm_syntax.specs.text.Sorts.{IsWellSorted};
 ghost use Rattle.sm_syntax.specs.trees.Programs.{declared_of};
 ghost use Rattle.sm_term.specs.Tables.{trees_in, sorts_in};
-ghost use Rattle.sm_term.specs.TableLaws.{Widens};
+ghost use Rattle.sm_term.specs.TableLaws.{ExtendsTable};
 ghost use Rattle.sm_text.specs.Tasks.{parts_of};
 ghost use Rattle.sm_plan.specs.ReadyStates.{AreFormsReady};
 ghost use Rattle.sm_plan.specs.SortedStates.{IsTaskSorted};
@@ -61,7 +61,7 @@ pub fn plan_of(
         IsPlanReady (sorts_in table.new) (trees_in table.new) (numbered_plan p)) }
 
     // Each term keeps its number.
-    ensures widens { Widens table.old table.new }
+    ensures widens { ExtendsTable table.old table.new }
     ensures unchanged { OnErr result (trees_in table.new ≡ trees_in table.old) }
 {
     let len = table.len();
@@ -98,7 +98,7 @@ fn made_plan(
         IsPlanReady (sorts_in table.new) (trees_in table.new) (numbered_plan p)) }
 
     // Each term keeps its number.
-    ensures widens { Widens table.old table.new }
+    ensures widens { ExtendsTable table.old table.new }
 {
     let sketch = sketch_of(alloc, table, task)?;
     let programs = fill_all(alloc, task)?;
@@ -139,7 +139,7 @@ pub fn templates(
         AreFormsReady (sorts_in table.new) (trees_in table.new) fs.value.list.items) }
 
     // Each term keeps its number.
-    ensures widens { Widens table.old table.new }
+    ensures widens { ExtendsTable table.old table.new }
     ensures unchanged { OnErr result (trees_in table.new ≡ trees_in table.old) }
 {
     let len = table.len();
@@ -180,7 +180,7 @@ fn found_templates(
         AreFormsReady (sorts_in table.new) (trees_in table.new) fs.value.list.items) }
 
     // Each term keeps its number.
-    ensures widens { Widens table.old table.new }
+    ensures widens { ExtendsTable table.old table.new }
 {
     let sketch = sketch_of(alloc, table, task)?;
     let mut list = sites(alloc, &sketch)?;

@@ -5,7 +5,7 @@ ghost use Rattle.sm_syntax.specs.text.Parts.{sort_of, task_of};
 ghost use Rattle.sm_syntax.specs.text.Sorts.{IsWellSorted};
 ghost use Rattle.sm_syntax.specs.trees.Programs.{declared_of};
 ghost use Rattle.sm_term.specs.Tables.{trees_in, sorts_in};
-ghost use Rattle.sm_term.specs.TableLaws.{Widens};
+ghost use Rattle.sm_term.specs.TableLaws.{ExtendsTable};
 ghost use Rattle.sm_text.specs.Tasks.{parts_of};
 ghost use Rattle.sm_plan.specs.Starts.{AreNumbered};
 ghost use Rattle.sm_sketch.specs.Errors.{TellsSketch};
@@ -44,7 +44,7 @@ pub fn sketch_of(alloc: Global, table: &mut TermTable, task: &Task) -> Result<Sk
     ensures ready { IfOk result (IsSketchReady (sorts_in table.new) (trees_in table.new)) }
 
     // Each term keeps its number.
-    ensures widens { Widens table.old table.new }
+    ensures widens { ExtendsTable table.old table.new }
     ensures unchanged { OnErr result (trees_in table.new ≡ trees_in table.old) }
 {
     let len = table.len();
@@ -75,7 +75,7 @@ fn drawn_sketch(alloc: Global, table: &mut TermTable, task: &Task) -> Result<Ske
     ensures ready { IfOk result (IsSketchReady (sorts_in table.new) (trees_in table.new)) }
 
     // Each term keeps its number.
-    ensures widens { Widens table.old table.new }
+    ensures widens { ExtendsTable table.old table.new }
 {
     let site = site_of(alloc, &task.shared.decls, &task.lists)?;
     let programs = fill_all(alloc, task)?;

@@ -210,8 +210,6 @@ all_listed all list before i z = (
   before.sound i z,
 )
 
-}
-
 -- in another order a list has the same
 pub lists_shuffled : (given : ℤ → Option ℤ) (old new : List (ℤ × ℤ)) → IsPermutation old new → Lists given old → Lists given new
 lists_shuffled given old new moved lists i z = (

@@ -78,8 +78,6 @@ nothing_given v x s = record {
   others = λ (y : ℕ) (other : y ≢ x). refl;
 }
 
-}
-
 -- what is stored for an array is an array
 held_array : (s : StoredValue) → sort s ≡ Some Arr → held s ≡ Array (array (held s))
 held_array stored.Absent is = cc

@@ -9,7 +9,7 @@ ghost use Rattle.sm_syntax.specs.trees.Copies.{of_copy};
 ghost use Rattle.sm_syntax.specs.trees.Programs.{declared_of, outputs_of};
 ghost use Rattle.sm_syntax.specs.trees.Views.{condition_of, code_of};
 ghost use Rattle.sm_term.specs.Tables.{trees_in, sorts_in};
-ghost use Rattle.sm_term.specs.TableLaws.{Widens};
+ghost use Rattle.sm_term.specs.TableLaws.{ExtendsTable};
 ghost use Rattle.sm_term.specs.Terms.{Tree};
 ghost use Rattle.sm_cert.specs.Views.{certificate_in};
 ghost use Rattle.sm_plan.specs.Plans as plain;
@@ -117,7 +117,7 @@ fn count_facts(
         (dues : List plain.Due) → obligations t p ≡ Ok dues →
         IfOk result (λ n. n ≡ facts_before dues) }
     ensures few { IfOk result (λ n. n < 2 ^ 62) }
-    ensures widens { Widens table.old table.new }
+    ensures widens { ExtendsTable table.old table.new }
 {
     let all = match expand(alloc, table, decls, outputs, assumed, programs, plan) {
         Ok(all) => all,
@@ -223,7 +223,7 @@ pub fn whole_plan(
         AreWhole (length outputs.now.list.items) (map (certificate_in trees) r.1.list.items)) }
 
     // Each term keeps its number.
-    ensures widens { Widens table.old table.new }
+    ensures widens { ExtendsTable table.old table.new }
     ensures err { OnErr result (trees_in table.new ≡ trees_in table.old) }
 {
     let len = table.len();
@@ -277,7 +277,7 @@ fn made_whole_plan(
         AreWhole (length outputs.now.list.items) (map (certificate_in trees) r.1.list.items)) }
 
     // Each term keeps its number.
-    ensures widens { Widens table.old table.new }
+    ensures widens { ExtendsTable table.old table.new }
 {
     let change = match only_change(programs) {
         Some(change) => change,

@@ -1,7 +1,7 @@
 -- A sketch stays where the table has more behind.
 use Rattle.std.proofs.Common.{◌≡◌, List, [], ◌∷◌, map, refl, sym, ap, ◌∙◌}
 use Rattle.sm_term.specs.Tables.{TableValue, trees_in, sorts_in}
-use Rattle.sm_term.specs.TableLaws.{Widens}
+use Rattle.sm_term.specs.TableLaws.{ExtendsTable}
 use Rattle.sm_plan.specs.Masks.{set_of}
 use Rattle.sm_plan.specs.Nodes.{Node}
 use Rattle.sm_plan.specs.Plans as plan
@@ -20,7 +20,7 @@ use Rattle.sm_sketch.specs.SketchViews.{numbered_sketch, sketch_in, IsSketchRead
 abbrev first : plan.Plan → Node
 first (plan.At node ps) = node
 
-module _ (v w : TableValue) (wider : Widens v w) where
+module _ (v w : TableValue) (wider : ExtendsTable v w) where
   -- nodes
   node_stays : (n : NumberedNode) → IsKeepReady (sorts_in v) (trees_in v) n →
       node_over (sorts_in w) (trees_in w) n ≡ node_over (sorts_in v) (trees_in v) n

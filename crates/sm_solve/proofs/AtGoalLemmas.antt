@@ -13,13 +13,13 @@ use Rattle.sm_term.specs.Formulas.{numbered, assertion_in, IsFormulaWithin}
 use Rattle.sm_term.specs.Sorted.{AreFormsSorted, IsFormSorted}
 use Rattle.sm_term.specs.Terms.{Tree}
 use Rattle.sm_term.specs.Tables.{TableValue, trees_in, sorts_in, codes_in}
-use Rattle.sm_term.specs.TableLaws.{Grows}
-use Rattle.sm_cc.specs.Ground.{IsLedBy, AreAllGiven}
+use Rattle.sm_term.specs.TableLaws.{AddsTerms}
+use Rattle.sm_cc.specs.BaseClasses.{IsLedBy, AreAllGiven}
 use Rattle.sm_pairs.specs.Longer.{IsLonger}
 use Rattle.sm_cc.specs.Views.{ClassesValue}
 use Rattle.sm_solve.specs.declared.node.Node.{Node}
 use Rattle.sm_list.specs.declared.shared.SharedTerms.{SharedTerms}
-use Rattle.sm_solve.specs.declared.shut.Shut.{Shut}
+use Rattle.sm_solve.specs.declared.shut.Inconsistent.{Inconsistent}
 use Rattle.sm_judge.specs.AllForms.{AreAllForms}
 use Rattle.sm_solve.specs.AtGoal.{IsAtGoal, HasRoom, facts_without}
 use Rattle.sm_certify.specs.Bases.{IsFrom}
@@ -32,7 +32,7 @@ use Rattle.sm_list.specs.Renumbered.{AreTermsOf}
 use Rattle.sm_list.specs.Shared.{AreShared, with_those_before}
 use Rattle.sm_solve.specs.Naming.{AreNamed}
 use Rattle.sm_solve.specs.Sharing.{IsNode, room_for_goal}
-use Rattle.sm_solve.specs.Shut.{IsShut}
+use Rattle.sm_solve.specs.Inconsistent.{IsShut}
 use Rattle.sm_solve.proofs.GroundingLemmas.{as_many}
 use Rattle.sm_judge.proofs.LinearsLemmas.{first_forms}
 use Rattle.sm_solve.proofs.NamingLemmas.{named_root}
@@ -51,7 +51,7 @@ place_there (y ∷ ys) (suc k) x e = let less = place_there ys k x e in omega ar
 
 -- own tables of which one has more terms
 pub own_grows : (old new : TableValue) (terms more : List Tree) → sorts_in new ≡ sorts_in old → codes_in new ≡ codes_in old →
-    trees_in old ≡ terms → trees_in new ≡ terms ++ more → Grows old new
+    trees_in old ≡ terms → trees_in new ≡ terms ++ more → AddsTerms old new
 own_grows old new terms more sorts codes first all = record {
   sorts = sorts;
   codes = codes;
@@ -63,7 +63,7 @@ record AreStill (sorts : Sorts) (given : List Assertion) (own : List Tree) (fs :
   are : assertions_in sorts own (all_numbered fs) ≡ room_for_goal given
   within : AreFormulasWithin (length own) (all_numbered fs)
 
-module _ (old new : TableValue) (given : List Assertion) (n m : Node) (form : Assertion) (is : IsNode old given n) (grows : Grows old new)
+module _ (old new : TableValue) (given : List Assertion) (n m : Node) (form : Assertion) (is : IsNode old given n) (grows : AddsTerms old new)
     (shared : AreShared new (with_those_before (with_formula form (with_formulas (room_for_goal given) []))) m.terms)
     (forms : AreAllForms (trees_in m.terms.own) m.forms.items) (later : (ls : List (Linear ℕ)) × (m.forms.items ≡ n.forms.items ++ ls)) where
   abbrev first : List Tree
@@ -153,7 +153,7 @@ module _ (old new : TableValue) (given : List Assertion) (n m : Node) (form : As
               (subst (IsFrom (classes_by is.grounded.table is.grounded.ids fs)) (sym same_base) is.grounded.ground);
         };
         shut =
-            subst (λ (o : Option Shut). IfSome o (IsShut (sorts_in new) first (given ++ Yes ∷ []))) (sym same_shut)
+            subst (λ (o : Option Inconsistent). IfSome o (IsShut (sorts_in new) first (given ++ Yes ∷ []))) (sym same_shut)
             (subst (λ (s : Sorts). IfSome n.shut (IsShut s first (given ++ Yes ∷ []))) (sym grows.sorts) is.shut);
       }
 
@@ -249,7 +249,7 @@ led_with table given form n at =
     let g = at.grounded in
     let own = n.terms.own in
     let first = with_formulas (room_for_goal given) [] in
-    let grows : Grows g.table own = own_grows g.table own first at.more g.sorts g.codes g.trees at.shared.own in (
+    let grows : AddsTerms g.table own = own_grows g.table own first at.more g.sorts g.codes g.trees at.shared.own in (
       classes_by g.table g.ids (facts_without given n),
       g.ground,
       refl,
@@ -345,7 +345,7 @@ renumbered_goal table given form n m terms forms facts place same_shut later at 
             subst (λ (gs : List Formula). IsFrom (classes_by g.table g.ids gs) m.base) (sym back)
             (later (classes_by g.table g.ids (facts_without given n)) g.ground);
       };
-      shut = subst (λ (o : Option Shut). IfSome o (IsShut (sorts_in table) first (given ++ Yes ∷ []))) (sym same_shut) at.shut;
+      shut = subst (λ (o : Option Inconsistent). IfSome o (IsShut (sorts_in table) first (given ++ Yes ∷ []))) (sym same_shut) at.shut;
     }
 
 -- the contrary of a goal is taken out of its place
@@ -383,7 +383,7 @@ closed table given form n m at shared forms facts place same_base same_shut =
             subst (λ (gs : List Formula). IsFrom (classes_by g.table g.ids gs) m.base) (sym facts)
             (subst (IsFrom (classes_by g.table g.ids (facts_without given n))) (sym same_base) g.ground);
       };
-      shut = subst (λ (o : Option Shut). IfSome o (IsShut (sorts_in table) first (given ++ Yes ∷ []))) (sym same_shut) at.shut;
+      shut = subst (λ (o : Option Inconsistent). IfSome o (IsShut (sorts_in table) first (given ++ Yes ∷ []))) (sym same_shut) at.shut;
     }
 
 -- all facts of a goal are sorted

@@ -13,7 +13,7 @@ use Rattle.sm_term.specs.Formulas.{NumberedFormula, numbered, assertion_in}
 use Rattle.sm_term.specs.Sorted.{AreFormsSorted}
 use Rattle.sm_term.specs.Tables.{TableValue, trees_in, sorts_in}
 use Rattle.sm_solve.specs.declared.node.Node.{Node}
-use Rattle.sm_solve.specs.declared.shut.Shut.{Shut}
+use Rattle.sm_solve.specs.declared.shut.Inconsistent.{Inconsistent}
 use Rattle.sm_judge.specs.AllForms.{AreAllForms}
 use Rattle.sm_certify.specs.Bases.{IsFrom}
 use Rattle.sm_theory.specs.TermsOfFormulas.{with_formulas}
@@ -23,7 +23,7 @@ use Rattle.sm_terms.specs.Listing.{numbers_of}
 use Rattle.sm_list.specs.Parts.{all_numbered, assertions_in, AreFormulasWithin}
 use Rattle.sm_list.specs.Shared.{AreShared}
 use Rattle.sm_solve.specs.Sharing.{IsNode, room_for_goal}
-use Rattle.sm_solve.specs.Shut.{IsShut}
+use Rattle.sm_solve.specs.Inconsistent.{IsShut}
 use Rattle.sm_solve.proofs.NodeLemmas.{unread}
 use Rattle.sm_list.proofs.PartsLemmas.{within-append}
 use Rattle.sm_solve.proofs.SortedLemmas.{sorted-append, sorted_with}
@@ -91,5 +91,5 @@ node_of table new given first second n sorts one two shared forms count facts wi
         ground = ground;
       };
       shut =
-          subst (λ (o : Option Shut). IfSome o (IsShut (sorts_in new) (with_formulas room []) (given ++ Yes ∷ []))) (sym none_shut) tt;
+          subst (λ (o : Option Inconsistent). IfSome o (IsShut (sorts_in new) (with_formulas room []) (given ++ Yes ∷ []))) (sym none_shut) tt;
     }

@@ -14,7 +14,7 @@ use Rattle.sm_term.specs.Assertions.{Assertion, Yes, No, Eq, Ne, Le, Lt, And, Or
 use Rattle.sm_term.specs.Formulas.{numbered, assertion_in, IsFormulaWithin}
 use Rattle.sm_cc.specs.declared.classes.GivenFact.{GivenFact}
 use Rattle.sm_theory.specs.TermsOfFormulas.{put, with_term, with_formula, with_formulas, is_among}
-use Rattle.sm_cc.specs.Ground.{AreAllGiven}
+use Rattle.sm_cc.specs.BaseClasses.{AreAllGiven}
 use Rattle.sm_list.specs.Branches.{greatest_of, writes_on, parts_of, parts_of_all, depth_of, taken_apart, with_parts}
 use Rattle.sm_list.specs.Branches.{put_if, read_before, with_reads, with_all_reads, terms_of}
 use Rattle.sm_certify.specs.Given.{given_from}

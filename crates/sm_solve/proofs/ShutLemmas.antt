@@ -13,14 +13,14 @@ use Rattle.sm_term.specs.declared.term.TermId.{TermId}
 use Rattle.sm_term.specs.Assertions.{Assertion, Yes}
 use Rattle.sm_term.specs.Sorted.{AreFormsSorted}
 use Rattle.sm_term.specs.Tables.{TableValue, trees_in, sorts_in, codes_in}
-use Rattle.sm_term.specs.TableLaws.{Grows}
+use Rattle.sm_term.specs.TableLaws.{AddsTerms}
 use Rattle.sm_term.specs.Terms.{Tree}
 use Rattle.sm_theory.specs.Facts.{as_facts}
 use Rattle.sm_cert.specs.declared.tree.CertTree.{CertTree}
 use Rattle.sm_cert.specs.Certificates.{Certificate, splits_above}
 use Rattle.sm_cert.specs.MovedTrees.{NamesWhatItReads}
 use Rattle.sm_cert.specs.Views.{certificate_in, lines_of, AreLinesWithin}
-use Rattle.sm_cc.specs.Ground.{IsLedBy}
+use Rattle.sm_cc.specs.BaseClasses.{IsLedBy}
 use Rattle.sm_cc.specs.Views.{ClassesValue}
 use Rattle.sm_pairs.specs.Longer.{IsLonger}
 use Rattle.sm_solve.specs.declared.node.Node.{Node}
@@ -39,7 +39,7 @@ use Rattle.sm_list.specs.Renumbered.{AreTermsOf}
 use Rattle.sm_list.specs.Shared.{AreShared}
 use Rattle.sm_solve.specs.Naming.{AreNamed}
 use Rattle.sm_solve.specs.Sharing.{IsNode, room_for_goal}
-use Rattle.sm_solve.specs.Shut.{IsShut, IsBelow}
+use Rattle.sm_solve.specs.Inconsistent.{IsShut, IsBelow}
 use Rattle.sm_solve.specs.Walking.{ClosesIn}
 use Rattle.sm_judge.specs.Forms.{Walked, Closes, by_forms, forms_of}
 use Rattle.sm_solve.specs.declared.reach.Reach.{Reach}
@@ -63,7 +63,7 @@ pub node_led : (table : TableValue) (given : List Assertion) (n : Node) → IsNo
 node_led table given n is =
     let g = is.grounded in
     let own = n.terms.own in
-    let grows : Grows g.table own =
+    let grows : AddsTerms g.table own =
     own_grows g.table own (trees_in own) [] g.sorts g.codes (sym g.trees) (sym (append-nil (trees_in own))) in (
       classes_by g.table g.ids n.facts.items,
       g.ground,

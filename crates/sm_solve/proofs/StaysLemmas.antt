@@ -6,7 +6,7 @@ use Rattle.sm_term.specs.Assertions.{Assertion, Yes}
 use Rattle.sm_term.specs.Formulas.{NumberedFormula, assertion_in, IsFormulaWithin}
 use Rattle.sm_term.specs.Sorted.{AreFormsSorted}
 use Rattle.sm_term.specs.Tables.{TableValue, trees_in, sorts_in}
-use Rattle.sm_term.specs.TableLaws.{AreApart, Grows}
+use Rattle.sm_term.specs.TableLaws.{AreApart, AddsTerms}
 use Rattle.sm_term.specs.Terms.{Tree}
 use Rattle.sm_term.proofs.FormsLemmas.{assertion-more}
 use Rattle.sm_solve.specs.declared.node.Node.{Node}
@@ -15,13 +15,13 @@ use Rattle.sm_theory.specs.TermsOfFormulas.{with_formulas}
 use Rattle.sm_list.specs.Parts.{all_numbered, assertions_in, AreFormulasWithin}
 use Rattle.sm_list.specs.Shared.{AreShared}
 use Rattle.sm_solve.specs.Sharing.{IsNode, room_for_goal}
-use Rattle.sm_solve.specs.Shut.{IsShut}
+use Rattle.sm_solve.specs.Inconsistent.{IsShut}
 use Rattle.sm_terms.proofs.ListingLemmas.{below_grown, same_grown}
 use Rattle.sm_list.proofs.OwnLemmas.{facts_grown}
 use Rattle.sm_list.proofs.SharedLemmas.{placed_grown}
 
 -- the terms in a table of their own are still those of a table that has got more
-pub shared_grown : (old new : TableValue) (terms : List Tree) (s : SharedTerms) → Grows old new → AreApart (trees_in new) →
+pub shared_grown : (old new : TableValue) (terms : List Tree) (s : SharedTerms) → AddsTerms old new → AreApart (trees_in new) →
     AreShared old terms s → AreShared new terms s
 shared_grown old new terms s grows apart is =
     let long = length-append (trees_in old) grows.trees.0 in
@@ -40,7 +40,7 @@ shared_grown old new terms s grows apart is =
     }
 
 -- a node of a table is still one of a table that has got more
-pub node_grown : (old new : TableValue) (given : List Assertion) (n : Node) → Grows old new → AreApart (trees_in new) →
+pub node_grown : (old new : TableValue) (given : List Assertion) (n : Node) → AddsTerms old new → AreApart (trees_in new) →
     IsNode old given n → IsNode new given n
 node_grown old new given n grows apart is = record {
   shared = shared_grown old new (with_formulas (room_for_goal given) []) n.terms grows apart is.shared;
@@ -57,7 +57,7 @@ node_grown old new given n grows apart is = record {
 }
 
 -- what is so of facts and a target over a table is so over one that has got more terms, and back
-pub moved_on : (old new : TableValue) → Grows old new → (fs : List NumberedFormula) → AreFormulasWithin (length (trees_in old)) fs →
+pub moved_on : (old new : TableValue) → AddsTerms old new → (fs : List NumberedFormula) → AreFormulasWithin (length (trees_in old)) fs →
     (f : NumberedFormula) → IsFormulaWithin (length (trees_in old)) f → (P : Sorts → List Assertion → Assertion → Type 0) →
     P (sorts_in old) (assertions_in (sorts_in old) (trees_in old) fs) (assertion_in (sorts_in old) (trees_in old) f) →
     P (sorts_in new) (assertions_in (sorts_in new) (trees_in new) fs) (assertion_in (sorts_in new) (trees_in new) f)
@@ -69,7 +69,7 @@ moved_on old new grows fs within f one P h =
     (subst (λ (gs : List Assertion). P (sorts_in new) gs (assertion_in (sorts_in old) (trees_in old) f)) (sym given)
     (subst (λ (s : Sorts). P s (assertions_in (sorts_in old) (trees_in old) fs) (assertion_in (sorts_in old) (trees_in old) f)) (sym grows.sorts) h))
 
-pub moved_back : (old new : TableValue) → Grows old new → (fs : List NumberedFormula) → AreFormulasWithin (length (trees_in old)) fs →
+pub moved_back : (old new : TableValue) → AddsTerms old new → (fs : List NumberedFormula) → AreFormulasWithin (length (trees_in old)) fs →
     (f : NumberedFormula) → IsFormulaWithin (length (trees_in old)) f → (P : Sorts → List Assertion → Assertion → Type 0) →
     P (sorts_in new) (assertions_in (sorts_in new) (trees_in new) fs) (assertion_in (sorts_in new) (trees_in new) f) →
     P (sorts_in old) (assertions_in (sorts_in old) (trees_in old) fs) (assertion_in (sorts_in old) (trees_in old) f)

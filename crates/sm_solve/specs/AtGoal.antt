@@ -18,7 +18,7 @@ use Rattle.sm_terms.specs.Listing.{numbers_of}
 use Rattle.sm_list.specs.Parts.{all_numbered, assertions_in, AreFormulasWithin}
 use Rattle.sm_list.specs.Shared.{AreShared}
 use Rattle.sm_solve.specs.Sharing.{room_for_goal}
-use Rattle.sm_solve.specs.Shut.{IsShut}
+use Rattle.sm_solve.specs.Inconsistent.{IsShut}
 
 -- the contrary of a goal can stand in its place with no fact at another: it has no parts, or none of
 -- a fact stand behind that place

@@ -10,10 +10,10 @@ use Rattle.sm_solve.specs.Walking.{ClosesIn, TellsEnd, ShowsEnd}
 
 -- the end is what the walk comes to, whatever its count
 abbrev pub TellsGoal : Sorts → List Tree → GoalEnd → Walked → Type 0
-TellsGoal sorts trees (goal.Shut tree) w = (count : ℕ) × (w ≡ Closes count)
+TellsGoal sorts trees (goal.Inconsistent tree) w = (count : ℕ) × (w ≡ Closes count)
 TellsGoal sorts trees (goal.Walked end) w = TellsEnd sorts trees end w
 
 -- the certificate that comes with it closes the branch of these facts
 abbrev pub ShowsGoal : Sorts → List Tree → List Assertion → ℕ → GoalEnd → Type 0
-ShowsGoal sorts trees facts room (goal.Shut tree) = ClosesIn sorts trees facts room tree
+ShowsGoal sorts trees facts room (goal.Inconsistent tree) = ClosesIn sorts trees facts room tree
 ShowsGoal sorts trees facts room (goal.Walked end) = ShowsEnd sorts trees facts room end

@@ -5,6 +5,6 @@ pub mod GoalEnds
 pub mod Leading
 pub mod Naming
 pub mod Sharing
-pub mod Shut
+pub mod Inconsistent
 pub mod Walk
 pub mod Walking

@@ -14,7 +14,7 @@ use Rattle.sm_list.specs.Branches.{terms_of}
 use Rattle.sm_certify.specs.Given.{IsWhole, classes_by}
 use Rattle.sm_terms.specs.Listing.{numbers_of}
 use Rattle.sm_list.specs.Parts.{all_numbered, assertions_in, AreFormulasWithin}
-use Rattle.sm_solve.specs.Shut.{IsShut}
+use Rattle.sm_solve.specs.Inconsistent.{IsShut}
 use Rattle.sm_list.specs.Shared.{AreShared}
 
 -- the facts of a node with the place where the contrary of a goal stands, and all parts

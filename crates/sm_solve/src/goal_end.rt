@@ -20,7 +20,7 @@ use std::alloc::{AllocError, Global};
 /// How the walk of a goal ends: closed as the facts of its node are, or as the walk finds.
 #[derive(Drop)]
 pub(crate) enum GoalEnd {
-    Shut(CertTree),
+    Inconsistent(CertTree),
     Walked(WalkEnd),
 }
 
@@ -42,7 +42,7 @@ pub(crate) fn renumbered_goal_end(
         IfOk result (NamesOnly trees others) }
 {
     match end {
-        GoalEnd::Shut(tree) => {
+        GoalEnd::Inconsistent(tree) => {
             let other = renumbered_tree(alloc, &tree, &numbers.list)?;
             Ok(Answer::Closed(other))
         }

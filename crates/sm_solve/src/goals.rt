@@ -7,7 +7,7 @@ ghost use Rattle.sm_term.specs.Formulas.{numbered, assertion_in, IsFormulaWithin
 ghost use Rattle.sm_term.specs.Sorted.{IsFormSorted};
 ghost use Rattle.sm_term.specs.Tables.{TableValue, trees_in, sorts_in};
 ghost use Rattle.sm_term.specs.Terms.{Tree};
-ghost use Rattle.sm_term.specs.TableLaws.{Grows};
+ghost use Rattle.sm_term.specs.TableLaws.{AddsTerms};
 ghost use Rattle.sm_solve.specs.AtGoal.{IsAtGoal, HasRoom};
 ghost use Rattle.sm_theory.specs.TermsOfFormulas.{with_formulas};
 ghost use Rattle.sm_list.specs.Branches.{with_parts, terms_of};
@@ -58,7 +58,7 @@ impl Node {
             (numbered contrary.now) in
             (given : List Assertion) → IsNode table.old given self.old →
             OnOk result (IsAtGoal table.new given form self.new) }
-        ensures grows { Grows table.old table.new }
+        ensures grows { AddsTerms table.old table.new }
     {
         let fact = self.terms.add(alloc, table, contrary)?;
         add_linear_forms(alloc, &self.terms.own, &mut self.forms)?;
@@ -87,7 +87,7 @@ impl Node {
             OnOk result (IsAtGoal table given contrary self.new) }
     {
         match self.shut_goal(alloc, reach)? {
-            Some(tree) => Ok(GoalEnd::Shut(tree)),
+            Some(tree) => Ok(GoalEnd::Inconsistent(tree)),
             None => {
                 let end = self.walk_goal(alloc, reach)?;
                 Ok(GoalEnd::Walked(end))

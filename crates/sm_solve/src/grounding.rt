@@ -6,7 +6,7 @@ ghost use Rattle.sm_term.specs.declared.term.TermId.{TermId};
 ghost use Rattle.sm_term.specs.Sorted.{AreFormsSorted};
 ghost use Rattle.sm_term.specs.Tables.{trees_in, sorts_in};
 ghost use Rattle.sm_term.specs.Terms.{Tree};
-ghost use Rattle.sm_cc.specs.Ground.{IsGround};
+ghost use Rattle.sm_cc.specs.BaseClasses.{IsGround};
 ghost use Rattle.sm_judge.specs.AllForms.{AreAllForms};
 ghost use Rattle.sm_certify.specs.Given.{IsWhole, classes_by};
 ghost use Rattle.sm_terms.specs.Listing.{numbers_of};
@@ -14,7 +14,7 @@ ghost use Rattle.sm_list.specs.Parts.{all_numbered, assertions_in, AreFormulasWi
 ghost use Rattle.sm_solve.specs.Sharing.{room_for_goal};
 
 use crate::branching::copy_facts;
-use sm_cc::{Ground, Grounded};
+use sm_cc::{BaseClasses, NumberedBase};
 use sm_certify::{all_terms, given_facts};
 use sm_list::add_parts;
 use sm_num::LinForm;
@@ -43,7 +43,7 @@ pub(crate) fn ground_of(
     table: &TermTable,
     forms: &[LinForm],
     facts: &[Formula],
-) -> Result<Option<Grounded>, AllocError>
+) -> Result<Option<NumberedBase>, AllocError>
     requires forms { AreAllForms (trees_in table.now) forms.now }
     requires within { AreFormulasWithin (length (trees_in table.now)) (all_numbered facts.now) }
     requires sorted { AreFormsSorted (sorts_in table.now)
@@ -55,6 +55,6 @@ pub(crate) fn ground_of(
 {
     let terms = all_terms(alloc, table)?;
     let given = given_facts(alloc, facts)?;
-    let found = Ground::of(alloc, table, forms, &terms, &given)?;
+    let found = BaseClasses::of(alloc, table, forms, &terms, &given)?;
     Ok(found)
 }

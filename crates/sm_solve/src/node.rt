@@ -7,7 +7,7 @@ ghost use Rattle.sm_term.specs.Formulas.{numbered, assertion_in, IsFormulaWithin
 ghost use Rattle.sm_term.specs.Sorted.{IsFormSorted, AreFormsSorted};
 ghost use Rattle.sm_term.specs.Tables.{TableValue, trees_in, sorts_in};
 ghost use Rattle.sm_term.specs.Terms.{Tree};
-ghost use Rattle.sm_term.specs.TableLaws.{Grows};
+ghost use Rattle.sm_term.specs.TableLaws.{AddsTerms};
 ghost use Rattle.sm_solve.specs.Answers.{Tells, Certifies, terms_walked, NamesOnly};
 ghost use Rattle.sm_list.specs.Branches.{depth_of};
 ghost use Rattle.sm_list.specs.Parts.{all_numbered, assertions_in, AreFormulasWithin};
@@ -17,7 +17,7 @@ ghost use Rattle.sm_solve.specs.Walk.{walk};
 use crate::goal_end::renumbered_goal_end;
 use crate::grounding::{ground_of, with_room};
 use crate::reach::Reach;
-use crate::shut::{Shut, shut_of};
+use crate::shut::{Inconsistent, shut_of};
 use crate::solving::Answer;
 use sm_certify::{Base, boxed_base, count_named};
 use sm_judge::linear_forms;
@@ -39,7 +39,7 @@ pub struct Node {
     // the classes of the facts
     pub(crate) base: Base,
     // where the facts can't hold together
-    pub(crate) shut: Option<Shut>,
+    pub(crate) shut: Option<Inconsistent>,
 }
 
 impl Node {
@@ -58,7 +58,7 @@ impl Node {
         ensures node { let given = assertions_in (sorts_in table.old) (trees_in table.old)
             (all_numbered facts.now) in
             IfOk result (λ o. IfSome o (IsNode table.new given)) }
-        ensures grows { Grows table.old table.new }
+        ensures grows { AddsTerms table.old table.new }
         ensures none { IfOk result (λ o. IfNone o (trees_in table.new ≡ trees_in table.old)) }
         ensures err { OnErr result (trees_in table.new ≡ trees_in table.old) }
     {
@@ -89,7 +89,7 @@ impl Node {
         ensures node { let given = assertions_in (sorts_in table.old) (trees_in table.old)
             (all_numbered facts.now) in
             IfOk result (λ o. IfSome o (IsNode table.new given)) }
-        ensures grows { Grows table.old table.new }
+        ensures grows { AddsTerms table.old table.new }
     {
         match Node::grounded(alloc, table, facts)? {
             Some(node) => {
@@ -112,7 +112,7 @@ impl Node {
         ensures node { let given = assertions_in (sorts_in table.old) (trees_in table.old)
             (all_numbered facts.now) in
             IfOk result (λ o. IfSome o (IsNode table.new given)) }
-        ensures grows { Grows table.old table.new }
+        ensures grows { AddsTerms table.old table.new }
     {
         let all = with_room(alloc, facts)?;
         let count = count_named(alloc, table, &all)?;
@@ -168,7 +168,7 @@ impl Node {
             (NamesOnly (terms_walked given goal) (trees_in table.new))) }
         ensures stays { (given : List Assertion) → IsNode table.old given self.old →
             IfOk result (λ o. IsNode table.new given self.new) }
-        ensures grows { Grows table.old table.new }
+        ensures grows { AddsTerms table.old table.new }
     {
         let contrary = negate(alloc, target)?;
         if !self.has_room(&contrary) {
@@ -187,7 +187,7 @@ impl Node {
     // A node over a table that has got more terms.
     pub(crate) fn stays(&self, table: &TermTable)
         ensures { (old : TableValue) (given : List Assertion) → IsNode old given self.now →
-            Grows old table.now → IsNode table.now given self.now }
+            AddsTerms old table.now → IsNode table.now given self.now }
     {
         // No term is there twice.
         table.len();

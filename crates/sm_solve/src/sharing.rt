@@ -3,7 +3,7 @@ ghost use Rattle.std.specs.Prelude.{◌≡◌, length, IfOk, IfSome, OnErr};
 ghost use Rattle.sm_term.specs.Formulas.{numbered, assertion_in, IsFormulaWithin};
 ghost use Rattle.sm_term.specs.Sorted.{IsFormSorted, AreFormsSorted};
 ghost use Rattle.sm_term.specs.Tables.{trees_in, sorts_in};
-ghost use Rattle.sm_term.specs.TableLaws.{Grows};
+ghost use Rattle.sm_term.specs.TableLaws.{AddsTerms};
 ghost use Rattle.sm_solve.specs.Answers.{Tells, Certifies, terms_walked, NamesOnly};
 ghost use Rattle.sm_list.specs.Parts.{all_numbered, assertions_in, AreFormulasWithin};
 ghost use Rattle.sm_solve.specs.Sharing.{IsNode};
@@ -49,7 +49,7 @@ pub fn solve_at(
     ensures node { let given = assertions_in (sorts_in table.old) (trees_in table.old)
         (all_numbered facts.now) in
         IfOk result (λ a. IfSome node.new (IsNode table.new given)) }
-    ensures grows { Grows table.old table.new }
+    ensures grows { AddsTerms table.old table.new }
     ensures err { OnErr result (trees_in table.new ≡ trees_in table.old) }
 {
     let len = table.len();
@@ -95,7 +95,7 @@ fn answered_at(
     ensures node { let given = assertions_in (sorts_in table.old) (trees_in table.old)
         (all_numbered facts.now) in
         IfOk result (λ a. IfSome node.new (IsNode table.new given)) }
-    ensures grows { Grows table.old table.new }
+    ensures grows { AddsTerms table.old table.new }
 {
     match node {
         Some(n) => solve_shared(alloc, table, n, facts, target, reach),
@@ -135,7 +135,7 @@ fn solve_shared(
     ensures node { let given = assertions_in (sorts_in table.old) (trees_in table.old)
         (all_numbered facts.now) in
         IfOk result (λ a. IsNode table.new given node.new) }
-    ensures grows { Grows table.old table.new }
+    ensures grows { AddsTerms table.old table.new }
 {
     match node.solve(alloc, table, target, reach)? {
         Some(answer) => Ok(answer),

@@ -10,7 +10,7 @@ ghost use Rattle.sm_term.specs.Sorted.{AreFormsSorted};
 ghost use Rattle.sm_term.specs.Tables.{trees_in, sorts_in};
 ghost use Rattle.sm_term.specs.Terms.{Tree};
 ghost use Rattle.sm_cc.specs.Classes.{are_apart};
-ghost use Rattle.sm_cc.specs.Ground.{IsLedBy};
+ghost use Rattle.sm_cc.specs.BaseClasses.{IsLedBy};
 ghost use Rattle.sm_cc.specs.Rounds.{are_equal};
 ghost use Rattle.sm_cc.specs.Views.{ClassesValue, setting_of};
 ghost use Rattle.sm_judge.specs.AllForms.{AreAllForms};
@@ -25,7 +25,7 @@ ghost use Rattle.sm_cert.specs.MovedTrees.{NamesWhatItReads};
 ghost use Rattle.sm_cert.specs.Views.{certificate_in};
 ghost use Rattle.sm_solve.specs.declared.reach.Reach.{Reach};
 ghost use Rattle.sm_solve.specs.Naming.{AreNamed};
-ghost use Rattle.sm_solve.specs.Shut.{IsShut, IsShutBy};
+ghost use Rattle.sm_solve.specs.Inconsistent.{IsShut, IsShutBy};
 ghost use Rattle.sm_judge.specs.Forms.{Walked, Closes, forms_of, by_forms};
 ghost use Rattle.sm_solve.specs.Walking.{ClosesIn, ShowsVisit, ShowsEnd};
 
@@ -44,7 +44,7 @@ use std::alloc::{AllocError, Global};
 
 /// By what facts can't hold together.
 #[derive(Drop)]
-pub(crate) enum ShutBy {
+pub(crate) enum InconsistentBy {
     // by the classes of their terms
     Classes,
     // by these forms, after so many steps
@@ -53,9 +53,9 @@ pub(crate) enum ShutBy {
 
 /// Facts can't hold together, as the visit of their branch finds within so many steps.
 #[derive(Drop)]
-pub(crate) struct Shut {
+pub(crate) struct Inconsistent {
     pub(crate) steps: u64,
-    pub(crate) by: ShutBy,
+    pub(crate) by: InconsistentBy,
     // how many facts the branch has
     pub(crate) facts: usize,
     // the terms of the branch, by their numbers
@@ -73,7 +73,7 @@ pub(crate) fn shut_of(
     forms: &[LinForm],
     facts: &[Formula],
     steps: u64,
-) -> Result<Option<Shut>, AllocError>
+) -> Result<Option<Inconsistent>, AllocError>
     requires forms { AreAllForms (trees_in table.now) forms.now }
     requires within { AreFormulasWithin (length (trees_in table.now)) (all_numbered facts.now) }
     requires sorted { AreFormsSorted (sorts_in table.now)
@@ -95,7 +95,7 @@ pub(crate) fn shut_of(
     }
     let terms = all_terms(alloc, table)?;
     match found(alloc, base, table, forms, &terms, facts, steps)? {
-        Some((by, tree)) => Ok(Some(Shut {
+        Some((by, tree)) => Ok(Some(Inconsistent {
             steps,
             by,
             facts: facts.len(),
@@ -115,7 +115,7 @@ fn found(
     terms: &Terms,
     facts: &[Formula],
     steps: u64,
-) -> Result<Option<(ShutBy, CertTree)>, AllocError>
+) -> Result<Option<(InconsistentBy, CertTree)>, AllocError>
     requires forms { AreAllForms (trees_in table.now) forms.now }
     requires whole { IsWhole (trees_in table.now) terms.now.list.items }
     requires within { AreFormulasWithin (length (trees_in table.now)) (all_numbered facts.now) }
@@ -168,7 +168,7 @@ fn why_shut<'a>(
     forms: &[LinForm],
     facts: &[Formula],
     steps: u64,
-) -> Result<Option<ShutBy>, AllocError>
+) -> Result<Option<InconsistentBy>, AllocError>
     requires forms { AreAllForms (trees_in table.now) forms.now }
     requires classes { (ids : List TermId) × IsWhole (trees_in table.now) ids
         × (classes.now ≡ classes_by table.now ids facts.now) }
@@ -182,7 +182,7 @@ fn why_shut<'a>(
 {
     let labels = classes.labels(alloc)?;
     if closed_by(alloc, classes, &labels, table, forms, facts)?.is_some() {
-        return Ok(Some(ShutBy::Classes));
+        return Ok(Some(InconsistentBy::Classes));
     }
     match by_forms(alloc, classes, &labels, table, forms, facts, steps, 1)? {
         ByForms::Contradiction {
@@ -204,7 +204,7 @@ fn after_sums<S: Sees>(
     forms: &[LinForm],
     facts: &[Formula],
     count: u64,
-) -> Result<Option<ShutBy>, AllocError>
+) -> Result<Option<InconsistentBy>, AllocError>
     requires table { S.trees sees.now ≡ trees_in table.now }
     requires labels { AreLabels (trees_in table.now) (S.equal sees.now) labels.now }
     requires forms { AreAllForms (trees_in table.now) forms.now }
@@ -216,7 +216,7 @@ fn after_sums<S: Sees>(
         IfOk result (λ o. IfSome o (IsShutBy steps b)) }
 {
     match forms_of(alloc, sees, labels, table, forms, facts) {
-        Ok(made) => Ok(Some(ShutBy::Forms {
+        Ok(made) => Ok(Some(InconsistentBy::Forms {
             count,
             forms: made.forms.list,
         })),

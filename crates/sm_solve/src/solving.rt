@@ -4,7 +4,7 @@ ghost use Rattle.sm_syntax.specs.text.Sorts.{Sorts};
 ghost use Rattle.sm_term.specs.Assertions.{Assertion, negate};
 ghost use Rattle.sm_term.specs.Sorted.{IsFormSorted, AreFormsSorted};
 ghost use Rattle.sm_term.specs.Tables.{trees_in, sorts_in};
-ghost use Rattle.sm_term.specs.TableLaws.{Grows};
+ghost use Rattle.sm_term.specs.TableLaws.{AddsTerms};
 ghost use Rattle.sm_term.specs.Terms.{Tree};
 ghost use Rattle.sm_term.specs.Formulas.{numbered, assertion_in, IsFormulaWithin};
 ghost use Rattle.sm_solve.specs.Answers.{Tells, Certifies, terms_walked, NamesOnly};
@@ -80,7 +80,7 @@ pub fn solve(
         let goal = assertion_in sorts trees (numbered target.now) in
         IfOk result (NamesOnly (terms_walked given goal) (trees_in table.new)) }
 
-    ensures grows { Grows table.old table.new }
+    ensures grows { AddsTerms table.old table.new }
     ensures err { OnErr result (trees_in table.new ≡ trees_in table.old) }
 {
     let len = table.len();
@@ -119,7 +119,7 @@ fn answered(
         let given = assertions_in sorts trees (all_numbered facts.now) in
         let goal = assertion_in sorts trees (numbered target.now) in
         IfOk result (NamesOnly (terms_walked given goal) (trees_in table.new)) }
-    ensures grows { Grows table.old table.new }
+    ensures grows { AddsTerms table.old table.new }
 {
     let all = given_facts(alloc, facts, target)?;
     let mut own = own_branch(alloc, table, &all)?;

@@ -10,7 +10,7 @@ ghost use Rattle.sm_term.specs.declared.term.TermId.{TermId};
 ghost use Rattle.sm_term.specs.Sorted.{AreFormsSorted};
 ghost use Rattle.sm_term.specs.Tables.{trees_in, sorts_in};
 ghost use Rattle.sm_term.specs.Terms.{Tree};
-ghost use Rattle.sm_cc.specs.Ground.{IsGround, IsLedBy};
+ghost use Rattle.sm_cc.specs.BaseClasses.{IsGround, IsLedBy};
 ghost use Rattle.sm_pairs.specs.Longer.{IsLonger};
 ghost use Rattle.sm_cc.specs.Views.{ClassesValue};
 ghost use Rattle.sm_judge.specs.AllForms.{AreAllForms};
@@ -20,15 +20,15 @@ ghost use Rattle.sm_certify.specs.Given.{given_from, classes_by, branch_of};
 ghost use Rattle.sm_terms.specs.Listing.{numbers_of};
 ghost use Rattle.sm_list.specs.Parts.{all_numbered, assertions_in, AreFormulasWithin};
 ghost use Rattle.sm_solve.specs.declared.reach.Reach.{Reach};
-ghost use Rattle.sm_solve.specs.Shut.{IsShut, IsBelow};
+ghost use Rattle.sm_solve.specs.Inconsistent.{IsShut, IsBelow};
 ghost use Rattle.sm_judge.specs.Forms.{Walked, Closes, by_forms};
 ghost use Rattle.sm_solve.specs.Walk.{walk_from, by_classes};
 ghost use Rattle.sm_solve.specs.Walking.{ClosesIn};
 
 use crate::reach::Reach;
 use crate::same_forms::are_forms;
-use crate::shut::{Shut, ShutBy};
-use sm_cc::Grounded;
+use crate::shut::{Inconsistent, InconsistentBy};
+use sm_cc::NumberedBase;
 use sm_cert::CertTree;
 use sm_certify::{Base, all_terms, contraries, is_refuted_by};
 use sm_list::renumbered_tree;
@@ -40,7 +40,7 @@ use std::alloc::{AllocError, Global};
 /// another one at a place and more behind: then the visit of their branch closes it.
 pub(crate) fn shut_tree(
     alloc: Global,
-    shut: &Shut,
+    shut: &Inconsistent,
     base: &mut Base,
     table: &TermTable,
     forms: &[LinForm],
@@ -83,7 +83,7 @@ pub(crate) fn shut_tree(
 // Whether it is told that the visit of the branch of facts closes it.
 fn is_still_shut(
     alloc: Global,
-    shut: &Shut,
+    shut: &Inconsistent,
     base: &mut Base,
     table: &TermTable,
     forms: &[LinForm],
@@ -111,8 +111,8 @@ fn is_still_shut(
     ensures stays { (v : ClassesValue) → IsFrom v base.old → IsFrom v base.new }
 {
     match &shut.by {
-        ShutBy::Classes => Ok(true),
-        ShutBy::Forms {
+        InconsistentBy::Classes => Ok(true),
+        InconsistentBy::Forms {
             count: _count,
             forms: known,
         } => {
@@ -160,7 +160,7 @@ fn is_shut_by_forms(
 // Whether what one look tells of the terms behind those of the facts closes it.
 fn is_shut_over(
     alloc: Global,
-    grounded: &mut Grounded,
+    grounded: &mut NumberedBase,
     table: &TermTable,
     forms: &[LinForm],
     facts: &[Formula],

@@ -4,7 +4,7 @@ ghost use Rattle.sm_term.specs.Assertions.{Assertion};
 ghost use Rattle.sm_term.specs.Sorted.{AreFormsSorted};
 ghost use Rattle.sm_term.specs.Tables.{trees_in, sorts_in};
 ghost use Rattle.sm_cc.specs.Classes.{are_apart};
-ghost use Rattle.sm_cc.specs.Ground.{IsLedBy};
+ghost use Rattle.sm_cc.specs.BaseClasses.{IsLedBy};
 ghost use Rattle.sm_cc.specs.Rounds.{are_equal};
 ghost use Rattle.sm_cc.specs.Views.{ClassesValue, setting_of};
 ghost use Rattle.sm_judge.specs.AllForms.{AreAllForms};

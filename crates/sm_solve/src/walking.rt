@@ -3,7 +3,7 @@ ghost use Rattle.std.specs.Prelude.{◌≡◌, ◌≤◌, ◌+◌, Some, List, [
 ghost use Rattle.sm_term.specs.Formulas.{numbered, assertion_in, IsFormulaWithin};
 ghost use Rattle.sm_term.specs.Sorted.{IsFormSorted, AreFormsSorted};
 ghost use Rattle.sm_term.specs.Tables.{trees_in, sorts_in};
-ghost use Rattle.sm_cc.specs.Ground.{IsLedBy};
+ghost use Rattle.sm_cc.specs.BaseClasses.{IsLedBy};
 ghost use Rattle.sm_cc.specs.Views.{ClassesValue};
 ghost use Rattle.sm_judge.specs.AllForms.{AreAllForms};
 ghost use Rattle.sm_certify.specs.Bases.{IsFrom};

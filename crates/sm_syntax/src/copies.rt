@@ -62,7 +62,12 @@ pub struct PerCopy<T> {
 // One call ends a value, and not one for each field: proofs of what has it stay small.
 impl<T: Drop> Drop for PerCopy<T> {
     fn drop(self) {
-        let Self { base: _, variant_a: _, variant_b: _, candidate: _ } = self;
+        let Self {
+            base: _,
+            variant_a: _,
+            variant_b: _,
+            candidate: _,
+        } = self;
     }
 }
 

@@ -38,6 +38,11 @@ pub struct Program {
 // One call ends a value, and not one for each field: proofs of what has it stay small.
 impl Drop for Program {
     fn drop(self) {
-        let Self { names: _, decls: _, outputs: _, body: _ } = self;
+        let Self {
+            names: _,
+            decls: _,
+            outputs: _,
+            body: _,
+        } = self;
     }
 }

@@ -7,7 +7,7 @@ use Rattle.sm_term.specs.Assertions.{Assertion}
 use Rattle.sm_term.specs.Formulas.{numbered, assertion_in}
 use Rattle.sm_term.specs.Sorted.{IsFormSorted}
 use Rattle.sm_term.specs.Tables.{TableValue, trees_in, sorts_in}
-use Rattle.sm_term.specs.TableLaws.{Grows}
+use Rattle.sm_term.specs.TableLaws.{AddsTerms}
 use Rattle.sm_term.specs.Terms.{Tree}
 use Rattle.sm_plan.specs.ReadyStates.{IsFormReady, AreFormsReady}
 use Rattle.sm_plan.specs.Views.{forms_in}
@@ -35,7 +35,7 @@ ready_push sorts trees [] f ready new = (new, tt)
 ready_push sorts trees (g ∷ fs) f ready new = (ready.0, ready_push sorts trees fs f ready.1 new)
 
 -- one is put there
-pub added_one : (v w : TableValue) → Grows v w → (fs : List Formula) (f : Formula) (a : Assertion) → IsFormMade w f a →
+pub added_one : (v w : TableValue) → AddsTerms v w → (fs : List Formula) (f : Formula) (a : Assertion) → IsFormMade w f a →
     IsFormSorted (sorts_in w) a → AddsForms v w fs (fs ++ f ∷ []) (a ∷ [])
 added_one v w grows fs f a made sorted ready = (
   ready_push (sorts_in w) (trees_in w) fs f (forms_ready v w grows fs ready)
@@ -45,7 +45,7 @@ added_one v w grows fs f a made sorted ready = (
 )
 
 -- nothing is put there while the table grows
-pub added_grown : (v w : TableValue) → Grows v w → (fs : List Formula) → AddsForms v w fs fs []
+pub added_grown : (v w : TableValue) → AddsTerms v w → (fs : List Formula) → AddsForms v w fs fs []
 added_grown v w grows fs ready = (
   forms_ready v w grows fs ready,
   forms_more v w grows fs (ready_within (sorts_in v) (trees_in v) fs ready) ∙ sym (append-nil (forms_in (sorts_in v) (trees_in v) fs)),

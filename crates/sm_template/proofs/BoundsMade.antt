@@ -16,7 +16,7 @@ use Rattle.sm_term.specs.Formulas.{numbered, assertion_in, IsFormulaWithin}
 use Rattle.sm_term.specs.SameTerms.{same_tree}
 use Rattle.sm_term.specs.Sorted.{HasSort}
 use Rattle.sm_term.specs.Tables.{TableValue, trees_in, sorts_in, tree_at}
-use Rattle.sm_term.specs.TableLaws.{AreApart, Grows}
+use Rattle.sm_term.specs.TableLaws.{AreApart, AddsTerms}
 use Rattle.sm_term.specs.Terms.{Tree}
 use Rattle.sm_term.proofs.SameTermsLemmas.{same_tree_is}
 use Rattle.sm_term.proofs.ExpressionLemmas.{tree_got}
@@ -44,7 +44,7 @@ bounds_then u v w ps qs rs first second one other ready =
     )
 
 -- a table that grows
-module _ (v w : TableValue) (grows : Grows v w) where
+module _ (v w : TableValue) (grows : AddsTerms v w) where
   bound_stays : (p : ℕ × ℕ) → IsBoundReady (sorts_in v) (trees_in v) p → IsBoundReady (sorts_in w) (trees_in w) p
   bound_stays p ready =
       let wide = widens_grown v w grows in
@@ -68,7 +68,7 @@ module _ (v w : TableValue) (grows : Grows v w) where
       )
 
 -- some are put there after the table has grown
-pub bounds_after : (u v w : TableValue) → Grows u v → (ps qs : List (ℕ × ℕ)) (more : List Assertion) → AddsBounds v w ps qs more →
+pub bounds_after : (u v w : TableValue) → AddsTerms u v → (ps qs : List (ℕ × ℕ)) (more : List Assertion) → AddsBounds v w ps qs more →
     AddsBounds u w ps qs more
 bounds_after u v w grows ps qs more added = bounds_then u v w ps ps qs [] more (bounds_grown u v grows ps) added
 
@@ -151,21 +151,21 @@ bound_added v ps i d fs gs hs f is h all items added =
     (added_one v v (grows-not v v refl) gs f (form p) made (ready.2, ready.3))))
 
 -- what a comparison suggests with one more, over the table that has it
-pub has_stays : (v w : TableValue) → Grows v w → (n : ℕ) → n < length (trees_in v) → HasSort (sorts_in v) Num (tree_at (trees_in v) n) →
+pub has_stays : (v w : TableValue) → AddsTerms v w → (n : ℕ) → n < length (trees_in v) → HasSort (sorts_in v) Num (tree_at (trees_in v) n) →
     HasSort (sorts_in w) Num (tree_at (trees_in w) n)
 has_stays v w grows n h has =
     let wide = widens_grown v w grows in
     subst (HasSort (sorts_in w) Num) (sym (tree_stays v w wide n h))
     (subst (λ (f : Sorts). HasSort f Num (tree_at (trees_in v) n)) (sym grows.sorts) has)
 
-pub next_has : (v w : TableValue) → Grows v w → (n m : ℕ) → HasSort (sorts_in v) Num (tree_at (trees_in v) n) →
+pub next_has : (v w : TableValue) → AddsTerms v w → (n m : ℕ) → HasSort (sorts_in v) Num (tree_at (trees_in v) n) →
     slice_get (trees_in w) m ≡ Some (next_to (tree_at (trees_in v) n)) → HasSort (sorts_in w) Num (tree_at (trees_in w) m)
 next_has v w grows n m has made =
     let one = tree_at (trees_in v) n in
     let moved = subst (λ (f : Sorts). HasSort f Num one) (sym grows.sorts) has in
     subst (HasSort (sorts_in w) Num) (sym (tree_got (trees_in w) m (next_to one) made)) ((moved.0, moved.1, tt, refl), refl)
 
-pub next_added : (v w : TableValue) → Grows v w → (n m k : ℕ) (ps qs : List (ℕ × ℕ)) → n < length (trees_in v) →
+pub next_added : (v w : TableValue) → AddsTerms v w → (n m k : ℕ) (ps qs : List (ℕ × ℕ)) → n < length (trees_in v) →
     slice_get (trees_in w) k ≡ Some (next_to (tree_at (trees_in v) m)) →
     AddsBounds w w ps qs (Le (tree_at (trees_in w) n) (tree_at (trees_in w) k) ∷ []) →
     AddsBounds v w ps qs (Le (tree_at (trees_in v) n) (next_to (tree_at (trees_in v) m)) ∷ [])

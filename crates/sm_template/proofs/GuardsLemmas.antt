@@ -16,7 +16,7 @@ use Rattle.sm_term.specs.Sorted.{HasSort, IsStoreSorted}
 use Rattle.sm_term.specs.Symbolic.{SymbolicStore, term_of}
 use Rattle.sm_term.specs.SymStores.{store_in, IsStoreWithin}
 use Rattle.sm_term.specs.Tables.{TableValue, trees_in, sorts_in, tree_at}
-use Rattle.sm_term.specs.TableLaws.{Grows}
+use Rattle.sm_term.specs.TableLaws.{AddsTerms}
 use Rattle.sm_term.specs.Terms.{Start, Slot, Read, Neg, Add, Sub, Mul}
 use Rattle.sm_term.proofs.ExpressionLemmas.{store-more, stays_got, tree_got, there}
 use Rattle.sm_plan.proofs.SortedTerms.{declared_with, sort_is, term_sorted}
@@ -51,7 +51,7 @@ places_sorted sorts c = record {
 }
 
 -- a table that grows keeps the store
-pub places_stay : (u v : TableValue) → Grows u v → (s : SymStore) (c : Copy) → IsStoreWithin (length (trees_in u)) s →
+pub places_stay : (u v : TableValue) → AddsTerms u v → (s : SymStore) (c : Copy) → IsStoreWithin (length (trees_in u)) s →
     store_in (trees_in u) s ≡ places_of (sorts_in u) c → store_in (trees_in v) s ≡ places_of (sorts_in v) c
 places_stay u v grows s c within store =
     store-more u v grows s within ∙ store ∙ ap (λ (f : Sorts). places_of f c) (sym grows.sorts)
@@ -85,7 +85,7 @@ pub weaker_is : (v : TableValue) (c : Copy) (op : Cmp) (d e : Expression) (n m :
 weaker_is v c op d e n m first second = λ k. weaker op (first.is k) (second.is k)
 
 -- the terms of two expressions, over the table that has both
-module _ (u v w : TableValue) (first : Grows u v) (second : Grows v w) (s : SymStore) (c : Copy)
+module _ (u v w : TableValue) (first : AddsTerms u v) (second : AddsTerms v w) (s : SymStore) (c : Copy)
     (within : IsStoreWithin (length (trees_in u)) s) (store : store_in (trees_in u) s ≡ places_of (sorts_in u) c) where
   same : sorts_in w ≡ sorts_in u
   same = second.sorts ∙ first.sorts

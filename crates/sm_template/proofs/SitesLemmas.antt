@@ -12,7 +12,7 @@ use Rattle.sm_syntax.specs.trees.Programs.{declared_of}
 use Rattle.sm_term.specs.declared.formula.Formula.{Formula}
 use Rattle.sm_term.specs.Assertions.{Assertion}
 use Rattle.sm_term.specs.Tables.{TableValue, trees_in, sorts_in}
-use Rattle.sm_term.specs.TableLaws.{Grows}
+use Rattle.sm_term.specs.TableLaws.{AddsTerms}
 use Rattle.sm_plan.specs.Copies.{Copies}
 use Rattle.sm_plan.specs.ReadyStates.{AreFormsReady}
 use Rattle.sm_plan.specs.SortedStates.{AreOutputsDeclared}
@@ -95,7 +95,7 @@ block_made u w t site fs gs names literals code of numbered written l none added
     ∙ sym (block_once t code (subst AreNumbered of.declared numbered))
 
 -- those of names, and inequalities behind them
-pub loop_added : (u v w : TableValue) (fs gs hs : List Formula) (keys : List (ℕ × ℕ)) (named guards : List Assertion) → Grows v w →
+pub loop_added : (u v w : TableValue) (fs gs hs : List Formula) (keys : List (ℕ × ℕ)) (named guards : List Assertion) → AddsTerms v w →
     AddsForms u v fs gs named → AddsBounds v w [] keys guards →
     ((x : TableValue) → AreBoundsReady (sorts_in x) (trees_in x) keys → AddsForms x x gs hs (bounds_in (trees_in x) keys)) →
     AddsForms u w fs hs (named ++ distinct same_formula guards)

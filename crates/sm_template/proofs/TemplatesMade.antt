@@ -11,7 +11,7 @@ use Rattle.sm_syntax.specs.text.Sorts.{Sorts}
 use Rattle.sm_term.specs.declared.formula.Formula.{Formula}
 use Rattle.sm_term.specs.Assertions.{Assertion}
 use Rattle.sm_term.specs.Tables.{TableValue, sorts_in}
-use Rattle.sm_term.specs.TableLaws.{Grows}
+use Rattle.sm_term.specs.TableLaws.{AddsTerms}
 use Rattle.sm_plan.specs.SortedStates.{AreOutputsDeclared}
 use Rattle.sm_template.specs.declared.shapes.Shape.{Shape}
 use Rattle.sm_template.specs.AddedForms.{IsFormMade, AddsForms}
@@ -28,7 +28,7 @@ fit_at sort (r ∷ ss) (suc i) d fits h = fit_at sort ss i d fits.1 (omega arith
 
 -- the template of one kind more
 pub shape_added : (u v w : TableValue) (x : ℕ) (sort : Sort) (ss : List Shape) (i : ℕ) (d : Shape) (fs gs hs : List Formula) (f : Formula) →
-    Grows v w → sorts_in w x ≡ Some sort → AreShapesFit sort ss → i < length ss → IsFormMade w f (shape_form (x, sort) (get_or ss i d)) →
+    AddsTerms v w → sorts_in w x ≡ Some sort → AreShapesFit sort ss → i < length ss → IsFormMade w f (shape_form (x, sort) (get_or ss i d)) →
     hs ≡ gs ++ f ∷ [] →
     AddsForms u v fs gs (map (shape_form (x, sort)) (take i ss)) → AddsForms u w fs hs (map (shape_form (x, sort)) (take (i + 1) ss))
 shape_added u v w x sort ss i d fs gs hs f grows known fits h made items added =

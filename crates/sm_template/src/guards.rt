@@ -13,7 +13,7 @@ ghost use Rattle.sm_term.specs.Assertions as plain;
 ghost use Rattle.sm_term.specs.Sorted.{HasSort};
 ghost use Rattle.sm_term.specs.SymStores.{store_in, IsStoreWithin};
 ghost use Rattle.sm_term.specs.Tables.{TableValue, trees_in, sorts_in, tree_at};
-ghost use Rattle.sm_term.specs.TableLaws.{Grows};
+ghost use Rattle.sm_term.specs.TableLaws.{AddsTerms};
 ghost use Rattle.sm_plan.specs.Copies as sets;
 ghost use Rattle.sm_plan.specs.Masks.{set_of};
 ghost use Rattle.sm_plan.specs.Starts.{AreNumbered};
@@ -27,7 +27,7 @@ ghost use Rattle.sm_template.specs.Guards.{next_to, weaker, guard_templates};
 use crate::terms::{made, slot};
 use indexmap::IndexSet;
 use sm_moves::has;
-use sm_plan::Rest;
+use sm_plan::Continuation;
 use sm_syntax::{Cmp, Cond, CopyName, Decls, PerCopy};
 use sm_term::{Formula, SymStore, Term, TermId, TermTable, term_of};
 use std::alloc::{AllocError, Global};
@@ -47,7 +47,7 @@ pub(crate) fn places_of(
     ensures store { let places = places_of (sorts_in table.old) (copy_named copy) in
         IfOk result (λ s. store_in (trees_in table.new) s ≡ places) }
     ensures within { IfOk result (λ s. IsStoreWithin (length (trees_in table.new)) s) }
-    ensures grows { Grows table.old table.new }
+    ensures grows { AddsTerms table.old table.new }
 {
     let mut list = Vec::new(alloc);
     for d in &decls.list {
@@ -77,7 +77,7 @@ fn next_to(table: &mut TermTable, t: TermId) -> Result<TermId, AllocError>
     requires sort { HasSort (sorts_in table.old) Num (tree_at (trees_in table.old) t.0) }
     ensures made { let next = next_to (tree_at (trees_in table.old) t.0) in
         IfOk result (λ id. slice_get (trees_in table.new) id.0 ≡ Some next) }
-    ensures grows { Grows table.old table.new }
+    ensures grows { AddsTerms table.old table.new }
 {
     let one = made(table, Term::Lit(1))?;
     made(table, Term::Add(t, one))
@@ -98,7 +98,7 @@ fn put_weaker(
     ensures added { let trees = trees_in table.old in
         let more = weaker op (tree_at trees t.0) (tree_at trees u.0) in
         OnOk result (AddsBounds table.old table.new bounds.old.keys bounds.new.keys more) }
-    ensures grows { Grows table.old table.new }
+    ensures grows { AddsTerms table.old table.new }
 {
     match op {
         Cmp::Eq => Ok(()),
@@ -131,7 +131,7 @@ fn put_guard(
         store_in (trees_in table.old) s.now ≡ places }
     ensures added { let more = guard_templates (condition_of b.now) (copy_named copy) in
         OnOk result (AddsBounds table.old table.new bounds.old.keys bounds.new.keys more) }
-    ensures grows { Grows table.old table.new }
+    ensures grows { AddsTerms table.old table.new }
 {
     match b {
         Cond::Yes => Ok(()),
@@ -165,7 +165,7 @@ fn put_guards(
     ensures added { let more = guard_templates (condition_of b.now) (copy_named copy)
         ++ guard_templates (condition_of c.now) (copy_named copy) in
         OnOk result (AddsBounds table.old table.new bounds.old.keys bounds.new.keys more) }
-    ensures grows { Grows table.old table.new }
+    ensures grows { AddsTerms table.old table.new }
 {
     put_guard(table, bounds, b, s, copy)?;
     put_guard(table, bounds, c, s, copy)
@@ -179,7 +179,7 @@ fn put_loop(
     decls: &Decls,
     set: u8,
     copy: CopyName,
-    rest: &Rest<'_>,
+    rest: &Continuation<'_>,
 ) -> Result<(), AllocError>
     requires declared { sorts_in table.old ≡ sort_of (declared_of decls.now) }
     requires numbered { AreNumbered (declared_of decls.now) }
@@ -188,7 +188,7 @@ fn put_loop(
         let guards = guard_templates (loop_guard (rest_code rest.now)) c in
         let more = if sets.has (set_of set) c then guards else [] in
         OnOk result (AddsBounds table.old table.new bounds.old.keys bounds.new.keys more) }
-    ensures grows { Grows table.old table.new }
+    ensures grows { AddsTerms table.old table.new }
 {
     if !has(set, copy) {
         return Ok(());
@@ -206,7 +206,7 @@ pub(crate) fn bounds_of(
     table: &mut TermTable,
     decls: &Decls,
     set: u8,
-    code: &PerCopy<Rest<'_>>,
+    code: &PerCopy<Continuation<'_>>,
 ) -> Result<Bounds, AllocError>
     requires declared { sorts_in table.old ≡ sort_of (declared_of decls.now) }
     requires numbered { AreNumbered (declared_of decls.now) }
@@ -216,7 +216,7 @@ pub(crate) fn bounds_of(
         let guards = λ (c : Copy). guard_templates (loop_guard (code_at c)) c in
         let more = flat_map guards (members (set_of set)) in
         IfOk result (λ b. AddsBounds table.old table.new [] b.keys more) }
-    ensures grows { Grows table.old table.new }
+    ensures grows { AddsTerms table.old table.new }
 {
     let mut bounds = IndexSet::new(alloc);
     put_loop(

@@ -6,7 +6,7 @@ ghost use Rattle.sm_syntax.specs.text.Sorts.{IsAsDeclared, IsWellSorted};
 ghost use Rattle.sm_syntax.specs.trees.Copies.{of_copy};
 ghost use Rattle.sm_syntax.specs.trees.Programs.{declared_of};
 ghost use Rattle.sm_term.specs.Tables.{trees_in, sorts_in};
-ghost use Rattle.sm_term.specs.TableLaws.{Grows, Widens};
+ghost use Rattle.sm_term.specs.TableLaws.{AddsTerms, ExtendsTable};
 ghost use Rattle.sm_plan.specs.Masks.{set_of};
 ghost use Rattle.sm_plan.specs.ReadyStates.{AreFormsReady};
 ghost use Rattle.sm_plan.specs.SortedStates.{AreOutputsDeclared};
@@ -22,7 +22,7 @@ use crate::shapes::{Shape, shapes_of};
 use crate::site::SiteContext;
 use crate::terms::shaped;
 use crate::written::{bodies_write, names_written, writes_of};
-use sm_plan::{Formulas, Rest};
+use sm_plan::{Continuation, Formulas};
 use sm_syntax::{Decls, Name, PerCopy, Sort};
 use sm_term::{Formula, TermTable};
 use std::alloc::{AllocError, Global};
@@ -40,7 +40,7 @@ fn put_shapes(
     requires fits { AreShapesFit sort shapes.now }
     ensures added { let more = map (shape_form (x.0, sort)) shapes.now in
         OnOk result (AddsForms table.old table.new list.old.items list.new.items more) }
-    ensures grows { Grows table.old table.new }
+    ensures grows { AddsTerms table.old table.new }
 {
     for shape in shapes {
         list.push(shaped(alloc, table, x, sort, *shape)?)?;
@@ -60,7 +60,7 @@ fn put_name(
     requires declared { IsAsDeclared (sorts_in table.old) x.0 sort }
     ensures added { let more = name_templates literals.now (x.0, sort) in
         OnOk result (AddsForms table.old table.new list.old.items list.new.items more) }
-    ensures grows { Grows table.old table.new }
+    ensures grows { AddsTerms table.old table.new }
 {
     let shapes = shapes_of(alloc, literals, sort)?;
     put_shapes(alloc, table, list, x, sort, &shapes)
@@ -77,7 +77,7 @@ fn put_names(
     requires declared { AreOutputsDeclared (sorts_in table.old) (declared_of names.now) }
     ensures added { let more = flat_map (name_templates literals.now) (declared_of names.now) in
         OnOk result (AddsForms table.old table.new list.old.items list.new.items more) }
-    ensures grows { Grows table.old table.new }
+    ensures grows { AddsTerms table.old table.new }
 {
     for d in &names.list {
         put_name(alloc, table, list, literals, d.0, d.1)?;
@@ -90,7 +90,7 @@ pub fn block_templates(
     alloc: Global,
     table: &mut TermTable,
     site: &SiteContext<'_>,
-    code: &PerCopy<Rest<'_>>,
+    code: &PerCopy<Continuation<'_>>,
 ) -> Result<Formulas, AllocError>
     requires site { IsSiteReady (sorts_in table.old) site.now }
     ensures made { (t : Parts) → IsSiteOf t site.now →
@@ -99,7 +99,7 @@ pub fn block_templates(
         forms_in (sorts_in table.new) (trees_in table.new) fs.list.items ≡ templates) }
     ensures ready { IfOk result (λ fs.
         AreFormsReady (sorts_in table.new) (trees_in table.new) fs.list.items) }
-    ensures widens { Widens table.old table.new }
+    ensures widens { ExtendsTable table.old table.new }
     ensures err { OnErr result (trees_in table.new ≡ trees_in table.old) }
 {
     let len = table.len();
@@ -117,7 +117,7 @@ fn templates_of_block(
     alloc: Global,
     table: &mut TermTable,
     site: &SiteContext<'_>,
-    code: &PerCopy<Rest<'_>>,
+    code: &PerCopy<Continuation<'_>>,
 ) -> Result<Formulas, AllocError>
     requires site { IsSiteReady (sorts_in table.old) site.now }
     ensures made { (t : Parts) → IsSiteOf t site.now →
@@ -126,7 +126,7 @@ fn templates_of_block(
         forms_in (sorts_in table.new) (trees_in table.new) fs.list.items ≡ templates) }
     ensures ready { IfOk result (λ fs.
         AreFormsReady (sorts_in table.new) (trees_in table.new) fs.list.items) }
-    ensures widens { Widens table.old table.new }
+    ensures widens { ExtendsTable table.old table.new }
 {
     let written = writes_of(alloc, code)?;
     let names = names_written(alloc, site.decls, &written)?;
@@ -142,7 +142,7 @@ pub fn loop_templates(
     table: &mut TermTable,
     site: &SiteContext<'_>,
     set: u8,
-    code: &PerCopy<Rest<'_>>,
+    code: &PerCopy<Continuation<'_>>,
 ) -> Result<Formulas, AllocError>
     requires site { IsSiteReady (sorts_in table.old) site.now }
     requires sorted { (c : Copy) →
@@ -154,7 +154,7 @@ pub fn loop_templates(
         forms_in (sorts_in table.new) (trees_in table.new) fs.list.items ≡ templates) }
     ensures ready { IfOk result (λ fs.
         AreFormsReady (sorts_in table.new) (trees_in table.new) fs.list.items) }
-    ensures widens { Widens table.old table.new }
+    ensures widens { ExtendsTable table.old table.new }
     ensures err { OnErr result (trees_in table.new ≡ trees_in table.old) }
 {
     let len = table.len();
@@ -173,7 +173,7 @@ fn templates_of_loops(
     table: &mut TermTable,
     site: &SiteContext<'_>,
     set: u8,
-    code: &PerCopy<Rest<'_>>,
+    code: &PerCopy<Continuation<'_>>,
 ) -> Result<Formulas, AllocError>
     requires site { IsSiteReady (sorts_in table.old) site.now }
     requires sorted { (c : Copy) →
@@ -185,7 +185,7 @@ fn templates_of_loops(
         forms_in (sorts_in table.new) (trees_in table.new) fs.list.items ≡ templates) }
     ensures ready { IfOk result (λ fs.
         AreFormsReady (sorts_in table.new) (trees_in table.new) fs.list.items) }
-    ensures widens { Widens table.old table.new }
+    ensures widens { ExtendsTable table.old table.new }
 {
     let written = bodies_write(alloc, set, code)?;
     let names = names_written(alloc, site.decls, &written)?;

@@ -8,7 +8,7 @@ ghost use Rattle.sm_term.specs.Formulas as over;
 ghost use Rattle.sm_term.specs.Terms as tree;
 ghost use Rattle.sm_term.specs.Fitting.{term_fits};
 ghost use Rattle.sm_term.specs.Tables.{trees_in, sorts_in, codes_in, tree_in, IsTermWithin};
-ghost use Rattle.sm_term.specs.TableLaws.{Grows};
+ghost use Rattle.sm_term.specs.TableLaws.{AddsTerms};
 ghost use Rattle.sm_plan.specs.States as state;
 ghost use Rattle.sm_template.specs.AddedForms.{IsFormMade};
 ghost use Rattle.sm_template.specs.NameShapes.{side_tree, keeps_change, adds_nothing, shape_form};
@@ -26,7 +26,7 @@ pub(crate) fn made(table: &mut TermTable, t: Term) -> Result<TermId, AllocError>
     requires fits { IsTrue (term_fits (sorts_in table.old) (trees_in table.old) t) }
     ensures stored { let tree = tree_in (codes_in table.old) (trees_in table.old) t in
         IfOk result (λ id. slice_get (trees_in table.new) id.0 ≡ Some tree) }
-    ensures grows { Grows table.old table.new }
+    ensures grows { AddsTerms table.old table.new }
 {
     match table.intern(t) {
         Ok(id) => Ok(id),
@@ -45,7 +45,7 @@ pub(crate) fn slot(
     requires { IsAsDeclared (sorts_in table.old) x.0 sort }
     ensures made { let t = tree.Slot (copy_named c) x.0 in
         IfOk result (λ id. slice_get (trees_in table.new) id.0 ≡ Some t) }
-    ensures grows { Grows table.old table.new }
+    ensures grows { AddsTerms table.old table.new }
 {
     made(
         table,
@@ -61,7 +61,7 @@ fn above(table: &mut TermTable, x: Name, c: CopyName, v: i128) -> Result<TermId,
     requires { IsAsDeclared (sorts_in table.old) x.0 Num }
     ensures made { let t = side_tree x.0 (Side.Above c v) in
         IfOk result (λ id. slice_get (trees_in table.new) id.0 ≡ Some t) }
-    ensures grows { Grows table.old table.new }
+    ensures grows { AddsTerms table.old table.new }
 {
     let t = slot(table, x, c, Sort::Num)?;
     let u = made(table, Term::Lit(v))?;
@@ -74,7 +74,7 @@ fn side(table: &mut TermTable, x: Name, sort: Sort, s: Side) -> Result<TermId, A
     requires fits { FitsSide sort s }
     ensures made { IfOk result (λ id.
         slice_get (trees_in table.new) id.0 ≡ Some (side_tree x.0 s)) }
-    ensures grows { Grows table.old table.new }
+    ensures grows { AddsTerms table.old table.new }
 {
     match s {
         Side::Slot(c) => slot(table, x, c, sort),
@@ -89,7 +89,7 @@ fn cell(table: &mut TermTable, x: Name, s: Side) -> Result<TermId, AllocError>
     requires fits { FitsSide Arr s }
     ensures made { let t = tree.Read (side_tree x.0 s) tree.Cell in
         IfOk result (λ id. slice_get (trees_in table.new) id.0 ≡ Some t) }
-    ensures grows { Grows table.old table.new }
+    ensures grows { AddsTerms table.old table.new }
 {
     let t = side(table, x, Sort::Arr, s)?;
     let i = made(table, Term::Cell)?;
@@ -111,7 +111,7 @@ fn sides(
         slice_get (trees_in table.new) p.0.0 ≡ Some (side_tree x.0 a)) }
     ensures second { IfOk result (λ p.
         slice_get (trees_in table.new) p.1.0 ≡ Some (side_tree x.0 b)) }
-    ensures grows { Grows table.old table.new }
+    ensures grows { AddsTerms table.old table.new }
 {
     let t = side(table, x, sort, a)?;
     let u = side(table, x, sort, b)?;
@@ -127,7 +127,7 @@ fn cells(table: &mut TermTable, x: Name, a: Side, b: Side) -> Result<(TermId, Te
         slice_get (trees_in table.new) p.0.0 ≡ Some (tree.Read (side_tree x.0 a) tree.Cell)) }
     ensures second { IfOk result (λ p.
         slice_get (trees_in table.new) p.1.0 ≡ Some (tree.Read (side_tree x.0 b) tree.Cell)) }
-    ensures grows { Grows table.old table.new }
+    ensures grows { AddsTerms table.old table.new }
 {
     let t = cell(table, x, a)?;
     let u = cell(table, x, b)?;
@@ -147,7 +147,7 @@ fn places(
         slice_get (trees_in table.new) p.0.0 ≡ Some (state.place (x.0, sort) (copy_named c))) }
     ensures second { IfOk result (λ p.
         slice_get (trees_in table.new) p.1.0 ≡ Some (state.place (x.0, sort) (copy_named d))) }
-    ensures grows { Grows table.old table.new }
+    ensures grows { AddsTerms table.old table.new }
 {
     match sort {
         Sort::Num => sides(table, x, Sort::Num, Side::Slot(c), Side::Slot(d)),
@@ -175,7 +175,7 @@ fn keeps(
     requires declared { IsAsDeclared (sorts_in table.old) x.0 sort }
     ensures made { let a = keeps_change (state.place (x.0, sort)) (copy_named c) in
         IfOk result (λ f. IsFormMade table.new f a) }
-    ensures grows { Grows table.old table.new }
+    ensures grows { AddsTerms table.old table.new }
 {
     let (t, u) = places(table, x, sort, CopyName::O, c)?;
     let (a, b) = places(table, x, sort, CopyName::M, c)?;
@@ -192,7 +192,7 @@ fn adds_nothing(
     requires declared { IsAsDeclared (sorts_in table.old) x.0 sort }
     ensures made { IfOk result (λ f.
         IsFormMade table.new f (adds_nothing (state.place (x.0, sort)))) }
-    ensures grows { Grows table.old table.new }
+    ensures grows { AddsTerms table.old table.new }
 {
     let (t, u) = places(table, x, sort, CopyName::O, CopyName::A)?;
     let (a, b) = places(table, x, sort, CopyName::A, CopyName::B)?;
@@ -212,7 +212,7 @@ pub(crate) fn shaped(
     requires declared { IsAsDeclared (sorts_in table.old) x.0 sort }
     requires fits { FitsShape sort shape }
     ensures made { IfOk result (λ f. IsFormMade table.new f (shape_form (x.0, sort) shape)) }
-    ensures grows { Grows table.old table.new }
+    ensures grows { AddsTerms table.old table.new }
 {
     match shape {
         Shape::Equal(a, b) => {

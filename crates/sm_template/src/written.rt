@@ -18,7 +18,7 @@ ghost use Rattle.sm_template.specs.Written as plain;
 
 use sm_deps::writes;
 use sm_moves::has;
-use sm_plan::Rest;
+use sm_plan::Continuation;
 use sm_syntax::{CopyName, Decls, Outputs, PerCopy};
 use std::alloc::{AllocError, Global};
 use std::collections::BTreeSet;
@@ -26,7 +26,7 @@ use std::collections::BTreeSet;
 // The names that each copy's code writes.
 pub(crate) fn writes_of(
     alloc: Global,
-    code: &PerCopy<Rest<'_>>,
+    code: &PerCopy<Continuation<'_>>,
 ) -> Result<PerCopy<Outputs>, AllocError>
     ensures { IfOk result (λ w. AreWrites (λ c. rest_code (of_copy code.now c)) w) }
 {
@@ -47,7 +47,7 @@ fn body_writes(
     alloc: Global,
     set: u8,
     copy: CopyName,
-    rest: &Rest<'_>,
+    rest: &Continuation<'_>,
 ) -> Result<Outputs, AllocError>
     ensures { let body = loop_body (rest_code rest.now) in
         let code = if sets.has (set_of set) (copy_named copy) then body else End in
@@ -66,7 +66,7 @@ fn body_writes(
 pub fn bodies_write(
     alloc: Global,
     set: u8,
-    code: &PerCopy<Rest<'_>>,
+    code: &PerCopy<Continuation<'_>>,
 ) -> Result<PerCopy<Outputs>, AllocError>
     ensures { let bodies = only_in (set_of set) (λ c. loop_body (rest_code (of_copy code.now c))) in
         IfOk result (λ w. AreWrites bodies w) }

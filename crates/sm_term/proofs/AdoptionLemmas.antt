@@ -23,7 +23,7 @@ use Rattle.sm_term.specs.Rows.{parts_in_list}
 use Rattle.sm_term.specs.RowLaws.{contents_of}
 use Rattle.sm_term.specs.Tables.{TableValue, trees_in, codes_in, tree_at, code_at, tree_in, trees_behind, IsTermWithin}
 use Rattle.sm_term.specs.Fitting.{term_fits}
-use Rattle.sm_term.specs.TableLaws.{AreTermsSound, with_tree, with_code, with_trees, with_codes, Widens}
+use Rattle.sm_term.specs.TableLaws.{AreTermsSound, with_tree, with_code, with_trees, with_codes, ExtendsTable}
 use Rattle.sm_term.specs.Tails.{trees_numbered}
 use Rattle.sm_term.specs.Moves.{moved_part, moved_body, bodies_in_list, moved_contents, codes_numbered, KeepsRows}
 use Rattle.sm_term.proofs.TreesLemmas.{length-trees}
@@ -65,7 +65,7 @@ pub codes-kept : (v w : TableValue) → KeepsRows v w → (more : List Code) × 
 codes-kept v w kept = (map code_of kept.bodies.0, ap (map code_of) kept.bodies.1 ∙ map-append code_of v.bodies kept.bodies.0)
 
 -- a table that keeps its rows and its trees is wider
-pub widens : (v w : TableValue) → KeepsRows v w → (more : List Tree) × (trees_in w ≡ trees_in v ++ more) → Widens v w
+pub widens : (v w : TableValue) → KeepsRows v w → (more : List Tree) × (trees_in w ≡ trees_in v ++ more) → ExtendsTable v w
 widens v w kept trees = record {
   sorts = ap sort_of kept.declared;
   codes = codes-kept v w kept;
@@ -77,7 +77,6 @@ first_of : {T : Type 0} (xs ys more : List T) (n : ℕ) → n ≡ length xs → 
 first_of xs ys more n long e = ap (take n) e ∙ ap (λ m. take m (xs ++ more)) long ∙ take-append_seam xs more
 
 module _ (v w : TableValue) (kept : KeepsRows v w) (b t : ℕ) (bodies : b ≡ length v.bodies) (terms : t ≡ length v.terms) where
-
   -- a table that kept its rows, cut back to as many as it had, is what it was
   pub kept_is : (r : TableValue) → r.declared ≡ w.declared → r.bodies ≡ take b w.bodies → r.terms ≡ take t w.terms → r ≡ v
   kept_is r declared first last =

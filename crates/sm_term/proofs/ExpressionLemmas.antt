@@ -16,13 +16,13 @@ use Rattle.sm_term.specs.Symbolic.{SymbolicStore, term_of}
 use Rattle.sm_term.specs.SymStores.{tree_or_start, store_in, IsStoreWithin}
 use Rattle.sm_term.specs.Fitting.{has_sort}
 use Rattle.sm_term.specs.Tables.{TableValue, trees_in, sorts_in, tree_at}
-use Rattle.sm_term.specs.TableLaws.{Grows}
+use Rattle.sm_term.specs.TableLaws.{AddsTerms}
 use Rattle.sm_term.proofs.SameTermsLemmas.{same_sort_is}
 use Rattle.sm_term.proofs.TermsLemmas.{part_before}
 use Rattle.sm_term.proofs.TreesLemmas.{tree_at-more, before-later}
 
 -- a number that has a tree has it where the table has grown
-pub stays_got : (v w : TableValue) → Grows v w → (n : ℕ) (t : Tree) → slice_get (trees_in v) n ≡ Some t → slice_get (trees_in w) n ≡ Some t
+pub stays_got : (v w : TableValue) → AddsTerms v w → (n : ℕ) (t : Tree) → slice_get (trees_in v) n ≡ Some t → slice_get (trees_in w) n ≡ Some t
 stays_got v w grows n t e = ap (λ l. slice_get l n) grows.trees.1 ∙ over (trees_in v) n e
   where
     over : (l : List Tree) (n : ℕ) → slice_get l n ≡ Some t → slice_get (l ++ grows.trees.0) n ≡ Some t
@@ -39,7 +39,7 @@ pub sort_got : (sorts : Sorts) (trees : List Tree) (n : TermId) (t : Tree) (sort
 sort_got sorts trees n t sort e s = (same_sort_is (tree_sort sorts (tree_at trees n.0)) sort).1 (ap (tree_sort sorts) (tree_got trees n.0 t e) ∙ s)
 
 -- the store that a list stands for stays where the table grows
-pub store-more : (v w : TableValue) → Grows v w → (s : SymStore) → IsStoreWithin (length (trees_in v)) s → store_in (trees_in w) s ≡ store_in (trees_in v) s
+pub store-more : (v w : TableValue) → AddsTerms v w → (s : SymStore) → IsStoreWithin (length (trees_in v)) s → store_in (trees_in w) s ≡ store_in (trees_in v) s
 store-more v w grows s within = fun_ext (λ (x : ℕ). by x (slice_get s.list.items x) refl)
   where
     by : (x : ℕ) (o : Option TermId) → slice_get s.list.items x ≡ o → tree_or_start (trees_in w) x o ≡ tree_or_start (trees_in v) x o
@@ -47,20 +47,20 @@ store-more v w grows s within = fun_ext (λ (x : ℕ). by x (slice_get s.list.it
     by x (Some t) e = ap (λ l. tree_at l t.0) grows.trees.1 ∙ tree_at-more (trees_in v) grows.trees.0 t.0 (part_before (length (trees_in v)) s.list.items x t within e)
 
 -- so what is asked of it stays
-pub within_more : (v w : TableValue) → Grows v w → (s : SymStore) → IsStoreWithin (length (trees_in v)) s → IsStoreWithin (length (trees_in w)) s
+pub within_more : (v w : TableValue) → AddsTerms v w → (s : SymStore) → IsStoreWithin (length (trees_in v)) s → IsStoreWithin (length (trees_in w)) s
 within_more v w grows s within =
     let long = ap length grows.trees.1 ∙ length-append (trees_in v) grows.trees.0 in
     before-later (length (trees_in v)) (length (trees_in w)) (omega arith) s.list.items within
 
-pub sorted_more : (v w : TableValue) → Grows v w → (s : SymStore) → IsStoreWithin (length (trees_in v)) s → IsStoreSorted (sorts_in v) (store_in (trees_in v) s) → IsStoreSorted (sorts_in w) (store_in (trees_in w) s)
+pub sorted_more : (v w : TableValue) → AddsTerms v w → (s : SymStore) → IsStoreWithin (length (trees_in v)) s → IsStoreSorted (sorts_in v) (store_in (trees_in v) s) → IsStoreSorted (sorts_in w) (store_in (trees_in w) s)
 sorted_more v w grows s within sorted =
     subst (λ f. IsStoreSorted f (store_in (trees_in w) s)) (sym grows.sorts) (subst (IsStoreSorted (sorts_in v)) (sym (store-more v w grows s within)) sorted)
 
-pub well-more : (v w : TableValue) → Grows v w → (e : Expression) → IsWellSortedExpression (sorts_in v) e → IsWellSortedExpression (sorts_in w) e
+pub well-more : (v w : TableValue) → AddsTerms v w → (e : Expression) → IsWellSortedExpression (sorts_in v) e → IsWellSortedExpression (sorts_in w) e
 well-more v w grows e well = subst (λ f. IsWellSortedExpression f e) (sym grows.sorts) well
 
 -- a term that was made over the store of a later table
-pub made-more : (u v w : TableValue) → Grows u v → (s : SymStore) → IsStoreWithin (length (trees_in u)) s → (e : Expression) (n : ℕ)
+pub made-more : (u v w : TableValue) → AddsTerms u v → (s : SymStore) → IsStoreWithin (length (trees_in u)) s → (e : Expression) (n : ℕ)
     → slice_get (trees_in w) n ≡ Some (term_of e (store_in (trees_in v) s)) → slice_get (trees_in w) n ≡ Some (term_of e (store_in (trees_in u) s))
 made-more u v w grows s within e n made = made ∙ ap (λ f. Some (term_of e f)) (store-more u v grows s within)
 
@@ -79,12 +79,12 @@ expression_number sorts f s (Minus d e) w = refl
 expression_number sorts f s (Times d e) w = refl
 
 -- the term of a well-sorted expression is a number in a later table
-pub number_made : (v w : TableValue) → Grows v w → (s : SymStore) → IsStoreSorted (sorts_in v) (store_in (trees_in v) s) → (e : Expression) → IsWellSortedExpression (sorts_in v) e
+pub number_made : (v w : TableValue) → AddsTerms v w → (s : SymStore) → IsStoreSorted (sorts_in v) (store_in (trees_in v) s) → (e : Expression) → IsWellSortedExpression (sorts_in v) e
     → tree_sort (sorts_in w) (term_of e (store_in (trees_in v) s)) ≡ Num
 number_made v w grows s sorted e well =
     subst (λ f. tree_sort f (term_of e (store_in (trees_in v) s)) ≡ Num) (sym grows.sorts) (expression_number (sorts_in v) (store_in (trees_in v) s) sorted e well)
 
-pub name_made : (v w : TableValue) → Grows v w → (s : SymStore) → IsStoreSorted (sorts_in v) (store_in (trees_in v) s) → (x : ℕ) (sort : Sort) → sorts_in v x ≡ Some sort
+pub name_made : (v w : TableValue) → AddsTerms v w → (s : SymStore) → IsStoreSorted (sorts_in v) (store_in (trees_in v) s) → (x : ℕ) (sort : Sort) → sorts_in v x ≡ Some sort
     → tree_sort (sorts_in w) (store_in (trees_in v) s x) ≡ sort
 name_made v w grows s sorted x sort is =
     subst (λ f. tree_sort f (store_in (trees_in v) s x) ≡ sort) (sym grows.sorts) (sorted.declared x sort is).1

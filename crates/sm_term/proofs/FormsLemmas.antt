@@ -10,12 +10,12 @@ use Rattle.sm_term.specs.Symbolic.{form_of}
 use Rattle.sm_term.specs.SymStores.{store_in, IsStoreWithin}
 use Rattle.sm_term.specs.Formulas.{NumberedFormula, contrary, assertion_in, IsFormulaWithin}
 use Rattle.sm_term.specs.Tables.{TableValue, trees_in, sorts_in}
-use Rattle.sm_term.specs.TableLaws.{Grows}
+use Rattle.sm_term.specs.TableLaws.{AddsTerms}
 use Rattle.sm_term.proofs.TreesLemmas.{tree_at-more}
 use Rattle.sm_term.proofs.ExpressionLemmas.{store-more}
 
 -- a condition's sorts stay
-pub tested_more : (v w : TableValue) → Grows v w → (c : Condition) → IsWellSortedCondition (sorts_in v) c → IsWellSortedCondition (sorts_in w) c
+pub tested_more : (v w : TableValue) → AddsTerms v w → (c : Condition) → IsWellSortedCondition (sorts_in v) c → IsWellSortedCondition (sorts_in w) c
 tested_more v w grows c well = subst (λ f. IsWellSortedCondition f c) (sym grows.sorts) well
 
 -- what a formula stands for stays where more trees are put behind
@@ -29,7 +29,7 @@ assertion-trees sorts trees more (form.Lt t u) w = rw (tree_at-more trees more t
 assertion-trees sorts trees more (form.And p q) w = rw (assertion-trees sorts trees more p w.0, assertion-trees sorts trees more q w.1) refl
 assertion-trees sorts trees more (form.Or p q) w = rw (assertion-trees sorts trees more p w.0, assertion-trees sorts trees more q w.1) refl
 
-pub assertion-more : (v w : TableValue) → Grows v w → (f : NumberedFormula) → IsFormulaWithin (length (trees_in v)) f → assertion_in (sorts_in w) (trees_in w) f ≡ assertion_in (sorts_in v) (trees_in v) f
+pub assertion-more : (v w : TableValue) → AddsTerms v w → (f : NumberedFormula) → IsFormulaWithin (length (trees_in v)) f → assertion_in (sorts_in w) (trees_in w) f ≡ assertion_in (sorts_in v) (trees_in v) f
 assertion-more v w grows f within =
     ap (λ l. assertion_in (sorts_in w) l f) grows.trees.1
     ∙ ap (λ s. assertion_in s (trees_in v ++ grows.trees.0) f) grows.sorts
@@ -46,13 +46,13 @@ form-later m n h (form.Lt t u) w = (omega arith, omega arith)
 form-later m n h (form.And p q) w = (form-later m n h p w.0, form-later m n h q w.1)
 form-later m n h (form.Or p q) w = (form-later m n h p w.0, form-later m n h q w.1)
 
-pub form_kept : (v w : TableValue) → Grows v w → (f : NumberedFormula) → IsFormulaWithin (length (trees_in v)) f → IsFormulaWithin (length (trees_in w)) f
+pub form_kept : (v w : TableValue) → AddsTerms v w → (f : NumberedFormula) → IsFormulaWithin (length (trees_in v)) f → IsFormulaWithin (length (trees_in w)) f
 form_kept v w grows f within =
     let long = ap length grows.trees.1 ∙ length-append (trees_in v) grows.trees.0 in
     form-later (length (trees_in v)) (length (trees_in w)) (omega arith) f within
 
 -- a formula that was made over the store of a later table
-pub formed-more : (u v : TableValue) → Grows u v → (s : SymStore) → IsStoreWithin (length (trees_in u)) s → (c : Condition) → form_of c (store_in (trees_in v) s) ≡ form_of c (store_in (trees_in u) s)
+pub formed-more : (u v : TableValue) → AddsTerms u v → (s : SymStore) → IsStoreWithin (length (trees_in u)) s → (c : Condition) → form_of c (store_in (trees_in v) s) ≡ form_of c (store_in (trees_in u) s)
 formed-more u v grows s within c = ap (form_of c) (store-more u v grows s within)
 
 -- the contrary has the same terms

@@ -21,7 +21,7 @@ use Rattle.sm_term.specs.RowLaws.{same_term-Decides}
 use Rattle.sm_term.specs.Sorted.{IsSorted}
 use Rattle.sm_term.specs.Tables.{TableValue, trees_in, sorts_in, codes_in, tree_at, code_at, tree_in, trees_behind, IsTermWithin}
 use Rattle.sm_term.specs.Fitting.{term_fits}
-use Rattle.sm_term.specs.TableLaws.{AreTermsSound, AreApart, AreCodesApart, AreTreesSorted, AreCodesSorted, IsTable, with_tree, with_code, Grows}
+use Rattle.sm_term.specs.TableLaws.{AreTermsSound, AreApart, AreCodesApart, AreTreesSorted, AreCodesSorted, IsTable, with_tree, with_code, AddsTerms}
 use Rattle.sm_term.proofs.SameTermsLemmas.{same_code_is, same_tree_is}
 use Rattle.sm_term.proofs.TermsLemmas.{alike, unlike, term_sorted}
 use Rattle.sm_term.proofs.TreesLemmas.{length-trees, take-trees, trees-push, tree_at-more, tree_in-more, fits-more, within-later, trees-codes, sound-codes, sound-take, sound-push}
@@ -349,7 +349,7 @@ grown-with_tree trees t = by (list_any (same_tree t) trees) refl
     by false e = (t ∷ [], ap (λ b. if b then trees else trees ++ t ∷ []) e)
 
 -- a table that stays has grown by nothing
-pub grows-not : (v w : TableValue) → w ≡ v → Grows v w
+pub grows-not : (v w : TableValue) → w ≡ v → AddsTerms v w
 grows-not v w e = record {
   sorts = ap sorts_in e;
   codes = ap codes_in e;
@@ -357,7 +357,7 @@ grows-not v w e = record {
 }
 
 -- a table that has grown twice has grown
-pub grows-twice : (u v w : TableValue) → Grows u v → Grows v w → Grows u w
+pub grows-twice : (u v w : TableValue) → AddsTerms u v → AddsTerms v w → AddsTerms u w
 grows-twice u v w first second = record {
   sorts = second.sorts ∙ first.sorts;
   codes = second.codes ∙ first.codes;

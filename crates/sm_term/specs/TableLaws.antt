@@ -53,7 +53,7 @@ abbrev pub with_code : List Code → Code → List Code
 with_code codes c = if list_any (same_code c) codes then codes else codes ++ c ∷ []
 
 -- a table has the sorts and the code of another, and its terms with more behind them
-pub record Grows (old new : TableValue) : Type 0 where
+pub record AddsTerms (old new : TableValue) : Type 0 where
   pub sorts : sorts_in new ≡ sorts_in old
   pub codes : codes_in new ≡ codes_in old
   pub trees : (more : List Tree) × (trees_in new ≡ trees_in old ++ more)
@@ -69,7 +69,7 @@ with_codes codes [] = codes
 with_codes codes (c ∷ cs) = with_codes (with_code codes c) cs
 
 -- a table has the sorts of another, and its code and its terms, each with more behind them
-pub record Widens (old new : TableValue) : Type 0 where
+pub record ExtendsTable (old new : TableValue) : Type 0 where
   pub sorts : sorts_in new ≡ sorts_in old
   pub codes : (more : List Code) × (codes_in new ≡ codes_in old ++ more)
   pub trees : (more : List Tree) × (trees_in new ≡ trees_in old ++ more)

@@ -2,7 +2,7 @@
 ghost use Rattle.std.specs.Prelude.{◌≡◌, ◌≤◌, Some, map, take, length, IfOk, OnOk, OnErr};
 ghost use Rattle.sm_syntax.specs.trees.Views.{code_of};
 ghost use Rattle.sm_term.specs.Tables.{trees_in, sorts_in, codes_in};
-ghost use Rattle.sm_term.specs.TableLaws.{AreCodesSorted, IsTable, Widens};
+ghost use Rattle.sm_term.specs.TableLaws.{AreCodesSorted, IsTable, ExtendsTable};
 ghost use Rattle.sm_term.specs.TableLaws.{with_trees, with_codes};
 ghost use Rattle.sm_term.specs.Tails.{row_codes, row_trees, AreRowsSound, trees_numbered};
 ghost use Rattle.sm_term.specs.Moves.{codes_numbered, KeepsRows};
@@ -32,7 +32,7 @@ impl TermTable {
             OnOk result (trees_in self.new ≡ with_trees (trees_in self.old) made) }
         ensures codes { let made = row_codes rows.now in
             OnOk result (codes_in self.new ≡ with_codes (codes_in self.old) made) }
-        ensures widens { Widens self.old self.new }
+        ensures widens { ExtendsTable self.old self.new }
         ensures err { OnErr result (self.new ≡ self.old) }
     {
         let bodies = self.bodies.len();
@@ -58,7 +58,7 @@ impl TermTable {
             OnOk result (trees_in self.new ≡ with_trees (trees_in self.old) made) }
         ensures codes { let made = row_codes rows.now in
             OnOk result (codes_in self.new ≡ with_codes (codes_in self.old) made) }
-        ensures widens { Widens self.old self.new }
+        ensures widens { ExtendsTable self.old self.new }
         ensures rows { KeepsRows self.old self.new }
     {
         let numbers = self.numbers(alloc, &rows.blocks)?;

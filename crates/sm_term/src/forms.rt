@@ -9,7 +9,7 @@ ghost use Rattle.sm_term.specs.Symbolic as plain;
 ghost use Rattle.sm_term.specs.SymStores.{store_in, IsStoreWithin};
 ghost use Rattle.sm_term.specs.Formulas.{numbered, assertion_in, IsFormulaWithin};
 ghost use Rattle.sm_term.specs.Tables.{trees_in, sorts_in, tree_at};
-ghost use Rattle.sm_term.specs.TableLaws.{Grows};
+ghost use Rattle.sm_term.specs.TableLaws.{AddsTerms};
 
 use crate::formula::{Formula, negate};
 use crate::symbolic::{SymStore, made_terms};
@@ -32,7 +32,7 @@ pub fn form_of(
         let a = plain.form_of (condition_of c.now) f in
         IfOk result (λ g. assertion_in (sorts_in table.new) (trees_in table.new) (numbered g) ≡ a) }
     ensures within { IfOk result (λ f. IsFormulaWithin (length (trees_in table.new)) (numbered f)) }
-    ensures grows { Grows table.old table.new }
+    ensures grows { AddsTerms table.old table.new }
     ensures err { OnErr result (trees_in table.new ≡ trees_in table.old) }
 {
     let len = table.len();
@@ -60,7 +60,7 @@ fn made_form(
         let a = plain.form_of (condition_of c.now) f in
         IfOk result (λ g. assertion_in (sorts_in table.new) (trees_in table.new) (numbered g) ≡ a) }
     ensures within { IfOk result (λ f. IsFormulaWithin (length (trees_in table.new)) (numbered f)) }
-    ensures grows { Grows table.old table.new }
+    ensures grows { AddsTerms table.old table.new }
 {
     match c {
         Cond::Yes => Ok(Formula::Yes),
@@ -103,7 +103,7 @@ fn made_forms(
         IfOk result (λ p. assertion_in (sorts_in table.new) (trees_in table.new) (numbered p.1.value) ≡ a) }
     ensures within { let count = length (trees_in table.new) in
         IfOk result (λ p. IsFormulaWithin count (numbered p.0.value) × IsFormulaWithin count (numbered p.1.value)) }
-    ensures grows { Grows table.old table.new }
+    ensures grows { AddsTerms table.old table.new }
 {
     let p = made_form(alloc, table, b, s)?;
     let q = made_form(alloc, table, c, s)?;
@@ -130,7 +130,7 @@ fn compared(
         let a = plain.comparison_form op left right in
         IfOk result (λ g. assertion_in (sorts_in table.new) (trees_in table.new) (numbered g) ≡ a) }
     ensures within { IfOk result (λ f. IsFormulaWithin (length (trees_in table.new)) (numbered f)) }
-    ensures grows { Grows table.old table.new }
+    ensures grows { AddsTerms table.old table.new }
 {
     let (t, u) = made_terms(table, d, e, s)?;
     Ok(comparison(op, t, u))

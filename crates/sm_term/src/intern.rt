@@ -6,7 +6,7 @@ ghost use Rattle.sm_syntax.specs.trees.Views.{code_of};
 ghost use Rattle.sm_term.specs.Fitting.{has_sort, arguments_fit, term_fits};
 ghost use Rattle.sm_term.specs.Tables.{trees_in, sorts_in, codes_in, tree_in};
 ghost use Rattle.sm_term.specs.Tables.{IsTermWithin, AreBefore};
-ghost use Rattle.sm_term.specs.TableLaws.{with_tree, with_code, Grows};
+ghost use Rattle.sm_term.specs.TableLaws.{with_tree, with_code, AddsTerms};
 ghost use Rattle.sm_term.specs.Moves.{KeepsRows};
 
 use crate::body::Body;
@@ -52,7 +52,7 @@ impl TermTable {
             OnOk result (trees_in self.new ≡ with_tree (trees_in self.old) tree) }
         ensures stored { let tree = tree_in (codes_in self.old) (trees_in self.old) t in
             IfOk result (λ id. slice_get (trees_in self.new) id.0 ≡ Some tree) }
-        ensures grows { Grows self.old self.new }
+        ensures grows { AddsTerms self.old self.new }
         ensures err { OnErr result (self.new ≡ self.old) }
     {
         if !self.fits(&t) {
@@ -70,7 +70,7 @@ impl TermTable {
             OnOk result (trees_in self.new ≡ with_tree (trees_in self.old) tree) }
         ensures stored { let tree = tree_in (codes_in self.old) (trees_in self.old) t in
             IfOk result (λ id. slice_get (trees_in self.new) id.0 ≡ Some tree) }
-        ensures grows { Grows self.old self.new }
+        ensures grows { AddsTerms self.old self.new }
         ensures rows { KeepsRows self.old self.new }
         ensures err { OnErr result (self.new ≡ self.old) }
     {

@@ -6,7 +6,7 @@ ghost use Rattle.sm_term.specs.Sorted.{IsStoreSorted, IsDeclaredIn};
 ghost use Rattle.sm_term.specs.Symbolic as plain;
 ghost use Rattle.sm_term.specs.SymStores.{store_in, IsStoreWithin};
 ghost use Rattle.sm_term.specs.Tables.{trees_in, sorts_in};
-ghost use Rattle.sm_term.specs.TableLaws.{Grows};
+ghost use Rattle.sm_term.specs.TableLaws.{AddsTerms};
 
 use crate::table::TermTable;
 use crate::term::{Term, TermId};
@@ -27,7 +27,7 @@ pub fn term_of(table: &mut TermTable, e: &Expr, s: &SymStore) -> Result<TermId, 
     ensures made { let f = store_in (trees_in table.old) s.now in
         let t = plain.term_of (expression_of e.now) f in
         IfOk result (λ id. slice_get (trees_in table.new) id.0 ≡ Some t) }
-    ensures grows { Grows table.old table.new }
+    ensures grows { AddsTerms table.old table.new }
     ensures err { OnErr result (trees_in table.new ≡ trees_in table.old) }
 {
     let len = table.len();
@@ -49,7 +49,7 @@ fn made_term(table: &mut TermTable, e: &Expr, s: &SymStore) -> Result<TermId, Al
     ensures made { let f = store_in (trees_in table.old) s.now in
         let t = plain.term_of (expression_of e.now) f in
         IfOk result (λ id. slice_get (trees_in table.new) id.0 ≡ Some t) }
-    ensures grows { Grows table.old table.new }
+    ensures grows { AddsTerms table.old table.new }
 {
     match e {
         Expr::Num(n) => table.add(Term::Lit(*n)),
@@ -96,7 +96,7 @@ pub(crate) fn made_terms(
     ensures second { let f = store_in (trees_in table.old) s.now in
         let t = plain.term_of (expression_of e.now) f in
         IfOk result (λ p. slice_get (trees_in table.new) p.1.0 ≡ Some t) }
-    ensures grows { Grows table.old table.new }
+    ensures grows { AddsTerms table.old table.new }
 {
     let t = made_term(table, d, s)?;
     let u = made_term(table, e, s)?;
@@ -109,7 +109,7 @@ fn named_term(table: &mut TermTable, x: Name, s: &SymStore) -> Result<TermId, Al
     requires within { IsStoreWithin (length (trees_in table.old)) s.now }
     ensures made { let t = store_in (trees_in table.old) s.now x.0 in
         IfOk result (λ id. slice_get (trees_in table.new) id.0 ≡ Some t) }
-    ensures grows { Grows table.old table.new }
+    ensures grows { AddsTerms table.old table.new }
 {
     let place = x.0 as usize;
     if place < s.list.len() {

@@ -28,7 +28,12 @@ pub struct TermTable {
 // One call ends a value, and not one for each field: proofs of what has it stay small.
 impl Drop for TermTable {
     fn drop(self) {
-        let Self { decls: _, sorts: _, bodies: _, terms: _ } = self;
+        let Self {
+            decls: _,
+            sorts: _,
+            bodies: _,
+            terms: _,
+        } = self;
     }
 }
 

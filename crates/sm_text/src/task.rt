@@ -11,6 +11,10 @@ pub struct Task {
 // One call ends a value, and not one for each field: proofs of what has it stay small.
 impl Drop for Task {
     fn drop(self) {
-        let Self { shared: _, assumed: _, lists: _ } = self;
+        let Self {
+            shared: _,
+            assumed: _,
+            lists: _,
+        } = self;
     }
 }

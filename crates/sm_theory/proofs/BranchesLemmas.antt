@@ -7,8 +7,6 @@ use Rattle.sm_term.specs.Sorted.{AreFormsSorted}
 use Rattle.sm_theory.specs.Facts.{BranchFact, AreFacts, as_facts}
 use Rattle.sm_theory.specs.SortedFacts.{AreFactsSorted, AreFactsBelow}
 
-)
-
 -- they are sorted as facts exactly where they are sorted
 pub known_sorted : (sorts : Sorts) (fs : List Assertion) → AreFactsSorted sorts (as_facts fs) ↔ AreFormsSorted sorts fs
 known_sorted sorts [] = (λ (h : Unit {0}). h, λ (h : Unit {0}). h)

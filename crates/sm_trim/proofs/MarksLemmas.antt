@@ -13,8 +13,6 @@ marks_more at named needed m k marks more = (
   λ (n : ℕ) (less : n < at).
       more.1 n (let within : n < m.facts = let l = marks.0 in omega arith in within) ∙ ap (λ (b : Bool). named n || b) (marks.1 n less),
 )
-
-)
   where
     assoc : (a b c : Bool) → (a || (b || c)) ≡ ((a || b) || c)
     assoc true b c = refl

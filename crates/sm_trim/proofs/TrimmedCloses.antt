@@ -51,8 +51,6 @@ pub record Serves (needed : ℕ → Bool) (move : ℕ → ℕ) (facts others : L
   pub stand : (n : ℕ) → needed n ≡ true → StandsMoved move facts others n
   pub same : ((n : ℕ) → n < length facts → needed n ≡ true) → facts ≡ others
 
-}
-
 -- a line that names facts that are needed alone reads the same on the other branch
 line_alike : (needed : ℕ → Bool) (move : ℕ → ℕ) (at : ℕ) (facts others : List BranchFact) (line : CertificateLine) → at ≡ length facts →
     ((n : ℕ) → names_fact at line n ≡ true → needed n ≡ true) → Serves needed move facts others → ReadsAlike move facts others line

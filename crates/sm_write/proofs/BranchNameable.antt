@@ -12,8 +12,6 @@ use Rattle.sm_write.proofs.BuiltTerms.{sides_append, negate_sides, sides_more}
 use Rattle.sm_write.proofs.ReadyPlans.{term_more}
 
 module _ (sorts : Sorts) (states : List State) where
-  )
-
   -- formulas that compare what passes each test
   side_nameable : (f : Assertion) → ((test : Tree → Bool) → IsClosed sorts states test → EachSide (PassesTest test) f) →
       EachSide (Nameable sorts states) f

@@ -1,6 +1,6 @@
 -- What certificates stand for stays while a table widens.
 use Rattle.std.proofs.Common.{◌≡◌, List, [], ◌∷◌, ◌++◌, length, refl, ap, sym, subst, ◌∙◌, arith}
-use Rattle.sm_term.specs.TableLaws.{Widens}
+use Rattle.sm_term.specs.TableLaws.{ExtendsTable}
 use Rattle.sm_term.specs.Tables.{TableValue, trees_in}
 use Rattle.sm_theory.specs.declared.line.CertLine.{CertLine}
 use Rattle.sm_theory.specs.declared.line.CertLine.TheVariants as cert
@@ -15,7 +15,7 @@ use Rattle.sm_cert.specs.Views.{lines_before, tree_layer, end_layer, certificate
 use Rattle.sm_cert.proofs.CheckLemmas.{end_in, lines_of_end, within_parts}
 use Rattle.sm_plan.proofs.TablesWiden.{longer, tree_stays}
 
-module _ (v w : TableValue) (wider : Widens v w) where
+module _ (v w : TableValue) (wider : ExtendsTable v w) where
   -- a line
   pub line_stays : (l : CertLine) → IsLineWithin (length (trees_in v)) l → line_in (trees_in w) l ≡ line_in (trees_in v) l
   line_stays (cert.Both n) h = refl

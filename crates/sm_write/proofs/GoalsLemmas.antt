@@ -15,8 +15,6 @@ use Rattle.sm_write.proofs.CertSteps.{closes_good}
 use Rattle.sm_write.proofs.SteppedLemmas.{stepped_twice}
 use Rattle.sm_write.proofs.WalkedLemmas.{seen_kept}
 
-}
-
 -- one fewer
 pub goals_more : (v : TableValue) (old mid new : WriterValue) (count n : ℕ) (cs : List Certificate) (c : Certificate)
     (left : List Certificate) → LeavesGoals v old mid count cs n (c ∷ left) → n < count → ClosesBranch v mid new c → LeavesGoals v old new count cs (n + 1) left

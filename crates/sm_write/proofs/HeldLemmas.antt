@@ -59,8 +59,6 @@ one_there v w c x t n e s seen p store set shows sorted here = record {
   named = λ (a : IsAtom (tree_at (trees_in v) t.0)). (n, e);
 }
 
-}
-
 -- one that is named as it is present
 pub one_added : (v : TableValue) (old new : WriterValue) (c : Copy) (x number : ℕ) (t m : TermId) → AddsTerm old new t.0 (Cur number x) →
     ((q : ℕ) → new.names q ≡ update nat_eq old.names t.0 (Some m) q) → old.names t.0 ≡ None → number ≡ number_of c → x < 2 ^ 64 →
@@ -103,8 +101,6 @@ lt_is m n e = grind (arith, nat_tests)
 
 past_is : (m n : ℕ) → nat_lt m n ≡ false → n ≤ m
 past_is m n e = grind (arith, nat_tests)
-
-}
 
 -- one name more
 pub held_more : (v : TableValue) (old mid new : WriterValue) (c : Copy) (terms : List TermId) (x : ℕ) (t : TermId) →

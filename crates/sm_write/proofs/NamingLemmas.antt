@@ -48,13 +48,10 @@ small trees names terms are t n e =
     omega (arith, below, few)
 
 module _ (v : TableValue) (names : Names) (n : ℕ) where
-
   pub start_line : (x : Name) → x.0 < 2 ^ 64 → IsRow v n (row.Start x) → IsLineOf v names n (line.Start x.0)
   start_line x low at terms due are other = (
     low,
     tested_then (is_some (sorts_in v x.0)) BadNumber (Ok (Start x.0)) at.within ∙ ap (λ (t : Tree). Ok t) at.tree,
-  )
-
   )
 
   pub read_line : (a i b j : TermId) → IsRow v n (row.Read a i) → names a.0 ≡ Some b → names i.0 ≡ Some j →
@@ -103,10 +100,6 @@ module _ (v : TableValue) (names : Names) (n : ℕ) where
         ∙ (tested_then (has_sort (sorts_in v) (trees_in v) a Num && has_sort (sorts_in v) (trees_in v) i Num) (First head.T)
         (Ok (Add (tree_at (trees_in v) a.0) (tree_at (trees_in v) i.0))) at.fits
         ∙ ap (λ (t : Tree). Ok t) at.tree)),
-  )
-
-  )
-
   )
 
   -- parts

@@ -74,8 +74,6 @@ row_kept P sorts trees k st (row.Block counts f) q e h = h
 row_kept P sorts trees k st row.Dead q e h = tt
 row_kept P sorts trees k st row.End q e h = tt
 
-}
-
 -- what a node's line that was added leads to
 abbrev pub AddsNode : WriterValue → WriterValue → NodeLine → Type 0
 AddsNode old new line =

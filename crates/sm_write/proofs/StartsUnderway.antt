@@ -8,7 +8,7 @@ use Rattle.sm_term.specs.declared.term.TermId.{TermId}
 use Rattle.sm_term.specs.Assertions.{Assertion}
 use Rattle.sm_term.specs.Formulas.{assertion_in}
 use Rattle.sm_term.specs.Tables.{TableValue, trees_in, sorts_in}
-use Rattle.sm_term.specs.TableLaws.{Widens}
+use Rattle.sm_term.specs.TableLaws.{ExtendsTable}
 use Rattle.sm_term.specs.Terms.{Tree}
 use Rattle.sm_cert.specs.Certificates.{Certificate}
 use Rattle.sm_cert.specs.declared.tree.CertTree.{CertTree}
@@ -100,7 +100,7 @@ fresh_stands s trees x f = record {
   nodes = sym f.nodes;
 }
 
-pub starts_underway : (t : Parts) (v w : TableValue) → Widens v w → (x : WriterValue) (y : Waiting) (facts : List Assertion) (p : NumberedPlan)
+pub starts_underway : (t : Parts) (v w : TableValue) → ExtendsTable v w → (x : WriterValue) (y : Waiting) (facts : List Assertion) (p : NumberedPlan)
     (certs : List CertTree) → sorts_in v ≡ sort_of t.declared → IsTaskSorted (sort_of t.declared) (task_of t) →
     state_in (sorts_in w) (trees_in w) facts y.state ≡ start_state (task_of t) → numbered_at y.cursor ≡ p →
     IsPlanReady (sorts_in v) (trees_in v) p → AreTreesWithin (length (trees_in v)) certs →

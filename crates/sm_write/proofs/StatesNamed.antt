@@ -88,7 +88,3 @@ state_named v o a b m last stores first second third fourth s seen p st above re
             (back M (λ (x : ℕ) (atom : IsAtom (at_m x)). k.named x atom)));
       };
     }
-
-}
-
-}

@@ -1,13 +1,13 @@
 -- Certificates stay while a table widens.
 use Rattle.std.proofs.Common.{◌≡◌, List, [], ◌∷◌, length, map, refl}
 use Rattle.sm_term.specs.Tables.{TableValue, trees_in}
-use Rattle.sm_term.specs.TableLaws.{Widens}
+use Rattle.sm_term.specs.TableLaws.{ExtendsTable}
 use Rattle.sm_cert.specs.declared.tree.CertTree.{CertTree}
 use Rattle.sm_cert.specs.Views.{certificate_in, lines_of}
 use Rattle.sm_write.specs.TreesWithin.{AreTreesWithin}
 use Rattle.sm_write.proofs.CertificatesStay.{certificate_stays, lines_wider}
 
-module _ (v w : TableValue) (wider : Widens v w) where
+module _ (v w : TableValue) (wider : ExtendsTable v w) where
   pub trees_stay : (cs : List CertTree) → AreTreesWithin (length (trees_in v)) cs →
       map (certificate_in (trees_in w)) cs ≡ map (certificate_in (trees_in v)) cs
   trees_stay [] h = refl

@@ -9,7 +9,7 @@ use Rattle.sm_term.specs.declared.formula.Formula.{Formula}
 use Rattle.sm_term.specs.Assertions.{Assertion}
 use Rattle.sm_term.specs.Formulas.{numbered, assertion_in}
 use Rattle.sm_term.specs.Tables.{TableValue, trees_in, sorts_in}
-use Rattle.sm_term.specs.TableLaws.{Widens}
+use Rattle.sm_term.specs.TableLaws.{ExtendsTable}
 use Rattle.sm_cert.specs.Certificates.{Certificate}
 use Rattle.sm_cert.specs.declared.tree.CertTree.{CertTree}
 use Rattle.sm_cert.specs.Views.{certificate_in}
@@ -61,7 +61,7 @@ pub record AreGoalsLeft (s : Subject) (w : TableValue) (mid : WriterValue) (o : 
   pub stand : AllStandFor w waits (waits_with o.0.states.items o.1.items ++ xs)
   pub ready : AreWaiting s.sorts seen progress.nodes waits later []
 
-module _ (s : Subject) (v w : TableValue) (wider : Widens v w) (old mid : WriterValue) (x : Waiting) (xs : List Waiting)
+module _ (s : Subject) (v w : TableValue) (wider : ExtendsTable v w) (old mid : WriterValue) (x : Waiting) (xs : List Waiting)
     (o : Opened × Vec Cursor Global) (certs : List CertTree) (states : AreWaitingReady v (x ∷ xs))
     (within : AreTreesWithin (length (trees_in v)) certs) (written : OpeningWritten v w old mid x o) where
   abbrev here : Node

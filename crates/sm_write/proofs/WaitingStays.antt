@@ -2,7 +2,7 @@
 use Rattle.std.proofs.Common.{◌≡◌, ℕ, ◌<◌, Some, List, [], ◌∷◌, length, slice_get, sym, ap, ◌∙◌, arith}
 use Rattle.sm_term.specs.declared.term.TermId.{TermId}
 use Rattle.sm_term.specs.Tables.{TableValue, trees_in, tree_at}
-use Rattle.sm_term.specs.TableLaws.{Widens}
+use Rattle.sm_term.specs.TableLaws.{ExtendsTable}
 use Rattle.sm_term.specs.Terms.{Tree}
 use Rattle.sm_plan.specs.States.{State}
 use Rattle.sm_plan.proofs.TablesWiden.{longer, tree_stays, state_stays, state_ready}
@@ -17,7 +17,7 @@ use Rattle.sm_write.specs.Waiting.{Waits}
 use Rattle.sm_write.specs.Writers.{WriterValue, AreSeenNamed}
 use Rattle.sm_write.specs.Written.{Names, AreNames}
 
-module _ (v w : TableValue) (wider : Widens v w) where
+module _ (v w : TableValue) (wider : ExtendsTable v w) where
   -- numbers of terms
   names_stay : (names : Names) (terms : List Tree) → AreNames (trees_in v) names terms → AreNames (trees_in w) names terms
   names_stay names terms a = record { right = right; few = a.few }

@@ -1,7 +1,7 @@
 // Plans, node by node.
 ghost use Rattle.std.specs.Prelude.{◌≡◌, ◌<◌, ◌∷◌, ◌++◌, [], length, reverse, IfOk, OnOk};
 ghost use Rattle.sm_term.specs.Tables.{trees_in};
-ghost use Rattle.sm_term.specs.TableLaws.{Widens};
+ghost use Rattle.sm_term.specs.TableLaws.{ExtendsTable};
 ghost use Rattle.sm_proof.specs.Verdicts.{Subject};
 ghost use Rattle.sm_write.specs.TreesWithin.{AreTreesWithin};
 ghost use Rattle.sm_write.specs.Underway.{IsWaitingReady, AreWaitingReady, weight, waits_with};
@@ -36,7 +36,7 @@ fn write_opening<'a, 'p>(
     requires { IsWaitingReady table.old next }
     ensures written { IfOk result
         (OpeningWritten table.old table.new (value_of w.old) (value_of w.new) next.entry) }
-    ensures widens { Widens table.old table.new }
+    ensures widens { ExtendsTable table.old table.new }
 {
     // In a plan that is writable each node fits its state. So neither a node that has no row nor one
     // that opens nothing comes up, and what is left is want of memory.
@@ -96,7 +96,7 @@ fn write_node<'a, 'p, 'c>(
     // A node fewer waits.
     ensures fewer { OnOk result (weight (reverse waiting.new.items)
         < weight (next.entry ∷ reverse waiting.old.items)) }
-    ensures widens { Widens table.old table.new }
+    ensures widens { ExtendsTable table.old table.new }
 {
     let (opened, cursors) = write_opening(alloc, w, table, next)?;
     let left = write_goals(alloc, w, table, opened.goals.list.len(), certs)?;
@@ -118,7 +118,7 @@ pub(crate) fn write_nodes(
     ensures written { (s : Subject) →
         IsUnderway s table.old (value_of w.old) (first.entry ∷ []) certs.now →
         OnOk result (IsWhole s (value_of w.new)) }
-    ensures widens { Widens table.old table.new }
+    ensures widens { ExtendsTable table.old table.new }
 {
     let mut waiting = Vec::new(alloc);
     waiting.push(first)?;

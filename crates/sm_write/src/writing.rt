@@ -3,7 +3,7 @@ ghost use Rattle.std.specs.Prelude.{◌≡◌, ◌++◌, length, map, IfOk, OnEr
 ghost use Rattle.sm_syntax.specs.text.Parts.{sort_of, task_of};
 ghost use Rattle.sm_syntax.specs.trees.Programs.{declared_of};
 ghost use Rattle.sm_term.specs.Tables.{trees_in, sorts_in};
-ghost use Rattle.sm_term.specs.TableLaws.{Widens};
+ghost use Rattle.sm_term.specs.TableLaws.{ExtendsTable};
 ghost use Rattle.sm_cert.specs.Views.{certificate_in};
 ghost use Rattle.sm_plan.specs.SortedStates.{IsTaskSorted};
 ghost use Rattle.sm_plan.specs.Starts.{AreNumbered};
@@ -81,7 +81,7 @@ pub fn write_proof(
     ensures named { IfOk result (λ text. HasNamedLines text.items) }
 
     // Each term keeps its number.
-    ensures widens { Widens table.old table.new }
+    ensures widens { ExtendsTable table.old table.new }
     ensures err { OnErr result (trees_in table.new ≡ trees_in table.old) }
 {
     let len = table.len();
@@ -112,7 +112,7 @@ fn written_proof(
     ensures passes { IfOk result (λ text. Passes (parts_of task.now) text.items) }
     ensures version { IfOk result (λ text. HasVersion (parts_of task.now) text.items) }
     ensures named { IfOk result (λ text. HasNamedLines text.items) }
-    ensures widens { Widens table.old table.new }
+    ensures widens { ExtendsTable table.old table.new }
 {
     let programs = fill_all(alloc, task)?;
     let shared = &task.shared;

@@ -1,7 +1,7 @@
 -- What waits can be gone on from; the nodes that were met and those of what waits are all; and a table only widens.
 use Rattle.std.proofs.Common.{◌≡◌, List, length, reverse}
 use Rattle.sm_syntax.specs.text.Sorts.{Sorts}
-use Rattle.sm_term.specs.TableLaws.{Widens}
+use Rattle.sm_term.specs.TableLaws.{ExtendsTable}
 use Rattle.sm_term.specs.Terms.{Tree}
 use Rattle.sm_plan.specs.States.{State}
 use Rattle.sm_audit.specs.Walks.{AreWaitingReady, IsUnderway, nodes_with, weight}
@@ -18,7 +18,7 @@ invariant-loop-next l = record {
       (states : List State) →
       IsUnderway states l.initial.table (length l.initial.rows.items) l.initial.since.items (reverse l.initial.waiting.items) →
       IsUnderway states l.table (length l.rows.items) l.since.items (reverse l.waiting.items);
-  widens : Widens l.initial.table l.table;
+  widens : ExtendsTable l.initial.table l.table;
 }
 
 abbrev pub decreases-loop-next : goal.decreases-loop-next

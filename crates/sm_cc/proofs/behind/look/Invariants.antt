@@ -1,6 +1,6 @@
 -- The first places behind the ground were looked at.
 use Rattle.std.proofs.Common.{◌≡◌, ◌+◌, length}
-use Rattle.sm_cc.specs.Looked.{AreLooked}
+use Rattle.sm_cc.specs.Scanned.{AreLooked}
 use Rattle.sm_cc.proofs.behind.look.Given as goal
 
 abbrev pub invariant-loop-k : goal.invariant-loop-k

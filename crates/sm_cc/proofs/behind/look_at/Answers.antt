@@ -1,11 +1,11 @@
 -- The place was met for its keys, and has a label.
 use Rattle.std.proofs.Common.{◌≡◌, ◌∙◌, ◌+◌, ◌++◌, ℕ, true, Some, List, length, slice_get, refl, sym, ap, subst, arith}
 use Rattle.std.proofs.lemmas.Option.{slice_get_read}
-use Rattle.sm_cc.specs.declared.behind.Looked.{Looked}
+use Rattle.sm_cc.specs.declared.behind.Scanned.{Scanned}
 use Rattle.sm_cc.specs.declared.log.Equation.{Equation}
 use Rattle.sm_cc.specs.Firsts.{AreFirsts, met_at, row_key}
-use Rattle.sm_cc.specs.Ground.{AreBelow}
-use Rattle.sm_cc.specs.Looked.{alike_in, headed_in, any_two, IsMetFor, IsLabelFor, AreLooked}
+use Rattle.sm_cc.specs.BaseClasses.{AreBelow}
+use Rattle.sm_cc.specs.Scanned.{alike_in, headed_in, any_two, IsMetFor, IsLabelFor, AreLooked}
 use Rattle.sm_cc.specs.Regrounding.{over_at}
 use Rattle.sm_cc.proofs.LookedLemmas.{alike_behind, headed_behind, looked_more}
 use Rattle.sm_cc.proofs.behind.look_at.Goals as goal
@@ -40,7 +40,7 @@ returns-clause-looked c =
     let e : Equation = record { left = place; right = right; entry = 0 } in
     let alike_now = c.meet_over.new.met in
     let headed_now = c.meet_over-2.new.met in
-    let t : Looked =
+    let t : Scanned =
     record { roots = c.push.new.self; alike = alike_now; headed = headed_now; are_new = c.are_still_new-s.result } in
     let label = subst (λ (rs : List Equation). IsLabelFor rs place h a right) c.deref-2.ensures.value c.label_for-right.ensures.label in
     let news : t.are_new ≡ true →

@@ -1,7 +1,7 @@
 -- The first place that has the key, or no key.
 use Rattle.std.proofs.Common.{◌∙◌, ap}
 use Rattle.sm_cc.specs.Firsts.{met_at, key_told}
-use Rattle.sm_cc.specs.Looked.{any_two}
+use Rattle.sm_cc.specs.Scanned.{any_two}
 use Rattle.sm_cc.specs.Regrounding.{over_at}
 use Rattle.sm_cc.proofs.FirstsLemmas.{firsts_none}
 use Rattle.sm_cc.proofs.LookedLemmas.{meets_any, is_met, none_met}

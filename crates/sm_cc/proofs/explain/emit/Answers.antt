@@ -1,6 +1,6 @@
 use Rattle.std.proofs.Common.{length, refl, sym, subst, false, Some, ap, ◌∙◌, arith}
 use Rattle.std.proofs.lemmas.Option.{slice_get_read, slice_get-get_or}
-use Rattle.sm_cc.specs.declared.explain.Draft.{Draft}
+use Rattle.sm_cc.specs.declared.explain.StepsBuilder.{StepsBuilder}
 use Rattle.sm_cc.specs.Closures.{placed_of}
 use Rattle.sm_cc.specs.Steps.{AreBelow, numbers_in}
 use Rattle.sm_cc.proofs.MarksLemmas.{entry_below}
@@ -19,7 +19,7 @@ returns c =
     let e = c.index.result.now in
     let marks = c.args.marks.now in
     let mid = c.number_entry.new.draft in
-    let after : Draft = record mid { numbers = c.push-2.new.self } in
+    let after : StepsBuilder = record mid { numbers = c.push-2.new.self } in
     let here = slice_get_read old.entries.items (length old.entries.items) c.args.m e refl c.requires.there c.index.ensures in
     let marked = slice_get-get_or marks c.args.m false (omega (arith, c.requires.there, c.requires.count)) ∙ ap Some
     c.if-not-marks-m.false in

@@ -2,8 +2,8 @@
 use Rattle.std.proofs.Common.{IfSome, Option, List, subst, ◌∙◌}
 use Rattle.sm_term.specs.Tables.{trees_in}
 use Rattle.sm_cc.specs.declared.classes.GivenFact.{GivenFact}
-use Rattle.sm_cc.specs.declared.ground.Grounded.{Grounded}
-use Rattle.sm_cc.specs.Ground.{IsGround}
+use Rattle.sm_cc.specs.declared.ground.NumberedBase.{NumberedBase}
+use Rattle.sm_cc.specs.BaseClasses.{IsGround}
 use Rattle.sm_certify.specs.Given.{classes_by}
 use Rattle.sm_certify.proofs.GivenLemmas.{whole_before, given_of_terms}
 use Rattle.sm_certify.proofs.base.base_of.Goals as goal
@@ -24,7 +24,7 @@ of-requires-clause-given c =
 
 pub returns-in-Some : goal.returns-in-Some
 returns-in-Some c =
-    let found = subst (λ (o : Option Grounded). IfSome o (λ (g : Grounded). IsGround (record {
+    let found = subst (λ (o : Option NumberedBase). IfSome o (λ (g : NumberedBase). IsGround (record {
       table = c.args.table.now;
       terms = c.args.terms.now.list.items;
       given = c.deref.result.now;

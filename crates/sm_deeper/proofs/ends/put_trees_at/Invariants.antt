@@ -1,10 +1,10 @@
 -- The table has no fewer terms, and the node is one over it.
-use Rattle.sm_term.specs.TableLaws.{Widens}
+use Rattle.sm_term.specs.TableLaws.{ExtendsTable}
 use Rattle.sm_goals.specs.Nodes.{IsNodeOf}
 use Rattle.sm_deeper.proofs.ends.put_trees_at.Given as goal
 
 abbrev pub invariant-loop-goal : goal.invariant-loop-goal
 invariant-loop-goal l = record {
-  widens : Widens l.initial.table l.table;
+  widens : ExtendsTable l.initial.table l.table;
   node : IsNodeOf l.table l.facts.list.items l.node;
 }

@@ -1,6 +1,6 @@
 -- What is asked and what waits is what the plan asks.
 use Rattle.std.proofs.Common.{◌≡◌, reverse}
-use Rattle.sm_term.specs.TableLaws.{Widens}
+use Rattle.sm_term.specs.TableLaws.{ExtendsTable}
 use Rattle.sm_expand.specs.Walks.{outcome, weight, IsReadyWith}
 use Rattle.sm_expand.proofs.expanding.expand_at.Given as goal
 
@@ -11,7 +11,7 @@ invariant-loop-next l = record {
       outcome l.initial.table l.initial.walk.dues.items l.initial.walk.nodes l.initial.walk.path.list.items
       (reverse l.initial.walk.waiting.items)
       ≡ outcome l.table l.walk.dues.items l.walk.nodes l.walk.path.list.items (reverse l.walk.waiting.items);
-  widens : Widens l.initial.table l.table;
+  widens : ExtendsTable l.initial.table l.table;
 }
 
 abbrev pub decreases-loop-next : goal.decreases-loop-next

@@ -1,7 +1,7 @@
 -- The marks so far, and the table has no fewer terms; the node is one over it.
 use Rattle.std.proofs.Common.{◌≡◌, length, take}
 use Rattle.sm_term.specs.Tables.{trees_in, sorts_in}
-use Rattle.sm_term.specs.TableLaws.{Widens}
+use Rattle.sm_term.specs.TableLaws.{ExtendsTable}
 use Rattle.sm_expand.specs.Views.{due_in}
 use Rattle.sm_houdini.specs.Closing.{closes_at}
 use Rattle.sm_houdini.specs.Marks.{still_marked}
@@ -14,6 +14,6 @@ invariant-loop-mark l = record {
   marks : l.list.items
       ≡ still_marked (closes_at (sorts_in l.initial.table) l.reach (due_in (sorts_in l.initial.table) (trees_in l.initial.table) l.due)) 0
       (take l.mark-index l.marks);
-  widens : Widens l.initial.table l.table;
+  widens : ExtendsTable l.initial.table l.table;
   node : IsNodeOf l.table l.due.facts.list.items l.node;
 }

@@ -3,7 +3,7 @@ use Rattle.std.proofs.Common.{◌≡◌, ◌++◌, ◌*◌, ℕ, List, length, d
 use Rattle.sm_term.specs.declared.formula.Formula.{Formula}
 use Rattle.sm_term.specs.Assertions.{Assertion}
 use Rattle.sm_term.specs.Tables.{TableValue, trees_in, sorts_in}
-use Rattle.sm_term.specs.TableLaws.{Widens}
+use Rattle.sm_term.specs.TableLaws.{ExtendsTable}
 use Rattle.sm_plan.specs.Views.{forms_in}
 use Rattle.sm_expand.specs.declared.due.Due.{Due}
 use Rattle.sm_expand.specs.Views.{due_in}
@@ -17,7 +17,7 @@ use Rattle.sm_houdini.proofs.end_jobs.joined.Given as goal
 
 abbrev pub invariant-loop-run : goal.invariant-loop-run
 invariant-loop-run l = record {
-  collected : (v : TableValue) → Widens v l.initial.table → l.from ≡ length (trees_in v) → (reach : Reach) (due : Due) (asks : List Formula)
+  collected : (v : TableValue) → ExtendsTable v l.initial.table → l.from ≡ length (trees_in v) → (reach : Reach) (due : Due) (asks : List Formula)
       (goals : List (List Assertion × Assertion)) (ends : AreRunEnds v reach due asks l.runs) →
       AreCollected l.initial.table goals l.initial.trees.items →
       AreCollected l.table (goals ++ goals_with (due_in (sorts_in v) (trees_in v) due).facts (take (l.run-index * ends.size)
@@ -28,5 +28,5 @@ invariant-loop-run l = record {
       (forms_in (sorts_in v) (trees_in v) asks) later
       ≡ goals_outcome (walk (sorts_in v) reach (due_in (sorts_in v) (trees_in v) due).facts) due.node (l.run-index * ends.size)
       (drop (l.run-index * ends.size) (forms_in (sorts_in v) (trees_in v) asks)) later;
-  widens : Widens l.initial.table l.table;
+  widens : ExtendsTable l.initial.table l.table;
 }

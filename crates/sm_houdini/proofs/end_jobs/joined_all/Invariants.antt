@@ -1,7 +1,7 @@
 -- The dues so far close.
 use Rattle.std.proofs.Common.{◌≡◌, ℕ, [], drop, take}
 use Rattle.sm_term.specs.Tables.{trees_in, sorts_in}
-use Rattle.sm_term.specs.TableLaws.{Widens}
+use Rattle.sm_term.specs.TableLaws.{ExtendsTable}
 use Rattle.sm_expand.specs.Views.{dues_in}
 use Rattle.sm_replay.specs.declared.verdict.Verdict.{Verdict}
 use Rattle.sm_solve.specs.Walk.{walk}
@@ -20,5 +20,5 @@ invariant-loop-at l =
       closes : AreCollected l.initial.table [] l.initial.trees.items →
           (let whole : Outcome (ℕ × Verdict) = final_outcome (walk sorts l.fn.reach) ds in
           whole ≡ final_outcome (walk sorts l.fn.reach) (drop l.at ds));
-      widens : Widens l.initial.table l.table;
+      widens : ExtendsTable l.initial.table l.table;
     }

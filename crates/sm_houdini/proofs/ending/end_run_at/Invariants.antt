@@ -2,7 +2,7 @@
 use Rattle.std.proofs.Common.{◌≡◌, ◌+◌, ◌++◌, ℕ, List, drop, take}
 use Rattle.sm_term.specs.Assertions.{Assertion}
 use Rattle.sm_term.specs.Tables.{trees_in, sorts_in}
-use Rattle.sm_term.specs.TableLaws.{Widens}
+use Rattle.sm_term.specs.TableLaws.{ExtendsTable}
 use Rattle.sm_plan.specs.Views.{forms_in}
 use Rattle.sm_expand.specs.Views.{due_in}
 use Rattle.sm_replay.specs.declared.verdict.Verdict.{Verdict}
@@ -25,6 +25,6 @@ invariant-loop-goal l =
           (later : Outcome (ℕ × Verdict)) →
           goals_outcome (walk sorts l.reach d.facts) d.node l.first asks later
           ≡ goals_outcome (walk sorts l.reach d.facts) d.node (l.first + l.goal-index) (drop l.goal-index asks) later;
-      widens : Widens l.initial.table l.table;
+      widens : ExtendsTable l.initial.table l.table;
       shared : IsNodeOf l.table l.due.facts.list.items l.shared;
     }

@@ -1,7 +1,7 @@
 -- The marks after what is asked from a place on.
 use Rattle.std.proofs.Common.{◌≡◌, ℕ, ◌≤◌, Bool, ◌&&◌, length, drop}
 use Rattle.sm_term.specs.Tables.{trees_in, sorts_in}
-use Rattle.sm_term.specs.TableLaws.{Widens}
+use Rattle.sm_term.specs.TableLaws.{ExtendsTable}
 use Rattle.sm_expand.specs.Views.{dues_in}
 use Rattle.sm_sketch.specs.Choices.{Choice}
 use Rattle.sm_houdini.specs.Closing.{closing, owner_in}
@@ -16,7 +16,7 @@ invariant-loop-left l = record {
       ≡ all_marked (λ s i. passes s i && holds_but (is_left_out l.numbers l.jobs l.job) (closing (sorts_in l.initial.table) l.reach)
       (owner_in l.owners) l.left (drop l.left (dues_in (sorts_in l.initial.table) (trees_in l.initial.table) l.dues)) s i) 0 choice;
   fits : l.left ≤ length l.dues;
-  widens : Widens l.initial.table l.table;
+  widens : ExtendsTable l.initial.table l.table;
 }
 
 abbrev pub decreases-loop-left : goal.decreases-loop-left

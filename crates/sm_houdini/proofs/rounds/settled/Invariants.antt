@@ -2,7 +2,7 @@
 use Rattle.std.proofs.Common.{◌≡◌, ◌-◌}
 use Rattle.sm_syntax.specs.text.Parts.{sort_of}
 use Rattle.sm_syntax.specs.trees.Programs.{declared_of}
-use Rattle.sm_term.specs.TableLaws.{Widens}
+use Rattle.sm_term.specs.TableLaws.{ExtendsTable}
 use Rattle.sm_text.specs.Tasks.{parts_of}
 use Rattle.sm_sketch.specs.ChoiceViews.{choice_in}
 use Rattle.sm_houdini.specs.Closing.{closing}
@@ -18,5 +18,5 @@ invariant-loop g l = record {
       ≡ settled (next_round (closing (sort_of (declared_of l.task.shared.decls)) l.reach) (parts_of l.task))
       (total (choice_in l.initial.choice)) (choice_in l.initial.choice);
   before : IsAskedBefore l.table l.reach l.product.owners.items l.before;
-  widens : Widens l.initial.table l.table;
+  widens : ExtendsTable l.initial.table l.table;
 }

@@ -1,7 +1,7 @@
 -- Rounds have been made, the last terms of which are to be read yet.
 use Rattle.std.proofs.Common.{◌≡◌, ◌≤◌, ℕ, length, take, drop}
 use Rattle.sm_term.specs.Tables.{trees_in}
-use Rattle.sm_term.specs.TableLaws.{Grows}
+use Rattle.sm_term.specs.TableLaws.{AddsTerms}
 use Rattle.sm_list.specs.Branches.{with_all_reads}
 use Rattle.sm_terms.specs.Listing.{trees_at, AreBelow}
 use Rattle.sm_list.proofs.ReadsLemmas.{AllRead, rank_of}
@@ -13,7 +13,7 @@ invariant-loop-from l =
     record {
       inside : l.from ≤ length l.listed.keys;
       listed : AreBelow (length (trees_in l.table)) l.listed.keys;
-      grows : Grows l.fn.table l.table;
+      grows : AddsTerms l.fn.table l.table;
       rounds : (r : ℕ) × (seen ≡ with_all_reads r (trees_at (trees_in l.fn.table) l.fn.listed.keys));
       done : AllRead seen (take l.from seen);
     }

@@ -2,7 +2,7 @@
 use Rattle.std.proofs.Common.{◌≡◌, ◌++◌, List, length, drop}
 use Rattle.sm_term.specs.Terms.{Tree}
 use Rattle.sm_term.specs.Tables.{trees_in}
-use Rattle.sm_term.specs.TableLaws.{Grows}
+use Rattle.sm_term.specs.TableLaws.{AddsTerms}
 use Rattle.sm_list.specs.Branches.{with_reads}
 use Rattle.sm_terms.specs.Listing.{trees_at, AreBelow}
 use Rattle.sm_list.proofs.reads.list_round.Given as goal
@@ -13,7 +13,7 @@ invariant-loop-k l =
     let now = trees_at (trees_in l.table) l.listed.keys in
     record {
       listed : AreBelow (length (trees_in l.table)) l.listed.keys;
-      grows : Grows l.fn.table l.table;
+      grows : AddsTerms l.fn.table l.table;
       longer : (more : List Tree) × (now ≡ seen ++ more);
       rest : with_reads (drop l.k seen) now ≡ with_reads (drop l.fn.from seen) seen;
     }

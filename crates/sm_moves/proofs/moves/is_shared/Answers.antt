@@ -5,7 +5,7 @@ use Rattle.sm_syntax.specs.claim.ConflictFree.{Copy}
 use Rattle.sm_syntax.specs.trees.Copies.{copy_named, of_copy}
 use Rattle.sm_syntax.specs.trees.Views.{statement_of}
 use Rattle.sm_term.specs.SameTerms.{same_code}
-use Rattle.sm_plan.specs.declared.rest.Rest.{Rest}
+use Rattle.sm_plan.specs.declared.rest.Continuation.{Continuation}
 use Rattle.sm_plan.specs.Copies.{each, has}
 use Rattle.sm_plan.specs.Masks.{set_of}
 use Rattle.sm_plan.specs.Statements.{front}
@@ -20,7 +20,7 @@ returns-in-Some-first c =
     let s = c.in-Some-first.statement.now in
     let code : Copy → Code = λ (d : Copy). front 1 (rest_code (of_copy c.args.rests.now d)) in
     let first : code f ≡ statement_of s End =
-    ap (λ (r : Rest). front 1 (rest_code r)) (sym c.get.ensures) ∙ front_is (rest_code c.get.result.now) s c.in-Some-first.ensures in
+    ap (λ (r : Continuation). front 1 (rest_code r)) (sym c.get.ensures) ∙ front_is (rest_code c.get.result.now) s c.in-Some-first.ensures in
     c.all_agree.ensures
     ∙ ap (λ (k : Code). each (λ (d : Copy). not (has set d) || same_code k (code d))) (sym first)
     ∙ sym (shared_by set code f (sym c.in-Some.ensures))

@@ -1,6 +1,6 @@
 -- The table has grown.
-use Rattle.sm_term.specs.TableLaws.{Grows}
+use Rattle.sm_term.specs.TableLaws.{AddsTerms}
 use Rattle.sm_observed.proofs.guards.guards_of.Given as goal
 
 abbrev pub invariant-loop-copy : goal.invariant-loop-copy
-invariant-loop-copy l = Grows l.fn.table l.table
+invariant-loop-copy l = AddsTerms l.fn.table l.table

@@ -2,14 +2,14 @@
 use Rattle.std.proofs.Common.{◌≡◌, ◌+◌, ◌*◌, None, nat_eq}
 use Rattle.std.specs.HashMap.{get}
 use Rattle.sm_term.specs.Tables.{trees_in}
-use Rattle.sm_term.specs.TableLaws.{Grows}
+use Rattle.sm_term.specs.TableLaws.{AddsTerms}
 use Rattle.sm_plan.specs.Filling.{AreKnown, IsWay, AreOpen, unknown_below}
 use Rattle.sm_plan.specs.Views.{stores_in}
 use Rattle.sm_plan.proofs.filling.walked.Given as goal
 
 abbrev pub invariant-walk : goal.invariant-walk
 invariant-walk l = record {
-  grows : Grows l.fn.table l.table;
+  grows : AddsTerms l.fn.table l.table;
   kept : AreKnown l.table (stores_in (trees_in l.table) l.stores) (get nat_eq l.known);
   way : IsWay l.fn.t.0 l.waiting.items l.next;
   unmade : AreOpen (get nat_eq l.known) l.waiting.items;

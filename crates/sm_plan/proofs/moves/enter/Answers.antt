@@ -4,7 +4,7 @@ use Rattle.sm_syntax.specs.claim.Syntax.{Code, append}
 use Rattle.sm_syntax.specs.claim.ConflictFree.{Copy}
 use Rattle.sm_syntax.specs.trees.Copies.{copy_named, of_copy}
 use Rattle.sm_syntax.specs.trees.Views.{code_of}
-use Rattle.sm_plan.specs.declared.rest.Rest.{Rest}
+use Rattle.sm_plan.specs.declared.rest.Continuation.{Continuation}
 use Rattle.sm_plan.specs.Copies.{with_copy}
 use Rattle.sm_plan.specs.Statements.{rest_after}
 use Rattle.sm_plan.specs.Views.{rest_code}
@@ -14,13 +14,13 @@ use Rattle.sm_plan.proofs.moves.enter.Goals as goal
 pub returns : goal.returns
 returns c = λ (d : Copy).
     let k = copy_named c.args.copy in
-    let old : Copy → Rest = of_copy c.args.rests.now in
-    let rest : Rest = c.put_before.new.self in
+    let old : Copy → Continuation = of_copy c.args.rests.now in
+    let rest : Continuation = c.put_before.new.self in
     let first : of_copy c.exchange.new.all ≡ with_copy old k c.empty-rest.result = c.exchange.ensures.all in
     let second : of_copy c.exchange-2.new.all ≡ with_copy (of_copy c.exchange.new.all) k rest = c.exchange-2.ensures.all in
     let was : c.exchange.new.one ≡ old k = c.exchange.ensures.one in
     let code : rest_code rest ≡ append (code_of c.args.block.now) (rest_after 1 (rest_code (old k))) =
     c.in_ok-put_before.ensures
-    ∙ ap (append (code_of c.args.block.now)) (c.drop_front.ensures ∙ ap (λ (r : Rest). rest_after 1 (rest_code r)) was) in
+    ∙ ap (append (code_of c.args.block.now)) (c.drop_front.ensures ∙ ap (λ (r : Continuation). rest_after 1 (rest_code r)) was) in
     exchanged rest_code old (of_copy c.exchange.new.all) (of_copy c.exchange-2.new.all) k c.empty-rest.result rest first second d
     ∙ ap (λ (r : Code). with_copy (λ (e : Copy). rest_code (old e)) k r d) code

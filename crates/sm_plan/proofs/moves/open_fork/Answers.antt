@@ -13,7 +13,7 @@ use Rattle.sm_term.specs.Formulas.{numbered, contrary, assertion_in}
 use Rattle.sm_term.specs.Symbolic.{form_of}
 use Rattle.sm_term.specs.SymStores.{store_in}
 use Rattle.sm_term.specs.Tables.{trees_in, sorts_in}
-use Rattle.sm_plan.specs.declared.rest.Rest.{Rest}
+use Rattle.sm_plan.specs.declared.rest.Continuation.{Continuation}
 use Rattle.sm_plan.specs.declared.state.SymState.{SymState}
 use Rattle.sm_plan.specs.Copies.{with_copy}
 use Rattle.sm_plan.specs.Nodes as plan
@@ -35,7 +35,7 @@ returns-clause-opened c =
     let wider = widens_grown v w c.form_of.ensures.grows in
     let st : SymState = c.args.state in
     let k = copy_named c.args.copy in
-    let rest : Rest = of_copy st.rests k in
+    let rest : Continuation = of_copy st.rests k in
     let store : SymStore = of_copy st.stores k in
     let b = condition_of c.in-Some.guard.now in
     let first = code_of c.in-Some.first.now in
@@ -44,7 +44,7 @@ returns-clause-opened c =
     let got : c.get.result.now ≡ rest = c.get.ensures in
     let chosen : rest_code c.get.result.now ≡ If b first second (rest_after 1 (rest_code c.get.result.now)) = c.in-Some.ensures in
     let begins : rest_code rest ≡ If b first second left =
-    subst (λ (r : Rest). rest_code r ≡ If b first second (rest_after 1 (rest_code r))) got chosen in
+    subst (λ (r : Continuation). rest_code r ≡ If b first second (rest_after 1 (rest_code r))) got chosen in
     let well : IsWellSorted (sorts_in v) (If b first second left) = subst (IsWellSorted (sorts_in v)) begins (c.requires.rests k) in
     let of_store : c.get-2.result.now ≡ store = c.get-2.ensures in
     let f : Formula = c.in_ok-fact.fact in

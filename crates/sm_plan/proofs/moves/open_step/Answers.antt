@@ -9,7 +9,7 @@ use Rattle.sm_plan.specs.Successors.{stepped}
 use Rattle.sm_plan.specs.Views.{rest_code, forms_in, state_in}
 use Rattle.sm_plan.specs.Copies.{with_copy}
 use Rattle.sm_plan.specs.ReadyStates.{AreFormsReady}
-use Rattle.sm_plan.specs.declared.rest.Rest.{Rest}
+use Rattle.sm_plan.specs.declared.rest.Continuation.{Continuation}
 use Rattle.sm_plan.specs.declared.state.SymState.{SymState}
 use Rattle.sm_term.specs.declared.symbolic.SymStore.{SymStore}
 use Rattle.sm_term.specs.declared.formula.Formula.{Formula}
@@ -30,8 +30,8 @@ returns-clause-opened c =
       is_final = st.is_final;
     } in
     let k = copy_named c.args.copy in
-    let rest : Rest = c.exchange.new.one in
-    let new_rest : Rest = c.step.new.rest in
+    let rest : Continuation = c.exchange.new.one in
+    let new_rest : Continuation = c.step.new.rest in
     let store : SymStore = c.exchange-2.new.one in
     let new_store : SymStore = c.step.new.store in
     let rests_1 : of_copy c.exchange.new.all ≡ with_copy (of_copy st.rests) k c.empty-rest.result = c.exchange.ensures.all in

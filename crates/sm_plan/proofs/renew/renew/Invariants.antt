@@ -5,7 +5,7 @@ use Rattle.sm_syntax.specs.trees.Copies.{copy_named}
 use Rattle.sm_term.specs.Rows.{names_in_list}
 use Rattle.sm_term.specs.SymStores.{store_in, IsStoreWithin}
 use Rattle.sm_term.specs.Tables.{trees_in}
-use Rattle.sm_term.specs.TableLaws.{Grows}
+use Rattle.sm_term.specs.TableLaws.{AddsTerms}
 use Rattle.sm_plan.specs.Heads.{with_new}
 use Rattle.sm_plan.proofs.renew.renew.Given as goal
 
@@ -16,5 +16,5 @@ invariant-loop-name l = record {
       (store_in (trees_in l.fn.table) l.fn.store);
   within : IsStoreWithin (length (trees_in l.table)) l.store;
   len : length l.store.list.items ≡ length l.fn.store.list.items;
-  grows : Grows l.fn.table l.table;
+  grows : AddsTerms l.fn.table l.table;
 }

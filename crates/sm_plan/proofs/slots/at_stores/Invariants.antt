@@ -3,7 +3,7 @@ use Rattle.std.proofs.Common.{◌≡◌, length, nat_eq, take}
 use Rattle.std.specs.HashMap.{get}
 use Rattle.sm_term.specs.Slots.{all_at_stores}
 use Rattle.sm_term.specs.Tables.{trees_in, sorts_in}
-use Rattle.sm_term.specs.TableLaws.{Grows}
+use Rattle.sm_term.specs.TableLaws.{AddsTerms}
 use Rattle.sm_plan.specs.Filling.{AreKnown}
 use Rattle.sm_plan.specs.Views.{forms_in, stores_in}
 use Rattle.sm_plan.proofs.FillingForms.{AreFormsWithin}
@@ -11,7 +11,7 @@ use Rattle.sm_plan.proofs.slots.at_stores.Given as goal
 
 abbrev pub invariant-loop-form : goal.invariant-loop-form
 invariant-loop-form l = record {
-  grows : Grows l.fn.table l.table;
+  grows : AddsTerms l.fn.table l.table;
   known : AreKnown l.table (stores_in (trees_in l.table) l.stores) (get nat_eq l.known);
   made : forms_in (sorts_in l.table) (trees_in l.table) l.list.items
       ≡ all_at_stores (stores_in (trees_in l.fn.table) l.stores)

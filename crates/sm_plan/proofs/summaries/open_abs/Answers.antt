@@ -8,7 +8,7 @@ use Rattle.sm_syntax.specs.trees.Views.{code_of}
 use Rattle.sm_term.specs.declared.symbolic.SymStore.{SymStore}
 use Rattle.sm_term.specs.SymStores.{store_in}
 use Rattle.sm_term.specs.Tables.{trees_in, sorts_in}
-use Rattle.sm_plan.specs.declared.rest.Rest.{Rest}
+use Rattle.sm_plan.specs.declared.rest.Continuation.{Continuation}
 use Rattle.sm_plan.specs.declared.state.SymState.{SymState}
 use Rattle.sm_plan.specs.Copies.{with_copy}
 use Rattle.sm_plan.specs.Nodes as plan
@@ -31,7 +31,7 @@ summarize-requires-clause-well c =
     let code : Code = rest_code (of_copy st.rests k) in
     let at : c.get-2.result.now ≡ of_copy st.rests k = c.get-2.ensures in
     let block_is : code_of c.in_ok-block.block ≡ front n code = c.in_ok-block.ensures ∙ c.in_ok-done.ensures
-    ∙ ap (λ (r : Rest). front n (rest_code r)) at in
+    ∙ ap (λ (r : Continuation). front n (rest_code r)) at in
     let well = front_well (sorts_in v) n code (c.requires.rests k) in
     subst (IsWellSorted (sorts_in v)) (sym block_is) well
 
@@ -44,7 +44,7 @@ false_guard-requires-clause-well c =
     let code : Code = rest_code (of_copy st.rests k) in
     let at : c.get-2.result.now ≡ of_copy st.rests k = c.get-2.ensures in
     let block_is : code_of c.in_ok-block.block ≡ front n code = c.in_ok-block.ensures ∙ c.in_ok-done.ensures
-    ∙ ap (λ (r : Rest). front n (rest_code r)) at in
+    ∙ ap (λ (r : Continuation). front n (rest_code r)) at in
     let well = front_well (sorts_in v) n code (c.requires.rests k) in
     let first = c.summarize.ensures.widens in
     let well_there = subst (λ (f : Sorts). IsWellSorted f (front n code)) (sym first.sorts) well in
@@ -60,7 +60,7 @@ false_guard-requires-clause-ready c =
     let code : Code = rest_code (of_copy st.rests k) in
     let at : c.get-2.result.now ≡ of_copy st.rests k = c.get-2.ensures in
     let block_is : code_of c.in_ok-block.block ≡ front n code = c.in_ok-block.ensures ∙ c.in_ok-done.ensures
-    ∙ ap (λ (r : Rest). front n (rest_code r)) at in
+    ∙ ap (λ (r : Continuation). front n (rest_code r)) at in
     let well = front_well (sorts_in v) n code (c.requires.rests k) in
     let u = c.summarize.new.table in
     let store : SymStore = c.in_ok-store.store in
@@ -84,7 +84,7 @@ returns-clause-opened c =
     let code : Code = rest_code (of_copy st.rests k) in
     let at : c.get-2.result.now ≡ of_copy st.rests k = c.get-2.ensures in
     let block_is : code_of c.in_ok-block.block ≡ front n code = c.in_ok-block.ensures ∙ c.in_ok-done.ensures
-    ∙ ap (λ (r : Rest). front n (rest_code r)) at in
+    ∙ ap (λ (r : Continuation). front n (rest_code r)) at in
     let well = front_well (sorts_in v) n code (c.requires.rests k) in
     let u = c.summarize.new.table in
     let store : SymStore = c.in_ok-store.store in
@@ -112,7 +112,7 @@ returns-clause-opened c =
     let o = c.in_ok-opened.opened in
     let passes : c.can_pass.result ≡ true = cc in
     let test : (nat_le 1 n && is_long n code) ≡ true =
-    sym (c.can_pass.ensures ∙ ap (λ (r : Rest). nat_le 1 n && is_long n (rest_code r)) c.get.ensures) ∙ passes in
+    sym (c.can_pass.ensures ∙ ap (λ (r : Continuation). nat_le 1 n && is_long n (rest_code r)) c.get.ensures) ∙ passes in
     opening_states v z st _ o c.in_ok-opened.ensures.goals c.in_ok-opened.ensures.asking
     (c.in_ok-opened.ensures.ready (sorts_in z) (trees_in z)
     (summary_ready v u first st k n store c.requires store_is within len z second next rests stores refl refl) c.in_ok-more.ensures.ready)

@@ -16,7 +16,7 @@ use Rattle.sm_term.specs.Sorted.{IsDeclaredIn}
 use Rattle.sm_term.specs.Symbolic.{SymbolicStore, with_term}
 use Rattle.sm_term.specs.SymStores.{store_in}
 use Rattle.sm_term.specs.Tables.{trees_in, sorts_in, AreBefore}
-use Rattle.sm_term.specs.TableLaws.{Widens}
+use Rattle.sm_term.specs.TableLaws.{ExtendsTable}
 use Rattle.sm_term.specs.Terms.{Fun}
 use Rattle.sm_term.proofs.AdoptionLemmas.{widens}
 use Rattle.sm_term.proofs.TablesLemmas.{grows-twice, grows-not}
@@ -34,9 +34,9 @@ summary-requires-clause-declared c =
     let b = c.body.new.self in
     let s = c.args.store.now in
     let code = code_of c.args.block.now in
-    let base : Widens v b = widens v b c.body.ensures.rows ([], c.body.ensures.trees ∙ sym (append-nil (trees_in v))) in
+    let base : ExtendsTable v b = widens v b c.body.ensures.rows ([], c.body.ensures.trees ∙ sym (append-nil (trees_in v))) in
     let u = c.loop-x.table in
-    let wider : Widens v u = widens_twice v b u base (widens_grown b u c.loop-x.invariant.grows) in
+    let wider : ExtendsTable v u = widens_twice v b u base (widens_grown b u c.loop-x.invariant.grows) in
     let ns : List Name = c.deref-x-items.result.now in
     let i = c.loop-x.x-index in
     let x = (get_or ns i (record { 0 = 0 })).0 in
@@ -52,9 +52,9 @@ summary-requires-clause-ready c =
     let b = c.body.new.self in
     let s = c.args.store.now in
     let code = code_of c.args.block.now in
-    let base : Widens v b = widens v b c.body.ensures.rows ([], c.body.ensures.trees ∙ sym (append-nil (trees_in v))) in
+    let base : ExtendsTable v b = widens v b c.body.ensures.rows ([], c.body.ensures.trees ∙ sym (append-nil (trees_in v))) in
     let u = c.loop-x.table in
-    let wider : Widens v u = widens_twice v b u base (widens_grown b u c.loop-x.invariant.grows) in
+    let wider : ExtendsTable v u = widens_twice v b u base (widens_grown b u c.loop-x.invariant.grows) in
     let ns : List Name = c.deref-x-items.result.now in
     let i = c.loop-x.x-index in
     let x = (get_or ns i (record { 0 = 0 })).0 in
@@ -70,9 +70,9 @@ summary-requires-clause-full c =
     let b = c.body.new.self in
     let s = c.args.store.now in
     let code = code_of c.args.block.now in
-    let base : Widens v b = widens v b c.body.ensures.rows ([], c.body.ensures.trees ∙ sym (append-nil (trees_in v))) in
+    let base : ExtendsTable v b = widens v b c.body.ensures.rows ([], c.body.ensures.trees ∙ sym (append-nil (trees_in v))) in
     let u = c.loop-x.table in
-    let wider : Widens v u = widens_twice v b u base (widens_grown b u c.loop-x.invariant.grows) in
+    let wider : ExtendsTable v u = widens_twice v b u base (widens_grown b u c.loop-x.invariant.grows) in
     let ns : List Name = c.deref-x-items.result.now in
     let i = c.loop-x.x-index in
     let x = (get_or ns i (record { 0 = 0 })).0 in
@@ -88,9 +88,9 @@ put-requires c =
     let b = c.body.new.self in
     let s = c.args.store.now in
     let code = code_of c.args.block.now in
-    let base : Widens v b = widens v b c.body.ensures.rows ([], c.body.ensures.trees ∙ sym (append-nil (trees_in v))) in
+    let base : ExtendsTable v b = widens v b c.body.ensures.rows ([], c.body.ensures.trees ∙ sym (append-nil (trees_in v))) in
     let u = c.loop-x.table in
-    let wider : Widens v u = widens_twice v b u base (widens_grown b u c.loop-x.invariant.grows) in
+    let wider : ExtendsTable v u = widens_twice v b u base (widens_grown b u c.loop-x.invariant.grows) in
     let ns : List Name = c.deref-x-items.result.now in
     let i = c.loop-x.x-index in
     let x = (get_or ns i (record { 0 = 0 })).0 in
@@ -106,7 +106,7 @@ loop-x-init c =
     let b = c.body.new.self in
     let s = c.args.store.now in
     let code = code_of c.args.block.now in
-    let base : Widens v b = widens v b c.body.ensures.rows ([], c.body.ensures.trees ∙ sym (append-nil (trees_in v))) in
+    let base : ExtendsTable v b = widens v b c.body.ensures.rows ([], c.body.ensures.trees ∙ sym (append-nil (trees_in v))) in
     let same : c.in_ok-made.made.list.items ≡ s.list.items = c.in_ok-made.ensures in
     record {
       grows = grows-not b b refl;
@@ -121,9 +121,9 @@ loop-x-preserved c =
     let b = c.body.new.self in
     let s = c.args.store.now in
     let code = code_of c.args.block.now in
-    let base : Widens v b = widens v b c.body.ensures.rows ([], c.body.ensures.trees ∙ sym (append-nil (trees_in v))) in
+    let base : ExtendsTable v b = widens v b c.body.ensures.rows ([], c.body.ensures.trees ∙ sym (append-nil (trees_in v))) in
     let u = c.loop-x.table in
-    let wider : Widens v u = widens_twice v b u base (widens_grown b u c.loop-x.invariant.grows) in
+    let wider : ExtendsTable v u = widens_twice v b u base (widens_grown b u c.loop-x.invariant.grows) in
     let ns : List Name = c.deref-x-items.result.now in
     let i = c.loop-x.x-index in
     let x = (get_or ns i (record { 0 = 0 })).0 in

@@ -3,13 +3,13 @@ use Rattle.std.proofs.Common.{◌≡◌, length, take}
 use Rattle.sm_syntax.specs.trees.Views.{code_of}
 use Rattle.sm_term.specs.SymStores.{store_in, IsStoreWithin}
 use Rattle.sm_term.specs.Tables.{trees_in}
-use Rattle.sm_term.specs.TableLaws.{Grows}
+use Rattle.sm_term.specs.TableLaws.{AddsTerms}
 use Rattle.sm_plan.proofs.SummariesLemmas.{numbers, summed}
 use Rattle.sm_plan.proofs.summaries.summarize.Given as goal
 
 abbrev pub invariant-loop-x : goal.invariant-loop-x
 invariant-loop-x l = record {
-  grows : Grows l.initial.table l.table;
+  grows : AddsTerms l.initial.table l.table;
   made : store_in (trees_in l.table) l.made ≡ summed (code_of l.block) (store_in (trees_in l.fn.table) l.fn.store)
       (take l.x-index (numbers l.x-items));
   within : IsStoreWithin (length (trees_in l.table)) l.made;

@@ -3,7 +3,7 @@ use Rattle.std.proofs.Common.{◌≡◌, ◌==◌, ◌+◌, ◌*◌, ℕ, bit_an
 use Rattle.std.specs.List.{filter, range_with_len}
 use Rattle.sm_syntax.specs.text.Parts.{Parts}
 use Rattle.sm_term.specs.Tables.{trees_in, sorts_in}
-use Rattle.sm_term.specs.TableLaws.{Widens}
+use Rattle.sm_term.specs.TableLaws.{ExtendsTable}
 use Rattle.sm_plan.specs.Masks.{set_of}
 use Rattle.sm_moves.specs.Rests.{codes_in}
 use Rattle.sm_template.specs.Sites.{IsSiteOf}
@@ -41,5 +41,5 @@ invariant-draw_turns-loop-smaller l = record {
       IsTaken l.initial.room l.room
       (map (λ (m : ℕ). turn_of t (codes_in l.rests) (set_of m)) (filter (λ (m : ℕ). bit_and m l.left == m) (range_with_len 1 l.smaller)));
   room : IsRoom l.room;
-  widens : Widens l.initial.table l.table;
+  widens : ExtendsTable l.initial.table l.table;
 }

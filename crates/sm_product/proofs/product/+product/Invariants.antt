@@ -6,7 +6,7 @@ use Rattle.std.specs.List.{filter, range_with_len}
 use Rattle.sm_syntax.specs.claim.Syntax.{End}
 use Rattle.sm_syntax.specs.trees.Views.{statement_of, code_of}
 use Rattle.sm_term.specs.Tables.{trees_in, sorts_in}
-use Rattle.sm_term.specs.TableLaws.{Widens}
+use Rattle.sm_term.specs.TableLaws.{ExtendsTable}
 use Rattle.sm_text.specs.Tasks.{parts_of}
 use Rattle.sm_plan.specs.Masks.{set_of}
 use Rattle.sm_plan.specs.Views.{code_before}
@@ -57,7 +57,7 @@ invariant-product_block-loop-i l = record {
       ≡ product (parts_of l.cx.task.now) (code_before (drop l.i l.block.shared.now.list.items) End) (set_of l.set)
       (sketch_in (sorts_in l.initial.table) (trees_in l.initial.table) l.initial.sketch);
   ready : IsSketchReady (sorts_in l.table) (trees_in l.table) l.sketch;
-  widens : Widens l.initial.table l.table;
+  widens : ExtendsTable l.initial.table l.table;
 }
 
 abbrev pub decreases-product_block-loop-i : goal.decreases-product_block-loop-i
@@ -69,5 +69,5 @@ invariant-turns-loop-smaller l = record {
       ≡ map (λ (m : ℕ). product (parts_of l.cx.task.now) (code_of l.body.shared.now) (set_of m) ends)
       (filter (λ (m : ℕ). bit_and m l.set == m) (range_with_len 1 l.smaller));
   ready : AreSketchesReady (sorts_in l.table) (trees_in l.table) l.turns.items;
-  widens : Widens l.initial.table l.table;
+  widens : ExtendsTable l.initial.table l.table;
 }

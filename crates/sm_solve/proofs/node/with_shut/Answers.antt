@@ -5,7 +5,7 @@ use Rattle.sm_term.specs.declared.formula.Formula.{Formula}
 use Rattle.sm_term.specs.Assertions.{Yes}
 use Rattle.sm_term.specs.Sorted.{AreFormsSorted}
 use Rattle.sm_term.specs.Tables.{trees_in, sorts_in}
-use Rattle.sm_cc.specs.Ground.{IsLedBy}
+use Rattle.sm_cc.specs.BaseClasses.{IsLedBy}
 use Rattle.sm_certify.specs.Given.{classes_by}
 use Rattle.sm_list.specs.Parts.{all_numbered, assertions_in}
 use Rattle.sm_solve.specs.Naming.{AreNamed}

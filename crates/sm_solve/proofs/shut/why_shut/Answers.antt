@@ -8,7 +8,7 @@ use Rattle.sm_judge.specs.Labelled.{AreLabels}
 use Rattle.sm_judge.specs.Seeing.{seen_in}
 use Rattle.sm_judge.specs.declared.eliminating.ByForms.{ByForms}
 use Rattle.sm_judge.specs.Refutations.{TellsForms}
-use Rattle.sm_solve.specs.Shut.{IsShutBy}
+use Rattle.sm_solve.specs.Inconsistent.{IsShutBy}
 use Rattle.sm_judge.specs.Forms.{Walked, Closes, by_forms, forms_of}
 use Rattle.sm_solve.proofs.BranchLabelsLemmas.{labels_of_branch}
 use Rattle.sm_certify.proofs.GivenLemmas.{whole_before}

@@ -6,7 +6,7 @@ use Rattle.sm_list.specs.Branches.{with_parts}
 use Rattle.sm_certify.specs.Given.{branch_of}
 use Rattle.sm_certify.specs.Given.{seen_by}
 use Rattle.sm_list.specs.Parts.{all_numbered, assertions_in}
-use Rattle.sm_solve.specs.Shut.{IsShutBy}
+use Rattle.sm_solve.specs.Inconsistent.{IsShutBy}
 use Rattle.sm_judge.specs.Forms.{by_forms}
 use Rattle.sm_solve.proofs.ShutLemmas.{closed_walks, closed_below, sums_later}
 use Rattle.sm_solve.proofs.still_shut.is_still_shut.Goals as goal

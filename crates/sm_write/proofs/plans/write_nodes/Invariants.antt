@@ -1,7 +1,7 @@
 -- What waits can be written, and a table only widens.
 use Rattle.std.proofs.Common.{length, reverse}
 use Rattle.sm_term.specs.Tables.{trees_in}
-use Rattle.sm_term.specs.TableLaws.{Widens}
+use Rattle.sm_term.specs.TableLaws.{ExtendsTable}
 use Rattle.sm_proof.specs.Verdicts.{Subject}
 use Rattle.sm_write.specs.TreesWithin.{AreTreesWithin}
 use Rattle.sm_write.specs.Underway.{AreWaitingReady, weight, IsUnderway}
@@ -15,7 +15,7 @@ invariant-loop-next l = record {
   underway :
       (s : Subject) → IsUnderway s l.initial.table (value_of l.initial.w) (reverse l.initial.waiting.items) l.initial.left →
       IsUnderway s l.table (value_of l.w) (reverse l.waiting.items) l.left;
-  widens : Widens l.initial.table l.table;
+  widens : ExtendsTable l.initial.table l.table;
 }
 
 abbrev pub decreases-loop-next : goal.decreases-loop-next

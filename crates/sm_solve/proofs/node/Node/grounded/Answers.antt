@@ -6,8 +6,8 @@ use Rattle.sm_term.specs.declared.formula.Formula.{Formula}
 use Rattle.sm_term.specs.declared.term.TermId.{TermId}
 use Rattle.sm_term.specs.Sorted.{AreFormsSorted}
 use Rattle.sm_term.specs.Tables.{trees_in, sorts_in}
-use Rattle.sm_cc.specs.declared.ground.Grounded.{Grounded}
-use Rattle.sm_cc.specs.Ground.{IsGround}
+use Rattle.sm_cc.specs.declared.ground.NumberedBase.{NumberedBase}
+use Rattle.sm_cc.specs.BaseClasses.{IsGround}
 use Rattle.sm_judge.specs.AllForms.{AreAllForms}
 use Rattle.sm_certify.specs.Bases.{IsFrom}
 use Rattle.sm_theory.specs.TermsOfFormulas.{with_formulas}
@@ -58,7 +58,7 @@ returns-in-Some-clause-node c =
     ∙ c.in_ok-all.ensures.facts sorts trees in
     let many : length (trees_in own) ≡ length (with_formulas first []) =
     omega (arith, c.len.ensures.len, c.if-len-count.false, c.in_ok-count.ensures) in
-    let found = subst (λ (o : Option Grounded). IfSome o (λ (g : Grounded). (ids : List TermId) × IsWhole (trees_in own) ids
+    let found = subst (λ (o : Option NumberedBase). IfSome o (λ (g : NumberedBase). (ids : List TermId) × IsWhole (trees_in own) ids
     × (numbers_of ids ≡ range_with_len 0 (length (trees_in own)))
     × IsGround (classes_by own ids c.deref-4.result.now) g.ground g.numbering)) c.in-Some.is c.in_ok-found.ensures in
     let ground = subst (λ (fs : List Formula). IsFrom (classes_by own found.0 fs) c.in_ok-base-in-Some.base) c.deref-4.ensures.value

@@ -8,14 +8,14 @@ use Rattle.sm_term.specs.Assertions.{Assertion, Yes}
 use Rattle.sm_term.specs.Sorted.{AreFormsSorted}
 use Rattle.sm_term.specs.Tables.{trees_in, sorts_in}
 use Rattle.sm_term.specs.Terms.{Tree}
-use Rattle.sm_cc.specs.Ground.{IsLedBy}
-use Rattle.sm_solve.specs.declared.shut.Shut.{Shut}
+use Rattle.sm_cc.specs.BaseClasses.{IsLedBy}
+use Rattle.sm_solve.specs.declared.shut.Inconsistent.{Inconsistent}
 use Rattle.sm_theory.specs.TermsOfFormulas.{with_formulas}
 use Rattle.sm_list.specs.Branches.{with_parts, terms_of}
 use Rattle.sm_certify.specs.Given.{given_from, classes_by}
 use Rattle.sm_list.specs.Parts.{all_numbered, assertions_in, AreFormulasWithin}
 use Rattle.sm_solve.specs.Sharing.{room_for_goal}
-use Rattle.sm_solve.specs.Shut.{IsShut, IsBelow}
+use Rattle.sm_solve.specs.Inconsistent.{IsShut, IsBelow}
 use Rattle.sm_judge.specs.Forms.{Walked, Closes}
 use Rattle.sm_solve.specs.Walk.{walk_from}
 use Rattle.sm_solve.specs.Walking.{ClosesIn}
@@ -38,7 +38,7 @@ pub shut_tree-requires-clause-place : goal.shut_tree-requires-clause-place
 shut_tree-requires-clause-place c =
     let n = c.args.self.now in
     let at = c.requires.3 in
-    let shut = subst (λ (o : Option Shut). IfSome o (IsShut (sorts_in c.requires.0) (with_formulas (room_for_goal c.requires.1) [])
+    let shut = subst (λ (o : Option Inconsistent). IfSome o (IsShut (sorts_in c.requires.0) (with_formulas (room_for_goal c.requires.1) [])
     (c.requires.1 ++ Yes ∷ []))) c.in-Some.is at.shut in
     let there = at.there in
     let same = length-set (take (length (room_for_goal c.requires.1)) n.facts.items) n.place tree.Yes in
@@ -50,7 +50,7 @@ pub shut_tree-requires-clause-many : goal.shut_tree-requires-clause-many
 shut_tree-requires-clause-many c =
     let n = c.args.self.now in
     let at = c.requires.3 in
-    let shut = subst (λ (o : Option Shut). IfSome o (IsShut (sorts_in c.requires.0) (with_formulas (room_for_goal c.requires.1) [])
+    let shut = subst (λ (o : Option Inconsistent). IfSome o (IsShut (sorts_in c.requires.0) (with_formulas (room_for_goal c.requires.1) [])
     (c.requires.1 ++ Yes ∷ []))) c.in-Some.is at.shut in
     let kept = room_kept c.requires.0 c.requires.1 c.requires.2 n at in
     let few = front_fits (length (room_for_goal c.requires.1)) n.facts.items kept in
@@ -63,7 +63,7 @@ shut_tree-requires-clause-led c =
     let own = c.args.self.now.terms.own in
     let n = c.args.self.now in
     let at = c.requires.3 in
-    let shut = subst (λ (o : Option Shut). IfSome o (IsShut (sorts_in c.requires.0) (with_formulas (room_for_goal c.requires.1) [])
+    let shut = subst (λ (o : Option Inconsistent). IfSome o (IsShut (sorts_in c.requires.0) (with_formulas (room_for_goal c.requires.1) [])
     (c.requires.1 ++ Yes ∷ []))) c.in-Some.is at.shut in
     let l = led_with c.requires.0 c.requires.1 c.requires.2 n at in
     let value = sym c.deref-in-Some.ensures.value in (
@@ -87,7 +87,7 @@ returns-in-Some-clause-tells c = λ table given contrary at.
     let same : facts ≡ all =
     ap (λ (fs : List Formula). assertions_in sorts trees (all_numbered fs)) value
     ∙ ap (λ (s : Sorts). assertions_in s trees (all_numbered c.args.self.now.facts.items)) at.shared.sorts ∙ at.facts in
-    let shut = subst (λ (o : Option Shut). IfSome o (IsShut (sorts_in table) first whole)) c.in-Some.is at.shut in
+    let shut = subst (λ (o : Option Inconsistent). IfSome o (IsShut (sorts_in table) first whole)) c.in-Some.is at.shut in
     let shut_here = subst (λ (s : Sorts). IsShut s first whole c.in-Some.shut) (sym at.shared.sorts) shut in
     let below = subst (λ (fs : List Formula). IsBelow first trees (with_parts whole) (assertions_in sorts trees (all_numbered fs)))
     (sym value) (goal_below table given contrary c.args.self.now at sorts at.shared.sorts) in
@@ -104,7 +104,7 @@ returns-in-Some-clause-shows c = λ table given contrary at.
     let own = c.args.self.now.terms.own in
     let first = with_formulas (room_for_goal given) [] in
     let whole = given ++ Yes ∷ [] in
-    let shut = subst (λ (o : Option Shut). IfSome o (IsShut (sorts_in table) first whole)) c.in-Some.is at.shut in
+    let shut = subst (λ (o : Option Inconsistent). IfSome o (IsShut (sorts_in table) first whole)) c.in-Some.is at.shut in
     let shut_here = subst (λ (s : Sorts). IsShut s first whole c.in-Some.shut) (sym at.shared.sorts) shut in
     subst (λ (s : Sorts). IfOk c.shut_tree.result (λ o. IfSome o (ClosesIn s (trees_in own) (given ++ contrary ∷ []) 1001))) at.shared.sorts
     (c.shut_tree.ensures.shows first given contrary shut_here (at.more, at.shared.own))

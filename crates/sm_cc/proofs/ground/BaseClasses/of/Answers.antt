@@ -6,9 +6,9 @@ use Rattle.sm_cc.specs.declared.row.Row.{Row}
 use Rattle.sm_cc.specs.Standing.{RowsStand}
 use Rattle.sm_cc.specs.Positions.{ArePositions}
 use Rattle.sm_cc.specs.Views.{ClassesValue, trees_of}
-use Rattle.sm_cc.specs.Ground.{AreInside, AreNumberedBy}
+use Rattle.sm_cc.specs.BaseClasses.{AreInside, AreNumberedBy}
 use Rattle.sm_cc.proofs.GroundLemmas.{ground_made}
-use Rattle.sm_cc.proofs.ground.Ground.of.Goals as goal
+use Rattle.sm_cc.proofs.ground.BaseClasses.of.Goals as goal
 
 pub returns : goal.returns
 returns c =

@@ -4,7 +4,7 @@ use Rattle.sm_syntax.specs.claim.Syntax.{End}
 use Rattle.sm_syntax.specs.trees.Views.{sequence, statement_of}
 use Rattle.sm_plan.specs.Views.{frames_before}
 use Rattle.sm_plan.proofs.RestsLemmas.{take_frame}
-use Rattle.sm_plan.proofs.rest.Rest.block.Goals as goal
+use Rattle.sm_plan.proofs.rest.Continuation.block.Goals as goal
 
 pub loop-place-preserved : goal.loop-place-preserved
 loop-place-preserved c =

@@ -7,12 +7,12 @@ use Rattle.sm_cc.specs.declared.row.Row.{Row}
 use Rattle.sm_cc.specs.declared.row.Element.{Element}
 use Rattle.sm_cc.specs.declared.log.Equation.{Equation}
 use Rattle.sm_cc.specs.declared.closure.Closure.{Closure}
-use Rattle.sm_cc.specs.declared.ground.Ground.{Ground}
-use Rattle.sm_cc.specs.declared.behind.Looked.{Looked}
+use Rattle.sm_cc.specs.declared.ground.BaseClasses.{BaseClasses}
+use Rattle.sm_cc.specs.declared.behind.Scanned.{Scanned}
 use Rattle.sm_cc.specs.Rows.{Board, PlacePairs, ArePlacesClosed, is_listed, places_apart}
 use Rattle.sm_cc.specs.Closures.{board_of, are_together}
 use Rattle.sm_cc.specs.Firsts.{Keyed, AreFirsts, met_at, shape_key, row_key, label_at}
-use Rattle.sm_cc.specs.Ground.{AreBelow}
+use Rattle.sm_cc.specs.BaseClasses.{AreBelow}
 use Rattle.sm_cc.specs.Regrounding.{over_at}
 
 -- places with more behind them, of which all is given that is given of the first
@@ -78,7 +78,7 @@ pub record AreNew (first : ℕ) (rows : List Row) (roots : List Equation) : Type
   pub headed : (i : ℕ) → first ≤ i → i < length roots → IsKeyNew (headed_in first rows roots) i
 
 -- what is known of the places that were looked at
-pub record AreLooked (g : Ground) (more : List Row) (s : Looked) : Type 0 where
+pub record AreLooked (g : BaseClasses) (more : List Row) (s : Scanned) : Type 0 where
   pub begins : take (length g.closure.rows.items) s.roots.items ≡ g.closure.roots.items
   pub so : AreRootsSo g.closure more s.roots.items
   pub alike :

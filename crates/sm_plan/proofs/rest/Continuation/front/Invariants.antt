@@ -3,7 +3,7 @@ use Rattle.std.proofs.Common.{◌≡◌, ◌≤◌, length, take, drop}
 use Rattle.sm_syntax.specs.claim.Syntax.{End}
 use Rattle.sm_plan.specs.Statements.{front}
 use Rattle.sm_plan.specs.Views.{frames_before, rest_code}
-use Rattle.sm_plan.proofs.rest.Rest.front.Given as goal
+use Rattle.sm_plan.proofs.rest.Continuation.front.Given as goal
 
 abbrev pub invariant-loop-place : goal.invariant-loop-place
 invariant-loop-place l =

@@ -5,13 +5,13 @@ use Rattle.sm_term.specs.Tables.{trees_in}
 use Rattle.sm_cc.specs.declared.log.Equation.{Equation}
 use Rattle.sm_cc.specs.declared.row.Row.{Row}
 use Rattle.sm_cc.specs.LabelsAt.{label_at}
-use Rattle.sm_cc.specs.Looked.{AreLooked, AreQuiet}
+use Rattle.sm_cc.specs.Scanned.{AreLooked, AreQuiet}
 use Rattle.sm_cc.specs.Positions.{ArePositions, place_at}
 use Rattle.sm_cc.specs.RowOf.{AreRowsFrom}
 use Rattle.sm_cc.specs.Views.{ClassesValue, trees_of}
 use Rattle.sm_cc.proofs.BehindTerms.{equal_told, exact_told}
 use Rattle.sm_cc.proofs.GroundLemmas.{ground_later}
-use Rattle.sm_cc.proofs.ground.Ground.behind.Goals as goal
+use Rattle.sm_cc.proofs.ground.BaseClasses.behind.Goals as goal
 
 pub returns-in_err-more-clause-ground : goal.returns-in_err-more-clause-ground
 returns-in_err-more-clause-ground c = λ v is.

@@ -3,7 +3,7 @@ use Rattle.std.proofs.Common.{◌-◌, take, drop, sym, ◌∙◌, arith}
 use Rattle.sm_syntax.specs.claim.Syntax.{End}
 use Rattle.sm_plan.specs.Views.{code_before, frames_before, rest_code}
 use Rattle.sm_plan.proofs.RestsLemmas.{take_frame, head_is, no_head, begins}
-use Rattle.sm_plan.proofs.rest.Rest.first.Goals as goal
+use Rattle.sm_plan.proofs.rest.Continuation.first.Goals as goal
 
 pub returns-in-Some : goal.returns-in-Some
 returns-in-Some c =

@@ -4,7 +4,7 @@ use Rattle.sm_syntax.specs.claim.Syntax.{End}
 use Rattle.sm_plan.specs.Statements.{is_long}
 use Rattle.sm_plan.specs.Views.{frames_before}
 use Rattle.sm_plan.proofs.RestsLemmas.{take_frame, long_within, long_past}
-use Rattle.sm_plan.proofs.rest.Rest.is_long.Goals as goal
+use Rattle.sm_plan.proofs.rest.Continuation.is_long.Goals as goal
 
 pub returns-then-left-len : goal.returns-then-left-len
 returns-then-left-len c =

@@ -2,7 +2,7 @@
 use Rattle.std.proofs.Common.{◌≡◌, take}
 use Rattle.sm_syntax.specs.claim.Syntax.{End}
 use Rattle.sm_plan.specs.Views.{code_before, frames_before}
-use Rattle.sm_plan.proofs.rest.Rest.above.Given as goal
+use Rattle.sm_plan.proofs.rest.Continuation.above.Given as goal
 
 abbrev pub invariant-loop-frame : goal.invariant-loop-frame
 invariant-loop-frame l = frames_before l.frames.items End ≡ frames_before (take l.frame-index l.frame-items) (code_before l.last End)

@@ -2,11 +2,11 @@
 use Rattle.std.proofs.Common.{◌≡◌, ◌+◌, ◌-◌, length, take, drop, sym, ap, ◌∙◌, arith}
 use Rattle.std.proofs.lemmas.Result.{IfOk-weaker}
 use Rattle.sm_syntax.specs.claim.Syntax.{End}
-use Rattle.sm_plan.specs.declared.rest.Rest.{Rest}
+use Rattle.sm_plan.specs.declared.rest.Continuation.{Continuation}
 use Rattle.sm_plan.specs.Statements.{front}
 use Rattle.sm_plan.specs.Views.{code_before, frames_before, rest_code}
 use Rattle.sm_plan.proofs.RestsLemmas.{take_frame, drop_frame, front_within, front_past}
-use Rattle.sm_plan.proofs.rest.Rest.front.Goals as goal
+use Rattle.sm_plan.proofs.rest.Continuation.front.Goals as goal
 
 pub returns-then-left-len : goal.returns-then-left-len
 returns-then-left-len c =
@@ -23,7 +23,7 @@ returns-then-left-len c =
     ∙ ap (λ ss. frames_before (drop p fs) (code_before ss End)) c.first_part.ensures
     ∙ ap (frames_before (drop p fs)) (sym (ap (front n) whole ∙ front_within f.now n k c.if-left-len.true))
     ∙ c.loop-place.invariant.1 in
-    IfOk-weaker c.above.result _ _ (λ (r : Rest) h. h ∙ made) c.above.ensures
+    IfOk-weaker c.above.result _ _ (λ (r : Continuation) h. h ∙ made) c.above.ensures
 
 pub loop-place-preserved : goal.loop-place-preserved
 loop-place-preserved c =

@@ -2,10 +2,10 @@
 use Rattle.std.specs.Prelude.{◌≡◌, ℕ, ◌<◌, Option, Some, None, List, [], ◌∷◌, length, slice_get}
 use Rattle.sm_term.specs.Terms.{Tree}
 use Rattle.sm_term.specs.Tables.{TableValue, trees_in, AreBefore}
-use Rattle.sm_term.specs.TableLaws.{Grows}
+use Rattle.sm_term.specs.TableLaws.{AddsTerms}
 use Rattle.sm_cc.specs.declared.row.Row.{Row}
 use Rattle.sm_cc.specs.declared.row.Element.{Element}
-use Rattle.sm_cc.specs.declared.ground.Ground.{Ground}
+use Rattle.sm_cc.specs.declared.ground.BaseClasses.{BaseClasses}
 use Rattle.sm_cc.specs.declared.ground.Numbering.{Numbering}
 use Rattle.sm_cc.specs.Numbered.{StandApart, heads_met, parts_met}
 use Rattle.sm_pairs.specs.Longer.{IsLonger}
@@ -36,7 +36,7 @@ abbrev pub AreInside : List Row → Type 0
 AreInside rows = (i : ℕ) (r : Row) → slice_get rows i ≡ Some r → IsRowBelow (length rows) r
 
 -- a place is in one class with the first that has its key, by the maps of keys
-pub record AreKeyed (g : Ground) : Type 0 where
+pub record AreKeyed (g : BaseClasses) : Type 0 where
   pub alike :
       AreFirsts (alike_at g.closure) (are_together g.closure.roots.items) (met_at g.alike)
       (length g.closure.rows.items)
@@ -54,7 +54,7 @@ pub record AreNumberedBy (table : TableValue) (terms : List Tree) (rows : List R
       IsRowOf table terms (heads_met n.heads) (parts_met n.shapes) t r
 
 -- these are the classes of terms by all that is given of them
-pub record IsGround (v : ClassesValue) (g : Ground) (n : Numbering) : Type 0 where
+pub record IsGround (v : ClassesValue) (g : BaseClasses) (n : Numbering) : Type 0 where
   pub before : AreBefore (length (trees_in v.table)) v.terms
   pub classes : AreClasses v g.positions (placed_of g.closure)
   pub exact : IsExact g.closure
@@ -69,6 +69,6 @@ AreAllGiven {A} old new =
 
 -- classes have the terms of others with more behind them, and all that is given of those
 pub record IsLedBy (old new : ClassesValue) : Type 0 where
-  pub table : Grows old.table new.table
+  pub table : AddsTerms old.table new.table
   pub terms : IsLonger old.terms new.terms
   pub given : AreAllGiven old.given new.given

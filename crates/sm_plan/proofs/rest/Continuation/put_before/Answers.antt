@@ -5,7 +5,7 @@ use Rattle.sm_syntax.specs.trees.Views.{code_of}
 use Rattle.sm_syntax.proofs.Blocks.{block_then}
 use Rattle.sm_plan.specs.Views.{code_before, frames_before, rest_code}
 use Rattle.sm_plan.proofs.RestsLemmas.{frames_push}
-use Rattle.sm_plan.proofs.rest.Rest.put_before.Goals as goal
+use Rattle.sm_plan.proofs.rest.Continuation.put_before.Goals as goal
 
 pub returns : goal.returns
 returns c =

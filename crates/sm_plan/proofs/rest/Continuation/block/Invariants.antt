@@ -3,7 +3,7 @@ use Rattle.std.proofs.Common.{◌≡◌, ◌≤◌, length, take, map}
 use Rattle.sm_syntax.specs.claim.Syntax.{End}
 use Rattle.sm_syntax.specs.trees.Views.{sequence, statement_of}
 use Rattle.sm_plan.specs.Views.{frames_before, rest_code}
-use Rattle.sm_plan.proofs.rest.Rest.block.Given as goal
+use Rattle.sm_plan.proofs.rest.Continuation.block.Given as goal
 
 abbrev pub invariant-loop-place : goal.invariant-loop-place
 invariant-loop-place l =

@@ -3,7 +3,7 @@ use Rattle.std.proofs.Common.{ap, ◌∙◌}
 use Rattle.sm_syntax.specs.claim.Syntax.{append}
 use Rattle.sm_syntax.specs.trees.Views.{code_of}
 use Rattle.sm_syntax.proofs.Appends.{append-End}
-use Rattle.sm_plan.proofs.rest.Rest.of.Goals as goal
+use Rattle.sm_plan.proofs.rest.Continuation.of.Goals as goal
 
 pub returns : goal.returns
 returns c = c.in_ok-put_before.ensures ∙ ap (append (code_of c.args.block.now)) c.empty-rest.ensures ∙ append-End (code_of c.args.block.now)

@@ -5,7 +5,7 @@ use Rattle.sm_syntax.specs.claim.Syntax.{End}
 use Rattle.sm_plan.specs.Statements.{rest_after}
 use Rattle.sm_plan.specs.Views.{code_before, frames_before}
 use Rattle.sm_plan.proofs.RestsLemmas.{whole_frames, last_set, after_within, after_past}
-use Rattle.sm_plan.proofs.rest.Rest.drop_front.Goals as goal
+use Rattle.sm_plan.proofs.rest.Continuation.drop_front.Goals as goal
 
 pub returns-then-left-len : goal.returns-then-left-len
 returns-then-left-len c =

@@ -2,7 +2,7 @@
 use Rattle.std.proofs.Common.{◌≡◌, length}
 use Rattle.sm_plan.specs.Statements.{rest_after}
 use Rattle.sm_plan.specs.Views.{rest_code}
-use Rattle.sm_plan.proofs.rest.Rest.drop_front.Given as goal
+use Rattle.sm_plan.proofs.rest.Continuation.drop_front.Given as goal
 
 abbrev pub invariant-loop-place : goal.invariant-loop-place
 invariant-loop-place l =

@@ -4,7 +4,7 @@ use Rattle.std.proofs.lemmas.List.{take_all}
 use Rattle.sm_syntax.specs.claim.Syntax.{End}
 use Rattle.sm_plan.specs.Views.{code_before, frames_before}
 use Rattle.sm_plan.proofs.RestsLemmas.{frames_push, next_frame}
-use Rattle.sm_plan.proofs.rest.Rest.above.Goals as goal
+use Rattle.sm_plan.proofs.rest.Continuation.above.Goals as goal
 
 pub loop-frame-preserved : goal.loop-frame-preserved
 loop-frame-preserved c =
