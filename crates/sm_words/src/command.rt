@@ -1,6 +1,6 @@
 // What `clap` knows of the commands.
 ghost use Rattle.std.specs.Prelude.{◌≡◌, false, IfOk};
-ghost use Rattle.clap.specs.Words.{app_of, rule_of};
+ghost use Rattle.clap.specs.Words.{app_of, rule_of, with_rule};
 ghost use Rattle.sm_words.specs.Command.{about_command, check_command, command_of, flag_word};
 ghost use Rattle.sm_words.specs.Command.{batch_command, explain_command, optional_word};
 ghost use Rattle.sm_words.specs.Command.{gen_command, option_word, print_command, replay_command};
@@ -76,13 +76,61 @@ fn flag_word<'a>(alloc: Global, id: &'a str) -> Arg<'a>
     Arg::new(alloc, id).long(id).action(ArgAction::SetTrue)
 }
 
+// The command, with a word that has to be there.
+fn with_word<'a>(
+    alloc: Global,
+    command: Command<'a>,
+    id: &'a str,
+) -> Result<Command<'a>, AllocError>
+    ensures { IfOk result (λ c.
+        app_of c ≡ with_rule (app_of command.entry) (required_word id.entry.now)) }
+{
+    command.arg(required_word(alloc, id))
+}
+
+// The command, with a word that may be there.
+fn with_optional_word<'a>(
+    alloc: Global,
+    command: Command<'a>,
+    id: &'a str,
+) -> Result<Command<'a>, AllocError>
+    ensures { IfOk result (λ c.
+        app_of c ≡ with_rule (app_of command.entry) (optional_word id.entry.now)) }
+{
+    command.arg(optional_word(alloc, id))
+}
+
+// The command, with an option that has a value.
+fn with_option<'a>(
+    alloc: Global,
+    command: Command<'a>,
+    id: &'a str,
+) -> Result<Command<'a>, AllocError>
+    ensures { IfOk result (λ c.
+        app_of c ≡ with_rule (app_of command.entry) (option_word id.entry.now)) }
+{
+    command.arg(option_word(alloc, id))
+}
+
+// The command, with an option that has no value.
+fn with_flag<'a>(
+    alloc: Global,
+    command: Command<'a>,
+    id: &'a str,
+) -> Result<Command<'a>, AllocError>
+    ensures { IfOk result (λ c.
+        app_of c ≡ with_rule (app_of command.entry) (flag_word id.entry.now)) }
+{
+    command.arg(flag_word(alloc, id))
+}
+
 #[tactic(auto, unfolding(crate::specs::Command::check_command))]
 fn check_command<'a>(alloc: Global) -> Result<Command<'a>, AllocError>
     ensures { IfOk result (λ c. app_of c ≡ check_command) }
 {
-    search_command(alloc, "check", "TASK", "PROOF")?
-        .arg(flag_word(alloc, "deeper"))?
-        .arg(flag_word(alloc, "why"))
+    let command = search_command(alloc, "check", "TASK", "PROOF")?;
+    let command = with_flag(alloc, command, "deeper")?;
+    with_flag(alloc, command, "why")
 }
 
 #[tactic(auto, unfolding(crate::specs::Command::gen_command))]
@@ -102,9 +150,8 @@ fn search_command<'a>(
     ensures { IfOk result (λ c.
         app_of c ≡ search_command word.entry.now first.entry.now second.entry.now) }
 {
-    let command = Command::new(alloc, word)
-        .arg(required_word(alloc, first))?
-        .arg(required_word(alloc, second))?;
+    let command = with_word(alloc, Command::new(alloc, word), first)?;
+    let command = with_word(alloc, command, second)?;
     with_limit(alloc, command)
 }
 
@@ -112,55 +159,52 @@ fn search_command<'a>(
 fn with_effort<'a>(alloc: Global, command: Command<'a>) -> Result<Command<'a>, AllocError>
     ensures { IfOk result (λ c. app_of c ≡ with_effort (app_of command.entry)) }
 {
-    command
-        .arg(option_word(alloc, "steps"))?
-        .arg(option_word(alloc, "turns"))?
-        .arg(option_word(alloc, "workers"))?
-        .arg(flag_word(alloc, "exact"))
+    let command = with_option(alloc, command, "steps")?;
+    let command = with_option(alloc, command, "turns")?;
+    let command = with_option(alloc, command, "workers")?;
+    with_flag(alloc, command, "exact")
 }
 
 // The command with the options of a search, and with a limit of time.
 fn with_limit<'a>(alloc: Global, command: Command<'a>) -> Result<Command<'a>, AllocError>
     ensures { IfOk result (λ c. app_of c ≡ with_limit (app_of command.entry)) }
 {
-    with_effort(alloc, command)?.arg(option_word(alloc, "seconds"))
+    let command = with_effort(alloc, command)?;
+    with_option(alloc, command, "seconds")
 }
 
 #[tactic(auto, unfolding(crate::specs::Command::verify_command))]
 fn verify_command<'a>(alloc: Global) -> Result<Command<'a>, AllocError>
     ensures { IfOk result (λ c. app_of c ≡ verify_command) }
 {
-    Command::new(alloc, "verify")
-        .arg(required_word(alloc, "TASK"))?
-        .arg(required_word(alloc, "PROOF"))?
-        .arg(option_word(alloc, "workers"))
+    let command = with_word(alloc, Command::new(alloc, "verify"), "TASK")?;
+    let command = with_word(alloc, command, "PROOF")?;
+    with_option(alloc, command, "workers")
 }
 
 #[tactic(auto, unfolding(crate::specs::Command::replay_command))]
 fn replay_command<'a>(alloc: Global) -> Result<Command<'a>, AllocError>
     ensures { IfOk result (λ c. app_of c ≡ replay_command) }
 {
-    Command::new(alloc, "replay")
-        .arg(required_word(alloc, "TASK"))?
-        .arg(required_word(alloc, "INPUT"))?
-        .arg(option_word(alloc, "turns"))?
-        .arg(option_word(alloc, "workers"))
+    let command = with_word(alloc, Command::new(alloc, "replay"), "TASK")?;
+    let command = with_word(alloc, command, "INPUT")?;
+    let command = with_option(alloc, command, "turns")?;
+    with_option(alloc, command, "workers")
 }
 
 #[tactic(auto, unfolding(crate::specs::Command::print_command))]
 fn print_command<'a>(alloc: Global) -> Result<Command<'a>, AllocError>
     ensures { IfOk result (λ c. app_of c ≡ print_command) }
 {
-    Command::new(alloc, "print")
-        .arg(required_word(alloc, "TASK"))?
-        .arg(option_word(alloc, "copy"))
+    let command = with_word(alloc, Command::new(alloc, "print"), "TASK")?;
+    with_option(alloc, command, "copy")
 }
 
 #[tactic(auto, unfolding(crate::specs::Command::suggest_command))]
 fn suggest_command<'a>(alloc: Global) -> Result<Command<'a>, AllocError>
     ensures { IfOk result (λ c. app_of c ≡ suggest_command) }
 {
-    let command = Command::new(alloc, "suggest").arg(required_word(alloc, "TASK"))?;
+    let command = with_word(alloc, Command::new(alloc, "suggest"), "TASK")?;
     with_limit(alloc, command)
 }
 
@@ -168,19 +212,17 @@ fn suggest_command<'a>(alloc: Global) -> Result<Command<'a>, AllocError>
 fn explain_command<'a>(alloc: Global) -> Result<Command<'a>, AllocError>
     ensures { IfOk result (λ c. app_of c ≡ explain_command) }
 {
-    Command::new(alloc, "explain")
-        .arg(required_word(alloc, "TASK"))?
-        .arg(optional_word(alloc, "INPUT"))?
-        .arg(option_word(alloc, "turns"))
+    let command = with_word(alloc, Command::new(alloc, "explain"), "TASK")?;
+    let command = with_optional_word(alloc, command, "INPUT")?;
+    with_option(alloc, command, "turns")
 }
 
 #[tactic(auto, unfolding(crate::specs::Command::batch_command))]
 fn batch_command<'a>(alloc: Global) -> Result<Command<'a>, AllocError>
     ensures { IfOk result (λ c. app_of c ≡ batch_command) }
 {
-    let command = Command::new(alloc, "batch")
-        .arg(required_word(alloc, "LIST"))?
-        .arg(option_word(alloc, "cache"))?;
+    let command = with_word(alloc, Command::new(alloc, "batch"), "LIST")?;
+    let command = with_option(alloc, command, "cache")?;
     with_effort(alloc, command)
 }
 
@@ -188,10 +230,9 @@ fn batch_command<'a>(alloc: Global) -> Result<Command<'a>, AllocError>
 fn trim_command<'a>(alloc: Global) -> Result<Command<'a>, AllocError>
     ensures { IfOk result (λ c. app_of c ≡ trim_command) }
 {
-    Command::new(alloc, "trim")
-        .arg(required_word(alloc, "TASK"))?
-        .arg(required_word(alloc, "PROOF"))?
-        .arg(required_word(alloc, "OUT"))
+    let command = with_word(alloc, Command::new(alloc, "trim"), "TASK")?;
+    let command = with_word(alloc, command, "PROOF")?;
+    with_word(alloc, command, "OUT")
 }
 
 // A command that takes no words.
