@@ -1,10 +1,11 @@
 // What the words ask for.
-ghost use Rattle.std.specs.Prelude.{◌≡◌, ◌≢◌, [], Some, map, ℕ, List, IfOk, IsErrOf};
+ghost use Rattle.std.specs.Prelude.{◌≡◌, ◌≢◌, [], ◌∷◌, Some, map, ℕ, List, codes, IfOk, IsErrOf};
 ghost use Rattle.std.specs.String.{string_bytes};
 ghost use Rattle.clap.specs.Words.{first_value, found_of, kind_of};
+ghost use Rattle.sm_words.specs.Lines.{line_of};
 ghost use Rattle.sm_words.specs.Views.{asked_in, IsWithin};
-ghost use Rattle.sm_words.specs.Words.{asked, asked_by, argument_text, usage_line, verb_of};
-ghost use Rattle.sm_words.specs.Words.{word_faults, HasRequired, IsRefused, IsUsage};
+ghost use Rattle.sm_words.specs.Words.{asked, asked_by, argument_text, usage_line, usage_line_of};
+ghost use Rattle.sm_words.specs.Words.{verb_of, word_faults, HasRequired, IsRefused, IsUsage, Words};
 ghost use Rattle.sm_words.specs.declared.words.WordsError.TheVariants.{Memory};
 
 use crate::about::About;
@@ -118,21 +119,37 @@ pub fn usage_line(alloc: Global, words: &[String]) -> Result<Vec<u8>, AllocError
     ensures { IfOk result (λ text. text.items ≡ usage_line (map string_bytes words.now)) }
 {
     match words {
-        [word, ..] => match verb_of(word.as_str()) {
-            Some(Verb::Check) => line(alloc, "Usage", &["check"]),
-            Some(Verb::Verify) => line(alloc, "Usage", &["verify"]),
-            Some(Verb::Replay) => line(alloc, "Usage", &["replay"]),
-            Some(Verb::Print) => line(alloc, "Usage", &["print"]),
-            Some(Verb::Suggest) => line(alloc, "Usage", &["suggest"]),
-            Some(Verb::Gen) => line(alloc, "Usage", &["gen"]),
-            Some(Verb::Explain) => line(alloc, "Usage", &["explain"]),
-            Some(Verb::Batch) => line(alloc, "Usage", &["batch"]),
-            Some(Verb::Trim) => line(alloc, "Usage", &["trim"]),
-            Some(Verb::About(About::Help)) => line(alloc, "Usage", &["help"]),
-            Some(Verb::About(About::Version)) => line(alloc, "Usage", &["version"]),
-            None => line(alloc, "Usage", &[]),
-        },
+        [word, ..] => usage_line_of(alloc, verb_of(word.as_str())),
         [] => line(alloc, "Usage", &[]),
+    }
+}
+
+// The line on words that no command takes, by the command that the first of them names.
+fn usage_line_of(alloc: Global, verb: Option<Verb>) -> Result<Vec<u8>, AllocError>
+    ensures { IfOk result (λ text. text.items ≡ usage_line_of verb) }
+{
+    match verb {
+        Some(verb) => line(alloc, "Usage", &[word_of(verb)]),
+        None => line(alloc, "Usage", &[]),
+    }
+}
+
+// The word that names a command.
+fn word_of(verb: Verb) -> &'static str
+    ensures { line_of (codes "Usage") (result.now ∷ []) ≡ usage_line_of (Some verb) }
+{
+    match verb {
+        Verb::Check => "check",
+        Verb::Verify => "verify",
+        Verb::Replay => "replay",
+        Verb::Print => "print",
+        Verb::Suggest => "suggest",
+        Verb::Gen => "gen",
+        Verb::Explain => "explain",
+        Verb::Batch => "batch",
+        Verb::Trim => "trim",
+        Verb::About(About::Help) => "help",
+        Verb::About(About::Version) => "version",
     }
 }
 
@@ -166,16 +183,31 @@ fn request_by<'a>(alloc: Global, verb: Verb, words: &'a [String]) -> Result<Requ
     ensures within { IfOk result IsWithin }
 {
     let matches = matches_of(alloc, verb, words)?;
+    request_in(verb, &matches)
+}
+
+// What a command asks for by the texts that its words give, where it takes them.
+fn request_in<'a>(verb: Verb, matches: &ArgMatches<'a>) -> Result<Request<'a>, WordsError>
+    requires { HasRequired verb (first_value (found_of matches.now)) }
+    ensures ok { (given : Words) → word_faults verb given ≡ [] →
+        ((id : List ℕ) → first_value (found_of matches.now) id ≡ argument_text verb id given) →
+        IfOk result (λ r. (word_faults verb given ≡ [])
+        × (asked_by verb given ≡ Some (asked_in r))) }
+    ensures usage { (given : Words) → word_faults verb given ≡ [] →
+        ((id : List ℕ) → first_value (found_of matches.now) id ≡ argument_text verb id given) →
+        IsErrOf result WordsError.Usage → IsRefused (Some verb) given }
+    ensures within { IfOk result IsWithin }
+{
     match verb {
-        Verb::Check => check_request(&matches),
-        Verb::Verify => verify_request(&matches),
-        Verb::Replay => replay_request(&matches),
-        Verb::Print => print_request(&matches),
-        Verb::Suggest => suggest_request(&matches),
-        Verb::Gen => gen_request(&matches),
-        Verb::Explain => explain_request(&matches),
-        Verb::Batch => batch_request(&matches),
-        Verb::Trim => trim_request(&matches),
+        Verb::Check => check_request(matches),
+        Verb::Verify => verify_request(matches),
+        Verb::Replay => replay_request(matches),
+        Verb::Print => print_request(matches),
+        Verb::Suggest => suggest_request(matches),
+        Verb::Gen => gen_request(matches),
+        Verb::Explain => explain_request(matches),
+        Verb::Batch => batch_request(matches),
+        Verb::Trim => trim_request(matches),
         Verb::About(about) => Ok(Request::About(about)),
     }
 }

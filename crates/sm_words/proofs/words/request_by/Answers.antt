@@ -1,113 +1,11 @@
 use Rattle.std.proofs.Common.{map}
 use Rattle.std.specs.String.{string_bytes}
-use Rattle.clap.specs.Matches.{first_value, found_of}
-use Rattle.sm_words.proofs.Asking.{asks_check, asks_gen, asks_verify, asks_replay, asks_print, asks_suggest, asks_explain, asks_batch, asks_trim}
 use Rattle.sm_words.proofs.words.request_by.Goals as goal
 
-pub returns-in-Check-clause-ok : goal.returns-in-Check-clause-ok
-returns-in-Check-clause-ok c =
-    (asks_check c.args.verb (map string_bytes c.args.words.now)
-    (first_value (found_of c.in_ok-matches.matches)) c.check_request.result c.in-Check.is c.in_ok-matches.ensures.taken
-    c.in_ok-matches.ensures.texts c.check_request.ensures.ok c.check_request.ensures.usage).ok
+pub returns-clause-ok : goal.returns-clause-ok
+returns-clause-ok c =
+    c.request_in.ensures.ok (map string_bytes c.args.words.now) c.in_ok-matches.ensures.taken c.in_ok-matches.ensures.texts
 
-pub returns-in-Check-clause-usage : goal.returns-in-Check-clause-usage
-returns-in-Check-clause-usage c =
-    (asks_check c.args.verb (map string_bytes c.args.words.now)
-    (first_value (found_of c.in_ok-matches.matches)) c.check_request.result c.in-Check.is c.in_ok-matches.ensures.taken
-    c.in_ok-matches.ensures.texts c.check_request.ensures.ok c.check_request.ensures.usage).usage
-
-pub returns-in-Verify-clause-ok : goal.returns-in-Verify-clause-ok
-returns-in-Verify-clause-ok c =
-    (asks_verify c.args.verb (map string_bytes c.args.words.now)
-    (first_value (found_of c.in_ok-matches.matches)) c.verify_request.result c.in-Verify.is c.in_ok-matches.ensures.taken
-    c.in_ok-matches.ensures.texts c.verify_request.ensures.ok c.verify_request.ensures.usage).ok
-
-pub returns-in-Verify-clause-usage : goal.returns-in-Verify-clause-usage
-returns-in-Verify-clause-usage c =
-    (asks_verify c.args.verb (map string_bytes c.args.words.now)
-    (first_value (found_of c.in_ok-matches.matches)) c.verify_request.result c.in-Verify.is c.in_ok-matches.ensures.taken
-    c.in_ok-matches.ensures.texts c.verify_request.ensures.ok c.verify_request.ensures.usage).usage
-
-pub returns-in-Replay-clause-ok : goal.returns-in-Replay-clause-ok
-returns-in-Replay-clause-ok c =
-    (asks_replay c.args.verb (map string_bytes c.args.words.now)
-    (first_value (found_of c.in_ok-matches.matches)) c.replay_request.result c.in-Replay.is c.in_ok-matches.ensures.taken
-    c.in_ok-matches.ensures.texts c.replay_request.ensures.ok c.replay_request.ensures.usage).ok
-
-pub returns-in-Replay-clause-usage : goal.returns-in-Replay-clause-usage
-returns-in-Replay-clause-usage c =
-    (asks_replay c.args.verb (map string_bytes c.args.words.now)
-    (first_value (found_of c.in_ok-matches.matches)) c.replay_request.result c.in-Replay.is c.in_ok-matches.ensures.taken
-    c.in_ok-matches.ensures.texts c.replay_request.ensures.ok c.replay_request.ensures.usage).usage
-
-pub returns-in-Print-clause-ok : goal.returns-in-Print-clause-ok
-returns-in-Print-clause-ok c =
-    (asks_print c.args.verb (map string_bytes c.args.words.now)
-    (first_value (found_of c.in_ok-matches.matches)) c.print_request.result c.in-Print.is c.in_ok-matches.ensures.taken
-    c.in_ok-matches.ensures.texts c.print_request.ensures.ok c.print_request.ensures.usage).ok
-
-pub returns-in-Print-clause-usage : goal.returns-in-Print-clause-usage
-returns-in-Print-clause-usage c =
-    (asks_print c.args.verb (map string_bytes c.args.words.now)
-    (first_value (found_of c.in_ok-matches.matches)) c.print_request.result c.in-Print.is c.in_ok-matches.ensures.taken
-    c.in_ok-matches.ensures.texts c.print_request.ensures.ok c.print_request.ensures.usage).usage
-
-pub returns-in-Suggest-clause-ok : goal.returns-in-Suggest-clause-ok
-returns-in-Suggest-clause-ok c =
-    (asks_suggest c.args.verb (map string_bytes c.args.words.now)
-    (first_value (found_of c.in_ok-matches.matches)) c.suggest_request.result c.in-Suggest.is c.in_ok-matches.ensures.taken
-    c.in_ok-matches.ensures.texts c.suggest_request.ensures.ok c.suggest_request.ensures.usage).ok
-
-pub returns-in-Suggest-clause-usage : goal.returns-in-Suggest-clause-usage
-returns-in-Suggest-clause-usage c =
-    (asks_suggest c.args.verb (map string_bytes c.args.words.now)
-    (first_value (found_of c.in_ok-matches.matches)) c.suggest_request.result c.in-Suggest.is c.in_ok-matches.ensures.taken
-    c.in_ok-matches.ensures.texts c.suggest_request.ensures.ok c.suggest_request.ensures.usage).usage
-
-pub returns-in-Gen-clause-ok : goal.returns-in-Gen-clause-ok
-returns-in-Gen-clause-ok c =
-    (asks_gen c.args.verb (map string_bytes c.args.words.now)
-    (first_value (found_of c.in_ok-matches.matches)) c.gen_request.result c.in-Gen.is c.in_ok-matches.ensures.taken
-    c.in_ok-matches.ensures.texts c.gen_request.ensures.ok c.gen_request.ensures.usage).ok
-
-pub returns-in-Gen-clause-usage : goal.returns-in-Gen-clause-usage
-returns-in-Gen-clause-usage c =
-    (asks_gen c.args.verb (map string_bytes c.args.words.now)
-    (first_value (found_of c.in_ok-matches.matches)) c.gen_request.result c.in-Gen.is c.in_ok-matches.ensures.taken
-    c.in_ok-matches.ensures.texts c.gen_request.ensures.ok c.gen_request.ensures.usage).usage
-
-pub returns-in-Explain-clause-ok : goal.returns-in-Explain-clause-ok
-returns-in-Explain-clause-ok c =
-    (asks_explain c.args.verb (map string_bytes c.args.words.now)
-    (first_value (found_of c.in_ok-matches.matches)) c.explain_request.result c.in-Explain.is c.in_ok-matches.ensures.taken
-    c.in_ok-matches.ensures.texts c.explain_request.ensures.ok c.explain_request.ensures.usage).ok
-
-pub returns-in-Explain-clause-usage : goal.returns-in-Explain-clause-usage
-returns-in-Explain-clause-usage c =
-    (asks_explain c.args.verb (map string_bytes c.args.words.now)
-    (first_value (found_of c.in_ok-matches.matches)) c.explain_request.result c.in-Explain.is c.in_ok-matches.ensures.taken
-    c.in_ok-matches.ensures.texts c.explain_request.ensures.ok c.explain_request.ensures.usage).usage
-
-pub returns-in-Batch-clause-ok : goal.returns-in-Batch-clause-ok
-returns-in-Batch-clause-ok c =
-    (asks_batch c.args.verb (map string_bytes c.args.words.now)
-    (first_value (found_of c.in_ok-matches.matches)) c.batch_request.result c.in-Batch.is c.in_ok-matches.ensures.taken
-    c.in_ok-matches.ensures.texts c.batch_request.ensures.ok c.batch_request.ensures.usage).ok
-
-pub returns-in-Batch-clause-usage : goal.returns-in-Batch-clause-usage
-returns-in-Batch-clause-usage c =
-    (asks_batch c.args.verb (map string_bytes c.args.words.now)
-    (first_value (found_of c.in_ok-matches.matches)) c.batch_request.result c.in-Batch.is c.in_ok-matches.ensures.taken
-    c.in_ok-matches.ensures.texts c.batch_request.ensures.ok c.batch_request.ensures.usage).usage
-
-pub returns-in-Trim-clause-ok : goal.returns-in-Trim-clause-ok
-returns-in-Trim-clause-ok c =
-    (asks_trim c.args.verb (map string_bytes c.args.words.now)
-    (first_value (found_of c.in_ok-matches.matches)) c.trim_request.result c.in-Trim.is c.in_ok-matches.ensures.taken
-    c.in_ok-matches.ensures.texts c.trim_request.ensures.ok c.trim_request.ensures.usage).ok
-
-pub returns-in-Trim-clause-usage : goal.returns-in-Trim-clause-usage
-returns-in-Trim-clause-usage c =
-    (asks_trim c.args.verb (map string_bytes c.args.words.now)
-    (first_value (found_of c.in_ok-matches.matches)) c.trim_request.result c.in-Trim.is c.in_ok-matches.ensures.taken
-    c.in_ok-matches.ensures.texts c.trim_request.ensures.ok c.trim_request.ensures.usage).usage
+pub returns-clause-usage : goal.returns-clause-usage
+returns-clause-usage c =
+    c.request_in.ensures.usage (map string_bytes c.args.words.now) c.in_ok-matches.ensures.taken c.in_ok-matches.ensures.texts
