@@ -1,10 +1,13 @@
 use Rattle.std.proofs.Common.{arith}
 use Rattle.std.proofs.lemmas.Grind.{common_steps}
-use Rattle.sm_syntax.proofs.Statements.{statement_of-Store, statement_of-If, statement_of-While, statement_of-Hole}
+use Rattle.sm_syntax.proofs.Statements.{statement_of-Assign, statement_of-Store, statement_of-If, statement_of-While, statement_of-Hole}
 use Rattle.sm_text.proofs.printing.statements.+put_statement.Goals as goal
 
-pub put_stmt-returns-in_ok-put_expr-in-Store : goal.put_stmt-returns-in_ok-put_expr-in-Store
-put_stmt-returns-in_ok-put_expr-in-Store t c = λ k. grind (arith, common_steps, statement_of-Store)
+pub put_stmt-returns-in-Assign : goal.put_stmt-returns-in-Assign
+put_stmt-returns-in-Assign t c = λ k. grind (arith, common_steps, statement_of-Assign)
+
+pub put_stmt-returns-in-Store : goal.put_stmt-returns-in-Store
+put_stmt-returns-in-Store t c = λ k. grind (arith, common_steps, statement_of-Store)
 
 pub put_stmt-returns-in_ok-put_branches-in-If : goal.put_stmt-returns-in_ok-put_branches-in-If
 put_stmt-returns-in_ok-put_branches-in-If t c = λ k. grind (arith, common_steps, statement_of-If)
@@ -12,5 +15,5 @@ put_stmt-returns-in_ok-put_branches-in-If t c = λ k. grind (arith, common_steps
 pub put_stmt-returns-in_ok-put_block-in-While : goal.put_stmt-returns-in_ok-put_block-in-While
 put_stmt-returns-in_ok-put_block-in-While t c = λ k. grind (arith, common_steps, statement_of-While)
 
-pub put_stmt-returns-in_ok-put_hole-in-Hole : goal.put_stmt-returns-in_ok-put_hole-in-Hole
-put_stmt-returns-in_ok-put_hole-in-Hole t c = λ k. grind (arith, common_steps, statement_of-Hole)
+pub put_stmt-returns-in-Hole : goal.put_stmt-returns-in-Hole
+put_stmt-returns-in-Hole t c = λ k. grind (arith, common_steps, statement_of-Hole)
