@@ -15,7 +15,7 @@ use Rattle.sm_replies.specs.Check.{ShowsFrom}
 use Rattle.sm_commands.specs.Deeper.{AnswersDeeper}
 use Rattle.sm_replies.specs.Grounds.{IsShownBy, RestsOn}
 use Rattle.sm_commands.specs.Why.{AnswersWhy, SaysWhy}
-use Rattle.sm_replies.specs.declared.ground.BaseClasses.TheVariants.{Input, Stopped}
+use Rattle.sm_replies.specs.declared.ground.Ground.TheVariants.{Input, Stopped}
 
 -- behind an Accepted
 pub proved_says : (t : Parts) (effort : Effort) (status : Status) (line more : List ℕ) → status ≡ Accepted

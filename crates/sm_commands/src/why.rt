@@ -12,7 +12,7 @@ use crate::deeper::check_deeper;
 use sm_answers::{Reply, Spelled};
 use sm_display::shown_ends;
 use sm_par::Gate;
-use sm_replies::{BaseClasses, Decided};
+use sm_replies::{Ground, Decided};
 use sm_why::{reason_line, trials_line};
 use sm_words::Effort;
 use std::alloc::{AllocError, Global};
@@ -61,15 +61,15 @@ fn words_behind(
         decided.now.reply.status decided.now.reply.text.items more.items) }
 {
     match &decided.ground {
-        BaseClasses::Proved => {
+        Ground::Proved => {
             let more = trials_line(alloc, &read.task, effort.turns)?;
             Ok(more)
         }
-        BaseClasses::Input(input) => {
+        Ground::Input(input) => {
             let more = shown_ends(alloc, &read.task, input, effort.turns)?;
             Ok(more)
         }
-        BaseClasses::Stopped(stop) => {
+        Ground::Stopped(stop) => {
             let mut more = reason_line(alloc, &read.task, &read.text, *stop)?;
             let trials = trials_line(alloc, &read.task, effort.turns)?;
             more.extend_from_slice(&trials)?;

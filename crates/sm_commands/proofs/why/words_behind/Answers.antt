@@ -5,7 +5,7 @@ use Rattle.sm_replies.proofs.SpelledLemmas.{is_spelled}
 use Rattle.sm_commands.proofs.WhySaid.{proved_says, shown_says, stopped_says}
 use Rattle.sm_replies.specs.Grounds.{RestsOn}
 use Rattle.sm_why.specs.Reasons.{IsReason}
-use Rattle.sm_replies.specs.declared.ground.BaseClasses.{BaseClasses}
+use Rattle.sm_replies.specs.declared.ground.Ground.{Ground}
 use Rattle.sm_commands.proofs.why.words_behind.Goals as goal
 
 pub trials_line-requires : goal.trials_line-requires
@@ -21,14 +21,14 @@ pub shown_ends-requires-clause-declared : goal.shown_ends-requires-clause-declar
 shown_ends-requires-clause-declared c =
     let t = parts_of c.args.read.now.task in
     let r = c.args.decided.now.reply in
-    (subst (λ (g : BaseClasses). RestsOn t c.args.effort r.status r.text.items g) c.in-Input.is c.requires.ground).1
+    (subst (λ (g : Ground). RestsOn t c.args.effort r.status r.text.items g) c.in-Input.is c.requires.ground).1
 
 pub returns-in_ok-more-in-Proved : goal.returns-in_ok-more-in-Proved
 returns-in_ok-more-in-Proved c =
     let t = parts_of c.args.read.now.task in
     let r = c.args.decided.now.reply in
     proved_says t c.args.effort r.status r.text.items c.in_ok-more-in-Proved.more.items
-    (subst (λ (g : BaseClasses). RestsOn t c.args.effort r.status r.text.items g) c.in-Proved.is c.requires.ground)
+    (subst (λ (g : Ground). RestsOn t c.args.effort r.status r.text.items g) c.in-Proved.is c.requires.ground)
     c.in_ok-more-in-Proved.ensures
 
 pub returns-in_ok-more-in-Input : goal.returns-in_ok-more-in-Input
@@ -36,7 +36,7 @@ returns-in_ok-more-in-Input c =
     let t = parts_of c.args.read.now.task in
     let r = c.args.decided.now.reply in
     shown_says t c.args.effort r.status r.text.items c.in_ok-more-in-Input.more.items c.in-Input.input
-    (subst (λ (g : BaseClasses). RestsOn t c.args.effort r.status r.text.items g) c.in-Input.is c.requires.ground)
+    (subst (λ (g : Ground). RestsOn t c.args.effort r.status r.text.items g) c.in-Input.is c.requires.ground)
     c.in_ok-more-in-Input.ensures
 
 pub returns-in_ok-extend_from_slice-in-Stopped : goal.returns-in_ok-extend_from_slice-in-Stopped
@@ -49,6 +49,6 @@ returns-in_ok-extend_from_slice-in-Stopped c =
     let printed : more ≡ reason ++ trials = search rules in
     let same : c.deref.result.now ≡ c.args.read.now.text.items = search rules in
     stopped_says t c.args.effort r.status r.text.items reason trials more c.args.read.now.text.items c.in-Stopped.stop
-    (subst (λ (g : BaseClasses). RestsOn t c.args.effort r.status r.text.items g) c.in-Stopped.is c.requires.ground)
+    (subst (λ (g : Ground). RestsOn t c.args.effort r.status r.text.items g) c.in-Stopped.is c.requires.ground)
     c.requires.spells (subst (λ (x : List ℕ). IsReason x t c.in-Stopped.stop reason) same c.in_ok-more-in-Stopped.ensures)
     c.in_ok-trials-in-Stopped.ensures printed
