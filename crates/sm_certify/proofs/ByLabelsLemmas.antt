@@ -8,7 +8,7 @@ use Rattle.sm_term.specs.declared.formula.Formula.{Formula}
 use Rattle.sm_term.specs.Terms.{Tree, Lit}
 use Rattle.sm_term.specs.Formulas.{numbered, assertion_in}
 use Rattle.sm_term.specs.Tables.{TableValue, trees_in, sorts_in, tree_at}
-use Rattle.sm_cc.specs.Behind.{AreEqualByLabels}
+use Rattle.sm_cc.specs.AddedTerms.{AreEqualByLabels}
 use Rattle.sm_pairs.specs.Pairs.{Pairs}
 use Rattle.sm_cc.specs.Rounds.{are_equal}
 use Rattle.sm_cc.specs.Views.{setting_of}

@@ -9,7 +9,7 @@ use Rattle.sm_term.specs.declared.term.TermId.{TermId}
 use Rattle.sm_term.specs.declared.formula.Formula.{Formula}
 use Rattle.sm_term.specs.declared.formula.Formula.TheVariants as tree
 use Rattle.sm_cc.specs.declared.classes.GivenFact.{GivenFact}
-use Rattle.sm_cc.specs.Behind.{IsGivenBefore, IsContraryOf, AddsOnly}
+use Rattle.sm_cc.specs.AddedTerms.{IsGivenBefore, IsContraryOf, AddsOnly}
 use Rattle.sm_cc.specs.Views.{equation_under, contrary_under}
 use Rattle.sm_certify.specs.Given.{given_from}
 use Rattle.sm_certify.proofs.GivenLemmas.{given_from-cons}

@@ -2,7 +2,7 @@
 ghost use Rattle.std.specs.Prelude.{◌≡◌, ◌↔◌, ℕ, List, true, length, slice_get, Some};
 ghost use Rattle.sm_term.specs.Formulas.{numbered, assertion_in, IsFormulaWithin};
 ghost use Rattle.sm_term.specs.Tables.{TableValue, trees_in, sorts_in};
-ghost use Rattle.sm_cc.specs.Behind.{AreEqualByLabels};
+ghost use Rattle.sm_cc.specs.AddedTerms.{AreEqualByLabels};
 ghost use Rattle.sm_certify.specs.Given.{IsWhole, classes_by, branch_of};
 ghost use Rattle.sm_judge.specs.Holding.{is_closed, is_refuted};
 ghost use Rattle.sm_list.specs.Parts.{all_numbered, AreFormulasWithin};

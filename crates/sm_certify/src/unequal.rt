@@ -4,7 +4,7 @@ ghost use Rattle.std.specs.Prelude.{slice_set, IfOk, IfSome};
 ghost use Rattle.std.specs.List.{list_all};
 ghost use Rattle.sm_term.specs.declared.formula.Formula.TheVariants as tree;
 ghost use Rattle.sm_cc.specs.declared.classes.GivenFact.{GivenFact};
-ghost use Rattle.sm_cc.specs.Behind.{AddsOnly};
+ghost use Rattle.sm_cc.specs.AddedTerms.{AddsOnly};
 ghost use Rattle.sm_certify.specs.Given.{given_from};
 
 use sm_term::{Formula, TermId};
