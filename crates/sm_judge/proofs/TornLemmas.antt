@@ -168,9 +168,6 @@ pub below_later : (m n : ℕ) (place : Option ℕ) → m < n → IfSome place (�
 below_later m n None h below = tt
 below_later m n (Some k) h below = omega (arith, h, below)
 
--- the last places of labels, with one place more
-module _ (labels : List ℕ) (n : ℕ) where
-
 -- the places from one on are searched: none there that has the label of the place n differs from it
 pub record IsSearched (sorts : Sorts) (trees : List Tree) (labels : List ℕ) (n : ℕ) (place : Option ℕ) : Type 0 where
   pub same : IfSome place (λ (m : ℕ). slice_index labels m ≡ slice_index labels n)
