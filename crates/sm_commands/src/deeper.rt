@@ -19,7 +19,7 @@ use sm_eval::Store;
 use sm_guided::{Shown, Tried, try_inputs};
 use sm_houdini::proof_text;
 use sm_par::Gate;
-use sm_replies::{Ground, Decided, Place, accepted, check, violated};
+use sm_replies::{Decided, Ground, Place, accepted, check, violated};
 use sm_solve::Reach;
 use sm_task::Task;
 use sm_words::Effort;

@@ -12,7 +12,7 @@ use crate::deeper::check_deeper;
 use sm_answers::{Reply, Spelled};
 use sm_display::shown_ends;
 use sm_par::Gate;
-use sm_replies::{Ground, Decided};
+use sm_replies::{Decided, Ground};
 use sm_why::{reason_line, trials_line};
 use sm_words::Effort;
 use std::alloc::{AllocError, Global};
