@@ -3,7 +3,7 @@ ghost use Rattle.std.specs.Prelude.{◌≡◌, ◌⊎◌, Some, None, IfOk, IfEr
 ghost use Rattle.sm_syntax.specs.claim.Meaning.{run};
 ghost use Rattle.sm_syntax.specs.text.Sorts.{IsWellSortedExpression, IsWellSortedCondition};
 ghost use Rattle.sm_syntax.specs.text.Sorts.{IsWellSorted};
-ghost use Rattle.sm_syntax.specs.claim.Syntax.{End, Write, While};
+ghost use Rattle.sm_syntax.specs.claim.Syntax.{Assign, End, Write, While};
 ghost use Rattle.sm_syntax.specs.trees.Views.{expression_of, condition_of, statement_of, code_of};
 ghost use Rattle.sm_eval.specs.Events.{event};
 ghost use Rattle.sm_eval.specs.StoredValues.{meaning, sorts_of};
@@ -58,11 +58,7 @@ fn run_stmt(t: &Stmt, s: &mut Store, turns: u64) -> Result<(), EvalError>
 {
     match t {
         Stmt::Skip | Stmt::Hole(_) => Ok(()),
-        Stmt::Assign(x, e) => {
-            let z = value(e, s)?;
-            s.set(*x, z);
-            Ok(())
-        }
+        Stmt::Assign(x, e) => assign(*x, e, s),
         Stmt::Store(a, i, e) => write(*a, i, e, s),
         Stmt::If(c, d, e) => {
             if truth(c, s)? {
@@ -96,6 +92,22 @@ fn run_loop(c: &Cond, b: &Block, s: &mut Store, turns: u64) -> Result<(), EvalEr
         left -= 1;
         run_block(b, s, turns)?;
     }
+    Ok(())
+}
+
+// A number variable gets a new number.
+fn assign(x: Name, e: &Expr, s: &mut Store) -> Result<(), EvalError>
+    requires { IsWellSorted (sorts_of s.old) (Assign x.0 (expression_of e.now) End) }
+    ensures event { let code = Assign x.0 (expression_of e.now) End in
+        OnOk result (event 0 code (meaning s.old) ≡ None) }
+    ensures end { let code = Assign x.0 (expression_of e.now) End in
+        OnOk result (run 0 code (meaning s.old) ≡ Some (meaning s.new)) }
+    ensures sorts { OnOk result (sorts_of s.new ≡ sorts_of s.old) }
+    ensures err { let code = Assign x.0 (expression_of e.now) End in
+        IfErr result (λ e'. (e' ≡ EvalError.Memory) ⊎ (event 0 code (meaning s.old) ≡ Some e')) }
+{
+    let z = value(e, s)?;
+    s.set(x, z);
     Ok(())
 }
 

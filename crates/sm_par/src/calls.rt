@@ -1,5 +1,5 @@
 // Calls of a closure, by workers.
-ghost use Rattle.std.specs.Prelude.{◌≡◌, ◌+◌, ◌^◌, ◌<◌, ◌≤◌, ℕ, IfOk};
+ghost use Rattle.std.specs.Prelude.{◌≡◌, ◌+◌, ◌^◌, ◌<◌, ◌≤◌, ◌++◌, ℕ, IfOk};
 ghost use Rattle.std.specs.Thread.{IsSync, IsSend};
 ghost use Rattle.sm_par.specs.Results.{MayGive, StandInOrder};
 
@@ -79,6 +79,36 @@ fn run_in_turn<G: Gate, T: Drop, F: Fn(u64) -> Result<T, AllocError>>(
     Ok(results)
 }
 
+// The halves of a part, neither of them empty.
+fn halves(part: Part) -> (Part, Part)
+    requires some { 2 ≤ part.count }
+    requires room { part.start + part.count < 2 ^ 64 }
+    ensures front { (result.0.start ≡ part.start) × (0 < result.0.count) }
+    ensures back { (result.1.start ≡ part.start + result.0.count) × (0 < result.1.count) }
+    ensures all { result.0.count + result.1.count ≡ part.count }
+{
+    let half = part.count / 2;
+    let front = Part {
+        start: part.start,
+        count: half,
+    };
+    let back = Part {
+        start: part.start + half,
+        count: part.count - half,
+    };
+    (front, back)
+}
+
+// Results, and behind them others.
+fn together<T: Drop>(first: Vec<T>, second: Vec<T>) -> Result<Vec<T>, AllocError>
+    ensures { IfOk result (λ all. all.items ≡ first.items ++ second.items) }
+{
+    let mut all = first;
+    let mut rest = second;
+    all.append(&mut rest)?;
+    Ok(all)
+}
+
 // Calls with the numbers of a part. It is halved, as are the workers, and one half goes to another
 // thread.
 #[cycle(parts)]
@@ -100,38 +130,23 @@ fn run_part<R: Threads + Sync, G: Gate, T: Send + Drop, F: Fn(u64) -> Result<T, 
     if workers == 1 || part.count < 2 {
         return run_in_turn(alloc, gate, phase, call, part);
     }
-    let start = part.start;
-    let half = part.count / 2;
-    let others = part.count - half;
-    let up = start + half;
+    let (before, behind) = halves(part);
     let mine = workers / 2;
     let theirs = workers - mine;
     let front = move || -> Result<Vec<T>, AllocError>
-        requires { IsSync R.row × IsSync G.row × IsSync F.row × IsSend T.row × (0 < half)
-            × (0 < mine) × (start + half < 2 ^ 64)
-            × ((i : ℕ) → i < start + half → F.pre call.now i) }
+        requires { IsSync R.row × IsSync G.row × IsSync F.row × IsSend T.row × (0 < mine)
+            × (before.start + before.count < 2 ^ 64)
+            × ((i : ℕ) → i < before.start + before.count → F.pre call.now i) }
         ensures { IfOk result (λ results.
-            StandInOrder (MayGive F.Fn call.entry.now) start half results.items) }
-    {
-        let part = Part { start, count: half };
-        run_part(rt, alloc, gate, phase, call, part, mine)
-    };
+            StandInOrder (MayGive F.Fn call.entry.now) before.start before.count results.items) }
+    { run_part(rt, alloc, gate, phase, call, before, mine) };
     let back = move || -> Result<Vec<T>, AllocError>
-        requires { IsSync R.row × IsSync G.row × IsSync F.row × IsSend T.row × (0 < others)
-            × (0 < theirs) × (up + others < 2 ^ 64)
-            × ((i : ℕ) → i < up + others → F.pre call.now i) }
+        requires { IsSync R.row × IsSync G.row × IsSync F.row × IsSend T.row × (0 < theirs)
+            × (behind.start + behind.count < 2 ^ 64)
+            × ((i : ℕ) → i < behind.start + behind.count → F.pre call.now i) }
         ensures { IfOk result (λ results.
-            StandInOrder (MayGive F.Fn call.entry.now) up others results.items) }
-    {
-        let part = Part {
-            start: up,
-            count: others,
-        };
-        run_part(rt, alloc, gate, phase, call, part, theirs)
-    };
+            StandInOrder (MayGive F.Fn call.entry.now) behind.start behind.count results.items) }
+    { run_part(rt, alloc, gate, phase, call, behind, theirs) };
     let (first, second) = join(rt, front, back);
-    let mut results = first?;
-    let mut rest = second?;
-    results.append(&mut rest)?;
-    Ok(results)
+    together(first?, second?)
 }

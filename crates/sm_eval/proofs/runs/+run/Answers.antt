@@ -1,19 +1,13 @@
-use Rattle.std.proofs.Common.{rules, ◌≡◌, ◌⊎◌, ℤ, Some, IfErr, sym, ap, subst, ◌∙◌}
-use Rattle.std.proofs.lemmas.Int.{to_z-of_z}
-use Rattle.std.specs.Int.{w128}
-use mir.Val.{SFits}
+use Rattle.std.proofs.Common.{◌≡◌, ◌⊎◌, Some, IfErr, sym, ap, subst, ◌∙◌}
 use Rattle.sm_syntax.specs.declared.tree.Stmt.{Stmt}
 use Rattle.sm_syntax.specs.claim.Meaning.{truth_of, run}
-use Rattle.sm_syntax.specs.claim.Syntax.{Code, End, Assign}
-use Rattle.sm_syntax.specs.text.Sorts.{IsWellSorted}
-use Rattle.sm_syntax.specs.claim.Stores.{Value, Number, Store, put}
-use Rattle.sm_syntax.specs.trees.Views.{expression_of, condition_of, statement_of, code_of}
-use Rattle.sm_syntax.proofs.Statements.{statement_of-Assign, statement_of-While}
+use Rattle.sm_syntax.specs.claim.Syntax.{Code, End}
+use Rattle.sm_syntax.specs.trees.Views.{condition_of, statement_of, code_of}
+use Rattle.sm_syntax.proofs.Statements.{statement_of-While}
 use Rattle.sm_eval.specs.declared.error.EvalError.{EvalError}
 use Rattle.sm_eval.specs.declared.error.EvalError.TheVariants.{Memory}
 use Rattle.sm_eval.specs.Events.{event}
-use Rattle.sm_eval.specs.StoredValues.{meaning, sorts_of}
-use Rattle.sm_eval.proofs.Numbers.{sorted_number}
+use Rattle.sm_eval.specs.StoredValues.{meaning}
 use Rattle.sm_eval.proofs.Turns.{answered, turns_event-turn, turns-turn}
 use Rattle.sm_eval.proofs.runs.+run.Goals as goal
 
@@ -43,19 +37,3 @@ run_stmt-returns-in-While-clause-err t c =
     subst (λ (k : Code). IfErr c.run_loop.result (λ (e : EvalError). (e ≡ Memory) ⊎ (event c.args.turns k (meaning c.args.s.now) ≡ Some e)))
     (sym same)
     c.run_loop.ensures.err
-
--- the expression has the number that was computed
-pub run_stmt-returns-in_ok-z-in-Assign-clause-end : goal.run_stmt-returns-in_ok-z-in-Assign-clause-end
-run_stmt-returns-in_ok-z-in-Assign-clause-end t c =
-    let n = c.args.turns in
-    let s = c.args.s.now in
-    let x = c.in-Assign.x.0 in
-    let e = expression_of c.in-Assign.e in
-    let same = ap (λ (s : Stmt). statement_of s End) c.in-Assign.is ∙ statement_of-Assign c.in-Assign.x c.in-Assign.e End in
-    let sorted : IsWellSorted (sorts_of s) (Assign x e End) = subst (IsWellSorted (sorts_of s)) same c.requires in
-    let known = answered _ _ _ c.in_ok-z-in-Assign.ensures in
-    let fits : SFits w128 c.in_ok-z-in-Assign.z = search rules in
-    let written = simp to_z-of_z at c.set.ensures.value in
-    ap (λ (k : Code). run n k (meaning s)) same ∙
-    ap (λ (v : Value). Some (put (meaning s) x v)) (sorted_number s e sorted.1 ∙ ap (λ (z : ℤ). Number z) (sym known.1)) ∙
-    ap (λ (u : Store). Some u) (sym written)
