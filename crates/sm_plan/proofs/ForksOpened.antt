@@ -18,20 +18,14 @@ use Rattle.sm_term.proofs.FormsLemmas.{contrary_within}
 use Rattle.sm_plan.specs.declared.state.SymState.{SymState}
 use Rattle.sm_plan.specs.Copies.{with_copy}
 use Rattle.sm_plan.specs.Nodes as plan
+use Rattle.sm_plan.specs.Openings.{IsBranch}
 use Rattle.sm_plan.specs.States.{State}
 use Rattle.sm_plan.specs.Successors.{moved, with_facts, branch_state}
-use Rattle.sm_plan.specs.Views.{rest_code, forms_in, state_in}
+use Rattle.sm_plan.specs.Views.{forms_in, state_in}
 use Rattle.sm_plan.specs.ReadyStates.{IsFormReady, IsStateReady}
 use Rattle.sm_plan.proofs.PartsMoved.{numbers_of, given_same, moved_is, moved_ready}
 use Rattle.sm_plan.proofs.SortedTerms.{negate_sorted}
 use Rattle.sm_plan.proofs.TablesWiden.{store_stays, store_ready}
-
--- another rest of one copy
-pub record IsBranch (st next : SymState) (c : Copy) (k : Code) : Type 0 where
-  pub rests : (d : Copy) → rest_code (of_copy next.rests d) ≡ with_copy (λ (e : Copy). rest_code (of_copy st.rests e)) c k d
-  pub stores : (d : Copy) → numbers_of (of_copy next.stores d) ≡ numbers_of (of_copy st.stores d)
-  pub target : next.target.value.list.items ≡ st.target.value.list.items
-  pub is_final : next.is_final ≡ st.is_final
 
 -- the formula of a condition over a store of a ready state, and its contrary
 module _ (v w : TableValue) (wider : ExtendsTable v w) (s : SymStore) (b : Condition) (f : Formula)
@@ -65,13 +59,13 @@ module _ (v w : TableValue) (wider : ExtendsTable v w) (st next : SymState) (c :
       ≡ with_copy (λ (e : Copy). numbers_of (of_copy st.stores e)) c (numbers_of (of_copy st.stores c)) d
   same_stores d = branch.stores d ∙ sym (given_same (λ (e : Copy). numbers_of (of_copy st.stores e)) c d)
 
-  pub branch_is : (facts : List Assertion) (f : Formula) (a : Assertion) → assertion_in (sorts_in w) (trees_in w) (numbered f) ≡ a
-      → state_in (sorts_in w) (trees_in w) (facts ++ forms_in (sorts_in w) (trees_in w) (f ∷ [])) next
+  pub branch_is : (facts : List Assertion) (fs : List Formula) (a : Assertion) → forms_in (sorts_in w) (trees_in w) fs ≡ a ∷ []
+      → state_in (sorts_in w) (trees_in w) (facts ++ forms_in (sorts_in w) (trees_in w) fs) next
       ≡ branch_state (state_in (sorts_in v) (trees_in v) facts st) c k a
-  branch_is facts f a made =
+  branch_is facts fs a made =
       let was = state_in (sorts_in v) (trees_in v) facts st in
       let store = of_copy st.stores c in
-      ap (λ (g : Assertion). state_in (sorts_in w) (trees_in w) (facts ++ g ∷ []) next) made
+      ap (λ (l : List Assertion). state_in (sorts_in w) (trees_in w) (facts ++ l) next) made
       ∙ moved_is v w wider st next c k store branch.rests same_stores branch.target branch.is_final ready facts (a ∷ [])
       ∙ ap (λ (s : SymbolicStore). with_facts (moved was c k s) (a ∷ [])) (store_stays v w wider store (ready.stores c).0)
 

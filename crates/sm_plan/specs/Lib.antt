@@ -20,3 +20,5 @@ pub mod Example
 pub mod Cases
 pub mod Openings
 pub mod Starts
+pub mod BlockParts
+pub mod LoopParts

@@ -4,14 +4,17 @@ use Rattle.std.specs.Prelude.{List, [], ◌∷◌, map, get_or, option_map, IfSo
 use Rattle.sm_syntax.specs.declared.tree.Name.{Name}
 use Rattle.sm_term.specs.declared.term.TermId.{TermId}
 use Rattle.sm_syntax.specs.claim.Syntax.{Code}
+use Rattle.sm_syntax.specs.claim.ConflictFree.{Copy}
+use Rattle.sm_syntax.specs.trees.Copies.{of_copy}
 use Rattle.sm_term.specs.Assertions.{Assertion}
 use Rattle.sm_term.specs.Symbolic.{SymbolicStore}
 use Rattle.sm_term.specs.Tables.{TableValue, trees_in, sorts_in}
 use Rattle.sm_plan.specs.declared.opening.Opened.{Opened}
 use Rattle.sm_plan.specs.declared.state.SymState.{SymState}
+use Rattle.sm_plan.specs.Copies.{with_copy}
 use Rattle.sm_plan.specs.Nodes as plan
 use Rattle.sm_plan.specs.ReadyStates.{AreSuccessorsReady, AreFormsReady, AreStoresReady}
-use Rattle.sm_plan.specs.Views.{opened_in, stores_in}
+use Rattle.sm_plan.specs.Views.{rest_code, opened_in, stores_in}
 
 -- what a statement leaves of code and of a store, where it is done
 abbrev pub done_if : Bool → Code → SymbolicStore → Option (Code × SymbolicStore)
@@ -31,6 +34,14 @@ pub record IsOpening (old new : TableValue) (st : SymState)
   pub goals : IfSome o (λ (p : Opened).
       AreFormsReady (sorts_in new) (trees_in new) p.goals.list.items)
   pub asking : IfSome o (λ (p : Opened). AreStoresReady (sorts_in new) (trees_in new) p.stores)
+
+-- a state in which one copy has another rest
+pub record IsBranch (st next : SymState) (c : Copy) (k : Code) : Type 0 where
+  pub rests : (d : Copy) → rest_code (of_copy next.rests d)
+      ≡ with_copy (λ (e : Copy). rest_code (of_copy st.rests e)) c k d
+  pub stores : (d : Copy) → (of_copy next.stores d).list.items ≡ (of_copy st.stores d).list.items
+  pub target : next.target.value.list.items ≡ st.target.value.list.items
+  pub is_final : next.is_final ≡ st.is_final
 
 -- the terms that a list has at names
 abbrev pub terms_named : List TermId → List Name → List TermId

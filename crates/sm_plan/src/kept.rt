@@ -13,6 +13,7 @@ ghost use Rattle.sm_plan.specs.Views.{forms_in};
 use crate::state::Formulas;
 use sm_term::{Formula, copy_formula};
 use std::alloc::{AllocError, Global};
+use std::rc::Rc;
 
 // Whether a formula may be kept.
 pub(crate) fn is_kept(keep: &Formula) -> bool
@@ -63,6 +64,18 @@ pub(crate) fn conjuncts(alloc: Global, keep: &Formula) -> Result<Formulas, Alloc
     let mut list = Vec::new(alloc);
     put_parts(alloc, &mut list, keep)?;
     Ok(Formulas { list })
+}
+
+// The parts of a conjunction, in order, for states that share them.
+pub(crate) fn shared_parts(alloc: Global, keep: &Formula) -> Result<Rc<Formulas>, AllocError>
+    ensures made { IfOk result (λ fs. (sorts : Sorts) (trees : List Tree) →
+        forms_in sorts trees fs.value.list.items
+        ≡ conj (assertion_in sorts trees (numbered keep.now))) }
+    ensures ready { IfOk result (λ fs. (sorts : Sorts) (trees : List Tree) →
+        IsFormReady sorts trees keep.now → AreFormsReady sorts trees fs.value.list.items) }
+{
+    let parts = conjuncts(alloc, keep)?;
+    Ok(Rc::new(alloc, parts)?)
 }
 
 // Puts the parts of a conjunction behind others.

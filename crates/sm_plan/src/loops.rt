@@ -14,6 +14,7 @@ ghost use Rattle.sm_plan.specs.Copies as sets;
 ghost use Rattle.sm_plan.specs.Heads as heads;
 ghost use Rattle.sm_plan.specs.Limits as limits;
 ghost use Rattle.sm_plan.specs.LoopHeads.{IsHeadReady, IsHeadOf};
+ghost use Rattle.sm_plan.specs.LoopParts.{IsLoopOf, IsLoopReady};
 ghost use Rattle.sm_plan.specs.Masks.{set_of};
 ghost use Rattle.sm_plan.specs.Nodes as plan;
 ghost use Rattle.sm_plan.specs.Openings.{IsOpening};
@@ -23,17 +24,16 @@ ghost use Rattle.sm_plan.specs.Statements.{is_loop, loop_guard};
 ghost use Rattle.sm_plan.specs.Views.{rest_code, stores_in, state_in};
 
 use crate::heads::{bodies, guard, has};
-use crate::kept::{conjuncts, is_kept};
+use crate::kept::{is_kept, shared_parts};
 use crate::opening::Opened;
 use crate::renew::renewed_stores;
 use crate::rest::Continuation;
-use crate::slots::at_stores;
+use crate::slots::{at_stores, shared_at};
 use crate::state::{Formulas, SymState};
-use crate::turns::{Head, after_loops, turns};
+use crate::turns::{Head, LoopParts, looped, turns};
 use sm_syntax::{CopyName, PerCopy};
 use sm_term::{Formula, SymStore, TermTable};
 use std::alloc::{AllocError, Global};
-use std::rc::Rc;
 
 // Whether a copy is outside of a set, or a loop comes next.
 fn may_turn(rest: &Continuation<'_>, set: u8, copy: CopyName) -> bool
@@ -196,14 +196,35 @@ fn head_of(
 {
     let done = bodies(alloc, &state.rests, set)?;
     let stores = renewed_stores(alloc, table, number, &done, &state.stores)?;
-    let kept = at_stores(alloc, table, &stores, &parts.list)?;
-    let kept = Rc::new(alloc, kept)?;
+    let kept = shared_at(alloc, table, &stores, parts)?;
     let guards = guards(alloc, table, &state.rests, &stores, set)?;
     Ok(Head {
         stores,
         kept,
         guards,
     })
+}
+
+// What the loops of a set of copies make at a state, with a number and a formula.
+fn loop_parts<'a>(
+    alloc: Global,
+    table: &mut TermTable,
+    number: u64,
+    state: &SymState<'a>,
+    set: u8,
+    keep: &Formula,
+) -> Result<LoopParts<'a>, AllocError>
+    requires state { IsStateReady (sorts_in table.old) (trees_in table.old) state.now }
+    requires keep { IsFormReady (sorts_in table.old) (trees_in table.old) keep.now }
+    ensures made { IfOk result (IsLoopOf table.old table.new number state.now set keep.now) }
+    ensures ready { IfOk result (IsLoopReady (sorts_in table.new) (trees_in table.new)) }
+    ensures widens { ExtendsTable table.old table.new }
+{
+    let target = shared_parts(alloc, keep)?;
+    let goals = at_stores(alloc, table, &state.stores, &target.list)?;
+    let head = head_of(alloc, table, number, state, set, &target)?;
+    let turns = turns(alloc, &state.rests, &head, &target, set)?;
+    Ok(LoopParts { goals, head, turns })
 }
 
 /// What the loops of a set of copies open at a state, with a number and a formula that each turn
@@ -229,13 +250,17 @@ pub(crate) fn open_loop<'a>(
     if !may_loop(&state.rests, set, keep) {
         return Ok(None);
     }
-    let parts = conjuncts(alloc, keep)?;
-    let goals = at_stores(alloc, table, &state.stores, &parts.list)?;
-    let head = head_of(alloc, table, number, &state, set, &parts)?;
-    let target = Rc::new(alloc, parts)?;
-    let mut states = turns(alloc, &state.rests, &head, &target, set)?;
-    let after = after_loops(alloc, state.rests, head, state.target, state.is_final, set)?;
-    states.push(after)?;
+    let made = loop_parts(alloc, table, number, &state, set, keep)?;
+    let LoopParts { goals, head, turns } = made;
+    let states = looped(
+        alloc,
+        state.rests,
+        head,
+        state.target,
+        state.is_final,
+        set,
+        turns,
+    )?;
     Ok(Some(Opened {
         goals,
         stores: state.stores,

@@ -16,6 +16,7 @@ use sm_syntax::PerCopy;
 use sm_term::{Formula, SymStore, TermId, TermTable};
 use std::alloc::{AllocError, Global};
 use std::collections::HashMap;
+use std::rc::Rc;
 
 // The numbers of two terms with their slots replaced.
 fn filled_terms(
@@ -162,4 +163,25 @@ pub(crate) fn at_stores(
         list.push(filled_form(alloc, table, stores, &mut known, form)?)?;
     }
     Ok(Formulas { list })
+}
+
+// Formulas with each slot replaced, for states that share them.
+pub(crate) fn shared_at(
+    alloc: Global,
+    table: &mut TermTable,
+    stores: &PerCopy<SymStore>,
+    forms: &Formulas,
+) -> Result<Rc<Formulas>, AllocError>
+    requires forms { AreFormsReady (sorts_in table.old) (trees_in table.old) forms.now.list.items }
+    requires stores { AreStoresReady (sorts_in table.old) (trees_in table.old) stores.now }
+    ensures made { let sorts = sorts_in table.old in
+        let trees = trees_in table.old in IfOk result (λ fs.
+        forms_in (sorts_in table.new) (trees_in table.new) fs.value.list.items
+        ≡ all_at_stores (stores_in trees stores.now) (forms_in sorts trees forms.now.list.items)) }
+    ensures ready { IfOk result (λ fs.
+        AreFormsReady (sorts_in table.new) (trees_in table.new) fs.value.list.items) }
+    ensures widens { ExtendsTable table.old table.new }
+{
+    let filled = at_stores(alloc, table, stores, &forms.list)?;
+    Ok(Rc::new(alloc, filled)?)
 }

@@ -188,6 +188,44 @@ fn pass(alloc: Global, rests: &mut PerCopy<Continuation<'_>>, copy: CopyName, co
     exchange(rests, copy, &mut rest);
 }
 
+// What a summary of first statements makes: the store with the summaries, and that the last guard is
+// false.
+#[derive(Drop)]
+struct Summed {
+    terms: SymStore,
+    guard: Formulas,
+}
+
+// The summary of a copy's first statements, from its store before.
+fn sum_up(
+    alloc: Global,
+    table: &mut TermTable,
+    rest: &Continuation<'_>,
+    store: &SymStore,
+    count: u64,
+) -> Result<Summed, AllocError>
+    requires well { IsWellSorted (sorts_in table.old) (rest_code rest.now) }
+    requires ready { IsStoreReady (sorts_in table.old) (trees_in table.old) store.now }
+    requires full { IsStoreFull (sorts_in table.old) store.now }
+    ensures terms { let f = store_in (trees_in table.old) store.now in
+        let done = code.front count (rest_code rest.now) in
+        IfOk result (λ s. store_in (trees_in table.new) s.terms ≡ next.summarized done f) }
+    ensures within { IfOk result (λ s. IsStoreWithin (length (trees_in table.new)) s.terms) }
+    ensures len { IfOk result (λ s. length s.terms.list.items ≡ length store.now.list.items) }
+    ensures guard { let done = code.front count (rest_code rest.now) in IfOk result (λ s.
+        forms_in (sorts_in table.new) (trees_in table.new) s.guard.list.items
+        ≡ next.false_guard (code.last_guard done) (store_in (trees_in table.new) s.terms)) }
+    ensures ready { IfOk result (λ s.
+        AreFormsReady (sorts_in table.new) (trees_in table.new) s.guard.list.items) }
+    ensures widens { ExtendsTable table.old table.new }
+{
+    let done = rest.front(alloc, count)?;
+    let block = done.block(alloc)?;
+    let terms = summarize(alloc, table, &block, store)?;
+    let guard = false_guard(alloc, table, last_guard(&block), &terms)?;
+    Ok(Summed { terms, guard })
+}
+
 // What the summary of a copy's first statements opens.
 pub(crate) fn open_abs<'a>(
     alloc: Global,
@@ -209,12 +247,10 @@ pub(crate) fn open_abs<'a>(
     if !can_pass(state.rests.get(copy), count) {
         return Ok(None);
     }
-    let done = state.rests.get(copy).front(alloc, count)?;
-    let block = done.block(alloc)?;
-    let mut store = summarize(alloc, table, &block, state.stores.get(copy))?;
-    let more = false_guard(alloc, table, last_guard(&block), &store)?;
+    let rest = state.rests.get(copy);
+    let mut made = sum_up(alloc, table, rest, state.stores.get(copy), count)?;
     pass(alloc, &mut state.rests, copy, count);
-    exchange(&mut state.stores, copy, &mut store);
-    let opened = follows_one(alloc, state, more)?;
+    exchange(&mut state.stores, copy, &mut made.terms);
+    let opened = follows_one(alloc, state, made.guard)?;
     Ok(Some(opened))
 }

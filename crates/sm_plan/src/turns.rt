@@ -34,6 +34,14 @@ pub(crate) struct Head {
     pub guards: PerCopy<Option<Formula>>,
 }
 
+// What loops make at a state: the goals before them, their head, and the turns.
+#[derive(Drop)]
+pub(crate) struct LoopParts<'a> {
+    pub goals: Formulas,
+    pub head: Head,
+    pub turns: Vec<Successor<'a>>,
+}
+
 // One turn of the loops of some copies.
 fn turn<'a>(
     alloc: Global,
@@ -153,7 +161,7 @@ fn pass_loops(rests: &mut PerCopy<Continuation<'_>>, set: u8)
 }
 
 // What comes after the loops of a set.
-pub(crate) fn after_loops<'a>(
+fn after_loops<'a>(
     alloc: Global,
     mut rests: PerCopy<Continuation<'a>>,
     head: Head,
@@ -185,4 +193,33 @@ pub(crate) fn after_loops<'a>(
             is_final,
         },
     })
+}
+
+// The turns and what comes after the loops.
+pub(crate) fn looped<'a>(
+    alloc: Global,
+    rests: PerCopy<Continuation<'a>>,
+    head: Head,
+    target: Rc<Formulas>,
+    is_final: bool,
+    set: u8,
+    mut turns: Vec<Successor<'a>>,
+) -> Result<Vec<Successor<'a>>, AllocError>
+    ensures states { (sorts : Sorts) (trees : List Tree) (facts : List Assertion) → IfOk result (λ o.
+        map (successor_in sorts trees facts) o.items
+        ≡ map (successor_in sorts trees facts) turns.entry.items
+        ++ heads.after_of (λ c. rest_code (of_copy rests.entry c)) facts
+        (stores_in trees head.stores) (forms_in sorts trees head.kept.value.list.items)
+        (heads.guard_forms sorts trees head.guards)
+        (forms_in sorts trees target.value.list.items) is_final (set_of set) ∷ []) }
+    ensures ready { (sorts : Sorts) (trees : List Tree) →
+        ((c : Copy) → IsWellSorted sorts (rest_code (of_copy rests.entry c))) →
+        IsHeadReady sorts trees head →
+        AreFormsReady sorts trees target.value.list.items →
+        AreSuccessorsReady sorts trees turns.entry.items →
+        IfOk result (λ o. AreSuccessorsReady sorts trees o.items) }
+{
+    let after = after_loops(alloc, rests, head, target, is_final, set)?;
+    turns.push(after)?;
+    Ok(turns)
 }

@@ -1,67 +1,55 @@
 -- One table after the other.
-use Rattle.std.proofs.Common.{◌≡◌, List, ◌∙◌, sym, ap, subst}
+use Rattle.std.proofs.Common.{◌≡◌, List, ◌∙◌, ap}
 use Rattle.std.proofs.Math.Path.{fun_ext}
 use Rattle.sm_syntax.specs.claim.Syntax.{Code}
 use Rattle.sm_syntax.specs.claim.ConflictFree.{Copy}
 use Rattle.sm_syntax.specs.trees.Copies.{of_copy}
 use Rattle.sm_term.specs.declared.formula.Formula.{Formula}
-use Rattle.sm_term.specs.Assertions.{Assertion}
 use Rattle.sm_term.specs.Slots.{all_at_stores}
 use Rattle.sm_term.specs.Symbolic.{SymbolicStore}
-use Rattle.sm_term.specs.Tables.{TableValue, trees_in, sorts_in}
-use Rattle.sm_term.specs.TableLaws.{ExtendsTable}
-use Rattle.sm_plan.specs.declared.state.Formulas.{Formulas}
+use Rattle.sm_term.specs.Tables.{trees_in, sorts_in}
 use Rattle.sm_plan.specs.Heads.{guards_at}
 use Rattle.sm_plan.specs.LoopHeads.{stores_at}
 use Rattle.sm_plan.specs.Masks.{set_of}
-use Rattle.sm_plan.specs.ReadyStates.{AreFormsReady}
 use Rattle.sm_plan.specs.Successors.{renewed}
 use Rattle.sm_plan.specs.Views.{rest_code, forms_in, stores_in}
 use Rattle.sm_plan.proofs.TablesWiden.{widens_grown, widens_twice, stores_stay, stores_ready, stores_full, forms_stay, forms_ready}
 use Rattle.sm_plan.proofs.loops.head_of.Goals as goal
 
-pub at_stores-requires-clause-forms : goal.at_stores-requires-clause-forms
-at_stores-requires-clause-forms c =
+pub shared_at-requires-clause-forms : goal.shared_at-requires-clause-forms
+shared_at-requires-clause-forms c =
     let u = c.args.table.now in
     let v = c.renewed_stores.new.table in
-    subst (AreFormsReady (sorts_in v) (trees_in v)) (sym c.deref.ensures.value)
-    (forms_ready u v (widens_grown u v c.renewed_stores.ensures.grows) c.args.parts.now.list.items c.requires.parts)
+    forms_ready u v (widens_grown u v c.renewed_stores.ensures.grows) c.args.parts.now.list.items c.requires.parts
 
 pub guards-requires-clause-stores : goal.guards-requires-clause-stores
 guards-requires-clause-stores c =
-    stores_ready c.renewed_stores.new.table c.at_stores.new.table c.at_stores.ensures.widens c.in_ok-stores.stores
+    stores_ready c.renewed_stores.new.table c.shared_at.new.table c.shared_at.ensures.widens c.in_ok-stores.stores
     c.in_ok-stores.ensures.ready
 
 pub returns-in_err-guards-clause-widens : goal.returns-in_err-guards-clause-widens
 returns-in_err-guards-clause-widens c =
     let u = c.args.table.now in
     let v = c.renewed_stores.new.table in
-    let w = c.at_stores.new.table in
+    let w = c.shared_at.new.table in
     let x = c.guards.new.table in
-    widens_twice u w x (widens_twice u v w (widens_grown u v c.renewed_stores.ensures.grows) c.at_stores.ensures.widens)
+    widens_twice u w x (widens_twice u v w (widens_grown u v c.renewed_stores.ensures.grows) c.shared_at.ensures.widens)
     (widens_grown w x c.guards.ensures.grows)
-
-pub returns-in_err-kept-2-clause-widens : goal.returns-in_err-kept-2-clause-widens
-returns-in_err-kept-2-clause-widens c =
-    let u = c.args.table.now in
-    let v = c.renewed_stores.new.table in
-    let w = c.at_stores.new.table in
-    widens_twice u v w (widens_grown u v c.renewed_stores.ensures.grows) c.at_stores.ensures.widens
 
 pub returns-clause-widens : goal.returns-clause-widens
 returns-clause-widens c =
     let u = c.args.table.now in
     let v = c.renewed_stores.new.table in
-    let w = c.at_stores.new.table in
+    let w = c.shared_at.new.table in
     let x = c.guards.new.table in
-    widens_twice u w x (widens_twice u v w (widens_grown u v c.renewed_stores.ensures.grows) c.at_stores.ensures.widens)
+    widens_twice u w x (widens_twice u v w (widens_grown u v c.renewed_stores.ensures.grows) c.shared_at.ensures.widens)
     (widens_grown w x c.guards.ensures.grows)
 
 pub returns-clause-made : goal.returns-clause-made
 returns-clause-made c =
     let u = c.args.table.now in
     let v = c.renewed_stores.new.table in
-    let w = c.at_stores.new.table in
+    let w = c.shared_at.new.table in
     let x = c.guards.new.table in
     let st = c.args.state.now in
     let k = c.args.number in
@@ -72,37 +60,30 @@ returns-clause-made c =
     let s = c.in_ok-stores.stores in
     let to_v = widens_grown u v c.renewed_stores.ensures.grows in
     let to_x = widens_grown w x c.guards.ensures.grows in
-    let ready_w = stores_ready v w c.at_stores.ensures.widens s c.in_ok-stores.ensures.ready in
+    let ready_w = stores_ready v w c.shared_at.ensures.widens s c.in_ok-stores.ensures.ready in
     let at_v : stores_in (trees_in v) s ≡ head =
     c.in_ok-stores.ensures.made ∙ ap (λ (f : Copy → Code). renewed k f (stores_in (trees_in u) st.stores)) (fun_ext c.in_ok-done.ensures) in
-    let at_w : stores_in (trees_in w) s ≡ head = stores_stay v w c.at_stores.ensures.widens s c.in_ok-stores.ensures.ready ∙ at_v in
-    let same : c.in_ok-kept-2.kept.value.list.items ≡ c.in_ok-kept.kept.list.items =
-    ap (λ (f : Formulas). f.list.items) c.in_ok-kept-2.ensures.ok in
-    let kept : forms_in (sorts_in w) (trees_in w) c.in_ok-kept.kept.list.items
+    let at_w : stores_in (trees_in w) s ≡ head = stores_stay v w c.shared_at.ensures.widens s c.in_ok-stores.ensures.ready ∙ at_v in
+    let kept : forms_in (sorts_in w) (trees_in w) c.in_ok-kept.kept.value.list.items
     ≡ all_at_stores head (forms_in (sorts_in u) (trees_in u) parts) =
     c.in_ok-kept.ensures.made
-    ∙ ap (λ (l : List Formula). all_at_stores (stores_in (trees_in v) s) (forms_in (sorts_in v) (trees_in v) l)) c.deref.ensures.value
     ∙ (λ i. all_at_stores (at_v i) (forms_stay u v to_v parts c.requires.parts i)) in
     record {
       stores = stores_stay w x to_x s ready_w ∙ at_w;
-      kept = ap (forms_in (sorts_in x) (trees_in x)) same
-          ∙ forms_stay w x to_x c.in_ok-kept.kept.list.items c.in_ok-kept.ensures.ready ∙ kept;
+      kept = forms_stay w x to_x c.in_ok-kept.kept.value.list.items c.in_ok-kept.ensures.ready ∙ kept;
       guards = fun_ext c.in_ok-guards.ensures.made ∙ ap (guards_at set rest) at_w;
     }
 
 pub returns-clause-ready : goal.returns-clause-ready
 returns-clause-ready c =
     let v = c.renewed_stores.new.table in
-    let w = c.at_stores.new.table in
+    let w = c.shared_at.new.table in
     let x = c.guards.new.table in
     let s = c.in_ok-stores.stores in
     let to_x = widens_grown w x c.guards.ensures.grows in
-    let same : c.in_ok-kept-2.kept.value.list.items ≡ c.in_ok-kept.kept.list.items =
-    ap (λ (f : Formulas). f.list.items) c.in_ok-kept-2.ensures.ok in
     record {
-      stores = stores_ready w x to_x s (stores_ready v w c.at_stores.ensures.widens s c.in_ok-stores.ensures.ready);
-      full = stores_full w x to_x s (stores_full v w c.at_stores.ensures.widens s c.in_ok-stores.ensures.full);
-      kept = subst (AreFormsReady (sorts_in x) (trees_in x)) (sym same)
-          (forms_ready w x to_x c.in_ok-kept.kept.list.items c.in_ok-kept.ensures.ready);
+      stores = stores_ready w x to_x s (stores_ready v w c.shared_at.ensures.widens s c.in_ok-stores.ensures.ready);
+      full = stores_full w x to_x s (stores_full v w c.shared_at.ensures.widens s c.in_ok-stores.ensures.full);
+      kept = forms_ready w x to_x c.in_ok-kept.kept.value.list.items c.in_ok-kept.ensures.ready;
       guards = c.in_ok-guards.ensures.ready;
     }

@@ -1,0 +1,22 @@
+-- What is shared is what is filled.
+use Rattle.std.proofs.Common.{List, sym, ap, subst, ◌∙◌}
+use Rattle.sm_term.specs.declared.formula.Formula.{Formula}
+use Rattle.sm_term.specs.Slots.{all_at_stores}
+use Rattle.sm_term.specs.Tables.{trees_in, sorts_in}
+use Rattle.sm_plan.specs.declared.state.Formulas.{Formulas}
+use Rattle.sm_plan.specs.ReadyStates.{AreFormsReady}
+use Rattle.sm_plan.specs.Views.{forms_in, stores_in}
+use Rattle.sm_plan.proofs.slots.shared_at.Goals as goal
+
+pub at_stores-requires-clause-forms : goal.at_stores-requires-clause-forms
+at_stores-requires-clause-forms c =
+    let u = c.args.table.now in
+    subst (AreFormsReady (sorts_in u) (trees_in u)) (sym c.deref.ensures.value) c.requires.forms
+
+pub returns-clause-made : goal.returns-clause-made
+returns-clause-made c =
+    let u = c.args.table.now in
+    let w = c.at_stores.new.table in
+    ap (λ (f : Formulas). forms_in (sorts_in w) (trees_in w) f.list.items) c.in_ok-new.ensures.ok ∙ c.in_ok-filled.ensures.made
+    ∙ ap (λ (l : List Formula). all_at_stores (stores_in (trees_in u) c.args.stores.now) (forms_in (sorts_in u) (trees_in u) l))
+    c.deref.ensures.value
