@@ -5,7 +5,7 @@ use Rattle.sm_syntax.specs.claim.ConflictFree.{Copy}
 use Rattle.sm_plan.specs.Copies.{Copies, has, with_copy}
 use Rattle.sm_plan.specs.Nodes.{Step, Abs}
 use Rattle.sm_plan.specs.Statements.{rest_after}
-use Rattle.sm_moves.specs.CodeShapes.{has_hole}
+use Rattle.sm_moves.specs.CodeShapes.{has_hole, by_first_block}
 use Rattle.sm_moves.specs.CopySets.{members}
 use Rattle.sm_moves.specs.Moves.{Move, Done, Steps, Summaries, Forks, Loops, moved_on}
 use Rattle.sm_sketch.specs.Sketches.{Sketch, then_draw, each_of}
@@ -43,3 +43,7 @@ move_before (Loops left) next = next
 abbrev pub moves_before : List Move → Sketch → Sketch
 moves_before [] next = next
 moves_before (m ∷ rest) next = move_before m (moves_before rest next)
+
+-- what is left where a copy takes the first block of its fork
+abbrev pub first_taken : (Copy → Code) → Copy → Copy → Code
+first_taken code c = with_copy code c (by_first_block (code c))

@@ -31,7 +31,7 @@ pub(crate) fn side_by_side(
     table: &mut TermTable,
     site: &SiteContext<'_>,
     set: u8,
-    code: PerCopy<Continuation<'_>>,
+    mut code: PerCopy<Continuation<'_>>,
     next: Sketch,
 ) -> Result<Sketch, ProductError>
     requires set { set ≤ 15 }
@@ -50,5 +50,5 @@ pub(crate) fn side_by_side(
     ensures ready { IfOk result (IsSketchReady (sorts_in table.new) (trees_in table.new)) }
     ensures widens { ExtendsTable table.old table.new }
 {
-    draw(alloc, table, site, set, code, next, Room::whole())
+    draw(alloc, table, site, set, &mut code, next, Room::whole())
 }

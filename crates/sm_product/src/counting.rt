@@ -13,10 +13,9 @@ ghost use Rattle.sm_product.specs.ProductPlans.{site_count};
 ghost use Rattle.sm_product.specs.Products as products;
 ghost use Rattle.sm_product.specs.Sizes as sizes;
 
-use crate::limits::is_small;
+use crate::limits::is_task_small;
 use crate::sketching::sketch_of;
 use sm_sketch::{ProductError, Sketch, all_templates};
-use sm_task::fill_all;
 use sm_term::TermTable;
 use sm_text::Task;
 use std::alloc::Global;
@@ -58,9 +57,8 @@ fn sites_within(
     ensures small { OnOk result (sizes.is_small (parts_of task.now) ≡ true) }
     ensures err { IfErr result (λ e. TellsTask e (parts_of task.now)) }
 {
-    let programs = fill_all(alloc, task)?;
     let full = all_templates(alloc, sketch)?;
-    if !is_small(alloc, table, task, &programs, sketch, &full)? {
+    if !is_task_small(alloc, table, task, sketch, &full)? {
         return Err(ProductError::TooMany);
     }
     Ok(full.sites.len() as u64)

@@ -24,6 +24,7 @@ mod laws;
 mod limits;
 mod mini;
 mod paths;
+mod pieces;
 mod product;
 mod product_plans;
 mod rooms;

@@ -22,6 +22,7 @@ use crate::asking::obligations_of;
 use sm_expand::{Due, PlanFault};
 use sm_sketch::{Sketch, TemplateChoice, plan_with};
 use sm_syntax::{Block, PerCopy};
+use sm_task::fill_all;
 use sm_term::TermTable;
 use sm_text::Task;
 use std::alloc::{AllocError, Global};
@@ -103,6 +104,29 @@ pub fn is_small(
             Err(refused)
         }
     }
+}
+
+// Whether the plan of a task's sketch under the choice of all templates is within the limits.
+pub(crate) fn is_task_small(
+    alloc: Global,
+    table: &mut TermTable,
+    task: &Task,
+    sketch: &Sketch,
+    full: &TemplateChoice,
+) -> Result<bool, AllocError>
+    requires declared { sorts_in table.old ≡ sort_of (declared_of task.now.shared.decls) }
+    requires numbered { AreNumbered (declared_of task.now.shared.decls) }
+    requires sorted { IsTaskSorted (sort_of (declared_of task.now.shared.decls))
+        (task_of (parts_of task.now)) }
+    requires sketch { sketch_in (sorts_in table.old) (trees_in table.old) sketch.now
+        ≡ sketch_of (parts_of task.now) }
+    requires ready { IsSketchReady (sorts_in table.old) (trees_in table.old) sketch.now }
+    requires full { choice_in full.now ≡ full_choice (parts_of task.now) }
+    ensures small { IfOk result (λ b. b ≡ plain.is_small (parts_of task.now)) }
+    ensures widens { ExtendsTable table.old table.new }
+{
+    let programs = fill_all(alloc, task)?;
+    is_small(alloc, table, task, &programs, sketch, full)
 }
 
 // Whether the plan is small. An error leaves the terms that were made.

@@ -17,10 +17,10 @@ ghost use Rattle.sm_sketch.specs.Errors.{TellsSketch};
 ghost use Rattle.sm_sketch.specs.Sketches as plain;
 ghost use Rattle.sm_sketch.specs.SketchViews.{sketch_in, IsSketchReady};
 ghost use Rattle.sm_product.specs.MiniProducts.{side_by_side, statements_left};
-ghost use Rattle.sm_product.specs.Paths.{IsFilled};
+ghost use Rattle.sm_product.specs.Paths.{IsFilled, first_taken};
 ghost use Rattle.sm_product.specs.Paths.{is_straight, after_move, move_before, moves_before};
 
-use sm_moves::{Move, bit, has, move_of};
+use sm_moves::{Move, bit, copy_rests, fork, has, move_of};
 use sm_plan::Continuation;
 use sm_sketch::{ProductError, Sketch, each_summary, step};
 use sm_syntax::{CopyName, PerCopy};
@@ -52,6 +52,20 @@ pub(crate) fn pass(rests: &mut PerCopy<Continuation<'_>>, set: u8)
     pass_one(&mut rests.variant_a, set, CopyName::A);
     pass_one(&mut rests.variant_b, set, CopyName::B);
     pass_one(&mut rests.candidate, set, CopyName::M);
+}
+
+// What is left where a copy takes the first block of its fork.
+pub(crate) fn first_rests<'a>(
+    alloc: Global,
+    rests: &PerCopy<Continuation<'a>>,
+    copy: CopyName,
+) -> Result<PerCopy<Continuation<'a>>, AllocError>
+    ensures { (c : Copy) → IfOk result (λ p.
+        codes_in p c ≡ first_taken (codes_in rests.now) (copy_named copy) c) }
+{
+    let mut first = copy_rests(alloc, rests)?;
+    fork(&mut first, copy, true)?;
+    Ok(first)
 }
 
 // Whether one state follows a move.

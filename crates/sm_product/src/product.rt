@@ -23,13 +23,13 @@ ghost use Rattle.sm_product.specs.ProductContexts.{IsContextReady};
 ghost use Rattle.sm_product.specs.Products as plain;
 
 use crate::hole::product_hole;
+use crate::pieces::{templates_of_ifs, templates_of_loops};
 use sm_moves::{
-    FilledBlock, copied, cut, has, has_hole, inside, is_empty, one_each, rests_in, with_member,
-    without,
+    FilledBlock, copied, cut, has, has_hole, inside, is_empty, one_each, with_member, without,
 };
 use sm_sketch::{ProductError, Sketch, apart, each_step, each_summary, ends, forking, looped};
 use sm_syntax::{Block, CopyName, PerCopy, Stmt};
-use sm_template::{SiteContext, block_templates, loop_templates};
+use sm_template::SiteContext;
 use sm_term::TermTable;
 use sm_text::Task;
 use std::alloc::Global;
@@ -174,8 +174,7 @@ fn product_if(
         return each_summary(next, set);
     }
     let inner = forked(alloc, table, cx, blocks, set, 0, 0)?;
-    let code = rests_in(alloc, pieces, set)?;
-    let templates = block_templates(alloc, table, &cx.site, &code)?;
+    let templates = templates_of_ifs(alloc, table, &cx.site, pieces, set)?;
     apart(alloc, one_each(set), templates, inner, next)
 }
 
@@ -302,8 +301,7 @@ fn product_while(
         return each_summary(next, set);
     }
     let turns = turns(alloc, table, cx, body, set)?;
-    let code = rests_in(alloc, pieces, 15)?;
-    let templates = loop_templates(alloc, table, &cx.site, set, &code)?;
+    let templates = templates_of_loops(alloc, table, &cx.site, pieces, set)?;
     looped(alloc, set, templates, turns, next)
 }
 

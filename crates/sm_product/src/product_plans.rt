@@ -23,12 +23,11 @@ ghost use Rattle.sm_product.specs.ProductPlans.{site_count};
 ghost use Rattle.sm_product.specs.Products.{sketch_of};
 ghost use Rattle.sm_product.specs.Sizes as sizes;
 
-use crate::limits::is_small;
+use crate::limits::is_task_small;
 use crate::sketching::sketch_of;
 use sm_expand::Plan;
 use sm_plan::Formulas;
 use sm_sketch::{ProductError, TemplateChoice, all_templates, plan_with, sites};
-use sm_task::fill_all;
 use sm_term::TermTable;
 use sm_text::Task;
 use std::alloc::Global;
@@ -101,9 +100,8 @@ fn made_plan(
     ensures widens { ExtendsTable table.old table.new }
 {
     let sketch = sketch_of(alloc, table, task)?;
-    let programs = fill_all(alloc, task)?;
     let full = all_templates(alloc, &sketch)?;
-    if !is_small(alloc, table, task, &programs, &sketch, &full)? {
+    if !is_task_small(alloc, table, task, &sketch, &full)? {
         return Err(ProductError::TooMany);
     }
     Ok(plan_with(alloc, &sketch, choice)?)

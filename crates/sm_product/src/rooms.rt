@@ -1,5 +1,5 @@
 // How large what is drawn may still get.
-ghost use Rattle.std.specs.Prelude.{◌≡◌, ◌+◌, ◌<◌, IfOk, MatchResult};
+ghost use Rattle.std.specs.Prelude.{◌≡◌, ◌+◌, ◌<◌, ◌≤◌, IfOk, IfErr, MatchResult};
 ghost use Rattle.sm_sketch.specs.declared.error.ProductError.TheVariants.{TooMany};
 ghost use Rattle.sm_product.specs.Rooms.{IsRoom};
 
@@ -51,6 +51,22 @@ impl Room {
         }
         Ok(Room {
             nodes: self.nodes,
+            branches: self.branches - 1,
+        })
+    }
+
+    // What is left under a branching node where so many nodes stand beside.
+    pub fn beside(self, nodes: u64) -> Result<Room, ProductError>
+        ensures ok { IfOk result (λ r.
+            (r.nodes + nodes ≡ self.nodes) × (r.branches + 1 ≡ self.branches)) }
+        ensures err { IfErr result (λ e. e ≡ TooMany) }
+        ensures full { IfErr result (λ e. 1 ≤ self.branches → self.nodes < nodes) }
+    {
+        if self.branches == 0 || self.nodes < nodes {
+            return Err(ProductError::TooMany);
+        }
+        Ok(Room {
+            nodes: self.nodes - nodes,
             branches: self.branches - 1,
         })
     }

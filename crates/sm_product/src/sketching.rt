@@ -12,6 +12,7 @@ ghost use Rattle.sm_sketch.specs.Errors.{TellsSketch};
 ghost use Rattle.sm_sketch.specs.Extents.{TellsExtent};
 ghost use Rattle.sm_sketch.specs.SketchSizes.{IsFit};
 ghost use Rattle.sm_sketch.specs.SketchViews.{sketch_in, IsSketchReady};
+ghost use Rattle.sm_product.specs.Drawn.{IsDrawn};
 ghost use Rattle.sm_product.specs.Laws.{HaveNoHole};
 ghost use Rattle.sm_product.specs.Products.{sketch_of};
 
@@ -77,6 +78,21 @@ fn drawn_sketch(alloc: Global, table: &mut TermTable, task: &Task) -> Result<Ske
     // Each term keeps its number.
     ensures widens { ExtendsTable table.old table.new }
 {
+    let sketch = drawn_product(alloc, table, task)?;
+    within_limits(sketch.extent)?;
+    Ok(sketch)
+}
+
+// The product of all copies of a task, and then the end. An error leaves the terms that were made.
+fn drawn_product(alloc: Global, table: &mut TermTable, task: &Task) -> Result<Sketch, ProductError>
+    requires declared { sorts_in table.old ≡ sort_of (declared_of task.now.shared.decls) }
+    requires numbered { AreNumbered (declared_of task.now.shared.decls) }
+    requires no_hole { HaveNoHole (parts_of task.now) }
+    requires programs { (c : Copy) →
+        IsWellSorted (sorts_in table.old) (program_of (task_of (parts_of task.now)) c) }
+    ensures drawn { IsDrawn table.new (sketch_of (parts_of task.now)) result }
+    ensures widens { ExtendsTable table.old table.new }
+{
     let site = site_of(alloc, &task.shared.decls, &task.lists)?;
     let programs = fill_all(alloc, task)?;
     let context = ProductContext { task, site };
@@ -84,9 +100,7 @@ fn drawn_sketch(alloc: Global, table: &mut TermTable, task: &Task) -> Result<Ske
         shared: &task.shared.body,
         filled: statements(&programs),
     };
-    let sketch = product_block(alloc, table, &context, &shared, 15, ends(alloc))?;
-    within_limits(sketch.extent)?;
-    Ok(sketch)
+    product_block(alloc, table, &context, &shared, 15, ends(alloc))
 }
 
 // Refuses what is too large. A node is counted before it is put, so that no sketch that is drawn is.

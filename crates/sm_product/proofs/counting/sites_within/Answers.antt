@@ -16,10 +16,10 @@ use Rattle.sm_product.specs.Errors.{TellsTask}
 use Rattle.sm_product.proofs.DrawnLemmas.{err_is}
 use Rattle.sm_product.proofs.counting.sites_within.Goals as goal
 
-pub returns-in_err-is_small-clause-err : goal.returns-in_err-is_small-clause-err
-returns-in_err-is_small-clause-err c =
-    err_is (λ (e : ProductError). TellsTask e (parts_of c.args.task.now)) c.from_residual-in_err-is_small.result error.Memory
-    c.from_residual-in_err-is_small.ensures.1 tt
+pub returns-in_err-is_task_small-clause-err : goal.returns-in_err-is_task_small-clause-err
+returns-in_err-is_task_small-clause-err c =
+    err_is (λ (e : ProductError). TellsTask e (parts_of c.args.task.now)) c.from_residual-in_err-is_task_small.result error.Memory
+    c.from_residual-in_err-is_task_small.ensures.1 tt
 
 pub returns-clause-ok : goal.returns-clause-ok
 returns-clause-ok c =

@@ -11,13 +11,13 @@ use Rattle.sm_syntax.specs.text.Parts.{Parts}
 use Rattle.sm_syntax.specs.text.Sorts.{IsWellSorted}
 use Rattle.sm_syntax.specs.trees.Copies.{copy_named}
 use Rattle.sm_term.specs.Tables.{trees_in, sorts_in}
-use Rattle.sm_plan.specs.Copies.{subsets, with_copy}
+use Rattle.sm_plan.specs.Copies.{subsets, with_copy, has}
 use Rattle.sm_plan.specs.Masks.{set_of}
 use Rattle.sm_plan.specs.Statements.{loop_body}
 use Rattle.sm_plan.specs.Views.{forms_in}
 use Rattle.sm_plan.proofs.TablesWiden.{widens_twice, forms_stay, forms_ready}
 use Rattle.sm_moves.specs.declared.moves.Move.{Move}
-use Rattle.sm_moves.specs.CodeShapes.{by_first_block, by_second_block}
+use Rattle.sm_moves.specs.CodeShapes.{by_second_block}
 use Rattle.sm_moves.specs.CopySets.{only_in}
 use Rattle.sm_moves.specs.Moves.{Summaries, Forks, Loops, moved_on}
 use Rattle.sm_moves.specs.MovesWithin.{IsMoveWithin}
@@ -32,11 +32,11 @@ use Rattle.sm_sketch.specs.Sketches.{Sketch, forking, looped}
 use Rattle.sm_sketch.specs.SketchSizes.{sketch_size}
 use Rattle.sm_sketch.specs.SketchViews.{sketch_in, AreSketchesReady}
 use Rattle.sm_sketch.proofs.SketchesWiden.{sketch_stays, sketch_ready, sketches_stay, sketches_ready}
-use Rattle.sm_product.specs.LoopTurns.{turn_of}
+use Rattle.sm_product.specs.LoopTurns.{turn_of, HaveLoops}
 use Rattle.sm_product.specs.MiniProducts.{drawn, side_by_side, statements_left}
-use Rattle.sm_product.specs.Paths.{IsFilled, moves_before}
+use Rattle.sm_product.specs.Paths.{IsFilled, moves_before, first_taken}
 use Rattle.sm_product.specs.Rooms.{TellsBeyond, TellAllBeyond, IsTaken}
-use Rattle.sm_product.proofs.BranchesDrawn.{none_forks, no_room_for_next, no_room_for_one, no_room_beside, no_room_for_other}
+use Rattle.sm_product.proofs.BranchesDrawn.{no_room_for_next, no_room_for_one, no_room_beside, no_room_for_other}
 use Rattle.sm_product.proofs.BranchesDrawn.{none_loops, no_room_for_turns, no_room_after}
 use Rattle.sm_product.proofs.BranchesLeft.{first_way, second_way, have_loops, after_loops, one_turn}
 use Rattle.sm_product.proofs.BranchesLeft.{first_sorted, second_sorted, turn_sorted}
@@ -50,7 +50,7 @@ use Rattle.sm_product.proofs.mini.+mini.Goals as goal
 -- straight moves, and the move behind them
 pub draw-draw_last-requires : goal.draw-draw_last-requires
 draw-draw_last-requires t c =
-    let whole : 8 * statements_left (codes_in c.args.rests) + 5 ≡ t = c.decreases in
+    let whole : 8 * statements_left (codes_in c.args.rests.now) + 5 ≡ t = c.decreases in
     let fewer = c.follow.ensures.fewer in
     let less : 8 * statements_left (codes_in c.follow.new.rests) + 4 < t = omega (arith, whole, fewer) in
     let sorted = c.follow.ensures.sorted (sorts_in c.args.table.now) c.requires.sorted in
@@ -80,7 +80,7 @@ draw-draw_last-requires t c =
 pub draw-returns-in_err-straight-clause-err : goal.draw-returns-in_err-straight-clause-err
 draw-returns-in_err-straight-clause-err t c = λ (p : Parts) (site : IsSiteOf p c.args.site.now).
     let v = c.args.table.now in
-    no_memory c.args.room (side_by_side p (set_of c.args.set) (codes_in c.args.rests) (sketch_in (sorts_in v) (trees_in v) c.args.next))
+    no_memory c.args.room (side_by_side p (set_of c.args.set) (codes_in c.args.rests.now) (sketch_in (sorts_in v) (trees_in v) c.args.next))
     c.from_residual.result c.from_residual.ensures.1
 
 pub draw-returns-in_err-below-clause-err : goal.draw-returns-in_err-below-clause-err
@@ -88,7 +88,7 @@ draw-returns-in_err-below-clause-err t c = λ (p : Parts) (site : IsSiteOf p c.a
     let v = c.args.table.now in
     let after = sketch_in (sorts_in v) (trees_in v) c.args.next in
     let set = set_of c.args.set in
-    let old = codes_in c.args.rests in
+    let old = codes_in c.args.rests.now in
     let new = codes_in c.follow.new.rests in
     let ms = map move_in c.in_ok-straight.straight.moves.items in
     let m = move_in c.in_ok-straight.straight.last in
@@ -104,7 +104,7 @@ draw-returns-clause-drawn t c = λ (p : Parts) (site : IsSiteOf p c.args.site.no
     let w = c.draw_last.new.table in
     let after = sketch_in (sorts_in v) (trees_in v) c.args.next in
     let set = set_of c.args.set in
-    let old = codes_in c.args.rests in
+    let old = codes_in c.args.rests.now in
     let new = codes_in c.follow.new.rests in
     let ms = map move_in c.in_ok-straight.straight.moves.items in
     let m = move_in c.in_ok-straight.straight.last in
@@ -122,7 +122,7 @@ draw-returns-clause-err t c = λ (p : Parts) (site : IsSiteOf p c.args.site.now)
     let w = c.draw_last.new.table in
     let after = sketch_in (sorts_in v) (trees_in v) c.args.next in
     let set = set_of c.args.set in
-    let old = codes_in c.args.rests in
+    let old = codes_in c.args.rests.now in
     let new = codes_in c.follow.new.rests in
     let ms = map move_in c.in_ok-straight.straight.moves.items in
     let m = move_in c.in_ok-straight.straight.last in
@@ -137,8 +137,8 @@ draw-returns-clause-err t c = λ (p : Parts) (site : IsSiteOf p c.args.site.now)
 -- a move after which not one state follows
 pub draw_last-draw_fork-requires : goal.draw_last-draw_fork-requires
 draw_last-draw_fork-requires t c =
-    let whole : 8 * statements_left (codes_in c.args.rests) + 4 ≡ t = c.decreases in
-    let less : 8 * statements_left (codes_in c.args.rests) + 3 < t = omega (arith, whole) in
+    let whole : 8 * statements_left (codes_in c.args.rests.now) + 4 ≡ t = c.decreases in
+    let less : 8 * statements_left (codes_in c.args.rests.now) + 3 < t = omega (arith, whole) in
     let last = sym (ap move_in c.in-Fork.is) ∙ c.requires.last in (
       less,
       (c.requires.set, (c.requires.site, (c.requires.sorted, (c.requires.filled, (c.requires.next, (c.requires.room, last)))))),
@@ -146,8 +146,8 @@ draw_last-draw_fork-requires t c =
 
 pub draw_last-draw_loops-requires : goal.draw_last-draw_loops-requires
 draw_last-draw_loops-requires t c =
-    let whole : 8 * statements_left (codes_in c.args.rests) + 4 ≡ t = c.decreases in
-    let less : 8 * statements_left (codes_in c.args.rests) + 3 < t = omega (arith, whole) in
+    let whole : 8 * statements_left (codes_in c.args.rests.now) + 4 ≡ t = c.decreases in
+    let less : 8 * statements_left (codes_in c.args.rests.now) + 3 < t = omega (arith, whole) in
     let last = sym (ap move_in c.in-Loops.is) ∙ c.requires.last in
     let left = subst IsMoveWithin c.in-Loops.is c.requires.within in (
       less,
@@ -160,7 +160,7 @@ draw_last-returns-in-Fork-clause-drawn t c = λ (p : Parts) (site : IsSiteOf p c
     let w = c.draw_fork.new.table in
     let after = sketch_in (sorts_in v) (trees_in v) c.args.next in
     subst (λ (m : Move). IfOk c.draw_fork.result (λ (s : own.Sketch). sketch_in (sorts_in w) (trees_in w) s
-    ≡ drawn p (set_of c.args.set) (codes_in c.args.rests) after (side_by_side p) (move_in m)))
+    ≡ drawn p (set_of c.args.set) (codes_in c.args.rests.now) after (side_by_side p) (move_in m)))
     (sym c.in-Fork.is) (c.draw_fork.ensures.drawn p site)
 
 pub draw_last-returns-in-Fork-clause-err : goal.draw_last-returns-in-Fork-clause-err
@@ -168,7 +168,7 @@ draw_last-returns-in-Fork-clause-err t c = λ (p : Parts) (site : IsSiteOf p c.a
     let v = c.args.table.now in
     let after = sketch_in (sorts_in v) (trees_in v) c.args.next in
     subst (λ (m : Move). IfErr c.draw_fork.result (λ (e : ProductError). TellsBeyond c.args.room e
-    (drawn p (set_of c.args.set) (codes_in c.args.rests) after (side_by_side p) (move_in m))))
+    (drawn p (set_of c.args.set) (codes_in c.args.rests.now) after (side_by_side p) (move_in m))))
     (sym c.in-Fork.is) (c.draw_fork.ensures.err p site)
 
 pub draw_last-returns-in-Loops-clause-drawn : goal.draw_last-returns-in-Loops-clause-drawn
@@ -177,7 +177,7 @@ draw_last-returns-in-Loops-clause-drawn t c = λ (p : Parts) (site : IsSiteOf p 
     let w = c.draw_loops.new.table in
     let after = sketch_in (sorts_in v) (trees_in v) c.args.next in
     subst (λ (m : Move). IfOk c.draw_loops.result (λ (s : own.Sketch). sketch_in (sorts_in w) (trees_in w) s
-    ≡ drawn p (set_of c.args.set) (codes_in c.args.rests) after (side_by_side p) (move_in m)))
+    ≡ drawn p (set_of c.args.set) (codes_in c.args.rests.now) after (side_by_side p) (move_in m)))
     (sym c.in-Loops.is) (c.draw_loops.ensures.drawn p site)
 
 pub draw_last-returns-in-Loops-clause-err : goal.draw_last-returns-in-Loops-clause-err
@@ -185,66 +185,24 @@ draw_last-returns-in-Loops-clause-err t c = λ (p : Parts) (site : IsSiteOf p c.
     let v = c.args.table.now in
     let after = sketch_in (sorts_in v) (trees_in v) c.args.next in
     subst (λ (m : Move). IfErr c.draw_loops.result (λ (e : ProductError). TellsBeyond c.args.room e
-    (drawn p (set_of c.args.set) (codes_in c.args.rests) after (side_by_side p) (move_in m))))
+    (drawn p (set_of c.args.set) (codes_in c.args.rests.now) after (side_by_side p) (move_in m))))
     (sym c.in-Loops.is) (c.draw_loops.ensures.err p site)
 
 pub draw_last-returns-in-Done-clause-drawn : goal.draw_last-returns-in-Done-clause-drawn
 draw_last-returns-in-Done-clause-drawn t c = λ (p : Parts) (site : IsSiteOf p c.args.site.now).
     let v = c.args.table.now in
     let after = sketch_in (sorts_in v) (trees_in v) c.args.next in
-    sym (ap (λ (m : Move). drawn p (set_of c.args.set) (codes_in c.args.rests) after (side_by_side p) (move_in m)) c.in-Done.is)
+    sym (ap (λ (m : Move). drawn p (set_of c.args.set) (codes_in c.args.rests.now) after (side_by_side p) (move_in m)) c.in-Done.is)
 
 -- a fork
-pub draw_fork-returns-in_err-below-clause-err : goal.draw_fork-returns-in_err-below-clause-err
-draw_fork-returns-in_err-below-clause-err t c = λ (p : Parts) (site : IsSiteOf p c.args.site.now).
-    let v = c.args.table.now in
-    let after = sketch_in (sorts_in v) (trees_in v) c.args.next in
-    let k = copy_named c.args.copy in
-    let x = c.in_err-below.field-0.0 in
-    err_is (λ (e : ProductError). TellsBeyond c.args.room e
-    (drawn p (set_of c.args.set) (codes_in c.args.rests) after (side_by_side p) (Forks k)))
-    c.from_residual.result x c.from_residual.ensures.1
-    (none_forks p (set_of c.args.set) (codes_in c.args.rests) after k c.args.room x c.in_err-below.ensures.1)
-
-pub draw_fork-returns-in_err-for_one-clause-err : goal.draw_fork-returns-in_err-for_one-clause-err
-draw_fork-returns-in_err-for_one-clause-err t c = λ (p : Parts) (site : IsSiteOf p c.args.site.now).
-    let v = c.args.table.now in
-    let after = sketch_in (sorts_in v) (trees_in v) c.args.next in
-    let k = copy_named c.args.copy in
-    let x = c.in_err-for_one.field-0.0 in
-    let below = c.in_ok-below in
-    err_is (λ (e : ProductError). TellsBeyond c.args.room e
-    (drawn p (set_of c.args.set) (codes_in c.args.rests) after (side_by_side p) (Forks k)))
-    c.from_residual-in_err-for_one.result x c.from_residual-in_err-for_one.ensures.1
-    (no_room_for_next p (set_of c.args.set) (codes_in c.args.rests) after k c.args.room x below.below below.ensures.1 below.ensures.0
-    c.args.next.extent.nodes c.requires.next.nodes c.in_err-for_one.ensures.1)
-
-pub draw_fork-draw-requires : goal.draw_fork-draw-requires
-draw_fork-draw-requires t c =
-    let v = c.args.table.now in
-    let k = copy_named c.args.copy in
-    let set = set_of c.args.set in
-    let r = codes_in c.args.rests in
-    let same : codes_in c.fork.new.rests ≡ with_copy r k (by_first_block (r k)) = fun_ext c.in_ok-fork.ensures in
-    let way = first_way set r k c.requires.filled c.requires.last in
-    let whole : 8 * statements_left (codes_in c.args.rests) + 3 ≡ t = c.decreases in
-    let size = ap statements_left same in
-    let fewer = way.fewer in
-    let less : 8 * statements_left (codes_in c.fork.new.rests) + 5 < t = omega (arith, whole, size, fewer) in
-    let sorted = subst (λ (code : Copy → Code). (d : Copy) → IsWellSorted (sorts_in v) (code d)) (sym same)
-    (first_sorted (sorts_in v) r c.requires.sorted k) in
-    let filled = subst (IsFilled set) (sym same) way.filled in
-    let next = c.in_ok-after.ensures.ready (sorts_in v) (trees_in v) c.requires.next in
-    let below = c.in_ok-below.ensures in
-    let one = c.in_ok-for_one.ensures in
-    let within = c.requires.room in (
+pub draw_fork-draw_first-requires : goal.draw_fork-draw_first-requires
+draw_fork-draw_first-requires t c =
+    let whole : 8 * statements_left (codes_in c.args.rests.now) + 3 ≡ t = c.decreases in
+    let less : 8 * statements_left (codes_in c.args.rests.now) + 2 < t = omega (arith, whole) in (
       less,
       (
         c.requires.set,
-        (
-          c.requires.site,
-          (sorted, (filled, (next, (omega (arith, below.1, one.0, within.0), omega (arith, below.0, one.1, within.1))))),
-        ),
+        (c.requires.site, (c.requires.sorted, (c.requires.filled, (c.requires.next, (c.requires.room, c.requires.last))))),
       ),
     )
 
@@ -253,72 +211,50 @@ draw_fork-returns-in_err-one-clause-err t c = λ (p : Parts) (site : IsSiteOf p 
     let v = c.args.table.now in
     let after = sketch_in (sorts_in v) (trees_in v) c.args.next in
     let k = copy_named c.args.copy in
-    let set = set_of c.args.set in
-    let r = codes_in c.args.rests in
-    let x = c.in_err-one.field-0.0 in
-    let below = c.in_ok-below in
-    let room = c.in_ok-for_one in
-    let same : codes_in c.fork.new.rests ≡ with_copy r k (by_first_block (r k)) = fun_ext c.in_ok-fork.ensures in
-    let copied = c.in_ok-after.ensures.drawn (sorts_in v) (trees_in v) in
-    let told = subst (TellsBeyond room.for_one x)
-    (ap (λ (code : Copy → Code). side_by_side p set code (sketch_in (sorts_in v) (trees_in v) c.in_ok-after.after)) same
-    ∙ ap (side_by_side p set (with_copy r k (by_first_block (r k)))) copied)
-    (c.in_err-one.ensures.err p site) in
-    err_is (λ (e : ProductError). TellsBeyond c.args.room e (drawn p set r after (side_by_side p) (Forks k)))
-    c.from_residual-in_err-one.result x c.from_residual-in_err-one.ensures.1
-    (no_room_for_one p set r after k c.args.room x below.below below.ensures.1 below.ensures.0 room.for_one c.args.next.extent.nodes
-    c.requires.next.nodes room.ensures.0 room.ensures.1 told)
+    err_is (λ (e : ProductError). TellsBeyond c.args.room e
+    (drawn p (set_of c.args.set) (codes_in c.args.rests.now) after (side_by_side p) (Forks k)))
+    c.from_residual.result c.in_err-one.field-0.0 c.from_residual.ensures.1 (c.in_err-one.ensures.err p site)
 
 -- of `one` over the table in which it is drawn
 pub draw_fork-returns-in_err-for_other-clause-err : goal.draw_fork-returns-in_err-for_other-clause-err
 draw_fork-returns-in_err-for_other-clause-err t c = λ (p : Parts) (site : IsSiteOf p c.args.site.now).
     let v = c.args.table.now in
-    let w = c.draw.new.table in
     let after = sketch_in (sorts_in v) (trees_in v) c.args.next in
     let k = copy_named c.args.copy in
     let set = set_of c.args.set in
-    let r = codes_in c.args.rests in
+    let r = codes_in c.args.rests.now in
     let x = c.in_err-for_other.field-0.0 in
-    let below = c.in_ok-below in
-    let same : codes_in c.fork.new.rests ≡ with_copy r k (by_first_block (r k)) = fun_ext c.in_ok-fork.ensures in
-    let copied = c.in_ok-after.ensures.drawn (sorts_in v) (trees_in v) in
-    let is = c.in_ok-one.ensures.drawn p site
-    ∙ ap (λ (code : Copy → Code). side_by_side p set code (sketch_in (sorts_in v) (trees_in v) c.in_ok-after.after)) same
-    ∙ ap (side_by_side p set (with_copy r k (by_first_block (r k)))) copied in
     err_is (λ (e : ProductError). TellsBeyond c.args.room e (drawn p set r after (side_by_side p) (Forks k)))
     c.from_residual-in_err-for_other.result x c.from_residual-in_err-for_other.ensures.1
-    (no_room_beside p set r after k c.args.room x below.below below.ensures.1 below.ensures.0 c.in_ok-one.one.extent.nodes
-    (c.in_ok-one.ensures.ready.nodes ∙ ap sketch_size is) c.in_err-for_other.ensures.1)
+    (no_room_beside p set r after k c.args.room x c.in_ok-one.one.extent.nodes
+    (c.in_ok-one.ensures.ready.nodes ∙ ap sketch_size (c.in_ok-one.ensures.drawn p site)) c.in_err-for_other.ensures.full)
 
-pub draw_fork-draw-requires-2 : goal.draw_fork-draw-requires-2
-draw_fork-draw-requires-2 t c =
+pub draw_fork-draw-requires : goal.draw_fork-draw-requires
+draw_fork-draw-requires t c =
     let v = c.args.table.now in
-    let w = c.draw.new.table in
-    let wider = c.draw.ensures.widens in
+    let w = c.draw_first.new.table in
+    let wider = c.draw_first.ensures.widens in
     let k = copy_named c.args.copy in
     let set = set_of c.args.set in
-    let r = codes_in c.args.rests in
-    let copied : codes_in c.in_ok-others.others ≡ r = fun_ext c.in_ok-others.ensures in
-    let same : codes_in c.fork-2.new.rests ≡ with_copy r k (by_second_block (r k)) =
-    fun_ext c.in_ok-fork-2.ensures ∙ ap (λ (code : Copy → Code). with_copy code k (by_second_block (code k))) copied in
+    let r = codes_in c.args.rests.now in
+    let same : codes_in c.fork.new.rests ≡ with_copy r k (by_second_block (r k)) = fun_ext c.in_ok-fork.ensures in
     let way = second_way set r k c.requires.filled c.requires.last in
-    let whole : 8 * statements_left (codes_in c.args.rests) + 3 ≡ t = c.decreases in
+    let whole : 8 * statements_left (codes_in c.args.rests.now) + 3 ≡ t = c.decreases in
     let size = ap statements_left same in
     let fewer = way.fewer in
-    let less : 8 * statements_left (codes_in c.fork-2.new.rests) + 5 < t = omega (arith, whole, size, fewer) in
+    let less : 8 * statements_left (codes_in c.fork.new.rests) + 5 < t = omega (arith, whole, size, fewer) in
     let sorted = subst (λ (code : Copy → Code). (d : Copy) → IsWellSorted (sorts_in w) (code d)) (sym same)
     (still_sorted v w wider (with_copy r k (by_second_block (r k))) (second_sorted (sorts_in v) r c.requires.sorted k)) in
     let filled = subst (IsFilled set) (sym same) way.filled in
     let next = sketch_ready v w wider c.args.next c.requires.next in
-    let below = c.in_ok-below.ensures in
-    let other = c.in_ok-for_other.ensures in
+    let other = c.in_ok-for_other.ensures.ok in
     let within = c.requires.room in (
       less,
       (
         c.requires.set,
         (
           still_sited v w wider c.args.site.now c.requires.site,
-          (sorted, (filled, (next, (omega (arith, below.1, other.0, within.0), omega (arith, below.0, other.1, within.1))))),
+          (sorted, (filled, (next, (omega (arith, other.0, within.0), omega (arith, other.1, within.1))))),
         ),
       ),
     )
@@ -326,101 +262,160 @@ draw_fork-draw-requires-2 t c =
 pub draw_fork-returns-in_err-other-clause-err : goal.draw_fork-returns-in_err-other-clause-err
 draw_fork-returns-in_err-other-clause-err t c = λ (p : Parts) (site : IsSiteOf p c.args.site.now).
     let v = c.args.table.now in
-    let w = c.draw.new.table in
+    let w = c.draw_first.new.table in
     let after = sketch_in (sorts_in v) (trees_in v) c.args.next in
     let k = copy_named c.args.copy in
     let set = set_of c.args.set in
-    let r = codes_in c.args.rests in
+    let r = codes_in c.args.rests.now in
     let x = c.in_err-other.field-0.0 in
-    let below = c.in_ok-below in
     let room = c.in_ok-for_other in
-    let same : codes_in c.fork.new.rests ≡ with_copy r k (by_first_block (r k)) = fun_ext c.in_ok-fork.ensures in
-    let copied = c.in_ok-after.ensures.drawn (sorts_in v) (trees_in v) in
-    let is = c.in_ok-one.ensures.drawn p site
-    ∙ ap (λ (code : Copy → Code). side_by_side p set code (sketch_in (sorts_in v) (trees_in v) c.in_ok-after.after)) same
-    ∙ ap (side_by_side p set (with_copy r k (by_first_block (r k)))) copied in
-    let others : codes_in c.in_ok-others.others ≡ r = fun_ext c.in_ok-others.ensures in
-    let second : codes_in c.fork-2.new.rests ≡ with_copy r k (by_second_block (r k)) =
-    fun_ext c.in_ok-fork-2.ensures ∙ ap (λ (code : Copy → Code). with_copy code k (by_second_block (code k))) others in
-    let stays = sketch_stays v w c.draw.ensures.widens c.args.next c.requires.next in
+    let second : codes_in c.fork.new.rests ≡ with_copy r k (by_second_block (r k)) = fun_ext c.in_ok-fork.ensures in
+    let stays = sketch_stays v w c.draw_first.ensures.widens c.args.next c.requires.next in
     let told = subst (TellsBeyond room.for_other x)
     (ap (λ (code : Copy → Code). side_by_side p set code (sketch_in (sorts_in w) (trees_in w) c.args.next)) second
     ∙ ap (side_by_side p set (with_copy r k (by_second_block (r k)))) stays)
     (c.in_err-other.ensures.err p site) in
     err_is (λ (e : ProductError). TellsBeyond c.args.room e (drawn p set r after (side_by_side p) (Forks k)))
     c.from_residual-in_err-other.result x c.from_residual-in_err-other.ensures.1
-    (no_room_for_other p set r after k c.args.room x below.below below.ensures.1 below.ensures.0 room.for_other
-    c.in_ok-one.one.extent.nodes
-    (c.in_ok-one.ensures.ready.nodes ∙ ap sketch_size is) room.ensures.0 room.ensures.1 told)
+    (no_room_for_other p set r after k c.args.room x room.for_other c.in_ok-one.one.extent.nodes
+    (c.in_ok-one.ensures.ready.nodes ∙ ap sketch_size (c.in_ok-one.ensures.drawn p site)) room.ensures.ok.0 room.ensures.ok.1 told)
 
 -- what is drawn, over the last table
 pub draw_fork-returns-clause-drawn : goal.draw_fork-returns-clause-drawn
 draw_fork-returns-clause-drawn t c = λ (p : Parts) (site : IsSiteOf p c.args.site.now).
     let u = c.args.table.now in
-    let v = c.draw.new.table in
-    let w = c.draw-2.new.table in
+    let v = c.draw_first.new.table in
+    let w = c.draw.new.table in
     let after = sketch_in (sorts_in u) (trees_in u) c.args.next in
     let k = copy_named c.args.copy in
     let set = set_of c.args.set in
-    let r = codes_in c.args.rests in
+    let r = codes_in c.args.rests.now in
     let one = c.in_ok-one.one in
     let other = c.in_ok-other.other in
-    let first : codes_in c.fork.new.rests ≡ with_copy r k (by_first_block (r k)) = fun_ext c.in_ok-fork.ensures in
-    let others : codes_in c.in_ok-others.others ≡ r = fun_ext c.in_ok-others.ensures in
-    let second : codes_in c.fork-2.new.rests ≡ with_copy r k (by_second_block (r k)) =
-    fun_ext c.in_ok-fork-2.ensures ∙ ap (λ (code : Copy → Code). with_copy code k (by_second_block (code k))) others in
-    let copied = c.in_ok-after.ensures.drawn (sorts_in u) (trees_in u) in
-    let stays = sketch_stays u v c.draw.ensures.widens c.args.next c.requires.next in
-    let one_is = still_drawn v w c.draw-2.ensures.widens one (side_by_side p set (codes_in c.fork.new.rests) after)
-    c.in_ok-one.ensures.ready
-    (c.in_ok-one.ensures.drawn p site ∙ ap (side_by_side p set (codes_in c.fork.new.rests)) copied) in
-    let other_is = c.in_ok-other.ensures.drawn p site ∙ ap (side_by_side p set (codes_in c.fork-2.new.rests)) stays in
+    let first = first_taken r k in
+    let second : codes_in c.fork.new.rests ≡ with_copy r k (by_second_block (r k)) = fun_ext c.in_ok-fork.ensures in
+    let stays = sketch_stays u v c.draw_first.ensures.widens c.args.next c.requires.next in
+    let one_is = still_drawn v w c.draw.ensures.widens one (side_by_side p set first after) c.in_ok-one.ensures.ready
+    (c.in_ok-one.ensures.drawn p site) in
+    let other_is = c.in_ok-other.ensures.drawn p site ∙ ap (side_by_side p set (codes_in c.fork.new.rests)) stays in
     IfOk-weaker c.forking.result
     (λ (s : own.Sketch). sketch_in (sorts_in w) (trees_in w) s
     ≡ forking k (sketch_in (sorts_in w) (trees_in w) one) (sketch_in (sorts_in w) (trees_in w) other))
     (λ (s : own.Sketch). sketch_in (sorts_in w) (trees_in w) s ≡ drawn p set r after (side_by_side p) (Forks k))
     (λ (s : own.Sketch) e. fork_drawn p set r k after (sketch_in (sorts_in w) (trees_in w) s) (sketch_in (sorts_in w) (trees_in w) one)
-    (sketch_in (sorts_in w) (trees_in w) other) (codes_in c.fork.new.rests) (codes_in c.fork-2.new.rests) e one_is other_is first second)
+    (sketch_in (sorts_in w) (trees_in w) other) first (codes_in c.fork.new.rests) e one_is other_is refl second)
     (c.forking.ensures.drawn (sorts_in w) (trees_in w))
 
 pub draw_fork-returns-clause-err : goal.draw_fork-returns-clause-err
 draw_fork-returns-clause-err t c = λ (p : Parts) (site : IsSiteOf p c.args.site.now).
     let u = c.args.table.now in
-    let v = c.draw.new.table in
-    let w = c.draw-2.new.table in
+    let v = c.draw_first.new.table in
+    let w = c.draw.new.table in
     let after = sketch_in (sorts_in u) (trees_in u) c.args.next in
     let k = copy_named c.args.copy in
     let set = set_of c.args.set in
-    let r = codes_in c.args.rests in
+    let r = codes_in c.args.rests.now in
     let one = c.in_ok-one.one in
     let other = c.in_ok-other.other in
-    let first : codes_in c.fork.new.rests ≡ with_copy r k (by_first_block (r k)) = fun_ext c.in_ok-fork.ensures in
-    let others : codes_in c.in_ok-others.others ≡ r = fun_ext c.in_ok-others.ensures in
-    let second : codes_in c.fork-2.new.rests ≡ with_copy r k (by_second_block (r k)) =
-    fun_ext c.in_ok-fork-2.ensures ∙ ap (λ (code : Copy → Code). with_copy code k (by_second_block (code k))) others in
-    let copied = c.in_ok-after.ensures.drawn (sorts_in u) (trees_in u) in
-    let stays = sketch_stays u v c.draw.ensures.widens c.args.next c.requires.next in
-    let one_is = still_drawn v w c.draw-2.ensures.widens one (side_by_side p set (codes_in c.fork.new.rests) after)
-    c.in_ok-one.ensures.ready
-    (c.in_ok-one.ensures.drawn p site ∙ ap (side_by_side p set (codes_in c.fork.new.rests)) copied) in
-    let other_is = c.in_ok-other.ensures.drawn p site ∙ ap (side_by_side p set (codes_in c.fork-2.new.rests)) stays in
+    let first = first_taken r k in
+    let second : codes_in c.fork.new.rests ≡ with_copy r k (by_second_block (r k)) = fun_ext c.in_ok-fork.ensures in
+    let stays = sketch_stays u v c.draw_first.ensures.widens c.args.next c.requires.next in
+    let one_is = still_drawn v w c.draw.ensures.widens one (side_by_side p set first after) c.in_ok-one.ensures.ready
+    (c.in_ok-one.ensures.drawn p site) in
+    let other_is = c.in_ok-other.ensures.drawn p site ∙ ap (side_by_side p set (codes_in c.fork.new.rests)) stays in
     let whole = forking k (sketch_in (sorts_in w) (trees_in w) one) (sketch_in (sorts_in w) (trees_in w) other) in
     let is : whole ≡ drawn p set r after (side_by_side p) (Forks k) =
     fork_drawn p set r k after whole (sketch_in (sorts_in w) (trees_in w) one) (sketch_in (sorts_in w) (trees_in w) other)
-    (codes_in c.fork.new.rests) (codes_in c.fork-2.new.rests) refl one_is other_is first second in
+    first (codes_in c.fork.new.rests) refl one_is other_is refl second in
     IfErr-weaker c.forking.result (λ (e : ProductError). TellsSketch e whole)
     (λ (e : ProductError). TellsBeyond c.args.room e (drawn p set r after (side_by_side p) (Forks k)))
     (λ (e : ProductError) (h : TellsSketch e whole). subst (TellsBeyond c.args.room e) is
     (limit_beyond c.args.room whole e c.requires.room h))
-    (c.forking.ensures.err (sorts_in w) (trees_in w) (sketch_ready v w c.draw-2.ensures.widens one c.in_ok-one.ensures.ready)
+    (c.forking.ensures.err (sorts_in w) (trees_in w) (sketch_ready v w c.draw.ensures.widens one c.in_ok-one.ensures.ready)
     c.in_ok-other.ensures.ready)
 
 pub draw_fork-returns-clause-ready : goal.draw_fork-returns-clause-ready
 draw_fork-returns-clause-ready t c =
-    let v = c.draw.new.table in
-    let w = c.draw-2.new.table in
-    c.forking.ensures.ready (sorts_in w) (trees_in w) (sketch_ready v w c.draw-2.ensures.widens c.in_ok-one.one c.in_ok-one.ensures.ready)
+    let v = c.draw_first.new.table in
+    let w = c.draw.new.table in
+    c.forking.ensures.ready (sorts_in w) (trees_in w) (sketch_ready v w c.draw.ensures.widens c.in_ok-one.one c.in_ok-one.ensures.ready)
     c.in_ok-other.ensures.ready
+
+-- the first block of a fork
+pub draw_first-returns-in_err-for_one-clause-err : goal.draw_first-returns-in_err-for_one-clause-err
+draw_first-returns-in_err-for_one-clause-err t c = λ (p : Parts) (site : IsSiteOf p c.args.site.now).
+    let v = c.args.table.now in
+    let after = sketch_in (sorts_in v) (trees_in v) c.args.next.now in
+    let k = copy_named c.args.copy in
+    let set = set_of c.args.set in
+    let r = codes_in c.args.rests.now in
+    let x = c.in_err-for_one.field-0.0 in
+    err_is (λ (e : ProductError). TellsBeyond c.args.room e (drawn p set r after (side_by_side p) (Forks k)))
+    c.from_residual.result x c.from_residual.ensures.1
+    (no_room_for_next p set r after k c.args.room x c.args.next.now.extent.nodes c.requires.next.nodes c.in_err-for_one.ensures.full)
+
+pub draw_first-draw-requires : goal.draw_first-draw-requires
+draw_first-draw-requires t c =
+    let v = c.args.table.now in
+    let k = copy_named c.args.copy in
+    let set = set_of c.args.set in
+    let r = codes_in c.args.rests.now in
+    let same : codes_in c.in_ok-first.first ≡ first_taken r k = fun_ext c.in_ok-first.ensures in
+    let way = first_way set r k c.requires.filled c.requires.last in
+    let whole : 8 * statements_left r + 2 ≡ t = c.decreases in
+    let size = ap statements_left same in
+    let fewer = way.fewer in
+    let less : 8 * statements_left (codes_in c.in_ok-first.first) + 5 < t = omega (arith, whole, size, fewer) in
+    let sorted = subst (λ (code : Copy → Code). (d : Copy) → IsWellSorted (sorts_in v) (code d)) (sym same)
+    (first_sorted (sorts_in v) r c.requires.sorted k) in
+    let filled = subst (IsFilled set) (sym same) way.filled in
+    let next = c.in_ok-after.ensures.ready (sorts_in v) (trees_in v) c.requires.next in
+    let one = c.in_ok-for_one.ensures.ok in
+    let within = c.requires.room in (
+      less,
+      (
+        c.requires.set,
+        (
+          c.requires.site,
+          (sorted, (filled, (next, (omega (arith, one.0, within.0), omega (arith, one.1, within.1))))),
+        ),
+      ),
+    )
+
+pub draw_first-returns-clause-drawn : goal.draw_first-returns-clause-drawn
+draw_first-returns-clause-drawn t c = λ (p : Parts) (site : IsSiteOf p c.args.site.now).
+    let v = c.args.table.now in
+    let w = c.draw.new.table in
+    let set = set_of c.args.set in
+    let code = first_taken (codes_in c.args.rests.now) (copy_named c.args.copy) in
+    let same : codes_in c.in_ok-first.first ≡ code = fun_ext c.in_ok-first.ensures in
+    let copied = c.in_ok-after.ensures.drawn (sorts_in v) (trees_in v) in
+    subst (λ (q : Sketch). IfOk c.draw.result (λ (s : own.Sketch). sketch_in (sorts_in w) (trees_in w) s ≡ q))
+    (ap (λ (d : Copy → Code). side_by_side p set d (sketch_in (sorts_in v) (trees_in v) c.in_ok-after.after)) same
+    ∙ ap (side_by_side p set code) copied)
+    (c.draw.ensures.drawn p site)
+
+pub draw_first-returns-clause-err : goal.draw_first-returns-clause-err
+draw_first-returns-clause-err t c = λ (p : Parts) (site : IsSiteOf p c.args.site.now).
+    let v = c.args.table.now in
+    let next = c.args.next.now in
+    let after = sketch_in (sorts_in v) (trees_in v) next in
+    let k = copy_named c.args.copy in
+    let set = set_of c.args.set in
+    let r = codes_in c.args.rests.now in
+    let room = c.in_ok-for_one in
+    let same : codes_in c.in_ok-first.first ≡ first_taken r k = fun_ext c.in_ok-first.ensures in
+    let copied = c.in_ok-after.ensures.drawn (sorts_in v) (trees_in v) in
+    let was = side_by_side p set (codes_in c.in_ok-first.first) (sketch_in (sorts_in v) (trees_in v) c.in_ok-after.after) in
+    let is : was ≡ side_by_side p set (first_taken r k) after =
+    ap (λ (d : Copy → Code). side_by_side p set d (sketch_in (sorts_in v) (trees_in v) c.in_ok-after.after)) same
+    ∙ ap (side_by_side p set (first_taken r k)) copied in
+    IfErr-weaker c.draw.result (λ (e : ProductError). TellsBeyond room.for_one e was)
+    (λ (e : ProductError). TellsBeyond c.args.room e (drawn p set r after (side_by_side p) (Forks k)))
+    (λ (e : ProductError) (h : TellsBeyond room.for_one e was).
+    no_room_for_one p set r after k c.args.room e room.for_one next.extent.nodes c.requires.next.nodes room.ensures.ok.0 room.ensures.ok.1
+    (subst (TellsBeyond room.for_one e) is h))
+    (c.draw.ensures.err p site)
 
 -- loops
 pub draw_loops-returns-in_err-below-clause-err : goal.draw_loops-returns-in_err-below-clause-err
@@ -430,16 +425,16 @@ draw_loops-returns-in_err-below-clause-err t c = λ (p : Parts) (site : IsSiteOf
     let left = set_of c.args.left in
     let x = c.in_err-below.field-0.0 in
     err_is (λ (e : ProductError). TellsBeyond c.args.room e
-    (drawn p (set_of c.args.set) (codes_in c.args.rests) after (side_by_side p) (Loops left)))
+    (drawn p (set_of c.args.set) (codes_in c.args.rests.now) after (side_by_side p) (Loops left)))
     c.from_residual.result x c.from_residual.ensures.1
-    (none_loops p (set_of c.args.set) (codes_in c.args.rests) after left c.args.room x c.in_err-below.ensures.1)
+    (none_loops p (set_of c.args.set) (codes_in c.args.rests.now) after left c.args.room x c.in_err-below.ensures.1)
 
 pub draw_loops-draw_turns-requires : goal.draw_loops-draw_turns-requires
 draw_loops-draw_turns-requires t c =
     let u = c.args.table.now in
     let v = c.loop_templates.new.table in
     let wider = c.loop_templates.ensures.widens in
-    let r = codes_in c.args.rests in
+    let r = codes_in c.args.rests.now in
     let whole : 8 * statements_left r + 3 ≡ t = c.decreases in
     let less : 8 * statements_left r + 2 < t = omega (arith, whole) in
     let loops = have_loops (set_of c.args.set) r (set_of c.args.left) c.requires.filled c.requires.last in
@@ -464,7 +459,7 @@ draw_loops-returns-in_err-turns-clause-err t c = λ (p : Parts) (site : IsSiteOf
     let after = sketch_in (sorts_in u) (trees_in u) c.args.next in
     let set = set_of c.args.set in
     let left = set_of c.args.left in
-    let r = codes_in c.args.rests in
+    let r = codes_in c.args.rests.now in
     let x = c.in_err-turns.field-0.0 in
     let below = c.in_ok-below in
     err_is (λ (e : ProductError). TellsBeyond c.args.room e (drawn p set r after (side_by_side p) (Loops left)))
@@ -479,7 +474,7 @@ draw_loops-draw-requires t c =
     let wider = widens_twice u v w c.loop_templates.ensures.widens c.draw_turns.ensures.widens in
     let set = set_of c.args.set in
     let left = set_of c.args.left in
-    let r = codes_in c.args.rests in
+    let r = codes_in c.args.rests.now in
     let same : codes_in c.pass.new.rests ≡ moved_on left r = fun_ext c.pass.ensures in
     let way = after_loops set r left c.requires.filled c.requires.last in
     let whole : 8 * statements_left r + 3 ≡ t = c.decreases in
@@ -509,7 +504,7 @@ draw_loops-returns-in_err-after-clause-err t c = λ (p : Parts) (site : IsSiteOf
     let after = sketch_in (sorts_in u) (trees_in u) c.args.next in
     let set = set_of c.args.set in
     let left = set_of c.args.left in
-    let r = codes_in c.args.rests in
+    let r = codes_in c.args.rests.now in
     let x = c.in_err-after.field-0.0 in
     let below = c.in_ok-below in
     let same : codes_in c.pass.new.rests ≡ moved_on left r = fun_ext c.pass.ensures in
@@ -534,7 +529,7 @@ draw_loops-returns-clause-drawn t c = λ (p : Parts) (site : IsSiteOf p c.args.s
     let next = sketch_in (sorts_in u) (trees_in u) c.args.next in
     let set = set_of c.args.set in
     let left = set_of c.args.left in
-    let r = codes_in c.args.rests in
+    let r = codes_in c.args.rests.now in
     let same : codes_in c.pass.new.rests ≡ moved_on left r = fun_ext c.pass.ensures in
     let stays = sketch_stays u w wider c.args.next c.requires.next in
     let after = sketch_in (sorts_in z) (trees_in z) c.in_ok-after.after in
@@ -561,7 +556,7 @@ draw_loops-returns-clause-err t c = λ (p : Parts) (site : IsSiteOf p c.args.sit
     let next = sketch_in (sorts_in u) (trees_in u) c.args.next in
     let set = set_of c.args.set in
     let left = set_of c.args.left in
-    let r = codes_in c.args.rests in
+    let r = codes_in c.args.rests.now in
     let same : codes_in c.pass.new.rests ≡ moved_on left r = fun_ext c.pass.ensures in
     let stays = sketch_stays u w wider c.args.next c.requires.next in
     let after = sketch_in (sorts_in z) (trees_in z) c.in_ok-after.after in
@@ -671,66 +666,37 @@ draw_turns-returns-clause-taken t c = λ (p : Parts) (site : IsSiteOf p c.args.s
     (c.loop-smaller.invariant.taken p site)
 
 -- one turn
-pub draw_turn-draw-requires : goal.draw_turn-draw-requires
-draw_turn-draw-requires t c =
-    let v = c.args.table.now in
+pub draw_turn-draw_body-requires : goal.draw_turn-draw_body-requires
+draw_turn-draw_body-requires t c =
     let m = c.args.turning in
-    let left = set_of c.args.left in
     let r = codes_in c.args.rests.now in
     let inside : (bit_and m c.args.left == m) ≡ true = eq-eqb (bit_and m c.args.left) m c.if-turning-left.true in
-    let same : codes_in c.in_ok-code.code ≡ only_in (set_of m) (λ (d : Copy). loop_body (r d)) = fun_ext c.in_ok-code.ensures in
-    let way = one_turn r c.requires.no_hole left c.requires.loops (set_of m) (mask_inhabited m c.requires.turning.0 c.requires.turning.1)
-    (mask_within m c.args.left c.requires.turning.1 c.requires.left inside) in
+    let within = mask_within m c.args.left c.requires.turning.1 c.requires.left inside in
+    let loops : HaveLoops (set_of m) r = λ (d : Copy) (h : has (set_of m) d ≡ true). c.requires.loops d (within d h) in
     let whole : 8 * statements_left r + 1 ≡ t = c.decreases in
-    let size = ap statements_left same in
-    let fewer = way.fewer in
-    let less : 8 * statements_left (codes_in c.in_ok-code.code) + 5 < t = omega (arith, whole, size, fewer) in
-    let sorted = subst (λ (code : Copy → Code). (d : Copy) → IsWellSorted (sorts_in v) (code d)) (sym same)
-    (turn_sorted (sorts_in v) r c.requires.sorted (set_of m)) in
-    let filled = subst (IsFilled (set_of m)) (sym same) way.filled in (
-      less,
-      (
-        c.requires.turning.1,
-        (
-          c.requires.site,
-          (sorted, (filled, (c.ends.ensures.ready (sorts_in v) (trees_in v), c.requires.room))),
-        ),
-      ),
-    )
+    let less : 8 * statements_left r < t = omega (arith, whole) in
+    (less, (c.requires.turning, (c.requires.site, (c.requires.sorted, (c.requires.no_hole, (loops, c.requires.room))))))
 
 pub draw_turn-returns-in_err-turn-clause-err : goal.draw_turn-returns-in_err-turn-clause-err
 draw_turn-returns-in_err-turn-clause-err t c = λ (p : Parts) (site : IsSiteOf p c.args.site.now).
-    let v = c.args.table.now in
     let m = c.args.turning in
     let r = codes_in c.args.rests.now in
     let inside : (bit_and m c.args.left == m) ≡ true = eq-eqb (bit_and m c.args.left) m c.if-turning-left.true in
-    let same : codes_in c.in_ok-code.code ≡ only_in (set_of m) (λ (d : Copy). loop_body (r d)) = fun_ext c.in_ok-code.ensures in
     let x = c.in_err-turn.field-0.0 in
-    let told = subst (TellsBeyond c.args.room.now x)
-    (ap (λ (code : Copy → Code). side_by_side p (set_of m) code (sketch_in (sorts_in v) (trees_in v) c.ends.result)) same
-    ∙ ap (side_by_side p (set_of m) (only_in (set_of m) (λ (d : Copy). loop_body (r d))))
-    (c.ends.ensures.drawn (sorts_in v) (trees_in v)))
-    (c.in_err-turn.ensures.err p site) in
     err_is (λ (e : ProductError). TellAllBeyond c.args.room.now e
     (map (λ (n : ℕ). turn_of p r (set_of n)) (if bit_and m c.args.left == m then m ∷ [] else [])))
-    c.from_residual-in_err-turn.result x c.from_residual-in_err-turn.ensures.1
+    c.from_residual.result x c.from_residual.ensures.1
     (subst (λ (b : Bool). TellAllBeyond c.args.room.now x (map (λ (n : ℕ). turn_of p r (set_of n)) (if b then m ∷ [] else [])))
     (sym inside)
-    (one_told c.args.room.now x (turn_of p r (set_of m)) told))
+    (one_told c.args.room.now x (turn_of p r (set_of m)) (c.in_err-turn.ensures.err p site)))
 
 -- a turn has more nodes than there is room for
 pub draw_turn-returns-in_err-room-clause-err : goal.draw_turn-returns-in_err-room-clause-err
 draw_turn-returns-in_err-room-clause-err t c = λ (p : Parts) (site : IsSiteOf p c.args.site.now).
-    let v = c.args.table.now in
     let m = c.args.turning in
     let r = codes_in c.args.rests.now in
     let inside : (bit_and m c.args.left == m) ≡ true = eq-eqb (bit_and m c.args.left) m c.if-turning-left.true in
-    let same : codes_in c.in_ok-code.code ≡ only_in (set_of m) (λ (d : Copy). loop_body (r d)) = fun_ext c.in_ok-code.ensures in
-    let is = c.in_ok-turn.ensures.drawn p site
-    ∙ ap (λ (code : Copy → Code). side_by_side p (set_of m) code (sketch_in (sorts_in v) (trees_in v) c.ends.result)) same
-    ∙ ap (side_by_side p (set_of m) (only_in (set_of m) (λ (d : Copy). loop_body (r d))))
-    (c.ends.ensures.drawn (sorts_in v) (trees_in v)) in
-    let nodes = c.in_ok-turn.ensures.ready.nodes ∙ ap sketch_size is in
+    let nodes = c.in_ok-turn.ensures.ready.nodes ∙ ap sketch_size (c.in_ok-turn.ensures.drawn p site) in
     let few = c.in_err-room.ensures.1 in
     let x = c.in_err-room.field-0.0 in
     err_is (λ (e : ProductError). TellAllBeyond c.args.room.now e
@@ -743,47 +709,87 @@ draw_turn-returns-in_err-room-clause-err t c = λ (p : Parts) (site : IsSiteOf p
 pub draw_turn-returns-in_ok-push-clause-drawn : goal.draw_turn-returns-in_ok-push-clause-drawn
 draw_turn-returns-in_ok-push-clause-drawn t c = λ (p : Parts) (site : IsSiteOf p c.args.site.now).
     let v = c.args.table.now in
-    let w = c.draw.new.table in
+    let w = c.draw_body.new.table in
     let m = c.args.turning in
     let r = codes_in c.args.rests.now in
     let old = c.args.turns.now.items in
     let inside : (bit_and m c.args.left == m) ≡ true = eq-eqb (bit_and m c.args.left) m c.if-turning-left.true in
-    let same : codes_in c.in_ok-code.code ≡ only_in (set_of m) (λ (d : Copy). loop_body (r d)) = fun_ext c.in_ok-code.ensures in
-    let is = c.in_ok-turn.ensures.drawn p site
-    ∙ ap (λ (code : Copy → Code). side_by_side p (set_of m) code (sketch_in (sorts_in v) (trees_in v) c.ends.result)) same
-    ∙ ap (side_by_side p (set_of m) (only_in (set_of m) (λ (d : Copy). loop_body (r d))))
-    (c.ends.ensures.drawn (sorts_in v) (trees_in v)) in
     ap (map (sketch_in (sorts_in w) (trees_in w))) c.in_ok-push.ensures.items
     ∙ map-append (sketch_in (sorts_in w) (trees_in w)) old (c.in_ok-turn.turn ∷ [])
     ∙ ap (λ (l : List Sketch). l ++ sketch_in (sorts_in w) (trees_in w) c.in_ok-turn.turn ∷ [])
-    (sketches_stay v w c.draw.ensures.widens old c.requires.turns)
-    ∙ ap (λ (s : Sketch). map (sketch_in (sorts_in v) (trees_in v)) old ++ s ∷ []) is
+    (sketches_stay v w c.draw_body.ensures.widens old c.requires.turns)
+    ∙ ap (λ (s : Sketch). map (sketch_in (sorts_in v) (trees_in v)) old ++ s ∷ []) (c.in_ok-turn.ensures.drawn p site)
     ∙ sym (ap (λ (b : Bool). map (sketch_in (sorts_in v) (trees_in v)) old
     ++ map (λ (n : ℕ). turn_of p r (set_of n)) (if b then m ∷ [] else [])) inside)
 
 pub draw_turn-returns-in_ok-push-clause-ready : goal.draw_turn-returns-in_ok-push-clause-ready
 draw_turn-returns-in_ok-push-clause-ready t c =
     let v = c.args.table.now in
-    let w = c.draw.new.table in
+    let w = c.draw_body.new.table in
     let old = c.args.turns.now.items in
     subst (AreSketchesReady (sorts_in w) (trees_in w)) (sym c.in_ok-push.ensures.items)
-    (sketches_push (sorts_in w) (trees_in w) old c.in_ok-turn.turn (sketches_ready v w c.draw.ensures.widens old c.requires.turns)
+    (sketches_push (sorts_in w) (trees_in w) old c.in_ok-turn.turn (sketches_ready v w c.draw_body.ensures.widens old c.requires.turns)
     c.in_ok-turn.ensures.ready)
 
 pub draw_turn-returns-in_ok-push-clause-taken : goal.draw_turn-returns-in_ok-push-clause-taken
 draw_turn-returns-in_ok-push-clause-taken t c = λ (p : Parts) (site : IsSiteOf p c.args.site.now).
-    let v = c.args.table.now in
     let m = c.args.turning in
     let r = codes_in c.args.rests.now in
     let inside : (bit_and m c.args.left == m) ≡ true = eq-eqb (bit_and m c.args.left) m c.if-turning-left.true in
-    let same : codes_in c.in_ok-code.code ≡ only_in (set_of m) (λ (d : Copy). loop_body (r d)) = fun_ext c.in_ok-code.ensures in
-    let is = c.in_ok-turn.ensures.drawn p site
-    ∙ ap (λ (code : Copy → Code). side_by_side p (set_of m) code (sketch_in (sorts_in v) (trees_in v) c.ends.result)) same
-    ∙ ap (side_by_side p (set_of m) (only_in (set_of m) (λ (d : Copy). loop_body (r d))))
-    (c.ends.ensures.drawn (sorts_in v) (trees_in v)) in
-    let nodes = c.in_ok-turn.ensures.ready.nodes ∙ ap sketch_size is in
+    let nodes = c.in_ok-turn.ensures.ready.nodes ∙ ap sketch_size (c.in_ok-turn.ensures.drawn p site) in
     let left = c.in_ok-room.ensures.0 in
     subst (λ (b : Bool). IsTaken c.args.room.now c.in_ok-room.field-0
     (map (λ (n : ℕ). turn_of p r (set_of n)) (if b then m ∷ [] else [])))
     (sym inside)
     (one_taken c.args.room.now c.in_ok-room.field-0 (turn_of p r (set_of m)) (omega (arith, nodes, left)) c.in_ok-room.ensures.1)
+
+-- the bodies of a turn's loops
+pub draw_body-draw-requires : goal.draw_body-draw-requires
+draw_body-draw-requires t c =
+    let v = c.args.table.now in
+    let m = set_of c.args.turning in
+    let r = codes_in c.args.rests.now in
+    let same : codes_in c.in_ok-code.code ≡ only_in m (λ (d : Copy). loop_body (r d)) = fun_ext c.in_ok-code.ensures in
+    let way = one_turn r c.requires.no_hole m c.requires.loops m (mask_inhabited c.args.turning c.requires.turning.0 c.requires.turning.1)
+    (λ (d : Copy) h. h) in
+    let whole : 8 * statements_left r ≡ t = c.decreases in
+    let size = ap statements_left same in
+    let fewer = way.fewer in
+    let less : 8 * statements_left (codes_in c.in_ok-code.code) + 5 < t = omega (arith, whole, size, fewer) in
+    let sorted = subst (λ (code : Copy → Code). (d : Copy) → IsWellSorted (sorts_in v) (code d)) (sym same)
+    (turn_sorted (sorts_in v) r c.requires.sorted m) in
+    let filled = subst (IsFilled m) (sym same) way.filled in (
+      less,
+      (
+        c.requires.turning.1,
+        (
+          c.requires.site,
+          (sorted, (filled, (c.ends.ensures.ready (sorts_in v) (trees_in v), c.requires.room))),
+        ),
+      ),
+    )
+
+pub draw_body-returns-clause-drawn : goal.draw_body-returns-clause-drawn
+draw_body-returns-clause-drawn t c = λ (p : Parts) (site : IsSiteOf p c.args.site.now).
+    let v = c.args.table.now in
+    let w = c.draw.new.table in
+    let m = set_of c.args.turning in
+    let r = codes_in c.args.rests.now in
+    let bodies = only_in m (λ (d : Copy). loop_body (r d)) in
+    let same : codes_in c.in_ok-code.code ≡ bodies = fun_ext c.in_ok-code.ensures in
+    subst (λ (q : Sketch). IfOk c.draw.result (λ (s : own.Sketch). sketch_in (sorts_in w) (trees_in w) s ≡ q))
+    (ap (λ (d : Copy → Code). side_by_side p m d (sketch_in (sorts_in v) (trees_in v) c.ends.result)) same
+    ∙ ap (side_by_side p m bodies) (c.ends.ensures.drawn (sorts_in v) (trees_in v)))
+    (c.draw.ensures.drawn p site)
+
+pub draw_body-returns-clause-err : goal.draw_body-returns-clause-err
+draw_body-returns-clause-err t c = λ (p : Parts) (site : IsSiteOf p c.args.site.now).
+    let v = c.args.table.now in
+    let m = set_of c.args.turning in
+    let r = codes_in c.args.rests.now in
+    let bodies = only_in m (λ (d : Copy). loop_body (r d)) in
+    let same : codes_in c.in_ok-code.code ≡ bodies = fun_ext c.in_ok-code.ensures in
+    subst (λ (q : Sketch). IfErr c.draw.result (λ (e : ProductError). TellsBeyond c.args.room e q))
+    (ap (λ (d : Copy → Code). side_by_side p m d (sketch_in (sorts_in v) (trees_in v) c.ends.result)) same
+    ∙ ap (side_by_side p m bodies) (c.ends.ensures.drawn (sorts_in v) (trees_in v)))
+    (c.draw.ensures.err p site)

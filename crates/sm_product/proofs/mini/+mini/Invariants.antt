@@ -14,22 +14,28 @@ use Rattle.sm_product.specs.Rooms.{IsRoom, IsTaken}
 use Rattle.sm_product.proofs.mini.+mini.Given as goal
 
 abbrev pub decreases-draw : goal.decreases-draw
-decreases-draw l = 8 * statements_left (codes_in l.rests) + 5
+decreases-draw l = 8 * statements_left (codes_in l.rests.now) + 5
 
 abbrev pub decreases-draw_last : goal.decreases-draw_last
-decreases-draw_last l = 8 * statements_left (codes_in l.rests) + 4
+decreases-draw_last l = 8 * statements_left (codes_in l.rests.now) + 4
 
 abbrev pub decreases-draw_fork : goal.decreases-draw_fork
-decreases-draw_fork l = 8 * statements_left (codes_in l.rests) + 3
+decreases-draw_fork l = 8 * statements_left (codes_in l.rests.now) + 3
+
+abbrev pub decreases-draw_first : goal.decreases-draw_first
+decreases-draw_first l = 8 * statements_left (codes_in l.rests.now) + 2
 
 abbrev pub decreases-draw_loops : goal.decreases-draw_loops
-decreases-draw_loops l = 8 * statements_left (codes_in l.rests) + 3
+decreases-draw_loops l = 8 * statements_left (codes_in l.rests.now) + 3
 
 abbrev pub decreases-draw_turns : goal.decreases-draw_turns
 decreases-draw_turns l = 8 * statements_left (codes_in l.rests.now) + 2
 
 abbrev pub decreases-draw_turn : goal.decreases-draw_turn
 decreases-draw_turn l = 8 * statements_left (codes_in l.rests.now) + 1
+
+abbrev pub decreases-draw_body : goal.decreases-draw_body
+decreases-draw_body l = 8 * statements_left (codes_in l.rests.now)
 
 abbrev pub invariant-draw_turns-loop-smaller : goal.invariant-draw_turns-loop-smaller
 invariant-draw_turns-loop-smaller l = record {

@@ -218,17 +218,14 @@ pub product_if-returns-clause-drawn : goal.product_if-returns-clause-drawn
 product_if-returns-clause-drawn t c =
     let v = c.args.table.now in
     let u = c.forked.new.table in
-    let w = c.block_templates.new.table in
+    let w = c.templates_of_ifs.new.table in
     let more = c.in_ok-templates.ensures.widens in
     let wider = widens_twice v u w c.in_ok-inner.ensures.widens more in
     let parts = parts_of c.args.cx.now.task.now in
     let set = set_of c.args.set in
     let b = c.args.blocks.now in
     let code = piece_of c.args.pieces.now in
-    let left : Copy → Code = λ (d : Copy). rest_code (of_copy c.in_ok-code.code d) in
-    let rests : left ≡ only_in set code = only_these set left code c.in_ok-code.ensures in
-    let templates : forms_in (sorts_in w) (trees_in w) c.in_ok-templates.templates.list.items ≡ block_templates parts (only_in set code) =
-    c.in_ok-templates.ensures.made parts c.requires.context.site ∙ ap (block_templates parts) rests in
+    let templates = c.in_ok-templates.ensures.made parts c.requires.context.site in
     let inner = sketch_ready u w more c.in_ok-inner.inner c.in_ok-inner.ensures.drawn.1 in
     let after = sketch_ready v w wider c.args.next c.requires.next in
     if_apart parts (code_of b.first.shared.now) (code_of b.second.shared.now) code set (sketch_in (sorts_in v) (trees_in v) c.args.next) w
@@ -337,7 +334,7 @@ pub product_while-returns-clause-drawn : goal.product_while-returns-clause-drawn
 product_while-returns-clause-drawn t c =
     let v = c.args.table.now in
     let u = c.turns.new.table in
-    let w = c.loop_templates.new.table in
+    let w = c.templates_of_loops.new.table in
     let more = c.in_ok-templates.ensures.widens in
     let wider = widens_twice v u w c.in_ok-turns.ensures.widens more in
     let parts = parts_of c.args.cx.now.task.now in
@@ -345,10 +342,7 @@ product_while-returns-clause-drawn t c =
     let body = code_of c.args.body.now.shared.now in
     let code = piece_of c.args.pieces.now in
     let turn : Copies → plain.Sketch = λ (x : Copies). product parts body x plain.ends in
-    let left : Copy → Code = λ (d : Copy). rest_code (of_copy c.in_ok-code.code d) in
-    let rests : left ≡ code = all_these left code c.in_ok-code.ensures in
-    let templates : forms_in (sorts_in w) (trees_in w) c.in_ok-templates.templates.list.items ≡ loop_templates parts set code =
-    c.in_ok-templates.ensures.made parts c.requires.context.site ∙ ap (loop_templates parts set) rests in
+    let templates = c.in_ok-templates.ensures.made parts c.requires.context.site in
     let drawn = sketches_stay u w more c.in_ok-turns.turns.items c.in_ok-turns.ensures.ready ∙ c.in_ok-turns.ensures.made in
     let turned = sketches_ready u w more c.in_ok-turns.turns.items c.in_ok-turns.ensures.ready in
     let after = sketch_ready v w wider c.args.next c.requires.next in
