@@ -63,14 +63,44 @@ pub fn runs_from(
     }
 }
 
+// Runs two programs from the store of an input.
+fn run_two(
+    alloc: Global,
+    setting: &Setting<'_>,
+    first: CopyName,
+    second: CopyName,
+    start: &Store,
+) -> Result<(Watched, Watched), AllocError>
+    requires { sorts_of start.now ≡ sort_of (declared_of setting.now.task.now.shared.decls) }
+{
+    let first = run_copy(alloc, setting, first, start)?;
+    let second = run_copy(alloc, setting, second, start)?;
+    Ok((first, second))
+}
+
 // Runs the four programs from the store of an input.
 fn run_all(alloc: Global, setting: &Setting<'_>, start: &Store) -> Result<Runs, AllocError>
     requires { sorts_of start.now ≡ sort_of (declared_of setting.now.task.now.shared.decls) }
 {
-    let base = run_copy(alloc, setting, CopyName::O, start)?;
-    let variant_a = run_copy(alloc, setting, CopyName::A, start)?;
-    let variant_b = run_copy(alloc, setting, CopyName::B, start)?;
-    let candidate = run_copy(alloc, setting, CopyName::M, start)?;
+    let (base, variant_a) = run_two(alloc, setting, CopyName::O, CopyName::A, start)?;
+    let (variant_b, candidate) = run_two(alloc, setting, CopyName::B, CopyName::M, start)?;
+    Ok(runs_of(setting, base, variant_a, variant_b, candidate))
+}
+
+// What four runs show together.
+fn runs_of(
+    setting: &Setting<'_>,
+    base: Watched,
+    variant_a: Watched,
+    variant_b: Watched,
+    candidate: Watched,
+) -> Runs {
+    let steps = PerCopy {
+        base: base.steps,
+        variant_a: variant_a.steps,
+        variant_b: variant_b.steps,
+        candidate: candidate.steps,
+    };
     let breaks = break_at_ends(
         setting,
         base.end,
@@ -78,21 +108,17 @@ fn run_all(alloc: Global, setting: &Setting<'_>, start: &Store) -> Result<Runs, 
         variant_b.end,
         candidate.end,
     );
-    Ok(Runs {
-        notes: PerCopy {
-            base: base.notes,
-            variant_a: variant_a.notes,
-            variant_b: variant_b.notes,
-            candidate: candidate.notes,
-        },
-        steps: PerCopy {
-            base: base.steps,
-            variant_a: variant_a.steps,
-            variant_b: variant_b.steps,
-            candidate: candidate.steps,
-        },
+    let notes = PerCopy {
+        base: base.notes,
+        variant_a: variant_a.notes,
+        variant_b: variant_b.notes,
+        candidate: candidate.notes,
+    };
+    Runs {
+        notes,
+        steps,
         breaks,
-    })
+    }
 }
 
 // Whether four runs end, and the ends break the condition.

@@ -119,14 +119,19 @@ impl Search {
         }
     }
 
+    // Takes the steps of the runs from an input, with those that it takes to begin.
+    fn spend_all(&mut self, begin: u64, steps: &PerCopy<u64>) -> Result<(), Halt> {
+        self.spend(begin)?;
+        self.spend(steps.base)?;
+        self.spend(steps.variant_a)?;
+        self.spend(steps.variant_b)?;
+        self.spend(steps.candidate)
+    }
+
     /// Takes the steps of the runs from the input at a place among all, and what they show. Whether
     /// their ends break the condition.
     pub fn take(&mut self, setting: &Setting<'_>, runs: Runs, input: usize) -> Result<bool, Halt> {
-        self.spend(setting.steps)?;
-        self.spend(runs.steps.base)?;
-        self.spend(runs.steps.variant_a)?;
-        self.spend(runs.steps.variant_b)?;
-        self.spend(runs.steps.candidate)?;
+        self.spend_all(setting.steps, &runs.steps)?;
         add_notes(&mut self.records.base, &runs.notes.base, input);
         add_notes(&mut self.records.variant_a, &runs.notes.variant_a, input);
         add_notes(&mut self.records.variant_b, &runs.notes.variant_b, input);
