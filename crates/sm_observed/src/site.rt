@@ -20,9 +20,9 @@ use crate::visits::Visits;
 use crate::work::Work;
 use sm_eval::Store;
 use sm_plan::Formulas;
-use sm_syntax::{Decls, Name};
+use sm_syntax::{Decls, Name, PerCopy};
 use sm_template::{SiteContext, loop_templates};
-use sm_term::{Formula, TermTable, copy_formula};
+use sm_term::{Formula, SymStore, TermTable, copy_formula};
 use std::alloc::{AllocError, Global};
 
 /// What runs from inputs show at a site, for a task with these declarations, and whether candidates
@@ -129,6 +129,71 @@ fn spend_on_names(scene: &Scene<'_>, written: &[Name], list: &[Formula], work: &
     work.spend(work_of_putting(list, most).saturating_add(tried));
 }
 
+// What candidates of a site are made of: where names and guards stand, and what visits show.
+#[derive(Drop)]
+struct Suggesting<'n> {
+    observed: &'n Observed<'n>,
+    state: &'n LoopState<'n>,
+    scene: &'n Scene<'n>,
+    written: &'n [Name],
+    places: &'n PerCopy<SymStore>,
+    guards: &'n Guards,
+}
+
+// The places of all names. They have many parts, and are kept apart.
+fn boxed_places(
+    alloc: Global,
+    table: &mut TermTable,
+    decls: &Decls,
+) -> Result<Box<PerCopy<SymStore>>, AllocError>
+    requires { sorts_in table.old ≡ sort_of (declared_of decls.now) }
+    ensures { AddsTerms table.old table.new }
+{
+    let places = places_of(alloc, table, decls)?;
+    let boxed = Box::new(alloc, places)?;
+    Ok(boxed)
+}
+
+// Puts equalities among columns behind other candidates.
+fn put_equalities(
+    alloc: Global,
+    table: &mut TermTable,
+    by: &Suggesting<'_>,
+    list: &mut Vec<Formula>,
+    work: &mut Work,
+) -> Result<(), AllocError>
+    ensures { AddsTerms table.old table.new }
+{
+    let decls = by.observed.decls;
+    let columns = columns_of(alloc, table, decls, by.places, by.state, by.written)?;
+    let sight = Sight {
+        scene: &*by.scene,
+        columns: &columns,
+    };
+    let with_guards = by.observed.with_guards;
+    put_both(alloc, table, &sight, by.guards, with_guards, list, work)
+}
+
+// Puts what is suggested behind other candidates.
+fn put_suggested(
+    alloc: Global,
+    table: &mut TermTable,
+    by: &Suggesting<'_>,
+    list: &mut Vec<Formula>,
+    work: &mut Work,
+) -> Result<(), AllocError>
+    ensures { AddsTerms table.old table.new }
+{
+    put_equalities(alloc, table, by, list, work)?;
+    spend_on_names(by.scene, by.written, list.as_slice(), work);
+    if work.is_spent() {
+        return Ok(());
+    }
+    put_bounds(&by.state.stores, by.places, by.written, list)?;
+    put_few_values(alloc, table, by.scene, by.places, by.written, list)?;
+    put_clauses(alloc, by.guards, list)
+}
+
 // Puts the candidates that visits suggest behind others.
 fn put_seen(
     alloc: Global,
@@ -142,31 +207,18 @@ fn put_seen(
     requires { sorts_in table.old ≡ sort_of (declared_of observed.now.decls.now) }
     ensures { AddsTerms table.old table.new }
 {
-    let decls = observed.decls;
-    let written = numbers_written(alloc, decls, state)?;
-    let places = places_of(alloc, table, decls)?;
+    let written = numbers_written(alloc, observed.decls, state)?;
+    let places = boxed_places(alloc, table, observed.decls)?;
     let guards = guards_of(alloc, table, &places, state)?;
-    let columns = columns_of(alloc, table, decls, &places, state, &written)?;
-    let sight = Sight {
+    let by = Suggesting {
+        observed: &*observed,
+        state: &*state,
         scene: &*scene,
-        columns: &columns,
+        written: &written,
+        places: &places,
+        guards: &guards,
     };
-    put_both(
-        alloc,
-        table,
-        &sight,
-        &guards,
-        observed.with_guards,
-        list,
-        work,
-    )?;
-    spend_on_names(scene, &written, list.as_slice(), work);
-    if work.is_spent() {
-        return Ok(());
-    }
-    put_bounds(&state.stores, &places, &written, list)?;
-    put_few_values(alloc, table, scene, &places, &written, list)?;
-    put_clauses(alloc, &guards, list)
+    put_suggested(alloc, table, &by, list, work)
 }
 
 /// The candidates of a site that visits don't refute. A site without visits has none, nor has one
