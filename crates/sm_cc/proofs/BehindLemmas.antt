@@ -1,4 +1,4 @@
--- Labels of places behind those of a ground tell what equals, and tell the classes where the places are new and quiet.
+-- Labels of places behind those of a base tell what equals, and tell the classes where the places are new and quiet.
 use Rattle.std.proofs.Common.{◌≡◌, ◌⊎◌, ℕ, zero, suc, pos, ◌+◌, ◌-◌, ◌<◌, ◌≤◌, Bool, true, false, ◌&&◌, ◌||◌, inl, inr}
 use Rattle.std.proofs.Common.{Some, None, Option, List, [], ◌∷◌, ◌++◌, length, map, take, drop, slice_get, refl, sym, ap, subst, ◌∙◌, ⊎_elim, arith}
 use Rattle.std.specs.List.{list_any}
@@ -128,7 +128,7 @@ module _ (g : BaseClasses) (more : List Row) (s : Scanned) (looked : AreLooked g
     long : length b.rows ≡ length roots
     long = ap length behind.rows ∙ length-append g.closure.rows.items more ∙ sym count
 
-    -- the labels are those of the ground, with the place of each new one behind them
+    -- the labels are those of the base, with the place of each new one behind them
     abbrev fresh : List Equation
     fresh = drop first roots
 
@@ -202,7 +202,7 @@ module _ (g : BaseClasses) (more : List Row) (s : Scanned) (looked : AreLooked g
         inr (neither (pairs x p && pairs y q) (pairs x q && pairs y p) (none_passes (has_labels roots p q) apart at.0 (x, y) parted at.1)))
         (only_unequal x y listed)
 
-    -- an element at a place of the ground brings nothing more
+    -- an element at a place of the base brings nothing more
     old_so : (i : ℕ) → i < first → (e : Element) → HasElement g.closure.rows.items i e → IsReadSo b pairs i e
     old_so i within e has =
         let below = element_below g.closure.rows.items inside i e has in

@@ -1,4 +1,4 @@
--- What the labels of places behind those of a ground tell of the terms at them.
+-- What the labels of places behind those of a base tell of the terms at them.
 use Rattle.std.proofs.Common.{◌≡◌, ◌⊎◌, ℕ, ◌+◌, ◌<◌, Bool, true, not, IsTrue, inl, inr}
 use Rattle.std.proofs.Common.{Some, List, ◌++◌, length, map, slice_get, refl, sym, ap, subst, ◌∙◌, ⊎_elim, arith}
 use Rattle.std.specs.List.{filter}
@@ -23,7 +23,7 @@ use Rattle.sm_cc.specs.AddedTerms.{AreEqualByLabels, IsGivenBefore, IsContraryOf
 use Rattle.sm_cc.specs.Classes.{Same}
 use Rattle.sm_cc.specs.Closures.{board_of, pair_of, placed_of}
 use Rattle.sm_cc.specs.Exact.{placed_with}
-use Rattle.sm_cc.specs.BaseClasses.{IsGround, IsLedBy}
+use Rattle.sm_cc.specs.BaseClasses.{AreBaseClasses, IsLedBy}
 use Rattle.sm_cc.specs.Growing.{AreGrown}
 use Rattle.sm_cc.specs.Labels.{AreLabels, AreTermLabels}
 use Rattle.sm_cc.specs.LabelsAt.{label_at}
@@ -76,8 +76,8 @@ module _ (v : ClassesValue) (positions : Positions) (places : Placed) (are : Are
         (label_is labels list count are_list j l u at_u at_j));
   }
 
--- terms behind those of a ground
-module _ (v w : ClassesValue) (g : BaseClasses) (n : Numbering) (is : IsGround v g n) (led : IsLedBy v w) (q : Positions)
+-- terms behind those of a base
+module _ (v w : ClassesValue) (g : BaseClasses) (n : Numbering) (is : AreBaseClasses v g n) (led : IsLedBy v w) (q : Positions)
     (told : ArePositions (trees_in w.table) (setting_of w).terms q) (fine : AreOfTwoTerms w) where
   abbrev equal : List Given
   equal = placed_equations q w.given
@@ -85,7 +85,7 @@ module _ (v w : ClassesValue) (g : BaseClasses) (n : Numbering) (is : IsGround v
   abbrev unequal : List Given
   unequal = placed_contraries q w.given
 
-  -- what is given that passes a test, and was given before, is given of the ground's places
+  -- what is given that passes a test, and was given before, is given of the base's places
   still_there : (test : GivenFact → Bool) (old : List Given) → old ≡ map (placed_fact g.positions) (filter test v.given) → (f : GivenFact) →
       test f ≡ true → ((f h : GivenFact) → f.are_equal ≡ h.are_equal → test f ≡ test h) → IsGivenBefore v.given f →
       (is_listed (map pair_of old) (place_at q f.left.0) (place_at q f.right.0) ≡ true)
@@ -126,7 +126,7 @@ module _ (v w : ClassesValue) (g : BaseClasses) (n : Numbering) (is : IsGround v
       let pair : pair_of (placed_fact q y.0) ≡ (i, j) = ap pair_of y.2 ∙ x.2 in
       (z.0, y.0, z.1, z.2, ap (λ (p : ℕ × ℕ). p.0) pair, ap (λ (p : ℕ × ℕ). p.1) pair)
 
-  -- what is given of the places of the ground
+  -- what is given of the places of the base
   old_equal : g.closure.equal.items ≡ placed_equations g.positions v.given
   old_equal =
       given_same g.closure.equal.items (placed_equations g.positions v.given)
@@ -174,7 +174,7 @@ module _ (v w : ClassesValue) (g : BaseClasses) (n : Numbering) (is : IsGround v
         ∙ ap (option_map (λ (p : TermId × TermId). (place_at q p.0.0, place_at q p.1.0))) other.1.1 in
         inr (other.1.0, at ∙ ap (λ (m : ℕ). Some (m, place_at q f.right.0)) x.4 ∙ ap (λ (m : ℕ). Some (i, m)) x.5)) (adds x.0 f x.2)
 
-  -- more rows go behind those of the ground
+  -- more rows go behind those of the base
   module _ (trees_apart : AreApart (trees_in w.table)) (codes : AreCodesApart (codes_in w.table)) (m : Numbering) (further : IsFurther n m)
       (more : List Row) (total : length g.closure.rows.items + length more ≡ length w.terms)
       (from : AreRowsFrom w.table (setting_of w).terms m (length g.closure.rows.items) more)

@@ -24,7 +24,6 @@ use Rattle.sm_theory.specs.Lines.{followed}
 use Rattle.sm_theory.proofs.FormsOfTermsLemmas.{one_place}
 use Rattle.sm_theory.proofs.LinearLater.{stands_later}
 use Rattle.sm_cc.specs.declared.classes.GivenFact.{GivenFact}
-use Rattle.sm_cc.specs.declared.closure.Closure.{Closure}
 use Rattle.sm_cc.specs.declared.ground.BaseClasses.{BaseClasses}
 use Rattle.sm_cc.specs.declared.ground.Numbering.{Numbering}
 use Rattle.sm_cc.specs.declared.log.Given.{Given}
@@ -38,12 +37,12 @@ use Rattle.sm_pairs.specs.Longer.{IsLonger}
 use Rattle.sm_cc.specs.Numbered.{head_of, IsHeadAt, IsShapeAt, heads_met, parts_met}
 use Rattle.sm_cc.specs.RowOf.{HasTree, IsRowOf, IsFurther, AreRowsFrom}
 use Rattle.sm_cc.specs.Growing.{IsCopy, AreGrown}
-use Rattle.sm_cc.specs.BaseClasses.{AreBelow, IsElementBelow, IsRowBelow, AreInside, AreKeyed, AreNumberedBy, AreAllGiven, IsGround, IsLedBy}
+use Rattle.sm_cc.specs.BaseClasses.{AreBelow, IsElementBelow, IsRowBelow, AreInside, AreNumberedBy, AreAllGiven, AreBaseClasses, IsLedBy}
 use Rattle.sm_cc.specs.Views.{ClassesValue, trees_of, setting_of, AreOfTwoTerms}
 use Rattle.sm_cc.specs.Positions.{ArePositions, place_at}
 use Rattle.sm_cc.specs.Log.{Placed}
 use Rattle.sm_cc.specs.Closures.{pair_of, fact_of, placed_of}
-use Rattle.sm_cc.specs.Exact.{IsExact, placed_with}
+use Rattle.sm_cc.specs.Exact.{placed_with}
 use Rattle.sm_cc.specs.Assumed.{placed_fact, placed_equations, placed_contraries, AreClasses}
 use Rattle.sm_pairs.proofs.LongerLemmas.{slice_get-longer}
 use Rattle.sm_pairs.proofs.AmongLemmas.{one_thing}
@@ -331,7 +330,7 @@ given_same (x ∷ xs) (y ∷ ys) e f =
         ∙ ap (λ (n : ℕ). let made : Given = record { fact = h.fact; left = n; right = g.right } in made) f
         ∙ ap (λ (n : ℕ). let made : Given = record { fact = h.fact; left = h.left; right = n } in made) k
 
-module _ (old new : ClassesValue) (g : BaseClasses) (n : Numbering) (is : IsGround old g n) (led : IsLedBy old new) where
+module _ (old new : ClassesValue) (g : BaseClasses) (n : Numbering) (is : AreBaseClasses old g n) (led : IsLedBy old new) where
   abbrev ts : List Tree
   ts = (setting_of old).terms
 
@@ -355,6 +354,19 @@ module _ (old new : ClassesValue) (g : BaseClasses) (n : Numbering) (is : IsGrou
       let all = ap length led.terms.1 in
       let same = count_is in
       omega (arith, long, all, same)
+
+  -- what positions of more terms ask
+  pub led_terms : (trees : List Tree) × (first : List TermId) × ArePositions trees (trees_of trees first) g.positions
+      × AreBefore (length trees) first × IsLonger trees (trees_in new.table) × IsLonger first new.terms × (length first ≡ length rows)
+  led_terms = (
+    trees_in old.table,
+    old.terms,
+    is.classes.positions_tell,
+    is.before,
+    led.table.trees,
+    led.terms,
+    sym count_is,
+  )
 
   -- what is given of the places is what is given of the terms
   pub placed : placed_of g.closure
@@ -414,7 +426,7 @@ module _ (old new : ClassesValue) (g : BaseClasses) (n : Numbering) (is : IsGrou
         classes_made new q told all stand fine equal unequal e f places made
 
 -- classes that others begin with stay such where more is numbered
-pub ground_later : (v : ClassesValue) (g : BaseClasses) (n m : Numbering) → IsFurther n m → IsGround v g n → IsGround v g m
+pub ground_later : (v : ClassesValue) (g : BaseClasses) (n m : Numbering) → IsFurther n m → AreBaseClasses v g n → AreBaseClasses v g m
 ground_later v g n m further is = record {
   before = is.before;
   classes = is.classes;
@@ -430,27 +442,6 @@ ground_later v g n m further is = record {
             (parts_met m.shapes) t r further.heads further.parts (is.numbered.each i r t e f);
       };
 }
-
--- what is so of the rows and of what is given makes such classes
-pub ground_made : (v : ClassesValue) (g : BaseClasses) (n : Numbering) → AreBefore (length (trees_in v.table)) v.terms → (p : Positions) →
-    g.positions ≡ p → ArePositions (trees_in v.table) (setting_of v).terms p → (rows : List Row) →
-    RowsStand (sorts_in v.table) (setting_of v).terms rows → AreNumberedBy v.table (setting_of v).terms rows n → AreOfTwoTerms v →
-    (equal unequal : List Given) → equal ≡ placed_equations p v.given → unequal ≡ placed_contraries p v.given → (c : Closure) →
-    g.closure ≡ c → IsExact c → placed_of c ≡ placed_with rows equal unequal → AreInside c.rows.items → AreKeyed g → IsGround v g n
-ground_made v g n before p here tell rows stand numbered fine equal unequal e f c there exact given inside keyed =
-    let made = classes_made v p tell rows stand fine equal unequal e f (placed_of c) given in
-    let same : c.rows.items ≡ rows = ap (λ (q : Placed). q.board.rows) given in
-    let counted = subst (λ (rs : List Row). AreNumberedBy v.table (setting_of v).terms rs n) (sym same) numbered in
-    record {
-      before = before;
-      classes =
-          subst (λ (d : Closure). AreClasses v g.positions (placed_of d)) (sym there)
-          (subst (λ (q : Positions). AreClasses v q (placed_of c)) (sym here) made);
-      exact = subst (λ (d : Closure). IsExact d) (sym there) exact;
-      keyed = keyed;
-      inside = subst (λ (d : Closure). AreInside d.rows.items) (sym there) inside;
-      numbered = subst (λ (d : Closure). AreNumberedBy v.table (setting_of v).terms d.rows.items n) (sym there) counted;
-    }
 
 -- numbers of which each is below a bound are below it
 pub all_below : (bound : ℕ) (ns : List ℕ) → ((i n : ℕ) → slice_get ns i ≡ Some n → n < bound) → AreBelow bound ns

@@ -1,4 +1,4 @@
--- Places behind those of a ground: one look at each tells what equals it.
+-- Places behind those of a base: one look at each tells what equals it.
 use Rattle.std.proofs.Common.{◌≡◌, ◌⊎◌, ℕ, zero, suc, pos, ◌+◌, ◌<◌, ◌≤◌, Bool, true, ◌&&◌}
 use Rattle.std.proofs.Common.{Some, None, Option, List, [], ◌∷◌, ◌++◌, length, slice_get, take, refl, sym, ap, subst, ◌∙◌, ⊎_elim, inl, inr, arith}
 use Rattle.std.proofs.lemmas.Bool.{false≢true, cases_lt, or_left, or_right}
@@ -219,7 +219,7 @@ module _ (g : BaseClasses) (more : List Row) where
   abbrev all : List Row
   all = g.closure.rows.items ++ more
 
-  -- the row of a place behind the ground
+  -- the row of a place behind the base
   pub row_behind : (k : ℕ) (r : Row) → slice_get more k ≡ Some r → slice_get all (first + k) ≡ Some r
   row_behind k r e = get_behind g.closure.rows.items more (first + k) k refl ∙ e
 

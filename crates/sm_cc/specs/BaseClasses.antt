@@ -54,7 +54,7 @@ pub record AreNumberedBy (table : TableValue) (terms : List Tree) (rows : List R
       IsRowOf table terms (heads_met n.heads) (parts_met n.shapes) t r
 
 -- these are the classes of terms by all that is given of them
-pub record IsGround (v : ClassesValue) (g : BaseClasses) (n : Numbering) : Type 0 where
+pub record AreBaseClasses (v : ClassesValue) (g : BaseClasses) (n : Numbering) : Type 0 where
   pub before : AreBefore (length (trees_in v.table)) v.terms
   pub classes : AreClasses v g.positions (placed_of g.closure)
   pub exact : IsExact g.closure

@@ -9,6 +9,7 @@ pub mod Explaining
 pub mod Firsts
 pub mod BaseClasses
 pub mod Growing
+pub mod Labelled
 pub mod Labels
 pub mod LabelsAt
 pub mod Laws

@@ -1,4 +1,4 @@
--- Private: places behind those of a ground, and what one look at each tells.
+-- Private: places behind those of a base, and what one look at each tells.
 use Rattle.std.specs.Prelude.{◌≡◌, ◌⊎◌, ℕ, ◌+◌, ◌-◌, ◌<◌, ◌≤◌, Bool, true, false, ◌&&◌, ◌||◌}
 use Rattle.std.specs.Prelude.{IsTrue, Option, Some, None, List, ◌++◌, length, slice_get, take}
 use Rattle.std.specs.List.{list_any}

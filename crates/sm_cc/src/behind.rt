@@ -1,4 +1,4 @@
-// What terms behind those of a ground are equal to, as far as one look at each tells.
+// What terms behind those of a base are equal to, as far as one look at each tells.
 ghost use Rattle.std.specs.Prelude.{◌≡◌, ℕ, ◌+◌, ◌<◌, ℤ, true, IsTrue, Option, List};
 ghost use Rattle.std.specs.Prelude.{length, map, IfOk, OnOk};
 ghost use Rattle.sm_term.specs.Tables.{trees_in, AreBefore};
@@ -8,7 +8,8 @@ ghost use Rattle.sm_cc.specs.declared.classes.GivenFact.{GivenFact as Fact};
 ghost use Rattle.sm_cc.specs.AddedTerms.{AreEqualByLabels, AddsOnly};
 ghost use Rattle.sm_cc.specs.Exact.{IsExact};
 ghost use Rattle.sm_cc.specs.Firsts.{AreFirsts, met_at, key_told, shape_key, row_key};
-ghost use Rattle.sm_cc.specs.BaseClasses.{AreBelow, AreInside, AreKeyed, IsGround, IsLedBy};
+ghost use Rattle.sm_cc.specs.BaseClasses.{AreBelow, AreInside, AreKeyed, AreBaseClasses, IsLedBy};
+ghost use Rattle.sm_cc.specs.Labelled.{ArePlacesLabelled, AreTermsLabelled};
 ghost use Rattle.sm_cc.specs.Labels.{AreTermLabels};
 ghost use Rattle.sm_cc.specs.Scanned.{any_two, IsMetFor, IsLabelFor, AreLooked};
 ghost use Rattle.sm_pairs.specs.Longer.{IsLonger};
@@ -32,7 +33,7 @@ use sm_term::{TermId, TermTable, Terms};
 use std::alloc::{AllocError, Global};
 use std::collections::HashMap;
 
-/// What terms behind those of a ground are equal to, as far as one look at each tells.
+/// What terms behind those of a base are equal to, as far as one look at each tells.
 #[derive(Drop)]
 pub struct AddedTerms {
     /// A label for each term of the list, by its place.
@@ -41,21 +42,21 @@ pub struct AddedTerms {
     pub is_exact: bool,
 }
 
-/// Places behind those of a ground that were looked at.
+/// Places behind those of a base that were looked at.
 #[derive(Drop)]
 pub(crate) struct Scanned {
     // for each place the equation of it and its label; the entries say nothing
     pub(crate) roots: Vec<Equation>,
-    // the first of these places that have the keys of forms which the ground's don't have
+    // the first of these places that have the keys of forms which the base's don't have
     alike: Met,
-    // the first of these places that have keys of heads with arguments which the ground's lack
+    // the first of these places that have keys of heads with arguments which the base's lack
     headed: Met,
     // whether each of these places has keys of its own
     pub(crate) are_new: bool,
 }
 
 impl BaseClasses {
-    /// What terms behind those of the ground are equal to, as far as one look at each tells. The
+    /// What terms behind those of the base are equal to, as far as one look at each tells. The
     /// forms are those of all terms of the table, as `next_lin` of `sm_theory` makes them. The
     /// labels are exact also where the terms of these pairs aren't equal.
     pub fn behind(
@@ -70,21 +71,21 @@ impl BaseClasses {
         requires forms { AreLinearForms (trees_in table.now) forms.now }
         requires counted { length forms.now ≡ length (trees_in table.now) }
         requires before { AreBefore (length (trees_in table.now)) terms.now.list.items }
-        requires ground { (v : ClassesValue) × IsGround v self.now numbering.old
+        requires ground { (v : ClassesValue) × AreBaseClasses v self.now numbering.old
             × AddsTerms v.table table.now × IsLonger v.terms terms.now.list.items }
         ensures equal { (v : ClassesValue) → (given : List Fact) →
-            IsGround v self.now numbering.old →
+            AreBaseClasses v self.now numbering.old →
             let w : ClassesValue =
             record { table = table.now; terms = terms.now.list.items; given = given } in
             AreOfTwoTerms w → IsLedBy v w → IfOk result (λ b. AreEqualByLabels w b.labels.items) }
         ensures exact { (v : ClassesValue) → (given : List Fact) →
-            IsGround v self.now numbering.old →
+            AreBaseClasses v self.now numbering.old →
             let w : ClassesValue =
             record { table = table.now; terms = terms.now.list.items; given = given } in
             AreOfTwoTerms w → IsLedBy v w → AddsOnly v.given apart.now given →
             IfOk result (λ b. IsTrue b.is_exact → AreTermLabels w b.labels.items) }
-        ensures ground { (v : ClassesValue) → IsGround v self.now numbering.old →
-            IsGround v self.now numbering.new }
+        ensures ground { (v : ClassesValue) → AreBaseClasses v self.now numbering.old →
+            AreBaseClasses v self.now numbering.new }
     {
         // A table has no term and no body twice, as its length ensures.
         table.len();
@@ -99,13 +100,47 @@ impl BaseClasses {
             &terms.list,
             from,
         )?;
-        let looked = look(alloc, self, &more)?;
-        let pairs = placed_pairs(alloc, &positions, apart)?;
-        let is_exact = are_exact(&self.closure, &more, &looked, &pairs);
-        let places = right_sides(alloc, &looked.roots)?;
-        let labels = labels_of(alloc, &places, &positions, &terms.list)?;
-        Ok(AddedTerms { labels, is_exact })
+        term_labels(alloc, self, &positions, &more, &terms.list, apart)
     }
+}
+
+// What rows behind those of a base tell of the terms of a list, with these positions.
+fn term_labels(
+    alloc: Global,
+    ground: &BaseClasses,
+    positions: &Positions,
+    more: &[Row],
+    terms: &[TermId],
+    apart: &[(TermId, TermId)],
+) -> Result<AddedTerms, AllocError>
+    requires exact { IsExact ground.now.closure }
+    requires keyed { AreKeyed ground.now }
+    requires inside { AreInside ground.now.closure.rows.items }
+    ensures { IfOk result (AreTermsLabelled ground.now positions.now more.now terms.now apart.now) }
+{
+    let pairs = placed_pairs(alloc, positions, apart)?;
+    let places = place_labels(alloc, ground, more, &pairs)?;
+    let labels = labels_of(alloc, &places.labels, positions, terms)?;
+    let is_exact = places.is_exact;
+    Ok(AddedTerms { labels, is_exact })
+}
+
+// What rows behind those of a base tell of all places.
+fn place_labels(
+    alloc: Global,
+    ground: &BaseClasses,
+    more: &[Row],
+    apart: &[(u64, u64)],
+) -> Result<AddedTerms, AllocError>
+    requires exact { IsExact ground.now.closure }
+    requires keyed { AreKeyed ground.now }
+    requires inside { AreInside ground.now.closure.rows.items }
+    ensures { IfOk result (ArePlacesLabelled ground.now more.now apart.now) }
+{
+    let looked = look(alloc, ground, more)?;
+    let labels = right_sides(alloc, &looked.roots)?;
+    let is_exact = are_exact(&ground.closure, more, &looked, apart);
+    Ok(AddedTerms { labels, is_exact })
 }
 
 // Pairs of terms by the places of these.
@@ -199,7 +234,7 @@ fn are_still_new(are_new: bool, place: u64, i: u64, j: u64, arguments: &[u64]) -
     are_new && i == place && j == place && are_below(place, arguments)
 }
 
-// The places of a ground, where none behind them was looked at.
+// The places of a base, where none behind them was looked at.
 fn not_looked(alloc: Global, ground: &BaseClasses) -> Result<Scanned, AllocError>
     requires exact { IsExact ground.now.closure }
     requires keyed { AreKeyed ground.now }
@@ -248,7 +283,7 @@ fn look_at(
     Ok(())
 }
 
-// Looks at the places behind those of a ground, in order.
+// Looks at the places behind those of a base, in order.
 fn look(alloc: Global, ground: &BaseClasses, more: &[Row]) -> Result<Scanned, AllocError>
     requires exact { IsExact ground.now.closure }
     requires keyed { AreKeyed ground.now }

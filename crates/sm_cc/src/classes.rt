@@ -3,7 +3,7 @@ ghost use Rattle.std.specs.Prelude.{◌≡◌, ◌<◌, IfOk, OnOk, OnErr};
 ghost use Rattle.std.specs.Prelude.{[], ◌∷◌, ◌++◌, length};
 ghost use Rattle.sm_term.specs.Tables.{trees_in, AreBefore};
 ghost use Rattle.sm_theory.specs.Standing.{AreLinearForms};
-ghost use Rattle.sm_cc.specs.BaseClasses.{IsGround, IsLedBy};
+ghost use Rattle.sm_cc.specs.BaseClasses.{AreBaseClasses, IsLedBy};
 ghost use Rattle.sm_cc.specs.Views.{ClassesValue, IsTermOf};
 ghost use Rattle.sm_cc.specs.Views.{HaveOneSort, AreOfTwoTerms, with_given, no_terms};
 ghost use Rattle.sm_cc.specs.Views.{equation_under, contrary_under};
@@ -142,7 +142,7 @@ impl<'a> Classes<'a> {
           terms = terms.now.list.items;
           given = given.items;
         }) }
-        requires led { (v : ClassesValue) × IsGround v ground.now numbering.old
+        requires led { (v : ClassesValue) × AreBaseClasses v ground.now numbering.old
             × IsLedBy v (record {
               table = table.now;
               terms = terms.now.list.items;
@@ -153,8 +153,8 @@ impl<'a> Classes<'a> {
           terms = terms.now.list.items;
           given = given.items;
         }) }
-        ensures ground { (v : ClassesValue) → IsGround v ground.now numbering.old →
-            IsGround v ground.now numbering.new }
+        ensures ground { (v : ClassesValue) → AreBaseClasses v ground.now numbering.old →
+            AreBaseClasses v ground.now numbering.new }
     {
         let from = ground.closure.rows.len() as u64;
         let positions = ground.positions.more(alloc, table, &terms.list, from)?;

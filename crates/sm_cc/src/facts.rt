@@ -7,7 +7,7 @@ ghost use Rattle.sm_cc.specs.Positions.{ArePositions};
 ghost use Rattle.sm_cc.specs.Assumed.{placed_fact, placed_equations, placed_contraries};
 ghost use Rattle.sm_cc.specs.Assumed.{AreClasses};
 ghost use Rattle.sm_cc.specs.RowOf.{IsFurther};
-ghost use Rattle.sm_cc.specs.BaseClasses.{IsGround, IsLedBy};
+ghost use Rattle.sm_cc.specs.BaseClasses.{AreBaseClasses, IsLedBy};
 
 use crate::classes::GivenFact;
 use crate::ground::{BaseClasses, Numbering};
@@ -63,7 +63,7 @@ pub(crate) fn places_over(
         ArePositions trees (trees_of trees terms.now) positions.now }
     requires given { AreOfTwoTerms
         (record { table = table.now; terms = terms.now; given = facts.now }) }
-    requires led { (v : ClassesValue) × IsGround v ground.now numbering.old
+    requires led { (v : ClassesValue) × AreBaseClasses v ground.now numbering.old
         × IsLedBy v (record { table = table.now; terms = terms.now; given = facts.now }) }
     ensures classes { IfOk result (λ p. AreClasses
         (record { table = table.now; terms = terms.now; given = facts.now }) positions.now p) }

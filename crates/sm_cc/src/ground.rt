@@ -2,11 +2,13 @@
 ghost use Rattle.std.specs.Prelude.{◌≡◌, IsTrue, length, IfOk, IfSome};
 ghost use Rattle.sm_term.specs.Tables.{trees_in, AreBefore};
 ghost use Rattle.sm_theory.specs.Standing.{AreLinearForms};
-ghost use Rattle.sm_cc.specs.Closures.{placed_of};
+ghost use Rattle.sm_cc.specs.Assumed.{AreClasses, placed_equations, placed_contraries};
+ghost use Rattle.sm_cc.specs.Closures.{placed_of, are_together};
 ghost use Rattle.sm_cc.specs.Exact.{IsExact, placed_with};
-ghost use Rattle.sm_cc.specs.BaseClasses.{IsGround, AreKeyed, AreInside};
+ghost use Rattle.sm_cc.specs.Firsts.{AreFirsts, met_at, alike_at, headed_at};
+ghost use Rattle.sm_cc.specs.BaseClasses.{AreBaseClasses, AreInside, AreNumberedBy};
 ghost use Rattle.sm_cc.specs.BaseClasses.{AreBelow, IsElementBelow, IsRowBelow};
-ghost use Rattle.sm_cc.specs.Views.{AreOfTwoTerms};
+ghost use Rattle.sm_cc.specs.Views.{ClassesValue, AreOfTwoTerms, trees_of};
 
 use crate::classes::GivenFact;
 use crate::closure::{Closure, unmerged};
@@ -59,6 +61,13 @@ impl Drop for NumberedBase {
     }
 }
 
+// The first places that have keys, of forms and of heads with arguments.
+#[derive(Drop)]
+struct FirstPlaces {
+    alike: Met,
+    headed: Met,
+}
+
 impl BaseClasses {
     /// The classes of terms by all that is given of them; none where an argument of a term, or an
     /// element before it was written, isn't in the list. The forms are those of all terms of the
@@ -78,7 +87,7 @@ impl BaseClasses {
           terms = terms.now.list.items;
           given = given.now;
         }) }
-        ensures { IfOk result (λ o. IfSome o (λ g. IsGround (record {
+        ensures { IfOk result (λ o. IfSome o (λ g. AreBaseClasses (record {
           table = table.now;
           terms = terms.now.list.items;
           given = given.now;
@@ -86,14 +95,24 @@ impl BaseClasses {
     {
         let positions = Positions::of(alloc, table, &terms.list)?;
         let (rows, numbering) = numbered_rows(alloc, table, forms, &positions, &terms.list)?;
-        let (equal, unequal) = placed_facts(alloc, &positions, given)?;
-        let closure = settled(alloc, rows, equal, unequal)?;
-        if !are_inside(&closure.rows) {
-            return Ok(None);
-        }
-        let ground = keyed(alloc, positions, closure)?;
-        Ok(Some(NumberedBase { ground, numbering }))
+        let closure = placed_classes(alloc, &positions, rows, given)?;
+        made_ground(alloc, positions, numbering, closure)
     }
+}
+
+// The classes of places with these rows, by what is given of the terms.
+fn placed_classes(
+    alloc: Global,
+    positions: &Positions,
+    rows: Vec<Row>,
+    facts: &[GivenFact],
+) -> Result<Closure, AllocError>
+    ensures exact { IfOk result IsExact }
+    ensures given { IfOk result (λ c. placed_of c ≡ placed_with rows.items
+        (placed_equations positions.now facts.now) (placed_contraries positions.now facts.now)) }
+{
+    let (equal, unequal) = placed_facts(alloc, positions, facts)?;
+    settled(alloc, rows, equal, unequal)
 }
 
 // The classes of places with these rows, of which it is given which are equal and which aren't.
@@ -112,21 +131,49 @@ fn settled(
     Ok(closure)
 }
 
-// Classes with the first places that have the keys.
-fn keyed(alloc: Global, positions: Positions, closure: Closure) -> Result<BaseClasses, AllocError>
+// Classes for others to begin with, where the rows of their places name one another alone.
+fn made_ground(
+    alloc: Global,
+    positions: Positions,
+    numbering: Numbering,
+    closure: Closure,
+) -> Result<Option<NumberedBase>, AllocError>
     requires { IsExact closure }
-    ensures positions { IfOk result (λ g. g.positions ≡ positions) }
-    ensures closure { IfOk result (λ g. g.closure ≡ closure) }
-    ensures keyed { IfOk result AreKeyed }
+    ensures { (v : ClassesValue) → AreBefore (length (trees_in v.table)) v.terms →
+        AreClasses v positions (placed_of closure) →
+        AreNumberedBy v.table (trees_of (trees_in v.table) v.terms) closure.rows.items numbering →
+        IfOk result (λ o. IfSome o (λ g. AreBaseClasses v g.ground g.numbering)) }
 {
-    let alike = alike_places(alloc, &closure)?;
-    let headed = headed_places(alloc, &closure)?;
-    Ok(BaseClasses {
-        positions,
-        closure,
-        alike,
-        headed,
-    })
+    match inside_keys(alloc, &closure)? {
+        Some(keys) => {
+            let ground = BaseClasses {
+                positions,
+                closure,
+                alike: keys.alike,
+                headed: keys.headed,
+            };
+            Ok(Some(NumberedBase { ground, numbering }))
+        }
+        None => Ok(None),
+    }
+}
+
+// The first places that have the keys of forms, and those of heads, where rows name one another
+// alone.
+fn inside_keys(alloc: Global, closure: &Closure) -> Result<Option<FirstPlaces>, AllocError>
+    requires { IsExact closure.now }
+    ensures inside { IfOk result (λ o. IfSome o (λ _. AreInside closure.now.rows.items)) }
+    ensures alike { IfOk result (λ o. IfSome o (λ k. AreFirsts (alike_at closure.now)
+        (are_together closure.now.roots.items) (met_at k.alike) (length closure.now.rows.items))) }
+    ensures headed { IfOk result (λ o. IfSome o (λ k. AreFirsts (headed_at closure.now)
+        (are_together closure.now.roots.items) (met_at k.headed) (length closure.now.rows.items))) }
+{
+    if !are_inside(&closure.rows) {
+        return Ok(None);
+    }
+    let alike = alike_places(alloc, closure)?;
+    let headed = headed_places(alloc, closure)?;
+    Ok(Some(FirstPlaces { alike, headed }))
 }
 
 // Whether rows name one another alone.

@@ -18,7 +18,7 @@
 //! - `BaseClasses` is made of terms and what is given of them, once. `Classes::over` has the classes of
 //!   these terms and more behind them, of which more is given: what was found is kept, and only keys
 //!   of what is new are made.
-//! - `BaseClasses::behind` looks once at each term behind those of a ground: terms that get one label
+//! - `BaseClasses::behind` looks once at each term behind those of a base: terms that get one label
 //!   are in one class, whatever more is given. The labels are exact where each of these terms has a
 //!   form and a head with arguments of its own, and no rule tells anything of an element that is
 //!   read.

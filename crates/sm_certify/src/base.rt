@@ -3,7 +3,7 @@ ghost use Rattle.std.specs.Prelude.{◌≡◌, length, IfOk};
 ghost use Rattle.sm_term.specs.Sorted.{AreFormsSorted};
 ghost use Rattle.sm_term.specs.Tables.{trees_in, sorts_in};
 ghost use Rattle.sm_cc.specs.Classes.{are_apart};
-ghost use Rattle.sm_cc.specs.BaseClasses.{IsGround, IsLedBy};
+ghost use Rattle.sm_cc.specs.BaseClasses.{AreBaseClasses, IsLedBy};
 ghost use Rattle.sm_cc.specs.Rounds.{are_equal};
 ghost use Rattle.sm_cc.specs.Views.{ClassesValue, setting_of};
 ghost use Rattle.sm_judge.specs.AllForms.{AreAllForms};
@@ -74,15 +74,15 @@ fn classes_within<'a>(
     requires within { AreFormulasWithin (length (trees_in table.now)) (all_numbered facts.now) }
     requires sorted { AreFormsSorted (sorts_in table.now)
         (assertions_in (sorts_in table.now) (trees_in table.now) (all_numbered facts.now)) }
-    requires led { (v : ClassesValue) × IsGround v grounded.old.ground grounded.old.numbering
+    requires led { (v : ClassesValue) × AreBaseClasses v grounded.old.ground grounded.old.numbering
         × IsLedBy v (classes_by table.now terms.now.list.items facts.now) }
     ensures value { IfOk result (λ c. c ≡ classes_by table.now terms.now.list.items facts.now) }
     ensures seen { IfOk result (λ c.
         seen_in (sorts_in table.now) (trees_in table.now) (trees_in table.now) facts.now
         (are_equal (setting_of c)) (are_apart (setting_of c) (are_equal (setting_of c)))
         ≡ branch_of table.now facts.now) }
-    ensures stays { (v : ClassesValue) → IsGround v grounded.old.ground grounded.old.numbering →
-        IsGround v grounded.new.ground grounded.new.numbering }
+    ensures stays { (v : ClassesValue) → AreBaseClasses v grounded.old.ground grounded.old.numbering →
+        AreBaseClasses v grounded.new.ground grounded.new.numbering }
 {
     classes_over(
         alloc,
@@ -97,7 +97,7 @@ fn classes_within<'a>(
 
 /// The base of these classes. They have many parts, and are kept apart from what holds the base.
 pub fn boxed_base(alloc: Global, found: NumberedBase) -> Result<Base, AllocError>
-    ensures { (v : ClassesValue) → IsGround v found.ground found.numbering →
+    ensures { (v : ClassesValue) → AreBaseClasses v found.ground found.numbering →
         IfOk result (IsFrom v) }
 {
     Ok(Base::Over(Box::new(alloc, found)?))

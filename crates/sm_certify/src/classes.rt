@@ -4,7 +4,7 @@ ghost use Rattle.std.specs.List.{range_with_len};
 ghost use Rattle.sm_term.specs.Sorted.{AreFormsSorted};
 ghost use Rattle.sm_term.specs.Tables.{trees_in, sorts_in};
 ghost use Rattle.sm_cc.specs.Classes.{are_apart};
-ghost use Rattle.sm_cc.specs.BaseClasses.{IsGround, IsLedBy};
+ghost use Rattle.sm_cc.specs.BaseClasses.{AreBaseClasses, IsLedBy};
 ghost use Rattle.sm_cc.specs.Rounds.{are_equal};
 ghost use Rattle.sm_cc.specs.Views.{ClassesValue, setting_of};
 ghost use Rattle.sm_judge.specs.AllForms.{AreAllForms};
@@ -74,15 +74,15 @@ pub(crate) fn classes_over<'a>(
     requires within { AreFormulasWithin (length (trees_in table.now)) (all_numbered facts.now) }
     requires sorted { AreFormsSorted (sorts_in table.now)
         (assertions_in (sorts_in table.now) (trees_in table.now) (all_numbered facts.now)) }
-    requires led { (v : ClassesValue) × IsGround v ground.now numbering.old
+    requires led { (v : ClassesValue) × AreBaseClasses v ground.now numbering.old
         × IsLedBy v (classes_by table.now terms.now.list.items facts.now) }
     ensures value { IfOk result (λ c. c ≡ classes_by table.now terms.now.list.items facts.now) }
     ensures seen { IfOk result (λ c.
         seen_in (sorts_in table.now) (trees_in table.now) (trees_in table.now) facts.now
         (are_equal (setting_of c)) (are_apart (setting_of c) (are_equal (setting_of c)))
         ≡ branch_of table.now facts.now) }
-    ensures stays { (v : ClassesValue) → IsGround v ground.now numbering.old →
-        IsGround v ground.now numbering.new }
+    ensures stays { (v : ClassesValue) → AreBaseClasses v ground.now numbering.old →
+        AreBaseClasses v ground.now numbering.new }
 {
     let given = given_facts(alloc, facts)?;
     let classes = Classes::over(alloc, ground, numbering, table, forms, terms, given)?;

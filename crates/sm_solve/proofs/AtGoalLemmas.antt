@@ -19,7 +19,7 @@ use Rattle.sm_pairs.specs.Longer.{IsLonger}
 use Rattle.sm_cc.specs.Views.{ClassesValue}
 use Rattle.sm_solve.specs.declared.node.Node.{Node}
 use Rattle.sm_list.specs.declared.shared.SharedTerms.{SharedTerms}
-use Rattle.sm_solve.specs.declared.shut.Inconsistent.{Inconsistent}
+use Rattle.sm_solve.specs.declared.inconsistent.Inconsistent.{Inconsistent}
 use Rattle.sm_judge.specs.AllForms.{AreAllForms}
 use Rattle.sm_solve.specs.AtGoal.{IsAtGoal, HasRoom, facts_without}
 use Rattle.sm_certify.specs.Bases.{IsFrom}
@@ -32,7 +32,7 @@ use Rattle.sm_list.specs.Renumbered.{AreTermsOf}
 use Rattle.sm_list.specs.Shared.{AreShared, with_those_before}
 use Rattle.sm_solve.specs.Naming.{AreNamed}
 use Rattle.sm_solve.specs.Sharing.{IsNode, room_for_goal}
-use Rattle.sm_solve.specs.Inconsistent.{IsShut}
+use Rattle.sm_solve.specs.Inconsistent.{IsInconsistent}
 use Rattle.sm_solve.proofs.GroundingLemmas.{as_many}
 use Rattle.sm_judge.proofs.LinearsLemmas.{first_forms}
 use Rattle.sm_solve.proofs.NamingLemmas.{named_root}
@@ -102,11 +102,11 @@ module _ (old new : TableValue) (given : List Assertion) (n m : Node) (form : As
   many = as_many (sorts_in old) (trees_in m.terms.own) n.facts.items ∙ ap length still.are
 
   -- the contrary of a goal is put in its place, and what parts it has behind the facts
-  at_goal : (fact : Formula) → IsLonger (slice_set n.facts.items n.place fact) m.facts.items → m.place ≡ n.place → m.base ≡ n.base → m.shut ≡ n.shut →
+  at_goal : (fact : Formula) → IsLonger (slice_set n.facts.items n.place fact) m.facts.items → m.place ≡ n.place → m.base ≡ n.base → m.inconsistent ≡ n.inconsistent →
       assertions_in (sorts_in old) (trees_in m.terms.own) (all_numbered m.facts.items) ≡ with_parts (given ++ form ∷ []) →
       AreFormulasWithin (length (trees_in m.terms.own)) (all_numbered m.facts.items) → IsFormSorted (sorts_in old) form →
       IsAtGoal new given form m
-  at_goal fact longer place same_base same_shut told within sorted =
+  at_goal fact longer place same_base same_inconsistent told within sorted =
       let fs = n.facts.items in
       let own = trees_in m.terms.own in
       let here : slice_get fs n.place ≡ Some tree.Yes = ap (slice_get fs) is.place ∙ yes in
@@ -152,9 +152,9 @@ module _ (old new : TableValue) (given : List Assertion) (n m : Node) (form : As
               subst (λ (gs : List Formula). IsFrom (classes_by is.grounded.table is.grounded.ids gs) m.base) (sym back)
               (subst (IsFrom (classes_by is.grounded.table is.grounded.ids fs)) (sym same_base) is.grounded.ground);
         };
-        shut =
-            subst (λ (o : Option Inconsistent). IfSome o (IsShut (sorts_in new) first (given ++ Yes ∷ []))) (sym same_shut)
-            (subst (λ (s : Sorts). IfSome n.shut (IsShut s first (given ++ Yes ∷ []))) (sym grows.sorts) is.shut);
+        inconsistent =
+            subst (λ (o : Option Inconsistent). IfSome o (IsInconsistent (sorts_in new) first (given ++ Yes ∷ []))) (sym same_inconsistent)
+            (subst (λ (s : Sorts). IfSome n.inconsistent (IsInconsistent s first (given ++ Yes ∷ []))) (sym grows.sorts) is.inconsistent);
       }
 
   module _ (fact : Formula) (told : assertion_in (sorts_in old) (trees_in m.terms.own) (numbered fact) ≡ form)
@@ -163,9 +163,9 @@ module _ (old new : TableValue) (given : List Assertion) (n m : Node) (form : As
     replaced = replaced_within (length (trees_in m.terms.own)) n.facts.items n.place fact still.within within
 
     -- a contrary that has no parts
-    pub opened : m.facts.items ≡ slice_set n.facts.items n.place fact → m.place ≡ n.place → m.base ≡ n.base → m.shut ≡ n.shut →
+    pub opened : m.facts.items ≡ slice_set n.facts.items n.place fact → m.place ≡ n.place → m.base ≡ n.base → m.inconsistent ≡ n.inconsistent →
         depth_of form ≡ 0 → IsFormSorted (sorts_in old) form → IsAtGoal new given form m
-    opened facts place same_base same_shut flat sorted =
+    opened facts place same_base same_inconsistent flat sorted =
         let fs = n.facts.items in
         let own = trees_in m.terms.own in
         let all : assertions_in (sorts_in old) own (all_numbered m.facts.items) ≡ with_parts (given ++ form ∷ []) =
@@ -173,7 +173,7 @@ module _ (old new : TableValue) (given : List Assertion) (n m : Node) (form : As
         ∙ ap (λ (k : ℕ). assertions_in (sorts_in old) own (all_numbered (slice_set fs k fact))) is.place
         ∙ replaced_is (sorts_in old) own given fs fact (ap depth_of told ∙ flat) still.are
         ∙ ap (λ (f : Assertion). with_parts (given ++ f ∷ [])) told in
-        at_goal fact ([], facts ∙ sym (append-nil (slice_set fs n.place fact))) place same_base same_shut all
+        at_goal fact ([], facts ∙ sym (append-nil (slice_set fs n.place fact))) place same_base same_inconsistent all
         (subst (λ (gs : List Formula). AreFormulasWithin (length own) (all_numbered gs)) (sym facts) replaced) sorted
 
     -- a contrary at the last place, behind which its parts are put
@@ -181,9 +181,9 @@ module _ (old new : TableValue) (given : List Assertion) (n m : Node) (form : As
         ((sorts : Sorts) (trees : List Tree) → assertions_in sorts trees (all_numbered m.facts.items)
         ≡ queue_from n.place (assertions_in sorts trees (all_numbered mid))) →
         ((count : ℕ) → AreFormulasWithin count (all_numbered mid) → AreFormulasWithin count (all_numbered m.facts.items)) →
-        m.place ≡ n.place → m.base ≡ n.base → m.shut ≡ n.shut → length n.facts.items ≡ n.place + 1 →
+        m.place ≡ n.place → m.base ≡ n.base → m.inconsistent ≡ n.inconsistent → length n.facts.items ≡ n.place + 1 →
         IsFormSorted (sorts_in old) form → IsAtGoal new given form m
-    opened_last mid put longer added stay place same_base same_shut last sorted =
+    opened_last mid put longer added stay place same_base same_inconsistent last sorted =
         let fs = n.facts.items in
         let own = trees_in m.terms.own in
         let room : length (room_for_goal given) ≡ length given + 1 = sym many ∙ last ∙ ap (λ (k : ℕ). k + 1) is.place in
@@ -194,7 +194,7 @@ module _ (old new : TableValue) (given : List Assertion) (n m : Node) (form : As
         ∙ ap (λ (k : ℕ). queue_from k (assertions_in (sorts_in old) own (all_numbered (slice_set fs k fact)))) is.place in
         let all = replaced_last (sorts_in old) own given fs m.facts.items fact still.are room queue
         ∙ ap (λ (f : Assertion). with_parts (given ++ f ∷ [])) told in
-        at_goal fact (subst (λ (gs : List Formula). IsLonger gs m.facts.items) put longer) place same_base same_shut all
+        at_goal fact (subst (λ (gs : List Formula). IsLonger gs m.facts.items) put longer) place same_base same_inconsistent all
         (stay (length own) (subst (λ (gs : List Formula). AreFormulasWithin (length own) (all_numbered gs)) (sym put) replaced)) sorted
 
 -- an element that is put at a place
@@ -299,9 +299,9 @@ room_kept table given form n at =
 
 -- nothing but what the base is numbered by is another
 pub renumbered_goal : (table : TableValue) (given : List Assertion) (form : Assertion) (n m : Node) → m.terms ≡ n.terms → m.forms ≡ n.forms →
-    m.facts.items ≡ n.facts.items → m.place ≡ n.place → m.shut ≡ n.shut → ((v : ClassesValue) → IsFrom v n.base → IsFrom v m.base) →
+    m.facts.items ≡ n.facts.items → m.place ≡ n.place → m.inconsistent ≡ n.inconsistent → ((v : ClassesValue) → IsFrom v n.base → IsFrom v m.base) →
     IsAtGoal table given form n → IsAtGoal table given form m
-renumbered_goal table given form n m terms forms facts place same_shut later at =
+renumbered_goal table given form n m terms forms facts place same_inconsistent later at =
     let first = with_formulas (room_for_goal given) [] in
     let count = length (room_for_goal given) in
     let back : facts_without given m ≡ facts_without given n = ap (λ (gs : List Formula). slice_set (take count gs) m.place tree.Yes) facts
@@ -345,7 +345,7 @@ renumbered_goal table given form n m terms forms facts place same_shut later at 
             subst (λ (gs : List Formula). IsFrom (classes_by g.table g.ids gs) m.base) (sym back)
             (later (classes_by g.table g.ids (facts_without given n)) g.ground);
       };
-      shut = subst (λ (o : Option Inconsistent). IfSome o (IsShut (sorts_in table) first (given ++ Yes ∷ []))) (sym same_shut) at.shut;
+      inconsistent = subst (λ (o : Option Inconsistent). IfSome o (IsInconsistent (sorts_in table) first (given ++ Yes ∷ []))) (sym same_inconsistent) at.inconsistent;
     }
 
 -- the contrary of a goal is taken out of its place
@@ -353,8 +353,8 @@ pub closed : (table : TableValue) (given : List Assertion) (form : Assertion) (n
     AreShared table (with_formulas (room_for_goal given) []) m.terms →
     m.forms.items ≡ take (length (with_formulas (room_for_goal given) [])) n.forms.items → m.facts.items ≡ facts_without given n →
     m.place ≡ n.place →
-    m.base ≡ n.base → m.shut ≡ n.shut → IsNode table given m
-closed table given form n m at shared forms facts place same_base same_shut =
+    m.base ≡ n.base → m.inconsistent ≡ n.inconsistent → IsNode table given m
+closed table given form n m at shared forms facts place same_base same_inconsistent =
     let first = with_formulas (room_for_goal given) [] in
     let g = at.grounded in
     record {
@@ -383,7 +383,7 @@ closed table given form n m at shared forms facts place same_base same_shut =
             subst (λ (gs : List Formula). IsFrom (classes_by g.table g.ids gs) m.base) (sym facts)
             (subst (IsFrom (classes_by g.table g.ids (facts_without given n))) (sym same_base) g.ground);
       };
-      shut = subst (λ (o : Option Inconsistent). IfSome o (IsShut (sorts_in table) first (given ++ Yes ∷ []))) (sym same_shut) at.shut;
+      inconsistent = subst (λ (o : Option Inconsistent). IfSome o (IsInconsistent (sorts_in table) first (given ++ Yes ∷ []))) (sym same_inconsistent) at.inconsistent;
     }
 
 -- all facts of a goal are sorted

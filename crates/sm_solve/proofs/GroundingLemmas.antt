@@ -13,7 +13,7 @@ use Rattle.sm_term.specs.Formulas.{NumberedFormula, numbered, assertion_in}
 use Rattle.sm_term.specs.Sorted.{AreFormsSorted}
 use Rattle.sm_term.specs.Tables.{TableValue, trees_in, sorts_in}
 use Rattle.sm_solve.specs.declared.node.Node.{Node}
-use Rattle.sm_solve.specs.declared.shut.Inconsistent.{Inconsistent}
+use Rattle.sm_solve.specs.declared.inconsistent.Inconsistent.{Inconsistent}
 use Rattle.sm_judge.specs.AllForms.{AreAllForms}
 use Rattle.sm_certify.specs.Bases.{IsFrom}
 use Rattle.sm_theory.specs.TermsOfFormulas.{with_formulas}
@@ -23,7 +23,7 @@ use Rattle.sm_terms.specs.Listing.{numbers_of}
 use Rattle.sm_list.specs.Parts.{all_numbered, assertions_in, AreFormulasWithin}
 use Rattle.sm_list.specs.Shared.{AreShared}
 use Rattle.sm_solve.specs.Sharing.{IsNode, room_for_goal}
-use Rattle.sm_solve.specs.Inconsistent.{IsShut}
+use Rattle.sm_solve.specs.Inconsistent.{IsInconsistent}
 use Rattle.sm_solve.proofs.NodeLemmas.{unread}
 use Rattle.sm_list.proofs.PartsLemmas.{within-append}
 use Rattle.sm_solve.proofs.SortedLemmas.{sorted-append, sorted_with}
@@ -64,8 +64,8 @@ pub node_of : (table new : TableValue) (given first second : List Assertion) (n 
     AreFormulasWithin (length (trees_in n.terms.own)) (all_numbered n.facts.items) → n.place ≡ length given →
     AreFormsSorted (sorts_in table) given → (ids : List TermId) → IsWhole (trees_in n.terms.own) ids →
     numbers_of ids ≡ range_with_len 0 (length (trees_in n.terms.own)) →
-    IsFrom (classes_by n.terms.own ids n.facts.items) n.base → n.shut ≡ None → IsNode new given n
-node_of table new given first second n sorts one two shared forms count facts within place sorted ids whole counted ground none_shut =
+    IsFrom (classes_by n.terms.own ids n.facts.items) n.base → n.inconsistent ≡ None → IsNode new given n
+node_of table new given first second n sorts one two shared forms count facts within place sorted ids whole counted ground none_inconsistent =
     let own = trees_in n.terms.own in
     let room = room_for_goal given in
     let many : length (terms_of room) ≡ length (with_formulas room []) =
@@ -90,6 +90,6 @@ node_of table new given first second n sorts one two shared forms count facts wi
         counted = counted;
         ground = ground;
       };
-      shut =
-          subst (λ (o : Option Inconsistent). IfSome o (IsShut (sorts_in new) (with_formulas room []) (given ++ Yes ∷ []))) (sym none_shut) tt;
+      inconsistent =
+          subst (λ (o : Option Inconsistent). IfSome o (IsInconsistent (sorts_in new) (with_formulas room []) (given ++ Yes ∷ []))) (sym none_inconsistent) tt;
     }

@@ -10,7 +10,7 @@ pub mod NamingLemmas
 pub mod NodeLemmas
 pub mod ReadingLemmas
 pub mod ReplacedLemmas
-pub mod ShutLemmas
+pub mod InconsistentLemmas
 pub mod SolvingLemmas
 pub mod SortedLemmas
 pub mod StaysLemmas

@@ -15,7 +15,7 @@ use Rattle.sm_theory.specs.TermsOfFormulas.{with_formulas}
 use Rattle.sm_list.specs.Parts.{all_numbered, assertions_in, AreFormulasWithin}
 use Rattle.sm_list.specs.Shared.{AreShared}
 use Rattle.sm_solve.specs.Sharing.{IsNode, room_for_goal}
-use Rattle.sm_solve.specs.Inconsistent.{IsShut}
+use Rattle.sm_solve.specs.Inconsistent.{IsInconsistent}
 use Rattle.sm_terms.proofs.ListingLemmas.{below_grown, same_grown}
 use Rattle.sm_list.proofs.OwnLemmas.{facts_grown}
 use Rattle.sm_list.proofs.SharedLemmas.{placed_grown}
@@ -51,9 +51,9 @@ node_grown old new given n grows apart is = record {
   place = is.place;
   sorted = subst (λ (s : Sorts). AreFormsSorted s given) (sym grows.sorts) is.sorted;
   grounded = is.grounded;
-  shut =
+  inconsistent =
       let terms = with_formulas (room_for_goal given) [] in
-      subst (λ (s : Sorts). IfSome n.shut (IsShut s terms (given ++ Yes ∷ []))) (sym grows.sorts) is.shut;
+      subst (λ (s : Sorts). IfSome n.inconsistent (IsInconsistent s terms (given ++ Yes ∷ []))) (sym grows.sorts) is.inconsistent;
 }
 
 -- what is so of facts and a target over a table is so over one that has got more terms, and back

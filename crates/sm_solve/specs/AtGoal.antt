@@ -18,7 +18,7 @@ use Rattle.sm_terms.specs.Listing.{numbers_of}
 use Rattle.sm_list.specs.Parts.{all_numbered, assertions_in, AreFormulasWithin}
 use Rattle.sm_list.specs.Shared.{AreShared}
 use Rattle.sm_solve.specs.Sharing.{room_for_goal}
-use Rattle.sm_solve.specs.Inconsistent.{IsShut}
+use Rattle.sm_solve.specs.Inconsistent.{IsInconsistent}
 
 -- the contrary of a goal can stand in its place with no fact at another: it has no parts, or none of
 -- a fact stand behind that place
@@ -67,6 +67,6 @@ pub record IsAtGoal (table : TableValue) (given : List Assertion) (contrary : As
   pub sorted : AreFormsSorted (sorts_in table) given
   pub contrary_sorted : IsFormSorted (sorts_in table) contrary
   pub grounded : AreGroundedBelow n.terms.own given n
-  pub shut :
+  pub inconsistent :
       let terms = with_formulas (room_for_goal given) [] in
-      IfSome n.shut (IsShut (sorts_in table) terms (given ++ Yes ∷ []))
+      IfSome n.inconsistent (IsInconsistent (sorts_in table) terms (given ++ Yes ∷ []))

@@ -8,9 +8,9 @@ use Rattle.sm_term.specs.Assertions.{Assertion, Yes}
 use Rattle.sm_cert.specs.MovedTrees.{NamesWhatItReads}
 use Rattle.sm_cert.specs.Views.{certificate_in}
 use Rattle.sm_pairs.specs.Longer.{IsLonger}
-use Rattle.sm_solve.specs.declared.shut.Inconsistent.{Inconsistent}
-use Rattle.sm_solve.specs.declared.shut.InconsistentBy.{InconsistentBy}
-use Rattle.sm_solve.specs.declared.shut.InconsistentBy.TheVariants as shut
+use Rattle.sm_solve.specs.declared.inconsistent.Inconsistent.{Inconsistent}
+use Rattle.sm_solve.specs.declared.inconsistent.InconsistentBy.{InconsistentBy}
+use Rattle.sm_solve.specs.declared.inconsistent.InconsistentBy.TheVariants as inconsistent
 use Rattle.sm_list.specs.Branches.{with_parts}
 use Rattle.sm_judge.specs.Holding.{Seen, is_closed}
 use Rattle.sm_certify.specs.Given.{seen_by}
@@ -19,19 +19,19 @@ use Rattle.sm_judge.specs.Forms.{Walked, Closes, by_forms, forms_of}
 use Rattle.sm_solve.specs.Walking.{ClosesIn}
 
 -- a branch is closed by its classes, or its forms come to a contradiction after so many steps
-abbrev pub IsShutBy : ℕ → Seen → InconsistentBy → Type 0
-IsShutBy steps b shut.Classes = is_closed b ≡ true
-IsShutBy steps b (shut.Forms count forms) =
+abbrev pub IsInconsistentBy : ℕ → Seen → InconsistentBy → Type 0
+IsInconsistentBy steps b inconsistent.Classes = is_closed b ≡ true
+IsInconsistentBy steps b (inconsistent.Forms count forms) =
     (forms_of b ≡ Fits forms.items)
     × ((next : ℕ → Walked) →
     by_forms steps 1 (length b.terms) (Fits forms.items) next ≡ Closes count)
 
 -- facts can't hold together: the visit of the branch of them and all their parts closes it, and so
 -- does a certificate, which names these terms alone and reads only the facts that it names
-pub record IsShut (sorts : Sorts) (terms : List Tree) (facts : List Assertion) (s : Inconsistent)
+pub record IsInconsistent (sorts : Sorts) (terms : List Tree) (facts : List Assertion) (s : Inconsistent)
     : Type 0 where
   pub some : 1 ≤ s.steps
-  pub by : IsShutBy s.steps (seen_by sorts terms (with_parts facts)) s.by
+  pub by : IsInconsistentBy s.steps (seen_by sorts terms (with_parts facts)) s.by
   pub many : s.facts ≡ length (with_parts facts)
   pub counted : numbers_of s.terms.list.items ≡ range_with_len 0 (length terms)
   pub closes : ClosesIn sorts terms facts 1 s.tree

@@ -14,7 +14,7 @@ use Rattle.sm_list.specs.Branches.{terms_of}
 use Rattle.sm_certify.specs.Given.{IsWhole, classes_by}
 use Rattle.sm_terms.specs.Listing.{numbers_of}
 use Rattle.sm_list.specs.Parts.{all_numbered, assertions_in, AreFormulasWithin}
-use Rattle.sm_solve.specs.Inconsistent.{IsShut}
+use Rattle.sm_solve.specs.Inconsistent.{IsInconsistent}
 use Rattle.sm_list.specs.Shared.{AreShared}
 
 -- the facts of a node with the place where the contrary of a goal stands, and all parts
@@ -44,6 +44,6 @@ pub record IsNode (table : TableValue) (given : List Assertion) (n : Node) : Typ
   pub place : n.place ≡ length given
   pub sorted : AreFormsSorted (sorts_in table) given
   pub grounded : AreGrounded n.terms.own n
-  pub shut :
+  pub inconsistent :
       let terms = with_formulas (room_for_goal given) [] in
-      IfSome n.shut (IsShut (sorts_in table) terms (given ++ Yes ∷ []))
+      IfSome n.inconsistent (IsInconsistent (sorts_in table) terms (given ++ Yes ∷ []))

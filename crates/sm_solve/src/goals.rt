@@ -22,7 +22,7 @@ use crate::first::walk_over;
 use crate::goal_end::GoalEnd;
 use crate::node::{Node, is_conjunction};
 use crate::reach::Reach;
-use crate::still_shut::shut_tree;
+use crate::still_inconsistent::inconsistent_tree;
 use sm_cert::CertTree;
 use sm_judge::add_linear_forms;
 use sm_list::add_parts;
@@ -86,7 +86,7 @@ impl Node {
             IsAtGoal table given contrary self.old →
             OnOk result (IsAtGoal table given contrary self.new) }
     {
-        match self.shut_goal(alloc, reach)? {
+        match self.inconsistent_goal(alloc, reach)? {
             Some(tree) => Ok(GoalEnd::Inconsistent(tree)),
             None => {
                 let end = self.walk_goal(alloc, reach)?;
@@ -97,7 +97,11 @@ impl Node {
 
     // A certificate where the facts alone can't hold together, and that is told of them with the
     // contrary, too: then the walk closes.
-    fn shut_goal(&mut self, alloc: Global, reach: Reach) -> Result<Option<CertTree>, AllocError>
+    fn inconsistent_goal(
+        &mut self,
+        alloc: Global,
+        reach: Reach,
+    ) -> Result<Option<CertTree>, AllocError>
         requires { (table : TableValue) × (given : List Assertion) × (contrary : Assertion)
             × IsAtGoal table given contrary self.old }
         ensures tells { (table : TableValue) (given : List Assertion) (contrary : Assertion) →
@@ -113,10 +117,10 @@ impl Node {
             IsAtGoal table given contrary self.old →
             OnOk result (IsAtGoal table given contrary self.new) }
     {
-        match &self.shut {
-            Some(shut) => shut_tree(
+        match &self.inconsistent {
+            Some(inconsistent) => inconsistent_tree(
                 alloc,
-                shut,
+                inconsistent,
                 &mut self.base,
                 &self.terms.own,
                 &self.forms,

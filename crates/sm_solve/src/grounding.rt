@@ -6,8 +6,9 @@ ghost use Rattle.sm_term.specs.declared.term.TermId.{TermId};
 ghost use Rattle.sm_term.specs.Sorted.{AreFormsSorted};
 ghost use Rattle.sm_term.specs.Tables.{trees_in, sorts_in};
 ghost use Rattle.sm_term.specs.Terms.{Tree};
-ghost use Rattle.sm_cc.specs.BaseClasses.{IsGround};
+ghost use Rattle.sm_cc.specs.BaseClasses.{AreBaseClasses};
 ghost use Rattle.sm_judge.specs.AllForms.{AreAllForms};
+ghost use Rattle.sm_certify.specs.Bases.{IsFrom};
 ghost use Rattle.sm_certify.specs.Given.{IsWhole, classes_by};
 ghost use Rattle.sm_terms.specs.Listing.{numbers_of};
 ghost use Rattle.sm_list.specs.Parts.{all_numbered, assertions_in, AreFormulasWithin};
@@ -15,7 +16,8 @@ ghost use Rattle.sm_solve.specs.Sharing.{room_for_goal};
 
 use crate::branching::copy_facts;
 use sm_cc::{BaseClasses, NumberedBase};
-use sm_certify::{all_terms, given_facts};
+use sm_certify::{Base, all_terms, boxed_base, given_facts};
+use sm_judge::linear_forms;
 use sm_list::add_parts;
 use sm_num::LinForm;
 use sm_term::{Formula, TermTable};
@@ -51,10 +53,42 @@ pub(crate) fn ground_of(
     ensures { IfOk result (λ o. IfSome o (λ g.
         (ids : List TermId) × IsWhole (trees_in table.now) ids
         × (numbers_of ids ≡ range_with_len 0 (length (trees_in table.now)))
-        × IsGround (classes_by table.now ids facts.now) g.ground g.numbering)) }
+        × AreBaseClasses (classes_by table.now ids facts.now) g.ground g.numbering)) }
 {
     let terms = all_terms(alloc, table)?;
     let given = given_facts(alloc, facts)?;
     let found = BaseClasses::of(alloc, table, forms, &terms, &given)?;
     Ok(found)
+}
+
+// The forms of all terms of a table and the classes of facts over them; none where the table has more
+// terms than are counted.
+pub(crate) fn facts_base(
+    alloc: Global,
+    table: &TermTable,
+    facts: &[Formula],
+    count: usize,
+) -> Result<Option<(Vec<LinForm>, Base)>, AllocError>
+    requires within { AreFormulasWithin (length (trees_in table.now)) (all_numbered facts.now) }
+    requires sorted { AreFormsSorted (sorts_in table.now)
+        (assertions_in (sorts_in table.now) (trees_in table.now) (all_numbered facts.now)) }
+    ensures counted { IfOk result (λ o. IfSome o (λ _. length (trees_in table.now) ≡ count)) }
+    ensures forms { IfOk result (λ o. IfSome o (λ p.
+        AreAllForms (trees_in table.now) p.0.items)) }
+    ensures base { IfOk result (λ o. IfSome o (λ p.
+        (ids : List TermId) × IsWhole (trees_in table.now) ids
+        × (numbers_of ids ≡ range_with_len 0 (length (trees_in table.now)))
+        × IsFrom (classes_by table.now ids facts.now) p.1)) }
+{
+    if table.len() as usize != count {
+        return Ok(None);
+    }
+    let forms = linear_forms(alloc, table)?;
+    match ground_of(alloc, table, &forms, facts)? {
+        Some(found) => {
+            let base = boxed_base(alloc, found)?;
+            Ok(Some((forms, base)))
+        }
+        None => Ok(None),
+    }
 }

@@ -28,14 +28,14 @@ mod first;
 mod goal_end;
 mod goals;
 mod grounding;
+mod inconsistent;
 mod node;
 mod reach;
 mod reading;
 mod same_forms;
 mod sharing;
-mod shut;
 mod solving;
-mod still_shut;
+mod still_inconsistent;
 mod visiting;
 mod walking;
 

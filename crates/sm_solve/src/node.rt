@@ -15,12 +15,11 @@ ghost use Rattle.sm_solve.specs.Sharing.{IsNode};
 ghost use Rattle.sm_solve.specs.Walk.{walk};
 
 use crate::goal_end::renumbered_goal_end;
-use crate::grounding::{ground_of, with_room};
+use crate::grounding::{facts_base, with_room};
+use crate::inconsistent::{Inconsistent, inconsistent_of};
 use crate::reach::Reach;
-use crate::shut::{Inconsistent, shut_of};
 use crate::solving::Answer;
-use sm_certify::{Base, boxed_base, count_named};
-use sm_judge::linear_forms;
+use sm_certify::{Base, count_named};
 use sm_list::{SharedTerms, numbered_terms, shared_facts};
 use sm_num::LinForm;
 use sm_term::{Formula, TermTable, negate};
@@ -39,7 +38,7 @@ pub struct Node {
     // the classes of the facts
     pub(crate) base: Base,
     // where the facts can't hold together
-    pub(crate) shut: Option<Inconsistent>,
+    pub(crate) inconsistent: Option<Inconsistent>,
 }
 
 impl Node {
@@ -93,7 +92,7 @@ impl Node {
     {
         match Node::grounded(alloc, table, facts)? {
             Some(node) => {
-                let whole = with_shut(alloc, node, steps)?;
+                let whole = with_inconsistent(alloc, node, steps)?;
                 Ok(Some(whole))
             }
             None => Ok(None),
@@ -117,22 +116,15 @@ impl Node {
         let all = with_room(alloc, facts)?;
         let count = count_named(alloc, table, &all)?;
         let shared = shared_facts(alloc, table, &all)?;
-        if shared.terms.own.len() as usize != count {
-            return Ok(None);
-        }
-        let forms = linear_forms(alloc, &shared.terms.own)?;
-        match ground_of(alloc, &shared.terms.own, &forms, &shared.facts)? {
-            Some(found) => {
-                let base = boxed_base(alloc, found)?;
-                Ok(Some(Node {
-                    terms: shared.terms,
-                    forms,
-                    facts: shared.facts,
-                    place: facts.len(),
-                    base,
-                    shut: None,
-                }))
-            }
+        match facts_base(alloc, &shared.terms.own, &shared.facts, count)? {
+            Some((forms, base)) => Ok(Some(Node {
+                terms: shared.terms,
+                forms,
+                facts: shared.facts,
+                place: facts.len(),
+                base,
+                inconsistent: None,
+            })),
             None => Ok(None),
         }
     }
@@ -196,13 +188,13 @@ impl Node {
 
 // The node with whether its facts can't hold together, as the visit of their branch finds within so
 // many steps.
-fn with_shut(alloc: Global, node: Node, steps: u64) -> Result<Node, AllocError>
+fn with_inconsistent(alloc: Global, node: Node, steps: u64) -> Result<Node, AllocError>
     requires { (table : TableValue) × (given : List Assertion) × IsNode table given node }
     ensures { (table : TableValue) (given : List Assertion) → IsNode table given node →
         IfOk result (IsNode table given) }
 {
     let mut node = node;
-    let shut = shut_of(
+    let inconsistent = inconsistent_of(
         alloc,
         &mut node.base,
         &node.terms.own,
@@ -210,7 +202,7 @@ fn with_shut(alloc: Global, node: Node, steps: u64) -> Result<Node, AllocError>
         &node.facts,
         steps,
     )?;
-    node.shut = shut;
+    node.inconsistent = inconsistent;
     Ok(node)
 }
 

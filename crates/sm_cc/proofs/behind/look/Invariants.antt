@@ -1,4 +1,4 @@
--- The first places behind the ground were looked at.
+-- The first places behind the base were looked at.
 use Rattle.std.proofs.Common.{◌≡◌, ◌+◌, length}
 use Rattle.sm_cc.specs.Scanned.{AreLooked}
 use Rattle.sm_cc.proofs.behind.look.Given as goal

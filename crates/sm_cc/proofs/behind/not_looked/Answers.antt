@@ -1,4 +1,4 @@
--- No key is met yet behind the ground's.
+-- No key is met yet behind the base's.
 use Rattle.std.proofs.Common.{◌≡◌, ◌∙◌, true, None, rules}
 use Rattle.sm_cc.specs.declared.behind.Scanned.{Scanned}
 use Rattle.sm_cc.specs.Firsts.{Key, met_at}

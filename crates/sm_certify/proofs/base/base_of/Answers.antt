@@ -3,7 +3,7 @@ use Rattle.std.proofs.Common.{IfSome, Option, List, subst, ◌∙◌}
 use Rattle.sm_term.specs.Tables.{trees_in}
 use Rattle.sm_cc.specs.declared.classes.GivenFact.{GivenFact}
 use Rattle.sm_cc.specs.declared.ground.NumberedBase.{NumberedBase}
-use Rattle.sm_cc.specs.BaseClasses.{IsGround}
+use Rattle.sm_cc.specs.BaseClasses.{AreBaseClasses}
 use Rattle.sm_certify.specs.Given.{classes_by}
 use Rattle.sm_certify.proofs.GivenLemmas.{whole_before, given_of_terms}
 use Rattle.sm_certify.proofs.base.base_of.Goals as goal
@@ -24,13 +24,13 @@ of-requires-clause-given c =
 
 pub returns-in-Some : goal.returns-in-Some
 returns-in-Some c =
-    let found = subst (λ (o : Option NumberedBase). IfSome o (λ (g : NumberedBase). IsGround (record {
+    let found = subst (λ (o : Option NumberedBase). IfSome o (λ (g : NumberedBase). AreBaseClasses (record {
       table = c.args.table.now;
       terms = c.args.terms.now.list.items;
       given = c.deref.result.now;
     }) g.ground g.numbering)) c.in-Some.is c.in_ok-found.ensures in
     c.boxed_base.ensures (classes_by c.args.table.now c.args.terms.now.list.items c.args.facts.now)
-    (subst (λ (gs : List GivenFact). IsGround (record {
+    (subst (λ (gs : List GivenFact). AreBaseClasses (record {
       table = c.args.table.now;
       terms = c.args.terms.now.list.items;
       given = gs;

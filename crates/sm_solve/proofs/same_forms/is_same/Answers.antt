@@ -1,6 +1,6 @@
 -- Forms are told by their parts, constants and kinds.
 use Rattle.std.proofs.Common.{rules}
-use Rattle.sm_solve.proofs.ShutLemmas.{same_linear}
+use Rattle.sm_solve.proofs.InconsistentLemmas.{same_linear}
 use Rattle.sm_solve.proofs.same_forms.is_same.Goals as goal
 
 pub returns : goal.returns

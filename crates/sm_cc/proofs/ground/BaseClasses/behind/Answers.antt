@@ -1,37 +1,39 @@
 -- By the labels of the places; what is numbered goes on.
-use Rattle.std.proofs.Common.{◌≡◌, ◌∙◌, ◌+◌, ℕ, List, length, map, ap, subst, arith}
+use Rattle.std.proofs.Common.{◌≡◌, ◌+◌, ℕ, IsTrue, Bool, List, length, ap, sym, subst, arith}
+use Rattle.std.proofs.lemmas.List.{length-map}
+use Rattle.std.proofs.lemmas.Result.{IfOk-weaker}
 use Rattle.sm_term.specs.declared.term.TermId.{TermId}
-use Rattle.sm_term.specs.Tables.{trees_in}
-use Rattle.sm_cc.specs.declared.log.Equation.{Equation}
+use Rattle.sm_term.specs.Tables.{trees_in, tree_at}
+use Rattle.sm_pairs.specs.Longer.{IsLonger}
 use Rattle.sm_cc.specs.declared.row.Row.{Row}
-use Rattle.sm_cc.specs.LabelsAt.{label_at}
-use Rattle.sm_cc.specs.Scanned.{AreLooked, AreQuiet}
-use Rattle.sm_cc.specs.Positions.{ArePositions, place_at}
+use Rattle.sm_cc.specs.AddedTerms.{AreEqualByLabels}
+use Rattle.sm_cc.specs.Labelled.{AreTermsLabelled}
+use Rattle.sm_cc.specs.Labels.{AreTermLabels}
+use Rattle.sm_cc.specs.Positions.{ArePositions}
 use Rattle.sm_cc.specs.RowOf.{AreRowsFrom}
 use Rattle.sm_cc.specs.Views.{ClassesValue, trees_of}
 use Rattle.sm_cc.proofs.BehindTerms.{equal_told, exact_told}
 use Rattle.sm_cc.proofs.GroundLemmas.{ground_later}
 use Rattle.sm_cc.proofs.ground.BaseClasses.behind.Goals as goal
 
+pub more-requires-clause-led : goal.more-requires-clause-led
+more-requires-clause-led c =
+    let v = c.requires.ground.0 in
+    let is = c.requires.ground.1 in
+    let count = is.classes.rows_stand.count in
+    let long = length-map v.terms (λ (t : TermId). tree_at (trees_in v.table) t.0) in (
+      trees_in v.table,
+      v.terms,
+      is.classes.positions_tell,
+      is.before,
+      c.requires.ground.2.trees,
+      subst (λ (ids : List TermId). IsLonger v.terms ids) (sym c.deref.ensures.value) c.requires.ground.3,
+      omega (arith, count, long, c.len-from.ensures),
+    )
+
 pub returns-in_err-more-clause-ground : goal.returns-in_err-more-clause-ground
 returns-in_err-more-clause-ground c = λ v is.
     ground_later v c.args.self.now c.args.numbering.now c.rows_from.new.numbering c.in_err-more.ensures.further is
-
-pub returns-in_err-looked-clause-ground : goal.returns-in_err-looked-clause-ground
-returns-in_err-looked-clause-ground c = λ v is.
-    ground_later v c.args.self.now c.args.numbering.now c.rows_from.new.numbering c.in_ok-more.ensures.further is
-
-pub returns-in_err-pairs-clause-ground : goal.returns-in_err-pairs-clause-ground
-returns-in_err-pairs-clause-ground c = λ v is.
-    ground_later v c.args.self.now c.args.numbering.now c.rows_from.new.numbering c.in_ok-more.ensures.further is
-
-pub returns-in_err-places-clause-ground : goal.returns-in_err-places-clause-ground
-returns-in_err-places-clause-ground c = λ v is.
-    ground_later v c.args.self.now c.args.numbering.now c.rows_from.new.numbering c.in_ok-more.ensures.further is
-
-pub returns-in_err-labels-clause-ground : goal.returns-in_err-labels-clause-ground
-returns-in_err-labels-clause-ground c = λ v is.
-    ground_later v c.args.self.now c.args.numbering.now c.rows_from.new.numbering c.in_ok-more.ensures.further is
 
 pub returns-clause-ground : goal.returns-clause-ground
 returns-clause-ground c = λ v is.
@@ -57,21 +59,18 @@ returns-clause-equal c = λ v given is fine led.
     subst (λ (ts : List TermId). AreRowsFrom table (trees_of (trees_in table) ts) m (length g.closure.rows.items) more)
     c.deref-2.ensures.value
     (subst (λ (k : ℕ). AreRowsFrom table (trees_of (trees_in table) c.deref-2.result.now) m k more) from made.rows) in
-    let s = c.in_ok-looked.looked in
-    let looked = subst (λ (rs : List Row). AreLooked g rs s) c.deref-3.ensures.value c.in_ok-looked.ensures.looked in
-    let looked_count =
-    c.in_ok-looked.ensures.count ∙ ap (λ (rs : List Row). length g.closure.rows.items + length rs) c.deref-3.ensures.value in
-    let labels = c.in_ok-places.places.items in
-    let labels_are = c.in_ok-places.ensures ∙ ap (map (λ (e : Equation). e.right)) c.deref-6.ensures.value in
-    let list_is =
-    c.in_ok-labels.ensures
-    ∙ ap (λ (ls : List ℕ). map (λ (t : TermId). label_at ls (place_at q t.0)) c.deref-8.result.now) c.deref-7.ensures.value
-    ∙ ap (map (λ (t : TermId). label_at labels (place_at q t.0))) c.deref-8.ensures.value in
+    IfOk-weaker c.term_labels.result (AreTermsLabelled g q c.deref-3.result.now c.deref-4.result.now c.args.apart.now)
+    (λ b. AreEqualByLabels w b.labels.items)
+    (λ b so.
+    let told_of = subst (λ (ts : List TermId). AreTermsLabelled g q more ts c.args.apart.now b) c.deref-4.ensures.value
+    (subst (λ (rs : List Row). AreTermsLabelled g q rs c.deref-4.result.now c.args.apart.now b) c.deref-3.ensures.value so) in
+    let seen = told_of.labelled in
     equal_told v w g c.args.numbering.now is led q told fine c.len.ensures.apart c.len.ensures.codes_apart m made.further more total rows
-    c.requires.before s looked looked_count labels c.in_ok-labels.labels.items labels_are list_is
+    c.requires.before seen.seen seen.looked seen.count told_of.places.labels.items b.labels.items seen.are told_of.are)
+    c.term_labels.ensures
 
 pub returns-clause-exact : goal.returns-clause-exact
-returns-clause-exact c = λ v given is fine led adds so.
+returns-clause-exact c = λ v given is fine led adds.
     let g = c.args.self.now in
     let table = c.args.table.now in
     let terms = c.args.terms.now.list.items in
@@ -90,19 +89,14 @@ returns-clause-exact c = λ v given is fine led adds so.
     subst (λ (ts : List TermId). AreRowsFrom table (trees_of (trees_in table) ts) m (length g.closure.rows.items) more)
     c.deref-2.ensures.value
     (subst (λ (k : ℕ). AreRowsFrom table (trees_of (trees_in table) c.deref-2.result.now) m k more) from made.rows) in
-    let s = c.in_ok-looked.looked in
-    let looked = subst (λ (rs : List Row). AreLooked g rs s) c.deref-3.ensures.value c.in_ok-looked.ensures.looked in
-    let looked_count =
-    c.in_ok-looked.ensures.count ∙ ap (λ (rs : List Row). length g.closure.rows.items + length rs) c.deref-3.ensures.value in
-    let labels = c.in_ok-places.places.items in
-    let labels_are = c.in_ok-places.ensures ∙ ap (map (λ (e : Equation). e.right)) c.deref-6.ensures.value in
-    let list_is =
-    c.in_ok-labels.ensures
-    ∙ ap (λ (ls : List ℕ). map (λ (t : TermId). label_at ls (place_at q t.0)) c.deref-8.result.now) c.deref-7.ensures.value
-    ∙ ap (map (λ (t : TermId). label_at labels (place_at q t.0))) c.deref-8.ensures.value in
-    let both = c.are_exact-is_exact.ensures so in
-    let quiet =
-    subst (λ (ps : List (ℕ × ℕ)). AreQuiet g.closure more s.roots.items ps) (c.deref-5.ensures.value ∙ c.in_ok-pairs.ensures)
-    (subst (λ (rs : List Row). AreQuiet g.closure rs s.roots.items c.deref-5.result.now) c.deref-4.ensures.value both.1) in
+    IfOk-weaker c.term_labels.result (AreTermsLabelled g q c.deref-3.result.now c.deref-4.result.now c.args.apart.now)
+    (λ b. IsTrue b.is_exact → AreTermLabels w b.labels.items)
+    (λ b so exact.
+    let told_of = subst (λ (ts : List TermId). AreTermsLabelled g q more ts c.args.apart.now b) c.deref-4.ensures.value
+    (subst (λ (rs : List Row). AreTermsLabelled g q rs c.deref-4.result.now c.args.apart.now b) c.deref-3.ensures.value so) in
+    let seen = told_of.labelled in
+    let both = seen.exact (subst (λ (x : Bool). IsTrue x) told_of.exact exact) in
     exact_told v w g c.args.numbering.now is led q told fine c.len.ensures.apart c.len.ensures.codes_apart m made.further more total rows
-    c.requires.before s looked looked_count labels c.in_ok-labels.labels.items labels_are list_is c.args.apart.now adds both.0 quiet
+    c.requires.before seen.seen seen.looked seen.count told_of.places.labels.items b.labels.items seen.are told_of.are c.args.apart.now adds
+    both.0 both.1)
+    c.term_labels.ensures

@@ -18,7 +18,7 @@ returns-in-Some-clause-tells c = λ table given contrary at.
 
 pub returns-in-Some-clause-shows : goal.returns-in-Some-clause-shows
 returns-in-Some-clause-shows c = λ table given contrary at.
-    let trees = trees_in c.shut_goal.new.self.terms.own in
+    let trees = trees_in c.inconsistent_goal.new.self.terms.own in
     subst (λ (o : Option CertTree). IfSome o (ClosesIn (sorts_in table) trees (given ++ contrary ∷ []) 1001)) c.in-Some.is
     (c.in_ok-tree.ensures.shows table given contrary at)
 

@@ -1,14 +1,16 @@
 -- No more terms stand in the table of their own than the facts name.
-use Rattle.std.proofs.Common.{◌≡◌, IfSome, Option, List, [], length, refl, sym, ap, ◌∙◌, subst, arith}
+use Rattle.std.proofs.Common.{◌≡◌, IfSome, Option, ℕ, List, [], length, refl, sym, ap, ◌∙◌, subst}
 use Rattle.std.specs.List.{range_with_len}
+use Rattle.std.specs.Prelude.{Vec}
+use Rattle.std.specs.declared.alloc.Global.{Global}
+use Rattle.sm_num.specs.Forms.{Linear}
 use Rattle.sm_syntax.specs.text.Sorts.{Sorts}
 use Rattle.sm_term.specs.declared.formula.Formula.{Formula}
 use Rattle.sm_term.specs.declared.term.TermId.{TermId}
 use Rattle.sm_term.specs.Sorted.{AreFormsSorted}
 use Rattle.sm_term.specs.Tables.{trees_in, sorts_in}
-use Rattle.sm_cc.specs.declared.ground.NumberedBase.{NumberedBase}
-use Rattle.sm_cc.specs.BaseClasses.{IsGround}
 use Rattle.sm_judge.specs.AllForms.{AreAllForms}
+use Rattle.sm_certify.specs.declared.base.Base.{Base}
 use Rattle.sm_certify.specs.Bases.{IsFrom}
 use Rattle.sm_theory.specs.TermsOfFormulas.{with_formulas}
 use Rattle.sm_certify.specs.Given.{IsWhole, classes_by}
@@ -16,6 +18,9 @@ use Rattle.sm_terms.specs.Listing.{numbers_of}
 use Rattle.sm_list.specs.Parts.{all_numbered, assertions_in, AreFormulasWithin}
 use Rattle.sm_solve.proofs.GroundingLemmas.{room_sorted, as_many, node_of}
 use Rattle.sm_solve.proofs.node.Node.grounded.Goals as goal
+
+abbrev Found : Type 0
+Found = Vec (Linear ℕ) Global × Base
 
 pub count_named-requires : goal.count_named-requires
 count_named-requires c =
@@ -29,18 +34,18 @@ shared_facts-requires c =
     subst (λ (fs : List Formula). AreFormulasWithin count (all_numbered fs)) (sym c.deref-2.ensures.value)
     (c.in_ok-all.ensures.within count c.requires.within)
 
-pub ground_of-requires-clause-sorted : goal.ground_of-requires-clause-sorted
-ground_of-requires-clause-sorted c =
+pub facts_base-requires-clause-sorted : goal.facts_base-requires-clause-sorted
+facts_base-requires-clause-sorted c =
     let sorts = sorts_in c.args.table.now in
     let trees = trees_in c.args.table.now in
     let own = c.in_ok-shared.shared.terms.own in
     let given = assertions_in sorts trees (all_numbered c.args.facts.now) in
     let here = c.in_ok-shared.ensures.terms.sorts ∙ c.in_ok-shared.ensures.grows.sorts in
-    let are = ap (λ (fs : List Formula). assertions_in sorts (trees_in own) (all_numbered fs)) c.deref-4.ensures.value
+    let are = ap (λ (fs : List Formula). assertions_in sorts (trees_in own) (all_numbered fs)) c.deref-3.ensures.value
     ∙ c.in_ok-shared.ensures.facts
     ∙ ap (λ (fs : List Formula). assertions_in sorts trees (all_numbered fs)) c.deref-2.ensures.value
     ∙ c.in_ok-all.ensures.facts sorts trees in
-    subst (λ (s : Sorts). AreFormsSorted s (assertions_in s (trees_in own) (all_numbered c.deref-4.result.now))) (sym here)
+    subst (λ (s : Sorts). AreFormsSorted s (assertions_in s (trees_in own) (all_numbered c.deref-3.result.now))) (sym here)
     (subst (AreFormsSorted sorts) (sym are) (room_sorted sorts given c.requires.sorted))
 
 pub returns-in-Some-clause-node : goal.returns-in-Some-clause-node
@@ -56,17 +61,15 @@ returns-in-Some-clause-node c =
     ∙ c.in_ok-all.ensures.facts sorts trees in
     let two = ap (λ (fs : List Formula). assertions_in sorts trees (all_numbered fs)) c.deref-2.ensures.value
     ∙ c.in_ok-all.ensures.facts sorts trees in
-    let many : length (trees_in own) ≡ length (with_formulas first []) =
-    omega (arith, c.len.ensures.len, c.if-len-count.false, c.in_ok-count.ensures) in
-    let found = subst (λ (o : Option NumberedBase). IfSome o (λ (g : NumberedBase). (ids : List TermId) × IsWhole (trees_in own) ids
+    let counted = subst (λ (o : Option Found). IfSome o (λ (_ : Found). length (trees_in own) ≡ c.in_ok-count.count)) c.in-Some.is
+    c.in_ok-forms.ensures.counted in
+    let many : length (trees_in own) ≡ length (with_formulas first []) = counted ∙ c.in_ok-count.ensures in
+    let forms = subst (λ (o : Option Found). IfSome o (λ (p : Found). AreAllForms (trees_in own) p.0.items)) c.in-Some.is
+    c.in_ok-forms.ensures.forms in
+    let found = subst (λ (o : Option Found). IfSome o (λ (p : Found). (ids : List TermId) × IsWhole (trees_in own) ids
     × (numbers_of ids ≡ range_with_len 0 (length (trees_in own)))
-    × IsGround (classes_by own ids c.deref-4.result.now) g.ground g.numbering)) c.in-Some.is c.in_ok-found.ensures in
-    let ground = subst (λ (fs : List Formula). IsFrom (classes_by own found.0 fs) c.in_ok-base-in-Some.base) c.deref-4.ensures.value
-    (c.in_ok-base-in-Some.ensures (classes_by own found.0 c.deref-4.result.now) found.3) in
+    × IsFrom (classes_by own ids c.deref-3.result.now) p.1)) c.in-Some.is c.in_ok-forms.ensures.base in
+    let ground = subst (λ (fs : List Formula). IsFrom (classes_by own found.0 fs) c.in-Some.base) c.deref-3.ensures.value found.3 in
     node_of table c.shared_facts.new.table given first second _ c.in_ok-shared.ensures.grows.sorts one two c.in_ok-shared.ensures.terms
-    c.in_ok-forms.ensures many c.in_ok-shared.ensures.facts c.in_ok-shared.ensures.within (as_many sorts trees c.args.facts.now) c.requires.sorted found.0
+    forms many c.in_ok-shared.ensures.facts c.in_ok-shared.ensures.within (as_many sorts trees c.args.facts.now) c.requires.sorted found.0
     found.1 found.2 ground refl
-
-pub ground_of-requires-clause-forms : goal.ground_of-requires-clause-forms
-ground_of-requires-clause-forms c =
-    subst (AreAllForms (trees_in c.in_ok-shared.shared.terms.own)) (sym c.deref-3.ensures.value) c.in_ok-forms.ensures

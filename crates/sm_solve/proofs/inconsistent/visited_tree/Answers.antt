@@ -3,7 +3,7 @@ use Rattle.std.proofs.Common.{refl, [], subst}
 use Rattle.sm_solve.specs.declared.visiting.Visit.{Visit}
 use Rattle.sm_list.specs.Branches.{with_parts}
 use Rattle.sm_solve.specs.Walking.{ShowsVisit}
-use Rattle.sm_solve.proofs.shut.visited_tree.Goals as goal
+use Rattle.sm_solve.proofs.inconsistent.visited_tree.Goals as goal
 
 pub returns-in-Closed : goal.returns-in-Closed
 returns-in-Closed c = λ sorts trees given is shows.

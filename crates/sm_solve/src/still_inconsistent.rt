@@ -10,7 +10,7 @@ ghost use Rattle.sm_term.specs.declared.term.TermId.{TermId};
 ghost use Rattle.sm_term.specs.Sorted.{AreFormsSorted};
 ghost use Rattle.sm_term.specs.Tables.{trees_in, sorts_in};
 ghost use Rattle.sm_term.specs.Terms.{Tree};
-ghost use Rattle.sm_cc.specs.BaseClasses.{IsGround, IsLedBy};
+ghost use Rattle.sm_cc.specs.BaseClasses.{AreBaseClasses, IsLedBy};
 ghost use Rattle.sm_pairs.specs.Longer.{IsLonger};
 ghost use Rattle.sm_cc.specs.Views.{ClassesValue};
 ghost use Rattle.sm_judge.specs.AllForms.{AreAllForms};
@@ -20,14 +20,14 @@ ghost use Rattle.sm_certify.specs.Given.{given_from, classes_by, branch_of};
 ghost use Rattle.sm_terms.specs.Listing.{numbers_of};
 ghost use Rattle.sm_list.specs.Parts.{all_numbered, assertions_in, AreFormulasWithin};
 ghost use Rattle.sm_solve.specs.declared.reach.Reach.{Reach};
-ghost use Rattle.sm_solve.specs.Inconsistent.{IsShut, IsBelow};
+ghost use Rattle.sm_solve.specs.Inconsistent.{IsInconsistent, IsBelow};
 ghost use Rattle.sm_judge.specs.Forms.{Walked, Closes, by_forms};
 ghost use Rattle.sm_solve.specs.Walk.{walk_from, by_classes};
 ghost use Rattle.sm_solve.specs.Walking.{ClosesIn};
 
+use crate::inconsistent::{Inconsistent, InconsistentBy};
 use crate::reach::Reach;
 use crate::same_forms::are_forms;
-use crate::shut::{Inconsistent, InconsistentBy};
 use sm_cc::NumberedBase;
 use sm_cert::CertTree;
 use sm_certify::{Base, all_terms, contraries, is_refuted_by};
@@ -38,9 +38,9 @@ use std::alloc::{AllocError, Global};
 
 /// The certificate of facts that can't hold together, where it is told of others, too, which have
 /// another one at a place and more behind: then the visit of their branch closes it.
-pub(crate) fn shut_tree(
+pub(crate) fn inconsistent_tree(
     alloc: Global,
-    shut: &Inconsistent,
+    inconsistent: &Inconsistent,
     base: &mut Base,
     table: &TermTable,
     forms: &[LinForm],
@@ -52,38 +52,38 @@ pub(crate) fn shut_tree(
     requires within { AreFormulasWithin (length (trees_in table.now)) (all_numbered facts.now) }
     requires sorted { AreFormsSorted (sorts_in table.now)
         (assertions_in (sorts_in table.now) (trees_in table.now) (all_numbered facts.now)) }
-    requires place { place < shut.now.facts }
-    requires many { shut.now.facts ≤ length facts.now }
+    requires place { place < inconsistent.now.facts }
+    requires many { inconsistent.now.facts ≤ length facts.now }
     requires led { (v : ClassesValue) × IsFrom v base.old
-        × (v.given ≡ given_from 0 (slice_set (take shut.now.facts facts.now) place tree.Yes))
+        × (v.given ≡ given_from 0 (slice_set (take inconsistent.now.facts facts.now) place tree.Yes))
         × ((ids : List TermId) →
         numbers_of ids ≡ range_with_len 0 (length (trees_in table.now)) →
         IsLedBy v (classes_by table.now ids facts.now)) }
     ensures tells { let sorts = sorts_in table.now in let trees = trees_in table.now in
         let all = assertions_in sorts trees (all_numbered facts.now) in
-        (first : List Tree) (given : List Assertion) → IsShut sorts first given shut.now →
+        (first : List Tree) (given : List Assertion) → IsInconsistent sorts first given inconsistent.now →
         IsBelow first trees (with_parts given) all → IfOk result (λ o. IfSome o (λ t.
         (n : ℕ) × (walk_from sorts trees reach 1001 0 all ≡ Closes n))) }
     ensures shows { let sorts = sorts_in table.now in let trees = trees_in table.now in
         (first : List Tree) (given : List Assertion) (f : Assertion) →
-        IsShut sorts first (given ++ Yes ∷ []) shut.now → IsLonger first trees →
+        IsInconsistent sorts first (given ++ Yes ∷ []) inconsistent.now → IsLonger first trees →
         IfOk result (λ o. IfSome o (ClosesIn sorts trees (given ++ f ∷ []) 1001)) }
     ensures stays { (v : ClassesValue) → IsFrom v base.old → IsFrom v base.new }
 {
-    if shut.steps != reach.steps {
+    if inconsistent.steps != reach.steps {
         return Ok(None);
     }
-    if !is_still_shut(alloc, shut, base, table, forms, facts, place)? {
+    if !is_still_inconsistent(alloc, inconsistent, base, table, forms, facts, place)? {
         return Ok(None);
     }
-    let tree = renumbered_tree(alloc, &shut.tree, &shut.terms.list)?;
+    let tree = renumbered_tree(alloc, &inconsistent.tree, &inconsistent.terms.list)?;
     Ok(Some(tree))
 }
 
 // Whether it is told that the visit of the branch of facts closes it.
-fn is_still_shut(
+fn is_still_inconsistent(
     alloc: Global,
-    shut: &Inconsistent,
+    inconsistent: &Inconsistent,
     base: &mut Base,
     table: &TermTable,
     forms: &[LinForm],
@@ -94,36 +94,36 @@ fn is_still_shut(
     requires within { AreFormulasWithin (length (trees_in table.now)) (all_numbered facts.now) }
     requires sorted { AreFormsSorted (sorts_in table.now)
         (assertions_in (sorts_in table.now) (trees_in table.now) (all_numbered facts.now)) }
-    requires place { place < shut.now.facts }
-    requires many { shut.now.facts ≤ length facts.now }
+    requires place { place < inconsistent.now.facts }
+    requires many { inconsistent.now.facts ≤ length facts.now }
     requires led { (v : ClassesValue) × IsFrom v base.old
-        × (v.given ≡ given_from 0 (slice_set (take shut.now.facts facts.now) place tree.Yes))
+        × (v.given ≡ given_from 0 (slice_set (take inconsistent.now.facts facts.now) place tree.Yes))
         × ((ids : List TermId) →
         numbers_of ids ≡ range_with_len 0 (length (trees_in table.now)) →
         IsLedBy v (classes_by table.now ids facts.now)) }
     ensures closes { let sorts = sorts_in table.now in let trees = trees_in table.now in
         let all = assertions_in sorts trees (all_numbered facts.now) in
         (first : List Tree) (given : List Assertion) (reach : Reach)
-        (go : ℕ → List Assertion → Walked) → reach.steps ≡ shut.now.steps →
-        IsShut sorts first given shut.now → IsBelow first trees (with_parts given) all →
+        (go : ℕ → List Assertion → Walked) → reach.steps ≡ inconsistent.now.steps →
+        IsInconsistent sorts first given inconsistent.now → IsBelow first trees (with_parts given) all →
         IfOk result (λ b. b ≡ true → (n : ℕ) ×
         (by_classes go reach (branch_of table.now facts.now) 1 ≡ Closes n)) }
     ensures stays { (v : ClassesValue) → IsFrom v base.old → IsFrom v base.new }
 {
-    match &shut.by {
+    match &inconsistent.by {
         InconsistentBy::Classes => Ok(true),
         InconsistentBy::Forms {
             count: _count,
             forms: known,
         } => {
-            let from = shut.facts;
-            is_shut_by_forms(alloc, base, table, forms, facts, place, from, known)
+            let from = inconsistent.facts;
+            is_inconsistent_by_forms(alloc, base, table, forms, facts, place, from, known)
         }
     }
 }
 
 // Whether forms of the facts that come to a contradiction close it.
-fn is_shut_by_forms(
+fn is_inconsistent_by_forms(
     alloc: Global,
     base: &mut Base,
     table: &TermTable,
@@ -153,12 +153,12 @@ fn is_shut_by_forms(
 {
     match base {
         Base::Nothing => Ok(false),
-        Base::Over(g) => is_shut_over(alloc, g, table, forms, facts, place, from, known),
+        Base::Over(g) => is_inconsistent_over(alloc, g, table, forms, facts, place, from, known),
     }
 }
 
 // Whether what one look tells of the terms behind those of the facts closes it.
-fn is_shut_over(
+fn is_inconsistent_over(
     alloc: Global,
     grounded: &mut NumberedBase,
     table: &TermTable,
@@ -174,7 +174,7 @@ fn is_shut_over(
         (assertions_in (sorts_in table.now) (trees_in table.now) (all_numbered facts.now)) }
     requires place { place < from }
     requires many { from ≤ length facts.now }
-    requires led { (v : ClassesValue) × IsGround v grounded.old.ground grounded.old.numbering
+    requires led { (v : ClassesValue) × AreBaseClasses v grounded.old.ground grounded.old.numbering
         × (v.given ≡ given_from 0 (slice_set (take from facts.now) place tree.Yes))
         × ((ids : List TermId) →
         numbers_of ids ≡ range_with_len 0 (length (trees_in table.now)) →
@@ -184,8 +184,8 @@ fn is_shut_over(
         by_forms reach.steps 1 (length (trees_in table.now)) (Fits known.now) next ≡ Closes count) →
         IfOk result (λ b. b ≡ true → (n : ℕ) ×
         (by_classes go reach (branch_of table.now facts.now) 1 ≡ Closes n)) }
-    ensures stays { (v : ClassesValue) → IsGround v grounded.old.ground grounded.old.numbering →
-        IsGround v grounded.new.ground grounded.new.numbering }
+    ensures stays { (v : ClassesValue) → AreBaseClasses v grounded.old.ground grounded.old.numbering →
+        AreBaseClasses v grounded.new.ground grounded.new.numbering }
 {
     let apart = match contraries(alloc, facts, place, from)? {
         Some(pairs) => pairs,

@@ -6,8 +6,8 @@ use Rattle.sm_list.specs.Parts.{all_numbered, assertions_in}
 use Rattle.sm_list.specs.Renumbered.{AreTermsOf}
 use Rattle.sm_judge.specs.Forms.{Closes}
 use Rattle.sm_solve.specs.Walk.{walk_from}
-use Rattle.sm_solve.proofs.ShutLemmas.{visit_walks, closes_on, first_terms}
-use Rattle.sm_solve.proofs.still_shut.shut_tree.Goals as goal
+use Rattle.sm_solve.proofs.InconsistentLemmas.{visit_walks, closes_on, first_terms}
+use Rattle.sm_solve.proofs.still_inconsistent.inconsistent_tree.Goals as goal
 
 pub returns-clause-tells : goal.returns-clause-tells
 returns-clause-tells c = λ first given is below.
@@ -16,8 +16,8 @@ returns-clause-tells c = λ first given is below.
     let trees = trees_in table in
     let all = assertions_in sorts trees (all_numbered c.args.facts.now) in
     let reach = c.args.reach in
-    let same : reach.steps ≡ c.args.shut.now.steps = sym c.if-shut-reach.false in
-    let told = c.in_ok-is_still_shut.ensures.closes first given reach (walk_from sorts trees reach 1000) same is below
+    let same : reach.steps ≡ c.args.inconsistent.now.steps = sym c.if-inconsistent-reach.false in
+    let told = c.in_ok-is_still_inconsistent.ensures.closes first given reach (walk_from sorts trees reach 1000) same is below
     c.if-not-branch.false in
     let some = is.some in
     (told.0, visit_walks sorts trees reach told.0 all (omega (arith, same, some)) told.1)
@@ -26,9 +26,9 @@ pub returns-clause-shows : goal.returns-clause-shows
 returns-clause-shows c = λ first given f is longer.
     let sorts = sorts_in c.args.table.now in
     let trees = trees_in c.args.table.now in
-    let shut = c.args.shut.now in
+    let inconsistent = c.args.inconsistent.now in
     let terms = subst (λ (ids : List TermId). AreTermsOf trees ids first) (sym c.deref.ensures.value)
-    (first_terms first trees shut.terms.list.items longer is.counted) in
+    (first_terms first trees inconsistent.terms.list.items longer is.counted) in
     let made = c.in_ok-tree in
-    closes_on sorts first trees given f shut.tree made.tree is.closes is.named (made.ensures.same first trees terms is.closes.within)
+    closes_on sorts first trees given f inconsistent.tree made.tree is.closes is.named (made.ensures.same first trees terms is.closes.within)
     (made.ensures.within first trees terms is.closes.within)

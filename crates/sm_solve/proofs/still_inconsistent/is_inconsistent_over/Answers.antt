@@ -20,8 +20,8 @@ use Rattle.sm_solve.specs.Walk.{by_classes}
 use Rattle.sm_solve.proofs.AtGoalLemmas.{count_of}
 use Rattle.sm_solve.proofs.BranchLabelsLemmas.{labels_of_branch}
 use Rattle.sm_certify.proofs.GivenLemmas.{whole_before, given_of_terms, seen_by_classes}
-use Rattle.sm_solve.proofs.ShutLemmas.{closed_walks, closes_either}
-use Rattle.sm_solve.proofs.still_shut.is_shut_over.Goals as goal
+use Rattle.sm_solve.proofs.InconsistentLemmas.{closed_walks, closes_either}
+use Rattle.sm_solve.proofs.still_inconsistent.is_inconsistent_over.Goals as goal
 
 -- pairs of terms
 abbrev Pairs : Type 0

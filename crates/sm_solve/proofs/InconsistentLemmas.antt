@@ -39,7 +39,7 @@ use Rattle.sm_list.specs.Renumbered.{AreTermsOf}
 use Rattle.sm_list.specs.Shared.{AreShared}
 use Rattle.sm_solve.specs.Naming.{AreNamed}
 use Rattle.sm_solve.specs.Sharing.{IsNode, room_for_goal}
-use Rattle.sm_solve.specs.Inconsistent.{IsShut, IsBelow}
+use Rattle.sm_solve.specs.Inconsistent.{IsInconsistent, IsBelow}
 use Rattle.sm_solve.specs.Walking.{ClosesIn}
 use Rattle.sm_judge.specs.Forms.{Walked, Closes, by_forms, forms_of}
 use Rattle.sm_solve.specs.declared.reach.Reach.{Reach}
@@ -96,19 +96,19 @@ node_named table given n is =
     (is.shared.own ∙ sym is.unread ∙ ap terms_of (sym all))
 
 -- what is found of the facts of a node is noted
-pub node_shut : (table : TableValue) (given : List Assertion) (n m : Node) → m.terms ≡ n.terms → m.forms ≡ n.forms → m.facts ≡ n.facts →
+pub node_inconsistent : (table : TableValue) (given : List Assertion) (n m : Node) → m.terms ≡ n.terms → m.forms ≡ n.forms → m.facts ≡ n.facts →
     m.place ≡ n.place → ((v : ClassesValue) → IsFrom v n.base → IsFrom v m.base) →
-    IfSome m.shut (IsShut (sorts_in n.terms.own) (trees_in n.terms.own) (given ++ Yes ∷ [])) → IsNode table given n → IsNode table given m
-node_shut table given n m terms forms facts place later told is =
+    IfSome m.inconsistent (IsInconsistent (sorts_in n.terms.own) (trees_in n.terms.own) (given ++ Yes ∷ [])) → IsNode table given n → IsNode table given m
+node_inconsistent table given n m terms forms facts place later told is =
     let first = with_formulas (room_for_goal given) [] in
-    let one = subst (λ (s : Sorts). IfSome m.shut (IsShut s (trees_in n.terms.own) (given ++ Yes ∷ []))) is.shared.sorts told in
-    let two = subst (λ (ts : List Tree). IfSome m.shut (IsShut (sorts_in table) ts (given ++ Yes ∷ []))) is.shared.own one in
+    let one = subst (λ (s : Sorts). IfSome m.inconsistent (IsInconsistent s (trees_in n.terms.own) (given ++ Yes ∷ []))) is.shared.sorts told in
+    let two = subst (λ (ts : List Tree). IfSome m.inconsistent (IsInconsistent (sorts_in table) ts (given ++ Yes ∷ []))) is.shared.own one in
     let g = is.grounded in
-    shut_with terms forms facts place two
+    inconsistent_with terms forms facts place two
   where
-    shut_with : m.terms ≡ n.terms → m.forms ≡ n.forms → m.facts ≡ n.facts → m.place ≡ n.place →
-        IfSome m.shut (IsShut (sorts_in table) (with_formulas (room_for_goal given) []) (given ++ Yes ∷ [])) → IsNode table given m
-    shut_with terms forms facts place two =
+    inconsistent_with : m.terms ≡ n.terms → m.forms ≡ n.forms → m.facts ≡ n.facts → m.place ≡ n.place →
+        IfSome m.inconsistent (IsInconsistent (sorts_in table) (with_formulas (room_for_goal given) []) (given ++ Yes ∷ [])) → IsNode table given m
+    inconsistent_with terms forms facts place two =
         let g = is.grounded in
         let own = ap (λ s. s.own) terms in
         record {
@@ -137,7 +137,7 @@ node_shut table given n m terms forms facts place later told is =
                 subst (λ x. IsFrom (classes_by g.table g.ids x.items) m.base) (sym facts)
                 (later (classes_by g.table g.ids n.facts.items) g.ground);
           };
-          shut = two;
+          inconsistent = two;
         }
 
 -- the branch of a goal has the terms and the facts of its node
@@ -224,10 +224,10 @@ same_longer {A} xs ys i x y first second before at_first at_second same =
     ∙ ap (λ (k : ℕ). take k ys) (sym (add-one i))
 
 -- facts can't hold together by their forms
-pub shut_by_forms : (steps count atoms : ℕ) (o : Outcome (List (Linear ℕ))) (fs : List (Linear ℕ)) → o ≡ Fits fs →
+pub inconsistent_by_forms : (steps count atoms : ℕ) (o : Outcome (List (Linear ℕ))) (fs : List (Linear ℕ)) → o ≡ Fits fs →
     ((next : ℕ → Walked) → by_forms steps 1 atoms o next ≡ Closes count) →
     (o ≡ Fits fs) × ((next : ℕ → Walked) → by_forms steps 1 atoms (Fits fs) next ≡ Closes count)
-shut_by_forms steps count atoms o fs is sums =
+inconsistent_by_forms steps count atoms o fs is sums =
     (is, λ next. ap (λ (p : Outcome (List (Linear ℕ))). by_forms steps 1 atoms p next) (sym is) ∙ sums next)
 
 -- a certificate of facts closes the branch that has another in the place of what always holds, over more terms

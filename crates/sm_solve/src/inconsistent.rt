@@ -25,7 +25,7 @@ ghost use Rattle.sm_cert.specs.MovedTrees.{NamesWhatItReads};
 ghost use Rattle.sm_cert.specs.Views.{certificate_in};
 ghost use Rattle.sm_solve.specs.declared.reach.Reach.{Reach};
 ghost use Rattle.sm_solve.specs.Naming.{AreNamed};
-ghost use Rattle.sm_solve.specs.Inconsistent.{IsShut, IsShutBy};
+ghost use Rattle.sm_solve.specs.Inconsistent.{IsInconsistent, IsInconsistentBy};
 ghost use Rattle.sm_judge.specs.Forms.{Walked, Closes, forms_of, by_forms};
 ghost use Rattle.sm_solve.specs.Walking.{ClosesIn, ShowsVisit, ShowsEnd};
 
@@ -66,7 +66,7 @@ pub(crate) struct Inconsistent {
 
 /// Whether the facts can't hold together, as the visit of their branch finds; they are given with all
 /// parts of their conjunctions, and their terms are those of the table.
-pub(crate) fn shut_of(
+pub(crate) fn inconsistent_of(
     alloc: Global,
     base: &mut Base,
     table: &TermTable,
@@ -84,10 +84,10 @@ pub(crate) fn shut_of(
         IsLedBy v (classes_by table.now ids facts.now)) }
     requires named { let sorts = sorts_in table.now in let trees = trees_in table.now in
         AreNamed trees (assertions_in sorts trees (all_numbered facts.now)) }
-    ensures shut { let sorts = sorts_in table.now in let trees = trees_in table.now in
+    ensures inconsistent { let sorts = sorts_in table.now in let trees = trees_in table.now in
         (given : List Assertion) →
         assertions_in sorts trees (all_numbered facts.now) ≡ with_parts given →
-        IfOk result (λ o. IfSome o (IsShut sorts trees given)) }
+        IfOk result (λ o. IfSome o (IsInconsistent sorts trees given)) }
     ensures stays { (v : ClassesValue) → IsFrom v base.old → IsFrom v base.new }
 {
     if steps == 0 || !are_few(facts) {
@@ -128,7 +128,7 @@ fn found(
     requires named { let sorts = sorts_in table.now in let trees = trees_in table.now in
         AreNamed trees (assertions_in sorts trees (all_numbered facts.now)) }
     ensures by { IfOk result (λ o. IfSome o (λ p.
-        IsShutBy steps (branch_of table.now facts.now) p.0)) }
+        IsInconsistentBy steps (branch_of table.now facts.now) p.0)) }
     ensures closes { let sorts = sorts_in table.now in let trees = trees_in table.now in
         (given : List Assertion) →
         assertions_in sorts trees (all_numbered facts.now) ≡ with_parts given →
@@ -138,7 +138,7 @@ fn found(
     ensures stays { (v : ClassesValue) → IsFrom v base.old → IsFrom v base.new }
 {
     let classes = base.classes(alloc, table, forms, terms, facts)?;
-    match why_shut(alloc, &classes, table, forms, facts, steps)? {
+    match why_inconsistent(alloc, &classes, table, forms, facts, steps)? {
         Some(by) => {
             let reach = Reach {
                 steps,
@@ -161,7 +161,7 @@ fn found(
 }
 
 // By what facts with these classes can't hold together.
-fn why_shut<'a>(
+fn why_inconsistent<'a>(
     alloc: Global,
     classes: &Classes<'a>,
     table: &TermTable,
@@ -178,7 +178,7 @@ fn why_shut<'a>(
         ≡ branch_of table.now facts.now }
     requires within { AreFormulasWithin (length (trees_in table.now)) (all_numbered facts.now) }
     requires counted { 1 ≤ steps }
-    ensures { IfOk result (λ o. IfSome o (IsShutBy steps (branch_of table.now facts.now))) }
+    ensures { IfOk result (λ o. IfSome o (IsInconsistentBy steps (branch_of table.now facts.now))) }
 {
     let labels = classes.labels(alloc)?;
     if closed_by(alloc, classes, &labels, table, forms, facts)?.is_some() {
@@ -213,7 +213,7 @@ fn after_sums<S: Sees>(
         let b = seen_in (sorts_in table.now) trees trees facts.now
         (S.equal sees.now) (S.apart sees.now) in (steps : ℕ) →
         ((next : ℕ → Walked) → by_forms steps 1 (length trees) (forms_of b) next ≡ Closes count) →
-        IfOk result (λ o. IfSome o (IsShutBy steps b)) }
+        IfOk result (λ o. IfSome o (IsInconsistentBy steps b)) }
 {
     match forms_of(alloc, sees, labels, table, forms, facts) {
         Ok(made) => Ok(Some(InconsistentBy::Forms {

@@ -8,11 +8,11 @@ use Rattle.sm_judge.specs.Labelled.{AreLabels}
 use Rattle.sm_judge.specs.Seeing.{seen_in}
 use Rattle.sm_judge.specs.declared.eliminating.ByForms.{ByForms}
 use Rattle.sm_judge.specs.Refutations.{TellsForms}
-use Rattle.sm_solve.specs.Inconsistent.{IsShutBy}
+use Rattle.sm_solve.specs.Inconsistent.{IsInconsistentBy}
 use Rattle.sm_judge.specs.Forms.{Walked, Closes, by_forms, forms_of}
 use Rattle.sm_solve.proofs.BranchLabelsLemmas.{labels_of_branch}
 use Rattle.sm_certify.proofs.GivenLemmas.{whole_before}
-use Rattle.sm_solve.proofs.shut.why_shut.Goals as goal
+use Rattle.sm_solve.proofs.inconsistent.why_inconsistent.Goals as goal
 
 pub labels-requires : goal.labels-requires
 labels-requires c =
@@ -49,5 +49,5 @@ returns-in-Contradiction c =
     let came : (next : ℕ → Walked) → by_forms c.args.steps 1 (length trees) (forms_of s) next ≡ Closes c.in-Contradiction.count =
     λ next. subst (λ (r : ByForms). TellsForms r (by_forms c.args.steps 1 (length trees) (forms_of s) next) next) c.in-Contradiction.is
     (c.in_ok-count.ensures.forms next) in
-    subst (λ (b : Seen). IfOk c.after_sums.result (λ o. IfSome o (IsShutBy c.args.steps b))) c.requires.seen
+    subst (λ (b : Seen). IfOk c.after_sums.result (λ o. IfSome o (IsInconsistentBy c.args.steps b))) c.requires.seen
     (c.after_sums.ensures c.args.steps came)

@@ -3,12 +3,12 @@ use Rattle.sm_term.specs.Tables.{trees_in, sorts_in}
 use Rattle.sm_judge.specs.Refutations.{GivesForms}
 use Rattle.sm_judge.specs.Seeing.{seen_in}
 use Rattle.sm_judge.specs.Forms.{forms_of}
-use Rattle.sm_solve.proofs.ShutLemmas.{shut_by_forms}
-use Rattle.sm_solve.proofs.shut.after_sums.Goals as goal
+use Rattle.sm_solve.proofs.InconsistentLemmas.{inconsistent_by_forms}
+use Rattle.sm_solve.proofs.inconsistent.after_sums.Goals as goal
 
 pub returns-in-Ok : goal.returns-in-Ok
 returns-in-Ok g c = λ steps sums.
     let trees = trees_in c.args.table.now in
     let b = seen_in (sorts_in c.args.table.now) trees trees c.args.facts.now (g.S.Sees.equal c.args.sees.now) (g.S.Sees.apart c.args.sees.now) in
     let told = subst (GivesForms b (forms_of b)) c.in-Ok.is c.forms_of.ensures in
-    shut_by_forms steps c.args.count (length trees) (forms_of b) c.in-Ok.made.forms.list.items told.0 sums
+    inconsistent_by_forms steps c.args.count (length trees) (forms_of b) c.in-Ok.made.forms.list.items told.0 sums

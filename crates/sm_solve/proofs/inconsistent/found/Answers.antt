@@ -3,7 +3,7 @@ use Rattle.sm_term.specs.Assertions.{Assertion}
 use Rattle.sm_term.specs.Tables.{trees_in, sorts_in}
 use Rattle.sm_cert.specs.declared.tree.CertTree.{CertTree}
 use Rattle.sm_solve.specs.Walking.{ShowsVisit, ClosesIn}
-use Rattle.sm_solve.proofs.shut.found.Goals as goal
+use Rattle.sm_solve.proofs.inconsistent.found.Goals as goal
 
 pub returns-then-names_what_it_reads-clause-closes : goal.returns-then-names_what_it_reads-clause-closes
 returns-then-names_what_it_reads-clause-closes c = λ given is.
