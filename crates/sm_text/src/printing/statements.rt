@@ -22,7 +22,7 @@ pub(crate) fn deeper(alloc: Global, margin: &[u8]) -> Result<Vec<u8>, AllocError
     Ok(wide)
 }
 
-/// A condition in parentheses, before a block.
+// A condition in parentheses, before a block.
 #[tactic(auto, unfolding(crate::specs::printing::Canonical::guard_pieces))]
 fn put_guard(out: &mut Vec<u8>, names: &NameTable, c: &Cond) -> Result<(), AllocError>
     requires { IsTestedIn (length names.now) (condition_of c.now) }
@@ -35,7 +35,7 @@ fn put_guard(out: &mut Vec<u8>, names: &NameTable, c: &Cond) -> Result<(), Alloc
     out.extend_from_slice(b") ")
 }
 
-/// A word, and the condition after it.
+// A word, and the condition after it.
 fn put_test(out: &mut Vec<u8>, names: &NameTable, word: &[u8], c: &Cond) -> Result<(), AllocError>
     requires { IsTestedIn (length names.now) (condition_of c.now) }
     ensures { OnOk result
@@ -46,7 +46,7 @@ fn put_test(out: &mut Vec<u8>, names: &NameTable, word: &[u8], c: &Cond) -> Resu
     put_guard(out, names, c)
 }
 
-/// What a name or an element becomes, up to the end of the line.
+// What a name or an element becomes, up to the end of the line.
 fn put_value(out: &mut Vec<u8>, names: &NameTable, e: &Expr) -> Result<(), AllocError>
     requires { IsNamedIn (length names.now) (expression_of e.now) }
     ensures { OnOk result
@@ -59,7 +59,7 @@ fn put_value(out: &mut Vec<u8>, names: &NameTable, e: &Expr) -> Result<(), Alloc
     out.extend_from_slice(b";\n")
 }
 
-/// An assignment, after its margin.
+// An assignment, after its margin.
 fn put_assignment(out: &mut Vec<u8>, names: &NameTable, x: Name, e: &Expr) -> Result<(), AllocError>
     requires name { x.0 < length names.now }
     requires value { IsNamedIn (length names.now) (expression_of e.now) }
@@ -72,7 +72,7 @@ fn put_assignment(out: &mut Vec<u8>, names: &NameTable, x: Name, e: &Expr) -> Re
     put_value(out, names, e)
 }
 
-/// A write to an element, after its margin.
+// A write to an element, after its margin.
 fn put_write(
     out: &mut Vec<u8>,
     names: &NameTable,
@@ -104,7 +104,7 @@ pub(crate) fn put_hole(out: &mut Vec<u8>, hole: u32) -> Result<(), AllocError>
     out.extend_from_slice(digits.format(hole).as_bytes())
 }
 
-/// A hole as a statement, after its margin.
+// A hole as a statement, after its margin.
 fn put_hole_line(out: &mut Vec<u8>, hole: u32) -> Result<(), AllocError>
     ensures { OnOk result
         (out.new.items ≡ out.old.items ++ codes "?" ++ decimal hole ++ codes ";\n") }
@@ -113,7 +113,7 @@ fn put_hole_line(out: &mut Vec<u8>, hole: u32) -> Result<(), AllocError>
     out.extend_from_slice(b";\n")
 }
 
-/// The sign that opens a block, up to the end of its line. It gives the margin inside.
+// The sign that opens a block, up to the end of its line. It gives the margin inside.
 fn open_block(alloc: Global, out: &mut Vec<u8>, margin: &[u8]) -> Result<Vec<u8>, AllocError>
     ensures margin { IfOk result (λ m. m.items ≡ spec.deeper margin.now) }
     ensures text { OnOk result (out.new.items ≡ out.old.items ++ codes "{\n") }
@@ -123,7 +123,7 @@ fn open_block(alloc: Global, out: &mut Vec<u8>, margin: &[u8]) -> Result<Vec<u8>
     Ok(inner)
 }
 
-/// The sign that closes a block, after its margin.
+// The sign that closes a block, after its margin.
 fn close_block(out: &mut Vec<u8>, margin: &[u8]) -> Result<(), AllocError>
     ensures { OnOk result (out.new.items ≡ out.old.items ++ margin.now ++ codes "}") }
 {
@@ -131,7 +131,7 @@ fn close_block(out: &mut Vec<u8>, margin: &[u8]) -> Result<(), AllocError>
     out.extend_from_slice(b"}")
 }
 
-/// A statement, on lines after a margin.
+// A statement, on lines after a margin.
 #[cycle(put_statement)]
 fn put_stmt(
     alloc: Global,
@@ -165,7 +165,7 @@ fn put_stmt(
     }
 }
 
-/// The branches of a choice.
+// The branches of a choice.
 #[cycle(put_statement)]
 #[tactic(auto, unfolding(crate::specs::printing::Canonical::branches))]
 fn put_branches(
