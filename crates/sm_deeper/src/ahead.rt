@@ -10,9 +10,7 @@ use crate::closing::{WalkEnd, boxed_node, pay_node, pay_walk};
 use crate::crew::Crew;
 use crate::effort::Effort;
 use crate::judging::{Round, walk_at};
-use crate::shares::{
-    Share, jobs_with, leading_places, leading_shares, leads_of, other_shares, sites_of,
-};
+use crate::shares::{Share, jobs_with, leading_shares, leads_in, other_shares};
 use crate::told::{Found, is_refuted, nothing_told, tell_all};
 use sm_expand::Due;
 use sm_observed::Work;
@@ -220,6 +218,55 @@ fn found_in<R: Threads + Sync, G: Gate>(
     all_found(crew, alloc, table, &wave)
 }
 
+// Tells what the walks of shares come to.
+fn tell_shares<R: Threads + Sync, G: Gate>(
+    crew: &Crew<'_, R, G>,
+    alloc: Global,
+    table: &TermTable,
+    dues: &[Due],
+    shares: &[Share],
+    told: &mut Vec<Vec<Option<WalkEnd>>>,
+    effort: &Effort,
+) -> Result<(), AllocError>
+    requires { AreDuesReady (sorts_in table.now) (trees_in table.now) dues.now }
+{
+    let parts = found_in(crew, alloc, table, dues, shares, told, effort)?;
+    tell_all(told, &parts);
+    Ok(())
+}
+
+// Tells what the walks at leading nodes come to.
+fn tell_leading<R: Threads + Sync, G: Gate>(
+    crew: &Crew<'_, R, G>,
+    alloc: Global,
+    table: &TermTable,
+    dues: &[Due],
+    leads: &[Option<usize>],
+    told: &mut Vec<Vec<Option<WalkEnd>>>,
+    effort: &Effort,
+) -> Result<(), AllocError>
+    requires { AreDuesReady (sorts_in table.now) (trees_in table.now) dues.now }
+{
+    let shares = leading_shares(alloc, leads, dues, crew.workers)?;
+    tell_shares(crew, alloc, table, dues, &shares, told, effort)
+}
+
+// Tells what the walks at other nodes come to.
+fn tell_others<R: Threads + Sync, G: Gate>(
+    crew: &Crew<'_, R, G>,
+    alloc: Global,
+    table: &TermTable,
+    dues: &[Due],
+    leads: &[Option<usize>],
+    told: &mut Vec<Vec<Option<WalkEnd>>>,
+    effort: &Effort,
+) -> Result<(), AllocError>
+    requires { AreDuesReady (sorts_in table.now) (trees_in table.now) dues.now }
+{
+    let shares = other_shares(alloc, leads, crew.workers)?;
+    tell_shares(crew, alloc, table, dues, &shares, told, effort)
+}
+
 /// What walks of a round come to, which jobs make ahead of it; nothing with one worker. First each
 /// job has a share of the goals of the leading node of each site, where most candidates fall; then
 /// the other nodes are dealt to the jobs, for what is left. A job may walk goals that the round won't
@@ -237,16 +284,10 @@ pub(crate) fn told_ahead<R: Threads + Sync, G: Gate>(
     if crew.workers == 1 {
         return Ok(Vec::new(alloc));
     }
-    let mut told = nothing_told(alloc, round.dues)?;
-    let sites = sites_of(alloc, round)?;
-    let leading = leading_places(alloc, &sites, round.owners.sites)?;
-    let leads = leads_of(alloc, &sites, &leading)?;
     let dues = round.dues;
-    let shares = leading_shares(alloc, &leads, dues, crew.workers)?;
-    let parts = found_in(crew, alloc, table, dues, &shares, &told, effort)?;
-    tell_all(&mut told, &parts);
-    let shares = other_shares(alloc, &leads, crew.workers)?;
-    let parts = found_in(crew, alloc, table, dues, &shares, &told, effort)?;
-    tell_all(&mut told, &parts);
+    let leads = leads_in(alloc, round)?;
+    let mut told = nothing_told(alloc, dues)?;
+    tell_leading(crew, alloc, table, dues, &leads, &mut told, effort)?;
+    tell_others(crew, alloc, table, dues, &leads, &mut told, effort)?;
     Ok(told)
 }

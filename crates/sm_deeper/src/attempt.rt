@@ -136,11 +136,11 @@ fn settled_by<R: Threads + Sync, G: Gate>(
     settled(crew, alloc, table, subject, &product, candidates, effort)
 }
 
-// A plan that keeps what proves, and what its obligations come to.
+// A plan that keeps what proves, with certificates for its obligations.
 #[derive(Drop)]
 struct Tried {
     plan: Plan,
-    end: Ended,
+    trees: CertTrees,
 }
 
 // The plan of what was asked.
@@ -148,53 +148,19 @@ fn plan_of(asked: Asked) -> Plan {
     asked.plan
 }
 
-// What the plan of a drawing comes to, with what it keeps, where it has obligations.
-fn tried_by<R: Threads + Sync, G: Gate>(
-    crew: &Crew<'_, R, G>,
+// A plan with what its obligations come to, where each is met. Where only dead ends stay open, their
+// paths are put behind others.
+fn closed_by(
     alloc: Global,
-    table: &mut TermTable,
-    subject: &Subject<'_>,
-    drawing: &Drawing,
-    with_guards: bool,
-    effort: &mut Effort,
-) -> Result<Option<Tried>, AllocError>
-    requires subject { IsSubject subject.now }
-    requires declared { IsTableOf subject.now.task.now table.old }
-    ensures { OnOk result (IsTableOf subject.now.task.now table.new) }
-{
-    let owners = owners_of(alloc, &drawing.plan)?;
-    let seen = Seen {
-        drawing,
-        with_guards,
-    };
-    let found = settled_by(crew, alloc, table, subject, &seen, &owners, effort)?;
-    let Some(asked) = found else {
-        return Ok(None);
-    };
-    let end = end_of(crew, alloc, table, &asked.dues, &owners, effort)?;
-    let plan = plan_of(asked);
-    Ok(Some(Tried { plan, end }))
-}
-
-// The proof that a plan came to, where it came to one. Where only dead ends stay open, their paths
-// are put behind others.
-fn concluded(
-    alloc: Global,
-    subject: &Subject<'_>,
-    table: TermTable,
-    tried: Tried,
+    plan: Plan,
+    end: Ended,
     dead: &[DeadEnd],
     open: &mut Vec<Vec<u8>>,
-) -> Result<Option<Proof>, AllocError>
-    requires subject { IsSubject subject.now }
-    requires declared { IsTableOf subject.now.task.now table }
-    ensures { IfOk result (λ o. IfSome o (IsWhole (parts_of subject.now.task.now))) }
-{
-    let Tried { plan, end } = tried;
+) -> Result<Option<Tried>, AllocError> {
     match end {
         Ended::Closed(list) => {
             let trees = CertTrees { list };
-            audited(alloc, subject, Proof { table, plan, trees })
+            Ok(Some(Tried { plan, trees }))
         }
         Ended::Dead(nodes) => {
             put_paths(alloc, open, dead, &nodes)?;
@@ -202,6 +168,30 @@ fn concluded(
         }
         Ended::Open => Ok(None),
     }
+}
+
+// The plan of a drawing that keeps what proves, where its obligations are met. Where only dead ends
+// stay open, their paths are put behind others.
+fn tried_by<R: Threads + Sync, G: Gate>(
+    crew: &Crew<'_, R, G>,
+    alloc: Global,
+    table: &mut TermTable,
+    subject: &Subject<'_>,
+    seen: &Seen<'_>,
+    open: &mut Vec<Vec<u8>>,
+    effort: &mut Effort,
+) -> Result<Option<Tried>, AllocError>
+    requires subject { IsSubject subject.now }
+    requires declared { IsTableOf subject.now.task.now table.old }
+    ensures { OnOk result (IsTableOf subject.now.task.now table.new) }
+{
+    let owners = owners_of(alloc, &seen.drawing.plan)?;
+    let found = settled_by(crew, alloc, table, subject, seen, &owners, effort)?;
+    let Some(asked) = found else {
+        return Ok(None);
+    };
+    let end = end_of(crew, alloc, table, &asked.dues, &owners, effort)?;
+    closed_by(alloc, plan_of(asked), end, &seen.drawing.dead, open)
 }
 
 // A proof by a drawing, where it gives one. Where only dead ends stay open, their paths are put
@@ -218,19 +208,69 @@ fn proof_by<R: Threads + Sync, G: Gate>(
     requires { IsSubject subject.now }
     ensures { IfOk result (λ o. IfSome o (IsWhole (parts_of subject.now.task.now))) }
 {
-    let mut table = TermTable::new(alloc, &subject.task.shared.decls)?;
-    match tried_by(
-        crew,
-        alloc,
-        &mut table,
-        subject,
+    let seen = Seen {
         drawing,
         with_guards,
-        effort,
-    )? {
-        Some(tried) => concluded(alloc, subject, table, tried, &drawing.dead, open),
+    };
+    let mut table = TermTable::new(alloc, &subject.task.shared.decls)?;
+    match tried_by(crew, alloc, &mut table, subject, &seen, open, effort)? {
+        Some(Tried { plan, trees }) => audited(alloc, subject, Proof { table, plan, trees }),
         None => Ok(None),
     }
+}
+
+// A proof by a drawing that keeps away from the paths of dead ends so far, where it gives one.
+fn proof_anew<R: Threads + Sync, G: Gate>(
+    crew: &Crew<'_, R, G>,
+    alloc: Global,
+    subject: &Subject<'_>,
+    manner: Manner,
+    open: &mut Vec<Vec<u8>>,
+    effort: &mut Effort,
+) -> Result<Option<Proof>, AllocError>
+    requires { IsSubject subject.now }
+    ensures { IfOk result (λ o. IfSome o (IsWhole (parts_of subject.now.task.now))) }
+{
+    effort.work.spend(DRAWING);
+    match drawing_of(alloc, subject, manner.is_second, open)? {
+        Some(drawing) => proof_by(
+            crew,
+            alloc,
+            subject,
+            &drawing,
+            manner.with_guards,
+            open,
+            effort,
+        ),
+        None => Ok(None),
+    }
+}
+
+// A proof by drawings that are repaired as long as dead ends stay open, where one gives it.
+fn repaired<R: Threads + Sync, G: Gate>(
+    crew: &Crew<'_, R, G>,
+    alloc: Global,
+    subject: &Subject<'_>,
+    manner: Manner,
+    open: &mut Vec<Vec<u8>>,
+    effort: &mut Effort,
+) -> Result<Option<Proof>, AllocError>
+    requires { IsSubject subject.now }
+    ensures { IfOk result (λ o. IfSome o (IsWhole (parts_of subject.now.task.now))) }
+{
+    for _ in 0..REPAIRS {
+        let known = open.len();
+        if known == 0 || effort.work.is_spent() {
+            return Ok(None);
+        }
+        if let Some(proof) = proof_anew(crew, alloc, subject, manner, open, effort)? {
+            return Ok(Some(proof));
+        }
+        if open.len() == known {
+            return Ok(None);
+        }
+    }
+    Ok(None)
 }
 
 /// A proof of a task by a plan that is drawn in a manner, which is repaired where dead ends stay
@@ -251,27 +291,5 @@ pub(crate) fn attempt<R: Threads + Sync, G: Gate>(
     if let Some(proof) = proof_by(crew, alloc, subject, first, with_guards, &mut open, effort)? {
         return Ok(Some(proof));
     }
-    for _ in 0..REPAIRS {
-        let known = open.len();
-        if known == 0 || effort.work.is_spent() {
-            return Ok(None);
-        }
-        effort.work.spend(DRAWING);
-        let Some(drawing) = drawing_of(alloc, subject, manner.is_second, &open)? else {
-            return Ok(None);
-        };
-        let proof = proof_by(
-            crew,
-            alloc,
-            subject,
-            &drawing,
-            with_guards,
-            &mut open,
-            effort,
-        )?;
-        if proof.is_some() || open.len() == known {
-            return Ok(proof);
-        }
-    }
-    Ok(None)
+    repaired(crew, alloc, subject, manner, &mut open, effort)
 }

@@ -89,6 +89,45 @@ fn dues_of(asked: Asked) -> Vec<Due> {
     asked.dues
 }
 
+// What a round asks of the candidates that are left, where it asks something and the work suffices.
+fn asked_within(
+    alloc: Global,
+    table: &mut TermTable,
+    subject: &Subject<'_>,
+    product: &Product<'_>,
+    candidates: &Candidates,
+    effort: &mut Effort,
+) -> Result<Option<Asked>, AllocError>
+    requires subject { IsSubject subject.now }
+    requires declared { IsTableOf subject.now.task.now table.old }
+    ensures ready { IfOk result (λ o. IfSome o (λ a.
+        AreDuesReady (sorts_in table.new) (trees_in table.new) a.dues.items)) }
+    ensures widens { OnOk result (ExtendsTable table.old table.new) }
+{
+    if !may_ask(subject, product, candidates, effort) {
+        return Ok(None);
+    }
+    asked_by(alloc, table, subject, product, candidates)
+}
+
+// The marks at candidates by what a round's goals come to.
+fn marks_of<R: Threads + Sync, G: Gate>(
+    crew: &Crew<'_, R, G>,
+    alloc: Global,
+    table: &mut TermTable,
+    round: &Round<'_>,
+    candidates: &Candidates,
+    effort: &mut Effort,
+) -> Result<Vec<Vec<bool>>, AllocError>
+    requires { AreDuesReady (sorts_in table.old) (trees_in table.old) round.now.dues.now }
+    ensures { OnOk result (ExtendsTable table.old table.new) }
+{
+    let mut marks = all_marked(alloc, candidates)?;
+    let told = told_ahead(crew, alloc, table, round, effort)?;
+    judge_all(alloc, table, round, &told, &mut marks, effort)?;
+    Ok(marks)
+}
+
 /// Drops candidates until each goal of those that are left closes: the plan that keeps them, with
 /// its obligations. None where the plan has none, or the work that is left doesn't suffice.
 pub(crate) fn settled<R: Threads + Sync, G: Gate>(
@@ -110,10 +149,8 @@ pub(crate) fn settled<R: Threads + Sync, G: Gate>(
     let mut candidates = candidates;
     let mut before = Vec::new(alloc);
     for _ in 0..=most {
-        if !may_ask(subject, product, &candidates, effort) {
-            return Ok(None);
-        }
-        let Some(asked) = asked_by(alloc, table, subject, product, &candidates)? else {
+        let asked = asked_within(alloc, table, subject, product, &candidates, effort)?;
+        let Some(asked) = asked else {
             return Ok(None);
         };
         let round = Round {
@@ -121,9 +158,7 @@ pub(crate) fn settled<R: Threads + Sync, G: Gate>(
             before: &before,
             owners: product.owners,
         };
-        let mut marks = all_marked(alloc, &candidates)?;
-        let told = told_ahead(crew, alloc, table, &round, effort)?;
-        judge_all(alloc, table, &round, &told, &mut marks, effort)?;
+        let marks = marks_of(crew, alloc, table, &round, &candidates, effort)?;
         if effort.work.is_spent() {
             return Ok(None);
         }

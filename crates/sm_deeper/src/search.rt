@@ -127,6 +127,23 @@ fn proved_by_both<R: Threads + Sync, G: Gate>(
 }
 
 // A proof by both drawings, first without candidates under guards, then with them.
+fn proved_in_turn<R: Threads + Sync, G: Gate>(
+    crew: &Crew<'_, R, G>,
+    alloc: Global,
+    subject: &Subject<'_>,
+    drawings: &Drawings,
+    effort: &mut Effort,
+) -> Result<Option<Proof>, AllocError>
+    requires { IsSubject subject.now }
+    ensures { IfOk result (λ o. IfSome o (IsWhole (parts_of subject.now.task.now))) }
+{
+    if let Some(proof) = proved_by_both(crew, alloc, subject, drawings, false, effort)? {
+        return Ok(Some(proof));
+    }
+    proved_by_both(crew, alloc, subject, drawings, true, effort)
+}
+
+// A proof by the drawings of a task.
 fn found<R: Threads + Sync, G: Gate>(
     crew: &Crew<'_, R, G>,
     alloc: Global,
@@ -137,10 +154,7 @@ fn found<R: Threads + Sync, G: Gate>(
     ensures { IfOk result (λ o. IfSome o (IsWhole (parts_of subject.now.task.now))) }
 {
     let drawings = drawings_of(alloc, subject)?;
-    if let Some(proof) = proved_by_both(crew, alloc, subject, &drawings, false, effort)? {
-        return Ok(Some(proof));
-    }
-    proved_by_both(crew, alloc, subject, &drawings, true, effort)
+    proved_in_turn(crew, alloc, subject, &drawings, effort)
 }
 
 /// A proof of a task by a plan that is drawn along the runs from some inputs, where one is found:

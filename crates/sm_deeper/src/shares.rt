@@ -14,8 +14,8 @@ pub(crate) struct Share {
     pub(crate) step: usize,
 }
 
-/// For each place of a round the site that it asks anew.
-pub(crate) fn sites_of(alloc: Global, round: &Round<'_>) -> Result<Vec<Option<usize>>, AllocError> {
+// For each place of a round the site that it asks anew.
+fn sites_of(alloc: Global, round: &Round<'_>) -> Result<Vec<Option<usize>>, AllocError> {
     let mut sites = Vec::new(alloc);
     for place in 0..round.dues.len() {
         sites.push(asking_site(round, place))?;
@@ -23,8 +23,8 @@ pub(crate) fn sites_of(alloc: Global, round: &Round<'_>) -> Result<Vec<Option<us
     Ok(sites)
 }
 
-/// The leading place of each of so many sites: the last that asks it anew.
-pub(crate) fn leading_places(
+// The leading place of each of so many sites: the last that asks it anew.
+fn leading_places(
     alloc: Global,
     sites: &[Option<usize>],
     count: usize,
@@ -43,8 +43,8 @@ pub(crate) fn leading_places(
     Ok(leading)
 }
 
-/// For each place of a round the leading one of the site that it asks anew.
-pub(crate) fn leads_of(
+// For each place of a round the one that leads the site that it asks anew.
+fn leads_of(
     alloc: Global,
     sites: &[Option<usize>],
     leading: &[usize],
@@ -57,6 +57,13 @@ pub(crate) fn leads_of(
         }
     }
     Ok(leads)
+}
+
+/// For each place of a round the leading one of the site that it asks anew.
+pub(crate) fn leads_in(alloc: Global, round: &Round<'_>) -> Result<Vec<Option<usize>>, AllocError> {
+    let sites = sites_of(alloc, round)?;
+    let leading = leading_places(alloc, &sites, round.owners.sites)?;
+    leads_of(alloc, &sites, &leading)
 }
 
 // Puts shares of what a leading node asks behind others, one for each of so many jobs.

@@ -6,27 +6,21 @@ use Rattle.sm_expand.proofs.PlansWiden.{dues_ready}
 use Rattle.sm_deeper.specs.declared.rounds.Asked.{Asked}
 use Rattle.sm_deeper.proofs.rounds.settled.Goals as goal
 
-pub told_ahead-requires-after_bounds : goal.told_ahead-requires-after_bounds
-told_ahead-requires-after_bounds g c κs within =
-    let w = c.asked_by.new.table in
-    subst (AreDuesReady (sorts_in w) (trees_in w)) (sym c.deref.ensures.value)
-    (subst (λ (o : Option Asked). IfSome o (λ a. AreDuesReady (sorts_in w) (trees_in w) a.dues.items)) c.in-Some.is c.in_ok-asked.ensures.ready)
-
-pub judge_all-requires : goal.judge_all-requires
-judge_all-requires g c =
-    let w = c.asked_by.new.table in
+pub marks_of-requires-after_bounds : goal.marks_of-requires-after_bounds
+marks_of-requires-after_bounds g c κs within =
+    let w = c.asked_within.new.table in
     subst (AreDuesReady (sorts_in w) (trees_in w)) (sym c.deref.ensures.value)
     (subst (λ (o : Option Asked). IfSome o (λ a. AreDuesReady (sorts_in w) (trees_in w) a.dues.items)) c.in-Some.is c.in_ok-asked.ensures.ready)
 
 pub returns-then-are_all_there-clause-ready : goal.returns-then-are_all_there-clause-ready
 returns-then-are_all_there-clause-ready g c =
-    let w = c.asked_by.new.table in
-    dues_ready w c.judge_all.new.table c.in_ok-judge_all.ensures c.in-Some.asked.dues.items
+    let w = c.asked_within.new.table in
+    dues_ready w c.marks_of.new.table c.in_ok-marks.ensures c.in-Some.asked.dues.items
     (subst (λ (o : Option Asked). IfSome o (λ a. AreDuesReady (sorts_in w) (trees_in w) a.dues.items)) c.in-Some.is c.in_ok-asked.ensures.ready)
 
 pub returns-then-are_all_there-clause-declared : goal.returns-then-are_all_there-clause-declared
 returns-then-are_all_there-clause-declared g c =
-    c.in_ok-judge_all.ensures.sorts ∙ c.in_ok-asked.ensures.widens.sorts ∙ c.loop.invariant
+    c.in_ok-marks.ensures.sorts ∙ c.in_ok-asked.ensures.widens.sorts ∙ c.loop.invariant
 
 pub loop-preserved : goal.loop-preserved
-loop-preserved g c = c.in_ok-judge_all.ensures.sorts ∙ c.in_ok-asked.ensures.widens.sorts ∙ c.loop.invariant
+loop-preserved g c = c.in_ok-marks.ensures.sorts ∙ c.in_ok-asked.ensures.widens.sorts ∙ c.loop.invariant
