@@ -1,5 +1,5 @@
 -- What is pending, where the path is cut and grows.
-use Rattle.std.proofs.Common.{◌≡◌, ℕ, zero, suc, ◌+◌, ◌<◌, ◌≤◌, Some, List, [], ◌∷◌, ◌++◌, length, take, get_or, reverse}
+use Rattle.std.proofs.Common.{◌≡◌, ℕ, zero, suc, ◌+◌, ◌<◌, ◌≤◌, Option, Some, None, List, [], ◌∷◌, ◌++◌, length, take, get_or, reverse}
 use Rattle.std.proofs.Common.{refl, sym, ap, ◌∙◌, subst, arith, append_assoc}
 use Rattle.std.proofs.lemmas.List.{reverse-append, take-append-le, length-append}
 use Rattle.sm_syntax.specs.text.Sorts.{Sorts}
@@ -28,7 +28,8 @@ use Rattle.sm_check.specs.declared.pending.Due.{Due}
 use Rattle.sm_check.specs.declared.pending.Due.TheVariants as due
 use Rattle.sm_check.specs.declared.pending.Waiting.{Waiting}
 use Rattle.sm_check.specs.declared.pending.Waiting.TheVariants as waits
-use Rattle.sm_check.specs.Pending.{DueStands, WaitingStands, AllWait, PendingStands, IsMadeReady, shared_by}
+use Rattle.sm_check.specs.Checkers.{HasFacts}
+use Rattle.sm_check.specs.Pending.{DueStands, WaitingStands, AllPending, AllWait, PendingStands, IsMadeReady, shared_by}
 use Rattle.sm_check.specs.Pending.{AreWaitingReady}
 
 -- lists cut
@@ -77,6 +78,20 @@ stand_long sorts trees [] [] all = refl
 stand_long sorts trees [] (k ∷ ks) all = absurd all
 stand_long sorts trees (f ∷ fs) [] all = absurd all
 stand_long sorts trees (f ∷ fs) (k ∷ ks) all = let e = stand_long sorts trees fs ks all.1 in omega arith
+
+-- the branch that is due has as many facts as the path
+pub due_long : (sorts : Sorts) (trees : List Tree) (path : List Fact) (d : Option Due) (ws : List Waiting) (ps : List Pending) →
+    PendingStands sorts trees path d ws ps → HasFacts ps (length path)
+due_long sorts trees path d ws ps stands = of d ps stands.all
+  where
+    of : (d : Option Due) (ps : List Pending) → AllPending sorts trees stands.facts d (reverse ws) ps → HasFacts ps (length path)
+    of None [] all = tt
+    of None (p ∷ ps) all = absurd all
+    of (Some d) [] all = absurd all
+    of (Some d) (plain.Due st above ∷ ps) all = tt
+    of (Some (due.State state above)) (plain.Branch stores own over ∷ ps) all = absurd all.0
+    of (Some (due.Branch stores splits)) (plain.Branch held own over ∷ ps) all =
+        stand_long sorts trees path stands.facts stands.stand ∙ ap length (sym all.0.0)
 
 -- formulas as facts
 pub forms_sorted : (sorts : Sorts) (trees : List Tree) (fs : List Formula) → AreFormsReady sorts trees fs →

@@ -1,9 +1,9 @@
 -- Cited by public clauses: where the proof of a checker stands.
-use Rattle.std.specs.Prelude.{◌≡◌, ◌⊎◌, true, false, if◌then◌else◌}
-use Rattle.std.specs.Prelude.{Some, None, Result, Ok, Err}
+use Rattle.std.specs.Prelude.{◌≡◌, ◌⊎◌, ℕ, true, false, if◌then◌else◌, length}
+use Rattle.std.specs.Prelude.{Some, None, Result, Ok, Err, List, [], ◌∷◌}
 use Rattle.sm_syntax.specs.text.Sorts.{Sorts}
 use Rattle.sm_term.specs.Tables.{sorts_in}
-use Rattle.sm_proof.specs.Passing.{start_progress}
+use Rattle.sm_proof.specs.Passing.{Pending, Due, Branch, start_progress}
 use Rattle.sm_check.specs.Walks.{Walks}
 use Rattle.sm_proof.specs.declared.word.Word.{Word}
 use Rattle.sm_proof.specs.Verdicts.{Subject, Standing, Unopened, Underway, is_done, reads_exact}
@@ -47,3 +47,9 @@ GoesOn s (Err w) c state = ⊥
 abbrev pub Stops : Subject → Result Standing Word → Checker → LineFault → Type 0
 Stops s (Ok at) c e = (e ≡ Memory) × IsAt c s (Err Memory)
 Stops s (Err w) c e = ((e ≡ Wrong w) × IsAt c s (Err (Wrong w))) ⊎ ((e ≡ Memory) × IsAt c s (Err Memory))
+
+-- the branch that is due, if one is, has so many facts
+abbrev pub HasFacts : List Pending → ℕ → Type 0
+HasFacts [] n = Unit {0}
+HasFacts (Due st above ∷ rest) n = Unit {0}
+HasFacts (Branch stores facts splits ∷ rest) n = n ≡ length facts

@@ -11,7 +11,7 @@ ghost use Rattle.sm_task.specs.Filling.{AreFilled};
 ghost use Rattle.sm_text.specs.Tasks.{parts_of};
 ghost use Rattle.sm_check.specs.Checkable.{IsCheckable};
 ghost use Rattle.sm_check.specs.Aside.{certificates_of, progress_at};
-ghost use Rattle.sm_check.specs.Checkers.{IsAt, GoesOn, Stops, sorts_known, state_of};
+ghost use Rattle.sm_check.specs.Checkers.{HasFacts, IsAt, GoesOn, Stops, sorts_known, state_of};
 ghost use Rattle.sm_check.specs.Closing.{CloseFirst};
 ghost use Rattle.sm_check.specs.Tells.{Tells};
 
@@ -109,7 +109,10 @@ impl<'a> Checker<'a> {
     }
 
     /// How many facts the branch has that is due.
-    pub fn facts(&self) -> u64 {
+    pub fn facts(&self) -> u64
+        ensures { (s : Subject) (exact : Bool) (p : Progress) →
+            IsAt self.now s (Ok (Underway exact p)) → HasFacts p.pending result }
+    {
         self.walk.facts()
     }
 

@@ -2,6 +2,9 @@
 ghost use Rattle.std.specs.Prelude.{◌≡◌, IfOk, length};
 ghost use Rattle.sm_term.specs.Tables.{sorts_in, trees_in};
 ghost use Rattle.sm_theory.specs.Views.{IsLineWithin};
+ghost use Rattle.sm_proof.specs.Passing.{Progress};
+ghost use Rattle.sm_check.specs.Checkers.{HasFacts};
+ghost use Rattle.sm_check.specs.Walks.{Walks};
 
 use crate::due::facts_on;
 use crate::fault::LineFault;
@@ -39,7 +42,9 @@ impl<'a> Walk<'a> {
     }
 
     /// How many facts the branch has that is due.
-    pub(crate) fn facts(&self) -> u64 {
+    pub(crate) fn facts(&self) -> u64
+        ensures { (p : Progress) → Walks self.now p → HasFacts p.pending result }
+    {
         facts_on(&self.path) as u64
     }
 

@@ -4,8 +4,8 @@ use Rattle.std.proofs.Common.{subst, ◌∙◌}
 use Rattle.std.specs.declared.alloc.AllocError.{AllocError}
 use Rattle.sm_io.specs.Causes.{HasCause, Rose}
 use Rattle.sm_io.specs.Files.{Known, emptied, longer}
-use Rattle.sm_proof.specs.Verdicts.{Passes}
-use Rattle.sm_prune.specs.UsedLines.{HasNamedLines}
+use Rattle.sm_proof.specs.Verdicts.{Passes, subject_of}
+use Rattle.sm_prune.specs.UsedLines.{HasUsedLines}
 use Rattle.sm_syntax.specs.text.Parts.{Parts}
 use Rattle.sm_write.specs.Versions.{HasVersion}
 use Rattle.sm_answers.specs.Status.{Says}
@@ -33,18 +33,18 @@ leaves_proof file s before now (inr h) = inr (h.0, h.1, left_proof h.0 s before 
 
 -- once the trimmed proof was to be written, the answer tells how many lines it has
 pub put_told : (t : Parts) (bytes lean : List ℕ) (s : Status) (l : List ℕ) (old new : Known) (Q : Type 0) (r : Result Reply AllocError) →
-    Passes t lean → HasVersion t lean → HasNamedLines lean → l ≡ trimmed_line (line_count bytes) (line_count lean) →
+    Passes t lean → HasVersion t lean → HasUsedLines (subject_of t) lean → l ≡ trimmed_line (line_count bytes) (line_count lean) →
     IfOk r (λ (u : Reply). (Says s l u.status u.text.items × (new ≡ longer (emptied old) lean))
     ⊎ (Says WriteFault (codes "WriteFault\n") u.status u.text.items × Q)) →
     IfOk r (λ (u : Reply). u.status ≡ Accepted → TellsTrimmed t u.text.items old new)
-put_told t bytes lean s l old new Q (Ok u) passes dated named is (inl h) = λ e. record {
-  held = record { proof = lean; passes = passes; version = dated; named = named; holds = h.1 };
+put_told t bytes lean s l old new Q (Ok u) passes dated used is (inl h) = λ e. record {
+  held = record { proof = lean; passes = passes; version = dated; used = used; holds = h.1 };
   lines = line_count bytes;
   told = h.0.printed ∙ is;
 }
-put_told t bytes lean s l old new Q (Ok u) passes dated named is (inr h) =
+put_told t bytes lean s l old new Q (Ok u) passes dated used is (inr h) =
     λ e. absurd (let both : WriteFault ≡ Accepted = sym h.0.ended ∙ e in cc)
-put_told t bytes lean s l old new Q (Err error) passes dated named is h = tt
+put_told t bytes lean s l old new Q (Err error) passes dated used is h = tt
 
 -- ---- one task
 

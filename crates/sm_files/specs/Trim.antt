@@ -4,7 +4,7 @@ use Rattle.sm_io.specs.Files.{Known, absent, WhereHeld, emptied, longer}
 use Rattle.sm_io.specs.Reads.{Read, ReadsWhole}
 use Rattle.sm_proof.specs.Verdicts.{Pass, Rejected, Passes, lines_in, subject_of, verdict}
 use Rattle.sm_proof.specs.declared.word.Word.{Word}
-use Rattle.sm_prune.specs.UsedLines.{HasNamedLines}
+use Rattle.sm_prune.specs.UsedLines.{HasUsedLines}
 use Rattle.sm_syntax.specs.text.Parts.{Parts}
 use Rattle.sm_write.specs.Versions.{HasVersion}
 use Rattle.sm_answers.specs.File.{FailsToRead, GivesNoTask, GivesTask}
@@ -60,12 +60,12 @@ pub record RejectsBytes (t : Parts) (bytes : List ℕ) (status : Status) (text :
   pub judged : verdict (subject_of t) bytes ≡ Rejected number word
   pub says : Says Refused (rejected_line number word) status text
 
--- a proof that passes was trimmed: another passes, each line of which that makes a term or a formula
--- is named by a later one, and the counts of lines of both are told
+-- a proof that passes was trimmed: another passes, each line of which is used, and the counts of lines
+-- of both are told
 pub record TrimsBytes (t : Parts) (bytes : List ℕ) (status : Status) (text : List ℕ) : Type 0 where
   pub lean : List ℕ
   pub passes : Passes t lean
-  pub named : HasNamedLines lean
+  pub used : HasUsedLines (subject_of t) lean
   pub says : Says Accepted (trimmed_line (line_count bytes) (line_count lean)) status text
 
 -- what is answered to bytes that pass: they are trimmed, or no trimmed ones were made, or these
@@ -107,12 +107,12 @@ Trims file proof before now status text =
     GivesNoTask file before now status text ⊎ TrimsTask file proof before now status text
 
 -- the file was emptied, and has the bytes of a proof as `check` leaves one for the task, each line of
--- which that makes a term or a formula is named by a later one
+-- which is used
 pub record HoldsTrimmed (t : Parts) (before now : Known) : Type 0 where
   pub proof : List ℕ
   pub passes : Passes t proof
   pub version : HasVersion t proof
-  pub named : HasNamedLines proof
+  pub used : HasUsedLines (subject_of t) proof
   pub holds : now ≡ longer (emptied before) proof
 
 -- the file holds such a proof, and the text tells how many lines that has

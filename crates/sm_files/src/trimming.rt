@@ -3,8 +3,8 @@ ghost use Rattle.std.specs.Prelude.{◌≡◌, ◌≢◌, ◌==◌, ℕ, List, I
 ghost use Rattle.std.specs.Prelude.{count_by};
 ghost use Rattle.sm_io.specs.Causes.{HasCause};
 ghost use Rattle.sm_io.specs.Reads.{ReadsWhole};
-ghost use Rattle.sm_proof.specs.Verdicts.{Passes};
-ghost use Rattle.sm_prune.specs.UsedLines.{HasNamedLines};
+ghost use Rattle.sm_proof.specs.Verdicts.{Passes, subject_of};
+ghost use Rattle.sm_prune.specs.UsedLines.{HasUsedLines};
 ghost use Rattle.sm_task.specs.Tasks.{parts_of};
 ghost use Rattle.sm_write.specs.Versions.{HasVersion};
 ghost use Rattle.sm_answers.specs.Exit.{ExitsWith};
@@ -25,6 +25,7 @@ use sm_io::{ReadError, Shelf, read_all};
 use sm_load::load_bytes;
 use sm_task::Task;
 use sm_trim::trim_tree;
+use sm_used::has_used_lines;
 use sm_words::line;
 use std::alloc::{AllocError, Global};
 
@@ -213,13 +214,14 @@ fn trimmed_trees(
 }
 
 // The proof without lines that nobody uses, of the bytes of one that passes for the task. It is none
-// only where what they say can't be written again.
+// only where what they say can't be written again, or a line of what is written isn't used.
 fn lean_proof(alloc: Global, task: &Task, bytes: &[u8]) -> Result<Option<Vec<u8>>, AllocError>
     requires { IsCheckable (parts_of task.now) }
     ensures passes { IfOk result (λ o. IfSome o (λ text. Passes (parts_of task.now) text.items)) }
     ensures version { IfOk result (λ o.
         IfSome o (λ text. HasVersion (parts_of task.now) text.items)) }
-    ensures named { IfOk result (λ o. IfSome o (λ text. HasNamedLines text.items)) }
+    ensures used { IfOk result (λ o. IfSome o (λ text.
+        HasUsedLines (subject_of (parts_of task.now)) text.items)) }
 {
     let loaded = match load_bytes(alloc, task, bytes)? {
         Some(loaded) => loaded,
@@ -233,5 +235,9 @@ fn lean_proof(alloc: Global, task: &Task, bytes: &[u8]) -> Result<Option<Vec<u8>
         return Ok(None);
     }
     let lean = sm_write::write_proof(alloc, &mut table, task, &plan, trees)?;
-    Ok(Some(lean))
+    if has_used_lines(alloc, task, &lean)? {
+        Ok(Some(lean))
+    } else {
+        Ok(None)
+    }
 }

@@ -3,8 +3,8 @@ use Rattle.std.proofs.Common.{◌≡◌, ◌∙◌, ◌⊎◌, ℕ, List, Option
 use Rattle.std.specs.Prelude.{Vec, codes}
 use Rattle.std.specs.declared.alloc.Global.{Global}
 use Rattle.sm_io.specs.Files.{emptied, longer}
-use Rattle.sm_proof.specs.Verdicts.{Passes}
-use Rattle.sm_prune.specs.UsedLines.{HasNamedLines}
+use Rattle.sm_proof.specs.Verdicts.{Passes, subject_of}
+use Rattle.sm_prune.specs.UsedLines.{HasUsedLines}
 use Rattle.sm_task.specs.Tasks.{parts_of}
 use Rattle.sm_write.specs.Versions.{HasVersion}
 use Rattle.sm_answers.specs.ProofFile.{IsBegun}
@@ -25,7 +25,7 @@ returns-in_ok-trimmed_line-in-Some-clause-tells g c =
     put_told t c.args.bytes.now lean Accepted line old new (IsBegun lean old new) r
     (subst (λ (o : Option (Vec ℕ Global)). IfSome o (λ v. Passes t v.items)) c.in-Some.is c.in_ok-lean.ensures.passes)
     (subst (λ (o : Option (Vec ℕ Global)). IfSome o (λ v. HasVersion t v.items)) c.in-Some.is c.in_ok-lean.ensures.version)
-    (subst (λ (o : Option (Vec ℕ Global)). IfSome o (λ v. HasNamedLines v.items)) c.in-Some.is c.in_ok-lean.ensures.named)
+    (subst (λ (o : Option (Vec ℕ Global)). IfSome o (λ v. HasUsedLines (subject_of t) v.items)) c.in-Some.is c.in_ok-lean.ensures.used)
     (c.in_ok-trimmed_line-in-Some.ensures
     ∙ ap (λ (text : List ℕ). trimmed_line (line_count c.args.bytes.now) (line_count text)) c.deref.ensures.value)
     (subst

@@ -1,0 +1,3 @@
+pub mod BranchLemmas
+pub mod UsedLemmas
+pub mod CountedLemmas
