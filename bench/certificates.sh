@@ -2,11 +2,11 @@
 # Puts many terms into a table, and checks certificates of many lines: equations that are chained, sums of linear forms
 # of 3 parts without one of them, and a balanced tree of splits. Of each it shows three sizes, with seconds, how many
 # go in a second, and KiB of memory. The program makes what is measured by itself, so reading isn't measured; small
-# sizes run several times. Run it at the top, after `rt run` in crates/lines.
+# sizes run several times. Run it at the top, after `rt run` in crates/calls.
 #
 # bench/certificates.sh [PROGRAM]
 set -eu
-program=${1:-crates/lines/out/lines}
+program=${1:-crates/calls/out/calls}
 place=$(mktemp -d)
 trap 'rm -rf "$place"' EXIT
 

@@ -23,7 +23,7 @@ exact.py steps [PROGRAM]
   Systems that need 1,000,000 steps or nest deep: seconds of the processor, KiB of memory and of
   stack, where a stack may have 2 MiB.
 
-It ends with 1 where an answer is wrong. Run it at the top, after `rt run` in crates/lines.
+It ends with 1 where an answer is wrong. Run it at the top, after `rt run` in crates/calls.
 """
 import itertools
 import os
@@ -35,7 +35,7 @@ import sys
 import tempfile
 
 STEPS = 1000000
-PROGRAM = "crates/lines/out/lines"
+PROGRAM = "crates/calls/out/calls"
 # what each solver gets in front of the systems: none may take over 10 seconds for one of them
 SOLVERS = {"z3": (["z3"], "(set-option :timeout 10000)\n"),
            "cvc5": (["cvc5", "--incremental", "--tlimit-per=10000"], "")}

@@ -56,7 +56,7 @@ class Obligation:
         self.smt.append("(assert %s)" % self.smt_of(op, t, u))
 
     def either(self, first, second):
-        self.lines.append("fact or %s %d %d %s %d %d" % (first + second))
+        self.lines.append("fact or %s %d %d, %s %d %d" % (first + second))
         self.smt.append("(assert (or %s %s))" % (self.smt_of(*first), self.smt_of(*second)))
 
     def target(self, op, t, u):

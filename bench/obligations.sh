@@ -1,11 +1,11 @@
 #!/bin/sh
 # Answers obligations of 100, 1,000 and 10,000 facts, written by obligations.py, and such as are split 1,000 times, and shows
 # seconds and KiB of memory, beside the seconds of z3 and of cvc5 where these are installed, one process each. Then it
-# answers 20,000 random ones, written and judged by random_obligations.py. Run it at the top, after `rt run` in crates/lines.
+# answers 20,000 random ones, written and judged by random_obligations.py. Run it at the top, after `rt run` in crates/calls.
 #
 # bench/obligations.sh [PROGRAM [SIZES]]
 set -eu
-program=${1:-crates/lines/out/lines}
+program=${1:-crates/calls/out/calls}
 sizes=${2:-100 1000 10000}
 here=$(dirname "$0")
 place=$(mktemp -d)

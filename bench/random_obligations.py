@@ -63,7 +63,7 @@ def made(draw):
     left = draw.randrange(1, 6)
     while left > 0:
         if left > 1 and draw.random() < 0.3:
-            lines.append("fact %s %s %s" % (draw.choice(["and", "or"]), comparison(), comparison()))
+            lines.append("fact %s %s, %s" % (draw.choice(["and", "or"]), comparison(), comparison()))
             left -= 2
         else:
             lines.append("fact " + comparison())

@@ -1,1 +1,6 @@
+mod DeclaredLemmas
+mod FormulasLemmas
+mod GrowthLemmas
+mod SortedNames
 mod SpelledTasks
+mod WithinLemmas

@@ -17,9 +17,9 @@ const MOST_PIECES: u64 = 1000;
 pub fn file_answer<R: Files + AllocGlobal>(
     rt: &R,
     shelf: &mut FileShelf<'_, R>,
-    word: &str,
     text: &str,
 ) -> Result<String> {
+    let (word, text) = two(text)?;
     match word {
         "start" => shelf.start(text)?,
         "remove" => fs::remove_file(rt, text)?,

@@ -1,19 +1,18 @@
-// Texts of programs, heads, blocks, copies and lines.
-ghost use Rattle.std.specs.Prelude.{◌<◌, length};
+// Texts of programs, heads and blocks, and lines of proofs.
+ghost use Rattle.std.specs.Prelude.{length};
 ghost use Rattle.sm_syntax.specs.trees.Views.{code_of, condition_of};
 ghost use Rattle.sm_text.specs.Tasks.{program_parts};
 ghost use Rattle.sm_text.specs.parsing.Fragments.{IsNamedProgram};
 ghost use Rattle.sm_text.specs.parsing.Prefix.{AreTokensOf};
 ghost use Rattle.sm_text.specs.printing.Named.{IsTestedIn, IsUsedIn};
 
-use crate::word::{bytes_of, copy_of, natural, two, with_line_feeds};
+use crate::word::{bytes_of, natural, two, with_line_feeds};
 use anyhow::Result;
 use sm_proof::read_line;
 use sm_syntax::{Block, Cond, Name, NameTable, Program, depth, nodes, well_formed};
-use sm_task::{fill, parse_task};
 use sm_text::{
-    Task, Tokens, names, parse_block, parse_head, parse_program, print_block, print_cond,
-    print_program, tokens,
+    Tokens, names, parse_block, parse_head, parse_program, print_block, print_cond, print_program,
+    tokens,
 };
 use std::alloc::Global;
 
@@ -104,24 +103,8 @@ pub fn names_answer(alloc: Global, text: &str) -> Result<String> {
     Ok(out)
 }
 
-/// The statements of a copy of a task.
-pub fn fill_answer(alloc: Global, text: &str) -> Result<String> {
-    let (copy, text) = two(text)?;
-    let copy = copy_of(copy)?;
-    let task = parse_task(alloc, bytes_of(text)?)?;
-    filled(alloc, &task, copy)
-}
-
-// The statements of a copy.
-fn filled(alloc: Global, task: &Task, copy: u8) -> Result<String>
-    requires { copy < 4 }
-{
-    let program = fill(alloc, task, copy)?;
-    Ok(format!(in alloc; "{:?}", program.body.list)?)
-}
-
 /// The first line of a proof, and its size.
-pub fn line_answer(alloc: Global, text: &str) -> Result<String> {
+pub fn first_answer(alloc: Global, text: &str) -> Result<String> {
     let bytes = with_line_feeds(alloc, text)?;
     let (line, size) = read_line(alloc, &bytes)?;
     Ok(format!(in alloc; "{line:?} {size}")?)

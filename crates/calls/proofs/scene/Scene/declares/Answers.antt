@@ -1,0 +1,11 @@
+-- The table has the sorts of the declared names.
+use Rattle.std.proofs.Common.{sym, subst}
+use Rattle.std.specs.Bool.{OnTrue}
+use Rattle.sm_syntax.specs.text.Sorts.{Sorts}
+use Rattle.sm_term.specs.Sorted.{IsDeclaredIn}
+use Rattle.calls.proofs.scene.Scene.declares.Goals as goal
+
+pub returns : goal.returns
+returns c =
+    subst (λ (sorts : Sorts). OnTrue c.is_declared.result (IsDeclaredIn sorts c.args.name.0))
+    (sym c.args.self.now.declared) c.is_declared.ensures

@@ -1,0 +1,12 @@
+-- The formulas so far are over terms of the table, of the sorts that they need.
+use Rattle.std.proofs.Common.{length}
+use Rattle.sm_term.specs.Sorted.{AreFormsSorted}
+use Rattle.sm_term.specs.Tables.{trees_in, sorts_in}
+use Rattle.sm_list.specs.Parts.{all_numbered, assertions_in, AreFormulasWithin}
+use Rattle.calls.proofs.solving.formulas.Given as goal
+
+abbrev pub invariant-loop-fact : goal.invariant-loop-fact
+invariant-loop-fact l =
+    AreFormulasWithin (length (trees_in l.scene.table)) (all_numbered l.list.items)
+    × AreFormsSorted (sorts_in l.scene.table)
+    (assertions_in (sorts_in l.scene.table) (trees_in l.scene.table) (all_numbered l.list.items))

@@ -1,0 +1,118 @@
+// Expressions and conditions of programs, and their terms and formulas from the start of each name.
+ghost use Rattle.std.specs.Bool.{OnTrue};
+ghost use Rattle.sm_syntax.specs.text.Sorts.{IsAsDeclared};
+ghost use Rattle.sm_syntax.specs.text.Sorts.{IsWellSortedExpression, IsWellSortedCondition};
+ghost use Rattle.sm_syntax.specs.trees.Views.{expression_of, condition_of};
+ghost use Rattle.sm_term.specs.Tables.{sorts_in};
+ghost use Rattle.sm_text.specs.parsing.Prefix.{AreTokensOf};
+
+use crate::fact::formula_words;
+use crate::refusal::Refusal;
+use crate::scene::Scene;
+use sm_syntax::{Block, Cond, Expr, Name, NameTable, Sort, Stmt};
+use sm_term::{SymStore, form_of, term_of};
+use sm_text::{Tokens, parse_block, tokens};
+use sm_theory::Fact;
+use std::alloc::Global;
+
+// The greatest number of names that a text may use.
+const MOST_NAMES: usize = 100;
+
+/// The number of the term of an expression, which is put into the table.
+pub fn expression_answer(alloc: Global, scene: &mut Scene, text: &str) -> Result<String, Refusal> {
+    let compared = format!(in alloc; "{text} == 0")?;
+    let Cond::Cmp(_, e, _) = read_condition(alloc, scene, &compared)? else {
+        return Err(Refusal::Bad);
+    };
+    if !is_expression_sorted(scene, &e) {
+        return Err(Refusal::Bad);
+    }
+    let starts = SymStore {
+        list: Vec::new(alloc),
+    };
+    let id = term_of(&mut scene.table, &e, &starts)?;
+    Ok(format!(in alloc; "{}", id.0)?)
+}
+
+/// The words of the formula of a condition, which is put on the branch.
+pub fn condition_answer(alloc: Global, scene: &mut Scene, text: &str) -> Result<String, Refusal> {
+    let c = read_condition(alloc, scene, text)?;
+    if !is_condition_sorted(scene, &c) {
+        return Err(Refusal::Bad);
+    }
+    let starts = SymStore {
+        list: Vec::new(alloc),
+    };
+    let f = form_of(alloc, &mut scene.table, &c, &starts)?;
+    let text = formula_words(alloc, &f)?;
+    scene.branch.list.push(Fact::Form(f))?;
+    Ok(text)
+}
+
+// The condition of a text, in which the names are `x0`, `x1` and so on.
+fn read_condition(alloc: Global, scene: &Scene, text: &str) -> Result<Cond, Refusal> {
+    let mut names = NameTable::new(alloc);
+    for number in 0..scene.decls.list.len() {
+        if names.len() >= MOST_NAMES {
+            return Err(Refusal::Bad);
+        }
+        names.add(&format!(in alloc; "x{number}")?)?;
+    }
+    let loop_text = format!(in alloc; "{{ while ({text}) {{ }} }}")?;
+    let cut = tokens(alloc, loop_text.as_bytes())?;
+    let mut block = read_block(alloc, loop_text.as_bytes(), &cut, &mut names)?;
+    match block.list.pop() {
+        Some(Stmt::While(c, _)) => Ok(c),
+        _ => Err(Refusal::Bad),
+    }
+}
+
+// The block of tokens.
+fn read_block(
+    alloc: Global,
+    bytes: &[u8],
+    cut: &Tokens,
+    names: &mut NameTable,
+) -> Result<Block, Refusal>
+    requires { AreTokensOf bytes.now cut.now }
+{
+    let (block, _) = parse_block(alloc, bytes, cut, 0, 0, names)?;
+    Ok(block)
+}
+
+// Whether each name of an expression stands as it is declared.
+fn is_expression_sorted(scene: &Scene, e: &Expr) -> bool
+    ensures { let sorts = sorts_in scene.now.table in
+        OnTrue result (IsWellSortedExpression sorts (expression_of e.now)) }
+{
+    match e {
+        Expr::Num(_) => true,
+        Expr::Var(x) => stands(scene, *x, Sort::Num),
+        Expr::Read(a, i) => stands(scene, *a, Sort::Arr) && is_expression_sorted(scene, i),
+        Expr::Neg(d) => is_expression_sorted(scene, d),
+        Expr::Add(d, f) => is_expression_sorted(scene, d) && is_expression_sorted(scene, f),
+        Expr::Sub(d, f) => is_expression_sorted(scene, d) && is_expression_sorted(scene, f),
+        Expr::Mul(d, f) => is_expression_sorted(scene, d) && is_expression_sorted(scene, f),
+    }
+}
+
+// Whether each name of a condition stands as it is declared.
+fn is_condition_sorted(scene: &Scene, c: &Cond) -> bool
+    ensures { let sorts = sorts_in scene.now.table in
+        OnTrue result (IsWellSortedCondition sorts (condition_of c.now)) }
+{
+    match c {
+        Cond::Yes | Cond::No => true,
+        Cond::Cmp(_, d, e) => is_expression_sorted(scene, d) && is_expression_sorted(scene, e),
+        Cond::Not(b) => is_condition_sorted(scene, b),
+        Cond::And(b, d) => is_condition_sorted(scene, b) && is_condition_sorted(scene, d),
+        Cond::Or(b, d) => is_condition_sorted(scene, b) && is_condition_sorted(scene, d),
+    }
+}
+
+// Whether a name is declared with a sort.
+fn stands(scene: &Scene, x: Name, sort: Sort) -> bool
+    ensures { OnTrue result (IsAsDeclared (sorts_in scene.now.table) x.0 sort) }
+{
+    scene.declares(x) && scene.table.sort_named(x) == sort
+}

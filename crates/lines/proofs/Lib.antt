@@ -1,5 +1,0 @@
-mod DeclaredLemmas
-mod GrowthLemmas
-mod SortedNames
-mod WithinLemmas
-pub mod FormulasLemmas
