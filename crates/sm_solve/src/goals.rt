@@ -22,7 +22,7 @@ use crate::first::walk_over;
 use crate::goal_end::GoalEnd;
 use crate::node::{Node, is_conjunction};
 use crate::reach::Reach;
-use crate::still_inconsistent::inconsistent_tree;
+use crate::still_inconsistent::{GoalBranch, inconsistent_tree};
 use sm_cert::CertTree;
 use sm_judge::add_linear_forms;
 use sm_list::add_parts;
@@ -118,16 +118,15 @@ impl Node {
             OnOk result (IsAtGoal table given contrary self.new) }
     {
         match &self.inconsistent {
-            Some(inconsistent) => inconsistent_tree(
-                alloc,
-                inconsistent,
-                &mut self.base,
-                &self.terms.own,
-                &self.forms,
-                &self.facts,
-                self.place,
-                reach,
-            ),
+            Some(inconsistent) => {
+                let branch = GoalBranch {
+                    table: &self.terms.own,
+                    forms: &self.forms,
+                    facts: &self.facts,
+                    place: self.place,
+                };
+                inconsistent_tree(alloc, inconsistent, &mut self.base, &branch, reach)
+            }
             None => Ok(None),
         }
     }

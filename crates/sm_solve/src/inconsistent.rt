@@ -29,6 +29,7 @@ ghost use Rattle.sm_solve.specs.Inconsistent.{IsInconsistent, IsInconsistentBy};
 ghost use Rattle.sm_judge.specs.Forms.{Walked, Closes, forms_of, by_forms};
 ghost use Rattle.sm_solve.specs.Walking.{ClosesIn, ShowsVisit, ShowsEnd};
 
+use crate::context::WalkContext;
 use crate::ending::{WalkEnd, led_end};
 use crate::reach::Reach;
 use crate::reading::names_what_it_reads;
@@ -144,7 +145,13 @@ fn found(
                 steps,
                 exact: false,
             };
-            let visit = visit_classes(alloc, &classes, table, forms, terms, facts, reach, 1)?;
+            let cx = WalkContext {
+                table,
+                forms,
+                terms,
+                reach,
+            };
+            let visit = visit_classes(alloc, &classes, &cx, facts, 1)?;
             match visited_tree(alloc, facts, visit)? {
                 Some(tree) => {
                     if names_what_it_reads(&tree) {

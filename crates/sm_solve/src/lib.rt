@@ -22,6 +22,7 @@
 #![tactic(auto)]
 
 mod branching;
+mod context;
 mod deciding;
 mod ending;
 mod first;

@@ -21,14 +21,14 @@ ghost use Rattle.sm_solve.specs.Naming.{AreNamed};
 ghost use Rattle.sm_solve.specs.Walk.{by_classes, by_no_split, by_parts};
 ghost use Rattle.sm_solve.specs.Walking.{TellsVisit, ShowsVisit, IsVisitCounted};
 
+use crate::context::WalkContext;
 use crate::deciding::{Decision, decide_forms};
-use crate::reach::Reach;
 use sm_cc::Classes;
 use sm_cert::CertTree;
 use sm_certify::{Base, closing_tree, exact_tree, refutation_tree};
 use sm_judge::{BranchSplit, ByForms, by_forms, closed_by, split_of};
-use sm_num::{LinForm, Op};
-use sm_term::{Formula, TermTable, Terms};
+use sm_num::Op;
+use sm_term::Formula;
 use std::alloc::{AllocError, Global};
 
 // What the visit of a branch comes to.
@@ -51,82 +51,84 @@ pub(crate) enum Visit {
 pub(crate) fn visit_branch(
     alloc: Global,
     base: &mut Base,
-    table: &TermTable,
-    forms: &[LinForm],
-    terms: &Terms,
+    cx: &WalkContext<'_>,
     facts: &[Formula],
-    reach: Reach,
     count: u64,
 ) -> Result<Visit, AllocError>
-    requires forms { AreAllForms (trees_in table.now) forms.now }
-    requires whole { IsWhole (trees_in table.now) terms.now.list.items }
-    requires within { AreFormulasWithin (length (trees_in table.now)) (all_numbered facts.now) }
-    requires sorted { AreFormsSorted (sorts_in table.now)
-        (assertions_in (sorts_in table.now) (trees_in table.now) (all_numbered facts.now)) }
-    requires counted { count ≤ reach.steps }
+    requires forms { AreAllForms (trees_in cx.now.table.now) cx.now.forms.now }
+    requires whole { IsWhole (trees_in cx.now.table.now) cx.now.terms.now.list.items }
+    requires within { let count = length (trees_in cx.now.table.now) in
+        AreFormulasWithin count (all_numbered facts.now) }
+    requires sorted { let table = cx.now.table.now in AreFormsSorted (sorts_in table)
+        (assertions_in (sorts_in table) (trees_in table) (all_numbered facts.now)) }
+    requires counted { count ≤ cx.now.reach.steps }
     requires led { (v : ClassesValue) × IsFrom v base.old
-        × IsLedBy v (classes_by table.now terms.now.list.items facts.now) }
-    requires named { let sorts = sorts_in table.now in let trees = trees_in table.now in
+        × IsLedBy v (classes_by cx.now.table.now cx.now.terms.now.list.items facts.now) }
+    requires named { let table = cx.now.table.now in
+        let sorts = sorts_in table in let trees = trees_in table in
         AreNamed trees (assertions_in sorts trees (all_numbered facts.now)) }
-    ensures tells { let sorts = sorts_in table.now in let trees = trees_in table.now in
+    ensures tells { let table = cx.now.table.now in
+        let sorts = sorts_in table in let trees = trees_in table in
         let all = assertions_in sorts trees (all_numbered facts.now) in
         (go : ℕ → List Assertion → Walked) → IfOk result (λ v. TellsVisit sorts trees all go v
-        (by_classes go reach (branch_of table.now facts.now) count)) }
-    ensures shows { let sorts = sorts_in table.now in let trees = trees_in table.now in
+        (by_classes go cx.now.reach (branch_of table facts.now) count)) }
+    ensures shows { let table = cx.now.table.now in
+        let sorts = sorts_in table in let trees = trees_in table in
         let all = assertions_in sorts trees (all_numbered facts.now) in
         IfOk result (ShowsVisit sorts trees all) }
-    ensures counted { IfOk result (IsVisitCounted reach.steps) }
+    ensures counted { IfOk result (IsVisitCounted cx.now.reach.steps) }
     ensures stays { (v : ClassesValue) → IsFrom v base.old → IsFrom v base.new }
 {
-    let classes = base.classes(alloc, table, forms, terms, facts)?;
-    visit_classes(alloc, &classes, table, forms, terms, facts, reach, count)
+    let classes = base.classes(alloc, cx.table, cx.forms, cx.terms, facts)?;
+    visit_classes(alloc, &classes, cx, facts, count)
 }
 
 // Visits a branch by its classes.
 pub(crate) fn visit_classes<'a>(
     alloc: Global,
     classes: &Classes<'a>,
-    table: &TermTable,
-    forms: &[LinForm],
-    terms: &Terms,
+    cx: &WalkContext<'_>,
     facts: &[Formula],
-    reach: Reach,
     count: u64,
 ) -> Result<Visit, AllocError>
-    requires forms { AreAllForms (trees_in table.now) forms.now }
-    requires whole { IsWhole (trees_in table.now) terms.now.list.items }
-    requires classes { classes.now ≡ classes_by table.now terms.now.list.items facts.now }
-    requires seen { seen_in (sorts_in table.now) (trees_in table.now) (trees_in table.now) facts.now
+    requires forms { AreAllForms (trees_in cx.now.table.now) cx.now.forms.now }
+    requires whole { IsWhole (trees_in cx.now.table.now) cx.now.terms.now.list.items }
+    requires classes { let ids = cx.now.terms.now.list.items in
+        classes.now ≡ classes_by cx.now.table.now ids facts.now }
+    requires seen { let table = cx.now.table.now in
+        seen_in (sorts_in table) (trees_in table) (trees_in table) facts.now
         (are_equal (setting_of classes.now))
         (are_apart (setting_of classes.now) (are_equal (setting_of classes.now)))
-        ≡ branch_of table.now facts.now }
-    requires within { AreFormulasWithin (length (trees_in table.now)) (all_numbered facts.now) }
-    requires sorted { AreFormsSorted (sorts_in table.now)
-        (assertions_in (sorts_in table.now) (trees_in table.now) (all_numbered facts.now)) }
-    requires counted { count ≤ reach.steps }
-    requires named { let sorts = sorts_in table.now in let trees = trees_in table.now in
+        ≡ branch_of table facts.now }
+    requires within { let count = length (trees_in cx.now.table.now) in
+        AreFormulasWithin count (all_numbered facts.now) }
+    requires sorted { let table = cx.now.table.now in AreFormsSorted (sorts_in table)
+        (assertions_in (sorts_in table) (trees_in table) (all_numbered facts.now)) }
+    requires counted { count ≤ cx.now.reach.steps }
+    requires named { let table = cx.now.table.now in
+        let sorts = sorts_in table in let trees = trees_in table in
         AreNamed trees (assertions_in sorts trees (all_numbered facts.now)) }
-    ensures tells { let sorts = sorts_in table.now in let trees = trees_in table.now in
+    ensures tells { let table = cx.now.table.now in
+        let sorts = sorts_in table in let trees = trees_in table in
         let all = assertions_in sorts trees (all_numbered facts.now) in
         (go : ℕ → List Assertion → Walked) → IfOk result (λ v. TellsVisit sorts trees all go v
-        (by_classes go reach (branch_of table.now facts.now) count)) }
-    ensures shows { let sorts = sorts_in table.now in let trees = trees_in table.now in
+        (by_classes go cx.now.reach (branch_of table facts.now) count)) }
+    ensures shows { let table = cx.now.table.now in
+        let sorts = sorts_in table in let trees = trees_in table in
         let all = assertions_in sorts trees (all_numbered facts.now) in
         IfOk result (ShowsVisit sorts trees all) }
-    ensures counted { IfOk result (IsVisitCounted reach.steps) }
+    ensures counted { IfOk result (IsVisitCounted cx.now.reach.steps) }
 {
     if !are_few(facts) {
         return Err(AllocError);
     }
     let labels = classes.labels(alloc)?;
-    match closed_by(alloc, classes, &labels, table, forms, facts)? {
+    match closed_by(alloc, classes, &labels, cx.table, cx.forms, facts)? {
         Some(why) => {
-            let tree = closing_tree(alloc, classes, table, terms, facts, why)?;
+            let tree = closing_tree(alloc, classes, cx.table, cx.terms, facts, why)?;
             Ok(Visit::Closed { count, tree })
         }
-        None => visit_forms(
-            alloc, classes, &labels, table, forms, terms, facts, reach, count,
-        ),
+        None => visit_forms(alloc, classes, &labels, cx, facts, count),
     }
 }
 
@@ -142,60 +144,61 @@ fn visit_forms<'a>(
     alloc: Global,
     classes: &Classes<'a>,
     labels: &[u64],
-    table: &TermTable,
-    forms: &[LinForm],
-    terms: &Terms,
+    cx: &WalkContext<'_>,
     facts: &[Formula],
-    reach: Reach,
     count: u64,
 ) -> Result<Visit, AllocError>
-    requires forms { AreAllForms (trees_in table.now) forms.now }
-    requires whole { IsWhole (trees_in table.now) terms.now.list.items }
-    requires classes { classes.now ≡ classes_by table.now terms.now.list.items facts.now }
-    requires seen { seen_in (sorts_in table.now) (trees_in table.now) (trees_in table.now) facts.now
+    requires forms { AreAllForms (trees_in cx.now.table.now) cx.now.forms.now }
+    requires whole { IsWhole (trees_in cx.now.table.now) cx.now.terms.now.list.items }
+    requires classes { let ids = cx.now.terms.now.list.items in
+        classes.now ≡ classes_by cx.now.table.now ids facts.now }
+    requires seen { let table = cx.now.table.now in
+        seen_in (sorts_in table) (trees_in table) (trees_in table) facts.now
         (are_equal (setting_of classes.now))
         (are_apart (setting_of classes.now) (are_equal (setting_of classes.now)))
-        ≡ branch_of table.now facts.now }
+        ≡ branch_of table facts.now }
     requires labels { let equal = are_equal (setting_of classes.now) in
-        AreLabels (trees_in table.now) equal labels.now }
-    requires within { AreFormulasWithin (length (trees_in table.now)) (all_numbered facts.now) }
-    requires sorted { AreFormsSorted (sorts_in table.now)
-        (assertions_in (sorts_in table.now) (trees_in table.now) (all_numbered facts.now)) }
+        AreLabels (trees_in cx.now.table.now) equal labels.now }
+    requires within { let count = length (trees_in cx.now.table.now) in
+        AreFormulasWithin count (all_numbered facts.now) }
+    requires sorted { let table = cx.now.table.now in AreFormsSorted (sorts_in table)
+        (assertions_in (sorts_in table) (trees_in table) (all_numbered facts.now)) }
     requires few { length facts.now < 2 ^ 62 }
-    requires counted { count ≤ reach.steps }
-    requires named { let sorts = sorts_in table.now in let trees = trees_in table.now in
+    requires counted { count ≤ cx.now.reach.steps }
+    requires named { let table = cx.now.table.now in
+        let sorts = sorts_in table in let trees = trees_in table in
         AreNamed trees (assertions_in sorts trees (all_numbered facts.now)) }
-    ensures tells { let sorts = sorts_in table.now in let trees = trees_in table.now in
+    ensures tells { let table = cx.now.table.now in
+        let sorts = sorts_in table in let trees = trees_in table in
         let all = assertions_in sorts trees (all_numbered facts.now) in
-        let b = branch_of table.now facts.now in
+        let b = branch_of table facts.now in
         (go : ℕ → List Assertion → Walked) → IfOk result (λ v. TellsVisit sorts trees all go v
-        (by_forms reach.steps count (length trees) (forms_of b)
-        (by_parts go (by_no_split reach b) all (split_of b)))) }
-    ensures shows { let sorts = sorts_in table.now in let trees = trees_in table.now in
+        (by_forms cx.now.reach.steps count (length trees) (forms_of b)
+        (by_parts go (by_no_split cx.now.reach b) all (split_of b)))) }
+    ensures shows { let table = cx.now.table.now in
+        let sorts = sorts_in table in let trees = trees_in table in
         let all = assertions_in sorts trees (all_numbered facts.now) in
         IfOk result (ShowsVisit sorts trees all) }
-    ensures counted { IfOk result (IsVisitCounted reach.steps) }
+    ensures counted { IfOk result (IsVisitCounted cx.now.reach.steps) }
 {
     match by_forms(
         alloc,
         classes,
         labels,
-        table,
-        forms,
+        cx.table,
+        cx.forms,
         facts,
-        reach.steps,
+        cx.reach.steps,
         count,
     )? {
         ByForms::Contradiction {
             count: at,
             refutation,
         } => {
-            let tree = refutation_tree(alloc, classes, table, terms, facts, &refutation)?;
+            let tree = refutation_tree(alloc, classes, cx.table, cx.terms, facts, &refutation)?;
             Ok(Visit::Closed { count: at, tree })
         }
-        ByForms::GoesOn { count: at } => visit_split(
-            alloc, classes, table, forms, terms, facts, reach, at,
-        ),
+        ByForms::GoesOn { count: at } => visit_split(alloc, classes, cx, facts, at),
         ByForms::Steps => Ok(Visit::Steps),
         ByForms::Coefficient { op, a, b } => Ok(Visit::Coefficient { op, a, b }),
     }
@@ -205,50 +208,55 @@ fn visit_forms<'a>(
 fn visit_split<'a>(
     alloc: Global,
     classes: &Classes<'a>,
-    table: &TermTable,
-    forms: &[LinForm],
-    terms: &Terms,
+    cx: &WalkContext<'_>,
     facts: &[Formula],
-    reach: Reach,
     count: u64,
 ) -> Result<Visit, AllocError>
-    requires forms { AreAllForms (trees_in table.now) forms.now }
-    requires whole { IsWhole (trees_in table.now) terms.now.list.items }
-    requires classes { classes.now ≡ classes_by table.now terms.now.list.items facts.now }
-    requires seen { seen_in (sorts_in table.now) (trees_in table.now) (trees_in table.now) facts.now
+    requires forms { AreAllForms (trees_in cx.now.table.now) cx.now.forms.now }
+    requires whole { IsWhole (trees_in cx.now.table.now) cx.now.terms.now.list.items }
+    requires classes { let ids = cx.now.terms.now.list.items in
+        classes.now ≡ classes_by cx.now.table.now ids facts.now }
+    requires seen { let table = cx.now.table.now in
+        seen_in (sorts_in table) (trees_in table) (trees_in table) facts.now
         (are_equal (setting_of classes.now))
         (are_apart (setting_of classes.now) (are_equal (setting_of classes.now)))
-        ≡ branch_of table.now facts.now }
-    requires within { AreFormulasWithin (length (trees_in table.now)) (all_numbered facts.now) }
-    requires sorted { AreFormsSorted (sorts_in table.now)
-        (assertions_in (sorts_in table.now) (trees_in table.now) (all_numbered facts.now)) }
+        ≡ branch_of table facts.now }
+    requires within { let count = length (trees_in cx.now.table.now) in
+        AreFormulasWithin count (all_numbered facts.now) }
+    requires sorted { let table = cx.now.table.now in AreFormsSorted (sorts_in table)
+        (assertions_in (sorts_in table) (trees_in table) (all_numbered facts.now)) }
     requires few { length facts.now < 2 ^ 62 }
-    requires counted { count ≤ reach.steps }
-    requires named { let sorts = sorts_in table.now in let trees = trees_in table.now in
+    requires counted { count ≤ cx.now.reach.steps }
+    requires named { let table = cx.now.table.now in
+        let sorts = sorts_in table in let trees = trees_in table in
         AreNamed trees (assertions_in sorts trees (all_numbered facts.now)) }
-    ensures tells { let sorts = sorts_in table.now in let trees = trees_in table.now in
+    ensures tells { let table = cx.now.table.now in
+        let sorts = sorts_in table in let trees = trees_in table in
         let all = assertions_in sorts trees (all_numbered facts.now) in
-        let b = branch_of table.now facts.now in
+        let b = branch_of table facts.now in
         (go : ℕ → List Assertion → Walked) → IfOk result (λ v. TellsVisit sorts trees all go v
-        (by_parts go (by_no_split reach b) all (split_of b) count)) }
-    ensures shows { let sorts = sorts_in table.now in let trees = trees_in table.now in
+        (by_parts go (by_no_split cx.now.reach b) all (split_of b) count)) }
+    ensures shows { let table = cx.now.table.now in
+        let sorts = sorts_in table in let trees = trees_in table in
         let all = assertions_in sorts trees (all_numbered facts.now) in
         IfOk result (ShowsVisit sorts trees all) }
-    ensures counted { IfOk result (IsVisitCounted reach.steps) }
+    ensures counted { IfOk result (IsVisitCounted cx.now.reach.steps) }
 {
-    match split_of(alloc, classes, table, facts)? {
+    match split_of(alloc, classes, cx.table, facts)? {
         Some(split) => Ok(Visit::Split { count, split }),
         None => {
-            if !reach.exact {
+            if !cx.reach.exact {
                 return Ok(Visit::Open);
             }
-            let left = (reach.steps - count).min(1_000_000);
-            match decide_forms(alloc, classes, table, forms, facts, left)? {
+            let left = (cx.reach.steps - count).min(1_000_000);
+            match decide_forms(alloc, classes, cx.table, cx.forms, facts, left)? {
                 Decision::Refuted {
                     count: more,
                     sources,
                 } => {
-                    let tree = exact_tree(alloc, classes, table, terms, facts, &sources, more)?;
+                    let tree = exact_tree(
+                        alloc, classes, cx.table, cx.terms, facts, &sources, more,
+                    )?;
                     Ok(Visit::Closed {
                         count: count + more,
                         tree,

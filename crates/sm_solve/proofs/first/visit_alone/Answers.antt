@@ -5,7 +5,7 @@ use Rattle.sm_solve.proofs.first.visit_alone.Goals as goal
 
 pub visit_branch-requires-clause-led : goal.visit_branch-requires-clause-led
 visit_branch-requires-clause-led c = (
-  record { table = c.args.table.now; terms = []; given = [] },
+  record { table = c.args.cx.now.table.now; terms = []; given = [] },
   tt,
-  led_nothing c.args.table.now c.args.terms.now.list.items c.args.facts.now,
+  led_nothing c.args.cx.now.table.now c.args.cx.now.terms.now.list.items c.args.facts.now,
 )

@@ -6,6 +6,6 @@ use Rattle.sm_solve.proofs.first.walk_below.Goals as goal
 
 pub walk_on-requires-clause-led : goal.walk_on-requires-clause-led
 walk_on-requires-clause-led c =
-    let ids = c.args.terms.now.list.items in
-    let v = classes_by c.args.table.now ids c.as_slice.result.now in
-    (v, c.in_ok-base.ensures, led_same v c.args.table.now ids c.as_slice.result.now c.args.facts.now.items (sym c.as_slice.ensures.value) (led_alone v))
+    let ids = c.args.cx.now.terms.now.list.items in
+    let v = classes_by c.args.cx.now.table.now ids c.as_slice.result.now in
+    (v, c.in_ok-base.ensures, led_same v c.args.cx.now.table.now ids c.as_slice.result.now c.args.facts.now.items (sym c.as_slice.ensures.value) (led_alone v))

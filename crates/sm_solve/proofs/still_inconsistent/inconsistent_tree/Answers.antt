@@ -11,10 +11,10 @@ use Rattle.sm_solve.proofs.still_inconsistent.inconsistent_tree.Goals as goal
 
 pub returns-clause-tells : goal.returns-clause-tells
 returns-clause-tells c = λ first given is below.
-    let table = c.args.table.now in
+    let table = c.args.branch.now.table.now in
     let sorts = sorts_in table in
     let trees = trees_in table in
-    let all = assertions_in sorts trees (all_numbered c.args.facts.now) in
+    let all = assertions_in sorts trees (all_numbered c.args.branch.now.facts.now) in
     let reach = c.args.reach in
     let same : reach.steps ≡ c.args.inconsistent.now.steps = sym c.if-inconsistent-reach.false in
     let told = c.in_ok-is_still_inconsistent.ensures.closes first given reach (walk_from sorts trees reach 1000) same is below
@@ -24,8 +24,8 @@ returns-clause-tells c = λ first given is below.
 
 pub returns-clause-shows : goal.returns-clause-shows
 returns-clause-shows c = λ first given f is longer.
-    let sorts = sorts_in c.args.table.now in
-    let trees = trees_in c.args.table.now in
+    let sorts = sorts_in c.args.branch.now.table.now in
+    let trees = trees_in c.args.branch.now.table.now in
     let inconsistent = c.args.inconsistent.now in
     let terms = subst (λ (ids : List TermId). AreTermsOf trees ids first) (sym c.deref.ensures.value)
     (first_terms first trees inconsistent.terms.list.items longer is.counted) in

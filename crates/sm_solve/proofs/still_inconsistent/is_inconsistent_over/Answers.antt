@@ -29,12 +29,12 @@ Pairs = Vec (TermId × TermId) Global
 
 pub behind-requires-clause-before : goal.behind-requires-clause-before
 behind-requires-clause-before c =
-    whole_before (trees_in c.args.table.now) c.in_ok-terms.terms.list.items c.in_ok-terms.ensures.whole
+    whole_before (trees_in c.args.branch.now.table.now) c.in_ok-terms.terms.list.items c.in_ok-terms.ensures.whole
 
 pub returns-then-is_refuted_by-clause-closes : goal.returns-then-is_refuted_by-clause-closes
 returns-then-is_refuted_by-clause-closes c = λ reach count go sums same.
-    let table = c.args.table.now in
-    let facts = c.args.facts.now in
+    let table = c.args.branch.now.table.now in
+    let facts = c.args.branch.now.facts.now in
     let ids = c.in_ok-terms.terms.list.items in
     let whole = c.in_ok-terms.ensures.whole in
     let led = c.requires.led in
@@ -50,8 +50,8 @@ returns-then-is_refuted_by-clause-closes c = λ reach count go sums same.
 
 pub are_forms-requires-clause-counted : goal.are_forms-requires-clause-counted
 are_forms-requires-clause-counted c =
-    let table = c.args.table.now in
-    let facts = c.args.facts.now in
+    let table = c.args.branch.now.table.now in
+    let facts = c.args.branch.now.facts.now in
     let ids = c.in_ok-terms.terms.list.items in
     let whole = c.in_ok-terms.ensures.whole in
     let led = c.requires.led in
@@ -62,8 +62,8 @@ are_forms-requires-clause-counted c =
 
 pub returns-clause-closes : goal.returns-clause-closes
 returns-clause-closes c = λ reach count go sums.
-    let table = c.args.table.now in
-    let facts = c.args.facts.now in
+    let table = c.args.branch.now.table.now in
+    let facts = c.args.branch.now.facts.now in
     let ids = c.in_ok-terms.terms.list.items in
     let whole = c.in_ok-terms.ensures.whole in
     let led = c.requires.led in
@@ -71,9 +71,9 @@ returns-clause-closes c = λ reach count go sums.
     let w = classes_by table ids facts in
     let two = given_of_terms table ids whole facts c.requires.within c.requires.sorted given refl in
     let trees = trees_in table in
-    let adds : AddsOnly (given_from 0 (slice_set (take c.args.from facts) c.args.place tree.Yes)) c.in-Some.pairs.items given =
+    let adds : AddsOnly (given_from 0 (slice_set (take c.args.from facts) c.args.branch.now.place tree.Yes)) c.in-Some.pairs.items given =
     subst (λ (o : Option Pairs). IfSome o (λ (ps : Pairs).
-    AddsOnly (given_from 0 (slice_set (take c.args.from facts) c.args.place tree.Yes)) ps.items given)) c.in-Some.is c.in_ok-pairs.ensures in
+    AddsOnly (given_from 0 (slice_set (take c.args.from facts) c.args.branch.now.place tree.Yes)) ps.items given)) c.in-Some.is c.in_ok-pairs.ensures in
     let more = subst (λ (ps : List (TermId × TermId)). AddsOnly led.0.given ps given) (sym c.deref.ensures.value)
     (subst (λ (gs : List GivenFact). AddsOnly gs c.in-Some.pairs.items given) (sym led.2) adds) in
     let exact = c.in_ok-behind.ensures.exact led.0 given led.1 two (led.3 ids c.in_ok-terms.ensures.counted) more c.if-not-behind.false in

@@ -13,18 +13,18 @@ use Rattle.sm_solve.proofs.still_inconsistent.is_still_inconsistent.Goals as goa
 
 pub returns-in-Classes-clause-closes : goal.returns-in-Classes-clause-closes
 returns-in-Classes-clause-closes c = λ first given reach go same is below inconsistent.
-    let table = c.args.table.now in
-    let all = assertions_in (sorts_in table) (trees_in table) (all_numbered c.args.facts.now) in
+    let table = c.args.branch.now.table.now in
+    let all = assertions_in (sorts_in table) (trees_in table) (all_numbered c.args.branch.now.facts.now) in
     let steps = c.args.inconsistent.now.steps in
     let closed = subst (IsInconsistentBy steps (seen_by (sorts_in table) first (with_parts given))) c.in-Classes.is is.by in (
       1,
-      closed_walks go reach (branch_of table c.args.facts.now)
+      closed_walks go reach (branch_of table c.args.branch.now.facts.now)
           (closed_below (sorts_in table) first (trees_in table) (with_parts given) all below closed),
     )
 
 pub returns-in-Forms-clause-closes : goal.returns-in-Forms-clause-closes
 returns-in-Forms-clause-closes c = λ first given reach go same is below.
-    let table = c.args.table.now in
+    let table = c.args.branch.now.table.now in
     let trees = trees_in table in
     let count = c.in-Forms._count in
     let known = c.in-Forms.known.items in

@@ -26,13 +26,13 @@ walk_from-visit_branch-requires-clause-led t c =
     let led = c.requires.led in (
       led.0,
       led.1,
-      led_same led.0 c.args.table.now c.args.terms.now.list.items c.args.facts.now.items c.as_slice.result.now c.as_slice.ensures.value led.2,
+      led_same led.0 c.args.cx.now.table.now c.args.cx.now.terms.now.list.items c.args.facts.now.items c.as_slice.result.now c.as_slice.ensures.value led.2,
     )
 
 pub walk_from-walk_on-requires : goal.walk_from-walk_on-requires
 walk_from-walk_on-requires t c =
-    let sorts = sorts_in c.args.table.now in
-    let trees = trees_in c.args.table.now in
+    let sorts = sorts_in c.args.cx.now.table.now in
+    let trees = trees_in c.args.cx.now.table.now in
     let whole : 4 * c.args.room ≡ t = c.decreases in
     let less : 4 * (c.args.room - 1) + 3 < t = omega arith in
     let led = c.requires.led in
@@ -63,22 +63,22 @@ walk_from-walk_on-requires t c =
 
 pub walk_from-returns-clause-tells : goal.walk_from-returns-clause-tells
 walk_from-returns-clause-tells t c =
-    let table = c.args.table.now in
+    let table = c.args.cx.now.table.now in
     let sorts = sorts_in table in
     let trees = trees_in table in
     let all = assertions_in sorts trees (all_numbered c.args.facts.now.items) in
-    let go = walk_from sorts trees c.args.reach (c.args.room - 1) in
-    let less : c.args.count < c.args.reach.steps = omega arith in
-    let next = walk_next sorts trees c.args.reach c.args.room c.args.count all c.if-room-eq0.false less in
+    let go = walk_from sorts trees c.args.cx.now.reach (c.args.room - 1) in
+    let less : c.args.count < c.args.cx.now.reach.steps = omega arith in
+    let next = walk_next sorts trees c.args.cx.now.reach c.args.room c.args.count all c.if-room-eq0.false less in
     let told = subst (λ (fs : List Formula). TellsVisit sorts trees (assertions_in sorts trees (all_numbered fs)) go c.in_ok-visit.visit
-    (by_classes go c.args.reach (branch_of table fs) (c.args.count + 1))) c.as_slice.ensures.value (c.in_ok-visit.ensures.tells go) in
-    c.walk_on.ensures.tells (walk_from sorts trees c.args.reach c.args.room c.args.count all)
+    (by_classes go c.args.cx.now.reach (branch_of table fs) (c.args.count + 1))) c.as_slice.ensures.value (c.in_ok-visit.ensures.tells go) in
+    c.walk_on.ensures.tells (walk_from sorts trees c.args.cx.now.reach c.args.room c.args.count all)
     (subst (λ (w : Walked). TellsVisit sorts trees all go c.in_ok-visit.visit w) (sym next) told)
 
 pub walk_from-returns-clause-shows : goal.walk_from-returns-clause-shows
 walk_from-returns-clause-shows t c =
-    let sorts = sorts_in c.args.table.now in
-    let trees = trees_in c.args.table.now in
+    let sorts = sorts_in c.args.cx.now.table.now in
+    let trees = trees_in c.args.cx.now.table.now in
     let all = assertions_in sorts trees (all_numbered c.args.facts.now.items) in
     let room : c.args.room - 1 + 1 ≡ c.args.room = omega arith in
     subst (λ (n : ℕ). IfOk c.walk_on.result (ShowsEnd sorts trees all n)) room c.walk_on.ensures.shows
@@ -88,28 +88,28 @@ walk_from-returns-clause-stays t c = λ v from. c.walk_on.ensures.stays v (c.in_
 
 pub walk_on-walk_parts-requires : goal.walk_on-walk_parts-requires
 walk_on-walk_parts-requires t c =
-    let sorts = sorts_in c.args.table.now in
-    let trees = trees_in c.args.table.now in
+    let sorts = sorts_in c.args.cx.now.table.now in
+    let trees = trees_in c.args.cx.now.table.now in
     let all = assertions_in sorts trees (all_numbered c.args.facts.now.items) in
     let whole : 4 * c.args.room + 3 ≡ t = c.decreases in
     let less : 4 * c.args.room + 2 < t = omega arith in
-    let counted = subst (IsVisitCounted c.args.reach.steps) c.in-Split.is c.requires.counted in
+    let counted = subst (IsVisitCounted c.args.cx.now.reach.steps) c.in-Split.is c.requires.counted in
     let shows = subst (ShowsVisit sorts trees all) c.in-Split.is c.requires.shows in
     (less, (c.requires.forms, (c.requires.whole, (c.requires.within, (c.requires.sorted, (counted, (c.requires.led, (shows.0, (shows.1, (c.requires.named, shows.2))))))))))
 
 pub walk_on-returns-in-Split-clause-tells : goal.walk_on-returns-in-Split-clause-tells
 walk_on-returns-in-Split-clause-tells t c = λ w told.
-    let sorts = sorts_in c.args.table.now in
-    let trees = trees_in c.args.table.now in
+    let sorts = sorts_in c.args.cx.now.table.now in
+    let trees = trees_in c.args.cx.now.table.now in
     let all = assertions_in sorts trees (all_numbered c.args.facts.now.items) in
-    let go = walk_from sorts trees c.args.reach c.args.room in
+    let go = walk_from sorts trees c.args.cx.now.reach c.args.room in
     let is : w ≡ by_split go all (split_told sorts trees (Some c.in-Split.split)) c.in-Split.at =
     subst (λ (v : Visit). TellsVisit sorts trees all go v w) c.in-Split.is told in
     subst (λ (v : Walked). IfOk c.walk_parts.result (λ e. TellsEnd sorts trees e v)) (sym is) c.walk_parts.ensures.tells
 
 pub walk_part-walk_from-requires : goal.walk_part-walk_from-requires
 walk_part-walk_from-requires t c =
-    let table = c.args.table.now in
+    let table = c.args.cx.now.table.now in
     let sorts = sorts_in table in
     let trees = trees_in table in
     let all = assertions_in sorts trees (all_numbered c.args.facts.now.items) in
@@ -119,7 +119,7 @@ walk_part-walk_from-requires t c =
     let sorted = subst (AreFormsSorted sorts) (sym (c.in_ok-add_with_parts.ensures.added sorts trees))
     (sorted_more sorts all (assertion_in sorts trees (numbered c.args.f)) c.requires.sorted c.requires.formula_sorted) in
     let led = c.requires.led in
-    let more = led_longer led.0 table c.args.terms.now.list.items c.args.facts.now.items c.add_with_parts.new.facts.items
+    let more = led_longer led.0 table c.args.cx.now.terms.now.list.items c.args.facts.now.items c.add_with_parts.new.facts.items
     c.in_ok-add_with_parts.ensures.longer led.2 in
     let named = subst (AreNamed trees) (sym (c.in_ok-add_with_parts.ensures.added sorts trees))
     (named_more trees all (assertion_in sorts trees (numbered c.args.f)) c.requires.named c.requires.names) in
@@ -134,8 +134,8 @@ walk_part-led_end-requires t c =
 
 pub walk_part-returns-clause-shows : goal.walk_part-returns-clause-shows
 walk_part-returns-clause-shows t c =
-    let sorts = sorts_in c.args.table.now in
-    let trees = trees_in c.args.table.now in
+    let sorts = sorts_in c.args.cx.now.table.now in
+    let trees = trees_in c.args.cx.now.table.now in
     let before = assertions_in sorts trees (all_numbered c.args.facts.now.items) in
     let last = assertion_in sorts trees (numbered c.args.f) in
     let many = as_many sorts trees c.args.facts.now.items in
@@ -155,8 +155,8 @@ walk_part-returns-clause-kept t c =
 
 pub walk_parts-walk_part-requires : goal.walk_parts-walk_part-requires
 walk_parts-walk_part-requires t c =
-    let sorts = sorts_in c.args.table.now in
-    let trees = trees_in c.args.table.now in
+    let sorts = sorts_in c.args.cx.now.table.now in
+    let trees = trees_in c.args.cx.now.table.now in
     let all = assertions_in sorts trees (all_numbered c.args.facts.now.items) in
     let whole : 4 * c.args.room + 2 ≡ t = c.decreases in
     let less : 4 * c.args.room + 1 < t = omega arith in
@@ -185,8 +185,8 @@ walk_parts-walk_part-requires t c =
 
 pub walk_parts-walk_part-requires-in-Closed : goal.walk_parts-walk_part-requires-in-Closed
 walk_parts-walk_part-requires-in-Closed t c =
-    let sorts = sorts_in c.args.table.now in
-    let trees = trees_in c.args.table.now in
+    let sorts = sorts_in c.args.cx.now.table.now in
+    let trees = trees_in c.args.cx.now.table.now in
     let all = assertions_in sorts trees (all_numbered c.args.facts.now.items) in
     let whole : 4 * c.args.room + 2 ≡ t = c.decreases in
     let less : 4 * c.args.room + 1 < t = omega arith in
@@ -197,9 +197,9 @@ walk_parts-walk_part-requires-in-Closed t c =
     let named = subst (λ (fs : List Formula). AreNamed trees (assertions_in sorts trees (all_numbered fs))) back c.requires.named in
     let names = subst (λ (fs : List Formula). NamesNoMore (assertions_in sorts trees (all_numbered fs))
     (assertion_in sorts trees (numbered c.args.split.second))) back c.requires.names.1 in
-    let counted = subst (IsEndCounted c.args.reach.steps) c.in-Closed.is c.in_ok-at.ensures.counted in
+    let counted = subst (IsEndCounted c.args.cx.now.reach.steps) c.in-Closed.is c.in_ok-at.ensures.counted in
     let led = c.requires.led in
-    let same = led_same led.0 c.args.table.now c.args.terms.now.list.items c.args.facts.now.items c.walk_part.new.facts.items
+    let same = led_same led.0 c.args.cx.now.table.now c.args.cx.now.terms.now.list.items c.args.facts.now.items c.walk_part.new.facts.items
     c.in_ok-at.ensures.kept led.2 in (
       less,
       (
@@ -225,8 +225,8 @@ walk_parts-walk_part-requires-in-Closed t c =
 
 pub walk_parts-returns-in_ok-whole-in-Closed-clause-shows : goal.walk_parts-returns-in_ok-whole-in-Closed-clause-shows
 walk_parts-returns-in_ok-whole-in-Closed-clause-shows t c =
-    let sorts = sorts_in c.args.table.now in
-    let trees = trees_in c.args.table.now in
+    let sorts = sorts_in c.args.cx.now.table.now in
+    let trees = trees_in c.args.cx.now.table.now in
     let all = assertions_in sorts trees (all_numbered c.args.facts.now.items) in
     let p = assertion_in sorts trees (numbered c.args.split.first) in
     let q = assertion_in sorts trees (numbered c.args.split.second) in
