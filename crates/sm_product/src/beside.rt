@@ -16,7 +16,7 @@ ghost use Rattle.sm_sketch.specs.Errors.{TellsSketch};
 ghost use Rattle.sm_sketch.specs.SketchViews.{sketch_in, IsSketchReady};
 ghost use Rattle.sm_product.specs.MiniProducts as spec;
 
-use crate::mini::draw;
+use crate::mini::Drawing;
 use crate::rooms::Room;
 use sm_plan::Continuation;
 use sm_sketch::{ProductError, Sketch};
@@ -50,5 +50,6 @@ pub(crate) fn side_by_side(
     ensures ready { IfOk result (IsSketchReady (sorts_in table.new) (trees_in table.new)) }
     ensures widens { ExtendsTable table.old table.new }
 {
-    draw(alloc, table, site, set, &mut code, next, Room::whole())
+    let drawing = Drawing { site, set };
+    drawing.draw(alloc, table, &mut code, next, Room::whole())
 }

@@ -16,7 +16,7 @@ ghost use Rattle.sm_product.specs.Drawn.{IsDrawn};
 ghost use Rattle.sm_product.specs.Laws.{HaveNoHole};
 ghost use Rattle.sm_product.specs.Products.{sketch_of};
 
-use crate::product::{ProductContext, product_block};
+use crate::product::ProductContext;
 use sm_moves::{FilledBlock, statements};
 use sm_sketch::{Extent, ProductError, Sketch, ends};
 use sm_task::fill_all;
@@ -100,7 +100,7 @@ fn drawn_product(alloc: Global, table: &mut TermTable, task: &Task) -> Result<Sk
         shared: &task.shared.body,
         filled: statements(&programs),
     };
-    product_block(alloc, table, &context, &shared, 15, ends(alloc))
+    context.product_block(alloc, table, &shared, 15, ends(alloc))
 }
 
 // Refuses what is too large. A node is counted before it is put, so that no sketch that is drawn is.

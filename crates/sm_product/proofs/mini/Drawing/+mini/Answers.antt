@@ -45,7 +45,7 @@ use Rattle.sm_product.proofs.PartsDrawn.{still_drawn, still_sited, still_sorted,
 use Rattle.sm_product.proofs.RoomLemmas.{err_is, no_memory, limit_beyond}
 use Rattle.sm_product.proofs.StraightLemmas.{straight_sorted}
 use Rattle.sm_product.proofs.TurnsDrawn.{one_told, none_left, one_taken, sketches_push, up_to_more, up_to_last, up_to_taken, up_to_told}
-use Rattle.sm_product.proofs.mini.+mini.Goals as goal
+use Rattle.sm_product.proofs.mini.Drawing.+mini.Goals as goal
 
 -- straight moves, and the move behind them
 pub draw-draw_last-requires : goal.draw-draw_last-requires
@@ -78,16 +78,16 @@ draw-draw_last-requires t c =
     )
 
 pub draw-returns-in_err-straight-clause-err : goal.draw-returns-in_err-straight-clause-err
-draw-returns-in_err-straight-clause-err t c = λ (p : Parts) (site : IsSiteOf p c.args.site.now).
+draw-returns-in_err-straight-clause-err t c = λ (p : Parts) (site : IsSiteOf p c.args.self.now.site.now).
     let v = c.args.table.now in
-    no_memory c.args.room (side_by_side p (set_of c.args.set) (codes_in c.args.rests.now) (sketch_in (sorts_in v) (trees_in v) c.args.next))
+    no_memory c.args.room (side_by_side p (set_of c.args.self.now.set) (codes_in c.args.rests.now) (sketch_in (sorts_in v) (trees_in v) c.args.next))
     c.from_residual.result c.from_residual.ensures.1
 
 pub draw-returns-in_err-below-clause-err : goal.draw-returns-in_err-below-clause-err
-draw-returns-in_err-below-clause-err t c = λ (p : Parts) (site : IsSiteOf p c.args.site.now).
+draw-returns-in_err-below-clause-err t c = λ (p : Parts) (site : IsSiteOf p c.args.self.now.site.now).
     let v = c.args.table.now in
     let after = sketch_in (sorts_in v) (trees_in v) c.args.next in
-    let set = set_of c.args.set in
+    let set = set_of c.args.self.now.set in
     let old = codes_in c.args.rests.now in
     let new = codes_in c.follow.new.rests in
     let ms = map move_in c.in_ok-straight.straight.moves.items in
@@ -99,11 +99,11 @@ draw-returns-in_err-below-clause-err t c = λ (p : Parts) (site : IsSiteOf p c.a
     c.args.room x (c.in_err-below.ensures.err p site))
 
 pub draw-returns-clause-drawn : goal.draw-returns-clause-drawn
-draw-returns-clause-drawn t c = λ (p : Parts) (site : IsSiteOf p c.args.site.now).
+draw-returns-clause-drawn t c = λ (p : Parts) (site : IsSiteOf p c.args.self.now.site.now).
     let v = c.args.table.now in
     let w = c.draw_last.new.table in
     let after = sketch_in (sorts_in v) (trees_in v) c.args.next in
-    let set = set_of c.args.set in
+    let set = set_of c.args.self.now.set in
     let old = codes_in c.args.rests.now in
     let new = codes_in c.follow.new.rests in
     let ms = map move_in c.in_ok-straight.straight.moves.items in
@@ -117,11 +117,11 @@ draw-returns-clause-drawn t c = λ (p : Parts) (site : IsSiteOf p c.args.site.no
     (c.put_all_before.ensures.drawn (sorts_in w) (trees_in w))
 
 pub draw-returns-clause-err : goal.draw-returns-clause-err
-draw-returns-clause-err t c = λ (p : Parts) (site : IsSiteOf p c.args.site.now).
+draw-returns-clause-err t c = λ (p : Parts) (site : IsSiteOf p c.args.self.now.site.now).
     let v = c.args.table.now in
     let w = c.draw_last.new.table in
     let after = sketch_in (sorts_in v) (trees_in v) c.args.next in
-    let set = set_of c.args.set in
+    let set = set_of c.args.self.now.set in
     let old = codes_in c.args.rests.now in
     let new = codes_in c.follow.new.rests in
     let ms = map move_in c.in_ok-straight.straight.moves.items in
@@ -155,44 +155,44 @@ draw_last-draw_loops-requires t c =
     )
 
 pub draw_last-returns-in-Fork-clause-drawn : goal.draw_last-returns-in-Fork-clause-drawn
-draw_last-returns-in-Fork-clause-drawn t c = λ (p : Parts) (site : IsSiteOf p c.args.site.now).
+draw_last-returns-in-Fork-clause-drawn t c = λ (p : Parts) (site : IsSiteOf p c.args.self.now.site.now).
     let v = c.args.table.now in
     let w = c.draw_fork.new.table in
     let after = sketch_in (sorts_in v) (trees_in v) c.args.next in
     subst (λ (m : Move). IfOk c.draw_fork.result (λ (s : own.Sketch). sketch_in (sorts_in w) (trees_in w) s
-    ≡ drawn p (set_of c.args.set) (codes_in c.args.rests.now) after (side_by_side p) (move_in m)))
+    ≡ drawn p (set_of c.args.self.now.set) (codes_in c.args.rests.now) after (side_by_side p) (move_in m)))
     (sym c.in-Fork.is) (c.draw_fork.ensures.drawn p site)
 
 pub draw_last-returns-in-Fork-clause-err : goal.draw_last-returns-in-Fork-clause-err
-draw_last-returns-in-Fork-clause-err t c = λ (p : Parts) (site : IsSiteOf p c.args.site.now).
+draw_last-returns-in-Fork-clause-err t c = λ (p : Parts) (site : IsSiteOf p c.args.self.now.site.now).
     let v = c.args.table.now in
     let after = sketch_in (sorts_in v) (trees_in v) c.args.next in
     subst (λ (m : Move). IfErr c.draw_fork.result (λ (e : ProductError). TellsBeyond c.args.room e
-    (drawn p (set_of c.args.set) (codes_in c.args.rests.now) after (side_by_side p) (move_in m))))
+    (drawn p (set_of c.args.self.now.set) (codes_in c.args.rests.now) after (side_by_side p) (move_in m))))
     (sym c.in-Fork.is) (c.draw_fork.ensures.err p site)
 
 pub draw_last-returns-in-Loops-clause-drawn : goal.draw_last-returns-in-Loops-clause-drawn
-draw_last-returns-in-Loops-clause-drawn t c = λ (p : Parts) (site : IsSiteOf p c.args.site.now).
+draw_last-returns-in-Loops-clause-drawn t c = λ (p : Parts) (site : IsSiteOf p c.args.self.now.site.now).
     let v = c.args.table.now in
     let w = c.draw_loops.new.table in
     let after = sketch_in (sorts_in v) (trees_in v) c.args.next in
     subst (λ (m : Move). IfOk c.draw_loops.result (λ (s : own.Sketch). sketch_in (sorts_in w) (trees_in w) s
-    ≡ drawn p (set_of c.args.set) (codes_in c.args.rests.now) after (side_by_side p) (move_in m)))
+    ≡ drawn p (set_of c.args.self.now.set) (codes_in c.args.rests.now) after (side_by_side p) (move_in m)))
     (sym c.in-Loops.is) (c.draw_loops.ensures.drawn p site)
 
 pub draw_last-returns-in-Loops-clause-err : goal.draw_last-returns-in-Loops-clause-err
-draw_last-returns-in-Loops-clause-err t c = λ (p : Parts) (site : IsSiteOf p c.args.site.now).
+draw_last-returns-in-Loops-clause-err t c = λ (p : Parts) (site : IsSiteOf p c.args.self.now.site.now).
     let v = c.args.table.now in
     let after = sketch_in (sorts_in v) (trees_in v) c.args.next in
     subst (λ (m : Move). IfErr c.draw_loops.result (λ (e : ProductError). TellsBeyond c.args.room e
-    (drawn p (set_of c.args.set) (codes_in c.args.rests.now) after (side_by_side p) (move_in m))))
+    (drawn p (set_of c.args.self.now.set) (codes_in c.args.rests.now) after (side_by_side p) (move_in m))))
     (sym c.in-Loops.is) (c.draw_loops.ensures.err p site)
 
 pub draw_last-returns-in-Done-clause-drawn : goal.draw_last-returns-in-Done-clause-drawn
-draw_last-returns-in-Done-clause-drawn t c = λ (p : Parts) (site : IsSiteOf p c.args.site.now).
+draw_last-returns-in-Done-clause-drawn t c = λ (p : Parts) (site : IsSiteOf p c.args.self.now.site.now).
     let v = c.args.table.now in
     let after = sketch_in (sorts_in v) (trees_in v) c.args.next in
-    sym (ap (λ (m : Move). drawn p (set_of c.args.set) (codes_in c.args.rests.now) after (side_by_side p) (move_in m)) c.in-Done.is)
+    sym (ap (λ (m : Move). drawn p (set_of c.args.self.now.set) (codes_in c.args.rests.now) after (side_by_side p) (move_in m)) c.in-Done.is)
 
 -- a fork
 pub draw_fork-draw_first-requires : goal.draw_fork-draw_first-requires
@@ -207,21 +207,21 @@ draw_fork-draw_first-requires t c =
     )
 
 pub draw_fork-returns-in_err-one-clause-err : goal.draw_fork-returns-in_err-one-clause-err
-draw_fork-returns-in_err-one-clause-err t c = λ (p : Parts) (site : IsSiteOf p c.args.site.now).
+draw_fork-returns-in_err-one-clause-err t c = λ (p : Parts) (site : IsSiteOf p c.args.self.now.site.now).
     let v = c.args.table.now in
     let after = sketch_in (sorts_in v) (trees_in v) c.args.next in
     let k = copy_named c.args.copy in
     err_is (λ (e : ProductError). TellsBeyond c.args.room e
-    (drawn p (set_of c.args.set) (codes_in c.args.rests.now) after (side_by_side p) (Forks k)))
+    (drawn p (set_of c.args.self.now.set) (codes_in c.args.rests.now) after (side_by_side p) (Forks k)))
     c.from_residual.result c.in_err-one.field-0.0 c.from_residual.ensures.1 (c.in_err-one.ensures.err p site)
 
 -- of `one` over the table in which it is drawn
 pub draw_fork-returns-in_err-for_other-clause-err : goal.draw_fork-returns-in_err-for_other-clause-err
-draw_fork-returns-in_err-for_other-clause-err t c = λ (p : Parts) (site : IsSiteOf p c.args.site.now).
+draw_fork-returns-in_err-for_other-clause-err t c = λ (p : Parts) (site : IsSiteOf p c.args.self.now.site.now).
     let v = c.args.table.now in
     let after = sketch_in (sorts_in v) (trees_in v) c.args.next in
     let k = copy_named c.args.copy in
-    let set = set_of c.args.set in
+    let set = set_of c.args.self.now.set in
     let r = codes_in c.args.rests.now in
     let x = c.in_err-for_other.field-0.0 in
     err_is (λ (e : ProductError). TellsBeyond c.args.room e (drawn p set r after (side_by_side p) (Forks k)))
@@ -235,7 +235,7 @@ draw_fork-draw-requires t c =
     let w = c.draw_first.new.table in
     let wider = c.draw_first.ensures.widens in
     let k = copy_named c.args.copy in
-    let set = set_of c.args.set in
+    let set = set_of c.args.self.now.set in
     let r = codes_in c.args.rests.now in
     let same : codes_in c.fork.new.rests ≡ with_copy r k (by_second_block (r k)) = fun_ext c.in_ok-fork.ensures in
     let way = second_way set r k c.requires.filled c.requires.last in
@@ -253,19 +253,19 @@ draw_fork-draw-requires t c =
       (
         c.requires.set,
         (
-          still_sited v w wider c.args.site.now c.requires.site,
+          still_sited v w wider c.args.self.now.site.now c.requires.site,
           (sorted, (filled, (next, (omega (arith, other.0, within.0), omega (arith, other.1, within.1))))),
         ),
       ),
     )
 
 pub draw_fork-returns-in_err-other-clause-err : goal.draw_fork-returns-in_err-other-clause-err
-draw_fork-returns-in_err-other-clause-err t c = λ (p : Parts) (site : IsSiteOf p c.args.site.now).
+draw_fork-returns-in_err-other-clause-err t c = λ (p : Parts) (site : IsSiteOf p c.args.self.now.site.now).
     let v = c.args.table.now in
     let w = c.draw_first.new.table in
     let after = sketch_in (sorts_in v) (trees_in v) c.args.next in
     let k = copy_named c.args.copy in
-    let set = set_of c.args.set in
+    let set = set_of c.args.self.now.set in
     let r = codes_in c.args.rests.now in
     let x = c.in_err-other.field-0.0 in
     let room = c.in_ok-for_other in
@@ -282,13 +282,13 @@ draw_fork-returns-in_err-other-clause-err t c = λ (p : Parts) (site : IsSiteOf 
 
 -- what is drawn, over the last table
 pub draw_fork-returns-clause-drawn : goal.draw_fork-returns-clause-drawn
-draw_fork-returns-clause-drawn t c = λ (p : Parts) (site : IsSiteOf p c.args.site.now).
+draw_fork-returns-clause-drawn t c = λ (p : Parts) (site : IsSiteOf p c.args.self.now.site.now).
     let u = c.args.table.now in
     let v = c.draw_first.new.table in
     let w = c.draw.new.table in
     let after = sketch_in (sorts_in u) (trees_in u) c.args.next in
     let k = copy_named c.args.copy in
-    let set = set_of c.args.set in
+    let set = set_of c.args.self.now.set in
     let r = codes_in c.args.rests.now in
     let one = c.in_ok-one.one in
     let other = c.in_ok-other.other in
@@ -307,13 +307,13 @@ draw_fork-returns-clause-drawn t c = λ (p : Parts) (site : IsSiteOf p c.args.si
     (c.forking.ensures.drawn (sorts_in w) (trees_in w))
 
 pub draw_fork-returns-clause-err : goal.draw_fork-returns-clause-err
-draw_fork-returns-clause-err t c = λ (p : Parts) (site : IsSiteOf p c.args.site.now).
+draw_fork-returns-clause-err t c = λ (p : Parts) (site : IsSiteOf p c.args.self.now.site.now).
     let u = c.args.table.now in
     let v = c.draw_first.new.table in
     let w = c.draw.new.table in
     let after = sketch_in (sorts_in u) (trees_in u) c.args.next in
     let k = copy_named c.args.copy in
-    let set = set_of c.args.set in
+    let set = set_of c.args.self.now.set in
     let r = codes_in c.args.rests.now in
     let one = c.in_ok-one.one in
     let other = c.in_ok-other.other in
@@ -343,11 +343,11 @@ draw_fork-returns-clause-ready t c =
 
 -- the first block of a fork
 pub draw_first-returns-in_err-for_one-clause-err : goal.draw_first-returns-in_err-for_one-clause-err
-draw_first-returns-in_err-for_one-clause-err t c = λ (p : Parts) (site : IsSiteOf p c.args.site.now).
+draw_first-returns-in_err-for_one-clause-err t c = λ (p : Parts) (site : IsSiteOf p c.args.self.now.site.now).
     let v = c.args.table.now in
     let after = sketch_in (sorts_in v) (trees_in v) c.args.next.now in
     let k = copy_named c.args.copy in
-    let set = set_of c.args.set in
+    let set = set_of c.args.self.now.set in
     let r = codes_in c.args.rests.now in
     let x = c.in_err-for_one.field-0.0 in
     err_is (λ (e : ProductError). TellsBeyond c.args.room e (drawn p set r after (side_by_side p) (Forks k)))
@@ -358,7 +358,7 @@ pub draw_first-draw-requires : goal.draw_first-draw-requires
 draw_first-draw-requires t c =
     let v = c.args.table.now in
     let k = copy_named c.args.copy in
-    let set = set_of c.args.set in
+    let set = set_of c.args.self.now.set in
     let r = codes_in c.args.rests.now in
     let same : codes_in c.in_ok-first.first ≡ first_taken r k = fun_ext c.in_ok-first.ensures in
     let way = first_way set r k c.requires.filled c.requires.last in
@@ -383,10 +383,10 @@ draw_first-draw-requires t c =
     )
 
 pub draw_first-returns-clause-drawn : goal.draw_first-returns-clause-drawn
-draw_first-returns-clause-drawn t c = λ (p : Parts) (site : IsSiteOf p c.args.site.now).
+draw_first-returns-clause-drawn t c = λ (p : Parts) (site : IsSiteOf p c.args.self.now.site.now).
     let v = c.args.table.now in
     let w = c.draw.new.table in
-    let set = set_of c.args.set in
+    let set = set_of c.args.self.now.set in
     let code = first_taken (codes_in c.args.rests.now) (copy_named c.args.copy) in
     let same : codes_in c.in_ok-first.first ≡ code = fun_ext c.in_ok-first.ensures in
     let copied = c.in_ok-after.ensures.drawn (sorts_in v) (trees_in v) in
@@ -396,12 +396,12 @@ draw_first-returns-clause-drawn t c = λ (p : Parts) (site : IsSiteOf p c.args.s
     (c.draw.ensures.drawn p site)
 
 pub draw_first-returns-clause-err : goal.draw_first-returns-clause-err
-draw_first-returns-clause-err t c = λ (p : Parts) (site : IsSiteOf p c.args.site.now).
+draw_first-returns-clause-err t c = λ (p : Parts) (site : IsSiteOf p c.args.self.now.site.now).
     let v = c.args.table.now in
     let next = c.args.next.now in
     let after = sketch_in (sorts_in v) (trees_in v) next in
     let k = copy_named c.args.copy in
-    let set = set_of c.args.set in
+    let set = set_of c.args.self.now.set in
     let r = codes_in c.args.rests.now in
     let room = c.in_ok-for_one in
     let same : codes_in c.in_ok-first.first ≡ first_taken r k = fun_ext c.in_ok-first.ensures in
@@ -419,15 +419,15 @@ draw_first-returns-clause-err t c = λ (p : Parts) (site : IsSiteOf p c.args.sit
 
 -- loops
 pub draw_loops-returns-in_err-below-clause-err : goal.draw_loops-returns-in_err-below-clause-err
-draw_loops-returns-in_err-below-clause-err t c = λ (p : Parts) (site : IsSiteOf p c.args.site.now).
+draw_loops-returns-in_err-below-clause-err t c = λ (p : Parts) (site : IsSiteOf p c.args.self.now.site.now).
     let u = c.args.table.now in
     let after = sketch_in (sorts_in u) (trees_in u) c.args.next in
     let left = set_of c.args.left in
     let x = c.in_err-below.field-0.0 in
     err_is (λ (e : ProductError). TellsBeyond c.args.room e
-    (drawn p (set_of c.args.set) (codes_in c.args.rests.now) after (side_by_side p) (Loops left)))
+    (drawn p (set_of c.args.self.now.set) (codes_in c.args.rests.now) after (side_by_side p) (Loops left)))
     c.from_residual.result x c.from_residual.ensures.1
-    (none_loops p (set_of c.args.set) (codes_in c.args.rests.now) after left c.args.room x c.in_err-below.ensures.1)
+    (none_loops p (set_of c.args.self.now.set) (codes_in c.args.rests.now) after left c.args.room x c.in_err-below.ensures.1)
 
 pub draw_loops-draw_turns-requires : goal.draw_loops-draw_turns-requires
 draw_loops-draw_turns-requires t c =
@@ -437,14 +437,14 @@ draw_loops-draw_turns-requires t c =
     let r = codes_in c.args.rests.now in
     let whole : 8 * statements_left r + 3 ≡ t = c.decreases in
     let less : 8 * statements_left r + 2 < t = omega (arith, whole) in
-    let loops = have_loops (set_of c.args.set) r (set_of c.args.left) c.requires.filled c.requires.last in
+    let loops = have_loops (set_of c.args.self.now.set) r (set_of c.args.left) c.requires.filled c.requires.last in
     let below = c.in_ok-below.ensures in
     let within = c.requires.room in (
       less,
       (
         c.requires.left,
         (
-          still_sited u v wider c.args.site.now c.requires.site,
+          still_sited u v wider c.args.self.now.site.now c.requires.site,
           (
             still_sorted u v wider r c.requires.sorted,
             (c.requires.filled.no_hole, (loops, (omega (arith, below.1, within.0), omega (arith, below.0, within.1)))),
@@ -454,10 +454,10 @@ draw_loops-draw_turns-requires t c =
     )
 
 pub draw_loops-returns-in_err-turns-clause-err : goal.draw_loops-returns-in_err-turns-clause-err
-draw_loops-returns-in_err-turns-clause-err t c = λ (p : Parts) (site : IsSiteOf p c.args.site.now).
+draw_loops-returns-in_err-turns-clause-err t c = λ (p : Parts) (site : IsSiteOf p c.args.self.now.site.now).
     let u = c.args.table.now in
     let after = sketch_in (sorts_in u) (trees_in u) c.args.next in
-    let set = set_of c.args.set in
+    let set = set_of c.args.self.now.set in
     let left = set_of c.args.left in
     let r = codes_in c.args.rests.now in
     let x = c.in_err-turns.field-0.0 in
@@ -472,7 +472,7 @@ draw_loops-draw-requires t c =
     let v = c.loop_templates.new.table in
     let w = c.draw_turns.new.table in
     let wider = widens_twice u v w c.loop_templates.ensures.widens c.draw_turns.ensures.widens in
-    let set = set_of c.args.set in
+    let set = set_of c.args.self.now.set in
     let left = set_of c.args.left in
     let r = codes_in c.args.rests.now in
     let same : codes_in c.pass.new.rests ≡ moved_on left r = fun_ext c.pass.ensures in
@@ -489,20 +489,20 @@ draw_loops-draw-requires t c =
       (
         c.requires.set,
         (
-          still_sited u w wider c.args.site.now c.requires.site,
+          still_sited u w wider c.args.self.now.site.now c.requires.site,
           (sorted, (filled, (next, c.in_ok-turns.ensures.room))),
         ),
       ),
     )
 
 pub draw_loops-returns-in_err-after-clause-err : goal.draw_loops-returns-in_err-after-clause-err
-draw_loops-returns-in_err-after-clause-err t c = λ (p : Parts) (site : IsSiteOf p c.args.site.now).
+draw_loops-returns-in_err-after-clause-err t c = λ (p : Parts) (site : IsSiteOf p c.args.self.now.site.now).
     let u = c.args.table.now in
     let v = c.loop_templates.new.table in
     let w = c.draw_turns.new.table in
     let wider = widens_twice u v w c.loop_templates.ensures.widens c.draw_turns.ensures.widens in
     let after = sketch_in (sorts_in u) (trees_in u) c.args.next in
-    let set = set_of c.args.set in
+    let set = set_of c.args.self.now.set in
     let left = set_of c.args.left in
     let r = codes_in c.args.rests.now in
     let x = c.in_err-after.field-0.0 in
@@ -519,7 +519,7 @@ draw_loops-returns-in_err-after-clause-err t c = λ (p : Parts) (site : IsSiteOf
     (c.in_ok-turns.ensures.taken p site) told)
 
 pub draw_loops-returns-clause-drawn : goal.draw_loops-returns-clause-drawn
-draw_loops-returns-clause-drawn t c = λ (p : Parts) (site : IsSiteOf p c.args.site.now).
+draw_loops-returns-clause-drawn t c = λ (p : Parts) (site : IsSiteOf p c.args.self.now.site.now).
     let u = c.args.table.now in
     let v = c.loop_templates.new.table in
     let w = c.draw_turns.new.table in
@@ -527,7 +527,7 @@ draw_loops-returns-clause-drawn t c = λ (p : Parts) (site : IsSiteOf p c.args.s
     let wider = widens_twice u v w c.loop_templates.ensures.widens c.draw_turns.ensures.widens in
     let later = widens_twice v w z c.draw_turns.ensures.widens c.draw.ensures.widens in
     let next = sketch_in (sorts_in u) (trees_in u) c.args.next in
-    let set = set_of c.args.set in
+    let set = set_of c.args.self.now.set in
     let left = set_of c.args.left in
     let r = codes_in c.args.rests.now in
     let same : codes_in c.pass.new.rests ≡ moved_on left r = fun_ext c.pass.ensures in
@@ -546,7 +546,7 @@ draw_loops-returns-clause-drawn t c = λ (p : Parts) (site : IsSiteOf p c.args.s
     (c.looped.ensures.drawn (sorts_in z) (trees_in z) (turn_of p r) turns)
 
 pub draw_loops-returns-clause-err : goal.draw_loops-returns-clause-err
-draw_loops-returns-clause-err t c = λ (p : Parts) (site : IsSiteOf p c.args.site.now).
+draw_loops-returns-clause-err t c = λ (p : Parts) (site : IsSiteOf p c.args.self.now.site.now).
     let u = c.args.table.now in
     let v = c.loop_templates.new.table in
     let w = c.draw_turns.new.table in
@@ -554,7 +554,7 @@ draw_loops-returns-clause-err t c = λ (p : Parts) (site : IsSiteOf p c.args.sit
     let wider = widens_twice u v w c.loop_templates.ensures.widens c.draw_turns.ensures.widens in
     let later = widens_twice v w z c.draw_turns.ensures.widens c.draw.ensures.widens in
     let next = sketch_in (sorts_in u) (trees_in u) c.args.next in
-    let set = set_of c.args.set in
+    let set = set_of c.args.self.now.set in
     let left = set_of c.args.left in
     let r = codes_in c.args.rests.now in
     let same : codes_in c.pass.new.rests ≡ moved_on left r = fun_ext c.pass.ensures in
@@ -600,9 +600,9 @@ draw_turns-draw_turn-requires t c =
       (
         (omega (arith, high), omega (arith, high)),
         (
-          c.requires.left,
+          c.requires.set,
           (
-            still_sited v w was.widens c.args.site.now c.requires.site,
+            still_sited v w was.widens c.args.self.now.site.now c.requires.site,
             (
               still_sorted v w was.widens r c.requires.sorted,
               (c.requires.no_hole, (c.requires.loops, (was.room, was.ready))),
@@ -613,13 +613,13 @@ draw_turns-draw_turn-requires t c =
     )
 
 pub draw_turns-returns-in_err-draw_turn-clause-err : goal.draw_turns-returns-in_err-draw_turn-clause-err
-draw_turns-returns-in_err-draw_turn-clause-err t c = λ (p : Parts) (site : IsSiteOf p c.args.site.now).
+draw_turns-returns-in_err-draw_turn-clause-err t c = λ (p : Parts) (site : IsSiteOf p c.args.self.now.site.now).
     let r = codes_in c.args.rests.now in
     let was = c.loop-smaller.invariant in
     let x = c.in_err-draw_turn.field-0.0 in
-    err_is (λ (e : ProductError). TellAllBeyond c.args.room.now e (map (turn_of p r) (subsets (set_of c.args.left))))
+    err_is (λ (e : ProductError). TellAllBeyond c.args.room.now e (map (turn_of p r) (subsets (set_of c.args.self.now.set))))
     c.from_residual.result x c.from_residual.ensures.1
-    (up_to_told (turn_of p r) c.args.left c.requires.left c.args.room.now c.loop-smaller.room x c.loop-smaller.smaller
+    (up_to_told (turn_of p r) c.args.self.now.set c.requires.set c.args.room.now c.loop-smaller.room x c.loop-smaller.smaller
     c.loop-smaller-test.true
     (was.taken p site) (c.in_err-draw_turn.ensures.err p site))
 
@@ -633,15 +633,15 @@ draw_turns-loop-smaller-preserved t c =
     let r = codes_in c.args.rests.now in
     let n = c.loop-smaller.smaller in
     record {
-      drawn = λ (p : Parts) (site : IsSiteOf p c.args.site.now).
+      drawn = λ (p : Parts) (site : IsSiteOf p c.args.self.now.site.now).
           done.drawn p site
           ∙ ap (λ (l : List Sketch). l ++ map (λ (m : ℕ). turn_of p r (set_of m))
-          (if bit_and (n + 1) c.args.left == n + 1 then (n + 1) ∷ [] else []))
+          (if bit_and (n + 1) c.args.self.now.set == n + 1 then (n + 1) ∷ [] else []))
           (was.drawn p site)
-          ∙ sym (up_to_more (turn_of p r) c.args.left c.requires.left n);
+          ∙ sym (up_to_more (turn_of p r) c.args.self.now.set c.requires.set n);
       ready = done.ready;
-      taken = λ (p : Parts) (site : IsSiteOf p c.args.site.now).
-          up_to_taken (turn_of p r) c.args.left c.requires.left c.args.room.now c.loop-smaller.room c.draw_turn.new.room n
+      taken = λ (p : Parts) (site : IsSiteOf p c.args.self.now.site.now).
+          up_to_taken (turn_of p r) c.args.self.now.set c.requires.set c.args.room.now c.loop-smaller.room c.draw_turn.new.room n
           (was.taken p site)
           (done.taken p site);
       room = done.room;
@@ -649,20 +649,20 @@ draw_turns-loop-smaller-preserved t c =
     }
 
 pub draw_turns-returns-clause-drawn : goal.draw_turns-returns-clause-drawn
-draw_turns-returns-clause-drawn t c = λ (p : Parts) (site : IsSiteOf p c.args.site.now).
+draw_turns-returns-clause-drawn t c = λ (p : Parts) (site : IsSiteOf p c.args.self.now.site.now).
     let high = c.loop-smaller-test.false in
     let low = c.loop-smaller.auto.smaller-end in
     let last : c.loop-smaller.smaller ≡ 15 = omega (arith, high, low) in
     c.loop-smaller.invariant.drawn p site
-    ∙ up_to_last (turn_of p (codes_in c.args.rests.now)) c.args.left c.requires.left c.loop-smaller.smaller last
+    ∙ up_to_last (turn_of p (codes_in c.args.rests.now)) c.args.self.now.set c.requires.set c.loop-smaller.smaller last
 
 pub draw_turns-returns-clause-taken : goal.draw_turns-returns-clause-taken
-draw_turns-returns-clause-taken t c = λ (p : Parts) (site : IsSiteOf p c.args.site.now).
+draw_turns-returns-clause-taken t c = λ (p : Parts) (site : IsSiteOf p c.args.self.now.site.now).
     let high = c.loop-smaller-test.false in
     let low = c.loop-smaller.auto.smaller-end in
     let last : c.loop-smaller.smaller ≡ 15 = omega (arith, high, low) in
     subst (IsTaken c.args.room.now c.loop-smaller.room)
-    (up_to_last (turn_of p (codes_in c.args.rests.now)) c.args.left c.requires.left c.loop-smaller.smaller last)
+    (up_to_last (turn_of p (codes_in c.args.rests.now)) c.args.self.now.set c.requires.set c.loop-smaller.smaller last)
     (c.loop-smaller.invariant.taken p site)
 
 -- one turn
@@ -670,21 +670,21 @@ pub draw_turn-draw_body-requires : goal.draw_turn-draw_body-requires
 draw_turn-draw_body-requires t c =
     let m = c.args.turning in
     let r = codes_in c.args.rests.now in
-    let inside : (bit_and m c.args.left == m) ≡ true = eq-eqb (bit_and m c.args.left) m c.if-turning-left.true in
-    let within = mask_within m c.args.left c.requires.turning.1 c.requires.left inside in
+    let inside : (bit_and m c.args.self.now.set == m) ≡ true = eq-eqb (bit_and m c.args.self.now.set) m c.if-turning-self.true in
+    let within = mask_within m c.args.self.now.set c.requires.turning.1 c.requires.set inside in
     let loops : HaveLoops (set_of m) r = λ (d : Copy) (h : has (set_of m) d ≡ true). c.requires.loops d (within d h) in
     let whole : 8 * statements_left r + 1 ≡ t = c.decreases in
     let less : 8 * statements_left r < t = omega (arith, whole) in
     (less, (c.requires.turning, (c.requires.site, (c.requires.sorted, (c.requires.no_hole, (loops, c.requires.room))))))
 
 pub draw_turn-returns-in_err-turn-clause-err : goal.draw_turn-returns-in_err-turn-clause-err
-draw_turn-returns-in_err-turn-clause-err t c = λ (p : Parts) (site : IsSiteOf p c.args.site.now).
+draw_turn-returns-in_err-turn-clause-err t c = λ (p : Parts) (site : IsSiteOf p c.args.self.now.site.now).
     let m = c.args.turning in
     let r = codes_in c.args.rests.now in
-    let inside : (bit_and m c.args.left == m) ≡ true = eq-eqb (bit_and m c.args.left) m c.if-turning-left.true in
+    let inside : (bit_and m c.args.self.now.set == m) ≡ true = eq-eqb (bit_and m c.args.self.now.set) m c.if-turning-self.true in
     let x = c.in_err-turn.field-0.0 in
     err_is (λ (e : ProductError). TellAllBeyond c.args.room.now e
-    (map (λ (n : ℕ). turn_of p r (set_of n)) (if bit_and m c.args.left == m then m ∷ [] else [])))
+    (map (λ (n : ℕ). turn_of p r (set_of n)) (if bit_and m c.args.self.now.set == m then m ∷ [] else [])))
     c.from_residual.result x c.from_residual.ensures.1
     (subst (λ (b : Bool). TellAllBeyond c.args.room.now x (map (λ (n : ℕ). turn_of p r (set_of n)) (if b then m ∷ [] else [])))
     (sym inside)
@@ -692,28 +692,28 @@ draw_turn-returns-in_err-turn-clause-err t c = λ (p : Parts) (site : IsSiteOf p
 
 -- a turn has more nodes than there is room for
 pub draw_turn-returns-in_err-room-clause-err : goal.draw_turn-returns-in_err-room-clause-err
-draw_turn-returns-in_err-room-clause-err t c = λ (p : Parts) (site : IsSiteOf p c.args.site.now).
+draw_turn-returns-in_err-room-clause-err t c = λ (p : Parts) (site : IsSiteOf p c.args.self.now.site.now).
     let m = c.args.turning in
     let r = codes_in c.args.rests.now in
-    let inside : (bit_and m c.args.left == m) ≡ true = eq-eqb (bit_and m c.args.left) m c.if-turning-left.true in
+    let inside : (bit_and m c.args.self.now.set == m) ≡ true = eq-eqb (bit_and m c.args.self.now.set) m c.if-turning-self.true in
     let nodes = c.in_ok-turn.ensures.ready.nodes ∙ ap sketch_size (c.in_ok-turn.ensures.drawn p site) in
     let few = c.in_err-room.ensures.1 in
     let x = c.in_err-room.field-0.0 in
     err_is (λ (e : ProductError). TellAllBeyond c.args.room.now e
-    (map (λ (n : ℕ). turn_of p r (set_of n)) (if bit_and m c.args.left == m then m ∷ [] else [])))
+    (map (λ (n : ℕ). turn_of p r (set_of n)) (if bit_and m c.args.self.now.set == m then m ∷ [] else [])))
     c.from_residual-in_err-room.result x c.from_residual-in_err-room.ensures.1
     (subst (λ (b : Bool). TellAllBeyond c.args.room.now x (map (λ (n : ℕ). turn_of p r (set_of n)) (if b then m ∷ [] else [])))
     (sym inside)
     (none_left c.args.room.now x (turn_of p r (set_of m)) (omega (arith, nodes, few))))
 
 pub draw_turn-returns-in_ok-push-clause-drawn : goal.draw_turn-returns-in_ok-push-clause-drawn
-draw_turn-returns-in_ok-push-clause-drawn t c = λ (p : Parts) (site : IsSiteOf p c.args.site.now).
+draw_turn-returns-in_ok-push-clause-drawn t c = λ (p : Parts) (site : IsSiteOf p c.args.self.now.site.now).
     let v = c.args.table.now in
     let w = c.draw_body.new.table in
     let m = c.args.turning in
     let r = codes_in c.args.rests.now in
     let old = c.args.turns.now.items in
-    let inside : (bit_and m c.args.left == m) ≡ true = eq-eqb (bit_and m c.args.left) m c.if-turning-left.true in
+    let inside : (bit_and m c.args.self.now.set == m) ≡ true = eq-eqb (bit_and m c.args.self.now.set) m c.if-turning-self.true in
     ap (map (sketch_in (sorts_in w) (trees_in w))) c.in_ok-push.ensures.items
     ∙ map-append (sketch_in (sorts_in w) (trees_in w)) old (c.in_ok-turn.turn ∷ [])
     ∙ ap (λ (l : List Sketch). l ++ sketch_in (sorts_in w) (trees_in w) c.in_ok-turn.turn ∷ [])
@@ -732,10 +732,10 @@ draw_turn-returns-in_ok-push-clause-ready t c =
     c.in_ok-turn.ensures.ready)
 
 pub draw_turn-returns-in_ok-push-clause-taken : goal.draw_turn-returns-in_ok-push-clause-taken
-draw_turn-returns-in_ok-push-clause-taken t c = λ (p : Parts) (site : IsSiteOf p c.args.site.now).
+draw_turn-returns-in_ok-push-clause-taken t c = λ (p : Parts) (site : IsSiteOf p c.args.self.now.site.now).
     let m = c.args.turning in
     let r = codes_in c.args.rests.now in
-    let inside : (bit_and m c.args.left == m) ≡ true = eq-eqb (bit_and m c.args.left) m c.if-turning-left.true in
+    let inside : (bit_and m c.args.self.now.set == m) ≡ true = eq-eqb (bit_and m c.args.self.now.set) m c.if-turning-self.true in
     let nodes = c.in_ok-turn.ensures.ready.nodes ∙ ap sketch_size (c.in_ok-turn.ensures.drawn p site) in
     let left = c.in_ok-room.ensures.0 in
     subst (λ (b : Bool). IsTaken c.args.room.now c.in_ok-room.field-0
@@ -747,10 +747,10 @@ draw_turn-returns-in_ok-push-clause-taken t c = λ (p : Parts) (site : IsSiteOf 
 pub draw_body-draw-requires : goal.draw_body-draw-requires
 draw_body-draw-requires t c =
     let v = c.args.table.now in
-    let m = set_of c.args.turning in
+    let m = set_of c.args.self.now.set in
     let r = codes_in c.args.rests.now in
     let same : codes_in c.in_ok-code.code ≡ only_in m (λ (d : Copy). loop_body (r d)) = fun_ext c.in_ok-code.ensures in
-    let way = one_turn r c.requires.no_hole m c.requires.loops m (mask_inhabited c.args.turning c.requires.turning.0 c.requires.turning.1)
+    let way = one_turn r c.requires.no_hole m c.requires.loops m (mask_inhabited c.args.self.now.set c.requires.set.0 c.requires.set.1)
     (λ (d : Copy) h. h) in
     let whole : 8 * statements_left r ≡ t = c.decreases in
     let size = ap statements_left same in
@@ -761,7 +761,7 @@ draw_body-draw-requires t c =
     let filled = subst (IsFilled m) (sym same) way.filled in (
       less,
       (
-        c.requires.turning.1,
+        c.requires.set.1,
         (
           c.requires.site,
           (sorted, (filled, (c.ends.ensures.ready (sorts_in v) (trees_in v), c.requires.room))),
@@ -770,10 +770,10 @@ draw_body-draw-requires t c =
     )
 
 pub draw_body-returns-clause-drawn : goal.draw_body-returns-clause-drawn
-draw_body-returns-clause-drawn t c = λ (p : Parts) (site : IsSiteOf p c.args.site.now).
+draw_body-returns-clause-drawn t c = λ (p : Parts) (site : IsSiteOf p c.args.self.now.site.now).
     let v = c.args.table.now in
     let w = c.draw.new.table in
-    let m = set_of c.args.turning in
+    let m = set_of c.args.self.now.set in
     let r = codes_in c.args.rests.now in
     let bodies = only_in m (λ (d : Copy). loop_body (r d)) in
     let same : codes_in c.in_ok-code.code ≡ bodies = fun_ext c.in_ok-code.ensures in
@@ -783,9 +783,9 @@ draw_body-returns-clause-drawn t c = λ (p : Parts) (site : IsSiteOf p c.args.si
     (c.draw.ensures.drawn p site)
 
 pub draw_body-returns-clause-err : goal.draw_body-returns-clause-err
-draw_body-returns-clause-err t c = λ (p : Parts) (site : IsSiteOf p c.args.site.now).
+draw_body-returns-clause-err t c = λ (p : Parts) (site : IsSiteOf p c.args.self.now.site.now).
     let v = c.args.table.now in
-    let m = set_of c.args.turning in
+    let m = set_of c.args.self.now.set in
     let r = codes_in c.args.rests.now in
     let bodies = only_in m (λ (d : Copy). loop_body (r d)) in
     let same : codes_in c.in_ok-code.code ≡ bodies = fun_ext c.in_ok-code.ensures in

@@ -31,7 +31,7 @@ use Rattle.sm_sketch.specs.Errors.{TellsSketch}
 use Rattle.sm_sketch.specs.Sketches as plain
 use Rattle.sm_sketch.specs.SketchViews.{sketch_in}
 use Rattle.sm_sketch.proofs.SketchesWiden.{sketch_stays, sketch_ready, sketches_stay, sketches_ready}
-use Rattle.sm_product.specs.declared.product.FilledIf.{FilledIf}
+use Rattle.sm_product.specs.declared.ifs.FilledIf.{FilledIf}
 use Rattle.sm_product.specs.declared.product.ProductContext.{ProductContext}
 use Rattle.sm_product.specs.ProductContexts.{IsContextReady}
 use Rattle.sm_product.specs.Products.{product, product_if, product_while, branched, forked, where_any}
@@ -45,7 +45,7 @@ use Rattle.sm_product.proofs.GrowthLemmas.{after_any, first_of_fork, second_of_f
 use Rattle.sm_product.proofs.TurnsPut.{put_drawn, put_ready}
 use Rattle.sm_product.proofs.PartsPut.{fork_out, one_fails, other_fails, both_forked, last_is, branches_fail}
 use Rattle.sm_product.proofs.PartsPut.{if_summed, if_apart, while_summed, while_looped}
-use Rattle.sm_product.proofs.product.+product.Goals as goal
+use Rattle.sm_product.proofs.product.ProductContext.+product.Goals as goal
 
 -- what the product reads, over a wider table
 context_at : (sorts later : Sorts) (cx : ProductContext) → later ≡ sorts → IsContextReady sorts cx → IsContextReady later cx
@@ -62,7 +62,7 @@ product_block-product_statement-requires t c =
     let b = c.args.block.now.shared.now in
     let l = b.list.items in
     let v = c.args.table.now in
-    let parts = parts_of c.args.cx.now.task.now in
+    let parts = parts_of c.args.self.now.task.now in
     let s = c.index-s.result.now in
     let place : i.i - 1 < length l = omega (arith, c.loop-i-test.true, i.invariant.within) in
     let whole : 16 * statements_in (code_of b) + 12 ≡ t = c.decreases in
@@ -71,7 +71,7 @@ product_block-product_statement-requires t c =
     let falls : 16 * statements_in (statement_of s End) + 11 < t = omega (arith, whole, is, inside) in
     let cut = cut_step l i.i s c.loop-i-test.true i.invariant.within c.index-s.ensures (sorts_in v) parts i.left c.cut-parts.result.first
     c.cut-parts.result.second i.invariant.filled c.cut-parts.ensures in
-    let context = context_at (sorts_in v) (sorts_in i.table) c.args.cx.now i.invariant.widens.sorts c.requires.context in
+    let context = context_at (sorts_in v) (sorts_in i.table) c.args.self.now i.invariant.widens.sorts c.requires.context in
     let filled = filled_at (sorts_in v) (sorts_in i.table) parts (statement_of s End) c.cut-parts.result.second i.invariant.widens.sorts
     cut.1 in
     (falls, (c.requires.set, (context, (filled, i.invariant.ready))))
@@ -82,7 +82,7 @@ product_block-loop-i-preserved t c =
     let l = c.args.block.now.shared.now.list.items in
     let v = c.args.table.now in
     let w = c.product_statement.new.table in
-    let parts = parts_of c.args.cx.now.task.now in
+    let parts = parts_of c.args.self.now.task.now in
     let s = c.index-s.result.now in
     let p = sketch_in (sorts_in v) (trees_in v) c.args.next in
     let cut = cut_step l i.i s c.loop-i-test.true i.invariant.within c.index-s.ensures (sorts_in v) parts i.left c.cut-parts.result.first
@@ -103,7 +103,7 @@ product_block-returns-in_err-sketch-clause-drawn t c =
     let b = c.args.block.now.shared.now in
     let v = c.args.table.now in
     let w = c.product_statement.new.table in
-    let parts = parts_of c.args.cx.now.task.now in
+    let parts = parts_of c.args.self.now.task.now in
     let set = set_of c.args.set in
     let p = sketch_in (sorts_in v) (trees_in v) c.args.next in
     let x = c.in_err-sketch.field-0.0 in
@@ -117,7 +117,7 @@ product_block-returns-clause-drawn t c =
     let i = c.loop-i in
     let v = c.args.table.now in
     let b = c.args.block.now.shared.now in
-    let drawn = end_drawn (parts_of c.args.cx.now.task.now) (set_of c.args.set) (sketch_in (sorts_in v) (trees_in v) c.args.next)
+    let drawn = end_drawn (parts_of c.args.self.now.task.now) (set_of c.args.set) (sketch_in (sorts_in v) (trees_in v) c.args.next)
     (sketch_in (sorts_in i.table) (trees_in i.table) i.sketch) b i.i (omega (arith, c.loop-i-test.false)) i.invariant.drawn in
     (drawn, i.invariant.ready)
 
@@ -126,7 +126,7 @@ pub product_statement-returns-in-Skip-clause-drawn : goal.product_statement-retu
 product_statement-returns-in-Skip-clause-drawn t c =
     let v = c.args.table.now in
     let r = c.each_step in
-    step_drawn (parts_of c.args.cx.now.task.now) v (set_of c.args.set) (sketch_in (sorts_in v) (trees_in v) c.args.next) c.args.s.now
+    step_drawn (parts_of c.args.self.now.task.now) v (set_of c.args.set) (sketch_in (sorts_in v) (trees_in v) c.args.next) c.args.s.now
     (Skip End) r.result (ap (λ (s : Stmt). statement_of s End) c.in-Skip.is ∙ statement_of-Skip End)
     (r.ensures.drawn (sorts_in v) (trees_in v))
     (r.ensures.ready (sorts_in v) (trees_in v) c.requires.next) (r.ensures.err (sorts_in v) (trees_in v) c.requires.next)
@@ -137,7 +137,7 @@ product_statement-returns-in-Assign-clause-drawn t c =
     let x = c.in-Assign.field-0 in
     let e = c.in-Assign.field-1 in
     let r = c.each_step-in-Assign in
-    step_drawn (parts_of c.args.cx.now.task.now) v (set_of c.args.set) (sketch_in (sorts_in v) (trees_in v) c.args.next) c.args.s.now
+    step_drawn (parts_of c.args.self.now.task.now) v (set_of c.args.set) (sketch_in (sorts_in v) (trees_in v) c.args.next) c.args.s.now
     (Assign x.0 (expression_of e) End) r.result (ap (λ (s : Stmt). statement_of s End) c.in-Assign.is ∙ statement_of-Assign x e End)
     (r.ensures.drawn (sorts_in v) (trees_in v)) (r.ensures.ready (sorts_in v) (trees_in v) c.requires.next)
     (r.ensures.err (sorts_in v) (trees_in v) c.requires.next)
@@ -149,7 +149,7 @@ product_statement-returns-in-Store-clause-drawn t c =
     let i = c.in-Store.field-1 in
     let e = c.in-Store.field-2 in
     let r = c.each_step-in-Store in
-    step_drawn (parts_of c.args.cx.now.task.now) v (set_of c.args.set) (sketch_in (sorts_in v) (trees_in v) c.args.next) c.args.s.now
+    step_drawn (parts_of c.args.self.now.task.now) v (set_of c.args.set) (sketch_in (sorts_in v) (trees_in v) c.args.next) c.args.s.now
     (Write a.0 (expression_of i) (expression_of e) End) r.result
     (ap (λ (s : Stmt). statement_of s End) c.in-Store.is ∙ statement_of-Store a i e End) (r.ensures.drawn (sorts_in v) (trees_in v))
     (r.ensures.ready (sorts_in v) (trees_in v) c.requires.next) (r.ensures.err (sorts_in v) (trees_in v) c.requires.next)
@@ -162,7 +162,7 @@ product_statement-product_if-requires t c =
     let whole : 16 * statements_in (statement_of c.args.s.now End) + 11 ≡ t = c.decreases in
     let inside = ap statements_in is in
     let falls : 16 * (statements_in first + statements_in second) + 22 < t = omega (arith, whole, inside) in
-    let both = if_inside (sorts_in c.args.table.now) (parts_of c.args.cx.now.task.now) c.args.s.now (condition_of c.in-If.field-0) first
+    let both = if_inside (sorts_in c.args.table.now) (parts_of c.args.self.now.task.now) c.args.s.now (condition_of c.in-If.field-0) first
     second c.args.pieces.now c.inside-filled.result.first c.inside-filled.result.second is c.requires.filled c.inside-filled.ensures.first
     c.inside-filled.ensures.second in
     (falls, (c.requires.set, (c.requires.context, (both.0, (both.1, (c.requires.filled.sorted, c.requires.next))))))
@@ -170,7 +170,7 @@ product_statement-product_if-requires t c =
 pub product_statement-returns-in-If-clause-drawn : goal.product_statement-returns-in-If-clause-drawn
 product_statement-returns-in-If-clause-drawn t c =
     let v = c.args.table.now in
-    if_drawn (parts_of c.args.cx.now.task.now) c.product_if.new.table (set_of c.args.set) (sketch_in (sorts_in v) (trees_in v) c.args.next)
+    if_drawn (parts_of c.args.self.now.task.now) c.product_if.new.table (set_of c.args.set) (sketch_in (sorts_in v) (trees_in v) c.args.next)
     c.args.s.now (condition_of c.in-If.field-0) (code_of c.in-If.c) (code_of c.in-If.d) c.args.pieces.now c.product_if.result
     (ap (λ (s : Stmt). statement_of s End) c.in-If.is ∙ statement_of-If c.in-If.field-0 c.in-If.c c.in-If.d End) c.requires.filled.filled
     c.product_if.ensures.drawn
@@ -182,14 +182,14 @@ product_statement-product_while-requires t c =
     let whole : 16 * statements_in (statement_of c.args.s.now End) + 11 ≡ t = c.decreases in
     let inside = ap statements_in is in
     let falls : 16 * statements_in body + 16 < t = omega (arith, whole, inside) in
-    let filled = while_inside (sorts_in c.args.table.now) (parts_of c.args.cx.now.task.now) c.args.s.now (condition_of c.in-While.field-0)
+    let filled = while_inside (sorts_in c.args.table.now) (parts_of c.args.self.now.task.now) c.args.s.now (condition_of c.in-While.field-0)
     body c.args.pieces.now c.inside-filled-in-While.result.first is c.requires.filled c.inside-filled-in-While.ensures.first in
     (falls, (c.requires.set, (c.requires.context, (filled, (c.requires.filled.sorted, c.requires.next)))))
 
 pub product_statement-returns-in-While-clause-drawn : goal.product_statement-returns-in-While-clause-drawn
 product_statement-returns-in-While-clause-drawn t c =
     let v = c.args.table.now in
-    while_drawn (parts_of c.args.cx.now.task.now) c.product_while.new.table (set_of c.args.set)
+    while_drawn (parts_of c.args.self.now.task.now) c.product_while.new.table (set_of c.args.set)
     (sketch_in (sorts_in v) (trees_in v) c.args.next) c.args.s.now (condition_of c.in-While.field-0) (code_of c.in-While.c)
     c.args.pieces.now c.product_while.result
     (ap (λ (s : Stmt). statement_of s End) c.in-While.is ∙ statement_of-While c.in-While.field-0 c.in-While.c End) c.requires.filled.filled
@@ -197,7 +197,7 @@ product_statement-returns-in-While-clause-drawn t c =
 
 pub product_statement-product_hole-requires-clause-sorted : goal.product_statement-product_hole-requires-clause-sorted
 product_statement-product_hole-requires-clause-sorted t c =
-    hole_inside (sorts_in c.args.table.now) (parts_of c.args.cx.now.task.now) c.args.s.now c.in-Hole.hole c.args.pieces.now
+    hole_inside (sorts_in c.args.table.now) (parts_of c.args.self.now.task.now) c.args.s.now c.in-Hole.hole c.args.pieces.now
     (ap (λ (s : Stmt). statement_of s End) c.in-Hole.is ∙ statement_of-Hole c.in-Hole.hole End) c.requires.filled
 
 -- an if: its statements are summarized, or are a block
@@ -205,7 +205,7 @@ pub product_if-returns-then-not-are_open-clause-drawn : goal.product_if-returns-
 product_if-returns-then-not-are_open-clause-drawn t c =
     let v = c.args.table.now in
     let b = c.args.blocks.now in
-    if_summed (parts_of c.args.cx.now.task.now) (code_of b.first.shared.now) (code_of b.second.shared.now) (piece_of c.args.pieces.now)
+    if_summed (parts_of c.args.self.now.task.now) (code_of b.first.shared.now) (code_of b.second.shared.now) (piece_of c.args.pieces.now)
     (set_of c.args.set) (sketch_in (sorts_in v) (trees_in v) c.args.next) v c.each_summary.result
     (sym c.are_open.ensures ∙ c.if-not-are_open.true)
     (record {
@@ -221,7 +221,7 @@ product_if-returns-clause-drawn t c =
     let w = c.templates_of_ifs.new.table in
     let more = c.in_ok-templates.ensures.widens in
     let wider = widens_twice v u w c.in_ok-inner.ensures.widens more in
-    let parts = parts_of c.args.cx.now.task.now in
+    let parts = parts_of c.args.self.now.task.now in
     let set = set_of c.args.set in
     let b = c.args.blocks.now in
     let code = piece_of c.args.pieces.now in
@@ -244,7 +244,7 @@ product_if-returns-clause-drawn t c =
 -- the forks of copies
 pub forked-returns-then-not-has-clause-drawn : goal.forked-returns-then-not-has-clause-drawn
 forked-returns-then-not-has-clause-drawn t c =
-    let parts = parts_of c.args.cx.now.task.now in
+    let parts = parts_of c.args.self.now.task.now in
     let set = set_of c.args.set in
     let n = c.args.place in
     let less : n < 4 = omega (arith, c.requires.place, c.if-place-eq4.false) in
@@ -256,7 +256,7 @@ forked-returns-then-not-has-clause-drawn t c =
 pub branched-returns-in_err-after-clause-drawn : goal.branched-returns-in_err-after-clause-drawn
 branched-returns-in_err-after-clause-drawn t c =
     let v = c.args.table.now in
-    let parts = parts_of c.args.cx.now.task.now in
+    let parts = parts_of c.args.self.now.task.now in
     let set = set_of c.args.set in
     let taken = set_of c.args.taken in
     let first = code_of c.args.blocks.now.first.shared.now in
@@ -271,7 +271,7 @@ branched-returns-in_err-after-clause-drawn t c =
 -- a fork: an error of either side is one of the whole
 pub forked-returns-in_err-one-clause-drawn : goal.forked-returns-in_err-one-clause-drawn
 forked-returns-in_err-one-clause-drawn t c =
-    let parts = parts_of c.args.cx.now.task.now in
+    let parts = parts_of c.args.self.now.task.now in
     let set = set_of c.args.set in
     let n = c.args.place in
     let less : n < 4 = omega (arith, c.requires.place, c.if-place-eq4.false) in
@@ -284,7 +284,7 @@ forked-returns-in_err-one-clause-drawn t c =
 
 pub forked-returns-in_err-other-clause-drawn : goal.forked-returns-in_err-other-clause-drawn
 forked-returns-in_err-other-clause-drawn t c =
-    let parts = parts_of c.args.cx.now.task.now in
+    let parts = parts_of c.args.self.now.task.now in
     let set = set_of c.args.set in
     let n = c.args.place in
     let less : n < 4 = omega (arith, c.requires.place, c.if-place-eq4.false) in
@@ -295,7 +295,7 @@ forked-returns-in_err-other-clause-drawn t c =
 
 pub forked-returns-clause-drawn : goal.forked-returns-clause-drawn
 forked-returns-clause-drawn t c =
-    let parts = parts_of c.args.cx.now.task.now in
+    let parts = parts_of c.args.self.now.task.now in
     let set = set_of c.args.set in
     let n = c.args.place in
     let less : n < 4 = omega (arith, c.requires.place, c.if-place-eq4.false) in
@@ -322,7 +322,7 @@ forked-returns-clause-drawn t c =
 pub product_while-returns-then-not-has_hole-clause-drawn : goal.product_while-returns-then-not-has_hole-clause-drawn
 product_while-returns-then-not-has_hole-clause-drawn t c =
     let v = c.args.table.now in
-    while_summed (parts_of c.args.cx.now.task.now) (code_of c.args.body.now.shared.now) (piece_of c.args.pieces.now) (set_of c.args.set)
+    while_summed (parts_of c.args.self.now.task.now) (code_of c.args.body.now.shared.now) (piece_of c.args.pieces.now) (set_of c.args.set)
     (sketch_in (sorts_in v) (trees_in v) c.args.next) v c.each_summary.result (sym c.has_hole.ensures ∙ c.if-not-has_hole.true)
     (record {
       made = c.each_summary.ensures.drawn (sorts_in v) (trees_in v);
@@ -337,7 +337,7 @@ product_while-returns-clause-drawn t c =
     let w = c.templates_of_loops.new.table in
     let more = c.in_ok-templates.ensures.widens in
     let wider = widens_twice v u w c.in_ok-turns.ensures.widens more in
-    let parts = parts_of c.args.cx.now.task.now in
+    let parts = parts_of c.args.self.now.task.now in
     let set = set_of c.args.set in
     let body = code_of c.args.body.now.shared.now in
     let code = piece_of c.args.pieces.now in
@@ -363,7 +363,7 @@ turns-loop-smaller-preserved t c =
     let i = c.loop-smaller in
     let w = c.put_turn.new.table in
     let turn : ℕ → plain.Sketch =
-    λ (m : ℕ). product (parts_of c.args.cx.now.task.now) (code_of c.args.body.now.shared.now) (set_of m) plain.ends in
+    λ (m : ℕ). product (parts_of c.args.self.now.task.now) (code_of c.args.body.now.shared.now) (set_of m) plain.ends in
     record {
       made = turns_push turn c.args.set i.smaller (map (sketch_in (sorts_in i.table) (trees_in i.table)) i.turns.items)
           (map (sketch_in (sorts_in w) (trees_in w)) c.put_turn.new.turns.items) i.invariant.made c.in_ok-put_turn.ensures.made;
@@ -374,7 +374,7 @@ turns-loop-smaller-preserved t c =
 pub turns-returns-clause-made : goal.turns-returns-clause-made
 turns-returns-clause-made t c =
     let i = c.loop-smaller in
-    let parts = parts_of c.args.cx.now.task.now in
+    let parts = parts_of c.args.self.now.task.now in
     let body = code_of c.args.body.now.shared.now in
     let high = c.loop-smaller-test.false in
     let low = c.loop-smaller.auto.smaller-end in
@@ -387,7 +387,7 @@ turns-returns-clause-made t c =
 pub turns-returns-in_err-put_turn-clause-err : goal.turns-returns-in_err-put_turn-clause-err
 turns-returns-in_err-put_turn-clause-err t c = λ ts next.
     let turn : Copies → plain.Sketch =
-    λ (v : Copies). product (parts_of c.args.cx.now.task.now) (code_of c.args.body.now.shared.now) v plain.ends in
+    λ (v : Copies). product (parts_of c.args.self.now.task.now) (code_of c.args.body.now.shared.now) v plain.ends in
     let x = c.in_err-put_turn.field-0.0 in
     let m = c.loop-smaller.smaller + 1 in
     let most : m ≤ 15 = omega (arith, c.loop-smaller-test.true) in
@@ -403,8 +403,8 @@ branched-drawn_for-requires-2 t c =
     let u = c.drawn_for.new.table in
     let b = c.args.blocks.now in
     let sorts = c.in_ok-after.ensures.widens.sorts in
-    let context = context_at (sorts_in v) (sorts_in u) c.args.cx.now sorts c.requires.context in
-    let first = filled_at (sorts_in v) (sorts_in u) (parts_of c.args.cx.now.task.now) (code_of b.first.shared.now) b.first.filled sorts
+    let context = context_at (sorts_in v) (sorts_in u) c.args.self.now sorts c.requires.context in
+    let first = filled_at (sorts_in v) (sorts_in u) (parts_of c.args.self.now.task.now) (code_of b.first.shared.now) b.first.filled sorts
     c.requires.first in
     (search rules, (c.requires.taken, (context, (first, c.in_ok-after.ensures.drawn.1))))
 
@@ -413,7 +413,7 @@ pub put_turn-returns-clause-made : goal.put_turn-returns-clause-made
 put_turn-returns-clause-made t c =
     let v = c.args.table.now in
     let w = c.product_block.new.table in
-    let body = product (parts_of c.args.cx.now.task.now) (code_of c.args.body.now.shared.now) in
+    let body = product (parts_of c.args.self.now.task.now) (code_of c.args.body.now.shared.now) in
     put_drawn v w c.in_ok-turn.ensures.widens c.args.turns.now.items c.push.new.self.items c.in_ok-turn.turn c.in_ok-push.ensures.items
     c.requires.turns (λ (m : ℕ). body (set_of m) plain.ends) c.args.mask (bit_and c.args.mask c.args.set == c.args.mask)
     (search rules)

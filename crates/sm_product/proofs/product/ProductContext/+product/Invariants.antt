@@ -15,7 +15,7 @@ use Rattle.sm_moves.specs.FilledCode.{AreFilledAs}
 use Rattle.sm_sketch.specs.Sketches.{ends}
 use Rattle.sm_sketch.specs.SketchViews.{sketch_in, IsSketchReady, AreSketchesReady}
 use Rattle.sm_product.specs.Products.{product}
-use Rattle.sm_product.proofs.product.+product.Given as goal
+use Rattle.sm_product.proofs.product.ProductContext.+product.Given as goal
 
 abbrev pub decreases-product_block : goal.decreases-product_block
 decreases-product_block l = 16 * statements_in (code_of l.block.now.shared.now) + 12
@@ -51,10 +51,10 @@ decreases-put_turn l = 16 * statements_in (code_of l.body.now.shared.now) + 13
 abbrev pub invariant-product_block-loop-i : goal.invariant-product_block-loop-i
 invariant-product_block-loop-i l = record {
   within : l.i ≤ length l.block.shared.now.list.items;
-  filled : AreFilledAs (sorts_in l.initial.table) (parts_of l.cx.task.now)
+  filled : AreFilledAs (sorts_in l.initial.table) (parts_of l.self.task.now)
       (code_before (take l.i l.block.shared.now.list.items) End) l.left;
   drawn : sketch_in (sorts_in l.table) (trees_in l.table) l.sketch
-      ≡ product (parts_of l.cx.task.now) (code_before (drop l.i l.block.shared.now.list.items) End) (set_of l.set)
+      ≡ product (parts_of l.self.task.now) (code_before (drop l.i l.block.shared.now.list.items) End) (set_of l.set)
       (sketch_in (sorts_in l.initial.table) (trees_in l.initial.table) l.initial.sketch);
   ready : IsSketchReady (sorts_in l.table) (trees_in l.table) l.sketch;
   widens : ExtendsTable l.initial.table l.table;
@@ -66,7 +66,7 @@ decreases-product_block-loop-i l = l.i
 abbrev pub invariant-turns-loop-smaller : goal.invariant-turns-loop-smaller
 invariant-turns-loop-smaller l = record {
   made : map (sketch_in (sorts_in l.table) (trees_in l.table)) l.turns.items
-      ≡ map (λ (m : ℕ). product (parts_of l.cx.task.now) (code_of l.body.shared.now) (set_of m) ends)
+      ≡ map (λ (m : ℕ). product (parts_of l.self.task.now) (code_of l.body.shared.now) (set_of m) ends)
       (filter (λ (m : ℕ). bit_and m l.set == m) (range_with_len 1 l.smaller));
   ready : AreSketchesReady (sorts_in l.table) (trees_in l.table) l.turns.items;
   widens : ExtendsTable l.initial.table l.table;

@@ -11,7 +11,7 @@ use Rattle.sm_sketch.specs.SketchViews.{sketch_in, AreSketchesReady}
 use Rattle.sm_product.specs.LoopTurns.{turn_of}
 use Rattle.sm_product.specs.MiniProducts.{statements_left}
 use Rattle.sm_product.specs.Rooms.{IsRoom, IsTaken}
-use Rattle.sm_product.proofs.mini.+mini.Given as goal
+use Rattle.sm_product.proofs.mini.Drawing.+mini.Given as goal
 
 abbrev pub decreases-draw : goal.decreases-draw
 decreases-draw l = 8 * statements_left (codes_in l.rests.now) + 5
@@ -39,13 +39,13 @@ decreases-draw_body l = 8 * statements_left (codes_in l.rests.now)
 
 abbrev pub invariant-draw_turns-loop-smaller : goal.invariant-draw_turns-loop-smaller
 invariant-draw_turns-loop-smaller l = record {
-  drawn : (t : Parts) → IsSiteOf t l.site →
+  drawn : (t : Parts) → IsSiteOf t l.self.site.now →
       map (sketch_in (sorts_in l.table) (trees_in l.table)) l.turns.items
-      ≡ map (λ (m : ℕ). turn_of t (codes_in l.rests) (set_of m)) (filter (λ (m : ℕ). bit_and m l.left == m) (range_with_len 1 l.smaller));
+      ≡ map (λ (m : ℕ). turn_of t (codes_in l.rests) (set_of m)) (filter (λ (m : ℕ). bit_and m l.self.set == m) (range_with_len 1 l.smaller));
   ready : AreSketchesReady (sorts_in l.table) (trees_in l.table) l.turns.items;
-  taken : (t : Parts) → IsSiteOf t l.site →
+  taken : (t : Parts) → IsSiteOf t l.self.site.now →
       IsTaken l.initial.room l.room
-      (map (λ (m : ℕ). turn_of t (codes_in l.rests) (set_of m)) (filter (λ (m : ℕ). bit_and m l.left == m) (range_with_len 1 l.smaller)));
+      (map (λ (m : ℕ). turn_of t (codes_in l.rests) (set_of m)) (filter (λ (m : ℕ). bit_and m l.self.set == m) (range_with_len 1 l.smaller)));
   room : IsRoom l.room;
   widens : ExtendsTable l.initial.table l.table;
 }
