@@ -33,7 +33,6 @@ use sm_expand::Due;
 use sm_goals::node_of;
 use sm_num::Op;
 use sm_par::Gate;
-use sm_plan::Formulas;
 use sm_solve::{Answer, Node, Reach, solve_at};
 use sm_term::{Formula, TermTable};
 use std::alloc::{AllocError, Global};
@@ -116,35 +115,44 @@ fn put(trees: &mut Vec<CertTree>, tree: CertTree) -> Result<(), AllocError>
     Ok(())
 }
 
-// Puts the certificate of a goal behind others, or tells why there is none.
+// What a node asks, and how far a walk of its goals goes.
+#[derive(Drop)]
+struct Asking<'a> {
+    due: &'a Due,
+    reach: Reach,
+}
+
+// Puts the certificate of a goal that a node asks behind others, or tells why there is none.
 fn end_goal(
     alloc: Global,
     table: &mut TermTable,
     shared: &mut Option<Node>,
-    facts: &Formulas,
+    asking: &Asking<'_>,
     goal: &Formula,
-    node: u64,
     at: u64,
     trees: &mut Vec<CertTree>,
-    reach: Reach,
 ) -> Result<Option<Stop>, AllocError>
     requires facts { AreFormsReady (sorts_in table.old) (trees_in table.old)
-        facts.now.list.items }
+        asking.now.due.now.facts.list.items }
     requires goal { IsFormReady (sorts_in table.old) (trees_in table.old) goal.now }
-    requires shared { IsNodeOf table.old facts.now.list.items shared.old }
+    requires shared { IsNodeOf table.old asking.now.due.now.facts.list.items shared.old }
     ensures ends { let sorts = sorts_in table.old in let ts = trees_in table.old in
-        let given = forms_in sorts ts facts.now.list.items in
+        let d = asking.now.due.now in
+        let given = forms_in sorts ts d.facts.list.items in
         let asks = assertion_in sorts ts (numbered goal.now) in
+        let walked = walk sorts asking.now.reach given asks in
         (goals : List (List Assertion × Assertion)) →
         AreCollected table.old goals trees.old.items → IfOk result (λ o. MatchOption o
-        (GoalCloses node at (walk sorts reach given asks)
+        (GoalCloses d.node at walked
         × AreCollected table.new (goals ++ (given, asks) ∷ []) trees.new.items)
-        (GoalStops node at (walk sorts reach given asks))) }
-    ensures shared { IfOk result (λ o. IsNodeOf table.new facts.now.list.items shared.new) }
+        (GoalStops d.node at walked)) }
+    ensures shared { IfOk result (λ o.
+        IsNodeOf table.new asking.now.due.now.facts.list.items shared.new) }
     ensures widens { ExtendsTable table.old table.new }
 {
-    let answer = solve_at(alloc, table, shared, &facts.list, goal, reach)?;
-    match certificate(answer, node, at) {
+    let due = asking.due;
+    let answer = solve_at(alloc, table, shared, &due.facts.list, goal, asking.reach)?;
+    match certificate(answer, due.node, at) {
         Ok(tree) => {
             put(trees, tree)?;
             Ok(None)
@@ -154,8 +162,9 @@ fn end_goal(
 }
 
 // Puts the certificates of a run of goals behind others. A run is of what one node asks, and begins
-// at a place; it goes up to the first goal for which there is none. Where the node asks several they share the classes of its facts, though the
-// run has one alone: so each has the same certificate, whatever the runs.
+// at a place; it goes up to the first goal for which there is none. Where the node asks several they
+// share the classes of its facts, though the run has one alone: so each has the same certificate,
+// whatever the runs.
 pub(crate) fn end_run(
     alloc: Global,
     table: &mut TermTable,
@@ -180,7 +189,8 @@ pub(crate) fn end_run(
 {
     let several = due.targets.list.len() > 1;
     let mut shared = node_of(alloc, table, &due.facts, several, reach.steps)?;
-    end_run_at(alloc, table, &mut shared, due, first, run, trees, reach)
+    let asking = Asking { due, reach };
+    end_run_at(alloc, table, &mut shared, &asking, first, run, trees)
 }
 
 // Puts the certificates of a run behind others, by a node of the facts, where there is one.
@@ -188,32 +198,28 @@ fn end_run_at(
     alloc: Global,
     table: &mut TermTable,
     shared: &mut Option<Node>,
-    due: &Due,
+    asking: &Asking<'_>,
     first: u64,
     run: &[Formula],
     trees: &mut Vec<CertTree>,
-    reach: Reach,
 ) -> Result<Option<Stop>, AllocError>
     requires facts { AreFormsReady (sorts_in table.old) (trees_in table.old)
-        due.now.facts.list.items }
+        asking.now.due.now.facts.list.items }
     requires goals { AreFormsReady (sorts_in table.old) (trees_in table.old) run.now }
     requires places { first + length run.now < 2 ^ 64 }
-    requires shared { IsNodeOf table.old due.now.facts.list.items shared.old }
+    requires shared { IsNodeOf table.old asking.now.due.now.facts.list.items shared.old }
     ensures ends { let sorts = sorts_in table.old in let ts = trees_in table.old in
-        let d = due_in sorts ts due.now in let asks = forms_in sorts ts run.now in
+        let d = due_in sorts ts asking.now.due.now in let asks = forms_in sorts ts run.now in
         (goals : List (List Assertion × Assertion)) →
         AreCollected table.old goals trees.old.items → IfOk result (λ o. MatchOption o
-        (RunCloses (walk sorts reach) d first asks
+        (RunCloses (walk sorts asking.now.reach) d first asks
         × AreCollected table.new (goals ++ goals_with d.facts asks) trees.new.items)
-        (RunStops (walk sorts reach) d first asks)) }
+        (RunStops (walk sorts asking.now.reach) d first asks)) }
     ensures widens { ExtendsTable table.old table.new }
 {
     let mut at = first;
     for goal in run {
-        let facts = &due.facts;
-        let end = end_goal(
-            alloc, table, shared, facts, goal, due.node, at, trees, reach,
-        )?;
+        let end = end_goal(alloc, table, shared, asking, goal, at, trees)?;
         if end.is_some() {
             return Ok(end);
         }

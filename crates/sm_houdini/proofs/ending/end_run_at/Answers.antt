@@ -9,7 +9,7 @@ use Rattle.sm_houdini.proofs.ending.end_run_at.Goals as goal
 
 pub end_goal-requires-clause-facts : goal.end_goal-requires-clause-facts
 end_goal-requires-clause-facts c =
-    forms_ready c.args.table.now c.loop-goal.table c.loop-goal.invariant.widens c.args.due.now.facts.list.items c.requires.facts
+    forms_ready c.args.table.now c.loop-goal.table c.loop-goal.invariant.widens c.args.asking.now.due.now.facts.list.items c.requires.facts
 
 pub end_goal-requires-clause-goal : goal.end_goal-requires-clause-goal
 end_goal-requires-clause-goal c =
@@ -33,8 +33,9 @@ returns-then-is_some-clause-ends c = λ goals before.
     let inv = c.loop-goal.invariant in
     let f = c.goal-item.result in
     let i = c.loop-goal.goal-index in
-    goal_ended c.args.table.now c.loop-goal.table c.end_goal.new.table inv.widens c.args.reach c.args.first i c.loop-goal.at
-    c.args.due.now c.args.run.now f
+    let a = c.args.asking.now in
+    goal_ended c.args.table.now c.loop-goal.table c.end_goal.new.table inv.widens a.reach c.args.first i c.loop-goal.at
+    a.due.now c.args.run.now f
     c.requires.facts c.requires.goals c.loop-goal-test.true c.goal-item.is inv.count _ goals c.end_goal.new.trees.items
     (inv.closes goals before)
     c.in_ok-end.end (sym c.is_some.ensures ∙ c.if-is_some.true) (c.in_ok-end.ensures.ends _ (inv.collected goals before))
@@ -44,7 +45,8 @@ returns-clause-ends c = λ goals before.
     let inv = c.loop-goal.invariant in
     let i = c.loop-goal.goal-index in
     let past : length c.args.run.now ≤ i = omega (arith, c.loop-goal-test.false) in
-    goals_done c.args.table.now c.loop-goal.table c.args.reach c.args.first i c.args.due.now c.args.run.now past goals
+    let a = c.args.asking.now in
+    goals_done c.args.table.now c.loop-goal.table a.reach c.args.first i a.due.now c.args.run.now past goals
     c.loop-goal.trees.items
     (inv.collected goals before) (inv.closes goals before)
 
@@ -52,11 +54,12 @@ pub loop-goal-preserved : goal.loop-goal-preserved
 loop-goal-preserved c =
     let inv = c.loop-goal.invariant in
     let v = c.args.table.now in
+    let a = c.args.asking.now in
     let f = c.goal-item.result in
     let i = c.loop-goal.goal-index in
     let none = sym c.is_some.ensures ∙ c.if-is_some.false in
     let passed = λ (goals : List (List Assertion × Assertion)) (before : AreCollected v goals c.args.trees.now.items).
-    goal_passed v c.loop-goal.table c.end_goal.new.table inv.widens c.args.reach c.args.first i c.loop-goal.at c.args.due.now
+    goal_passed v c.loop-goal.table c.end_goal.new.table inv.widens a.reach c.args.first i c.loop-goal.at a.due.now
     c.args.run.now f c.requires.facts
     c.requires.goals c.loop-goal-test.true c.goal-item.is inv.count goals c.end_goal.new.trees.items c.in_ok-end.end none
     (c.in_ok-end.ensures.ends _ (inv.collected goals before)) in
@@ -65,7 +68,7 @@ loop-goal-preserved c =
       collected = λ goals before. (passed goals before).1;
       closes = λ goals before later.
           inv.closes goals before later
-          ∙ goal_left (sorts_in v) (trees_in v) c.args.reach c.args.first i c.args.due.now c.args.run.now f c.loop-goal-test.true
+          ∙ goal_left (sorts_in v) (trees_in v) a.reach c.args.first i a.due.now c.args.run.now f c.loop-goal-test.true
           c.goal-item.is (passed goals before).0 later;
       widens = widens_twice v c.loop-goal.table c.end_goal.new.table inv.widens c.in_ok-end.ensures.widens;
       shared = c.in_ok-end.ensures.shared;
