@@ -20,7 +20,7 @@ ghost use Rattle.sm_check.specs.Walks.{terms_in};
 use crate::branches::line_at;
 use crate::fault::LineFault;
 use crate::openings::{Opening, opened};
-use crate::pending::{Due, Waiting};
+use crate::pending::{Due, OpenBranch, Waiting};
 use crate::raw_lines::first_line;
 use sm_proof::{Line, LineError, line_with};
 use sm_syntax::PerCopy;
@@ -160,8 +160,8 @@ fn goes_on_by(
         Line::Cert(line) => line,
         _ => return Ok(false),
     };
-    let (stores, splits) = match branch.due.take() {
-        Some(Due::Branch { stores, splits }) => (stores, splits),
+    let at = match branch.due.take() {
+        Some(Due::Branch { stores, splits }) => OpenBranch { stores, splits },
         _ => return Ok(false),
     };
     match line_at(
@@ -170,8 +170,7 @@ fn goes_on_by(
         terms,
         &mut branch.path,
         &mut branch.waiting,
-        stores,
-        splits,
+        at,
         line,
     ) {
         Ok(due) => {

@@ -21,14 +21,12 @@ use crate::certs::{after_line, splits_branch};
 use crate::due::facts_on;
 use crate::fault::LineFault;
 use crate::names::{head_of, named_line};
-use crate::pending::{Due, Waiting};
+use crate::pending::{Due, OpenBranch, Waiting};
 use crate::walk::Walk;
 use sm_proof::Word;
-use sm_syntax::PerCopy;
-use sm_term::{SymStore, TermId, TermTable};
+use sm_term::{TermId, TermTable};
 use sm_theory::{Branch, CertLine};
 use std::alloc::Global;
-use std::rc::Rc;
 
 // How many splits stand above what a line opens, None where they are too many.
 fn splits_over(line: &CertLine, splits: u64) -> Option<u64>
@@ -51,8 +49,7 @@ pub(crate) fn line_at<'a>(
     terms: &[TermId],
     path: &mut Branch,
     waiting: &mut Vec<Waiting<'a>>,
-    stores: Rc<PerCopy<SymStore>>,
-    splits: u64,
+    branch: OpenBranch,
     line: &CertLine,
 ) -> Result<Option<Due<'a>>, LineFault>
     requires { AreBefore (length (trees_in table.now)) terms.now }
@@ -61,43 +58,47 @@ pub(crate) fn line_at<'a>(
         AllStand sorts trees path.old.list.items own → AreFactsSorted sorts own →
         AllWait sorts trees own (length own) (reverse waiting.old.items) rest →
         Tells (λ d ps. PendingStands sorts trees path.new.list.items d waiting.new.items ps) result
-        (pending_after sorts (terms_in trees terms.now) (stores_in trees stores.value) own
-        splits rest (numbered_line line.now)) }
+        (pending_after sorts (terms_in trees terms.now) (stores_in trees branch.stores.value) own
+        branch.splits rest (numbered_line line.now)) }
     ensures ready { let sorts = sorts_in table.now in let trees = trees_in table.now in
-        AreStoresReady sorts trees stores.value →
+        AreStoresReady sorts trees branch.stores.value →
         AreWaitingReady sorts trees waiting.old.items →
         IfOk result (IsReadyIfDue sorts trees) }
     ensures later { let sorts = sorts_in table.now in let trees = trees_in table.now in
-        AreStoresReady sorts trees stores.value →
+        AreStoresReady sorts trees branch.stores.value →
         AreWaitingReady sorts trees waiting.old.items →
         AreWaitingReady sorts trees waiting.new.items }
 {
     let count = facts_on(path) as u64;
     let named = named_line(alloc, table, terms, count, line)?;
-    let over = match splits_over(line, splits) {
+    let over = match splits_over(line, branch.splits) {
         Some(over) => over,
         None => return Err(LineFault::Wrong { word: Word::Deep }),
     };
     let head = head_of(line);
-    after_line(alloc, table, path, waiting, stores, over, &named, head)
+    let next = OpenBranch {
+        stores: branch.stores,
+        splits: over,
+    };
+    after_line(alloc, table, path, waiting, next, &named, head)
 }
 
 // Takes a line at a branch that was due and whose stores are held apart.
 fn cert_at<'a>(
     alloc: Global,
     walk: &mut Walk<'a>,
-    stores: Rc<PerCopy<SymStore>>,
-    splits: u64,
+    branch: OpenBranch,
     line: &CertLine,
 ) -> Result<(), LineFault>
-    requires { AreStoresReady (sorts_in walk.old.table) (trees_in walk.old.table) stores.value }
+    requires { AreStoresReady (sorts_in walk.old.table) (trees_in walk.old.table)
+        branch.stores.value }
     ensures tells { let sorts = sorts_in walk.old.table in
-        let held = stores_in (trees_in walk.old.table) stores.value in
+        let held = stores_in (trees_in walk.old.table) branch.stores.value in
         let l = numbered_line line.now in
         (p : Progress) (own : List BranchFact) (rest : List Pending) → WalksIn walk.old p own rest →
         Tells (λ (_ : Unit {0}) (q : Progress). Walks walk.new q) result
         (found_or (named_line p.terms (length own) l) BadNumber
-        (after_line sorts p held own splits rest l)) }
+        (after_line sorts p held own branch.splits rest l)) }
     ensures sorts { sorts_in walk.new.table ≡ sorts_in walk.old.table }
 {
     match line_at(
@@ -106,8 +107,7 @@ fn cert_at<'a>(
         &walk.terms,
         &mut walk.path,
         &mut walk.waiting,
-        stores,
-        splits,
+        branch,
         line,
     ) {
         Ok(due) => {
@@ -130,7 +130,9 @@ pub(crate) fn take_cert(
     ensures sorts { sorts_in walk.new.table ≡ sorts_in walk.old.table }
 {
     match walk.due.take() {
-        Some(Due::Branch { stores, splits }) => cert_at(alloc, walk, stores, splits, line),
+        Some(Due::Branch { stores, splits }) => {
+            cert_at(alloc, walk, OpenBranch { stores, splits }, line)
+        }
         Some(Due::State { .. }) => Err(LineFault::Wrong { word: Word::Order }),
         None => Err(LineFault::Wrong { word: Word::Extra }),
     }

@@ -21,18 +21,16 @@ ghost use Rattle.sm_check.specs.Pending.{IsReadyIfDue, AreWaitingReady, AllWait,
 
 use crate::due::{facts_on, next_due};
 use crate::fault::LineFault;
-use crate::pending::{Due, Waiting};
+use crate::pending::{Due, OpenBranch, Waiting};
 use sm_cert::{add_line, closes, parts};
 use sm_euf::Euf;
 use sm_exact::With;
 use sm_lia::Lia;
 use sm_proof::{Head, Word};
 use sm_rows::Rows;
-use sm_syntax::PerCopy;
-use sm_term::{SymStore, TermTable};
+use sm_term::TermTable;
 use sm_theory::{Branch, CertLine};
 use std::alloc::Global;
-use std::rc::Rc;
 
 // What is due after a line at the branch that was due. The terms of the line are those of the table.
 pub(crate) fn after_line<'a>(
@@ -40,8 +38,7 @@ pub(crate) fn after_line<'a>(
     table: &TermTable,
     path: &mut Branch,
     waiting: &mut Vec<Waiting<'a>>,
-    stores: Rc<PerCopy<SymStore>>,
-    splits: u64,
+    branch: OpenBranch,
     line: &CertLine,
     head: Head,
 ) -> Result<Option<Due<'a>>, LineFault>
@@ -53,20 +50,23 @@ pub(crate) fn after_line<'a>(
         Tells (λ d pending.
         PendingStands sorts trees path.new.list.items d waiting.new.items pending) result
         (found_or (ways sorts facts (line_in trees line.now)) (First head)
-        (λ to. Ok (branches_before (stores_in trees stores.value) facts splits to rest))) }
+        (λ to. Ok (branches_before (stores_in trees branch.stores.value) facts branch.splits to
+        rest))) }
     ensures ready { let sorts = sorts_in table.now in let trees = trees_in table.now in
-        AreStoresReady sorts trees stores.value → AreWaitingReady sorts trees waiting.old.items →
+        AreStoresReady sorts trees branch.stores.value →
+        AreWaitingReady sorts trees waiting.old.items →
         IfOk result (IsReadyIfDue sorts trees) }
     ensures later { let sorts = sorts_in table.now in let trees = trees_in table.now in
-        AreStoresReady sorts trees stores.value → AreWaitingReady sorts trees waiting.old.items →
+        AreStoresReady sorts trees branch.stores.value →
+        AreWaitingReady sorts trees waiting.old.items →
         AreWaitingReady sorts trees waiting.new.items }
 {
     if splits_branch(line) {
-        split(alloc, table, path, waiting, stores, splits, line, head)
+        split(alloc, table, path, waiting, branch, line, head)
     } else if closes_branch(line) {
         close(alloc, table, path, waiting, line, head)
     } else {
-        add(alloc, table, path, stores, splits, line, head)
+        add(alloc, table, path, branch, line, head)
     }
 }
 
@@ -76,8 +76,7 @@ fn split<'a>(
     table: &TermTable,
     path: &mut Branch,
     waiting: &mut Vec<Waiting<'a>>,
-    stores: Rc<PerCopy<SymStore>>,
-    splits: u64,
+    branch: OpenBranch,
     line: &CertLine,
     head: Head,
 ) -> Result<Option<Due<'a>>, LineFault>
@@ -90,26 +89,31 @@ fn split<'a>(
         Tells (λ d pending.
         PendingStands sorts trees path.new.list.items d waiting.new.items pending) result
         (found_or (ways sorts facts (line_in trees line.now)) (First head)
-        (λ to. Ok (branches_before (stores_in trees stores.value) facts splits to rest))) }
+        (λ to. Ok (branches_before (stores_in trees branch.stores.value) facts branch.splits to
+        rest))) }
     ensures ready { let sorts = sorts_in table.now in let trees = trees_in table.now in
-        AreStoresReady sorts trees stores.value → IfOk result (IsReadyIfDue sorts trees) }
+        AreStoresReady sorts trees branch.stores.value → IfOk result (IsReadyIfDue sorts trees) }
     ensures later { let sorts = sorts_in table.now in let trees = trees_in table.now in
-        AreStoresReady sorts trees stores.value → AreWaitingReady sorts trees waiting.old.items →
+        AreStoresReady sorts trees branch.stores.value →
+        AreWaitingReady sorts trees waiting.old.items →
         AreWaitingReady sorts trees waiting.new.items }
 {
     // The terms of a table are sorted, as its length ensures.
     table.len();
     match parts(alloc, table, path, line)? {
         Some((first, second)) => {
-            let other = stores.clone()?;
+            let other = branch.stores.clone()?;
             waiting.push(Waiting::Branch {
                 shared: facts_on(path),
                 fact: second,
                 stores: other,
-                splits,
+                splits: branch.splits,
             })?;
             path.list.push(first)?;
-            Ok(Some(Due::Branch { stores, splits }))
+            Ok(Some(Due::Branch {
+                stores: branch.stores,
+                splits: branch.splits,
+            }))
         }
         None => Err(LineFault::Wrong {
             word: Word::First(head),
@@ -156,8 +160,7 @@ fn add<'a>(
     alloc: Global,
     table: &TermTable,
     path: &mut Branch,
-    stores: Rc<PerCopy<SymStore>>,
-    splits: u64,
+    branch: OpenBranch,
     line: &CertLine,
     head: Head,
 ) -> Result<Option<Due<'a>>, LineFault>
@@ -171,9 +174,10 @@ fn add<'a>(
         Tells (λ d pending.
         PendingStands sorts trees path.new.list.items d waiting pending) result
         (found_or (ways sorts facts (line_in trees line.now)) (First head)
-        (λ to. Ok (branches_before (stores_in trees stores.value) facts splits to rest))) }
+        (λ to. Ok (branches_before (stores_in trees branch.stores.value) facts branch.splits to
+        rest))) }
     ensures ready { let sorts = sorts_in table.now in let trees = trees_in table.now in
-        AreStoresReady sorts trees stores.value → IfOk result (IsReadyIfDue sorts trees) }
+        AreStoresReady sorts trees branch.stores.value → IfOk result (IsReadyIfDue sorts trees) }
 {
     // The terms of a table are sorted, as its length ensures.
     table.len();
@@ -186,7 +190,10 @@ fn add<'a>(
         path,
         line,
     )? {
-        Ok(Some(Due::Branch { stores, splits }))
+        Ok(Some(Due::Branch {
+            stores: branch.stores,
+            splits: branch.splits,
+        }))
     } else {
         Err(LineFault::Wrong {
             word: Word::First(head),

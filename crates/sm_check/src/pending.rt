@@ -19,6 +19,13 @@ pub(crate) enum Due<'a> {
     },
 }
 
+/// An open branch, without its facts: its stores, and how many splits stand above it.
+#[derive(Drop)]
+pub(crate) struct OpenBranch {
+    pub(crate) stores: Rc<PerCopy<SymStore>>,
+    pub(crate) splits: u64,
+}
+
 /// What comes later. Its facts are the first `shared` of the path, and its own few behind them.
 #[derive(Drop)]
 pub(crate) enum Waiting<'a> {

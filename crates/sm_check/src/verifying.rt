@@ -109,7 +109,18 @@ pub fn verify<R: Threads + Sync, G: Gate, H: Shelf>(
     let programs = fill_all(alloc, task)?;
     let checker = Checker::new(alloc, task, &programs)?;
     let crew = Crew { rt, gate, workers };
-    check_file(&crew, alloc, checker, shelf, name, LONGEST)
+    let file = LimitedFile {
+        name,
+        limit: LONGEST,
+    };
+    check_file(&crew, alloc, checker, shelf, &file)
+}
+
+// A file by its name, and how many bytes it may have.
+#[derive(Clone, Copy)]
+struct LimitedFile<'a> {
+    name: &'a str,
+    limit: u64,
 }
 
 // Whether a file passes, by a checker that took no line of it yet.
@@ -118,21 +129,21 @@ fn check_file<R: Threads + Sync, G: Gate, H: Shelf>(
     alloc: Global,
     checker: Checker,
     shelf: &mut H,
-    name: &str,
-    limit: u64,
+    file: &LimitedFile<'_>,
 ) -> Result<Checked, CheckError>
-    requires { limit + 1 < 2 ^ 64 }
+    requires { file.now.limit + 1 < 2 ^ 64 }
     ensures answer { (s : Subject) → IsAt checker.entry s (Ok Unopened) →
-        WhereHeld (H.file shelf.old name.now) (λ bytes.
-        TellsAnswer result (file_answer limit s bytes)) }
+        WhereHeld (H.file shelf.old file.now.name.now) (λ bytes.
+        TellsAnswer result (file_answer file.now.limit s bytes)) }
     ensures read { (s : Subject) → IsAt checker.entry s (Ok Unopened) →
-        AnswersRead name.now (H.given shelf.old) (H.given shelf.new) limit s result }
+        AnswersRead file.now.name.now (H.given shelf.old) (H.given shelf.new) file.now.limit s
+        result }
     ensures sound { (s : Subject) → IsAt checker.entry s (Ok Unopened) →
         result ≡ Ok Checked.Pass → (bytes : List ℕ) × (verdict s bytes ≡ Pass) }
-    ensures absent { H.file shelf.old name.now ≡ absent →
+    ensures absent { H.file shelf.old file.now.name.now ≡ absent →
         IsErrOf result CheckError.ReadFault ⊎ IsErrOf result CheckError.Memory }
     ensures same { (other : List ℕ) → H.file shelf.new other ≡ H.file shelf.old other }
-    ensures cause { HasFaultCause (H.file shelf.old name.now) (H.read_faults shelf.old)
+    ensures cause { HasFaultCause (H.file shelf.old file.now.name.now) (H.read_faults shelf.old)
         (H.read_faults shelf.new) result }
     ensures writes { H.write_faults shelf.new ≡ H.write_faults shelf.old }
 {
@@ -145,8 +156,7 @@ fn check_file<R: Threads + Sync, G: Gate, H: Shelf>(
         &mut lines,
         &mut unfinished,
         shelf,
-        name,
-        limit,
+        file,
         &mut piece,
     )
 }
@@ -165,37 +175,37 @@ fn check_pieces<R: Threads + Sync, G: Gate, H: Shelf>(
     lines: &mut TakenLines,
     unfinished: &mut Unfinished,
     shelf: &mut H,
-    name: &str,
-    limit: u64,
+    file: &LimitedFile<'_>,
     piece: &mut [u8],
 ) -> Result<Checked, CheckError>
     requires some { 0 < length piece.old }
-    requires few { lines.old.number + limit < 2 ^ 64 }
+    requires few { lines.old.number + file.now.limit < 2 ^ 64 }
     ensures answer { (s : Subject) → AreTaken lines.old unfinished.old s [] →
-        WhereHeld (H.file shelf.old name.now) (λ bytes.
-        TellsAnswer result (file_answer limit s bytes)) }
+        WhereHeld (H.file shelf.old file.now.name.now) (λ bytes.
+        TellsAnswer result (file_answer file.now.limit s bytes)) }
     ensures read { (s : Subject) → AreTaken lines.old unfinished.old s [] →
-        AnswersRead name.now (H.given shelf.old) (H.given shelf.new) limit s result }
+        AnswersRead file.now.name.now (H.given shelf.old) (H.given shelf.new) file.now.limit s
+        result }
     ensures sound { (s : Subject) → AreTaken lines.old unfinished.old s [] →
         result ≡ Ok Checked.Pass → (bytes : List ℕ) × (verdict s bytes ≡ Pass) }
-    ensures absent { H.file shelf.old name.now ≡ absent →
+    ensures absent { H.file shelf.old file.now.name.now ≡ absent →
         IsErrOf result CheckError.ReadFault ⊎ IsErrOf result CheckError.Memory }
     ensures same { (other : List ℕ) → H.file shelf.new other ≡ H.file shelf.old other }
-    ensures cause { HasFaultCause (H.file shelf.old name.now) (H.read_faults shelf.old)
+    ensures cause { HasFaultCause (H.file shelf.old file.now.name.now) (H.read_faults shelf.old)
         (H.read_faults shelf.new) result }
     ensures writes { H.write_faults shelf.new ≡ H.write_faults shelf.old }
 {
     let mut aside = Aside::new(alloc, 0);
     let mut place: u64 = 0;
     loop {
-        let count = match shelf.read_at(name, place, piece) {
+        let count = match shelf.read_at(file.name, place, piece) {
             Ok(count) => count,
             Err(error) => return answer_to_fault(crew, alloc, lines, &mut aside, error),
         };
         if count == 0 {
             return answer_at_end(crew, alloc, lines, &mut aside, unfinished);
         }
-        let taken = (count as u64).min(limit - place) as usize;
+        let taken = (count as u64).min(file.limit - place) as usize;
         match take_piece(crew, lines, &mut aside, unfinished, alloc, &piece[..taken]) {
             Ok(()) => place += taken as u64,
             Err(stopped) => return answer_to(stopped),

@@ -42,22 +42,22 @@ returns-in-None-clause-tells c = λ own rest all sorted waits.
     let sorts = sorts_in c.args.table.now in
     let trees = trees_in c.args.table.now in
     let terms = terms_in trees c.args.terms.now in
-    let held = stores_in trees c.args.stores.value in
+    let held = stores_in trees c.args.branch.stores.value in
     let l = numbered_line c.args.line.now in
     let count = c.facts_on-count.ensures ∙ stand_long sorts trees c.args.path.now.list.items own all in
     let line = line_in trees c.in_ok-named.named in
     let there = subst (λ (n : ℕ). named_line terms n l ≡ Some line) count c.in_ok-named.ensures.there in
     tells_word {S = Option Due} {T = List Pending}
     (λ d ps. PendingStands sorts trees c.args.path.now.list.items d c.args.waiting.now.items ps) Deep
-    (pending_after sorts terms held own c.args.splits rest l)
-    (cert_deep sorts terms held own c.args.splits rest l line there c.in-None.ensures)
+    (pending_after sorts terms held own c.args.branch.splits rest l)
+    (cert_deep sorts terms held own c.args.branch.splits rest l line there c.in-None.ensures)
 
 pub returns-clause-tells : goal.returns-clause-tells
 returns-clause-tells c = λ own rest all sorted waits.
     let sorts = sorts_in c.args.table.now in
     let trees = trees_in c.args.table.now in
     let terms = terms_in trees c.args.terms.now in
-    let held = stores_in trees c.args.stores.value in
+    let held = stores_in trees c.args.branch.stores.value in
     let l = numbered_line c.args.line.now in
     let count = c.facts_on-count.ensures ∙ stand_long sorts trees c.args.path.now.list.items own all in
     let line = line_in trees c.in_ok-named.named in
@@ -67,7 +67,7 @@ returns-clause-tells c = λ own rest all sorted waits.
     λ head. found_or (ways sorts own line) (First head) (λ (to : List (List BranchFact)). Ok (branches_before held own over to rest)) in
     tells_along {S = Option Due} {T = List Pending}
     (λ d ps. PendingStands sorts trees c.after_line.new.path.list.items d c.after_line.new.waiting.items ps) c.after_line.result
-    (next c.head_of-head.result) (pending_after sorts terms held own c.args.splits rest l)
-    (cert_tried sorts terms held own c.args.splits rest l line there over c.in-Some.ensures.0 c.in-Some.ensures.1
+    (next c.head_of-head.result) (pending_after sorts terms held own c.args.branch.splits rest l)
+    (cert_tried sorts terms held own c.args.branch.splits rest l line there over c.in-Some.ensures.0 c.in-Some.ensures.1
     ∙ ap next (sym c.head_of-head.ensures))
     (c.after_line.ensures.tells own rest all sorted waits)

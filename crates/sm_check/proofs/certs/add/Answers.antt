@@ -18,11 +18,12 @@ pub returns-then-branch-clause-tells : goal.returns-then-branch-clause-tells
 returns-then-branch-clause-tells c waiting facts rest all sorted wait =
     let trees = trees_in c.args.table.now in
     let sorts = sorts_in c.args.table.now in
+    let branch = c.args.branch in
     let l = line_in trees c.args.line.now in
     let w = ways sorts facts l in
     let path = c.add_line.new.path.list.items in
     let goes = subst (λ (b : Bool). GoesOn sorts trees b path facts w) c.if-branch.true (c.in_ok-add_line.ensures.ways facts all sorted) in
-    one_goes sorts trees c.args.path.now.list.items path facts waiting waiting c.args.stores c.args.splits c.args.head rest all sorted wait w goes
+    one_goes sorts trees c.args.path.now.list.items path facts waiting waiting branch.stores branch.splits c.args.head rest all sorted wait w goes
     (λ (to : List (List BranchFact)) (e : w ≡ Some to).
     ways_are_sorted_from arithmetic_sorted sorts facts l to sorted
     (line_sorted sorts trees c.args.line.now c.len.ensures.sorted c.requires.within) e)
@@ -31,6 +32,7 @@ pub returns-else-branch-clause-tells : goal.returns-else-branch-clause-tells
 returns-else-branch-clause-tells c waiting facts rest all sorted wait =
     let trees = trees_in c.args.table.now in
     let sorts = sorts_in c.args.table.now in
+    let branch = c.args.branch in
     let l = line_in trees c.args.line.now in
     let w = ways sorts facts l in
     let path = c.add_line.new.path.list.items in
@@ -39,5 +41,5 @@ returns-else-branch-clause-tells c waiting facts rest all sorted wait =
     let goes = subst (λ (b : Bool). GoesOn sorts trees b path facts w) c.if-branch.false (c.in_ok-add_line.ensures.ways facts all sorted) in
     let one = adding_ways sorts trees facts (adds sorts facts l) c.args.line.now c.requires.kind c.requires.other in
     same_word (Stand sorts trees path waiting) (Wrong (First head))
-    (next_of sorts trees start path facts waiting waiting c.args.stores c.args.splits head rest all sorted wait w) (First head) refl
-    (one_stops sorts trees start path facts waiting waiting c.args.stores c.args.splits head rest all sorted wait w goes one)
+    (next_of sorts trees start path facts waiting waiting branch.stores branch.splits head rest all sorted wait w) (First head) refl
+    (one_stops sorts trees start path facts waiting waiting branch.stores branch.splits head rest all sorted wait w goes one)

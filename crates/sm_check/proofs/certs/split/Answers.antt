@@ -22,26 +22,29 @@ pub returns-in_err-push-in-Some-2-clause-later : goal.returns-in_err-push-in-Som
 returns-in_err-push-in-Some-2-clause-later c stores all =
     let trees = trees_in c.args.table.now in
     let sorts = sorts_in c.args.table.now in
+    let branch = c.args.branch in
     let other = c.in_ok-other-in-Some.other in
     subst (AreWaitingReady sorts trees) (sym c.in_ok-push-in-Some.ensures.items)
     (ready_append sorts trees c.args.waiting.now.items
-    (waits.Branch c.facts_on.result c.in-Some.second other c.args.splits ∷ []) all
+    (waits.Branch c.facts_on.result c.in-Some.second other branch.splits ∷ []) all
     (subst (λ (s : PerCopy SymStore). AreStoresReady sorts trees s) (sym c.in_ok-other-in-Some.ensures.cases) stores, tt))
 
 pub returns-in-Some-clause-later : goal.returns-in-Some-clause-later
 returns-in-Some-clause-later c stores all =
     let trees = trees_in c.args.table.now in
     let sorts = sorts_in c.args.table.now in
+    let branch = c.args.branch in
     let other = c.in_ok-other-in-Some.other in
     subst (AreWaitingReady sorts trees) (sym c.in_ok-push-in-Some.ensures.items)
     (ready_append sorts trees c.args.waiting.now.items
-    (waits.Branch c.facts_on.result c.in-Some.second other c.args.splits ∷ []) all
+    (waits.Branch c.facts_on.result c.in-Some.second other branch.splits ∷ []) all
     (subst (λ (s : PerCopy SymStore). AreStoresReady sorts trees s) (sym c.in_ok-other-in-Some.ensures.cases) stores, tt))
 
 pub returns-in-Some-clause-tells : goal.returns-in-Some-clause-tells
 returns-in-Some-clause-tells c facts rest all sorted wait =
     let trees = trees_in c.args.table.now in
     let sorts = sorts_in c.args.table.now in
+    let branch = c.args.branch in
     let l = line_in trees c.args.line.now in
     let w = ways sorts facts l in
     let start = c.args.path.now.list.items in
@@ -52,7 +55,7 @@ returns-in-Some-clause-tells c facts rest all sorted wait =
     let g = c.in-Some.second in
     let goes =
     subst (λ (o : Option (Fact × Fact)). SplitsInto sorts trees o w) c.in-Some.is (c.in_ok-first.ensures facts (adds sorts facts l) all) in
-    two_go sorts trees start path facts old new c.args.stores c.args.splits c.args.head rest all sorted wait w c.facts_on.result f g
+    two_go sorts trees start path facts old new branch.stores branch.splits c.args.head rest all sorted wait w c.facts_on.result f g
     c.in_ok-other-in-Some.other goes
     (λ (to : List (List BranchFact)) (e : w ≡ Some to).
     ways_are_sorted_from arithmetic_sorted sorts facts l to sorted

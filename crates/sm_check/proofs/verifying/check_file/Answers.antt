@@ -20,4 +20,4 @@ returns-clause-read g c = λ s start.
 
 pub returns-in_err-piece-clause-read : goal.returns-in_err-piece-clause-read
 returns-in_err-piece-clause-read g c = λ s start.
-    none_given c.args.name.now (g.H.Shelf.given c.args.shelf.now) c.args.limit s c.from_residual.result (search rules)
+    none_given c.args.file.now.name.now (g.H.Shelf.given c.args.shelf.now) c.args.file.now.limit s c.from_residual.result (search rules)
