@@ -6,7 +6,7 @@ use crate::code::{
 };
 use crate::shared::next_each;
 use crate::sides::COPIES;
-use crate::works::{ForkWork, LoopCode, LoopWork, Next, Way, Work};
+use crate::works::{ForkWork, LoopCode, LoopWork, Next, Way, Work, boxed_work, put_work};
 use sm_moves::{bit, copy_rests, fork, has, is_empty, least, with_member};
 use sm_plan::Continuation;
 use sm_syntax::{CopyName, PerCopy, Stmt};
@@ -225,8 +225,7 @@ fn put_behind<'a>(
     works: &mut Vec<Work<'a>>,
 ) -> Result<(), AllocError> {
     let rests = rests_behind(alloc, rests, some)?;
-    works.push(Work::Beside { rests, hole, set })?;
-    Ok(())
+    put_work(works, Work::Beside { rests, hole, set })
 }
 
 // The loops of some copies, whose bodies run beside each other.
@@ -256,8 +255,7 @@ fn beside_branch<'a>(
 ) -> Result<Box<Work<'a>>, AllocError> {
     let mut rests = copy_rests(alloc, rests)?;
     fork(&mut rests, copy, is_first)?;
-    let work = Box::new(alloc, Work::Beside { rests, hole, set })?;
-    Ok(work)
+    boxed_work(alloc, Work::Beside { rests, hole, set })
 }
 
 // The fork of a copy, with what is left of the fillings in either branch.

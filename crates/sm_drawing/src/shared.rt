@@ -1,9 +1,11 @@
 // What comes next of shared code.
 use crate::canvas::Style;
 use crate::code::{CutCode, FilledCode, Heads, copy_code, copy_heads, cut_first, heads_of};
-use crate::works::{ForkWork, LoopCode, LoopWork, Next, SharedForks, Way, Work, copy_forks};
+use crate::works::{
+    ForkWork, LoopCode, LoopWork, Next, SharedForks, Way, Work, boxed_work, copy_forks, put_work,
+};
 use sm_moves::{TwoEach, bit, has_hole, inside, is_empty, least, rests_in, with_member, without};
-use sm_syntax::{Block, Cond, PerCopy, Stmt};
+use sm_syntax::{Block, Cond, CopyName, PerCopy, Stmt};
 use sm_text::Task;
 use std::alloc::{AllocError, Global};
 
@@ -23,8 +25,18 @@ pub(crate) fn next_shared<'a>(
         return Ok(Next::Nothing);
     };
     let CutCode { first, left } = cut_first(&code.pieces, &task.lists, statement, others);
-    works.push(Work::Shared { code: left, set })?;
+    put_work(works, Work::Shared { code: left, set })?;
     next_statement(alloc, style, statement, &first, set, works)
+}
+
+// Whether a shared statement is summed up: a while without a hole, and, where plans are coarse, an
+// if without one.
+fn is_summed_up(style: Style, statement: &Stmt) -> bool {
+    match statement {
+        Stmt::If(_, c, d) => style.is_coarse && !has_hole(c) && !has_hole(d),
+        Stmt::While(_, c) => !has_hole(c),
+        _ => false,
+    }
 }
 
 // The next of a shared statement.
@@ -36,26 +48,25 @@ fn next_statement<'a>(
     set: u8,
     works: &mut Vec<Work<'a>>,
 ) -> Result<Next<'a>, AllocError> {
-    match statement {
-        Stmt::Skip => next_each(Way::Statement, &heads_of(pieces), set, works),
-        Stmt::Assign(_, _) => next_each(Way::Statement, &heads_of(pieces), set, works),
-        Stmt::Store(_, _, _) => next_each(Way::Statement, &heads_of(pieces), set, works),
-        Stmt::If(guard, c, d) => {
-            if style.is_coarse && !has_hole(c) && !has_hole(d) {
-                next_each(Way::Summary, &heads_of(pieces), set, works)
-            } else {
-                next_fork(alloc, &shared_forks(guard, c, d, pieces, set), works)
-            }
-        }
-        Stmt::While(_, c) => {
-            if has_hole(c) {
-                Ok(next_while(c, pieces, set))
-            } else {
-                next_each(Way::Summary, &heads_of(pieces), set, works)
-            }
-        }
-        Stmt::Hole(hole) => next_hole(alloc, *hole, pieces, set, works),
+    if is_summed_up(style, statement) {
+        return next_head(Way::Summary, pieces, set, works);
     }
+    match statement {
+        Stmt::If(guard, c, d) => next_fork(alloc, &shared_forks(guard, c, d, pieces, set), works),
+        Stmt::While(_, c) => Ok(next_while(c, pieces, set)),
+        Stmt::Hole(hole) => next_hole(alloc, *hole, pieces, set, works),
+        _ => next_head(Way::Statement, pieces, set, works),
+    }
+}
+
+// The next of the first statements of pieces, for the copies of a set.
+fn next_head<'a>(
+    way: Way,
+    pieces: &PerCopy<&'a [Stmt]>,
+    set: u8,
+    works: &mut Vec<Work<'a>>,
+) -> Result<Next<'a>, AllocError> {
+    next_each(way, &heads_of(pieces), set, works)
 }
 
 // The forks of a set of copies at an if of the shared code.
@@ -106,7 +117,7 @@ fn next_hole<'a>(
     works: &mut Vec<Work<'a>>,
 ) -> Result<Next<'a>, AllocError> {
     let rests = rests_in(alloc, pieces, set)?;
-    works.push(Work::Beside { rests, hole, set })?;
+    put_work(works, Work::Beside { rests, hole, set })?;
     Ok(Next::Nothing)
 }
 
@@ -116,27 +127,58 @@ pub(crate) fn next_fork<'a>(
     forks: &SharedForks<'a>,
     works: &mut Vec<Work<'a>>,
 ) -> Result<Next<'a>, AllocError> {
-    let Some(copy) = least(forks.left) else {
-        works.push(Work::Shared {
-            code: copy_code(&forks.second),
-            set: without(forks.set, forks.taken),
-        })?;
-        works.push(Work::Shared {
-            code: copy_code(&forks.first),
-            set: forks.taken,
-        })?;
-        return Ok(Next::Nothing);
-    };
-    let left = without(forks.left, bit(copy));
+    match least(forks.left) {
+        Some(copy) => Ok(Next::Fork(fork_of(alloc, forks, copy)?)),
+        None => {
+            put_branches(forks, works)?;
+            Ok(Next::Nothing)
+        }
+    }
+}
+
+// Both branches of an if, for the copies that take them.
+fn put_branches<'a>(forks: &SharedForks<'a>, works: &mut Vec<Work<'a>>) -> Result<(), AllocError> {
+    let others = without(forks.set, forks.taken);
+    put_shared(works, &forks.second, others)?;
+    put_shared(works, &forks.first, forks.taken)
+}
+
+// Shared code for the copies of a set, before other works.
+fn put_shared<'a>(
+    works: &mut Vec<Work<'a>>,
+    code: &FilledCode<'a>,
+    set: u8,
+) -> Result<(), AllocError> {
+    let code = copy_code(code);
+    put_work(works, Work::Shared { code, set })
+}
+
+// The fork of a copy, with the forks of the other copies behind either branch.
+fn fork_of<'a>(
+    alloc: Global,
+    forks: &SharedForks<'a>,
+    copy: CopyName,
+) -> Result<ForkWork<'a>, AllocError> {
     let taken = with_member(forks.taken, copy);
-    let one = Box::new(alloc, Work::Forks(copy_forks(forks, left, taken)))?;
-    let other = Box::new(alloc, Work::Forks(copy_forks(forks, left, forks.taken)))?;
-    Ok(Next::Fork(ForkWork {
+    let one = forks_left(alloc, forks, copy, taken)?;
+    let other = forks_left(alloc, forks, copy, forks.taken)?;
+    Ok(ForkWork {
         copy,
         guard: forks.guard,
         one,
         other,
-    }))
+    })
+}
+
+// The forks that are left behind that of a copy, where these copies take the first branch.
+fn forks_left<'a>(
+    alloc: Global,
+    forks: &SharedForks<'a>,
+    copy: CopyName,
+    taken: u8,
+) -> Result<Box<Work<'a>>, AllocError> {
+    let left = without(forks.left, bit(copy));
+    boxed_work(alloc, Work::Forks(copy_forks(forks, left, taken)))
 }
 
 /// The next of the first statements of the copies of a set.
@@ -149,11 +191,14 @@ pub(crate) fn next_each<'a>(
     let Some(copy) = least(set) else {
         return Ok(Next::Nothing);
     };
-    works.push(Work::Each {
+    let heads_left = copy_heads(heads);
+    let set = without(set, bit(copy));
+    let others = Work::Each {
         way,
-        heads: copy_heads(heads),
-        set: without(set, bit(copy)),
-    })?;
+        heads: heads_left,
+        set,
+    };
+    put_work(works, others)?;
     match *heads.get(copy) {
         Some(statement) => Ok(Next::Simple {
             way,

@@ -12,6 +12,7 @@ use crate::moments::Moments;
 use crate::turns::{LoopLists, run_loops, taken_turn};
 use crate::works::{ForkWork, LoopWork, Next, Work, copy_works, next_of, turn_works, works_with};
 use sm_expand::{Last, Plan, Plans, Simple, Simples};
+use sm_syntax::{CopyName, Stmt};
 use sm_term::Formula;
 use std::alloc::Global;
 
@@ -51,22 +52,60 @@ fn go_straight<'a>(
         let Some(work) = works.pop() else {
             return Ok(Ahead::End);
         };
-        match next_of(alloc, canvas.task, canvas.style, &work, works)? {
-            Next::Nothing => {}
-            Next::Simple {
-                way,
-                copy,
-                statement,
-            } => {
-                put_simple(canvas, list, way, copy)?;
-                let moments = carried.take();
-                *carried = carried_on(alloc, moments, copy, statement, &mut canvas.bound)?;
-            }
-            Next::Fork(fork) => return Ok(Ahead::Fork(fork)),
-            Next::Loops(loops) => return Ok(Ahead::Loops(loops)),
+        let next = next_behind(alloc, canvas, work, works)?;
+        match step_on(alloc, canvas, next, carried, list)? {
+            Some(ahead) => return Ok(ahead),
+            None => {}
         }
     }
     Err(DrawingError::TooMany)
+}
+
+// The next of a work that is taken off.
+fn next_behind<'a>(
+    alloc: Global,
+    canvas: &Canvas<'_>,
+    work: Work<'a>,
+    works: &mut Vec<Work<'a>>,
+) -> Result<Next<'a>, DrawingError> {
+    Ok(next_of(alloc, canvas.task, canvas.style, &work, works)?)
+}
+
+// Draws a simple node, or gives what stands at the end of these.
+fn step_on<'a>(
+    alloc: Global,
+    canvas: &mut Canvas<'_>,
+    next: Next<'a>,
+    carried: &mut Carried,
+    list: &mut Vec<Simple>,
+) -> Result<Option<Ahead<'a>>, DrawingError> {
+    match next {
+        Next::Nothing => Ok(None),
+        Next::Simple {
+            way,
+            copy,
+            statement,
+        } => {
+            put_simple(canvas, list, way, copy)?;
+            carry_on(alloc, canvas, carried, copy, statement)?;
+            Ok(None)
+        }
+        Next::Fork(fork) => Ok(Some(Ahead::Fork(fork))),
+        Next::Loops(loops) => Ok(Some(Ahead::Loops(loops))),
+    }
+}
+
+// Carries the runs over a statement of a copy.
+fn carry_on(
+    alloc: Global,
+    canvas: &mut Canvas<'_>,
+    carried: &mut Carried,
+    copy: CopyName,
+    statement: &Stmt,
+) -> Result<(), DrawingError> {
+    let moments = carried.take();
+    *carried = carried_on(alloc, moments, copy, statement, &mut canvas.bound)?;
+    Ok(())
 }
 
 /// The plan of works, for the runs that come here, with so many branching nodes left. It keeps

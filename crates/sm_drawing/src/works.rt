@@ -176,6 +176,17 @@ fn turn_work<'a>(alloc: Global, code: &LoopCode<'a>, set: u8) -> Result<Work<'a>
     }
 }
 
+/// Puts a work before others.
+pub(crate) fn put_work<'a>(works: &mut Vec<Work<'a>>, work: Work<'a>) -> Result<(), AllocError> {
+    works.push(work)?;
+    Ok(())
+}
+
+/// A work in a box.
+pub(crate) fn boxed_work<'a>(alloc: Global, work: Work<'a>) -> Result<Box<Work<'a>>, AllocError> {
+    Ok(Box::new(alloc, work)?)
+}
+
 /// Takes work apart: what is drawn next, with what comes behind put on the works.
 pub(crate) fn next_of<'a>(
     alloc: Global,

@@ -12,7 +12,6 @@ use std::alloc::{AllocError, Global};
 
 // Which of the facts before a line are marked. It takes memory by what is marked, and not by the
 // facts, and so the marks of many branches under many facts can be had at once.
-#[derive(Drop)]
 pub(crate) struct Marks {
     // How many facts there are.
     pub facts: u64,
@@ -20,6 +19,17 @@ pub(crate) struct Marks {
     pub all: u64,
     // Each of these is marked. Some may be none of the facts, since these were taken off.
     pub named: IndexSet<u64>,
+}
+
+// One call ends a value, and not one for each field: proofs of what has it stay small.
+impl Drop for Marks {
+    fn drop(self) {
+        let Self {
+            facts: _,
+            all: _,
+            named: _,
+        } = self;
+    }
 }
 
 // A mark for each of so many facts, none of which is named.
