@@ -21,37 +21,81 @@ pub fn file_answer<R: Files + AllocGlobal>(
 ) -> Result<String> {
     let (word, text) = two(text)?;
     match word {
-        "start" => shelf.start(text)?,
-        "remove" => fs::remove_file(rt, text)?,
-        "append" => {
-            let (name, bytes) = two(text)?;
-            append_all(shelf, name, bytes.as_bytes())?;
+        "whole" => whole_answer(rt, shelf, text),
+        "read" => part_answer(rt, shelf, text),
+        "pipe" => pieces_answer(rt, shelf, text),
+        _ => {
+            change(rt, shelf, word, text)?;
+            Ok(String::from_str(rt.alloc(), "done")?)
         }
-        "write" => {
-            let (name, bytes) = two(text)?;
-            fs::write(rt, name, bytes)?;
-        }
-        "rename" => {
-            let (from, to) = two(text)?;
-            fs::rename(rt, from, to)?;
-        }
-        "whole" => {
-            let (limit, name) = two(text)?;
-            let bytes = read_all(rt.alloc(), shelf, name, natural(limit)?)?;
-            return Ok(String::from_utf8(bytes)?);
-        }
-        "read" => {
-            let (name, numbers) = two(text)?;
-            let (place, size) = two(numbers)?;
-            return read_answer(rt, shelf, name, natural(place)?, natural(size)?);
-        }
-        "pipe" => {
-            let (size, bytes) = two(text)?;
-            return pipe_answer(rt, shelf, natural(size)?, bytes);
-        }
+    }
+}
+
+// Makes, changes or removes a file.
+fn change<R: Files + AllocGlobal>(
+    rt: &R,
+    shelf: &mut FileShelf<'_, R>,
+    word: &str,
+    text: &str,
+) -> Result<()> {
+    match word {
+        "start" => Ok(shelf.start(text)?),
+        "remove" => Ok(fs::remove_file(rt, text)?),
+        "append" => append(shelf, text),
+        "write" => write(rt, text),
+        "rename" => rename(rt, text),
         _ => bail!("bad"),
     }
-    Ok(String::from_str(rt.alloc(), "done")?)
+}
+
+// Appends to a file of the shelf.
+fn append<R: Files + AllocGlobal>(shelf: &mut FileShelf<'_, R>, text: &str) -> Result<()> {
+    let (name, bytes) = two(text)?;
+    Ok(append_all(shelf, name, bytes.as_bytes())?)
+}
+
+// Writes a file.
+fn write<R: Files + AllocGlobal>(rt: &R, text: &str) -> Result<()> {
+    let (name, bytes) = two(text)?;
+    Ok(fs::write(rt, name, bytes)?)
+}
+
+// Gives a file another name.
+fn rename<R: Files + AllocGlobal>(rt: &R, text: &str) -> Result<()> {
+    let (from, to) = two(text)?;
+    Ok(fs::rename(rt, from, to)?)
+}
+
+// The whole of a file that has at most so many bytes.
+fn whole_answer<R: Files + AllocGlobal>(
+    rt: &R,
+    shelf: &mut FileShelf<'_, R>,
+    text: &str,
+) -> Result<String> {
+    let (limit, name) = two(text)?;
+    let bytes = read_all(rt.alloc(), shelf, name, natural(limit)?)?;
+    Ok(String::from_utf8(bytes)?)
+}
+
+// A part of a file: its name, a place and a size.
+fn part_answer<R: Files + AllocGlobal>(
+    rt: &R,
+    shelf: &mut FileShelf<'_, R>,
+    text: &str,
+) -> Result<String> {
+    let (name, numbers) = two(text)?;
+    let (place, size) = two(numbers)?;
+    read_answer(rt, shelf, name, natural(place)?, natural(size)?)
+}
+
+// What is read of a pipe that holds a text, in pieces of a size.
+fn pieces_answer<R: Files + AllocGlobal>(
+    rt: &R,
+    shelf: &mut FileShelf<'_, R>,
+    text: &str,
+) -> Result<String> {
+    let (size, bytes) = two(text)?;
+    pipe_answer(rt, shelf, natural(size)?, bytes)
 }
 
 // How much of a piece was read, and what the piece holds then.

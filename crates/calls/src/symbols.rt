@@ -51,20 +51,36 @@ pub fn condition_answer(alloc: Global, scene: &mut Scene, text: &str) -> Result<
 
 // The condition of a text, in which the names are `x0`, `x1` and so on.
 fn read_condition(alloc: Global, scene: &Scene, text: &str) -> Result<Cond, Refusal> {
+    let text = format!(in alloc; "{{ while ({text}) {{ }} }}")?;
+    condition_of(block_of(alloc, scene, text.as_bytes())?)
+}
+
+// The condition of a block that is a loop.
+fn condition_of(block: Block) -> Result<Cond, Refusal> {
+    let mut list = block.list;
+    match list.pop() {
+        Some(Stmt::While(c, _)) => Ok(c),
+        _ => Err(Refusal::Bad),
+    }
+}
+
+// The block of a text over the names of a scene.
+fn block_of(alloc: Global, scene: &Scene, bytes: &[u8]) -> Result<Block, Refusal> {
+    let mut names = names_of(alloc, scene.decls.list.len())?;
+    let cut = tokens(alloc, bytes)?;
+    read_block(alloc, bytes, &cut, &mut names)
+}
+
+// So many names: `x0`, `x1` and so on.
+fn names_of(alloc: Global, count: usize) -> Result<NameTable, Refusal> {
     let mut names = NameTable::new(alloc);
-    for number in 0..scene.decls.list.len() {
+    for number in 0..count {
         if names.len() >= MOST_NAMES {
             return Err(Refusal::Bad);
         }
         names.add(&format!(in alloc; "x{number}")?)?;
     }
-    let loop_text = format!(in alloc; "{{ while ({text}) {{ }} }}")?;
-    let cut = tokens(alloc, loop_text.as_bytes())?;
-    let mut block = read_block(alloc, loop_text.as_bytes(), &cut, &mut names)?;
-    match block.list.pop() {
-        Some(Stmt::While(c, _)) => Ok(c),
-        _ => Err(Refusal::Bad),
-    }
+    Ok(names)
 }
 
 // The block of tokens.
