@@ -1,11 +1,11 @@
 -- A text's number in a table: the place at which it stands, which stays where texts are added.
 use Rattle.std.proofs.Common.{◌≡◌, ℕ, zero, suc, ◌+◌, ◌<◌, ◌≤◌, Bool, true, false, cond, not, ◌||◌, List, [], ◌∷◌, ◌++◌, map, length, take, get_or, Some, slice_get, refl, sym, ap, ◌∙◌, true≢false, if◌then◌else◌, one-add, arith}
 use Rattle.std.proofs.lemmas.List.{append-nil, length_push, map-append, map_more}
+use Rattle.std.proofs.lemmas.Bool.{or_parts}
 use Rattle.std.proofs.lemmas.Option.{cond_some}
 use Rattle.std.proofs.lemmas.Slice.Eq.{bytes_eq-Decides}
 use Rattle.std.specs.List.{list_any, position, position_or_len, AllByRecursion, IsDistinct}
 use Rattle.std.specs.Str.{bytes_eq}
-use Rattle.indexmap.specs.IndexSet.{insert_key}
 use Rattle.sm_syntax.specs.text.Symbols.{is_among, with_text}
 
 -- a text is itself
@@ -74,6 +74,15 @@ number-with_text texts t = by (is_among texts t) refl
     by true e = ap (position_or_len (bytes_eq t)) (with_text-among texts t e)
     by false e = ap (position_or_len (bytes_eq t)) (with_text-new texts t e) ∙ number-last texts t
 
+-- a text that isn't there has the count of the others as its number
+pub number-new : (texts : List (List ℕ)) (t : List ℕ) → is_among texts t ≡ false → position_or_len (bytes_eq t) texts ≡ length texts
+number-new [] t h = refl
+number-new (x ∷ xs) t h =
+    let both = or_parts (bytes_eq t x) (is_among xs t) h in
+    ap (λ b. cond (not b) (1 + position_or_len (bytes_eq t) xs) 0) both.0
+    ∙ one-add (position_or_len (bytes_eq t) xs)
+    ∙ ap suc (number-new xs t both.1)
+
 -- a place that `position` gives is the number
 pub number-position : {T : Type 0} (p : T → Bool) (ks : List T) (i : ℕ) → position p ks ≡ Some i → i ≡ position_or_len p ks
 number-position p ks i e = sym (cond_some _ _ _ e).1
@@ -87,16 +96,6 @@ module _ {T : Type 0} (text : T → List ℕ) where
   pub number-map : (ks : List T) (t : List ℕ) → position_or_len (bytes_eq t) (map text ks) ≡ position_or_len (λ k. bytes_eq t (text k)) ks
   number-map [] t = refl
   number-map (k ∷ ks) t = ap (λ n. cond (not (bytes_eq t (text k))) (1 + n) 0) (number-map ks t)
-
-  pub map-insert_key : (ks : List T) (k : T) → map text (insert_key (λ a b. bytes_eq (text a) (text b)) ks k) ≡ with_text (map text ks) (text k)
-  map-insert_key ks k = by (list_any (λ b. bytes_eq (text k) (text b)) ks) refl
-    where
-      by : (b : Bool) → list_any (λ b. bytes_eq (text k) (text b)) ks ≡ b → map text (insert_key (λ a b. bytes_eq (text a) (text b)) ks k) ≡ with_text (map text ks) (text k)
-      by true e = ap (λ b. map text (if b then ks else ks ++ k ∷ [])) e ∙ sym (with_text-among (map text ks) (text k) (is_among-map ks (text k) ∙ e))
-      by false e =
-          ap (λ b. map text (if b then ks else ks ++ k ∷ [])) e
-          ∙ map-append text ks (k ∷ [])
-          ∙ sym (with_text-new (map text ks) (text k) (is_among-map ks (text k) ∙ e))
 
   -- where no two keys have one text, none before a key has its text
   later : (P : T → Type 0) (ks : List T) → AllByRecursion P ks → (i : ℕ) (d : T) → i < length ks → P (get_or ks i d)

@@ -6,14 +6,14 @@ ghost use Rattle.std.specs.Str.{bytes_eq};
 ghost use Rattle.sm_syntax.specs.text.Symbols.{is_among, with_text};
 
 use crate::tree::Name;
-use indexmap::IndexSet;
+use sm_numbering::Numbering;
 use std::alloc::{AllocError, Global};
 use std::marker::Model;
 
 /// The texts of names without repeats. A name's number is its place in the table.
 #[derive(Drop)]
 pub struct NameTable {
-    texts: IndexSet<String>,
+    texts: Numbering<String>,
 }
 
 impl Model for NameTable {
@@ -22,9 +22,9 @@ impl Model for NameTable {
 
     ghost Value = { List (List ℕ) };
 
-    ghost view = { λ t. map string_bytes t.texts.keys };
+    ghost view = { λ t. map string_bytes t.texts };
 
-    ghost invariant = { λ t. length t.texts.keys < 2 ^ 32 };
+    ghost invariant = { λ t. length t.texts < 2 ^ 32 };
 }
 
 impl NameTable {
@@ -33,7 +33,7 @@ impl NameTable {
         ensures { result ≡ [] }
     {
         NameTable {
-            texts: IndexSet::new(alloc),
+            texts: Numbering::new(alloc),
         }
     }
 
@@ -46,11 +46,14 @@ impl NameTable {
         ensures stored { IfOk result (λ name. slice_get self.new name.0 ≡ Some text.now) }
         ensures err { OnErr result (self.new ≡ self.old) }
     {
-        if let Some(name) = self.find(text) {
-            return Ok(name);
+        match self.find(text) {
+            Some(name) => return Ok(name),
+            None => {}
         }
-        let owned = String::from_str(*self.texts.allocator(), text)?;
-        let (index, _) = self.texts.insert_full(owned)?;
+        let alloc = self.texts.allocator();
+        let owned = String::from_str(alloc, text)?;
+        let key = String::from_str(alloc, text)?;
+        let index = self.texts.put(owned, key)?;
         Ok(Name(index as u32))
     }
 
@@ -61,7 +64,7 @@ impl NameTable {
             IfSome result (λ name. name.0 ≡ place) }
         ensures stored { IfSome result (λ name. slice_get self.now name.0 ≡ Some text.now) }
     {
-        let index = self.texts.get_index_of(text)?;
+        let index = self.texts.find(text)?;
         Some(Name(index as u32))
     }
 
@@ -70,7 +73,7 @@ impl NameTable {
         requires { name.0 < length self.now }
         ensures { slice_get self.now name.0 ≡ Some result.now }
     {
-        self.texts[name.0 as usize].as_str()
+        self.texts.get(name.0 as usize).as_str()
     }
 
     /// How many names there are.

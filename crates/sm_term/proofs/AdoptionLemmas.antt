@@ -1,7 +1,7 @@
 -- Rows that are put into another table: each is there, and what was there stays.
 use Rattle.std.proofs.Common.{◌≡◌, ℕ, zero, suc, ◌+◌, ◌-◌, ◌<◌, ◌≤◌, Bool, true, false, nat_lt, if◌then◌else◌, Some, List, [], ◌∷◌, ◌++◌, length, map, take, drop, get_or, slice_get, pos, refl, sym, ap, ◌∙◌, subst, arith}
 use Rattle.std.specs.List.{list_any}
-use Rattle.indexmap.specs.IndexSet.{insert_key}
+use Rattle.sm_term.specs.Numbers.{with_value}
 use Rattle.std.proofs.lemmas.List.{append-nil, append_assoc, map-append, take_more, drop_more, length-take, length-append, get_or-take, get_or_append_left, get_or-append-add}
 use Rattle.std.proofs.Math.Seq.{take-append_seam}
 use Rattle.std.proofs.lemmas.Bool.{ltb-true, ltb-false}
@@ -30,16 +30,21 @@ use Rattle.sm_term.proofs.TreesLemmas.{length-trees}
 use Rattle.sm_term.proofs.TablesLemmas.{stands}
 use Rattle.sm_term.proofs.MovesLemmas.{moved_tree, moved_within, moved_fits}
 
--- keys with one more begin with what they were
-pub grown_key : {T : Type 0} (same : T → T → Bool) (xs : List T) (x : T) → (more : List T) × (insert_key same xs x ≡ xs ++ more)
+-- what goes last stands there
+pub at_end : {T : Type 0} (ts : List T) (t : T) → slice_get (ts ++ t ∷ []) (length ts) ≡ Some t
+at_end [] t = refl
+at_end (u ∷ ts) t = at_end ts t
+
+-- values with one more begin with what they were
+pub grown_key : {T : Type 0} (same : T → T → Bool) (xs : List T) (x : T) → (more : List T) × (with_value same xs x ≡ xs ++ more)
 grown_key same xs x = by (list_any (same x) xs) refl
   where
-    by : (b : Bool) → list_any (same x) xs ≡ b → (more : List _) × (insert_key same xs x ≡ xs ++ more)
+    by : (b : Bool) → list_any (same x) xs ≡ b → (more : List _) × (with_value same xs x ≡ xs ++ more)
     by true e = ([], ap (λ b. if b then xs else xs ++ x ∷ []) e ∙ sym (append-nil xs))
     by false e = (x ∷ [], ap (λ b. if b then xs else xs ++ x ∷ []) e)
 
 -- so do the blocks of bodies
-pub grown_bodies : (bs : List Body) (b : Body) → (more : List Block) × (map block_of (insert_key same_body bs b) ≡ map block_of bs ++ more)
+pub grown_bodies : (bs : List Body) (b : Body) → (more : List Block) × (map block_of (with_value same_body bs b) ≡ map block_of bs ++ more)
 grown_bodies bs b =
     let grown = grown_key same_body bs b in
     (map block_of grown.0, ap (map block_of) grown.1 ∙ map-append block_of bs grown.0)

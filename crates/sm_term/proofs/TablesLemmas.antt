@@ -1,7 +1,7 @@
 -- What is so of tables of terms stays so where a term or a body is put behind, or the last are cut.
 use Rattle.std.proofs.Common.{◌≡◌, ℕ, zero, suc, pos, ◌+◌, ◌<◌, ◌≤◌, Bool, true, false, ◌||◌, if◌then◌else◌, List, [], ◌∷◌, ◌++◌, map, length, take, get_or, slice_get, refl, sym, ap, ◌∙◌, subst, arith, Some, true≢false, ⊎_elim}
 use Rattle.std.specs.List.{list_any}
-use Rattle.indexmap.specs.IndexSet.{insert_key}
+use Rattle.sm_term.specs.Numbers.{with_value}
 use Rattle.std.proofs.Math.Seq.{get_or-append_seam}
 use Rattle.std.proofs.lemmas.Bool.{cases_lt}
 use Rattle.std.proofs.lemmas.List.{get_or_append_left, length-append, append_assoc, get_or-take, length-take, append-nil}
@@ -171,7 +171,7 @@ module _ (sorts : Sorts) (codes : List Code) (terms : List Term) (table : IsTabl
   -- the table stays one where the set of terms takes a term, and has its tree
   module _ (within : IsTermWithin sorts (length codes) (length all) t) (fit : term_fits sorts all t ≡ true) where
     abbrev taken : List Term
-    taken = insert_key same_term terms t
+    taken = with_value same_term terms t
 
     pub table-insert : IsTable sorts codes taken
     table-insert = by (list_any (same_term t) terms) refl
@@ -291,7 +291,7 @@ module _ (sorts : Sorts) (bodies : List Body) (terms : List Term) (table : IsTab
   codes = map code_of (map block_of bodies)
 
   abbrev taken_bodies : List Body
-  taken_bodies = insert_key same_body bodies body
+  taken_bodies = with_value same_body bodies body
 
   -- the code is there exactly where an equal body is
   there_as : list_any (same_body body) bodies ≡ list_any (same_code (body_code body)) codes

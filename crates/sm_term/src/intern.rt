@@ -1,8 +1,13 @@
 // Putting terms and bodies into a table.
-ghost use Rattle.std.specs.Prelude.{◌≡◌, ◌≢◌, ◌<◌, length, false, Some, slice_get};
+ghost use Rattle.std.specs.Prelude.{◌≡◌, ◌≢◌, ◌<◌, length, true, false, Some, slice_get};
 ghost use Rattle.std.specs.Prelude.{IsTrue, IfOk, IfErr, OnOk, OnErr};
 ghost use Rattle.sm_syntax.specs.text.Sorts.{IsWellSorted};
 ghost use Rattle.sm_syntax.specs.trees.Views.{code_of};
+ghost use Rattle.sm_term.specs.declared.body.Body.{Body};
+ghost use Rattle.sm_term.specs.declared.term.Term.{Term};
+ghost use Rattle.sm_term.specs.Bodies.{same_body};
+ghost use Rattle.sm_term.specs.Rows.{same_term};
+ghost use Rattle.sm_term.specs.Numbers.{with_value};
 ghost use Rattle.sm_term.specs.Fitting.{has_sort, arguments_fit, term_fits};
 ghost use Rattle.sm_term.specs.Tables.{trees_in, sorts_in, codes_in, tree_in};
 ghost use Rattle.sm_term.specs.Tables.{IsTermWithin, AreBefore};
@@ -13,6 +18,7 @@ use crate::body::Body;
 use crate::error::TermError;
 use crate::table::TermTable;
 use crate::term::{BodyId, Term, TermId};
+use sm_numbering::Numbering;
 use sm_syntax::{Block, Name, Sort};
 use std::alloc::AllocError;
 
@@ -29,8 +35,8 @@ impl TermTable {
         ensures rows { KeepsRows self.old self.new }
         ensures err { OnErr result (self.new ≡ self.old) }
     {
-        let body = Body::copied(*self.bodies.allocator(), block)?;
-        let (index, _) = self.bodies.insert_full(body)?;
+        let body = Body::copied(self.bodies.allocator(), block)?;
+        let index = number_of_body(&mut self.bodies, body)?;
         Ok(BodyId(index as u64))
     }
 
@@ -74,7 +80,7 @@ impl TermTable {
         ensures rows { KeepsRows self.old self.new }
         ensures err { OnErr result (self.new ≡ self.old) }
     {
-        let (index, _) = self.terms.insert_full(t)?;
+        let index = number_of_term(&mut self.terms, t)?;
         Ok(TermId(index as u64))
     }
 
@@ -123,4 +129,36 @@ impl TermTable {
         }
         true
     }
+}
+
+// The number of a body, which goes last where it isn't there.
+fn number_of_body(bodies: &mut Numbering<Body>, body: Body) -> Result<usize, AllocError>
+    ensures values { OnOk result (bodies.new ≡ with_value same_body bodies.old body) }
+    ensures stored { IfOk result (λ n. (b : Body) × (slice_get bodies.new n ≡ Some b)
+        × (same_body body b ≡ true)) }
+    ensures err { OnErr result (bodies.new ≡ bodies.old) }
+{
+    match bodies.find(&body) {
+        Some(index) => return Ok(index),
+        None => {}
+    }
+    let key = Body::copied(bodies.allocator(), &body.block)?;
+    let index = bodies.put(body, key)?;
+    Ok(index)
+}
+
+// The number of a term, which goes last where it isn't there.
+fn number_of_term(terms: &mut Numbering<Term>, term: Term) -> Result<usize, AllocError>
+    ensures values { OnOk result (terms.new ≡ with_value same_term terms.old term) }
+    ensures stored { IfOk result (λ n. (t : Term) × (slice_get terms.new n ≡ Some t)
+        × (same_term term t ≡ true)) }
+    ensures err { OnErr result (terms.new ≡ terms.old) }
+{
+    match terms.find(&term) {
+        Some(index) => return Ok(index),
+        None => {}
+    }
+    let key = term.copied(terms.allocator())?;
+    let index = terms.put(term, key)?;
+    Ok(index)
 }

@@ -11,7 +11,7 @@ ghost use Rattle.sm_term.specs.Fitting.{term_fits};
 
 use crate::body::Body;
 use crate::term::{Term, TermId};
-use indexmap::IndexSet;
+use sm_numbering::Numbering;
 use sm_syntax::{Decls, Name, Sort, copy_decls};
 use std::alloc::{AllocError, Global};
 use std::collections::HashMap;
@@ -21,8 +21,8 @@ use std::marker::Model;
 pub struct TermTable {
     pub(crate) decls: Decls,
     pub(crate) sorts: HashMap<u32, Sort>,
-    pub(crate) bodies: IndexSet<Body>,
-    pub(crate) terms: IndexSet<Term>,
+    pub(crate) bodies: Numbering<Body>,
+    pub(crate) terms: Numbering<Term>,
 }
 
 // One call ends a value, and not one for each field: proofs of what has it stay small.
@@ -57,14 +57,14 @@ impl Model for TermTable {
 
     ghost view = { λ t. record {
       declared = declared_of t.decls;
-      bodies = map block_of t.bodies.keys;
-      terms = t.terms.keys;
+      bodies = map block_of t.bodies;
+      terms = t.terms;
     } };
 
     ghost invariant = { λ t.
         let sorts = sort_of (declared_of t.decls) in
-        let codes = map code_of (map block_of t.bodies.keys) in
-        (get nat_eq t.sorts ≡ sorts) × IsTable sorts codes t.terms.keys };
+        let codes = map code_of (map block_of t.bodies) in
+        (get nat_eq t.sorts ≡ sorts) × IsTable sorts codes t.terms };
 }
 
 impl TermTable {
@@ -79,8 +79,8 @@ impl TermTable {
         Ok(TermTable {
             decls,
             sorts,
-            bodies: IndexSet::new(alloc),
-            terms: IndexSet::new(alloc),
+            bodies: Numbering::new(alloc),
+            terms: Numbering::new(alloc),
         })
     }
 
@@ -108,7 +108,7 @@ impl TermTable {
             IsTermWithin (sorts_in self.now) bodies t.0 result.now }
         ensures fits { IsTrue (term_fits (sorts_in self.now) (trees_in self.now) result.now) }
     {
-        &self.terms[t.0 as usize]
+        self.terms.get(t.0 as usize)
     }
 
     /// The sort of the term with a number.

@@ -5,4 +5,4 @@ use Rattle.sm_syntax.proofs.names.NameTable.cut.Goals as goal
 
 -- the texts of the keys that stay
 pub returns : goal.returns
-returns c = ap (map string_bytes) c.truncate.ensures.keys ∙ sym (take-map string_bytes c.args.len c.self.inside.texts.keys) ∙ ap (take c.args.len) c.self.view_is
+returns c = ap (map string_bytes) c.truncate.ensures ∙ sym (take-map string_bytes c.args.len c.self.inside.texts) ∙ ap (take c.args.len) c.self.view_is

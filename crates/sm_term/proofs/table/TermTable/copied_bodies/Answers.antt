@@ -13,26 +13,26 @@ use Rattle.sm_term.proofs.table.TermTable.copied_bodies.Goals as goal
 pub body-requires : goal.body-requires
 body-requires c =
     let sorts = sort_of (declared_of c.self.inside.decls) in
-    let bodies = c.self.inside.bodies.keys in
+    let bodies = c.self.inside.bodies in
     let codes = map code_of (map block_of bodies) in
     let i = c.loop-body.body-index in
-    let many = ap length c.as_slice-body-items.ensures.keys in
+    let many = ap length c.as_slice-body-items.ensures.values in
     let long = length-codes bodies in
     let here : i < length codes = omega (arith, many, long, c.loop-body-test.true) in
-    let item = item_code c.as_slice-body-items.result.now bodies c.as_slice-body-items.ensures.keys i c.loop-body-test.true c.body-item.result c.body-item.is in
+    let item = item_code c.as_slice-body-items.result.now bodies c.as_slice-body-items.ensures.values i c.loop-body-test.true c.body-item.result c.body-item.is in
     let well = subst (IsWellSorted sorts) item (c.self.invariant.1.codes_sorted i here) in
     subst (λ s. IsWellSorted s (code_of c.body-item.result.block)) (ap sorts_in c.self.view_is ∙ sym c.loop-body.invariant.sorts) well
 
 pub loop-body-preserved : goal.loop-body-preserved
 loop-body-preserved c =
     let sorts = sort_of (declared_of c.self.inside.decls) in
-    let bodies = c.self.inside.bodies.keys in
+    let bodies = c.self.inside.bodies in
     let codes = map code_of (map block_of bodies) in
     let i = c.loop-body.body-index in
-    let many = ap length c.as_slice-body-items.ensures.keys in
+    let many = ap length c.as_slice-body-items.ensures.values in
     let long = length-codes bodies in
     let here : i < length codes = omega (arith, many, long, c.loop-body-test.true) in
-    let item = item_code c.as_slice-body-items.result.now bodies c.as_slice-body-items.ensures.keys i c.loop-body-test.true c.body-item.result c.body-item.is in
+    let item = item_code c.as_slice-body-items.result.now bodies c.as_slice-body-items.ensures.values i c.loop-body-test.true c.body-item.result c.body-item.is in
     let before = c.loop-body.invariant.codes ∙ sym (ap (λ v. take i (codes_in v)) c.self.view_is) in
     record {
       sorts = c.in_ok-body.ensures.sorts ∙ c.loop-body.invariant.sorts;

@@ -16,14 +16,14 @@ use Rattle.sm_term.proofs.table.TermTable.copy.Goals as goal
 pub add-requires-clause-within : goal.add-requires-clause-within
 add-requires-clause-within c =
     let sorts = sort_of (declared_of c.self.inside.decls) in
-    let codes = map code_of (map block_of c.self.inside.bodies.keys) in
-    let keys = c.self.inside.terms.keys in
+    let codes = map code_of (map block_of c.self.inside.bodies) in
+    let keys = c.self.inside.terms in
     let all = trees_behind codes [] keys in
     let cp = c.loop-term.copy in
     let i = c.loop-term.term-index in
     let u = c.in_ok-t.t in
-    let many = ap length c.as_slice-term-items.ensures.keys in
-    let item = item_row c.as_slice-term-items.result.now keys c.as_slice-term-items.ensures.keys i c.loop-term-test.true c.term-item.result c.term-item.is in
+    let many = ap length c.as_slice-term-items.ensures.values in
+    let item = item_row c.as_slice-term-items.result.now keys c.as_slice-term-items.ensures.values i c.loop-term-test.true c.term-item.result c.term-item.is in
     let next = row_next sorts codes keys c.self.invariant.1 i (omega (arith, many, c.loop-term-test.true)) u (ap contents_of item ∙ c.in_ok-t.ensures) in
     let same_sorts = c.loop-term.invariant.sorts ∙ sym (ap sorts_in c.self.view_is) in
     let same_codes = c.loop-term.invariant.codes ∙ sym (ap codes_in c.self.view_is) in
@@ -33,14 +33,14 @@ add-requires-clause-within c =
 pub add-requires-clause-fits : goal.add-requires-clause-fits
 add-requires-clause-fits c =
     let sorts = sort_of (declared_of c.self.inside.decls) in
-    let codes = map code_of (map block_of c.self.inside.bodies.keys) in
-    let keys = c.self.inside.terms.keys in
+    let codes = map code_of (map block_of c.self.inside.bodies) in
+    let keys = c.self.inside.terms in
     let all = trees_behind codes [] keys in
     let cp = c.loop-term.copy in
     let i = c.loop-term.term-index in
     let u = c.in_ok-t.t in
-    let many = ap length c.as_slice-term-items.ensures.keys in
-    let item = item_row c.as_slice-term-items.result.now keys c.as_slice-term-items.ensures.keys i c.loop-term-test.true c.term-item.result c.term-item.is in
+    let many = ap length c.as_slice-term-items.ensures.values in
+    let item = item_row c.as_slice-term-items.result.now keys c.as_slice-term-items.ensures.values i c.loop-term-test.true c.term-item.result c.term-item.is in
     let next = row_next sorts codes keys c.self.invariant.1 i (omega (arith, many, c.loop-term-test.true)) u (ap contents_of item ∙ c.in_ok-t.ensures) in
     let same_sorts = c.loop-term.invariant.sorts ∙ sym (ap sorts_in c.self.view_is) in
     let same_codes = c.loop-term.invariant.codes ∙ sym (ap codes_in c.self.view_is) in
@@ -50,14 +50,14 @@ add-requires-clause-fits c =
 pub loop-term-preserved : goal.loop-term-preserved
 loop-term-preserved c =
     let sorts = sort_of (declared_of c.self.inside.decls) in
-    let codes = map code_of (map block_of c.self.inside.bodies.keys) in
-    let keys = c.self.inside.terms.keys in
+    let codes = map code_of (map block_of c.self.inside.bodies) in
+    let keys = c.self.inside.terms in
     let all = trees_behind codes [] keys in
     let cp = c.loop-term.copy in
     let i = c.loop-term.term-index in
     let u = c.in_ok-t.t in
-    let many = ap length c.as_slice-term-items.ensures.keys in
-    let item = item_row c.as_slice-term-items.result.now keys c.as_slice-term-items.ensures.keys i c.loop-term-test.true c.term-item.result c.term-item.is in
+    let many = ap length c.as_slice-term-items.ensures.values in
+    let item = item_row c.as_slice-term-items.result.now keys c.as_slice-term-items.ensures.values i c.loop-term-test.true c.term-item.result c.term-item.is in
     let next = row_next sorts codes keys c.self.invariant.1 i (omega (arith, many, c.loop-term-test.true)) u (ap contents_of item ∙ c.in_ok-t.ensures) in
     let same_sorts = c.loop-term.invariant.sorts ∙ sym (ap sorts_in c.self.view_is) in
     let same_codes = c.loop-term.invariant.codes ∙ sym (ap codes_in c.self.view_is) in
@@ -75,9 +75,9 @@ loop-term-preserved c =
 
 pub returns-clause-trees : goal.returns-clause-trees
 returns-clause-trees c =
-    let codes = map code_of (map block_of c.self.inside.bodies.keys) in
-    let keys = c.self.inside.terms.keys in
-    let many = ap length c.as_slice-term-items.ensures.keys in
+    let codes = map code_of (map block_of c.self.inside.bodies) in
+    let keys = c.self.inside.terms in
+    let many = ap length c.as_slice-term-items.ensures.values in
     let long = length-trees codes [] keys ∙ sym many in
     let whole = ap (λ v. length (trees_in v)) c.self.view_is in
     c.loop-term.invariant.trees ∙ take_all c.loop-term.term-index (trees_in c.args.self.now) (omega (arith, long, whole))

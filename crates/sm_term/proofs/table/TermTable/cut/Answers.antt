@@ -11,9 +11,9 @@ use Rattle.sm_term.proofs.table.TermTable.cut.Goals as goal
 
 pub invariant_of-self : goal.invariant_of-self
 invariant_of-self c =
-    (c.self.invariant.0, subst (λ ts. IsTable (sort_of (declared_of c.self.inside.decls)) (map code_of (map block_of c.self.inside.bodies.keys)) ts) (sym c.truncate.ensures.keys) (table-take _ _ _ c.self.invariant.1 c.args.len))
+    (c.self.invariant.0, subst (λ ts. IsTable (sort_of (declared_of c.self.inside.decls)) (map code_of (map block_of c.self.inside.bodies)) ts) (sym c.truncate.ensures) (table-take _ _ _ c.self.invariant.1 c.args.len))
 
 pub returns-clause-trees : goal.returns-clause-trees
 returns-clause-trees c =
-    let codes = map code_of (map block_of c.self.inside.bodies.keys) in
-    ap (trees_behind codes []) c.truncate.ensures.keys ∙ take-trees codes [] c.self.inside.terms.keys c.args.len ∙ ap (λ v. take c.args.len (trees_in v)) c.self.view_is
+    let codes = map code_of (map block_of c.self.inside.bodies) in
+    ap (trees_behind codes []) c.truncate.ensures ∙ take-trees codes [] c.self.inside.terms c.args.len ∙ ap (λ v. take c.args.len (trees_in v)) c.self.view_is

@@ -7,7 +7,7 @@ use Rattle.sm_term.proofs.table.TermTable.len.Goals as goal
 
 pub returns-clause-len : goal.returns-clause-len
 returns-clause-len c =
-    c.len.ensures.len ∙ sym (length-trees (codes_in (record { declared = []; bodies = map block_of c.self.inside.bodies.keys; terms = [] })) [] c.self.inside.terms.keys)
+    c.len.ensures ∙ sym (length-trees (codes_in (record { declared = []; bodies = map block_of c.self.inside.bodies; terms = [] })) [] c.self.inside.terms)
     ∙ ap (λ v. length (trees_in v)) c.self.view_is
 
 pub returns-clause-apart : goal.returns-clause-apart

@@ -1,0 +1,30 @@
+-- A term that is there stays at its place, and another goes last.
+use Rattle.std.proofs.Common.{◌++◌, ◌∷◌, [], if◌then◌else◌, length, slice_get, sym, ap, ◌∙◌}
+use Rattle.sm_term.specs.RowLaws.{same_term-Decides, same_term-equiv}
+use Rattle.sm_term.proofs.AdoptionLemmas.{at_end}
+use Rattle.sm_term.proofs.intern.number_of_term.Goals as goal
+
+pub returns-in-Some-clause-values : goal.returns-in-Some-clause-values
+returns-in-Some-clause-values c =
+    let ts = c.args.terms.now in
+    sym (ap (λ b. if b then ts else ts ++ c.args.term ∷ []) (sym c.in-Some.ensures.found))
+
+pub put-requires-clause-same : goal.put-requires-clause-same
+put-requires-clause-same c = (same_term-Decides _ c.args.term).1 (sym c.in_ok-key.ensures)
+
+pub put-requires-clause-new : goal.put-requires-clause-new
+put-requires-clause-new c = sym c.in-None.ensures.found
+
+pub returns-clause-values : goal.returns-clause-values
+returns-clause-values c =
+    let ts = c.args.terms.now in
+    c.in_ok-index.ensures.values ∙ sym (ap (λ b. if b then ts else ts ++ c.args.term ∷ []) (sym c.in-None.ensures.found))
+
+pub returns-clause-stored : goal.returns-clause-stored
+returns-clause-stored c = (
+  c.args.term,
+  ap (slice_get c.put.new.self) c.in_ok-index.ensures.number
+      ∙ ap (λ l. slice_get l (length c.args.terms.now)) c.in_ok-index.ensures.values
+      ∙ at_end c.args.terms.now c.args.term,
+  same_term-equiv.refl c.args.term,
+)
