@@ -6,7 +6,7 @@ use Rattle.std.proofs.alloc.Global.TheSendSync as heap
 use Rattle.std.proofs.hash.BuildHasherDefault.TheSendSync as builder
 use Rattle.std.proofs.hash.FoldHasher.TheSendSync as hasher
 use Rattle.std.proofs.option.Option.TheSendSync as option
-use Rattle.indexmap.proofs.set.IndexSet.TheSendSync as set
+use Rattle.sm_numbering.proofs.numbering.Numbering.TheSendSync as set
 use Rattle.sm_num.proofs.form.LinForm.TheSendSync as form
 use Rattle.sm_syntax.proofs.program.Decls.TheSendSync as decls
 use Rattle.sm_syntax.proofs.tree.Cmp.TheSendSync as cmp
