@@ -4,8 +4,8 @@ ghost use Rattle.sm_term.specs.Tables.{trees_in, sorts_in};
 ghost use Rattle.sm_theory.specs.TermsOfFormulas.{with_formulas};
 ghost use Rattle.sm_list.specs.Parts.{all_numbered, assertions_in, AreFormulasWithin};
 
-use indexmap::IndexSet;
 use sm_list::list_formulas;
+use sm_numbering::Numbering;
 use sm_term::{Formula, TermTable};
 use std::alloc::{AllocError, Global};
 
@@ -16,7 +16,7 @@ pub fn count_named(alloc: Global, table: &TermTable, facts: &[Formula]) -> Resul
         (all_numbered facts.now) in
         IfOk result (λ n. n ≡ length (with_formulas all [])) }
 {
-    let mut listed = IndexSet::new(alloc);
+    let mut listed = Numbering::new(alloc);
     list_formulas(alloc, table, &mut listed, facts)?;
     Ok(listed.len())
 }

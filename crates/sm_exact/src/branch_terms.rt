@@ -6,7 +6,7 @@ ghost use Rattle.sm_theory.specs.TermsOfFormulas.{all_terms, with_formulas};
 ghost use Rattle.sm_terms.specs.Listing.{trees_at, AreBelow, IsClosed};
 ghost use Rattle.sm_exact.specs.Placing.{formulas_of, HavePlaces};
 
-use indexmap::IndexSet;
+use sm_numbering::Numbering;
 use sm_term::{Formula, TermTable};
 use sm_terms::list_formula;
 use sm_theory::{Branch, Fact};
@@ -18,14 +18,14 @@ pub(crate) fn terms_of(
     alloc: Global,
     table: &TermTable,
     branch: &Branch,
-) -> Result<IndexSet<u64>, AllocError>
+) -> Result<Numbering<u64>, AllocError>
     ensures terms { let trees = trees_in table.now in
         let formulas = formulas_of (sorts_in table.now) trees branch.now.list.items in
-        IfOk result (λ terms. trees_at trees terms.keys ≡ all_terms formulas) }
-    ensures below { IfOk result (λ terms. AreBelow (length (trees_in table.now)) terms.keys) }
-    ensures once { IfOk result (λ terms. HavePlaces terms.keys) }
+        IfOk result (λ terms. trees_at trees terms ≡ all_terms formulas) }
+    ensures below { IfOk result (λ terms. AreBelow (length (trees_in table.now)) terms) }
+    ensures once { IfOk result (λ terms. HavePlaces terms) }
 {
-    let mut terms = IndexSet::new(alloc);
+    let mut terms = Numbering::new(alloc);
     for fact in &branch.list {
         list_fact(alloc, table, &mut terms, fact)?;
     }
@@ -36,17 +36,17 @@ pub(crate) fn terms_of(
 fn list_fact(
     alloc: Global,
     table: &TermTable,
-    terms: &mut IndexSet<u64>,
+    terms: &mut Numbering<u64>,
     fact: &Fact,
 ) -> Result<(), AllocError>
-    requires listed { AreBelow (length (trees_in table.now)) terms.old.keys }
-    requires closed { IsClosed (trees_at (trees_in table.now) terms.old.keys) }
+    requires listed { AreBelow (length (trees_in table.now)) terms.old }
+    requires closed { IsClosed (trees_at (trees_in table.now) terms.old) }
     ensures terms { let trees = trees_in table.now in
         let formulas = formulas_of (sorts_in table.now) trees (fact.now ∷ []) in
-        let all = with_formulas formulas (trees_at trees terms.old.keys) in
-        OnOk result (trees_at trees terms.new.keys ≡ all) }
-    ensures listed { OnOk result (AreBelow (length (trees_in table.now)) terms.new.keys) }
-    ensures closed { OnOk result (IsClosed (trees_at (trees_in table.now) terms.new.keys)) }
+        let all = with_formulas formulas (trees_at trees terms.old) in
+        OnOk result (trees_at trees terms.new ≡ all) }
+    ensures listed { OnOk result (AreBelow (length (trees_in table.now)) terms.new) }
+    ensures closed { OnOk result (IsClosed (trees_at (trees_in table.now) terms.new)) }
 {
     match fact {
         Fact::Form(f) => {

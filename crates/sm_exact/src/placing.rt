@@ -9,22 +9,22 @@ ghost use Rattle.sm_theory.specs.LinearTerms.{atom_form, constant_form};
 ghost use Rattle.sm_exact.specs.Placing.{IsAt, HasNoPlace, HavePlaces, IsPlacedIf};
 ghost use Rattle.sm_exact.specs.Placing.{ArePlacedForms, SomeLacksPlace, FactLacksPlace};
 
-use indexmap::IndexSet;
 use sm_num::{Kind, LinForm, combine};
+use sm_numbering::Numbering;
 use sm_theory::{Branch, Fact};
 use std::alloc::{AllocError, Global};
 
 // The linear facts of a branch in order, over the places of their atoms; none where one has none.
 pub(crate) fn placed_forms(
     alloc: Global,
-    terms: &IndexSet<u64>,
+    terms: &Numbering<u64>,
     branch: &Branch,
 ) -> Result<Option<Vec<LinForm>>, AllocError>
-    requires { HavePlaces terms.now.keys }
+    requires { HavePlaces terms.now }
     ensures some { IfOk result (λ o.
-        IfSome o (λ forms. ArePlacedForms terms.now.keys branch.now.list.items forms.items)) }
+        IfSome o (λ forms. ArePlacedForms terms.now branch.now.list.items forms.items)) }
     ensures none { IfOk result (λ o.
-        IfNone o (SomeLacksPlace terms.now.keys branch.now.list.items)) }
+        IfNone o (SomeLacksPlace terms.now branch.now.list.items)) }
 {
     let mut forms = Vec::new(alloc);
     for fact in &branch.list {
@@ -38,15 +38,15 @@ pub(crate) fn placed_forms(
 // Puts a linear fact behind forms, over the places of its atoms, if these have places.
 fn place_fact(
     alloc: Global,
-    terms: &IndexSet<u64>,
+    terms: &Numbering<u64>,
     forms: &mut Vec<LinForm>,
     fact: &Fact,
 ) -> Result<bool, AllocError>
-    requires { HavePlaces terms.now.keys }
+    requires { HavePlaces terms.now }
     ensures placed { IfOk result (λ b. b ≡ true → (facts : List Fact) →
-        ArePlacedForms terms.now.keys facts forms.old.items →
-        ArePlacedForms terms.now.keys (facts ++ fact.now ∷ []) forms.new.items) }
-    ensures lacks { IfOk result (λ b. b ≡ false → FactLacksPlace terms.now.keys fact.now) }
+        ArePlacedForms terms.now facts forms.old.items →
+        ArePlacedForms terms.now (facts ++ fact.now ∷ []) forms.new.items) }
+    ensures lacks { IfOk result (λ b. b ≡ false → FactLacksPlace terms.now fact.now) }
 {
     match fact {
         Fact::Form(_) => Ok(true),
@@ -61,9 +61,9 @@ fn place_fact(
 }
 
 // A form over the places of its atoms, none where one has none.
-fn placed(alloc: Global, terms: &IndexSet<u64>, f: &LinForm) -> Result<Option<LinForm>, AllocError>
-    requires { HavePlaces terms.now.keys }
-    ensures { IfOk result (IsPlacedIf terms.now.keys f.now) }
+fn placed(alloc: Global, terms: &Numbering<u64>, f: &LinForm) -> Result<Option<LinForm>, AllocError>
+    requires { HavePlaces terms.now }
+    ensures { IfOk result (IsPlacedIf terms.now f.now) }
 {
     let parts = f.parts();
     let mut sum = number(alloc, &0)?;
@@ -81,11 +81,11 @@ fn placed(alloc: Global, terms: &IndexSet<u64>, f: &LinForm) -> Result<Option<Li
 }
 
 // The place of a number.
-fn place_of(terms: &IndexSet<u64>, k: u64) -> Option<u64>
-    ensures some { IfSome result (λ i. IsAt terms.now.keys i k) }
-    ensures none { IfNone result (HasNoPlace terms.now.keys k) }
+fn place_of(terms: &Numbering<u64>, k: u64) -> Option<u64>
+    ensures some { IfSome result (λ i. IsAt terms.now i k) }
+    ensures none { IfNone result (HasNoPlace terms.now k) }
 {
-    let place = terms.get_index_of(&k)?;
+    let place = terms.find(&k)?;
     Some(place as u64)
 }
 

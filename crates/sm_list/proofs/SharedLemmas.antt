@@ -308,7 +308,7 @@ below_take count (suc k) (n ∷ ns) h = (h.0, below_take count k ns h.1)
 -- terms are cut off at the end
 pub shared_front : (table : TableValue) (terms more : List Tree) (s t : SharedTerms) → AreShared table (terms ++ more) s → IsClosed terms →
     trees_in t.own ≡ take (length terms) (trees_in s.own) → sorts_in t.own ≡ sorts_in s.own → codes_in t.own ≡ codes_in s.own →
-    t.listed.keys ≡ take (length terms) s.listed.keys → t.numbers.items ≡ s.numbers.items → AreShared table terms t
+    t.listed ≡ take (length terms) s.listed → t.numbers.items ≡ s.numbers.items → AreShared table terms t
 shared_front table terms more s t shared closed own sorts codes keys numbers =
     let trees = trees_in table in
     let n = length terms in
@@ -318,8 +318,8 @@ shared_front table terms more s t shared closed own sorts codes keys numbers =
       codes = codes ∙ shared.codes;
       own = own ∙ ap (take n) shared.own ∙ front;
       listed =
-          ap (trees_at trees) keys ∙ sym (take-map (tree_at trees) n s.listed.keys) ∙ ap (take n) shared.listed ∙ front;
-      below = subst (AreBelow (length trees)) (sym keys) (below_take (length trees) n s.listed.keys shared.below);
+          ap (trees_at trees) keys ∙ sym (take-map (tree_at trees) n s.listed) ∙ ap (take n) shared.listed ∙ front;
+      below = subst (AreBelow (length trees)) (sym keys) (below_take (length trees) n s.listed shared.below);
       closed = closed;
       built = built_front [] terms more shared.built;
       count = subst (λ (ids : List TermId). length ids ≤ length trees) (sym numbers) shared.count;

@@ -13,8 +13,8 @@ pub record AreShared (table : TableValue) (terms : List Tree) (s : SharedTerms) 
   pub sorts : sorts_in s.own ≡ sorts_in table
   pub codes : codes_in s.own ≡ codes_in table
   pub own : trees_in s.own ≡ terms
-  pub listed : trees_at (trees_in table) s.listed.keys ≡ terms
-  pub below : AreBelow (length (trees_in table)) s.listed.keys
+  pub listed : trees_at (trees_in table) s.listed ≡ terms
+  pub below : AreBelow (length (trees_in table)) s.listed
   pub closed : IsClosed terms
   pub built : AreBuilt [] terms
   pub count : length s.numbers.items ≤ length (trees_in table)

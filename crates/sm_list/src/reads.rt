@@ -10,21 +10,21 @@ ghost use Rattle.sm_list.specs.Branches.{with_reads, with_all_reads};
 ghost use Rattle.sm_terms.specs.Listing.{trees_at, AreBelow, IsClosed};
 ghost use Rattle.sm_list.specs.Reading.{read_told, read_under};
 
-use indexmap::IndexSet;
+use sm_numbering::Numbering;
 use sm_term::{Term, TermId, TermTable};
 use std::alloc::AllocError;
 
 // Lists what each element that is read was before it was written, and so on of what is new.
 pub(crate) fn list_reads(
     table: &mut TermTable,
-    listed: &mut IndexSet<u64>,
+    listed: &mut Numbering<u64>,
 ) -> Result<(), AllocError>
-    requires listed { AreBelow (length (trees_in table.old)) listed.old.keys }
-    requires closed { IsClosed (trees_at (trees_in table.old) listed.old.keys) }
-    ensures terms { let seen = trees_at (trees_in table.old) listed.old.keys in
+    requires listed { AreBelow (length (trees_in table.old)) listed.old }
+    requires closed { IsClosed (trees_at (trees_in table.old) listed.old) }
+    ensures terms { let seen = trees_at (trees_in table.old) listed.old in
         let all = with_all_reads (greatest_of (map writes_on seen)) seen in
-        OnOk result (trees_at (trees_in table.new) listed.new.keys ≡ all) }
-    ensures listed { OnOk result (AreBelow (length (trees_in table.new)) listed.new.keys) }
+        OnOk result (trees_at (trees_in table.new) listed.new ≡ all) }
+    ensures listed { OnOk result (AreBelow (length (trees_in table.new)) listed.new) }
     ensures grows { AddsTerms table.old table.new }
 {
     let mut from = 0;
@@ -39,17 +39,17 @@ pub(crate) fn list_reads(
 // Lists what the elements that are read from a place on were before.
 fn list_round(
     table: &mut TermTable,
-    listed: &mut IndexSet<u64>,
+    listed: &mut Numbering<u64>,
     from: usize,
     end: usize,
 ) -> Result<(), AllocError>
-    requires listed { AreBelow (length (trees_in table.old)) listed.old.keys }
-    requires end { end ≡ length listed.old.keys }
+    requires listed { AreBelow (length (trees_in table.old)) listed.old }
+    requires end { end ≡ length listed.old }
     requires from { from ≤ end }
-    ensures terms { let seen = trees_at (trees_in table.old) listed.old.keys in
+    ensures terms { let seen = trees_at (trees_in table.old) listed.old in
         let all = with_reads (drop from seen) seen in
-        OnOk result (trees_at (trees_in table.new) listed.new.keys ≡ all) }
-    ensures listed { OnOk result (AreBelow (length (trees_in table.new)) listed.new.keys) }
+        OnOk result (trees_at (trees_in table.new) listed.new ≡ all) }
+    ensures listed { OnOk result (AreBelow (length (trees_in table.new)) listed.new) }
     ensures grows { AddsTerms table.old table.new }
 {
     for k in from..end {
@@ -62,15 +62,15 @@ fn list_round(
 // Lists what an element that is read was before it was written.
 fn list_read_before(
     table: &mut TermTable,
-    listed: &mut IndexSet<u64>,
+    listed: &mut Numbering<u64>,
     t: TermId,
 ) -> Result<(), AllocError>
     requires within { t.0 < length (trees_in table.old) }
-    requires listed { AreBelow (length (trees_in table.old)) listed.old.keys }
+    requires listed { AreBelow (length (trees_in table.old)) listed.old }
     ensures terms { let trees = trees_in table.old in
-        let all = put_if (read_before (tree_at trees t.0)) (trees_at trees listed.old.keys) in
-        OnOk result (trees_at (trees_in table.new) listed.new.keys ≡ all) }
-    ensures listed { OnOk result (AreBelow (length (trees_in table.new)) listed.new.keys) }
+        let all = put_if (read_before (tree_at trees t.0)) (trees_at trees listed.old) in
+        OnOk result (trees_at (trees_in table.new) listed.new ≡ all) }
+    ensures listed { OnOk result (AreBelow (length (trees_in table.new)) listed.new) }
     ensures grows { AddsTerms table.old table.new }
 {
     match read_before(table, t) {
@@ -111,24 +111,24 @@ fn read_under(table: &TermTable, a: TermId, i: TermId) -> Option<(TermId, TermId
 // Lists the element of an array at an index.
 fn list_read(
     table: &mut TermTable,
-    listed: &mut IndexSet<u64>,
+    listed: &mut Numbering<u64>,
     a: TermId,
     i: TermId,
 ) -> Result<(), AllocError>
     requires array { a.0 < length (trees_in table.old) }
     requires index { i.0 < length (trees_in table.old) }
-    requires listed { AreBelow (length (trees_in table.old)) listed.old.keys }
+    requires listed { AreBelow (length (trees_in table.old)) listed.old }
     ensures terms { let trees = trees_in table.old in
         let read = Read (tree_at trees a.0) (tree_at trees i.0) in
-        let all = put read (trees_at trees listed.old.keys) in
-        OnOk result (trees_at (trees_in table.new) listed.new.keys ≡ all) }
-    ensures listed { OnOk result (AreBelow (length (trees_in table.new)) listed.new.keys) }
+        let all = put read (trees_at trees listed.old) in
+        OnOk result (trees_at (trees_in table.new) listed.new ≡ all) }
+    ensures listed { OnOk result (AreBelow (length (trees_in table.new)) listed.new) }
     ensures grows { AddsTerms table.old table.new }
 {
     let t = read_number(table, a, i)?;
     // No term is there twice.
     let _count = table.len();
-    listed.insert(t.0)?;
+    listed.add(t.0)?;
     Ok(())
 }
 

@@ -16,7 +16,7 @@ use crate::own::{blank_numbers, put_term};
 use crate::reads::list_reads;
 use crate::renumber::{renumbered_formula, renumbered_formulas};
 use crate::terms::list_formulas;
-use indexmap::IndexSet;
+use sm_numbering::Numbering;
 use sm_term::{Formula, TermId, TermTable};
 use sm_terms::list_formula;
 use std::alloc::{AllocError, Global};
@@ -26,7 +26,7 @@ pub struct SharedTerms {
     /// Their own table.
     pub own: TermTable,
     /// The numbers that they have in the other table.
-    pub listed: IndexSet<u64>,
+    pub listed: Numbering<u64>,
     /// For each number of the other table that of their own, where the term is there.
     pub numbers: Vec<TermId>,
 }
@@ -97,7 +97,7 @@ fn listed_facts(
         AreFormulasWithin (length (trees_in s.terms.own)) (all_numbered s.facts.items)) }
     ensures grows { AddsTerms table.old table.new }
 {
-    let mut listed = IndexSet::new(alloc);
+    let mut listed = Numbering::new(alloc);
     list_formulas(alloc, table, &mut listed, facts)?;
     list_reads(table, &mut listed)?;
     let shared = over_listed(alloc, table, facts, listed)?;
@@ -109,13 +109,13 @@ fn over_listed(
     alloc: Global,
     table: &TermTable,
     facts: &[Formula],
-    listed: IndexSet<u64>,
+    listed: Numbering<u64>,
 ) -> Result<SharedFacts, AllocError>
     requires facts { AreFormulasWithin (length (trees_in table.now)) (all_numbered facts.now) }
     requires terms { let trees = trees_in table.now in
         let all = assertions_in (sorts_in table.now) trees (all_numbered facts.now) in
-        trees_at trees listed.keys ≡ terms_of all }
-    requires below { AreBelow (length (trees_in table.now)) listed.keys }
+        trees_at trees listed ≡ terms_of all }
+    requires below { AreBelow (length (trees_in table.now)) listed }
     ensures terms { let trees = trees_in table.now in
         let all = assertions_in (sorts_in table.now) trees (all_numbered facts.now) in
         IfOk result (λ s. AreShared table.now (terms_of all) s.terms) }

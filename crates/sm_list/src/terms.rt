@@ -8,7 +8,7 @@ ghost use Rattle.sm_list.specs.Parts.{all_numbered, assertions_in, AreFormulasWi
 ghost use Rattle.sm_terms.specs.Listing.{trees_at, AreBelow, IsClosed, numbers_of};
 
 use crate::reads::list_reads;
-use indexmap::IndexSet;
+use sm_numbering::Numbering;
 use sm_term::{Formula, TermId, TermTable, Terms};
 use sm_terms::list_formula;
 use std::alloc::{AllocError, Global};
@@ -54,7 +54,7 @@ fn listed_terms(
         AreBelow (length (trees_in table.new)) (numbers_of ts.list.items)) }
     ensures grows { AddsTerms table.old table.new }
 {
-    let mut listed = IndexSet::new(alloc);
+    let mut listed = Numbering::new(alloc);
     list_formulas(alloc, table, &mut listed, facts)?;
     list_reads(table, &mut listed)?;
     let terms = numbered_terms(alloc, listed.as_slice())?;
@@ -65,18 +65,18 @@ fn listed_terms(
 pub fn list_formulas(
     alloc: Global,
     table: &TermTable,
-    listed: &mut IndexSet<u64>,
+    listed: &mut Numbering<u64>,
     facts: &[Formula],
 ) -> Result<(), AllocError>
     requires within { AreFormulasWithin (length (trees_in table.now)) (all_numbered facts.now) }
-    requires listed { AreBelow (length (trees_in table.now)) listed.old.keys }
-    requires closed { IsClosed (trees_at (trees_in table.now) listed.old.keys) }
+    requires listed { AreBelow (length (trees_in table.now)) listed.old }
+    requires closed { IsClosed (trees_at (trees_in table.now) listed.old) }
     ensures terms { let trees = trees_in table.now in
         let fs = assertions_in (sorts_in table.now) trees (all_numbered facts.now) in
-        let all = with_formulas fs (trees_at trees listed.old.keys) in
-        OnOk result (trees_at trees listed.new.keys ≡ all) }
-    ensures listed { OnOk result (AreBelow (length (trees_in table.now)) listed.new.keys) }
-    ensures closed { OnOk result (IsClosed (trees_at (trees_in table.now) listed.new.keys)) }
+        let all = with_formulas fs (trees_at trees listed.old) in
+        OnOk result (trees_at trees listed.new ≡ all) }
+    ensures listed { OnOk result (AreBelow (length (trees_in table.now)) listed.new) }
+    ensures closed { OnOk result (IsClosed (trees_at (trees_in table.now) listed.new)) }
 {
     for f in facts {
         list_formula(alloc, table, listed, f)?;

@@ -6,7 +6,7 @@ use Rattle.std.specs.Option.{option_map}
 use Rattle.std.specs.Map.{lookup}
 use Rattle.std.specs.Cmp.{IsEquivalence}
 use Rattle.std.proofs.lemmas.Bool.{or_parts}
-use Rattle.sm_numbering.specs.Numbers.{place_of, AreApart}
+use Rattle.sm_numbering.specs.Places.{place_of, AreApart}
 
 -- a place, or that of a value that goes last, where it passes
 abbrev pub or_last : Option ℕ → Bool → ℕ → Option ℕ

@@ -1,14 +1,7 @@
--- Private: values without repeats, each with its place.
-use Rattle.std.specs.Prelude.{◌≡◌, ℕ, suc, Bool, false, Option, Some, None, List, [], ◌∷◌, if◌then◌else◌}
+-- Cited by public clauses: values without repeats.
+use Rattle.std.specs.Prelude.{Bool, List, [], ◌∷◌, ◌++◌, if◌then◌else◌}
 use Rattle.std.specs.List.{list_any}
-use Rattle.std.specs.Option.{option_map}
 
--- the first place at which a test is passed
-abbrev pub place_of : {T : Type 0} → (T → Bool) → List T → Option ℕ
-place_of p [] = None
-place_of p (t ∷ ts) = if p t then Some 0 else option_map (λ (n : ℕ). suc n) (place_of p ts)
-
--- no value is equal to one after it
-abbrev pub AreApart : {T : Type 0} → (T → T → Bool) → List T → Type 0
-AreApart eq [] = Unit {0}
-AreApart eq (t ∷ ts) = (list_any (eq t) ts ≡ false) × AreApart eq ts
+-- values with one more: they stay where one is equal to it, and else it goes last
+abbrev pub with_value : {T : Type 0} → (T → T → Bool) → List T → T → List T
+with_value same ts t = if list_any (same t) ts then ts else ts ++ t ∷ []

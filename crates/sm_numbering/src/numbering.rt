@@ -2,6 +2,7 @@
 ghost use Rattle.std.specs.Prelude.{◌≡◌, ◌-◌, ◌++◌, ◌∷◌, [], length, take, true, false, is_some, position, Some};
 ghost use Rattle.std.specs.Prelude.{slice_get, ◌<◌, IfOk, IfSome, OnOk, OnErr};
 ghost use Rattle.std.specs.List.{list_any, IsDistinct};
+ghost use Rattle.sm_numbering.specs.Numbers.{with_value};
 
 use std::alloc::{AllocError, Global};
 use std::collections::HashMap;
@@ -18,7 +19,7 @@ pub struct Numbering<T: Eq + Hash> {
 impl<T: Eq + Hash> Model for Numbering<T> {
     ghost use Rattle.std.specs.Prelude.{◌≡◌, List};
     ghost use Rattle.std.specs.HashMap.{get};
-    ghost use Rattle.sm_numbering.specs.Numbers.{place_of, AreApart};
+    ghost use Rattle.sm_numbering.specs.Places.{place_of, AreApart};
 
     ghost Value = { List T };
 
@@ -64,6 +65,13 @@ impl<T: Eq + Hash + Drop> Numbering<T> {
             Some((_, at)) => Some(*at),
             None => None,
         }
+    }
+
+    /// Whether a value that is equivalent to a key is there.
+    pub fn contains<Q: Equivalent<T>>(&self, key: Q) -> bool
+        ensures { result ≡ list_any (Q.equivalent key) self.now }
+    {
+        self.find(key).is_some()
     }
 
     /// How many values there are.
@@ -128,5 +136,20 @@ impl<T: Eq + Hash + Drop> Numbering<T> {
         for _ in len..all {
             self.drop_last();
         }
+    }
+}
+
+impl<T: Eq + Hash + Copy + Drop> Numbering<T> {
+    /// The number of a value, which goes last where it isn't there.
+    pub fn add(&mut self, value: T) -> Result<usize, AllocError>
+        ensures values { OnOk result (self.new ≡ with_value T.eq self.old value) }
+        ensures err { OnErr result (self.new ≡ self.old) }
+    {
+        match self.find(&value) {
+            Some(number) => return Ok(number),
+            None => {}
+        }
+        let number = self.put(value, value)?;
+        Ok(number)
     }
 }

@@ -446,7 +446,7 @@ first_closed given = closed_with_formulas (room_for_goal given) [] closed_none
 
 -- the numbers that the terms have in the other table
 pub terms_of_goal : (table : TableValue) (given : List Assertion) (form : Assertion) (n : Node) → IsAtGoal table given form n →
-    (ids : List TermId) → numbers_of ids ≡ n.terms.listed.keys → AreTermsOf (trees_in table) ids (trees_in n.terms.own)
+    (ids : List TermId) → numbers_of ids ≡ n.terms.listed → AreTermsOf (trees_in table) ids (trees_in n.terms.own)
 terms_of_goal table given form n at ids same = record {
   trees_are = ap (trees_at (trees_in table)) same ∙ at.shared.listed ∙ sym at.shared.own;
   below = subst (AreBelow (length (trees_in table))) (sym same) at.shared.below;

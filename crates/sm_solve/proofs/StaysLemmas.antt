@@ -31,12 +31,12 @@ shared_grown old new terms s grows apart is =
       sorts = is.sorts ∙ sym grows.sorts;
       codes = is.codes ∙ sym grows.codes;
       own = is.own;
-      listed = same_grown (trees_in old) (trees_in new) grows.trees s.listed.keys is.below ∙ is.listed;
-      below = below_grown (trees_in old) (trees_in new) grows.trees s.listed.keys is.below;
+      listed = same_grown (trees_in old) (trees_in new) grows.trees s.listed is.below ∙ is.listed;
+      below = below_grown (trees_in old) (trees_in new) grows.trees s.listed is.below;
       closed = is.closed;
       built = is.built;
       count = omega arith;
-      placed = placed_grown (trees_in old) (trees_in new) terms s.numbers.items s.listed.keys grows.trees apart is.below is.listed is.placed;
+      placed = placed_grown (trees_in old) (trees_in new) terms s.numbers.items s.listed grows.trees apart is.below is.listed is.placed;
     }
 
 -- a node of a table is still one of a table that has got more

@@ -1,7 +1,7 @@
 -- Rows that are put into another table: each is there, and what was there stays.
 use Rattle.std.proofs.Common.{◌≡◌, ℕ, zero, suc, ◌+◌, ◌-◌, ◌<◌, ◌≤◌, Bool, true, false, nat_lt, if◌then◌else◌, Some, List, [], ◌∷◌, ◌++◌, length, map, take, drop, get_or, slice_get, pos, refl, sym, ap, ◌∙◌, subst, arith}
 use Rattle.std.specs.List.{list_any}
-use Rattle.sm_term.specs.Numbers.{with_value}
+use Rattle.sm_numbering.specs.Numbers.{with_value}
 use Rattle.std.proofs.lemmas.List.{append-nil, append_assoc, map-append, take_more, drop_more, length-take, length-append, get_or-take, get_or_append_left, get_or-append-add}
 use Rattle.std.proofs.Math.Seq.{take-append_seam}
 use Rattle.std.proofs.lemmas.Bool.{ltb-true, ltb-false}

@@ -1,7 +1,7 @@
 -- What is so of tables of terms stays so where a term or a body is put behind, or the last are cut.
 use Rattle.std.proofs.Common.{◌≡◌, ℕ, zero, suc, pos, ◌+◌, ◌<◌, ◌≤◌, Bool, true, false, ◌||◌, if◌then◌else◌, List, [], ◌∷◌, ◌++◌, map, length, take, get_or, slice_get, refl, sym, ap, ◌∙◌, subst, arith, Some, true≢false, ⊎_elim}
 use Rattle.std.specs.List.{list_any}
-use Rattle.sm_term.specs.Numbers.{with_value}
+use Rattle.sm_numbering.specs.Numbers.{with_value}
 use Rattle.std.proofs.Math.Seq.{get_or-append_seam}
 use Rattle.std.proofs.lemmas.Bool.{cases_lt}
 use Rattle.std.proofs.lemmas.List.{get_or_append_left, length-append, append_assoc, get_or-take, length-take, append-nil}

@@ -20,4 +20,3 @@ pub mod SameCodeLaws
 pub mod Bodies
 pub mod SymStores
 pub mod Formulas
-pub mod Numbers

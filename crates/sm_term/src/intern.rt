@@ -7,7 +7,7 @@ ghost use Rattle.sm_term.specs.declared.body.Body.{Body};
 ghost use Rattle.sm_term.specs.declared.term.Term.{Term};
 ghost use Rattle.sm_term.specs.Bodies.{same_body};
 ghost use Rattle.sm_term.specs.Rows.{same_term};
-ghost use Rattle.sm_term.specs.Numbers.{with_value};
+ghost use Rattle.sm_numbering.specs.Numbers.{with_value};
 ghost use Rattle.sm_term.specs.Fitting.{has_sort, arguments_fit, term_fits};
 ghost use Rattle.sm_term.specs.Tables.{trees_in, sorts_in, codes_in, tree_in};
 ghost use Rattle.sm_term.specs.Tables.{IsTermWithin, AreBefore};

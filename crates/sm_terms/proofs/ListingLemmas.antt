@@ -2,7 +2,7 @@
 use Rattle.std.proofs.Common.{◌≡◌, ℕ, zero, suc, ◌+◌, ◌<◌, ◌≤◌, Bool, true, false, ◌||◌, if◌then◌else◌, nat_eq, List, [], ◌∷◌, ◌++◌, length, get_or, refl, sym, ap, ◌∙◌, subst, arith}
 use Rattle.std.specs.List.{list_any}
 use Rattle.std.proofs.lemmas.List.{map-append, length-append}
-use Rattle.indexmap.specs.IndexSet.{insert_key}
+use Rattle.sm_numbering.specs.Numbers.{with_value}
 use Rattle.sm_term.specs.declared.term.TermId.{TermId}
 use Rattle.sm_term.specs.Terms.{Tree, Lit, Start, Havoc, Slot, Cell, Read, Write}
 use Rattle.sm_term.specs.Terms.{Neg, Add, Sub, Mul, Fun, Arguments, Over, Given}
@@ -109,19 +109,19 @@ below-append count [] ms h k = k
 below-append count (n ∷ ns) ms h k = (h.0, below-append count ns ms h.1 k)
 
 -- a number that is listed is one of the table
-pub below_put : (count : ℕ) (ns : List ℕ) (n : ℕ) → AreBelow count ns → n < count → AreBelow count (insert_key nat_eq ns n)
+pub below_put : (count : ℕ) (ns : List ℕ) (n : ℕ) → AreBelow count ns → n < count → AreBelow count (with_value nat_eq ns n)
 below_put count ns n h k = by (list_any (nat_eq n) ns) refl
   where
-    by : (b : Bool) → list_any (nat_eq n) ns ≡ b → AreBelow count (insert_key nat_eq ns n)
+    by : (b : Bool) → list_any (nat_eq n) ns ≡ b → AreBelow count (with_value nat_eq ns n)
     by true e = subst (λ (b : Bool). AreBelow count (if b then ns else ns ++ n ∷ [])) (sym e) h
     by false e = subst (λ (b : Bool). AreBelow count (if b then ns else ns ++ n ∷ [])) (sym e) (below-append count ns (n ∷ []) h (k, tt))
 
 -- where it is listed, its tree is put
 pub listed_put : (trees : List Tree) → AreApart trees → (ns : List ℕ) → AreBelow (length trees) ns → (n : ℕ) → n < length trees →
-    trees_at trees (insert_key nat_eq ns n) ≡ put (tree_at trees n) (trees_at trees ns)
+    trees_at trees (with_value nat_eq ns n) ≡ put (tree_at trees n) (trees_at trees ns)
 listed_put trees apart ns below n h = by (list_any (nat_eq n) ns) refl
   where
-    by : (b : Bool) → list_any (nat_eq n) ns ≡ b → trees_at trees (insert_key nat_eq ns n) ≡ put (tree_at trees n) (trees_at trees ns)
+    by : (b : Bool) → list_any (nat_eq n) ns ≡ b → trees_at trees (with_value nat_eq ns n) ≡ put (tree_at trees n) (trees_at trees ns)
     by true e =
         ap (λ (b : Bool). trees_at trees (if b then ns else ns ++ n ∷ [])) e
         ∙ sym (put_there (tree_at trees n) (trees_at trees ns) (sym (listed_tells trees apart ns below n h) ∙ e))
@@ -132,7 +132,7 @@ listed_put trees apart ns below n h = by (list_any (nat_eq n) ns) refl
 
 -- the next step is taken: a term is put
 pub put_leads : (trees : List Tree) → AreApart trees → (ns : List ℕ) (steps : List Step) (n : ℕ) (terms : List Tree) → n < length trees →
-    Leads trees ns (steps ++ Put n ∷ []) terms → Leads trees (insert_key nat_eq ns n) steps terms
+    Leads trees ns (steps ++ Put n ∷ []) terms → Leads trees (with_value nat_eq ns n) steps terms
 put_leads trees apart ns steps n terms inside leads =
     let t = tree_at trees n in
     let seen = trees_at trees ns in

@@ -9,7 +9,7 @@ ghost use Rattle.sm_theory.specs.TermsOfFormulas.{with_term, with_formula};
 ghost use Rattle.sm_terms.specs.Listing.{trees_at, AreBelow, IsClosed, IsStepWithin, Leads};
 ghost use Rattle.sm_terms.specs.Listing.{visits, cost_of_step, cost_of_steps};
 
-use indexmap::IndexSet;
+use sm_numbering::Numbering;
 use sm_term::{Formula, Term, TermId, TermTable};
 use std::alloc::{AllocError, Global};
 
@@ -26,17 +26,17 @@ enum Step {
 fn list_term(
     alloc: Global,
     table: &TermTable,
-    listed: &mut IndexSet<u64>,
+    listed: &mut Numbering<u64>,
     t: TermId,
 ) -> Result<(), AllocError>
     requires within { t.0 < length (trees_in table.now) }
-    requires listed { AreBelow (length (trees_in table.now)) listed.old.keys }
-    requires closed { IsClosed (trees_at (trees_in table.now) listed.old.keys) }
+    requires listed { AreBelow (length (trees_in table.now)) listed.old }
+    requires closed { IsClosed (trees_at (trees_in table.now) listed.old) }
     ensures terms { let trees = trees_in table.now in
-        let terms = with_term (tree_at trees t.0) (trees_at trees listed.old.keys) in
-        OnOk result (trees_at trees listed.new.keys ≡ terms) }
-    ensures listed { OnOk result (AreBelow (length (trees_in table.now)) listed.new.keys) }
-    ensures closed { OnOk result (IsClosed (trees_at (trees_in table.now) listed.new.keys)) }
+        let terms = with_term (tree_at trees t.0) (trees_at trees listed.old) in
+        OnOk result (trees_at trees listed.new ≡ terms) }
+    ensures listed { OnOk result (AreBelow (length (trees_in table.now)) listed.new) }
+    ensures closed { OnOk result (IsClosed (trees_at (trees_in table.now) listed.new)) }
 {
     // No term is there twice.
     let _count = table.len();
@@ -54,14 +54,14 @@ fn list_term(
 // Takes the next step.
 fn take_step(
     table: &TermTable,
-    listed: &mut IndexSet<u64>,
+    listed: &mut Numbering<u64>,
     steps: &mut Vec<Step>,
     step: Step,
 ) -> Result<(), AllocError>
     requires { IsStepWithin (length (trees_in table.now)) step }
     ensures leads { let trees = trees_in table.now in (terms : List Tree) →
-        Leads trees listed.old.keys (steps.old.items ++ step ∷ []) terms →
-        OnOk result (Leads trees listed.new.keys steps.new.items terms) }
+        Leads trees listed.old (steps.old.items ++ step ∷ []) terms →
+        OnOk result (Leads trees listed.new steps.new.items terms) }
     ensures less { let trees = trees_in table.now in
         let before = cost_of_steps trees steps.old.items + cost_of_step trees step in
         OnOk result (cost_of_steps trees steps.new.items < before) }
@@ -73,29 +73,29 @@ fn take_step(
 }
 
 // Lists a term whose arguments are there.
-fn put(table: &TermTable, listed: &mut IndexSet<u64>, n: u64) -> Result<(), AllocError>
+fn put(table: &TermTable, listed: &mut Numbering<u64>, n: u64) -> Result<(), AllocError>
     requires { n < length (trees_in table.now) }
     ensures { let trees = trees_in table.now in (steps : List Step) (terms : List Tree) →
-        Leads trees listed.old.keys (steps ++ Step.Put n ∷ []) terms →
-        OnOk result (Leads trees listed.new.keys steps terms) }
+        Leads trees listed.old (steps ++ Step.Put n ∷ []) terms →
+        OnOk result (Leads trees listed.new steps terms) }
 {
     // No term is there twice.
     let _count = table.len();
-    listed.insert(n)?;
+    listed.add(n)?;
     Ok(())
 }
 
 // Where a term isn't listed yet, its arguments are visited first.
 fn visit(
     table: &TermTable,
-    listed: &IndexSet<u64>,
+    listed: &Numbering<u64>,
     steps: &mut Vec<Step>,
     n: u64,
 ) -> Result<(), AllocError>
     requires { n < length (trees_in table.now) }
     ensures leads { let trees = trees_in table.now in (terms : List Tree) →
-        Leads trees listed.now.keys (steps.old.items ++ Step.Visit n ∷ []) terms →
-        OnOk result (Leads trees listed.now.keys steps.new.items terms) }
+        Leads trees listed.now (steps.old.items ++ Step.Visit n ∷ []) terms →
+        OnOk result (Leads trees listed.now steps.new.items terms) }
     ensures less { let trees = trees_in table.now in
         let before = cost_of_steps trees steps.old.items + cost_of_step trees (Step.Visit n) in
         OnOk result (cost_of_steps trees steps.new.items < before) }
@@ -143,18 +143,18 @@ fn push_visits(steps: &mut Vec<Step>, terms: &[TermId]) -> Result<(), AllocError
 pub fn list_formula(
     alloc: Global,
     table: &TermTable,
-    listed: &mut IndexSet<u64>,
+    listed: &mut Numbering<u64>,
     f: &Formula,
 ) -> Result<(), AllocError>
     requires within { IsFormulaWithin (length (trees_in table.now)) (numbered f.now) }
-    requires listed { AreBelow (length (trees_in table.now)) listed.old.keys }
-    requires closed { IsClosed (trees_at (trees_in table.now) listed.old.keys) }
+    requires listed { AreBelow (length (trees_in table.now)) listed.old }
+    requires closed { IsClosed (trees_at (trees_in table.now) listed.old) }
     ensures terms { let trees = trees_in table.now in
         let f = assertion_in (sorts_in table.now) trees (numbered f.now) in
-        let terms = with_formula f (trees_at trees listed.old.keys) in
-        OnOk result (trees_at trees listed.new.keys ≡ terms) }
-    ensures listed { OnOk result (AreBelow (length (trees_in table.now)) listed.new.keys) }
-    ensures closed { OnOk result (IsClosed (trees_at (trees_in table.now) listed.new.keys)) }
+        let terms = with_formula f (trees_at trees listed.old) in
+        OnOk result (trees_at trees listed.new ≡ terms) }
+    ensures listed { OnOk result (AreBelow (length (trees_in table.now)) listed.new) }
+    ensures closed { OnOk result (IsClosed (trees_at (trees_in table.now) listed.new)) }
 {
     match f {
         Formula::Yes | Formula::No => Ok(()),
@@ -179,20 +179,20 @@ pub fn list_formula(
 fn list_two(
     alloc: Global,
     table: &TermTable,
-    listed: &mut IndexSet<u64>,
+    listed: &mut Numbering<u64>,
     t: TermId,
     u: TermId,
 ) -> Result<(), AllocError>
     requires first { t.0 < length (trees_in table.now) }
     requires second { u.0 < length (trees_in table.now) }
-    requires listed { AreBelow (length (trees_in table.now)) listed.old.keys }
-    requires closed { IsClosed (trees_at (trees_in table.now) listed.old.keys) }
+    requires listed { AreBelow (length (trees_in table.now)) listed.old }
+    requires closed { IsClosed (trees_at (trees_in table.now) listed.old) }
     ensures terms { let trees = trees_in table.now in
-        let first = with_term (tree_at trees t.0) (trees_at trees listed.old.keys) in
+        let first = with_term (tree_at trees t.0) (trees_at trees listed.old) in
         OnOk result
-        (trees_at trees listed.new.keys ≡ with_term (tree_at trees u.0) first) }
-    ensures listed { OnOk result (AreBelow (length (trees_in table.now)) listed.new.keys) }
-    ensures closed { OnOk result (IsClosed (trees_at (trees_in table.now) listed.new.keys)) }
+        (trees_at trees listed.new ≡ with_term (tree_at trees u.0) first) }
+    ensures listed { OnOk result (AreBelow (length (trees_in table.now)) listed.new) }
+    ensures closed { OnOk result (IsClosed (trees_at (trees_in table.now) listed.new)) }
 {
     list_term(alloc, table, listed, t)?;
     list_term(alloc, table, listed, u)?;

@@ -16,7 +16,7 @@ returns-clause-once c =
     let trees = trees_in c.args.table.now in
     let sorts = sorts_in c.args.table.now in
     let facts = c.args.branch.now.list.items in
-    let keys = c.loop-fact.terms.keys in
+    let keys = c.loop-fact.terms in
     let past : drop c.loop-fact.fact-index c.deref-fact-items.result.now ≡ [] =
     drop_of_length-le c.deref-fact-items.result.now (omega (arith, c.loop-fact-test.false)) in
     let all : trees_at trees keys ≡ all_terms (formulas_of sorts trees facts) =

@@ -12,8 +12,8 @@ invariant-loop-fact l =
     let sorts = sorts_in l.table in
     let facts = l.branch.list.items in
     record {
-      listed : AreBelow (length trees) l.terms.keys;
-      closed : IsClosed (trees_at trees l.terms.keys);
-      rest : with_formulas (formulas_of sorts trees (drop l.fact-index l.fact-items)) (trees_at trees l.terms.keys)
+      listed : AreBelow (length trees) l.terms;
+      closed : IsClosed (trees_at trees l.terms);
+      rest : with_formulas (formulas_of sorts trees (drop l.fact-index l.fact-items)) (trees_at trees l.terms)
           ≡ all_terms (formulas_of sorts trees facts);
     }

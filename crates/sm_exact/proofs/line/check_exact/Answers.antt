@@ -18,7 +18,7 @@ returns-in_default c = λ facts stand.
     let trees = trees_in c.args.table.now in
     let sorts = sorts_in c.args.table.now in
     let items = c.args.branch.now.list.items in
-    let numbers = c.in_ok-terms.terms.keys in
+    let numbers = c.in_ok-terms.terms in
     let lacks = none_case (SomeLacksPlace numbers items) c.in_ok-forms.field-0 c.in_ok-forms.ensures.none c.in_default.not-Some in
     subst (StandsIf sorts trees None)
     (sym (adds_none facts c.args.steps
@@ -30,7 +30,7 @@ returns-then-is_refuted c = λ facts stand.
     let trees = trees_in c.args.table.now in
     let sorts = sorts_in c.args.table.now in
     let items = c.args.branch.now.list.items in
-    let numbers = c.in_ok-terms.terms.keys in
+    let numbers = c.in_ok-terms.terms in
     let forms = c.in-Some.forms.items in
     let placed = subst (λ o. IfSome o (λ fs. ArePlacedForms numbers items fs.items)) c.in-Some.is c.in_ok-forms.ensures.some in
     let are = forms_are trees numbers c.len-count.ensures.apart c.in_ok-terms.ensures.below sorts items facts c.in_ok-terms.ensures.terms stand
@@ -45,7 +45,7 @@ returns c = λ facts stand.
     let trees = trees_in c.args.table.now in
     let sorts = sorts_in c.args.table.now in
     let items = c.args.branch.now.list.items in
-    let numbers = c.in_ok-terms.terms.keys in
+    let numbers = c.in_ok-terms.terms in
     let forms = c.in-Some.forms.items in
     let placed = subst (λ o. IfSome o (λ fs. ArePlacedForms numbers items fs.items)) c.in-Some.is c.in_ok-forms.ensures.some in
     let are = forms_are trees numbers c.len-count.ensures.apart c.in_ok-terms.ensures.below sorts items facts c.in_ok-terms.ensures.terms stand

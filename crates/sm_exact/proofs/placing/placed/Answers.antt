@@ -19,7 +19,7 @@ returns-in_default c =
     let within = c.loop-left.invariant.within in
     let kept = subst (AreParts 0) (sym c.parts-parts.ensures.parts) c.parts-parts.ensures.kept.parts in (
       k,
-      none_case (HasNoPlace c.args.terms.now.keys k) c.place_of.result c.place_of.ensures.none c.in_default.not-Some,
+      none_case (HasNoPlace c.args.terms.now k) c.place_of.result c.place_of.ensures.none c.in_default.not-Some,
       λ (e : coefficient same_atom k c.args.f.now.parts ≡ pos 0).
           part_counts 0 i ps kept (omega (arith, within, c.loop-left-test.true))
           (ap (coefficient same_atom k) c.parts-parts.ensures.parts ∙ e),
@@ -47,8 +47,8 @@ loop-left-preserved c =
     let constant = combined_constant d (atom_form n) h (pos 1) p.1 Eq c.in_ok-sum-2.ensures in
     record {
       within = omega (arith, within);
-      parts = subst (λ (ds : List (ℕ × ℤ)). ArePlaced c.args.terms.now.keys ds h.parts) (sym shown)
-          (one_placed c.args.terms.now.keys p (drop c.loop-left.left ps) d.parts h.parts n c.requires c.in-Some.ensures.some
+      parts = subst (λ (ds : List (ℕ × ℤ)). ArePlaced c.args.terms.now ds h.parts) (sym shown)
+          (one_placed c.args.terms.now p (drop c.loop-left.left ps) d.parts h.parts n c.requires c.in-Some.ensures.some
           (combined_at d (atom_form n) h (pos 1) p.1 Eq c.in_ok-sum-2.ensures) c.loop-left.invariant.parts);
       constant = constant ∙ nothing d.constant p.1 none;
     }
@@ -60,7 +60,7 @@ pub returns : goal.returns
 returns c =
     let d = c.loop-left.sum in
     let start : c.loop-left.left ≡ 0 = omega (arith, c.loop-left-test.false) in
-    let parts = subst (λ (m : ℕ). ArePlaced c.args.terms.now.keys (drop m c.parts-parts.result.now) d.parts) start c.loop-left.invariant.parts in
-    whole_placed c.args.terms.now.keys c.args.f.now d c.in_ok-form.form
-    (subst (λ (ds : List (ℕ × ℤ)). ArePlaced c.args.terms.now.keys ds d.parts) c.parts-parts.ensures.parts parts)
+    let parts = subst (λ (m : ℕ). ArePlaced c.args.terms.now (drop m c.parts-parts.result.now) d.parts) start c.loop-left.invariant.parts in
+    whole_placed c.args.terms.now c.args.f.now d c.in_ok-form.form
+    (subst (λ (ds : List (ℕ × ℤ)). ArePlaced c.args.terms.now ds d.parts) c.parts-parts.ensures.parts parts)
     c.loop-left.invariant.constant c.parts-parts-2.ensures.kept c.in_ok-form.ensures

@@ -6,7 +6,7 @@ use Rattle.sm_exact.proofs.placing.placed.Given as goal
 abbrev pub invariant-loop-left : goal.invariant-loop-left
 invariant-loop-left l = record {
   within : l.left ≤ length l.parts;
-  parts : ArePlaced l.terms.keys (drop l.left l.parts) l.sum.parts;
+  parts : ArePlaced l.terms (drop l.left l.parts) l.sum.parts;
   constant : l.sum.constant ≡ pos 0;
 }
 

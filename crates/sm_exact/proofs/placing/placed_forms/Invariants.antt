@@ -4,4 +4,4 @@ use Rattle.sm_exact.specs.Placing.{ArePlacedForms}
 use Rattle.sm_exact.proofs.placing.placed_forms.Given as goal
 
 abbrev pub invariant-loop-fact : goal.invariant-loop-fact
-invariant-loop-fact l = ArePlacedForms l.terms.keys (take l.fact-index l.fact-items) l.forms.items
+invariant-loop-fact l = ArePlacedForms l.terms (take l.fact-index l.fact-items) l.forms.items

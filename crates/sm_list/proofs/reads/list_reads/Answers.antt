@@ -11,9 +11,9 @@ use Rattle.sm_list.proofs.reads.list_reads.Goals as goal
 
 pub loop-from-smaller : goal.loop-from-smaller
 loop-from-smaller c =
-    let seen = trees_at (trees_in c.loop-from.table) c.loop-from.listed.keys in
-    let new = trees_at (trees_in c.list_round.new.table) c.list_round.new.listed.keys in
-    let long = length-map c.loop-from.listed.keys (tree_at (trees_in c.loop-from.table)) in
+    let seen = trees_at (trees_in c.loop-from.table) c.loop-from.listed in
+    let new = trees_at (trees_in c.list_round.new.table) c.list_round.new.listed in
+    let long = length-map c.loop-from.listed (tree_at (trees_in c.loop-from.table)) in
     let inside : c.loop-from.from < length seen = omega arith in
     let end : length seen ≡ c.len-end.result = omega arith in
     let round = round_from seen c.loop-from.from new inside c.loop-from.invariant.done c.in_ok-list_round.ensures.terms in
@@ -21,11 +21,11 @@ loop-from-smaller c =
 
 pub loop-from-preserved : goal.loop-from-preserved
 loop-from-preserved c =
-    let first = trees_at (trees_in c.args.table.now) c.args.listed.now.keys in
-    let seen = trees_at (trees_in c.loop-from.table) c.loop-from.listed.keys in
-    let new = trees_at (trees_in c.list_round.new.table) c.list_round.new.listed.keys in
-    let long = length-map c.loop-from.listed.keys (tree_at (trees_in c.loop-from.table)) in
-    let after = length-map c.list_round.new.listed.keys (tree_at (trees_in c.list_round.new.table)) in
+    let first = trees_at (trees_in c.args.table.now) c.args.listed.now in
+    let seen = trees_at (trees_in c.loop-from.table) c.loop-from.listed in
+    let new = trees_at (trees_in c.list_round.new.table) c.list_round.new.listed in
+    let long = length-map c.loop-from.listed (tree_at (trees_in c.loop-from.table)) in
+    let after = length-map c.list_round.new.listed (tree_at (trees_in c.list_round.new.table)) in
     let inside : c.loop-from.from < length seen = omega arith in
     let end : length seen ≡ c.len-end.result = omega arith in
     let round = round_from seen c.loop-from.from new inside c.loop-from.invariant.done c.in_ok-list_round.ensures.terms in
@@ -42,9 +42,9 @@ loop-from-preserved c =
 
 pub returns-clause-terms : goal.returns-clause-terms
 returns-clause-terms c =
-    let first = trees_at (trees_in c.args.table.now) c.args.listed.now.keys in
-    let seen = trees_at (trees_in c.loop-from.table) c.loop-from.listed.keys in
-    let long = length-map c.loop-from.listed.keys (tree_at (trees_in c.loop-from.table)) in
+    let first = trees_at (trees_in c.args.table.now) c.args.listed.now in
+    let seen = trees_at (trees_in c.loop-from.table) c.loop-from.listed in
+    let long = length-map c.loop-from.listed (tree_at (trees_in c.loop-from.table)) in
     let past : length seen ≤ c.loop-from.from = omega arith in
     let r = c.loop-from.invariant.rounds.0 in
     let made : seen ≡ with_all_reads r first = c.loop-from.invariant.rounds.1 in

@@ -13,7 +13,7 @@ use Rattle.sm_list.proofs.reads.list_round.Goals as goal
 
 pub list_read_before-requires-clause-within : goal.list_read_before-requires-clause-within
 list_read_before-requires-clause-within c =
-    let ns = c.loop-k.listed.keys in
+    let ns = c.loop-k.listed in
     let k = c.loop-k.k in
     let n = c.index-n.result.now in
     let found : get_or ns k 0 ≡ n = get_or_from_slice_get ns k n 0 c.index-n.ensures in
@@ -24,18 +24,18 @@ list_read_before-requires-clause-within c =
 pub loop-k-preserved : goal.loop-k-preserved
 loop-k-preserved c =
     let trees = trees_in c.loop-k.table in
-    let ns = c.loop-k.listed.keys in
+    let ns = c.loop-k.listed in
     let k = c.loop-k.k in
     let n = c.index-n.result.now in
     let t = tree_at trees n in
-    let seen = trees_at (trees_in c.args.table.now) c.args.listed.now.keys in
+    let seen = trees_at (trees_in c.args.table.now) c.args.listed.now in
     let now = trees_at trees ns in
-    let new = trees_at (trees_in c.list_read_before.new.table) c.list_read_before.new.listed.keys in
+    let new = trees_at (trees_in c.list_read_before.new.table) c.list_read_before.new.listed in
     let more = c.loop-k.invariant.longer.0 in
     let longer : now ≡ seen ++ more = c.loop-k.invariant.longer.1 in
     let found : get_or ns k 0 ≡ n = get_or_from_slice_get ns k n 0 c.index-n.ensures in
     let inside = slice_get_within ns k n c.index-n.ensures in
-    let long = length-map c.args.listed.now.keys (tree_at (trees_in c.args.table.now)) in
+    let long = length-map c.args.listed.now (tree_at (trees_in c.args.table.now)) in
     let first : k < length seen = omega arith in
     let is : t ≡ get_or seen k t =
     ap (tree_at trees) (sym found) ∙ tree_of_place trees ns k t inside ∙ ap (λ (us : List Tree). get_or us k t) longer

@@ -12,7 +12,7 @@ pub put_rest-requires-clause-built : goal.put_rest-requires-clause-built
 put_rest-requires-clause-built c =
     let trees = trees_in c.args.table.now in
     let all = assertions_in (sorts_in c.args.table.now) trees (all_numbered c.args.facts.now) in
-    subst (AreBuilt []) (sym (ap (trees_at trees) c.as_slice.ensures.keys ∙ c.requires.terms)) (all_behind all).built
+    subst (AreBuilt []) (sym (ap (trees_at trees) c.as_slice.ensures.values ∙ c.requires.terms)) (all_behind all).built
 
 pub put_rest-requires-clause-first : goal.put_rest-requires-clause-first
 put_rest-requires-clause-first c =
@@ -24,7 +24,7 @@ returns-clause-terms c =
     let trees = trees_in c.args.table.now in
     let all = assertions_in (sorts_in c.args.table.now) trees (all_numbered c.args.facts.now) in
     let behind = all_behind all in
-    let own = c.in_ok-put_rest.ensures.trees ∙ ap (trees_at trees) c.as_slice.ensures.keys ∙ c.requires.terms in
+    let own = c.in_ok-put_rest.ensures.trees ∙ ap (trees_at trees) c.as_slice.ensures.values ∙ c.requires.terms in
     record {
       sorts = c.in_ok-put_rest.ensures.sorts;
       codes = c.in_ok-put_rest.ensures.codes;
@@ -41,7 +41,7 @@ returns-clause-terms c =
 pub returns-clause-facts : goal.returns-clause-facts
 returns-clause-facts c =
     let table = c.args.table.now in
-    let own = c.in_ok-put_rest.ensures.trees ∙ ap (trees_at (trees_in table)) c.as_slice.ensures.keys ∙ c.requires.terms in
+    let own = c.in_ok-put_rest.ensures.trees ∙ ap (trees_at (trees_in table)) c.as_slice.ensures.values ∙ c.requires.terms in
     (all_moved (sorts_in table) (trees_in table) (trees_in c.put_rest.new.own) (all_numbered c.args.facts.now)
     (all_numbered c.in_ok-facts.facts.items) c.requires.facts c.put_rest.new.numbers.items c.deref.result.now
     c.in_ok-put_rest.ensures.placed own c.deref.ensures.value c.in_ok-facts.ensures).same
@@ -49,7 +49,7 @@ returns-clause-facts c =
 pub returns-clause-within : goal.returns-clause-within
 returns-clause-within c =
     let table = c.args.table.now in
-    let own = c.in_ok-put_rest.ensures.trees ∙ ap (trees_at (trees_in table)) c.as_slice.ensures.keys ∙ c.requires.terms in
+    let own = c.in_ok-put_rest.ensures.trees ∙ ap (trees_at (trees_in table)) c.as_slice.ensures.values ∙ c.requires.terms in
     (all_moved (sorts_in table) (trees_in table) (trees_in c.put_rest.new.own) (all_numbered c.args.facts.now)
     (all_numbered c.in_ok-facts.facts.items) c.requires.facts c.put_rest.new.numbers.items c.deref.result.now
     c.in_ok-put_rest.ensures.placed own c.deref.ensures.value c.in_ok-facts.ensures).within

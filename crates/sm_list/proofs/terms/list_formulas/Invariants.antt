@@ -12,8 +12,8 @@ invariant-loop-f l =
     let left = all_numbered (drop l.f-index l.facts) in
     record {
       within : AreFormulasWithin (length trees) left;
-      listed : AreBelow (length trees) l.listed.keys;
-      closed : IsClosed (trees_at trees l.listed.keys);
-      rest : with_formulas (assertions_in (sorts_in l.table) trees left) (trees_at trees l.listed.keys)
-          ≡ with_formulas (assertions_in (sorts_in l.table) trees (all_numbered l.fn.facts)) (trees_at trees l.fn.listed.keys);
+      listed : AreBelow (length trees) l.listed;
+      closed : IsClosed (trees_at trees l.listed);
+      rest : with_formulas (assertions_in (sorts_in l.table) trees left) (trees_at trees l.listed)
+          ≡ with_formulas (assertions_in (sorts_in l.table) trees (all_numbered l.fn.facts)) (trees_at trees l.fn.listed);
     }

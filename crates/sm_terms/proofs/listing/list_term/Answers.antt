@@ -11,7 +11,7 @@ use Rattle.sm_terms.proofs.listing.list_term.Goals as goal
 pub returns-then-contains-clause-terms : goal.returns-then-contains-clause-terms
 returns-then-contains-clause-terms c =
     let trees = trees_in c.args.table.now in
-    let keys = c.args.listed.now.keys in
+    let keys = c.args.listed.now in
     let n = c.args.t.0 in
     let there : list_any (nat_eq n) keys ≡ true = sym c.contains.ensures ∙ c.if-contains.true in
     let told = sym (listed_tells trees c.len-count.ensures.apart keys c.requires.listed n c.requires.within) ∙ there in

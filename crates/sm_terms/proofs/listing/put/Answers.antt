@@ -8,5 +8,5 @@ use Rattle.sm_terms.proofs.listing.put.Goals as goal
 pub returns : goal.returns
 returns c = λ steps terms leads.
     let trees = trees_in c.args.table.now in
-    subst (λ (ns : List ℕ). Leads trees ns steps terms) (sym c.in_ok-insert.ensures.keys)
-    (put_leads trees c.len-count.ensures.apart c.args.listed.now.keys steps c.args.n terms c.requires leads)
+    subst (λ (ns : List ℕ). Leads trees ns steps terms) (sym c.in_ok-add.ensures.values)
+    (put_leads trees c.len-count.ensures.apart c.args.listed.now steps c.args.n terms c.requires leads)

@@ -13,8 +13,8 @@ use Rattle.sm_terms.proofs.listing.visit.Goals as goal
 
 pub returns-then-contains-clause-leads : goal.returns-then-contains-clause-leads
 returns-then-contains-clause-leads c = λ terms leads.
-    let there : list_any (nat_eq c.args.n) c.args.listed.now.keys ≡ true = sym c.contains.ensures ∙ c.if-contains.true in
-    skip_leads (trees_in c.args.table.now) c.len-count.ensures.apart c.args.listed.now.keys c.args.steps.now.items c.args.n terms c.requires there
+    let there : list_any (nat_eq c.args.n) c.args.listed.now ≡ true = sym c.contains.ensures ∙ c.if-contains.true in
+    skip_leads (trees_in c.args.table.now) c.len-count.ensures.apart c.args.listed.now c.args.steps.now.items c.args.n terms c.requires there
     leads
 
 pub returns-then-contains-clause-less : goal.returns-then-contains-clause-less
@@ -30,10 +30,10 @@ returns-clause-leads c = λ terms leads.
     let old = c.args.steps.now.items in
     let are = ap arguments_of (sym c.get.ensures.tree) ∙ arguments_are (sorts_in table) (codes_in table) trees term c.get.ensures.fits in
     let before = parts_before (sorts_in table) (length (codes_in table)) n (length trees) (omega arith) term c.get.ensures.before in
-    let all = open_leads trees c.args.listed.now.keys old n terms c.requires args before are leads in
+    let all = open_leads trees c.args.listed.now old n terms c.requires args before are leads in
     let made : c.push_arguments.new.steps.items ≡ (old ++ Put n ∷ []) ++ visits args =
     c.in_ok-push_arguments.ensures ∙ ap (λ (ss : List Step). ss ++ visits args) c.in_ok-push.ensures.items in
-    subst (λ (ss : List Step). Leads trees c.args.listed.now.keys ss terms) (sym made) all
+    subst (λ (ss : List Step). Leads trees c.args.listed.now ss terms) (sym made) all
 
 pub returns-clause-less : goal.returns-clause-less
 returns-clause-less c =

@@ -17,10 +17,10 @@ put_rest-requires-clause-built c =
     let trees = trees_in c.list_reads.new.table in
     let form = assertion_in (sorts_in old) (trees_in old) (numbered c.args.f.now) in
     let shared = c.requires.shared.1 in
-    let all : trees_at trees c.list_reads.new.listed.keys ≡ with_those_before (with_formula form c.requires.shared.0) =
+    let all : trees_at trees c.list_reads.new.listed ≡ with_those_before (with_formula form c.requires.shared.0) =
     c.in_ok-list_reads.ensures.terms
     ∙ ap with_those_before (c.in_ok-list_formula.ensures.terms ∙ ap (with_formula form) shared.listed) in
-    subst (AreBuilt []) (sym (ap (trees_at trees) c.as_slice.ensures.keys ∙ all))
+    subst (AreBuilt []) (sym (ap (trees_at trees) c.as_slice.ensures.values ∙ all))
     (added form c.requires.shared.0 shared.built shared.closed).behind.built
 
 pub put_rest-requires-clause-first : goal.put_rest-requires-clause-first
@@ -29,12 +29,12 @@ put_rest-requires-clause-first c =
     let trees = trees_in c.list_reads.new.table in
     let form = assertion_in (sorts_in old) (trees_in old) (numbered c.args.f.now) in
     let shared = c.requires.shared.1 in
-    let all : trees_at trees c.list_reads.new.listed.keys ≡ with_those_before (with_formula form c.requires.shared.0) =
+    let all : trees_at trees c.list_reads.new.listed ≡ with_those_before (with_formula form c.requires.shared.0) =
     c.in_ok-list_reads.ensures.terms
     ∙ ap with_those_before (c.in_ok-list_formula.ensures.terms ∙ ap (with_formula form) shared.listed) in
     let behind = (added form c.requires.shared.0 shared.built shared.closed).behind in (
       behind.more,
-      ap (trees_at trees) c.as_slice.ensures.keys ∙ all ∙ behind.is ∙ ap (λ (ts : List Tree). ts ++ behind.more) (sym shared.own),
+      ap (trees_at trees) c.as_slice.ensures.values ∙ all ∙ behind.is ∙ ap (λ (ts : List Tree). ts ++ behind.more) (sym shared.own),
     )
 
 pub put_rest-requires-clause-placed : goal.put_rest-requires-clause-placed
@@ -43,7 +43,7 @@ put_rest-requires-clause-placed c =
     let own = c.args.self.now.own in
     let numbers = c.args.self.now.numbers.items in
     let shared = c.requires.shared.1 in
-    placed_grown old (trees_in c.list_reads.new.table) (trees_in own) numbers c.args.self.now.listed.keys
+    placed_grown old (trees_in c.list_reads.new.table) (trees_in own) numbers c.args.self.now.listed
     c.list_reads.ensures.grows.trees c.len-count.ensures.apart shared.below (shared.listed ∙ sym shared.own)
     (subst (λ (ts : List Tree). ArePlaced old ts numbers) (sym shared.own) shared.placed)
 
@@ -52,11 +52,11 @@ returns-clause-added c = λ terms shared.
     let old = c.args.table.now in
     let trees = trees_in c.list_reads.new.table in
     let form = assertion_in (sorts_in old) (trees_in old) (numbered c.args.f.now) in
-    let all : trees_at trees c.list_reads.new.listed.keys ≡ with_those_before (with_formula form terms) =
+    let all : trees_at trees c.list_reads.new.listed ≡ with_those_before (with_formula form terms) =
     c.in_ok-list_reads.ensures.terms
     ∙ ap with_those_before (c.in_ok-list_formula.ensures.terms ∙ ap (with_formula form) shared.listed) in
     let behind = (added form terms shared.built shared.closed).behind in
-    let own = c.in_ok-put_rest.ensures.trees ∙ ap (trees_at trees) c.as_slice.ensures.keys ∙ all in
+    let own = c.in_ok-put_rest.ensures.trees ∙ ap (trees_at trees) c.as_slice.ensures.values ∙ all in
     record {
       sorts = c.in_ok-put_rest.ensures.sorts;
       codes = c.in_ok-put_rest.ensures.codes;
@@ -79,7 +79,7 @@ returns-clause-formula c =
     let shared = c.requires.shared.1 in
     let own = trees_in c.put_rest.new.own in
     let all : own ≡ with_those_before (with_formula form c.requires.shared.0) =
-    c.in_ok-put_rest.ensures.trees ∙ ap (trees_at trees) c.as_slice.ensures.keys ∙ c.in_ok-list_reads.ensures.terms
+    c.in_ok-put_rest.ensures.trees ∙ ap (trees_at trees) c.as_slice.ensures.values ∙ c.in_ok-list_reads.ensures.terms
     ∙ ap with_those_before (c.in_ok-list_formula.ensures.terms ∙ ap (with_formula form) shared.listed) in
     let among : FormulaAmong own form =
     subst (λ (ts : List Tree). FormulaAmong ts form) (sym all) (added form c.requires.shared.0 shared.built shared.closed).among in
@@ -95,7 +95,7 @@ returns-clause-inside c =
     let shared = c.requires.shared.1 in
     let own = trees_in c.put_rest.new.own in
     let all : own ≡ with_those_before (with_formula form c.requires.shared.0) =
-    c.in_ok-put_rest.ensures.trees ∙ ap (trees_at trees) c.as_slice.ensures.keys ∙ c.in_ok-list_reads.ensures.terms
+    c.in_ok-put_rest.ensures.trees ∙ ap (trees_at trees) c.as_slice.ensures.values ∙ c.in_ok-list_reads.ensures.terms
     ∙ ap with_those_before (c.in_ok-list_formula.ensures.terms ∙ ap (with_formula form) shared.listed) in
     let among : FormulaAmong own form =
     subst (λ (ts : List Tree). FormulaAmong ts form) (sym all) (added form c.requires.shared.0 shared.built shared.closed).among in

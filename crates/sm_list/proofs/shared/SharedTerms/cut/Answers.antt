@@ -10,4 +10,4 @@ returns c = λ table terms more shared many closed.
     let len : c.args.len ≡ length terms = sym many in
     shared_front table terms more old _ shared closed (c.cut.ensures.trees ∙ ap (λ (n : ℕ). take n (trees_in old.own)) len)
     c.cut.ensures.sorts c.cut.ensures.codes
-    (c.truncate.ensures.keys ∙ ap (λ (n : ℕ). take n old.listed.keys) len) refl
+    (c.truncate.ensures ∙ ap (λ (n : ℕ). take n old.listed) len) refl

@@ -1,6 +1,6 @@
 -- The places without that of the last value.
 use Rattle.std.proofs.Common.{cond, None, ap, ◌∙◌, subst}
-use Rattle.sm_numbering.specs.Numbers.{place_of, AreApart}
+use Rattle.sm_numbering.specs.Places.{place_of, AreApart}
 use Rattle.sm_numbering.proofs.PlaceLemmas.{apart_last, places_cut}
 use Rattle.sm_numbering.proofs.numbering.Numbering.drop_last.Goals as goal
 

@@ -1,7 +1,7 @@
 -- The places with that of the last value.
 use Rattle.std.proofs.Common.{◌≡◌, cond, Some, false, length, sym, ap, ◌∙◌, subst}
 use Rattle.std.specs.List.{list_any}
-use Rattle.sm_numbering.specs.Numbers.{place_of, AreApart}
+use Rattle.sm_numbering.specs.Places.{place_of, AreApart}
 use Rattle.sm_numbering.proofs.PlaceLemmas.{apart_put, places_put}
 use Rattle.sm_numbering.proofs.numbering.Numbering.put.Goals as goal
 

@@ -59,7 +59,7 @@ returns-clause-answer c = λ given is.
     let now = c.in_ok-end.ensures.stays table given form at in
     let all = with_parts (given ++ form ∷ []) in
     let ids = c.in_ok-numbers.numbers.list.items in
-    let terms = terms_of_goal table given form _ now ids (c.in_ok-numbers.ensures ∙ c.as_slice.ensures.keys) in
+    let terms = terms_of_goal table given form _ now ids (c.in_ok-numbers.ensures ∙ c.as_slice.ensures.values) in
     let told = c.in_ok-answer.ensures.tells (sorts_in table) (trees_in c.end_of_goal.new.self.terms.own) (trees_in table)
     (walk_from (sorts_in table) (terms_of all) c.args.reach 1001 0 all) terms (c.in_ok-end.ensures.tells table given form at) in
     let same = c.in_ok-open_goal.ensures.grows.sorts in
@@ -79,7 +79,7 @@ returns-clause-certifies c = λ given is.
     let at = c.in_ok-open_goal.ensures.goal given is in
     let now = c.in_ok-end.ensures.stays table given form at in
     let ids = c.in_ok-numbers.numbers.list.items in
-    let terms = terms_of_goal table given form _ now ids (c.in_ok-numbers.ensures ∙ c.as_slice.ensures.keys) in
+    let terms = terms_of_goal table given form _ now ids (c.in_ok-numbers.ensures ∙ c.as_slice.ensures.values) in
     let shown = c.in_ok-answer.ensures.shows (sorts_in table) (trees_in c.end_of_goal.new.self.terms.own) (trees_in table) 1001
     (given ++ form ∷ []) terms (c.in_ok-end.ensures.shows table given form at) in
     shows_certify sorts (trees_in table) given goal c.in_ok-answer.answer
@@ -99,7 +99,7 @@ returns-clause-names c = λ given is.
     let at = c.in_ok-open_goal.ensures.goal given is in
     let now = c.in_ok-end.ensures.stays table given form at in
     let ids = c.in_ok-numbers.numbers.list.items in
-    let terms = terms_of_goal table given form _ now ids (c.in_ok-numbers.ensures ∙ c.as_slice.ensures.keys) in
+    let terms = terms_of_goal table given form _ now ids (c.in_ok-numbers.ensures ∙ c.as_slice.ensures.values) in
     let named = c.in_ok-answer.ensures.names (sorts_in table) (trees_in c.end_of_goal.new.self.terms.own) (trees_in table) 1001
     (given ++ form ∷ []) terms (c.in_ok-end.ensures.shows table given form at) in
     subst (λ (ts : List Tree). NamesOnly ts (trees_in table) c.in_ok-answer.answer)
