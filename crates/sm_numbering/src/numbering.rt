@@ -104,6 +104,8 @@ impl<T: Eq + Hash + Drop> Numbering<T> {
         requires new { list_any (T.eq value) self.old ≡ false }
         ensures values { OnOk result (self.new ≡ self.old ++ value ∷ []) }
         ensures number { IfOk result (λ n. n ≡ length self.old) }
+        ensures stored { IfOk result (λ n. slice_get self.new n ≡ Some value) }
+        ensures unique { OnOk result (IsDistinct T.eq self.new) }
         ensures err { OnErr result (self.new ≡ self.old) }
     {
         let at = self.len();

@@ -30,11 +30,6 @@ use Rattle.sm_term.proofs.TreesLemmas.{length-trees}
 use Rattle.sm_term.proofs.TablesLemmas.{stands}
 use Rattle.sm_term.proofs.MovesLemmas.{moved_tree, moved_within, moved_fits}
 
--- what goes last stands there
-pub at_end : {T : Type 0} (ts : List T) (t : T) → slice_get (ts ++ t ∷ []) (length ts) ≡ Some t
-at_end [] t = refl
-at_end (u ∷ ts) t = at_end ts t
-
 -- values with one more begin with what they were
 pub grown_key : {T : Type 0} (same : T → T → Bool) (xs : List T) (x : T) → (more : List T) × (with_value same xs x ≡ xs ++ more)
 grown_key same xs x = by (list_any (same x) xs) refl

@@ -1,7 +1,6 @@
 -- A body that is there stays at its place, and another goes last.
-use Rattle.std.proofs.Common.{◌++◌, ◌∷◌, [], if◌then◌else◌, length, slice_get, refl, sym, ap, ◌∙◌}
+use Rattle.std.proofs.Common.{◌++◌, ◌∷◌, [], if◌then◌else◌, refl, sym, ap, ◌∙◌}
 use Rattle.sm_term.specs.Bodies.{same_body-Decides}
-use Rattle.sm_term.proofs.AdoptionLemmas.{at_end}
 use Rattle.sm_term.proofs.intern.number_of_body.Goals as goal
 
 pub returns-in-Some-clause-values : goal.returns-in-Some-clause-values
@@ -23,8 +22,6 @@ returns-clause-values c =
 pub returns-clause-stored : goal.returns-clause-stored
 returns-clause-stored c = (
   c.args.body,
-  ap (slice_get c.put.new.self) c.in_ok-index.ensures.number
-      ∙ ap (λ l. slice_get l (length c.args.bodies.now)) c.in_ok-index.ensures.values
-      ∙ at_end c.args.bodies.now c.args.body,
+  c.in_ok-index.ensures.stored,
   (same_body-Decides c.args.body c.args.body).1 refl,
 )

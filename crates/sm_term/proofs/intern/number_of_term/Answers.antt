@@ -1,7 +1,6 @@
 -- A term that is there stays at its place, and another goes last.
-use Rattle.std.proofs.Common.{◌++◌, ◌∷◌, [], if◌then◌else◌, length, slice_get, sym, ap, ◌∙◌}
+use Rattle.std.proofs.Common.{◌++◌, ◌∷◌, [], if◌then◌else◌, sym, ap, ◌∙◌}
 use Rattle.sm_term.specs.RowLaws.{same_term-Decides, same_term-equiv}
-use Rattle.sm_term.proofs.AdoptionLemmas.{at_end}
 use Rattle.sm_term.proofs.intern.number_of_term.Goals as goal
 
 pub returns-in-Some-clause-values : goal.returns-in-Some-clause-values
@@ -23,8 +22,6 @@ returns-clause-values c =
 pub returns-clause-stored : goal.returns-clause-stored
 returns-clause-stored c = (
   c.args.term,
-  ap (slice_get c.put.new.self) c.in_ok-index.ensures.number
-      ∙ ap (λ l. slice_get l (length c.args.terms.now)) c.in_ok-index.ensures.values
-      ∙ at_end c.args.terms.now c.args.term,
+  c.in_ok-index.ensures.stored,
   same_term-equiv.refl c.args.term,
 )
