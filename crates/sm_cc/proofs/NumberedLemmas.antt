@@ -11,18 +11,13 @@ use Rattle.std.specs.Option.{option_map}
 use Rattle.std.proofs.lemmas.List.{append-nil, map-append}
 use Rattle.std.proofs.lemmas.Option.{slice_get-map}
 use Rattle.std.proofs.lemmas.Map.Keys.{IsDistinct-head, IsDistinct-tail}
-use Rattle.indexmap.specs.IndexSet.{insert_key}
 use Rattle.sm_cc.specs.Numbered.{StandApart}
 use Rattle.sm_pairs.specs.Longer.{IsLonger}
 
 module _ {K A : Type 0} (eq : K → K → Bool) (f : K → A) (decides : (x y : K) → Decides (eq x y) (f x ≡ f y)) where
   -- keys with one more are longer
-  pub longer_inserted : (ks : List K) (k : K) → IsLonger (map f ks) (map f (insert_key eq ks k))
-  longer_inserted ks k = by (list_any (eq k) ks) refl
-    where
-      by : (b : Bool) → list_any (eq k) ks ≡ b → IsLonger (map f ks) (map f (insert_key eq ks k))
-      by true e = ([], ap (λ (b : Bool). map f (if b then ks else ks ++ k ∷ [])) e ∙ sym (append-nil (map f ks)))
-      by false e = (f k ∷ [], ap (λ (b : Bool). map f (if b then ks else ks ++ k ∷ [])) e ∙ map-append f ks (k ∷ []))
+  pub longer_put : (ks : List K) (k : K) → IsLonger (map f ks) (map f (ks ++ k ∷ []))
+  longer_put ks k = (f k ∷ [], map-append f ks (k ∷ []))
 
   -- a key that differs from all others has a value of its own
   differs : (k : K) (ks : List K) (j : ℕ) → AllByRecursion (λ y. eq k y ≡ false) ks → slice_get (map f ks) j ≡ Some (f k) → ⊥

@@ -55,8 +55,8 @@ IsShapeAt sorts trees parts t (Some s) =
 
 -- the heads that were met
 abbrev pub heads_met : Heads → List Contents
-heads_met heads = map contents_of heads.list.keys
+heads_met heads = map contents_of heads.list
 
 -- the parts that were met
 abbrev pub parts_met : Shapes → List (List (ℕ × ℤ))
-parts_met shapes = map (λ (v : Vec (ℕ × ℤ) Global). v.items) shapes.parts.keys
+parts_met shapes = map (λ (v : Vec (ℕ × ℤ) Global). v.items) shapes.parts

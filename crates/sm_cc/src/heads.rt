@@ -1,11 +1,11 @@
 // Numbers for the heads of terms: equal numbers stand for equal heads.
-ghost use Rattle.std.specs.Prelude.{◌≡◌, [], IfOk, option_map};
+ghost use Rattle.std.specs.Prelude.{◌≡◌, [], Some, IfOk, option_map, slice_get};
 ghost use Rattle.sm_term.specs.Rows.{kind_numbers, names_in_list};
 ghost use Rattle.sm_term.specs.RowLaws.{contents_of};
 ghost use Rattle.sm_cc.specs.Numbered.{StandApart, head_of, IsHeadAt, heads_met};
 ghost use Rattle.sm_pairs.specs.Longer.{IsLonger};
 
-use indexmap::IndexSet;
+use sm_numbering::Numbering;
 use sm_syntax::{Name, Outputs, copy_outputs};
 use sm_term::{BodyId, Term, TermId, Terms};
 use std::alloc::{AllocError, Global};
@@ -13,16 +13,16 @@ use std::alloc::{AllocError, Global};
 /// The heads that were met, each once. A head is a term over no arguments.
 #[derive(Drop)]
 pub(crate) struct Heads {
-    list: IndexSet<Term>,
+    list: Numbering<Term>,
 }
 
 impl Heads {
     /// No heads.
     pub(crate) fn new(alloc: Global) -> Heads
-        ensures { result.list.keys ≡ [] }
+        ensures { result.list ≡ [] }
     {
         Heads {
-            list: IndexSet::new(alloc),
+            list: Numbering::new(alloc),
         }
     }
 
@@ -35,13 +35,27 @@ impl Heads {
         ensures head { IfOk result (λ n.
             IsHeadAt (heads_met self.new) (head_of t.now) n) }
     {
-        match bare(alloc, t)? {
-            Some(head) => {
-                let (index, _) = self.list.insert_full(head)?;
-                Ok(Some(index as u64))
-            }
-            None => Ok(None),
+        let Some(head) = bare(alloc, t)? else {
+            return Ok(None);
+        };
+        let number = self.place(alloc, head)?;
+        Ok(Some(number))
+    }
+
+    // The number of a head, which goes last where it wasn't met before.
+    fn place(&mut self, alloc: Global, head: Term) -> Result<u64, AllocError>
+        ensures longer { IsLonger (heads_met self.old) (heads_met self.new) }
+        ensures apart { StandApart (heads_met self.old) → StandApart (heads_met self.new) }
+        ensures head { IfOk result (λ n.
+            slice_get (heads_met self.new) n ≡ Some (contents_of head)) }
+    {
+        match self.list.find(&head) {
+            Some(number) => return Ok(number as u64),
+            None => {}
         }
+        let key = head.copied(alloc)?;
+        let number = self.list.put(head, key)?;
+        Ok(number as u64)
     }
 }
 

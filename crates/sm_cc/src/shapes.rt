@@ -6,8 +6,8 @@ ghost use Rattle.sm_cc.specs.Numbered.{StandApart, IsShapeAt, parts_met};
 ghost use Rattle.sm_pairs.specs.Longer.{IsLonger};
 
 use crate::row::Shape;
-use indexmap::IndexSet;
 use sm_num::LinForm;
+use sm_numbering::Numbering;
 use sm_syntax::Sort;
 use sm_term::{TermId, TermTable};
 use std::alloc::{AllocError, Global};
@@ -15,16 +15,16 @@ use std::alloc::{AllocError, Global};
 /// The parts of the forms that were met, each list once.
 #[derive(Drop)]
 pub(crate) struct Shapes {
-    parts: IndexSet<Vec<(u64, i128)>>,
+    parts: Numbering<Vec<(u64, i128)>>,
 }
 
 impl Shapes {
     /// No forms.
     pub(crate) fn new(alloc: Global) -> Shapes
-        ensures { result.parts.keys ≡ [] }
+        ensures { result.parts ≡ [] }
     {
         Shapes {
-            parts: IndexSet::new(alloc),
+            parts: Numbering::new(alloc),
         }
     }
 
@@ -64,7 +64,12 @@ impl Shapes {
         ensures number { IfOk result (λ n. slice_get (parts_met self.new) n ≡ Some parts.now) }
     {
         let list = Vec::from_slice(alloc, parts)?;
-        let (index, _) = self.parts.insert_full(list)?;
-        Ok(index as u64)
+        match self.parts.find(&list) {
+            Some(number) => return Ok(number as u64),
+            None => {}
+        }
+        let key = Vec::from_slice(alloc, parts)?;
+        let number = self.parts.put(list, key)?;
+        Ok(number as u64)
     }
 }

@@ -112,8 +112,8 @@ impl Term {
         }
     }
 
-    // A term that holds the same.
-    pub(crate) fn copied(&self, alloc: Global) -> Result<Term, AllocError>
+    /// A term that holds the same.
+    pub fn copied(&self, alloc: Global) -> Result<Term, AllocError>
         ensures { IfOk result (λ t. contents_of self.now ≡ contents_of t) }
     {
         match self {
