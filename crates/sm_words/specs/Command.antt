@@ -1,10 +1,12 @@
 -- What `clap` knows of each command. Public clauses cite it.
-use Rattle.std.specs.Prelude.{true, Some, codes}
+use Rattle.std.specs.Prelude.{true, Some, codes, List, [], ◌∷◌}
 use Rattle.clap.specs.Simple.{App, new_app, new_rule, with_rule}
 use Rattle.clap.specs.Walk.{Rule, Text}
 use Rattle.clap.specs.declared.builder.action.ArgAction.TheVariants.{Set, SetTrue}
 use Rattle.sm_words.specs.declared.about.About.{About}
 use Rattle.sm_words.specs.declared.about.About.TheVariants.{Help, Version}
+use Rattle.sm_words.specs.declared.command.Argument.{Argument}
+use Rattle.sm_words.specs.declared.command.Argument.TheVariants.{Required, Optional, Valued, Flag}
 use Rattle.sm_words.specs.declared.command.Verb.{Verb}
 use Rattle.sm_words.specs.declared.command.Verb.TheVariants.{Check, Verify, Replay, Print, Suggest}
 use Rattle.sm_words.specs.declared.command.Verb.TheVariants.{Gen, Explain, Batch, Trim}
@@ -25,6 +27,18 @@ option_word id = record (new_rule id) { long = Some id; action = Some Set }
 -- an option without a value
 abbrev pub flag_word : Text → Rule
 flag_word id = record (new_rule id) { long = Some id; action = Some SetTrue }
+
+-- an argument
+abbrev pub rule_by : Argument → Rule
+rule_by (Required id) = required_word id.now
+rule_by (Optional id) = optional_word id.now
+rule_by (Valued id) = option_word id.now
+rule_by (Flag id) = flag_word id.now
+
+-- a command with arguments, in turn
+abbrev pub with_rules : App → List Rule → App
+with_rules command [] = command
+with_rules command (rule ∷ rest) = with_rules (with_rule command rule) rest
 
 -- a command with the options of a search
 abbrev pub with_effort : App → App

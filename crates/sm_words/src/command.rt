@@ -1,11 +1,7 @@
 // What `clap` knows of the commands.
-ghost use Rattle.std.specs.Prelude.{◌≡◌, false, IfOk};
-ghost use Rattle.clap.specs.Words.{app_of, rule_of, with_rule};
-ghost use Rattle.sm_words.specs.Command.{about_command, check_command, command_of, flag_word};
-ghost use Rattle.sm_words.specs.Command.{batch_command, explain_command, optional_word};
-ghost use Rattle.sm_words.specs.Command.{gen_command, option_word, print_command, replay_command};
-ghost use Rattle.sm_words.specs.Command.{required_word, search_command, suggest_command, trim_command};
-ghost use Rattle.sm_words.specs.Command.{verify_command, with_effort, with_limit};
+ghost use Rattle.std.specs.Prelude.{◌≡◌, false, map, IfOk};
+ghost use Rattle.clap.specs.Words.{app_of, new_app, rule_of};
+ghost use Rattle.sm_words.specs.Command.{command_of, rule_by, with_rules};
 
 use crate::about::About;
 use clap::{Arg, ArgAction, Command};
@@ -26,222 +22,131 @@ pub enum Verb {
     About(About),
 }
 
+/// An argument of a command.
+#[derive(Clone, Copy)]
+pub enum Argument {
+    /// A word that has to be there.
+    Required(&'static str),
+    /// A word that may be there.
+    Optional(&'static str),
+    /// An option with a value.
+    Valued(&'static str),
+    /// An option without a value.
+    Flag(&'static str),
+}
+
+// The arguments of each command that has some, in the order in which `clap` is told of them.
+const CHECK: [Argument; 9] = [
+    Argument::Required("TASK"),
+    Argument::Required("PROOF"),
+    Argument::Valued("steps"),
+    Argument::Valued("turns"),
+    Argument::Valued("workers"),
+    Argument::Flag("exact"),
+    Argument::Valued("seconds"),
+    Argument::Flag("deeper"),
+    Argument::Flag("why"),
+];
+
+const VERIFY: [Argument; 3] = [
+    Argument::Required("TASK"),
+    Argument::Required("PROOF"),
+    Argument::Valued("workers"),
+];
+
+const REPLAY: [Argument; 4] = [
+    Argument::Required("TASK"),
+    Argument::Required("INPUT"),
+    Argument::Valued("turns"),
+    Argument::Valued("workers"),
+];
+
+const PRINT: [Argument; 2] = [Argument::Required("TASK"), Argument::Valued("copy")];
+
+const SUGGEST: [Argument; 6] = [
+    Argument::Required("TASK"),
+    Argument::Valued("steps"),
+    Argument::Valued("turns"),
+    Argument::Valued("workers"),
+    Argument::Flag("exact"),
+    Argument::Valued("seconds"),
+];
+
+const GEN: [Argument; 7] = [
+    Argument::Required("SEED"),
+    Argument::Required("SIZE"),
+    Argument::Valued("steps"),
+    Argument::Valued("turns"),
+    Argument::Valued("workers"),
+    Argument::Flag("exact"),
+    Argument::Valued("seconds"),
+];
+
+const EXPLAIN: [Argument; 3] = [
+    Argument::Required("TASK"),
+    Argument::Optional("INPUT"),
+    Argument::Valued("turns"),
+];
+
+const BATCH: [Argument; 6] = [
+    Argument::Required("LIST"),
+    Argument::Valued("cache"),
+    Argument::Valued("steps"),
+    Argument::Valued("turns"),
+    Argument::Valued("workers"),
+    Argument::Flag("exact"),
+];
+
+const TRIM: [Argument; 3] = [
+    Argument::Required("TASK"),
+    Argument::Required("PROOF"),
+    Argument::Required("OUT"),
+];
+
 /// What `clap` knows of a command.
 pub fn command_of<'a>(alloc: Global, verb: Verb) -> Result<Command<'a>, AllocError>
     ensures { IfOk result (λ c. app_of c ≡ command_of verb) }
 {
     match verb {
-        Verb::Check => check_command(alloc),
-        Verb::Verify => verify_command(alloc),
-        Verb::Replay => replay_command(alloc),
-        Verb::Print => print_command(alloc),
-        Verb::Suggest => suggest_command(alloc),
-        Verb::Gen => gen_command(alloc),
-        Verb::Explain => explain_command(alloc),
-        Verb::Batch => batch_command(alloc),
-        Verb::Trim => trim_command(alloc),
-        Verb::About(about) => Ok(about_command(alloc, about)),
+        Verb::Check => command_with(alloc, "check", &CHECK),
+        Verb::Verify => command_with(alloc, "verify", &VERIFY),
+        Verb::Replay => command_with(alloc, "replay", &REPLAY),
+        Verb::Print => command_with(alloc, "print", &PRINT),
+        Verb::Suggest => command_with(alloc, "suggest", &SUGGEST),
+        Verb::Gen => command_with(alloc, "gen", &GEN),
+        Verb::Explain => command_with(alloc, "explain", &EXPLAIN),
+        Verb::Batch => command_with(alloc, "batch", &BATCH),
+        Verb::Trim => command_with(alloc, "trim", &TRIM),
+        Verb::About(About::Help) => command_with(alloc, "help", &[]),
+        Verb::About(About::Version) => command_with(alloc, "version", &[]),
     }
 }
 
-// A word that has to be there.
-fn required_word<'a>(alloc: Global, id: &'a str) -> Arg<'a>
-    ensures rule { rule_of result ≡ required_word id.entry.now }
+// A command with its arguments in turn.
+fn command_with<'a>(
+    alloc: Global,
+    word: &'static str,
+    arguments: &[Argument],
+) -> Result<Command<'a>, AllocError>
+    ensures { IfOk result (λ c.
+        app_of c ≡ with_rules (new_app word.now) (map rule_by arguments.now)) }
+{
+    let mut command = Command::new(alloc, word);
+    for argument in arguments {
+        command = command.arg(arg_of(alloc, *argument))?;
+    }
+    Ok(command)
+}
+
+// What `clap` knows of an argument.
+fn arg_of<'a>(alloc: Global, argument: Argument) -> Arg<'a>
+    ensures rule { rule_of result ≡ rule_by argument }
     ensures local { result.global ≡ false }
 {
-    Arg::new(alloc, id).required(true).action(ArgAction::Set)
-}
-
-// A word that may be there.
-fn optional_word<'a>(alloc: Global, id: &'a str) -> Arg<'a>
-    ensures rule { rule_of result ≡ optional_word id.entry.now }
-    ensures local { result.global ≡ false }
-{
-    Arg::new(alloc, id).action(ArgAction::Set)
-}
-
-// An option with a value.
-fn option_word<'a>(alloc: Global, id: &'a str) -> Arg<'a>
-    ensures rule { rule_of result ≡ option_word id.entry.now }
-    ensures local { result.global ≡ false }
-{
-    Arg::new(alloc, id).long(id).action(ArgAction::Set)
-}
-
-// An option without a value.
-fn flag_word<'a>(alloc: Global, id: &'a str) -> Arg<'a>
-    ensures rule { rule_of result ≡ flag_word id.entry.now }
-    ensures local { result.global ≡ false }
-{
-    Arg::new(alloc, id).long(id).action(ArgAction::SetTrue)
-}
-
-// The command, with a word that has to be there.
-fn with_word<'a>(
-    alloc: Global,
-    command: Command<'a>,
-    id: &'a str,
-) -> Result<Command<'a>, AllocError>
-    ensures { IfOk result (λ c.
-        app_of c ≡ with_rule (app_of command.entry) (required_word id.entry.now)) }
-{
-    command.arg(required_word(alloc, id))
-}
-
-// The command, with a word that may be there.
-fn with_optional_word<'a>(
-    alloc: Global,
-    command: Command<'a>,
-    id: &'a str,
-) -> Result<Command<'a>, AllocError>
-    ensures { IfOk result (λ c.
-        app_of c ≡ with_rule (app_of command.entry) (optional_word id.entry.now)) }
-{
-    command.arg(optional_word(alloc, id))
-}
-
-// The command, with an option that has a value.
-fn with_option<'a>(
-    alloc: Global,
-    command: Command<'a>,
-    id: &'a str,
-) -> Result<Command<'a>, AllocError>
-    ensures { IfOk result (λ c.
-        app_of c ≡ with_rule (app_of command.entry) (option_word id.entry.now)) }
-{
-    command.arg(option_word(alloc, id))
-}
-
-// The command, with an option that has no value.
-fn with_flag<'a>(
-    alloc: Global,
-    command: Command<'a>,
-    id: &'a str,
-) -> Result<Command<'a>, AllocError>
-    ensures { IfOk result (λ c.
-        app_of c ≡ with_rule (app_of command.entry) (flag_word id.entry.now)) }
-{
-    command.arg(flag_word(alloc, id))
-}
-
-#[tactic(auto, unfolding(crate::specs::Command::check_command))]
-fn check_command<'a>(alloc: Global) -> Result<Command<'a>, AllocError>
-    ensures { IfOk result (λ c. app_of c ≡ check_command) }
-{
-    let command = search_command(alloc, "check", "TASK", "PROOF")?;
-    let command = with_flag(alloc, command, "deeper")?;
-    with_flag(alloc, command, "why")
-}
-
-#[tactic(auto, unfolding(crate::specs::Command::gen_command))]
-fn gen_command<'a>(alloc: Global) -> Result<Command<'a>, AllocError>
-    ensures { IfOk result (λ c. app_of c ≡ gen_command) }
-{
-    search_command(alloc, "gen", "SEED", "SIZE")
-}
-
-// A command with two words that have to be there, with the options of a search and a limit of time.
-fn search_command<'a>(
-    alloc: Global,
-    word: &'a str,
-    first: &'a str,
-    second: &'a str,
-) -> Result<Command<'a>, AllocError>
-    ensures { IfOk result (λ c.
-        app_of c ≡ search_command word.entry.now first.entry.now second.entry.now) }
-{
-    let command = with_word(alloc, Command::new(alloc, word), first)?;
-    let command = with_word(alloc, command, second)?;
-    with_limit(alloc, command)
-}
-
-// The command with the options of a search.
-fn with_effort<'a>(alloc: Global, command: Command<'a>) -> Result<Command<'a>, AllocError>
-    ensures { IfOk result (λ c. app_of c ≡ with_effort (app_of command.entry)) }
-{
-    let command = with_option(alloc, command, "steps")?;
-    let command = with_option(alloc, command, "turns")?;
-    let command = with_option(alloc, command, "workers")?;
-    with_flag(alloc, command, "exact")
-}
-
-// The command with the options of a search, and with a limit of time.
-fn with_limit<'a>(alloc: Global, command: Command<'a>) -> Result<Command<'a>, AllocError>
-    ensures { IfOk result (λ c. app_of c ≡ with_limit (app_of command.entry)) }
-{
-    let command = with_effort(alloc, command)?;
-    with_option(alloc, command, "seconds")
-}
-
-#[tactic(auto, unfolding(crate::specs::Command::verify_command))]
-fn verify_command<'a>(alloc: Global) -> Result<Command<'a>, AllocError>
-    ensures { IfOk result (λ c. app_of c ≡ verify_command) }
-{
-    let command = with_word(alloc, Command::new(alloc, "verify"), "TASK")?;
-    let command = with_word(alloc, command, "PROOF")?;
-    with_option(alloc, command, "workers")
-}
-
-#[tactic(auto, unfolding(crate::specs::Command::replay_command))]
-fn replay_command<'a>(alloc: Global) -> Result<Command<'a>, AllocError>
-    ensures { IfOk result (λ c. app_of c ≡ replay_command) }
-{
-    let command = with_word(alloc, Command::new(alloc, "replay"), "TASK")?;
-    let command = with_word(alloc, command, "INPUT")?;
-    let command = with_option(alloc, command, "turns")?;
-    with_option(alloc, command, "workers")
-}
-
-#[tactic(auto, unfolding(crate::specs::Command::print_command))]
-fn print_command<'a>(alloc: Global) -> Result<Command<'a>, AllocError>
-    ensures { IfOk result (λ c. app_of c ≡ print_command) }
-{
-    let command = with_word(alloc, Command::new(alloc, "print"), "TASK")?;
-    with_option(alloc, command, "copy")
-}
-
-#[tactic(auto, unfolding(crate::specs::Command::suggest_command))]
-fn suggest_command<'a>(alloc: Global) -> Result<Command<'a>, AllocError>
-    ensures { IfOk result (λ c. app_of c ≡ suggest_command) }
-{
-    let command = with_word(alloc, Command::new(alloc, "suggest"), "TASK")?;
-    with_limit(alloc, command)
-}
-
-#[tactic(auto, unfolding(crate::specs::Command::explain_command))]
-fn explain_command<'a>(alloc: Global) -> Result<Command<'a>, AllocError>
-    ensures { IfOk result (λ c. app_of c ≡ explain_command) }
-{
-    let command = with_word(alloc, Command::new(alloc, "explain"), "TASK")?;
-    let command = with_optional_word(alloc, command, "INPUT")?;
-    with_option(alloc, command, "turns")
-}
-
-#[tactic(auto, unfolding(crate::specs::Command::batch_command))]
-fn batch_command<'a>(alloc: Global) -> Result<Command<'a>, AllocError>
-    ensures { IfOk result (λ c. app_of c ≡ batch_command) }
-{
-    let command = with_word(alloc, Command::new(alloc, "batch"), "LIST")?;
-    let command = with_option(alloc, command, "cache")?;
-    with_effort(alloc, command)
-}
-
-#[tactic(auto, unfolding(crate::specs::Command::trim_command))]
-fn trim_command<'a>(alloc: Global) -> Result<Command<'a>, AllocError>
-    ensures { IfOk result (λ c. app_of c ≡ trim_command) }
-{
-    let command = with_word(alloc, Command::new(alloc, "trim"), "TASK")?;
-    let command = with_word(alloc, command, "PROOF")?;
-    with_word(alloc, command, "OUT")
-}
-
-// A command that takes no words.
-#[tactic(auto, unfolding(crate::specs::Command::about_command))]
-fn about_command<'a>(alloc: Global, about: About) -> Command<'a>
-    ensures { app_of result ≡ about_command about }
-{
-    match about {
-        About::Help => Command::new(alloc, "help"),
-        About::Version => Command::new(alloc, "version"),
+    match argument {
+        Argument::Required(id) => Arg::new(alloc, id).required(true).action(ArgAction::Set),
+        Argument::Optional(id) => Arg::new(alloc, id).action(ArgAction::Set),
+        Argument::Valued(id) => Arg::new(alloc, id).long(id).action(ArgAction::Set),
+        Argument::Flag(id) => Arg::new(alloc, id).long(id).action(ArgAction::SetTrue),
     }
 }
