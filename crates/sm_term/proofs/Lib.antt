@@ -14,3 +14,4 @@ pub mod CopiesLemmas
 pub mod TailsLemmas
 pub mod MovesLemmas
 pub mod AdoptionLemmas
+pub mod PairsLemmas

@@ -20,3 +20,4 @@ pub mod SameCodeLaws
 pub mod Bodies
 pub mod SymStores
 pub mod Formulas
+pub mod Pairs
