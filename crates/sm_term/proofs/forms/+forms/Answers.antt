@@ -26,6 +26,26 @@ made_form-returns-in_ok-g-in-Not-clause-within t c =
     let count = length (trees_in c.made_form.new.table) in
     subst (IsFormulaWithin count) (sym c.in_ok-g-in-Not.ensures) (contrary_within count (numbered c.in_ok-f-in-Not.f) c.in_ok-f-in-Not.ensures.within)
 
+pub made_form-returns-in_ok-p-in-And-clause-made : goal.made_form-returns-in_ok-p-in-And-clause-made
+made_form-returns-in_ok-p-in-And-clause-made t c =
+    let f = store_in (trees_in c.args.table.now) c.args.s.now in
+    let first = c.in_ok-p-in-And.ensures.first ∙ ap (λ b. symbolic.form_of (condition_of b) f) c.deref-in-And.ensures in
+    let second = c.in_ok-p-in-And.ensures.second ∙ ap (λ b. symbolic.form_of (condition_of b) f) c.deref-in-And-2.ensures in
+    (λ k. plain.And (first k) (second k)) ∙ ap (λ b. symbolic.form_of (condition_of b) f) (sym c.in-And.is)
+
+pub made_form-returns-in_ok-p-in-And-clause-within : goal.made_form-returns-in_ok-p-in-And-clause-within
+made_form-returns-in_ok-p-in-And-clause-within t c = c.in_ok-p-in-And.ensures.within
+
+pub made_form-returns-in_ok-p-in-Or-clause-made : goal.made_form-returns-in_ok-p-in-Or-clause-made
+made_form-returns-in_ok-p-in-Or-clause-made t c =
+    let f = store_in (trees_in c.args.table.now) c.args.s.now in
+    let first = c.in_ok-p-in-Or.ensures.first ∙ ap (λ b. symbolic.form_of (condition_of b) f) c.deref-in-Or.ensures in
+    let second = c.in_ok-p-in-Or.ensures.second ∙ ap (λ b. symbolic.form_of (condition_of b) f) c.deref-in-Or-2.ensures in
+    (λ k. plain.Or (first k) (second k)) ∙ ap (λ b. symbolic.form_of (condition_of b) f) (sym c.in-Or.is)
+
+pub made_form-returns-in_ok-p-in-Or-clause-within : goal.made_form-returns-in_ok-p-in-Or-clause-within
+made_form-returns-in_ok-p-in-Or-clause-within t c = c.in_ok-p-in-Or.ensures.within
+
 pub made_forms-made_form-requires-2 : goal.made_forms-made_form-requires-2
 made_forms-made_form-requires-2 t c =
     let v0 = c.args.table.now in

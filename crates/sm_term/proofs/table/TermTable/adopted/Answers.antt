@@ -1,6 +1,6 @@
 -- The next row is put in over those before it.
 use Rattle.std.proofs.Common.{◌≡◌, true, ◌+◌, ◌<◌, ◌++◌, ◌∷◌, [], Some, length, map, take, drop, slice_get, pos, sym, ap, subst, ◌∙◌, arith}
-use Rattle.std.proofs.lemmas.List.{take_all, drop_all}
+use Rattle.std.proofs.lemmas.List.{take_all, drop_all, append-nil}
 use Rattle.sm_syntax.specs.text.Parts.{sort_of}
 use Rattle.sm_term.specs.declared.term.TermId.{TermId}
 use Rattle.sm_term.specs.Terms as tree
@@ -64,6 +64,16 @@ add-requires-clause-fits c =
     let moved = moved_row (sorts_in c.args.self.now) codes there older kept.more.0 trees c.args.from c.requires.behind kept.more.1 rows c.requires.sound.0 i h answers kept.stored numbers kept.bodies u held in
     let same_sorts = ap sort_of kept.rows.declared in
     subst (λ s. term_fits s trees u ≡ true) (sym same_sorts) moved.fit
+
+pub returns-in_err-numbers-clause-widens : goal.returns-in_err-numbers-clause-widens
+returns-in_err-numbers-clause-widens c =
+    widens c.args.self.now c.numbers.new.self c.numbers.ensures.rows ([], c.numbers.ensures.trees ∙ sym (append-nil (trees_in c.args.self.now)))
+
+pub returns-in_err-row-clause-widens : goal.returns-in_err-row-clause-widens
+returns-in_err-row-clause-widens c = widens c.args.self.now c.loop-term.self c.loop-term.invariant.rows c.loop-term.invariant.more
+
+pub returns-in_err-id-clause-rows : goal.returns-in_err-id-clause-rows
+returns-in_err-id-clause-rows c = keeps-twice c.args.self.now c.loop-term.self c.add.new.self c.loop-term.invariant.rows c.add.ensures.rows
 
 pub returns-in_err-id-clause-widens : goal.returns-in_err-id-clause-widens
 returns-in_err-id-clause-widens c =
@@ -137,3 +147,6 @@ returns-clause-trees c =
     let many = ap length c.deref-term-items.ensures.value in
     let long = length-trees there first rows in
     sym (ap (with_trees (trees_in c.loop-term.self)) (drop_all c.loop-term.term-index (trees_behind there first rows) (omega (arith, many, long)))) ∙ c.loop-term.invariant.trees
+
+pub returns-clause-widens : goal.returns-clause-widens
+returns-clause-widens c = widens c.args.self.now c.loop-term.self c.loop-term.invariant.rows c.loop-term.invariant.more

@@ -1,6 +1,6 @@
 -- The next body is put in behind those before it.
 use Rattle.std.proofs.Common.{◌+◌, ◌++◌, ◌∷◌, [], Some, length, map, drop, slice_get, sym, ap, subst, ◌∙◌, arith, ◌<◌}
-use Rattle.std.proofs.lemmas.List.{length-map}
+use Rattle.std.proofs.lemmas.List.{length-map, take_all, drop_all}
 use Rattle.sm_syntax.specs.claim.Syntax.{End}
 use Rattle.sm_syntax.specs.text.Parts.{sort_of}
 use Rattle.sm_syntax.specs.text.Sorts.{IsWellSorted}
@@ -42,3 +42,33 @@ loop-block-preserved c =
       trees = c.body.ensures.trees ∙ c.loop-block.invariant.trees;
       rows = keeps-twice c.args.self.now c.loop-block.self c.body.new.self c.loop-block.invariant.rows c.body.ensures.rows;
     }
+
+pub returns-in_err-id-clause-trees : goal.returns-in_err-id-clause-trees
+returns-in_err-id-clause-trees c = c.body.ensures.trees ∙ c.loop-block.invariant.trees
+
+pub returns-in_err-id-clause-rows : goal.returns-in_err-id-clause-rows
+returns-in_err-id-clause-rows c = keeps-twice c.args.self.now c.loop-block.self c.body.new.self c.loop-block.invariant.rows c.body.ensures.rows
+
+pub returns-in_err-push-clause-trees : goal.returns-in_err-push-clause-trees
+returns-in_err-push-clause-trees c = c.body.ensures.trees ∙ c.loop-block.invariant.trees
+
+pub returns-in_err-push-clause-rows : goal.returns-in_err-push-clause-rows
+returns-in_err-push-clause-rows c = keeps-twice c.args.self.now c.loop-block.self c.body.new.self c.loop-block.invariant.rows c.body.ensures.rows
+
+pub returns-clause-stored : goal.returns-clause-stored
+returns-clause-stored c =
+    let blocks = c.args.blocks.now in
+    let long = length-map blocks code_of in
+    c.loop-block.invariant.stored ∙ ap (map Some) (take_all c.loop-block.block-index (map code_of blocks) (omega (arith, long, c.loop-block-test.false)))
+
+pub returns-clause-codes : goal.returns-clause-codes
+returns-clause-codes c =
+    let blocks = c.args.blocks.now in
+    let long = length-map blocks code_of in
+    sym (ap (with_codes (codes_in c.loop-block.self)) (drop_all c.loop-block.block-index (map code_of blocks) (omega (arith, long, c.loop-block-test.false)))) ∙ c.loop-block.invariant.codes
+
+pub returns-clause-trees : goal.returns-clause-trees
+returns-clause-trees c = c.loop-block.invariant.trees
+
+pub returns-clause-rows : goal.returns-clause-rows
+returns-clause-rows c = c.loop-block.invariant.rows
