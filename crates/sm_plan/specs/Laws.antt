@@ -74,7 +74,8 @@ PlanNodesProve =
     AllDischarged ds →
     NodesProve 0 (start_pending t) (nodes_of p)
 
--- nodes that prove the start of a task are those of a fresh plan whose obligations hold
+-- nodes that prove the start of a task are, in preorder, those of a fresh plan whose nodes all fit
+-- their states and whose obligations hold
 abbrev pub NodesArePlan : Type 0
 NodesArePlan =
     (t : Task) (nodes : List Node) →

@@ -283,7 +283,8 @@ led_with table given form n at =
         (given_first 0 kept (drop count fs)) in
         λ k g is. let found = two k g is in three found.0 g found.1
 
--- at a goal, the classes of the node's base lead those of the node's facts
+-- at a goal, the node's base is made of classes with which those of all terms of the node's table,
+-- by the node's facts, begin
 pub led : (table : TableValue) (given : List Assertion) (form : Assertion) (n : Node) → IsAtGoal table given form n →
     (v : ClassesValue) × IsFrom v n.base
     × ((ids : List TermId) → numbers_of ids ≡ range_with_len 0 (length (trees_in n.terms.own)) →

@@ -313,7 +313,8 @@ last_replaced given f = record { many = many given; stand = stand given }
     stand (g ∷ gs) zero = inr (λ (k : BranchFact) (h : Some (Formal g) ≡ Some k). h)
     stand (g ∷ gs) (suc n) = stand gs n
 
--- a program's certificate still closes a branch whose last fact, which says nothing, is replaced
+-- a certificate that names what it reads and closes a branch whose last fact always holds closes the
+-- branch with any formula in the place of that fact, within as much room
 pub closes_in_replaced : (sorts : Sorts) (trees : List Tree) (given : List Assertion) (f : Assertion) (room : ℕ) (tree : CertTree) →
     NamesWhatItReads (certificate_in trees tree) → ClosesIn sorts trees (given ++ Yes ∷ []) room tree →
     ClosesIn sorts trees (given ++ f ∷ []) room tree
