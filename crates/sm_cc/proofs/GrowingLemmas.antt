@@ -27,7 +27,10 @@ use Rattle.sm_cc.specs.BaseClasses.{AreAllGiven}
 use Rattle.sm_cc.specs.Growing.{IsCopy, AreKept, AreGrown, IsSameRule, IsSameWhy, AreEntriesKept}
 use Rattle.sm_cc.proofs.CausesLemmas.{get_there, given_here}
 use Rattle.sm_cc.proofs.LogLemmas.{get_kept, get_last, get_cases, known_kept, known_last, known_within, follows_more, all_follow_more}
-use Rattle.sm_cc.proofs.StartLemmas.{own_entry}
+
+-- the entry that a place equals itself
+abbrev pub own_entry : ℕ → Entry
+own_entry m = record { why = why.By Refl; known = Equal m m }
 
 -- the first elements of a list have likes at their places in another
 pub record AreLike {A : Type 0} (like : A → A → Type 0) (n : ℕ) (old new : List A) : Type 0 where

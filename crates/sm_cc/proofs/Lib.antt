@@ -32,7 +32,6 @@ pub mod RowsLemmas
 pub mod SettledLemmas
 pub mod SoundLemmas
 pub mod StandingLemmas
-pub mod StartLemmas
 pub mod StepsLemmas
 pub mod TermsOfPlaces
 pub mod WitnessLemmas

@@ -7,7 +7,7 @@ ghost use Rattle.sm_theory.specs.Standing.{AreLinearForms};
 ghost use Rattle.sm_cc.specs.declared.classes.GivenFact.{GivenFact as Fact};
 ghost use Rattle.sm_cc.specs.AddedTerms.{AreEqualByLabels, AddsOnly};
 ghost use Rattle.sm_cc.specs.Exact.{IsExact};
-ghost use Rattle.sm_cc.specs.Firsts.{AreFirsts, met_at, key_told, shape_key, row_key};
+ghost use Rattle.sm_cc.specs.Firsts.{AreFirsts, met_at, key_told};
 ghost use Rattle.sm_cc.specs.BaseClasses.{AreBelow, AreInside, AreKeyed, AreBaseClasses, IsLedBy};
 ghost use Rattle.sm_cc.specs.Labelled.{ArePlacesLabelled, AreTermsLabelled};
 ghost use Rattle.sm_cc.specs.Labels.{AreTermLabels};
@@ -19,7 +19,7 @@ ghost use Rattle.sm_cc.specs.Views.{ClassesValue, AreOfTwoTerms};
 
 use crate::ground::{BaseClasses, Numbering, are_below};
 use crate::growing::copy_roots;
-use crate::keys::{Key, Met, label_in, labelled};
+use crate::keys::{Key, Met, argument_key, form_key, label_in};
 use crate::log::Equation;
 use crate::places::right_sides;
 use crate::positions::Positions;
@@ -157,34 +157,6 @@ fn placed_pairs(
         list.push((positions.place(p.0), positions.place(p.1)))?;
     }
     Ok(list)
-}
-
-// The key of a row by its linear form, where it has one.
-fn form_key(alloc: Global, row: &Row) -> Result<Option<Key>, AllocError>
-    ensures { IfOk result (λ o. key_told o ≡ shape_key row.now.shape) }
-{
-    match row.shape {
-        Some(shape) => {
-            let mut key = Vec::new(alloc);
-            key.push((shape.parts, shape.constant))?;
-            Ok(Some(key))
-        }
-        None => Ok(None),
-    }
-}
-
-// The key of a row by its head and the labels of its arguments, where it has a head.
-fn argument_key(alloc: Global, roots: &[Equation], row: &Row) -> Result<Option<Key>, AllocError>
-    ensures { IfOk result (λ o. key_told o ≡ row_key roots.now row.now) }
-{
-    match row.head {
-        Some(head) => {
-            let mut key = Vec::new(alloc);
-            key.push((head, 0))?;
-            labelled(roots, &row.arguments, key)
-        }
-        None => Ok(None),
-    }
 }
 
 // The first place that has a key, by a map of earlier ones: this one, where there is none or the

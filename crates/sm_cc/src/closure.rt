@@ -3,7 +3,7 @@ ghost use Rattle.std.specs.Prelude.{◌≡◌, ◌<◌, [], IfOk, OnOk, length};
 ghost use Rattle.sm_cc.specs.Log.{Follows};
 ghost use Rattle.sm_cc.specs.Closures.{IsSound, IsNoted, IsContrary, placed_of, Noted};
 ghost use Rattle.sm_cc.specs.Closures.{Adds, AddsEquation, AddsContrary};
-ghost use Rattle.sm_cc.specs.Exact.{IsExact, nothing_given, placed_with};
+ghost use Rattle.sm_cc.specs.Exact.{IsExact, nothing_given};
 
 use crate::log::{Contrary, Entry, Equation, Given, Known, Rule, Why};
 use crate::row::Row;
@@ -139,38 +139,4 @@ pub(crate) fn empty(alloc: Global) -> Closure
         entries: Vec::new(alloc),
         roots: Vec::new(alloc),
     }
-}
-
-/// Places with these rows, each in a class of its own, whatever is given of them.
-pub(crate) fn unmerged(
-    alloc: Global,
-    rows: Vec<Row>,
-    equal: Vec<Given>,
-    unequal: Vec<Given>,
-) -> Result<Closure, AllocError>
-    ensures sound { IfOk result IsSound }
-    ensures given { IfOk result (λ c.
-        placed_of c ≡ placed_with rows.items equal.items unequal.items) }
-{
-    let mut entries = Vec::new(alloc);
-    let mut roots = Vec::new(alloc);
-    for k in 0..rows.len() {
-        let i = k as u64;
-        entries.push(Entry {
-            why: Why::By(Rule::Refl),
-            known: Known::Equal(i, i),
-        })?;
-        roots.push(Equation {
-            left: i,
-            right: i,
-            entry: i,
-        })?;
-    }
-    Ok(Closure {
-        rows,
-        equal,
-        unequal,
-        entries,
-        roots,
-    })
 }

@@ -5,17 +5,24 @@ ghost use Rattle.sm_cc.specs.Rows.{one_head, shapes_pass, equal_places, is_liste
 ghost use Rattle.sm_cc.specs.Closures.{are_together, pair_of, GivenHere};
 
 use crate::closure::Closure;
-use crate::log::Given;
+use crate::log::{Equation, Given};
 use crate::row::Row;
+
+/// Whether two places have one label.
+pub(crate) fn have_one_label(roots: &[Equation], i: u64, j: u64) -> bool
+    ensures { result ≡ are_together roots.now i j }
+{
+    match (roots.get(i as usize), roots.get(j as usize)) {
+        (Some(r), Some(s)) => r.right == s.right,
+        _ => false,
+    }
+}
 
 /// Whether two places are in one class.
 pub(crate) fn together(c: &Closure, i: u64, j: u64) -> bool
     ensures { result ≡ are_together c.now.roots.items i j }
 {
-    match (c.roots.get(i as usize), c.roots.get(j as usize)) {
-        (Some(r), Some(s)) => r.right == s.right,
-        _ => false,
-    }
+    have_one_label(&c.roots, i, j)
 }
 
 /// The number under which a pair was given.

@@ -11,8 +11,9 @@ ghost use Rattle.sm_cc.specs.BaseClasses.{AreBelow, IsElementBelow, IsRowBelow};
 ghost use Rattle.sm_cc.specs.Views.{ClassesValue, AreOfTwoTerms, trees_of};
 
 use crate::classes::GivenFact;
-use crate::closure::{Closure, unmerged};
+use crate::closure::Closure;
 use crate::facts::placed_facts;
+use crate::growing::unmerged;
 use crate::heads::Heads;
 use crate::keys::Met;
 use crate::log::Given;

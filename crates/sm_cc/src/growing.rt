@@ -1,7 +1,7 @@
 // Classes of places that begin with those of others: rows go behind copies of theirs.
 ghost use Rattle.std.specs.Prelude.{◌≡◌, ◌≤◌, IfOk, length};
 ghost use Rattle.sm_cc.specs.Log.{AllFollow};
-ghost use Rattle.sm_cc.specs.Closures.{IsSound, AllRooted};
+ghost use Rattle.sm_cc.specs.Closures.{IsSound, AllRooted, placed_of};
 ghost use Rattle.sm_cc.specs.Exact.{placed_with};
 ghost use Rattle.sm_cc.specs.BaseClasses.{AreAllGiven};
 ghost use Rattle.sm_cc.specs.Growing.{AreGrown, IsCopy, AreKept, IsSameRule, IsSameWhy};
@@ -141,6 +141,21 @@ fn completed(
         entries,
         roots,
     })
+}
+
+/// Places with these rows, each in a class of its own, whatever is given of them.
+pub(crate) fn unmerged(
+    alloc: Global,
+    rows: Vec<Row>,
+    equal: Vec<Given>,
+    unequal: Vec<Given>,
+) -> Result<Closure, AllocError>
+    ensures sound { IfOk result IsSound }
+    ensures given { IfOk result (λ c.
+        placed_of c ≡ placed_with rows.items equal.items unequal.items) }
+{
+    let made = completed(rows, equal, unequal, Vec::new(alloc), Vec::new(alloc))?;
+    Ok(made)
 }
 
 /// The classes of places with more behind them, each of which is in a class of its own. All that

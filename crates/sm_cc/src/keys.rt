@@ -2,6 +2,7 @@
 ghost use Rattle.std.specs.Prelude.{◌≡◌, ◌<◌, ℕ, Some, IfOk, OnOk, length, slice_get};
 ghost use Rattle.sm_cc.specs.Firsts.{Key as Told};
 ghost use Rattle.sm_cc.specs.Firsts.{met_at, first_met, key_told, alike_at, headed_at};
+ghost use Rattle.sm_cc.specs.Firsts.{shape_key, row_key};
 ghost use Rattle.sm_cc.specs.Firsts.{label_at, labels_of, with_labels};
 
 use crate::closure::Closure;
@@ -31,12 +32,11 @@ pub(crate) fn first_place(met: &mut Met, key: Key, place: u64) -> Result<u64, Al
     }
 }
 
-/// The key of a place by its linear form, where it has one.
-pub(crate) fn alike_key(alloc: Global, c: &Closure, i: u64) -> Result<Option<Key>, AllocError>
-    requires { i < length c.now.rows.items }
-    ensures { IfOk result (λ o. key_told o ≡ alike_at c.now i) }
+/// The key of a row by its linear form, where it has one.
+pub(crate) fn form_key(alloc: Global, row: &Row) -> Result<Option<Key>, AllocError>
+    ensures { IfOk result (λ o. key_told o ≡ shape_key row.now.shape) }
 {
-    match c.rows[i as usize].shape {
+    match row.shape {
         Some(shape) => {
             let mut key = Vec::new(alloc);
             key.push((shape.parts, shape.constant))?;
@@ -46,20 +46,38 @@ pub(crate) fn alike_key(alloc: Global, c: &Closure, i: u64) -> Result<Option<Key
     }
 }
 
+/// The key of a row by its head and the labels of its arguments, where it has a head.
+pub(crate) fn argument_key(
+    alloc: Global,
+    roots: &[Equation],
+    row: &Row,
+) -> Result<Option<Key>, AllocError>
+    ensures { IfOk result (λ o. key_told o ≡ row_key roots.now row.now) }
+{
+    match row.head {
+        Some(head) => {
+            let mut key = Vec::new(alloc);
+            key.push((head, 0))?;
+            labelled(roots, &row.arguments, key)
+        }
+        None => Ok(None),
+    }
+}
+
+/// The key of a place by its linear form, where it has one.
+pub(crate) fn alike_key(alloc: Global, c: &Closure, i: u64) -> Result<Option<Key>, AllocError>
+    requires { i < length c.now.rows.items }
+    ensures { IfOk result (λ o. key_told o ≡ alike_at c.now i) }
+{
+    form_key(alloc, &c.rows[i as usize])
+}
+
 /// The key of a place by its head and the labels of its arguments, where it has a head.
 pub(crate) fn head_key(alloc: Global, c: &Closure, i: u64) -> Result<Option<Key>, AllocError>
     requires { i < length c.now.rows.items }
     ensures { IfOk result (λ o. key_told o ≡ headed_at c.now i) }
 {
-    let row = &c.rows[i as usize];
-    match row.head {
-        Some(head) => {
-            let mut key = Vec::new(alloc);
-            key.push((head, 0))?;
-            labelled(&c.roots, &row.arguments, key)
-        }
-        None => Ok(None),
-    }
+    argument_key(alloc, &c.roots, &c.rows[i as usize])
 }
 
 /// A key with the labels of places behind it, where each is there.

@@ -10,11 +10,11 @@ ghost use Rattle.sm_cc.specs.BaseClasses.{AreAllGiven, AreInside, AreKeyed};
 ghost use Rattle.sm_cc.specs.Growing.{AreGrown};
 ghost use Rattle.sm_cc.specs.Exact.{nothing_given, placed_with, with_equal, with_unequal};
 
-use crate::closure::{Closure, empty, unmerged};
+use crate::closure::{Closure, empty};
 use crate::compare::together;
 use crate::explain::explanation;
 use crate::ground::BaseClasses;
-use crate::growing::grown;
+use crate::growing::{grown, unmerged};
 use crate::log::{Equation, Given, Step};
 use crate::regrounding::settle_over;
 use crate::rounds::settle;

@@ -6,21 +6,11 @@ ghost use Rattle.sm_cc.specs.Scanned.{has_labels, are_parted, IsQuiet, IsQuietBe
 
 use crate::behind::Scanned;
 use crate::closure::Closure;
-use crate::compare::together;
+use crate::compare::{have_one_label, together};
 use crate::ground::are_below;
 use crate::log::Equation;
 use crate::row::{Element, Row};
 use crate::witness::find_witness;
-
-// Whether two places have one label.
-fn have_one_label(roots: &[Equation], i: u64, j: u64) -> bool
-    ensures { result ≡ are_together roots.now i j }
-{
-    match (roots.get(i as usize), roots.get(j as usize)) {
-        (Some(r), Some(s)) => r.right == s.right,
-        _ => false,
-    }
-}
 
 // Whether two places have the labels of the two of a pair, in either order.
 fn has_labels(roots: &[Equation], i: u64, j: u64, p: (u64, u64)) -> bool

@@ -5,8 +5,7 @@ use Rattle.sm_cc.specs.declared.log.Equation.{Equation}
 use Rattle.sm_cc.specs.Log.{AllFollow}
 use Rattle.sm_cc.specs.Closures.{AllRooted}
 use Rattle.sm_cc.specs.Exact.{placed_with}
-use Rattle.sm_cc.proofs.StartLemmas.{own_entry}
-use Rattle.sm_cc.proofs.GrowingLemmas.{own_follow, own_rooted}
+use Rattle.sm_cc.proofs.GrowingLemmas.{own_entry, own_follow, own_rooted}
 use Rattle.sm_cc.proofs.growing.completed.Goals as goal
 
 pub loop-k-preserved : goal.loop-k-preserved
