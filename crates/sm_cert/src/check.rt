@@ -47,13 +47,19 @@ fn is_deep(tree: &CertTree, allowed: u64) -> bool
     }
 }
 
+// The three theories, which are asked in this order what a line adds.
+#[derive(Drop)]
+struct ThreeTheories<'a, E, L, R> {
+    euf: &'a E,
+    lia: &'a L,
+    rows: &'a R,
+}
+
 // Puts what lines add on the branch, one after the other. It gives the number of the line after
 // them.
 fn add_lines<E: Theory, L: Theory, R: Theory>(
     alloc: Global,
-    euf: &E,
-    lia: &L,
-    rows: &R,
+    three: &ThreeTheories<'_, E, L, R>,
     table: &TermTable,
     path: &mut Branch,
     lines: &[CertLine],
@@ -62,12 +68,14 @@ fn add_lines<E: Theory, L: Theory, R: Theory>(
     requires within { AreLinesWithin (length (trees_in table.now)) lines.now }
     requires sorted { AreTreesSorted (sorts_in table.now) (trees_in table.now) }
     ensures ok { let trees = trees_in table.now in let sorts = sorts_in table.now in
-        let theories = first_of_three (E.adds euf.now) (L.adds lia.now) (R.adds rows.now) sorts in
+        let theories = first_of_three (E.adds three.now.euf.now) (L.adds three.now.lia.now)
+        (R.adds three.now.rows.now) sorts in
         (facts : List BranchFact) (m : ℕ) → AllStand sorts trees path.old.list.items facts →
         AreFactsSorted sorts facts → n ≡ line_number m →
         IfOk result (Arrives theories sorts trees facts m lines.now path.new.list.items) }
     ensures err { let trees = trees_in table.now in let sorts = sorts_in table.now in
-        let theories = first_of_three (E.adds euf.now) (L.adds lia.now) (R.adds rows.now) sorts in
+        let theories = first_of_three (E.adds three.now.euf.now) (L.adds three.now.lia.now)
+        (R.adds three.now.rows.now) sorts in
         (facts : List BranchFact) (m : ℕ) (c : Certificate) →
         AllStand sorts trees path.old.list.items facts →
         AreFactsSorted sorts facts → n ≡ line_number m → IfErr result (λ e.
@@ -77,7 +85,7 @@ fn add_lines<E: Theory, L: Theory, R: Theory>(
 {
     let mut at = n;
     for line in lines {
-        if !add_line(alloc, euf, lia, rows, table, path, line)? {
+        if !add_line(alloc, three.euf, three.lia, three.rows, table, path, line)? {
             return Err(CertFault::Wrong { line: at });
         }
         at = at.saturating_add(1);
@@ -90,9 +98,7 @@ fn add_lines<E: Theory, L: Theory, R: Theory>(
 #[cycle(check)]
 fn check_at<E: Theory, L: Theory, R: Theory>(
     alloc: Global,
-    euf: &E,
-    lia: &L,
-    rows: &R,
+    three: &ThreeTheories<'_, E, L, R>,
     table: &TermTable,
     path: &mut Branch,
     tree: &CertTree,
@@ -101,19 +107,21 @@ fn check_at<E: Theory, L: Theory, R: Theory>(
     requires within { AreLinesWithin (length (trees_in table.now)) (lines_of tree.now) }
     requires sorted { AreTreesSorted (sorts_in table.now) (trees_in table.now) }
     ensures ok { let trees = trees_in table.now in let sorts = sorts_in table.now in
-        let theories = first_of_three (E.adds euf.now) (L.adds lia.now) (R.adds rows.now) sorts in
+        let theories = first_of_three (E.adds three.now.euf.now) (L.adds three.now.lia.now)
+        (R.adds three.now.rows.now) sorts in
         (facts : List BranchFact) (m : ℕ) → AllStand sorts trees path.old.list.items facts →
         AreFactsSorted sorts facts → n ≡ line_number m →
         IfOk result (Passes theories sorts facts m (certificate_in trees tree.now)) }
     ensures err { let trees = trees_in table.now in let sorts = sorts_in table.now in
-        let theories = first_of_three (E.adds euf.now) (L.adds lia.now) (R.adds rows.now) sorts in
+        let theories = first_of_three (E.adds three.now.euf.now) (L.adds three.now.lia.now)
+        (R.adds three.now.rows.now) sorts in
         (facts : List BranchFact) (m : ℕ) → AllStand sorts trees path.old.list.items facts →
         AreFactsSorted sorts facts → n ≡ line_number m → IfErr result (λ e.
         FaultTells e (bad_line (first_bad theories sorts facts m (certificate_in trees tree.now)))) }
     ensures kept { OnOk result (take (length path.old.list.items)
         path.new.list.items ≡ path.old.list.items) }
 {
-    let at = add_lines(alloc, euf, lia, rows, table, path, &tree.lines.list, n)?;
+    let at = add_lines(alloc, three, table, path, &tree.lines.list, n)?;
     match &tree.last {
         CertEnd::Close(line) => {
             if closes(table, path, line) {
@@ -125,8 +133,8 @@ fn check_at<E: Theory, L: Theory, R: Theory>(
         CertEnd::Split(line, first, second) => match parts(alloc, table, path, line)? {
             Some((f, g)) => {
                 let next = at.saturating_add(1);
-                let next = check_side(alloc, euf, lia, rows, table, path, f, first, next)?;
-                check_side(alloc, euf, lia, rows, table, path, g, second, next)
+                let next = check_side(alloc, three, table, path, f, first, next)?;
+                check_side(alloc, three, table, path, g, second, next)
             }
             None => Err(CertFault::Wrong { line: at }),
         },
@@ -137,9 +145,7 @@ fn check_at<E: Theory, L: Theory, R: Theory>(
 #[cycle(check)]
 fn check_side<E: Theory, L: Theory, R: Theory>(
     alloc: Global,
-    euf: &E,
-    lia: &L,
-    rows: &R,
+    three: &ThreeTheories<'_, E, L, R>,
     table: &TermTable,
     path: &mut Branch,
     fact: Fact,
@@ -149,13 +155,15 @@ fn check_side<E: Theory, L: Theory, R: Theory>(
     requires within { AreLinesWithin (length (trees_in table.now)) (lines_of tree.now) }
     requires sorted { AreTreesSorted (sorts_in table.now) (trees_in table.now) }
     ensures ok { let trees = trees_in table.now in let sorts = sorts_in table.now in
-        let theories = first_of_three (E.adds euf.now) (L.adds lia.now) (R.adds rows.now) sorts in
+        let theories = first_of_three (E.adds three.now.euf.now) (L.adds three.now.lia.now)
+        (R.adds three.now.rows.now) sorts in
         (facts way : List BranchFact) (m : ℕ) → AllStand sorts trees path.old.list.items facts →
         AllStand sorts trees (fact ∷ []) way → AreFactsSorted sorts (facts ++ way) →
         n ≡ line_number m →
         IfOk result (Passes theories sorts (facts ++ way) m (certificate_in trees tree.now)) }
     ensures err { let trees = trees_in table.now in let sorts = sorts_in table.now in
-        let theories = first_of_three (E.adds euf.now) (L.adds lia.now) (R.adds rows.now) sorts in
+        let theories = first_of_three (E.adds three.now.euf.now) (L.adds three.now.lia.now)
+        (R.adds three.now.rows.now) sorts in
         (facts way : List BranchFact) (m : ℕ) → AllStand sorts trees path.old.list.items facts →
         AllStand sorts trees (fact ∷ []) way → AreFactsSorted sorts (facts ++ way) →
         n ≡ line_number m → IfErr result (λ e. FaultTells e
@@ -164,7 +172,7 @@ fn check_side<E: Theory, L: Theory, R: Theory>(
 {
     let above = path.list.len();
     path.list.push(fact)?;
-    let next = check_at(alloc, euf, lia, rows, table, path, tree, n)?;
+    let next = check_at(alloc, three, table, path, tree, n)?;
     path.list.truncate(above);
     Ok(next)
 }
@@ -203,6 +211,7 @@ pub fn check_tree<E: Theory, L: Theory, R: Theory>(
     // The terms of a table are sorted, as its length ensures.
     table.len();
     let mut path = copy_branch(alloc, branch)?;
-    check_at(alloc, euf, lia, rows, table, &mut path, tree, 0)?;
+    let three = ThreeTheories { euf, lia, rows };
+    check_at(alloc, &three, table, &mut path, tree, 0)?;
     Ok(())
 }

@@ -32,8 +32,8 @@ pub check_at-returns-then-closes-clause-ok : goal.check_at-returns-then-closes-c
 check_at-returns-then-closes-clause-ok g t c = λ facts m all fine e.
     let sorts = sorts_in c.args.table.now in
     let trees = trees_in c.args.table.now in
-    let theories = first_of_three (g.E.Theory.adds c.args.euf.now) (g.L.Theory.adds c.args.lia.now) (g.R.Theory.adds c.args.rows.now)
-    sorts in
+    let theories = first_of_three (g.E.Theory.adds c.args.three.now.euf.now) (g.L.Theory.adds c.args.three.now.lia.now)
+    (g.R.Theory.adds c.args.three.now.rows.now) sorts in
     let ls = c.deref.result.now in
     let l = c.in-Close.line in
     let whole : certificate_in trees c.args.tree.now ≡ lines_before trees ls (Closed (line_in trees l)) =
@@ -48,8 +48,8 @@ pub check_at-returns-else-closes-clause-err : goal.check_at-returns-else-closes-
 check_at-returns-else-closes-clause-err g t c = λ facts m all fine e.
     let sorts = sorts_in c.args.table.now in
     let trees = trees_in c.args.table.now in
-    let theories = first_of_three (g.E.Theory.adds c.args.euf.now) (g.L.Theory.adds c.args.lia.now) (g.R.Theory.adds c.args.rows.now)
-    sorts in
+    let theories = first_of_three (g.E.Theory.adds c.args.three.now.euf.now) (g.L.Theory.adds c.args.three.now.lia.now)
+    (g.R.Theory.adds c.args.three.now.rows.now) sorts in
     let ls = c.deref.result.now in
     let l = c.in-Close.line in
     let whole : certificate_in trees c.args.tree.now ≡ lines_before trees ls (Closed (line_in trees l)) =
@@ -63,11 +63,14 @@ pub check_at-returns-in-None-clause-err : goal.check_at-returns-in-None-clause-e
 check_at-returns-in-None-clause-err g t c = λ facts m all fine e.
     let sorts = sorts_in c.args.table.now in
     let trees = trees_in c.args.table.now in
-    let theories = first_of_three (g.E.Theory.adds c.args.euf.now) (g.L.Theory.adds c.args.lia.now) (g.R.Theory.adds c.args.rows.now)
-    sorts in
-    let sound = three_sound (g.E.Theory.adds c.args.euf.now) (g.L.Theory.adds c.args.lia.now) (g.R.Theory.adds c.args.rows.now)
-    (g.met.E.Theory.holds c.args.euf.now) (g.met.L.Theory.holds c.args.lia.now) (g.met.R.Theory.holds c.args.rows.now)
-    (g.met.E.Theory.sorted c.args.euf.now) (g.met.L.Theory.sorted c.args.lia.now) (g.met.R.Theory.sorted c.args.rows.now) sorts in
+    let theories = first_of_three (g.E.Theory.adds c.args.three.now.euf.now) (g.L.Theory.adds c.args.three.now.lia.now)
+    (g.R.Theory.adds c.args.three.now.rows.now) sorts in
+    let sound = three_sound (g.E.Theory.adds c.args.three.now.euf.now) (g.L.Theory.adds c.args.three.now.lia.now)
+    (g.R.Theory.adds c.args.three.now.rows.now)
+    (g.met.E.Theory.holds c.args.three.now.euf.now) (g.met.L.Theory.holds c.args.three.now.lia.now)
+    (g.met.R.Theory.holds c.args.three.now.rows.now)
+    (g.met.E.Theory.sorted c.args.three.now.euf.now) (g.met.L.Theory.sorted c.args.three.now.lia.now)
+    (g.met.R.Theory.sorted c.args.three.now.rows.now) sorts in
     let n = length trees in
     let ls = c.deref.result.now in
     let l = c.in-Split.line in
@@ -89,11 +92,14 @@ pub check_at-returns-in_err-next-in-Some-clause-err : goal.check_at-returns-in_e
 check_at-returns-in_err-next-in-Some-clause-err g t c = λ facts m all fine e.
     let sorts = sorts_in c.args.table.now in
     let trees = trees_in c.args.table.now in
-    let theories = first_of_three (g.E.Theory.adds c.args.euf.now) (g.L.Theory.adds c.args.lia.now) (g.R.Theory.adds c.args.rows.now)
-    sorts in
-    let sound = three_sound (g.E.Theory.adds c.args.euf.now) (g.L.Theory.adds c.args.lia.now) (g.R.Theory.adds c.args.rows.now)
-    (g.met.E.Theory.holds c.args.euf.now) (g.met.L.Theory.holds c.args.lia.now) (g.met.R.Theory.holds c.args.rows.now)
-    (g.met.E.Theory.sorted c.args.euf.now) (g.met.L.Theory.sorted c.args.lia.now) (g.met.R.Theory.sorted c.args.rows.now) sorts in
+    let theories = first_of_three (g.E.Theory.adds c.args.three.now.euf.now) (g.L.Theory.adds c.args.three.now.lia.now)
+    (g.R.Theory.adds c.args.three.now.rows.now) sorts in
+    let sound = three_sound (g.E.Theory.adds c.args.three.now.euf.now) (g.L.Theory.adds c.args.three.now.lia.now)
+    (g.R.Theory.adds c.args.three.now.rows.now)
+    (g.met.E.Theory.holds c.args.three.now.euf.now) (g.met.L.Theory.holds c.args.three.now.lia.now)
+    (g.met.R.Theory.holds c.args.three.now.rows.now)
+    (g.met.E.Theory.sorted c.args.three.now.euf.now) (g.met.L.Theory.sorted c.args.three.now.lia.now)
+    (g.met.R.Theory.sorted c.args.three.now.rows.now) sorts in
     let n = length trees in
     let ls = c.deref.result.now in
     let l = c.in-Split.line in
@@ -127,11 +133,14 @@ pub check_at-returns-in_ok-next-in-Some-clause-ok : goal.check_at-returns-in_ok-
 check_at-returns-in_ok-next-in-Some-clause-ok g t c = λ facts m all fine e.
     let sorts = sorts_in c.args.table.now in
     let trees = trees_in c.args.table.now in
-    let theories = first_of_three (g.E.Theory.adds c.args.euf.now) (g.L.Theory.adds c.args.lia.now) (g.R.Theory.adds c.args.rows.now)
-    sorts in
-    let sound = three_sound (g.E.Theory.adds c.args.euf.now) (g.L.Theory.adds c.args.lia.now) (g.R.Theory.adds c.args.rows.now)
-    (g.met.E.Theory.holds c.args.euf.now) (g.met.L.Theory.holds c.args.lia.now) (g.met.R.Theory.holds c.args.rows.now)
-    (g.met.E.Theory.sorted c.args.euf.now) (g.met.L.Theory.sorted c.args.lia.now) (g.met.R.Theory.sorted c.args.rows.now) sorts in
+    let theories = first_of_three (g.E.Theory.adds c.args.three.now.euf.now) (g.L.Theory.adds c.args.three.now.lia.now)
+    (g.R.Theory.adds c.args.three.now.rows.now) sorts in
+    let sound = three_sound (g.E.Theory.adds c.args.three.now.euf.now) (g.L.Theory.adds c.args.three.now.lia.now)
+    (g.R.Theory.adds c.args.three.now.rows.now)
+    (g.met.E.Theory.holds c.args.three.now.euf.now) (g.met.L.Theory.holds c.args.three.now.lia.now)
+    (g.met.R.Theory.holds c.args.three.now.rows.now)
+    (g.met.E.Theory.sorted c.args.three.now.euf.now) (g.met.L.Theory.sorted c.args.three.now.lia.now)
+    (g.met.R.Theory.sorted c.args.three.now.rows.now) sorts in
     let n = length trees in
     let ls = c.deref.result.now in
     let l = c.in-Split.line in
@@ -168,11 +177,14 @@ pub check_at-returns-in_ok-next-in-Some-clause-err : goal.check_at-returns-in_ok
 check_at-returns-in_ok-next-in-Some-clause-err g t c = λ facts m all fine e.
     let sorts = sorts_in c.args.table.now in
     let trees = trees_in c.args.table.now in
-    let theories = first_of_three (g.E.Theory.adds c.args.euf.now) (g.L.Theory.adds c.args.lia.now) (g.R.Theory.adds c.args.rows.now)
-    sorts in
-    let sound = three_sound (g.E.Theory.adds c.args.euf.now) (g.L.Theory.adds c.args.lia.now) (g.R.Theory.adds c.args.rows.now)
-    (g.met.E.Theory.holds c.args.euf.now) (g.met.L.Theory.holds c.args.lia.now) (g.met.R.Theory.holds c.args.rows.now)
-    (g.met.E.Theory.sorted c.args.euf.now) (g.met.L.Theory.sorted c.args.lia.now) (g.met.R.Theory.sorted c.args.rows.now) sorts in
+    let theories = first_of_three (g.E.Theory.adds c.args.three.now.euf.now) (g.L.Theory.adds c.args.three.now.lia.now)
+    (g.R.Theory.adds c.args.three.now.rows.now) sorts in
+    let sound = three_sound (g.E.Theory.adds c.args.three.now.euf.now) (g.L.Theory.adds c.args.three.now.lia.now)
+    (g.R.Theory.adds c.args.three.now.rows.now)
+    (g.met.E.Theory.holds c.args.three.now.euf.now) (g.met.L.Theory.holds c.args.three.now.lia.now)
+    (g.met.R.Theory.holds c.args.three.now.rows.now)
+    (g.met.E.Theory.sorted c.args.three.now.euf.now) (g.met.L.Theory.sorted c.args.three.now.lia.now)
+    (g.met.R.Theory.sorted c.args.three.now.rows.now) sorts in
     let n = length trees in
     let ls = c.deref.result.now in
     let l = c.in-Split.line in
@@ -212,8 +224,8 @@ pub check_side-returns-in_err-next-clause-err : goal.check_side-returns-in_err-n
 check_side-returns-in_err-next-clause-err g t c = λ facts way m all one fine e.
     let sorts = sorts_in c.args.table.now in
     let trees = trees_in c.args.table.now in
-    let theories = first_of_three (g.E.Theory.adds c.args.euf.now) (g.L.Theory.adds c.args.lia.now) (g.R.Theory.adds c.args.rows.now)
-    sorts in
+    let theories = first_of_three (g.E.Theory.adds c.args.three.now.euf.now) (g.L.Theory.adds c.args.three.now.lia.now)
+    (g.R.Theory.adds c.args.three.now.rows.now) sorts in
     let path = c.args.path.now.list.items in
     let stand = subst (λ (fs : List Fact). AllStand sorts trees fs (facts ++ way)) (sym c.in_ok-push.ensures.items)
     (stand_append sorts trees path (c.args.fact ∷ []) facts way all one) in
@@ -225,8 +237,8 @@ pub check_side-returns-clause-ok : goal.check_side-returns-clause-ok
 check_side-returns-clause-ok g t c = λ facts way m all one fine e.
     let sorts = sorts_in c.args.table.now in
     let trees = trees_in c.args.table.now in
-    let theories = first_of_three (g.E.Theory.adds c.args.euf.now) (g.L.Theory.adds c.args.lia.now) (g.R.Theory.adds c.args.rows.now)
-    sorts in
+    let theories = first_of_three (g.E.Theory.adds c.args.three.now.euf.now) (g.L.Theory.adds c.args.three.now.lia.now)
+    (g.R.Theory.adds c.args.three.now.rows.now) sorts in
     let path = c.args.path.now.list.items in
     let stand = subst (λ (fs : List Fact). AllStand sorts trees fs (facts ++ way)) (sym c.in_ok-push.ensures.items)
     (stand_append sorts trees path (c.args.fact ∷ []) facts way all one) in

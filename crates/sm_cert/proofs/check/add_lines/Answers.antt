@@ -22,8 +22,8 @@ pub returns-then-not-branch-clause-err : goal.returns-then-not-branch-clause-err
 returns-then-not-branch-clause-err g c = λ facts m rest all fine e.
     let sorts = sorts_in c.args.table.now in
     let trees = trees_in c.args.table.now in
-    let theories = first_of_three (g.E.Theory.adds c.args.euf.now) (g.L.Theory.adds c.args.lia.now) (g.R.Theory.adds c.args.rows.now)
-    sorts in
+    let theories = first_of_three (g.E.Theory.adds c.args.three.now.euf.now) (g.L.Theory.adds c.args.three.now.lia.now)
+    (g.R.Theory.adds c.args.three.now.rows.now) sorts in
     let ls = c.args.lines.now in
     let i = c.loop-line.line-index in
     let l = c.line-item.result in
@@ -41,11 +41,14 @@ pub loop-line-preserved : goal.loop-line-preserved
 loop-line-preserved g c =
     let sorts = sorts_in c.args.table.now in
     let trees = trees_in c.args.table.now in
-    let theories = first_of_three (g.E.Theory.adds c.args.euf.now) (g.L.Theory.adds c.args.lia.now) (g.R.Theory.adds c.args.rows.now)
-    sorts in
-    let sound = three_sound (g.E.Theory.adds c.args.euf.now) (g.L.Theory.adds c.args.lia.now) (g.R.Theory.adds c.args.rows.now)
-    (g.met.E.Theory.holds c.args.euf.now) (g.met.L.Theory.holds c.args.lia.now) (g.met.R.Theory.holds c.args.rows.now)
-    (g.met.E.Theory.sorted c.args.euf.now) (g.met.L.Theory.sorted c.args.lia.now) (g.met.R.Theory.sorted c.args.rows.now) sorts in
+    let theories = first_of_three (g.E.Theory.adds c.args.three.now.euf.now) (g.L.Theory.adds c.args.three.now.lia.now)
+    (g.R.Theory.adds c.args.three.now.rows.now) sorts in
+    let sound = three_sound (g.E.Theory.adds c.args.three.now.euf.now) (g.L.Theory.adds c.args.three.now.lia.now)
+    (g.R.Theory.adds c.args.three.now.rows.now)
+    (g.met.E.Theory.holds c.args.three.now.euf.now) (g.met.L.Theory.holds c.args.three.now.lia.now)
+    (g.met.R.Theory.holds c.args.three.now.rows.now)
+    (g.met.E.Theory.sorted c.args.three.now.euf.now) (g.met.L.Theory.sorted c.args.three.now.lia.now)
+    (g.met.R.Theory.sorted c.args.three.now.rows.now) sorts in
     let ls = c.args.lines.now in
     let i = c.loop-line.line-index in
     let l = c.line-item.result in
@@ -70,7 +73,7 @@ pub returns-clause-ok : goal.returns-clause-ok
 returns-clause-ok g c = λ facts m all fine e.
     let sorts = sorts_in c.args.table.now in
     let trees = trees_in c.args.table.now in
-    let theories = first_of_three (g.E.Theory.adds c.args.euf.now) (g.L.Theory.adds c.args.lia.now) (g.R.Theory.adds c.args.rows.now)
-    sorts in
+    let theories = first_of_three (g.E.Theory.adds c.args.three.now.euf.now) (g.L.Theory.adds c.args.three.now.lia.now)
+    (g.R.Theory.adds c.args.three.now.rows.now) sorts in
     subst (λ (lines : List CertLine). Arrives theories sorts trees facts m lines c.loop-line.path.list.items c.loop-line.at)
     (take_all c.args.lines.now c.loop-line.line-index c.loop-line-test.false) (c.loop-line.invariant.arrives facts m all fine e)

@@ -12,7 +12,8 @@ abbrev pub invariant-loop-line : goal.invariant-loop-line
 invariant-loop-line g l =
     let sorts = sorts_in l.table in
     let trees = trees_in l.table in
-    let theories = first_of_three (g.E.Theory.adds l.euf) (g.L.Theory.adds l.lia) (g.R.Theory.adds l.rows) sorts in
+    let theories = first_of_three (g.E.Theory.adds l.three.euf.now) (g.L.Theory.adds l.three.lia.now)
+    (g.R.Theory.adds l.three.rows.now) sorts in
     record {
       kept : take (length l.fn.path.list.items) l.path.list.items ≡ l.fn.path.list.items;
       arrives : (facts : List BranchFact) (m : ℕ) → AllStand sorts trees l.fn.path.list.items facts → AreFactsSorted sorts facts →
