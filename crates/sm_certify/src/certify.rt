@@ -1,14 +1,12 @@
 // Certificates of branches that are closed at once.
 ghost use Rattle.std.specs.Prelude.{◌≡◌, ◌<◌, ◌^◌, IsTrue, IfOk, Some, slice_get};
-ghost use Rattle.std.specs.Prelude.{List, [], ◌∷◌, ◌++◌, length};
-ghost use Rattle.sm_term.specs.Terms.{Tree};
+ghost use Rattle.std.specs.Prelude.{length};
 ghost use Rattle.sm_term.specs.Sorted.{AreFormsSorted};
 ghost use Rattle.sm_term.specs.Formulas.{numbered, Ne};
 ghost use Rattle.sm_term.specs.Tables.{trees_in, sorts_in, tree_at};
 ghost use Rattle.sm_theory.specs.Facts.{as_facts};
-ghost use Rattle.sm_theory.specs.Views.{line_in};
-ghost use Rattle.sm_cert.specs.Certificates.{splits_above, Closed};
-ghost use Rattle.sm_cert.specs.Views.{certificate_in, lines_before, lines_of, AreLinesWithin};
+ghost use Rattle.sm_cert.specs.Certificates.{splits_above};
+ghost use Rattle.sm_cert.specs.Views.{certificate_in, lines_of, AreLinesWithin};
 ghost use Rattle.sm_judge.specs.declared.closing.Closing.TheVariants as why;
 ghost use Rattle.sm_certify.specs.Certifying.{contrary_numbers, pair_of_numbers, IsRefuting};
 ghost use Rattle.sm_judge.specs.Closings.{IsClosing};
@@ -16,8 +14,9 @@ ghost use Rattle.sm_certify.specs.Refutes.{Refutes};
 ghost use Rattle.sm_certify.specs.Given.{IsWhole, classes_by, branch_of};
 ghost use Rattle.sm_list.specs.Parts.{all_numbered, assertions_in, AreFormulasWithin};
 
+use crate::draft::closed_tree;
 use sm_cc::Classes;
-use sm_cert::{CertEnd, CertLines, CertTree};
+use sm_cert::CertTree;
 use sm_judge::Closing;
 use sm_term::{Formula, TermId, TermTable, Terms};
 use sm_theory::CertLine;
@@ -69,8 +68,8 @@ fn refuted_tree<'a>(
     ensures { IfOk result (λ c. IsRefuting table.now facts.now c) }
 {
     match contrary_terms(&facts[n as usize]) {
-        Some((t, u)) => contrary_tree(alloc, classes, table, terms, facts, n, t, u),
-        None => Ok(closed_by(Vec::new(alloc), CertLine::Close(n))),
+        Some(sides) => contrary_tree(alloc, classes, table, terms, facts, n, sides),
+        None => Ok(closed_tree(Vec::new(alloc), CertLine::Close(n))),
     }
 }
 
@@ -92,23 +91,22 @@ fn contrary_tree<'a>(
     terms: &Terms,
     facts: &[Formula],
     n: u64,
-    t: TermId,
-    u: TermId,
+    sides: (TermId, TermId),
 ) -> Result<CertTree, AllocError>
     requires whole { IsWhole (trees_in table.now) terms.now.list.items }
     requires classes { classes.now ≡ classes_by table.now terms.now.list.items facts.now }
     requires few { length facts.now < 2 ^ 62 }
-    requires left { t.0 < length (trees_in table.now) }
-    requires right { u.0 < length (trees_in table.now) }
-    requires fact { slice_get (all_numbered facts.now) n ≡ Some (Ne t.0 u.0) }
+    requires left { sides.0.0 < length (trees_in table.now) }
+    requires right { sides.1.0 < length (trees_in table.now) }
+    requires fact { slice_get (all_numbered facts.now) n ≡ Some (Ne sides.0.0 sides.1.0) }
     requires same { let b = branch_of table.now facts.now in
-        IsTrue (b.equal (tree_at b.terms t.0) (tree_at b.terms u.0)) }
+        IsTrue (b.equal (tree_at b.terms sides.0.0) (tree_at b.terms sides.1.0)) }
     ensures { IfOk result (λ c. IsRefuting table.now facts.now c) }
 {
     let start = facts.len() as u64;
-    let lines = classes.explain(alloc, t, u, start)?;
+    let lines = classes.explain(alloc, sides.0, sides.1, start)?;
     let end = start + lines.len() as u64;
-    Ok(closed_by(lines, CertLine::Clash(end - 1, n)))
+    Ok(closed_tree(lines, CertLine::Clash(end - 1, n)))
 }
 
 // Two terms of one class have linear forms that differ in the constant alone.
@@ -131,18 +129,5 @@ fn torn_tree<'a>(
     let mut lines = classes.explain(alloc, t, u, start)?;
     let end = start + lines.len() as u64;
     lines.push(CertLine::Apart(t, u))?;
-    Ok(closed_by(lines, CertLine::Clash(end - 1, end)))
-}
-
-// Lines, and one that closes the branch.
-fn closed_by(list: Vec<CertLine>, line: CertLine) -> CertTree
-    ensures certificate { (trees : List Tree) →
-        certificate_in trees result
-        ≡ lines_before trees list.items (Closed (line_in trees line)) }
-    ensures lines { lines_of result ≡ list.items ++ line ∷ [] }
-{
-    CertTree {
-        lines: CertLines { list },
-        last: CertEnd::Close(line),
-    }
+    Ok(closed_tree(lines, CertLine::Clash(end - 1, end)))
 }

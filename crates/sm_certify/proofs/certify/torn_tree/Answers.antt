@@ -45,6 +45,6 @@ returns c =
     let m = n - 1 in
     let next : n ≡ length fs + length ls = omega arith in
     let last : m + 1 ≡ length fs + length ls = omega arith in
-    refuting_torn table ts fs c.requires.whole c.closed_by.result ls c.push.new.self.items c.args.t c.args.u m n named explain
-    c.in_ok-push.ensures.items c.closed_by.ensures.certificate c.closed_by.ensures.lines last next c.requires.why.0 c.requires.why.1
+    refuting_torn table ts fs c.requires.whole c.closed_tree.result ls c.push.new.self.items c.args.t c.args.u m n named explain
+    c.in_ok-push.ensures.items c.closed_tree.ensures.certificate c.closed_tree.ensures.lines last next c.requires.why.0 c.requires.why.1
     c.requires.why.2
