@@ -35,11 +35,13 @@ impl Heads {
         ensures head { IfOk result (λ n.
             IsHeadAt (heads_met self.new) (head_of t.now) n) }
     {
-        let Some(head) = bare(alloc, t)? else {
-            return Ok(None);
-        };
-        let number = self.place(alloc, head)?;
-        Ok(Some(number))
+        match bare(alloc, t)? {
+            Some(head) => {
+                let number = self.place(alloc, head)?;
+                Ok(Some(number))
+            }
+            None => Ok(None),
+        }
     }
 
     // The number of a head, which goes last where it wasn't met before.

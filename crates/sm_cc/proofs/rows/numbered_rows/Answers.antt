@@ -25,3 +25,13 @@ returns-clause-stand c =
     c.in_ok-rows.rows.items
     (omega (arith, count, long))
     (λ i r t f g. made.rows i r t f (ap (slice_get terms) (zero-add i) ∙ g))
+
+pub returns-clause-numbered : goal.returns-clause-numbered
+returns-clause-numbered c =
+    let terms = trees_of (trees_in c.args.table.now) c.args.terms.now in
+    let made = c.in_ok-rows.ensures in
+    record {
+      heads_apart = made.further.heads_apart (none_apart (heads_met c.new.result) (ap (map contents_of) c.new.ensures));
+      parts_apart = made.further.parts_apart (none_apart (parts_met c.new-2.result) (ap (map parts_of) c.new-2.ensures));
+      each = λ i r t f g. made.rows i r t f (ap (slice_get terms) (zero-add i) ∙ g);
+    }

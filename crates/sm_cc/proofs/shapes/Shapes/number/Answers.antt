@@ -18,7 +18,7 @@ returns-in-Some-clause-number c =
     ∙ ap Some c.in_ok-list.ensures.items
 
 pub put-requires-clause-same : goal.put-requires-clause-same
-put-requires-clause-same c = (same_list-Decides _ c.in_ok-list.list).1 (c.in_ok-key.ensures.items ∙ sym c.in_ok-list.ensures.items)
+put-requires-clause-same c = (same_list-Decides c.in_ok-key.key c.in_ok-list.list).1 (c.in_ok-key.ensures.items ∙ sym c.in_ok-list.ensures.items)
 
 pub put-requires-clause-new : goal.put-requires-clause-new
 put-requires-clause-new c = sym c.in-None.ensures.found
