@@ -7,6 +7,7 @@ use sm_term::{Formula, SymStore, TermError, TermId, TermTable, negate};
 use std::alloc::Global;
 
 /// The term of an expression, where each name has what the store has for it.
+#[cycle(term_in)]
 pub(crate) fn term_in(
     table: &mut TermTable,
     places: &SymStore,
@@ -26,22 +27,26 @@ pub(crate) fn term_in(
             let t = term_in(table, places, d)?;
             negated(table, t)
         }
-        Expr::Add(d, f) => {
-            let t = term_in(table, places, d)?;
-            let u = term_in(table, places, f)?;
-            joined(table, Operation::Add, t, u)
-        }
-        Expr::Sub(d, f) => {
-            let t = term_in(table, places, d)?;
-            let u = term_in(table, places, f)?;
-            joined(table, Operation::Sub, t, u)
-        }
-        Expr::Mul(d, f) => {
-            let t = term_in(table, places, d)?;
-            let u = term_in(table, places, f)?;
-            joined(table, Operation::Mul, t, u)
-        }
+        Expr::Add(d, f) => joined_in(table, places, Operation::Add, d, f),
+        Expr::Sub(d, f) => joined_in(table, places, Operation::Sub, d, f),
+        Expr::Mul(d, f) => joined_in(table, places, Operation::Mul, d, f),
     }
+}
+
+// The term of what two expressions make.
+#[cycle(term_in)]
+fn joined_in(
+    table: &mut TermTable,
+    places: &SymStore,
+    operation: Operation,
+    d: &Expr,
+    f: &Expr,
+) -> Result<TermId, TermError>
+    ensures { AddsTerms table.old table.new }
+{
+    let t = term_in(table, places, d)?;
+    let u = term_in(table, places, f)?;
+    joined(table, operation, t, u)
 }
 
 // The formula of a comparison of two terms.
