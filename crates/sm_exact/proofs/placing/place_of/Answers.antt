@@ -10,4 +10,4 @@ returns-in_err-place-clause-none c =
     if_none (HasNoPlace numbers c.args.k) c.from_residual.result (unlisted numbers c.args.k (sym c.in_err-place.ensures.found))
 
 pub returns-clause-some : goal.returns-clause-some
-returns-clause-some c = found_at c.args.terms.now c.args.k c.in_ok-place.place (sym c.in_ok-place.ensures.index)
+returns-clause-some c = found_at c.args.terms.now c.args.k c.in_ok-place.place (sym c.in_ok-place.ensures.number)
