@@ -2,16 +2,14 @@
 use Rattle.std.proofs.Common.{◌≡◌, ℕ, suc, ◌+◌, ◌<◌, nat_lt, Bool, true, false, if◌then◌else◌, List, [], ◌∷◌, ◌++◌, length}
 use Rattle.std.proofs.Common.{Some, slice_get, sym, ap, subst, ◌∙◌, ⊎_elim, add-one, arith}
 use Rattle.std.proofs.lemmas.Bool.{cases_Bool, ltb-false}
+use Rattle.std.proofs.lemmas.List.{length-append}
 use Rattle.sm_num.specs.Forms.{Linear}
 use Rattle.sm_fm.specs.Elimination.{Event, Cancels}
 use Rattle.sm_fm.specs.Taking.{Taking, TakesSum}
-use Rattle.sm_judge.specs.declared.forms.Source.{Source}
 use Rattle.sm_judge.specs.declared.eliminating.ElimLine.{ElimLine}
-use Rattle.sm_judge.specs.Holding.{Seen}
-use Rattle.sm_judge.specs.Refutations.{AreSources, Contradict}
+use Rattle.sm_judge.specs.Refutations.{Contradict}
 use Rattle.sm_judge.specs.Summing.{AreSums, AreNumbered}
 use Rattle.sm_judge.specs.Forms.{Walked, Closes, TooFar, counted, eliminated_by}
-use Rattle.sm_judge.proofs.MakingLemmas.{sources_many}
 use Rattle.sm_judge.proofs.SummingLemmas.{sums_more, sums_if, sums_count, sums_contradict, last_at, taken_sum}
 
 -- a step is left
@@ -37,6 +35,13 @@ module _ (steps count : ℕ) (left : List Event) (next : ℕ → Walked) where
       walked_sum f g t kept wrong es is more
       ∙ ap (λ (b : Bool). if b then Closes (count + 1) else eliminated_by steps (count + 1) es next) quiet
 
+  -- a sum that is a contradiction
+  pub walked_last : (f g t : ℕ) (kept wrong : Bool) (es : List Event) → left ≡ Cancels f g t kept wrong ∷ es → count < steps → wrong ≡ true →
+      eliminated_by steps count left next ≡ Closes (count + 1)
+  walked_last f g t kept wrong es is more bad =
+      walked_sum f g t kept wrong es is more
+      ∙ ap (λ (b : Bool). if b then Closes (count + 1) else eliminated_by steps (count + 1) es next) bad
+
 -- sums that are kept are recorded
 pub recorded : (forms : List (Linear ℕ)) (es new_es : List ElimLine) (old new : Taking) (e : ElimLine) (kept wrong : Bool) →
     AreNumbered 0 old.atoms → AreSums forms es old.forms → TakesSum old new e.f e.g e.atom kept wrong →
@@ -49,17 +54,21 @@ recorded forms es new_es old new e kept wrong own sums takes are =
     (subst (λ (l : List (Linear ℕ)). AreSums forms (es ++ (if kept then e ∷ [] else [])) l) (sym one.3) more)
 
 -- the last sum can't hold
-pub contradicted : (b : Seen) (ss : List Source) (forms : List (Linear ℕ)) (es new_es : List ElimLine) (old new : Taking) (e : ElimLine)
-    (kept wrong : Bool) (bad : ℕ) → AreSources b ss forms → AreNumbered 0 old.atoms → AreSums forms es old.forms →
-    TakesSum old new e.f e.g e.atom kept wrong → wrong ≡ true → new_es ≡ es ++ e ∷ [] → bad ≡ length ss + length es →
-    Contradict forms new_es bad
-contradicted b ss forms es new_es old new e kept wrong bad sources own sums takes is are place =
+pub contradicted : (forms : List (Linear ℕ)) (es new_es : List ElimLine) (old new : Taking) (e : ElimLine) (kept wrong : Bool) →
+    AreNumbered 0 old.atoms → AreSums forms es old.forms → TakesSum old new e.f e.g e.atom kept wrong → wrong ≡ true →
+    new_es ≡ es ++ e ∷ [] →
+    (0 < length new_es) × ((bad : ℕ) → bad + 1 ≡ length forms + length new_es → Contradict forms new_es bad)
+contradicted forms es new_es old new e kept wrong own sums takes is are =
     let one = taken_sum old new e kept wrong own takes in
     let h = one.0 in
-    let many = sources_many b ss forms sources in
     let count = sums_count forms es old.forms sums in
-    let last : bad ≡ length old.forms = omega arith in
-    let at : slice_get (old.forms ++ h ∷ []) bad ≡ Some h =
-    subst (λ (n : ℕ). slice_get (old.forms ++ h ∷ []) n ≡ Some h) (sym last) (last_at old.forms h) in
-    subst (λ (l : List ElimLine). Contradict forms l bad) (sym are)
-    (sums_contradict forms (es ++ e ∷ []) (old.forms ++ h ∷ []) bad h (sums_more forms es old.forms e h sums one.1) at (sym one.2 ∙ is))
+    let more : length new_es ≡ length es + 1 = ap length are ∙ length-append es (e ∷ []) in (
+      omega arith,
+      λ bad place.
+          let last : bad ≡ length old.forms = omega arith in
+          let at : slice_get (old.forms ++ h ∷ []) bad ≡ Some h =
+          subst (λ (n : ℕ). slice_get (old.forms ++ h ∷ []) n ≡ Some h) (sym last) (last_at old.forms h) in
+          subst (λ (l : List ElimLine). Contradict forms l bad) (sym are)
+          (sums_contradict forms (es ++ e ∷ []) (old.forms ++ h ∷ []) bad h (sums_more forms es old.forms e h sums one.1) at
+          (sym one.2 ∙ is)),
+    )

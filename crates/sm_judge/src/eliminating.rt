@@ -46,6 +46,13 @@ pub enum ByForms {
     Coefficient { op: Op, a: i128, b: i128 },
 }
 
+/// So many steps were taken, and so many may be.
+#[derive(Clone, Copy)]
+pub(crate) struct Progress {
+    pub(crate) count: u64,
+    pub(crate) steps: u64,
+}
+
 /// What the forms of the branch of these facts come to after `count` steps of `steps`; its terms
 /// are those of the table, the forms those of the terms, and labels tell their classes.
 pub fn by_forms<S: Sees>(
@@ -74,8 +81,9 @@ pub fn by_forms<S: Sees>(
         IfOk result (λ r. ShowsWhy b r) }
     ensures counted { IfOk result (λ r. IsCountWithin steps r) }
 {
+    let so_far = Progress { count, steps };
     match forms_of(alloc, sees, labels, table, forms, facts) {
-        Ok(made) => eliminate(alloc, made, table.len(), steps, count),
+        Ok(made) => eliminate(alloc, made, table.len(), so_far),
         Err(NumError::Beyond { op, a, b }) => Ok(ByForms::Coefficient { op, a, b }),
         Err(NumError::Memory) => Err(AllocError),
     }
