@@ -1,10 +1,11 @@
 -- Forms over places: how they are made part by part, and that they are the forms of the exact line.
 use Rattle.std.proofs.Common.{◌≡◌, ◌<◌, ◌≤◌, ℕ, zero, suc, nat_eq, ℤ, pos, ◌+ℤ◌, ◌*ℤ◌, Bool, true, false, ◌||◌, if◌then◌else◌}
-use Rattle.std.proofs.Common.{Option, Some, None, slice_get, List, [], ◌∷◌, length, get_or, refl, sym, ap, subst, ◌∙◌, ⊎_elim, arith}
+use Rattle.std.proofs.Common.{Option, Some, None, slice_get, List, [], ◌∷◌, ◌++◌, ◌+◌, take, length, get_or, refl, sym, ap, subst, ◌∙◌, ⊎_elim, arith}
 use Rattle.std.specs.Prelude.{IfNone}
 use Rattle.std.specs.List.{list_any, position}
 use Rattle.std.proofs.lemmas.Bool.{cases_Bool}
 use Rattle.std.proofs.lemmas.Int.{ints}
+use Rattle.std.proofs.lemmas.List.{take_more}
 use Rattle.std.proofs.lemmas.List.Quantifiers.{position-Some}
 use Rattle.std.proofs.lemmas.Option.{slice_get-get_or}
 use Rattle.sm_num.specs.declared.kind.Kind.{Kind}
@@ -16,7 +17,9 @@ use Rattle.sm_num.proofs.FormValues.{merged_value}
 use Rattle.sm_num.proofs.SameAtomLemmas.{same_atom_sound, same_atom_reflexive, not_both}
 use Rattle.sm_num.proofs.SameAtomLemmas as same
 use Rattle.sm_theory.specs.LinearTerms.{constant_form}
-use Rattle.sm_exact.specs.Placing.{IsAt, HasNoPlace, HavePlaces, ArePlaced, IsPlaced}
+use Rattle.sm_theory.specs.declared.fact.Fact.{Fact}
+use Rattle.sm_theory.specs.declared.fact.Fact.TheVariants as fact
+use Rattle.sm_exact.specs.Placing.{IsAt, HasNoPlace, HavePlaces, ArePlaced, IsPlaced, SomeLacksPlace, FactLacksPlace}
 use Rattle.sm_exact.proofs.CoefficientLemmas.{coefficient_first}
 
 -- 1 at one atom, 0 at all others
@@ -176,3 +179,13 @@ none_case P (Some x) given never = absurd (never x refl)
 pub if_none : {A : Type 0} (P : Type 0) (o : Option A) → P → IfNone o P
 if_none P None given = given
 if_none P (Some x) given = tt
+
+-- of facts so far one more
+pub facts_more : (fs : List Fact) (i : ℕ) (x : Fact) → i < length fs → x ≡ get_or fs i x → take i fs ++ x ∷ [] ≡ take (i + 1) fs
+facts_more fs i x below is = ap (λ (y : Fact). take i fs ++ y ∷ []) is ∙ sym (take_more fs i x below)
+
+-- a fact that has an atom without a place is a linear one
+pub fact_lacks : (numbers : List ℕ) (fs : List Fact) (i : ℕ) (x : Fact) → i < length fs → x ≡ get_or fs i x → FactLacksPlace numbers x →
+    SomeLacksPlace numbers fs
+fact_lacks numbers fs i (fact.Form f) below is lacks = absurd lacks
+fact_lacks numbers fs i (fact.Lin f) below is lacks = (i, f, slice_get-get_or fs i (fact.Lin f) below ∙ ap Some (sym is), lacks)
