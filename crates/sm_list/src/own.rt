@@ -122,7 +122,7 @@ fn over_own(
 }
 
 // A number for each of so many terms, that of none of them yet.
-pub(crate) fn blank_numbers(alloc: Global, count: u64) -> Result<Vec<TermId>, AllocError>
+fn blank_numbers(alloc: Global, count: u64) -> Result<Vec<TermId>, AllocError>
     ensures { IfOk result (λ v. length v.items ≡ count) }
 {
     vec![in alloc; TermId(0); count as usize]

@@ -12,11 +12,11 @@ ghost use Rattle.sm_list.specs.Parts.{all_numbered, assertions_in, AreFormulasWi
 ghost use Rattle.sm_list.specs.Renumber.{number_under};
 ghost use Rattle.sm_list.specs.Shared.{AreShared, with_those_before};
 
-use crate::own::{blank_numbers, put_term};
+use crate::own::put_term;
 use crate::reads::list_reads;
 use crate::renumber::{renumbered_formula, renumbered_formulas};
-use crate::terms::list_formulas;
-use sm_numbering::Numbering;
+use crate::terms::list_terms;
+use indexmap::IndexSet;
 use sm_term::{Formula, TermId, TermTable};
 use sm_terms::list_formula;
 use std::alloc::{AllocError, Global};
@@ -97,46 +97,33 @@ fn listed_facts(
         AreFormulasWithin (length (trees_in s.terms.own)) (all_numbered s.facts.items)) }
     ensures grows { AddsTerms table.old table.new }
 {
-    let mut listed = Numbering::new(alloc);
-    list_formulas(alloc, table, &mut listed, facts)?;
-    list_reads(table, &mut listed)?;
-    let shared = over_listed(alloc, table, facts, listed)?;
-    Ok(shared)
+    let mut terms = no_terms(alloc, table)?;
+    list_terms(alloc, table, &mut terms.listed, facts)?;
+    put_rest(
+        alloc,
+        table,
+        terms.listed.as_slice(),
+        &mut terms.own,
+        &mut terms.numbers,
+    )?;
+    let facts = renumbered_formulas(alloc, facts, &terms.numbers)?;
+    Ok(SharedFacts { terms, facts })
 }
 
-// Facts over a table of these terms, which are theirs.
-fn over_listed(
-    alloc: Global,
-    table: &TermTable,
-    facts: &[Formula],
-    listed: Numbering<u64>,
-) -> Result<SharedFacts, AllocError>
-    requires facts { AreFormulasWithin (length (trees_in table.now)) (all_numbered facts.now) }
-    requires terms { let trees = trees_in table.now in
-        let all = assertions_in (sorts_in table.now) trees (all_numbered facts.now) in
-        trees_at trees listed ≡ terms_of all }
-    requires below { AreBelow (length (trees_in table.now)) listed }
-    ensures terms { let trees = trees_in table.now in
-        let all = assertions_in (sorts_in table.now) trees (all_numbered facts.now) in
-        IfOk result (λ s. AreShared table.now (terms_of all) s.terms) }
-    ensures facts { let sorts = sorts_in table.now in
-        let all = assertions_in sorts (trees_in table.now) (all_numbered facts.now) in
-        IfOk result (λ s.
-        assertions_in sorts (trees_in s.terms.own) (all_numbered s.facts.items) ≡ all) }
-    ensures within { IfOk result (λ s.
-        AreFormulasWithin (length (trees_in s.terms.own)) (all_numbered s.facts.items)) }
+// No terms of a table yet, in a table of their own.
+fn no_terms(alloc: Global, table: &TermTable) -> Result<SharedTerms, AllocError>
+    ensures own { IfOk result (λ s. trees_in s.own ≡ []) }
+    ensures sorts { IfOk result (λ s. sorts_in s.own ≡ sorts_in table.now) }
+    ensures codes { IfOk result (λ s. codes_in s.own ≡ codes_in table.now) }
+    ensures listed { IfOk result (λ s. s.listed.keys ≡ []) }
+    ensures numbers { IfOk result (λ s. s.numbers.items ≡ []) }
 {
-    let mut own = table.copied_bodies(alloc)?;
-    let mut numbers = blank_numbers(alloc, table.len())?;
-    put_rest(alloc, table, listed.as_slice(), &mut own, &mut numbers)?;
-    let facts = renumbered_formulas(alloc, facts, &numbers)?;
-    Ok(SharedFacts {
-        terms: SharedTerms {
-            own,
-            listed,
-            numbers,
-        },
-        facts,
+    let numbers = Vec::with_capacity(alloc, table.len() as usize)?;
+    let own = table.copied_bodies(alloc)?;
+    Ok(SharedTerms {
+        own,
+        listed: IndexSet::new(alloc),
+        numbers,
     })
 }
 

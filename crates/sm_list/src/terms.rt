@@ -54,11 +54,30 @@ fn listed_terms(
         AreBelow (length (trees_in table.new)) (numbers_of ts.list.items)) }
     ensures grows { AddsTerms table.old table.new }
 {
-    let mut listed = Numbering::new(alloc);
-    list_formulas(alloc, table, &mut listed, facts)?;
-    list_reads(table, &mut listed)?;
-    let terms = numbered_terms(alloc, listed.as_slice())?;
-    Ok(terms)
+    let mut listed = IndexSet::new(alloc);
+    list_terms(alloc, table, &mut listed, facts)?;
+    numbered_terms(alloc, listed.as_slice())
+}
+
+// Lists the terms of formulas where none are listed, and behind them what each element that is read
+// was before it was written. An error leaves the terms that were made.
+pub(crate) fn list_terms(
+    alloc: Global,
+    table: &mut TermTable,
+    listed: &mut IndexSet<u64>,
+    facts: &[Formula],
+) -> Result<(), AllocError>
+    requires within { AreFormulasWithin (length (trees_in table.old)) (all_numbered facts.now) }
+    requires none { listed.old.keys ≡ [] }
+    ensures terms { let trees = trees_in table.old in
+        let all = terms_of (assertions_in (sorts_in table.old) trees (all_numbered facts.now)) in
+        OnOk result (trees_at (trees_in table.new) listed.new.keys ≡ all) }
+    ensures below { OnOk result (AreBelow (length (trees_in table.new)) listed.new.keys) }
+    ensures grows { AddsTerms table.old table.new }
+{
+    list_formulas(alloc, table, listed, facts)?;
+    list_reads(table, listed)?;
+    Ok(())
 }
 
 /// Lists the terms of formulas behind others, each after its arguments and once.
