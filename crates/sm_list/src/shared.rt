@@ -16,7 +16,7 @@ use crate::own::put_term;
 use crate::reads::list_reads;
 use crate::renumber::{renumbered_formula, renumbered_formulas};
 use crate::terms::list_terms;
-use indexmap::IndexSet;
+use sm_numbering::Numbering;
 use sm_term::{Formula, TermId, TermTable};
 use sm_terms::list_formula;
 use std::alloc::{AllocError, Global};
@@ -115,14 +115,14 @@ fn no_terms(alloc: Global, table: &TermTable) -> Result<SharedTerms, AllocError>
     ensures own { IfOk result (λ s. trees_in s.own ≡ []) }
     ensures sorts { IfOk result (λ s. sorts_in s.own ≡ sorts_in table.now) }
     ensures codes { IfOk result (λ s. codes_in s.own ≡ codes_in table.now) }
-    ensures listed { IfOk result (λ s. s.listed.keys ≡ []) }
+    ensures listed { IfOk result (λ s. s.listed ≡ []) }
     ensures numbers { IfOk result (λ s. s.numbers.items ≡ []) }
 {
     let numbers = Vec::with_capacity(alloc, table.len() as usize)?;
     let own = table.copied_bodies(alloc)?;
     Ok(SharedTerms {
         own,
-        listed: IndexSet::new(alloc),
+        listed: Numbering::new(alloc),
         numbers,
     })
 }

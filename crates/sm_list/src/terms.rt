@@ -54,7 +54,7 @@ fn listed_terms(
         AreBelow (length (trees_in table.new)) (numbers_of ts.list.items)) }
     ensures grows { AddsTerms table.old table.new }
 {
-    let mut listed = IndexSet::new(alloc);
+    let mut listed = Numbering::new(alloc);
     list_terms(alloc, table, &mut listed, facts)?;
     numbered_terms(alloc, listed.as_slice())
 }
@@ -64,15 +64,15 @@ fn listed_terms(
 pub(crate) fn list_terms(
     alloc: Global,
     table: &mut TermTable,
-    listed: &mut IndexSet<u64>,
+    listed: &mut Numbering<u64>,
     facts: &[Formula],
 ) -> Result<(), AllocError>
     requires within { AreFormulasWithin (length (trees_in table.old)) (all_numbered facts.now) }
-    requires none { listed.old.keys ≡ [] }
+    requires none { listed.old ≡ [] }
     ensures terms { let trees = trees_in table.old in
         let all = terms_of (assertions_in (sorts_in table.old) trees (all_numbered facts.now)) in
-        OnOk result (trees_at (trees_in table.new) listed.new.keys ≡ all) }
-    ensures below { OnOk result (AreBelow (length (trees_in table.new)) listed.new.keys) }
+        OnOk result (trees_at (trees_in table.new) listed.new ≡ all) }
+    ensures below { OnOk result (AreBelow (length (trees_in table.new)) listed.new) }
     ensures grows { AddsTerms table.old table.new }
 {
     list_formulas(alloc, table, listed, facts)?;

@@ -26,7 +26,7 @@ returns-clause-some c = λ facts stand.
     let trees = trees_in c.args.table.now in
     let sorts = sorts_in c.args.table.now in
     let items = c.args.branch.now.list.items in
-    let numbers = c.in_ok-terms.terms.keys in
+    let numbers = c.in_ok-terms.terms in
     some_weaker c.placed_forms.result (λ fs. ArePlacedForms numbers items fs.items) (λ fs. forms_of_branch facts ≡ Some fs.items)
     (λ fs placed. forms_are trees numbers c.len-count.ensures.apart c.in_ok-terms.ensures.below sorts items facts
     c.in_ok-terms.ensures.terms stand fs.items placed)
@@ -37,7 +37,7 @@ returns-clause-none c = λ facts stand.
     let trees = trees_in c.args.table.now in
     let sorts = sorts_in c.args.table.now in
     let items = c.args.branch.now.list.items in
-    let numbers = c.in_ok-terms.terms.keys in
+    let numbers = c.in_ok-terms.terms in
     none_weaker c.placed_forms.result (SomeLacksPlace numbers items) (forms_of_branch facts ≡ None)
     (λ lacks. forms_none trees numbers c.len-count.ensures.apart c.in_ok-terms.ensures.below sorts items facts c.in_ok-terms.ensures.terms
     stand lacks)

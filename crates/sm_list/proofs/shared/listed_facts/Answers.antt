@@ -19,7 +19,7 @@ pub put_rest-requires-clause-built : goal.put_rest-requires-clause-built
 put_rest-requires-clause-built c =
     let old = c.args.table.now in
     let all = assertions_in (sorts_in old) (trees_in old) (all_numbered c.args.facts.now) in
-    subst (AreBuilt []) (sym (ap (trees_at (trees_in c.list_terms.new.table)) c.as_slice.ensures.keys ∙ c.in_ok-list_terms.ensures.terms))
+    subst (AreBuilt []) (sym (ap (trees_at (trees_in c.list_terms.new.table)) c.as_slice.ensures.values ∙ c.in_ok-list_terms.ensures.terms))
     (all_behind all).built
 
 pub put_rest-requires-clause-first : goal.put_rest-requires-clause-first
@@ -48,7 +48,7 @@ returns-clause-terms c =
     let trees = trees_in c.list_terms.new.table in
     let all = assertions_in (sorts_in old) (trees_in old) (all_numbered c.args.facts.now) in
     let behind = all_behind all in
-    let own = c.in_ok-put_rest.ensures.trees ∙ ap (trees_at trees) c.as_slice.ensures.keys ∙ c.in_ok-list_terms.ensures.terms in
+    let own = c.in_ok-put_rest.ensures.trees ∙ ap (trees_at trees) c.as_slice.ensures.values ∙ c.in_ok-list_terms.ensures.terms in
     record {
       sorts = c.in_ok-put_rest.ensures.sorts;
       codes = c.in_ok-put_rest.ensures.codes;
@@ -68,7 +68,7 @@ returns-clause-facts c =
     let grows = c.list_terms.ensures.grows in
     let facts = all_numbered c.args.facts.now in
     let same = facts_grown old new grows facts c.requires in
-    let own = c.in_ok-put_rest.ensures.trees ∙ ap (trees_at (trees_in new)) c.as_slice.ensures.keys ∙ c.in_ok-list_terms.ensures.terms
+    let own = c.in_ok-put_rest.ensures.trees ∙ ap (trees_at (trees_in new)) c.as_slice.ensures.values ∙ c.in_ok-list_terms.ensures.terms
     ∙ ap terms_of (sym same) in
     let moved = all_moved (sorts_in new) (trees_in new) (trees_in c.put_rest.new.own) facts (all_numbered c.in_ok-facts.facts.items)
     (facts_within_grown old new grows facts c.requires) c.put_rest.new.numbers.items c.deref.result.now c.in_ok-put_rest.ensures.placed own
@@ -83,7 +83,7 @@ returns-clause-within c =
     let grows = c.list_terms.ensures.grows in
     let facts = all_numbered c.args.facts.now in
     let same = facts_grown old new grows facts c.requires in
-    let own = c.in_ok-put_rest.ensures.trees ∙ ap (trees_at (trees_in new)) c.as_slice.ensures.keys ∙ c.in_ok-list_terms.ensures.terms
+    let own = c.in_ok-put_rest.ensures.trees ∙ ap (trees_at (trees_in new)) c.as_slice.ensures.values ∙ c.in_ok-list_terms.ensures.terms
     ∙ ap terms_of (sym same) in
     (all_moved (sorts_in new) (trees_in new) (trees_in c.put_rest.new.own) facts (all_numbered c.in_ok-facts.facts.items)
     (facts_within_grown old new grows facts c.requires) c.put_rest.new.numbers.items c.deref.result.now c.in_ok-put_rest.ensures.placed own

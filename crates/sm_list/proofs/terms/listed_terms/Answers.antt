@@ -13,4 +13,4 @@ returns-clause-terms c =
     let trees = trees_in c.list_terms.new.table in
     IfOk-weaker c.numbered_terms.result (λ ts. numbers_of ts.list.items ≡ c.as_slice.result.now)
     (λ ts. trees_at trees (numbers_of ts.list.items) ≡ all)
-    (λ ts is. ap (trees_at trees) (is ∙ c.as_slice.ensures.keys) ∙ c.in_ok-list_terms.ensures.terms) c.numbered_terms.ensures
+    (λ ts is. ap (trees_at trees) (is ∙ c.as_slice.ensures.values) ∙ c.in_ok-list_terms.ensures.terms) c.numbered_terms.ensures
