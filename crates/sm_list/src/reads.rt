@@ -53,7 +53,7 @@ fn list_round(
     ensures grows { AddsTerms table.old table.new }
 {
     for k in from..end {
-        let n = listed[k];
+        let n = *listed.get(k);
         list_read_before(table, listed, TermId(n))?;
     }
     Ok(())

@@ -15,9 +15,9 @@ pub list_read_before-requires-clause-within : goal.list_read_before-requires-cla
 list_read_before-requires-clause-within c =
     let ns = c.loop-k.listed in
     let k = c.loop-k.k in
-    let n = c.index-n.result.now in
-    let found : get_or ns k 0 ≡ n = get_or_from_slice_get ns k n 0 c.index-n.ensures in
-    let inside = slice_get_within ns k n c.index-n.ensures in
+    let n = c.get-n.result.now in
+    let found : get_or ns k 0 ≡ n = get_or_from_slice_get ns k n 0 c.get-n.ensures in
+    let inside = slice_get_within ns k n c.get-n.ensures in
     subst (λ (m : ℕ). m < length (trees_in c.loop-k.table)) found
     (below_at (length (trees_in c.loop-k.table)) ns c.loop-k.invariant.listed k inside)
 
@@ -26,15 +26,15 @@ loop-k-preserved c =
     let trees = trees_in c.loop-k.table in
     let ns = c.loop-k.listed in
     let k = c.loop-k.k in
-    let n = c.index-n.result.now in
+    let n = c.get-n.result.now in
     let t = tree_at trees n in
     let seen = trees_at (trees_in c.args.table.now) c.args.listed.now in
     let now = trees_at trees ns in
     let new = trees_at (trees_in c.list_read_before.new.table) c.list_read_before.new.listed in
     let more = c.loop-k.invariant.longer.0 in
     let longer : now ≡ seen ++ more = c.loop-k.invariant.longer.1 in
-    let found : get_or ns k 0 ≡ n = get_or_from_slice_get ns k n 0 c.index-n.ensures in
-    let inside = slice_get_within ns k n c.index-n.ensures in
+    let found : get_or ns k 0 ≡ n = get_or_from_slice_get ns k n 0 c.get-n.ensures in
+    let inside = slice_get_within ns k n c.get-n.ensures in
     let long = length-map c.args.listed.now (tree_at (trees_in c.args.table.now)) in
     let first : k < length seen = omega arith in
     let is : t ≡ get_or seen k t =
