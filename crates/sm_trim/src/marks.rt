@@ -49,28 +49,25 @@ pub(crate) fn mark_line(marks: &mut Marks, line: &CertLine) -> Result<(), AllocE
         (MarksMore (names_fact marks.old.facts (line_in trees line.now)) marks.old marks.new) }
 {
     match line {
-        CertLine::Both(n) => mark_each(marks, &[*n]),
-        CertLine::Either(n) => mark_each(marks, &[*n]),
-        CertLine::Cases(_, _) => Ok(()),
-        CertLine::Order(n) => mark_each(marks, &[*n]),
-        CertLine::Refl(_) => Ok(()),
-        CertLine::Sym(n) => mark_each(marks, &[*n]),
-        CertLine::Trans(m, n) => mark_each(marks, &[*m, *n]),
-        CertLine::Subst(m, n) => mark_each(marks, &[*m, *n]),
+        CertLine::Both(n)
+        | CertLine::Either(n)
+        | CertLine::Order(n)
+        | CertLine::Sym(n)
+        | CertLine::Hit(_, n)
+        | CertLine::Miss(_, _, n)
+        | CertLine::Lin(n)
+        | CertLine::Tight(n)
+        | CertLine::Close(n) => mark_each(marks, &[*n]),
+        CertLine::Trans(m, n)
+        | CertLine::Subst(m, n)
+        | CertLine::Elim(m, n, _)
+        | CertLine::Clash(m, n) => mark_each(marks, &[*m, *n]),
         CertLine::Cong(_, _, ns) => mark_each(marks, &ns.list),
-        CertLine::Same(_, _) => Ok(()),
-        CertLine::Apart(_, _) => Ok(()),
-        CertLine::Hit(_, n) => mark_each(marks, &[*n]),
-        CertLine::Miss(_, _, n) => mark_each(marks, &[*n]),
-        CertLine::Lin(n) => mark_each(marks, &[*n]),
-        CertLine::Elim(m, n, _) => mark_each(marks, &[*m, *n]),
-        CertLine::Tight(n) => mark_each(marks, &[*n]),
         CertLine::Exact(_) => {
             mark_below(marks, marks.facts);
             Ok(())
         }
-        CertLine::Close(n) => mark_each(marks, &[*n]),
-        CertLine::Clash(m, n) => mark_each(marks, &[*m, *n]),
+        _ => Ok(()),
     }
 }
 
