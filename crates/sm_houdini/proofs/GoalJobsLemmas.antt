@@ -23,8 +23,13 @@ use Rattle.sm_houdini.proofs.NodeLemmas.{jobs_mean, below_again, shared_and_deal
 -- what is known over a table is known over one with the same terms
 pub known_over : (v w : TableValue) → sorts_in w ≡ sorts_in v → trees_in w ≡ trees_in v → (reach : Reach) (ds : List Due)
     (flags : List Bool) → AreKnown v reach ds flags → AreKnown w reach ds flags
-known_over v w sorts trees reach ds flags known k i d h flag =
-    (λ j. closes_at (sorts j) reach (due_in (sorts j) (trees j) (get_or ds k d)) i) ∙ known k i d h flag
+known_over v w sorts trees reach ds flags known = record {
+  closes = λ k d h flag.
+      record {
+        each = λ i.
+            (λ j. closes_at (sorts j) reach (due_in (sorts j) (trees j) (get_or ds k d)) i) ∙ (known.closes k d h flag).each i;
+      };
+}
 
 -- the marks of a share over a table with the same terms
 pub share_tells : (v x : RoundGoalsValue) → v ≡ x → (w : TableValue) (share : ℕ) (m : Marks) → sorts_in w ≡ sorts_in v.table →

@@ -15,6 +15,7 @@ use Rattle.sm_term.specs.TableLaws.{ExtendsTable}
 use Rattle.sm_term.specs.Terms.{Tree}
 use Rattle.sm_term.specs.declared.formula.Formula.{Formula}
 use Rattle.sm_plan.specs.Plans as plain
+use Rattle.sm_plan.specs.ReadyStates.{AreFormsReady}
 use Rattle.sm_plan.specs.Views.{forms_in}
 use Rattle.sm_expand.specs.declared.due.Due.{Due}
 use Rattle.sm_expand.specs.Views.{due_in, dues_in, AreDuesReady}
@@ -25,9 +26,10 @@ use Rattle.sm_solve.specs.declared.reach.Reach.{Reach}
 use Rattle.sm_houdini.specs.declared.asked.Asked.{Asked}
 use Rattle.sm_houdini.specs.declared.marks.Marked.{Marked}
 use Rattle.sm_houdini.specs.Closing.{closing, closes_at, stays_at, owner_in}
-use Rattle.sm_houdini.specs.Known.{IsAsked, IsAskedBefore, AreKnown, is_flagged}
+use Rattle.sm_houdini.specs.Known.{IsAsked, IsAskedBefore, AreKnown, ClosesAll, is_flagged}
 use Rattle.sm_houdini.specs.Marks.{marked, all_marked, is_there, has_mark, rows}
 use Rattle.sm_houdini.specs.Rounds.{is_site, closes_if, holds_at}
+use Rattle.sm_houdini.proofs.ClosingLemmas.{closes_stays}
 use Rattle.sm_houdini.proofs.LoopLemmas.{get_any}
 use Rattle.sm_houdini.proofs.MarkedLemmas.{all_same}
 
@@ -228,10 +230,10 @@ found_inside list i g e =
 
 pub flags_put : (v : TableValue) (reach : Reach) (ds : List Due) (new old : List Bool) (at : ℕ) (b : Bool) (d : Due) →
     new ≡ old ++ b ∷ [] → length old ≡ at → d ≡ get_or ds at d →
-    (b ≡ true → (i : ℕ) → closes_at (sorts_in v) reach (due_in (sorts_in v) (trees_in v) d) i ≡ true) →
-    AreKnown v reach ds old → AreKnown v reach ds new
-flags_put v reach ds new old at b d is count here known before k i x h flag =
-    by (flag_at old k b (sym (ap (λ (l : List Bool). is_flagged l k) is) ∙ flag))
+    (b ≡ true → ClosesAll v reach d) → AreKnown v reach ds old → AreKnown v reach ds new
+flags_put v reach ds new old at b d is count here known before = record {
+  closes = λ k x h flag. by k x h (flag_at old k b (sym (ap (λ (l : List Bool). is_flagged l k) is) ∙ flag));
+}
   where
     flag_at : (l : List Bool) (k : ℕ) (b : Bool) → is_flagged (l ++ b ∷ []) k ≡ true →
         (is_flagged l k ≡ true) ⊎ ((k ≡ length l) × (b ≡ true))
@@ -245,13 +247,28 @@ flags_put v reach ds new old at b d is count here known before k i x h flag =
         more (inl f) = inl f
         more (inr p) = inr (ap suc p.0, p.1)
 
-    by : (is_flagged old k ≡ true) ⊎ ((k ≡ length old) × (b ≡ true)) →
-        closes_at (sorts_in v) reach (due_in (sorts_in v) (trees_in v) (get_or ds k x)) i ≡ true
-    by (inl f) = before k i x h f
-    by (inr p) =
+    by : (k : ℕ) (x : Due) → k < length ds → (is_flagged old k ≡ true) ⊎ ((k ≡ length old) × (b ≡ true)) →
+        ClosesAll v reach (get_or ds k x)
+    by k x h (inl f) = before.closes k x h f
+    by k x h (inr p) =
         let place : at ≡ k = sym count ∙ sym p.0 in
         let same : get_or ds k x ≡ d = get_any ds k x d h ∙ ap (λ (n : ℕ). get_or ds n d) (sym place) ∙ sym here in
-        ap (λ (y : Due). closes_at (sorts_in v) reach (due_in (sorts_in v) (trees_in v) y) i) same ∙ known p.1 i
+        subst (ClosesAll v reach) (sym same) (known p.1)
+
+-- no flag is there
+pub none_known : (v : TableValue) (reach : Reach) (ds : List Due) (flags : List Bool) → flags ≡ [] → AreKnown v reach ds flags
+none_known v reach ds flags none = record {
+  closes = λ k d h flag. absurd (different (sym (ap (λ (l : List Bool). is_flagged l k) none) ∙ flag));
+}
+  where
+    different : false ≡ true → ⊥
+    different e = absurd cc
+
+-- all goals of a node close over a wider table, too
+pub closes_over : (v w : TableValue) → ExtendsTable v w → (reach : Reach) (d : Due) →
+    AreFormsReady (sorts_in v) (trees_in v) d.facts.list.items → AreFormsReady (sorts_in v) (trees_in v) d.targets.list.items →
+    ClosesAll v reach d → ClosesAll w reach d
+closes_over v w wider reach d facts goals all = record { each = λ i. closes_stays v w wider reach d i facts goals ∙ all.each i }
 
 -- what a round asked, where it is left for the next
 pub left_asked : (v : TableValue) (reach : Reach) (owners : List (Option ℕ)) (a : Asked) (o : Option Asked) →

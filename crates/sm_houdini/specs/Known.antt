@@ -28,12 +28,16 @@ IsAskedBefore v reach owners before = IfSome before (IsAsked v reach owners)
 abbrev pub is_flagged : List Bool → ℕ → Bool
 is_flagged flags k = unwrap_or (slice_get flags k) false
 
+-- all goals that a node asks close
+pub record ClosesAll (v : TableValue) (reach : Reach) (d : Due) : Type 0 where
+  pub each : (i : ℕ) → closes_at (sorts_in v) reach (due_in (sorts_in v) (trees_in v) d) i ≡ true
+
 -- where the flag of a node is there, all goals that it asks close
-abbrev pub AreKnown : TableValue → Reach → List Due → List Bool → Type 0
-AreKnown v reach ds flags =
-    (k i : ℕ) →
-    (d : Due) →
-    k < length ds →
-    is_flagged flags k ≡ true →
-    (let asks = due_in (sorts_in v) (trees_in v) (slice_index_or ds k d) in
-    closes_at (sorts_in v) reach asks i ≡ true)
+pub record AreKnown (v : TableValue) (reach : Reach) (ds : List Due) (flags : List Bool) :
+    Type 0 where
+  pub closes :
+      (k : ℕ) →
+      (d : Due) →
+      k < length ds →
+      is_flagged flags k ≡ true →
+      ClosesAll v reach (slice_index_or ds k d)

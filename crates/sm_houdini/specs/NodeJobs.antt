@@ -1,6 +1,6 @@
 -- Private: what nodes ask, where some of them are left out, and nodes that are dealt to jobs.
-use Rattle.std.specs.Prelude.{◌≡◌, ℕ, zero, suc, ◌==◌, nat_lt, Bool, true, not, ◌&&◌, ◌||◌, Option}
-use Rattle.std.specs.Prelude.{Some, None, List, [], ◌∷◌, slice_get, unwrap_or}
+use Rattle.std.specs.Prelude.{◌≡◌, ℕ, zero, suc, ◌==◌, nat_lt, Bool, true, false, not, ◌&&◌, ◌||◌}
+use Rattle.std.specs.Prelude.{Option, Some, None, List, [], ◌∷◌, slice_get, unwrap_or}
 use Rattle.sm_term.specs.Assertions.{Assertion}
 use Rattle.sm_term.specs.Tables.{TableValue, trees_in, sorts_in}
 use Rattle.sm_plan.specs.Plans as plain
@@ -9,6 +9,8 @@ use Rattle.sm_expand.specs.Views.{dues_in}
 use Rattle.sm_sketch.specs.Choices.{Choice}
 use Rattle.sm_solve.specs.declared.reach.Reach.{Reach}
 use Rattle.sm_houdini.specs.declared.marks.Marks.{Marks}
+use Rattle.sm_houdini.specs.declared.node_jobs.Nodes.{Nodes}
+use Rattle.sm_houdini.specs.declared.node_jobs.Nodes.TheVariants as nodes
 use Rattle.sm_houdini.specs.Closing.{closing, owner_in}
 use Rattle.sm_houdini.specs.Marks.{all_marked, rows}
 use Rattle.sm_houdini.specs.Rounds.{is_site, closes_if}
@@ -32,6 +34,12 @@ number_at numbers jobs n = unwrap_or (slice_get numbers n) jobs
 abbrev pub is_left_out : List ℕ → ℕ → Option ℕ → ℕ → Bool
 is_left_out numbers jobs (Some job) n = not (number_at numbers jobs n == job)
 is_left_out numbers jobs None n = nat_lt (number_at numbers jobs n) jobs
+
+-- whether a node is none of those that are judged: of all nodes none is left out
+abbrev pub leaves_out : Nodes → ℕ → Bool
+leaves_out nodes.Every = λ n. false
+leaves_out (nodes.Shared numbers jobs) = is_left_out numbers.now jobs None
+leaves_out (nodes.OfJob numbers jobs job) = is_left_out numbers.now jobs (Some job)
 
 -- whether all of the first numbers pass
 abbrev pub all_below : (ℕ → Bool) → ℕ → Bool

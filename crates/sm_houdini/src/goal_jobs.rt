@@ -10,9 +10,9 @@ ghost use Rattle.sm_houdini.specs.Known.{AreKnown};
 ghost use Rattle.sm_houdini.specs.Marks.{all_marked, in_share, rows};
 ghost use Rattle.sm_houdini.specs.Rounds.{holds_at};
 
-use crate::judging::judge_all;
+use crate::judging::{Round, judge_all};
 use crate::marks::{Join, Marks, joined_marks, share_marks};
-use crate::node_jobs::{job_numbers, marks_by_nodes};
+use crate::node_jobs::{Nodes, job_numbers, marks_by_nodes};
 use sm_expand::Due;
 use sm_par::{Gate, Job, Phase, run_jobs};
 use sm_sketch::TemplateChoice;
@@ -76,76 +76,60 @@ pub(crate) fn marks_after<R: Threads + Sync, G: Gate>(
     crew: &Crew<'_, R, G>,
     alloc: Global,
     table: &mut TermTable,
-    dues: &[Due],
-    known: &[bool],
-    owners: &[Option<u64>],
+    round: &Round<'_>,
     choice: &TemplateChoice,
-    reach: Reach,
 ) -> Result<Marks, AllocError>
-    requires ready { AreDuesReady (sorts_in table.old) (trees_in table.old) dues.now }
-    requires known { AreKnown table.old reach dues.now known.now }
+    requires ready { AreDuesReady (sorts_in table.old) (trees_in table.old) round.now.dues.now }
+    requires known { AreKnown table.old round.now.reach round.now.dues.now round.now.known.now }
     ensures marks { let sorts = sorts_in table.old in let trees = trees_in table.old in
-        IfOk result (λ ms. rows ms.sites.items ≡ all_marked (holds_at (closing sorts reach)
-        (owner_in owners.now) (dues_in sorts trees dues.now)) 0 (choice_in choice.now)) }
+        IfOk result (λ ms. rows ms.sites.items ≡ all_marked (holds_at (closing sorts round.now.reach)
+        (owner_in round.now.owners.now) (dues_in sorts trees round.now.dues.now)) 0
+        (choice_in choice.now)) }
     ensures widens { ExtendsTable table.old table.new }
 {
     let most = most_at_site(choice);
     let parts = parts_of(crew);
     if parts == 1 || most < 2 {
         let mut marks = share_marks(alloc, choice, 0, 1)?;
-        judge_all(
-            alloc,
-            table,
-            dues,
-            known,
-            &[],
-            0,
-            None,
-            owners,
-            &mut marks,
-            reach,
-        )?;
+        let nodes = Nodes::Every;
+        judge_all(alloc, table, round, &nodes, &mut marks)?;
         return Ok(marks);
     }
     let shares = shares_of(parts, most);
-    marks_by_jobs(
-        crew, alloc, table, dues, known, owners, choice, reach, shares,
-    )
+    marks_by_jobs(crew, alloc, table, round, choice, shares)
 }
 
-// The marks after a round, by so many jobs, twice. First each job has a share of the templates, at the first node
-// and the last that a site asks: the last is the turn that all copies take, where most goals are
-// asked and most templates fall. Then the other nodes are dealt to the jobs, for what is left of all
-// templates: there it costs as much to make a node as to ask its goals.
+// The marks after a round, by so many jobs, twice. First each job has a share of the templates, at
+// the first node and the last that a site asks: the last is the turn that all copies take, where
+// most goals are asked and most templates fall. Then the other nodes are dealt to the jobs, for what
+// is left of all templates: there it costs as much to make a node as to ask its goals.
 fn marks_by_jobs<R: Threads + Sync, G: Gate>(
     crew: &Crew<'_, R, G>,
     alloc: Global,
     table: &TermTable,
-    dues: &[Due],
-    known: &[bool],
-    owners: &[Option<u64>],
+    round: &Round<'_>,
     choice: &TemplateChoice,
-    reach: Reach,
     shares: u64,
 ) -> Result<Marks, AllocError>
-    requires ready { AreDuesReady (sorts_in table.now) (trees_in table.now) dues.now }
-    requires known { AreKnown table.now reach dues.now known.now }
+    requires ready { AreDuesReady (sorts_in table.now) (trees_in table.now) round.now.dues.now }
+    requires known { AreKnown table.now round.now.reach round.now.dues.now round.now.known.now }
     requires some { 0 < shares }
     requires few { shares ≤ 64 }
     ensures { let sorts = sorts_in table.now in let trees = trees_in table.now in
-        IfOk result (λ ms. rows ms.sites.items ≡ all_marked (holds_at (closing sorts reach)
-        (owner_in owners.now) (dues_in sorts trees dues.now)) 0 (choice_in choice.now)) }
+        IfOk result (λ ms. rows ms.sites.items ≡ all_marked (holds_at (closing sorts round.now.reach)
+        (owner_in round.now.owners.now) (dues_in sorts trees round.now.dues.now)) 0
+        (choice_in choice.now)) }
 {
-    let dealt = job_numbers(alloc, owners, dues, shares)?;
+    let dealt = job_numbers(alloc, round.owners, round.dues, shares)?;
     let numbers = dealt.as_slice();
     let job = RoundGoals {
         table,
-        dues,
-        known,
+        dues: round.dues,
+        known: round.known,
         numbers,
-        owners,
+        owners: round.owners,
         choice,
-        reach,
+        reach: round.reach,
         shares,
     };
     let parts = run_jobs(
@@ -158,9 +142,7 @@ fn marks_by_jobs<R: Threads + Sync, G: Gate>(
         crew.workers,
     )?;
     let marks = all_shares(alloc, &parts, choice)?;
-    marks_by_nodes(
-        crew, alloc, table, dues, known, numbers, owners, &marks, reach, shares,
-    )
+    marks_by_nodes(crew, alloc, table, round, numbers, &marks, shares)
 }
 
 // The marks of all shares.
@@ -236,18 +218,17 @@ impl Job for RoundGoals<'_> {
     fn run(&self, alloc: Global, index: u64) -> Result<Marks, AllocError> {
         let mut table = self.table.copy(alloc)?;
         let mut marks = share_marks(alloc, self.choice, index, self.shares)?;
-        judge_all(
-            alloc,
-            &mut table,
-            self.dues,
-            self.known,
-            self.numbers,
-            self.shares,
-            None,
-            self.owners,
-            &mut marks,
-            self.reach,
-        )?;
+        let round = Round {
+            dues: self.dues,
+            known: self.known,
+            owners: self.owners,
+            reach: self.reach,
+        };
+        let nodes = Nodes::Shared {
+            numbers: self.numbers,
+            jobs: self.shares,
+        };
+        judge_all(alloc, &mut table, &round, &nodes, &mut marks)?;
         Ok(marks)
     }
 }

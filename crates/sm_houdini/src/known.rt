@@ -7,7 +7,7 @@ ghost use Rattle.sm_expand.specs.Views.{due_in};
 ghost use Rattle.sm_list.specs.Parts.{all_numbered};
 ghost use Rattle.sm_solve.specs.declared.reach.Reach.{Reach};
 ghost use Rattle.sm_houdini.specs.Closing.{closes_at};
-ghost use Rattle.sm_houdini.specs.Known.{IsAsked, IsAskedBefore, AreKnown, is_flagged};
+ghost use Rattle.sm_houdini.specs.Known.{IsAsked, IsAskedBefore, AreKnown, ClosesAll, is_flagged};
 ghost use Rattle.sm_houdini.specs.Marks.{is_there};
 
 use crate::asked::Asked;
@@ -67,8 +67,7 @@ fn is_asked_again(due: &Due, before: &Due, marks: &[Marked]) -> bool
     ensures { (v : TableValue) (reach : Reach) →
         ((j : ℕ) → is_there (slice_get marks.now j) ≡ true →
         closes_at (sorts_in v) reach (due_in (sorts_in v) (trees_in v) before.now) j ≡ true) →
-        result ≡ true → (i : ℕ) →
-        closes_at (sorts_in v) reach (due_in (sorts_in v) (trees_in v) due.now) i ≡ true }
+        result ≡ true → ClosesAll v reach due.now }
 {
     if !are_same(&due.facts.list, &before.facts.list) {
         return false;
@@ -79,8 +78,7 @@ fn is_asked_again(due: &Due, before: &Due, marks: &[Marked]) -> bool
 // Whether all goals of what a node asks are known to close from the round before.
 fn is_known(due: &Due, at: usize, before: &Asked, owners: &[Option<u64>]) -> bool
     ensures { (v : TableValue) (reach : Reach) → IsAsked v reach owners.now before.now →
-        result ≡ true → (i : ℕ) →
-        closes_at (sorts_in v) reach (due_in (sorts_in v) (trees_in v) due.now) i ≡ true }
+        result ≡ true → ClosesAll v reach due.now }
 {
     let old = match before.dues.get(at) {
         Some(old) => old,

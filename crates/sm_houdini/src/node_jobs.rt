@@ -8,10 +8,10 @@ ghost use Rattle.sm_houdini.specs.Closing.{closing, owner_in};
 ghost use Rattle.sm_houdini.specs.Known.{AreKnown};
 ghost use Rattle.sm_houdini.specs.Marks.{all_marked, rows};
 ghost use Rattle.sm_houdini.specs.NodeJobs.{NodeGoalsValue, TellsNodes, all_below, holds_but};
-ghost use Rattle.sm_houdini.specs.NodeJobs.{is_left_out, number_at};
+ghost use Rattle.sm_houdini.specs.NodeJobs.{is_left_out, leaves_out, number_at};
 
 use crate::goal_jobs::Crew;
-use crate::judging::judge_all;
+use crate::judging::{Round, judge_all};
 use crate::marks::{Join, Marks, copied, joined_marks};
 use crate::owners::owner;
 use sm_expand::Due;
@@ -22,37 +22,53 @@ use std::alloc::{AllocError, Global};
 use std::marker::Model;
 use std::thread::Threads;
 
+// The nodes of a round that are judged. Where there are jobs, each node has the number of the one
+// that it is dealt to, or any other number where they share it.
+#[derive(Drop)]
+pub(crate) enum Nodes<'n> {
+    // All nodes.
+    Every,
+    // Those that jobs share.
+    Shared {
+        numbers: &'n [u64],
+        jobs: u64,
+    },
+    // Those that are dealt to a job.
+    OfJob {
+        numbers: &'n [u64],
+        jobs: u64,
+        job: u64,
+    },
+}
+
 /// Takes marks away from the templates one of whose goals doesn't close at a node that is dealt to
 /// one of so many jobs of the phase Obligation. Each of them has a copy of the table.
 pub(crate) fn marks_by_nodes<R: Threads + Sync, G: Gate>(
     crew: &Crew<'_, R, G>,
     alloc: Global,
     table: &TermTable,
-    dues: &[Due],
-    known: &[bool],
+    round: &Round<'_>,
     numbers: &[u64],
-    owners: &[Option<u64>],
     marks: &Marks,
-    reach: Reach,
     jobs: u64,
 ) -> Result<Marks, AllocError>
-    requires ready { AreDuesReady (sorts_in table.now) (trees_in table.now) dues.now }
-    requires known { AreKnown table.now reach dues.now known.now }
+    requires ready { AreDuesReady (sorts_in table.now) (trees_in table.now) round.now.dues.now }
+    requires known { AreKnown table.now round.now.reach round.now.dues.now round.now.known.now }
     ensures { let sorts = sorts_in table.now in let trees = trees_in table.now in
         (passes : ℕ → ℕ → Bool) (choice : Choice) →
         rows marks.now.sites.items ≡ all_marked passes 0 choice → IfOk result (λ ms.
         rows ms.sites.items ≡ all_marked (λ s i. passes s i
-        && holds_but (λ n. not (is_left_out numbers.now jobs None n)) (closing sorts reach)
-        (owner_in owners.now) 0 (dues_in sorts trees dues.now) s i) 0 choice) }
+        && holds_but (λ n. not (is_left_out numbers.now jobs None n)) (closing sorts round.now.reach)
+        (owner_in round.now.owners.now) 0 (dues_in sorts trees round.now.dues.now) s i) 0 choice) }
 {
     let job = NodeGoals {
         table,
-        dues,
-        known,
+        dues: round.dues,
+        known: round.known,
         numbers,
-        owners,
+        owners: round.owners,
         marks,
-        reach,
+        reach: round.reach,
         jobs,
     };
     let parts = run_jobs(
@@ -96,13 +112,13 @@ fn number_at(numbers: &[u64], jobs: u64, node: usize) -> u64
 
 /// Whether a node is left out: by a job all that aren't dealt to it, and where jobs share nodes, all
 /// that are dealt.
-pub(crate) fn is_left_out(numbers: &[u64], jobs: u64, job: Option<u64>, node: usize) -> bool
-    ensures { result ≡ is_left_out numbers.now jobs job node }
+pub(crate) fn is_left_out(nodes: &Nodes<'_>, node: usize) -> bool
+    ensures { result ≡ leaves_out nodes.now node }
 {
-    let number = number_at(numbers, jobs, node);
-    match job {
-        Some(job) => number != job,
-        None => number < jobs,
+    match nodes {
+        Nodes::Every => false,
+        Nodes::Shared { numbers, jobs } => number_at(numbers, *jobs, node) < *jobs,
+        Nodes::OfJob { numbers, jobs, job } => number_at(numbers, *jobs, node) != *job,
     }
 }
 
@@ -218,18 +234,18 @@ impl Job for NodeGoals<'_> {
     fn run(&self, alloc: Global, index: u64) -> Result<Marks, AllocError> {
         let mut table = self.table.copy(alloc)?;
         let mut marks = copied(alloc, self.marks)?;
-        judge_all(
-            alloc,
-            &mut table,
-            self.dues,
-            self.known,
-            self.numbers,
-            self.jobs,
-            Some(index),
-            self.owners,
-            &mut marks,
-            self.reach,
-        )?;
+        let round = Round {
+            dues: self.dues,
+            known: self.known,
+            owners: self.owners,
+            reach: self.reach,
+        };
+        let nodes = Nodes::OfJob {
+            numbers: self.numbers,
+            jobs: self.jobs,
+            job: index,
+        };
+        judge_all(alloc, &mut table, &round, &nodes, &mut marks)?;
         Ok(marks)
     }
 }

@@ -13,6 +13,7 @@ use crate::asked::{Asked, for_next};
 use crate::choosing::total;
 use crate::dues::dues_of;
 use crate::goal_jobs::{Crew, marks_after};
+use crate::judging::Round;
 use crate::known::known_dues;
 use crate::marks::kept_choice;
 use crate::product::Product;
@@ -48,7 +49,13 @@ fn next_round<R: Threads + Sync, G: Gate>(
     let dues = dues_of(alloc, table, task, product, choice)?.list;
     let owners = product.owners.as_slice();
     let known = known_dues(alloc, before, owners, &dues)?;
-    let marks = marks_after(crew, alloc, table, &dues, &known, owners, choice, reach)?;
+    let round = Round {
+        dues: &dues,
+        known: &known,
+        owners,
+        reach,
+    };
+    let marks = marks_after(crew, alloc, table, &round, choice)?;
     let next = kept_choice(alloc, &marks)?;
     *before = for_next(dues, marks);
     Ok(next)

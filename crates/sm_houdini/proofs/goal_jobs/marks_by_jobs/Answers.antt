@@ -16,15 +16,16 @@ run_jobs-requires-sync-J g c κs within = search (table_sync, due_sync, sendable
 pub returns : goal.returns
 returns g c =
     let a = c.args in
+    let r = a.round.now in
     let v : RoundGoalsValue =
     record {
       table = a.table.now;
-      dues = a.dues.now;
-      known = a.known.now;
+      dues = r.dues.now;
+      known = r.known.now;
       numbers = c.as_slice-numbers.result.now;
-      owners = a.owners.now;
+      owners = r.owners.now;
       choice = a.choice.now;
-      reach = a.reach;
+      reach = r.reach;
       shares = a.shares;
     } in
     let passes = holds_at_shared v in

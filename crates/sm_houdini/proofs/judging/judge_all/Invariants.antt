@@ -6,16 +6,16 @@ use Rattle.sm_expand.specs.Views.{dues_in}
 use Rattle.sm_sketch.specs.Choices.{Choice}
 use Rattle.sm_houdini.specs.Closing.{closing, owner_in}
 use Rattle.sm_houdini.specs.Marks.{all_marked, rows}
-use Rattle.sm_houdini.specs.NodeJobs.{holds_but, is_left_out}
+use Rattle.sm_houdini.specs.NodeJobs.{holds_but, leaves_out}
 use Rattle.sm_houdini.proofs.judging.judge_all.Given as goal
 
 abbrev pub invariant-loop-left : goal.invariant-loop-left
 invariant-loop-left l = record {
   marks : (passes : ℕ → ℕ → Bool) (choice : Choice) → rows l.initial.marks.sites.items ≡ all_marked passes 0 choice →
       rows l.marks.sites.items
-      ≡ all_marked (λ s i. passes s i && holds_but (is_left_out l.numbers l.jobs l.job) (closing (sorts_in l.initial.table) l.reach)
-      (owner_in l.owners) l.left (drop l.left (dues_in (sorts_in l.initial.table) (trees_in l.initial.table) l.dues)) s i) 0 choice;
-  fits : l.left ≤ length l.dues;
+      ≡ all_marked (λ s i. passes s i && holds_but (leaves_out l.nodes) (closing (sorts_in l.initial.table) l.round.reach)
+      (owner_in l.round.owners.now) l.left (drop l.left (dues_in (sorts_in l.initial.table) (trees_in l.initial.table) l.round.dues.now)) s i) 0 choice;
+  fits : l.left ≤ length l.round.dues.now;
   widens : ExtendsTable l.initial.table l.table;
 }
 

@@ -10,7 +10,7 @@ use Rattle.sm_houdini.proofs.judging.judge_unless.Goals as goal
 
 pub returns-then-is_left-clause-judged : goal.returns-then-is_left-clause-judged
 returns-then-is_left-clause-judged c = λ passes choice e.
-    let stays = stays_at (sorts_in c.args.table.now) c.args.reach (owner_in c.args.owners.now)
+    let stays = stays_at (sorts_in c.args.table.now) c.args.round.now.reach (owner_in c.args.round.now.owners.now)
     (due_in (sorts_in c.args.table.now) (trees_in c.args.table.now) c.args.due.now) in
     e
     ∙ all_same passes (λ (s i : ℕ). passes s i && (c.args.is_left || stays s i)) 0 choice
@@ -19,7 +19,7 @@ returns-then-is_left-clause-judged c = λ passes choice e.
 
 pub returns-clause-judged : goal.returns-clause-judged
 returns-clause-judged c = λ passes choice e.
-    let stays = stays_at (sorts_in c.args.table.now) c.args.reach (owner_in c.args.owners.now)
+    let stays = stays_at (sorts_in c.args.table.now) c.args.round.now.reach (owner_in c.args.round.now.owners.now)
     (due_in (sorts_in c.args.table.now) (trees_in c.args.table.now) c.args.due.now) in
     subst (λ (b : Bool). OnOk c.judge.result (rows c.judge.new.marks.sites.items ≡ all_marked (λ (s i : ℕ). passes s i && (b || stays s i)) 0 choice))
     (sym c.if-is_left.false) (c.judge.ensures.judged passes choice e)

@@ -12,7 +12,7 @@ use Rattle.sm_houdini.proofs.KnownLemmas.{asked_closes}
 use Rattle.sm_houdini.proofs.known.is_known.Goals as goal
 
 pub returns-in-Some-get : goal.returns-in-Some-get
-returns-in-Some-get c = λ v reach asked is i.
+returns-in-Some-get c = λ v reach asked is.
     let old = c.in-Some.old.now in
     let m = c.in-Some-get.marks.now in
     let there : slice_get c.args.before.now.dues.items c.args.at ≡ Some old =
@@ -30,4 +30,4 @@ returns-in-Some-get c = λ v reach asked is i.
     (λ j marked.
     asked_closes v reach c.args.owners.now c.args.before.now c.args.at old c.in-Some-owner.site m asked there owned row j
     (ap (λ (ms : List Marked). is_there (slice_get ms j)) (sym c.deref-in-Some-get.ensures.value) ∙ marked))
-    is i
+    is

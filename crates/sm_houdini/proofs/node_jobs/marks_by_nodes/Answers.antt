@@ -16,15 +16,16 @@ run_jobs-requires-sync-J g c κs within = search (table_sync, due_sync, sendable
 pub returns : goal.returns
 returns g c = λ passes choice e.
     let a = c.args in
+    let r = a.round.now in
     let v : NodeGoalsValue =
     record {
       table = a.table.now;
-      dues = a.dues.now;
-      known = a.known.now;
+      dues = r.dues.now;
+      known = r.known.now;
       numbers = a.numbers.now;
-      owners = a.owners.now;
+      owners = r.owners.now;
       marks = a.marks.now;
-      reach = a.reach;
+      reach = r.reach;
       jobs = a.jobs;
     } in
     let told = λ (k s i : ℕ). passes s i && holds_in_job v (Some k) s i in
