@@ -5,7 +5,8 @@ ghost use Rattle.sm_term.specs.Tables.{trees_in};
 ghost use Rattle.sm_theory.specs.Views.{IsLineWithin};
 ghost use Rattle.sm_cert.specs.Views.{lines_of, AreLinesWithin};
 
-use crate::fact::fact_words;
+use crate::fact::put_fact;
+use crate::printed::Printed;
 use crate::refusal::Refusal;
 use crate::scene::Scene;
 use crate::word::two;
@@ -16,19 +17,35 @@ use sm_lia::Lia;
 use sm_proof::{Line, line_from};
 use sm_rows::Rows;
 use sm_theory::{CertLine, Fact, Theory};
-use std::alloc::{AllocError, Global};
+use std::alloc::Global;
 
-/// Which theory adds a fact for the line of words, and the fact, which is put on the branch.
-pub fn line_answer(alloc: Global, scene: &mut Scene, text: &str) -> Result<String, Refusal> {
+/// Prints which theory adds a fact for the line of words, and the fact, which is put on the branch.
+pub fn line_answer(
+    alloc: Global,
+    scene: &mut Scene,
+    text: &str,
+    out: &mut Printed,
+) -> Result<(), Refusal> {
     let line = read_line(alloc, text)?;
-    match added(alloc, scene, &line)? {
+    put_added(alloc, scene, &line, out)
+}
+
+// Prints what the first theory that adds a fact adds, behind its name.
+fn put_added(
+    alloc: Global,
+    scene: &mut Scene,
+    line: &CertLine,
+    out: &mut Printed,
+) -> Result<(), Refusal> {
+    match added(alloc, scene, line)? {
         Some((theory, fact)) => {
-            let text = format!(in alloc; "{theory} {}", fact_words(alloc, &fact)?)?;
+            write!(out, "{theory} ");
+            put_fact(out, &fact);
             scene.branch.list.push(fact)?;
-            Ok(text)
         }
-        None => Ok(String::from_str(alloc, "none")?),
+        None => out.put("none"),
     }
+    Ok(())
 }
 
 // What the first theory that adds a fact adds, with its name.
@@ -81,14 +98,24 @@ fn is_line_within(scene: &Scene, line: &CertLine) -> bool
     }
 }
 
-/// Whether the certificate of a text closes the branch. Its lines stand in preorder, with `;`
+/// Prints whether the certificate of a text closes the branch. Its lines stand in preorder, with `;`
 /// between them; before each stands what it does: `add`, `end` or `split`.
-pub fn tree_answer(alloc: Global, scene: &Scene, text: &str) -> Result<String, Refusal> {
-    verdict(alloc, scene, &read_tree(alloc, text)?)
+pub fn tree_answer(
+    alloc: Global,
+    scene: &Scene,
+    text: &str,
+    out: &mut Printed,
+) -> Result<(), Refusal> {
+    verdict(alloc, scene, &read_tree(alloc, text)?, out)
 }
 
-/// Whether a certificate closes the branch, or why it doesn't.
-pub fn verdict(alloc: Global, scene: &Scene, tree: &CertTree) -> Result<String, Refusal> {
+/// Prints whether a certificate closes the branch, or why it doesn't.
+pub fn verdict(
+    alloc: Global,
+    scene: &Scene,
+    tree: &CertTree,
+    out: &mut Printed,
+) -> Result<(), Refusal> {
     if !is_tree_within(scene, tree) {
         return Err(Refusal::Bad);
     }
@@ -102,11 +129,12 @@ pub fn verdict(alloc: Global, scene: &Scene, tree: &CertTree) -> Result<String, 
         &scene.branch,
         tree,
     ) {
-        Ok(()) => Ok(String::from_str(alloc, "closed")?),
-        Err(CertFault::Wrong { line }) => Ok(format!(in alloc; "wrong {line}")?),
-        Err(CertFault::Deep) => Ok(String::from_str(alloc, "deep")?),
-        Err(CertFault::Memory) => Err(Refusal::Memory),
+        Ok(()) => out.put("closed"),
+        Err(CertFault::Wrong { line }) => write!(out, "wrong {line}"),
+        Err(CertFault::Deep) => out.put("deep"),
+        Err(CertFault::Memory) => return Err(Refusal::Memory),
     }
+    Ok(())
 }
 
 // Whether the terms that a certificate names are in the table.
@@ -147,38 +175,45 @@ fn are_lines_within(scene: &Scene, lines: &[CertLine]) -> bool
 fn read_tree(alloc: Global, text: &str) -> Result<CertTree, Refusal> {
     let mut trees = Vec::new(alloc);
     for piece in text.rsplit(';') {
-        let (mark, line) = two(piece.trim())?;
-        put_line(alloc, &mut trees, mark, read_line(alloc, line)?)?;
+        put_line(alloc, &mut trees, piece.trim())?;
     }
-    let tree = next_tree(&mut trees)?;
-    if !trees.is_empty() {
+    if trees.len() != 1 {
         return Err(Refusal::Bad);
     }
-    Ok(tree)
+    next_tree(&mut trees)
 }
 
-// Puts a line before the certificates that stand behind it, of which the next is the last.
-fn put_line(
-    alloc: Global,
-    trees: &mut Vec<CertTree>,
-    mark: &str,
-    line: CertLine,
-) -> Result<(), Refusal> {
-    let tree = match mark {
-        "add" => {
-            let mut tree = next_tree(trees)?;
-            tree.lines.list.insert(0, line)?;
-            tree
-        }
-        "split" => {
-            let first = next_tree(trees)?;
-            split(alloc, line, first, next_tree(trees)?)?
-        }
-        "end" => closed(alloc, line),
-        _ => return Err(Refusal::Bad),
-    };
-    trees.push(tree)?;
-    Ok(())
+// Puts the line of words before the certificates that stand behind it, of which the next is the
+// last.
+fn put_line(alloc: Global, trees: &mut Vec<CertTree>, text: &str) -> Result<(), Refusal> {
+    let (mark, words) = two(text)?;
+    let line = read_line(alloc, words)?;
+    match mark {
+        "add" => put_first(trees, line),
+        "split" => put_split(alloc, trees, line),
+        "end" => Ok(trees.push(closed(alloc, line))?),
+        _ => Err(Refusal::Bad),
+    }
+}
+
+// Puts a line that adds facts before the next certificate.
+fn put_first(trees: &mut Vec<CertTree>, line: CertLine) -> Result<(), Refusal> {
+    match trees.last_mut() {
+        Some(tree) => Ok(tree.lines.list.insert(0, line)?),
+        None => Err(Refusal::Bad),
+    }
+}
+
+// Puts a line that splits the branch before the next two certificates.
+fn put_split(alloc: Global, trees: &mut Vec<CertTree>, line: CertLine) -> Result<(), Refusal> {
+    let first = boxed_next(alloc, trees)?;
+    let second = boxed_next(alloc, trees)?;
+    Ok(trees.push(split(alloc, line, first, second))?)
+}
+
+// The certificate that stands next, in a box.
+fn boxed_next(alloc: Global, trees: &mut Vec<CertTree>) -> Result<Box<CertTree>, Refusal> {
+    Ok(Box::new(alloc, next_tree(trees)?)?)
 }
 
 // The certificate that stands next.
@@ -199,27 +234,21 @@ fn read_line(alloc: Global, text: &str) -> Result<CertLine, Refusal> {
 
 /// A line that closes the branch.
 pub fn closed(alloc: Global, line: CertLine) -> CertTree {
-    CertTree {
-        lines: CertLines {
-            list: Vec::new(alloc),
-        },
-        last: CertEnd::Close(line),
-    }
+    ended(Vec::new(alloc), CertEnd::Close(line))
 }
 
 /// A line that splits the branch, with a certificate for either part.
 pub fn split(
     alloc: Global,
     line: CertLine,
-    first: CertTree,
-    second: CertTree,
-) -> Result<CertTree, AllocError> {
-    let first = Box::new(alloc, first)?;
-    let second = Box::new(alloc, second)?;
-    Ok(CertTree {
-        lines: CertLines {
-            list: Vec::new(alloc),
-        },
-        last: CertEnd::Split(line, first, second),
-    })
+    first: Box<CertTree>,
+    second: Box<CertTree>,
+) -> CertTree {
+    ended(Vec::new(alloc), CertEnd::Split(line, first, second))
+}
+
+/// Lines, and how the branch ends behind them.
+pub fn ended(list: Vec<CertLine>, last: CertEnd) -> CertTree {
+    let lines = CertLines { list };
+    CertTree { lines, last }
 }

@@ -3,6 +3,7 @@ use crate::certificate::{line_answer, tree_answer};
 use crate::fact::{fact_answer, negate_answer, show_answer};
 use crate::files::file_answer;
 use crate::form::{decide_answer, form_answer};
+use crate::printed::Printed;
 use crate::refusal::Refusal;
 use crate::scene::{Scene, read_names};
 use crate::sizes::sized_answer;
@@ -12,104 +13,136 @@ use crate::tasks::{fill_answer, proof_answer, sites_answer};
 use crate::term::{adopt_answer, get_answer, sort_answer, term_answer};
 use crate::texts::{block_answer, first_answer, head_answer, names_answer, program_answer};
 use crate::word::{natural, two, whole};
-use anyhow::Result;
 use sm_io::FileShelf;
 use sm_num::{add, mul, sub};
-use std::alloc::{AllocError, Global};
+use std::alloc::Global;
 use std::rt::Files;
 
-/// What is printed for a command.
+/// Prints a line that is no command as it is, and else what the command answers.
 pub fn answer<R: Files + AllocGlobal>(
     rt: &R,
     shelf: &mut FileShelf<'_, R>,
     scene: &mut Scene,
     line: &str,
-) -> Result<String> {
+    out: &mut Printed,
+) -> Result<(), Refusal> {
+    if line.is_empty() || line.starts_with('#') {
+        out.put(line);
+        return Ok(());
+    }
     let (word, text) = line.split_once(' ').unwrap_or((line, ""));
-    let alloc = rt.alloc();
     match word {
-        "file" => file_answer(rt, shelf, text),
-        "program" => program_answer(alloc, text),
-        "head" => head_answer(alloc, text),
-        "block" => block_answer(alloc, text),
-        "names" => names_answer(alloc, text),
-        "first" => first_answer(alloc, text),
-        "fill" => fill_answer(alloc, text),
-        "sites" => sites_answer(alloc, text),
-        "proof" => proof_answer(alloc, text),
-        _ => Ok(table_answer(alloc, scene, word, text)?),
+        "file" => file_answer(rt, shelf, text, out),
+        _ => text_answer(rt.alloc(), scene, word, text, out),
     }
 }
 
-// What is printed for a command on the table.
+// Prints what a command on a text answers.
+fn text_answer(
+    alloc: Global,
+    scene: &mut Scene,
+    word: &str,
+    text: &str,
+    out: &mut Printed,
+) -> Result<(), Refusal> {
+    match word {
+        "program" => program_answer(alloc, text, out),
+        "head" => head_answer(alloc, text, out),
+        "block" => block_answer(alloc, text, out),
+        "names" => names_answer(alloc, text, out),
+        "first" => first_answer(alloc, text, out),
+        "fill" => fill_answer(alloc, text, out),
+        "sites" => sites_answer(alloc, text, out),
+        "proof" => proof_answer(alloc, text, out),
+        _ => table_answer(alloc, scene, word, text, out),
+    }
+}
+
+// Prints what a command on the table answers.
 fn table_answer(
     alloc: Global,
     scene: &mut Scene,
     word: &str,
     text: &str,
-) -> Result<String, Refusal> {
+    out: &mut Printed,
+) -> Result<(), Refusal> {
     match word {
-        "table" => {
-            *scene = Scene::new(alloc, read_names(alloc, text)?)?;
-            Ok(String::from_str(alloc, "table")?)
-        }
+        "table" => begin_anew(alloc, scene, text, out),
         "copy" => {
             scene.copy_table(alloc)?;
-            len_answer(alloc, scene)
+            put_len(scene, out);
+            Ok(())
         }
         "cut" => {
             scene.cut(natural(text)?)?;
-            len_answer(alloc, scene)
+            put_len(scene, out);
+            Ok(())
         }
-        "len" => len_answer(alloc, scene),
-        "t" => term_answer(alloc, scene, text),
-        "get" => get_answer(alloc, scene, text),
-        "sort" => sort_answer(alloc, scene, text),
-        "adopt" => adopt_answer(alloc, scene, text),
-        "expr" => expression_answer(alloc, scene, text),
-        "cond" => condition_answer(alloc, scene, text),
-        _ => branch_answer(alloc, scene, word, text),
+        "len" => {
+            put_len(scene, out);
+            Ok(())
+        }
+        "t" => term_answer(alloc, scene, text, out),
+        "get" => get_answer(scene, text, out),
+        "sort" => sort_answer(scene, text, out),
+        "adopt" => adopt_answer(alloc, scene, text, out),
+        "expr" => expression_answer(alloc, scene, text, out),
+        "cond" => condition_answer(alloc, scene, text, out),
+        _ => branch_answer(alloc, scene, word, text, out),
     }
 }
 
-// How many terms the table has.
-fn len_answer(alloc: Global, scene: &Scene) -> Result<String, Refusal> {
-    Ok(format!(in alloc; "{}", scene.table.len())?)
+// Begins anew, with names by their sorts.
+fn begin_anew(
+    alloc: Global,
+    scene: &mut Scene,
+    sorts: &str,
+    out: &mut Printed,
+) -> Result<(), Refusal> {
+    *scene = Scene::new(alloc, read_names(alloc, sorts)?)?;
+    out.put("table");
+    Ok(())
 }
 
-// What is printed for a command on the branch.
+// Prints how many terms the table has.
+fn put_len(scene: &Scene, out: &mut Printed) {
+    write!(out, "{}", scene.table.len());
+}
+
+// Prints what a command on the branch answers.
 fn branch_answer(
     alloc: Global,
     scene: &mut Scene,
     word: &str,
     text: &str,
-) -> Result<String, Refusal> {
+    out: &mut Printed,
+) -> Result<(), Refusal> {
     match word {
-        "fact" => fact_answer(alloc, scene, text),
-        "negate" => negate_answer(alloc, scene, text),
-        "show" => show_answer(alloc, scene, text),
-        "line" => line_answer(alloc, scene, text),
-        "tree" => tree_answer(alloc, scene, text),
-        "solve" => solve_answer(alloc, scene, text, false),
-        "exactly" => solve_answer(alloc, scene, text, true),
+        "fact" => fact_answer(alloc, scene, text, out),
+        "negate" => negate_answer(alloc, scene, text, out),
+        "show" => show_answer(scene, text, out),
+        "line" => line_answer(alloc, scene, text, out),
+        "tree" => tree_answer(alloc, scene, text, out),
+        "solve" => solve_answer(alloc, scene, text, false, out),
+        "exactly" => solve_answer(alloc, scene, text, true, out),
         "intern" | "chain" | "sums" | "balanced" | "left" | "right" => {
-            sized_answer(alloc, scene, word, text)
+            sized_answer(alloc, scene, word, text, out)
         }
-        _ => number_answer(alloc, word, text),
+        _ => number_answer(alloc, word, text, out),
     }
 }
 
-// What is printed for a command on numbers or forms.
-fn number_answer(alloc: Global, word: &str, text: &str) -> Result<String, Refusal> {
+// Prints what a command on numbers or forms answers.
+fn number_answer(alloc: Global, word: &str, text: &str, out: &mut Printed) -> Result<(), Refusal> {
     match word {
-        "decide" => decide_answer(alloc, text),
-        "add" | "sub" | "mul" => computed(alloc, word, text),
-        _ => form_answer(alloc, word, text),
+        "decide" => decide_answer(alloc, text, out),
+        "add" | "sub" | "mul" => put_computed(out, word, text),
+        _ => form_answer(alloc, word, text, out),
     }
 }
 
-// What an operation gives of two numbers, `none` where that lies outside 128 bits.
-fn computed(alloc: Global, word: &str, text: &str) -> Result<String, Refusal> {
+// Prints what an operation gives of two numbers, `none` where that lies outside 128 bits.
+fn put_computed(out: &mut Printed, word: &str, text: &str) -> Result<(), Refusal> {
     let (a, b) = two(text)?;
     let (a, b) = (whole(a)?, whole(b)?);
     let z = match word {
@@ -117,13 +150,9 @@ fn computed(alloc: Global, word: &str, text: &str) -> Result<String, Refusal> {
         "sub" => sub(a, b),
         _ => mul(a, b),
     };
-    Ok(number_words(alloc, z)?)
-}
-
-// A number, or `none`.
-fn number_words(alloc: Global, z: Option<i128>) -> Result<String, AllocError> {
     match z {
-        Some(z) => Ok(format!(in alloc; "{z}")?),
-        None => Ok(String::from_str(alloc, "none")?),
+        Some(z) => write!(out, "{z}"),
+        None => out.put("none"),
     }
+    Ok(())
 }

@@ -1,23 +1,28 @@
 // Facts as words.
-use crate::form::form_words;
+use crate::form::put_form;
+use crate::printed::Printed;
 use crate::refusal::Refusal;
 use crate::scene::Scene;
 use crate::solving::fits;
-use crate::word::{natural, two, with_numbers};
+use crate::word::{natural, two};
 use sm_proof::{FormLine, Line, line_from};
 use sm_term::{Formula, TermId, copy_formula, negate};
-use sm_theory::{Fact, fact_at, formula_at};
-use std::alloc::{AllocError, Global};
+use sm_theory::{Branch, Fact, fact_at, formula_at};
+use std::alloc::Global;
 
-/// The number of the fact of words, which is put on the branch.
-pub fn fact_answer(alloc: Global, scene: &mut Scene, text: &str) -> Result<String, Refusal> {
+/// Prints the number of the fact of words, which is put on the branch.
+pub fn fact_answer(
+    alloc: Global,
+    scene: &mut Scene,
+    text: &str,
+    out: &mut Printed,
+) -> Result<(), Refusal> {
+    write!(out, "{}", scene.branch.list.len());
     let f = read_formula(alloc, text)?;
     if !fits(scene, &f) {
         return Err(Refusal::Bad);
     }
-    let number = scene.branch.list.len();
-    scene.branch.list.push(Fact::Form(f))?;
-    Ok(format!(in alloc; "{number}")?)
+    Ok(scene.branch.list.push(Fact::Form(f))?)
 }
 
 /// The formula of words: a comparison, or two with a comma between them.
@@ -31,8 +36,8 @@ pub fn read_formula(alloc: Global, text: &str) -> Result<Formula, Refusal> {
 // The conjunction or the disjunction of two comparisons.
 fn read_pair(alloc: Global, first: &str, second: &str) -> Result<Formula, Refusal> {
     let (word, first) = two(first)?;
-    let p = Box::new(alloc, read_comparison(alloc, first)?)?;
-    let q = Box::new(alloc, read_comparison(alloc, second)?)?;
+    let p = boxed_comparison(alloc, first)?;
+    let q = boxed_comparison(alloc, second)?;
     match word {
         "and" => Ok(Formula::And(p, q)),
         "or" => Ok(Formula::Or(p, q)),
@@ -40,9 +45,15 @@ fn read_pair(alloc: Global, first: &str, second: &str) -> Result<Formula, Refusa
     }
 }
 
-// The formula of words that are those of a line of a proof file.
+// A part of a conjunction or a disjunction.
+fn boxed_comparison(alloc: Global, text: &str) -> Result<Box<Formula>, Refusal> {
+    Ok(Box::new(alloc, read_comparison(alloc, text)?)?)
+}
+
+// The comparison of words that are those of a line of a proof file.
 fn read_comparison(alloc: Global, text: &str) -> Result<Formula, Refusal> {
-    match line_from(alloc, format!(in alloc; "p {text}")?.as_bytes())? {
+    let words = format!(in alloc; "p {text}")?;
+    match line_from(alloc, words.as_bytes())? {
         Line::Form(line) => comparison(line),
         _ => Err(Refusal::Bad),
     }
@@ -61,62 +72,70 @@ fn comparison(line: FormLine) -> Result<Formula, Refusal> {
     }
 }
 
-/// Puts the contrary of a fact on the branch.
-pub fn negate_answer(alloc: Global, scene: &mut Scene, word: &str) -> Result<String, Refusal> {
-    let Some(f) = formula_at(&scene.branch, natural(word)?) else {
-        return Err(Refusal::Bad);
-    };
-    let g = negate(alloc, &copy_formula(alloc, f)?)?;
-    let text = formula_words(alloc, &g)?;
-    scene.branch.list.push(Fact::Form(g))?;
-    Ok(text)
+/// Prints the contrary of a fact, and puts it on the branch.
+pub fn negate_answer(
+    alloc: Global,
+    scene: &mut Scene,
+    word: &str,
+    out: &mut Printed,
+) -> Result<(), Refusal> {
+    let g = contrary_at(alloc, &scene.branch, natural(word)?)?;
+    put_on(&mut scene.branch, g, out)
 }
 
-/// The words of a fact of the branch.
-pub fn show_answer(alloc: Global, scene: &Scene, word: &str) -> Result<String, Refusal> {
-    match fact_at(&scene.branch, natural(word)?) {
-        Some(f) => Ok(fact_words(alloc, f)?),
+// The contrary of the formula at a place of the branch.
+fn contrary_at(alloc: Global, branch: &Branch, place: u64) -> Result<Formula, Refusal> {
+    match formula_at(branch, place) {
+        Some(f) => Ok(negate(alloc, &copy_formula(alloc, f)?)?),
         None => Err(Refusal::Bad),
     }
 }
 
-/// The words of a fact.
-pub fn fact_words(alloc: Global, f: &Fact) -> Result<String, AllocError> {
-    match f {
-        Fact::Form(f) => formula_words(alloc, f),
-        Fact::Lin(f) => form_words(alloc, f),
+/// Prints a formula, and puts it on the branch.
+pub fn put_on(branch: &mut Branch, f: Formula, out: &mut Printed) -> Result<(), Refusal> {
+    put_formula(out, &f);
+    Ok(branch.list.push(Fact::Form(f))?)
+}
+
+/// Prints a fact of the branch.
+pub fn show_answer(scene: &Scene, word: &str, out: &mut Printed) -> Result<(), Refusal> {
+    match fact_at(&scene.branch, natural(word)?) {
+        Some(f) => {
+            put_fact(out, f);
+            Ok(())
+        }
+        None => Err(Refusal::Bad),
     }
 }
 
-/// The words of a formula.
-pub fn formula_words(alloc: Global, f: &Formula) -> Result<String, AllocError> {
+/// Prints a fact.
+pub fn put_fact(out: &mut Printed, f: &Fact) {
     match f {
-        Formula::Yes => with_numbers(alloc, "yes", &[]),
-        Formula::No => with_numbers(alloc, "no", &[]),
-        Formula::Eq(t, u) => with_numbers(alloc, "eq", &[t.0, u.0]),
-        Formula::Ne(t, u) => with_numbers(alloc, "ne", &[t.0, u.0]),
-        Formula::Le(t, u) => with_numbers(alloc, "le", &[t.0, u.0]),
-        Formula::Lt(t, u) => with_numbers(alloc, "lt", &[t.0, u.0]),
+        Fact::Form(f) => put_formula(out, f),
+        Fact::Lin(f) => put_form(out, f),
+    }
+}
+
+/// Prints a formula.
+pub fn put_formula(out: &mut Printed, f: &Formula) {
+    match f {
+        Formula::Yes => out.put("yes"),
+        Formula::No => out.put("no"),
+        Formula::Eq(t, u) => out.put_numbers("eq", &[t.0, u.0]),
+        Formula::Ne(t, u) => out.put_numbers("ne", &[t.0, u.0]),
+        Formula::Le(t, u) => out.put_numbers("le", &[t.0, u.0]),
+        Formula::Lt(t, u) => out.put_numbers("lt", &[t.0, u.0]),
         Formula::And(p, q) => {
-            joined(
-                alloc,
-                "and",
-                &formula_words(alloc, p)?,
-                &formula_words(alloc, q)?,
-            )
+            out.put("and ");
+            put_formula(out, p);
+            out.put(" ");
+            put_formula(out, q);
         }
         Formula::Or(p, q) => {
-            joined(
-                alloc,
-                "or",
-                &formula_words(alloc, p)?,
-                &formula_words(alloc, q)?,
-            )
+            out.put("or ");
+            put_formula(out, p);
+            out.put(" ");
+            put_formula(out, q);
         }
     }
-}
-
-// A word with two texts behind it.
-fn joined(alloc: Global, word: &str, first: &str, second: &str) -> Result<String, AllocError> {
-    Ok(format!(in alloc; "{word} {first} {second}")?)
 }

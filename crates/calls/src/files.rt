@@ -1,8 +1,11 @@
 // Real files and a pipe.
-use crate::word::{natural, two};
-use anyhow::{Result, bail};
+use crate::printed::Printed;
+use crate::refusal::{Refusal, told};
+use crate::word::{natural, put_text, two};
 use sm_io::{FileShelf, Shelf, append_all, read_all};
-use std::io::Write;
+use std::alloc::Global;
+use std::fmt::Display;
+use std::io::{PipeReader, Write};
 use std::os::fd::AsRawFd;
 use std::rt::Files;
 use std::{fs, io};
@@ -13,130 +16,153 @@ const MOST_BYTES: u64 = 4096;
 // How many pieces are read of a pipe.
 const MOST_PIECES: u64 = 1000;
 
-/// What a command on files prints.
+/// Prints what a command on files answers.
 pub fn file_answer<R: Files + AllocGlobal>(
     rt: &R,
     shelf: &mut FileShelf<'_, R>,
     text: &str,
-) -> Result<String> {
+    out: &mut Printed,
+) -> Result<(), Refusal> {
     let (word, text) = two(text)?;
     match word {
-        "whole" => whole_answer(rt, shelf, text),
-        "read" => part_answer(rt, shelf, text),
-        "pipe" => pieces_answer(rt, shelf, text),
+        "whole" => put_whole(rt.alloc(), shelf, text, out),
+        "read" => put_part(rt.alloc(), shelf, text, out),
+        "pipe" => put_pipe(rt, shelf, text, out),
+        "start" => put_done(out, shelf.start(text)),
+        "remove" => put_done(out, fs::remove_file(rt, text)),
         _ => {
-            change(rt, shelf, word, text)?;
-            Ok(String::from_str(rt.alloc(), "done")?)
+            let (name, text) = two(text)?;
+            change(rt, shelf, word, name, text, out)
         }
     }
 }
 
-// Makes, changes or removes a file.
+// Makes, changes or renames a file, by its name and a text.
 fn change<R: Files + AllocGlobal>(
     rt: &R,
     shelf: &mut FileShelf<'_, R>,
     word: &str,
+    name: &str,
     text: &str,
-) -> Result<()> {
+    out: &mut Printed,
+) -> Result<(), Refusal> {
     match word {
-        "start" => Ok(shelf.start(text)?),
-        "remove" => Ok(fs::remove_file(rt, text)?),
-        "append" => append(shelf, text),
-        "write" => write(rt, text),
-        "rename" => rename(rt, text),
-        _ => bail!("bad"),
+        "append" => put_done(out, append_all(shelf, name, text.as_bytes())),
+        "write" => put_done(out, fs::write(rt, name, text)),
+        "rename" => put_done(out, fs::rename(rt, name, text)),
+        _ => Err(Refusal::Bad),
     }
 }
 
-// Appends to a file of the shelf.
-fn append<R: Files + AllocGlobal>(shelf: &mut FileShelf<'_, R>, text: &str) -> Result<()> {
-    let (name, bytes) = two(text)?;
-    Ok(append_all(shelf, name, bytes.as_bytes())?)
+// Prints that something is done, or why it isn't.
+fn put_done<E: Display + Drop>(out: &mut Printed, tried: Result<(), E>) -> Result<(), Refusal> {
+    match tried {
+        Ok(()) => {
+            out.put("done");
+            Ok(())
+        }
+        Err(error) => Err(told(out, error)),
+    }
 }
 
-// Writes a file.
-fn write<R: Files + AllocGlobal>(rt: &R, text: &str) -> Result<()> {
-    let (name, bytes) = two(text)?;
-    Ok(fs::write(rt, name, bytes)?)
-}
-
-// Gives a file another name.
-fn rename<R: Files + AllocGlobal>(rt: &R, text: &str) -> Result<()> {
-    let (from, to) = two(text)?;
-    Ok(fs::rename(rt, from, to)?)
-}
-
-// The whole of a file that has at most so many bytes.
-fn whole_answer<R: Files + AllocGlobal>(
-    rt: &R,
-    shelf: &mut FileShelf<'_, R>,
+// Prints the whole of a file that has at most so many bytes.
+fn put_whole<H: Shelf>(
+    alloc: Global,
+    shelf: &mut H,
     text: &str,
-) -> Result<String> {
+    out: &mut Printed,
+) -> Result<(), Refusal> {
     let (limit, name) = two(text)?;
-    let bytes = read_all(rt.alloc(), shelf, name, natural(limit)?)?;
-    Ok(String::from_utf8(bytes)?)
+    match read_all(alloc, shelf, name, natural(limit)?) {
+        Ok(bytes) => put_text(out, &bytes),
+        Err(error) => Err(told(out, error)),
+    }
 }
 
-// A part of a file: its name, a place and a size.
-fn part_answer<R: Files + AllocGlobal>(
-    rt: &R,
-    shelf: &mut FileShelf<'_, R>,
+// Prints a part of a file: its name, a place and a size.
+fn put_part<H: Shelf>(
+    alloc: Global,
+    shelf: &mut H,
     text: &str,
-) -> Result<String> {
+    out: &mut Printed,
+) -> Result<(), Refusal> {
     let (name, numbers) = two(text)?;
     let (place, size) = two(numbers)?;
-    read_answer(rt, shelf, name, natural(place)?, natural(size)?)
+    put_piece(alloc, shelf, name, natural(place)?, natural(size)?, out)?;
+    Ok(())
 }
 
-// What is read of a pipe that holds a text, in pieces of a size.
-fn pieces_answer<R: Files + AllocGlobal>(
-    rt: &R,
-    shelf: &mut FileShelf<'_, R>,
-    text: &str,
-) -> Result<String> {
-    let (size, bytes) = two(text)?;
-    pipe_answer(rt, shelf, natural(size)?, bytes)
-}
-
-// How much of a piece was read, and what the piece holds then.
-fn read_answer<R: Files + AllocGlobal>(
-    rt: &R,
-    shelf: &mut FileShelf<'_, R>,
+// Prints how much of a piece was read, and what the piece holds then; answers how much it was.
+fn put_piece<H: Shelf>(
+    alloc: Global,
+    shelf: &mut H,
     name: &str,
     place: u64,
     size: u64,
-) -> Result<String> {
+    out: &mut Printed,
+) -> Result<usize, Refusal> {
     if size > MOST_BYTES {
-        bail!("bad");
+        return Err(Refusal::Bad);
     }
-    let mut piece = vec![in rt.alloc(); b'-'; size as usize]?;
-    let count = shelf.read_at(name, place, &mut piece)?;
-    Ok(format!(in rt.alloc(); "{count} [{}]", std::str::from_utf8(&piece)?)?)
+    let mut piece = vec![in alloc; b'-'; size as usize]?;
+    match shelf.read_at(name, place, &mut piece) {
+        Ok(count) => {
+            put_read(out, count, &piece)?;
+            Ok(count)
+        }
+        Err(error) => Err(told(out, error)),
+    }
 }
 
-// What is read of a pipe, piece by piece.
-fn pipe_answer<R: Files + AllocGlobal>(
+// Prints how much of a piece was read, and what the piece holds.
+fn put_read(out: &mut Printed, count: usize, piece: &[u8]) -> Result<(), Refusal> {
+    write!(out, "{count} [");
+    put_text(out, piece)?;
+    out.put("]");
+    Ok(())
+}
+
+// Prints what is read of a pipe that holds a text, in pieces of a size.
+fn put_pipe<R: Files + AllocGlobal>(
     rt: &R,
     shelf: &mut FileShelf<'_, R>,
-    size: u64,
     text: &str,
-) -> Result<String> {
-    let alloc = rt.alloc();
+    out: &mut Printed,
+) -> Result<(), Refusal> {
+    let (size, bytes) = two(text)?;
+    let size = natural(size)?;
+    match filled_pipe(rt, bytes) {
+        Ok(reader) => {
+            let name = format!(in rt.alloc(); "/dev/fd/{}", reader.as_raw_fd())?;
+            put_pieces(rt.alloc(), shelf, &name, size, out)
+        }
+        Err(error) => Err(told(out, error)),
+    }
+}
+
+// A pipe that holds a text, and ends with it.
+fn filled_pipe<R: Files>(rt: &R, text: &str) -> io::Result<PipeReader> {
     let (reader, mut writer) = io::pipe(rt)?;
     writer.write_all(text.as_bytes())?;
-    drop(writer);
-    let name = format!(in alloc; "/dev/fd/{}", reader.as_raw_fd())?;
-    let mut out = String::new(alloc);
+    Ok(reader)
+}
+
+// Prints a file piece by piece, to the first that is empty.
+fn put_pieces<H: Shelf>(
+    alloc: Global,
+    shelf: &mut H,
+    name: &str,
+    size: u64,
+    out: &mut Printed,
+) -> Result<(), Refusal> {
     let mut place = 0u64;
     for _ in 0..MOST_PIECES {
-        let piece = read_answer(rt, shelf, &name, place, size)?;
-        let count = natural(two(&piece)?.0)?;
-        out.push_str(&piece)?;
+        let count = put_piece(alloc, shelf, name, place, size, out)?;
         if count == 0 {
             break;
         }
-        out.push_str(", ")?;
-        place = place.saturating_add(count);
+        out.put(", ");
+        place = place.saturating_add(count as u64);
     }
-    Ok(out)
+    Ok(())
 }

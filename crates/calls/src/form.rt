@@ -1,120 +1,172 @@
 // Linear forms, the calls on them, and whether whole numbers satisfy them.
+use crate::printed::Printed;
 use crate::refusal::Refusal;
 use crate::word::{kind, natural, two, whole};
 use sm_exact::{ExactAnswer, decide};
-use sm_num::{Kind, LinForm, cancels, combine, elim, is_contradiction, tighten};
-use std::alloc::{AllocError, Global};
+use sm_num::{Kind, LinForm, NumError, cancels, combine, elim, is_contradiction, tighten};
+use std::alloc::Global;
 
-/// What a command says that has forms behind bars.
-pub fn form_answer(alloc: Global, word: &str, text: &str) -> Result<String, Refusal> {
+/// Prints what a command says that has forms behind bars.
+pub fn form_answer(
+    alloc: Global,
+    word: &str,
+    text: &str,
+    out: &mut Printed,
+) -> Result<(), Refusal> {
     let Some((numbers, forms)) = text.split_once('|') else {
         return Err(Refusal::Bad);
     };
     match forms.split_once('|') {
         Some((first, second)) => {
             let f = read_form(alloc, first)?;
-            let g = read_form(alloc, second)?;
-            of_two(alloc, word, numbers.trim(), &f, &g)
+            of_two(alloc, word, numbers.trim(), &f, second, out)
         }
-        None => of_one(alloc, word, &read_form(alloc, forms)?),
+        None => of_one(alloc, word, &read_form(alloc, forms)?, out),
     }
 }
 
-// A call on one form.
-fn of_one(alloc: Global, word: &str, f: &LinForm) -> Result<String, Refusal> {
+// Prints what a call on one form answers.
+fn of_one(alloc: Global, word: &str, f: &LinForm, out: &mut Printed) -> Result<(), Refusal> {
     match word {
-        "form" => Ok(form_words(alloc, &f.copy(alloc)?)?),
-        "tight" => Ok(form_words(alloc, &tighten(alloc, f)?)?),
-        "contradiction" => Ok(format!(in alloc; "{}", is_contradiction(f))?),
-        _ => Err(Refusal::Bad),
+        "form" => put_form(out, &f.copy(alloc)?),
+        "tight" => put_form(out, &tighten(alloc, f)?),
+        "contradiction" => write!(out, "{}", is_contradiction(f)),
+        _ => return Err(Refusal::Bad),
     }
+    Ok(())
 }
 
-// A call on two forms and numbers.
+// Prints what a call on two forms and numbers answers, of which the second form is still to be read.
 fn of_two(
     alloc: Global,
     word: &str,
     numbers: &str,
     f: &LinForm,
-    g: &LinForm,
-) -> Result<String, Refusal> {
+    second: &str,
+    out: &mut Printed,
+) -> Result<(), Refusal> {
+    let g = read_form(alloc, second)?;
     match word {
-        "cancels" => Ok(format!(in alloc; "{}", cancels(f, g, natural(numbers)?))?),
-        "elim" => sum_without(alloc, f, g, natural(numbers)?),
-        "combine" => sum_of(alloc, numbers, f, g),
+        "cancels" => put_cancels(numbers, f, &g, out),
+        "elim" => put_sum_without(alloc, numbers, f, &g, out),
+        "combine" => put_sum(alloc, numbers, f, &g, out),
         _ => Err(Refusal::Bad),
     }
 }
 
-// The sum in which an atom cancels.
-fn sum_without(alloc: Global, f: &LinForm, g: &LinForm, t: u64) -> Result<String, Refusal> {
+// Prints whether an atom cancels in a sum.
+fn put_cancels(atom: &str, f: &LinForm, g: &LinForm, out: &mut Printed) -> Result<(), Refusal> {
+    write!(out, "{}", cancels(f, g, natural(atom)?));
+    Ok(())
+}
+
+// Prints the sum in which an atom cancels.
+fn put_sum_without(
+    alloc: Global,
+    atom: &str,
+    f: &LinForm,
+    g: &LinForm,
+    out: &mut Printed,
+) -> Result<(), Refusal> {
+    let t = natural(atom)?;
     if !cancels(f, g, t) {
         return Err(Refusal::Bad);
     }
-    Ok(form_words(alloc, &elim(alloc, f, g, t)?)?)
+    put_form(out, &elim(alloc, f, g, t)?);
+    Ok(())
 }
 
-// The sum of multiples, and what it says of itself.
-fn sum_of(alloc: Global, numbers: &str, f: &LinForm, g: &LinForm) -> Result<String, Refusal> {
+// Prints the sum of multiples, and what it says of itself.
+fn put_sum(
+    alloc: Global,
+    numbers: &str,
+    f: &LinForm,
+    g: &LinForm,
+    out: &mut Printed,
+) -> Result<(), Refusal> {
     let (p, rest) = two(numbers)?;
     let (q, k) = two(rest)?;
-    let sum = combine(alloc, f, whole(p)?, g, whole(q)?, kind(k)?)?;
-    Ok(form_words(alloc, &sum)?)
+    put_form(out, &combine(alloc, f, whole(p)?, g, whole(q)?, kind(k)?)?);
+    Ok(())
 }
 
 // The form of words: what it says of its sum, its parts and its constant.
 fn read_form(alloc: Global, text: &str) -> Result<LinForm, Refusal> {
     let (says, text) = two(text.trim())?;
     let (parts, constant) = text.rsplit_once(' ').unwrap_or(("", text));
-    let mut form = constant_form(alloc, whole(constant)?)?;
-    for part in parts.split_whitespace() {
-        form = with_part(alloc, &form, part)?;
-    }
-    let zero = LinForm::number(alloc, 0)?;
-    Ok(combine(alloc, &form, 1, &zero, 0, kind(says)?)?)
+    let form = equation(alloc, whole(constant)?, parts)?;
+    Ok(saying(alloc, &form, kind(says)?)?)
 }
 
-// The form that says that a number is 0.
-fn constant_form(alloc: Global, c: i128) -> Result<LinForm, Refusal> {
-    if c == i128::MIN {
+// The form that says that the sum of parts and a constant is 0.
+fn equation(alloc: Global, constant: i128, parts: &str) -> Result<LinForm, Refusal> {
+    if constant == i128::MIN {
         return Err(Refusal::Bad);
     }
-    Ok(LinForm::number(alloc, c)?)
+    let mut form = LinForm::number(alloc, constant)?;
+    for part in parts.split_whitespace() {
+        add_part(alloc, &mut form, part)?;
+    }
+    Ok(form)
 }
 
-// A form with one more part.
-fn with_part(alloc: Global, form: &LinForm, word: &str) -> Result<LinForm, Refusal> {
+// Adds one more part to a form.
+fn add_part(alloc: Global, form: &mut LinForm, word: &str) -> Result<(), Refusal> {
     let Some((coefficient, atom)) = word.split_once('*') else {
         return Err(Refusal::Bad);
     };
-    let single = LinForm::single(alloc, natural(atom)?)?;
-    Ok(combine(alloc, form, 1, &single, whole(coefficient)?, Kind::Eq)?)
+    let (coefficient, atom) = (whole(coefficient)?, natural(atom)?);
+    let single = LinForm::single(alloc, atom)?;
+    *form = combine(alloc, form, 1, &single, coefficient, Kind::Eq)?;
+    Ok(())
 }
 
-/// The words of a form.
-pub fn form_words(alloc: Global, form: &LinForm) -> Result<String, AllocError> {
+// A form with its sum, of which it says something else.
+fn saying(alloc: Global, form: &LinForm, says: Kind) -> Result<LinForm, NumError> {
+    let zero = LinForm::number(alloc, 0)?;
+    combine(alloc, form, 1, &zero, 0, says)
+}
+
+/// Prints the words of a form.
+pub fn put_form(out: &mut Printed, form: &LinForm) {
     let says = match form.kind() {
         Kind::Le => "le",
         Kind::Eq => "eq",
     };
-    let mut text = String::from_str(alloc, says)?;
+    out.put(says);
     for part in form.parts() {
-        text.push_str(&format!(in alloc; " {}*{}", part.1, part.0)?)?;
+        write!(out, " {}*{}", part.1, part.0);
     }
-    text.push_str(&format!(in alloc; " {}", form.constant())?)?;
-    Ok(text)
+    write!(out, " {}", form.constant());
 }
 
-/// What the exact decision says of the forms of a text, in as many steps as stand before them.
-pub fn decide_answer(alloc: Global, text: &str) -> Result<String, Refusal> {
+/// Prints what the exact decision says of the forms of a text, in as many steps as stand before them.
+pub fn decide_answer(alloc: Global, text: &str, out: &mut Printed) -> Result<(), Refusal> {
     let (steps, list) = text.split_once(' ').unwrap_or((text, ""));
+    put_decision(out, &decided(alloc, steps, list)?)
+}
+
+// What the exact decision comes to.
+fn decided(alloc: Global, steps: &str, list: &str) -> Result<ExactAnswer, Refusal> {
     let forms = read_forms(alloc, list)?;
-    match decide(alloc, &forms, natural(steps)?)? {
-        ExactAnswer::Refuted { count } => Ok(format!(in alloc; "refuted {count}")?),
-        ExactAnswer::Solution(pairs) => Ok(solution_words(alloc, &pairs.list)?),
-        ExactAnswer::Steps => Ok(String::from_str(alloc, "steps")?),
-        ExactAnswer::Beyond { op, a, b } => Err(Refusal::Beyond { op, a, b }),
+    Ok(decide(alloc, &forms, natural(steps)?)?)
+}
+
+// Prints what the exact decision comes to.
+fn put_decision(out: &mut Printed, answer: &ExactAnswer) -> Result<(), Refusal> {
+    match answer {
+        ExactAnswer::Refuted { count } => write!(out, "refuted {count}"),
+        ExactAnswer::Solution(pairs) => put_solution(out, &pairs.list),
+        ExactAnswer::Steps => out.put("steps"),
+        ExactAnswer::Beyond { op, a, b } => {
+            return Err(Refusal::Beyond {
+                op: *op,
+                a: *a,
+                b: *b,
+            });
+        }
     }
+    Ok(())
 }
 
 // The forms of a text, with commas between them; none where it is empty.
@@ -129,11 +181,10 @@ fn read_forms(alloc: Global, text: &str) -> Result<Vec<LinForm>, Refusal> {
     Ok(forms)
 }
 
-// The words of a solution: the value of each atom.
-fn solution_words(alloc: Global, values: &[(u64, i128)]) -> Result<String, AllocError> {
-    let mut text = String::from_str(alloc, "solution")?;
+// Prints a solution: the value of each atom.
+fn put_solution(out: &mut Printed, values: &[(u64, i128)]) {
+    out.put("solution");
     for value in values {
-        text.push_str(&format!(in alloc; " {}={}", value.0, value.1)?)?;
+        write!(out, " {}={}", value.0, value.1);
     }
-    Ok(text)
 }

@@ -1,19 +1,21 @@
 // How jobs run beside each other, which no result shows.
 ghost use Rattle.std.specs.Prelude.{◌≡◌, ◌<◌, ◌≤◌, ◌*◌, ℕ, IfOk};
 
+use crate::printed::Printed;
+use crate::refusal::Refusal;
 use crate::word::natural;
-use anyhow::{Result, bail};
-use sm_par::{Gate, Job, Phase};
+use sm_par::{Gate, Job, Phase, run_jobs};
 use std::alloc::{AllocError, Global};
 use std::fs;
 use std::rt::Files;
 use std::sync::atomic::{AtomicBool, Ordering};
+use std::thread::Threads;
 
-/// How many jobs run with some workers.
-pub const JOBS: u64 = 7;
+// How many jobs run with some workers.
+const JOBS: u64 = 7;
 
-/// Job i is to say 3 times i.
-pub struct Triples;
+// Job i is to say 3 times i.
+struct Triples;
 
 impl Job for Triples {
     type Out = u64;
@@ -55,24 +57,37 @@ impl<'a, R> Alone<'a, R> {
         }
     }
 
-    /// What some jobs say, and whether one began beside another thread.
-    pub fn told(&self, alloc: Global, said: &[u64]) -> Result<String> {
-        let threads = if self.beside_another.load(Ordering::SeqCst) {
+    /// Whether a job began beside another thread.
+    pub fn told(&self) -> &'static str {
+        if self.beside_another.load(Ordering::SeqCst) {
             "more threads"
         } else {
             "one thread"
-        };
-        Ok(format!(in alloc; "{said:?} {threads}")?)
+        }
     }
 }
 
-/// How many workers a word asks for, from 1 to 64.
-pub fn workers_of(word: &str) -> Result<u32>
+/// Prints what some jobs say with so many workers.
+pub fn jobs_answer<R: Threads + Sync, G: Gate>(
+    rt: &R,
+    alloc: Global,
+    gate: &G,
+    word: &str,
+    out: &mut Printed,
+) -> Result<(), Refusal> {
+    let workers = workers_of(word)?;
+    let said = run_jobs(rt, alloc, gate, Phase::Trial, &Triples, JOBS, workers)?;
+    write!(out, "{said:?} ");
+    Ok(())
+}
+
+// How many workers a word asks for, from 1 to 64.
+fn workers_of(word: &str) -> Result<u32, Refusal>
     ensures { IfOk result (λ w. (0 < w) × (w ≤ 64)) }
 {
     let workers = natural(word)?;
     if workers == 0 || workers > 64 {
-        bail!("bad");
+        return Err(Refusal::Bad);
     }
     Ok(workers as u32)
 }

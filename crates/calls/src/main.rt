@@ -77,6 +77,7 @@ mod fact;
 mod files;
 mod form;
 mod jobs;
+mod printed;
 mod refusal;
 mod scene;
 mod sizes;
@@ -89,33 +90,43 @@ mod texts;
 mod word;
 
 use crate::command::answer;
-use crate::jobs::{Alone, JOBS, Triples, workers_of};
-use crate::scene::{Scene, read_names};
+use crate::jobs::{Alone, jobs_answer};
+use crate::printed::Printed;
+use crate::refusal::Refusal;
+use crate::scene::Scene;
 use anyhow::Result;
 use sm_io::FileShelf;
-use sm_par::{Phase, run_jobs};
+use sm_syntax::Decls;
+use std::io;
 
 fn main(rt: HostRuntime) -> Result<()> {
     let alloc = rt.alloc();
     let mut shelf = FileShelf::new(&rt);
-    let mut scene = Scene::new(alloc, read_names(alloc, "")?)?;
+    let no_names = Decls {
+        list: Vec::new(alloc),
+    };
+    let mut scene = Scene::new(alloc, no_names)?;
     for line in rt.lines(alloc) {
         let line = line?;
-        if line.is_empty() || line.starts_with('#') {
-            println!(rt; "{line}")?;
-            continue;
-        }
-        if let Some(word) = line.strip_prefix("jobs ") {
-            let gate = Alone::new(&rt);
-            let workers = workers_of(word)?;
-            let said = run_jobs(&rt, alloc, &gate, Phase::Trial, &Triples, JOBS, workers)?;
-            println!(rt; "{}", gate.told(alloc, &said)?)?;
-            continue;
-        }
-        match answer(&rt, &mut shelf, &mut scene, &line) {
-            Ok(text) => println!(rt; "{text}")?,
-            Err(error) => println!(rt; "{error}")?,
-        }
+        let mut out = Printed::new(alloc);
+        let answered = match line.strip_prefix("jobs ") {
+            Some(word) => {
+                let gate = Alone::new(&rt);
+                let answered = jobs_answer(&rt, alloc, &gate, word, &mut out);
+                out.put(gate.told());
+                answered
+            }
+            None => answer(&rt, &mut shelf, &mut scene, &line, &mut out),
+        };
+        put_line(&rt, &out, answered)?;
     }
     Ok(())
+}
+
+// Prints what a line answers.
+fn put_line<R: Print>(rt: &R, out: &Printed, answered: Result<(), Refusal>) -> io::Result<()> {
+    match answered {
+        Ok(()) | Err(Refusal::Told) => println!(rt; "{out}"),
+        Err(refusal) => println!(rt; "{refusal}"),
+    }
 }

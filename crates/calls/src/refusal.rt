@@ -1,25 +1,42 @@
 // Why a command has no result.
+use crate::printed::Printed;
 use sm_num::{NumError, Op};
 use sm_proof::LineError;
 use sm_term::TermError;
-use sm_text::TextError;
 use std::alloc::{AllocError, AllocFailed};
-use thiserror::Error;
+use std::fmt;
 
 /// Why a command has no result.
-#[derive(Clone, Copy, Debug, PartialEq, Eq, Error)]
+#[derive(Clone, Copy)]
 pub enum Refusal {
     /// It is no command, or what the call requires isn't so.
-    #[error("bad")]
     Bad,
     /// An argument of a term has the other sort.
-    #[error("WrongSort")]
     WrongSort,
     /// A result leaves the range of linear forms.
-    #[error("beyond {op:?} {a} {b}")]
     Beyond { op: Op, a: i128, b: i128 },
-    #[error("out of memory")]
+    /// A call answered an error, whose text is printed.
+    Told,
     Memory,
+}
+
+/// Prints the text of an error in place of what was printed so far.
+pub fn told<E: fmt::Display + Drop>(out: &mut Printed, error: E) -> Refusal {
+    out.clear();
+    write!(out, "{error}");
+    Refusal::Told
+}
+
+impl fmt::Display for Refusal {
+    fn fmt<W: fmt::Write>(&self, f: &mut fmt::Formatter<W>) -> fmt::Result {
+        match self {
+            Refusal::Bad => f.write_str("bad"),
+            Refusal::WrongSort => f.write_str("WrongSort"),
+            Refusal::Beyond { op, a, b } => write!(f, "beyond {op:?} {a} {b}"),
+            Refusal::Told => Ok(()),
+            Refusal::Memory => f.write_str("out of memory"),
+        }
+    }
 }
 
 impl From<AllocError> for Refusal {
@@ -56,15 +73,6 @@ impl From<LineError> for Refusal {
     fn from(e: LineError) -> Refusal {
         match e {
             LineError::Memory => Refusal::Memory,
-            _ => Refusal::Bad,
-        }
-    }
-}
-
-impl From<TextError> for Refusal {
-    fn from(e: TextError) -> Refusal {
-        match e {
-            TextError::Memory => Refusal::Memory,
             _ => Refusal::Bad,
         }
     }

@@ -90,21 +90,20 @@ impl Scene {
         if !self.has(first.1) || !self.has(second.1) {
             return Err(Refusal::Bad);
         }
+        let body = self.table.body(block)?;
         let from = Outputs {
             list: two(alloc, first.0, second.0)?,
         };
         let args = Terms {
             list: two(alloc, first.1, second.1)?,
         };
-        let body = self.table.body(block)?;
-        Ok(
-            self.table.intern(Term::Fun {
-                body,
-                name,
-                from,
-                args,
-            })?,
-        )
+        let term = Term::Fun {
+            body,
+            name,
+            from,
+            args,
+        };
+        Ok(self.table.intern(term)?)
     }
 
     // Whether a term's parts are in the table and its name is declared.

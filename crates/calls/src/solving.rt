@@ -8,7 +8,8 @@ ghost use Rattle.sm_term.specs.Tables.{trees_in, sorts_in, tree_at};
 ghost use Rattle.sm_list.specs.Parts.{all_numbered, assertions_in, AreFormulasWithin};
 
 use crate::certificate::verdict;
-use crate::fact::{formula_words, read_formula};
+use crate::fact::{put_formula, read_formula};
+use crate::printed::Printed;
 use crate::refusal::Refusal;
 use crate::scene::Scene;
 use crate::word::{natural, two};
@@ -19,26 +20,64 @@ use sm_term::{Formula, TermId, copy_formula, negate};
 use sm_theory::{CertLine, Fact};
 use std::alloc::{AllocError, Global};
 
-/// What the walk comes to in so many steps, from the facts of the branch to the formula of words;
-/// branches that would stay open may be decided exactly. The certificate of a closed one is checked.
+// How many lines of a certificate are printed one by one.
+const MOST_LINES: u64 = 20;
+
+/// Prints what the walk comes to in so many steps, from the facts of the branch to the formula of
+/// words; branches that would stay open may be decided exactly. The certificate of a closed one is
+/// checked.
 pub fn solve_answer(
     alloc: Global,
     scene: &mut Scene,
     text: &str,
     exact: bool,
-) -> Result<String, Refusal> {
+    out: &mut Printed,
+) -> Result<(), Refusal> {
     let (steps, target) = two(text)?;
     let steps = natural(steps)?;
     let target = read_formula(alloc, target)?;
+    let answer = walked(alloc, scene, &target, steps, exact)?;
+    put_walk(alloc, scene, &target, &answer, out)
+}
+
+// What the walk comes to.
+fn walked(
+    alloc: Global,
+    scene: &mut Scene,
+    target: &Formula,
+    steps: u64,
+    exact: bool,
+) -> Result<Answer, Refusal> {
     let facts = formulas(alloc, scene)?;
-    if !fits(scene, &target) {
+    if !fits(scene, target) {
         return Err(Refusal::Bad);
     }
-    match solve(alloc, &mut scene.table, &facts, &target, steps, exact)? {
-        Answer::Closed(tree) => closed_words(alloc, scene, &target, &tree),
-        Answer::Open { leaf } => Ok(leaf_words(alloc, &leaf.list)?),
-        Answer::Steps => Ok(String::from_str(alloc, "steps")?),
-        Answer::Coefficient { op, a, b } => Err(Refusal::Beyond { op, a, b }),
+    Ok(solve(alloc, &mut scene.table, &facts, target, steps, exact)?)
+}
+
+// Prints what the walk comes to.
+fn put_walk(
+    alloc: Global,
+    scene: &mut Scene,
+    target: &Formula,
+    answer: &Answer,
+    out: &mut Printed,
+) -> Result<(), Refusal> {
+    match answer {
+        Answer::Closed(tree) => put_closed(alloc, scene, target, tree, out),
+        Answer::Open { leaf } => {
+            put_leaf(out, &leaf.list);
+            Ok(())
+        }
+        Answer::Steps => {
+            out.put("steps");
+            Ok(())
+        }
+        Answer::Coefficient { op, a, b } => Err(Refusal::Beyond {
+            op: *op,
+            a: *a,
+            b: *b,
+        }),
     }
 }
 
@@ -131,62 +170,65 @@ fn are_numbers(scene: &Scene, t: TermId, u: TermId) -> bool
     }
 }
 
-// Whether the certificate of a closed obligation closes its branch, and the words of its lines.
-fn closed_words(
+// Prints whether the certificate of a closed obligation closes its branch, and the words of its lines.
+fn put_closed(
     alloc: Global,
     scene: &mut Scene,
     target: &Formula,
     tree: &CertTree,
-) -> Result<String, Refusal> {
-    let contrary = negate(alloc, target)?;
-    scene.branch.list.push(Fact::Form(contrary))?;
-    let said = verdict(alloc, scene, tree);
+    out: &mut Printed,
+) -> Result<(), Refusal> {
+    scene.branch.list.push(Fact::Form(negate(alloc, target)?))?;
+    let said = verdict(alloc, scene, tree, out);
     scene.branch.list.pop();
-    let said = said?;
-    let mut kinds = Vec::new(alloc);
-    put_kinds(alloc, &mut kinds, tree)?;
-    if kinds.len() > 20 {
-        return Ok(format!(in alloc; "{said} {} lines", kinds.len())?);
+    said?;
+    let count = line_count(tree);
+    if count > MOST_LINES {
+        write!(out, " {count} lines");
+        Ok(())
+    } else {
+        Ok(put_kinds(alloc, out, tree)?)
     }
-    let mut text = said;
-    for kind in &kinds {
-        text.push(' ')?;
-        text.push_str(kind)?;
-    }
-    Ok(text)
 }
 
-// The first words of the lines of a certificate, in preorder, behind others.
-fn put_kinds(alloc: Global, kinds: &mut Vec<String>, tree: &CertTree) -> Result<(), AllocError> {
+// How many lines a certificate has.
+fn line_count(tree: &CertTree) -> u64 {
+    let own = tree.lines.list.len() as u64;
+    let below = match &tree.last {
+        CertEnd::Close(_) => 0,
+        CertEnd::Split(_, first, second) => line_count(first).saturating_add(line_count(second)),
+    };
+    own.saturating_add(below).saturating_add(1)
+}
+
+// Prints the first words of the lines of a certificate, in preorder.
+fn put_kinds(alloc: Global, out: &mut Printed, tree: &CertTree) -> Result<(), AllocError> {
     for line in &tree.lines.list {
-        kinds.push(kind_of(alloc, line)?)?;
+        put_kind(alloc, out, line)?;
     }
     match &tree.last {
-        CertEnd::Close(line) => {
-            kinds.push(kind_of(alloc, line)?)?;
-            Ok(())
-        }
+        CertEnd::Close(line) => put_kind(alloc, out, line),
         CertEnd::Split(line, first, second) => {
-            kinds.push(kind_of(alloc, line)?)?;
-            put_kinds(alloc, kinds, first)?;
-            put_kinds(alloc, kinds, second)
+            put_kind(alloc, out, line)?;
+            put_kinds(alloc, out, first)?;
+            put_kinds(alloc, out, second)
         }
     }
 }
 
-// The first word of a line.
-fn kind_of(alloc: Global, line: &CertLine) -> Result<String, AllocError> {
-    let printed = format!(in alloc; "{line:?}")?;
+// Prints the first word of a line.
+fn put_kind(alloc: Global, out: &mut Printed, line: &CertLine) -> Result<(), AllocError> {
+    let printed = format!(in alloc; " {line:?}")?;
     let (kind, _) = printed.split_once('(').unwrap_or((&printed, ""));
-    kind.to_lowercase(alloc)
+    out.put(&kind.to_lowercase(alloc)?);
+    Ok(())
 }
 
-// The formulas of a branch that stays open.
-fn leaf_words(alloc: Global, leaf: &[Formula]) -> Result<String, AllocError> {
-    let mut text = String::from_str(alloc, "open")?;
+// Prints the formulas of a branch that stays open.
+fn put_leaf(out: &mut Printed, leaf: &[Formula]) {
+    out.put("open");
     for f in leaf {
-        text.push_str("; ")?;
-        text.push_str(&formula_words(alloc, f)?)?;
+        out.put("; ");
+        put_formula(out, f);
     }
-    Ok(text)
 }

@@ -6,47 +6,81 @@ ghost use Rattle.sm_syntax.specs.trees.Views.{expression_of, condition_of};
 ghost use Rattle.sm_term.specs.Tables.{sorts_in};
 ghost use Rattle.sm_text.specs.parsing.Prefix.{AreTokensOf};
 
-use crate::fact::formula_words;
+use crate::fact::put_on;
+use crate::printed::Printed;
 use crate::refusal::Refusal;
 use crate::scene::Scene;
 use sm_syntax::{Block, Cond, Expr, Name, NameTable, Sort, Stmt};
-use sm_term::{SymStore, form_of, term_of};
-use sm_text::{Tokens, parse_block, tokens};
-use sm_theory::Fact;
+use sm_term::{Formula, SymStore, TermId, form_of, term_of};
+use sm_text::{TextError, Tokens, parse_block, tokens};
 use std::alloc::Global;
 
 // The greatest number of names that a text may use.
 const MOST_NAMES: usize = 100;
 
-/// The number of the term of an expression, which is put into the table.
-pub fn expression_answer(alloc: Global, scene: &mut Scene, text: &str) -> Result<String, Refusal> {
-    let compared = format!(in alloc; "{text} == 0")?;
-    let Cond::Cmp(_, e, _) = read_condition(alloc, scene, &compared)? else {
-        return Err(Refusal::Bad);
-    };
-    if !is_expression_sorted(scene, &e) {
-        return Err(Refusal::Bad);
-    }
-    let starts = SymStore {
-        list: Vec::new(alloc),
-    };
-    let id = term_of(&mut scene.table, &e, &starts)?;
-    Ok(format!(in alloc; "{}", id.0)?)
+/// Prints the number of the term of an expression, which is put into the table.
+pub fn expression_answer(
+    alloc: Global,
+    scene: &mut Scene,
+    text: &str,
+    out: &mut Printed,
+) -> Result<(), Refusal> {
+    let id = read_expression(alloc, scene, text)?;
+    write!(out, "{}", id.0);
+    Ok(())
 }
 
-/// The words of the formula of a condition, which is put on the branch.
-pub fn condition_answer(alloc: Global, scene: &mut Scene, text: &str) -> Result<String, Refusal> {
-    let c = read_condition(alloc, scene, text)?;
-    if !is_condition_sorted(scene, &c) {
+// Puts the term of the expression of a text into the table.
+fn read_expression(alloc: Global, scene: &mut Scene, text: &str) -> Result<TermId, Refusal> {
+    match &read_equation(alloc, scene, text)? {
+        Cond::Cmp(_, e, _) => intern_expression(alloc, scene, e),
+        _ => Err(Refusal::Bad),
+    }
+}
+
+// The condition that says that an expression is 0.
+fn read_equation(alloc: Global, scene: &Scene, text: &str) -> Result<Cond, Refusal> {
+    let compared = format!(in alloc; "{text} == 0")?;
+    read_condition(alloc, scene, &compared)
+}
+
+// Puts the term of an expression into the table.
+fn intern_expression(alloc: Global, scene: &mut Scene, e: &Expr) -> Result<TermId, Refusal> {
+    if !is_expression_sorted(scene, e) {
         return Err(Refusal::Bad);
     }
     let starts = SymStore {
         list: Vec::new(alloc),
     };
-    let f = form_of(alloc, &mut scene.table, &c, &starts)?;
-    let text = formula_words(alloc, &f)?;
-    scene.branch.list.push(Fact::Form(f))?;
-    Ok(text)
+    Ok(term_of(&mut scene.table, e, &starts)?)
+}
+
+/// Prints the formula of a condition, which is put on the branch.
+pub fn condition_answer(
+    alloc: Global,
+    scene: &mut Scene,
+    text: &str,
+    out: &mut Printed,
+) -> Result<(), Refusal> {
+    let f = read_formula(alloc, scene, text)?;
+    put_on(&mut scene.branch, f, out)
+}
+
+// The formula of the condition of a text.
+fn read_formula(alloc: Global, scene: &mut Scene, text: &str) -> Result<Formula, Refusal> {
+    let c = read_condition(alloc, scene, text)?;
+    formula_of(alloc, scene, &c)
+}
+
+// The formula of a condition, whose terms are put into the table.
+fn formula_of(alloc: Global, scene: &mut Scene, c: &Cond) -> Result<Formula, Refusal> {
+    if !is_condition_sorted(scene, c) {
+        return Err(Refusal::Bad);
+    }
+    let starts = SymStore {
+        list: Vec::new(alloc),
+    };
+    Ok(form_of(alloc, &mut scene.table, c, &starts)?)
 }
 
 // The condition of a text, in which the names are `x0`, `x1` and so on.
@@ -92,8 +126,11 @@ fn read_block(
 ) -> Result<Block, Refusal>
     requires { AreTokensOf bytes.now cut.now }
 {
-    let (block, _) = parse_block(alloc, bytes, cut, 0, 0, names)?;
-    Ok(block)
+    match parse_block(alloc, bytes, cut, 0, 0, names) {
+        Ok((block, _)) => Ok(block),
+        Err(TextError::Memory) => Err(Refusal::Memory),
+        Err(_) => Err(Refusal::Bad),
+    }
 }
 
 // Whether each name of an expression stands as it is declared.

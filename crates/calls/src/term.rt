@@ -2,19 +2,26 @@
 ghost use Rattle.std.specs.Prelude.{OnOk};
 ghost use Rattle.calls.specs.Scenes.{Continues};
 
+use crate::printed::Printed;
 use crate::refusal::Refusal;
 use crate::scene::Scene;
 use crate::summary::counting_loop;
-use crate::word::{natural, term_id, two, whole, with_numbers};
+use crate::word::{natural, term_id, two, whole};
 use sm_proof::{Line, TermLine, line_from};
 use sm_syntax::{Name, Outputs, Sort};
 use sm_term::{BodyId, Term, TermId, Terms};
-use std::alloc::{AllocError, Global};
+use std::alloc::Global;
 
-/// The number of the term of words, which is put into the table.
-pub fn term_answer(alloc: Global, scene: &mut Scene, text: &str) -> Result<String, Refusal> {
+/// Prints the number of the term of words, which is put into the table.
+pub fn term_answer(
+    alloc: Global,
+    scene: &mut Scene,
+    text: &str,
+    out: &mut Printed,
+) -> Result<(), Refusal> {
     let id = put_term(alloc, scene, text)?;
-    Ok(format!(in alloc; "{}", id.0)?)
+    write!(out, "{}", id.0);
+    Ok(())
 }
 
 // Puts the term of words into the table.
@@ -28,20 +35,38 @@ fn put_term(alloc: Global, scene: &mut Scene, text: &str) -> Result<TermId, Refu
     }
 }
 
-// Puts in what a loop leaves at a name. Its words are the loop's names and step, a term for either
-// name, and the name.
+// Puts in what a loop leaves at a name.
 fn put_summary(alloc: Global, scene: &mut Scene, words: &str) -> Result<TermId, Refusal>
     ensures { OnOk result (Continues scene.old.table scene.new.table) }
 {
+    let summary = read_summary(words)?;
+    let (x, y) = (summary.first.0, summary.second.0);
+    let block = counting_loop(alloc, x, y, summary.step)?;
+    scene.intern_summary(alloc, &block, summary.name, summary.first, summary.second)
+}
+
+// What a loop leaves at a name, from terms at the two names that it is of.
+#[derive(Clone, Copy)]
+struct Summary {
+    first: (Name, TermId),
+    second: (Name, TermId),
+    step: i128,
+    name: Name,
+}
+
+// Its words are the loop's names and step, a term for either name, and the name.
+fn read_summary(words: &str) -> Result<Summary, Refusal> {
     let (x, words) = two(words)?;
     let (y, words) = two(words)?;
     let (step, words) = two(words)?;
     let (t, words) = two(words)?;
     let (u, n) = two(words)?;
-    let (x, y) = (name(natural(x)?)?, name(natural(y)?)?);
-    let block = counting_loop(alloc, x, y, whole(step)?)?;
-    let n = name(natural(n)?)?;
-    scene.intern_summary(alloc, &block, n, (x, term_id(t)?), (y, term_id(u)?))
+    Ok(Summary {
+        first: (name_of(x)?, term_id(t)?),
+        second: (name_of(y)?, term_id(u)?),
+        step: whole(step)?,
+        name: name_of(n)?,
+    })
 }
 
 // The new value that a node gives to a copy's name.
@@ -51,8 +76,13 @@ fn havoc(words: &str) -> Result<Term, Refusal> {
     Ok(Term::Havoc {
         node: natural(node)?,
         copy: copy_number(copy)?,
-        name: name(natural(x)?)?,
+        name: name_of(x)?,
     })
+}
+
+// The name whose number a word is.
+fn name_of(word: &str) -> Result<Name, Refusal> {
+    name(natural(word)?)
 }
 
 // The number of a copy, which may be none of the four.
@@ -65,7 +95,8 @@ fn copy_number(word: &str) -> Result<u8, Refusal> {
 
 // The term of words that are those of a line of a proof file.
 fn read_term(alloc: Global, text: &str) -> Result<Term, Refusal> {
-    match line_from(alloc, format!(in alloc; "t {text}")?.as_bytes())? {
+    let words = format!(in alloc; "t {text}")?;
+    match line_from(alloc, words.as_bytes())? {
         Line::Term(line) => term_of(line),
         _ => Err(Refusal::Bad),
     }
@@ -99,65 +130,59 @@ fn name(number: u64) -> Result<Name, Refusal> {
     }
 }
 
-/// The words of a term of the table.
-pub fn get_answer(alloc: Global, scene: &Scene, word: &str) -> Result<String, Refusal> {
+/// Prints a term of the table.
+pub fn get_answer(scene: &Scene, word: &str, out: &mut Printed) -> Result<(), Refusal> {
     let t = term_id(word)?;
     if !scene.has(t) {
         return Err(Refusal::Bad);
     }
-    Ok(term_words(alloc, scene.table.get(t))?)
+    put_words(out, scene.table.get(t));
+    Ok(())
 }
 
-// The words of a term.
-fn term_words(alloc: Global, t: &Term) -> Result<String, AllocError> {
+// Prints a term.
+fn put_words(out: &mut Printed, t: &Term) {
     match t {
-        Term::Lit(z) => literal_words(alloc, *z),
-        Term::Start(x) => with_numbers(alloc, "start", &[x.0 as u64]),
+        Term::Lit(z) => write!(out, "lit {z}"),
+        Term::Start(x) => out.put_numbers("start", &[x.0 as u64]),
         Term::Havoc { node, copy, name } => {
-            with_numbers(alloc, "havoc", &[*node, *copy as u64, name.0 as u64])
+            out.put_numbers("havoc", &[*node, *copy as u64, name.0 as u64])
         }
-        Term::Slot { copy, name } => with_numbers(alloc, "slot", &[*copy as u64, name.0 as u64]),
-        Term::Cell => with_numbers(alloc, "cell", &[]),
-        Term::Read(a, i) => with_numbers(alloc, "read", &[a.0, i.0]),
-        Term::Write(a, i, e) => with_numbers(alloc, "write", &[a.0, i.0, e.0]),
-        Term::Neg(t) => with_numbers(alloc, "neg", &[t.0]),
-        Term::Add(t, u) => with_numbers(alloc, "add", &[t.0, u.0]),
-        Term::Sub(t, u) => with_numbers(alloc, "sub", &[t.0, u.0]),
-        Term::Mul(t, u) => with_numbers(alloc, "mul", &[t.0, u.0]),
+        Term::Slot { copy, name } => out.put_numbers("slot", &[*copy as u64, name.0 as u64]),
+        Term::Cell => out.put("cell"),
+        Term::Read(a, i) => out.put_numbers("read", &[a.0, i.0]),
+        Term::Write(a, i, e) => out.put_numbers("write", &[a.0, i.0, e.0]),
+        Term::Neg(t) => out.put_numbers("neg", &[t.0]),
+        Term::Add(t, u) => out.put_numbers("add", &[t.0, u.0]),
+        Term::Sub(t, u) => out.put_numbers("sub", &[t.0, u.0]),
+        Term::Mul(t, u) => out.put_numbers("mul", &[t.0, u.0]),
         Term::Fun {
             body,
             name,
             from,
             args,
-        } => summary_words(alloc, *body, *name, from, args),
+        } => put_function(out, *body, *name, from, args),
     }
 }
 
-// The words of a number that a term is.
-fn literal_words(alloc: Global, z: i128) -> Result<String, AllocError> {
-    Ok(format!(in alloc; "lit {z}")?)
-}
-
-// The words of a summary: its body, its name, the names that it is from, and their terms.
-fn summary_words(
-    alloc: Global,
-    body: BodyId,
-    name: Name,
-    from: &Outputs,
-    args: &Terms,
-) -> Result<String, AllocError> {
-    let mut text = with_numbers(alloc, "fun", &[body.0, name.0 as u64])?;
+// Prints a summary: its body, its name, the names that it is from, and their terms.
+fn put_function(out: &mut Printed, body: BodyId, name: Name, from: &Outputs, args: &Terms) {
+    out.put_numbers("fun", &[body.0, name.0 as u64]);
     for x in &from.list {
-        text.push_str(&format!(in alloc; " {}", x.0)?)?;
+        write!(out, " {}", x.0);
     }
-    for t in &args.list {
-        text.push_str(&format!(in alloc; " {}", t.0)?)?;
-    }
-    Ok(text)
+    put_ids(out, args);
 }
 
-/// The sort of a term of the table.
-pub fn sort_answer(alloc: Global, scene: &Scene, word: &str) -> Result<String, Refusal> {
+// Prints the numbers of terms.
+fn put_ids(out: &mut Printed, terms: &Terms) {
+    for t in &terms.list {
+        write!(out, " {}", t.0);
+    }
+}
+
+/// Prints the sort of a term of the table.
+pub fn sort_answer(scene: &Scene, word: &str, out: &mut Printed) -> Result<(), Refusal> {
     let t = term_id(word)?;
     if !scene.has(t) {
         return Err(Refusal::Bad);
@@ -166,19 +191,31 @@ pub fn sort_answer(alloc: Global, scene: &Scene, word: &str) -> Result<String, R
         Sort::Num => "number",
         Sort::Arr => "array",
     };
-    Ok(String::from_str(alloc, word)?)
+    out.put(word);
+    Ok(())
 }
 
-/// The numbers that the table gives to the terms that a copy of it got, while the table itself got
-/// others.
-pub fn adopt_answer(alloc: Global, scene: &mut Scene, text: &str) -> Result<String, Refusal> {
+/// Prints the numbers that the table gives to the terms that a copy of it got, while the table itself
+/// got others.
+pub fn adopt_answer(
+    alloc: Global,
+    scene: &mut Scene,
+    text: &str,
+    out: &mut Printed,
+) -> Result<(), Refusal> {
     let Some((theirs, ours)) = text.split_once('/') else {
         return Err(Refusal::Bad);
     };
+    out.put("adopted");
+    put_ids(out, &both_put(alloc, scene, theirs, ours)?);
+    Ok(())
+}
+
+// The numbers that a table gives to the terms that a copy of it gets, once it has got others.
+fn both_put(alloc: Global, scene: &mut Scene, theirs: &str, ours: &str) -> Result<Terms, Refusal> {
     let mut other = scene.copied(alloc)?;
     put_terms(alloc, &mut other, theirs)?;
-    let numbers = adopted(alloc, scene, &other, ours)?;
-    Ok(numbers_text(alloc, &numbers)?)
+    adopted(alloc, scene, &other, ours)
 }
 
 // The numbers that a table gives to the terms behind those that a copy of it began with, once it has
@@ -191,15 +228,6 @@ fn adopted(alloc: Global, scene: &mut Scene, copy: &Scene, text: &str) -> Result
     let rows = copy.table.tail(alloc, from)?;
     let ids = scene.table.adopt(alloc, &rows, from)?;
     Ok(ids)
-}
-
-// Numbers of terms as words.
-fn numbers_text(alloc: Global, numbers: &Terms) -> Result<String, AllocError> {
-    let mut text = String::from_str(alloc, "adopted")?;
-    for id in &numbers.list {
-        text.push_str(&format!(in alloc; " {}", id.0)?)?;
-    }
-    Ok(text)
 }
 
 // Puts the terms of a text into the table, one after the other.

@@ -1,7 +1,8 @@
 // Words of commands.
 ghost use Rattle.std.specs.Prelude.{◌<◌, ◌^◌, IfOk, length};
 
-use crate::refusal::Refusal;
+use crate::printed::Printed;
+use crate::refusal::{Refusal, told};
 use sm_num::Kind;
 use sm_term::TermId;
 use std::alloc::{AllocError, Global};
@@ -71,11 +72,13 @@ pub fn with_line_feeds(alloc: Global, text: &str) -> Result<Vec<u8>, AllocError>
     Ok(text.into_bytes())
 }
 
-/// A word with numbers behind it.
-pub fn with_numbers(alloc: Global, word: &str, numbers: &[u64]) -> Result<String, AllocError> {
-    let mut text = String::from_str(alloc, word)?;
-    for n in numbers {
-        text.push_str(&format!(in alloc; " {n}")?)?;
+/// Prints bytes that are a text.
+pub fn put_text(out: &mut Printed, bytes: &[u8]) -> Result<(), Refusal> {
+    match std::str::from_utf8(bytes) {
+        Ok(text) => {
+            out.put(text);
+            Ok(())
+        }
+        Err(error) => Err(told(out, error)),
     }
-    Ok(text)
 }

@@ -1,6 +1,6 @@
 -- What some text spells is numbered and sorted, and has no hole in a filling.
 use Rattle.calls.proofs.SpelledTasks.{no_hole, numbered, sorted}
-use Rattle.calls.proofs.tasks.counted.Goals as goal
+use Rattle.calls.proofs.tasks.put_counts.Goals as goal
 
 pub sites-requires-clause-numbered : goal.sites-requires-clause-numbered
 sites-requires-clause-numbered c = numbered _ c.requires

@@ -1,6 +1,6 @@
 -- What some text spells is numbered and sorted, and has no hole in a filling.
 use Rattle.calls.proofs.SpelledTasks.{no_hole, numbered, sorted_in}
-use Rattle.calls.proofs.tasks.count_first.Goals as goal
+use Rattle.calls.proofs.tasks.put_first.Goals as goal
 
 pub templates-requires-clause-numbered : goal.templates-requires-clause-numbered
 templates-requires-clause-numbered c = numbered _ c.requires.printable
