@@ -143,10 +143,21 @@ fn take_ways(
 ) -> Result<(), Halt> {
     for way in ways {
         if search.is_open(target) {
-            for trial in way.trials {
-                add_trial(setting, search, target, trial)?;
-            }
+            take_way(setting, search, target, way)?;
         }
+    }
+    Ok(())
+}
+
+// Makes the inputs of a way.
+fn take_way(
+    setting: &Setting<'_>,
+    search: &mut Search,
+    target: Target,
+    way: Way,
+) -> Result<(), Halt> {
+    for trial in way.trials {
+        add_trial(setting, search, target, trial)?;
     }
     Ok(())
 }
@@ -165,8 +176,9 @@ fn way_at(
             let course = Course {
                 along: *along,
                 target: lead.target,
+                from: lead.from,
             };
-            way_along(alloc, setting, search, course, lead.from)
+            way_along(alloc, setting, search, course)
         }
         None => Ok(no_way(alloc)),
     }

@@ -27,18 +27,20 @@ pub fn no_way(alloc: Global) -> Way {
     }
 }
 
-// An input that is led to a target, and its difference there.
-#[derive(Drop)]
+// An input that is led to a target: a trial of the way, or the input where it begins; and its
+// difference there.
+#[derive(Clone, Copy)]
 struct At {
-    numbers: Vec<i128>,
+    trial: Option<usize>,
     difference: i128,
 }
 
-/// Along what an input is led, and to what.
+/// Along what an input is led, to what, and where it begins.
 #[derive(Clone, Copy)]
 pub struct Course {
     pub along: Coordinate,
     pub target: Target,
+    pub from: Visit,
 }
 
 /// Leads an input to a target along a coordinate, as long as it comes nearer.
@@ -47,23 +49,31 @@ pub fn way_along(
     setting: &Setting<'_>,
     search: &Search,
     course: Course,
-    from: Visit,
 ) -> Result<Way, AllocError> {
     let mut way = no_way(alloc);
-    let Some(numbers) = search.numbers(from.input) else {
-        return Ok(way);
-    };
+    lead_along(alloc, setting, search, course, &mut way)?;
+    Ok(way)
+}
+
+// Puts the inputs that are led to a target.
+fn lead_along(
+    alloc: Global,
+    setting: &Setting<'_>,
+    search: &Search,
+    course: Course,
+    way: &mut Way,
+) -> Result<(), AllocError> {
     let mut at = At {
-        numbers: numbers.to_vec(alloc)?,
-        difference: from.difference,
+        trial: None,
+        difference: course.from.difference,
     };
     for _ in 0..MOVES {
-        match next_at(alloc, setting, search, course, &mut way, &at)? {
-            None => return Ok(way),
+        match next_at(alloc, setting, search, course, way, at)? {
+            None => return Ok(()),
             Some(next) => at = next,
         }
     }
-    Ok(way)
+    Ok(())
 }
 
 // An input that is nearer to a target than another, one step of Newton's method from there. None
@@ -74,7 +84,7 @@ fn next_at(
     search: &Search,
     course: Course,
     way: &mut Way,
-    from: &At,
+    from: At,
 ) -> Result<Option<At>, AllocError> {
     if let Some(raised) = visit(alloc, setting, search, course, way, from, 1)? {
         if way.is_open {
@@ -93,7 +103,7 @@ fn follow(
     search: &Search,
     course: Course,
     way: &mut Way,
-    from: &At,
+    from: At,
     step: Step,
 ) -> Result<Option<At>, AllocError> {
     let sign = course.target.sign;
@@ -101,7 +111,7 @@ fn follow(
     let mut best = nearer_than(sign, from.difference, first);
     if let Some(by) = step.next {
         if way.is_open {
-            let than = match &best {
+            let than = match best {
                 Some(first) => first.difference,
                 None => from.difference,
             };
@@ -124,7 +134,7 @@ fn visit_anew(
     search: &Search,
     course: Course,
     way: &mut Way,
-    from: &At,
+    from: At,
     by: i128,
 ) -> Result<Option<At>, AllocError> {
     if by == 0 || by == 1 {
@@ -140,31 +150,62 @@ fn visit(
     search: &Search,
     course: Course,
     way: &mut Way,
-    from: &At,
+    from: At,
     by: i128,
 ) -> Result<Option<At>, AllocError> {
-    let Some(raised) = moved(alloc, &from.numbers, course.along, by)? else {
+    let Some(raised) = raised_by(alloc, search, course, way, from, by)? else {
         return Ok(None);
     };
-    let numbers = raised.as_slice().to_vec(alloc)?;
     let (trial, difference) = trial_at(alloc, setting, search, raised, course.target)?;
     if reaches(&trial, course.target) {
         way.is_open = false;
     }
+    let place = way.trials.len();
     way.trials.push(trial)?;
     match difference {
         None => Ok(None),
         Some(difference) => Ok(Some(At {
-            numbers,
+            trial: Some(place),
             difference,
         })),
+    }
+}
+
+// The numbers of an input after they are raised by a number along a coordinate.
+fn raised_by(
+    alloc: Global,
+    search: &Search,
+    course: Course,
+    way: &Way,
+    from: At,
+    by: i128,
+) -> Result<Option<Vec<i128>>, AllocError> {
+    match numbers_at(search, course, way, from) {
+        None => Ok(None),
+        Some(numbers) => moved(alloc, numbers, course.along, by),
+    }
+}
+
+// The numbers of an input that is led to a target.
+fn numbers_at<'a>(
+    search: &'a Search,
+    course: Course,
+    way: &'a Way,
+    from: At,
+) -> Option<&'a [i128]> {
+    match from.trial {
+        None => search.numbers(course.from.input),
+        Some(place) => match way.trials.get(place) {
+            None => None,
+            Some(trial) => Some(trial.numbers.as_slice()),
+        },
     }
 }
 
 // Whether an input that wasn't there before reaches a target.
 fn reaches(trial: &Trial, target: Target) -> bool {
     match &trial.shows {
-        Shows::All(runs) => show_sign(runs.notes.get(target.copy), target),
+        Shows::All(runs) => show_sign(&runs.copies.get(target.copy).notes, target),
         Shows::One(_) => false,
     }
 }

@@ -26,14 +26,12 @@ pub struct Outline {
 }
 
 impl Outline {
-    /// The statements of a program with its holes filled.
-    pub fn of(alloc: Global, program: &Block) -> Result<Outline, AllocError> {
-        let mut outline = Outline {
+    /// No statements.
+    pub fn new(alloc: Global) -> Outline {
+        Outline {
             lines: Vec::new(alloc),
             places: 0,
-        };
-        add_block(program, &mut outline)?;
-        Ok(outline)
+        }
     }
 
     /// The statement with a number.
@@ -74,9 +72,9 @@ impl Outline {
     }
 }
 
-// Adds the statements of a block.
+/// Adds the statements of a block with its holes filled.
 #[cycle(add_statements)]
-fn add_block(b: &Block, outline: &mut Outline) -> Result<(), AllocError> {
+pub fn add_block(b: &Block, outline: &mut Outline) -> Result<(), AllocError> {
     for t in &b.list {
         add_statement(t, outline)?;
     }

@@ -17,35 +17,34 @@ use std::alloc::{AllocError, Global};
 /// assumption.
 #[derive(Drop)]
 pub struct Runs {
-    pub notes: PerCopy<Vec<Option<Note>>>,
-    /// How many steps each took.
-    pub steps: PerCopy<u64>,
+    pub copies: PerCopy<Watched>,
     /// Whether all end, and the ends break the condition.
     pub breaks: bool,
 }
 
-/// A run, its end, where it has one, its notes, and how many steps it took.
+/// What a run shows: its notes, and how many steps it took.
 #[derive(Drop)]
 pub struct Watched {
-    end: Option<Store>,
     pub notes: Vec<Option<Note>>,
     pub steps: u64,
+}
+
+// What no run shows.
+fn not_run(alloc: Global) -> Watched {
+    Watched {
+        notes: Vec::new(alloc),
+        steps: 0,
+    }
 }
 
 // What no runs show.
 fn no_runs(alloc: Global) -> Runs {
     Runs {
-        notes: PerCopy {
-            base: Vec::new(alloc),
-            variant_a: Vec::new(alloc),
-            variant_b: Vec::new(alloc),
-            candidate: Vec::new(alloc),
-        },
-        steps: PerCopy {
-            base: 0,
-            variant_a: 0,
-            variant_b: 0,
-            candidate: 0,
+        copies: PerCopy {
+            base: not_run(alloc),
+            variant_a: not_run(alloc),
+            variant_b: not_run(alloc),
+            candidate: not_run(alloc),
         },
         breaks: false,
     }
@@ -63,73 +62,74 @@ pub fn runs_from(
     }
 }
 
-// Runs two programs from the store of an input.
-fn run_two(
-    alloc: Global,
-    setting: &Setting<'_>,
-    first: CopyName,
-    second: CopyName,
-    start: &Store,
-) -> Result<(Watched, Watched), AllocError>
-    requires { sorts_of start.now ≡ sort_of (declared_of setting.now.task.now.shared.decls) }
-{
-    let first = run_copy(alloc, setting, first, start)?;
-    let second = run_copy(alloc, setting, second, start)?;
-    Ok((first, second))
-}
-
 // Runs the four programs from the store of an input.
 fn run_all(alloc: Global, setting: &Setting<'_>, start: &Store) -> Result<Runs, AllocError>
     requires { sorts_of start.now ≡ sort_of (declared_of setting.now.task.now.shared.decls) }
 {
-    let (base, variant_a) = run_two(alloc, setting, CopyName::O, CopyName::A, start)?;
-    let (variant_b, candidate) = run_two(alloc, setting, CopyName::B, CopyName::M, start)?;
-    Ok(runs_of(setting, base, variant_a, variant_b, candidate))
+    let mut runs = no_runs(alloc);
+    let mut ends = PerCopy {
+        base: None,
+        variant_a: None,
+        variant_b: None,
+        candidate: None,
+    };
+    run_copies(alloc, setting, start, &mut runs.copies, &mut ends)?;
+    runs.breaks = break_at_ends(setting, &ends);
+    Ok(runs)
 }
 
-// What four runs show together.
-fn runs_of(
+// Runs the four programs from a store: what they show, and their ends, go where they are kept.
+fn run_copies(
+    alloc: Global,
     setting: &Setting<'_>,
-    base: Watched,
-    variant_a: Watched,
-    variant_b: Watched,
-    candidate: Watched,
-) -> Runs {
-    let steps = PerCopy {
-        base: base.steps,
-        variant_a: variant_a.steps,
-        variant_b: variant_b.steps,
-        candidate: candidate.steps,
-    };
-    let breaks = break_at_ends(
+    start: &Store,
+    copies: &mut PerCopy<Watched>,
+    ends: &mut PerCopy<Option<Store>>,
+) -> Result<(), AllocError>
+    requires { sorts_of start.now ≡ sort_of (declared_of setting.now.task.now.shared.decls) }
+{
+    run_copy(
+        alloc,
         setting,
-        base.end,
-        variant_a.end,
-        variant_b.end,
-        candidate.end,
-    );
-    let notes = PerCopy {
-        base: base.notes,
-        variant_a: variant_a.notes,
-        variant_b: variant_b.notes,
-        candidate: candidate.notes,
-    };
-    Runs {
-        notes,
-        steps,
-        breaks,
-    }
+        CopyName::O,
+        start,
+        &mut copies.base,
+        &mut ends.base,
+    )?;
+    run_copy(
+        alloc,
+        setting,
+        CopyName::A,
+        start,
+        &mut copies.variant_a,
+        &mut ends.variant_a,
+    )?;
+    run_copy(
+        alloc,
+        setting,
+        CopyName::B,
+        start,
+        &mut copies.variant_b,
+        &mut ends.variant_b,
+    )?;
+    run_copy(
+        alloc,
+        setting,
+        CopyName::M,
+        start,
+        &mut copies.candidate,
+        &mut ends.candidate,
+    )
 }
 
 // Whether four runs end, and the ends break the condition.
-fn break_at_ends(
-    setting: &Setting<'_>,
-    base: Option<Store>,
-    variant_a: Option<Store>,
-    variant_b: Option<Store>,
-    candidate: Option<Store>,
-) -> bool {
-    match (base, variant_a, variant_b, candidate) {
+fn break_at_ends(setting: &Setting<'_>, ends: &PerCopy<Option<Store>>) -> bool {
+    match (
+        &ends.base,
+        &ends.variant_a,
+        &ends.variant_b,
+        &ends.candidate,
+    ) {
         (Some(base), Some(variant_a), Some(variant_b), Some(candidate)) => {
             let ends = PerCopy {
                 base,
@@ -151,17 +151,13 @@ pub fn run_from(
     copy: CopyName,
 ) -> Result<Watched, AllocError> {
     match setting.start(alloc, numbers)? {
-        None => Ok(Watched {
-            end: None,
-            notes: Vec::new(alloc),
-            steps: 0,
-        }),
-        Some(start) => run_copy(alloc, setting, copy, &start),
+        None => Ok(not_run(alloc)),
+        Some(start) => run_alone(alloc, setting, copy, &start),
     }
 }
 
-// The run of a copy from a store.
-fn run_copy(
+// What the run of a copy from a store shows.
+fn run_alone(
     alloc: Global,
     setting: &Setting<'_>,
     copy: CopyName,
@@ -169,18 +165,36 @@ fn run_copy(
 ) -> Result<Watched, AllocError>
     requires { sorts_of start.now ≡ sort_of (declared_of setting.now.task.now.shared.decls) }
 {
+    let mut watched = not_run(alloc);
+    let mut end = None;
+    run_copy(alloc, setting, copy, start, &mut watched, &mut end)?;
+    Ok(watched)
+}
+
+// Runs a copy from a store: what it shows, and its end where it has one, go where they are kept.
+fn run_copy(
+    alloc: Global,
+    setting: &Setting<'_>,
+    copy: CopyName,
+    start: &Store,
+    watched: &mut Watched,
+    end: &mut Option<Store>,
+) -> Result<(), AllocError>
+    requires { sorts_of start.now ≡ sort_of (declared_of setting.now.task.now.shared.decls) }
+{
     let outline = setting.outlines.get(copy);
-    let mut watch = Watch::new(alloc, outline, setting.turns, RUN_STEPS)?;
     let mut s = start.copy(alloc)?;
-    let end = match observe(setting.programs.get(copy), &mut s, &mut watch) {
-        Ok(()) => Some(s),
-        Err(Leave::Event) => None,
+    let mut watch = Watch::new(alloc, outline, setting.turns, RUN_STEPS)?;
+    let has_end = match observe(setting.programs.get(copy), &mut s, &mut watch) {
+        Ok(()) => true,
+        Err(Leave::Event) => false,
         Err(Leave::Memory) => return Err(AllocError),
     };
     let taken = RUN_STEPS.saturating_sub(watch.left());
-    Ok(Watched {
-        end,
-        notes: watch.into_notes(),
-        steps: taken.saturating_add(outline.places() as u64),
-    })
+    watched.steps = taken.saturating_add(outline.places() as u64);
+    watched.notes = watch.into_notes();
+    if has_end {
+        *end = Some(s);
+    }
+    Ok(())
 }

@@ -2,7 +2,7 @@
 use crate::halt::Halt;
 use crate::places::Outline;
 use crate::records::{Note, Record, Sign};
-use crate::running::Runs;
+use crate::running::{Runs, Watched};
 use crate::setting::{Picked, Setting};
 use indexmap::IndexSet;
 use sm_syntax::{CopyName, PerCopy};
@@ -23,7 +23,6 @@ pub struct Target {
 }
 
 /// The inputs so far, and what their runs showed.
-#[derive(Drop)]
 pub struct Search {
     inputs: IndexSet<Vec<i128>>,
     made: u64,
@@ -31,14 +30,27 @@ pub struct Search {
     records: PerCopy<Vec<Record>>,
 }
 
+// One call ends a value, and not one for each field: proofs of what has it stay small.
+impl Drop for Search {
+    fn drop(self) {
+        let Self {
+            inputs: _,
+            made: _,
+            left: _,
+            records: _,
+        } = self;
+    }
+}
+
 impl Search {
     /// No inputs.
     pub fn new(alloc: Global, setting: &Setting<'_>) -> Result<Search, AllocError> {
+        let records = no_records(alloc, &setting.outlines)?;
         Ok(Search {
             inputs: IndexSet::new(alloc),
             made: 0,
             left: SEARCH_STEPS,
-            records: no_records(alloc, &setting.outlines)?,
+            records,
         })
     }
 
@@ -120,22 +132,23 @@ impl Search {
     }
 
     // Takes the steps of the runs from an input, with those that it takes to begin.
-    fn spend_all(&mut self, begin: u64, steps: &PerCopy<u64>) -> Result<(), Halt> {
+    fn spend_all(&mut self, begin: u64, copies: &PerCopy<Watched>) -> Result<(), Halt> {
         self.spend(begin)?;
-        self.spend(steps.base)?;
-        self.spend(steps.variant_a)?;
-        self.spend(steps.variant_b)?;
-        self.spend(steps.candidate)
+        self.spend(copies.base.steps)?;
+        self.spend(copies.variant_a.steps)?;
+        self.spend(copies.variant_b.steps)?;
+        self.spend(copies.candidate.steps)
     }
 
     /// Takes the steps of the runs from the input at a place among all, and what they show. Whether
     /// their ends break the condition.
-    pub fn take(&mut self, setting: &Setting<'_>, runs: Runs, input: usize) -> Result<bool, Halt> {
-        self.spend_all(setting.steps, &runs.steps)?;
-        add_notes(&mut self.records.base, &runs.notes.base, input);
-        add_notes(&mut self.records.variant_a, &runs.notes.variant_a, input);
-        add_notes(&mut self.records.variant_b, &runs.notes.variant_b, input);
-        add_notes(&mut self.records.candidate, &runs.notes.candidate, input);
+    pub fn take(&mut self, setting: &Setting<'_>, runs: &Runs, input: usize) -> Result<bool, Halt> {
+        let copies = &runs.copies;
+        self.spend_all(setting.steps, copies)?;
+        add_notes(&mut self.records.base, &copies.base.notes, input);
+        add_notes(&mut self.records.variant_a, &copies.variant_a.notes, input);
+        add_notes(&mut self.records.variant_b, &copies.variant_b.notes, input);
+        add_notes(&mut self.records.candidate, &copies.candidate.notes, input);
         Ok(runs.breaks)
     }
 }
@@ -145,21 +158,33 @@ fn no_records(
     alloc: Global,
     outlines: &PerCopy<Outline>,
 ) -> Result<PerCopy<Vec<Record>>, AllocError> {
-    Ok(PerCopy {
-        base: new_records(alloc, outlines.base.places())?,
-        variant_a: new_records(alloc, outlines.variant_a.places())?,
-        variant_b: new_records(alloc, outlines.variant_b.places())?,
-        candidate: new_records(alloc, outlines.candidate.places())?,
-    })
+    let mut records = PerCopy {
+        base: Vec::new(alloc),
+        variant_a: Vec::new(alloc),
+        variant_b: Vec::new(alloc),
+        candidate: Vec::new(alloc),
+    };
+    put_all_records(&mut records, outlines)?;
+    Ok(records)
 }
 
-// The records of so many places that no run visited.
-fn new_records(alloc: Global, places: usize) -> Result<Vec<Record>, AllocError> {
-    let mut records = Vec::new(alloc);
+// Puts a record for each place of the four programs.
+fn put_all_records(
+    records: &mut PerCopy<Vec<Record>>,
+    outlines: &PerCopy<Outline>,
+) -> Result<(), AllocError> {
+    put_records(&mut records.base, outlines.base.places())?;
+    put_records(&mut records.variant_a, outlines.variant_a.places())?;
+    put_records(&mut records.variant_b, outlines.variant_b.places())?;
+    put_records(&mut records.candidate, outlines.candidate.places())
+}
+
+// Puts the records of so many places that no run visited.
+fn put_records(records: &mut Vec<Record>, places: usize) -> Result<(), AllocError> {
     for _ in 0..places {
         records.push(Record::new())?;
     }
-    Ok(records)
+    Ok(())
 }
 
 // Adds the notes of a run from the input at a place among all.

@@ -12,7 +12,7 @@ ghost use Rattle.sm_syntax.specs.trees.Views.{condition_of};
 ghost use Rattle.sm_task.specs.Tasks.{parts_of};
 
 use crate::inputs::{InputCell, input_cells, store_of};
-use crate::places::{Outline, condition_steps};
+use crate::places::{Outline, add_block, condition_steps};
 use sm_eval::{Store, truth};
 use sm_syntax::{Block, Cond, PerCopy};
 use sm_task::Task;
@@ -121,12 +121,25 @@ fn is_met(assumed: &Option<Cond>, s: &Store) -> bool
 
 // The statements of each program.
 fn outlines_of(alloc: Global, programs: &PerCopy<Block>) -> Result<PerCopy<Outline>, AllocError> {
-    Ok(PerCopy {
-        base: Outline::of(alloc, &programs.base)?,
-        variant_a: Outline::of(alloc, &programs.variant_a)?,
-        variant_b: Outline::of(alloc, &programs.variant_b)?,
-        candidate: Outline::of(alloc, &programs.candidate)?,
-    })
+    let mut outlines = PerCopy {
+        base: Outline::new(alloc),
+        variant_a: Outline::new(alloc),
+        variant_b: Outline::new(alloc),
+        candidate: Outline::new(alloc),
+    };
+    add_programs(programs, &mut outlines)?;
+    Ok(outlines)
+}
+
+// Adds the statements of each program.
+fn add_programs(
+    programs: &PerCopy<Block>,
+    outlines: &mut PerCopy<Outline>,
+) -> Result<(), AllocError> {
+    add_block(&programs.base, &mut outlines.base)?;
+    add_block(&programs.variant_a, &mut outlines.variant_a)?;
+    add_block(&programs.variant_b, &mut outlines.variant_b)?;
+    add_block(&programs.candidate, &mut outlines.candidate)
 }
 
 // How many steps it takes to make a store of an input, and to compute the assumption.

@@ -56,16 +56,26 @@ pub fn trial_at(
     numbers: Vec<i128>,
     target: Target,
 ) -> Result<(Trial, Option<i128>), AllocError> {
-    if search.has(&numbers) {
-        let watched = run_from(alloc, setting, &numbers, target.copy)?;
-        let difference = difference_in(&watched.notes, target.place);
-        let shows = Shows::One(watched.steps);
-        return Ok((Trial { numbers, shows }, difference));
-    }
-    let runs = runs_from(alloc, setting, &numbers)?;
-    let difference = difference_in(runs.notes.get(target.copy), target.place);
-    let shows = Shows::All(runs);
+    let (shows, difference) = shows_at(alloc, setting, search, &numbers, target)?;
     Ok((Trial { numbers, shows }, difference))
+}
+
+// What is known of an input, and the difference at a target's place.
+fn shows_at(
+    alloc: Global,
+    setting: &Setting<'_>,
+    search: &Search,
+    numbers: &Vec<i128>,
+    target: Target,
+) -> Result<(Shows, Option<i128>), AllocError> {
+    if search.has(numbers) {
+        let watched = run_from(alloc, setting, numbers, target.copy)?;
+        let difference = difference_in(&watched.notes, target.place);
+        return Ok((Shows::One(watched.steps), difference));
+    }
+    let runs = runs_from(alloc, setting, numbers)?;
+    let difference = difference_in(&runs.copies.get(target.copy).notes, target.place);
+    Ok((Shows::All(runs), difference))
 }
 
 // What the runs of an input show, none where it is there.
@@ -120,11 +130,22 @@ pub fn add_wave<R: Threads + Sync, G: Gate>(
     is_stated: bool,
 ) -> Result<(), Halt> {
     let runs = all_runs(crew, alloc, setting, search, &wave)?;
-    let mut left = runs.into_iter();
+    add_all(setting, search, wave, &runs, is_stated)
+}
+
+// Takes inputs with what their runs show, in their order.
+fn add_all(
+    setting: &Setting<'_>,
+    search: &mut Search,
+    wave: Vec<Vec<i128>>,
+    runs: &[Option<Runs>],
+    is_stated: bool,
+) -> Result<(), Halt> {
+    let mut left = runs.iter();
     for numbers in wave {
         let shown = match left.next() {
-            Some(shown) => shown,
-            None => None,
+            Some(Some(shown)) => Some(shown),
+            _ => None,
         };
         add_runs(setting, search, numbers, shown, is_stated)?;
     }
@@ -136,7 +157,7 @@ fn add_runs(
     setting: &Setting<'_>,
     search: &mut Search,
     numbers: Vec<i128>,
-    runs: Option<Runs>,
+    runs: Option<&Runs>,
     is_stated: bool,
 ) -> Result<(), Halt> {
     let (input, is_new) = search.insert(numbers)?;
@@ -154,7 +175,7 @@ fn add_runs(
 }
 
 // Takes what the runs of a new input show. Where its ends break the condition, the search is over.
-fn make(setting: &Setting<'_>, search: &mut Search, runs: Runs, input: usize) -> Result<(), Halt> {
+fn make(setting: &Setting<'_>, search: &mut Search, runs: &Runs, input: usize) -> Result<(), Halt> {
     let made = search.count()?;
     if search.take(setting, runs, input)? {
         return Err(Halt::Broken { made, input });
@@ -172,13 +193,22 @@ pub fn add_trial(
     let Trial { numbers, shows } = trial;
     match shows {
         Shows::One(steps) => search.spend(steps.saturating_add(setting.steps)),
-        Shows::All(runs) => {
-            let (input, is_new) = search.insert(numbers)?;
-            if is_new {
-                return make(setting, search, runs, input);
-            }
-            let steps = *runs.steps.get(target.copy);
-            search.spend(steps.saturating_add(setting.steps))
-        }
+        Shows::All(runs) => add_shown(setting, search, target, numbers, &runs),
     }
+}
+
+// Makes an input with what its runs show. One that was there before only takes its steps.
+fn add_shown(
+    setting: &Setting<'_>,
+    search: &mut Search,
+    target: Target,
+    numbers: Vec<i128>,
+    runs: &Runs,
+) -> Result<(), Halt> {
+    let (input, is_new) = search.insert(numbers)?;
+    if is_new {
+        return make(setting, search, runs, input);
+    }
+    let steps = runs.copies.get(target.copy).steps;
+    search.spend(steps.saturating_add(setting.steps))
 }
